@@ -1,0 +1,31 @@
+-- The two orders of jobs, and the threshold of a take.
+use Rattle.std.specs.Prelude.{◌<◌, ℕ, ◌-◌, ◌*◌, List, Bool, ◌&&◌, nat_lt, if◌then◌else◌, Option}
+use Rattle.std.specs.List.{reduce}
+use Rattle.dover_model.specs.declared.events.Version.{Version}
+use Rattle.dover_model.specs.Fraction.{Fraction}
+use Rattle.dover_model.specs.declared.events.Task.{Task}
+use Rattle.dover_model.specs.Entries.{entry_of, is_due_before, is_latest_before}
+
+-- a comes before b in the order by deadline
+abbrev pub due_first : Version → Task → Task → Bool
+due_first v a b = is_due_before v (entry_of a) (entry_of b)
+
+-- a comes before b in the order by latest start
+abbrev pub latest_first : Version → Task → Task → Bool
+latest_first v a b = is_latest_before v (entry_of a) (entry_of b)
+
+-- the one of the two that comes first
+abbrev pub earlier : {X : Type 0} → (X → X → Bool) → X → X → X
+earlier before best t = if before t best then t else best
+
+-- the one before which no other comes
+abbrev pub first : {X : Type 0} → (X → X → Bool) → List X → Option X
+first before xs = reduce (earlier before) xs
+
+-- whether the value v is more than (1 + √(p/q)) times w
+abbrev pub is_heavy : Fraction → ℕ → ℕ → Bool
+is_heavy k v w = nat_lt w v && nat_lt (k.p * w * w) (k.q * (v - w) * (v - w))
+
+-- the same as a fact. (Where v is not above w, the difference is 0, and so is the greater side.)
+abbrev pub IsHeavy : Fraction → ℕ → ℕ → Type 0
+IsHeavy k v w = k.p * w * w < k.q * (v - w) * (v - w)

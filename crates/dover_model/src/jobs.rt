@@ -1,0 +1,81 @@
+//! A job with a firm deadline.
+use std::marker::Model;
+
+/// The last tick that a release or a deadline may name.
+pub const LAST_TICK: u64 = 1_000_000_000_000;
+
+/// The greatest value of a job.
+pub const MOST_VALUE: u64 = 1_000_000_000;
+
+/// A job becomes known at its release, and is worth its value if it gets `work` ticks before its deadline.
+#[derive(Clone, Copy, Debug, PartialEq, Eq)]
+pub struct Job {
+    release: u64,
+    work: u64,
+    deadline: u64,
+    value: u64,
+}
+
+impl Model for Job {
+    ghost use Rattle.dover_model.specs.JobFacts.{JobFacts, IsJob};
+
+    ghost Value = { JobFacts };
+
+    ghost view = { λ j. record { release = j.release; work = j.work; deadline = j.deadline; value = j.value } };
+
+    ghost invariant = { λ j. IsJob (record { release = j.release; work = j.work; deadline = j.deadline; value = j.value }) };
+
+    ghost inverse = { λ j. record { release = j.release; work = j.work; deadline = j.deadline; value = j.value } };
+}
+
+impl Job {
+    ghost use Rattle.std.specs.Prelude.{◌≡◌, ◌↔◌, IsSome, IfSome};
+    ghost use Rattle.dover_model.specs.JobFacts.{IsJob};
+
+    /// None exactly where a limit of one job is broken.
+    pub fn new(release: u64, work: u64, deadline: u64, value: u64) -> Option<Job>
+        ensures allowed { IsSome result ↔ IsJob (record { release = release; work = work; deadline = deadline; value = value }) }
+        ensures facts { IfSome result (λ job. job ≡ record { release = release; work = work; deadline = deadline; value = value }) }
+    {
+        if work < 1 || deadline > LAST_TICK || value < 1 || value > MOST_VALUE {
+            return None;
+        }
+        if deadline < work || deadline - work < release {
+            return None;
+        }
+        Some(Job {
+            release,
+            work,
+            deadline,
+            value,
+        })
+    }
+
+    pub fn release(&self) -> u64
+        ensures is { result ≡ self.now.release }
+        ensures job { IsJob self.now }
+    {
+        self.release
+    }
+
+    pub fn work(&self) -> u64
+        ensures is { result ≡ self.now.work }
+        ensures job { IsJob self.now }
+    {
+        self.work
+    }
+
+    pub fn deadline(&self) -> u64
+        ensures is { result ≡ self.now.deadline }
+        ensures job { IsJob self.now }
+    {
+        self.deadline
+    }
+
+    pub fn value(&self) -> u64
+        ensures is { result ≡ self.now.value }
+        ensures job { IsJob self.now }
+    {
+        self.value
+    }
+}

@@ -1,0 +1,57 @@
+//! The importance ratio.
+use std::marker::Model;
+
+/// The greatest numerator.
+pub const MOST_P: u32 = 1_000_000;
+
+/// The greatest denominator.
+pub const MOST_Q: u32 = 1_000;
+
+/// The ratio `p/q`, at least one, that bounds the greatest density of value divided by the least.
+#[derive(Clone, Copy, Debug, PartialEq, Eq)]
+pub struct Ratio {
+    p: u32,
+    q: u32,
+}
+
+impl Model for Ratio {
+    ghost use Rattle.dover_model.specs.Fraction.{Fraction, IsRatio};
+
+    ghost Value = { Fraction };
+
+    ghost view = { λ k. record { p = k.p; q = k.q } };
+
+    ghost invariant = { λ k. IsRatio (record { p = k.p; q = k.q }) };
+
+    ghost inverse = { λ k. record { p = k.p; q = k.q } };
+}
+
+impl Ratio {
+    ghost use Rattle.std.specs.Prelude.{◌≡◌, ◌↔◌, IsSome, IfSome};
+    ghost use Rattle.dover_model.specs.Fraction.{IsRatio};
+
+    /// None exactly where p or q is out of the limits.
+    pub fn new(p: u32, q: u32) -> Option<Ratio>
+        ensures allowed { IsSome result ↔ IsRatio (record { p = p; q = q }) }
+        ensures facts { IfSome result (λ k. k ≡ record { p = p; q = q }) }
+    {
+        if q < 1 || q > MOST_Q || p < q || p > MOST_P {
+            return None;
+        }
+        Some(Ratio { p, q })
+    }
+
+    pub fn p(&self) -> u32
+        ensures is { result ≡ self.now.p }
+        ensures ratio { IsRatio self.now }
+    {
+        self.p
+    }
+
+    pub fn q(&self) -> u32
+        ensures is { result ≡ self.now.q }
+        ensures ratio { IsRatio self.now }
+    {
+        self.q
+    }
+}

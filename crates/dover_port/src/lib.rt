@@ -1,0 +1,14 @@
+//! The two ends of a program: where its input comes from and where its output goes.
+#![tactic(auto)]
+
+mod memory;
+mod port;
+mod puts;
+mod standard;
+mod status;
+
+pub use memory::MemoryPort;
+pub use port::{Failed, Port};
+pub use puts::put_all;
+pub use standard::StdPort;
+pub use status::Status;
