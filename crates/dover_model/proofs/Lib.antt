@@ -28,11 +28,13 @@ pub mod Rooms
 pub mod Deeds
 pub mod Preempting
 pub mod Kept
+pub mod Jumping
 pub mod Leaving
 pub mod Potential
 pub mod Ending
 pub mod Later
 pub mod Settling
+pub mod Barriers
 pub mod Prefixes
 pub mod Valid
 pub mod Beginnings

@@ -9,6 +9,7 @@ pub mod Orders
 pub mod Step
 pub mod Run
 pub mod Sound
+pub mod Jumps
 pub mod Settled
 pub mod WholeRun
 pub mod Online
