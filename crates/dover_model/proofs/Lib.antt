@@ -46,6 +46,7 @@ pub mod Serving
 pub mod Orderly
 pub mod Underload
 pub mod Runs
+pub mod Paths
 pub mod WaitingMoves
 pub mod Honest
 pub mod Numerals

@@ -12,6 +12,7 @@ pub mod Sound
 pub mod Jumps
 pub mod Settled
 pub mod WholeRun
+pub mod Paths
 pub mod Online
 pub mod Underload
 pub mod WaitingMoves
