@@ -66,6 +66,7 @@ pub mod Growing
 pub mod Admitting
 pub mod ReadShort
 pub mod Accounts
+pub mod Emitting
 pub mod ShortNumbers
 pub mod Walks
 pub mod NoFeeds
