@@ -1,5 +1,5 @@
 -- Paths of open steps: how they go on, what they come to at a barrier, with a job more, and at the end.
-use Rattle.std.proofs.Common.{◌≡◌, ℕ, ◌+◌, ◌≤◌, ◌<◌, ◌⊎◌, inl, inr, List, [], ◌∷◌, ◌++◌, length, map, refl, sym, ap, ◌∙◌, subst}
+use Rattle.std.proofs.Common.{◌≡◌, ℕ, ◌+◌, ◌≤◌, ◌<◌, ◌⊎◌, inl, inr, List, [], ◌∷◌, ◌++◌, length, map, refl, sym, ap, ◌∙◌, subst, append_assoc}
 use Rattle.std.proofs.Common.{Bool, true, false, cond, arith}
 use Rattle.std.specs.Prelude.{◌&&◌, nat_le, Option, Some, None}
 use Rattle.std.specs.Bool.{MatchBool, then_some}
@@ -13,18 +13,18 @@ use Rattle.dover_model.specs.declared.events.Task.{Task}
 use Rattle.dover_model.specs.Instance.{Rules, Instance, IsValid, with_jobs}
 use Rattle.dover_model.specs.State.{State, with_later, opening, to_come, is_over, is_done, is_running, value_sum}
 use Rattle.dover_model.specs.Step.{Prints, Ticks, step, open_step, after, ending, ◌or_else◌, ticked}
-use Rattle.dover_model.specs.Run.{Step, is_end, event_of, printed_of, printed, run}
+use Rattle.dover_model.specs.Run.{Step, is_end, event_of, printed_of, printed, run, last_deadline}
 use Rattle.dover_model.specs.Settled.{is_late, settled, settled_steps, AllComeFrom}
-use Rattle.dover_model.specs.WholeRun.{open_at, step_at, IsWholeRun, IsBarrier, IsBefore, IsSettledRun}
-use Rattle.dover_model.specs.Paths.{IsOpenPath, HasPrinted}
+use Rattle.dover_model.specs.WholeRun.{open_at, step_at, IsWholeRun, IsBarrier, IsBefore, IsSettledRun, Begins}
+use Rattle.dover_model.specs.Paths.{IsOpenPath, IsPath, HasPrinted}
 use Rattle.dover_model.specs.Sound.{Each, Keeps}
 use Rattle.dover_model.proofs.Members.{all_each}
 use Rattle.dover_model.proofs.Roles.{passes, is_over_role}
 use Rattle.dover_model.proofs.Deeds.{over_rests}
-use Rattle.dover_model.proofs.Kept.{open_kept, opening_keeps, step_deed, open_deed}
-use Rattle.dover_model.proofs.Ending.{run_is_whole}
+use Rattle.dover_model.proofs.Kept.{open_kept, step_kept, opening_keeps, step_deed, open_deed}
+use Rattle.dover_model.proofs.Ending.{potential, ends, run_is_whole}
 use Rattle.dover_model.proofs.RunLaws.{one_run}
-use Rattle.dover_model.proofs.Settling.{settled_is_run}
+use Rattle.dover_model.proofs.Settling.{settles, settled_is_run}
 use Rattle.dover_model.proofs.Valid.{valid_front}
 use Rattle.dover_model.proofs.Prefixes.{come_from, later_keeps, opening_later, behind_after, behind_keeps, behind_step, step_open, open_not_end}
 use Rattle.dover_model.proofs.Runs.{printed_append}
@@ -236,3 +236,49 @@ pub printed_then_run : (J : Instance) (mark : ℕ) (s : State) (events : List Ev
 printed_then_run J mark s events zs valid it whole =
     let all = path_then_run J valid mark it.steps zs (opening J.jobs) s (opening_keeps J) it.path whole in
     ap printed_of (one_run J.rules (opening J.jobs) (run J) all.0 (run_is_whole J valid) all.1) ∙ all.2 ∙ ap (λ es. es ++ printed_of zs) it.prints
+
+-- ---- what is printed begins what will be
+
+-- a path, and what settles behind it
+path_then_settled : (rules : Rules) (mark : ℕ) (xs ys : List Step) (s t : State) → IsOpenPath rules mark s xs t → IsSettledRun rules mark t ys
+    → IsSettledRun rules mark s (xs ++ ys)
+path_then_settled rules mark [] ys s t here run = subst (λ z. IsSettledRun rules mark z ys) here run
+path_then_settled rules mark (x ∷ xs) ys s t path run =
+    (path.0, path.1, path_then_settled rules mark xs ys (after s (open_step rules s)) t path.2 run)
+
+-- what was printed before the barrier begins what is settled
+pub printed_begins : (J : Instance) (mark : ℕ) (s : State) (events : List Event) → IsValid J → HasPrinted J mark s events
+    → Begins events (settled J mark)
+printed_begins J mark s events valid it =
+    let keeps : Keeps J s = path_keeps J valid mark it.steps (opening J.jobs) s (opening_keeps J) it.path in
+    let rest = settles J valid J.rules mark (potential mark s) s keeps (omega arith) in (
+      printed_of rest.0,
+      ap printed_of (one_settled_run J.rules mark (settled_steps J mark) (it.steps ++ rest.0) (opening J.jobs) (settled_is_run J mark valid)
+          (path_then_settled J.rules mark it.steps rest.0 (opening J.jobs) s it.path rest.1))
+          ∙ printed_append it.steps rest.0 ∙ ap (λ es. es ++ printed_of rest.0) it.prints,
+    )
+
+-- closed steps, and a whole run behind them
+pub closed_then_run : (rules : Rules) (xs ys : List Step) (s t : State) → IsPath rules s xs t → IsWholeRun rules t ys → IsWholeRun rules s (xs ++ ys)
+closed_then_run rules [] ys s t here whole = subst (λ z. IsWholeRun rules z ys) here whole
+closed_then_run rules (x ∷ xs) ys s t path whole = (
+  path.0,
+  subst (λ b. MatchBool b (xs ++ ys ≡ []) (IsWholeRun rules (after s (step rules s)) (xs ++ ys))) (sym path.1)
+      (closed_then_run rules xs ys (after s (step rules s)) t path.2 whole),
+)
+
+-- closed steps keep what is sound
+pub closed_keeps : (J : Instance) → IsValid J → (xs : List Step) (s t : State) → Keeps J s → IsPath J.rules s xs t → Keeps J t
+closed_keeps J valid [] s t keeps here = subst (Keeps J) (sym here) keeps
+closed_keeps J valid (x ∷ xs) s t keeps path = closed_keeps J valid xs (after s (step J.rules s)) t (step_kept J valid s keeps J.rules) path.2
+
+-- what was printed before the barrier, and by closed steps behind, begins what the run prints
+pub printed_begins_run : (J : Instance) (mark : ℕ) (s t : State) (events : List Event) (xs : List Step) → IsValid J → HasPrinted J mark s events
+    → IsPath J.rules s xs t → Begins (events ++ printed_of xs) (printed J)
+printed_begins_run J mark s t events xs valid it path =
+    let keeps : Keeps J t = closed_keeps J valid xs s t (path_keeps J valid mark it.steps (opening J.jobs) s (opening_keeps J) it.path) path in
+    let rest = ends J valid J.rules (potential (last_deadline J.jobs) t) t keeps (omega arith) in (
+      printed_of rest.0,
+      printed_then_run J mark s events (xs ++ rest.0) valid it (closed_then_run J.rules xs rest.0 s t path rest.1)
+          ∙ ap (λ es. events ++ es) (printed_append xs rest.0) ∙ sym (append_assoc events (printed_of xs) (printed_of rest.0)),
+    )

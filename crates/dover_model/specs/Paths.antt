@@ -12,11 +12,10 @@ abbrev pub IsOpenPath : Rules → ℕ → State → List Step → State → Type
 IsOpenPath rules mark s [] t = t ≡ s
 IsOpenPath rules mark s (x ∷ xs) t = (x ≡ open_at rules s) × IsBefore rules mark s × IsOpenPath rules mark (after s (open_step rules s)) xs t
 
--- these steps, of which only the last may be End, lead from s to t
+-- these steps, none of which is End, lead from s to t
 abbrev pub IsPath : Rules → State → List Step → State → Type 0
 IsPath rules s [] t = t ≡ s
-IsPath rules s (x ∷ []) t = (x ≡ step_at rules s) × (t ≡ after s (step rules s))
-IsPath rules s (x ∷ y ∷ xs) t = (x ≡ step_at rules s) × (is_end (step rules s) ≡ false) × IsPath rules (after s (step rules s)) (y ∷ xs) t
+IsPath rules s (x ∷ xs) t = (x ≡ step_at rules s) × (is_end (step rules s) ≡ false) × IsPath rules (after s (step rules s)) xs t
 
 -- open steps from the opening, before the barrier of the mark, lead to s and print these events
 pub record HasPrinted (J : Instance) (mark : ℕ) (s : State) (events : List Event) : Type 0 where
