@@ -42,7 +42,7 @@ pub record AtBarrier (J : Instance) (mark : ℕ) (s : State) : Type 0 where
 
 module _ (J : Instance) (valid : IsValid J) (mark : ℕ) where
   -- the clock doesn't pass the mark before the barrier
-  clock_stays : (s : State) → s.clock ≤ mark → IsBefore J.rules mark s → (after s (open_step J.rules s)).clock ≤ mark
+  pub clock_stays : (s : State) → s.clock ≤ mark → IsBefore J.rules mark s → (after s (open_step J.rules s)).clock ≤ mark
   clock_stays s low before = by_clock (clock_after s (open_step J.rules s)) where
     by_clock : ((after s (open_step J.rules s)).clock ≡ s.clock)
         ⊎ ((open_step J.rules s ≡ Ticks) × ((after s (open_step J.rules s)).clock ≡ s.clock + 1))

@@ -24,6 +24,7 @@ use Rattle.dover_model.proofs.Deeds.{over_rests}
 use Rattle.dover_model.proofs.Kept.{open_kept, step_kept, opening_keeps, step_deed, open_deed}
 use Rattle.dover_model.proofs.Ending.{potential, ends, run_is_whole}
 use Rattle.dover_model.proofs.RunLaws.{one_run}
+use Rattle.dover_model.proofs.Barriers.{clock_stays}
 use Rattle.dover_model.proofs.Settling.{settles, settled_is_run}
 use Rattle.dover_model.proofs.Valid.{valid_front}
 use Rattle.dover_model.proofs.Prefixes.{come_from, later_keeps, opening_later, behind_after, behind_keeps, behind_step, step_open, open_not_end}
@@ -282,3 +283,12 @@ printed_begins_run J mark s t events xs valid it path =
       printed_then_run J mark s events (xs ++ rest.0) valid it (closed_then_run J.rules xs rest.0 s t path rest.1)
           ∙ ap (λ es. events ++ es) (printed_append xs rest.0) ∙ sym (append_assoc events (printed_of xs) (printed_of rest.0)),
     )
+
+-- ---- the clock
+
+-- a path before the barrier of a mark doesn't pass the mark
+pub path_low : (J : Instance) → IsValid J → (mark : ℕ) (xs : List Step) (s t : State) → s.clock ≤ mark → IsOpenPath J.rules mark s xs t
+    → t.clock ≤ mark
+path_low J valid mark [] s t low here = subst (λ (z : State). z.clock ≤ mark) (sym here) low
+path_low J valid mark (x ∷ xs) s t low path =
+    path_low J valid mark xs (after s (open_step J.rules s)) t (clock_stays J valid mark s low path.1) path.2
