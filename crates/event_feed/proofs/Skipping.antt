@@ -25,8 +25,8 @@ mark_known ls S opened session =
     let kept : IsKept a = (lines_goes ls no_lines zero_mark).0 in
     let holds : Holds S a.mark a.lines =
     subst (λ o. HoldsOpen o a.mark a.lines) session (subst (λ s. HoldsBy s a.session a.mark a.lines) opened kept) in holds.known where
-  zero_mark : no_lines.mark ≡ 0
-  zero_mark = refl
+      zero_mark : no_lines.mark ≡ 0
+      zero_mark = refl
 
 -- its cause: there is none
 no_cause : (mark : ℕ) → mark ≤ last_tick → nat_lt mark mark || nat_lt last_tick mark ≡ false
@@ -55,7 +55,7 @@ ticks (suc n) lines S mark known few =
 pub ticks_account : (ls : List (List ℕ)) (n : ℕ) (S : Session) → (account_of_lines ls).standing ≡ Open → (account_of_lines ls).session ≡ Some S
     → (account_of_lines ls).lines + n ≤ most_lines
     → account_of_lines (ls ++ replicate n (feed_text (TickLine (account_of_lines ls).mark)))
-      ≡ open_account ((account_of_lines ls).lines + n) (Some S) (account_of_lines ls).mark
+    ≡ open_account ((account_of_lines ls).lines + n) (Some S) (account_of_lines ls).mark
 ticks_account ls n S opened session few =
     let a : Account = account_of_lines ls in
     let same : a ≡ open_account a.lines (Some S) a.mark =
@@ -79,7 +79,7 @@ still_open kept going = goes_on kept.standing going.not_ended (λ fault faulty. 
 -- what is kept after so many lines more
 pub keeps_ticks : (kept : Kept) (ls : List (List ℕ)) (n : ℕ) → IsGoing kept → HasLines kept n → StandsFor kept ls
     → StandsFor (record { lines = kept.lines + n; session = kept.session; standing = kept.standing })
-      (ls ++ replicate n (feed_text (TickLine (account_of_lines ls).mark)))
+    (ls ++ replicate n (feed_text (TickLine (account_of_lines ls).mark)))
 keeps_ticks kept ls n going few it =
     let a : Account = account_of_lines ls in
     let going_on : kept.standing ≡ standings.Open = still_open kept going in

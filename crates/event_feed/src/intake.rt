@@ -1,5 +1,5 @@
 //! The lines of a feed, taken in one by one.
-ghost use Rattle.std.specs.Prelude.{◌≡◌, ℕ, List, [], ◌∷◌, ◌++◌, ◌↔◌, true, false, Option, IsOk, IfOk, OnOk, IsSome, ◌≤◌, replicate};
+ghost use Rattle.std.specs.Prelude.{◌≡◌, ℕ, List, [], ◌∷◌, ◌++◌, ◌↔◌, true, false, Option, IsOk, IfOk, OnOk, IsSome, ◌≤◌, ◌+◌, replicate};
 ghost use Rattle.std.specs.Option.{option_map};
 ghost use Rattle.std.specs.Bool.{then_some};
 ghost use Rattle.dover_model.specs.Limits.{most_lines};
@@ -134,6 +134,7 @@ impl Intake {
         ensures stands { StandsFor result [] }
         ensures goes_on { has_ended result ≡ false }
         ensures no_fault { fault_of result ≡ None }
+        ensures none_counted { result.lines ≡ 0 }
     {
         Intake {
             lines: 0,
@@ -151,6 +152,7 @@ impl Intake {
         ensures going { IfOk result (λ fed. (fed ≡ Fed.Over → ⊥) → IsGoing self.new) }
         ensures ended { (has_ended self.new ≡ true) ↔ (result ≡ Ok Fed.Over) }
         ensures fault { fault_of self.new ≡ fault_in result }
+        ensures counted { self.new.lines ≤ self.old.lines + 1 }
         ensures again { (fault : FeedFault) → fault_of self.old ≡ Some fault → (result ≡ Err fault) × (self.new ≡ self.old) }
     {
         if let Standing::Faulty(fault) = self.standing {

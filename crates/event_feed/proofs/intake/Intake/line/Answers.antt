@@ -16,6 +16,7 @@ returns-in-Err c = record {
   going = tt;
   ended = (λ e. cc, λ e. cc);
   fault = refl;
+  counted = omega (arith, ap (λ k. k.lines) c.self.view_is);
   again = λ fault is. absurd (let e : None ≡ Some fault =
       ap (λ s. fault_of (record { lines = c.self.inside.lines; session = c.self.inside.session; standing = s })) (sym still_open)
       ∙ ap fault_of c.self.view_is ∙ is in cc);
