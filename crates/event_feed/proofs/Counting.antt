@@ -1,5 +1,5 @@
 -- Each line of an open account is counted.
-use Rattle.std.proofs.Common.{◌≡◌, ℕ, suc, ◌+◌, List, [], ◌∷◌, length, refl, sym, ap, ◌∙◌, cond, Bool, true, false, Option, Some, None, arith}
+use Rattle.std.proofs.Common.{◌≡◌, ℕ, suc, ◌+◌, List, [], ◌∷◌, length, refl, cond, Bool, true, false, Option, Some, None, arith}
 use Rattle.std.specs.List.{fold}
 use Rattle.std.specs.Prelude.{nat_lt}
 use Rattle.dover_model.specs.Limits.{most_lines}
@@ -8,7 +8,8 @@ use Rattle.dover_model.specs.JobFacts.{JobFacts}
 use Rattle.dover_model.specs.Session.{Session, is_two, refused_at}
 use Rattle.dover_model.specs.FeedLine.{FeedLine, RatioLine, JobLine, TickLine, EndLine, feed_line}
 use Rattle.dover_model.specs.Feed as model
-use Rattle.dover_model.specs.Feed.{Account, Cause, Standing, Open, Ended, Faulty, cause_of, with_line, with_fault, with_item_in, with_refused_job, read_line}
+use Rattle.dover_model.specs.Feed.{Account, Cause, Standing, Open, Ended, Faulty}
+use Rattle.dover_model.specs.Feed.{cause_of, with_line, with_fault, with_item_in, with_refused_job, read_line}
 use Rattle.dover_model.specs.Feed.{next_line, no_lines, account_of_lines, NotAdmitted}
 
 -- the account after a refused job

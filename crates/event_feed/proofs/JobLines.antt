@@ -1,17 +1,14 @@
 -- A job line in a session that goes on: admitted, refused, or at fault.
-use Rattle.std.proofs.Common.{◌≡◌, ℕ, ◌≤◌, List, [], ◌∷◌, ◌++◌, length, refl, sym, ap, ◌∙◌, subst, cond, Option, Some, None, Ok, Err}
+use Rattle.std.proofs.Common.{◌≡◌, ℕ, ◌≤◌, List, [], ◌∷◌, ◌++◌, refl, sym, ap, ◌∙◌, subst, cond, Option, Some, None, Ok, Err}
 use Rattle.std.specs.Option.{option_map}
 use Rattle.std.proofs.lemmas.Bool.{le-ltb}
 use Rattle.dover_model.specs.Numerals.{AreShort}
-use Rattle.dover_model.specs.declared.events.Version.{Version}
 use Rattle.dover_model.specs.declared.events.Version.TheVariants.{One, Two}
 use Rattle.dover_model.specs.declared.events.Refusal.{Refusal}
-use Rattle.dover_model.specs.JobFacts.{JobFacts, job_of_numbers, job_numbers}
-use Rattle.dover_model.specs.Instance.{Rules}
+use Rattle.dover_model.specs.JobFacts.{JobFacts, job_numbers}
 use Rattle.dover_model.specs.Admission.{refusal_of}
-use Rattle.dover_model.specs.Session.{Session, Item, JobItem, RefusedItem, refused_at, with_item, admitted_jobs, is_two}
+use Rattle.dover_model.specs.Session.{Session, refused_at, admitted_jobs, is_two}
 use Rattle.dover_model.specs.FeedLine.{JobLine}
-use Rattle.dover_model.specs.Feed as model
 use Rattle.dover_model.specs.Feed.{Account, NotAdmitted, Order, cause_of, with_fault, with_line, with_item_in, rules_with}
 use Rattle.dover_model.proofs.Growing.{job_instance, refused_instance}
 use Rattle.admission.specs.Kept as admission
@@ -22,7 +19,7 @@ use Rattle.event_feed.specs.declared.fed.Fed.TheVariants as fed
 use Rattle.event_feed.specs.declared.kept_session.KeptSession.{KeptSession}
 use Rattle.event_feed.specs.Kept.{cause_of_fault, cause_of_refused, IsKeptOf}
 use Rattle.event_feed.specs.Answers.{NamesOther}
-use Rattle.event_feed.specs.Reading.{open_account, IsTaken, Takes, Refuses}
+use Rattle.event_feed.specs.Reading.{open_account, IsTaken, Takes}
 
 module _ (lines : ℕ) (S : Session) (mark : ℕ) (j : JobFacts) (no_fall : mark ≤ j.release) where
   -- the account, with the line counted

@@ -1,5 +1,6 @@
 -- Tick lines at the mark change nothing but the number of lines.
-use Rattle.std.proofs.Common.{◌≡◌, ℕ, zero, suc, ◌+◌, ◌≤◌, ◌<◌, ◌^◌, List, [], ◌∷◌, ◌++◌, replicate, refl, sym, ap, ◌∙◌, subst, cond, true, false, Option, Some, None, arith, add-zero, ◌||◌}
+use Rattle.std.proofs.Common.{◌≡◌, ℕ, zero, suc, ◌+◌, ◌≤◌, List, ◌++◌, replicate, refl, sym}
+use Rattle.std.proofs.Common.{ap, ◌∙◌, subst, cond, true, false, Option, Some, None, arith, add-zero, ◌||◌}
 use Rattle.std.specs.List.{fold}
 use Rattle.std.specs.Prelude.{nat_lt, IsSome}
 use Rattle.std.proofs.lemmas.Bool.{le-ltb}

@@ -1,20 +1,21 @@
 -- A line that is taken in, from the account in which it is counted to that of all lines.
-use Rattle.std.proofs.Common.{◌≡◌, ℕ, suc, ◌≤◌, List, [], ◌∷◌, ◌++◌, refl, sym, ap, ◌∙◌, subst, cond, Bool, true, false, Option, Some, None, Ok, Err, inl, Result}
+use Rattle.std.proofs.Common.{◌≡◌, ℕ, suc, ◌≤◌, List, [], ◌∷◌, ◌++◌, refl, sym, ap}
+use Rattle.std.proofs.Common.{◌∙◌, subst, cond, true, false, Option, Some, None, Err, inl, Result}
 use Rattle.std.specs.Prelude.{IsSome}
 use Rattle.std.proofs.lemmas.Bool.{le-ltb}
 use Rattle.std.proofs.lemmas.List.Sums.{fold-append}
 use Rattle.dover_model.specs.Limits.{most_lines}
-use Rattle.dover_model.specs.Session.{Session}
 use Rattle.dover_model.specs.FeedLine.{FeedLine, feed_line}
 use Rattle.dover_model.specs.Feed as model
-use Rattle.dover_model.specs.Feed.{Account, Standing, Open, Ended, cause_of, with_line, with_fault, read_line, next_line, no_lines, is_open, account_of_lines}
+use Rattle.dover_model.specs.Feed.{Account, Standing, Open, Ended, cause_of, with_line}
+use Rattle.dover_model.specs.Feed.{with_fault, read_line, next_line, no_lines, is_open, account_of_lines}
 use Rattle.event_feed.specs.declared.faults.Cause.{Cause}
 use Rattle.event_feed.specs.declared.faults.FeedFault.{FeedFault}
 use Rattle.event_feed.specs.declared.intake.Standing as standings
 use Rattle.event_feed.specs.declared.intake.Standing.TheVariants as kept
 use Rattle.event_feed.specs.declared.kept_session.KeptSession.{KeptSession}
 use Rattle.event_feed.specs.declared.fed.Fed.{Fed}
-use Rattle.event_feed.specs.Kept.{Kept, KeepsAccount, StandsFor, IsGoing, cause_of_fault, fault_of, has_ended}
+use Rattle.event_feed.specs.Kept.{KeepsAccount, StandsFor, IsGoing, cause_of_fault, fault_of, has_ended}
 use Rattle.event_feed.specs.Answers.{counted, Answers}
 use Rattle.event_feed.specs.Reading.{open_account, IsTaken, TakesIn}
 
@@ -61,7 +62,7 @@ answers_fault ls bytes session lines cause opened counts it =
     inl (record { opened = opened; line = counts; after_is = next_account ls bytes opened ∙ it.gives.after_is; other = it.gives.other })
 
 -- where neither the end nor a fault came, the feed goes on
-pub goes_on : (standing : standings.Standing) → (let b : Bool = elim standing [ kept.Open ↦ false | kept.Over ↦ true | kept.Faulty fault ↦ false ] in b) ≡ false
+pub goes_on : (standing : standings.Standing) → has_ended (record { lines = 0; session = None; standing = standing }) ≡ false
     → ((fault : FeedFault) → standing ≡ kept.Faulty fault → ⊥) → standing ≡ kept.Open
 goes_on kept.Open not_over not_faulty = refl
 goes_on kept.Over not_over not_faulty = absurd (let e : true ≡ false = not_over in cc)

@@ -1,5 +1,5 @@
 -- A line of one of the forms is taken in as that form is.
-use Rattle.std.proofs.Common.{ap, arith}
+use Rattle.std.proofs.Common.{arith}
 use Rattle.job_format.specs.Form.{form_of}
 use Rattle.event_feed.proofs.Taking.{taken_line}
 use Rattle.event_feed.proofs.intake.read.Goals as goal

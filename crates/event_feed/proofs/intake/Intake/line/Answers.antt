@@ -11,8 +11,10 @@ use Rattle.event_feed.proofs.intake.Intake.line.Goals as goal
 
 pub returns-in-Err : goal.returns-in-Err
 returns-in-Err c = record {
-  stands = λ ls it. keeps_fault ls c.args.line.now c.read.new.session (c.self.inside.lines + 1) c.in-Err.cause (opened ls it) (counts ls it) (taken ls it);
-  answer = λ ls it. answers_fault ls c.args.line.now c.read.new.session (c.self.inside.lines + 1) c.in-Err.cause (opened ls it) (counts ls it) (taken ls it);
+  stands = λ ls it. keeps_fault ls c.args.line.now c.read.new.session (c.self.inside.lines + 1) c.in-Err.cause (opened ls it) (counts ls it)
+      (taken ls it);
+  answer = λ ls it. answers_fault ls c.args.line.now c.read.new.session (c.self.inside.lines + 1) c.in-Err.cause (opened ls it) (counts ls it)
+      (taken ls it);
   going = tt;
   ended = (λ e. cc, λ e. cc);
   fault = refl;
@@ -24,7 +26,8 @@ returns-in-Err c = record {
   still_open : c.self.inside.standing ≡ standings.Open
   still_open = goes_on c.self.inside.standing (ap has_ended c.self.view_is ∙ c.requires) c.in_default.not-Faulty
 
-  of_view : (ls : List (List ℕ)) → StandsFor c.args.self.now ls → StandsFor (record { lines = c.self.inside.lines; session = c.self.inside.session; standing = c.self.inside.standing }) ls
+  of_view : (ls : List (List ℕ)) → StandsFor c.args.self.now ls
+      → StandsFor (record { lines = c.self.inside.lines; session = c.self.inside.session; standing = c.self.inside.standing }) ls
   of_view ls it = subst (λ k. StandsFor k ls) (sym c.self.view_is) it
 
   opened : (ls : List (List ℕ)) → StandsFor c.args.self.now ls → (account_of_lines ls).standing ≡ Open
@@ -33,7 +36,8 @@ returns-in-Err c = record {
   counts : (ls : List (List ℕ)) → StandsFor c.args.self.now ls → c.self.inside.lines + 1 ≡ suc (account_of_lines ls).lines
   counts ls it = omega (arith, (of_view ls it).by_account.counted)
 
-  taken : (ls : List (List ℕ)) → StandsFor c.args.self.now ls → IsTaken c.read.new.session (feed_line c.args.line.now) (counted (account_of_lines ls)) (read_line (counted (account_of_lines ls)) c.args.line.now) (Err c.in-Err.cause)
+  taken : (ls : List (List ℕ)) → StandsFor c.args.self.now ls → IsTaken c.read.new.session (feed_line c.args.line.now)
+      (counted (account_of_lines ls)) (read_line (counted (account_of_lines ls)) c.args.line.now) (Err c.in-Err.cause)
   taken ls it = c.in-Err.ensures.taken (counted (account_of_lines ls)) (opened ls it) (sym (counts ls it)) (of_view ls it).by_account.session
 
 pub returns-in-Ok-clause-going : goal.returns-in-Ok-clause-going

@@ -1,5 +1,5 @@
 -- What is kept after the skipped lines.
-use Rattle.std.proofs.Common.{ℕ, ◌+◌, List, ◌++◌, replicate, sym, subst}
+use Rattle.std.proofs.Common.{◌+◌, ◌++◌, replicate, sym, subst}
 use Rattle.dover_model.specs.FeedLine.{TickLine, feed_text}
 use Rattle.dover_model.specs.Feed.{account_of_lines}
 use Rattle.event_feed.specs.Kept.{StandsFor, IsGoing}
@@ -14,6 +14,7 @@ returns-clause-stands c ls it =
     (keeps_ticks c.args.self.now ls c.args.lines c.requires.going c.requires.room it)
 
 pub returns-clause-going : goal.returns-clause-going
-returns-clause-going c = subst (λ k. IsGoing (record { lines = k.lines + c.args.lines; session = k.session; standing = k.standing })) (sym c.self.view_is)
+returns-clause-going c =
+    subst (λ k. IsGoing (record { lines = k.lines + c.args.lines; session = k.session; standing = k.standing })) (sym c.self.view_is)
     (is_going (c.args.self.now.lines + c.args.lines) c.args.self.now.session c.args.self.now.standing c.requires.going.declared
     (still_open c.args.self.now c.requires.going))
