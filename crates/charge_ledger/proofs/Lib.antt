@@ -1,0 +1,3 @@
+pub mod Follows
+pub mod Sums
+pub mod Knowing
