@@ -12,7 +12,8 @@ use Rattle.dover_model.specs.Run.{Step}
 use Rattle.dover_model.specs.Sound.{Each}
 use Rattle.dover_model.proofs.Booking.{active_sum, is_gone}
 use Rattle.charge_ledger.specs.declared.interval.UnderWay.{UnderWay}
-use Rattle.charge_ledger.specs.Pages.{Page, known_at, value_at, with_event, IsReadable}
+use Rattle.charge_ledger.specs.declared.ledger.Known.{Known}
+use Rattle.charge_ledger.specs.Pages.{Page, unknown, with_event, IsReadable}
 use Rattle.charge_ledger.specs.Rows.{numbers_of}
 
 -- the interval under way, as the page has it
@@ -24,12 +25,20 @@ abbrev pub page_of : Option model.Interval → Option UnderWay
 page_of None = None
 page_of (Some i) = Some (under_of i)
 
--- what the page knows of a released job
-pub record IsKnown (l : Page) (t : Task) : Type 0 where
-  pub there : t.number < length l.jobs
-  pub value : value_at l t.number ≡ t.job.value
-  pub era : (known_at l t.number).era ≤ l.era
-  pub active : is_over t ≡ false → ((known_at l t.number).era == l.era) ≡ is_privileged t
+-- what a page with these jobs in this era knows of a released job
+pub record IsKnown (jobs : List Known) (now : ℕ) (t : Task) : Type 0 where
+  pub there : t.number < length jobs
+  pub value : (get_or jobs t.number unknown).value ≡ t.job.value
+  pub era : (get_or jobs t.number unknown).era ≤ now
+  pub active : is_over t ≡ false → ((get_or jobs t.number unknown).era == now) ≡ is_privileged t
+
+-- each released job is known
+abbrev pub AllKnown : List Known → ℕ → List Task → Type 0
+AllKnown jobs era tasks = Each (λ t. (t.role ≡ Coming → ⊥) → IsKnown jobs era t) tasks
+
+-- the numbers of jobs to come are at least this
+abbrev pub AllAhead : ℕ → List Task → Type 0
+AllAhead n tasks = Each (λ t. t.role ≡ Coming → n ≤ t.number) tasks
 
 -- the value of the jobs that pass
 abbrev pub value_where : (Task → Bool) → List Task → ℕ
@@ -46,13 +55,17 @@ abbrev pub ArePaid : Fraction → State → ℕ → Option model.Interval → Ty
 ArePaid k s worth None = Unit {0}
 ArePaid k s worth (Some i) = IsPaid k s worth i
 
--- the page follows the state, in which this interval is under way
-pub record Follows (k : Fraction) (s : State) (l : Page) (current : Option model.Interval) : Type 0 where
-  pub known : Each (λ t. (t.role ≡ Coming → ⊥) → IsKnown l t) s.tasks
-  pub ahead : Each (λ t. t.role ≡ Coming → length l.jobs ≤ t.number) s.tasks
+-- the page has the jobs of the state
+pub record Tracks (s : State) (l : Page) : Type 0 where
+  pub known : AllKnown l.jobs l.era s.tasks
+  pub ahead : AllAhead (length l.jobs) s.tasks
   pub started : 1 ≤ l.era
   pub active : l.active ≡ active_sum (λ t. 1) s.tasks
   pub worth : l.worth ≡ active_sum (λ t. t.job.value) s.tasks
+
+-- the page follows the state, in which this interval is under way
+pub record Follows (k : Fraction) (s : State) (l : Page) (current : Option model.Interval) : Type 0 where
+  pub tracks : Tracks s l
   pub under : l.under_way ≡ page_of current
   pub paid : ArePaid k s l.worth current
 

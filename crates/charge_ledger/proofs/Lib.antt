@@ -1,3 +1,4 @@
 pub mod Follows
 pub mod Sums
 pub mod Knowing
+pub mod Steps
