@@ -2,3 +2,5 @@ pub mod Follows
 pub mod Sums
 pub mod Knowing
 pub mod Steps
+pub mod Overs
+pub mod Takes

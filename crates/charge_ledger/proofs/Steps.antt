@@ -33,7 +33,7 @@ scaled_square q a b less =
     let times : q * (a * a) ≤ q * (b * b) = mul-le q (a * a) q (b * b) (omega arith) square in omega (arith, times)
 
 -- what is paid for stays so where the values of jobs done and gone stay, and that of active ones does not fall
-paid_more : (k : Fraction) (s t : State) (w v : ℕ) (o : Option model.Interval) → value_where is_done s.tasks ≤ value_where is_done t.tasks
+pub paid_more : (k : Fraction) (s t : State) (w v : ℕ) (o : Option model.Interval) → value_where is_done s.tasks ≤ value_where is_done t.tasks
     → value_where is_gone s.tasks ≤ value_where is_gone t.tasks → w ≤ v → ArePaid k s w o → ArePaid k t v o
 paid_more k s t w v None done gone more paid = tt
 paid_more k s t w v (Some i) done gone more paid = record {
@@ -76,19 +76,19 @@ fresh_idle r e = record {
 }
 
 -- a job in one of these roles isn't to come
-running_comes : Running ≡ Coming → ⊥
+pub running_comes : Running ≡ Coming → ⊥
 running_comes e = cc
 
-held_comes : Held ≡ Coming → ⊥
+pub held_comes : Held ≡ Coming → ⊥
 held_comes e = cc
 
-waiting_comes : Waiting ≡ Coming → ⊥
+pub waiting_comes : Waiting ≡ Coming → ⊥
 waiting_comes e = cc
 
-gone_comes : Gone ≡ Coming → ⊥
+pub gone_comes : Gone ≡ Coming → ⊥
 gone_comes e = cc
 
-done_comes : Done ≡ Coming → ⊥
+pub done_comes : Done ≡ Coming → ⊥
 done_comes e = cc
 
 -- ---- changes of one role
@@ -96,12 +96,12 @@ done_comes e = cc
 module _ (k : Fraction) (s : State) (numbered : IsNumberedFrom 0 s.tasks) (l : Page) (current : Option model.Interval) (follows : Follows k s l current)
     (r : Task) (member : IsMember r s.tasks) where
   -- a sum over jobs of which this one is none stays
-  none_of : (p : Task → Bool) (new : Role) → p r ≡ false → p (with_role r new) ≡ false
+  pub none_of : (p : Task → Bool) (new : Role) → p r ≡ false → p (with_role r new) ≡ false
       → value_where p (with_roles (changed r new) s.tasks) ≡ value_where p s.tasks
   none_of p new before after = omega (arith, turned p (λ j. j.value) s.tasks numbered r member new false false before after)
 
   -- a job that comes to run
-  enters : IsIdle r → Follows k (state_with s r Running) (with_one_more l r.number) current
+  pub enters : IsIdle r → Follows k (state_with s r Running) (with_one_more l r.number) current
   enters i = record {
     tracks = enters_tracks s numbered l follows.tracks r member i.released Running running_comes i.idle refl;
     under = follows.under;
@@ -110,7 +110,7 @@ module _ (k : Fraction) (s : State) (numbered : IsNumberedFrom 0 s.tasks) (l : P
   }
 
   -- a job that is as active as before
-  turns : (old new : Role) → r.role ≡ old → (old ≡ Coming → ⊥) → (new ≡ Coming → ⊥) → is_over (with_role r old) ≡ false
+  pub turns : (old new : Role) → r.role ≡ old → (old ≡ Coming → ⊥) → (new ≡ Coming → ⊥) → is_over (with_role r old) ≡ false
       → is_privileged (with_role r old) ≡ is_privileged (with_role r new) → is_done (with_role r old) ≡ false → is_gone (with_role r old) ≡ false
       → is_done (with_role r new) ≡ false → is_gone (with_role r new) ≡ false
       → Follows k (state_with s r new) l current
@@ -176,7 +176,7 @@ module _ (k : Fraction) (some_q : 1 ≤ k.q) (ratio : k.q ≤ k.p) (s : State) (
     (total : sum_by (λ t. t.job.value) s.tasks ≤ 10_000_000_000_000) (count : length s.tasks ≤ 1_000_000) (current : Option model.Interval)
     (follows : Follows k s l current) where
   -- there is room for a job
-  can_join : (r : Task) → IsMember r s.tasks → (r.role ≡ Coming → ⊥) → CanJoin l r.number
+  pub can_join : (r : Task) → IsMember r s.tasks → (r.role ≡ Coming → ⊥) → CanJoin l r.number
   can_join r member released = record {
     known = (follows.tracks.known r member released).there;
     few = omega (arith, follows.tracks.active, active_few s.tasks);
@@ -190,7 +190,7 @@ module _ (k : Fraction) (some_q : 1 ≤ k.q) (ratio : k.q ≤ k.p) (s : State) (
   }
 
   -- a job that was not active joins
-  joins : (r : Task) → IsMember r s.tasks → IsIdle r → joined l r.number ≡ with_one_more l r.number
+  pub joins : (r : Task) → IsMember r s.tasks → IsIdle r → joined l r.number ≡ with_one_more l r.number
   joins r member i = ap (λ b. cond b l (with_one_more l r.number)) ((follows.tracks.known r member i.released).active i.lives ∙ i.idle)
 
   -- a job that was active goes on
