@@ -4,3 +4,5 @@ pub mod Knowing
 pub mod Steps
 pub mod Overs
 pub mod Takes
+pub mod Reading
+pub mod Charges

@@ -1,5 +1,5 @@
 -- The intervals of a run as rows of six numbers.
-use Rattle.std.specs.Prelude.{◌≡◌, List, map}
+use Rattle.std.specs.Prelude.{◌≡◌, ℕ, List, map}
 use Rattle.dover_model.specs.declared.events.Event.{Event}
 use Rattle.dover_model.specs.Fraction.{Fraction}
 use Rattle.dover_model.specs.Instance.{Instance, IsValid}
@@ -20,3 +20,8 @@ pub record IsRunOf (k : Fraction) (run : List Event) (J : Instance) : Type 0 whe
   pub valid : IsValid J
   pub ratio : J.rules.ratio ≡ k
   pub prints : printed J ≡ run
+
+-- rows, and the value that is completed
+pub record Charged : Type 0 where
+  pub rows : List Interval
+  pub value : ℕ

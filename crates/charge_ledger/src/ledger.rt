@@ -86,6 +86,14 @@ impl Ledger {
         Ok(())
     }
 
+    /// The rows, and the value that the end names.
+    pub fn into_parts(self) -> (Vec<Interval>, u64)
+        ensures rows { result.0.items ≡ self.rows }
+        ensures value { result.1 ≡ self.value }
+    {
+        (self.rows, self.value)
+    }
+
     /// The job of this number runs; one that was held stays active.
     fn join(&mut self, number: u32)
         requires { CanJoin self.old number }
