@@ -1,13 +1,13 @@
 -- What a page knows of the jobs, where their roles change.
-use Rattle.std.proofs.Common.{◌≡◌, ◌≢◌, ℕ, zero, suc, ◌+◌, ◌-◌, ◌≤◌, ◌<◌, ◌⊎◌, inl, inr, List, [], ◌∷◌, ◌++◌, length, map, set, get_or, refl, sym, ap, ◌∙◌, subst, Bool, true, false, cond, eqb, arith}
+use Rattle.std.proofs.Common.{◌≡◌, ◌≢◌, ℕ, suc, ◌+◌, ◌-◌, ◌≤◌, ◌<◌, ◌⊎◌, inl, inr, List, [], ◌∷◌, ◌++◌, length, map, get_or, refl, sym, ap, ◌∙◌, subst, true, false, cond, arith}
 use Rattle.std.specs.Prelude.{◌==◌}
-use Rattle.std.proofs.lemmas.Bool.{eq-eqb, ne_eqb, eqb-true}
+use Rattle.std.proofs.lemmas.Bool.{eq-eqb, ne_eqb}
 use Rattle.std.proofs.Common.{length-set, get_or-set_other, length-append}
 use Rattle.std.proofs.lemmas.List.{get_or-set_same, get_or_append_left}
 use Rattle.std.proofs.Math.Seq.{get_or-append_seam}
 use Rattle.std.proofs.lemmas.Bool.{cases_lt}
 use Rattle.dover_model.specs.declared.events.Role.{Role}
-use Rattle.dover_model.specs.declared.events.Role.TheVariants.{Coming, Fresh, Waiting, Held, Running, Done}
+use Rattle.dover_model.specs.declared.events.Role.TheVariants.{Coming, Fresh, Waiting, Held, Running}
 use Rattle.dover_model.specs.declared.events.Task.{Task}
 use Rattle.dover_model.specs.State.{State, is_coming, is_privileged, is_over}
 use Rattle.dover_model.specs.Step.{with_role, displaced, ticked}
@@ -20,9 +20,9 @@ use Rattle.dover_model.proofs.OneChange.{changed, on_changed, state_with}
 use Rattle.dover_model.proofs.Booking.{active_sum}
 use Rattle.dover_model.proofs.Booked.{displaced_idle}
 use Rattle.charge_ledger.specs.declared.ledger.Known.{Known}
-use Rattle.charge_ledger.specs.Pages.{Page, unknown, value_at, entered, with_one_more, with_event}
+use Rattle.charge_ledger.specs.Pages.{Page, unknown, value_at, entered, with_one_more}
 use Rattle.charge_ledger.proofs.Follows.{IsKnown, AllKnown, AllAhead, Tracks}
-use Rattle.charge_ledger.proofs.Sums.{stays, turned}
+use Rattle.charge_ledger.proofs.Sums.{turned}
 
 module _ (l : Page) (n era : ℕ) where
   -- the job of another number is the same after one entered
@@ -177,10 +177,16 @@ module _ (s : State) (numbered : IsNumberedFrom 0 s.tasks) (l : Page) (tracks : 
         (λ t m differs e. let low : c.number ≤ t.number = first t m e in let apart : c.number ≢ t.number = λ same. differs (sym same) in
         omega (arith, longer, next));
     started = tracks.started;
-    active = omega (arith, tracks.active,
-        turned is_privileged (λ _. 1) s.tasks numbered c member Fresh false false (passes is_privileged c Coming false comes refl) refl);
-    worth = omega (arith, tracks.worth,
-        turned is_privileged (λ j. j.value) s.tasks numbered c member Fresh false false (passes is_privileged c Coming false comes refl) refl);
+    active = omega (
+      arith,
+      tracks.active,
+      turned is_privileged (λ _. 1) s.tasks numbered c member Fresh false false (passes is_privileged c Coming false comes refl) refl,
+    );
+    worth = omega (
+      arith,
+      tracks.worth,
+      turned is_privileged (λ j. j.value) s.tasks numbered c member Fresh false false (passes is_privileged c Coming false comes refl) refl,
+    );
   } where
     longer : length (l.jobs ++ record { value = c.job.value; era = 0 } ∷ []) ≡ length l.jobs + 1
     longer = length-append l.jobs (record { value = c.job.value; era = 0 } ∷ [])

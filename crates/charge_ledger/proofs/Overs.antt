@@ -1,19 +1,19 @@
 -- The page follows a preemption, a release, an abandonment, a completion, a silent tick and the end.
-use Rattle.std.proofs.Common.{◌≡◌, ℕ, zero, suc, ◌+◌, ◌-◌, ◌*◌, ◌≤◌, ◌<◌, ◌^◌, ◌⊎◌, inl, inr, List, [], ◌∷◌, ◌++◌, length, map, refl, sym, ap, ◌∙◌, subst, Bool, true, false, cond, eqb, arith, append_assoc}
+use Rattle.std.proofs.Common.{◌≡◌, ℕ, zero, suc, ◌+◌, ◌-◌, ◌*◌, ◌≤◌, ◌<◌, ◌^◌, List, [], ◌∷◌, ◌++◌, length, map, refl, sym, ap, ◌∙◌, subst, Bool, true, false, cond, arith, append_assoc}
 use Rattle.std.specs.Prelude.{Option, Some, None, ◌==◌}
 use Rattle.std.specs.List.{sum_by, filter}
 use Rattle.std.proofs.lemmas.Bool.{eq-eqb, ne_eqb}
 use Rattle.std.proofs.lemmas.List.Sums.{sum_by-cons}
 use Rattle.dover_model.specs.Fraction.{Fraction}
 use Rattle.dover_model.specs.Intervals as model
-use Rattle.dover_model.specs.declared.events.Event.TheVariants.{Release, Run, Preempt, Take, Complete, Abandon, End}
+use Rattle.dover_model.specs.declared.events.Event.TheVariants.{Release, Preempt, Complete, Abandon, End}
 use Rattle.dover_model.specs.declared.events.Role.{Role}
 use Rattle.dover_model.specs.declared.events.Role.TheVariants.{Coming, Fresh, Waiting, Held, Running, Done, Gone}
 use Rattle.dover_model.specs.declared.events.Task.{Task}
-use Rattle.dover_model.specs.State.{State, held, is_held, is_running, is_privileged, is_done, is_over}
-use Rattle.dover_model.specs.Step.{Move, Prints, Waits, Ticks, with_role, ticked, after}
+use Rattle.dover_model.specs.State.{State, held, is_held, is_running, is_privileged, is_done}
+use Rattle.dover_model.specs.Step.{Prints, Ticks, with_role, ticked, after}
 use Rattle.dover_model.specs.Run.{Step}
-use Rattle.dover_model.specs.Sound.{IsMember, Each, IsSound, IsNumberedFrom}
+use Rattle.dover_model.specs.Sound.{IsMember, Each, IsSound}
 use Rattle.dover_model.proofs.Members.{term_le_sum, map_map, sum_map, sum_plus, sum_same, by_bool}
 use Rattle.dover_model.proofs.Roles.{by_role, passes, numbered_map, one_number, is_running_role}
 use Rattle.dover_model.proofs.OneChange.{changed, state_with, changed_there}
@@ -22,10 +22,10 @@ use Rattle.dover_model.proofs.Closing.{single_sum, value_of_number}
 use Rattle.dover_model.proofs.Kept.{end_same}
 use Rattle.charge_ledger.specs.declared.interval.Interval.{Interval}
 use Rattle.charge_ledger.specs.declared.interval.UnderWay.{UnderWay}
-use Rattle.charge_ledger.specs.Pages.{Page, value_at, with_event, joined, with_one_more, CanAbandon, CanComplete, in_one, with_row, with_abandonment}
+use Rattle.charge_ledger.specs.Pages.{Page, value_at, with_one_more, CanAbandon, CanComplete, in_one, with_row, with_abandonment}
 use Rattle.charge_ledger.specs.Pages.{with_completion, ended, page_completed}
 use Rattle.charge_ledger.specs.Rows.{numbers_of}
-use Rattle.charge_ledger.proofs.Follows.{under_of, page_of, value_where, IsPaid, ArePaid, Tracks, Follows, Next}
+use Rattle.charge_ledger.proofs.Follows.{under_of, page_of, IsPaid, ArePaid, Tracks, Follows, Next}
 use Rattle.charge_ledger.proofs.Sums.{turned, counts, values_fit}
 use Rattle.charge_ledger.proofs.Knowing.{leaves_tracks, ends_tracks, releases_tracks, tick_tracks}
 use Rattle.charge_ledger.proofs.Steps.{paid_more, none_of, enters, turns, can_join, joins, fresh_idle, waiting_idle, running_comes, held_comes, gone_comes, done_comes}
@@ -195,10 +195,17 @@ module _ (k : Fraction) (some_q : 1 ≤ k.q) (ratio : k.q ≤ k.p) (s : State) (
             ∙ ap (λ v. Some (with_abandonment s.clock v (under_of i))) ((follows.tracks.known x member (waiting_idle x waiting).released).value
             ∙ sym (value_of_number s sound.numbered x member));
         paid = record {
-          done = omega (arith, follows.paid.done,
-              none_of k s sound.numbered l (Some i) follows x member is_done Gone (waiting_idle x waiting).not_done refl);
-          gone = omega (arith, follows.paid.gone, value_of_number s sound.numbered x member,
-              turned is_gone (λ j. j.value) s.tasks sound.numbered x member Gone false true (waiting_idle x waiting).not_gone refl);
+          done = omega (
+            arith,
+            follows.paid.done,
+            none_of k s sound.numbered l (Some i) follows x member is_done Gone (waiting_idle x waiting).not_done refl,
+          );
+          gone = omega (
+            arith,
+            follows.paid.gone,
+            value_of_number s sound.numbered x member,
+            turned is_gone (λ j. j.value) s.tasks sound.numbered x member Gone false true (waiting_idle x waiting).not_gone refl,
+          );
           displaced = follows.paid.displaced;
         };
       };
@@ -230,16 +237,16 @@ module _ (k : Fraction) (some_q : 1 ≤ k.q) (ratio : k.q ≤ k.p) (s : State) (
     later = current;
     follows = subst (λ (tasks : List Task). Follows k (record { clock = s.clock; tasks = tasks }) (record l { value = value }) current)
         (sym (end_same s value)) (record {
-      tracks = record {
-        known = follows.tracks.known;
-        ahead = follows.tracks.ahead;
-        started = follows.tracks.started;
-        active = follows.tracks.active;
-        worth = follows.tracks.worth;
-      };
-      under = follows.under;
-      paid = paid_more k s s l.worth l.worth current (omega arith) (omega arith) (omega arith) follows.paid;
-    });
+          tracks = record {
+            known = follows.tracks.known;
+            ahead = follows.tracks.ahead;
+            started = follows.tracks.started;
+            active = follows.tracks.active;
+            worth = follows.tracks.worth;
+          };
+          under = follows.under;
+          paid = paid_more k s s l.worth l.worth current (omega arith) (omega arith) (omega arith) follows.paid;
+        });
     same = λ xs. ap (λ is. l.rows ++ map numbers_of is) (end_same_intervals current value xs);
   }
 
@@ -280,9 +287,10 @@ module _ (k : Fraction) (some_q : 1 ≤ k.q) (ratio : k.q ≤ k.p) (s : State) (
           let twin : i ≡ j = cc in
           let regular : u.interval.regular ≡ j.regular = ap (λ (v : UnderWay). v.interval.regular) same ∙ ap (λ (v : model.Interval). v.regular) twin in
           let taken : u.interval.taken ≡ j.taken = ap (λ (v : UnderWay). v.interval.taken) same ∙ ap (λ (v : model.Interval). v.taken) twin in
-          let most : r.job.value ≤ sum_by (λ t. t.job.value) s.tasks = term_le_sum (λ t. t.job.value) s.tasks r member in
-          (omega (arith, paid.done, values_fit s.tasks, (follows.tracks.known r member released).value),
-          omega (arith, paid.done, values_fit s.tasks, (follows.tracks.known r member released).value))
+          let most : r.job.value ≤ sum_by (λ t. t.job.value) s.tasks = term_le_sum (λ t. t.job.value) s.tasks r member in (
+            omega (arith, paid.done, values_fit s.tasks, (follows.tracks.known r member released).value),
+            omega (arith, paid.done, values_fit s.tasks, (follows.tracks.known r member released).value),
+          )
 
     -- the jobs of that page
     tracks_then : (current : Option model.Interval) → Follows k s l current → Tracks (state_with s r Done) (page_completed l s.clock r.number)
@@ -337,10 +345,19 @@ module _ (k : Fraction) (some_q : 1 ≤ k.q) (ratio : k.q ≤ k.p) (s : State) (
       -- it is paid for
       paid_then : IsPaid k (state_with s r Done) (l.worth - value_at l r.number) then
       paid_then = record {
-        done = omega (arith, follows.paid.done, value_of_number s sound.numbered r member, more_completed i s.clock (model.value_of s r.number) i.took,
-            turned is_done (λ j. j.value) s.tasks sound.numbered r member Done false true (passes is_done r Running false runs refl) refl);
-        gone = omega (arith, follows.paid.gone, same_abandoned i s.clock (model.value_of s r.number) i.took,
-            none_of k s sound.numbered l (Some i) follows r member is_gone Done (passes is_gone r Running false runs refl) refl);
+        done = omega (
+          arith,
+          follows.paid.done,
+          value_of_number s sound.numbered r member,
+          more_completed i s.clock (model.value_of s r.number) i.took,
+          turned is_done (λ j. j.value) s.tasks sound.numbered r member Done false true (passes is_done r Running false runs refl) refl,
+        );
+        gone = omega (
+          arith,
+          follows.paid.gone,
+          same_abandoned i s.clock (model.value_of s r.number) i.took,
+          none_of k s sound.numbered l (Some i) follows r member is_gone Done (passes is_gone r Running false runs refl) refl,
+        );
         displaced =
             let sum : i.regular + i.taken + l.worth ≡ then.regular + then.taken + (l.worth - value_at l r.number) =
             omega (arith, value_is (Some i) follows, more_completed i s.clock (model.value_of s r.number) i.took, (can_complete (Some i) follows).worth) in
@@ -355,11 +372,11 @@ module _ (k : Fraction) (some_q : 1 ≤ k.q) (ratio : k.q ≤ k.p) (s : State) (
         later = None;
         follows = subst (λ (c : Bool). Follows k (state_with s r Done) (cond c (ended (page_completed l s.clock r.number)) (page_completed l s.clock r.number)) None)
             (sym (is_last (Some i) follows ∙ e)) (record {
-          tracks = same_tracks (state_with s r Done) (page_completed l s.clock r.number) None
-              (with_row l.rows (in_one (with_completion s.clock (value_at l r.number)) l.under_way)) (tracks_then (Some i) follows);
-          under = refl;
-          paid = tt;
-        });
+              tracks = same_tracks (state_with s r Done) (page_completed l s.clock r.number) None
+                  (with_row l.rows (in_one (with_completion s.clock (value_at l r.number)) l.under_way)) (tracks_then (Some i) follows);
+              under = refl;
+              paid = tt;
+            });
         same = λ xs. ap (λ (c : Bool). (cond c (ended (page_completed l s.clock r.number)) (page_completed l s.clock r.number)).rows
             ++ map numbers_of (model.intervals_of None xs)) (is_last (Some i) follows ∙ e)
             ∙ ap (λ u. with_row l.rows u ++ map numbers_of (model.intervals_of None xs)) under_then

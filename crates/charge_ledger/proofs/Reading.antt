@@ -1,6 +1,6 @@
 -- The ledger reads a run: its page follows the states of the run, up to the end.
-use Rattle.std.proofs.Common.{◌≡◌, ℕ, ◌+◌, ◌*◌, ◌≤◌, ◌<◌, ◌^◌, ◌⊎◌, inl, inr, List, [], ◌∷◌, ◌++◌, length, map, refl, sym, ap, ◌∙◌, subst, Bool, true, false, cond, arith, append-nil}
-use Rattle.std.specs.Prelude.{Option, Some, None, ◌==◌}
+use Rattle.std.proofs.Common.{◌≡◌, ℕ, ◌+◌, ◌≤◌, ◌<◌, ◌^◌, ◌⊎◌, inl, inr, List, [], ◌∷◌, ◌++◌, length, map, refl, sym, ap, ◌∙◌, subst, Bool, true, false, cond, arith, append-nil}
+use Rattle.std.specs.Prelude.{Option, None, ◌==◌}
 use Rattle.std.specs.Bool.{MatchBool, then_some}
 use Rattle.std.specs.List.{sum_by, filter, list_all, cons_option}
 use Rattle.dover_model.specs.Fraction.{Fraction}
@@ -13,8 +13,8 @@ use Rattle.dover_model.specs.declared.events.Task.{Task}
 use Rattle.dover_model.specs.State.{State, opening, is_privileged, is_done, is_over, value_sum}
 use Rattle.dover_model.specs.Step.{Move, Prints, Waits, Ticks, step, after, ending, ◌or_else◌}
 use Rattle.dover_model.specs.Run.{Step, is_end, event_of, printed_of, printed, run, completed_value, value_of_end}
-use Rattle.dover_model.specs.WholeRun.{step_at, IsWholeRun}
-use Rattle.dover_model.specs.Sound.{IsMember, Each, IsSound, Keeps, jobs_of}
+use Rattle.dover_model.specs.WholeRun.{IsWholeRun}
+use Rattle.dover_model.specs.Sound.{IsMember, IsSound, Keeps}
 use Rattle.dover_model.proofs.Members.{by_bool, sum_map, sum_zero}
 use Rattle.dover_model.proofs.Roles.{passes}
 use Rattle.dover_model.proofs.Ticking.{Quiet}
@@ -22,7 +22,7 @@ use Rattle.dover_model.proofs.Deeds.{Deed, Completed, Resumed, Started, Began, P
 use Rattle.dover_model.proofs.Kept.{step_deed, step_kept, opening_keeps, come_coming}
 use Rattle.dover_model.proofs.Ending.{run_is_whole, few_printed}
 use Rattle.dover_model.proofs.Honest.{count_jobs, last_value}
-use Rattle.charge_ledger.specs.Pages.{Page, blank, with_event, joined, known_at, with_one_more, page_completed, ended, IsReadable}
+use Rattle.charge_ledger.specs.Pages.{Page, blank, with_event, known_at, with_one_more, page_completed, ended, IsReadable}
 use Rattle.charge_ledger.specs.Rows.{numbers_of, rows_of}
 use Rattle.charge_ledger.proofs.Follows.{Follows, Next}
 use Rattle.charge_ledger.proofs.Steps.{waiting_idle, fresh_idle, enters_next, resumes_next, waits_next}
@@ -146,19 +146,21 @@ module _ (J : Instance) (valid : IsValid J) where
               → IsReadable l e × Reads J (with_event l e) rest
           by_move (Prints f) next kept onward same_events same_rows more =
               let head : f ≡ e = cc in
-              let tail : printed_of xs ≡ rest = cc in
-              (subst (IsReadable l) head next.readable, record {
-                before = after s (Prints f);
-                steps = xs;
-                current = next.later;
-                keeps = kept;
-                whole = onward;
-                prints = tail;
-                follows = subst (λ g. Follows J.rules.ratio (after s (Prints f)) (with_event l g) next.later) head next.follows;
-                rows = ap (λ g. (with_event l g).rows ++ map numbers_of (model.intervals_of next.later xs)) (sym head) ∙ next.same xs ∙ same_rows;
-                value = ap (λ v. last_value v rest) (value_after l e) ∙ value;
-                few = omega (arith, few, era_after l e);
-              })
+              let tail : printed_of xs ≡ rest = cc in (
+                subst (IsReadable l) head next.readable,
+                record {
+                  before = after s (Prints f);
+                  steps = xs;
+                  current = next.later;
+                  keeps = kept;
+                  whole = onward;
+                  prints = tail;
+                  follows = subst (λ g. Follows J.rules.ratio (after s (Prints f)) (with_event l g) next.later) head next.follows;
+                  rows = ap (λ g. (with_event l g).rows ++ map numbers_of (model.intervals_of next.later xs)) (sym head) ∙ next.same xs ∙ same_rows;
+                  value = ap (λ v. last_value v rest) (value_after l e) ∙ value;
+                  few = omega (arith, few, era_after l e);
+                },
+              )
           by_move (Waits n) next kept onward same_events same_rows more =
               more (after s (Waits n)) next.later kept onward same_events next.follows (next.same xs ∙ same_rows)
           by_move Ticks next kept onward same_events same_rows more =

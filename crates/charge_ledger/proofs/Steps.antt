@@ -1,30 +1,29 @@
 -- The page follows each step of the machine.
-use Rattle.std.proofs.Common.{◌≡◌, ℕ, ◌+◌, ◌-◌, ◌*◌, ◌≤◌, ◌<◌, ◌^◌, ◌⊎◌, inl, inr, List, [], ◌∷◌, ◌++◌, length, map, refl, sym, ap, ◌∙◌, subst, Bool, true, false, cond, eqb, arith}
-use Rattle.std.specs.Prelude.{Option, Some, None, ◌==◌}
+use Rattle.std.proofs.Common.{◌≡◌, ℕ, ◌+◌, ◌*◌, ◌≤◌, ◌<◌, ◌^◌, List, ◌∷◌, ◌++◌, length, map, refl, sym, ap, ◌∙◌, subst, Bool, true, false, cond, arith}
+use Rattle.std.specs.Prelude.{Option, Some, None}
 use Rattle.std.specs.List.{sum_by}
-use Rattle.std.proofs.lemmas.Bool.{eq-eqb, ne_eqb}
 use Rattle.std.proofs.lemmas.Nat.{mul-le}
 use Rattle.dover_model.specs.Fraction.{Fraction}
 use Rattle.dover_model.specs.Intervals as model
-use Rattle.dover_model.specs.declared.events.Event.TheVariants.{Release, Run, Preempt, Take, Complete, Abandon, End}
+use Rattle.dover_model.specs.declared.events.Event.TheVariants.{Run}
 use Rattle.dover_model.specs.declared.events.Role.{Role}
 use Rattle.dover_model.specs.declared.events.Role.TheVariants.{Coming, Fresh, Waiting, Held, Running, Done, Gone}
 use Rattle.dover_model.specs.declared.events.Task.{Task}
 use Rattle.dover_model.specs.State.{State, is_privileged, is_done, is_over}
-use Rattle.dover_model.specs.Step.{Move, Prints, Waits, Ticks, with_role, after}
+use Rattle.dover_model.specs.Step.{Prints, Waits, with_role, after}
 use Rattle.dover_model.specs.Run.{Step}
-use Rattle.dover_model.specs.Sound.{IsMember, Each, IsSound, NoneRuns, IsNumberedFrom}
-use Rattle.dover_model.proofs.Members.{term_le_sum, map_map}
-use Rattle.dover_model.proofs.Roles.{passes, numbered_map}
+use Rattle.dover_model.specs.Sound.{IsMember, IsSound, IsNumberedFrom}
+use Rattle.dover_model.proofs.Members.{term_le_sum}
+use Rattle.dover_model.proofs.Roles.{passes}
 use Rattle.dover_model.proofs.Loads.{with_roles}
-use Rattle.dover_model.proofs.OneChange.{changed, state_with, changed_there}
-use Rattle.dover_model.proofs.Booking.{active_sum, is_gone}
+use Rattle.dover_model.proofs.OneChange.{changed, state_with}
+use Rattle.dover_model.proofs.Booking.{is_gone}
 use Rattle.charge_ledger.specs.declared.interval.UnderWay.{UnderWay}
-use Rattle.charge_ledger.specs.Pages.{Page, known_at, value_at, with_event, joined, with_one_more, begun_or, CanJoin, CanAbandon, in_one, with_abandonment}
+use Rattle.charge_ledger.specs.Pages.{Page, value_at, joined, with_one_more, begun_or, CanJoin}
 use Rattle.charge_ledger.specs.Rows.{numbers_of}
-use Rattle.charge_ledger.proofs.Follows.{under_of, page_of, IsKnown, value_where, IsPaid, ArePaid, Tracks, Follows, page_after, CanFollow, Next}
-use Rattle.charge_ledger.proofs.Sums.{sum_of, stays, turned, turned_among, counts, active_few, values_fit, lesser}
-use Rattle.charge_ledger.proofs.Knowing.{turns_tracks, leaves_tracks, ends_tracks, enters_tracks, displaced_tracks, releases_tracks, tick_tracks}
+use Rattle.charge_ledger.proofs.Follows.{value_where, ArePaid, Follows, Next}
+use Rattle.charge_ledger.proofs.Sums.{turned, active_few, values_fit}
+use Rattle.charge_ledger.proofs.Knowing.{turns_tracks, enters_tracks}
 
 -- greater numbers have greater squares
 scaled_square : (q a b : ℕ) → a ≤ b → q * a * a ≤ q * b * b

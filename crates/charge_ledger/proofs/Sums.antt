@@ -1,7 +1,6 @@
 -- Sums over the tasks of a state, where some roles change.
-use Rattle.std.proofs.Common.{◌≡◌, ℕ, ◌+◌, ◌*◌, ◌≤◌, List, length, [], ◌∷◌, refl, sym, ap, ◌∙◌, Bool, true, false, cond, eqb, arith}
+use Rattle.std.proofs.Common.{◌≡◌, ℕ, ◌+◌, ◌*◌, ◌≤◌, List, length, [], ◌∷◌, sym, ap, ◌∙◌, Bool, true, false, cond, arith}
 use Rattle.std.specs.List.{sum_by}
-use Rattle.std.proofs.lemmas.Bool.{eq-eqb, ne_eqb, cases_lt}
 use Rattle.std.proofs.lemmas.Nat.{mul-le}
 use Rattle.std.proofs.lemmas.List.Sums.{sum_by-cons}
 use Rattle.dover_model.specs.JobFacts.{JobFacts}

@@ -1,31 +1,29 @@
 -- The page follows a take.
-use Rattle.std.proofs.Common.{◌≡◌, ℕ, ◌+◌, ◌-◌, ◌*◌, ◌≤◌, ◌<◌, ◌^◌, List, ◌∷◌, ◌++◌, length, map, refl, sym, ap, ◌∙◌, subst, Bool, true, false, cond, eqb, arith, zero-add}
-use Rattle.std.specs.Prelude.{Option, Some, None, ◌==◌}
+use Rattle.std.proofs.Common.{◌≡◌, ℕ, ◌+◌, ◌-◌, ◌*◌, ◌≤◌, ◌<◌, ◌^◌, List, refl, sym, ap, ◌∙◌, subst, Bool, true, false, cond, eqb, arith, zero-add}
+use Rattle.std.specs.Prelude.{Option, Some, None}
 use Rattle.std.specs.List.{sum_by}
-use Rattle.std.proofs.lemmas.Bool.{eq-eqb, ne_eqb, eqb-true}
+use Rattle.std.proofs.lemmas.Bool.{eqb-true}
 use Rattle.dover_model.specs.Fraction.{Fraction}
 use Rattle.dover_model.specs.Intervals as model
 use Rattle.dover_model.specs.Orders.{is_heavy, IsHeavy}
 use Rattle.dover_model.specs.declared.events.Event.TheVariants.{Take}
 use Rattle.dover_model.specs.declared.events.Role.{Role}
-use Rattle.dover_model.specs.declared.events.Role.TheVariants.{Coming, Waiting, Running}
+use Rattle.dover_model.specs.declared.events.Role.TheVariants.{Waiting, Running}
 use Rattle.dover_model.specs.declared.events.Task.{Task}
 use Rattle.dover_model.specs.State.{State, privileged, is_done, value_sum}
 use Rattle.dover_model.specs.Step.{Prints, with_role, displaced, after}
-use Rattle.dover_model.specs.Run.{Step}
-use Rattle.dover_model.specs.Sound.{IsMember, Each, IsSound}
-use Rattle.dover_model.proofs.Members.{term_le_sum, map_map, map_member}
-use Rattle.dover_model.proofs.Roles.{passes, numbered_map, one_number}
-use Rattle.dover_model.proofs.Loads.{with_roles, state_in}
-use Rattle.dover_model.proofs.OneChange.{changed, state_with}
+use Rattle.dover_model.specs.Sound.{IsMember, IsSound}
+use Rattle.dover_model.proofs.Members.{map_map, map_member}
+use Rattle.dover_model.proofs.Roles.{numbered_map, one_number}
+use Rattle.dover_model.proofs.Loads.{state_in}
+use Rattle.dover_model.proofs.OneChange.{changed}
 use Rattle.dover_model.proofs.Booking.{is_gone}
 use Rattle.dover_model.proofs.Booked.{displaced_idle, displaced_done, displaced_gone, privileged_value}
 use Rattle.dover_model.proofs.Agreement.{is_heavy-agrees}
 use Rattle.dover_model.proofs.Calculus.{rows_add, heavy_more}
 use Rattle.charge_ledger.specs.declared.interval.UnderWay.{UnderWay}
 use Rattle.charge_ledger.specs.Pages.{Page, value_at, entered, CanTake, in_one, with_take, page_taken}
-use Rattle.charge_ledger.specs.Rows.{numbers_of}
-use Rattle.charge_ledger.proofs.Follows.{under_of, page_of, value_where, IsPaid, ArePaid, Tracks, Follows, Next}
+use Rattle.charge_ledger.proofs.Follows.{under_of, value_where, ArePaid, Tracks, Follows, Next}
 use Rattle.charge_ledger.proofs.Sums.{stays, values_fit, lesser}
 use Rattle.charge_ledger.proofs.Knowing.{displaced_tracks, enters_tracks}
 use Rattle.charge_ledger.proofs.Steps.{waiting_idle, waiting_comes, running_comes}

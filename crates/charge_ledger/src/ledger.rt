@@ -37,13 +37,13 @@ impl Model for Ledger {
     ghost Value = { Page };
 
     ghost view = { λ l. record {
-        jobs = l.jobs.items;
-        era = l.era;
-        active = l.active;
-        worth = l.worth;
-        under_way = l.under_way;
-        rows = l.rows.items;
-        value = l.value
+      jobs = l.jobs.items;
+      era = l.era;
+      active = l.active;
+      worth = l.worth;
+      under_way = l.under_way;
+      rows = l.rows.items;
+      value = l.value;
     } };
 }
 
@@ -69,7 +69,7 @@ impl Ledger {
         ensures { OnOk result (self.new ≡ with_event self.old event) }
     {
         match event {
-            Event::Release { number: _, job } => self.jobs.push(Known {
+            Event::Release { job, .. } => self.jobs.push(Known {
                 value: job.value(),
                 era: 0,
             })?,
@@ -77,8 +77,8 @@ impl Ledger {
                 self.join(number);
                 self.under_way = Some(self.under_way.unwrap_or(UnderWay::new(at)));
             }
-            Event::Preempt { at: _, stops: _, starts } => self.join(starts),
-            Event::Take { at, stops: _, starts } => self.take(at, starts),
+            Event::Preempt { starts, .. } => self.join(starts),
+            Event::Take { at, starts, .. } => self.take(at, starts),
             Event::Complete { at, number } => self.complete(at, number)?,
             Event::Abandon { at, number } => self.abandon(at, number),
             Event::End { value } => self.value = value,

@@ -7,3 +7,6 @@ mod ledger;
 
 pub use charge::Charge;
 pub use interval::Interval;
+
+#[cfg(test)]
+mod tests;

@@ -1,6 +1,6 @@
-use Rattle.std.proofs.Common.{◌≡◌, ◌∷◌, ◌+◌, length, drop, arith, subst, sym, ap, ◌∙◌}
+use Rattle.std.proofs.Common.{◌≡◌, ◌+◌, drop, arith, subst, sym, ◌∙◌}
 use Rattle.dover_model.specs.Instance.{Instance}
-use Rattle.dover_model.specs.Run.{printed, completed_value}
+use Rattle.dover_model.specs.Run.{completed_value}
 use Rattle.charge_ledger.specs.Pages.{Page, blank}
 use Rattle.charge_ledger.specs.Rows.{IsRunOf, rows_of}
 use Rattle.charge_ledger.proofs.Reading.{Reads, reads_next, none_read}
@@ -53,8 +53,11 @@ pub returns-clause-paid : goal.returns-clause-paid
 returns-clause-paid c J of = rows_paid c.args.k c.args.run.now J of c.into_parts-rows.result.0.items c.into_parts-rows.result.1 (done c J of).0 (done c J of).1
 
 pub returns-clause-light : goal.returns-clause-light
-returns-clause-light c J of = ((done c J of).0, rows_light c.args.k c.args.run.now J of c.into_parts-rows.result.0.items c.into_parts-rows.result.1
-    (done c J of).0 (done c J of).1)
+returns-clause-light c J of = (
+  (done c J of).0,
+  rows_light c.args.k c.args.run.now J of c.into_parts-rows.result.0.items c.into_parts-rows.result.1
+      (done c J of).0 (done c J of).1,
+)
 
 pub returns-clause-completed : goal.returns-clause-completed
 returns-clause-completed c = rows_completed c.args.k c.args.run.now c.requires.0 c.requires.1 c.into_parts-rows.result.0.items c.into_parts-rows.result.1
