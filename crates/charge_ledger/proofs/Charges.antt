@@ -14,7 +14,8 @@ use Rattle.dover_model.specs.Orders.{IsHeavy}
 use Rattle.dover_model.specs.Intervals as model
 use Rattle.dover_model.specs.Sound.{Each}
 use Rattle.dover_model.proofs.Members.{on_map, sum_map}
-use Rattle.dover_model.proofs.BoundLaws.{bound, interval_ordered, interval_displaced, interval_paid, interval_light, intervals_complete, intervals_abandon}
+use Rattle.dover_model.proofs.BoundLaws.{bound, interval_ordered, interval_displaced, interval_paid, interval_light, intervals_complete}
+use Rattle.dover_model.proofs.BoundLaws.{intervals_abandon}
 use Rattle.dover_model.proofs.Honest.{honest}
 use Rattle.charge_ledger.specs.declared.interval.Interval.{Interval}
 use Rattle.charge_ledger.specs.Pages.{Page}
@@ -41,7 +42,8 @@ module _ (k : Fraction) (run : List Event) (J : Instance) (of : IsRunOf k run J)
   sum_rows f = ap (sum_by f) same ∙ sum_map numbers_of f (model.intervals J)
 
   pub rows_bound : (s : List ℕ) → IsWithin k (worth J s) value
-  rows_bound s = subst (λ a. IsWithin k (worth J s) a) (sym is) (subst (λ (r : Fraction). IsWithin r (worth J s) (completed_value J)) of.ratio (bound J s of.valid))
+  rows_bound s = subst (λ a. IsWithin k (worth J s) a) (sym is) (subst (λ (r : Fraction). IsWithin r (worth J s) (completed_value J)) of.ratio
+      (bound J s of.valid))
 
   pub rows_honest : worth J (ran J) ≡ value
   rows_honest = honest J of.valid ∙ sym is
@@ -58,7 +60,8 @@ module _ (k : Fraction) (run : List Event) (J : Instance) (of : IsRunOf k run J)
   rows_paid j least = each_row (λ i. j.value * (i.until - i.from) ≤ j.work * (i.regular + i.taken + i.displaced)) (interval_paid J j of.valid least)
 
   pub rows_light : Each (λ i. Each (λ v. IsHeavy k v (i.regular + i.taken) → ⊥) i.lost) (model.intervals J)
-  rows_light = subst (λ (r : Fraction). Each (λ (i : model.Interval). Each (λ v. IsHeavy r v (i.regular + i.taken) → ⊥) i.lost) (model.intervals J)) of.ratio
+  rows_light = subst (λ (r : Fraction). Each (λ (i : model.Interval). Each (λ v. IsHeavy r v (i.regular + i.taken) → ⊥) i.lost) (model.intervals J))
+      of.ratio
       (interval_light J of.valid)
 
   pub rows_completed : sum_by (λ i. i.regular + i.taken) rows ≡ value

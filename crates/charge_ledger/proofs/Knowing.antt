@@ -1,5 +1,6 @@
 -- What a page knows of the jobs, where their roles change.
-use Rattle.std.proofs.Common.{◌≡◌, ◌≢◌, ℕ, suc, ◌+◌, ◌-◌, ◌≤◌, ◌<◌, ◌⊎◌, inl, inr, List, [], ◌∷◌, ◌++◌, length, map, get_or, refl, sym, ap, ◌∙◌, subst, true, false, cond, arith}
+use Rattle.std.proofs.Common.{◌≡◌, ◌≢◌, ℕ, suc, ◌+◌, ◌-◌, ◌≤◌, ◌<◌, ◌⊎◌, inl, inr, List, [], ◌∷◌, ◌++◌, length, map, get_or, refl, sym, ap, ◌∙◌}
+use Rattle.std.proofs.Common.{subst, true, false, cond, arith}
 use Rattle.std.specs.Prelude.{◌==◌}
 use Rattle.std.proofs.lemmas.Bool.{eq-eqb, ne_eqb}
 use Rattle.std.proofs.Common.{length-set, get_or-set_other, length-append}
@@ -67,8 +68,18 @@ module _ (s : State) (numbered : IsNumberedFrom 0 s.tasks) (l : Page) (tracks : 
       known = known_changed (λ _. (lives, same));
       ahead = ahead_changed;
       started = tracks.started;
-      active = omega (arith, tracks.active, turned is_privileged (λ _. 1) s.tasks numbered r member new (is_privileged r) (is_privileged r) refl (sym same));
-      worth = omega (arith, tracks.worth, turned is_privileged (λ j. j.value) s.tasks numbered r member new (is_privileged r) (is_privileged r) refl (sym same));
+      active = omega (
+        arith,
+        tracks.active,
+        turned is_privileged (λ _. 1) s.tasks numbered r member new (is_privileged r) (is_privileged r) refl
+            (sym same),
+      );
+      worth = omega (
+        arith,
+        tracks.worth,
+        turned is_privileged (λ j. j.value) s.tasks numbered r member new (is_privileged r) (is_privileged r) refl
+            (sym same),
+      );
     }
 
     -- a job that wasn't active and is over
@@ -135,7 +146,8 @@ number_there n (x ∷ tasks) all r member m low high =
           → (IsMember r tasks → suc n ≤ m → (t : Task) × IsMember t tasks × (t.number ≡ m)) → (t : Task) × IsMember t (x ∷ tasks) × (t.number ≡ m)
       by_order (inr last) _ more = (x, inl refl, let here : x.number ≡ n = all.0 in omega arith)
       by_order (inl later) (inl e) more = absurd (let here : r.number ≡ n = ap (λ (y : Task). y.number) e ∙ all.0 in omega arith)
-      by_order (inl later) (inr rest) more = let it : (t : Task) × IsMember t tasks × (t.number ≡ m) = more rest (omega arith) in (it.0, inr it.1, it.2)
+      by_order (inl later) (inr rest) more = let it : (t : Task) × IsMember t tasks × (t.number ≡ m) =
+          more rest (omega arith) in (it.0, inr it.1, it.2)
 
 module _ (s : State) (numbered : IsNumberedFrom 0 s.tasks) (l : Page) (tracks : Tracks s l) where
   -- all active jobs are displaced
@@ -170,9 +182,11 @@ module _ (s : State) (numbered : IsNumberedFrom 0 s.tasks) (l : Page) (tracks : 
   pub releases_tracks : (c : Task) → IsMember c s.tasks → c.role ≡ Coming → Each (λ t. t.role ≡ Coming → c.number ≤ t.number) s.tasks
       → Tracks (state_with s c Fresh) (record l { jobs = l.jobs ++ record { value = c.job.value; era = 0 } ∷ [] })
   releases_tracks c member comes first = record {
-    known = on_changed 0 s.tasks numbered c member Fresh (λ t. (t.role ≡ Coming → ⊥) → IsKnown (l.jobs ++ record { value = c.job.value; era = 0 } ∷ []) l.era t) (λ _. here)
+    known = on_changed 0 s.tasks numbered c member Fresh (λ t. (t.role ≡ Coming → ⊥)
+        → IsKnown (l.jobs ++ record { value = c.job.value; era = 0 } ∷ []) l.era t) (λ _. here)
         (λ t m _ never. other t (tracks.known t m never));
-    ahead = on_changed 0 s.tasks numbered c member Fresh (λ t. t.role ≡ Coming → length (l.jobs ++ record { value = c.job.value; era = 0 } ∷ []) ≤ t.number)
+    ahead = on_changed 0 s.tasks numbered c member Fresh (λ t. t.role ≡ Coming → length (l.jobs ++ record { value = c.job.value; era = 0 } ∷ [])
+        ≤ t.number)
         (λ e. absurd (let no : Fresh ≡ Coming = e in cc))
         (λ t m differs e. let low : c.number ≤ t.number = first t m e in let apart : c.number ≢ t.number = λ same. differs (sym same) in
         omega (arith, longer, next));
@@ -231,7 +245,8 @@ module _ (s : State) (numbered : IsNumberedFrom 0 s.tasks) (l : Page) (tracks : 
   -- a silent tick
   pub tick_tracks : Tracks (record { clock = s.clock + 1; tasks = map ticked s.tasks }) l
   tick_tracks = record {
-    known = on_map ticked (λ t. (t.role ≡ Coming → ⊥) → IsKnown l.jobs l.era t) s.tasks (λ t m never. let it : IsKnown l.jobs l.era t = tracks.known t m never in
+    known = on_map ticked (λ t. (t.role ≡ Coming → ⊥) → IsKnown l.jobs l.era t) s.tasks
+        (λ t m never. let it : IsKnown l.jobs l.era t = tracks.known t m never in
         record { there = it.there; value = it.value; era = it.era; active = it.active });
     ahead = on_map ticked (λ t. t.role ≡ Coming → length l.jobs ≤ t.number) s.tasks tracks.ahead;
     started = tracks.started;

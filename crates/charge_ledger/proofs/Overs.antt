@@ -1,5 +1,6 @@
 -- The page follows a preemption, a release, an abandonment, a completion, a silent tick and the end.
-use Rattle.std.proofs.Common.{◌≡◌, ℕ, zero, suc, ◌+◌, ◌-◌, ◌*◌, ◌≤◌, ◌<◌, ◌^◌, List, [], ◌∷◌, ◌++◌, length, map, refl, sym, ap, ◌∙◌, subst, Bool, true, false, cond, arith, append_assoc}
+use Rattle.std.proofs.Common.{◌≡◌, ℕ, zero, suc, ◌+◌, ◌-◌, ◌*◌, ◌≤◌, ◌<◌, ◌^◌, List, [], ◌∷◌, ◌++◌, length, map, refl, sym, ap, ◌∙◌, subst, Bool}
+use Rattle.std.proofs.Common.{true, false, cond, arith, append_assoc}
 use Rattle.std.specs.Prelude.{Option, Some, None, ◌==◌}
 use Rattle.std.specs.List.{sum_by, filter}
 use Rattle.std.proofs.lemmas.Bool.{eq-eqb, ne_eqb}
@@ -28,10 +29,12 @@ use Rattle.charge_ledger.specs.Rows.{numbers_of}
 use Rattle.charge_ledger.proofs.Follows.{under_of, page_of, IsPaid, ArePaid, Tracks, Follows, Next}
 use Rattle.charge_ledger.proofs.Sums.{turned, counts, values_fit}
 use Rattle.charge_ledger.proofs.Knowing.{leaves_tracks, ends_tracks, releases_tracks, tick_tracks}
-use Rattle.charge_ledger.proofs.Steps.{paid_more, none_of, enters, turns, can_join, joins, fresh_idle, waiting_idle, running_comes, held_comes, gone_comes, done_comes}
+use Rattle.charge_ledger.proofs.Steps.{paid_more, none_of, enters, turns, can_join, joins, fresh_idle, waiting_idle, running_comes, held_comes}
+use Rattle.charge_ledger.proofs.Steps.{gone_comes, done_comes}
 
 -- the page of a state may have another interval under way, and other rows
-pub same_tracks : (s : State) (l : Page) (u : Option UnderWay) (rows : List Interval) → Tracks s l → Tracks s (record l { under_way = u; rows = rows })
+pub same_tracks : (s : State) (l : Page) (u : Option UnderWay) (rows : List Interval) → Tracks s l
+    → Tracks s (record l { under_way = u; rows = rows })
 same_tracks s l u rows tracks = record {
   known = tracks.known;
   ahead = tracks.ahead;
@@ -60,7 +63,8 @@ count_filter p (t ∷ tasks) = by_test (p t) (count_filter p tasks) ∙ sym (sum
 -- a job runs or is held
 one_way : (t : Task) → cond (is_privileged t) 1 0 ≡ cond (is_held t) 1 0 + cond (is_running t) 1 0
 one_way t = by_role (λ u role. cond (is_privileged u) 1 0 ≡ cond (is_held u) 1 0 + cond (is_running u) 1 0) t each where
-  each : (role : Role) → cond (is_privileged (with_role t role)) 1 0 ≡ cond (is_held (with_role t role)) 1 0 + cond (is_running (with_role t role)) 1 0
+  each : (role : Role) → cond (is_privileged (with_role t role)) 1 0 ≡ cond (is_held (with_role t role)) 1 0 + cond
+      (is_running (with_role t role)) 1 0
   each Coming = refl
   each Fresh = refl
   each Waiting = refl
@@ -81,9 +85,17 @@ after_completion i at value = cond i.took (model.with_taken i at value) (model.w
 -- so on the page
 completed_under : (i : model.Interval) (at value : ℕ) → with_completion at value (under_of i) ≡ under_of (after_completion i at value)
 completed_under i at value = by_bool _ i.took
-    (λ e. ap (λ b. record { interval = cond b (numbers_of (model.with_taken i at value)) (numbers_of (model.with_regular i at value)); took = i.took }) e
+    (λ e. ap (λ b. record {
+      interval = cond b (numbers_of (model.with_taken i at value)) (numbers_of (model.with_regular i at value));
+      took =
+          i.took;
+    }) e
     ∙ ap (λ b. under_of (cond b (model.with_taken i at value) (model.with_regular i at value))) (sym e))
-    (λ e. ap (λ b. record { interval = cond b (numbers_of (model.with_taken i at value)) (numbers_of (model.with_regular i at value)); took = i.took }) e
+    (λ e. ap (λ b. record {
+      interval = cond b (numbers_of (model.with_taken i at value)) (numbers_of (model.with_regular i at value));
+      took =
+          i.took;
+    }) e
     ∙ ap (λ b. under_of (cond b (model.with_taken i at value) (model.with_regular i at value))) (sym e))
 
 module _ (i : model.Interval) (at value : ℕ) where
@@ -170,7 +182,8 @@ module _ (k : Fraction) (some_q : 1 ≤ k.q) (ratio : k.q ≤ k.p) (s : State) (
       by_open None paid (i, e, _) = absurd (let no : None ≡ Some i = e in cc)
       by_open (Some j) {u} paid (i, e, same) =
           let twin : i ≡ j = cc in
-          let is : u.interval.abandoned ≡ j.abandoned = ap (λ (v : UnderWay). v.interval.abandoned) same ∙ ap (λ (v : model.Interval). v.abandoned) twin in
+          let is : u.interval.abandoned ≡ j.abandoned = ap (λ (v : UnderWay). v.interval.abandoned) same
+          ∙ ap (λ (v : model.Interval). v.abandoned) twin in
           omega (arith, is, paid.gone, values_fit s.tasks, some_value, (follows.tracks.known x member (waiting_idle x waiting).released).value)
 
     pub abandons_next : (current : Option model.Interval) → Follows k s l current → Next k s l current (Prints (Abandon s.clock x.number))
@@ -179,7 +192,8 @@ module _ (k : Fraction) (some_q : 1 ≤ k.q) (ratio : k.q ≤ k.p) (s : State) (
       later = None;
       follows = record {
         tracks = same_tracks (state_with s x Gone) l (in_one (with_abandonment s.clock (value_at l x.number)) l.under_way) l.rows
-            (leaves_tracks s sound.numbered l follows.tracks x member (waiting_idle x waiting).released Gone gone_comes refl (waiting_idle x waiting).idle refl);
+            (leaves_tracks s sound.numbered l follows.tracks x member (waiting_idle x waiting).released Gone gone_comes refl
+            (waiting_idle x waiting).idle refl);
         under = ap (in_one (with_abandonment s.clock (value_at l x.number))) follows.under;
         paid = tt;
       };
@@ -190,7 +204,8 @@ module _ (k : Fraction) (some_q : 1 ≤ k.q) (ratio : k.q ≤ k.p) (s : State) (
       later = Some (model.with_abandoned i s.clock (model.value_of s x.number));
       follows = record {
         tracks = same_tracks (state_with s x Gone) l (in_one (with_abandonment s.clock (value_at l x.number)) l.under_way) l.rows
-            (leaves_tracks s sound.numbered l follows.tracks x member (waiting_idle x waiting).released Gone gone_comes refl (waiting_idle x waiting).idle refl);
+            (leaves_tracks s sound.numbered l follows.tracks x member (waiting_idle x waiting).released Gone gone_comes refl
+            (waiting_idle x waiting).idle refl);
         under = ap (in_one (with_abandonment s.clock (value_at l x.number))) follows.under
             ∙ ap (λ v. Some (with_abandonment s.clock v (under_of i))) ((follows.tracks.known x member (waiting_idle x waiting).released).value
             ∙ sym (value_of_number s sound.numbered x member));
@@ -277,7 +292,12 @@ module _ (k : Fraction) (some_q : 1 ≤ k.q) (ratio : k.q ≤ k.p) (s : State) (
     can_complete current follows = record {
       known = (follows.tracks.known r member released).there;
       some = omega (arith, follows.tracks.active, active_count);
-      worth = omega (arith, (follows.tracks.known r member released).value, follows.tracks.worth, counts is_privileged (λ j. j.value) s.tasks sound.numbered r member active);
+      worth = omega (
+        arith,
+        (follows.tracks.known r member released).value,
+        follows.tracks.worth,
+        counts is_privileged (λ j. j.value) s.tasks sound.numbered r member active,
+      );
       small = λ u some. by_open current follows.paid (under_is l current u follows.under some);
     } where
       by_open : (o : Option model.Interval) {u : UnderWay} → ArePaid k s l.worth o → (i : model.Interval) × (o ≡ Some i) × (u ≡ under_of i)
@@ -285,7 +305,8 @@ module _ (k : Fraction) (some_q : 1 ≤ k.q) (ratio : k.q ≤ k.p) (s : State) (
       by_open None paid (i, e, _) = absurd (let no : None ≡ Some i = e in cc)
       by_open (Some j) {u} paid (i, e, same) =
           let twin : i ≡ j = cc in
-          let regular : u.interval.regular ≡ j.regular = ap (λ (v : UnderWay). v.interval.regular) same ∙ ap (λ (v : model.Interval). v.regular) twin in
+          let regular : u.interval.regular ≡ j.regular = ap (λ (v : UnderWay). v.interval.regular) same
+          ∙ ap (λ (v : model.Interval). v.regular) twin in
           let taken : u.interval.taken ≡ j.taken = ap (λ (v : UnderWay). v.interval.taken) same ∙ ap (λ (v : model.Interval). v.taken) twin in
           let most : r.job.value ≤ sum_by (λ t. t.job.value) s.tasks = term_le_sum (λ t. t.job.value) s.tasks r member in (
             omega (arith, paid.done, values_fit s.tasks, (follows.tracks.known r member released).value),
@@ -307,12 +328,14 @@ module _ (k : Fraction) (some_q : 1 ≤ k.q) (ratio : k.q ≤ k.p) (s : State) (
     completes_none b e follows = record {
       readable = can_complete None follows;
       later = None;
-      follows = subst (λ (c : Bool). Follows k (state_with s r Done) (cond c (ended (page_completed l s.clock r.number)) (page_completed l s.clock r.number)) None)
+      follows = subst (λ (c : Bool). Follows k (state_with s r Done) (cond c (ended (page_completed l s.clock r.number))
+          (page_completed l s.clock r.number)) None)
           (sym e) (by_test b);
       same = λ xs. ap (λ (c : Bool). (cond c (ended (page_completed l s.clock r.number)) (page_completed l s.clock r.number)).rows
           ++ map numbers_of (model.intervals_of None xs)) e ∙ same_rows b xs;
     } where
-      by_test : (c : Bool) → Follows k (state_with s r Done) (cond c (ended (page_completed l s.clock r.number)) (page_completed l s.clock r.number)) None
+      by_test : (c : Bool) → Follows k (state_with s r Done) (cond c (ended (page_completed l s.clock r.number))
+          (page_completed l s.clock r.number)) None
       by_test true = record {
         tracks = same_tracks (state_with s r Done) (page_completed l s.clock r.number) None
             (with_row l.rows (in_one (with_completion s.clock (value_at l r.number)) l.under_way)) (tracks_then None follows);
@@ -360,7 +383,12 @@ module _ (k : Fraction) (some_q : 1 ≤ k.q) (ratio : k.q ≤ k.p) (s : State) (
         );
         displaced =
             let sum : i.regular + i.taken + l.worth ≡ then.regular + then.taken + (l.worth - value_at l r.number) =
-            omega (arith, value_is (Some i) follows, more_completed i s.clock (model.value_of s r.number) i.took, (can_complete (Some i) follows).worth) in
+            omega (
+              arith,
+              value_is (Some i) follows,
+              more_completed i s.clock (model.value_of s r.number) i.took,
+              (can_complete (Some i) follows).worth,
+            ) in
             subst (λ n. k.p * then.displaced * then.displaced ≤ k.q * n * n) sum
             (subst (λ d. k.p * d * d ≤ k.q * (i.regular + i.taken + l.worth) * (i.regular + i.taken + l.worth))
             (sym (same_displaced i s.clock (model.value_of s r.number) i.took)) follows.paid.displaced);
@@ -370,7 +398,8 @@ module _ (k : Fraction) (some_q : 1 ≤ k.q) (ratio : k.q ≤ k.p) (s : State) (
       completes_last e = record {
         readable = can_complete (Some i) follows;
         later = None;
-        follows = subst (λ (c : Bool). Follows k (state_with s r Done) (cond c (ended (page_completed l s.clock r.number)) (page_completed l s.clock r.number)) None)
+        follows = subst (λ (c : Bool). Follows k (state_with s r Done) (cond c (ended (page_completed l s.clock r.number))
+            (page_completed l s.clock r.number)) None)
             (sym (is_last (Some i) follows ∙ e)) (record {
               tracks = same_tracks (state_with s r Done) (page_completed l s.clock r.number) None
                   (with_row l.rows (in_one (with_completion s.clock (value_at l r.number)) l.under_way)) (tracks_then (Some i) follows);
@@ -391,7 +420,8 @@ module _ (k : Fraction) (some_q : 1 ≤ k.q) (ratio : k.q ≤ k.p) (s : State) (
       completes_more e = record {
         readable = can_complete (Some i) follows;
         later = Some then;
-        follows = subst (λ (c : Bool). Follows k (state_with s r Done) (cond c (ended (page_completed l s.clock r.number)) (page_completed l s.clock r.number)) (Some then))
+        follows = subst (λ (c : Bool). Follows k (state_with s r Done) (cond c (ended (page_completed l s.clock r.number))
+            (page_completed l s.clock r.number)) (Some then))
             (sym (is_last (Some i) follows ∙ e)) (record { tracks = tracks_then (Some i) follows; under = under_then; paid = paid_then });
         same = λ xs. ap (λ (c : Bool). (cond c (ended (page_completed l s.clock r.number)) (page_completed l s.clock r.number)).rows
             ++ map numbers_of (model.intervals_of (Some then) xs)) (is_last (Some i) follows ∙ e)

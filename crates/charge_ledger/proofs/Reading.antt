@@ -1,5 +1,6 @@
 -- The ledger reads a run: its page follows the states of the run, up to the end.
-use Rattle.std.proofs.Common.{◌≡◌, ℕ, ◌+◌, ◌≤◌, ◌<◌, ◌^◌, ◌⊎◌, inl, inr, List, [], ◌∷◌, ◌++◌, length, map, refl, sym, ap, ◌∙◌, subst, Bool, true, false, cond, arith, append-nil}
+use Rattle.std.proofs.Common.{◌≡◌, ℕ, ◌+◌, ◌≤◌, ◌<◌, ◌^◌, ◌⊎◌, inl, inr, List, [], ◌∷◌, ◌++◌, length, map, refl, sym, ap, ◌∙◌, subst, Bool, true}
+use Rattle.std.proofs.Common.{false, cond, arith, append-nil}
 use Rattle.std.specs.Prelude.{Option, None, ◌==◌}
 use Rattle.std.specs.Bool.{MatchBool, then_some}
 use Rattle.std.specs.List.{sum_by, filter, list_all, cons_option}
@@ -37,7 +38,8 @@ module _ (k : Fraction) (some_q : 1 ≤ k.q) (ratio : k.q ≤ k.p) (s : State) (
   -- the page follows each deed
   deed_next : (other : Move) → (Quiet s → Next k s l current other) → (m : Move) → Deed k s other m → Next k s l current m
   deed_next other rested m (Completed r member runs done) = completes_next k some_q ratio s sound l few total count r member runs current follows
-  deed_next other rested m (Resumed p member held none least why) = resumes_next k some_q ratio s sound l few total count current follows p member held
+  deed_next other rested m (Resumed p member held none least why) = resumes_next k some_q ratio s sound l few total count current follows p member
+      held
   deed_next other rested m (Started o member waiting none first fits next) =
       enters_next k some_q ratio s sound l few total count current follows o member (waiting_idle o waiting)
   deed_next other rested m (Began f member fresh none) =
@@ -110,7 +112,8 @@ module _ (J : Instance) (valid : IsValid J) where
   -- the page follows each step
   step_next : (s : State) → Keeps J s → (l : Page) → l.era + 1 < 2 ^ 64 → (current : Option model.Interval) → Follows J.rules.ratio s l current
       → Next J.rules.ratio s l current (step J.rules s)
-  step_next s keeps l few current follows = deed_next J.rules.ratio valid.ratio.least valid.ratio.above_one s keeps.sound l few total count current follows
+  step_next s keeps l few current follows = deed_next J.rules.ratio valid.ratio.least valid.ratio.above_one s keeps.sound l few total count current
+      follows
       (ending s or_else Ticks)
       (λ _. rest_next J.rules.ratio valid.ratio.least valid.ratio.above_one s keeps.sound l few total count current follows
       (list_all is_over s.tasks) (value_sum (filter is_done s.tasks)))

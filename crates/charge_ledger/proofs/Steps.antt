@@ -1,5 +1,6 @@
 -- The page follows each step of the machine.
-use Rattle.std.proofs.Common.{◌≡◌, ℕ, ◌+◌, ◌*◌, ◌≤◌, ◌<◌, ◌^◌, List, ◌∷◌, ◌++◌, length, map, refl, sym, ap, ◌∙◌, subst, Bool, true, false, cond, arith}
+use Rattle.std.proofs.Common.{◌≡◌, ℕ, ◌+◌, ◌*◌, ◌≤◌, ◌<◌, ◌^◌, List, ◌∷◌, ◌++◌, length, map, refl, sym, ap, ◌∙◌, subst, Bool, true, false, cond}
+use Rattle.std.proofs.Common.{arith}
 use Rattle.std.specs.Prelude.{Option, Some, None}
 use Rattle.std.specs.List.{sum_by}
 use Rattle.std.proofs.lemmas.Nat.{mul-le}
@@ -92,7 +93,8 @@ done_comes e = cc
 
 -- ---- changes of one role
 
-module _ (k : Fraction) (s : State) (numbered : IsNumberedFrom 0 s.tasks) (l : Page) (current : Option model.Interval) (follows : Follows k s l current)
+module _ (k : Fraction) (s : State) (numbered : IsNumberedFrom 0 s.tasks) (l : Page) (current : Option model.Interval)
+    (follows : Follows k s l current)
     (r : Task) (member : IsMember r s.tasks) where
   -- a sum over jobs of which this one is none stays
   pub none_of : (p : Task → Bool) (new : Role) → p r ≡ false → p (with_role r new) ≡ false
@@ -104,7 +106,8 @@ module _ (k : Fraction) (s : State) (numbered : IsNumberedFrom 0 s.tasks) (l : P
   enters i = record {
     tracks = enters_tracks s numbered l follows.tracks r member i.released Running running_comes i.idle refl;
     under = follows.under;
-    paid = paid_more k s (state_with s r Running) l.worth (l.worth + value_at l r.number) current (omega (arith, none_of is_done Running i.not_done refl))
+    paid = paid_more k s (state_with s r Running) l.worth (l.worth + value_at l r.number) current
+        (omega (arith, none_of is_done Running i.not_done refl))
         (omega (arith, none_of is_gone Running i.not_gone refl)) (omega arith) follows.paid;
   }
 
@@ -117,7 +120,8 @@ module _ (k : Fraction) (s : State) (numbered : IsNumberedFrom 0 s.tasks) (l : P
     tracks = turns_tracks s numbered l follows.tracks r member (λ c. before (sym e ∙ c)) new after (passes is_over r old false e lives)
         (passes is_privileged r old (is_privileged (with_role r new)) e same);
     under = follows.under;
-    paid = paid_more k s (state_with s r new) l.worth l.worth current (omega (arith, none_of is_done new (passes is_done r old false e not_done) new_done))
+    paid = paid_more k s (state_with s r new) l.worth l.worth current (omega
+        (arith, none_of is_done new (passes is_done r old false e not_done) new_done))
         (omega (arith, none_of is_gone new (passes is_gone r old false e not_gone) new_gone)) (omega arith) follows.paid;
   }
 
@@ -162,9 +166,11 @@ module _ (k : Fraction) (s : State) (l : Page) (n : ℕ) where
   run_next current p e rows under can follows = record {
     readable = can;
     later = run_on s.clock current;
-    follows = subst (λ (u : Option UnderWay). Follows k (after s (Prints (Run s.clock n))) (record (joined l n) { under_way = Some (begun_or s.clock u) })
+    follows = subst (λ (u : Option UnderWay). Follows k (after s (Prints (Run s.clock n)))
+        (record (joined l n) { under_way = Some (begun_or s.clock u) })
         (run_on s.clock current)) under
-        (subst (λ (q : Page). Follows k (after s (Prints (Run s.clock n))) (record q { under_way = Some (begun_or s.clock p.under_way) }) (run_on s.clock current))
+        (subst (λ (q : Page). Follows k (after s (Prints (Run s.clock n))) (record q { under_way = Some (begun_or s.clock p.under_way) })
+        (run_on s.clock current))
         (sym e) (begins (after s (Prints (Run s.clock n))) p current follows));
     same = λ xs. ap (λ (q : Page). q.rows ++ map numbers_of (model.intervals_of (run_on s.clock current) xs)) e
         ∙ ap (λ rows. rows ++ map numbers_of (model.intervals_of (run_on s.clock current) xs)) rows
@@ -205,7 +211,8 @@ module _ (k : Fraction) (some_q : 1 ≤ k.q) (ratio : k.q ≤ k.p) (s : State) (
 
   -- it runs again
   pub resumes_next : (r : Task) → IsMember r s.tasks → r.role ≡ Held → Next k s l current (Prints (Run s.clock r.number))
-  resumes_next r member held = run_next k s l r.number current l (goes_on r member held) refl refl (can_join r member (λ c. held_comes (sym held ∙ c)))
+  resumes_next r member held = run_next k s l r.number current l (goes_on r member held) refl refl
+      (can_join r member (λ c. held_comes (sym held ∙ c)))
       (turns k s sound.numbered l current follows r member Held Running held held_comes running_comes refl refl refl refl refl refl)
 
   -- it waits
@@ -213,6 +220,7 @@ module _ (k : Fraction) (some_q : 1 ≤ k.q) (ratio : k.q ≤ k.p) (s : State) (
   waits_next f member fresh = record {
     readable = tt;
     later = current;
-    follows = turns k s sound.numbered l current follows f member Fresh Waiting fresh (λ e. let no : Fresh ≡ Coming = e in cc) waiting_comes refl refl refl refl refl refl;
+    follows = turns k s sound.numbered l current follows f member Fresh Waiting fresh
+        (λ e. let no : Fresh ≡ Coming = e in cc) waiting_comes refl refl refl refl refl refl;
     same = λ xs. refl;
   }

@@ -86,7 +86,8 @@ values_fit tasks = omega (
   arith,
   sum_plus (λ (t : Task). cond (is_done t) t.job.value 0) (λ t. cond (is_gone t) t.job.value 0) tasks,
   sum_plus (λ (t : Task). cond (is_done t) t.job.value 0 + cond (is_gone t) t.job.value 0) (λ t. cond (is_privileged t) t.job.value 0) tasks,
-  sum_le (λ (t : Task). cond (is_done t) t.job.value 0 + cond (is_gone t) t.job.value 0 + cond (is_privileged t) t.job.value 0) (λ t. t.job.value) tasks
+  sum_le (λ (t : Task). cond (is_done t) t.job.value 0 + cond (is_gone t) t.job.value 0 + cond (is_privileged t) t.job.value 0)
+      (λ t. t.job.value) tasks
       (λ t m. one_of t),
 )
 

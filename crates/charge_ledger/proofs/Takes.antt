@@ -33,11 +33,13 @@ module _ (k : Fraction) (some_q : 1 ≤ k.q) (ratio : k.q ≤ k.p) (s : State) (
     (total : sum_by (λ t. t.job.value) s.tasks ≤ 10_000_000_000_000) (x : Task) (member : IsMember x s.tasks) (waiting : x.role ≡ Waiting)
     (heavy : is_heavy k x.job.value (value_sum (privileged s)) ≡ true) where
   -- the jobs that pass a test are the same
-  same_where : (p : Task → Bool) → p (with_role x Running) ≡ p x → ((t : Task) (role : Role) → p (with_role t (displaced role)) ≡ p (with_role t role))
+  same_where : (p : Task → Bool) → p (with_role x Running) ≡ p x → ((t : Task) (role : Role) → p (with_role t (displaced role))
+      ≡ p (with_role t role))
       → value_where p (after s (Prints (Take s.clock x.number x.number))).tasks ≡ value_where p s.tasks
   same_where p here there = stays p (λ j. j.value) s.tasks (λ t. cond (eqb t.number x.number) Running (displaced t.role))
       (λ t m. by_number t m (eqb t.number x.number) refl) where
-        by_number : (t : Task) → IsMember t s.tasks → (b : Bool) → eqb t.number x.number ≡ b → p (with_role t (cond b Running (displaced t.role))) ≡ p t
+        by_number : (t : Task) → IsMember t s.tasks → (b : Bool) → eqb t.number x.number ≡ b → p (with_role t (cond b Running (displaced t.role)))
+            ≡ p t
         by_number t m true e = subst (λ (y : Task). p (with_role y Running) ≡ p y)
             (sym (one_number 0 s.tasks sound.numbered t x m member (eqb-true _ _ e))) here
         by_number t m false e = there t t.role
@@ -70,7 +72,8 @@ module _ (k : Fraction) (some_q : 1 ≤ k.q) (ratio : k.q ≤ k.p) (s : State) (
     by_open None paid (i, e, _) = absurd (let no : None ≡ Some i = e in cc)
     by_open (Some j) {u} paid (i, e, same) =
         let twin : i ≡ j = cc in
-        let is : u.interval.displaced ≡ j.displaced = ap (λ (v : UnderWay). v.interval.displaced) same ∙ ap (λ (v : model.Interval). v.displaced) twin in
+        let is : u.interval.displaced ≡ j.displaced = ap (λ (v : UnderWay). v.interval.displaced) same
+        ∙ ap (λ (v : model.Interval). v.displaced) twin in
         let less : j.displaced ≤ j.regular + j.taken + l.worth = lesser k j.displaced (j.regular + j.taken + l.worth) some_q ratio paid.displaced in
         omega (arith, is, less, paid.done, values_fit s.tasks, follows.tracks.worth)
 
@@ -119,7 +122,8 @@ module _ (k : Fraction) (some_q : 1 ≤ k.q) (ratio : k.q ≤ k.p) (s : State) (
         follows.paid.displaced in
         let now : k.p * value_sum (privileged s) * value_sum (privileged s)
         ≤ k.q * (x.job.value - value_sum (privileged s)) * (x.job.value - value_sum (privileged s)) = omega (arith, is_more) in
-        let sum : i.regular + i.taken + value_sum (privileged s) + (x.job.value - value_sum (privileged s)) ≡ i.regular + i.taken + value_at l x.number =
+        let sum : i.regular + i.taken + value_sum (privileged s) + (x.job.value - value_sum (privileged s))
+        ≡ i.regular + i.taken + value_at l x.number =
         omega (arith, more, value) in
         subst (λ n. k.p * (i.displaced + value_sum (privileged s)) * (i.displaced + value_sum (privileged s)) ≤ k.q * n * n) sum
         (rows_add k some_q ratio i.displaced (value_sum (privileged s)) (i.regular + i.taken + value_sum (privileged s))

@@ -9,10 +9,12 @@ use Rattle.charge_ledger.proofs.Charges.{rows_completed, rows_abandoned}
 use Rattle.charge_ledger.proofs.charge.Charge.of.Goals as goal
 
 pub loop-event-init : goal.loop-event-init
-loop-event-init c J of = subst (λ (l : Page). Reads J l c.args.run.now) (sym c.new-ledger.ensures) (subst (Reads J blank) of.prints (none_read J of.valid))
+loop-event-init c J of = subst (λ (l : Page). Reads J l c.args.run.now) (sym c.new-ledger.ensures)
+    (subst (Reads J blank) of.prints (none_read J of.valid))
 
 pub read-requires : goal.read-requires
-read-requires c = (reads_next c.requires.0 c.requires.1.valid c.loop-event.ledger c.event-item.result (drop (c.loop-event.event-index + 1) c.args.run.now)
+read-requires c = (reads_next c.requires.0 c.requires.1.valid c.loop-event.ledger c.event-item.result
+    (drop (c.loop-event.event-index + 1) c.args.run.now)
     (subst (Reads c.requires.0 c.loop-event.ledger)
     (item_next c.args.run.now c.loop-event.event-index c.event-item.result c.event-item.is c.loop-event-test.true)
     (c.loop-event.invariant c.requires.0 c.requires.1))).0
@@ -36,21 +38,25 @@ pub returns-clause-rows : goal.returns-clause-rows
 returns-clause-rows c J of = (done c J of).0
 
 pub returns-clause-bound : goal.returns-clause-bound
-returns-clause-bound c J of = rows_bound c.args.k c.args.run.now J of c.into_parts-rows.result.0.items c.into_parts-rows.result.1 (done c J of).0 (done c J of).1
+returns-clause-bound c J of = rows_bound c.args.k c.args.run.now J of c.into_parts-rows.result.0.items c.into_parts-rows.result.1 (done c J of).0
+    (done c J of).1
 
 pub returns-clause-honest : goal.returns-clause-honest
-returns-clause-honest c J of = rows_honest c.args.k c.args.run.now J of c.into_parts-rows.result.0.items c.into_parts-rows.result.1 (done c J of).0 (done c J of).1
+returns-clause-honest c J of = rows_honest c.args.k c.args.run.now J of c.into_parts-rows.result.0.items c.into_parts-rows.result.1 (done c J of).0
+    (done c J of).1
 
 pub returns-clause-ordered : goal.returns-clause-ordered
 returns-clause-ordered c = rows_ordered c.args.k c.args.run.now c.requires.0 c.requires.1 c.into_parts-rows.result.0.items c.into_parts-rows.result.1
     (done c c.requires.0 c.requires.1).0 (done c c.requires.0 c.requires.1).1
 
 pub returns-clause-displaced : goal.returns-clause-displaced
-returns-clause-displaced c = rows_displaced c.args.k c.args.run.now c.requires.0 c.requires.1 c.into_parts-rows.result.0.items c.into_parts-rows.result.1
+returns-clause-displaced c = rows_displaced c.args.k c.args.run.now c.requires.0 c.requires.1 c.into_parts-rows.result.0.items
+    c.into_parts-rows.result.1
     (done c c.requires.0 c.requires.1).0 (done c c.requires.0 c.requires.1).1
 
 pub returns-clause-paid : goal.returns-clause-paid
-returns-clause-paid c J of = rows_paid c.args.k c.args.run.now J of c.into_parts-rows.result.0.items c.into_parts-rows.result.1 (done c J of).0 (done c J of).1
+returns-clause-paid c J of = rows_paid c.args.k c.args.run.now J of c.into_parts-rows.result.0.items c.into_parts-rows.result.1 (done c J of).0
+    (done c J of).1
 
 pub returns-clause-light : goal.returns-clause-light
 returns-clause-light c J of = (
@@ -60,7 +66,8 @@ returns-clause-light c J of = (
 )
 
 pub returns-clause-completed : goal.returns-clause-completed
-returns-clause-completed c = rows_completed c.args.k c.args.run.now c.requires.0 c.requires.1 c.into_parts-rows.result.0.items c.into_parts-rows.result.1
+returns-clause-completed c = rows_completed c.args.k c.args.run.now c.requires.0 c.requires.1 c.into_parts-rows.result.0.items
+    c.into_parts-rows.result.1
     (done c c.requires.0 c.requires.1).0 (done c c.requires.0 c.requires.1).1
 
 pub returns-clause-abandoned : goal.returns-clause-abandoned
