@@ -69,7 +69,8 @@ next_one k (suc left) state last job state2 last2 some here later release =
 module _ (k : Fraction) (ratio : IsRatio k) where
   -- a density is drawn from at least one
   some_density : 1 ≤ most_density k
-  some_density = let one : 1 ≤ k.p / k.q = (le-div_iff_mul-le {k = k.q} {x = 1} {y = k.p} (omega (arith, ratio.least))).1 (omega (arith, ratio.above_one)) in
+  some_density = let one : 1 ≤ k.p / k.q = (le-div_iff_mul-le {k = k.q} {x = 1} {y = k.p} (omega (arith, ratio.least))).1
+      (omega (arith, ratio.above_one)) in
       omega (arith, one)
 
   -- and is at most the ratio
