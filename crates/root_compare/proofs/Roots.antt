@@ -19,7 +19,8 @@ square_small p q a small_p small_q small_a =
     omega (arith, all)
 
 -- its root is small
-pub root_small : (root square : ℕ) → root * root ≤ square → square ≤ 400_000_000_000_000_000_000_000_000_000_000_000 → root ≤ 1_000_000_000_000_000_000
+pub root_small : (root square : ℕ) → root * root ≤ square → square ≤ 400_000_000_000_000_000_000_000_000_000_000_000 → root
+    ≤ 1_000_000_000_000_000_000
 root_small root square within small = square_order root 1_000_000_000_000_000_000 (omega (arith, within, small))
 
 -- what is added to the root stays below 2 ^ 64
@@ -28,7 +29,8 @@ sum_small p q a small_p small_q small_a = mul-le (p + q) a 1_001_000 10_000_000_
 
 -- two greatest numbers are one
 pub one_greatest : (passes : ℕ → Bool) (m n : ℕ) → IsGreatest passes m → IsGreatest passes n → m ≡ n
-one_greatest passes m n one other = let up : m ≤ n = other.greatest m one.does in let down : n ≤ m = one.greatest n other.does in omega (arith, up, down)
+one_greatest passes m n one other = let up : m ≤ n = other.greatest m one.does in let down : n
+    ≤ m = one.greatest n other.does in omega (arith, up, down)
 
 module _ (k : Fraction) (a root : ℕ) (some : 1 ≤ k.q)
     (square : root * root ≤ 4 * k.p * k.q * a * a)
