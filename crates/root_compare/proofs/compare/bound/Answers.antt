@@ -30,7 +30,7 @@ returns-clause-greatest c =
     ≡ ((c.from-p.result + c.from-q.result) * c.from-a.result + c.isqrt.result) / c.from-q.result = cc in
     subst (IsGreatest (λ n. is_within c.args.k n c.args.a)) value
     (root_gives c.args.k c.args.a c.isqrt.result c.q.ensures.ratio.least
-        (subst (λ n. c.isqrt.result * c.isqrt.result ≤ n) square c.isqrt.ensures.within)
+    (subst (λ n. c.isqrt.result * c.isqrt.result ≤ n) square c.isqrt.ensures.within)
     (λ r less. c.isqrt.ensures.greatest r (subst (λ n. r * r ≤ n) (sym square) less)))
 
 pub returns-clause-is : goal.returns-clause-is

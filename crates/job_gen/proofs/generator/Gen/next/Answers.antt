@@ -9,7 +9,7 @@ split : (c : goal.After-self-3-1) → c.args.self.now
 split c =
     let here : c.in_ok-job.job ≡ next_job c.self.inside.k c.self.inside.state c.self.inside.last =
     job_is c.self.inside.k c.self.inside.state c.self.inside.last c.drawn-release.result c.drawn-work.result c.drawn-slack.result
-        c.drawn-density.result
+    c.drawn-density.result
     c.drawn-release.ensures.is c.drawn-work.ensures.is c.drawn-slack.ensures.is c.drawn-density.ensures.is c.in_ok-job.job c.in_ok-job.ensures.is in
     let later : c.drawn-density.result ≡ next_four c.self.inside.state =
     four c.self.inside.k c.self.inside.state c.self.inside.last c.drawn-release.result c.drawn-work.result c.drawn-slack.result c.drawn-density.result
