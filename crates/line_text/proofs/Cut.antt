@@ -1,12 +1,13 @@
 -- What another byte makes of whole lines and the rest.
-use Rattle.std.proofs.Common.{◌≡◌, ℕ, ◌+◌, ◌≤◌, min, List, [], ◌∷◌, ◌++◌, length, length-append, append_assoc, append-nil, refl, sym, ap, ◌∙◌, subst, Bool, true, false, cond, arith}
-use Rattle.std.specs.Prelude.{◌==◌, if◌then◌else◌}
+use Rattle.std.proofs.Common.{◌≡◌, ℕ, ◌+◌, min, List, [], ◌∷◌, ◌++◌, length, length-append, append-nil, refl, sym, ap, ◌∙◌, subst}
+use Rattle.std.proofs.Common.{Bool, true, false, cond, arith}
+use Rattle.std.specs.Prelude.{if◌then◌else◌}
 use Rattle.dover_model.specs.Lines.{whole_lines, rest_of, lines_of, is_too_long, cut}
 use Rattle.dover_model.proofs.Cuts.{CutText, is_feed, onto, cut_feed, cut_other, cut_append}
 use Rattle.dover_model.proofs.Tests.{never}
 use Rattle.line_text.specs.declared.cutting.Step.{Step}
 use Rattle.line_text.specs.declared.cutting.Step.TheVariants.{More, Line, TooLong}
-use Rattle.line_text.specs.Cutting.{Cutting, most_count, begun_line, is_over, StandsFor, step_of, with_byte, HasCut, goes_on, after_byte}
+use Rattle.line_text.specs.Cutting.{Cutting, most_count, is_over, StandsFor, with_byte, HasCut, goes_on, after_byte}
 
 -- bytes before an ended line are its bytes
 onto_feed : (bs : List ℕ) → onto bs ([] ∷ [], []) ≡ (bs ∷ [], [])
@@ -22,17 +23,24 @@ onto_other (b ∷ bs) byte = ap (λ (c : CutText). put c) (onto_other bs byte) w
   put : CutText → CutText
   put c = onto (b ∷ []) c
 
+-- a cut text behind whole lines, where these bytes of a line came before it
+abbrev behind : List (List ℕ) → List ℕ → CutText → CutText
+behind ls rest c = (ls ++ (onto rest c).0, (onto rest c).1)
+
+-- whole lines before a cut text
+abbrev before : List (List ℕ) → CutText → CutText
+before ls c = (ls ++ c.0, c.1)
+
 -- a line feed ends the line
 cut_with_feed : (bytes : List ℕ) (byte : ℕ) → is_feed byte ≡ true → cut (bytes ++ byte ∷ []) ≡ (whole_lines bytes ++ rest_of bytes ∷ [], [])
 cut_with_feed bytes byte feed = cut_append bytes (byte ∷ [])
-    ∙ ap (λ (c : CutText). let more : CutText = (whole_lines bytes ++ (onto (rest_of bytes) c).0, (onto (rest_of bytes) c).1) in more) (cut_feed byte [] feed)
-    ∙ ap (λ (c : CutText). let more : CutText = (whole_lines bytes ++ c.0, c.1) in more) (onto_feed (rest_of bytes))
+    ∙ ap (behind (whole_lines bytes) (rest_of bytes)) (cut_feed byte [] feed) ∙ ap (before (whole_lines bytes)) (onto_feed (rest_of bytes))
 
 -- another byte goes on with it
 cut_with_other : (bytes : List ℕ) (byte : ℕ) → is_feed byte ≡ false → cut (bytes ++ byte ∷ []) ≡ (whole_lines bytes, rest_of bytes ++ byte ∷ [])
 cut_with_other bytes byte other = cut_append bytes (byte ∷ [])
-    ∙ ap (λ (c : CutText). let more : CutText = (whole_lines bytes ++ (onto (rest_of bytes) c).0, (onto (rest_of bytes) c).1) in more) (cut_other byte [] other)
-    ∙ ap (λ (c : CutText). let more : CutText = (whole_lines bytes ++ c.0, c.1) in more) (onto_other (rest_of bytes) byte)
+    ∙ ap (behind (whole_lines bytes) (rest_of bytes)) (cut_other byte [] other)
+    ∙ ap (before (whole_lines bytes)) (onto_other (rest_of bytes) byte)
     ∙ ap (λ ls. let more : CutText = (ls, rest_of bytes ++ byte ∷ []) in more) (append-nil (whole_lines bytes))
 
 -- ---- what is kept
@@ -51,6 +59,14 @@ lines_long bytes c e long = ap (λ (k : CutText). k.0 ++ cond (is_too_long k.1) 
 min_at : (n m : ℕ) → n ≡ min m most_count → min (n + 1) most_count ≡ min (m + 1) most_count
 min_at n m e = omega arith
 
+-- what is kept where the line ends
+abbrev ended : ℕ → List ℕ → Cutting
+ended count line = record { line = line; count = min (count + 1) most_count; last = Line }
+
+-- what is kept of a line that goes on, or is too long
+abbrev going : ℕ → List ℕ → Bool → Cutting
+going count line long = record { line = line; count = count; last = if long then TooLong else More }
+
 -- what a byte keeps and cuts, behind bytes whose rest may still become a line
 pub record Goes (c : Cutting) (bytes : List ℕ) (byte : ℕ) : Type 0 where
   pub stands : StandsFor c (bytes ++ byte ∷ [])
@@ -63,7 +79,7 @@ module _ (count : ℕ) (bytes : List ℕ) (byte : ℕ) (counted : count ≡ min 
   lines_before = lines_short bytes (cut bytes) refl short
 
   -- a line feed
-  ends : is_feed byte ≡ true → Goes (record { line = rest_of bytes; count = min (count + 1) most_count; last = Line }) bytes byte
+  ends : is_feed byte ≡ true → Goes (ended count (rest_of bytes)) bytes byte
   ends feed = let e = cut_with_feed bytes byte feed in
       let whole : whole_lines (bytes ++ byte ∷ []) ≡ whole_lines bytes ++ rest_of bytes ∷ [] = ap (λ (k : CutText). k.0) e in
       let rest : rest_of (bytes ++ byte ∷ []) ≡ [] = ap (λ (k : CutText). k.1) e in
@@ -78,12 +94,8 @@ module _ (count : ℕ) (bytes : List ℕ) (byte : ℕ) (counted : count ≡ min 
         cut = (whole, rest, lines_short (bytes ++ byte ∷ []) _ e refl ∙ ap (λ ls. ls ++ rest_of bytes ∷ []) (sym lines_before));
       }
 
-  -- the line with the byte
-  longer : List ℕ
-  longer = rest_of bytes ++ byte ∷ []
-
   -- another byte
-  more : is_feed byte ≡ false → Goes (record { line = rest_of bytes ++ byte ∷ []; count = count; last = if is_too_long (rest_of bytes ++ byte ∷ []) then TooLong else More }) bytes byte
+  more : is_feed byte ≡ false → Goes (going count (rest_of bytes ++ byte ∷ []) (is_too_long (rest_of bytes ++ byte ∷ []))) bytes byte
   more other = by (is_too_long (rest_of bytes ++ byte ∷ [])) refl where
     e : cut (bytes ++ byte ∷ []) ≡ (whole_lines bytes, rest_of bytes ++ byte ∷ [])
     e = cut_with_other bytes byte other
@@ -94,23 +106,24 @@ module _ (count : ℕ) (bytes : List ℕ) (byte : ℕ) (counted : count ≡ min 
     rest : rest_of (bytes ++ byte ∷ []) ≡ rest_of bytes ++ byte ∷ []
     rest = ap (λ (k : CutText). k.1) e
 
-    by : (b : Bool) → is_too_long (rest_of bytes ++ byte ∷ []) ≡ b
-        → Goes (record { line = rest_of bytes ++ byte ∷ []; count = count; last = if b then TooLong else More }) bytes byte
+    still : count ≡ min (length (whole_lines (bytes ++ byte ∷ []))) most_count
+    still = counted ∙ ap (λ ls. min (length ls) most_count) (sym whole)
+
+    by : (b : Bool) → is_too_long (rest_of bytes ++ byte ∷ []) ≡ b → Goes (going count (rest_of bytes ++ byte ∷ []) b) bytes byte
     by true long = record {
-      stands = record { count = counted ∙ ap (λ ls. min (length ls) most_count) (sym whole); rest = sym rest; over = sym long ∙ ap is_too_long (sym rest) };
+      stands = record { count = still; rest = sym rest; over = sym long ∙ ap is_too_long (sym rest) };
       cut = (whole, rest, lines_long (bytes ++ byte ∷ []) _ e long ∙ ap (λ ls. ls ++ (rest_of bytes ++ byte ∷ []) ∷ []) (sym lines_before));
     }
     by false long = record {
-      stands = record { count = counted ∙ ap (λ ls. min (length ls) most_count) (sym whole); rest = sym rest; over = sym long ∙ ap is_too_long (sym rest) };
+      stands = record { count = still; rest = sym rest; over = sym long ∙ ap is_too_long (sym rest) };
       cut = (whole, rest, lines_short (bytes ++ byte ∷ []) _ e long ∙ sym lines_before);
     }
 
   -- any byte
   goes : Goes (goes_on count (rest_of bytes) byte) bytes byte
   goes = by (is_feed byte) refl where
-    by : (b : Bool) → is_feed byte ≡ b → Goes (if b
-        then record { line = rest_of bytes; count = min (count + 1) most_count; last = Line }
-        else record { line = rest_of bytes ++ byte ∷ []; count = count; last = if is_too_long (rest_of bytes ++ byte ∷ []) then TooLong else More }) bytes byte
+    by : (b : Bool) → is_feed byte ≡ b
+        → Goes (if b then ended count (rest_of bytes) else going count (rest_of bytes ++ byte ∷ []) (is_too_long (rest_of bytes ++ byte ∷ []))) bytes byte
     by true feed = ends feed
     by false other = more other
 

@@ -1,7 +1,6 @@
 //! Bytes, one by one, cut into lines.
-use std::marker::Model;
-
 use crate::LINE_BYTES;
+use std::marker::Model;
 
 /// What a byte made of the line.
 #[derive(Clone, Copy, Debug, PartialEq, Eq)]

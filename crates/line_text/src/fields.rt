@@ -4,9 +4,8 @@ ghost use Rattle.dover_model.specs.Lines.{fields_of};
 ghost use Rattle.dover_model.specs.Numerals.{numerals};
 ghost use Rattle.line_text.specs.Reading.{fields_left};
 
-use std::marker::Model;
-
 use crate::numerals::numeral;
+use std::marker::Model;
 
 /// The most numbers that a line has.
 const MOST_NUMBERS: usize = 5;

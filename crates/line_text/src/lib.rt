@@ -6,12 +6,11 @@ mod fields;
 mod line_buf;
 mod numerals;
 
-use thiserror::Error;
-
 pub use cutting::{Lines, Step};
 pub use fields::{Numbers, cut_field, read_numbers};
 pub use line_buf::LineBuf;
 pub use numerals::numeral;
+use thiserror::Error;
 
 /// The most bytes that a line may have, with its line feed.
 pub const LINE_BYTES: usize = 129;
@@ -20,3 +19,6 @@ pub const LINE_BYTES: usize = 129;
 #[derive(Clone, Copy, Debug, PartialEq, Eq, Error)]
 #[error("not a line of the format")]
 pub struct BadLine;
+
+#[cfg(test)]
+mod tests;

@@ -1,9 +1,7 @@
 //! A line as it is written.
-use std::marker::Model;
-
-use itoa::Buffer;
-
 use crate::LINE_BYTES;
+use itoa::Buffer;
+use std::marker::Model;
 
 /// The bytes of one line that is written field by field. It has room for 129 bytes.
 #[derive(Drop)]
@@ -23,7 +21,9 @@ impl Model for LineBuf {
 }
 
 impl LineBuf {
-    ghost use Rattle.std.specs.Prelude.{◌≡◌, ◌≤◌, ◌<◌, ◌+◌, ◌++◌, ◌∷◌, [], length, decimal};
+    ghost use Rattle.std.specs.Prelude.{◌≡◌, ◌≤◌, ◌<◌, ◌+◌, ◌*◌, ◌++◌, ◌∷◌, [], length, decimal};
+    ghost use Rattle.dover_model.specs.Lines.{with_numbers};
+    ghost use Rattle.dover_model.specs.Numerals.{AreShort};
     ghost use Rattle.line_text.specs.Writing.{with_field, most_written};
 
     /// A line that hasn't begun.
@@ -64,6 +64,20 @@ impl LineBuf {
     {
         let mut digits = Buffer::new();
         self.put_word(digits.format(number).as_bytes());
+    }
+
+    /// Writes a word and numbers, as a line that hasn't begun.
+    pub fn put_with_numbers(&mut self, word: &[u8], numbers: &[u64])
+        requires empty { self.old ≡ [] }
+        requires word { 0 < length word.now }
+        requires short { AreShort numbers.now }
+        requires fits { length word.now + 19 * length numbers.now ≤ most_written }
+        ensures { self.new ≡ with_numbers word.now numbers.now }
+    {
+        self.put_word(word);
+        for number in numbers {
+            self.put_number(*number);
+        }
     }
 
     /// Ends the line with a line feed.

@@ -23,7 +23,9 @@ overflow_mul-number c =
 pub overflow_add-number : goal.overflow_add-number
 overflow_add-number c =
     let low : c.loop-byte.number < 10 ^ 17 = few _ _ _ c.loop-byte.invariant.small c.loop-byte-test.true c.requires in
-    omega (arith, digit_small (get_or c.args.text.now c.loop-byte.byte-index 0) (sym c.is_ascii_digit.ensures.value ∙ c.if-not-is_ascii_digit.false), c.from.ensures)
+    let digit : get_or c.args.text.now c.loop-byte.byte-index 0 - 48 ≤ 9 =
+    digit_small (get_or c.args.text.now c.loop-byte.byte-index 0) (sym c.is_ascii_digit.ensures.value ∙ c.if-not-is_ascii_digit.false) in
+    omega (arith, c.from.ensures)
 
 pub returns-clause-short : goal.returns-clause-short
 returns-clause-short c = at_most c.loop-byte.number c.loop-byte.byte-index 18 c.loop-byte.invariant.small (omega arith)
