@@ -1,5 +1,5 @@
 //! A feed's line as bytes.
-ghost use Rattle.std.specs.Prelude.{◌≡◌, [], Some};
+ghost use Rattle.std.specs.Prelude.{◌≡◌, ◌<◌, [], length, Some};
 ghost use Rattle.dover_model.specs.FeedLine as model;
 ghost use Rattle.job_format.specs.Form.{form_of};
 
@@ -9,7 +9,8 @@ use line_text::LineBuf;
 fn write(line: &FeedLine, to: &mut LineBuf)
     requires numbers { model.HasNumerals (form_of line.now) }
     requires empty { to.old ≡ [] }
-    ensures { to.new ≡ model.feed_text (form_of line.now) }
+    ensures text { to.new ≡ model.feed_text (form_of line.now) }
+    ensures fits { length to.new < 129 }
 {
     match line {
         FeedLine::Declared {
@@ -38,6 +39,7 @@ pub fn write_feed_line(line: &FeedLine, to: &mut LineBuf)
     requires numbers { model.HasNumerals (form_of line.now) }
     requires empty { to.old ≡ [] }
     ensures text { to.new ≡ model.feed_text (form_of line.now) }
+    ensures fits { length to.new < 129 }
     ensures again { model.feed_line to.new ≡ Some (form_of line.now) }
 {
     write(line, to);

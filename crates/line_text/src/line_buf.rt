@@ -72,7 +72,8 @@ impl LineBuf {
         requires word { 0 < length word.now }
         requires short { AreShort numbers.now }
         requires fits { length word.now + 19 * length numbers.now ≤ most_written }
-        ensures { self.new ≡ with_numbers word.now numbers.now }
+        ensures text { self.new ≡ with_numbers word.now numbers.now }
+        ensures size { length self.new ≤ length word.now + 19 * length numbers.now }
     {
         self.put_word(word);
         for number in numbers {

@@ -165,7 +165,11 @@ two_step word ns step e words numbers names read =
     let it = bind_some (two_jobs ns) (λ f. Some (step f.0 f.1 f.2)) e read in
     let from = two_from ns it.0 it.1 in
     subst (Reads word ns) (some_same _ _ it.2)
-    (record { spelled = words it.0.0 it.0.1 it.0.2; counted = numbers it.0.0 it.0.1 it.0.2 ∙ from.0; named = names it.0.0 it.0.1 it.0.2 from.1 from.2 })
+    (record {
+      spelled = words it.0.0 it.0.1 it.0.2;
+      counted = numbers it.0.0 it.0.1 it.0.2 ∙ from.0;
+      named = names it.0.0 it.0.1 it.0.2 from.1 from.2;
+    })
 
 -- a release
 release_from : (ns : List ℕ) (e : Event) → release_of ns ≡ Some e → Reads (codes "job") ns e
@@ -287,6 +291,12 @@ behind_release t r fields = first_number fields >>= λ c. behind_work t r c.0 c.
 abbrev behind_mark : (t : ℕ) → List (List ℕ) → Option TraceLine
 behind_mark t fields = first_number fields >>= λ r. behind_release t r.0 r.1
 
+-- fields that were taken one by one
+joined : {fs rs cs ds vs ws more : List (List ℕ)} (t r c d v : List ℕ) → fs ≡ t ∷ rs → rs ≡ r ∷ cs → cs ≡ c ∷ ds → ds ≡ d ∷ vs → vs ≡ v ∷ ws
+    → ws ≡ more → fs ≡ t ∷ r ∷ c ∷ d ∷ v ∷ more
+joined t r c d v a b e f g h =
+    a ∙ ap (λ xs. t ∷ xs) (b ∙ ap (λ xs. r ∷ xs) (e ∙ ap (λ xs. c ∷ xs) (f ∙ ap (λ xs. d ∷ xs) (g ∙ ap (λ xs. v ∷ xs) h))))
+
 -- the line is spelled by these fields behind the word
 pub record RefusedBy (fields : List (List ℕ)) (x : TraceLine) : Type 0 where
   pub text : trace_text x ≡ line_of (codes "refuse" ∷ fields)
@@ -307,10 +317,9 @@ refused_from fields x read =
     let work = first_from r.0.1 c.0 c.1 in
     let deadline = first_from c.0.1 d.0 d.1 in
     let value = first_from d.0.1 v.0 v.1 in
-    let whole : fields
-    ≡ decimal t.0.0 ∷ decimal r.0.0 ∷ decimal c.0.0 ∷ decimal d.0.0 ∷ decimal v.0.0 ∷ refusal_word cause.0 ∷ [] =
-    mark.0 ∙ ap (λ fs. decimal t.0.0 ∷ fs) (release.0 ∙ ap (λ fs. decimal r.0.0 ∷ fs) (work.0 ∙ ap (λ fs. decimal c.0.0 ∷ fs)
-    (deadline.0 ∙ ap (λ fs. decimal d.0.0 ∷ fs) (value.0 ∙ ap (λ fs. decimal v.0.0 ∷ fs) (last_from v.0.1 cause.0 cause.1))))) in
+    let whole : fields ≡ decimal t.0.0 ∷ decimal r.0.0 ∷ decimal c.0.0 ∷ decimal d.0.0 ∷ decimal v.0.0 ∷ refusal_word cause.0 ∷ [] =
+    joined (decimal t.0.0) (decimal r.0.0) (decimal c.0.0) (decimal d.0.0) (decimal v.0.0) mark.0 release.0 work.0 deadline.0 value.0
+    (last_from v.0.1 cause.0 cause.1) in
     subst (RefusedBy fields) (some_same _ _ cause.2) (record {
       text = ap (λ fs. line_of (codes "refuse" ∷ fs)) (sym whole);
       form = (mark.1, (release.1, (work.1, (deadline.1, (value.1, tt)))));

@@ -1,7 +1,7 @@
 //! A trace's line as bytes.
-ghost use Rattle.std.specs.Prelude.{◌≡◌, []};
+ghost use Rattle.std.specs.Prelude.{◌≡◌, ◌<◌, [], length};
 ghost use Rattle.dover_model.specs.Numerals.{AreShort};
-ghost use Rattle.dover_model.specs.Text as text;
+ghost use Rattle.dover_model.specs.Text as form;
 ghost use Rattle.trace_format.specs.Form.{IsRefusedLine, trace_text, step_numbers};
 
 use crate::lines::TraceLine;
@@ -11,7 +11,8 @@ use line_text::LineBuf;
 /// Writes the first line of a trace, without its line feed.
 pub fn write_header(version: Version, k: Ratio, to: &mut LineBuf)
     requires { to.old ≡ [] }
-    ensures { to.new ≡ text.header (record { ratio = k; version = version }) }
+    ensures text { to.new ≡ form.header (record { ratio = k; version = version }) }
+    ensures fits { length to.new < 129 }
 {
     let number = match version {
         Version::One => 1,
@@ -24,7 +25,8 @@ pub fn write_header(version: Version, k: Ratio, to: &mut LineBuf)
 pub fn write_event(e: &Event, to: &mut LineBuf)
     requires numbers { AreShort (step_numbers e.now) }
     requires empty { to.old ≡ [] }
-    ensures { to.new ≡ text.text_of e.now }
+    ensures text { to.new ≡ form.text_of e.now }
+    ensures fits { length to.new < 129 }
 {
     match e {
         Event::Release { number, job } => to.put_with_numbers(
@@ -55,7 +57,7 @@ pub fn write_event(e: &Event, to: &mut LineBuf)
 }
 
 fn refusal_word(cause: Refusal) -> &'static [u8]
-    ensures { result.now ≡ text.refusal_word cause }
+    ensures { result.now ≡ form.refusal_word cause }
 {
     match cause {
         Refusal::BadJob => b"job",
@@ -69,7 +71,8 @@ fn refusal_word(cause: Refusal) -> &'static [u8]
 pub fn write_refused(line: &TraceLine, to: &mut LineBuf)
     requires refused { IsRefusedLine line.now }
     requires empty { to.old ≡ [] }
-    ensures { to.new ≡ trace_text line.now }
+    ensures text { to.new ≡ trace_text line.now }
+    ensures fits { length to.new < 129 }
 {
     let TraceLine::Refused {
         at,

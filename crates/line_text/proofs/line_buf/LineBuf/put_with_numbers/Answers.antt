@@ -1,4 +1,4 @@
-use Rattle.std.proofs.Common.{◌≡◌, ℕ, ◌+◌, ◌*◌, ◌<◌, ◌≤◌, List, ◌++◌, ◌∷◌, length, get_or, drop, sym, ap, ◌∙◌, subst, arith}
+use Rattle.std.proofs.Common.{◌≡◌, ℕ, ◌+◌, ◌*◌, ◌<◌, ◌≤◌, List, ◌++◌, ◌∷◌, length, length-append, get_or, drop, sym, ap, ◌∙◌, subst, arith}
 use Rattle.std.proofs.lemmas.List.{drop_more}
 use Rattle.dover_model.specs.Lines.{with_numbers}
 use Rattle.dover_model.proofs.Fields.{length-with_numbers}
@@ -25,3 +25,10 @@ put_number-requires c =
     let fits : length whole ≤ 129 = omega (arith, c.requires.fits) in
     one_fits c.loop-number.self (get_or numbers i 0) (drop (i + 1) numbers) whole 129 c.loop-number.invariant.begun
     (subst (λ ns. c.loop-number.self ++ numbers_behind ns ≡ whole) next c.loop-number.invariant.whole) fits
+
+pub returns-clause-size : goal.returns-clause-size
+returns-clause-size c =
+    let left : List ℕ = numbers_behind (drop c.loop-number.number-index c.args.numbers.now) in
+    let whole : length (c.loop-number.self ++ left) ≡ length (with_numbers c.args.word.now c.args.numbers.now) =
+    ap length c.loop-number.invariant.whole in
+    omega (arith, length-append c.loop-number.self left, length-with_numbers c.args.word.now c.args.numbers.now c.requires.short)
