@@ -3,7 +3,6 @@ use Rattle.std.proofs.Common.{◌≡◌, ℕ, ◌^◌, ◌<◌, ◌≤◌, List,
 use Rattle.std.proofs.Common.{None, arith, codes, decimal}
 use Rattle.std.specs.Prelude.{bytes_eq, nat_le, if◌then◌else◌, length, ◌==◌}
 use Rattle.std.specs.Bool.{then_some}
-use Rattle.std.specs.List.{find}
 use Rattle.std.specs.Option.{option_and_then, option_map, option_or}
 use Rattle.std.proofs.lemmas.Bool.{le-leb, leb-true}
 use Rattle.std.proofs.lemmas.List.Splits.{length-slice_split}
@@ -17,10 +16,10 @@ use Rattle.dover_model.specs.Numerals.{numeral, numerals, AreShort}
 use Rattle.dover_model.specs.Lines.{fields_of, line_of, with_numbers, numbers_after}
 use Rattle.dover_model.specs.Instance.{Rules}
 use Rattle.dover_model.specs.Session.{Item}
-use Rattle.dover_model.specs.Text.{text_of, refused_text, refusal_word}
+use Rattle.dover_model.specs.Text.{text_of, refusal_word}
 use Rattle.dover_model.specs.Trace.{Printed, Refuses}
 use Rattle.dover_model.specs.Verdict as verdict
-use Rattle.dover_model.proofs.Tests.{never, none_is_some}
+use Rattle.dover_model.proofs.Tests.{none_is_some}
 use Rattle.dover_model.proofs.Members.{some_same}
 use Rattle.dover_model.proofs.Agreement.{is_job-agrees}
 use Rattle.dover_model.proofs.Numerals.{numeral-decimal, decimal-numeral}
@@ -30,8 +29,8 @@ use Rattle.dover_model.proofs.TraceLines.{word_HasNoSpace, then_word, item_of-te
 use Rattle.trace_format.specs.declared.lines.TraceLine.{TraceLine}
 use Rattle.trace_format.specs.declared.lines.TraceLine.TheVariants.{Header, Step, Refused}
 use Rattle.trace_format.specs.Form.{last_number, trace_text, step_numbers, NamesJobs, HasForm, item_in, rules_in, refused_job}
-use Rattle.trace_format.specs.Reading.{◌>>=◌, job_number, new_job, release_of, one_job, two_jobs, run_of, complete_of, abandon_of, preempt_of}
-use Rattle.trace_format.specs.Reading.{take_of, end_of, step_of_word, header_of, line_of_word, first_number, last_word, refused_of, line_of_fields}
+use Rattle.trace_format.specs.Reading.{◌>>=◌, job_number, new_job, release_of, one_job, two_jobs}
+use Rattle.trace_format.specs.Reading.{end_of, step_of_word, header_of, line_of_word, first_number, last_word, refused_of, line_of_fields}
 
 -- ---- steps
 
