@@ -123,7 +123,9 @@ module _ (count : ℕ) (bytes : List ℕ) (byte : ℕ) (counted : count ≡ min 
   goes : Goes (goes_on count (rest_of bytes) byte) bytes byte
   goes = by (is_feed byte) refl where
     by : (b : Bool) → is_feed byte ≡ b
-        → Goes (if b then ended count (rest_of bytes) else going count (rest_of bytes ++ byte ∷ []) (is_too_long (rest_of bytes ++ byte ∷ []))) bytes byte
+        → Goes (if b
+        then ended count (rest_of bytes)
+        else going count (rest_of bytes ++ byte ∷ []) (is_too_long (rest_of bytes ++ byte ∷ []))) bytes byte
     by true feed = ends feed
     by false other = more other
 

@@ -4,7 +4,7 @@ ghost use Rattle.dover_model.specs.Lines.{fields_of};
 ghost use Rattle.dover_model.specs.Numerals.{numerals};
 ghost use Rattle.line_text.specs.Reading.{fields_left};
 
-use crate::numerals::numeral;
+use crate::numerals::first_number;
 use std::marker::Model;
 
 /// The most numbers that a line has.
@@ -85,8 +85,9 @@ pub fn read_numbers(fields: Option<&[u8]>) -> Option<Numbers>
     let mut numbers = Numbers::new();
     let mut left = fields;
     while let Some(text) = left {
-        let (field, rest) = cut_field(text);
-        let number = numeral(field)?;
+        let Some((number, rest)) = first_number(text) else {
+            return None;
+        };
         if numbers.is_full() {
             return None;
         }

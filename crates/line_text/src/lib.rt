@@ -9,7 +9,7 @@ mod numerals;
 pub use cutting::{Lines, Step};
 pub use fields::{Numbers, cut_field, read_numbers};
 pub use line_buf::LineBuf;
-pub use numerals::numeral;
+pub use numerals::{first_number, numeral};
 use thiserror::Error;
 
 /// The most bytes that a line may have, with its line feed.

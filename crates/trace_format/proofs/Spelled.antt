@@ -26,11 +26,12 @@ use Rattle.dover_model.proofs.Numerals.{numeral-decimal, decimal-numeral}
 use Rattle.dover_model.proofs.Fields.{HasNoSpace, fields_of-line_of, line_of-fields_of, decimals-HasNoSpace, numerals-decimals, decimals-numerals}
 use Rattle.dover_model.proofs.ReadShort.{numerals_short}
 use Rattle.dover_model.proofs.TraceLines.{word_HasNoSpace, then_word, item_of-text_of_line}
+use Rattle.line_text.specs.Reading.{number_of_first}
 use Rattle.trace_format.specs.declared.lines.TraceLine.{TraceLine}
 use Rattle.trace_format.specs.declared.lines.TraceLine.TheVariants.{Header, Step, Refused}
 use Rattle.trace_format.specs.Form.{last_number, trace_text, step_numbers, NamesJobs, HasForm, item_in, rules_in, refused_job}
 use Rattle.trace_format.specs.Reading.{◌>>=◌, job_number, new_job, release_of, one_job, two_jobs}
-use Rattle.trace_format.specs.Reading.{end_of, step_of_word, header_of, line_of_word, first_number, last_word, refused_of, line_of_fields}
+use Rattle.trace_format.specs.Reading.{end_of, step_of_word, header_of, line_of_word, last_word, refused_of, line_of_fields}
 
 -- ---- steps
 
@@ -248,12 +249,17 @@ word_from word ns x = by_word word (codes "dover") (λ w. Spells w ns x) (header
 
 -- ---- refused lines
 
+-- what a value was made from
+mapped : {A B : Type 0} (o : Option A) (f : A → B) (y : B) → option_map f o ≡ Some y → (x : A) × (o ≡ Some x) × (f x ≡ y)
+mapped None f y e = none_is_some e
+mapped (Some x) f y e = (x, refl, some_same _ _ e)
+
 -- the first number that is read, and the fields behind it
-first_from : (fields : List (List ℕ)) (f : ℕ × List (List ℕ)) → first_number fields ≡ Some f → (fields ≡ decimal f.0 ∷ f.1) × (f.0 < 10 ^ 18)
+first_from : (fields : List (List ℕ)) (f : ℕ × List (List ℕ)) → number_of_first fields ≡ Some f → (fields ≡ decimal f.0 ∷ f.1) × (f.0 < 10 ^ 18)
 first_from [] f read = none_is_some read
 first_from (field ∷ fields) f read =
-    let it = bind_some (numeral field) (λ n. let g : ℕ × List (List ℕ) = (n, fields) in Some g) f read in
-    let same : (it.0, fields) ≡ f = some_same _ _ it.2 in
+    let it = mapped (numeral field) (λ n. let g : ℕ × List (List ℕ) = (n, fields) in g) f read in
+    let same : (it.0, fields) ≡ f = it.2 in
     let short : AreShort (it.0 ∷ []) = numerals_short (field ∷ []) (it.0 ∷ [])
     (ap (λ o. option_and_then (λ n. option_map (λ ns. n ∷ ns) (Some [])) o) it.1) in (
       subst (λ (g : ℕ × List (List ℕ)). field ∷ fields ≡ decimal g.0 ∷ g.1) same (ap (λ w. w ∷ fields) (sym (decimal-numeral field it.0 it.1))),
@@ -279,16 +285,16 @@ abbrev behind_value : (t r c d v : ℕ) → List (List ℕ) → Option TraceLine
 behind_value t r c d v fields = last_word fields >>= λ cause. Some (Refused t r c d v cause)
 
 abbrev behind_deadline : (t r c d : ℕ) → List (List ℕ) → Option TraceLine
-behind_deadline t r c d fields = first_number fields >>= λ v. behind_value t r c d v.0 v.1
+behind_deadline t r c d fields = number_of_first fields >>= λ v. behind_value t r c d v.0 v.1
 
 abbrev behind_work : (t r c : ℕ) → List (List ℕ) → Option TraceLine
-behind_work t r c fields = first_number fields >>= λ d. behind_deadline t r c d.0 d.1
+behind_work t r c fields = number_of_first fields >>= λ d. behind_deadline t r c d.0 d.1
 
 abbrev behind_release : (t r : ℕ) → List (List ℕ) → Option TraceLine
-behind_release t r fields = first_number fields >>= λ c. behind_work t r c.0 c.1
+behind_release t r fields = number_of_first fields >>= λ c. behind_work t r c.0 c.1
 
 abbrev behind_mark : (t : ℕ) → List (List ℕ) → Option TraceLine
-behind_mark t fields = first_number fields >>= λ r. behind_release t r.0 r.1
+behind_mark t fields = number_of_first fields >>= λ r. behind_release t r.0 r.1
 
 -- fields that were taken one by one
 joined : {fs rs cs ds vs ws more : List (List ℕ)} (t r c d v : List ℕ) → fs ≡ t ∷ rs → rs ≡ r ∷ cs → cs ≡ c ∷ ds → ds ≡ d ∷ vs → vs ≡ v ∷ ws
@@ -305,11 +311,11 @@ pub record RefusedBy (fields : List (List ℕ)) (x : TraceLine) : Type 0 where
 refused_from : (fields : List (List ℕ)) (x : TraceLine) → refused_of fields ≡ Some x → RefusedBy fields x
 unfolding refused_of
 refused_from fields x read =
-    let t = bind_some (first_number fields) (λ t. behind_mark t.0 t.1) x read in
-    let r = bind_some (first_number t.0.1) (λ r. behind_release t.0.0 r.0 r.1) x t.2 in
-    let c = bind_some (first_number r.0.1) (λ c. behind_work t.0.0 r.0.0 c.0 c.1) x r.2 in
-    let d = bind_some (first_number c.0.1) (λ d. behind_deadline t.0.0 r.0.0 c.0.0 d.0 d.1) x c.2 in
-    let v = bind_some (first_number d.0.1) (λ v. behind_value t.0.0 r.0.0 c.0.0 d.0.0 v.0 v.1) x d.2 in
+    let t = bind_some (number_of_first fields) (λ t. behind_mark t.0 t.1) x read in
+    let r = bind_some (number_of_first t.0.1) (λ r. behind_release t.0.0 r.0 r.1) x t.2 in
+    let c = bind_some (number_of_first r.0.1) (λ c. behind_work t.0.0 r.0.0 c.0 c.1) x r.2 in
+    let d = bind_some (number_of_first c.0.1) (λ d. behind_deadline t.0.0 r.0.0 c.0.0 d.0 d.1) x c.2 in
+    let v = bind_some (number_of_first d.0.1) (λ v. behind_value t.0.0 r.0.0 c.0.0 d.0.0 v.0 v.1) x d.2 in
     let cause = bind_some (last_word v.0.1) (λ cause. Some (Refused t.0.0 r.0.0 c.0.0 d.0.0 v.0.0 cause)) x v.2 in
     let mark = first_from fields t.0 t.1 in
     let release = first_from t.0.1 r.0 r.1 in
@@ -325,8 +331,8 @@ refused_from fields x read =
     })
 
 -- a number is read
-first_ok : (n : ℕ) (fields : List (List ℕ)) → n < 10 ^ 18 → first_number (decimal n ∷ fields) ≡ Some (n, fields)
-first_ok n fields short = ap (λ o. o >>= λ m. let g : ℕ × List (List ℕ) = (m, fields) in Some g) (numeral-decimal n short)
+first_ok : (n : ℕ) (fields : List (List ℕ)) → n < 10 ^ 18 → number_of_first (decimal n ∷ fields) ≡ Some (n, fields)
+first_ok n fields short = ap (option_map (λ m. let g : ℕ × List (List ℕ) = (m, fields) in g)) (numeral-decimal n short)
 
 -- the word of a refusal stands for it
 word_named : (cause : Refusal) → verdict.refusal_of_word (refusal_word cause) ≡ Some cause

@@ -6,8 +6,9 @@ use Rattle.dover_model.specs.declared.events.Event.{Event}
 use Rattle.dover_model.specs.declared.events.Event.TheVariants.{Release, Run, Preempt, Take, Complete, Abandon, End}
 use Rattle.dover_model.specs.declared.events.Refusal.{Refusal}
 use Rattle.dover_model.specs.JobFacts.{JobFacts, is_job, job_of_numbers}
-use Rattle.dover_model.specs.Numerals.{numeral, numerals}
+use Rattle.dover_model.specs.Numerals.{numerals}
 use Rattle.dover_model.specs.Verdict.{refusal_of_word}
+use Rattle.line_text.specs.Reading.{number_of_first}
 use Rattle.trace_format.specs.declared.lines.TraceLine.{TraceLine}
 use Rattle.trace_format.specs.declared.lines.TraceLine.TheVariants.{Header, Step, Refused}
 use Rattle.trace_format.specs.Form.{last_number}
@@ -86,11 +87,6 @@ header_of _ = None
 abbrev pub line_of_word : List ℕ → List ℕ → Option TraceLine
 line_of_word word ns = if bytes_eq word (codes "dover") then header_of ns else option_map Step (step_of_word word ns)
 
--- the number of the first field, and the fields behind it
-abbrev pub first_number : List (List ℕ) → Option (ℕ × List (List ℕ))
-first_number [] = None
-first_number (field ∷ fields) = numeral field >>= λ n. Some (n, fields)
-
 -- the refusal that one field is the word of
 abbrev pub last_word : List (List ℕ) → Option Refusal
 last_word (word ∷ []) = refusal_of_word word
@@ -98,8 +94,8 @@ last_word _ = None
 
 -- the refused line of five numbers and a word
 unfoldable pub refused_of : List (List ℕ) → Option TraceLine
-refused_of fields = first_number fields >>= λ t. first_number t.1 >>= λ r. first_number r.1 >>= λ c. first_number c.1 >>= λ d.
-    first_number d.1 >>= λ v. last_word v.1 >>= λ cause. Some (Refused t.0 r.0 c.0 d.0 v.0 cause)
+refused_of fields = number_of_first fields >>= λ t. number_of_first t.1 >>= λ r. number_of_first r.1 >>= λ c. number_of_first c.1 >>= λ d.
+    number_of_first d.1 >>= λ v. last_word v.1 >>= λ cause. Some (Refused t.0 r.0 c.0 d.0 v.0 cause)
 
 -- the line of these fields
 abbrev pub line_of_fields : List (List ℕ) → Option TraceLine

@@ -2,7 +2,7 @@
 ghost use Rattle.std.specs.Prelude.{◌≡◌, Ok, IfOk, option_map};
 ghost use Rattle.dover_model.specs.Verdict as verdict;
 ghost use Rattle.dover_model.specs.Lines.{fields_of};
-ghost use Rattle.line_text.specs.Reading.{fields_left};
+ghost use Rattle.line_text.specs.Reading.{fields_left, number_of_first};
 ghost use Rattle.trace_format.specs.declared.lines.TraceLine.{TraceLine};
 ghost use Rattle.trace_format.specs.Form.{HasForm, trace_text, item_in, rules_in};
 ghost use Rattle.trace_format.specs.Reading as model;
@@ -10,7 +10,7 @@ ghost use Rattle.trace_format.specs.Reading as model;
 use crate::lines::TraceLine;
 use crate::steps::step_of_word;
 use dover_model::Refusal;
-use line_text::{BadLine, cut_field, numeral, read_numbers};
+use line_text::{BadLine, cut_field, first_number, read_numbers};
 
 fn header_of(numbers: &[u64]) -> Option<TraceLine>
     ensures { result ≡ model.header_of numbers.now }
@@ -38,13 +38,11 @@ fn line_of_word(word: &[u8], numbers: &[u64]) -> Option<TraceLine>
     }
 }
 
-/// The number of the first field, and what is left behind it.
-fn first_number(fields: Option<&[u8]>) -> Option<(u64, Option<&[u8]>)>
-    ensures { option_map (λ f. (f.0, fields_left f.1)) result ≡ model.first_number (fields_left fields.entry) }
+/// The number that the first field left spells, and what is left behind it.
+fn next_number(fields: Option<&[u8]>) -> Option<(u64, Option<&[u8]>)>
+    ensures { option_map (λ f. (f.0, fields_left f.1)) result ≡ number_of_first (fields_left fields.entry) }
 {
-    let (field, rest) = cut_field(fields?);
-    let number = numeral(field)?;
-    Some((number, rest))
+    first_number(fields?)
 }
 
 /// The refusal that a word stands for.
@@ -79,11 +77,11 @@ fn last_word(fields: Option<&[u8]>) -> Option<Refusal>
 fn refused_of(fields: Option<&[u8]>) -> Option<TraceLine>
     ensures { result ≡ model.refused_of (fields_left fields.entry) }
 {
-    let (at, rest) = first_number(fields)?;
-    let (release, rest) = first_number(rest)?;
-    let (work, rest) = first_number(rest)?;
-    let (deadline, rest) = first_number(rest)?;
-    let (value, rest) = first_number(rest)?;
+    let (at, rest) = next_number(fields)?;
+    let (release, rest) = next_number(rest)?;
+    let (work, rest) = next_number(rest)?;
+    let (deadline, rest) = next_number(rest)?;
+    let (value, rest) = next_number(rest)?;
     let cause = last_word(rest)?;
     Some(TraceLine::Refused {
         at,
