@@ -97,14 +97,14 @@ impl Lines {
         &self.bytes[..self.used]
     }
 
-    /// How many lines are whole so far. It stops at the greatest number.
+    /// How many lines are whole so far. The count stops at the greatest number.
     pub fn count(&self) -> u64
         ensures { result ≡ self.now.count }
     {
         self.count
     }
 
-    /// How many bytes came since the last line feed.
+    /// How many bytes came since the last line feed, 129 at most.
     pub fn rest(&self) -> usize
         ensures { result ≡ length (begun_line self.now) }
     {

@@ -1,7 +1,6 @@
-use Rattle.std.proofs.Common.{◌≡◌, ℕ, ◌+◌, ◌<◌, List, ◌∷◌, length, get_or, take, drop, take_all, true, sym, ap, ◌∙◌, subst, eqb-true, ne_eqb, arith}
+use Rattle.std.proofs.Common.{◌≡◌, ℕ, ◌<◌, List, length, take, take_all, true, sym, ap, ◌∙◌, ne_eqb, arith}
 use Rattle.std.specs.Str.{all_ascii_digits}
 use Rattle.std.proofs.lemmas.List.{take_rest, length-take-le}
-use Rattle.dover_model.specs.Lines.{fields_of}
 use Rattle.dover_model.specs.Numerals.{number_onto}
 use Rattle.line_text.proofs.FirstNumber.{digits_many, digits_end, digits_space, digits_other, digits_read}
 use Rattle.line_text.proofs.numerals.number_in_front.Goals as goal
