@@ -307,6 +307,13 @@ pub record RefusedBy (fields : List (List ℕ)) (x : TraceLine) : Type 0 where
   pub text : trace_text x ≡ line_of (codes "refuse" ∷ fields)
   pub form : HasForm x
 
+-- these fields make up the line of what was read of them
+refused_made : (fields : List (List ℕ)) (x : TraceLine) (t r c d v : ℕ) (cause : Refusal)
+    → fields ≡ decimal t ∷ decimal r ∷ decimal c ∷ decimal d ∷ decimal v ∷ refusal_word cause ∷ [] → AreShort (t ∷ r ∷ c ∷ d ∷ v ∷ [])
+    → Some (Refused t r c d v cause) ≡ Some x → RefusedBy fields x
+refused_made fields x t r c d v cause whole short made = subst (RefusedBy fields) (some_same _ _ made)
+    (record { text = ap (λ fs. line_of (codes "refuse" ∷ fs)) (sym whole); form = short })
+
 -- a refused line
 refused_from : (fields : List (List ℕ)) (x : TraceLine) → refused_of fields ≡ Some x → RefusedBy fields x
 unfolding refused_of
@@ -322,13 +329,9 @@ refused_from fields x read =
     let work = first_from r.0.1 c.0 c.1 in
     let deadline = first_from c.0.1 d.0 d.1 in
     let value = first_from d.0.1 v.0 v.1 in
-    let whole : fields ≡ decimal t.0.0 ∷ decimal r.0.0 ∷ decimal c.0.0 ∷ decimal d.0.0 ∷ decimal v.0.0 ∷ refusal_word cause.0 ∷ [] =
-    joined (decimal t.0.0) (decimal r.0.0) (decimal c.0.0) (decimal d.0.0) (decimal v.0.0) mark.0 release.0 work.0 deadline.0 value.0
-    (last_from v.0.1 cause.0 cause.1) in
-    subst (RefusedBy fields) (some_same _ _ cause.2) (record {
-      text = ap (λ fs. line_of (codes "refuse" ∷ fs)) (sym whole);
-      form = (mark.1, (release.1, (work.1, (deadline.1, (value.1, tt)))));
-    })
+    refused_made fields x t.0.0 r.0.0 c.0.0 d.0.0 v.0.0 cause.0
+    (joined (decimal t.0.0) (decimal r.0.0) (decimal c.0.0) (decimal d.0.0) (decimal v.0.0) mark.0 release.0 work.0 deadline.0 value.0
+    (last_from v.0.1 cause.0 cause.1)) (mark.1, (release.1, (work.1, (deadline.1, (value.1, tt))))) cause.2
 
 -- a number is read
 first_ok : (n : ℕ) (fields : List (List ℕ)) → n < 10 ^ 18 → number_of_first (decimal n ∷ fields) ≡ Some (n, fields)
