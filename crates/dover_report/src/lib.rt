@@ -2,7 +2,13 @@
 #![tactic(auto)]
 
 mod counts;
+mod endings;
 mod lines;
 mod report;
+mod rows;
 
 pub use report::{summary, text};
+pub use rows::table;
+
+#[cfg(test)]
+mod tests;
