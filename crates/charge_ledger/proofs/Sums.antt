@@ -41,18 +41,6 @@ module _ (p : Task → Bool) (f : JobFacts → ℕ) (tasks : List Task) where
       ap (λ c. cond c (f r.job) 0) after,
     )
 
-    -- after several have, of which one alone ceases to pass or begins to
-    pub turned_among : (g : Task → Role) (a b : Bool) → p r ≡ a → p (with_role r (g r)) ≡ b → EachOther r (λ t. p (with_role t (g t)) ≡ p t) tasks
-        → sum_of p f (with_roles g tasks) + cond a (f r.job) 0 ≡ sum_of p f tasks + cond b (f r.job) 0
-    turned_among g a b before after others = omega (
-      arith,
-      sum_map (λ t. with_role t (g t)) (λ t. cond (p t) (f t.job) 0) tasks,
-      sum_one (λ t. cond (p (with_role t (g t))) (f t.job) 0) (λ t. cond (p t) (f t.job) 0) (cond a (f r.job) 0) (cond b (f r.job) 0) 0 tasks r
-          numbered member
-          (ap (λ c. cond c (f r.job) 0 + cond a (f r.job) 0) after ∙ ap (λ c. cond b (f r.job) 0 + cond c (f r.job) 0) (sym before) ∙ omega arith)
-          (λ t m differs. ap (λ c. cond c (f t.job) 0) (others t m differs)),
-    )
-
     -- a job that passes counts
     pub counts : p r ≡ true → f r.job ≤ sum_of p f tasks
     counts passes = omega (arith, term_le_sum (λ t. cond (p t) (f t.job) 0) tasks r member, ap (λ c. cond c (f r.job) 0) passes)

@@ -1,9 +1,8 @@
 -- Counts among the printed steps of a run are those of its report.
-use Rattle.std.proofs.Common.{◌≡◌, ℕ, suc, ◌+◌, ◌≤◌, ◌<◌, List, [], ◌∷◌, ◌++◌, length, map, take, get_or, refl, sym, ap, ◌∙◌, cond, arith, append_assoc}
+use Rattle.std.proofs.Common.{◌≡◌, ℕ, ◌+◌, ◌≤◌, ◌<◌, List, [], ◌∷◌, ◌++◌, length, map, take, get_or, refl, sym, ap, ◌∙◌, cond, arith, append_assoc}
 use Rattle.std.proofs.lemmas.List.{length-take}
-use Rattle.std.specs.Prelude.{Option, Some, None, option_to_list, slice_get, codes}
+use Rattle.std.specs.Prelude.{Option, Some, None, option_to_list, codes}
 use Rattle.std.specs.List.{filter_map, sum_by, count_by, cons_option, enumerate_from}
-use Rattle.std.specs.Option.{option_map_or}
 use Rattle.std.proofs.lemmas.List.{take_more}
 use Rattle.std.proofs.lemmas.List.Sums.{sum_by-cons}
 use Rattle.std.proofs.lemmas.List.Elements.{filter_map-append}
@@ -13,13 +12,13 @@ use Rattle.dover_model.specs.declared.events.Event.TheVariants.{Release, Run, Pr
 use Rattle.dover_model.specs.Fraction.{Fraction}
 use Rattle.dover_model.specs.JobFacts.{JobFacts}
 use Rattle.dover_model.specs.Instance.{Instance, IsValid}
-use Rattle.dover_model.specs.Session.{JobItem, instance_of, admitted_jobs}
+use Rattle.dover_model.specs.Session.{JobItem, admitted_jobs}
 use Rattle.dover_model.specs.Trace.{Printed, places_after, put_in, session_of}
 use Rattle.dover_model.specs.Run.{printed, completed_value}
 use Rattle.dover_model.specs.Intervals as model
 use Rattle.dover_model.specs.Bound.{bound}
 use Rattle.dover_model.specs.Lines.{with_numbers, in_lines}
-use Rattle.dover_model.specs.Reports.{Fate, fate_of_event, fates, is_completed, abandoned_number, abandoned_numbers, value_of_job, abandoned_value, is_take}
+use Rattle.dover_model.specs.Reports.{fate_of_event, is_completed, abandoned_number, is_take}
 use Rattle.dover_model.specs.Reports.{Completed, Abandoned, summary_lines, interval_line, report}
 use Rattle.dover_model.proofs.TraceLines.{item_of_line}
 use Rattle.dover_model.proofs.Ending.{few_printed}
@@ -30,7 +29,8 @@ use Rattle.dover_model.proofs.JobSessions.{jobs_back, instance_back, session_of_
 use Rattle.dover_model.proofs.Walks.{session_names}
 use Rattle.charge_ledger.specs.Rows.{IsRunOf, numbers_of, rows_of}
 use Rattle.charge_ledger.specs.declared.interval.Interval.{Interval}
-use Rattle.dover_report.specs.Counts.{job_released, jobs_released, is_completion, is_abandonment, value_in, value_lost, all_lost, counts_of, counts_lines}
+use Rattle.dover_report.specs.Counts.{job_released, jobs_released, is_completion, is_abandonment, value_in, value_lost, all_lost}
+use Rattle.dover_report.specs.Counts.{counts_of, counts_lines}
 use Rattle.dover_report.specs.Lines.{row_line, row_lines}
 
 -- ---- the jobs
@@ -71,7 +71,8 @@ releases_are J valid = sym (jobs_back (releases (printed J)))
           let lines : put_in (places_after J.rules [] (map JobItem J.jobs)) 0 (printed J) ≡ map Printed (printed J) =
           ap (λ places. put_in places 0 (printed J)) (no_places J [] J.jobs) in
           ap (filter_map item_of_line) (sym lines)
-          ∙ ap (λ (K : Instance). filter_map item_of_line (put_in (places_after J.rules [] (map JobItem J.jobs)) 0 (printed K))) (sym (instance_back J))
+          ∙ ap (λ (K : Instance). filter_map item_of_line (put_in (places_after J.rules [] (map JobItem J.jobs)) 0 (printed K)))
+          (sym (instance_back J))
           ∙ session_names (session_of J) (session_of_valid J valid)
 
 -- ---- counts
@@ -83,10 +84,18 @@ completions (Release n job ∷ run) = omega (arith, sum_by-cons (λ e. cond (is_
 completions (Run at n ∷ run) = omega (arith, sum_by-cons (λ e. cond (is_completion e) 1 0) (Run at n) run, completions run)
 completions (Preempt at r n ∷ run) = omega (arith, sum_by-cons (λ e. cond (is_completion e) 1 0) (Preempt at r n) run, completions run)
 completions (Take at r n ∷ run) = omega (arith, sum_by-cons (λ e. cond (is_completion e) 1 0) (Take at r n) run, completions run)
-completions (Complete at n ∷ run) = omega (arith, sum_by-cons (λ e. cond (is_completion e) 1 0) (Complete at n) run,
-    sum_by-cons (λ f. cond (is_completed f) 1 0) (Completed n at) (filter_map fate_of_event run), completions run)
-completions (Abandon at n ∷ run) = omega (arith, sum_by-cons (λ e. cond (is_completion e) 1 0) (Abandon at n) run,
-    sum_by-cons (λ f. cond (is_completed f) 1 0) (Abandoned n at) (filter_map fate_of_event run), completions run)
+completions (Complete at n ∷ run) = omega (
+  arith,
+  sum_by-cons (λ e. cond (is_completion e) 1 0) (Complete at n) run,
+  sum_by-cons (λ f. cond (is_completed f) 1 0) (Completed n at) (filter_map fate_of_event run),
+  completions run,
+)
+completions (Abandon at n ∷ run) = omega (
+  arith,
+  sum_by-cons (λ e. cond (is_completion e) 1 0) (Abandon at n) run,
+  sum_by-cons (λ f. cond (is_completed f) 1 0) (Abandoned n at) (filter_map fate_of_event run),
+  completions run,
+)
 completions (End value ∷ run) = omega (arith, sum_by-cons (λ e. cond (is_completion e) 1 0) (End value) run, completions run)
 
 -- the numbers of the jobs that are gone
@@ -112,8 +121,12 @@ losses jobs (Run at n ∷ run) = omega (arith, sum_by-cons (value_lost jobs) (Ru
 losses jobs (Preempt at r n ∷ run) = omega (arith, sum_by-cons (value_lost jobs) (Preempt at r n) run, losses jobs run)
 losses jobs (Take at r n ∷ run) = omega (arith, sum_by-cons (value_lost jobs) (Take at r n) run, losses jobs run)
 losses jobs (Complete at n ∷ run) = omega (arith, sum_by-cons (value_lost jobs) (Complete at n) run, losses jobs run)
-losses jobs (Abandon at n ∷ run) = omega (arith, sum_by-cons (value_lost jobs) (Abandon at n) run, sum_by-cons (value_in jobs) n (gone run),
-    losses jobs run)
+losses jobs (Abandon at n ∷ run) = omega (
+  arith,
+  sum_by-cons (value_lost jobs) (Abandon at n) run,
+  sum_by-cons (value_in jobs) n (gone run),
+  losses jobs run,
+)
 losses jobs (End value ∷ run) = omega (arith, sum_by-cons (value_lost jobs) (End value) run, losses jobs run)
 
 -- ---- lines
@@ -170,10 +183,12 @@ module _ (k : Fraction) (run : List Event) (J : Instance) (of : IsRunOf k run J)
 
   -- the report, put together
   pub report_is : (jobs : List JobFacts) (value : ℕ) (rows : List Interval) → jobs ≡ jobs_released run → value ≡ completed_value J → rows ≡ rows_of J
-      → (in_lines (with_numbers (codes "ratio") (k.p ∷ k.q ∷ []) ∷ []) ++ in_lines (counts_lines (counts_of k run jobs value))) ++ in_lines (row_lines rows)
+      → (in_lines (with_numbers (codes "ratio") (k.p ∷ k.q ∷ []) ∷ []) ++ in_lines (counts_lines (counts_of k run jobs value))) ++ in_lines
+      (row_lines rows)
       ≡ report J
   report_is jobs value rows same worth all =
-      append_assoc (in_lines (with_numbers (codes "ratio") (k.p ∷ k.q ∷ []) ∷ [])) (in_lines (counts_lines (counts_of k run jobs value))) (in_lines (row_lines rows))
+      append_assoc (in_lines (with_numbers (codes "ratio") (k.p ∷ k.q ∷ []) ∷ [])) (in_lines (counts_lines (counts_of k run jobs value)))
+      (in_lines (row_lines rows))
       ∙ ap (λ x. in_lines (with_numbers (codes "ratio") (k.p ∷ k.q ∷ []) ∷ []) ++ x)
       (sym (flat_map-append (λ (l : List ℕ). l ++ 10 ∷ []) (counts_lines (counts_of k run jobs value)) (row_lines rows)))
       ∙ sym (flat_map-append (λ (l : List ℕ). l ++ 10 ∷ []) (with_numbers (codes "ratio") (k.p ∷ k.q ∷ []) ∷ [])
@@ -181,7 +196,8 @@ module _ (k : Fraction) (run : List Event) (J : Instance) (of : IsRunOf k run J)
       ∙ ap (λ ls. in_lines (with_numbers (codes "ratio") (k.p ∷ k.q ∷ []) ∷ ls ++ row_lines rows)) (summary_is jobs value same worth)
       ∙ ap (λ ls. in_lines (with_numbers (codes "ratio") (k.p ∷ k.q ∷ []) ∷ summary_lines J ++ ls))
       (ap row_lines all ∙ rows_lines 1 (model.intervals J))
-      ∙ ap (λ (r : Fraction). in_lines (with_numbers (codes "ratio") (r.p ∷ r.q ∷ []) ∷ summary_lines J ++ map interval_line (enumerate_from 1 (model.intervals J))))
+      ∙ ap (λ (r : Fraction). in_lines (with_numbers (codes "ratio") (r.p ∷ r.q ∷ []) ∷ summary_lines J ++ map interval_line
+      (enumerate_from 1 (model.intervals J))))
       (sym of.ratio)
 
   -- the steps are few

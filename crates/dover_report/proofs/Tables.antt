@@ -1,88 +1,22 @@
 -- The table of a run, put together row by row.
-use Rattle.std.proofs.Common.{◌≡◌, ℕ, ◌+◌, ◌≤◌, ◌<◌, List, [], ◌∷◌, ◌++◌, length, map, take, drop, set, get_or, refl, sym, ap, ◌∙◌, subst, Bool, true, false, cond, arith}
-use Rattle.std.proofs.Common.{length-set, get_or-set_other, append_assoc, append-nil}
-use Rattle.std.specs.Prelude.{Option, Some, None, ◌==◌, nat_lt, codes, decimal}
+use Rattle.std.proofs.Common.{◌≡◌, ℕ, ◌+◌, ◌<◌, List, [], ◌∷◌, ◌++◌, length, map, take, get_or, refl, sym, ap, ◌∙◌, arith}
+use Rattle.std.proofs.Common.{append_assoc, append-nil}
+use Rattle.std.specs.Prelude.{Option, Some, None, ◌==◌, codes, decimal}
 use Rattle.std.specs.List.{filter_map, find, enumerate_from, join_with_byte}
 use Rattle.std.specs.Option.{option_map}
-use Rattle.std.proofs.lemmas.Bool.{eqb-true, eqb-false, ltb-true, ltb-false, eq-eqb, ne_eqb}
-use Rattle.std.proofs.lemmas.List.{get_or-set_same, take_more, drop_all, length-take-le}
+use Rattle.std.proofs.lemmas.List.{take_more, length-take-le}
 use Rattle.std.proofs.lemmas.List.Concat.{flat_map-append}
 use Rattle.dover_model.specs.declared.events.Event.{Event}
-use Rattle.dover_model.specs.declared.events.Event.TheVariants.{Release, Run, Preempt, Take, Complete, Abandon, End}
 use Rattle.dover_model.specs.Fraction.{Fraction}
 use Rattle.dover_model.specs.JobFacts.{JobFacts, job_numbers}
 use Rattle.dover_model.specs.Instance.{Instance}
-use Rattle.dover_model.specs.Run.{printed}
 use Rattle.dover_model.specs.Lines.{in_lines}
 use Rattle.dover_model.specs.Reports as model
-use Rattle.dover_model.proofs.Members.{by_bool}
 use Rattle.charge_ledger.specs.Rows.{IsRunOf}
-use Rattle.charge_ledger.proofs.Charges.{item_next}
 use Rattle.dover_report.specs.declared.endings.Ending.{Ending}
-use Rattle.dover_report.specs.declared.endings.Ending.TheVariants.{Completed, Abandoned}
 use Rattle.dover_report.specs.Counts.{jobs_released}
-use Rattle.dover_report.specs.Rows.{ending_of, ending_in, with_ending, with_step, ending_fields, after_commas, row_text, rows_from}
+use Rattle.dover_report.specs.Rows.{ending_of, ending_in, ending_fields, after_commas, row_text, rows_from}
 use Rattle.dover_report.proofs.Counting.{jobs_are}
-
--- ---- endings
-
--- there are as many endings
-as_many : (ends : List (Option Ending)) (m : ℕ) (x : Ending) → length (with_ending ends m x) ≡ length ends
-as_many ends m x = by_bool _ (nat_lt m (length ends))
-    (λ e. ap (λ b. length (cond b (set ends m (Some x)) ends)) e ∙ length-set ends m (Some x))
-    (λ e. ap (λ b. length (cond b (set ends m (Some x)) ends)) e)
-
--- the ending at a number
-at_number : (ends : List (Option Ending)) (m : ℕ) (x : Ending) (n : ℕ) → n < length ends
-    → get_or (with_ending ends m x) n None ≡ cond (m == n) (Some x) (get_or ends n None)
-at_number ends m x n there = by_bool _ (nat_lt m (length ends))
-    (λ e. ap (λ b. get_or (cond b (set ends m (Some x)) ends) n None) e
-    ∙ by_bool _ (m == n)
-    (λ same. ap (λ k. get_or (set ends k (Some x)) n None) (eqb-true _ _ same) ∙ get_or-set_same ends n (Some x) None there
-    ∙ ap (λ b. cond b (Some x) (get_or ends n None)) (sym same))
-    (λ apart. get_or-set_other ends m n (Some x) None (λ same. eqb-false _ _ apart (sym same)) ∙ ap (λ b. cond b (Some x) (get_or ends n None)) (sym apart)))
-    (λ e. let past : length ends ≤ m = ltb-false _ _ e in
-    ap (λ b. get_or (cond b (set ends m (Some x)) ends) n None) e
-    ∙ ap (λ b. cond b (Some x) (get_or ends n None)) (sym (ne_eqb m n (λ same. omega arith))))
-
--- a found fate, and its ending
-found_ending : (b : Bool) (fate : model.Fate) (more : Option model.Fate)
-    → option_map ending_of (cond b (Some fate) more) ≡ cond b (Some (ending_of fate)) (option_map ending_of more)
-found_ending true fate more = refl
-found_ending false fate more = refl
-
--- what holds of each number after an earlier step
-step_each : (ends : List (Option Ending)) (rest : List Event) (e : Event) → ((n : ℕ) → n < length ends → get_or ends n None ≡ ending_in rest n)
-    → (n : ℕ) → n < length ends → get_or (with_step ends e) n None ≡ ending_in (e ∷ rest) n
-step_each ends rest (Release m job) each n there = each n there
-step_each ends rest (Run at m) each n there = each n there
-step_each ends rest (Preempt at r m) each n there = each n there
-step_each ends rest (Take at r m) each n there = each n there
-step_each ends rest (Complete at m) each n there = at_number ends m (Completed at) n there ∙ ap (cond (m == n) (Some (Completed at))) (each n there)
-    ∙ sym (found_ending (m == n) (model.Completed m at) (find (λ fate. model.number_of fate == n) (filter_map model.fate_of_event rest)))
-step_each ends rest (Abandon at m) each n there = at_number ends m (Abandoned at) n there ∙ ap (cond (m == n) (Some (Abandoned at))) (each n there)
-    ∙ sym (found_ending (m == n) (model.Abandoned m at) (find (λ fate. model.number_of fate == n) (filter_map model.fate_of_event rest)))
-step_each ends rest (End value) each n there = each n there
-
--- and how many there are
-pub step_count : (ends : List (Option Ending)) (e : Event) → length (with_step ends e) ≡ length ends
-step_count ends (Release m job) = refl
-step_count ends (Run at m) = refl
-step_count ends (Preempt at r m) = refl
-step_count ends (Take at r m) = refl
-step_count ends (Complete at m) = as_many ends m (Completed at)
-step_count ends (Abandon at m) = as_many ends m (Abandoned at)
-step_count ends (End value) = refl
-
--- an earlier step is read
-pub earlier_step : (run : List Event) (i : ℕ) (e : Event) (ends : List (Option Ending)) (count : ℕ) → e ≡ get_or run i e → i < length run
-    → length ends ≡ count → ((n : ℕ) → n < count → get_or ends n None ≡ ending_in (drop (i + 1) run) n)
-    → (n : ℕ) → n < count → get_or (with_step ends e) n None ≡ ending_in (drop i run) n
-earlier_step run i e ends count is there same each n below =
-    step_each ends (drop (i + 1) run) e (λ m low. each m (omega (arith, same))) n (omega (arith, same))
-    ∙ ap (λ es. ending_in es n) (sym (item_next run i e is there))
-
--- ---- rows
 
 -- fields that are joined by commas
 joined_fields : (first : List ℕ) (fields : List (List ℕ)) → join_with_byte 44 (first ∷ fields) ≡ first ++ after_commas fields

@@ -1,8 +1,7 @@
 -- Lines of words and numbers, put together piece by piece.
-use Rattle.std.proofs.Common.{◌≡◌, ℕ, ◌+◌, ◌≤◌, ◌<◌, List, [], ◌∷◌, ◌++◌, length, map, take, get_or, refl, sym, ap, ◌∙◌, arith, append_assoc, append-nil}
+use Rattle.std.proofs.Common.{◌≡◌, ℕ, List, [], ◌∷◌, ◌++◌, map, sym, ap, ◌∙◌, append_assoc, append-nil}
 use Rattle.std.specs.Prelude.{decimal}
 use Rattle.std.specs.List.{flat_map, join_with_byte}
-use Rattle.std.proofs.lemmas.List.Concat.{flat_map-append}
 use Rattle.dover_model.specs.Lines.{with_numbers, in_lines}
 
 -- the numbers, each behind this byte
@@ -20,5 +19,6 @@ one_line line = append-nil (line ++ 10 ∷ [])
 
 -- the line of a word and numbers, put together
 pub line_is : (text word numbers : List ℕ) → ((text ++ word) ++ behind 32 numbers) ++ 10 ∷ [] ≡ text ++ in_lines (with_numbers word numbers ∷ [])
-line_is text word numbers = ap (λ x. x ++ 10 ∷ []) (append_assoc text word (behind 32 numbers)) ∙ append_assoc text (word ++ behind 32 numbers) (10 ∷ [])
+line_is text word numbers = ap (λ x. x ++ 10 ∷ []) (append_assoc text word (behind 32 numbers))
+    ∙ append_assoc text (word ++ behind 32 numbers) (10 ∷ [])
     ∙ ap (λ x. text ++ (x ++ 10 ∷ [])) (sym (joined 32 word numbers)) ∙ ap (λ x. text ++ x) (sym (one_line (with_numbers word numbers)))

@@ -1,11 +1,10 @@
 -- The rows of a table: a job, and how it ended.
-use Rattle.std.specs.Prelude.{ℕ, List, [], ◌∷◌, ◌++◌, length, map, set, Bool, ◌==◌, nat_lt, if◌then◌else◌, Option, Some, None, codes, decimal}
-use Rattle.std.specs.List.{filter_map, find, enumerate_from, flat_map, join_with_byte}
+use Rattle.std.specs.Prelude.{ℕ, List, [], ◌∷◌, ◌++◌, length, map, set, ◌==◌, nat_lt, if◌then◌else◌, Option, Some, None, codes, decimal}
+use Rattle.std.specs.List.{filter_map, find, enumerate_from, flat_map}
 use Rattle.std.specs.Option.{option_map}
 use Rattle.dover_model.specs.declared.events.Event.{Event}
 use Rattle.dover_model.specs.declared.events.Event.TheVariants.{Complete, Abandon}
 use Rattle.dover_model.specs.JobFacts.{JobFacts, job_numbers}
-use Rattle.dover_model.specs.Lines.{in_lines}
 use Rattle.dover_model.specs.Reports.{Fate, fate_of_event, number_of}
 use Rattle.dover_model.specs.Reports as model
 use Rattle.dover_report.specs.declared.endings.Ending.{Ending}

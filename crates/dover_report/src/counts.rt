@@ -62,21 +62,27 @@ fn keep_released(jobs: &mut Vec<Job>, event: &Event) -> Result<(), Memory>
 fn completed(run: &[Event]) -> usize
     ensures { result ≡ count_by is_completion run.now }
 {
-    run.iter().filter(|event| matches!(event, Event::Complete { .. })).count()
+    run.iter()
+        .filter(|event| matches!(event, Event::Complete { .. }))
+        .count()
 }
 
 /// How many jobs are gone.
 fn abandoned(run: &[Event]) -> usize
     ensures { result ≡ count_by is_abandonment run.now }
 {
-    run.iter().filter(|event| matches!(event, Event::Abandon { .. })).count()
+    run.iter()
+        .filter(|event| matches!(event, Event::Abandon { .. }))
+        .count()
 }
 
 /// How many takes there are.
 fn taken(run: &[Event]) -> usize
     ensures { result ≡ count_by is_take run.now }
 {
-    run.iter().filter(|event| matches!(event, Event::Take { .. })).count()
+    run.iter()
+        .filter(|event| matches!(event, Event::Take { .. }))
+        .count()
 }
 
 /// The value of the job of this number, 0 for none.

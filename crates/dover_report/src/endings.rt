@@ -32,7 +32,11 @@ fn put_step(ends: &mut [Option<Ending>], event: &Event)
     ensures { ends.new ≡ with_step ends.old event.now }
 {
     match event {
-        Event::Complete { at, number } => put_ending(ends, *number as usize, Ending::Completed(*at)),
+        Event::Complete { at, number } => put_ending(
+            ends,
+            *number as usize,
+            Ending::Completed(*at),
+        ),
         Event::Abandon { at, number } => put_ending(ends, *number as usize, Ending::Abandoned(*at)),
         _ => {}
     }

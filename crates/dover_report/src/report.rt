@@ -58,7 +58,19 @@ fn put_rows(text: &mut Vec<u8>, rows: &[Interval]) -> Result<(), Memory>
 {
     for (index, row) in rows.iter().enumerate() {
         let number = index as u64 + 1;
-        put_line(text, b"interval", &[number, row.from, row.until, row.regular, row.taken, row.displaced, row.abandoned])?;
+        put_line(
+            text,
+            b"interval",
+            &[
+                number,
+                row.from,
+                row.until,
+                row.regular,
+                row.taken,
+                row.displaced,
+                row.abandoned,
+            ],
+        )?;
     }
     Ok(())
 }

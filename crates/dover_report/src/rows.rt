@@ -33,7 +33,10 @@ fn put_row(text: &mut Vec<u8>, number: u64, job: &Job, ending: Option<Ending>) -
     ensures { OnOk result (text.new.items ≡ text.old.items ++ in_lines (row_text number job.now ending ∷ [])) }
 {
     put_number(text, number)?;
-    put_numbers(text, &[job.release(), job.work(), job.deadline(), job.value()])?;
+    put_numbers(
+        text,
+        &[job.release(), job.work(), job.deadline(), job.value()],
+    )?;
     put_fields(text, ending)?;
     text.push(b'\n')?;
     Ok(())

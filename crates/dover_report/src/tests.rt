@@ -1,10 +1,10 @@
-use crate::{summary, table, text};
-use dover_model::{Event, Job, Ratio};
-use std::process::Abort;
-
 ghost use Rattle.std.specs.Prelude.{◌≡◌, [], ◌∷◌};
 ghost use Rattle.dover_model.specs.declared.events.Event.TheVariants.{Release, Run, Preempt, Take, Complete, Abandon, End};
 ghost use Rattle.dover_model.specs.JobFacts.{job_of_numbers};
+
+use crate::{summary, table, text};
+use dover_model::{Event, Job, Ratio};
+use std::process::Abort;
 
 /// The ratio of these numbers.
 fn ratio(rt: &impl Abort, p: u32, q: u32) -> Ratio
@@ -29,12 +29,29 @@ fn steps(rt: &impl Abort) -> [Event; 11]
     let second = job(rt, 0, 2, 4, 2);
     let third = job(rt, 0, 12, 12, 12);
     [
-        Event::Release { number: 0, job: first },
+        Event::Release {
+            number: 0,
+            job: first,
+        },
         Event::Run { at: 0, number: 0 },
-        Event::Release { number: 1, job: second },
-        Event::Preempt { at: 0, stops: 0, starts: 1 },
-        Event::Release { number: 2, job: third },
-        Event::Take { at: 0, stops: 1, starts: 2 },
+        Event::Release {
+            number: 1,
+            job: second,
+        },
+        Event::Preempt {
+            at: 0,
+            stops: 0,
+            starts: 1,
+        },
+        Event::Release {
+            number: 2,
+            job: third,
+        },
+        Event::Take {
+            at: 0,
+            stops: 1,
+            starts: 2,
+        },
         Event::Abandon { at: 2, number: 1 },
         Event::Complete { at: 12, number: 2 },
         Event::Run { at: 12, number: 0 },
@@ -47,7 +64,8 @@ fn steps(rt: &impl Abort) -> [Event; 11]
 fn a_report_has_its_intervals(rt: HostRuntime) {
     let k = ratio(&rt, 1, 1);
     let run = steps(&rt);
-    let want = b"ratio 1 1\njobs 3\ncompleted 2 15\nabandoned 1 2\ntaken 1\nbound 60\ninterval 1 0 12 0 12 5 2\ninterval 2 12 15 3 0 0 0\n";
+    let want =
+        b"ratio 1 1\njobs 3\ncompleted 2 15\nabandoned 1 2\ntaken 1\nbound 60\ninterval 1 0 12 0 12 5 2\ninterval 2 12 15 3 0 0 0\n";
     assert!(rt; text(rt.alloc(), k, &run).expect(&rt, "memory").as_slice() == want.as_slice());
 }
 
@@ -56,7 +74,12 @@ fn a_summary_has_the_counts_alone(rt: HostRuntime) {
     let k = ratio(&rt, 1, 1);
     let run = steps(&rt);
     let want = b"jobs 3\ncompleted 2 15\nabandoned 1 2\ntaken 1\nbound 60\n";
-    assert!(rt; summary(rt.alloc(), k, &run).expect(&rt, "memory").as_slice() == want.as_slice());
+    assert!(rt;
+        summary(rt.alloc(), k, &run)
+            .expect(&rt, "memory")
+            .as_slice()
+            == want.as_slice()
+    );
 }
 
 #[test]

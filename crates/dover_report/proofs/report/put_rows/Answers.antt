@@ -1,4 +1,4 @@
-use Rattle.std.proofs.Common.{◌≡◌, ◌+◌, ◌++◌, ◌∷◌, [], take, get_or, ap, ◌∙◌, append_assoc}
+use Rattle.std.proofs.Common.{◌+◌, ◌++◌, ◌∷◌, [], take, get_or, ap, ◌∙◌, append_assoc}
 use Rattle.dover_model.specs.Lines.{in_lines}
 use Rattle.charge_ledger.specs.declared.interval.Interval.{Interval}
 use Rattle.dover_report.specs.Lines.{row_line, row_lines}

@@ -1,4 +1,4 @@
-use Rattle.std.proofs.Common.{◌≡◌, ◌++◌, ap, ◌∙◌, arith}
+use Rattle.std.proofs.Common.{◌++◌, ap, ◌∙◌, arith}
 use Rattle.dover_model.specs.Lines.{in_lines}
 use Rattle.dover_report.specs.Counts.{counts_lines}
 use Rattle.dover_report.proofs.Counting.{few_steps, value_small, summary_is}
@@ -9,7 +9,13 @@ count-requires-clause-steps c = few_steps c.args.k c.args.run.now c.requires.0 c
 
 pub count-requires-clause-total : goal.count-requires-clause-total
 count-requires-clause-total c =
-    omega (arith, c.value.ensures, c.in_ok-charge.ensures.value c.requires.0 c.requires.1, value_small c.args.k c.args.run.now c.requires.0 c.requires.1)
+    omega (
+      arith,
+      c.value.ensures,
+      c.in_ok-charge.ensures.value c.requires.0 c.requires.1,
+      value_small c.args.k c.args.run.now c.requires.0
+          c.requires.1,
+    )
 
 pub returns : goal.returns
 returns c J of = c.in_ok-put_counts.ensures ∙ ap (λ x. x ++ in_lines (counts_lines c.count.result)) c.new-text.ensures.items

@@ -1,4 +1,4 @@
-use Rattle.std.proofs.Common.{◌≡◌, ◌++◌, ◌∷◌, [], ap, ◌∙◌, arith}
+use Rattle.std.proofs.Common.{◌++◌, ◌∷◌, [], ap, ◌∙◌}
 use Rattle.std.specs.Prelude.{codes}
 use Rattle.dover_model.specs.Lines.{in_lines, with_numbers}
 use Rattle.dover_report.specs.Counts.{counts_lines}

@@ -1,4 +1,4 @@
-use Rattle.std.proofs.Common.{◌≡◌, ◌+◌, ◌++◌, ◌∷◌, [], get_or, ap, ◌∙◌, arith}
+use Rattle.std.proofs.Common.{◌≡◌, ◌++◌, ◌∷◌, [], ap, ◌∙◌, arith}
 use Rattle.std.specs.Prelude.{None, codes}
 use Rattle.std.proofs.lemmas.List.{take_all, get_or_default}
 use Rattle.dover_model.specs.Lines.{in_lines}
