@@ -1,5 +1,5 @@
 -- Sums over the tasks of a state, where some roles change.
-use Rattle.std.proofs.Common.{◌≡◌, ℕ, ◌+◌, ◌*◌, ◌≤◌, List, length, [], ◌∷◌, sym, ap, ◌∙◌, Bool, true, false, cond, arith}
+use Rattle.std.proofs.Common.{◌≡◌, ℕ, ◌+◌, ◌*◌, ◌≤◌, List, length, [], ◌∷◌, ap, ◌∙◌, Bool, true, false, cond, arith}
 use Rattle.std.specs.List.{sum_by}
 use Rattle.std.proofs.lemmas.Nat.{mul-le}
 use Rattle.std.proofs.lemmas.List.Sums.{sum_by-cons}
@@ -14,9 +14,9 @@ use Rattle.dover_model.specs.Sound.{IsMember, Each, IsNumberedFrom}
 use Rattle.dover_model.proofs.Members.{sum_map, sum_same, sum_plus, sum_le, term_le_sum}
 use Rattle.dover_model.proofs.Roles.{by_role}
 use Rattle.dover_model.proofs.Loads.{with_roles}
-use Rattle.dover_model.proofs.OneChange.{changed, EachOther}
+use Rattle.dover_model.proofs.OneChange.{changed}
 use Rattle.dover_model.proofs.Calculus.{square_order, cancel}
-use Rattle.dover_model.proofs.Booking.{sum_one, sum_changed, active_sum, is_gone}
+use Rattle.dover_model.proofs.Booking.{sum_changed, active_sum, is_gone}
 use Rattle.charge_ledger.proofs.Follows.{value_where}
 
 -- a sum over the jobs that pass
