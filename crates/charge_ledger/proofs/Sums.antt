@@ -1,5 +1,5 @@
 -- Sums over the tasks of a state, where some roles change.
-use Rattle.std.proofs.Common.{◌≡◌, ℕ, ◌+◌, ◌*◌, ◌≤◌, List, length, [], ◌∷◌, sym, ap, ◌∙◌, Bool, true, false, cond, arith}
+use Rattle.std.proofs.Common.{◌≡◌, ℕ, ◌+◌, ◌*◌, ◌≤◌, List, length, [], ◌∷◌, ap, ◌∙◌, Bool, true, false, cond, arith}
 use Rattle.std.specs.List.{sum_by}
 use Rattle.std.proofs.lemmas.Nat.{mul-le}
 use Rattle.std.proofs.lemmas.List.Sums.{sum_by-cons}
@@ -14,9 +14,9 @@ use Rattle.dover_model.specs.Sound.{IsMember, Each, IsNumberedFrom}
 use Rattle.dover_model.proofs.Members.{sum_map, sum_same, sum_plus, sum_le, term_le_sum}
 use Rattle.dover_model.proofs.Roles.{by_role}
 use Rattle.dover_model.proofs.Loads.{with_roles}
-use Rattle.dover_model.proofs.OneChange.{changed, EachOther}
+use Rattle.dover_model.proofs.OneChange.{changed}
 use Rattle.dover_model.proofs.Calculus.{square_order, cancel}
-use Rattle.dover_model.proofs.Booking.{sum_one, sum_changed, active_sum, is_gone}
+use Rattle.dover_model.proofs.Booking.{sum_changed, active_sum, is_gone}
 use Rattle.charge_ledger.proofs.Follows.{value_where}
 
 -- a sum over the jobs that pass
@@ -39,18 +39,6 @@ module _ (p : Task → Bool) (f : JobFacts → ℕ) (tasks : List Task) where
       sum_changed (λ t. cond (p t) (f t.job) 0) tasks r new numbered member,
       ap (λ c. cond c (f r.job) 0) before,
       ap (λ c. cond c (f r.job) 0) after,
-    )
-
-    -- after several have, of which one alone ceases to pass or begins to
-    pub turned_among : (g : Task → Role) (a b : Bool) → p r ≡ a → p (with_role r (g r)) ≡ b → EachOther r (λ t. p (with_role t (g t)) ≡ p t) tasks
-        → sum_of p f (with_roles g tasks) + cond a (f r.job) 0 ≡ sum_of p f tasks + cond b (f r.job) 0
-    turned_among g a b before after others = omega (
-      arith,
-      sum_map (λ t. with_role t (g t)) (λ t. cond (p t) (f t.job) 0) tasks,
-      sum_one (λ t. cond (p (with_role t (g t))) (f t.job) 0) (λ t. cond (p t) (f t.job) 0) (cond a (f r.job) 0) (cond b (f r.job) 0) 0 tasks r
-          numbered member
-          (ap (λ c. cond c (f r.job) 0 + cond a (f r.job) 0) after ∙ ap (λ c. cond b (f r.job) 0 + cond c (f r.job) 0) (sym before) ∙ omega arith)
-          (λ t m differs. ap (λ c. cond c (f t.job) 0) (others t m differs)),
     )
 
     -- a job that passes counts
