@@ -1,37 +1,15 @@
 -- Steps that lead from one state to another.
 use Rattle.std.proofs.Common.{◌≡◌, List, [], ◌∷◌, ◌++◌, refl, ap, ◌∙◌, subst}
-<<<<<<< HEAD
-use Rattle.std.specs.Prelude.{Option, Some, None}
-use Rattle.std.specs.List.{cons_option}
-use Rattle.dover_model.specs.declared.events.Event.{Event}
-=======
 use Rattle.std.specs.Prelude.{None}
 use Rattle.std.specs.List.{cons_option}
->>>>>>> ab1b432677dfbb483bc8f1923317ba1afaaa7e65
 use Rattle.dover_model.specs.Instance.{Rules}
 use Rattle.dover_model.specs.State.{State}
 use Rattle.dover_model.specs.Step.{after}
 use Rattle.dover_model.specs.Run.{Step, event_of, printed_of}
-<<<<<<< HEAD
-use Rattle.dover_core.specs.declared.horizon.Horizon.{Horizon}
-use Rattle.dover_core.specs.Leading.{step_to, MayGo, taken_to, LeadsTo, LeadsSilently}
-
--- one event before others
-cons_append : (o : Option Event) (es fs : List Event) → cons_option o (es ++ fs) ≡ cons_option o es ++ fs
-cons_append None es fs = refl
-cons_append (Some e) es fs = refl
-
--- what is printed by steps, and more steps
-pub printed_append : (xs ys : List Step) → printed_of (xs ++ ys) ≡ printed_of xs ++ printed_of ys
-printed_append [] ys = refl
-printed_append (x ∷ xs) ys = ap (cons_option (event_of x.move)) (printed_append xs ys) ∙ cons_append (event_of x.move) (printed_of xs) (printed_of ys)
-
-=======
 use Rattle.dover_model.proofs.Runs.{printed_append}
 use Rattle.dover_core.specs.declared.horizon.Horizon.{Horizon}
 use Rattle.dover_core.specs.Leading.{step_to, MayGo, taken_to, LeadsTo, LeadsSilently}
 
->>>>>>> ab1b432677dfbb483bc8f1923317ba1afaaa7e65
 module _ (to : Horizon) (rules : Rules) where
   -- steps, and more steps
   pub leads_append : (s u w : State) (xs ys : List Step) → LeadsTo to rules s xs u → LeadsTo to rules u ys w → LeadsTo to rules s (xs ++ ys) w
