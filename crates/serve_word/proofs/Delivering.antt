@@ -121,9 +121,15 @@ module _ (a b : Account) (S : Session) (kept : IsKept a) (stands : a.standing �
   -- all that is settled was put
   pub tick_all : {T E : Type 0} (x : T) → Settles {E = E} old new (Ok x) p q t v u → Delivers (Ok progress.Open) old new p q a b (Some u)
   tick_all x s = delivers_all a b S kept stands there old new p q (printed_of s.steps) (settled (instance_of S) t) tick_due progress.Open (Some u)
-      (all_settled S tick_valid a.mark t ordered v u (settled (instance_of S) a.mark) served s.steps s.path s.barrier) s.puts.all
-      (tick_stands, (S, tick_session, subst (λ m. IsServed S m u) (sym tick_mark)
-      (served_all S tick_valid a.mark t ordered v u (settled (instance_of S) a.mark) served s.steps s.path s.rules s.last s.goes_on s.barrier)))
+      (all_settled S tick_valid a.mark t ordered v u (settled (instance_of S) a.mark) served s.steps s.path s.barrier) s.puts.all (
+        tick_stands,
+        (
+          S,
+          tick_session,
+          subst (λ m. IsServed S m u) (sym tick_mark)
+              (served_all S tick_valid a.mark t ordered v u (settled (instance_of S) a.mark) served s.steps s.path s.rules s.last s.goes_on s.barrier),
+        ),
+      )
 
   -- a front of it was put
   pub tick_part : {T E : Type 0} (d : E) (server : Option Service) → Settles {T = T} old new (Err d) p q t v u
@@ -246,10 +252,16 @@ module _ (a b : Account) (S : Session) (kept : IsKept a) (stands : a.standing �
           ∙ all_settled with_job_item job_valid_after j.release j.release (omega arith) y u (settled (instance_of S) j.release) served_with s.steps
           s.path s.barrier)
           (subst (Passes old new p q) (sym (event_lines-append (printed_of first.steps) (printed_of s.steps)))
-          (passes_then old mid new p m q _ _ first.puts.all s.puts.all))
-          (job_stands, (with_job_item, job_session, subst (λ k. IsServed with_job_item k u) (sym job_mark)
-          (served_all with_job_item job_valid_after j.release j.release (omega arith) y u (settled (instance_of S) j.release) served_with s.steps
-          s.path s.rules s.last s.goes_on s.barrier)))
+          (passes_then old mid new p m q _ _ first.puts.all s.puts.all)) (
+            job_stands,
+            (
+              with_job_item,
+              job_session,
+              subst (λ k. IsServed with_job_item k u) (sym job_mark)
+                  (served_all with_job_item job_valid_after j.release j.release (omega arith) y u (settled (instance_of S) j.release) served_with s.steps
+                  s.path s.rules s.last s.goes_on s.barrier),
+            ),
+          )
 
       -- a front of it was put
       pub job_part : {U F : Type 0} (d : F) (server : Option Service) → Settles {T = U} mid new (Err d) m q j.release y u

@@ -161,9 +161,11 @@ module _ (a b c : Option (List port.Move)) (p q r : List ℕ) (v w u : Service) 
   } where
     last : is_end (Prints e) ≡ true → IsWholeRun v.rules v.state steps_next
     last end = closed_then_run v.rules so_far.steps (gives.waits.steps ++ step_at v.rules gives.before ∷ []) v.state w.state path
-        (closed_then_run v.rules gives.waits.steps (step_at v.rules gives.before ∷ []) w.state gives.before silent
-        (refl, subst (λ x. MatchBool x (no_steps ≡ no_steps) (IsWholeRun v.rules (after gives.before (step v.rules gives.before)) no_steps))
-        (sym (ap is_end prints ∙ end)) refl))
+        (closed_then_run v.rules gives.waits.steps (step_at v.rules gives.before ∷ []) w.state gives.before silent (
+          refl,
+          subst (λ x. MatchBool x (no_steps ≡ no_steps) (IsWholeRun v.rules (after gives.before (step v.rules gives.before)) no_steps))
+              (sym (ap is_end prints ∙ end)) refl,
+        ))
 
     more : is_end (Prints e) ≡ false → IsPath v.rules v.state steps_next u.state
     more on = closed_append v.rules so_far.steps (gives.waits.steps ++ step_at v.rules gives.before ∷ []) v.state w.state u.state path

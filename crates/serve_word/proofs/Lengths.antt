@@ -1,5 +1,6 @@
 -- A feed that goes on has at most so many bytes.
-use Rattle.std.proofs.Common.{◌≡◌, ◌≤◌, ◌<◌, ◌+◌, ◌*◌, ℕ, suc, zero, List, ◌∷◌, ◌++◌, [], length, refl, sym, ap, ◌∙◌, subst, Bool, true, false, cond, arith}
+use Rattle.std.proofs.Common.{◌≡◌, ◌≤◌, ◌<◌, ◌+◌, ◌*◌, ℕ, suc, zero, List, ◌∷◌, ◌++◌, [], length, refl, sym, ap, ◌∙◌, subst, Bool, true, false, cond}
+use Rattle.std.proofs.Common.{arith}
 use Rattle.std.proofs.Common.{Option, Some, None, length-append}
 use Rattle.std.specs.Prelude.{nat_lt}
 use Rattle.std.specs.List.{fold}
@@ -9,7 +10,8 @@ use Rattle.dover_model.specs.Limits.{most_lines}
 use Rattle.dover_model.specs.Lines.{cut, lines_of, whole_lines, rest_of, is_too_long, fields_of}
 use Rattle.dover_model.specs.FeedLine.{FeedLine, RatioLine, JobLine, TickLine, EndLine, feed_line, line_of_fields}
 use Rattle.dover_model.specs.Session.{Session, refused_at, is_two}
-use Rattle.dover_model.specs.Feed.{Account, Open, Ended, Faulty, Lines, Line, no_lines, is_open, next_line, read_line, with_line, with_fault, cause_of}
+use Rattle.dover_model.specs.Feed.{Account, Open, Ended, Faulty, Lines, Line, no_lines, is_open, next_line, read_line, with_line, with_fault}
+use Rattle.dover_model.specs.Feed.{cause_of}
 use Rattle.dover_model.specs.Feed.{Cause, Declared, Order, NotAdmitted, Short, with_item_in, account_of_lines}
 use Rattle.dover_model.proofs.Cuts.{CutText, is_feed, put_before, cut_feed, cut_other}
 use Rattle.dover_model.proofs.Tests.{never}
@@ -41,7 +43,8 @@ text_bytes (b ∷ x) = by_byte (is_feed b) refl (text_bytes x) where
       → length (b ∷ x) ≡ bytes_of (whole_lines (b ∷ x)) + length (rest_of (b ∷ x))
   by_byte true feed behind = let is : bytes_of (whole_lines (b ∷ x)) + length (rest_of (b ∷ x)) ≡ 1 + bytes_of (whole_lines x) + length (rest_of x) =
       ap (λ (c : CutText). bytes_of c.0 + length c.1) (cut_feed b x feed) in omega arith
-  by_byte false other behind = let is : bytes_of (whole_lines (b ∷ x)) + length (rest_of (b ∷ x)) ≡ suc (bytes_of (whole_lines x) + length (rest_of x)) =
+  by_byte false other behind =
+      let is : bytes_of (whole_lines (b ∷ x)) + length (rest_of (b ∷ x)) ≡ suc (bytes_of (whole_lines x) + length (rest_of x)) =
       ap (λ (c : CutText). bytes_of c.0 + length c.1) (cut_other b x other) ∙ before_all b (whole_lines x) (rest_of x) in omega arith
 
 -- ---- the lines of a feed that goes on

@@ -84,15 +84,21 @@ module _ (a b : Account) (k : Fraction) (version : Version) (first : a.session �
 
   -- a new server has served all that is settled
   pub header_fits : (v : Service) (spare : ℕ) → v ≡ fresh_service version k spare → StandsAt progress.Open b (Some v)
-  header_fits v spare new = (header_stands, (new_session (rules_with k version), header_session,
+  header_fits v spare new = (
+    header_stands,
+    (
+      new_session (rules_with k version),
+      header_session,
       subst (λ m. IsServed (new_session (rules_with k version)) m v) (sym no_mark) (subst (IsServed (new_session (rules_with k version)) 0) (sym new)
-      (record {
-        jobs = refl;
-        printed = subst (HasPrinted (instance_of (new_session (rules_with k version))) 0 (fresh_service version k spare).state)
-            (sym (nothing_settled (rules_with k version))) (printed_nothing (instance_of (new_session (rules_with k version))) 0);
-        last = refl;
-        goes_on = refl;
-      }))))
+          (record {
+            jobs = refl;
+            printed = subst (HasPrinted (instance_of (new_session (rules_with k version))) 0 (fresh_service version k spare).state)
+                (sym (nothing_settled (rules_with k version))) (printed_nothing (instance_of (new_session (rules_with k version))) 0);
+            last = refl;
+            goes_on = refl;
+          })),
+    ),
+  )
 
 -- ---- a refused job line
 
@@ -123,13 +129,19 @@ module _ (a b : Account) (S : Session) (kept : IsKept a) (stands : a.standing �
 
   -- the server has served the session with it
   pub refused_fits : (v : Service) → IsServed S a.mark v → StandsAt progress.Open b (Some v)
-  refused_fits v served = (refused_stands, (with_item S (RefusedItem refused), refused_session,
+  refused_fits v served = (
+    refused_stands,
+    (
+      with_item S (RefusedItem refused),
+      refused_session,
       subst (λ m. IsServed (with_item S (RefusedItem refused)) m v) (sym refused_mark) (record {
         jobs = served.jobs ∙ sym (refused_instance S refused);
         printed = subst (λ J. HasPrinted J a.mark v.state (settled J a.mark)) (sym (refused_instance S refused)) served.printed;
         last = served.last;
         goes_on = served.goes_on;
-      })))
+      }),
+    ),
+  )
 
 -- ---- a fault
 

@@ -214,7 +214,8 @@ module _ (x bytes : List ℕ) (i : ℕ) (before : i < length bytes) where
 
     -- it ends the feed
     pub piece_ended : Delivers (Ok progress.Ended) mid new q r (account (x ++ take i bytes))
-        (account ((x ++ take i bytes) ++ get_or bytes i 0 ∷ [])) server2 → Delivers (Ok progress.Ended) old new p r (account x) (account (x ++ bytes)) server2
+        (account ((x ++ take i bytes) ++ get_or bytes i 0 ∷ [])) server2
+        → Delivers (Ok progress.Ended) old new p r (account x) (account (x ++ bytes)) server2
     piece_ended second = piece_over progress.Ended second (ended_closed (account ((x ++ take i bytes) ++ get_or bytes i 0 ∷ [])) second.leaves)
 
     -- it makes the feed faulty

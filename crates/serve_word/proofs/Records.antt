@@ -11,7 +11,8 @@ use Rattle.dover_port.specs.Moves.{Move, Since, ArePuts, ins, outs, has_ended, E
 use Rattle.dover_port.specs.Moves.Move.{Got, Ended}
 use Rattle.dover_port.specs.declared.status.Status.{Status}
 use Rattle.dover_port.specs.declared.status.Status.TheVariants.{Done, No, Refused, ReadFault, WriteFault, Memory, Usage}
-use Rattle.dover_port.proofs.Made.{since_then, since_then_at, ins-append, outs-append, ins-puts, has_ended-append, has_ended-puts, EachReadFrom-append, EachReadFrom-puts}
+use Rattle.dover_port.proofs.Made.{since_then, since_then_at, ins-append, outs-append, ins-puts, has_ended-append, has_ended-puts}
+use Rattle.dover_port.proofs.Made.{EachReadFrom-append, EachReadFrom-puts}
 use Rattle.serve_word.specs.Delivered.{IsDeclared, IsFaulty}
 use Rattle.serve_word.specs.Feeding.{FeedStands}
 use Rattle.serve_word.specs.Record.{MayRead, GoesOn, Serves, Gets, TurnMakes, Finishes, short_text}
@@ -103,7 +104,8 @@ module _ (feed : Feed) (xs : List Move) (g : GoesOn feed xs) (bytes : List ℕ) 
   }
 
   -- there was no memory
-  on_no_memory : Begins (due (ins xs) ++ outs puts) (due (ins xs ++ bytes)) → IsDeclared (account (ins xs ++ bytes)) → Serves Memory (xs ++ Got bytes ∷ puts)
+  on_no_memory : Begins (due (ins xs) ++ outs puts) (due (ins xs ++ bytes)) → IsDeclared (account (ins xs ++ bytes))
+      → Serves Memory (xs ++ Got bytes ∷ puts)
   on_no_memory part declared = record {
     reads = got_reads;
     ends = record {
@@ -196,7 +198,8 @@ module _ (feed : Feed) (xs : List Move) (g : GoesOn feed xs) (puts : List Move) 
 module _ (a b c d : Option (List Move)) (feed : Feed) (run : Since a b (GoesOn feed))
     (end : (x : List ℕ) → FeedStands feed x → Since b c (λ moves. moves ≡ Ended ∷ [])) where
   -- the end of the input, and puts behind it
-  ends_with : (status : Status) (T : List ℕ → List ℕ → Type 0) → ((x : List ℕ) → FeedStands feed x → Since c d (λ made. ArePuts made × T x (outs made)))
+  ends_with : (status : Status) (T : List ℕ → List ℕ → Type 0)
+      → ((x : List ℕ) → FeedStands feed x → Since c d (λ made. ArePuts made × T x (outs made)))
       → ((xs : List Move) → GoesOn feed xs → (puts : List Move) → ArePuts puts → T (ins xs) (outs puts) → Serves status (xs ++ Ended ∷ puts))
       → Since a d (Serves status)
   ends_with status T last serves = since_then_at a b d _

@@ -56,8 +56,11 @@ module _ (a b c : Option (List Move)) (x bytes : List ℕ) (some : 0 < length by
       all : (o : Progress) → Delivers (Ok o) b mid [] q (account x) (account (x ++ bytes)) server
           → Since b c (λ made. ArePuts made × (due x ++ outs made ≡ due (x ++ bytes)))
       all o it = since_weaker b c _ _ (passes_then b mid c [] q [] (in_lines it.text) [] it.puts flushed)
-          (λ made put. (put.0, ap (λ l. due x ++ l) (sym (append-nil (outs made)) ∙ put.1 ∙ append-nil (in_lines it.text))
-          ∙ sym (due_more x (x ++ bytes) it.text it.due)))
+          (λ made put. (
+            put.0,
+            ap (λ l. due x ++ l) (sym (append-nil (outs made)) ∙ put.1 ∙ append-nil (in_lines it.text))
+                ∙ sym (due_more x (x ++ bytes) it.text it.due),
+          ))
 
       by_progress : (o : Progress) → Delivers (Ok o) b mid [] q (account x) (account (x ++ bytes)) server
           → (o ≡ progress.Open → FeedStands feed (x ++ bytes)) → Since a c (TurnMakes (turn_of o) feed x)
@@ -68,7 +71,8 @@ module _ (a b c : Option (List Move)) (x bytes : List ℕ) (some : 0 < length by
     -- a front of a text behind what was due
     front_due : (text : List (List ℕ)) → due_lines (account (x ++ bytes)) ≡ due_lines (account x) ++ text → (put : List ℕ)
         → IsProperPrefix put (in_lines text) → IsProperPrefix (due x ++ put) (due (x ++ bytes))
-    front_due text is put part = (part.0, part.1, due_more x (x ++ bytes) text is ∙ ap (λ l. due x ++ l) part.2 ∙ sym (append_assoc (due x) put part.0))
+    front_due text is put part =
+        (part.0, part.1, due_more x (x ++ bytes) text is ∙ ap (λ l. due x ++ l) part.2 ∙ sym (append_assoc (due x) put part.0))
 
     -- the buffer couldn't be emptied
     pub turn_unflushed : (over : Progress) → Delivers (Ok over) b mid [] q (account x) (account (x ++ bytes)) server → CutsShort mid c q []
@@ -78,17 +82,25 @@ module _ (a b c : Option (List Move)) (x bytes : List ℕ) (some : 0 < length by
         (λ made part. (part.0, front_due it.text it.due (outs made) (subst (IsProperPrefix (outs made)) (append-nil (in_lines it.text)) part.1))))
 
   -- a line couldn't be put
-  pub turn_unwritten : (q : List ℕ) (server : Option Service) (feed : Feed) → Delivers (Err Unwritten) b c [] q (account x) (account (x ++ bytes)) server
+  pub turn_unwritten : (q : List ℕ) (server : Option Service) (feed : Feed)
+      → Delivers (Err Unwritten) b c [] q (account x) (account (x ++ bytes)) server
       → Since a c (TurnMakes turn.Unwritten feed x)
   turn_unwritten q server feed it = gets (λ bs put. IsProperPrefix (due x ++ put) (due (x ++ bs))) _ (λ put is. is)
       (since_weaker b c _ _ it.puts (λ made part. (part.0, front_due c q server feed it.text it.due (outs made) part.1)))
 
   -- there was no memory
-  pub turn_no_memory : (q : List ℕ) (server : Option Service) (feed : Feed) → Delivers (Err NoMemory) b c [] q (account x) (account (x ++ bytes)) server
+  pub turn_no_memory : (q : List ℕ) (server : Option Service) (feed : Feed)
+      → Delivers (Err NoMemory) b c [] q (account x) (account (x ++ bytes)) server
       → Since a c (TurnMakes turn.NoMemory feed x)
   turn_no_memory q server feed it = gets (λ bs put. Begins (due x ++ put) (due (x ++ bs))) _ (λ put is. (is, it.leaves))
-      (since_weaker b c _ _ it.puts (λ made part. (part.0, (part.1.0, due_more x (x ++ bytes) it.text it.due ∙ ap (λ l. due x ++ l) part.1.1
-      ∙ sym (append_assoc (due x) (outs made) part.1.0)))))
+      (since_weaker b c _ _ it.puts (λ made part. (
+        part.0,
+        (
+          part.1.0,
+          due_more x (x ++ bytes) it.text it.due ∙ ap (λ l. due x ++ l) part.1.1
+              ∙ sym (append_assoc (due x) (outs made) part.1.0),
+        ),
+      )))
 
 -- the bytes of a read aren't none
 pub some_front : (n : ℕ) (buf : List ℕ) → (n ≡ 0 → ⊥) → n ≤ length buf → 0 < length (take n buf)

@@ -1,7 +1,7 @@
 -- What the moves of a call come to, by how it ended.
 use Rattle.std.specs.Prelude.{◌≡◌, ℕ, List, [], ◌∷◌, ◌++◌, true, false, ◌⊎◌, Option, length}
 use Rattle.dover_model.specs.Feed as feeds
-use Rattle.dover_model.specs.Feed.{ is_open, is_ended, account}
+use Rattle.dover_model.specs.Feed.{is_open, is_ended, account}
 use Rattle.dover_model.specs.Due.{due, closed, short_lines}
 use Rattle.dover_model.specs.Lines.{in_lines, whole_lines}
 use Rattle.dover_model.specs.WholeRun.{Begins}

@@ -233,7 +233,7 @@ pub(crate) fn take_line<P: Port, L: Ledger>(
     requires { (ls : List (List ℕ)) × Keeps session.old ls }
     ensures delivers { (ls : List (List ℕ)) → Keeps session.old ls →
         Delivers result (P.moves port.old) (P.moves port.new) out.old out.new (account_of_lines ls) (account_of_lines (ls ++ line.now ∷ []))
-            session.new.server }
+        session.new.server }
     ensures keeps { (ls : List (List ℕ)) → Keeps session.old ls → result ≡ Ok Open → Keeps session.new (ls ++ line.now ∷ []) }
     ensures cause { StopCause result (P.write_faults port.old) (P.write_faults port.new) (P.read_faults port.old) (P.read_faults port.new) }
 {

@@ -8,7 +8,8 @@ use Rattle.serve_word.proofs.feed.take_piece.Given as goal
 -- All is delivered for the bytes so far.
 abbrev pub invariant-loop-byte : goal.invariant-loop-byte
 invariant-loop-byte g l = record {
-  delivers : (x : List ℕ) → FeedStands l.initial.feed x → Delivers (Ok Open) (g.P.Port.moves l.initial.port) (g.P.Port.moves l.port) l.initial.out l.out
+  delivers : (x : List ℕ) → FeedStands l.initial.feed x
+      → Delivers (Ok Open) (g.P.Port.moves l.initial.port) (g.P.Port.moves l.port) l.initial.out l.out
       (account x) (account (x ++ take l.byte-index l.bytes)) l.feed.session.server;
   stands : (x : List ℕ) → FeedStands l.initial.feed x → FeedStands l.feed (x ++ take l.byte-index l.bytes);
   writes : g.P.Port.write_faults l.port ≡ g.P.Port.write_faults l.initial.port;

@@ -2,7 +2,8 @@ use Rattle.serve_word.proofs.Shorts.{short_put, short_unflushed, short_cut}
 use Rattle.serve_word.proofs.serve.refuse_short.Goals as goal
 
 pub returns-in-Err-put_fault-clause-text : goal.returns-in-Err-put_fault-clause-text
-returns-in-Err-put_fault-clause-text g c = λ x stands. short_cut c.args.feed.now x stands c.in-Err.fault (c.in-Err.ensures.answer _ stands.keeps.intake)
+returns-in-Err-put_fault-clause-text g c =
+    λ x stands. short_cut c.args.feed.now x stands c.in-Err.fault (c.in-Err.ensures.answer _ stands.keeps.intake)
     _ _ (rw c.new-out.ensures at c.in-Err-put_fault.ensures.text.part)
 
 pub returns-in-Ok-flush-clause-text : goal.returns-in-Ok-flush-clause-text

@@ -6,9 +6,12 @@ use Rattle.serve_word.proofs.Keeping.{open_next, new_fault, not_then}
 use Rattle.serve_word.proofs.session.take_line.Goals as goal
 
 pub take_fed-requires : goal.take_fed-requires
-take_fed-requires g c = let keeps = c.requires in
-    (account_of_lines keeps.0, account_of_lines (keeps.0 ++ c.args.line.now ∷ []), keeps.1.at,
-    (c.in-Ok.ensures.answer keeps.0 keeps.1.intake).1)
+take_fed-requires g c = let keeps = c.requires in (
+  account_of_lines keeps.0,
+  account_of_lines (keeps.0 ++ c.args.line.now ∷ []),
+  keeps.1.at,
+  (c.in-Ok.ensures.answer keeps.0 keeps.1.intake).1,
+)
 
 pub returns-in-Ok-clause-keeps : goal.returns-in-Ok-clause-keeps
 returns-in-Ok-clause-keeps g c = λ ls keeps is. record {

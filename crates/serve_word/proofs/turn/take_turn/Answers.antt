@@ -11,7 +11,8 @@ returns-in-Ok-flush-clause-makes g c = λ x stands. rw c.turn_of.ensures
 pub returns-in-Err-clause-makes : goal.returns-in-Err-clause-makes
 returns-in-Err-clause-makes g c = λ x stands.
     turn_unflushed _ _ _ x _ (some_front _ _ c.if-count-eq0.false c.in-Ok.ensures.bound) c.in-Ok.ensures.moved _ _ _
-    c.take_piece.new.feed c.in-Ok-take_piece.progress (rw c.requires.empty at (c.in-Ok-take_piece.ensures.delivers x stands)) c.in-Err.ensures.text.part
+    c.take_piece.new.feed c.in-Ok-take_piece.progress
+    (rw c.requires.empty at (c.in-Ok-take_piece.ensures.delivers x stands)) c.in-Err.ensures.text.part
 
 pub returns-in-Err-NoMemory-clause-makes : goal.returns-in-Err-NoMemory-clause-makes
 returns-in-Err-NoMemory-clause-makes g c = λ x stands.
