@@ -1,0 +1,272 @@
+//! `dover` over ports in memory: worked feeds in several cuts, failing calls, wrong words.
+ghost use Rattle.std.specs.Prelude.{◌≡◌, ◌<◌};
+
+use crate::dover;
+use dover_port::{MemoryPort, Status};
+use std::alloc::{AllocError, Global};
+use std::marker::Brand;
+use std::sync::ledger::{Blank, Ledger};
+use std::test::Fail;
+use step_count::Steps;
+
+/// Feeds, how each ends, and what is written for it.
+const FEEDS: [(&str, Status, &str); 37] = [
+    ("k 1 1\nend\n", Status::Done, "dover 1 1 1\nend 0\n"),
+    (
+        "k 1 1\njob 0 2 2 2\nend\n",
+        Status::Done,
+        "dover 1 1 1\njob 0 0 2 2 2\nrun 0 0\ncomplete 2 0\nend 2\n",
+    ),
+    (
+        "k 1 1\njob 0 4 10 4\njob 1 2 5 2\nend\n",
+        Status::Done,
+        "dover 1 1 1\njob 0 0 4 10 4\nrun 0 0\njob 1 1 2 5 2\npreempt 1 0 1\ncomplete 3 1\nrun 3 0\ncomplete 6 0\nend 6\n",
+    ),
+    (
+        "k 1 1\njob 0 10 10 10\njob 0 20 20 20\nend\n",
+        Status::Done,
+        "dover 1 1 1\njob 0 0 10 10 10\nrun 0 0\njob 1 0 20 20 20\nabandon 0 1\ncomplete 10 0\nend 10\n",
+    ),
+    (
+        "k 1 1\njob 0 10 10 10\njob 0 21 21 21\nend\n",
+        Status::Done,
+        "dover 1 1 1\njob 0 0 10 10 10\nrun 0 0\njob 1 0 21 21 21\ntake 0 0 1\nabandon 0 0\ncomplete 21 1\nend 21\n",
+    ),
+    (
+        "k 1 1\njob 0 3 30 3\njob 0 2 4 2\njob 0 12 12 12\nend\n",
+        Status::Done,
+        "dover 1 1 1\njob 0 0 3 30 3\nrun 0 0\njob 1 0 2 4 2\npreempt 0 0 1\njob 2 0 12 12 12\ntake 0 1 2\nabandon 2 1\ncomplete 12 2\nrun 12 0\ncomplete 15 0\nend 15\n",
+    ),
+    (
+        "k 1 1\njob 0 3 30 3\njob 0 2 4 2\njob 0 10 10 10\nend\n",
+        Status::Done,
+        "dover 1 1 1\njob 0 0 3 30 3\nrun 0 0\njob 1 0 2 4 2\npreempt 0 0 1\njob 2 0 10 10 10\nabandon 0 2\ncomplete 2 1\nrun 2 0\ncomplete 5 0\nend 5\n",
+    ),
+    (
+        "k 2 1\njob 0 10 10 10\njob 0 20 20 24\nend\n",
+        Status::Done,
+        "dover 1 2 1\njob 0 0 10 10 10\nrun 0 0\njob 1 0 20 20 24\nabandon 0 1\ncomplete 10 0\nend 10\n",
+    ),
+    (
+        "k 2 1\njob 0 10 10 10\njob 0 20 20 25\nend\n",
+        Status::Done,
+        "dover 1 2 1\njob 0 0 10 10 10\nrun 0 0\njob 1 0 20 20 25\ntake 0 0 1\nabandon 0 0\ncomplete 20 1\nend 25\n",
+    ),
+    (
+        "k 1 1\njob 0 3 10 3\njob 1 1 10 1\nend\n",
+        Status::Done,
+        "dover 1 1 1\njob 0 0 3 10 3\nrun 0 0\njob 1 1 1 10 1\ncomplete 3 0\nrun 3 1\ncomplete 4 1\nend 4\n",
+    ),
+    (
+        "k 1 1\njob 0 10 14 10\njob 1 2 5 2\njob 1 3 8 3\nend\n",
+        Status::Done,
+        "dover 1 1 1\njob 0 0 10 14 10\nrun 0 0\njob 1 1 2 5 2\npreempt 1 0 1\njob 2 1 3 8 3\ncomplete 3 1\nrun 3 0\nabandon 5 2\ncomplete 12 0\nend 12\n",
+    ),
+    (
+        "k 1 1\njob 0 10 14 10\njob 1 2 5 2\njob 1 2 8 2\nend\n",
+        Status::Done,
+        "dover 1 1 1\njob 0 0 10 14 10\nrun 0 0\njob 1 1 2 5 2\npreempt 1 0 1\njob 2 1 2 8 2\ncomplete 3 1\nrun 3 2\ncomplete 5 2\nrun 5 0\ncomplete 14 0\nend 14\n",
+    ),
+    (
+        "k 1 1\njob 0 2 2 2\njob 2 1 3 1\nend\n",
+        Status::Done,
+        "dover 1 1 1\njob 0 0 2 2 2\nrun 0 0\ncomplete 2 0\njob 1 2 1 3 1\nrun 2 1\ncomplete 3 1\nend 3\n",
+    ),
+    (
+        "k 2 1\njob 0 1 5 1\njob 0 1 5 2\njob 0 1 5 3\n",
+        Status::Refused,
+        "dover 1 2 1\njob 0 0 1 5 1\nrun 0 0\njob 1 0 1 5 2\nrefused 4 ratio\n",
+    ),
+    (
+        "k 1 1\njob 0 5 9 5\njob 0 4 10 4\njob 6 1 7 1\nend\n",
+        Status::Done,
+        "dover 1 1 1\njob 0 0 5 9 5\nrun 0 0\njob 1 0 4 10 4\ncomplete 5 0\nrun 5 1\njob 2 6 1 7 1\npreempt 6 1 2\ncomplete 7 2\nrun 7 1\ncomplete 10 1\nend 10\n",
+    ),
+    (
+        "k 1 1\njob 0 9 9 9\njob 0 3 6 3\njob 3 30 33 30\nend\n",
+        Status::Done,
+        "dover 1 1 1\njob 0 0 9 9 9\nrun 0 0\njob 1 0 3 6 3\njob 2 3 30 33 30\nabandon 3 1\ntake 3 0 2\nabandon 3 0\ncomplete 33 2\nend 30\n",
+    ),
+    (
+        "k 1 1\njob 0 1 1000000000000 1\nend\n",
+        Status::Done,
+        "dover 1 1 1\njob 0 0 1 1000000000000 1\nrun 0 0\ncomplete 1 0\nend 1\n",
+    ),
+    (
+        "k 1 1\njob 0 1 1000000000001 1\nend\n",
+        Status::Refused,
+        "dover 1 1 1\nrefused 2 job\n",
+    ),
+    (
+        "k 1 1\nxxxxxxxxxxxxxxxxxxxxxxxxxxxxxxxxxxxxxxxxxxxxxxxxxxxxxxxxxxxxxxxxxxxxxxxxxxxxxxxxxxxxxxxxxxxxxxxxxxxxxxxxxxxxxxxxxxxxxxxxxxxxxxxxx\n",
+        Status::Refused,
+        "dover 1 1 1\nrefused 2 line\n",
+    ),
+    ("job 0 1 1 1\n", Status::Refused, "refused 1 declared\n"),
+    ("k 1 2\n", Status::Refused, "refused 1 declared\n"),
+    ("k 1 1\ntick 5\ntick 4\n", Status::Refused, "dover 1 1 1\nrefused 3 order\n"),
+    ("k 1 1\njob 0 01 5 1\n", Status::Refused, "dover 1 1 1\nrefused 2 line\n"),
+    ("", Status::Refused, "refused 1 short\n"),
+    (
+        "k 1 1\njob 0 2 2 2\n",
+        Status::Refused,
+        "dover 1 1 1\njob 0 0 2 2 2\nrun 0 0\nrefused 3 short\n",
+    ),
+    ("k 1 1\nend\njunk", Status::Done, "dover 1 1 1\nend 0\n"),
+    (
+        "k 1 1\njob 0 1 1 1\njob 999999999999 1 1000000000000 1\nend\n",
+        Status::Done,
+        "dover 1 1 1\njob 0 0 1 1 1\nrun 0 0\ncomplete 1 0\njob 1 999999999999 1 1000000000000 1\nrun 999999999999 1\ncomplete 1000000000000 1\nend 2\n",
+    ),
+    (
+        "xxxxxxxxxxxxxxxxxxxxxxxxxxxxxxxxxxxxxxxxxxxxxxxxxxxxxxxxxxxxxxxxxxxxxxxxxxxxxxxxxxxxxxxxxxxxxxxxxxxxxxxxxxxxxxxxxxxxxxxxxxxxxxxxx",
+        Status::Refused,
+        "refused 1 line\n",
+    ),
+    (
+        "k 1 1 2\njob 0 3 3 3\njob 0 4 10 4\njob 0 5 10 5\nend\n",
+        Status::Done,
+        "dover 2 1 1\njob 0 0 3 3 3\nrun 0 0\njob 1 0 4 10 4\njob 2 0 5 10 5\ncomplete 3 0\nrun 3 2\nabandon 6 1\ncomplete 8 2\nend 8\n",
+    ),
+    (
+        "k 1 1 2\njob 0 10 10 10\njob 0 20 20 20\njob 0 21 21 21\nend\n",
+        Status::Done,
+        "dover 2 1 1\njob 0 0 10 10 10\nrun 0 0\njob 1 0 20 20 20\njob 2 0 21 21 21\ntake 0 0 2\nabandon 0 1\nabandon 0 0\ncomplete 21 2\nend 21\n",
+    ),
+    (
+        "k 1 1\njob 0 10 10 10\njob 0 20 20 20\njob 0 21 21 21\nend\n",
+        Status::Done,
+        "dover 1 1 1\njob 0 0 10 10 10\nrun 0 0\njob 1 0 20 20 20\njob 2 0 21 21 21\nabandon 0 1\ntake 0 0 2\nabandon 0 0\ncomplete 21 2\nend 21\n",
+    ),
+    ("k 1 1 1\n", Status::Refused, "refused 1 declared\n"),
+    ("k 1 1 3\n", Status::Refused, "refused 1 declared\n"),
+    (
+        "k 2 1 2\njob 0 1 5 1\njob 0 1 5 2\njob 0 1 5 3\njob 3 9 5 9\nend\n",
+        Status::Done,
+        "dover 2 2 1\njob 0 0 1 5 1\nrun 0 0\njob 1 0 1 5 2\nrefuse 0 0 1 5 3 ratio\nrefuse 0 3 9 5 9 job\ncomplete 1 0\nrun 1 1\ncomplete 2 1\nend 3\n",
+    ),
+    (
+        "k 1 1 2\njob 0 2 2 2\ntick 2\njob 2 5 6 5\nend\n",
+        Status::Done,
+        "dover 2 1 1\njob 0 0 2 2 2\nrun 0 0\ncomplete 2 0\nrefuse 2 2 5 6 5 job\nend 2\n",
+    ),
+    (
+        "k 1 1 2\ntick 5\njob 4 1 9 1\n",
+        Status::Refused,
+        "dover 2 1 1\nrefused 3 order\n",
+    ),
+    // a minute of frames, telemetry and alarms, by tenths of a second
+    (
+        "k 100 1\njob 0 60 90 60\njob 10 5 30 25\njob 50 5 70 25\njob 65 10 75 1000\njob 100 60 190 60\njob 110 5 130 25\njob 120 40 170 40\njob 125 5 145 25\njob 150 10 160 1000\njob 200 80 290 80\njob 210 20 230 2000\njob 215 5 235 25\njob 300 60 390 60\njob 300 5 320 25\njob 300 5 320 25\njob 360 30 420 30\njob 380 10 390 1000\njob 400 60 490 60\njob 420 5 440 25\njob 430 20 470 100\njob 440 10 450 1000\njob 500 60 590 60\njob 530 5 550 25\njob 560 20 580 2000\nend\n",
+        Status::Done,
+        "dover 1 100 1\njob 0 0 60 90 60\nrun 0 0\njob 1 10 5 30 25\npreempt 10 0 1\ncomplete 15 1\nrun 15 0\njob 2 50 5 70 25\npreempt 50 0 2\ncomplete 55 2\nrun 55 0\njob 3 65 10 75 1000\npreempt 65 0 3\ncomplete 75 3\nrun 75 0\ncomplete 80 0\njob 4 100 60 190 60\nrun 100 4\njob 5 110 5 130 25\npreempt 110 4 5\ncomplete 115 5\nrun 115 4\njob 6 120 40 170 40\njob 7 125 5 145 25\npreempt 125 4 7\ncomplete 130 7\nrun 130 4\nabandon 130 6\njob 8 150 10 160 1000\npreempt 150 4 8\ncomplete 160 8\nrun 160 4\ncomplete 180 4\njob 9 200 80 290 80\nrun 200 9\njob 10 210 20 230 2000\ntake 210 9 10\njob 11 215 5 235 25\nabandon 220 9\ncomplete 230 10\nrun 230 11\ncomplete 235 11\njob 12 300 60 390 60\nrun 300 12\njob 13 300 5 320 25\npreempt 300 12 13\njob 14 300 5 320 25\ncomplete 305 13\nrun 305 14\ncomplete 310 14\nrun 310 12\njob 15 360 30 420 30\ncomplete 370 12\nrun 370 15\njob 16 380 10 390 1000\npreempt 380 15 16\ncomplete 390 16\nrun 390 15\njob 17 400 60 490 60\ncomplete 410 15\nrun 410 17\njob 18 420 5 440 25\npreempt 420 17 18\ncomplete 425 18\nrun 425 17\njob 19 430 20 470 100\njob 20 440 10 450 1000\npreempt 440 17 20\ncomplete 450 20\nrun 450 17\nabandon 450 19\ncomplete 485 17\njob 21 500 60 590 60\nrun 500 21\njob 22 530 5 550 25\npreempt 530 21 22\ncomplete 535 22\nrun 535 21\njob 23 560 20 580 2000\npreempt 560 21 23\ncomplete 580 23\nrun 580 21\ncomplete 585 21\nend 8555\n",
+    ),
+];
+
+/// A piece of a few bytes more than the one before, over and over.
+fn next_size(size: usize, grows: usize) -> usize {
+    (size * 5 + grows) % 23 + 1
+}
+
+/// The text in pieces: each of one byte, or of sizes that change, or in one.
+fn pieces(alloc: Global, text: &str, first: usize, grows: usize) -> Result<Vec<Vec<u8>>, AllocError> {
+    let mut pieces = Vec::new(alloc);
+    let mut rest = text.as_bytes();
+    let mut size = first;
+    while !rest.is_empty() {
+        let n = size.min(rest.len());
+        pieces.push(Vec::from_slice(alloc, &rest[..n])?)?;
+        rest = &rest[n..];
+        if grows > 0 {
+            size = next_size(size, grows);
+        }
+    }
+    Ok(pieces)
+}
+
+/// One call over a port, with a ledger of its own.
+fn answer_in<L: Ledger>(
+    alloc: Global,
+    words: &[String],
+    port: &mut MemoryPort,
+    blank: Blank,
+) -> Status
+    requires name { blank.name ≡ L.name }
+    requires parts { blank.parts ≡ L.parts }
+    requires some { 0 < blank.parts }
+{
+    let mut steps = Steps::<L>::new(blank);
+    dover(alloc, words, port, &mut steps)
+}
+
+fn answer(alloc: Global, words: &[String], port: &mut MemoryPort) -> Status {
+    answer_in::<Brand>(alloc, words, port, Blank::new(1))
+}
+
+#[test]
+fn feeds_and_their_traces(rt: HostRuntime) -> Result<(), Fail> {
+    let alloc = rt.alloc();
+    let words = vec![in alloc; String::from_str(alloc, "serve")?]?;
+    for (feed, status, text) in FEEDS {
+        for (first, grows) in [(4096, 0), (1, 0), (3, 4), (11, 9)] {
+            let script = pieces(alloc, feed, first, grows)?;
+            let mut port = MemoryPort::new(alloc, script, Vec::new(alloc), Vec::new(alloc), 4096, 4096)?;
+            assert_eq!(rt; answer(alloc, &words, &mut port), status, "{feed} by {first}");
+            assert_eq!(rt; port.written(), text.as_bytes(), "{feed} by {first}");
+        }
+    }
+    Ok(())
+}
+
+#[test]
+fn failing_calls(rt: HostRuntime) -> Result<(), Fail> {
+    let alloc = rt.alloc();
+    let words = vec![in alloc; String::from_str(alloc, "serve")?]?;
+    let feed = "k 1 1\njob 0 2 2 2\nend\n";
+    let ticks = "k 1 1\njob 0 2 2 2\ntick 2\nend\n";
+    let begun = "dover 1 1 1\njob 0 0 2 2 2\nrun 0 0\n";
+    let completed = "dover 1 1 1\njob 0 0 2 2 2\nrun 0 0\ncomplete 2 0\n";
+    let whole = "dover 1 1 1\njob 0 0 2 2 2\nrun 0 0\ncomplete 2 0\nend 2\n";
+    // the feed, the bytes of a piece, the read and the write that fail, the bytes that a write takes at most
+    for (feed, piece, read, write, most, status, text) in [
+        (feed, 4096, 1, 0, 4096, Status::ReadFault, ""),
+        (feed, 18, 2, 0, 4096, Status::ReadFault, begun),
+        (feed, 4096, 0, 1, 4096, Status::WriteFault, ""),
+        (feed, 4096, 2, 0, 4096, Status::Done, whole),
+        (feed, 1, 19, 0, 4096, Status::ReadFault, begun),
+        (feed, 4096, 0, 5, 1, Status::WriteFault, "dove"),
+        (ticks, 25, 2, 0, 4096, Status::ReadFault, completed),
+    ] {
+        let script = pieces(alloc, feed, piece, 0)?;
+        let fail_reads = vec![in alloc; read]?;
+        let fail_writes = vec![in alloc; write]?;
+        let mut port = MemoryPort::new(alloc, script, fail_reads, fail_writes, most, 4096)?;
+        assert_eq!(rt; answer(alloc, &words, &mut port), status, "{piece} {read} {write}");
+        assert_eq!(rt; port.written(), text.as_bytes(), "{piece} {read} {write}");
+    }
+    Ok(())
+}
+
+#[test]
+fn wrong_words(rt: HostRuntime) -> Result<(), Fail> {
+    let alloc = rt.alloc();
+    for texts in [&[][..], &["now"][..], &["serve", "now"][..]] {
+        let mut words = Vec::new(alloc);
+        for text in texts {
+            words.push(String::from_str(alloc, text)?)?;
+        }
+        let script = pieces(alloc, "k 1 1\nend\n", 4096, 0)?;
+        let mut port = MemoryPort::new(
+            alloc,
+            script,
+            Vec::new(alloc),
+            Vec::new(alloc),
+            4096,
+            4096,
+        )?;
+        assert_eq!(rt; answer(alloc, &words, &mut port), Status::Usage);
+        assert_eq!(rt; port.written(), b"".as_slice());
+        assert_eq!(rt; port.taken(), b"".as_slice());
+    }
+    Ok(())
+}

@@ -1,20 +1,17 @@
 -- What each line of a feed adds to the lines that are due, and how it is put.
-use Rattle.std.proofs.Common.{◌≡◌, ℕ, suc, ◌≤◌, List, [], ◌∷◌, ◌++◌, map, refl, sym, ap, ◌∙◌, subst, true, false, Option, Some, None}
-use Rattle.std.proofs.Common.{Result, Ok, Err, append_assoc}
+use Rattle.std.proofs.Common.{◌≡◌, ℕ, suc, List, [], ◌∷◌, ◌++◌, map, refl, sym, ap, ◌∙◌, Option, Some, None}
+use Rattle.std.proofs.Common.{append_assoc}
 use Rattle.std.proofs.lemmas.List.{append-nil, map-append}
 use Rattle.std.proofs.lemmas.Grind.{flat_map-append}
 use Rattle.dover_model.specs.declared.events.Event.{Event}
-use Rattle.dover_model.specs.Instance.{IsValid}
 use Rattle.dover_model.specs.Session.{Session, instance_of}
-use Rattle.dover_model.specs.Run.{printed, printed_of}
+use Rattle.dover_model.specs.Run.{printed}
 use Rattle.dover_model.specs.Settled.{settled}
 use Rattle.dover_model.specs.Lines.{in_lines}
 use Rattle.dover_model.specs.Text.{text_of}
 use Rattle.dover_model.specs.Trace.{texts_among}
 use Rattle.dover_model.specs.Feed.{Account, Standing, Open, Ended, Faulty, Cause}
 use Rattle.dover_model.specs.Due.{due_lines, fault_text}
-use Rattle.dover_model.specs.WholeRun.{Begins}
-use Rattle.dover_model.proofs.Beginnings.{begins_onward}
 use Rattle.dover_model.proofs.Emitting.{texts_more}
 use Rattle.dover_model.proofs.PutIn.{RefusesWithin}
 use Rattle.serve_word.specs.Served.{event_lines}

@@ -1,12 +1,11 @@
 -- What each answer of the intake delivers.
-use Rattle.std.proofs.Common.{◌≡◌, ◌≤◌, ◌+◌, ℕ, suc, List, ◌∷◌, ◌++◌, [], length, refl, sym, ap, ◌∙◌, subst, Option, Some, None, Result, Ok, Err}
+use Rattle.std.proofs.Common.{◌≡◌, ◌≤◌, ◌+◌, ℕ, suc, List, ◌∷◌, ◌++◌, [], length, sym, ap, ◌∙◌, subst, Option, Some, None, Result, Ok, Err}
 use Rattle.std.proofs.Common.{arith}
-use Rattle.dover_model.specs.declared.events.Version.{Version}
 use Rattle.dover_model.specs.declared.events.Refusal.{Refusal}
 use Rattle.dover_model.specs.Limits.{last_tick, most_jobs}
 use Rattle.dover_model.specs.JobFacts.{JobFacts}
 use Rattle.dover_model.specs.Instance.{IsValid, with_jobs}
-use Rattle.dover_model.specs.Session.{Session, instance_of}
+use Rattle.dover_model.specs.Session.{Session}
 use Rattle.dover_model.specs.Text.{refused_text}
 use Rattle.dover_model.specs.Feed.{Account}
 use Rattle.dover_model.specs.Due.{fault_text}
@@ -17,7 +16,7 @@ use Rattle.dover_core.specs.Service.{Service, MayFollow, list_of, with_job}
 use Rattle.event_feed.specs.Answers.{AddsJob, MovesMark, EndsFeed, AddsRefused, NewFault, counted}
 use Rattle.event_feed.specs.Kept.{cause_of_fault}
 use Rattle.event_feed.specs.declared.FeedFault.{FeedFault}
-use Rattle.serve_word.specs.Served.{CanGoOn, HasServed, IsServed, Settles, Finishes}
+use Rattle.serve_word.specs.Served.{CanGoOn, IsServed, Settles, Finishes}
 use Rattle.serve_word.specs.Delivered.{Delivers, Fits}
 use Rattle.serve_word.specs.Session.{IsOpenAt}
 use Rattle.serve_word.specs.declared.progress.Progress.TheVariants as progress

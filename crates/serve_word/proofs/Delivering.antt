@@ -1,11 +1,11 @@
 -- How each kind of line is delivered.
-use Rattle.std.proofs.Common.{◌≡◌, ◌≤◌, ◌<◌, ◌+◌, ℕ, suc, List, [], ◌∷◌, ◌++◌, length, map, refl, sym, ap, ◌∙◌, subst, Option, Some, None, Ok, Err}
+use Rattle.std.proofs.Common.{◌≡◌, ◌≤◌, ◌+◌, ℕ, suc, List, [], ◌∷◌, ◌++◌, length, map, refl, sym, ap, ◌∙◌, subst, Option, Some, None, Ok, Err}
 use Rattle.std.proofs.Common.{append_assoc, arith, inl, inr}
 use Rattle.std.proofs.lemmas.List.{append-nil}
 use Rattle.dover_model.specs.declared.events.Event.{Event}
 use Rattle.dover_model.specs.Limits.{last_tick, most_jobs}
 use Rattle.dover_model.specs.JobFacts.{JobFacts}
-use Rattle.dover_model.specs.Instance.{Instance, IsValid, with_jobs}
+use Rattle.dover_model.specs.Instance.{IsValid, with_jobs}
 use Rattle.dover_model.specs.Admission.{refusal_of}
 use Rattle.dover_model.specs.Session.{JobItem, Session, instance_of, admitted_jobs, with_item}
 use Rattle.dover_model.specs.Run.{printed, printed_of}
@@ -13,7 +13,7 @@ use Rattle.dover_model.specs.Settled.{settled}
 use Rattle.dover_model.specs.Lines.{in_lines}
 use Rattle.dover_model.specs.Text.{text_of}
 use Rattle.dover_model.specs.Trace.{texts_among}
-use Rattle.dover_model.specs.Feed.{Account, Standing, Open, Ended}
+use Rattle.dover_model.specs.Feed.{Account, Open, Ended}
 use Rattle.dover_model.specs.Due.{due_lines}
 use Rattle.dover_model.specs.WholeRun.{Begins}
 use Rattle.dover_model.proofs.Accounts.{Holds, HoldsBy, IsKept}

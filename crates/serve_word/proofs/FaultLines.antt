@@ -1,11 +1,10 @@
 -- The line that refuses a feed fits its buffer.
-use Rattle.std.proofs.Common.{◌≡◌, ◌≤◌, ◌<◌, ◌^◌, ◌++◌, ◌∷◌, ℕ, List, [], length, codes, decimal, refl, length-append, arith}
+use Rattle.std.proofs.Common.{◌≤◌, ◌<◌, ◌^◌, ◌∷◌, ℕ, length, codes, decimal, length-append, arith}
 use Rattle.std.proofs.lemmas.Fmt.{length-decimal-le}
 use Rattle.line_text.specs.Writing.{with_field}
 use Rattle.dover_model.specs.Feed.{Cause, Lines, Line, Declared, Order, NotAdmitted, Short}
-use Rattle.dover_model.specs.declared.events.Refusal.{Refusal}
 use Rattle.dover_model.specs.declared.events.Refusal.TheVariants.{BadJob, Count, Total, Ratio}
-use Rattle.dover_model.specs.Due.{cause_word, fault_text}
+use Rattle.dover_model.specs.Due.{cause_word}
 
 -- a number of 64 bits has at most twenty digits
 digits : (n : ℕ) → n < 2 ^ 64 → length (decimal n) ≤ 20

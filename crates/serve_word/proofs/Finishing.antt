@@ -1,12 +1,11 @@
 -- How the run of a server's jobs is taken to its end.
-use Rattle.std.proofs.Common.{◌≡◌, ℕ, List, [], ◌∷◌, ◌++◌, refl, sym, ap, ◌∙◌, subst, Bool, true, false, Option, Some, None, Result, Ok, Err, arith}
+use Rattle.std.proofs.Common.{◌≡◌, ℕ, List, [], ◌∷◌, ◌++◌, refl, sym, ap, ◌∙◌, subst, Bool, true, false, Option, Ok, Err, arith}
 use Rattle.std.specs.Bool.{MatchBool}
 use Rattle.std.proofs.Common.{map}
 use Rattle.std.specs.List.{cons_option, flat_map}
-use Rattle.std.proofs.lemmas.List.{append_assoc, map-append, append-nil}
+use Rattle.std.proofs.lemmas.List.{map-append, append-nil}
 use Rattle.std.proofs.lemmas.Grind.{flat_map-append}
 use Rattle.dover_model.specs.declared.events.Event.{Event}
-use Rattle.dover_model.specs.declared.events.Event.TheVariants.{Release, Run, Preempt, Take, Complete, Abandon, End}
 use Rattle.dover_model.specs.Instance.{Rules, Instance, IsValid}
 use Rattle.dover_model.specs.Session.{Session, instance_of}
 use Rattle.dover_model.specs.State.{State, opening}

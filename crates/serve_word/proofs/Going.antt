@@ -1,14 +1,13 @@
 -- A server that has served a session up to a mark can go on.
-use Rattle.std.proofs.Common.{◌≡◌, ◌≤◌, ℕ, sym, ap, subst, Some, arith}
+use Rattle.std.proofs.Common.{◌≡◌, ◌≤◌, ℕ, sym, subst, Some, arith}
 use Rattle.dover_model.specs.Limits.{last_tick}
-use Rattle.dover_model.specs.Instance.{Instance, IsValid}
+use Rattle.dover_model.specs.Instance.{IsValid}
 use Rattle.dover_model.specs.Session.{Session, instance_of}
 use Rattle.dover_model.specs.State.{opening}
 use Rattle.dover_model.specs.Feed.{Account}
 use Rattle.dover_model.proofs.Kept.{opening_keeps}
 use Rattle.dover_model.proofs.Paths.{path_keeps, path_low}
-use Rattle.dover_core.specs.declared.horizon.Horizon.TheVariants.{Mark, End}
-use Rattle.dover_core.specs.Service.{Service, MayFollow}
+use Rattle.dover_core.specs.Service.{Service}
 use Rattle.serve_word.specs.Served.{CanGoOn, IsServed}
 use Rattle.serve_word.specs.Session.{IsOpenAt}
 use Rattle.serve_word.proofs.Delivering.{holds_of}

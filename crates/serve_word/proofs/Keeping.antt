@@ -1,6 +1,6 @@
 -- What is kept after a line.
-use Rattle.std.proofs.Common.{◌≡◌, ℕ, List, ◌∷◌, ◌++◌, [], refl, sym, ap, ◌∙◌, subst, Option, Result, Ok, Err, ◌⊎◌, inl, inr, Bool, true, false}
-use Rattle.dover_model.specs.Feed.{Account, Standing, Open, Faulty, Cause, no_lines, account_of_lines}
+use Rattle.std.proofs.Common.{◌≡◌, ℕ, List, refl, sym, ◌∙◌, subst, Option, Result, Ok, ◌⊎◌, inl, inr, Bool, true, false}
+use Rattle.dover_model.specs.Feed.{Account, Open, no_lines, account_of_lines}
 use Rattle.dover_model.proofs.Accounts.{IsKept, lines_goes}
 use Rattle.dover_port.specs.Moves.{Move}
 use Rattle.dover_core.specs.Service.{Service}

@@ -9,19 +9,19 @@ use Rattle.dover_model.specs.Instance.{Rules}
 use Rattle.dover_model.specs.Session.{RefusedItem, RefusedJob, Session, instance_of, new_session, with_item, refused_at}
 use Rattle.dover_model.specs.Settled.{settled}
 use Rattle.dover_model.specs.Lines.{in_lines}
-use Rattle.dover_model.specs.Text.{header, text_of, refused_text}
+use Rattle.dover_model.specs.Text.{header, refused_text}
 use Rattle.dover_model.specs.Trace.{Printed, text_of_line, texts_among}
 use Rattle.dover_model.specs.Feed.{Account, Open, Faulty, Cause, rules_with}
 use Rattle.dover_model.specs.Due.{due_lines, fault_text}
 use Rattle.dover_model.specs.Paths.{HasPrinted}
 use Rattle.dover_model.proofs.Accounts.{IsKept}
 use Rattle.dover_model.proofs.Emitting.{texts_refused}
-use Rattle.dover_model.proofs.Growing.{Reads, refused_instance}
+use Rattle.dover_model.proofs.Growing.{refused_instance}
 use Rattle.dover_model.proofs.Paths.{printed_nothing}
 use Rattle.dover_port.specs.Moves.{Move, Passes, CutsShort}
 use Rattle.dover_port.proofs.Made.{since_none}
 use Rattle.dover_core.specs.Service.{Service, fresh_service}
-use Rattle.serve_word.specs.Served.{HasServed, IsServed}
+use Rattle.serve_word.specs.Served.{IsServed}
 use Rattle.serve_word.specs.Delivered.{Delivers, Begun, StandsAt, IsDeclared}
 use Rattle.serve_word.specs.declared.progress.Progress.{Progress}
 use Rattle.serve_word.specs.declared.progress.Progress.TheVariants as progress

@@ -1,30 +1,28 @@
 -- How what is delivered goes on, byte by byte.
-use Rattle.std.proofs.Common.{◌≡◌, ◌≤◌, ◌<◌, ◌+◌, ◌*◌, ℕ, suc, zero, List, ◌∷◌, ◌++◌, [], length, take, drop, get_or, refl, sym, ap, ◌∙◌, subst}
-use Rattle.std.proofs.Common.{Option, Some, None, Result, Ok, Err, Bool, true, false, cond, arith, append_assoc, length-append}
-use Rattle.std.specs.List.{fold, AllByRecursion, sum_by}
+use Rattle.std.proofs.Common.{◌≡◌, ◌<◌, ◌+◌, ℕ, suc, List, ◌∷◌, ◌++◌, [], length, take, drop, get_or, refl, sym, ap, ◌∙◌, subst}
+use Rattle.std.proofs.Common.{Option, Some, None, Result, Ok, Err, Bool, true, false, cond, append_assoc}
+use Rattle.std.specs.List.{fold}
 use Rattle.std.proofs.lemmas.List.{append-nil, take_more, take-append-drop}
-use Rattle.std.proofs.lemmas.List.Sums.{fold-append, sum_by-cons}
 use Rattle.std.proofs.lemmas.Grind.{flat_map-append}
-use Rattle.std.proofs.lemmas.Bool.{ltb-false}
 use Rattle.std.specs.Prelude.{nat_lt, ◌||◌}
 use Rattle.std.specs.Option.{option_map}
 use Rattle.dover_model.specs.Limits.{most_lines, last_tick}
-use Rattle.dover_model.specs.Lines.{in_lines, lines_of, whole_lines, rest_of, is_too_long, fields_of}
+use Rattle.dover_model.specs.Lines.{in_lines, lines_of}
 use Rattle.dover_model.specs.FeedLine.{FeedLine, RatioLine, JobLine, TickLine, EndLine, feed_line}
 use Rattle.dover_model.specs.declared.events.Refusal.{Refusal}
 use Rattle.dover_model.specs.JobFacts.{JobFacts}
 use Rattle.dover_model.specs.Admission.{refusal_of}
 use Rattle.dover_model.specs.Session.{Session, JobItem, with_item, refused_at, admitted_jobs, is_two}
-use Rattle.dover_model.specs.Feed.{Account, Standing, Open, Ended, Faulty, Cause, Lines, Line, no_lines, is_open, next_line, read_line, with_line}
+use Rattle.dover_model.specs.Feed.{Account, Standing, Open, Ended, Faulty, Lines, Line, is_open, next_line, read_line, with_line}
 use Rattle.dover_model.specs.Feed.{with_fault, with_item_in, later_line_cause, Order, NotAdmitted, account, account_of_lines}
 use Rattle.dover_model.specs.Due.{due_lines}
 use Rattle.dover_model.specs.WholeRun.{Begins}
 use Rattle.dover_model.proofs.Accounts.{account_append, account_kept, lines_goes}
-use Rattle.dover_port.specs.Moves.{Move, Since, ArePuts, outs, Passes, CutsShort}
+use Rattle.dover_port.specs.Moves.{Move, outs, Passes, CutsShort}
 use Rattle.dover_port.proofs.Made.{since_then, since_weaker, ArePuts-append, outs-append}
 use Rattle.dover_port.proofs.Through.{passes_then, passes_then_cut, passes_nothing, cut_longer}
 use Rattle.dover_core.specs.Service.{Service}
-use Rattle.serve_word.specs.Delivered.{Delivers, PutsBy, LeavesBy, Begun, StandsAt, IsDeclared, IsFaulty}
+use Rattle.serve_word.specs.Delivered.{Delivers, PutsBy, Begun, StandsAt, IsDeclared, IsFaulty}
 use Rattle.serve_word.specs.declared.progress.Progress.{Progress}
 use Rattle.serve_word.specs.declared.progress.Progress.TheVariants as progress
 use Rattle.serve_word.specs.declared.progress.Stop.{Stop}

@@ -1,25 +1,22 @@
 -- What a server has printed, as it goes on: up to a later mark, with a job more, and to the end.
-use Rattle.std.proofs.Common.{◌≡◌, ℕ, ◌≤◌, List, [], ◌∷◌, ◌++◌, length, refl, sym, ap, ◌∙◌, subst, true, false, Some, arith, Ok, Result}
-use Rattle.std.specs.List.{cons_option}
-use Rattle.std.specs.Bool.{MatchBool}
+use Rattle.std.proofs.Common.{◌≡◌, ℕ, ◌≤◌, List, [], ◌∷◌, ◌++◌, length, sym, ap, ◌∙◌, subst}
 use Rattle.dover_model.specs.declared.events.Event.{Event}
 use Rattle.dover_model.specs.JobFacts.{JobFacts}
-use Rattle.dover_model.specs.Instance.{Rules, Instance, IsValid, with_jobs}
+use Rattle.dover_model.specs.Instance.{Instance, IsValid, with_jobs}
 use Rattle.dover_model.specs.Session.{JobItem, Session, instance_of, with_item}
-use Rattle.std.proofs.Common.{inl, inr, map}
+use Rattle.std.proofs.Common.{inl, inr}
 use Rattle.std.proofs.lemmas.List.{length-map, map-append}
 use Rattle.dover_model.specs.declared.events.Task.{Task}
-use Rattle.dover_model.specs.State.{State, with_later, opening}
-use Rattle.dover_model.specs.Step.{Prints, Waits, Ticks, Move, step, after}
-use Rattle.dover_model.specs.Run.{Step, is_end, event_of, printed_of, printed}
+use Rattle.dover_model.specs.State.{with_later, opening}
+use Rattle.dover_model.specs.Run.{Step, printed_of}
 use Rattle.dover_model.specs.Settled.{settled}
-use Rattle.dover_model.specs.WholeRun.{IsBarrier, IsWholeRun, Begins}
-use Rattle.dover_model.specs.Paths.{IsOpenPath, IsPath, HasPrinted}
+use Rattle.dover_model.specs.WholeRun.{IsBarrier, Begins}
+use Rattle.dover_model.specs.Paths.{IsOpenPath, HasPrinted}
 use Rattle.dover_model.specs.Sound.{IsMember, jobs_of, Keeps}
 use Rattle.dover_model.proofs.Growing.{job_instance}
-use Rattle.dover_model.proofs.Paths.{path_keeps, printed_more, printed_settled, printed_behind, printed_begins, printed_then_run}
+use Rattle.dover_model.proofs.Paths.{path_keeps, printed_more, printed_settled, printed_behind, printed_begins}
 use Rattle.dover_model.proofs.Kept.{opening_keeps}
-use Rattle.dover_core.specs.declared.horizon.Horizon.TheVariants.{Mark, End}
+use Rattle.dover_core.specs.declared.horizon.Horizon.TheVariants.{Mark}
 use Rattle.dover_core.specs.Service.{Service, list_of, with_job, admitted_task}
 use Rattle.serve_word.specs.Served.{HasServed, IsServed}
 

@@ -1,11 +1,11 @@
 -- The numbers of the steps that a server gives have numerals.
-use Rattle.std.proofs.Common.{◌≡◌, ◌≤◌, ◌<◌, ℕ, ◌^◌, List, [], ◌∷◌, refl, sym, ap, ◌∙◌, subst, arith, Bool, true, false, ◌||◌}
+use Rattle.std.proofs.Common.{◌≡◌, ◌≤◌, ◌<◌, ℕ, ◌^◌, List, [], refl, sym, ap, ◌∙◌, subst, arith, Bool, true, false, ◌||◌}
 use Rattle.dover_model.specs.declared.events.Event.{Event}
 use Rattle.dover_model.specs.declared.events.Event.TheVariants as event
 use Rattle.dover_model.specs.Limits.{last_tick}
 use Rattle.dover_model.specs.Numerals.{AreShort}
 use Rattle.dover_model.specs.State.{State}
-use Rattle.dover_model.specs.Step.{Move, Prints, step, open_step, after}
+use Rattle.dover_model.specs.Step.{Prints, after}
 use Rattle.dover_model.specs.declared.events.Task.{Task}
 use Rattle.dover_model.specs.Run.{is_end}
 use Rattle.dover_model.specs.Settled.{AllComeFrom}

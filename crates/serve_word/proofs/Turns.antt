@@ -6,21 +6,18 @@ use Rattle.dover_model.specs.Lines.{in_lines}
 use Rattle.dover_model.specs.Feed.{account}
 use Rattle.dover_model.specs.Due.{due, due_lines}
 use Rattle.dover_model.specs.WholeRun.{Begins}
-use Rattle.dover_port.specs.Moves.{Move, Since, ArePuts, IsProperPrefix, Passes, CutsShort, PutsThrough, outs, read_move, Adds}
+use Rattle.dover_port.specs.Moves.{Move, Since, ArePuts, IsProperPrefix, Passes, CutsShort, outs, read_move, Adds}
 use Rattle.dover_port.specs.Moves.Move.{Got, Ended}
-use Rattle.dover_port.specs.declared.port.Failed.{Failed}
 use Rattle.dover_port.proofs.Made.{since_then, since_weaker}
 use Rattle.dover_port.proofs.Through.{passes_then, passes_then_cut}
 use Rattle.dover_core.specs.Service.{Service}
-use Rattle.serve_word.specs.Delivered.{Delivers, Begun, StandsAt}
+use Rattle.serve_word.specs.Delivered.{Delivers}
 use Rattle.serve_word.specs.Feeding.{FeedStands}
 use Rattle.serve_word.specs.Record.{Gets, TurnMakes, turn_of}
 use Rattle.serve_word.specs.declared.feed.Feed.{Feed}
 use Rattle.serve_word.specs.declared.progress.Progress.{Progress}
 use Rattle.serve_word.specs.declared.progress.Progress.TheVariants as progress
-use Rattle.serve_word.specs.declared.progress.Stop.{Stop}
 use Rattle.serve_word.specs.declared.progress.Stop.TheVariants.{NoMemory, Unwritten}
-use Rattle.serve_word.specs.declared.turn.Turn.{Turn}
 use Rattle.serve_word.specs.declared.turn.Turn.TheVariants as turn
 
 -- the end of the input

@@ -1,12 +1,11 @@
 -- What is kept of a feed between its lines.
-use Rattle.std.specs.Prelude.{◌≡◌, ℕ, List, ◌∷◌, ◌++◌, [], Option, Result, Ok, Err, false}
+use Rattle.std.specs.Prelude.{◌≡◌, ℕ, List, Option, Result, Ok, Err, false}
 use Rattle.dover_model.specs.Feed.{Account, Open, account_of_lines}
 use Rattle.dover_model.proofs.Accounts.{IsKept}
 use Rattle.dover_core.specs.Service.{Service}
 use Rattle.dover_port.specs.Causes.{Rose}
 use Rattle.event_feed.specs.Kept as feed
 use Rattle.serve_word.specs.Delivered.{Fits}
-use Rattle.serve_word.specs.declared.progress.Progress.{Progress}
 use Rattle.serve_word.specs.declared.progress.Stop.{Stop}
 use Rattle.serve_word.specs.declared.progress.Stop.TheVariants.{NoMemory, Unwritten}
 use Rattle.serve_word.specs.declared.session.Session.{Session}

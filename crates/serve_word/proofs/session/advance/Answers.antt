@@ -1,4 +1,4 @@
-use Rattle.std.proofs.Common.{subst, Some}
+use Rattle.std.proofs.Common.{subst}
 use Rattle.serve_word.specs.Session.{IsOpenAt}
 use Rattle.serve_word.proofs.Going.{open_can}
 use Rattle.serve_word.proofs.Answering.{tick_delivers, tick_cut}

@@ -1,8 +1,6 @@
-use Rattle.std.proofs.Common.{◌≡◌, refl, sym, subst, Some, arith, ℕ}
-use Rattle.dover_model.specs.Feed.{Account}
-use Rattle.event_feed.specs.Answers.{AddsJob}
+use Rattle.std.proofs.Common.{refl, subst, Some}
 use Rattle.serve_word.specs.Session.{IsOpenAt}
-use Rattle.serve_word.proofs.Answering.{settles_at, arrival_room, arrival_none, arrival_can, arrival_cut, arrival_valid, admitted_can}
+use Rattle.serve_word.proofs.Answering.{settles_at, arrival_none, arrival_can, arrival_cut, arrival_valid, admitted_can}
 use Rattle.serve_word.proofs.Answering.{arrival_delivers, arrival_part}
 use Rattle.serve_word.proofs.session.arrive.Goals as goal
 

@@ -1,5 +1,4 @@
-use Rattle.std.proofs.Common.{◌≡◌, ◌∷◌, ◌++◌, [], Ok, sym, ap, ◌∙◌, subst}
-use Rattle.event_feed.specs.declared.Fed.{Fed}
+use Rattle.std.proofs.Common.{◌∷◌, ◌++◌, [], sym, ap, ◌∙◌, subst}
 use Rattle.event_feed.specs.Kept as feed
 use Rattle.dover_model.specs.Feed.{account_of_lines}
 use Rattle.serve_word.proofs.Keeping.{open_next, new_fault, not_then}

@@ -1,4 +1,4 @@
-use Rattle.std.proofs.Common.{refl, sym, ◌∙◌, arith}
+use Rattle.std.proofs.Common.{refl, ◌∙◌, arith}
 use Rattle.serve_word.proofs.Settling.{settling_starts, settling_next, settling_cut, settling_ends}
 use Rattle.serve_word.proofs.Short.{stands_can, short_at_mark, mark_not_end, or_fails, again}
 use Rattle.serve_word.proofs.steps.settle.Goals as goal
