@@ -1,0 +1,6 @@
+pub mod Leading
+pub mod Items
+pub mod Counts
+pub mod Seeing
+pub mod Released
+pub mod Continuing
