@@ -4,3 +4,4 @@ pub mod Counts
 pub mod Seeing
 pub mod Released
 pub mod Continuing
+pub mod Only

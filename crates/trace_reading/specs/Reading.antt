@@ -67,3 +67,11 @@ with_fresh z n j = record { clock = j.release; tasks = z.tasks ++ record { numbe
 -- the text of the release of the session's next job
 abbrev pub release_text : Session → JobFacts → List ℕ
 release_text S j = text_of (Release (length (admitted_jobs S.items)) j)
+
+-- the line is the text of the release of a job that may come next
+abbrev pub IsReleaseNext : Session → ℕ → State → List ℕ → Type 0
+IsReleaseNext S floor s line = (j : JobFacts) × (line ≡ release_text S j) × (z : State) × MayRelease S floor s j z
+
+-- the line is the text of a refused line that may come next
+abbrev pub IsRefusedNext : Session → ℕ → State → List ℕ → Type 0
+IsRefusedNext S floor s line = (r : RefusedJob) × (line ≡ refused_text r) × (z : State) × MayRefuse S floor s r z
