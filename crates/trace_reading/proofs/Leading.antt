@@ -188,7 +188,7 @@ module _ (J : Instance) (valid : IsValid J) (rules : Rules) where
   passes_keeps mark (x ∷ xs) s z keeps passes = passes_keeps mark xs (after s (open_step rules s)) z (open_kept J valid s keeps rules) passes.2
 
   -- an open step isn't End
-  not_end : (s : State) → Keeps J s → is_end (open_step rules s) ≡ false
+  pub not_end : (s : State) → Keeps J s → is_end (open_step rules s) ≡ false
   not_end s keeps = open_not_end J valid J valid rules 0 [] none s keeps where
     none : AllComeFrom 0 []
     none = (λ t m. absurd m, λ t m. absurd m)

@@ -5,3 +5,7 @@ pub mod Seeing
 pub mod Released
 pub mod Continuing
 pub mod Only
+pub mod Finishing
+pub mod Judging
+pub mod ReadyParts
+pub mod Waiting
