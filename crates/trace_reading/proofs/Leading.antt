@@ -70,6 +70,13 @@ module _ (rules : Rules) where
   passes_append mark [] ys s y z one next = subst (λ u. Passes rules mark u ys z) (sym one) next
   passes_append mark (x ∷ xs) ys s y z one next = (one.0, one.1, passes_append mark xs ys (after s (open_step rules s)) y z one.2 next)
 
+  -- silent steps, and further ones
+  pub settles_append : (mark : ℕ) (xs ys : List Step) (s y z : State) → Settles rules mark s xs y → Settles rules mark y ys z
+      → Settles rules mark s (xs ++ ys) z
+  settles_append mark [] ys s y z one next = subst (λ u. Settles rules mark u ys z) (sym one) next
+  settles_append mark (x ∷ xs) ys s y z one next =
+      (one.0, one.1, one.2, settles_append mark xs ys (after s (open_step rules s)) y z one.3 next)
+
   -- steps that pass and settled ones behind them are settled
   pub passes_settled : (mark : ℕ) (xs ys : List Step) (s z : State) → Passes rules mark s xs z → IsSettledRun rules mark z ys
       → IsSettledRun rules mark s (xs ++ ys)
@@ -125,7 +132,7 @@ module _ (rules : Rules) where
 -- ---- the clock
 
 -- a late step that prints nothing is a silent tick
-late_silent : (m : Move) → is_late m ≡ true → IsSilent m → m ≡ Ticks
+pub late_silent : (m : Move) → is_late m ≡ true → IsSilent m → m ≡ Ticks
 late_silent (Prints e) late silent = absurd (let clash : Some e ≡ None = silent in cc)
 late_silent (Waits n) late silent = never late
 late_silent Ticks late silent = refl

@@ -1,0 +1,5 @@
+//! A judge of recorded traces.
+#![tactic(auto)]
+
+mod course;
+mod settle;
