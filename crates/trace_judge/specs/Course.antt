@@ -76,3 +76,10 @@ pub record Settled (c : Course) (J : Instance) (z : State) (mark : ℕ) (next : 
   pub follows : Follows c J state
   pub idles : (xs : List Step) × Idles J.rules z xs state
   pub comes : Comes J z mark state next
+
+-- the course is one that goes on from the other: it has the same rules, jobs and room, and no more ready jobs
+pub record GoesOnFrom (c d : Course) : Type 0 where
+  pub rules : d.rules ≡ c.rules
+  pub fewer : length d.ready ≤ length c.ready
+  pub jobs : d.jobs ≡ c.jobs
+  pub room : d.room ≡ c.room

@@ -80,6 +80,13 @@ impl Course {
         self.clock
     }
 
+    /// The version of the rules.
+    pub fn version(&self) -> Version
+        ensures { result ≡ self.now.rules.version }
+    {
+        self.version
+    }
+
     /// How many jobs were released.
     pub fn jobs(&self) -> u32
         ensures { result ≡ self.now.jobs }
@@ -114,6 +121,7 @@ impl Course {
         ensures step { step_of result ≡ open_step self.new.rules (state_at self.new.clock self.new.ready) }
         ensures kept { self.new ≡ record self.old { clock = self.new.clock; ready = self.new.ready } }
         ensures fewer { length self.new.ready ≡ length self.old.ready }
+        ensures low { self.new.clock ≤ mark }
     {
         let stop = settle(self.version, self.ratio, self.clock, &mut self.ready, mark);
         self.clock = stop.clock;
@@ -127,6 +135,7 @@ impl Course {
         ensures settled { (J : Instance) (z : State) → Follows self.old J z → Settled self.new J z mark result }
         ensures kept { self.new ≡ record self.old { clock = self.new.clock; ready = self.new.ready } }
         ensures fewer { length self.new.ready ≡ length self.old.ready }
+        ensures low { self.new.clock ≤ mark }
     {
         if self.ready.is_empty() {
             return None;
@@ -177,12 +186,10 @@ impl Course {
     }
 
     /// Takes the release of the next job, to which the clock goes on.
-    pub fn release(&mut self, job: Job) -> Result<(), Memory>
-        requires { IsCourse (with_release self.old job self.old.room) }
-        ensures ok { OnOk result (self.new ≡ with_release self.old job self.new.room) }
-        ensures err { OnErr result (self.new ≡ record self.old { room = self.new.room }) }
-        ensures room { length self.old.ready < self.old.room → IsOk result }
-        ensures grows { self.old.room ≤ self.new.room }
+    pub fn release(&mut self, job: Job)
+        requires course { IsCourse (with_release self.old job self.old.room) }
+        requires room { length self.old.ready < self.old.room }
+        ensures { self.new ≡ with_release self.old job self.old.room }
     {
         let task = Task {
             number: self.jobs,
@@ -190,10 +197,9 @@ impl Course {
             role: Role::Fresh,
             had: 0,
         };
-        self.ready.push(task)?;
+        self.ready.push_reserved(task);
         self.jobs += 1;
         self.clock = job.release();
-        Ok(())
     }
 }
 

@@ -2,4 +2,9 @@
 #![tactic(auto)]
 
 mod course;
+mod reader;
 mod settle;
+mod stage;
+mod verdict;
+
+pub use verdict::{Expected, Verdict};

@@ -188,6 +188,11 @@ module _ (ls : List (List ℕ)) (S : Session) (floor : ℕ) (z : State) (sees : 
       tight = tight_more;
     }
 
+    -- it is printed behind the others
+    pub sees_step_prints : printed_of sees_step.steps ≡ so_far ++ e ∷ []
+    unfolding sees_step
+    sees_step_prints = print_more
+
   -- ---- silent steps
 
   -- silent steps that don't pass the floor change nothing else
@@ -208,6 +213,12 @@ module _ (ls : List (List ℕ)) (S : Session) (floor : ℕ) (z : State) (sees : 
         mark = sees.mark;
         tight = subst (λ es. (t : ℕ) → mark_after 0 S.items ≤ t → t < floor → length (settled J t) < length es) (sym print_same) sees.tight;
       }
+
+  -- they print nothing
+  pub sees_idles_prints : (xs : List Step) (y : State) (idles : Idles S.rules z xs y) (low : y.clock ≤ floor)
+      → printed_of (sees_idles xs y idles low).steps ≡ so_far
+  unfolding sees_idles
+  sees_idles_prints xs y idles low = printed_append sees.steps xs ∙ ap (λ es. so_far ++ es) (idles_silent S.rules xs z y idles) ∙ append-nil so_far
 
   -- ---- a job
 
@@ -370,6 +381,11 @@ module _ (ls : List (List ℕ)) (S : Session) (floor : ℕ) (z : State) (sees : 
       tight = λ t marked low. absurd (omega (arith, mark_job));
     }
 
+    -- it is printed behind the others
+    pub sees_release_prints : printed_of sees_release.steps ≡ so_far ++ Release n j ∷ []
+    unfolding sees_release
+    sees_release_prints = print_job
+
   -- ---- a refused line
 
   module _ (r : RefusedJob) (y : State) (may : MayRefuse S floor z r y) where
@@ -464,6 +480,11 @@ module _ (ls : List (List ℕ)) (S : Session) (floor : ℕ) (z : State) (sees : 
       tight = λ t marked low. absurd (omega (arith, mark_refused));
     }
 
+    -- no step is printed
+    pub sees_refused_prints : printed_of sees_refused.steps ≡ so_far
+    unfolding sees_refused
+    sees_refused_prints = refl
+
 -- ---- the header
 
 -- the header comes to the opening state of no jobs
@@ -486,3 +507,8 @@ sees_header rules ratio = record {
     count = omega arith;
     items = tt;
   }
+
+-- no step is printed
+pub sees_header_prints : (rules : Rules) (ratio : IsRatio rules.ratio) → printed_of (sees_header rules ratio).steps ≡ []
+unfolding sees_header
+sees_header_prints rules ratio = refl

@@ -70,6 +70,12 @@ module _ (rules : Rules) where
   passes_append mark [] ys s y z one next = subst (λ u. Passes rules mark u ys z) (sym one) next
   passes_append mark (x ∷ xs) ys s y z one next = (one.0, one.1, passes_append mark xs ys (after s (open_step rules s)) y z one.2 next)
 
+  -- idle steps, and further ones
+  pub idles_append : (xs ys : List Step) (s y z : State) → Idles rules s xs y → Idles rules y ys z → Idles rules s (xs ++ ys) z
+  idles_append [] ys s y z one next = subst (λ u. Idles rules u ys z) (sym one) next
+  idles_append (x ∷ xs) ys s y z one next =
+      (one.0, one.1, one.2, idles_append xs ys (after s (open_step rules s)) y z one.3 next)
+
   -- silent steps, and further ones
   pub settles_append : (mark : ℕ) (xs ys : List Step) (s y z : State) → Settles rules mark s xs y → Settles rules mark y ys z
       → Settles rules mark s (xs ++ ys) z
@@ -178,6 +184,17 @@ module _ (rules : Rules) where
     tick_before rules z.clock s idles.1 (idles_clock xs (after s (open_step rules s)) z idles.3),
     idles.2,
     idles_leads xs (after s (open_step rules s)) z idles.3,
+  )
+
+  -- idle steps up to a mark are silent steps before it
+  pub idles_settles : (mark : ℕ) (xs : List Step) (s z : State) → Idles rules s xs z → z.clock ≤ mark → Settles rules mark s xs z
+  idles_settles mark [] s z idles low = idles
+  idles_settles mark (x ∷ xs) s z idles low = (
+    idles.0,
+    tick_before rules mark s idles.1 (let on : (after s (open_step rules s)).clock ≤ z.clock =
+        idles_clock xs (after s (open_step rules s)) z idles.3 in omega arith),
+    idles.1,
+    idles_settles mark xs (after s (open_step rules s)) z idles.3 low,
   )
 
   -- silent steps up to a mark leave the clock before it, or at it

@@ -22,7 +22,7 @@ use Rattle.dover_model.specs.Session.{with_item, is_valid_session}
 use Rattle.dover_model.specs.State.{State}
 use Rattle.dover_model.specs.Run.{Step, printed_of}
 use Rattle.dover_model.specs.Settled.{settled, settled_steps}
-use Rattle.dover_model.specs.Text.{header, text_of}
+use Rattle.dover_model.specs.Text.{header, text_of, refused_text}
 use Rattle.dover_model.specs.Trace.{TraceLine, Printed, Refuses, text_of_line, lines_among, trace_lines}
 use Rattle.dover_model.specs.Verdict.{named_session, begins_trace, begins_trace_of, rules_of, item_of}
 use Rattle.dover_model.specs.WholeRun.{Begins, IsBarrier, IsSettledRun}
@@ -37,7 +37,7 @@ use Rattle.dover_model.proofs.Walks.{session_with}
 use Rattle.dover_model.proofs.Named.{header_names, texts_name, first_texts}
 use Rattle.dover_model.proofs.Tests.{never, each, both}
 use Rattle.trace_reading.specs.Leading.{Settles, WaitsUntil, PrintsNext}
-use Rattle.trace_reading.specs.Reading.{mark_after, Sees, HasRoom, IsReleaseNext, IsRefusedNext}
+use Rattle.trace_reading.specs.Reading.{mark_after, Sees, HasRoom, MayRelease, MayRefuse, release_text, IsReleaseNext, IsRefusedNext}
 use Rattle.trace_reading.proofs.Items.{behind_follows, reads_mark}
 use Rattle.trace_reading.proofs.Seeing.{sees_next_text, sees_names, sees_short}
 use Rattle.trace_reading.proofs.Leading.{settled_settles}
@@ -330,7 +330,7 @@ module _ (ls : List (List ℕ)) (S : Session) (floor : ℕ) (z : State) (sees : 
           (found.0, record { steps = rest.0; settles = found.1; barrier = found.2 })
 
   -- a line that names a job is the text of its release, which may come next
-  pub only_release : (j : JobFacts) → item_of l ≡ Some (JobItem j) → IsReleaseNext S floor z l
+  pub only_release : (j : JobFacts) → item_of l ≡ Some (JobItem j) → (l ≡ release_text S j) × (y : State) × MayRelease S floor z j y
   only_release j names =
       let follows : FollowsItems S.rules (admitted_jobs S.items) (mark_after 0 S.items) (JobItem j ∷ []) = follows_more (JobItem j) names in
       let valid_K : IsValid (with_jobs (instance_of S) (j ∷ [])) = subst IsValid (job_instance S j) (valid_more (JobItem j) names).jobs in
@@ -340,7 +340,6 @@ module _ (ls : List (List ℕ)) (S : Session) (floor : ℕ) (z : State) (sees : 
       begins_onward (lines_at S j.release ++ line ∷ []) (lines_at (with_item S (JobItem j)) j.release) (all_lines (with_item S (JobItem j)))
       (lines_job S j before valid_K) (lines_of_trace (with_item S (JobItem j)) j.release (reads_job S j before valid_K)) in
       let waits : (y : State) × WaitsUntil S.rules j.release z y = only_waits (JobItem j) names j.release follows.0 line refl before begins in (
-        j,
         only_text (JobItem j) names j.release follows.0 line refl before begins,
         waits.0,
         record {
@@ -352,7 +351,7 @@ module _ (ls : List (List ℕ)) (S : Session) (floor : ℕ) (z : State) (sees : 
       )
 
   -- a line that names a refused line is its text, and it may come next
-  pub only_refused : (r : RefusedJob) → item_of l ≡ Some (RefusedItem r) → IsRefusedNext S floor z l
+  pub only_refused : (r : RefusedJob) → item_of l ≡ Some (RefusedItem r) → (l ≡ refused_text r) × (y : State) × MayRefuse S floor z r y
   only_refused r names =
       let follows : FollowsItems S.rules (admitted_jobs S.items) (mark_after 0 S.items) (RefusedItem r ∷ []) = follows_more (RefusedItem r) names in
       let ordered : mark_after 0 S.items ≤ r.at = follows.0.no_fall in
@@ -362,7 +361,6 @@ module _ (ls : List (List ℕ)) (S : Session) (floor : ℕ) (z : State) (sees : 
       subst (λ xs. Begins xs (all_lines (with_item S (RefusedItem r)))) (lines_refused S r before)
       (lines_of_trace (with_item S (RefusedItem r)) r.at (reads_refused S r before)) in
       let waits : (y : State) × WaitsUntil S.rules r.at z y = only_waits (RefusedItem r) names r.at ordered line refl before begins in (
-        r,
         only_text (RefusedItem r) names r.at ordered line refl before begins,
         waits.0,
         record {
@@ -386,5 +384,5 @@ pub continues_only : (ls : List (List ℕ)) (S : Session) (floor : ℕ) (z : Sta
 continues_only ls S floor z sees e y next l passes = by_item (item_of l) refl where
   by_item : (o : Option Item) → item_of l ≡ o → (l ≡ text_of e) ⊎ (IsReleaseNext S floor z l ⊎ IsRefusedNext S floor z l)
   by_item None none = inl (only_step ls S floor z sees l passes e y next none)
-  by_item (Some (JobItem j)) names = inr (inl (only_release ls S floor z sees l passes j names))
-  by_item (Some (RefusedItem r)) names = inr (inr (only_refused ls S floor z sees l passes r names))
+  by_item (Some (JobItem j)) names = let it = only_release ls S floor z sees l passes j names in inr (inl (j, it.0, it.1, it.2))
+  by_item (Some (RefusedItem r)) names = let it = only_refused ls S floor z sees l passes r names in inr (inr (r, it.0, it.1, it.2))

@@ -128,10 +128,13 @@ module _ (J : Instance) (valid : IsValid J) (rules : Rules) where
     by_event (Waits n) is rest = onward (Waits n) is refl refl rest
     by_event Ticks is rest = onward Ticks is refl refl rest
 
+-- some step is printed next
+pub sees_some_next : (ls : List (List ℕ)) (S : Session) (floor : ℕ) (z : State) → Sees ls S floor z → (e : Event) × (y : State) × PrintsNext S.rules z e y
+sees_some_next ls S floor z sees = next_exists (instance_of S) sees.valid.jobs S.rules (sees_rest ls S floor z sees).0 z (sees_keeps ls S floor z sees)
+    (sees_rest ls S floor z sees).1
+
 -- lines whose steps lead to a state have not ended
 pub sees_not_ended : (ls : List (List ℕ)) (S : Session) (floor : ℕ) (z : State) → Sees ls S floor z → ends_with_end ls ≡ false
 sees_not_ended ls S floor z sees =
-    let it : (e : Event) × (y : State) × PrintsNext S.rules z e y =
-    next_exists (instance_of S) sees.valid.jobs S.rules (sees_rest ls S floor z sees).0 z (sees_keeps ls S floor z sees)
-    (sees_rest ls S floor z sees).1 in
+    let it : (e : Event) × (y : State) × PrintsNext S.rules z e y = sees_some_next ls S floor z sees in
     sees_goes_on ls S floor z sees it.0 it.1 it.2
