@@ -6,3 +6,4 @@ pub mod Taking
 pub mod Releases
 pub mod Refusals
 pub mod Unread
+pub mod Judging

@@ -87,6 +87,13 @@ impl Course {
         self.version
     }
 
+    /// The ratio of the rules.
+    pub fn ratio(&self) -> Ratio
+        ensures { result ≡ self.now.rules.ratio }
+    {
+        self.ratio
+    }
+
     /// How many jobs were released.
     pub fn jobs(&self) -> u32
         ensures { result ≡ self.now.jobs }

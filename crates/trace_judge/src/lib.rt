@@ -2,9 +2,11 @@
 #![tactic(auto)]
 
 mod course;
+mod judge;
 mod reader;
 mod settle;
 mod stage;
 mod verdict;
 
+pub use judge::{Closed, Judge};
 pub use verdict::{Expected, Verdict};

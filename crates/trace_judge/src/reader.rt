@@ -1,5 +1,5 @@
 //! What the judge keeps of the lines of a trace.
-ghost use Rattle.std.specs.Prelude.{◌≡◌, ◌≤◌, ◌<◌, ◌+◌, ◌∷◌, ◌++◌, ◌↔◌, ℕ, List, [], Bool, true, false, IsTrue, IfOk, OnOk, OnErr, IsOk, IfSome, IfNone, Some, None, vec_len, vec_capacity, if◌then◌else◌};
+ghost use Rattle.std.specs.Prelude.{◌≡◌, ◌≤◌, ◌<◌, ◌+◌, ◌∷◌, ◌++◌, ◌↔◌, ℕ, List, [], Bool, true, false, IsTrue, IfOk, OnOk, OnErr, IsOk, IfSome, IfNone, Some, None, vec_len, vec_capacity, length, if◌then◌else◌};
 ghost use Rattle.dover_model.specs.Limits.{last_tick, most_items};
 ghost use Rattle.dover_model.specs.declared.events.Version.TheVariants.{Two};
 ghost use Rattle.dover_model.specs.Fraction.{IsRatio};
@@ -10,11 +10,12 @@ ghost use Rattle.dover_model.specs.Verdict.{version_of_number};
 
 use crate::course::Course;
 use crate::stage::Stage;
-use crate::verdict::Expected;
+use crate::verdict::{Expected, Verdict};
 use admission::Admission;
 use dover_model::{Event, Job, Memory, Ratio, Refusal, Version, jobs::LAST_TICK, ratios::{MOST_P, MOST_Q}};
 use std::alloc::Global;
 use std::marker::Model;
+use root_compare::bound;
 use trace_format::{TraceLine, read_trace_line};
 
 /// The greatest number of items of a session.
@@ -58,9 +59,13 @@ impl Reader {
     ghost use Rattle.dover_model.specs.Admission.{refusal_of};
     ghost use Rattle.dover_model.specs.Text.{text_of};
     ghost use Rattle.admission.specs.Kept.{StandsFor, HasRoom};
+    ghost use Rattle.dover_model.specs.Bound.{bound};
+    ghost use Rattle.dover_model.specs.Run.{completed_value};
+    ghost use Rattle.dover_model.specs.Session.{instance_of, admitted_jobs};
+    ghost use Rattle.trace_judge.specs.declared.verdict.Verdict.TheVariants.{Accepted};
     ghost use Rattle.trace_reading.specs.Leading.{WaitsUntil};
     ghost use Rattle.trace_judge.specs.Course.{GoesOnFrom};
-    ghost use Rattle.trace_judge.specs.Reads.{Reads, ReadsAhead, StaysAhead, Goes, Waited, CanRelease, Took, TookLine, IsUnchangedFor, expected_of, releases_in, jobs_in, job_lines_in};
+    ghost use Rattle.trace_judge.specs.Reads.{Reads, ReadsAhead, StaysAhead, Goes, Ends, Waited, CanRelease, Took, TookLine, IsUnchangedFor, expected_of, releases_in, jobs_in, job_lines_in};
 
     /// No line. Where `keep` is true, the steps of the run are kept.
     pub fn new(alloc: Global, keep: bool) -> Result<Reader, Memory>
@@ -131,6 +136,28 @@ impl Reader {
             Stage::Going => Expected::Step(self.course.upcoming()),
             Stage::Ended => Expected::Nothing,
         }
+    }
+
+    /// The verdict of a whole trace.
+    pub fn accepted(&self) -> Verdict
+        ensures { (ls : List (List ℕ)) (S : Session) → Ends self.now ls S → result ≡ Accepted S.rules.ratio S.rules.version
+            (completed_value (instance_of S)) (bound S.rules.ratio (completed_value (instance_of S))) (length (admitted_jobs S.items)) }
+    {
+        let (ratio, value) = (self.course.ratio(), self.course.value());
+        Verdict::Accepted {
+            ratio,
+            version: self.course.version(),
+            value,
+            bound: bound(value, ratio),
+            jobs: self.course.jobs(),
+        }
+    }
+
+    /// The steps that were kept.
+    pub fn into_steps(self) -> Vec<Event>
+        ensures { result.items ≡ self.entry.steps }
+    {
+        self.steps
     }
 
     // The header comes first.
