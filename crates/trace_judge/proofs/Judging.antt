@@ -34,7 +34,8 @@ use Rattle.trace_reading.proofs.Waiting.{sees_not_ended}
 use Rattle.trace_judge.specs.declared.stage.Stage.{Stage}
 use Rattle.trace_judge.specs.declared.stage.Stage.TheVariants.{Opening, Going, Ended}
 use Rattle.trace_judge.specs.declared.verdict.Expected.{Expected}
-use Rattle.trace_judge.specs.declared.verdict.Verdict.TheVariants.{Accepted}
+use Rattle.trace_judge.specs.declared.verdict.Verdict.{Verdict}
+use Rattle.trace_judge.specs.declared.verdict.Verdict.TheVariants.{Accepted, Wrong, Short}
 use Rattle.dover_model.specs.Bound.{bound}
 use Rattle.dover_model.specs.Fraction.{Fraction}
 use Rattle.dover_model.specs.declared.events.Version.{Version}
@@ -42,8 +43,8 @@ use Rattle.trace_judge.specs.declared.judge.Judge.{Judge}
 use Rattle.trace_judge.specs.declared.judge.Found.{Found}
 use Rattle.trace_judge.specs.declared.judge.Found.TheVariants.{Good, Wrong as Bad, NoMemory}
 use Rattle.trace_judge.specs.Reads.{Reading, expected_of, Opens, Goes, Ends, Reads, is_job_line, job_lines_in, kept_steps}
-use Rattle.trace_judge.specs.Judging.{jobs_named, steps_told, IsGood, IsCut, StandsFor, Fed, IsOverfed}
-use Rattle.trace_judge.proofs.Readings.{HereBy, ended_due}
+use Rattle.trace_judge.specs.Judging.{jobs_named, steps_told, IsGood, IsCut, StandsFor, Fed, IsOverfed, Tells, is_wrong}
+use Rattle.trace_judge.proofs.Readings.{HereBy, ended_due, ends_of, reads_ahead, with_room, room_opens, room_goes, room_ends}
 
 -- ---- a trace has few lines
 
@@ -315,3 +316,65 @@ same_verdict S k v value most jobs ratio version worth within count =
     ∙ ap (λ x. Accepted S.rules.ratio S.rules.version (completed_value (instance_of S)) x jobs)
         (within ∙ ap (λ x. bound x value) ratio ∙ ap (bound S.rules.ratio) worth)
     ∙ ap (Accepted S.rules.ratio S.rules.version (completed_value (instance_of S)) (bound S.rules.ratio (completed_value (instance_of S)))) count
+
+-- ---- the verdict
+
+-- no line of a text that is good is wrong
+pub good_not_wrong : (j : Judge) (text : List ℕ) → IsGood j text → is_wrong (model.verdict text) ≡ false
+good_not_wrong j text good = by_stage j.reader.stage refl where
+  by_stage : (s : Stage) → j.reader.stage ≡ s → is_wrong (model.verdict text) ≡ false
+  by_stage Opening is = ap is_wrong (reads_short j.reader text good.reads (ap is_ended is) good.counts)
+  by_stage Going is = ap is_wrong (reads_short j.reader text good.reads (ap is_ended is) good.counts)
+  by_stage Ended is =
+      let end = ends_of j.reader (whole_lines text) is (reads_ahead j.reader (whole_lines text) good.reads) in
+      ap is_wrong (reads_accepted j.reader text good.reads (ap is_ended is) good.counts end.0 end.1)
+
+-- nor of one that the judge stands for, where it found no wrong line
+pub stands_not_wrong : (j : Judge) (text : List ℕ) → StandsFor j text → ((line : ℕ) (due : Expected) → j.found ≡ Bad line due → ⊥)
+    → is_wrong (model.verdict text) ≡ false
+stands_not_wrong j text stands none = by_found j.found refl stands where
+  by_found : (f : Found) → j.found ≡ f → StandsBy f j text → is_wrong (model.verdict text) ≡ false
+  by_found Good is good = good_not_wrong j text good
+  by_found (Bad line due) is wrong = absurd (none line due is)
+  by_found NoMemory is there = absurd there
+
+-- the steps of an accepted run were kept
+pub steps_accepted : (j : Judge) (text : List ℕ) → StandsFor j text → (S : Session) → model.verdict text ≡ model.Accepted S
+    → j.reader.steps ≡ kept_steps j.reader.keep (printed (instance_of S))
+steps_accepted j text stands S told = by_found j.found refl stands where
+  by_stage : IsGood j text → (s : Stage) → j.reader.stage ≡ s → j.reader.steps ≡ kept_steps j.reader.keep (printed (instance_of S))
+  by_stage good Opening is = absurd (let clash : model.Short (length (whole_lines text)) ≡ model.Accepted S =
+      sym (reads_short j.reader text good.reads (ap is_ended is) good.counts) ∙ told in cc)
+  by_stage good Going is = absurd (let clash : model.Short (length (whole_lines text)) ≡ model.Accepted S =
+      sym (reads_short j.reader text good.reads (ap is_ended is) good.counts) ∙ told in cc)
+  by_stage good Ended is =
+      let end = ends_of j.reader (whole_lines text) is (reads_ahead j.reader (whole_lines text) good.reads) in
+      let same : model.Accepted end.0 ≡ model.Accepted S =
+      sym (reads_accepted j.reader text good.reads (ap is_ended is) good.counts end.0 end.1) ∙ told in
+      let one : end.0 ≡ S = cc in
+      end.1.steps ∙ ap (λ (T : Session). kept_steps j.reader.keep (printed (instance_of T))) one
+
+  by_found : (f : Found) → j.found ≡ f → StandsBy f j text → j.reader.steps ≡ kept_steps j.reader.keep (printed (instance_of S))
+  by_found Good is good = by_stage good j.reader.stage refl
+  by_found (Bad line due) is wrong = absurd (let clash : model.Wrong line (expected_of due) ≡ model.Accepted S = sym wrong ∙ told in cc)
+  by_found NoMemory is there = absurd there
+
+-- what is left of the steps
+pub steps_left : (j : Judge) (text : List ℕ) → StandsFor j text → (v : Verdict) → Tells v text
+    → ((k : Fraction) (version : Version) (value most jobs : ℕ) → v ≡ Accepted k version value most jobs → ⊥) → [] ≡ steps_told j.reader.keep (model.verdict text)
+steps_left j text stands (Accepted k version value most jobs) tells other = absurd (other k version value most jobs refl)
+steps_left j text stands (Wrong line due) tells other = ap (steps_told j.reader.keep) (sym tells)
+steps_left j text stands (Short lines) tells other = ap (steps_told j.reader.keep) (sym tells)
+
+-- room for more jobs changes nothing
+pub room_stands : (j : Judge) (ready spare room : ℕ) (text : List ℕ) → StandsFor j text → StandsFor (record j { reader = with_room j.reader ready spare room }) text
+room_stands j ready spare room text stands = by_found j.found stands where
+  by_stage : (s : Stage) → HereBy s j.reader (whole_lines text) → HereBy s (with_room j.reader ready spare room) (whole_lines text)
+  by_stage Opening it = room_opens j.reader ready spare room (whole_lines text) it
+  by_stage Going it = (it.0, it.1, room_goes j.reader ready spare room (whole_lines text) it.0 it.1 it.1 it.2)
+  by_stage Ended it = (it.0, room_ends j.reader ready spare room (whole_lines text) it.0 it.1)
+
+  by_found : (f : Found) → StandsBy f j text → StandsBy f (record j { reader = with_room j.reader ready spare room }) text
+  by_found Good good = record { cut = good.cut; counts = good.counts; reads = by_stage j.reader.stage good.reads }
+  by_found (Bad line due) wrong = wrong
+  by_found NoMemory there = there

@@ -77,42 +77,46 @@ module _ (r : Reading) (ls : List (List ℕ)) where
 abbrev pub with_room : Reading → (ready spare room : ℕ) → Reading
 with_room r ready spare room = record r { course = record r.course { room = ready }; spare = spare; room = room }
 
--- it is kept of the same lines
-pub room_ahead : (r : Reading) (ready spare room : ℕ) (ls : List (List ℕ)) → ReadsAhead r ls → ReadsAhead (with_room r ready spare room) ls
-room_ahead r ready spare room ls reads = by_stage r.stage reads where
-  by_stage : (s : Stage) → AheadBy s r ls → AheadBy s (with_room r ready spare room) ls
-  by_stage Opening it = record {
+module _ (r : Reading) (ready spare room : ℕ) (ls : List (List ℕ)) where
+  -- it is kept of the same lines, before the header
+  pub room_opens : Opens r ls → Opens (with_room r ready spare room) ls
+  room_opens it = record {
     lines = it.lines;
     course = ap (λ (c : Course). record c { room = ready }) it.course;
     items = it.items;
     floor = it.floor;
     steps = it.steps;
   }
-  by_stage Going it = (
-    it.0,
-    it.1,
-    it.2,
-    record {
-      sees = it.3.sees;
-      idles = it.3.idles;
-      follows = follows_room r.course ready (instance_of it.0) it.2 it.3.follows;
-      kept = it.3.kept;
-      ratio = it.3.ratio;
-      items = it.3.items;
-      steps = it.3.steps;
-    },
-  )
-  by_stage Ended it = (
-    it.0,
-    record {
-      valid = it.1.valid;
-      lines = it.1.lines;
-      rules = it.1.rules;
-      value = it.1.value;
-      jobs = it.1.jobs;
-      steps = it.1.steps;
-    },
-  )
+
+  -- behind it
+  pub room_goes : (S : Session) (z y : State) → Goes r ls S z y → Goes (with_room r ready spare room) ls S z y
+  room_goes S z y it = record {
+    sees = it.sees;
+    idles = it.idles;
+    follows = follows_room r.course ready (instance_of S) y it.follows;
+    kept = it.kept;
+    ratio = it.ratio;
+    items = it.items;
+    steps = it.steps;
+  }
+
+  -- and behind the end
+  pub room_ends : (S : Session) → Ends r ls S → Ends (with_room r ready spare room) ls S
+  room_ends S it = record {
+    valid = it.valid;
+    lines = it.lines;
+    rules = it.rules;
+    value = it.value;
+    jobs = it.jobs;
+    steps = it.steps;
+  }
+
+  pub room_ahead : ReadsAhead r ls → ReadsAhead (with_room r ready spare room) ls
+  room_ahead reads = by_stage r.stage reads where
+    by_stage : (s : Stage) → AheadBy s r ls → AheadBy s (with_room r ready spare room) ls
+    by_stage Opening it = room_opens it
+    by_stage Going it = (it.0, it.1, it.2, room_goes it.0 it.1 it.2 it.3)
+    by_stage Ended it = (it.0, room_ends it.0 it.1)
 
 -- ---- what is due
 

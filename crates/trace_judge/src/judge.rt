@@ -233,11 +233,11 @@ impl Judge {
     ///
     /// `Memory` where `feed` answered it.
     pub fn close(self) -> Result<Closed, Memory>
-        ensures tells { IfOk result (λ closed. (text : List ℕ) → StandsFor self.entry text → Tells closed.verdict text) }
-        ensures steps { IfOk result (λ closed. (text : List ℕ) → StandsFor self.entry text →
-            closed.steps.items ≡ steps_told self.entry.reader.keep (model.verdict text)) }
-        ensures ok { (text : List ℕ) → StandsFor self.entry text → IsOk result }
-        ensures failed { OnOk result (self.entry.found ≢ NoMemory) }
+        ensures tells { IfOk result (λ closed. (text : List ℕ) → StandsFor self text → Tells closed.verdict text) }
+        ensures steps { IfOk result (λ closed. (text : List ℕ) → StandsFor self text →
+            closed.steps.items ≡ steps_told self.reader.keep (model.verdict text)) }
+        ensures ok { (text : List ℕ) → StandsFor self text → IsOk result }
+        ensures failed { OnOk result (self.found ≢ NoMemory) }
     {
         let verdict = self.verdict()?;
         let mut steps = self.reader.into_steps();

@@ -155,7 +155,7 @@ impl Reader {
 
     /// The steps that were kept.
     pub fn into_steps(self) -> Vec<Event>
-        ensures { result.items ≡ self.entry.steps }
+        ensures { result.items ≡ self.steps }
     {
         self.steps
     }
