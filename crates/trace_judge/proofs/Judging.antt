@@ -19,8 +19,11 @@ use Rattle.dover_model.specs.Trace.{TraceLine, Printed, Refuses, Placed, put_in,
 use Rattle.dover_model.specs.Verdict as model
 use Rattle.dover_model.proofs.Beginnings.{begins_length}
 use Rattle.dover_model.proofs.Cuts.{onto, cut_append}
+use Rattle.dover_model.proofs.BoundLaws.{bound as none_worth_more}
 use Rattle.dover_model.proofs.Ending.{few_printed}
+use Rattle.dover_model.proofs.Honest.{honest}
 use Rattle.dover_model.proofs.Named.{beginnings_pass}
+use Rattle.dover_model.proofs.Runs.{all_value}
 use Rattle.dover_model.proofs.Tests.{never}
 use Rattle.dover_model.proofs.TraceEnds.{trace_ends}
 use Rattle.dover_model.proofs.WrongStays.{begun, Starts, wrong_verdict_stays}
@@ -43,7 +46,7 @@ use Rattle.trace_judge.specs.declared.judge.Judge.{Judge}
 use Rattle.trace_judge.specs.declared.judge.Found.{Found}
 use Rattle.trace_judge.specs.declared.judge.Found.TheVariants.{Good, Wrong as Bad, NoMemory}
 use Rattle.trace_judge.specs.Reads.{Reading, expected_of, Opens, Goes, Ends, Reads, is_job_line, job_lines_in, kept_steps}
-use Rattle.trace_judge.specs.Judging.{jobs_named, steps_told, IsGood, IsCut, StandsFor, Fed, IsOverfed, Tells, is_wrong}
+use Rattle.trace_judge.specs.Judging.{jobs_named, steps_told, IsGood, IsCut, StandsFor, Fed, IsOverfed, Tells, IsEarned, is_wrong}
 use Rattle.trace_judge.proofs.Readings.{HereBy, ended_due, ends_of, reads_ahead, with_room, room_opens, room_goes, room_ends}
 
 -- ---- a trace has few lines
@@ -378,3 +381,12 @@ room_stands j ready spare room text stands = by_found j.found stands where
   by_found Good good = record { cut = good.cut; counts = good.counts; reads = by_stage j.reader.stage good.reads }
   by_found (Bad line due) wrong = wrong
   by_found NoMemory there = there
+
+-- what the run of a valid session earns
+pub earned : (S : Session) → IsValidSession S → IsEarned S S.rules.ratio (completed_value (instance_of S))
+earned S valid = record {
+  valid = valid;
+  within = λ s. none_worth_more (instance_of S) s valid.jobs;
+  honest = honest (instance_of S) valid.jobs;
+  whole = all_value (instance_of S) valid.jobs;
+}

@@ -2,9 +2,12 @@
 use Rattle.std.specs.Prelude.{◌≡◌, ◌≤◌, ◌<◌, ◌+◌, ℕ, List, [], ◌++◌, length, Bool, true, false, if◌then◌else◌}
 use Rattle.std.specs.List.{filter}
 use Rattle.dover_model.specs.declared.events.Event.{Event}
-use Rattle.dover_model.specs.Bound.{bound}
-use Rattle.dover_model.specs.Run.{printed, completed_value}
-use Rattle.dover_model.specs.Session.{Session, instance_of, admitted_jobs}
+use Rattle.std.specs.List.{sum_by}
+use Rattle.dover_model.specs.Bound.{IsWithin, bound}
+use Rattle.dover_model.specs.Fraction.{Fraction}
+use Rattle.dover_model.specs.Schedules.{Meets, worth}
+use Rattle.dover_model.specs.Run.{printed, ran, completed_value}
+use Rattle.dover_model.specs.Session.{Session, IsValidSession, instance_of, admitted_jobs}
 use Rattle.dover_model.specs.Lines.{whole_lines, rest_of}
 use Rattle.dover_model.specs.Verdict as model
 use Rattle.line_text.specs.Cutting as cutting
@@ -52,11 +55,19 @@ pub record IsCut (j : Judge) (step : Step) (before text : List ℕ) : Type 0 whe
   pub parts : cutting.HasCut step j.lines.line before text
   pub reads : Reads j.reader (whole_lines before)
 
+-- the session is valid: no schedule of its jobs is worth more than the ratio allows for this value, which the run's own schedule is worth, and
+-- which is that of all jobs where some schedule completes them all
+pub record IsEarned (S : Session) (k : Fraction) (value : ℕ) : Type 0 where
+  pub valid : IsValidSession S
+  pub within : (s : List ℕ) → IsWithin k (worth (instance_of S) s) value
+  pub honest : worth (instance_of S) (ran (instance_of S)) ≡ value
+  pub whole : Meets (instance_of S) → value ≡ sum_by (λ j. j.value) (admitted_jobs S.items)
+
 -- the judge's verdict is that of the text, as the model has it
 abbrev pub Tells : Verdict → List ℕ → Type 0
 Tells (Accepted k version value most jobs) text = (S : Session) × (model.verdict text ≡ model.Accepted S)
     × (k ≡ S.rules.ratio) × (version ≡ S.rules.version) × (value ≡ completed_value (instance_of S))
-    × (most ≡ bound k value) × (jobs ≡ length (admitted_jobs S.items))
+    × (most ≡ bound k value) × (jobs ≡ length (admitted_jobs S.items)) × IsEarned S k value
 Tells (Wrong line due) text = model.verdict text ≡ model.Wrong line (expected_of due)
 Tells (Short lines) text = model.verdict text ≡ model.Short lines
 
