@@ -10,3 +10,6 @@ mod verdict;
 
 pub use judge::{Closed, Judge};
 pub use verdict::{Expected, Verdict};
+
+#[cfg(test)]
+mod tests;
