@@ -1,28 +1,27 @@
 -- What the judge keeps of a run, step by step.
-use Rattle.std.proofs.Common.{◌≡◌, ℕ, zero, suc, ◌+◌, ◌≤◌, ◌<◌, inl, inr, List, [], ◌∷◌, ◌++◌, length, length-append, map, take, get_or, refl, sym, ap, ◌∙◌, subst, Bool, true, false, cond, not, arith}
+use Rattle.std.proofs.Common.{◌≡◌, ℕ, zero, suc, ◌+◌, ◌≤◌, ◌<◌, inl, List, [], ◌∷◌, length, take, get_or, refl, sym, ap, ◌∙◌, subst, Bool, true, false, cond, not, arith}
 use Rattle.std.specs.Prelude.{nat_le, ◌&&◌, Some, None}
-use Rattle.std.specs.List.{AllByRecursion, filter, list_all, sum_by}
+use Rattle.std.specs.List.{filter, list_all}
 use Rattle.std.proofs.lemmas.List.Sums.{sum_by-cons}
 use Rattle.dover_model.specs.Limits.{last_tick}
-use Rattle.dover_model.specs.JobFacts.{JobFacts}
 use Rattle.dover_model.specs.Fraction.{IsRatio}
 use Rattle.dover_model.specs.declared.events.Event.{Event}
 use Rattle.dover_model.specs.declared.events.Event.TheVariants.{End}
 use Rattle.dover_model.specs.declared.events.Task.{Task}
 use Rattle.dover_model.specs.Instance.{Rules, Instance, IsValid, total_value}
 use Rattle.dover_model.specs.State.{State, opening, is_over, is_done, value_sum}
-use Rattle.dover_model.specs.Step.{Move, Prints, Waits, Ticks, step, open_step, after}
-use Rattle.dover_model.specs.Run.{Step, event_of, last_deadline}
+use Rattle.dover_model.specs.Step.{Move, Prints, Ticks, step, open_step, after}
+use Rattle.dover_model.specs.Run.{event_of, last_deadline}
 use Rattle.dover_model.specs.Settled.{is_late}
-use Rattle.dover_model.specs.Sound.{IsMember, Each, Keeps, jobs_of}
-use Rattle.dover_model.specs.WholeRun.{IsBarrier, IsBefore}
-use Rattle.dover_model.proofs.Members.{sum_filter, sum_le, sum_map, all_each, member_filter}
+use Rattle.dover_model.specs.Sound.{IsMember, Keeps}
+use Rattle.dover_model.specs.WholeRun.{IsBarrier}
+use Rattle.dover_model.proofs.Members.{sum_filter, sum_le, sum_map, member_filter}
 use Rattle.dover_model.proofs.Kept.{opening_keeps, open_kept, jobs_kept}
 use Rattle.dover_model.proofs.Honest.{count_jobs}
 use Rattle.dover_model.proofs.Prefixes.{step_open}
 use Rattle.dover_model.proofs.Settling.{at_barrier}
 use Rattle.dover_model.proofs.ShortNumbers.{deadline_known, ticks_early}
-use Rattle.dover_model.proofs.Tests.{never, not_true}
+use Rattle.dover_model.proofs.Tests.{not_true}
 use Rattle.plain_step.specs.Moves.{state_at, tasks_after}
 use Rattle.trace_reading.specs.Leading.{GoesOn, IsSilent, Settles, Idles, WaitsUntil, PrintsNext}
 use Rattle.trace_reading.specs.Ready.{is_ready, ready_part}
@@ -31,7 +30,7 @@ use Rattle.trace_reading.proofs.ReadyParts.{step_ready, ready_after, done_after,
 use Rattle.trace_reading.proofs.Waiting.{some_goes_on, settles_idles, over_waits_until}
 use Rattle.trace_judge.specs.Parts.{IsPart, SettlesTo}
 use Rattle.trace_judge.proofs.Parts.{part_total}
-use Rattle.trace_judge.specs.Course.{Course, Follows, IsCourse, new_course, with_release, Reached, Settled}
+use Rattle.trace_judge.specs.Course.{Course, Follows, IsCourse, new_course, Reached, Settled}
 
 -- ---- what is kept
 

@@ -1,9 +1,9 @@
 -- What the judge finds of a text, byte by byte.
 use Rattle.std.proofs.Common.{◌≡◌, ℕ, suc, ◌+◌, ◌-◌, ◌*◌, ◌≤◌, ◌<◌, max, min, List, [], ◌∷◌, ◌++◌, length, length-append, map, take, drop, refl, sym, ap, ◌∙◌, subst}
 use Rattle.std.proofs.Common.{Bool, true, false, cond, ◌||◌, ◌&&◌, arith, take-append-drop}
-use Rattle.std.specs.Prelude.{nat_lt, nat_le, ◌==◌, Option, Some, None}
+use Rattle.std.specs.Prelude.{nat_lt, ◌==◌}
 use Rattle.std.specs.List.{filter}
-use Rattle.std.proofs.lemmas.Bool.{ltb-true, lt-ltb}
+use Rattle.std.proofs.lemmas.Bool.{lt-ltb}
 use Rattle.std.specs.Prelude.{Result, Ok, Err, OnOk, OnErr, IsErr}
 use Rattle.dover_model.specs.declared.Memory.{Memory}
 use Rattle.std.proofs.lemmas.List.{length-map, append_assoc, append-nil}
@@ -14,8 +14,7 @@ use Rattle.dover_model.specs.JobFacts.{JobFacts}
 use Rattle.dover_model.specs.Lines.{whole_lines, rest_of, is_too_long, cut}
 use Rattle.dover_model.specs.Run.{printed, completed_value}
 use Rattle.dover_model.specs.Session.{Item, JobItem, RefusedItem, Session, instance_of, admitted_jobs, IsValidSession}
-use Rattle.dover_model.specs.State.{State}
-use Rattle.dover_model.specs.Trace.{TraceLine, Printed, Refuses, Placed, put_in, places_after, places_of, lines_among, text_of_line, texts_among, trace_lines}
+use Rattle.dover_model.specs.Trace.{Printed, Refuses, Placed, put_in, places_after, places_of, lines_among, text_of_line, trace_lines}
 use Rattle.dover_model.specs.Verdict as model
 use Rattle.dover_model.proofs.Beginnings.{begins_length}
 use Rattle.dover_model.proofs.Cuts.{onto, cut_append}
@@ -31,7 +30,7 @@ use Rattle.line_text.specs.Cutting as cutting
 use Rattle.line_text.specs.Cutting.{Cutting, with_byte, after_byte, goes_on, most_count, HasCut}
 use Rattle.line_text.specs.declared.cutting.Step.{Step}
 use Rattle.line_text.specs.declared.cutting.Step.TheVariants.{More, Line, TooLong}
-use Rattle.trace_reading.proofs.Judging.{good_text, wrong_line, wrong_rest, accepted_text, short_text}
+use Rattle.trace_reading.proofs.Judging.{good_text, wrong_rest, accepted_text, short_text}
 use Rattle.trace_reading.proofs.Seeing.{sees_begins}
 use Rattle.trace_reading.proofs.Waiting.{sees_not_ended}
 use Rattle.trace_judge.specs.declared.stage.Stage.{Stage}
@@ -45,9 +44,9 @@ use Rattle.dover_model.specs.declared.events.Version.{Version}
 use Rattle.trace_judge.specs.declared.judge.Judge.{Judge}
 use Rattle.trace_judge.specs.declared.judge.Found.{Found}
 use Rattle.trace_judge.specs.declared.judge.Found.TheVariants.{Good, Wrong as Bad, NoMemory}
-use Rattle.trace_judge.specs.Reads.{Reading, expected_of, Opens, Goes, Ends, Reads, is_job_line, job_lines_in, kept_steps}
+use Rattle.trace_judge.specs.Reads.{Reading, expected_of, Ends, Reads, is_job_line, job_lines_in, kept_steps}
 use Rattle.trace_judge.specs.Judging.{jobs_named, steps_told, IsGood, IsCut, StandsFor, Fed, IsOverfed, Tells, IsEarned, is_wrong}
-use Rattle.trace_judge.proofs.Readings.{HereBy, ended_due, ends_of, reads_ahead, with_room, room_opens, room_goes, room_ends}
+use Rattle.trace_judge.proofs.Readings.{HereBy, ends_of, reads_ahead, with_room, room_opens, room_goes, room_ends}
 
 -- ---- a trace has few lines
 
@@ -57,8 +56,12 @@ length_put_in [] before es = omega (arith, length-map es Printed)
 length_put_in (p ∷ ps) before es =
     let n : ℕ = p.place - before in
     let parts : length (take n es) + length (drop n es) ≡ length es = sym (length-append (take n es) (drop n es)) ∙ ap length (take-append-drop n es) in
-    omega (arith, length-append (map Printed (take n es)) (Refuses p.refused ∷ put_in ps (max before p.place) (drop n es)),
-        length-map (take n es) Printed, length_put_in ps (max before p.place) (drop n es))
+    omega (
+      arith,
+      length-append (map Printed (take n es)) (Refuses p.refused ∷ put_in ps (max before p.place) (drop n es)),
+      length-map (take n es) Printed,
+      length_put_in ps (max before p.place) (drop n es),
+    )
 
 -- no more of them than items
 few_places : (rules : Rules) (jobs : List JobFacts) (items : List Item) → length (places_after rules jobs items) ≤ length items
@@ -75,8 +78,16 @@ few_lines (l ∷ ls) passes =
     let steps : length (printed (instance_of S)) ≤ 5 * length (admitted_jobs S.items) + 1 = few_printed (instance_of S) it.valid.jobs in
     let whole : length (trace_lines S) ≡ suc (length (lines_among S (printed (instance_of S)))) =
     ap suc (length-map (lines_among S (printed (instance_of S))) text_of_line) in
-    omega (arith, begins_length (l ∷ ls) (trace_lines S) it.begins, whole, steps, length_put_in (places_of S) 0 (printed (instance_of S)),
-        few_places S.rules [] S.items, it.valid.count, it.valid.jobs.count)
+    omega (
+      arith,
+      begins_length (l ∷ ls) (trace_lines S) it.begins,
+      whole,
+      steps,
+      length_put_in (places_of S) 0 (printed (instance_of S)),
+      few_places S.rules [] S.items,
+      it.valid.count,
+      it.valid.jobs.count,
+    )
 
 -- ---- by the stage
 
@@ -177,8 +188,11 @@ pub named_more : (text piece : List ℕ) → jobs_named text ≤ jobs_named (tex
 named_more text piece =
     let more : List (List ℕ) = (onto (rest_of text) (cut piece)).0 in
     let whole : whole_lines (text ++ piece) ≡ whole_lines text ++ more = ap (λ (c : List (List ℕ) × List ℕ). c.0) (cut_append text piece) in
-    omega (arith, ap (λ ls. length (filter is_job_line ls)) whole ∙ ap length (filter-append is_job_line (whole_lines text) more)
-    ∙ length-append (filter is_job_line (whole_lines text)) (filter is_job_line more))
+    omega (
+      arith,
+      ap (λ ls. length (filter is_job_line ls)) whole ∙ ap length (filter-append is_job_line (whole_lines text) more)
+          ∙ length-append (filter is_job_line (whole_lines text)) (filter is_job_line more),
+    )
 
 -- one line more
 pub named_line : (ls : List (List ℕ)) (l : List ℕ) → length (filter is_job_line (ls ++ l ∷ [])) ≡ length (filter is_job_line ls) + job_lines_in l
@@ -277,8 +291,8 @@ err_of (Err e) is p = p
 pub wrong_fed : (j : Judge) (line : ℕ) (due : Expected) (piece : List ℕ) → j.found ≡ Bad line due → Fed j j piece
 wrong_fed j line due piece is = record {
   stands = λ text stands.
-    let wrong : StandsBy (Bad line due) j text = subst (λ f. StandsBy f j text) is stands in
-    subst (λ f. StandsBy f j (text ++ piece)) (sym is) (wrong_verdict_stays text piece line (expected_of due) wrong);
+      let wrong : StandsBy (Bad line due) j text = subst (λ f. StandsBy f j text) is stands in
+      subst (λ f. StandsBy f j (text ++ piece)) (sym is) (wrong_verdict_stays text piece line (expected_of due) wrong);
   spare = λ text stands. omega (arith, named_more text piece);
   keep = refl;
 }
@@ -295,16 +309,24 @@ fed_nothing j = record {
 pub fed_on : (a b c : Judge) (piece more : List ℕ) → Fed a b piece → Fed b c more → Fed a c (piece ++ more)
 fed_on a b c piece more first next = record {
   stands = λ text stands. subst (StandsFor c) (append_assoc text piece more) (next.stands (text ++ piece) (first.stands text stands));
-  spare = λ text stands. omega (arith, first.spare text stands, next.spare (text ++ piece) (first.stands text stands),
-      ap jobs_named (append_assoc text piece more));
+  spare = λ text stands. omega (
+    arith,
+    first.spare text stands,
+    next.spare (text ++ piece) (first.stands text stands),
+    ap jobs_named (append_assoc text piece more),
+  );
   keep = next.keep ∙ first.keep;
 }
 
 -- too much behind a piece
 pub overfed_on : (a b : Judge) (piece more rest : List ℕ) → Fed a b piece → IsOverfed b more → IsOverfed a ((piece ++ more) ++ rest)
-overfed_on a b piece more rest first over text stands = omega (arith, first.spare text stands, over (text ++ piece) (first.stands text stands),
-    named_more ((text ++ piece) ++ more) rest,
-    ap jobs_named (ap (λ l. l ++ rest) (append_assoc text piece more) ∙ append_assoc text (piece ++ more) rest))
+overfed_on a b piece more rest first over text stands = omega (
+  arith,
+  first.spare text stands,
+  over (text ++ piece) (first.stands text stands),
+  named_more ((text ++ piece) ++ more) rest,
+  ap jobs_named (ap (λ l. l ++ rest) (append_assoc text piece more) ∙ append_assoc text (piece ++ more) rest),
+)
 
 -- ---- what is accepted
 
@@ -317,7 +339,7 @@ same_verdict S k v value most jobs ratio version worth within count =
     ap (λ x. Accepted x v value most jobs) ratio ∙ ap (λ x. Accepted S.rules.ratio x value most jobs) version
     ∙ ap (λ x. Accepted S.rules.ratio S.rules.version x most jobs) worth
     ∙ ap (λ x. Accepted S.rules.ratio S.rules.version (completed_value (instance_of S)) x jobs)
-        (within ∙ ap (λ x. bound x value) ratio ∙ ap (bound S.rules.ratio) worth)
+    (within ∙ ap (λ x. bound x value) ratio ∙ ap (bound S.rules.ratio) worth)
     ∙ ap (Accepted S.rules.ratio S.rules.version (completed_value (instance_of S)) (bound S.rules.ratio (completed_value (instance_of S)))) count
 
 -- ---- the verdict

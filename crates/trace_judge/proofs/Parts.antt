@@ -1,20 +1,18 @@
 -- The jobs of a run that aren't over, over silent steps.
-use Rattle.std.proofs.Common.{◌≡◌, ℕ, zero, suc, ◌+◌, ◌-◌, ◌≤◌, ◌<◌, inl, inr, List, [], ◌∷◌, ◌++◌, length, map, refl, sym, ap, ◌∙◌, subst, Bool, true, false, cond, arith, eqb}
+use Rattle.std.proofs.Common.{◌≡◌, ℕ, zero, suc, ◌+◌, ◌-◌, ◌≤◌, ◌<◌, List, [], ◌∷◌, ◌++◌, length, map, refl, sym, ap, ◌∙◌, subst, Bool, true, false, cond, arith, eqb}
 use Rattle.std.specs.Prelude.{Some, None, nat_le, nat_lt, ◌&&◌}
-use Rattle.std.specs.List.{AllByRecursion, filter, sum_by}
+use Rattle.std.specs.List.{AllByRecursion, filter}
 use Rattle.std.proofs.lemmas.Bool.{lt-leb, le-leb, ltb-true, ltb-false, eq-eqb}
-use Rattle.dover_model.specs.JobFacts.{JobFacts, IsJob}
-use Rattle.dover_model.specs.Fraction.{Fraction}
+use Rattle.dover_model.specs.JobFacts.{IsJob}
 use Rattle.dover_model.specs.declared.events.Task.{Task}
-use Rattle.dover_model.specs.declared.events.Role.{Role}
-use Rattle.dover_model.specs.declared.events.Role.TheVariants.{Fresh, Waiting, Running, Held}
-use Rattle.dover_model.specs.Instance.{Rules, Instance, IsValid, total_value}
-use Rattle.dover_model.specs.State.{State, value_sum, is_over}
+use Rattle.dover_model.specs.declared.events.Role.TheVariants.{Fresh, Waiting}
+use Rattle.dover_model.specs.Instance.{Rules, total_value}
+use Rattle.dover_model.specs.State.{State, value_sum}
 use Rattle.dover_model.specs.Step.{Move, Prints, Waits, Ticks, open_step, after, with_role}
-use Rattle.dover_model.specs.Run.{Step, event_of}
+use Rattle.dover_model.specs.Run.{event_of}
 use Rattle.dover_model.specs.Settled.{is_late}
 use Rattle.dover_model.specs.WholeRun.{open_at, IsBarrier}
-use Rattle.dover_model.specs.Sound.{IsMember, Each, Keeps, jobs_of}
+use Rattle.dover_model.specs.Sound.{IsMember, Each}
 use Rattle.dover_model.proofs.Members.{sum_filter, sum_le, sum_map, member_filter, filter_member, on_map}
 use Rattle.dover_model.proofs.Roles.{passes}
 use Rattle.dover_model.proofs.Deeds.{Deed, Completed, Resumed, Started, Began, Preempted, Stayed, Arrived, Taken, Abandoned, Rested, tick_quiet}
@@ -24,7 +22,7 @@ use Rattle.plain_step.specs.Jumps.{ticked_by, ticks_on}
 use Rattle.plain_step.specs.Moves.{state_at}
 use Rattle.plain_step.proofs.Jumping.{ticks_are_a_jump}
 use Rattle.trace_reading.specs.Leading.{IsSilent, Settles}
-use Rattle.trace_reading.specs.Ready.{is_ready, ready_part}
+use Rattle.trace_reading.specs.Ready.{is_ready}
 use Rattle.trace_reading.proofs.Leading.{settles_append}
 use Rattle.trace_reading.proofs.ReadyParts.{step_ready, part_settles}
 use Rattle.trace_judge.specs.Parts.{IsPart, SettlesTo, NoneFresh}

@@ -1,23 +1,20 @@
 -- What the judge keeps of the lines of a trace, line by line.
-use Rattle.std.proofs.Common.{◌≡◌, ℕ, suc, ◌+◌, ◌*◌, ◌≤◌, ◌<◌, max, inl, inr, List, [], ◌∷◌, ◌++◌, length, length-append, map, refl, sym, ap, ◌∙◌, subst, Bool, true, false, cond, arith}
-use Rattle.std.specs.Prelude.{Option, Some, None, nat_le, nat_lt, if◌then◌else◌}
+use Rattle.std.proofs.Common.{◌≡◌, ℕ, ◌+◌, ◌*◌, ◌≤◌, List, [], ◌∷◌, ◌++◌, length, sym, ap, ◌∙◌, subst, true, cond, arith}
 use Rattle.std.specs.Option.{option_map_or, option_and_then}
 use Rattle.dover_model.specs.declared.events.Event.{Event}
 use Rattle.dover_model.specs.Instance.{Instance}
 use Rattle.dover_model.specs.State.{State}
-use Rattle.dover_model.specs.Run.{Step, printed_of}
 use Rattle.dover_model.specs.Session.{Session, instance_of}
 use Rattle.dover_model.specs.Trace.{trace_lines}
 use Rattle.dover_model.specs.Verdict as model
 use Rattle.dover_model.proofs.TraceEnds.{trace_ends}
-use Rattle.trace_reading.specs.Leading.{Idles, PrintsNext}
-use Rattle.trace_reading.specs.Reading.{Sees}
+use Rattle.trace_reading.specs.Leading.{PrintsNext}
 use Rattle.trace_reading.proofs.Leading.{idles_append}
 use Rattle.trace_reading.proofs.Seeing.{sees_expects}
 use Rattle.trace_judge.specs.declared.stage.Stage.{Stage}
 use Rattle.trace_judge.specs.declared.stage.Stage.TheVariants.{Opening, Going, Ended}
 use Rattle.trace_judge.specs.Course.{Course, Follows, GoesOnFrom}
-use Rattle.trace_judge.specs.Reads.{Reading, Opens, Goes, Ends, ReadsAhead, Reads, StaysAhead, HasSpare, IsReader, kept_steps}
+use Rattle.trace_judge.specs.Reads.{Reading, Opens, Goes, Ends, ReadsAhead, Reads, StaysAhead, HasSpare, IsReader}
 use Rattle.trace_judge.proofs.Courses.{follows_room}
 
 -- ---- by the stage

@@ -1,5 +1,5 @@
 -- How the judge takes the line of a job line that was refused.
-use Rattle.std.proofs.Common.{◌≡◌, ℕ, suc, ◌+◌, ◌≤◌, ◌<◌, List, [], ◌∷◌, ◌++◌, length, length-append, refl, sym, ap, ◌∙◌, subst, Bool, true, false, arith, Some}
+use Rattle.std.proofs.Common.{◌≡◌, ℕ, ◌+◌, ◌≤◌, ◌<◌, List, [], ◌∷◌, ◌++◌, length, length-append, refl, sym, ap, ◌∙◌, subst, true, false, arith, Some}
 use Rattle.std.proofs.lemmas.Bool.{false_from_ne_true}
 use Rattle.admission.specs.Kept as admission
 use Rattle.dover_model.specs.Limits.{last_tick, most_items}
@@ -9,21 +9,20 @@ use Rattle.dover_model.specs.declared.events.Refusal.{Refusal}
 use Rattle.dover_model.specs.declared.events.Version.TheVariants.{Two}
 use Rattle.dover_model.specs.Instance.{Rules, Instance}
 use Rattle.dover_model.specs.State.{State}
-use Rattle.dover_model.specs.Run.{Step, printed_of}
 use Rattle.dover_model.specs.Session.{RefusedItem, RefusedJob, Session, instance_of, admitted_jobs, with_item}
 use Rattle.dover_model.specs.Text.{refused_text}
 use Rattle.dover_model.specs.Verdict.{item_of, begins_trace}
 use Rattle.dover_model.proofs.Growing.{refused_instance}
 use Rattle.trace_format.specs.declared.lines.TraceLine.TheVariants.{Refused}
-use Rattle.trace_format.specs.Form.{HasForm, trace_text, refused_job}
+use Rattle.trace_format.specs.Form.{HasForm, refused_job}
 use Rattle.trace_format.proofs.Spelled.{text_read, read_IsRead}
 use Rattle.trace_reading.specs.Leading.{WaitsUntil}
 use Rattle.trace_reading.specs.Reading.{Sees, MayRefuse}
 use Rattle.trace_reading.proofs.Continuing.{sees_refused, sees_refused_prints, sees_idles, sees_idles_prints}
 use Rattle.trace_reading.proofs.Only.{only_refused}
 use Rattle.trace_judge.specs.declared.stage.Stage.TheVariants.{Going}
-use Rattle.trace_judge.specs.Course.{Course, Follows}
-use Rattle.trace_judge.specs.Reads.{Reading, Goes, ReadsAhead, Reads, StaysAhead, HasSpare, IsReader, kept_steps, Took, Waited, at_tick}
+use Rattle.trace_judge.specs.Course.{Follows}
+use Rattle.trace_judge.specs.Reads.{Reading, Goes, ReadsAhead, StaysAhead, IsReader, kept_steps, Took, Waited, at_tick}
 use Rattle.trace_judge.proofs.Readings.{goes_of, ahead_of, here_of, reads_of, reads_ahead}
 
 module _ (at r c d v : ℕ) (cause : Refusal) (form : HasForm (Refused at r c d v cause)) where

@@ -1,5 +1,5 @@
 -- How the judge takes the line of a release.
-use Rattle.std.proofs.Common.{◌≡◌, ℕ, suc, ◌+◌, ◌-◌, ◌*◌, ◌≤◌, ◌<◌, inl, inr, List, [], ◌∷◌, ◌++◌, length, length-append, refl, sym, ap, ◌∙◌, subst, Bool, true, false, cond, arith}
+use Rattle.std.proofs.Common.{◌≡◌, ℕ, ◌+◌, ◌*◌, ◌≤◌, ◌<◌, List, [], ◌∷◌, ◌++◌, length, length-append, refl, sym, ap, ◌∙◌, subst, true, false, cond, arith}
 use Rattle.std.specs.Prelude.{Some, None}
 use Rattle.std.specs.List.{filter}
 use Rattle.std.proofs.lemmas.Bool.{false_from_ne_true}
@@ -7,24 +7,21 @@ use Rattle.std.proofs.lemmas.List.{append-nil}
 use Rattle.std.proofs.lemmas.List.Elements.{filter-append, filter_map-append}
 use Rattle.admission.specs.Kept as admission
 use Rattle.dover_model.specs.Limits.{most_items}
-use Rattle.dover_model.specs.JobFacts.{JobFacts, IsJob}
-use Rattle.dover_model.specs.Numerals.{AreShort}
+use Rattle.dover_model.specs.JobFacts.{JobFacts}
 use Rattle.dover_model.specs.Admission.{refusal_of}
 use Rattle.dover_model.specs.declared.events.Event.{Event}
 use Rattle.dover_model.specs.declared.events.Event.TheVariants.{Release}
 use Rattle.dover_model.specs.declared.events.Role.TheVariants.{Fresh}
 use Rattle.dover_model.specs.declared.events.Task.{Task}
-use Rattle.dover_model.specs.Instance.{Instance}
 use Rattle.dover_model.specs.State.{State, is_done, value_sum}
-use Rattle.dover_model.specs.Run.{Step, printed, printed_of}
+use Rattle.dover_model.specs.Run.{printed_of}
 use Rattle.dover_model.specs.Session.{JobItem, Session, instance_of, admitted_jobs, with_item, job_of_item}
 use Rattle.dover_model.specs.Text.{text_of}
 use Rattle.dover_model.specs.Verdict.{item_of, begins_trace}
 use Rattle.dover_model.proofs.Admitting.{Admitted, not_refused}
 use Rattle.dover_model.proofs.Ending.{few_printed}
-use Rattle.dover_model.proofs.Honest.{count_jobs}
 use Rattle.trace_format.specs.declared.lines.TraceLine.TheVariants.{Step as StepLine}
-use Rattle.trace_format.specs.Form.{HasForm, trace_text}
+use Rattle.trace_format.specs.Form.{HasForm}
 use Rattle.trace_format.proofs.Spelled.{text_read, read_IsRead}
 use Rattle.trace_reading.specs.Leading.{WaitsUntil}
 use Rattle.trace_reading.specs.Reading.{Sees, MayRelease, with_fresh, release_text}
@@ -34,7 +31,7 @@ use Rattle.trace_reading.proofs.Seeing.{sees_keeps, sees_rest}
 use Rattle.trace_reading.proofs.Only.{only_release}
 use Rattle.trace_judge.specs.declared.stage.Stage.TheVariants.{Going}
 use Rattle.trace_judge.specs.Course.{Course, Follows, IsCourse, with_release}
-use Rattle.trace_judge.specs.Reads.{Reading, Goes, ReadsAhead, Reads, StaysAhead, HasSpare, IsReader, kept_steps, Took, Waited, CanRelease, at_tick}
+use Rattle.trace_judge.specs.Reads.{Reading, Goes, Reads, StaysAhead, HasSpare, IsReader, kept_steps, Took, Waited, CanRelease, at_tick}
 use Rattle.trace_judge.proofs.Courses.{follows_count, follows_room}
 use Rattle.trace_judge.proofs.Forms.{one_form}
 use Rattle.trace_judge.proofs.Readings.{ahead_of, here_of, reads_of, reads_ahead, with_room}

@@ -1,10 +1,8 @@
 -- How the judge takes the lines of a trace.
-use Rattle.std.proofs.Common.{◌≡◌, ℕ, suc, ◌+◌, ◌*◌, ◌≤◌, ◌<◌, max, inl, inr, List, [], ◌∷◌, ◌++◌, length, length-append, refl, sym, ap, ◌∙◌, subst, Bool, true, false, cond, arith}
+use Rattle.std.proofs.Common.{◌≡◌, ℕ, suc, ◌+◌, ◌*◌, ◌≤◌, ◌<◌, max, List, [], ◌∷◌, ◌++◌, length, length-append, refl, sym, ap, ◌∙◌, subst, Bool, true, false, cond, arith}
 use Rattle.std.specs.Prelude.{Option, Some, None, ◌==◌, is_some, not}
 use Rattle.std.specs.List.{filter}
 use Rattle.std.proofs.lemmas.Bool.{false_from_ne_true, eqb-true}
-use Rattle.std.proofs.lemmas.List.{append-nil}
-use Rattle.dover_model.specs.Limits.{last_tick}
 use Rattle.dover_model.specs.Fraction.{Fraction, IsRatio}
 use Rattle.dover_model.specs.declared.events.Event.{Event}
 use Rattle.dover_model.specs.declared.events.Event.TheVariants.{Release, Run, Preempt, Take, Complete, Abandon, End}
@@ -12,11 +10,10 @@ use Rattle.dover_model.specs.declared.events.Version.{Version}
 use Rattle.dover_model.specs.declared.events.Version.TheVariants.{One, Two}
 use Rattle.dover_model.specs.Instance.{Rules, Instance}
 use Rattle.dover_model.specs.State.{State, opening, is_done, value_sum}
-use Rattle.dover_model.specs.Step.{Prints, step, open_step, after}
+use Rattle.dover_model.specs.Step.{Prints, step, after}
 use Rattle.dover_model.specs.Run.{Step, is_end, printed, printed_of}
 use Rattle.dover_model.specs.Settled.{is_late}
-use Rattle.dover_model.specs.Lines.{fields_of}
-use Rattle.dover_model.specs.Session.{Session, instance_of, admitted_jobs, new_session}
+use Rattle.dover_model.specs.Session.{Session, instance_of, new_session}
 use Rattle.dover_model.specs.Text.{header, text_of, version_number}
 use Rattle.dover_model.specs.Verdict.{item_of, begins_trace, version_of_number}
 use Rattle.dover_model.proofs.Members.{some_same}
@@ -28,19 +25,19 @@ use Rattle.trace_format.specs.declared.lines.TraceLine.TheVariants.{Header, Step
 use Rattle.trace_format.specs.Form.{HasForm, item_in, trace_text}
 use Rattle.trace_format.proofs.Spelled.{text_read, read_IsRead}
 use Rattle.admission.specs.Kept as admission
-use Rattle.trace_reading.specs.Leading.{Idles, Settles, WaitsUntil, PrintsNext}
+use Rattle.trace_reading.specs.Leading.{Idles, WaitsUntil, PrintsNext}
 use Rattle.trace_reading.specs.Reading.{Sees, floor_after}
 use Rattle.trace_reading.proofs.Leading.{idles_append, idles_settles, settles_append, settles_or_prints}
-use Rattle.trace_reading.proofs.Seeing.{sees_next, sees_keeps}
+use Rattle.trace_reading.proofs.Seeing.{sees_next}
 use Rattle.trace_reading.proofs.Continuing.{sees_step, sees_step_prints, sees_header, sees_header_prints}
 use Rattle.trace_reading.proofs.Finishing.{ended_run, ended_trace, ended_value}
 use Rattle.trace_reading.proofs.Only.{only_headers, only_step}
 use Rattle.trace_judge.specs.declared.stage.Stage.TheVariants.{Opening, Going, Ended}
-use Rattle.trace_judge.specs.Course.{Course, Follows, Settled, GoesOnFrom, new_course}
+use Rattle.trace_judge.specs.Course.{Course, Follows, Settled, GoesOnFrom}
 use Rattle.trace_judge.specs.Reads.{Reading, Opens, Goes, Ends, ReadsAhead, Reads, StaysAhead, HasSpare, IsReader, kept_steps, Took, Waited, at_tick}
 use Rattle.trace_judge.proofs.Courses.{new_follows, follows_count}
 use Rattle.trace_judge.proofs.Forms.{one_form, next_form}
-use Rattle.trace_judge.proofs.Readings.{goes_of, ahead_of, here_of, reads_of, opens_of, ended_of, reads_ahead, next_goes, next_ahead, spare_stays}
+use Rattle.trace_judge.proofs.Readings.{goes_of, ahead_of, here_of, reads_of, opens_of, reads_ahead, next_goes, spare_stays}
 
 -- ---- silent steps up to a tick
 

@@ -1,16 +1,13 @@
 -- Lines that continue no trace, and lines that continue one have a form.
-use Rattle.std.proofs.Common.{◌≡◌, ℕ, suc, ◌+◌, ◌≤◌, ◌<◌, ◌⊎◌, inl, inr, List, [], ◌∷◌, ◌++◌, length, refl, sym, ap, ◌∙◌, subst, Bool, true, false, cond, arith}
-use Rattle.std.specs.Prelude.{None}
+use Rattle.std.proofs.Common.{◌≡◌, ℕ, ◌+◌, ◌≤◌, ◌<◌, ◌⊎◌, inl, inr, List, [], ◌∷◌, ◌++◌, length, refl, sym, ap, ◌∙◌, subst, true, false, cond, arith}
 use Rattle.std.proofs.lemmas.Bool.{false_from_ne_true}
-use Rattle.dover_model.specs.JobFacts.{JobFacts}
 use Rattle.dover_model.specs.Fraction.{IsRatio}
 use Rattle.dover_model.specs.declared.events.Event.{Event}
 use Rattle.dover_model.specs.declared.events.Event.TheVariants.{Release, Run, Preempt, Take, Complete, Abandon, End}
 use Rattle.dover_model.specs.Instance.{Rules}
 use Rattle.dover_model.specs.State.{State}
-use Rattle.dover_model.specs.Session.{RefusedJob, Session, admitted_jobs}
+use Rattle.dover_model.specs.Session.{Session, admitted_jobs}
 use Rattle.dover_model.specs.Text.{header, text_of, version_number}
-use Rattle.dover_model.specs.Trace.{trace_lines}
 use Rattle.dover_model.specs.Verdict.{item_of, begins_trace, ends_with_end}
 use Rattle.dover_model.proofs.Admitting.{Admitted, not_refused}
 use Rattle.dover_model.proofs.NoFeeds.{header_short}
@@ -20,12 +17,12 @@ use Rattle.trace_format.specs.declared.lines.TraceLine.{TraceLine}
 use Rattle.trace_format.specs.declared.lines.TraceLine.TheVariants.{Header, Step, Refused}
 use Rattle.trace_format.specs.Form.{HasForm, item_in, trace_text}
 use Rattle.trace_reading.specs.Leading.{PrintsNext}
-use Rattle.trace_reading.specs.Reading.{Sees, IsReleaseNext, IsRefusedNext}
+use Rattle.trace_reading.specs.Reading.{IsReleaseNext, IsRefusedNext}
 use Rattle.trace_reading.proofs.Only.{only_headers, only_step, continues_only}
 use Rattle.trace_reading.proofs.Waiting.{sees_some_next}
 use Rattle.trace_judge.specs.declared.stage.Stage.{Stage}
 use Rattle.trace_judge.specs.declared.stage.Stage.TheVariants.{Opening, Going, Ended}
-use Rattle.trace_judge.specs.Reads.{Reading, Opens, Goes, Ends, Reads, Took, jobs_in, releases_in, job_lines_in, is_job_item}
+use Rattle.trace_judge.specs.Reads.{Reading, Goes, Ends, Reads, Took, jobs_in, job_lines_in, is_job_item}
 use Rattle.trace_judge.proofs.Forms.{one_form, next_form}
 use Rattle.trace_judge.proofs.Readings.{HereBy, here_of, ends_of, reads_ahead}
 use Rattle.trace_judge.proofs.Taking.{text_item}

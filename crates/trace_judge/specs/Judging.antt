@@ -1,5 +1,5 @@
 -- What the judge keeps of a text, and what it says of it.
-use Rattle.std.specs.Prelude.{◌≡◌, ◌≤◌, ◌<◌, ◌+◌, ℕ, List, [], ◌++◌, length, Bool, true, false, if◌then◌else◌}
+use Rattle.std.specs.Prelude.{◌≡◌, ◌≤◌, ◌<◌, ◌+◌, ℕ, List, [], ◌++◌, length, Bool, true, false}
 use Rattle.std.specs.List.{filter}
 use Rattle.dover_model.specs.declared.events.Event.{Event}
 use Rattle.std.specs.List.{sum_by}
@@ -8,15 +8,13 @@ use Rattle.dover_model.specs.Fraction.{Fraction}
 use Rattle.dover_model.specs.Schedules.{Meets, worth}
 use Rattle.dover_model.specs.Run.{printed, ran, completed_value}
 use Rattle.dover_model.specs.Session.{Session, IsValidSession, instance_of, admitted_jobs}
-use Rattle.dover_model.specs.Lines.{whole_lines, rest_of}
+use Rattle.dover_model.specs.Lines.{whole_lines}
 use Rattle.dover_model.specs.Verdict as model
 use Rattle.line_text.specs.Cutting as cutting
 use Rattle.line_text.specs.declared.cutting.Step.{Step}
 use Rattle.trace_judge.specs.declared.verdict.Verdict.{Verdict}
 use Rattle.trace_judge.specs.declared.verdict.Verdict.TheVariants.{Accepted, Wrong, Short}
 use Rattle.trace_judge.specs.declared.judge.Judge.{Judge}
-use Rattle.trace_judge.specs.declared.judge.Closed.{Closed}
-use Rattle.trace_judge.specs.declared.judge.Found.{Found}
 use Rattle.trace_judge.specs.declared.judge.Found.TheVariants.{Good, Wrong as Bad, NoMemory}
 use Rattle.trace_judge.specs.Reads.{Reads, is_job_line, expected_of, kept_steps}
 

@@ -1,6 +1,5 @@
 -- The jobs of a run that aren't over, which the judge keeps.
-use Rattle.std.specs.Prelude.{◌≡◌, ◌≤◌, ℕ, List}
-use Rattle.dover_model.specs.Limits.{last_tick}
+use Rattle.std.specs.Prelude.{◌≡◌, ℕ, List}
 use Rattle.dover_model.specs.declared.events.Task.{Task}
 use Rattle.dover_model.specs.declared.events.Role.TheVariants.{Fresh}
 use Rattle.dover_model.specs.Instance.{Rules, Instance, IsValid}

@@ -3,7 +3,6 @@ use Rattle.std.specs.Prelude.{◌≡◌, ◌≤◌, ◌+◌, ◌*◌, ℕ, List,
 use Rattle.admission.specs.Kept as admission
 use Rattle.dover_model.specs.JobFacts.{JobFacts}
 use Rattle.dover_model.specs.declared.events.Event.{Event}
-use Rattle.dover_model.specs.Instance.{Instance}
 use Rattle.dover_model.specs.State.{State}
 use Rattle.dover_model.specs.Run.{Step, printed, printed_of, completed_value}
 use Rattle.dover_model.specs.Session.{Item, JobItem, Session, instance_of, admitted_jobs, IsValidSession}

@@ -8,7 +8,8 @@ ghost use Rattle.dover_model.specs.Settled.{is_late};
 ghost use Rattle.trace_reading.specs.Ready.{is_ready};
 
 use crate::settle::settle;
-use dover_model::{Event, Job, Memory, Ratio, Role, Task, Version, jobs::LAST_TICK};
+use dover_model::jobs::LAST_TICK;
+use dover_model::{Event, Job, Memory, Ratio, Role, Task, Version};
 use plain_step::{Move, apply};
 use std::alloc::Global;
 use std::marker::Model;
@@ -30,11 +31,23 @@ impl Model for Course {
 
     ghost Value = { course.Course };
 
-    ghost view = { λ c. record { rules = record { ratio = c.ratio; version = c.version }; clock = c.clock; ready = c.ready.items; jobs = c.jobs;
-        done = c.done; room = vec_capacity c.ready } };
+    ghost view = { λ c. record {
+      rules = record { ratio = c.ratio; version = c.version };
+      clock = c.clock;
+      ready = c.ready.items;
+      jobs = c.jobs;
+      done = c.done;
+      room = vec_capacity c.ready;
+    } };
 
-    ghost invariant = { λ c. course.IsCourse (record { rules = record { ratio = c.ratio; version = c.version }; clock = c.clock;
-        ready = c.ready.items; jobs = c.jobs; done = c.done; room = vec_capacity c.ready }) };
+    ghost invariant = { λ c. course.IsCourse (record {
+      rules = record { ratio = c.ratio; version = c.version };
+      clock = c.clock;
+      ready = c.ready.items;
+      jobs = c.jobs;
+      done = c.done;
+      room = vec_capacity c.ready;
+    }) };
 }
 
 impl Course {

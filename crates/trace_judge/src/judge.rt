@@ -222,8 +222,12 @@ impl Judge {
     {
         match self.reader.stage() {
             Stage::Ended => self.reader.accepted(),
-            Stage::Opening => Verdict::Short { lines: self.lines.count() },
-            Stage::Going => Verdict::Short { lines: self.lines.count() },
+            Stage::Opening => Verdict::Short {
+                lines: self.lines.count(),
+            },
+            Stage::Going => Verdict::Short {
+                lines: self.lines.count(),
+            },
         }
     }
 

@@ -12,10 +12,12 @@ use crate::course::Course;
 use crate::stage::Stage;
 use crate::verdict::{Expected, Verdict};
 use admission::Admission;
-use dover_model::{Event, Job, Memory, Ratio, Refusal, Version, jobs::LAST_TICK, ratios::{MOST_P, MOST_Q}};
+use dover_model::jobs::LAST_TICK;
+use dover_model::ratios::{MOST_P, MOST_Q};
+use dover_model::{Event, Job, Memory, Ratio, Refusal, Version};
+use root_compare::bound;
 use std::alloc::Global;
 use std::marker::Model;
-use root_compare::bound;
 use trace_format::{TraceLine, read_trace_line};
 
 /// The greatest number of items of a session.
@@ -40,11 +42,29 @@ impl Model for Reader {
 
     ghost Value = { reads.Reading };
 
-    ghost view = { λ r. record { stage = r.stage; course = r.course; kept = r.admission; items = r.items; floor = r.floor; keep = r.keep;
-        steps = r.steps.items; spare = r.spare; room = vec_capacity r.steps } };
+    ghost view = { λ r. record {
+      stage = r.stage;
+      course = r.course;
+      kept = r.admission;
+      items = r.items;
+      floor = r.floor;
+      keep = r.keep;
+      steps = r.steps.items;
+      spare = r.spare;
+      room = vec_capacity r.steps;
+    } };
 
-    ghost invariant = { λ r. reads.IsReader (record { stage = r.stage; course = r.course; kept = r.admission; items = r.items; floor = r.floor;
-        keep = r.keep; steps = r.steps.items; spare = r.spare; room = vec_capacity r.steps }) };
+    ghost invariant = { λ r. reads.IsReader (record {
+      stage = r.stage;
+      course = r.course;
+      kept = r.admission;
+      items = r.items;
+      floor = r.floor;
+      keep = r.keep;
+      steps = r.steps.items;
+      spare = r.spare;
+      room = vec_capacity r.steps;
+    }) };
 }
 
 impl Reader {
@@ -92,8 +112,11 @@ impl Reader {
 
     /// Room for so many jobs more, and for their steps where they are kept.
     pub fn reserve(&mut self, more: u32) -> Result<(), Memory>
-        ensures same { self.new ≡ record self.old { course = record self.old.course { room = self.new.course.room };
-            spare = self.new.spare; room = self.new.room } }
+        ensures same { self.new ≡ record self.old {
+          course = record self.old.course { room = self.new.course.room };
+          spare = self.new.spare;
+          room = self.new.room;
+        } }
         ensures ok { OnOk result (more ≤ self.new.spare) }
         ensures grows { self.old.spare ≤ self.new.spare }
         ensures err { OnErr result (self.new.spare ≡ self.old.spare) }
@@ -237,7 +260,9 @@ impl Reader {
         if self.items >= MOST_ITEMS {
             return false;
         }
-        let checked = self.admission.check(job.release(), job.work(), job.deadline(), job.value());
+        let checked = self
+            .admission
+            .check(job.release(), job.work(), job.deadline(), job.value());
         checked.is_ok()
     }
 
@@ -282,7 +307,15 @@ impl Reader {
     }
 
     // The refused line may come next, as far as the jobs before it go.
-    fn may_refuse(&self, at: u64, release: u64, work: u64, deadline: u64, value: u64, cause: Refusal) -> bool
+    fn may_refuse(
+        &self,
+        at: u64,
+        release: u64,
+        work: u64,
+        deadline: u64,
+        value: u64,
+        cause: Refusal,
+    ) -> bool
         ensures yes { result ≡ true → (self.now.course.rules.version ≡ Two) × (at ≤ last_tick) × (at ≤ release) × (self.now.items < most_items) }
         ensures refuses { result ≡ true → (jobs : List JobFacts) → StandsFor self.now.kept jobs →
             refusal_of self.now.kept.ratio jobs (job_of_numbers release work deadline value) ≡ Some cause }
@@ -309,7 +342,15 @@ impl Reader {
     }
 
     // The next line is that of a refused job line.
-    fn refuse(&mut self, at: u64, release: u64, work: u64, deadline: u64, value: u64, cause: Refusal) -> bool
+    fn refuse(
+        &mut self,
+        at: u64,
+        release: u64,
+        work: u64,
+        deadline: u64,
+        value: u64,
+        cause: Refusal,
+    ) -> bool
         requires going { self.old.stage ≡ Going }
         requires form { HasForm (Refused at release work deadline value cause) }
         ensures took { Took self.old self.new (trace_text (Refused at release work deadline value cause)) result }
@@ -373,9 +414,14 @@ impl Reader {
         match read {
             TraceLine::Header { .. } => Ok(false),
             TraceLine::Step(event) => self.take_step(event),
-            TraceLine::Refused { at, release, work, deadline, value, cause } => {
-                Ok(self.refuse(*at, *release, *work, *deadline, *value, *cause))
-            }
+            TraceLine::Refused {
+                at,
+                release,
+                work,
+                deadline,
+                value,
+                cause,
+            } => { Ok(self.refuse(*at, *release, *work, *deadline, *value, *cause)) }
         }
     }
 

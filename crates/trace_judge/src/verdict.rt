@@ -25,7 +25,12 @@ pub enum Verdict {
         jobs: u32,
     },
     /// With this line, counted from 1, it begins no trace.
-    Wrong { line: u64, expected: Expected },
+    Wrong {
+        line: u64,
+        expected: Expected,
+    },
     /// It begins a trace, with so many whole lines.
-    Short { lines: u64 },
+    Short {
+        lines: u64,
+    },
 }

@@ -1,10 +1,7 @@
-use Rattle.std.proofs.Common.{◌≡◌, ℕ, ◌+◌, ◌≤◌, List, refl, sym, ap, ◌∙◌, subst}
-use Rattle.dover_model.specs.declared.events.Task.{Task}
-use Rattle.dover_model.specs.Instance.{Rules}
-use Rattle.dover_model.specs.State.{State}
-use Rattle.dover_model.specs.Step.{Waits, Ticks, open_step}
+use Rattle.std.proofs.Common.{refl, sym, ap, ◌∙◌, subst}
+use Rattle.dover_model.specs.Step.{Waits}
 use Rattle.plain_step.specs.Moves.{step_of, state_at}
-use Rattle.trace_judge.specs.Parts.{IsPart, SettlesTo, NoneFresh}
+use Rattle.trace_judge.specs.Parts.{SettlesTo, NoneFresh}
 use Rattle.trace_judge.proofs.Parts.{part_count, part_total, part_settled, ticks_none_fresh, wait_none_fresh, one_settles, settles_on}
 use Rattle.trace_judge.proofs.settle.settle.Goals as goal
 

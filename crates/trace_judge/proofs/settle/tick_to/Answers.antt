@@ -1,12 +1,7 @@
-use Rattle.std.proofs.Common.{◌≡◌, ℕ, ◌+◌, ◌-◌, ◌≤◌, ◌<◌, List, refl, sym, ap, ◌∙◌, subst, arith}
-use Rattle.dover_model.specs.declared.events.Task.{Task}
-use Rattle.dover_model.specs.Instance.{Rules}
-use Rattle.dover_model.specs.State.{State}
-use Rattle.dover_model.specs.Step.{Ticks, open_step}
-use Rattle.plain_step.specs.Jumps.{ticks_on}
+use Rattle.std.proofs.Common.{◌+◌, ◌≤◌, sym, ap, ◌∙◌, subst, arith}
 use Rattle.plain_step.specs.Moves.{step_of, state_at}
 use Rattle.trace_reading.specs.Leading.{IsSilent}
-use Rattle.trace_judge.specs.Parts.{IsPart, SettlesTo, NoneFresh}
+use Rattle.trace_judge.specs.Parts.{NoneFresh}
 use Rattle.trace_judge.proofs.Parts.{part_count, part_total, part_had, part_settled, no_wait, jump_settles, jump_reaches, stop_barrier}
 use Rattle.trace_judge.proofs.Parts.{ticked_none_fresh}
 use Rattle.trace_judge.proofs.settle.tick_to.Goals as goal

@@ -1,8 +1,8 @@
-use Rattle.std.proofs.Common.{sym, ap, ◌∙◌, subst, refl, arith, None, length}
+use Rattle.std.proofs.Common.{sym, ap, ◌∙◌, subst, refl, arith}
 use Rattle.std.proofs.lemmas.Bool.{eqb-true}
 use Rattle.plain_step.specs.Moves.{step_of}
-use Rattle.dover_model.specs.Step.{Prints, Waits, Ticks}
-use Rattle.trace_judge.specs.Course.{Course, Follows, Settled}
+use Rattle.dover_model.specs.Step.{Ticks}
+use Rattle.trace_judge.specs.Course.{Course, Settled}
 use Rattle.trace_judge.proofs.Courses.{no_items, over_settled, tested_late, tested_early, silent_settled}
 use Rattle.trace_judge.proofs.course.Course.settle.Goals as goal
 use Rattle.trace_judge.proofs.course.Course.settle.Goals.{in-Prints+then-is_late_at, in-Prints+else-is_late_at, in-Waits, in-Ticks}

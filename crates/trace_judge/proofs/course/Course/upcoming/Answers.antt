@@ -1,9 +1,9 @@
-use Rattle.std.proofs.Common.{sym, ap, ◌∙◌, subst, refl, arith}
+use Rattle.std.proofs.Common.{sym, ap, ◌∙◌, subst, arith}
 use Rattle.std.proofs.lemmas.Bool.{eqb-true}
 use Rattle.plain_step.specs.Moves.{step_of}
 use Rattle.dover_model.specs.declared.events.Event.TheVariants.{End}
 use Rattle.dover_model.specs.Run.{event_of}
-use Rattle.dover_model.specs.Step.{Prints, Ticks}
+use Rattle.dover_model.specs.Step.{Prints}
 use Rattle.trace_reading.specs.Leading.{PrintsNext}
 use Rattle.trace_judge.specs.Course.{Course, Follows, Reached}
 use Rattle.trace_judge.proofs.Courses.{no_items, over_next, reached_next, reached_last}

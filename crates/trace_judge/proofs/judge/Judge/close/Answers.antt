@@ -1,9 +1,6 @@
-use Rattle.std.proofs.Common.{◌≡◌, ℕ, List, sym, ap, ◌∙◌, subst, true, false, Vec, Global}
+use Rattle.std.proofs.Common.{sym, ap, ◌∙◌, subst, Vec, Global}
 use Rattle.dover_model.specs.declared.events.Event.{Event}
-use Rattle.dover_model.specs.Verdict as model
 use Rattle.dover_model.proofs.Tests.{never}
-use Rattle.trace_judge.specs.declared.verdict.Verdict.{Verdict}
-use Rattle.trace_judge.specs.declared.verdict.Verdict.TheVariants.{Accepted}
 use Rattle.trace_judge.specs.Judging.{Tells, steps_told}
 use Rattle.trace_judge.proofs.Judging.{steps_accepted, steps_left}
 use Rattle.trace_judge.proofs.judge.Judge.close.Goals as goal

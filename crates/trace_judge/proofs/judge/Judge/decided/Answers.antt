@@ -1,4 +1,4 @@
-use Rattle.std.proofs.Common.{◌≡◌, sym}
+use Rattle.std.proofs.Common.{sym}
 use Rattle.trace_judge.proofs.Judging.{stands_not_wrong}
 use Rattle.trace_judge.proofs.judge.Judge.decided.Goals as goal
 

@@ -1,12 +1,10 @@
-use Rattle.std.proofs.Common.{◌≡◌, ◌<◌, ℕ, List, suc, length, sym, ap, ◌∙◌, subst, arith, true, false}
-use Rattle.dover_model.specs.Lines.{whole_lines, rest_of}
+use Rattle.std.proofs.Common.{◌≡◌, ◌<◌, length, sym, ap, ◌∙◌, subst, arith, false}
+use Rattle.dover_model.specs.Lines.{whole_lines}
 use Rattle.dover_model.specs.Verdict as model
 use Rattle.dover_model.proofs.Tests.{never}
 use Rattle.line_text.specs.Cutting.{is_over}
-use Rattle.trace_judge.specs.declared.stage.Stage.{Stage}
-use Rattle.trace_judge.specs.declared.stage.Stage.TheVariants.{Opening, Going, Ended}
-use Rattle.trace_judge.specs.Reads.{Reads, expected_of}
-use Rattle.trace_judge.specs.Judging.{StandsFor, IsGood}
+use Rattle.trace_judge.specs.declared.stage.Stage.TheVariants.{Ended}
+use Rattle.trace_judge.specs.Reads.{Reads}
 use Rattle.trace_judge.proofs.Readings.{reads_ahead, ends_of, ended_due}
 use Rattle.trace_judge.proofs.Judging.{is_ended, reads_few, rest_behind, rest_open, good_stands, not_ended}
 use Rattle.trace_judge.proofs.judge.Judge.go_on.Goals as goal
@@ -19,9 +17,9 @@ returns-then-matches-clause-stands c before text it =
     elim c.match-matches.branch [ in-Ended w ↦ sym c.stage.ensures ∙ w.in-Ended.is | in_default w ↦ never (sym w.matches-is ∙ c.if-matches.true) ] in
     let end = ends_of c.args.self.now.reader (whole_lines text) ended (reads_ahead c.args.self.now.reader (whole_lines text) reads) in
     rest_behind c.args.self.now.reader text reads (ap is_ended ended)
-        (subst (λ l. 0 < length l) (sym it.parts.1) c.requires.some)
+    (subst (λ l. 0 < length l) (sym it.parts.1) c.requires.some)
     ∙ ap (λ n. model.Wrong n (model.expected_after (whole_lines text)))
-        (omega (arith, reads_few c.args.self.now.reader (whole_lines text) reads, it.cut.count, c.count.ensures, c.saturating_add.ensures))
+    (omega (arith, reads_few c.args.self.now.reader (whole_lines text) reads, it.cut.count, c.count.ensures, c.saturating_add.ensures))
     ∙ ap (model.Wrong c.saturating_add.result) (ended_due c.args.self.now.reader (whole_lines text) end.0 end.1)
 
 pub returns-else-matches-clause-stands : goal.returns-else-matches-clause-stands

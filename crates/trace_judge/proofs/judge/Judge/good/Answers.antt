@@ -1,4 +1,4 @@
-use Rattle.std.proofs.Common.{◌≡◌, ℕ, List, length, refl, sym, ap, ◌∙◌, subst, arith}
+use Rattle.std.proofs.Common.{ℕ, List, refl, sym, ap, ◌∙◌, subst, arith}
 use Rattle.dover_model.specs.Lines.{whole_lines}
 use Rattle.dover_model.specs.Verdict as model
 use Rattle.trace_judge.specs.Judging.{IsGood, Tells}
@@ -13,7 +13,7 @@ returns-in-Ended c text stands =
     let ended = sym c.stage.ensures ∙ c.in-Ended.is in
     let end = ends_of c.args.self.now.reader ls ended (reads_ahead c.args.self.now.reader ls good.reads) in
     subst (λ v. Tells v text) (sym (c.accepted.ensures ls end.0 end.1))
-        (end.0, reads_accepted c.args.self.now.reader text good.reads (ap is_ended ended) good.counts end.0 end.1, refl, refl, refl, refl, refl, earned end.0 end.1.valid)
+    (end.0, reads_accepted c.args.self.now.reader text good.reads (ap is_ended ended) good.counts end.0 end.1, refl, refl, refl, refl, refl, earned end.0 end.1.valid)
 
 pub returns-in-Going : goal.returns-in-Going
 returns-in-Going c text stands =

@@ -1,4 +1,4 @@
-use Rattle.std.proofs.Common.{◌≡◌, sym, ap, subst}
+use Rattle.std.proofs.Common.{sym, subst}
 use Rattle.trace_judge.specs.Reads.{Reading}
 use Rattle.trace_judge.specs.Judging.{StandsFor}
 use Rattle.trace_judge.proofs.Judging.{room_stands}

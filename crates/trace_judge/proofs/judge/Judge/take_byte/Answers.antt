@@ -1,8 +1,8 @@
-use Rattle.std.proofs.Common.{◌≡◌, ◌+◌, ◌≤◌, ◌<◌, ◌++◌, ◌∷◌, [], ℕ, List, suc, length, length-append, sym, ap, ◌∙◌, subst, arith, true, false}
+use Rattle.std.proofs.Common.{◌<◌, ◌++◌, ◌∷◌, [], ℕ, List, length, sym, ap, ◌∙◌, subst, arith}
 use Rattle.line_text.specs.declared.cutting.Step.TheVariants.{More, Line, TooLong}
 use Rattle.line_text.specs.Cutting.{Cutting}
 use Rattle.trace_judge.specs.Reads.{Reading, job_lines_in}
-use Rattle.trace_judge.specs.Judging.{StandsFor, IsGood, IsCut, Fed, IsOverfed}
+use Rattle.trace_judge.specs.Judging.{StandsFor, IsCut}
 use Rattle.trace_judge.proofs.Judging.{stands_good, ok_onto, err_onto, some_line, is_cut, named_ended, named_more}
 use Rattle.trace_judge.proofs.judge.Judge.take_byte.Goals as goal
 
@@ -11,18 +11,25 @@ returns-in-Line-clause-fed c = ok_onto c.take_line.result c.take_line.ensures.st
   stands = λ text stands. meets text (text ++ c.args.byte ∷ [])
       (is_cut c.args.self.now c.push.new.self Line c.args.byte text (stands_good c.args.self.now text c.requires.good stands)
       c.push.ensures.stands (sym c.in-Line.is ∙ c.push.ensures.last) c.in-Line.ensures.cut);
-  spare = λ text stands. omega (arith, c.take_line.ensures.spare, named_ended (record c.args.self.now { lines = c.push.new.self }) text (text ++ c.args.byte ∷ [])
-      (is_cut c.args.self.now c.push.new.self Line c.args.byte text (stands_good c.args.self.now text c.requires.good stands)
-      c.push.ensures.stands (sym c.in-Line.is ∙ c.push.ensures.last) c.in-Line.ensures.cut));
+  spare = λ text stands. omega (
+    arith,
+    c.take_line.ensures.spare,
+    named_ended (record c.args.self.now { lines = c.push.new.self }) text (text ++ c.args.byte ∷ [])
+        (is_cut c.args.self.now c.push.new.self Line c.args.byte text (stands_good c.args.self.now text c.requires.good stands)
+        c.push.ensures.stands (sym c.in-Line.is ∙ c.push.ensures.last) c.in-Line.ensures.cut),
+  );
   keep = c.take_line.ensures.keep;
 })
 
 pub returns-in-Line-clause-room : goal.returns-in-Line-clause-room
 returns-in-Line-clause-room c = err_onto c.take_line.result c.take_line.ensures.room
-    (λ (low : c.args.self.now.reader.spare < job_lines_in c.push.new.self.line) text stands. omega (arith, low,
-        named_ended (record c.args.self.now { lines = c.push.new.self }) text (text ++ c.args.byte ∷ [])
-        (is_cut c.args.self.now c.push.new.self Line c.args.byte text (stands_good c.args.self.now text c.requires.good stands)
-        c.push.ensures.stands (sym c.in-Line.is ∙ c.push.ensures.last) c.in-Line.ensures.cut)))
+    (λ (low : c.args.self.now.reader.spare < job_lines_in c.push.new.self.line) text stands. omega (
+      arith,
+      low,
+      named_ended (record c.args.self.now { lines = c.push.new.self }) text (text ++ c.args.byte ∷ [])
+          (is_cut c.args.self.now c.push.new.self Line c.args.byte text (stands_good c.args.self.now text c.requires.good stands)
+          c.push.ensures.stands (sym c.in-Line.is ∙ c.push.ensures.last) c.in-Line.ensures.cut),
+    ))
 
 pub go_on-requires-clause-some : goal.go_on-requires-clause-some
 go_on-requires-clause-some c = subst (λ l. 0 < length l) (sym (ap (λ (l : Cutting). l.line) c.push.ensures.is))

@@ -1,5 +1,5 @@
-use Rattle.std.proofs.Common.{◌≡◌, ◌+◌, ◌++◌, ◌∷◌, [], ℕ, List, suc, length, length-append, sym, ap, ◌∙◌, subst, arith, true, false}
-use Rattle.dover_model.specs.Lines.{whole_lines, rest_of}
+use Rattle.std.proofs.Common.{◌≡◌, ◌++◌, ◌∷◌, [], ℕ, List, length, length-append, sym, ap, ◌∙◌, subst, arith, false}
+use Rattle.dover_model.specs.Lines.{whole_lines}
 use Rattle.dover_model.specs.Verdict as model
 use Rattle.trace_judge.specs.Reads.{Reads, TookLine, expected_of}
 use Rattle.trace_judge.proofs.Judging.{reads_begins, reads_few, rest_empty, good_stands}
@@ -19,8 +19,14 @@ returns-in-Ok-Some-clause-stands c before text it =
     let ls : List (List ℕ) = whole_lines before in
     let took = subst (TookLine c.args.self.now.reader c.take.new.self c.line.result.now) c.in-Ok-Some.field-0-is c.in-Ok-Some.ensures.took ls it.reads in
     wrong_line text ls c.args.self.now.lines.line it.parts.0 it.parts.1 (reads_begins c.args.self.now.reader ls it.reads)
-        (subst (λ l. model.begins_trace (ls ++ l ∷ []) ≡ false) c.line.ensures took.0)
+    (subst (λ l. model.begins_trace (ls ++ l ∷ []) ≡ false) c.line.ensures took.0)
     ∙ ap (λ n. model.Wrong n (model.expected_after ls))
-        (omega (arith, reads_few c.args.self.now.reader ls it.reads, it.cut.count, c.count.ensures, ap length it.parts.0,
-            length-append ls (c.args.self.now.lines.line ∷ [])))
+    (omega (
+      arith,
+      reads_few c.args.self.now.reader ls it.reads,
+      it.cut.count,
+      c.count.ensures,
+      ap length it.parts.0,
+      length-append ls (c.args.self.now.lines.line ∷ []),
+    ))
     ∙ ap (model.Wrong c.count.result) (took.1 ∙ ap expected_of c.in-Ok-Some.expected-is)

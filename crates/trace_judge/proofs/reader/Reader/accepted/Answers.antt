@@ -1,10 +1,5 @@
-use Rattle.std.proofs.Common.{◌≡◌, ℕ, length, sym, ap, ◌∙◌}
-use Rattle.dover_model.specs.Bound.{bound}
-use Rattle.dover_model.specs.Fraction.{Fraction}
+use Rattle.std.proofs.Common.{◌≡◌, sym, ap, ◌∙◌}
 use Rattle.dover_model.specs.Instance.{Rules}
-use Rattle.dover_model.specs.Run.{completed_value}
-use Rattle.dover_model.specs.Session.{instance_of, admitted_jobs}
-use Rattle.trace_judge.specs.declared.verdict.Verdict.TheVariants.{Accepted}
 use Rattle.trace_judge.specs.Course.{Course}
 use Rattle.trace_judge.specs.Reads.{Reading}
 use Rattle.trace_judge.proofs.Judging.{same_verdict}

@@ -1,4 +1,4 @@
-use Rattle.std.proofs.Common.{◌∙◌, refl, sym, ap, subst, arith}
+use Rattle.std.proofs.Common.{refl, sym, ap, subst, arith}
 use Rattle.trace_judge.specs.Reads.{Reading, CanRelease}
 use Rattle.trace_judge.proofs.Releases.{release_course, release_room, taken_reads, taken_reader}
 use Rattle.trace_judge.proofs.reader.Reader.admit.Goals as goal

@@ -1,5 +1,4 @@
-use Rattle.std.proofs.Common.{◌≡◌, ◌∙◌, ◌+◌, sym, ap, arith, max, true, false}
-use Rattle.trace_judge.specs.Course.{Course}
+use Rattle.std.proofs.Common.{◌≡◌, ◌∙◌, sym, ap, arith, max, true, false}
 use Rattle.trace_judge.specs.Reads.{Reading}
 use Rattle.trace_judge.proofs.Readings.{next_reader, kept_on, taken_on}
 use Rattle.trace_judge.proofs.Taking.{step_room, not_due, ended_took, ended_reader, stepped_took, stepped_reader}

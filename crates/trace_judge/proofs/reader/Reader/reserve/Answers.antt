@@ -1,6 +1,6 @@
 use Rattle.std.proofs.Common.{◌≡◌, ◌∙◌, sym, ap, subst, refl, vec_capacity, arith, ℕ, true, false}
 use Rattle.trace_judge.specs.Course.{Course}
-use Rattle.trace_judge.specs.Reads.{Reading, IsReader}
+use Rattle.trace_judge.specs.Reads.{IsReader}
 use Rattle.trace_judge.specs.declared.reader.Reader.TheInside.{Inside}
 use Rattle.trace_judge.proofs.Readings.{reserve_reader}
 use Rattle.trace_judge.proofs.reader.Reader.reserve.Goals as goal

@@ -1,4 +1,4 @@
-use Rattle.std.proofs.Common.{◌≡◌, ◌++◌, ◌∷◌, [], sym, ap, subst, arith, false}
+use Rattle.std.proofs.Common.{◌≡◌, ◌++◌, ◌∷◌, [], ap, subst, arith, false}
 use Rattle.dover_model.specs.Verdict.{begins_trace}
 use Rattle.dover_model.proofs.Tests.{never}
 use Rattle.trace_judge.specs.Reads.{Reading, Reads}
@@ -29,5 +29,9 @@ returns-clause-took c ls reads =
     (subst (λ l. begins_trace (ls ++ l ∷ []) ≡ false) c.in-Ok.ensures.text it.0, c.due-2.ensures.due ls it.1)
 
 pub returns-clause-spare : goal.returns-clause-spare
-returns-clause-spare c = omega (arith, c.take_read.ensures.spare, jobs_counted c.in-Ok.read c.args.line.now c.in-Ok.ensures.item,
-    ap (λ (r : Reading). r.spare) c.due-2.ensures.kept)
+returns-clause-spare c = omega (
+  arith,
+  c.take_read.ensures.spare,
+  jobs_counted c.in-Ok.read c.args.line.now c.in-Ok.ensures.item,
+  ap (λ (r : Reading). r.spare) c.due-2.ensures.kept,
+)

@@ -1,4 +1,4 @@
-use Rattle.std.proofs.Common.{◌≡◌, ◌≤◌, ℕ, List, ◌∙◌, sym, ap, subst}
+use Rattle.std.proofs.Common.{◌≤◌, ℕ, List, ◌∙◌, sym, ap, subst}
 use Rattle.dover_model.specs.Session.{Session}
 use Rattle.dover_model.specs.State.{State}
 use Rattle.trace_reading.specs.Leading.{WaitsUntil}

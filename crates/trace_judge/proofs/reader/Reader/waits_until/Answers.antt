@@ -1,5 +1,4 @@
-use Rattle.std.proofs.Common.{◌≡◌, ◌∙◌, sym, ap, arith, true, false, Some, None}
-use Rattle.trace_judge.specs.Course.{Course}
+use Rattle.std.proofs.Common.{◌∙◌, ap, arith}
 use Rattle.trace_judge.specs.Reads.{Reading}
 use Rattle.trace_judge.proofs.Readings.{kept_on}
 use Rattle.trace_judge.proofs.Taking.{settled_ahead, settled_yes, settled_no, settled_reader, is_nothing, is_something}
