@@ -78,14 +78,18 @@ by_key key v a b = comes_first_by key v (entry_of a) (entry_of b)
 
 -- of two jobs, the one that comes first in the order of a key has the lesser key
 picks : (key : Entry → ℕ) (v : Version) (a t : Task)
-    → ((earlier (by_key key v) a t ≡ t) × (key (entry_of t) ≤ key (entry_of a))) ⊎ ((earlier (by_key key v) a t ≡ a) × (key (entry_of a) ≤ key (entry_of t)))
-picks key v a t = by_tests (nat_lt (key (entry_of t)) (key (entry_of a))) (key (entry_of t) == key (entry_of a)) (wins_tie v (entry_of t) (entry_of a)) refl refl where
-  by_tests : (less same wins : Bool) → nat_lt (key (entry_of t)) (key (entry_of a)) ≡ less → (key (entry_of t) == key (entry_of a)) ≡ same
-      → ((cond (less || (same && wins)) t a ≡ t) × (key (entry_of t) ≤ key (entry_of a))) ⊎ ((cond (less || (same && wins)) t a ≡ a) × (key (entry_of a) ≤ key (entry_of t)))
-  by_tests true same wins e e2 = let low : key (entry_of t) < key (entry_of a) = ltb-true _ _ e in inl (refl, omega arith)
-  by_tests false true true e e2 = let equal : key (entry_of t) ≡ key (entry_of a) = eqb-true _ _ e2 in inl (refl, omega arith)
-  by_tests false true false e e2 = let equal : key (entry_of t) ≡ key (entry_of a) = eqb-true _ _ e2 in inr (refl, omega arith)
-  by_tests false false wins e e2 = let above : key (entry_of a) ≤ key (entry_of t) = ltb-false _ _ e in inr (refl, above)
+    → ((earlier (by_key key v) a t ≡ t) × (key (entry_of t) ≤ key (entry_of a))) ⊎
+    ((earlier (by_key key v) a t ≡ a) × (key (entry_of a) ≤ key (entry_of t)))
+picks key v a t =
+    by_tests (nat_lt (key (entry_of t)) (key (entry_of a))) (key (entry_of t) == key (entry_of a))
+    (wins_tie v (entry_of t) (entry_of a)) refl refl where
+      by_tests : (less same wins : Bool) → nat_lt (key (entry_of t)) (key (entry_of a)) ≡ less → (key (entry_of t) == key (entry_of a)) ≡ same
+          → ((cond (less || (same && wins)) t a ≡ t) × (key (entry_of t) ≤ key (entry_of a))) ⊎
+          ((cond (less || (same && wins)) t a ≡ a) × (key (entry_of a) ≤ key (entry_of t)))
+      by_tests true same wins e e2 = let low : key (entry_of t) < key (entry_of a) = ltb-true _ _ e in inl (refl, omega arith)
+      by_tests false true true e e2 = let equal : key (entry_of t) ≡ key (entry_of a) = eqb-true _ _ e2 in inl (refl, omega arith)
+      by_tests false true false e e2 = let equal : key (entry_of t) ≡ key (entry_of a) = eqb-true _ _ e2 in inr (refl, omega arith)
+      by_tests false false wins e e2 = let above : key (entry_of a) ≤ key (entry_of t) = ltb-false _ _ e in inr (refl, above)
 
 module _ (key : Entry → ℕ) (v : Version) (p : Task → Bool) (tasks : List Task) where
   -- what an order puts first is a member of least key

@@ -28,11 +28,13 @@ pub mod Rooms
 pub mod Deeds
 pub mod Preempting
 pub mod Kept
+pub mod Jumping
 pub mod Leaving
 pub mod Potential
 pub mod Ending
 pub mod Later
 pub mod Settling
+pub mod Barriers
 pub mod Prefixes
 pub mod Valid
 pub mod Beginnings
@@ -44,6 +46,7 @@ pub mod Serving
 pub mod Orderly
 pub mod Underload
 pub mod Runs
+pub mod Paths
 pub mod WaitingMoves
 pub mod Honest
 pub mod Numerals
@@ -63,6 +66,7 @@ pub mod Growing
 pub mod Admitting
 pub mod ReadShort
 pub mod Accounts
+pub mod Emitting
 pub mod ShortNumbers
 pub mod Walks
 pub mod NoFeeds

@@ -9,8 +9,10 @@ pub mod Orders
 pub mod Step
 pub mod Run
 pub mod Sound
+pub mod Jumps
 pub mod Settled
 pub mod WholeRun
+pub mod Paths
 pub mod Online
 pub mod Underload
 pub mod WaitingMoves

@@ -9,13 +9,12 @@ pub mod ratios;
 pub mod run_laws;
 pub mod trace_laws;
 
-use std::alloc::{AllocError, AllocFailed};
-use thiserror::Error;
-
 pub use events::{Entry, Event, Refusal, Role, Task, Version};
 pub use jobs::Job;
 pub use pieces::Piece;
 pub use ratios::Ratio;
+use std::alloc::{AllocError, AllocFailed};
+use thiserror::Error;
 
 /// Want of memory.
 #[derive(Clone, Copy, Debug, PartialEq, Eq, Error)]

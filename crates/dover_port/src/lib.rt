@@ -2,12 +2,14 @@
 #![tactic(auto)]
 
 mod memory;
+mod output;
 mod port;
 mod puts;
 mod standard;
 mod status;
 
 pub use memory::MemoryPort;
+pub use output::{OUTPUT_BYTES, Output};
 pub use port::{Failed, Port};
 pub use puts::put_all;
 pub use standard::StdPort;

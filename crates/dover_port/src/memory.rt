@@ -1,4 +1,5 @@
-ghost use Rattle.std.specs.Prelude.{◌≡◌, ◌+◌, ◌-◌, ◌<◌, ◌≤◌, ◌↔◌, [], ◌∷◌, ◌++◌, length, take, drop, Some, IfOk, OnErr, IsErr, IsTrue, vec_len, vec_capacity};
+ghost use Rattle.std.specs.Prelude.{◌≡◌, ◌+◌, ◌-◌, ◌<◌, ◌≤◌, ◌↔◌, [], ◌∷◌, ◌++◌, length, take, drop, Some, IfOk, OnErr, IsErr, IsTrue, vec_len};
+ghost use Rattle.std.specs.Prelude.{vec_capacity};
 ghost use Rattle.std.specs.List.{flat_map};
 ghost use Rattle.dover_port.specs.Causes.{HasCause};
 ghost use Rattle.dover_port.specs.Moves.{Adds, read_move, ins, outs};
@@ -183,7 +184,8 @@ impl Port for MemoryPort {
         ensures moved { IfOk result (λ n. Adds (Some (made self.old)) (Some (made self.new)) (read_move (take n buf.new))) }
         ensures taken { IfOk result (λ n. drop self.old.at self.old.input.items ≡ take n buf.new ++ drop self.new.at self.new.input.items) }
         ensures end { IfOk result (λ n. (n ≡ 0) ↔ (drop self.old.at self.old.input.items ≡ [])) }
-        ensures failed { OnErr result ((made self.new ≡ made self.old) × (drop self.new.at self.new.input.items ≡ drop self.old.at self.old.input.items)) }
+        ensures failed { OnErr result
+            ((made self.new ≡ made self.old) × (drop self.new.at self.new.input.items ≡ drop self.old.at self.old.input.items)) }
         ensures cause { HasCause self.old.read_faults self.new.read_faults self.old.write_faults self.new.write_faults result }
         ensures count { IfOk result (λ n. n ≡ read_count self.old (length buf.old)) }
         ensures fails { IsErr result ↔ ReadFails self.old (length buf.old) }

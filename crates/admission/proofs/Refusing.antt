@@ -1,0 +1,75 @@
+-- Testing a job against the least dense and the densest one is testing it against all.
+use Rattle.std.proofs.Common.{◌≡◌, ◌≤◌, List, [], ◌∷◌, Bool, true, false, refl}
+use Rattle.std.proofs.Common.{◌+◌, ◌<◌, length, None, not}
+use Rattle.std.specs.Prelude.{nat_le, nat_lt}
+use Rattle.std.specs.List.{list_all}
+use Rattle.std.proofs.lemmas.Bool.{lt-leb, le-ltb}
+use Rattle.dover_model.specs.Limits.{most_jobs, most_total}
+use Rattle.dover_model.specs.declared.events.Refusal.TheVariants.{BadJob, Count, Total, Ratio}
+use Rattle.dover_model.specs.JobFacts.{JobFacts, IsJob, is_job}
+use Rattle.dover_model.specs.Fraction.{Fraction}
+use Rattle.dover_model.specs.Instance.{IsWithinRatio, total_value}
+use Rattle.dover_model.specs.Admission.{is_within_ratio_both_ways, first_cause, refusal_of}
+use Rattle.dover_model.proofs.Tests.{both, each}
+use Rattle.dover_model.proofs.Agreement.{is_within_ratio-agrees, is_job-agrees}
+use Rattle.admission.specs.declared.extremes.Extremes.{Extremes}
+use Rattle.admission.specs.Kept.{IsLessDense, AreExtremes}
+use Rattle.admission.specs.Answers.{AllKeepRatio, LeastDenseKeeps}
+use Rattle.admission.proofs.Comparing.{not_both, no_less, within_least, within_densest}
+use Rattle.admission.proofs.Firsts.{all_both, none_under, first_is, IsDenser, not_both_denser}
+
+-- the test says so of both ways
+both_ways : (k : Fraction) (i j : JobFacts) → (IsWithinRatio k i j × IsWithinRatio k j i) → is_within_ratio_both_ways k i j ≡ true
+both_ways k i j within = (both _ _ (is_within_ratio-agrees k i j) (is_within_ratio-agrees k j i)).1 within
+
+-- both ways are within
+ways : (k : Fraction) (i j : JobFacts) → is_within_ratio_both_ways k i j ≡ true → IsWithinRatio k i j × IsWithinRatio k j i
+ways k i j within = (both _ _ (is_within_ratio-agrees k i j) (is_within_ratio-agrees k j i)).0 within
+
+-- what the least dense and the densest job keep, all keep
+pub all_keep : (k : Fraction) (jobs : List JobFacts) (e : Extremes) (j : JobFacts) → AreExtremes jobs e
+    → is_within_ratio_both_ways k e.least.job j ≡ true → is_within_ratio_both_ways k e.densest.job j ≡ true → AllKeepRatio k jobs j
+all_keep k jobs e j it least densest =
+    all_both (λ i. IsLessDense i e.least.job → ⊥) (λ i. IsDenser i e.densest.job → ⊥) (λ i. is_within_ratio_both_ways k i j ≡ true) jobs
+    keeps (none_under IsLessDense not_both jobs e.least it.least) (none_under IsDenser not_both_denser jobs e.densest it.densest) where
+      least_job : IsJob e.least.job
+      least_job = first_is IsLessDense not_both jobs e.least it.least IsJob it.each
+
+      densest_job : IsJob e.densest.job
+      densest_job = first_is IsDenser not_both_denser jobs e.densest it.densest IsJob it.each
+
+      keeps : (i : JobFacts) → (IsLessDense i e.least.job → ⊥) → (IsDenser i e.densest.job → ⊥) → is_within_ratio_both_ways k i j ≡ true
+      keeps i no_less_dense no_denser = both_ways k i j (
+        within_densest k.p k.q j.value j.work e.densest.job.value e.densest.job.work i.value i.work densest_job.work
+            (no_less e.densest.job i no_denser) (ways k e.densest.job j densest).0,
+        within_least k.p k.q j.value j.work e.least.job.value e.least.job.work i.value i.work least_job.work
+            (no_less i e.least.job no_less_dense) (ways k e.least.job j least).1,
+      )
+
+-- what one least dense job keeps, each keeps
+pub least_keep : (k : Fraction) (jobs : List JobFacts) (e : Extremes) (j : JobFacts) → AreExtremes jobs e
+    → is_within_ratio_both_ways k e.least.job j ≡ true → LeastDenseKeeps k jobs j
+least_keep k jobs e j it keeps x least = both_ways k x.job j (
+  within_densest k.p k.q j.value j.work e.least.job.value e.least.job.work x.job.value x.job.work least_job.work
+      (no_less e.least.job x.job (first_is IsLessDense not_both jobs e.least it.least (λ i. IsLessDense i x.job → ⊥)
+      (none_under IsLessDense not_both jobs x least))) (ways k e.least.job j keeps).0,
+  within_least k.p k.q j.value j.work e.least.job.value e.least.job.work x.job.value x.job.work least_job.work
+      (no_less x.job e.least.job (first_is IsLessDense not_both jobs x least (λ i. IsLessDense i e.least.job → ⊥)
+      (none_under IsLessDense not_both jobs e.least it.least))) (ways k e.least.job j keeps).1,
+) where
+  least_job : IsJob e.least.job
+  least_job = first_is IsLessDense not_both jobs e.least it.least IsJob it.each
+
+-- ---- the refusal
+
+-- no cause holds
+no_cause : (a b c d : Bool) → a ≡ true → b ≡ false → c ≡ false → d ≡ true
+    → first_cause ((not a, BadJob) ∷ (b, Count) ∷ (c, Total) ∷ (not d, Ratio) ∷ []) ≡ None
+no_cause a b c d one two three four = rw (one, two, three, four) refl
+
+-- a job within all limits that keeps the ratio with all isn't refused
+pub not_refused : (k : Fraction) (jobs : List JobFacts) (j : JobFacts) → IsJob j → length jobs < most_jobs
+    → total_value jobs + j.value ≤ most_total → AllKeepRatio k jobs j → refusal_of k jobs j ≡ None
+not_refused k jobs j job count total all = no_cause (is_job j) (nat_le most_jobs (length jobs)) (nat_lt most_total (total_value jobs + j.value))
+    (list_all (λ i. is_within_ratio_both_ways k i j) jobs) ((is_job-agrees j).1 job) (lt-leb _ _ count) (le-ltb _ _ total)
+    ((each (λ i. is_within_ratio_both_ways k i j) (λ i. is_within_ratio_both_ways k i j ≡ true) (λ i. (λ h. h, λ h. h)) jobs).1 all)

@@ -1,0 +1,122 @@
+//! The jobs that are admitted, as far as the next one needs them.
+use crate::extremes::{Extremes, Numbered};
+use crate::refused::Refused;
+use dover_model::{Job, Ratio};
+use std::marker::Model;
+
+/// How many jobs there may be.
+const MOST_JOBS: u32 = 1_000_000;
+
+/// The greatest sum of the values of all jobs.
+const MOST_TOTAL: u64 = 10_000_000_000_000;
+
+/// What admitting the next job depends on: the ratio, how many jobs were admitted, the sum of their values, and the least
+/// dense and the densest one.
+#[derive(Drop)]
+pub struct Admission {
+    ratio: Ratio,
+    count: u32,
+    total: u64,
+    extremes: Option<Extremes>,
+}
+
+impl Model for Admission {
+    ghost use Rattle.admission.specs.Kept.{Kept, IsWithinLimits};
+
+    ghost Value = { Kept };
+
+    ghost view = { λ a. record { ratio = a.ratio; count = a.count; total = a.total; extremes = a.extremes } };
+
+    ghost invariant = { λ a. IsWithinLimits a.count a.total };
+}
+
+impl Admission {
+    ghost use Rattle.std.specs.Prelude.{◌≡◌, List, [], ◌∷◌, ◌++◌, IfOk, IfErr, IfSome, IsNone};
+    ghost use Rattle.dover_model.specs.JobFacts.{JobFacts, job_of_numbers};
+    ghost use Rattle.dover_model.specs.Admission.{refusal_of};
+    ghost use Rattle.admission.specs.Kept.{StandsFor, HasRoom};
+    ghost use Rattle.admission.specs.Answers.{refusal_in, NamesOther, IsOther, AllKeepRatio};
+
+    /// No job was admitted yet.
+    pub fn new(ratio: Ratio) -> Admission
+        ensures ratio { result.ratio ≡ ratio }
+        ensures stands { StandsFor result [] }
+    {
+        Admission {
+            ratio,
+            count: 0,
+            total: 0,
+            extremes: None,
+        }
+    }
+
+    /// The ratio that densities are tested by.
+    pub fn ratio(&self) -> Ratio
+        ensures { result ≡ self.now.ratio }
+    {
+        self.ratio
+    }
+
+    /// How many jobs were admitted, which is the number of the next one.
+    pub fn count(&self) -> u32
+        ensures { result ≡ self.now.count }
+    {
+        self.count
+    }
+
+    /// The number of the kept job that breaks the ratio with this one, if one does: the least dense one first.
+    fn breaker(&self, job: &Job) -> Option<u32>
+        ensures other { (jobs : List JobFacts) → StandsFor self.now jobs → IfSome result (λ other. IsOther self.now.ratio jobs job.now other) }
+        ensures none { (jobs : List JobFacts) → StandsFor self.now jobs → IsNone result → AllKeepRatio self.now.ratio jobs job.now }
+    {
+        match &self.extremes {
+            Some(extremes) => extremes.breaker(self.ratio, job),
+            None => None,
+        }
+    }
+
+    /// The job of these numbers, release, work and deadline in ticks, where it may be admitted next, or why it may not. The
+    /// numbers may be out of the limits of a job.
+    pub fn check(&self, release: u64, work: u64, deadline: u64, value: u64) -> Result<Job, Refused>
+        ensures job { IfOk result (λ job. job ≡ job_of_numbers release work deadline value) }
+        ensures room { IfOk result (λ job. HasRoom self.now job) }
+        ensures refusal { (jobs : List JobFacts) → StandsFor self.now jobs →
+            refusal_of self.now.ratio jobs (job_of_numbers release work deadline value) ≡ refusal_in result }
+        ensures other { (jobs : List JobFacts) → StandsFor self.now jobs →
+            IfErr result (λ refused. NamesOther self.now.ratio jobs (job_of_numbers release work deadline value) refused) }
+    {
+        let Some(job) = Job::new(release, work, deadline, value) else {
+            return Err(Refused::BadJob);
+        };
+        if self.count >= MOST_JOBS {
+            return Err(Refused::Count);
+        }
+        if self.total + value > MOST_TOTAL {
+            return Err(Refused::Total);
+        }
+        match self.breaker(&job) {
+            Some(other) => Err(Refused::Ratio { other }),
+            None => Ok(job),
+        }
+    }
+
+    /// Admits a job that `check` answered, so that there is room for it.
+    pub fn admit(&mut self, job: Job)
+        requires { HasRoom self.old job }
+        ensures stands { (jobs : List JobFacts) → StandsFor self.old jobs → StandsFor self.new (jobs ++ job ∷ []) }
+        ensures ratio { self.new.ratio ≡ self.old.ratio }
+    {
+        let value = job.value();
+        let next = Numbered {
+            number: self.count,
+            job,
+        };
+        let extremes = match &self.extremes {
+            Some(extremes) => extremes.with(&next),
+            None => Extremes::of(next),
+        };
+        self.extremes = Some(extremes);
+        self.count += 1;
+        self.total += value;
+    }
+}

@@ -1,0 +1,12 @@
+//! What an overload costs: the intervals of a run, and the bound over every schedule.
+#![tactic(auto)]
+
+mod charge;
+mod interval;
+mod ledger;
+
+pub use charge::Charge;
+pub use interval::Interval;
+
+#[cfg(test)]
+mod tests;

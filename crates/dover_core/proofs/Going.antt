@@ -1,0 +1,274 @@
+-- What steps on the way to a horizon keep, and how they fall.
+use Rattle.std.proofs.Common.{map, ◌≡◌, ℕ, zero, suc, ◌+◌, ◌-◌, ◌≤◌, ◌<◌, ◌⊎◌, inl, inr, List, [], ◌∷◌, refl, sym, ap, ◌∙◌}
+use Rattle.std.proofs.Common.{subst, Bool, true, false, cond, arith}
+use Rattle.std.specs.Prelude.{None, nat_le, ◌&&◌}
+use Rattle.std.specs.Bool.{then_some}
+use Rattle.std.specs.List.{AllByRecursion, list_all, fold, filter}
+use Rattle.std.proofs.lemmas.Bool.{lt-leb}
+use Rattle.dover_model.specs.declared.events.Event.TheVariants.{End as EndEvent}
+use Rattle.dover_model.specs.declared.events.Event.{Event}
+use Rattle.dover_model.specs.declared.events.Task.{Task}
+use Rattle.dover_model.specs.Limits.{last_tick}
+use Rattle.dover_model.specs.JobFacts.{JobFacts, IsJob}
+use Rattle.dover_model.specs.Instance.{Rules, Instance, IsValid}
+use Rattle.dover_model.specs.State.{State, is_over, is_done, value_sum}
+use Rattle.dover_model.specs.Step.{ticked, Move, Prints, Waits, Ticks, step, open_step, after, ending, ◌or_else◌}
+use Rattle.dover_model.specs.Run.{is_end, event_of, last_deadline}
+use Rattle.dover_model.specs.Settled.{is_late}
+use Rattle.dover_model.specs.Sound.{Each, Keeps, jobs_of}
+use Rattle.dover_model.proofs.Members.{all_each}
+use Rattle.dover_model.proofs.Deeds.{tick_quiet, over_rests}
+use Rattle.dover_model.proofs.Ticking.{Quiet}
+use Rattle.dover_model.proofs.Kept.{jobs_kept, realistic, open_deed, step_deed, open_kept, step_kept}
+use Rattle.dover_model.proofs.Potential.{weights, steps_scale, tick_weighs}
+use Rattle.dover_model.proofs.Ending.{potential, Brings, open_brings, step_brings, tick_early}
+use Rattle.dover_model.proofs.Settling.{late_early}
+use Rattle.dover_model.proofs.Prefixes.{step_open}
+use Rattle.plain_step.specs.declared.moves.Move.{Move as Stepped}
+use Rattle.plain_step.specs.declared.moves.Move.TheVariants as moves
+use Rattle.plain_step.specs.Moves.{step_of}
+use Rattle.dover_model.specs.Jumps.{later_by}
+use Rattle.dover_model.proofs.Jumping.{later_by-zero, after-later_by}
+use Rattle.plain_step.proofs.Jumping.{tick_rests, urgent_is}
+use Rattle.dover_core.specs.declared.horizon.Horizon.{Horizon}
+use Rattle.dover_core.specs.declared.horizon.Horizon.TheVariants.{Mark, End}
+use Rattle.dover_core.specs.Service.{IsUpTo}
+use Rattle.dover_core.specs.Leading.{step_to, MayGo, LeadsSilently}
+use Rattle.dover_core.specs.Ways.{step_or_end, last_clock, CanGo, GoesOn}
+use Rattle.dover_core.proofs.Leads.{silent_append, silent_none, silent_one}
+
+-- no deadline of valid jobs is after the last tick
+fold_within : (jobs : List JobFacts) (d : ℕ) → AllByRecursion IsJob jobs → d ≤ last_tick
+    → fold (λ d j. cond (nat_le d j.deadline) j.deadline d) d jobs ≤ last_tick
+fold_within [] d each low = low
+fold_within (j ∷ jobs) d each low = by_test (nat_le d j.deadline) (λ e at. fold_within jobs e each.1 at) where
+  by_test : (b : Bool) → ((e : ℕ) → e ≤ last_tick → fold (λ d j. cond (nat_le d j.deadline) j.deadline d) e jobs ≤ last_tick)
+      → fold (λ d j. cond (nat_le d j.deadline) j.deadline d) (cond b j.deadline d) jobs ≤ last_tick
+  by_test true rest = rest j.deadline each.0.due
+  by_test false rest = rest d low
+
+-- a tick is taken below the mark
+below_mark : (rules : Rules) (t : ℕ) (s : State) → open_step rules s ≡ Ticks → s.clock < t → (is_late (open_step rules s) && nat_le t s.clock) ≡ false
+below_mark rules t s ticks early = ap (λ m. is_late m && nat_le t s.clock) ticks ∙ lt-leb t s.clock early
+
+module _ (rules : Rules) (J : Instance) (valid : IsValid J) where
+  -- a step to a horizon keeps a sound state sound
+  pub to_kept : (to : Horizon) (s : State) → Keeps J s → Keeps J (after s (step_to to rules s))
+  to_kept (Mark t) s keeps = open_kept J valid s keeps rules
+  to_kept End s keeps = step_kept J valid s keeps rules
+
+  -- a step but End is a tick, or fewer steps are left
+  pub to_brings : (to : Horizon) (s : State) → Keeps J s → is_end (step_to to rules s) ≡ false
+      → (step_to to rules s ≡ Ticks) ⊎ (weights (after s (step_to to rules s)) + 1 ≤ weights s)
+  to_brings (Mark t) s keeps more = by_case (open_brings J valid s keeps rules) where
+    by_case : Brings s (open_step rules s) → (open_step rules s ≡ Ticks) ⊎ (weights (after s (open_step rules s)) + 1 ≤ weights s)
+    by_case (inl it) = inl it.1
+    by_case (inr falls) = inr falls
+  to_brings End s keeps more = by_case (step_brings J valid s keeps rules more) where
+    by_case : (Quiet s × (step rules s ≡ Ticks) × (list_all is_over s.tasks ≡ false)) ⊎ (weights (after s (step rules s)) + 1 ≤ weights s)
+        → (step rules s ≡ Ticks) ⊎ (weights (after s (step rules s)) + 1 ≤ weights s)
+    by_case (inl it) = inl it.1
+    by_case (inr falls) = inr falls
+
+  -- where a tick is next on the way to the end, some job isn't over
+  not_over : (s : State) → Keeps J s → step rules s ≡ Ticks → list_all is_over s.tasks ≡ false
+  not_over s keeps ticks = by_test (list_all is_over s.tasks) refl where
+    by_test : (b : Bool) → list_all is_over s.tasks ≡ b → list_all is_over s.tasks ≡ false
+    by_test false e = e
+    by_test true e = absurd (
+        let rests : step rules s ≡ (ending s or_else Ticks) =
+        over_rests rules.ratio s (ending s or_else Ticks) (all_each is_over s.tasks e) (step rules s) (step_deed J valid s keeps rules) in
+        let ends : Ticks ≡ Prints (EndEvent (value_sum (filter is_done s.tasks))) =
+        sym ticks ∙ rests ∙ ap (λ b. then_some b (Prints (EndEvent (value_sum (filter is_done s.tasks)))) or_else Ticks) e in cc)
+
+  -- what a tick on the way to a horizon tells
+  pub record TickTo (to : Horizon) (s : State) : Type 0 where
+    opens : open_step rules s ≡ Ticks
+    early : s.clock < last_clock to
+    more : to ≡ End → list_all is_over s.tasks ≡ false
+
+  tick_to : (to : Horizon) (s : State) → Keeps J s → step_to to rules s ≡ Ticks → MayGo to rules s → TickTo to s
+  tick_to (Mark t) s keeps ticks may = record {
+    opens = ticks;
+    early = late_early (is_late (open_step rules s)) t s.clock may (ap is_late ticks);
+    more = λ e. absurd (cc);
+  }
+  tick_to End s keeps ticks may =
+      let some : list_all is_over s.tasks ≡ false = not_over s keeps ticks in
+      let opens : open_step rules s ≡ Ticks = sym (step_open rules s some) ∙ ticks in
+      let quiet : Quiet s = tick_quiet rules.ratio s Ticks (open_step rules s) (open_deed J valid s keeps rules) opens in
+      let early : s.clock < last_deadline J.jobs = tick_early J valid s keeps quiet some in
+      let last : last_deadline J.jobs ≤ last_tick = fold_within J.jobs 0 valid.each (omega arith) in
+      record { opens = opens; early = omega arith; more = λ _. some }
+
+  -- where an open step is a tick, so is the step to a horizon that is later
+  step_ticks : (to : Horizon) (s : State) → open_step rules s ≡ Ticks → (to ≡ End → list_all is_over s.tasks ≡ false) → step_to to rules s ≡ Ticks
+  step_ticks (Mark t) s opens more = opens
+  step_ticks End s opens more = step_open rules s (more refl) ∙ opens
+
+  may_tick : (to : Horizon) (s : State) → open_step rules s ≡ Ticks → s.clock < last_clock to → MayGo to rules s
+  may_tick (Mark t) s opens early = below_mark rules t s opens early
+  may_tick End s opens early = tt
+
+  -- so many ticks
+  pub record OnTicks (to : Horizon) (s : State) (n : ℕ) : Type 0 where
+    lead : LeadsSilently to rules s (later_by n s)
+    keeps : Keeps J (later_by n s)
+    over : list_all is_over (later_by n s).tasks ≡ list_all is_over s.tasks
+    weighs : weights (later_by n s) ≤ weights s
+
+  -- a tick changes no role
+  same_over : (s : State) → list_all is_over (after s Ticks).tasks ≡ list_all is_over s.tasks
+  same_over s = over_map s.tasks where
+    over_map : (ts : List Task) → list_all is_over (map ticked ts) ≡ list_all is_over ts
+    over_map [] = refl
+    over_map (t ∷ ts) = ap (λ b. is_over t && b) (over_map ts)
+
+  -- no ticks leave the state
+  on_none : (to : Horizon) (s : State) → Keeps J s → OnTicks to s 0
+  on_none to s keeps = record {
+    lead = subst (LeadsSilently to rules s) (sym (later_by-zero s)) (silent_none to rules s);
+    keeps = subst (Keeps J) (sym (later_by-zero s)) keeps;
+    over = ap (λ (u : State). list_all is_over u.tasks) (later_by-zero s);
+    weighs = subst (λ u. weights u ≤ weights s) (sym (later_by-zero s)) (omega arith);
+  }
+
+  -- one tick more
+  on_more : (to : Horizon) (s : State) (n : ℕ) → (to ≡ End → list_all is_over s.tasks ≡ false) → s.clock + n < last_clock to
+      → open_step rules (later_by n s) ≡ Ticks → OnTicks to s n → OnTicks to s (n + 1)
+  on_more to s n more early opens it = record {
+    lead = silent_append to rules s (later_by n s) (later_by (n + 1) s) it.lead
+        (subst (LeadsSilently to rules (later_by n s)) next (silent_one to rules (later_by n s) (may_tick to (later_by n s) opens early)
+        (ap event_of goes)));
+    keeps = subst (Keeps J) next (to_kept to (later_by n s) it.keeps);
+    over = ap (λ (u : State). list_all is_over u.tasks) (sym (after-later_by n s)) ∙ same_over (later_by n s) ∙ it.over;
+    weighs = subst (λ u. weights u ≤ weights s) (after-later_by n s)
+        (let quiet : Quiet (later_by n s) = tick_quiet rules.ratio (later_by n s) Ticks (open_step rules (later_by n s))
+        (open_deed J valid (later_by n s) it.keeps rules) opens in
+        let less : weights (after (later_by n s) Ticks) ≤ weights (later_by n s) = tick_weighs steps_scale (later_by n s) it.keeps.sound quiet in
+        let before : weights (later_by n s) ≤ weights s = it.weighs in omega arith);
+  } where
+    goes : step_to to rules (later_by n s) ≡ Ticks
+    goes = step_ticks to (later_by n s) opens (λ e. it.over ∙ more e)
+
+    next : after (later_by n s) (step_to to rules (later_by n s)) ≡ later_by (n + 1) s
+    next = ap (after (later_by n s)) goes ∙ after-later_by n s
+
+  on_ticks : (to : Horizon) (s : State) → Keeps J s → (to ≡ End → list_all is_over s.tasks ≡ false) → (n : ℕ) → s.clock + n ≤ last_clock to
+      → ((m : ℕ) → m < n → open_step rules (later_by m s) ≡ Ticks) → OnTicks to s n
+  on_ticks to s keeps more zero fits silent = on_none to s keeps
+  on_ticks to s keeps more (suc n) fits silent = subst (OnTicks to s) (let one : n + 1 ≡ suc n = omega arith in one)
+      (on_more to s n more (omega arith) (silent n (omega arith)) (on_ticks to s keeps more n (omega arith) (λ m less. silent m (omega arith))))
+
+-- ---- silent steps taken
+
+-- the clock isn't past the last one, which isn't past the last tick
+pub up_to_last : (to : Horizon) (clock : ℕ) → IsUpTo to clock → (clock ≤ last_clock to) × (last_clock to ≤ last_tick)
+up_to_last (Mark t) clock up = (up.0, up.1)
+up_to_last End clock up = (up, omega arith)
+
+-- a later clock that isn't past the last one
+up_to_later : (to : Horizon) (clock later : ℕ) → IsUpTo to clock → later ≤ last_clock to → IsUpTo to later
+up_to_later (Mark t) clock later up low = (low, up.1)
+up_to_later End clock later up low = low
+
+-- the jobs of a state from which steps can be taken
+abbrev pub jobs_in : Rules → State → Instance
+jobs_in rules s = record { rules = rules; jobs = jobs_of s.tasks }
+
+module _ (to : Horizon) (rules : Rules) (s : State) (can : CanGo to rules s) where
+  -- the state keeps its own jobs
+  pub own_keeps : Keeps (jobs_in rules s) s
+  own_keeps = record { sound = can.sound; jobs = refl }
+
+  -- from a state of the same jobs that isn't past the horizon steps can be taken
+  pub can_still : (u : State) → Keeps (jobs_in rules s) u → u.clock ≤ last_clock to → CanGo to rules u
+  can_still u keeps low = record {
+    valid = subst (λ jobs. IsValid (record { rules = rules; jobs = jobs })) (sym keeps.jobs) can.valid;
+    sound = keeps.sound;
+    clock = up_to_later to s.clock u.clock can.clock low;
+  }
+
+  -- a printed step or a wait leaves the clock
+  pub can_after : (u : State) → Keeps (jobs_in rules s) u → u.clock ≡ s.clock → CanGo to rules u
+  can_after u keeps same = can_still u keeps (let low : s.clock ≤ last_clock to = (up_to_last to s.clock can.clock).0 in omega arith)
+
+  -- a printed step
+  pub prints_can : (e : Event) → step_to to rules s ≡ Prints e → CanGo to rules (after s (Prints e))
+      × (jobs_of (after s (Prints e)).tasks ≡ jobs_of s.tasks)
+  prints_can e prints = (can_after (after s (Prints e)) keeps refl, jobs_kept s (Prints e)) where
+    keeps : Keeps (jobs_in rules s) (after s (Prints e))
+    keeps = subst (λ m. Keeps (jobs_in rules s) (after s m)) prints (to_kept rules (jobs_in rules s) can.valid to s own_keeps)
+
+  module _ (may : MayGo to rules s) where
+    -- a wait
+    pub waits_on : (n : ℕ) → step_to to rules s ≡ Waits n → GoesOn to rules s (after s (Waits n))
+    waits_on n waits = record {
+      lead = subst (λ m. LeadsSilently to rules s (after s m)) waits (silent_one to rules s may (ap event_of waits));
+      can = can_after (after s (Waits n)) keeps refl;
+      jobs = keeps.jobs;
+      fewer = by_falls (to_brings rules (jobs_in rules s) can.valid to s own_keeps (ap is_end waits));
+    } where
+      keeps : Keeps (jobs_in rules s) (after s (Waits n))
+      keeps = subst (λ m. Keeps (jobs_in rules s) (after s m)) waits (to_kept rules (jobs_in rules s) can.valid to s own_keeps)
+
+      by_falls : (step_to to rules s ≡ Ticks) ⊎ (weights (after s (step_to to rules s)) + 1 ≤ weights s)
+          → potential (last_clock to) (after s (Waits n)) < potential (last_clock to) s
+      by_falls (inl ticks) = absurd (let e : Waits n ≡ Ticks = sym waits ∙ ticks in cc)
+      by_falls (inr falls) = let less : weights (after s (Waits n)) + 1 ≤ weights s =
+          subst (λ m. weights (after s m) + 1 ≤ weights s) waits falls in omega arith
+
+    -- a jump over silent ticks, as far as nothing else is due
+    pub jumps_on : (count : ℕ) → step_to to rules s ≡ Ticks → count ≤ last_clock to - s.clock
+        → ((rules : Rules) → open_step rules s ≡ Ticks → (n : ℕ) → n < count → open_step rules (later_by n s) ≡ Ticks)
+        → ((rules : Rules) → count < last_clock to - s.clock → open_step rules (later_by count s) ≡ Ticks → ⊥)
+        → GoesOn to rules s (later_by count s)
+    jumps_on count ticks fits silent due = record {
+      lead = it.lead;
+      can = can_still (later_by count s) it.keeps (let early : s.clock < last_clock to = low in omega arith);
+      jobs = it.keeps.jobs;
+      fewer = let early : s.clock < last_clock to = low in
+          let less : weights (later_by count s) ≤ weights s = it.weighs in let more : 1 ≤ count = some count refl in omega arith;
+    } where
+      tick : TickTo rules (jobs_in rules s) can.valid to s
+      tick = tick_to rules (jobs_in rules s) can.valid to s own_keeps ticks may
+
+      low : s.clock < last_clock to
+      low = tick.early
+
+      it : OnTicks rules (jobs_in rules s) can.valid to s count
+      it = on_ticks rules (jobs_in rules s) can.valid to s own_keeps tick.more count (let early : s.clock < last_clock to = low in omega arith)
+          (silent rules tick.opens)
+
+      some : (n : ℕ) → count ≡ n → 1 ≤ n
+      some zero none = absurd (due rules (let early : s.clock < last_clock to = low in omega arith)
+          (subst (λ n. open_step rules (later_by n s) ≡ Ticks) (sym none) (ap (open_step rules) (later_by-zero s) ∙ tick.opens)))
+      some (suc n) e = omega arith
+
+-- no job of the state has had so many ticks that more don't fit
+pub ticks_fit : (to : Horizon) (rules : Rules) (s : State) → CanGo to rules s → (count : ℕ) → count ≤ last_clock to - s.clock
+    → Each (λ t. t.had + count < 18446744073709551616) s.tasks
+ticks_fit to rules s can count fits t member =
+    let job : IsJob t.job = (realistic (jobs_in rules s) can.valid s (own_keeps to rules s can)).each t member in
+    let window : t.job.release + t.job.work ≤ t.job.deadline = job.window in
+    let due : t.job.deadline ≤ last_tick = job.due in
+    let had : t.had ≤ t.job.work = can.sound.at_most_work t member in
+    let last : last_clock to ≤ last_tick = (up_to_last to s.clock can.clock).1 in omega arith
+
+-- ---- the step to the end
+
+-- the step to the end is the open step, or the end in place of a tick
+pub step_closed : (rules : Rules) (s : State) → step_or_end s.tasks (open_step rules s) ≡ step rules s
+step_closed rules s = by_step (open_step rules s) refl where
+  by_step : (m : Move) → open_step rules s ≡ m → step_or_end s.tasks (open_step rules s) ≡ step rules s
+  by_step (Prints e) same = ap (step_or_end s.tasks) same ∙ sym
+      (urgent_is rules s (ending s or_else Ticks) (λ ticks. absurd (let e2 : Prints e ≡ Ticks = sym same ∙ ticks in cc)) ∙ same)
+  by_step (Waits n) same = ap (step_or_end s.tasks) same ∙ sym
+      (urgent_is rules s (ending s or_else Ticks) (λ ticks. absurd (let e2 : Waits n ≡ Ticks = sym same ∙ ticks in cc)) ∙ same)
+  by_step Ticks same = ap (step_or_end s.tasks) same ∙ sym (tick_rests rules s (ending s or_else Ticks) same)
+
+-- a silent step that is no wait is a tick
+pub silent_tick : (m : Stepped) → event_of (step_of m) ≡ None → ((n : ℕ) → m ≡ moves.Waits n → ⊥) → step_of m ≡ Ticks
+silent_tick (moves.Prints e) silent other = absurd (cc)
+silent_tick (moves.Waits n) silent other = absurd (other n refl)
+silent_tick moves.Ticks silent other = refl

@@ -1,0 +1,4 @@
+pub mod Service
+pub mod Leading
+pub mod Ways
+pub mod Kept

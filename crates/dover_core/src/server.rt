@@ -1,0 +1,203 @@
+//! The server.
+ghost use Rattle.std.specs.Prelude.{◌≡◌, ◌≤◌, ◌<◌, ◌+◌, ◌↔◌, IsTrue, IfOk, OnOk, OnErr, IfSome, OnSome, IsNone, true, false, length, ◌∷◌, []};
+ghost use Rattle.std.specs.Prelude.{◌||◌};
+ghost use Rattle.std.specs.List.{slice_get, filter};
+ghost use Rattle.std.specs.Option.{option_map};
+ghost use Rattle.dover_model.specs.Limits.{most_jobs};
+ghost use Rattle.dover_model.specs.Instance.{IsValid, with_jobs};
+ghost use Rattle.dover_model.specs.State.{is_done, value_sum};
+ghost use Rattle.dover_core.specs.Service.{list_of, fresh_service, with_job, IsReadyFor, MayFollow, Stands, steps_left};
+ghost use Rattle.dover_core.specs.Leading.{GivesNext, GivesNone, is_ready_after, is_end_given};
+
+use crate::horizon::Horizon;
+use crate::machine::{done_value, next_printed};
+use dover_model::{Event, Job, Memory, Ratio, Role, Task, Version};
+use std::alloc::Global;
+use std::marker::Model;
+use std::sync::ledger::Ledger;
+use step_count::Steps;
+
+/// The jobs admitted so far in their state, and how far the steps of their run were taken.
+#[derive(Drop)]
+pub struct Server {
+    version: Version,
+    ratio: Ratio,
+    clock: u64,
+    tasks: Vec<Task>,
+    last: Horizon,
+    ready: bool,
+    ended: bool,
+    spare: u32,
+}
+
+impl Model for Server {
+    ghost use Rattle.dover_core.specs.Service.{Service};
+
+    ghost Value = { Service };
+
+    ghost use Rattle.dover_core.specs.Kept.{service_of, IsKept};
+
+    ghost view = { service_of };
+
+    ghost invariant = { IsKept };
+}
+
+// Whether a mark is reached by a step to the horizon with this answer.
+fn is_ready_after(to: Horizon, printed: &Option<Event>) -> bool
+    ensures { result ≡ is_ready_after to printed.now }
+{
+    matches!((to, printed), (Horizon::Mark(_), None))
+}
+
+// Whether the answer is End.
+fn is_end_given(printed: &Option<Event>) -> bool
+    ensures { result ≡ is_end_given printed.now }
+{
+    matches!(printed, Some(Event::End { .. }))
+}
+
+impl Server {
+    /// No job is admitted yet, and the clock is 0. Err where there is no memory.
+    pub fn new(alloc: Global, version: Version, k: Ratio) -> Result<Server, Memory>
+        ensures { IfOk result (λ server. server ≡ fresh_service version k server.spare) }
+    {
+        Ok(Server {
+            version,
+            ratio: k,
+            clock: 0,
+            tasks: Vec::new(alloc),
+            last: Horizon::Mark(0),
+            ready: false,
+            ended: false,
+            spare: 0,
+        })
+    }
+
+    /// Makes room for `more` further jobs. Err where there is no memory.
+    pub fn reserve(&mut self, more: u32) -> Result<(), Memory>
+        requires { length self.old.state.tasks + more ≤ most_jobs }
+        ensures kept { self.new ≡ record self.old { spare = self.new.spare } }
+        ensures room { OnOk result (more ≤ self.new.spare) }
+        ensures spare { self.old.spare ≤ self.new.spare }
+    {
+        if more <= self.spare {
+            return Ok(());
+        }
+        self.tasks.reserve(more as usize)?;
+        self.spare = more;
+        Ok(())
+    }
+
+    /// For how many further jobs there is room.
+    pub fn spare(&self) -> u32
+        ensures { result ≡ self.now.spare }
+    {
+        self.spare
+    }
+
+    /// Admits a job under the next number, which is the answer. It is still to come. Err where there is no memory, never where there is room.
+    pub fn admit(&mut self, job: Job) -> Result<u32, Memory>
+        requires ready { IsReadyFor self.old job.release }
+        requires valid { IsValid (with_jobs (list_of self.old) (job ∷ [])) }
+        ensures number { IfOk result (λ number. number ≡ length self.old.state.tasks) }
+        ensures ok { OnOk result (self.new ≡ with_job self.old job self.new.spare) }
+        ensures spare { OnOk result (self.old.spare ≤ self.new.spare + 1) }
+        ensures err { OnErr result (self.new ≡ record self.old { spare = self.new.spare }) }
+        ensures err_spare { OnErr result (self.old.spare ≤ self.new.spare) }
+        ensures room { OnErr result (self.old.spare ≡ 0) }
+    {
+        let number = self.tasks.len() as u32;
+        self.tasks.push(Task {
+            number,
+            job,
+            role: Role::Coming,
+            had: 0,
+        })?;
+        self.spare = self.spare.saturating_sub(1);
+        self.ready = false;
+        Ok(number)
+    }
+
+    /// Whether the last step was to the mark t and answered None, and no job was admitted since.
+    pub fn ready_for(&self, t: u64) -> bool
+        ensures { IsTrue result ↔ IsReadyFor self.now t }
+    {
+        self.ready && self.last == Horizon::Mark(t)
+    }
+
+    /// The next printed step of the run of the admitted jobs. At a mark it is None where none comes before the first decision at a latest start,
+    /// or silent tick, at the mark or after it. At the end it is None where End was given before. No memory is taken.
+    pub fn step<L: Ledger>(&mut self, to: Horizon, steps: &mut Steps<L>) -> Option<Event>
+        requires { MayFollow self.old.last to }
+        ensures some { IfSome result (λ e. GivesNext to self.old.rules self.old.state self.new.state e) }
+        ensures none { IsNone result → GivesNone to self.old self.new.state }
+        ensures after_end { self.old.ended ≡ true → IsNone result }
+        ensures rules { self.new.rules ≡ self.old.rules }
+        ensures list { list_of self.new ≡ list_of self.old }
+        ensures last { self.new.last ≡ to }
+        ensures ready { self.new.ready ≡ is_ready_after to result }
+        ensures ended { self.new.ended ≡ (self.old.ended || is_end_given result) }
+        ensures spare { self.old.spare ≤ self.new.spare }
+        ensures fewer { OnSome result (steps_left self.new < steps_left self.old) }
+        ensures stands { Stands self.new }
+    {
+        self.last = to;
+        if self.ended {
+            self.ready = false;
+            return None;
+        }
+        let printed = next_printed(
+            self.version,
+            self.ratio,
+            to,
+            &mut self.clock,
+            &mut self.tasks,
+        );
+        self.ready = is_ready_after(to, &printed);
+        self.ended = is_end_given(&printed);
+        printed
+    }
+
+    /// The sum of the values of the completed jobs.
+    pub fn value(&self) -> u64
+        ensures { result ≡ value_sum (filter is_done self.now.state.tasks) }
+    {
+        done_value(&self.tasks)
+    }
+
+    /// The clock, in ticks.
+    pub fn clock(&self) -> u64
+        ensures is { result ≡ self.now.state.clock }
+        ensures stands { Stands self.now }
+    {
+        self.clock
+    }
+
+    /// How many jobs are admitted.
+    pub fn admitted(&self) -> u32
+        ensures { result ≡ length self.now.state.tasks }
+    {
+        self.tasks.len() as u32
+    }
+
+    /// What the job of this number is now. None where no job has it.
+    pub fn role(&self, number: u32) -> Option<Role>
+        ensures { result ≡ option_map (λ t. t.role) (slice_get self.now.state.tasks number) }
+    {
+        Some(self.tasks.get(number as usize)?.role)
+    }
+
+    /// The job of this number. None where no job has it.
+    pub fn job(&self, number: u32) -> Option<Job>
+        ensures { result ≡ option_map (λ t. t.job) (slice_get self.now.state.tasks number) }
+    {
+        Some(self.tasks.get(number as usize)?.job)
+    }
+
+    /// How many ticks the job of this number has had. None where no job has it.
+    pub fn had(&self, number: u32) -> Option<u64>
+        ensures { result ≡ option_map (λ t. t.had) (slice_get self.now.state.tasks number) }
+    {
+        Some(self.tasks.get(number as usize)?.had)
+    }
+}

@@ -1,0 +1,76 @@
+//! The report and the summary.
+ghost use Rattle.std.specs.Prelude.{◌≡◌, ◌++◌, OnOk, IfOk};
+ghost use Rattle.dover_model.specs.Instance.{Instance};
+ghost use Rattle.dover_model.specs.Lines.{in_lines};
+ghost use Rattle.dover_model.specs.Reports.{report, summary};
+ghost use Rattle.charge_ledger.specs.Rows.{IsRunOf};
+ghost use Rattle.dover_report.specs.Counts.{counts_lines};
+ghost use Rattle.dover_report.specs.Lines.{row_lines};
+
+use crate::counts::{Counts, count, released};
+use crate::lines::put_line;
+use charge_ledger::{Charge, Interval};
+use dover_model::{Event, Memory, Ratio};
+use std::alloc::Global;
+
+/// The report on the run that prints these steps: its ratio, its summary and its intervals. The jobs of the run are valid for the
+/// ratio `k`. Want of memory is the only error.
+pub fn text(alloc: Global, k: Ratio, run: &[Event]) -> Result<Vec<u8>, Memory>
+    requires { (J : Instance) × IsRunOf k run.now J }
+    ensures { (J : Instance) → IsRunOf k run.now J → IfOk result (λ text. text.items ≡ report J) }
+{
+    let charge = Charge::of(alloc, k, run)?;
+    let jobs = released(alloc, run)?;
+    let mut text = Vec::new(alloc);
+    put_line(&mut text, b"ratio", &[u64::from(k.p()), u64::from(k.q())])?;
+    put_counts(&mut text, count(k, run, &jobs, charge.value()))?;
+    put_rows(&mut text, charge.rows())?;
+    Ok(text)
+}
+
+/// The summary of that run alone.
+pub fn summary(alloc: Global, k: Ratio, run: &[Event]) -> Result<Vec<u8>, Memory>
+    requires { (J : Instance) × IsRunOf k run.now J }
+    ensures { (J : Instance) → IsRunOf k run.now J → IfOk result (λ text. text.items ≡ summary J) }
+{
+    let charge = Charge::of(alloc, k, run)?;
+    let jobs = released(alloc, run)?;
+    let mut text = Vec::new(alloc);
+    put_counts(&mut text, count(k, run, &jobs, charge.value()))?;
+    Ok(text)
+}
+
+/// Appends the lines of a summary.
+fn put_counts(text: &mut Vec<u8>, counts: Counts) -> Result<(), Memory>
+    ensures { OnOk result (text.new.items ≡ text.old.items ++ in_lines (counts_lines counts)) }
+{
+    put_line(text, b"jobs", &[counts.jobs])?;
+    put_line(text, b"completed", &[counts.completed, counts.value])?;
+    put_line(text, b"abandoned", &[counts.abandoned, counts.lost])?;
+    put_line(text, b"taken", &[counts.taken])?;
+    put_line(text, b"bound", &[counts.bound])?;
+    Ok(())
+}
+
+/// Appends the lines of intervals, with their numbers from 1 on.
+fn put_rows(text: &mut Vec<u8>, rows: &[Interval]) -> Result<(), Memory>
+    ensures { OnOk result (text.new.items ≡ text.old.items ++ in_lines (row_lines rows.now)) }
+{
+    for (index, row) in rows.iter().enumerate() {
+        let number = index as u64 + 1;
+        put_line(
+            text,
+            b"interval",
+            &[
+                number,
+                row.from,
+                row.until,
+                row.regular,
+                row.taken,
+                row.displaced,
+                row.abandoned,
+            ],
+        )?;
+    }
+    Ok(())
+}

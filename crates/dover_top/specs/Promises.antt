@@ -1,0 +1,47 @@
+-- What a served feed comes to.
+use Rattle.std.specs.Prelude.{◌≡◌, ℕ, List, true, false, ◌⊎◌, Some}
+use Rattle.std.specs.List.{sum_by}
+use Rattle.dover_model.specs.Instance.{Instance, IsValid}
+use Rattle.dover_model.specs.Session.{Session, IsValidSession, instance_of}
+use Rattle.dover_model.specs.Bound.{IsWithin}
+use Rattle.dover_model.specs.Schedules.{worth, Meets}
+use Rattle.dover_model.specs.Run.{run, ran, completed_value}
+use Rattle.dover_model.specs.Online.{printed_up_to, known_at}
+use Rattle.dover_model.specs.Sound.{Each}
+use Rattle.dover_model.specs.Underload.{loses}
+use Rattle.dover_model.specs.Trace.{trace_of_session}
+use Rattle.dover_model.specs.Verdict.{Accepted, verdict}
+use Rattle.dover_model.specs.Feed.{account, is_ended, is_open}
+use Rattle.dover_port.specs.Moves.{Move, ins, outs, has_ended}
+use Rattle.dover_port.specs.declared.status.Status.{Status}
+use Rattle.dover_port.specs.declared.status.Status.TheVariants.{Done, Refused, Memory}
+use Rattle.serve_word.specs.Delivered.{IsFaulty}
+
+-- what stands of the run of a valid list of jobs
+pub record KeepsPromises (J : Instance) : Type 0 where
+  -- No schedule whatever is worth more than (1 + √k)² times what the run completes,
+  pub bound : (s : List ℕ) → IsWithin J.rules.ratio (worth J s) (completed_value J)
+  -- which is what the run's own schedule is worth.
+  pub honest : worth J (ran J) ≡ completed_value J
+  -- What is printed up to a tick is the same for every list that has the same jobs by then.
+  pub on_line : (t : ℕ) (K : Instance) → IsValid K → J.rules ≡ K.rules → known_at t J.jobs ≡ known_at t K.jobs → printed_up_to t J ≡ printed_up_to t K
+  -- Where some schedule serves every job, none is taken late or abandoned,
+  pub none_lost : Meets J → Each (λ x. loses x.move ≡ false) (run J)
+  -- and the run completes all value.
+  pub all_value : Meets J → completed_value J ≡ sum_by (λ j. j.value) J.jobs
+
+-- the feed that was read ended without a fault, and the trace of its session was written
+pub record IsTraced (moves : List Move) : Type 0 where
+  pub session : Session
+  pub ended : is_ended (account (ins moves)) ≡ true
+  pub named : (account (ins moves)).session ≡ Some session
+  pub valid : IsValidSession session
+  pub text : outs moves ≡ trace_of_session session
+  pub accepted : verdict (outs moves) ≡ Accepted session
+  pub promises : KeepsPromises (instance_of session)
+
+-- A feed that ended has its trace, and one that has a fault or is short has its refusal, if there was memory.
+pub record IsSettled (status : Status) (moves : List Move) : Type 0 where
+  pub ended : is_ended (account (ins moves)) ≡ true → (status ≡ Done) ⊎ (status ≡ Memory)
+  pub refused : IsFaulty (account (ins moves)) ⊎ ((has_ended moves ≡ true) × (is_open (account (ins moves)) ≡ true))
+      → (status ≡ Refused) ⊎ (status ≡ Memory)

@@ -1,0 +1,4 @@
+pub mod JobLines
+pub mod Taking
+pub mod Counting
+pub mod Skipping

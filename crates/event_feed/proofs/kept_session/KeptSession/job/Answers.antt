@@ -1,0 +1,38 @@
+-- A job line by what admitting the job answers.
+use Rattle.std.proofs.Common.{◌≡◌, ◌∷◌, [], ◌++◌, ◌∙◌, sym, ap, subst, refl, arith, Ok}
+use Rattle.dover_model.specs.JobFacts.{JobFacts, job_of_numbers}
+use Rattle.dover_model.specs.Admission.{refusal_of}
+use Rattle.dover_model.specs.Session.{admitted_jobs}
+use Rattle.dover_model.specs.FeedLine.{JobLine}
+use Rattle.admission.specs.Kept as admission
+use Rattle.admission.specs.Answers as answers
+use Rattle.event_feed.specs.declared.fed.Fed.TheVariants as fed
+use Rattle.event_feed.specs.declared.kept_session.KeptSession.{KeptSession}
+use Rattle.event_feed.specs.Reading.{Takes}
+use Rattle.event_feed.proofs.JobLines.{takes_job}
+use Rattle.event_feed.proofs.kept_session.KeptSession.job.Goals as goal
+
+pub returns-in-Ok : goal.returns-in-Ok
+returns-in-Ok c lines S mark it =
+    let j : JobFacts = job_of_numbers c.args.release c.args.work c.args.deadline c.args.value in
+    let kept : KeptSession = c.args.self.now in
+    let new : KeptSession = record { version = kept.version; admission = c.admit.new.self; mark = c.args.release } in
+    let same : c.in-Ok.job ≡ j = c.in-Ok.ensures.job in
+    subst (λ job. Takes (JobLine j) lines S mark new (Ok (fed.Job c.count-number.result job))) (sym same)
+    (takes_job lines S mark j (omega (arith, it.marked)) kept new c.count-number.result it refl c.admit.ensures.ratio refl
+    (λ jobs stands. subst (λ job. admission.StandsFor c.admit.new.self (jobs ++ job ∷ [])) same (c.admit.ensures.stands jobs stands))
+    (ap (λ rules. refusal_of rules.ratio (admitted_jobs S.items) j) it.rules ∙ c.in-Ok.ensures.refusal (admitted_jobs S.items) it.jobs)
+    c.count-number.ensures)
+
+pub returns-in-Err : goal.returns-in-Err
+returns-in-Err c lines S mark it =
+    let j : JobFacts = job_of_numbers c.args.release c.args.work c.args.deadline c.args.value in
+    c.refuse.ensures lines S mark (record {
+      kept_of = it;
+      numerals = c.requires;
+      no_fall = omega (arith, it.marked);
+      refusal = ap (λ rules. refusal_of rules.ratio (admitted_jobs S.items) j) it.rules
+          ∙ c.in-Err.ensures.refusal (admitted_jobs S.items) it.jobs;
+      other = subst (λ k. answers.NamesOther k (admitted_jobs S.items) j c.in-Err.refused) (sym (ap (λ rules. rules.ratio) it.rules))
+          (c.in-Err.ensures.other (admitted_jobs S.items) it.jobs);
+    })

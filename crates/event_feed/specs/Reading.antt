@@ -1,0 +1,59 @@
+-- What a line makes of what is kept, and its answer, step by step.
+use Rattle.std.specs.Prelude.{◌≡◌, ℕ, ◌≤◌, Option, Some, None, Result, Ok, Err}
+use Rattle.dover_model.specs.Numerals.{AreShort}
+use Rattle.dover_model.specs.JobFacts.{JobFacts, job_numbers}
+use Rattle.dover_model.specs.Instance.{Rules}
+use Rattle.dover_model.specs.Admission.{refusal_of}
+use Rattle.dover_model.specs.Session.{Session, admitted_jobs}
+use Rattle.dover_model.specs.FeedLine.{FeedLine, RatioLine, JobLine, TickLine, EndLine}
+use Rattle.dover_model.specs.Feed.{Account, Open, declared_rules, cause_of, with_fault, with_line}
+use Rattle.admission.specs.Answers as admission
+use Rattle.admission.specs.Answers.{refusal_of_refused}
+use Rattle.admission.specs.declared.refused.Refused.{Refused}
+use Rattle.event_feed.specs.declared.faults.Cause.{Cause}
+use Rattle.event_feed.specs.declared.fed.Fed.{Fed}
+use Rattle.event_feed.specs.declared.kept_session.KeptSession.{KeptSession}
+use Rattle.event_feed.specs.Kept.{cause_of_fault, IsKeptOf, KeepsSession}
+use Rattle.event_feed.specs.Answers.{IsFed, NamesOther}
+
+-- the rules that a first line declares, if it may
+abbrev pub first_rules : FeedLine → Option Rules
+first_rules (RatioLine p q version) = declared_rules (record { p = p; q = q }) version
+first_rules (JobLine j) = None
+first_rules (TickLine t) = None
+first_rules EndLine = None
+
+-- the line is at fault
+pub record IsFault (line : Option FeedLine) (a after : Account) (cause : Cause) : Type 0 where
+  pub after_is : after ≡ with_fault a (cause_of_fault cause)
+  pub other : NamesOther line a cause
+
+-- the answer to a line of an open account in which it is counted
+abbrev pub Gives : Option FeedLine → Account → Account → Result Fed Cause → Type 0
+Gives line a after (Ok fed) = IsFed a after fed
+Gives line a after (Err cause) = IsFault line a after cause
+
+-- what is kept afterwards, and the answer
+pub record IsTaken (kept : Option KeptSession) (line : Option FeedLine) (a after : Account) (answer : Result Fed Cause) : Type 0 where
+  pub keeps : KeepsSession kept after.session after.mark
+  pub gives : Gives line a after answer
+
+-- an account that goes on
+abbrev pub open_account : ℕ → Option Session → ℕ → Account
+open_account lines session mark = record { lines = lines; session = session; mark = mark; standing = Open }
+
+-- a line that has one of the forms, in an account that goes on
+abbrev pub TakesIn : Account → FeedLine → Option KeptSession → Result Fed Cause → Type 0
+TakesIn a line kept answer = IsTaken kept (Some line) a (with_line a line (cause_of a line)) answer
+
+-- a line that has one of the forms, after the first
+abbrev pub Takes : FeedLine → ℕ → Session → ℕ → KeptSession → Result Fed Cause → Type 0
+Takes line lines S mark kept answer = TakesIn (open_account lines (Some S) mark) line (Some kept) answer
+
+-- a job that comes next isn't admitted
+pub record Refuses (kept : KeptSession) (S : Session) (mark : ℕ) (j : JobFacts) (refused : Refused) : Type 0 where
+  pub kept_of : IsKeptOf kept S mark
+  pub numerals : AreShort (job_numbers j)
+  pub no_fall : mark ≤ j.release
+  pub refusal : refusal_of S.rules.ratio (admitted_jobs S.items) j ≡ Some (refusal_of_refused refused)
+  pub other : admission.NamesOther S.rules.ratio (admitted_jobs S.items) j refused

@@ -1,0 +1,23 @@
+//! What a good line of a feed says.
+use dover_model::{Job, Ratio, Refusal, Version};
+
+/// What a line says that isn't at fault.
+#[derive(Clone, Copy, Debug, PartialEq, Eq)]
+pub enum Fed {
+    /// The ratio and the version are declared.
+    Ratio(Ratio, Version),
+    /// A job is admitted under this number.
+    Job(u32, Job),
+    /// The mark is this tick: no later line names a release or a tick below it.
+    Tick(u64),
+    /// The feed is ended.
+    Over,
+    /// A job of these numbers isn't admitted, which in version Two is no fault.
+    Refused {
+        release: u64,
+        work: u64,
+        deadline: u64,
+        value: u64,
+        cause: Refusal,
+    },
+}

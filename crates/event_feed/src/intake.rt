@@ -1,0 +1,205 @@
+//! The lines of a feed, taken in one by one.
+ghost use Rattle.std.specs.Prelude.{◌≡◌, ℕ, List, [], ◌∷◌, ◌++◌, ◌↔◌, true, false, Option, IsOk, IfOk, OnOk, IsSome, ◌≤◌, ◌+◌, replicate};
+ghost use Rattle.std.specs.Option.{option_map};
+ghost use Rattle.std.specs.Bool.{then_some};
+ghost use Rattle.dover_model.specs.Limits.{most_lines};
+ghost use Rattle.dover_model.specs.Fraction.{is_ratio};
+ghost use Rattle.dover_model.specs.Session.{Session};
+ghost use Rattle.dover_model.specs.FeedLine as form;
+ghost use Rattle.dover_model.specs.Feed.{Account, Open, account_of_lines, read_line, rules_with, declared_version};
+ghost use Rattle.job_format.specs.Form.{form_of};
+ghost use Rattle.event_feed.specs.Kept.{KeepsSession};
+ghost use Rattle.event_feed.specs.Reading.{first_rules, open_account, TakesIn, IsTaken};
+
+use crate::faults::{Cause, FeedFault};
+use crate::fed::Fed;
+use crate::kept_session::KeptSession;
+use dover_model::{Ratio, Version};
+use job_format::{FeedLine, read_feed_line};
+use std::marker::Model;
+
+/// How many lines a feed may have.
+const MOST_LINES: u64 = 4_000_000;
+
+/// Whether a feed goes on.
+#[derive(Clone, Copy, Debug, PartialEq, Eq)]
+enum Standing {
+    Open,
+    Over,
+    Faulty(FeedFault),
+}
+
+/// The ratio of these numbers, if they are within its limits.
+fn ratio_of(p: u64, q: u64) -> Option<Ratio>
+    ensures { result ≡ then_some (is_ratio (record { p = p; q = q })) (record { p = p; q = q }) }
+{
+    match (u32::try_from(p), u32::try_from(q)) {
+        (Ok(p), Ok(q)) => Ratio::new(p, q),
+        _ => None,
+    }
+}
+
+/// The version of this number: none stands for One.
+fn version_of(number: Option<u64>) -> Option<Version>
+    ensures { result ≡ declared_version number }
+{
+    match number {
+        None => Some(Version::One),
+        Some(2) => Some(Version::Two),
+        Some(_) => None,
+    }
+}
+
+/// The ratio and the version that the first line declares.
+fn declared(line: FeedLine) -> Option<(Ratio, Version)>
+    ensures { option_map (λ declared. rules_with declared.0 declared.1) result ≡ first_rules (form_of line) }
+{
+    let FeedLine::Declared { p, q, version } = line else {
+        return None;
+    };
+    let ratio = ratio_of(p, q)?;
+    let version = version_of(version)?;
+    Some((ratio, version))
+}
+
+/// The first line, which has to declare the ratio.
+fn first_line(session: &mut Option<KeptSession>, line: FeedLine) -> Result<Fed, Cause>
+    requires { session.old ≡ None }
+    ensures declared { OnOk result (IsSome session.new) }
+    ensures taken { (lines : ℕ) → TakesIn (open_account lines None 0) (form_of line) session.new result }
+{
+    match declared(line) {
+        Some((ratio, version)) => {
+            *session = Some(KeptSession::new(ratio, version));
+            Ok(Fed::Ratio(ratio, version))
+        }
+        None => Err(Cause::Declared),
+    }
+}
+
+/// A line that has one of the forms.
+fn formed_line(session: &mut Option<KeptSession>, line: FeedLine) -> Result<Fed, Cause>
+    requires { form.HasNumerals (form_of line) }
+    ensures declared { OnOk result (IsSome session.new) }
+    ensures taken { (lines : ℕ) (before : Option Session) (mark : ℕ) → KeepsSession session.old before mark →
+        TakesIn (open_account lines before mark) (form_of line) session.new result }
+{
+    match session {
+        Some(kept) => kept.line(line),
+        None => first_line(session, line),
+    }
+}
+
+/// A line, which is counted already.
+fn read(session: &mut Option<KeptSession>, lines: u64, line: &[u8]) -> Result<Fed, Cause>
+    ensures few { OnOk result (lines ≤ most_lines) }
+    ensures declared { OnOk result (IsSome session.new) }
+    ensures taken { (a : Account) → a.standing ≡ Open → a.lines ≡ lines → KeepsSession session.old a.session a.mark →
+        IsTaken session.new (form.feed_line line.now) a (read_line a line.now) result }
+{
+    if lines > MOST_LINES {
+        return Err(Cause::Lines);
+    }
+    match read_feed_line(line) {
+        Ok(read) => formed_line(session, read),
+        Err(_) => Err(Cause::Line),
+    }
+}
+
+/// Takes in the lines of a feed, one by one. It keeps the number of lines, the session as far as the next line needs it, and
+/// whether the feed goes on.
+#[derive(Drop)]
+pub struct Intake {
+    lines: u64,
+    session: Option<KeptSession>,
+    standing: Standing,
+}
+
+impl Model for Intake {
+    ghost use Rattle.event_feed.specs.Kept.{Kept, IsCounted};
+
+    ghost Value = { Kept };
+
+    ghost view = { λ i. record { lines = i.lines; session = i.session; standing = i.standing } };
+
+    ghost invariant = { λ i. IsCounted i.standing i.lines };
+}
+
+impl Intake {
+    ghost use Rattle.event_feed.specs.Kept.{StandsFor, IsGoing, HasLines, has_ended, fault_of};
+    ghost use Rattle.event_feed.specs.Answers.{Answers, EndAnswers, fault_in};
+
+    /// No line came yet.
+    pub fn new() -> Intake
+        ensures stands { StandsFor result [] }
+        ensures goes_on { has_ended result ≡ false }
+        ensures no_fault { fault_of result ≡ None }
+        ensures none_counted { result.lines ≡ 0 }
+    {
+        Intake {
+            lines: 0,
+            session: None,
+            standing: Standing::Open,
+        }
+    }
+
+    /// Takes the next line, without its line feed. After a fault every line is answered by that same fault.
+    pub fn line(&mut self, line: &[u8]) -> Result<Fed, FeedFault>
+        requires { has_ended self.old ≡ false }
+        ensures stands { (ls : List (List ℕ)) → StandsFor self.old ls → StandsFor self.new (ls ++ line.now ∷ []) }
+        ensures answer { (ls : List (List ℕ)) → StandsFor self.old ls →
+            Answers line.now (account_of_lines ls) (account_of_lines (ls ++ line.now ∷ [])) result }
+        ensures going { IfOk result (λ fed. (fed ≡ Fed.Over → ⊥) → IsGoing self.new) }
+        ensures ended { (has_ended self.new ≡ true) ↔ (result ≡ Ok Fed.Over) }
+        ensures fault { fault_of self.new ≡ fault_in result }
+        ensures counted { self.new.lines ≤ self.old.lines + 1 }
+        ensures again { (fault : FeedFault) → fault_of self.old ≡ Some fault → (result ≡ Err fault) × (self.new ≡ self.old) }
+    {
+        if let Standing::Faulty(fault) = self.standing {
+            return Err(fault);
+        }
+        self.lines += 1;
+        match read(&mut self.session, self.lines, line) {
+            Ok(Fed::Over) => {
+                self.standing = Standing::Over;
+                Ok(Fed::Over)
+            }
+            Ok(fed) => Ok(fed),
+            Err(cause) => {
+                let fault = FeedFault {
+                    line: self.lines,
+                    cause,
+                };
+                self.standing = Standing::Faulty(fault);
+                Err(fault)
+            }
+        }
+    }
+
+    /// The input ends here. The fault is that of an earlier line, or that there was no end line. It leaves all as before.
+    pub fn end(&self) -> Result<(), FeedFault>
+        ensures ended { IsOk result ↔ (has_ended self.now ≡ true) }
+        ensures fault { (fault : FeedFault) → fault_of self.now ≡ Some fault → result ≡ Err fault }
+        ensures answer { (ls : List (List ℕ)) → StandsFor self.now ls → EndAnswers ls result }
+    {
+        match self.standing {
+            Standing::Open => Err(FeedFault {
+                line: self.lines + 1,
+                cause: Cause::Short,
+            }),
+            Standing::Over => Ok(()),
+            Standing::Faulty(fault) => Err(fault),
+        }
+    }
+
+    /// Takes so many tick lines at the mark, which change nothing but the number of lines.
+    pub fn skip(&mut self, lines: u64)
+        requires going { IsGoing self.old }
+        requires room { HasLines self.old lines }
+        ensures stands { (ls : List (List ℕ)) → StandsFor self.old ls →
+            StandsFor self.new (ls ++ replicate lines (form.feed_text (form.TickLine (account_of_lines ls).mark))) }
+        ensures going { IsGoing self.new }
+    {
+        self.lines += lines;
+    }
+}

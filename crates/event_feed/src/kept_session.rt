@@ -1,0 +1,113 @@
+//! What is kept of a feed once its ratio is declared.
+ghost use Rattle.std.specs.Prelude.{◌≡◌, ℕ};
+ghost use Rattle.dover_model.specs.Numerals.{AreShort};
+ghost use Rattle.dover_model.specs.JobFacts.{job_of_numbers, job_numbers};
+ghost use Rattle.dover_model.specs.Session.{Session, new_session};
+ghost use Rattle.dover_model.specs.Feed.{rules_with};
+ghost use Rattle.dover_model.specs.FeedLine.{JobLine, TickLine, HasNumerals};
+ghost use Rattle.job_format.specs.Form.{form_of};
+ghost use Rattle.event_feed.specs.Kept.{IsKeptOf};
+ghost use Rattle.event_feed.specs.Reading.{Refuses, Takes};
+
+use crate::faults::Cause;
+use crate::fed::Fed;
+use admission::{Admission, Refused};
+use dover_model::{Ratio, Version};
+use job_format::FeedLine;
+
+/// The last tick that a tick line may name.
+const LAST_TICK: u64 = 1_000_000_000_000;
+
+/// The version, the jobs that were admitted, as far as the next one needs them, and the mark.
+#[derive(Drop)]
+pub struct KeptSession {
+    version: Version,
+    admission: Admission,
+    mark: u64,
+}
+
+impl KeptSession {
+    /// No line came yet.
+    pub fn new(ratio: Ratio, version: Version) -> KeptSession
+        ensures { IsKeptOf result (new_session (rules_with ratio version)) 0 }
+    {
+        KeptSession {
+            version,
+            admission: Admission::new(ratio),
+            mark: 0,
+        }
+    }
+
+    /// The job line of these numbers, which isn't admitted.
+    fn refuse(
+        &self,
+        release: u64,
+        work: u64,
+        deadline: u64,
+        value: u64,
+        refused: Refused,
+    ) -> Result<Fed, Cause>
+        ensures { (lines : ℕ) (S : Session) (mark : ℕ) → Refuses self.now S mark (job_of_numbers release work deadline value) refused →
+            Takes (JobLine (job_of_numbers release work deadline value)) lines S mark self.now result }
+    {
+        match self.version {
+            Version::One => Err(Cause::of(refused)),
+            Version::Two => Ok(Fed::Refused {
+                release,
+                work,
+                deadline,
+                value,
+                cause: refused.refusal(),
+            }),
+        }
+    }
+
+    /// The job line of these numbers.
+    fn job(&mut self, release: u64, work: u64, deadline: u64, value: u64) -> Result<Fed, Cause>
+        requires { AreShort (job_numbers (job_of_numbers release work deadline value)) }
+        ensures { (lines : ℕ) (S : Session) (mark : ℕ) → IsKeptOf self.old S mark →
+            Takes (JobLine (job_of_numbers release work deadline value)) lines S mark self.new result }
+    {
+        if release < self.mark {
+            return Err(Cause::Order);
+        }
+        match self.admission.check(release, work, deadline, value) {
+            Ok(job) => {
+                let number = self.admission.count();
+                self.admission.admit(job);
+                self.mark = release;
+                Ok(Fed::Job(number, job))
+            }
+            Err(refused) => self.refuse(release, work, deadline, value, refused),
+        }
+    }
+
+    /// The line of this tick.
+    fn tick(&mut self, at: u64) -> Result<Fed, Cause>
+        ensures { (lines : ℕ) (S : Session) (mark : ℕ) → IsKeptOf self.old S mark → Takes (TickLine at) lines S mark self.new result }
+    {
+        if at < self.mark || at > LAST_TICK {
+            return Err(Cause::Order);
+        }
+        self.mark = at;
+        Ok(Fed::Tick(at))
+    }
+
+    /// A line after the first.
+    pub fn line(&mut self, line: FeedLine) -> Result<Fed, Cause>
+        requires { HasNumerals (form_of line) }
+        ensures { (lines : ℕ) (S : Session) (mark : ℕ) → IsKeptOf self.old S mark → Takes (form_of line) lines S mark self.new result }
+    {
+        match line {
+            FeedLine::Declared { .. } => Err(Cause::Declared),
+            FeedLine::Job {
+                release,
+                work,
+                deadline,
+                value,
+            } => self.job(release, work, deadline, value),
+            FeedLine::Tick { at } => self.tick(at),
+            FeedLine::End => Ok(Fed::Over),
+        }
+    }
+}

@@ -1,0 +1,13 @@
+//! What a feed says, line by line, and which line is at fault.
+#![tactic(auto)]
+
+mod faults;
+mod fed;
+mod intake;
+mod kept_session;
+#[cfg(test)]
+mod tests;
+
+pub use faults::{Cause, FeedFault};
+pub use fed::Fed;
+pub use intake::Intake;

@@ -1,0 +1,12 @@
+//! The lines of a feed, read and written.
+#![tactic(auto)]
+
+mod lines;
+mod reading;
+#[cfg(test)]
+mod tests;
+mod writing;
+
+pub use lines::FeedLine;
+pub use reading::read_feed_line;
+pub use writing::write_feed_line;

@@ -1,0 +1,25 @@
+//! The forms of a feed's line.
+
+/// A line of a feed. Its numbers are below 10^18 where it was read, and may be out of the limits of a feed.
+#[derive(Clone, Copy, Debug, PartialEq, Eq)]
+pub enum FeedLine {
+    /// `k P Q` or `k P Q N`: the ratio, and perhaps the version.
+    Declared {
+        p: u64,
+        q: u64,
+        version: Option<u64>,
+    },
+    /// `job R C D V`: release, work and deadline in ticks, and the value.
+    Job {
+        release: u64,
+        work: u64,
+        deadline: u64,
+        value: u64,
+    },
+    /// `tick T`: no later line names a release or a tick below T.
+    Tick {
+        at: u64,
+    },
+    /// `end`: no more jobs.
+    End,
+}

@@ -1,0 +1,117 @@
+//! Bytes, one by one, cut into lines.
+use crate::LINE_BYTES;
+use std::marker::Model;
+
+/// What a byte made of the line.
+#[derive(Clone, Copy, Debug, PartialEq, Eq)]
+pub enum Step {
+    /// The line goes on.
+    More,
+    /// The byte was the line feed that ends the line.
+    Line,
+    /// The line is longer than 128 bytes. Further bytes are disregarded.
+    TooLong,
+}
+
+/// Cuts the bytes that are pushed into lines. A line has at most 128 bytes without its line feed.
+#[derive(Drop)]
+pub struct Lines {
+    bytes: [u8; LINE_BYTES],
+    used: usize,
+    count: u64,
+    last: Step,
+}
+
+impl Model for Lines {
+    ghost use Rattle.std.specs.Prelude.{take};
+    ghost use Rattle.line_text.specs.Cutting.{Cutting, HasRoom};
+
+    ghost Value = { Cutting };
+
+    ghost view = { λ l. record { line = take l.used l.bytes; count = l.count; last = l.last } };
+
+    ghost invariant = { λ l. HasRoom l.last l.used };
+}
+
+impl Lines {
+    ghost use Rattle.std.specs.Prelude.{◌≡◌, ◌++◌, ◌∷◌, [], ℕ, List, length, false, ◌≢◌};
+    ghost use Rattle.dover_model.specs.Lines.{rest_of, is_too_long};
+    ghost use Rattle.line_text.specs.declared.cutting.Step.TheVariants.{More};
+    ghost use Rattle.line_text.specs.Cutting.{StandsFor, HasCut, step_of, with_byte, after_byte, begun_line};
+
+    /// No byte was pushed yet.
+    pub fn new() -> Lines
+        ensures stands { StandsFor result [] }
+        ensures is { result ≡ record { line = []; count = 0; last = More } }
+    {
+        Lines {
+            bytes: [0; LINE_BYTES],
+            used: 0,
+            count: 0,
+            last: Step::More,
+        }
+    }
+
+    /// Keeps the next byte, unless the line was too long before.
+    fn keep(&mut self, byte: u8) -> Step
+        ensures is { self.new ≡ after_byte self.old byte }
+        ensures last { result ≡ self.new.last }
+    {
+        match self.last {
+            Step::TooLong => return Step::TooLong,
+            Step::Line => self.used = 0,
+            Step::More => {}
+        }
+        if byte == b'\n' {
+            self.count = self.count.saturating_add(1);
+            self.last = Step::Line;
+            return Step::Line;
+        }
+        self.bytes[self.used] = byte;
+        self.used += 1;
+        if self.used == LINE_BYTES {
+            self.last = Step::TooLong;
+            return Step::TooLong;
+        }
+        self.last = Step::More;
+        Step::More
+    }
+
+    /// Takes the next byte. Once a line was too long, every later byte is disregarded and answered by `TooLong`.
+    pub fn push(&mut self, byte: u8) -> Step
+        ensures stands { (bytes : List ℕ) → StandsFor self.old bytes → StandsFor self.new (with_byte bytes byte) }
+        ensures step { (bytes : List ℕ) → StandsFor self.old bytes → result ≡ step_of (rest_of bytes) byte }
+        ensures cut { (bytes : List ℕ) → StandsFor self.old bytes → is_too_long (rest_of bytes) ≡ false →
+            HasCut result self.new.line bytes (bytes ++ byte ∷ []) }
+        ensures last { result ≡ self.new.last }
+        ensures is { self.new ≡ after_byte self.old byte }
+    {
+        self.keep(byte)
+    }
+
+    /// After `Line` the line without its line feed, after `TooLong` its first 129 bytes.
+    pub fn line(&self) -> &[u8]
+        requires { self.now.last ≢ More }
+        ensures { result.now ≡ self.now.line }
+    {
+        &self.bytes[..self.used]
+    }
+
+    /// How many lines are whole so far. The count stops at the greatest number.
+    pub fn count(&self) -> u64
+        ensures { result ≡ self.now.count }
+    {
+        self.count
+    }
+
+    /// How many bytes came since the last line feed, 129 at most.
+    pub fn rest(&self) -> usize
+        ensures { result ≡ length (begun_line self.now) }
+    {
+        if self.last == Step::Line {
+            0
+        } else {
+            self.used
+        }
+    }
+}

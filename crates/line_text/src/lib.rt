@@ -1,0 +1,24 @@
+//! Lines of text, and the numbers and words in them.
+#![tactic(auto)]
+
+mod cutting;
+mod fields;
+mod line_buf;
+mod numerals;
+
+pub use cutting::{Lines, Step};
+pub use fields::{Numbers, cut_field, read_numbers};
+pub use line_buf::LineBuf;
+pub use numerals::{first_number, numeral};
+use thiserror::Error;
+
+/// The most bytes that a line may have, with its line feed.
+pub const LINE_BYTES: usize = 129;
+
+/// The bytes aren't a line of the format.
+#[derive(Clone, Copy, Debug, PartialEq, Eq, Error)]
+#[error("not a line of the format")]
+pub struct BadLine;
+
+#[cfg(test)]
+mod tests;

@@ -1,0 +1,4 @@
+pub mod Scans
+pub mod InPlace
+pub mod Deciding
+pub mod Jumping

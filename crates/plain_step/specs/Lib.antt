@@ -1,0 +1,4 @@
+pub mod Moves
+pub mod Rooms
+pub mod Cases
+pub mod Dues

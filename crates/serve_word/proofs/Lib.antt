@@ -1,0 +1,16 @@
+pub mod Printing
+pub mod Finishing
+pub mod Settling
+pub mod Adding
+pub mod Delivering
+pub mod OneLine
+pub mod Short
+pub mod Going
+pub mod FaultLines
+pub mod Answering
+pub mod Keeping
+pub mod Pieces
+pub mod Turns
+pub mod Records
+pub mod Lengths
+pub mod Shorts

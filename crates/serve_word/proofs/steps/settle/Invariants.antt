@@ -1,0 +1,21 @@
+use Rattle.std.proofs.Common.{◌≡◌, ◌≤◌}
+use Rattle.dover_core.specs.declared.horizon.Horizon.TheVariants.{Mark}
+use Rattle.dover_core.specs.Service.{MayFollow, steps_left}
+use Rattle.serve_word.specs.Served.{CanGoOn, IsSettling}
+use Rattle.serve_word.proofs.steps.settle.Given as goal
+
+-- Some steps were taken and their lines put, and nothing else has changed.
+abbrev pub invariant-loop-event : goal.invariant-loop-event
+invariant-loop-event g l = record {
+  taken : IsSettling (g.P.Port.moves l.initial.port) (g.P.Port.moves l.port) l.initial.out l.out l.mark l.initial.server l.server;
+  can : CanGoOn l.server;
+  follows : MayFollow l.server.last (Mark l.mark);
+  rules : l.server.rules ≡ l.initial.server.rules;
+  goes_on : l.server.ended ≡ l.initial.server.ended;
+  spare : l.initial.server.spare ≤ l.server.spare;
+  writes : g.P.Port.write_faults l.port ≡ g.P.Port.write_faults l.initial.port;
+  reads : g.P.Port.read_faults l.port ≡ g.P.Port.read_faults l.initial.port;
+}
+
+abbrev pub decreases-loop-event : goal.decreases-loop-event
+decreases-loop-event g l = steps_left l.server

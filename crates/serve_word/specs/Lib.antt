@@ -1,0 +1,5 @@
+pub mod Served
+pub mod Delivered
+pub mod Session
+pub mod Feeding
+pub mod Record

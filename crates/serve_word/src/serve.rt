@@ -1,0 +1,66 @@
+//! The reading loop.
+ghost use Rattle.std.specs.Prelude.{◌≡◌, ℕ, List};
+ghost use Rattle.dover_port.specs.Moves.{Since};
+ghost use Rattle.serve_word.specs.Feeding.{FeedStands};
+ghost use Rattle.serve_word.specs.Record.{Serves, Causes, IsAnswer, Finishes, short_text};
+
+use crate::feed::Feed;
+use crate::lines::put_fault;
+use crate::turn::{Turn, take_turn};
+use dover_port::{Output, Port, Status};
+use std::alloc::Global;
+use std::sync::ledger::Ledger;
+use step_count::Steps;
+
+/// How many bytes a read asks for.
+const READ_BYTES: usize = 4096;
+
+/// More reads than a feed has that goes on: its 4,000,000 lines have at most 129 bytes each, and the line that has begun at most 128.
+const MOST_READS: u64 = 516_000_129;
+
+/// Refuses a feed whose input has ended before it.
+fn refuse_short<P: Port>(port: &mut P, feed: &Feed) -> Status
+    requires { (x : List ℕ) × FeedStands feed.now x }
+    ensures text { (x : List ℕ) → FeedStands feed.now x → Finishes result (P.moves port.old) (P.moves port.new) (short_text x) }
+    ensures answer { IsAnswer result }
+    ensures causes { Causes result (P.read_faults port.old) (P.read_faults port.new) (P.write_faults port.old) (P.write_faults port.new) }
+{
+    let Err(fault) = feed.session.intake.end() else {
+        unreachable!();
+    };
+    let mut out = Output::new();
+    match put_fault(port, &mut out, fault) {
+        Ok(()) => {}
+        Err(_) => return Status::WriteFault,
+    }
+    match out.flush(port) {
+        Ok(()) => Status::Refused,
+        Err(_) => Status::WriteFault,
+    }
+}
+
+/// Serves a feed: reads it to its `end` line, its first faulty line or the end of the input, and writes each line of its trace that is
+/// settled before the next read. Memory is taken at the ratio line and for each admitted job alone.
+pub fn serve_word<P: Port, L: Ledger>(alloc: Global, port: &mut P, steps: &mut Steps<L>) -> Status
+    ensures serves { Since (P.moves port.old) (P.moves port.new) (Serves result) }
+    ensures answer { IsAnswer result }
+    ensures causes { Causes result (P.read_faults port.old) (P.read_faults port.new) (P.write_faults port.old) (P.write_faults port.new) }
+{
+    let mut buf = [0u8; READ_BYTES];
+    let mut out = Output::new();
+    let mut feed = Feed::new(alloc);
+    let mut reads = 0u64;
+    while reads < MOST_READS {
+        reads += 1;
+        match take_turn(port, &mut buf, &mut out, &mut feed, steps) {
+            Turn::More => {}
+            Turn::Ended => return Status::Done,
+            Turn::Refused => return Status::Refused,
+            Turn::NoInput => return refuse_short(port, &feed),
+            Turn::Unread => return Status::ReadFault,
+            Turn::Unwritten => return Status::WriteFault,
+            Turn::NoMemory => return Status::Memory,
+        }
+    }
+    unreachable!()
+}

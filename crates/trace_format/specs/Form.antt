@@ -1,0 +1,74 @@
+-- The lines of a trace, and which values have one.
+use Rattle.std.specs.Prelude.{ℕ, ◌≤◌, List, [], ◌∷◌, Option, Some, None, codes}
+use Rattle.dover_model.specs.declared.events.Event.{Event}
+use Rattle.dover_model.specs.declared.events.Event.TheVariants.{Release, Run, Preempt, Take, Complete, Abandon, End}
+use Rattle.dover_model.specs.declared.events.Refusal.{Refusal}
+use Rattle.dover_model.specs.JobFacts.{IsJob, job_of_numbers, job_numbers}
+use Rattle.dover_model.specs.Numerals.{AreShort}
+use Rattle.dover_model.specs.Lines.{with_numbers}
+use Rattle.dover_model.specs.Instance.{Rules}
+use Rattle.dover_model.specs.Session.{Item, JobItem, RefusedItem, RefusedJob}
+use Rattle.dover_model.specs.Text.{text_of, refused_text}
+use Rattle.dover_model.specs.Verdict.{rules_from}
+use Rattle.trace_format.specs.declared.lines.TraceLine.{TraceLine}
+use Rattle.trace_format.specs.declared.lines.TraceLine.TheVariants.{Header, Step, Refused}
+
+-- the greatest number of a job
+abbrev pub last_number : ℕ
+last_number = 999_999
+
+-- the refused line of these numbers
+abbrev pub refused_job : (at release work deadline value : ℕ) → Refusal → RefusedJob
+refused_job at release work deadline value cause =
+    record { at = at; job = job_of_numbers release work deadline value; refusal = cause }
+
+-- the bytes of a line
+abbrev pub trace_text : TraceLine → List ℕ
+trace_text (Header version p q) = with_numbers (codes "dover") (version ∷ p ∷ q ∷ [])
+trace_text (Step e) = text_of e
+trace_text (Refused at r c d v cause) = refused_text (refused_job at r c d v cause)
+
+-- the numbers of a step, in the order of its line
+abbrev pub step_numbers : Event → List ℕ
+step_numbers (Release n j) = n ∷ job_numbers j
+step_numbers (Run at n) = at ∷ n ∷ []
+step_numbers (Preempt at stops starts) = at ∷ stops ∷ starts ∷ []
+step_numbers (Take at stops starts) = at ∷ stops ∷ starts ∷ []
+step_numbers (Complete at n) = at ∷ n ∷ []
+step_numbers (Abandon at n) = at ∷ n ∷ []
+step_numbers (End value) = value ∷ []
+
+-- its jobs have numbers that jobs may have, and a job that is released is one
+abbrev pub NamesJobs : Event → Type 0
+NamesJobs (Release n j) = (n ≤ last_number) × IsJob j
+NamesJobs (Run at n) = n ≤ last_number
+NamesJobs (Preempt at stops starts) = (stops ≤ last_number) × (starts ≤ last_number)
+NamesJobs (Take at stops starts) = (stops ≤ last_number) × (starts ≤ last_number)
+NamesJobs (Complete at n) = n ≤ last_number
+NamesJobs (Abandon at n) = n ≤ last_number
+NamesJobs (End value) = Unit {0}
+
+-- the numbers have numerals, and a step names jobs
+abbrev pub HasForm : TraceLine → Type 0
+HasForm (Header version p q) = AreShort (version ∷ p ∷ q ∷ [])
+HasForm (Step e) = AreShort (step_numbers e) × NamesJobs e
+HasForm (Refused at r c d v cause) = AreShort (at ∷ r ∷ c ∷ d ∷ v ∷ [])
+
+-- it is a refused line, and its numbers have numerals
+abbrev pub IsRefusedLine : TraceLine → Type 0
+IsRefusedLine (Header version p q) = ⊥
+IsRefusedLine (Step e) = ⊥
+IsRefusedLine (Refused at r c d v cause) = AreShort (at ∷ r ∷ c ∷ d ∷ v ∷ [])
+
+-- the item that the line names
+abbrev pub item_in : TraceLine → Option Item
+item_in (Header version p q) = None
+item_in (Step (Release n j)) = Some (JobItem j)
+item_in (Step _) = None
+item_in (Refused at r c d v cause) = Some (RefusedItem (refused_job at r c d v cause))
+
+-- the rules that the line declares
+abbrev pub rules_in : TraceLine → Option Rules
+rules_in (Header version p q) = rules_from (version ∷ p ∷ q ∷ [])
+rules_in (Step e) = None
+rules_in (Refused at r c d v cause) = None

@@ -1,0 +1,14 @@
+//! The lines of a trace, read and written.
+#![tactic(auto)]
+
+mod lines;
+mod reading;
+mod steps;
+mod writing;
+
+pub use lines::TraceLine;
+pub use reading::read_trace_line;
+pub use writing::{write_event, write_header, write_refused};
+
+#[cfg(test)]
+mod tests;

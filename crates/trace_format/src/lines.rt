@@ -1,0 +1,24 @@
+//! The forms of a trace's line.
+use dover_model::{Event, Refusal};
+
+/// A line of a trace.
+#[derive(Clone, Copy, Debug, PartialEq, Eq)]
+pub enum TraceLine {
+    /// `dover N P Q`: the version and the ratio. They are any numerals, and may be out of the limits.
+    Header {
+        version: u64,
+        p: u64,
+        q: u64,
+    },
+    /// A printed step.
+    Step(Event),
+    /// `refuse T R C D V word`: a job line that wasn't admitted, with the mark when it came.
+    Refused {
+        at: u64,
+        release: u64,
+        work: u64,
+        deadline: u64,
+        value: u64,
+        cause: Refusal,
+    },
+}

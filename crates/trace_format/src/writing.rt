@@ -1,0 +1,90 @@
+//! A trace's line as bytes.
+ghost use Rattle.std.specs.Prelude.{◌≡◌, ◌<◌, [], length};
+ghost use Rattle.dover_model.specs.Numerals.{AreShort};
+ghost use Rattle.dover_model.specs.Text as form;
+ghost use Rattle.trace_format.specs.Form.{IsRefusedLine, trace_text, step_numbers};
+
+use crate::lines::TraceLine;
+use dover_model::{Event, Ratio, Refusal, Version};
+use line_text::LineBuf;
+
+/// Writes the first line of a trace, without its line feed.
+pub fn write_header(version: Version, k: Ratio, to: &mut LineBuf)
+    requires { to.old ≡ [] }
+    ensures text { to.new ≡ form.header (record { ratio = k; version = version }) }
+    ensures fits { length to.new < 129 }
+{
+    let number = match version {
+        Version::One => 1,
+        Version::Two => 2,
+    };
+    to.put_with_numbers(b"dover", &[number, u64::from(k.p()), u64::from(k.q())]);
+}
+
+/// Writes the line of a printed step, without its line feed.
+pub fn write_event(e: &Event, to: &mut LineBuf)
+    requires numbers { AreShort (step_numbers e.now) }
+    requires empty { to.old ≡ [] }
+    ensures text { to.new ≡ form.text_of e.now }
+    ensures fits { length to.new < 129 }
+{
+    match e {
+        Event::Release { number, job } => to.put_with_numbers(
+            b"job",
+            &[
+                u64::from(*number),
+                job.release(),
+                job.work(),
+                job.deadline(),
+                job.value(),
+            ],
+        ),
+        Event::Run { at, number } => to.put_with_numbers(b"run", &[*at, u64::from(*number)]),
+        Event::Preempt { at, stops, starts } => {
+            to.put_with_numbers(b"preempt", &[*at, u64::from(*stops), u64::from(*starts)])
+        }
+        Event::Take { at, stops, starts } => {
+            to.put_with_numbers(b"take", &[*at, u64::from(*stops), u64::from(*starts)])
+        }
+        Event::Complete { at, number } => {
+            to.put_with_numbers(b"complete", &[*at, u64::from(*number)])
+        }
+        Event::Abandon { at, number } => {
+            to.put_with_numbers(b"abandon", &[*at, u64::from(*number)])
+        }
+        Event::End { value } => to.put_with_numbers(b"end", &[*value]),
+    }
+}
+
+fn refusal_word(cause: Refusal) -> &'static [u8]
+    ensures { result.now ≡ form.refusal_word cause }
+{
+    match cause {
+        Refusal::BadJob => b"job",
+        Refusal::Count => b"count",
+        Refusal::Total => b"total",
+        Refusal::Ratio => b"ratio",
+    }
+}
+
+/// Writes the line of a refused job line, without its line feed.
+pub fn write_refused(line: &TraceLine, to: &mut LineBuf)
+    requires refused { IsRefusedLine line.now }
+    requires empty { to.old ≡ [] }
+    ensures text { to.new ≡ trace_text line.now }
+    ensures fits { length to.new < 129 }
+{
+    let TraceLine::Refused {
+        at,
+        release,
+        work,
+        deadline,
+        value,
+        cause,
+    } = line
+    else {
+        unreachable!();
+    };
+    to.put_with_numbers(b"refuse", &[*at, *release, *work, *deadline, *value]);
+    to.put_word(refusal_word(*cause));
+}
