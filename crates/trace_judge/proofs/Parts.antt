@@ -18,9 +18,9 @@ use Rattle.dover_model.proofs.Roles.{passes}
 use Rattle.dover_model.proofs.Deeds.{Deed, Completed, Resumed, Started, Began, Preempted, Stayed, Arrived, Taken, Abandoned, Rested, tick_quiet}
 use Rattle.dover_model.proofs.Kept.{open_deed, each_job}
 use Rattle.dover_model.proofs.Honest.{count_jobs}
-use Rattle.plain_step.specs.Jumps.{ticked_by, ticks_on}
+use Rattle.dover_model.specs.Jumps.{ticked_by, later_by}
 use Rattle.plain_step.specs.Moves.{state_at}
-use Rattle.plain_step.proofs.Jumping.{ticks_are_a_jump}
+use Rattle.dover_model.proofs.Jumping.{later_by-zero, after-later_by}
 use Rattle.trace_reading.specs.Leading.{IsSilent, Settles}
 use Rattle.trace_reading.specs.Ready.{is_ready}
 use Rattle.trace_reading.proofs.Leading.{settles_append}
@@ -138,28 +138,28 @@ module _ (r : State) (is : IsPart r) where
 -- ---- silent ticks
 
 -- a tick more
-tick_more : (s : State) (k : ℕ) → after (ticks_on k s) Ticks ≡ ticks_on (suc k) s
-tick_more s k = ap (λ u. after u Ticks) (sym (ticks_are_a_jump k s)) ∙ ticks_are_a_jump (suc k) s
+tick_more : (s : State) (k : ℕ) → after (later_by k s) Ticks ≡ later_by (suc k) s
+tick_more s k = after-later_by k s ∙ ap (λ m. later_by m s) (omega arith)
 
-module _ (rules : Rules) (mark n : ℕ) (s : State) (silent : (k : ℕ) → k < n → open_step rules (ticks_on k s) ≡ Ticks) (low : s.clock + n ≤ mark) where
+module _ (rules : Rules) (mark n : ℕ) (s : State) (silent : (k : ℕ) → k < n → open_step rules (later_by k s) ≡ Ticks) (low : s.clock + n ≤ mark) where
   -- silent ticks from one of them on
-  ticks_from : (d k : ℕ) → k + d ≡ n → SettlesTo rules mark (ticks_on k s) (ticks_on n s)
-  ticks_from zero k all = ([], ap (λ m. ticks_on m s) (omega arith))
+  ticks_from : (d k : ℕ) → k + d ≡ n → SettlesTo rules mark (later_by k s) (later_by n s)
+  ticks_from zero k all = ([], ap (λ m. later_by m s) (omega arith))
   ticks_from (suc d) k all =
-      let ticks : open_step rules (ticks_on k s) ≡ Ticks = silent k (omega arith) in
-      let rest : SettlesTo rules mark (ticks_on (suc k) s) (ticks_on n s) = ticks_from d (suc k) (omega arith) in (
-        open_at rules (ticks_on k s) ∷ rest.0,
+      let ticks : open_step rules (later_by k s) ≡ Ticks = silent k (omega arith) in
+      let rest : SettlesTo rules mark (later_by (suc k) s) (later_by n s) = ticks_from d (suc k) (omega arith) in (
+        open_at rules (later_by k s) ∷ rest.0,
         (
           refl,
           ap (λ m. is_late m && nat_le mark (s.clock + k)) ticks ∙ lt-leb mark (s.clock + k) (omega arith),
           ap event_of ticks,
-          subst (λ u. Settles rules mark u rest.0 (ticks_on n s)) (sym (ap (after (ticks_on k s)) ticks ∙ tick_more s k)) rest.1,
+          subst (λ u. Settles rules mark u rest.0 (later_by n s)) (sym (ap (after (later_by k s)) ticks ∙ tick_more s k)) rest.1,
         ),
       )
 
   -- so many silent ticks
-  pub ticks_settle : SettlesTo rules mark s (ticks_on n s)
-  ticks_settle = subst (λ u. SettlesTo rules mark u (ticks_on n s)) (sym (ticks_are_a_jump 0 s)) (ticks_from n 0 (omega arith))
+  pub ticks_settle : SettlesTo rules mark s (later_by n s)
+  ticks_settle = subst (λ u. SettlesTo rules mark u (later_by n s)) (later_by-zero s) (ticks_from n 0 (omega arith))
 
 -- one silent step
 pub one_settles : (rules : Rules) (mark : ℕ) (s : State) (m : Move) → open_step rules s ≡ m → is_late m ≡ false → IsSilent m
@@ -189,7 +189,7 @@ ticked_none_fresh n tasks none = on_map (ticked_by n) (λ t. t.role ≡ Fresh �
 -- a jump over silent ticks
 module _ (rules : Rules) (mark n clock : ℕ) (tasks later : List Task)
     (ticks : open_step rules (state_at clock tasks) ≡ Ticks)
-    (silent : open_step rules (state_at clock tasks) ≡ Ticks → (k : ℕ) → k < n → open_step rules (ticks_on k (state_at clock tasks)) ≡ Ticks)
+    (silent : open_step rules (state_at clock tasks) ≡ Ticks → (k : ℕ) → k < n → open_step rules (later_by k (state_at clock tasks)) ≡ Ticks)
     (most : n ≤ mark - clock) (low : clock ≤ mark) (ticked : later ≡ map (ticked_by n) tasks) where
   -- it takes silent steps
   pub jump_settles : SettlesTo rules mark (state_at clock tasks) (state_at (clock + n) later)
@@ -197,7 +197,7 @@ module _ (rules : Rules) (mark n clock : ℕ) (tasks later : List Task)
       (ticks_settle rules mark n (state_at clock tasks) (silent ticks) (omega (arith, most, low)))
 
   -- where a silent tick is next again, it has reached the mark
-  pub jump_reaches : (n < mark - clock → open_step rules (ticks_on n (state_at clock tasks)) ≡ Ticks → ⊥)
+  pub jump_reaches : (n < mark - clock → open_step rules (later_by n (state_at clock tasks)) ≡ Ticks → ⊥)
       → open_step rules (state_at (clock + n) later) ≡ Ticks → mark ≤ clock + n
   jump_reaches due again = by_test (nat_lt n (mark - clock)) refl where
     by_test : (b : Bool) → nat_lt n (mark - clock) ≡ b → mark ≤ clock + n
