@@ -4,23 +4,22 @@ use Rattle.std.proofs.Common.{false, cond, arith, inl, inr, filter_map}
 use Rattle.std.specs.Prelude.{nat_le, nat_lt, ◌&&◌}
 use Rattle.std.specs.List.{AllByRecursion, cons_option}
 use Rattle.std.proofs.lemmas.Bool.{ltb-true, ltb-false, lt-leb}
-use Rattle.std.proofs.lemmas.List.{append_assoc, append-nil, map-append}
+use Rattle.std.proofs.lemmas.List.{append-nil, map-append}
 use Rattle.std.proofs.lemmas.List.Elements.{filter_map-append}
 use Rattle.dover_model.specs.JobFacts.{JobFacts}
 use Rattle.dover_model.specs.Fraction.{IsRatio}
 use Rattle.dover_model.specs.declared.events.Event.{Event}
-use Rattle.dover_model.specs.declared.events.Event.TheVariants.{Release, End}
+use Rattle.dover_model.specs.declared.events.Event.TheVariants.{Release}
 use Rattle.dover_model.specs.declared.events.Role.TheVariants.{Fresh}
 use Rattle.dover_model.specs.declared.events.Task.{Task}
 use Rattle.dover_model.specs.Instance.{Instance, Rules, IsValid, with_jobs}
 use Rattle.dover_model.specs.State.{State, opening, with_later, is_coming}
-use Rattle.dover_model.specs.Step.{Prints, step, open_step, after}
-use Rattle.dover_model.specs.Run.{Step, is_end, printed_of, printed}
+use Rattle.dover_model.specs.Step.{Prints, open_step, after}
+use Rattle.dover_model.specs.Run.{Step, is_end, printed_of}
 use Rattle.dover_model.specs.Settled.{is_late, settled, settled_steps}
 use Rattle.dover_model.specs.Sound.{Each, Keeps}
-use Rattle.dover_model.specs.WholeRun.{open_at, IsSettledRun, Begins}
-use Rattle.dover_model.specs.Session.{Item, JobItem, RefusedItem, RefusedJob, Session, instance_of, admitted_jobs, IsValidSession, with_item, new_session}
-use Rattle.dover_model.specs.Session.{IsRefused, FollowsItems, job_of_item}
+use Rattle.dover_model.specs.WholeRun.{open_at, IsSettledRun}
+use Rattle.dover_model.specs.Session.{JobItem, RefusedItem, RefusedJob, Session, instance_of, admitted_jobs, IsValidSession, with_item, new_session}
 use Rattle.dover_model.specs.Text.{header, text_of, refused_text}
 use Rattle.dover_model.specs.Trace.{TraceLine, Printed, Refuses, Placed, text_of_line, places_of, lines_among, texts_among, put_in}
 use Rattle.dover_model.specs.Verdict.{named_session}
@@ -31,14 +30,14 @@ use Rattle.dover_model.proofs.Valid.{all_from}
 use Rattle.dover_model.proofs.Prefixes.{step_open, come_from, opening_later, later_keeps}
 use Rattle.dover_model.proofs.Releasing.{coming_task, barrier_releases}
 use Rattle.dover_model.proofs.PutIn.{RefusesWithin, AllPlacedWithin, put_in-more_steps, put_in-more_refused, places_after-append}
-use Rattle.dover_model.proofs.Growing.{Reads, all_lines, LinesName, job_instance, refused_instance, all_behind, instance_with}
+use Rattle.dover_model.proofs.Growing.{Reads, LinesName, job_instance, refused_instance, all_behind}
 use Rattle.dover_model.proofs.Admitting.{admits}
 use Rattle.dover_model.proofs.TraceLines.{item_of_line}
-use Rattle.trace_reading.specs.Leading.{GoesOn, Leads, Passes, Settles, Idles, WaitsUntil, PrintsNext}
+use Rattle.trace_reading.specs.Leading.{GoesOn, Leads, Passes, Idles, PrintsNext}
 use Rattle.trace_reading.specs.Reading.{mark_after, Sees, floor_after, MayRelease, MayRefuse, with_fresh, release_text}
 use Rattle.trace_reading.proofs.Items.{follows_behind, mark_behind, reads_mark}
 use Rattle.trace_reading.proofs.Leading.{leads_later_mark, leads_append, leads_passes, settles_passes, passes_append, passes_settled, settled_once}
-use Rattle.trace_reading.proofs.Leading.{settles_silent, idles_silent, idles_clock, idles_leads, settles_clock, passes_keeps, prints_goes_on, stops_before}
+use Rattle.trace_reading.proofs.Leading.{settles_silent, idles_silent, idles_leads, settles_clock, passes_keeps, prints_goes_on, stops_before}
 use Rattle.trace_reading.proofs.Leading.{Later, passes_later, coming_goes_on}
 use Rattle.trace_reading.proofs.Released.{NoneComes, none_comes_passes, none_comes_after, printed_names_none, after_release}
 use Rattle.trace_reading.proofs.Seeing.{led_named, sees_keeps, sees_names}
@@ -85,10 +84,13 @@ module _ (ls : List (List ℕ)) (S : Session) (floor : ℕ) (z : State) (sees : 
   -- what is settled at a tick from the floor on
   pub settled_from_floor : (t : ℕ) → floor ≤ t → (ys : List Step) × IsSettledRun S.rules t z ys × (settled_steps J t ≡ sees.steps ++ ys)
   settled_from_floor t later =
-      let it : Reaches S.rules t z (potential t z) = settles J sees.valid.jobs S.rules t (potential t z) z (sees_keeps ls S floor z sees) (omega arith) in
-      (it.0, it.1, settled_once S.rules t (settled_steps J t) (sees.steps ++ it.0) (opening J.jobs) (settled_is_run J t sees.valid.jobs)
-      (passes_settled S.rules t sees.steps it.0 (opening J.jobs) z
-      (leads_passes S.rules t sees.steps (opening J.jobs) z (leads_later_mark S.rules floor t later sees.steps (opening J.jobs) z sees.leads)) it.1))
+      let it : Reaches S.rules t z (potential t z) = settles J sees.valid.jobs S.rules t (potential t z) z (sees_keeps ls S floor z sees) (omega arith) in (
+        it.0,
+        it.1,
+        settled_once S.rules t (settled_steps J t) (sees.steps ++ it.0) (opening J.jobs) (settled_is_run J t sees.valid.jobs)
+            (passes_settled S.rules t sees.steps it.0 (opening J.jobs) z
+            (leads_passes S.rules t sees.steps (opening J.jobs) z (leads_later_mark S.rules floor t later sees.steps (opening J.jobs) z sees.leads)) it.1),
+      )
 
   -- ---- a printed step
 

@@ -1,9 +1,9 @@
 -- Items of a session, one after another.
-use Rattle.std.proofs.Common.{◌≡◌, ℕ, ◌≤◌, max, List, [], ◌∷◌, ◌++◌, refl, sym, ap, ◌∙◌, subst, arith}
+use Rattle.std.proofs.Common.{◌≡◌, ℕ, ◌≤◌, max, List, [], ◌∷◌, ◌++◌, refl, sym, ap, subst, arith}
 use Rattle.std.proofs.lemmas.List.{append_assoc, append-nil}
 use Rattle.dover_model.specs.JobFacts.{JobFacts}
 use Rattle.dover_model.specs.Instance.{Rules, IsValid}
-use Rattle.dover_model.specs.Session.{Item, JobItem, RefusedItem, Session, instance_of, admitted_jobs, FollowsItems, IsValidSession, new_session}
+use Rattle.dover_model.specs.Session.{Item, JobItem, RefusedItem, Session, instance_of, admitted_jobs, FollowsItems, IsValidSession}
 use Rattle.dover_model.proofs.Growing.{Reads, reads_new}
 use Rattle.dover_model.proofs.Walks.{Takes, takes, session_with, tick_of_item, follows_next, jobs_append}
 use Rattle.trace_reading.specs.Reading.{mark_after}

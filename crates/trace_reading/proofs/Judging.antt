@@ -1,16 +1,15 @@
 -- The verdict of a text whose lines are read one by one.
-use Rattle.std.proofs.Common.{◌≡◌, ℕ, suc, ◌+◌, ◌-◌, ◌≤◌, ◌<◌, List, [], ◌∷◌, ◌++◌, length, length-append, take, refl, sym, ap, ◌∙◌, subst, Bool, true, false}
-use Rattle.std.proofs.Common.{cond, arith, Option, Some, None}
+use Rattle.std.proofs.Common.{◌≡◌, ℕ, suc, ◌-◌, List, [], ◌∷◌, ◌++◌, length, take, refl, sym, ap, ◌∙◌, Bool, true, false}
+use Rattle.std.proofs.Common.{cond, arith, Some, None}
 use Rattle.std.specs.Prelude.{nat_lt, ◌&&◌, ◌||◌}
 use Rattle.std.specs.Option.{option_map_or}
-use Rattle.std.proofs.lemmas.List.{append_assoc, append-nil, take-append-le}
+use Rattle.std.proofs.lemmas.List.{append-nil, take-append-le}
 use Rattle.std.proofs.Math.Seq.{take-length}
 use Rattle.dover_model.specs.Session.{Session, IsValidSession}
 use Rattle.dover_model.specs.Lines.{whole_lines, rest_of, is_too_long}
 use Rattle.dover_model.specs.Trace.{trace_lines}
-use Rattle.dover_model.specs.Verdict.{Verdict, Accepted, Wrong, Short, Expected, Nothing, begins_trace, ends_with_end, is_empty, rest_counts, text_lines}
+use Rattle.dover_model.specs.Verdict.{Accepted, Wrong, Short, begins_trace, ends_with_end, is_empty, rest_counts, text_lines}
 use Rattle.dover_model.specs.Verdict.{first_wrong, expected_after, good_verdict, wrong_verdict, verdict, named_session}
-use Rattle.dover_model.specs.WholeRun.{Begins}
 use Rattle.dover_model.proofs.Beginnings.{begins_onward}
 use Rattle.dover_model.proofs.Named.{beginnings_pass, trace_names_session}
 use Rattle.dover_model.proofs.TraceEnds.{trace_ends}

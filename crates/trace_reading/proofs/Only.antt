@@ -9,15 +9,14 @@ use Rattle.std.proofs.lemmas.List.{append_assoc, append-nil, length-map}
 use Rattle.std.proofs.lemmas.List.Elements.{filter_map-append}
 use Rattle.std.proofs.lemmas.List.Sums.{sum_by-append, sum_by-cons}
 use Rattle.std.proofs.lemmas.Slice.Eq.{bytes_eq-Decides, starts_is}
-use Rattle.dover_model.specs.Limits.{most_jobs, most_total}
 use Rattle.dover_model.specs.JobFacts.{JobFacts, IsJob}
-use Rattle.dover_model.specs.Fraction.{Fraction, IsRatio}
+use Rattle.dover_model.specs.Fraction.{IsRatio}
 use Rattle.dover_model.specs.declared.events.Event.{Event}
 use Rattle.dover_model.specs.declared.events.Event.TheVariants.{Release}
 use Rattle.dover_model.specs.declared.events.Refusal.TheVariants.{BadJob, Count, Total, Ratio}
-use Rattle.dover_model.specs.Instance.{Rules, Instance, IsValid, with_jobs, IsWithinRatio, total_value, is_within_ratio}
+use Rattle.dover_model.specs.Instance.{Rules, Instance, IsValid, with_jobs, IsWithinRatio, total_value}
 use Rattle.dover_model.specs.Admission.{refusal_of, is_within_ratio_both_ways}
-use Rattle.dover_model.specs.Session.{Item, JobItem, RefusedItem, RefusedJob, Session, IsRefused, FollowsItems, IsValidSession, instance_of, admitted_jobs}
+use Rattle.dover_model.specs.Session.{Item, JobItem, RefusedItem, RefusedJob, Session, FollowsItems, IsValidSession, instance_of, admitted_jobs}
 use Rattle.dover_model.specs.Session.{with_item, is_valid_session}
 use Rattle.dover_model.specs.State.{State}
 use Rattle.dover_model.specs.Run.{Step, printed_of}
@@ -58,8 +57,15 @@ module _ {X Y : Type 0} (f : X → Option Y) (y : Y) where
         let parts : filter_map f ((ys ++ b ∷ []) ++ it.0) ≡ filter_map f (ys ++ b ∷ []) ++ filter_map f it.0 = filter_map-append f (ys ++ b ∷ []) it.0 in
         let last : filter_map f (ys ++ b ∷ []) ≡ filter_map f ys ++ cons_option (f b) [] = filter_map-append f ys (b ∷ []) in
         let counted : length (cons_option (f b) []) ≡ 1 = ap (λ o. length (cons_option o [])) names in
-        omega (arith, ap length all, ap length parts, length-append (filter_map f (ys ++ b ∷ [])) (filter_map f it.0), ap length last,
-        length-append (filter_map f ys) (cons_option (f b) []), ap length same))
+        omega (
+          arith,
+          ap length all,
+          ap length parts,
+          length-append (filter_map f (ys ++ b ∷ [])) (filter_map f it.0),
+          ap length last,
+          length-append (filter_map f ys) (cons_option (f b) []),
+          ap length same,
+        ))
 
 -- lists that begin each other are the same
 begin_both : {X : Type 0} (xs ys : List X) → Begins xs ys → Begins ys xs → xs ≡ ys

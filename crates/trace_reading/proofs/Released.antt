@@ -15,8 +15,8 @@ use Rattle.dover_model.specs.State.{State, with_later, is_coming}
 use Rattle.dover_model.specs.Step.{Move, Prints, Waits, Ticks, open_step, after, with_role, role_after, displaced, ticked}
 use Rattle.dover_model.specs.Run.{Step}
 use Rattle.dover_model.specs.Trace.{Printed}
-use Rattle.dover_model.specs.Sound.{IsMember, Each, Keeps}
-use Rattle.dover_model.proofs.Members.{on_map, map_same}
+use Rattle.dover_model.specs.Sound.{Each, Keeps}
+use Rattle.dover_model.proofs.Members.{on_map}
 use Rattle.dover_model.proofs.Roles.{passes}
 use Rattle.dover_model.proofs.Deeds.{Deed, Completed, Resumed, Started, Began, Preempted, Stayed, Arrived, Taken, Abandoned, Rested}
 use Rattle.dover_model.proofs.Kept.{open_deed}

@@ -1,29 +1,28 @@
 -- What follows from what the lines of a trace so far have come to.
-use Rattle.std.proofs.Common.{◌≡◌, ℕ, suc, ◌+◌, ◌-◌, ◌≤◌, List, [], ◌∷◌, ◌++◌, length, map, refl, sym, ap, ◌∙◌, subst, Bool, true, false, cond, arith}
-use Rattle.std.specs.Prelude.{Option, Some, None, slice_get, filter_map}
+use Rattle.std.proofs.Common.{◌≡◌, ℕ, ◌+◌, ◌-◌, List, [], ◌∷◌, ◌++◌, length, map, refl, sym, ap, ◌∙◌, subst, Bool, true, false, cond, arith}
+use Rattle.std.specs.Prelude.{Some, slice_get, filter_map}
 use Rattle.std.specs.List.{AllByRecursion}
 use Rattle.std.specs.Option.{option_map, option_map_or, option_and_then}
-use Rattle.std.proofs.lemmas.List.{append_assoc, append-nil, map-append}
+use Rattle.std.proofs.lemmas.List.{append_assoc, map-append}
 use Rattle.std.proofs.lemmas.List.Elements.{filter_map-append}
 use Rattle.std.proofs.lemmas.List.{length-map}
 use Rattle.dover_model.specs.declared.events.Event.{Event}
-use Rattle.dover_model.specs.Instance.{Instance, Rules}
+use Rattle.dover_model.specs.Instance.{Instance}
 use Rattle.dover_model.specs.State.{State, opening}
-use Rattle.dover_model.specs.Step.{Prints, step}
 use Rattle.dover_model.specs.Run.{Step, printed_of, printed, run, last_deadline}
 use Rattle.dover_model.specs.Sound.{Keeps}
 use Rattle.dover_model.specs.WholeRun.{IsWholeRun, Begins}
 use Rattle.dover_model.specs.Session.{Session, instance_of, admitted_jobs, IsValidSession}
 use Rattle.dover_model.specs.Text.{header, text_of}
-use Rattle.dover_model.specs.Trace.{TraceLine, Printed, text_of_line, places_of, lines_among, texts_among, trace_lines}
-use Rattle.dover_model.specs.Verdict.{Expected, Step as Due, Nothing, item_of, named_session, begins_trace, ends_with_end, refused_count}
+use Rattle.dover_model.specs.Trace.{Printed, text_of_line, places_of, lines_among, texts_among, trace_lines}
+use Rattle.dover_model.specs.Verdict.{Step as Due, Nothing, item_of, named_session, begins_trace, ends_with_end, refused_count}
 use Rattle.dover_model.specs.Verdict.{step_after, expected_after}
 use Rattle.dover_model.proofs.Members.{some_same}
 use Rattle.dover_model.proofs.Kept.{opening_keeps}
 use Rattle.dover_model.proofs.Ending.{potential, Ends, ends, run_is_whole}
 use Rattle.dover_model.proofs.RunLaws.{one_run}
 use Rattle.dover_model.proofs.Valid.{all_front}
-use Rattle.dover_model.proofs.Beginnings.{begins_all, begins_behind, begins_map}
+use Rattle.dover_model.proofs.Beginnings.{begins_behind, begins_map}
 use Rattle.dover_model.proofs.PutIn.{RefusesWithin, put_in-more_steps}
 use Rattle.dover_model.proofs.Growing.{all_lines, LinesName, begins_more}
 use Rattle.dover_model.proofs.TraceLines.{HasShortNumbers}
@@ -49,9 +48,12 @@ module _ (S : Session) (valid : IsValidSession S) (floor : ℕ) (z : State) (ste
   led_rest =
       let J : Instance = instance_of S in
       let it : Ends S.rules z (potential (last_deadline J.jobs) z + 1) =
-      ends J valid.jobs S.rules (potential (last_deadline J.jobs) z) z led_keeps (omega arith) in
-      (it.0, it.1, ap printed_of (one_run S.rules (opening J.jobs) (run J) (steps ++ it.0) (run_is_whole J valid.jobs)
-      (leads_whole J valid.jobs S.rules floor steps it.0 (opening J.jobs) z (opening_keeps J) leads it.1)) ∙ filter_map-append _ steps it.0)
+      ends J valid.jobs S.rules (potential (last_deadline J.jobs) z) z led_keeps (omega arith) in (
+        it.0,
+        it.1,
+        ap printed_of (one_run S.rules (opening J.jobs) (run J) (steps ++ it.0) (run_is_whole J valid.jobs)
+            (leads_whole J valid.jobs S.rules floor steps it.0 (opening J.jobs) z (opening_keeps J) leads it.1)) ∙ filter_map-append _ steps it.0,
+      )
 
   module _ (within : RefusesWithin S (printed_of steps)) where
     -- the lines begin those of the session's trace

@@ -1,6 +1,6 @@
 -- Silent steps where some job isn't over, and where all are.
 use Rattle.std.proofs.Common.{◌≡◌, ℕ, zero, suc, ◌+◌, ◌-◌, ◌≤◌, inl, inr, List, [], ◌∷◌, map, refl, sym, ap, ◌∙◌, subst, Bool, true, false, not, arith}
-use Rattle.std.specs.Prelude.{Option, Some, None, nat_le, ◌&&◌}
+use Rattle.std.specs.Prelude.{nat_le, ◌&&◌}
 use Rattle.std.specs.List.{list_all}
 use Rattle.std.specs.Bool.{MatchBool}
 use Rattle.std.proofs.lemmas.Bool.{false_from_ne_true, lt-leb, le-leb}
@@ -11,19 +11,18 @@ use Rattle.dover_model.specs.State.{State, is_over}
 use Rattle.dover_model.specs.Step.{Move, Prints, Waits, Ticks, step, open_step, after, ticked}
 use Rattle.dover_model.specs.Run.{Step, is_end, event_of}
 use Rattle.dover_model.specs.Settled.{is_late}
-use Rattle.dover_model.specs.Sound.{IsMember, Each, Keeps}
+use Rattle.dover_model.specs.Sound.{IsMember, Keeps}
 use Rattle.dover_model.specs.Verdict.{ends_with_end}
 use Rattle.dover_model.specs.Session.{Session, instance_of}
-use Rattle.dover_model.specs.WholeRun.{open_at, IsBarrier, IsWholeRun}
+use Rattle.dover_model.specs.WholeRun.{open_at, IsWholeRun}
 use Rattle.dover_model.proofs.Members.{not_all, all_each, map_member}
 use Rattle.dover_model.proofs.Deeds.{over_rests}
 use Rattle.dover_model.proofs.Kept.{open_deed, open_kept, step_kept}
 use Rattle.dover_model.proofs.Prefixes.{step_open}
-use Rattle.dover_model.proofs.Tests.{never, not_true}
+use Rattle.dover_model.proofs.Tests.{never}
 use Rattle.trace_reading.specs.Leading.{GoesOn, IsSilent, Settles, Idles, WaitsUntil, PrintsNext}
 use Rattle.trace_reading.specs.Reading.{Sees}
-use Rattle.trace_reading.specs.Ready.{is_ready}
-use Rattle.trace_reading.proofs.Leading.{over_ends, not_end}
+use Rattle.trace_reading.proofs.Leading.{over_ends}
 use Rattle.trace_reading.proofs.ReadyParts.{change, after_change, silent_ready, ticked_over}
 use Rattle.trace_reading.proofs.Seeing.{sees_keeps, sees_rest, sees_goes_on}
 

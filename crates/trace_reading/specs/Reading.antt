@@ -1,8 +1,7 @@
 -- What the lines of a trace so far have come to, and which line may come next.
 use Rattle.std.specs.Prelude.{◌≡◌, ◌≤◌, ◌<◌, ◌+◌, ℕ, suc, max, List, [], ◌∷◌, ◌++◌, length, false, if◌then◌else◌, None, Some}
 use Rattle.std.specs.List.{AllByRecursion}
-use Rattle.dover_model.specs.Limits.{last_tick, most_items}
-use Rattle.dover_model.specs.declared.events.Version.TheVariants.{Two}
+use Rattle.dover_model.specs.Limits.{most_items}
 use Rattle.dover_model.specs.declared.events.Role.TheVariants.{Fresh}
 use Rattle.dover_model.specs.declared.events.Event.{Event}
 use Rattle.dover_model.specs.declared.events.Event.TheVariants.{Release}
