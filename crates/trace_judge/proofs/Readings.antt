@@ -1,0 +1,222 @@
+-- What the judge keeps of the lines of a trace, line by line.
+use Rattle.std.proofs.Common.{◌≡◌, ℕ, ◌+◌, ◌*◌, ◌≤◌, List, [], ◌∷◌, ◌++◌, length, sym, ap, ◌∙◌, subst, true, cond, arith}
+use Rattle.std.specs.Option.{option_map_or, option_and_then}
+use Rattle.dover_model.specs.declared.events.Event.{Event}
+use Rattle.dover_model.specs.Instance.{Instance}
+use Rattle.dover_model.specs.State.{State}
+use Rattle.dover_model.specs.Session.{Session, instance_of}
+use Rattle.dover_model.specs.Trace.{trace_lines}
+use Rattle.dover_model.specs.Verdict as model
+use Rattle.dover_model.proofs.TraceEnds.{trace_ends}
+use Rattle.trace_reading.specs.Leading.{PrintsNext}
+use Rattle.trace_reading.proofs.Leading.{idles_append}
+use Rattle.trace_reading.proofs.Seeing.{sees_expects}
+use Rattle.trace_judge.specs.declared.stage.Stage.{Stage}
+use Rattle.trace_judge.specs.declared.stage.Stage.TheVariants.{Opening, Going, Ended}
+use Rattle.trace_judge.specs.Course.{Course, Follows, GoesOnFrom}
+use Rattle.trace_judge.specs.Reads.{Reading, Opens, Goes, Ends, ReadsAhead, Reads, StaysAhead, HasSpare, IsReader}
+use Rattle.trace_judge.proofs.Courses.{follows_room}
+
+-- ---- by the stage
+
+-- what is read by a stage
+abbrev pub AheadBy : Stage → Reading → List (List ℕ) → Type 0
+AheadBy stage r ls = elim stage [
+  | Opening ↦ Opens r ls
+  | Going ↦ (S : Session) × (z : State) × (y : State) × Goes r ls S z y
+  | Ended ↦ (S : Session) × Ends r ls S
+]
+
+-- the same, where the run hasn't gone on
+abbrev pub HereBy : Stage → Reading → List (List ℕ) → Type 0
+HereBy stage r ls = elim stage [
+  | Opening ↦ Opens r ls
+  | Going ↦ (S : Session) × (z : State) × Goes r ls S z z
+  | Ended ↦ (S : Session) × Ends r ls S
+]
+
+module _ (r : Reading) (ls : List (List ℕ)) where
+  -- behind the header
+  pub goes_of : r.stage ≡ Going → ReadsAhead r ls → (S : Session) × (z : State) × (y : State) × Goes r ls S z y
+  goes_of is reads = let there : AheadBy Going r ls = subst (λ s. AheadBy s r ls) is reads in there
+
+  pub ahead_of : r.stage ≡ Going → (S : Session) (z y : State) → Goes r ls S z y → ReadsAhead r ls
+  ahead_of is S z y goes = subst (λ s. AheadBy s r ls) (sym is) (S, z, y, goes)
+
+  pub here_of : r.stage ≡ Going → Reads r ls → (S : Session) × (z : State) × Goes r ls S z z
+  here_of is reads = let there : HereBy Going r ls = subst (λ s. HereBy s r ls) is reads in there
+
+  pub reads_of : r.stage ≡ Going → (S : Session) (z : State) → Goes r ls S z z → Reads r ls
+  reads_of is S z goes = subst (λ s. HereBy s r ls) (sym is) (S, z, goes)
+
+  -- before it
+  pub opens_of : r.stage ≡ Opening → ReadsAhead r ls → Opens r ls
+  opens_of is reads = let there : AheadBy Opening r ls = subst (λ s. AheadBy s r ls) is reads in there
+
+  -- behind the end
+  pub ends_of : r.stage ≡ Ended → ReadsAhead r ls → (S : Session) × Ends r ls S
+  ends_of is reads = let there : AheadBy Ended r ls = subst (λ s. AheadBy s r ls) is reads in there
+
+  pub ended_of : r.stage ≡ Ended → (S : Session) → Ends r ls S → Reads r ls
+  ended_of is S ends = subst (λ s. HereBy s r ls) (sym is) (S, ends)
+
+  -- what is kept of lines is kept as well of a run that may have gone on
+  pub reads_ahead : Reads r ls → ReadsAhead r ls
+  reads_ahead reads = by_stage r.stage reads where
+    by_stage : (s : Stage) → HereBy s r ls → AheadBy s r ls
+    by_stage Opening opens = opens
+    by_stage Going it = (it.0, it.1, it.1, it.2)
+    by_stage Ended it = it
+
+-- ---- room
+
+-- the reading with other room
+abbrev pub with_room : Reading → (ready spare room : ℕ) → Reading
+with_room r ready spare room = record r { course = record r.course { room = ready }; spare = spare; room = room }
+
+module _ (r : Reading) (ready spare room : ℕ) (ls : List (List ℕ)) where
+  -- it is kept of the same lines, before the header
+  pub room_opens : Opens r ls → Opens (with_room r ready spare room) ls
+  room_opens it = record {
+    lines = it.lines;
+    course = ap (λ (c : Course). record c { room = ready }) it.course;
+    items = it.items;
+    floor = it.floor;
+    steps = it.steps;
+  }
+
+  -- behind it
+  pub room_goes : (S : Session) (z y : State) → Goes r ls S z y → Goes (with_room r ready spare room) ls S z y
+  room_goes S z y it = record {
+    sees = it.sees;
+    idles = it.idles;
+    follows = follows_room r.course ready (instance_of S) y it.follows;
+    kept = it.kept;
+    ratio = it.ratio;
+    items = it.items;
+    steps = it.steps;
+  }
+
+  -- and behind the end
+  pub room_ends : (S : Session) → Ends r ls S → Ends (with_room r ready spare room) ls S
+  room_ends S it = record {
+    valid = it.valid;
+    lines = it.lines;
+    rules = it.rules;
+    value = it.value;
+    jobs = it.jobs;
+    steps = it.steps;
+  }
+
+  pub room_ahead : ReadsAhead r ls → ReadsAhead (with_room r ready spare room) ls
+  room_ahead reads = by_stage r.stage reads where
+    by_stage : (s : Stage) → AheadBy s r ls → AheadBy s (with_room r ready spare room) ls
+    by_stage Opening it = room_opens it
+    by_stage Going it = (it.0, it.1, it.2, room_goes it.0 it.1 it.2 it.3)
+    by_stage Ended it = (it.0, room_ends it.0 it.1)
+
+-- ---- what is due
+
+-- behind the end nothing is
+pub ended_due : (r : Reading) (ls : List (List ℕ)) (S : Session) → Ends r ls S → model.expected_after ls ≡ model.Nothing
+ended_due r ls S ends = ap model.expected_after ends.lines
+    ∙ ap (λ b. cond b model.Nothing (option_map_or model.Step (option_and_then (model.step_after (length (tail (trace_lines S))))
+    (model.named_session (trace_lines S))) model.Nothing)) (trace_ends S ends.valid) where
+      tail : {X : Type 0} → List X → List X
+      tail [] = []
+      tail (x ∷ xs) = xs
+
+module _ (r : Reading) (d : Course) (e : Event) (going : r.stage ≡ Going)
+    (next : (J : Instance) (z : State) → Follows r.course J z → (y : State) × Follows d J y × PrintsNext J.rules z e y) where
+  -- the step that is printed next, and the run that has gone on to it
+  pub next_goes : (ls : List (List ℕ)) (S : Session) (z y : State) → Goes r ls S z y
+      → (x : State) × Goes (record r { course = d }) ls S z x × PrintsNext S.rules z e x
+  next_goes ls S z y goes =
+      let it : (x : State) × Follows d (instance_of S) x × PrintsNext S.rules y e x = next (instance_of S) y goes.follows in (
+        it.0,
+        record {
+          sees = goes.sees;
+          idles = (
+            goes.idles.0 ++ it.2.steps,
+            idles_append S.rules goes.idles.0 it.2.steps z y it.0 goes.idles.1 it.2.idles,
+          );
+          follows = it.1;
+          kept = goes.kept;
+          ratio = goes.ratio;
+          items = goes.items;
+          steps = goes.steps;
+        },
+        record {
+          steps = goes.idles.0 ++ it.2.steps;
+          idles = idles_append S.rules goes.idles.0 it.2.steps z y it.0 goes.idles.1 it.2.idles;
+          prints = it.2.prints;
+        },
+      )
+
+  -- it stays kept
+  pub next_ahead : (ls : List (List ℕ)) → ReadsAhead r ls → ReadsAhead (record r { course = d }) ls
+  next_ahead ls reads =
+      let old : (S : Session) × (z : State) × (y : State) × Goes r ls S z y = goes_of r ls going reads in
+      let new : (x : State) × Goes (record r { course = d }) ls old.0 old.1 x × PrintsNext old.0.rules old.1 e x =
+      next_goes ls old.0 old.1 old.2 old.3 in
+      ahead_of (record r { course = d }) ls going old.0 old.1 new.0 new.1
+
+  -- it is due
+  pub next_due : (ls : List (List ℕ)) → ReadsAhead r ls → model.expected_after ls ≡ model.Step e
+  next_due ls reads =
+      let old : (S : Session) × (z : State) × (y : State) × Goes r ls S z y = goes_of r ls going reads in
+      let new : (x : State) × Goes (record r { course = d }) ls old.0 old.1 x × PrintsNext old.0.rules old.1 e x =
+      next_goes ls old.0 old.1 old.2 old.3 in
+      sees_expects ls old.0 r.floor old.1 old.3.sees e new.0 new.2
+
+-- the same of a reading under another name
+module _ (r w : Reading) (same : r ≡ w) (d : Course) (e : Event) (going : r.stage ≡ Going)
+    (next : (J : Instance) (z : State) → Follows r.course J z → (y : State) × Follows d J y × PrintsNext J.rules z e y) where
+  pub named_ahead : StaysAhead w (record r { course = d })
+  named_ahead ls reads = next_ahead r d e going next ls (subst (λ v. ReadsAhead v ls) (sym same) reads)
+
+  pub named_due : (ls : List (List ℕ)) → ReadsAhead w ls → model.expected_after ls ≡ model.Step e
+  named_due ls reads = next_due r d e going next ls (subst (λ v. ReadsAhead v ls) (sym same) reads)
+
+-- room stays where the ready jobs grow no more
+pub spare_stays : (r : Reading) (d : Course) → HasSpare r → length d.ready ≤ length r.course.ready → d.jobs ≡ r.course.jobs → d.room ≡ r.course.room
+    → HasSpare (record r { course = d })
+spare_stays r d spare fewer jobs room = record {
+  ready = let old : length r.course.ready + r.spare ≤ r.course.room = spare.ready in omega (arith, fewer, room);
+  steps = λ keep. let old : 5 * (r.course.jobs + r.spare) + 1 ≤ r.room = spare.steps keep in omega (arith, jobs);
+}
+
+-- what is kept, with the run gone on
+pub next_reader : (r : Reading) → IsReader r → (d : Course) (e : Event) → r.stage ≡ Going
+    → ((J : Instance) (z : State) → Follows r.course J z → (y : State) × Follows d J y × PrintsNext J.rules z e y) → GoesOnFrom r.course d
+    → IsReader (record r { course = d })
+next_reader r old d e going next on = record {
+  spare = spare_stays r d old.spare on.fewer on.jobs on.room;
+  lines = old.lines;
+  reads = next_ahead r d e going next old.lines old.reads;
+}
+
+-- a course that is the other, but for its clock and its ready jobs
+pub kept_on : (c d : Course) → d ≡ record c { clock = d.clock; ready = d.ready } → length d.ready ≡ length c.ready → GoesOnFrom c d
+kept_on c d kept fewer = record { rules = ap (λ (b : Course). b.rules) kept; fewer = omega (arith, fewer); jobs = ap (λ (b : Course). b.jobs) kept; room = ap (λ (b : Course). b.room) kept }
+
+-- what is kept, with other room
+pub reserve_reader : (r : Reading) → IsReader r → (d : Course) (steps : List Event) (spare room : ℕ) → d ≡ record r.course { room = d.room }
+    → steps ≡ r.steps → length r.course.ready + spare ≤ d.room → (r.keep ≡ true → 5 * (r.course.jobs + spare) + 1 ≤ room)
+    → IsReader (record r { course = d; steps = steps; spare = spare; room = room })
+reserve_reader r old d steps spare room same unchanged ready all =
+    subst (λ es. IsReader (record r { course = d; steps = es; spare = spare; room = room })) (sym unchanged)
+    (subst (λ c. IsReader (record r { course = c; spare = spare; room = room })) (sym same) (record {
+      spare = record { ready = ready; steps = all };
+      lines = old.lines;
+      reads = room_ahead r d.room spare room old.lines old.reads;
+    }))
+
+-- so is one that goes on by a printed step
+pub taken_on : (c d e : Course) → GoesOnFrom c d → e ≡ record d { ready = e.ready; done = e.done } → length e.ready ≤ length d.ready → GoesOnFrom c e
+taken_on c d e on kept fewer = record {
+  rules = ap (λ (b : Course). b.rules) kept ∙ on.rules;
+  fewer = omega (arith, fewer, on.fewer);
+  jobs = ap (λ (b : Course). b.jobs) kept ∙ on.jobs;
+  room = ap (λ (b : Course). b.room) kept ∙ on.room;
+}

@@ -1,0 +1,303 @@
+-- How the judge takes the line of a release.
+use Rattle.std.proofs.Common.{◌≡◌, ℕ, ◌+◌, ◌*◌, ◌≤◌, ◌<◌, List, [], ◌∷◌, ◌++◌, length, length-append, refl, sym, ap, ◌∙◌, subst, true, false, cond, arith}
+use Rattle.std.specs.Prelude.{Some, None}
+use Rattle.std.specs.List.{filter}
+use Rattle.std.proofs.lemmas.Bool.{false_from_ne_true}
+use Rattle.std.proofs.lemmas.List.{append-nil}
+use Rattle.std.proofs.lemmas.List.Elements.{filter-append, filter_map-append}
+use Rattle.admission.specs.Kept as admission
+use Rattle.dover_model.specs.Limits.{most_items}
+use Rattle.dover_model.specs.JobFacts.{JobFacts}
+use Rattle.dover_model.specs.Admission.{refusal_of}
+use Rattle.dover_model.specs.declared.events.Event.{Event}
+use Rattle.dover_model.specs.declared.events.Event.TheVariants.{Release}
+use Rattle.dover_model.specs.declared.events.Role.TheVariants.{Fresh}
+use Rattle.dover_model.specs.declared.events.Task.{Task}
+use Rattle.dover_model.specs.State.{State, is_done, value_sum}
+use Rattle.dover_model.specs.Run.{printed_of}
+use Rattle.dover_model.specs.Session.{JobItem, Session, instance_of, admitted_jobs, with_item, job_of_item}
+use Rattle.dover_model.specs.Text.{text_of}
+use Rattle.dover_model.specs.Verdict.{item_of, begins_trace}
+use Rattle.dover_model.proofs.Admitting.{Admitted, not_refused}
+use Rattle.dover_model.proofs.Ending.{few_printed}
+use Rattle.trace_format.specs.declared.lines.TraceLine.TheVariants.{Step as StepLine}
+use Rattle.trace_format.specs.Form.{HasForm}
+use Rattle.trace_format.proofs.Spelled.{text_read, read_IsRead}
+use Rattle.trace_reading.specs.Leading.{WaitsUntil}
+use Rattle.trace_reading.specs.Reading.{Sees, MayRelease, with_fresh, release_text}
+use Rattle.trace_reading.specs.Ready.{is_ready}
+use Rattle.trace_reading.proofs.Continuing.{sees_release, sees_release_prints}
+use Rattle.trace_reading.proofs.Seeing.{sees_keeps, sees_rest}
+use Rattle.trace_reading.proofs.Only.{only_release}
+use Rattle.trace_judge.specs.declared.stage.Stage.TheVariants.{Going}
+use Rattle.trace_judge.specs.Course.{Course, Follows, IsCourse, with_release}
+use Rattle.trace_judge.specs.Reads.{Reading, Goes, Reads, StaysAhead, HasSpare, IsReader, kept_steps, Took, Waited, CanRelease, at_tick}
+use Rattle.trace_judge.proofs.Courses.{follows_count, follows_room}
+use Rattle.trace_judge.proofs.Forms.{one_form}
+use Rattle.trace_judge.proofs.Readings.{ahead_of, here_of, reads_of, reads_ahead, with_room}
+use Rattle.trace_judge.proofs.Taking.{kept_more, kept_length}
+
+-- ---- the line alone
+
+-- the text of a release names its job
+release_item : (n : ℕ) (j : JobFacts) → HasForm (StepLine (Release n j)) → item_of (text_of (Release n j)) ≡ Some (JobItem j)
+release_item n j form = (read_IsRead (text_of (Release n j)) (StepLine (Release n j)) (text_read (StepLine (Release n j)) form)).item
+
+-- where the text of a release continues a trace, the job may be released, under the next number
+pub release_only : (r : Reading) (ls : List (List ℕ)) (S : Session) (z : State) → Goes r ls S z z → (n : ℕ) (j : JobFacts)
+    → HasForm (StepLine (Release n j)) → begins_trace (ls ++ text_of (Release n j) ∷ []) ≡ true
+    → (n ≡ r.course.jobs) × (y : State) × MayRelease S r.floor z j y
+release_only r ls S z goes n j form passes =
+    let it : (text_of (Release n j) ≡ release_text S j) × (y : State) × MayRelease S r.floor z j y =
+    only_release ls S r.floor z goes.sees (text_of (Release n j)) passes j (release_item n j form) in
+    let admitted : Admitted S.rules.ratio (admitted_jobs S.items) j = not_refused S.rules.ratio (admitted_jobs S.items) j it.2.admitted in
+    let few : length (admitted_jobs S.items) < 1_000_000 = admitted.count in
+    let next : HasForm (StepLine (Release (length (admitted_jobs S.items)) j)) = ((omega arith, form.0.1), (omega arith, admitted.job)) in
+    let same : StepLine (Release n j) ≡ StepLine (Release (length (admitted_jobs S.items)) j) = one_form _ _ form next it.0 in
+    let number : n ≡ length (admitted_jobs S.items) = cc in
+    (number ∙ sym (follows_count r.course (instance_of S) z goes.follows), it.1, it.2)
+
+-- ---- the job
+
+-- the job may be released, once the run has gone on to its release
+pub can_release : (r : Reading) (j : JobFacts) (ls : List (List ℕ)) (S : Session) (z y : State) → Waited r j.release ls S z y → r.items < most_items
+    → refusal_of r.kept.ratio (admitted_jobs S.items) j ≡ None → CanRelease r j ls
+can_release r j ls S z y waited few admitted = record {
+  session = S;
+  from = z;
+  state = y;
+  waited = waited;
+  may = record {
+    room = let least : r.items < 3_999_998 = few in omega (arith, waited.goes.items);
+    admitted = subst (λ k. refusal_of k (admitted_jobs S.items) j ≡ None) waited.goes.ratio admitted;
+    no_fall = waited.no_fall;
+    waits = waited.waits;
+  };
+}
+
+-- it may with other room as well
+pub room_release : (r : Reading) (j : JobFacts) (ls : List (List ℕ)) (ready spare room : ℕ) → CanRelease r j ls → CanRelease (with_room r ready spare room) j ls
+room_release r j ls ready spare room can = record {
+  session = can.session;
+  from = can.from;
+  state = can.state;
+  waited = record {
+    goes = record {
+      sees = can.waited.goes.sees;
+      idles = can.waited.goes.idles;
+      follows = follows_room r.course ready (instance_of can.session) can.state can.waited.goes.follows;
+      kept = can.waited.goes.kept;
+      ratio = can.waited.goes.ratio;
+      items = can.waited.goes.items;
+      steps = can.waited.goes.steps;
+    };
+    no_fall = can.waited.no_fall;
+    low = can.waited.low;
+    waits = can.waited.waits;
+  };
+  may = can.may;
+}
+
+module _ (r : Reading) (j : JobFacts) (room : ℕ) (ls : List (List ℕ)) (can : CanRelease r j ls) where
+  -- the session so far
+  abbrev S : Session
+  S = can.session
+
+  -- with the job
+  abbrev S_more : Session
+  S_more = with_item S (JobItem j)
+
+  -- the number of the job
+  abbrev n : ℕ
+  n = length (admitted_jobs S.items)
+
+  -- the state before its release
+  abbrev y : State
+  y = at_tick j.release can.state.tasks
+
+  -- the lines with its release
+  abbrev sees : Sees (ls ++ release_text S j ∷ []) S_more j.release (with_fresh y n j)
+  sees = sees_release ls S r.floor can.from can.waited.goes.sees j y can.may
+
+  -- its number is the next one
+  next_number : r.course.jobs ≡ n
+  next_number = follows_count r.course (instance_of S) can.state can.waited.goes.follows
+
+  -- the run with it
+  pub release_follows : Follows (with_release r.course j room) (instance_of S_more) (with_fresh y n j)
+  release_follows =
+      let goes : Goes r ls S can.from can.state = can.waited.goes in
+      let fresh : ℕ → Task = λ m. record { number = m; job = j; role = Fresh; had = 0 } in
+      let admitted : Admitted S.rules.ratio (admitted_jobs S.items) j = not_refused S.rules.ratio (admitted_jobs S.items) j can.may.admitted in
+      let window : j.release + j.work ≤ j.deadline = admitted.job.window in
+      let due : j.deadline ≤ 1_000_000_000_000 = admitted.job.due in
+      record {
+        valid = sees.valid.jobs;
+        keeps = sees_keeps (ls ++ release_text S j ∷ []) S_more j.release (with_fresh y n j) sees;
+        rules = goes.follows.rules;
+        clock = refl;
+        ready = filter-append is_ready can.state.tasks (fresh n ∷ []) ∙ ap (λ ts. ts ++ fresh n ∷ []) goes.follows.ready
+            ∙ ap (λ m. r.course.ready ++ fresh m ∷ []) (sym next_number);
+        jobs = omega (arith, length-append can.state.tasks (fresh n ∷ []), goes.follows.jobs);
+        done = ap value_sum (filter-append is_done can.state.tasks (fresh n ∷ []) ∙ append-nil (filter is_done can.state.tasks)) ∙ goes.follows.done;
+        known = omega arith;
+      }
+
+  -- the course with it
+  pub release_course : IsCourse (with_release r.course j room)
+  release_course = (instance_of S_more, with_fresh y n j, release_follows)
+
+  -- there is room for it
+  pub release_room : HasSpare r → 0 < r.spare → r.keep ≡ true → length r.steps < r.room
+  release_room spare some keep =
+      let all : 5 * (r.course.jobs + r.spare) + 1 ≤ r.room = spare.steps keep in
+      let rest = sees_rest (ls ++ release_text S j ∷ []) S_more j.release (with_fresh y n j) sees in
+      let jobs : admitted_jobs S_more.items ≡ admitted_jobs S.items ++ j ∷ [] = filter_map-append job_of_item S.items (JobItem j ∷ []) in
+      omega (
+        arith,
+        next_number,
+        ap length rest.2,
+        length-append (printed_of sees.steps) (printed_of rest.0),
+        ap length (sees_release_prints ls S r.floor can.from can.waited.goes.sees j y can.may),
+        length-append (printed_of can.waited.goes.sees.steps) (Release n j ∷ []),
+        few_printed (instance_of S_more) sees.valid.jobs,
+        ap length jobs,
+        length-append (admitted_jobs S.items) (j ∷ []),
+        ap length can.waited.goes.steps,
+        kept_length r.keep (printed_of can.waited.goes.sees.steps),
+      )
+
+  module _ (kept : admission.Kept) (items : ℕ) (steps : List Event) (spare steps_room : ℕ)
+      (stands : (jobs : List JobFacts) → admission.StandsFor r.kept jobs → admission.StandsFor kept (jobs ++ j ∷ []))
+      (ratio : kept.ratio ≡ r.kept.ratio) (counted : items ≡ r.items + 1)
+      (more : steps ≡ cond r.keep (r.steps ++ Release r.course.jobs j ∷ []) r.steps) where
+    -- the reading with it
+    abbrev released : Reading
+    released = record r { course = with_release r.course j room; kept = kept; items = items; floor = j.release; steps = steps; spare = spare; room = steps_room }
+
+    -- it is kept of the lines with its text
+    pub released_goes : Goes released (ls ++ text_of (Release r.course.jobs j) ∷ []) S_more (with_fresh y n j) (with_fresh y n j)
+    released_goes =
+        let jobs : admitted_jobs S_more.items ≡ admitted_jobs S.items ++ j ∷ [] = filter_map-append job_of_item S.items (JobItem j ∷ []) in
+        let text : (s : Sees (ls ++ text_of (Release r.course.jobs j) ∷ []) S_more j.release (with_fresh y n j)) ×
+        (printed_of s.steps ≡ printed_of can.waited.goes.sees.steps ++ Release n j ∷ []) =
+        subst (λ m. (s : Sees (ls ++ text_of (Release m j) ∷ []) S_more j.release (with_fresh y n j)) ×
+        (printed_of s.steps ≡ printed_of can.waited.goes.sees.steps ++ Release n j ∷ [])) (sym next_number)
+        (sees, sees_release_prints ls S r.floor can.from can.waited.goes.sees j y can.may) in
+        record {
+          sees = text.0;
+          idles = ([], refl);
+          follows = release_follows;
+          kept = subst (admission.StandsFor kept) (sym jobs) (stands (admitted_jobs S.items) can.waited.goes.kept);
+          ratio = ratio ∙ can.waited.goes.ratio;
+          items = omega (arith, counted, can.waited.goes.items, length-append S.items (JobItem j ∷ []));
+          steps = more ∙ kept_more r.keep (printed_of can.waited.goes.sees.steps) r.steps (Release r.course.jobs j) can.waited.goes.steps
+              ∙ ap (λ m. kept_steps r.keep (printed_of can.waited.goes.sees.steps ++ Release m j ∷ [])) next_number
+              ∙ ap (kept_steps r.keep) (sym text.1);
+        }
+
+    -- so the trace goes on
+    pub released_reads : r.stage ≡ Going → Reads released (ls ++ text_of (Release r.course.jobs j) ∷ [])
+    released_reads going = reads_of released (ls ++ text_of (Release r.course.jobs j) ∷ []) going S_more (with_fresh y n j) released_goes
+
+    -- and what is kept is kept of some lines
+    pub released_reader : r.stage ≡ Going → HasSpare r → spare + 1 ≡ r.spare → room ≡ r.course.room → steps_room ≡ r.room → IsReader released
+    released_reader going old less same_ready same_steps = record {
+      spare = record {
+        ready = let before : length r.course.ready + r.spare ≤ r.course.room = old.ready in
+            omega (arith, less, same_ready, length-append r.course.ready (record { number = r.course.jobs; job = j; role = Fresh; had = 0 } ∷ []));
+        steps = λ keep. let before : 5 * (r.course.jobs + r.spare) + 1 ≤ r.room = old.steps keep in omega (arith, less, same_steps);
+      };
+      lines = ls ++ text_of (Release r.course.jobs j) ∷ [];
+      reads = ahead_of released (ls ++ text_of (Release r.course.jobs j) ∷ []) going S_more (with_fresh y n j) (with_fresh y n j) released_goes;
+    }
+
+-- a reading under another name, and a release that was taken in it
+module _ (r w : Reading) (same : r ≡ w) (old : IsReader r) (going_w : w.stage ≡ Going) (j : JobFacts) (d : Course) (number floor : ℕ)
+    (kept : admission.Kept) (items : ℕ) (steps : List Event) (spare steps_room : ℕ)
+    (is_d : d ≡ with_release r.course j r.course.room) (is_number : number ≡ r.course.jobs) (is_floor : floor ≡ j.release)
+    (stands : (jobs : List JobFacts) → admission.StandsFor r.kept jobs → admission.StandsFor kept (jobs ++ j ∷ []))
+    (ratio : kept.ratio ≡ r.kept.ratio) (counted : items ≡ r.items + 1)
+    (more : steps ≡ cond r.keep (r.steps ++ Release number j ∷ []) r.steps) where
+  -- the reading with it
+  abbrev taken : Course → ℕ → Reading
+  taken c f = record r { course = c; kept = kept; items = items; floor = f; steps = steps; spare = spare; room = steps_room }
+
+  -- the steps, by the next number
+  steps_are : steps ≡ cond r.keep (r.steps ++ Release r.course.jobs j ∷ []) r.steps
+  steps_are = more ∙ ap (λ m. cond r.keep (r.steps ++ Release m j ∷ []) r.steps) is_number
+
+  -- the trace goes on
+  pub taken_reads : (ls : List (List ℕ)) → CanRelease w j ls → Reads (taken d floor) (ls ++ text_of (Release w.course.jobs j) ∷ [])
+  taken_reads ls can =
+      subst (λ c. Reads (taken c floor) (ls ++ text_of (Release w.course.jobs j) ∷ [])) (sym is_d)
+      (subst (λ f. Reads (taken (with_release r.course j r.course.room) f) (ls ++ text_of (Release w.course.jobs j) ∷ [])) (sym is_floor)
+      (subst (λ (v : Reading). Reads (taken (with_release r.course j r.course.room) j.release) (ls ++ text_of (Release v.course.jobs j) ∷ [])) same
+      (released_reads r j r.course.room ls (subst (λ v. CanRelease v j ls) (sym same) can) kept items steps spare steps_room stands ratio counted steps_are
+      (ap (λ (v : Reading). v.stage) same ∙ going_w))))
+
+  -- and it is kept of some lines
+  pub taken_reader : (ls : List (List ℕ)) → CanRelease w j ls → spare + 1 ≡ r.spare → steps_room ≡ r.room → IsReader (taken d floor)
+  taken_reader ls can less same_steps =
+      subst (λ c. IsReader (taken c floor)) (sym is_d)
+      (subst (λ f. IsReader (taken (with_release r.course j r.course.room) f)) (sym is_floor)
+      (released_reader r j r.course.room ls (subst (λ v. CanRelease v j ls) (sym same) can) kept items steps spare steps_room stands ratio counted steps_are
+      (ap (λ (v : Reading). v.stage) same ∙ going_w) old.spare less refl same_steps))
+
+-- ---- whether it goes on
+
+module _ (w : Reading) (going : w.stage ≡ Going) (n : ℕ) (j : JobFacts) (form : HasForm (StepLine (Release n j))) where
+  -- the job isn't admitted
+  pub not_admitted : (n ≡ w.course.jobs → w.items < most_items → (jobs : List JobFacts) → admission.StandsFor w.kept jobs
+      → refusal_of w.kept.ratio jobs j ≡ None → ⊥) → Took w w (text_of (Release n j)) false
+  not_admitted none = record {
+    yes = λ e. absurd (let clash : false ≡ true = e in cc);
+    no = λ _ ls reads.
+        let here : (S : Session) × (z : State) × Goes w ls S z z = here_of w ls going reads in (
+          false_from_ne_true _ (λ passes.
+              let it : (n ≡ w.course.jobs) × (y : State) × MayRelease here.0 w.floor here.1 j y =
+              release_only w ls here.0 here.1 here.2 n j form passes in
+              let room : length here.0.items < 3_999_998 = it.2.room in
+              none it.0 (omega (arith, here.2.items)) (admitted_jobs here.0.items) here.2.kept
+              (subst (λ k. refusal_of k (admitted_jobs here.0.items) j ≡ None) (sym here.2.ratio) it.2.admitted)),
+          reads_ahead w ls reads,
+        );
+  }
+
+  -- something comes before its release
+  pub not_waited : (v : Reading) → (w.floor ≤ j.release → (ls : List (List ℕ)) (S : Session) (z : State) → Goes w ls S z z → (x : State)
+      → WaitsUntil S.rules j.release z x → ⊥) → StaysAhead w v → Took w v (text_of (Release n j)) false
+  not_waited v none ahead = record {
+    yes = λ e. absurd (let clash : false ≡ true = e in cc);
+    no = λ _ ls reads.
+        let here : (S : Session) × (z : State) × Goes w ls S z z = here_of w ls going reads in (
+          false_from_ne_true _ (λ passes.
+              let it : (n ≡ w.course.jobs) × (y : State) × MayRelease here.0 w.floor here.1 j y =
+              release_only w ls here.0 here.1 here.2 n j form passes in
+              none it.2.no_fall ls here.0 here.1 here.2 it.1 it.2.waits),
+          ahead ls (reads_ahead w ls reads),
+        );
+  }
+
+-- the job may be released, once the run has gone on and there is room
+pub reserved_can : (w v u : Reading) (j : JobFacts) → v ≡ record w { course = v.course }
+    → u ≡ with_room v u.course.room u.spare u.room
+    → ((ls : List (List ℕ)) (S : Session) (z y : State) → Goes w ls S z y → (x : State) × Waited v j.release ls S z x)
+    → w.items < most_items → ((jobs : List JobFacts) → admission.StandsFor w.kept jobs → refusal_of w.kept.ratio jobs j ≡ None)
+    → (ls : List (List ℕ)) (S : Session) (z y : State) → Goes w ls S z y → CanRelease u j ls
+reserved_can w v u j kept same waits few admits ls S z y goes =
+    let waited : (x : State) × Waited v j.release ls S z x = waits ls S z y goes in
+    subst (λ t. CanRelease t j ls) (sym same) (room_release v j ls u.course.room u.spare u.room
+    (can_release v j ls S z waited.0 waited.1 (subst (λ (t : Reading). t.items < most_items) (sym kept) few)
+    (subst (λ (t : Reading). refusal_of t.kept.ratio (admitted_jobs S.items) j ≡ None) (sym kept) (admits (admitted_jobs S.items) goes.kept))))
+
+-- so the trace goes on
+pub reserved_took : (w u t : Reading) (n : ℕ) (j : JobFacts) → w.stage ≡ Going → n ≡ u.course.jobs
+    → ((ls : List (List ℕ)) (S : Session) (z y : State) → Goes w ls S z y → CanRelease u j ls)
+    → ((ls : List (List ℕ)) → CanRelease u j ls → Reads t (ls ++ text_of (Release u.course.jobs j) ∷ [])) → Took w t (text_of (Release n j)) true
+reserved_took w u t n j going number can reads_more = record {
+  yes = λ _ ls reads.
+      let here : (S : Session) × (z : State) × Goes w ls S z z = here_of w ls going reads in
+      subst (λ m. Reads t (ls ++ text_of (Release m j) ∷ [])) (sym number) (reads_more ls (can ls here.0 here.1 here.1 here.2));
+  no = λ e. absurd (let clash : true ≡ false = e in cc);
+}

@@ -1,0 +1,439 @@
+-- How the judge takes the lines of a trace.
+use Rattle.std.proofs.Common.{◌≡◌, ℕ, suc, ◌+◌, ◌*◌, ◌≤◌, ◌<◌, max, List, [], ◌∷◌, ◌++◌, length, length-append, refl, sym, ap, ◌∙◌, subst, Bool, true, false, cond, arith}
+use Rattle.std.specs.Prelude.{Option, Some, None, ◌==◌, is_some, not}
+use Rattle.std.specs.List.{filter}
+use Rattle.std.proofs.lemmas.Bool.{false_from_ne_true, eqb-true}
+use Rattle.dover_model.specs.Fraction.{Fraction, IsRatio}
+use Rattle.dover_model.specs.declared.events.Event.{Event}
+use Rattle.dover_model.specs.declared.events.Event.TheVariants.{Release, Run, Preempt, Take, Complete, Abandon, End}
+use Rattle.dover_model.specs.declared.events.Version.{Version}
+use Rattle.dover_model.specs.declared.events.Version.TheVariants.{One, Two}
+use Rattle.dover_model.specs.Instance.{Rules, Instance}
+use Rattle.dover_model.specs.State.{State, opening, is_done, value_sum}
+use Rattle.dover_model.specs.Step.{Prints, step, after}
+use Rattle.dover_model.specs.Run.{Step, is_end, printed, printed_of}
+use Rattle.dover_model.specs.Settled.{is_late}
+use Rattle.dover_model.specs.Session.{Session, instance_of, new_session}
+use Rattle.dover_model.specs.Text.{header, text_of, version_number}
+use Rattle.dover_model.specs.Verdict.{item_of, begins_trace, version_of_number}
+use Rattle.dover_model.proofs.Members.{some_same}
+use Rattle.dover_model.proofs.Ending.{end_over, few_printed}
+use Rattle.dover_model.proofs.NoFeeds.{header_short}
+use Rattle.dover_model.proofs.Tests.{never}
+use Rattle.trace_format.specs.declared.lines.TraceLine.{TraceLine}
+use Rattle.trace_format.specs.declared.lines.TraceLine.TheVariants.{Header, Step as StepLine}
+use Rattle.trace_format.specs.Form.{HasForm, item_in, trace_text}
+use Rattle.trace_format.proofs.Spelled.{text_read, read_IsRead}
+use Rattle.admission.specs.Kept as admission
+use Rattle.trace_reading.specs.Leading.{Idles, WaitsUntil, PrintsNext}
+use Rattle.trace_reading.specs.Reading.{Sees, floor_after}
+use Rattle.trace_reading.proofs.Leading.{idles_append, idles_settles, settles_append, settles_or_prints}
+use Rattle.trace_reading.proofs.Seeing.{sees_next}
+use Rattle.trace_reading.proofs.Continuing.{sees_step, sees_step_prints, sees_header, sees_header_prints}
+use Rattle.trace_reading.proofs.Finishing.{ended_run, ended_trace, ended_value}
+use Rattle.trace_reading.proofs.Only.{only_headers, only_step}
+use Rattle.trace_judge.specs.declared.stage.Stage.TheVariants.{Opening, Going, Ended}
+use Rattle.trace_judge.specs.Course.{Course, Follows, Settled, GoesOnFrom}
+use Rattle.trace_judge.specs.Reads.{Reading, Opens, Goes, Ends, ReadsAhead, Reads, StaysAhead, HasSpare, IsReader, kept_steps, Took, Waited, at_tick}
+use Rattle.trace_judge.proofs.Courses.{new_follows, follows_count}
+use Rattle.trace_judge.proofs.Forms.{one_form, next_form}
+use Rattle.trace_judge.proofs.Readings.{goes_of, ahead_of, here_of, reads_of, opens_of, reads_ahead, next_goes, spare_stays}
+
+-- ---- silent steps up to a tick
+
+-- silent steps before a wait
+wait_behind : (rules : Rules) (tick : ℕ) (xs : List Step) (z y x : State) → Idles rules z xs y → y.clock ≤ tick → WaitsUntil rules tick y x
+    → WaitsUntil rules tick z x
+wait_behind rules tick xs z y x idles low waits = record {
+  steps = xs ++ waits.steps;
+  settles = settles_append rules tick xs waits.steps z y x (idles_settles rules tick xs z y idles low) waits.settles;
+  barrier = waits.barrier;
+}
+
+module _ (r w : Reading) (same : r ≡ w) (d : Course) (tick : ℕ) (o : Option Event)
+    (settled : (J : Instance) (z : State) → Follows r.course J z → Settled d J z tick o) (low : d.clock ≤ tick) where
+  -- the lines are the same
+  settled_goes : (ls : List (List ℕ)) (S : Session) (z y : State) (goes : Goes r ls S z y)
+      → Goes (record r { course = d }) ls S z (settled (instance_of S) y goes.follows).state
+  settled_goes ls S z y goes =
+      let it : Settled d (instance_of S) y tick o = settled (instance_of S) y goes.follows in
+      record {
+        sees = goes.sees;
+        idles = (goes.idles.0 ++ it.idles.0, idles_append S.rules goes.idles.0 it.idles.0 z y it.state goes.idles.1 it.idles.1);
+        follows = it.follows;
+        kept = goes.kept;
+        ratio = goes.ratio;
+        items = goes.items;
+        steps = goes.steps;
+      }
+
+  -- they stay kept
+  pub settled_ahead : r.stage ≡ Going → StaysAhead w (record r { course = d })
+  settled_ahead going ls reads =
+      let old : (S : Session) × (z : State) × (y : State) × Goes r ls S z y = goes_of r ls going (subst (λ v. ReadsAhead v ls) (sym same) reads) in
+      ahead_of (record r { course = d }) ls going old.0 old.1 (settled (instance_of old.0) old.2 old.3.follows).state
+      (settled_goes ls old.0 old.1 old.2 old.3)
+
+  -- nothing was printed
+  pub settled_yes : o ≡ None → r.floor ≤ tick → r.course.clock ≤ tick → (ls : List (List ℕ)) (S : Session) (z y : State) → Goes w ls S z y
+      → (x : State) × Waited (record r { course = d }) tick ls S z x
+  settled_yes none floor clock ls S z y goes_w =
+      let goes : Goes r ls S z y = subst (λ v. Goes v ls S z y) (sym same) goes_w in
+      let it : Settled d (instance_of S) y tick None = subst (Settled d (instance_of S) y tick) none (settled (instance_of S) y goes.follows) in
+      let at : y.clock ≤ tick = omega (arith, goes.follows.clock) in (
+        it.state,
+        record {
+          goes = record {
+            sees = goes.sees;
+            idles = (goes.idles.0 ++ it.idles.0, idles_append S.rules goes.idles.0 it.idles.0 z y it.state goes.idles.1 it.idles.1);
+            follows = it.follows;
+            kept = goes.kept;
+            ratio = goes.ratio;
+            items = goes.items;
+            steps = goes.steps;
+          };
+          no_fall = floor;
+          low = low;
+          waits = wait_behind S.rules tick goes.idles.0 z y (at_tick tick it.state.tasks) goes.idles.1 at it.comes;
+        },
+      )
+
+  -- something was
+  pub settled_no : (e : Event) → o ≡ Some e → (ls : List (List ℕ)) (S : Session) (z : State) → Goes w ls S z z → (x : State)
+      → WaitsUntil S.rules tick z x → ⊥
+  settled_no e some ls S z goes_w x waits =
+      let goes : Goes r ls S z z = subst (λ v. Goes v ls S z z) (sym same) goes_w in
+      let it : Settled d (instance_of S) z tick (Some e) = subst (Settled d (instance_of S) z tick) some (settled (instance_of S) z goes.follows) in
+      let at : it.state.clock ≤ tick = omega (arith, it.follows.clock) in
+      settles_or_prints S.rules tick it.idles.0 waits.steps z it.state x e (idles_settles S.rules tick it.idles.0 z it.state it.idles.1 at)
+      it.comes.1 it.comes.0 waits.settles waits.barrier
+
+-- what is kept, with the run gone on
+pub settled_reader : (r : Reading) → IsReader r → (d : Course) (tick : ℕ) (o : Option Event) → r.stage ≡ Going
+    → ((J : Instance) (z : State) → Follows r.course J z → Settled d J z tick o) → d.clock ≤ tick → GoesOnFrom r.course d
+    → IsReader (record r { course = d })
+settled_reader r old d tick o going settled low on = record {
+  spare = spare_stays r d old.spare on.fewer on.jobs on.room;
+  lines = old.lines;
+  reads = settled_ahead r r refl d tick o settled low going old.lines old.reads;
+}
+
+-- nothing, and something
+pub is_nothing : (o : Option Event) (b : Bool) → is_some o ≡ not b → b ≡ true → o ≡ None
+is_nothing None b test is = refl
+is_nothing (Some e) b test is = never (sym (test ∙ ap not is))
+
+pub is_something : (o : Option Event) (b : Bool) → is_some o ≡ not b → b ≡ false → (e : Event) × (o ≡ Some e)
+is_something None b test is = never (test ∙ ap not is)
+is_something (Some e) b test is = (e, refl)
+
+-- ---- the header
+
+-- the version of a version's number
+version_back : (n : ℕ) (v : Version) → version_of_number n ≡ Some v → version_number v ≡ n
+version_back n v is = by_one (n == 1) refl is where
+  by_two : (b : Bool) → (n == 2) ≡ b → cond b (Some Two) None ≡ Some v → version_number v ≡ n
+  by_two true two e = let same : Two ≡ v = some_same Two v e in ap version_number (sym same) ∙ sym (eqb-true n 2 two)
+  by_two false other e = absurd (let clash : None ≡ Some v = e in cc)
+
+  by_one : (b : Bool) → (n == 1) ≡ b → cond b (Some One) (cond (n == 2) (Some Two) None) ≡ Some v → version_number v ≡ n
+  by_one true one e = let same : One ≡ v = some_same One v e in ap version_number (sym same) ∙ sym (eqb-true n 1 one)
+  by_one false other e = by_two (n == 2) refl e
+
+-- and the other way round
+number_back : (v : Version) → version_of_number (version_number v) ≡ Some v
+number_back One = refl
+number_back Two = refl
+
+-- a header that begins a trace
+header_only : (v p q : ℕ) → HasForm (Header v p q) → begins_trace (trace_text (Header v p q) ∷ []) ≡ true
+    → (rules : Rules) × IsRatio rules.ratio × (Header v p q ≡ Header (version_number rules.version) rules.ratio.p rules.ratio.q)
+header_only v p q form passes =
+    let it : (rules : Rules) × IsRatio rules.ratio × (trace_text (Header v p q) ≡ header rules) = only_headers (trace_text (Header v p q)) passes in
+    (it.0, it.1, one_form (Header v p q) (Header (version_number it.0.version) it.0.ratio.p it.0.ratio.q) form (header_short it.0 it.1) it.2)
+
+module _ (r : Reading) (opening_stage : r.stage ≡ Opening) (v p q : ℕ) (form : HasForm (Header v p q)) where
+  -- a header that isn't one of a trace
+  not_header : ((rules : Rules) → IsRatio rules.ratio → Header v p q ≡ Header (version_number rules.version) rules.ratio.p rules.ratio.q → ⊥)
+      → Took r r (trace_text (Header v p q)) false
+  not_header none = record {
+    yes = λ e. absurd (let clash : false ≡ true = e in cc);
+    no = λ _ ls reads. (
+      false_from_ne_true _ (λ passes.
+          let opens : Opens r ls = opens_of r ls opening_stage (reads_ahead r ls reads) in
+          let it = header_only v p q form (subst (λ xs. begins_trace (xs ++ trace_text (Header v p q) ∷ []) ≡ true) opens.lines passes) in
+          none it.0 it.1 it.2),
+      reads_ahead r ls reads,
+    );
+  }
+
+  -- its number is no version
+  pub no_version : version_of_number v ≡ None → Took r r (trace_text (Header v p q)) false
+  no_version none = not_header (λ rules ratio same.
+      let number : v ≡ version_number rules.version = numbers same in
+      let clash : None ≡ Some rules.version = sym none ∙ ap version_of_number number ∙ number_back rules.version in cc) where
+        numbers : {a b c d e f : ℕ} → Header a b c ≡ Header d e f → a ≡ d
+        numbers e = cc
+
+  -- its ratio is none
+  pub no_ratio : (IsRatio (record { p = p; q = q }) → ⊥) → Took r r (trace_text (Header v p q)) false
+  no_ratio none = not_header (λ rules ratio same. none (subst IsRatio (sym (fraction same)) ratio)) where
+    fraction : {a b c d e f : ℕ} → Header a b c ≡ Header d e f → ◌≡◌ {A = Fraction} (record { p = b; q = c }) (record { p = e; q = f })
+    fraction {b} {c} {e} {f} same = let one : b ≡ e = cc in let two : c ≡ f = cc in
+        let part : ℕ → ℕ → Fraction = λ m n. record { p = m; q = n } in ap (λ m. part m c) one ∙ ap (part e) two
+
+  -- it is one
+  module _ (version : Version) (ratio : Fraction) (is_version : version_of_number v ≡ Some version)
+      (is_ratio : (ratio ≡ record { p = p; q = q }) × IsRatio ratio) (d : Course) (kept : admission.Kept)
+      (declared : d ≡ record r.course { rules = record { ratio = ratio; version = version } }) (kept_ratio : kept.ratio ≡ ratio)
+      (stands : admission.StandsFor kept []) where
+    -- the rules
+    abbrev rules : Rules
+    rules = record { ratio = ratio; version = version }
+
+    -- the reading behind the header
+    abbrev opened : Reading
+    opened = record r { stage = Going; course = d; kept = kept }
+
+    -- the text is that of the rules
+    text_is : trace_text (Header v p q) ≡ header rules
+    text_is = ap (λ n. trace_text (Header n p q)) (sym (version_back v version is_version))
+        ∙ ap (λ (k : Fraction). trace_text (Header (version_number version) k.p k.q)) (sym is_ratio.0)
+
+    -- the header is kept
+    pub opened_goes : (ls : List (List ℕ)) → Opens r ls → Goes opened (ls ++ trace_text (Header v p q) ∷ []) (new_session rules) (opening []) (opening [])
+    opened_goes ls opens =
+        let floor : 0 ≡ r.floor = sym opens.floor in
+        let lines : header rules ∷ [] ≡ ls ++ trace_text (Header v p q) ∷ [] =
+        ap (λ l. l ∷ []) (sym text_is) ∙ ap (λ xs. xs ++ trace_text (Header v p q) ∷ []) (sym opens.lines) in
+        let sees : (s : Sees (ls ++ trace_text (Header v p q) ∷ []) (new_session rules) r.floor (opening [])) × (printed_of s.steps ≡ []) =
+        subst (λ xs. (s : Sees xs (new_session rules) r.floor (opening [])) × (printed_of s.steps ≡ [])) lines
+        (subst (λ n. (s : Sees (header rules ∷ []) (new_session rules) n (opening [])) × (printed_of s.steps ≡ [])) floor
+        (sees_header rules is_ratio.1, sees_header_prints rules is_ratio.1)) in
+        record {
+          sees = sees.0;
+          idles = ([], refl);
+          follows = subst (λ c. Follows c (instance_of (new_session rules)) (opening []))
+              (sym (declared ∙ ap (λ (c : Course). record c { rules = rules }) opens.course)) (new_follows rules r.course.room is_ratio.1);
+          kept = stands;
+          ratio = kept_ratio;
+          items = opens.items;
+          steps = opens.steps ∙ sym (no_steps r.keep) ∙ ap (kept_steps r.keep) (sym sees.1);
+        } where
+          no_steps : (b : Bool) → kept_steps b [] ≡ []
+          no_steps true = refl
+          no_steps false = refl
+
+    -- the trace goes on
+    pub opened_took : (w : Reading) → r ≡ w → Took w opened (trace_text (Header v p q)) true
+    opened_took w same = record {
+      yes = λ _ ls reads. (
+        new_session rules,
+        opening [],
+        opened_goes ls (opens_of r ls opening_stage (reads_ahead r ls (subst (λ u. Reads u ls) (sym same) reads))),
+      );
+      no = λ e. absurd (let clash : true ≡ false = e in cc);
+    }
+
+    -- what is kept behind the header
+    pub opened_reader : IsReader r → IsReader opened
+    opened_reader old = record {
+      spare = record {
+        ready = let before : length r.course.ready + r.spare ≤ r.course.room = old.spare.ready in
+            omega (arith, ap (λ (c : Course). length c.ready) declared, ap (λ (c : Course). c.room) declared);
+        steps = λ keep. let before : 5 * (r.course.jobs + r.spare) + 1 ≤ r.room = old.spare.steps keep in
+            omega (arith, ap (λ (c : Course). c.jobs) declared);
+      };
+      lines = old.lines ++ trace_text (Header v p q) ∷ [];
+      reads = (new_session rules, opening [], opening [], opened_goes old.lines (opens_of r old.lines opening_stage old.reads));
+    }
+
+-- ---- a printed step
+
+-- the text of a line that names no item names none
+pub text_item : (x : TraceLine) → HasForm x → item_in x ≡ None → item_of (trace_text x) ≡ None
+text_item x form none = (read_IsRead (trace_text x) x (text_read x form)).item ∙ none
+
+-- the steps that are kept, with one more
+pub kept_more : (b : Bool) (es kept : List Event) (e : Event) → kept ≡ kept_steps b es → cond b (kept ++ e ∷ []) kept ≡ kept_steps b (es ++ e ∷ [])
+kept_more true es kept e is = ap (λ xs. xs ++ e ∷ []) is
+kept_more false es kept e is = is
+
+-- no more steps are kept than there are
+pub kept_length : (b : Bool) (es : List Event) → length (kept_steps b es) ≤ length es
+kept_length true es = omega arith
+kept_length false es = omega arith
+
+-- an event that is the last
+end_is : (e : Event) → is_end (Prints e) ≡ true → (v : ℕ) × (e ≡ End v)
+end_is (End v) is = (v, refl)
+end_is (Release n j) is = never is
+end_is (Run at n) is = never is
+end_is (Preempt at stops starts) is = never is
+end_is (Take at stops starts) is = never is
+end_is (Complete at n) is = never is
+end_is (Abandon at n) is = never is
+
+-- the floor after an event, as it is computed
+floor_is : (z : State) (e : Event) (clock : ℕ) → clock ≡ z.clock → cond (is_late (Prints e)) (clock + 1) clock ≡ floor_after z e
+floor_is z e clock at = by_late (is_late (Prints e)) where
+  by_late : (b : Bool) → cond b (clock + 1) clock ≡ cond b (suc z.clock) z.clock
+  by_late true = omega arith
+  by_late false = at
+
+module _ (r w : Reading) (same : r ≡ w) (going_w : w.stage ≡ Going) (d : Course) (due : Event)
+    (next : (J : Instance) (z : State) → Follows r.course J z → (y : State) × Follows d J y × PrintsNext J.rules z due y) where
+  -- the stage
+  going : r.stage ≡ Going
+  going = ap (λ (u : Reading). u.stage) same ∙ going_w
+
+  -- there is room for it
+  pub step_room : IsReader r → r.keep ≡ true → length r.steps < r.room
+  step_room old keep =
+      let it : (S : Session) × (z : State) × (y : State) × Goes r old.lines S z y = goes_of r old.lines going old.reads in
+      let new = next_goes r d due going next old.lines it.0 it.1 it.2 it.3 in
+      let all : (more : List Event) × (printed (instance_of it.0) ≡ printed_of it.3.sees.steps ++ due ∷ more) =
+      sees_next old.lines it.0 r.floor it.1 it.3.sees due new.0 new.2 in
+      let room : 5 * (r.course.jobs + r.spare) + 1 ≤ r.room = old.spare.steps keep in
+      omega (
+        arith,
+        ap length all.1,
+        length-append (printed_of it.3.sees.steps) (due ∷ all.0),
+        few_printed (instance_of it.0) it.3.sees.valid.jobs,
+        follows_count r.course (instance_of it.0) it.2 it.3.follows,
+        ap length it.3.steps,
+        kept_length r.keep (printed_of it.3.sees.steps),
+      )
+
+  module _ (event : Event) (form : HasForm (StepLine event)) where
+    -- another step
+    pub not_due : item_in (StepLine event) ≡ None → (due ≡ event → ⊥) → Took w (record r { course = d }) (text_of event) false
+    not_due none differs = record {
+      yes = λ e. absurd (let clash : false ≡ true = e in cc);
+      no = λ _ ls reads.
+          let here : (S : Session) × (z : State) × Goes r ls S z z = here_of r ls going (subst (λ v. Reads v ls) (sym same) reads) in
+          let new = next_goes r d due going next ls here.0 here.1 here.1 here.2 in (
+            false_from_ne_true _ (λ passes.
+                let text : text_of event ≡ text_of due = only_step ls here.0 r.floor here.1 here.2.sees (text_of event) passes due new.0 new.2
+                (text_item (StepLine event) form none) in
+                let lines : StepLine event ≡ StepLine due = one_form (StepLine event) (StepLine due) form
+                (next_form ls here.0 r.floor here.1 here.2.sees due new.0 new.2) text in
+                differs (let e : due ≡ event = cc in e)),
+            ahead_of (record r { course = d }) ls going here.0 here.1 new.0 new.1,
+          );
+    }
+
+    module _ (is_event : due ≡ event) (steps : List Event) (room : ℕ) (kept : steps ≡ cond r.keep (r.steps ++ due ∷ []) r.steps)
+        (same_room : room ≡ r.room) where
+      -- the end
+      module _ (last : is_end (Prints due) ≡ true) where
+        -- the reading at the end
+        abbrev ended : Reading
+        ended = record r { stage = Ended; course = d; steps = steps; room = room }
+
+        -- the trace is whole
+        ended_ends : (ls : List (List ℕ)) (S : Session) (z y : State) → Goes r ls S z y → Ends ended (ls ++ text_of event ∷ []) S
+        ended_ends ls S z y goes =
+            let new = next_goes r d due going next ls S z y goes in
+            let J : Instance = instance_of S in
+            let v : (n : ℕ) × (due ≡ End n) = end_is due last in
+            let next_end : PrintsNext S.rules z (End v.0) new.0 = subst (λ e. PrintsNext S.rules z e new.0) v.1 new.2 in
+            let over : step J.rules new.0 ≡ Prints (End (value_sum (filter is_done new.0.tasks))) =
+            (end_over J goes.sees.valid.jobs new.0 new.1.follows.keeps J.rules (ap is_end new.2.prints ∙ last)).0 in
+            let value : v.0 ≡ d.done =
+            ends_same v.0 (value_sum (filter is_done new.0.tasks)) (sym next_end.prints ∙ over) ∙ new.1.follows.done in
+            record {
+              valid = goes.sees.valid;
+              lines = ap (λ e. ls ++ text_of e ∷ []) (sym is_event ∙ v.1) ∙ ended_trace ls S r.floor z goes.sees v.0 new.0 next_end;
+              rules = new.1.follows.rules;
+              value = ended_value ls S r.floor z goes.sees v.0 new.0 next_end ∙ value;
+              jobs = sym (follows_count d J new.0 new.1.follows);
+              steps = kept ∙ kept_more r.keep (printed_of goes.sees.steps) r.steps due goes.steps
+                  ∙ ap (λ e. kept_steps r.keep (printed_of goes.sees.steps ++ e ∷ [])) v.1
+                  ∙ ap (kept_steps r.keep) (sym (ended_run ls S r.floor z goes.sees v.0 new.0 next_end));
+            } where
+              ends_same : (m n : ℕ) → Prints (End m) ≡ Prints (End n) → m ≡ n
+              ends_same m n e = cc
+
+        -- it goes on so
+        pub ended_took : Took w ended (text_of event) true
+        ended_took = record {
+          yes = λ _ ls reads.
+              let here : (S : Session) × (z : State) × Goes r ls S z z = here_of r ls going (subst (λ v. Reads v ls) (sym same) reads) in
+              (here.0, ended_ends ls here.0 here.1 here.1 here.2);
+          no = λ e. absurd (let clash : true ≡ false = e in cc);
+        }
+
+        -- what is kept at the end
+        pub ended_reader : IsReader r → GoesOnFrom r.course d → IsReader ended
+        ended_reader old on =
+            let it : (S : Session) × (z : State) × (y : State) × Goes r old.lines S z y = goes_of r old.lines going old.reads in
+            record {
+              spare = stepped_spare old on;
+              lines = old.lines ++ text_of event ∷ [];
+              reads = (it.0, ended_ends old.lines it.0 it.1 it.2 it.3);
+            } where
+              stepped_spare : IsReader r → GoesOnFrom r.course d → HasSpare ended
+              stepped_spare old on = record {
+                ready = (spare_stays r d old.spare on.fewer on.jobs on.room).ready;
+                steps = λ keep. let most : 5 * (d.jobs + r.spare) + 1 ≤ r.room = (spare_stays r d old.spare on.fewer on.jobs on.room).steps keep in
+                    omega (arith, same_room);
+              }
+
+      -- a step before the end
+      module _ (more : is_end (Prints due) ≡ false) (d2 : Course)
+          (taken : (J : Instance) (z : State) → Follows d J z → Follows d2 J (after z (Prints due))) (clock floor : ℕ) (at : clock ≡ d.clock)
+          (floor_at : floor ≡ max r.floor (cond (is_late (Prints due)) (clock + 1) clock)) where
+        -- the reading behind it
+        abbrev stepped : Reading
+        stepped = record r { course = d2; floor = floor; steps = steps; room = room }
+
+        -- the lines with its text
+        stepped_goes : (ls : List (List ℕ)) (S : Session) (z y : State) (goes : Goes r ls S z y)
+            → (x : State) × Goes stepped (ls ++ text_of event ∷ []) S (after x (Prints due)) (after x (Prints due))
+        stepped_goes ls S z y goes =
+            let new = next_goes r d due going next ls S z y goes in
+            let x : State = new.0 in
+            let where_to : max r.floor (floor_after x due) ≡ floor =
+            ap (max r.floor) (sym (floor_is x due clock (at ∙ sym new.1.follows.clock))) ∙ sym floor_at in
+            let sees : (s : Sees (ls ++ text_of event ∷ []) S floor (after x (Prints due))) × (printed_of s.steps ≡ printed_of goes.sees.steps ++ due ∷ []) =
+            subst (λ n. (s : Sees (ls ++ text_of event ∷ []) S n (after x (Prints due))) × (printed_of s.steps ≡ printed_of goes.sees.steps ++ due ∷ [])) where_to
+            (subst (λ e. (s : Sees (ls ++ text_of e ∷ []) S (max r.floor (floor_after x due)) (after x (Prints due))) ×
+            (printed_of s.steps ≡ printed_of goes.sees.steps ++ due ∷ [])) is_event
+            (sees_step ls S r.floor z goes.sees due x new.2 more, sees_step_prints ls S r.floor z goes.sees due x new.2 more)) in (
+              x,
+              record {
+                sees = sees.0;
+                idles = ([], refl);
+                follows = taken (instance_of S) x new.1.follows;
+                kept = goes.kept;
+                ratio = goes.ratio;
+                items = goes.items;
+                steps = kept ∙ kept_more r.keep (printed_of goes.sees.steps) r.steps due goes.steps ∙ ap (kept_steps r.keep) (sym sees.1);
+              },
+            )
+
+        -- it goes on so
+        pub stepped_took : Took w stepped (text_of event) true
+        stepped_took = record {
+          yes = λ _ ls reads.
+              let here : (S : Session) × (z : State) × Goes r ls S z z = here_of r ls going (subst (λ v. Reads v ls) (sym same) reads) in
+              let new = stepped_goes ls here.0 here.1 here.1 here.2 in
+              reads_of stepped (ls ++ text_of event ∷ []) going here.0 (after new.0 (Prints due)) new.1;
+          no = λ e. absurd (let clash : true ≡ false = e in cc);
+        }
+
+        -- what is kept behind it
+        pub stepped_reader : IsReader r → GoesOnFrom r.course d2 → IsReader stepped
+        stepped_reader old on =
+            let it : (S : Session) × (z : State) × (y : State) × Goes r old.lines S z y = goes_of r old.lines going old.reads in
+            let new = stepped_goes old.lines it.0 it.1 it.2 it.3 in
+            record {
+              spare = record {
+                ready = (spare_stays r d2 old.spare on.fewer on.jobs on.room).ready;
+                steps = λ keep. let most : 5 * (d2.jobs + r.spare) + 1 ≤ r.room = (spare_stays r d2 old.spare on.fewer on.jobs on.room).steps keep in
+                    omega (arith, same_room);
+              };
+              lines = old.lines ++ text_of event ∷ [];
+              reads = ahead_of stepped (old.lines ++ text_of event ∷ []) going it.0 (after new.0 (Prints due)) (after new.0 (Prints due)) new.1;
+            }

@@ -1,0 +1,113 @@
+-- Lines that continue no trace, and lines that continue one have a form.
+use Rattle.std.proofs.Common.{◌≡◌, ℕ, ◌+◌, ◌≤◌, ◌<◌, ◌⊎◌, inl, inr, List, [], ◌∷◌, ◌++◌, length, refl, sym, ap, ◌∙◌, subst, true, false, cond, arith}
+use Rattle.std.proofs.lemmas.Bool.{false_from_ne_true}
+use Rattle.dover_model.specs.Fraction.{IsRatio}
+use Rattle.dover_model.specs.declared.events.Event.{Event}
+use Rattle.dover_model.specs.declared.events.Event.TheVariants.{Release, Run, Preempt, Take, Complete, Abandon, End}
+use Rattle.dover_model.specs.Instance.{Rules}
+use Rattle.dover_model.specs.State.{State}
+use Rattle.dover_model.specs.Session.{Session, admitted_jobs}
+use Rattle.dover_model.specs.Text.{header, text_of, version_number}
+use Rattle.dover_model.specs.Verdict.{item_of, begins_trace, ends_with_end}
+use Rattle.dover_model.proofs.Admitting.{Admitted, not_refused}
+use Rattle.dover_model.proofs.NoFeeds.{header_short}
+use Rattle.dover_model.proofs.TraceEnds.{trace_ends}
+use Rattle.dover_model.proofs.WrongStays.{after_end_fails}
+use Rattle.trace_format.specs.declared.lines.TraceLine.{TraceLine}
+use Rattle.trace_format.specs.declared.lines.TraceLine.TheVariants.{Header, Step, Refused}
+use Rattle.trace_format.specs.Form.{HasForm, item_in, trace_text}
+use Rattle.trace_reading.specs.Leading.{PrintsNext}
+use Rattle.trace_reading.specs.Reading.{IsReleaseNext, IsRefusedNext}
+use Rattle.trace_reading.proofs.Only.{only_headers, only_step, continues_only}
+use Rattle.trace_reading.proofs.Waiting.{sees_some_next}
+use Rattle.trace_judge.specs.declared.stage.Stage.{Stage}
+use Rattle.trace_judge.specs.declared.stage.Stage.TheVariants.{Opening, Going, Ended}
+use Rattle.trace_judge.specs.Reads.{Reading, Goes, Ends, Reads, Took, jobs_in, job_lines_in, is_job_item}
+use Rattle.trace_judge.proofs.Forms.{one_form, next_form}
+use Rattle.trace_judge.proofs.Readings.{HereBy, here_of, ends_of, reads_ahead}
+use Rattle.trace_judge.proofs.Taking.{text_item}
+
+-- behind the end no line continues the trace
+ended_fails : (r : Reading) (ls : List (List ℕ)) (S : Session) → Ends r ls S → (l : List ℕ) → begins_trace (ls ++ l ∷ []) ≡ false
+ended_fails r ls S ends l = after_end_fails ls l (ap ends_with_end ends.lines ∙ trace_ends S ends.valid)
+
+-- so each is wrong
+pub ended_took_none : (w : Reading) → w.stage ≡ Ended → (l : List ℕ) → Took w w l false
+ended_took_none w stage l = record {
+  yes = λ e. absurd (let clash : false ≡ true = e in cc);
+  no = λ _ ls reads.
+      let it : (S : Session) × Ends w ls S = ends_of w ls stage (reads_ahead w ls reads) in
+      (ended_fails w ls it.0 it.1 l, reads_ahead w ls reads);
+}
+
+-- a second header is wrong
+pub header_took_none : (w : Reading) → w.stage ≡ Going → (v p q : ℕ) → HasForm (Header v p q) → Took w w (trace_text (Header v p q)) false
+header_took_none w going v p q form = record {
+  yes = λ e. absurd (let clash : false ≡ true = e in cc);
+  no = λ _ ls reads.
+      let here : (S : Session) × (z : State) × Goes w ls S z z = here_of w ls going reads in (
+        false_from_ne_true _ (λ passes.
+            let next : (e : Event) × (y : State) × PrintsNext here.0.rules here.1 e y = sees_some_next ls here.0 w.floor here.1 here.2.sees in
+            let text : trace_text (Header v p q) ≡ text_of next.0 =
+            only_step ls here.0 w.floor here.1 here.2.sees (trace_text (Header v p q)) passes next.0 next.1 next.2
+            (text_item (Header v p q) form refl) in
+            let clash : Header v p q ≡ Step next.0 = one_form (Header v p q) (Step next.0) form
+            (next_form ls here.0 w.floor here.1 here.2.sees next.0 next.1 next.2) text in cc),
+        reads_ahead w ls reads,
+      );
+}
+
+-- the line of a job that may be released has a form
+release_form : (S : Session) (floor : ℕ) (z : State) (l : List ℕ) → IsReleaseNext S floor z l → (x : TraceLine) × HasForm x × (trace_text x ≡ l)
+release_form S floor z l it =
+    let admitted : Admitted S.rules.ratio (admitted_jobs S.items) it.0 = not_refused S.rules.ratio (admitted_jobs S.items) it.0 it.3.admitted in
+    let few : length (admitted_jobs S.items) < 1_000_000 = admitted.count in
+    let window : it.0.release + it.0.work ≤ it.0.deadline = admitted.job.window in
+    let due : it.0.deadline ≤ 1_000_000_000_000 = admitted.job.due in
+    let modest : it.0.value ≤ 1_000_000_000 = admitted.job.modest in (
+      Step (Release (length (admitted_jobs S.items)) it.0),
+      ((omega arith, (omega arith, (omega arith, (omega arith, (omega arith, tt))))), (omega arith, admitted.job)),
+      sym it.1,
+    )
+
+-- so has a refused line that may come next
+refused_form : (S : Session) (floor : ℕ) (z : State) (l : List ℕ) → IsRefusedNext S floor z l → (x : TraceLine) × HasForm x × (trace_text x ≡ l)
+refused_form S floor z l it =
+    let known : it.0.at ≤ 1_000_000_000_000 = it.3.refused.known in (
+      Refused it.0.at it.0.job.release it.0.job.work it.0.job.deadline it.0.job.value it.0.refusal,
+      (omega arith, it.3.refused.numerals),
+      sym it.1,
+    )
+
+-- a line without a form continues no trace
+pub unread_fails : (w : Reading) (l : List ℕ) → ((x : TraceLine) → HasForm x → trace_text x ≡ l → ⊥) → (ls : List (List ℕ)) → Reads w ls
+    → begins_trace (ls ++ l ∷ []) ≡ false
+unread_fails w l none ls reads = false_from_ne_true _ (by_stage w.stage reads) where
+  by_line : (S : Session) (z : State) (goes : Goes w ls S z z) (e : Event) (y : State) → PrintsNext S.rules z e y
+      → (l ≡ text_of e) ⊎ (IsReleaseNext S w.floor z l ⊎ IsRefusedNext S w.floor z l) → ⊥
+  by_line S z goes e y next (inl is) = none (Step e) (next_form ls S w.floor z goes.sees e y next) (sym is)
+  by_line S z goes e y next (inr (inl it)) = let form = release_form S w.floor z l it in none form.0 form.1 form.2
+  by_line S z goes e y next (inr (inr it)) = let form = refused_form S w.floor z l it in none form.0 form.1 form.2
+
+  by_stage : (s : Stage) → HereBy s w ls → begins_trace (ls ++ l ∷ []) ≡ true → ⊥
+  by_stage Opening opens passes =
+      let it : (rules : Rules) × IsRatio rules.ratio × (l ≡ header rules) =
+      only_headers l (subst (λ xs. begins_trace (xs ++ l ∷ []) ≡ true) opens.lines passes) in
+      none (Header (version_number it.0.version) it.0.ratio.p it.0.ratio.q) (header_short it.0 it.1) (sym it.2)
+  by_stage Going here passes =
+      let next : (e : Event) × (y : State) × PrintsNext here.0.rules here.1 e y = sees_some_next ls here.0 w.floor here.1 here.2.sees in
+      by_line here.0 here.1 here.2 next.0 next.1 next.2
+      (continues_only ls here.0 w.floor here.1 here.2.sees next.0 next.1 next.2 l passes)
+  by_stage Ended it passes = let clash : false ≡ true = sym (ended_fails w ls it.0 it.1 l) ∙ passes in cc
+
+-- a line that was read as a release names a job
+pub jobs_counted : (x : TraceLine) (l : List ℕ) → item_of l ≡ item_in x → jobs_in x ≤ job_lines_in l
+jobs_counted (Header v p q) l is = omega arith
+jobs_counted (Step (Release n j)) l is = subst (λ o. 1 ≤ cond (is_job_item o) 1 0) (sym is) (omega arith)
+jobs_counted (Step (Run at n)) l is = omega arith
+jobs_counted (Step (Preempt at stops starts)) l is = omega arith
+jobs_counted (Step (Take at stops starts)) l is = omega arith
+jobs_counted (Step (Complete at n)) l is = omega arith
+jobs_counted (Step (Abandon at n)) l is = omega arith
+jobs_counted (Step (End value)) l is = omega arith
+jobs_counted (Refused at r c d v cause) l is = omega arith

@@ -1,0 +1,26 @@
+use Rattle.std.proofs.Common.{sym, ap, ◌∙◌, subst, Vec, Global}
+use Rattle.dover_model.specs.declared.events.Event.{Event}
+use Rattle.dover_model.proofs.Tests.{never}
+use Rattle.trace_judge.specs.Judging.{Tells, steps_told}
+use Rattle.trace_judge.proofs.Judging.{steps_accepted, steps_left}
+use Rattle.trace_judge.proofs.judge.Judge.close.Goals as goal
+use Rattle.trace_judge.proofs.judge.Judge.close.Goals.{in-Accepted, in_default, then-not-matches, else-not-matches}
+
+pub returns-in_err-verdict-clause-ok : goal.returns-in_err-verdict-clause-ok
+returns-in_err-verdict-clause-ok c text stands = never (c.in_err-verdict.ensures.ok text stands)
+
+pub returns-clause-steps : goal.returns-clause-steps
+returns-clause-steps c text stands = elim c.if-not-matches.branch [
+  | then-not-matches w ↦ elim c.match-matches.branch [
+    | in-Accepted x ↦ never (sym w.if-not-matches.true ∙ x.matches-is)
+    | in_default x ↦ ap (λ (v : Vec Event Global). v.items) w.steps-is ∙ w.clear.ensures.items
+        ∙ steps_left c.args.self text stands c.in_ok-verdict.verdict (c.in_ok-verdict.ensures.tells text stands) x.in_default.not-Accepted
+  ]
+  | else-not-matches w ↦ elim c.match-matches.branch [
+    | in-Accepted x ↦
+        let told = subst (λ v. Tells v text) x.in-Accepted.is (c.in_ok-verdict.ensures.tells text stands) in
+        ap (λ (v : Vec Event Global). v.items) w.steps-is ∙ c.into_steps-steps.ensures
+        ∙ steps_accepted c.args.self text stands told.0 told.1 ∙ ap (steps_told c.args.self.reader.keep) (sym told.1)
+    | in_default x ↦ never (sym x.matches-is ∙ w.if-not-matches.false)
+  ]
+]

@@ -1,0 +1,42 @@
+use Rattle.std.proofs.Common.{◌≡◌, ◌∙◌, sym, ap, subst, refl, vec_capacity, arith, ℕ, true, false}
+use Rattle.trace_judge.specs.Course.{Course}
+use Rattle.trace_judge.specs.Reads.{IsReader}
+use Rattle.trace_judge.specs.declared.reader.Reader.TheInside.{Inside}
+use Rattle.trace_judge.proofs.Readings.{reserve_reader}
+use Rattle.trace_judge.proofs.reader.Reader.reserve.Goals as goal
+use Rattle.trace_judge.proofs.reader.Reader.reserve.Goals.{then-self+in_ok-reserve-2, else-self}
+
+pub invariant_of-self : goal.invariant_of-self
+invariant_of-self c = reserve_reader _ c.self.invariant c.reserve.new.self _ _ _ c.reserve.ensures.same refl
+    (omega (arith, c.self.invariant.spare.ready, c.reserve.ensures.grows)) c.self.invariant.spare.steps
+
+pub invariant_of-self-in_err-reserve-2 : goal.invariant_of-self-in_err-reserve-2
+invariant_of-self-in_err-reserve-2 c = reserve_reader _ c.self.invariant c.reserve.new.self _ _ _ c.reserve.ensures.same
+    c.reserve-then-self.ensures.items (omega (arith, c.self.invariant.spare.ready, c.reserve.ensures.grows))
+    (λ keep. omega (arith, c.self.invariant.spare.steps keep, c.reserve-then-self.ensures.capacity))
+
+-- what is kept in these fields, with so much room
+abbrev KeptIn : ℕ → Inside → Type 0
+KeptIn spare i = IsReader (record {
+  stage = i.stage;
+  course = i.course;
+  kept = i.admission;
+  items = i.items;
+  floor = i.floor;
+  keep = i.keep;
+  steps = i.steps.items;
+  spare = spare;
+  room = vec_capacity i.steps;
+})
+
+pub invariant_of-self-2 : goal.invariant_of-self-2
+invariant_of-self-2 c = elim c.if-self.branch [
+  | then-self+in_ok-reserve-2 w ↦ subst (KeptIn c.args.more) (sym w.self-inside-is)
+      (reserve_reader _ c.self.invariant c.reserve.new.self _ c.args.more _ c.reserve.ensures.same w.reserve-then-self.ensures.items
+      c.in_ok-reserve.ensures.room
+      (λ keep. omega (arith, w.in_ok-reserve-2.ensures.ok, w.jobs.ensures, ap (λ (d : Course). d.jobs) c.reserve.ensures.same)))
+  | else-self w ↦ subst (KeptIn c.args.more) (sym w.self-inside-is)
+      (reserve_reader _ c.self.invariant c.reserve.new.self _ c.args.more _ c.reserve.ensures.same refl
+      c.in_ok-reserve.ensures.room
+      (λ keep. absurd (let clash : false ≡ true = sym w.if-self.false ∙ keep in cc)))
+]

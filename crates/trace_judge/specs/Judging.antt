@@ -1,0 +1,82 @@
+-- What the judge keeps of a text, and what it says of it.
+use Rattle.std.specs.Prelude.{◌≡◌, ◌≤◌, ◌<◌, ◌+◌, ℕ, List, [], ◌++◌, length, Bool, true, false}
+use Rattle.std.specs.List.{filter}
+use Rattle.dover_model.specs.declared.events.Event.{Event}
+use Rattle.std.specs.List.{sum_by}
+use Rattle.dover_model.specs.Bound.{IsWithin, bound}
+use Rattle.dover_model.specs.Fraction.{Fraction}
+use Rattle.dover_model.specs.Schedules.{Meets, worth}
+use Rattle.dover_model.specs.Run.{printed, ran, completed_value}
+use Rattle.dover_model.specs.Session.{Session, IsValidSession, instance_of, admitted_jobs}
+use Rattle.dover_model.specs.Lines.{whole_lines}
+use Rattle.dover_model.specs.Verdict as model
+use Rattle.line_text.specs.Cutting as cutting
+use Rattle.line_text.specs.declared.cutting.Step.{Step}
+use Rattle.trace_judge.specs.declared.verdict.Verdict.{Verdict}
+use Rattle.trace_judge.specs.declared.verdict.Verdict.TheVariants.{Accepted, Wrong, Short}
+use Rattle.trace_judge.specs.declared.judge.Judge.{Judge}
+use Rattle.trace_judge.specs.declared.judge.Found.TheVariants.{Good, Wrong as Bad, NoMemory}
+use Rattle.trace_judge.specs.Reads.{Reads, is_job_line, expected_of, kept_steps}
+
+-- how many whole lines of the text name a job
+abbrev pub jobs_named : List ℕ → ℕ
+jobs_named text = length (filter is_job_line (whole_lines text))
+
+-- no line of the text is wrong, and this is kept of it
+pub record IsGood (j : Judge) (text : List ℕ) : Type 0 where
+  pub cut : cutting.StandsFor j.lines text
+  pub counts : model.rest_counts text ≡ false
+  pub reads : Reads j.reader (whole_lines text)
+
+-- the judge stands for the text: no memory was lacking, and what it has found is so
+abbrev pub StandsFor : Judge → List ℕ → Type 0
+StandsFor j text = elim j.found [
+  | Good ↦ IsGood j text
+  | Bad line due ↦ model.verdict text ≡ model.Wrong line (expected_of due)
+  | NoMemory ↦ ⊥
+]
+
+-- the judge stands for what it stood for with the piece behind it, and has spent room for no more than the jobs that the piece names
+pub record Fed (old new : Judge) (piece : List ℕ) : Type 0 where
+  pub stands : (text : List ℕ) → StandsFor old text → StandsFor new (text ++ piece)
+  pub spare : (text : List ℕ) → StandsFor old text → old.reader.spare + jobs_named text ≤ new.reader.spare + jobs_named (text ++ piece)
+  pub keep : new.reader.keep ≡ old.reader.keep
+
+-- the piece names more jobs than there was room for
+abbrev pub IsOverfed : Judge → List ℕ → Type 0
+IsOverfed j piece = (text : List ℕ) → StandsFor j text → j.reader.spare + jobs_named text < jobs_named (text ++ piece)
+
+-- no line before the last byte was wrong, and this is kept of the bytes before it and cut with it
+pub record IsCut (j : Judge) (step : Step) (before text : List ℕ) : Type 0 where
+  pub cut : cutting.StandsFor j.lines text
+  pub last : j.lines.last ≡ step
+  pub parts : cutting.HasCut step j.lines.line before text
+  pub reads : Reads j.reader (whole_lines before)
+
+-- the session is valid: no schedule of its jobs is worth more than the ratio allows for this value, which the run's own schedule is worth, and
+-- which is that of all jobs where some schedule completes them all
+pub record IsEarned (S : Session) (k : Fraction) (value : ℕ) : Type 0 where
+  pub valid : IsValidSession S
+  pub within : (s : List ℕ) → IsWithin k (worth (instance_of S) s) value
+  pub honest : worth (instance_of S) (ran (instance_of S)) ≡ value
+  pub whole : Meets (instance_of S) → value ≡ sum_by (λ j. j.value) (admitted_jobs S.items)
+
+-- the judge's verdict is that of the text, as the model has it
+abbrev pub Tells : Verdict → List ℕ → Type 0
+Tells (Accepted k version value most jobs) text = (S : Session) × (model.verdict text ≡ model.Accepted S)
+    × (k ≡ S.rules.ratio) × (version ≡ S.rules.version) × (value ≡ completed_value (instance_of S))
+    × (most ≡ bound k value) × (jobs ≡ length (admitted_jobs S.items)) × IsEarned S k value
+Tells (Wrong line due) text = model.verdict text ≡ model.Wrong line (expected_of due)
+Tells (Short lines) text = model.verdict text ≡ model.Short lines
+
+-- the steps of the run that is accepted, where they were kept
+abbrev pub steps_told : Bool → model.Verdict → List Event
+steps_told keep (model.Accepted S) = kept_steps keep (printed (instance_of S))
+steps_told keep (model.Wrong line due) = []
+steps_told keep (model.Short lines) = []
+
+-- a line is wrong
+abbrev pub is_wrong : model.Verdict → Bool
+is_wrong (model.Accepted S) = false
+is_wrong (model.Wrong line due) = true
+is_wrong (model.Short lines) = false

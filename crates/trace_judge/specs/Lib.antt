@@ -1,0 +1,4 @@
+pub mod Parts
+pub mod Course
+pub mod Reads
+pub mod Judging

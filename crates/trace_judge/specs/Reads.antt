@@ -1,0 +1,163 @@
+-- What the judge keeps of the lines of a trace.
+use Rattle.std.specs.Prelude.{◌≡◌, ◌≤◌, ◌+◌, ◌*◌, ℕ, List, [], ◌∷◌, ◌++◌, length, Bool, true, false, if◌then◌else◌, Option, Some, None}
+use Rattle.admission.specs.Kept as admission
+use Rattle.dover_model.specs.JobFacts.{JobFacts}
+use Rattle.dover_model.specs.declared.events.Event.{Event}
+use Rattle.dover_model.specs.State.{State}
+use Rattle.dover_model.specs.Run.{Step, printed, printed_of, completed_value}
+use Rattle.dover_model.specs.Session.{Item, JobItem, Session, instance_of, admitted_jobs, IsValidSession}
+use Rattle.dover_model.specs.Trace.{trace_lines}
+use Rattle.dover_model.specs.Verdict as model
+use Rattle.dover_model.specs.declared.events.Task.{Task}
+use Rattle.dover_model.specs.declared.events.Event.TheVariants.{Release}
+use Rattle.trace_format.specs.declared.lines.TraceLine.{TraceLine}
+use Rattle.trace_format.specs.declared.lines.TraceLine.TheVariants as format
+use Rattle.trace_reading.specs.Leading.{Idles, WaitsUntil}
+use Rattle.trace_reading.specs.Reading.{Sees, MayRelease}
+use Rattle.trace_judge.specs.declared.stage.Stage.{Stage}
+use Rattle.trace_judge.specs.declared.stage.Stage.TheVariants.{Opening, Going, Ended}
+use Rattle.trace_judge.specs.declared.verdict.Expected.{Expected}
+use Rattle.trace_judge.specs.declared.verdict.Expected.TheVariants.{Header, Step as Due, Nothing}
+use Rattle.trace_judge.specs.Course.{Course, Follows, new_course}
+
+-- what is kept of the lines: how far the trace has come, the run and the jobs admitted, how many items there are, the floor,
+-- the steps where they are asked for, and for how many jobs more there is room, and for how many steps in all
+pub record Reading : Type 0 where
+  pub stage : Stage
+  pub course : Course
+  pub kept : admission.Kept
+  pub items : ℕ
+  pub floor : ℕ
+  pub keep : Bool
+  pub steps : List Event
+  pub spare : ℕ
+  pub room : ℕ
+
+-- the steps that are kept
+abbrev pub kept_steps : Bool → List Event → List Event
+kept_steps keep steps = if keep then steps else []
+
+-- no line yet
+pub record Opens (r : Reading) (ls : List (List ℕ)) : Type 0 where
+  pub lines : ls ≡ []
+  pub course : r.course ≡ new_course r.course.rules r.course.room
+  pub items : r.items ≡ 0
+  pub floor : r.floor ≡ 0
+  pub steps : r.steps ≡ []
+
+-- the lines come to the state z of the session's jobs, and the run that is kept has gone on to y
+pub record Goes (r : Reading) (ls : List (List ℕ)) (S : Session) (z y : State) : Type 0 where
+  pub sees : Sees ls S r.floor z
+  pub idles : (xs : List Step) × Idles S.rules z xs y
+  pub follows : Follows r.course (instance_of S) y
+  pub kept : admission.StandsFor r.kept (admitted_jobs S.items)
+  pub ratio : r.kept.ratio ≡ S.rules.ratio
+  pub items : r.items ≡ length S.items
+  pub steps : r.steps ≡ kept_steps r.keep (printed_of sees.steps)
+
+-- the lines are a whole trace
+pub record Ends (r : Reading) (ls : List (List ℕ)) (S : Session) : Type 0 where
+  pub valid : IsValidSession S
+  pub lines : ls ≡ trace_lines S
+  pub rules : S.rules ≡ r.course.rules
+  pub value : completed_value (instance_of S) ≡ r.course.done
+  pub jobs : length (admitted_jobs S.items) ≡ r.course.jobs
+  pub steps : r.steps ≡ kept_steps r.keep (printed (instance_of S))
+
+-- this is kept of these lines, and the run may have gone on behind them
+abbrev pub ReadsAhead : Reading → List (List ℕ) → Type 0
+ReadsAhead r ls = elim r.stage [
+  | Opening ↦ Opens r ls
+  | Going ↦ (S : Session) × (z : State) × (y : State) × Goes r ls S z y
+  | Ended ↦ (S : Session) × Ends r ls S
+]
+
+-- this is kept of these lines
+abbrev pub Reads : Reading → List (List ℕ) → Type 0
+Reads r ls = elim r.stage [
+  | Opening ↦ Opens r ls
+  | Going ↦ (S : Session) × (z : State) × Goes r ls S z z
+  | Ended ↦ (S : Session) × Ends r ls S
+]
+
+-- there is room for so many jobs more, and for their steps where they are kept
+pub record HasSpare (r : Reading) : Type 0 where
+  pub ready : length r.course.ready + r.spare ≤ r.course.room
+  pub steps : r.keep ≡ true → 5 * (r.course.jobs + r.spare) + 1 ≤ r.room
+
+-- it is kept of some lines
+pub record IsReader (r : Reading) : Type 0 where
+  pub spare : HasSpare r
+  pub lines : List (List ℕ)
+  pub reads : ReadsAhead r lines
+
+-- what is due, as the model has it
+abbrev pub expected_of : Expected → model.Expected
+expected_of Header = model.Header
+expected_of (Due e) = model.Step e
+expected_of Nothing = model.Nothing
+
+-- ---- one line more
+
+-- with the line the trace goes on, or it doesn't, and the lines before it are kept
+pub record Took (old new : Reading) (line : List ℕ) (good : Bool) : Type 0 where
+  pub yes : good ≡ true → (ls : List (List ℕ)) → Reads old ls → Reads new (ls ++ line ∷ [])
+  pub no : good ≡ false → (ls : List (List ℕ)) → Reads old ls → (model.begins_trace (ls ++ line ∷ []) ≡ false) × ReadsAhead new ls
+
+-- with the line the trace goes on, or it doesn't, and this is due
+abbrev pub TookLine : Reading → Reading → List ℕ → Option Expected → Type 0
+TookLine old new line None = (ls : List (List ℕ)) → Reads old ls → Reads new (ls ++ line ∷ [])
+TookLine old new line (Some due) = (ls : List (List ℕ)) → Reads old ls
+    → (model.begins_trace (ls ++ line ∷ []) ≡ false) × (model.expected_after ls ≡ expected_of due)
+
+-- what is kept now was kept of the same lines
+abbrev pub StaysAhead : Reading → Reading → Type 0
+StaysAhead old new = (ls : List (List ℕ)) → ReadsAhead old ls → ReadsAhead new ls
+
+-- the state of these tasks at a tick
+abbrev pub at_tick : ℕ → List Task → State
+at_tick tick tasks = record { clock = tick; tasks = tasks }
+
+-- nothing is printed before the barrier of the tick, up to which the run has gone on
+pub record Waited (r : Reading) (tick : ℕ) (ls : List (List ℕ)) (S : Session) (z y : State) : Type 0 where
+  pub goes : Goes r ls S z y
+  pub no_fall : r.floor ≤ tick
+  pub low : r.course.clock ≤ tick
+  pub waits : WaitsUntil S.rules tick z (at_tick tick y.tasks)
+
+-- the job may be released next
+pub record CanRelease (r : Reading) (j : JobFacts) (ls : List (List ℕ)) : Type 0 where
+  pub session : Session
+  pub from : State
+  pub state : State
+  pub waited : Waited r j.release ls session from state
+  pub may : MayRelease session r.floor from j (at_tick j.release state.tasks)
+
+-- the item is a job
+abbrev pub is_job_item : Option Item → Bool
+is_job_item (Some (JobItem j)) = true
+is_job_item _ = false
+
+-- the line names a job
+abbrev pub is_job_line : List ℕ → Bool
+is_job_line line = is_job_item (model.item_of line)
+
+-- one for a line that names a job
+abbrev pub job_lines_in : List ℕ → ℕ
+job_lines_in line = if is_job_line line then 1 else 0
+
+-- the same steps are asked for, and there is as much spare room
+pub record IsUnchangedFor (old new : Reading) : Type 0 where
+  pub keep : new.keep ≡ old.keep
+  pub spare : new.spare ≡ old.spare
+
+-- one for the release of a job
+abbrev pub releases_in : Event → ℕ
+releases_in (Release n j) = 1
+releases_in _ = 0
+
+-- one for the line of a release
+abbrev pub jobs_in : TraceLine → ℕ
+jobs_in (format.Header v p q) = 0
+jobs_in (format.Step e) = releases_in e
+jobs_in (format.Refused at r c d v cause) = 0

@@ -1,0 +1,253 @@
+//! The judge of a text.
+ghost use Rattle.std.specs.Prelude.{◌≡◌, ◌≤◌, ◌<◌, ◌+◌, ◌∷◌, [], ℕ, List, false, true, Bool, IfOk, OnOk, OnErr, IsOk, ◌≢◌, ◌↔◌, IsTrue, length};
+ghost use Rattle.dover_model.specs.Verdict as model;
+ghost use Rattle.line_text.specs.declared.cutting.Step.TheVariants.{More, Line, TooLong};
+ghost use Rattle.trace_judge.specs.declared.judge.Found.TheVariants.{Good, NoMemory};
+ghost use Rattle.trace_judge.specs.Reads.{job_lines_in};
+ghost use Rattle.trace_judge.specs.Judging.{StandsFor, Fed, IsOverfed, IsCut, Tells, steps_told, is_wrong};
+
+use crate::reader::Reader;
+use crate::stage::Stage;
+use crate::verdict::{Expected, Verdict};
+use dover_model::{Event, Memory};
+use line_text::{Lines, Step};
+use std::alloc::Global;
+
+/// What was found of the text so far.
+#[derive(Clone, Copy, Debug, PartialEq, Eq)]
+enum Found {
+    /// No line is wrong.
+    Good,
+    /// This line, counted from 1, is the first that is wrong.
+    Wrong { line: u64, expected: Expected },
+    /// There was no memory.
+    NoMemory,
+}
+
+/// Judges a text that comes in pieces, as a trace. It keeps one line of it, the jobs that aren't over, and the steps of the run where they are
+/// asked for.
+#[derive(Drop)]
+pub struct Judge {
+    lines: Lines,
+    reader: Reader,
+    found: Found,
+}
+
+/// What a text is, and the steps of its run where it is accepted and they were kept.
+#[derive(Drop)]
+pub struct Closed {
+    pub verdict: Verdict,
+    pub steps: Vec<Event>,
+}
+
+impl Judge {
+    /// No text yet. Where `keep` is true, the steps of the run are kept.
+    ///
+    /// # Errors
+    ///
+    /// `Memory` where there is none for the first step.
+    pub fn new(alloc: Global, keep: bool) -> Result<Judge, Memory>
+        ensures stands { IfOk result (λ judge. StandsFor judge []) }
+        ensures keep { IfOk result (λ judge. judge.reader.keep ≡ keep) }
+    {
+        Ok(Judge {
+            lines: Lines::new(),
+            reader: Reader::new(alloc, keep)?,
+            found: Found::Good,
+        })
+    }
+
+    /// Room for so many jobs more, with their steps where they are kept. On `Memory` all is as before.
+    ///
+    /// # Errors
+    ///
+    /// `Memory` where there is none, or `feed` answered it before.
+    pub fn reserve(&mut self, more: u32) -> Result<(), Memory>
+        ensures stands { (text : List ℕ) → StandsFor self.old text → StandsFor self.new text }
+        ensures found { self.new.found ≡ self.old.found }
+        ensures keep { self.new.reader.keep ≡ self.old.reader.keep }
+        ensures ok { OnOk result (more ≤ self.new.reader.spare) }
+        ensures grows { self.old.reader.spare ≤ self.new.reader.spare }
+        ensures err { OnErr result (self.new.reader.spare ≡ self.old.reader.spare) }
+        ensures enough { (text : List ℕ) → StandsFor self.old text → more ≤ self.old.reader.spare → IsOk result }
+        ensures failed { OnOk result (self.old.found ≢ NoMemory) }
+    {
+        if self.has_failed() {
+            return Err(Memory);
+        }
+        self.reader.reserve(more)
+    }
+
+    /// For how many jobs more there is room.
+    pub fn spare(&self) -> u32
+        ensures { result ≡ self.now.reader.spare }
+    {
+        self.reader.spare()
+    }
+
+    // Some `feed` found no memory.
+    fn has_failed(&self) -> bool
+        ensures { IsTrue result ↔ (self.now.found ≡ NoMemory) }
+    {
+        matches!(self.found, Found::NoMemory)
+    }
+
+    // The line goes on. Nothing may stand behind a trace that has ended.
+    fn go_on(&mut self)
+        requires good { self.old.found ≡ Good }
+        requires some { 0 < length self.old.lines.line }
+        ensures stands { (before text : List ℕ) → IsCut self.old More before text → StandsFor self.new text }
+        ensures reader { self.new.reader ≡ self.old.reader }
+    {
+        if matches!(self.reader.stage(), Stage::Ended) {
+            self.found = Found::Wrong {
+                line: self.lines.count().saturating_add(1),
+                expected: Expected::Nothing,
+            };
+        }
+    }
+
+    // The line is too long.
+    fn overrun(&mut self)
+        requires good { self.old.found ≡ Good }
+        ensures stands { (before text : List ℕ) → IsCut self.old TooLong before text → StandsFor self.new text }
+        ensures spare { self.new.reader.spare ≡ self.old.reader.spare }
+        ensures keep { self.new.reader.keep ≡ self.old.reader.keep }
+    {
+        let expected = self.reader.due();
+        self.found = Found::Wrong {
+            line: self.lines.count().saturating_add(1),
+            expected,
+        };
+    }
+
+    // The line has ended.
+    fn take_line(&mut self) -> Result<(), Memory>
+        requires good { self.old.found ≡ Good }
+        requires line { self.old.lines.last ≢ More }
+        ensures stands { OnOk result ((before text : List ℕ) → IsCut self.old Line before text → StandsFor self.new text) }
+        ensures spare { self.old.reader.spare ≤ self.new.reader.spare + job_lines_in self.old.lines.line }
+        ensures keep { self.new.reader.keep ≡ self.old.reader.keep }
+        ensures room { OnErr result (self.old.reader.spare < job_lines_in self.old.lines.line) }
+        ensures failed { OnErr result (self.new.found ≡ NoMemory) }
+    {
+        match self.reader.take(self.lines.line()) {
+            Ok(None) => Ok(()),
+            Ok(Some(expected)) => {
+                self.found = Found::Wrong {
+                    line: self.lines.count(),
+                    expected,
+                };
+                Ok(())
+            }
+            Err(error) => {
+                self.found = Found::NoMemory;
+                Err(error)
+            }
+        }
+    }
+
+    // The next byte, where no line is wrong so far.
+    fn take_byte(&mut self, byte: u8) -> Result<(), Memory>
+        requires good { self.old.found ≡ Good }
+        ensures fed { OnOk result (Fed self.old self.new (byte ∷ [])) }
+        ensures room { OnErr result (IsOverfed self.old (byte ∷ [])) }
+        ensures failed { OnErr result (self.new.found ≡ NoMemory) }
+    {
+        match self.lines.push(byte) {
+            Step::Line => return self.take_line(),
+            Step::More => self.go_on(),
+            Step::TooLong => self.overrun(),
+        }
+        Ok(())
+    }
+
+    // The next byte. Behind a wrong line it is disregarded.
+    fn take(&mut self, byte: u8) -> Result<(), Memory>
+        ensures fed { OnOk result (Fed self.old self.new (byte ∷ [])) }
+        ensures room { OnErr result (IsOverfed self.old (byte ∷ [])) }
+        ensures failed { OnErr result (self.new.found ≡ NoMemory) }
+    {
+        match self.found {
+            Found::Good => self.take_byte(byte),
+            Found::Wrong { .. } => Ok(()),
+            Found::NoMemory => Err(Memory),
+        }
+    }
+
+    /// The text goes on by the piece, however it is cut. Behind a wrong line all is disregarded.
+    ///
+    /// # Errors
+    ///
+    /// `Memory` where there is none for a job that the piece names, or `feed` answered it before.
+    pub fn feed(&mut self, piece: &[u8]) -> Result<(), Memory>
+        ensures fed { OnOk result (Fed self.old self.new piece.now) }
+        ensures room { OnErr result (IsOverfed self.old piece.now) }
+        ensures failed { OnErr result (self.new.found ≡ NoMemory) }
+        ensures stays { OnOk result (self.old.found ≢ NoMemory) }
+    {
+        if self.has_failed() {
+            return Err(Memory);
+        }
+        for byte in piece {
+            self.take(*byte)?;
+        }
+        Ok(())
+    }
+
+    /// A line of the text so far is wrong: whatever follows, the verdict stays the same.
+    pub fn decided(&self) -> bool
+        ensures { (text : List ℕ) → StandsFor self.now text → result ≡ is_wrong (model.verdict text) }
+    {
+        matches!(self.found, Found::Wrong { .. })
+    }
+
+    // What the text so far is.
+    fn verdict(&self) -> Result<Verdict, Memory>
+        ensures tells { IfOk result (λ verdict. (text : List ℕ) → StandsFor self.now text → Tells verdict text) }
+        ensures ok { (text : List ℕ) → StandsFor self.now text → IsOk result }
+        ensures failed { OnOk result (self.now.found ≢ NoMemory) }
+    {
+        match self.found {
+            Found::NoMemory => Err(Memory),
+            Found::Wrong { line, expected } => Ok(Verdict::Wrong { line, expected }),
+            Found::Good => Ok(self.good()),
+        }
+    }
+
+    // What the text so far is, of which no line is wrong.
+    fn good(&self) -> Verdict
+        requires { self.now.found ≡ Good }
+        ensures { (text : List ℕ) → StandsFor self.now text → Tells result text }
+    {
+        match self.reader.stage() {
+            Stage::Ended => self.reader.accepted(),
+            Stage::Opening => Verdict::Short {
+                lines: self.lines.count(),
+            },
+            Stage::Going => Verdict::Short {
+                lines: self.lines.count(),
+            },
+        }
+    }
+
+    /// What the text is. It takes no memory.
+    ///
+    /// # Errors
+    ///
+    /// `Memory` where `feed` answered it.
+    pub fn close(self) -> Result<Closed, Memory>
+        ensures tells { IfOk result (λ closed. (text : List ℕ) → StandsFor self text → Tells closed.verdict text) }
+        ensures steps { IfOk result (λ closed. (text : List ℕ) → StandsFor self text →
+            closed.steps.items ≡ steps_told self.reader.keep (model.verdict text)) }
+        ensures ok { (text : List ℕ) → StandsFor self text → IsOk result }
+        ensures failed { OnOk result (self.found ≢ NoMemory) }
+    {
+        let verdict = self.verdict()?;
+        let mut steps = self.reader.into_steps();
+        if !matches!(verdict, Verdict::Accepted { .. }) {
+            steps.clear();
+        }
+        Ok(Closed { verdict, steps })
+    }
+}

@@ -1,0 +1,541 @@
+//! What the judge keeps of the lines of a trace.
+ghost use Rattle.std.specs.Prelude.{◌≡◌, ◌≤◌, ◌<◌, ◌+◌, ◌∷◌, ◌++◌, ◌↔◌, ℕ, List, [], Bool, true, false, IsTrue, IfOk, OnOk, OnErr, IsOk, IfSome, IfNone, Some, None, vec_len, vec_capacity, length, if◌then◌else◌};
+ghost use Rattle.dover_model.specs.Limits.{last_tick, most_items};
+ghost use Rattle.dover_model.specs.declared.events.Version.TheVariants.{Two};
+ghost use Rattle.dover_model.specs.Fraction.{IsRatio};
+ghost use Rattle.dover_model.specs.Step.{Prints};
+ghost use Rattle.dover_model.specs.Run.{is_end};
+ghost use Rattle.dover_model.specs.Settled.{is_late};
+ghost use Rattle.dover_model.specs.Verdict.{version_of_number};
+
+use crate::course::Course;
+use crate::stage::Stage;
+use crate::verdict::{Expected, Verdict};
+use admission::Admission;
+use dover_model::jobs::LAST_TICK;
+use dover_model::ratios::{MOST_P, MOST_Q};
+use dover_model::{Event, Job, Memory, Ratio, Refusal, Version};
+use root_compare::bound;
+use std::alloc::Global;
+use std::marker::Model;
+use trace_format::{TraceLine, read_trace_line};
+
+/// The greatest number of items of a session.
+const MOST_ITEMS: u32 = 3_999_998;
+
+/// The lines of a trace so far, and the run that they are read against.
+#[derive(Drop)]
+pub struct Reader {
+    stage: Stage,
+    course: Course,
+    admission: Admission,
+    items: u32,
+    floor: u64,
+    keep: bool,
+    steps: Vec<Event>,
+    spare: u32,
+}
+
+impl Model for Reader {
+    ghost use Rattle.std.specs.Prelude.{vec_capacity};
+    ghost use Rattle.trace_judge.specs.Reads as reads;
+
+    ghost Value = { reads.Reading };
+
+    ghost view = { λ r. record {
+      stage = r.stage;
+      course = r.course;
+      kept = r.admission;
+      items = r.items;
+      floor = r.floor;
+      keep = r.keep;
+      steps = r.steps.items;
+      spare = r.spare;
+      room = vec_capacity r.steps;
+    } };
+
+    ghost invariant = { λ r. reads.IsReader (record {
+      stage = r.stage;
+      course = r.course;
+      kept = r.admission;
+      items = r.items;
+      floor = r.floor;
+      keep = r.keep;
+      steps = r.steps.items;
+      spare = r.spare;
+      room = vec_capacity r.steps;
+    }) };
+}
+
+impl Reader {
+    ghost use Rattle.dover_model.specs.State.{State};
+    ghost use Rattle.dover_model.specs.Session.{Session};
+    ghost use Rattle.dover_model.specs.Verdict.{expected_after};
+    ghost use Rattle.trace_judge.specs.declared.stage.Stage.TheVariants.{Opening, Going, Ended};
+    ghost use Rattle.trace_format.specs.Form.{HasForm, item_in, trace_text};
+    ghost use Rattle.trace_format.specs.declared.lines.TraceLine.TheVariants.{Header, Step, Refused};
+    ghost use Rattle.dover_model.specs.declared.events.Event.TheVariants.{Release};
+    ghost use Rattle.dover_model.specs.JobFacts.{JobFacts, job_of_numbers};
+    ghost use Rattle.dover_model.specs.Admission.{refusal_of};
+    ghost use Rattle.dover_model.specs.Text.{text_of};
+    ghost use Rattle.admission.specs.Kept.{StandsFor, HasRoom};
+    ghost use Rattle.dover_model.specs.Bound.{bound};
+    ghost use Rattle.dover_model.specs.Run.{completed_value};
+    ghost use Rattle.dover_model.specs.Session.{instance_of, admitted_jobs};
+    ghost use Rattle.trace_judge.specs.declared.verdict.Verdict.TheVariants.{Accepted};
+    ghost use Rattle.trace_reading.specs.Leading.{WaitsUntil};
+    ghost use Rattle.trace_judge.specs.Course.{GoesOnFrom};
+    ghost use Rattle.trace_judge.specs.Reads.{Reads, ReadsAhead, StaysAhead, Goes, Ends, Waited, CanRelease, Took, TookLine, IsUnchangedFor, expected_of, releases_in, jobs_in, job_lines_in};
+
+    /// No line. Where `keep` is true, the steps of the run are kept.
+    pub fn new(alloc: Global, keep: bool) -> Result<Reader, Memory>
+        ensures stage { IfOk result (λ reader. reader.stage ≡ Opening) }
+        ensures reads { IfOk result (λ reader. Reads reader []) }
+        ensures keep { IfOk result (λ reader. reader.keep ≡ keep) }
+    {
+        let one = Ratio::new(1, 1).unwrap();
+        let mut steps = Vec::new(alloc);
+        if keep {
+            steps.reserve(1)?;
+        }
+        Ok(Reader {
+            stage: Stage::Opening,
+            course: Course::new(alloc, Version::One, one),
+            admission: Admission::new(one),
+            items: 0,
+            floor: 0,
+            keep,
+            steps,
+            spare: 0,
+        })
+    }
+
+    /// Room for so many jobs more, and for their steps where they are kept.
+    pub fn reserve(&mut self, more: u32) -> Result<(), Memory>
+        ensures same { self.new ≡ record self.old {
+          course = record self.old.course { room = self.new.course.room };
+          spare = self.new.spare;
+          room = self.new.room;
+        } }
+        ensures ok { OnOk result (more ≤ self.new.spare) }
+        ensures grows { self.old.spare ≤ self.new.spare }
+        ensures err { OnErr result (self.new.spare ≡ self.old.spare) }
+        ensures enough { more ≤ self.old.spare → IsOk result }
+    {
+        if more <= self.spare {
+            return Ok(());
+        }
+        self.course.reserve(more as usize)?;
+        if self.keep {
+            let most = 5 * (self.course.jobs() as usize + more as usize) + 1;
+            self.steps.reserve(most)?;
+        }
+        self.spare = more;
+        Ok(())
+    }
+
+    /// How many jobs more there is room for.
+    pub fn spare(&self) -> u32
+        ensures { result ≡ self.now.spare }
+    {
+        self.spare
+    }
+
+    /// How far the trace has come.
+    pub fn stage(&self) -> Stage
+        ensures { result ≡ self.now.stage }
+    {
+        self.stage
+    }
+
+    /// What is due after the lines.
+    pub fn due(&mut self) -> Expected
+        ensures due { (ls : List (List ℕ)) → ReadsAhead self.old ls → expected_after ls ≡ expected_of result }
+        ensures ahead { StaysAhead self.old self.new }
+        ensures kept { self.new ≡ record self.old { course = self.new.course } }
+    {
+        match self.stage {
+            Stage::Opening => Expected::Header,
+            Stage::Going => Expected::Step(self.course.upcoming()),
+            Stage::Ended => Expected::Nothing,
+        }
+    }
+
+    /// The verdict of a whole trace.
+    pub fn accepted(&self) -> Verdict
+        ensures { (ls : List (List ℕ)) (S : Session) → Ends self.now ls S → result ≡ Accepted S.rules.ratio S.rules.version
+            (completed_value (instance_of S)) (bound S.rules.ratio (completed_value (instance_of S))) (length (admitted_jobs S.items)) }
+    {
+        let (ratio, value) = (self.course.ratio(), self.course.value());
+        Verdict::Accepted {
+            ratio,
+            version: self.course.version(),
+            value,
+            bound: bound(value, ratio),
+            jobs: self.course.jobs(),
+        }
+    }
+
+    /// The steps that were kept.
+    pub fn into_steps(self) -> Vec<Event>
+        ensures { result.items ≡ self.steps }
+    {
+        self.steps
+    }
+
+    // The header comes first.
+    fn open_with(&mut self, version: u64, p: u64, q: u64) -> bool
+        requires opening { self.old.stage ≡ Opening }
+        requires form { HasForm (Header version p q) }
+        ensures took { Took self.old self.new (trace_text (Header version p q)) result }
+        ensures kept { IsUnchangedFor self.old self.new }
+    {
+        let Some(version) = version_of(version) else {
+            return false;
+        };
+        let Some(ratio) = ratio_of(p, q) else {
+            return false;
+        };
+        self.course.declare(version, ratio);
+        self.admission = Admission::new(ratio);
+        self.stage = Stage::Going;
+        true
+    }
+
+    // The next line is that of the printed step that is due.
+    fn follow(&mut self, event: &Event) -> bool
+        requires going { self.old.stage ≡ Going }
+        requires form { HasForm (Step event.now) }
+        requires none { item_in (Step event.now) ≡ None }
+        ensures took { Took self.old self.new (trace_text (Step event.now)) result }
+        ensures kept { IsUnchangedFor self.old self.new }
+    {
+        let due = self.course.upcoming();
+        if !is_same(&due, event) {
+            return false;
+        }
+        if is_end(&due) {
+            self.stage = Stage::Ended;
+            keep_step(self.keep, &mut self.steps, due);
+            return true;
+        }
+        let floor = floor_after(&due, self.course.clock());
+        self.floor = self.floor.max(floor);
+        self.course.take(&due);
+        keep_step(self.keep, &mut self.steps, due);
+        true
+    }
+
+    // Nothing is printed before the barrier of the tick, up to which the run goes on.
+    fn waits_until(&mut self, tick: u64) -> bool
+        requires going { self.old.stage ≡ Going }
+        requires known { tick ≤ last_tick }
+        ensures yes { result ≡ true → (ls : List (List ℕ)) (S : Session) (z y : State) → Goes self.old ls S z y →
+            (x : State) × Waited self.new tick ls S z x }
+        ensures no { result ≡ false → self.old.floor ≤ tick → (ls : List (List ℕ)) (S : Session) (z : State) → Goes self.old ls S z z →
+            (x : State) → WaitsUntil S.rules tick z x → ⊥ }
+        ensures ahead { StaysAhead self.old self.new }
+        ensures kept { self.new ≡ record self.old { course = self.new.course } }
+        ensures course { GoesOnFrom self.old.course self.new.course }
+    {
+        if self.floor > tick {
+            return false;
+        }
+        if self.course.clock() > tick {
+            return false;
+        }
+        self.course.settle(tick).is_none()
+    }
+
+    // The release of this job may come next, as far as the jobs before it go.
+    fn may_admit(&self, number: u32, job: &Job) -> bool
+        ensures yes { result ≡ true → (number ≡ self.now.course.jobs) × (self.now.items < most_items) × HasRoom self.now.kept job.now }
+        ensures admits { result ≡ true → (jobs : List JobFacts) → StandsFor self.now.kept jobs → refusal_of self.now.kept.ratio jobs job.now ≡ None }
+        ensures no { result ≡ false → number ≡ self.now.course.jobs → self.now.items < most_items → (jobs : List JobFacts) →
+            StandsFor self.now.kept jobs → refusal_of self.now.kept.ratio jobs job.now ≡ None → ⊥ }
+    {
+        if number != self.course.jobs() {
+            return false;
+        }
+        if self.items >= MOST_ITEMS {
+            return false;
+        }
+        let checked = self
+            .admission
+            .check(job.release(), job.work(), job.deadline(), job.value());
+        checked.is_ok()
+    }
+
+    // Takes the release of the job.
+    fn admit(&mut self, job: Job)
+        requires going { self.old.stage ≡ Going }
+        requires can { (ls : List (List ℕ)) × CanRelease self.old job ls }
+        requires room { HasRoom self.old.kept job }
+        requires spare { 0 < self.old.spare }
+        ensures reads { (ls : List (List ℕ)) → CanRelease self.old job ls → Reads self.new (ls ++ text_of (Release self.old.course.jobs job) ∷ []) }
+        ensures keep { self.new.keep ≡ self.old.keep }
+        ensures spare { self.new.spare + 1 ≡ self.old.spare }
+    {
+        let number = self.course.jobs();
+        self.course.release(job);
+        self.admission.admit(job);
+        self.items += 1;
+        self.floor = job.release();
+        self.spare -= 1;
+        keep_step(self.keep, &mut self.steps, Event::Release { number, job });
+    }
+
+    // The next line is that of a release.
+    fn take_release(&mut self, number: u32, job: Job) -> Result<bool, Memory>
+        requires going { self.old.stage ≡ Going }
+        requires form { HasForm (Step (Release number job)) }
+        ensures took { IfOk result (Took self.old self.new (text_of (Release number job))) }
+        ensures room { 0 < self.old.spare → IsOk result }
+        ensures spare { self.old.spare ≤ self.new.spare + 1 }
+        ensures keep { self.new.keep ≡ self.old.keep }
+    {
+        let _ = &self.stage;
+        if !self.may_admit(number, &job) {
+            return Ok(false);
+        }
+        if !self.waits_until(job.release()) {
+            return Ok(false);
+        }
+        self.reserve(1)?;
+        self.admit(job);
+        Ok(true)
+    }
+
+    // The refused line may come next, as far as the jobs before it go.
+    fn may_refuse(
+        &self,
+        at: u64,
+        release: u64,
+        work: u64,
+        deadline: u64,
+        value: u64,
+        cause: Refusal,
+    ) -> bool
+        ensures yes { result ≡ true → (self.now.course.rules.version ≡ Two) × (at ≤ last_tick) × (at ≤ release) × (self.now.items < most_items) }
+        ensures refuses { result ≡ true → (jobs : List JobFacts) → StandsFor self.now.kept jobs →
+            refusal_of self.now.kept.ratio jobs (job_of_numbers release work deadline value) ≡ Some cause }
+        ensures no { result ≡ false → self.now.course.rules.version ≡ Two → at ≤ last_tick → at ≤ release → self.now.items < most_items →
+            (jobs : List JobFacts) → StandsFor self.now.kept jobs →
+            refusal_of self.now.kept.ratio jobs (job_of_numbers release work deadline value) ≡ Some cause → ⊥ }
+    {
+        if !is_two(self.course.version()) {
+            return false;
+        }
+        if at > LAST_TICK {
+            return false;
+        }
+        if at > release {
+            return false;
+        }
+        if self.items >= MOST_ITEMS {
+            return false;
+        }
+        match self.admission.check(release, work, deadline, value) {
+            Ok(_) => false,
+            Err(refused) => is_same_cause(refused.refusal(), cause),
+        }
+    }
+
+    // The next line is that of a refused job line.
+    fn refuse(
+        &mut self,
+        at: u64,
+        release: u64,
+        work: u64,
+        deadline: u64,
+        value: u64,
+        cause: Refusal,
+    ) -> bool
+        requires going { self.old.stage ≡ Going }
+        requires form { HasForm (Refused at release work deadline value cause) }
+        ensures took { Took self.old self.new (trace_text (Refused at release work deadline value cause)) result }
+        ensures kept { IsUnchangedFor self.old self.new }
+    {
+        let _ = &self.stage;
+        if !self.may_refuse(at, release, work, deadline, value, cause) {
+            return false;
+        }
+        if !self.waits_until(at) {
+            return false;
+        }
+        self.items += 1;
+        self.floor = at;
+        true
+    }
+
+    // The first line: a header.
+    fn take_first(&mut self, read: &TraceLine) -> bool
+        requires opening { self.old.stage ≡ Opening }
+        requires form { HasForm read.now }
+        ensures took { Took self.old self.new (trace_text read.now) result }
+        ensures kept { IsUnchangedFor self.old self.new }
+    {
+        match read {
+            TraceLine::Header { version, p, q } => self.open_with(*version, *p, *q),
+            TraceLine::Step(_) => false,
+            TraceLine::Refused { .. } => false,
+        }
+    }
+
+    // A line of a step.
+    fn take_step(&mut self, event: &Event) -> Result<bool, Memory>
+        requires going { self.old.stage ≡ Going }
+        requires form { HasForm (Step event.now) }
+        ensures took { IfOk result (Took self.old self.new (text_of event.now)) }
+        ensures room { releases_in event.now ≤ self.old.spare → IsOk result }
+        ensures spare { self.old.spare ≤ self.new.spare + releases_in event.now }
+        ensures keep { self.new.keep ≡ self.old.keep }
+    {
+        match event {
+            Event::Release { number, job } => self.take_release(*number, *job),
+            Event::Run { .. } => Ok(self.follow(event)),
+            Event::Preempt { .. } => Ok(self.follow(event)),
+            Event::Take { .. } => Ok(self.follow(event)),
+            Event::Complete { .. } => Ok(self.follow(event)),
+            Event::Abandon { .. } => Ok(self.follow(event)),
+            Event::End { .. } => Ok(self.follow(event)),
+        }
+    }
+
+    // A line behind the header.
+    fn take_next(&mut self, read: &TraceLine) -> Result<bool, Memory>
+        requires going { self.old.stage ≡ Going }
+        requires form { HasForm read.now }
+        ensures took { IfOk result (Took self.old self.new (trace_text read.now)) }
+        ensures room { jobs_in read.now ≤ self.old.spare → IsOk result }
+        ensures spare { self.old.spare ≤ self.new.spare + jobs_in read.now }
+        ensures keep { self.new.keep ≡ self.old.keep }
+    {
+        match read {
+            TraceLine::Header { .. } => Ok(false),
+            TraceLine::Step(event) => self.take_step(event),
+            TraceLine::Refused {
+                at,
+                release,
+                work,
+                deadline,
+                value,
+                cause,
+            } => { Ok(self.refuse(*at, *release, *work, *deadline, *value, *cause)) }
+        }
+    }
+
+    // A line that was read.
+    fn take_read(&mut self, read: &TraceLine) -> Result<bool, Memory>
+        requires { HasForm read.now }
+        ensures took { IfOk result (Took self.old self.new (trace_text read.now)) }
+        ensures room { jobs_in read.now ≤ self.old.spare → IsOk result }
+        ensures spare { self.old.spare ≤ self.new.spare + jobs_in read.now }
+        ensures keep { self.new.keep ≡ self.old.keep }
+    {
+        match self.stage {
+            Stage::Opening => Ok(self.take_first(read)),
+            Stage::Going => self.take_next(read),
+            Stage::Ended => Ok(false),
+        }
+    }
+
+    /// The next line. Where it doesn't go on as a trace does, this gives what is due in its place, and further lines aren't to be taken.
+    pub fn take(&mut self, line: &[u8]) -> Result<Option<Expected>, Memory>
+        ensures took { IfOk result (TookLine self.old self.new line.now) }
+        ensures room { job_lines_in line.now ≤ self.old.spare → IsOk result }
+        ensures spare { self.old.spare ≤ self.new.spare + job_lines_in line.now }
+        ensures keep { self.new.keep ≡ self.old.keep }
+    {
+        let Ok(read) = read_trace_line(line) else {
+            return Ok(Some(self.due()));
+        };
+        if self.take_read(&read)? {
+            return Ok(None);
+        }
+        Ok(Some(self.due()))
+    }
+}
+
+// The version is Two.
+fn is_two(version: Version) -> bool
+    ensures { IsTrue result ↔ (version ≡ Two) }
+{
+    match version {
+        Version::One => false,
+        Version::Two => true,
+    }
+}
+
+// Both are the same cause.
+fn is_same_cause(a: Refusal, b: Refusal) -> bool
+    ensures { IsTrue result ↔ (a ≡ b) }
+{
+    a == b
+}
+
+// The version of a header's number.
+fn version_of(number: u64) -> Option<Version>
+    ensures { result ≡ version_of_number number }
+{
+    match number {
+        1 => Some(Version::One),
+        2 => Some(Version::Two),
+        _ => None,
+    }
+}
+
+// The ratio of a header's numbers.
+fn ratio_of(p: u64, q: u64) -> Option<Ratio>
+    ensures some { IfSome result (λ k. (k ≡ record { p = p; q = q }) × IsRatio k) }
+    ensures none { IfNone result (IsRatio (record { p = p; q = q }) → ⊥) }
+{
+    if p > u64::from(MOST_P) {
+        return None;
+    }
+    if q > u64::from(MOST_Q) {
+        return None;
+    }
+    Ratio::new(p as u32, q as u32)
+}
+
+// Both are the same step.
+fn is_same(a: &Event, b: &Event) -> bool
+    ensures { IsTrue result ↔ (a.now ≡ b.now) }
+{
+    a == b
+}
+
+// The event is the last.
+fn is_end(event: &Event) -> bool
+    ensures { result ≡ is_end (Prints event.now) }
+{
+    matches!(event, Event::End { .. })
+}
+
+// The least tick at which the event is settled, right after it is printed.
+fn floor_after(event: &Event, clock: u64) -> u64
+    requires { clock ≤ last_tick }
+    ensures { result ≡ (if is_late (Prints event.now) then clock + 1 else clock) }
+{
+    match event {
+        Event::Take { .. } => clock + 1,
+        Event::Abandon { .. } => clock + 1,
+        Event::Release { .. } => clock,
+        Event::Run { .. } => clock,
+        Event::Preempt { .. } => clock,
+        Event::Complete { .. } => clock,
+        Event::End { .. } => clock,
+    }
+}
+
+// Puts the step behind the others, where they are kept.
+fn keep_step(keep: bool, steps: &mut Vec<Event>, event: Event)
+    requires { keep ≡ true → vec_len steps.old < vec_capacity steps.old }
+    ensures items { steps.new.items ≡ (if keep then steps.old.items ++ event ∷ [] else steps.old.items) }
+    ensures room { vec_capacity steps.new ≡ vec_capacity steps.old }
+{
+    if keep {
+        steps.push_reserved(event);
+    }
+}

@@ -1,0 +1,9 @@
+//! How far a trace has come.
+
+/// No line yet, lines behind the header, or the line of the end.
+#[derive(Clone, Copy, Debug, PartialEq, Eq)]
+pub enum Stage {
+    Opening,
+    Going,
+    Ended,
+}

@@ -1,0 +1,11 @@
+pub mod Leading
+pub mod Items
+pub mod Counts
+pub mod Seeing
+pub mod Released
+pub mod Continuing
+pub mod Only
+pub mod Finishing
+pub mod Judging
+pub mod ReadyParts
+pub mod Waiting
