@@ -1,0 +1,6 @@
+pub mod Firsts
+pub mod Lookup
+pub mod Deadlines
+pub mod Looking
+pub mod Changing
+pub mod Growing

@@ -1,0 +1,290 @@
+//! The jobs and their queues.
+ghost use Rattle.std.specs.Prelude.{◌≡◌, ◌≢◌, ◌≤◌, ◌<◌, ◌+◌, ◌-◌, ◌*◌, ◌^◌, ℕ, length, [], ◌∷◌, ◌++◌, Some, None, IfOk, IfSome, OnOk, OnErr, IsNone, IsSome, true, max};
+ghost use Rattle.std.specs.List.{filter, find, slice_get, list_all};
+ghost use Rattle.dover_model.specs.Limits.{most_jobs, most_total, last_tick};
+ghost use Rattle.dover_model.specs.declared.events.Role.TheVariants.{Coming, Fresh, Waiting, Held, Running, Done, Gone};
+ghost use Rattle.dover_model.specs.Instance.{IsValid, with_jobs};
+ghost use Rattle.dover_model.specs.State.{State, opening, with_later, is_over, is_done, is_fresh, is_coming, value_sum};
+ghost use Rattle.dover_model.specs.State.{running, held, waiting, privileged, room};
+ghost use Rattle.dover_model.specs.Orders.{due_first, latest_first, first};
+ghost use Rattle.dover_model.specs.Step.{open_step, view, after, is_at_latest_start};
+ghost use Rattle.dover_model.specs.Sound.{IsSound, Each};
+ghost use Rattle.dover_model.specs.Jumps.{NothingDue, later_by};
+ghost use Rattle.dover_model.specs.Entries.{entry_of, room_of};
+ghost use Rattle.dover_model.specs.WaitingMoves.{enters, leaves};
+ghost use Rattle.queued_jobs.specs.Moves.{step_of, view_of};
+ghost use Rattle.queued_jobs.specs.Roles.{Changes, with_role_at};
+ghost use Rattle.queued_jobs.specs.Queued.{Queued, instance_of, in_state};
+
+use crate::decide::{decide, left};
+use crate::moves::{Move, View};
+use dover_model::{Entry, Event, Job, Memory, Ratio, Role, Task, Version};
+use privileged_queue::Privileged;
+use std::alloc::Global;
+use std::marker::Model;
+use std::sync::ledger::Ledger;
+use step_count::Steps;
+use tick_cpu::Cpu;
+use waiting_queue::Waiting;
+
+/// Jobs by their numbers in a state of the machine, with queues of those that wait or are held.
+#[derive(Drop)]
+pub struct Queues {
+    version: Version,
+    ratio: Ratio,
+    tasks: Vec<Task>,
+    waiting: Waiting,
+    held: Privileged,
+    cpu: Cpu,
+    // the number of the fresh job
+    fresh: Option<u32>,
+    // the number of the next job to come
+    next: u32,
+    // the sum of the values of the completed jobs
+    done: u64,
+    spare: u32,
+}
+
+impl Model for Queues {
+    ghost use Rattle.queued_jobs.specs.Queued.{Queued, queued_of, IsQueued};
+
+    ghost Value = { Queued };
+
+    ghost view = { queued_of };
+
+    ghost invariant = { IsQueued };
+}
+
+// The job as one that doesn't run.
+fn entry_of(t: &Task) -> Entry
+    ensures { result ≡ entry_of t.now }
+{
+    let left = left(t);
+    Entry {
+        number: t.number,
+        deadline: t.job.deadline(),
+        latest: t.job.deadline().saturating_sub(left),
+        left,
+        value: t.job.value(),
+    }
+}
+
+// The room of the held jobs with e, which is due before them.
+fn room_with(held: &Privileged, e: &Entry, clock: u64) -> u64
+    requires clock { held.now.latest ≤ clock }
+    requires first { Each (λ f. e.now.deadline < f.deadline) held.now.held }
+    ensures { result ≡ room_of clock (e.now ∷ held.now.held) }
+{
+    let alone = e.deadline.saturating_sub(e.left).saturating_sub(clock);
+    match held.room(clock) {
+        Some(room) => alone.min(room.saturating_sub(e.left)),
+        None => alone,
+    }
+}
+
+// Gives the job of this number another role.
+fn set_role(tasks: &mut [Task], number: u32, role: Role)
+    requires { number < length tasks.old }
+    ensures { Changes number role tasks.old tasks.new }
+{
+    tasks[number as usize].role = role;
+}
+
+impl Queues {
+    /// No jobs, and no room.
+    pub fn new(alloc: Global, version: Version, ratio: Ratio) -> Result<Queues, Memory>
+        ensures { IfOk result (λ q. q ≡ record { rules = record { ratio = ratio; version = version }; state = opening []; spare = 0 }) }
+    {
+        Ok(Queues {
+            version,
+            ratio,
+            tasks: Vec::new(alloc),
+            waiting: Waiting::new(alloc, version)?,
+            held: Privileged::new(alloc)?,
+            cpu: Cpu::new(),
+            fresh: None,
+            next: 0,
+            done: 0,
+            spare: 0,
+        })
+    }
+
+    /// Makes room for `more` further jobs. Want of memory leaves all as before.
+    pub fn reserve(&mut self, more: u32) -> Result<(), Memory>
+        requires { length self.old.state.tasks + more ≤ most_jobs }
+        ensures ok { OnOk result (self.new ≡ record self.old { spare = max self.old.spare more }) }
+        ensures err { OnErr result (self.new ≡ self.old) }
+    {
+        if more <= self.spare {
+            return Ok(());
+        }
+        let held = self.held.spare().saturating_add(more - self.spare);
+        self.waiting.reserve(self.tasks.len() as u32 + more)?;
+        self.held.reserve(held)?;
+        self.tasks.reserve(more as usize)?;
+        self.spare = more;
+        Ok(())
+    }
+
+    /// For how many further jobs there is room.
+    pub fn spare(&self) -> u32
+        ensures { result ≡ self.now.spare }
+    {
+        self.spare
+    }
+
+    /// Puts a job in under the next number, which is the answer. It is still to come, and there is room for it.
+    pub fn push(&mut self, job: Job) -> u32
+        requires { 1 ≤ self.old.spare }
+        ensures number { result ≡ length self.old.state.tasks }
+        ensures in_it { self.new ≡ record {
+            rules = self.old.rules;
+            state = with_later self.old.state (record { number = length self.old.state.tasks; job = job; role = Coming; had = 0 } ∷ []);
+            spare = self.old.spare - 1;
+        } }
+    {
+        let number = self.tasks.len() as u32;
+        self.tasks
+            .push(Task {
+                number,
+                job,
+                role: Role::Coming,
+                had: 0,
+            })
+            .unwrap();
+        self.spare -= 1;
+        number
+    }
+
+    // The job of a number.
+    fn task(&self, number: u32) -> Option<Task>
+        ensures { result ≡ slice_get self.now.state.tasks number }
+    {
+        self.tasks.get(number as usize).copied()
+    }
+
+    fn running(&self) -> Option<Task>
+        ensures { result ≡ running self.now.state }
+    {
+        self.task(self.cpu.running()?)
+    }
+
+    fn fresh(&self) -> Option<Task>
+        ensures { result ≡ find is_fresh self.now.state.tasks }
+    {
+        self.task(self.fresh?)
+    }
+
+    // Of the jobs to come, the one of least number.
+    fn coming(&self) -> Option<Task>
+        ensures { result ≡ find is_coming self.now.state.tasks }
+    {
+        self.task(self.next)
+    }
+
+    fn first_held(&self) -> Option<Task>
+        ensures { result ≡ first (due_first self.now.rules.version) (held self.now.state) }
+    {
+        self.task(self.held.top()?.number)
+    }
+
+    fn first_waiting(&self) -> Option<Task>
+        ensures { result ≡ first (due_first self.now.rules.version) (waiting self.now.state) }
+    {
+        self.task(self.waiting.first_deadline()?.number)
+    }
+
+    // Of the waiting jobs at their latest start, the first in that order.
+    fn first_late(&self) -> Option<Task>
+        requires { IsSound self.now.state }
+        ensures { result ≡ first (latest_first self.now.rules.version) (filter (is_at_latest_start self.now.state) (waiting self.now.state)) }
+    {
+        let e = self.waiting.first_latest()?;
+        if e.latest != self.cpu.clock() {
+            return None;
+        }
+        self.task(e.number)
+    }
+
+    // The room of the held jobs.
+    fn room_held(&self) -> u64
+        ensures { result ≡ room self.now.state.clock (held self.now.state) }
+    {
+        self.held.room(self.cpu.clock()).unwrap_or(0)
+    }
+
+    // The room of the running job r and the held jobs.
+    fn room_busy(&self, r: &Task) -> u64
+        requires sound { IsSound self.now.state }
+        requires running { running self.now.state ≡ Some r.now }
+        ensures { result ≡ room self.now.state.clock (privileged self.now.state) }
+    {
+        room_with(&self.held, &entry_of(r), self.cpu.clock())
+    }
+
+    // The value of the running job r and the held jobs.
+    fn value_busy(&self, r: &Task) -> u64
+        requires sound { IsSound self.now.state }
+        requires running { running self.now.state ≡ Some r.now }
+        ensures { result ≡ value_sum (privileged self.now.state) }
+    {
+        r.job.value() + self.held.value_sum()
+    }
+
+    // The room and the value of the running job, if one runs, and the held jobs.
+    fn room_and_value(&self, runner: &Option<Task>) -> (u64, u64)
+        requires sound { IsSound self.now.state }
+        requires runner { running self.now.state ≡ runner.now }
+        ensures room { result.0 ≡ room self.now.state.clock (privileged self.now.state) }
+        ensures value { result.1 ≡ value_sum (privileged self.now.state) }
+    {
+        match runner {
+            Some(r) => (self.room_busy(r), self.value_busy(r)),
+            None => (self.room_held(), self.held.value_sum()),
+        }
+    }
+
+    /// What the decision of the next step depends on.
+    pub fn view(&self) -> View
+        requires { IsSound self.now.state }
+        ensures { view_of result ≡ view self.now.rules.version self.now.state }
+    {
+        let runner = self.running();
+        let (room, value) = self.room_and_value(&runner);
+        View {
+            clock: self.cpu.clock(),
+            running: runner,
+            held: self.first_held(),
+            waiting: self.first_waiting(),
+            fresh: self.fresh(),
+            coming: self.coming(),
+            late: self.first_late(),
+            room_held: self.room_held(),
+            room,
+            value,
+        }
+    }
+
+    /// The next step where further jobs may come.
+    pub fn open_step(&self) -> Move
+        requires valid { IsValid (instance_of self.now) }
+        requires sound { IsSound self.now.state }
+        ensures { step_of result ≡ open_step self.now.rules self.now.state }
+    {
+        decide(self.ratio, &self.view())
+    }
+
+    /// The sum of the values of the completed jobs.
+    pub fn value(&self) -> u64
+        ensures { result ≡ value_sum (filter is_done self.now.state.tasks) }
+    {
+        self.done
+    }
+
+    /// The clock, in ticks.
+    pub fn clock(&self) -> u64
+        ensures { result ≡ self.now.state.clock }
+    {
+        self.cpu.clock()
+    }
+}
