@@ -4,3 +4,5 @@ pub mod Deadlines
 pub mod Looking
 pub mod Changing
 pub mod Growing
+pub mod Replacing
+pub mod Stepping
