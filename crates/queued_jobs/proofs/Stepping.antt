@@ -30,7 +30,7 @@ length_other [] back t u = refl
 length_other (x ∷ front) back t u = ap suc (length_other front back t u)
 
 -- other jobs have other numbers
-front_less : (n : ℕ) (front back : List Task) (t x : Task) → IsNumberedFrom n (front ++ t ∷ back) → IsMember x front → x.number < t.number
+pub front_less : (n : ℕ) (front back : List Task) (t x : Task) → IsNumberedFrom n (front ++ t ∷ back) → IsMember x front → x.number < t.number
 front_less n [] back t x all m = absurd m
 front_less n (y ∷ front) back t x all (inl e) =
     let here : x.number ≡ n = ap (λ (z : Task). z.number) e ∙ all.0 in
@@ -38,7 +38,7 @@ front_less n (y ∷ front) back t x all (inl e) =
     omega arith
 front_less n (y ∷ front) back t x all (inr m) = front_less (suc n) front back t x all.1 m
 
-back_more : (n : ℕ) (front back : List Task) (t x : Task) → IsNumberedFrom n (front ++ t ∷ back) → IsMember x back → t.number < x.number
+pub back_more : (n : ℕ) (front back : List Task) (t x : Task) → IsNumberedFrom n (front ++ t ∷ back) → IsMember x back → t.number < x.number
 back_more n [] back t x all m = let later = numbers_above (suc n) back all.1 x m in omega (arith, all.0, later)
 back_more n (y ∷ front) back t x all m = back_more (suc n) front back t x all.1 m
 

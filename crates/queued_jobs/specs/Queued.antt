@@ -10,6 +10,8 @@ use Rattle.dover_model.specs.Instance.{Rules, Instance}
 use Rattle.dover_model.specs.State.{State, is_coming, is_fresh, is_waiting, is_held, is_running, is_done, left, value_sum}
 use Rattle.dover_model.specs.Entries.{entry_of}
 use Rattle.dover_model.specs.Sound.{Each, IsNumberedFrom, jobs_of}
+use Rattle.dover_model.specs.declared.events.Role.{Role}
+use Rattle.queued_jobs.specs.Roles.{with_role_at}
 use Rattle.queued_jobs.specs.declared.queues.Queues.TheInside.{Inside}
 
 -- the jobs in their state, and for how many more there is room
@@ -25,6 +27,10 @@ instance_of q = record { rules = q.rules; jobs = jobs_of q.state.tasks }
 -- the queues in another state
 abbrev pub in_state : Queued → State → Queued
 in_state q s = record { rules = q.rules; state = s; spare = q.spare }
+
+-- the queues with the job of number n in another role
+abbrev pub with_job_in : Queued → ℕ → Role → Queued
+with_job_in q n role = in_state q (record { clock = q.state.clock; tasks = with_role_at n role q.state.tasks })
 
 -- what the fields stand for
 abbrev pub queued_of : Inside → Queued

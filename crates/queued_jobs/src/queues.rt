@@ -1,10 +1,10 @@
 //! The jobs and their queues.
-ghost use Rattle.std.specs.Prelude.{◌≡◌, ◌≢◌, ◌≤◌, ◌<◌, ◌+◌, ◌-◌, ◌*◌, ◌^◌, ℕ, length, [], ◌∷◌, ◌++◌, Some, None, IfOk, IfSome, OnOk, OnErr, IsNone, IsSome, true, max};
+ghost use Rattle.std.specs.Prelude.{◌≡◌, ◌≢◌, ◌≤◌, ◌<◌, ◌+◌, ◌-◌, ◌*◌, ◌^◌, ℕ, length, [], ◌∷◌, ◌++◌, Some, None, IfOk, IfSome, OnOk, OnErr, IsNone, IsSome, true, max, vec_len, vec_capacity};
 ghost use Rattle.std.specs.List.{filter, find, slice_get, list_all};
 ghost use Rattle.dover_model.specs.Limits.{most_jobs, most_total, last_tick};
-ghost use Rattle.dover_model.specs.declared.events.Role.TheVariants.{Coming, Fresh, Waiting, Held, Running, Done, Gone};
+ghost use Rattle.dover_model.specs.declared.events.Role.TheVariants.{Coming, Fresh, Waiting as Waits, Held, Running, Done, Gone};
 ghost use Rattle.dover_model.specs.Instance.{IsValid, with_jobs};
-ghost use Rattle.dover_model.specs.State.{State, opening, with_later, is_over, is_done, is_fresh, is_coming, value_sum};
+ghost use Rattle.dover_model.specs.State.{State, opening, with_later, is_over, is_done, is_fresh, is_coming, is_held, left, value_sum};
 ghost use Rattle.dover_model.specs.State.{running, held, waiting, privileged, room};
 ghost use Rattle.dover_model.specs.Orders.{due_first, latest_first, first};
 ghost use Rattle.dover_model.specs.Step.{open_step, view, after, is_at_latest_start};
@@ -13,8 +13,8 @@ ghost use Rattle.dover_model.specs.Jumps.{NothingDue, later_by};
 ghost use Rattle.dover_model.specs.Entries.{entry_of, room_of};
 ghost use Rattle.dover_model.specs.WaitingMoves.{enters, leaves};
 ghost use Rattle.queued_jobs.specs.Moves.{step_of, view_of};
-ghost use Rattle.queued_jobs.specs.Roles.{Changes, with_role_at};
-ghost use Rattle.queued_jobs.specs.Queued.{Queued, instance_of, in_state};
+ghost use Rattle.queued_jobs.specs.Roles.{Changes};
+ghost use Rattle.queued_jobs.specs.Queued.{Queued, instance_of, in_state, with_job_in};
 
 use crate::decide::{decide, left};
 use crate::moves::{Move, View};
@@ -83,9 +83,11 @@ fn room_with(held: &Privileged, e: &Entry, clock: u64) -> u64
 }
 
 // Gives the job of this number another role.
-fn set_role(tasks: &mut [Task], number: u32, role: Role)
-    requires { number < length tasks.old }
-    ensures { Changes number role tasks.old tasks.new }
+fn set_role(tasks: &mut Vec<Task>, number: u32, role: Role)
+    requires { number < length tasks.old.items }
+    ensures changes { Changes number role tasks.old.items tasks.new.items }
+    ensures len { vec_len tasks.new ≡ vec_len tasks.old }
+    ensures capacity { vec_capacity tasks.new ≡ vec_capacity tasks.old }
 {
     tasks[number as usize].role = role;
 }
@@ -272,6 +274,129 @@ impl Queues {
         ensures { step_of result ≡ open_step self.now.rules self.now.state }
     {
         decide(self.ratio, &self.view())
+    }
+
+    // The running job t is done.
+    fn complete(&mut self, t: &Task)
+        requires found { slice_get self.old.state.tasks t.now.number ≡ Some t.now }
+        requires role { t.now.role ≡ Running }
+        requires total { value_sum self.old.state.tasks ≤ most_total }
+        ensures { self.new ≡ with_job_in self.old t.now.number Done }
+    {
+        let _ = self.cpu.stop();
+        self.done += t.job.value();
+        set_role(&mut self.tasks, t.number, Role::Done);
+    }
+
+    // The waiting job t is abandoned.
+    fn abandon<L: Ledger>(&mut self, t: &Task, steps: &mut Steps<L>)
+        requires found { slice_get self.old.state.tasks t.now.number ≡ Some t.now }
+        requires role { t.now.role ≡ Waits }
+        ensures gone { self.new ≡ with_job_in self.old t.now.number Gone }
+        ensures count { (d : ℕ) → length self.old.state.tasks + 1 < 2 ^ d → steps.new ≤ steps.old + 6 * d }
+    {
+        let _ = self.waiting.take_out(t.number, steps);
+        set_role(&mut self.tasks, t.number, Role::Gone);
+    }
+
+    // The waiting job t runs.
+    fn start<L: Ledger>(&mut self, t: &Task, steps: &mut Steps<L>)
+        requires found { slice_get self.old.state.tasks t.now.number ≡ Some t.now }
+        requires role { t.now.role ≡ Waits }
+        requires free { running self.old.state ≡ None }
+        requires in_time { self.old.state.clock + left t.now ≤ last_tick }
+        ensures runs { self.new ≡ with_job_in self.old t.now.number Running }
+        ensures count { (d : ℕ) → length self.old.state.tasks + 1 < 2 ^ d → steps.new ≤ steps.old + 6 * d }
+    {
+        let _ = self.waiting.take_out(t.number, steps);
+        self.cpu.start(t.number, left(t));
+        set_role(&mut self.tasks, t.number, Role::Running);
+    }
+
+    // The fresh job t runs.
+    fn begin(&mut self, t: &Task)
+        requires found { slice_get self.old.state.tasks t.now.number ≡ Some t.now }
+        requires role { t.now.role ≡ Fresh }
+        requires free { running self.old.state ≡ None }
+        requires in_time { self.old.state.clock + left t.now ≤ last_tick }
+        ensures { self.new ≡ with_job_in self.old t.now.number Running }
+    {
+        self.fresh = None;
+        self.cpu.start(t.number, left(t));
+        set_role(&mut self.tasks, t.number, Role::Running);
+    }
+
+    // The fresh job t waits.
+    fn wait<L: Ledger>(&mut self, t: &Task, steps: &mut Steps<L>)
+        requires found { slice_get self.old.state.tasks t.now.number ≡ Some t.now }
+        requires role { t.now.role ≡ Fresh }
+        ensures waits { self.new ≡ with_job_in self.old t.now.number Waits }
+        ensures count { (d : ℕ) → length self.old.state.tasks + 1 < 2 ^ d → steps.new ≤ steps.old + 2 * d }
+    {
+        self.fresh = None;
+        self.waiting.add(entry_of(t), steps);
+        set_role(&mut self.tasks, t.number, Role::Waiting);
+    }
+
+    // The running job t waits.
+    fn stop<L: Ledger>(&mut self, t: &Task, steps: &mut Steps<L>)
+        requires found { slice_get self.old.state.tasks t.now.number ≡ Some t.now }
+        requires role { t.now.role ≡ Running }
+        ensures waits { self.new ≡ with_job_in self.old t.now.number Waits }
+        ensures count { (d : ℕ) → length self.old.state.tasks + 1 < 2 ^ d → steps.new ≤ steps.old + 2 * d }
+    {
+        let _ = self.cpu.stop();
+        self.waiting.add(entry_of(t), steps);
+        set_role(&mut self.tasks, t.number, Role::Waiting);
+    }
+
+    // The first job to come, t, is released.
+    fn release(&mut self, t: &Task)
+        requires first { find is_coming self.old.state.tasks ≡ Some t.now }
+        requires stale { find is_fresh self.old.state.tasks ≡ None }
+        ensures { self.new ≡ with_job_in self.old t.now.number Fresh }
+    {
+        self.next += 1;
+        self.fresh = Some(t.number);
+        set_role(&mut self.tasks, t.number, Role::Fresh);
+    }
+
+    // The first held job, t, runs on.
+    fn resume(&mut self, t: &Task)
+        requires top { first (due_first self.old.rules.version) (held self.old.state) ≡ Some t.now }
+        requires free { running self.old.state ≡ None }
+        requires in_time { self.old.state.clock + left t.now ≤ last_tick }
+        ensures { self.new ≡ with_job_in self.old t.now.number Running }
+    {
+        let _ = self.held.release_one();
+        self.cpu.start(t.number, left(t));
+        set_role(&mut self.tasks, t.number, Role::Running);
+    }
+
+    // The first held job, t, waits.
+    fn displace<L: Ledger>(&mut self, t: &Task, steps: &mut Steps<L>)
+        requires top { first (due_first self.old.rules.version) (held self.old.state) ≡ Some t.now }
+        ensures waits { self.new ≡ with_job_in self.old t.now.number Waits }
+        ensures count { (d : ℕ) → length self.old.state.tasks + 1 < 2 ^ d → steps.new ≤ steps.old + 2 * d }
+    {
+        let _ = self.held.release_one();
+        self.waiting.add(entry_of(t), steps);
+        set_role(&mut self.tasks, t.number, Role::Waiting);
+    }
+
+    // The running job t is held. It is due before the held jobs.
+    fn hold(&mut self, t: &Task)
+        requires found { slice_get self.old.state.tasks t.now.number ≡ Some t.now }
+        requires role { t.now.role ≡ Running }
+        requires first { Each (λ x. is_held x ≡ true → t.now.job.deadline < x.job.deadline) self.old.state.tasks }
+        requires total { value_sum self.old.state.tasks ≤ most_total }
+        ensures { self.new ≡ with_job_in self.old t.now.number Held }
+    {
+        let _ = self.cpu.stop();
+        let entry = entry_of(t);
+        let avail = room_with(&self.held, &entry, self.cpu.clock());
+        self.held.hold(entry, self.cpu.clock(), avail);
+        set_role(&mut self.tasks, t.number, Role::Held);
     }
 
     /// The sum of the values of the completed jobs.
