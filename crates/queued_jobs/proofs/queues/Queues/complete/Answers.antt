@@ -7,7 +7,7 @@ use Rattle.dover_model.specs.State.{is_running, is_done, value_sum}
 use Rattle.dover_model.proofs.Roles.{passes}
 use Rattle.queued_jobs.specs.Queued.{Agrees, turn_of, queued_of}
 use Rattle.queued_jobs.proofs.Changing.{splits, only_one, is_map}
-use Rattle.queued_jobs.proofs.Steps.{complete_step, changed_view, found_member, done_room}
+use Rattle.queued_jobs.proofs.Steps.{complete_step, changed_view, found_member, value_room}
 use Rattle.queued_jobs.proofs.queues.Queues.complete.Goals as goal
 
 pub stop-requires : goal.stop-requires
@@ -25,7 +25,7 @@ overflow_add-self c =
     let t = c.args.t.now in
     let found = subst (λ q. slice_get q.state.tasks t.number ≡ Some t) (sym c.self.view_is) c.requires.found in
     let total : value_sum tasks ≤ 10_000_000_000_000 = subst (λ q. value_sum q.state.tasks ≤ 10_000_000_000_000) (sym c.self.view_is) c.requires.total in
-    let room = done_room tasks t (found_member tasks t.number t found) (passes is_done t Running false c.requires.role refl) in
+    let room = value_room is_done tasks t (found_member tasks t.number t found) (passes is_done t Running false c.requires.role refl) in
     omega (arith, c.self.invariant.agrees.2.done, c.value.ensures.is, room, total)
 
 pub set_role-requires : goal.set_role-requires
