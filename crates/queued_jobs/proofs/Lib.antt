@@ -7,3 +7,4 @@ pub mod Replacing
 pub mod Stepping
 pub mod Changing
 pub mod Steps
+pub mod Inverting

@@ -1,0 +1,164 @@
+-- What a step says of the jobs that it names.
+use Rattle.std.proofs.Common.{◌≡◌, ℕ, ◌+◌, ◌-◌, ◌≤◌, ◌<◌, ◌⊎◌, inl, inr, List, map, refl, sym, ap, ◌∙◌, subst, Bool, true, false, arith}
+use Rattle.std.specs.Prelude.{Option, Some, None}
+use Rattle.std.specs.List.{filter, find, slice_get}
+use Rattle.dover_model.specs.declared.events.Version.{Version}
+use Rattle.dover_model.specs.declared.events.Role.TheVariants.{Coming, Fresh, Waiting, Held, Running}
+use Rattle.dover_model.specs.declared.events.Event.{Event}
+use Rattle.dover_model.specs.declared.events.Event.TheVariants.{Release, Run, Preempt, Take, Complete, Abandon}
+use Rattle.dover_model.specs.declared.events.Task.{Task}
+use Rattle.dover_model.specs.declared.events.Entry.{Entry}
+use Rattle.dover_model.specs.Fraction.{Fraction}
+use Rattle.dover_model.specs.State.{State, is_coming, is_fresh, is_held, is_running, is_privileged, held, running, left}
+use Rattle.dover_model.specs.Entries.{IsStrictOrder, entry_of, is_due_before}
+use Rattle.dover_model.specs.Orders.{due_first, first}
+use Rattle.dover_model.specs.Step.{Move, Prints, Waits, Ticks}
+use Rattle.dover_model.specs.Sound.{IsMember, Each, EachTwo, NoneRuns, IsNumberedFrom, IsSound}
+use Rattle.dover_model.proofs.EntryOrders.{strict_by}
+use Rattle.dover_model.proofs.Members.{some_same, found, not_found, filter_member, member_filter, map_member}
+use Rattle.dover_model.proofs.Roles.{passes, one_number, is_held_role, is_fresh_role, is_running_role, is_coming_role}
+use Rattle.dover_model.proofs.Tests.{none_is_some}
+use Rattle.dover_model.proofs.Deeds.{Deed, Completed, Resumed, Started, Began, Preempted, Stayed, Arrived, Taken, Abandoned, Rested}
+use Rattle.queued_jobs.proofs.Firsts.{first_only, key_most, not_itself}
+use Rattle.queued_jobs.proofs.Lookup.{at_number, found_first, own_entries, of_entry}
+
+-- ---- what is found
+
+-- a job stands at its number
+pub task_at : (tasks : List Task) (t : Task) → IsNumberedFrom 0 tasks → IsMember t tasks → slice_get tasks t.number ≡ Some t
+task_at tasks t all member = ap (slice_get tasks) (off t.number) ∙ at_number 0 tasks t all member where
+  off : (m : ℕ) → m ≡ m - 0
+  off m = omega arith
+
+-- none of a role is found where none has it
+pub none_of : (p : Task → Bool) (tasks : List Task) → Each (λ t. p t ≡ true → ⊥) tasks → find p tasks ≡ None
+none_of p tasks none = by_option (find p tasks) refl where
+  by_option : (o : Option Task) → find p tasks ≡ o → find p tasks ≡ None
+  by_option None e = e
+  by_option (Some t) e = let it = found p tasks t e in absurd (none t it.0 it.1)
+
+-- no job runs
+pub none_runs : (s : State) → NoneRuns s.tasks → running s ≡ None
+none_runs s none = none_of is_running s.tasks (λ t m runs. none t m (is_running_role t runs))
+
+-- the held job of least deadline is the first
+pub held_first : (v : Version) (s : State) → IsSound s → (p : Task) → IsMember p s.tasks → p.role ≡ Held
+    → Each (λ t. t.role ≡ Held → p.job.deadline ≤ t.job.deadline) s.tasks → first (due_first v) (held s) ≡ Some p
+held_first v s sound p member role least =
+    sym (found_first (is_due_before v) s.tasks (filter is_held s.tasks) (entry_of p) sound.numbered inside top) ∙ task_at s.tasks p sound.numbered member where
+      strict : IsStrictOrder (is_due_before v)
+      strict = strict_by (λ e. e.deadline) v
+
+      inside : Each (λ t. IsMember t s.tasks) (filter is_held s.tasks)
+      inside t m = (member_filter is_held s.tasks t m).0
+
+      there : IsMember p (filter is_held s.tasks)
+      there = filter_member is_held s.tasks p member (passes is_held p Held true role refl)
+
+      best : Each (λ y. is_due_before v y (entry_of p) ≡ true → ⊥) (map entry_of (filter is_held s.tasks))
+      best y m h =
+          let it = of_entry (filter is_held s.tasks) y m in
+          let held_it = member_filter is_held s.tasks it.0 it.1 in
+          let most : y.deadline ≤ p.job.deadline = key_most (λ x. x.deadline) v y (entry_of p) h in
+          let low : p.job.deadline ≤ it.0.job.deadline = least it.0 held_it.0 (is_held_role it.0 held_it.1) in
+          let same : y.deadline ≡ it.0.job.deadline = ap (λ (x : Entry). x.deadline) it.2 in
+          let number = sound.distinct it.0 p held_it.0 member (privileged it.0 (is_held_role it.0 held_it.1)) (privileged p role) (omega arith) in
+          let is : y ≡ entry_of p = it.2 ∙ ap entry_of (one_number 0 s.tasks sound.numbered it.0 p held_it.0 member number) in
+          not_itself (is_due_before v) strict (entry_of p) (ap (λ x. is_due_before v x (entry_of p)) (sym is) ∙ h) where
+            privileged : (t : Task) → t.role ≡ Held → is_privileged t ≡ true
+            privileged t e = passes is_privileged t Held true e refl
+
+      top : first (is_due_before v) (map entry_of (filter is_held s.tasks)) ≡ Some (entry_of p)
+      top = first_only (is_due_before v) strict (entry_of p) (map entry_of (filter is_held s.tasks)) (map_member entry_of (filter is_held s.tasks) p there) best
+          (own_entries s.tasks (filter is_held s.tasks) sound.numbered inside)
+
+-- ---- each step
+
+-- the job that runs next
+pub record Runs (v : Version) (s : State) (n : ℕ) : Type 0 where
+  pub task : Task
+  pub member : IsMember task s.tasks
+  pub number : task.number ≡ n
+  pub free : running s ≡ None
+  pub role : ((task.role ≡ Held) × (first (due_first v) (held s) ≡ Some task)) ⊎ ((task.role ≡ Waiting) ⊎ (task.role ≡ Fresh))
+
+pub record Completes (s : State) (n : ℕ) : Type 0 where
+  pub task : Task
+  pub member : IsMember task s.tasks
+  pub number : task.number ≡ n
+  pub role : task.role ≡ Running
+
+pub record Abandons (s : State) (n : ℕ) : Type 0 where
+  pub task : Task
+  pub member : IsMember task s.tasks
+  pub number : task.number ≡ n
+  pub role : task.role ≡ Waiting
+
+pub record Stays (s : State) (n : ℕ) : Type 0 where
+  pub task : Task
+  pub member : IsMember task s.tasks
+  pub number : task.number ≡ n
+  pub role : task.role ≡ Fresh
+
+pub record Arrives (s : State) (n : ℕ) : Type 0 where
+  pub task : Task
+  pub member : IsMember task s.tasks
+  pub number : task.number ≡ n
+  pub role : task.role ≡ Coming
+  pub least : Each (λ t. t.role ≡ Coming → task.number ≤ t.number) s.tasks
+  pub stale : Each (λ t. t.role ≡ Fresh → ⊥) s.tasks
+
+module _ (v : Version) (k : Fraction) (s : State) (sound : IsSound s) where
+  pub runs_says : (at n : ℕ) (m : Move) → Deed k s Ticks m → m ≡ Prints (Run at n) → Runs v s n
+  runs_says at n m (Completed r member role done) e = absurd (cc)
+  runs_says at n m (Resumed p member role none least why) e = record {
+    task = p; member = member; number = cc; free = none_runs s none; role = inl (role, held_first v s sound p member role least);
+  }
+  runs_says at n m (Started o member role none first fits next) e = record {
+    task = o; member = member; number = cc; free = none_runs s none; role = inr (inl role);
+  }
+  runs_says at n m (Began f member role none) e = record {
+    task = f; member = member; number = cc; free = none_runs s none; role = inr (inr role);
+  }
+  runs_says at n m (Preempted r f r_in runs some f_in fresh before fits) e = absurd (cc)
+  runs_says at n m (Stayed r f r_in runs some f_in fresh why) e = absurd (cc)
+  runs_says at n m (Arrived c member role now least stale busy free) e = absurd (cc)
+  runs_says at n m (Taken r x r_in runs some x_in waits now stale heavy) e = absurd (cc)
+  runs_says at n m (Abandoned r x r_in runs some x_in waits now stale light) e = absurd (cc)
+  runs_says at n m (Rested quiet) e = absurd (cc)
+
+  pub completes_says : (at n : ℕ) (m : Move) → Deed k s Ticks m → m ≡ Prints (Complete at n) → Completes s n
+  completes_says at n m (Completed r member role done) e = record { task = r; member = member; number = cc; role = role }
+  completes_says at n m (Resumed p member role none least why) e = absurd (cc)
+  completes_says at n m (Started o member role none first fits next) e = absurd (cc)
+  completes_says at n m (Began f member role none) e = absurd (cc)
+  completes_says at n m (Preempted r f r_in runs some f_in fresh before fits) e = absurd (cc)
+  completes_says at n m (Stayed r f r_in runs some f_in fresh why) e = absurd (cc)
+  completes_says at n m (Arrived c member role now least stale busy free) e = absurd (cc)
+  completes_says at n m (Taken r x r_in runs some x_in waits now stale heavy) e = absurd (cc)
+  completes_says at n m (Abandoned r x r_in runs some x_in waits now stale light) e = absurd (cc)
+  completes_says at n m (Rested quiet) e = absurd (cc)
+
+  pub abandons_says : (at n : ℕ) (m : Move) → Deed k s Ticks m → m ≡ Prints (Abandon at n) → Abandons s n
+  abandons_says at n m (Completed r member role done) e = absurd (cc)
+  abandons_says at n m (Resumed p member role none least why) e = absurd (cc)
+  abandons_says at n m (Started o member role none first fits next) e = absurd (cc)
+  abandons_says at n m (Began f member role none) e = absurd (cc)
+  abandons_says at n m (Preempted r f r_in runs some f_in fresh before fits) e = absurd (cc)
+  abandons_says at n m (Stayed r f r_in runs some f_in fresh why) e = absurd (cc)
+  abandons_says at n m (Arrived c member role now least stale busy free) e = absurd (cc)
+  abandons_says at n m (Taken r x r_in runs some x_in waits now stale heavy) e = absurd (cc)
+  abandons_says at n m (Abandoned r x r_in runs some x_in waits now stale light) e = record { task = x; member = x_in; number = cc; role = waits }
+  abandons_says at n m (Rested quiet) e = absurd (cc)
+
+  pub stays_says : (n : ℕ) (m : Move) → Deed k s Ticks m → m ≡ Waits n → Stays s n
+  stays_says n m (Completed r member role done) e = absurd (cc)
+  stays_says n m (Resumed p member role none least why) e = absurd (cc)
+  stays_says n m (Started o member role none first fits next) e = absurd (cc)
+  stays_says n m (Began f member role none) e = absurd (cc)
+  stays_says n m (Preempted r f r_in runs some f_in fresh before fits) e = absurd (cc)
+  stays_says n m (Stayed r f r_in runs some f_in fresh why) e = record { task = f; member = f_in; number = cc; role = fresh }
+  stays_says n m (Arrived c member role now least stale busy free) e = absurd (cc)
+  stays_says n m (Taken r x r_in runs some x_in waits now stale heavy) e = absurd (cc)
+  stays_says n m (Abandoned r x r_in runs some x_in waits now stale light) e = absurd (cc)
+  stays_says n m (Rested quiet) e = absurd (cc)
