@@ -1,7 +1,7 @@
 -- What a step says of the jobs that it names.
 use Rattle.std.proofs.Common.{◌≡◌, ℕ, ◌+◌, ◌-◌, ◌≤◌, ◌<◌, ◌⊎◌, inl, inr, List, map, refl, sym, ap, ◌∙◌, subst, Bool, true, false, arith}
 use Rattle.std.specs.Prelude.{Option, Some, None}
-use Rattle.std.specs.List.{filter, find, slice_get}
+use Rattle.std.specs.List.{filter, find, slice_get, sum_by}
 use Rattle.dover_model.specs.declared.events.Version.{Version}
 use Rattle.dover_model.specs.declared.events.Role.TheVariants.{Coming, Fresh, Waiting, Held, Running}
 use Rattle.dover_model.specs.declared.events.Event.{Event}
@@ -9,13 +9,17 @@ use Rattle.dover_model.specs.declared.events.Event.TheVariants.{Release, Run, Pr
 use Rattle.dover_model.specs.declared.events.Task.{Task}
 use Rattle.dover_model.specs.declared.events.Entry.{Entry}
 use Rattle.dover_model.specs.Fraction.{Fraction}
-use Rattle.dover_model.specs.State.{State, is_coming, is_fresh, is_held, is_running, is_privileged, held, running, left}
+use Rattle.dover_model.specs.State.{State, is_coming, is_fresh, is_held, is_running, is_privileged, held, running, left, value_sum}
+use Rattle.dover_model.specs.Limits.{last_tick, most_total}
+use Rattle.dover_model.specs.Instance.{Instance, IsValid}
+use Rattle.dover_model.proofs.Kept.{realistic}
+use Rattle.dover_model.proofs.Moves.{says, active_slack}
 use Rattle.dover_model.specs.Entries.{IsStrictOrder, entry_of, is_due_before}
 use Rattle.dover_model.specs.Orders.{due_first, first}
 use Rattle.dover_model.specs.Step.{Move, Prints, Waits, Ticks}
-use Rattle.dover_model.specs.Sound.{IsMember, Each, EachTwo, NoneRuns, IsNumberedFrom, IsSound}
+use Rattle.dover_model.specs.Sound.{IsMember, Each, EachTwo, NoneRuns, IsNumberedFrom, IsSound, Keeps, jobs_of}
 use Rattle.dover_model.proofs.EntryOrders.{strict_by}
-use Rattle.dover_model.proofs.Members.{some_same, found, not_found, filter_member, member_filter, map_member}
+use Rattle.dover_model.proofs.Members.{some_same, found, not_found, filter_member, member_filter, map_member, sum_map}
 use Rattle.dover_model.proofs.Roles.{passes, one_number, is_held_role, is_fresh_role, is_running_role, is_coming_role}
 use Rattle.dover_model.proofs.Tests.{none_is_some}
 use Rattle.dover_model.proofs.Deeds.{Deed, Completed, Resumed, Started, Began, Preempted, Stayed, Arrived, Taken, Abandoned, Rested}
@@ -162,3 +166,26 @@ module _ (v : Version) (k : Fraction) (s : State) (sound : IsSound s) where
   stays_says n m (Taken r x r_in runs some x_in waits now stale heavy) e = absurd (cc)
   stays_says n m (Abandoned r x r_in runs some x_in waits now stale light) e = absurd (cc)
   stays_says n m (Rested quiet) e = absurd (cc)
+
+-- ---- limits
+
+-- a ready job can be done by the last tick
+pub in_time : (J : Instance) → IsValid J → (s : State) → Keeps J s → (t : Task) → IsMember t s.tasks
+    → (t.role ≡ Held) ⊎ ((t.role ≡ Waiting) ⊎ (t.role ≡ Fresh)) → s.clock + left t ≤ last_tick
+in_time J valid s keeps t member role = omega (arith, (realistic J valid s keeps).each t member, slack role) where
+  slack : (t.role ≡ Held) ⊎ ((t.role ≡ Waiting) ⊎ (t.role ≡ Fresh)) → s.clock + left t ≤ t.job.deadline
+  slack (inl holds) = active_slack s keeps.sound t member (passes is_privileged t Held true holds refl)
+  slack (inr (inl waits)) = let fits = says s keeps.sound t member Waiting waits in fits.2
+  slack (inr (inr fresh)) = let fits = says s keeps.sound t member Fresh fresh in fits.3
+
+-- the values of all jobs are within the limit
+pub all_value : (J : Instance) (tasks : List Task) → IsValid J → jobs_of tasks ≡ J.jobs → value_sum tasks ≤ most_total
+all_value J tasks valid jobs =
+    let all : sum_by (λ j. j.value) (jobs_of tasks) ≡ value_sum tasks = sum_map (λ t. t.job) (λ j. j.value) tasks in
+    let total : sum_by (λ j. j.value) (jobs_of tasks) ≤ most_total = subst (λ js. sum_by (λ j. j.value) js ≤ most_total) (sym jobs) valid.total in
+    omega (arith, all, total)
+
+-- the job that is read at a number is the one of that number
+pub same_task : (tasks : List Task) (n : ℕ) (o : Option Task) (r : Task) → IsNumberedFrom 0 tasks → IsMember r tasks → r.number ≡ n → o ≡ slice_get tasks n
+    → o ≡ Some r
+same_task tasks n o r all member number read = read ∙ ap (slice_get tasks) (sym number) ∙ task_at tasks r all member

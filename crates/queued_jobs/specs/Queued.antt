@@ -6,10 +6,11 @@ use Rattle.std.specs.List.{filter}
 use Rattle.dover_model.specs.declared.events.Task.{Task}
 use Rattle.dover_model.specs.declared.events.Entry.{Entry}
 use Rattle.dover_model.specs.Limits.{most_jobs}
-use Rattle.dover_model.specs.Instance.{Rules, Instance}
+use Rattle.dover_model.specs.Instance.{Rules, Instance, IsValid}
+use Rattle.dover_model.specs.Step.{Move, open_step, after}
 use Rattle.dover_model.specs.State.{State, is_coming, is_fresh, is_waiting, is_held, is_running, is_done, left, value_sum}
 use Rattle.dover_model.specs.Entries.{entry_of}
-use Rattle.dover_model.specs.Sound.{Each, IsNumberedFrom, jobs_of}
+use Rattle.dover_model.specs.Sound.{Each, IsNumberedFrom, IsSound, jobs_of}
 use Rattle.dover_model.specs.declared.events.Role.{Role}
 use Rattle.queued_jobs.specs.Roles.{with_role_at}
 use Rattle.queued_jobs.specs.declared.queues.Queues.TheInside.{Inside}
@@ -31,6 +32,16 @@ in_state q s = record { rules = q.rules; state = s; spare = q.spare }
 -- the queues with the job of number n in another role
 abbrev pub with_job_in : Queued → ℕ → Role → Queued
 with_job_in q n role = in_state q (record { clock = q.state.clock; tasks = with_role_at n role q.state.tasks })
+
+-- m is the next step of valid jobs in a sound state
+pub record IsNext (q : Queued) (m : Move) : Type 0 where
+  pub valid : IsValid (instance_of q)
+  pub sound : IsSound q.state
+  pub step : open_step q.rules q.state ≡ m
+
+-- the queues after a step
+abbrev pub stepped : Queued → Move → Queued
+stepped q m = in_state q (after q.state m)
 
 -- what the fields stand for
 abbrev pub queued_of : Inside → Queued

@@ -14,7 +14,9 @@ ghost use Rattle.dover_model.specs.Entries.{entry_of, room_of};
 ghost use Rattle.dover_model.specs.WaitingMoves.{enters, leaves};
 ghost use Rattle.queued_jobs.specs.Moves.{step_of, view_of};
 ghost use Rattle.queued_jobs.specs.Roles.{Changes};
-ghost use Rattle.queued_jobs.specs.Queued.{Queued, instance_of, in_state, with_job_in};
+ghost use Rattle.dover_model.specs.Step.{Prints, Waits as WaitsFor};
+ghost use Rattle.dover_model.specs.declared.events.Event.TheVariants.{Release, Run, Preempt, Take, Complete, Abandon};
+ghost use Rattle.queued_jobs.specs.Queued.{Queued, instance_of, in_state, with_job_in, IsNext, stepped};
 
 use crate::decide::{decide, left};
 use crate::moves::{Move, View};
@@ -397,6 +399,53 @@ impl Queues {
         let avail = room_with(&self.held, &entry, self.cpu.clock());
         self.held.hold(entry, self.cpu.clock(), avail);
         set_role(&mut self.tasks, t.number, Role::Held);
+    }
+
+    // The running job of this number is done.
+    fn complete_next(&mut self, number: u32)
+        requires { IsNext self.old (Prints (Complete self.old.state.clock number)) }
+        ensures { self.new ≡ stepped self.old (Prints (Complete self.old.state.clock number)) }
+    {
+        if let Some(t) = self.task(number) {
+            self.complete(&t);
+        }
+    }
+
+    // The waiting job of this number is abandoned.
+    fn abandon_next<L: Ledger>(&mut self, number: u32, steps: &mut Steps<L>)
+        requires { IsNext self.old (Prints (Abandon self.old.state.clock number)) }
+        ensures gone { self.new ≡ stepped self.old (Prints (Abandon self.old.state.clock number)) }
+        ensures count { (d : ℕ) → length self.old.state.tasks + 1 < 2 ^ d → steps.new ≤ steps.old + 6 * d }
+    {
+        if let Some(t) = self.task(number) {
+            self.abandon(&t, steps);
+        }
+    }
+
+    // The job of this number runs, which was held, waiting or fresh.
+    fn run_next<L: Ledger>(&mut self, number: u32, steps: &mut Steps<L>)
+        requires { IsNext self.old (Prints (Run self.old.state.clock number)) }
+        ensures runs { self.new ≡ stepped self.old (Prints (Run self.old.state.clock number)) }
+        ensures count { (d : ℕ) → length self.old.state.tasks + 1 < 2 ^ d → steps.new ≤ steps.old + 6 * d }
+    {
+        if let Some(t) = self.task(number) {
+            match t.role {
+                Role::Held => self.resume(&t),
+                Role::Waiting => self.start(&t, steps),
+                _ => self.begin(&t),
+            }
+        }
+    }
+
+    /// The effect of the next step, a silent wait of the fresh job of this number.
+    pub fn wait_next<L: Ledger>(&mut self, number: u32, steps: &mut Steps<L>)
+        requires { IsNext self.old (WaitsFor number) }
+        ensures waits { self.new ≡ stepped self.old (WaitsFor number) }
+        ensures count { (d : ℕ) → length self.old.state.tasks + 1 < 2 ^ d → steps.new ≤ steps.old + 2 * d }
+    {
+        if let Some(t) = self.task(number) {
+            self.wait(&t, steps);
+        }
     }
 
     /// The sum of the values of the completed jobs.
