@@ -1,6 +1,10 @@
 -- What a step says of the jobs that it names.
-use Rattle.std.proofs.Common.{◌≡◌, ℕ, ◌+◌, ◌-◌, ◌≤◌, ◌<◌, ◌⊎◌, inl, inr, List, map, refl, sym, ap, ◌∙◌, subst, Bool, true, false, arith}
-use Rattle.std.specs.Prelude.{Option, Some, None}
+use Rattle.std.proofs.Common.{◌≡◌, ℕ, ◌+◌, ◌-◌, ◌≤◌, ◌<◌, ◌⊎◌, inl, inr, List, map, refl, sym, ap, ◌∙◌, subst, Bool, true, false, arith, zero, suc, cond, [], ◌∷◌}
+use Rattle.std.specs.Prelude.{Option, Some, None, ◌==◌}
+use Rattle.std.proofs.lemmas.Bool.{false≢true}
+use Rattle.dover_model.specs.declared.events.Role.{Role}
+use Rattle.dover_model.specs.JobFacts.{JobFacts}
+use Rattle.queued_jobs.specs.Roles.{with_role_at}
 use Rattle.std.specs.List.{filter, find, slice_get, sum_by}
 use Rattle.dover_model.specs.declared.events.Version.{Version}
 use Rattle.dover_model.specs.declared.events.Role.TheVariants.{Coming, Fresh, Waiting, Held, Running}
@@ -16,12 +20,12 @@ use Rattle.dover_model.proofs.Kept.{realistic}
 use Rattle.dover_model.proofs.Moves.{says, active_slack}
 use Rattle.dover_model.specs.Entries.{IsStrictOrder, entry_of, is_due_before}
 use Rattle.dover_model.specs.Orders.{due_first, first}
-use Rattle.dover_model.specs.Step.{Move, Prints, Waits, Ticks}
+use Rattle.dover_model.specs.Step.{Move, Prints, Waits, Ticks, with_role}
 use Rattle.dover_model.specs.Sound.{IsMember, Each, EachTwo, NoneRuns, IsNumberedFrom, IsSound, Keeps, jobs_of}
 use Rattle.dover_model.proofs.EntryOrders.{strict_by}
-use Rattle.dover_model.proofs.Members.{some_same, found, not_found, filter_member, member_filter, map_member, sum_map}
-use Rattle.dover_model.proofs.Roles.{passes, one_number, is_held_role, is_fresh_role, is_running_role, is_coming_role}
-use Rattle.dover_model.proofs.Tests.{none_is_some}
+use Rattle.dover_model.proofs.Members.{some_same, found, not_found, filter_member, member_filter, map_member, on_map, sum_map}
+use Rattle.dover_model.proofs.Roles.{passes, one_number, is_held_role, is_fresh_role, is_running_role, is_coming_role, numbers_above}
+use Rattle.dover_model.proofs.Tests.{none_is_some, never}
 use Rattle.dover_model.proofs.Deeds.{Deed, Completed, Resumed, Started, Began, Preempted, Stayed, Arrived, Taken, Abandoned, Rested}
 use Rattle.queued_jobs.proofs.Firsts.{first_only, key_most, not_itself}
 use Rattle.queued_jobs.proofs.Lookup.{at_number, found_first, own_entries, of_entry}
@@ -189,3 +193,127 @@ all_value J tasks valid jobs =
 pub same_task : (tasks : List Task) (n : ℕ) (o : Option Task) (r : Task) → IsNumberedFrom 0 tasks → IsMember r tasks → r.number ≡ n → o ≡ slice_get tasks n
     → o ≡ Some r
 same_task tasks n o r all member number read = read ∙ ap (slice_get tasks) (sym number) ∙ task_at tasks r all member
+
+-- ---- a release
+
+-- the coming job of least number is the first to come
+pub coming_first : (n : ℕ) (tasks : List Task) (c : Task) → IsNumberedFrom n tasks → IsMember c tasks → c.role ≡ Coming
+    → Each (λ t. t.role ≡ Coming → c.number ≤ t.number) tasks → find is_coming tasks ≡ Some c
+coming_first n [] c all member role least = absurd member
+coming_first n (x ∷ tasks) c all member role least =
+    by_test (is_coming x) refl member (λ m. coming_first (suc n) tasks c all.1 m role (λ t k. least t (inr k))) where
+      by_test : (b : Bool) → is_coming x ≡ b → IsMember c (x ∷ tasks) → (IsMember c tasks → find is_coming tasks ≡ Some c)
+          → cond b (Some x) (find is_coming tasks) ≡ Some c
+      by_test true h (inl e) rest = ap Some (sym e)
+      by_test true h (inr m) rest = absurd (
+          let low : c.number ≤ x.number = least x (inl refl) (is_coming_role x h) in
+          let above : suc n ≤ c.number = numbers_above (suc n) tasks all.1 c m in
+          let here : x.number ≡ n = all.0 in omega arith)
+      by_test false h (inl e) rest = absurd (false≢true (sym h ∙ passes is_coming x Coming true (ap (λ (y : Task). y.role) (sym e) ∙ role) refl))
+      by_test false h (inr m) rest = rest m
+
+module _ (v : Version) (k : Fraction) (s : State) (sound : IsSound s) where
+  pub arrives_says : (n : ℕ) (job : JobFacts) (m : Move) → Deed k s Ticks m → m ≡ Prints (Release n job) → Arrives s n
+  arrives_says n job m (Completed r member role done) e = absurd (cc)
+  arrives_says n job m (Resumed p member role none least why) e = absurd (cc)
+  arrives_says n job m (Started o member role none first fits next) e = absurd (cc)
+  arrives_says n job m (Began f member role none) e = absurd (cc)
+  arrives_says n job m (Preempted r f r_in runs some f_in fresh before fits) e = absurd (cc)
+  arrives_says n job m (Stayed r f r_in runs some f_in fresh why) e = absurd (cc)
+  arrives_says n job m (Arrived c member role now least stale busy free) e = record {
+    task = c; member = member; number = cc; role = role; least = least; stale = stale;
+  }
+  arrives_says n job m (Taken r x r_in runs some x_in waits now stale heavy) e = absurd (cc)
+  arrives_says n job m (Abandoned r x r_in runs some x_in waits now stale light) e = absurd (cc)
+  arrives_says n job m (Rested quiet) e = absurd (cc)
+
+-- ---- a preemption
+
+pub record Preempts (s : State) (stops starts : ℕ) : Type 0 where
+  pub stopped : Task
+  pub started : Task
+  pub stopped_in : IsMember stopped s.tasks
+  pub started_in : IsMember started s.tasks
+  pub stopped_number : stopped.number ≡ stops
+  pub started_number : started.number ≡ starts
+  pub stopped_role : stopped.role ≡ Running
+  pub started_role : started.role ≡ Fresh
+
+pub record Takes (s : State) (stops starts : ℕ) : Type 0 where
+  pub stopped : Task
+  pub started : Task
+  pub stopped_in : IsMember stopped s.tasks
+  pub started_in : IsMember started s.tasks
+  pub stopped_number : stopped.number ≡ stops
+  pub started_number : started.number ≡ starts
+  pub stopped_role : stopped.role ≡ Running
+  pub started_role : started.role ≡ Waiting
+
+module _ (k : Fraction) (s : State) where
+  pub preempts_says : (at stops starts : ℕ) (m : Move) → Deed k s Ticks m → m ≡ Prints (Preempt at stops starts) → Preempts s stops starts
+  preempts_says at stops starts m (Completed r member role done) e = absurd (cc)
+  preempts_says at stops starts m (Resumed p member role none least why) e = absurd (cc)
+  preempts_says at stops starts m (Started o member role none first fits next) e = absurd (cc)
+  preempts_says at stops starts m (Began f member role none) e = absurd (cc)
+  preempts_says at stops starts m (Preempted r f r_in runs some f_in fresh before fits) e = record {
+    stopped = r; started = f; stopped_in = r_in; started_in = f_in; stopped_number = cc; started_number = cc; stopped_role = runs; started_role = fresh;
+  }
+  preempts_says at stops starts m (Stayed r f r_in runs some f_in fresh why) e = absurd (cc)
+  preempts_says at stops starts m (Arrived c member role now least stale busy free) e = absurd (cc)
+  preempts_says at stops starts m (Taken r x r_in runs some x_in waits now stale heavy) e = absurd (cc)
+  preempts_says at stops starts m (Abandoned r x r_in runs some x_in waits now stale light) e = absurd (cc)
+  preempts_says at stops starts m (Rested quiet) e = absurd (cc)
+
+  pub takes_says : (at stops starts : ℕ) (m : Move) → Deed k s Ticks m → m ≡ Prints (Take at stops starts) → Takes s stops starts
+  takes_says at stops starts m (Completed r member role done) e = absurd (cc)
+  takes_says at stops starts m (Resumed p member role none least why) e = absurd (cc)
+  takes_says at stops starts m (Started o member role none first fits next) e = absurd (cc)
+  takes_says at stops starts m (Began f member role none) e = absurd (cc)
+  takes_says at stops starts m (Preempted r f r_in runs some f_in fresh before fits) e = absurd (cc)
+  takes_says at stops starts m (Stayed r f r_in runs some f_in fresh why) e = absurd (cc)
+  takes_says at stops starts m (Arrived c member role now least stale busy free) e = absurd (cc)
+  takes_says at stops starts m (Taken r x r_in runs some x_in waits now stale heavy) e = record {
+    stopped = r; started = x; stopped_in = r_in; started_in = x_in; stopped_number = cc; started_number = cc; stopped_role = runs; started_role = waits;
+  }
+  takes_says at stops starts m (Abandoned r x r_in runs some x_in waits now stale light) e = absurd (cc)
+  takes_says at stops starts m (Rested quiet) e = absurd (cc)
+
+-- ---- one change after another
+
+-- a job of another number stays as it is
+pub other_stays : (tasks : List Task) (n m : ℕ) (role : Role) (t : Task) → slice_get tasks n ≡ Some t → (t.number ≡ m → ⊥)
+    → slice_get (with_role_at m role tasks) n ≡ Some t
+other_stays [] n m role t found other = none_is_some found
+other_stays (x ∷ tasks) zero m role t found other =
+    let is : x ≡ t = some_same x t found in
+    ap (λ y. Some (with_role y (cond (y.number == m) role y.role))) is ∙ same (t.number == m) (differs t.number m other) where
+      differs : (a b : ℕ) → (a ≡ b → ⊥) → (a == b) ≡ false
+      differs a b h = grind arith
+
+      same : (b : Bool) → b ≡ false → Some (with_role t (cond b role t.role)) ≡ Some t
+      same true h = never (sym h)
+      same false h = refl
+other_stays (x ∷ tasks) (suc n) m role t found other = other_stays tasks n m role t found other
+
+-- once the running job is stopped, none runs
+pub none_after : (s : State) → IsSound s → (r : Task) → IsMember r s.tasks → r.role ≡ Running → (role : Role) → (role ≡ Running → ⊥)
+    → running (record { clock = s.clock; tasks = with_role_at r.number role s.tasks }) ≡ None
+none_after s sound r member runs role other =
+    none_of is_running (with_role_at r.number role s.tasks)
+    (on_map (λ t. with_role t (cond (t.number == r.number) role t.role)) (λ t. is_running t ≡ true → ⊥) s.tasks each) where
+      each : (t : Task) → IsMember t s.tasks → is_running (with_role t (cond (t.number == r.number) role t.role)) ≡ true → ⊥
+      each t m h = by_test (t.number == r.number) refl h where
+        equal : (a b : ℕ) → (a == b) ≡ false → a ≡ b → ⊥
+        equal a b e f = grind arith
+
+        by_test : (b : Bool) → (t.number == r.number) ≡ b → is_running (with_role t (cond b role t.role)) ≡ true → ⊥
+        by_test true e h = other (is_running_role (with_role t role) h)
+        by_test false e h = equal t.number r.number e (sound.one_runs t r m member (is_running_role t h) runs)
+
+-- jobs of two roles have two numbers
+pub two_roles : (tasks : List Task) (r f : Task) → IsNumberedFrom 0 tasks → IsMember r tasks → IsMember f tasks → r.role ≡ Running → f.role ≡ Fresh
+    → r.number ≡ f.number → ⊥
+two_roles tasks r f all r_in f_in runs fresh same =
+    apart (sym runs ∙ ap (λ (x : Task). x.role) (one_number 0 tasks all r f r_in f_in same) ∙ fresh) where
+      apart : Running ≡ Fresh → ⊥
+      apart e = cc

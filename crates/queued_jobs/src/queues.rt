@@ -437,6 +437,29 @@ impl Queues {
         }
     }
 
+    // The job of this number is released.
+    fn release_next(&mut self, number: u32, job: &Job)
+        requires { IsNext self.old (Prints (Release number job.now)) }
+        ensures { self.new ≡ stepped self.old (Prints (Release number job.now)) }
+    {
+        if let Some(t) = self.task(number) {
+            self.release(&t);
+        }
+    }
+
+    // The job of number `starts`, which is fresh, preempts the running one.
+    fn preempt_next(&mut self, stops: u32, starts: u32)
+        requires { IsNext self.old (Prints (Preempt self.old.state.clock stops starts)) }
+        ensures { self.new ≡ stepped self.old (Prints (Preempt self.old.state.clock stops starts)) }
+    {
+        if let Some(r) = self.task(stops) {
+            if let Some(f) = self.task(starts) {
+                self.hold(&r);
+                self.begin(&f);
+            }
+        }
+    }
+
     /// The effect of the next step, a silent wait of the fresh job of this number.
     pub fn wait_next<L: Ledger>(&mut self, number: u32, steps: &mut Steps<L>)
         requires { IsNext self.old (WaitsFor number) }
