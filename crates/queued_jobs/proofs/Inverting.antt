@@ -9,7 +9,7 @@ use Rattle.std.specs.List.{filter, find, slice_get, sum_by}
 use Rattle.dover_model.specs.declared.events.Version.{Version}
 use Rattle.dover_model.specs.declared.events.Role.TheVariants.{Coming, Fresh, Waiting, Held, Running}
 use Rattle.dover_model.specs.declared.events.Event.{Event}
-use Rattle.dover_model.specs.declared.events.Event.TheVariants.{Release, Run, Preempt, Take, Complete, Abandon}
+use Rattle.dover_model.specs.declared.events.Event.TheVariants.{Release, Run, Preempt, Take, Complete, Abandon, End}
 use Rattle.dover_model.specs.declared.events.Task.{Task}
 use Rattle.dover_model.specs.declared.events.Entry.{Entry}
 use Rattle.dover_model.specs.Fraction.{Fraction}
@@ -317,3 +317,30 @@ two_roles tasks r f all r_in f_in runs fresh same =
     apart (sym runs ∙ ap (λ (x : Task). x.role) (one_number 0 tasks all r f r_in f_in same) ∙ fresh) where
       apart : Running ≡ Fresh → ⊥
       apart e = cc
+
+-- ---- the clock of a step
+
+-- the clock that an event names
+abbrev pub at_of : ℕ → Move → ℕ
+at_of clock (Prints (Release n job)) = clock
+at_of clock (Prints (Run at n)) = at
+at_of clock (Prints (Preempt at stops starts)) = at
+at_of clock (Prints (Take at stops starts)) = at
+at_of clock (Prints (Complete at n)) = at
+at_of clock (Prints (Abandon at n)) = at
+at_of clock (Prints (End value)) = clock
+at_of clock (Waits n) = clock
+at_of clock Ticks = clock
+
+-- is that of the state
+pub at_clock : (k : Fraction) (s : State) (m : Move) → Deed k s Ticks m → at_of s.clock m ≡ s.clock
+at_clock k s m (Completed r member role done) = refl
+at_clock k s m (Resumed p member role none least why) = refl
+at_clock k s m (Started o member role none first fits next) = refl
+at_clock k s m (Began f member role none) = refl
+at_clock k s m (Preempted r f r_in runs some f_in fresh before fits) = refl
+at_clock k s m (Stayed r f r_in runs some f_in fresh why) = refl
+at_clock k s m (Arrived c member role now least stale busy free) = refl
+at_clock k s m (Taken r x r_in runs some x_in waits now stale heavy) = refl
+at_clock k s m (Abandoned r x r_in runs some x_in waits now stale light) = refl
+at_clock k s m (Rested quiet) = refl

@@ -8,3 +8,4 @@ pub mod Stepping
 pub mod Changing
 pub mod Steps
 pub mod Inverting
+pub mod Displacing

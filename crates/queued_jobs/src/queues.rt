@@ -8,12 +8,12 @@ ghost use Rattle.dover_model.specs.State.{State, opening, with_later, is_over, i
 ghost use Rattle.dover_model.specs.State.{running, held, waiting, privileged, room};
 ghost use Rattle.dover_model.specs.Orders.{due_first, latest_first, first};
 ghost use Rattle.dover_model.specs.Step.{open_step, view, after, is_at_latest_start};
-ghost use Rattle.dover_model.specs.Sound.{IsSound, Each};
+ghost use Rattle.dover_model.specs.Sound.{IsSound, Each, IsNumberedFrom};
 ghost use Rattle.dover_model.specs.Jumps.{NothingDue, later_by};
 ghost use Rattle.dover_model.specs.Entries.{entry_of, room_of};
 ghost use Rattle.dover_model.specs.WaitingMoves.{enters, leaves};
 ghost use Rattle.queued_jobs.specs.Moves.{step_of, view_of};
-ghost use Rattle.queued_jobs.specs.Roles.{Changes};
+ghost use Rattle.queued_jobs.specs.Roles.{Changes, all_displaced};
 ghost use Rattle.dover_model.specs.Step.{Prints, Waits as WaitsFor};
 ghost use Rattle.dover_model.specs.declared.events.Event.TheVariants.{Release, Run, Preempt, Take, Complete, Abandon};
 ghost use Rattle.queued_jobs.specs.Queued.{Queued, instance_of, in_state, with_job_in, IsNext, stepped};
@@ -457,6 +457,47 @@ impl Queues {
                 self.hold(&r);
                 self.begin(&f);
             }
+        }
+    }
+
+    // All held jobs wait.
+    fn displace_held<L: Ledger>(&mut self, steps: &mut Steps<L>)
+        requires numbered { IsNumberedFrom 0 self.old.state.tasks }
+        requires free { running self.old.state ≡ None }
+        ensures { self.new ≡ in_state self.old (record { clock = self.old.state.clock; tasks = all_displaced self.old.state.tasks }) }
+    {
+        while let Some(p) = self.first_held() {
+            self.displace(&p, steps);
+        }
+    }
+
+    // The waiting job of number `starts` takes the processor from the running one. That and all held jobs wait.
+    fn take_next<L: Ledger>(&mut self, stops: u32, starts: u32, steps: &mut Steps<L>)
+        requires { IsNext self.old (Prints (Take self.old.state.clock stops starts)) }
+        ensures { self.new ≡ stepped self.old (Prints (Take self.old.state.clock stops starts)) }
+    {
+        if let Some(r) = self.task(stops) {
+            if let Some(x) = self.task(starts) {
+                self.stop(&r, steps);
+                self.displace_held(steps);
+                self.start(&x, steps);
+            }
+        }
+    }
+
+    /// The effect of the next step, which is printed.
+    pub fn apply<L: Ledger>(&mut self, e: &Event, steps: &mut Steps<L>)
+        requires { IsNext self.old (Prints e.now) }
+        ensures { self.new ≡ stepped self.old (Prints e.now) }
+    {
+        match *e {
+            Event::Release { number, job } => self.release_next(number, &job),
+            Event::Run { number, .. } => self.run_next(number, steps),
+            Event::Preempt { stops, starts, .. } => self.preempt_next(stops, starts),
+            Event::Take { stops, starts, .. } => self.take_next(stops, starts, steps),
+            Event::Complete { number, .. } => self.complete_next(number),
+            Event::Abandon { number, .. } => self.abandon_next(number, steps),
+            Event::End { .. } => {}
         }
     }
 
