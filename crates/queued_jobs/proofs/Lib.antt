@@ -9,3 +9,4 @@ pub mod Changing
 pub mod Steps
 pub mod Inverting
 pub mod Displacing
+pub mod Ticking

@@ -1,15 +1,16 @@
 //! The jobs and their queues.
-ghost use Rattle.std.specs.Prelude.{◌≡◌, ◌≢◌, ◌≤◌, ◌<◌, ◌+◌, ◌-◌, ◌*◌, ◌^◌, ℕ, length, [], ◌∷◌, ◌++◌, Some, None, IfOk, IfSome, OnOk, OnErr, IsNone, IsSome, true, max, vec_len, vec_capacity};
+ghost use Rattle.std.specs.Prelude.{◌≡◌, ◌≢◌, ◌≤◌, ◌<◌, ◌+◌, ◌-◌, ◌*◌, ◌^◌, ℕ, length, [], ◌∷◌, ◌++◌, Some, None, IfOk, IfSome, OnOk, OnErr, IsNone, IsSome, true, max, map, vec_len, vec_capacity};
 ghost use Rattle.std.specs.List.{filter, find, slice_get, list_all};
+ghost use Rattle.std.specs.Option.{option_to_list};
 ghost use Rattle.dover_model.specs.Limits.{most_jobs, most_total, last_tick};
 ghost use Rattle.dover_model.specs.declared.events.Role.TheVariants.{Coming, Fresh, Waiting as Waits, Held, Running, Done, Gone};
 ghost use Rattle.dover_model.specs.Instance.{IsValid, with_jobs};
-ghost use Rattle.dover_model.specs.State.{State, opening, with_later, is_over, is_done, is_fresh, is_coming, is_held, left, value_sum};
+ghost use Rattle.dover_model.specs.State.{State, opening, with_later, is_over, is_done, is_fresh, is_coming, is_held, is_running, left, value_sum};
 ghost use Rattle.dover_model.specs.State.{running, held, waiting, privileged, room};
 ghost use Rattle.dover_model.specs.Orders.{due_first, latest_first, first};
 ghost use Rattle.dover_model.specs.Step.{open_step, view, after, is_at_latest_start};
 ghost use Rattle.dover_model.specs.Sound.{IsSound, Each, IsNumberedFrom};
-ghost use Rattle.dover_model.specs.Jumps.{NothingDue, later_by};
+ghost use Rattle.dover_model.specs.Jumps.{NothingDue, later_by, ticked_by};
 ghost use Rattle.dover_model.specs.Entries.{entry_of, room_of};
 ghost use Rattle.dover_model.specs.WaitingMoves.{enters, leaves};
 ghost use Rattle.queued_jobs.specs.Moves.{step_of, view_of};
@@ -92,6 +93,20 @@ fn set_role(tasks: &mut Vec<Task>, number: u32, role: Role)
     ensures capacity { vec_capacity tasks.new ≡ vec_capacity tasks.old }
 {
     tasks[number as usize].role = role;
+}
+
+// The running job, of this number, has had so many ticks more.
+fn serve(tasks: &mut Vec<Task>, runner: Option<u32>, ticks: u64)
+    requires numbered { IsNumberedFrom 0 tasks.old.items }
+    requires runner { map (λ t. t.number) (filter is_running tasks.old.items) ≡ option_to_list runner }
+    requires had { Each (λ t. t.had + ticks < 2 ^ 64) tasks.old.items }
+    ensures served { tasks.new.items ≡ map (ticked_by ticks) tasks.old.items }
+    ensures len { vec_len tasks.new ≡ vec_len tasks.old }
+    ensures capacity { vec_capacity tasks.new ≡ vec_capacity tasks.old }
+{
+    if let Some(number) = runner {
+        tasks[number as usize].had += ticks;
+    }
 }
 
 impl Queues {
@@ -510,6 +525,18 @@ impl Queues {
         if let Some(t) = self.task(number) {
             self.wait(&t, steps);
         }
+    }
+
+    /// The effect of so many silent ticks, before which nothing is due.
+    pub fn tick(&mut self, ticks: u64)
+        requires valid { IsValid (instance_of self.old) }
+        requires sound { IsSound self.old.state }
+        requires due { NothingDue ticks self.old.state }
+        requires last { self.old.state.clock + ticks ≤ last_tick }
+        ensures { self.new ≡ in_state self.old (later_by ticks self.old.state) }
+    {
+        serve(&mut self.tasks, self.cpu.running(), ticks);
+        self.cpu.run_to(self.cpu.clock() + ticks);
     }
 
     /// The sum of the values of the completed jobs.
