@@ -10,3 +10,4 @@ pub mod Steps
 pub mod Inverting
 pub mod Displacing
 pub mod Ticking
+pub mod Silent

@@ -115,7 +115,7 @@ module _ (v : Version) (s : State) (sound : IsSound s) (es : List Entry) (is : e
   late = filter (is_at_latest_start s) (filter is_waiting s.tasks)
 
   -- no waiting job is past its latest start
-  not_past : (t : Task) → IsMember t (filter is_waiting s.tasks) → s.clock ≤ latest_start t
+  pub not_past : (t : Task) → IsMember t (filter is_waiting s.tasks) → s.clock ≤ latest_start t
   not_past t m =
       let it = member_filter is_waiting s.tasks t m in
       let fits = says s sound t it.0 Waiting (is_waiting_role t it.1) in
@@ -150,11 +150,15 @@ module _ (v : Version) (s : State) (sound : IsSound s) (es : List Entry) (is : e
     there = first_member (is_latest_before v) (map entry_of (filter is_waiting s.tasks)) e (ap (first (is_latest_before v)) (sym is) ∙ sym at)
 
     -- none starts earlier
-    not_earlier : (t : Task) → IsMember t (filter is_waiting s.tasks) → e.latest ≤ latest_start t
+    pub not_earlier : (t : Task) → IsMember t (filter is_waiting s.tasks) → e.latest ≤ latest_start t
     not_earlier t m = elim (cases_lt (latest_start t) e.latest) [
       | inl less ↦ absurd (best (entry_of t) (map_member entry_of (filter is_waiting s.tasks) t m) (key_less (λ x. x.latest) v (entry_of t) e less))
       | inr not ↦ not
     ]
+
+    -- it is the entry of a waiting job
+    pub latest_job : (t : Task) × IsMember t (filter is_waiting s.tasks) × (e ≡ entry_of t)
+    latest_job = of_entry (filter is_waiting s.tasks) e there
 
     -- none is late where the first starts later
     pub late_later : e.latest ≢ s.clock → None ≡ first (latest_first v) late

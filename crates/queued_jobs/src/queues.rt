@@ -5,7 +5,7 @@ ghost use Rattle.std.specs.Option.{option_to_list};
 ghost use Rattle.dover_model.specs.Limits.{most_jobs, most_total, last_tick};
 ghost use Rattle.dover_model.specs.declared.events.Role.TheVariants.{Coming, Fresh, Waiting as Waits, Held, Running, Done, Gone};
 ghost use Rattle.dover_model.specs.Instance.{IsValid, with_jobs};
-ghost use Rattle.dover_model.specs.State.{State, opening, with_later, is_over, is_done, is_fresh, is_coming, is_held, is_running, left, value_sum};
+ghost use Rattle.dover_model.specs.State.{State, opening, with_later, is_over, is_done, is_fresh, is_coming, is_held, is_running, left, latest_start, value_sum};
 ghost use Rattle.dover_model.specs.State.{running, held, waiting, privileged, room};
 ghost use Rattle.dover_model.specs.Orders.{due_first, latest_first, first};
 ghost use Rattle.dover_model.specs.Step.{open_step, view, after, is_at_latest_start};
@@ -15,7 +15,7 @@ ghost use Rattle.dover_model.specs.Entries.{entry_of, room_of};
 ghost use Rattle.dover_model.specs.WaitingMoves.{enters, leaves};
 ghost use Rattle.queued_jobs.specs.Moves.{step_of, view_of};
 ghost use Rattle.queued_jobs.specs.Roles.{Changes, all_displaced};
-ghost use Rattle.dover_model.specs.Step.{Prints, Waits as WaitsFor};
+ghost use Rattle.dover_model.specs.Step.{Prints, Waits as WaitsFor, Ticks as TicksOn};
 ghost use Rattle.dover_model.specs.declared.events.Event.TheVariants.{Release, Run, Preempt, Take, Complete, Abandon};
 ghost use Rattle.queued_jobs.specs.Queued.{Queued, instance_of, in_state, with_job_in, IsNext, stepped};
 
@@ -525,6 +525,56 @@ impl Queues {
         if let Some(t) = self.task(number) {
             self.wait(&t, steps);
         }
+    }
+
+    // At most `most`, and what the running job has left.
+    fn before_done(&self, most: u64) -> u64
+        requires { IsSound self.now.state }
+        ensures most { result ≤ most }
+        ensures due { Each (λ t. t.role ≡ Running → result ≤ left t) self.now.state.tasks }
+        ensures some { 1 ≤ most → Each (λ t. t.role ≡ Running → 1 ≤ left t) self.now.state.tasks → 1 ≤ result }
+    {
+        match self.running() {
+            Some(r) => most.min(left(&r)),
+            None => most,
+        }
+    }
+
+    // At most `most`, and the ticks up to the first latest start.
+    fn before_latest(&self, most: u64) -> u64
+        requires { IsSound self.now.state }
+        ensures most { result ≤ most }
+        ensures due { Each (λ t. t.role ≡ Waits → self.now.state.clock + result ≤ latest_start t) self.now.state.tasks }
+        ensures some { 1 ≤ most → Each (λ t. t.role ≡ Waits → self.now.state.clock < latest_start t) self.now.state.tasks → 1 ≤ result }
+    {
+        match self.waiting.first_latest() {
+            Some(e) => most.min(e.latest.saturating_sub(self.cpu.clock())),
+            None => most,
+        }
+    }
+
+    // At most `most`, and the ticks up to the next release.
+    fn before_release(&self, most: u64) -> u64
+        requires valid { IsValid (instance_of self.now) }
+        requires sound { IsSound self.now.state }
+        ensures most { result ≤ most }
+        ensures due { Each (λ t. t.role ≡ Coming → self.now.state.clock + result ≤ t.job.release) self.now.state.tasks }
+        ensures some { 1 ≤ most → Each (λ t. t.role ≡ Coming → self.now.state.clock < t.job.release) self.now.state.tasks → 1 ≤ result }
+    {
+        match self.coming() {
+            Some(c) => most.min(c.job.release().saturating_sub(self.cpu.clock())),
+            None => most,
+        }
+    }
+
+    /// How many silent ticks come before anything is due, at most so many, where the next step is a silent tick.
+    pub fn silent_ticks(&self, most: u64) -> u64
+        requires { IsNext self.now TicksOn }
+        ensures most { result ≤ most }
+        ensures due { NothingDue result self.now.state }
+        ensures some { 1 ≤ most → 1 ≤ result }
+    {
+        self.before_release(self.before_latest(self.before_done(most)))
     }
 
     /// The effect of so many silent ticks, before which nothing is due.
