@@ -11,3 +11,4 @@ pub mod Inverting
 pub mod Displacing
 pub mod Ticking
 pub mod Silent
+pub mod Over

@@ -175,8 +175,8 @@ impl Queues {
         number
     }
 
-    // The job of a number.
-    fn task(&self, number: u32) -> Option<Task>
+    /// The job of a number, if there is one, with its role and the ticks that it has had.
+    pub fn task(&self, number: u32) -> Option<Task>
         ensures { result ≡ slice_get self.now.state.tasks number }
     {
         self.tasks.get(number as usize).copied()
@@ -589,11 +589,26 @@ impl Queues {
         self.cpu.run_to(self.cpu.clock() + ticks);
     }
 
+    /// Whether all jobs are done or gone, where the next step is a silent tick.
+    pub fn are_over(&self) -> bool
+        requires { IsNext self.now TicksOn }
+        ensures { result ≡ list_all is_over self.now.state.tasks }
+    {
+        self.running().is_none() && self.coming().is_none()
+    }
+
     /// The sum of the values of the completed jobs.
     pub fn value(&self) -> u64
         ensures { result ≡ value_sum (filter is_done self.now.state.tasks) }
     {
         self.done
+    }
+
+    /// How many jobs there are.
+    pub fn len(&self) -> u32
+        ensures { result ≡ length self.now.state.tasks }
+    {
+        self.tasks.len() as u32
     }
 
     /// The clock, in ticks.
