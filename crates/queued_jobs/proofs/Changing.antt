@@ -74,7 +74,7 @@ module _ (n : ℕ) (tasks changed : List Task) (new : Role) (ch : Changes n new 
         (others ch.back (λ x member e. let later = back_more m [] ch.back ch.task x numbered member in omega (arith, later, number, e)))
     by_front m (x ∷ xs) numbered number =
         ap (λ y. y ∷ (xs ++ with_role ch.task new ∷ ch.back)) (sym (same x (x.number == n) (differs x.number n
-            (λ e. let less = front_less m (x ∷ xs) ch.back ch.task x numbered (inl refl) in omega (arith, less, number, e)))))
+        (λ e. let less = front_less m (x ∷ xs) ch.back ch.task x numbered (inl refl) in omega (arith, less, number, e)))))
         ∙ ap (λ ys. with_role x (cond (x.number == n) new x.role) ∷ ys) (by_front (suc m) xs numbered.1 number)
 
 -- the only one that passes gives the option

@@ -10,7 +10,7 @@ use Rattle.dover_model.specs.Entries.{entry_of, room_of}
 use Rattle.dover_model.specs.Sound.{IsMember, Each}
 use Rattle.dover_model.proofs.Tests.{none_is_some}
 use Rattle.privileged_queue.specs.Stack.{room_at}
-use Rattle.dover_model.proofs.Members.{some_same, map_same, map_map, sum_filter, sum_map, sum_same, sum_zero}
+use Rattle.dover_model.proofs.Members.{some_same, map_same, map_map, sum_filter, sum_map, sum_zero}
 use Rattle.queued_jobs.specs.Queued.{put_in, by_deadline}
 
 -- ---- members
@@ -111,7 +111,7 @@ demand_sorted xs t = ap (λ n. t.left + n) (
 pub room_sorted : (clock : ℕ) (xs : List Entry) → room_of clock (by_deadline xs) ≡ room_of clock xs
 room_sorted clock xs =
     ap least (map_same (λ t. t.deadline - (clock + demand (by_deadline xs) t)) (λ t. t.deadline - (clock + demand xs t)) (by_deadline xs)
-        (λ t m. ap (λ n. t.deadline - (clock + n)) (demand_sorted xs t)))
+    (λ t m. ap (λ n. t.deadline - (clock + n)) (demand_sorted xs t)))
     ∙ least_sorted (λ t. t.deadline - (clock + demand xs t)) xs
 
 demand_map : (ts : List Task) (t : Task) → demand (map entry_of ts) (entry_of t) ≡ demand_up_to ts t
@@ -125,7 +125,7 @@ pub room_map : (clock : ℕ) (ts : List Task) → room_of clock (map entry_of ts
 room_map clock ts = ap least (
     map_map (λ e. e.deadline - (clock + demand (map entry_of ts) e)) entry_of ts
     ∙ map_same (λ t. t.job.deadline - (clock + demand (map entry_of ts) (entry_of t))) (λ t. t.job.deadline - (clock + demand_up_to ts t)) ts
-        (λ t m. ap (λ n. t.job.deadline - (clock + n)) (demand_map ts t)))
+    (λ t m. ap (λ n. t.job.deadline - (clock + n)) (demand_map ts t)))
 
 -- ---- one more that is due before all
 
@@ -143,12 +143,12 @@ module _ (clock : ℕ) (e : Entry) (held : List Entry) (first : Each (λ f. e.de
   none_before : sum_by (λ u. u.left) (filter (λ u. nat_lt u.deadline e.deadline) (e ∷ held)) ≡ 0
   none_before = sum_filter (λ u. nat_lt u.deadline e.deadline) (λ u. u.left) (e ∷ held)
       ∙ sum_zero (λ u. cond (nat_lt u.deadline e.deadline) u.left 0) (e ∷ held) each where
-    not_less : (m n l : ℕ) → n ≤ m → cond (nat_lt m n) l 0 ≡ 0
-    not_less m n l h = grind arith
+        not_less : (m n l : ℕ) → n ≤ m → cond (nat_lt m n) l 0 ≡ 0
+        not_less m n l h = grind arith
 
-    each : Each (λ u. cond (nat_lt u.deadline e.deadline) u.left 0 ≡ 0) (e ∷ held)
-    each u (inl is) = let same : u.deadline ≡ e.deadline = ap (λ (x : Entry). x.deadline) is in not_less u.deadline e.deadline u.left (omega arith)
-    each u (inr m) = let less : e.deadline < u.deadline = first u m in not_less u.deadline e.deadline u.left (omega arith)
+        each : Each (λ u. cond (nat_lt u.deadline e.deadline) u.left 0 ≡ 0) (e ∷ held)
+        each u (inl is) = let same : u.deadline ≡ e.deadline = ap (λ (x : Entry). x.deadline) is in not_less u.deadline e.deadline u.left (omega arith)
+        each u (inr m) = let less : e.deadline < u.deadline = first u m in not_less u.deadline e.deadline u.left (omega arith)
 
   own_slack : e.deadline - (clock + demand (e ∷ held) e) ≡ e.deadline - (clock + e.left)
   own_slack = let none = none_before in omega (arith, none)
@@ -177,7 +177,7 @@ module _ (clock : ℕ) (e : Entry) (held : List Entry) (first : Each (λ f. e.de
       → room_of clock (e ∷ held) ≡ min (e.deadline - (clock + e.left)) (room_of clock held - e.left)
   room_more f more some =
       least_cons (e.deadline - (clock + demand (e ∷ held) e)) _ (map (λ f. f.deadline - (clock + demand (e ∷ held) f)) held) _
-          (ap (map (λ f. f.deadline - (clock + demand (e ∷ held) f))) some)
+      (ap (map (λ f. f.deadline - (clock + demand (e ∷ held) f))) some)
       ∙ ap (λ n. min n (least (map (λ f. f.deadline - (clock + demand (e ∷ held) f)) held))) own_slack
       ∙ ap (min (e.deadline - (clock + e.left))) others
 

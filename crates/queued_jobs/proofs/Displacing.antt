@@ -1,6 +1,6 @@
 -- A take: the running and the held jobs wait.
-use Rattle.std.proofs.Common.{◌≡◌, ℕ, zero, suc, ◌+◌, ◌≤◌, ◌<◌, inl, inr, List, [], ◌∷◌, length, map, refl, sym, ap, ◌∙◌, subst, Bool, true, false, cond, arith}
-use Rattle.std.specs.Prelude.{Option, Some, None, ◌==◌}
+use Rattle.std.proofs.Common.{◌≡◌, ℕ, zero, suc, ◌≤◌, ◌<◌, inl, inr, List, [], ◌∷◌, length, refl, sym, ap, ◌∙◌, Bool, true, false, cond, arith}
+use Rattle.std.specs.Prelude.{Some, None, ◌==◌}
 use Rattle.std.specs.List.{filter, slice_get}
 use Rattle.dover_model.specs.declared.events.Role.{Role}
 use Rattle.dover_model.specs.declared.events.Role.TheVariants.{Coming, Fresh, Waiting, Held, Running, Done, Gone}
@@ -11,7 +11,7 @@ use Rattle.dover_model.specs.Orders.{due_first, first}
 use Rattle.dover_model.specs.Step.{with_role, displaced}
 use Rattle.dover_model.specs.Sound.{IsMember, Each, IsNumberedFrom}
 use Rattle.dover_model.proofs.Members.{some_same, map_map, map_same, on_map, member_filter, filter_member, not_found}
-use Rattle.dover_model.proofs.Roles.{by_role, one_number, passes, is_held_role, is_running_role, numbered_map}
+use Rattle.dover_model.proofs.Roles.{one_number, passes, is_held_role}
 use Rattle.dover_model.proofs.Tests.{none_is_some, never}
 use Rattle.queued_jobs.specs.Roles.{with_role_at, all_displaced}
 use Rattle.queued_jobs.specs.Queued.{Queued, in_state}
@@ -106,7 +106,7 @@ fewer_held tasks p member holds = below tasks member where
     by_tests : (b c : Bool) → is_held (with_role t (cond (t.number == p.number) Waiting t.role)) ≡ b → is_held t ≡ c
         → length (filter is_held (with_role_at p.number Waiting ts)) ≤ length (filter is_held ts)
         → length (cond b (with_role t (cond (t.number == p.number) Waiting t.role) ∷ filter is_held (with_role_at p.number Waiting ts))
-          (filter is_held (with_role_at p.number Waiting ts))) ≤ length (cond c (t ∷ filter is_held ts) (filter is_held ts))
+        (filter is_held (with_role_at p.number Waiting ts))) ≤ length (cond c (t ∷ filter is_held ts) (filter is_held ts))
     by_tests true true e f rest = omega (arith, rest)
     by_tests true false e f rest = never (out (t.number == p.number) false t f e)
     by_tests false true e f rest = omega (arith, rest)
@@ -126,7 +126,7 @@ fewer_held tasks p member holds = below tasks member where
 
     by_tests : (b c : Bool) → b ≡ false → c ≡ true → length (filter is_held (with_role_at p.number Waiting ts)) ≤ length (filter is_held ts)
         → length (cond b (with_role t (cond (t.number == p.number) Waiting t.role) ∷ filter is_held (with_role_at p.number Waiting ts))
-          (filter is_held (with_role_at p.number Waiting ts))) < length (cond c (t ∷ filter is_held ts) (filter is_held ts))
+        (filter is_held (with_role_at p.number Waiting ts))) < length (cond c (t ∷ filter is_held ts) (filter is_held ts))
     by_tests true c f g rest = never (sym f)
     by_tests false true f g rest = omega (arith, rest)
     by_tests false false f g rest = never g
@@ -134,7 +134,7 @@ fewer_held tasks p member holds = below tasks member where
     by_tests : (b c : Bool) → is_held (with_role t (cond (t.number == p.number) Waiting t.role)) ≡ b → is_held t ≡ c
         → length (filter is_held (with_role_at p.number Waiting ts)) < length (filter is_held ts)
         → length (cond b (with_role t (cond (t.number == p.number) Waiting t.role) ∷ filter is_held (with_role_at p.number Waiting ts))
-          (filter is_held (with_role_at p.number Waiting ts))) < length (cond c (t ∷ filter is_held ts) (filter is_held ts))
+        (filter is_held (with_role_at p.number Waiting ts))) < length (cond c (t ∷ filter is_held ts) (filter is_held ts))
     by_tests true true e f rest = omega (arith, rest)
     by_tests true false e f rest = never (out (t.number == p.number) false t f e)
     by_tests false true e f rest = omega (arith, rest)

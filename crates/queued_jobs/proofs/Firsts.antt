@@ -1,6 +1,6 @@
 -- The first of a list by a strict order.
-use Rattle.std.proofs.Common.{◌≡◌, ℕ, ◌≤◌, ◌<◌, ◌⊎◌, inl, inr, List, [], ◌∷◌, map, refl, sym, ap, ◌∙◌, subst, Bool, true, false, arith, nat_lt, Option, Some, None}
-use Rattle.std.specs.Prelude.{option_map, ◌||◌, ◌&&◌, ◌==◌}
+use Rattle.std.proofs.Common.{◌≡◌, ℕ, ◌≤◌, ◌<◌, ◌⊎◌, inl, inr, List, [], ◌∷◌, refl, sym, ap, ◌∙◌, subst, Bool, true, false, arith, nat_lt, Some}
+use Rattle.std.specs.Prelude.{◌||◌, ◌&&◌, ◌==◌}
 use Rattle.std.specs.List.{fold}
 use Rattle.std.proofs.lemmas.Bool.{cases_eq, false≢true}
 use Rattle.dover_model.specs.declared.events.Version.{Version}
@@ -55,14 +55,17 @@ module _ (before : Entry → Entry → Bool) (strict : IsStrictOrder before) whe
     by_test : (b : Bool) → before x acc ≡ b → (fold (earlier before) x xs ≡ e → Best e x xs) → (fold (earlier before) acc xs ≡ e → Best e acc xs)
         → Best e acc (x ∷ xs)
     by_test true h at_x at_acc =
-        let best : Best e x xs = at_x (ap (λ y. fold (earlier before) y xs) (sym (earlier_pick before acc x true h)) ∙ is) in
-        (inr (elim best.0 [ inl same ↦ ap (λ y. before y acc) same ∙ h | inr less ↦ strict.onward e x acc less h ]),
-            each_cons (λ y. before y e ≡ true → ⊥) x xs (not_before e x best.0) best.1)
+        let best : Best e x xs = at_x (ap (λ y. fold (earlier before) y xs) (sym (earlier_pick before acc x true h)) ∙ is) in (
+          inr (elim best.0 [ inl same ↦ ap (λ y. before y acc) same ∙ h | inr less ↦ strict.onward e x acc less h ]),
+          each_cons (λ y. before y e ≡ true → ⊥) x xs (not_before e x best.0) best.1,
+        )
     by_test false h at_x at_acc =
-        let best : Best e acc xs = at_acc (ap (λ y. fold (earlier before) y xs) (sym (earlier_pick before acc x false h)) ∙ is) in
-        (best.0, each_cons (λ y. before y e ≡ true → ⊥) x xs
-            (λ at. elim best.0 [ inl same ↦ false≢true (sym h ∙ ap (before x) (sym same) ∙ at) | inr less ↦ false≢true (sym h ∙ strict.onward x e acc at less) ])
-            best.1)
+        let best : Best e acc xs = at_acc (ap (λ y. fold (earlier before) y xs) (sym (earlier_pick before acc x false h)) ∙ is) in (
+          best.0,
+          each_cons (λ y. before y e ≡ true → ⊥) x xs
+              (λ at. elim best.0 [ inl same ↦ false≢true (sym h ∙ ap (before x) (sym same) ∙ at) | inr less ↦ false≢true (sym h ∙ strict.onward x e acc at less) ])
+              best.1,
+        )
 
   -- none comes before the first
   pub first_best : (e : Entry) (xs : List Entry) → first before xs ≡ Some e → Each (λ y. before y e ≡ true → ⊥) xs

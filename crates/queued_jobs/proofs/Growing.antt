@@ -1,5 +1,5 @@
 -- One job more, and more room.
-use Rattle.std.proofs.Common.{◌≡◌, ℕ, zero, suc, ◌+◌, ◌-◌, ◌≤◌, ◌⊎◌, inl, inr, List, [], ◌∷◌, ◌++◌, length, map, replicate, refl, sym, ap, ◌∙◌, subst, Bool, true, false, arith, cond}
+use Rattle.std.proofs.Common.{◌≡◌, ℕ, zero, suc, ◌+◌, ◌-◌, ◌≤◌, inl, inr, List, [], ◌∷◌, ◌++◌, length, map, replicate, refl, sym, ap, ◌∙◌, subst, Bool, true, false, arith, cond}
 use Rattle.std.specs.Prelude.{Option, Some, None, nat_le}
 use Rattle.std.specs.List.{filter}
 use Rattle.std.proofs.lemmas.List.{append_assoc, replicate-append-replicate, map-append, length_push, length-append, length-map, length-replicate}
@@ -8,7 +8,7 @@ use Rattle.dover_model.specs.declared.events.Entry.{Entry}
 use Rattle.dover_model.specs.declared.events.Role.TheVariants.{Coming}
 use Rattle.dover_model.specs.State.{is_coming, is_running, is_fresh, is_waiting, is_held, is_done, value_sum}
 use Rattle.dover_model.specs.Entries.{entry_of}
-use Rattle.dover_model.specs.Sound.{IsMember, Each, IsNumberedFrom}
+use Rattle.dover_model.specs.Sound.{Each, IsNumberedFrom}
 use Rattle.dover_model.proofs.Tests.{never}
 use Rattle.dover_model.proofs.Roles.{passes}
 use Rattle.queued_jobs.specs.Queued.{Agrees, turn_of, waiting_entry, by_deadline}

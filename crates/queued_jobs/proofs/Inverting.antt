@@ -1,5 +1,5 @@
 -- What a step says of the jobs that it names.
-use Rattle.std.proofs.Common.{◌≡◌, ℕ, ◌+◌, ◌-◌, ◌≤◌, ◌<◌, ◌⊎◌, inl, inr, List, map, refl, sym, ap, ◌∙◌, subst, Bool, true, false, arith, zero, suc, cond, [], ◌∷◌}
+use Rattle.std.proofs.Common.{◌≡◌, ℕ, ◌+◌, ◌-◌, ◌≤◌, ◌⊎◌, inl, inr, List, map, refl, sym, ap, ◌∙◌, subst, Bool, true, false, arith, zero, suc, cond, [], ◌∷◌}
 use Rattle.std.specs.Prelude.{Option, Some, None, ◌==◌}
 use Rattle.std.proofs.lemmas.Bool.{false≢true}
 use Rattle.dover_model.specs.declared.events.Role.{Role}
@@ -8,12 +8,11 @@ use Rattle.queued_jobs.specs.Roles.{with_role_at}
 use Rattle.std.specs.List.{filter, find, slice_get, sum_by}
 use Rattle.dover_model.specs.declared.events.Version.{Version}
 use Rattle.dover_model.specs.declared.events.Role.TheVariants.{Coming, Fresh, Waiting, Held, Running}
-use Rattle.dover_model.specs.declared.events.Event.{Event}
 use Rattle.dover_model.specs.declared.events.Event.TheVariants.{Release, Run, Preempt, Take, Complete, Abandon, End}
 use Rattle.dover_model.specs.declared.events.Task.{Task}
 use Rattle.dover_model.specs.declared.events.Entry.{Entry}
 use Rattle.dover_model.specs.Fraction.{Fraction}
-use Rattle.dover_model.specs.State.{State, is_coming, is_fresh, is_held, is_running, is_privileged, held, running, left, value_sum}
+use Rattle.dover_model.specs.State.{State, is_coming, is_held, is_running, is_privileged, held, running, left, value_sum}
 use Rattle.dover_model.specs.Limits.{last_tick, most_total}
 use Rattle.dover_model.specs.Instance.{Instance, IsValid}
 use Rattle.dover_model.proofs.Kept.{realistic}
@@ -21,10 +20,10 @@ use Rattle.dover_model.proofs.Moves.{says, active_slack}
 use Rattle.dover_model.specs.Entries.{IsStrictOrder, entry_of, is_due_before}
 use Rattle.dover_model.specs.Orders.{due_first, first}
 use Rattle.dover_model.specs.Step.{Move, Prints, Waits, Ticks, with_role}
-use Rattle.dover_model.specs.Sound.{IsMember, Each, EachTwo, NoneRuns, IsNumberedFrom, IsSound, Keeps, jobs_of}
+use Rattle.dover_model.specs.Sound.{IsMember, Each, NoneRuns, IsNumberedFrom, IsSound, Keeps, jobs_of}
 use Rattle.dover_model.proofs.EntryOrders.{strict_by}
-use Rattle.dover_model.proofs.Members.{some_same, found, not_found, filter_member, member_filter, map_member, on_map, sum_map}
-use Rattle.dover_model.proofs.Roles.{passes, one_number, is_held_role, is_fresh_role, is_running_role, is_coming_role, numbers_above}
+use Rattle.dover_model.proofs.Members.{some_same, found, filter_member, member_filter, map_member, on_map, sum_map}
+use Rattle.dover_model.proofs.Roles.{passes, one_number, is_held_role, is_running_role, is_coming_role, numbers_above}
 use Rattle.dover_model.proofs.Tests.{none_is_some, never}
 use Rattle.dover_model.proofs.Deeds.{Deed, Completed, Resumed, Started, Began, Preempted, Stayed, Arrived, Taken, Abandoned, Rested}
 use Rattle.queued_jobs.proofs.Firsts.{first_only, key_most, not_itself}
@@ -120,13 +119,25 @@ module _ (v : Version) (k : Fraction) (s : State) (sound : IsSound s) where
   pub runs_says : (at n : ℕ) (m : Move) → Deed k s Ticks m → m ≡ Prints (Run at n) → Runs v s n
   runs_says at n m (Completed r member role done) e = absurd (cc)
   runs_says at n m (Resumed p member role none least why) e = record {
-    task = p; member = member; number = cc; free = none_runs s none; role = inl (role, held_first v s sound p member role least);
+    task = p;
+    member = member;
+    number = cc;
+    free = none_runs s none;
+    role = inl (role, held_first v s sound p member role least);
   }
   runs_says at n m (Started o member role none first fits next) e = record {
-    task = o; member = member; number = cc; free = none_runs s none; role = inr (inl role);
+    task = o;
+    member = member;
+    number = cc;
+    free = none_runs s none;
+    role = inr (inl role);
   }
   runs_says at n m (Began f member role none) e = record {
-    task = f; member = member; number = cc; free = none_runs s none; role = inr (inr role);
+    task = f;
+    member = member;
+    number = cc;
+    free = none_runs s none;
+    role = inr (inr role);
   }
   runs_says at n m (Preempted r f r_in runs some f_in fresh before fits) e = absurd (cc)
   runs_says at n m (Stayed r f r_in runs some f_in fresh why) e = absurd (cc)
@@ -221,7 +232,12 @@ module _ (v : Version) (k : Fraction) (s : State) (sound : IsSound s) where
   arrives_says n job m (Preempted r f r_in runs some f_in fresh before fits) e = absurd (cc)
   arrives_says n job m (Stayed r f r_in runs some f_in fresh why) e = absurd (cc)
   arrives_says n job m (Arrived c member role now least stale busy free) e = record {
-    task = c; member = member; number = cc; role = role; least = least; stale = stale;
+    task = c;
+    member = member;
+    number = cc;
+    role = role;
+    least = least;
+    stale = stale;
   }
   arrives_says n job m (Taken r x r_in runs some x_in waits now stale heavy) e = absurd (cc)
   arrives_says n job m (Abandoned r x r_in runs some x_in waits now stale light) e = absurd (cc)
@@ -256,7 +272,14 @@ module _ (k : Fraction) (s : State) where
   preempts_says at stops starts m (Started o member role none first fits next) e = absurd (cc)
   preempts_says at stops starts m (Began f member role none) e = absurd (cc)
   preempts_says at stops starts m (Preempted r f r_in runs some f_in fresh before fits) e = record {
-    stopped = r; started = f; stopped_in = r_in; started_in = f_in; stopped_number = cc; started_number = cc; stopped_role = runs; started_role = fresh;
+    stopped = r;
+    started = f;
+    stopped_in = r_in;
+    started_in = f_in;
+    stopped_number = cc;
+    started_number = cc;
+    stopped_role = runs;
+    started_role = fresh;
   }
   preempts_says at stops starts m (Stayed r f r_in runs some f_in fresh why) e = absurd (cc)
   preempts_says at stops starts m (Arrived c member role now least stale busy free) e = absurd (cc)
@@ -273,7 +296,14 @@ module _ (k : Fraction) (s : State) where
   takes_says at stops starts m (Stayed r f r_in runs some f_in fresh why) e = absurd (cc)
   takes_says at stops starts m (Arrived c member role now least stale busy free) e = absurd (cc)
   takes_says at stops starts m (Taken r x r_in runs some x_in waits now stale heavy) e = record {
-    stopped = r; started = x; stopped_in = r_in; started_in = x_in; stopped_number = cc; started_number = cc; stopped_role = runs; started_role = waits;
+    stopped = r;
+    started = x;
+    stopped_in = r_in;
+    started_in = x_in;
+    stopped_number = cc;
+    started_number = cc;
+    stopped_role = runs;
+    started_role = waits;
   }
   takes_says at stops starts m (Abandoned r x r_in runs some x_in waits now stale light) e = absurd (cc)
   takes_says at stops starts m (Rested quiet) e = absurd (cc)

@@ -1,5 +1,5 @@
 -- What the heads of the queues say of the jobs.
-use Rattle.std.proofs.Common.{◌≡◌, ◌≢◌, ℕ, ◌+◌, ◌-◌, ◌≤◌, ◌<◌, ◌⊎◌, inl, inr, List, [], ◌∷◌, ◌++◌, map, replicate, refl, sym, ap, ◌∙◌, subst, Bool, true, false, arith, cond, add-zero}
+use Rattle.std.proofs.Common.{◌≡◌, ◌≢◌, ℕ, ◌+◌, ◌≤◌, ◌<◌, ◌⊎◌, inl, inr, List, [], ◌∷◌, ◌++◌, map, replicate, refl, sym, ap, ◌∙◌, subst, Bool, true, false, arith, cond, add-zero}
 use Rattle.std.specs.Prelude.{Option, Some, None, option_map, unwrap_or, ◌||◌, ◌==◌, nat_lt}
 use Rattle.std.specs.Option.{option_to_list}
 use Rattle.std.specs.List.{filter, find, slice_get, sum_by}
@@ -9,13 +9,13 @@ use Rattle.dover_model.specs.declared.events.Version.{Version}
 use Rattle.dover_model.specs.declared.events.Role.TheVariants.{Running, Held, Waiting}
 use Rattle.dover_model.specs.declared.events.Task.{Task}
 use Rattle.dover_model.specs.declared.events.Entry.{Entry}
-use Rattle.dover_model.specs.State.{State, is_running, is_held, is_waiting, is_privileged, running, privileged, room, left, latest_start, value_sum}
+use Rattle.dover_model.specs.State.{State, is_running, is_held, is_waiting, is_privileged, running, privileged, room, latest_start, value_sum}
 use Rattle.dover_model.specs.Limits.{most_total}
 use Rattle.dover_model.specs.Instance.{Instance, IsValid}
 use Rattle.dover_model.specs.Entries.{IsStrictOrder, entry_of, room_of, is_due_before, is_latest_before}
 use Rattle.dover_model.specs.Orders.{due_first, latest_first, first}
 use Rattle.dover_model.specs.Step.{is_at_latest_start}
-use Rattle.dover_model.specs.Sound.{IsMember, Each, EachTwo, IsNumberedFrom, IsSound, jobs_of}
+use Rattle.dover_model.specs.Sound.{IsMember, Each, IsNumberedFrom, IsSound, jobs_of}
 use Rattle.dover_model.proofs.EntryOrders.{strict_by}
 use Rattle.dover_model.proofs.Members.{some_same, member_filter, filter_member, all_member, map_member, map_map, sum_le, sum_filter, sum_same, sum_plus, sum_map}
 use Rattle.dover_model.proofs.Roles.{is_running_role, is_held_role, is_waiting_role}
@@ -42,7 +42,7 @@ held_found v tasks [] e all is order top = none_is_some (sym top)
 held_found v tasks (f ∷ rest) e all is order top =
     found_first (is_due_before v) tasks (filter is_held tasks) e all (passing is_held tasks)
     (first_only (is_due_before v) strict e es (member_sorted es e (subst (IsMember e) is (inl same))) best
-        (own_entries tasks (filter is_held tasks) all (passing is_held tasks))) where
+    (own_entries tasks (filter is_held tasks) all (passing is_held tasks))) where
       es : List Entry
       es = map entry_of (filter is_held tasks)
 
@@ -130,14 +130,14 @@ module _ (v : Version) (s : State) (sound : IsSound s) (es : List Entry) (is : e
   pub late_none : None ≡ first (is_latest_before v) es → None ≡ first (latest_first v) late
   late_none none = ap (first (latest_first v)) (sym (none_at (λ t m. absurd (none_waits (map entry_of (filter is_waiting s.tasks))
       (ap (first (is_latest_before v)) (sym is) ∙ sym none) (entry_of t) (there t (filter is_waiting s.tasks) m))))) where
-    there : (t : Task) (ts : List Task) → IsMember t ts → IsMember (entry_of t) (map entry_of ts)
-    there t [] m = absurd m
-    there t (u ∷ us) (inl e) = inl (ap entry_of e)
-    there t (u ∷ us) (inr m) = inr (there t us m)
+        there : (t : Task) (ts : List Task) → IsMember t ts → IsMember (entry_of t) (map entry_of ts)
+        there t [] m = absurd m
+        there t (u ∷ us) (inl e) = inl (ap entry_of e)
+        there t (u ∷ us) (inr m) = inr (there t us m)
 
-    none_waits : (xs : List Entry) → first (is_latest_before v) xs ≡ None → (y : Entry) → IsMember y xs → ⊥
-    none_waits [] e y m = absurd m
-    none_waits (x ∷ xs) e y m = none_is_some (sym e)
+        none_waits : (xs : List Entry) → first (is_latest_before v) xs ≡ None → (y : Entry) → IsMember y xs → ⊥
+        none_waits [] e y m = absurd m
+        none_waits (x ∷ xs) e y m = none_is_some (sym e)
 
   module _ (e : Entry) (at : Some e ≡ first (is_latest_before v) es) where
     strict : IsStrictOrder (is_latest_before v)
@@ -174,8 +174,8 @@ module _ (v : Version) (s : State) (sound : IsSound s) (es : List Entry) (is : e
     late_found same =
         found_first (is_latest_before v) s.tasks late e sound.numbered inside
         (first_only (is_latest_before v) strict e (map entry_of late) member
-            (λ y m h. best y (kept y m) h)
-            (own_entries s.tasks late sound.numbered inside)) where
+        (λ y m h. best y (kept y m) h)
+        (own_entries s.tasks late sound.numbered inside)) where
           inside : Each (λ t. IsMember t s.tasks) late
           inside t m = passing is_waiting s.tasks t (member_filter (is_at_latest_start s) (filter is_waiting s.tasks) t m).0
 
@@ -219,7 +219,7 @@ both_sum : (f : Task → ℕ) (tasks : List Task)
 both_sum f tasks =
     sum_filter is_privileged f tasks
     ∙ sum_same (λ t. cond (is_privileged t) (f t) 0) (λ t. cond (is_running t) (f t) 0 + cond (is_held t) (f t) 0) tasks
-        (λ t m. by_test t (is_running t) (is_held t) refl refl)
+    (λ t m. by_test t (is_running t) (is_held t) refl refl)
     ∙ sum_plus (λ t. cond (is_running t) (f t) 0) (λ t. cond (is_held t) (f t) 0) tasks
     ∙ ap (λ n. n + sum_by (λ t. cond (is_held t) (f t) 0) tasks) (sym (sum_filter is_running f tasks))
     ∙ ap (λ n. sum_by f (filter is_running tasks) + n) (sym (sum_filter is_held f tasks)) where
@@ -240,7 +240,7 @@ pub busy_value : (tasks : List Task) (held : List Entry) (r : Task) → held ≡
 busy_value tasks held r is runs =
     let both = both_sum (λ t. t.job.value) tasks in
     let one : sum_by (λ t. t.job.value) (filter is_running tasks) ≡ r.job.value =
-        ap (λ ts. sum_by (λ t. t.job.value) ts) runs ∙ sum_by-cons (λ t. t.job.value) r [] ∙ add-zero r.job.value in
+    ap (λ ts. sum_by (λ t. t.job.value) ts) runs ∙ sum_by-cons (λ t. t.job.value) r [] ∙ add-zero r.job.value in
     omega (arith, both, one, held_value tasks held is)
 
 -- where none runs, the running and the held jobs are the held ones
@@ -361,7 +361,7 @@ free_room s none = ap (room s.clock) (sym (free_privileged s.tasks (none_found i
 pub few_value : (p : Task → Bool) (J : Instance) (tasks : List Task) → IsValid J → jobs_of tasks ≡ J.jobs → value_sum (filter p tasks) ≤ most_total
 few_value p J tasks valid jobs =
     let some : value_sum (filter p tasks) ≤ value_sum tasks = le_along (sym (sum_filter p (λ t. t.job.value) tasks))
-        (sum_le (λ t. cond (p t) t.job.value 0) (λ t. t.job.value) tasks (λ t m. by_test (p t) t.job.value)) in
+    (sum_le (λ t. cond (p t) t.job.value 0) (λ t. t.job.value) tasks (λ t m. by_test (p t) t.job.value)) in
     let all : sum_by (λ j. j.value) (jobs_of tasks) ≡ value_sum tasks = sum_map (λ t. t.job) (λ j. j.value) tasks in
     let total : sum_by (λ j. j.value) (jobs_of tasks) ≤ most_total = subst (λ js. sum_by (λ j. j.value) js ≤ most_total) (sym jobs) valid.total in
     omega (arith, some, all, total) where

@@ -1,5 +1,5 @@
 -- Jobs that are found by their numbers.
-use Rattle.std.proofs.Common.{◌≡◌, ℕ, suc, zero, ◌+◌, ◌-◌, ◌≤◌, ◌<◌, ◌⊎◌, inl, inr, List, [], ◌∷◌, map, refl, sym, ap, ◌∙◌, subst, Bool, true, false, arith, cond}
+use Rattle.std.proofs.Common.{◌≡◌, ℕ, suc, ◌-◌, ◌≤◌, ◌<◌, ◌⊎◌, inl, inr, List, [], ◌∷◌, map, refl, sym, ap, ◌∙◌, subst, Bool, true, false, arith, cond}
 use Rattle.std.specs.Prelude.{Option, Some, None, option_map, nat_le}
 use Rattle.std.specs.List.{filter, find, slice_get}
 use Rattle.std.proofs.lemmas.Bool.{cases_eq}
@@ -67,11 +67,11 @@ found_one p tasks n all one = by_list (filter p tasks) refl one where
   by_list (t ∷ more) is one =
       let member : IsMember t tasks = (member_filter p tasks t (subst (IsMember t) (sym is) (inl refl))).0 in
       ap (slice_get tasks) (sym (same_number one)) ∙ ap (slice_get tasks) (zero_off t.number) ∙ at_number 0 tasks t all member ∙ sym (find_head p tasks t more is) where
-    same_number : t.number ∷ map (λ t. t.number) more ≡ n ∷ [] → t.number ≡ n
-    same_number e = cc
+        same_number : t.number ∷ map (λ t. t.number) more ≡ n ∷ [] → t.number ≡ n
+        same_number e = cc
 
-    zero_off : (m : ℕ) → m ≡ m - 0
-    zero_off m = omega arith
+        zero_off : (m : ℕ) → m ≡ m - 0
+        zero_off m = omega arith
 
 -- the first to come stands at the next number
 pub found_coming : (n : ℕ) (tasks : List Task) (next : ℕ) → IsNumberedFrom n tasks → Each (λ t. is_coming t ≡ nat_le next t.number) tasks → n ≤ next

@@ -1,14 +1,14 @@
 -- How long nothing is due.
-use Rattle.std.proofs.Common.{◌≡◌, ℕ, suc, ◌+◌, ◌-◌, ◌≤◌, ◌<◌, inl, inr, List, [], ◌∷◌, refl, sym, ap, ◌∙◌, subst, Bool, true, false, cond, arith}
-use Rattle.std.specs.Prelude.{Option, Some, None}
+use Rattle.std.proofs.Common.{◌≡◌, ℕ, suc, ◌≤◌, ◌<◌, inl, inr, List, [], ◌∷◌, refl, sym, ap, ◌∙◌, Bool, true, false, cond, arith}
+use Rattle.std.specs.Prelude.{Some, None}
 use Rattle.std.specs.List.{filter, find}
 use Rattle.dover_model.specs.declared.events.Role.TheVariants.{Coming, Waiting, Running}
 use Rattle.dover_model.specs.declared.events.Task.{Task}
-use Rattle.dover_model.specs.State.{State, is_coming, is_waiting, is_running, left, latest_start, running}
+use Rattle.dover_model.specs.State.{State, is_coming, is_running, latest_start, running}
 use Rattle.dover_model.specs.Orders.{first}
 use Rattle.dover_model.specs.Instance.{Instance, IsValid}
 use Rattle.dover_model.specs.Sound.{IsMember, Each, IsNumberedFrom, IsSound, Keeps}
-use Rattle.dover_model.proofs.Members.{some_same, found, filter_member, not_found}
+use Rattle.dover_model.proofs.Members.{some_same, found, filter_member}
 use Rattle.dover_model.proofs.Roles.{passes, one_number, numbers_above, is_running_role, is_coming_role}
 use Rattle.dover_model.proofs.Tests.{none_is_some, never}
 use Rattle.dover_model.proofs.Moves.{says}

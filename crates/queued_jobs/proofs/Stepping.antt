@@ -1,13 +1,13 @@
 -- How the queues follow a change of one job's role.
-use Rattle.std.proofs.Common.{◌≡◌, ℕ, zero, suc, ◌+◌, ◌-◌, ◌≤◌, ◌<◌, ◌⊎◌, inl, inr, List, [], ◌∷◌, ◌++◌, length, map, set, replicate, refl, sym, ap, ◌∙◌}
-use Rattle.std.proofs.Common.{subst, Bool, true, false, arith, cond}
+use Rattle.std.proofs.Common.{◌≡◌, ℕ, suc, ◌+◌, ◌<◌, ◌⊎◌, inl, inr, List, [], ◌∷◌, ◌++◌, length, map, set, replicate, refl, sym, ap, ◌∙◌}
+use Rattle.std.proofs.Common.{subst, true, false, arith, cond}
 use Rattle.std.specs.Prelude.{Option, Some, None, nat_le}
 use Rattle.std.specs.List.{filter}
 use Rattle.dover_model.specs.declared.events.Role.{Role}
 use Rattle.dover_model.specs.declared.events.Role.TheVariants.{Coming, Fresh, Waiting, Held, Running, Done, Gone}
 use Rattle.dover_model.specs.declared.events.Task.{Task}
 use Rattle.dover_model.specs.declared.events.Entry.{Entry}
-use Rattle.dover_model.specs.State.{is_coming, is_fresh, is_waiting, is_held, is_running, is_done, left, value_sum}
+use Rattle.dover_model.specs.State.{is_coming, is_fresh, is_waiting, is_held, is_running, is_done, value_sum}
 use Rattle.dover_model.specs.Entries.{entry_of}
 use Rattle.dover_model.specs.Step.{with_role}
 use Rattle.dover_model.specs.Sound.{IsMember, Each, IsNumberedFrom}
@@ -50,15 +50,18 @@ module _ (front back : List Task) (t : Task) (table : List (Option Entry)) (k : 
   others_later : (e : Entry) (stack : List Entry) → t.role ≡ Held → IsNumberedFrom 0 (front ++ t ∷ back) → (e ∷ stack) ≡ held_entries (front ++ t ∷ back)
       → IsByDeadline (e ∷ stack) → t.number ≡ e.number → (entry_of t ≡ e) × Each (λ x. is_held x ≡ true → t.job.deadline < x.job.deadline) front
       × Each (λ x. is_held x ≡ true → t.job.deadline < x.job.deadline) back
-  others_later e stack role all is order same = (t_is, (λ x m held. later x (in_front front back t x m) held (differs_front x m)),
-      (λ x m held. later x (in_back front back t x m) held (differs_back x m))) where
+  others_later e stack role all is order same = (
+    t_is,
+    (λ x m held. later x (in_front front back t x m) held (differs_front x m)),
+    (λ x m held. later x (in_back front back t x m) held (differs_back x m)),
+  ) where
     tasks : List Task
     tasks = front ++ t ∷ back
 
     t_is : entry_of t ≡ e
     t_is =
         let it = of_entry (filter is_held (front ++ t ∷ back)) e
-            (member_sorted (map entry_of (filter is_held (front ++ t ∷ back))) e (subst (IsMember e) is (inl refl))) in
+        (member_sorted (map entry_of (filter is_held (front ++ t ∷ back))) e (subst (IsMember e) is (inl refl))) in
         let inside = (member_filter is_held (front ++ t ∷ back) it.0 it.1).0 in
         let number : t.number ≡ it.0.number = same ∙ ap (λ (x : Entry). x.number) it.2 in
         ap entry_of (one_number 0 (front ++ t ∷ back) all t it.0 (in_middle front back t) inside number) ∙ sym it.2
@@ -123,7 +126,6 @@ module _ (front back : List Task) (t : Task) (table : List (Option Entry)) (k : 
     length_middle [] = omega arith
     length_middle (x ∷ xs) = let rest = length_middle xs in omega (arith, rest)
 
-
   -- the running job is done
   pub agrees_complete : (stack : List Entry) (newest : Option ℕ) (upcoming worth : ℕ) → t.role ≡ Running
       → Agrees (front ++ t ∷ back) table k stack (Some (turn_of t)) newest upcoming worth
@@ -162,7 +164,6 @@ module _ (front back : List Task) (t : Task) (table : List (Option Entry)) (k : 
   } where
     below : stack ≡ held_entries (front ++ with_role t Running ∷ back)
     below = top_goes e stack role kept.numbered kept.held order same Running refl
-
 
   -- a waiting job runs
   pub agrees_start : (stack : List Entry) (newest : Option ℕ) (upcoming worth : ℕ) → t.role ≡ Waiting
@@ -278,7 +279,6 @@ module _ (front back : List Task) (t : Task) (table : List (Option Entry)) (k : 
   } where
     below : stack ≡ held_entries (front ++ with_role t Waiting ∷ back)
     below = top_goes e stack role kept.numbered kept.held order same Waiting refl
-
 
   -- a waiting job is gone
   pub agrees_abandon : (stack : List Entry) (job : Option (ℕ × ℕ)) (newest : Option ℕ) (upcoming worth : ℕ) → t.role ≡ Waiting

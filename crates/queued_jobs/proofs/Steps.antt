@@ -14,7 +14,7 @@ use Rattle.dover_model.proofs.Tests.{none_is_some, never}
 use Rattle.dover_model.specs.declared.events.Role.TheVariants.{Coming, Fresh, Waiting, Held, Running, Done, Gone}
 use Rattle.dover_model.specs.declared.events.Task.{Task}
 use Rattle.dover_model.specs.declared.events.Entry.{Entry}
-use Rattle.dover_model.specs.State.{is_fresh, is_running, is_held, is_waiting, is_done, value_sum}
+use Rattle.dover_model.specs.State.{is_fresh, is_running, is_held, is_waiting, value_sum}
 use Rattle.dover_model.specs.Entries.{entry_of}
 use Rattle.dover_model.specs.Sound.{IsMember, Each, IsNumberedFrom}
 use Rattle.dover_model.proofs.Roles.{passes, is_held_role}
@@ -262,7 +262,7 @@ pub few_wait : (tasks : List Task) (table : List (Option Entry)) (k : ℕ) → t
     → count_by is_some table ≤ length tasks
 few_wait tasks table k is =
     let same : count_by is_some table ≡ count_by is_some (map waiting_entry tasks) =
-        ap (λ l. count_by is_some l) is ∙ grown_count (map waiting_entry tasks) k in
+    ap (λ l. count_by is_some l) is ∙ grown_count (map waiting_entry tasks) k in
     omega (arith, same, count_by-le-length is_some (map waiting_entry tasks), length-map tasks waiting_entry)
 
 -- no job of the processor where none runs

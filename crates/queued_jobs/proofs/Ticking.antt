@@ -1,5 +1,5 @@
 -- Silent ticks: the running job has had so many more.
-use Rattle.std.proofs.Common.{◌≡◌, ℕ, zero, suc, ◌+◌, ◌-◌, ◌≤◌, ◌<◌, ◌⊎◌, inl, inr, List, [], ◌∷◌, ◌++◌, length, map, set, get_or, replicate, refl, sym, ap, ◌∙◌}
+use Rattle.std.proofs.Common.{◌≡◌, ℕ, zero, suc, ◌+◌, ◌-◌, ◌≤◌, inl, inr, List, [], ◌∷◌, ◌++◌, length, map, set, replicate, refl, sym, ap, ◌∙◌}
 use Rattle.std.proofs.Common.{subst, Bool, true, false, cond, arith}
 use Rattle.std.specs.Prelude.{Option, Some, None, option_map, nat_le}
 use Rattle.std.specs.Option.{option_to_list}
@@ -74,7 +74,7 @@ module _ (n : ℕ) where
 
     by_test : (b : Bool) → is_running x ≡ b → map (λ (z : Task). z.number) (cond b (x ∷ filter is_running (front ++ t ∷ back)) (filter is_running (front ++ t ∷ back))) ≡ j ∷ []
         → (map (λ (z : Task). z.number) (filter is_running (front ++ t ∷ back)) ≡ j ∷ []
-          → front ++ record { number = t.number; job = t.job; role = t.role; had = t.had + n } ∷ back ≡ map (ticked_by n) (front ++ t ∷ back))
+        → front ++ record { number = t.number; job = t.job; role = t.role; had = t.had + n } ∷ back ≡ map (ticked_by n) (front ++ t ∷ back))
         → x ∷ (front ++ record { number = t.number; job = t.job; role = t.role; had = t.had + n } ∷ back)
         ≡ ticked_by n x ∷ map (ticked_by n) (front ++ t ∷ back)
     by_test true e h rest = absurd (there front (tail h)) where
@@ -140,7 +140,7 @@ module _ (n : ℕ) where
         ap (map turn_of) (filter_ticked is_running (λ t. refl) tasks)
         ∙ map_map turn_of (ticked_by n) (filter is_running tasks)
         ∙ map_same (λ t. turn_of (ticked_by n t)) (λ t. (t.number, left t - n)) (filter is_running tasks)
-            (λ t m. left_ticked t (member_filter is_running tasks t m).1)
+        (λ t m. left_ticked t (member_filter is_running tasks t m).1)
         ∙ sym (map_map less turn_of (filter is_running tasks))
         ∙ ap (λ l. map less l) kept.running ∙ list_option job;
     fresh =

@@ -1,5 +1,5 @@
 -- The cases of a step, of a view.
-use Rattle.std.specs.Prelude.{Option, Some, None, if◌then◌else◌}
+use Rattle.std.specs.Prelude.{Option, if◌then◌else◌}
 use Rattle.dover_model.specs.declared.events.Event.TheVariants.{Preempt, Take, Abandon}
 use Rattle.dover_model.specs.declared.events.Task.{Task}
 use Rattle.dover_model.specs.Fraction.{Fraction}

@@ -1,5 +1,4 @@
 -- Steps and views as values of the program.
-use Rattle.std.specs.Prelude.{ℕ}
 use Rattle.dover_model.specs.Step as step
 use Rattle.queued_jobs.specs.declared.moves.Move.{Move}
 use Rattle.queued_jobs.specs.declared.moves.Move.TheVariants.{Prints, Waits, Ticks}

@@ -7,4 +7,3 @@ pub mod queues;
 
 pub use moves::{Move, View};
 pub use queues::Queues;
-

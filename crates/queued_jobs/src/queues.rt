@@ -157,9 +157,9 @@ impl Queues {
         requires { 1 ≤ self.old.spare }
         ensures number { result ≡ length self.old.state.tasks }
         ensures in_it { self.new ≡ record {
-            rules = self.old.rules;
-            state = with_later self.old.state (record { number = length self.old.state.tasks; job = job; role = Coming; had = 0 } ∷ []);
-            spare = self.old.spare - 1;
+          rules = self.old.rules;
+          state = with_later self.old.state (record { number = length self.old.state.tasks; job = job; role = Coming; had = 0 } ∷ []);
+          spare = self.old.spare - 1;
         } }
     {
         let number = self.tasks.len() as u32;

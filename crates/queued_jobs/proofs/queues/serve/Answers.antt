@@ -1,4 +1,4 @@
-use Rattle.std.proofs.Common.{◌≡◌, ◌+◌, ◌<◌, ◌^◌, set, get_or, Some, None, sym, ap, ◌∙◌, arith}
+use Rattle.std.proofs.Common.{◌≡◌, ◌+◌, ◌<◌, ◌^◌, set, sym, ap, ◌∙◌, arith}
 use Rattle.std.specs.Prelude.{unwrap_or}
 use Rattle.std.specs.Option.{option_to_list}
 use Rattle.std.proofs.lemmas.Option.{slice_get_within, unwrap_or-slice_get}
@@ -33,7 +33,7 @@ returns-in-Some-clause-served c =
     let d = c.index_mut.result.now in
     let is : d ≡ it.0 = c.index_mut.ensures.value ∙ sym (unwrap_or-slice_get items n d) ∙ ap (λ o. unwrap_or o d) it.1 in
     ap (λ (x : Task). set items n (record { number = x.number; job = x.job; role = x.role; had = x.had + c.args.ticks })) is
-        ∙ served_at items n c.args.ticks it.0 it.1 one it.2
+    ∙ served_at items n c.args.ticks it.0 it.1 one it.2
 
 pub returns-in_default-clause-served : goal.returns-in_default-clause-served
 returns-in_default-clause-served c = free_ticked c.args.ticks c.args.tasks.now.items (c.requires.runner ∙ ap option_to_list c.in_default.is)

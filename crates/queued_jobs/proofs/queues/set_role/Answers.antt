@@ -1,4 +1,4 @@
-use Rattle.std.proofs.Common.{◌∙◌, ap, subst, set, sym}
+use Rattle.std.proofs.Common.{subst, set, sym}
 use Rattle.dover_model.specs.Step.{with_role}
 use Rattle.queued_jobs.specs.Roles.{Changes}
 use Rattle.queued_jobs.proofs.Changing.{changes_at}

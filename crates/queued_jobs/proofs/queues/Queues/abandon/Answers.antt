@@ -1,21 +1,10 @@
-use Rattle.std.proofs.Common.{◌≡◌, ℕ, ◌+◌, ◌*◌, ◌^◌, ◌≤◌, ◌<◌, ◌∷◌, List, length, set, true, false, Some, None, refl, sym, ap, ◌∙◌, subst, arith}
-use Rattle.std.specs.Prelude.{IsSome, IsNone, vec_len, is_some}
-use Rattle.std.specs.List.{slice_get, find, filter, count_by}
+use Rattle.std.proofs.Common.{◌≡◌, ◌+◌, ◌^◌, ◌<◌, length, Some, refl, sym, ap, ◌∙◌, subst, arith}
+use Rattle.std.specs.List.{slice_get}
 use Rattle.std.proofs.lemmas.Option.{slice_get_within}
-use Rattle.dover_model.specs.declared.events.Entry.{Entry}
-use Rattle.dover_model.specs.declared.events.Role.TheVariants.{Coming, Fresh, Waiting, Held, Running, Done, Gone}
-use Rattle.dover_model.specs.State.{is_running, is_waiting, is_fresh, is_held, is_coming, running, held}
-use Rattle.dover_model.specs.Entries.{entry_of}
-use Rattle.dover_model.specs.Orders.{due_first, first}
-use Rattle.dover_model.proofs.Roles.{passes}
-use Rattle.waiting_queue.specs.Queue.{Queue}
-use Rattle.privileged_queue.specs.Stack.{Stack, IsByDeadline}
-use Rattle.tick_cpu.specs.Processor.{Processor}
-use Rattle.queued_jobs.specs.Queued.{Agrees, turn_of, queued_of}
-use Rattle.queued_jobs.proofs.Lookup.{found_coming}
-use Rattle.queued_jobs.proofs.Changing.{splits, only_one, is_map}
-use Rattle.queued_jobs.proofs.Steps.{abandon_step, changed_view, found_member, found_number, few_wait, free_job, stale_number, taken_out, number_free, number_ready}
-use Rattle.queued_jobs.proofs.Steps.{top_job, without_first}
+use Rattle.dover_model.specs.declared.events.Role.TheVariants.{Gone}
+use Rattle.queued_jobs.specs.Queued.{Agrees, queued_of}
+use Rattle.queued_jobs.proofs.Changing.{splits, is_map}
+use Rattle.queued_jobs.proofs.Steps.{abandon_step, changed_view, few_wait, taken_out}
 use Rattle.queued_jobs.proofs.queues.Queues.abandon.Goals as goal
 
 pub set_role-requires : goal.set_role-requires
@@ -37,9 +26,9 @@ invariant_of-self g c =
     let changed = c.set_role.new.tasks.items in
     let k = kept.agrees.0 in
     let after_is = taken_out inside.waiting c.take_out.new.self tasks k t c.take_out.result kept.agrees.2.waiting found c.requires.role c.take_out.ensures.was
-        c.take_out.ensures.rest in
+    c.take_out.ensures.rest in
     let agrees = abandon_step tasks changed t inside.waiting.table k inside.held.held inside.cpu.job inside.fresh inside.next inside.done
-        (splits t Gone tasks changed found c.set_role.ensures.changes) c.requires.role kept.agrees.2 in
+    (splits t Gone tasks changed found c.set_role.ensures.changes) c.requires.role kept.agrees.2 in
     record {
       version = ap (λ w. w.version) after_is ∙ kept.version;
       agrees = (k, kept.agrees.1, (subst (λ w. Agrees changed w.table k inside.held.held inside.cpu.job inside.fresh inside.next inside.done) (sym after_is) agrees));

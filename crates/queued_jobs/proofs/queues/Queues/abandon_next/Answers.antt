@@ -1,17 +1,14 @@
-use Rattle.std.proofs.Common.{◌≡◌, ◌+◌, ◌*◌, ◌≤◌, ◌⊎◌, inl, inr, Some, None, refl, sym, ap, ◌∙◌, subst, arith}
+use Rattle.std.proofs.Common.{◌≡◌, Some, refl, sym, ap, ◌∙◌, subst}
 use Rattle.std.specs.List.{slice_get}
-use Rattle.dover_model.specs.declared.events.Role.TheVariants.{Waiting, Held, Running, Fresh, Done, Gone}
+use Rattle.dover_model.specs.declared.events.Role.TheVariants.{Gone}
 use Rattle.dover_model.specs.declared.events.Task.{Task}
 use Rattle.dover_model.specs.Step.{open_step}
-use Rattle.dover_model.specs.State.{left, held}
-use Rattle.dover_model.specs.Orders.{first, due_first}
-use Rattle.dover_model.specs.Limits.{last_tick}
 use Rattle.dover_model.specs.Sound.{Keeps}
 use Rattle.dover_model.proofs.Members.{some_same}
 use Rattle.dover_model.proofs.Tests.{none_is_some}
 use Rattle.dover_model.proofs.Kept.{open_deed}
 use Rattle.queued_jobs.specs.Queued.{instance_of, with_job_in}
-use Rattle.queued_jobs.proofs.Inverting.{abandons_says, task_at, same_task, in_time, all_value}
+use Rattle.queued_jobs.proofs.Inverting.{abandons_says, task_at, same_task}
 use Rattle.queued_jobs.proofs.queues.Queues.abandon_next.Goals as goal
 
 pub abandon-requires-clause-found : goal.abandon-requires-clause-found
@@ -21,7 +18,7 @@ abandon-requires-clause-found g c =
     let all = c.requires.sound.numbered in
     let keeps : Keeps (instance_of q) q.state = record { sound = c.requires.sound; jobs = refl } in
     let it = abandons_says q.rules.version q.rules.ratio q.state c.requires.sound q.state.clock c.args.number (open_step q.rules q.state)
-        (open_deed (instance_of q) c.requires.valid q.state keeps q.rules) c.requires.step in
+    (open_deed (instance_of q) c.requires.valid q.state keeps q.rules) c.requires.step in
     let t = c.in-Some.t in
     let same : t ≡ it.task = some_same t it.task (same_task tasks c.args.number (Some t) it.task all it.member it.number c.in-Some.ensures) in
     subst (λ x. slice_get tasks x.number ≡ Some x) (sym same) (task_at tasks it.task all it.member)
@@ -33,7 +30,7 @@ abandon-requires-clause-role g c =
     let all = c.requires.sound.numbered in
     let keeps : Keeps (instance_of q) q.state = record { sound = c.requires.sound; jobs = refl } in
     let it = abandons_says q.rules.version q.rules.ratio q.state c.requires.sound q.state.clock c.args.number (open_step q.rules q.state)
-        (open_deed (instance_of q) c.requires.valid q.state keeps q.rules) c.requires.step in
+    (open_deed (instance_of q) c.requires.valid q.state keeps q.rules) c.requires.step in
     let t = c.in-Some.t in
     let same : t ≡ it.task = some_same t it.task (same_task tasks c.args.number (Some t) it.task all it.member it.number c.in-Some.ensures) in
     ap (λ (x : Task). x.role) same ∙ it.role
@@ -45,7 +42,7 @@ returns-in-Some-clause-gone g c =
     let all = c.requires.sound.numbered in
     let keeps : Keeps (instance_of q) q.state = record { sound = c.requires.sound; jobs = refl } in
     let it = abandons_says q.rules.version q.rules.ratio q.state c.requires.sound q.state.clock c.args.number (open_step q.rules q.state)
-        (open_deed (instance_of q) c.requires.valid q.state keeps q.rules) c.requires.step in
+    (open_deed (instance_of q) c.requires.valid q.state keeps q.rules) c.requires.step in
     let t = c.in-Some.t in
     let same : t ≡ it.task = some_same t it.task (same_task tasks c.args.number (Some t) it.task all it.member it.number c.in-Some.ensures) in
     c.abandon.ensures.gone ∙ ap (λ m. with_job_in q m Gone) (ap (λ (x : Task). x.number) same ∙ it.number)
@@ -57,5 +54,5 @@ returns-in_default-clause-gone g c =
     let all = c.requires.sound.numbered in
     let keeps : Keeps (instance_of q) q.state = record { sound = c.requires.sound; jobs = refl } in
     let it = abandons_says q.rules.version q.rules.ratio q.state c.requires.sound q.state.clock c.args.number (open_step q.rules q.state)
-        (open_deed (instance_of q) c.requires.valid q.state keeps q.rules) c.requires.step in
+    (open_deed (instance_of q) c.requires.valid q.state keeps q.rules) c.requires.step in
     none_is_some (sym c.in_default.is ∙ same_task tasks c.args.number c.task.result it.task all it.member it.number c.task.ensures)

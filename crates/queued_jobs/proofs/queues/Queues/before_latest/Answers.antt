@@ -1,5 +1,4 @@
 use Rattle.std.proofs.Common.{◌≡◌, ◌+◌, ◌≤◌, ◌<◌, true, refl, sym, ap, ◌∙◌, subst, arith}
-use Rattle.std.specs.List.{filter}
 use Rattle.dover_model.specs.declared.events.Entry.{Entry}
 use Rattle.dover_model.specs.declared.events.Role.TheVariants.{Waiting}
 use Rattle.dover_model.specs.State.{is_waiting, latest_start}
@@ -23,10 +22,10 @@ returns-in-Some-clause-due c =
     let members = waiting_members inside.tasks.items table c.self.invariant.agrees.0 c.self.invariant.agrees.2.waiting in
     let at = c.in-Some.ensures ∙ ap (λ v. first (is_latest_before v) (members_of table)) c.self.invariant.version in
     let due : Each (λ t. t.role ≡ Waiting → s.clock + c.min.result ≤ latest_start t) s.tasks = (λ x m waits.
-        let there = filter_member is_waiting inside.tasks.items x m (passes is_waiting x Waiting true waits refl) in
-        let past = not_past inside.version s sound (members_of table) members x there in
-        let low = not_earlier inside.version s sound (members_of table) members c.in-Some.e at x there in
-        omega (arith, past, low, c.min.ensures, c.saturating_sub.ensures, c.clock.ensures)) in
+    let there = filter_member is_waiting inside.tasks.items x m (passes is_waiting x Waiting true waits refl) in
+    let past = not_past inside.version s sound (members_of table) members x there in
+    let low = not_earlier inside.version s sound (members_of table) members c.in-Some.e at x there in
+    omega (arith, past, low, c.min.ensures, c.saturating_sub.ensures, c.clock.ensures)) in
     subst (λ q. Each (λ t. t.role ≡ Waiting → q.state.clock + c.min.result ≤ latest_start t) q.state.tasks) c.self.view_is due
 
 pub returns-in-Some-clause-some : goal.returns-in-Some-clause-some
@@ -53,5 +52,5 @@ returns-in-None-clause-due c =
     let at = c.in-None.ensures ∙ ap (λ v. first (is_latest_before v) (members_of table)) c.self.invariant.version in
     let none = waiting_none (is_latest_before inside.version) inside.tasks.items (members_of table) members at in
     let due : Each (λ t. t.role ≡ Waiting → s.clock + c.args.most ≤ latest_start t) s.tasks = (λ x m waits.
-        absurd (none_pass (latest_first inside.version) is_waiting inside.tasks.items (sym none) x m (passes is_waiting x Waiting true waits refl))) in
+    absurd (none_pass (latest_first inside.version) is_waiting inside.tasks.items (sym none) x m (passes is_waiting x Waiting true waits refl))) in
     subst (λ q. Each (λ t. t.role ≡ Waiting → q.state.clock + c.args.most ≤ latest_start t) q.state.tasks) c.self.view_is due

@@ -10,5 +10,5 @@ returns c =
     let next = c.self.inside.next in
     let off : next ≡ next - 0 = omega arith in
     c.task.ensures ∙ ap (λ q. slice_get q.state.tasks next) (sym c.self.view_is) ∙ ap (slice_get tasks) off
-        ∙ found_coming 0 tasks next c.self.invariant.agrees.2.numbered c.self.invariant.agrees.2.coming (omega arith)
-        ∙ ap (λ q. find is_coming q.state.tasks) c.self.view_is
+    ∙ found_coming 0 tasks next c.self.invariant.agrees.2.numbered c.self.invariant.agrees.2.coming (omega arith)
+    ∙ ap (λ q. find is_coming q.state.tasks) c.self.view_is

@@ -1,4 +1,4 @@
-use Rattle.std.proofs.Common.{◌≡◌, ◌+◌, ◌≤◌, ◌<◌, length, true, false, Some, None, refl, sym, ap, ◌∙◌, subst, arith}
+use Rattle.std.proofs.Common.{◌≡◌, ◌+◌, ◌≤◌, true, false, Some, refl, sym, ap, subst, arith}
 use Rattle.std.specs.Prelude.{IsSome}
 use Rattle.std.specs.List.{slice_get}
 use Rattle.std.proofs.lemmas.Option.{slice_get_within}
@@ -16,7 +16,7 @@ stop-requires c =
     let tasks = c.self.inside.tasks.items in
     let found = subst (λ q. slice_get q.state.tasks t.number ≡ Some t) (sym c.self.view_is) c.requires.found in
     let job = only_one turn_of is_running tasks c.self.inside.cpu.job t c.self.invariant.agrees.2.running (found_member tasks t.number t found)
-        (passes is_running t Running true c.requires.role refl) in
+    (passes is_running t Running true c.requires.role refl) in
     subst IsSome (sym job) refl
 
 pub overflow_add-self : goal.overflow_add-self
@@ -43,13 +43,16 @@ invariant_of-self c =
     let found = subst (λ q. slice_get q.state.tasks t.number ≡ Some t) (sym c.self.view_is) c.requires.found in
     let worth = ap (λ n. inside.done + n) c.value.ensures.is in
     let agrees = complete_step tasks changed t inside.waiting.table kept.agrees.0 inside.held.held inside.cpu.job inside.fresh inside.next inside.done
-        (splits t Done tasks changed found c.set_role.ensures.changes) c.requires.role kept.agrees.2 in
+    (splits t Done tasks changed found c.set_role.ensures.changes) c.requires.role kept.agrees.2 in
     record {
       version = kept.version;
-      agrees = (kept.agrees.0, kept.agrees.1,
-          subst (λ n. Agrees changed inside.waiting.table kept.agrees.0 inside.held.held c.stop.new.self.job inside.fresh inside.next n) (sym worth)
-          (subst (λ p. Agrees changed inside.waiting.table kept.agrees.0 inside.held.held p.job inside.fresh inside.next (inside.done + t.job.value))
-          (sym c.stop.ensures.free) agrees));
+      agrees = (
+        kept.agrees.0,
+        kept.agrees.1,
+        subst (λ n. Agrees changed inside.waiting.table kept.agrees.0 inside.held.held c.stop.new.self.job inside.fresh inside.next n) (sym worth)
+            (subst (λ p. Agrees changed inside.waiting.table kept.agrees.0 inside.held.held p.job inside.fresh inside.next (inside.done + t.job.value))
+            (sym c.stop.ensures.free) agrees),
+      );
       latest = subst (λ p. inside.held.latest ≤ p.clock) (sym c.stop.ensures.free) kept.latest;
       fits = omega (arith, kept.fits, c.set_role.ensures.len, c.set_role.ensures.capacity);
       fits_held = omega (arith, kept.fits_held, c.set_role.ensures.len);

@@ -9,5 +9,5 @@ pub decide-requires : goal.decide-requires
 decide-requires c =
     let value : c.view.result.value ≡ value_sum (privileged c.args.self.now.state) = ap (λ v. v.value) c.view.ensures in
     let few : value_sum (privileged c.args.self.now.state) ≤ most_total =
-        few_value is_privileged (instance_of c.args.self.now) c.args.self.now.state.tasks c.requires.valid refl in
+    few_value is_privileged (instance_of c.args.self.now) c.args.self.now.state.tasks c.requires.valid refl in
     omega (arith, value, few)

@@ -1,22 +1,14 @@
-use Rattle.std.proofs.Common.{◌≡◌, ℕ, ◌+◌, ◌-◌, ◌*◌, ◌^◌, ◌≤◌, ◌<◌, ◌∷◌, List, length, set, true, false, Some, None, refl, sym, ap, ◌∙◌, subst, arith}
-use Rattle.std.specs.Prelude.{IsSome, IsNone, vec_len, is_some}
-use Rattle.std.specs.List.{slice_get, find, filter, count_by}
+use Rattle.std.proofs.Common.{◌≡◌, ◌+◌, ◌-◌, Some, refl, sym, ap, ◌∙◌, subst, arith}
+use Rattle.std.specs.List.{slice_get, find}
 use Rattle.std.proofs.lemmas.Option.{slice_get_within}
-use Rattle.dover_model.specs.declared.events.Entry.{Entry}
-use Rattle.dover_model.specs.declared.events.Role.TheVariants.{Coming, Fresh, Waiting, Held, Running, Done, Gone}
-use Rattle.dover_model.specs.State.{is_running, is_waiting, is_fresh, is_held, is_coming, running, held}
-use Rattle.dover_model.specs.Entries.{entry_of}
-use Rattle.dover_model.specs.Orders.{due_first, first}
-use Rattle.dover_model.proofs.Roles.{passes, is_coming_role}
+use Rattle.dover_model.specs.declared.events.Role.TheVariants.{Fresh}
+use Rattle.dover_model.specs.State.{is_fresh, is_coming}
+use Rattle.dover_model.proofs.Roles.{is_coming_role}
 use Rattle.dover_model.proofs.Members.{found as found_passes}
-use Rattle.waiting_queue.specs.Queue.{Queue}
-use Rattle.privileged_queue.specs.Stack.{Stack, IsByDeadline}
-use Rattle.tick_cpu.specs.Processor.{Processor}
-use Rattle.queued_jobs.specs.Queued.{Agrees, turn_of, queued_of}
+use Rattle.queued_jobs.specs.Queued.{Agrees, queued_of}
 use Rattle.queued_jobs.proofs.Lookup.{found_coming}
-use Rattle.queued_jobs.proofs.Changing.{splits, only_one, is_map}
-use Rattle.queued_jobs.proofs.Steps.{release_step, changed_view, found_member, found_number, few_wait, free_job, stale_number, taken_out, number_free, number_ready}
-use Rattle.queued_jobs.proofs.Steps.{top_job, without_first}
+use Rattle.queued_jobs.proofs.Changing.{splits, is_map}
+use Rattle.queued_jobs.proofs.Steps.{release_step, changed_view, found_number, stale_number}
 use Rattle.queued_jobs.proofs.queues.Queues.release.Goals as goal
 
 pub set_role-requires : goal.set_role-requires
@@ -27,8 +19,8 @@ set_role-requires c =
     let t = c.args.t.now in
     let off : inside.next ≡ inside.next - 0 = omega arith in
     let at : slice_get tasks inside.next ≡ Some t = ap (slice_get tasks) off
-        ∙ found_coming 0 tasks inside.next kept.agrees.2.numbered kept.agrees.2.coming (omega arith) ∙ ap (λ q. find is_coming q.state.tasks) c.self.view_is
-        ∙ c.requires.first in
+    ∙ found_coming 0 tasks inside.next kept.agrees.2.numbered kept.agrees.2.coming (omega arith) ∙ ap (λ q. find is_coming q.state.tasks) c.self.view_is
+    ∙ c.requires.first in
     let number = found_number 0 tasks inside.next t kept.agrees.2.numbered at in
     let here : t.number ≡ inside.next = omega (arith, number) in
     let found : slice_get tasks t.number ≡ Some t = ap (slice_get tasks) here ∙ at in
@@ -42,8 +34,8 @@ invariant_of-self c =
     let t = c.args.t.now in
     let off : inside.next ≡ inside.next - 0 = omega arith in
     let at : slice_get tasks inside.next ≡ Some t = ap (slice_get tasks) off
-        ∙ found_coming 0 tasks inside.next kept.agrees.2.numbered kept.agrees.2.coming (omega arith) ∙ ap (λ q. find is_coming q.state.tasks) c.self.view_is
-        ∙ c.requires.first in
+    ∙ found_coming 0 tasks inside.next kept.agrees.2.numbered kept.agrees.2.coming (omega arith) ∙ ap (λ q. find is_coming q.state.tasks) c.self.view_is
+    ∙ c.requires.first in
     let number = found_number 0 tasks inside.next t kept.agrees.2.numbered at in
     let here : t.number ≡ inside.next = omega (arith, number) in
     let found : slice_get tasks t.number ≡ Some t = ap (slice_get tasks) here ∙ at in
@@ -52,11 +44,14 @@ invariant_of-self c =
     let role = is_coming_role t (found_passes is_coming tasks t (ap (λ q. find is_coming q.state.tasks) c.self.view_is ∙ c.requires.first)).1 in
     let none = stale_number tasks inside.fresh kept.agrees.2.fresh (ap (λ q. find is_fresh q.state.tasks) c.self.view_is ∙ c.requires.stale) in
     let agrees = release_step tasks changed t inside.waiting.table k inside.held.held inside.cpu.job inside.fresh inside.next inside.done
-        (splits t Fresh tasks changed found c.set_role.ensures.changes) role kept.agrees.2 none (sym here) in
+    (splits t Fresh tasks changed found c.set_role.ensures.changes) role kept.agrees.2 none (sym here) in
     record {
       version = kept.version;
-      agrees = (k, kept.agrees.1,
-          subst (λ m. Agrees changed inside.waiting.table k inside.held.held inside.cpu.job (Some t.number) (m + 1) inside.done) here agrees);
+      agrees = (
+        k,
+        kept.agrees.1,
+        subst (λ m. Agrees changed inside.waiting.table k inside.held.held inside.cpu.job (Some t.number) (m + 1) inside.done) here agrees,
+      );
       latest = kept.latest;
       fits = omega (arith, kept.fits, c.set_role.ensures.len, c.set_role.ensures.capacity);
       fits_held = omega (arith, kept.fits_held, c.set_role.ensures.len);

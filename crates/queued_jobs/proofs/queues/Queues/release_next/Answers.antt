@@ -1,19 +1,15 @@
-use Rattle.std.proofs.Common.{◌≡◌, ◌+◌, ◌*◌, ◌≤◌, ◌⊎◌, inl, inr, Some, None, refl, sym, ap, ◌∙◌, subst, arith}
-use Rattle.std.specs.List.{slice_get}
-use Rattle.dover_model.specs.declared.events.Role.TheVariants.{Waiting, Held, Running, Fresh, Done, Gone}
+use Rattle.std.proofs.Common.{◌≡◌, Some, refl, sym, ap, ◌∙◌}
+use Rattle.dover_model.specs.declared.events.Role.TheVariants.{Fresh}
 use Rattle.dover_model.specs.declared.events.Task.{Task}
 use Rattle.dover_model.specs.Step.{open_step}
-use Rattle.dover_model.specs.State.{is_fresh, is_coming}
-use Rattle.std.specs.List.{find}
+use Rattle.dover_model.specs.State.{is_fresh}
 use Rattle.dover_model.proofs.Roles.{is_fresh_role}
-use Rattle.dover_model.specs.Orders.{first, due_first}
-use Rattle.dover_model.specs.Limits.{last_tick}
 use Rattle.dover_model.specs.Sound.{Keeps}
 use Rattle.dover_model.proofs.Members.{some_same}
 use Rattle.dover_model.proofs.Tests.{none_is_some}
 use Rattle.dover_model.proofs.Kept.{open_deed}
 use Rattle.queued_jobs.specs.Queued.{instance_of, with_job_in}
-use Rattle.queued_jobs.proofs.Inverting.{arrives_says, coming_first, none_of, task_at, same_task, in_time, all_value}
+use Rattle.queued_jobs.proofs.Inverting.{arrives_says, coming_first, none_of, same_task}
 use Rattle.queued_jobs.proofs.queues.Queues.release_next.Goals as goal
 
 pub release-requires-clause-first : goal.release-requires-clause-first
@@ -23,7 +19,7 @@ release-requires-clause-first c =
     let all = c.requires.sound.numbered in
     let keeps : Keeps (instance_of q) q.state = record { sound = c.requires.sound; jobs = refl } in
     let it = arrives_says q.rules.version q.rules.ratio q.state c.requires.sound c.args.number c.args.job.now (open_step q.rules q.state)
-        (open_deed (instance_of q) c.requires.valid q.state keeps q.rules) c.requires.step in
+    (open_deed (instance_of q) c.requires.valid q.state keeps q.rules) c.requires.step in
     let t = c.in-Some.t in
     let same : t ≡ it.task = some_same t it.task (same_task tasks c.args.number (Some t) it.task all it.member it.number c.in-Some.ensures) in
     coming_first 0 tasks it.task all it.member it.role it.least ∙ ap Some (sym same)
@@ -35,7 +31,7 @@ release-requires-clause-stale c =
     let all = c.requires.sound.numbered in
     let keeps : Keeps (instance_of q) q.state = record { sound = c.requires.sound; jobs = refl } in
     let it = arrives_says q.rules.version q.rules.ratio q.state c.requires.sound c.args.number c.args.job.now (open_step q.rules q.state)
-        (open_deed (instance_of q) c.requires.valid q.state keeps q.rules) c.requires.step in
+    (open_deed (instance_of q) c.requires.valid q.state keeps q.rules) c.requires.step in
     none_of is_fresh tasks (λ t m h. it.stale t m (is_fresh_role t h))
 
 pub returns-in-Some : goal.returns-in-Some
@@ -45,7 +41,7 @@ returns-in-Some c =
     let all = c.requires.sound.numbered in
     let keeps : Keeps (instance_of q) q.state = record { sound = c.requires.sound; jobs = refl } in
     let it = arrives_says q.rules.version q.rules.ratio q.state c.requires.sound c.args.number c.args.job.now (open_step q.rules q.state)
-        (open_deed (instance_of q) c.requires.valid q.state keeps q.rules) c.requires.step in
+    (open_deed (instance_of q) c.requires.valid q.state keeps q.rules) c.requires.step in
     let t = c.in-Some.t in
     let same : t ≡ it.task = some_same t it.task (same_task tasks c.args.number (Some t) it.task all it.member it.number c.in-Some.ensures) in
     c.release.ensures ∙ ap (λ m. with_job_in q m Fresh) (ap (λ (x : Task). x.number) same ∙ it.number)
@@ -57,5 +53,5 @@ returns-in_default c =
     let all = c.requires.sound.numbered in
     let keeps : Keeps (instance_of q) q.state = record { sound = c.requires.sound; jobs = refl } in
     let it = arrives_says q.rules.version q.rules.ratio q.state c.requires.sound c.args.number c.args.job.now (open_step q.rules q.state)
-        (open_deed (instance_of q) c.requires.valid q.state keeps q.rules) c.requires.step in
+    (open_deed (instance_of q) c.requires.valid q.state keeps q.rules) c.requires.step in
     none_is_some (sym c.in_default.is ∙ same_task tasks c.args.number c.task.result it.task all it.member it.number c.task.ensures)

@@ -1,20 +1,13 @@
-use Rattle.std.proofs.Common.{◌≡◌, ℕ, ◌+◌, ◌*◌, ◌^◌, ◌≤◌, ◌<◌, ◌∷◌, List, length, set, true, false, Some, None, refl, sym, ap, ◌∙◌, subst, arith}
-use Rattle.std.specs.Prelude.{IsSome, IsNone, vec_len, is_some}
-use Rattle.std.specs.List.{slice_get, find, filter, count_by}
+use Rattle.std.proofs.Common.{ℕ, ◌+◌, ◌≤◌, length, Some, refl, sym, ap, ◌∙◌, subst, arith}
+use Rattle.std.specs.Prelude.{IsNone, vec_len}
 use Rattle.std.proofs.lemmas.Option.{slice_get_within}
-use Rattle.dover_model.specs.declared.events.Entry.{Entry}
-use Rattle.dover_model.specs.declared.events.Role.TheVariants.{Coming, Fresh, Waiting, Held, Running, Done, Gone}
-use Rattle.dover_model.specs.State.{is_running, is_waiting, is_fresh, is_held, is_coming, running, held}
-use Rattle.dover_model.specs.Entries.{entry_of}
+use Rattle.dover_model.specs.declared.events.Role.TheVariants.{Running}
+use Rattle.dover_model.specs.State.{running, held}
 use Rattle.dover_model.specs.Orders.{due_first, first}
-use Rattle.dover_model.proofs.Roles.{passes}
-use Rattle.waiting_queue.specs.Queue.{Queue}
-use Rattle.privileged_queue.specs.Stack.{Stack, IsByDeadline}
-use Rattle.tick_cpu.specs.Processor.{Processor}
-use Rattle.queued_jobs.specs.Queued.{Agrees, turn_of, queued_of}
-use Rattle.queued_jobs.proofs.Lookup.{found_coming}
-use Rattle.queued_jobs.proofs.Changing.{splits, only_one, is_map}
-use Rattle.queued_jobs.proofs.Steps.{resume_step, changed_view, found_member, found_number, few_wait, free_job, stale_number, taken_out, number_free, number_ready}
+use Rattle.privileged_queue.specs.Stack.{IsByDeadline}
+use Rattle.queued_jobs.specs.Queued.{Agrees, queued_of}
+use Rattle.queued_jobs.proofs.Changing.{splits, is_map}
+use Rattle.queued_jobs.proofs.Steps.{resume_step, changed_view, free_job}
 use Rattle.queued_jobs.proofs.Steps.{top_job, without_first}
 use Rattle.queued_jobs.proofs.queues.Queues.resume.Goals as goal
 
@@ -34,7 +27,7 @@ set_role-requires c =
     let tasks = inside.tasks.items in
     let t = c.args.t.now in
     let top = top_job inside.version tasks inside.held.held t kept.agrees.2.numbered kept.agrees.2.held c.release_one.ensures.order
-        (ap (λ q. first (due_first q.rules.version) (held q.state)) c.self.view_is ∙ c.requires.top) in
+    (ap (λ q. first (due_first q.rules.version) (held q.state)) c.self.view_is ∙ c.requires.top) in
     let found = top.found in
     slice_get_within tasks t.number t found
 
@@ -45,7 +38,7 @@ invariant_of-self c =
     let tasks = inside.tasks.items in
     let t = c.args.t.now in
     let top = top_job inside.version tasks inside.held.held t kept.agrees.2.numbered kept.agrees.2.held c.release_one.ensures.order
-        (ap (λ q. first (due_first q.rules.version) (held q.state)) c.self.view_is ∙ c.requires.top) in
+    (ap (λ q. first (due_first q.rules.version) (held q.state)) c.self.view_is ∙ c.requires.top) in
     let found = top.found in
     let changed = c.set_role.new.tasks.items in
     let k = kept.agrees.0 in
@@ -55,12 +48,16 @@ invariant_of-self c =
     let order = subst IsByDeadline top.is c.release_one.ensures.order in
     let had = subst (λ h. Agrees tasks inside.waiting.table k h inside.cpu.job inside.fresh inside.next inside.done) top.is kept.agrees.2 in
     let agrees = resume_step tasks changed t inside.waiting.table k top.entry top.rest inside.cpu.job inside.fresh inside.next inside.done
-        (splits t Running tasks changed found c.set_role.ensures.changes) top.role had order top.number free in
+    (splits t Running tasks changed found c.set_role.ensures.changes) top.role had order top.number free in
     record {
       version = kept.version;
-      agrees = (k, kept.agrees.1, (subst (λ h. Agrees changed inside.waiting.table k h.held c.start.new.self.job inside.fresh inside.next inside.done) (sym below_is)
-          (subst (λ p. Agrees changed inside.waiting.table k top.rest p.job inside.fresh inside.next inside.done) (sym runs_is)
-          agrees)));
+      agrees = (
+        k,
+        kept.agrees.1,
+        (subst (λ h. Agrees changed inside.waiting.table k h.held c.start.new.self.job inside.fresh inside.next inside.done) (sym below_is)
+            (subst (λ p. Agrees changed inside.waiting.table k top.rest p.job inside.fresh inside.next inside.done) (sym runs_is)
+            agrees)),
+      );
       latest = subst (λ h. h.latest ≤ c.start.new.self.clock) (sym below_is) (subst (λ p. inside.held.latest ≤ p.clock) (sym runs_is) kept.latest);
       fits = omega (arith, kept.fits, c.set_role.ensures.len, c.set_role.ensures.capacity);
       fits_held = subst (λ h. vec_len c.set_role.new.tasks + inside.spare ≤ length h.held + h.spare) (sym below_is)

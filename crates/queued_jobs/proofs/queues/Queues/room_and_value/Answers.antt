@@ -10,5 +10,5 @@ returns-in-None-clause-room c = c.room_held.ensures ∙ free_room c.args.self.no
 pub returns-in-None-clause-value : goal.returns-in-None-clause-value
 returns-in-None-clause-value c =
     c.value_sum.ensures.is ∙ held_value c.self.inside.tasks.items c.self.inside.held.held c.self.invariant.agrees.2.held
-        ∙ ap (λ q. value_sum (filter is_held q.state.tasks)) c.self.view_is
-        ∙ free_value c.args.self.now.state (c.requires.runner ∙ c.in-None.is)
+    ∙ ap (λ q. value_sum (filter is_held q.state.tasks)) c.self.view_is
+    ∙ free_value c.args.self.now.state (c.requires.runner ∙ c.in-None.is)

@@ -1,4 +1,4 @@
-use Rattle.std.proofs.Common.{◌≡◌, ◌<◌, ◌∷◌, ◌∙◌, ap, sym, subst}
+use Rattle.std.proofs.Common.{◌<◌, ◌∷◌, ◌∙◌, ap, sym, subst}
 use Rattle.dover_model.specs.declared.events.Entry.{Entry}
 use Rattle.dover_model.specs.State.{room, privileged, running}
 use Rattle.dover_model.specs.Entries.{entry_of, room_of}
@@ -22,7 +22,7 @@ returns c =
     let sound = subst (λ q. IsSound q.state) (sym c.self.view_is) c.requires.sound in
     let runs = only_running inside.tasks.items inside.cpu.job c.args.r.now c.self.invariant.agrees.2.running (ap (λ q. running q.state) c.self.view_is ∙ c.requires.running) in
     c.room_with.ensures ∙ ap (λ e. room_of c.clock.result (e ∷ inside.held.held)) c.entry_of.ensures
-        ∙ ap (λ n. room_of n (entry_of c.args.r.now ∷ inside.held.held)) c.clock.ensures
-        ∙ busy_room inside.cpu.clock inside.tasks.items inside.held.held c.args.r.now c.self.invariant.agrees.2.held runs
-        (running_before (queued_of inside).state sound c.args.r.now runs)
-        ∙ ap (λ q. room q.state.clock (privileged q.state)) c.self.view_is
+    ∙ ap (λ n. room_of n (entry_of c.args.r.now ∷ inside.held.held)) c.clock.ensures
+    ∙ busy_room inside.cpu.clock inside.tasks.items inside.held.held c.args.r.now c.self.invariant.agrees.2.held runs
+    (running_before (queued_of inside).state sound c.args.r.now runs)
+    ∙ ap (λ q. room q.state.clock (privileged q.state)) c.self.view_is

@@ -1,4 +1,4 @@
-use Rattle.std.proofs.Common.{◌≡◌, ◌+◌, ◌≤◌, refl, arith}
+use Rattle.std.proofs.Common.{refl, arith}
 use Rattle.dover_model.specs.Step.{Ticks, open_step}
 use Rattle.dover_model.specs.Sound.{Keeps}
 use Rattle.dover_model.proofs.Kept.{open_deed}
@@ -12,7 +12,7 @@ returns-clause-due c =
     let q = c.args.self.now in
     let keeps : Keeps (instance_of q) q.state = record { sound = c.requires.sound; jobs = refl } in
     let quiet = tick_quiet q.rules.ratio q.state Ticks (open_step q.rules q.state)
-        (open_deed (instance_of q) c.requires.valid q.state keeps q.rules) c.requires.step in
+    (open_deed (instance_of q) c.requires.valid q.state keeps q.rules) c.requires.step in
     record {
       none_fresh = quiet.stale;
       running = λ t m runs. omega (arith, c.before_done.ensures.due t m runs, c.before_latest.ensures.most, c.before_release.ensures.most);
@@ -26,6 +26,6 @@ returns-clause-some c some =
     let q = c.args.self.now in
     let keeps : Keeps (instance_of q) q.state = record { sound = c.requires.sound; jobs = refl } in
     let quiet = tick_quiet q.rules.ratio q.state Ticks (open_step q.rules q.state)
-        (open_deed (instance_of q) c.requires.valid q.state keeps q.rules) c.requires.step in
+    (open_deed (instance_of q) c.requires.valid q.state keeps q.rules) c.requires.step in
     c.before_release.ensures.some
     (c.before_latest.ensures.some (c.before_done.ensures.some some quiet.busy) (early_waits q.state c.requires.sound quiet.early)) quiet.ahead

@@ -1,21 +1,14 @@
-use Rattle.std.proofs.Common.{◌≡◌, ℕ, ◌+◌, ◌*◌, ◌^◌, ◌≤◌, ◌<◌, ◌∷◌, List, length, set, true, false, Some, None, refl, sym, ap, ◌∙◌, subst, arith}
-use Rattle.std.specs.Prelude.{IsSome, IsNone, vec_len, is_some}
-use Rattle.std.specs.List.{slice_get, find, filter, count_by}
+use Rattle.std.proofs.Common.{◌≡◌, ◌+◌, ◌^◌, ◌≤◌, ◌<◌, length, set, true, false, Some, None, refl, sym, ap, ◌∙◌, subst, arith}
+use Rattle.std.specs.Prelude.{IsSome}
+use Rattle.std.specs.List.{slice_get}
 use Rattle.std.proofs.lemmas.Option.{slice_get_within}
 use Rattle.dover_model.specs.declared.events.Entry.{Entry}
-use Rattle.dover_model.specs.declared.events.Role.TheVariants.{Coming, Fresh, Waiting, Held, Running, Done, Gone}
-use Rattle.dover_model.specs.State.{is_running, is_waiting, is_fresh, is_held, is_coming, running, held}
-use Rattle.dover_model.specs.Entries.{entry_of}
-use Rattle.dover_model.specs.Orders.{due_first, first}
+use Rattle.dover_model.specs.declared.events.Role.TheVariants.{Waiting, Running}
+use Rattle.dover_model.specs.State.{is_running, is_waiting}
 use Rattle.dover_model.proofs.Roles.{passes}
-use Rattle.waiting_queue.specs.Queue.{Queue}
-use Rattle.privileged_queue.specs.Stack.{Stack, IsByDeadline}
-use Rattle.tick_cpu.specs.Processor.{Processor}
 use Rattle.queued_jobs.specs.Queued.{Agrees, turn_of, queued_of}
-use Rattle.queued_jobs.proofs.Lookup.{found_coming}
 use Rattle.queued_jobs.proofs.Changing.{splits, only_one, is_map}
-use Rattle.queued_jobs.proofs.Steps.{stop_step, changed_view, found_member, found_number, few_wait, free_job, stale_number, taken_out, number_free, number_ready}
-use Rattle.queued_jobs.proofs.Steps.{top_job, without_first}
+use Rattle.queued_jobs.proofs.Steps.{stop_step, changed_view, found_member, few_wait, number_free, number_ready}
 use Rattle.queued_jobs.proofs.queues.Queues.stop.Goals as goal
 
 pub stop-requires : goal.stop-requires
@@ -26,7 +19,7 @@ stop-requires g c =
     let t = c.args.t.now in
     let found = subst (λ q. slice_get q.state.tasks t.number ≡ Some t) (sym c.self.view_is) c.requires.found in
     let job = only_one turn_of is_running tasks inside.cpu.job t kept.agrees.2.running (found_member tasks t.number t found)
-        (passes is_running t Running true c.requires.role refl) in
+    (passes is_running t Running true c.requires.role refl) in
     subst IsSome (sym job) refl
 
 pub add-requires-clause-number : goal.add-requires-clause-number
@@ -67,13 +60,17 @@ invariant_of-self g c =
     let changed = c.set_role.new.tasks.items in
     let k = kept.agrees.0 in
     let after_is = c.add.ensures.in_it ∙ ap (λ (e : Entry). record { version = inside.waiting.version; table = set inside.waiting.table e.number (Some e) })
-        c.entry_of.ensures in
+    c.entry_of.ensures in
     let agrees = stop_step tasks changed t inside.waiting.table k inside.held.held inside.cpu.job inside.fresh inside.next inside.done
-        (splits t Waiting tasks changed found c.set_role.ensures.changes) c.requires.role kept.agrees.2 in
+    (splits t Waiting tasks changed found c.set_role.ensures.changes) c.requires.role kept.agrees.2 in
     record {
       version = ap (λ w. w.version) after_is ∙ kept.version;
-      agrees = (k, kept.agrees.1, (subst (λ p. Agrees changed c.add.new.self.table k inside.held.held p.job inside.fresh inside.next inside.done) (sym c.stop.ensures.free)
-          (subst (λ w. Agrees changed w.table k inside.held.held None inside.fresh inside.next inside.done) (sym after_is) agrees)));
+      agrees = (
+        k,
+        kept.agrees.1,
+        (subst (λ p. Agrees changed c.add.new.self.table k inside.held.held p.job inside.fresh inside.next inside.done) (sym c.stop.ensures.free)
+            (subst (λ w. Agrees changed w.table k inside.held.held None inside.fresh inside.next inside.done) (sym after_is) agrees)),
+      );
       latest = subst (λ p. inside.held.latest ≤ p.clock) (sym c.stop.ensures.free) kept.latest;
       fits = omega (arith, kept.fits, c.set_role.ensures.len, c.set_role.ensures.capacity);
       fits_held = omega (arith, kept.fits_held, c.set_role.ensures.len);

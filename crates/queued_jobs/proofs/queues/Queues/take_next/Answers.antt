@@ -1,4 +1,4 @@
-use Rattle.std.proofs.Common.{◌≡◌, ◌+◌, ◌≤◌, inl, inr, Some, None, refl, sym, ap, ◌∙◌, subst, cond}
+use Rattle.std.proofs.Common.{◌≡◌, ◌+◌, ◌≤◌, inl, inr, Some, refl, sym, ap, ◌∙◌, subst, cond}
 use Rattle.std.specs.Prelude.{◌==◌, if◌then◌else◌}
 use Rattle.std.specs.List.{slice_get}
 use Rattle.dover_model.specs.declared.events.Role.TheVariants.{Running, Waiting}
@@ -24,10 +24,10 @@ stop-requires-clause-found g c =
     let all = c.requires.sound.numbered in
     let keeps : Keeps (instance_of q) q.state = record { sound = c.requires.sound; jobs = refl } in
     let it = takes_says q.rules.ratio q.state q.state.clock c.args.stops c.args.starts (open_step q.rules q.state)
-        (open_deed (instance_of q) c.requires.valid q.state keeps q.rules) c.requires.step in
+    (open_deed (instance_of q) c.requires.valid q.state keeps q.rules) c.requires.step in
     let r = c.in-Some.r in
     let same_r : r ≡ it.stopped =
-        some_same r it.stopped (same_task tasks c.args.stops (Some r) it.stopped all it.stopped_in it.stopped_number c.in-Some.ensures) in
+    some_same r it.stopped (same_task tasks c.args.stops (Some r) it.stopped all it.stopped_in it.stopped_number c.in-Some.ensures) in
     subst (λ y. slice_get tasks y.number ≡ Some y) (sym same_r) (task_at tasks it.stopped all it.stopped_in)
 
 pub stop-requires-clause-role : goal.stop-requires-clause-role
@@ -37,10 +37,10 @@ stop-requires-clause-role g c =
     let all = c.requires.sound.numbered in
     let keeps : Keeps (instance_of q) q.state = record { sound = c.requires.sound; jobs = refl } in
     let it = takes_says q.rules.ratio q.state q.state.clock c.args.stops c.args.starts (open_step q.rules q.state)
-        (open_deed (instance_of q) c.requires.valid q.state keeps q.rules) c.requires.step in
+    (open_deed (instance_of q) c.requires.valid q.state keeps q.rules) c.requires.step in
     let r = c.in-Some.r in
     let same_r : r ≡ it.stopped =
-        some_same r it.stopped (same_task tasks c.args.stops (Some r) it.stopped all it.stopped_in it.stopped_number c.in-Some.ensures) in
+    some_same r it.stopped (same_task tasks c.args.stops (Some r) it.stopped all it.stopped_in it.stopped_number c.in-Some.ensures) in
     ap (λ (y : Task). y.role) same_r ∙ it.stopped_role
 
 pub displace_held-requires-clause-numbered : goal.displace_held-requires-clause-numbered
@@ -56,13 +56,13 @@ displace_held-requires-clause-free g c =
     let all = c.requires.sound.numbered in
     let keeps : Keeps (instance_of q) q.state = record { sound = c.requires.sound; jobs = refl } in
     let it = takes_says q.rules.ratio q.state q.state.clock c.args.stops c.args.starts (open_step q.rules q.state)
-        (open_deed (instance_of q) c.requires.valid q.state keeps q.rules) c.requires.step in
+    (open_deed (instance_of q) c.requires.valid q.state keeps q.rules) c.requires.step in
     let r = c.in-Some.r in
     let same_r : r ≡ it.stopped =
-        some_same r it.stopped (same_task tasks c.args.stops (Some r) it.stopped all it.stopped_in it.stopped_number c.in-Some.ensures) in
+    some_same r it.stopped (same_task tasks c.args.stops (Some r) it.stopped all it.stopped_in it.stopped_number c.in-Some.ensures) in
     ap (λ p. running p.state) c.stop.ensures.waits
-        ∙ ap (λ n. running (with_job_in q n Waiting).state) (ap (λ (y : Task). y.number) same_r)
-        ∙ none_after q.state c.requires.sound it.stopped it.stopped_in it.stopped_role Waiting apart where
+    ∙ ap (λ n. running (with_job_in q n Waiting).state) (ap (λ (y : Task). y.number) same_r)
+    ∙ none_after q.state c.requires.sound it.stopped it.stopped_in it.stopped_role Waiting apart where
       apart : Waiting ≡ Running → ⊥
       apart e = cc
 
@@ -73,20 +73,20 @@ start-requires-clause-found g c =
     let all = c.requires.sound.numbered in
     let keeps : Keeps (instance_of q) q.state = record { sound = c.requires.sound; jobs = refl } in
     let it = takes_says q.rules.ratio q.state q.state.clock c.args.stops c.args.starts (open_step q.rules q.state)
-        (open_deed (instance_of q) c.requires.valid q.state keeps q.rules) c.requires.step in
+    (open_deed (instance_of q) c.requires.valid q.state keeps q.rules) c.requires.step in
     let r = c.in-Some.r in
     let same_r : r ≡ it.stopped =
-        some_same r it.stopped (same_task tasks c.args.stops (Some r) it.stopped all it.stopped_in it.stopped_number c.in-Some.ensures) in
+    some_same r it.stopped (same_task tasks c.args.stops (Some r) it.stopped all it.stopped_in it.stopped_number c.in-Some.ensures) in
     let x = c.in-Some-task.x in
     let same_x : x ≡ it.started =
-        some_same x it.started (same_task tasks c.args.starts (Some x) it.started all it.started_in it.started_number c.in-Some-task.ensures) in
+    some_same x it.started (same_task tasks c.args.starts (Some x) it.started all it.started_in it.started_number c.in-Some-task.ensures) in
     let found = subst (λ y. slice_get tasks y.number ≡ Some y) (sym same_x) (task_at tasks it.started all it.started_in) in
     let differs : x.number ≡ r.number → ⊥ = λ e. two_numbers tasks it.stopped it.started all it.stopped_in it.started_in it.stopped_role it.started_role
-        (sym (ap (λ (y : Task). y.number) same_r) ∙ sym e ∙ ap (λ (y : Task). y.number) same_x) in
+    (sym (ap (λ (y : Task). y.number) same_r) ∙ sym e ∙ ap (λ (y : Task). y.number) same_x) in
     ap (λ p. slice_get p.state.tasks x.number) c.displace_held.ensures
-        ∙ ap (λ p. slice_get (all_displaced p.state.tasks) x.number) c.stop.ensures.waits
-        ∙ waiting_stays (with_role_at r.number Waiting tasks) x.number x (other_stays tasks x.number r.number Waiting x found differs)
-        (ap (λ (y : Task). y.role) same_x ∙ it.started_role)
+    ∙ ap (λ p. slice_get (all_displaced p.state.tasks) x.number) c.stop.ensures.waits
+    ∙ waiting_stays (with_role_at r.number Waiting tasks) x.number x (other_stays tasks x.number r.number Waiting x found differs)
+    (ap (λ (y : Task). y.role) same_x ∙ it.started_role)
 
 pub start-requires-clause-role : goal.start-requires-clause-role
 start-requires-clause-role g c =
@@ -95,10 +95,10 @@ start-requires-clause-role g c =
     let all = c.requires.sound.numbered in
     let keeps : Keeps (instance_of q) q.state = record { sound = c.requires.sound; jobs = refl } in
     let it = takes_says q.rules.ratio q.state q.state.clock c.args.stops c.args.starts (open_step q.rules q.state)
-        (open_deed (instance_of q) c.requires.valid q.state keeps q.rules) c.requires.step in
+    (open_deed (instance_of q) c.requires.valid q.state keeps q.rules) c.requires.step in
     let x = c.in-Some-task.x in
     let same_x : x ≡ it.started =
-        some_same x it.started (same_task tasks c.args.starts (Some x) it.started all it.started_in it.started_number c.in-Some-task.ensures) in
+    some_same x it.started (same_task tasks c.args.starts (Some x) it.started all it.started_in it.started_number c.in-Some-task.ensures) in
     ap (λ (y : Task). y.role) same_x ∙ it.started_role
 
 pub start-requires-clause-free : goal.start-requires-clause-free
@@ -112,10 +112,10 @@ start-requires-clause-in_time g c =
     let all = c.requires.sound.numbered in
     let keeps : Keeps (instance_of q) q.state = record { sound = c.requires.sound; jobs = refl } in
     let it = takes_says q.rules.ratio q.state q.state.clock c.args.stops c.args.starts (open_step q.rules q.state)
-        (open_deed (instance_of q) c.requires.valid q.state keeps q.rules) c.requires.step in
+    (open_deed (instance_of q) c.requires.valid q.state keeps q.rules) c.requires.step in
     let x = c.in-Some-task.x in
     let same_x : x ≡ it.started =
-        some_same x it.started (same_task tasks c.args.starts (Some x) it.started all it.started_in it.started_number c.in-Some-task.ensures) in
+    some_same x it.started (same_task tasks c.args.starts (Some x) it.started all it.started_in it.started_number c.in-Some-task.ensures) in
     subst (λ p. p.state.clock + left x ≤ last_tick) (sym c.displace_held.ensures)
     (subst (λ p. p.state.clock + left x ≤ last_tick) (sym c.stop.ensures.waits)
     (subst (λ y. q.state.clock + left y ≤ last_tick) (sym same_x)
@@ -128,22 +128,22 @@ returns-in-Some-task g c =
     let all = c.requires.sound.numbered in
     let keeps : Keeps (instance_of q) q.state = record { sound = c.requires.sound; jobs = refl } in
     let it = takes_says q.rules.ratio q.state q.state.clock c.args.stops c.args.starts (open_step q.rules q.state)
-        (open_deed (instance_of q) c.requires.valid q.state keeps q.rules) c.requires.step in
+    (open_deed (instance_of q) c.requires.valid q.state keeps q.rules) c.requires.step in
     let r = c.in-Some.r in
     let same_r : r ≡ it.stopped =
-        some_same r it.stopped (same_task tasks c.args.stops (Some r) it.stopped all it.stopped_in it.stopped_number c.in-Some.ensures) in
+    some_same r it.stopped (same_task tasks c.args.stops (Some r) it.stopped all it.stopped_in it.stopped_number c.in-Some.ensures) in
     let x = c.in-Some-task.x in
     let same_x : x ≡ it.started =
-        some_same x it.started (same_task tasks c.args.starts (Some x) it.started all it.started_in it.started_number c.in-Some-task.ensures) in
+    some_same x it.started (same_task tasks c.args.starts (Some x) it.started all it.started_in it.started_number c.in-Some-task.ensures) in
     let starts = ap (λ (y : Task). y.number) same_x ∙ it.started_number in
     let member = subst (λ y. IsMember y tasks) (sym same_r) it.stopped_in in
     let waits = ap (λ (y : Task). displaced y.role) same_r ∙ ap displaced it.stopped_role in
     c.start.ensures.runs ∙ ap (λ p. with_job_in p x.number Running) c.displace_held.ensures
-        ∙ ap (λ p. with_job_in (in_state p (record { clock = p.state.clock; tasks = all_displaced p.state.tasks })) x.number Running) c.stop.ensures.waits
-        ∙ ap (λ ts. with_job_in (in_state q (record { clock = q.state.clock; tasks = ts })) x.number Running) (displaced_same tasks r all member waits)
-        ∙ ap (λ n. with_job_in (in_state q (record { clock = q.state.clock; tasks = all_displaced tasks })) n Running) starts
-        ∙ ap (λ ts. in_state q (record { clock = q.state.clock; tasks = ts }))
-        (map_map (λ t. with_role t (if t.number == c.args.starts then Running else t.role)) (λ t. with_role t (displaced t.role)) tasks)
+    ∙ ap (λ p. with_job_in (in_state p (record { clock = p.state.clock; tasks = all_displaced p.state.tasks })) x.number Running) c.stop.ensures.waits
+    ∙ ap (λ ts. with_job_in (in_state q (record { clock = q.state.clock; tasks = ts })) x.number Running) (displaced_same tasks r all member waits)
+    ∙ ap (λ n. with_job_in (in_state q (record { clock = q.state.clock; tasks = all_displaced tasks })) n Running) starts
+    ∙ ap (λ ts. in_state q (record { clock = q.state.clock; tasks = ts }))
+    (map_map (λ t. with_role t (if t.number == c.args.starts then Running else t.role)) (λ t. with_role t (displaced t.role)) tasks)
 
 pub returns-in_default-task : goal.returns-in_default-task
 returns-in_default-task g c =
@@ -152,7 +152,7 @@ returns-in_default-task g c =
     let all = c.requires.sound.numbered in
     let keeps : Keeps (instance_of q) q.state = record { sound = c.requires.sound; jobs = refl } in
     let it = takes_says q.rules.ratio q.state q.state.clock c.args.stops c.args.starts (open_step q.rules q.state)
-        (open_deed (instance_of q) c.requires.valid q.state keeps q.rules) c.requires.step in
+    (open_deed (instance_of q) c.requires.valid q.state keeps q.rules) c.requires.step in
     none_is_some (sym c.in_default-task.is ∙ same_task tasks c.args.starts c.task-in-Some.result it.started all it.started_in it.started_number c.task-in-Some.ensures)
 
 pub returns-in_default : goal.returns-in_default
@@ -162,5 +162,5 @@ returns-in_default g c =
     let all = c.requires.sound.numbered in
     let keeps : Keeps (instance_of q) q.state = record { sound = c.requires.sound; jobs = refl } in
     let it = takes_says q.rules.ratio q.state q.state.clock c.args.stops c.args.starts (open_step q.rules q.state)
-        (open_deed (instance_of q) c.requires.valid q.state keeps q.rules) c.requires.step in
+    (open_deed (instance_of q) c.requires.valid q.state keeps q.rules) c.requires.step in
     none_is_some (sym c.in_default.is ∙ same_task tasks c.args.stops c.task.result it.stopped all it.stopped_in it.stopped_number c.task.ensures)

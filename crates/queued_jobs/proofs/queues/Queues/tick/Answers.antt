@@ -1,12 +1,11 @@
-use Rattle.std.proofs.Common.{◌≡◌, ℕ, ◌+◌, ◌-◌, ◌≤◌, ◌<◌, Some, None, length, map, refl, sym, ap, ◌∙◌, subst, arith}
-use Rattle.std.specs.Prelude.{option_map, vec_len}
-use Rattle.dover_model.specs.declared.events.Role.TheVariants.{Running}
+use Rattle.std.proofs.Common.{◌≡◌, ℕ, ◌+◌, ◌-◌, ◌≤◌, map, refl, sym, ap, ◌∙◌, subst, arith}
+use Rattle.std.specs.Prelude.{option_map}
 use Rattle.dover_model.specs.Instance.{IsValid}
 use Rattle.dover_model.specs.Jumps.{NothingDue, ticked_by, later_by}
 use Rattle.dover_model.specs.Sound.{IsSound, Keeps}
 use Rattle.dover_model.proofs.Kept.{realistic}
 use Rattle.tick_cpu.specs.Processor.{Processor, after_ticks}
-use Rattle.queued_jobs.specs.Queued.{Agrees, Queued, instance_of, in_state, queued_of}
+use Rattle.queued_jobs.specs.Queued.{Agrees, instance_of, in_state, queued_of}
 use Rattle.queued_jobs.proofs.Ticking.{agrees_ticked, runner_numbers, not_done, run_is}
 use Rattle.queued_jobs.proofs.queues.Queues.tick.Goals as goal
 
@@ -38,17 +37,20 @@ invariant_of-self c =
     let ahead : inside.cpu.clock ≤ inside.cpu.clock + n = omega arith in
     let passed : inside.cpu.clock + n - inside.cpu.clock ≡ n = omega arith in
     let run : c.run_to.new.self ≡ record { clock = inside.cpu.clock + n; job = option_map (λ (j : ℕ × ℕ). (j.0, j.1 - n)) inside.cpu.job } =
-        c.run_to.ensures ∙ ap (λ m. after_ticks (m + n - inside.cpu.clock) inside.cpu) c.clock.ensures ∙ run_is inside.cpu (inside.cpu.clock + n) ahead
-        ∙ ap (λ m. record { clock = inside.cpu.clock + n; job = option_map (λ (j : ℕ × ℕ). (j.0, j.1 - m)) inside.cpu.job }) passed in
+    c.run_to.ensures ∙ ap (λ m. after_ticks (m + n - inside.cpu.clock) inside.cpu) c.clock.ensures ∙ run_is inside.cpu (inside.cpu.clock + n) ahead
+    ∙ ap (λ m. record { clock = inside.cpu.clock + n; job = option_map (λ (j : ℕ × ℕ). (j.0, j.1 - m)) inside.cpu.job }) passed in
     let agrees = agrees_ticked n inside.tasks.items inside.waiting.table kept.agrees.0 inside.held.held inside.cpu.job inside.fresh inside.next inside.done
-        kept.agrees.2 in
+    kept.agrees.2 in
     record {
       version = kept.version;
-      agrees = (kept.agrees.0, kept.agrees.1,
-          subst (λ ts. Agrees ts inside.waiting.table kept.agrees.0 inside.held.held c.run_to.new.self.job inside.fresh inside.next inside.done)
-          (sym c.serve.ensures.served)
-          (subst (λ p. Agrees (map (ticked_by n) inside.tasks.items) inside.waiting.table kept.agrees.0 inside.held.held p.job inside.fresh inside.next inside.done)
-          (sym run) agrees));
+      agrees = (
+        kept.agrees.0,
+        kept.agrees.1,
+        subst (λ ts. Agrees ts inside.waiting.table kept.agrees.0 inside.held.held c.run_to.new.self.job inside.fresh inside.next inside.done)
+            (sym c.serve.ensures.served)
+            (subst (λ p. Agrees (map (ticked_by n) inside.tasks.items) inside.waiting.table kept.agrees.0 inside.held.held p.job inside.fresh inside.next inside.done)
+            (sym run) agrees),
+      );
       latest = subst (λ p. inside.held.latest ≤ p.clock) (sym run) (omega (arith, kept.latest));
       fits = omega (arith, kept.fits, c.serve.ensures.len, c.serve.ensures.capacity);
       fits_held = omega (arith, kept.fits_held, c.serve.ensures.len);
@@ -62,8 +64,8 @@ returns c =
     let n = c.args.ticks in
     let ahead : inside.cpu.clock ≤ inside.cpu.clock + n = omega arith in
     let clock : c.run_to.new.self.clock ≡ inside.cpu.clock + n =
-        ap (λ (p : Processor). p.clock) (c.run_to.ensures ∙ ap (λ m. after_ticks (m + n - inside.cpu.clock) inside.cpu) c.clock.ensures
-        ∙ run_is inside.cpu (inside.cpu.clock + n) ahead) in
+    ap (λ (p : Processor). p.clock) (c.run_to.ensures ∙ ap (λ m. after_ticks (m + n - inside.cpu.clock) inside.cpu) c.clock.ensures
+    ∙ run_is inside.cpu (inside.cpu.clock + n) ahead) in
     ap (λ m. in_state q (record { clock = m; tasks = c.serve.new.tasks.items })) clock
-        ∙ ap (λ ts. in_state q (record { clock = inside.cpu.clock + n; tasks = ts })) c.serve.ensures.served
-        ∙ ap (λ p. in_state p (later_by n p.state)) c.self.view_is
+    ∙ ap (λ ts. in_state q (record { clock = inside.cpu.clock + n; tasks = ts })) c.serve.ensures.served
+    ∙ ap (λ p. in_state p (later_by n p.state)) c.self.view_is
