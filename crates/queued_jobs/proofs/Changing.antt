@@ -15,7 +15,8 @@ use Rattle.queued_jobs.proofs.Replacing.{in_middle, place_number}
 use Rattle.queued_jobs.proofs.Stepping.{front_less, back_more}
 
 -- a write of one role
-pub changes_at : (tasks : List Task) (n : ℕ) (role : Role) (d : Task) → n < length tasks → Changes n role tasks (set tasks n (with_role (get_or tasks n d) role))
+pub changes_at : (tasks : List Task) (n : ℕ) (role : Role) (d : Task) → n < length tasks
+    → Changes n role tasks (set tasks n (with_role (get_or tasks n d) role))
 changes_at [] n role d inside = absurd (omega arith)
 changes_at (x ∷ tasks) zero role d inside = record { front = []; task = x; back = tasks; place = refl; before = refl; after = refl }
 changes_at (x ∷ tasks) (suc n) role d inside =
@@ -80,11 +81,12 @@ module _ (n : ℕ) (tasks changed : List Task) (new : Role) (ch : Changes n new 
 -- the only one that passes gives the option
 pub only_one : {A : Type 0} (f : Task → A) (p : Task → Bool) (tasks : List Task) (o : Option A) (t : Task) → map f (filter p tasks) ≡ option_to_list o
     → IsMember t tasks → p t ≡ true → o ≡ Some (f t)
-only_one {A} f p tasks o t one member passes = by_option o (subst (IsMember (f t)) one (map_member f (filter p tasks) t (filter_member p tasks t member passes))) where
-  by_option : (q : Option A) → IsMember (f t) (option_to_list q) → q ≡ Some (f t)
-  by_option None m = absurd m
-  by_option (Some a) (inl e) = ap Some (sym e)
-  by_option (Some a) (inr m) = absurd m
+only_one {A} f p tasks o t one member passes = by_option o (subst (IsMember (f t)) one
+    (map_member f (filter p tasks) t (filter_member p tasks t member passes))) where
+      by_option : (q : Option A) → IsMember (f t) (option_to_list q) → q ≡ Some (f t)
+      by_option None m = absurd m
+      by_option (Some a) (inl e) = ap Some (sym e)
+      by_option (Some a) (inr m) = absurd m
 
 -- the tasks around t, before and after t has another role
 pub record Splits (t : Task) (new : Role) (tasks changed : List Task) : Type 0 where

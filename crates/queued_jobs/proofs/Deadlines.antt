@@ -1,5 +1,6 @@
 -- Entries in the order of their deadlines: the same members, sums and room.
-use Rattle.std.proofs.Common.{◌≡◌, ℕ, ◌+◌, ◌-◌, ◌≤◌, ◌<◌, ◌⊎◌, inl, inr, min, List, [], ◌∷◌, map, refl, sym, ap, ◌∙◌, subst, Bool, true, false, arith, nat_lt, cond}
+use Rattle.std.proofs.Common.{◌≡◌, ℕ, ◌+◌, ◌-◌, ◌≤◌, ◌<◌, ◌⊎◌, inl, inr, min, List, [], ◌∷◌, map, refl, sym, ap, ◌∙◌, subst, Bool, true, false, arith}
+use Rattle.std.proofs.Common.{nat_lt, cond}
 use Rattle.std.specs.Prelude.{Some, None}
 use Rattle.std.specs.List.{filter, sum_by}
 use Rattle.std.proofs.lemmas.List.Sums.{sum_by-cons}
@@ -147,7 +148,8 @@ module _ (clock : ℕ) (e : Entry) (held : List Entry) (first : Each (λ f. e.de
         not_less m n l h = grind arith
 
         each : Each (λ u. cond (nat_lt u.deadline e.deadline) u.left 0 ≡ 0) (e ∷ held)
-        each u (inl is) = let same : u.deadline ≡ e.deadline = ap (λ (x : Entry). x.deadline) is in not_less u.deadline e.deadline u.left (omega arith)
+        each u (inl is) = let same : u.deadline ≡ e.deadline = ap (λ (x : Entry). x.deadline) is in
+            not_less u.deadline e.deadline u.left (omega arith)
         each u (inr m) = let less : e.deadline < u.deadline = first u m in not_less u.deadline e.deadline u.left (omega arith)
 
   own_slack : e.deadline - (clock + demand (e ∷ held) e) ≡ e.deadline - (clock + e.left)
@@ -170,7 +172,8 @@ module _ (clock : ℕ) (e : Entry) (held : List Entry) (first : Each (λ f. e.de
 
   -- the room of it alone
   pub room_alone : held ≡ [] → room_of clock (e ∷ held) ≡ e.deadline - (clock + e.left)
-  room_alone none = ap least (ap (λ l. (e.deadline - (clock + demand (e ∷ held) e)) ∷ map (λ f. f.deadline - (clock + demand (e ∷ held) f)) l) none) ∙ own_slack
+  room_alone none = ap least (ap (λ l. (e.deadline - (clock + demand (e ∷ held) e)) ∷ map (λ f. f.deadline - (clock + demand (e ∷ held) f)) l) none)
+      ∙ own_slack
 
   -- the room of it and others
   pub room_more : (f : Entry) (more : List Entry) → held ≡ f ∷ more

@@ -79,7 +79,8 @@ none_held v s none t m holds = empty (filter is_held s.tasks) none t (filter_mem
   empty (y ∷ xs) e x k = none_is_some (sym e)
 
 -- none runs where a job begins to wait
-pub still_none : (tasks : List Task) (n : ℕ) → Each (λ t. t.role ≡ Running → ⊥) tasks → Each (λ t. t.role ≡ Running → ⊥) (with_role_at n Waiting tasks)
+pub still_none : (tasks : List Task) (n : ℕ) → Each (λ t. t.role ≡ Running → ⊥) tasks
+    → Each (λ t. t.role ≡ Running → ⊥) (with_role_at n Waiting tasks)
 still_none tasks n none =
     on_map (λ t. with_role t (cond (t.number == n) Waiting t.role)) (λ t. t.role ≡ Running → ⊥) tasks
     (λ t m. by_test (t.number == n) t.role (none t m)) where
@@ -141,11 +142,13 @@ fewer_held tasks p member holds = below tasks member where
     by_tests false false e f rest = omega (arith, rest)
 
 -- a waiting job is there after a take
-pub waiting_stays : (tasks : List Task) (n : ℕ) (x : Task) → slice_get tasks n ≡ Some x → x.role ≡ Waiting → slice_get (all_displaced tasks) n ≡ Some x
+pub waiting_stays : (tasks : List Task) (n : ℕ) (x : Task) → slice_get tasks n ≡ Some x → x.role ≡ Waiting
+    → slice_get (all_displaced tasks) n ≡ Some x
 waiting_stays [] n x found waits = none_is_some found
 waiting_stays (t ∷ tasks) zero x found waits =
     let is : t ≡ x = some_same t x found in
-    ap (λ (y : Task). Some (with_role y (displaced y.role))) is ∙ ap (λ r. Some (with_role x (displaced r))) waits ∙ ap (λ r. Some (with_role x r)) (sym waits)
+    ap (λ (y : Task). Some (with_role y (displaced y.role))) is ∙ ap (λ r. Some (with_role x (displaced r))) waits
+    ∙ ap (λ r. Some (with_role x r)) (sym waits)
 waiting_stays (t ∷ tasks) (suc n) x found waits = waiting_stays tasks n x found waits
 
 -- none runs after a displacement
@@ -162,14 +165,16 @@ none_displaced clock tasks = none_of is_running (all_displaced tasks)
       by_case t Gone h = never h
 
 -- a running and a waiting job have two numbers
-pub two_numbers : (tasks : List Task) (r x : Task) → IsNumberedFrom 0 tasks → IsMember r tasks → IsMember x tasks → r.role ≡ Running → x.role ≡ Waiting
+pub two_numbers : (tasks : List Task) (r x : Task) → IsNumberedFrom 0 tasks → IsMember r tasks → IsMember x tasks → r.role ≡ Running
+    → x.role ≡ Waiting
     → r.number ≡ x.number → ⊥
 two_numbers tasks r x all r_in x_in runs waits same =
     apart (sym runs ∙ ap (λ (y : Task). y.role) (one_number 0 tasks all r x r_in x_in same) ∙ waits) where
       apart : Running ≡ Waiting → ⊥
       apart e = cc
 
-pub same_queued : (q q₀ : Queued) (tasks : List Task) → q.rules ≡ q₀.rules → q.spare ≡ q₀.spare → q.state.clock ≡ q₀.state.clock → q.state.tasks ≡ tasks
+pub same_queued : (q q₀ : Queued) (tasks : List Task) → q.rules ≡ q₀.rules → q.spare ≡ q₀.spare → q.state.clock ≡ q₀.state.clock
+    → q.state.tasks ≡ tasks
     → q ≡ in_state q₀ (record { clock = q₀.state.clock; tasks = tasks })
 same_queued q q₀ tasks rules spare clock is =
     ap (λ r. record { rules = r; state = q.state; spare = q.spare }) rules

@@ -28,7 +28,8 @@ fold_member before acc (x ∷ xs) = by_test (before x acc) refl (fold_member bef
       → IsMember (fold (earlier before) (earlier before acc x) xs) (acc ∷ x ∷ xs)
   by_test true h at_x at_acc = subst (λ y. IsMember (fold (earlier before) y xs) (acc ∷ x ∷ xs)) (sym (earlier_pick before acc x true h)) (inr at_x)
   by_test false h at_x at_acc =
-      subst (λ y. IsMember (fold (earlier before) y xs) (acc ∷ x ∷ xs)) (sym (earlier_pick before acc x false h)) (elim at_acc [ inl e ↦ inl e | inr m ↦ inr (inr m) ])
+      subst (λ y. IsMember (fold (earlier before) y xs) (acc ∷ x ∷ xs)) (sym (earlier_pick before acc x false h))
+      (elim at_acc [ inl e ↦ inl e | inr m ↦ inr (inr m) ])
 
 -- the first is one of the elements
 pub first_member : {X : Type 0} (before : X → X → Bool) (xs : List X) (y : X) → first before xs ≡ Some y → IsMember y xs
@@ -63,7 +64,10 @@ module _ (before : Entry → Entry → Bool) (strict : IsStrictOrder before) whe
         let best : Best e acc xs = at_acc (ap (λ y. fold (earlier before) y xs) (sym (earlier_pick before acc x false h)) ∙ is) in (
           best.0,
           each_cons (λ y. before y e ≡ true → ⊥) x xs
-              (λ at. elim best.0 [ inl same ↦ false≢true (sym h ∙ ap (before x) (sym same) ∙ at) | inr less ↦ false≢true (sym h ∙ strict.onward x e acc at less) ])
+              (λ at. elim best.0 [
+                | inl same ↦ false≢true (sym h ∙ ap (before x) (sym same) ∙ at)
+                | inr less ↦ false≢true (sym h ∙ strict.onward x e acc at less)
+              ])
               best.1,
         )
 

@@ -1,5 +1,6 @@
 -- What a step says of the jobs that it names.
-use Rattle.std.proofs.Common.{◌≡◌, ℕ, ◌+◌, ◌-◌, ◌≤◌, ◌⊎◌, inl, inr, List, map, refl, sym, ap, ◌∙◌, subst, Bool, true, false, arith, zero, suc, cond, [], ◌∷◌}
+use Rattle.std.proofs.Common.{◌≡◌, ℕ, ◌+◌, ◌-◌, ◌≤◌, ◌⊎◌, inl, inr, List, map, refl, sym, ap, ◌∙◌, subst, Bool, true, false, arith, zero, suc, cond}
+use Rattle.std.proofs.Common.{[], ◌∷◌}
 use Rattle.std.specs.Prelude.{Option, Some, None, ◌==◌}
 use Rattle.std.proofs.lemmas.Bool.{false≢true}
 use Rattle.dover_model.specs.declared.events.Role.{Role}
@@ -52,7 +53,8 @@ none_runs s none = none_of is_running s.tasks (λ t m runs. none t m (is_running
 pub held_first : (v : Version) (s : State) → IsSound s → (p : Task) → IsMember p s.tasks → p.role ≡ Held
     → Each (λ t. t.role ≡ Held → p.job.deadline ≤ t.job.deadline) s.tasks → first (due_first v) (held s) ≡ Some p
 held_first v s sound p member role least =
-    sym (found_first (is_due_before v) s.tasks (filter is_held s.tasks) (entry_of p) sound.numbered inside top) ∙ task_at s.tasks p sound.numbered member where
+    sym (found_first (is_due_before v) s.tasks (filter is_held s.tasks) (entry_of p) sound.numbered inside top)
+    ∙ task_at s.tasks p sound.numbered member where
       strict : IsStrictOrder (is_due_before v)
       strict = strict_by (λ e. e.deadline) v
 
@@ -76,7 +78,8 @@ held_first v s sound p member role least =
             privileged t e = passes is_privileged t Held true e refl
 
       top : first (is_due_before v) (map entry_of (filter is_held s.tasks)) ≡ Some (entry_of p)
-      top = first_only (is_due_before v) strict (entry_of p) (map entry_of (filter is_held s.tasks)) (map_member entry_of (filter is_held s.tasks) p there) best
+      top = first_only (is_due_before v) strict (entry_of p) (map entry_of (filter is_held s.tasks))
+          (map_member entry_of (filter is_held s.tasks) p there) best
           (own_entries s.tasks (filter is_held s.tasks) sound.numbered inside)
 
 -- ---- each step
@@ -201,7 +204,8 @@ all_value J tasks valid jobs =
     omega (arith, all, total)
 
 -- the job that is read at a number is the one of that number
-pub same_task : (tasks : List Task) (n : ℕ) (o : Option Task) (r : Task) → IsNumberedFrom 0 tasks → IsMember r tasks → r.number ≡ n → o ≡ slice_get tasks n
+pub same_task : (tasks : List Task) (n : ℕ) (o : Option Task) (r : Task) → IsNumberedFrom 0 tasks → IsMember r tasks → r.number ≡ n
+    → o ≡ slice_get tasks n
     → o ≡ Some r
 same_task tasks n o r all member number read = read ∙ ap (slice_get tasks) (sym number) ∙ task_at tasks r all member
 

@@ -1,5 +1,6 @@
 -- What the heads of the queues say of the jobs.
-use Rattle.std.proofs.Common.{◌≡◌, ◌≢◌, ℕ, ◌+◌, ◌≤◌, ◌<◌, ◌⊎◌, inl, inr, List, [], ◌∷◌, ◌++◌, map, replicate, refl, sym, ap, ◌∙◌, subst, Bool, true, false, arith, cond, add-zero}
+use Rattle.std.proofs.Common.{◌≡◌, ◌≢◌, ℕ, ◌+◌, ◌≤◌, ◌<◌, ◌⊎◌, inl, inr, List, [], ◌∷◌, ◌++◌, map, replicate, refl, sym, ap, ◌∙◌, subst, Bool, true}
+use Rattle.std.proofs.Common.{false, arith, cond, add-zero}
 use Rattle.std.specs.Prelude.{Option, Some, None, option_map, unwrap_or, ◌||◌, ◌==◌, nat_lt}
 use Rattle.std.specs.Option.{option_to_list}
 use Rattle.std.specs.List.{filter, find, slice_get, sum_by}
@@ -17,7 +18,8 @@ use Rattle.dover_model.specs.Orders.{due_first, latest_first, first}
 use Rattle.dover_model.specs.Step.{is_at_latest_start}
 use Rattle.dover_model.specs.Sound.{IsMember, Each, IsNumberedFrom, IsSound, jobs_of}
 use Rattle.dover_model.proofs.EntryOrders.{strict_by}
-use Rattle.dover_model.proofs.Members.{some_same, member_filter, filter_member, all_member, map_member, map_map, sum_le, sum_filter, sum_same, sum_plus, sum_map}
+use Rattle.dover_model.proofs.Members.{some_same, member_filter, filter_member, all_member, map_member, map_map, sum_le, sum_filter, sum_same}
+use Rattle.dover_model.proofs.Members.{sum_plus, sum_map}
 use Rattle.dover_model.proofs.Roles.{is_running_role, is_held_role, is_waiting_role}
 use Rattle.dover_model.proofs.Tests.{none_is_some, never}
 use Rattle.dover_model.proofs.Moves.{says}
@@ -36,7 +38,8 @@ passing p tasks t m = (member_filter p tasks t m).0
 -- ---- held
 
 -- the one on top is the first held job
-pub held_found : (v : Version) (tasks : List Task) (held : List Entry) (e : Entry) → IsNumberedFrom 0 tasks → held ≡ held_entries tasks → IsByDeadline held
+pub held_found : (v : Version) (tasks : List Task) (held : List Entry) (e : Entry) → IsNumberedFrom 0 tasks → held ≡ held_entries tasks
+    → IsByDeadline held
     → Some e ≡ top_of held → slice_get tasks e.number ≡ first (due_first v) (filter is_held tasks)
 held_found v tasks [] e all is order top = none_is_some (sym top)
 held_found v tasks (f ∷ rest) e all is order top =
@@ -268,40 +271,46 @@ put_first e (x ∷ xs) less = by_test (nat_lt x.deadline e.deadline) refl where
   by_test false h = refl
 
 -- what is due before the held jobs is due before their entries
-pub entries_later : (d : ℕ) (tasks : List Task) → Each (λ t. is_held t ≡ true → d < t.job.deadline) tasks → Each (λ e. d < e.deadline) (held_entries tasks)
+pub entries_later : (d : ℕ) (tasks : List Task) → Each (λ t. is_held t ≡ true → d < t.job.deadline) tasks
+    → Each (λ e. d < e.deadline) (held_entries tasks)
 entries_later d tasks later y m =
     let it = of_entry (filter is_held tasks) y (member_sorted (map entry_of (filter is_held tasks)) y m) in
     let held = member_filter is_held tasks it.0 it.1 in
     subst (λ (x : Entry). d < x.deadline) (sym it.2) (later it.0 held.0 held.1)
 
 -- the entries of the running and the held jobs
-both_entries : (tasks : List Task) (r : Task) → filter is_running tasks ≡ r ∷ [] → Each (λ t. is_held t ≡ true → r.job.deadline < t.job.deadline) tasks
+both_entries : (tasks : List Task) (r : Task) → filter is_running tasks ≡ r ∷ []
+    → Each (λ t. is_held t ≡ true → r.job.deadline < t.job.deadline) tasks
     → by_deadline (map entry_of (filter is_privileged tasks)) ≡ entry_of r ∷ held_entries tasks
 both_entries [] r runs later = absurd (none_cons runs) where
   none_cons : [] ≡ r ∷ [] → ⊥
   none_cons e = cc
-both_entries (x ∷ tasks) r runs later = by_test (is_running x) (is_held x) refl refl runs (λ one. both_entries tasks r one (λ t m. later t (inr m))) where
-  by_test : (b c : Bool) → is_running x ≡ b → is_held x ≡ c → cond b (x ∷ filter is_running tasks) (filter is_running tasks) ≡ r ∷ []
-      → (filter is_running tasks ≡ r ∷ [] → by_deadline (map entry_of (filter is_privileged tasks)) ≡ entry_of r ∷ held_entries tasks)
-      → by_deadline (map entry_of (cond (b || c) (x ∷ filter is_privileged tasks) (filter is_privileged tasks)))
-      ≡ entry_of r ∷ by_deadline (map entry_of (cond c (x ∷ filter is_held tasks) (filter is_held tasks)))
-  by_test true true is held one rest = absurd (apart x is held)
-  by_test true false is held one rest =
-      let same : x ≡ r = cc in
-      let none : filter is_running tasks ≡ [] = cc in
-      ap (λ ts. put_in (entry_of x) (by_deadline (map entry_of ts))) (free_privileged tasks none)
-      ∙ put_first (entry_of x) (held_entries tasks)
-      (subst (λ z. Each (λ e. z.job.deadline < e.deadline) (held_entries tasks)) (sym same) (entries_later r.job.deadline tasks (λ t m. later t (inr m))))
-      ∙ ap (λ z. entry_of z ∷ held_entries tasks) same
-  by_test false true is held one rest =
-      ap (put_in (entry_of x)) (rest one) ∙ ap (λ b. cond b (entry_of r ∷ put_in (entry_of x) (held_entries tasks)) (entry_of x ∷ entry_of r ∷ held_entries tasks))
-      (is_less r.job.deadline x.job.deadline (later x (inl refl) held)) where
-        is_less : (m n : ℕ) → m < n → nat_lt m n ≡ true
-        is_less m n h = grind arith
-  by_test false false is held one rest = rest one
+both_entries (x ∷ tasks) r runs later = by_test (is_running x) (is_held x) refl refl runs
+    (λ one. both_entries tasks r one (λ t m. later t (inr m))) where
+      by_test : (b c : Bool) → is_running x ≡ b → is_held x ≡ c → cond b (x ∷ filter is_running tasks) (filter is_running tasks) ≡ r ∷ []
+          → (filter is_running tasks ≡ r ∷ [] → by_deadline (map entry_of (filter is_privileged tasks)) ≡ entry_of r ∷ held_entries tasks)
+          → by_deadline (map entry_of (cond (b || c) (x ∷ filter is_privileged tasks) (filter is_privileged tasks)))
+          ≡ entry_of r ∷ by_deadline (map entry_of (cond c (x ∷ filter is_held tasks) (filter is_held tasks)))
+      by_test true true is held one rest = absurd (apart x is held)
+      by_test true false is held one rest =
+          let same : x ≡ r = cc in
+          let none : filter is_running tasks ≡ [] = cc in
+          ap (λ ts. put_in (entry_of x) (by_deadline (map entry_of ts))) (free_privileged tasks none)
+          ∙ put_first (entry_of x) (held_entries tasks)
+          (subst (λ z. Each (λ e. z.job.deadline < e.deadline) (held_entries tasks)) (sym same)
+          (entries_later r.job.deadline tasks (λ t m. later t (inr m))))
+          ∙ ap (λ z. entry_of z ∷ held_entries tasks) same
+      by_test false true is held one rest =
+          ap (put_in (entry_of x)) (rest one) ∙ ap (λ b. cond b (entry_of r ∷ put_in (entry_of x) (held_entries tasks))
+          (entry_of x ∷ entry_of r ∷ held_entries tasks))
+          (is_less r.job.deadline x.job.deadline (later x (inl refl) held)) where
+            is_less : (m n : ℕ) → m < n → nat_lt m n ≡ true
+            is_less m n h = grind arith
+      by_test false false is held one rest = rest one
 
 -- the room of the held jobs
-pub held_room : (clock : ℕ) (tasks : List Task) (held : List Entry) → held ≡ held_entries tasks → room_of clock held ≡ room clock (filter is_held tasks)
+pub held_room : (clock : ℕ) (tasks : List Task) (held : List Entry) → held ≡ held_entries tasks
+    → room_of clock held ≡ room clock (filter is_held tasks)
 held_room clock tasks held is =
     ap (room_of clock) is ∙ room_sorted clock (map entry_of (filter is_held tasks)) ∙ room_map clock (filter is_held tasks)
 

@@ -1,5 +1,6 @@
 -- Jobs that are found by their numbers.
-use Rattle.std.proofs.Common.{◌≡◌, ℕ, suc, ◌-◌, ◌≤◌, ◌<◌, ◌⊎◌, inl, inr, List, [], ◌∷◌, map, refl, sym, ap, ◌∙◌, subst, Bool, true, false, arith, cond}
+use Rattle.std.proofs.Common.{◌≡◌, ℕ, suc, ◌-◌, ◌≤◌, ◌<◌, ◌⊎◌, inl, inr, List, [], ◌∷◌, map, refl, sym, ap, ◌∙◌, subst, Bool, true, false, arith}
+use Rattle.std.proofs.Common.{cond}
 use Rattle.std.specs.Prelude.{Option, Some, None, option_map, nat_le}
 use Rattle.std.specs.List.{filter, find, slice_get}
 use Rattle.std.proofs.lemmas.Bool.{cases_eq}
@@ -41,7 +42,8 @@ find_head p [] y ys is = absurd (none_cons is) where
   none_cons : [] ≡ y ∷ ys → ⊥
   none_cons e = cc
 find_head p (x ∷ xs) y ys is = by_test (p x) is (find_head p xs y ys) where
-  by_test : (b : Bool) → cond b (x ∷ filter p xs) (filter p xs) ≡ y ∷ ys → (filter p xs ≡ y ∷ ys → find p xs ≡ Some y) → cond b (Some x) (find p xs) ≡ Some y
+  by_test : (b : Bool) → cond b (x ∷ filter p xs) (filter p xs) ≡ y ∷ ys → (filter p xs ≡ y ∷ ys → find p xs ≡ Some y)
+      → cond b (Some x) (find p xs) ≡ Some y
   by_test true is rest = ap Some (same_head is) where
     same_head : x ∷ filter p xs ≡ y ∷ ys → x ≡ y
     same_head e = cc
@@ -66,7 +68,8 @@ found_one p tasks n all one = by_list (filter p tasks) refl one where
     none_cons e = cc
   by_list (t ∷ more) is one =
       let member : IsMember t tasks = (member_filter p tasks t (subst (IsMember t) (sym is) (inl refl))).0 in
-      ap (slice_get tasks) (sym (same_number one)) ∙ ap (slice_get tasks) (zero_off t.number) ∙ at_number 0 tasks t all member ∙ sym (find_head p tasks t more is) where
+      ap (slice_get tasks) (sym (same_number one)) ∙ ap (slice_get tasks) (zero_off t.number) ∙ at_number 0 tasks t all member
+      ∙ sym (find_head p tasks t more is) where
         same_number : t.number ∷ map (λ t. t.number) more ≡ n ∷ [] → t.number ≡ n
         same_number e = cc
 
@@ -103,14 +106,15 @@ found_coming n (x ∷ tasks) next all coming low = by_number (cases_eq next n) (
 -- the first of some jobs, by the number of the first entry
 pub found_first : (before : Entry → Entry → Bool) (tasks ts : List Task) (e : Entry) → IsNumberedFrom 0 tasks → Each (λ t. IsMember t tasks) ts
     → first before (map entry_of ts) ≡ Some e → slice_get tasks e.number ≡ first (λ a b. before (entry_of a) (entry_of b)) ts
-found_first before tasks ts e all inside is = by_first (first (λ a b. before (entry_of a) (entry_of b)) ts) refl (sym (first-map before entry_of ts) ∙ is) where
-  by_first : (o : Option Task) → first (λ a b. before (entry_of a) (entry_of b)) ts ≡ o → option_map entry_of o ≡ Some e
-      → slice_get tasks e.number ≡ first (λ a b. before (entry_of a) (entry_of b)) ts
-  by_first None none at = none_is_some at
-  by_first (Some t) some at =
-      let same : t.number ≡ e.number = ap (λ (x : Entry). x.number) (some_same _ _ at) in
-      let off : e.number ≡ t.number - 0 = omega arith in
-      ap (slice_get tasks) off ∙ at_number 0 tasks t all (inside t (first_member (λ a b. before (entry_of a) (entry_of b)) ts t some)) ∙ sym some
+found_first before tasks ts e all inside is = by_first (first (λ a b. before (entry_of a) (entry_of b)) ts) refl
+    (sym (first-map before entry_of ts) ∙ is) where
+      by_first : (o : Option Task) → first (λ a b. before (entry_of a) (entry_of b)) ts ≡ o → option_map entry_of o ≡ Some e
+          → slice_get tasks e.number ≡ first (λ a b. before (entry_of a) (entry_of b)) ts
+      by_first None none at = none_is_some at
+      by_first (Some t) some at =
+          let same : t.number ≡ e.number = ap (λ (x : Entry). x.number) (some_same _ _ at) in
+          let off : e.number ≡ t.number - 0 = omega arith in
+          ap (slice_get tasks) off ∙ at_number 0 tasks t all (inside t (first_member (λ a b. before (entry_of a) (entry_of b)) ts t some)) ∙ sym some
 
 -- and where there is no entry, there is no job
 pub found_first_none : (before : Entry → Entry → Bool) (ts : List Task) → first before (map entry_of ts) ≡ None

@@ -1,5 +1,6 @@
 -- A list in which one job is replaced: what a queue that follows it does.
-use Rattle.std.proofs.Common.{◌≡◌, ℕ, suc, ◌+◌, ◌<◌, inl, inr, List, [], ◌∷◌, ◌++◌, length, map, set, refl, sym, ap, ◌∙◌, subst, Bool, true, false, arith, cond, nat_lt}
+use Rattle.std.proofs.Common.{◌≡◌, ℕ, suc, ◌+◌, ◌<◌, inl, inr, List, [], ◌∷◌, ◌++◌, length, map, set, refl, sym, ap, ◌∙◌, subst, Bool, true, false}
+use Rattle.std.proofs.Common.{arith, cond, nat_lt}
 use Rattle.std.specs.Prelude.{Option}
 use Rattle.std.specs.List.{filter}
 use Rattle.std.proofs.lemmas.List.Sums.{sum_by-cons}
@@ -116,7 +117,8 @@ pub done_in : (t u : Task) → is_done t ≡ false → is_done u ≡ true → (f
     → value_sum (filter is_done (front ++ u ∷ back)) ≡ value_sum (filter is_done (front ++ t ∷ back)) + u.job.value
 done_in t u t_not u_done [] back = by_tests (is_done t) (is_done u) t_not u_done where
   by_tests : (b c : Bool) → b ≡ false → c ≡ true
-      → value_sum (cond c (u ∷ filter is_done back) (filter is_done back)) ≡ value_sum (cond b (t ∷ filter is_done back) (filter is_done back)) + u.job.value
+      → value_sum (cond c (u ∷ filter is_done back) (filter is_done back))
+      ≡ value_sum (cond b (t ∷ filter is_done back) (filter is_done back)) + u.job.value
   by_tests true c h k = never (sym h)
   by_tests false true h k = let one = sum_by-cons (λ x. x.job.value) u (filter is_done back) in omega (arith, one)
   by_tests false false h k = never k
@@ -163,7 +165,8 @@ held_in t u t_not u_held (x ∷ front) back later =
           ≡ entry_of u ∷ by_deadline (map entry_of (cond b (x ∷ filter is_held (front ++ t ∷ back)) (filter is_held (front ++ t ∷ back))))
       by_test true h rest =
           ap (put_in (entry_of x)) rest
-          ∙ ap (λ b. cond b (entry_of u ∷ put_in (entry_of x) (held_entries (front ++ t ∷ back))) (entry_of x ∷ entry_of u ∷ held_entries (front ++ t ∷ back)))
+          ∙ ap (λ b. cond b (entry_of u ∷ put_in (entry_of x) (held_entries (front ++ t ∷ back)))
+          (entry_of x ∷ entry_of u ∷ held_entries (front ++ t ∷ back)))
           (is_less u.job.deadline x.job.deadline (later x (inl refl) h)) where
             is_less : (m n : ℕ) → m < n → nat_lt m n ≡ true
             is_less m n h = grind arith

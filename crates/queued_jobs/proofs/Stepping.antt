@@ -47,7 +47,8 @@ module _ (front back : List Task) (t : Task) (table : List (Option Entry)) (k : 
   no_more n = omega arith
 
   -- where the job on top is t, the others are due later
-  others_later : (e : Entry) (stack : List Entry) → t.role ≡ Held → IsNumberedFrom 0 (front ++ t ∷ back) → (e ∷ stack) ≡ held_entries (front ++ t ∷ back)
+  others_later : (e : Entry) (stack : List Entry) → t.role ≡ Held → IsNumberedFrom 0 (front ++ t ∷ back)
+      → (e ∷ stack) ≡ held_entries (front ++ t ∷ back)
       → IsByDeadline (e ∷ stack) → t.number ≡ e.number → (entry_of t ≡ e) × Each (λ x. is_held x ≡ true → t.job.deadline < x.job.deadline) front
       × Each (λ x. is_held x ≡ true → t.job.deadline < x.job.deadline) back
   others_later e stack role all is order same = (
@@ -90,7 +91,8 @@ module _ (front back : List Task) (t : Task) (table : List (Option Entry)) (k : 
   top_goes e stack held all is order same role goes =
       let others = others_later e stack held all is order same in
       tail (is ∙ held_in (with_role t role) t goes (passes is_held t Held true held refl) front back
-      (each_other (λ x. is_held x ≡ true → t.job.deadline < x.job.deadline) front back (with_role t role) others.1 others.2 (λ h. never (sym goes ∙ h)))) where
+      (each_other (λ x. is_held x ≡ true → t.job.deadline < x.job.deadline) front back (with_role t role) others.1 others.2
+      (λ h. never (sym goes ∙ h)))) where
         tail : e ∷ stack ≡ entry_of t ∷ held_entries (front ++ with_role t role ∷ back) → stack ≡ held_entries (front ++ with_role t role ∷ back)
         tail h = cc
 
@@ -100,7 +102,8 @@ module _ (front back : List Task) (t : Task) (table : List (Option Entry)) (k : 
       → Agrees (front ++ with_role t Fresh ∷ back) table k stack job (Some t.number) (t.number + 1) worth
   agrees_release stack job worth role kept = record {
     numbered = numbered_other 0 front back t (with_role t Fresh) refl kept.numbered;
-    running = ap (map turn_of) (filter_same is_running t (with_role t Fresh) front back (passes is_running t Coming false role refl) refl) ∙ kept.running;
+    running = ap (map turn_of) (filter_same is_running t (with_role t Fresh) front back (passes is_running t Coming false role refl) refl)
+        ∙ kept.running;
     fresh = filter_in is_fresh t (with_role t Fresh) (λ x. x.number) (passes is_fresh t Coming false role refl) refl front back kept.fresh;
     coming = each_other (λ x. is_coming x ≡ nat_le (t.number + 1) x.number) front back (with_role t Fresh)
         (λ x m. kept.coming x (in_front front back t x m) ∙ lower t.number x.number (front_less 0 front back t x kept.numbered m))
@@ -132,8 +135,10 @@ module _ (front back : List Task) (t : Task) (table : List (Option Entry)) (k : 
       → Agrees (front ++ with_role t Done ∷ back) table k stack None newest upcoming (worth + t.job.value)
   agrees_complete stack newest upcoming worth role kept = record {
     numbered = numbered_other 0 front back t (with_role t Done) refl kept.numbered;
-    running = filter_out is_running (with_role t Done) t turn_of refl (passes is_running t Running true role refl) (turn_of t) front back kept.running;
-    fresh = ap (map (λ x. x.number)) (filter_same is_fresh t (with_role t Done) front back (passes is_fresh t Running false role refl) refl) ∙ kept.fresh;
+    running = filter_out is_running (with_role t Done) t turn_of refl (passes is_running t Running true role refl)
+        (turn_of t) front back kept.running;
+    fresh = ap (map (λ x. x.number)) (filter_same is_fresh t (with_role t Done) front back (passes is_fresh t Running false role refl) refl)
+        ∙ kept.fresh;
     coming = each_other (λ x. is_coming x ≡ nat_le upcoming x.number) front back (with_role t Done) (λ x m. kept.coming x (in_front front back t x m))
         (λ x m. kept.coming x (in_back front back t x m)) (sym (passes is_coming t Running false role refl) ∙ kept.coming t (in_middle front back t));
     next = omega (arith, kept.next, length_other front back t (with_role t Done));
@@ -153,8 +158,10 @@ module _ (front back : List Task) (t : Task) (table : List (Option Entry)) (k : 
   agrees_resume e stack newest upcoming worth role kept order same = record {
     numbered = numbered_other 0 front back t (with_role t Running) refl kept.numbered;
     running = filter_in is_running t (with_role t Running) turn_of (passes is_running t Held false role refl) refl front back kept.running;
-    fresh = ap (map (λ x. x.number)) (filter_same is_fresh t (with_role t Running) front back (passes is_fresh t Held false role refl) refl) ∙ kept.fresh;
-    coming = each_other (λ x. is_coming x ≡ nat_le upcoming x.number) front back (with_role t Running) (λ x m. kept.coming x (in_front front back t x m))
+    fresh = ap (map (λ x. x.number)) (filter_same is_fresh t (with_role t Running) front back (passes is_fresh t Held false role refl) refl)
+        ∙ kept.fresh;
+    coming = each_other (λ x. is_coming x ≡ nat_le upcoming x.number) front back (with_role t Running)
+        (λ x m. kept.coming x (in_front front back t x m))
         (λ x m. kept.coming x (in_back front back t x m)) (sym (passes is_coming t Held false role refl) ∙ kept.coming t (in_middle front back t));
     next = omega (arith, kept.next, length_other front back t (with_role t Running));
     waiting = kept.waiting ∙ ap (λ l. l ++ replicate {A = Option Entry} k None)
@@ -172,12 +179,15 @@ module _ (front back : List Task) (t : Task) (table : List (Option Entry)) (k : 
   agrees_start stack newest upcoming worth role kept = record {
     numbered = numbered_other 0 front back t (with_role t Running) refl kept.numbered;
     running = filter_in is_running t (with_role t Running) turn_of (passes is_running t Waiting false role refl) refl front back kept.running;
-    fresh = ap (map (λ x. x.number)) (filter_same is_fresh t (with_role t Running) front back (passes is_fresh t Waiting false role refl) refl) ∙ kept.fresh;
-    coming = each_other (λ x. is_coming x ≡ nat_le upcoming x.number) front back (with_role t Running) (λ x m. kept.coming x (in_front front back t x m))
+    fresh = ap (map (λ x. x.number)) (filter_same is_fresh t (with_role t Running) front back (passes is_fresh t Waiting false role refl) refl)
+        ∙ kept.fresh;
+    coming = each_other (λ x. is_coming x ≡ nat_le upcoming x.number) front back (with_role t Running)
+        (λ x m. kept.coming x (in_front front back t x m))
         (λ x m. kept.coming x (in_back front back t x m)) (sym (passes is_coming t Waiting false role refl) ∙ kept.coming t (in_middle front back t));
     next = omega (arith, kept.next, length_other front back t (with_role t Running));
     waiting = ap (λ x. set x t.number None) kept.waiting
-        ∙ ap (λ n. set (map waiting_entry (front ++ t ∷ back) ++ replicate {A = Option Entry} k None) n None) (place_number 0 front back t kept.numbered ∙ no_more (length front))
+        ∙ ap (λ n. set (map waiting_entry (front ++ t ∷ back) ++ replicate {A = Option Entry} k None) n None)
+        (place_number 0 front back t kept.numbered ∙ no_more (length front))
         ∙ table_set t (with_role t Running) (replicate {A = Option Entry} k None) front back;
     held = kept.held ∙ ap (λ ts. by_deadline (map entry_of ts))
         (sym (filter_same is_held t (with_role t Running) front back (passes is_held t Waiting false role refl) refl));
@@ -192,7 +202,8 @@ module _ (front back : List Task) (t : Task) (table : List (Option Entry)) (k : 
     numbered = numbered_other 0 front back t (with_role t Running) refl kept.numbered;
     running = filter_in is_running t (with_role t Running) turn_of (passes is_running t Fresh false role refl) refl front back kept.running;
     fresh = filter_out is_fresh (with_role t Running) t (λ x. x.number) refl (passes is_fresh t Fresh true role refl) t.number front back kept.fresh;
-    coming = each_other (λ x. is_coming x ≡ nat_le upcoming x.number) front back (with_role t Running) (λ x m. kept.coming x (in_front front back t x m))
+    coming = each_other (λ x. is_coming x ≡ nat_le upcoming x.number) front back (with_role t Running)
+        (λ x m. kept.coming x (in_front front back t x m))
         (λ x m. kept.coming x (in_back front back t x m)) (sym (passes is_coming t Fresh false role refl) ∙ kept.coming t (in_middle front back t));
     next = omega (arith, kept.next, length_other front back t (with_role t Running));
     waiting = kept.waiting ∙ ap (λ l. l ++ replicate {A = Option Entry} k None)
@@ -208,13 +219,16 @@ module _ (front back : List Task) (t : Task) (table : List (Option Entry)) (k : 
       → Agrees (front ++ with_role t Waiting ∷ back) (set table t.number (Some (entry_of t))) k stack job None upcoming worth
   agrees_wait stack job upcoming worth role kept = record {
     numbered = numbered_other 0 front back t (with_role t Waiting) refl kept.numbered;
-    running = ap (map turn_of) (filter_same is_running t (with_role t Waiting) front back (passes is_running t Fresh false role refl) refl) ∙ kept.running;
+    running = ap (map turn_of) (filter_same is_running t (with_role t Waiting) front back (passes is_running t Fresh false role refl) refl)
+        ∙ kept.running;
     fresh = filter_out is_fresh (with_role t Waiting) t (λ x. x.number) refl (passes is_fresh t Fresh true role refl) t.number front back kept.fresh;
-    coming = each_other (λ x. is_coming x ≡ nat_le upcoming x.number) front back (with_role t Waiting) (λ x m. kept.coming x (in_front front back t x m))
+    coming = each_other (λ x. is_coming x ≡ nat_le upcoming x.number) front back (with_role t Waiting)
+        (λ x m. kept.coming x (in_front front back t x m))
         (λ x m. kept.coming x (in_back front back t x m)) (sym (passes is_coming t Fresh false role refl) ∙ kept.coming t (in_middle front back t));
     next = omega (arith, kept.next, length_other front back t (with_role t Waiting));
     waiting = ap (λ x. set x t.number (Some (entry_of t))) kept.waiting
-        ∙ ap (λ n. set (map waiting_entry (front ++ t ∷ back) ++ replicate {A = Option Entry} k None) n (Some (entry_of t))) (place_number 0 front back t kept.numbered ∙ no_more (length front))
+        ∙ ap (λ n. set (map waiting_entry (front ++ t ∷ back) ++ replicate {A = Option Entry} k None) n (Some (entry_of t)))
+        (place_number 0 front back t kept.numbered ∙ no_more (length front))
         ∙ table_set t (with_role t Waiting) (replicate {A = Option Entry} k None) front back;
     held = kept.held ∙ ap (λ ts. by_deadline (map entry_of ts))
         (sym (filter_same is_held t (with_role t Waiting) front back (passes is_held t Fresh false role refl) refl));
@@ -228,8 +242,10 @@ module _ (front back : List Task) (t : Task) (table : List (Option Entry)) (k : 
       → Agrees (front ++ with_role t Held ∷ back) table k (entry_of t ∷ stack) None newest upcoming worth
   agrees_hold stack newest upcoming worth role kept later = record {
     numbered = numbered_other 0 front back t (with_role t Held) refl kept.numbered;
-    running = filter_out is_running (with_role t Held) t turn_of refl (passes is_running t Running true role refl) (turn_of t) front back kept.running;
-    fresh = ap (map (λ x. x.number)) (filter_same is_fresh t (with_role t Held) front back (passes is_fresh t Running false role refl) refl) ∙ kept.fresh;
+    running = filter_out is_running (with_role t Held) t turn_of refl (passes is_running t Running true role refl)
+        (turn_of t) front back kept.running;
+    fresh = ap (map (λ x. x.number)) (filter_same is_fresh t (with_role t Held) front back (passes is_fresh t Running false role refl) refl)
+        ∙ kept.fresh;
     coming = each_other (λ x. is_coming x ≡ nat_le upcoming x.number) front back (with_role t Held) (λ x m. kept.coming x (in_front front back t x m))
         (λ x m. kept.coming x (in_back front back t x m)) (sym (passes is_coming t Running false role refl) ∙ kept.coming t (in_middle front back t));
     next = omega (arith, kept.next, length_other front back t (with_role t Held));
@@ -245,13 +261,17 @@ module _ (front back : List Task) (t : Task) (table : List (Option Entry)) (k : 
       → Agrees (front ++ with_role t Waiting ∷ back) (set table t.number (Some (entry_of t))) k stack None newest upcoming worth
   agrees_stop stack newest upcoming worth role kept = record {
     numbered = numbered_other 0 front back t (with_role t Waiting) refl kept.numbered;
-    running = filter_out is_running (with_role t Waiting) t turn_of refl (passes is_running t Running true role refl) (turn_of t) front back kept.running;
-    fresh = ap (map (λ x. x.number)) (filter_same is_fresh t (with_role t Waiting) front back (passes is_fresh t Running false role refl) refl) ∙ kept.fresh;
-    coming = each_other (λ x. is_coming x ≡ nat_le upcoming x.number) front back (with_role t Waiting) (λ x m. kept.coming x (in_front front back t x m))
+    running = filter_out is_running (with_role t Waiting) t turn_of refl (passes is_running t Running true role refl)
+        (turn_of t) front back kept.running;
+    fresh = ap (map (λ x. x.number)) (filter_same is_fresh t (with_role t Waiting) front back (passes is_fresh t Running false role refl) refl)
+        ∙ kept.fresh;
+    coming = each_other (λ x. is_coming x ≡ nat_le upcoming x.number) front back (with_role t Waiting)
+        (λ x m. kept.coming x (in_front front back t x m))
         (λ x m. kept.coming x (in_back front back t x m)) (sym (passes is_coming t Running false role refl) ∙ kept.coming t (in_middle front back t));
     next = omega (arith, kept.next, length_other front back t (with_role t Waiting));
     waiting = ap (λ x. set x t.number (Some (entry_of t))) kept.waiting
-        ∙ ap (λ n. set (map waiting_entry (front ++ t ∷ back) ++ replicate {A = Option Entry} k None) n (Some (entry_of t))) (place_number 0 front back t kept.numbered ∙ no_more (length front))
+        ∙ ap (λ n. set (map waiting_entry (front ++ t ∷ back) ++ replicate {A = Option Entry} k None) n (Some (entry_of t)))
+        (place_number 0 front back t kept.numbered ∙ no_more (length front))
         ∙ table_set t (with_role t Waiting) (replicate {A = Option Entry} k None) front back;
     held = kept.held ∙ ap (λ ts. by_deadline (map entry_of ts))
         (sym (filter_same is_held t (with_role t Waiting) front back (passes is_held t Running false role refl) refl));
@@ -266,13 +286,17 @@ module _ (front back : List Task) (t : Task) (table : List (Option Entry)) (k : 
       → Agrees (front ++ with_role t Waiting ∷ back) (set table t.number (Some (entry_of t))) k stack job newest upcoming worth
   agrees_displace e stack job newest upcoming worth role kept order same = record {
     numbered = numbered_other 0 front back t (with_role t Waiting) refl kept.numbered;
-    running = ap (map turn_of) (filter_same is_running t (with_role t Waiting) front back (passes is_running t Held false role refl) refl) ∙ kept.running;
-    fresh = ap (map (λ x. x.number)) (filter_same is_fresh t (with_role t Waiting) front back (passes is_fresh t Held false role refl) refl) ∙ kept.fresh;
-    coming = each_other (λ x. is_coming x ≡ nat_le upcoming x.number) front back (with_role t Waiting) (λ x m. kept.coming x (in_front front back t x m))
+    running = ap (map turn_of) (filter_same is_running t (with_role t Waiting) front back (passes is_running t Held false role refl) refl)
+        ∙ kept.running;
+    fresh = ap (map (λ x. x.number)) (filter_same is_fresh t (with_role t Waiting) front back (passes is_fresh t Held false role refl) refl)
+        ∙ kept.fresh;
+    coming = each_other (λ x. is_coming x ≡ nat_le upcoming x.number) front back (with_role t Waiting)
+        (λ x m. kept.coming x (in_front front back t x m))
         (λ x m. kept.coming x (in_back front back t x m)) (sym (passes is_coming t Held false role refl) ∙ kept.coming t (in_middle front back t));
     next = omega (arith, kept.next, length_other front back t (with_role t Waiting));
     waiting = ap (λ x. set x t.number (Some (entry_of t))) kept.waiting
-        ∙ ap (λ n. set (map waiting_entry (front ++ t ∷ back) ++ replicate {A = Option Entry} k None) n (Some (entry_of t))) (place_number 0 front back t kept.numbered ∙ no_more (length front))
+        ∙ ap (λ n. set (map waiting_entry (front ++ t ∷ back) ++ replicate {A = Option Entry} k None) n (Some (entry_of t)))
+        (place_number 0 front back t kept.numbered ∙ no_more (length front))
         ∙ table_set t (with_role t Waiting) (replicate {A = Option Entry} k None) front back;
     held = below;
     done = kept.done ∙ ap value_sum (sym (filter_same is_done t (with_role t Waiting) front back (passes is_done t Held false role refl) refl));
@@ -286,13 +310,16 @@ module _ (front back : List Task) (t : Task) (table : List (Option Entry)) (k : 
       → Agrees (front ++ with_role t Gone ∷ back) (set table t.number None) k stack job newest upcoming worth
   agrees_abandon stack job newest upcoming worth role kept = record {
     numbered = numbered_other 0 front back t (with_role t Gone) refl kept.numbered;
-    running = ap (map turn_of) (filter_same is_running t (with_role t Gone) front back (passes is_running t Waiting false role refl) refl) ∙ kept.running;
-    fresh = ap (map (λ x. x.number)) (filter_same is_fresh t (with_role t Gone) front back (passes is_fresh t Waiting false role refl) refl) ∙ kept.fresh;
+    running = ap (map turn_of) (filter_same is_running t (with_role t Gone) front back (passes is_running t Waiting false role refl) refl)
+        ∙ kept.running;
+    fresh = ap (map (λ x. x.number)) (filter_same is_fresh t (with_role t Gone) front back (passes is_fresh t Waiting false role refl) refl)
+        ∙ kept.fresh;
     coming = each_other (λ x. is_coming x ≡ nat_le upcoming x.number) front back (with_role t Gone) (λ x m. kept.coming x (in_front front back t x m))
         (λ x m. kept.coming x (in_back front back t x m)) (sym (passes is_coming t Waiting false role refl) ∙ kept.coming t (in_middle front back t));
     next = omega (arith, kept.next, length_other front back t (with_role t Gone));
     waiting = ap (λ x. set x t.number None) kept.waiting
-        ∙ ap (λ n. set (map waiting_entry (front ++ t ∷ back) ++ replicate {A = Option Entry} k None) n None) (place_number 0 front back t kept.numbered ∙ no_more (length front))
+        ∙ ap (λ n. set (map waiting_entry (front ++ t ∷ back) ++ replicate {A = Option Entry} k None) n None)
+        (place_number 0 front back t kept.numbered ∙ no_more (length front))
         ∙ table_set t (with_role t Gone) (replicate {A = Option Entry} k None) front back;
     held = kept.held ∙ ap (λ ts. by_deadline (map entry_of ts))
         (sym (filter_same is_held t (with_role t Gone) front back (passes is_held t Waiting false role refl) refl));

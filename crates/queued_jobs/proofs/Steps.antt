@@ -1,5 +1,6 @@
 -- The queues before and after a change of the role of one job.
-use Rattle.std.proofs.Common.{◌≡◌, ℕ, zero, suc, ◌+◌, ◌<◌, ◌≤◌, inl, inr, Bool, nat_lt, false, cond, arith, List, [], ◌∷◌, ◌++◌, length, get_or, replicate, map, set, sym, ap, ◌∙◌, subst, true, refl}
+use Rattle.std.proofs.Common.{◌≡◌, ℕ, zero, suc, ◌+◌, ◌<◌, ◌≤◌, inl, inr, Bool, nat_lt, false, cond, arith, List, [], ◌∷◌, ◌++◌, length, get_or}
+use Rattle.std.proofs.Common.{replicate, map, set, sym, ap, ◌∙◌, subst, true, refl}
 use Rattle.std.specs.Prelude.{Option, Some, None}
 use Rattle.std.specs.List.{filter, sum_by, slice_get}
 use Rattle.std.specs.Option.{option_to_list}
@@ -36,7 +37,8 @@ use Rattle.queued_jobs.proofs.Stepping.{agrees_release, agrees_complete, agrees_
 use Rattle.queued_jobs.proofs.Stepping.{agrees_wait, agrees_hold, agrees_stop, agrees_displace, agrees_abandon}
 
 module _ (tasks changed : List Task) (t : Task) (table : List (Option Entry)) (k : ℕ) where
-  pub release_step : (stack : List Entry) (job : Option (ℕ × ℕ)) (newest : Option ℕ) (upcoming worth : ℕ) → Splits t Fresh tasks changed → t.role ≡ Coming
+  pub release_step : (stack : List Entry) (job : Option (ℕ × ℕ)) (newest : Option ℕ) (upcoming worth : ℕ) → Splits t Fresh tasks changed
+      → t.role ≡ Coming
       → Agrees tasks table k stack job newest upcoming worth
       → newest ≡ None
       → upcoming ≡ t.number
@@ -51,7 +53,8 @@ module _ (tasks changed : List Task) (t : Task) (table : List (Option Entry)) (k
       subst (λ ts. Agrees ts table k stack job (Some t.number) (t.number + 1) worth) (sym sp.after)
       (agrees_release sp.front sp.back t table k stack job worth role split)
 
-  pub complete_step : (stack : List Entry) (job : Option (ℕ × ℕ)) (newest : Option ℕ) (upcoming worth : ℕ) → Splits t Done tasks changed → t.role ≡ Running
+  pub complete_step : (stack : List Entry) (job : Option (ℕ × ℕ)) (newest : Option ℕ) (upcoming worth : ℕ) → Splits t Done tasks changed
+      → t.role ≡ Running
       → Agrees tasks table k stack job newest upcoming worth
       → Agrees changed table k stack None newest upcoming (worth + t.job.value)
   complete_step stack job newest upcoming worth sp role kept =
@@ -62,7 +65,8 @@ module _ (tasks changed : List Task) (t : Task) (table : List (Option Entry)) (k
       subst (λ ts. Agrees ts table k stack None newest upcoming (worth + t.job.value)) (sym sp.after)
       (agrees_complete sp.front sp.back t table k stack newest upcoming worth role split)
 
-  pub resume_step : (e : Entry) (stack : List Entry) (job : Option (ℕ × ℕ)) (newest : Option ℕ) (upcoming worth : ℕ) → Splits t Running tasks changed → t.role ≡ Held
+  pub resume_step : (e : Entry) (stack : List Entry) (job : Option (ℕ × ℕ)) (newest : Option ℕ) (upcoming worth : ℕ) → Splits t Running tasks changed
+      → t.role ≡ Held
       → Agrees tasks table k (e ∷ stack) job newest upcoming worth
       → IsByDeadline (e ∷ stack)
       → t.number ≡ e.number
@@ -76,7 +80,8 @@ module _ (tasks changed : List Task) (t : Task) (table : List (Option Entry)) (k
       subst (λ ts. Agrees ts table k stack (Some (turn_of t)) newest upcoming worth) (sym sp.after)
       (agrees_resume sp.front sp.back t table k e stack newest upcoming worth role split order same)
 
-  pub start_step : (stack : List Entry) (job : Option (ℕ × ℕ)) (newest : Option ℕ) (upcoming worth : ℕ) → Splits t Running tasks changed → t.role ≡ Waiting
+  pub start_step : (stack : List Entry) (job : Option (ℕ × ℕ)) (newest : Option ℕ) (upcoming worth : ℕ) → Splits t Running tasks changed
+      → t.role ≡ Waiting
       → Agrees tasks table k stack job newest upcoming worth
       → job ≡ None
       → Agrees changed (set table t.number None) k stack (Some (turn_of t)) newest upcoming worth
@@ -88,7 +93,8 @@ module _ (tasks changed : List Task) (t : Task) (table : List (Option Entry)) (k
       subst (λ ts. Agrees ts (set table t.number None) k stack (Some (turn_of t)) newest upcoming worth) (sym sp.after)
       (agrees_start sp.front sp.back t table k stack newest upcoming worth role split)
 
-  pub begin_step : (stack : List Entry) (job : Option (ℕ × ℕ)) (newest : Option ℕ) (upcoming worth : ℕ) → Splits t Running tasks changed → t.role ≡ Fresh
+  pub begin_step : (stack : List Entry) (job : Option (ℕ × ℕ)) (newest : Option ℕ) (upcoming worth : ℕ) → Splits t Running tasks changed
+      → t.role ≡ Fresh
       → Agrees tasks table k stack job newest upcoming worth
       → job ≡ None
       → Agrees changed table k stack (Some (turn_of t)) None upcoming worth
@@ -102,7 +108,8 @@ module _ (tasks changed : List Task) (t : Task) (table : List (Option Entry)) (k
       subst (λ ts. Agrees ts table k stack (Some (turn_of t)) None upcoming worth) (sym sp.after)
       (agrees_begin sp.front sp.back t table k stack upcoming worth role split)
 
-  pub wait_step : (stack : List Entry) (job : Option (ℕ × ℕ)) (newest : Option ℕ) (upcoming worth : ℕ) → Splits t Waiting tasks changed → t.role ≡ Fresh
+  pub wait_step : (stack : List Entry) (job : Option (ℕ × ℕ)) (newest : Option ℕ) (upcoming worth : ℕ) → Splits t Waiting tasks changed
+      → t.role ≡ Fresh
       → Agrees tasks table k stack job newest upcoming worth
       → Agrees changed (set table t.number (Some (entry_of t))) k stack job None upcoming worth
   wait_step stack job newest upcoming worth sp role kept =
@@ -113,7 +120,8 @@ module _ (tasks changed : List Task) (t : Task) (table : List (Option Entry)) (k
       subst (λ ts. Agrees ts (set table t.number (Some (entry_of t))) k stack job None upcoming worth) (sym sp.after)
       (agrees_wait sp.front sp.back t table k stack job upcoming worth role split)
 
-  pub hold_step : (stack : List Entry) (job : Option (ℕ × ℕ)) (newest : Option ℕ) (upcoming worth : ℕ) → Splits t Held tasks changed → t.role ≡ Running
+  pub hold_step : (stack : List Entry) (job : Option (ℕ × ℕ)) (newest : Option ℕ) (upcoming worth : ℕ) → Splits t Held tasks changed
+      → t.role ≡ Running
       → Agrees tasks table k stack job newest upcoming worth
       → Each (λ x. is_held x ≡ true → t.job.deadline < x.job.deadline) tasks
       → Agrees changed table k (entry_of t ∷ stack) None newest upcoming worth
@@ -123,9 +131,11 @@ module _ (tasks changed : List Task) (t : Task) (table : List (Option Entry)) (k
       let at1 = subst (λ o. Agrees tasks table k stack o newest upcoming worth) job_is kept in
       let split = subst (λ ts. Agrees ts table k stack (Some (turn_of t)) newest upcoming worth) sp.before at1 in
       subst (λ ts. Agrees ts table k (entry_of t ∷ stack) None newest upcoming worth) (sym sp.after)
-      (agrees_hold sp.front sp.back t table k stack newest upcoming worth role split (subst (Each (λ x. is_held x ≡ true → t.job.deadline < x.job.deadline)) sp.before later))
+      (agrees_hold sp.front sp.back t table k stack newest upcoming worth role split
+      (subst (Each (λ x. is_held x ≡ true → t.job.deadline < x.job.deadline)) sp.before later))
 
-  pub stop_step : (stack : List Entry) (job : Option (ℕ × ℕ)) (newest : Option ℕ) (upcoming worth : ℕ) → Splits t Waiting tasks changed → t.role ≡ Running
+  pub stop_step : (stack : List Entry) (job : Option (ℕ × ℕ)) (newest : Option ℕ) (upcoming worth : ℕ) → Splits t Waiting tasks changed
+      → t.role ≡ Running
       → Agrees tasks table k stack job newest upcoming worth
       → Agrees changed (set table t.number (Some (entry_of t))) k stack None newest upcoming worth
   stop_step stack job newest upcoming worth sp role kept =
@@ -136,7 +146,8 @@ module _ (tasks changed : List Task) (t : Task) (table : List (Option Entry)) (k
       subst (λ ts. Agrees ts (set table t.number (Some (entry_of t))) k stack None newest upcoming worth) (sym sp.after)
       (agrees_stop sp.front sp.back t table k stack newest upcoming worth role split)
 
-  pub displace_step : (e : Entry) (stack : List Entry) (job : Option (ℕ × ℕ)) (newest : Option ℕ) (upcoming worth : ℕ) → Splits t Waiting tasks changed → t.role ≡ Held
+  pub displace_step : (e : Entry) (stack : List Entry) (job : Option (ℕ × ℕ)) (newest : Option ℕ) (upcoming worth : ℕ)
+      → Splits t Waiting tasks changed → t.role ≡ Held
       → Agrees tasks table k (e ∷ stack) job newest upcoming worth
       → IsByDeadline (e ∷ stack)
       → t.number ≡ e.number
@@ -147,7 +158,8 @@ module _ (tasks changed : List Task) (t : Task) (table : List (Option Entry)) (k
       subst (λ ts. Agrees ts (set table t.number (Some (entry_of t))) k stack job newest upcoming worth) (sym sp.after)
       (agrees_displace sp.front sp.back t table k e stack job newest upcoming worth role split order same)
 
-  pub abandon_step : (stack : List Entry) (job : Option (ℕ × ℕ)) (newest : Option ℕ) (upcoming worth : ℕ) → Splits t Gone tasks changed → t.role ≡ Waiting
+  pub abandon_step : (stack : List Entry) (job : Option (ℕ × ℕ)) (newest : Option ℕ) (upcoming worth : ℕ) → Splits t Gone tasks changed
+      → t.role ≡ Waiting
       → Agrees tasks table k stack job newest upcoming worth
       → Agrees changed (set table t.number None) k stack job newest upcoming worth
   abandon_step stack job newest upcoming worth sp role kept =
@@ -160,11 +172,14 @@ module _ (tasks changed : List Task) (t : Task) (table : List (Option Entry)) (k
 
 -- the value in its new state
 pub changed_view : (rules : Rules) (spare clock clock' n : ℕ) (role : Role) (tasks changed : List Task) (q : Queued)
-    → record { rules = rules; state = record { clock = clock; tasks = tasks }; spare = spare } ≡ q → clock' ≡ clock → changed ≡ with_role_at n role tasks
+    → record { rules = rules; state = record { clock = clock; tasks = tasks }; spare = spare } ≡ q → clock' ≡ clock
+    → changed ≡ with_role_at n role tasks
     → record { rules = rules; state = record { clock = clock'; tasks = changed }; spare = spare } ≡ with_job_in q n role
 changed_view rules spare clock clock' n role tasks changed q is same map_is =
-    ap (λ m. in_state (record { rules = rules; state = record { clock = m; tasks = changed }; spare = spare }) (record { clock = m; tasks = changed })) same
-    ∙ ap (λ ts. in_state (record { rules = rules; state = record { clock = clock; tasks = ts }; spare = spare }) (record { clock = clock; tasks = ts })) map_is
+    ap (λ m. in_state (record { rules = rules; state = record { clock = m; tasks = changed }; spare = spare })
+    (record { clock = m; tasks = changed })) same
+    ∙ ap (λ ts. in_state (record { rules = rules; state = record { clock = clock; tasks = ts }; spare = spare })
+    (record { clock = clock; tasks = ts })) map_is
     ∙ ap (λ p. with_job_in p n role) is
 
 -- a job that is found is there
@@ -211,7 +226,8 @@ fewer_pass p (x ∷ tasks) t (inl e) fails = by_test (p x) (ap p (sym e) ∙ fai
     by_one true rest = omega (arith, rest)
     by_one false rest = omega (arith, rest)
 
-  by_test : (b : Bool) → b ≡ false → length (filter p tasks) ≤ length tasks → length (cond b (x ∷ filter p tasks) (filter p tasks)) + 1 ≤ length (x ∷ tasks)
+  by_test : (b : Bool) → b ≡ false → length (filter p tasks) ≤ length tasks
+      → length (cond b (x ∷ filter p tasks) (filter p tasks)) + 1 ≤ length (x ∷ tasks)
   by_test true h rest = never (sym h)
   by_test false h rest = omega (arith, rest)
 fewer_pass p (x ∷ tasks) t (inr m) fails = by_test (p x) (fewer_pass p tasks t m fails) where
@@ -294,14 +310,16 @@ taken_out w left_ tasks k t r is found role was rest =
     ∙ ap (λ b. cond b (Some (entry_of t)) None) (passes is_waiting t Waiting true role refl))
 
 -- where a job doesn't wait, its number is free
-pub number_free : (tasks : List Task) (table : List (Option Entry)) (k : ℕ) (t : Task) (e : Entry) → table ≡ map waiting_entry tasks ++ replicate k None
+pub number_free : (tasks : List Task) (table : List (Option Entry)) (k : ℕ) (t : Task) (e : Entry)
+    → table ≡ map waiting_entry tasks ++ replicate k None
     → slice_get tasks t.number ≡ Some t → is_waiting t ≡ false → e ≡ entry_of t → get_or table e.number None ≡ None
 number_free tasks table k t e is found idle same =
     ap (λ (x : Entry). get_or table x.number None) same ∙ table_at tasks table k t.number t is found
     ∙ ap (λ b. cond b (Some (entry_of t)) None) idle
 
 -- and ready for use
-pub number_ready : (tasks : List Task) (table : List (Option Entry)) (k : ℕ) (t : Task) (e : Entry) → table ≡ map waiting_entry tasks ++ replicate k None
+pub number_ready : (tasks : List Task) (table : List (Option Entry)) (k : ℕ) (t : Task) (e : Entry)
+    → table ≡ map waiting_entry tasks ++ replicate k None
     → slice_get tasks t.number ≡ Some t → e ≡ entry_of t → e.number < length table
 number_ready tasks table k t e is found same =
     let inside : t.number < length tasks = slice_get_within tasks t.number t found in
@@ -322,7 +340,8 @@ pub record IsTop (t : Task) (tasks : List Task) (stack : List Entry) : Type 0 wh
   pub found : slice_get tasks t.number ≡ Some t
   pub role : t.role ≡ Held
 
-pub top_job : (v : Version) (tasks : List Task) (stack : List Entry) (t : Task) → IsNumberedFrom 0 tasks → stack ≡ held_entries tasks → IsByDeadline stack
+pub top_job : (v : Version) (tasks : List Task) (stack : List Entry) (t : Task) → IsNumberedFrom 0 tasks → stack ≡ held_entries tasks
+    → IsByDeadline stack
     → first (due_first v) (filter is_held tasks) ≡ Some t → IsTop t tasks stack
 top_job v tasks [] t all is order top = none_is_some (held_none v tasks [] is refl ∙ top)
 top_job v tasks (e ∷ rest) t all is order top =

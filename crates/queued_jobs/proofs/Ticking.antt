@@ -28,7 +28,8 @@ module _ (n : ℕ) where
   idle_all : (xs : List Task) → filter is_running xs ≡ [] → map (ticked_by n) xs ≡ xs
   idle_all [] none = refl
   idle_all (x ∷ xs) none = by_test (is_running x) refl none (idle_all xs) where
-    by_test : (b : Bool) → is_running x ≡ b → cond b (x ∷ filter is_running xs) (filter is_running xs) ≡ [] → (filter is_running xs ≡ [] → map (ticked_by n) xs ≡ xs)
+    by_test : (b : Bool) → is_running x ≡ b → cond b (x ∷ filter is_running xs) (filter is_running xs) ≡ []
+        → (filter is_running xs ≡ [] → map (ticked_by n) xs ≡ xs)
         → ticked_by n x ∷ map (ticked_by n) xs ≡ x ∷ xs
     by_test true e h rest = absurd (cons_none h) where
       cons_none : x ∷ filter is_running xs ≡ [] → ⊥
@@ -72,25 +73,30 @@ module _ (n : ℕ) where
         cons_none e = cc
       by_one false h rest = rest h
 
-    by_test : (b : Bool) → is_running x ≡ b → map (λ (z : Task). z.number) (cond b (x ∷ filter is_running (front ++ t ∷ back)) (filter is_running (front ++ t ∷ back))) ≡ j ∷ []
+    by_test : (b : Bool) → is_running x ≡ b → map (λ (z : Task). z.number)
+        (cond b (x ∷ filter is_running (front ++ t ∷ back)) (filter is_running (front ++ t ∷ back))) ≡ j ∷ []
         → (map (λ (z : Task). z.number) (filter is_running (front ++ t ∷ back)) ≡ j ∷ []
         → front ++ record { number = t.number; job = t.job; role = t.role; had = t.had + n } ∷ back ≡ map (ticked_by n) (front ++ t ∷ back))
         → x ∷ (front ++ record { number = t.number; job = t.job; role = t.role; had = t.had + n } ∷ back)
         ≡ ticked_by n x ∷ map (ticked_by n) (front ++ t ∷ back)
     by_test true e h rest = absurd (there front (tail h)) where
-      tail : x.number ∷ map (λ (z : Task). z.number) (filter is_running (front ++ t ∷ back)) ≡ j ∷ [] → map (λ (z : Task). z.number) (filter is_running (front ++ t ∷ back)) ≡ []
+      tail : x.number ∷ map (λ (z : Task). z.number) (filter is_running (front ++ t ∷ back)) ≡ j ∷ []
+          → map (λ (z : Task). z.number) (filter is_running (front ++ t ∷ back)) ≡ []
       tail e = cc
-    by_test false e h rest = ap (λ y. y ∷ (front ++ record { number = t.number; job = t.job; role = t.role; had = t.had + n } ∷ back)) (sym (idle_same x e))
+    by_test false e h rest = ap (λ y. y ∷ (front ++ record { number = t.number; job = t.job; role = t.role; had = t.had + n } ∷ back))
+        (sym (idle_same x e))
         ∙ ap (λ ys. ticked_by n x ∷ ys) (rest h)
 
   -- the same jobs pass a test of their roles
-  filter_ticked : (p : Task → Bool) → ((t : Task) → p (ticked_by n t) ≡ p t) → (xs : List Task) → filter p (map (ticked_by n) xs) ≡ map (ticked_by n) (filter p xs)
+  filter_ticked : (p : Task → Bool) → ((t : Task) → p (ticked_by n t) ≡ p t) → (xs : List Task)
+      → filter p (map (ticked_by n) xs) ≡ map (ticked_by n) (filter p xs)
   filter_ticked p same [] = refl
   filter_ticked p same (x ∷ xs) =
       ap (λ b. cond b (ticked_by n x ∷ filter p (map (ticked_by n) xs)) (filter p (map (ticked_by n) xs))) (same x)
       ∙ by_test (p x) (filter_ticked p same xs) where
         by_test : (b : Bool) → filter p (map (ticked_by n) xs) ≡ map (ticked_by n) (filter p xs)
-            → cond b (ticked_by n x ∷ filter p (map (ticked_by n) xs)) (filter p (map (ticked_by n) xs)) ≡ map (ticked_by n) (cond b (x ∷ filter p xs) (filter p xs))
+            → cond b (ticked_by n x ∷ filter p (map (ticked_by n) xs)) (filter p (map (ticked_by n) xs))
+            ≡ map (ticked_by n) (cond b (x ∷ filter p xs) (filter p xs))
         by_test true rest = ap (λ ys. ticked_by n x ∷ ys) rest
         by_test false rest = rest
 
@@ -116,9 +122,10 @@ module _ (n : ℕ) where
     by_test false e = no_ e
 
   held_idle : (t : Task) → is_held t ≡ true → is_running t ≡ false
-  held_idle t holds = by_running t (is_running t ≡ false) (λ runs. absurd (apart (sym (is_running_role t runs) ∙ is_held_role t holds))) (λ e. e) where
-    apart : Running ≡ Held → ⊥
-    apart e = cc
+  held_idle t holds = by_running t (is_running t ≡ false) (λ runs. absurd (apart (sym (is_running_role t runs) ∙ is_held_role t holds)))
+      (λ e. e) where
+        apart : Running ≡ Held → ⊥
+        apart e = cc
 
   entry_ticked : (t : Task) → waiting_entry (ticked_by n t) ≡ waiting_entry t
   entry_ticked t = by_test (is_waiting t) refl where
@@ -144,7 +151,8 @@ module _ (n : ℕ) where
         ∙ sym (map_map less turn_of (filter is_running tasks))
         ∙ ap (λ l. map less l) kept.running ∙ list_option job;
     fresh =
-        ap (map (λ t. t.number)) (filter_ticked is_fresh (λ t. refl) tasks) ∙ map_map (λ (t : Task). t.number) (ticked_by n) (filter is_fresh tasks) ∙ kept.fresh;
+        ap (map (λ t. t.number)) (filter_ticked is_fresh (λ t. refl) tasks) ∙ map_map (λ (t : Task). t.number) (ticked_by n) (filter is_fresh tasks)
+        ∙ kept.fresh;
     coming = on_map (ticked_by n) (λ t. is_coming t ≡ nat_le upcoming t.number) tasks kept.coming;
     next = omega (arith, kept.next, length-map tasks (ticked_by n));
     waiting = kept.waiting ∙ ap (λ l. l ++ replicate {A = Option Entry} k None)
@@ -177,11 +185,15 @@ runner_at tasks n all one = by_list (filter is_running tasks) refl one where
   by_list [] is e = absurd (none_cons e) where
     none_cons : [] ≡ n ∷ [] → ⊥
     none_cons e = cc
-  by_list (t ∷ more) is e =
-      (t, found_one is_running tasks n all one ∙ find_head is_running tasks t more is, (member_filter is_running tasks t (subst (IsMember t) (sym is) (inl refl))).1)
+  by_list (t ∷ more) is e = (
+    t,
+    found_one is_running tasks n all one ∙ find_head is_running tasks t more is,
+    (member_filter is_running tasks t (subst (IsMember t) (sym is) (inl refl))).1,
+  )
 
 -- a write of ticks at the place of the running job
-pub served_at : (tasks : List Task) (n ticks : ℕ) (t : Task) → slice_get tasks n ≡ Some t → map (λ (x : Task). x.number) (filter is_running tasks) ≡ n ∷ []
+pub served_at : (tasks : List Task) (n ticks : ℕ) (t : Task) → slice_get tasks n ≡ Some t
+    → map (λ (x : Task). x.number) (filter is_running tasks) ≡ n ∷ []
     → is_running t ≡ true
     → set tasks n (record { number = t.number; job = t.job; role = t.role; had = t.had + ticks }) ≡ map (ticked_by ticks) tasks
 served_at tasks n ticks t found one runs =
@@ -196,7 +208,8 @@ served_at tasks n ticks t found one runs =
       set_at [] back = refl
       set_at (x ∷ front) back = ap (λ ts. x ∷ ts) (set_at front back)
 
-      split_at : (ts : List Task) (m : ℕ) → slice_get ts m ≡ Some t → (front : List Task) × (back : List Task) × (length front ≡ m) × (ts ≡ front ++ t ∷ back)
+      split_at : (ts : List Task) (m : ℕ) → slice_get ts m ≡ Some t
+          → (front : List Task) × (back : List Task) × (length front ≡ m) × (ts ≡ front ++ t ∷ back)
       split_at [] m e = none_is_some e
       split_at (x ∷ ts) zero e = ([], ts, refl, ap (λ y. y ∷ ts) (some_same x t e))
       split_at (x ∷ ts) (suc m) e = let rest = split_at ts m e in (x ∷ rest.0, rest.1, ap suc rest.2, ap (λ ys. x ∷ ys) rest.3)
@@ -205,7 +218,8 @@ served_at tasks n ticks t found one runs =
 pub runner_numbers : (tasks : List Task) (job : Option (ℕ × ℕ)) (o : Option ℕ) → map turn_of (filter is_running tasks) ≡ option_to_list job
     → o ≡ option_map (λ (j : ℕ × ℕ). j.0) job → map (λ (t : Task). t.number) (filter is_running tasks) ≡ option_to_list o
 runner_numbers tasks job o one is =
-    sym (map_map (λ (i : ℕ × ℕ). i.0) turn_of (filter is_running tasks)) ∙ ap (λ l. map (λ (i : ℕ × ℕ). i.0) l) one ∙ by_job job ∙ ap option_to_list (sym is) where
+    sym (map_map (λ (i : ℕ × ℕ). i.0) turn_of (filter is_running tasks)) ∙ ap (λ l. map (λ (i : ℕ × ℕ). i.0) l) one ∙ by_job job
+    ∙ ap option_to_list (sym is) where
       by_job : (j : Option (ℕ × ℕ)) → map (λ (i : ℕ × ℕ). i.0) (option_to_list j) ≡ option_to_list (option_map (λ (i : ℕ × ℕ). i.0) j)
       by_job None = refl
       by_job (Some j) = refl

@@ -25,13 +25,19 @@ invariant_of-self g c =
     let found = subst (λ q. slice_get q.state.tasks t.number ≡ Some t) (sym c.self.view_is) c.requires.found in
     let changed = c.set_role.new.tasks.items in
     let k = kept.agrees.0 in
-    let after_is = taken_out inside.waiting c.take_out.new.self tasks k t c.take_out.result kept.agrees.2.waiting found c.requires.role c.take_out.ensures.was
+    let after_is = taken_out inside.waiting c.take_out.new.self tasks k t c.take_out.result kept.agrees.2.waiting found c.requires.role
+    c.take_out.ensures.was
     c.take_out.ensures.rest in
     let agrees = abandon_step tasks changed t inside.waiting.table k inside.held.held inside.cpu.job inside.fresh inside.next inside.done
     (splits t Gone tasks changed found c.set_role.ensures.changes) c.requires.role kept.agrees.2 in
     record {
       version = ap (λ w. w.version) after_is ∙ kept.version;
-      agrees = (k, kept.agrees.1, (subst (λ w. Agrees changed w.table k inside.held.held inside.cpu.job inside.fresh inside.next inside.done) (sym after_is) agrees));
+      agrees = (
+        k,
+        kept.agrees.1,
+        (subst (λ w. Agrees changed w.table k inside.held.held inside.cpu.job inside.fresh inside.next inside.done)
+            (sym after_is) agrees),
+      );
       latest = kept.latest;
       fits = omega (arith, kept.fits, c.set_role.ensures.len, c.set_role.ensures.capacity);
       fits_held = omega (arith, kept.fits_held, c.set_role.ensures.len);

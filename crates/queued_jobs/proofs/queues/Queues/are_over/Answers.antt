@@ -19,4 +19,5 @@ returns-then-is_none c =
 
 pub returns-else-is_none : goal.returns-else-is_none
 returns-else-is_none c =
-    c.if-is_none.false ∙ busy_over c.args.self.now.state (ap is_none (sym c.running.ensures) ∙ none_is c.running.result c.is_none.result c.is_none.ensures ∙ c.if-is_none.false)
+    c.if-is_none.false ∙ busy_over c.args.self.now.state (ap is_none (sym c.running.ensures)
+    ∙ none_is c.running.result c.is_none.result c.is_none.ensures ∙ c.if-is_none.false)

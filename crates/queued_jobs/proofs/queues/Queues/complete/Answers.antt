@@ -24,14 +24,16 @@ overflow_add-self c =
     let tasks = c.self.inside.tasks.items in
     let t = c.args.t.now in
     let found = subst (λ q. slice_get q.state.tasks t.number ≡ Some t) (sym c.self.view_is) c.requires.found in
-    let total : value_sum tasks ≤ 10_000_000_000_000 = subst (λ q. value_sum q.state.tasks ≤ 10_000_000_000_000) (sym c.self.view_is) c.requires.total in
+    let total : value_sum tasks ≤ 10_000_000_000_000 = subst (λ q. value_sum q.state.tasks ≤ 10_000_000_000_000)
+    (sym c.self.view_is) c.requires.total in
     let room = value_room is_done tasks t (found_member tasks t.number t found) (passes is_done t Running false c.requires.role refl) in
     omega (arith, c.self.invariant.agrees.2.done, c.value.ensures.is, room, total)
 
 pub set_role-requires : goal.set_role-requires
 set_role-requires c =
     let t = c.args.t.now in
-    slice_get_within c.self.inside.tasks.items t.number t (subst (λ q. slice_get q.state.tasks t.number ≡ Some t) (sym c.self.view_is) c.requires.found)
+    slice_get_within c.self.inside.tasks.items t.number t (subst (λ q. slice_get q.state.tasks t.number ≡ Some t)
+    (sym c.self.view_is) c.requires.found)
 
 pub invariant_of-self : goal.invariant_of-self
 invariant_of-self c =
@@ -50,7 +52,8 @@ invariant_of-self c =
         kept.agrees.0,
         kept.agrees.1,
         subst (λ n. Agrees changed inside.waiting.table kept.agrees.0 inside.held.held c.stop.new.self.job inside.fresh inside.next n) (sym worth)
-            (subst (λ p. Agrees changed inside.waiting.table kept.agrees.0 inside.held.held p.job inside.fresh inside.next (inside.done + t.job.value))
+            (subst (λ p. Agrees changed inside.waiting.table kept.agrees.0 inside.held.held p.job inside.fresh inside.next
+            (inside.done + t.job.value))
             (sym c.stop.ensures.free) agrees),
       );
       latest = subst (λ p. inside.held.latest ≤ p.clock) (sym c.stop.ensures.free) kept.latest;
@@ -63,6 +66,7 @@ pub returns : goal.returns
 returns c =
     let inside = c.self.inside in
     let t = c.args.t.now in
-    changed_view (queued_of inside).rules inside.spare inside.cpu.clock c.stop.new.self.clock t.number Done inside.tasks.items c.set_role.new.tasks.items
+    changed_view (queued_of inside).rules inside.spare inside.cpu.clock c.stop.new.self.clock t.number Done inside.tasks.items
+    c.set_role.new.tasks.items
     c.args.self.now c.self.view_is (ap (λ p. p.clock) c.stop.ensures.free)
     (is_map t.number inside.tasks.items c.set_role.new.tasks.items Done c.set_role.ensures.changes c.self.invariant.agrees.2.numbered)

@@ -58,7 +58,10 @@ invariant_of-self g c =
     let found = top.found in
     let changed = c.set_role.new.tasks.items in
     let k = kept.agrees.0 in
-    let after_is = c.add.ensures.in_it ∙ ap (λ (e : Entry). record { version = inside.waiting.version; table = set inside.waiting.table e.number (Some e) })
+    let after_is = c.add.ensures.in_it ∙ ap (λ (e : Entry). record {
+      version = inside.waiting.version;
+      table = set inside.waiting.table e.number (Some e);
+    })
     c.entry_of.ensures in
     let below_is = c.release_one.ensures.rest ∙ without_first inside.held top.entry top.rest top.is in
     let order = subst IsByDeadline top.is c.release_one.ensures.order in
@@ -84,7 +87,8 @@ pub returns-clause-waits : goal.returns-clause-waits
 returns-clause-waits g c =
     let inside = c.self.inside in
     let t = c.args.t.now in
-    changed_view (queued_of inside).rules inside.spare inside.cpu.clock inside.cpu.clock t.number Waiting inside.tasks.items c.set_role.new.tasks.items
+    changed_view (queued_of inside).rules inside.spare inside.cpu.clock inside.cpu.clock t.number Waiting inside.tasks.items
+    c.set_role.new.tasks.items
     c.args.self.now c.self.view_is refl
     (is_map t.number inside.tasks.items c.set_role.new.tasks.items Waiting c.set_role.ensures.changes c.self.invariant.agrees.2.numbered)
 

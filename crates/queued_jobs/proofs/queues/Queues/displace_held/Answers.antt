@@ -6,7 +6,8 @@ use Rattle.dover_model.specs.State.{is_held}
 use Rattle.dover_model.specs.Step.{with_role, displaced}
 use Rattle.dover_model.proofs.Roles.{numbered_map}
 use Rattle.queued_jobs.specs.Roles.{all_displaced}
-use Rattle.queued_jobs.proofs.Displacing.{Displaces, displaced_same, all_stay, none_running, first_held_is, none_held, still_none, fewer_held, same_queued}
+use Rattle.queued_jobs.proofs.Displacing.{Displaces, displaced_same, all_stay, none_running, first_held_is, none_held, still_none, fewer_held}
+use Rattle.queued_jobs.proofs.Displacing.{same_queued}
 use Rattle.queued_jobs.proofs.queues.Queues.displace_held.Goals as goal
 
 pub loop-p-init : goal.loop-p-init

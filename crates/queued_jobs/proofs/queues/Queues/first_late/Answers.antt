@@ -27,7 +27,8 @@ returns-then-e-clock c =
     let sound = subst (λ q. IsSound q.state) (sym c.self.view_is) c.requires in
     let members = waiting_members inside.tasks.items table c.self.invariant.agrees.0 c.self.invariant.agrees.2.waiting in
     let at = sym c.in_ok-e.was ∙ c.first_latest.ensures ∙ ap (λ v. first (is_latest_before v) (members_of table)) c.self.invariant.version in
-    late_later inside.version (queued_of inside).state sound (members_of table) members c.in_ok-e.e at (λ same. c.if-e-clock.true (same ∙ sym c.clock.ensures))
+    late_later inside.version (queued_of inside).state sound (members_of table) members c.in_ok-e.e at
+    (λ same. c.if-e-clock.true (same ∙ sym c.clock.ensures))
     ∙ ap (λ q. first (latest_first q.rules.version) (filter (is_at_latest_start q.state) (waiting q.state))) c.self.view_is
 
 pub returns : goal.returns

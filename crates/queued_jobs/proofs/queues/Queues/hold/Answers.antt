@@ -65,7 +65,8 @@ hold-requires-clause-total c =
     let tasks = inside.tasks.items in
     let t = c.args.t.now in
     let found = subst (λ q. slice_get q.state.tasks t.number ≡ Some t) (sym c.self.view_is) c.requires.found in
-    let total : value_sum tasks ≤ 10_000_000_000_000 = subst (λ q. value_sum q.state.tasks ≤ 10_000_000_000_000) (sym c.self.view_is) c.requires.total in
+    let total : value_sum tasks ≤ 10_000_000_000_000 = subst (λ q. value_sum q.state.tasks ≤ 10_000_000_000_000)
+    (sym c.self.view_is) c.requires.total in
     let room = value_room is_held tasks t (found_member tasks t.number t found) (passes is_held t Running false c.requires.role refl) in
     let sum : value_of inside.held.held ≡ value_sum (filter is_held tasks) = held_value tasks inside.held.held kept.agrees.2.held in
     let all : value_of (entry_of t ∷ inside.held.held) ≤ 10_000_000_000_000 =
@@ -103,8 +104,10 @@ invariant_of-self c =
         k,
         kept.agrees.1,
         subst (λ h. Agrees changed inside.waiting.table k h.held c.stop.new.self.job inside.fresh inside.next inside.done) (sym c.hold.ensures)
-            (subst (λ e. Agrees changed inside.waiting.table k (e ∷ inside.held.held) c.stop.new.self.job inside.fresh inside.next inside.done) (sym c.entry_of-entry.ensures)
-            (subst (λ p. Agrees changed inside.waiting.table k (entry_of t ∷ inside.held.held) p.job inside.fresh inside.next inside.done) (sym c.stop.ensures.free) agrees)),
+            (subst (λ e. Agrees changed inside.waiting.table k (e ∷ inside.held.held) c.stop.new.self.job inside.fresh inside.next inside.done)
+            (sym c.entry_of-entry.ensures)
+            (subst (λ p. Agrees changed inside.waiting.table k (entry_of t ∷ inside.held.held) p.job inside.fresh inside.next inside.done)
+            (sym c.stop.ensures.free) agrees)),
       );
       latest = subst (λ h. h.latest ≤ c.stop.new.self.clock) (sym c.hold.ensures)
           (subst (λ p. max inside.held.latest c.clock-2.result ≤ p.clock) (sym c.stop.ensures.free) (omega (arith, kept.latest, now)));
@@ -118,6 +121,7 @@ pub returns : goal.returns
 returns c =
     let inside = c.self.inside in
     let t = c.args.t.now in
-    changed_view (queued_of inside).rules inside.spare inside.cpu.clock c.stop.new.self.clock t.number Held inside.tasks.items c.set_role.new.tasks.items
+    changed_view (queued_of inside).rules inside.spare inside.cpu.clock c.stop.new.self.clock t.number Held inside.tasks.items
+    c.set_role.new.tasks.items
     c.args.self.now c.self.view_is (ap (λ p. p.clock) c.stop.ensures.free)
     (is_map t.number inside.tasks.items c.set_role.new.tasks.items Held c.set_role.ensures.changes c.self.invariant.agrees.2.numbered)

@@ -74,7 +74,8 @@ begin-requires-clause-found c =
     some_same f it.started (same_task tasks c.args.starts (Some f) it.started all it.started_in it.started_number c.in-Some-task.ensures) in
     let found = subst (λ x. slice_get tasks x.number ≡ Some x) (sym same_f) (task_at tasks it.started all it.started_in) in
     ap (λ p. slice_get p.state.tasks f.number) c.hold.ensures
-    ∙ other_stays tasks f.number r.number Held f found (λ e. two_roles tasks it.stopped it.started all it.stopped_in it.started_in it.stopped_role it.started_role
+    ∙ other_stays tasks f.number r.number Held f found (λ e. two_roles tasks it.stopped it.started all it.stopped_in it.started_in it.stopped_role
+    it.started_role
     (sym (ap (λ (x : Task). x.number) same_r) ∙ sym e ∙ ap (λ (x : Task). x.number) same_f))
 
 pub begin-requires-clause-role : goal.begin-requires-clause-role
@@ -142,7 +143,8 @@ returns-in-Some-task c =
     ∙ ap (λ n. with_job_in (with_job_in q n Held) f.number Running) stops
     ∙ ap (λ n. with_job_in (with_job_in q c.args.stops Held) n Running) starts
     ∙ ap (λ ts. in_state q (record { clock = q.state.clock; tasks = ts }))
-    (map_map (λ t. with_role t (if t.number == c.args.starts then Running else t.role)) (λ t. with_role t (if t.number == c.args.stops then Held else t.role)) tasks)
+    (map_map (λ t. with_role t (if t.number == c.args.starts then Running else t.role))
+    (λ t. with_role t (if t.number == c.args.stops then Held else t.role)) tasks)
 
 pub returns-in_default-task : goal.returns-in_default-task
 returns-in_default-task c =
@@ -152,7 +154,8 @@ returns-in_default-task c =
     let keeps : Keeps (instance_of q) q.state = record { sound = c.requires.sound; jobs = refl } in
     let it = preempts_says q.rules.ratio q.state q.state.clock c.args.stops c.args.starts (open_step q.rules q.state)
     (open_deed (instance_of q) c.requires.valid q.state keeps q.rules) c.requires.step in
-    none_is_some (sym c.in_default-task.is ∙ same_task tasks c.args.starts c.task-in-Some.result it.started all it.started_in it.started_number c.task-in-Some.ensures)
+    none_is_some (sym c.in_default-task.is ∙ same_task tasks c.args.starts c.task-in-Some.result it.started all it.started_in it.started_number
+    c.task-in-Some.ensures)
 
 pub returns-in_default : goal.returns-in_default
 returns-in_default c =

@@ -19,7 +19,8 @@ set_role-requires c =
     let t = c.args.t.now in
     let off : inside.next ≡ inside.next - 0 = omega arith in
     let at : slice_get tasks inside.next ≡ Some t = ap (slice_get tasks) off
-    ∙ found_coming 0 tasks inside.next kept.agrees.2.numbered kept.agrees.2.coming (omega arith) ∙ ap (λ q. find is_coming q.state.tasks) c.self.view_is
+    ∙ found_coming 0 tasks inside.next kept.agrees.2.numbered kept.agrees.2.coming (omega arith)
+    ∙ ap (λ q. find is_coming q.state.tasks) c.self.view_is
     ∙ c.requires.first in
     let number = found_number 0 tasks inside.next t kept.agrees.2.numbered at in
     let here : t.number ≡ inside.next = omega (arith, number) in
@@ -34,7 +35,8 @@ invariant_of-self c =
     let t = c.args.t.now in
     let off : inside.next ≡ inside.next - 0 = omega arith in
     let at : slice_get tasks inside.next ≡ Some t = ap (slice_get tasks) off
-    ∙ found_coming 0 tasks inside.next kept.agrees.2.numbered kept.agrees.2.coming (omega arith) ∙ ap (λ q. find is_coming q.state.tasks) c.self.view_is
+    ∙ found_coming 0 tasks inside.next kept.agrees.2.numbered kept.agrees.2.coming (omega arith)
+    ∙ ap (λ q. find is_coming q.state.tasks) c.self.view_is
     ∙ c.requires.first in
     let number = found_number 0 tasks inside.next t kept.agrees.2.numbered at in
     let here : t.number ≡ inside.next = omega (arith, number) in

@@ -11,7 +11,8 @@ invariant_of-self-in_err-reserve-2 c =
     let grown = c.in_ok-reserve.ensures.ok in
     let m : ℕ = c.len.result + c.args.more - length inside.waiting.table in
     let same = c.in_err-reserve-2.ensures.err in
-    let agrees = agrees_more inside.tasks.items inside.waiting.table c.reserve.new.self.table kept.agrees.0 m inside.held.held inside.cpu.job inside.fresh
+    let agrees = agrees_more inside.tasks.items inside.waiting.table c.reserve.new.self.table kept.agrees.0 m inside.held.held inside.cpu.job
+    inside.fresh
     inside.next inside.done kept.agrees.2 (ap (λ w. w.table) grown) in
     record {
       version = ap (λ w. w.version) grown ∙ kept.version;
@@ -35,7 +36,8 @@ invariant_of-self-in_err-reserve-3 c =
     let m : ℕ = c.len.result + c.args.more - length inside.waiting.table in
     let roomier = c.in_ok-reserve-2.ensures.ok in
     let tasks = c.reserve-3.new.self in
-    let agrees = agrees_more inside.tasks.items inside.waiting.table c.reserve.new.self.table kept.agrees.0 m inside.held.held inside.cpu.job inside.fresh
+    let agrees = agrees_more inside.tasks.items inside.waiting.table c.reserve.new.self.table kept.agrees.0 m inside.held.held inside.cpu.job
+    inside.fresh
     inside.next inside.done kept.agrees.2 (ap (λ w. w.table) grown) in
     record {
       version = ap (λ w. w.version) grown ∙ kept.version;
@@ -44,7 +46,8 @@ invariant_of-self-in_err-reserve-3 c =
         omega (arith, kept.agrees.1),
         subst (λ ts. Agrees ts c.reserve.new.self.table (kept.agrees.0 + m) c.reserve-2.new.self.held inside.cpu.job inside.fresh
             inside.next inside.done) (sym c.reserve-3.ensures.items)
-            (subst (λ h. Agrees inside.tasks.items c.reserve.new.self.table (kept.agrees.0 + m) h.held inside.cpu.job inside.fresh inside.next inside.done) (sym roomier) agrees),
+            (subst (λ h. Agrees inside.tasks.items c.reserve.new.self.table
+            (kept.agrees.0 + m) h.held inside.cpu.job inside.fresh inside.next inside.done) (sym roomier) agrees),
       );
       latest = subst (λ h. h.latest ≤ inside.cpu.clock) (sym roomier) kept.latest;
       fits = omega (arith, kept.fits, c.reserve-3.ensures.len, c.reserve-3.ensures.capacity);
@@ -61,10 +64,12 @@ invariant_of-self-2 c =
     let m : ℕ = c.len.result + c.args.more - length inside.waiting.table in
     let roomier = c.in_ok-reserve-2.ensures.ok in
     let tasks = c.reserve-3.new.self in
-    let agrees = agrees_more inside.tasks.items inside.waiting.table c.reserve.new.self.table kept.agrees.0 m inside.held.held inside.cpu.job inside.fresh
+    let agrees = agrees_more inside.tasks.items inside.waiting.table c.reserve.new.self.table kept.agrees.0 m inside.held.held inside.cpu.job
+    inside.fresh
     inside.next inside.done kept.agrees.2 (ap (λ w. w.table) grown) in
     let ready = table_len inside.tasks.items inside.waiting.table kept.agrees.0 kept.agrees.2.waiting in
-    let few : length inside.tasks.items + c.args.more ≤ 1_000_000 = subst (λ q. length q.state.tasks + c.args.more ≤ 1_000_000) (sym c.self.view_is) c.requires in
+    let few : length inside.tasks.items + c.args.more ≤ 1_000_000 =
+    subst (λ q. length q.state.tasks + c.args.more ≤ 1_000_000) (sym c.self.view_is) c.requires in
     record {
       version = ap (λ w. w.version) grown ∙ kept.version;
       agrees = (
@@ -72,7 +77,8 @@ invariant_of-self-2 c =
         omega (arith, ready, c.len.ensures, inside.tasks.ok.0),
         subst (λ ts. Agrees ts c.reserve.new.self.table (kept.agrees.0 + m) c.reserve-2.new.self.held inside.cpu.job inside.fresh
             inside.next inside.done) (sym c.reserve-3.ensures.items)
-            (subst (λ h. Agrees inside.tasks.items c.reserve.new.self.table (kept.agrees.0 + m) h.held inside.cpu.job inside.fresh inside.next inside.done) (sym roomier) agrees),
+            (subst (λ h. Agrees inside.tasks.items c.reserve.new.self.table
+            (kept.agrees.0 + m) h.held inside.cpu.job inside.fresh inside.next inside.done) (sym roomier) agrees),
       );
       latest = subst (λ h. h.latest ≤ inside.cpu.clock) (sym roomier) kept.latest;
       fits = omega (arith, c.in_ok-reserve-3.ensures.ok, c.reserve-3.ensures.len);

@@ -69,6 +69,7 @@ pub returns : goal.returns
 returns c =
     let inside = c.self.inside in
     let t = c.args.t.now in
-    changed_view (queued_of inside).rules inside.spare inside.cpu.clock c.start.new.self.clock t.number Running inside.tasks.items c.set_role.new.tasks.items
+    changed_view (queued_of inside).rules inside.spare inside.cpu.clock c.start.new.self.clock t.number Running inside.tasks.items
+    c.set_role.new.tasks.items
     c.args.self.now c.self.view_is (ap (λ p. p.clock) c.start.ensures)
     (is_map t.number inside.tasks.items c.set_role.new.tasks.items Running c.set_role.ensures.changes c.self.invariant.agrees.2.numbered)

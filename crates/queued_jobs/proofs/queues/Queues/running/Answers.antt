@@ -18,6 +18,7 @@ pub returns : goal.returns
 returns c =
     let tasks = c.self.inside.tasks.items in
     let n = c.in_ok-running.field-0 in
-    let one = turn_numbers (filter is_running tasks) c.self.inside.cpu.job n c.self.invariant.agrees.2.running (sym c.running.ensures ∙ c.in_ok-running.was) in
+    let one = turn_numbers (filter is_running tasks) c.self.inside.cpu.job n c.self.invariant.agrees.2.running
+    (sym c.running.ensures ∙ c.in_ok-running.was) in
     c.task.ensures ∙ ap (λ q. slice_get q.state.tasks n) (sym c.self.view_is) ∙ found_one is_running tasks n c.self.invariant.agrees.2.numbered one
     ∙ ap (λ q. running q.state) c.self.view_is

@@ -36,7 +36,8 @@ invariant_of-self g c =
     let found = subst (λ q. slice_get q.state.tasks t.number ≡ Some t) (sym c.self.view_is) c.requires.found in
     let changed = c.set_role.new.tasks.items in
     let k = kept.agrees.0 in
-    let after_is = taken_out inside.waiting c.take_out.new.self tasks k t c.take_out.result kept.agrees.2.waiting found c.requires.role c.take_out.ensures.was
+    let after_is = taken_out inside.waiting c.take_out.new.self tasks k t c.take_out.result kept.agrees.2.waiting found c.requires.role
+    c.take_out.ensures.was
     c.take_out.ensures.rest in
     let free = free_job tasks inside.cpu.job kept.agrees.2.running (ap (λ q. running q.state) c.self.view_is ∙ c.requires.free) in
     let runs_is = c.start.ensures ∙ ap (λ (n : ℕ). record { clock = inside.cpu.clock; job = Some (t.number, n) }) c.left.ensures in
@@ -60,7 +61,8 @@ pub returns-clause-runs : goal.returns-clause-runs
 returns-clause-runs g c =
     let inside = c.self.inside in
     let t = c.args.t.now in
-    changed_view (queued_of inside).rules inside.spare inside.cpu.clock c.start.new.self.clock t.number Running inside.tasks.items c.set_role.new.tasks.items
+    changed_view (queued_of inside).rules inside.spare inside.cpu.clock c.start.new.self.clock t.number Running inside.tasks.items
+    c.set_role.new.tasks.items
     c.args.self.now c.self.view_is (ap (λ p. p.clock) c.start.ensures)
     (is_map t.number inside.tasks.items c.set_role.new.tasks.items Running c.set_role.ensures.changes c.self.invariant.agrees.2.numbered)
 

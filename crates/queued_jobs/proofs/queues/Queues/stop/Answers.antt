@@ -59,7 +59,10 @@ invariant_of-self g c =
     let found = subst (λ q. slice_get q.state.tasks t.number ≡ Some t) (sym c.self.view_is) c.requires.found in
     let changed = c.set_role.new.tasks.items in
     let k = kept.agrees.0 in
-    let after_is = c.add.ensures.in_it ∙ ap (λ (e : Entry). record { version = inside.waiting.version; table = set inside.waiting.table e.number (Some e) })
+    let after_is = c.add.ensures.in_it ∙ ap (λ (e : Entry). record {
+      version = inside.waiting.version;
+      table = set inside.waiting.table e.number (Some e);
+    })
     c.entry_of.ensures in
     let agrees = stop_step tasks changed t inside.waiting.table k inside.held.held inside.cpu.job inside.fresh inside.next inside.done
     (splits t Waiting tasks changed found c.set_role.ensures.changes) c.requires.role kept.agrees.2 in
@@ -81,7 +84,8 @@ pub returns-clause-waits : goal.returns-clause-waits
 returns-clause-waits g c =
     let inside = c.self.inside in
     let t = c.args.t.now in
-    changed_view (queued_of inside).rules inside.spare inside.cpu.clock c.stop.new.self.clock t.number Waiting inside.tasks.items c.set_role.new.tasks.items
+    changed_view (queued_of inside).rules inside.spare inside.cpu.clock c.stop.new.self.clock t.number Waiting inside.tasks.items
+    c.set_role.new.tasks.items
     c.args.self.now c.self.view_is (ap (λ p. p.clock) c.stop.ensures.free)
     (is_map t.number inside.tasks.items c.set_role.new.tasks.items Waiting c.set_role.ensures.changes c.self.invariant.agrees.2.numbered)
 

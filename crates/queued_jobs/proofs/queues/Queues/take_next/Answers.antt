@@ -81,7 +81,8 @@ start-requires-clause-found g c =
     let same_x : x ≡ it.started =
     some_same x it.started (same_task tasks c.args.starts (Some x) it.started all it.started_in it.started_number c.in-Some-task.ensures) in
     let found = subst (λ y. slice_get tasks y.number ≡ Some y) (sym same_x) (task_at tasks it.started all it.started_in) in
-    let differs : x.number ≡ r.number → ⊥ = λ e. two_numbers tasks it.stopped it.started all it.stopped_in it.started_in it.stopped_role it.started_role
+    let differs : x.number ≡ r.number → ⊥ = λ e. two_numbers tasks it.stopped it.started all it.stopped_in it.started_in it.stopped_role
+    it.started_role
     (sym (ap (λ (y : Task). y.number) same_r) ∙ sym e ∙ ap (λ (y : Task). y.number) same_x) in
     ap (λ p. slice_get p.state.tasks x.number) c.displace_held.ensures
     ∙ ap (λ p. slice_get (all_displaced p.state.tasks) x.number) c.stop.ensures.waits
@@ -153,7 +154,8 @@ returns-in_default-task g c =
     let keeps : Keeps (instance_of q) q.state = record { sound = c.requires.sound; jobs = refl } in
     let it = takes_says q.rules.ratio q.state q.state.clock c.args.stops c.args.starts (open_step q.rules q.state)
     (open_deed (instance_of q) c.requires.valid q.state keeps q.rules) c.requires.step in
-    none_is_some (sym c.in_default-task.is ∙ same_task tasks c.args.starts c.task-in-Some.result it.started all it.started_in it.started_number c.task-in-Some.ensures)
+    none_is_some (sym c.in_default-task.is ∙ same_task tasks c.args.starts c.task-in-Some.result it.started all it.started_in it.started_number
+    c.task-in-Some.ensures)
 
 pub returns-in_default : goal.returns-in_default
 returns-in_default g c =

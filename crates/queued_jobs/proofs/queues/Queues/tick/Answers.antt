@@ -39,7 +39,8 @@ invariant_of-self c =
     let run : c.run_to.new.self ≡ record { clock = inside.cpu.clock + n; job = option_map (λ (j : ℕ × ℕ). (j.0, j.1 - n)) inside.cpu.job } =
     c.run_to.ensures ∙ ap (λ m. after_ticks (m + n - inside.cpu.clock) inside.cpu) c.clock.ensures ∙ run_is inside.cpu (inside.cpu.clock + n) ahead
     ∙ ap (λ m. record { clock = inside.cpu.clock + n; job = option_map (λ (j : ℕ × ℕ). (j.0, j.1 - m)) inside.cpu.job }) passed in
-    let agrees = agrees_ticked n inside.tasks.items inside.waiting.table kept.agrees.0 inside.held.held inside.cpu.job inside.fresh inside.next inside.done
+    let agrees = agrees_ticked n inside.tasks.items inside.waiting.table kept.agrees.0 inside.held.held inside.cpu.job inside.fresh inside.next
+    inside.done
     kept.agrees.2 in
     record {
       version = kept.version;
@@ -48,7 +49,8 @@ invariant_of-self c =
         kept.agrees.1,
         subst (λ ts. Agrees ts inside.waiting.table kept.agrees.0 inside.held.held c.run_to.new.self.job inside.fresh inside.next inside.done)
             (sym c.serve.ensures.served)
-            (subst (λ p. Agrees (map (ticked_by n) inside.tasks.items) inside.waiting.table kept.agrees.0 inside.held.held p.job inside.fresh inside.next inside.done)
+            (subst (λ p. Agrees (map (ticked_by n) inside.tasks.items) inside.waiting.table kept.agrees.0 inside.held.held p.job inside.fresh
+            inside.next inside.done)
             (sym run) agrees),
       );
       latest = subst (λ p. inside.held.latest ≤ p.clock) (sym run) (omega (arith, kept.latest));
