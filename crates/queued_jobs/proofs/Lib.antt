@@ -1,0 +1,14 @@
+pub mod Firsts
+pub mod Lookup
+pub mod Deadlines
+pub mod Looking
+pub mod Growing
+pub mod Replacing
+pub mod Stepping
+pub mod Changing
+pub mod Steps
+pub mod Inverting
+pub mod Displacing
+pub mod Ticking
+pub mod Silent
+pub mod Over

@@ -1,0 +1,19 @@
+-- The cases of a step, of a view.
+use Rattle.std.specs.Prelude.{Option, if◌then◌else◌}
+use Rattle.dover_model.specs.declared.events.Event.TheVariants.{Preempt, Take, Abandon}
+use Rattle.dover_model.specs.declared.events.Task.{Task}
+use Rattle.dover_model.specs.Fraction.{Fraction}
+use Rattle.dover_model.specs.Orders.{is_heavy}
+use Rattle.dover_model.specs.Step.{View, Move, Prints, Waits, preempts, arrival}
+
+-- the fresh job f preempts the running job r, or waits
+abbrev pub decision_of : View → Task → Task → Move
+decision_of v r f = if preempts v f r then Prints (Preempt v.clock r.number f.number) else Waits f.number
+
+-- the first job to come is released now
+abbrev pub arrival_of : View → Option Move
+arrival_of v = arrival v v.coming
+
+-- the job x takes the processor from r, or is abandoned
+abbrev pub alarm_of : Fraction → View → Task → Task → Move
+alarm_of k v r x = Prints (if is_heavy k x.job.value v.value then Take v.clock r.number x.number else Abandon v.clock x.number)

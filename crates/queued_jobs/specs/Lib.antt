@@ -1,0 +1,4 @@
+pub mod Moves
+pub mod Cases
+pub mod Roles
+pub mod Queued
