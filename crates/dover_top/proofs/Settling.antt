@@ -10,7 +10,7 @@ use Rattle.dover_model.proofs.Honest.{honest}
 use Rattle.dover_model.proofs.Onlines.{on_line}
 use Rattle.dover_model.proofs.Runs.{none_lost, all_value}
 use Rattle.dover_port.specs.Causes.{Rose}
-use Rattle.dover_port.specs.Moves.{Move, ins, has_ended}
+use Rattle.dover_port.specs.Moves.{Move, ins}
 use Rattle.dover_port.specs.declared.status.Status.{Status}
 use Rattle.dover_port.specs.declared.status.Status.TheVariants.{Done, No, Refused, ReadFault, WriteFault, Memory, Usage}
 use Rattle.serve_word.specs.Delivered.{IsFaulty}

@@ -104,8 +104,16 @@ const FEEDS: [(&str, Status, &str); 37] = [
     ),
     ("job 0 1 1 1\n", Status::Refused, "refused 1 declared\n"),
     ("k 1 2\n", Status::Refused, "refused 1 declared\n"),
-    ("k 1 1\ntick 5\ntick 4\n", Status::Refused, "dover 1 1 1\nrefused 3 order\n"),
-    ("k 1 1\njob 0 01 5 1\n", Status::Refused, "dover 1 1 1\nrefused 2 line\n"),
+    (
+        "k 1 1\ntick 5\ntick 4\n",
+        Status::Refused,
+        "dover 1 1 1\nrefused 3 order\n",
+    ),
+    (
+        "k 1 1\njob 0 01 5 1\n",
+        Status::Refused,
+        "dover 1 1 1\nrefused 2 line\n",
+    ),
     ("", Status::Refused, "refused 1 short\n"),
     (
         "k 1 1\njob 0 2 2 2\n",
@@ -163,24 +171,18 @@ const FEEDS: [(&str, Status, &str); 37] = [
     ),
 ];
 
-/// A piece of a few bytes more than the one before, over and over.
-fn next_size(size: usize, grows: usize) -> usize {
-    (size * 5 + grows) % 23 + 1
-}
-
-/// The text in pieces: each of one byte, or of sizes that change, or in one.
-fn pieces(alloc: Global, text: &str, first: usize, grows: usize) -> Result<Vec<Vec<u8>>, AllocError> {
+/// The text in pieces of so many bytes.
+fn pieces(alloc: Global, text: &str, size: usize) -> Result<Vec<Vec<u8>>, AllocError> {
     let mut pieces = Vec::new(alloc);
-    let mut rest = text.as_bytes();
-    let mut size = first;
-    while !rest.is_empty() {
-        let n = size.min(rest.len());
-        pieces.push(Vec::from_slice(alloc, &rest[..n])?)?;
-        rest = &rest[n..];
-        if grows > 0 {
-            size = next_size(size, grows);
+    let mut piece = Vec::new(alloc);
+    for byte in text.as_bytes() {
+        piece.push(*byte)?;
+        if piece.len() >= size {
+            pieces.push(piece)?;
+            piece = Vec::new(alloc);
         }
     }
+    pieces.push(piece)?;
     Ok(pieces)
 }
 
@@ -208,11 +210,22 @@ fn feeds_and_their_traces(rt: HostRuntime) -> Result<(), Fail> {
     let alloc = rt.alloc();
     let words = vec![in alloc; String::from_str(alloc, "serve")?]?;
     for (feed, status, text) in FEEDS {
-        for (first, grows) in [(4096, 0), (1, 0), (3, 4), (11, 9)] {
-            let script = pieces(alloc, feed, first, grows)?;
-            let mut port = MemoryPort::new(alloc, script, Vec::new(alloc), Vec::new(alloc), 4096, 4096)?;
-            assert_eq!(rt; answer(alloc, &words, &mut port), status, "{feed} by {first}");
-            assert_eq!(rt; port.written(), text.as_bytes(), "{feed} by {first}");
+        for size in [4096, 1, 7, 13] {
+            let script = pieces(alloc, feed, size)?;
+            let mut port = MemoryPort::new(
+                alloc,
+                script,
+                Vec::new(alloc),
+                Vec::new(alloc),
+                4096,
+                4096,
+            )?;
+            assert_eq!(rt;
+                answer(alloc, &words, &mut port),
+                status,
+                "{feed} by {size}"
+            );
+            assert_eq!(rt; port.written(), text.as_bytes(), "{feed} by {size}");
         }
     }
     Ok(())
@@ -237,11 +250,15 @@ fn failing_calls(rt: HostRuntime) -> Result<(), Fail> {
         (feed, 4096, 0, 5, 1, Status::WriteFault, "dove"),
         (ticks, 25, 2, 0, 4096, Status::ReadFault, completed),
     ] {
-        let script = pieces(alloc, feed, piece, 0)?;
+        let script = pieces(alloc, feed, piece)?;
         let fail_reads = vec![in alloc; read]?;
         let fail_writes = vec![in alloc; write]?;
-        let mut port = MemoryPort::new(alloc, script, fail_reads, fail_writes, most, 4096)?;
-        assert_eq!(rt; answer(alloc, &words, &mut port), status, "{piece} {read} {write}");
+        let mut port = MemoryPort::new(alloc, script, fail_reads, fail_writes, most.max(1), 4096)?;
+        assert_eq!(rt;
+            answer(alloc, &words, &mut port),
+            status,
+            "{piece} {read} {write}"
+        );
         assert_eq!(rt; port.written(), text.as_bytes(), "{piece} {read} {write}");
     }
     Ok(())
@@ -255,7 +272,7 @@ fn wrong_words(rt: HostRuntime) -> Result<(), Fail> {
         for text in texts {
             words.push(String::from_str(alloc, text)?)?;
         }
-        let script = pieces(alloc, "k 1 1\nend\n", 4096, 0)?;
+        let script = pieces(alloc, "k 1 1\nend\n", 4096)?;
         let mut port = MemoryPort::new(
             alloc,
             script,
