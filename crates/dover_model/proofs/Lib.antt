@@ -48,6 +48,7 @@ pub mod Underload
 pub mod Runs
 pub mod Paths
 pub mod WaitingMoves
+pub mod Once
 pub mod Honest
 pub mod Numerals
 pub mod Counting

@@ -16,6 +16,7 @@ pub mod Paths
 pub mod Online
 pub mod Underload
 pub mod WaitingMoves
+pub mod Processor
 pub mod Greatest
 pub mod Bound
 pub mod Numerals
