@@ -89,18 +89,18 @@ fn put_wrong<P: Port>(
 pub(crate) fn put_verdict<P: Port>(
     port: &mut P,
     out: &mut Output,
-    verdict: Verdict,
+    verdict: &Verdict,
 ) -> Result<(), Failed>
-    requires { (text : List ℕ) × Tells verdict text }
-    ensures text { (text : List ℕ) → Tells verdict text →
+    requires { (text : List ℕ) × Tells verdict.now text }
+    ensures text { (text : List ℕ) → Tells verdict.now text →
         PutsThrough (P.moves port.old) (P.moves port.new) result out.old out.new (verdict_text (model.verdict text)) }
     ensures cause { HasCause (P.write_faults port.old) (P.write_faults port.new) (P.read_faults port.old) (P.read_faults port.new) result }
 {
     match verdict {
         Verdict::Accepted { value, bound, .. } => {
-            out.put(port, accepted_line(value, bound).bytes())
+            out.put(port, accepted_line(*value, *bound).bytes())
         }
-        Verdict::Wrong { line, expected } => put_wrong(port, out, line, expected),
-        Verdict::Short { lines } => out.put(port, short_line(lines).bytes()),
+        Verdict::Wrong { line, expected } => put_wrong(port, out, *line, *expected),
+        Verdict::Short { lines } => out.put(port, short_line(*lines).bytes()),
     }
 }

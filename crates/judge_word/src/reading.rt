@@ -1,9 +1,9 @@
 //! The reading loop.
 ghost use Rattle.std.specs.Prelude.{◌≡◌, [], ℕ, List};
-ghost use Rattle.dover_model.specs.Verdict.{verdict};
 ghost use Rattle.dover_port.specs.Moves.{Since};
 ghost use Rattle.trace_judge.specs.Judging.{StandsFor};
 ghost use Rattle.judge_word.specs.Record.{ReadsBy, ReadCauses};
+ghost use Rattle.judge_word.specs.declared.reading.Reading.TheVariants.{Over};
 
 use dover_port::Port;
 use trace_judge::Judge;
@@ -29,6 +29,7 @@ pub(crate) enum Reading {
 pub(crate) fn read_text<P: Port>(port: &mut P, judge: &mut Judge) -> Reading
     requires { StandsFor judge.old [] }
     ensures reads { Since (P.moves port.old) (P.moves port.new) (ReadsBy result judge.new) }
+    ensures stands { result ≡ Over → (text : List ℕ) × StandsFor judge.new text }
     ensures causes { ReadCauses result (P.read_faults port.old) (P.read_faults port.new) (P.write_faults port.old) (P.write_faults port.new) }
 {
     let mut buf = [0u8; READ_BYTES];

@@ -11,8 +11,8 @@ use std::alloc::Global;
 use trace_judge::{Judge, Verdict};
 
 /// The status of a verdict.
-fn status_of(verdict: Verdict) -> Status
-    ensures { result ≡ status_of verdict }
+fn status_of(verdict: &Verdict) -> Status
+    ensures { result ≡ status_of verdict.now }
 {
     match verdict {
         Verdict::Accepted { .. } => Status::Done,
@@ -22,9 +22,9 @@ fn status_of(verdict: Verdict) -> Status
 }
 
 /// Writes the verdict.
-fn answer<P: Port>(port: &mut P, verdict: Verdict) -> Status
-    requires { (text : List ℕ) × Tells verdict text }
-    ensures finishes { (text : List ℕ) → Tells verdict text → Since (P.moves port.old) (P.moves port.new) (Finishes result text) }
+fn answer<P: Port>(port: &mut P, verdict: &Verdict) -> Status
+    requires { (text : List ℕ) × Tells verdict.now text }
+    ensures finishes { (text : List ℕ) → Tells verdict.now text → Since (P.moves port.old) (P.moves port.new) (Finishes result text) }
     ensures answer { IsAnswer result }
     ensures causes { Causes result (P.read_faults port.old) (P.read_faults port.new) (P.write_faults port.old) (P.write_faults port.new) }
 {
@@ -55,7 +55,7 @@ pub fn judge_word<P: Port>(alloc: Global, port: &mut P) -> Status
         Reading::NoMemory => return Status::Memory,
     }
     match judge.close() {
-        Ok(closed) => answer(port, closed.verdict),
+        Ok(closed) => answer(port, &closed.verdict),
         Err(_) => Status::Memory,
     }
 }
