@@ -10,7 +10,6 @@ abbrev pub invariant-loop-reads : goal.invariant-loop-reads
 invariant-loop-reads g l = record {
   moves : Since (g.P.Port.moves l.initial.port) (g.P.Port.moves l.port) (GoesOn l.judge);
   stands : (x : List ℕ) × (l.reads ≤ length x) × StandsFor l.judge x × (is_wrong (verdict x) ≡ false);
-  size : length l.buf ≡ 4096;
   read_faults : g.P.Port.read_faults l.port ≡ g.P.Port.read_faults l.initial.port;
   write_faults : g.P.Port.write_faults l.port ≡ g.P.Port.write_faults l.initial.port;
 }
