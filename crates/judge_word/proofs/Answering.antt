@@ -1,6 +1,5 @@
 -- The line of a verdict, and what is put of it.
-use Rattle.std.proofs.Common.{◌≡◌, ◌<◌, ◌^◌, ℕ, List, ◌∷◌, ◌++◌, [], length, refl, sym, ap, ◌∙◌, subst, Option, Result, Ok, Err, append_assoc, codes, decimal, inl, inr}
-use Rattle.std.proofs.Common.{arith, true, false}
+use Rattle.std.proofs.Common.{◌≡◌, ℕ, List, ◌∷◌, ◌++◌, [], sym, ap, ◌∙◌, subst, Option, Result, Ok, Err, append_assoc, codes, decimal, inl, inr}
 use Rattle.std.proofs.lemmas.List.{append-nil}
 use Rattle.dover_model.specs.Bound.{bound}
 use Rattle.dover_model.specs.Fraction.{Fraction}
@@ -12,15 +11,14 @@ use Rattle.dover_port.specs.Moves.{Move, Since, ArePuts, IsProperPrefix, Passes,
 use Rattle.dover_port.proofs.Made.{since_weaker}
 use Rattle.dover_port.proofs.Through.{passes_then, passes_then_cut, cut_longer}
 use Rattle.dover_port.specs.declared.port.Failed.{Failed}
-use Rattle.dover_port.specs.declared.status.Status.{Status}
-use Rattle.dover_port.specs.declared.status.Status.TheVariants.{Done, No, WriteFault}
+use Rattle.dover_port.specs.declared.status.Status.TheVariants.{WriteFault}
 use Rattle.trace_judge.specs.Judging.{Tells, IsEarned, is_wrong}
 use Rattle.trace_judge.specs.Reads.{expected_of}
 use Rattle.trace_judge.specs.declared.verdict.Expected.{Expected}
 use Rattle.trace_judge.specs.declared.verdict.Verdict.{Verdict}
 use Rattle.trace_judge.specs.declared.verdict.Verdict.TheVariants.{Accepted, Wrong, Short}
 use Rattle.judge_word.specs.Line.{accepted_line, wrong_front, expected_text, verdict_text, IsShortDue}
-use Rattle.judge_word.specs.Record.{IsTrace, IsNoTrace, Finishes, status_of}
+use Rattle.judge_word.specs.Record.{IsTrace, Finishes, status_of}
 use Rattle.judge_word.proofs.Dues.{wrong_due}
 
 -- ---- the text
@@ -35,17 +33,18 @@ wrong_parts line due = ap (λ l. codes "wrong" ++ 32 ∷ l)
 pub accepted_text : (value most : ℕ) (k : Fraction) (S : Session) (text : List ℕ) → model.verdict text ≡ model.Accepted S → k ≡ S.rules.ratio
     → value ≡ completed_value (instance_of S) → most ≡ bound k value → accepted_line value most ++ 10 ∷ [] ≡ verdict_text (model.verdict text)
 accepted_text value most k S text is ratio worth least =
-    let same : most ≡ bound S.rules.ratio (completed_value (instance_of S)) = least ∙ ap (λ r. bound r value) ratio ∙ ap (bound S.rules.ratio) worth in
+    let same : most ≡ bound S.rules.ratio (completed_value (instance_of S)) =
+    least ∙ ap (λ r. bound r value) ratio ∙ ap (bound S.rules.ratio) worth in
     ap (λ v. accepted_line v most ++ 10 ∷ []) worth ∙ ap (λ b. accepted_line (completed_value (instance_of S)) b ++ 10 ∷ []) same
-        ∙ sym (ap verdict_text is)
+    ∙ sym (ap verdict_text is)
 
 -- the numbers of what is due have numerals
 pub told_due : (text : List ℕ) (line : ℕ) (due : Expected) → Tells (Wrong line due) text → IsShortDue (expected_of due)
 told_due text line due tells = wrong_due text line (expected_of due) tells
 
 -- the line of an accepted trace is put
-pub accepted_puts : (a b : Option (List Move)) (result : Result (Unit {0}) Failed) (p q : List ℕ) (k : Fraction) (version : Version) (value most jobs : ℕ)
-    (text : List ℕ) → Tells (Accepted k version value most jobs) text → PutsThrough a b result p q (accepted_line value most ++ 10 ∷ [])
+pub accepted_puts : (a b : Option (List Move)) (result : Result (Unit {0}) Failed) (p q : List ℕ) (k : Fraction) (version : Version)
+    (value most jobs : ℕ) (text : List ℕ) → Tells (Accepted k version value most jobs) text → PutsThrough a b result p q (accepted_line value most ++ 10 ∷ [])
     → PutsThrough a b result p q (verdict_text (model.verdict text))
 accepted_puts a b result p q k version value most jobs text tells puts = subst (PutsThrough a b result p q)
     (accepted_text value most k tells.0 text tells.1 tells.2 tells.4 tells.5) puts
@@ -99,7 +98,3 @@ module _ (a b c : Option (List Move)) (q text : List ℕ) where
   pub answer_unflushed : Passes a b [] q (verdict_text (model.verdict text)) → CutsShort b c q [] → Since a c (Finishes WriteFault text)
   answer_unflushed first cut = since_weaker a c _ _ (passes_then_cut a b c [] q [] (verdict_text (model.verdict text)) [] first cut)
       (λ made it. (it.0, subst (IsProperPrefix (outs made)) (append-nil (verdict_text (model.verdict text))) it.1))
-
--- the line couldn't be put
-pub answer_cut : (a b : Option (List Move)) (text : List ℕ) → CutsShort a b [] (verdict_text (model.verdict text)) → Since a b (Finishes WriteFault text)
-answer_cut a b text cut = cut

@@ -1,10 +1,9 @@
 -- The numbers of a step that is due have numerals.
-use Rattle.std.proofs.Common.{◌≡◌, ℕ, zero, suc, ◌-◌, ◌≤◌, List, [], ◌∷◌, ◌++◌, length, length-append, take, refl, sym, ap, ◌∙◌, subst}
+use Rattle.std.proofs.Common.{◌≡◌, ℕ, zero, suc, ◌-◌, List, [], ◌∷◌, ◌++◌, length, take, refl, ap, ◌∙◌, subst}
 use Rattle.std.proofs.Common.{Bool, true, false, cond, ◌&&◌, Option, Some, None, arith, append_assoc}
 use Rattle.std.specs.Prelude.{slice_get}
-use Rattle.std.specs.List.{AllByRecursion}
 use Rattle.std.specs.Option.{option_map_or, option_and_then}
-use Rattle.std.proofs.lemmas.List.{append-nil, take-append-le}
+use Rattle.std.proofs.lemmas.List.{take-append-le}
 use Rattle.std.proofs.lemmas.Bool.{and_parts}
 use Rattle.std.proofs.Math.Seq.{take-length}
 use Rattle.dover_model.specs.declared.events.Event.{Event}
@@ -12,13 +11,13 @@ use Rattle.dover_model.specs.declared.events.Event.TheVariants as event
 use Rattle.dover_model.specs.Numerals.{AreShort}
 use Rattle.dover_model.specs.Lines.{whole_lines, rest_of}
 use Rattle.dover_model.specs.Run.{printed}
-use Rattle.dover_model.specs.Session.{Session, instance_of, IsValidSession, is_valid_session}
-use Rattle.dover_model.specs.Verdict.{Expected, Header, Step, Nothing, Verdict, Accepted, Wrong, Short, named_session, begins_trace, begins_trace_of}
-use Rattle.dover_model.specs.Verdict.{ends_with_end, is_empty, text_lines, first_wrong, step_after, expected_after, good_verdict, wrong_verdict, verdict}
+use Rattle.dover_model.specs.Session.{Session, instance_of}
+use Rattle.dover_model.specs.Verdict.{Expected, Step, Nothing, Verdict, Accepted, Wrong, Short, named_session, begins_trace, begins_trace_of}
+use Rattle.dover_model.specs.Verdict.{ends_with_end, is_empty, text_lines, first_wrong, step_after, expected_after}
+use Rattle.dover_model.specs.Verdict.{good_verdict, wrong_verdict, verdict}
 use Rattle.dover_model.proofs.Agreement.{is_valid_session-agrees}
 use Rattle.dover_model.proofs.Members.{some_same}
 use Rattle.dover_model.proofs.ShortNumbers.{printed_short, AreAllShort}
-use Rattle.dover_model.proofs.Tests.{never}
 use Rattle.dover_model.proofs.TraceLines.{numbers_in}
 use Rattle.dover_model.proofs.WrongStays.{next_wrong}
 use Rattle.trace_format.specs.Form.{step_numbers}
@@ -62,16 +61,16 @@ before_wrong : (before ls : List (List ℕ)) (n : ℕ) → begins_trace before �
 before_wrong before [] n passes wrong = absurd (let e : None ≡ Some n = wrong in cc)
 before_wrong before (l ∷ ls) n passes wrong = by_test (begins_trace (before ++ l ∷ [])) refl wrong
     (λ more h. before_wrong (before ++ l ∷ []) ls n more h) where
-  by_test : (b : Bool) → begins_trace (before ++ l ∷ []) ≡ b → next_wrong b before l ls ≡ Some n
-      → (begins_trace (before ++ l ∷ []) ≡ true → first_wrong (before ++ l ∷ []) ls ≡ Some n
-      → begins_trace (take (n - 1) ((before ++ l ∷ []) ++ ls)) ≡ true)
-      → begins_trace (take (n - 1) (before ++ l ∷ ls)) ≡ true
-  by_test true more h onward = subst (λ xs. begins_trace (take (n - 1) xs) ≡ true) (append_assoc before (l ∷ []) ls) (onward more h)
-  by_test false fails h onward =
-      let at : suc (length before) ≡ n = some_same _ _ h in
-      let here : take (n - 1) (before ++ l ∷ ls) ≡ before = ap (λ k. take k (before ++ l ∷ ls)) (let e : n - 1 ≡ length before = omega arith in e)
-      ∙ take-append-le (length before) before (l ∷ ls) (omega arith) ∙ take-length before in
-      ap begins_trace here ∙ passes
+      by_test : (b : Bool) → begins_trace (before ++ l ∷ []) ≡ b → next_wrong b before l ls ≡ Some n
+          → (begins_trace (before ++ l ∷ []) ≡ true → first_wrong (before ++ l ∷ []) ls ≡ Some n
+          → begins_trace (take (n - 1) ((before ++ l ∷ []) ++ ls)) ≡ true)
+          → begins_trace (take (n - 1) (before ++ l ∷ ls)) ≡ true
+      by_test true more h onward = subst (λ xs. begins_trace (take (n - 1) xs) ≡ true) (append_assoc before (l ∷ []) ls) (onward more h)
+      by_test false fails h onward =
+          let at : suc (length before) ≡ n = some_same _ _ h in
+          let here : take (n - 1) (before ++ l ∷ ls) ≡ before = ap (λ k. take k (before ++ l ∷ ls)) (let e : n - 1 ≡ length before = omega arith in e)
+          ∙ take-append-le (length before) before (l ∷ ls) (omega arith) ∙ take-length before in
+          ap begins_trace here ∙ passes
 
 -- what is due by the verdict
 abbrev due_of : Verdict → Expected

@@ -1,11 +1,11 @@
 -- A text that isn't wrong has at most so many bytes.
-use Rattle.std.proofs.Common.{◌≡◌, ◌≤◌, ◌<◌, ◌+◌, ◌*◌, ℕ, suc, List, ◌∷◌, ◌++◌, [], length, refl, sym, ap, ◌∙◌, subst, Bool, true, false, cond}
+use Rattle.std.proofs.Common.{◌≡◌, ◌≤◌, ◌<◌, ◌+◌, ◌*◌, ℕ, suc, List, ◌∷◌, ◌++◌, [], length, refl, sym, ap, ◌∙◌, Bool, true, false}
 use Rattle.std.proofs.Common.{arith, append_assoc, ◌||◌}
 use Rattle.std.specs.Prelude.{nat_lt, ◌&&◌}
 use Rattle.std.proofs.lemmas.Bool.{ltb-false}
 use Rattle.dover_model.specs.Lines.{whole_lines, rest_of, is_too_long}
 use Rattle.dover_model.specs.Trace.{trace_lines}
-use Rattle.dover_model.specs.Verdict.{Wrong, begins_trace, rest_counts, ends_with_end, verdict}
+use Rattle.dover_model.specs.Verdict.{Wrong, begins_trace, ends_with_end, verdict}
 use Rattle.dover_model.specs.WholeRun.{Begins}
 use Rattle.dover_model.proofs.Beginnings.{begins_onward}
 use Rattle.dover_model.proofs.Cuts.{CutText, is_feed, put_before, cut_feed, cut_other}

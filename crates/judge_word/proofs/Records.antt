@@ -1,5 +1,6 @@
 -- How the record of a call grows, read by read, and how it ends.
-use Rattle.std.proofs.Common.{◌≡◌, ◌<◌, ◌≤◌, ℕ, List, ◌∷◌, ◌++◌, [], length, take, refl, sym, ap, ◌∙◌, subst, Option, arith, true, false, Bool, inl, inr, ◌⊎◌}
+use Rattle.std.proofs.Common.{◌≡◌, ◌<◌, ◌≤◌, ℕ, List, ◌∷◌, ◌++◌, [], length, take, refl, sym, ap, ◌∙◌, subst}
+use Rattle.std.proofs.Common.{Option, arith, true, false, Bool, inl, inr, ◌⊎◌}
 use Rattle.std.proofs.lemmas.List.{append-nil, length-take}
 use Rattle.dover_model.specs.Verdict as model
 use Rattle.dover_model.specs.Verdict.{verdict}

@@ -10,11 +10,7 @@ const TEXTS: [(&str, Status, &str); 6] = [
         Status::Done,
         "accepted 2 8\n",
     ),
-    (
-        "dover 1 1 1\njob 0 0 2 2 2\nrun 0",
-        Status::No,
-        "short 2\n",
-    ),
+    ("dover 1 1 1\njob 0 0 2 2 2\nrun 0", Status::No, "short 2\n"),
     ("", Status::No, "short 0\n"),
     ("x\n", Status::No, "wrong 1 expected header\n"),
     (
@@ -83,7 +79,11 @@ fn failing_calls(rt: HostRuntime) -> Result<(), Fail> {
             most.max(1),
             4096,
         )?;
-        assert_eq!(rt; judge_word(alloc, &mut port), status, "{piece} {read} {write}");
+        assert_eq!(rt;
+            judge_word(alloc, &mut port),
+            status,
+            "{piece} {read} {write}"
+        );
         assert_eq!(rt; port.written(), text.as_bytes(), "{piece} {read} {write}");
     }
     Ok(())
