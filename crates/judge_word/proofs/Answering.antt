@@ -44,8 +44,8 @@ told_due text line due tells = wrong_due text line (expected_of due) tells
 
 -- the line of an accepted trace is put
 pub accepted_puts : (a b : Option (List Move)) (result : Result (Unit {0}) Failed) (p q : List ℕ) (k : Fraction) (version : Version)
-    (value most jobs : ℕ) (text : List ℕ) → Tells (Accepted k version value most jobs) text → PutsThrough a b result p q (accepted_line value most ++ 10 ∷ [])
-    → PutsThrough a b result p q (verdict_text (model.verdict text))
+    (value most jobs : ℕ) (text : List ℕ) → Tells (Accepted k version value most jobs) text
+    → PutsThrough a b result p q (accepted_line value most ++ 10 ∷ []) → PutsThrough a b result p q (verdict_text (model.verdict text))
 accepted_puts a b result p q k version value most jobs text tells puts = subst (PutsThrough a b result p q)
     (accepted_text value most k tells.0 text tells.1 tells.2 tells.4 tells.5) puts
 
