@@ -1,0 +1,106 @@
+//! The line of a verdict on its way out.
+ghost use Rattle.std.specs.Prelude.{◌≡◌, ◌≤◌, ◌++◌, ◌∷◌, [], List, ℕ, length};
+ghost use Rattle.dover_model.specs.Verdict as model;
+ghost use Rattle.dover_port.specs.Causes.{HasCause};
+ghost use Rattle.dover_port.specs.Moves.{PutsThrough};
+ghost use Rattle.trace_judge.specs.Judging.{Tells};
+ghost use Rattle.trace_judge.specs.Reads.{expected_of};
+ghost use Rattle.judge_word.specs.Line.{IsShortDue, accepted_line, wrong_front, expected_text, short_line, verdict_text};
+
+use dover_port::{Failed, Output, Port};
+use line_text::LineBuf;
+use trace_format::write_event;
+use trace_judge::{Expected, Verdict};
+
+/// The line of an accepted trace.
+fn accepted_line(value: u64, bound: u64) -> LineBuf
+    ensures text { result ≡ accepted_line value bound ++ 10 ∷ [] }
+    ensures fits { length result ≤ 129 }
+{
+    let mut line = LineBuf::new();
+    line.put_word(b"accepted");
+    line.put_number(value);
+    line.put_number(bound);
+    line.end_line();
+    line
+}
+
+/// The line of a text that is short.
+fn short_line(lines: u64) -> LineBuf
+    ensures text { result ≡ short_line lines ++ 10 ∷ [] }
+    ensures fits { length result ≤ 129 }
+{
+    let mut line = LineBuf::new();
+    line.put_word(b"short");
+    line.put_number(lines);
+    line.end_line();
+    line
+}
+
+/// What stands before the text of what is due, in the line of a wrong text.
+fn wrong_front(number: u64) -> LineBuf
+    ensures text { result ≡ wrong_front number }
+    ensures fits { length result ≤ 129 }
+{
+    let mut line = LineBuf::new();
+    line.put_word(b"wrong");
+    line.put_number(number);
+    line.put_word(b"expected");
+    line.put_word(b"");
+    line
+}
+
+/// The text of what is due, and the end of the line.
+fn due_line(expected: Expected) -> LineBuf
+    requires { IsShortDue (expected_of expected) }
+    ensures text { result ≡ expected_text (expected_of expected) ++ 10 ∷ [] }
+    ensures fits { length result ≤ 129 }
+{
+    let mut line = LineBuf::new();
+    match expected {
+        Expected::Header => line.put_word(b"header"),
+        Expected::Step(event) => write_event(&event, &mut line),
+        Expected::Nothing => line.put_word(b"nothing"),
+    }
+    line.end_line();
+    line
+}
+
+/// Puts the line of a text that is wrong.
+fn put_wrong<P: Port>(
+    port: &mut P,
+    out: &mut Output,
+    number: u64,
+    expected: Expected,
+) -> Result<(), Failed>
+    requires { IsShortDue (expected_of expected) }
+    ensures text { PutsThrough (P.moves port.old) (P.moves port.new) result out.old out.new
+        (verdict_text (model.Wrong number (expected_of expected))) }
+    ensures cause { HasCause (P.write_faults port.old) (P.write_faults port.new) (P.read_faults port.old) (P.read_faults port.new) result }
+{
+    match out.put(port, wrong_front(number).bytes()) {
+        Ok(()) => {}
+        Err(failed) => return Err(failed),
+    }
+    out.put(port, due_line(expected).bytes())
+}
+
+/// Puts the line of a verdict.
+pub(crate) fn put_verdict<P: Port>(
+    port: &mut P,
+    out: &mut Output,
+    verdict: &Verdict,
+) -> Result<(), Failed>
+    requires { (text : List ℕ) × Tells verdict.now text }
+    ensures text { (text : List ℕ) → Tells verdict.now text →
+        PutsThrough (P.moves port.old) (P.moves port.new) result out.old out.new (verdict_text (model.verdict text)) }
+    ensures cause { HasCause (P.write_faults port.old) (P.write_faults port.new) (P.read_faults port.old) (P.read_faults port.new) result }
+{
+    match verdict {
+        Verdict::Accepted { value, bound, .. } => {
+            out.put(port, accepted_line(*value, *bound).bytes())
+        }
+        Verdict::Wrong { line, expected } => put_wrong(port, out, *line, *expected),
+        Verdict::Short { lines } => out.put(port, short_line(*lines).bytes()),
+    }
+}
