@@ -14,8 +14,10 @@ use Rattle.dover_model.specs.Verdict.{Accepted, verdict}
 use Rattle.dover_model.specs.Feed.{account, is_ended, is_open}
 use Rattle.dover_port.specs.Moves.{Move, ins, outs, has_ended}
 use Rattle.dover_port.specs.declared.status.Status.{Status}
-use Rattle.dover_port.specs.declared.status.Status.TheVariants.{Done, Refused, Memory}
+use Rattle.dover_port.specs.declared.status.Status.TheVariants.{Done, No, Refused, Memory}
 use Rattle.serve_word.specs.Delivered.{IsFaulty}
+use Rattle.judge_word.specs.Line.{verdict_text}
+use Rattle.judge_word.specs.Record.{IsNoTrace, IsOver}
 
 -- what stands of the run of a valid list of jobs
 pub record KeepsPromises (J : Instance) : Type 0 where
@@ -45,3 +47,18 @@ pub record IsSettled (status : Status) (moves : List Move) : Type 0 where
   pub ended : is_ended (account (ins moves)) ≡ true → (status ≡ Done) ⊎ (status ≡ Memory)
   pub refused : IsFaulty (account (ins moves)) ⊎ ((has_ended moves ≡ true) × (is_open (account (ins moves)) ≡ true))
       → (status ≡ Refused) ⊎ (status ≡ Memory)
+
+-- the text that was read to its end is the trace of a valid session, and its verdict was written
+pub record IsAccepted (moves : List Move) : Type 0 where
+  pub session : Session
+  pub ended : has_ended moves ≡ true
+  pub valid : IsValidSession session
+  pub accepted : verdict (ins moves) ≡ Accepted session
+  pub text : outs moves ≡ verdict_text (Accepted session)
+  pub promises : KeepsPromises (instance_of session)
+
+-- A text that is read to its end is accepted where it is a trace, and where it isn't, or a line of it is wrong, it has its verdict.
+pub record IsJudged (status : Status) (moves : List Move) : Type 0 where
+  pub read : IsOver moves ⊎ (status ≡ Memory)
+  pub accepted : (session : Session) → verdict (ins moves) ≡ Accepted session → (status ≡ Done) ⊎ (status ≡ Memory)
+  pub refused : IsNoTrace (ins moves) → (status ≡ No) ⊎ (status ≡ Memory)

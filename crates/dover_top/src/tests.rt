@@ -1,4 +1,4 @@
-//! `dover` over ports in memory: worked feeds in several cuts, failing calls, wrong words.
+//! `dover` over ports in memory: worked feeds and texts in several cuts, failing calls, wrong words.
 ghost use Rattle.std.specs.Prelude.{◌≡◌, ◌<◌};
 
 use crate::dover;
@@ -171,6 +171,88 @@ const FEEDS: [(&str, Status, &str); 37] = [
     ),
 ];
 
+/// Texts, whether they are accepted, and their verdicts.
+const TEXTS: [(&str, Status, &str); 18] = [
+    (
+        "dover 1 1 1\njob 0 0 2 2 2\nrun 0 0\ncomplete 2 0\nend 2\n",
+        Status::Done,
+        "accepted 2 8\n",
+    ),
+    (
+        "dover 1 1 1\njob 0 0 10 10 10\nrun 0 0\njob 1 0 20 20 20\ntake 0 0 1\ncomplete 10 0\nend 10\n",
+        Status::No,
+        "wrong 5 expected abandon 0 1\n",
+    ),
+    (
+        "dover 1 1 1\njob 0 0 10 10 10\nrun 0 0\njob 1 0 20 20 20\ncomplete 10 0\nend 10\n",
+        Status::No,
+        "wrong 5 expected abandon 0 1\n",
+    ),
+    ("dover 1 1 1\njob 0 0 2 2 2\nrun 0", Status::No, "short 2\n"),
+    (
+        "dover 1 1 1\njob 0 0 2 2 2\nrun 0 0\ncomplete 2 0\nend 2\nx\n",
+        Status::No,
+        "wrong 6 expected nothing\n",
+    ),
+    (
+        "dover 1 1 1\njob 0 0 2 2 2\nrun 0 0\ncomplete 2 0\nend 2\nx",
+        Status::No,
+        "wrong 6 expected nothing\n",
+    ),
+    ("", Status::No, "short 0\n"),
+    ("dover 3 1 1\n", Status::No, "wrong 1 expected header\n"),
+    (
+        "dover 1 1 1\njob 0 0 2 2 2\nrun  0 0\n",
+        Status::No,
+        "wrong 3 expected run 0 0\n",
+    ),
+    (
+        "dover 1 2 1\njob 0 0 1 5 1\nrun 0 0\njob 1 0 1 5 3\n",
+        Status::No,
+        "wrong 4 expected complete 1 0\n",
+    ),
+    (
+        "dover 1 1 1\njob 0 0 1 1 1\nrun 0 0\ncomplete 1 0\njob 1 999999999999 1 1000000000000 1\nrun 999999999999 1\ncomplete 1000000000000 1\nend 2\n",
+        Status::Done,
+        "accepted 2 8\n",
+    ),
+    (
+        "dover 2 1 1\njob 0 0 3 3 3\nrun 0 0\njob 1 0 4 10 4\njob 2 0 5 10 5\ncomplete 3 0\nrun 3 2\nabandon 6 1\ncomplete 8 2\nend 8\n",
+        Status::Done,
+        "accepted 8 32\n",
+    ),
+    (
+        "dover 2 1 1\njob 0 0 3 3 3\nrun 0 0\njob 1 0 4 10 4\njob 2 0 5 10 5\ncomplete 3 0\nrun 3 1\nabandon 6 1\ncomplete 8 2\nend 8\n",
+        Status::No,
+        "wrong 7 expected run 3 2\n",
+    ),
+    (
+        "dover 2 2 1\njob 0 0 1 5 1\nrun 0 0\njob 1 0 1 5 2\nrefuse 0 0 1 5 3 ratio\nrefuse 0 3 9 5 9 job\ncomplete 1 0\nrun 1 1\ncomplete 2 1\nend 3\n",
+        Status::Done,
+        "accepted 3 17\n",
+    ),
+    (
+        "dover 2 2 1\njob 0 0 1 5 1\nrun 0 0\njob 1 0 1 5 2\nrefuse 0 0 1 5 3 total\nrefuse 0 3 9 5 9 job\ncomplete 1 0\nrun 1 1\ncomplete 2 1\nend 3\n",
+        Status::No,
+        "wrong 5 expected complete 1 0\n",
+    ),
+    (
+        "dover 2 2 1\njob 0 0 1 5 1\nrun 0 0\njob 1 0 1 5 2\nrefuse 1 0 1 5 3 ratio\nrefuse 0 3 9 5 9 job\ncomplete 1 0\nrun 1 1\ncomplete 2 1\nend 3\n",
+        Status::No,
+        "wrong 5 expected complete 1 0\n",
+    ),
+    (
+        "xxxxxxxxxxxxxxxxxxxxxxxxxxxxxxxxxxxxxxxxxxxxxxxxxxxxxxxxxxxxxxxxxxxxxxxxxxxxxxxxxxxxxxxxxxxxxxxxxxxxxxxxxxxxxxxxxxxxxxxxxxxxxxxxx",
+        Status::No,
+        "wrong 1 expected header\n",
+    ),
+    (
+        "dover 1 100 1\njob 0 0 60 90 60\nrun 0 0\njob 1 10 5 30 25\npreempt 10 0 1\ncomplete 15 1\nrun 15 0\njob 2 50 5 70 25\npreempt 50 0 2\ncomplete 55 2\nrun 55 0\njob 3 65 10 75 1000\npreempt 65 0 3\ncomplete 75 3\nrun 75 0\ncomplete 80 0\njob 4 100 60 190 60\nrun 100 4\njob 5 110 5 130 25\npreempt 110 4 5\ncomplete 115 5\nrun 115 4\njob 6 120 40 170 40\njob 7 125 5 145 25\npreempt 125 4 7\ncomplete 130 7\nrun 130 4\nabandon 130 6\njob 8 150 10 160 1000\npreempt 150 4 8\ncomplete 160 8\nrun 160 4\ncomplete 180 4\njob 9 200 80 290 80\nrun 200 9\njob 10 210 20 230 2000\ntake 210 9 10\njob 11 215 5 235 25\nabandon 220 9\ncomplete 230 10\nrun 230 11\ncomplete 235 11\njob 12 300 60 390 60\nrun 300 12\njob 13 300 5 320 25\npreempt 300 12 13\njob 14 300 5 320 25\ncomplete 305 13\nrun 305 14\ncomplete 310 14\nrun 310 12\njob 15 360 30 420 30\ncomplete 370 12\nrun 370 15\njob 16 380 10 390 1000\npreempt 380 15 16\ncomplete 390 16\nrun 390 15\njob 17 400 60 490 60\ncomplete 410 15\nrun 410 17\njob 18 420 5 440 25\npreempt 420 17 18\ncomplete 425 18\nrun 425 17\njob 19 430 20 470 100\njob 20 440 10 450 1000\npreempt 440 17 20\ncomplete 450 20\nrun 450 17\nabandon 450 19\ncomplete 485 17\njob 21 500 60 590 60\nrun 500 21\njob 22 530 5 550 25\npreempt 530 21 22\ncomplete 535 22\nrun 535 21\njob 23 560 20 580 2000\npreempt 560 21 23\ncomplete 580 23\nrun 580 21\ncomplete 585 21\nend 8555\n",
+        Status::Done,
+        "accepted 8555 1035155\n",
+    ),
+];
+
 /// The text in pieces of so many bytes.
 fn pieces(alloc: Global, text: &str, size: usize) -> Result<Vec<Vec<u8>>, AllocError> {
     let mut pieces = Vec::new(alloc);
@@ -226,6 +308,32 @@ fn feeds_and_their_traces(rt: HostRuntime) -> Result<(), Fail> {
                 "{feed} by {size}"
             );
             assert_eq!(rt; port.written(), text.as_bytes(), "{feed} by {size}");
+        }
+    }
+    Ok(())
+}
+
+#[test]
+fn texts_and_their_verdicts(rt: HostRuntime) -> Result<(), Fail> {
+    let alloc = rt.alloc();
+    let words = vec![in alloc; String::from_str(alloc, "judge")?]?;
+    for (text, status, verdict) in TEXTS {
+        for size in [4096, 1, 7, 13] {
+            let script = pieces(alloc, text, size)?;
+            let mut port = MemoryPort::new(
+                alloc,
+                script,
+                Vec::new(alloc),
+                Vec::new(alloc),
+                4096,
+                4096,
+            )?;
+            assert_eq!(rt;
+                answer(alloc, &words, &mut port),
+                status,
+                "{text} by {size}"
+            );
+            assert_eq!(rt; port.written(), verdict.as_bytes(), "{text} by {size}");
         }
     }
     Ok(())
