@@ -395,3 +395,26 @@ fn wrong_words(rt: HostRuntime) -> Result<(), Fail> {
     }
     Ok(())
 }
+
+#[test]
+fn one_value_too_many(rt: HostRuntime) -> Result<(), Fail> {
+    let alloc = rt.alloc();
+    let words = vec![in alloc; String::from_str(alloc, "serve")?]?;
+    let mut feed = String::from_str(alloc, "k 1 1\n")?;
+    for _ in 0..10_000 {
+        feed.push_str("job 0 1 1000000000000 1000000000\n")?;
+    }
+    feed.push_str("job 0 1 1000000000000 1\n")?;
+    let script = pieces(alloc, &feed, 4096)?;
+    let mut port = MemoryPort::new(
+        alloc,
+        script,
+        Vec::new(alloc),
+        Vec::new(alloc),
+        4096,
+        1_000_000,
+    )?;
+    assert_eq!(rt; answer(alloc, &words, &mut port), Status::Refused);
+    assert!(rt; port.written().ends_with(b"refused 10002 total\n"));
+    Ok(())
+}
