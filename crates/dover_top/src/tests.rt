@@ -253,15 +253,19 @@ const TEXTS: [(&str, Status, &str); 18] = [
     ),
 ];
 
-/// The text in pieces of so many bytes.
-fn pieces(alloc: Global, text: &str, size: usize) -> Result<Vec<Vec<u8>>, AllocError> {
+/// The text in pieces of so many bytes, or with a seed above 0 in pieces of 1 to 23 bytes that it draws.
+fn pieces(alloc: Global, text: &str, size: usize, seed: usize) -> Result<Vec<Vec<u8>>, AllocError> {
     let mut pieces = Vec::new(alloc);
     let mut piece = Vec::new(alloc);
+    let mut size = size;
     for byte in text.as_bytes() {
         piece.push(*byte)?;
         if piece.len() >= size {
             pieces.push(piece)?;
             piece = Vec::new(alloc);
+            if seed > 0 {
+                size = (size % 23 * 5 + seed % 23) % 23 + 1;
+            }
         }
     }
     pieces.push(piece)?;
@@ -292,8 +296,8 @@ fn feeds_and_their_traces(rt: HostRuntime) -> Result<(), Fail> {
     let alloc = rt.alloc();
     let words = vec![in alloc; String::from_str(alloc, "serve")?]?;
     for (feed, status, text) in FEEDS {
-        for size in [4096, 1, 7, 13] {
-            let script = pieces(alloc, feed, size)?;
+        for (size, seed) in [(4096, 0), (1, 0), (7, 3), (13, 11)] {
+            let script = pieces(alloc, feed, size, seed)?;
             let mut port = MemoryPort::new(
                 alloc,
                 script,
@@ -318,8 +322,8 @@ fn texts_and_their_verdicts(rt: HostRuntime) -> Result<(), Fail> {
     let alloc = rt.alloc();
     let words = vec![in alloc; String::from_str(alloc, "judge")?]?;
     for (text, status, verdict) in TEXTS {
-        for size in [4096, 1, 7, 13] {
-            let script = pieces(alloc, text, size)?;
+        for (size, seed) in [(4096, 0), (1, 0), (7, 3), (13, 11)] {
+            let script = pieces(alloc, text, size, seed)?;
             let mut port = MemoryPort::new(
                 alloc,
                 script,
@@ -358,7 +362,7 @@ fn failing_calls(rt: HostRuntime) -> Result<(), Fail> {
         (feed, 4096, 0, 5, 1, Status::WriteFault, "dove"),
         (ticks, 25, 2, 0, 4096, Status::ReadFault, completed),
     ] {
-        let script = pieces(alloc, feed, piece)?;
+        let script = pieces(alloc, feed, piece, 0)?;
         let fail_reads = vec![in alloc; read]?;
         let fail_writes = vec![in alloc; write]?;
         let mut port = MemoryPort::new(alloc, script, fail_reads, fail_writes, most.max(1), 4096)?;
@@ -380,7 +384,7 @@ fn wrong_words(rt: HostRuntime) -> Result<(), Fail> {
         for text in texts {
             words.push(String::from_str(alloc, text)?)?;
         }
-        let script = pieces(alloc, "k 1 1\nend\n", 4096)?;
+        let script = pieces(alloc, "k 1 1\nend\n", 4096, 0)?;
         let mut port = MemoryPort::new(
             alloc,
             script,
@@ -405,7 +409,7 @@ fn one_value_too_many(rt: HostRuntime) -> Result<(), Fail> {
         feed.push_str("job 0 1 1000000000000 1000000000\n")?;
     }
     feed.push_str("job 0 1 1000000000000 1\n")?;
-    let script = pieces(alloc, &feed, 4096)?;
+    let script = pieces(alloc, &feed, 4096, 0)?;
     let mut port = MemoryPort::new(
         alloc,
         script,
