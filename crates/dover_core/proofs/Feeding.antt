@@ -46,3 +46,7 @@ module _ (v : Service) (j : JobFacts) (rest : List JobFacts) (valid : IsValid (w
   pub rest_follow : AllByRecursion (λ i. MayFollow (Mark j.release) (Mark i.release)) rest
   rest_follow = may_follow j.release rest (order_back (jobs_of v.state.tasks) (j ∷ rest) valid.in_order).0
       (all_back IsJob (jobs_of v.state.tasks) (j ∷ rest) valid.each).1
+
+  -- so may its own
+  pub same_follows : MayFollow (Mark j.release) (Mark j.release)
+  same_follows = (may_follow j.release (j ∷ []) (omega arith, tt) ((all_back IsJob (jobs_of v.state.tasks) (j ∷ rest) valid.each).0, tt)).0

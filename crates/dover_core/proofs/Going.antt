@@ -5,7 +5,7 @@ use Rattle.std.specs.Prelude.{None, nat_le, ◌&&◌}
 use Rattle.std.specs.Bool.{then_some}
 use Rattle.std.specs.List.{AllByRecursion, list_all, fold, filter}
 use Rattle.std.proofs.lemmas.Bool.{lt-leb}
-use Rattle.dover_model.specs.declared.events.Event.TheVariants.{End as EndEvent}
+use Rattle.dover_model.specs.declared.events.Event.TheVariants.{Release, Run, Preempt, Take, Complete, Abandon, End as EndEvent}
 use Rattle.dover_model.specs.declared.events.Event.{Event}
 use Rattle.dover_model.specs.declared.events.Task.{Task}
 use Rattle.dover_model.specs.Limits.{last_tick}
@@ -15,26 +15,27 @@ use Rattle.dover_model.specs.State.{State, is_over, is_done, value_sum}
 use Rattle.dover_model.specs.Step.{ticked, Move, Prints, Waits, Ticks, step, open_step, after, ending, ◌or_else◌}
 use Rattle.dover_model.specs.Run.{is_end, event_of, last_deadline}
 use Rattle.dover_model.specs.Settled.{is_late}
-use Rattle.dover_model.specs.Sound.{Each, Keeps, jobs_of}
+use Rattle.dover_model.specs.Sound.{Keeps, jobs_of}
 use Rattle.dover_model.proofs.Members.{all_each}
 use Rattle.dover_model.proofs.Deeds.{tick_quiet, over_rests}
 use Rattle.dover_model.proofs.Ticking.{Quiet}
-use Rattle.dover_model.proofs.Kept.{jobs_kept, realistic, open_deed, step_deed, open_kept, step_kept}
+use Rattle.dover_model.proofs.Kept.{jobs_kept, end_same, open_deed, step_deed, open_kept, step_kept}
 use Rattle.dover_model.proofs.Potential.{weights, steps_scale, tick_weighs}
 use Rattle.dover_model.proofs.Ending.{potential, Brings, open_brings, step_brings, tick_early}
 use Rattle.dover_model.proofs.Settling.{late_early}
 use Rattle.dover_model.proofs.Prefixes.{step_open}
-use Rattle.plain_step.specs.declared.moves.Move.{Move as Stepped}
-use Rattle.plain_step.specs.declared.moves.Move.TheVariants as moves
-use Rattle.plain_step.specs.Moves.{step_of}
-use Rattle.dover_model.specs.Jumps.{later_by}
-use Rattle.dover_model.proofs.Jumping.{later_by-zero, after-later_by}
-use Rattle.plain_step.proofs.Jumping.{tick_rests, urgent_is}
+use Rattle.dover_model.proofs.Tests.{never}
+use Rattle.queued_jobs.specs.declared.moves.Move.{Move as Stepped}
+use Rattle.queued_jobs.specs.declared.moves.Move.TheVariants as moves
+use Rattle.queued_jobs.specs.Moves.{step_of}
+use Rattle.queued_jobs.specs.Queued.{Queued, IsNext, in_state, stepped}
+use Rattle.dover_model.specs.Jumps.{later_by, NothingDue}
+use Rattle.dover_model.proofs.Jumping.{later_by-zero, after-later_by, later_ticks}
 use Rattle.dover_core.specs.declared.horizon.Horizon.{Horizon}
 use Rattle.dover_core.specs.declared.horizon.Horizon.TheVariants.{Mark, End}
 use Rattle.dover_core.specs.Service.{IsUpTo}
-use Rattle.dover_core.specs.Leading.{step_to, MayGo, LeadsSilently}
-use Rattle.dover_core.specs.Ways.{step_or_end, last_clock, CanGo, GoesOn}
+use Rattle.dover_core.specs.Leading.{step_to, MayGo, LeadsSilently, GivesNext}
+use Rattle.dover_core.specs.Ways.{step_or_end, is_barrier_to, last_clock, CanGo, GoesOn}
 use Rattle.dover_core.proofs.Leads.{silent_append, silent_none, silent_one}
 
 -- no deadline of valid jobs is after the last tick
@@ -80,6 +81,35 @@ module _ (rules : Rules) (J : Instance) (valid : IsValid J) where
         over_rests rules.ratio s (ending s or_else Ticks) (all_each is_over s.tasks e) (step rules s) (step_deed J valid s keeps rules) in
         let ends : Ticks ≡ Prints (EndEvent (value_sum (filter is_done s.tasks))) =
         sym ticks ∙ rests ∙ ap (λ b. then_some b (Prints (EndEvent (value_sum (filter is_done s.tasks)))) or_else Ticks) e in cc)
+
+  -- where all are over, the step to the end is End
+  over_ends : (s : State) → Keeps J s → list_all is_over s.tasks ≡ true → is_end (step rules s) ≡ true
+  over_ends s keeps over = ap is_end
+      (over_rests rules.ratio s (ending s or_else Ticks) (all_each is_over s.tasks over) (step rules s) (step_deed J valid s keeps rules)
+      ∙ ap (λ b. then_some b (Prints (EndEvent (value_sum (filter is_done s.tasks)))) or_else Ticks) over)
+
+  -- a step to a horizon but End is the open step
+  pub opens_too : (to : Horizon) (s : State) → Keeps J s → (m : Move) → step_to to rules s ≡ m → is_end m ≡ false → open_step rules s ≡ m
+  opens_too (Mark t) s keeps m is more = is
+  opens_too End s keeps m is more = by_test (list_all is_over s.tasks) refl where
+    by_test : (b : Bool) → list_all is_over s.tasks ≡ b → open_step rules s ≡ m
+    by_test false some = sym (step_open rules s some) ∙ is
+    by_test true over = never (sym more ∙ ap is_end (sym is) ∙ over_ends s keeps over)
+
+  -- the step to the end is the open step, or the end in place of a tick
+  pub step_closed : (s : State) → Keeps J s → step_or_end s.tasks (open_step rules s) ≡ step rules s
+  step_closed s keeps = by_test (list_all is_over s.tasks) refl where
+    some_left : (m : Move) → list_all is_over s.tasks ≡ false → step_or_end s.tasks m ≡ m
+    some_left (Prints e) some = refl
+    some_left (Waits n) some = refl
+    some_left Ticks some = ap (λ b. then_some b (Prints (EndEvent (value_sum (filter is_done s.tasks)))) or_else Ticks) some
+
+    by_test : (b : Bool) → list_all is_over s.tasks ≡ b → step_or_end s.tasks (open_step rules s) ≡ step rules s
+    by_test false some = some_left (open_step rules s) some ∙ sym (step_open rules s some)
+    by_test true over =
+        ap (step_or_end s.tasks)
+        (over_rests rules.ratio s Ticks (all_each is_over s.tasks over) (open_step rules s) (open_deed J valid s keeps rules))
+        ∙ sym (over_rests rules.ratio s (ending s or_else Ticks) (all_each is_over s.tasks over) (step rules s) (step_deed J valid s keeps rules))
 
   -- what a tick on the way to a horizon tells
   pub record TickTo (to : Horizon) (s : State) : Type 0 where
@@ -218,17 +248,15 @@ module _ (to : Horizon) (rules : Rules) (s : State) (can : CanGo to rules s) whe
       by_falls (inr falls) = let less : weights (after s (Waits n)) + 1 ≤ weights s =
           subst (λ m. weights (after s m) + 1 ≤ weights s) waits falls in omega arith
 
-    -- a jump over silent ticks, as far as nothing else is due
-    pub jumps_on : (count : ℕ) → step_to to rules s ≡ Ticks → count ≤ last_clock to - s.clock
-        → ((rules : Rules) → open_step rules s ≡ Ticks → (n : ℕ) → n < count → open_step rules (later_by n s) ≡ Ticks)
-        → ((rules : Rules) → count < last_clock to - s.clock → open_step rules (later_by count s) ≡ Ticks → ⊥)
-        → GoesOn to rules s (later_by count s)
-    jumps_on count ticks fits silent due = record {
+    -- a jump over silent ticks before which nothing else is due
+    pub jumps_on : (count : ℕ) → step_to to rules s ≡ Ticks → count ≤ last_clock to - s.clock → NothingDue count s
+        → (1 ≤ last_clock to - s.clock → 1 ≤ count) → GoesOn to rules s (later_by count s)
+    jumps_on count ticks fits due some = record {
       lead = it.lead;
       can = can_still (later_by count s) it.keeps (let early : s.clock < last_clock to = low in omega arith);
       jobs = it.keeps.jobs;
       fewer = let early : s.clock < last_clock to = low in
-          let less : weights (later_by count s) ≤ weights s = it.weighs in let more : 1 ≤ count = some count refl in omega arith;
+          let less : weights (later_by count s) ≤ weights s = it.weighs in let more : 1 ≤ count = some (omega arith) in omega arith;
     } where
       tick : TickTo rules (jobs_in rules s) can.valid to s
       tick = tick_to rules (jobs_in rules s) can.valid to s own_keeps ticks may
@@ -238,37 +266,95 @@ module _ (to : Horizon) (rules : Rules) (s : State) (can : CanGo to rules s) whe
 
       it : OnTicks rules (jobs_in rules s) can.valid to s count
       it = on_ticks rules (jobs_in rules s) can.valid to s own_keeps tick.more count (let early : s.clock < last_clock to = low in omega arith)
-          (silent rules tick.opens)
+          (later_ticks (jobs_in rules s) can.valid s own_keeps count due)
 
-      some : (n : ℕ) → count ≡ n → 1 ≤ n
-      some zero none = absurd (due rules (let early : s.clock < last_clock to = low in omega arith)
-          (subst (λ n. open_step rules (later_by n s) ≡ Ticks) (sym none) (ap (open_step rules) (later_by-zero s) ∙ tick.opens)))
-      some (suc n) e = omega arith
-
--- no job of the state has had so many ticks that more don't fit
+-- ticks that aren't past the horizon aren't past the last tick
 pub ticks_fit : (to : Horizon) (rules : Rules) (s : State) → CanGo to rules s → (count : ℕ) → count ≤ last_clock to - s.clock
-    → Each (λ t. t.had + count < 18446744073709551616) s.tasks
-ticks_fit to rules s can count fits t member =
-    let job : IsJob t.job = (realistic (jobs_in rules s) can.valid s (own_keeps to rules s can)).each t member in
-    let window : t.job.release + t.job.work ≤ t.job.deadline = job.window in
-    let due : t.job.deadline ≤ last_tick = job.due in
-    let had : t.had ≤ t.job.work = can.sound.at_most_work t member in
-    let last : last_clock to ≤ last_tick = (up_to_last to s.clock can.clock).1 in omega arith
+    → s.clock + count ≤ last_tick
+ticks_fit to rules s can count fits = let up = up_to_last to s.clock can.clock in omega (arith, up.0, up.1)
 
--- ---- the step to the end
-
--- the step to the end is the open step, or the end in place of a tick
-pub step_closed : (rules : Rules) (s : State) → step_or_end s.tasks (open_step rules s) ≡ step rules s
-step_closed rules s = by_step (open_step rules s) refl where
-  by_step : (m : Move) → open_step rules s ≡ m → step_or_end s.tasks (open_step rules s) ≡ step rules s
-  by_step (Prints e) same = ap (step_or_end s.tasks) same ∙ sym
-      (urgent_is rules s (ending s or_else Ticks) (λ ticks. absurd (let e2 : Prints e ≡ Ticks = sym same ∙ ticks in cc)) ∙ same)
-  by_step (Waits n) same = ap (step_or_end s.tasks) same ∙ sym
-      (urgent_is rules s (ending s or_else Ticks) (λ ticks. absurd (let e2 : Waits n ≡ Ticks = sym same ∙ ticks in cc)) ∙ same)
-  by_step Ticks same = ap (step_or_end s.tasks) same ∙ sym (tick_rests rules s (ending s or_else Ticks) same)
+-- what is next in the queues where the step to a horizon isn't End
+pub next_in : (to : Horizon) (q : Queued) → CanGo to q.rules q.state → (m : Move) → step_to to q.rules q.state ≡ m → is_end m ≡ false → IsNext q m
+next_in to q can m is more = record {
+  valid = can.valid;
+  sound = can.sound;
+  step = opens_too q.rules (jobs_in q.rules q.state) can.valid to q.state (own_keeps to q.rules q.state can) m is more;
+}
 
 -- a silent step that is no wait is a tick
 pub silent_tick : (m : Stepped) → event_of (step_of m) ≡ None → ((n : ℕ) → m ≡ moves.Waits n → ⊥) → step_of m ≡ Ticks
 silent_tick (moves.Prints e) silent other = absurd (cc)
 silent_tick (moves.Waits n) silent other = absurd (other n refl)
 silent_tick moves.Ticks silent other = refl
+
+-- an event that isn't End doesn't end the run
+pub not_end : (e : Event) → ((value : ℕ) → e ≡ EndEvent value → ⊥) → is_end (Prints e) ≡ false
+not_end (Release n job) other = refl
+not_end (Run at n) other = refl
+not_end (Preempt at stops starts) other = refl
+not_end (Take at stops starts) other = refl
+not_end (Complete at n) other = refl
+not_end (Abandon at n) other = refl
+not_end (EndEvent value) other = absurd (other value refl)
+
+-- End changes nothing
+pub end_rests_in : (q : Queued) (value : ℕ) → q ≡ stepped q (Prints (EndEvent value))
+end_rests_in q value = ap (λ ts. in_state q (record { clock = q.state.clock; tasks = ts })) (sym (end_same q.state value))
+
+-- a step that isn't the barrier may be taken
+pub may_go : (to : Horizon) (rules : Rules) (s : State) (clock : ℕ) (m : Move) → is_barrier_to to clock m ≡ false → clock ≡ s.clock
+    → m ≡ step_to to rules s → MayGo to rules s
+may_go (Mark t) rules s clock m goes now is = ap (λ x. is_late x && nat_le t s.clock) (sym is) ∙ ap (λ n. is_late m && nat_le t n) (sym now) ∙ goes
+may_go End rules s clock m goes now is = tt
+
+-- ---- the loop
+
+-- how far silent steps led the queues
+pub record HasGone (to : Horizon) (p q : Queued) : Type 0 where
+  pub lead : LeadsSilently to p.rules p.state q.state
+  pub can : CanGo to p.rules q.state
+  pub jobs : jobs_of q.state.tasks ≡ jobs_of p.state.tasks
+  pub same : q ≡ in_state p q.state
+
+module _ (to : Horizon) (p q : Queued) (gone : HasGone to p q) where
+  -- the rules stay
+  pub same_rules : q.rules ≡ p.rules
+  same_rules = ap (λ (r : Queued). r.rules) gone.same
+
+  -- from there steps can be taken
+  pub can_further : CanGo to q.rules q.state
+  can_further = subst (λ rules. CanGo to rules q.state) (sym same_rules) gone.can
+
+  -- silent steps lead them further
+  pub goes_further : (r : Queued) → GoesOn to q.rules q.state r.state → r ≡ in_state q r.state → HasGone to p r
+  goes_further r goes same = record {
+    lead = silent_append to p.rules p.state q.state r.state gone.lead (subst (λ rules. LeadsSilently to rules q.state r.state) same_rules goes.lead);
+    can = subst (λ rules. CanGo to rules r.state) same_rules goes.can;
+    jobs = goes.jobs ∙ gone.jobs;
+    same = same ∙ ap (λ x. in_state x r.state) gone.same;
+  }
+
+  -- what a printed step tells
+  pub record Printed (e : Event) (r : Queued) : Type 0 where
+    pub next : GivesNext to p.rules p.state r.state e
+    pub can : CanGo to p.rules r.state
+    pub jobs : jobs_of r.state.tasks ≡ jobs_of p.state.tasks
+    pub same : r ≡ in_state p r.state
+
+  pub prints_further : (e : Event) (r : Queued) → MayGo to q.rules q.state → step_to to q.rules q.state ≡ Prints e → r ≡ stepped q (Prints e)
+      → Printed e r
+  prints_further e r may prints effect = record {
+    next = record {
+      before = q.state;
+      waits = gone.lead;
+      goes = subst (λ rules. MayGo to rules q.state) same_rules may;
+      prints = ap (λ rules. step_to to rules q.state) (sym same_rules) ∙ prints;
+      state = ap (λ (x : Queued). x.state) effect;
+    };
+    can = subst (λ (x : Queued). CanGo to p.rules x.state) (sym effect)
+        (subst (λ rules. CanGo to rules (after q.state (Prints e))) same_rules both.0);
+    jobs = ap (λ (x : Queued). jobs_of x.state.tasks) effect ∙ both.1 ∙ gone.jobs;
+    same = effect ∙ ap (λ x. in_state x (after q.state (Prints e))) gone.same ∙ ap (λ (x : Queued). in_state p x.state) (sym effect);
+  } where
+    both : CanGo to q.rules (after q.state (Prints e)) × (jobs_of (after q.state (Prints e)).tasks ≡ jobs_of q.state.tasks)
+    both = prints_can to q.rules q.state can_further e prints

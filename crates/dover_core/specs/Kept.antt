@@ -1,20 +1,19 @@
 -- What the fields of a Server stand for.
-use Rattle.std.specs.Prelude.{◌+◌, ◌≤◌, vec_len, vec_capacity}
 use Rattle.dover_core.specs.declared.server.Server.TheInside.{Inside}
 use Rattle.dover_core.specs.Service.{Service, Stands}
 
 -- the service
 abbrev pub service_of : Inside → Service
 service_of a = record {
-  rules = record { ratio = a.ratio; version = a.version };
-  state = record { clock = a.clock; tasks = a.tasks.items };
+  rules = a.queues.rules;
+  state = a.queues.state;
   last = a.last;
   ready = a.ready;
   ended = a.ended;
-  spare = a.spare;
+  spare = a.queues.spare;
 }
 
--- it stands, and there is room for the spare jobs
-pub record IsKept (a : Inside) : Type 0 where
-  pub stands : Stands (service_of a)
-  pub fits : vec_len a.tasks + a.spare ≤ vec_capacity a.tasks
+-- It stands. That the waiting set holds the waiting jobs, the held stack the held ones in the order of deadlines, and that the
+-- available ticks on it are the rooms of those jobs, is what every Queues keeps.
+abbrev pub IsKept : Inside → Type 0
+IsKept a = Stands (service_of a)

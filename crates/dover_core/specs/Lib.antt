@@ -2,3 +2,4 @@ pub mod Service
 pub mod Leading
 pub mod Ways
 pub mod Kept
+pub mod Counting

@@ -1,66 +1,47 @@
 //! The machine of the server.
-ghost use Rattle.std.specs.Prelude.{◌≡◌, ◌≤◌, IfSome, IsNone, None, length};
-ghost use Rattle.std.specs.List.{filter, list_all};
-ghost use Rattle.dover_model.specs.Limits.{most_total, most_jobs, last_tick};
-ghost use Rattle.dover_model.specs.State.{is_done, is_over, value_sum};
-ghost use Rattle.dover_model.specs.Sound.{jobs_of};
+ghost use Rattle.std.specs.Prelude.{◌≡◌, ◌≤◌, ◌<◌, ◌+◌, ◌^◌, ℕ, IfSome, IsNone, None, length};
+ghost use Rattle.dover_model.specs.Instance.{IsValid};
+ghost use Rattle.dover_model.specs.Sound.{IsSound, jobs_of};
+ghost use Rattle.dover_model.specs.Step.{Prints, open_step};
 ghost use Rattle.dover_model.specs.Run.{event_of};
-ghost use Rattle.plain_step.specs.Moves.{step_of, state_at};
+ghost use Rattle.queued_jobs.specs.Moves.{step_of};
+ghost use Rattle.queued_jobs.specs.Costs.{cost_of};
+ghost use Rattle.queued_jobs.specs.Queued.{instance_of, in_state, stepped};
 ghost use Rattle.dover_core.specs.Leading.{step_to, MayGo, GivesNext};
+ghost use Rattle.dover_core.specs.Counting.{IsCounted};
 ghost use Rattle.dover_core.specs.Ways.{step_or_end, is_barrier_to, last_clock, CanGo, GoesOn, StopsAt};
 
 use crate::horizon::Horizon;
+use dover_model::Event;
 use dover_model::jobs::LAST_TICK;
-use dover_model::{Event, Ratio, Role, Task, Version};
-use plain_step::{Move, apply, open_step, silent_ticks, tick, wait};
-
-/// The sum of the values of the completed jobs.
-pub fn done_value(tasks: &[Task]) -> u64
-    requires { value_sum tasks.now ≤ most_total }
-    ensures { result ≡ value_sum (filter is_done tasks.now) }
-{
-    let mut value = 0;
-    for t in tasks {
-        if matches!(t.role, Role::Done) {
-            value += t.job.value();
-        }
-    }
-    value
-}
-
-// Whether all jobs are done or gone.
-fn are_over(tasks: &[Task]) -> bool
-    ensures { result ≡ list_all is_over tasks.now }
-{
-    tasks
-        .iter()
-        .all(|t| matches!(t.role, Role::Done | Role::Gone))
-}
+use queued_jobs::{Move, Queues};
+use std::sync::ledger::Ledger;
+use step_count::Steps;
 
 // The step, or the end in place of a tick where all jobs are over.
-fn step_or_end(step: Move, tasks: &[Task]) -> Move
-    requires { value_sum tasks.now ≤ most_total }
-    ensures { step_of result ≡ step_or_end tasks.now (step_of step) }
+fn step_or_end(queues: &Queues, step: Move) -> Move
+    requires valid { IsValid (instance_of queues.now) }
+    requires sound { IsSound queues.now.state }
+    requires step { open_step queues.now.rules queues.now.state ≡ step_of step }
+    ensures { step_of result ≡ step_or_end queues.now.state.tasks (step_of step) }
 {
     match step {
-        Move::Ticks if are_over(tasks) => Move::Prints(Event::End {
-            value: done_value(tasks),
+        Move::Ticks if queues.are_over() => Move::Prints(Event::End {
+            value: queues.value(),
         }),
         _ => step,
     }
 }
 
 // The next step on the way to the horizon.
-fn step_to(to: Horizon, version: Version, k: Ratio, clock: u64, tasks: &[Task]) -> Move
-    requires clock { clock ≤ last_tick }
-    requires count { length tasks.now ≤ most_jobs }
-    requires total { value_sum tasks.now ≤ most_total }
-    ensures { step_of result ≡ step_to to (record { ratio = k; version = version }) (state_at clock tasks.now) }
+fn step_to(to: Horizon, queues: &Queues) -> Move
+    requires { CanGo to queues.now.rules queues.now.state }
+    ensures { step_of result ≡ step_to to queues.now.rules queues.now.state }
 {
-    let step = open_step(version, k, clock, tasks);
+    let step = queues.open_step();
     match to {
         Horizon::Mark(_) => step,
-        Horizon::End => step_or_end(step, tasks),
+        Horizon::End => step_or_end(queues, step),
     }
 }
 
@@ -88,48 +69,63 @@ fn last_clock(to: Horizon) -> u64
 }
 
 // Takes a silent step: a wait, or as many ticks as come before anything else is due.
-fn go_on(version: Version, k: Ratio, to: Horizon, step: &Move, clock: &mut u64, tasks: &mut [Task])
-    requires can { CanGo to (record { ratio = k; version = version }) (state_at clock.old tasks.old) }
-    requires may { MayGo to (record { ratio = k; version = version }) (state_at clock.old tasks.old) }
-    requires step { step_to to (record { ratio = k; version = version }) (state_at clock.old tasks.old) ≡ step_of step.now }
+fn go_on<L: Ledger>(to: Horizon, step: &Move, queues: &mut Queues, steps: &mut Steps<L>)
+    requires can { CanGo to queues.old.rules queues.old.state }
+    requires may { MayGo to queues.old.rules queues.old.state }
+    requires step { step_to to queues.old.rules queues.old.state ≡ step_of step.now }
     requires silent { event_of (step_of step.now) ≡ None }
-    ensures { GoesOn to (record { ratio = k; version = version }) (state_at clock.old tasks.old) (state_at clock.new tasks.new) }
+    ensures goes { GoesOn to queues.old.rules queues.old.state queues.new.state }
+    ensures count { (d : ℕ) → length queues.old.state.tasks + 1 < 2 ^ d →
+        IsCounted to queues.old.rules queues.old.state queues.new.state d steps.old steps.new }
+    ensures same { queues.new ≡ in_state queues.old queues.new.state }
 {
     match *step {
-        Move::Waits(number) => wait(number, tasks),
+        Move::Waits(number) => queues.wait_next(number, steps),
         _ => {
-            let count = silent_ticks(*clock, tasks, last_clock(to) - *clock);
-            tick(count, tasks);
-            *clock += count;
+            let ticks = queues.silent_ticks(last_clock(to) - queues.clock());
+            queues.tick(ticks);
         }
     }
 }
 
+// The effect of a printed step. End has none.
+fn print_step<L: Ledger>(to: Horizon, e: &Event, queues: &mut Queues, steps: &mut Steps<L>)
+    requires can { CanGo to queues.old.rules queues.old.state }
+    requires step { step_to to queues.old.rules queues.old.state ≡ Prints e.now }
+    ensures prints { queues.new ≡ stepped queues.old (Prints e.now) }
+    ensures count { (d : ℕ) → length queues.old.state.tasks + 1 < 2 ^ d →
+        steps.new ≤ steps.old + cost_of d queues.old.state (Prints e.now) }
+{
+    match e {
+        Event::End { .. } => {}
+        _ => queues.apply(e, steps),
+    }
+}
+
 /// Takes steps on the way to the horizon up to the first printed one, which is the answer. None where the barrier comes first.
-pub fn next_printed(
-    version: Version,
-    k: Ratio,
+pub fn next_printed<L: Ledger>(
     to: Horizon,
-    clock: &mut u64,
-    tasks: &mut [Task],
+    queues: &mut Queues,
+    steps: &mut Steps<L>,
 ) -> Option<Event>
-    requires { CanGo to (record { ratio = k; version = version }) (state_at clock.old tasks.old) }
-    ensures some { IfSome result (λ e. GivesNext to (record { ratio = k; version = version }) (state_at clock.old tasks.old)
-        (state_at clock.new tasks.new) e) }
-    ensures none { IsNone result → StopsAt to (record { ratio = k; version = version }) (state_at clock.old tasks.old)
-        (state_at clock.new tasks.new) }
-    ensures can { CanGo to (record { ratio = k; version = version }) (state_at clock.new tasks.new) }
-    ensures jobs { jobs_of tasks.new ≡ jobs_of tasks.old }
+    requires { CanGo to queues.old.rules queues.old.state }
+    ensures some { IfSome result (λ e. GivesNext to queues.old.rules queues.old.state queues.new.state e) }
+    ensures none { IsNone result → StopsAt to queues.old.rules queues.old.state queues.new.state }
+    ensures count { (d : ℕ) → length queues.old.state.tasks + 1 < 2 ^ d →
+        IsCounted to queues.old.rules queues.old.state queues.new.state d steps.old steps.new }
+    ensures can { CanGo to queues.old.rules queues.new.state }
+    ensures jobs { jobs_of queues.new.state.tasks ≡ jobs_of queues.old.state.tasks }
+    ensures same { queues.new ≡ in_state queues.old queues.new.state }
 {
     loop {
-        let step = step_to(to, version, k, *clock, tasks);
-        if is_barrier(to, *clock, &step) {
+        let step = step_to(to, queues);
+        if is_barrier(to, queues.clock(), &step) {
             return None;
         }
         if let Move::Prints(e) = step {
-            apply(&e, tasks);
+            print_step(to, &e, queues, steps);
             return Some(e);
         }
-        go_on(version, k, to, &step, clock, tasks);
+        go_on(to, &step, queues, steps);
     }
 }

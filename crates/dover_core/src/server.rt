@@ -1,33 +1,34 @@
 //! The server.
 ghost use Rattle.std.specs.Prelude.{◌≡◌, ◌≤◌, ◌<◌, ◌+◌, ◌↔◌, IsTrue, IfOk, OnOk, OnErr, IfSome, OnSome, IsNone, true, false, length, ◌∷◌, []};
-ghost use Rattle.std.specs.Prelude.{◌||◌};
+ghost use Rattle.std.specs.Prelude.{◌||◌, ◌^◌, ℕ};
 ghost use Rattle.std.specs.List.{slice_get, filter};
 ghost use Rattle.std.specs.Option.{option_map};
 ghost use Rattle.dover_model.specs.Limits.{most_jobs};
 ghost use Rattle.dover_model.specs.Instance.{IsValid, with_jobs};
 ghost use Rattle.dover_model.specs.State.{is_done, value_sum};
 ghost use Rattle.dover_core.specs.Service.{list_of, fresh_service, with_job, IsReadyFor, MayFollow, Stands, steps_left};
+ghost use Rattle.dover_core.specs.Counting.{IsCounted};
 ghost use Rattle.dover_core.specs.Leading.{GivesNext, GivesNone, is_ready_after, is_end_given};
 
 use crate::horizon::Horizon;
-use crate::machine::{done_value, next_printed};
-use dover_model::{Event, Job, Memory, Ratio, Role, Task, Version};
+use crate::machine::next_printed;
+use dover_model::{Event, Job, Memory, Ratio, Role, Version};
+use queued_jobs::Queues;
 use std::alloc::Global;
 use std::marker::Model;
 use std::sync::ledger::Ledger;
 use step_count::Steps;
 
+// How many jobs there may be.
+const MOST_JOBS: u32 = 1_000_000;
+
 /// The jobs admitted so far in their state, and how far the steps of their run were taken.
 #[derive(Drop)]
 pub struct Server {
-    version: Version,
-    ratio: Ratio,
-    clock: u64,
-    tasks: Vec<Task>,
+    queues: Queues,
     last: Horizon,
     ready: bool,
     ended: bool,
-    spare: u32,
 }
 
 impl Model for Server {
@@ -62,14 +63,10 @@ impl Server {
         ensures { IfOk result (λ server. server ≡ fresh_service version k server.spare) }
     {
         Ok(Server {
-            version,
-            ratio: k,
-            clock: 0,
-            tasks: Vec::new(alloc),
+            queues: Queues::new(alloc, version, k)?,
             last: Horizon::Mark(0),
             ready: false,
             ended: false,
-            spare: 0,
         })
     }
 
@@ -80,19 +77,29 @@ impl Server {
         ensures room { OnOk result (more ≤ self.new.spare) }
         ensures spare { self.old.spare ≤ self.new.spare }
     {
-        if more <= self.spare {
+        self.queues.reserve(more)
+    }
+
+    // Makes room where there is none: for as many further jobs as there are, so that it is seldom made.
+    fn make_room(&mut self) -> Result<(), Memory>
+        requires { length self.old.state.tasks + 1 ≤ most_jobs }
+        ensures kept { self.new ≡ record self.old { spare = self.new.spare } }
+        ensures room { OnOk result (1 ≤ self.new.spare) }
+        ensures spare { self.old.spare ≤ self.new.spare }
+        ensures err { OnErr result (self.old.spare ≡ 0) }
+    {
+        if self.queues.spare() > 0 {
             return Ok(());
         }
-        self.tasks.reserve(more as usize)?;
-        self.spare = more;
-        Ok(())
+        let jobs = self.queues.len();
+        self.queues.reserve(jobs.max(1).min(MOST_JOBS - jobs))
     }
 
     /// For how many further jobs there is room.
     pub fn spare(&self) -> u32
         ensures { result ≡ self.now.spare }
     {
-        self.spare
+        self.queues.spare()
     }
 
     /// Admits a job under the next number, which is the answer. It is still to come. Err where there is no memory, never where there is room.
@@ -106,16 +113,9 @@ impl Server {
         ensures err_spare { OnErr result (self.old.spare ≤ self.new.spare) }
         ensures room { OnErr result (self.old.spare ≡ 0) }
     {
-        let number = self.tasks.len() as u32;
-        self.tasks.push(Task {
-            number,
-            job,
-            role: Role::Coming,
-            had: 0,
-        })?;
-        self.spare = self.spare.saturating_sub(1);
+        self.make_room()?;
         self.ready = false;
-        Ok(number)
+        Ok(self.queues.push(job))
     }
 
     /// Whether the last step was to the mark t and answered None, and no job was admitted since.
@@ -140,19 +140,15 @@ impl Server {
         ensures spare { self.old.spare ≤ self.new.spare }
         ensures fewer { OnSome result (steps_left self.new < steps_left self.old) }
         ensures stands { Stands self.new }
+        ensures count { (d : ℕ) → length self.old.state.tasks + 1 < 2 ^ d →
+            IsCounted to self.old.rules self.old.state self.new.state d steps.old steps.new }
     {
         self.last = to;
         if self.ended {
             self.ready = false;
             return None;
         }
-        let printed = next_printed(
-            self.version,
-            self.ratio,
-            to,
-            &mut self.clock,
-            &mut self.tasks,
-        );
+        let printed = next_printed(to, &mut self.queues, steps);
         self.ready = is_ready_after(to, &printed);
         self.ended = is_end_given(&printed);
         printed
@@ -162,7 +158,7 @@ impl Server {
     pub fn value(&self) -> u64
         ensures { result ≡ value_sum (filter is_done self.now.state.tasks) }
     {
-        done_value(&self.tasks)
+        self.queues.value()
     }
 
     /// The clock, in ticks.
@@ -170,34 +166,34 @@ impl Server {
         ensures is { result ≡ self.now.state.clock }
         ensures stands { Stands self.now }
     {
-        self.clock
+        self.queues.clock()
     }
 
     /// How many jobs are admitted.
     pub fn admitted(&self) -> u32
         ensures { result ≡ length self.now.state.tasks }
     {
-        self.tasks.len() as u32
+        self.queues.len()
     }
 
     /// What the job of this number is now. None where no job has it.
     pub fn role(&self, number: u32) -> Option<Role>
         ensures { result ≡ option_map (λ t. t.role) (slice_get self.now.state.tasks number) }
     {
-        Some(self.tasks.get(number as usize)?.role)
+        Some(self.queues.task(number)?.role)
     }
 
     /// The job of this number. None where no job has it.
     pub fn job(&self, number: u32) -> Option<Job>
         ensures { result ≡ option_map (λ t. t.job) (slice_get self.now.state.tasks number) }
     {
-        Some(self.tasks.get(number as usize)?.job)
+        Some(self.queues.task(number)?.job)
     }
 
     /// How many ticks the job of this number has had. None where no job has it.
     pub fn had(&self, number: u32) -> Option<u64>
         ensures { result ≡ option_map (λ t. t.had) (slice_get self.now.state.tasks number) }
     {
-        Some(self.tasks.get(number as usize)?.had)
+        Some(self.queues.task(number)?.had)
     }
 }

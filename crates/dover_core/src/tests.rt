@@ -1,5 +1,5 @@
 //! The server on worked examples, fed as a feed would.
-ghost use Rattle.std.specs.Prelude.{◌≡◌, ◌≤◌, ◌<◌, ◌∷◌, [], nat_le, None, OnOk};
+ghost use Rattle.std.specs.Prelude.{◌≡◌, ◌≤◌, ◌<◌, ◌∷◌, [], nat_le, replicate, None, OnOk};
 ghost use Rattle.std.specs.List.{AllByRecursion, list_all};
 ghost use Rattle.dover_model.specs.JobFacts.{is_job};
 ghost use Rattle.dover_model.specs.Instance.{IsValid, with_jobs, is_within_ratio, is_in_order};
@@ -409,6 +409,104 @@ fn a_reserved_job_is_admitted(rt: HostRuntime) -> Result<(), Fail> {
     assert_eq!(rt;
         (server.role(1), server.job(1), server.had(1)),
         (None, None, None)
+    );
+    Ok(())
+}
+
+// ---- equal jobs
+
+fn assert_equal_valid(rt: &impl Abort, k: Ratio, job: &Job, count: u32)
+    ensures { (version : Version) → IsValid (record {
+      rules = record { ratio = k; version = version };
+      jobs = replicate count job.now;
+    }) }
+{
+    assert!(rt; k.p() > 0);
+    assert!(rt; count <= 1_000_000);
+    assert!(rt; job.value() <= 10_000_000);
+    assert!(rt; is_job(job));
+    assert!(rt; is_within_ratio(k, job, job));
+}
+
+// What was printed.
+#[derive(Drop)]
+struct Seen {
+    events: u64,
+    last: Option<Event>,
+}
+
+// The events up to the horizon are seen.
+fn see<L: Ledger>(server: &mut Server, to: Horizon, steps: &mut Steps<L>, seen: &mut Seen)
+    requires { MayFollow server.old.last to }
+    ensures list { list_of server.new ≡ list_of server.old }
+    ensures last { server.new.last ≡ to }
+    ensures ready { server.new.ready ≡ is_ready_after to None }
+{
+    while let Some(e) = server.step(to, steps) {
+        seen.events = seen.events.saturating_add(1);
+        seen.last = Some(e);
+    }
+}
+
+// So many equal jobs, each admitted at its release.
+fn admit_equal<L: Ledger>(
+    server: &mut Server,
+    job: Job,
+    count: u32,
+    steps: &mut Steps<L>,
+    seen: &mut Seen,
+) -> Result<(), Memory>
+    requires valid { IsValid (with_jobs (list_of server.old) (replicate count job)) }
+    requires follow { MayFollow server.old.last (Mark job.release) }
+    ensures open { OnOk result (MayFollow server.new.last End) }
+{
+    for i in 0..count {
+        see(server, Horizon::Mark(job.release()), steps, seen);
+        server.admit(job)?;
+    }
+    Ok(())
+}
+
+// So many equal jobs, with room made for them at once.
+fn serve_equal<L: Ledger>(
+    alloc: Global,
+    k: Ratio,
+    job: Job,
+    count: u32,
+    blank: Blank,
+) -> Result<Seen, Memory>
+    requires valid { IsValid (record { rules = record { ratio = k; version = One }; jobs = replicate count job }) }
+    requires name { blank.name ≡ L.name }
+    requires parts { blank.parts ≡ L.parts }
+    requires some { 0 < blank.parts }
+{
+    let mut steps: Steps<L> = Steps::new(blank);
+    let mut server = Server::new(alloc, Version::One, k)?;
+    server.reserve(count)?;
+    let mut seen = Seen {
+        events: 0,
+        last: None,
+    };
+    admit_equal(&mut server, job, count, &mut steps, &mut seen)?;
+    see(&mut server, Horizon::End, &mut steps, &mut seen);
+    Ok(seen)
+}
+
+// The proof of the test doesn't see the number, so that it counts none of the jobs.
+fn a_million() -> u32 {
+    1_000_000
+}
+
+#[test]
+fn a_million_jobs_are_served(rt: HostRuntime) -> Result<(), Fail> {
+    let k = Ratio::new(1, 1).expect(&rt, "a ratio");
+    let job = Job::new(0, 1, 1_000_000, 1).expect(&rt, "a job");
+    let count = a_million();
+    assert_equal_valid(&rt, k, &job, count);
+    let seen = serve_equal::<Brand>(rt.alloc(), k, job, count, Blank::new(1))?;
+    assert_eq!(rt;
+        (seen.events, seen.last),
+        (3_000_001, Some(Event::End { value: 1_000_000 }))
     );
     Ok(())
 }

@@ -12,3 +12,4 @@ pub mod Displacing
 pub mod Ticking
 pub mod Silent
 pub mod Over
+pub mod Costs

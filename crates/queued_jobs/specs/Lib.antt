@@ -2,3 +2,4 @@ pub mod Moves
 pub mod Cases
 pub mod Roles
 pub mod Queued
+pub mod Costs

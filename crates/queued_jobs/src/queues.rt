@@ -12,11 +12,11 @@ ghost use Rattle.dover_model.specs.Step.{open_step, view, after, is_at_latest_st
 ghost use Rattle.dover_model.specs.Sound.{IsSound, Each, IsNumberedFrom};
 ghost use Rattle.dover_model.specs.Jumps.{NothingDue, later_by, ticked_by};
 ghost use Rattle.dover_model.specs.Entries.{entry_of, room_of};
-ghost use Rattle.dover_model.specs.WaitingMoves.{enters, leaves};
 ghost use Rattle.queued_jobs.specs.Moves.{step_of, view_of};
 ghost use Rattle.queued_jobs.specs.Roles.{Changes, all_displaced};
 ghost use Rattle.dover_model.specs.Step.{Prints, Waits as WaitsFor, Ticks as TicksOn};
 ghost use Rattle.dover_model.specs.declared.events.Event.TheVariants.{Release, Run, Preempt, Take, Complete, Abandon};
+ghost use Rattle.queued_jobs.specs.Costs.{cost_of};
 ghost use Rattle.queued_jobs.specs.Queued.{Queued, instance_of, in_state, with_job_in, IsNext, stepped};
 
 use crate::decide::{decide, left};
@@ -430,7 +430,8 @@ impl Queues {
     fn abandon_next<L: Ledger>(&mut self, number: u32, steps: &mut Steps<L>)
         requires { IsNext self.old (Prints (Abandon self.old.state.clock number)) }
         ensures gone { self.new ≡ stepped self.old (Prints (Abandon self.old.state.clock number)) }
-        ensures count { (d : ℕ) → length self.old.state.tasks + 1 < 2 ^ d → steps.new ≤ steps.old + 6 * d }
+        ensures count { (d : ℕ) → length self.old.state.tasks + 1 < 2 ^ d → steps.new ≤
+            steps.old + cost_of d self.old.state (Prints (Abandon self.old.state.clock number)) }
     {
         if let Some(t) = self.task(number) {
             self.abandon(&t, steps);
@@ -441,7 +442,8 @@ impl Queues {
     fn run_next<L: Ledger>(&mut self, number: u32, steps: &mut Steps<L>)
         requires { IsNext self.old (Prints (Run self.old.state.clock number)) }
         ensures runs { self.new ≡ stepped self.old (Prints (Run self.old.state.clock number)) }
-        ensures count { (d : ℕ) → length self.old.state.tasks + 1 < 2 ^ d → steps.new ≤ steps.old + 6 * d }
+        ensures count { (d : ℕ) → length self.old.state.tasks + 1 < 2 ^ d → steps.new ≤
+            steps.old + cost_of d self.old.state (Prints (Run self.old.state.clock number)) }
     {
         if let Some(t) = self.task(number) {
             match t.role {
@@ -479,7 +481,9 @@ impl Queues {
     fn displace_held<L: Ledger>(&mut self, steps: &mut Steps<L>)
         requires numbered { IsNumberedFrom 0 self.old.state.tasks }
         requires free { running self.old.state ≡ None }
-        ensures { self.new ≡ in_state self.old (record { clock = self.old.state.clock; tasks = all_displaced self.old.state.tasks }) }
+        ensures waits { self.new ≡ in_state self.old (record { clock = self.old.state.clock; tasks = all_displaced self.old.state.tasks }) }
+        ensures count { (d : ℕ) → length self.old.state.tasks + 1 < 2 ^ d → steps.new ≤
+            steps.old + 2 * d * length (held self.old.state) }
     {
         while let Some(p) = self.first_held() {
             self.displace(&p, steps);
@@ -489,7 +493,9 @@ impl Queues {
     // The waiting job of number `starts` takes the processor from the running one. That and all held jobs wait.
     fn take_next<L: Ledger>(&mut self, stops: u32, starts: u32, steps: &mut Steps<L>)
         requires { IsNext self.old (Prints (Take self.old.state.clock stops starts)) }
-        ensures { self.new ≡ stepped self.old (Prints (Take self.old.state.clock stops starts)) }
+        ensures takes { self.new ≡ stepped self.old (Prints (Take self.old.state.clock stops starts)) }
+        ensures count { (d : ℕ) → length self.old.state.tasks + 1 < 2 ^ d → steps.new ≤
+            steps.old + cost_of d self.old.state (Prints (Take self.old.state.clock stops starts)) }
     {
         if let Some(r) = self.task(stops) {
             if let Some(x) = self.task(starts) {
@@ -503,7 +509,9 @@ impl Queues {
     /// The effect of the next step, which is printed.
     pub fn apply<L: Ledger>(&mut self, e: &Event, steps: &mut Steps<L>)
         requires { IsNext self.old (Prints e.now) }
-        ensures { self.new ≡ stepped self.old (Prints e.now) }
+        ensures applies { self.new ≡ stepped self.old (Prints e.now) }
+        ensures count { (d : ℕ) → length self.old.state.tasks + 1 < 2 ^ d → steps.new ≤
+            steps.old + cost_of d self.old.state (Prints e.now) }
     {
         match *e {
             Event::Release { number, job } => self.release_next(number, &job),
@@ -521,6 +529,8 @@ impl Queues {
         requires { IsNext self.old (WaitsFor number) }
         ensures waits { self.new ≡ stepped self.old (WaitsFor number) }
         ensures count { (d : ℕ) → length self.old.state.tasks + 1 < 2 ^ d → steps.new ≤ steps.old + 2 * d }
+        ensures cost { (d : ℕ) → length self.old.state.tasks + 1 < 2 ^ d → steps.new ≤
+            steps.old + cost_of d self.old.state (WaitsFor number) }
     {
         if let Some(t) = self.task(number) {
             self.wait(&t, steps);

@@ -1,27 +1,62 @@
-use Rattle.std.proofs.Common.{◌∙◌, ◌+◌, ◌-◌, ◌≤◌, sym, ap, subst, arith}
-use Rattle.plain_step.specs.Moves.{step_of, state_at}
+use Rattle.std.proofs.Common.{◌∙◌, ◌-◌, ◌≤◌, refl, sym, ap, subst, arith}
+use Rattle.dover_model.specs.Step.{Waits, Ticks}
+use Rattle.dover_model.specs.Jumps.{later_by}
+use Rattle.queued_jobs.specs.Moves.{step_of}
+use Rattle.queued_jobs.specs.Queued.{Queued}
+use Rattle.dover_core.specs.Counting.{IsCounted}
 use Rattle.dover_core.specs.Ways.{GoesOn, last_clock}
-use Rattle.dover_core.proofs.Going.{waits_on, jumps_on, ticks_fit, silent_tick}
+use Rattle.dover_core.proofs.Counted.{counted_one, counted_silent}
+use Rattle.dover_core.proofs.Going.{waits_on, jumps_on, ticks_fit, silent_tick, next_in}
 use Rattle.dover_core.proofs.machine.go_on.Goals as goal
 
-pub returns-in-Waits : goal.returns-in-Waits
-returns-in-Waits c = subst (λ tasks. GoesOn c.args.to (record { ratio = c.args.k; version = c.args.version })
-    (state_at c.args.clock.now c.args.tasks.now) (state_at c.args.clock.now tasks)) (sym c.wait.ensures)
-    (waits_on c.args.to (record { ratio = c.args.k; version = c.args.version }) (state_at c.args.clock.now c.args.tasks.now) c.requires.can
-    c.requires.may
-    c.in-Waits.number (c.requires.step ∙ ap step_of c.in-Waits.is))
+pub wait_next-requires : goal.wait_next-requires
+wait_next-requires g c =
+    next_in c.args.to c.args.queues.now c.requires.can (Waits c.in-Waits.number) (c.requires.step ∙ ap step_of c.in-Waits.is) refl
 
-pub returns-in_default : goal.returns-in_default
-returns-in_default c = subst (λ tasks. GoesOn c.args.to (record { ratio = c.args.k; version = c.args.version })
-    (state_at c.args.clock.now c.args.tasks.now) (state_at (c.args.clock.now + c.silent_ticks-count.result) tasks)) (sym c.tick.ensures)
-    (jumps_on c.args.to (record { ratio = c.args.k; version = c.args.version }) (state_at c.args.clock.now c.args.tasks.now) c.requires.can
-    c.requires.may
-    c.silent_ticks-count.result (c.requires.step ∙ silent_tick c.args.step.now c.requires.silent c.in_default.not-Waits)
-    fits c.silent_ticks-count.ensures.silent (λ rules less. c.silent_ticks-count.ensures.due rules (omega (arith, c.last_clock.ensures)))) where
-      fits : c.silent_ticks-count.result ≤ last_clock c.args.to - c.args.clock.now
-      fits = omega (arith, c.last_clock.ensures, c.silent_ticks-count.ensures.most)
+pub returns-in-Waits-clause-goes : goal.returns-in-Waits-clause-goes
+returns-in-Waits-clause-goes g c =
+    let q = c.args.queues.now in
+    subst (λ (p : Queued). GoesOn c.args.to q.rules q.state p.state) (sym c.wait_next.ensures.waits)
+    (waits_on c.args.to q.rules q.state c.requires.can c.requires.may c.in-Waits.number (c.requires.step ∙ ap step_of c.in-Waits.is))
 
-pub tick-requires : goal.tick-requires
-tick-requires c = ticks_fit c.args.to (record { ratio = c.args.k; version = c.args.version }) (state_at c.args.clock.now c.args.tasks.now)
-    c.requires.can
-    c.silent_ticks-count.result (omega (arith, c.last_clock.ensures, c.silent_ticks-count.ensures.most))
+pub silent_ticks-ticks-requires : goal.silent_ticks-ticks-requires
+silent_ticks-ticks-requires g c =
+    next_in c.args.to c.args.queues.now c.requires.can Ticks
+    (c.requires.step ∙ silent_tick c.args.step.now c.requires.silent c.in_default.not-Waits) refl
+
+pub tick-requires-clause-last : goal.tick-requires-clause-last
+tick-requires-clause-last g c =
+    let q = c.args.queues.now in
+    ticks_fit c.args.to q.rules q.state c.requires.can c.silent_ticks-ticks.result
+    (omega (arith, c.last_clock.ensures, c.clock.ensures, c.silent_ticks-ticks.ensures.most))
+
+pub returns-in_default-clause-goes : goal.returns-in_default-clause-goes
+returns-in_default-clause-goes g c =
+    let q = c.args.queues.now in
+    let ticks = c.silent_ticks-ticks.result in
+    let fits : ticks ≤ last_clock c.args.to - q.state.clock =
+    omega (arith, c.last_clock.ensures, c.clock.ensures, c.silent_ticks-ticks.ensures.most) in
+    subst (λ (p : Queued). GoesOn c.args.to q.rules q.state p.state) (sym c.tick.ensures)
+    (jumps_on c.args.to q.rules q.state c.requires.can c.requires.may ticks
+    (c.requires.step ∙ silent_tick c.args.step.now c.requires.silent c.in_default.not-Waits) fits c.silent_ticks-ticks.ensures.due
+    (λ some. c.silent_ticks-ticks.ensures.some (omega (arith, some, c.last_clock.ensures, c.clock.ensures))))
+
+pub returns-in-Waits-clause-count : goal.returns-in-Waits-clause-count
+returns-in-Waits-clause-count g c d fits =
+    let q = c.args.queues.now in
+    subst (λ (p : Queued). IsCounted c.args.to q.rules q.state p.state d c.args.steps.now c.wait_next.new.steps) (sym c.wait_next.ensures.waits)
+    (counted_one c.args.to q.rules q.state (Waits c.in-Waits.number) d c.args.steps.now c.wait_next.new.steps c.requires.may
+    (c.requires.step ∙ ap step_of c.in-Waits.is) (c.wait_next.ensures.cost d fits))
+
+pub returns-in_default-clause-count : goal.returns-in_default-clause-count
+returns-in_default-clause-count g c d fits =
+    let q = c.args.queues.now in
+    let ticks = c.silent_ticks-ticks.result in
+    let within : ticks ≤ last_clock c.args.to - q.state.clock =
+    omega (arith, c.last_clock.ensures, c.clock.ensures, c.silent_ticks-ticks.ensures.most) in
+    let goes : GoesOn c.args.to q.rules q.state (later_by ticks q.state) =
+    jumps_on c.args.to q.rules q.state c.requires.can c.requires.may ticks
+    (c.requires.step ∙ silent_tick c.args.step.now c.requires.silent c.in_default.not-Waits) within c.silent_ticks-ticks.ensures.due
+    (λ some. c.silent_ticks-ticks.ensures.some (omega (arith, some, c.last_clock.ensures, c.clock.ensures))) in
+    subst (λ (p : Queued). IsCounted c.args.to q.rules q.state p.state d c.args.steps.now c.args.steps.now) (sym c.tick.ensures)
+    (counted_silent c.args.to q.rules q.state (later_by ticks q.state) d c.args.steps.now goes.lead)

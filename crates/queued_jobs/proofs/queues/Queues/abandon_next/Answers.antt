@@ -9,6 +9,7 @@ use Rattle.dover_model.proofs.Tests.{none_is_some}
 use Rattle.dover_model.proofs.Kept.{open_deed}
 use Rattle.queued_jobs.specs.Queued.{instance_of, with_job_in}
 use Rattle.queued_jobs.proofs.Inverting.{abandons_says, task_at, same_task}
+use Rattle.queued_jobs.proofs.Costs.{abandon_leaves, one_leaves}
 use Rattle.queued_jobs.proofs.queues.Queues.abandon_next.Goals as goal
 
 pub abandon-requires-clause-found : goal.abandon-requires-clause-found
@@ -56,3 +57,13 @@ returns-in_default-clause-gone g c =
     let it = abandons_says q.rules.version q.rules.ratio q.state c.requires.sound q.state.clock c.args.number (open_step q.rules q.state)
     (open_deed (instance_of q) c.requires.valid q.state keeps q.rules) c.requires.step in
     none_is_some (sym c.in_default.is ∙ same_task tasks c.args.number c.task.result it.task all it.member it.number c.task.ensures)
+
+pub returns-in-Some-clause-count : goal.returns-in-Some-clause-count
+returns-in-Some-clause-count g c d fits =
+    let q = c.args.self.now in
+    let tasks = q.state.tasks in
+    let all = c.requires.sound.numbered in
+    let keeps : Keeps (instance_of q) q.state = record { sound = c.requires.sound; jobs = refl } in
+    let it = abandons_says q.rules.version q.rules.ratio q.state c.requires.sound q.state.clock c.args.number (open_step q.rules q.state)
+    (open_deed (instance_of q) c.requires.valid q.state keeps q.rules) c.requires.step in
+    one_leaves d _ _ _ _ (c.abandon.ensures.count d fits) (abandon_leaves q.state it.task it.member q.state.clock c.args.number it.role it.number)

@@ -11,6 +11,7 @@ use Rattle.dover_model.proofs.Tests.{none_is_some}
 use Rattle.dover_model.proofs.Kept.{open_deed}
 use Rattle.queued_jobs.specs.Queued.{instance_of, with_job_in}
 use Rattle.queued_jobs.proofs.Inverting.{runs_says, task_at, same_task, in_time}
+use Rattle.queued_jobs.proofs.Costs.{run_leaves, one_leaves}
 use Rattle.queued_jobs.proofs.queues.Queues.run_next.Goals as goal
 
 pub resume-requires-clause-top : goal.resume-requires-clause-top
@@ -167,3 +168,16 @@ returns-in_default-clause-runs g c =
     let it = runs_says q.rules.version q.rules.ratio q.state c.requires.sound q.state.clock c.args.number (open_step q.rules q.state)
     (open_deed (instance_of q) c.requires.valid q.state keeps q.rules) c.requires.step in
     none_is_some (sym c.in_default.is ∙ same_task tasks c.args.number c.task.result it.task all it.member it.number c.task.ensures)
+
+pub returns-in-Waiting-clause-count : goal.returns-in-Waiting-clause-count
+returns-in-Waiting-clause-count g c d fits =
+    let q = c.args.self.now in
+    let tasks = q.state.tasks in
+    let all = c.requires.sound.numbered in
+    let keeps : Keeps (instance_of q) q.state = record { sound = c.requires.sound; jobs = refl } in
+    let it = runs_says q.rules.version q.rules.ratio q.state c.requires.sound q.state.clock c.args.number (open_step q.rules q.state)
+    (open_deed (instance_of q) c.requires.valid q.state keeps q.rules) c.requires.step in
+    let t = c.in-Some.t in
+    let same : t ≡ it.task = some_same t it.task (same_task tasks c.args.number (Some t) it.task all it.member it.number c.in-Some.ensures) in
+    one_leaves d _ _ _ _ (c.start.ensures.count d fits)
+    (run_leaves q.state it.task it.member q.state.clock c.args.number (sym (ap (λ (x : Task). x.role) same) ∙ c.in-Waiting.is) it.number)
