@@ -14,3 +14,6 @@ pub mod Turns
 pub mod Records
 pub mod Lengths
 pub mod Shorts
+pub mod Spending
+pub mod Admitted
+pub mod Frugal

@@ -189,7 +189,7 @@ module _ (x bytes : List ℕ) (i : ℕ) (before : i < length bytes) where
   next_bytes = append_assoc x (take i bytes) (get_or bytes i 0 ∷ []) ∙ ap (λ l. x ++ l) (sym (take_more bytes i 0 before))
 
   -- and those behind them
-  rest_bytes : ((x ++ take i bytes) ++ get_or bytes i 0 ∷ []) ++ drop (i + 1) bytes ≡ x ++ bytes
+  pub rest_bytes : ((x ++ take i bytes) ++ get_or bytes i 0 ∷ []) ++ drop (i + 1) bytes ≡ x ++ bytes
   rest_bytes = ap (λ l. l ++ drop (i + 1) bytes) next_bytes ∙ append_assoc x (take (i + 1) bytes) (drop (i + 1) bytes)
       ∙ ap (λ l. x ++ l) (take-append-drop (i + 1) bytes)
 

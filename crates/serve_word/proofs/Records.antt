@@ -1,11 +1,11 @@
 -- How the record of a call grows, turn by turn, and how it ends.
-use Rattle.std.proofs.Common.{◌≡◌, ◌≤◌, ◌<◌, ◌+◌, ◌*◌, ℕ, suc, List, ◌∷◌, ◌++◌, [], length, refl, sym, ap, ◌∙◌, subst, Option, Ok, Err, arith}
-use Rattle.std.proofs.Common.{append_assoc, true, false, Bool, cond, inl, inr, ◌⊎◌}
+use Rattle.std.proofs.Common.{◌≡◌, ℕ, List, ◌∷◌, ◌++◌, [], refl, sym, ap, ◌∙◌, subst, Option}
+use Rattle.std.proofs.Common.{append_assoc, true, false, inl, inr}
 use Rattle.std.proofs.lemmas.List.{append-nil}
 use Rattle.dover_model.specs.Feed as feeds
 use Rattle.dover_model.specs.Feed.{Account, Standing, is_open, is_ended, account, account_of_lines, Short}
-use Rattle.dover_model.specs.Due.{due, due_lines, closed, short_lines, fault_text}
-use Rattle.dover_model.specs.Lines.{in_lines, lines_of, whole_lines, rest_of, is_too_long}
+use Rattle.dover_model.specs.Due.{due, closed, short_lines}
+use Rattle.dover_model.specs.Lines.{in_lines}
 use Rattle.dover_model.specs.WholeRun.{Begins}
 use Rattle.dover_port.specs.Moves.{Move, Since, ArePuts, ins, outs, has_ended, EachRead, IsProperPrefix}
 use Rattle.dover_port.specs.Moves.Move.{Got, Ended}
@@ -15,10 +15,9 @@ use Rattle.dover_port.proofs.Made.{since_then, since_then_at, ins-append, outs-a
 use Rattle.dover_port.proofs.Made.{EachReadFrom-append, EachReadFrom-puts}
 use Rattle.serve_word.specs.Delivered.{IsDeclared, IsFaulty}
 use Rattle.serve_word.specs.Feeding.{FeedStands}
-use Rattle.serve_word.specs.Record.{MayRead, GoesOn, Serves, Gets, TurnMakes, Finishes, short_text}
+use Rattle.serve_word.specs.Record.{MayRead, GoesOn, Serves, TurnMakes, Finishes, short_text}
 use Rattle.serve_word.specs.declared.feed.Feed.{Feed}
 use Rattle.serve_word.specs.declared.turn.Turn.TheVariants as turn
-use Rattle.serve_word.proofs.Pieces.{ended_closed}
 
 -- ---- what stands for bytes
 

@@ -1,12 +1,12 @@
 -- What is written where the input ends before the feed.
-use Rattle.std.proofs.Common.{◌≡◌, ℕ, suc, List, ◌∷◌, ◌++◌, [], length, refl, sym, ap, ◌∙◌, subst, Option, Result, Err, cond, true, false, ◌⊎◌, inl}
+use Rattle.std.proofs.Common.{◌≡◌, ℕ, suc, List, ◌∷◌, ◌++◌, [], length, sym, ap, ◌∙◌, subst, Option, Err, cond, true, false, inl}
 use Rattle.std.proofs.Common.{inr}
 use Rattle.std.proofs.lemmas.List.{append-nil}
 use Rattle.dover_model.specs.Feed as feeds
 use Rattle.dover_model.specs.Feed.{is_open, account, account_of_lines}
 use Rattle.dover_model.specs.Due.{fault_text}
 use Rattle.dover_model.specs.Lines.{in_lines, lines_of, whole_lines, rest_of}
-use Rattle.dover_port.specs.Moves.{Move, Since, ArePuts, IsProperPrefix, Passes, CutsShort, outs}
+use Rattle.dover_port.specs.Moves.{Move, IsProperPrefix, Passes, CutsShort, outs}
 use Rattle.dover_port.proofs.Made.{since_weaker}
 use Rattle.dover_port.proofs.Through.{passes_then, passes_then_cut}
 use Rattle.dover_port.specs.declared.status.Status.TheVariants.{Refused, WriteFault}

@@ -25,7 +25,7 @@ pub no_input : (a b : Option (List Move)) (buf : List ℕ) (n : ℕ) → n ≡ 0
 no_input a b buf n none moved = subst (λ m. Adds a b (read_move (take m buf))) none moved
 
 -- some bytes were got
-got_some : (bytes : List ℕ) → 0 < length bytes → read_move bytes ≡ Got bytes
+pub got_some : (bytes : List ℕ) → 0 < length bytes → read_move bytes ≡ Got bytes
 got_some [] some = absurd (omega arith)
 got_some (b ∷ bytes) some = refl
 

@@ -3,3 +3,4 @@ pub mod Delivered
 pub mod Session
 pub mod Feeding
 pub mod Record
+pub mod Spending

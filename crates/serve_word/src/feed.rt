@@ -1,9 +1,10 @@
 //! What is kept of a feed between its bytes, and what a piece delivers.
-ghost use Rattle.std.specs.Prelude.{◌≡◌, ◌∷◌, ◌++◌, ℕ, List, [], Ok};
+ghost use Rattle.std.specs.Prelude.{◌≡◌, ◌≤◌, ◌∷◌, ◌++◌, ℕ, List, [], Ok};
 ghost use Rattle.dover_model.specs.Feed.{account};
 ghost use Rattle.serve_word.specs.Delivered.{Delivers};
 ghost use Rattle.serve_word.specs.Feeding.{FeedStands};
 ghost use Rattle.serve_word.specs.Session.{StopCause};
+ghost use Rattle.serve_word.specs.Spending.{Spends, admitted_in, jobs_in};
 ghost use Rattle.serve_word.specs.declared.progress.Progress.TheVariants.{Open};
 
 use crate::progress::{Progress, Stop};
@@ -50,6 +51,8 @@ fn take_byte<P: Port, L: Ledger>(
     ensures delivers { (x : List ℕ) → FeedStands feed.old x →
         Delivers result (P.moves port.old) (P.moves port.new) out.old out.new (account x) (account (x ++ byte ∷ [])) feed.new.session.server }
     ensures stands { (x : List ℕ) → FeedStands feed.old x → result ≡ Ok Open → FeedStands feed.new (x ++ byte ∷ []) }
+    ensures jobs { (x : List ℕ) → FeedStands feed.old x → jobs_in feed.new.session.server ≤ admitted_in (account (x ++ byte ∷ [])) }
+    ensures count { Spends feed.old.session.server feed.new.session.server steps.old steps.new }
     ensures cause { StopCause result (P.write_faults port.old) (P.write_faults port.new) (P.read_faults port.old) (P.read_faults port.new) }
 {
     match feed.lines.push(byte) {
@@ -71,6 +74,8 @@ pub(crate) fn take_piece<P: Port, L: Ledger>(
     ensures delivers { (x : List ℕ) → FeedStands feed.old x →
         Delivers result (P.moves port.old) (P.moves port.new) out.old out.new (account x) (account (x ++ bytes.now)) feed.new.session.server }
     ensures stands { (x : List ℕ) → FeedStands feed.old x → result ≡ Ok Open → FeedStands feed.new (x ++ bytes.now) }
+    ensures jobs { (x : List ℕ) → FeedStands feed.old x → jobs_in feed.new.session.server ≤ admitted_in (account (x ++ bytes.now)) }
+    ensures count { Spends feed.old.session.server feed.new.session.server steps.old steps.new }
     ensures cause { StopCause result (P.write_faults port.old) (P.write_faults port.new) (P.read_faults port.old) (P.read_faults port.new) }
 {
     for byte in bytes {

@@ -2,7 +2,7 @@
 ghost use Rattle.std.specs.Prelude.{◌≡◌, ℕ, List};
 ghost use Rattle.dover_port.specs.Moves.{Since};
 ghost use Rattle.serve_word.specs.Feeding.{FeedStands};
-ghost use Rattle.serve_word.specs.Record.{Serves, Causes, IsAnswer, Finishes, short_text};
+ghost use Rattle.serve_word.specs.Record.{Serves, Causes, IsAnswer, IsFrugal, Finishes, short_text};
 
 use crate::feed::Feed;
 use crate::lines::put_fault;
@@ -43,6 +43,7 @@ fn refuse_short<P: Port>(port: &mut P, feed: &Feed) -> Status
 /// settled before the next read. Memory is taken at the ratio line and for each admitted job alone.
 pub fn serve_word<P: Port, L: Ledger>(alloc: Global, port: &mut P, steps: &mut Steps<L>) -> Status
     ensures serves { Since (P.moves port.old) (P.moves port.new) (Serves result) }
+    ensures count { Since (P.moves port.old) (P.moves port.new) (IsFrugal steps.old steps.new) }
     ensures answer { IsAnswer result }
     ensures causes { Causes result (P.read_faults port.old) (P.read_faults port.new) (P.write_faults port.old) (P.write_faults port.new) }
 {

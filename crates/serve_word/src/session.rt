@@ -1,5 +1,5 @@
 //! What is kept of a feed between its lines, and what a line delivers.
-ghost use Rattle.std.specs.Prelude.{◌≡◌, ◌∷◌, ◌++◌, ℕ, List, [], Ok, Some, codes, decimal};
+ghost use Rattle.std.specs.Prelude.{◌≡◌, ◌≤◌, ◌+◌, ◌∷◌, ◌++◌, ℕ, List, [], Ok, Some, codes, decimal};
 ghost use Rattle.dover_model.specs.Lines.{line_of};
 ghost use Rattle.dover_model.specs.JobFacts.{JobFacts, job_of_numbers};
 ghost use Rattle.dover_model.specs.Feed.{Account, account_of_lines};
@@ -13,6 +13,7 @@ ghost use Rattle.trace_format.specs.declared.lines.TraceLine.TheVariants.{Refuse
 ghost use Rattle.dover_model.specs.declared.events.Refusal.{Refusal};
 ghost use Rattle.serve_word.specs.Delivered.{Delivers};
 ghost use Rattle.serve_word.specs.Session.{IsOpenAt, Keeps, StopCause};
+ghost use Rattle.serve_word.specs.Spending.{Spends, admitted_in, jobs_fed, jobs_in};
 ghost use Rattle.event_feed.specs.declared.Fed.TheVariants.{Over};
 ghost use Rattle.serve_word.specs.declared.progress.Progress.TheVariants.{Open};
 
@@ -48,6 +49,9 @@ fn declare<P: Port>(
         Delivers result (P.moves port.old) (P.moves port.new) out.old out.new a b session.new.server }
     ensures mark { session.new.mark ≡ session.old.mark }
     ensures intake { session.new.intake ≡ session.old.intake }
+    ensures jobs { jobs_in session.new.server ≤ jobs_in session.old.server }
+    ensures count { (a b : Account) → IsOpenAt a session.old.server session.old.mark → DeclaresRatio k version (counted a) b → (steps : ℕ) →
+        Spends session.old.server session.new.server steps steps }
     ensures cause { StopCause result (P.write_faults port.old) (P.write_faults port.new) (P.read_faults port.old) (P.read_faults port.new) }
 {
     let Ok(server) = Server::new(session.alloc, version, k) else {
@@ -110,6 +114,8 @@ fn advance<P: Port, L: Ledger>(
         Delivers result (P.moves port.old) (P.moves port.new) out.old out.new a b session.new.server }
     ensures mark { session.new.mark ≡ mark }
     ensures intake { session.new.intake ≡ session.old.intake }
+    ensures jobs { jobs_in session.new.server ≤ jobs_in session.old.server }
+    ensures count { Spends session.old.server session.new.server steps.old steps.new }
     ensures cause { StopCause result (P.write_faults port.old) (P.write_faults port.new) (P.read_faults port.old) (P.read_faults port.new) }
 {
     session.mark = mark;
@@ -133,6 +139,8 @@ fn end<P: Port, L: Ledger>(
         Delivers result (P.moves port.old) (P.moves port.new) out.old out.new a b session.new.server }
     ensures ended { result ≡ Ok Open → ⊥ }
     ensures intake { session.new.intake ≡ session.old.intake }
+    ensures jobs { jobs_in session.new.server ≤ jobs_in session.old.server }
+    ensures count { Spends session.old.server session.new.server steps.old steps.new }
     ensures cause { StopCause result (P.write_faults port.old) (P.write_faults port.new) (P.read_faults port.old) (P.read_faults port.new) }
 {
     let Some(server) = &mut session.server else {
@@ -156,6 +164,8 @@ fn arrive<P: Port, L: Ledger>(
         Delivers result (P.moves port.old) (P.moves port.new) out.old out.new a b session.new.server }
     ensures mark { session.new.mark ≡ job.release }
     ensures intake { session.new.intake ≡ session.old.intake }
+    ensures jobs { jobs_in session.new.server ≤ jobs_in session.old.server + 1 }
+    ensures count { Spends session.old.server session.new.server steps.old steps.new }
     ensures cause { StopCause result (P.write_faults port.old) (P.write_faults port.new) (P.read_faults port.old) (P.read_faults port.new) }
 {
     let release = job.release();
@@ -195,6 +205,8 @@ fn take_fed<P: Port, L: Ledger>(
         session.new.mark ≡ b.mark }
     ensures goes_on { result ≡ Ok Open → fed ≡ Over → ⊥ }
     ensures intake { session.new.intake ≡ session.old.intake }
+    ensures jobs { jobs_in session.new.server ≤ jobs_in session.old.server + jobs_fed fed }
+    ensures count { Spends session.old.server session.new.server steps.old steps.new }
     ensures cause { StopCause result (P.write_faults port.old) (P.write_faults port.new) (P.read_faults port.old) (P.read_faults port.new) }
 {
     match fed {
@@ -235,6 +247,9 @@ pub(crate) fn take_line<P: Port, L: Ledger>(
         Delivers result (P.moves port.old) (P.moves port.new) out.old out.new (account_of_lines ls) (account_of_lines (ls ++ line.now ∷ []))
         session.new.server }
     ensures keeps { (ls : List (List ℕ)) → Keeps session.old ls → result ≡ Ok Open → Keeps session.new (ls ++ line.now ∷ []) }
+    ensures jobs { (ls : List (List ℕ)) → Keeps session.old ls →
+        jobs_in session.new.server ≤ admitted_in (account_of_lines (ls ++ line.now ∷ [])) }
+    ensures count { Spends session.old.server session.new.server steps.old steps.new }
     ensures cause { StopCause result (P.write_faults port.old) (P.write_faults port.new) (P.read_faults port.old) (P.read_faults port.new) }
 {
     match session.intake.line(line) {

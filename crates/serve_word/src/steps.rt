@@ -1,9 +1,10 @@
 //! The steps of a server, each on its line.
-ghost use Rattle.std.specs.Prelude.{◌≡◌, false};
+ghost use Rattle.std.specs.Prelude.{◌≡◌, false, Some};
 ghost use Rattle.dover_port.specs.Causes.{HasCause};
-ghost use Rattle.dover_core.specs.Service.{MayFollow};
+ghost use Rattle.dover_core.specs.Service.{MayFollow, list_of};
 ghost use Rattle.dover_core.specs.declared.horizon.Horizon.TheVariants.{Mark, End};
 ghost use Rattle.serve_word.specs.Served.{CanGoOn, Settles, Finishes};
+ghost use Rattle.serve_word.specs.Spending.{Spends};
 
 use crate::lines::put_event;
 use dover_core::{Horizon, Server};
@@ -22,6 +23,8 @@ pub(crate) fn settle<P: Port, L: Ledger>(
     requires can { CanGoOn server.old }
     requires follows { MayFollow server.old.last (Mark mark) }
     ensures settles { Settles (P.moves port.old) (P.moves port.new) result out.old out.new mark server.old server.new }
+    ensures jobs { list_of server.new ≡ list_of server.old }
+    ensures count { Spends (Some server.old) (Some server.new) steps.old steps.new }
     ensures cause { HasCause (P.write_faults port.old) (P.write_faults port.new) (P.read_faults port.old) (P.read_faults port.new) result }
 {
     while let Some(event) = server.step(Horizon::Mark(mark), steps) {
@@ -44,6 +47,8 @@ pub(crate) fn finish<P: Port, L: Ledger>(
     requires can { CanGoOn server.old }
     requires follows { MayFollow server.old.last End }
     ensures finishes { Finishes (P.moves port.old) (P.moves port.new) result out.old out.new server.old }
+    ensures jobs { list_of server.new ≡ list_of server.old }
+    ensures count { Spends (Some server.old) (Some server.new) steps.old steps.new }
     ensures cause { HasCause (P.write_faults port.old) (P.write_faults port.new) (P.read_faults port.old) (P.read_faults port.new) result }
 {
     while let Some(event) = server.step(Horizon::End, steps) {

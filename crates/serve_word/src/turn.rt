@@ -1,8 +1,10 @@
 //! One turn of the reading loop: a read, and the writes that are due for what it gave.
 ghost use Rattle.std.specs.Prelude.{◌≡◌, ◌<◌, ◌≤◌, ◌+◌, ◌++◌, ℕ, List, [], length};
-ghost use Rattle.dover_port.specs.Moves.{Since};
+ghost use Rattle.dover_model.specs.Feed.{account};
+ghost use Rattle.dover_port.specs.Moves.{Since, ins};
 ghost use Rattle.serve_word.specs.Feeding.{FeedStands};
 ghost use Rattle.serve_word.specs.Record.{TurnMakes, TurnCauses, turn_of};
+ghost use Rattle.serve_word.specs.Spending.{Spends, admitted_in, jobs_in};
 ghost use Rattle.serve_word.specs.declared.turn.Turn.TheVariants.{More, NoInput};
 
 use crate::feed::{Feed, take_piece};
@@ -56,6 +58,9 @@ pub(crate) fn take_turn<P: Port, L: Ledger>(
     ensures stands { (x : List ℕ) → FeedStands feed.old x → result ≡ More →
         (bytes : List ℕ) × (0 < length bytes) × FeedStands feed.new (x ++ bytes) }
     ensures input { result ≡ NoInput → feed.new ≡ feed.old }
+    ensures jobs { (x : List ℕ) → FeedStands feed.old x →
+        Since (P.moves port.old) (P.moves port.new) (λ moves. jobs_in feed.new.session.server ≤ admitted_in (account (x ++ ins moves))) }
+    ensures count { Spends feed.old.session.server feed.new.session.server steps.old steps.new }
     ensures causes { TurnCauses result (P.read_faults port.old) (P.read_faults port.new) (P.write_faults port.old) (P.write_faults port.new) }
 {
     let Ok(count) = port.read(buf) else {

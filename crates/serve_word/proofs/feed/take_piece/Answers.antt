@@ -1,6 +1,8 @@
 use Rattle.std.proofs.Common.{Ok, ap, subst, arith}
 use Rattle.serve_word.specs.Feeding.{FeedStands}
 use Rattle.serve_word.proofs.Pieces.{piece_next, piece_ended, piece_refused, piece_stopped, next_bytes}
+use Rattle.serve_word.proofs.Spending.{spends_then}
+use Rattle.serve_word.proofs.Admitted.{piece_jobs}
 use Rattle.serve_word.proofs.feed.take_piece.Goals as goal
 
 pub take_byte-requires : goal.take_byte-requires
@@ -27,6 +29,28 @@ loop-byte-preserved g c = record {
       (rw c.in-Ok-Open.field-0-is at (c.in-Ok-Open.ensures.delivers _ (c.loop-byte.invariant.stands x stands)));
   stands = λ x stands. subst (FeedStands c.take_byte.new.feed) (next_bytes x c.args.bytes.now c.loop-byte.byte-index c.loop-byte-test.true)
       (c.in-Ok-Open.ensures.stands _ (c.loop-byte.invariant.stands x stands) (ap Ok c.in-Ok-Open.field-0-is));
+  count = spends_then _ _ _ _ _ _ c.loop-byte.invariant.count c.in-Ok-Open.ensures.count;
   writes = grind arith;
   reads = grind arith;
 }
+
+pub returns-in-Ok-Ended-clause-jobs : goal.returns-in-Ok-Ended-clause-jobs
+returns-in-Ok-Ended-clause-jobs g c = λ x stands. piece_jobs x c.args.bytes.now c.loop-byte.byte-index c.loop-byte-test.true _
+    (c.in-Ok-Ended.ensures.jobs _ (c.loop-byte.invariant.stands x stands))
+
+pub returns-in-Ok-Ended-clause-count : goal.returns-in-Ok-Ended-clause-count
+returns-in-Ok-Ended-clause-count g c = spends_then _ _ _ _ _ _ c.loop-byte.invariant.count c.in-Ok-Ended.ensures.count
+
+pub returns-in-Ok-Refused-clause-jobs : goal.returns-in-Ok-Refused-clause-jobs
+returns-in-Ok-Refused-clause-jobs g c = λ x stands. piece_jobs x c.args.bytes.now c.loop-byte.byte-index c.loop-byte-test.true _
+    (c.in-Ok-Refused.ensures.jobs _ (c.loop-byte.invariant.stands x stands))
+
+pub returns-in-Ok-Refused-clause-count : goal.returns-in-Ok-Refused-clause-count
+returns-in-Ok-Refused-clause-count g c = spends_then _ _ _ _ _ _ c.loop-byte.invariant.count c.in-Ok-Refused.ensures.count
+
+pub returns-in-Err-clause-jobs : goal.returns-in-Err-clause-jobs
+returns-in-Err-clause-jobs g c = λ x stands. piece_jobs x c.args.bytes.now c.loop-byte.byte-index c.loop-byte-test.true _
+    (c.in-Err.ensures.jobs _ (c.loop-byte.invariant.stands x stands))
+
+pub returns-in-Err-clause-count : goal.returns-in-Err-clause-count
+returns-in-Err-clause-count g c = spends_then _ _ _ _ _ _ c.loop-byte.invariant.count c.in-Err.ensures.count

@@ -1,7 +1,8 @@
-use Rattle.std.proofs.Common.{◌≡◌, ◌≤◌, ◌-◌, ℕ, List, [], length}
+use Rattle.std.proofs.Common.{None, ◌≡◌, ◌≤◌, ◌-◌, ℕ, List, [], length}
 use Rattle.dover_port.specs.Moves.{Since}
 use Rattle.serve_word.specs.Feeding.{FeedStands}
 use Rattle.serve_word.specs.Record.{GoesOn}
+use Rattle.serve_word.specs.Spending.{Spends}
 use Rattle.serve_word.proofs.serve.serve_word.Given as goal
 
 -- The feed goes on, what is due for it was put, and each read gave a byte.
@@ -10,6 +11,7 @@ invariant-loop-reads g l = record {
   moves : Since (g.P.Port.moves l.initial.port) (g.P.Port.moves l.port) (GoesOn l.feed);
   empty : l.out ≡ [];
   stands : (x : List ℕ) × (l.reads ≤ length x) × FeedStands l.feed x;
+  count : Spends None l.feed.session.server l.initial.steps l.steps;
   read_faults : g.P.Port.read_faults l.port ≡ g.P.Port.read_faults l.initial.port;
   write_faults : g.P.Port.write_faults l.port ≡ g.P.Port.write_faults l.initial.port;
 }

@@ -2,6 +2,7 @@ use Rattle.std.proofs.Common.{refl, subst, Some}
 use Rattle.serve_word.specs.Session.{IsOpenAt}
 use Rattle.serve_word.proofs.Answering.{settles_at, arrival_none, arrival_can, arrival_cut, arrival_valid, admitted_can}
 use Rattle.serve_word.proofs.Answering.{arrival_delivers, arrival_part}
+use Rattle.serve_word.proofs.Spending.{arrival_spends}
 use Rattle.serve_word.proofs.session.arrive.Goals as goal
 
 pub returns-in-Err-clause-delivers : goal.returns-in-Err-clause-delivers
@@ -44,3 +45,11 @@ returns-in-Err-settle-2-clause-delivers g c = λ n a b at adds. arrival_part a b
     (subst (λ o. IsOpenAt a o c.args.session.now.mark) c.in-Some.is at) adds _ _ c.in-Ok.ensures.kept _ _ _ _ _ tt
     (settles_at _ _ _ _ _ _ _ _ _ c.release-release.ensures.is c.in-Ok-settle.ensures.settles) _ _ c.in-Ok-admit.ensures.ok _ _ _ _ _
     (settles_at _ _ _ _ _ _ _ _ _ c.release-release.ensures.is c.in-Err-settle-2.ensures.settles)
+
+pub returns-in-Ok-settle-2-clause-count : goal.returns-in-Ok-settle-2-clause-count
+returns-in-Ok-settle-2-clause-count g c = arrival_spends _ _ _ _ _ _ _ _ _ _ _ _ c.in-Some.is c.in-Ok.ensures.kept
+    c.in-Ok-settle.ensures.count c.in-Ok-admit.ensures.ok c.in-Ok-settle-2.ensures.count
+
+pub returns-in-Err-settle-2-clause-count : goal.returns-in-Err-settle-2-clause-count
+returns-in-Err-settle-2-clause-count g c = arrival_spends _ _ _ _ _ _ _ _ _ _ _ _ c.in-Some.is c.in-Ok.ensures.kept
+    c.in-Ok-settle.ensures.count c.in-Ok-admit.ensures.ok c.in-Err-settle-2.ensures.count

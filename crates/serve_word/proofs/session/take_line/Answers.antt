@@ -2,6 +2,7 @@ use Rattle.std.proofs.Common.{◌∷◌, ◌++◌, [], sym, ap, ◌∙◌, subst
 use Rattle.event_feed.specs.Kept as feed
 use Rattle.dover_model.specs.Feed.{account_of_lines}
 use Rattle.serve_word.proofs.Keeping.{open_next, new_fault, not_then}
+use Rattle.serve_word.proofs.Admitted.{line_jobs}
 use Rattle.serve_word.proofs.session.take_line.Goals as goal
 
 pub take_fed-requires : goal.take_fed-requires
@@ -25,3 +26,6 @@ returns-in-Ok-clause-keeps g c = λ ls keeps is. record {
 pub returns-in-Err-clause-delivers : goal.returns-in-Err-clause-delivers
 returns-in-Err-clause-delivers g c = λ ls keeps. c.refuse.ensures.delivers _ _ _
     (new_fault _ _ _ _ keeps.at.stands (c.in-Err.ensures.answer ls keeps.intake))
+
+pub returns-in-Ok-clause-jobs : goal.returns-in-Ok-clause-jobs
+returns-in-Ok-clause-jobs g c = λ ls keeps. line_jobs _ _ _ _ _ keeps.at.fits (c.in-Ok.ensures.answer ls keeps.intake).1 c.take_fed.ensures.jobs

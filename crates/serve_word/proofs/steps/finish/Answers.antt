@@ -1,6 +1,7 @@
 use Rattle.std.proofs.Common.{refl, ◌∙◌, arith}
 use Rattle.serve_word.proofs.Finishing.{finishing_starts, finishing_next, finishing_cut, finishing_ends}
 use Rattle.serve_word.proofs.Short.{stands_can, short_at_end, goes_on_while, ended_now}
+use Rattle.serve_word.proofs.Spending.{step_spends, spends_none, spends_then}
 use Rattle.serve_word.proofs.steps.finish.Goals as goal
 
 pub loop-event-init : goal.loop-event-init
@@ -9,6 +10,8 @@ loop-event-init g c = record {
   can = c.requires.can;
   follows = c.requires.follows;
   rules = refl;
+  jobs = refl;
+  count = spends_none _ _;
   writes = refl;
   reads = refl;
 }
@@ -25,6 +28,9 @@ loop-event-preserved g c = record {
   can = stands_can _ c.in-Some.ensures.stands;
   follows = rw c.in-Some.ensures.last tt;
   rules = c.in-Some.ensures.rules ∙ c.loop-event.invariant.rules;
+  jobs = c.in-Some.ensures.list ∙ c.loop-event.invariant.jobs;
+  count = spends_then _ _ _ _ _ _ c.loop-event.invariant.count
+      (step_spends _ _ _ _ _ c.loop-event.invariant.can c.in-Some.ensures.list c.in-Some.ensures.count);
   writes = grind arith;
   reads = grind arith;
 }
@@ -35,3 +41,11 @@ returns-in-Err-clause-finishes g c = finishing_cut _ _ _ _ _ _ _ _ c.step.new.se
 
 pub returns-clause-finishes : goal.returns-clause-finishes
 returns-clause-finishes g c = finishing_ends _ _ _ _ _ _ tt c.loop-event.invariant.taken (c.in_default.ensures.none refl).0
+
+pub returns-in-Err-clause-count : goal.returns-in-Err-clause-count
+returns-in-Err-clause-count g c = spends_then _ _ _ _ _ _ c.loop-event.invariant.count
+    (step_spends _ _ _ _ _ c.loop-event.invariant.can c.in-Some.ensures.list c.in-Some.ensures.count)
+
+pub returns-clause-count : goal.returns-clause-count
+returns-clause-count g c = spends_then _ _ _ _ _ _ c.loop-event.invariant.count
+    (step_spends _ _ _ _ _ c.loop-event.invariant.can c.in_default.ensures.list c.in_default.ensures.count)

@@ -1,7 +1,8 @@
-use Rattle.std.proofs.Common.{◌≡◌}
+use Rattle.std.proofs.Common.{Some, ◌≡◌}
 use Rattle.dover_core.specs.declared.horizon.Horizon.TheVariants.{End}
-use Rattle.dover_core.specs.Service.{MayFollow, steps_left}
+use Rattle.dover_core.specs.Service.{MayFollow, list_of, steps_left}
 use Rattle.serve_word.specs.Served.{CanGoOn, IsFinishing}
+use Rattle.serve_word.specs.Spending.{Spends}
 use Rattle.serve_word.proofs.steps.finish.Given as goal
 
 -- The run was taken some steps further and their lines put, and nothing else has changed.
@@ -11,6 +12,8 @@ invariant-loop-event g l = record {
   can : CanGoOn l.server;
   follows : MayFollow l.server.last End;
   rules : l.server.rules ≡ l.initial.server.rules;
+  jobs : list_of l.server ≡ list_of l.initial.server;
+  count : Spends (Some l.initial.server) (Some l.server) l.initial.steps l.steps;
   writes : g.P.Port.write_faults l.port ≡ g.P.Port.write_faults l.initial.port;
   reads : g.P.Port.read_faults l.port ≡ g.P.Port.read_faults l.initial.port;
 }

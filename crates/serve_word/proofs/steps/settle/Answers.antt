@@ -1,6 +1,7 @@
 use Rattle.std.proofs.Common.{refl, ◌∙◌, arith}
 use Rattle.serve_word.proofs.Settling.{settling_starts, settling_next, settling_cut, settling_ends}
 use Rattle.serve_word.proofs.Short.{stands_can, short_at_mark, mark_not_end, or_fails, again}
+use Rattle.serve_word.proofs.Spending.{step_spends, spends_none, spends_then}
 use Rattle.serve_word.proofs.steps.settle.Goals as goal
 
 pub loop-event-init : goal.loop-event-init
@@ -11,6 +12,8 @@ loop-event-init g c = record {
   rules = refl;
   goes_on = refl;
   spare = omega arith;
+  jobs = refl;
+  count = spends_none _ _;
   writes = refl;
   reads = refl;
 }
@@ -29,6 +32,9 @@ loop-event-preserved g c = record {
   goes_on = or_fails _ _ _ c.in-Some.ensures.ended (mark_not_end _ c.loop-event.invariant.can c.step.new.self _ _ c.in-Some.ensures.some)
       ∙ c.loop-event.invariant.goes_on;
   spare = omega (arith, c.loop-event.invariant.spare, c.in-Some.ensures.spare);
+  jobs = c.in-Some.ensures.list ∙ c.loop-event.invariant.jobs;
+  count = spends_then _ _ _ _ _ _ c.loop-event.invariant.count
+      (step_spends _ _ _ _ _ c.loop-event.invariant.can c.in-Some.ensures.list c.in-Some.ensures.count);
   writes = grind arith;
   reads = grind arith;
 }
@@ -46,3 +52,11 @@ returns-clause-settles g c = settling_ends _ _ _ _ _ _ _ _ tt c.loop-event.invar
     (c.in_default.ensures.none refl) (c.in_default.ensures.rules ∙ c.loop-event.invariant.rules) c.in_default.ensures.last
     (or_fails _ _ _ c.in_default.ensures.ended refl ∙ c.loop-event.invariant.goes_on) c.in_default.ensures.ready
     (omega (arith, c.loop-event.invariant.spare, c.in_default.ensures.spare))
+
+pub returns-in-Err-clause-count : goal.returns-in-Err-clause-count
+returns-in-Err-clause-count g c = spends_then _ _ _ _ _ _ c.loop-event.invariant.count
+    (step_spends _ _ _ _ _ c.loop-event.invariant.can c.in-Some.ensures.list c.in-Some.ensures.count)
+
+pub returns-clause-count : goal.returns-clause-count
+returns-clause-count g c = spends_then _ _ _ _ _ _ c.loop-event.invariant.count
+    (step_spends _ _ _ _ _ c.loop-event.invariant.can c.in_default.ensures.list c.in_default.ensures.count)

@@ -1,5 +1,6 @@
 use Rattle.std.proofs.Common.{Ok, ap}
 use Rattle.serve_word.proofs.Turns.{turn_made, turn_unflushed, turn_unwritten, turn_no_memory, some_front}
+use Rattle.serve_word.proofs.Frugal.{turn_jobs, made_puts, no_puts}
 use Rattle.serve_word.proofs.turn.take_turn.Goals as goal
 
 pub returns-in-Ok-flush-clause-makes : goal.returns-in-Ok-flush-clause-makes
@@ -23,3 +24,23 @@ pub returns-in-Err-Unwritten-clause-makes : goal.returns-in-Err-Unwritten-clause
 returns-in-Err-Unwritten-clause-makes g c = λ x stands.
     turn_unwritten _ _ _ x _ (some_front _ _ c.if-count-eq0.false c.in-Ok.ensures.bound) c.in-Ok.ensures.moved _ _
     c.take_piece.new.feed (rw (c.in-Err-Unwritten.field-0-is, c.requires.empty) at (c.in-Err-Unwritten.ensures.delivers x stands))
+
+pub returns-in-Ok-flush-clause-jobs : goal.returns-in-Ok-flush-clause-jobs
+returns-in-Ok-flush-clause-jobs g c = λ x stands. turn_jobs _ _ _ _ x _ (some_front _ _ c.if-count-eq0.false c.in-Ok.ensures.bound)
+    c.in-Ok.ensures.moved _ _ _ _ (c.in-Ok-take_piece.ensures.delivers x stands) (made_puts _ _ _ c.in-Ok-flush.ensures.text.all)
+    (c.in-Ok-take_piece.ensures.jobs x stands)
+
+pub returns-in-Err-clause-jobs : goal.returns-in-Err-clause-jobs
+returns-in-Err-clause-jobs g c = λ x stands. turn_jobs _ _ _ _ x _ (some_front _ _ c.if-count-eq0.false c.in-Ok.ensures.bound)
+    c.in-Ok.ensures.moved _ _ _ _ (c.in-Ok-take_piece.ensures.delivers x stands) (made_puts _ _ _ c.in-Err.ensures.text.part)
+    (c.in-Ok-take_piece.ensures.jobs x stands)
+
+pub returns-in-Err-NoMemory-clause-jobs : goal.returns-in-Err-NoMemory-clause-jobs
+returns-in-Err-NoMemory-clause-jobs g c = λ x stands. turn_jobs _ _ _ _ x _ (some_front _ _ c.if-count-eq0.false c.in-Ok.ensures.bound)
+    c.in-Ok.ensures.moved _ _ _ _ (c.in-Err-NoMemory.ensures.delivers x stands) (no_puts _)
+    (c.in-Err-NoMemory.ensures.jobs x stands)
+
+pub returns-in-Err-Unwritten-clause-jobs : goal.returns-in-Err-Unwritten-clause-jobs
+returns-in-Err-Unwritten-clause-jobs g c = λ x stands. turn_jobs _ _ _ _ x _ (some_front _ _ c.if-count-eq0.false c.in-Ok.ensures.bound)
+    c.in-Ok.ensures.moved _ _ _ _ (c.in-Err-Unwritten.ensures.delivers x stands) (no_puts _)
+    (c.in-Err-Unwritten.ensures.jobs x stands)

@@ -1,0 +1,41 @@
+-- What the comparisons of a call are for: the times that its jobs begin and cease to wait.
+use Rattle.std.specs.Prelude.{ℕ, ◌+◌, ◌-◌, ◌*◌, ◌^◌, ◌≤◌, ◌<◌, length, Option, Some, None}
+use Rattle.dover_model.specs.State.{State}
+use Rattle.dover_model.specs.Session.{admitted_jobs}
+use Rattle.dover_model.specs.Feed.{Account}
+use Rattle.dover_model.proofs.WaitingMoves.{waiting_count}
+use Rattle.dover_core.specs.Service.{Service}
+use Rattle.dover_core.proofs.Counting.{exits}
+use Rattle.event_feed.specs.declared.fed.Fed.{Fed}
+use Rattle.event_feed.specs.declared.fed.Fed.TheVariants as fed
+
+-- how often jobs have begun and ceased to wait so far, at most: four times each, but for what may still come
+abbrev pub waits_so_far : State → ℕ
+waits_so_far s = (4 * length s.tasks + waiting_count s) - 2 * exits s
+
+-- the same of a server, if there is one
+abbrev pub waits_of : Option Service → ℕ
+waits_of None = 0
+waits_of (Some v) = waits_so_far v.state
+
+-- how many jobs it has admitted
+abbrev pub jobs_in : Option Service → ℕ
+jobs_in None = 0
+jobs_in (Some v) = length v.state.tasks
+
+-- From the one server to the other no job is lost, and each time that a job begins or ceases to wait costs 20 * d comparisons at most.
+pub record Spends (old new : Option Service) (before after : ℕ) : Type 0 where
+  pub grows : jobs_in old ≤ jobs_in new
+  pub few : (d : ℕ) → jobs_in new + 1 < 2 ^ d → after + 20 * d * waits_of old ≤ before + 20 * d * waits_of new
+
+-- how many jobs an account has admitted
+abbrev pub admitted_in : Account → ℕ
+admitted_in a = elim a.session [ None ↦ 0 | Some S ↦ length (admitted_jobs S.items) ]
+
+-- how many jobs a line adds
+abbrev pub jobs_fed : Fed → ℕ
+jobs_fed (fed.Ratio k version) = 0
+jobs_fed (fed.Job number job) = 1
+jobs_fed (fed.Tick tick) = 0
+jobs_fed fed.Over = 0
+jobs_fed (fed.Refused release work deadline value refusal) = 0
