@@ -22,7 +22,7 @@ use Rattle.dover_model.proofs.BoundLaws.{bound as none_worth_more}
 use Rattle.dover_model.proofs.Ending.{few_printed}
 use Rattle.dover_model.proofs.Honest.{honest}
 use Rattle.dover_model.proofs.Named.{beginnings_pass}
-use Rattle.dover_model.proofs.Runs.{all_value}
+use Rattle.dover_model.proofs.Runs.{none_lost, all_value}
 use Rattle.dover_model.proofs.Tests.{never}
 use Rattle.dover_model.proofs.TraceEnds.{trace_ends}
 use Rattle.dover_model.proofs.WrongStays.{begun, Starts, wrong_verdict_stays}
@@ -410,5 +410,6 @@ earned S valid = record {
   valid = valid;
   within = λ s. none_worth_more (instance_of S) s valid.jobs;
   honest = honest (instance_of S) valid.jobs;
+  none_lost = none_lost (instance_of S) valid.jobs;
   whole = all_value (instance_of S) valid.jobs;
 }

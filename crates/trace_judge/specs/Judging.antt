@@ -6,7 +6,9 @@ use Rattle.std.specs.List.{sum_by}
 use Rattle.dover_model.specs.Bound.{IsWithin, bound}
 use Rattle.dover_model.specs.Fraction.{Fraction}
 use Rattle.dover_model.specs.Schedules.{Meets, worth}
-use Rattle.dover_model.specs.Run.{printed, ran, completed_value}
+use Rattle.dover_model.specs.Run.{run, printed, ran, completed_value}
+use Rattle.dover_model.specs.Sound.{Each}
+use Rattle.dover_model.specs.Underload.{loses}
 use Rattle.dover_model.specs.Session.{Session, IsValidSession, instance_of, admitted_jobs}
 use Rattle.dover_model.specs.Lines.{whole_lines}
 use Rattle.dover_model.specs.Verdict as model
@@ -53,12 +55,13 @@ pub record IsCut (j : Judge) (step : Step) (before text : List ℕ) : Type 0 whe
   pub parts : cutting.HasCut step j.lines.line before text
   pub reads : Reads j.reader (whole_lines before)
 
--- the session is valid: no schedule of its jobs is worth more than the ratio allows for this value, which the run's own schedule is worth, and
--- which is that of all jobs where some schedule completes them all
+-- the session is valid: no schedule of its jobs is worth more than the ratio allows for this value, which the run's own schedule is worth; and
+-- where some schedule serves every job, none is taken late or abandoned, and the value is that of all jobs
 pub record IsEarned (S : Session) (k : Fraction) (value : ℕ) : Type 0 where
   pub valid : IsValidSession S
   pub within : (s : List ℕ) → IsWithin k (worth (instance_of S) s) value
   pub honest : worth (instance_of S) (ran (instance_of S)) ≡ value
+  pub none_lost : Meets (instance_of S) → Each (λ x. loses x.move ≡ false) (run (instance_of S))
   pub whole : Meets (instance_of S) → value ≡ sum_by (λ j. j.value) (admitted_jobs S.items)
 
 -- the judge's verdict is that of the text, as the model has it
