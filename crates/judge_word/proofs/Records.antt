@@ -47,6 +47,10 @@ module _ (judge : Judge) (xs : List Move) (g : GoesOn judge xs) where
     got_outs : outs (xs ++ Got bytes ∷ []) ≡ []
     got_outs = outs-append xs (Got bytes ∷ []) ∙ append-nil (outs xs) ∙ g.text
 
+    -- the input goes on
+    got_unended : has_ended (xs ++ Got bytes ∷ []) ≡ false
+    got_unended = rw (has_ended-append xs (Got bytes ∷ []), g.unended) refl
+
     -- each read was allowed
     got_reads : EachRead MayRead (xs ++ Got bytes ∷ [])
     got_reads = EachReadFrom-append MayRead [] [] xs (Got bytes ∷ []) g.unended g.reads ((g.text, g.right), tt)
@@ -90,7 +94,10 @@ module _ (a b c : Option (List Move)) (old : Judge) (run : Since a b (GoesOn old
 
     -- there was no memory
     pub on_no_memory : Since a c (Judges Memory)
-    on_no_memory = with_read (Judges Memory) (λ xs g. record { reads = got_reads old xs g bytes; ends = got_outs old xs g bytes })
+    on_no_memory = with_read (Judges Memory) (λ xs g. record {
+      reads = got_reads old xs g bytes;
+      ends = record { unended = got_unended old xs g bytes; text = got_outs old xs g bytes };
+    })
 
     module _ (new : Judge) (fed : Fed old new bytes) where
       -- no line is wrong
@@ -98,7 +105,7 @@ module _ (a b c : Option (List Move)) (old : Judge) (run : Since a b (GoesOn old
       on_more right = with_read (GoesOn new) (λ xs g. record {
         reads = got_reads old xs g bytes;
         text = got_outs old xs g bytes;
-        unended = rw (has_ended-append xs (Got bytes ∷ []), g.unended) refl;
+        unended = got_unended old xs g bytes;
         right = sym (right _ (got_stands old xs g bytes new fed));
         stands = got_stands old xs g bytes new fed;
       })
@@ -116,11 +123,7 @@ module _ (a b c : Option (List Move)) (old : Judge) (run : Since a b (GoesOn old
 
 -- there was no memory at the start
 pub no_start : (a : Option (List Move)) → Since a a (Judges Memory)
-no_start a = since_none a (Judges Memory) (record { reads = tt; ends = refl })
-
--- there was no memory at the end
-pub no_close : (a b : Option (List Move)) (judge : Judge) → Since a b (IsRead judge) → Since a b (Judges Memory)
-no_close a b judge read = since_weaker a b _ _ read (λ xs g. record { reads = g.reads; ends = g.text })
+no_start a = since_none a (Judges Memory) (record { reads = tt; ends = record { unended = refl; text = refl } })
 
 -- puts behind allowed reads
 reads_then_puts : (P : List ℕ → List ℕ → Type 0) (got put : List ℕ) (xs ys : List Move) → ArePuts ys → EachReadFrom P got put xs
@@ -132,15 +135,15 @@ reads_then_puts P got put (Put bytes ∷ xs) ys p it = reads_then_puts P got (pu
 
 module _ (judge : Judge) (xs : List Move) (g : IsRead judge xs) (puts : List Move) (p : ArePuts puts) where
   -- the bytes got
-  last_ins : ins (xs ++ puts) ≡ ins xs
+  pub last_ins : ins (xs ++ puts) ≡ ins xs
   last_ins = ins-append xs puts ∙ ap (λ l. ins xs ++ l) (ins-puts puts p) ∙ append-nil (ins xs)
 
   -- the bytes put
-  last_outs : outs (xs ++ puts) ≡ outs puts
+  pub last_outs : outs (xs ++ puts) ≡ outs puts
   last_outs = outs-append xs puts ∙ ap (λ l. l ++ outs puts) g.text
 
   -- whether the input has ended
-  last_ended : has_ended xs ≡ true → has_ended (xs ++ puts) ≡ true
+  pub last_ended : has_ended xs ≡ true → has_ended (xs ++ puts) ≡ true
   last_ended ended = rw (has_ended-append xs puts, ended) refl
 
   -- a wrong line stays so
@@ -148,16 +151,16 @@ module _ (judge : Judge) (xs : List Move) (g : IsRead judge xs) (puts : List Mov
   last_wrong wrong = ap (λ y. is_wrong (verdict y)) last_ins ∙ wrong
 
   -- each read was allowed
-  last_reads : EachRead MayRead (xs ++ puts)
+  pub last_reads : EachRead MayRead (xs ++ puts)
   last_reads = reads_then_puts MayRead [] [] xs puts p g.reads
 
   -- nothing more is to be read
-  last_over : IsOver xs → IsOver (xs ++ puts)
+  pub last_over : IsOver xs → IsOver (xs ++ puts)
   last_over (inl wrong) = inl (last_wrong wrong)
   last_over (inr ended) = inr (last_ended ended)
 
   -- where no line is wrong, the input has ended
-  right_ended : IsOver xs → is_wrong (verdict (ins xs)) ≡ false → has_ended (xs ++ puts) ≡ true
+  pub right_ended : IsOver xs → is_wrong (verdict (ins xs)) ≡ false → has_ended (xs ++ puts) ≡ true
   right_ended (inl wrong) right = never (sym right ∙ wrong)
   right_ended (inr ended) right = last_ended ended
 
@@ -183,7 +186,7 @@ module _ (judge : Judge) (xs : List Move) (g : IsRead judge xs) (puts : List Mov
   no_cause (inr short) = inr (right_ended g.over (ap is_wrong short.1), (short.0, ap verdict last_ins ∙ short.1))
 
   -- the text is no trace
-  on_no : outs puts ≡ verdict_text (verdict (ins xs)) → IsNoTrace (ins xs) → Judges No (xs ++ puts)
+  pub on_no : outs puts ≡ verdict_text (verdict (ins xs)) → IsNoTrace (ins xs) → Judges No (xs ++ puts)
   on_no is none = record { reads = last_reads; ends = record { cause = no_cause none; text = last_text is } }
 
   -- the line couldn't be put

@@ -55,13 +55,18 @@ pub record IsUnwritten (moves : List Move) : Type 0 where
   pub over : IsOver moves
   pub text : IsProperPrefix (outs moves) (verdict_text (verdict (ins moves)))
 
+-- there was no memory: nothing was put, and the input goes on
+pub record IsOutOfMemory (moves : List Move) : Type 0 where
+  pub unended : has_ended moves ≡ false
+  pub text : outs moves ≡ []
+
 -- by the status
 abbrev pub Ends : Status → List Move → Type 0
 Ends Done moves = IsDone moves
 Ends No moves = IsRefused moves
 Ends ReadFault moves = IsUnread moves
 Ends WriteFault moves = IsUnwritten moves
-Ends Memory moves = outs moves ≡ []
+Ends Memory moves = IsOutOfMemory moves
 Ends _ moves = ⊥
 
 -- what the record of a call with this status is

@@ -5,7 +5,8 @@ mod lines;
 mod reading;
 mod word;
 
-pub use word::judge_word;
+pub use reading::{Reading, read_text};
+pub use word::{answer, judge_word};
 
 #[cfg(test)]
 mod tests;

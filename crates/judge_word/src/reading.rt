@@ -14,9 +14,9 @@ const READ_BYTES: usize = 4096;
 /// More reads than a text has that isn't wrong: its 20,000,000 lines have at most 129 bytes each, and the line that has begun at most 128.
 const MOST_READS: u64 = 2_580_000_129;
 
-/// How the reading ends.
+/// How the reading of a text ends.
 #[derive(Clone, Copy, Debug, PartialEq, Eq)]
-pub(crate) enum Reading {
+pub enum Reading {
     /// A line is wrong, or the input has ended.
     Over,
     /// The port failed to read.
@@ -25,11 +25,13 @@ pub(crate) enum Reading {
     NoMemory,
 }
 
-/// Reads a text up to its end or its first wrong line, and hands it to the judge.
-pub(crate) fn read_text<P: Port>(port: &mut P, judge: &mut Judge) -> Reading
+/// Reads a text up to its end or its first wrong line, and hands it to the judge, which has read nothing before. The judge keeps the steps of
+/// its run as before.
+pub fn read_text<P: Port>(port: &mut P, judge: &mut Judge) -> Reading
     requires { StandsFor judge.old [] }
     ensures reads { Since (P.moves port.old) (P.moves port.new) (ReadsBy result judge.new) }
     ensures stands { result ≡ Over → (text : List ℕ) × StandsFor judge.new text }
+    ensures keep { result ≡ Over → judge.new.reader.keep ≡ judge.old.reader.keep }
     ensures causes { ReadCauses result (P.read_faults port.old) (P.read_faults port.new) (P.write_faults port.old) (P.write_faults port.new) }
 {
     let mut buf = [0u8; READ_BYTES];

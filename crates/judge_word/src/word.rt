@@ -21,8 +21,8 @@ fn status_of(verdict: &Verdict) -> Status
     }
 }
 
-/// Writes the verdict.
-fn answer<P: Port>(port: &mut P, verdict: &Verdict) -> Status
+/// Writes the line of a verdict. The status is `Done` where the text is accepted, `No` where it isn't, and `WriteFault` where the port failed.
+pub fn answer<P: Port>(port: &mut P, verdict: &Verdict) -> Status
     requires { (text : List ℕ) × Tells verdict.now text }
     ensures finishes { (text : List ℕ) → Tells verdict.now text → Since (P.moves port.old) (P.moves port.new) (Finishes result text) }
     ensures answer { IsAnswer result }

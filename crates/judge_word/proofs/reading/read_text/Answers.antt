@@ -20,6 +20,9 @@ pub returns-then-decided-clause-stands : goal.returns-then-decided-clause-stands
 returns-then-decided-clause-stands g c = λ over. let was = c.loop-reads.invariant.stands in
     (_, c.in-Ok-feed.ensures.fed.stands was.0 was.2)
 
+pub returns-then-decided-clause-keep : goal.returns-then-decided-clause-keep
+returns-then-decided-clause-keep g c = λ over. c.in-Ok-feed.ensures.fed.keep ∙ c.loop-reads.invariant.keep
+
 pub loop-reads-preserved : goal.loop-reads-preserved
 loop-reads-preserved g c =
     let was = c.loop-reads.invariant.stands in
@@ -35,6 +38,7 @@ loop-reads-preserved g c =
         stands,
         sym (c.decided.ensures (was.0 ++ bytes) stands) ∙ c.if-decided.false,
       );
+      keep = c.in-Ok-feed.ensures.fed.keep ∙ c.loop-reads.invariant.keep;
       read_faults = c.in-Ok.ensures.cause.ok ∙ c.loop-reads.invariant.read_faults;
       write_faults = c.in-Ok.ensures.cause.other ∙ c.loop-reads.invariant.write_faults;
     }

@@ -1,0 +1,8 @@
+/// The form of a report on a run.
+#[derive(Clone, Copy, Debug, PartialEq, Eq)]
+pub enum Form {
+    /// The ratio, the summary and the intervals, line by line.
+    Text,
+    /// The table of the jobs with their fates, as comma-separated fields.
+    Table,
+}
