@@ -1,0 +1,160 @@
+-- The values of the chain: the greatest value that isn't heavy, and the least against which a unit job isn't.
+use Rattle.std.proofs.Common.{◌≡◌, ℕ, suc, ◌+◌, ◌-◌, ◌*◌, ◌/◌, ◌^◌, ◌≤◌, ◌<◌, ◌⊎◌, inl, inr, refl, sym, subst, Bool, true, false, IsTrue, arith}
+use Rattle.std.specs.Prelude.{not}
+use Rattle.std.proofs.lemmas.Bool.{cases_lt}
+use Rattle.std.proofs.lemmas.Nat.{mul-le}
+use Rattle.std.proofs.Math.Nat.{mul-div-le, le-div_iff_mul-le}
+use Rattle.dover_model.specs.Fraction.{Fraction, IsRatio}
+use Rattle.dover_model.specs.Greatest.{IsGreatest, greatest}
+use Rattle.dover_model.specs.Orders.{IsHeavy, is_heavy}
+use Rattle.dover_model.specs.Bait.{most_light}
+use Rattle.dover_model.proofs.Tests.{never}
+use Rattle.dover_model.proofs.Agreement.{is_heavy-agrees}
+use Rattle.dover_model.proofs.Calculus.{heavy_mono, heavy_more, not_heavy, square_order}
+use Rattle.dover_model.proofs.GreatestLaws.{IsDownwardClosed, greatest-is}
+use Rattle.root_compare.proofs.Roots.{one_greatest}
+
+-- ---- tests that fail
+
+-- a test that doesn't hold fails
+fails : (b : Bool) → (IsTrue b → ⊥) → b ≡ false
+fails true fails_it = absurd (fails_it refl)
+fails false fails_it = refl
+
+-- and its contrary holds
+contrary : (b : Bool) → (IsTrue b → ⊥) → IsTrue (not b)
+contrary true fails_it = absurd (fails_it refl)
+contrary false fails_it = refl
+
+-- what holds isn't contrary
+no_contrary : (b : Bool) → IsTrue (not b) → IsTrue b → ⊥
+no_contrary true light holds = never light
+no_contrary false light holds = never holds
+
+-- ---- what is heavy
+
+-- what is more is heavy as well
+heavy_up : (k : Fraction) (v more w : ℕ) → v ≤ more → IsHeavy k v w → IsHeavy k more w
+heavy_up k v more w less heavy =
+    let square : (v - w) * (v - w) ≤ (more - w) * (more - w) = mul-le (v - w) (v - w) (more - w) (more - w) (omega arith) (omega arith) in
+    let times : k.q * ((v - w) * (v - w)) ≤ k.q * ((more - w) * (more - w)) =
+    mul-le k.q ((v - w) * (v - w)) k.q ((more - w) * (more - w)) (omega arith) square in
+    join (v - w) (more - w) heavy times where
+      join : (x y : ℕ) → k.p * w * w < k.q * x * x → k.q * (x * x) ≤ k.q * (y * y) → k.p * w * w < k.q * y * y
+      join x y heavy times = omega arith
+
+-- whether a value isn't heavy against w
+abbrev pub is_light : Fraction → ℕ → ℕ → Bool
+is_light k w v = not (is_heavy k v w)
+
+light_fact : (k : Fraction) (w v : ℕ) → IsTrue (is_light k w v) → IsHeavy k v w → ⊥
+light_fact k w v light heavy = no_contrary (is_heavy k v w) light ((is_heavy-agrees k v w).1 heavy)
+
+light_test : (k : Fraction) (w v : ℕ) → (IsHeavy k v w → ⊥) → IsTrue (is_light k w v)
+light_test k w v light = contrary (is_heavy k v w) (λ h. light ((is_heavy-agrees k v w).0 h))
+
+light_closed : (k : Fraction) (w : ℕ) → IsDownwardClosed (is_light k w)
+light_closed k w m n less light = light_test k w m (λ heavy. light_fact k w n light (heavy_up k m n w less heavy))
+
+-- far above w all is heavy
+far_heavy : (k : Fraction) (w : ℕ) → IsRatio k → w ≤ 1_000_000 → IsHeavy k (2 ^ 65) w
+far_heavy k w ratio small =
+    let one : k.p * (w * w) ≤ 1_000_000 * (1_000_000 * 1_000_000) =
+    mul-le k.p (w * w) 1_000_000 (1_000_000 * 1_000_000) ratio.small_p (mul-le w w 1_000_000 1_000_000 small small) in
+    let far : 1_000_000_000_000 ≤ 2 ^ 65 - w = omega arith in
+    let square : 1_000_000_000_000 * 1_000_000_000_000 ≤ (2 ^ 65 - w) * (2 ^ 65 - w) =
+    mul-le 1_000_000_000_000 1_000_000_000_000 (2 ^ 65 - w) (2 ^ 65 - w) far far in
+    let times : 1 * (1_000_000_000_000 * 1_000_000_000_000) ≤ k.q * ((2 ^ 65 - w) * (2 ^ 65 - w)) =
+    mul-le 1 (1_000_000_000_000 * 1_000_000_000_000) k.q ((2 ^ 65 - w) * (2 ^ 65 - w)) ratio.least square in
+    join (2 ^ 65 - w) times one where
+      join : (x : ℕ) → 1 * (1_000_000_000_000 * 1_000_000_000_000) ≤ k.q * (x * x) → k.p * (w * w) ≤ 1_000_000 * (1_000_000 * 1_000_000)
+          → k.p * w * w < k.q * x * x
+      join x times one = omega arith
+
+-- the greatest light value is found
+pub light_is : (k : Fraction) (w : ℕ) → IsRatio k → w ≤ 1_000_000 → IsGreatest (is_light k w) (most_light k w)
+light_is k w ratio small = greatest-is (is_light k w) (light_closed k w) (light_test k w 0 (λ heavy. nothing (heavy_more k 0 w heavy)))
+    (beyond (is_heavy k (2 ^ 65) w) ((is_heavy-agrees k (2 ^ 65) w).1 (far_heavy k w ratio small))) where
+      nothing : w < 0 → ⊥
+      nothing less = omega arith
+
+      beyond : (b : Bool) → IsTrue b → not b ≡ false
+      beyond true holds = refl
+      beyond false holds = never holds
+
+-- w is light against itself
+pub light_least : (k : Fraction) (w : ℕ) → IsRatio k → w ≤ 1_000_000 → w ≤ most_light k w
+light_least k w ratio small = (light_is k w ratio small).greatest w (light_test k w w (λ heavy. same (heavy_more k w w heavy))) where
+  same : w < w → ⊥
+  same less = omega arith
+
+-- what the root gives is the greatest light value
+pub root_is : (k : Fraction) (w root : ℕ) → IsRatio k → root * root ≤ k.p * (w * w) / k.q
+    → ((r : ℕ) → r * r ≤ k.p * (w * w) / k.q → r ≤ root) → IsGreatest (is_light k w) (w + root)
+root_is k w root ratio within greatest = record {
+  does = light_test k w (w + root) does;
+  greatest = λ v light. none_greater v
+      (light_fact k w v light);
+} where
+  square : k.q * (root * root) ≤ k.p * (w * w)
+  square = let times : k.q * (root * root) ≤ k.q * (k.p * (w * w) / k.q) = mul-le k.q (root * root) k.q (k.p * (w * w) / k.q)
+      (omega arith) within in
+      omega (arith, times, mul-div-le (k.p * (w * w)) k.q)
+
+  does : IsHeavy k (w + root) w → ⊥
+  does heavy =
+      let over : w + root - w ≡ root = omega arith in
+      let more : k.p * w * w < k.q * root * root = subst (λ x. k.p * w * w < k.q * x * x) over heavy in
+      omega (arith, more, square)
+
+  none_greater : (v : ℕ) → (IsHeavy k v w → ⊥) → v ≤ w + root
+  none_greater v light =
+      let row : k.q * (v - w) * (v - w) ≤ k.p * w * w = not_heavy k v w light in
+      let divided : (v - w) * (v - w) ≤ k.p * (w * w) / k.q =
+      (le-div_iff_mul-le {k = k.q} {x = (v - w) * (v - w)} {y = k.p * (w * w)} (omega (arith, ratio.least))).1 (turn (v - w) row) in
+      let less : v - w ≤ root = greatest (v - w) divided in
+      omega (arith, less) where
+        turn : (x : ℕ) → k.q * x * x ≤ k.p * w * w → (x * x) * k.q ≤ k.p * (w * w)
+        turn x row = omega arith
+
+-- the root is at most a thousand times w
+pub root_small : (k : Fraction) (w root : ℕ) → IsRatio k → root * root ≤ k.p * (w * w) / k.q → root ≤ 1_000 * w
+root_small k w root ratio within = square_order root (1_000 * w)
+    (let times : k.q * (root * root) ≤ k.q * (k.p * (w * w) / k.q) = mul-le k.q (root * root) k.q (k.p * (w * w) / k.q) (omega arith) within in
+    let one : 1 * (root * root) ≤ k.q * (root * root) = mul-le 1 (root * root) k.q (root * root) ratio.least (omega arith) in
+    let all : k.p * (w * w) ≤ 1_000_000 * (w * w) = mul-le k.p (w * w) 1_000_000 (w * w) ratio.small_p (omega arith) in
+    omega (arith, times, one, all, mul-div-le (k.p * (w * w)) k.q))
+
+-- ---- the first link
+
+heavy_closed : (k : Fraction) (v : ℕ) → IsDownwardClosed (λ w. is_heavy k v w)
+heavy_closed k v m n less heavy = (is_heavy-agrees k v m).1 (heavy_mono k v m n less ((is_heavy-agrees k v n).0 heavy))
+
+-- a positive value is heavy against nothing
+pub heavy_zero : (k : Fraction) (v : ℕ) → IsRatio k → 1 ≤ v → IsTrue (is_heavy k v 0)
+heavy_zero k v ratio some = (is_heavy-agrees k v 0).1 (
+    let square : 1 * 1 ≤ v * v = mul-le 1 1 v v some some in
+    let times : 1 * (1 * 1) ≤ k.q * (v * v) = mul-le 1 (1 * 1) k.q (v * v) ratio.least square in
+    let whole : v - 0 ≡ v = omega arith in
+    subst (λ x. k.p * 0 * 0 < k.q * x * x) (sym whole) (omega (arith, times)))
+
+-- where a unit job is heavy against the number before w, and not against w, this is the first link
+pub first_is : (k : Fraction) (v w : ℕ) → IsRatio k → 1 ≤ v → v ≤ 1_000_000_000 → 1 ≤ w → IsTrue (is_heavy k v (w - 1))
+    → (IsTrue (is_heavy k v w) → ⊥) → suc (greatest (λ n. is_heavy k v n)) ≡ w
+first_is k v w ratio some small some_w below light =
+    let same : greatest (λ n. is_heavy k v n) ≡ w - 1 = one_greatest (λ n. is_heavy k v n) (greatest (λ n. is_heavy k v n)) (w - 1) found here in
+    omega (arith, same) where
+      found : IsGreatest (λ n. is_heavy k v n) (greatest (λ n. is_heavy k v n))
+      found = greatest-is (λ n. is_heavy k v n) (heavy_closed k v) (heavy_zero k v ratio some)
+          (fails (is_heavy k v (2 ^ 65)) (λ heavy. far (heavy_more k v (2 ^ 65) ((is_heavy-agrees k v (2 ^ 65)).0 heavy)))) where
+            far : 2 ^ 65 < v → ⊥
+            far less = omega arith
+
+      none_greater : (n : ℕ) → IsTrue (is_heavy k v n) → n ≤ w - 1
+      none_greater n heavy = by_order (cases_lt n w) where
+        by_order : (n < w) ⊎ (w ≤ n) → n ≤ w - 1
+        by_order (inl less) = omega arith
+        by_order (inr more) = absurd (light (heavy_closed k v w n more heavy))
+
+      here : IsGreatest (λ n. is_heavy k v n) (w - 1)
+      here = record { does = below; greatest = none_greater }

@@ -1,0 +1,11 @@
+pub mod Heavy
+pub mod Coming
+pub mod Streaming
+pub mod Feeds
+pub mod Chains
+pub mod Giving
+pub mod Plans
+pub mod Validity
+pub mod Naming
+pub mod Doubling
+pub mod Worths

@@ -1,0 +1,15 @@
+use Rattle.std.proofs.Common.{ap, ◌∙◌}
+use Rattle.dover_model.specs.declared.events.Version.TheVariants.{One}
+use Rattle.dover_model.specs.Bait.{last_link}
+use Rattle.dover_model.specs.Run.{completed_value}
+use Rattle.bait_run.specs.Baiting.{baiting}
+use Rattle.adversary.specs.Baiting.{Baiting}
+use Rattle.adversary.proofs.Worths.{kept_completed}
+use Rattle.adversary.proofs.feed.Bait.value.Goals as goal
+
+pub returns-clause-last : goal.returns-clause-last
+returns-clause-last c = c.self.invariant.numbers.last ∙ ap (λ (b : Baiting). last_link b.ratio b.rounds) c.self.view_is
+
+pub returns-clause-completed : goal.returns-clause-completed
+returns-clause-completed c = kept_completed c.self.inside c.self.invariant
+    ∙ ap (λ (b : Baiting). completed_value (baiting b.ratio One b.rounds)) c.self.view_is

@@ -1,0 +1,2 @@
+pub mod Baiting
+pub mod Kept

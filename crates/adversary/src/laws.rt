@@ -1,0 +1,27 @@
+//! Laws of the baiting feed, each the contract of a function that does nothing.
+ghost use Rattle.std.specs.Prelude.{◌≡◌, ◌≤◌, ◌+◌, ◌*◌, ◌^◌, ℕ};
+ghost use Rattle.dover_model.specs.declared.events.Version.{Version};
+ghost use Rattle.dover_model.specs.Fraction.{Fraction, IsRatio};
+ghost use Rattle.dover_model.specs.Instance.{IsValid};
+ghost use Rattle.dover_model.specs.Schedules.{worth};
+ghost use Rattle.dover_model.specs.Bait.{last_link, bait_jobs, bait_plan, plan_value};
+ghost use Rattle.adversary.specs.Baiting.{FitsLimits};
+
+/// The jobs of a baiting feed within the limits are valid for its ratio.
+pub fn baiting_jobs_are_valid()
+    ensures { (k : Fraction) (rounds : ℕ) (version : Version) → IsRatio k → 1 ≤ rounds → FitsLimits k rounds →
+        IsValid (record { rules = record { ratio = k; version = version }; jobs = bait_jobs k rounds }) }
+{}
+
+/// The schedule that runs each unit job in its tick, and then the bait, serves exactly these.
+pub fn the_plan_is_worth_its_value()
+    ensures { (k : Fraction) (rounds : ℕ) (version : Version) →
+        worth (record { rules = record { ratio = k; version = version }; jobs = bait_jobs k rounds }) (bait_plan k rounds) ≡ plan_value k rounds }
+{}
+
+/// At ratio one the last value of the chain is one less than a power of two, and the schedule is worth almost four times that.
+pub fn links_double_at_ratio_one()
+    ensures last { (k : Fraction) (rounds : ℕ) → IsRatio k → k.p ≡ k.q → 1 ≤ rounds → FitsLimits k rounds → last_link k rounds + 1 ≡ 2 ^ rounds }
+    ensures plan { (k : Fraction) (rounds : ℕ) → IsRatio k → k.p ≡ k.q → 1 ≤ rounds → FitsLimits k rounds →
+        plan_value k rounds + 2 * rounds ≡ 4 * last_link k rounds }
+{}

@@ -1,0 +1,12 @@
+//! The baiting feed, against which a run completes as little as the bound allows.
+#![tactic(auto)]
+
+mod feed;
+mod laws;
+mod links;
+
+pub use feed::Bait;
+pub use laws::{baiting_jobs_are_valid, links_double_at_ratio_one, the_plan_is_worth_its_value};
+
+#[cfg(test)]
+mod tests;
