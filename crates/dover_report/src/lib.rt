@@ -7,6 +7,7 @@ mod lines;
 mod report;
 mod rows;
 
+pub use counts::Counts;
 pub use report::{summary, text};
 pub use rows::table;
 

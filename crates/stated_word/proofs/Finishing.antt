@@ -1,0 +1,163 @@
+-- How the run of a server's jobs is taken to its end.
+use Rattle.std.proofs.Common.{◌≡◌, ℕ, List, [], ◌∷◌, ◌++◌, refl, sym, ap, ◌∙◌}
+use Rattle.std.proofs.Common.{subst, Bool, true, false, ◌||◌, ◌≤◌, length, append_assoc, length-append, arith}
+use Rattle.std.specs.Bool.{MatchBool}
+use Rattle.std.specs.List.{cons_option}
+use Rattle.std.proofs.lemmas.List.{append-nil}
+use Rattle.dover_model.specs.declared.events.Event.{Event}
+use Rattle.dover_model.specs.Instance.{Rules, Instance, IsValid}
+use Rattle.dover_model.specs.State.{State}
+use Rattle.dover_model.specs.Step.{Move, Prints, Waits, Ticks, step, after}
+use Rattle.dover_model.specs.Run.{Step, is_end, event_of, printed_of, printed}
+use Rattle.dover_model.specs.Sound.{jobs_of}
+use Rattle.dover_model.specs.WholeRun.{step_at, IsWholeRun}
+use Rattle.dover_model.specs.Paths.{HasPrinted, IsPath}
+use Rattle.dover_model.proofs.Paths.{closed_then_run, printed_then_run}
+use Rattle.dover_core.specs.declared.horizon.Horizon.TheVariants as horizon
+use Rattle.dover_core.specs.Service.{Service, list_of}
+use Rattle.dover_core.specs.Leading.{LeadsTo, GivesNext}
+use Rattle.stated_word.specs.Serving.{HasTallied, IsFinishing}
+use Rattle.stated_word.specs.Tallied.{tally_of}
+use Rattle.stated_word.specs.declared.tally.Tally.{Tally}
+use Rattle.stated_word.proofs.Counting.{few_events, few_all}
+use Rattle.stated_word.proofs.Settling.{printed_next}
+
+-- ---- closed steps
+
+-- a printed End is no silent step
+silent_goes_on : (m : Move) (es : List Event) → cons_option (event_of m) es ≡ [] → is_end m ≡ false
+silent_goes_on (Prints e) es none = absurd (let h : e ∷ es ≡ [] = none in cc)
+silent_goes_on (Waits n) es none = refl
+silent_goes_on Ticks es none = refl
+
+-- silent steps are silent one by one
+silent_rest : (m : Move) (es : List Event) → cons_option (event_of m) es ≡ [] → es ≡ []
+silent_rest (Prints e) es none = absurd (let h : e ∷ es ≡ [] = none in cc)
+silent_rest (Waits n) es none = none
+silent_rest Ticks es none = none
+
+-- silent steps on the way to the end are closed steps, none of which is End
+leads_closed : (rules : Rules) (xs : List Step) (s u : State) → LeadsTo horizon.End rules s xs u → printed_of xs ≡ [] → IsPath rules s xs u
+leads_closed rules [] s u here none = here
+leads_closed rules (x ∷ xs) s u path none =
+    let at : cons_option (event_of (step rules s)) (printed_of xs) ≡ [] =
+    sym (ap (λ (y : Step). cons_option (event_of y.move) (printed_of xs)) path.0) ∙ none in
+    (path.0, silent_goes_on (step rules s) (printed_of xs) at, leads_closed rules xs _ u path.2 (silent_rest (step rules s) (printed_of xs) at))
+
+-- closed steps behind closed steps
+closed_append : (rules : Rules) (xs ys : List Step) (s t u : State) → IsPath rules s xs t → IsPath rules t ys u → IsPath rules s (xs ++ ys) u
+closed_append rules [] ys s t u here more = subst (λ z. IsPath rules z ys u) here more
+closed_append rules (x ∷ xs) ys s t u path more = (path.0, path.1, closed_append rules xs ys (after s (step rules s)) t u path.2 more)
+
+-- a step that gives an event is taken before End was given
+pub goes_on_while : (b : Bool) → (b ≡ true → true ≡ false) → b ≡ false
+goes_on_while true never = never refl
+goes_on_while false never = refl
+
+-- where End wasn't given before, it is given now or not
+pub ended_now : (b x c : Bool) → c ≡ (b || x) → b ≡ false → c ≡ x
+ended_now b x c is before = is ∙ ap (λ y. y || x) before
+
+-- no steps
+abbrev no_steps : List Step
+no_steps = []
+
+-- ---- the loop
+
+-- at its beginning
+pub finishing_starts : (mark : ℕ) (v : Service) (tally : Tally) → HasTallied v mark tally → IsFinishing v tally
+finishing_starts mark v tally it = record {
+  valid = it.valid;
+  mark = mark;
+  from = v.state;
+  before = it.events;
+  printed = it.printed;
+  steps = [];
+  so_far = subst (λ y. MatchBool y (IsWholeRun v.rules v.state []) (IsPath v.rules v.state [] v.state)) (sym it.goes_on) refl;
+  counts = it.counts ∙ ap (tally_of (jobs_of v.state.tasks)) (sym (append-nil it.events));
+}
+
+module _ (v u : Service) (tally : Tally) (it : IsFinishing v tally) (same : list_of u ≡ list_of v) (goes_on : v.ended ≡ false) (e : Event)
+    (gives : GivesNext horizon.End v.rules v.state u.state e) where
+  -- the closed steps so far
+  path : IsPath v.rules it.from it.steps v.state
+  path = subst (λ x. MatchBool x (IsWholeRun v.rules it.from it.steps) (IsPath v.rules it.from it.steps v.state)) goes_on it.so_far
+
+  -- the silent ones up to the next printed step
+  silent : IsPath v.rules v.state gives.waits.steps gives.before
+  silent = leads_closed v.rules gives.waits.steps v.state gives.before gives.waits.lead gives.waits.silent
+
+  -- all steps with it
+  abbrev steps_next : List Step
+  steps_next = it.steps ++ (gives.waits.steps ++ step_at v.rules gives.before ∷ [])
+
+  -- they print one event more
+  prints_next : it.before ++ printed_of steps_next ≡ (it.before ++ printed_of it.steps) ++ e ∷ []
+  prints_next = ap (λ es. it.before ++ es)
+      (printed_next it.steps gives.waits.steps gives.before (step v.rules gives.before) e gives.waits.silent gives.prints)
+      ∙ sym (append_assoc it.before (printed_of it.steps) (e ∷ []))
+
+  -- the tally so far is one of the jobs after it
+  pub counts_on : tally ≡ tally_of (jobs_of u.state.tasks) (it.before ++ printed_of it.steps)
+  counts_on = it.counts ∙ ap (λ (J : Instance). tally_of J.jobs (it.before ++ printed_of it.steps)) (sym same)
+
+  -- where it is End, these are all steps
+  last : is_end (Prints e) ≡ true → IsWholeRun v.rules it.from steps_next
+  last end = closed_then_run v.rules it.steps (gives.waits.steps ++ step_at v.rules gives.before ∷ []) it.from v.state path
+      (closed_then_run v.rules gives.waits.steps (step_at v.rules gives.before ∷ []) v.state gives.before silent (
+        refl,
+        subst (λ x. MatchBool x (no_steps ≡ no_steps) (IsWholeRun v.rules (after gives.before (step v.rules gives.before)) no_steps))
+            (sym (ap is_end gives.prints ∙ end)) refl,
+      ))
+
+  -- else they lead on
+  more : is_end (Prints e) ≡ false → IsPath v.rules it.from steps_next u.state
+  more on = closed_append v.rules it.steps (gives.waits.steps ++ step_at v.rules gives.before ∷ []) it.from v.state u.state path
+      (closed_append v.rules gives.waits.steps (step_at v.rules gives.before ∷ []) v.state gives.before u.state silent
+      (refl, ap is_end gives.prints ∙ on, gives.state ∙ ap (after gives.before) (sym gives.prints)))
+
+  -- there are not too many yet
+  pub room_on : length (it.before ++ printed_of it.steps) ≤ 5_000_000
+  room_on = by_end (is_end (Prints e)) refl where
+    by_end : (x : Bool) → is_end (Prints e) ≡ x → length (it.before ++ printed_of it.steps) ≤ 5_000_000
+    by_end true end = omega (
+      arith,
+      few_all (list_of v) it.mark it.from it.before steps_next it.valid it.printed (last end),
+      ap length prints_next,
+      length-append (it.before ++ printed_of it.steps) (e ∷ []),
+    )
+    by_end false on = omega (
+      arith,
+      few_events (list_of v) it.mark it.from u.state it.before steps_next it.valid it.printed (more on),
+      ap length prints_next,
+      length-append (it.before ++ printed_of it.steps) (e ∷ []),
+    )
+
+  -- the run is taken one printed step further
+  pub finishing_next : (next : Tally) → u.rules ≡ v.rules → u.ended ≡ is_end (Prints e)
+      → next ≡ tally_of (jobs_of u.state.tasks) ((it.before ++ printed_of it.steps) ++ e ∷ []) → IsFinishing u next
+  finishing_next next rules ended counts = record {
+    valid = subst IsValid (sym same) it.valid;
+    mark = it.mark;
+    from = it.from;
+    before = it.before;
+    printed = subst (λ J. HasPrinted J it.mark it.from it.before) (sym same) it.printed;
+    steps = steps_next;
+    so_far = subst (λ k. MatchBool u.ended (IsWholeRun k it.from steps_next) (IsPath k it.from steps_next u.state)) (sym rules)
+        (by_end (is_end (Prints e)) refl);
+    counts = counts ∙ ap (tally_of (jobs_of u.state.tasks)) (sym prints_next);
+  } where
+    by_end : (x : Bool) → is_end (Prints e) ≡ x
+        → MatchBool u.ended (IsWholeRun v.rules it.from steps_next) (IsPath v.rules it.from steps_next u.state)
+    by_end true end = subst (λ x. MatchBool x (IsWholeRun v.rules it.from steps_next) (IsPath v.rules it.from steps_next u.state))
+        (sym (ended ∙ end)) (last end)
+    by_end false on = subst (λ x. MatchBool x (IsWholeRun v.rules it.from steps_next) (IsPath v.rules it.from steps_next u.state))
+        (sym (ended ∙ on)) (more on)
+
+-- at its end
+pub finishing_ends : (v : Service) (tally : Tally) → IsFinishing v tally → v.ended ≡ true
+    → tally ≡ tally_of (list_of v).jobs (printed (list_of v))
+finishing_ends v tally it ended = it.counts ∙ ap (tally_of (list_of v).jobs)
+    (sym (printed_then_run (list_of v) it.mark it.from it.before it.steps it.valid it.printed whole)) where
+      whole : IsWholeRun v.rules it.from it.steps
+      whole = subst (λ y. MatchBool y (IsWholeRun v.rules it.from it.steps) (IsPath v.rules it.from it.steps v.state)) ended it.so_far

@@ -1,0 +1,190 @@
+-- How the run of a server's jobs is taken to a mark.
+use Rattle.std.proofs.Common.{◌≡◌, ◌<◌, ◌+◌, ℕ, List, [], ◌∷◌, ◌++◌, length, refl}
+use Rattle.std.proofs.Common.{sym, ap, ◌∙◌, subst, Bool, true, false, ◌||◌, ◌≤◌, arith, length-append}
+use Rattle.std.proofs.lemmas.List.{append-nil}
+use Rattle.std.specs.List.{cons_option, AllByRecursion}
+use Rattle.dover_model.specs.declared.events.Event.{Event}
+use Rattle.dover_model.specs.declared.events.Task.{Task}
+use Rattle.dover_model.specs.Fraction.{Fraction}
+use Rattle.dover_model.specs.Instance.{Rules, Instance, IsValid}
+use Rattle.dover_model.specs.State.{State, opening}
+use Rattle.dover_model.specs.Step.{Move, Prints, Waits, Ticks, open_step, after}
+use Rattle.dover_model.specs.Run.{Step, is_end, event_of, printed_of}
+use Rattle.dover_model.specs.Settled.{AllComeFrom}
+use Rattle.dover_model.specs.Sound.{Keeps, IsSound, IsNumberedFrom, jobs_of}
+use Rattle.dover_model.specs.WholeRun.{open_at}
+use Rattle.dover_model.specs.Paths.{HasPrinted, IsOpenPath}
+use Rattle.dover_model.proofs.Deeds.{Deed, Completed, Resumed, Started, Began, Preempted, Stayed, Arrived, Taken, Abandoned, Rested}
+use Rattle.dover_model.proofs.Honest.{numbers_low, count_jobs}
+use Rattle.dover_model.proofs.Kept.{opening_keeps, open_deed}
+use Rattle.dover_model.proofs.Prefixes.{open_not_end}
+use Rattle.dover_model.proofs.Paths.{path_append, path_keeps}
+use Rattle.dover_model.proofs.Runs.{printed_append}
+use Rattle.dover_core.specs.declared.horizon.Horizon.{Horizon}
+use Rattle.dover_core.specs.declared.horizon.Horizon.TheVariants.{Mark, End}
+use Rattle.dover_core.specs.Service.{Service, list_of, MayFollow}
+use Rattle.dover_core.specs.Leading.{LeadsTo, GivesNext, ReachesBarrier}
+use Rattle.stated_word.specs.Serving.{AbandonsOneOf, HasTallied}
+use Rattle.stated_word.specs.Tallied.{tally_of}
+use Rattle.stated_word.specs.declared.tally.Tally.{Tally}
+use Rattle.stated_word.proofs.Counting.{all_and_one, few_events}
+
+-- ---- steps
+
+-- what leads to a mark is a path of open steps
+pub leads_open : (mark : ℕ) (rules : Rules) (xs : List Step) (s u : State) → LeadsTo (Mark mark) rules s xs u → IsOpenPath rules mark s xs u
+leads_open mark rules [] s u here = here
+leads_open mark rules (x ∷ xs) s u path = (path.0, path.1, leads_open mark rules xs _ u path.2)
+
+-- what is printed with one step more
+pub printed_next : (xs ys : List Step) (s : State) (m : Move) (e : Event) → printed_of ys ≡ [] → m ≡ Prints e
+    → printed_of (xs ++ (ys ++ record { before = s; move = m } ∷ [])) ≡ printed_of xs ++ e ∷ []
+printed_next xs ys s m e none is = printed_append xs (ys ++ record { before = s; move = m } ∷ [])
+    ∙ ap (λ es. printed_of xs ++ es) (printed_append ys (record { before = s; move = m } ∷ []) ∙ ap (λ es. es ++ cons_option (event_of m) []) none
+    ∙ ap (λ n. cons_option (event_of n) []) is)
+
+-- what may follow a mark once may follow it again
+pub again : (last now : Horizon) (mark : ℕ) → MayFollow last (Mark mark) → now ≡ Mark mark → MayFollow now (Mark mark)
+again (Mark t) now mark follows is = subst (λ h. MayFollow h (Mark mark)) (sym is) (omega arith, follows.1)
+again End now mark follows is = absurd follows
+
+-- a test beside one that fails
+or_fails : (b x c : Bool) → c ≡ (b || x) → b ≡ false → x ≡ false → c ≡ false
+or_fails true x c is off fails = is ∙ ap (λ y. y || x) off ∙ fails
+or_fails false x c is off fails = is ∙ fails
+
+-- ---- a job that is abandoned
+
+-- the number of a job that a move abandons
+abbrev AbandonsWithin : ℕ → Move → Type 0
+AbandonsWithin count (Prints e) = AbandonsOneOf count e
+AbandonsWithin count (Waits n) = Unit {0}
+AbandonsWithin count Ticks = Unit {0}
+
+-- it is a job of the state
+deed_names : (s : State) → IsNumberedFrom 0 s.tasks → (k : Fraction) (m : Move) → Deed k s Ticks m → AbandonsWithin (length s.tasks) m
+deed_names s numbered k m (Completed r member runs done) = tt
+deed_names s numbered k m (Resumed p member held none least why) = tt
+deed_names s numbered k m (Started o member waiting none first fits next) = tt
+deed_names s numbered k m (Began f member fresh none) = tt
+deed_names s numbered k m (Preempted r f member runs some f_member fresh before fits) = tt
+deed_names s numbered k m (Stayed r f member runs some f_member fresh why) = tt
+deed_names s numbered k m (Arrived c member coming now first stale busy free) = tt
+deed_names s numbered k m (Taken r x member runs some x_member waiting now stale heavy) = tt
+deed_names s numbered k m (Abandoned r x member runs some x_member waiting now stale light) =
+    let low : x.number < 0 + length s.tasks = numbers_low 0 s.tasks numbered x x_member in omega arith
+deed_names s numbered k m (Rested quiet) = tt
+
+-- as many tasks as jobs
+pub tasks_count : (v u : Service) → list_of u ≡ list_of v → length u.state.tasks ≡ length v.state.tasks
+tasks_count v u same = omega (
+  arith,
+  count_jobs u.state.tasks,
+  count_jobs v.state.tasks,
+  ap (λ (J : Instance). length J.jobs) same,
+)
+
+-- the state of a server that has taken some steps is sound
+pub tallied_sound : (mark : ℕ) (v : Service) (tally : Tally) → HasTallied v mark tally → IsSound v.state
+tallied_sound mark v tally it = (path_keeps (list_of v) it.valid mark it.printed.steps (opening (list_of v).jobs) v.state (opening_keeps (list_of v))
+    it.printed.path).sound
+
+-- ---- one step
+
+module _ (mark : ℕ) (v u : Service) (tally : Tally) (it : HasTallied v mark tally) (same : list_of u ≡ list_of v) where
+  -- the state so far is one of the jobs
+  keeps : Keeps (list_of v) v.state
+  keeps = path_keeps (list_of v) it.valid mark it.printed.steps (opening (list_of v).jobs) v.state (opening_keeps (list_of v)) it.printed.path
+
+  -- the jobs stay
+  jobs_same : jobs_of u.state.tasks ≡ jobs_of v.state.tasks
+  jobs_same = ap (λ (J : Instance). J.jobs) same
+
+  -- the list stays valid
+  pub valid_still : IsValid (list_of u)
+  valid_still = subst IsValid (sym same) it.valid
+
+  -- the tally so far is one of the jobs after it
+  pub counts_still : tally ≡ tally_of (jobs_of u.state.tasks) it.events
+  counts_still = it.counts ∙ ap (λ jobs. tally_of jobs it.events) (sym jobs_same)
+
+  module _ (e : Event) (gives : GivesNext (Mark mark) v.rules v.state u.state e) where
+    -- the silent steps up to the next printed one
+    silent : IsOpenPath v.rules mark v.state gives.waits.steps gives.before
+    silent = leads_open mark v.rules gives.waits.steps v.state gives.before gives.waits.lead
+
+    -- the state before it
+    keeps_before : Keeps (list_of v) gives.before
+    keeps_before = path_keeps (list_of v) it.valid mark gives.waits.steps v.state gives.before keeps silent
+
+    -- one event more is printed
+    pub printed_one : HasPrinted (list_of u) mark u.state (it.events ++ e ∷ [])
+    printed_one = subst (λ J. HasPrinted J mark u.state (it.events ++ e ∷ [])) (sym same) (record {
+      steps = it.printed.steps ++ (gives.waits.steps ++ open_at v.rules gives.before ∷ []);
+      path = path_append v.rules mark it.printed.steps (gives.waits.steps ++ open_at v.rules gives.before ∷ []) (opening (list_of v).jobs) v.state
+          u.state it.printed.path
+          (path_append v.rules mark gives.waits.steps (open_at v.rules gives.before ∷ []) v.state gives.before u.state silent
+          (refl, gives.goes, gives.state ∙ ap (after gives.before) (sym gives.prints)));
+      prints = printed_next it.printed.steps gives.waits.steps gives.before (open_step v.rules gives.before) e gives.waits.silent gives.prints
+          ∙ ap (λ es. es ++ e ∷ []) it.printed.prints;
+    })
+
+    -- there were not too many before
+    pub room_next : length it.events ≤ 5_000_000
+    room_next = omega (
+      arith,
+      few_events (list_of u) mark u.state u.state (it.events ++ e ∷ []) [] valid_still printed_one refl,
+      length-append (it.events ++ e ∷ []) no_events,
+      length-append it.events (e ∷ []),
+    ) where
+      no_events : List Event
+      no_events = []
+
+    -- it isn't End
+    goes_on_still : is_end (Prints e) ≡ false
+    goes_on_still = ap is_end (sym gives.prints) ∙ open_not_end (list_of v) it.valid
+        (list_of v) it.valid v.rules mark no_tasks none_comes gives.before
+        keeps_before where
+          no_tasks : List Task
+          no_tasks = []
+
+          none_comes : AllComeFrom mark no_tasks
+          none_comes = ((λ t m. absurd m), (λ t m. absurd m))
+
+    -- a job that it abandons is one of the server's
+    names_one : AbandonsOneOf (length v.state.tasks) e
+    names_one = subst (λ n. AbandonsOneOf n e) count
+        (subst (AbandonsWithin (length gives.before.tasks)) gives.prints (deed_names gives.before keeps_before.sound.numbered v.rules.ratio
+        (open_step v.rules gives.before) (open_deed (list_of v) it.valid gives.before keeps_before v.rules))) where
+          count : length gives.before.tasks ≡ length v.state.tasks
+          count = omega (arith, count_jobs gives.before.tasks, count_jobs v.state.tasks, ap length keeps_before.jobs)
+
+    -- the run is taken one printed step further
+    pub settled_next : (next : Tally) → next ≡ tally_of (jobs_of u.state.tasks) (it.events ++ e ∷ []) → u.ended ≡ (v.ended || is_end (Prints e))
+        → HasTallied u mark next
+    settled_next next counts ended = record {
+      valid = valid_still;
+      goes_on = or_fails v.ended (is_end (Prints e)) u.ended ended it.goes_on goes_on_still;
+      events = it.events ++ e ∷ [];
+      printed = printed_one;
+      named = subst (λ n. AllByRecursion (AbandonsOneOf n) (it.events ++ e ∷ [])) (sym (tasks_count v u same))
+          (all_and_one (length v.state.tasks) it.events e it.named names_one);
+      counts = counts;
+    }
+
+  -- at the barrier
+  pub settled_ends : ReachesBarrier mark v.rules v.state u.state → u.ended ≡ (v.ended || false) → HasTallied u mark tally
+  settled_ends reaches ended = record {
+    valid = valid_still;
+    goes_on = or_fails v.ended false u.ended ended it.goes_on refl;
+    events = it.events;
+    printed = subst (λ J. HasPrinted J mark u.state it.events) (sym same) (record {
+      steps = it.printed.steps ++ reaches.waits.steps;
+      path = path_append v.rules mark it.printed.steps reaches.waits.steps (opening (list_of v).jobs) v.state u.state it.printed.path
+          (leads_open mark v.rules reaches.waits.steps v.state u.state reaches.waits.lead);
+      prints = printed_append it.printed.steps reaches.waits.steps ∙ ap (λ es. printed_of it.printed.steps ++ es) reaches.waits.silent
+          ∙ append-nil (printed_of it.printed.steps) ∙ it.printed.prints;
+    });
+    named = subst (λ n. AllByRecursion (AbandonsOneOf n) it.events) (sym (tasks_count v u same)) it.named;
+    counts = counts_still;
+  }

@@ -1,0 +1,6 @@
+pub mod Baited
+pub mod Lists
+pub mod Record
+pub mod Serving
+pub mod Spending
+pub mod Tallied
