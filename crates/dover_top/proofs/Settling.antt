@@ -1,5 +1,5 @@
 -- What the statuses of a served feed say.
-use Rattle.std.proofs.Common.{◌≡◌, ℕ, List, true, false, refl, sym, subst, ap, ◌∙◌, ◌⊎◌, inl, inr}
+use Rattle.std.proofs.Common.{◌≡◌, ◌≤◌, ℕ, List, true, false, refl, sym, subst, ap, ◌∙◌, ◌⊎◌, inl, inr}
 use Rattle.dover_model.specs.Instance.{Instance, IsValid}
 use Rattle.dover_model.specs.Session.{Session, instance_of}
 use Rattle.dover_model.specs.Verdict.{Verdict, Accepted, Wrong, Short, verdict}
@@ -19,7 +19,33 @@ use Rattle.judge_word.specs.Line.{verdict_text}
 use Rattle.judge_word.specs.Record as judged
 use Rattle.judge_word.specs.Record.{IsNoTrace}
 use Rattle.trace_judge.specs.Judging.{is_wrong}
-use Rattle.dover_top.specs.Promises.{KeepsPromises, IsTraced, IsSettled, IsAccepted, IsJudged}
+use Rattle.report_word.specs.Record as told
+use Rattle.report_word.specs.declared.form.Form.{Form}
+use Rattle.dover_model.specs.declared.events.Version.TheVariants.{One}
+use Rattle.dover_model.specs.Fraction.{Fraction, IsRatio}
+use Rattle.dover_model.specs.Limits.{most_jobs}
+use Rattle.dover_model.specs.Reports.{summary}
+use Rattle.job_gen.proofs.Drawn.{valid as generated_valid}
+use Rattle.bait_run.proofs.Baited.{bait_completes}
+use Rattle.adversary.specs.Baiting.{FitsLimits}
+use Rattle.adversary.proofs.Validity.{some_bait, valid as bait_valid}
+use Rattle.adversary.proofs.Plans.{plan_worth}
+use Rattle.stated_word.specs.Record as stated
+use Rattle.stated_word.specs.Lists.{trial_instance}
+use Rattle.stated_word.specs.Baited.{bait_instance, bait_text, size_text}
+use Rattle.dover_top.specs.Promises.{
+  KeepsPromises,
+  IsTraced,
+  IsSettled,
+  IsAccepted,
+  IsJudged,
+  IsReported,
+  IsSummed,
+  IsBaited,
+  IsTooLarge,
+  IsCutShort,
+  IsGiven,
+}
 
 -- the record of a call, at its status
 pub at_status : (status other : Status) (moves : List Move) → status ≡ other → Serves status moves → Ends other moves
@@ -60,6 +86,17 @@ accepted moves done = record {
   valid = done.trace.2.valid;
   accepted = done.trace.1;
   text = done.text ∙ ap verdict_text done.trace.1;
+  promises = promises_of (instance_of done.trace.0) done.trace.2.valid.jobs;
+}
+
+-- the text that was read is the trace of a session, and the report is on its run
+pub reported : (form : Form) (moves : List Move) → told.IsDone form moves → IsReported form moves
+reported form moves done = record {
+  session = done.trace.0;
+  ended = done.ended;
+  valid = done.trace.2.valid;
+  accepted = done.trace.1;
+  text = done.text;
   promises = promises_of (instance_of done.trace.0) done.trace.2.valid.jobs;
 }
 
@@ -130,31 +167,143 @@ accepted_alone : (bytes : List ℕ) (S : Session) → verdict bytes ≡ Accepted
 accepted_alone bytes S it (inl wrong) = absurd (let clash : false ≡ true = sym (ap is_wrong it) ∙ wrong in cc)
 accepted_alone bytes S it (inr short) = absurd (let clash : Accepted S ≡ Short short.0 = sym it ∙ short.1 in cc)
 
--- where neither count rose, the answer is the one that the text calls for
-pub judged_so : (status : Status) (r r' w w' : ℕ) → judged.IsAnswer status → judged.Causes status r r' w w' → (Rose r r' → ⊥)
-    → (Rose w w' → ⊥) → (moves : List Move) → judged.Judges status moves → IsJudged status moves
-judged_so Done r r' w w' answer cause read write moves s = record {
-  read = inl (inr s.ends.ended);
-  accepted = λ session it. inl refl;
-  refused = λ why. absurd (accepted_alone (ins moves) s.ends.trace.0 s.ends.trace.1 why);
-}
-judged_so No r r' w w' answer cause read write moves s = record {
-  read = inl (over s.ends.cause);
-  accepted = λ session it. absurd (accepted_alone (ins moves) session it (no_trace s.ends.cause));
-  refused = λ why. inl refl;
-} where
-  over : (is_wrong (verdict (ins moves)) ≡ true) ⊎ ((has_ended moves ≡ true) × ((lines : ℕ) × (verdict (ins moves) ≡ Short lines)))
-      → judged.IsOver moves
-  over (inl wrong) = inl wrong
-  over (inr short) = inr short.0
+-- why a text has no report: a line is wrong, or it is short at the end of the input
+abbrev Why : List Move → Type 0
+Why moves = (is_wrong (verdict (ins moves)) ≡ true) ⊎ ((has_ended moves ≡ true) × ((lines : ℕ) × (verdict (ins moves) ≡ Short lines)))
 
-  no_trace : (is_wrong (verdict (ins moves)) ≡ true) ⊎ ((has_ended moves ≡ true) × ((lines : ℕ) × (verdict (ins moves) ≡ Short lines)))
-      → IsNoTrace (ins moves)
-  no_trace (inl wrong) = inl wrong
-  no_trace (inr short) = inr short.1
-judged_so Memory r r' w w' answer cause read write moves s =
-    record { read = inr refl; accepted = λ session it. inr refl; refused = λ why. inr refl }
+-- then nothing more is to be read
+over : (moves : List Move) → Why moves → judged.IsOver moves
+over moves (inl wrong) = inl wrong
+over moves (inr short) = inr short.0
+
+-- and it is no trace
+no_trace : (moves : List Move) → Why moves → IsNoTrace (ins moves)
+no_trace moves (inl wrong) = inl wrong
+no_trace moves (inr short) = inr short.1
+
+-- the answer at Done
+judged_done : (moves : List Move) → has_ended moves ≡ true → judged.IsTrace (ins moves) → IsJudged Done moves
+judged_done moves ended trace = record {
+  read = inl (inr ended);
+  accepted = λ session it. inl refl;
+  refused = λ why. absurd (accepted_alone (ins moves) trace.0 trace.1 why);
+}
+
+-- the answer at No
+judged_no : (moves : List Move) → judged.IsRefused moves → IsJudged No moves
+judged_no moves refused = record {
+  read = inl (over moves refused.cause);
+  accepted = λ session it. absurd (accepted_alone (ins moves) session it (no_trace moves refused.cause));
+  refused = λ why. inl refl;
+}
+
+-- the answer at want of memory
+judged_nothing : (moves : List Move) → IsJudged Memory moves
+judged_nothing moves = record { read = inr refl; accepted = λ session it. inr refl; refused = λ why. inr refl }
+
+-- where neither count rose, the answer is the one that the text calls for
+pub judged_so : (status : Status) (r r' w w' : ℕ) → judged.IsAnswer status → Causes status r r' w w' → (Rose r r' → ⊥)
+    → (Rose w w' → ⊥) → (moves : List Move) → judged.Judges status moves → IsJudged status moves
+judged_so Done r r' w w' answer cause read write moves s = judged_done moves s.ends.ended s.ends.trace
+judged_so No r r' w w' answer cause read write moves s = judged_no moves s.ends
+judged_so Memory r r' w w' answer cause read write moves s = judged_nothing moves
 judged_so ReadFault r r' w w' answer cause read write moves s = absurd (read cause.0)
 judged_so WriteFault r r' w w' answer cause read write moves s = absurd (write cause.1)
 judged_so Refused r r' w w' answer cause read write moves s = absurd answer
 judged_so Usage r r' w w' answer cause read write moves s = absurd answer
+
+-- the same where a report is asked for
+pub reported_so : (form : Form) (status : Status) (r r' w w' : ℕ) → judged.IsAnswer status → Causes status r r' w w' → (Rose r r' → ⊥)
+    → (Rose w w' → ⊥) → (moves : List Move) → told.Reports form status moves → IsJudged status moves
+reported_so form Done r r' w w' answer cause read write moves s = judged_done moves s.ends.ended s.ends.trace
+reported_so form No r r' w w' answer cause read write moves s = judged_no moves s.ends
+reported_so form Memory r r' w w' answer cause read write moves s = judged_nothing moves
+reported_so form ReadFault r r' w w' answer cause read write moves s = absurd (read cause.0)
+reported_so form WriteFault r r' w w' answer cause read write moves s = absurd (write cause.1)
+reported_so form Refused r r' w w' answer cause read write moves s = absurd answer
+reported_so form Usage r r' w w' answer cause read write moves s = absurd answer
+
+-- ---- the statuses that there are
+
+-- where neither count rose, a text has an answer or there was no memory
+pub answered : (status : Status) (r r' w w' : ℕ) → judged.IsAnswer status → Causes status r r' w w' → (Rose r r' → ⊥) → (Rose w w' → ⊥)
+    → (status ≡ Done) ⊎ (status ≡ No) ⊎ (status ≡ Memory)
+answered Done r r' w w' answer cause read write = inl refl
+answered No r r' w w' answer cause read write = inr (inl refl)
+answered Memory r r' w w' answer cause read write = inr (inr refl)
+answered ReadFault r r' w w' answer cause read write = absurd (read cause.0)
+answered WriteFault r r' w w' answer cause read write = absurd (write cause.1)
+answered Refused r r' w w' answer cause read write = absurd answer
+answered Usage r r' w w' answer cause read write = absurd answer
+
+-- ---- stated lists
+
+-- the summary of a run of generated jobs
+pub summed : (k : Fraction) (seed count : ℕ) (moves : List Move) → IsRatio k → count ≤ most_jobs
+    → stated.Writes Done (summary (trial_instance k seed count)) moves → IsSummed (trial_instance k seed count) moves
+summed k seed count moves allowed few writes =
+    record { only = writes.0; text = writes.1; promises = promises_of (trial_instance k seed count) (generated_valid k allowed seed count One few) }
+
+-- what the run of baiting jobs comes to
+pub baited : (k : Fraction) (rounds : ℕ) (moves : List Move) → IsRatio k → 1 ≤ rounds → FitsLimits k rounds
+    → stated.Writes Done (bait_text k rounds) moves → IsBaited k rounds moves
+baited k rounds moves allowed some fits writes =
+    let valid = bait_valid k rounds allowed fits (some_bait k rounds allowed some fits) One in
+    record {
+      only = writes.0;
+      text = writes.1;
+      schedule = plan_worth k rounds One;
+      last = bait_completes k One rounds some valid;
+      promises = promises_of (bait_instance k rounds) valid;
+    }
+
+-- a front of a text, where a write failed
+pub cut_short : (text : List ℕ) (moves : List Move) → stated.Writes WriteFault text moves → IsCutShort text moves
+cut_short text moves writes = record { only = writes.0; front = writes.1 }
+
+-- the same of a refusal
+pub refusal_cut_short : (text : List ℕ) (moves : List Move) → stated.Refuses WriteFault text moves → IsCutShort text moves
+refusal_cut_short text moves writes = record { only = writes.0; front = writes.1 }
+
+-- baiting jobs that don't fit
+pub too_large : (moves : List Move) → stated.Refuses Refused size_text moves → IsTooLarge moves
+too_large moves writes = record { only = writes.0; text = writes.1 }
+
+-- where no write failed, a run is told of or there was no memory
+pub tried : (status : Status) (r r' w w' : ℕ) → stated.IsAnswer status → Causes status r r' w w' → (Rose w w' → ⊥)
+    → (status ≡ Done) ⊎ (status ≡ Memory)
+tried Done r r' w w' answer cause write = inl refl
+tried Memory r r' w w' answer cause write = inr refl
+tried WriteFault r r' w w' answer cause write = absurd (write cause.1)
+tried No r r' w w' answer cause write = absurd answer
+tried Refused r r' w w' answer cause write = absurd answer
+tried ReadFault r r' w w' answer cause write = absurd answer
+tried Usage r r' w w' answer cause write = absurd answer
+
+-- and baiting jobs that don't fit are refused
+pub given : (status : Status) (r r' w w' : ℕ) (fits : Type 0) → stated.IsAnswerFor status fits → Causes status r r' w w' → (Rose w w' → ⊥)
+    → IsGiven status fits
+given Done r r' w w' fits answer cause write = record { told = λ _. inl refl; refused = λ not. absurd (not answer) }
+given Memory r r' w w' fits answer cause write = record { told = λ _. inr refl; refused = λ not. absurd (not answer) }
+given Refused r r' w w' fits answer cause write = record { told = λ it. absurd (answer it); refused = λ _. refl }
+given WriteFault r r' w w' fits answer cause write = absurd (write cause.1)
+given No r r' w w' fits answer cause write = absurd answer
+given ReadFault r r' w w' fits answer cause write = absurd answer
+given Usage r r' w w' fits answer cause write = absurd answer
+
+-- the causes of a call that reads nothing are those of one that reads
+pub causes_too : (status : Status) (r r' w w' : ℕ) → (status ≡ ReadFault → ⊥) → stated.Causes status r r' w w' → Causes status r r' w w'
+causes_too Done r r' w w' other cause = cause
+causes_too No r r' w w' other cause = cause
+causes_too Refused r r' w w' other cause = cause
+causes_too ReadFault r r' w w' other cause = absurd (other refl)
+causes_too WriteFault r r' w w' other cause = cause
+causes_too Memory r r' w w' other cause = cause
+causes_too Usage r r' w w' other cause = cause
+
+-- it doesn't end with a read fault
+pub no_read : (status : Status) → stated.IsAnswer status → status ≡ ReadFault → ⊥
+no_read status answer e = subst stated.IsAnswer e answer
+
+pub no_read_for : (status : Status) (fits : Type 0) → stated.IsAnswerFor status fits → status ≡ ReadFault → ⊥
+no_read_for status fits answer e = subst (λ t. stated.IsAnswerFor t fits) e answer

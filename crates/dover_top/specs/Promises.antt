@@ -12,12 +12,18 @@ use Rattle.dover_model.specs.Underload.{loses}
 use Rattle.dover_model.specs.Trace.{trace_of_session}
 use Rattle.dover_model.specs.Verdict.{Accepted, verdict}
 use Rattle.dover_model.specs.Feed.{account, is_ended, is_open}
-use Rattle.dover_port.specs.Moves.{Move, ins, outs, has_ended}
+use Rattle.dover_port.specs.Moves.{Move, ArePuts, ins, outs, has_ended, IsProperPrefix}
 use Rattle.dover_port.specs.declared.status.Status.{Status}
 use Rattle.dover_port.specs.declared.status.Status.TheVariants.{Done, No, Refused, Memory}
 use Rattle.serve_word.specs.Delivered.{IsFaulty}
 use Rattle.judge_word.specs.Line.{verdict_text}
 use Rattle.judge_word.specs.Record.{IsNoTrace, IsOver}
+use Rattle.dover_model.specs.Fraction.{Fraction}
+use Rattle.dover_model.specs.Reports.{summary}
+use Rattle.dover_model.specs.Bait.{bait_plan, plan_value, last_link}
+use Rattle.report_word.specs.Record.{report_text}
+use Rattle.stated_word.specs.Baited.{bait_instance, bait_text, size_text}
+use Rattle.report_word.specs.declared.form.Form.{Form}
 
 -- what stands of the run of a valid list of jobs
 pub record KeepsPromises (J : Instance) : Type 0 where
@@ -57,8 +63,48 @@ pub record IsAccepted (moves : List Move) : Type 0 where
   pub text : outs moves ≡ verdict_text (Accepted session)
   pub promises : KeepsPromises (instance_of session)
 
+-- the text that was read to its end is the trace of a valid session, and a report on its run was written
+pub record IsReported (form : Form) (moves : List Move) : Type 0 where
+  pub session : Session
+  pub ended : has_ended moves ≡ true
+  pub valid : IsValidSession session
+  pub accepted : verdict (ins moves) ≡ Accepted session
+  pub text : outs moves ≡ report_text form (instance_of session)
+  pub promises : KeepsPromises (instance_of session)
+
 -- A text that is read to its end is accepted where it is a trace, and where it isn't, or a line of it is wrong, it has its verdict.
 pub record IsJudged (status : Status) (moves : List Move) : Type 0 where
   pub read : IsOver moves ⊎ (status ≡ Memory)
   pub accepted : (session : Session) → verdict (ins moves) ≡ Accepted session → (status ≡ Done) ⊎ (status ≡ Memory)
   pub refused : IsNoTrace (ins moves) → (status ≡ No) ⊎ (status ≡ Memory)
+
+-- nothing was read, and the summary of the run of these jobs was written
+pub record IsSummed (J : Instance) (moves : List Move) : Type 0 where
+  pub only : ArePuts moves
+  pub text : outs moves ≡ summary J
+  pub promises : KeepsPromises J
+
+-- nothing was read, and what the run of these baiting jobs comes to was written
+pub record IsBaited (k : Fraction) (rounds : ℕ) (moves : List Move) : Type 0 where
+  pub only : ArePuts moves
+  pub text : outs moves ≡ bait_text k rounds
+  -- The third number is what the schedule of the unit jobs and the bait is worth.
+  pub schedule : worth (bait_instance k rounds) (bait_plan k rounds) ≡ plan_value k rounds
+  -- The run completes the last job of the chain, and no other.
+  pub last : completed_value (bait_instance k rounds) ≡ last_link k rounds
+  pub promises : KeepsPromises (bait_instance k rounds)
+
+-- nothing was read, and that the baiting jobs don't fit the limits was written
+pub record IsTooLarge (moves : List Move) : Type 0 where
+  pub only : ArePuts moves
+  pub text : outs moves ≡ size_text
+
+-- a front of this text was put, and not all of it
+pub record IsCutShort (text : List ℕ) (moves : List Move) : Type 0 where
+  pub only : ArePuts moves
+  pub front : IsProperPrefix (outs moves) text
+
+-- where no write failed, the baiting jobs that fit are told of, or there was no memory; others are refused
+pub record IsGiven (status : Status) (fits : Type 0) : Type 0 where
+  pub told : fits → (status ≡ Done) ⊎ (status ≡ Memory)
+  pub refused : (fits → ⊥) → status ≡ Refused

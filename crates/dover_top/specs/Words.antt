@@ -1,11 +1,48 @@
--- The command line.
-use Rattle.std.specs.Prelude.{◌≡◌, List, [], ◌∷◌, map, codes, String, string_bytes}
+-- The command line: the rows of words.
+use Rattle.std.specs.Prelude.{◌≡◌, ℕ, ◌^◌, ◌<◌, ◌≤◌, ◌⊎◌, List, [], ◌∷◌, map, codes, decimal, String, string_bytes}
 use Rattle.std.specs.declared.alloc.Global.{Global}
+use Rattle.dover_model.specs.Fraction.{Fraction, IsRatio}
+use Rattle.dover_model.specs.Limits.{most_jobs}
+use Rattle.report_word.specs.declared.form.Form.{Form}
+use Rattle.report_word.specs.declared.form.Form.TheVariants.{Text, Table}
+
+-- the words as bytes
+abbrev pub spelled : List (String Global) → List (List ℕ)
+spelled words = map string_bytes words
 
 -- the one word that asks for the serving of a feed
 abbrev pub AsksServe : List (String Global) → Type 0
-AsksServe words = map string_bytes words ≡ codes "serve" ∷ []
+AsksServe words = spelled words ≡ codes "serve" ∷ []
 
 -- the one word that asks for the judging of a text
 abbrev pub AsksJudge : List (String Global) → Type 0
-AsksJudge words = map string_bytes words ≡ codes "judge" ∷ []
+AsksJudge words = spelled words ≡ codes "judge" ∷ []
+
+-- the word for a form of report
+abbrev pub form_word : Form → List ℕ
+form_word Text = codes "text"
+form_word Table = codes "csv"
+
+-- the two words that ask for a report on a text, in this form
+abbrev pub AsksReport : List (String Global) → Form → Type 0
+AsksReport words form = spelled words ≡ codes "report" ∷ form_word form ∷ []
+
+-- the words that ask for the run of so many jobs of a seed, within a ratio
+pub record AsksTrial (words : List (String Global)) (seed count : ℕ) (k : Fraction) : Type 0 where
+  pub row : spelled words ≡ codes "trial" ∷ decimal seed ∷ decimal count ∷ decimal k.p ∷ decimal k.q ∷ []
+  pub small : seed < 2 ^ 31
+  pub few : count ≤ most_jobs
+  pub allowed : IsRatio k
+
+-- the words that ask for the run of the baiting jobs of a ratio, with so many rounds
+pub record AsksBait (words : List (String Global)) (k : Fraction) (rounds : ℕ) : Type 0 where
+  pub row : spelled words ≡ codes "bait" ∷ decimal k.p ∷ decimal k.q ∷ decimal rounds ∷ []
+  pub some : 1 ≤ rounds
+  pub few : rounds ≤ most_jobs
+  pub allowed : IsRatio k
+
+-- the words are a row
+abbrev pub AreRow : List (String Global) → Type 0
+AreRow words = AsksServe words ⊎ AsksJudge words ⊎ ((form : Form) × AsksReport words form)
+    ⊎ ((seed : ℕ) × (count : ℕ) × (k : Fraction) × AsksTrial words seed count k)
+    ⊎ ((k : Fraction) × (rounds : ℕ) × AsksBait words k rounds)

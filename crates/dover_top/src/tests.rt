@@ -2,6 +2,7 @@
 ghost use Rattle.std.specs.Prelude.{◌≡◌, ◌<◌};
 
 use crate::dover;
+use crate::wrong_texts::{ENDS, HEADERS, JOBS, LINES, REFUSED, STARTS};
 use dover_port::{MemoryPort, Status};
 use std::alloc::{AllocError, Global};
 use std::marker::Brand;
@@ -253,6 +254,72 @@ const TEXTS: [(&str, Status, &str); 18] = [
     ),
 ];
 
+/// A run in which a job is taken.
+const TAKEN: &str =
+    "dover 1 1 1\njob 0 0 3 30 3\nrun 0 0\njob 1 0 2 4 2\npreempt 0 0 1\njob 2 0 12 12 12\ntake 0 1 2\nabandon 2 1\ncomplete 12 2\nrun 12 0\ncomplete 15 0\nend 15\n";
+
+/// Words, what is read, how the call ends, and what is written.
+const CALLS: [(&[&str], &str, Status, &str); 9] = [
+    (
+        &["report", "text"],
+        TAKEN,
+        Status::Done,
+        "ratio 1 1\njobs 3\ncompleted 2 15\nabandoned 1 2\ntaken 1\nbound 60\ninterval 1 0 12 0 12 5 2\ninterval 2 12 15 3 0 0 0\n",
+    ),
+    (
+        &["report", "csv"],
+        TAKEN,
+        Status::Done,
+        "job,release,work,deadline,value,fate,tick\n0,0,3,30,3,complete,15\n1,0,2,4,2,abandon,2\n2,0,12,12,12,complete,12\n",
+    ),
+    (
+        &["report", "text"],
+        "dover 1 1 1\njob 0 0 2 2 2\nrun 0",
+        Status::No,
+        "short 2\n",
+    ),
+    (
+        &["trial", "1", "2", "1", "1"],
+        "unread",
+        Status::Done,
+        "jobs 2\ncompleted 1 19\nabandoned 1 8\ntaken 0\nbound 76\n",
+    ),
+    (
+        &["trial", "1", "0", "1", "1"],
+        "unread",
+        Status::Done,
+        "jobs 0\ncompleted 0 0\nabandoned 0 0\ntaken 0\nbound 0\n",
+    ),
+    (
+        &["bait", "1", "1", "4"],
+        "unread",
+        Status::Done,
+        "jobs 27\nvalue 15\nschedule 52\nbound 60\n",
+    ),
+    (
+        &["bait", "9", "4", "2"],
+        "unread",
+        Status::Done,
+        "jobs 5\nvalue 3\nschedule 11\nbound 18\n",
+    ),
+    (
+        &["bait", "1", "1", "19"],
+        "unread",
+        Status::Refused,
+        "refused size\n",
+    ),
+    (
+        &["bait", "1", "1", "1000000"],
+        "unread",
+        Status::Refused,
+        "refused size\n",
+    ),
+];
+
+/// The baiting feed of ratio 1/1 with four rounds.
+const BAITING: &str =
+    "k 1 1\njob 0 1 1 1\njob 0 3 3 3\njob 0 1 1 1\njob 1 1 2 1\njob 2 7 9 7\njob 2 1 3 1\njob 3 1 4 1\njob 4 1 5 1\njob 5 1 6 1\njob 6 1 7 1\njob 7 1 8 1\njob 8 15 23 15\njob 8 1 9 1\njob 9 1 10 1\njob 10 1 11 1\njob 11 1 12 1\njob 12 1 13 1\njob 13 1 14 1\njob 14 1 15 1\njob 15 1 16 1\njob 16 1 17 1\njob 17 1 18 1\njob 18 1 19 1\njob 19 1 20 1\njob 20 1 21 1\njob 21 1 22 1\njob 22 30 52 30\nend\n";
+
 /// The text in pieces of so many bytes, or with a seed above 0 in pieces of 1 to 23 bytes that it draws.
 fn pieces(alloc: Global, text: &str, size: usize, seed: usize) -> Result<Vec<Vec<u8>>, AllocError> {
     let mut pieces = Vec::new(alloc);
@@ -343,6 +410,55 @@ fn texts_and_their_verdicts(rt: HostRuntime) -> Result<(), Fail> {
     Ok(())
 }
 
+/// The first of these texts, if there is one, whose verdict in some cut isn't the one beside it.
+fn misjudged(
+    alloc: Global,
+    texts: &[(&'static str, &'static str)],
+) -> Result<Option<&'static str>, Fail> {
+    let words = vec![in alloc; String::from_str(alloc, "judge")?]?;
+    for row in texts {
+        let (text, verdict) = *row;
+        for (size, seed) in [(4096, 0), (1, 0), (7, 3), (13, 11)] {
+            let script = pieces(alloc, text, size, seed)?;
+            let mut port = MemoryPort::new(
+                alloc,
+                script,
+                Vec::new(alloc),
+                Vec::new(alloc),
+                4096,
+                4096,
+            )?;
+            if answer(alloc, &words, &mut port) != Status::No
+                || port.written() != verdict.as_bytes()
+            {
+                return Ok(Some(text));
+            }
+        }
+    }
+    Ok(None)
+}
+
+#[test]
+fn wrong_headers_and_jobs(rt: HostRuntime) -> Result<(), Fail> {
+    assert_eq!(rt; misjudged(rt.alloc(), &HEADERS)?, None);
+    assert_eq!(rt; misjudged(rt.alloc(), &JOBS)?, None);
+    Ok(())
+}
+
+#[test]
+fn wrong_steps(rt: HostRuntime) -> Result<(), Fail> {
+    assert_eq!(rt; misjudged(rt.alloc(), &STARTS)?, None);
+    assert_eq!(rt; misjudged(rt.alloc(), &ENDS)?, None);
+    Ok(())
+}
+
+#[test]
+fn wrong_refusals_and_lines(rt: HostRuntime) -> Result<(), Fail> {
+    assert_eq!(rt; misjudged(rt.alloc(), &REFUSED)?, None);
+    assert_eq!(rt; misjudged(rt.alloc(), &LINES)?, None);
+    Ok(())
+}
+
 #[test]
 fn failing_calls(rt: HostRuntime) -> Result<(), Fail> {
     let alloc = rt.alloc();
@@ -376,14 +492,62 @@ fn failing_calls(rt: HostRuntime) -> Result<(), Fail> {
     Ok(())
 }
 
+fn words_of(alloc: Global, texts: &[&'static str]) -> Result<Vec<String>, AllocError> {
+    let mut words = Vec::new(alloc);
+    for text in texts {
+        words.push(String::from_str(alloc, text)?)?;
+    }
+    Ok(words)
+}
+
+#[test]
+fn words_and_what_they_write(rt: HostRuntime) -> Result<(), Fail> {
+    let alloc = rt.alloc();
+    for (texts, input, status, output) in CALLS {
+        let words = words_of(alloc, texts)?;
+        let script = pieces(alloc, input, 7, 0)?;
+        let mut port = MemoryPort::new(
+            alloc,
+            script,
+            Vec::new(alloc),
+            Vec::new(alloc),
+            4096,
+            4096,
+        )?;
+        assert_eq!(rt; answer(alloc, &words, &mut port), status, "{output}");
+        assert_eq!(rt; port.written(), output.as_bytes());
+    }
+    Ok(())
+}
+
+#[test]
+fn a_baiting_feed_is_served(rt: HostRuntime) -> Result<(), Fail> {
+    let alloc = rt.alloc();
+    let words = words_of(alloc, &["serve"])?;
+    let script = pieces(alloc, BAITING, 4096, 0)?;
+    let mut port = MemoryPort::new(alloc, script, Vec::new(alloc), Vec::new(alloc), 4096, 4096)?;
+    assert_eq!(rt; answer(alloc, &words, &mut port), Status::Done);
+    assert!(rt; port.written().ends_with(b"complete 23 11\nend 15\n"));
+    Ok(())
+}
+
 #[test]
 fn wrong_words(rt: HostRuntime) -> Result<(), Fail> {
     let alloc = rt.alloc();
-    for texts in [&[][..], &["now"][..], &["serve", "now"][..]] {
-        let mut words = Vec::new(alloc);
-        for text in texts {
-            words.push(String::from_str(alloc, text)?)?;
-        }
+    for texts in [
+        &[][..],
+        &["now"][..],
+        &["serve", "now"][..],
+        &["report"][..],
+        &["report", "pdf"][..],
+        &["bait", "1", "1", "0"][..],
+        &["bait", "1", "2", "1"][..],
+        &["bait", "1", "1", "1000001"][..],
+        &["trial", "01", "2", "1", "1"][..],
+        &["trial", "2147483648", "2", "1", "1"][..],
+        &["trial", "1", "1000001", "1", "1"][..],
+    ] {
+        let words = words_of(alloc, texts)?;
         let script = pieces(alloc, "k 1 1\nend\n", 4096, 0)?;
         let mut port = MemoryPort::new(
             alloc,

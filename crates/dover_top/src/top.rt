@@ -1,42 +1,39 @@
 //! The call `dover`.
-ghost use Rattle.std.specs.Prelude.{◌≡◌, ◌≢◌, ◌⊎◌, ◌↔◌, ◌∷◌, [], map, IsTrue, string_bytes};
+ghost use Rattle.std.specs.Prelude.{◌≡◌, ◌≢◌, ◌⊎◌, ◌↔◌, ℕ, [], length};
 ghost use Rattle.dover_port.specs.Causes.{Rose};
-ghost use Rattle.dover_port.specs.Moves.{Since, EachRead, outs};
+ghost use Rattle.dover_port.specs.Moves.{Since, EachRead};
 ghost use Rattle.serve_word.specs.Record as served;
 ghost use Rattle.judge_word.specs.Record as judged;
-ghost use Rattle.dover_top.specs.Promises.{IsTraced, IsSettled, IsAccepted, IsJudged};
-ghost use Rattle.dover_top.specs.Words.{AsksServe, AsksJudge};
+ghost use Rattle.report_word.specs.Record as reported;
+ghost use Rattle.report_word.specs.declared.form.Form.{Form};
+ghost use Rattle.dover_model.specs.Fraction.{Fraction};
+ghost use Rattle.dover_model.specs.Reports.{summary};
+ghost use Rattle.adversary.specs.Baiting.{FitsLimits};
+ghost use Rattle.stated_word.specs.Record as stated;
+ghost use Rattle.stated_word.specs.Lists.{trial_instance};
+ghost use Rattle.stated_word.specs.Spending.{AreFew};
+ghost use Rattle.dover_model.specs.Bait.{bait_jobs};
+ghost use Rattle.stated_word.specs.Baited.{bait_text, size_text};
+ghost use Rattle.dover_top.specs.Promises.{IsTraced, IsSettled, IsAccepted, IsJudged, IsReported, IsSummed, IsBaited, IsTooLarge, IsCutShort, IsGiven};
+ghost use Rattle.dover_top.specs.Words.{AsksServe, AsksJudge, AsksReport, AsksTrial, AsksBait, AreRow};
 
+use crate::carrying::carry_out;
+use crate::request::asked;
 use dover_port::{Port, Status};
-use judge_word::judge_word;
-use serve_word::serve_word;
 use std::alloc::Global;
 use std::sync::ledger::Ledger;
 use step_count::Steps;
 
-fn is_word(word: &String, text: &str) -> bool
-    ensures { IsTrue result ↔ (string_bytes word.now ≡ text.now) }
-{
-    word.as_str() == text
-}
-
-/// Whether the words are this one alone.
-fn are_word(words: &[String], text: &str) -> bool
-    ensures { IsTrue result ↔ (map string_bytes words.now ≡ text.now ∷ []) }
-{
-    match words {
-        [word] => is_word(word, text),
-        _ => false,
-    }
-}
-
-/// Does what the words ask for. There are two rows of words.
+/// Does what the words ask for. The rows of words:
 ///
 /// - `serve` reads a feed from the port and writes the feed's trace to it, each line that is settled before the next read.
 /// - `judge` reads a text and writes one line: whether it is the trace of a valid session, and if not where it is wrong or that it is short.
+/// - `report text` and `report csv` read a text, and write a report on its run where it is such a trace, else the line that `judge` writes.
+/// - `trial SEED COUNT P Q` reads nothing, and writes the summary of the run of so many stated jobs of a seed, within the ratio P/Q.
+/// - `bait P Q N` reads nothing, and writes what the run of the baiting jobs comes to, and what another schedule of them is worth.
 ///
-/// The statuses: `Done` where the feed ended without a fault and its whole trace was written, or the text was accepted; `No` where the text
-/// is wrong or short; `Refused` at the feed's first faulty line, or where the input ends before the `end` line; `ReadFault` and `WriteFault`
+/// The statuses: `Done` where the feed ended without a fault and its whole trace was written, where the text was accepted, or the run was told; `No` where the text
+/// is wrong or short; `Refused` at the feed's first faulty line, where the input ends before the `end` line, or where the baiting jobs don't fit the limits; `ReadFault` and `WriteFault`
 /// where a call of the port failed; `Memory` where there was none, which for a feed can't come before the ratio line; `Usage` exactly where
 /// the words are no row.
 pub fn dover<P: Port, L: Ledger>(
@@ -62,9 +59,51 @@ pub fn dover<P: Port, L: Ledger>(
     ensures accepted { AsksJudge words.now → result ≡ Status.Done → Since (P.moves port.old) (P.moves port.new) IsAccepted }
     ensures no { AsksJudge words.now → result ≡ Status.No → Since (P.moves port.old) (P.moves port.new) judged.IsRefused }
     ensures judge_unread { AsksJudge words.now → result ≡ Status.ReadFault → Since (P.moves port.old) (P.moves port.new) judged.IsUnread }
-    ensures judge_memory { AsksJudge words.now → result ≡ Status.Memory → Since (P.moves port.old) (P.moves port.new) (λ moves. outs moves ≡ []) }
+    ensures judge_memory { AsksJudge words.now → result ≡ Status.Memory → Since (P.moves port.old) (P.moves port.new) judged.IsOutOfMemory }
     ensures judge_unwritten { AsksJudge words.now → result ≡ Status.WriteFault →
         Since (P.moves port.old) (P.moves port.new) judged.IsUnwritten }
+
+    // report: nothing is put before a read, and none comes once a line is wrong.
+    ensures report_reads { (form : Form) → AsksReport words.now form → Since (P.moves port.old) (P.moves port.new) (EachRead judged.MayRead) }
+
+    // What was read and written, by the status.
+    ensures reported { (form : Form) → AsksReport words.now form → result ≡ Status.Done →
+        Since (P.moves port.old) (P.moves port.new) (IsReported form) }
+    ensures report_no { (form : Form) → AsksReport words.now form → result ≡ Status.No →
+        Since (P.moves port.old) (P.moves port.new) judged.IsRefused }
+    ensures report_unread { (form : Form) → AsksReport words.now form → result ≡ Status.ReadFault →
+        Since (P.moves port.old) (P.moves port.new) judged.IsUnread }
+    ensures report_unwritten { (form : Form) → AsksReport words.now form → result ≡ Status.WriteFault →
+        Since (P.moves port.old) (P.moves port.new) (reported.IsUnwritten form) }
+    ensures report_memory { (form : Form) → AsksReport words.now form → result ≡ Status.Memory →
+        Since (P.moves port.old) (P.moves port.new) reported.IsOutOfMemory }
+
+    // trial: nothing is read; what was written, by the status.
+    ensures trial { (seed count : ℕ) (k : Fraction) → AsksTrial words.now seed count k → result ≡ Status.Done →
+        Since (P.moves port.old) (P.moves port.new) (IsSummed (trial_instance k seed count)) }
+    ensures trial_unwritten { (seed count : ℕ) (k : Fraction) → AsksTrial words.now seed count k → result ≡ Status.WriteFault →
+        Since (P.moves port.old) (P.moves port.new) (IsCutShort (summary (trial_instance k seed count))) }
+    ensures trial_memory { (seed count : ℕ) (k : Fraction) → AsksTrial words.now seed count k → result ≡ Status.Memory →
+        Since (P.moves port.old) (P.moves port.new) (λ moves. moves ≡ []) }
+
+    // bait: nothing is read; what was written, by the status, where the jobs fit the limits and where they don't.
+    ensures bait { (k : Fraction) (rounds : ℕ) → AsksBait words.now k rounds → result ≡ Status.Done →
+        Since (P.moves port.old) (P.moves port.new) (IsBaited k rounds) }
+    ensures bait_refused { (k : Fraction) (rounds : ℕ) → AsksBait words.now k rounds → result ≡ Status.Refused →
+        Since (P.moves port.old) (P.moves port.new) IsTooLarge }
+    ensures bait_unwritten { (k : Fraction) (rounds : ℕ) → AsksBait words.now k rounds → FitsLimits k rounds → result ≡ Status.WriteFault →
+        Since (P.moves port.old) (P.moves port.new) (IsCutShort (bait_text k rounds)) }
+    ensures refusal_unwritten { (k : Fraction) (rounds : ℕ) → AsksBait words.now k rounds → (FitsLimits k rounds → ⊥) →
+        result ≡ Status.WriteFault → Since (P.moves port.old) (P.moves port.new) (IsCutShort size_text) }
+    ensures bait_memory { (k : Fraction) (rounds : ℕ) → AsksBait words.now k rounds → result ≡ Status.Memory →
+        Since (P.moves port.old) (P.moves port.new) (λ moves. moves ≡ []) }
+
+    // How many comparisons a call makes: for n jobs at most 80 * (n + 1) * d, where n + 1 has at most d binary digits.
+    ensures comparisons { AsksServe words.now → Since (P.moves port.old) (P.moves port.new) (served.IsFrugal steps.old steps.new) }
+    ensures trial_comparisons { (seed count : ℕ) (k : Fraction) → AsksTrial words.now seed count k → result ≡ Status.Done →
+        AreFew count steps.old steps.new }
+    ensures bait_comparisons { (k : Fraction) (rounds : ℕ) → AsksBait words.now k rounds → result ≡ Status.Done →
+        AreFew (length (bait_jobs k rounds)) steps.old steps.new }
 
     // A fault comes only where its count rose in this call, and each count rises for its own fault alone.
     ensures read_fault { result ≡ Status.ReadFault → Rose (P.read_faults port.old) (P.read_faults port.new) }
@@ -73,10 +112,13 @@ pub fn dover<P: Port, L: Ledger>(
     ensures write_count { result ≢ Status.WriteFault → P.write_faults port.new ≡ P.write_faults port.old }
 
     // Wrong words, and no others, give Usage.
-    ensures usage { (result ≡ Status.Usage) ↔ ((AsksServe words.now ⊎ AsksJudge words.now) → ⊥) }
+    ensures usage { (result ≡ Status.Usage) ↔ (AreRow words.now → ⊥) }
     ensures idle { result ≡ Status.Usage → port.new ≡ port.old }
     ensures never { AsksServe words.now → result ≢ Status.No }
     ensures judge_never { AsksJudge words.now → result ≢ Status.Refused }
+    ensures report_never { (form : Form) → AsksReport words.now form → result ≢ Status.Refused }
+    ensures trial_answers { (seed count : ℕ) (k : Fraction) → AsksTrial words.now seed count k → stated.IsAnswer result }
+    ensures bait_answers { (k : Fraction) (rounds : ℕ) → AsksBait words.now k rounds → stated.IsAnswerFor result (FitsLimits k rounds) }
 
     // Where no count rose there is an answer, the one that the input calls for, or no memory.
     ensures complete { AsksServe words.now → (Rose (P.read_faults port.old) (P.read_faults port.new) → ⊥)
@@ -91,12 +133,19 @@ pub fn dover<P: Port, L: Ledger>(
     ensures judge_settled { AsksJudge words.now → (Rose (P.read_faults port.old) (P.read_faults port.new) → ⊥)
         → (Rose (P.write_faults port.old) (P.write_faults port.new) → ⊥)
         → Since (P.moves port.old) (P.moves port.new) (IsJudged result) }
+    ensures report_complete { (form : Form) → AsksReport words.now form → (Rose (P.read_faults port.old) (P.read_faults port.new) → ⊥)
+        → (Rose (P.write_faults port.old) (P.write_faults port.new) → ⊥)
+        → (result ≡ Status.Done) ⊎ (result ≡ Status.No) ⊎ (result ≡ Status.Memory) }
+    ensures report_settled { (form : Form) → AsksReport words.now form → (Rose (P.read_faults port.old) (P.read_faults port.new) → ⊥)
+        → (Rose (P.write_faults port.old) (P.write_faults port.new) → ⊥)
+        → Since (P.moves port.old) (P.moves port.new) (IsJudged result) }
+    ensures trial_complete { (seed count : ℕ) (k : Fraction) → AsksTrial words.now seed count k →
+        (Rose (P.write_faults port.old) (P.write_faults port.new) → ⊥) → (result ≡ Status.Done) ⊎ (result ≡ Status.Memory) }
+    ensures bait_complete { (k : Fraction) (rounds : ℕ) → AsksBait words.now k rounds →
+        (Rose (P.write_faults port.old) (P.write_faults port.new) → ⊥) → IsGiven result (FitsLimits k rounds) }
 {
-    if are_word(words, "serve") {
-        return serve_word(alloc, port, steps);
+    match asked(words) {
+        Some(request) => carry_out(alloc, request, port, steps),
+        None => Status::Usage,
     }
-    if are_word(words, "judge") {
-        return judge_word(alloc, port);
-    }
-    Status::Usage
 }

@@ -1,17 +1,185 @@
-use Rattle.std.proofs.Common.{subst}
+use Rattle.std.proofs.Common.{◌≡◌, refl, subst}
 use Rattle.dover_port.proofs.Made.{since_weaker}
-use Rattle.dover_port.specs.declared.status.Status.TheVariants.{Done}
+use Rattle.dover_port.specs.declared.status.Status.TheVariants.{Done, No, ReadFault, WriteFault, Memory}
 use Rattle.judge_word.specs.Record as judged
-use Rattle.dover_top.proofs.Settling.{at_status, traced, accepted, judged_so}
+use Rattle.report_word.specs.Record as told
+use Rattle.adversary.specs.Baiting.{FitsLimits}
+use Rattle.dover_model.specs.Reports.{summary}
+use Rattle.stated_word.specs.Record as stated
+use Rattle.stated_word.specs.Lists.{trial_instance}
+use Rattle.stated_word.specs.Baited.{bait_text, size_text}
+use Rattle.dover_top.specs.declared.request.Request.TheVariants.{Serve, Judge, Report, Trial, Bait}
+use Rattle.dover_top.proofs.Asking.{asks_one, no_row, are_row, may_carry}
+use Rattle.dover_top.proofs.Settling.{
+  at_status,
+  traced,
+  accepted,
+  reported,
+  judged_so,
+  reported_so,
+  summed,
+  baited,
+  cut_short,
+  refusal_cut_short,
+  too_large,
+  tried,
+  given,
+}
 use Rattle.dover_top.proofs.top.dover.Goals as goal
 
-pub returns-then-are_word-clause-done : goal.returns-then-are_word-clause-done
-returns-then-are_word-clause-done g c = λ asked e. since_weaker _ _ _ _ c.serve_word.ensures.serves (λ xs s. traced xs (at_status _ Done xs e s))
+pub returns-in-Some-clause-done : goal.returns-in-Some-clause-done
+returns-in-Some-clause-done g c = λ asks e. since_weaker _ _ _ _ (c.carry_out.ensures.serves (asks_one _ _ Serve c.in-Some.ensures.some asks))
+    (λ xs s. traced xs (at_status _ Done xs e s))
 
-pub returns-then-are_word-2-clause-accepted : goal.returns-then-are_word-2-clause-accepted
-returns-then-are_word-2-clause-accepted g c = λ asked e. since_weaker _ _ _ _ c.judge_word.ensures.judges
+pub returns-in-Some-clause-judge_reads : goal.returns-in-Some-clause-judge_reads
+returns-in-Some-clause-judge_reads g c = λ asks. since_weaker _ _ _ _
+    (c.carry_out.ensures.judges (asks_one _ _ Judge c.in-Some.ensures.some asks)) (λ xs s. s.reads)
+
+pub returns-in-Some-clause-accepted : goal.returns-in-Some-clause-accepted
+returns-in-Some-clause-accepted g c = λ asks e. since_weaker _ _ _ _
+    (c.carry_out.ensures.judges (asks_one _ _ Judge c.in-Some.ensures.some asks))
     (λ xs s. accepted xs (subst (λ t. judged.Ends t xs) e s.ends))
 
-pub returns-then-are_word-2-clause-judge_settled : goal.returns-then-are_word-2-clause-judge_settled
-returns-then-are_word-2-clause-judge_settled g c = λ asked read write. since_weaker _ _ _ _ c.judge_word.ensures.judges
-    (λ xs s. judged_so _ _ _ _ _ c.judge_word.ensures.answer c.judge_word.ensures.causes read write xs s)
+pub returns-in-Some-clause-report_reads : goal.returns-in-Some-clause-report_reads
+returns-in-Some-clause-report_reads g c = λ form asks. since_weaker _ _ _ _
+    (c.carry_out.ensures.reports form (asks_one _ _ (Report form) c.in-Some.ensures.some asks)) (λ xs s. s.reads)
+
+pub returns-in-Some-clause-reported : goal.returns-in-Some-clause-reported
+returns-in-Some-clause-reported g c = λ form asks e. since_weaker _ _ _ _
+    (c.carry_out.ensures.reports form (asks_one _ _ (Report form) c.in-Some.ensures.some asks))
+    (λ xs s. reported form xs (subst (λ t. told.Ends form t xs) e s.ends))
+
+pub returns-in-Some-clause-report_no : goal.returns-in-Some-clause-report_no
+returns-in-Some-clause-report_no g c = λ form asks e. since_weaker _ _ _ _
+    (c.carry_out.ensures.reports form (asks_one _ _ (Report form) c.in-Some.ensures.some asks))
+    (λ xs s. subst (λ t. told.Ends form t xs) e s.ends)
+
+pub returns-in-Some-clause-report_unread : goal.returns-in-Some-clause-report_unread
+returns-in-Some-clause-report_unread g c = λ form asks e. since_weaker _ _ _ _
+    (c.carry_out.ensures.reports form (asks_one _ _ (Report form) c.in-Some.ensures.some asks))
+    (λ xs s. subst (λ t. told.Ends form t xs) e s.ends)
+
+pub returns-in-Some-clause-report_unwritten : goal.returns-in-Some-clause-report_unwritten
+returns-in-Some-clause-report_unwritten g c = λ form asks e. since_weaker _ _ _ _
+    (c.carry_out.ensures.reports form (asks_one _ _ (Report form) c.in-Some.ensures.some asks))
+    (λ xs s. subst (λ t. told.Ends form t xs) e s.ends)
+
+pub returns-in-Some-clause-report_memory : goal.returns-in-Some-clause-report_memory
+returns-in-Some-clause-report_memory g c = λ form asks e. since_weaker _ _ _ _
+    (c.carry_out.ensures.reports form (asks_one _ _ (Report form) c.in-Some.ensures.some asks))
+    (λ xs s. subst (λ t. told.Ends form t xs) e s.ends)
+
+pub returns-in-Some-clause-judge_settled : goal.returns-in-Some-clause-judge_settled
+returns-in-Some-clause-judge_settled g c = λ asks read write. since_weaker _ _ _ _
+    (c.carry_out.ensures.judges (asks_one _ _ Judge c.in-Some.ensures.some asks))
+    (λ xs s. judged_so _ _ _ _ _ (c.carry_out.ensures.judge_answers (asks_one _ _ Judge c.in-Some.ensures.some asks)) c.carry_out.ensures.causes read write xs s)
+
+pub returns-in-Some-clause-report_settled : goal.returns-in-Some-clause-report_settled
+returns-in-Some-clause-report_settled g c = λ form asks read write. since_weaker _ _ _ _
+    (c.carry_out.ensures.reports form (asks_one _ _ (Report form) c.in-Some.ensures.some asks))
+    (λ xs s. reported_so form _ _ _ _ _ (c.carry_out.ensures.report_answers form (asks_one _ _ (Report form) c.in-Some.ensures.some asks))
+    c.carry_out.ensures.causes read write xs s)
+
+pub returns-in-None-clause-usage : goal.returns-in-None-clause-usage
+returns-in-None-clause-usage g c = ((λ _. no_row _ (c.in-None.ensures.none refl)), (λ _. refl))
+
+pub returns-in-None-clause-complete : goal.returns-in-None-clause-complete
+returns-in-None-clause-complete g c = λ asks read write. absurd (c.in-None.ensures.none refl Serve asks)
+
+pub returns-in-None-clause-judge_complete : goal.returns-in-None-clause-judge_complete
+returns-in-None-clause-judge_complete g c = λ asks read write. absurd (c.in-None.ensures.none refl Judge asks)
+
+pub returns-in-None-clause-judge_settled : goal.returns-in-None-clause-judge_settled
+returns-in-None-clause-judge_settled g c = λ asks read write. absurd (c.in-None.ensures.none refl Judge asks)
+
+pub returns-in-None-clause-report_complete : goal.returns-in-None-clause-report_complete
+returns-in-None-clause-report_complete g c = λ form asks read write. absurd (c.in-None.ensures.none refl (Report form) asks)
+
+pub returns-in-None-clause-report_settled : goal.returns-in-None-clause-report_settled
+returns-in-None-clause-report_settled g c = λ form asks read write. absurd (c.in-None.ensures.none refl (Report form) asks)
+
+pub returns-in-Some-clause-trial : goal.returns-in-Some-clause-trial
+returns-in-Some-clause-trial g c = λ seed count k asks e. since_weaker _ _ _ _
+    (c.carry_out.ensures.trials seed count k (asks_one _ _ (Trial seed count k) c.in-Some.ensures.some asks))
+    (λ xs s. summed k seed count xs asks.allowed asks.few (subst (λ t. stated.Writes t (summary (trial_instance k seed count)) xs) e s))
+
+pub returns-in-Some-clause-trial_unwritten : goal.returns-in-Some-clause-trial_unwritten
+returns-in-Some-clause-trial_unwritten g c = λ seed count k asks e. since_weaker _ _ _ _
+    (c.carry_out.ensures.trials seed count k (asks_one _ _ (Trial seed count k) c.in-Some.ensures.some asks))
+    (λ xs s. cut_short (summary (trial_instance k seed count)) xs (subst (λ t. stated.Writes t (summary (trial_instance k seed count)) xs) e s))
+
+pub returns-in-Some-clause-trial_memory : goal.returns-in-Some-clause-trial_memory
+returns-in-Some-clause-trial_memory g c = λ seed count k asks e. since_weaker _ _ _ _
+    (c.carry_out.ensures.trials seed count k (asks_one _ _ (Trial seed count k) c.in-Some.ensures.some asks)) (λ xs s. subst (λ t. stated.Writes t (summary (trial_instance k seed count)) xs) e s)
+
+pub returns-in-Some-clause-bait : goal.returns-in-Some-clause-bait
+returns-in-Some-clause-bait g c = λ k rounds asks e.
+    let fits = subst (λ t. stated.IsAnswerFor t (FitsLimits k rounds)) e (c.carry_out.ensures.bait_answers k rounds (asks_one _ _ (Bait k rounds) c.in-Some.ensures.some asks)) in
+    since_weaker _ _ _ _ (c.carry_out.ensures.baits k rounds (asks_one _ _ (Bait k rounds) c.in-Some.ensures.some asks) fits)
+    (λ xs s. baited k rounds xs asks.allowed asks.some fits (subst (λ t. stated.Writes t (bait_text k rounds) xs) e s))
+
+pub returns-in-Some-clause-bait_refused : goal.returns-in-Some-clause-bait_refused
+returns-in-Some-clause-bait_refused g c = λ k rounds asks e.
+    let fits = subst (λ t. stated.IsAnswerFor t (FitsLimits k rounds)) e (c.carry_out.ensures.bait_answers k rounds (asks_one _ _ (Bait k rounds) c.in-Some.ensures.some asks)) in
+    since_weaker _ _ _ _ (c.carry_out.ensures.refuses k rounds (asks_one _ _ (Bait k rounds) c.in-Some.ensures.some asks) fits)
+    (λ xs s. too_large xs (subst (λ t. stated.Refuses t size_text xs) e s))
+
+pub returns-in-Some-clause-bait_unwritten : goal.returns-in-Some-clause-bait_unwritten
+returns-in-Some-clause-bait_unwritten g c = λ k rounds asks fits e. since_weaker _ _ _ _
+    (c.carry_out.ensures.baits k rounds (asks_one _ _ (Bait k rounds) c.in-Some.ensures.some asks) fits)
+    (λ xs s. cut_short (bait_text k rounds) xs (subst (λ t. stated.Writes t (bait_text k rounds) xs) e s))
+
+pub returns-in-Some-clause-refusal_unwritten : goal.returns-in-Some-clause-refusal_unwritten
+returns-in-Some-clause-refusal_unwritten g c = λ k rounds asks fits e. since_weaker _ _ _ _
+    (c.carry_out.ensures.refuses k rounds (asks_one _ _ (Bait k rounds) c.in-Some.ensures.some asks) fits)
+    (λ xs s. refusal_cut_short size_text xs (subst (λ t. stated.Refuses t size_text xs) e s))
+
+pub returns-in-Some-clause-bait_memory : goal.returns-in-Some-clause-bait_memory
+returns-in-Some-clause-bait_memory g c = λ k rounds asks e.
+    let fits = subst (λ t. stated.IsAnswerFor t (FitsLimits k rounds)) e (c.carry_out.ensures.bait_answers k rounds (asks_one _ _ (Bait k rounds) c.in-Some.ensures.some asks)) in
+    since_weaker _ _ _ _ (c.carry_out.ensures.baits k rounds (asks_one _ _ (Bait k rounds) c.in-Some.ensures.some asks) fits) (λ xs s. subst (λ t. stated.Writes t (bait_text k rounds) xs) e s)
+
+pub returns-in-Some-clause-comparisons : goal.returns-in-Some-clause-comparisons
+returns-in-Some-clause-comparisons g c = λ asks. c.carry_out.ensures.comparisons (asks_one _ _ Serve c.in-Some.ensures.some asks)
+
+pub returns-in-Some-clause-trial_answers : goal.returns-in-Some-clause-trial_answers
+returns-in-Some-clause-trial_answers g c = λ seed count k asks. c.carry_out.ensures.trial_answers seed count k (asks_one _ _ (Trial seed count k) c.in-Some.ensures.some asks)
+
+pub returns-in-Some-clause-bait_answers : goal.returns-in-Some-clause-bait_answers
+returns-in-Some-clause-bait_answers g c = λ k rounds asks. c.carry_out.ensures.bait_answers k rounds (asks_one _ _ (Bait k rounds) c.in-Some.ensures.some asks)
+
+pub returns-in-Some-clause-trial_complete : goal.returns-in-Some-clause-trial_complete
+returns-in-Some-clause-trial_complete g c = λ seed count k asks write. tried _ _ _ _ _
+    (c.carry_out.ensures.trial_answers seed count k (asks_one _ _ (Trial seed count k) c.in-Some.ensures.some asks)) c.carry_out.ensures.causes write
+
+pub returns-in-Some-clause-bait_complete : goal.returns-in-Some-clause-bait_complete
+returns-in-Some-clause-bait_complete g c = λ k rounds asks write. given _ _ _ _ _ _
+    (c.carry_out.ensures.bait_answers k rounds (asks_one _ _ (Bait k rounds) c.in-Some.ensures.some asks)) c.carry_out.ensures.causes write
+
+pub returns-in-None-clause-trial_answers : goal.returns-in-None-clause-trial_answers
+returns-in-None-clause-trial_answers g c = λ seed count k asks. absurd (c.in-None.ensures.none refl (Trial seed count k) asks)
+
+pub returns-in-None-clause-trial_complete : goal.returns-in-None-clause-trial_complete
+returns-in-None-clause-trial_complete g c = λ seed count k asks write. absurd (c.in-None.ensures.none refl (Trial seed count k) asks)
+
+pub returns-in-None-clause-bait_answers : goal.returns-in-None-clause-bait_answers
+returns-in-None-clause-bait_answers g c = λ k rounds asks. absurd (c.in-None.ensures.none refl (Bait k rounds) asks)
+
+pub returns-in-None-clause-bait_complete : goal.returns-in-None-clause-bait_complete
+returns-in-None-clause-bait_complete g c = λ k rounds asks write. absurd (c.in-None.ensures.none refl (Bait k rounds) asks)
+
+pub carry_out-requires : goal.carry_out-requires
+carry_out-requires g c = may_carry _ _ c.in-Some.ensures.some
+
+pub returns-in-Some-clause-trial_comparisons : goal.returns-in-Some-clause-trial_comparisons
+returns-in-Some-clause-trial_comparisons g c = λ seed count k asks e. c.carry_out.ensures.trial_comparisons seed count k (asks_one _ _ (Trial seed count k) c.in-Some.ensures.some asks) e
+
+pub returns-in-Some-clause-bait_comparisons : goal.returns-in-Some-clause-bait_comparisons
+returns-in-Some-clause-bait_comparisons g c = λ k rounds asks e. c.carry_out.ensures.bait_comparisons k rounds (asks_one _ _ (Bait k rounds) c.in-Some.ensures.some asks) e
+
+pub returns-in-Some-clause-usage : goal.returns-in-Some-clause-usage
+returns-in-Some-clause-usage g c =
+    ((λ e. absurd (c.carry_out.ensures.usage e)), (λ none. absurd (none (are_row _ c.in-Some.request c.in-Some.ensures.some))))
+
+pub returns-in-Some-clause-idle : goal.returns-in-Some-clause-idle
+returns-in-Some-clause-idle g c = λ e. absurd (c.carry_out.ensures.usage e)

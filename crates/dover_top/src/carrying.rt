@@ -1,0 +1,66 @@
+//! Carrying out what is asked for.
+ghost use Rattle.std.specs.Prelude.{◌≡◌, ◌≢◌, ℕ, length};
+ghost use Rattle.dover_model.specs.Bait.{bait_jobs};
+ghost use Rattle.dover_model.specs.Fraction.{Fraction};
+ghost use Rattle.dover_model.specs.Reports.{summary};
+ghost use Rattle.dover_port.specs.Moves.{Since};
+ghost use Rattle.serve_word.specs.Record as served;
+ghost use Rattle.judge_word.specs.Record as judged;
+ghost use Rattle.report_word.specs.Record as reported;
+ghost use Rattle.report_word.specs.declared.form.Form.{Form};
+ghost use Rattle.adversary.specs.Baiting.{FitsLimits};
+ghost use Rattle.stated_word.specs.Record as stated;
+ghost use Rattle.stated_word.specs.Lists.{trial_instance};
+ghost use Rattle.stated_word.specs.Spending.{AreFew};
+ghost use Rattle.stated_word.specs.Baited.{bait_text, size_text};
+ghost use Rattle.dover_top.specs.Requests.{MayCarry};
+
+use crate::request::Request;
+use dover_port::{Port, Status};
+use judge_word::judge_word;
+use report_word::report_word;
+use serve_word::serve_word;
+use stated_word::{bait_word, trial_word};
+use std::alloc::Global;
+use std::sync::ledger::Ledger;
+use step_count::Steps;
+
+/// Carries out a request.
+pub(crate) fn carry_out<P: Port, L: Ledger>(
+    alloc: Global,
+    request: Request,
+    port: &mut P,
+    steps: &mut Steps<L>,
+) -> Status
+    requires { MayCarry request }
+    ensures serves { request ≡ Request.Serve → Since (P.moves port.old) (P.moves port.new) (served.Serves result) }
+    ensures serve_answers { request ≡ Request.Serve → served.IsAnswer result }
+    ensures judges { request ≡ Request.Judge → Since (P.moves port.old) (P.moves port.new) (judged.Judges result) }
+    ensures judge_answers { request ≡ Request.Judge → judged.IsAnswer result }
+    ensures reports { (form : Form) → request ≡ Request.Report form →
+        Since (P.moves port.old) (P.moves port.new) (reported.Reports form result) }
+    ensures report_answers { (form : Form) → request ≡ Request.Report form → judged.IsAnswer result }
+    ensures trials { (seed count : ℕ) (k : Fraction) → request ≡ Request.Trial seed count k →
+        Since (P.moves port.old) (P.moves port.new) (stated.Writes result (summary (trial_instance k seed count))) }
+    ensures trial_answers { (seed count : ℕ) (k : Fraction) → request ≡ Request.Trial seed count k → stated.IsAnswer result }
+    ensures baits { (k : Fraction) (rounds : ℕ) → request ≡ Request.Bait k rounds → FitsLimits k rounds →
+        Since (P.moves port.old) (P.moves port.new) (stated.Writes result (bait_text k rounds)) }
+    ensures refuses { (k : Fraction) (rounds : ℕ) → request ≡ Request.Bait k rounds → (FitsLimits k rounds → ⊥) →
+        Since (P.moves port.old) (P.moves port.new) (stated.Refuses result size_text) }
+    ensures bait_answers { (k : Fraction) (rounds : ℕ) → request ≡ Request.Bait k rounds → stated.IsAnswerFor result (FitsLimits k rounds) }
+    ensures comparisons { request ≡ Request.Serve → Since (P.moves port.old) (P.moves port.new) (served.IsFrugal steps.old steps.new) }
+    ensures trial_comparisons { (seed count : ℕ) (k : Fraction) → request ≡ Request.Trial seed count k → result ≡ Status.Done →
+        AreFew count steps.old steps.new }
+    ensures bait_comparisons { (k : Fraction) (rounds : ℕ) → request ≡ Request.Bait k rounds → result ≡ Status.Done →
+        AreFew (length (bait_jobs k rounds)) steps.old steps.new }
+    ensures usage { result ≢ Status.Usage }
+    ensures causes { served.Causes result (P.read_faults port.old) (P.read_faults port.new) (P.write_faults port.old) (P.write_faults port.new) }
+{
+    match request {
+        Request::Serve => serve_word(alloc, port, steps),
+        Request::Judge => judge_word(alloc, port),
+        Request::Report(form) => report_word(alloc, port, form),
+        Request::Trial { seed, count, k } => trial_word(alloc, port, seed, count, k, steps),
+        Request::Bait { k, rounds } => bait_word(alloc, port, k, rounds, steps),
+    }
+}
