@@ -18,19 +18,16 @@ use Rattle.dover_model.proofs.Members.{sum_plus, sum_same, sum_map, sum_zero}
 use Rattle.dover_model.proofs.Ticking.{Quiet}
 use Rattle.dover_model.proofs.Leaving.{ceases}
 use Rattle.dover_model.proofs.Kept.{open_deed, step_deed, end_same}
-use Rattle.dover_model.proofs.Potential.{Lowers, Weighs, weights_by, one_if, deed_lowers, tick_weighs}
+use Rattle.dover_model.proofs.Potential.{Lowers, Weighs, one_if, deed_lowers, tick_weighs}
 use Rattle.dover_model.proofs.WaitingMoves.{exits_scale, waiting_count}
 use Rattle.dover_core.specs.declared.horizon.Horizon.{Horizon}
 use Rattle.dover_core.specs.declared.horizon.Horizon.TheVariants.{Mark, End}
 use Rattle.dover_core.specs.Leading.{step_to, taken_to, LeadsTo, GivesNext}
 use Rattle.dover_core.specs.Ways.{StopsAt}
 use Rattle.dover_core.specs.Counting.{waits_in, IsCounted}
+use Rattle.dover_core.specs.Spending.{exits}
 use Rattle.dover_core.proofs.Going.{to_kept}
 use Rattle.dover_core.proofs.Leads.{leads_append}
-
--- what may still cease to wait
-abbrev pub exits : State → ℕ
-exits s = weights_by exits_scale s
 
 -- each move lowers it
 exits_lower : Lowers exits_scale 0

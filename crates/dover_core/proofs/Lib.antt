@@ -6,3 +6,4 @@ pub mod Admission
 pub mod Feeding
 pub mod Tested
 pub mod Counting
+pub mod Spending

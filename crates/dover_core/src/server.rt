@@ -1,5 +1,5 @@
 //! The server.
-ghost use Rattle.std.specs.Prelude.{◌≡◌, ◌≤◌, ◌<◌, ◌+◌, ◌↔◌, IsTrue, IfOk, OnOk, OnErr, IfSome, OnSome, IsNone, true, false, length, ◌∷◌, []};
+ghost use Rattle.std.specs.Prelude.{◌≡◌, ◌≤◌, ◌<◌, ◌+◌, ◌↔◌, IsTrue, IfOk, IsOk, OnOk, OnErr, IfSome, OnSome, IsNone, true, false, length, ◌∷◌, []};
 ghost use Rattle.std.specs.Prelude.{◌||◌, ◌^◌, ℕ};
 ghost use Rattle.std.specs.List.{slice_get, filter};
 ghost use Rattle.std.specs.Option.{option_map};
@@ -70,12 +70,13 @@ impl Server {
         })
     }
 
-    /// Makes room for `more` further jobs. Err where there is no memory.
+    /// Makes room for `more` further jobs. Where there is room for them, it takes no memory. Err where there is none.
     pub fn reserve(&mut self, more: u32) -> Result<(), Memory>
         requires { length self.old.state.tasks + more ≤ most_jobs }
         ensures kept { self.new ≡ record self.old { spare = self.new.spare } }
         ensures room { OnOk result (more ≤ self.new.spare) }
         ensures spare { self.old.spare ≤ self.new.spare }
+        ensures enough { more ≤ self.old.spare → IsOk result }
     {
         self.queues.reserve(more)
     }

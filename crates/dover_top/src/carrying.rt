@@ -11,7 +11,7 @@ ghost use Rattle.report_word.specs.declared.form.Form.{Form};
 ghost use Rattle.adversary.specs.Baiting.{FitsLimits};
 ghost use Rattle.stated_word.specs.Record as stated;
 ghost use Rattle.stated_word.specs.Lists.{trial_instance};
-ghost use Rattle.stated_word.specs.Spending.{AreFew};
+ghost use Rattle.dover_core.specs.Spending.{AreFew};
 ghost use Rattle.stated_word.specs.Baited.{bait_text, size_text};
 ghost use Rattle.dover_top.specs.Requests.{MayCarry};
 

@@ -11,7 +11,7 @@ ghost use Rattle.dover_model.specs.Reports.{summary};
 ghost use Rattle.adversary.specs.Baiting.{FitsLimits};
 ghost use Rattle.stated_word.specs.Record as stated;
 ghost use Rattle.stated_word.specs.Lists.{trial_instance};
-ghost use Rattle.stated_word.specs.Spending.{AreFew};
+ghost use Rattle.dover_core.specs.Spending.{AreFew};
 ghost use Rattle.dover_model.specs.Bait.{bait_jobs};
 ghost use Rattle.stated_word.specs.Baited.{bait_text, size_text};
 ghost use Rattle.dover_top.specs.Promises.{IsTraced, IsSettled, IsAccepted, IsJudged, IsReported, IsSummed, IsBaited, IsTooLarge, IsCutShort, IsGiven};

@@ -1,5 +1,5 @@
 //! The jobs and their queues.
-ghost use Rattle.std.specs.Prelude.{◌≡◌, ◌≢◌, ◌≤◌, ◌<◌, ◌+◌, ◌-◌, ◌*◌, ◌^◌, ℕ, length, [], ◌∷◌, ◌++◌, Some, None, IfOk, IfSome, OnOk, OnErr, IsNone, IsSome, true, max, map, vec_len, vec_capacity};
+ghost use Rattle.std.specs.Prelude.{◌≡◌, ◌≢◌, ◌≤◌, ◌<◌, ◌+◌, ◌-◌, ◌*◌, ◌^◌, ℕ, length, [], ◌∷◌, ◌++◌, Some, None, IfOk, IsOk, IfSome, OnOk, OnErr, IsNone, IsSome, true, max, map, vec_len, vec_capacity};
 ghost use Rattle.std.specs.List.{filter, find, slice_get, list_all};
 ghost use Rattle.std.specs.Option.{option_to_list};
 ghost use Rattle.dover_model.specs.Limits.{most_jobs, most_total, last_tick};
@@ -128,11 +128,12 @@ impl Queues {
         })
     }
 
-    /// Makes room for `more` further jobs. Want of memory leaves all as before.
+    /// Makes room for `more` further jobs. Where there is room for them, it takes no memory; want of it leaves all as before.
     pub fn reserve(&mut self, more: u32) -> Result<(), Memory>
         requires { length self.old.state.tasks + more ≤ most_jobs }
         ensures ok { OnOk result (self.new ≡ record self.old { spare = max self.old.spare more }) }
         ensures err { OnErr result (self.new ≡ self.old) }
+        ensures enough { more ≤ self.old.spare → IsOk result }
     {
         if more <= self.spare {
             return Ok(());

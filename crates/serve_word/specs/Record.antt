@@ -1,11 +1,12 @@
 -- What the moves of a call come to, by how it ended.
-use Rattle.std.specs.Prelude.{◌≡◌, ◌≤◌, ◌<◌, ◌+◌, ◌*◌, ◌^◌, ℕ, List, [], ◌∷◌, ◌++◌, true, false, ◌⊎◌, Option, Some, length}
+use Rattle.std.specs.Prelude.{◌≡◌, ℕ, List, [], ◌∷◌, ◌++◌, true, false, ◌⊎◌, Option, Some, length}
 use Rattle.dover_model.specs.Feed as feeds
 use Rattle.dover_model.specs.Feed.{is_open, is_ended, account}
 use Rattle.dover_model.specs.Due.{due, closed, short_lines}
 use Rattle.dover_model.specs.Lines.{in_lines, whole_lines}
 use Rattle.dover_model.specs.Session.{Session, instance_of}
 use Rattle.dover_model.specs.WholeRun.{Begins}
+use Rattle.dover_core.specs.Spending.{AreFew}
 use Rattle.dover_port.specs.Causes.{Rose}
 use Rattle.dover_port.specs.Moves.{Move, Since, ArePuts, ins, outs, has_ended, EachRead, IsProperPrefix}
 use Rattle.dover_port.specs.Moves.Move.{Got, Ended}
@@ -132,5 +133,4 @@ short_text bytes = in_lines (short_lines (length (whole_lines bytes)) (account b
 
 -- The n jobs that were read cost at most 80 * (n + 1) * d comparisons, where n + 1 has at most d binary digits.
 abbrev pub IsFrugal : (before after : ℕ) → List Move → Type 0
-IsFrugal before after moves = (S : Session) → (account (ins moves)).session ≡ Some S → (d : ℕ) → length (instance_of S).jobs + 1 < 2 ^ d
-    → after ≤ before + 80 * (length (instance_of S).jobs + 1) * d
+IsFrugal before after moves = (S : Session) → (account (ins moves)).session ≡ Some S → AreFew (length (instance_of S).jobs) before after

@@ -1,19 +1,13 @@
 -- What the comparisons of a call are for: the times that its jobs begin and cease to wait.
-use Rattle.std.specs.Prelude.{ℕ, ◌+◌, ◌-◌, ◌*◌, ◌^◌, ◌≤◌, ◌<◌, length, Option, Some, None}
-use Rattle.dover_model.specs.State.{State}
+use Rattle.std.specs.Prelude.{ℕ, ◌+◌, ◌*◌, ◌^◌, ◌≤◌, ◌<◌, length, Option, Some, None}
 use Rattle.dover_model.specs.Session.{admitted_jobs}
 use Rattle.dover_model.specs.Feed.{Account}
-use Rattle.dover_model.proofs.WaitingMoves.{waiting_count}
 use Rattle.dover_core.specs.Service.{Service}
-use Rattle.dover_core.proofs.Counting.{exits}
+use Rattle.dover_core.specs.Spending.{waits_so_far}
 use Rattle.event_feed.specs.declared.fed.Fed.{Fed}
 use Rattle.event_feed.specs.declared.fed.Fed.TheVariants as fed
 
--- how often jobs have begun and ceased to wait so far, at most: four times each, but for what may still come
-abbrev pub waits_so_far : State → ℕ
-waits_so_far s = (4 * length s.tasks + waiting_count s) - 2 * exits s
-
--- the same of a server, if there is one
+-- how often jobs have begun and ceased to wait so far, if there is a server
 abbrev pub waits_of : Option Service → ℕ
 waits_of None = 0
 waits_of (Some v) = waits_so_far v.state

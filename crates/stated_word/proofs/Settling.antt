@@ -24,6 +24,7 @@ use Rattle.dover_core.specs.declared.horizon.Horizon.{Horizon}
 use Rattle.dover_core.specs.declared.horizon.Horizon.TheVariants.{Mark, End}
 use Rattle.dover_core.specs.Service.{Service, list_of, MayFollow}
 use Rattle.dover_core.specs.Leading.{LeadsTo, GivesNext, ReachesBarrier}
+use Rattle.dover_core.proofs.Spending.{tasks_count}
 use Rattle.stated_word.specs.Serving.{AbandonsOneOf, HasTallied}
 use Rattle.stated_word.specs.Tallied.{tally_of}
 use Rattle.stated_word.specs.declared.tally.Tally.{Tally}
@@ -74,15 +75,6 @@ deed_names s numbered k m (Taken r x member runs some x_member waiting now stale
 deed_names s numbered k m (Abandoned r x member runs some x_member waiting now stale light) =
     let low : x.number < 0 + length s.tasks = numbers_low 0 s.tasks numbered x x_member in omega arith
 deed_names s numbered k m (Rested quiet) = tt
-
--- as many tasks as jobs
-pub tasks_count : (v u : Service) → list_of u ≡ list_of v → length u.state.tasks ≡ length v.state.tasks
-tasks_count v u same = omega (
-  arith,
-  count_jobs u.state.tasks,
-  count_jobs v.state.tasks,
-  ap (λ (J : Instance). length J.jobs) same,
-)
 
 -- the state of a server that has taken some steps is sound
 pub tallied_sound : (mark : ℕ) (v : Service) (tally : Tally) → HasTallied v mark tally → IsSound v.state

@@ -1,17 +1,8 @@
--- What the comparisons of a call are for: the times that its jobs begin and cease to wait.
-use Rattle.std.specs.Prelude.{ℕ, ◌+◌, ◌-◌, ◌*◌, ◌^◌, ◌≤◌, ◌<◌, length}
+-- What the comparisons of a stated run are for.
+use Rattle.std.specs.Prelude.{ℕ, ◌+◌, ◌*◌, ◌^◌, ◌≤◌, ◌<◌, length}
 use Rattle.dover_model.specs.State.{State}
-use Rattle.dover_model.proofs.WaitingMoves.{waiting_count}
-use Rattle.dover_core.proofs.Counting.{exits}
-
--- how often jobs have begun and ceased to wait so far, at most: four times each, but for what may still come
-abbrev pub waits_so_far : State → ℕ
-waits_so_far s = (4 * length s.tasks + waiting_count s) - 2 * exits s
+use Rattle.dover_core.specs.Spending.{waits_so_far}
 
 -- up to here each time that a job began or ceased to wait cost 20 * d comparisons at most
 abbrev pub HasSpent : State → (start now : ℕ) → Type 0
 HasSpent s start now = (d : ℕ) → length s.tasks + 1 < 2 ^ d → now ≤ start + 20 * d * waits_so_far s
-
--- the comparisons of a call that serves n jobs are few
-abbrev pub AreFew : (n before after : ℕ) → Type 0
-AreFew n before after = (d : ℕ) → n + 1 < 2 ^ d → after ≤ before + 80 * (n + 1) * d

@@ -7,7 +7,7 @@ ghost use Rattle.dover_port.specs.Moves.{Since, PutsThrough, PutsText};
 ghost use Rattle.adversary.specs.Baiting.{FitsLimits};
 ghost use Rattle.stated_word.specs.Baited.{baited_lines, bait_text, size_text};
 ghost use Rattle.stated_word.specs.Record.{Writes, Refuses, IsAnswerFor, Causes};
-ghost use Rattle.stated_word.specs.Spending.{AreFew};
+ghost use Rattle.dover_core.specs.Spending.{AreFew};
 
 use crate::lines::put_line;
 use crate::serving::serve_all;

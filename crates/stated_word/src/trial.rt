@@ -5,7 +5,7 @@ ghost use Rattle.dover_model.specs.Reports.{summary};
 ghost use Rattle.dover_port.specs.Moves.{Since};
 ghost use Rattle.stated_word.specs.Lists.{trial_instance};
 ghost use Rattle.stated_word.specs.Record.{Writes, IsAnswer, Causes};
-ghost use Rattle.stated_word.specs.Spending.{AreFew};
+ghost use Rattle.dover_core.specs.Spending.{AreFew};
 
 use crate::lines::write_summary;
 use crate::serving::serve_all;

@@ -8,7 +8,7 @@ use Rattle.adversary.specs.Baiting.{FitsLimits}
 use Rattle.stated_word.specs.Record as stated
 use Rattle.stated_word.specs.Lists.{trial_instance}
 use Rattle.stated_word.specs.Baited.{bait_text, size_text}
-use Rattle.stated_word.specs.Spending.{AreFew}
+use Rattle.dover_core.specs.Spending.{AreFew}
 use Rattle.dover_top.proofs.Asking.{trial_is, bait_is}
 use Rattle.dover_top.proofs.Settling.{causes_too, no_read, no_read_for}
 use Rattle.dover_top.proofs.carrying.carry_out.Goals as goal

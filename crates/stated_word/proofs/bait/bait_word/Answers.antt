@@ -4,7 +4,7 @@ use Rattle.dover_port.specs.declared.status.Status.TheVariants.{Done, WriteFault
 use Rattle.dover_port.proofs.Made.{since_none}
 use Rattle.adversary.specs.Baiting.{Baiting}
 use Rattle.dover_model.specs.Bait.{bait_jobs}
-use Rattle.stated_word.specs.Spending.{AreFew}
+use Rattle.dover_core.specs.Spending.{AreFew}
 use Rattle.stated_word.specs.Baited.{baited_lines}
 use Rattle.stated_word.specs.declared.bait.Baited.{Baited}
 use Rattle.stated_word.proofs.Baiting.{feed_valid, feed_count, baited_is, never_fits, refuses_what}

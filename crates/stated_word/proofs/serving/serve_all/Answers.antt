@@ -5,7 +5,7 @@ use Rattle.dover_model.specs.Run.{printed}
 use Rattle.dover_core.specs.declared.horizon.Horizon.TheVariants.{Mark}
 use Rattle.dover_core.specs.Service.{Service, MayFollow}
 use Rattle.stated_word.specs.Serving.{HasTallied}
-use Rattle.stated_word.specs.Spending.{AreFew}
+use Rattle.dover_core.specs.Spending.{AreFew}
 use Rattle.stated_word.proofs.Spending.{spent_none, spent_job, spent_all}
 use Rattle.stated_word.specs.Tallied.{tally_of}
 use Rattle.stated_word.specs.declared.tally.Tally.{Tally}
