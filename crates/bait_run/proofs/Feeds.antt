@@ -150,10 +150,6 @@ module _ (k : Fraction) (rounds : ℕ) where
     by_low (inr here) = in_back (released 0 (bait_tick k rounds)) (links_at k rounds (bait_tick k rounds)) j
         (filter_member (λ i. i.release == bait_tick k rounds) (chain_jobs k rounds) j member (eq-eqb j.release (bait_tick k rounds) (omega arith)))
 
-  -- the bait is in it
-  pub bait_in_feed : IsMember bait (bait_jobs k rounds)
-  bait_in_feed = in_back front (bait ∷ []) bait (inl refl)
-
   -- the jobs before the tick b, then the links at it, and one more
   abbrev feed_at : ℕ → JobFacts → List JobFacts
   feed_at b last = released 0 b ++ links_at k rounds b ++ last ∷ []

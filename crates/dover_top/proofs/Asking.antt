@@ -1,114 +1,75 @@
 -- That words ask for one thing at most.
-use Rattle.std.proofs.Common.{◌≡◌, ℕ, ◌<◌, ◌^◌, List, [], ◌∷◌, String, get_or, decimal, refl, sym, ap, ◌∙◌, inl, inr, subst, arith}
+use Rattle.std.proofs.Common.{◌≡◌, ℕ, ◌+◌, ◌<◌, ◌^◌, List, [], ◌∷◌, String, get_or, decimal, refl, sym, ap, ◌∙◌, inl, inr, subst, arith}
+use Rattle.std.specs.Prelude.{codes, bytes_eq, unwrap_or, if◌then◌else◌}
 use Rattle.std.specs.declared.alloc.Global.{Global}
 use Rattle.report_word.specs.declared.form.Form.{Form}
 use Rattle.report_word.specs.declared.form.Form.TheVariants.{Text, Table}
-use Rattle.dover_top.specs.Requests.{Asks, MayCarry}
 use Rattle.dover_model.specs.Fraction.{Fraction, IsRatio}
-use Rattle.dover_top.specs.Words.{spelled, AsksReport, AsksTrial, AsksBait, AreRow}
-use Rattle.dover_top.proofs.Numbers.{decimal_same}
+use Rattle.dover_model.specs.Numerals.{numeral}
+use Rattle.dover_model.proofs.Numerals.{numeral-decimal}
+use Rattle.dover_top.specs.Requests.{Asks, MayCarry}
+use Rattle.dover_top.specs.Words.{spelled, AsksTrial, AsksBait, AreRow}
 use Rattle.dover_top.specs.declared.request.Request.{Request}
 use Rattle.dover_top.specs.declared.request.Request.TheVariants.{Serve, Judge, Report, Trial, Bait}
 
--- the first letter of the word of this place
-abbrev letter : ℕ → List (List ℕ) → ℕ
-letter n words = get_or (get_or words n []) 0 0
+-- ---- words read as what they ask for, if they ask for something
 
--- the first letter of the first word that asks for this
-abbrev letter_of : Request → ℕ
-letter_of Serve = 115
-letter_of Judge = 106
-letter_of (Report form) = 114
-letter_of (Trial seed count k) = 116
-letter_of (Bait k rounds) = 98
+-- the word of this place
+abbrev word_at : ℕ → List (List ℕ) → List ℕ
+word_at n words = get_or words n []
 
--- it is that of the words
-has_letter : (words : List (String Global)) (r : Request) → Asks words r → letter 0 (spelled words) ≡ letter_of r
-has_letter words Serve asks = ap (letter 0) asks
-has_letter words Judge asks = ap (letter 0) asks
-has_letter words (Report form) asks = ap (letter 0) asks
-has_letter words (Trial seed count k) asks = ap (letter 0) asks.row
-has_letter words (Bait k rounds) asks = ap (letter 0) asks.row
+-- the number that a word spells
+abbrev number_of : List ℕ → ℕ
+number_of word = unwrap_or (numeral word) 0
 
--- a number is spelled in one way
-same_number : (m n : ℕ) → m < 10 ^ 18 → n < 10 ^ 18 → decimal m ≡ decimal n → m ≡ n
-same_number m n small small_too e = decimal_same (decimal m) m n small small_too refl e
+-- the ratio whose numbers are spelled from this place on
+abbrev ratio_at : ℕ → List (List ℕ) → Fraction
+ratio_at n words = record { p = number_of (word_at n words); q = number_of (word_at (n + 1) words) }
 
--- rows of five and of four words are equal word by word
-five : {a b c d e a' b' c' d' e' : List ℕ} → a ∷ b ∷ c ∷ d ∷ e ∷ [] ≡ a' ∷ b' ∷ c' ∷ d' ∷ e' ∷ [] → (b ≡ b') × (c ≡ c') × (d ≡ d') × (e ≡ e')
-five same = (cc, cc, cc, cc)
+-- the form of report that a word names
+abbrev form_of : List ℕ → Form
+form_of word = if bytes_eq word (codes "text") then Text else Table
 
-four : {a b c d a' b' c' d' : List ℕ} → a ∷ b ∷ c ∷ d ∷ [] ≡ a' ∷ b' ∷ c' ∷ d' ∷ [] → (b ≡ b') × (c ≡ c') × (d ≡ d')
-four same = (cc, cc, cc)
+-- by the first word
+abbrev request_of : List (List ℕ) → Request
+request_of words =
+    if bytes_eq (word_at 0 words) (codes "serve") then Serve else (
+    if bytes_eq (word_at 0 words) (codes "judge") then Judge else (
+    if bytes_eq (word_at 0 words) (codes "report") then Report (form_of (word_at 1 words)) else (
+    if bytes_eq (word_at 0 words) (codes "trial")
+    then Trial (number_of (word_at 1 words)) (number_of (word_at 2 words)) (ratio_at 3 words)
+    else Bait (ratio_at 1 words) (number_of (word_at 3 words)))))
 
--- the numbers of a ratio are small
-small_p : (k : Fraction) → IsRatio k → k.p < 10 ^ 18
-small_p k r = omega (arith, r.small_p)
+-- a number is read back
+number_same : (n : ℕ) → n < 10 ^ 18 → number_of (decimal n) ≡ n
+number_same n small = ap (λ o. unwrap_or o 0) (numeral-decimal n small)
 
-small_q : (k : Fraction) → IsRatio k → k.q < 10 ^ 18
-small_q k r = omega (arith, r.small_q)
+-- so is a ratio
+ratio_same : (k : Fraction) → IsRatio k → record { p = number_of (decimal k.p); q = number_of (decimal k.q) } ≡ k
+ratio_same k r = both (number_same k.p (omega (arith, r.small_p))) (number_same k.q (omega (arith, r.small_q))) where
+  make : ℕ → ℕ → Fraction
+  make p q = record { p = p; q = q }
 
--- ratios of the same numbers are the same
-same_ratio : (k l : Fraction) → k.p ≡ l.p → k.q ≡ l.q → k ≡ l
-same_ratio k l e f = let make : ℕ → ℕ → Fraction = λ p q. record { p = p; q = q } in ap (λ p. make p k.q) e ∙ ap (λ q. make l.p q) f
+  both : number_of (decimal k.p) ≡ k.p → number_of (decimal k.q) ≡ k.q → make (number_of (decimal k.p)) (number_of (decimal k.q)) ≡ k
+  both e f = ap (λ p. make p (number_of (decimal k.q))) e ∙ ap (λ q. make k.p q) f
 
--- the same list is asked for
-same_trial : (words : List (String Global)) (seed count seed' count' : ℕ) (k l : Fraction) → AsksTrial words seed count k
-    → AsksTrial words seed' count' l → Trial seed count k ≡ Trial seed' count' l
-same_trial words seed count seed' count' k l one two =
-    let each = five (sym one.row ∙ two.row) in
-    let e = same_number seed seed' (omega (arith, one.small)) (omega (arith, two.small)) each.0 in
-    let f = same_number count count' (omega (arith, one.few)) (omega (arith, two.few)) each.1 in
-    let g = same_number k.p l.p (small_p k one.allowed) (small_p l two.allowed) each.2 in
-    let h = same_number k.q l.q (small_q k one.allowed) (small_q l two.allowed) each.3 in
-    let i = same_ratio k l g h in cc
-
--- the same baiting jobs are asked for
-same_bait : (words : List (String Global)) (k l : Fraction) (rounds rounds' : ℕ) → AsksBait words k rounds → AsksBait words l rounds'
-    → Bait k rounds ≡ Bait l rounds'
-same_bait words k l rounds rounds' one two =
-    let each = four (sym one.row ∙ two.row) in
-    let g = same_number k.p l.p (small_p k one.allowed) (small_p l two.allowed) each.0 in
-    let h = same_number k.q l.q (small_q k one.allowed) (small_q l two.allowed) each.1 in
-    let f = same_number rounds rounds' (omega (arith, one.few)) (omega (arith, two.few)) each.2 in
-    let i = same_ratio k l g h in cc
-
--- the same form is asked for
-same_form : (words : List (String Global)) (form other : Form) → AsksReport words form → AsksReport words other → Report form ≡ Report other
-same_form words Text Text one two = refl
-same_form words Table Table one two = refl
-same_form words Text Table one two = absurd (let clash : 116 ≡ 99 = ap (letter 1) (sym one ∙ two) in omega (arith, clash))
-same_form words Table Text one two = absurd (let clash : 99 ≡ 116 = ap (letter 1) (sym one ∙ two) in omega (arith, clash))
+-- words that ask for something are read as it
+is_read : (words : List (String Global)) (r : Request) → Asks words r → request_of (spelled words) ≡ r
+is_read words Serve asks = ap request_of asks
+is_read words Judge asks = ap request_of asks
+is_read words (Report Text) asks = ap request_of asks
+is_read words (Report Table) asks = ap request_of asks
+is_read words (Trial seed count k) asks = ap request_of asks.row
+    ∙ ap (λ n. Trial n (number_of (decimal count)) (ratio_at 0 (decimal k.p ∷ decimal k.q ∷ []))) (number_same seed (omega (arith, asks.small)))
+    ∙ ap (λ n. Trial seed n (ratio_at 0 (decimal k.p ∷ decimal k.q ∷ []))) (number_same count (omega (arith, asks.few)))
+    ∙ ap (λ l. Trial seed count l) (ratio_same k asks.allowed)
+is_read words (Bait k rounds) asks = ap request_of asks.row
+    ∙ ap (λ l. Bait l (number_of (decimal rounds))) (ratio_same k asks.allowed)
+    ∙ ap (λ n. Bait k n) (number_same rounds (omega (arith, asks.few)))
 
 -- words that ask for two things ask for one
 pub asks_one : (words : List (String Global)) (r other : Request) → Asks words r → Asks words other → r ≡ other
-asks_one words r other one two = by_letter r other one two (sym (has_letter words r one) ∙ has_letter words other two) where
-  by_letter : (r other : Request) → Asks words r → Asks words other → letter_of r ≡ letter_of other → r ≡ other
-  by_letter Serve Serve one two e = refl
-  by_letter Judge Judge one two e = refl
-  by_letter (Report form) (Report form') one two e = same_form words form form' one two
-  by_letter (Trial seed count k) (Trial seed' count' l) one two e = same_trial words seed count seed' count' k l one two
-  by_letter (Bait k rounds) (Bait l rounds') one two e = same_bait words k l rounds rounds' one two
-  by_letter Serve Judge one two e = absurd (omega (arith, e))
-  by_letter Serve (Report form) one two e = absurd (omega (arith, e))
-  by_letter Serve (Trial seed count k) one two e = absurd (omega (arith, e))
-  by_letter Serve (Bait k rounds) one two e = absurd (omega (arith, e))
-  by_letter Judge Serve one two e = absurd (omega (arith, e))
-  by_letter Judge (Report form) one two e = absurd (omega (arith, e))
-  by_letter Judge (Trial seed count k) one two e = absurd (omega (arith, e))
-  by_letter Judge (Bait k rounds) one two e = absurd (omega (arith, e))
-  by_letter (Report form) Serve one two e = absurd (omega (arith, e))
-  by_letter (Report form) Judge one two e = absurd (omega (arith, e))
-  by_letter (Report form) (Trial seed count k) one two e = absurd (omega (arith, e))
-  by_letter (Report form) (Bait k rounds) one two e = absurd (omega (arith, e))
-  by_letter (Trial seed count k) Serve one two e = absurd (omega (arith, e))
-  by_letter (Trial seed count k) Judge one two e = absurd (omega (arith, e))
-  by_letter (Trial seed count k) (Report form) one two e = absurd (omega (arith, e))
-  by_letter (Trial seed count k) (Bait l rounds) one two e = absurd (omega (arith, e))
-  by_letter (Bait k rounds) Serve one two e = absurd (omega (arith, e))
-  by_letter (Bait k rounds) Judge one two e = absurd (omega (arith, e))
-  by_letter (Bait k rounds) (Report form) one two e = absurd (omega (arith, e))
-  by_letter (Bait k rounds) (Trial seed count l) one two e = absurd (omega (arith, e))
+asks_one words r other one two = sym (is_read words r one) ∙ is_read words other two
 
 -- words that ask for nothing are no row
 pub no_row : (words : List (String Global)) → ((r : Request) → Asks words r → ⊥) → AreRow words → ⊥

@@ -9,7 +9,7 @@ use Rattle.dover_port.specs.Moves.{Move, Since, ArePuts, ins, outs, has_ended, E
 use Rattle.dover_port.specs.Moves.Move.{Got, Ended, Put}
 use Rattle.dover_port.specs.declared.status.Status.{Status}
 use Rattle.dover_port.specs.declared.status.Status.TheVariants.{Done, No, Refused, ReadFault, WriteFault, Memory, Usage}
-use Rattle.dover_port.proofs.Made.{since_none, since_then, since_weaker, ins-append, outs-append, ins-puts, has_ended-append, ArePuts-append}
+use Rattle.dover_port.proofs.Made.{since_then, ins-append, outs-append, ins-puts, has_ended-append, ArePuts-append}
 use Rattle.dover_port.proofs.Made.{EachReadFrom-append, EachReadFrom-puts, since_then_at}
 use Rattle.trace_judge.specs.Judging.{StandsFor, Fed, is_wrong}
 use Rattle.trace_judge.specs.declared.judge.Judge.{Judge}
@@ -77,11 +77,6 @@ abbrev pub Decides : Judge → Bool → Type 0
 Decides judge b = (text : List ℕ) → StandsFor judge text → b ≡ is_wrong (verdict text)
 
 module _ (a b c : Option (List Move)) (old : Judge) (run : Since a b (GoesOn old)) where
-  -- a read failed
-  pub on_unread : Since a b (Judges ReadFault)
-  on_unread = since_weaker a b _ _ run
-      (λ xs g. record { reads = g.reads; ends = record { unended = g.unended; right = g.right; text = g.text } })
-
   -- the input ended
   pub on_end : Since b c (λ moves. moves ≡ Ended ∷ []) → Since a c (IsRead old)
   on_end end = since_then a b c _ _ _ run end (λ xs ys g is. subst (λ ms. IsRead old (xs ++ ms)) (sym is) (on_ended old xs g))
@@ -120,10 +115,6 @@ module _ (a b c : Option (List Move)) (old : Judge) (run : Since a b (GoesOn old
       })
 
 -- ---- the end
-
--- there was no memory at the start
-pub no_start : (a : Option (List Move)) → Since a a (Judges Memory)
-no_start a = since_none a (Judges Memory) (record { reads = tt; ends = record { unended = refl; text = refl } })
 
 -- puts behind allowed reads
 reads_then_puts : (P : List ℕ → List ℕ → Type 0) (got put : List ℕ) (xs ys : List Move) → ArePuts ys → EachReadFrom P got put xs

@@ -7,8 +7,6 @@ use Rattle.std.specs.Option.{option_map}
 use Rattle.dover_model.specs.Limits.{most_lines, last_tick}
 use Rattle.dover_model.specs.JobFacts.{JobFacts, job_of_numbers}
 use Rattle.dover_model.specs.declared.events.Refusal.{Refusal}
-use Rattle.dover_model.specs.declared.events.Version.{Version}
-use Rattle.dover_model.specs.Fraction.{Fraction}
 use Rattle.dover_model.specs.Admission.{refusal_of}
 use Rattle.dover_model.specs.Session.{Session, Item, JobItem, RefusedItem, RefusedJob, refused_at, admitted_jobs}
 use Rattle.dover_model.specs.Session.{is_two}
@@ -16,16 +14,14 @@ use Rattle.dover_model.specs.FeedLine.{FeedLine, RatioLine, JobLine, TickLine, E
 use Rattle.dover_model.specs.Feed.{Account, Standing, Lines, Line, is_open, next_line, read_line, with_line, with_fault, with_item_in}
 use Rattle.dover_model.specs.Feed.{later_line_cause, Order, NotAdmitted, account}
 use Rattle.dover_model.proofs.Accounts.{account_append}
-use Rattle.dover_core.specs.Service.{Service, fresh_service}
-use Rattle.event_feed.specs.Answers.{DeclaresRatio, IsFed, counted}
+use Rattle.dover_core.specs.Service.{Service}
+use Rattle.event_feed.specs.Answers.{IsFed, counted}
 use Rattle.event_feed.specs.declared.fed.Fed.{Fed}
 use Rattle.event_feed.specs.declared.fed.Fed.TheVariants as fed
 use Rattle.serve_word.specs.Delivered.{Fits}
-use Rattle.serve_word.specs.Session.{IsOpenAt}
-use Rattle.serve_word.specs.Spending.{Spends, jobs_in, admitted_in, jobs_fed}
+use Rattle.serve_word.specs.Spending.{jobs_in, admitted_in, jobs_fed}
 use Rattle.serve_word.proofs.Pieces.{rest_bytes}
 use Rattle.serve_word.proofs.Printing.{tasks_count}
-use Rattle.serve_word.proofs.Spending.{fresh_spends}
 
 -- ---- items
 
@@ -148,21 +144,6 @@ fits_jobs a None fits = omega arith
 fits_jobs a (Some v) fits =
     let is : admitted_in a ≡ length (admitted_jobs fits.0.items) = ap admitted_by fits.1 in
     omega (arith, tasks_count fits.0 v fits.2.jobs)
-
--- ---- the ratio line
-
-module _ (a b : Account) (k : Fraction) (version : Version) (o : Option Service) (m : ℕ) (at : IsOpenAt a o m)
-    (declares : DeclaresRatio k version (counted a) b) where
-  -- a fresh server in place of none costs nothing
-  pub declared_spends : (v : Service) (spare : ℕ) → v ≡ fresh_service version k spare → (steps : ℕ) → Spends o (Some v) steps steps
-  declared_spends v spare is steps = by_server o at.fits where
-    by_server : (o : Option Service) → Fits a o → Spends o (Some v) steps steps
-    by_server None fits = fresh_spends version k spare v is steps
-    by_server (Some w) fits = absurd (let e : None ≡ Some fits.0 = sym declares.first ∙ fits.1 in cc)
-
--- it has no job
-pub fresh_jobs : (version : Version) (k : Fraction) (v : Service) (spare : ℕ) → v ≡ fresh_service version k spare → (n : ℕ) → jobs_in (Some v) ≤ n
-fresh_jobs version k v spare is n = let none : jobs_in (Some v) ≡ 0 = ap (λ u. jobs_in (Some u)) is in omega arith
 
 -- before the first byte there is no server
 pub none_yet : (a : Account) (o : Option Service) → Fits a o → a.session ≡ None → o ≡ None

@@ -1,8 +1,7 @@
 -- What each answer of the intake delivers.
-use Rattle.std.proofs.Common.{◌≡◌, ◌≤◌, ◌+◌, ℕ, suc, List, ◌∷◌, ◌++◌, [], length, sym, ap, ◌∙◌, subst, Option, Some, None, Result, Ok, Err}
-use Rattle.std.proofs.Common.{arith}
+use Rattle.std.proofs.Common.{◌≡◌, ◌≤◌, ℕ, suc, List, ◌∷◌, ◌++◌, [], sym, ap, ◌∙◌, subst, Option, Some, None, Result, Ok, Err}
 use Rattle.dover_model.specs.declared.events.Refusal.{Refusal}
-use Rattle.dover_model.specs.Limits.{last_tick, most_jobs}
+use Rattle.dover_model.specs.Limits.{last_tick}
 use Rattle.dover_model.specs.JobFacts.{JobFacts}
 use Rattle.dover_model.specs.Instance.{IsValid, with_jobs}
 use Rattle.dover_model.specs.Session.{Session}
@@ -22,7 +21,7 @@ use Rattle.serve_word.specs.Session.{IsOpenAt}
 use Rattle.serve_word.specs.declared.progress.Progress.TheVariants as progress
 use Rattle.serve_word.specs.declared.progress.Stop.TheVariants.{NoMemory, Unwritten}
 use Rattle.serve_word.proofs.Delivering.{holds_of, tick_all, tick_part, end_all, end_part, job_none, job_first, job_first_part, job_all, job_part}
-use Rattle.serve_word.proofs.Delivering.{job_valid, job_room, job_known, job_can}
+use Rattle.serve_word.proofs.Delivering.{job_valid, job_can}
 use Rattle.serve_word.proofs.Going.{served_can, one_session}
 use Rattle.serve_word.proofs.OneLine.{line_all, line_part, refused_due, refused_fits, fault_due, fault_stands}
 
@@ -123,14 +122,6 @@ module _ (a b : Account) (n : ℕ) (job : JobFacts) (v : Service) (m : ℕ) (at 
   served_before : IsServed adds.session a.mark v
   served_before = fits_session a adds.session v at.fits adds.before_is
 
-  -- there is room in the list
-  pub arrival_room : length v.state.tasks + 1 ≤ most_jobs
-  arrival_room = job_room a b adds.session at.kept at.stands adds.before_is job adds.after_is adds.no_fall adds.admitted v served_before
-
-  -- the release is a tick
-  pub arrival_known : job.release ≤ last_tick
-  arrival_known = job_known a b adds.session at.kept at.stands adds.before_is job adds.after_is adds.no_fall adds.admitted v served_before
-
   -- no memory for the job
   pub arrival_none : (old new : Option (List Move)) (p q : List ℕ) (server : Option Service) → old ≡ new
       → Delivers (Err NoMemory) old new p q a b server
@@ -145,10 +136,6 @@ module _ (a b : Account) (n : ℕ) (job : JobFacts) (v : Service) (m : ℕ) (at 
     pub arrival_can : CanGoOn v1
     arrival_can = let holds = holds_of a adds.session at.kept at.stands adds.before_is in
         served_can adds.session a.mark v1 holds.reads.valid holds.known served_first
-
-    -- the release may follow
-    pub arrival_follows : MayFollow v1.last (Mark job.release)
-    arrival_follows = may_follow v1.last a.mark job.release served_first.last adds.no_fall arrival_known
 
     module _ (old mid : Option (List Move)) (p r : List ℕ) (w : Service) where
       -- a front of what is settled without the job was put
@@ -173,11 +160,6 @@ module _ (a b : Account) (n : ℕ) (job : JobFacts) (v : Service) (m : ℕ) (at 
           pub admitted_can : CanGoOn y
           admitted_can = job_can a b adds.session at.kept at.stands adds.before_is job adds.after_is adds.no_fall adds.admitted v1 served_first old
               mid p r w x first mid p y y spare admitted
-
-          -- its release may follow once more
-          pub admitted_follows : MayFollow y.last (Mark job.release)
-          admitted_follows = may_follow y.last job.release job.release (ap (λ (z : Service). z.last) admitted ∙ served_there.last) (omega arith)
-              arrival_known
 
           module _ (new : Option (List Move)) (q : List ℕ) (u : Service) where
             -- all of it was put

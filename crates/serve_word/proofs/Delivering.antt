@@ -1,9 +1,9 @@
 -- How each kind of line is delivered.
-use Rattle.std.proofs.Common.{◌≡◌, ◌≤◌, ◌+◌, ℕ, suc, List, [], ◌∷◌, ◌++◌, length, map, refl, sym, ap, ◌∙◌, subst, Option, Some, None, Ok, Err}
+use Rattle.std.proofs.Common.{◌≡◌, ◌≤◌, ℕ, suc, List, [], ◌∷◌, ◌++◌, map, refl, sym, ap, ◌∙◌, subst, Option, Some, None, Ok, Err}
 use Rattle.std.proofs.Common.{append_assoc, arith, inl, inr}
 use Rattle.std.proofs.lemmas.List.{append-nil}
 use Rattle.dover_model.specs.declared.events.Event.{Event}
-use Rattle.dover_model.specs.Limits.{last_tick, most_jobs}
+use Rattle.dover_model.specs.Limits.{last_tick}
 use Rattle.dover_model.specs.JobFacts.{JobFacts}
 use Rattle.dover_model.specs.Instance.{IsValid, with_jobs}
 use Rattle.dover_model.specs.Admission.{refusal_of}
@@ -36,7 +36,7 @@ use Rattle.serve_word.specs.Delivered.{Delivers, Begun, StandsAt, IsDeclared}
 use Rattle.serve_word.specs.declared.progress.Progress.{Progress}
 use Rattle.serve_word.specs.declared.progress.Progress.TheVariants as progress
 use Rattle.serve_word.specs.declared.progress.Stop.TheVariants.{NoMemory, Unwritten}
-use Rattle.serve_word.proofs.Printing.{begins_settled, all_settled, served_all, served_job, tasks_count}
+use Rattle.serve_word.proofs.Printing.{begins_settled, all_settled, served_all, served_job}
 use Rattle.serve_word.proofs.Finishing.{finishes_all, finishes_part}
 use Rattle.serve_word.proofs.Adding.{due_open, due_ended, event_lines-append, texts_on}
 
@@ -157,10 +157,6 @@ module _ (a b : Account) (S : Session) (kept : IsKept a) (stands : a.standing �
   -- so is the session's instance
   job_valid_after : IsValid (instance_of with_job_item)
   job_valid_after = subst IsValid (sym (job_instance S j)) job_valid
-
-  -- there is room for the job
-  pub job_room : length v.state.tasks + 1 ≤ most_jobs
-  job_room = omega (arith, (not_refused S.rules.ratio (admitted_jobs S.items) j none).count, tasks_count S v served.jobs)
 
   -- its release is a tick
   pub job_known : j.release ≤ last_tick

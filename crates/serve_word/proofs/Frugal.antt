@@ -20,7 +20,7 @@ use Rattle.serve_word.specs.declared.progress.Progress.{Progress}
 use Rattle.serve_word.specs.declared.progress.Stop.{Stop}
 use Rattle.serve_word.specs.declared.progress.Stop.TheVariants.{NoMemory, Unwritten}
 use Rattle.serve_word.proofs.Spending.{waits_most, spends_none}
-use Rattle.serve_word.proofs.Admitted.{fits_jobs, none_yet}
+use Rattle.serve_word.proofs.Admitted.{none_yet}
 use Rattle.serve_word.proofs.Turns.{got_some}
 
 -- ---- a turn
@@ -51,10 +51,6 @@ turn_jobs a b mid c x bytes some moved result p q server delivers puts few = sin
       got : (xs ys : List Move) → xs ≡ read_move bytes ∷ [] → ArePuts ys → ins (xs ++ ys) ≡ bytes
       got xs ys is made = ins-append xs ys ∙ ap (λ l. ins xs ++ l) (ins-puts ys made) ∙ append-nil (ins xs) ∙ ap ins is
           ∙ ap (λ m. ins (m ∷ [])) (got_some bytes some) ∙ append-nil bytes
-
--- the jobs of a feed that stands
-pub stands_jobs : (feed : Feed) (x : List ℕ) → FeedStands feed x → jobs_in feed.session.server ≤ admitted_in (account x)
-stands_jobs feed x stands = fits_jobs (account x) feed.session.server stands.keeps.at.fits
 
 -- ---- a whole call
 

@@ -132,14 +132,6 @@ module _ (a b c : Option (List Move)) (old new : Feed) (run : Since a b (GoesOn 
   turn_refused it = since_then_at a b c _ (λ xs. TurnMakes turn.Refused new (ins xs)) _ run (λ xs g. it (ins xs) g.stands)
       (λ xs ys g m. subst (λ ms. Serves Refused (xs ++ ms)) (sym m.made) (on_refused old xs g m.bytes m.puts m.are_puts m.gives.0 m.gives.1))
 
-  -- a turn in which a read failed
-  pub turn_unread : ((x : List ℕ) → FeedStands old x → Since b c (TurnMakes turn.Unread new x)) → Since a c (Serves ReadFault)
-  turn_unread it = since_then_at a b c _ (λ xs. TurnMakes turn.Unread new (ins xs)) _ run (λ xs g. it (ins xs) g.stands)
-      (λ xs ys g m. subst (Serves ReadFault) (sym (ap (λ ms. xs ++ ms) m ∙ append-nil xs)) (record {
-        reads = g.reads;
-        ends = record { unended = g.unended; open_still = stands_open old (ins xs) g.stands; text = g.text };
-      }))
-
   -- a turn in which a write failed
   pub turn_unput : ((x : List ℕ) → FeedStands old x → Since b c (TurnMakes turn.Unwritten new x)) → Since a c (Serves WriteFault)
   turn_unput it = since_then_at a b c _ (λ xs. TurnMakes turn.Unwritten new (ins xs)) _ run (λ xs g. it (ins xs) g.stands)

@@ -1,10 +1,8 @@
 -- How comparisons are paid for, from a step of the server up to a whole call.
 use Rattle.std.proofs.Common.{◌≡◌, ℕ, ◌+◌, ◌*◌, ◌^◌, ◌≤◌, ◌<◌, length, sym, ap, ◌∙◌, subst, Option, Some, None, arith}
-use Rattle.dover_model.specs.declared.events.Version.{Version}
 use Rattle.dover_model.specs.JobFacts.{JobFacts}
-use Rattle.dover_model.specs.Fraction.{Fraction}
 use Rattle.dover_core.specs.declared.horizon.Horizon.{Horizon}
-use Rattle.dover_core.specs.Service.{Service, list_of, fresh_service, with_job}
+use Rattle.dover_core.specs.Service.{Service, list_of, with_job}
 use Rattle.dover_core.specs.Counting.{IsCounted}
 use Rattle.dover_core.specs.Spending.{waits_so_far}
 use Rattle.dover_core.proofs.Spending.{tasks_count, so_far_most, step_pays, more_count, more_so_far}
@@ -42,12 +40,6 @@ spends_then o p q a b c first second = record {
 -- room that is made costs nothing
 pub room_spends : (v w : Service) (k : ℕ) → w ≡ record v { spare = k } → (steps : ℕ) → Spends (Some v) (Some w) steps steps
 room_spends v w k is steps = subst (λ u. Spends (Some v) (Some u) steps steps) (sym is)
-    (record { grows = omega arith; few = λ d enough. omega arith })
-
--- nor does a server of no job
-pub fresh_spends : (version : Version) (k : Fraction) (spare : ℕ) (v : Service) → v ≡ fresh_service version k spare → (steps : ℕ)
-    → Spends None (Some v) steps steps
-fresh_spends version k spare v is steps = subst (λ u. Spends None (Some u) steps steps) (sym is)
     (record { grows = omega arith; few = λ d enough. omega arith })
 
 -- ---- a job more

@@ -297,14 +297,6 @@ wrong_fed j line due piece is = record {
   keep = refl;
 }
 
--- nothing more
-pub fed_nothing : (j : Judge) → Fed j j []
-fed_nothing j = record {
-  stands = λ text stands. subst (StandsFor j) (sym (append-nil text)) stands;
-  spare = λ text stands. omega (arith, named_more text []);
-  keep = refl;
-}
-
 -- one piece and another
 pub fed_on : (a b c : Judge) (piece more : List ℕ) → Fed a b piece → Fed b c more → Fed a c (piece ++ more)
 fed_on a b c piece more first next = record {

@@ -57,9 +57,6 @@ module _ (r : Reading) (ls : List (List ℕ)) where
   pub ends_of : r.stage ≡ Ended → ReadsAhead r ls → (S : Session) × Ends r ls S
   ends_of is reads = let there : AheadBy Ended r ls = subst (λ s. AheadBy s r ls) is reads in there
 
-  pub ended_of : r.stage ≡ Ended → (S : Session) → Ends r ls S → Reads r ls
-  ended_of is S ends = subst (λ s. HereBy s r ls) (sym is) (S, ends)
-
   -- what is kept of lines is kept as well of a run that may have gone on
   pub reads_ahead : Reads r ls → ReadsAhead r ls
   reads_ahead reads = by_stage r.stage reads where
