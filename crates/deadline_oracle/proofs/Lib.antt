@@ -1,0 +1,12 @@
+pub mod Overfull
+pub mod Stretches
+pub mod EarliestFirst
+pub mod Shares
+pub mod Coming
+pub mod Lateness
+pub mod Keeping
+pub mod Numbered
+pub mod Standing
+pub mod Running
+pub mod LastStart
+pub mod Deciding

@@ -1,0 +1,2 @@
+pub mod Feasibility
+pub mod Progress
