@@ -1,0 +1,64 @@
+-- What one tick of a policy's run does to the tasks.
+use Rattle.std.proofs.Common.{◌≡◌, ℕ, suc, zero, ◌+◌, ◌-◌, ◌*◌, ◌≤◌, ◌<◌, inl, inr, List, [], ◌∷◌, map, refl, sym, ap, ◌∙◌, subst, Bool, true, false, cond}
+use Rattle.std.proofs.Common.{eqb, arith}
+use Rattle.std.specs.Prelude.{nat_le, nat_lt, ◌&&◌}
+use Rattle.dover_model.specs.declared.events.Task.{Task}
+use Rattle.dover_model.specs.State.{left}
+use Rattle.dover_model.specs.Sound.{IsMember, Each}
+use Rattle.dover_model.specs.Pieces.{given}
+use Rattle.policy_lab.specs.PolicyRun.{is_ready}
+
+-- the three tests, on numbers
+tests_say : (r t l d : ℕ) → (nat_le r t && nat_lt 0 l && nat_le (t + l) d) ≡ true → (r ≤ t) × (0 < l) × (t + l ≤ d)
+tests_say r t l d h = (grind arith, grind arith, grind arith)
+
+say_tests : (r t l d : ℕ) → r ≤ t → 0 < l → t + l ≤ d → (nat_le r t && nat_lt 0 l && nat_le (t + l) d) ≡ true
+say_tests r t l d released some fits = grind arith
+
+-- what it is to be ready
+pub ready_says : (t : ℕ) (task : Task) → is_ready t task ≡ true → (task.job.release ≤ t) × (0 < left task) × (t + left task ≤ task.job.deadline)
+ready_says t task h = tests_say task.job.release t (left task) task.job.deadline h
+
+pub says_ready : (t : ℕ) (task : Task) → task.job.release ≤ t → 0 < left task → t + left task ≤ task.job.deadline → is_ready t task ≡ true
+says_ready t task released some fits = say_tests task.job.release t (left task) task.job.deadline released some fits
+
+-- a job that isn't ready isn't so later either
+pub never_again : (t : ℕ) (task : Task) → task.job.release ≤ t → is_ready t task ≡ false → is_ready (t + 1) task ≡ false
+never_again t task released late = by_test (is_ready (t + 1) task) refl where
+  by_test : (b : Bool) → is_ready (t + 1) task ≡ b → b ≡ false
+  by_test false h = refl
+  by_test true h =
+      let says : (task.job.release ≤ t + 1) × (0 < left task) × (t + 1 + left task ≤ task.job.deadline) = ready_says (t + 1) task h in
+      let again : is_ready t task ≡ true = says_ready t task released says.1 (let fits : t + 1 + left task ≤ task.job.deadline = says.2 in omega arith) in
+      cc
+
+-- the job of this number alone is given the tick
+pub given_other : (n : ℕ) (task : Task) → eqb task.number n ≡ false → given n task ≡ task
+given_other n task other = ap (λ b. cond b (record task { had = task.had + 1 }) task) other
+
+pub given_same : (n : ℕ) (task : Task) → eqb task.number n ≡ true → given n task ≡ record task { had = task.had + 1 }
+given_same n task same = ap (λ b. cond b (record task { had = task.had + 1 }) task) same
+
+-- numbers and jobs stay
+pub given_number : (n : ℕ) (task : Task) → (given n task).number ≡ task.number
+given_number n task = by_test (eqb task.number n) where
+  by_test : (b : Bool) → (cond b (record task { had = task.had + 1 }) task).number ≡ task.number
+  by_test true = refl
+  by_test false = refl
+
+pub given_job : (n : ℕ) (task : Task) → (given n task).job ≡ task.job
+given_job n task = by_test (eqb task.number n) where
+  by_test : (b : Bool) → (cond b (record task { had = task.had + 1 }) task).job ≡ task.job
+  by_test true = refl
+  by_test false = refl
+
+-- a tick that goes to a number goes to a job that is ready
+abbrev pub Fits : ℕ → ℕ → List Task → Type 0
+Fits n t tasks = Each (λ task. eqb task.number n ≡ true → is_ready t task ≡ true) tasks
+
+-- a job that isn't ready stays as it is
+pub idle_task : (n t : ℕ) (task : Task) → (eqb task.number n ≡ true → is_ready t task ≡ true) → is_ready t task ≡ false → given n task ≡ task
+idle_task n t task fits late = by_test (eqb task.number n) refl where
+  by_test : (b : Bool) → eqb task.number n ≡ b → given n task ≡ task
+  by_test true same = let ready : is_ready t task ≡ true = fits same in cc
+  by_test false other = given_other n task other

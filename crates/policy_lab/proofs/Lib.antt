@@ -1,0 +1,11 @@
+pub mod Given
+pub mod Counts
+pub mod Entries
+pub mod Runs
+pub mod InPlace
+pub mod Taking
+pub mod Stretching
+pub mod Holding
+pub mod Ticks
+pub mod Onlines
+mod PolicyRows

@@ -1,0 +1,147 @@
+-- What a policy picks up to a tick depends on the jobs that are released by then alone.
+use Rattle.std.proofs.Common.{◌≡◌, ℕ, suc, zero, ◌+◌, ◌≤◌, ◌<◌, inl, inr, List, [], ◌∷◌, ◌++◌, length, get_or, map, refl, sym, ap, ◌∙◌, subst, Bool, true, false, cond}
+use Rattle.std.proofs.Common.{arith, add-one}
+use Rattle.std.specs.Prelude.{nat_le, None, unwrap_or}
+use Rattle.std.specs.List.{filter, fold}
+use Rattle.std.proofs.lemmas.List.{map-append}
+use Rattle.std.proofs.lemmas.List.Elements.{filter-append}
+use Rattle.std.proofs.lemmas.Bool.{leb-true, leb-false}
+use Rattle.dover_model.specs.JobFacts.{JobFacts}
+use Rattle.dover_model.specs.Instance.{IsInOrder}
+use Rattle.dover_model.specs.declared.events.Role.TheVariants.{Coming}
+use Rattle.dover_model.specs.declared.events.Task.{Task}
+use Rattle.dover_model.specs.Entries.{entry_of}
+use Rattle.dover_model.specs.State.{to_come, left}
+use Rattle.dover_model.specs.Run.{last_deadline}
+use Rattle.dover_model.specs.Pieces.{given}
+use Rattle.dover_model.specs.Online.{known_at}
+use Rattle.dover_model.specs.Sound.{IsMember, Each}
+use Rattle.dover_model.proofs.Members.{on_map}
+use Rattle.dover_model.proofs.Prefixes.{member_front}
+use Rattle.dover_model.proofs.Valid.{Split, split_known}
+use Rattle.policy_lab.specs.Picks.{Picks}
+use Rattle.policy_lab.specs.PolicyRun.{is_ready, picked, policy_run_from, policy_run}
+use Rattle.policy_lab.proofs.Given.{ready_says, given_job}
+
+-- of tasks that can't be ready none is
+none_ready : (t : ℕ) (tasks : List Task) → Each (λ task. is_ready t task ≡ true → ⊥) tasks → filter (is_ready t) tasks ≡ []
+none_ready t [] never = refl
+none_ready t (task ∷ tasks) never =
+    ap (λ b. cond b (task ∷ filter (is_ready t) tasks) (filter (is_ready t) tasks)) (not_so (is_ready t task) refl)
+    ∙ none_ready t tasks (λ other m. never other (inr m)) where
+      not_so : (b : Bool) → is_ready t task ≡ b → b ≡ false
+      not_so false h = refl
+      not_so true h = absurd (never task (inl refl) h)
+
+-- what is picked so many ticks after tick t
+abbrev pub seen : Picks → (ticks : ℕ) → ℕ → List Task → ℕ
+seen picks zero t tasks = picked picks t tasks
+seen picks (suc ticks) t tasks = seen picks ticks (t + 1) (map (given (picked picks t tasks)) tasks)
+
+-- what a tick does to tasks changes none of their jobs
+each_given : (P : JobFacts → Type 0) (n : ℕ) (tasks : List Task) → Each (λ task. P task.job) tasks → Each (λ task. P task.job) (map (given n) tasks)
+each_given P n tasks all = on_map (given n) (λ task. P task.job) tasks (λ task m. subst P (sym (given_job n task)) (all task m))
+
+module _ (picks : Picks) (idles : picks [] ≡ None) where
+  -- behind all deadlines nothing is picked
+  none_behind : (ticks t : ℕ) (tasks : List Task) → Each (λ task. task.job.deadline ≤ t) tasks → seen picks ticks t tasks ≡ 1_000_000
+  none_behind zero t tasks over =
+      ap (λ ready. unwrap_or (picks (map entry_of ready)) 1_000_000)
+      (none_ready t tasks (λ task m ready.
+      let says : (task.job.release ≤ t) × (0 < left task) × (t + left task ≤ task.job.deadline) = ready_says t task ready in
+      let due : task.job.deadline ≤ t = over task m in
+      let some : 0 < left task = says.1 in let fits : t + left task ≤ task.job.deadline = says.2 in omega arith))
+      ∙ ap (λ o. unwrap_or o 1_000_000) idles
+  none_behind (suc ticks) t tasks over = none_behind ticks (t + 1) (map (given (picked picks t tasks)) tasks)
+      (each_given (λ j. j.deadline ≤ t + 1) (picked picks t tasks) tasks (λ task m. let due : task.job.deadline ≤ t = over task m in omega arith))
+
+  -- jobs that are released later change nothing of what is picked before
+  unseen : (t last : ℕ) (known later : List Task) → t ≤ last → Each (λ task. last < task.job.release) later → picked picks t (known ++ later) ≡ picked picks t known
+  unseen t last known later early late = ap (λ ready. unwrap_or (picks (map entry_of ready)) 1_000_000)
+      (filter-append (is_ready t) known later
+      ∙ ap (λ rest. filter (is_ready t) known ++ rest)
+      (none_ready t later (λ task m ready.
+      let released : task.job.release ≤ t = (ready_says t task ready).0 in let above : last < task.job.release = late task m in omega arith))
+      ∙ append_nil (filter (is_ready t) known)) where
+        append_nil : (xs : List Task) → xs ++ [] ≡ xs
+        append_nil [] = refl
+        append_nil (x ∷ xs) = ap (λ ys. x ∷ ys) (append_nil xs)
+
+  -- what a run picks at a tick depends on the known tasks alone
+  alone : (last ticks n t : ℕ) (known later : List Task) → t + ticks ≤ last → Each (λ task. last < task.job.release) later
+      → Each (λ task. task.job.deadline ≤ t + n) known → get_or (policy_run_from picks n t (known ++ later)) ticks 1_000_000 ≡ seen picks ticks t known
+  alone last ticks zero t known later early late due =
+      sym (none_behind ticks t known (λ task m. let at_most : task.job.deadline ≤ t + 0 = due task m in omega arith))
+  alone last zero (suc n) t known later early late due = unseen t last known later (omega arith) late
+  alone last (suc ticks) (suc n) t known later early late due =
+      ap (λ tasks. get_or (policy_run_from picks n (t + 1) tasks) ticks 1_000_000)
+      (ap (λ m. map (given m) (known ++ later)) same ∙ map-append (given number) known later)
+      ∙ alone last ticks n (t + 1) (map (given number) known) (map (given number) later) (omega arith) (each_given (λ j. last < j.release) number later late)
+      (each_given (λ j. j.deadline ≤ t + 1 + n) number known (λ task m. let at_most : task.job.deadline ≤ t + suc n = due task m in omega arith)) where
+        number : ℕ
+        number = picked picks t known
+
+        same : picked picks t (known ++ later) ≡ picked picks t known
+        same = unseen t last known later (omega arith) late
+
+-- the greater of a tick and a deadline
+abbrev later_of : ℕ → JobFacts → ℕ
+later_of d j = cond (nat_le d j.deadline) j.deadline d
+
+-- it is at least each of the two
+later_is : (d : ℕ) (j : JobFacts) → (d ≤ later_of d j) × (j.deadline ≤ later_of d j)
+later_is d j = by_test (nat_le d j.deadline) refl where
+  by_test : (b : Bool) → nat_le d j.deadline ≡ b → (d ≤ cond b j.deadline d) × (j.deadline ≤ cond b j.deadline d)
+  by_test true h = let low : d ≤ j.deadline = leb-true _ _ h in (low, omega arith)
+  by_test false h = let low : j.deadline < d = leb-false _ _ h in (omega arith, omega arith)
+
+-- no deadline is greater than the greatest
+greatest : (jobs : List JobFacts) (d : ℕ) → (d ≤ fold later_of d jobs) × Each (λ j. j.deadline ≤ fold later_of d jobs) jobs
+greatest [] d = (omega arith, λ j member. absurd member)
+greatest (j ∷ jobs) d = with_first (greatest jobs (later_of d j)) where
+  with_first : (later_of d j ≤ fold later_of (later_of d j) jobs) × Each (λ i. i.deadline ≤ fold later_of (later_of d j) jobs) jobs
+      → (d ≤ fold later_of (later_of d j) jobs) × Each (λ i. i.deadline ≤ fold later_of (later_of d j) jobs) (j ∷ jobs)
+  with_first rest = (omega (arith, (later_is d j).0, rest.0), each rest.0 rest.1) where
+    each : later_of d j ≤ fold later_of (later_of d j) jobs → Each (λ i. i.deadline ≤ fold later_of (later_of d j) jobs) jobs
+        → Each (λ i. i.deadline ≤ fold later_of (later_of d j) jobs) (j ∷ jobs)
+    each most of_rest i (inl e) = let same : i.deadline ≡ j.deadline = ap (λ (x : JobFacts). x.deadline) e in omega (arith, (later_is d j).1, most)
+    each most of_rest i (inr member) = of_rest i member
+
+-- jobs to come, and those behind them
+come_append : (n : ℕ) (jobs more : List JobFacts) → to_come n (jobs ++ more) ≡ to_come n jobs ++ to_come (n + length jobs) more
+come_append n [] more = ap (λ m. to_come m more) (let e : n ≡ n + 0 = omega arith in e)
+come_append n (j ∷ jobs) more = ap (λ ts. record { number = n; job = j; role = Coming; had = 0 } ∷ ts)
+    (come_append (suc n) jobs more ∙ ap (λ m. to_come (suc n) jobs ++ to_come m more) (let e : suc n + length jobs ≡ n + suc (length jobs) = omega arith in e))
+
+-- of the jobs of tasks that are to come
+each_come : (P : JobFacts → Type 0) (n : ℕ) (jobs : List JobFacts) → Each P jobs → Each (λ task. P task.job) (to_come n jobs)
+each_come P n [] all task member = absurd member
+each_come P n (j ∷ jobs) all task (inl e) = subst (λ (u : Task). P u.job) (sym e) (all j (inl refl))
+each_come P n (j ∷ jobs) all task (inr member) = each_come P (suc n) jobs (λ i m. all i (inr m)) task member
+
+module _ (picks : Picks) (idles : picks [] ≡ None) (t : ℕ) where
+  -- what is picked at a tick, from the jobs that are known then
+  pub by_known : (jobs : List JobFacts) → IsInOrder jobs → (tick : ℕ) → tick ≤ t
+      → get_or (policy_run picks jobs) tick 1_000_000 ≡ seen picks tick 0 (to_come 0 (known_at t jobs))
+  by_known jobs order tick early =
+      ap (λ tasks. get_or (policy_run_from picks (last_deadline jobs) 0 tasks) tick 1_000_000)
+      (ap (to_come 0) parts.whole ∙ come_append 0 (known_at t jobs) parts.more)
+      ∙ alone picks idles t tick (last_deadline jobs) 0 (to_come 0 (known_at t jobs)) (to_come (0 + length (known_at t jobs)) parts.more) (omega arith)
+      (each_come (λ j. t < j.release) (0 + length (known_at t jobs)) parts.more (λ j m. let late : t + 1 ≤ j.release = parts.late j m in omega arith))
+      (each_come (λ j. j.deadline ≤ 0 + last_deadline jobs) 0 (known_at t jobs) (λ j m.
+      let due : j.deadline ≤ last_deadline jobs = (greatest jobs 0).1 j (subst (IsMember j) (sym parts.whole) (in_front (known_at t jobs) parts.more j m)) in omega arith)) where
+        parts : Split t jobs
+        parts = split_known t jobs order
+
+        in_front : (xs ys : List JobFacts) (x : JobFacts) → IsMember x xs → IsMember x (xs ++ ys)
+        in_front [] ys x member = absurd member
+        in_front (y ∷ xs) ys x (inl e) = inl e
+        in_front (y ∷ xs) ys x (inr member) = inr (in_front xs ys x member)
+
+-- the schedules of a policy agree where the known jobs do
+pub on_line : (picks : Picks) (t : ℕ) (jobs others : List JobFacts) → picks [] ≡ None → IsInOrder jobs → IsInOrder others
+    → known_at t jobs ≡ known_at t others → (tick : ℕ) → tick ≤ t
+    → get_or (policy_run picks jobs) tick 1_000_000 ≡ get_or (policy_run picks others) tick 1_000_000
+on_line picks t jobs others idles order order2 same tick early =
+    by_known picks idles t jobs order tick early ∙ ap (λ known. seen picks tick 0 (to_come 0 known)) same
+    ∙ sym (by_known picks idles t others order2 tick early)

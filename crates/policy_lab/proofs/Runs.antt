@@ -1,0 +1,163 @@
+-- A policy's run, tick by tick: its tasks, its schedule, and what it is worth.
+use Rattle.std.proofs.Common.{◌≡◌, ℕ, suc, zero, ◌+◌, ◌-◌, ◌≤◌, ◌<◌, inl, inr, List, [], ◌∷◌, ◌++◌, length, map, refl, sym, ap, ◌∙◌, subst, Bool, true, false, cond}
+use Rattle.std.proofs.Common.{eqb, arith, add-one, append_assoc, append-nil}
+use Rattle.std.specs.Prelude.{nat_le, Option, Some, None, unwrap_or}
+use Rattle.std.specs.List.{sum_by, filter, enumerate_from}
+use Rattle.std.proofs.lemmas.Bool.{eq-eqb, eqb-true, ne_eqb}
+use Rattle.dover_model.specs.JobFacts.{JobFacts, IsJob}
+use Rattle.dover_model.specs.Instance.{Instance, Rules}
+use Rattle.dover_model.specs.declared.events.Task.{Task}
+use Rattle.dover_model.specs.declared.events.Entry.{Entry}
+use Rattle.dover_model.specs.Entries.{entry_of}
+use Rattle.dover_model.specs.State.{to_come, left}
+use Rattle.dover_model.specs.Schedules.{ticks_given, is_served, worth}
+use Rattle.dover_model.specs.Pieces.{given}
+use Rattle.dover_model.specs.Run.{last_deadline}
+use Rattle.dover_model.specs.Sound.{IsMember, Each, IsNumberedFrom, jobs_of}
+use Rattle.dover_model.proofs.Members.{on_map, sum_same, map_member}
+use Rattle.dover_model.proofs.Roles.{numbered_map, one_number}
+use Rattle.dover_model.proofs.Serving.{given_nil}
+use Rattle.dover_model.proofs.Honest.{numbers_low, count_jobs, sum_tasks}
+use Rattle.policy_lab.specs.Picks.{Picks, IsPick, IsPolicy, number_of}
+use Rattle.policy_lab.specs.PolicyRun.{is_ready, picked, policy_run_from, policy_run}
+use Rattle.policy_lab.specs.Bench.{tasks_at, schedule_before, served_value}
+use Rattle.policy_lab.proofs.Given.{ready_says, given_number, given_job, Fits}
+use Rattle.policy_lab.proofs.Counts.{given_hit, given_miss, one_longer}
+use Rattle.policy_lab.proofs.Entries.{are_ready, number_ready}
+
+-- ---- numbers and jobs
+
+pub come_numbered : (n : ℕ) (jobs : List JobFacts) → IsNumberedFrom n (to_come n jobs)
+come_numbered n [] = tt
+come_numbered n (j ∷ jobs) = (refl, come_numbered (suc n) jobs)
+
+come_jobs : (n : ℕ) (jobs : List JobFacts) → jobs_of (to_come n jobs) ≡ jobs
+come_jobs n [] = refl
+come_jobs n (j ∷ jobs) = ap (λ js. j ∷ js) (come_jobs (suc n) jobs)
+
+jobs_given : (n : ℕ) (tasks : List Task) → jobs_of (map (given n) tasks) ≡ jobs_of tasks
+jobs_given n [] = refl
+jobs_given n (task ∷ tasks) = let here : (given n task).job ≡ task.job = given_job n task in
+    let rest : jobs_of (map (given n) tasks) ≡ jobs_of tasks = jobs_given n tasks in cc
+
+module _ (picks : Picks) (jobs : List JobFacts) where
+  -- the tasks keep their numbers
+  pub numbered_at : (t : ℕ) → IsNumberedFrom 0 (tasks_at picks jobs t)
+  numbered_at zero = come_numbered 0 jobs
+  numbered_at (suc t) = numbered_map (given (picked picks t (tasks_at picks jobs t))) (given_number (picked picks t (tasks_at picks jobs t))) 0
+      (tasks_at picks jobs t) (numbered_at t)
+
+  -- and their jobs
+  pub jobs_at : (t : ℕ) → jobs_of (tasks_at picks jobs t) ≡ jobs
+  jobs_at zero = come_jobs 0 jobs
+  jobs_at (suc t) = jobs_given (picked picks t (tasks_at picks jobs t)) (tasks_at picks jobs t) ∙ jobs_at t
+
+  -- the tick behind t
+  pub tasks_next : (t : ℕ) → tasks_at picks jobs (t + 1) ≡ map (given (picked picks t (tasks_at picks jobs t))) (tasks_at picks jobs t)
+  tasks_next t = ap (tasks_at picks jobs) (add-one t)
+
+  pub schedule_next : (t : ℕ) → schedule_before picks jobs (t + 1) ≡ schedule_before picks jobs t ++ (picked picks t (tasks_at picks jobs t) ∷ [])
+  schedule_next t = ap (schedule_before picks jobs) (add-one t)
+
+  -- the schedule has a place for each tick
+  pub schedule_length : (t : ℕ) → length (schedule_before picks jobs t) ≡ t
+  schedule_length zero = refl
+  schedule_length (suc t) = one_longer (schedule_before picks jobs t) (picked picks t (tasks_at picks jobs t)) ∙ ap (λ n. n + 1) (schedule_length t) ∙ add-one t
+
+  -- what comes before tick t, and from it on, is the whole
+  split_at : (n t m : ℕ) → m ≡ t + n → schedule_before picks jobs t ++ policy_run_from picks n t (tasks_at picks jobs t) ≡ schedule_before picks jobs m
+  split_at zero t m e = append-nil (schedule_before picks jobs t) ∙ ap (schedule_before picks jobs) (let same : t ≡ m = omega arith in same)
+  split_at (suc n) t m e =
+      sym (append_assoc (schedule_before picks jobs t) (picked picks t (tasks_at picks jobs t) ∷ []) (policy_run_from picks n (t + 1) (tasks_at picks jobs (suc t))))
+      ∙ ap (λ u. schedule_before picks jobs (suc t) ++ policy_run_from picks n u (tasks_at picks jobs (suc t))) (add-one t)
+      ∙ split_at n (suc t) m (omega arith)
+
+  -- the policy's run, as the schedule of the ticks before the last deadline
+  pub run_is : policy_run picks jobs ≡ schedule_before picks jobs (last_deadline jobs)
+  run_is = split_at (last_deadline jobs) 0 (last_deadline jobs) (omega arith)
+
+  module _ (policy : IsPolicy picks) (count : length jobs ≤ 10_000) where
+    -- no job has the number that names none
+    pub low_numbers : (t : ℕ) → Each (λ task. task.number < 10_000) (tasks_at picks jobs t)
+    low_numbers t task member =
+        let low : task.number < 0 + length (tasks_at picks jobs t) = numbers_low 0 (tasks_at picks jobs t) (numbered_at t) task member in
+        omega (arith, count_jobs (tasks_at picks jobs t), ap length (jobs_at t))
+
+    -- each tick goes to a job that is ready
+    pub fits_at : (t : ℕ) → Fits (picked picks t (tasks_at picks jobs t)) t (tasks_at picks jobs t)
+    fits_at t = by_pick (picks ready) refl (policy ready (are_ready t tasks (numbered_at t))) where
+      tasks : List Task
+      tasks = tasks_at picks jobs t
+
+      ready : List Entry
+      ready = map entry_of (filter (is_ready t) tasks)
+
+      by_pick : (o : Option ℕ) → picks ready ≡ o → IsPick ready o → Fits (unwrap_or o 1_000_000) t tasks
+      by_pick None e none task member same =
+          let idle : task.number ≡ 1_000_000 = eqb-true task.number 1_000_000 same in
+          let low : task.number < 10_000 = low_numbers t task member in absurd (omega arith)
+      by_pick (Some n) e one task member same =
+          let it = number_ready t n tasks one in
+          let number : task.number ≡ n = eqb-true task.number n same in
+          let is_it : task ≡ it.0 = one_number 0 tasks (numbered_at t) task it.0 member it.1 (number ∙ it.3) in
+          ap (is_ready t) is_it ∙ it.2
+
+    -- the ticks so far are those that the jobs had
+    gave : (t : ℕ) → Each (λ task. ticks_given (schedule_before picks jobs t) task.number task.job ≡ task.had) (tasks_at picks jobs t)
+    gave zero task member = given_nil (λ m. eqb m task.number) task.job.release task.job.deadline ∙ sym (none_had 0 jobs task member) where
+      none_had : (n : ℕ) (js : List JobFacts) → Each (λ (u : Task). u.had ≡ 0) (to_come n js)
+      none_had n [] u m = absurd m
+      none_had n (j ∷ js) u (inl e) = ap (λ (v : Task). v.had) e
+      none_had n (j ∷ js) u (inr m) = none_had (suc n) js u m
+    gave (suc t) later among = one_more (gave t) later among where
+      tasks : List Task
+      tasks = tasks_at picks jobs t
+
+      n : ℕ
+      n = picked picks t tasks
+
+      past : List ℕ
+      past = schedule_before picks jobs t
+
+      one_more : Each (λ task. ticks_given past task.number task.job ≡ task.had) tasks
+          → Each (λ task. ticks_given (past ++ (n ∷ [])) task.number task.job ≡ task.had) (map (given n) tasks)
+      one_more before = on_map (given n) (λ task. ticks_given (past ++ (n ∷ [])) task.number task.job ≡ task.had) tasks
+          (λ task member. by_test task member (eqb task.number n) refl) where
+            by_test : (task : Task) → IsMember task tasks → (b : Bool) → eqb task.number n ≡ b
+                → ticks_given (past ++ (n ∷ [])) (cond b (record task { had = task.had + 1 }) task).number (cond b (record task { had = task.had + 1 }) task).job
+                ≡ (cond b (record task { had = task.had + 1 }) task).had
+            by_test task member true same =
+                let says : (task.job.release ≤ t) × (0 < left task) × (t + left task ≤ task.job.deadline) = ready_says t task (fits_at t task member same) in
+                let released : task.job.release ≤ t = says.0 in
+                let some : 0 < left task = says.1 in
+                let fits : t + left task ≤ task.job.deadline = says.2 in
+                given_hit (λ m. eqb m task.number) n (eq-eqb n task.number (sym (eqb-true task.number n same))) past task.job.release task.job.deadline
+                (omega (arith, schedule_length t)) (omega (arith, schedule_length t)) ∙ ap (λ had. had + 1) (before task member)
+            by_test task member false other =
+                given_miss (λ m. eqb m task.number) n (ne_eqb n task.number (λ same. clash (eq-eqb task.number n (sym same)))) past
+                task.job.release task.job.deadline ∙ before task member where
+                  clash : eqb task.number n ≡ true → ⊥
+                  clash same = let e : true ≡ false = sym same ∙ other in cc
+
+    -- the value of a schedule so far is that of the jobs served fully
+    pub worth_before : (rules : Rules) (t : ℕ)
+        → worth (record { rules = rules; jobs = jobs }) (schedule_before picks jobs t) ≡ served_value (tasks_at picks jobs t)
+    worth_before rules t =
+        ap (λ js. sum_by (λ n_j. cond (is_served past n_j) n_j.1.value 0) (enumerate_from 0 js)) (sym (jobs_at t))
+        ∙ sum_tasks (λ n_j. cond (is_served past n_j) n_j.1.value 0) 0 tasks (numbered_at t)
+        ∙ sum_same (λ task. cond (is_served past (task.number, task.job)) task.job.value 0) (λ task. cond (eqb (left task) 0) task.job.value 0) tasks
+        (λ task member. ap (λ b. cond b task.job.value 0)
+        (ap (nat_le task.job.work) (gave t task member) ∙ done task.job.work task.had)) where
+          tasks : List Task
+          tasks = tasks_at picks jobs t
+
+          past : List ℕ
+          past = schedule_before picks jobs t
+
+          done : (work had : ℕ) → nat_le work had ≡ eqb (work - had) 0
+          done work had = grind arith
+
+    -- what the whole run is worth
+    pub worth_is : (rules : Rules)
+        → worth (record { rules = rules; jobs = jobs }) (policy_run picks jobs) ≡ served_value (tasks_at picks jobs (last_deadline jobs))
+    worth_is rules = ap (worth (record { rules = rules; jobs = jobs })) run_is ∙ worth_before rules (last_deadline jobs)

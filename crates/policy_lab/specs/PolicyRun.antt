@@ -1,0 +1,33 @@
+-- The schedule that a policy makes: in each tick it picks from the jobs that are ready.
+use Rattle.std.specs.Prelude.{◌<◌, ◌⊎◌, ℕ, zero, suc, ◌+◌, List, [], ◌∷◌, length, map, Bool, ◌&&◌, nat_lt, nat_le, unwrap_or}
+use Rattle.std.specs.List.{filter}
+use Rattle.dover_model.specs.Limits.{idle}
+use Rattle.dover_model.specs.declared.events.Task.{Task}
+use Rattle.dover_model.specs.JobFacts.{JobFacts}
+use Rattle.dover_model.specs.Entries.{entry_of}
+use Rattle.dover_model.specs.State.{to_come, left}
+use Rattle.dover_model.specs.Run.{last_deadline}
+use Rattle.dover_model.specs.Pieces.{given}
+use Rattle.policy_lab.specs.Picks.{Picks}
+
+-- released by tick t, not served fully, and still in time
+abbrev pub is_ready : ℕ → Task → Bool
+is_ready t task = nat_le task.job.release t && nat_lt 0 (left task) && nat_le (t + left task) task.job.deadline
+
+-- the number that is picked at tick t, or the idle number
+abbrev pub picked : Picks → ℕ → List Task → ℕ
+picked picks t tasks = unwrap_or (picks (map entry_of (filter (is_ready t) tasks))) idle
+
+-- the schedule of so many ticks from tick t on
+abbrev pub policy_run_from : Picks → (ticks : ℕ) → ℕ → List Task → List ℕ
+policy_run_from picks zero t tasks = []
+policy_run_from picks (suc ticks) t tasks =
+    let number = picked picks t tasks in number ∷ policy_run_from picks ticks (t + 1) (map (given number) tasks)
+
+-- the schedule up to the greatest deadline
+abbrev pub policy_run : Picks → List JobFacts → List ℕ
+policy_run picks jobs = policy_run_from picks (last_deadline jobs) 0 (to_come 0 jobs)
+
+-- more jobs than a policy is run over, or a later deadline
+abbrev pub AreTooLarge : List JobFacts → Type 0
+AreTooLarge jobs = (10_000 < length jobs) ⊎ (100_000 < last_deadline jobs)

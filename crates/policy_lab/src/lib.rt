@@ -1,0 +1,17 @@
+//! Other policies over lists of jobs, to compare with the rules.
+#![tactic(auto)]
+
+mod bench;
+mod lab;
+mod laws;
+mod policy;
+mod scan;
+mod standard;
+
+pub use lab::{LabFault, Outcome, run_policy};
+pub use laws::policies_are_on_line;
+pub use policy::Policy;
+pub use standard::{Dense, Edf};
+
+#[cfg(test)]
+mod tests;

@@ -1,0 +1,90 @@
+//! Passes over the jobs, and over the entries of those that are ready.
+ghost use Rattle.std.specs.Prelude.{◌≡◌, ◌≤◌, ◌<◌, ◌+◌, ◌^◌, map};
+ghost use Rattle.std.specs.List.{filter};
+ghost use Rattle.dover_model.specs.Limits.{most_total};
+ghost use Rattle.dover_model.specs.JobFacts.{IsJob};
+ghost use Rattle.dover_model.specs.Run.{last_deadline};
+ghost use Rattle.dover_model.specs.Sound.{Each};
+ghost use Rattle.policy_lab.specs.Bench.{entry_to_come, given_entry, spent_value, is_in_time};
+
+use dover_model::{Entry, Job};
+
+/// The greatest deadline.
+pub fn last_deadline(jobs: &[Job]) -> u64
+    ensures is { result ≡ last_deadline jobs.now }
+    ensures jobs { Each IsJob jobs.now }
+{
+    let mut last = 0;
+    for job in jobs {
+        last = last.max(job.deadline());
+    }
+    last
+}
+
+/// The entry of a job that is to come.
+pub fn entry_to_come(number: u32, job: &Job) -> Entry
+    ensures is { result ≡ entry_to_come number job.now }
+    ensures job { IsJob job.now }
+{
+    Entry {
+        number,
+        deadline: job.deadline(),
+        latest: job.deadline() - job.work(),
+        left: job.work(),
+        value: job.value(),
+    }
+}
+
+/// The entry with a tick more, if this is its number.
+fn given_entry(number: u32, e: &Entry) -> Entry
+    requires left { 1 ≤ e.now.left }
+    requires latest { e.now.latest + 1 < 2 ^ 64 }
+    ensures { result ≡ given_entry number e.now }
+{
+    if e.number != number {
+        return *e;
+    }
+    Entry {
+        latest: e.latest + 1,
+        left: e.left - 1,
+        ..*e
+    }
+}
+
+/// Gives the job of this number a tick.
+pub fn give(number: u32, ready: &mut Vec<Entry>)
+    requires { Each (λ e. (1 ≤ e.left) × (e.latest + 1 < 2 ^ 64)) ready.old.items }
+    ensures { ready.new.items ≡ map (given_entry number) ready.old.items }
+{
+    for e in ready.iter_mut() {
+        *e = given_entry(number, e);
+    }
+}
+
+/// The sum of the values of those that have no work left.
+pub fn spent_value(ready: &[Entry]) -> u64
+    requires { spent_value ready.now ≤ most_total }
+    ensures { result ≡ spent_value ready.now }
+{
+    let mut value = 0;
+    for e in ready {
+        if e.left == 0 {
+            value += e.value;
+        }
+    }
+    value
+}
+
+/// Whether the job has work left, and can still be done in time from this tick on.
+fn is_in_time(tick: u64, e: &Entry) -> bool
+    ensures { result ≡ is_in_time tick e.now }
+{
+    0 < e.left && tick <= e.deadline && e.left <= e.deadline - tick
+}
+
+/// Lets those go that have no work left or can't be done in time any more.
+pub fn keep_in_time(tick: u64, ready: &mut Vec<Entry>)
+    ensures { ready.new.items ≡ filter (is_in_time tick) ready.old.items }
+{
+    ready.retain(|e| is_in_time(tick, e));
+}
