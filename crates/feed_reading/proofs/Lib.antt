@@ -1,0 +1,4 @@
+pub mod Listing
+pub mod Lengths
+pub mod Pieces
+pub mod Records

@@ -1,0 +1,24 @@
+use Rattle.std.proofs.Common.{refl, subst}
+use Rattle.feed_reading.specs.Feeding.{FeedStands}
+use Rattle.feed_reading.proofs.Pieces.{next_bytes, piece_ended, piece_refused, piece_no_memory}
+use Rattle.feed_reading.proofs.feed.Feed.take_piece.Goals as goal
+
+pub take_byte-requires : goal.take_byte-requires
+take_byte-requires c = (_, c.loop-byte.invariant c.requires.0 c.requires.1)
+
+pub loop-byte-preserved : goal.loop-byte-preserved
+loop-byte-preserved c = λ x stands. subst (FeedStands c.take_byte.new.self)
+    (next_bytes x c.args.bytes.now c.loop-byte.byte-index c.loop-byte-test.true)
+    (c.in-Open.ensures.stands _ (c.loop-byte.invariant x stands) refl)
+
+pub returns-in-Ended-clause-at : goal.returns-in-Ended-clause-at
+returns-in-Ended-clause-at c = λ x stands. piece_ended x c.args.bytes.now c.loop-byte.byte-index c.loop-byte-test.true _ _
+    (c.in-Ended.ensures.at _ (c.loop-byte.invariant x stands))
+
+pub returns-in-Refused-clause-at : goal.returns-in-Refused-clause-at
+returns-in-Refused-clause-at c = λ x stands. piece_refused x c.args.bytes.now c.loop-byte.byte-index c.loop-byte-test.true _ _
+    (c.in-Refused.ensures.at _ (c.loop-byte.invariant x stands))
+
+pub returns-in-NoMemory-clause-at : goal.returns-in-NoMemory-clause-at
+returns-in-NoMemory-clause-at c = λ x stands. piece_no_memory x c.args.bytes.now c.loop-byte.byte-index c.loop-byte-test.true
+    (c.in-NoMemory.ensures.at _ (c.loop-byte.invariant x stands))

@@ -1,0 +1,18 @@
+use Rattle.std.proofs.Common.{◌∷◌, ◌++◌, [], sym, ap, ◌∙◌, subst}
+use Rattle.event_feed.specs.Kept as feed
+use Rattle.dover_model.specs.Feed.{account_of_lines}
+use Rattle.feed_reading.specs.Listing.{StandsAt}
+use Rattle.feed_reading.proofs.Listing.{not_then}
+use Rattle.feed_reading.proofs.gathering.Gathering.take_line.Goals as goal
+
+pub returns-in-Ok-clause-keeps : goal.returns-in-Ok-clause-keeps
+returns-in-Ok-clause-keeps c = λ ls keeps is.
+    let at = subst (λ p. StandsAt p c.take_fed.new.self.declared c.take_fed.new.self.jobs.items (account_of_lines (ls ++ c.args.line.now ∷ []))) is
+    (c.take_fed.ensures.stands _ _ keeps.stands keeps.lists (c.in-Ok.ensures.answer ls keeps.intake).1) in
+    record {
+      intake = subst (λ i. feed.StandsFor i (ls ++ c.args.line.now ∷ [])) (sym c.take_fed.ensures.intake) (c.in-Ok.ensures.stands ls keeps.intake);
+      goes_on = ap feed.has_ended c.take_fed.ensures.intake
+          ∙ not_then _ (λ ended. c.take_fed.ensures.goes_on is (let e = c.in-Ok.ensures.ended.0 ended in cc));
+      stands = at.0;
+      lists = at.1;
+    }

@@ -1,0 +1,17 @@
+use Rattle.std.proofs.Common.{◌≡◌, ◌≤◌, ◌-◌, ℕ, List, length}
+use Rattle.dover_port.specs.Moves.{Since}
+use Rattle.feed_reading.specs.Feeding.{FeedStands}
+use Rattle.feed_reading.specs.Record.{GoesOn}
+use Rattle.feed_reading.proofs.reading.read_feed.Given as goal
+
+-- The feed goes on, nothing was put, and each read gave a byte.
+abbrev pub invariant-loop-reads : goal.invariant-loop-reads
+invariant-loop-reads g l = record {
+  moves : Since (g.P.Port.moves l.initial.port) (g.P.Port.moves l.port) (GoesOn l.feed);
+  stands : (x : List ℕ) × (l.reads ≤ length x) × FeedStands l.feed x;
+  read_faults : g.P.Port.read_faults l.port ≡ g.P.Port.read_faults l.initial.port;
+  write_faults : g.P.Port.write_faults l.port ≡ g.P.Port.write_faults l.initial.port;
+}
+
+abbrev pub decreases-loop-reads : goal.decreases-loop-reads
+decreases-loop-reads g l = 516_000_129 - l.reads

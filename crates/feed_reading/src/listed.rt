@@ -1,0 +1,10 @@
+//! The jobs of a feed.
+use dover_model::{Job, Ratio, Version};
+
+/// The ratio and the version that the first line of a feed declared, and the jobs that were admitted since, in order.
+#[derive(Drop)]
+pub struct Listed {
+    pub ratio: Ratio,
+    pub version: Version,
+    pub jobs: Vec<Job>,
+}
