@@ -1,0 +1,7 @@
+pub mod Putting
+pub mod FaultLines
+pub mod Pieces
+pub mod Records
+pub mod SaidFeasible
+pub mod Completing
+pub mod Comparing

@@ -1,0 +1,5 @@
+pub mod Texts
+pub mod Record
+pub mod Feasible
+pub mod Serving
+pub mod Compare
