@@ -1,9 +1,8 @@
 -- Lists of entries of tasks: their numbers differ, and what a tick does to them.
-use Rattle.std.proofs.Common.{◌≡◌, ◌≢◌, ℕ, suc, zero, ◌+◌, ◌-◌, ◌≤◌, ◌<◌, inl, inr, List, [], ◌∷◌, map, refl, sym, ap, ◌∙◌, subst, Bool, true, false, cond}
+use Rattle.std.proofs.Common.{◌≡◌, ℕ, suc, ◌+◌, ◌-◌, ◌≤◌, ◌<◌, inl, inr, List, [], ◌∷◌, map, refl, sym, ap, ◌∙◌, subst, Bool, true, false, cond}
 use Rattle.std.proofs.Common.{eqb, arith}
 use Rattle.std.specs.Prelude.{nat_le, nat_lt, ◌&&◌}
-use Rattle.std.specs.List.{filter, sum_by}
-use Rattle.std.proofs.lemmas.Bool.{eq-eqb, eqb-true}
+use Rattle.std.specs.List.{filter}
 use Rattle.std.proofs.lemmas.List.Sums.{sum_by-cons}
 use Rattle.dover_model.specs.declared.events.Task.{Task}
 use Rattle.dover_model.specs.declared.events.Entry.{Entry}
@@ -11,12 +10,11 @@ use Rattle.dover_model.specs.Entries.{entry_of}
 use Rattle.dover_model.specs.State.{left, latest_start}
 use Rattle.dover_model.specs.Sound.{IsMember, Each, IsNumberedFrom}
 use Rattle.dover_model.specs.Pieces.{given}
-use Rattle.dover_model.proofs.Members.{member_filter, by_bool}
-use Rattle.dover_model.proofs.Roles.{numbers_above, one_number}
+use Rattle.dover_model.proofs.Roles.{numbers_above}
 use Rattle.policy_lab.specs.Picks.{HaveOwnNumbers, AreReady, number_of}
 use Rattle.policy_lab.specs.PolicyRun.{is_ready}
 use Rattle.policy_lab.specs.Bench.{given_entry, is_in_time, served_value, spent_value}
-use Rattle.policy_lab.proofs.Given.{ready_says, says_ready, never_again, given_other, given_same, Fits, idle_task}
+use Rattle.policy_lab.proofs.Given.{ready_says, never_again, Fits, idle_task}
 
 -- ---- the entries of ready tasks
 
@@ -119,7 +117,7 @@ module _ (n t : ℕ) where
     by_test true ready rest =
         let says : (task.job.release ≤ t) × (0 < left task) × (t + left task ≤ task.job.deadline) = ready_says t task ready in
         let same : given_entry n (entry_of task) ≡ entry_of (given n task) =
-            sym (entry_given n task says.1 (let fit : t + left task ≤ task.job.deadline = says.2 in omega arith)) in
+        sym (entry_given n task says.1 (let fit : t + left task ≤ task.job.deadline = says.2 in omega arith)) in
         ap (λ e. cond (is_in_time (t + 1) e) (e ∷ after) after) same
         ∙ ap (λ b. cond b (entry_of (given n task) ∷ after) after) (in_time (t + 1) (given n task) released)
         ∙ kept (is_ready (t + 1) (given n task)) rest
@@ -148,7 +146,7 @@ module _ (n t : ℕ) where
     by_test true ready rest =
         let says : (task.job.release ≤ t) × (0 < left task) × (t + left task ≤ task.job.deadline) = ready_says t task ready in
         let same : worth_of (given n task) ≡ spent_of (given_entry n (entry_of task)) =
-            ap spent_of (entry_given n task says.1 (let fit : t + left task ≤ task.job.deadline = says.2 in omega arith)) in
+        ap spent_of (entry_given n task says.1 (let fit : t + left task ≤ task.job.deadline = says.2 in omega arith)) in
         let none : worth_of task ≡ 0 = ap (λ b. cond b task.job.value 0) (some_left (left task) says.1) in
         omega (
           arith,

@@ -1,10 +1,10 @@
 -- What one tick of a policy's run does to the tasks.
-use Rattle.std.proofs.Common.{◌≡◌, ℕ, suc, zero, ◌+◌, ◌-◌, ◌*◌, ◌≤◌, ◌<◌, inl, inr, List, [], ◌∷◌, map, refl, sym, ap, ◌∙◌, subst, Bool, true, false, cond}
+use Rattle.std.proofs.Common.{◌≡◌, ℕ, ◌+◌, ◌≤◌, ◌<◌, List, refl, ap, Bool, true, false, cond}
 use Rattle.std.proofs.Common.{eqb, arith}
 use Rattle.std.specs.Prelude.{nat_le, nat_lt, ◌&&◌}
 use Rattle.dover_model.specs.declared.events.Task.{Task}
 use Rattle.dover_model.specs.State.{left}
-use Rattle.dover_model.specs.Sound.{IsMember, Each}
+use Rattle.dover_model.specs.Sound.{Each}
 use Rattle.dover_model.specs.Pieces.{given}
 use Rattle.policy_lab.specs.PolicyRun.{is_ready}
 

@@ -1,17 +1,15 @@
 -- The ready jobs, as a run keeps them from tick to tick.
 use Rattle.std.proofs.Common.{◌≡◌, ℕ, suc, zero, ◌+◌, ◌-◌, ◌≤◌, ◌<◌, inl, inr, List, [], ◌∷◌, ◌++◌, length, drop, get_or, map, refl, sym, ap, ◌∙◌, subst}
 use Rattle.std.proofs.Common.{Bool, true, false, cond, eqb, arith, add-one, append_assoc}
-use Rattle.std.specs.Prelude.{nat_le, nat_lt, ◌&&◌}
-use Rattle.std.specs.List.{filter, sum_by, AllByRecursion}
+use Rattle.std.specs.List.{filter}
 use Rattle.std.proofs.lemmas.List.{drop_more, drop_all, map-append}
 use Rattle.std.proofs.lemmas.List.Elements.{filter-append}
-use Rattle.std.proofs.lemmas.Bool.{ltb-true}
 use Rattle.dover_model.specs.JobFacts.{JobFacts, IsJob}
 use Rattle.dover_model.specs.Instance.{IsInOrder}
 use Rattle.dover_model.specs.declared.events.Task.{Task}
 use Rattle.dover_model.specs.declared.events.Entry.{Entry}
 use Rattle.dover_model.specs.Entries.{entry_of}
-use Rattle.dover_model.specs.State.{to_come, left}
+use Rattle.dover_model.specs.State.{to_come}
 use Rattle.dover_model.specs.Pieces.{given}
 use Rattle.dover_model.specs.Sound.{IsMember, Each}
 use Rattle.dover_model.proofs.Members.{on_map, all_member}
@@ -119,7 +117,7 @@ still_to_come t n m [] late fits = refl
 still_to_come t n m (j ∷ jobs) late fits =
     let here : given m (coming_task n j) ≡ coming_task n j = stays (eqb n m) refl in
     let rest : map (given m) (to_come (suc n) jobs) ≡ to_come (suc n) jobs =
-        still_to_come t (suc n) m jobs (λ i among. late i (inr among)) (λ task among. fits task (inr among)) in cc where
+    still_to_come t (suc n) m jobs (λ i among. late i (inr among)) (λ task among. fits task (inr among)) in cc where
       stays : (b : Bool) → eqb n m ≡ b → given m (coming_task n j) ≡ coming_task n j
       stays false other = given_other m (coming_task n j) other
       stays true same = absurd (let released : j.release ≤ t = (ready_says t (coming_task n j) (fits (coming_task n j) (inl refl) same)).0 in

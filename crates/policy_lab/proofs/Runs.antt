@@ -1,11 +1,11 @@
 -- A policy's run, tick by tick: its tasks, its schedule, and what it is worth.
-use Rattle.std.proofs.Common.{◌≡◌, ℕ, suc, zero, ◌+◌, ◌-◌, ◌≤◌, ◌<◌, inl, inr, List, [], ◌∷◌, ◌++◌, length, map, refl, sym, ap, ◌∙◌, subst, Bool, true, false, cond}
+use Rattle.std.proofs.Common.{◌≡◌, ℕ, suc, zero, ◌+◌, ◌-◌, ◌≤◌, ◌<◌, inl, inr, List, [], ◌∷◌, ◌++◌, length, map, refl, sym, ap, ◌∙◌, Bool, true, false, cond}
 use Rattle.std.proofs.Common.{eqb, arith, add-one, append_assoc, append-nil}
 use Rattle.std.specs.Prelude.{nat_le, Option, Some, None, unwrap_or}
 use Rattle.std.specs.List.{sum_by, filter, enumerate_from}
 use Rattle.std.proofs.lemmas.Bool.{eq-eqb, eqb-true, ne_eqb}
-use Rattle.dover_model.specs.JobFacts.{JobFacts, IsJob}
-use Rattle.dover_model.specs.Instance.{Instance, Rules}
+use Rattle.dover_model.specs.JobFacts.{JobFacts}
+use Rattle.dover_model.specs.Instance.{Rules}
 use Rattle.dover_model.specs.declared.events.Task.{Task}
 use Rattle.dover_model.specs.declared.events.Entry.{Entry}
 use Rattle.dover_model.specs.Entries.{entry_of}
@@ -14,11 +14,11 @@ use Rattle.dover_model.specs.Schedules.{ticks_given, is_served, worth}
 use Rattle.dover_model.specs.Pieces.{given}
 use Rattle.dover_model.specs.Run.{last_deadline}
 use Rattle.dover_model.specs.Sound.{IsMember, Each, IsNumberedFrom, jobs_of}
-use Rattle.dover_model.proofs.Members.{on_map, sum_same, map_member}
+use Rattle.dover_model.proofs.Members.{on_map, sum_same}
 use Rattle.dover_model.proofs.Roles.{numbered_map, one_number}
 use Rattle.dover_model.proofs.Serving.{given_nil}
 use Rattle.dover_model.proofs.Honest.{numbers_low, count_jobs, sum_tasks}
-use Rattle.policy_lab.specs.Picks.{Picks, IsPick, IsPolicy, number_of}
+use Rattle.policy_lab.specs.Picks.{Picks, IsPick, IsPolicy}
 use Rattle.policy_lab.specs.PolicyRun.{is_ready, picked, policy_run_from, policy_run}
 use Rattle.policy_lab.specs.Bench.{tasks_at, schedule_before, served_value}
 use Rattle.policy_lab.proofs.Given.{ready_says, given_number, given_job, Fits}

@@ -1,8 +1,8 @@
 -- The stretches of a schedule with one tick more.
-use Rattle.std.proofs.Common.{◌≡◌, ℕ, suc, zero, ◌+◌, ◌-◌, ◌≤◌, ◌<◌, ◌⊎◌, inl, inr, List, [], ◌∷◌, ◌++◌, length, set, get_or, refl, sym, ap, ◌∙◌, Bool, true, false, cond}
-use Rattle.std.proofs.Common.{eqb, arith, add-one}
+use Rattle.std.proofs.Common.{◌≡◌, ℕ, suc, zero, ◌+◌, ◌-◌, ◌<◌, List, [], ◌∷◌, ◌++◌, length, set, get_or, refl, sym, ap, ◌∙◌, Bool, true, false, cond}
+use Rattle.std.proofs.Common.{eqb, arith}
 use Rattle.std.specs.Prelude.{◌&&◌, ◌==◌}
-use Rattle.std.proofs.lemmas.Bool.{eq-eqb, eqb-true, ne_eqb}
+use Rattle.std.proofs.lemmas.Bool.{ne_eqb}
 use Rattle.dover_model.specs.declared.pieces.Piece.{Piece}
 use Rattle.policy_lab.specs.Bench.{goes_on}
 use Rattle.std.specs.Prelude.{slice_get}
@@ -130,7 +130,7 @@ pub grown : (t n len : ℕ) (shown pieces : List Piece) (last : Piece) (s : List
     → (n ≡ 1_000_000 → ⊥) → length s ≡ t → pieces ≡ stretches s → set pieces (len - 1) (record last { until = t + 1 }) ≡ stretches (s ++ (n ∷ []))
 grown t n len shown pieces last s same long on at busy clock is =
     let here : goes_on_at t n (len - 1) pieces ≡ true = ap (λ m. goes_on_at t n (m - 1) pieces) long
-        ∙ sym (on ∙ ap (λ ps. goes_on_at t n (length ps - 1) ps) same) in
+    ∙ sym (on ∙ ap (λ ps. goes_on_at t n (length ps - 1) ps) same) in
     let some : len - 1 < length pieces = some_last t n (len - 1) pieces here in
     goes_on_in_place t n (len - 1) pieces last (omega arith) at here ∙ ap (extended t n) is ∙ sym (stretches_busy n t s busy clock)
 

@@ -1,7 +1,7 @@
 -- One tick of a policy's run, over what the run has come to.
-use Rattle.std.proofs.Common.{◌≡◌, ℕ, suc, zero, ◌+◌, ◌-◌, ◌≤◌, ◌<◌, inl, inr, List, [], ◌∷◌, ◌++◌, length, drop, map, refl, sym, ap, ◌∙◌, subst, Bool, true, false, cond}
+use Rattle.std.proofs.Common.{◌≡◌, ℕ, suc, ◌+◌, ◌-◌, ◌≤◌, ◌<◌, inl, inr, List, [], ◌∷◌, ◌++◌, length, drop, map, refl, sym, ap, ◌∙◌, subst, Bool, true, false, cond}
 use Rattle.std.proofs.Common.{eqb, arith}
-use Rattle.std.specs.Prelude.{Option, Some, None, unwrap_or, Result, Ok, Err, OnOk}
+use Rattle.std.specs.Prelude.{Option, None, unwrap_or, Result, Ok, Err, OnOk}
 use Rattle.std.specs.List.{filter, sum_by}
 use Rattle.dover_model.specs.JobFacts.{JobFacts, IsJob}
 use Rattle.dover_model.specs.Instance.{total_value}
@@ -11,15 +11,15 @@ use Rattle.dover_model.specs.declared.pieces.Piece.{Piece}
 use Rattle.dover_model.specs.Entries.{entry_of}
 use Rattle.dover_model.specs.State.{to_come, left}
 use Rattle.dover_model.specs.Pieces.{given, stretches}
-use Rattle.dover_model.specs.Sound.{IsMember, Each, jobs_of}
+use Rattle.dover_model.specs.Sound.{IsMember, Each}
 use Rattle.dover_model.proofs.Members.{map_member, sum_le, sum_map, sum_zero}
-use Rattle.policy_lab.specs.Picks.{Picks, IsPick, IsPolicy, AreReady, number_of}
+use Rattle.policy_lab.specs.Picks.{Picks, IsPolicy, AreReady, number_of}
 use Rattle.policy_lab.specs.PolicyRun.{is_ready, picked}
 use Rattle.policy_lab.specs.Bench.{HasReady, HasRun, tasks_at, schedule_before, served_value, spent_value, given_entry, is_in_time}
-use Rattle.policy_lab.proofs.Given.{ready_says, Fits}
+use Rattle.policy_lab.proofs.Given.{ready_says}
 use Rattle.policy_lab.proofs.Entries.{each_entry, are_ready, number_ready, value_after}
 use Rattle.policy_lab.proofs.Holding.{all_ready, ready_after}
-use Rattle.policy_lab.proofs.Runs.{numbered_at, jobs_at, tasks_next, schedule_next, schedule_length, low_numbers, fits_at}
+use Rattle.policy_lab.proofs.Runs.{numbered_at, jobs_at, tasks_next, schedule_next, low_numbers, fits_at}
 use Rattle.policy_lab.proofs.Stretching.{stretches_idle}
 
 module _ (picks : Picks) (policy : IsPolicy picks) (jobs : List JobFacts) (good : Each IsJob jobs) (count : length jobs ≤ 10_000) where
@@ -31,9 +31,9 @@ module _ (picks : Picks) (policy : IsPolicy picks) (jobs : List JobFacts) (good 
   most_served : (t : ℕ) → served_value (tasks_at picks jobs t) ≤ total_value jobs
   most_served t =
       let less : served_value tasks ≤ sum_by (λ task. task.job.value) tasks =
-          sum_le (λ task. cond (eqb (left task) 0) task.job.value 0) (λ task. task.job.value) tasks (λ task member. at_most (eqb (left task) 0) task.job.value) in
+      sum_le (λ task. cond (eqb (left task) 0) task.job.value 0) (λ task. task.job.value) tasks (λ task member. at_most (eqb (left task) 0) task.job.value) in
       let all : sum_by (λ task. task.job.value) tasks ≡ total_value jobs =
-          sym (sum_map (λ task. task.job) (λ j. j.value) tasks) ∙ ap total_value (jobs_at picks jobs t) in
+      sym (sum_map (λ task. task.job) (λ j. j.value) tasks) ∙ ap total_value (jobs_at picks jobs t) in
       omega arith where
         tasks : List Task
         tasks = tasks_at picks jobs t

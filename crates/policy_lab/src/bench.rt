@@ -116,7 +116,12 @@ impl Bench {
 }
 
 /// The value and the stretches of the policy's schedule of so many ticks.
-pub fn run_ticks<P: Policy>(alloc: Global, policy: &P, jobs: &[Job], ticks: u64) -> Result<(u64, Vec<Piece>), Memory>
+pub fn run_ticks<P: Policy>(
+    alloc: Global,
+    policy: &P,
+    jobs: &[Job],
+    ticks: u64,
+) -> Result<(u64, Vec<Piece>), Memory>
     requires in_order { IsInOrder jobs.now }
     requires each { Each IsJob jobs.now }
     requires count { length jobs.now ≤ 10_000 }

@@ -30,7 +30,14 @@ fn comes_to<P: Policy>(
     assert_eq!(rt; outcome.value, value);
     assert_eq!(rt; outcome.pieces.len(), stretches.len());
     for (piece, (from, until, number)) in outcome.pieces.iter().zip(stretches) {
-        assert!(rt; *piece == Piece { from: *from, until: *until, number: *number });
+        assert!(rt;
+            *piece
+                == Piece {
+                    from: *from,
+                    until: *until,
+                    number: *number
+                }
+        );
     }
 }
 

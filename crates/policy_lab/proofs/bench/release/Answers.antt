@@ -1,5 +1,4 @@
-use Rattle.std.proofs.Common.{◌≡◌, ◌<◌, ◌≤◌, ◌+◌, ◌++◌, ◌∷◌, [], ap, sym, subst, arith, ◌∙◌}
-use Rattle.dover_model.specs.JobFacts.{JobFacts}
+use Rattle.std.proofs.Common.{◌≤◌, ◌+◌, ◌++◌, ◌∷◌, [], ap, sym, subst, arith, ◌∙◌}
 use Rattle.policy_lab.specs.Bench.{HasReady}
 use Rattle.policy_lab.proofs.Holding.{all_late, ready_more, rest_behind, next_of_rest}
 use Rattle.policy_lab.proofs.bench.release.Goals as goal

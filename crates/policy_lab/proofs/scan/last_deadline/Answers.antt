@@ -1,4 +1,4 @@
-use Rattle.std.proofs.Common.{◌≡◌, arith, rules, subst, ◌∙◌}
+use Rattle.std.proofs.Common.{arith, rules, subst, ◌∙◌}
 use Rattle.std.proofs.lemmas.List.{take_all}
 use Rattle.dover_model.specs.JobFacts.{IsJob}
 use Rattle.dover_model.specs.Sound.{Each}

@@ -1,11 +1,10 @@
-use Rattle.std.proofs.Common.{◌≡◌, ◌+◌, ◌≤◌, ◌<◌, ◌++◌, ◌∷◌, [], map, ap, sym, subst, arith, ◌∙◌, refl}
+use Rattle.std.proofs.Common.{◌+◌, ◌++◌, ◌∷◌, [], map, ap, sym, subst, arith, ◌∙◌}
 use Rattle.std.specs.Prelude.{Some, ℕ}
 use Rattle.std.specs.List.{filter}
-use Rattle.dover_model.specs.Instance.{total_value}
 use Rattle.dover_model.specs.Pieces.{stretches}
 use Rattle.dover_model.specs.Sound.{IsMember}
 use Rattle.policy_lab.specs.Picks.{AreReady, number_of}
-use Rattle.policy_lab.specs.Bench.{HasReady, HasRun, tasks_at, schedule_before, served_value, spent_value, given_entry, is_in_time}
+use Rattle.policy_lab.specs.Bench.{tasks_at, schedule_before, spent_value, given_entry, is_in_time}
 use Rattle.policy_lab.proofs.Runs.{schedule_length}
 use Rattle.policy_lab.proofs.Ticks.{may_pick, may_give, is_picked, is_low, most_after, run_goes_on, run_idles, on_ok}
 use Rattle.policy_lab.proofs.bench.Bench.tick.Goals as goal

@@ -1,0 +1,2 @@
+pub mod BestSet
+pub mod Search

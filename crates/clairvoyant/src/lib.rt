@@ -1,0 +1,13 @@
+//! The most value that any schedule of a few jobs is worth.
+#![tactic(auto)]
+
+mod choice;
+mod optimum;
+mod outcome;
+mod search;
+
+pub use optimum::best;
+pub use outcome::{Best, BestFault};
+
+#[cfg(test)]
+mod tests;
