@@ -1,12 +1,13 @@
 -- Schedules of the jobs of a set, under their places there and under their numbers among all jobs.
-use Rattle.std.proofs.Common.{◌≡◌, ℕ, suc, zero, ◌+◌, ◌-◌, ◌≤◌, ◌<◌, inl, inr, List, [], ◌∷◌, ◌++◌, length, drop, take, get_or, map, refl, sym, ap, ◌∙◌, subst, arith, add-one, cond, eqb, Bool, true, false, IsTrue, replicate}
-use Rattle.std.specs.Prelude.{Some, None, Option, slice_get, IfSome, nat_le, ◌&&◌, ◌==◌}
-use Rattle.std.specs.List.{sum_by, count_by, enumerate_from, filter_map, cons_option, AllByRecursion}
+use Rattle.std.proofs.Common.{◌≡◌, ℕ, suc, zero, ◌+◌, ◌-◌, ◌≤◌, ◌<◌, inl, inr, List, [], ◌∷◌, ◌++◌, length, drop, take, get_or, map, refl}
+use Rattle.std.proofs.Common.{sym, ap, ◌∙◌, subst, arith, cond, eqb, Bool, true, false, IsTrue, replicate}
+use Rattle.std.specs.Prelude.{Some, None, Option, slice_get, IfSome, ◌&&◌, ◌==◌}
+use Rattle.std.specs.List.{count_by, enumerate_from, cons_option, AllByRecursion}
 use Rattle.std.proofs.lemmas.Bool.{le-leb, leb-true, eqb-true, eq-eqb}
 use Rattle.std.proofs.lemmas.List.{take-map, drop-map, map-append}
 use Rattle.std.proofs.lemmas.List.Sums.{sum_by-cons}
 use Rattle.dover_model.specs.JobFacts.{JobFacts}
-use Rattle.dover_model.specs.Instance.{Instance, IsInOrder}
+use Rattle.dover_model.specs.Instance.{IsInOrder}
 use Rattle.dover_model.specs.Schedules.{ticks_given, is_served}
 use Rattle.dover_model.specs.Sound.{IsMember, Each}
 use Rattle.dover_model.specs.declared.pieces.Piece.{Piece}
@@ -34,14 +35,15 @@ pub served_map : (f : ℕ → ℕ) (s : List ℕ) (a b : ℕ) (j : JobFacts) →
 served_map f s a b j to served =
     let enough : j.work ≤ ticks_given s a j = leb-true _ _ served in
     let more : ticks_given s a j ≤ count_by (λ m. eqb m b) (map f (drop j.release (take j.deadline s))) =
-        count_map f a b to (drop j.release (take j.deadline s)) in
+    count_map f a b to (drop j.release (take j.deadline s)) in
     let same : map f (drop j.release (take j.deadline s)) ≡ drop j.release (take j.deadline (map f s)) =
-        sym (ap (drop j.release) (take-map f j.deadline s) ∙ drop-map f j.release (take j.deadline s)) in
+    sym (ap (drop j.release) (take-map f j.deadline s) ∙ drop-map f j.release (take j.deadline s)) in
     let given : count_by (λ m. eqb m b) (map f (drop j.release (take j.deadline s))) ≡ ticks_given (map f s) b j = ap (count_by (λ m. eqb m b)) same in
     le-leb j.work (ticks_given (map f s) b j) (omega arith)
 
 -- the jobs of a set, one by one
-pub jobs_cons : (jobs : List JobFacts) (n : ℕ) (j : JobFacts) (chosen : List ℕ) → slice_get jobs n ≡ Some j → jobs_at jobs (n ∷ chosen) ≡ j ∷ jobs_at jobs chosen
+pub jobs_cons : (jobs : List JobFacts) (n : ℕ) (j : JobFacts) (chosen : List ℕ) → slice_get jobs n ≡ Some j
+    → jobs_at jobs (n ∷ chosen) ≡ j ∷ jobs_at jobs chosen
 jobs_cons jobs n j chosen at = ap (λ o. cons_option o (jobs_at jobs chosen)) at
 
 pub jobs_append : (jobs : List JobFacts) (chosen more : List ℕ) → jobs_at jobs (chosen ++ more) ≡ jobs_at jobs chosen ++ jobs_at jobs more
@@ -56,7 +58,8 @@ jobs_append jobs (n ∷ chosen) more = by_option (slice_get jobs n) (jobs_append
 pub jobs_few : (jobs : List JobFacts) (chosen : List ℕ) → length (jobs_at jobs chosen) ≤ length chosen
 jobs_few jobs [] = omega arith
 jobs_few jobs (n ∷ chosen) = by_option (slice_get jobs n) (jobs_few jobs chosen) where
-  by_option : (o : Option JobFacts) → length (jobs_at jobs chosen) ≤ length chosen → length (cons_option o (jobs_at jobs chosen)) ≤ suc (length chosen)
+  by_option : (o : Option JobFacts) → length (jobs_at jobs chosen) ≤ length chosen
+      → length (cons_option o (jobs_at jobs chosen)) ≤ suc (length chosen)
   by_option None less = omega arith
   by_option (Some j) less = omega arith
 
@@ -71,7 +74,8 @@ lift jobs f s k low (c ∷ chosen) rise to all n member = with_job (has jobs c r
   shifted : (i : ℕ) → i < length chosen → f (k + 1 + i) ≡ get_or chosen i 0
   shifted i short = ap f (let e : k + 1 + i ≡ k + suc i = omega arith in e) ∙ to (suc i) (omega arith)
 
-  with_job : Has jobs c → (AllByRecursion (λ n_j. IsTrue (is_served s n_j)) (enumerate_from (k + 1) (jobs_at jobs chosen)) → Each (Serves jobs (map f s)) chosen)
+  with_job : Has jobs c
+      → (AllByRecursion (λ n_j. IsTrue (is_served s n_j)) (enumerate_from (k + 1) (jobs_at jobs chosen)) → Each (Serves jobs (map f s)) chosen)
       → Each (Serves jobs (map f s)) (c ∷ chosen)
   with_job it rest = each where
     both : AllByRecursion (λ n_j. IsTrue (is_served s n_j)) (enumerate_from k (it.job ∷ jobs_at jobs chosen))
@@ -97,9 +101,11 @@ lower jobs g s k low (c ∷ chosen) rise to all =
 
       with_job : Has jobs c → AllByRecursion (λ n_j. IsTrue (is_served (map g s) n_j)) (enumerate_from (k + 1) (jobs_at jobs chosen))
           → AllByRecursion (λ n_j. IsTrue (is_served (map g s) n_j)) (enumerate_from k (jobs_at jobs (c ∷ chosen)))
-      with_job it rest = subst (λ js. AllByRecursion (λ n_j. IsTrue (is_served (map g s) n_j)) (enumerate_from k js)) (sym (jobs_cons jobs c it.job chosen it.at))
-          (served_map g s c k it.job (to 0 (omega arith) ∙ (let e : k + 0 ≡ k = omega arith in e))
-          (subst (λ o. IfSome o (λ j. IsTrue (is_served s (c, j)))) it.at (all c (inl refl))), rest)
+      with_job it rest = subst (λ js. AllByRecursion (λ n_j. IsTrue (is_served (map g s) n_j)) (enumerate_from k js)) (sym (jobs_cons jobs c it.job chosen it.at)) (
+        served_map g s c k it.job (to 0 (omega arith) ∙ (let e : k + 0 ≡ k = omega arith in e))
+            (subst (λ o. IfSome o (λ j. IsTrue (is_served s (c, j)))) it.at (all c (inl refl))),
+        rest,
+      )
 
 -- ---- pieces
 
@@ -138,9 +144,9 @@ spread_renumbered : (chosen : List ℕ) (t : ℕ) (pieces : List Piece) → Each
 spread_renumbered chosen t [] busy = refl
 spread_renumbered chosen t (piece ∷ pieces) busy =
     let rest : spread_from piece.until (map (renumbered chosen) pieces) ≡ map (number_at chosen) (spread_from piece.until pieces) =
-        spread_renumbered chosen piece.until pieces (λ p m. busy p (inr m)) in
+    spread_renumbered chosen piece.until pieces (λ p m. busy p (inr m)) in
     let here : get_or chosen piece.number 0 ≡ number_at chosen piece.number =
-        ap (λ b. cond b 1_000_000 (get_or chosen piece.number 0)) (sym (busy piece (inl refl))) in
+    ap (λ b. cond b 1_000_000 (get_or chosen piece.number 0)) (sym (busy piece (inl refl))) in
     ap (λ ns. replicate {A = ℕ} (piece.from - t) 1_000_000 ++ replicate (piece.until - piece.from) (get_or chosen piece.number 0) ++ ns) rest
     ∙ ap (λ m. replicate {A = ℕ} (piece.from - t) 1_000_000 ++ replicate (piece.until - piece.from) m ++ map (number_at chosen) (spread_from piece.until pieces)) here
     ∙ sym (map-append (number_at chosen) (replicate {A = ℕ} (piece.from - t) 1_000_000 ++ replicate (piece.until - piece.from) piece.number) (spread_from piece.until pieces)
@@ -155,7 +161,8 @@ spread_is chosen s = spread_renumbered chosen 0 (stretches s) (busy_stretches 0 
 -- ---- in order
 
 -- of two numbers the smaller one is released first
-order_pair : (jobs : List JobFacts) → IsInOrder jobs → (n m : ℕ) (j i : JobFacts) → n < m → slice_get jobs n ≡ Some j → slice_get jobs m ≡ Some i → j.release ≤ i.release
+order_pair : (jobs : List JobFacts) → IsInOrder jobs → (n m : ℕ) (j i : JobFacts) → n < m → slice_get jobs n ≡ Some j → slice_get jobs m ≡ Some i
+    → j.release ≤ i.release
 order_pair [] order n m j i less at there = absurd (let e : None ≡ Some j = at in cc)
 order_pair (k ∷ jobs) order zero zero j i less at there = absurd (omega arith)
 order_pair (k ∷ jobs) order zero (suc m) j i less at there =
@@ -168,14 +175,16 @@ order_pair (k ∷ jobs) order (suc n) zero j i less at there = absurd (omega ari
 order_pair (k ∷ jobs) order (suc n) (suc m) j i less at there = order_pair jobs order.1 n m j i (omega arith) at there
 
 -- the jobs of a set are in order
-pub order_at : (jobs : List JobFacts) → IsInOrder jobs → (low : ℕ) (chosen : List ℕ) → RiseWithin low (length jobs) chosen → IsInOrder (jobs_at jobs chosen)
+pub order_at : (jobs : List JobFacts) → IsInOrder jobs → (low : ℕ) (chosen : List ℕ) → RiseWithin low (length jobs) chosen
+    → IsInOrder (jobs_at jobs chosen)
 order_at jobs order low [] rise = tt
 order_at jobs order low (c ∷ chosen) rise = with_job (has jobs c rise.1) (order_at jobs order (suc c) chosen rise.2) where
   after : (j : JobFacts) → slice_get jobs c ≡ Some j → (next : ℕ) (more : List ℕ) → c < next → RiseWithin next (length jobs) more
       → AllByRecursion (λ x. j.release ≤ x.release) (jobs_at jobs more)
   after j at next [] less rising = tt
   after j at next (m ∷ more) less rising = of_next (has jobs m rising.1) (after j at (suc m) more (let from : next ≤ m = rising.0 in omega arith) rising.2) where
-    of_next : Has jobs m → AllByRecursion (λ x. j.release ≤ x.release) (jobs_at jobs more) → AllByRecursion (λ x. j.release ≤ x.release) (jobs_at jobs (m ∷ more))
+    of_next : Has jobs m → AllByRecursion (λ x. j.release ≤ x.release) (jobs_at jobs more)
+        → AllByRecursion (λ x. j.release ≤ x.release) (jobs_at jobs (m ∷ more))
     of_next it rest = subst (AllByRecursion (λ x. j.release ≤ x.release)) (sym (jobs_cons jobs m it.job more it.at))
         (order_pair jobs order c m j it.job (let from : next ≤ m = rising.0 in omega arith) at it.at, rest)
 

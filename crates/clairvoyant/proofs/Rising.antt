@@ -1,6 +1,6 @@
 -- Lists of rising numbers.
-use Rattle.std.proofs.Common.{◌≡◌, ℕ, suc, zero, ◌+◌, ◌≤◌, ◌<◌, ◌⊎◌, inl, inr, List, [], ◌∷◌, ◌++◌, length, get_or, refl, sym, ap, ◌∙◌, subst, arith, cond, eqb, Bool, true, false}
-use Rattle.std.proofs.lemmas.Bool.{cases_lt}
+use Rattle.std.proofs.Common.{◌≡◌, ℕ, suc, zero, ◌+◌, ◌≤◌, ◌<◌, ◌⊎◌, inl, inr, List, [], ◌∷◌, ◌++◌, length, get_or, refl, sym, ap, ◌∙◌, eqb}
+use Rattle.std.proofs.Common.{subst, arith, cond, Bool, true, false}
 use Rattle.dover_model.specs.Sound.{IsMember, Each}
 use Rattle.clairvoyant.specs.BestSet.{RiseWithin}
 
@@ -39,7 +39,8 @@ pub rise_split : (next end : ℕ) (more : List ℕ) → RiseWithin next end more
     → ((rest : List ℕ) × (more ≡ next ∷ rest) × RiseWithin (suc next) end rest) ⊎ RiseWithin (suc next) end more
 rise_split next end [] rise = inr tt
 rise_split next end (n ∷ more) rise = by_test (eqb next n) refl where
-  by_test : (b : Bool) → eqb next n ≡ b → ((rest : List ℕ) × (n ∷ more ≡ next ∷ rest) × RiseWithin (suc next) end rest) ⊎ RiseWithin (suc next) end (n ∷ more)
+  by_test : (b : Bool) → eqb next n ≡ b
+      → ((rest : List ℕ) × (n ∷ more ≡ next ∷ rest) × RiseWithin (suc next) end rest) ⊎ RiseWithin (suc next) end (n ∷ more)
   by_test true same = let is : n ≡ next = grind arith in inl (more, ap (λ k. k ∷ more) is, subst (λ k. RiseWithin (suc k) end more) is rise.2)
   by_test false other = let from : next ≤ n = rise.0 in let apart : suc next ≤ n = grind arith in inr (apart, rise.1, rise.2)
 

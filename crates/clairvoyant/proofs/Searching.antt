@@ -1,23 +1,22 @@
 -- What one step of the search finds, from what its two branches find.
-use Rattle.std.proofs.Common.{◌≡◌, ℕ, suc, zero, ◌+◌, ◌-◌, ◌≤◌, ◌<◌, ◌⊎◌, inl, inr, List, [], ◌∷◌, ◌++◌, length, drop, get_or, map, refl, sym, ap, ◌∙◌, subst, arith, add-one, append_assoc, cond, eqb, leb, Bool, true, false}
+use Rattle.std.proofs.Common.{◌≡◌, ℕ, suc, ◌+◌, ◌-◌, ◌≤◌, ◌<◌, ◌⊎◌, inl, inr, List, [], ◌∷◌, ◌++◌, length, drop, get_or, map, refl, sym, ap}
+use Rattle.std.proofs.Common.{◌∙◌, subst, arith, add-one, append_assoc, cond, eqb, leb, Bool, true, false}
 use Rattle.std.specs.Prelude.{Some, None, Option, slice_get, MatchOption, Result, Ok, Err, IfOk}
-use Rattle.std.specs.List.{sum_by}
 use Rattle.std.proofs.lemmas.Bool.{leb-true, leb-false}
 use Rattle.std.proofs.lemmas.List.{append-nil, drop_all}
 use Rattle.std.proofs.lemmas.List.Sums.{sum_by-cons, sum_by-drop_more}
 use Rattle.dover_model.specs.JobFacts.{JobFacts}
-use Rattle.dover_model.specs.Instance.{Instance, Rules, IsInOrder, total_value}
+use Rattle.dover_model.specs.Instance.{Rules, total_value}
 use Rattle.dover_model.specs.Schedules.{worth}
 use Rattle.dover_model.specs.Sound.{IsMember, Each}
 use Rattle.dover_model.specs.declared.events.Version.TheVariants.{One}
-use Rattle.dover_model.specs.declared.pieces.Piece.{Piece}
-use Rattle.dover_model.specs.Pieces.{edf, stretches, spread}
-use Rattle.deadline_oracle.specs.Feasibility.{ServesAll, CannotMeet, CanMeet, ShowsAll}
+use Rattle.dover_model.specs.Pieces.{edf, spread}
+use Rattle.deadline_oracle.specs.Feasibility.{ServesAll, CannotMeet, CanMeet}
 use Rattle.clairvoyant.specs.declared.choice.Choice.{Choice}
-use Rattle.clairvoyant.specs.BestSet.{RiseWithin, Serves, IsGood, IsEarlier, IsBestSet, value_at, value_of, jobs_at, renumbered, pieces_of}
+use Rattle.clairvoyant.specs.BestSet.{RiseWithin, Serves, IsGood, IsEarlier, IsBestSet, value_at, value_of, jobs_at, renumbered}
 use Rattle.clairvoyant.specs.Search.{IsChoice, Extends, NoneFound, IsFound, IsSearched}
 use Rattle.clairvoyant.proofs.Rising.{rise_wider, rise_each, rise_append, rise_length, rise_split, member_split, in_front, behind, place, place_at}
-use Rattle.clairvoyant.proofs.Values.{Has, has, get_is, value_is, most_more, value_append, served_good, worth_served, value_worth}
+use Rattle.clairvoyant.proofs.Values.{get_is, value_is, most_more, value_append, served_good, worth_served, value_worth}
 use Rattle.clairvoyant.proofs.Lifting.{jobs_cons, jobs_append, lift, lower, number_at, spread_is}
 
 -- ---- sets that one schedule serves
@@ -50,9 +49,11 @@ choice_good all next choice few low it = record {
 
 -- the jobs of a good set can all be served
 pub good_meets : (all : List JobFacts) (chosen : List ℕ) → IsGood all chosen → CanMeet (jobs_at all chosen)
-good_meets all chosen good = λ rules.
-    (map (place chosen) good.schedule, lower all (place chosen) good.schedule 0 0 chosen good.numbers
-    (λ i short. place_at 0 (length all) chosen good.numbers i short ∙ (let e : i ≡ 0 + i = omega arith in e)) good.served)
+good_meets all chosen good = λ rules. (
+  map (place chosen) good.schedule,
+  lower all (place chosen) good.schedule 0 0 chosen good.numbers
+      (λ i short. place_at 0 (length all) chosen good.numbers i short ∙ (let e : i ≡ 0 + i = omega arith in e)) good.served,
+)
 
 -- some rules
 abbrev some_rules : Rules
@@ -88,7 +89,8 @@ jobs_grow all chosen n j jobs grown short is same more =
     more ∙ ap (λ js. js ++ (j ∷ [])) same ∙ sym (jobs_with all chosen n j (get_is all n j short is))
 
 -- numbers of jobs rise also with the next
-pub rise_all : (all : List JobFacts) (chosen : List ℕ) (n : ℕ) → n < length all → RiseWithin 0 n chosen → RiseWithin 0 (length all) (chosen ++ (n ∷ []))
+pub rise_all : (all : List JobFacts) (chosen : List ℕ) (n : ℕ) → n < length all → RiseWithin 0 n chosen
+    → RiseWithin 0 (length all) (chosen ++ (n ∷ []))
 rise_all all chosen n short rise = rise_wider 0 0 (n + 1) (length all) (chosen ++ (n ∷ [])) (omega arith) (omega arith) (rise_with n chosen rise)
 
 -- its value
@@ -183,14 +185,16 @@ module _ (all : List JobFacts) (taken : List ℕ) (next : ℕ) (rise : RiseWithi
       (subst (IsGood all) it.are good)))
 
   -- nothing in either
-  pub none_either : (wanted : ℕ) → NoneFound all (taken ++ (next ∷ [])) (next + 1) wanted → NoneFound all taken (next + 1) wanted → NoneFound all taken next wanted
+  pub none_either : (wanted : ℕ) → NoneFound all (taken ++ (next ∷ [])) (next + 1) wanted → NoneFound all taken (next + 1) wanted
+      → NoneFound all taken next wanted
   none_either wanted none_with none_without other it good = by_branch (branches other it) where
     by_branch : With other ⊎ Without other → value_of all other < wanted
     by_branch (inl inside) = none_with other inside good
     by_branch (inr outside) = none_without other outside good
 
   -- something in the second alone
-  pub found_without : (wanted : ℕ) (found : Choice) → NoneFound all (taken ++ (next ∷ [])) (next + 1) wanted → IsFound all taken (next + 1) wanted found
+  pub found_without : (wanted : ℕ) (found : Choice) → NoneFound all (taken ++ (next ∷ [])) (next + 1) wanted
+      → IsFound all taken (next + 1) wanted found
       → IsFound all taken next wanted found
   found_without wanted found none_with it = record {
     choice = it.choice;
@@ -204,7 +208,8 @@ module _ (all : List JobFacts) (taken : List ℕ) (next : ℕ) (rise : RiseWithi
         let enough : wanted ≤ found.value = it.enough in omega arith
     at_most other good (inr outside) = it.greatest other outside good
 
-    not_earlier : (other : List ℕ) → IsGood all other → value_of all other ≡ found.value → IsEarlier other found.numbers.items → With other ⊎ Without other → ⊥
+    not_earlier : (other : List ℕ) → IsGood all other → value_of all other ≡ found.value → IsEarlier other found.numbers.items
+        → With other ⊎ Without other → ⊥
     not_earlier other good same earlier (inl inside) = let less : value_of all other < wanted = none_with other inside good in
         let enough : wanted ≤ found.value = it.enough in omega arith
     not_earlier other good same earlier (inr outside) = it.earliest other outside good same earlier
@@ -223,7 +228,8 @@ module _ (all : List JobFacts) (taken : List ℕ) (next : ℕ) (rise : RiseWithi
     at_most other good (inl inside) = it.greatest other inside good
     at_most other good (inr outside) = let less : value_of all other < found.value + 1 = none_without other outside good in omega arith
 
-    not_earlier : (other : List ℕ) → IsGood all other → value_of all other ≡ found.value → IsEarlier other found.numbers.items → With other ⊎ Without other → ⊥
+    not_earlier : (other : List ℕ) → IsGood all other → value_of all other ≡ found.value → IsEarlier other found.numbers.items
+        → With other ⊎ Without other → ⊥
     not_earlier other good same earlier (inl inside) = it.earliest other inside good same earlier
     not_earlier other good same earlier (inr outside) = with_first found.numbers.items other it.extends outside earlier
 
@@ -244,12 +250,14 @@ module _ (all : List JobFacts) (taken : List ℕ) (next : ℕ) (rise : RiseWithi
     at_most other good (inl inside) = let less : value_of all other ≤ found.value = it.greatest other inside good in omega (arith, more)
     at_most other good (inr outside) = that.greatest other outside good
 
-    not_earlier : (other : List ℕ) → IsGood all other → value_of all other ≡ better.value → IsEarlier other better.numbers.items → With other ⊎ Without other → ⊥
+    not_earlier : (other : List ℕ) → IsGood all other → value_of all other ≡ better.value → IsEarlier other better.numbers.items
+        → With other ⊎ Without other → ⊥
     not_earlier other good same earlier (inl inside) = let less : value_of all other ≤ found.value = it.greatest other inside good in omega (arith, more)
     not_earlier other good same earlier (inr outside) = that.earliest other outside good same earlier
 
   -- where all that is left is too little, nothing is found
-  pub too_little : (wanted value left : ℕ) → value ≡ value_of all taken → left ≡ total_value (drop next all) → value + left < wanted → NoneFound all taken next wanted
+  pub too_little : (wanted value left : ℕ) → value ≡ value_of all taken → left ≡ total_value (drop next all) → value + left < wanted
+      → NoneFound all taken next wanted
   too_little wanted value left is rest less other it good =
       let most : value_of all it.more ≤ total_value (drop next all) = most_more all next it.more it.rise in
       let whole : value_of all other ≡ value_of all taken + value_of all it.more = ap (value_of all) it.are ∙ value_append all taken it.more in
@@ -285,7 +293,7 @@ pub left_next : (all : List JobFacts) (next : ℕ) (j : JobFacts) (left value : 
     → j ≡ get_or all next j → value ≡ j.value → left - value ≡ total_value (drop (next + 1) all)
 left_next all next j left value rest short is same =
     let step : total_value (drop next all) ≡ (get_or all next j).value + total_value (drop (next + 1) all) =
-        sum_by-drop_more (λ (i : JobFacts). i.value) all next j short in
+    sum_by-drop_more (λ (i : JobFacts). i.value) all next j short in
     let here : j.value ≡ (get_or all next j).value = ap (λ (i : JobFacts). i.value) is in
     omega arith
 
@@ -363,7 +371,7 @@ found_worth all found few it rules =
     let schedule = spread (map (renumbered found.numbers.items) found.pieces.items) in
     let most : worth (record { rules = rules; jobs = all }) schedule ≤ found.value = found_most all found it rules schedule in
     let least : value_of all found.numbers.items ≤ worth (record { rules = rules; jobs = all }) schedule =
-        value_worth rules all schedule found.numbers.items it.choice.numbers (choice_served all (length all) found few (omega arith) it.choice) in
+    value_worth rules all schedule found.numbers.items it.choice.numbers (choice_served all (length all) found few (omega arith) it.choice) in
     let value : found.value ≡ value_of all found.numbers.items = it.choice.value in
     omega arith
 
@@ -371,4 +379,4 @@ found_worth all found few it rules =
 pub something_found : (all : List JobFacts) → NoneFound all [] 0 0 → ⊥
 something_found all none =
     let less : value_of all [] < 0 = none [] (record { more = []; are = refl; rise = tt })
-        (record { numbers = tt; schedule = []; served = λ n member. absurd member }) in omega arith
+    (record { numbers = tt; schedule = []; served = λ n member. absurd member }) in omega arith

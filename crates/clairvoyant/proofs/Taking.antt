@@ -1,7 +1,7 @@
 -- One job more of a list that is read.
 use Rattle.std.proofs.Common.{◌≡◌, ℕ, ◌+◌, ◌<◌, inl, inr, List, [], ◌∷◌, ◌++◌, length, take, get_or, refl, sym, subst}
 use Rattle.std.proofs.lemmas.List.{take_more}
-use Rattle.dover_model.specs.Sound.{IsMember, Each}
+use Rattle.dover_model.specs.Sound.{Each}
 
 -- what holds of each and of one behind them
 each_behind : {X : Type 0} (P : X → Type 0) (xs : List X) (y : X) → Each P xs → P y → Each P (xs ++ (y ∷ []))

@@ -1,16 +1,17 @@
 -- The values of sets of jobs, and what schedules are worth.
-use Rattle.std.proofs.Common.{◌≡◌, ℕ, suc, zero, ◌+◌, ◌-◌, ◌*◌, ◌≤◌, ◌<◌, inl, inr, List, [], ◌∷◌, ◌++◌, length, drop, get_or, refl, sym, ap, ◌∙◌, subst, arith, add-one, cond, eqb, Bool, true, false, IsTrue}
-use Rattle.std.specs.Prelude.{Some, None, Option, slice_get, IfSome}
+use Rattle.std.proofs.Common.{◌≡◌, ℕ, suc, zero, ◌+◌, ◌*◌, ◌≤◌, ◌<◌, inl, inr, List, [], ◌∷◌, ◌++◌, length, drop, get_or, refl, sym, ap}
+use Rattle.std.proofs.Common.{◌∙◌, subst, arith, add-one, cond, eqb, Bool, true, false, IsTrue}
+use Rattle.std.specs.Prelude.{Some, slice_get, IfSome}
 use Rattle.std.specs.List.{sum_by, enumerate_from}
 use Rattle.std.specs.Option.{option_map_or}
 use Rattle.std.proofs.lemmas.List.{length-drop}
 use Rattle.std.proofs.lemmas.List.Sums.{sum_by-cons, sum_by-append}
 use Rattle.dover_model.specs.JobFacts.{JobFacts, IsJob}
-use Rattle.dover_model.specs.Instance.{Instance, Rules, total_value}
+use Rattle.dover_model.specs.Instance.{Rules, total_value}
 use Rattle.dover_model.specs.Schedules.{is_served, worth}
 use Rattle.dover_model.specs.Sound.{IsMember, Each}
 use Rattle.clairvoyant.specs.BestSet.{RiseWithin, Serves, IsGood, value_at, value_of}
-use Rattle.clairvoyant.proofs.Rising.{rise_wider, rise_each}
+use Rattle.clairvoyant.proofs.Rising.{rise_wider}
 
 -- the job of a number
 pub record Has (jobs : List JobFacts) (n : ℕ) : Type 0 where
@@ -52,7 +53,8 @@ total_drop (suc next) zero (j ∷ jobs) below = absurd (omega arith)
 total_drop (suc next) (suc n) (j ∷ jobs) below = total_drop next n jobs (omega arith)
 
 -- numbers from one on are worth no more than all of them
-pub most_more : (jobs : List JobFacts) (next : ℕ) (more : List ℕ) → RiseWithin next (length jobs) more → value_of jobs more ≤ total_value (drop next jobs)
+pub most_more : (jobs : List JobFacts) (next : ℕ) (more : List ℕ) → RiseWithin next (length jobs) more
+    → value_of jobs more ≤ total_value (drop next jobs)
 most_more jobs next [] rise = omega arith
 most_more jobs next (n ∷ more) rise =
     with_job (has jobs n rise.1) (most_more jobs (suc n) more rise.2) where
@@ -60,7 +62,7 @@ most_more jobs next (n ∷ more) rise =
       with_job it rest =
           let here : value_at jobs n ≡ it.job.value = value_is jobs n it.job it.at in
           let all : total_value (drop n jobs) ≡ it.job.value + total_value (drop (suc n) jobs) =
-              ap total_value it.rest ∙ sum_by-cons (λ (i : JobFacts). i.value) it.job (drop (suc n) jobs) in
+          ap total_value it.rest ∙ sum_by-cons (λ (i : JobFacts). i.value) it.job (drop (suc n) jobs) in
           omega (arith, sum_by-cons (value_at jobs) n more, total_drop next n jobs rise.0)
 
 -- a few jobs are worth little
@@ -148,7 +150,8 @@ worth_served rules jobs s = sym (served_value jobs s 0 jobs refl)
 
 -- ---- a schedule is worth what any set is that it serves
 
-value_served : (jobs : List JobFacts) (s : List ℕ) (i : ℕ) (rest : List JobFacts) (chosen : List ℕ) → rest ≡ drop i jobs → RiseWithin i (length jobs) chosen
+value_served : (jobs : List JobFacts) (s : List ℕ) (i : ℕ) (rest : List JobFacts) (chosen : List ℕ) → rest ≡ drop i jobs
+    → RiseWithin i (length jobs) chosen
     → Each (Serves jobs s) chosen → value_of jobs chosen ≤ worth_from s i rest
 value_served jobs s i [] [] e rise all = omega arith
 value_served jobs s i [] (n ∷ chosen) e rise all = absurd (
@@ -170,9 +173,9 @@ value_served jobs s i (j ∷ rest) (n ∷ chosen) e rise all = by_test (eqb n i)
       by_test true same other more =
           let is : n ≡ i = grind arith in
           let later : value_of jobs chosen ≤ worth_from s (i + 1) rest =
-              more (subst (λ k. RiseWithin k (length jobs) chosen) (ap suc is ∙ sym (add-one i)) rise.2) in
+          more (subst (λ k. RiseWithin k (length jobs) chosen) (ap suc is ∙ sym (add-one i)) rise.2) in
           let served : is_served s (i, j) ≡ true =
-              subst (λ o. IfSome o (λ k. IsTrue (is_served s (i, k)))) at (subst (Serves jobs s) is (all n (inl refl))) in
+          subst (λ o. IfSome o (λ k. IsTrue (is_served s (i, k)))) at (subst (Serves jobs s) is (all n (inl refl))) in
           let gets : cond (is_served s (i, j)) j.value 0 ≡ j.value = ap (λ b. cond b j.value 0) served in
           let value : value_at jobs n ≡ j.value = ap (value_at jobs) is ∙ value_is jobs i j at in
           omega (

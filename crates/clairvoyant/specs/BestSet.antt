@@ -1,5 +1,5 @@
 -- The best set of jobs that one schedule can serve.
-use Rattle.std.specs.Prelude.{◌≡◌, ◌<◌, ◌≤◌, ◌↔◌, ℕ, suc, List, [], ◌∷◌, length, map, ◌==◌, if◌then◌else◌, IfSome, IsTrue, slice_get, slice_index}
+use Rattle.std.specs.Prelude.{◌≡◌, ◌<◌, ◌≤◌, ◌↔◌, ℕ, suc, List, [], ◌∷◌, length, map, IfSome, IsTrue, slice_get, slice_index}
 use Rattle.std.specs.List.{sum_by, filter_map}
 use Rattle.std.specs.Option.{option_map_or}
 use Rattle.dover_model.specs.JobFacts.{JobFacts}

@@ -1,7 +1,6 @@
 -- What a search over sets of jobs finds.
 use Rattle.std.specs.Prelude.{◌≡◌, ◌<◌, ◌≤◌, ℕ, List, ◌++◌, length, Option, Some, None}
 use Rattle.dover_model.specs.JobFacts.{JobFacts}
-use Rattle.dover_model.specs.declared.pieces.Piece.{Piece}
 use Rattle.dover_model.specs.Pieces.{edf, stretches}
 use Rattle.deadline_oracle.specs.Feasibility.{ServesAll}
 use Rattle.clairvoyant.specs.declared.choice.Choice.{Choice}

@@ -55,7 +55,8 @@ fn find(alloc: Global, jobs: &[Job]) -> Result<Best, Memory>
     ensures chosen { IfOk result (λ best. IsBestSet jobs.now best.chosen.items) }
     ensures value { IfOk result (λ best. best.value ≡ value_of jobs.now best.chosen.items) }
     ensures pieces { IfOk result (λ best. best.pieces.items ≡ pieces_of jobs.now best.chosen.items) }
-    ensures worth { IfOk result (λ best. (rules : Rules) → worth (record { rules = rules; jobs = jobs.now }) (spread best.pieces.items) ≡ best.value) }
+    ensures worth { IfOk result (λ best. (rules : Rules) →
+        worth (record { rules = rules; jobs = jobs.now }) (spread best.pieces.items) ≡ best.value) }
     ensures most { IfOk result (λ best. (rules : Rules) (s : List ℕ) → worth (record { rules = rules; jobs = jobs.now }) s ≤ best.value) }
 {
     let left = total_value(jobs);
@@ -84,7 +85,8 @@ pub fn best(alloc: Global, jobs: &[Job]) -> Result<Best, BestFault>
     ensures chosen { IfOk result (λ best. IsBestSet jobs.now best.chosen.items) }
     ensures value { IfOk result (λ best. best.value ≡ value_of jobs.now best.chosen.items) }
     ensures pieces { IfOk result (λ best. best.pieces.items ≡ pieces_of jobs.now best.chosen.items) }
-    ensures worth { IfOk result (λ best. (rules : Rules) → worth (record { rules = rules; jobs = jobs.now }) (spread best.pieces.items) ≡ best.value) }
+    ensures worth { IfOk result (λ best. (rules : Rules) →
+        worth (record { rules = rules; jobs = jobs.now }) (spread best.pieces.items) ≡ best.value) }
     ensures most { IfOk result (λ best. (rules : Rules) (s : List ℕ) → worth (record { rules = rules; jobs = jobs.now }) s ≤ best.value) }
 {
     if jobs.len() > MOST_JOBS {

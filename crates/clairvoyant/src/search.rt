@@ -11,7 +11,14 @@ use std::alloc::Global;
 
 /// Of the sets that extend this choice by jobs from number `next` on, and are worth at least `wanted`, the earliest of greatest value. Each
 /// job is put in before it is left out. `left` is the sum of the values of the jobs from `next` on.
-pub fn search(alloc: Global, jobs: &[Job], next: usize, choice: Choice, left: u64, wanted: u64) -> Result<Option<Choice>, Memory>
+pub fn search(
+    alloc: Global,
+    jobs: &[Job],
+    next: usize,
+    choice: Choice,
+    left: u64,
+    wanted: u64,
+) -> Result<Option<Choice>, Memory>
     requires in_order { IsInOrder jobs.now }
     requires count { length jobs.now ≤ 20 }
     requires each { Each IsJob jobs.now }

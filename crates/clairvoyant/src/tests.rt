@@ -29,7 +29,14 @@ fn comes_to(
     assert!(rt; found.chosen.as_slice() == numbers);
     assert_eq!(rt; found.pieces.len(), stretches.len());
     for (piece, (from, until, number)) in found.pieces.iter().zip(stretches) {
-        assert!(rt; *piece == Piece { from: *from, until: *until, number: *number });
+        assert!(rt;
+            *piece
+                == Piece {
+                    from: *from,
+                    until: *until,
+                    number: *number
+                }
+        );
     }
 }
 

@@ -62,9 +62,10 @@ module _ (jobs : List JobFacts) (clock released : ℕ) (kept : List Kept) (piece
     (s : Stands jobs clock released kept pieces late from) where
   -- the task of a number
   pub task_of : (i : ℕ) (j : JobFacts) → slice_get jobs i ≡ Some j → (t : Task) × IsMember t s.tasks × (t.number ≡ i) × (t.job ≡ j)
-  task_of i j found = at_zero (task_at 0 i s.tasks j s.come.numbered (subst (λ (js : List JobFacts). slice_get js i
-      ≡ Some j) (sym s.come.of_jobs) found)) where
-        at_zero : ((t : Task) × IsMember t s.tasks × (t.number ≡ 0 + i) × (t.job ≡ j)) → (t : Task) × IsMember t s.tasks × (t.number ≡ i) × (t.job ≡ j)
+  task_of i j found = at_zero (task_at 0 i s.tasks j s.come.numbered
+      (subst (λ (js : List JobFacts). slice_get js i ≡ Some j) (sym s.come.of_jobs) found)) where
+        at_zero : ((t : Task) × IsMember t s.tasks × (t.number ≡ 0 + i) × (t.job ≡ j))
+            → (t : Task) × IsMember t s.tasks × (t.number ≡ i) × (t.job ≡ j)
         at_zero it = (it.0, it.1, (let same : it.0.number ≡ 0 + i = it.2 in omega (arith, same)), it.3)
 
   -- numbers are below the count of jobs

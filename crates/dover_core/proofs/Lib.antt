@@ -7,3 +7,4 @@ pub mod Feeding
 pub mod Tested
 pub mod Counting
 pub mod Spending
+pub mod Passing

@@ -10,7 +10,8 @@ use Rattle.dover_model.proofs.Numerals.{numeral-decimal}
 use Rattle.dover_top.specs.Requests.{Asks, MayCarry}
 use Rattle.dover_top.specs.Words.{spelled, AsksTrial, AsksBait, AreRow}
 use Rattle.dover_top.specs.declared.request.Request.{Request}
-use Rattle.dover_top.specs.declared.request.Request.TheVariants.{Serve, Judge, Report, Trial, Bait}
+use Rattle.dover_top.specs.declared.request.Request.TheVariants.{Serve, Judge, Report, Trial, Bait, Ask}
+use Rattle.dover_words.specs.declared.question.Question.TheVariants.{Feasible, Best, Compare}
 
 -- ---- words read as what they ask for, if they ask for something
 
@@ -37,8 +38,10 @@ request_of words =
     if bytes_eq (word_at 0 words) (codes "judge") then Judge else (
     if bytes_eq (word_at 0 words) (codes "report") then Report (form_of (word_at 1 words)) else (
     if bytes_eq (word_at 0 words) (codes "trial")
-    then Trial (number_of (word_at 1 words)) (number_of (word_at 2 words)) (ratio_at 3 words)
-    else Bait (ratio_at 1 words) (number_of (word_at 3 words)))))
+    then Trial (number_of (word_at 1 words)) (number_of (word_at 2 words)) (ratio_at 3 words) else (
+    if bytes_eq (word_at 0 words) (codes "bait") then Bait (ratio_at 1 words) (number_of (word_at 3 words)) else (
+    if bytes_eq (word_at 0 words) (codes "feasible") then Ask Feasible else (
+    if bytes_eq (word_at 0 words) (codes "best") then Ask Best else Ask Compare))))))
 
 -- a number is read back
 number_same : (n : ℕ) → n < 10 ^ 18 → number_of (decimal n) ≡ n
@@ -66,6 +69,9 @@ is_read words (Trial seed count k) asks = ap request_of asks.row
 is_read words (Bait k rounds) asks = ap request_of asks.row
     ∙ ap (λ l. Bait l (number_of (decimal rounds))) (ratio_same k asks.allowed)
     ∙ ap (λ n. Bait k n) (number_same rounds (omega (arith, asks.few)))
+is_read words (Ask Feasible) asks = ap request_of asks
+is_read words (Ask Best) asks = ap request_of asks
+is_read words (Ask Compare) asks = ap request_of asks
 
 -- words that ask for two things ask for one
 pub asks_one : (words : List (String Global)) (r other : Request) → Asks words r → Asks words other → r ≡ other
@@ -77,7 +83,8 @@ no_row words none (inl asks) = none Serve asks
 no_row words none (inr (inl asks)) = none Judge asks
 no_row words none (inr (inr (inl (form, asks)))) = none (Report form) asks
 no_row words none (inr (inr (inr (inl (seed, count, k, asks))))) = none (Trial seed count k) asks
-no_row words none (inr (inr (inr (inr (k, rounds, asks))))) = none (Bait k rounds) asks
+no_row words none (inr (inr (inr (inr (inl (k, rounds, asks)))))) = none (Bait k rounds) asks
+no_row words none (inr (inr (inr (inr (inr (question, asks)))))) = none (Ask question) asks
 
 -- words that ask for something are a row
 pub are_row : (words : List (String Global)) (r : Request) → Asks words r → AreRow words
@@ -85,7 +92,8 @@ are_row words Serve asks = inl asks
 are_row words Judge asks = inr (inl asks)
 are_row words (Report form) asks = inr (inr (inl (form, asks)))
 are_row words (Trial seed count k) asks = inr (inr (inr (inl (seed, count, k, asks))))
-are_row words (Bait k rounds) asks = inr (inr (inr (inr (k, rounds, asks))))
+are_row words (Bait k rounds) asks = inr (inr (inr (inr (inl (k, rounds, asks)))))
+are_row words (Ask question) asks = inr (inr (inr (inr (inr (question, asks)))))
 
 -- what words ask for is within the limits of its word
 pub may_carry : (words : List (String Global)) (r : Request) → Asks words r → MayCarry r
@@ -94,6 +102,7 @@ may_carry words Judge asks = tt
 may_carry words (Report form) asks = tt
 may_carry words (Trial seed count k) asks = (asks.small, asks.few)
 may_carry words (Bait k rounds) asks = asks.some
+may_carry words (Ask question) asks = tt
 
 -- what holds of the numbers of a trial, as a fact on a request
 abbrev OfTrial : (ℕ → ℕ → Fraction → Type 0) → Request → Type 0
@@ -102,6 +111,7 @@ OfTrial P Judge = Unit {0}
 OfTrial P (Report form) = Unit {0}
 OfTrial P (Trial seed count k) = P seed count k
 OfTrial P (Bait k rounds) = Unit {0}
+OfTrial P (Ask question) = Unit {0}
 
 -- equal trials have the same numbers
 pub trial_is : (P : ℕ → ℕ → Fraction → Type 0) (seed count seed' count' : ℕ) (k l : Fraction) → Trial seed count k ≡ Trial seed' count' l
@@ -115,6 +125,7 @@ OfBait P Judge = Unit {0}
 OfBait P (Report form) = Unit {0}
 OfBait P (Trial seed count k) = Unit {0}
 OfBait P (Bait k rounds) = P k rounds
+OfBait P (Ask question) = Unit {0}
 
 -- equal baits have the same numbers
 pub bait_is : (P : Fraction → ℕ → Type 0) (k l : Fraction) (rounds rounds' : ℕ) → Bait k rounds ≡ Bait l rounds' → P k rounds → P l rounds'

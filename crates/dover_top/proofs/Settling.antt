@@ -21,6 +21,10 @@ use Rattle.judge_word.specs.Record.{IsNoTrace}
 use Rattle.trace_judge.specs.Judging.{is_wrong}
 use Rattle.report_word.specs.Record as told
 use Rattle.report_word.specs.declared.form.Form.{Form}
+use Rattle.dover_words.specs.Questions.{says, IsAnswerTo}
+use Rattle.dover_words.specs.Record as asked
+use Rattle.dover_words.specs.declared.question.Question.{Question}
+use Rattle.dover_words.specs.declared.question.Question.TheVariants.{Feasible, Best, Compare}
 use Rattle.dover_model.specs.declared.events.Version.TheVariants.{One}
 use Rattle.dover_model.specs.Fraction.{Fraction, IsRatio}
 use Rattle.dover_model.specs.Limits.{most_jobs}
@@ -45,6 +49,8 @@ use Rattle.dover_top.specs.Promises.{
   IsTooLarge,
   IsCutShort,
   IsGiven,
+  IsTold,
+  IsAsked,
 }
 
 -- the record of a call, at its status
@@ -235,6 +241,49 @@ answered ReadFault r r' w w' answer cause read write = absurd (read cause.0)
 answered WriteFault r r' w w' answer cause read write = absurd (write cause.1)
 answered Refused r r' w w' answer cause read write = absurd answer
 answered Usage r r' w w' answer cause read write = absurd answer
+
+-- ---- questions
+
+-- what is to be said of the jobs of a feed was written, and the run of these jobs keeps its promises
+pub told_so : (question : Question) (moves : List Move) → asked.IsAnswered (says question) Done moves → IsTold question moves
+told_so question moves it = record { said = it; promises = promises_of (instance_of it.session) it.valid.jobs }
+
+-- a feed that is refused has not ended
+refused_alone : (moves : List Move) → asked.IsRefusedFeed moves → is_ended (account (ins moves)) ≡ true → ⊥
+refused_alone moves (inl (line, cause, is)) ended = ended_alone (account (ins moves)) (has_ended moves ≡ true) ended (inl (line, cause, is))
+refused_alone moves (inr goes_on) ended = ended_alone (account (ins moves)) (has_ended moves ≡ true) ended (inr goes_on)
+
+-- where neither count rose, the answer is the one that the feed calls for
+pub asked_so : (question : Question) (status : Status) (r r' w w' : ℕ) → Causes status r r' w w' → (Rose r r' → ⊥) → (Rose w w' → ⊥)
+    → (moves : List Move) → asked.Tells (says question) status moves → IsAsked question status moves
+asked_so question Done r r' w w' cause read write moves s =
+    record { ended = λ _. inl s.ends; refused = λ why. absurd (refused_alone moves why s.ends.ended) }
+asked_so question No r r' w w' cause read write moves s =
+    record { ended = λ _. inl s.ends; refused = λ why. absurd (refused_alone moves why s.ends.ended) }
+asked_so question Refused r r' w w' cause read write moves s = record { ended = by_ends s.ends; refused = λ _. inl refl } where
+  by_ends : asked.Ends (says question) Refused moves → is_ended (account (ins moves)) ≡ true
+      → asked.IsAnswered (says question) Refused moves ⊎ (Refused ≡ Memory)
+  by_ends (inl refused) ended = absurd (refused_alone moves refused.0 ended)
+  by_ends (inr answered) ended = inl answered
+asked_so question Memory r r' w w' cause read write moves s = record { ended = λ _. inr refl; refused = λ _. inr refl }
+asked_so question ReadFault r r' w w' cause read write moves s = absurd (read cause.0)
+asked_so question WriteFault r r' w w' cause read write moves s = absurd (write cause.1)
+asked_so question Usage r r' w w' cause read write moves s = absurd s.ends
+
+-- where neither count rose, a question has an answer or there was no memory
+pub asked_all : (question : Question) (status : Status) (r r' w w' : ℕ) → IsAnswerTo question status → Causes status r r' w w' → (Rose r r' → ⊥)
+    → (Rose w w' → ⊥) → (status ≡ Done) ⊎ (status ≡ No) ⊎ (status ≡ Refused) ⊎ (status ≡ Memory)
+asked_all question Done r r' w w' answer cause read write = inl refl
+asked_all question No r r' w w' answer cause read write = inr (inl refl)
+asked_all question Refused r r' w w' answer cause read write = inr (inr (inl refl))
+asked_all question Memory r r' w w' answer cause read write = inr (inr (inr refl))
+asked_all question ReadFault r r' w w' answer cause read write = absurd (read cause.0)
+asked_all question WriteFault r r' w w' answer cause read write = absurd (write cause.1)
+asked_all question Usage r r' w w' answer cause read write = absurd (none question answer) where
+  none : (question : Question) → IsAnswerTo question Usage → ⊥
+  none Feasible it = it
+  none Best it = it
+  none Compare it = it
 
 -- ---- stated lists
 

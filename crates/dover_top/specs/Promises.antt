@@ -24,6 +24,9 @@ use Rattle.dover_model.specs.Bait.{bait_plan, plan_value, last_link}
 use Rattle.report_word.specs.Record.{report_text}
 use Rattle.stated_word.specs.Baited.{bait_instance, bait_text, size_text}
 use Rattle.report_word.specs.declared.form.Form.{Form}
+use Rattle.dover_words.specs.declared.question.Question.{Question}
+use Rattle.dover_words.specs.Questions.{says}
+use Rattle.dover_words.specs.Record.{IsAnswered, IsRefusedFeed}
 
 -- what stands of the run of a valid list of jobs
 pub record KeepsPromises (J : Instance) : Type 0 where
@@ -103,6 +106,16 @@ pub record IsTooLarge (moves : List Move) : Type 0 where
 pub record IsCutShort (text : List ℕ) (moves : List Move) : Type 0 where
   pub only : ArePuts moves
   pub front : IsProperPrefix (outs moves) text
+
+-- the feed that was read ended without a fault, and what is to be said of its jobs was written
+pub record IsTold (question : Question) (moves : List Move) : Type 0 where
+  pub said : IsAnswered (says question) Done moves
+  pub promises : KeepsPromises (instance_of said.session)
+
+-- A feed that ended has the answer to the question on its jobs, and one that has a fault or is short has its refusal, if there was memory.
+pub record IsAsked (question : Question) (status : Status) (moves : List Move) : Type 0 where
+  pub ended : is_ended (account (ins moves)) ≡ true → IsAnswered (says question) status moves ⊎ (status ≡ Memory)
+  pub refused : IsRefusedFeed moves → (status ≡ Refused) ⊎ (status ≡ Memory)
 
 -- where no write failed, the baiting jobs that fit are told of, or there was no memory; others are refused
 pub record IsGiven (status : Status) (fits : Type 0) : Type 0 where

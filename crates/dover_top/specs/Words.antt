@@ -5,6 +5,8 @@ use Rattle.dover_model.specs.Fraction.{Fraction, IsRatio}
 use Rattle.dover_model.specs.Limits.{most_jobs}
 use Rattle.report_word.specs.declared.form.Form.{Form}
 use Rattle.report_word.specs.declared.form.Form.TheVariants.{Text, Table}
+use Rattle.dover_words.specs.declared.question.Question.{Question}
+use Rattle.dover_words.specs.declared.question.Question.TheVariants.{Feasible, Best, Compare}
 
 -- the words as bytes
 abbrev pub spelled : List (String Global) → List (List ℕ)
@@ -41,8 +43,19 @@ pub record AsksBait (words : List (String Global)) (k : Fraction) (rounds : ℕ)
   pub few : rounds ≤ most_jobs
   pub allowed : IsRatio k
 
+-- the word for a question
+abbrev pub question_word : Question → List ℕ
+question_word Feasible = codes "feasible"
+question_word Best = codes "best"
+question_word Compare = codes "compare"
+
+-- the one word that asks this about the jobs of a feed
+abbrev pub AsksQuestion : List (String Global) → Question → Type 0
+AsksQuestion words question = spelled words ≡ question_word question ∷ []
+
 -- the words are a row
 abbrev pub AreRow : List (String Global) → Type 0
 AreRow words = AsksServe words ⊎ AsksJudge words ⊎ ((form : Form) × AsksReport words form)
     ⊎ ((seed : ℕ) × (count : ℕ) × (k : Fraction) × AsksTrial words seed count k)
     ⊎ ((k : Fraction) × (rounds : ℕ) × AsksBait words k rounds)
+    ⊎ ((question : Question) × AsksQuestion words question)

@@ -13,10 +13,15 @@ ghost use Rattle.stated_word.specs.Record as stated;
 ghost use Rattle.stated_word.specs.Lists.{trial_instance};
 ghost use Rattle.dover_core.specs.Spending.{AreFew};
 ghost use Rattle.stated_word.specs.Baited.{bait_text, size_text};
+ghost use Rattle.dover_words.specs.Compare.{IsFrugal};
+ghost use Rattle.dover_words.specs.Questions.{says, IsAnswerTo};
+ghost use Rattle.dover_words.specs.Record.{Tells};
+ghost use Rattle.dover_words.specs.declared.question.Question.{Question};
 ghost use Rattle.dover_top.specs.Requests.{MayCarry};
 
 use crate::request::Request;
 use dover_port::{Port, Status};
+use dover_words::question_word;
 use judge_word::judge_word;
 use report_word::report_word;
 use serve_word::serve_word;
@@ -48,11 +53,15 @@ pub(crate) fn carry_out<P: Port, L: Ledger>(
     ensures refuses { (k : Fraction) (rounds : ℕ) → request ≡ Request.Bait k rounds → (FitsLimits k rounds → ⊥) →
         Since (P.moves port.old) (P.moves port.new) (stated.Refuses result size_text) }
     ensures bait_answers { (k : Fraction) (rounds : ℕ) → request ≡ Request.Bait k rounds → stated.IsAnswerFor result (FitsLimits k rounds) }
+    ensures tells { (question : Question) → request ≡ Request.Ask question → Since (P.moves port.old) (P.moves port.new) (Tells (says question) result) }
+    ensures ask_answers { (question : Question) → request ≡ Request.Ask question → IsAnswerTo question result }
     ensures comparisons { request ≡ Request.Serve → Since (P.moves port.old) (P.moves port.new) (served.IsFrugal steps.old steps.new) }
     ensures trial_comparisons { (seed count : ℕ) (k : Fraction) → request ≡ Request.Trial seed count k → result ≡ Status.Done →
         AreFew count steps.old steps.new }
     ensures bait_comparisons { (k : Fraction) (rounds : ℕ) → request ≡ Request.Bait k rounds → result ≡ Status.Done →
         AreFew (length (bait_jobs k rounds)) steps.old steps.new }
+    ensures ask_comparisons { (question : Question) → request ≡ Request.Ask question →
+        Since (P.moves port.old) (P.moves port.new) (λ moves. result ≡ Status.Done → IsFrugal steps.old steps.new moves) }
     ensures usage { result ≢ Status.Usage }
     ensures causes { served.Causes result (P.read_faults port.old) (P.read_faults port.new) (P.write_faults port.old) (P.write_faults port.new) }
 {
@@ -62,5 +71,6 @@ pub(crate) fn carry_out<P: Port, L: Ledger>(
         Request::Report(form) => report_word(alloc, port, form),
         Request::Trial { seed, count, k } => trial_word(alloc, port, seed, count, k, steps),
         Request::Bait { k, rounds } => bait_word(alloc, port, k, rounds, steps),
+        Request::Ask(question) => question_word(alloc, port, question, steps),
     }
 }

@@ -5,6 +5,7 @@ ghost use Rattle.dover_top.specs.Requests.{Asks};
 ghost use Rattle.dover_top.specs.declared.request.Request.{Request};
 
 use dover_model::Ratio;
+use dover_words::Question;
 use line_text::numeral;
 use report_word::Form;
 
@@ -21,6 +22,8 @@ pub(crate) enum Request {
     Trial { seed: u32, count: u32, k: Ratio },
     /// The baiting jobs of so many rounds are served.
     Bait { k: Ratio, rounds: u32 },
+    /// A question on a feed is answered.
+    Ask(Question),
 }
 
 /// The most jobs, and the most rounds.
@@ -67,6 +70,15 @@ fn one_word(word: &String) -> Option<Request>
     }
     if is_word(word, "judge") {
         return Some(Request::Judge);
+    }
+    if is_word(word, "feasible") {
+        return Some(Request::Ask(Question::Feasible));
+    }
+    if is_word(word, "best") {
+        return Some(Request::Ask(Question::Best));
+    }
+    if is_word(word, "compare") {
+        return Some(Request::Ask(Question::Compare));
     }
     None
 }

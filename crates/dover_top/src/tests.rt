@@ -259,7 +259,7 @@ const TAKEN: &str =
     "dover 1 1 1\njob 0 0 3 30 3\nrun 0 0\njob 1 0 2 4 2\npreempt 0 0 1\njob 2 0 12 12 12\ntake 0 1 2\nabandon 2 1\ncomplete 12 2\nrun 12 0\ncomplete 15 0\nend 15\n";
 
 /// Words, what is read, how the call ends, and what is written.
-const CALLS: [(&[&str], &str, Status, &str); 9] = [
+const CALLS: [(&[&str], &str, Status, &str); 20] = [
     (
         &["report", "text"],
         TAKEN,
@@ -313,6 +313,67 @@ const CALLS: [(&[&str], &str, Status, &str); 9] = [
         "unread",
         Status::Refused,
         "refused size\n",
+    ),
+    (
+        &["feasible"],
+        "k 1 1\njob 0 4 10 4\njob 1 2 5 2\nend\n",
+        Status::Done,
+        "feasible 3\npiece 0 1 0\npiece 1 3 1\npiece 3 6 0\n",
+    ),
+    (
+        &["feasible"],
+        "k 1 1\njob 0 10 10 10\njob 0 20 20 20\nend\n",
+        Status::No,
+        "window 0 20 30\n",
+    ),
+    (&["feasible"], "k 1 1\nend\n", Status::Done, "feasible 0\n"),
+    (
+        &["feasible"],
+        "k 1 1 2\njob 0 2 2 2\njob 3 9 5 9\njob 0 2 5 2\nend\n",
+        Status::Done,
+        "feasible 2\npiece 0 2 0\npiece 2 4 1\n",
+    ),
+    (
+        &["feasible"],
+        "k 1 1\njob 0 2 2 2\njob 3 9 5 9\nend\n",
+        Status::Refused,
+        "refused 3 job\n",
+    ),
+    (
+        &["feasible"],
+        "k 1 1\njob 0 2 2 2\n",
+        Status::Refused,
+        "refused 3 short\n",
+    ),
+    (
+        &["compare"],
+        "k 1 1\njob 0 10 10 10\njob 0 21 21 21\nend\n",
+        Status::Done,
+        "dover 21\nedf 10\ndense 10\nbound 84\n",
+    ),
+    (
+        &["compare"],
+        "k 4 1\njob 0 4 4 4\njob 1 3 5 12\nend\n",
+        Status::Done,
+        "dover 4\nedf 4\ndense 12\nbound 36\n",
+    ),
+    (
+        &["compare"],
+        "k 1 1\njob 0 1 100001 1\nend\n",
+        Status::Refused,
+        "refused size\n",
+    ),
+    (
+        &["best"],
+        "k 1 1\njob 0 10 14 10\njob 1 2 5 2\njob 1 3 8 3\nend\n",
+        Status::Done,
+        "jobs 3\noptimum 13\nvalue 12\nbound 48\npiece 0 1 0\npiece 1 4 2\npiece 4 13 0\n",
+    ),
+    (
+        &["best"],
+        "k 1 1\njob 0 10 10 10\njob 0 21 21 21\nend\n",
+        Status::Done,
+        "jobs 2\noptimum 21\nvalue 21\nbound 84\npiece 0 21 1\n",
     ),
 ];
 
@@ -546,6 +607,8 @@ fn wrong_words(rt: HostRuntime) -> Result<(), Fail> {
         &["trial", "01", "2", "1", "1"][..],
         &["trial", "2147483648", "2", "1", "1"][..],
         &["trial", "1", "1000001", "1", "1"][..],
+        &["feasible", "best"][..],
+        &["bests"][..],
     ] {
         let words = words_of(alloc, texts)?;
         let script = pieces(alloc, "k 1 1\nend\n", 4096, 0)?;

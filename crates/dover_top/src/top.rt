@@ -14,8 +14,13 @@ ghost use Rattle.stated_word.specs.Lists.{trial_instance};
 ghost use Rattle.dover_core.specs.Spending.{AreFew};
 ghost use Rattle.dover_model.specs.Bait.{bait_jobs};
 ghost use Rattle.stated_word.specs.Baited.{bait_text, size_text};
-ghost use Rattle.dover_top.specs.Promises.{IsTraced, IsSettled, IsAccepted, IsJudged, IsReported, IsSummed, IsBaited, IsTooLarge, IsCutShort, IsGiven};
-ghost use Rattle.dover_top.specs.Words.{AsksServe, AsksJudge, AsksReport, AsksTrial, AsksBait, AreRow};
+ghost use Rattle.feed_reading.specs.Record as listed;
+ghost use Rattle.dover_words.specs.Compare.{IsFrugal};
+ghost use Rattle.dover_words.specs.Questions.{says, IsAnswerTo};
+ghost use Rattle.dover_words.specs.Record as asked;
+ghost use Rattle.dover_words.specs.declared.question.Question.{Question};
+ghost use Rattle.dover_top.specs.Promises.{IsTraced, IsSettled, IsAccepted, IsJudged, IsReported, IsSummed, IsBaited, IsTooLarge, IsCutShort, IsGiven, IsTold, IsAsked};
+ghost use Rattle.dover_top.specs.Words.{AsksServe, AsksJudge, AsksReport, AsksTrial, AsksBait, AsksQuestion, AreRow};
 
 use crate::carrying::carry_out;
 use crate::request::asked;
@@ -31,9 +36,13 @@ use step_count::Steps;
 /// - `report text` and `report csv` read a text, and write a report on its run where it is such a trace, else the line that `judge` writes.
 /// - `trial SEED COUNT P Q` reads nothing, and writes the summary of the run of so many stated jobs of a seed, within the ratio P/Q.
 /// - `bait P Q N` reads nothing, and writes what the run of the baiting jobs comes to, and what another schedule of them is worth.
+/// - `feasible` reads a feed, and writes a schedule that serves all its jobs, or a window in which they have more work than it has ticks.
+/// - `best` reads a feed of at most 20 jobs, and writes what the best schedule is worth, beside what the rules complete and guarantee, and such a schedule.
+/// - `compare` reads a feed, and writes what the rules complete, and what two other policies do.
 ///
-/// The statuses: `Done` where the feed ended without a fault and its whole trace was written, where the text was accepted, or the run was told; `No` where the text
-/// is wrong or short; `Refused` at the feed's first faulty line, where the input ends before the `end` line, or where the baiting jobs don't fit the limits; `ReadFault` and `WriteFault`
+/// The statuses: `Done` where the feed ended without a fault and its whole trace was written, where the text was accepted, the run was told, or the question answered; `No`
+/// where the text is wrong or short, or not all deadlines can be met; `Refused` at the feed's first faulty line, where the input ends before the `end` line, or where the jobs
+/// don't fit the limits of the word; `ReadFault` and `WriteFault`
 /// where a call of the port failed; `Memory` where there was none, which for a feed can't come before the ratio line; `Usage` exactly where
 /// the words are no row.
 pub fn dover<P: Port, L: Ledger>(
@@ -98,12 +107,32 @@ pub fn dover<P: Port, L: Ledger>(
     ensures bait_memory { (k : Fraction) (rounds : ℕ) → AsksBait words.now k rounds → result ≡ Status.Memory →
         Since (P.moves port.old) (P.moves port.new) (λ moves. moves ≡ []) }
 
+    // feasible, best, compare: nothing is put before a read, and none comes once the feed has ended or a line of it is faulty.
+    ensures question_reads { (question : Question) → AsksQuestion words.now question →
+        Since (P.moves port.old) (P.moves port.new) (EachRead listed.MayRead) }
+
+    // What was read and written, by the status.
+    ensures told { (question : Question) → AsksQuestion words.now question → result ≡ Status.Done →
+        Since (P.moves port.old) (P.moves port.new) (IsTold question) }
+    ensures denied { (question : Question) → AsksQuestion words.now question → result ≡ Status.No →
+        Since (P.moves port.old) (P.moves port.new) (asked.IsAnswered (says question) Status.No) }
+    ensures question_refused { (question : Question) → AsksQuestion words.now question → result ≡ Status.Refused →
+        Since (P.moves port.old) (P.moves port.new) (λ moves. asked.IsRefused moves ⊎ asked.IsAnswered (says question) Status.Refused moves) }
+    ensures question_unread { (question : Question) → AsksQuestion words.now question → result ≡ Status.ReadFault →
+        Since (P.moves port.old) (P.moves port.new) asked.IsUnread }
+    ensures question_unwritten { (question : Question) → AsksQuestion words.now question → result ≡ Status.WriteFault →
+        Since (P.moves port.old) (P.moves port.new) (asked.IsUnwritten (says question)) }
+    ensures question_memory { (question : Question) → AsksQuestion words.now question → result ≡ Status.Memory →
+        Since (P.moves port.old) (P.moves port.new) asked.IsOutOfMemory }
+
     // How many comparisons a call makes: for n jobs at most 80 * (n + 1) * d, where n + 1 has at most d binary digits.
     ensures comparisons { AsksServe words.now → Since (P.moves port.old) (P.moves port.new) (served.IsFrugal steps.old steps.new) }
     ensures trial_comparisons { (seed count : ℕ) (k : Fraction) → AsksTrial words.now seed count k → result ≡ Status.Done →
         AreFew count steps.old steps.new }
     ensures bait_comparisons { (k : Fraction) (rounds : ℕ) → AsksBait words.now k rounds → result ≡ Status.Done →
         AreFew (length (bait_jobs k rounds)) steps.old steps.new }
+    ensures question_comparisons { (question : Question) → AsksQuestion words.now question → result ≡ Status.Done →
+        Since (P.moves port.old) (P.moves port.new) (IsFrugal steps.old steps.new) }
 
     // A fault comes only where its count rose in this call, and each count rises for its own fault alone.
     ensures read_fault { result ≡ Status.ReadFault → Rose (P.read_faults port.old) (P.read_faults port.new) }
@@ -119,6 +148,7 @@ pub fn dover<P: Port, L: Ledger>(
     ensures report_never { (form : Form) → AsksReport words.now form → result ≢ Status.Refused }
     ensures trial_answers { (seed count : ℕ) (k : Fraction) → AsksTrial words.now seed count k → stated.IsAnswer result }
     ensures bait_answers { (k : Fraction) (rounds : ℕ) → AsksBait words.now k rounds → stated.IsAnswerFor result (FitsLimits k rounds) }
+    ensures question_answers { (question : Question) → AsksQuestion words.now question → IsAnswerTo question result }
 
     // Where no count rose there is an answer, the one that the input calls for, or no memory.
     ensures complete { AsksServe words.now → (Rose (P.read_faults port.old) (P.read_faults port.new) → ⊥)
@@ -143,6 +173,12 @@ pub fn dover<P: Port, L: Ledger>(
         (Rose (P.write_faults port.old) (P.write_faults port.new) → ⊥) → (result ≡ Status.Done) ⊎ (result ≡ Status.Memory) }
     ensures bait_complete { (k : Fraction) (rounds : ℕ) → AsksBait words.now k rounds →
         (Rose (P.write_faults port.old) (P.write_faults port.new) → ⊥) → IsGiven result (FitsLimits k rounds) }
+    ensures question_settled { (question : Question) → AsksQuestion words.now question →
+        (Rose (P.read_faults port.old) (P.read_faults port.new) → ⊥) → (Rose (P.write_faults port.old) (P.write_faults port.new) → ⊥) →
+        Since (P.moves port.old) (P.moves port.new) (IsAsked question result) }
+    ensures question_complete { (question : Question) → AsksQuestion words.now question →
+        (Rose (P.read_faults port.old) (P.read_faults port.new) → ⊥) → (Rose (P.write_faults port.old) (P.write_faults port.new) → ⊥) →
+        (result ≡ Status.Done) ⊎ (result ≡ Status.No) ⊎ (result ≡ Status.Refused) ⊎ (result ≡ Status.Memory) }
 {
     match asked(words) {
         Some(request) => carry_out(alloc, request, port, steps),

@@ -17,13 +17,14 @@ use Rattle.dover_port.specs.declared.status.Status.TheVariants.{Done, No, Refuse
 use Rattle.dover_port.proofs.Made.{since_weaker}
 use Rattle.policy_lab.specs.PolicyRun.{policy_run, AreTooLarge}
 use Rattle.policy_lab.specs.Standard.{earliest_deadline, greatest_density}
-use Rattle.dover_words.specs.Compare.{SaysCompare, AreWithin, worth_of, compared_of, compared_lines, size_text, IsFrugal}
+use Rattle.dover_words.specs.Compare.{SaysCompare, AreWithin, worth_of, compared_of, compared_lines, IsFrugal}
 use Rattle.dover_model.specs.Feed.{account}
 use Rattle.dover_model.specs.Session.{Session, instance_of}
 use Rattle.feed_reading.specs.Listing.{listed_instance}
 use Rattle.feed_reading.specs.declared.listed.Listed.{Listed}
-use Rattle.stated_word.specs.Spending.{AreFew}
+use Rattle.dover_core.specs.Spending.{AreFew}
 use Rattle.dover_words.specs.Record.{Finishes, IsRefusal, Puts}
+use Rattle.dover_words.specs.Texts.{size_text}
 use Rattle.dover_words.specs.declared.compare.Compared.{Compared}
 use Rattle.dover_words.proofs.Records.{IsSaying}
 
@@ -57,7 +58,7 @@ module _ (J : Instance) (valid : IsValid J) where
   value_low value is = subst (λ v. v ≤ most_total) (sym is) completed_low
 
   -- no schedule is worth more than the bound
-  worth_low : (s : List ℕ) → worth J s ≤ bound J.rules.ratio (completed_value J)
+  pub worth_low : (s : List ℕ) → worth J s ≤ bound J.rules.ratio (completed_value J)
   worth_low s = (bound-is J.rules.ratio (completed_value J) valid.ratio completed_low).greatest (worth J s)
       ((is_within-agrees J.rules.ratio (worth J s) (completed_value J)).1 (laws.bound J s valid))
 

@@ -33,15 +33,10 @@ use Rattle.dover_core.specs.Leading.{LeadsTo, GivesNext, ReachesBarrier}
 use Rattle.dover_core.proofs.Admission.{jobs_more}
 use Rattle.dover_core.proofs.Feeding.{next_valid, rest_follow}
 use Rattle.feed_reading.specs.Listing.{instance_with}
-use Rattle.stated_word.proofs.Settling.{leads_open, printed_next}
+use Rattle.dover_core.proofs.Passing.{leads_open, printed_next, leads_closed, closed_append, or_fails}
 use Rattle.dover_words.specs.Serving.{HasTaken, IsCompleting}
 
 -- ---- to a mark
-
--- a test beside one that fails
-or_fails : (b x c : Bool) → c ≡ (b || x) → b ≡ false → x ≡ false → c ≡ false
-or_fails true x c is off fails = is ∙ ap (λ y. y || x) off ∙ fails
-or_fails false x c is off fails = is ∙ fails
 
 -- the state that was reached is one of the jobs
 taken_keeps : (mark : ℕ) (v : Service) → HasTaken v mark → Keeps (list_of v) v.state
@@ -84,7 +79,7 @@ module _ (mark : ℕ) (v u : Service) (it : HasTaken v mark) (same : list_of u �
     pub taken_next : u.ended ≡ (v.ended || is_end (Prints e)) → HasTaken u mark
     taken_next ended = record {
       valid = subst IsValid (sym same) it.valid;
-      goes_on = or_fails v.ended (is_end (Prints e)) u.ended ended it.goes_on goes_on_still;
+      goes_on = or_fails v.ended (is_end (Prints e)) u.ended ended goes_on_still ∙ it.goes_on;
       events = it.events ++ e ∷ [];
       printed = printed_one;
     }
@@ -93,7 +88,7 @@ module _ (mark : ℕ) (v u : Service) (it : HasTaken v mark) (same : list_of u �
   pub taken_ends : ReachesBarrier mark v.rules v.state u.state → u.ended ≡ (v.ended || false) → HasTaken u mark
   taken_ends reaches ended = record {
     valid = subst IsValid (sym same) it.valid;
-    goes_on = or_fails v.ended false u.ended ended it.goes_on refl;
+    goes_on = or_fails v.ended false u.ended ended refl ∙ it.goes_on;
     events = it.events;
     printed = subst (λ J. HasPrinted J mark u.state it.events) (sym same) (record {
       steps = it.printed.steps ++ reaches.waits.steps;
@@ -105,31 +100,6 @@ module _ (mark : ℕ) (v u : Service) (it : HasTaken v mark) (same : list_of u �
   }
 
 -- ---- closed steps
-
--- a printed End is no silent step
-silent_goes_on : (m : Move) (es : List Event) → cons_option (event_of m) es ≡ [] → is_end m ≡ false
-silent_goes_on (Prints e) es none = absurd (let h : e ∷ es ≡ [] = none in cc)
-silent_goes_on (Waits n) es none = refl
-silent_goes_on Ticks es none = refl
-
--- silent steps are silent one by one
-silent_rest : (m : Move) (es : List Event) → cons_option (event_of m) es ≡ [] → es ≡ []
-silent_rest (Prints e) es none = absurd (let h : e ∷ es ≡ [] = none in cc)
-silent_rest (Waits n) es none = none
-silent_rest Ticks es none = none
-
--- silent steps on the way to the end are closed steps, none of which is End
-leads_closed : (rules : Rules) (xs : List Step) (s u : State) → LeadsTo horizon.End rules s xs u → printed_of xs ≡ [] → IsPath rules s xs u
-leads_closed rules [] s u here none = here
-leads_closed rules (x ∷ xs) s u path none =
-    let at : cons_option (event_of (step rules s)) (printed_of xs) ≡ [] =
-    sym (ap (λ (y : Step). cons_option (event_of y.move) (printed_of xs)) path.0) ∙ none in
-    (path.0, silent_goes_on (step rules s) (printed_of xs) at, leads_closed rules xs _ u path.2 (silent_rest (step rules s) (printed_of xs) at))
-
--- closed steps behind closed steps
-closed_append : (rules : Rules) (xs ys : List Step) (s t u : State) → IsPath rules s xs t → IsPath rules t ys u → IsPath rules s (xs ++ ys) u
-closed_append rules [] ys s t u here more = subst (λ z. IsPath rules z ys u) here more
-closed_append rules (x ∷ xs) ys s t u path more = (path.0, path.1, closed_append rules xs ys (after s (step rules s)) t u path.2 more)
 
 -- no steps
 abbrev no_steps : List Step

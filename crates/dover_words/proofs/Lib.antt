@@ -5,3 +5,4 @@ pub mod Records
 pub mod SaidFeasible
 pub mod Completing
 pub mod Comparing
+pub mod Finding

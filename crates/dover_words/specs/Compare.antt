@@ -13,7 +13,8 @@ use Rattle.dover_port.specs.declared.status.Status.TheVariants.{Done, No, Refuse
 use Rattle.policy_lab.specs.Picks.{Picks}
 use Rattle.policy_lab.specs.PolicyRun.{policy_run, AreTooLarge}
 use Rattle.policy_lab.specs.Standard.{earliest_deadline, greatest_density}
-use Rattle.stated_word.specs.Spending.{AreFew}
+use Rattle.dover_core.specs.Spending.{AreFew}
+use Rattle.dover_words.specs.Texts.{size_text}
 use Rattle.dover_words.specs.declared.compare.Compared.{Compared}
 
 -- what the schedule of a policy is worth
@@ -42,10 +43,6 @@ compared_lines c =
 abbrev pub compare_text : Instance → List ℕ
 compare_text J = in_lines (compared_lines (compared_of J))
 
--- what is said of any others
-abbrev pub size_text : List ℕ
-size_text = in_lines (codes "refused size" ∷ [])
-
 -- neither policy's schedule is worth more than the bound
 pub record AreWithin (c : Compared) : Type 0 where
   pub edf : c.edf ≤ c.bound
@@ -56,15 +53,6 @@ abbrev pub SaysCompare : Instance → Status → List ℕ → Type 0
 SaysCompare J Done text = (AreTooLarge J.jobs → ⊥) × AreWithin (compared_of J) × (text ≡ compare_text J)
 SaysCompare J Refused text = AreTooLarge J.jobs × (text ≡ size_text)
 SaysCompare J _ text = ⊥
-
--- the statuses that the word ends with
-abbrev pub IsCompareAnswer : Status → Type 0
-IsCompareAnswer Done = Unit {0}
-IsCompareAnswer Refused = Unit {0}
-IsCompareAnswer ReadFault = Unit {0}
-IsCompareAnswer WriteFault = Unit {0}
-IsCompareAnswer Memory = Unit {0}
-IsCompareAnswer _ = ⊥
 
 -- the comparisons of a call whose feed admits n jobs are few: at most 80 * (n + 1) * d, where n + 1 has at most d binary digits
 abbrev pub IsFrugal : (before after : ℕ) → List Move → Type 0

@@ -3,3 +3,5 @@ pub mod Record
 pub mod Feasible
 pub mod Serving
 pub mod Compare
+pub mod Best
+pub mod Questions

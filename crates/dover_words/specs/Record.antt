@@ -72,6 +72,15 @@ Causes ReadFault reads reads' writes writes' = Rose reads reads' × (writes' ≡
 Causes WriteFault reads reads' writes writes' = (reads' ≡ reads) × Rose writes writes'
 Causes _ reads reads' writes writes' = (reads' ≡ reads) × (writes' ≡ writes)
 
+-- the statuses of a word that never answers No
+abbrev pub IsAnswer : Status → Type 0
+IsAnswer Done = Unit {0}
+IsAnswer Refused = Unit {0}
+IsAnswer ReadFault = Unit {0}
+IsAnswer WriteFault = Unit {0}
+IsAnswer Memory = Unit {0}
+IsAnswer _ = ⊥
+
 -- the statuses of a call that refuses a feed
 abbrev pub IsRefusal : Status → Type 0
 IsRefusal Refused = Unit {0}

@@ -16,3 +16,7 @@ piece_line piece = with_numbers (codes "piece") (piece.from ∷ piece.until ∷ 
 -- the line of each piece
 abbrev pub piece_lines : List Piece → List (List ℕ)
 piece_lines pieces = map piece_line pieces
+
+-- what is said of jobs that are too many or too late
+abbrev pub size_text : List ℕ
+size_text = in_lines (codes "refused size" ∷ [])

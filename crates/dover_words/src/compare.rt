@@ -6,14 +6,14 @@ ghost use Rattle.dover_port.specs.Causes.{HasCause};
 ghost use Rattle.dover_port.specs.Moves.{Since, PutsText, PutsThrough};
 ghost use Rattle.feed_reading.specs.Listing.{listed_instance};
 ghost use Rattle.policy_lab.specs.PolicyRun.{AreTooLarge};
-ghost use Rattle.stated_word.specs.Spending.{AreFew};
-ghost use Rattle.dover_words.specs.Compare.{SaysCompare, IsCompareAnswer, compared_of, compared_lines, size_text, IsFrugal};
-ghost use Rattle.dover_words.specs.Record.{Causes, Finishes, IsRefusal, Puts, Tells};
+ghost use Rattle.dover_core.specs.Spending.{AreFew};
+ghost use Rattle.dover_words.specs.Compare.{SaysCompare, compared_of, compared_lines, IsFrugal};
+ghost use Rattle.dover_words.specs.Record.{Causes, Finishes, IsAnswer, Tells};
 
 use crate::lines::put_line;
-use crate::refusing::refuse;
+use crate::refusing::{refuse, refuse_size};
 use crate::serving::completed;
-use dover_port::{Failed, Output, Port, Status, put_all};
+use dover_port::{Failed, Output, Port, Status};
 use feed_reading::{Listed, Reading, read_feed};
 use policy_lab::{Dense, Edf, LabFault, run_policy};
 use root_compare::bound;
@@ -55,11 +55,7 @@ fn compare<L: Ledger>(
 }
 
 /// Puts the lines of these numbers.
-fn put_compared<P: Port>(
-    port: &mut P,
-    out: &mut Output,
-    compared: &Compared,
-) -> Result<(), Failed>
+fn put_compared<P: Port>(port: &mut P, out: &mut Output, compared: &Compared) -> Result<(), Failed>
     ensures text { PutsThrough (P.moves port.old) (P.moves port.new) result out.old out.new (in_lines (compared_lines compared.now)) }
     ensures cause { HasCause (P.write_faults port.old) (P.write_faults port.new) (P.read_faults port.old) (P.read_faults port.new) result }
 {
@@ -91,18 +87,6 @@ fn write_compared<P: Port>(port: &mut P, compared: &Compared) -> Result<(), Fail
     out.flush(port)
 }
 
-/// Refuses a feed that is too large.
-fn refuse_size<P: Port>(port: &mut P) -> Status
-    ensures puts { Since (P.moves port.old) (P.moves port.new) (Puts Status.Refused result size_text) }
-    ensures answer { IsRefusal result }
-    ensures causes { Causes result (P.read_faults port.old) (P.read_faults port.new) (P.write_faults port.old) (P.write_faults port.new) }
-{
-    match put_all(port, b"refused size\n") {
-        Ok(()) => Status::Refused,
-        Err(_) => Status::WriteFault,
-    }
-}
-
 /// Compares the rules with the policies over the jobs, and writes what came of it.
 fn answer<P: Port, L: Ledger>(
     alloc: Global,
@@ -112,7 +96,7 @@ fn answer<P: Port, L: Ledger>(
 ) -> Status
     requires { IsValid (listed_instance listed.now) }
     ensures finishes { Since (P.moves port.old) (P.moves port.new) (Finishes SaysCompare (listed_instance listed.now) result) }
-    ensures answer { IsCompareAnswer result }
+    ensures answer { IsAnswer result }
     ensures count { result ≡ Status.Done → AreFew (length listed.now.jobs.items) steps.old steps.new }
     ensures causes { Causes result (P.read_faults port.old) (P.read_faults port.new) (P.write_faults port.old) (P.write_faults port.new) }
 {
@@ -132,7 +116,7 @@ fn answer<P: Port, L: Ledger>(
 /// lines of version Two are passed over. Memory is taken for each admitted job, and for the runs.
 pub fn compare_word<P: Port, L: Ledger>(alloc: Global, port: &mut P, steps: &mut Steps<L>) -> Status
     ensures tells { Since (P.moves port.old) (P.moves port.new) (Tells SaysCompare result) }
-    ensures answer { IsCompareAnswer result }
+    ensures answer { IsAnswer result }
     ensures count { Since (P.moves port.old) (P.moves port.new) (λ moves. result ≡ Status.Done → IsFrugal steps.old steps.new moves) }
     ensures causes { Causes result (P.read_faults port.old) (P.read_faults port.new) (P.write_faults port.old) (P.write_faults port.new) }
 {

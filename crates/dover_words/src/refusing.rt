@@ -3,6 +3,7 @@ ghost use Rattle.std.specs.Prelude.{◌≡◌, ◌<◌, ◌++◌, ◌∷◌, [],
 ghost use Rattle.dover_model.specs.Due as due;
 ghost use Rattle.dover_port.specs.Moves.{Since};
 ghost use Rattle.event_feed.specs.Kept.{cause_of_fault};
+ghost use Rattle.dover_words.specs.Texts.{size_text};
 ghost use Rattle.dover_words.specs.Record.{Causes, IsRefusal, Puts};
 
 use dover_port::{Port, Status, put_all};
@@ -46,6 +47,18 @@ pub(crate) fn refuse<P: Port>(port: &mut P, fault: FeedFault) -> Status
     ensures causes { Causes result (P.read_faults port.old) (P.read_faults port.new) (P.write_faults port.old) (P.write_faults port.new) }
 {
     match put_all(port, fault_line(fault).bytes()) {
+        Ok(()) => Status::Refused,
+        Err(_) => Status::WriteFault,
+    }
+}
+
+/// Refuses a feed that is too large.
+pub(crate) fn refuse_size<P: Port>(port: &mut P) -> Status
+    ensures puts { Since (P.moves port.old) (P.moves port.new) (Puts Status.Refused result size_text) }
+    ensures answer { IsRefusal result }
+    ensures causes { Causes result (P.read_faults port.old) (P.read_faults port.new) (P.write_faults port.old) (P.write_faults port.new) }
+{
+    match put_all(port, b"refused size\n") {
         Ok(()) => Status::Refused,
         Err(_) => Status::WriteFault,
     }

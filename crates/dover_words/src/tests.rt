@@ -1,6 +1,6 @@
 ghost use Rattle.std.specs.Prelude.{◌≡◌, ◌<◌};
 
-use crate::{compare_word, feasible_word};
+use crate::{best_word, compare_word, feasible_word};
 use dover_port::{MemoryPort, Status};
 use std::alloc::{AllocError, Global};
 use std::marker::Brand;
@@ -27,7 +27,11 @@ const FEASIBLE: [(&str, Status, &str); 6] = [
         "feasible 3\npiece 0 1 0\npiece 1 3 1\npiece 3 6 0\n",
     ),
     ("k 1 1\njob 0 2 2 2\n", Status::Refused, "refused 3 short\n"),
-    ("k 1 1\njob 0 2 1 2\nend\n", Status::Refused, "refused 2 job\n"),
+    (
+        "k 1 1\njob 0 2 1 2\nend\n",
+        Status::Refused,
+        "refused 2 job\n",
+    ),
 ];
 
 /// The same of `compare`.
@@ -49,6 +53,34 @@ const COMPARED: [(&str, Status, &str); 4] = [
     ),
     ("k 1 2\n", Status::Refused, "refused 1 declared\n"),
 ];
+
+/// The same of `best`.
+const BEST: [(&str, Status, &str); 4] = [
+    (
+        "k 1 1\njob 0 10 14 10\njob 1 2 5 2\njob 1 3 8 3\nend\n",
+        Status::Done,
+        "jobs 3\noptimum 13\nvalue 12\nbound 48\npiece 0 1 0\npiece 1 4 2\npiece 4 13 0\n",
+    ),
+    (
+        "k 1 1\njob 0 10 10 10\njob 0 21 21 21\nend\n",
+        Status::Done,
+        "jobs 2\noptimum 21\nvalue 21\nbound 84\npiece 0 21 1\n",
+    ),
+    (MANY, Status::Refused, "refused size\n"),
+    (
+        "k 1 1\ntick 5\ntick 4\n",
+        Status::Refused,
+        "refused 3 order\n",
+    ),
+];
+
+/// A feed of 21 jobs.
+const MANY: &str = "k 1 1
+job 0 1 1 1\njob 0 1 1 1\njob 0 1 1 1\njob 0 1 1 1\njob 0 1 1 1\njob 0 1 1 1\njob 0 1 1 1
+job 0 1 1 1\njob 0 1 1 1\njob 0 1 1 1\njob 0 1 1 1\njob 0 1 1 1\njob 0 1 1 1\njob 0 1 1 1
+job 0 1 1 1\njob 0 1 1 1\njob 0 1 1 1\njob 0 1 1 1\njob 0 1 1 1\njob 0 1 1 1\njob 0 1 1 1
+end
+";
 
 fn pieces(alloc: Global, text: &str, size: usize) -> Result<Vec<Vec<u8>>, AllocError> {
     let mut script = Vec::new(alloc);
@@ -95,6 +127,32 @@ fn compare_in<L: Ledger>(alloc: Global, port: &mut MemoryPort, blank: Blank) -> 
 
 fn compare(alloc: Global, port: &mut MemoryPort) -> Status {
     compare_in::<Brand>(alloc, port, Blank::new(1))
+}
+
+fn best_in<L: Ledger>(alloc: Global, port: &mut MemoryPort, blank: Blank) -> Status
+    requires name { blank.name ≡ L.name }
+    requires parts { blank.parts ≡ L.parts }
+    requires some { 0 < blank.parts }
+{
+    let mut steps = Steps::<L>::new(blank);
+    best_word(alloc, port, &mut steps)
+}
+
+fn best(alloc: Global, port: &mut MemoryPort) -> Status {
+    best_in::<Brand>(alloc, port, Blank::new(1))
+}
+
+#[test]
+fn feeds_and_their_best_sets(rt: HostRuntime) -> Result<(), Fail> {
+    let alloc = rt.alloc();
+    for (text, status, written) in BEST {
+        for size in [4096, 1, 7] {
+            let mut port = port(alloc, text, size, 0, 0, 4096)?;
+            assert_eq!(rt; best(alloc, &mut port), status, "{text} by {size}");
+            assert_eq!(rt; port.written(), written.as_bytes(), "{text} by {size}");
+        }
+    }
+    Ok(())
 }
 
 #[test]

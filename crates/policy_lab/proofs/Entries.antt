@@ -54,7 +54,8 @@ pub number_ready : (t n : ℕ) (tasks : List Task) → IsMember n (map number_of
     → (task : Task) × IsMember task tasks × (is_ready t task ≡ true) × (n ≡ task.number)
 number_ready t n [] member = absurd member
 number_ready t n (task ∷ tasks) member = by_test (is_ready t task) refl member (number_ready t n tasks) where
-  by_test : (b : Bool) → is_ready t task ≡ b → IsMember n (map number_of (map entry_of (cond b (task ∷ filter (is_ready t) tasks) (filter (is_ready t) tasks))))
+  by_test : (b : Bool) → is_ready t task ≡ b
+      → IsMember n (map number_of (map entry_of (cond b (task ∷ filter (is_ready t) tasks) (filter (is_ready t) tasks))))
       → (IsMember n (map number_of (map entry_of (filter (is_ready t) tasks)))
       → (other : Task) × IsMember other tasks × (is_ready t other ≡ true) × (n ≡ other.number))
       → (other : Task) × IsMember other (task ∷ tasks) × (is_ready t other ≡ true) × (n ≡ other.number)
@@ -100,7 +101,8 @@ module _ (n t : ℕ) where
     following : List Task
     following = filter (is_ready (t + 1)) (map (given n) tasks)
 
-    kept : (b : Bool) → after ≡ map entry_of following → cond b (entry_of (given n task) ∷ after) after ≡ map entry_of (cond b (given n task ∷ following) following)
+    kept : (b : Bool) → after ≡ map entry_of following
+        → cond b (entry_of (given n task) ∷ after) after ≡ map entry_of (cond b (given n task ∷ following) following)
     kept true rest = ap (λ es. entry_of (given n task) ∷ es) rest
     kept false rest = rest
 

@@ -1,5 +1,6 @@
 -- The ready jobs, as a run keeps them from tick to tick.
-use Rattle.std.proofs.Common.{◌≡◌, ℕ, suc, zero, ◌+◌, ◌-◌, ◌≤◌, ◌<◌, inl, inr, List, [], ◌∷◌, ◌++◌, length, drop, get_or, map, refl, sym, ap, ◌∙◌, subst}
+use Rattle.std.proofs.Common.{◌≡◌, ℕ, suc, zero, ◌+◌, ◌-◌, ◌≤◌, ◌<◌, inl, inr, List, [], ◌∷◌, ◌++◌, length, drop, get_or, map, refl, sym}
+use Rattle.std.proofs.Common.{ap, ◌∙◌, subst}
 use Rattle.std.proofs.Common.{Bool, true, false, cond, eqb, arith, add-one, append_assoc}
 use Rattle.std.specs.List.{filter}
 use Rattle.std.proofs.lemmas.List.{drop_more, drop_all, map-append}
@@ -48,11 +49,13 @@ pub none_late : (t n : ℕ) (jobs : List JobFacts) → length jobs ≤ n → Eac
 none_late t n jobs long = subst (Each (λ i. t < i.release)) (sym (drop_all n jobs long)) (λ i member. absurd member)
 
 -- what holds of the rest holds of the rest behind the next
-pub rest_behind : (P : JobFacts → Type 0) (n : ℕ) (jobs : List JobFacts) (j : JobFacts) → n < length jobs → Each P (drop n jobs) → Each P (drop (n + 1) jobs)
+pub rest_behind : (P : JobFacts → Type 0) (n : ℕ) (jobs : List JobFacts) (j : JobFacts) → n < length jobs → Each P (drop n jobs)
+    → Each P (drop (n + 1) jobs)
 rest_behind P n jobs j short all = λ i member. all i (subst (IsMember i) (sym (drop_more jobs n j short)) (inr member))
 
 -- what holds of the rest holds of the next
-pub next_of_rest : (P : JobFacts → Type 0) (n : ℕ) (jobs : List JobFacts) (j : JobFacts) → n < length jobs → j ≡ get_or jobs n j → Each P (drop n jobs) → P j
+pub next_of_rest : (P : JobFacts → Type 0) (n : ℕ) (jobs : List JobFacts) (j : JobFacts) → n < length jobs → j ≡ get_or jobs n j
+    → Each P (drop n jobs) → P j
 next_of_rest P n jobs j short is all = all j (subst (IsMember j) (sym (drop_more jobs n j short)) (inl is))
 
 -- ---- the entries
@@ -65,7 +68,8 @@ entry_come n j = ap (with_left n j) (let e : j.work - 0 ≡ j.work = omega arith
 
 -- one job more is released
 pub ready_more : (t n : ℕ) (jobs : List JobFacts) (entries : List Entry) (tasks : List Task) (j : JobFacts) → HasReady t jobs n entries tasks
-    → n < length jobs → j ≡ get_or jobs n j → j.release ≤ t → t ≤ j.release → IsJob j → HasReady t jobs (n + 1) (entries ++ (entry_to_come n j ∷ [])) tasks
+    → n < length jobs → j ≡ get_or jobs n j → j.release ≤ t → t ≤ j.release → IsJob j
+    → HasReady t jobs (n + 1) (entries ++ (entry_to_come n j ∷ [])) tasks
 ready_more t n jobs entries tasks j has short is released now good = record {
   known = has.known ++ (coming_task n j ∷ []);
   count = one_longer has.known (coming_task n j) ∙ ap (λ m. m + 1) has.count;
@@ -112,7 +116,8 @@ all_ready t n jobs entries tasks has late =
       append_nil (x ∷ xs) = ap (λ ys. x ∷ ys) (append_nil xs)
 
 -- a job that is to come stays as it is
-still_to_come : (t n m : ℕ) (jobs : List JobFacts) → Each (λ j. t < j.release) jobs → Fits m t (to_come n jobs) → map (given m) (to_come n jobs) ≡ to_come n jobs
+still_to_come : (t n m : ℕ) (jobs : List JobFacts) → Each (λ j. t < j.release) jobs → Fits m t (to_come n jobs)
+    → map (given m) (to_come n jobs) ≡ to_come n jobs
 still_to_come t n m [] late fits = refl
 still_to_come t n m (j ∷ jobs) late fits =
     let here : given m (coming_task n j) ≡ coming_task n j = stays (eqb n m) refl in

@@ -1,5 +1,6 @@
 -- What a policy picks up to a tick depends on the jobs that are released by then alone.
-use Rattle.std.proofs.Common.{◌≡◌, ℕ, suc, zero, ◌+◌, ◌≤◌, ◌<◌, inl, inr, List, [], ◌∷◌, ◌++◌, length, get_or, map, refl, sym, ap, ◌∙◌, subst, Bool, true, false, cond}
+use Rattle.std.proofs.Common.{◌≡◌, ℕ, suc, zero, ◌+◌, ◌≤◌, ◌<◌, inl, inr, List, [], ◌∷◌, ◌++◌, length, get_or, map, refl, sym, ap, ◌∙◌}
+use Rattle.std.proofs.Common.{subst, Bool, true, false, cond}
 use Rattle.std.proofs.Common.{arith}
 use Rattle.std.specs.Prelude.{nat_le, None, unwrap_or}
 use Rattle.std.specs.List.{filter, fold}
@@ -55,7 +56,8 @@ module _ (picks : Picks) (idles : picks [] ≡ None) where
       (each_given (λ j. j.deadline ≤ t + 1) (picked picks t tasks) tasks (λ task m. let due : task.job.deadline ≤ t = over task m in omega arith))
 
   -- jobs that are released later change nothing of what is picked before
-  unseen : (t last : ℕ) (known later : List Task) → t ≤ last → Each (λ task. last < task.job.release) later → picked picks t (known ++ later) ≡ picked picks t known
+  unseen : (t last : ℕ) (known later : List Task) → t ≤ last → Each (λ task. last < task.job.release) later
+      → picked picks t (known ++ later) ≡ picked picks t known
   unseen t last known later early late = ap (λ ready. unwrap_or (picks (map entry_of ready)) 1_000_000)
       (filter-append (is_ready t) known later
       ∙ ap (λ rest. filter (is_ready t) known ++ rest)
@@ -68,7 +70,8 @@ module _ (picks : Picks) (idles : picks [] ≡ None) where
 
   -- what a run picks at a tick depends on the known tasks alone
   alone : (last ticks n t : ℕ) (known later : List Task) → t + ticks ≤ last → Each (λ task. last < task.job.release) later
-      → Each (λ task. task.job.deadline ≤ t + n) known → get_or (policy_run_from picks n t (known ++ later)) ticks 1_000_000 ≡ seen picks ticks t known
+      → Each (λ task. task.job.deadline ≤ t + n) known
+      → get_or (policy_run_from picks n t (known ++ later)) ticks 1_000_000 ≡ seen picks ticks t known
   alone last ticks zero t known later early late due =
       sym (none_behind ticks t known (λ task m. let at_most : task.job.deadline ≤ t + 0 = due task m in omega arith))
   alone last zero (suc n) t known later early late due = unseen t last known later (omega arith) late

@@ -1,5 +1,6 @@
 -- A policy's run, tick by tick: its tasks, its schedule, and what it is worth.
-use Rattle.std.proofs.Common.{◌≡◌, ℕ, suc, zero, ◌+◌, ◌-◌, ◌≤◌, ◌<◌, inl, inr, List, [], ◌∷◌, ◌++◌, length, map, refl, sym, ap, ◌∙◌, Bool, true, false, cond}
+use Rattle.std.proofs.Common.{◌≡◌, ℕ, suc, zero, ◌+◌, ◌-◌, ◌≤◌, ◌<◌, inl, inr, List, [], ◌∷◌, ◌++◌, length, map, refl, sym, ap, ◌∙◌, Bool}
+use Rattle.std.proofs.Common.{true, false, cond}
 use Rattle.std.proofs.Common.{eqb, arith, add-one, append_assoc, append-nil}
 use Rattle.std.specs.Prelude.{nat_le, Option, Some, None, unwrap_or}
 use Rattle.std.specs.List.{sum_by, filter, enumerate_from}
@@ -65,7 +66,8 @@ module _ (picks : Picks) (jobs : List JobFacts) where
   schedule_length (suc t) = one_longer (schedule_before picks jobs t) (picked picks t (tasks_at picks jobs t)) ∙ ap (λ n. n + 1) (schedule_length t) ∙ add-one t
 
   -- what comes before tick t, and from it on, is the whole
-  split_at : (n t m : ℕ) → m ≡ t + n → schedule_before picks jobs t ++ policy_run_from picks n t (tasks_at picks jobs t) ≡ schedule_before picks jobs m
+  split_at : (n t m : ℕ) → m ≡ t + n
+      → schedule_before picks jobs t ++ policy_run_from picks n t (tasks_at picks jobs t) ≡ schedule_before picks jobs m
   split_at zero t m e = append-nil (schedule_before picks jobs t) ∙ ap (schedule_before picks jobs) (let same : t ≡ m = omega arith in same)
   split_at (suc n) t m e =
       sym (append_assoc (schedule_before picks jobs t) (picked picks t (tasks_at picks jobs t) ∷ []) (policy_run_from picks n (t + 1) (tasks_at picks jobs (suc t))))

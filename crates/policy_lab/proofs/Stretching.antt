@@ -36,7 +36,8 @@ two_ticks t m u n = by_test (eqb n m && eqb u (t + 1)) refl where
   same_number : (eqb n m && eqb u (t + 1)) ≡ true → n ≡ m
   same_number h = grind arith
 
-  by_test : (b : Bool) → (eqb n m && eqb u (t + 1)) ≡ b → cond (eqb n m && eqb u (t + 1)) (joined (u + 1) n ∷ []) (tick_piece t m ∷ tick_piece u n ∷ [])
+  by_test : (b : Bool) → (eqb n m && eqb u (t + 1)) ≡ b
+      → cond (eqb n m && eqb u (t + 1)) (joined (u + 1) n ∷ []) (tick_piece t m ∷ tick_piece u n ∷ [])
       ≡ cond (eqb m n && eqb (t + 1) u) (joined (u + 1) m ∷ []) (tick_piece t m ∷ tick_piece u n ∷ [])
   by_test true h = ap (λ b. cond b (joined (u + 1) n ∷ []) (tick_piece t m ∷ tick_piece u n ∷ [])) h
       ∙ ap (λ number. joined (u + 1) number ∷ []) (same_number h)
@@ -67,7 +68,8 @@ both_ends t m u n (piece ∷ next ∷ pieces) = by_test ((piece.number == m) && 
   by_test false apart = with_tick_is t m piece (extended u n (next ∷ pieces)) false apart
 
 -- a tick of a job behind a schedule
-stretches_more : (n t u : ℕ) (s : List ℕ) → eqb n 1_000_000 ≡ false → u ≡ t + length s → stretches_from t (s ++ (n ∷ [])) ≡ extended u n (stretches_from t s)
+stretches_more : (n t u : ℕ) (s : List ℕ) → eqb n 1_000_000 ≡ false → u ≡ t + length s
+    → stretches_from t (s ++ (n ∷ [])) ≡ extended u n (stretches_from t s)
 stretches_more n t u [] busy at = ap (λ b. cond b [] (tick_piece t n ∷ [])) busy ∙ ap (λ v. tick_piece v n ∷ []) (let e : t ≡ u = omega arith in e)
 stretches_more n t u (m ∷ s) busy at = by_test (eqb m 1_000_000) (stretches_more n (t + 1) u s busy (omega arith)) where
   by_test : (b : Bool) → stretches_from (t + 1) (s ++ (n ∷ [])) ≡ extended u n (stretches_from (t + 1) s)

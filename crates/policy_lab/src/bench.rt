@@ -33,7 +33,8 @@ fn release(jobs: &[Job], before: usize, tick: u64, ready: &mut Vec<Entry>) -> Re
     requires count { length jobs.now ≤ 10_000 }
     ensures ready { (tasks : List Task) → HasReady tick jobs.now before ready.old.items tasks → Each (λ j. tick ≤ j.release) (drop before jobs.now) →
         IfOk result (λ released. HasReady tick jobs.now released ready.new.items tasks) }
-    ensures later { Each (λ j. tick ≤ j.release) (drop before jobs.now) → IfOk result (λ released. Each (λ j. tick < j.release) (drop released jobs.now)) }
+    ensures later { Each (λ j. tick ≤ j.release) (drop before jobs.now) →
+        IfOk result (λ released. Each (λ j. tick < j.release) (drop released jobs.now)) }
 {
     let mut released = before;
     while released < jobs.len() {

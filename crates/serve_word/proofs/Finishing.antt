@@ -27,34 +27,10 @@ use Rattle.dover_port.specs.Moves.{Passes, CutsShort}
 use Rattle.dover_port.proofs.Through.{passes_then, passes_then_cut, passes_nothing}
 use Rattle.dover_core.specs.Service.{Service}
 use Rattle.dover_core.specs.Leading.{LeadsTo, GivesNext}
+use Rattle.dover_core.proofs.Passing.{printed_next, leads_closed, closed_append}
 use Rattle.serve_word.specs.Served.{BeginRun, Finishes, HasServed, IsFinishing, event_lines}
 
 -- ---- closed steps
-
--- a printed End is no silent step
-silent_goes_on : (m : Move) (es : List Event) → cons_option (event_of m) es ≡ [] → is_end m ≡ false
-silent_goes_on (Prints e) es none = absurd (let h : e ∷ es ≡ [] = none in cc)
-silent_goes_on (Waits n) es none = refl
-silent_goes_on Ticks es none = refl
-
--- silent steps are silent one by one
-silent_rest : (m : Move) (es : List Event) → cons_option (event_of m) es ≡ [] → es ≡ []
-silent_rest (Prints e) es none = absurd (let h : e ∷ es ≡ [] = none in cc)
-silent_rest (Waits n) es none = none
-silent_rest Ticks es none = none
-
--- silent steps on the way to the end are closed steps, none of which is End
-pub leads_closed : (rules : Rules) (xs : List Step) (s u : State) → LeadsTo horizon.End rules s xs u → printed_of xs ≡ [] → IsPath rules s xs u
-leads_closed rules [] s u here none = here
-leads_closed rules (x ∷ xs) s u path none =
-    let at : cons_option (event_of (step rules s)) (printed_of xs) ≡ [] =
-    sym (ap (λ (y : Step). cons_option (event_of y.move) (printed_of xs)) path.0) ∙ none in
-    (path.0, silent_goes_on (step rules s) (printed_of xs) at, leads_closed rules xs _ u path.2 (silent_rest (step rules s) (printed_of xs) at))
-
--- closed steps behind closed steps
-pub closed_append : (rules : Rules) (xs ys : List Step) (s t u : State) → IsPath rules s xs t → IsPath rules t ys u → IsPath rules s (xs ++ ys) u
-closed_append rules [] ys s t u here more = subst (λ z. IsPath rules z ys u) here more
-closed_append rules (x ∷ xs) ys s t u path more = (path.0, path.1, closed_append rules xs ys (after s (step rules s)) t u path.2 more)
 
 -- closed steps, and first steps behind them, are first steps
 pub closed_begins : (rules : Rules) (xs ys : List Step) (s t : State) → IsPath rules s xs t → BeginRun rules t ys → BeginRun rules s (xs ++ ys)
@@ -108,13 +84,6 @@ first_begin rules (x ∷ xs) (y ∷ ys) s part whole =
       by_end false rest rest2 more = behind (more rest rest2)
 
 -- ---- one printed step more
-
--- what is printed with one step more
-pub printed_next : (xs ys : List Step) (s : State) (m : Move) (e : Event) → printed_of ys ≡ [] → m ≡ Prints e
-    → printed_of (xs ++ (ys ++ record { before = s; move = m } ∷ [])) ≡ printed_of xs ++ e ∷ []
-printed_next xs ys s m e none is = printed_append xs (ys ++ record { before = s; move = m } ∷ [])
-    ∙ ap (λ es. printed_of xs ++ es) (printed_append ys (record { before = s; move = m } ∷ []) ∙ ap (λ es. es ++ cons_option (event_of m) []) none
-    ∙ ap (λ n. cons_option (event_of n) []) is)
 
 -- the lines with one event more
 pub lines_next : (es : List Event) (e : Event) → event_lines (es ++ e ∷ []) ≡ event_lines es ++ (text_of e ++ 10 ∷ [])

@@ -17,12 +17,8 @@ use Rattle.dover_core.specs.declared.horizon.Horizon.TheVariants.{Mark}
 use Rattle.dover_core.specs.Service.{Service}
 use Rattle.dover_core.specs.Leading.{LeadsTo, GivesNext, ReachesBarrier}
 use Rattle.serve_word.specs.Served.{Settles, IsSettling, event_lines}
-use Rattle.serve_word.proofs.Finishing.{printed_next, lines_next}
-
--- what leads to a mark is a path of open steps
-pub leads_open : (mark : ℕ) (rules : Rules) (xs : List Step) (s u : State) → LeadsTo (Mark mark) rules s xs u → IsOpenPath rules mark s xs u
-leads_open mark rules [] s u here = here
-leads_open mark rules (x ∷ xs) s u path = (path.0, path.1, leads_open mark rules xs _ u path.2)
+use Rattle.dover_core.proofs.Passing.{leads_open, printed_next}
+use Rattle.serve_word.proofs.Finishing.{lines_next}
 
 module _ (a b c : Option (List Move)) (p q r : List ℕ) (mark : ℕ) (v w u : Service) (e : Event) (rules : w.rules ≡ v.rules)
     (so_far : IsSettling a b p q mark v w) (gives : GivesNext (Mark mark) w.rules w.state u.state e) where

@@ -20,8 +20,7 @@ use Rattle.dover_core.specs.Service.{Service, list_of, Stands, IsUpTo, MayFollow
 use Rattle.dover_core.specs.Leading.{GivesNext}
 use Rattle.trace_format.specs.Form.{step_numbers}
 use Rattle.serve_word.specs.Served.{CanGoOn}
-use Rattle.serve_word.proofs.Finishing.{leads_closed}
-use Rattle.serve_word.proofs.Settling.{leads_open}
+use Rattle.dover_core.proofs.Passing.{leads_open, leads_closed}
 
 -- the numbers of a step's line, in either's words
 same_numbers : (e : Event) → AreShort (numbers_in e) → AreShort (step_numbers e)
@@ -67,11 +66,6 @@ module _ (w u : Service) (can : CanGoOn w) (then : CanGoOn u) (e : Event) where
       same_numbers e (subst IsShortMove gives.prints
       (step_short (list_of w) can.valid gives.before there (clock_low gives.before gives.state) w.rules))
 
--- a test beside one that fails
-pub or_fails : (b x c : Bool) → c ≡ (b || x) → x ≡ false → c ≡ b
-or_fails true x c is fails = is
-or_fails false x c is fails = is ∙ fails
-
 -- no step to a mark is End
 pub mark_not_end : (w : Service) → CanGoOn w → (u : Service) (e : Event) (mark : ℕ) → GivesNext (Mark mark) w.rules w.state u.state e
     → is_end (Prints e) ≡ false
@@ -84,17 +78,3 @@ mark_not_end w can u e mark gives =
 
       none_comes : AllComeFrom mark no_tasks
       none_comes = ((λ t m. absurd m), (λ t m. absurd m))
-
--- a step that gives an event is taken before End was given
-pub goes_on_while : (b : Bool) → (b ≡ true → true ≡ false) → b ≡ false
-goes_on_while true never = never refl
-goes_on_while false never = refl
-
--- where End wasn't given before, it is given now or not
-pub ended_now : (b x c : Bool) → c ≡ (b || x) → b ≡ false → c ≡ x
-ended_now b x c is before = is ∙ ap (λ y. y || x) before
-
--- what may follow a mark once may follow it again
-pub again : (last now : Horizon) (mark : ℕ) → MayFollow last (Mark mark) → now ≡ Mark mark → MayFollow now (Mark mark)
-again (Mark t) now mark follows is = subst (λ h. MayFollow h (Mark mark)) (sym is) (omega arith, follows.1)
-again End now mark follows is = absurd follows

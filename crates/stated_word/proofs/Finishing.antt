@@ -20,43 +20,9 @@ use Rattle.stated_word.specs.Serving.{HasTallied, IsFinishing}
 use Rattle.stated_word.specs.Tallied.{tally_of}
 use Rattle.stated_word.specs.declared.tally.Tally.{Tally}
 use Rattle.stated_word.proofs.Counting.{few_events, few_all}
-use Rattle.stated_word.proofs.Settling.{printed_next}
+use Rattle.dover_core.proofs.Passing.{printed_next, leads_closed, closed_append}
 
 -- ---- closed steps
-
--- a printed End is no silent step
-silent_goes_on : (m : Move) (es : List Event) → cons_option (event_of m) es ≡ [] → is_end m ≡ false
-silent_goes_on (Prints e) es none = absurd (let h : e ∷ es ≡ [] = none in cc)
-silent_goes_on (Waits n) es none = refl
-silent_goes_on Ticks es none = refl
-
--- silent steps are silent one by one
-silent_rest : (m : Move) (es : List Event) → cons_option (event_of m) es ≡ [] → es ≡ []
-silent_rest (Prints e) es none = absurd (let h : e ∷ es ≡ [] = none in cc)
-silent_rest (Waits n) es none = none
-silent_rest Ticks es none = none
-
--- silent steps on the way to the end are closed steps, none of which is End
-leads_closed : (rules : Rules) (xs : List Step) (s u : State) → LeadsTo horizon.End rules s xs u → printed_of xs ≡ [] → IsPath rules s xs u
-leads_closed rules [] s u here none = here
-leads_closed rules (x ∷ xs) s u path none =
-    let at : cons_option (event_of (step rules s)) (printed_of xs) ≡ [] =
-    sym (ap (λ (y : Step). cons_option (event_of y.move) (printed_of xs)) path.0) ∙ none in
-    (path.0, silent_goes_on (step rules s) (printed_of xs) at, leads_closed rules xs _ u path.2 (silent_rest (step rules s) (printed_of xs) at))
-
--- closed steps behind closed steps
-closed_append : (rules : Rules) (xs ys : List Step) (s t u : State) → IsPath rules s xs t → IsPath rules t ys u → IsPath rules s (xs ++ ys) u
-closed_append rules [] ys s t u here more = subst (λ z. IsPath rules z ys u) here more
-closed_append rules (x ∷ xs) ys s t u path more = (path.0, path.1, closed_append rules xs ys (after s (step rules s)) t u path.2 more)
-
--- a step that gives an event is taken before End was given
-pub goes_on_while : (b : Bool) → (b ≡ true → true ≡ false) → b ≡ false
-goes_on_while true never = never refl
-goes_on_while false never = refl
-
--- where End wasn't given before, it is given now or not
-pub ended_now : (b x c : Bool) → c ≡ (b || x) → b ≡ false → c ≡ x
-ended_now b x c is before = is ∙ ap (λ y. y || x) before
 
 -- no steps
 abbrev no_steps : List Step

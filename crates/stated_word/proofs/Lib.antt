@@ -5,4 +5,3 @@ pub mod Admitting
 pub mod Putting
 pub mod Summing
 pub mod Baiting
-pub mod Spending

@@ -24,6 +24,7 @@ use Rattle.dover_core.specs.declared.horizon.Horizon.{Horizon}
 use Rattle.dover_core.specs.declared.horizon.Horizon.TheVariants.{Mark, End}
 use Rattle.dover_core.specs.Service.{Service, list_of, MayFollow}
 use Rattle.dover_core.specs.Leading.{LeadsTo, GivesNext, ReachesBarrier}
+use Rattle.dover_core.proofs.Passing.{leads_open, printed_next, or_fails}
 use Rattle.dover_core.proofs.Spending.{tasks_count}
 use Rattle.stated_word.specs.Serving.{AbandonsOneOf, HasTallied}
 use Rattle.stated_word.specs.Tallied.{tally_of}
@@ -31,28 +32,6 @@ use Rattle.stated_word.specs.declared.tally.Tally.{Tally}
 use Rattle.stated_word.proofs.Counting.{all_and_one, few_events}
 
 -- ---- steps
-
--- what leads to a mark is a path of open steps
-pub leads_open : (mark : ℕ) (rules : Rules) (xs : List Step) (s u : State) → LeadsTo (Mark mark) rules s xs u → IsOpenPath rules mark s xs u
-leads_open mark rules [] s u here = here
-leads_open mark rules (x ∷ xs) s u path = (path.0, path.1, leads_open mark rules xs _ u path.2)
-
--- what is printed with one step more
-pub printed_next : (xs ys : List Step) (s : State) (m : Move) (e : Event) → printed_of ys ≡ [] → m ≡ Prints e
-    → printed_of (xs ++ (ys ++ record { before = s; move = m } ∷ [])) ≡ printed_of xs ++ e ∷ []
-printed_next xs ys s m e none is = printed_append xs (ys ++ record { before = s; move = m } ∷ [])
-    ∙ ap (λ es. printed_of xs ++ es) (printed_append ys (record { before = s; move = m } ∷ []) ∙ ap (λ es. es ++ cons_option (event_of m) []) none
-    ∙ ap (λ n. cons_option (event_of n) []) is)
-
--- what may follow a mark once may follow it again
-pub again : (last now : Horizon) (mark : ℕ) → MayFollow last (Mark mark) → now ≡ Mark mark → MayFollow now (Mark mark)
-again (Mark t) now mark follows is = subst (λ h. MayFollow h (Mark mark)) (sym is) (omega arith, follows.1)
-again End now mark follows is = absurd follows
-
--- a test beside one that fails
-or_fails : (b x c : Bool) → c ≡ (b || x) → b ≡ false → x ≡ false → c ≡ false
-or_fails true x c is off fails = is ∙ ap (λ y. y || x) off ∙ fails
-or_fails false x c is off fails = is ∙ fails
 
 -- ---- a job that is abandoned
 
@@ -156,7 +135,7 @@ module _ (mark : ℕ) (v u : Service) (tally : Tally) (it : HasTallied v mark ta
         → HasTallied u mark next
     settled_next next counts ended = record {
       valid = valid_still;
-      goes_on = or_fails v.ended (is_end (Prints e)) u.ended ended it.goes_on goes_on_still;
+      goes_on = or_fails v.ended (is_end (Prints e)) u.ended ended goes_on_still ∙ it.goes_on;
       events = it.events ++ e ∷ [];
       printed = printed_one;
       named = subst (λ n. AllByRecursion (AbandonsOneOf n) (it.events ++ e ∷ [])) (sym (tasks_count v u same))
@@ -168,7 +147,7 @@ module _ (mark : ℕ) (v u : Service) (tally : Tally) (it : HasTallied v mark ta
   pub settled_ends : ReachesBarrier mark v.rules v.state u.state → u.ended ≡ (v.ended || false) → HasTallied u mark tally
   settled_ends reaches ended = record {
     valid = valid_still;
-    goes_on = or_fails v.ended false u.ended ended it.goes_on refl;
+    goes_on = or_fails v.ended false u.ended ended refl ∙ it.goes_on;
     events = it.events;
     printed = subst (λ J. HasPrinted J mark u.state it.events) (sym same) (record {
       steps = it.printed.steps ++ reaches.waits.steps;

@@ -2,5 +2,4 @@ pub mod Baited
 pub mod Lists
 pub mod Record
 pub mod Serving
-pub mod Spending
 pub mod Tallied

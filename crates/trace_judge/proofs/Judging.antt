@@ -6,7 +6,7 @@ use Rattle.std.specs.List.{filter}
 use Rattle.std.proofs.lemmas.Bool.{lt-ltb}
 use Rattle.std.specs.Prelude.{Result, Ok, Err, OnOk, OnErr, IsErr}
 use Rattle.dover_model.specs.declared.Memory.{Memory}
-use Rattle.std.proofs.lemmas.List.{length-map, append_assoc, append-nil}
+use Rattle.std.proofs.lemmas.List.{length-map, append_assoc}
 use Rattle.std.proofs.lemmas.List.Elements.{filter-append}
 use Rattle.dover_model.specs.declared.events.Event.{Event}
 use Rattle.dover_model.specs.Instance.{Rules}

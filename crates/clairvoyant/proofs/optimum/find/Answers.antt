@@ -1,6 +1,5 @@
-use Rattle.std.proofs.Common.{◌≡◌, [], map, ap, sym, subst, ◌∙◌}
+use Rattle.std.proofs.Common.{map, ap, subst, ◌∙◌}
 use Rattle.std.specs.Prelude.{Some, None}
-use Rattle.dover_model.specs.Instance.{Instance}
 use Rattle.dover_model.specs.Schedules.{worth}
 use Rattle.dover_model.specs.Pieces.{spread}
 use Rattle.clairvoyant.specs.BestSet.{renumbered}

@@ -6,9 +6,11 @@ use Rattle.report_word.specs.Record as told
 use Rattle.adversary.specs.Baiting.{FitsLimits}
 use Rattle.dover_model.specs.Reports.{summary}
 use Rattle.stated_word.specs.Record as stated
+use Rattle.dover_words.specs.Questions.{says}
+use Rattle.dover_words.specs.Record as asked
 use Rattle.stated_word.specs.Lists.{trial_instance}
 use Rattle.stated_word.specs.Baited.{bait_text, size_text}
-use Rattle.dover_top.specs.declared.request.Request.TheVariants.{Serve, Judge, Report, Trial, Bait}
+use Rattle.dover_top.specs.declared.request.Request.TheVariants.{Serve, Judge, Report, Trial, Bait, Ask}
 use Rattle.dover_top.proofs.Asking.{asks_one, no_row, are_row, may_carry}
 use Rattle.dover_top.proofs.Settling.{
   at_status,
@@ -24,6 +26,9 @@ use Rattle.dover_top.proofs.Settling.{
   too_large,
   tried,
   given,
+  told_so,
+  asked_so,
+  asked_all,
 }
 use Rattle.dover_top.proofs.top.dover.Goals as goal
 
@@ -183,3 +188,63 @@ returns-in-Some-clause-usage g c =
 
 pub returns-in-Some-clause-idle : goal.returns-in-Some-clause-idle
 returns-in-Some-clause-idle g c = λ e. absurd (c.carry_out.ensures.usage e)
+
+pub returns-in-Some-clause-question_reads : goal.returns-in-Some-clause-question_reads
+returns-in-Some-clause-question_reads g c = λ question asks. since_weaker _ _ _ _
+    (c.carry_out.ensures.tells question (asks_one _ _ (Ask question) c.in-Some.ensures.some asks)) (λ xs s. s.reads)
+
+pub returns-in-Some-clause-told : goal.returns-in-Some-clause-told
+returns-in-Some-clause-told g c = λ question asks e. since_weaker _ _ _ _
+    (c.carry_out.ensures.tells question (asks_one _ _ (Ask question) c.in-Some.ensures.some asks))
+    (λ xs s. told_so question xs (subst (λ t. asked.Ends (says question) t xs) e s.ends))
+
+pub returns-in-Some-clause-denied : goal.returns-in-Some-clause-denied
+returns-in-Some-clause-denied g c = λ question asks e. since_weaker _ _ _ _
+    (c.carry_out.ensures.tells question (asks_one _ _ (Ask question) c.in-Some.ensures.some asks))
+    (λ xs s. subst (λ t. asked.Ends (says question) t xs) e s.ends)
+
+pub returns-in-Some-clause-question_refused : goal.returns-in-Some-clause-question_refused
+returns-in-Some-clause-question_refused g c = λ question asks e. since_weaker _ _ _ _
+    (c.carry_out.ensures.tells question (asks_one _ _ (Ask question) c.in-Some.ensures.some asks))
+    (λ xs s. subst (λ t. asked.Ends (says question) t xs) e s.ends)
+
+pub returns-in-Some-clause-question_unread : goal.returns-in-Some-clause-question_unread
+returns-in-Some-clause-question_unread g c = λ question asks e. since_weaker _ _ _ _
+    (c.carry_out.ensures.tells question (asks_one _ _ (Ask question) c.in-Some.ensures.some asks))
+    (λ xs s. subst (λ t. asked.Ends (says question) t xs) e s.ends)
+
+pub returns-in-Some-clause-question_unwritten : goal.returns-in-Some-clause-question_unwritten
+returns-in-Some-clause-question_unwritten g c = λ question asks e. since_weaker _ _ _ _
+    (c.carry_out.ensures.tells question (asks_one _ _ (Ask question) c.in-Some.ensures.some asks))
+    (λ xs s. subst (λ t. asked.Ends (says question) t xs) e s.ends)
+
+pub returns-in-Some-clause-question_memory : goal.returns-in-Some-clause-question_memory
+returns-in-Some-clause-question_memory g c = λ question asks e. since_weaker _ _ _ _
+    (c.carry_out.ensures.tells question (asks_one _ _ (Ask question) c.in-Some.ensures.some asks))
+    (λ xs s. subst (λ t. asked.Ends (says question) t xs) e s.ends)
+
+pub returns-in-Some-clause-question_comparisons : goal.returns-in-Some-clause-question_comparisons
+returns-in-Some-clause-question_comparisons g c = λ question asks e. since_weaker _ _ _ _
+    (c.carry_out.ensures.ask_comparisons question (asks_one _ _ (Ask question) c.in-Some.ensures.some asks)) (λ xs s. s e)
+
+pub returns-in-Some-clause-question_answers : goal.returns-in-Some-clause-question_answers
+returns-in-Some-clause-question_answers g c = λ question asks. c.carry_out.ensures.ask_answers question
+    (asks_one _ _ (Ask question) c.in-Some.ensures.some asks)
+
+pub returns-in-Some-clause-question_settled : goal.returns-in-Some-clause-question_settled
+returns-in-Some-clause-question_settled g c = λ question asks read write. since_weaker _ _ _ _
+    (c.carry_out.ensures.tells question (asks_one _ _ (Ask question) c.in-Some.ensures.some asks))
+    (λ xs s. asked_so question _ _ _ _ _ c.carry_out.ensures.causes read write xs s)
+
+pub returns-in-Some-clause-question_complete : goal.returns-in-Some-clause-question_complete
+returns-in-Some-clause-question_complete g c = λ question asks read write. asked_all question _ _ _ _ _
+    (c.carry_out.ensures.ask_answers question (asks_one _ _ (Ask question) c.in-Some.ensures.some asks)) c.carry_out.ensures.causes read write
+
+pub returns-in-None-clause-question_answers : goal.returns-in-None-clause-question_answers
+returns-in-None-clause-question_answers g c = λ question asks. absurd (c.in-None.ensures.none refl (Ask question) asks)
+
+pub returns-in-None-clause-question_settled : goal.returns-in-None-clause-question_settled
+returns-in-None-clause-question_settled g c = λ question asks read write. absurd (c.in-None.ensures.none refl (Ask question) asks)
+
+pub returns-in-None-clause-question_complete : goal.returns-in-None-clause-question_complete
+returns-in-None-clause-question_complete g c = λ question asks read write. absurd (c.in-None.ensures.none refl (Ask question) asks)

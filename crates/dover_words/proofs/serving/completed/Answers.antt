@@ -1,6 +1,6 @@
 use Rattle.std.proofs.Common.{sym, ap, ◌∙◌, subst, arith}
 use Rattle.dover_core.specs.declared.horizon.Horizon.TheVariants.{Mark}
-use Rattle.stated_word.proofs.Spending.{spent_job, spent_all}
+use Rattle.dover_core.proofs.Spending.{spent_job, spent_all}
 use Rattle.dover_words.specs.Serving.{HasTaken}
 use Rattle.dover_words.proofs.Completing.{leave_taken, leave_admits, leave_next, leave_list}
 use Rattle.dover_words.proofs.serving.completed.Goals as goal

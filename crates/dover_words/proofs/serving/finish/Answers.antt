@@ -1,8 +1,8 @@
 use Rattle.std.proofs.Common.{refl, ◌∙◌, ap}
 use Rattle.dover_model.specs.Run.{completed_value}
 use Rattle.dover_core.specs.declared.horizon.Horizon.TheVariants.{End}
-use Rattle.stated_word.proofs.Finishing.{goes_on_while, ended_now}
-use Rattle.stated_word.proofs.Spending.{spent_next}
+use Rattle.dover_core.proofs.Passing.{goes_on_while, ended_now}
+use Rattle.dover_core.proofs.Spending.{spent_next}
 use Rattle.dover_words.proofs.Completing.{completing_starts, completing_next, taken_sound}
 use Rattle.dover_words.proofs.serving.finish.Goals as goal
 

@@ -1,7 +1,7 @@
 use Rattle.std.proofs.Common.{refl, ◌∙◌, arith}
 use Rattle.dover_core.specs.declared.horizon.Horizon.TheVariants.{Mark}
-use Rattle.stated_word.proofs.Settling.{again}
-use Rattle.stated_word.proofs.Spending.{spent_next}
+use Rattle.dover_core.proofs.Passing.{again}
+use Rattle.dover_core.proofs.Spending.{spent_next}
 use Rattle.dover_words.proofs.Completing.{taken_next, taken_ends, taken_sound}
 use Rattle.dover_words.proofs.serving.settle.Goals as goal
 

@@ -11,4 +11,5 @@ returns-then-goes_on c = λ schedule at is.
 pub returns : goal.returns
 returns c = λ schedule at is.
     c.in_ok-push.ensures.items
-    ∙ begun c.args.tick c.args.number c.deref.result.now c.args.pieces.now.items schedule c.deref.ensures.value c.if-goes_on.ensures c.requires.number at is
+    ∙ begun c.args.tick c.args.number c.deref.result.now c.args.pieces.now.items schedule c.deref.ensures.value c.if-goes_on.ensures
+    c.requires.number at is

@@ -17,6 +17,7 @@ loop-released-preserved c = record {
       (c.loop-released.invariant.ready tasks has now) c.loop-released-test.true c.index-jobs-released.is (omega (arith, c.release.ensures.is))
       (next_of_rest (λ j. c.args.tick ≤ j.release) c.loop-released.released c.args.jobs.now c.index-jobs-released.result c.loop-released-test.true
       c.index-jobs-released.is (c.loop-released.invariant.later now)) c.release.ensures.job);
-  later = λ now. rest_behind (λ j. c.args.tick ≤ j.release) c.loop-released.released c.args.jobs.now c.index-jobs-released.result c.loop-released-test.true
+  later = λ now. rest_behind (λ j. c.args.tick ≤ j.release) c.loop-released.released c.args.jobs.now c.index-jobs-released.result
+      c.loop-released-test.true
       (c.loop-released.invariant.later now);
 }

@@ -1,6 +1,7 @@
 use Rattle.std.proofs.Common.{refl, ◌∙◌, arith}
 use Rattle.serve_word.proofs.Finishing.{finishing_starts, finishing_next, finishing_cut, finishing_ends}
-use Rattle.serve_word.proofs.Short.{stands_can, short_at_end, goes_on_while, ended_now}
+use Rattle.dover_core.proofs.Passing.{goes_on_while, ended_now}
+use Rattle.serve_word.proofs.Short.{stands_can, short_at_end}
 use Rattle.serve_word.proofs.Spending.{step_spends, spends_none, spends_then}
 use Rattle.serve_word.proofs.steps.finish.Goals as goal
 

@@ -1,6 +1,7 @@
 use Rattle.std.proofs.Common.{refl, ◌∙◌, arith}
 use Rattle.serve_word.proofs.Settling.{settling_starts, settling_next, settling_cut, settling_ends}
-use Rattle.serve_word.proofs.Short.{stands_can, short_at_mark, mark_not_end, or_fails, again}
+use Rattle.dover_core.proofs.Passing.{or_fails, again}
+use Rattle.serve_word.proofs.Short.{stands_can, short_at_mark, mark_not_end}
 use Rattle.serve_word.proofs.Spending.{step_spends, spends_none, spends_then}
 use Rattle.serve_word.proofs.steps.settle.Goals as goal
 

@@ -3,9 +3,10 @@ use Rattle.dover_model.specs.Instance.{Instance}
 use Rattle.dover_model.specs.Run.{printed, printed_of}
 use Rattle.dover_core.specs.declared.horizon.Horizon.TheVariants.{End}
 use Rattle.stated_word.proofs.Settling.{tallied_sound}
-use Rattle.stated_word.proofs.Spending.{spent_next}
+use Rattle.dover_core.proofs.Spending.{spent_next}
 use Rattle.stated_word.specs.Tallied.{tally_of}
-use Rattle.stated_word.proofs.Finishing.{finishing_starts, counts_on, finishing_next, finishing_ends, goes_on_while, ended_now, room_on}
+use Rattle.dover_core.proofs.Passing.{goes_on_while, ended_now}
+use Rattle.stated_word.proofs.Finishing.{finishing_starts, counts_on, finishing_next, finishing_ends, room_on}
 use Rattle.stated_word.proofs.serving.finish.Goals as goal
 
 pub loop-event-init : goal.loop-event-init

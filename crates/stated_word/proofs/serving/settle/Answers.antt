@@ -1,7 +1,8 @@
 use Rattle.std.proofs.Common.{refl, ◌∙◌, arith}
 use Rattle.dover_core.specs.declared.horizon.Horizon.TheVariants.{Mark}
-use Rattle.stated_word.proofs.Spending.{spent_next}
-use Rattle.stated_word.proofs.Settling.{tallied_sound, again, counts_still, settled_next, settled_ends, room_next}
+use Rattle.dover_core.proofs.Spending.{spent_next}
+use Rattle.dover_core.proofs.Passing.{again}
+use Rattle.stated_word.proofs.Settling.{tallied_sound, counts_still, settled_next, settled_ends, room_next}
 use Rattle.stated_word.proofs.serving.settle.Goals as goal
 
 pub loop-event-init : goal.loop-event-init

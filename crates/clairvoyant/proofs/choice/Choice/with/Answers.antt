@@ -1,5 +1,4 @@
-use Rattle.std.proofs.Common.{◌≡◌, ◌+◌, ◌≤◌, ◌++◌, ◌∷◌, [], List, length, ap, sym, subst, arith, ◌∙◌}
-use Rattle.dover_model.specs.JobFacts.{JobFacts}
+use Rattle.std.proofs.Common.{◌≡◌, ◌+◌, ◌++◌, ◌∷◌, [], length, ap, sym, subst, arith, ◌∙◌}
 use Rattle.dover_model.specs.Instance.{IsInOrder}
 use Rattle.dover_model.specs.Pieces.{edf, stretches}
 use Rattle.deadline_oracle.specs.Feasibility.{IsAnswer, ServesAll}
@@ -27,8 +26,14 @@ judge_feasible-requires-clause-count c =
     c.deref-2.result.now c.requires.number c.index-all-number.is c.requires.choice.jobs
     (c.deref-2.ensures.value ∙ c.in_ok-push.ensures.items
     ∙ ap (λ jobs. jobs ++ c.index-all-number.result ∷ []) (c.in_ok-jobs.ensures.items ∙ c.deref.ensures.value)) in
-    omega (arith, ap length grown, jobs_few c.args.all.now numbers, c.requires.count, rise_length 0 (length c.args.all.now) numbers (omega arith)
-    (rise_all c.args.all.now c.args.self.now.numbers.items c.args.number c.requires.number c.requires.choice.numbers))
+    omega (
+      arith,
+      ap length grown,
+      jobs_few c.args.all.now numbers,
+      c.requires.count,
+      rise_length 0 (length c.args.all.now) numbers (omega arith)
+          (rise_all c.args.all.now c.args.self.now.numbers.items c.args.number c.requires.number c.requires.choice.numbers),
+    )
 
 pub returns-in_default-clause-none : goal.returns-in_default-clause-none
 returns-in_default-clause-none c =
@@ -42,7 +47,8 @@ returns-in_default-clause-none c =
 pub overflow_add-result : goal.overflow_add-result
 overflow_add-result c =
     let value = value_few c.args.all.now c.args.self.now.numbers.items c.requires.each c.requires.count
-    (rise_wider 0 0 c.args.number (length c.args.all.now) c.args.self.now.numbers.items (omega arith) (omega (arith, c.requires.number)) c.requires.choice.numbers) in
+    (rise_wider 0 0 c.args.number (length c.args.all.now) c.args.self.now.numbers.items (omega arith) (omega (arith, c.requires.number))
+    c.requires.choice.numbers) in
     omega (arith, value, c.requires.choice.value, c.value.ensures.is, c.value.ensures.job.modest)
 
 pub returns-clause-choice : goal.returns-clause-choice
@@ -56,7 +62,8 @@ returns-clause-choice c =
     ∙ ap (λ jobs. jobs ++ c.index-all-number.result ∷ []) (c.in_ok-jobs.ensures.items ∙ c.deref.ensures.value)) in
     let shows = subst (IsAnswer c.deref-2.result.now) c.in-All.is c.in_ok-pieces.ensures in
     record {
-      numbers = subst (RiseWithin 0 (c.args.number + 1)) (sym numbers_are) (rise_with c.args.number c.args.self.now.numbers.items c.requires.choice.numbers);
+      numbers = subst (RiseWithin 0 (c.args.number + 1)) (sym numbers_are) (rise_with c.args.number c.args.self.now.numbers.items
+          c.requires.choice.numbers);
       jobs = sym c.deref-2.ensures.value ∙ grown ∙ ap (jobs_at c.args.all.now) (sym numbers_are);
       value =
           let sum = value_with c.args.all.now c.args.self.now.numbers.items c.args.number c.index-all-number.result

@@ -22,7 +22,8 @@ returns-in_default g c =
     let picks = g.P.Policy.picks c.args.policy.now in
     run_idles picks (g.met.P.Policy.law c.args.policy.now) c.args.jobs.now c.requires.each c.requires.count c.args.tick c.in_ok-self.field-0
     c.release.new.ready.items (c.in_ok-self.ensures.ready (tasks_at picks c.args.jobs.now c.args.tick) c.requires.run.ready c.requires.run.later)
-    (c.in_ok-self.ensures.later c.requires.run.later) c.args.self.now.value c.args.self.now.pieces.items c.requires.run.served c.requires.run.stretched
+    (c.in_ok-self.ensures.later c.requires.run.later) c.args.self.now.value c.args.self.now.pieces.items c.requires.run.served
+    c.requires.run.stretched
     (c.in_default.ensures.by_the_list ∙ ap picks c.deref.ensures.value) (sym c.deref.ensures.value ∙ c.in_default.ensures.one_of_them)
 
 pub give-requires : goal.give-requires
@@ -38,9 +39,11 @@ spent_value-requires g c =
     let law = g.met.P.Policy.law c.args.policy.now in
     let has = c.in_ok-self.ensures.ready (tasks_at picks c.args.jobs.now c.args.tick) c.requires.run.ready c.requires.run.later in
     let late = c.in_ok-self.ensures.later c.requires.run.later in
-    let is_n = is_picked picks law c.args.jobs.now c.requires.each c.requires.count c.args.tick c.in_ok-self.field-0 c.release.new.ready.items has late
+    let is_n = is_picked picks law c.args.jobs.now c.requires.each c.requires.count c.args.tick c.in_ok-self.field-0 c.release.new.ready.items
+    has late
     (Some c.in-Some.number) (c.in-Some.ensures.by_the_list ∙ ap picks c.deref.ensures.value) in
-    let most = most_after picks law c.args.jobs.now c.requires.each c.requires.count c.args.tick c.in_ok-self.field-0 c.release.new.ready.items has late in
+    let most = most_after picks law c.args.jobs.now c.requires.each c.requires.count c.args.tick c.in_ok-self.field-0 c.release.new.ready.items
+    has late in
     let same = ap spent_value (c.deref-2.ensures.value ∙ c.give.ensures ∙ ap (λ (n : ℕ). map (given_entry n) c.release.new.ready.items) is_n) in
     omega (arith, most, same, c.requires.total)
 
@@ -50,9 +53,11 @@ overflow_add-self g c =
     let law = g.met.P.Policy.law c.args.policy.now in
     let has = c.in_ok-self.ensures.ready (tasks_at picks c.args.jobs.now c.args.tick) c.requires.run.ready c.requires.run.later in
     let late = c.in_ok-self.ensures.later c.requires.run.later in
-    let is_n = is_picked picks law c.args.jobs.now c.requires.each c.requires.count c.args.tick c.in_ok-self.field-0 c.release.new.ready.items has late
+    let is_n = is_picked picks law c.args.jobs.now c.requires.each c.requires.count c.args.tick c.in_ok-self.field-0 c.release.new.ready.items
+    has late
     (Some c.in-Some.number) (c.in-Some.ensures.by_the_list ∙ ap picks c.deref.ensures.value) in
-    let most = most_after picks law c.args.jobs.now c.requires.each c.requires.count c.args.tick c.in_ok-self.field-0 c.release.new.ready.items has late in
+    let most = most_after picks law c.args.jobs.now c.requires.each c.requires.count c.args.tick c.in_ok-self.field-0 c.release.new.ready.items
+    has late in
     let same = ap spent_value (c.deref-2.ensures.value ∙ c.give.ensures ∙ ap (λ (n : ℕ). map (given_entry n) c.release.new.ready.items) is_n) in
     omega (arith, most, same, c.requires.total, c.requires.run.served, c.spent_value.ensures)
 
@@ -71,13 +76,15 @@ returns g c =
     let law = g.met.P.Policy.law c.args.policy.now in
     let has = c.in_ok-self.ensures.ready (tasks_at picks c.args.jobs.now c.args.tick) c.requires.run.ready c.requires.run.later in
     let late = c.in_ok-self.ensures.later c.requires.run.later in
-    let is_n = is_picked picks law c.args.jobs.now c.requires.each c.requires.count c.args.tick c.in_ok-self.field-0 c.release.new.ready.items has late
+    let is_n = is_picked picks law c.args.jobs.now c.requires.each c.requires.count c.args.tick c.in_ok-self.field-0 c.release.new.ready.items
+    has late
     (Some c.in-Some.number) (c.in-Some.ensures.by_the_list ∙ ap picks c.deref.ensures.value) in
     let past = schedule_before picks c.args.jobs.now c.args.tick in
     let given = c.give.ensures ∙ ap (λ (n : ℕ). map (given_entry n) c.release.new.ready.items) is_n in
     on_ok c.extend.result (λ pieces.
     run_goes_on picks law c.args.jobs.now c.requires.each c.requires.count c.args.tick c.in_ok-self.field-0 c.release.new.ready.items has late
-    c.args.self.now.value (c.args.self.now.value + c.spent_value.result) c.keep_in_time.new.ready.items c.extend.new.pieces.items c.requires.run.served
+    c.args.self.now.value (c.args.self.now.value + c.spent_value.result) c.keep_in_time.new.ready.items c.extend.new.pieces.items
+    c.requires.run.served
     (c.keep_in_time.ensures ∙ ap (filter (is_in_time (c.args.tick + 1))) given)
     (ap (λ (n : ℕ). c.args.self.now.value + n) (c.spent_value.ensures ∙ ap spent_value (c.deref-2.ensures.value ∙ given)))
     (pieces ∙ ap (λ (n : ℕ). stretches (past ++ n ∷ [])) is_n))

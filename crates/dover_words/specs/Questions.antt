@@ -1,0 +1,20 @@
+-- What is answered to each question on the jobs of a feed.
+use Rattle.dover_port.specs.declared.status.Status.{Status}
+use Rattle.dover_words.specs.Best.{SaysBest}
+use Rattle.dover_words.specs.Compare.{SaysCompare}
+use Rattle.dover_words.specs.Feasible.{SaysFeasible, IsFeasibleAnswer}
+use Rattle.dover_words.specs.Record.{Says, IsAnswer}
+use Rattle.dover_words.specs.declared.question.Question.{Question}
+use Rattle.dover_words.specs.declared.question.Question.TheVariants.{Feasible, Best, Compare}
+
+-- what is to be said of the jobs: a status and a text
+abbrev pub says : Question → Says
+says Feasible = SaysFeasible
+says Best = SaysBest
+says Compare = SaysCompare
+
+-- the statuses that the question is answered with
+abbrev pub IsAnswerTo : Question → Status → Type 0
+IsAnswerTo Feasible status = IsFeasibleAnswer status
+IsAnswerTo Best status = IsAnswer status
+IsAnswerTo Compare status = IsAnswer status

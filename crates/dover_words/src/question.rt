@@ -1,0 +1,44 @@
+//! The questions, each by its word.
+ghost use Rattle.std.specs.Prelude.{◌≡◌};
+ghost use Rattle.dover_port.specs.Moves.{Since};
+ghost use Rattle.dover_words.specs.Compare.{IsFrugal};
+ghost use Rattle.dover_words.specs.Questions.{says, IsAnswerTo};
+ghost use Rattle.dover_words.specs.Record.{Causes, Tells};
+
+use crate::best::best_word;
+use crate::compare::compare_word;
+use crate::feasible::feasible_word;
+use dover_port::{Port, Status};
+use std::alloc::Global;
+use std::sync::ledger::Ledger;
+use step_count::Steps;
+
+/// What is asked about the jobs of a feed.
+#[derive(Clone, Copy, Debug, PartialEq, Eq)]
+pub enum Question {
+    /// Whether some schedule serves every job.
+    Feasible,
+    /// What the best schedule is worth.
+    Best,
+    /// What the rules complete, and what two other policies do.
+    Compare,
+}
+
+/// Reads a feed to its end, and then answers the question on its jobs, as the word for it does.
+pub fn question_word<P: Port, L: Ledger>(
+    alloc: Global,
+    port: &mut P,
+    question: Question,
+    steps: &mut Steps<L>,
+) -> Status
+    ensures tells { Since (P.moves port.old) (P.moves port.new) (Tells (says question) result) }
+    ensures answer { IsAnswerTo question result }
+    ensures count { Since (P.moves port.old) (P.moves port.new) (λ moves. result ≡ Status.Done → IsFrugal steps.old steps.new moves) }
+    ensures causes { Causes result (P.read_faults port.old) (P.read_faults port.new) (P.write_faults port.old) (P.write_faults port.new) }
+{
+    match question {
+        Question::Feasible => feasible_word(alloc, port),
+        Question::Best => best_word(alloc, port, steps),
+        Question::Compare => compare_word(alloc, port, steps),
+    }
+}
