@@ -1,7 +1,6 @@
 -- What the word `compare` says is what was computed.
 use Rattle.std.proofs.Common.{◌≡◌, ◌≤◌, ℕ, List, refl, sym, ap, ◌∙◌, subst, Option, Some, inl, inr, arith, length}
-use Rattle.dover_model.specs.Bound.{bound, is_within, IsWithin}
-use Rattle.dover_model.specs.Greatest.{IsGreatest}
+use Rattle.dover_model.specs.Bound.{bound}
 use Rattle.dover_model.specs.Instance.{Instance, IsValid}
 use Rattle.dover_model.specs.JobFacts.{JobFacts}
 use Rattle.dover_model.specs.Limits.{most_total}

@@ -2,7 +2,7 @@
 use Rattle.std.proofs.Common.{◌≡◌, ◌≤◌, ◌<◌, ◌+◌, ℕ, List, [], ◌∷◌, ◌++◌, length, get_or, drop, refl, sym, ap, ◌∙◌, subst, arith, Bool, true}
 use Rattle.std.proofs.Common.{false, ◌||◌, append_assoc, inl, inr}
 use Rattle.std.specs.Bool.{MatchBool}
-use Rattle.std.specs.List.{AllByRecursion, cons_option, fold}
+use Rattle.std.specs.List.{AllByRecursion, fold}
 use Rattle.std.proofs.lemmas.List.{append-nil, drop_more, drop_all, length-map}
 use Rattle.std.proofs.lemmas.List.Sums.{fold-append}
 use Rattle.dover_model.specs.declared.events.Event.{Event}
@@ -12,10 +12,10 @@ use Rattle.dover_model.specs.declared.events.Version.{Version}
 use Rattle.dover_model.specs.JobFacts.{JobFacts, IsJob}
 use Rattle.dover_model.specs.Fraction.{Fraction}
 use Rattle.dover_model.specs.Limits.{last_tick}
-use Rattle.dover_model.specs.Instance.{Rules, Instance, IsValid, with_jobs}
-use Rattle.dover_model.specs.State.{State, opening, with_later}
-use Rattle.dover_model.specs.Step.{Move, Prints, Waits, Ticks, step, open_step, after}
-use Rattle.dover_model.specs.Run.{Step, is_end, event_of, completed_value, printed, printed_of, value_of_end}
+use Rattle.dover_model.specs.Instance.{Instance, IsValid, with_jobs}
+use Rattle.dover_model.specs.State.{opening, with_later}
+use Rattle.dover_model.specs.Step.{Prints, step, open_step, after}
+use Rattle.dover_model.specs.Run.{Step, is_end, completed_value, printed_of, value_of_end}
 use Rattle.dover_model.specs.Settled.{AllComeFrom}
 use Rattle.dover_model.specs.Sound.{IsMember, IsSound, Keeps, jobs_of}
 use Rattle.dover_model.specs.WholeRun.{step_at, open_at, IsWholeRun}
@@ -29,7 +29,7 @@ use Rattle.dover_model.proofs.Valid.{valid_front}
 use Rattle.dover_core.specs.declared.horizon.Horizon.TheVariants.{Mark, End}
 use Rattle.dover_core.specs.declared.horizon.Horizon.TheVariants as horizon
 use Rattle.dover_core.specs.Service.{Service, list_of, with_job, admitted_task, fresh_service, MayFollow}
-use Rattle.dover_core.specs.Leading.{LeadsTo, GivesNext, ReachesBarrier}
+use Rattle.dover_core.specs.Leading.{GivesNext, ReachesBarrier}
 use Rattle.dover_core.proofs.Admission.{jobs_more}
 use Rattle.dover_core.proofs.Feeding.{next_valid, rest_follow}
 use Rattle.feed_reading.specs.Listing.{instance_with}

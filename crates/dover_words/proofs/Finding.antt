@@ -1,5 +1,5 @@
 -- What the word `best` says is what was found.
-use Rattle.std.proofs.Common.{◌≡◌, ◌≤◌, ◌<◌, ◌++◌, ℕ, List, length, refl, sym, ap, ◌∙◌, subst, Option, inl, inr, arith}
+use Rattle.std.proofs.Common.{◌≡◌, ◌≤◌, ◌<◌, ◌++◌, ℕ, List, length, refl, sym, ap, ◌∙◌, subst, Option, inl, inr}
 use Rattle.clairvoyant.specs.BestSet.{IsBestSet, value_of, pieces_of}
 use Rattle.dover_model.specs.Bound.{bound}
 use Rattle.dover_model.specs.Instance.{Rules, Instance, IsValid}
@@ -14,7 +14,7 @@ use Rattle.dover_port.specs.Moves.{Move, Since, ArePuts, outs, IsProperPrefix}
 use Rattle.dover_port.specs.declared.status.Status.{Status}
 use Rattle.dover_port.specs.declared.status.Status.TheVariants.{Done, No, Refused, ReadFault, WriteFault, Memory, Usage}
 use Rattle.dover_port.proofs.Made.{since_weaker}
-use Rattle.dover_words.specs.Best.{SaysBest, IsOptimum, IsFinding, found_of, found_lines, best_text}
+use Rattle.dover_words.specs.Best.{SaysBest, IsOptimum, IsFinding, found_of, found_lines}
 use Rattle.dover_words.specs.Record.{Finishes, Puts}
 use Rattle.dover_words.specs.Texts.{piece_lines, size_text}
 use Rattle.dover_words.specs.declared.best.Found.{Found}

@@ -1,6 +1,5 @@
 -- The lines of pieces, one behind another.
-use Rattle.std.proofs.Common.{◌≡◌, ◌<◌, ◌+◌, ℕ, List, ◌∷◌, ◌++◌, [], length, map, take, drop, get_or, refl, sym, ap, ◌∙◌, subst, Option}
-use Rattle.std.specs.List.{flat_map}
+use Rattle.std.proofs.Common.{◌≡◌, ◌<◌, ◌+◌, ℕ, List, ◌∷◌, ◌++◌, [], length, take, drop, get_or, refl, sym, ap, ◌∙◌, subst, Option}
 use Rattle.std.proofs.lemmas.List.{append-nil, take_more, take-append-drop}
 use Rattle.std.proofs.lemmas.Grind.{flat_map-append}
 use Rattle.dover_model.specs.Lines.{in_lines}

@@ -1,19 +1,18 @@
 -- How the record of a call ends behind the reading of its feed.
-use Rattle.std.proofs.Common.{◌≡◌, ℕ, suc, Some, List, ◌∷◌, ◌++◌, [], length, refl, sym, ap, ◌∙◌, subst, Option, cond, Bool, ◌||◌, true, false, inl, inr, ◌⊎◌}
+use Rattle.std.proofs.Common.{◌≡◌, ℕ, suc, Some, List, ◌∷◌, ◌++◌, [], length, refl, sym, ap, ◌∙◌, subst, Option, cond, Bool, ◌||◌, true, false, inl, inr}
 use Rattle.std.proofs.lemmas.List.{append-nil}
-use Rattle.dover_model.specs.Due.{fault_text, fault_lines, short_lines}
+use Rattle.dover_model.specs.Due.{fault_text, fault_lines}
 use Rattle.dover_model.specs.Feed as feeds
 use Rattle.dover_model.specs.Feed.{Account, Standing, is_open, account}
 use Rattle.dover_model.specs.Instance.{Instance}
 use Rattle.dover_model.specs.Lines.{in_lines, whole_lines}
 use Rattle.dover_model.specs.Session.{Session, instance_of}
-use Rattle.dover_port.specs.Moves.{Move, Since, ArePuts, ins, outs, has_ended, EachRead, EachReadFrom, IsProperPrefix}
+use Rattle.dover_port.specs.Moves.{Move, Since, ArePuts, ins, outs, has_ended, EachRead, EachReadFrom}
 use Rattle.dover_port.specs.Moves.Move.{Got, Ended, Put}
 use Rattle.dover_port.specs.declared.status.Status.{Status}
 use Rattle.dover_port.specs.declared.status.Status.TheVariants.{Done, No, Refused, ReadFault, WriteFault, Memory, Usage}
 use Rattle.dover_port.proofs.Made.{since_then_at, since_weaker, ins-append, outs-append, ins-puts, has_ended-append, has_ended-puts}
 use Rattle.dover_port.proofs.Made.{EachReadFrom-puts, ArePuts-append}
-use Rattle.event_feed.specs.Answers.{short_after}
 use Rattle.event_feed.specs.Kept.{cause_of_fault}
 use Rattle.event_feed.specs.declared.faults.FeedFault.{FeedFault}
 use Rattle.feed_reading.specs.Listing.{listed_instance}

@@ -9,7 +9,7 @@ use Rattle.dover_model.specs.Run.{completed_value}
 use Rattle.dover_model.specs.Schedules.{worth}
 use Rattle.dover_model.specs.declared.pieces.Piece.{Piece}
 use Rattle.dover_port.specs.declared.status.Status.{Status}
-use Rattle.dover_port.specs.declared.status.Status.TheVariants.{Done, No, Refused, ReadFault, WriteFault, Memory}
+use Rattle.dover_port.specs.declared.status.Status.TheVariants.{Done, Refused}
 use Rattle.dover_words.specs.Texts.{piece_lines, size_text}
 use Rattle.dover_words.specs.declared.best.Found.{Found}
 

@@ -9,7 +9,7 @@ use Rattle.dover_model.specs.Session.{Session, instance_of}
 use Rattle.dover_model.specs.Feed.{account}
 use Rattle.dover_port.specs.Moves.{Move, ins}
 use Rattle.dover_port.specs.declared.status.Status.{Status}
-use Rattle.dover_port.specs.declared.status.Status.TheVariants.{Done, No, Refused, ReadFault, WriteFault, Memory}
+use Rattle.dover_port.specs.declared.status.Status.TheVariants.{Done, Refused}
 use Rattle.policy_lab.specs.Picks.{Picks}
 use Rattle.policy_lab.specs.PolicyRun.{policy_run, AreTooLarge}
 use Rattle.policy_lab.specs.Standard.{earliest_deadline, greatest_density}

@@ -1,5 +1,5 @@
 -- How far a server has taken the run of its jobs.
-use Rattle.std.specs.Prelude.{◌≡◌, ℕ, List, ◌++◌, true, false}
+use Rattle.std.specs.Prelude.{◌≡◌, ℕ, List, true, false}
 use Rattle.std.specs.Bool.{MatchBool}
 use Rattle.dover_model.specs.declared.events.Event.{Event}
 use Rattle.dover_model.specs.Instance.{IsValid}

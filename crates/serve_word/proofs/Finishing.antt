@@ -2,14 +2,14 @@
 use Rattle.std.proofs.Common.{◌≡◌, ℕ, List, [], ◌∷◌, ◌++◌, refl, sym, ap, ◌∙◌, subst, Bool, true, false, Option, Ok, Err, arith}
 use Rattle.std.specs.Bool.{MatchBool}
 use Rattle.std.proofs.Common.{map}
-use Rattle.std.specs.List.{cons_option, flat_map}
+use Rattle.std.specs.List.{flat_map}
 use Rattle.std.proofs.lemmas.List.{map-append, append-nil}
 use Rattle.std.proofs.lemmas.Grind.{flat_map-append}
 use Rattle.dover_model.specs.declared.events.Event.{Event}
 use Rattle.dover_model.specs.Instance.{Rules, Instance, IsValid}
 use Rattle.dover_model.specs.Session.{Session, instance_of}
 use Rattle.dover_model.specs.State.{State, opening}
-use Rattle.dover_model.specs.Step.{Move, Prints, Waits, Ticks, step, after}
+use Rattle.dover_model.specs.Step.{Prints, step, after}
 use Rattle.dover_model.specs.Run.{Step, is_end, event_of, printed_of, printed, last_deadline}
 use Rattle.dover_model.specs.WholeRun.{step_at, IsWholeRun, Begins}
 use Rattle.dover_model.specs.Paths.{IsPath}
@@ -20,7 +20,6 @@ use Rattle.dover_model.proofs.Ending.{potential, ends}
 use Rattle.dover_model.proofs.Kept.{opening_keeps}
 use Rattle.dover_model.proofs.Paths.{closed_then_run, path_keeps, printed_then_run}
 use Rattle.dover_model.proofs.Prefixes.{begins_cons}
-use Rattle.dover_model.proofs.Runs.{printed_append}
 use Rattle.dover_core.specs.declared.horizon.Horizon.TheVariants as horizon
 use Rattle.dover_port.specs.Moves as port
 use Rattle.dover_port.specs.Moves.{Passes, CutsShort}

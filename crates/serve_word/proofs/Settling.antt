@@ -1,8 +1,6 @@
 -- How the run of a server's jobs is taken to a mark.
 use Rattle.std.proofs.Common.{◌≡◌, ◌≤◌, ℕ, true, List, [], ◌∷◌, ◌++◌, refl, sym, ap, ◌∙◌, subst, Option, Ok, Err}
 use Rattle.dover_model.specs.declared.events.Event.{Event}
-use Rattle.dover_model.specs.Instance.{Rules}
-use Rattle.dover_model.specs.State.{State}
 use Rattle.dover_model.specs.Step.{Prints, open_step, after}
 use Rattle.dover_model.specs.Run.{Step, printed_of}
 use Rattle.dover_model.specs.Text.{text_of}

@@ -1,5 +1,5 @@
 -- The numbers of the steps that a server gives have numerals.
-use Rattle.std.proofs.Common.{◌≡◌, ◌≤◌, ◌<◌, ℕ, ◌^◌, List, [], refl, sym, ap, ◌∙◌, subst, arith, Bool, true, false, ◌||◌}
+use Rattle.std.proofs.Common.{◌≡◌, ◌≤◌, ◌<◌, ℕ, ◌^◌, List, [], refl, sym, ap, ◌∙◌, subst, arith, false}
 use Rattle.dover_model.specs.declared.events.Event.{Event}
 use Rattle.dover_model.specs.declared.events.Event.TheVariants as event
 use Rattle.dover_model.specs.Limits.{last_tick}
@@ -16,7 +16,7 @@ use Rattle.dover_model.proofs.ShortNumbers.{IsShortMove, step_short, open_short}
 use Rattle.dover_model.proofs.TraceLines.{numbers_in}
 use Rattle.dover_core.specs.declared.horizon.Horizon.{Horizon}
 use Rattle.dover_core.specs.declared.horizon.Horizon.TheVariants.{Mark, End}
-use Rattle.dover_core.specs.Service.{Service, list_of, Stands, IsUpTo, MayFollow}
+use Rattle.dover_core.specs.Service.{Service, list_of, Stands, IsUpTo}
 use Rattle.dover_core.specs.Leading.{GivesNext}
 use Rattle.trace_format.specs.Form.{step_numbers}
 use Rattle.serve_word.specs.Served.{CanGoOn}

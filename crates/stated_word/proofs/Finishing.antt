@@ -1,21 +1,19 @@
 -- How the run of a server's jobs is taken to its end.
 use Rattle.std.proofs.Common.{◌≡◌, ℕ, List, [], ◌∷◌, ◌++◌, refl, sym, ap, ◌∙◌}
-use Rattle.std.proofs.Common.{subst, Bool, true, false, ◌||◌, ◌≤◌, length, append_assoc, length-append, arith}
+use Rattle.std.proofs.Common.{subst, Bool, true, false, ◌≤◌, length, append_assoc, length-append, arith}
 use Rattle.std.specs.Bool.{MatchBool}
-use Rattle.std.specs.List.{cons_option}
 use Rattle.std.proofs.lemmas.List.{append-nil}
 use Rattle.dover_model.specs.declared.events.Event.{Event}
-use Rattle.dover_model.specs.Instance.{Rules, Instance, IsValid}
-use Rattle.dover_model.specs.State.{State}
-use Rattle.dover_model.specs.Step.{Move, Prints, Waits, Ticks, step, after}
-use Rattle.dover_model.specs.Run.{Step, is_end, event_of, printed_of, printed}
+use Rattle.dover_model.specs.Instance.{Instance, IsValid}
+use Rattle.dover_model.specs.Step.{Prints, step, after}
+use Rattle.dover_model.specs.Run.{Step, is_end, printed_of, printed}
 use Rattle.dover_model.specs.Sound.{jobs_of}
 use Rattle.dover_model.specs.WholeRun.{step_at, IsWholeRun}
 use Rattle.dover_model.specs.Paths.{HasPrinted, IsPath}
 use Rattle.dover_model.proofs.Paths.{closed_then_run, printed_then_run}
 use Rattle.dover_core.specs.declared.horizon.Horizon.TheVariants as horizon
 use Rattle.dover_core.specs.Service.{Service, list_of}
-use Rattle.dover_core.specs.Leading.{LeadsTo, GivesNext}
+use Rattle.dover_core.specs.Leading.{GivesNext}
 use Rattle.stated_word.specs.Serving.{HasTallied, IsFinishing}
 use Rattle.stated_word.specs.Tallied.{tally_of}
 use Rattle.stated_word.specs.declared.tally.Tally.{Tally}

@@ -1,15 +1,15 @@
 -- How the run of a server's jobs is taken to a mark.
 use Rattle.std.proofs.Common.{◌≡◌, ◌<◌, ◌+◌, ℕ, List, [], ◌∷◌, ◌++◌, length, refl}
-use Rattle.std.proofs.Common.{sym, ap, ◌∙◌, subst, Bool, true, false, ◌||◌, ◌≤◌, arith, length-append}
+use Rattle.std.proofs.Common.{sym, ap, ◌∙◌, subst, false, ◌||◌, ◌≤◌, arith, length-append}
 use Rattle.std.proofs.lemmas.List.{append-nil}
-use Rattle.std.specs.List.{cons_option, AllByRecursion}
+use Rattle.std.specs.List.{AllByRecursion}
 use Rattle.dover_model.specs.declared.events.Event.{Event}
 use Rattle.dover_model.specs.declared.events.Task.{Task}
 use Rattle.dover_model.specs.Fraction.{Fraction}
-use Rattle.dover_model.specs.Instance.{Rules, Instance, IsValid}
+use Rattle.dover_model.specs.Instance.{Instance, IsValid}
 use Rattle.dover_model.specs.State.{State, opening}
 use Rattle.dover_model.specs.Step.{Move, Prints, Waits, Ticks, open_step, after}
-use Rattle.dover_model.specs.Run.{Step, is_end, event_of, printed_of}
+use Rattle.dover_model.specs.Run.{is_end, printed_of}
 use Rattle.dover_model.specs.Settled.{AllComeFrom}
 use Rattle.dover_model.specs.Sound.{Keeps, IsSound, IsNumberedFrom, jobs_of}
 use Rattle.dover_model.specs.WholeRun.{open_at}
@@ -20,10 +20,9 @@ use Rattle.dover_model.proofs.Kept.{opening_keeps, open_deed}
 use Rattle.dover_model.proofs.Prefixes.{open_not_end}
 use Rattle.dover_model.proofs.Paths.{path_append, path_keeps}
 use Rattle.dover_model.proofs.Runs.{printed_append}
-use Rattle.dover_core.specs.declared.horizon.Horizon.{Horizon}
-use Rattle.dover_core.specs.declared.horizon.Horizon.TheVariants.{Mark, End}
-use Rattle.dover_core.specs.Service.{Service, list_of, MayFollow}
-use Rattle.dover_core.specs.Leading.{LeadsTo, GivesNext, ReachesBarrier}
+use Rattle.dover_core.specs.declared.horizon.Horizon.TheVariants.{Mark}
+use Rattle.dover_core.specs.Service.{Service, list_of}
+use Rattle.dover_core.specs.Leading.{GivesNext, ReachesBarrier}
 use Rattle.dover_core.proofs.Passing.{leads_open, printed_next, or_fails}
 use Rattle.dover_core.proofs.Spending.{tasks_count}
 use Rattle.stated_word.specs.Serving.{AbandonsOneOf, HasTallied}

@@ -1,7 +1,5 @@
-use Rattle.std.proofs.Common.{sym, subst, ◌∙◌}
+use Rattle.std.proofs.Common.{sym, subst}
 use Rattle.deadline_oracle.specs.Feasibility.{IsAnswer}
-use Rattle.dover_words.specs.Feasible.{SaysFeasible}
-use Rattle.dover_words.specs.Record.{Finishes}
 use Rattle.dover_words.proofs.SaidFeasible.{answer_put, answer_cut}
 use Rattle.dover_words.proofs.feasible.answer.Goals as goal
 

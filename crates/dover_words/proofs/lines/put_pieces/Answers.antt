@@ -1,6 +1,4 @@
-use Rattle.std.proofs.Common.{◌∙◌, subst, ap}
-use Rattle.std.proofs.lemmas.List.{take_all}
-use Rattle.dover_port.specs.Moves.{Passes}
+use Rattle.std.proofs.Common.{◌∙◌}
 use Rattle.dover_words.proofs.Pieces.{passes_piece, cuts_piece}
 use Rattle.dover_words.proofs.lines.put_pieces.Goals as goal
 
