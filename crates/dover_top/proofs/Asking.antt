@@ -1,5 +1,5 @@
 -- That words ask for one thing at most.
-use Rattle.std.proofs.Common.{◌≡◌, ℕ, ◌+◌, ◌<◌, ◌^◌, List, [], ◌∷◌, String, get_or, decimal, refl, sym, ap, ◌∙◌, inl, inr, subst, arith}
+use Rattle.std.proofs.Common.{◌≡◌, ℕ, ◌+◌, ◌<◌, ◌^◌, List, [], ◌∷◌, String, get_or, decimal, sym, ap, ◌∙◌, inl, inr, subst, arith}
 use Rattle.std.specs.Prelude.{codes, bytes_eq, unwrap_or, if◌then◌else◌}
 use Rattle.std.specs.declared.alloc.Global.{Global}
 use Rattle.report_word.specs.declared.form.Form.{Form}
@@ -8,7 +8,7 @@ use Rattle.dover_model.specs.Fraction.{Fraction, IsRatio}
 use Rattle.dover_model.specs.Numerals.{numeral}
 use Rattle.dover_model.proofs.Numerals.{numeral-decimal}
 use Rattle.dover_top.specs.Requests.{Asks, MayCarry}
-use Rattle.dover_top.specs.Words.{spelled, AsksTrial, AsksBait, AreRow}
+use Rattle.dover_top.specs.Words.{spelled, AreRow}
 use Rattle.dover_top.specs.declared.request.Request.{Request}
 use Rattle.dover_top.specs.declared.request.Request.TheVariants.{Serve, Judge, Report, Trial, Bait, Ask}
 use Rattle.dover_words.specs.declared.question.Question.TheVariants.{Feasible, Best, Compare}

@@ -2,7 +2,7 @@
 use Rattle.std.proofs.Common.{◌≡◌, ◌≤◌, ℕ, List, true, false, refl, sym, subst, ap, ◌∙◌, ◌⊎◌, inl, inr}
 use Rattle.dover_model.specs.Instance.{Instance, IsValid}
 use Rattle.dover_model.specs.Session.{Session, instance_of}
-use Rattle.dover_model.specs.Verdict.{Verdict, Accepted, Wrong, Short, verdict}
+use Rattle.dover_model.specs.Verdict.{Accepted, Short, verdict}
 use Rattle.dover_model.specs.Feed.{Account, Standing, Open, Ended, Faulty, account, is_ended, is_open}
 use Rattle.dover_model.proofs.Accepting.{feed_hands, feed_accepted}
 use Rattle.dover_model.proofs.BoundLaws.{bound}

@@ -1,9 +1,7 @@
-use Rattle.std.proofs.Common.{◌≡◌, ℕ, length, sym, ◌∙◌}
-use Rattle.dover_model.specs.Fraction.{Fraction}
+use Rattle.std.proofs.Common.{length, sym, ◌∙◌}
 use Rattle.dover_model.specs.Reports.{summary}
 use Rattle.dover_model.specs.Bait.{bait_jobs}
 use Rattle.dover_port.specs.Moves.{Since}
-use Rattle.dover_port.specs.declared.status.Status.TheVariants.{Done}
 use Rattle.adversary.specs.Baiting.{FitsLimits}
 use Rattle.stated_word.specs.Record as stated
 use Rattle.stated_word.specs.Lists.{trial_instance}

@@ -1,4 +1,4 @@
-use Rattle.std.proofs.Common.{◌≡◌, ◌<◌, ◌≤◌, ◌^◌, Some, None, decimal, sym, ap, ◌∙◌, subst, arith}
+use Rattle.std.proofs.Common.{◌≡◌, sym, ap, ◌∙◌, arith}
 use Rattle.dover_model.specs.Numerals.{numeral}
 use Rattle.dover_model.proofs.Numerals.{decimal-numeral}
 use Rattle.dover_top.proofs.Numbers.{none_spelled, one_spelled}

@@ -1,6 +1,6 @@
-use Rattle.std.proofs.Common.{◌≡◌, refl, subst}
+use Rattle.std.proofs.Common.{refl, subst}
 use Rattle.dover_port.proofs.Made.{since_weaker}
-use Rattle.dover_port.specs.declared.status.Status.TheVariants.{Done, No, ReadFault, WriteFault, Memory}
+use Rattle.dover_port.specs.declared.status.Status.TheVariants.{Done}
 use Rattle.judge_word.specs.Record as judged
 use Rattle.report_word.specs.Record as told
 use Rattle.adversary.specs.Baiting.{FitsLimits}

@@ -1,0 +1,36 @@
+use Rattle.std.proofs.Common.{◌≡◌, ◌∙◌, ap, sym, subst, ◌∷◌, ◌++◌, [], true}
+use Rattle.dover_model.specs.Feed.{account_of_lines}
+use Rattle.event_feed.specs.Kept as feed
+use Rattle.event_feed.specs.declared.fed.Fed.TheVariants.{Over}
+use Rattle.lane_server.specs.Lane.{IsOpenAt}
+use Rattle.lane_server.proofs.Adding.{new_fault}
+use Rattle.lane_server.proofs.Taking.{taken_stands, fault_stands, over_stands, open_at, over_fed, on_ok}
+use Rattle.lane_server.proofs.lane.Lane.line.Goals as goal
+
+pub take-requires : goal.take-requires
+take-requires c = (
+  account_of_lines c.requires.0,
+  account_of_lines (c.requires.0 ++ c.args.line.now ∷ []),
+  open_at c.args.self.now c.line.new.self c.requires.0 c.requires.1 c.if-not-self.false,
+  (c.in-Ok.ensures.answer c.requires.0 c.requires.1.stands.intake).1,
+)
+
+pub returns-in-Ok : goal.returns-in-Ok
+returns-in-Ok c = λ ls it.
+    let at : IsOpenAt (record c.args.self.now { intake = c.line.new.self }) (account_of_lines ls) =
+    open_at c.args.self.now c.line.new.self ls it c.if-not-self.false in
+    let is = (c.in-Ok.ensures.answer ls it.stands.intake).1 in
+    let over : feed.has_ended c.take.new.self.intake ≡ true → c.in-Ok.fed ≡ Over =
+    λ e. over_fed c.in-Ok.fed c.line.result c.in-Ok.is (c.line.ensures.ended.0 (sym (ap feed.has_ended c.take.ensures.intake) ∙ e)) in
+    on_ok c.take.result (taken_stands c.take.new.self ls c.args.line.now c.in-Ok.fed
+    (subst (λ i. feed.StandsFor i (ls ++ c.args.line.now ∷ [])) (sym c.take.ensures.intake) (c.in-Ok.ensures.stands ls it.stands.intake)) is over)
+    (c.take.ensures.adds (account_of_lines ls) (account_of_lines (ls ++ c.args.line.now ∷ [])) at is)
+
+pub returns-in-Err : goal.returns-in-Err
+returns-in-Err c = λ ls it. fault_stands c.args.self.now c.line.new.self ls c.args.line.now c.in-Err.fault
+    (c.in-Err.ensures.stands ls it.stands.intake) it.stands.marked
+    (new_fault c.args.line.now c.in-Err.fault (account_of_lines ls) (account_of_lines (ls ++ c.args.line.now ∷ []))
+    (open_at c.args.self.now c.line.new.self ls it c.if-not-self.false).stands (c.in-Err.ensures.answer ls it.stands.intake))
+
+pub returns-then-not-self : goal.returns-then-not-self
+returns-then-not-self c = λ ls it. over_stands c.args.self.now ls c.args.line.now it c.if-not-self.true

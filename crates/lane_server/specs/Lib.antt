@@ -1,0 +1,5 @@
+pub mod Lanes
+pub mod Reading
+pub mod Lane
+pub mod Kept
+pub mod Shorts

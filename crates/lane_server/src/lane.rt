@@ -1,0 +1,221 @@
+//! One lane: a feed, the server that it feeds, and the lines that are due and not yet given.
+ghost use Rattle.std.specs.Prelude.{◌≡◌, ℕ, List, [], ◌∷◌, ◌++◌, true, OnOk};
+ghost use Rattle.dover_model.specs.Feed.{Account};
+ghost use Rattle.event_feed.specs.Answers.{DeclaresRatio, AddsJob, IsFed, counted};
+ghost use Rattle.lane_server.specs.Lanes.{lines_added, feed_short};
+ghost use Rattle.lane_server.specs.Lane.{Stands, IsQuiet, Gives, IsOpenAt, Adds};
+ghost use Rattle.lane_server.specs.Shorts.{short_texts};
+ghost use Rattle.lane_server.specs.declared.lane.Work.TheVariants.{Settle, Admit, Finish};
+
+use crate::out::LaneOut;
+use dover_core::{Horizon, Server};
+use dover_model::{Job, Memory, Ratio, Version};
+use event_feed::{Fed, Intake};
+use std::alloc::Global;
+use std::sync::ledger::Ledger;
+use step_count::Steps;
+
+/// What is under way in a lane.
+#[derive(Clone, Copy)]
+pub(crate) enum Work {
+    /// All that is due was given.
+    Nothing,
+    /// One line is left.
+    Give(LaneOut),
+    /// The run goes up to this mark.
+    Settle(u64),
+    /// The run goes up to the job's release, then the job is admitted, and the run goes up to its release with it.
+    Admit(Job),
+    /// The run goes to its end.
+    Finish,
+}
+
+/// A feed, its server from the ratio line on, and what is under way.
+#[derive(Drop)]
+pub(crate) struct Lane {
+    intake: Intake,
+    server: Option<Server>,
+    mark: u64,
+    is_open: bool,
+    work: Work,
+}
+
+impl Lane {
+    /// No line came yet.
+    pub(crate) fn new() -> Lane
+        ensures { IsQuiet result [] }
+    {
+        Lane {
+            intake: Intake::new(),
+            server: None,
+            mark: 0,
+            is_open: true,
+            work: Work::Nothing,
+        }
+    }
+
+    fn declare(&mut self, alloc: Global, version: Version, k: Ratio) -> Result<(), Memory>
+        ensures adds { (a b : Account) → IsOpenAt self.old a → DeclaresRatio k version (counted a) b → OnOk result (Adds self.new a b) }
+        ensures intake { self.new.intake ≡ self.old.intake }
+    {
+        self.server = Some(Server::new(alloc, version, k)?);
+        self.work = Work::Give(LaneOut::Header(version, k));
+        Ok(())
+    }
+
+    fn arrive(&mut self, job: Job) -> Result<(), Memory>
+        requires { (n : ℕ) × (a : Account) × (b : Account) × IsOpenAt self.old a × AddsJob n job (counted a) b }
+        ensures adds { (n : ℕ) (a b : Account) → IsOpenAt self.old a → AddsJob n job (counted a) b → OnOk result (Adds self.new a b) }
+        ensures intake { self.new.intake ≡ self.old.intake }
+    {
+        let Some(server) = &mut self.server else {
+            unreachable!();
+        };
+        server.reserve(1)?;
+        self.mark = job.release();
+        self.work = Work::Admit(job);
+        Ok(())
+    }
+
+    fn take(&mut self, alloc: Global, fed: Fed) -> Result<(), Memory>
+        requires { (a : Account) × (b : Account) × IsOpenAt self.old a × IsFed (counted a) b fed }
+        ensures adds { (a b : Account) → IsOpenAt self.old a → IsFed (counted a) b fed → OnOk result (Adds self.new a b) }
+        ensures intake { self.new.intake ≡ self.old.intake }
+    {
+        match fed {
+            Fed::Ratio(k, version) => self.declare(alloc, version, k)?,
+            Fed::Job(_, job) => self.arrive(job)?,
+            Fed::Tick(at) => {
+                self.mark = at;
+                self.work = Work::Settle(at);
+            }
+            Fed::Over => {
+                self.is_open = false;
+                self.work = Work::Finish;
+            }
+            Fed::Refused {
+                release,
+                work,
+                deadline,
+                value,
+                cause,
+            } => {
+                self.work = Work::Give(LaneOut::Refuse {
+                    at: self.mark,
+                    release,
+                    work,
+                    deadline,
+                    value,
+                    cause,
+                });
+            }
+        }
+        Ok(())
+    }
+
+    /// Takes the next line of the feed. After its end or its fault, lines are disregarded.
+    pub(crate) fn line(&mut self, alloc: Global, line: &[u8]) -> Result<(), Memory>
+        requires { (ls : List (List ℕ)) × IsQuiet self.old ls }
+        ensures { (ls : List (List ℕ)) → IsQuiet self.old ls → OnOk result (Stands self.new (ls ++ line.now ∷ []) (lines_added ls line.now)) }
+    {
+        if !self.is_open {
+            return Ok(());
+        }
+        match self.intake.line(line) {
+            Ok(fed) => self.take(alloc, fed),
+            Err(fault) => {
+                self.is_open = false;
+                self.work = Work::Give(LaneOut::Refused {
+                    line: fault.line,
+                    cause: fault.cause,
+                });
+                Ok(())
+            }
+        }
+    }
+
+    fn settle<L: Ledger>(&mut self, mark: u64, steps: &mut Steps<L>) -> Option<LaneOut>
+        requires work { self.old.work ≡ Settle mark }
+        requires stands { (ls : List (List ℕ)) × (rest : List (List ℕ)) × Stands self.old ls rest }
+        ensures { (ls rest : List (List ℕ)) → Stands self.old ls rest → Gives result self.new ls rest }
+    {
+        let Some(server) = &mut self.server else {
+            unreachable!();
+        };
+        match server.step(Horizon::Mark(mark), steps) {
+            Some(event) => Some(LaneOut::Step(event)),
+            None => {
+                self.work = Work::Nothing;
+                None
+            }
+        }
+    }
+
+    fn admit<L: Ledger>(&mut self, job: Job, steps: &mut Steps<L>) -> Option<LaneOut>
+        requires work { self.old.work ≡ Admit job }
+        requires stands { (ls : List (List ℕ)) × (rest : List (List ℕ)) × Stands self.old ls rest }
+        ensures { (ls rest : List (List ℕ)) → Stands self.old ls rest → Gives result self.new ls rest }
+    {
+        let Some(server) = &mut self.server else {
+            unreachable!();
+        };
+        let release = job.release();
+        if let Some(event) = server.step(Horizon::Mark(release), steps) {
+            return Some(LaneOut::Step(event));
+        }
+        match server.admit(job) {
+            Ok(_) => {}
+            Err(_) => unreachable!(),
+        }
+        self.work = Work::Settle(release);
+        self.settle(release, steps)
+    }
+
+    fn finish<L: Ledger>(&mut self, steps: &mut Steps<L>) -> Option<LaneOut>
+        requires work { self.old.work ≡ Finish }
+        requires stands { (ls : List (List ℕ)) × (rest : List (List ℕ)) × Stands self.old ls rest }
+        ensures { (ls rest : List (List ℕ)) → Stands self.old ls rest → Gives result self.new ls rest }
+    {
+        let Some(server) = &mut self.server else {
+            unreachable!();
+        };
+        match server.step(Horizon::End, steps) {
+            Some(event) => Some(LaneOut::Step(event)),
+            None => {
+                self.work = Work::Nothing;
+                None
+            }
+        }
+    }
+
+    /// The next line due. None exactly where all that is due was given.
+    pub(crate) fn next_out<L: Ledger>(&mut self, steps: &mut Steps<L>) -> Option<LaneOut>
+        requires { (ls : List (List ℕ)) × (rest : List (List ℕ)) × Stands self.old ls rest }
+        ensures { (ls rest : List (List ℕ)) → Stands self.old ls rest → Gives result self.new ls rest }
+    {
+        let work = self.work;
+        match work {
+            Work::Nothing => None,
+            Work::Give(out) => {
+                self.work = Work::Nothing;
+                Some(out)
+            }
+            Work::Settle(mark) => self.settle(mark, steps),
+            Work::Admit(job) => self.admit(job, steps),
+            Work::Finish => self.finish(steps),
+        }
+    }
+
+    /// The line at which the feed is short where no more comes: one behind its lines. None where it has no line, or was ended or at fault.
+    pub(crate) fn short(&self) -> Option<u64>
+        ensures { (ls : List (List ℕ)) → IsQuiet self.now ls → feed_short ls ≡ short_texts result }
+    {
+        if !self.is_open {
+            return None;
+        }
+        match self.intake.end() {
+            Err(fault) if fault.line > 1 => Some(fault.line),
+            _ => None,
+        }
+    }
+}

@@ -1,0 +1,12 @@
+//! Many feeds in one input, each with a server of its own.
+#![tactic(auto)]
+
+mod lane;
+mod lanes;
+mod out;
+mod reading;
+#[cfg(test)]
+mod tests;
+
+pub use lanes::{LaneFault, LaneStep, Lanes};
+pub use out::LaneOut;

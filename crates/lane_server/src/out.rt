@@ -1,0 +1,26 @@
+//! The lines that a lane gives.
+use dover_model::{Event, Ratio, Refusal, Version};
+use event_feed::Cause;
+
+/// A line that is due for a lane.
+#[derive(Clone, Copy, Debug, PartialEq, Eq)]
+pub enum LaneOut {
+    /// The first line of its trace.
+    Header(Version, Ratio),
+    /// A printed step.
+    Step(Event),
+    /// A job line that wasn't admitted, with the mark when it came.
+    Refuse {
+        at: u64,
+        release: u64,
+        work: u64,
+        deadline: u64,
+        value: u64,
+        cause: Refusal,
+    },
+    /// The feed is refused at this line of its own, numbered from 1.
+    Refused {
+        line: u64,
+        cause: Cause,
+    },
+}
