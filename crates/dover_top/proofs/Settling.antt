@@ -9,12 +9,12 @@ use Rattle.dover_model.proofs.BoundLaws.{bound}
 use Rattle.dover_model.proofs.Honest.{honest}
 use Rattle.dover_model.proofs.Onlines.{on_line}
 use Rattle.dover_model.proofs.Runs.{none_lost, all_value}
-use Rattle.dover_port.specs.Causes.{Rose}
+use Rattle.dover_port.specs.Causes.{Rose, Causes, IsAnswer}
 use Rattle.dover_port.specs.Moves.{Move, ins, has_ended}
 use Rattle.dover_port.specs.declared.status.Status.{Status}
 use Rattle.dover_port.specs.declared.status.Status.TheVariants.{Done, No, Refused, ReadFault, WriteFault, Memory, Usage}
 use Rattle.serve_word.specs.Delivered.{IsFaulty}
-use Rattle.serve_word.specs.Record.{IsAnswer, Causes, Ends, Serves, IsDone}
+use Rattle.serve_word.specs.Record.{Ends, Serves, IsDone}
 use Rattle.judge_word.specs.Line.{verdict_text}
 use Rattle.judge_word.specs.Record as judged
 use Rattle.judge_word.specs.Record.{IsNoTrace}

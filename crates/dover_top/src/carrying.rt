@@ -3,6 +3,7 @@ ghost use Rattle.std.specs.Prelude.{◌≡◌, ◌≢◌, ℕ, length};
 ghost use Rattle.dover_model.specs.Bait.{bait_jobs};
 ghost use Rattle.dover_model.specs.Fraction.{Fraction};
 ghost use Rattle.dover_model.specs.Reports.{summary};
+ghost use Rattle.dover_port.specs.Causes.{Causes, IsAnswer};
 ghost use Rattle.dover_port.specs.Moves.{Since};
 ghost use Rattle.serve_word.specs.Record as served;
 ghost use Rattle.judge_word.specs.Record as judged;
@@ -39,7 +40,7 @@ pub(crate) fn carry_out<P: Port, L: Ledger>(
 ) -> Status
     requires { MayCarry request }
     ensures serves { request ≡ Request.Serve → Since (P.moves port.old) (P.moves port.new) (served.Serves result) }
-    ensures serve_answers { request ≡ Request.Serve → served.IsAnswer result }
+    ensures serve_answers { request ≡ Request.Serve → IsAnswer result }
     ensures judges { request ≡ Request.Judge → Since (P.moves port.old) (P.moves port.new) (judged.Judges result) }
     ensures judge_answers { request ≡ Request.Judge → judged.IsAnswer result }
     ensures reports { (form : Form) → request ≡ Request.Report form →
@@ -63,7 +64,7 @@ pub(crate) fn carry_out<P: Port, L: Ledger>(
     ensures ask_comparisons { (question : Question) → request ≡ Request.Ask question →
         Since (P.moves port.old) (P.moves port.new) (λ moves. result ≡ Status.Done → IsFrugal steps.old steps.new moves) }
     ensures usage { result ≢ Status.Usage }
-    ensures causes { served.Causes result (P.read_faults port.old) (P.read_faults port.new) (P.write_faults port.old) (P.write_faults port.new) }
+    ensures causes { Causes result (P.read_faults port.old) (P.read_faults port.new) (P.write_faults port.old) (P.write_faults port.new) }
 {
     match request {
         Request::Serve => serve_word(alloc, port, steps),

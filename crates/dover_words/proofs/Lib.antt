@@ -1,5 +1,3 @@
-pub mod Putting
-pub mod FaultLines
 pub mod Pieces
 pub mod Records
 pub mod SaidFeasible

@@ -1,5 +1,6 @@
 -- How the record of a call ends behind the reading of its feed.
-use Rattle.std.proofs.Common.{◌≡◌, ℕ, suc, Some, List, ◌∷◌, ◌++◌, [], length, refl, sym, ap, ◌∙◌, subst, Option, cond, Bool, ◌||◌, true, false, inl, inr}
+use Rattle.std.proofs.Common.{◌≡◌, ℕ, suc, Some, List, ◌∷◌, ◌++◌, [], length, refl, sym, ap, ◌∙◌, subst, Option, cond, Bool, ◌||◌, true, false}
+use Rattle.std.proofs.Common.{inl, inr}
 use Rattle.std.proofs.lemmas.List.{append-nil}
 use Rattle.dover_model.specs.Due.{fault_text, fault_lines}
 use Rattle.dover_model.specs.Feed as feeds
@@ -61,7 +62,8 @@ standing_open : (a : Account) → is_open a ≡ true → a.standing ≡ feeds.Op
 standing_open a on = by_standing a.standing refl where
   by_standing : (s : Standing) → a.standing ≡ s → a.standing ≡ feeds.Open
   by_standing feeds.Open is = is
-  by_standing feeds.Ended is = absurd (let e : is_open a ≡ false = ap (λ s. elim s [ feeds.Open ↦ true | feeds.Ended ↦ false | feeds.Faulty l c ↦ false ]) is in cc)
+  by_standing feeds.Ended is =
+      absurd (let e : is_open a ≡ false = ap (λ s. elim s [ feeds.Open ↦ true | feeds.Ended ↦ false | feeds.Faulty l c ↦ false ]) is in cc)
   by_standing (feeds.Faulty line cause) is =
       absurd (let e : is_open a ≡ false = ap (λ s. elim s [ feeds.Open ↦ true | feeds.Ended ↦ false | feeds.Faulty l c ↦ false ]) is in cc)
 
@@ -91,7 +93,8 @@ module _ (says : Says) (a b c : Option (List Move)) where
   -- the feed was refused
   pub ends_refused : (fault : FeedFault) (status : Status) → Since a b (Reads (read.Refused fault))
       → Since b c (Puts Refused status (fault_text fault.line (cause_of_fault fault.cause) ++ 10 ∷ [])) → Since a c (Tells says status)
-  ends_refused fault status run last = since_then_at a b c _ (λ xs. Puts Refused status (fault_text fault.line (cause_of_fault fault.cause) ++ 10 ∷ []))
+  ends_refused fault status run last = since_then_at a b c _
+      (λ xs. Puts Refused status (fault_text fault.line (cause_of_fault fault.cause) ++ 10 ∷ []))
       _ run (λ xs g. last) (λ xs ys g made. by_puts xs ys g made) where
         still : (xs ys : List Move) (g : Reads (read.Refused fault) xs) (p : ArePuts ys) → IsRefusedFeed (xs ++ ys)
         still xs ys g p = by_cause g.ends where

@@ -1,9 +1,10 @@
 -- What is answered to each question on the jobs of a feed.
+use Rattle.dover_port.specs.Causes.{IsAnswer}
 use Rattle.dover_port.specs.declared.status.Status.{Status}
 use Rattle.dover_words.specs.Best.{SaysBest}
 use Rattle.dover_words.specs.Compare.{SaysCompare}
 use Rattle.dover_words.specs.Feasible.{SaysFeasible, IsFeasibleAnswer}
-use Rattle.dover_words.specs.Record.{Says, IsAnswer}
+use Rattle.dover_words.specs.Record.{Says}
 use Rattle.dover_words.specs.declared.question.Question.{Question}
 use Rattle.dover_words.specs.declared.question.Question.TheVariants.{Feasible, Best, Compare}
 

@@ -3,7 +3,6 @@ use Rattle.std.specs.Prelude.{◌≡◌, ◌⊎◌, ℕ, List, [], true, false, 
 use Rattle.dover_model.specs.Feed.{is_open, is_ended, account, Cause, Faulty}
 use Rattle.dover_model.specs.Instance.{Instance}
 use Rattle.dover_model.specs.Session.{Session, IsValidSession, instance_of}
-use Rattle.dover_port.specs.Causes.{Rose}
 use Rattle.dover_port.specs.Moves.{Move, ArePuts, ins, outs, has_ended, EachRead, IsProperPrefix}
 use Rattle.dover_port.specs.declared.status.Status.{Status}
 use Rattle.dover_port.specs.declared.status.Status.TheVariants.{Done, No, Refused, ReadFault, WriteFault, Memory, Usage}
@@ -65,21 +64,6 @@ Ends says Usage moves = ⊥
 pub record Tells (says : Says) (status : Status) (moves : List Move) : Type 0 where
   pub reads : EachRead MayRead moves
   pub ends : Ends says status moves
-
--- a fault comes only where its count rose, and every other status leaves both counts
-abbrev pub Causes : Status → (reads reads' writes writes' : ℕ) → Type 0
-Causes ReadFault reads reads' writes writes' = Rose reads reads' × (writes' ≡ writes)
-Causes WriteFault reads reads' writes writes' = (reads' ≡ reads) × Rose writes writes'
-Causes _ reads reads' writes writes' = (reads' ≡ reads) × (writes' ≡ writes)
-
--- the statuses of a word that never answers No
-abbrev pub IsAnswer : Status → Type 0
-IsAnswer Done = Unit {0}
-IsAnswer Refused = Unit {0}
-IsAnswer ReadFault = Unit {0}
-IsAnswer WriteFault = Unit {0}
-IsAnswer Memory = Unit {0}
-IsAnswer _ = ⊥
 
 -- the statuses of a call that refuses a feed
 abbrev pub IsRefusal : Status → Type 0

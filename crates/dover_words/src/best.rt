@@ -2,22 +2,23 @@
 ghost use Rattle.std.specs.Prelude.{◌≡◌, ◌↔◌, ◌<◌, ◌++◌, IfOk, OnOk, Err, length};
 ghost use Rattle.dover_model.specs.Instance.{IsValid};
 ghost use Rattle.dover_model.specs.Lines.{in_lines};
-ghost use Rattle.dover_port.specs.Causes.{HasCause};
+ghost use Rattle.dover_port.specs.Causes.{Causes, HasCause, IsAnswer};
 ghost use Rattle.dover_port.specs.Moves.{Since, PutsText, PutsThrough};
 ghost use Rattle.feed_reading.specs.Listing.{listed_instance};
 ghost use Rattle.dover_core.specs.Spending.{AreFew};
 ghost use Rattle.dover_words.specs.Best.{SaysBest, found_lines, IsFinding};
 ghost use Rattle.dover_words.specs.Compare.{IsFrugal};
-ghost use Rattle.dover_words.specs.Record.{Causes, Finishes, IsAnswer, Tells};
+ghost use Rattle.dover_words.specs.Record.{Finishes, Tells};
 ghost use Rattle.dover_words.specs.Texts.{piece_lines};
 
-use crate::lines::{put_line, put_pieces};
+use crate::lines::put_pieces;
 use crate::refusing::{refuse, refuse_size};
 use crate::serving::completed;
 use clairvoyant::{BestFault, best};
 use dover_model::Piece;
 use dover_port::{Failed, Output, Port, Status};
 use feed_reading::{Listed, Reading, read_feed};
+use line_output::put_numbers;
 use root_compare::bound;
 use std::alloc::Global;
 use std::sync::ledger::Ledger;
@@ -61,19 +62,19 @@ fn put_found<P: Port>(port: &mut P, out: &mut Output, found: &Found) -> Result<(
     ensures text { PutsThrough (P.moves port.old) (P.moves port.new) result out.old out.new (in_lines (found_lines found.now)) }
     ensures cause { HasCause (P.write_faults port.old) (P.write_faults port.new) (P.read_faults port.old) (P.read_faults port.new) result }
 {
-    match put_line(port, out, b"jobs", &[found.jobs]) {
+    match put_numbers(port, out, b"jobs", &[found.jobs]) {
         Ok(()) => {}
         Err(failed) => return Err(failed),
     }
-    match put_line(port, out, b"optimum", &[found.optimum]) {
+    match put_numbers(port, out, b"optimum", &[found.optimum]) {
         Ok(()) => {}
         Err(failed) => return Err(failed),
     }
-    match put_line(port, out, b"value", &[found.value]) {
+    match put_numbers(port, out, b"value", &[found.value]) {
         Ok(()) => {}
         Err(failed) => return Err(failed),
     }
-    put_line(port, out, b"bound", &[found.bound])
+    put_numbers(port, out, b"bound", &[found.bound])
 }
 
 /// Puts the lines of these numbers, and of each piece.

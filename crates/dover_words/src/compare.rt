@@ -2,19 +2,19 @@
 ghost use Rattle.std.specs.Prelude.{◌≡◌, ◌↔◌, ◌≤◌, IfOk, OnOk, Err, length};
 ghost use Rattle.dover_model.specs.Instance.{IsValid};
 ghost use Rattle.dover_model.specs.Lines.{in_lines};
-ghost use Rattle.dover_port.specs.Causes.{HasCause};
+ghost use Rattle.dover_port.specs.Causes.{Causes, HasCause, IsAnswer};
 ghost use Rattle.dover_port.specs.Moves.{Since, PutsText, PutsThrough};
 ghost use Rattle.feed_reading.specs.Listing.{listed_instance};
 ghost use Rattle.policy_lab.specs.PolicyRun.{AreTooLarge};
 ghost use Rattle.dover_core.specs.Spending.{AreFew};
 ghost use Rattle.dover_words.specs.Compare.{SaysCompare, compared_of, compared_lines, IsFrugal};
-ghost use Rattle.dover_words.specs.Record.{Causes, Finishes, IsAnswer, Tells};
+ghost use Rattle.dover_words.specs.Record.{Finishes, Tells};
 
-use crate::lines::put_line;
 use crate::refusing::{refuse, refuse_size};
 use crate::serving::completed;
 use dover_port::{Failed, Output, Port, Status};
 use feed_reading::{Listed, Reading, read_feed};
+use line_output::put_numbers;
 use policy_lab::{Dense, Edf, LabFault, run_policy};
 use root_compare::bound;
 use std::alloc::Global;
@@ -59,19 +59,19 @@ fn put_compared<P: Port>(port: &mut P, out: &mut Output, compared: &Compared) ->
     ensures text { PutsThrough (P.moves port.old) (P.moves port.new) result out.old out.new (in_lines (compared_lines compared.now)) }
     ensures cause { HasCause (P.write_faults port.old) (P.write_faults port.new) (P.read_faults port.old) (P.read_faults port.new) result }
 {
-    match put_line(port, out, b"dover", &[compared.dover]) {
+    match put_numbers(port, out, b"dover", &[compared.dover]) {
         Ok(()) => {}
         Err(failed) => return Err(failed),
     }
-    match put_line(port, out, b"edf", &[compared.edf]) {
+    match put_numbers(port, out, b"edf", &[compared.edf]) {
         Ok(()) => {}
         Err(failed) => return Err(failed),
     }
-    match put_line(port, out, b"dense", &[compared.dense]) {
+    match put_numbers(port, out, b"dense", &[compared.dense]) {
         Ok(()) => {}
         Err(failed) => return Err(failed),
     }
-    put_line(port, out, b"bound", &[compared.bound])
+    put_numbers(port, out, b"bound", &[compared.bound])
 }
 
 /// Writes the lines of these numbers.

@@ -2,17 +2,18 @@
 ghost use Rattle.std.specs.Prelude.{◌≡◌, length};
 ghost use Rattle.dover_model.specs.Instance.{Instance, IsValid};
 ghost use Rattle.dover_model.specs.Lines.{in_lines};
-ghost use Rattle.dover_port.specs.Causes.{HasCause};
+ghost use Rattle.dover_port.specs.Causes.{Causes, HasCause};
 ghost use Rattle.dover_port.specs.Moves.{Since, PutsText, PutsThrough};
 ghost use Rattle.dover_words.specs.Feasible.{SaysFeasible, IsFeasibleAnswer, pieces_text, status_of, text_of};
-ghost use Rattle.dover_words.specs.Record.{Causes, Finishes, Puts, Tells};
+ghost use Rattle.dover_words.specs.Record.{Finishes, Puts, Tells};
 
-use crate::lines::{put_line, put_pieces};
+use crate::lines::put_pieces;
 use crate::refusing::refuse;
 use deadline_oracle::{Feasible, judge_feasible};
 use dover_model::{Job, Piece};
 use dover_port::{Failed, Output, Port, Status};
 use feed_reading::{Reading, read_feed};
+use line_output::put_numbers;
 use std::alloc::Global;
 
 /// Puts how many pieces there are, and each of them.
@@ -20,7 +21,7 @@ fn put_schedule<P: Port>(port: &mut P, out: &mut Output, pieces: &[Piece]) -> Re
     ensures text { PutsThrough (P.moves port.old) (P.moves port.new) result out.old out.new (pieces_text pieces.now) }
     ensures cause { HasCause (P.write_faults port.old) (P.write_faults port.new) (P.read_faults port.old) (P.read_faults port.new) result }
 {
-    match put_line(port, out, b"feasible", &[pieces.len() as u64]) {
+    match put_numbers(port, out, b"feasible", &[pieces.len() as u64]) {
         Ok(()) => {}
         Err(failed) => return Err(failed),
     }
@@ -34,7 +35,7 @@ fn put_answer<P: Port>(port: &mut P, out: &mut Output, answer: &Feasible) -> Res
 {
     match answer {
         Feasible::All { pieces } => put_schedule(port, out, pieces),
-        Feasible::Window { a, b, work } => put_line(port, out, b"window", &[*a, *b, *work]),
+        Feasible::Window { a, b, work } => put_numbers(port, out, b"window", &[*a, *b, *work]),
     }
 }
 

@@ -1,9 +1,10 @@
 //! The questions, each by its word.
 ghost use Rattle.std.specs.Prelude.{◌≡◌};
+ghost use Rattle.dover_port.specs.Causes.{Causes};
 ghost use Rattle.dover_port.specs.Moves.{Since};
 ghost use Rattle.dover_words.specs.Compare.{IsFrugal};
 ghost use Rattle.dover_words.specs.Questions.{says, IsAnswerTo};
-ghost use Rattle.dover_words.specs.Record.{Causes, Tells};
+ghost use Rattle.dover_words.specs.Record.{Tells};
 
 use crate::best::best_word;
 use crate::compare::compare_word;

@@ -56,7 +56,7 @@ read_lines a bytes = by_count (nat_lt most_lines a.lines) (feed_line bytes) wher
   by_count false (Some l) = formed_lines a l (cause_of a l)
 
 -- the next line of an open account is counted
-next_counted : (lines : ℕ) (session : Option Session) (mark : ℕ) (standing : Standing) (bytes : List ℕ)
+pub next_counted : (lines : ℕ) (session : Option Session) (mark : ℕ) (standing : Standing) (bytes : List ℕ)
     → (next_line (record { lines = lines; session = session; mark = mark; standing = standing }) bytes).standing ≡ Open
     → (standing ≡ Open) × ((next_line (record { lines = lines; session = session; mark = mark; standing = standing }) bytes).lines ≡ suc lines)
 next_counted lines session mark Open bytes opened =

@@ -2,3 +2,5 @@ pub mod JobLines
 pub mod Taking
 pub mod Counting
 pub mod Skipping
+pub mod GoingOn
+pub mod Admitting

@@ -19,6 +19,10 @@ use Rattle.event_feed.specs.declared.fed.Fed.{Fed}
 use Rattle.event_feed.specs.declared.fed.Fed.TheVariants as fed
 use Rattle.event_feed.specs.Kept.{cause_of_fault}
 
+-- how many jobs an account has admitted
+abbrev pub admitted_in : Account → ℕ
+admitted_in a = elim a.session [ None ↦ 0 | Some S ↦ length (admitted_jobs S.items) ]
+
 -- ---- what a good line makes of the account in which it is counted
 
 -- the account with its next line counted

@@ -1,4 +1,3 @@
 pub mod Listing
-pub mod Lengths
 pub mod Pieces
 pub mod Records

@@ -8,8 +8,8 @@ use Rattle.dover_model.specs.Fraction.{Fraction}
 use Rattle.dover_model.specs.Instance.{Rules, Instance}
 use Rattle.dover_model.specs.Feed.{Account, Open, rules_with}
 use Rattle.dover_model.specs.Session.{Session, Item, JobItem, RefusedItem, RefusedJob, refused_at, admitted_jobs, instance_of, with_item, new_session}
-use Rattle.event_feed.specs.Answers.{AddsJob, AddsRefused, DeclaresRatio, counted}
-use Rattle.feed_reading.specs.Listing.{Lists, instance_with, admitted_in}
+use Rattle.event_feed.specs.Answers.{AddsJob, AddsRefused, DeclaresRatio, counted, admitted_in}
+use Rattle.feed_reading.specs.Listing.{Lists, instance_with}
 
 -- a job more
 pub job_more : (items : List Item) (j : JobFacts) → admitted_jobs (items ++ JobItem j ∷ []) ≡ admitted_jobs items ++ j ∷ []

@@ -118,6 +118,10 @@ module _ (feed : Feed) (xs : List Move) (g : GoesOn feed xs) where
     );
   }
 
+-- how the account stands, with what is kept
+abbrev pub StandsSo : Progress → Feed → Account → Type 0
+StandsSo p new a = StandsAt p new.gathering.declared new.gathering.jobs.items a
+
 module _ (a b c : Option (List Move)) (feed : Feed) (run : Since a b (GoesOn feed)) where
   -- a read failed
   pub on_unread : Since a b (Reads reading.Unread)
@@ -131,15 +135,15 @@ module _ (a b c : Option (List Move)) (feed : Feed) (run : Since a b (GoesOn fee
       (λ xs ys g e. subst (λ ms. Reads (reading.Refused fault) (xs ++ ms)) (sym e) (on_short feed xs g fault (is (ins xs) g.stands)))
 
   module _ (bytes : List ℕ) (some : 0 < length bytes) (moved : Adds b c (read_move bytes)) (new : Feed) (p : Progress)
-      (at : (x : List ℕ) → FeedStands feed x → StandsAt p new.gathering.declared new.gathering.jobs.items (account (x ++ bytes))) where
+      (at : (x : List ℕ) → FeedStands feed x → StandsSo p new (account (x ++ bytes))) where
     -- with the read
     with_read : (T : List Move → Type 0) → ((xs : List Move) → GoesOn feed xs → T (xs ++ Got bytes ∷ [])) → Since a c T
     with_read T next = since_then a b c _ _ _ run moved
         (λ xs ys g is. subst (λ ms. T (xs ++ ms)) (sym (is ∙ ap (λ m. m ∷ []) (got_some bytes some))) (next xs g))
 
     -- how the account of all bytes got stands
-    at_all : (xs : List Move) → GoesOn feed xs → StandsAt p new.gathering.declared new.gathering.jobs.items (account (ins (xs ++ Got bytes ∷ [])))
-    at_all xs g = subst (λ y. StandsAt p new.gathering.declared new.gathering.jobs.items (account y)) (sym (got_ins feed xs g bytes)) (at (ins xs) g.stands)
+    at_all : (xs : List Move) → GoesOn feed xs → StandsSo p new (account (ins (xs ++ Got bytes ∷ [])))
+    at_all xs g = subst (λ y. StandsSo p new (account y)) (sym (got_ins feed xs g bytes)) (at (ins xs) g.stands)
 
     -- the reading ends with this read
     over : (r : Reading) → ((xs : List Move) → GoesOn feed xs → Ends r (xs ++ Got bytes ∷ [])) → Since a c (Reads r)
@@ -159,20 +163,20 @@ module _ (a b c : Option (List Move)) (feed : Feed) (run : Since a b (GoesOn fee
 
     -- a line is at fault
     pub on_refused : (fault : FeedFault)
-        → ((x : List ℕ) → FeedStands feed x → StandsAt (progress.Refused fault) new.gathering.declared new.gathering.jobs.items (account (x ++ bytes)))
+        → ((x : List ℕ) → FeedStands feed x → StandsSo (progress.Refused fault) new (account (x ++ bytes)))
         → Since a c (Reads (reading.Refused fault))
     on_refused fault at = over bytes some moved new (progress.Refused fault) at (reading.Refused fault)
         (λ xs g. inl (at_all bytes some moved new (progress.Refused fault) at xs g))
 
     -- there was no memory
-    pub on_no_memory : ((x : List ℕ) → FeedStands feed x → StandsAt progress.NoMemory new.gathering.declared new.gathering.jobs.items (account (x ++ bytes)))
+    pub on_no_memory : ((x : List ℕ) → FeedStands feed x → StandsSo progress.NoMemory new (account (x ++ bytes)))
         → Since a c (Reads reading.NoMemory)
     on_no_memory at = over bytes some moved new progress.NoMemory at reading.NoMemory
         (λ xs g. (got_unended feed xs g bytes, at_all bytes some moved new progress.NoMemory at xs g))
 
     -- the end line was read
-    pub on_ended : (r : Reading) → ((x : List ℕ) → StandsAt progress.Ended new.gathering.declared new.gathering.jobs.items (account x) → GivesJobs r x)
-        → ((x : List ℕ) → FeedStands feed x → StandsAt progress.Ended new.gathering.declared new.gathering.jobs.items (account (x ++ bytes))) → Since a c (Reads r)
+    pub on_ended : (r : Reading) → ((x : List ℕ) → StandsSo progress.Ended new (account x) → GivesJobs r x)
+        → ((x : List ℕ) → FeedStands feed x → StandsSo progress.Ended new (account (x ++ bytes))) → Since a c (Reads r)
     on_ended r gives at = over bytes some moved new progress.Ended at r (λ xs g. by_reading r _ (got_unended feed xs g bytes)
         (gives (ins (xs ++ Got bytes ∷ [])) (at_all bytes some moved new progress.Ended at xs g))) where
           by_reading : (r : Reading) (moves : List Move) → has_ended moves ≡ false → GivesJobs r (ins moves) → Ends r moves

@@ -1,11 +1,12 @@
 -- The jobs that a feed has admitted so far.
-use Rattle.std.specs.Prelude.{◌≡◌, ◌<◌, ℕ, List, [], Option, Some, None, length, false}
+use Rattle.std.specs.Prelude.{◌≡◌, ◌<◌, ℕ, List, [], Option, Some, None, false}
 use Rattle.dover_model.specs.declared.events.Version.{Version}
 use Rattle.dover_model.specs.Fraction.{Fraction}
 use Rattle.dover_model.specs.JobFacts.{JobFacts}
 use Rattle.dover_model.specs.Instance.{Instance}
-use Rattle.dover_model.specs.Session.{Session, instance_of, admitted_jobs}
+use Rattle.dover_model.specs.Session.{Session, instance_of}
 use Rattle.dover_model.specs.Feed.{Account, Open, Ended, Faulty, rules_with, account_of_lines}
+use Rattle.event_feed.specs.Answers.{admitted_in}
 use Rattle.event_feed.specs.Kept as feed
 use Rattle.event_feed.specs.Kept.{cause_of_fault}
 use Rattle.feed_reading.specs.declared.listed.Listed.{Listed}
@@ -25,10 +26,6 @@ listed_instance listed = instance_with (listed.ratio, listed.version) listed.job
 abbrev pub Lists : Option (Fraction × Version) → List JobFacts → Option Session → Type 0
 Lists None jobs session = (jobs ≡ []) × (session ≡ None)
 Lists (Some declared) jobs session = (S : Session) × (session ≡ Some S) × (instance_with declared jobs ≡ instance_of S)
-
--- how many jobs an account has admitted
-abbrev pub admitted_in : Account → ℕ
-admitted_in a = elim a.session [ None ↦ 0 | Some S ↦ length (admitted_jobs S.items) ]
 
 -- how the account stands, and that its rules and jobs are kept
 abbrev pub StandsAt : Progress → Option (Fraction × Version) → List JobFacts → Account → Type 0

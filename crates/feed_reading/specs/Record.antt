@@ -6,11 +6,11 @@ use Rattle.dover_model.specs.Lines.{whole_lines}
 use Rattle.dover_model.specs.Session.{Session, IsValidSession, instance_of}
 use Rattle.dover_port.specs.Causes.{Rose}
 use Rattle.dover_port.specs.Moves.{Move, ins, outs, has_ended, EachRead}
-use Rattle.event_feed.specs.Answers.{short_after}
+use Rattle.event_feed.specs.Answers.{short_after, admitted_in}
 use Rattle.event_feed.specs.Kept.{cause_of_fault}
 use Rattle.event_feed.specs.declared.faults.FeedFault.{FeedFault}
 use Rattle.feed_reading.specs.Feeding.{FeedStands}
-use Rattle.feed_reading.specs.Listing.{listed_instance, admitted_in}
+use Rattle.feed_reading.specs.Listing.{listed_instance}
 use Rattle.feed_reading.specs.declared.feed.Feed.{Feed}
 use Rattle.feed_reading.specs.declared.listed.Listed.{Listed}
 use Rattle.feed_reading.specs.declared.reading.Reading.{Reading}

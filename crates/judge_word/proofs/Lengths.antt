@@ -1,5 +1,5 @@
 -- A text that isn't wrong has at most so many bytes.
-use Rattle.std.proofs.Common.{◌≡◌, ◌≤◌, ◌<◌, ◌+◌, ◌*◌, ℕ, suc, List, ◌∷◌, ◌++◌, [], length, refl, sym, ap, ◌∙◌, Bool, true, false}
+use Rattle.std.proofs.Common.{◌≡◌, ◌≤◌, ◌<◌, ℕ, List, ◌∷◌, ◌++◌, [], length, refl, sym, ap, ◌∙◌, Bool, true, false}
 use Rattle.std.proofs.Common.{arith, append_assoc, ◌||◌}
 use Rattle.std.specs.Prelude.{nat_lt, ◌&&◌}
 use Rattle.std.proofs.lemmas.Bool.{ltb-false}
@@ -8,41 +8,16 @@ use Rattle.dover_model.specs.Trace.{trace_lines}
 use Rattle.dover_model.specs.Verdict.{Wrong, begins_trace, ends_with_end, verdict}
 use Rattle.dover_model.specs.WholeRun.{Begins}
 use Rattle.dover_model.proofs.Beginnings.{begins_onward}
-use Rattle.dover_model.proofs.Cuts.{CutText, is_feed, put_before, cut_feed, cut_other}
 use Rattle.dover_model.proofs.Named.{beginnings_pass}
 use Rattle.dover_model.proofs.Tests.{never}
 use Rattle.dover_model.proofs.WrongStays.{begun, Starts, too_long_fails}
+use Rattle.line_text.proofs.Lengths.{AreNotTooLong, text_few}
 use Rattle.trace_judge.specs.Judging.{IsGood, StandsFor, is_wrong}
 use Rattle.trace_judge.specs.declared.judge.Judge.{Judge}
 use Rattle.trace_judge.specs.declared.judge.Found.{Found}
 use Rattle.trace_judge.specs.declared.judge.Found.TheVariants.{Good, Wrong as Bad, NoMemory}
 use Rattle.trace_judge.specs.Reads.{expected_of}
 use Rattle.trace_judge.proofs.Judging.{few_lines, reads_begins}
-
--- ---- the bytes of a text
-
--- the bytes of lines, each with its line feed
-abbrev bytes_of : List (List ℕ) → ℕ
-bytes_of [] = 0
-bytes_of (l ∷ ls) = suc (length l) + bytes_of ls
-
--- with a byte before all
-before_all : (b : ℕ) (ls : List (List ℕ)) (rest : List ℕ)
-    → bytes_of (put_before b ls rest).0 + length (put_before b ls rest).1 ≡ suc (bytes_of ls + length rest)
-before_all b [] rest = omega arith
-before_all b (l ∷ ls) rest = omega arith
-
--- a text has the bytes of its whole lines and of its rest
-text_bytes : (x : List ℕ) → length x ≡ bytes_of (whole_lines x) + length (rest_of x)
-text_bytes [] = refl
-text_bytes (b ∷ x) = by_byte (is_feed b) refl (text_bytes x) where
-  by_byte : (c : Bool) → is_feed b ≡ c → length x ≡ bytes_of (whole_lines x) + length (rest_of x)
-      → length (b ∷ x) ≡ bytes_of (whole_lines (b ∷ x)) + length (rest_of (b ∷ x))
-  by_byte true feed behind = let is : bytes_of (whole_lines (b ∷ x)) + length (rest_of (b ∷ x)) ≡ 1 + bytes_of (whole_lines x) + length (rest_of x) =
-      ap (λ (c : CutText). bytes_of c.0 + length c.1) (cut_feed b x feed) in omega arith
-  by_byte false other behind =
-      let is : bytes_of (whole_lines (b ∷ x)) + length (rest_of (b ∷ x)) ≡ suc (bytes_of (whole_lines x) + length (rest_of x)) =
-      ap (λ (c : CutText). bytes_of c.0 + length c.1) (cut_other b x other) ∙ before_all b (whole_lines x) (rest_of x) in omega arith
 
 -- ---- the lines of a text that begins a trace
 
@@ -56,13 +31,10 @@ fronts_pass (x ∷ ls) passes l front begins =
     beginnings_pass it.session (front ++ l ∷ []) it.valid (begins_onward (front ++ l ∷ []) (x ∷ ls) (trace_lines it.session) begins it.begins)
 
 -- no line of them is too long
-lines_short : (before ls : List (List ℕ)) → begins_trace (before ++ ls) ≡ true → bytes_of ls ≤ 129 * length ls
-lines_short before [] passes = omega arith
+lines_short : (before ls : List (List ℕ)) → begins_trace (before ++ ls) ≡ true → AreNotTooLong ls
+lines_short before [] passes = tt
 lines_short before (l ∷ ls) passes =
-    let more : bytes_of ls ≤ 129 * length ls =
-    lines_short (before ++ l ∷ []) ls (ap begins_trace (append_assoc before (l ∷ []) ls) ∙ passes) in
-    let short : length l ≤ 128 = by_length (is_too_long l) refl in
-    omega arith where
+    (by_length (is_too_long l) refl, lines_short (before ++ l ∷ []) ls (ap begins_trace (append_assoc before (l ∷ []) ls) ∙ passes)) where
       by_length : (b : Bool) → is_too_long l ≡ b → length l ≤ 128
       by_length true long = never (sym (too_long_fails before l long)
           ∙ fronts_pass (before ++ l ∷ ls) passes l before (ls, sym (append_assoc before (l ∷ []) ls)))
@@ -81,10 +53,9 @@ module _ (judge : Judge) (x : List ℕ) where
   few_good good =
       let passes : begins_trace (whole_lines x) ≡ true = reads_begins judge.reader (whole_lines x) good.reads in
       let few : length (whole_lines x) ≤ 20_000_000 = few_lines (whole_lines x) passes in
-      let bytes : bytes_of (whole_lines x) ≤ 129 * length (whole_lines x) = lines_short [] (whole_lines x) passes in
       let rest : length (rest_of x) ≤ 128 = ltb-false _ _ (rest_short (is_too_long (rest_of x))
       (nat_lt 0 (length (rest_of x)) && ends_with_end (whole_lines x)) good.counts) in
-      omega (arith, text_bytes x)
+      omega (arith, text_few x 20_000_000 (lines_short [] (whole_lines x) passes) few rest)
 
   -- a text that isn't wrong has at most so many bytes
   pub few_bytes : StandsFor judge x → is_wrong (verdict x) ≡ false → length x < 2_580_000_129

@@ -117,12 +117,6 @@ Finishes No bytes moves = ArePuts moves × (outs moves ≡ verdict_text (verdict
 Finishes WriteFault bytes moves = ArePuts moves × IsProperPrefix (outs moves) (verdict_text (verdict bytes))
 Finishes _ bytes moves = ⊥
 
--- a fault comes only where its count rose, and every other status leaves both counts
-abbrev pub Causes : Status → (reads reads' writes writes' : ℕ) → Type 0
-Causes ReadFault reads reads' writes writes' = Rose reads reads' × (writes' ≡ writes)
-Causes WriteFault reads reads' writes writes' = (reads' ≡ reads) × Rose writes writes'
-Causes _ reads reads' writes writes' = (reads' ≡ reads) × (writes' ≡ writes)
-
 -- the statuses that the word ends with
 abbrev pub IsAnswer : Status → Type 0
 IsAnswer Done = Unit {0}

@@ -1,8 +1,9 @@
 //! The word as a whole.
 ghost use Rattle.std.specs.Prelude.{◌≡◌, List, ℕ};
+ghost use Rattle.dover_port.specs.Causes.{Causes};
 ghost use Rattle.dover_port.specs.Moves.{Since};
 ghost use Rattle.trace_judge.specs.Judging.{StandsFor, Tells};
-ghost use Rattle.judge_word.specs.Record.{Judges, Causes, IsAnswer, Finishes, status_of};
+ghost use Rattle.judge_word.specs.Record.{Judges, IsAnswer, Finishes, status_of};
 
 use crate::lines::put_verdict;
 use crate::reading::{Reading, read_text};

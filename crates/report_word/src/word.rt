@@ -2,8 +2,9 @@
 ghost use Rattle.std.specs.Prelude.{◌≡◌, List, ℕ, IfOk};
 ghost use Rattle.charge_ledger.specs.Rows.{IsRunOf};
 ghost use Rattle.dover_model.specs.Instance.{Instance};
+ghost use Rattle.dover_port.specs.Causes.{Causes};
 ghost use Rattle.dover_port.specs.Moves.{Since};
-ghost use Rattle.judge_word.specs.Record.{Causes, IsAnswer};
+ghost use Rattle.judge_word.specs.Record.{IsAnswer};
 ghost use Rattle.report_word.specs.Record.{IsClosed, Finishes, Puts, Reports, report_text};
 
 use crate::Form;

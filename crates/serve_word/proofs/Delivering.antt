@@ -127,7 +127,8 @@ module _ (a b : Account) (S : Session) (kept : IsKept a) (stands : a.standing â‰
           S,
           tick_session,
           subst (Î» m. IsServed S m u) (sym tick_mark)
-              (served_all S tick_valid a.mark t ordered v u (settled (instance_of S) a.mark) served s.steps s.path s.rules s.last s.goes_on s.barrier),
+              (served_all S tick_valid a.mark t ordered v u (settled (instance_of S) a.mark) served s.steps s.path s.rules s.last s.goes_on
+              s.barrier),
         ),
       )
 
@@ -254,8 +255,8 @@ module _ (a b : Account) (S : Session) (kept : IsKept a) (stands : a.standing â‰
               with_job_item,
               job_session,
               subst (Î» k. IsServed with_job_item k u) (sym job_mark)
-                  (served_all with_job_item job_valid_after j.release j.release (omega arith) y u (settled (instance_of S) j.release) served_with s.steps
-                  s.path s.rules s.last s.goes_on s.barrier),
+                  (served_all with_job_item job_valid_after j.release j.release (omega arith) y u (settled (instance_of S) j.release) served_with
+                  s.steps s.path s.rules s.last s.goes_on s.barrier),
             ),
           )
 

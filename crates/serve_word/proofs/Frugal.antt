@@ -11,10 +11,11 @@ use Rattle.dover_port.specs.declared.status.Status.{Status}
 use Rattle.dover_port.specs.declared.status.Status.TheVariants.{Done, No, Refused, ReadFault, WriteFault, Memory, Usage}
 use Rattle.dover_port.proofs.Made.{since_none, since_then, since_then_at, since_weaker, ins-append, ins-puts, ArePuts-append}
 use Rattle.dover_core.specs.Service.{Service}
+use Rattle.event_feed.specs.Answers.{admitted_in}
 use Rattle.serve_word.specs.Delivered.{PutsBy, Delivers}
 use Rattle.serve_word.specs.Feeding.{FeedStands}
 use Rattle.serve_word.specs.Record.{GoesOn, Finishes, IsFrugal}
-use Rattle.serve_word.specs.Spending.{waits_of, jobs_in, admitted_in, Spends}
+use Rattle.serve_word.specs.Spending.{waits_of, jobs_in, Spends}
 use Rattle.serve_word.specs.declared.feed.Feed.{Feed}
 use Rattle.serve_word.specs.declared.progress.Progress.{Progress}
 use Rattle.serve_word.specs.declared.progress.Stop.{Stop}

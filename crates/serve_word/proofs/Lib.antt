@@ -6,13 +6,11 @@ pub mod Delivering
 pub mod OneLine
 pub mod Short
 pub mod Going
-pub mod FaultLines
 pub mod Answering
 pub mod Keeping
 pub mod Pieces
 pub mod Turns
 pub mod Records
-pub mod Lengths
 pub mod Shorts
 pub mod Spending
 pub mod Admitted

@@ -2,7 +2,7 @@
 use Rattle.std.proofs.Common.{◌≡◌, ◌<◌, ◌+◌, ℕ, suc, List, ◌∷◌, ◌++◌, [], length, take, drop, get_or, refl, sym, ap, ◌∙◌, subst}
 use Rattle.std.proofs.Common.{Option, Some, None, Result, Ok, Err, Bool, true, false, cond, append_assoc}
 use Rattle.std.specs.List.{fold}
-use Rattle.std.proofs.lemmas.List.{append-nil, take_more, take-append-drop}
+use Rattle.std.proofs.lemmas.List.{append-nil}
 use Rattle.std.proofs.lemmas.Grind.{flat_map-append}
 use Rattle.std.specs.Prelude.{nat_lt, ◌||◌}
 use Rattle.std.specs.Option.{option_map}
@@ -22,6 +22,8 @@ use Rattle.dover_port.specs.Moves.{Move, outs, Passes, CutsShort}
 use Rattle.dover_port.proofs.Made.{since_then, since_weaker, ArePuts-append, outs-append}
 use Rattle.dover_port.proofs.Through.{passes_then, passes_then_cut, passes_nothing, cut_longer}
 use Rattle.dover_core.specs.Service.{Service}
+use Rattle.event_feed.proofs.GoingOn.{closed_account}
+use Rattle.line_text.proofs.Pieces.{next_bytes, rest_bytes}
 use Rattle.serve_word.specs.Delivered.{Delivers, PutsBy, Begun, StandsAt, IsDeclared, IsFaulty}
 use Rattle.serve_word.specs.declared.progress.Progress.{Progress}
 use Rattle.serve_word.specs.declared.progress.Progress.TheVariants as progress
@@ -94,21 +96,11 @@ delivers_nothing a p b server stands =
 
 -- ---- accounts of more bytes
 
--- an account that doesn't go on stays
-pub closed_stays : (ls : List (List ℕ)) (a : Account) → is_open a ≡ false → fold next_line a ls ≡ a
-closed_stays [] a closed = refl
-closed_stays (l ∷ ls) a closed = ap (λ b. fold next_line b ls) (ap (λ x. cond x (read_line (record a { lines = suc a.lines }) l) a) closed)
-    ∙ closed_stays ls a closed
-
--- so does that of more bytes
-pub closed_account : (F G : List ℕ) → is_open (account F) ≡ false → account (F ++ G) ≡ account F
-closed_account F G closed = let it = account_append F G in it.1 ∙ closed_stays it.0 (account F) closed
-
--- of an account that has ended
+-- an account that has ended doesn't go on
 pub ended_closed : (a : Account) → a.standing ≡ Ended → is_open a ≡ false
 ended_closed a ended = ap (λ s. elim s [ Open ↦ true | Ended ↦ false | Faulty line cause ↦ false ]) ended
 
--- of a faulty one
+-- nor does a faulty one
 pub faulty_closed : (a : Account) → IsFaulty a → is_open a ≡ false
 faulty_closed a it = ap (λ s. elim s [ Open ↦ true | Ended ↦ false | Faulty line cause ↦ false ]) it.2
 
@@ -184,21 +176,12 @@ declared_front F G it = let more = account_append F G in subst IsDeclared (sym m
 -- ---- a piece, byte by byte
 
 module _ (x bytes : List ℕ) (i : ℕ) (before : i < length bytes) where
-  -- the bytes up to the next one
-  pub next_bytes : (x ++ take i bytes) ++ get_or bytes i 0 ∷ [] ≡ x ++ take (i + 1) bytes
-  next_bytes = append_assoc x (take i bytes) (get_or bytes i 0 ∷ []) ∙ ap (λ l. x ++ l) (sym (take_more bytes i 0 before))
-
-  -- and those behind them
-  pub rest_bytes : ((x ++ take i bytes) ++ get_or bytes i 0 ∷ []) ++ drop (i + 1) bytes ≡ x ++ bytes
-  rest_bytes = ap (λ l. l ++ drop (i + 1) bytes) next_bytes ∙ append_assoc x (take (i + 1) bytes) (drop (i + 1) bytes)
-      ∙ ap (λ l. x ++ l) (take-append-drop (i + 1) bytes)
-
   module _ (old mid new : Option (List Move)) (p q r : List ℕ) (server server2 : Option Service)
       (first : Delivers (Ok progress.Open) old mid p q (account x) (account (x ++ take i bytes)) server) where
     -- one byte more
     pub piece_next : Delivers (Ok progress.Open) mid new q r (account (x ++ take i bytes)) (account ((x ++ take i bytes) ++ get_or bytes i 0 ∷ []))
         server2 → Delivers (Ok progress.Open) old new p r (account x) (account (x ++ take (i + 1) bytes)) server2
-    piece_next second = subst (λ y. Delivers (Ok progress.Open) old new p r (account x) (account y) server2) next_bytes
+    piece_next second = subst (λ y. Delivers (Ok progress.Open) old new p r (account x) (account y) server2) (next_bytes x bytes i before)
         (delivers_then (Ok progress.Open) old mid new p q r _ _ _ server server2 first second)
 
     -- the feed is over with this byte
@@ -207,7 +190,7 @@ module _ (x bytes : List ℕ) (i : ℕ) (before : i < length bytes) where
         → is_open (account ((x ++ take i bytes) ++ get_or bytes i 0 ∷ [])) ≡ false
         → Delivers (Ok over) old new p r (account x) (account (x ++ bytes)) server2
     piece_over over second closed = subst (λ a. Delivers (Ok over) old new p r (account x) a server2)
-        (sym (closed_account ((x ++ take i bytes) ++ get_or bytes i 0 ∷ []) (drop (i + 1) bytes) closed) ∙ ap account rest_bytes)
+        (sym (closed_account ((x ++ take i bytes) ++ get_or bytes i 0 ∷ []) (drop (i + 1) bytes) closed) ∙ ap account (rest_bytes x bytes i before))
         (delivers_then (Ok over) old mid new p q r _ _ _ server server2 first second)
 
     -- it ends the feed
@@ -226,7 +209,7 @@ module _ (x bytes : List ℕ) (i : ℕ) (before : i < length bytes) where
     pub piece_stopped : (stop : Stop)
         → Delivers (Err stop) mid new q r (account (x ++ take i bytes)) (account ((x ++ take i bytes) ++ get_or bytes i 0 ∷ [])) server2
         → Delivers (Err stop) old new p r (account x) (account (x ++ bytes)) server2
-    piece_stopped stop second = subst (λ y. Delivers (Err stop) old new p r (account x) (account y) server2) rest_bytes
+    piece_stopped stop second = subst (λ y. Delivers (Err stop) old new p r (account x) (account y) server2) (rest_bytes x bytes i before)
         (stopped_longer stop old new p r _ _ _ server2 (due_front ((x ++ take i bytes) ++ get_or bytes i 0 ∷ []) (drop (i + 1) bytes))
         (declared_front ((x ++ take i bytes) ++ get_or bytes i 0 ∷ []) (drop (i + 1) bytes))
         (delivers_then (Err stop) old mid new p q r _ _ _ server server2 first second))

@@ -94,13 +94,7 @@ TurnMakes turn.Unread feed x moves = moves ≡ []
 TurnMakes turn.Unwritten feed x moves = Gets x moves (λ bytes put. IsProperPrefix (due x ++ put) (due (x ++ bytes)))
 TurnMakes turn.NoMemory feed x moves = Gets x moves (λ bytes put. Begins (due x ++ put) (due (x ++ bytes)) × IsDeclared (account (x ++ bytes)))
 
--- a fault comes only where its count rose, and every other status leaves both counts
-abbrev pub Causes : Status → (reads reads' writes writes' : ℕ) → Type 0
-Causes ReadFault reads reads' writes writes' = Rose reads reads' × (writes' ≡ writes)
-Causes WriteFault reads reads' writes writes' = (reads' ≡ reads) × Rose writes writes'
-Causes _ reads reads' writes writes' = (reads' ≡ reads) × (writes' ≡ writes)
-
--- the same of a turn
+-- a fault comes only where its count rose, and every other turn leaves both counts
 abbrev pub TurnCauses : Turn → (reads reads' writes writes' : ℕ) → Type 0
 TurnCauses turn.Unread reads reads' writes writes' = Rose reads reads' × (writes' ≡ writes)
 TurnCauses turn.Unwritten reads reads' writes writes' = (reads' ≡ reads) × Rose writes writes'
@@ -111,15 +105,6 @@ abbrev pub turn_of : Progress → Turn
 turn_of progress.Open = turn.More
 turn_of progress.Ended = turn.Ended
 turn_of progress.Refused = turn.Refused
-
--- the statuses that the word ends with
-abbrev pub IsAnswer : Status → Type 0
-IsAnswer Done = Unit {0}
-IsAnswer Refused = Unit {0}
-IsAnswer ReadFault = Unit {0}
-IsAnswer WriteFault = Unit {0}
-IsAnswer Memory = Unit {0}
-IsAnswer _ = ⊥
 
 -- the last text of a call that is refused
 abbrev pub Finishes : Status → Option (List Move) → Option (List Move) → List ℕ → Type 0

@@ -1,7 +1,5 @@
 -- What the comparisons of a call are for: the times that its jobs begin and cease to wait.
 use Rattle.std.specs.Prelude.{ℕ, ◌+◌, ◌*◌, ◌^◌, ◌≤◌, ◌<◌, length, Option, Some, None}
-use Rattle.dover_model.specs.Session.{admitted_jobs}
-use Rattle.dover_model.specs.Feed.{Account}
 use Rattle.dover_core.specs.Service.{Service}
 use Rattle.dover_core.specs.Spending.{waits_so_far}
 use Rattle.event_feed.specs.declared.fed.Fed.{Fed}
@@ -21,10 +19,6 @@ jobs_in (Some v) = length v.state.tasks
 pub record Spends (old new : Option Service) (before after : ℕ) : Type 0 where
   pub grows : jobs_in old ≤ jobs_in new
   pub few : (d : ℕ) → jobs_in new + 1 < 2 ^ d → after + 20 * d * waits_of old ≤ before + 20 * d * waits_of new
-
--- how many jobs an account has admitted
-abbrev pub admitted_in : Account → ℕ
-admitted_in a = elim a.session [ None ↦ 0 | Some S ↦ length (admitted_jobs S.items) ]
 
 -- how many jobs a line adds
 abbrev pub jobs_fed : Fed → ℕ

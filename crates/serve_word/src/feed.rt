@@ -1,10 +1,11 @@
 //! What is kept of a feed between its bytes, and what a piece delivers.
 ghost use Rattle.std.specs.Prelude.{◌≡◌, ◌≤◌, ◌∷◌, ◌++◌, ℕ, List, [], Ok};
 ghost use Rattle.dover_model.specs.Feed.{account};
+ghost use Rattle.event_feed.specs.Answers.{admitted_in};
 ghost use Rattle.serve_word.specs.Delivered.{Delivers};
 ghost use Rattle.serve_word.specs.Feeding.{FeedStands};
 ghost use Rattle.serve_word.specs.Session.{StopCause};
-ghost use Rattle.serve_word.specs.Spending.{Spends, admitted_in, jobs_in};
+ghost use Rattle.serve_word.specs.Spending.{Spends, jobs_in};
 ghost use Rattle.serve_word.specs.declared.progress.Progress.TheVariants.{Open};
 
 use crate::progress::{Progress, Stop};

@@ -2,7 +2,6 @@
 #![tactic(auto)]
 
 mod feed;
-mod lines;
 mod progress;
 mod serve;
 mod session;

@@ -1,13 +1,14 @@
 //! The reading loop.
 ghost use Rattle.std.specs.Prelude.{◌≡◌, ℕ, List};
+ghost use Rattle.dover_port.specs.Causes.{Causes, IsAnswer};
 ghost use Rattle.dover_port.specs.Moves.{Since};
 ghost use Rattle.serve_word.specs.Feeding.{FeedStands};
-ghost use Rattle.serve_word.specs.Record.{Serves, Causes, IsAnswer, IsFrugal, Finishes, short_text};
+ghost use Rattle.serve_word.specs.Record.{Serves, IsFrugal, Finishes, short_text};
 
 use crate::feed::Feed;
-use crate::lines::put_fault;
 use crate::turn::{Turn, take_turn};
 use dover_port::{Output, Port, Status};
+use line_output::put_fault;
 use std::alloc::Global;
 use std::sync::ledger::Ledger;
 use step_count::Steps;

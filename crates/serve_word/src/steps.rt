@@ -6,9 +6,9 @@ ghost use Rattle.dover_core.specs.declared.horizon.Horizon.TheVariants.{Mark, En
 ghost use Rattle.serve_word.specs.Served.{CanGoOn, Settles, Finishes};
 ghost use Rattle.serve_word.specs.Spending.{Spends};
 
-use crate::lines::put_event;
 use dover_core::{Horizon, Server};
 use dover_port::{Failed, Output, Port};
+use line_output::put_event;
 use std::sync::ledger::Ledger;
 use step_count::Steps;
 

@@ -2,9 +2,10 @@
 ghost use Rattle.std.specs.Prelude.{◌≡◌, ◌<◌, ◌≤◌, ◌+◌, ◌++◌, ℕ, List, [], length};
 ghost use Rattle.dover_model.specs.Feed.{account};
 ghost use Rattle.dover_port.specs.Moves.{Since, ins};
+ghost use Rattle.event_feed.specs.Answers.{admitted_in};
 ghost use Rattle.serve_word.specs.Feeding.{FeedStands};
 ghost use Rattle.serve_word.specs.Record.{TurnMakes, TurnCauses, turn_of};
-ghost use Rattle.serve_word.specs.Spending.{Spends, admitted_in, jobs_in};
+ghost use Rattle.serve_word.specs.Spending.{Spends, jobs_in};
 ghost use Rattle.serve_word.specs.declared.turn.Turn.TheVariants.{More, NoInput};
 
 use crate::feed::{Feed, take_piece};

@@ -2,6 +2,5 @@ pub mod Counting
 pub mod Settling
 pub mod Finishing
 pub mod Admitting
-pub mod Putting
 pub mod Summing
 pub mod Baiting

@@ -9,11 +9,11 @@ ghost use Rattle.stated_word.specs.Baited.{baited_lines, bait_text, size_text};
 ghost use Rattle.stated_word.specs.Record.{Writes, Refuses, IsAnswerFor, Causes};
 ghost use Rattle.dover_core.specs.Spending.{AreFew};
 
-use crate::lines::put_line;
 use crate::serving::serve_all;
 use adversary::Bait;
 use dover_model::Ratio;
 use dover_port::{Failed, Output, Port, Status, put_all};
+use line_output::put_numbers;
 use root_compare::bound;
 use std::alloc::Global;
 use std::sync::ledger::Ledger;
@@ -33,19 +33,19 @@ fn put_baited<P: Port>(port: &mut P, out: &mut Output, baited: &Baited) -> Resul
     ensures text { PutsThrough (P.moves port.old) (P.moves port.new) result out.old out.new (in_lines (baited_lines baited.now)) }
     ensures cause { HasCause (P.write_faults port.old) (P.write_faults port.new) (P.read_faults port.old) (P.read_faults port.new) result }
 {
-    match put_line(port, out, b"jobs", &[baited.jobs]) {
+    match put_numbers(port, out, b"jobs", &[baited.jobs]) {
         Ok(()) => {}
         Err(failed) => return Err(failed),
     }
-    match put_line(port, out, b"value", &[baited.value]) {
+    match put_numbers(port, out, b"value", &[baited.value]) {
         Ok(()) => {}
         Err(failed) => return Err(failed),
     }
-    match put_line(port, out, b"schedule", &[baited.schedule]) {
+    match put_numbers(port, out, b"schedule", &[baited.schedule]) {
         Ok(()) => {}
         Err(failed) => return Err(failed),
     }
-    put_line(port, out, b"bound", &[baited.bound])
+    put_numbers(port, out, b"bound", &[baited.bound])
 }
 
 /// Writes the lines of a baiting feed.

@@ -1,4 +1,4 @@
-use Rattle.dover_words.proofs.Putting.{puts_behind, puts_cut}
+use Rattle.line_output.proofs.Putting.{puts_behind, puts_cut}
 use Rattle.dover_words.proofs.best.put_all_found.Goals as goal
 
 pub returns-in-Err-clause-text : goal.returns-in-Err-clause-text

@@ -1,4 +1,4 @@
-use Rattle.dover_words.proofs.Putting.{puts_flushed, puts_cut_at}
+use Rattle.line_output.proofs.Putting.{puts_flushed, puts_cut_at}
 use Rattle.dover_words.proofs.compare.write_compared.Goals as goal
 
 pub returns-clause-text : goal.returns-clause-text

@@ -1,6 +1,6 @@
 use Rattle.std.proofs.Common.{[], ◌++◌, ◌<◌, ◌∙◌, ℕ, List, length, take, refl, length-append, arith}
 use Rattle.dover_port.proofs.Made.{since_none}
-use Rattle.feed_reading.proofs.Lengths.{few_bytes}
+use Rattle.event_feed.proofs.GoingOn.{open_bytes}
 use Rattle.feed_reading.proofs.Records.{starts, on_more, on_end, on_ended, on_refused, on_no_memory, no_input, some_front}
 use Rattle.feed_reading.proofs.reading.read_feed.Goals as goal
 
@@ -31,7 +31,7 @@ loop-reads-preserved g c =
 
 pub unreachable-requires : goal.unreachable-requires
 unreachable-requires g c = let was = c.loop-reads.invariant.stands in
-    omega (arith, was.1, few_bytes c.loop-reads.feed was.0 was.2, c.loop-reads-test.false)
+    omega (arith, was.1, open_bytes was.0 was.2.keeps.stands was.2.short, c.loop-reads-test.false)
 
 pub returns-then-count-eq0-clause-reads : goal.returns-then-count-eq0-clause-reads
 returns-then-count-eq0-clause-reads g c = on_end _ _ _ _ c.loop-reads.invariant.moves

@@ -1,6 +1,7 @@
 use Rattle.std.proofs.Common.{Ok, ap, subst, arith}
 use Rattle.serve_word.specs.Feeding.{FeedStands}
-use Rattle.serve_word.proofs.Pieces.{piece_next, piece_ended, piece_refused, piece_stopped, next_bytes}
+use Rattle.serve_word.proofs.Pieces.{piece_next, piece_ended, piece_refused, piece_stopped}
+use Rattle.line_text.proofs.Pieces.{next_bytes}
 use Rattle.serve_word.proofs.Spending.{spends_then}
 use Rattle.serve_word.proofs.Admitted.{piece_jobs}
 use Rattle.serve_word.proofs.feed.take_piece.Goals as goal

@@ -2,7 +2,7 @@ use Rattle.std.proofs.Common.{[], ◌++◌, refl, sym, subst, ◌∙◌, length-
 use Rattle.dover_port.proofs.Made.{since_none}
 use Rattle.serve_word.specs.Feeding.{FeedStands}
 use Rattle.serve_word.proofs.Records.{starts, turn_more, turn_ended, turn_refused, turn_unput, turn_memory, ends_short}
-use Rattle.serve_word.proofs.Lengths.{few_bytes}
+use Rattle.event_feed.proofs.GoingOn.{open_bytes}
 use Rattle.serve_word.proofs.Spending.{spends_then}
 use Rattle.serve_word.proofs.Frugal.{nothing_spent, call_frugal, short_frugal}
 use Rattle.serve_word.proofs.serve.serve_word.Goals as goal
@@ -42,7 +42,7 @@ returns-in-NoMemory-clause-serves g c = turn_memory _ _ _ _ c.take_turn.new.feed
 
 pub unreachable-requires : goal.unreachable-requires
 unreachable-requires g c = let was = c.loop-reads.invariant.stands in
-    omega (arith, was.1, few_bytes c.loop-reads.feed was.0 was.2)
+    omega (arith, was.1, open_bytes was.0 was.2.keeps.at.stands was.2.short)
 
 pub loop-reads-init : goal.loop-reads-init
 loop-reads-init g c = record {

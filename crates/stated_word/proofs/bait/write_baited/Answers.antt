@@ -1,4 +1,4 @@
-use Rattle.stated_word.proofs.Putting.{puts_flushed, puts_cut_at}
+use Rattle.line_output.proofs.Putting.{puts_flushed, puts_cut_at}
 use Rattle.stated_word.proofs.bait.write_baited.Goals as goal
 
 pub returns-clause-text : goal.returns-clause-text

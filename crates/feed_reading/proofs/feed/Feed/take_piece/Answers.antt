@@ -1,6 +1,7 @@
 use Rattle.std.proofs.Common.{refl, subst}
 use Rattle.feed_reading.specs.Feeding.{FeedStands}
-use Rattle.feed_reading.proofs.Pieces.{next_bytes, piece_ended, piece_refused, piece_no_memory}
+use Rattle.line_text.proofs.Pieces.{next_bytes}
+use Rattle.feed_reading.proofs.Pieces.{piece_ended, piece_refused, piece_no_memory}
 use Rattle.feed_reading.proofs.feed.Feed.take_piece.Goals as goal
 
 pub take_byte-requires : goal.take_byte-requires

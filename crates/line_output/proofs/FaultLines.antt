@@ -7,7 +7,7 @@ use Rattle.dover_model.specs.declared.events.Refusal.TheVariants.{BadJob, Count,
 use Rattle.dover_model.specs.Due.{cause_word}
 
 -- a number of 64 bits has at most twenty digits
-digits : (n : ℕ) → n < 2 ^ 64 → length (decimal n) ≤ 20
+pub digits : (n : ℕ) → n < 2 ^ 64 → length (decimal n) ≤ 20
 digits n small = length-decimal-le 20 n (omega arith) (omega arith) small
 
 -- the word and the number

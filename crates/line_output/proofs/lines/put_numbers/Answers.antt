@@ -5,7 +5,7 @@ use Rattle.std.proofs.lemmas.List.{drop_more}
 use Rattle.dover_model.specs.Lines.{with_numbers}
 use Rattle.line_text.specs.Writing.{with_field}
 use Rattle.line_text.proofs.Written.{numbers_behind, with_numbers-behind, with_field-begun, one_behind}
-use Rattle.stated_word.proofs.lines.put_line.Goals as goal
+use Rattle.line_output.proofs.lines.put_numbers.Goals as goal
 
 -- a number more takes at most 21 bytes
 number_more : (line : List ℕ) (n : ℕ) → 0 < length line → n < 2 ^ 64 → length (with_field line (decimal n)) ≤ length line + 21

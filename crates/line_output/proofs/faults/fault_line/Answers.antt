@@ -1,7 +1,7 @@
 use Rattle.std.proofs.Common.{arith}
 use Rattle.event_feed.specs.Kept.{cause_of_fault}
-use Rattle.dover_words.proofs.FaultLines.{word_and_number, whole_line}
-use Rattle.dover_words.proofs.refusing.fault_line.Goals as goal
+use Rattle.line_output.proofs.FaultLines.{word_and_number, whole_line}
+use Rattle.line_output.proofs.faults.fault_line.Goals as goal
 
 pub put_number-requires : goal.put_number-requires
 put_number-requires c = rw (c.put_word.ensures, c.new-line.ensures) (omega (arith, word_and_number c.args.fault.line (omega arith)))

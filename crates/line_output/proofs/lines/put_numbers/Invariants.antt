@@ -1,7 +1,7 @@
 use Rattle.std.proofs.Common.{◌≡◌, ◌<◌, ◌≤◌, ◌+◌, ◌*◌, ◌++◌, drop, length}
 use Rattle.dover_model.specs.Lines.{with_numbers}
 use Rattle.line_text.proofs.Written.{numbers_behind}
-use Rattle.stated_word.proofs.lines.put_line.Given as goal
+use Rattle.line_output.proofs.lines.put_numbers.Given as goal
 
 -- the line so far and the numbers that are left make up the line, and each number has at most 20 digits
 abbrev pub invariant-loop-number : goal.invariant-loop-number

@@ -1,0 +1,13 @@
+//! Lines on their way out: each is put with its line feed, through the buffer of a port.
+#![tactic(auto)]
+
+mod faults;
+mod lines;
+mod traces;
+
+pub use faults::{fault_line, put_fault};
+pub use lines::{put_line, put_numbers};
+pub use traces::{put_event, put_header, put_refused};
+
+#[cfg(test)]
+mod tests;
