@@ -10,7 +10,7 @@ use Rattle.dover_model.proofs.Numerals.{numeral-decimal}
 use Rattle.dover_top.specs.Requests.{Asks, MayCarry}
 use Rattle.dover_top.specs.Words.{spelled, AreRow}
 use Rattle.dover_top.specs.declared.request.Request.{Request}
-use Rattle.dover_top.specs.declared.request.Request.TheVariants.{Serve, Judge, Report, Trial, Bait, Ask}
+use Rattle.dover_top.specs.declared.request.Request.TheVariants.{Serve, Judge, Report, Trial, Bait, Ask, Lanes}
 use Rattle.dover_words.specs.declared.question.Question.TheVariants.{Feasible, Best, Compare}
 
 -- ---- words read as what they ask for, if they ask for something
@@ -41,7 +41,8 @@ request_of words =
     then Trial (number_of (word_at 1 words)) (number_of (word_at 2 words)) (ratio_at 3 words) else (
     if bytes_eq (word_at 0 words) (codes "bait") then Bait (ratio_at 1 words) (number_of (word_at 3 words)) else (
     if bytes_eq (word_at 0 words) (codes "feasible") then Ask Feasible else (
-    if bytes_eq (word_at 0 words) (codes "best") then Ask Best else Ask Compare))))))
+    if bytes_eq (word_at 0 words) (codes "best") then Ask Best else (
+    if bytes_eq (word_at 0 words) (codes "compare") then Ask Compare else Lanes)))))))
 
 -- a number is read back
 number_same : (n : ℕ) → n < 10 ^ 18 → number_of (decimal n) ≡ n
@@ -72,6 +73,7 @@ is_read words (Bait k rounds) asks = ap request_of asks.row
 is_read words (Ask Feasible) asks = ap request_of asks
 is_read words (Ask Best) asks = ap request_of asks
 is_read words (Ask Compare) asks = ap request_of asks
+is_read words Lanes asks = ap request_of asks
 
 -- words that ask for two things ask for one
 pub asks_one : (words : List (String Global)) (r other : Request) → Asks words r → Asks words other → r ≡ other
@@ -84,7 +86,8 @@ no_row words none (inr (inl asks)) = none Judge asks
 no_row words none (inr (inr (inl (form, asks)))) = none (Report form) asks
 no_row words none (inr (inr (inr (inl (seed, count, k, asks))))) = none (Trial seed count k) asks
 no_row words none (inr (inr (inr (inr (inl (k, rounds, asks)))))) = none (Bait k rounds) asks
-no_row words none (inr (inr (inr (inr (inr (question, asks)))))) = none (Ask question) asks
+no_row words none (inr (inr (inr (inr (inr (inl (question, asks))))))) = none (Ask question) asks
+no_row words none (inr (inr (inr (inr (inr (inr asks)))))) = none Lanes asks
 
 -- words that ask for something are a row
 pub are_row : (words : List (String Global)) (r : Request) → Asks words r → AreRow words
@@ -93,7 +96,8 @@ are_row words Judge asks = inr (inl asks)
 are_row words (Report form) asks = inr (inr (inl (form, asks)))
 are_row words (Trial seed count k) asks = inr (inr (inr (inl (seed, count, k, asks))))
 are_row words (Bait k rounds) asks = inr (inr (inr (inr (inl (k, rounds, asks)))))
-are_row words (Ask question) asks = inr (inr (inr (inr (inr (question, asks)))))
+are_row words (Ask question) asks = inr (inr (inr (inr (inr (inl (question, asks))))))
+are_row words Lanes asks = inr (inr (inr (inr (inr (inr asks)))))
 
 -- what words ask for is within the limits of its word
 pub may_carry : (words : List (String Global)) (r : Request) → Asks words r → MayCarry r
@@ -103,6 +107,7 @@ may_carry words (Report form) asks = tt
 may_carry words (Trial seed count k) asks = (asks.small, asks.few)
 may_carry words (Bait k rounds) asks = asks.some
 may_carry words (Ask question) asks = tt
+may_carry words Lanes asks = tt
 
 -- what holds of the numbers of a trial, as a fact on a request
 abbrev OfTrial : (ℕ → ℕ → Fraction → Type 0) → Request → Type 0
@@ -112,6 +117,7 @@ OfTrial P (Report form) = Unit {0}
 OfTrial P (Trial seed count k) = P seed count k
 OfTrial P (Bait k rounds) = Unit {0}
 OfTrial P (Ask question) = Unit {0}
+OfTrial P Lanes = Unit {0}
 
 -- equal trials have the same numbers
 pub trial_is : (P : ℕ → ℕ → Fraction → Type 0) (seed count seed' count' : ℕ) (k l : Fraction) → Trial seed count k ≡ Trial seed' count' l
@@ -126,6 +132,7 @@ OfBait P (Report form) = Unit {0}
 OfBait P (Trial seed count k) = Unit {0}
 OfBait P (Bait k rounds) = P k rounds
 OfBait P (Ask question) = Unit {0}
+OfBait P Lanes = Unit {0}
 
 -- equal baits have the same numbers
 pub bait_is : (P : Fraction → ℕ → Type 0) (k l : Fraction) (rounds rounds' : ℕ) → Bait k rounds ≡ Bait l rounds' → P k rounds → P l rounds'

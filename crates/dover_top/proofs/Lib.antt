@@ -1,3 +1,5 @@
 pub mod Settling
+pub mod LaneFeeds
+pub mod ServedLanes
 pub mod Asking
 pub mod Numbers

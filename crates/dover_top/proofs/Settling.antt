@@ -3,6 +3,7 @@ use Rattle.std.proofs.Common.{◌≡◌, ◌≤◌, ℕ, List, true, false, refl
 use Rattle.dover_model.specs.Instance.{Instance, IsValid}
 use Rattle.dover_model.specs.Session.{Session, instance_of}
 use Rattle.dover_model.specs.Verdict.{Accepted, Short, verdict}
+use Rattle.dover_model.specs.Due.{due}
 use Rattle.dover_model.specs.Feed.{Account, Standing, Open, Ended, Faulty, account, is_ended, is_open}
 use Rattle.dover_model.proofs.Accepting.{feed_hands, feed_accepted}
 use Rattle.dover_model.proofs.BoundLaws.{bound}
@@ -10,7 +11,7 @@ use Rattle.dover_model.proofs.Honest.{honest}
 use Rattle.dover_model.proofs.Onlines.{on_line}
 use Rattle.dover_model.proofs.Runs.{none_lost, all_value}
 use Rattle.dover_port.specs.Causes.{Rose, Causes, IsAnswer}
-use Rattle.dover_port.specs.Moves.{Move, ins, has_ended}
+use Rattle.dover_port.specs.Moves.{Move, ins, outs, has_ended}
 use Rattle.dover_port.specs.declared.status.Status.{Status}
 use Rattle.dover_port.specs.declared.status.Status.TheVariants.{Done, No, Refused, ReadFault, WriteFault, Memory, Usage}
 use Rattle.serve_word.specs.Delivered.{IsFaulty}
@@ -39,6 +40,7 @@ use Rattle.stated_word.specs.Lists.{trial_instance}
 use Rattle.stated_word.specs.Baited.{bait_instance, bait_text, size_text}
 use Rattle.dover_top.specs.Promises.{
   KeepsPromises,
+  IsTraceOf,
   IsTraced,
   IsSettled,
   IsAccepted,
@@ -69,20 +71,24 @@ promises_of J valid = record {
   all_value = all_value J valid;
 }
 
--- what was written is the trace of the session that was read
-pub traced : (moves : List Move) → IsDone moves → IsTraced moves
-traced moves done =
-    let hands = feed_hands (ins moves) done.ended in
-    let accepted = feed_accepted (ins moves) hands.session done.ended hands.has in
+-- what is due for a feed that ended is the trace of its session
+pub trace_of : (feed written : List ℕ) → is_ended (account feed) ≡ true → written ≡ due feed → IsTraceOf feed written
+trace_of feed written ended same =
+    let hands = feed_hands feed ended in
+    let accepted = feed_accepted feed hands.session ended hands.has in
     record {
       session = hands.session;
-      ended = done.ended;
+      ended = ended;
       named = hands.has;
       valid = hands.valid;
-      text = done.text ∙ accepted.1;
-      accepted = ap verdict done.text ∙ accepted.2;
+      text = same ∙ accepted.1;
+      accepted = ap verdict same ∙ accepted.2;
       promises = promises_of (instance_of hands.session) hands.valid.jobs;
     }
+
+-- what was written is the trace of the session that was read
+pub traced : (moves : List Move) → IsDone moves → IsTraced moves
+traced moves done = trace_of (ins moves) (outs moves) done.ended done.text
 
 -- the text that was read is the trace of a session
 pub accepted : (moves : List Move) → judged.IsDone moves → IsAccepted moves

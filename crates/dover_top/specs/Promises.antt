@@ -1,5 +1,5 @@
 -- What a served feed comes to.
-use Rattle.std.specs.Prelude.{◌≡◌, ℕ, List, true, false, ◌⊎◌, Some}
+use Rattle.std.specs.Prelude.{◌≡◌, ◌≢◌, ◌<◌, ℕ, List, [], true, false, ◌⊎◌, Some}
 use Rattle.std.specs.List.{sum_by}
 use Rattle.dover_model.specs.Instance.{Instance, IsValid}
 use Rattle.dover_model.specs.Session.{Session, IsValidSession, instance_of}
@@ -27,6 +27,10 @@ use Rattle.report_word.specs.declared.form.Form.{Form}
 use Rattle.dover_words.specs.declared.question.Question.{Question}
 use Rattle.dover_words.specs.Questions.{says}
 use Rattle.dover_words.specs.Record.{IsAnswered, IsRefusedFeed}
+use Rattle.lane_server.specs.Lanes.{Closed, lane_count, input}
+use Rattle.lanes_word.specs.Alone.{lane_feed, text_of_lane}
+use Rattle.lanes_word.specs.Record as lanes
+use Rattle.lanes_word.specs.Record.{IsClosed, closing_status}
 
 -- what stands of the run of a valid list of jobs
 pub record KeepsPromises (J : Instance) : Type 0 where
@@ -41,15 +45,19 @@ pub record KeepsPromises (J : Instance) : Type 0 where
   -- and the run completes all value.
   pub all_value : Meets J → completed_value J ≡ sum_by (λ j. j.value) J.jobs
 
--- the feed that was read ended without a fault, and the trace of its session was written
-pub record IsTraced (moves : List Move) : Type 0 where
+-- this feed ended without a fault, and this was written: the trace of its session
+pub record IsTraceOf (feed written : List ℕ) : Type 0 where
   pub session : Session
-  pub ended : is_ended (account (ins moves)) ≡ true
-  pub named : (account (ins moves)).session ≡ Some session
+  pub ended : is_ended (account feed) ≡ true
+  pub named : (account feed).session ≡ Some session
   pub valid : IsValidSession session
-  pub text : outs moves ≡ trace_of_session session
-  pub accepted : verdict (outs moves) ≡ Accepted session
+  pub text : written ≡ trace_of_session session
+  pub accepted : verdict written ≡ Accepted session
   pub promises : KeepsPromises (instance_of session)
+
+-- the feed that was read ended without a fault, and the trace of its session was written
+abbrev pub IsTraced : List Move → Type 0
+IsTraced moves = IsTraceOf (ins moves) (outs moves)
 
 -- A feed that ended has its trace, and one that has a fault or is short has its refusal, if there was memory.
 pub record IsSettled (status : Status) (moves : List Move) : Type 0 where
@@ -116,6 +124,27 @@ pub record IsTold (question : Question) (moves : List Move) : Type 0 where
 pub record IsAsked (question : Question) (status : Status) (moves : List Move) : Type 0 where
   pub ended : is_ended (account (ins moves)) ≡ true → IsAnswered (says question) status moves ⊎ (status ≡ Memory)
   pub refused : IsRefusedFeed moves → (status ≡ Refused) ⊎ (status ≡ Memory)
+
+-- the feed of a lane in what was read
+abbrev pub feed_in : List Move → ℕ → List ℕ
+feed_in moves lane = lane_feed (input (ins moves)) lane
+
+-- the session of lanes is over, and what stands on the output for a lane whose feed ended is the trace of that feed
+pub record AreServed (status : Status) (moves : List Move) : Type 0 where
+  pub over : IsClosed status moves
+  pub traced : (lane : ℕ) → lane < lane_count → is_ended (account (feed_in moves lane)) ≡ true
+      → IsTraceOf (feed_in moves lane) (text_of_lane lane (outs moves))
+
+-- it was closed, and the feed of each lane that has a line ended
+pub record AllServed (moves : List Move) : Type 0 where
+  pub served : AreServed Done moves
+  pub closed : (input (ins moves)).standing ≡ Closed
+  pub ended : (lane : ℕ) → lane < lane_count → feed_in moves lane ≢ [] → is_ended (account (feed_in moves lane)) ≡ true
+
+-- What was read is over, and has the status that it calls for, if there was memory.
+pub record AreSettled (status : Status) (moves : List Move) : Type 0 where
+  pub read : lanes.IsOver moves ⊎ (status ≡ Memory)
+  pub answered : lanes.IsOver moves → (status ≡ closing_status (input (ins moves))) ⊎ (status ≡ Memory)
 
 -- where no write failed, the baiting jobs that fit are told of, or there was no memory; others are refused
 pub record IsGiven (status : Status) (fits : Type 0) : Type 0 where

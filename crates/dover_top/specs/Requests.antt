@@ -2,9 +2,9 @@
 use Rattle.std.specs.Prelude.{◌^◌, ◌<◌, ◌≤◌, List, String}
 use Rattle.dover_model.specs.Limits.{most_jobs}
 use Rattle.std.specs.declared.alloc.Global.{Global}
-use Rattle.dover_top.specs.Words.{AsksServe, AsksJudge, AsksReport, AsksTrial, AsksBait, AsksQuestion}
+use Rattle.dover_top.specs.Words.{AsksServe, AsksJudge, AsksReport, AsksTrial, AsksBait, AsksQuestion, AsksLanes}
 use Rattle.dover_top.specs.declared.request.Request.{Request}
-use Rattle.dover_top.specs.declared.request.Request.TheVariants.{Serve, Judge, Report, Trial, Bait, Ask}
+use Rattle.dover_top.specs.declared.request.Request.TheVariants.{Serve, Judge, Report, Trial, Bait, Ask, Lanes}
 
 -- the words ask for this
 abbrev pub Asks : List (String Global) → Request → Type 0
@@ -14,6 +14,7 @@ Asks words (Report form) = AsksReport words form
 Asks words (Trial seed count k) = AsksTrial words seed count k
 Asks words (Bait k rounds) = AsksBait words k rounds
 Asks words (Ask question) = AsksQuestion words question
+Asks words Lanes = AsksLanes words
 
 -- the request is within the limits of its word
 abbrev pub MayCarry : Request → Type 0
@@ -23,3 +24,4 @@ MayCarry (Report form) = Unit {0}
 MayCarry (Trial seed count k) = (seed < 2 ^ 31) × (count ≤ most_jobs)
 MayCarry (Bait k rounds) = 1 ≤ rounds
 MayCarry (Ask question) = Unit {0}
+MayCarry Lanes = Unit {0}

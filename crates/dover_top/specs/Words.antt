@@ -53,9 +53,14 @@ question_word Compare = codes "compare"
 abbrev pub AsksQuestion : List (String Global) → Question → Type 0
 AsksQuestion words question = spelled words ≡ question_word question ∷ []
 
+-- the one word that asks for the serving of many feeds in one input
+abbrev pub AsksLanes : List (String Global) → Type 0
+AsksLanes words = spelled words ≡ codes "lanes" ∷ []
+
 -- the words are a row
 abbrev pub AreRow : List (String Global) → Type 0
 AreRow words = AsksServe words ⊎ AsksJudge words ⊎ ((form : Form) × AsksReport words form)
     ⊎ ((seed : ℕ) × (count : ℕ) × (k : Fraction) × AsksTrial words seed count k)
     ⊎ ((k : Fraction) × (rounds : ℕ) × AsksBait words k rounds)
     ⊎ ((question : Question) × AsksQuestion words question)
+    ⊎ AsksLanes words

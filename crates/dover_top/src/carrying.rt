@@ -18,12 +18,14 @@ ghost use Rattle.dover_words.specs.Compare.{IsFrugal};
 ghost use Rattle.dover_words.specs.Questions.{says, IsAnswerTo};
 ghost use Rattle.dover_words.specs.Record.{Tells};
 ghost use Rattle.dover_words.specs.declared.question.Question.{Question};
+ghost use Rattle.lanes_word.specs.Record as laned;
 ghost use Rattle.dover_top.specs.Requests.{MayCarry};
 
 use crate::request::Request;
 use dover_port::{Port, Status};
 use dover_words::question_word;
 use judge_word::judge_word;
+use lanes_word::lanes_word;
 use report_word::report_word;
 use serve_word::serve_word;
 use stated_word::{bait_word, trial_word};
@@ -56,6 +58,8 @@ pub(crate) fn carry_out<P: Port, L: Ledger>(
     ensures bait_answers { (k : Fraction) (rounds : ℕ) → request ≡ Request.Bait k rounds → stated.IsAnswerFor result (FitsLimits k rounds) }
     ensures tells { (question : Question) → request ≡ Request.Ask question → Since (P.moves port.old) (P.moves port.new) (Tells (says question) result) }
     ensures ask_answers { (question : Question) → request ≡ Request.Ask question → IsAnswerTo question result }
+    ensures serves_lanes { request ≡ Request.Lanes → Since (P.moves port.old) (P.moves port.new) (laned.Serves result) }
+    ensures lanes_answers { request ≡ Request.Lanes → IsAnswer result }
     ensures comparisons { request ≡ Request.Serve → Since (P.moves port.old) (P.moves port.new) (served.IsFrugal steps.old steps.new) }
     ensures trial_comparisons { (seed count : ℕ) (k : Fraction) → request ≡ Request.Trial seed count k → result ≡ Status.Done →
         AreFew count steps.old steps.new }
@@ -73,5 +77,6 @@ pub(crate) fn carry_out<P: Port, L: Ledger>(
         Request::Trial { seed, count, k } => trial_word(alloc, port, seed, count, k, steps),
         Request::Bait { k, rounds } => bait_word(alloc, port, k, rounds, steps),
         Request::Ask(question) => question_word(alloc, port, question, steps),
+        Request::Lanes => lanes_word(alloc, port, steps),
     }
 }

@@ -24,6 +24,8 @@ pub(crate) enum Request {
     Bait { k: Ratio, rounds: u32 },
     /// A question on a feed is answered.
     Ask(Question),
+    /// Many feeds in one input are served.
+    Lanes,
 }
 
 /// The most jobs, and the most rounds.
@@ -79,6 +81,9 @@ fn one_word(word: &String) -> Option<Request>
     }
     if is_word(word, "compare") {
         return Some(Request::Ask(Question::Compare));
+    }
+    if is_word(word, "lanes") {
+        return Some(Request::Lanes);
     }
     None
 }

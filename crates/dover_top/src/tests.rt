@@ -259,7 +259,7 @@ const TAKEN: &str =
     "dover 1 1 1\njob 0 0 3 30 3\nrun 0 0\njob 1 0 2 4 2\npreempt 0 0 1\njob 2 0 12 12 12\ntake 0 1 2\nabandon 2 1\ncomplete 12 2\nrun 12 0\ncomplete 15 0\nend 15\n";
 
 /// Words, what is read, how the call ends, and what is written.
-const CALLS: [(&[&str], &str, Status, &str); 20] = [
+const CALLS: [(&[&str], &str, Status, &str); 26] = [
     (
         &["report", "text"],
         TAKEN,
@@ -375,6 +375,41 @@ const CALLS: [(&[&str], &str, Status, &str); 20] = [
         Status::Done,
         "jobs 2\noptimum 21\nvalue 21\nbound 84\npiece 0 21 1\n",
     ),
+    // two lanes whose lines come in turn
+    (
+        &["lanes"],
+        "3 k 1 1\n0 k 1 1\n3 job 0 2 2 2\n0 job 0 4 10 4\n0 job 1 2 5 2\n3 end\n0 end\nclose\n",
+        Status::Done,
+        "3 dover 1 1 1\n0 dover 1 1 1\n3 job 0 0 2 2 2\n3 run 0 0\n0 job 0 0 4 10 4\n0 run 0 0\n0 job 1 1 2 5 2\n0 preempt 1 0 1\n3 complete 2 0\n3 end 2\n0 complete 3 1\n0 run 3 0\n0 complete 6 0\n0 end 6\n",
+    ),
+    // a fault in one lane leaves the other alone
+    (
+        &["lanes"],
+        "0 k 1 1\n5 k 1 1\n0 job 0 2 2 2\n5 job 0 01 5 1\n5 junk\n0 end\nclose\n",
+        Status::Refused,
+        "0 dover 1 1 1\n5 dover 1 1 1\n0 job 0 0 2 2 2\n0 run 0 0\n5 refused 2 line\n0 complete 2 0\n0 end 2\n",
+    ),
+    // a lane that is short at `close`, and no line behind it
+    (
+        &["lanes"],
+        "7 k 1 1\n63 k 1 1\n63 end\nclose\n64 x\n",
+        Status::Refused,
+        "7 dover 1 1 1\n63 dover 1 1 1\n63 end 0\n7 refused 2 short\n",
+    ),
+    // a line that is no lane's, the end of the input before `close`, and no lane at all
+    (
+        &["lanes"],
+        "0 k 1 1\n64 k 1 1\nclose\n",
+        Status::Refused,
+        "0 dover 1 1 1\nrefused 2 lane\n",
+    ),
+    (
+        &["lanes"],
+        "0 k 1 1\n0 end\n",
+        Status::Refused,
+        "0 dover 1 1 1\n0 end 0\nrefused 3 short\n",
+    ),
+    (&["lanes"], "close\n", Status::Done, ""),
 ];
 
 /// The baiting feed of ratio 1/1 with four rounds.
@@ -609,6 +644,7 @@ fn wrong_words(rt: HostRuntime) -> Result<(), Fail> {
         &["trial", "1", "1000001", "1", "1"][..],
         &["feasible", "best"][..],
         &["bests"][..],
+        &["lanes", "x"][..],
     ] {
         let words = words_of(alloc, texts)?;
         let script = pieces(alloc, "k 1 1\nend\n", 4096, 0)?;

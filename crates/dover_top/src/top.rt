@@ -1,6 +1,6 @@
 //! The call `dover`.
 ghost use Rattle.std.specs.Prelude.{◌≡◌, ◌≢◌, ◌⊎◌, ◌↔◌, ℕ, [], length};
-ghost use Rattle.dover_port.specs.Causes.{Rose};
+ghost use Rattle.dover_port.specs.Causes.{Rose, IsAnswer};
 ghost use Rattle.dover_port.specs.Moves.{Since, EachRead};
 ghost use Rattle.serve_word.specs.Record as served;
 ghost use Rattle.judge_word.specs.Record as judged;
@@ -19,8 +19,10 @@ ghost use Rattle.dover_words.specs.Compare.{IsFrugal};
 ghost use Rattle.dover_words.specs.Questions.{says, IsAnswerTo};
 ghost use Rattle.dover_words.specs.Record as asked;
 ghost use Rattle.dover_words.specs.declared.question.Question.{Question};
-ghost use Rattle.dover_top.specs.Promises.{IsTraced, IsSettled, IsAccepted, IsJudged, IsReported, IsSummed, IsBaited, IsTooLarge, IsCutShort, IsGiven, IsTold, IsAsked};
-ghost use Rattle.dover_top.specs.Words.{AsksServe, AsksJudge, AsksReport, AsksTrial, AsksBait, AsksQuestion, AreRow};
+ghost use Rattle.lanes_word.specs.Record as laned;
+ghost use Rattle.dover_top.specs.Promises.{IsTraced, IsSettled, IsAccepted, IsJudged, IsReported, IsSummed, IsBaited, IsTooLarge, IsCutShort};
+ghost use Rattle.dover_top.specs.Promises.{IsGiven, IsTold, IsAsked, AllServed, AreServed, AreSettled};
+ghost use Rattle.dover_top.specs.Words.{AsksServe, AsksJudge, AsksReport, AsksTrial, AsksBait, AsksQuestion, AsksLanes, AreRow};
 
 use crate::carrying::carry_out;
 use crate::request::asked;
@@ -37,14 +39,18 @@ use step_count::Steps;
 /// - `trial SEED COUNT P Q` reads nothing, and writes the summary of the run of so many stated jobs of a seed, within the ratio P/Q.
 /// - `bait P Q N` reads nothing, and writes what the run of the baiting jobs comes to, and what another schedule of them is worth.
 /// - `feasible` reads a feed, and writes a schedule that serves all its jobs, or a window in which they have more work than it has ticks.
-/// - `best` reads a feed of at most 20 jobs, and writes what the best schedule is worth, beside what the rules complete and guarantee, and such a schedule.
+/// - `best` reads a feed of at most 20 jobs, and writes what the best schedule is worth, beside what the rules complete and guarantee, and such a
+///   schedule.
 /// - `compare` reads a feed, and writes what the rules complete, and what two other policies do.
+/// - `lanes` reads up to 64 feeds in one input, each line with its lane's number in front, and serves each on its own: each line that is settled
+///   for a lane is written with the number in front, before the next read.
 ///
-/// The statuses: `Done` where the feed ended without a fault and its whole trace was written, where the text was accepted, the run was told, or the question answered; `No`
-/// where the text is wrong or short, or not all deadlines can be met; `Refused` at the feed's first faulty line, where the input ends before the `end` line, or where the jobs
-/// don't fit the limits of the word; `ReadFault` and `WriteFault`
-/// where a call of the port failed; `Memory` where there was none, which for a feed can't come before the ratio line; `Usage` exactly where
-/// the words are no row.
+/// The statuses: `Done` where the feed ended without a fault and its whole trace was written, where the text was accepted, the run was told, or the
+/// question answered, and for lanes where each that has a line ended without a fault before `close`; `No` where the text is wrong or short, or not
+/// all deadlines can be met; `Refused` at the feed's first faulty line, where the input ends before the `end` line, or where the jobs don't fit the
+/// limits of the word, and for lanes where one that has a line is faulty or not ended at `close`, at a fault of the whole input, or where it ends
+/// before `close`; `ReadFault` and `WriteFault` where a call of the port failed; `Memory` where there was none, which with `serve` can't come
+/// before the ratio line; `Usage` exactly where the words are no row.
 pub fn dover<P: Port, L: Ledger>(
     alloc: Global,
     words: &[String],
@@ -125,6 +131,19 @@ pub fn dover<P: Port, L: Ledger>(
     ensures question_memory { (question : Question) → AsksQuestion words.now question → result ≡ Status.Memory →
         Since (P.moves port.old) (P.moves port.new) asked.IsOutOfMemory }
 
+    // lanes: before each read what stands on the output is what is due for the input so far, and the session goes on.
+    ensures lanes_reads { AsksLanes words.now → Since (P.moves port.old) (P.moves port.new) (EachRead laned.MayRead) }
+
+    // What was read and written, by the status.
+    ensures lanes { AsksLanes words.now → result ≡ Status.Done → Since (P.moves port.old) (P.moves port.new) AllServed }
+    ensures lanes_refused { AsksLanes words.now → result ≡ Status.Refused →
+        Since (P.moves port.old) (P.moves port.new) (AreServed Status.Refused) }
+    ensures lanes_unread { AsksLanes words.now → result ≡ Status.ReadFault → Since (P.moves port.old) (P.moves port.new) laned.IsUnread }
+    ensures lanes_unwritten { AsksLanes words.now → result ≡ Status.WriteFault →
+        Since (P.moves port.old) (P.moves port.new) laned.IsUnwritten }
+    ensures lanes_memory { AsksLanes words.now → result ≡ Status.Memory →
+        Since (P.moves port.old) (P.moves port.new) laned.IsOutOfMemory }
+
     // How many comparisons a call makes: for n jobs at most 80 * (n + 1) * d, where n + 1 has at most d binary digits.
     ensures comparisons { AsksServe words.now → Since (P.moves port.old) (P.moves port.new) (served.IsFrugal steps.old steps.new) }
     ensures trial_comparisons { (seed count : ℕ) (k : Fraction) → AsksTrial words.now seed count k → result ≡ Status.Done →
@@ -149,6 +168,8 @@ pub fn dover<P: Port, L: Ledger>(
     ensures trial_answers { (seed count : ℕ) (k : Fraction) → AsksTrial words.now seed count k → stated.IsAnswer result }
     ensures bait_answers { (k : Fraction) (rounds : ℕ) → AsksBait words.now k rounds → stated.IsAnswerFor result (FitsLimits k rounds) }
     ensures question_answers { (question : Question) → AsksQuestion words.now question → IsAnswerTo question result }
+
+    ensures lanes_answers { AsksLanes words.now → IsAnswer result }
 
     // Where no count rose there is an answer, the one that the input calls for, or no memory.
     ensures complete { AsksServe words.now → (Rose (P.read_faults port.old) (P.read_faults port.new) → ⊥)
@@ -179,6 +200,12 @@ pub fn dover<P: Port, L: Ledger>(
     ensures question_complete { (question : Question) → AsksQuestion words.now question →
         (Rose (P.read_faults port.old) (P.read_faults port.new) → ⊥) → (Rose (P.write_faults port.old) (P.write_faults port.new) → ⊥) →
         (result ≡ Status.Done) ⊎ (result ≡ Status.No) ⊎ (result ≡ Status.Refused) ⊎ (result ≡ Status.Memory) }
+    ensures lanes_settled { AsksLanes words.now → (Rose (P.read_faults port.old) (P.read_faults port.new) → ⊥)
+        → (Rose (P.write_faults port.old) (P.write_faults port.new) → ⊥)
+        → Since (P.moves port.old) (P.moves port.new) (AreSettled result) }
+    ensures lanes_complete { AsksLanes words.now → (Rose (P.read_faults port.old) (P.read_faults port.new) → ⊥)
+        → (Rose (P.write_faults port.old) (P.write_faults port.new) → ⊥)
+        → (result ≡ Status.Done) ⊎ (result ≡ Status.Refused) ⊎ (result ≡ Status.Memory) }
 {
     match asked(words) {
         Some(request) => carry_out(alloc, request, port, steps),

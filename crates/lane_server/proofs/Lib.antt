@@ -5,3 +5,5 @@ pub mod Adding
 pub mod Taking
 pub mod Handing
 pub mod Keeping
+pub mod Fine
+pub mod Few

@@ -24,6 +24,10 @@ pub record Kept : Type 0 where
 abbrev pub AllQuiet : List Lane → List Handed → Type 0
 AllQuiet lanes handed = (i : ℕ) (lane : Lane) → slice_get lanes i ≡ Some lane → IsQuiet lane (lane_lines handed i)
 
+-- every lane was handed its lines
+abbrev pub AllStand : List Lane → List Handed → Type 0
+AllStand lanes handed = (i : ℕ) (lane : Lane) → slice_get lanes i ≡ Some lane → (rest : List (List ℕ)) × Stands lane (lane_lines handed i) rest
+
 -- this lane has lines left, and every other has given all
 pub record OneGives (lanes : List Lane) (handed : List Handed) (giving : ℕ) (left : List (List ℕ)) : Type 0 where
   pub within : giving < lane_count

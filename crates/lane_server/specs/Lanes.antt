@@ -162,5 +162,5 @@ is_fine [] = true
 is_fine (l ∷ ls) = is_ended (account_of_lines (l ∷ ls))
 
 -- each lane that has a line is ended without a fault
-abbrev pub all_ended : List Handed → Bool
+unfoldable pub all_ended : List Handed → Bool
 all_ended handed = list_all (λ lane. is_fine (lane_lines handed lane)) (range_with_len 0 lane_count)

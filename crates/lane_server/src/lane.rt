@@ -2,7 +2,7 @@
 ghost use Rattle.std.specs.Prelude.{◌≡◌, ℕ, List, [], ◌∷◌, ◌++◌, true, OnOk};
 ghost use Rattle.dover_model.specs.Feed.{Account};
 ghost use Rattle.event_feed.specs.Answers.{DeclaresRatio, AddsJob, IsFed, counted};
-ghost use Rattle.lane_server.specs.Lanes.{lines_added, feed_short};
+ghost use Rattle.lane_server.specs.Lanes.{lines_added, feed_short, is_fine};
 ghost use Rattle.lane_server.specs.Lane.{Stands, IsQuiet, Gives, IsOpenAt, Adds};
 ghost use Rattle.lane_server.specs.Shorts.{short_texts};
 ghost use Rattle.lane_server.specs.declared.lane.Work.TheVariants.{Settle, Admit, Finish};
@@ -216,6 +216,16 @@ impl Lane {
         match self.intake.end() {
             Err(fault) if fault.line > 1 => Some(fault.line),
             _ => None,
+        }
+    }
+
+    /// Whether the feed has no line, or was ended without a fault.
+    pub(crate) fn is_fine(&self) -> bool
+        ensures { (ls rest : List (List ℕ)) → Stands self.now ls rest → result ≡ is_fine ls }
+    {
+        match self.intake.end() {
+            Ok(()) => true,
+            Err(fault) => self.is_open && fault.line == 1,
         }
     }
 }

@@ -1,7 +1,7 @@
 //! The lanes of one input.
 ghost use Rattle.std.specs.Prelude.{◌≡◌, ◌<◌, ◌≤◌, ℕ, List, [], length, IfOk, IfSome, IsNone, Some, Ok, false};
-ghost use Rattle.lane_server.specs.Lanes.{lane_count, OfLane, Close, lane_line, Handed};
-ghost use Rattle.lane_server.specs.Kept.{AllQuiet};
+ghost use Rattle.lane_server.specs.Lanes.{lane_count, OfLane, Close, lane_line, Handed, input_of_lines, all_ended};
+ghost use Rattle.lane_server.specs.Kept.{AllQuiet, AllStand};
 ghost use Rattle.lane_server.specs.Shorts.{IsFirstShort};
 ghost use Rattle.lane_server.specs.declared.lanes.Phase.TheVariants.{Giving, Closing};
 
@@ -89,6 +89,19 @@ fn next_short(lanes: &[Lane], from: u8) -> Option<(u8, u64)>
         }
     }
     None
+}
+
+/// Whether each lane that has a line is ended without a fault.
+fn all_fine(lanes: &[Lane]) -> bool
+    requires { length lanes.now ≡ lane_count }
+    ensures { (handed : List Handed) → AllStand lanes.now handed → result ≡ all_ended handed }
+{
+    for lane in 0..LANES {
+        if !lanes[usize::from(lane)].is_fine() {
+            return false;
+        }
+    }
+    true
 }
 
 impl Lanes {
@@ -200,5 +213,20 @@ impl Lanes {
             Phase::Giving(lane) => self.give(lane, steps),
             Phase::Closing(lane) => self.give_short(lane),
         }
+    }
+
+    /// How many good lines were taken, `close` among them.
+    pub fn lines(&self) -> u64
+        ensures { result ≡ self.now.lines }
+    {
+        self.lines
+    }
+
+    /// Whether each lane that has a line is ended without a fault.
+    pub fn all_ended(&self) -> bool
+        requires { (ls : List (List ℕ)) × (rest : List (List ℕ)) × StandsFor self.now ls rest }
+        ensures { (ls rest : List (List ℕ)) → StandsFor self.now ls rest → result ≡ all_ended (input_of_lines ls).handed }
+    {
+        all_fine(&self.lanes)
     }
 }

@@ -34,11 +34,12 @@ fn drain<L: Ledger>(
     Ok(false)
 }
 
-// What an input gives, and the last answer.
+// What an input gives, the last answer, and at `close` whether all lanes are ended.
 #[derive(Drop)]
 struct Outcome {
     outs: Vec<(u8, LaneOut)>,
     last: Option<Result<LaneStep, LaneFault>>,
+    ended: Option<bool>,
 }
 
 fn outcome_in<L: Ledger>(alloc: Global, lines: &[&[u8]], blank: Blank) -> Result<Outcome, Memory>
@@ -50,6 +51,7 @@ fn outcome_in<L: Ledger>(alloc: Global, lines: &[&[u8]], blank: Blank) -> Result
     let mut lanes = Lanes::new(alloc)?;
     let mut outs = Vec::new(alloc);
     let mut last = None;
+    let mut ended = None;
     for line in lines {
         let answer = lanes.line(line);
         last = Some(answer);
@@ -59,10 +61,14 @@ fn outcome_in<L: Ledger>(alloc: Global, lines: &[&[u8]], blank: Blank) -> Result
         let all = drain(&mut lanes, &mut steps, &mut outs)?;
         match step {
             LaneStep::Fed(_) if all => {}
+            LaneStep::Closed if all => {
+                ended = Some(lanes.all_ended());
+                break;
+            }
             _ => break,
         }
     }
-    Ok(Outcome { outs, last })
+    Ok(Outcome { outs, last, ended })
 }
 
 fn run(alloc: Global, lines: &[&[u8]]) -> Result<Outcome, Memory> {
@@ -107,6 +113,7 @@ fn a_fault_is_that_of_its_lane(rt: HostRuntime) -> Result<(), Fail> {
     ];
     assert_eq!(rt; seen.outs.as_slice(), want.as_slice());
     assert_eq!(rt; seen.last, Some(Ok(LaneStep::Closed)));
+    assert_eq!(rt; seen.ended, Some(false));
     let alone = run(
         rt.alloc(),
         &[b"0 k 1 1", b"0 job 0 2 2 2", b"0 end", b"close"],
@@ -120,6 +127,7 @@ fn a_fault_is_that_of_its_lane(rt: HostRuntime) -> Result<(), Fail> {
     ];
     assert_eq!(rt; alone.outs.as_slice(), of_lane.as_slice());
     assert_eq!(rt; alone.last, Some(Ok(LaneStep::Closed)));
+    assert_eq!(rt; alone.ended, Some(true));
     Ok(())
 }
 

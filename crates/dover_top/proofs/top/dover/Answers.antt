@@ -1,6 +1,6 @@
 use Rattle.std.proofs.Common.{refl, subst}
 use Rattle.dover_port.proofs.Made.{since_weaker}
-use Rattle.dover_port.specs.declared.status.Status.TheVariants.{Done}
+use Rattle.dover_port.specs.declared.status.Status.TheVariants.{Done, Refused}
 use Rattle.judge_word.specs.Record as judged
 use Rattle.report_word.specs.Record as told
 use Rattle.adversary.specs.Baiting.{FitsLimits}
@@ -8,9 +8,10 @@ use Rattle.dover_model.specs.Reports.{summary}
 use Rattle.stated_word.specs.Record as stated
 use Rattle.dover_words.specs.Questions.{says}
 use Rattle.dover_words.specs.Record as asked
+use Rattle.lanes_word.specs.Record as laned
 use Rattle.stated_word.specs.Lists.{trial_instance}
 use Rattle.stated_word.specs.Baited.{bait_text, size_text}
-use Rattle.dover_top.specs.declared.request.Request.TheVariants.{Serve, Judge, Report, Trial, Bait, Ask}
+use Rattle.dover_top.specs.declared.request.Request.TheVariants.{Serve, Judge, Report, Trial, Bait, Ask, Lanes}
 use Rattle.dover_top.proofs.Asking.{asks_one, no_row, are_row, may_carry}
 use Rattle.dover_top.proofs.Settling.{
   at_status,
@@ -29,7 +30,9 @@ use Rattle.dover_top.proofs.Settling.{
   told_so,
   asked_so,
   asked_all,
+  complete,
 }
+use Rattle.dover_top.proofs.ServedLanes.{served_so, all_served, lanes_so}
 use Rattle.dover_top.proofs.top.dover.Goals as goal
 
 pub returns-in-Some-clause-done : goal.returns-in-Some-clause-done
@@ -248,3 +251,47 @@ returns-in-None-clause-question_settled g c = λ question asks read write. absur
 
 pub returns-in-None-clause-question_complete : goal.returns-in-None-clause-question_complete
 returns-in-None-clause-question_complete g c = λ question asks read write. absurd (c.in-None.ensures.none refl (Ask question) asks)
+
+pub returns-in-Some-clause-lanes_reads : goal.returns-in-Some-clause-lanes_reads
+returns-in-Some-clause-lanes_reads g c = λ asks. since_weaker _ _ _ _
+    (c.carry_out.ensures.serves_lanes (asks_one _ _ Lanes c.in-Some.ensures.some asks)) (λ xs s. s.reads)
+
+pub returns-in-Some-clause-lanes : goal.returns-in-Some-clause-lanes
+returns-in-Some-clause-lanes g c = λ asks e. since_weaker _ _ _ _
+    (c.carry_out.ensures.serves_lanes (asks_one _ _ Lanes c.in-Some.ensures.some asks)) (λ xs s. all_served xs (subst (λ t. laned.Ends t xs) e s.ends))
+
+pub returns-in-Some-clause-lanes_refused : goal.returns-in-Some-clause-lanes_refused
+returns-in-Some-clause-lanes_refused g c = λ asks e. since_weaker _ _ _ _
+    (c.carry_out.ensures.serves_lanes (asks_one _ _ Lanes c.in-Some.ensures.some asks)) (λ xs s. served_so Refused xs (subst (λ t. laned.Ends t xs) e s.ends))
+
+pub returns-in-Some-clause-lanes_unread : goal.returns-in-Some-clause-lanes_unread
+returns-in-Some-clause-lanes_unread g c = λ asks e. since_weaker _ _ _ _
+    (c.carry_out.ensures.serves_lanes (asks_one _ _ Lanes c.in-Some.ensures.some asks)) (λ xs s. subst (λ t. laned.Ends t xs) e s.ends)
+
+pub returns-in-Some-clause-lanes_unwritten : goal.returns-in-Some-clause-lanes_unwritten
+returns-in-Some-clause-lanes_unwritten g c = λ asks e. since_weaker _ _ _ _
+    (c.carry_out.ensures.serves_lanes (asks_one _ _ Lanes c.in-Some.ensures.some asks)) (λ xs s. subst (λ t. laned.Ends t xs) e s.ends)
+
+pub returns-in-Some-clause-lanes_memory : goal.returns-in-Some-clause-lanes_memory
+returns-in-Some-clause-lanes_memory g c = λ asks e. since_weaker _ _ _ _
+    (c.carry_out.ensures.serves_lanes (asks_one _ _ Lanes c.in-Some.ensures.some asks)) (λ xs s. subst (λ t. laned.Ends t xs) e s.ends)
+
+pub returns-in-Some-clause-lanes_settled : goal.returns-in-Some-clause-lanes_settled
+returns-in-Some-clause-lanes_settled g c = λ asks read write. since_weaker _ _ _ _
+    (c.carry_out.ensures.serves_lanes (asks_one _ _ Lanes c.in-Some.ensures.some asks)) (λ xs s. lanes_so _ _ _ _ _ c.carry_out.ensures.causes read write xs s)
+
+pub returns-in-Some-clause-lanes_answers : goal.returns-in-Some-clause-lanes_answers
+returns-in-Some-clause-lanes_answers g c = λ asks. c.carry_out.ensures.lanes_answers (asks_one _ _ Lanes c.in-Some.ensures.some asks)
+
+pub returns-in-Some-clause-lanes_complete : goal.returns-in-Some-clause-lanes_complete
+returns-in-Some-clause-lanes_complete g c = λ asks read write. complete _ _ _ _ _
+    (c.carry_out.ensures.lanes_answers (asks_one _ _ Lanes c.in-Some.ensures.some asks)) c.carry_out.ensures.causes read write
+
+pub returns-in-None-clause-lanes_answers : goal.returns-in-None-clause-lanes_answers
+returns-in-None-clause-lanes_answers g c = λ asks. absurd (c.in-None.ensures.none refl Lanes asks)
+
+pub returns-in-None-clause-lanes_settled : goal.returns-in-None-clause-lanes_settled
+returns-in-None-clause-lanes_settled g c = λ asks read write. absurd (c.in-None.ensures.none refl Lanes asks)
+
+pub returns-in-None-clause-lanes_complete : goal.returns-in-None-clause-lanes_complete
+returns-in-None-clause-lanes_complete g c = λ asks read write. absurd (c.in-None.ensures.none refl Lanes asks)

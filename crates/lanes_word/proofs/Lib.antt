@@ -1,0 +1,10 @@
+pub mod Feedless
+pub mod OfLane
+pub mod Alone
+pub mod Inputs
+pub mod Delivering
+pub mod Texts
+pub mod Turns
+pub mod Records
+pub mod Giving
+pub mod Ending

@@ -1,0 +1,18 @@
+use Rattle.std.proofs.Common.{◌≡◌, ◌≤◌, ◌-◌, ℕ, List, [], length}
+use Rattle.dover_port.specs.Moves.{Since}
+use Rattle.lanes_word.specs.Keeping.{Stands}
+use Rattle.lanes_word.specs.Turning.{GoesOn}
+use Rattle.lanes_word.proofs.lanes.lanes_word.Given as goal
+
+-- The input goes on, what is due for it was put, and each read gave a byte.
+abbrev pub invariant-loop-reads : goal.invariant-loop-reads
+invariant-loop-reads g l = record {
+  moves : Since (g.P.Port.moves l.initial.port) (g.P.Port.moves l.port) (GoesOn l.session);
+  empty : l.out ≡ [];
+  stands : (x : List ℕ) × (l.reads ≤ length x) × Stands l.session x;
+  read_faults : g.P.Port.read_faults l.port ≡ g.P.Port.read_faults l.initial.port;
+  write_faults : g.P.Port.write_faults l.port ≡ g.P.Port.write_faults l.initial.port;
+}
+
+abbrev pub decreases-loop-reads : goal.decreases-loop-reads
+decreases-loop-reads g l = 516_000_129 - l.reads

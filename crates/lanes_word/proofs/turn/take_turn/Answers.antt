@@ -1,0 +1,29 @@
+use Rattle.std.proofs.Common.{Ok, ap}
+use Rattle.lanes_word.proofs.Turns.{turn_made, turn_unflushed, turn_unwritten, turn_no_memory, some_front, ends_well}
+use Rattle.lanes_word.proofs.turn.take_turn.Goals as goal
+
+pub returns-in-Ok-flush-clause-makes : goal.returns-in-Ok-flush-clause-makes
+returns-in-Ok-flush-clause-makes g c = λ x stands. rw c.turn_of.ensures
+    (turn_made _ _ _ x _ (some_front _ _ c.if-count-eq0.false c.in-Ok.ensures.bound) c.in-Ok.ensures.moved _ _ _
+    c.in-Ok-take_piece.progress (rw c.requires.empty at (c.in-Ok-take_piece.ensures.delivers x stands))
+    (λ is. c.in-Ok-take_piece.ensures.stands x stands (ap Ok is)) c.in-Ok-flush.ensures.text.all)
+
+pub returns-in-Ok-flush-clause-over : goal.returns-in-Ok-flush-clause-over
+returns-in-Ok-flush-clause-over g c = rw c.turn_of.ensures (ends_well c.in-Ok-take_piece.progress _ _ _ _ _ _
+    (c.in-Ok-take_piece.ensures.delivers c.requires.stands.0 c.requires.stands.1))
+
+pub returns-in-Err-clause-makes : goal.returns-in-Err-clause-makes
+returns-in-Err-clause-makes g c = λ x stands.
+    turn_unflushed _ _ _ x _ (some_front _ _ c.if-count-eq0.false c.in-Ok.ensures.bound) c.in-Ok.ensures.moved _ _
+    c.take_piece.new.session c.in-Ok-take_piece.progress
+    (rw c.requires.empty at (c.in-Ok-take_piece.ensures.delivers x stands)) c.in-Err.ensures.text.part
+
+pub returns-in-Err-NoMemory-clause-makes : goal.returns-in-Err-NoMemory-clause-makes
+returns-in-Err-NoMemory-clause-makes g c = λ x stands.
+    turn_no_memory _ _ _ x _ (some_front _ _ c.if-count-eq0.false c.in-Ok.ensures.bound) c.in-Ok.ensures.moved _
+    c.take_piece.new.session (rw (c.in-Err-NoMemory.field-0-is, c.requires.empty) at (c.in-Err-NoMemory.ensures.delivers x stands))
+
+pub returns-in-Err-Unwritten-clause-makes : goal.returns-in-Err-Unwritten-clause-makes
+returns-in-Err-Unwritten-clause-makes g c = λ x stands.
+    turn_unwritten _ _ _ x _ (some_front _ _ c.if-count-eq0.false c.in-Ok.ensures.bound) c.in-Ok.ensures.moved _
+    c.take_piece.new.session (rw (c.in-Err-Unwritten.field-0-is, c.requires.empty) at (c.in-Err-Unwritten.ensures.delivers x stands))

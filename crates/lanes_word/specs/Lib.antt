@@ -1,0 +1,5 @@
+pub mod Alone
+pub mod Record
+pub mod Delivered
+pub mod Keeping
+pub mod Turning
