@@ -1,0 +1,147 @@
+-- A job may follow valid ones where they are valid with it, and exactly then its line has no cause.
+use Rattle.std.proofs.Common.{◌≡◌, ℕ, ◌≤◌, List, [], ◌∷◌, ◌++◌, length, length-append, refl, sym, ap, ◌∙◌, subst}
+use Rattle.std.proofs.Common.{Bool, true, false, cond, arith, Option, Some, None}
+use Rattle.std.specs.Prelude.{nat_lt}
+use Rattle.std.specs.List.{AllByRecursion, fold}
+use Rattle.std.specs.Option.{option_map}
+use Rattle.std.proofs.lemmas.Bool.{le-ltb, ltb-false}
+use Rattle.std.proofs.lemmas.List.Sums.{fold-append, sum_by-append, sum_by-cons}
+use Rattle.dover_model.specs.declared.events.Refusal.{Refusal}
+use Rattle.dover_model.specs.declared.events.Task.{Task}
+use Rattle.dover_model.specs.JobFacts.{JobFacts, IsJob}
+use Rattle.dover_model.specs.Instance.{Instance, IsInOrder, IsWithinRatio, IsValid, with_jobs, total_value}
+use Rattle.dover_model.specs.Admission.{is_within_ratio_both_ways, refusal_of}
+use Rattle.dover_model.specs.Session.{admitted_jobs}
+use Rattle.dover_model.specs.Sound.{jobs_of}
+use Rattle.dover_model.specs.FeedLine.{JobLine}
+use Rattle.dover_model.specs.Feed.{Cause, Order, NotAdmitted, later_line_cause}
+use Rattle.dover_model.proofs.Tests.{both}
+use Rattle.dover_model.proofs.Agreement.{is_within_ratio-agrees}
+use Rattle.dover_model.proofs.Admitting.{admits}
+use Rattle.dover_model.proofs.JobSessions.{jobs_back}
+use Rattle.dover_model.proofs.Valid.{all_front, all_from}
+use Rattle.admission.proofs.Refusing.{not_refused}
+use Rattle.snapshot.specs.Snapshot.{Head}
+use Rattle.snapshot.specs.Reading.{stored, last_release}
+use Rattle.snapshot.specs.Stored.{stored_session}
+
+-- ---- a valid job is admitted
+
+-- what holds of all holds of the last
+pub all_last : {X : Type 0} (P : X → Type 0) (xs : List X) (y : X) → AllByRecursion P (xs ++ y ∷ []) → P y
+all_last P [] y all = all.0
+all_last P (x ∷ xs) y all = all_last P xs y all.1
+
+-- what holds of each with the last, and of the last with each
+all_pairs : {X : Type 0} (R : X → X → Type 0) (xs : List X) (y : X) → AllByRecursion (λ x. AllByRecursion (R x) (xs ++ y ∷ [])) (xs ++ y ∷ [])
+    → AllByRecursion (λ x. R x y × R y x) xs
+all_pairs R xs y all = pairs xs (all_front (λ x. AllByRecursion (R x) (xs ++ y ∷ [])) xs (y ∷ []) all)
+    (all_front (R y) xs (y ∷ []) (all_last (λ x. AllByRecursion (R x) (xs ++ y ∷ [])) xs y all)) where
+      pairs : (us : List _) → AllByRecursion (λ x. AllByRecursion (R x) (xs ++ y ∷ [])) us → AllByRecursion (R y) us
+          → AllByRecursion (λ x. R x y × R y x) us
+      pairs [] one other = tt
+      pairs (u ∷ us) one other = ((all_last (R u) xs y one.0, other.0), pairs us one.1 other.1)
+
+-- a job that is valid behind others isn't refused
+valid_admitted : (J : Instance) (j : JobFacts) → IsValid (with_jobs J (j ∷ [])) → refusal_of J.rules.ratio J.jobs j ≡ None
+valid_admitted J j valid = not_refused J.rules.ratio J.jobs j (all_last IsJob J.jobs j valid.each)
+    (let most : length (J.jobs ++ j ∷ []) ≤ 1_000_000 = valid.count in omega (arith, length-append J.jobs (j ∷ [])))
+    (let most : total_value (J.jobs ++ j ∷ []) ≤ 10_000_000_000_000 = valid.total in
+    omega (arith, sum_by-append (λ (i : JobFacts). i.value) J.jobs (j ∷ []), sum_by-cons (λ (i : JobFacts). i.value) j []))
+    (keeps J.jobs (all_pairs (IsWithinRatio J.rules.ratio) J.jobs j valid.densities)) where
+      keeps : (jobs : List JobFacts) → AllByRecursion (λ i. IsWithinRatio J.rules.ratio i j × IsWithinRatio J.rules.ratio j i) jobs
+          → AllByRecursion (λ i. is_within_ratio_both_ways J.rules.ratio i j ≡ true) jobs
+      keeps [] all = tt
+      keeps (i ∷ jobs) all = (
+        (both _ _ (is_within_ratio-agrees J.rules.ratio i j) (is_within_ratio-agrees J.rules.ratio j i)).1 all.0,
+        keeps jobs all.1,
+      )
+
+-- ---- in order of release
+
+-- the last release with one job more
+pub last_more : (tasks : List Task) (t : Task) → last_release (tasks ++ t ∷ []) ≡ t.job.release
+last_more tasks t = fold-append (λ (last : ℕ) (u : Task). u.job.release) 0 tasks (t ∷ [])
+
+-- the jobs of a longer list
+pub jobs_more : (tasks : List Task) (t : Task) → jobs_of (tasks ++ t ∷ []) ≡ jobs_of tasks ++ t.job ∷ []
+jobs_more [] t = refl
+jobs_more (u ∷ tasks) t = ap (λ jobs. u.job ∷ jobs) (jobs_more tasks t)
+
+-- the last release of jobs behind others, which isn't below an earlier one
+abbrev last_from : ℕ → List Task → ℕ
+last_from from tasks = fold (λ last t. t.job.release) from tasks
+
+-- a number is at most itself
+itself : (n : ℕ) → n ≤ n
+itself n = omega arith
+
+-- each release is at most the last
+up_to_last : (from : ℕ) (tasks : List Task) → AllByRecursion (λ (j : JobFacts). from ≤ j.release) (jobs_of tasks) → IsInOrder (jobs_of tasks)
+    → (from ≤ last_from from tasks) × AllByRecursion (λ (j : JobFacts). j.release ≤ last_from from tasks) (jobs_of tasks)
+up_to_last from [] above order = (itself from, tt)
+up_to_last from (t ∷ tasks) above order =
+    let more = up_to_last t.job.release tasks order.0 order.1 in (omega (arith, above.0, more.0), (more.0, more.1))
+
+-- the last is no more than what all are
+last_below : (most from : ℕ) (tasks : List Task) → AllByRecursion (λ (j : JobFacts). j.release ≤ most) (jobs_of tasks) → from ≤ most
+    → last_from from tasks ≤ most
+last_below most from [] all low = low
+last_below most from (t ∷ tasks) all low = last_below most t.job.release tasks all.1 all.0
+
+-- before a last job in order, no release is above its own
+before_last : (jobs : List JobFacts) (j : JobFacts) → IsInOrder (jobs ++ j ∷ []) → AllByRecursion (λ i. i.release ≤ j.release) jobs
+before_last [] j order = tt
+before_last (i ∷ jobs) j order = (all_last (λ later. i.release ≤ later.release) jobs j order.0, before_last jobs j order.1)
+
+-- ---- the cause of a job's line
+
+module _ (h : Head) (tasks : List Task) (t : Task) where
+  -- the cause of the job's line behind those of the jobs before it
+  abbrev pub job_cause : Option Cause
+  job_cause = later_line_cause (stored_session h tasks) (last_release tasks) (JobLine t.job)
+
+  -- the cause, where the release isn't below the last
+  cause_in_order : last_release tasks ≤ t.job.release
+      → job_cause ≡ option_map NotAdmitted (refusal_of h.rules.ratio (jobs_of tasks) t.job)
+  cause_in_order ordered =
+      ap (λ b. cond b (Some Order) (option_map NotAdmitted (refusal_of h.rules.ratio (admitted_jobs (stored_session h tasks).items) t.job)))
+      (le-ltb t.job.release (last_release tasks) ordered)
+      ∙ ap (λ jobs. option_map NotAdmitted (refusal_of h.rules.ratio jobs t.job)) (jobs_back (jobs_of tasks))
+
+  -- the jobs with this one
+  pub with_this : stored h (tasks ++ t ∷ []) ≡ with_jobs (stored h tasks) (t.job ∷ [])
+  with_this = ap (λ jobs. record { rules = h.rules; jobs = jobs }) (jobs_more tasks t)
+
+  -- where they are valid, the last release isn't above its own
+  pub valid_ordered : IsValid (stored h (tasks ++ t ∷ [])) → last_release tasks ≤ t.job.release
+  valid_ordered valid = last_below t.job.release 0 tasks (before_last (jobs_of tasks) t.job (subst IsValid with_this valid).in_order) (omega arith)
+
+  -- and there is no cause
+  pub valid_no_cause : IsValid (stored h (tasks ++ t ∷ [])) → job_cause ≡ None
+  valid_no_cause valid = cause_in_order (valid_ordered valid)
+      ∙ ap (option_map NotAdmitted) (valid_admitted (stored h tasks) t.job (subst IsValid with_this valid))
+
+  -- where there is no cause, they are valid
+  pub no_cause_valid : IsValid (stored h tasks) → job_cause ≡ None → IsValid (stored h (tasks ++ t ∷ []))
+  no_cause_valid valid none = by_order (nat_lt t.job.release (last_release tasks)) refl none where
+    refusal : Option Refusal
+    refusal = refusal_of h.rules.ratio (admitted_jobs (stored_session h tasks).items) t.job
+
+    not_any : (o : Option Refusal) → option_map NotAdmitted o ≡ None → o ≡ None
+    not_any None e = refl
+    not_any (Some r) e = absurd (let clash : Some (NotAdmitted r) ≡ None = e in cc)
+
+    by_order : (b : Bool) → nat_lt t.job.release (last_release tasks) ≡ b → cond b (Some Order) (option_map NotAdmitted refusal) ≡ None
+        → IsValid (stored h (tasks ++ t ∷ []))
+    by_order true falls e = absurd (let clash : Some Order ≡ None = e in cc)
+    by_order false ordered e =
+        let last : last_release tasks ≤ t.job.release = ltb-false _ _ ordered in
+        let all : AllByRecursion (λ (j : JobFacts). j.release ≤ last_release tasks) (jobs_of tasks) =
+        (up_to_last 0 tasks (from_zero (jobs_of tasks)) valid.in_order).1 in
+        subst IsValid (sym with_this) (admits h.rules (jobs_of tasks) t.job valid
+        (all_from (λ (j : JobFacts). j.release ≤ last_release tasks) (λ j. j.release ≤ t.job.release) (jobs_of tasks) (λ j low. omega arith) all)
+        (ap (λ jobs. refusal_of h.rules.ratio jobs t.job) (sym (jobs_back (jobs_of tasks))) ∙ not_any refusal e)) where
+          from_zero : (jobs : List JobFacts) → AllByRecursion (λ (j : JobFacts). 0 ≤ j.release) jobs
+          from_zero [] = tt
+          from_zero (j ∷ jobs) = (omega arith, from_zero jobs)

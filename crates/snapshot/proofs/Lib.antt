@@ -1,0 +1,14 @@
+mod SnapshotRows
+mod ReadingRows
+mod Spelled
+mod Written
+mod Storing
+mod Admitted
+mod Handing
+mod Formed
+mod Serving
+mod Handed
+mod Beginning
+mod Comparing
+mod Stepping
+mod Finishing

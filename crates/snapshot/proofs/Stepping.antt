@@ -1,0 +1,98 @@
+-- What a reader keeps with one line more, and when the line is refused.
+use Rattle.std.proofs.Common.{◌≡◌, ℕ, ◌+◌, ◌≤◌, ◌<◌, List, [], ◌∷◌, ◌++◌, length, refl, sym, ap, ◌∙◌, subst, Bool, true, false, ◌&&◌, arith}
+use Rattle.std.proofs.Common.{Some, None}
+use Rattle.std.specs.Prelude.{nat_le, ◌==◌}
+use Rattle.std.proofs.lemmas.Bool.{eq-eqb, eqb-true, le-leb, leb-true, and_parts}
+use Rattle.std.proofs.lemmas.List.{map-append}
+use Rattle.dover_model.specs.declared.events.Task.{Task}
+use Rattle.dover_model.specs.JobFacts.{JobFacts, job_numbers}
+use Rattle.dover_model.specs.Instance.{IsValid, is_valid}
+use Rattle.dover_model.specs.Numerals.{AreShort}
+use Rattle.dover_model.proofs.Agreement.{is_valid-agrees}
+use Rattle.dover_model.proofs.Honest.{count_jobs}
+use Rattle.snapshot.specs.Snapshot.{Head}
+use Rattle.snapshot.specs.Reading.{Refused, stored, may_follow, refused_behind, read_task, reading_of}
+use Rattle.snapshot.specs.Stored.{HasRead}
+use Rattle.snapshot.specs.Forms.{head_in}
+use Rattle.snapshot.specs.Kept.{IsFed, IsServed, HasRoom, MayAdmit, Holds, stance_of}
+use Rattle.snapshot.specs.declared.resuming.Resuming.{Resuming}
+use Rattle.snapshot.proofs.Admitted.{valid_ordered, with_this, last_more}
+use Rattle.snapshot.proofs.Beginning.{Within, within}
+use Rattle.snapshot.proofs.Spelled.{state_line-read_task}
+use Rattle.snapshot.proofs.Storing.{no_task, task_beyond, task_stands}
+
+module _ (h : Head) (tasks : List Task) (ls : List (List ℕ)) (read : HasRead h tasks ls) (r : Resuming) (it : Holds r h tasks) where
+  -- as many jobs are served as were read
+  pub served_count : length r.server.state.tasks ≡ length tasks
+  served_count = omega (arith, ap (λ J. length J.jobs) it.served.list, count_jobs r.server.state.tasks, count_jobs tasks)
+
+  -- how many there are to be
+  pub jobs_count : r.head.jobs ≡ h.jobs
+  jobs_count = ap (λ (g : Head). g.jobs) it.head
+
+  -- the number of a refused line
+  pub refused_here : (l : List (List ℕ)) (n : ℕ) → n ≡ length r.server.state.tasks → reading_of l ≡ refused_behind tasks → reading_of l ≡ Refused (n + 2)
+  refused_here l n is refused = refused ∙ ap (λ m. Refused (m + 2)) (sym (is ∙ served_count))
+
+  -- there is a line for a job that is due
+  pub room : length tasks < h.jobs → HasRoom h tasks
+  room more =
+      let limits : Within h = within h read.limits in (read.valid, omega (arith, more, limits.enough, limits.lines))
+
+  module _ (line : List ℕ) (more : length tasks < h.jobs) where
+    -- a line that is no job's
+    pub none_refused : (n : ℕ) → n ≡ length r.server.state.tasks → read_task line ≡ None → reading_of (ls ++ line ∷ []) ≡ Refused (n + 2)
+    none_refused n is none = refused_here (ls ++ line ∷ []) n is (no_task h tasks ls read line more none)
+
+    module _ (t : Task) (spelled : read_task line ≡ Some t) where
+      -- its numbers have numerals
+      pub job_short : AreShort (job_numbers t.job)
+      job_short = (state_line-read_task line t spelled).1.short.1.1
+
+      -- a job that may not follow
+      pub beyond_refused : (n : ℕ) → n ≡ length r.server.state.tasks
+          → (t.number ≡ length tasks → IsValid (stored h (tasks ++ t ∷ [])) → t.job.release ≤ h.mark → ⊥)
+          → reading_of (ls ++ line ∷ []) ≡ Refused (n + 2)
+      beyond_refused n is never = refused_here (ls ++ line ∷ []) n is (task_beyond h tasks ls read line more t spelled
+          (by (may_follow h tasks t) refl)) where
+            by : (b : Bool) → may_follow h tasks t ≡ b → may_follow h tasks t ≡ false
+            by false fails = fails
+            by true passes =
+                let all = and_parts ((t.number == length tasks) && is_valid (stored h (tasks ++ t ∷ []))) _ passes in
+                let both = and_parts (t.number == length tasks) (is_valid (stored h (tasks ++ t ∷ []))) all.0 in
+                absurd (never (eqb-true t.number (length tasks) both.0) ((is_valid-agrees (stored h (tasks ++ t ∷ []))).0 both.1)
+                (leb-true t.job.release h.mark all.1))
+
+      module _ (valid : IsValid (stored h (tasks ++ t ∷ []))) where
+        -- its run may be taken to its release
+        pub may_admit : (job : JobFacts) → job ≡ t.job → MayAdmit r.last h tasks job
+        may_admit job same = subst (λ (j : JobFacts). MayAdmit r.last h tasks j) (sym same) (record {
+          ordered = subst (λ n. n ≤ t.job.release) (sym it.released) (valid_ordered h tasks t valid);
+          valid = subst IsValid (with_this h tasks t) valid;
+        })
+
+        -- the server is where that begins
+        pub served_at : IsServed r.server h tasks r.last
+        served_at = subst (IsServed r.server h tasks) (sym it.released) it.served
+
+        -- the lines with it
+        pub read_more : t.number ≡ length tasks → t.job.release ≤ h.mark → HasRead h (tasks ++ t ∷ []) (ls ++ line ∷ [])
+        read_more number low = task_stands h tasks ls read line more t spelled (by (t.number == length tasks)
+            (is_valid (stored h (tasks ++ t ∷ []))) (nat_le t.job.release h.mark) (eq-eqb t.number (length tasks) number)
+            ((is_valid-agrees (stored h (tasks ++ t ∷ []))).1 valid) (le-leb t.job.release h.mark low)) where
+              by : (a b c : Bool) → a ≡ true → b ≡ true → c ≡ true → (a && b && c) ≡ true
+              by true true true p q s = refl
+              by true true false p q s = absurd (let clash : false ≡ true = s in cc)
+              by true false c p q s = absurd (let clash : false ≡ true = q in cc)
+              by false b c p q s = absurd (let clash : false ≡ true = p in cc)
+
+        -- what is kept with it
+        pub holds_more : (new : Resuming) → new.head ≡ r.head → new.last ≡ t.job.release → new.stances.items ≡ r.stances.items ++ stance_of t ∷ []
+            → IsFed new.intake h (tasks ++ t ∷ []) → IsServed new.server h (tasks ++ t ∷ []) t.job.release → Holds new h (tasks ++ t ∷ [])
+        holds_more new head last stances fed served = record {
+          head = ap head_in head ∙ it.head;
+          released = last ∙ sym (last_more tasks t);
+          stances = stances ∙ ap (λ xs. xs ++ stance_of t ∷ []) it.stances ∙ sym (map-append stance_of tasks (t ∷ []));
+          fed = fed;
+          served = subst (IsServed new.server h (tasks ++ t ∷ [])) (sym (last_more tasks t)) served;
+        }

@@ -1,0 +1,128 @@
+-- What is read of a snapshot, line by line.
+use Rattle.std.proofs.Common.{◌≡◌, ℕ, suc, ◌+◌, ◌≤◌, ◌<◌, List, [], ◌∷◌, ◌++◌, length, length-append, refl, sym, ap, ◌∙◌}
+use Rattle.std.proofs.Common.{Bool, true, false, cond, ◌&&◌, arith, Some, None, codes}
+use Rattle.std.specs.Prelude.{bytes_eq, ◌==◌}
+use Rattle.std.proofs.lemmas.Bool.{lt-ltb, le-ltb, leb-true, eqb-true, and_parts}
+use Rattle.std.proofs.lemmas.List.{map-append}
+use Rattle.std.proofs.lemmas.List.Sums.{fold-append}
+use Rattle.dover_model.specs.declared.events.Task.{Task}
+use Rattle.dover_model.specs.Instance.{Rules, IsValid, is_valid}
+use Rattle.dover_model.specs.Fraction.{IsRatio}
+use Rattle.dover_model.specs.Sound.{IsNumberedFrom}
+use Rattle.dover_model.proofs.Agreement.{is_valid-agrees}
+use Rattle.dover_model.proofs.Growing.{all_behind, reads_new}
+use Rattle.snapshot.specs.Snapshot.{Head, head_line, state_line}
+use Rattle.snapshot.specs.Reading.{Begun, Going, Taken, Refused, is_within_limits, stored, may_follow, has_reached_mark, is_settled}
+use Rattle.snapshot.specs.Reading.{with_head, refused_behind, with_task, with_last, next_line, reading_of, read_head, read_task}
+use Rattle.snapshot.specs.Stored.{HasRead}
+use Rattle.snapshot.proofs.Spelled.{head_line-read_head, state_line-read_task}
+
+-- ---- the first line
+
+-- it is no first line
+pub no_head : (line : List ℕ) → read_head line ≡ None → reading_of (line ∷ []) ≡ Refused 1
+no_head line none = ap with_head none
+
+-- it isn't within the limits
+pub head_beyond : (line : List ℕ) (h : Head) → read_head line ≡ Some h → is_within_limits h ≡ false → reading_of (line ∷ []) ≡ Refused 1
+head_beyond line h read beyond = ap with_head read ∙ ap (λ b. cond b (Going h []) (Refused 1)) beyond
+
+-- no job is valid under rules with a ratio
+none_valid : (rules : Rules) → IsRatio rules.ratio → IsValid (record { rules = rules; jobs = [] })
+none_valid rules ratio = (reads_new rules ratio).valid
+
+-- it is one within the limits
+pub head_stands : (line : List ℕ) (h : Head) → read_head line ≡ Some h → is_within_limits h ≡ true → HasRead h [] (line ∷ [])
+head_stands line h read within =
+    let it = head_line-read_head line h read in
+    record {
+      reads = ap with_head read ∙ ap (λ b. cond b (Going h []) (Refused 1)) within;
+      text = ap (λ l. l ∷ []) (sym it.0);
+      limits = within;
+      valid = none_valid h.rules it.1.ratio;
+      known = tt;
+      numbered = tt;
+      count = omega arith;
+    }
+
+-- ---- a further line
+
+-- numbered in a row, with one more
+numbered_more : (n : ℕ) (tasks : List Task) (t : Task) → IsNumberedFrom n tasks → t.number ≡ n + length tasks → IsNumberedFrom n (tasks ++ t ∷ [])
+numbered_more n [] t numbered next = (omega arith, tt)
+numbered_more n (u ∷ tasks) t numbered next = (numbered.0, numbered_more (suc n) tasks t numbered.1 (omega arith))
+
+module _ (h : Head) (tasks : List Task) (ls : List (List ℕ)) (it : HasRead h tasks ls) (line : List ℕ) where
+  -- what the lines with it say
+  next : reading_of (ls ++ line ∷ []) ≡ next_line (Going h tasks) line
+  next = fold-append next_line Begun ls (line ∷ []) ∙ ap (λ r. next_line r line) it.reads
+
+  -- where a job is due
+  next_job : length tasks < h.jobs → reading_of (ls ++ line ∷ []) ≡ with_task h tasks (read_task line)
+  next_job more = next ∙ ap (λ b. cond b (with_task h tasks (read_task line)) (with_last h tasks (bytes_eq line (codes "resume"))))
+      (lt-ltb (length tasks) h.jobs more)
+
+  -- where no job is due
+  next_last : h.jobs ≤ length tasks → reading_of (ls ++ line ∷ []) ≡ with_last h tasks (bytes_eq line (codes "resume"))
+  next_last most = next ∙ ap (λ b. cond b (with_task h tasks (read_task line)) (with_last h tasks (bytes_eq line (codes "resume"))))
+      (le-ltb (length tasks) h.jobs most)
+
+  -- it is no line of a job
+  pub no_task : length tasks < h.jobs → read_task line ≡ None → reading_of (ls ++ line ∷ []) ≡ refused_behind tasks
+  no_task more none = next_job more ∙ ap (with_task h tasks) none
+
+  -- the job may not follow
+  pub task_beyond : length tasks < h.jobs → (t : Task) → read_task line ≡ Some t → may_follow h tasks t ≡ false
+      → reading_of (ls ++ line ∷ []) ≡ refused_behind tasks
+  task_beyond more t read beyond = next_job more ∙ ap (with_task h tasks) read
+      ∙ ap (λ b. cond b (Going h (tasks ++ t ∷ [])) (refused_behind tasks)) beyond
+
+  -- the job may follow
+  pub task_stands : length tasks < h.jobs → (t : Task) → read_task line ≡ Some t → may_follow h tasks t ≡ true
+      → HasRead h (tasks ++ t ∷ []) (ls ++ line ∷ [])
+  task_stands more t read follows =
+      let all = and_parts ((t.number == length tasks) && is_valid (stored h (tasks ++ t ∷ []))) _ follows in
+      let both = and_parts (t.number == length tasks) (is_valid (stored h (tasks ++ t ∷ []))) all.0 in
+      record {
+        reads = next_job more ∙ ap (with_task h tasks) read
+            ∙ ap (λ b. cond b (Going h (tasks ++ t ∷ [])) (refused_behind tasks)) follows;
+        text = ap (λ l. ls ++ l ∷ []) (sym (state_line-read_task line t read).0) ∙ ap (λ (xs : List (List ℕ)). xs ++ state_line t ∷ []) it.text
+            ∙ ap (λ xs. head_line h ∷ xs) (sym (map-append state_line tasks (t ∷ [])));
+        limits = it.limits;
+        valid = (is_valid-agrees (stored h (tasks ++ t ∷ []))).0 both.1;
+        known = all_behind (λ u. u.job.release ≤ h.mark) tasks t it.known (leb-true _ _ all.1);
+        numbered = numbered_more 0 tasks t it.numbered (omega (arith, eqb-true t.number (length tasks) both.0));
+        count = omega (arith, length-append tasks (t ∷ []));
+      }
+
+  -- the last line is another
+  pub no_last : h.jobs ≤ length tasks → bytes_eq line (codes "resume") ≡ false → reading_of (ls ++ line ∷ []) ≡ refused_behind tasks
+  no_last most other = next_last most ∙ ap (with_last h tasks) other
+
+  -- the mark wasn't reached
+  pub mark_beyond : h.jobs ≤ length tasks → has_reached_mark h tasks ≡ false → reading_of (ls ++ line ∷ []) ≡ refused_behind tasks
+  mark_beyond most beyond = next_last most ∙ fails (bytes_eq line (codes "resume")) (has_reached_mark h tasks) beyond where
+    fails : (a b : Bool) → b ≡ false → cond (a && b && is_settled h tasks) (Taken h tasks) (refused_behind tasks) ≡ refused_behind tasks
+    fails true true e = absurd (let clash : true ≡ false = e in cc)
+    fails true false e = refl
+    fails false b e = refl
+
+  -- some job is in another state
+  pub other_state : h.jobs ≤ length tasks → is_settled h tasks ≡ false → reading_of (ls ++ line ∷ []) ≡ refused_behind tasks
+  other_state most other = next_last most ∙ fails (bytes_eq line (codes "resume")) (has_reached_mark h tasks) (is_settled h tasks) other where
+    fails : (a b c : Bool) → c ≡ false → cond (a && b && c) (Taken h tasks) (refused_behind tasks) ≡ refused_behind tasks
+    fails true true true e = absurd (let clash : true ≡ false = e in cc)
+    fails true true false e = refl
+    fails true false c e = refl
+    fails false b c e = refl
+
+  -- all is as it has to be
+  pub last_stands : h.jobs ≤ length tasks → bytes_eq line (codes "resume") ≡ true → has_reached_mark h tasks ≡ true → is_settled h tasks ≡ true
+      → reading_of (ls ++ line ∷ []) ≡ Taken h tasks
+  last_stands most last reached settled = next_last most ∙ all (bytes_eq line (codes "resume")) (has_reached_mark h tasks) (is_settled h tasks)
+      last reached settled where
+        all : (a b c : Bool) → a ≡ true → b ≡ true → c ≡ true → cond (a && b && c) (Taken h tasks) (refused_behind tasks) ≡ Taken h tasks
+        all true true true p q r = refl
+        all true true false p q r = absurd (let clash : false ≡ true = r in cc)
+        all true false c p q r = absurd (let clash : false ≡ true = q in cc)
+        all false b c p q r = absurd (let clash : false ≡ true = p in cc)

@@ -1,0 +1,14 @@
+use Rattle.snapshot.proofs.Spelled.{read_head-head_line, head_line-read_head, read_task-state_line, state_line-read_task}
+use Rattle.snapshot.proofs.laws.lines_have_one_spelling.Goals as goal
+
+pub returns-clause-head_again : goal.returns-clause-head_again
+returns-clause-head_again c = read_head-head_line
+
+pub returns-clause-head_only : goal.returns-clause-head_only
+returns-clause-head_only c = head_line-read_head
+
+pub returns-clause-job_again : goal.returns-clause-job_again
+returns-clause-job_again c = read_task-state_line
+
+pub returns-clause-job_only : goal.returns-clause-job_only
+returns-clause-job_only c = state_line-read_task

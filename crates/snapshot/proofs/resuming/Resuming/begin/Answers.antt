@@ -1,0 +1,23 @@
+use Rattle.std.proofs.Common.{[], ◌∷◌, refl, sym, ap, ◌∙◌}
+use Rattle.std.specs.Option.{option_map}
+use Rattle.snapshot.specs.Forms.{head_in}
+use Rattle.snapshot.specs.Stored.{HasRead}
+use Rattle.snapshot.proofs.Storing.{head_stands}
+use Rattle.snapshot.proofs.Serving.{served_none}
+use Rattle.snapshot.proofs.resuming.Resuming.begin.Goals as goal
+
+pub returns : goal.returns
+returns c =
+    let read : HasRead (head_in c.in-Some.head) [] (c.args.line.now ∷ []) = head_stands c.args.line.now (head_in c.in-Some.head)
+    (sym c.read_head.ensures ∙ ap (option_map head_in) c.in-Some.is) (sym c.is_within_limits.ensures ∙ c.if-not-is_within_limits.false) in (
+      head_in c.in-Some.head,
+      [],
+      read,
+      record {
+        head = refl;
+        released = refl;
+        stances = c.new-2.ensures.items;
+        fed = c.begin.ensures;
+        served = served_none (head_in c.in-Some.head) c.in-Ok.server c.in-Ok.server.spare read.valid c.in-Ok.ensures;
+      },
+    )

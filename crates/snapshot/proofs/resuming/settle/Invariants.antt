@@ -1,0 +1,16 @@
+use Rattle.std.proofs.Common.{◌≡◌}
+use Rattle.dover_core.specs.declared.horizon.Horizon.TheVariants.{Mark}
+use Rattle.dover_core.specs.Service.{MayFollow, list_of, steps_left}
+use Rattle.snapshot.specs.Taken.{HasTaken}
+use Rattle.snapshot.proofs.resuming.settle.Given as goal
+
+-- Some steps were taken, and the jobs are the same.
+abbrev pub invariant-loop : goal.invariant-loop
+invariant-loop g l = record {
+  taken : HasTaken l.server l.mark;
+  follows : MayFollow l.server.last (Mark l.mark);
+  list : list_of l.server ≡ list_of l.initial.server;
+}
+
+abbrev pub decreases-loop : goal.decreases-loop
+decreases-loop g l = steps_left l.server

@@ -1,0 +1,6 @@
+pub mod Snapshot
+pub mod Reading
+pub mod Stored
+pub mod Forms
+pub mod Taken
+pub mod Kept

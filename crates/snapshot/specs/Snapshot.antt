@@ -1,0 +1,85 @@
+-- The state of a feed that is paused, as a text.
+use Rattle.std.specs.Prelude.{◌≡◌, ℕ, List, [], ◌∷◌, ◌++◌, length, map, IsTrue, IsSome, codes, decimal, None, Some}
+use Rattle.dover_model.specs.declared.events.Role.{Role}
+use Rattle.dover_model.specs.declared.events.Role.TheVariants.{Coming, Fresh, Waiting, Held, Running, Done, Gone}
+use Rattle.dover_model.specs.declared.events.Task.{Task}
+use Rattle.dover_model.specs.Fraction.{IsRatio}
+use Rattle.dover_model.specs.Instance.{Rules}
+use Rattle.dover_model.specs.Numerals.{AreShort}
+use Rattle.dover_model.specs.Session.{Session, instance_of}
+use Rattle.dover_model.specs.Settled.{settled_state}
+use Rattle.dover_model.specs.Lines.{rest_of, in_lines, line_of, with_numbers}
+use Rattle.dover_model.specs.JobFacts.{job_numbers}
+use Rattle.dover_model.specs.Text.{version_number}
+use Rattle.dover_model.specs.Feed.{Account, account, is_open}
+
+-- the feed has declared its ratio, is neither ended nor faulty, and ends in a line feed
+pub record MayPause (bytes : List ℕ) : Type 0 where
+  pub declared : IsSome (account bytes).session
+  pub going_on : IsTrue (is_open (account bytes))
+  pub whole : rest_of bytes ≡ []
+
+-- the word for a role
+abbrev pub role_word : Role → List ℕ
+role_word Coming = codes "coming"
+role_word Fresh = codes "fresh"
+role_word Waiting = codes "waiting"
+role_word Held = codes "held"
+role_word Running = codes "running"
+role_word Done = codes "done"
+role_word Gone = codes "gone"
+
+-- the line of a job: its number, its role, the ticks that it has had, and what it asks for
+abbrev pub state_line : Task → List ℕ
+state_line t = line_of (codes "state" ∷ decimal t.number ∷ role_word t.role ∷ map decimal (t.had ∷ job_numbers t.job))
+
+-- the role is one of a job whose feed is paused
+abbrev pub IsStored : Role → Type 0
+IsStored Coming = ⊥
+IsStored Fresh = ⊥
+IsStored Waiting = Unit {0}
+IsStored Held = Unit {0}
+IsStored Running = Unit {0}
+IsStored Done = Unit {0}
+IsStored Gone = Unit {0}
+
+-- the numbers of the line
+abbrev pub state_numbers : Task → List ℕ
+state_numbers t = t.number ∷ t.had ∷ job_numbers t.job
+
+-- its role is one of those, and its numbers have numerals
+pub record IsState (t : Task) : Type 0 where
+  pub role : IsStored t.role
+  pub short : AreShort (state_numbers t)
+
+-- what the first line names
+pub record Head : Type 0 where
+  pub rules : Rules
+  pub lines : ℕ  -- how many the feed has so far
+  pub mark : ℕ
+  pub jobs : ℕ  -- how many were admitted
+
+-- the numbers of the first line
+abbrev pub head_numbers : Head → List ℕ
+head_numbers h = version_number h.rules.version ∷ h.rules.ratio.p ∷ h.rules.ratio.q ∷ h.lines ∷ h.mark ∷ h.jobs ∷ []
+
+-- the first line
+abbrev pub head_line : Head → List ℕ
+head_line h = with_numbers (codes "snapshot") (head_numbers h)
+
+-- the ratio is one, and the numbers have numerals
+pub record IsHead (h : Head) : Type 0 where
+  pub ratio : IsRatio h.rules.ratio
+  pub short : AreShort (head_numbers h)
+
+-- what the first line names of a feed
+abbrev pub head_of_feed : Account → Session → Head
+head_of_feed a S = record { rules = S.rules; lines = a.lines; mark = a.mark; jobs = length (instance_of S).jobs }
+
+-- the first line, the line of each job in the state that the settled steps lead to, and the last line
+abbrev pub snapshot_lines : Account → Session → List (List ℕ)
+snapshot_lines a S = head_line (head_of_feed a S) ∷ map state_line (settled_state (instance_of S) a.mark).tasks ++ codes "resume" ∷ []
+
+-- the snapshot of a feed that may pause
+abbrev pub snapshot : List ℕ → List ℕ
+snapshot bytes = elim (account bytes).session [ None ↦ [] | Some S ↦ in_lines (snapshot_lines (account bytes) S) ]

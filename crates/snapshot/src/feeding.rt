@@ -1,0 +1,106 @@
+//! The lines of a feed, handed in again.
+ghost use Rattle.std.specs.Prelude.{◌≡◌, ℕ, List, [], ◌∷◌, ◌++◌, false, IfSome, IsNone};
+ghost use Rattle.dover_model.specs.declared.events.Task.{Task};
+ghost use Rattle.dover_model.specs.Fraction.{IsRatio};
+ghost use Rattle.dover_model.specs.Instance.{IsValid};
+ghost use Rattle.dover_model.specs.JobFacts.{job_numbers};
+ghost use Rattle.dover_model.specs.Numerals.{AreShort};
+ghost use Rattle.dover_model.specs.FeedLine.{HasNumerals, RatioLine, feed_text};
+ghost use Rattle.job_format.specs.Form.{form_of};
+ghost use Rattle.event_feed.specs.Kept.{StandsFor, IsGoing, has_ended};
+ghost use Rattle.snapshot.specs.Snapshot as model;
+ghost use Rattle.snapshot.specs.Reading.{stored};
+ghost use Rattle.snapshot.specs.Forms.{head_in, task_in};
+ghost use Rattle.snapshot.specs.Stored.{declared_number};
+ghost use Rattle.snapshot.specs.Kept.{IsFed, feed_lines, HasRoom, IsGoodNext, CanPause, job_in};
+
+use crate::forms::{Head, StateLine};
+use dover_model::{Job, Version};
+use event_feed::{Fed, Intake};
+use job_format::{FeedLine, write_feed_line};
+use line_text::LineBuf;
+
+/// Hands in a line that isn't at fault and doesn't end the feed.
+fn hand(intake: &mut Intake, line: &FeedLine)
+    requires numerals { HasNumerals (form_of line.now) }
+    requires unended { has_ended intake.old ≡ false }
+    requires good { (ls : List (List ℕ)) × IsGoodNext intake.old ls (feed_text (form_of line.now)) }
+    ensures stands { (ls : List (List ℕ)) → StandsFor intake.old ls → StandsFor intake.new (ls ++ feed_text (form_of line.now) ∷ []) }
+{
+    let mut text = LineBuf::new();
+    write_feed_line(line, &mut text);
+    match intake.line(text.bytes()) {
+        Ok(_) => {}
+        Err(_) => unreachable!(),
+    }
+}
+
+/// The line of the ratio.
+fn ratio_line(head: &Head) -> FeedLine
+    ensures is { form_of result ≡ RatioLine head.now.ratio.p head.now.ratio.q (declared_number head.now.version) }
+    ensures numerals { HasNumerals (form_of result) }
+    ensures ratio { IsRatio head.now.ratio }
+{
+    FeedLine::Declared {
+        p: u64::from(head.ratio.p()),
+        q: u64::from(head.ratio.q()),
+        version: match head.version {
+            Version::One => None,
+            Version::Two => Some(2),
+        },
+    }
+}
+
+/// An intake that was handed the line of the ratio.
+pub(crate) fn begin(head: &Head) -> Intake
+    ensures { IsFed result (head_in head.now) [] }
+{
+    let mut intake = Intake::new();
+    hand(&mut intake, &ratio_line(head));
+    intake
+}
+
+/// The job that is admitted, if one is.
+fn job_in(fed: Fed) -> Option<Job>
+    ensures { result ≡ job_in fed }
+{
+    match fed {
+        Fed::Job(_, job) => Some(job),
+        _ => None,
+    }
+}
+
+/// Hands in the line of a job. The job comes exactly where it is valid with those before it.
+pub(crate) fn hand_job(intake: &mut Intake, state: &StateLine) -> Option<Job>
+    requires numerals { AreShort (job_numbers (task_in state.now).job) }
+    requires fed { (h : model.Head) × (tasks : List Task) × IsFed intake.old h tasks × HasRoom h tasks }
+    ensures some { (h : model.Head) (tasks : List Task) → IsFed intake.old h tasks → HasRoom h tasks → IfSome result (λ job.
+        (job ≡ (task_in state.now).job) × IsValid (stored h (tasks ++ task_in state.now ∷ [])) × IsFed intake.new h (tasks ++ task_in state.now ∷ [])) }
+    ensures none { (h : model.Head) (tasks : List Task) → IsFed intake.old h tasks → HasRoom h tasks → IsNone result →
+        IsValid (stored h (tasks ++ task_in state.now ∷ [])) → ⊥ }
+{
+    let line = FeedLine::Job {
+        release: state.release,
+        work: state.work,
+        deadline: state.deadline,
+        value: state.value,
+    };
+    let mut text = LineBuf::new();
+    write_feed_line(&line, &mut text);
+    match intake.line(text.bytes()) {
+        Ok(fed) => job_in(fed),
+        Err(_) => None,
+    }
+}
+
+/// Hands in tick lines at the mark for the lines that are left of the feed.
+pub(crate) fn hand_ticks(intake: &mut Intake, head: &Head)
+    requires { (tasks : List Task) × IsFed intake.old (head_in head.now) tasks × CanPause (head_in head.now) tasks }
+    ensures stands { (tasks : List Task) → IsFed intake.old (head_in head.now) tasks → CanPause (head_in head.now) tasks →
+        StandsFor intake.new (feed_lines (head_in head.now) tasks) }
+{
+    if head.lines > head.jobs + 1 {
+        hand(intake, &FeedLine::Tick { at: head.mark });
+        intake.skip(head.lines - head.jobs - 2);
+    }
+}

@@ -1,0 +1,14 @@
+//! The state of a feed as a text, from which its run can be gone on with later.
+#![tactic(auto)]
+
+mod feeding;
+mod forms;
+pub mod laws;
+mod reader;
+mod resuming;
+#[cfg(test)]
+mod tests;
+mod writing;
+
+pub use reader::{Got, Reader, SnapFault};
+pub use writing::{head, state};

@@ -1,0 +1,83 @@
+//! A snapshot read line by line.
+ghost use Rattle.std.specs.Prelude.{◌≡◌, ℕ, List, [], ◌∷◌, ◌++◌, IfOk};
+ghost use Rattle.dover_model.specs.declared.events.Task.{Task};
+ghost use Rattle.snapshot.specs.Snapshot.{Head};
+ghost use Rattle.snapshot.specs.Kept.{IsReading, IsReady, IsWhole, Resumes, Answers};
+
+use crate::resuming::Resuming;
+use dover_core::Server;
+use dover_model::Memory;
+use event_feed::Intake;
+use std::alloc::Global;
+use std::marker::Model;
+use std::sync::ledger::Ledger;
+use step_count::Steps;
+use thiserror::Error;
+
+/// Whether a snapshot was read to its last line.
+#[derive(Clone, Copy, Debug, PartialEq, Eq)]
+pub enum Got {
+    More,
+    Ready,
+}
+
+/// Why a snapshot isn't taken.
+#[derive(Clone, Copy, Debug, PartialEq, Eq, Error)]
+pub enum SnapFault {
+    /// This line, numbered from 1, is the first that no snapshot has there.
+    #[error("a line of the snapshot is refused")]
+    BadSnapshot { line: u64 },
+    #[error("out of memory")]
+    Memory,
+}
+
+/// Reads a snapshot, and runs its jobs again.
+#[derive(Drop)]
+pub struct Reader {
+    alloc: Global,
+    resuming: Option<Resuming>,
+}
+
+impl Model for Reader {
+    ghost use Rattle.std.specs.Prelude.{Option};
+    ghost use Rattle.snapshot.specs.declared.resuming.Resuming.{Resuming};
+
+    ghost Value = { Option Resuming };
+
+    ghost view = { λ r. r.resuming };
+}
+
+impl Reader {
+    /// No line came yet.
+    pub fn new(alloc: Global) -> Result<Reader, Memory>
+        ensures { IfOk result (λ reader. IsReading reader []) }
+    {
+        Ok(Reader {
+            alloc,
+            resuming: None,
+        })
+    }
+
+    /// Takes the next line, without its line feed. After `Ready` or a fault no further line may be handed in.
+    pub fn line<L: Ledger>(&mut self, line: &[u8], steps: &mut Steps<L>) -> Result<Got, SnapFault>
+        requires { (ls : List (List ℕ)) × IsReading self.old ls }
+        ensures { (ls : List (List ℕ)) → IsReading self.old ls → Answers result self.new (ls ++ line.now ∷ []) }
+    {
+        if let Some(resuming) = &mut self.resuming {
+            return resuming.line(line, steps);
+        }
+        self.resuming = Some(Resuming::begin(self.alloc, line)?);
+        Ok(Got::More)
+    }
+
+    /// The server and the intake of the feed that was paused.
+    pub fn take(self) -> (Server, Intake)
+        requires { (ls : List (List ℕ)) × IsReady self ls }
+        ensures { (ls : List (List ℕ)) → IsReady self ls → (h : Head) × (tasks : List Task) × IsWhole h tasks ls × Resumes result.0 result.1 h tasks }
+    {
+        let Some(resuming) = self.resuming else {
+            unreachable!();
+        };
+        resuming.into_parts()
+    }
+}
