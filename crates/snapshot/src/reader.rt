@@ -17,7 +17,9 @@ use thiserror::Error;
 /// Whether a snapshot was read to its last line.
 #[derive(Clone, Copy, Debug, PartialEq, Eq)]
 pub enum Got {
+    /// No line so far is refused, and the last is still to come.
     More,
+    /// The line was the last, and `take` may be called.
     Ready,
 }
 
@@ -27,6 +29,7 @@ pub enum SnapFault {
     /// This line, numbered from 1, is the first that no snapshot has there.
     #[error("a line of the snapshot is refused")]
     BadSnapshot { line: u64 },
+    /// There was no memory for the run or for a job.
     #[error("out of memory")]
     Memory,
 }
@@ -48,7 +51,7 @@ impl Model for Reader {
 }
 
 impl Reader {
-    /// No line came yet.
+    /// No line came yet. Err where there is no memory.
     pub fn new(alloc: Global) -> Result<Reader, Memory>
         ensures { IfOk result (λ reader. IsReading reader []) }
     {
@@ -58,7 +61,8 @@ impl Reader {
         })
     }
 
-    /// Takes the next line, without its line feed. After `Ready` or a fault no further line may be handed in.
+    /// Takes the next line, without its line feed. Err `BadSnapshot` at the first line that doesn't stand where it is, `Memory` where there was none
+    /// for the run or for the line's job. After `Ready` or a fault no further line may be handed in.
     pub fn line<L: Ledger>(&mut self, line: &[u8], steps: &mut Steps<L>) -> Result<Got, SnapFault>
         requires { (ls : List (List ℕ)) × IsReading self.old ls }
         ensures { (ls : List (List ℕ)) → IsReading self.old ls → Answers result self.new (ls ++ line.now ∷ []) }
@@ -70,7 +74,8 @@ impl Reader {
         Ok(Got::More)
     }
 
-    /// The server and the intake of the feed that was paused.
+    /// The server in the state that was stored, ready to go on from its mark, and an intake that was handed as many lines as the paused feed had.
+    /// `line` has answered `Ready`. Takes no memory.
     pub fn take(self) -> (Server, Intake)
         requires { (ls : List (List ℕ)) × IsReady self ls }
         ensures { (ls : List (List ℕ)) → IsReady self ls → (h : Head) × (tasks : List Task) × IsWhole h tasks ls × Resumes result.0 result.1 h tasks }
