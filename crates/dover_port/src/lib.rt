@@ -1,6 +1,7 @@
 //! The two ends of a program: where its input comes from and where its output goes.
 #![tactic(auto)]
 
+mod calls;
 mod memory;
 mod output;
 mod port;
@@ -8,6 +9,7 @@ mod puts;
 mod standard;
 mod status;
 
+pub use calls::Calls;
 pub use memory::MemoryPort;
 pub use output::{OUTPUT_BYTES, Output};
 pub use port::{Failed, Port};

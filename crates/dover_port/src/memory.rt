@@ -1,13 +1,14 @@
-ghost use Rattle.std.specs.Prelude.{◌≡◌, ◌+◌, ◌-◌, ◌<◌, ◌≤◌, ◌↔◌, [], ◌∷◌, ◌++◌, length, take, drop, Some, IfOk, OnErr, IsErr, IsTrue, vec_len};
+ghost use Rattle.std.specs.Prelude.{◌≡◌, ◌≢◌, ◌+◌, ◌-◌, ◌<◌, ◌≤◌, ◌↔◌, [], ◌∷◌, ◌++◌, length, take, drop, map, Some, IfOk, OnErr, IsErr, IsTrue, vec_len};
 ghost use Rattle.std.specs.Prelude.{vec_capacity};
 ghost use Rattle.std.specs.List.{flat_map};
-ghost use Rattle.dover_port.specs.Causes.{HasCause};
+ghost use Rattle.dover_port.specs.Causes.{HasCause, StopsAtFailure};
 ghost use Rattle.dover_port.specs.Moves.{Adds, read_move, ins, outs};
 ghost use Rattle.dover_port.specs.Moves.Move.{Put};
-ghost use Rattle.dover_port.specs.MustFail.{MustFail, end_of};
+ghost use Rattle.dover_port.specs.MustFail.{MustFail, end_of, ends_after};
+ghost use Rattle.dover_port.specs.declared.calls.Calls.TheVariants.{Well, WentOn};
 ghost use Rattle.dover_port.specs.Kept.{got_total, put_total, read_entry_of};
 
-use crate::{Failed, Port};
+use crate::{Calls, Failed, Port};
 use dover_model::Memory;
 use std::alloc::{AllocError, Global};
 
@@ -35,6 +36,7 @@ pub struct MemoryPort {
     written: Vec<u8>,
     read_faults: u64,
     write_faults: u64,
+    calls: Calls,
     ghost within: { at ≤ vec_len input },
     ghost some: { 0 < most },
     ghost got: { got_total kept.items ≡ at },
@@ -45,7 +47,8 @@ pub struct MemoryPort {
 
 // All pieces joined, and where each ends.
 fn join(alloc: Global, script: &[Vec<u8>]) -> Result<(Vec<u8>, Vec<usize>), AllocError>
-    ensures { IfOk result (λ joined. joined.0.items ≡ flat_map (λ piece. piece.items) script.now) }
+    ensures input { IfOk result (λ joined. joined.0.items ≡ flat_map (λ piece. piece.items) script.now) }
+    ensures ends { IfOk result (λ joined. joined.1.items ≡ ends_after 0 (map (λ piece. piece.items) script.now)) }
 {
     let mut input = Vec::new(alloc);
     let mut ends = Vec::new(alloc);
@@ -131,6 +134,14 @@ impl MemoryPort {
         ensures left { IfOk result (λ port. ⟦<MemoryPort as Port>⟧.left port ≡ Some (flat_map (λ piece. piece.items) script.items)) }
         ensures reads { IfOk result (λ port. ⟦<MemoryPort as Port>⟧.read_faults port ≡ 0) }
         ensures writes { IfOk result (λ port. ⟦<MemoryPort as Port>⟧.write_faults port ≡ 0) }
+        ensures calls { IfOk result (λ port. ⟦<MemoryPort as Port>⟧.calls port ≡ Well) }
+        ensures ends { IfOk result (λ port. port.ends.items ≡ ends_after 0 (map (λ piece. piece.items) script.items)) }
+        ensures fail_reads { IfOk result (λ port. port.fail_reads.items ≡ fail_reads.items) }
+        ensures fail_writes { IfOk result (λ port. port.fail_writes.items ≡ fail_writes.items) }
+        ensures most { IfOk result (λ port. port.most ≡ most) }
+        ensures room { IfOk result (λ port. port.room ≡ room) }
+        ensures first_read { IfOk result (λ port. port.reads ≡ 0) }
+        ensures first_write { IfOk result (λ port. port.writes ≡ 0) }
     {
         let (input, ends) = join(alloc, &script)?;
         let kept = Vec::with_capacity(alloc, room)?;
@@ -149,6 +160,7 @@ impl MemoryPort {
             written,
             read_faults: 0,
             write_faults: 0,
+            calls: Calls::Well,
         })
     }
 
@@ -157,6 +169,13 @@ impl MemoryPort {
         ensures { outs (made self.now) ≡ result.now }
     {
         &self.written
+    }
+
+    /// How its calls went.
+    pub fn calls(&self) -> Calls
+        ensures { ⟦<MemoryPort as Port>⟧.calls self.now ≡ result }
+    {
+        self.calls
     }
 
     /// All bytes got.
@@ -168,7 +187,7 @@ impl MemoryPort {
 }
 
 impl Port for MemoryPort {
-    ghost use Rattle.dover_port.specs.Memory.{made, read_count, ReadFails, write_count, WriteFails};
+    ghost use Rattle.dover_port.specs.Memory.{made, read_count, ReadFails, write_count, WriteFails, KeepsScript, number_of};
 
     ghost moves = { λ m. Some (made m) };
 
@@ -177,6 +196,8 @@ impl Port for MemoryPort {
     ghost read_faults = { λ m. m.read_faults };
 
     ghost write_faults = { λ m. m.write_faults };
+
+    ghost calls = { λ m. m.calls };
 
     fn read(&mut self, buf: &mut [u8]) -> Result<usize, Failed>
         requires { 0 < length buf.old }
@@ -187,8 +208,13 @@ impl Port for MemoryPort {
         ensures failed { OnErr result
             ((made self.new ≡ made self.old) × (drop self.new.at self.new.input.items ≡ drop self.old.at self.old.input.items)) }
         ensures cause { HasCause self.old.read_faults self.new.read_faults self.old.write_faults self.new.write_faults result }
+        ensures stops { StopsAtFailure self.old.calls self.new.calls result }
+        ensures went_on { self.old.calls ≢ Well → self.new.calls ≡ WentOn }
         ensures count { IfOk result (λ n. n ≡ read_count self.old (length buf.old)) }
         ensures fails { IsErr result ↔ ReadFails self.old (length buf.old) }
+        ensures script { KeepsScript self.old self.new }
+        ensures numbered { self.new.reads ≡ number_of self.old.reads }
+        ensures others { self.new.writes ≡ self.old.writes }
     {
         self.reads = self.reads.saturating_add(1);
         let end = piece_end(&self.ends, self.at, self.input.len());
@@ -201,9 +227,11 @@ impl Port for MemoryPort {
             count,
             self.room,
         ) {
+            self.calls = self.calls.and_a_failed();
             self.read_faults = self.read_faults.saturating_add(1);
             return Err(Failed);
         }
+        self.calls = self.calls.and_one();
         buf[..count].copy_from_slice(&self.input[self.at..self.at + count]);
         self.at += count;
         keep(&mut self.kept, read_entry(count));
@@ -218,8 +246,13 @@ impl Port for MemoryPort {
         ensures left { drop self.new.at self.new.input.items ≡ drop self.old.at self.old.input.items }
         ensures failed { OnErr result (made self.new ≡ made self.old) }
         ensures cause { HasCause self.old.write_faults self.new.write_faults self.old.read_faults self.new.read_faults result }
+        ensures stops { StopsAtFailure self.old.calls self.new.calls result }
+        ensures went_on { self.old.calls ≢ Well → self.new.calls ≡ WentOn }
         ensures count { IfOk result (λ n. n ≡ write_count self.old (length bytes.now)) }
         ensures fails { IsErr result ↔ WriteFails self.old (length bytes.now) }
+        ensures script { KeepsScript self.old self.new }
+        ensures numbered { self.new.writes ≡ number_of self.old.writes }
+        ensures others { self.new.reads ≡ self.old.reads }
     {
         self.writes = self.writes.saturating_add(1);
         let count = self.most.min(bytes.len());
@@ -231,9 +264,11 @@ impl Port for MemoryPort {
             count,
             self.room,
         ) {
+            self.calls = self.calls.and_a_failed();
             self.write_faults = self.write_faults.saturating_add(1);
             return Err(Failed);
         }
+        self.calls = self.calls.and_one();
         append(&mut self.written, &bytes[..count]);
         keep(&mut self.kept, Kept::Wrote(count));
         Ok(count)

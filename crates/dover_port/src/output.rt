@@ -1,13 +1,13 @@
 //! Bytes on their way out.
-ghost use Rattle.std.specs.Prelude.{◌≡◌, ◌≤◌, ◌+◌, ◌↔◌, ◌++◌, [], length, OnOk, IsTrue};
-ghost use Rattle.dover_port.specs.Causes.{HasCause};
+ghost use Rattle.std.specs.Prelude.{◌≡◌, ◌≤◌, ◌+◌, ◌↔◌, ◌++◌, [], length, OnOk, OnErr, IsTrue};
+ghost use Rattle.dover_port.specs.Causes.{HasCause, StopsAtFailure};
 ghost use Rattle.dover_port.specs.Moves.{PutsThrough};
 
 use crate::{Failed, Port, put_all};
 use std::marker::Model;
 
 /// How many bytes an `Output` keeps back at most.
-pub const OUTPUT_BYTES: usize = 8192;
+pub const OUTPUT_BYTES: usize = 65_536;
 
 /// Bytes that are due and not yet put. They are put together when there is no room for more, and when `flush` is called.
 #[derive(Drop)]
@@ -23,7 +23,7 @@ impl Model for Output {
 
     ghost view = { λ o. take o.used o.bytes };
 
-    ghost invariant = { λ o. o.used ≤ 8192 };
+    ghost invariant = { λ o. o.used ≤ 65536 };
 }
 
 impl Output {
@@ -41,7 +41,9 @@ impl Output {
     pub fn flush<P: Port>(&mut self, port: &mut P) -> Result<(), Failed>
         ensures text { PutsThrough (P.moves port.old) (P.moves port.new) result self.old [] [] }
         ensures empty { OnOk result (self.new ≡ []) }
+        ensures same { OnErr result (self.new ≡ self.old) }
         ensures cause { HasCause (P.write_faults port.old) (P.write_faults port.new) (P.read_faults port.old) (P.read_faults port.new) result }
+        ensures stops { StopsAtFailure (P.calls port.old) (P.calls port.new) result }
     {
         match put_all(port, &self.bytes[..self.used]) {
             Ok(()) => {
@@ -73,7 +75,9 @@ impl Output {
     pub fn put<P: Port>(&mut self, port: &mut P, bytes: &[u8]) -> Result<(), Failed>
         requires { length bytes.now ≤ OUTPUT_BYTES }
         ensures text { PutsThrough (P.moves port.old) (P.moves port.new) result self.old self.new bytes.now }
+        ensures same { OnErr result (self.new ≡ self.old) }
         ensures cause { HasCause (P.write_faults port.old) (P.write_faults port.new) (P.read_faults port.old) (P.read_faults port.new) result }
+        ensures stops { StopsAtFailure (P.calls port.old) (P.calls port.new) result }
     {
         if !self.has_room(bytes.len()) {
             match self.flush(port) {

@@ -1,7 +1,7 @@
 //! The line that refuses a feed.
 ghost use Rattle.std.specs.Prelude.{◌≡◌, ◌++◌, ◌∷◌, []};
 ghost use Rattle.dover_model.specs.Due as due;
-ghost use Rattle.dover_port.specs.Causes.{HasCause};
+ghost use Rattle.dover_port.specs.Causes.{HasCause, StopsAtFailure};
 ghost use Rattle.dover_port.specs.Moves.{PutsThrough};
 ghost use Rattle.event_feed.specs.Kept.{cause_of_fault};
 
@@ -44,6 +44,7 @@ pub fn put_fault<P: Port>(port: &mut P, out: &mut Output, fault: FeedFault) -> R
     ensures text { PutsThrough (P.moves port.old) (P.moves port.new) result out.old out.new
         (due.fault_text fault.line (cause_of_fault fault.cause) ++ 10 ∷ []) }
     ensures cause { HasCause (P.write_faults port.old) (P.write_faults port.new) (P.read_faults port.old) (P.read_faults port.new) result }
+    ensures stops { StopsAtFailure (P.calls port.old) (P.calls port.new) result }
 {
     out.put(port, fault_line(fault).bytes())
 }

@@ -8,6 +8,3 @@ mod traces;
 pub use faults::{fault_line, put_fault};
 pub use lines::{put_line, put_numbers};
 pub use traces::{put_event, put_header, put_refused};
-
-#[cfg(test)]
-mod tests;

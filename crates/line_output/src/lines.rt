@@ -1,7 +1,7 @@
 //! Lines of words and numbers.
 ghost use Rattle.std.specs.Prelude.{◌≡◌, ◌<◌, ◌+◌, ◌*◌, ◌++◌, ◌∷◌, [], length};
 ghost use Rattle.dover_model.specs.Lines.{with_numbers};
-ghost use Rattle.dover_port.specs.Causes.{HasCause};
+ghost use Rattle.dover_port.specs.Causes.{HasCause, StopsAtFailure};
 ghost use Rattle.dover_port.specs.Moves.{PutsThrough};
 
 use dover_port::{Failed, Output, Port};
@@ -13,6 +13,7 @@ pub fn put_line<P: Port>(port: &mut P, out: &mut Output, mut line: LineBuf) -> R
     requires { length line < 129 }
     ensures text { PutsThrough (P.moves port.old) (P.moves port.new) result out.old out.new (line ++ 10 ∷ []) }
     ensures cause { HasCause (P.write_faults port.old) (P.write_faults port.new) (P.read_faults port.old) (P.read_faults port.new) result }
+    ensures stops { StopsAtFailure (P.calls port.old) (P.calls port.new) result }
 {
     line.end_line();
     out.put(port, line.bytes())
@@ -30,6 +31,7 @@ pub fn put_numbers<P: Port>(
     requires short { length word.now + 21 * length numbers.now < 129 }
     ensures text { PutsThrough (P.moves port.old) (P.moves port.new) result out.old out.new (with_numbers word.now numbers.now ++ 10 ∷ []) }
     ensures cause { HasCause (P.write_faults port.old) (P.write_faults port.new) (P.read_faults port.old) (P.read_faults port.new) result }
+    ensures stops { StopsAtFailure (P.calls port.old) (P.calls port.new) result }
 {
     let mut line = LineBuf::new();
     line.put_word(word);

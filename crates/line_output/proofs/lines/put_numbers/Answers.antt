@@ -3,8 +3,8 @@ use Rattle.std.proofs.Common.{length-append, drop, get_or, decimal, sym, ap, ◌
 use Rattle.std.proofs.lemmas.Fmt.{length-decimal-le}
 use Rattle.std.proofs.lemmas.List.{drop_more}
 use Rattle.dover_model.specs.Lines.{with_numbers}
-use Rattle.line_text.specs.Writing.{with_field}
-use Rattle.line_text.proofs.Written.{numbers_behind, with_numbers-behind, with_field-begun, one_behind}
+use Rattle.line_text.specs.Writing.{with_field, numbers_behind}
+use Rattle.line_text.proofs.Written.{with_numbers-behind, with_field-begun, one_behind}
 use Rattle.line_output.proofs.lines.put_numbers.Goals as goal
 
 -- a number more takes at most 21 bytes
