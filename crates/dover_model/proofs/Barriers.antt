@@ -1,9 +1,9 @@
 -- The state in which the settled steps of a mark end: the clock is the mark, and no job is fresh.
-use Rattle.std.proofs.Common.{◌≡◌, ℕ, ◌+◌, ◌≤◌, ◌<◌, ◌⊎◌, inl, inr, List, [], ◌∷◌, sym, ap, ◌∙◌, subst, true, arith}
+use Rattle.std.proofs.Common.{◌≡◌, ℕ, ◌+◌, ◌≤◌, ◌<◌, ◌⊎◌, inl, inr, List, [], ◌∷◌, sym, ap, subst, true, arith}
 use Rattle.std.specs.List.{fold}
 use Rattle.dover_model.specs.Fraction.{Fraction}
 use Rattle.dover_model.specs.declared.events.Role.TheVariants.{Fresh}
-use Rattle.dover_model.specs.Instance.{Rules, Instance, IsValid}
+use Rattle.dover_model.specs.Instance.{Instance, IsValid}
 use Rattle.dover_model.specs.State.{State, opening}
 use Rattle.dover_model.specs.Step.{Move, Ticks, open_step, after}
 use Rattle.dover_model.specs.Run.{Step}

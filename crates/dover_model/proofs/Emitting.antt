@@ -1,10 +1,8 @@
 -- What each line of a feed adds to what is due, as the texts that a server writes for it.
-use Rattle.std.proofs.Common.{◌≡◌, ℕ, suc, ◌≤◌, List, [], ◌∷◌, ◌++◌, map, refl, sym, ap, ◌∙◌, subst}
-use Rattle.std.proofs.lemmas.List.{append-nil, map-append, append_assoc}
+use Rattle.std.proofs.Common.{◌≡◌, List, [], ◌∷◌, ◌++◌, map, refl, ap, ◌∙◌}
+use Rattle.std.proofs.lemmas.List.{append-nil, map-append}
 use Rattle.dover_model.specs.declared.events.Event.{Event}
-use Rattle.dover_model.specs.Instance.{Rules}
 use Rattle.dover_model.specs.JobFacts.{JobFacts}
-use Rattle.dover_model.specs.Run.{printed}
 use Rattle.dover_model.specs.Settled.{settled}
 use Rattle.dover_model.specs.Session.{JobItem, RefusedItem, RefusedJob, Session, instance_of, with_item}
 use Rattle.dover_model.specs.Text.{header, text_of, refused_text}

@@ -11,6 +11,7 @@ pub mod BoundRows
 pub mod PieceRows
 pub mod GeneratorRows
 pub mod BaitRows
+pub mod RestRows
 pub mod Tests
 pub mod Calculus
 pub mod Agreement
@@ -47,6 +48,15 @@ pub mod Orderly
 pub mod Underload
 pub mod Runs
 pub mod Paths
+pub mod Shifting
+pub mod Moving
+pub mod Resting
+pub mod Apart
+pub mod Turns
+pub mod RestTick
+pub mod Parting
+pub mod TurnSchedules
+pub mod Anew
 pub mod WaitingMoves
 pub mod Once
 pub mod Honest

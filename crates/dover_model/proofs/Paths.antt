@@ -27,7 +27,7 @@ use Rattle.dover_model.proofs.RunLaws.{one_run}
 use Rattle.dover_model.proofs.Barriers.{clock_stays}
 use Rattle.dover_model.proofs.Settling.{settles, settled_is_run}
 use Rattle.dover_model.proofs.Valid.{valid_front}
-use Rattle.dover_model.proofs.Prefixes.{come_from, later_keeps, opening_later, behind_after, behind_keeps, behind_step, step_open, open_not_end}
+use Rattle.dover_model.proofs.Prefixes.{come_from, later_keeps, opening_later, behind_after, behind_keeps, behind_step, step_open, open_goes_on}
 use Rattle.dover_model.proofs.Runs.{printed_append}
 use Rattle.dover_model.proofs.Tests.{never}
 
@@ -210,7 +210,7 @@ module _ (J : Instance) (valid : IsValid J) (mark : ℕ) where
             )
         by_over false some rest =
             let goes_on : step J.rules s ≡ open_step J.rules s = step_open J.rules s some in
-            let on : is_end (step J.rules s) ≡ false = ap is_end goes_on ∙ open_not_end J valid J valid J.rules mark no_tasks nothing_comes s keeps in (
+            let on : is_end (step J.rules s) ≡ false = ap is_end goes_on ∙ open_goes_on J valid J.rules s keeps in (
               step_at J.rules s ∷ rest.0,
               (
                 refl,
@@ -221,12 +221,6 @@ module _ (J : Instance) (valid : IsValid J) (mark : ℕ) where
                   ∙ cons_append (event_of (open_step J.rules s)) (printed_of xs) (printed_of (z ∷ zs))
                   ∙ sym (ap (λ (y : Step). cons_option (event_of y.move) (printed_of xs) ++ printed_of (z ∷ zs)) path.0),
             ) where
-              no_tasks : List Task
-              no_tasks = []
-
-              nothing_comes : AllComeFrom mark no_tasks
-              nothing_comes = ((λ u m. absurd m), (λ u m. absurd m))
-
               cons_append : (e : Option Event) (es fs : List Event) → cons_option e (es ++ fs) ≡ cons_option e es ++ fs
               cons_append None es fs = refl
               cons_append (Some e) es fs = refl

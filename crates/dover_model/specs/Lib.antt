@@ -11,6 +11,7 @@ pub mod Run
 pub mod Sound
 pub mod Jumps
 pub mod Settled
+pub mod Rest
 pub mod WholeRun
 pub mod Paths
 pub mod Online
@@ -19,6 +20,7 @@ pub mod WaitingMoves
 pub mod Processor
 pub mod Greatest
 pub mod Bound
+pub mod Parts
 pub mod Numerals
 pub mod Lines
 pub mod Admission

@@ -6,6 +6,7 @@ pub mod events;
 pub mod jobs;
 pub mod pieces;
 pub mod ratios;
+pub mod rest_laws;
 pub mod run_laws;
 pub mod trace_laws;
 

@@ -1,0 +1,113 @@
+-- A run that falls apart at a moment of rest.
+use Rattle.std.specs.Prelude.{◌≡◌, ◌≤◌, ℕ, ◌+◌, List, [], ◌∷◌, ◌++◌, map, length, Bool, true, false, not}
+use Rattle.std.specs.List.{filter, sum_by, fold}
+use Rattle.dover_model.specs.declared.events.Event.{Event}
+use Rattle.dover_model.specs.declared.events.Event.TheVariants.{Release, Run, Preempt, Take, Complete, Abandon, End}
+use Rattle.dover_model.specs.JobFacts.{JobFacts}
+use Rattle.dover_model.specs.Instance.{Rules, Instance, IsValid}
+use Rattle.dover_model.specs.State.{is_over}
+use Rattle.dover_model.specs.Sound.{Each}
+use Rattle.dover_model.specs.Run.{run, printed, completed_value}
+use Rattle.dover_model.specs.Settled.{settled_state}
+
+-- other jobs under the same rules
+abbrev pub instead : Instance → List JobFacts → Instance
+instead J more = record { rules = J.rules; jobs = more }
+
+-- no job is released before the tick
+abbrev pub NoneBefore : ℕ → List JobFacts → Type 0
+NoneBefore tick jobs = Each (λ j. tick ≤ j.release) jobs
+
+-- at the barrier of the mark, all jobs are over
+abbrev pub IsAtRest : Instance → ℕ → Type 0
+IsAtRest J mark = Each (λ t. is_over t ≡ true) (settled_state J mark).tasks
+
+-- the tick at which the run ends
+abbrev pub end_tick : Instance → ℕ
+end_tick J = fold (λ clock step. step.before.clock) 0 (run J)
+
+-- what is printed of jobs that are numbered behind n others, which came to this value
+abbrev pub behind : ℕ → ℕ → Event → Event
+behind n value (Release m job) = Release (n + m) job
+behind n value (Run at m) = Run at (n + m)
+behind n value (Preempt at stops starts) = Preempt at (n + stops) (n + starts)
+behind n value (Take at stops starts) = Take at (n + stops) (n + starts)
+behind n value (Complete at m) = Complete at (n + m)
+behind n value (Abandon at m) = Abandon at (n + m)
+behind n value (End more) = End (value + more)
+
+-- the event is End
+abbrev pub names_end : Event → Bool
+names_end (End value) = true
+names_end _ = false
+
+-- what is printed before End
+abbrev pub before_end : List Event → List Event
+before_end events = filter (λ e. not (names_end e)) events
+
+-- ---- lists of jobs in turn
+
+-- the first of these lists is valid by itself and at rest at some tick, and all others are in turn from that tick on
+abbrev pub IsInTurn : Rules → ℕ → List (List JobFacts) → Type 0
+IsInTurn rules from [] = Unit {0}
+IsInTurn rules from (jobs ∷ lists) = IsValid (record { rules = rules; jobs = jobs }) × NoneBefore from jobs
+    × ((rest : ℕ) × (from ≤ rest) × IsAtRest (record { rules = rules; jobs = jobs }) rest × IsInTurn rules rest lists)
+
+-- so are these, and all of them are over at the last tick
+abbrev pub AreOverAt : Rules → ℕ → List (List JobFacts) → (tick : ℕ) → Type 0
+AreOverAt rules from [] tick = from ≤ tick
+AreOverAt rules from (jobs ∷ lists) tick = IsValid (record { rules = rules; jobs = jobs }) × NoneBefore from jobs
+    × ((rest : ℕ) × (from ≤ rest) × IsAtRest (record { rules = rules; jobs = jobs }) rest × AreOverAt rules rest lists tick)
+
+-- all their jobs
+abbrev pub in_turn : List (List JobFacts) → List JobFacts
+in_turn [] = []
+in_turn (jobs ∷ lists) = jobs ++ in_turn lists
+
+-- what their runs print, each one's jobs numbered behind those before, and at the end the value of all
+abbrev pub printed_in_turn : Rules → List (List JobFacts) → List Event
+printed_in_turn rules [] = End 0 ∷ []
+printed_in_turn rules (jobs ∷ lists) = before_end (printed (record { rules = rules; jobs = jobs }))
+    ++ map (behind (length jobs) (completed_value (record { rules = rules; jobs = jobs }))) (printed_in_turn rules lists)
+
+-- the sum of what their runs complete
+abbrev pub completed_in_turn : Rules → List (List JobFacts) → ℕ
+completed_in_turn rules lists = sum_by (λ jobs. completed_value (record { rules = rules; jobs = jobs })) lists
+
+-- ---- jobs moved in time
+
+-- the job c ticks later
+abbrev pub later_job : ℕ → JobFacts → JobFacts
+later_job c j = record { release = j.release + c; work = j.work; deadline = j.deadline + c; value = j.value }
+
+-- the event c ticks later
+abbrev pub later_event : ℕ → Event → Event
+later_event c (Release n job) = Release n (later_job c job)
+later_event c (Run at n) = Run (at + c) n
+later_event c (Preempt at stops starts) = Preempt (at + c) stops starts
+later_event c (Take at stops starts) = Take (at + c) stops starts
+later_event c (Complete at n) = Complete (at + c) n
+later_event c (Abandon at n) = Abandon (at + c) n
+later_event c (End value) = End value
+
+-- Lists of jobs, each with a tick, that are valid and at rest at that tick, each by itself and in a time of its own from the tick 0 on.
+abbrev pub AreAnew : Rules → List (ℕ × List JobFacts) → Type 0
+AreAnew rules [] = Unit {0}
+AreAnew rules (t_jobs ∷ lists) = IsValid (record { rules = rules; jobs = t_jobs.1 }) × IsAtRest (record { rules = rules; jobs = t_jobs.1 }) t_jobs.0
+    × AreAnew rules lists
+
+-- all their jobs in one time, in which each list begins at the tick at which the one before it is at rest
+abbrev pub anew : List (ℕ × List JobFacts) → List JobFacts
+anew [] = []
+anew (t_jobs ∷ lists) = t_jobs.1 ++ map (later_job t_jobs.0) (anew lists)
+
+-- what their runs print in that time, each one's jobs numbered behind those before, and at the end the value of all
+abbrev pub printed_anew : Rules → List (ℕ × List JobFacts) → List Event
+printed_anew rules [] = End 0 ∷ []
+printed_anew rules (t_jobs ∷ lists) = before_end (printed (record { rules = rules; jobs = t_jobs.1 }))
+    ++ map (behind (length t_jobs.1) (completed_value (record { rules = rules; jobs = t_jobs.1 })))
+    (map (later_event t_jobs.0) (printed_anew rules lists))
+
+-- the sum of what their runs complete
+abbrev pub completed_anew : Rules → List (ℕ × List JobFacts) → ℕ
+completed_anew rules lists = sum_by (λ t_jobs. completed_value (record { rules = rules; jobs = t_jobs.1 })) lists
