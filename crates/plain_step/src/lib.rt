@@ -11,6 +11,3 @@ pub use decide::open_step;
 pub use effect::{apply, tick, wait};
 pub use jump::silent_ticks;
 pub use moves::Move;
-
-#[cfg(test)]
-mod tests;

@@ -13,3 +13,4 @@ pub mod Ticking
 pub mod Silent
 pub mod Over
 pub mod Costs
+pub mod Renewing

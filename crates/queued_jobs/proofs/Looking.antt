@@ -10,7 +10,7 @@ use Rattle.dover_model.specs.declared.events.Version.{Version}
 use Rattle.dover_model.specs.declared.events.Role.TheVariants.{Running, Held, Waiting}
 use Rattle.dover_model.specs.declared.events.Task.{Task}
 use Rattle.dover_model.specs.declared.events.Entry.{Entry}
-use Rattle.dover_model.specs.State.{State, is_running, is_held, is_waiting, is_privileged, running, privileged, room, latest_start, value_sum}
+use Rattle.dover_model.specs.State.{State, is_running, is_held, is_waiting, is_privileged, room, latest_start, value_sum}
 use Rattle.dover_model.specs.Limits.{most_total}
 use Rattle.dover_model.specs.Instance.{Instance, IsValid}
 use Rattle.dover_model.specs.Entries.{IsStrictOrder, entry_of, room_of, is_due_before, is_latest_before}
@@ -355,14 +355,6 @@ none_found {X} p xs none = by_list (filter p xs) refl where
   by_list : (l : List X) → filter p xs ≡ l → filter p xs ≡ []
   by_list [] is = is
   by_list (y ∷ ys) is = none_is_some (sym none ∙ find_head p xs y ys is)
-
--- the value of the held jobs is that of the running and the held ones
-pub free_value : (s : State) → running s ≡ None → value_sum (filter is_held s.tasks) ≡ value_sum (privileged s)
-free_value s none = ap value_sum (sym (free_privileged s.tasks (none_found is_running s.tasks none)))
-
--- and so is the room
-pub free_room : (s : State) → running s ≡ None → room s.clock (filter is_held s.tasks) ≡ room s.clock (privileged s)
-free_room s none = ap (room s.clock) (sym (free_privileged s.tasks (none_found is_running s.tasks none)))
 
 -- ---- limits
 

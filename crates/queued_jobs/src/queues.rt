@@ -1,28 +1,29 @@
 //! The jobs and their queues.
 ghost use Rattle.std.specs.Prelude.{◌≡◌, ◌≢◌, ◌≤◌, ◌<◌, ◌+◌, ◌-◌, ◌*◌, ◌^◌, ℕ, length, [], ◌∷◌, ◌++◌, Some, None, IfOk, IsOk, IfSome, OnOk, OnErr, IsNone, IsSome, true, max, map, vec_len, vec_capacity};
 ghost use Rattle.std.specs.List.{filter, find, slice_get, list_all};
-ghost use Rattle.std.specs.Option.{option_to_list};
+ghost use Rattle.std.specs.Option.{option_to_list, option_map};
 ghost use Rattle.dover_model.specs.Limits.{most_jobs, most_total, last_tick};
 ghost use Rattle.dover_model.specs.declared.events.Role.TheVariants.{Coming, Fresh, Waiting as Waits, Held, Running, Done, Gone};
 ghost use Rattle.dover_model.specs.Instance.{IsValid, with_jobs};
 ghost use Rattle.dover_model.specs.State.{State, opening, with_later, is_over, is_done, is_fresh, is_coming, is_held, is_running, left, latest_start, value_sum};
 ghost use Rattle.dover_model.specs.State.{running, held, waiting, privileged, room};
 ghost use Rattle.dover_model.specs.Orders.{due_first, latest_first, first};
-ghost use Rattle.dover_model.specs.Step.{open_step, view, after, is_at_latest_start};
+ghost use Rattle.dover_model.specs.Step.{open_step, view, after, is_at_latest_start, resumed, runs};
 ghost use Rattle.dover_model.specs.Sound.{IsSound, Each, IsNumberedFrom};
 ghost use Rattle.dover_model.specs.Jumps.{NothingDue, later_by, ticked_by};
 ghost use Rattle.dover_model.specs.Entries.{entry_of, room_of};
-ghost use Rattle.queued_jobs.specs.Moves.{step_of, view_of};
+ghost use Rattle.queued_jobs.specs.Cases.{decision_of, arrival_of, alarm_of};
+ghost use Rattle.queued_jobs.specs.Moves.{step_of};
 ghost use Rattle.queued_jobs.specs.Roles.{Changes, all_displaced};
 ghost use Rattle.dover_model.specs.Step.{Prints, Waits as WaitsFor, Ticks as TicksOn};
 ghost use Rattle.dover_model.specs.declared.events.Event.TheVariants.{Release, Run, Preempt, Take, Complete, Abandon};
 ghost use Rattle.queued_jobs.specs.Costs.{cost_of};
 ghost use Rattle.queued_jobs.specs.Queued.{Queued, instance_of, in_state, with_job_in, IsNext, stepped};
 
-use crate::decide::{decide, left};
-use crate::moves::{Move, View};
+use crate::moves::Move;
 use dover_model::{Entry, Event, Job, Memory, Ratio, Role, Task, Version};
 use privileged_queue::Privileged;
+use root_compare::heavy;
 use std::alloc::Global;
 use std::marker::Model;
 use std::sync::ledger::Ledger;
@@ -56,6 +57,13 @@ impl Model for Queues {
     ghost view = { queued_of };
 
     ghost invariant = { IsQueued };
+}
+
+// The ticks that the job is still to have.
+fn left(t: &Task) -> u64
+    ensures { result ≡ left t.now }
+{
+    t.job.work().saturating_sub(t.had)
 }
 
 // The job as one that doesn't run.
@@ -153,6 +161,20 @@ impl Queues {
         self.spare
     }
 
+    /// The version.
+    pub fn version(&self) -> Version
+        ensures { result ≡ self.now.rules.version }
+    {
+        self.version
+    }
+
+    /// The ratio.
+    pub fn ratio(&self) -> Ratio
+        ensures { result ≡ self.now.rules.ratio }
+    {
+        self.ratio
+    }
+
     /// Puts a job in under the next number, which is the answer. It is still to come, and there is room for it.
     pub fn push(&mut self, job: Job) -> u32
         requires { 1 ≤ self.old.spare }
@@ -174,6 +196,22 @@ impl Queues {
             .unwrap();
         self.spare -= 1;
         number
+    }
+
+    /// Forgets all jobs, which are over. The clock goes on, and there is room for as many more.
+    pub fn renew(&mut self)
+        requires { Each (λ t. is_over t ≡ true) self.old.state.tasks }
+        ensures { self.new ≡ record {
+          rules = self.old.rules;
+          state = record { clock = self.old.state.clock; tasks = [] };
+          spare = self.old.spare + length self.old.state.tasks;
+        } }
+    {
+        let jobs = self.tasks.len() as u32;
+        self.spare += jobs;
+        self.tasks.clear();
+        self.next = 0;
+        self.done = 0;
     }
 
     /// The job of a number, if there is one, with its role and the ticks that it has had.
@@ -251,37 +289,120 @@ impl Queues {
         r.job.value() + self.held.value_sum()
     }
 
-    // The room and the value of the running job, if one runs, and the held jobs.
-    fn room_and_value(&self, runner: &Option<Task>) -> (u64, u64)
+    // The fresh job f preempts the running job r, or waits.
+    fn decision(&self, r: &Task, f: &Task) -> Move
         requires sound { IsSound self.now.state }
-        requires runner { running self.now.state ≡ runner.now }
-        ensures room { result.0 ≡ room self.now.state.clock (privileged self.now.state) }
-        ensures value { result.1 ≡ value_sum (privileged self.now.state) }
+        requires running { running self.now.state ≡ Some r.now }
+        ensures { step_of result ≡ decision_of (view self.now.rules.version self.now.state) r.now f.now }
     {
-        match runner {
-            Some(r) => (self.room_busy(r), self.value_busy(r)),
-            None => (self.room_held(), self.held.value_sum()),
+        if f.job.deadline() < r.job.deadline() && f.job.work() <= self.room_busy(r) {
+            Move::Prints(Event::Preempt {
+                at: self.cpu.clock(),
+                stops: r.number,
+                starts: f.number,
+            })
+        } else {
+            Move::Waits(f.number)
         }
     }
 
-    /// What the decision of the next step depends on.
-    pub fn view(&self) -> View
-        requires { IsSound self.now.state }
-        ensures { view_of result ≡ view self.now.rules.version self.now.state }
+    // The first job to come, if it is released now.
+    fn arrival(&self) -> Option<Move>
+        ensures { option_map step_of result ≡ arrival_of (view self.now.rules.version self.now.state) }
     {
-        let runner = self.running();
-        let (room, value) = self.room_and_value(&runner);
-        View {
-            clock: self.cpu.clock(),
-            running: runner,
-            held: self.first_held(),
-            waiting: self.first_waiting(),
-            fresh: self.fresh(),
-            coming: self.coming(),
-            late: self.first_late(),
-            room_held: self.room_held(),
-            room,
-            value,
+        let c = self.coming()?;
+        if c.job.release() != self.cpu.clock() {
+            return None;
+        }
+        Some(Move::Prints(Event::Release {
+            number: c.number,
+            job: c.job,
+        }))
+    }
+
+    // The job x takes the processor from the running job r, or is abandoned.
+    fn alarm(&self, r: &Task, x: &Task) -> Move
+        requires valid { IsValid (instance_of self.now) }
+        requires sound { IsSound self.now.state }
+        requires running { running self.now.state ≡ Some r.now }
+        ensures { step_of result ≡ alarm_of self.now.rules.ratio (view self.now.rules.version self.now.state) r.now x.now }
+    {
+        if heavy(x.job.value(), self.value_busy(r), self.ratio) {
+            Move::Prints(Event::Take {
+                at: self.cpu.clock(),
+                stops: r.number,
+                starts: x.number,
+            })
+        } else {
+            Move::Prints(Event::Abandon {
+                at: self.cpu.clock(),
+                number: x.number,
+            })
+        }
+    }
+
+    // The next step while r runs.
+    fn busy_step(&self, r: &Task) -> Move
+        requires valid { IsValid (instance_of self.now) }
+        requires sound { IsSound self.now.state }
+        requires running { running self.now.state ≡ Some r.now }
+        ensures { step_of result ≡ open_step self.now.rules self.now.state }
+    {
+        if left(r) == 0 {
+            return Move::Prints(Event::Complete {
+                at: self.cpu.clock(),
+                number: r.number,
+            });
+        }
+        if let Some(f) = self.fresh() {
+            return self.decision(r, &f);
+        }
+        if let Some(release) = self.arrival() {
+            return release;
+        }
+        match self.first_late() {
+            Some(x) => self.alarm(r, &x),
+            None => Move::Ticks,
+        }
+    }
+
+    // The job gets the processor.
+    fn run(&self, t: &Task) -> Move
+        ensures { step_of result ≡ runs (view self.now.rules.version self.now.state) t.now }
+    {
+        Move::Prints(Event::Run {
+            at: self.cpu.clock(),
+            number: t.number,
+        })
+    }
+
+    // While p is held: the first waiting job, if it is due before p and fits the room of the held jobs, otherwise p.
+    fn resumed(&self, p: &Task) -> Task
+        ensures { let v = view self.now.rules.version self.now.state in result ≡ resumed v p.now v.waiting }
+    {
+        match self.first_waiting() {
+            Some(o) if o.job.deadline() < p.job.deadline() && left(&o) <= self.room_held() => o,
+            _ => *p,
+        }
+    }
+
+    // The next step while no job runs.
+    fn free_step(&self) -> Move
+        requires { running self.now.state ≡ None }
+        ensures { step_of result ≡ open_step self.now.rules self.now.state }
+    {
+        if let Some(p) = self.first_held() {
+            return self.run(&self.resumed(&p));
+        }
+        if let Some(o) = self.first_waiting() {
+            return self.run(&o);
+        }
+        if let Some(f) = self.fresh() {
+            return self.run(&f);
+        }
+        match self.arrival() {
+            Some(release) => release,
+            None => Move::Ticks,
         }
     }
 
@@ -291,7 +412,10 @@ impl Queues {
         requires sound { IsSound self.now.state }
         ensures { step_of result ≡ open_step self.now.rules self.now.state }
     {
-        decide(self.ratio, &self.view())
+        match self.running() {
+            Some(r) => self.busy_step(&r),
+            None => self.free_step(),
+        }
     }
 
     // The running job t is done.
@@ -543,7 +667,7 @@ impl Queues {
         requires { IsSound self.now.state }
         ensures most { result ≤ most }
         ensures due { Each (λ t. t.role ≡ Running → result ≤ left t) self.now.state.tasks }
-        ensures some { 1 ≤ most → Each (λ t. t.role ≡ Running → 1 ≤ left t) self.now.state.tasks → 1 ≤ result }
+        ensures all { (n : ℕ) → n ≤ most → Each (λ t. t.role ≡ Running → n ≤ left t) self.now.state.tasks → n ≤ result }
     {
         match self.running() {
             Some(r) => most.min(left(&r)),
@@ -556,7 +680,8 @@ impl Queues {
         requires { IsSound self.now.state }
         ensures most { result ≤ most }
         ensures due { Each (λ t. t.role ≡ Waits → self.now.state.clock + result ≤ latest_start t) self.now.state.tasks }
-        ensures some { 1 ≤ most → Each (λ t. t.role ≡ Waits → self.now.state.clock < latest_start t) self.now.state.tasks → 1 ≤ result }
+        ensures all { (n : ℕ) → n ≤ most → Each (λ t. t.role ≡ Waits → self.now.state.clock + n ≤ latest_start t) self.now.state.tasks →
+            n ≤ result }
     {
         match self.waiting.first_latest() {
             Some(e) => most.min(e.latest.saturating_sub(self.cpu.clock())),
@@ -570,7 +695,8 @@ impl Queues {
         requires sound { IsSound self.now.state }
         ensures most { result ≤ most }
         ensures due { Each (λ t. t.role ≡ Coming → self.now.state.clock + result ≤ t.job.release) self.now.state.tasks }
-        ensures some { 1 ≤ most → Each (λ t. t.role ≡ Coming → self.now.state.clock < t.job.release) self.now.state.tasks → 1 ≤ result }
+        ensures all { (n : ℕ) → n ≤ most → Each (λ t. t.role ≡ Coming → self.now.state.clock + n ≤ t.job.release) self.now.state.tasks →
+            n ≤ result }
     {
         match self.coming() {
             Some(c) => most.min(c.job.release().saturating_sub(self.cpu.clock())),
@@ -578,11 +704,12 @@ impl Queues {
         }
     }
 
-    /// How many silent ticks come before anything is due, at most so many, where the next step is a silent tick.
+    /// How many silent ticks come before anything is due, all of them but at most so many, where the next step is a silent tick.
     pub fn silent_ticks(&self, most: u64) -> u64
         requires { IsNext self.now TicksOn }
         ensures most { result ≤ most }
         ensures due { NothingDue result self.now.state }
+        ensures all { (n : ℕ) → n ≤ most → NothingDue n self.now.state → n ≤ result }
         ensures some { 1 ≤ most → 1 ≤ result }
     {
         self.before_release(self.before_latest(self.before_done(most)))

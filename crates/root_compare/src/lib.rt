@@ -8,6 +8,3 @@ mod root;
 pub use compare::{bound, heavy, within};
 pub use laws::{forms_of_rows, light_values_exceed_by_little, numbers_below_a_root};
 pub use root::isqrt;
-
-#[cfg(test)]
-mod tests;

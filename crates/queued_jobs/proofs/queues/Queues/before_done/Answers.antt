@@ -12,11 +12,11 @@ returns-in-Some-clause-due c x m runs =
     let rest : left x ≡ left c.in-Some.r = ap left same in
     omega (arith, c.min.ensures, c.left.ensures, rest)
 
-pub returns-in-Some-clause-some : goal.returns-in-Some-clause-some
-returns-in-Some-clause-some c some all =
+pub returns-in-Some-clause-all : goal.returns-in-Some-clause-all
+returns-in-Some-clause-all c n most all =
     let it = found is_running c.args.self.now.state.tasks c.in-Some.r (sym c.in-Some.ensures) in
-    let one : 1 ≤ left c.in-Some.r = all c.in-Some.r it.0 (is_running_role c.in-Some.r it.1) in
-    omega (arith, c.min.ensures, c.left.ensures, one, some)
+    let fits : n ≤ left c.in-Some.r = all c.in-Some.r it.0 (is_running_role c.in-Some.r it.1) in
+    omega (arith, c.min.ensures, c.left.ensures, fits, most)
 
 pub returns-in-None-clause-due : goal.returns-in-None-clause-due
 returns-in-None-clause-due c x m runs = absurd (none_running c.args.self.now.state (sym c.in-None.ensures) x m runs)

@@ -1,4 +1,4 @@
-use Rattle.std.proofs.Common.{◌≡◌, ◌+◌, ◌≤◌, ◌<◌, true, refl, sym, ap, ◌∙◌, subst, arith}
+use Rattle.std.proofs.Common.{◌≡◌, ◌+◌, ◌≤◌, true, refl, sym, ap, ◌∙◌, subst, arith}
 use Rattle.dover_model.specs.declared.events.Entry.{Entry}
 use Rattle.dover_model.specs.declared.events.Role.TheVariants.{Waiting}
 use Rattle.dover_model.specs.State.{is_waiting, latest_start}
@@ -28,8 +28,8 @@ returns-in-Some-clause-due c =
     omega (arith, past, low, c.min.ensures, c.saturating_sub.ensures, c.clock.ensures)) in
     subst (λ q. Each (λ t. t.role ≡ Waiting → q.state.clock + c.min.result ≤ latest_start t) q.state.tasks) c.self.view_is due
 
-pub returns-in-Some-clause-some : goal.returns-in-Some-clause-some
-returns-in-Some-clause-some c some all =
+pub returns-in-Some-clause-all : goal.returns-in-Some-clause-all
+returns-in-Some-clause-all c n most all =
     let inside = c.self.inside in
     let s = (queued_of inside).state in
     let table = inside.waiting.table in
@@ -37,11 +37,11 @@ returns-in-Some-clause-some c some all =
     let members = waiting_members inside.tasks.items table c.self.invariant.agrees.0 c.self.invariant.agrees.2.waiting in
     let at = c.in-Some.ensures ∙ ap (λ v. first (is_latest_before v) (members_of table)) c.self.invariant.version in
     let it = latest_job inside.version s sound (members_of table) members c.in-Some.e at in
-    let early = subst (λ q. Each (λ t. t.role ≡ Waiting → q.state.clock < latest_start t) q.state.tasks) (sym c.self.view_is) all in
+    let early = subst (λ q. Each (λ t. t.role ≡ Waiting → q.state.clock + n ≤ latest_start t) q.state.tasks) (sym c.self.view_is) all in
     let there = member_filter is_waiting inside.tasks.items it.0 it.1 in
-    let later : inside.cpu.clock < latest_start it.0 = early it.0 there.0 (is_waiting_role it.0 there.1) in
+    let later : inside.cpu.clock + n ≤ latest_start it.0 = early it.0 there.0 (is_waiting_role it.0 there.1) in
     let same : c.in-Some.e.latest ≡ latest_start it.0 = ap (λ (x : Entry). x.latest) it.2 in
-    omega (arith, later, same, some, c.min.ensures, c.saturating_sub.ensures, c.clock.ensures)
+    omega (arith, later, same, most, c.min.ensures, c.saturating_sub.ensures, c.clock.ensures)
 
 pub returns-in-None-clause-due : goal.returns-in-None-clause-due
 returns-in-None-clause-due c =

@@ -1,4 +1,4 @@
-use Rattle.std.proofs.Common.{◌<◌, true, refl, sym, ap, ◌∙◌, arith}
+use Rattle.std.proofs.Common.{◌≤◌, ◌+◌, true, refl, sym, ap, ◌∙◌, arith}
 use Rattle.dover_model.specs.declared.events.Role.TheVariants.{Coming}
 use Rattle.dover_model.specs.State.{is_coming}
 use Rattle.dover_model.specs.Sound.{Keeps}
@@ -18,13 +18,13 @@ returns-in-Some-clause-due c x m comes =
     let clock = c.clock.ensures ∙ ap (λ p. p.state.clock) c.self.view_is in
     omega (arith, it.0, low, clock, c.min.ensures, c.saturating_sub.ensures, c.release.ensures.is)
 
-pub returns-in-Some-clause-some : goal.returns-in-Some-clause-some
-returns-in-Some-clause-some c some all =
+pub returns-in-Some-clause-all : goal.returns-in-Some-clause-all
+returns-in-Some-clause-all c n most all =
     let q = c.args.self.now in
     let it = found is_coming q.state.tasks c.in-Some.c (sym c.in-Some.ensures) in
-    let later : q.state.clock < c.in-Some.c.job.release = all c.in-Some.c it.0 (is_coming_role c.in-Some.c it.1) in
+    let later : q.state.clock + n ≤ c.in-Some.c.job.release = all c.in-Some.c it.0 (is_coming_role c.in-Some.c it.1) in
     let clock = c.clock.ensures ∙ ap (λ p. p.state.clock) c.self.view_is in
-    omega (arith, later, clock, some, c.min.ensures, c.saturating_sub.ensures, c.release.ensures.is)
+    omega (arith, later, clock, most, c.min.ensures, c.saturating_sub.ensures, c.release.ensures.is)
 
 pub returns-in-None-clause-due : goal.returns-in-None-clause-due
 returns-in-None-clause-due c x m comes =

@@ -27,5 +27,11 @@ returns-clause-some c some =
     let keeps : Keeps (instance_of q) q.state = record { sound = c.requires.sound; jobs = refl } in
     let quiet = tick_quiet q.rules.ratio q.state Ticks (open_step q.rules q.state)
     (open_deed (instance_of q) c.requires.valid q.state keeps q.rules) c.requires.step in
-    c.before_release.ensures.some
-    (c.before_latest.ensures.some (c.before_done.ensures.some some quiet.busy) (early_waits q.state c.requires.sound quiet.early)) quiet.ahead
+    c.before_release.ensures.all 1
+    (c.before_latest.ensures.all 1 (c.before_done.ensures.all 1 some quiet.busy)
+    (λ t m waits. let later = early_waits q.state c.requires.sound quiet.early t m waits in omega (arith, later)))
+    (λ t m comes. let later = quiet.ahead t m comes in omega (arith, later))
+
+pub returns-clause-all : goal.returns-clause-all
+returns-clause-all c n most due =
+    c.before_release.ensures.all n (c.before_latest.ensures.all n (c.before_done.ensures.all n most due.running) due.waiting) due.coming
