@@ -77,6 +77,7 @@ impl Admission {
 
     /// The job of these numbers, release, work and deadline in ticks, where it may be admitted next, or why it may not. The
     /// numbers may be out of the limits of a job.
+    #[inline(always)]
     pub fn check(&self, release: u64, work: u64, deadline: u64, value: u64) -> Result<Job, Refused>
         ensures job { IfOk result (λ job. job ≡ job_of_numbers release work deadline value) }
         ensures room { IfOk result (λ job. HasRoom self.now job) }
@@ -101,6 +102,7 @@ impl Admission {
     }
 
     /// Admits a job that `check` answered, so that there is room for it.
+    #[inline(always)]
     pub fn admit(&mut self, job: Job)
         requires { HasRoom self.old job }
         ensures stands { (jobs : List JobFacts) → StandsFor self.old jobs → StandsFor self.new (jobs ++ job ∷ []) }
@@ -111,11 +113,10 @@ impl Admission {
             number: self.count,
             job,
         };
-        let extremes = match &self.extremes {
-            Some(extremes) => extremes.with(&next),
-            None => Extremes::of(next),
-        };
-        self.extremes = Some(extremes);
+        match &mut self.extremes {
+            Some(extremes) => extremes.add(&next),
+            None => self.extremes = Some(Extremes::of(next)),
+        }
         self.count += 1;
         self.total += value;
     }

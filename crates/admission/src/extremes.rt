@@ -12,27 +12,23 @@ pub struct Numbered {
     pub job: Job,
 }
 
-/// The next one where it is less dense than the one that is kept.
-fn less_dense(kept: &Numbered, next: &Numbered) -> Numbered
-    ensures next { IsLessDense next.now.job kept.now.job → result ≡ next.now }
-    ensures kept { (IsLessDense next.now.job kept.now.job → ⊥) → result ≡ kept.now }
+/// The next one takes the place of the kept one where it is less dense.
+fn keep_less_dense(kept: &mut Numbered, next: &Numbered)
+    ensures next { IsLessDense next.now.job kept.old.job → kept.new ≡ next.now }
+    ensures kept { (IsLessDense next.now.job kept.old.job → ⊥) → kept.new ≡ kept.old }
 {
     if is_less_dense(&next.job, &kept.job) {
-        *next
-    } else {
-        *kept
+        *kept = *next;
     }
 }
 
-/// The next one where it is denser than the one that is kept.
-fn denser(kept: &Numbered, next: &Numbered) -> Numbered
-    ensures next { IsLessDense kept.now.job next.now.job → result ≡ next.now }
-    ensures kept { (IsLessDense kept.now.job next.now.job → ⊥) → result ≡ kept.now }
+/// The next one takes the place of the kept one where it is denser.
+fn keep_denser(kept: &mut Numbered, next: &Numbered)
+    ensures next { IsLessDense kept.old.job next.now.job → kept.new ≡ next.now }
+    ensures kept { (IsLessDense kept.old.job next.now.job → ⊥) → kept.new ≡ kept.old }
 {
     if is_less_dense(&kept.job, &next.job) {
-        *next
-    } else {
-        *kept
+        *kept = *next;
     }
 }
 
@@ -63,15 +59,13 @@ impl Extremes {
     }
 
     /// Those of the jobs with one more behind them.
-    pub fn with(&self, next: &Numbered) -> Extremes
+    pub fn add(&mut self, next: &Numbered)
         requires { IsJob next.now.job }
-        ensures { (jobs : List JobFacts) → AreExtremes jobs self.now → next.now.number ≡ length jobs →
-            AreExtremes (jobs ++ next.now.job ∷ []) result }
+        ensures { (jobs : List JobFacts) → AreExtremes jobs self.old → next.now.number ≡ length jobs →
+            AreExtremes (jobs ++ next.now.job ∷ []) self.new }
     {
-        Extremes {
-            least: less_dense(&self.least, next),
-            densest: denser(&self.densest, next),
-        }
+        keep_less_dense(&mut self.least, next);
+        keep_denser(&mut self.densest, next);
     }
 
     /// The number of the one that breaks the ratio with this job, if one does: the least dense one first.

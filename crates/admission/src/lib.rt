@@ -5,8 +5,6 @@ mod admitting;
 mod densities;
 mod extremes;
 mod refused;
-#[cfg(test)]
-mod tests;
 
 pub use admitting::Admission;
 pub use refused::Refused;

@@ -4,7 +4,7 @@ pub mod Going
 pub mod Standing
 pub mod Admission
 pub mod Feeding
-pub mod Tested
 pub mod Counting
 pub mod Spending
 pub mod Passing
+pub mod Renewing

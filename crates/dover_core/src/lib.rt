@@ -7,6 +7,3 @@ pub mod server;
 
 pub use horizon::Horizon;
 pub use server::Server;
-
-#[cfg(test)]
-mod tests;

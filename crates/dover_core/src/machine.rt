@@ -1,8 +1,11 @@
 //! The machine of the server.
 ghost use Rattle.std.specs.Prelude.{◌≡◌, ◌≤◌, ◌<◌, ◌+◌, ◌^◌, ℕ, IfSome, IsNone, None, length};
+ghost use Rattle.std.specs.List.{list_all};
 ghost use Rattle.dover_model.specs.Instance.{IsValid};
+ghost use Rattle.dover_model.specs.State.{is_over};
 ghost use Rattle.dover_model.specs.Sound.{IsSound, jobs_of};
-ghost use Rattle.dover_model.specs.Step.{Prints, open_step};
+ghost use Rattle.dover_model.specs.Step.{Prints, Ticks, open_step};
+ghost use Rattle.dover_model.specs.Jumps.{NothingDue};
 ghost use Rattle.dover_model.specs.Run.{event_of};
 ghost use Rattle.queued_jobs.specs.Moves.{step_of};
 ghost use Rattle.queued_jobs.specs.Costs.{cost_of};
@@ -30,6 +33,18 @@ fn step_or_end(queues: &Queues, step: Move) -> Move
             value: queues.value(),
         }),
         _ => step,
+    }
+}
+
+// Whether all jobs are over.
+pub fn all_over(queues: &Queues) -> bool
+    requires valid { IsValid (instance_of queues.now) }
+    requires sound { IsSound queues.now.state }
+    ensures { result ≡ list_all is_over queues.now.state.tasks }
+{
+    match queues.open_step() {
+        Move::Ticks => queues.are_over(),
+        _ => false,
     }
 }
 
@@ -75,6 +90,8 @@ fn go_on<L: Ledger>(to: Horizon, step: &Move, queues: &mut Queues, steps: &mut S
     requires step { step_to to queues.old.rules queues.old.state ≡ step_of step.now }
     requires silent { event_of (step_of step.now) ≡ None }
     ensures goes { GoesOn to queues.old.rules queues.old.state queues.new.state }
+    ensures far { step_of step.now ≡ Ticks → (n : ℕ) → NothingDue n queues.old.state → queues.old.state.clock + n ≤ last_clock to →
+        queues.old.state.clock + n ≤ queues.new.state.clock }
     ensures count { (d : ℕ) → length queues.old.state.tasks + 1 < 2 ^ d →
         IsCounted to queues.old.rules queues.old.state queues.new.state d steps.old steps.new }
     ensures same { queues.new ≡ in_state queues.old queues.new.state }

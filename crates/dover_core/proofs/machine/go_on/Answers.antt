@@ -1,4 +1,4 @@
-use Rattle.std.proofs.Common.{◌∙◌, ◌-◌, ◌≤◌, refl, sym, ap, subst, arith}
+use Rattle.std.proofs.Common.{◌≡◌, ◌∙◌, ◌+◌, ◌-◌, ◌≤◌, refl, sym, ap, subst, arith}
 use Rattle.dover_model.specs.Step.{Waits, Ticks}
 use Rattle.dover_model.specs.Jumps.{later_by}
 use Rattle.queued_jobs.specs.Moves.{step_of}
@@ -60,3 +60,13 @@ returns-in_default-clause-count g c d fits =
     (λ some. c.silent_ticks-ticks.ensures.some (omega (arith, some, c.last_clock.ensures, c.clock.ensures))) in
     subst (λ (p : Queued). IsCounted c.args.to q.rules q.state p.state d c.args.steps.now c.args.steps.now) (sym c.tick.ensures)
     (counted_silent c.args.to q.rules q.state (later_by ticks q.state) d c.args.steps.now goes.lead)
+
+pub returns-in-Waits-clause-far : goal.returns-in-Waits-clause-far
+returns-in-Waits-clause-far g c ticks = absurd (let e : Waits c.in-Waits.number ≡ Ticks = sym (ap step_of c.in-Waits.is) ∙ ticks in cc)
+
+pub returns-in_default-clause-far : goal.returns-in_default-clause-far
+returns-in_default-clause-far g c ticks n due within =
+    let q = c.args.queues.now in
+    let most : n ≤ c.silent_ticks-ticks.result =
+    c.silent_ticks-ticks.ensures.all n (omega (arith, within, c.last_clock.ensures, c.clock.ensures)) due in
+    subst (λ (p : Queued). q.state.clock + n ≤ p.state.clock) (sym c.tick.ensures) (omega (arith, most))

@@ -1,4 +1,0 @@
-use Rattle.dover_core.proofs.tests.a_reserved_job_is_admitted.Given as goal
-
-abbrev pub ghosts-admit_one : goal.ghosts-admit_one
-ghosts-admit_one g a = record { name = a.blank.name; parts = a.blank.parts }
