@@ -3,8 +3,6 @@
 
 mod lines;
 mod reading;
-#[cfg(test)]
-mod tests;
 mod writing;
 
 pub use lines::FeedLine;

@@ -1,13 +1,11 @@
 -- A line that is written number by number.
-use Rattle.std.proofs.Common.{◌≡◌, ℕ, ◌<◌, ◌≤◌, List, [], ◌∷◌, ◌++◌, length, length-append, append_assoc, append-nil, refl, ap, ◌∙◌, arith}
-use Rattle.std.proofs.Common.{decimal}
+use Rattle.std.proofs.Common.{◌≡◌, ℕ, zero, suc, ◌+◌, ◌-◌, ◌<◌, ◌≤◌, List, [], ◌∷◌, ◌++◌, length, length-append, append_assoc, append-nil, refl, ap}
+use Rattle.std.proofs.Common.{◌∙◌, sym, arith, decimal, drop, set, get_or}
+use Rattle.std.proofs.lemmas.Fmt.{length-decimal-le}
+use Rattle.std.proofs.lemmas.List.{drop-set}
+use Rattle.dover_model.specs.Numerals.{AreShort}
 use Rattle.dover_model.specs.Lines.{with_numbers}
-use Rattle.line_text.specs.Writing.{with_field}
-
--- numbers behind a field
-abbrev pub numbers_behind : List ℕ → List ℕ
-numbers_behind [] = []
-numbers_behind (n ∷ ns) = 32 ∷ decimal n ++ numbers_behind ns
+use Rattle.line_text.specs.Writing.{with_field, numbers_behind}
 
 -- a word and numbers are the word with the numbers behind it
 pub with_numbers-behind : (word ns : List ℕ) → word ++ numbers_behind ns ≡ with_numbers word ns
@@ -31,3 +29,22 @@ pub one_fits : (line : List ℕ) (n : ℕ) (ns whole : List ℕ) (most : ℕ) �
 one_fits line n ns whole most begun e fits =
     let size : length (with_field line (decimal n) ++ numbers_behind ns) ≡ length whole = ap length (one_behind line n ns whole begun e) in
     omega (arith, length-append (with_field line (decimal n)) (numbers_behind ns))
+
+-- ---- a line that is written from its end
+
+-- a number and a space go before what is written
+pub number_before : (written : List ℕ) (at n : ℕ) (ns behind tail : List ℕ) → 1 ≤ at → at ≤ length written
+    → drop at written ≡ decimal n ++ behind → behind ≡ numbers_behind ns ++ tail
+    → drop (at - 1) (set written (at - 1) 32) ≡ numbers_behind (n ∷ ns) ++ tail
+number_before written at n ns behind tail some inside digits rest =
+    drop-set written (at - 1) 32 (omega arith)
+    ∙ ap (λ i. 32 ∷ drop i written) (back at some)
+    ∙ ap (λ bs. 32 ∷ bs) (digits ∙ ap (λ bs. decimal n ++ bs) rest ∙ sym (append_assoc (decimal n) (numbers_behind ns) tail)) where
+      back : (m : ℕ) → 1 ≤ m → m - 1 + 1 ≡ m
+      back m low = omega arith
+
+-- a short number has at most 18 digits
+pub digits_at : (ns : List ℕ) (i : ℕ) → AreShort ns → i < length ns → length (decimal (get_or ns i 0)) ≤ 18
+digits_at [] i short less = absurd (omega arith)
+digits_at (n ∷ ns) zero short less = length-decimal-le 18 n (omega arith) short.0 (omega (arith, short.0))
+digits_at (n ∷ ns) (suc i) short less = digits_at ns i short.1 (omega arith)

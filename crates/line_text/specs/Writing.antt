@@ -1,5 +1,5 @@
 -- A line as it is written, field by field.
-use Rattle.std.specs.Prelude.{ℕ, List, [], ◌∷◌, ◌++◌}
+use Rattle.std.specs.Prelude.{ℕ, List, [], ◌∷◌, ◌++◌, decimal}
 
 -- how many bytes a buffer has
 abbrev pub most_written : ℕ
@@ -9,3 +9,8 @@ most_written = 129
 abbrev pub with_field : List ℕ → List ℕ → List ℕ
 with_field [] field = field
 with_field (b ∷ bytes) field = (b ∷ bytes) ++ 32 ∷ field
+
+-- numbers, each behind a space
+abbrev pub numbers_behind : List ℕ → List ℕ
+numbers_behind [] = []
+numbers_behind (n ∷ ns) = 32 ∷ decimal n ++ numbers_behind ns

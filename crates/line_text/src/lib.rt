@@ -1,11 +1,13 @@
 //! Lines of text, and the numbers and words in them.
 #![tactic(auto)]
 
+mod back_line;
 mod cutting;
 mod fields;
 mod line_buf;
 mod numerals;
 
+pub use back_line::BackLine;
 pub use cutting::{Lines, Step};
 pub use fields::{Numbers, cut_field, read_numbers};
 pub use line_buf::LineBuf;
@@ -19,6 +21,3 @@ pub const LINE_BYTES: usize = 129;
 #[derive(Clone, Copy, Debug, PartialEq, Eq, Error)]
 #[error("not a line of the format")]
 pub struct BadLine;
-
-#[cfg(test)]
-mod tests;

@@ -9,6 +9,3 @@ mod writing;
 pub use lines::TraceLine;
 pub use reading::read_trace_line;
 pub use writing::{write_event, write_header, write_refused};
-
-#[cfg(test)]
-mod tests;

@@ -1,12 +1,12 @@
 //! A trace's line as bytes.
-ghost use Rattle.std.specs.Prelude.{◌≡◌, ◌<◌, [], length};
+ghost use Rattle.std.specs.Prelude.{◌≡◌, ◌<◌, ◌∷◌, ◌++◌, [], length};
 ghost use Rattle.dover_model.specs.Numerals.{AreShort};
 ghost use Rattle.dover_model.specs.Text as form;
 ghost use Rattle.trace_format.specs.Form.{IsRefusedLine, trace_text, step_numbers};
 
 use crate::lines::TraceLine;
 use dover_model::{Event, Ratio, Refusal, Version};
-use line_text::LineBuf;
+use line_text::{BackLine, LineBuf};
 
 /// Writes the first line of a trace, without its line feed.
 pub fn write_header(version: Version, k: Ratio, to: &mut LineBuf)
@@ -21,12 +21,12 @@ pub fn write_header(version: Version, k: Ratio, to: &mut LineBuf)
     to.put_with_numbers(b"dover", &[number, u64::from(k.p()), u64::from(k.q())]);
 }
 
-/// Writes the line of a printed step, without its line feed.
-pub fn write_event(e: &Event, to: &mut LineBuf)
+/// Writes the line of a printed step before its line feed.
+#[inline(always)]
+pub fn write_event(e: &Event, to: &mut BackLine)
     requires numbers { AreShort (step_numbers e.now) }
-    requires empty { to.old ≡ [] }
-    ensures text { to.new ≡ form.text_of e.now }
-    ensures fits { length to.new < 129 }
+    requires empty { to.old ≡ 10 ∷ [] }
+    ensures { to.new ≡ form.text_of e.now ++ 10 ∷ [] }
 {
     match e {
         Event::Release { number, job } => to.put_with_numbers(

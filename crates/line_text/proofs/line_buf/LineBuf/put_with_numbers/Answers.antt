@@ -2,8 +2,8 @@ use Rattle.std.proofs.Common.{◌≡◌, ℕ, ◌+◌, ◌*◌, ◌<◌, ◌≤�
 use Rattle.std.proofs.lemmas.List.{drop_more}
 use Rattle.dover_model.specs.Lines.{with_numbers}
 use Rattle.dover_model.proofs.Fields.{length-with_numbers}
-use Rattle.line_text.specs.Writing.{with_field}
-use Rattle.line_text.proofs.Written.{numbers_behind, with_numbers-behind, one_fits}
+use Rattle.line_text.specs.Writing.{with_field, numbers_behind}
+use Rattle.line_text.proofs.Written.{with_numbers-behind, one_fits}
 use Rattle.line_text.proofs.line_buf.LineBuf.put_with_numbers.Goals as goal
 
 pub loop-number-init : goal.loop-number-init

@@ -1,6 +1,6 @@
 use Rattle.std.proofs.Common.{◌≡◌, ◌<◌, ◌++◌, drop, length}
 use Rattle.dover_model.specs.Lines.{with_numbers}
-use Rattle.line_text.proofs.Written.{numbers_behind}
+use Rattle.line_text.specs.Writing.{numbers_behind}
 use Rattle.line_text.proofs.line_buf.LineBuf.put_with_numbers.Given as goal
 
 -- the line so far and the numbers that are left make up the line

@@ -1,0 +1,94 @@
+//! A line that is written from its end.
+ghost use Rattle.std.specs.Prelude.{◌≡◌, ◌≤◌, ◌+◌, ◌*◌, ◌++◌, drop, length};
+ghost use Rattle.dover_model.specs.Numerals.{AreShort};
+ghost use Rattle.line_text.specs.Writing.{numbers_behind};
+
+use crate::LINE_BYTES;
+use itoa::write_digits;
+use std::marker::Model;
+
+/// The bytes of one line with its line feed. What is written goes before what it has, so the last field comes first.
+#[derive(Drop)]
+pub struct BackLine {
+    bytes: [u8; LINE_BYTES],
+    start: usize,
+}
+
+// Writes numbers, each behind a space, so that they end at `end`, and answers where they begin.
+#[inline(always)]
+fn put_before(bytes: &mut [u8], end: usize, numbers: &[u64]) -> usize
+    requires short { AreShort numbers.now }
+    requires room { 19 * length numbers.now ≤ end }
+    requires end { end ≤ length bytes.old }
+    ensures written { drop result bytes.new ≡ numbers_behind numbers.now ++ drop end bytes.old }
+    ensures before { result ≤ end }
+    ensures start { end ≤ result + 19 * length numbers.now }
+{
+    let mut start = end;
+    let mut left = numbers.len();
+    while left > 0 {
+        left -= 1;
+        start = write_digits(numbers[left], bytes, start) - 1;
+        bytes[start] = b' ';
+    }
+    start
+}
+
+impl Model for BackLine {
+    ghost use Rattle.std.specs.Prelude.{ℕ, List, drop, ◌≤◌};
+
+    ghost Value = { List ℕ };
+
+    ghost view = { λ b. drop b.start b.bytes };
+
+    ghost invariant = { λ b. b.start ≤ 129 };
+}
+
+impl BackLine {
+    ghost use Rattle.std.specs.Prelude.{◌≡◌, ◌≤◌, ◌+◌, ◌*◌, ◌++◌, ◌∷◌, [], length};
+    ghost use Rattle.dover_model.specs.Lines.{with_numbers};
+    ghost use Rattle.dover_model.specs.Numerals.{AreShort};
+    ghost use Rattle.line_text.specs.Writing.{most_written};
+
+    /// A line that has its line feed alone.
+    #[inline(always)]
+    pub fn new() -> BackLine
+        ensures { result ≡ 10 ∷ [] }
+    {
+        let start = LINE_BYTES - 1;
+        let mut bytes = [0; LINE_BYTES];
+        bytes[start] = b'\n';
+        BackLine { bytes, start }
+    }
+
+    /// Writes a word.
+    #[inline(always)]
+    pub fn put_word(&mut self, word: &[u8])
+        requires { length word.now + length self.old ≤ most_written }
+        ensures { self.new ≡ word.now ++ self.old }
+    {
+        let start = self.start - word.len();
+        self.bytes[start..self.start].copy_from_slice(word);
+        self.start = start;
+    }
+
+    /// Writes a word and numbers.
+    #[inline(always)]
+    pub fn put_with_numbers(&mut self, word: &[u8], numbers: &[u64])
+        requires short { AreShort numbers.now }
+        requires fits { length word.now + 19 * length numbers.now + length self.old ≤ most_written }
+        ensures { self.new ≡ with_numbers word.now numbers.now ++ self.old }
+    {
+        self.start = put_before(&mut self.bytes, self.start, numbers);
+        self.put_word(word);
+    }
+
+    /// The bytes written so far.
+    #[inline(always)]
+    pub fn bytes(&self) -> &[u8]
+        ensures is { result.now ≡ self.now }
+        ensures fits { length result.now ≤ 129 }
+    {
+        &self.bytes[self.start..]
+    }
+}
