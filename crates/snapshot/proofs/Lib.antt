@@ -1,14 +1,23 @@
-mod SnapshotRows
-mod ReadingRows
-mod Spelled
-mod Written
-mod Storing
-mod Admitted
-mod Handing
-mod Formed
-mod Serving
-mod Handed
-mod Beginning
-mod Comparing
-mod Stepping
-mod Finishing
+pub mod SnapshotRows
+pub mod ReadingRows
+pub mod Spelled
+pub mod Written
+pub mod Storing
+pub mod Admitted
+pub mod Handing
+pub mod Formed
+pub mod Serving
+pub mod Handed
+pub mod Beginning
+pub mod Comparing
+pub mod Stepping
+pub mod Finishing
+pub mod Present
+pub mod Reached
+pub mod Takeable
+pub mod Alike
+pub mod Behind
+pub mod Again
+pub mod Feeds
+pub mod Whole
+pub mod Apart

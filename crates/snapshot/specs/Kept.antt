@@ -15,7 +15,7 @@ use Rattle.event_feed.specs.declared.fed.Fed.{Fed}
 use Rattle.event_feed.specs.declared.fed.Fed.TheVariants as fed
 use Rattle.event_feed.specs.Kept as feed
 use Rattle.snapshot.specs.Snapshot.{Head}
-use Rattle.snapshot.specs.Reading.{Taken, Refused, is_within_limits, stored, last_release, has_reached_mark, is_settled, reading_of}
+use Rattle.snapshot.specs.Reading.{Going, Taken, Refused, is_within_limits, stored, last_release, has_reached_mark, is_settled, reading_of}
 use Rattle.snapshot.specs.Stored.{HasRead, job_lines, stored_session, stored_account}
 use Rattle.snapshot.specs.Forms.{head_in}
 use Rattle.snapshot.specs.Taken.{HasTaken}
@@ -139,15 +139,19 @@ IsReady (Some r) ls = (h : Head) × (tasks : List Task) × IsWhole h tasks ls ×
 
 -- ---- what callers are told
 
+-- no line so far is refused, and the last is still to come
+abbrev pub IsGoing : List (List ℕ) → Type 0
+IsGoing ls = (h : Head) × (tasks : List Task) × (reading_of ls ≡ Going h tasks)
+
 -- the answer to the last of these lines
 abbrev pub Answers : Result Got SnapFault → Option Resuming → List (List ℕ) → Type 0
 Answers (Ok More) kept ls = IsReading kept ls
 Answers (Ok Ready) kept ls = IsReady kept ls
 Answers (Err (BadSnapshot line)) kept ls = reading_of ls ≡ Refused line
-Answers (Err Memory) kept ls = Unit {0}
+Answers (Err Memory) kept ls = IsGoing ls
 
 -- the answer to a first line
 abbrev pub Begins : Result Resuming SnapFault → List ℕ → Type 0
 Begins (Ok r) line = IsReading (Some r) (line ∷ [])
 Begins (Err (BadSnapshot at)) line = reading_of (line ∷ []) ≡ Refused at
-Begins (Err Memory) line = Unit {0}
+Begins (Err Memory) line = IsGoing (line ∷ [])

@@ -4,3 +4,4 @@ pub mod Stored
 pub mod Forms
 pub mod Taken
 pub mod Kept
+pub mod Feeds

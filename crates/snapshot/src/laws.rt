@@ -1,8 +1,12 @@
 //! Laws of snapshots, each the contract of a function that does nothing.
-ghost use Rattle.std.specs.Prelude.{◌≡◌, ℕ, List, Some};
+ghost use Rattle.std.specs.Prelude.{◌≡◌, ◌++◌, ℕ, List, Some};
 ghost use Rattle.dover_model.specs.declared.events.Task.{Task};
-ghost use Rattle.snapshot.specs.Snapshot.{Head, head_line, IsHead, state_line, IsState};
-ghost use Rattle.snapshot.specs.Reading.{read_head, read_task};
+ghost use Rattle.dover_model.specs.Lines.{whole_lines};
+ghost use Rattle.dover_model.specs.WholeRun.{Begins};
+ghost use Rattle.snapshot.specs.Snapshot.{MayPause, snapshot, Head, head_line, IsHead, state_line, IsState};
+ghost use Rattle.snapshot.specs.Reading.{Refused, reading_of, read_head, read_task};
+ghost use Rattle.snapshot.specs.Kept.{IsWhole};
+ghost use Rattle.snapshot.specs.Feeds.{IsSnapshot, GoOnEqually};
 
 /// The lines of a snapshot have one spelling: what is written is read as the same, and what is read was written so.
 pub fn lines_have_one_spelling()
@@ -10,4 +14,26 @@ pub fn lines_have_one_spelling()
     ensures head_only { (line : List ℕ) (h : Head) → read_head line ≡ Some h → (head_line h ≡ line) × IsHead h }
     ensures job_again { (t : Task) → IsState t → read_task (state_line t) ≡ Some t }
     ensures job_only { (line : List ℕ) (t : Task) → read_task line ≡ Some t → (state_line t ≡ line) × IsState t }
+{}
+
+/// Each feed that may pause has a snapshot that is taken: it is read to its last line, and no front of it is refused.
+pub fn each_snapshot_is_taken()
+    ensures whole { (F : List ℕ) → MayPause F → (h : Head) × (tasks : List Task) × IsWhole h tasks (whole_lines (snapshot F)) }
+    ensures never_refused { (F : List ℕ) (ls : List (List ℕ)) (at : ℕ) → MayPause F → Begins ls (whole_lines (snapshot F)) →
+        reading_of ls ≡ Refused at → ⊥ }
+{}
+
+/// A snapshot that is taken is that of a feed.
+pub fn each_taken_is_a_snapshot()
+    ensures { (h : Head) (tasks : List Task) (ls : List (List ℕ)) → IsWhole h tasks ls → IsSnapshot ls }
+{}
+
+/// Feeds with the same snapshot go on in the same way, whatever follows.
+pub fn equal_snapshots_go_on_equally()
+    ensures { (F G H : List ℕ) → MayPause F → MayPause G → snapshot F ≡ snapshot G → GoOnEqually F G H }
+{}
+
+/// A snapshot ends by itself: what follows it is no part of it.
+pub fn snapshots_end_by_themselves()
+    ensures { (F G H I : List ℕ) → MayPause F → MayPause G → snapshot F ++ H ≡ snapshot G ++ I → (snapshot F ≡ snapshot G) × (H ≡ I) }
 {}

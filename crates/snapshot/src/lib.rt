@@ -6,8 +6,6 @@ mod forms;
 pub mod laws;
 mod reader;
 mod resuming;
-#[cfg(test)]
-mod tests;
 mod writing;
 
 pub use reader::{Got, Reader, SnapFault};

@@ -1,12 +1,10 @@
 //! A snapshot read line by line.
-ghost use Rattle.std.specs.Prelude.{◌≡◌, ℕ, List, [], ◌∷◌, ◌++◌, IfOk};
-ghost use Rattle.dover_model.specs.declared.events.Task.{Task};
-ghost use Rattle.snapshot.specs.Snapshot.{Head};
-ghost use Rattle.snapshot.specs.Kept.{IsReading, IsReady, IsWhole, Resumes, Answers};
+ghost use Rattle.std.specs.Prelude.{◌≡◌, ℕ, List, [], ◌∷◌, ◌++◌};
+ghost use Rattle.snapshot.specs.Kept.{IsReading, IsReady, Answers};
+ghost use Rattle.snapshot.specs.Feeds.{Gives};
 
 use crate::resuming::Resuming;
 use dover_core::Server;
-use dover_model::Memory;
 use event_feed::Intake;
 use std::alloc::Global;
 use std::marker::Model;
@@ -51,18 +49,18 @@ impl Model for Reader {
 }
 
 impl Reader {
-    /// No line came yet. Err where there is no memory.
-    pub fn new(alloc: Global) -> Result<Reader, Memory>
-        ensures { IfOk result (λ reader. IsReading reader []) }
+    /// No line came yet. Takes no memory.
+    pub fn new(alloc: Global) -> Reader
+        ensures { IsReading result [] }
     {
-        Ok(Reader {
+        Reader {
             alloc,
             resuming: None,
-        })
+        }
     }
 
     /// Takes the next line, without its line feed. Err `BadSnapshot` at the first line that doesn't stand where it is, `Memory` where there was none
-    /// for the run or for the line's job. After `Ready` or a fault no further line may be handed in.
+    /// for the run or for the line's job, and the line stands where it is. After `Ready` or a fault no further line may be handed in.
     pub fn line<L: Ledger>(&mut self, line: &[u8], steps: &mut Steps<L>) -> Result<Got, SnapFault>
         requires { (ls : List (List ℕ)) × IsReading self.old ls }
         ensures { (ls : List (List ℕ)) → IsReading self.old ls → Answers result self.new (ls ++ line.now ∷ []) }
@@ -78,7 +76,7 @@ impl Reader {
     /// `line` has answered `Ready`. Takes no memory.
     pub fn take(self) -> (Server, Intake)
         requires { (ls : List (List ℕ)) × IsReady self ls }
-        ensures { (ls : List (List ℕ)) → IsReady self ls → (h : Head) × (tasks : List Task) × IsWhole h tasks ls × Resumes result.0 result.1 h tasks }
+        ensures { (ls : List (List ℕ)) → IsReady self ls → Gives result.0 result.1 ls }
     {
         let Some(resuming) = self.resuming else {
             unreachable!();

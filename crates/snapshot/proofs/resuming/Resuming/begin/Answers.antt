@@ -21,3 +21,9 @@ returns c =
         served = served_none (head_in c.in-Some.head) c.in-Ok.server c.in-Ok.server.spare read.valid c.in-Ok.ensures;
       },
     )
+
+pub returns-in_default-new : goal.returns-in_default-new
+returns-in_default-new c =
+    let read : HasRead (head_in c.in-Some.head) [] (c.args.line.now ∷ []) = head_stands c.args.line.now (head_in c.in-Some.head)
+    (sym c.read_head.ensures ∙ ap (option_map head_in) c.in-Some.is) (sym c.is_within_limits.ensures ∙ c.if-not-is_within_limits.false) in
+    (head_in c.in-Some.head, [], read.reads)

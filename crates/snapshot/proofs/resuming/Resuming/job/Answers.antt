@@ -81,3 +81,25 @@ returns-in-Ok-admit g c = λ ls it.
           (subst (λ (j : JobFacts). IsServed c.admit.new.self.server h (tasks ++ task_in c.in-Some.state ∷ []) j.release) some.0
           (c.in-Ok-admit.ensures.served h tasks (task_in c.in-Some.state) served may (sym some.0))),
     )
+
+pub returns-in-Err : goal.returns-in-Err
+returns-in-Err g c = λ ls it.
+    let h = it.0 in let tasks = it.1 in
+    let more : length tasks < h.jobs = omega (arith, c.requires.more, served_count h tasks ls it.2 c.args.self.now it.3, jobs_count h tasks ls it.2 c.args.self.now it.3) in
+    let some = c.in-Some-hand_job.ensures.some h tasks it.3.fed (room h tasks ls it.2 c.args.self.now it.3 more) in
+    let spelled = sym c.read_state.ensures ∙ ap (option_map task_in) c.in-Some.is in
+    let read = read_more h tasks ls it.2 c.args.self.now it.3 c.args.line.now more (task_in c.in-Some.state) spelled some.1
+    (c.if-state-number.false ∙ c.from-number.ensures ∙ c.admitted.ensures ∙ served_count h tasks ls it.2 c.args.self.now it.3)
+    (omega (arith, c.if-state-self.false, ap (λ (x : Head). x.mark) it.3.head)) in
+    (h, tasks ++ task_in c.in-Some.state ∷ [], read.reads)
+
+pub returns-in-Err-admit : goal.returns-in-Err-admit
+returns-in-Err-admit g c = λ ls it.
+    let h = it.0 in let tasks = it.1 in
+    let more : length tasks < h.jobs = omega (arith, c.requires.more, served_count h tasks ls it.2 c.args.self.now it.3, jobs_count h tasks ls it.2 c.args.self.now it.3) in
+    let some = c.in-Some-hand_job.ensures.some h tasks it.3.fed (room h tasks ls it.2 c.args.self.now it.3 more) in
+    let spelled = sym c.read_state.ensures ∙ ap (option_map task_in) c.in-Some.is in
+    let read = read_more h tasks ls it.2 c.args.self.now it.3 c.args.line.now more (task_in c.in-Some.state) spelled some.1
+    (c.if-state-number.false ∙ c.from-number.ensures ∙ c.admitted.ensures ∙ served_count h tasks ls it.2 c.args.self.now it.3)
+    (omega (arith, c.if-state-self.false, ap (λ (x : Head). x.mark) it.3.head)) in
+    (h, tasks ++ task_in c.in-Some.state ∷ [], read.reads)

@@ -1,0 +1,208 @@
+-- Each feed that may pause has a snapshot that is taken, each that is taken is that of a feed, and feeds with the same snapshot go on alike.
+use Rattle.std.proofs.Common.{◌≡◌, ℕ, suc, ◌+◌, ◌≤◌, List, [], ◌∷◌, ◌++◌, length, length-append, append_assoc, map}
+use Rattle.std.proofs.Common.{refl, sym, ap, ◌∙◌, subst, true, false, cond, arith, Option, Some, None, codes}
+use Rattle.std.specs.Prelude.{IsSome}
+use Rattle.std.specs.List.{AllByRecursion, fold}
+use Rattle.std.proofs.lemmas.Grind.{flat_map-append}
+use Rattle.dover_model.specs.Limits.{most_lines}
+use Rattle.dover_model.specs.declared.events.Task.{Task}
+use Rattle.dover_model.specs.Instance.{Instance}
+use Rattle.dover_model.specs.Session.{Session, instance_of, admitted_jobs}
+use Rattle.dover_model.specs.Settled.{settled_state}
+use Rattle.dover_model.specs.Lines.{in_lines, lines_of, whole_lines, rest_of}
+use Rattle.dover_model.specs.Feed.{Standing, Open, Ended, Faulty, Short, no_lines, next_line, account}
+use Rattle.dover_model.specs.Due.{due_lines, due, short_lines, fault_text}
+use Rattle.dover_model.proofs.Accounts.{Holds, account_kept}
+use Rattle.dover_model.proofs.Cuts.{HasNoFeed}
+use Rattle.event_feed.proofs.Counting.{lines_counted}
+use Rattle.snapshot.specs.Snapshot.{MayPause, Head, IsHead, head_line, state_line, head_of_feed, snapshot_lines, snapshot}
+use Rattle.snapshot.specs.Reading.{Taken, stored, reading_of}
+use Rattle.snapshot.specs.Feeds.{GoOnEqually}
+use Rattle.snapshot.proofs.Alike.{Alike, SameRun, GoAlike, lines_alike}
+use Rattle.snapshot.proofs.Behind.{feedless_head, feedless_states, same_lines, whole_behind, rest_behind, lines_whole, account_behind}
+use Rattle.snapshot.proofs.Reached.{Reached, lines_reach, lines_few}
+use Rattle.snapshot.proofs.Takeable.{is_head, is_state, taken, stored_is, holds_open, reaches_open}
+
+-- ---- a feed that may pause
+
+module _ (F : List ℕ) (may : MayPause F) where
+  -- it goes on
+  pub opened : (account F).standing ≡ Open
+  opened = by (account F).standing may.going_on where
+    by : (s : Standing) → elim s [ Open ↦ true | Ended ↦ false | Faulty line cause ↦ false ] ≡ true → s ≡ Open
+    by Open e = refl
+    by Ended e = absurd (let clash : false ≡ true = e in cc)
+    by (Faulty line cause) e = absurd (let clash : false ≡ true = e in cc)
+
+  -- its session
+  pub named : (S : Session) × ((account F).session ≡ Some S)
+  named = by (account F).session refl may.declared where
+    by : (o : Option Session) → (account F).session ≡ o → IsSome o → (S : Session) × ((account F).session ≡ Some S)
+    by None e n = absurd (let clash : false ≡ true = n in cc)
+    by (Some S) e n = (S, e)
+
+  module _ (S : Session) (there : (account F).session ≡ Some S) where
+    -- what its account keeps
+    pub holds : Holds S (account F).mark (account F).lines
+    holds = holds_open (account F) S (account_kept F) opened there
+
+    pub few : (account F).lines ≤ most_lines
+    few = lines_few (lines_of F) no_lines (λ o. omega arith) opened
+
+    pub reached : Reached (admitted_jobs S.items) (account F).mark (account F).lines
+    reached = reaches_open (account F) S (lines_reach (lines_of F) no_lines refl) opened there
+
+    -- its jobs in the state in which it pauses
+    abbrev pub tasks : List Task
+    tasks = (settled_state (instance_of S) (account F).mark).tasks
+
+    -- its snapshot is read to its end
+    pub lines_taken : reading_of (snapshot_lines (account F) S) ≡ Taken (head_of_feed (account F) S) tasks
+    lines_taken = taken S (account F).mark (account F).lines holds few reached
+
+    pub head_is : IsHead (head_of_feed (account F) S)
+    head_is = is_head S (account F).mark (account F).lines holds few reached
+
+    pub lines_feedless : AllByRecursion HasNoFeed (snapshot_lines (account F) S)
+    lines_feedless = (
+      feedless_head (head_of_feed (account F) S) head_is,
+      feedless_states tasks (λ t m. is_state S (account F).mark (account F).lines holds few reached t m),
+    )
+
+    pub snapshot_is : snapshot F ≡ in_lines (snapshot_lines (account F) S)
+    snapshot_is = ap (λ o. elim o [ None ↦ [] | Some T ↦ in_lines (snapshot_lines (account F) T) ]) there
+
+    pub jobs_are : stored (head_of_feed (account F) S) tasks ≡ instance_of S
+    jobs_are = stored_is S (account F).mark (account F).lines holds few reached
+
+-- ---- two feeds with the same snapshot
+
+module _ (F G : List ℕ) (may : MayPause F) (may_other : MayPause G) (same : snapshot F ≡ snapshot G) where
+  abbrev S : Session
+  S = (named F may).0
+
+  there : (account F).session ≡ Some S
+  there = (named F may).1
+
+  abbrev T : Session
+  T = (named G may_other).0
+
+  there_other : (account G).session ≡ Some T
+  there_other = (named G may_other).1
+
+  reads_same : Taken (head_of_feed (account F) S) (tasks F may S there) ≡ Taken (head_of_feed (account G) T) (tasks G may_other T there_other)
+  reads_same = sym (lines_taken F may S there)
+      ∙ ap reading_of (same_lines (snapshot_lines (account F) S) (snapshot_lines (account G) T) (lines_feedless F may S there)
+      (lines_feedless G may_other T there_other) (sym (snapshot_is F may S there) ∙ same ∙ snapshot_is G may_other T there_other))
+      ∙ lines_taken G may_other T there_other
+
+  head_same : head_of_feed (account F) S ≡ head_of_feed (account G) T
+  head_same = let e : Taken (head_of_feed (account F) S) (tasks F may S there) ≡ Taken (head_of_feed (account G) T) (tasks G may_other T there_other) =
+      reads_same in cc
+
+  tasks_same : tasks F may S there ≡ tasks G may_other T there_other
+  tasks_same = let e : Taken (head_of_feed (account F) S) (tasks F may S there) ≡ Taken (head_of_feed (account G) T) (tasks G may_other T there_other) =
+      reads_same in cc
+
+  -- they are alike
+  pub same_alike : Alike (account F) (account G)
+  same_alike = (
+    sym (ap (λ (h : Head). h.lines) head_same),
+    sym (ap (λ (h : Head). h.mark) head_same),
+    opened G may_other ∙ sym (opened F may),
+    subst (λ o. SameRun o (account G).session) (sym there) (subst (λ o. SameRun (Some S) o) (sym there_other)
+        (sym (jobs_are G may_other T there_other) ∙ sym (ap (λ (h : Head). stored h (tasks G may_other T there_other)) head_same)
+        ∙ sym (ap (λ ts. stored (head_of_feed (account F) S) ts) tasks_same) ∙ jobs_are F may S there)),
+  )
+
+-- ---- what depends on what is alike
+
+-- the lines of a snapshot
+abbrev lines_from : Instance → ℕ → ℕ → List (List ℕ)
+lines_from J lines mark = head_line (record { rules = J.rules; lines = lines; mark = mark; jobs = length J.jobs })
+    ∷ map state_line (settled_state J mark).tasks ++ codes "resume" ∷ []
+
+-- the line that refuses a feed that is too short
+abbrev short_from : ℕ → Standing → List (List ℕ)
+short_from n s = cond (elim s [ Open ↦ true | Ended ↦ false | Faulty line cause ↦ false ]) (fault_text (suc n) Short ∷ []) []
+
+-- sessions that both are there
+pub both_there : (s t : Option Session) → SameRun s t → (S : Session) × (T : Session) × (s ≡ Some S) × (t ≡ Some T) × (instance_of T ≡ instance_of S)
+both_there None t same = absurd same
+both_there (Some S) None same = absurd same
+both_there (Some S) (Some T) same = (S, T, refl, refl, same)
+
+module _ (F G : List ℕ) (alike : Alike (account F) (account G)) (whole : rest_of F ≡ rest_of G) where
+  -- the other may pause too
+  may_pause : MayPause F → MayPause G
+  may_pause may = record {
+    declared = let it = both_there (account F).session (account G).session alike.3 in subst IsSome (sym it.3) refl;
+    going_on = ap (λ s. elim s [ Open ↦ true | Ended ↦ false | Faulty line cause ↦ false ]) (alike.2 ∙ opened F may);
+    whole = sym whole ∙ may.whole;
+  }
+
+  -- with the same snapshot
+  snapshot_same : (may : MayPause F) → snapshot G ≡ snapshot F
+  snapshot_same may =
+      let it = both_there (account F).session (account G).session alike.3 in
+      snapshot_is G (may_pause may) it.1 it.3
+      ∙ ap in_lines (ap (λ J. lines_from J (account G).lines (account G).mark) it.4
+      ∙ ap (λ n. lines_from (instance_of it.0) n (account G).mark) alike.0
+      ∙ ap (λ m. lines_from (instance_of it.0) (account F).lines m) alike.1)
+      ∙ sym (snapshot_is F may it.0 it.2)
+
+-- ---- how feeds with the same snapshot go on
+
+module _ (F G H : List ℕ) (may : MayPause F) (may_other : MayPause G) (same : snapshot F ≡ snapshot G) where
+  -- line by line
+  step : GoAlike (account F) (account G) (fold next_line (account F) (lines_of H)) (fold next_line (account G) (lines_of H))
+  step = lines_alike (lines_of H) (account F) (account G) (same_alike F G may may_other same) (account_kept F) (account_kept G)
+
+  alike_behind : Alike (account (F ++ H)) (account (G ++ H))
+  alike_behind = subst (λ a. Alike a (account (G ++ H))) (sym (account_behind F may.whole H))
+      (subst (λ b. Alike (fold next_line (account F) (lines_of H)) b) (sym (account_behind G may_other.whole H)) step.alike)
+
+  due_first : due (F ++ H) ≡ due F ++ in_lines step.text
+  due_first = ap (λ a. in_lines (due_lines a)) (account_behind F may.whole H) ∙ ap in_lines step.first
+      ∙ flat_map-append (λ (l : List ℕ). l ++ 10 ∷ []) (due_lines (account F)) step.text
+
+  due_other : due (G ++ H) ≡ due G ++ in_lines step.text
+  due_other = ap (λ a. in_lines (due_lines a)) (account_behind G may_other.whole H) ∙ ap in_lines step.other
+      ∙ flat_map-append (λ (l : List ℕ). l ++ 10 ∷ []) (due_lines (account G)) step.text
+
+  -- how many whole lines they have
+  count_behind : (X : List ℕ) → MayPause X → length (whole_lines (X ++ H)) ≡ (account X).lines + length (whole_lines H)
+  count_behind X m = omega (
+    arith,
+    ap length (whole_behind X m.whole H),
+    length-append (whole_lines X) (whole_lines H),
+    ap length (lines_whole X m.whole H),
+    lines_counted (lines_of X) (opened X m),
+  )
+
+  count_same : length (whole_lines (G ++ H)) ≡ length (whole_lines (F ++ H))
+  count_same = omega (arith, count_behind F may, count_behind G may_other, (same_alike F G may may_other same).0)
+
+  -- the line that a short feed is refused with
+  abbrev short_more : List (List ℕ)
+  short_more = short_lines (length (whole_lines (F ++ H))) (account (F ++ H))
+
+  short_same : short_lines (length (whole_lines (G ++ H))) (account (G ++ H)) ≡ short_more
+  short_same = ap (λ n. short_from n (account (G ++ H)).standing) count_same
+      ∙ ap (λ s. short_from (length (whole_lines (F ++ H))) s) alike_behind.2
+
+  pub go_on : GoOnEqually F G H
+  go_on = record {
+    more = in_lines step.text;
+    first = due_first;
+    other = due_other;
+    closing = in_lines step.text ++ in_lines short_more;
+    first_closed = ap (λ t. t ++ in_lines short_more) due_first ∙ append_assoc (due F) (in_lines step.text) (in_lines short_more);
+    other_closed = ap (λ ls. due (G ++ H) ++ in_lines ls) short_same ∙ ap (λ t. t ++ in_lines short_more) due_other
+        ∙ append_assoc (due G) (in_lines step.text) (in_lines short_more);
+    standing = alike_behind.2;
+    again = λ m. (
+      may_pause (F ++ H) (G ++ H) alike_behind (rest_behind F may.whole H ∙ sym (rest_behind G may_other.whole H)) m,
+      snapshot_same (F ++ H) (G ++ H) alike_behind (rest_behind F may.whole H ∙ sym (rest_behind G may_other.whole H)) m,
+    );
+  }

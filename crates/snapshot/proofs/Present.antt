@@ -1,0 +1,67 @@
+-- Where a feed pauses no job is to come: each is released by the mark, and is fresh before the barrier.
+use Rattle.std.proofs.Common.{◌≡◌, ℕ, ◌≤◌, refl, sym, subst, true, arith, Option, Some, None}
+use Rattle.std.specs.List.{AllByRecursion, find}
+use Rattle.std.proofs.lemmas.Bool.{eqb-false}
+use Rattle.dover_model.specs.declared.events.Role.TheVariants.{Coming}
+use Rattle.dover_model.specs.declared.events.Task.{Task}
+use Rattle.dover_model.specs.Instance.{Instance, IsValid}
+use Rattle.dover_model.specs.State.{State, is_coming}
+use Rattle.dover_model.specs.Step.{Move, Ticks, View, view, open_step}
+use Rattle.dover_model.specs.Settled.{is_late, settled_state}
+use Rattle.dover_model.specs.Sound.{IsMember, Each}
+use Rattle.dover_model.proofs.Barriers.{AtBarrier, settled_at_barrier}
+use Rattle.dover_model.proofs.Cases.{Case, Completes, Resumes, Starts, Begins, Preempts, Stays, Arrives, Takes, Abandons, Rests, NoneArrives, step_case}
+use Rattle.dover_model.proofs.Kept.{each_job}
+use Rattle.dover_model.proofs.Members.{found, not_found}
+use Rattle.dover_model.proofs.Moves.{says}
+use Rattle.dover_model.proofs.Roles.{fails, is_coming_role}
+use Rattle.dover_model.proofs.Settling.{at_barrier}
+use Rattle.dover_model.proofs.Tests.{never}
+
+module _ (J : Instance) (valid : IsValid J) (mark : ℕ) (known : AllByRecursion (λ j. j.release ≤ mark) J.jobs) where
+  -- the state at the barrier
+  abbrev s : State
+  s = settled_state J mark
+
+  -- what holds there
+  bar : AtBarrier J mark s
+  bar = settled_at_barrier J valid mark
+
+  -- what its next step looks at
+  abbrev v : View
+  v = view J.rules.version s
+
+  -- a job that is to come is due now
+  due_now : (t : Task) → IsMember t s.tasks → t.role ≡ Coming → t.job.release ≡ s.clock
+  due_now t m comes =
+      let low : t.job.release ≤ mark =
+      each_job (λ j. j.release ≤ mark) s.tasks (subst (AllByRecursion (λ j. j.release ≤ mark)) (sym bar.keeps.jobs) known) t m in
+      let high : s.clock ≤ t.job.release = (says s bar.keeps.sound t m Coming comes).1 in
+      omega (arith, bar.clock)
+
+  -- where none arrives, none is to come
+  none_left : NoneArrives v v.coming → Each (λ t. t.role ≡ Coming → ⊥) s.tasks
+  none_left none t m comes = by_first (find is_coming s.tasks) refl none where
+    by_first : (o : Option Task) → find is_coming s.tasks ≡ o → NoneArrives v o → ⊥
+    by_first None e n = fails is_coming t Coming refl (not_found is_coming s.tasks e t m) comes
+    by_first (Some c) e n =
+        let it : IsMember c s.tasks × (is_coming c ≡ true) = found is_coming s.tasks c e in
+        eqb-false _ _ n (due_now c it.0 (is_coming_role c it.1))
+
+  -- none arrives at a late step
+  late_none : (m : Move) → Case J.rules.ratio v Ticks m → is_late m ≡ true → NoneArrives v v.coming
+  late_none m (Completes r some done) late = never late
+  late_none m (Resumes p none some) late = never late
+  late_none m (Starts o none held some) late = never late
+  late_none m (Begins f settles some) late = never late
+  late_none m (Preempts r f settles some fits) late = never late
+  late_none m (Stays r f settles some tight) late = never late
+  late_none m (Arrives ro c settles stale some now) late = never late
+  late_none m (Takes r x settles stale ahead some heavy) late = ahead
+  late_none m (Abandons r x settles stale ahead some light) late = ahead
+  late_none m (Rests ro settles stale ahead none) late = ahead
+
+  -- at the barrier none is to come
+  pub none_to_come : Each (λ t. t.role ≡ Coming → ⊥) s.tasks
+  none_to_come = none_left (late_none (open_step J.rules s) (step_case J.rules.ratio v Ticks)
+      (at_barrier (is_late (open_step J.rules s)) mark s.clock bar.barrier).0)
