@@ -1,6 +1,6 @@
 -- How many jobs the account of a feed has admitted, as it is read.
 use Rattle.std.proofs.Common.{◌≡◌, ℕ, ◌+◌, ◌≤◌, List, [], ◌∷◌, ◌++◌, length, refl, sym, ap, ◌∙◌, subst}
-use Rattle.std.proofs.Common.{Option, Some, None, arith, ◌<◌, take, drop, get_or}
+use Rattle.std.proofs.Common.{Option, Some, None, arith}
 use Rattle.dover_model.specs.JobFacts.{job_of_numbers}
 use Rattle.dover_model.specs.Session.{JobItem, refused_at, admitted_jobs}
 use Rattle.dover_model.specs.Feed.{Account}
@@ -10,7 +10,6 @@ use Rattle.event_feed.specs.Answers.{IsFed, counted, admitted_in}
 use Rattle.event_feed.specs.declared.fed.Fed.{Fed}
 use Rattle.event_feed.specs.declared.fed.Fed.TheVariants as fed
 use Rattle.event_feed.proofs.Admitting.{job_more, refused_more, admitted_by, admitted_front}
-use Rattle.line_text.proofs.Pieces.{rest_bytes}
 use Rattle.serve_word.specs.Delivered.{Fits}
 use Rattle.serve_word.specs.Spending.{jobs_in, jobs_fed}
 use Rattle.serve_word.proofs.Printing.{tasks_count}
@@ -58,8 +57,6 @@ pub line_jobs : (a b : Account) (o p : Option Service) (x : Fed) → Fits a o �
     → jobs_in p ≤ admitted_in b
 line_jobs a b o p x fits is few = omega (arith, few, fits_jobs a o fits, fed_admits a b x is)
 
--- the jobs of a piece that is left at a byte
-pub piece_jobs : (x bytes : List ℕ) (i : ℕ) → i < length bytes → (n : ℕ) → n ≤ admitted_in (account ((x ++ take i bytes) ++ get_or bytes i 0 ∷ []))
-    → n ≤ admitted_in (account (x ++ bytes))
-piece_jobs x bytes i before n few = subst (λ y. n ≤ admitted_in (account y)) (rest_bytes x bytes i before)
-    (omega (arith, few, admitted_front ((x ++ take i bytes) ++ get_or bytes i 0 ∷ []) (drop (i + 1) bytes)))
+-- the jobs of a piece that is left at a front
+pub piece_jobs : (y behind z : List ℕ) → y ++ behind ≡ z → (n : ℕ) → n ≤ admitted_in (account y) → n ≤ admitted_in (account z)
+piece_jobs y behind z all n few = subst (λ w. n ≤ admitted_in (account w)) all (omega (arith, few, admitted_front y behind))

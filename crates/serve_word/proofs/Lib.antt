@@ -10,8 +10,15 @@ pub mod Answering
 pub mod Keeping
 pub mod Pieces
 pub mod Turns
-pub mod Records
 pub mod Shorts
 pub mod Spending
 pub mod Admitted
 pub mod Frugal
+pub mod States
+pub mod Snapped
+pub mod Cutting
+pub mod Resumed
+pub mod GoingOn
+pub mod Shifting
+pub mod Resting
+pub mod WholeLines

@@ -1,5 +1,5 @@
--- How what is delivered goes on, byte by byte.
-use Rattle.std.proofs.Common.{◌≡◌, ◌<◌, ◌+◌, ℕ, suc, List, ◌∷◌, ◌++◌, [], length, take, drop, get_or, refl, sym, ap, ◌∙◌, subst}
+-- How what is delivered goes on, front by front.
+use Rattle.std.proofs.Common.{◌≡◌, ℕ, suc, List, ◌∷◌, ◌++◌, [], refl, sym, ap, ◌∙◌, subst}
 use Rattle.std.proofs.Common.{Option, Some, None, Result, Ok, Err, Bool, true, false, cond, append_assoc}
 use Rattle.std.specs.List.{fold}
 use Rattle.std.proofs.lemmas.List.{append-nil}
@@ -23,7 +23,6 @@ use Rattle.dover_port.proofs.Made.{since_then, since_weaker, ArePuts-append, out
 use Rattle.dover_port.proofs.Through.{passes_then, passes_then_cut, passes_nothing, cut_longer}
 use Rattle.dover_core.specs.Service.{Service}
 use Rattle.event_feed.proofs.GoingOn.{closed_account}
-use Rattle.line_text.proofs.Pieces.{next_bytes, rest_bytes}
 use Rattle.serve_word.specs.Delivered.{Delivers, PutsBy, Begun, StandsAt, IsDeclared, IsFaulty}
 use Rattle.serve_word.specs.declared.progress.Progress.{Progress}
 use Rattle.serve_word.specs.declared.progress.Progress.TheVariants as progress
@@ -173,45 +172,53 @@ declared_lines (l ∷ ls) a it = declared_lines ls (next_line a l) (declared_nex
 pub declared_front : (F G : List ℕ) → IsDeclared (account F) → IsDeclared (account (F ++ G))
 declared_front F G it = let more = account_append F G in subst IsDeclared (sym more.1) (declared_lines more.0 (account F) it)
 
--- ---- a piece, byte by byte
+-- ---- a piece, front by front
 
-module _ (x bytes : List ℕ) (i : ℕ) (before : i < length bytes) where
-  module _ (old mid new : Option (List Move)) (p q r : List ℕ) (server server2 : Option Service)
-      (first : Delivers (Ok progress.Open) old mid p q (account x) (account (x ++ take i bytes)) server) where
-    -- one byte more
-    pub piece_next : Delivers (Ok progress.Open) mid new q r (account (x ++ take i bytes)) (account ((x ++ take i bytes) ++ get_or bytes i 0 ∷ []))
-        server2 → Delivers (Ok progress.Open) old new p r (account x) (account (x ++ take (i + 1) bytes)) server2
-    piece_next second = subst (λ y. Delivers (Ok progress.Open) old new p r (account x) (account y) server2) (next_bytes x bytes i before)
-        (delivers_then (Ok progress.Open) old mid new p q r _ _ _ server server2 first second)
+module _ (x done front behind : List ℕ) where
+  -- the bytes up to the end of the front
+  pub next_front : (x ++ done) ++ front ≡ x ++ (done ++ front)
+  next_front = append_assoc x done front
 
-    -- the feed is over with this byte
+  -- and those behind them
+  pub rest_behind : (bytes rest : List ℕ) → bytes ≡ done ++ rest → rest ≡ front ++ behind → ((x ++ done) ++ front) ++ behind ≡ x ++ bytes
+  rest_behind bytes rest all parts =
+      append_assoc (x ++ done) front behind ∙ append_assoc x done (front ++ behind)
+      ∙ ap (λ l. x ++ (done ++ l)) (sym parts) ∙ ap (λ l. x ++ l) (sym all)
+
+module _ (x done front : List ℕ) (old mid new : Option (List Move)) (p q r : List ℕ) (server server2 : Option Service)
+    (first : Delivers (Ok progress.Open) old mid p q (account x) (account (x ++ done)) server) where
+  -- a front more
+  pub piece_next : Delivers (Ok progress.Open) mid new q r (account (x ++ done)) (account ((x ++ done) ++ front)) server2
+      → Delivers (Ok progress.Open) old new p r (account x) (account (x ++ (done ++ front))) server2
+  piece_next second = subst (λ y. Delivers (Ok progress.Open) old new p r (account x) (account y) server2) (append_assoc x done front)
+      (delivers_then (Ok progress.Open) old mid new p q r _ _ _ server server2 first second)
+
+  module _ (behind bytes : List ℕ) (all : ((x ++ done) ++ front) ++ behind ≡ x ++ bytes) where
+    -- the feed is over with this front
     piece_over : (over : Progress)
-        → Delivers (Ok over) mid new q r (account (x ++ take i bytes)) (account ((x ++ take i bytes) ++ get_or bytes i 0 ∷ [])) server2
-        → is_open (account ((x ++ take i bytes) ++ get_or bytes i 0 ∷ [])) ≡ false
+        → Delivers (Ok over) mid new q r (account (x ++ done)) (account ((x ++ done) ++ front)) server2
+        → is_open (account ((x ++ done) ++ front)) ≡ false
         → Delivers (Ok over) old new p r (account x) (account (x ++ bytes)) server2
     piece_over over second closed = subst (λ a. Delivers (Ok over) old new p r (account x) a server2)
-        (sym (closed_account ((x ++ take i bytes) ++ get_or bytes i 0 ∷ []) (drop (i + 1) bytes) closed) ∙ ap account (rest_bytes x bytes i before))
+        (sym (closed_account ((x ++ done) ++ front) behind closed) ∙ ap account all)
         (delivers_then (Ok over) old mid new p q r _ _ _ server server2 first second)
 
     -- it ends the feed
-    pub piece_ended : Delivers (Ok progress.Ended) mid new q r (account (x ++ take i bytes))
-        (account ((x ++ take i bytes) ++ get_or bytes i 0 ∷ [])) server2
+    pub piece_ended : Delivers (Ok progress.Ended) mid new q r (account (x ++ done)) (account ((x ++ done) ++ front)) server2
         → Delivers (Ok progress.Ended) old new p r (account x) (account (x ++ bytes)) server2
-    piece_ended second = piece_over progress.Ended second (ended_closed (account ((x ++ take i bytes) ++ get_or bytes i 0 ∷ [])) second.leaves)
+    piece_ended second = piece_over progress.Ended second (ended_closed (account ((x ++ done) ++ front)) second.leaves)
 
     -- it makes the feed faulty
-    pub piece_refused : Delivers (Ok progress.Refused) mid new q r (account (x ++ take i bytes))
-        (account ((x ++ take i bytes) ++ get_or bytes i 0 ∷ [])) server2
+    pub piece_refused : Delivers (Ok progress.Refused) mid new q r (account (x ++ done)) (account ((x ++ done) ++ front)) server2
         → Delivers (Ok progress.Refused) old new p r (account x) (account (x ++ bytes)) server2
-    piece_refused second = piece_over progress.Refused second (faulty_closed (account ((x ++ take i bytes) ++ get_or bytes i 0 ∷ [])) second.leaves)
+    piece_refused second = piece_over progress.Refused second (faulty_closed (account ((x ++ done) ++ front)) second.leaves)
 
-    -- what is due for this byte wasn't put whole
+    -- what is due for this front wasn't put whole
     pub piece_stopped : (stop : Stop)
-        → Delivers (Err stop) mid new q r (account (x ++ take i bytes)) (account ((x ++ take i bytes) ++ get_or bytes i 0 ∷ [])) server2
+        → Delivers (Err stop) mid new q r (account (x ++ done)) (account ((x ++ done) ++ front)) server2
         → Delivers (Err stop) old new p r (account x) (account (x ++ bytes)) server2
-    piece_stopped stop second = subst (λ y. Delivers (Err stop) old new p r (account x) (account y) server2) (rest_bytes x bytes i before)
-        (stopped_longer stop old new p r _ _ _ server2 (due_front ((x ++ take i bytes) ++ get_or bytes i 0 ∷ []) (drop (i + 1) bytes))
-        (declared_front ((x ++ take i bytes) ++ get_or bytes i 0 ∷ []) (drop (i + 1) bytes))
+    piece_stopped stop second = subst (λ y. Delivers (Err stop) old new p r (account x) (account y) server2) all
+        (stopped_longer stop old new p r _ _ _ server2 (due_front ((x ++ done) ++ front) behind) (declared_front ((x ++ done) ++ front) behind)
         (delivers_then (Err stop) old mid new p q r _ _ _ server server2 first second))
 
 -- a byte that goes on with its line delivers nothing

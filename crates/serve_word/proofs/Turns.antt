@@ -13,7 +13,7 @@ use Rattle.dover_port.proofs.Through.{passes_then, passes_then_cut}
 use Rattle.dover_core.specs.Service.{Service}
 use Rattle.serve_word.specs.Delivered.{Delivers}
 use Rattle.serve_word.specs.Feeding.{FeedStands}
-use Rattle.serve_word.specs.Record.{Gets, TurnMakes, turn_of}
+use Rattle.serve_word.specs.Record.{Gets, TurnMakes, TurnCauses, turn_of}
 use Rattle.serve_word.specs.declared.feed.Feed.{Feed}
 use Rattle.serve_word.specs.declared.progress.Progress.{Progress}
 use Rattle.serve_word.specs.declared.progress.Progress.TheVariants as progress
@@ -30,7 +30,7 @@ got_some [] some = absurd (omega arith)
 got_some (b ∷ bytes) some = refl
 
 -- the lines that are due with these
-due_more : (x y : List ℕ) (text : List (List ℕ)) → due_lines (account y) ≡ due_lines (account x) ++ text → due y ≡ due x ++ in_lines text
+pub due_more : (x y : List ℕ) (text : List (List ℕ)) → due_lines (account y) ≡ due_lines (account x) ++ text → due y ≡ due x ++ in_lines text
 due_more x y text is = ap in_lines is ∙ flat_map-append (λ (l : List ℕ). l ++ 10 ∷ []) (due_lines (account x)) text
 
 module _ (a b c : Option (List Move)) (x bytes : List ℕ) (some : 0 < length bytes) (moved : Adds a b (read_move bytes)) where
@@ -104,3 +104,9 @@ pub some_front : (n : ℕ) (buf : List ℕ) → (n ≡ 0 → ⊥) → n ≤ leng
 some_front n buf some fits = omega (arith, length-take n buf, positive n some) where
   positive : (n : ℕ) → (n ≡ 0 → ⊥) → 0 < n
   positive n some = omega arith
+
+-- a turn that takes the feed so far leaves both counts
+pub plain_turn : (p : Progress) {reads reads' writes writes' : ℕ} → reads' ≡ reads → writes' ≡ writes → TurnCauses (turn_of p) reads reads' writes writes'
+plain_turn progress.Open r w = (r, w)
+plain_turn progress.Ended r w = (r, w)
+plain_turn progress.Refused r w = (r, w)

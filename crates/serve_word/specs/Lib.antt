@@ -4,3 +4,7 @@ pub mod Session
 pub mod Feeding
 pub mod Record
 pub mod Spending
+pub mod Pausing
+pub mod Closing
+pub mod From
+pub mod Rest

@@ -1,13 +1,14 @@
 -- What the moves of a call come to, by how it ended.
-use Rattle.std.specs.Prelude.{◌≡◌, ℕ, List, [], ◌∷◌, ◌++◌, true, false, ◌⊎◌, Option, Some, length}
+use Rattle.std.specs.Prelude.{◌≡◌, ℕ, List, [], ◌∷◌, ◌++◌, true, false, ◌⊎◌, Option, length}
 use Rattle.dover_model.specs.Feed as feeds
 use Rattle.dover_model.specs.Feed.{is_open, is_ended, account}
 use Rattle.dover_model.specs.Due.{due, closed, short_lines}
 use Rattle.dover_model.specs.Lines.{in_lines, whole_lines}
-use Rattle.dover_model.specs.Session.{Session, instance_of}
 use Rattle.dover_model.specs.WholeRun.{Begins}
 use Rattle.dover_core.specs.Spending.{AreFew}
-use Rattle.dover_port.specs.Causes.{Rose}
+use Rattle.event_feed.specs.Answers.{admitted_in}
+use Rattle.dover_port.specs.Causes.{Rose, StaysWell, FailsLast}
+use Rattle.dover_port.specs.declared.calls.Calls.{Calls}
 use Rattle.dover_port.specs.Moves.{Move, Since, ArePuts, ins, outs, has_ended, EachRead, IsProperPrefix}
 use Rattle.dover_port.specs.Moves.Move.{Got, Ended}
 use Rattle.dover_port.specs.declared.status.Status.{Status}
@@ -65,13 +66,6 @@ pub record Serves (status : Status) (moves : List Move) : Type 0 where
   pub reads : EachRead MayRead moves
   pub ends : Ends status moves
 
--- The record of a call that goes on: the feed stands for what was got, and what is due for it was put.
-pub record GoesOn (feed : Feed) (moves : List Move) : Type 0 where
-  pub reads : EachRead MayRead moves
-  pub text : outs moves ≡ due (ins moves)
-  pub unended : has_ended moves ≡ false
-  pub stands : FeedStands feed (ins moves)
-
 -- ---- one turn of the reading loop
 
 -- some bytes were got behind x, and puts came after
@@ -100,6 +94,12 @@ TurnCauses turn.Unread reads reads' writes writes' = Rose reads reads' × (write
 TurnCauses turn.Unwritten reads reads' writes writes' = (reads' ≡ reads) × Rose writes writes'
 TurnCauses _ reads reads' writes writes' = (reads' ≡ reads) × (writes' ≡ writes)
 
+-- no call follows one that failed: the last one alone has failed where the turn ends with a fault, and else none has
+abbrev pub TurnStops : Turn → (old new : Calls) → Type 0
+TurnStops turn.Unread old new = FailsLast old new
+TurnStops turn.Unwritten old new = FailsLast old new
+TurnStops _ old new = StaysWell old new
+
 -- the turn that takes the feed so far
 abbrev pub turn_of : Progress → Turn
 turn_of progress.Open = turn.More
@@ -116,6 +116,6 @@ Finishes _ old new text = ⊥
 abbrev pub short_text : List ℕ → List ℕ
 short_text bytes = in_lines (short_lines (length (whole_lines bytes)) (account bytes))
 
--- The n jobs that were read cost at most 80 * (n + 1) * d comparisons, where n + 1 has at most d binary digits.
+-- The n jobs that were admitted, none before a ratio line, cost at most 80 * (n + 1) * d comparisons, where n + 1 has at most d binary digits.
 abbrev pub IsFrugal : (before after : ℕ) → List Move → Type 0
-IsFrugal before after moves = (S : Session) → (account (ins moves)).session ≡ Some S → AreFew (length (instance_of S).jobs) before after
+IsFrugal before after moves = AreFew (admitted_in (account (ins moves))) before after

@@ -3,7 +3,8 @@ use Rattle.std.specs.Prelude.{◌≡◌, ℕ, List, Option, Result, Ok, Err, fal
 use Rattle.dover_model.specs.Feed.{Account, Open, account_of_lines}
 use Rattle.dover_model.proofs.Accounts.{IsKept}
 use Rattle.dover_core.specs.Service.{Service}
-use Rattle.dover_port.specs.Causes.{Rose}
+use Rattle.dover_port.specs.Causes.{Rose, StaysWell, FailsLast}
+use Rattle.dover_port.specs.declared.calls.Calls.{Calls}
 use Rattle.event_feed.specs.Kept as feed
 use Rattle.serve_word.specs.Delivered.{Fits}
 use Rattle.serve_word.specs.declared.progress.Stop.{Stop}
@@ -28,3 +29,9 @@ abbrev pub StopCause : {T : Type 0} → Result T Stop → (writes writes' reads 
 StopCause (Ok x) writes writes' reads reads' = (writes' ≡ writes) × (reads' ≡ reads)
 StopCause (Err NoMemory) writes writes' reads reads' = (writes' ≡ writes) × (reads' ≡ reads)
 StopCause (Err Unwritten) writes writes' reads reads' = Rose writes writes' × (reads' ≡ reads)
+
+-- No call follows one that failed: the last one alone has failed where a write did, and else none has.
+abbrev pub StopsOn : {T : Type 0} → Result T Stop → (old new : Calls) → Type 0
+StopsOn (Ok x) old new = StaysWell old new
+StopsOn (Err NoMemory) old new = StaysWell old new
+StopsOn (Err Unwritten) old new = FailsLast old new

@@ -2,10 +2,18 @@
 #![tactic(auto)]
 
 mod feed;
+mod from;
+mod pause;
 mod progress;
+mod rest;
 mod serve;
 mod session;
 mod steps;
+#[cfg(test)]
+mod tests;
 mod turn;
 
+pub use from::AtEnd;
+pub use pause::pause_word;
+pub use rest::serve_on;
 pub use serve::serve_word;

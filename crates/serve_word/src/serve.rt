@@ -1,12 +1,12 @@
 //! The reading loop.
 ghost use Rattle.std.specs.Prelude.{◌≡◌, ℕ, List};
-ghost use Rattle.dover_port.specs.Causes.{Causes, IsAnswer};
+ghost use Rattle.dover_port.specs.Causes.{Causes, IsAnswer, StopsWith};
 ghost use Rattle.dover_port.specs.Moves.{Since};
 ghost use Rattle.serve_word.specs.Feeding.{FeedStands};
 ghost use Rattle.serve_word.specs.Record.{Serves, IsFrugal, Finishes, short_text};
 
 use crate::feed::Feed;
-use crate::turn::{Turn, take_turn};
+use crate::from::{AtEnd, serve_from};
 use dover_port::{Output, Port, Status};
 use line_output::put_fault;
 use std::alloc::Global;
@@ -14,17 +14,18 @@ use std::sync::ledger::Ledger;
 use step_count::Steps;
 
 /// How many bytes a read asks for.
-const READ_BYTES: usize = 4096;
+pub(crate) const READ_BYTES: usize = 65_536;
 
 /// More reads than a feed has that goes on: its 4,000,000 lines have at most 129 bytes each, and the line that has begun at most 128.
-const MOST_READS: u64 = 516_000_129;
+pub(crate) const MOST_READS: u64 = 516_000_129;
 
 /// Refuses a feed whose input has ended before it.
-fn refuse_short<P: Port>(port: &mut P, feed: &Feed) -> Status
+pub(crate) fn refuse_short<P: Port>(port: &mut P, feed: &Feed) -> Status
     requires { (x : List ℕ) × FeedStands feed.now x }
     ensures text { (x : List ℕ) → FeedStands feed.now x → Finishes result (P.moves port.old) (P.moves port.new) (short_text x) }
     ensures answer { IsAnswer result }
     ensures causes { Causes result (P.read_faults port.old) (P.read_faults port.new) (P.write_faults port.old) (P.write_faults port.new) }
+    ensures stops { StopsWith result (P.calls port.old) (P.calls port.new) }
 {
     let Err(fault) = feed.session.intake.end() else {
         unreachable!();
@@ -47,22 +48,8 @@ pub fn serve_word<P: Port, L: Ledger>(alloc: Global, port: &mut P, steps: &mut S
     ensures count { Since (P.moves port.old) (P.moves port.new) (IsFrugal steps.old steps.new) }
     ensures answer { IsAnswer result }
     ensures causes { Causes result (P.read_faults port.old) (P.read_faults port.new) (P.write_faults port.old) (P.write_faults port.new) }
+    ensures stops { StopsWith result (P.calls port.old) (P.calls port.new) }
 {
-    let mut buf = [0u8; READ_BYTES];
-    let mut out = Output::new();
     let mut feed = Feed::new(alloc);
-    let mut reads = 0u64;
-    while reads < MOST_READS {
-        reads += 1;
-        match take_turn(port, &mut buf, &mut out, &mut feed, steps) {
-            Turn::More => {}
-            Turn::Ended => return Status::Done,
-            Turn::Refused => return Status::Refused,
-            Turn::NoInput => return refuse_short(port, &feed),
-            Turn::Unread => return Status::ReadFault,
-            Turn::Unwritten => return Status::WriteFault,
-            Turn::NoMemory => return Status::Memory,
-        }
-    }
-    unreachable!()
+    serve_from(port, &mut feed, AtEnd::Refuse, steps)
 }

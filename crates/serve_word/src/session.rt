@@ -12,7 +12,7 @@ ghost use Rattle.trace_format.specs.Form.{IsRefusedLine};
 ghost use Rattle.trace_format.specs.declared.lines.TraceLine.TheVariants.{Refused};
 ghost use Rattle.dover_model.specs.declared.events.Refusal.{Refusal};
 ghost use Rattle.serve_word.specs.Delivered.{Delivers};
-ghost use Rattle.serve_word.specs.Session.{IsOpenAt, Keeps, StopCause};
+ghost use Rattle.serve_word.specs.Session.{IsOpenAt, Keeps, StopCause, StopsOn};
 ghost use Rattle.serve_word.specs.Spending.{Spends, jobs_fed, jobs_in};
 ghost use Rattle.event_feed.specs.declared.Fed.TheVariants.{Over};
 ghost use Rattle.serve_word.specs.declared.progress.Progress.TheVariants.{Open};
@@ -53,6 +53,7 @@ fn declare<P: Port>(
     ensures count { (a b : Account) → IsOpenAt a session.old.server session.old.mark → DeclaresRatio k version (counted a) b → (steps : ℕ) →
         Spends session.old.server session.new.server steps steps }
     ensures cause { StopCause result (P.write_faults port.old) (P.write_faults port.new) (P.read_faults port.old) (P.read_faults port.new) }
+    ensures stops { StopsOn result (P.calls port.old) (P.calls port.new) }
 {
     let Ok(server) = Server::new(session.alloc, version, k) else {
         return Err(Stop::NoMemory);
@@ -78,6 +79,7 @@ fn reject<P: Port>(
         Delivers result (P.moves port.old) (P.moves port.new) out.old out.new a b session.new.server }
     ensures session { session.new ≡ session.old }
     ensures cause { StopCause result (P.write_faults port.old) (P.write_faults port.new) (P.read_faults port.old) (P.read_faults port.new) }
+    ensures stops { StopsOn result (P.calls port.old) (P.calls port.new) }
 {
     match put_refused(port, out, refused) {
         Ok(()) => Ok(Progress::Open),
@@ -95,6 +97,7 @@ fn refuse<P: Port>(
         Delivers result (P.moves port.old) (P.moves port.new) out.old out.new a b session.now.server }
     ensures refused { result ≡ Ok Open → ⊥ }
     ensures cause { StopCause result (P.write_faults port.old) (P.write_faults port.new) (P.read_faults port.old) (P.read_faults port.new) }
+    ensures stops { StopsOn result (P.calls port.old) (P.calls port.new) }
 {
     match put_fault(port, out, fault) {
         Ok(()) => Ok(Progress::Refused),
@@ -117,6 +120,7 @@ fn advance<P: Port, L: Ledger>(
     ensures jobs { jobs_in session.new.server ≤ jobs_in session.old.server }
     ensures count { Spends session.old.server session.new.server steps.old steps.new }
     ensures cause { StopCause result (P.write_faults port.old) (P.write_faults port.new) (P.read_faults port.old) (P.read_faults port.new) }
+    ensures stops { StopsOn result (P.calls port.old) (P.calls port.new) }
 {
     session.mark = mark;
     let Some(server) = &mut session.server else {
@@ -142,6 +146,7 @@ fn end<P: Port, L: Ledger>(
     ensures jobs { jobs_in session.new.server ≤ jobs_in session.old.server }
     ensures count { Spends session.old.server session.new.server steps.old steps.new }
     ensures cause { StopCause result (P.write_faults port.old) (P.write_faults port.new) (P.read_faults port.old) (P.read_faults port.new) }
+    ensures stops { StopsOn result (P.calls port.old) (P.calls port.new) }
 {
     let Some(server) = &mut session.server else {
         unreachable!();
@@ -167,13 +172,14 @@ fn arrive<P: Port, L: Ledger>(
     ensures jobs { jobs_in session.new.server ≤ jobs_in session.old.server + 1 }
     ensures count { Spends session.old.server session.new.server steps.old steps.new }
     ensures cause { StopCause result (P.write_faults port.old) (P.write_faults port.new) (P.read_faults port.old) (P.read_faults port.new) }
+    ensures stops { StopsOn result (P.calls port.old) (P.calls port.new) }
 {
     let release = job.release();
     session.mark = release;
     let Some(server) = &mut session.server else {
         unreachable!();
     };
-    match server.reserve(1) {
+    match server.make_room() {
         Ok(()) => {}
         Err(_) => return Err(Stop::NoMemory),
     }
@@ -208,6 +214,7 @@ fn take_fed<P: Port, L: Ledger>(
     ensures jobs { jobs_in session.new.server ≤ jobs_in session.old.server + jobs_fed fed }
     ensures count { Spends session.old.server session.new.server steps.old steps.new }
     ensures cause { StopCause result (P.write_faults port.old) (P.write_faults port.new) (P.read_faults port.old) (P.read_faults port.new) }
+    ensures stops { StopsOn result (P.calls port.old) (P.calls port.new) }
 {
     match fed {
         Fed::Ratio(k, version) => declare(port, out, session, k, version),
@@ -251,6 +258,7 @@ pub(crate) fn take_line<P: Port, L: Ledger>(
         jobs_in session.new.server ≤ admitted_in (account_of_lines (ls ++ line.now ∷ [])) }
     ensures count { Spends session.old.server session.new.server steps.old steps.new }
     ensures cause { StopCause result (P.write_faults port.old) (P.write_faults port.new) (P.read_faults port.old) (P.read_faults port.new) }
+    ensures stops { StopsOn result (P.calls port.old) (P.calls port.new) }
 {
     match session.intake.line(line) {
         Ok(fed) => take_fed(port, out, session, fed, steps),

@@ -1,6 +1,6 @@
 //! The steps of a server, each on its line.
 ghost use Rattle.std.specs.Prelude.{◌≡◌, false, Some};
-ghost use Rattle.dover_port.specs.Causes.{HasCause};
+ghost use Rattle.dover_port.specs.Causes.{HasCause, StopsAtFailure};
 ghost use Rattle.dover_core.specs.Service.{MayFollow, list_of};
 ghost use Rattle.dover_core.specs.declared.horizon.Horizon.TheVariants.{Mark, End};
 ghost use Rattle.serve_word.specs.Served.{CanGoOn, Settles, Finishes};
@@ -26,6 +26,7 @@ pub(crate) fn settle<P: Port, L: Ledger>(
     ensures jobs { list_of server.new ≡ list_of server.old }
     ensures count { Spends (Some server.old) (Some server.new) steps.old steps.new }
     ensures cause { HasCause (P.write_faults port.old) (P.write_faults port.new) (P.read_faults port.old) (P.read_faults port.new) result }
+    ensures stops { StopsAtFailure (P.calls port.old) (P.calls port.new) result }
 {
     while let Some(event) = server.step(Horizon::Mark(mark), steps) {
         match put_event(port, out, &event) {
@@ -50,6 +51,7 @@ pub(crate) fn finish<P: Port, L: Ledger>(
     ensures jobs { list_of server.new ≡ list_of server.old }
     ensures count { Spends (Some server.old) (Some server.new) steps.old steps.new }
     ensures cause { HasCause (P.write_faults port.old) (P.write_faults port.new) (P.read_faults port.old) (P.read_faults port.new) result }
+    ensures stops { StopsAtFailure (P.calls port.old) (P.calls port.new) result }
 {
     while let Some(event) = server.step(Horizon::End, steps) {
         match put_event(port, out, &event) {

@@ -4,7 +4,7 @@ ghost use Rattle.dover_model.specs.Feed.{account};
 ghost use Rattle.dover_port.specs.Moves.{Since, ins};
 ghost use Rattle.event_feed.specs.Answers.{admitted_in};
 ghost use Rattle.serve_word.specs.Feeding.{FeedStands};
-ghost use Rattle.serve_word.specs.Record.{TurnMakes, TurnCauses, turn_of};
+ghost use Rattle.serve_word.specs.Record.{TurnMakes, TurnCauses, turn_of, TurnStops};
 ghost use Rattle.serve_word.specs.Spending.{Spends, jobs_in};
 ghost use Rattle.serve_word.specs.declared.turn.Turn.TheVariants.{More, NoInput};
 
@@ -63,6 +63,7 @@ pub(crate) fn take_turn<P: Port, L: Ledger>(
         Since (P.moves port.old) (P.moves port.new) (λ moves. jobs_in feed.new.session.server ≤ admitted_in (account (x ++ ins moves))) }
     ensures count { Spends feed.old.session.server feed.new.session.server steps.old steps.new }
     ensures causes { TurnCauses result (P.read_faults port.old) (P.read_faults port.new) (P.write_faults port.old) (P.write_faults port.new) }
+    ensures stops { TurnStops result (P.calls port.old) (P.calls port.new) }
 {
     let Ok(count) = port.read(buf) else {
         return Turn::Unread;

@@ -15,6 +15,7 @@ loop-event-init g c = record {
   count = spends_none _ _;
   writes = refl;
   reads = refl;
+  calls = λ well. well;
 }
 
 pub put_event-requires : goal.put_event-requires
@@ -34,6 +35,7 @@ loop-event-preserved g c = record {
       (step_spends _ _ _ _ _ c.loop-event.invariant.can c.in-Some.ensures.list c.in-Some.ensures.count);
   writes = grind arith;
   reads = grind arith;
+  calls = λ well. c.in-Ok.ensures.stops.well (c.loop-event.invariant.calls well);
 }
 
 pub returns-in-Err-clause-finishes : goal.returns-in-Err-clause-finishes

@@ -1,6 +1,7 @@
 use Rattle.std.proofs.Common.{Some, ◌≡◌}
 use Rattle.dover_core.specs.declared.horizon.Horizon.TheVariants.{End}
 use Rattle.dover_core.specs.Service.{MayFollow, list_of, steps_left}
+use Rattle.dover_port.specs.Causes.{StaysWell}
 use Rattle.serve_word.specs.Served.{CanGoOn, IsFinishing}
 use Rattle.serve_word.specs.Spending.{Spends}
 use Rattle.serve_word.proofs.steps.finish.Given as goal
@@ -16,6 +17,7 @@ invariant-loop-event g l = record {
   count : Spends (Some l.initial.server) (Some l.server) l.initial.steps l.steps;
   writes : g.P.Port.write_faults l.port ≡ g.P.Port.write_faults l.initial.port;
   reads : g.P.Port.read_faults l.port ≡ g.P.Port.read_faults l.initial.port;
+  calls : StaysWell (g.P.Port.calls l.initial.port) (g.P.Port.calls l.port);
 }
 
 abbrev pub decreases-loop-event : goal.decreases-loop-event
