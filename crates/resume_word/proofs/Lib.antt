@@ -1,0 +1,5 @@
+pub mod Opened
+pub mod Bounds
+pub mod Parts
+pub mod Reading
+pub mod Fronts

@@ -1,0 +1,127 @@
+-- What the moves of a call come to that reads a snapshot, and serves the feed of which it is on.
+use Rattle.std.specs.Prelude.{◌≡◌, Bool, ℕ, suc, List, [], ◌∷◌, ◌++◌, length, true, false, ◌⊎◌, Option, codes, decimal}
+use Rattle.dover_model.specs.Lines.{in_lines, lines_of, whole_lines, line_of}
+use Rattle.dover_model.specs.WholeRun.{Begins}
+use Rattle.dover_port.specs.Moves.{Move, Since, ArePuts, ins, outs, has_ended, EachRead, IsProperPrefix}
+use Rattle.dover_port.specs.declared.status.Status.{Status}
+use Rattle.dover_port.specs.declared.status.Status.TheVariants.{Done, Refused, ReadFault, WriteFault, Memory}
+use Rattle.snapshot.specs.Snapshot.{MayPause, snapshot}
+use Rattle.snapshot.specs.Reading as reading
+use Rattle.snapshot.specs.Reading.{Reading, Begun, Going, Taken, reading_of}
+use Rattle.snapshot.specs.Kept.{IsGoing}
+use Rattle.serve_word.specs.From.{MayReadFrom, EndsAt, IsRefusedAt, IsUnreadAt, IsUnwrittenAt, IsOutOfMemoryAt}
+use Rattle.serve_word.specs.declared.from.AtEnd.{AtEnd}
+use Rattle.resume_word.specs.Opening.{OpeningStands}
+use Rattle.resume_word.specs.declared.opening.Opening.{Opening}
+
+-- ---- what was read
+
+-- no line is refused, and the last line of the snapshot is still to come
+abbrev pub is_part : Reading → Bool
+is_part Begun = true
+is_part (Going h tasks) = true
+is_part (Taken h tasks) = false
+is_part (reading.Refused line) = false
+
+-- so do the lines of these bytes
+abbrev pub IsPart : List ℕ → Type 0
+IsPart x = is_part (reading_of (lines_of x)) ≡ true
+
+-- The bytes are the snapshot of a feed and what follows it, and of each feed with this snapshot, and what follows, T holds.
+pub record Behind (x : List ℕ) (T : List ℕ → List ℕ → Type 0) : Type 0 where
+  pub feed : List ℕ
+  pub more : List ℕ
+  pub may : MayPause feed
+  pub read : x ≡ snapshot feed ++ more
+  pub each : (F H : List ℕ) → MayPause F → x ≡ snapshot F ++ H → T F H
+
+-- Before a read: the snapshot is still to be read on, and nothing was put; or of its feed and what follows what is due was put beyond what
+-- was due for the feed alone, and the feed goes on.
+abbrev pub MayRead : List ℕ → List ℕ → Type 0
+MayRead got put = (IsPart got × (put ≡ [])) ⊎ Behind got (λ F H. MayReadFrom F H put)
+
+-- the line that refuses a snapshot
+abbrev pub refused_text : ℕ → List ℕ
+refused_text at = in_lines (line_of (codes "refused" ∷ decimal at ∷ codes "snapshot" ∷ []) ∷ [])
+
+-- This line is the first that no snapshot has there, or it is missing where the input ended.
+abbrev pub IsRefusedFor : ℕ → List Move → Type 0
+IsRefusedFor at moves = ((front : List ℕ) × Begins front (ins moves) × (reading_of (lines_of front) ≡ reading.Refused at))
+    ⊎ ((has_ended moves ≡ true) × IsPart (ins moves) × (at ≡ suc (length (whole_lines (ins moves)))))
+
+-- ---- by the status, before the snapshot is whole
+
+-- a line of it was refused, and this was written
+pub record IsRefusedSnapshot (moves : List Move) : Type 0 where
+  pub at : ℕ
+  pub cause : IsRefusedFor at moves
+  pub text : outs moves ≡ refused_text at
+
+-- a read failed, and nothing was put
+pub record IsUnreadSnapshot (moves : List Move) : Type 0 where
+  pub unended : has_ended moves ≡ false
+  pub part : IsPart (ins moves)
+  pub text : outs moves ≡ []
+
+-- a write failed: the line that refuses it wasn't put whole
+pub record IsUnwrittenRefusal (moves : List Move) : Type 0 where
+  pub at : ℕ
+  pub cause : IsRefusedFor at moves
+  pub part : IsProperPrefix (outs moves) (refused_text at)
+
+-- there was no memory behind a line of it, none up to which is refused
+pub record IsOutOfMemoryBefore (moves : List Move) : Type 0 where
+  pub unended : has_ended moves ≡ false
+  pub front : List ℕ
+  pub begins : Begins front (ins moves)
+  pub going : IsGoing (lines_of front)
+  pub text : outs moves ≡ []
+
+abbrev pub EndsBefore : Status → List Move → Type 0
+EndsBefore Refused moves = IsRefusedSnapshot moves
+EndsBefore ReadFault moves = IsUnreadSnapshot moves
+EndsBefore WriteFault moves = IsUnwrittenRefusal moves
+EndsBefore Memory moves = IsOutOfMemoryBefore moves
+EndsBefore _ moves = ⊥
+
+-- ---- the whole call
+
+-- how it ends: before the snapshot is whole, or behind it
+abbrev pub Ends : AtEnd → Status → List Move → Type 0
+Ends at_end status moves = EndsBefore status moves
+    ⊎ Behind (ins moves) (λ F H. EndsAt F at_end status H (outs moves) (has_ended moves))
+
+-- a line of the snapshot is refused; or the feed has a fault or is cut off, and it is refused
+abbrev pub IsRefused : AtEnd → List Move → Type 0
+IsRefused at_end moves = IsRefusedSnapshot moves ⊎ Behind (ins moves) (λ F H. IsRefusedAt F at_end H (outs moves) (has_ended moves))
+
+-- a read failed, where the snapshot was still to be read on or the feed goes on
+abbrev pub IsUnread : AtEnd → List Move → Type 0
+IsUnread at_end moves = IsUnreadSnapshot moves ⊎ Behind (ins moves) (λ F H. IsUnreadAt F at_end H (outs moves) (has_ended moves))
+
+-- a write failed: not all of what is due was put
+abbrev pub IsUnwritten : AtEnd → List Move → Type 0
+IsUnwritten at_end moves = IsUnwrittenRefusal moves ⊎ Behind (ins moves) (λ F H. IsUnwrittenAt F at_end H (outs moves) (has_ended moves))
+
+-- there was no memory, for the snapshot or for what follows it
+abbrev pub IsOutOfMemory : AtEnd → List Move → Type 0
+IsOutOfMemory at_end moves = IsOutOfMemoryBefore moves
+    ⊎ Behind (ins moves) (λ F H. IsOutOfMemoryAt F at_end H (outs moves) (has_ended moves))
+
+-- what the record of a call with this status is
+pub record Resumes (at_end : AtEnd) (status : Status) (moves : List Move) : Type 0 where
+  pub reads : EachRead MayRead moves
+  pub ends : Ends at_end status moves
+
+-- The record of a call that is still to read the snapshot on.
+pub record GoesOn (opening : Opening) (moves : List Move) : Type 0 where
+  pub reads : EachRead MayRead moves
+  pub text : outs moves ≡ []
+  pub unended : has_ended moves ≡ false
+  pub stands : OpeningStands opening (ins moves)
+
+-- the last text of a call that refuses a snapshot at a line
+abbrev pub Refuses : Status → Option (List Move) → Option (List Move) → ℕ → Type 0
+Refuses Refused old new at = Since old new (λ made. ArePuts made × (outs made ≡ refused_text at))
+Refuses WriteFault old new at = Since old new (λ made. ArePuts made × IsProperPrefix (outs made) (refused_text at))
+Refuses _ old new at = ⊥

@@ -1,0 +1,7 @@
+//! The word `resume`: a snapshot is read, and the feed of which it is goes on from where it was paused.
+#![tactic(auto)]
+
+mod opening;
+mod resume;
+
+pub use resume::resume_word;
