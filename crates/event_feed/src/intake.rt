@@ -143,7 +143,22 @@ impl Intake {
         }
     }
 
-    /// Takes the next line, without its line feed. After a fault every line is answered by that same fault.
+    /// Takes the next line, without its line feed. No line is kept. After `Fed::Over` no line may come.
+    ///
+    /// # Errors
+    ///
+    /// The first faulty line, numbered from 1, with its cause. After a fault every line is answered by that same
+    /// fault. In version Two a job that isn't admitted is no fault: it is answered as `Fed::Refused`.
+    ///
+    /// # Examples
+    ///
+    /// ```
+    /// let mut intake = Intake::new();
+    /// intake.line(b"k 2 1")?; // Fed::Ratio(k, Version::One)
+    /// intake.line(b"job 0 4 6 8")?; // Fed::Job(0, job): release 0, work 4, deadline 6, value 8
+    /// intake.line(b"tick 3")?; // Fed::Tick(3)
+    /// intake.line(b"end")?; // Fed::Over
+    /// ```
     pub fn line(&mut self, line: &[u8]) -> Result<Fed, FeedFault>
         requires { has_ended self.old ≡ false }
         ensures stands { (ls : List (List ℕ)) → StandsFor self.old ls → StandsFor self.new (ls ++ line.now ∷ []) }

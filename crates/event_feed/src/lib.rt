@@ -5,8 +5,6 @@ mod faults;
 mod fed;
 mod intake;
 mod kept_session;
-#[cfg(test)]
-mod tests;
 
 pub use faults::{Cause, FeedFault};
 pub use fed::Fed;

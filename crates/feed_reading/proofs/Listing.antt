@@ -1,14 +1,17 @@
 -- What is listed after a line.
-use Rattle.std.proofs.Common.{◌≡◌, ◌<◌, ◌+◌, ℕ, List, ◌∷◌, ◌++◌, [], length, refl, sym, ap, ◌∙◌, Option, Some, None, arith}
+use Rattle.std.proofs.Common.{◌≡◌, ◌<◌, ◌+◌, ◌⊎◌, inl, inr, ℕ, List, ◌∷◌, ◌++◌, [], length, refl, sym, ap, ◌∙◌, Option, Some, None, arith}
 use Rattle.std.proofs.Common.{length-append, Bool, true, false}
 use Rattle.dover_model.specs.declared.events.Version.{Version}
 use Rattle.dover_model.specs.declared.events.Refusal.{Refusal}
 use Rattle.dover_model.specs.JobFacts.{JobFacts}
 use Rattle.dover_model.specs.Fraction.{Fraction}
 use Rattle.dover_model.specs.Instance.{Rules, Instance}
-use Rattle.dover_model.specs.Feed.{Account, Open, rules_with}
+use Rattle.dover_model.specs.Feed.{Account, Open, Faulty, rules_with, account_of_lines}
 use Rattle.dover_model.specs.Session.{Session, Item, JobItem, RefusedItem, RefusedJob, refused_at, admitted_jobs, instance_of, with_item, new_session}
-use Rattle.event_feed.specs.Answers.{AddsJob, AddsRefused, DeclaresRatio, counted, admitted_in}
+use Rattle.event_feed.specs.Answers.{AddsJob, AddsRefused, DeclaresRatio, NewFault, OldFault, counted, admitted_in}
+use Rattle.event_feed.specs.Faults.{IsFirstFault}
+use Rattle.event_feed.specs.Kept.{cause_of_fault}
+use Rattle.event_feed.specs.declared.faults.FeedFault.{FeedFault}
 use Rattle.feed_reading.specs.Listing.{Lists, instance_with}
 
 -- a job more
@@ -102,3 +105,11 @@ module _ (a b : Account) (stands : a.standing ≡ Open) where
 pub not_then : (b : Bool) → (b ≡ true → ⊥) → b ≡ false
 not_then true never = absurd (never refl)
 not_then false never = refl
+
+-- a faulty line behind lines that go on is the first
+pub first_fault : (ls : List (List ℕ)) (line : List ℕ) (fault : FeedFault) → (account_of_lines ls).standing ≡ Open
+    → NewFault line fault (account_of_lines ls) (account_of_lines (ls ++ line ∷ []))
+    ⊎ OldFault fault (account_of_lines ls) (account_of_lines (ls ++ line ∷ [])) → IsFirstFault fault (ls ++ line ∷ [])
+first_fault ls line fault stands (inl new) = record { before = ls; line = line; more = []; lines = refl; new = new }
+first_fault ls line fault stands (inr old) =
+    absurd (let e : Open ≡ Faulty fault.line (cause_of_fault fault.cause) = sym stands ∙ old.faulty in cc)

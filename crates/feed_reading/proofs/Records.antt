@@ -12,6 +12,7 @@ use Rattle.dover_port.specs.Moves.{Move, Since, ins, outs, has_ended, EachRead, 
 use Rattle.dover_port.specs.Moves.Move.{Got, Ended}
 use Rattle.dover_port.proofs.Made.{since_then, since_weaker, ins-append, outs-append, has_ended-append, EachReadFrom-append}
 use Rattle.event_feed.specs.Answers.{short_after}
+use Rattle.event_feed.specs.Faults.{IsFaultIn}
 use Rattle.event_feed.specs.declared.faults.FeedFault.{FeedFault}
 use Rattle.feed_reading.specs.Feeding.{FeedStands}
 use Rattle.feed_reading.specs.Listing.{StandsAt}
@@ -164,9 +165,11 @@ module _ (a b c : Option (List Move)) (feed : Feed) (run : Since a b (GoesOn fee
     -- a line is at fault
     pub on_refused : (fault : FeedFault)
         → ((x : List ℕ) → FeedStands feed x → StandsSo (progress.Refused fault) new (account (x ++ bytes)))
-        → Since a c (Reads (reading.Refused fault))
-    on_refused fault at = over bytes some moved new (progress.Refused fault) at (reading.Refused fault)
-        (λ xs g. inl (at_all bytes some moved new (progress.Refused fault) at xs g))
+        → ((x : List ℕ) → FeedStands feed x → IsFaultIn fault (x ++ bytes)) → Since a c (Reads (reading.Refused fault))
+    on_refused fault at names = over bytes some moved new (progress.Refused fault) at (reading.Refused fault) (λ xs g. inl (
+      at_all bytes some moved new (progress.Refused fault) at xs g,
+      subst (IsFaultIn fault) (sym (got_ins feed xs g bytes)) (names (ins xs) g.stands),
+    ))
 
     -- there was no memory
     pub on_no_memory : ((x : List ℕ) → FeedStands feed x → StandsSo progress.NoMemory new (account (x ++ bytes)))

@@ -4,9 +4,11 @@ use Rattle.dover_model.specs.Feed.{Faulty, is_open, is_ended, account}
 use Rattle.dover_model.specs.Instance.{IsValid}
 use Rattle.dover_model.specs.Lines.{whole_lines}
 use Rattle.dover_model.specs.Session.{Session, IsValidSession, instance_of}
-use Rattle.dover_port.specs.Causes.{Rose}
+use Rattle.dover_port.specs.Causes.{Rose, StaysWell, FailsLast}
+use Rattle.dover_port.specs.declared.calls.Calls.{Calls}
 use Rattle.dover_port.specs.Moves.{Move, ins, outs, has_ended, EachRead}
 use Rattle.event_feed.specs.Answers.{short_after, admitted_in}
+use Rattle.event_feed.specs.Faults.{IsFaultIn}
 use Rattle.event_feed.specs.Kept.{cause_of_fault}
 use Rattle.event_feed.specs.declared.faults.FeedFault.{FeedFault}
 use Rattle.feed_reading.specs.Feeding.{FeedStands}
@@ -33,9 +35,9 @@ abbrev pub GivesJobs : Reading → List ℕ → Type 0
 GivesJobs (Ended listed) bytes = IsEnded listed bytes
 GivesJobs _ bytes = ⊥
 
--- this is the fault of the feed, or the input ended before the feed did
+-- this is the fault of the feed, with the other job named where the ratio is broken, or the input ended before the feed did
 abbrev pub IsRefused : FeedFault → List Move → Type 0
-IsRefused fault moves = ((account (ins moves)).standing ≡ Faulty fault.line (cause_of_fault fault.cause))
+IsRefused fault moves = (((account (ins moves)).standing ≡ Faulty fault.line (cause_of_fault fault.cause)) × IsFaultIn fault (ins moves))
     ⊎ ((has_ended moves ≡ true) × (is_open (account (ins moves)) ≡ true) × (fault ≡ short_after (length (whole_lines (ins moves)))))
 
 -- how the moves end
@@ -60,6 +62,11 @@ AreValid _ = Unit {0}
 abbrev pub ReadCauses : Reading → (reads reads' writes writes' : ℕ) → Type 0
 ReadCauses Unread reads reads' writes writes' = Rose reads reads' × (writes' ≡ writes)
 ReadCauses _ reads reads' writes writes' = (reads' ≡ reads) × (writes' ≡ writes)
+
+-- no call follows one that failed: the last one alone has failed where a read did, and else none has
+abbrev pub ReadStops : Reading → (old new : Calls) → Type 0
+ReadStops Unread old new = FailsLast old new
+ReadStops _ old new = StaysWell old new
 
 -- The record of a reading that goes on: the feed stands for what was got, and nothing was put.
 pub record GoesOn (feed : Feed) (moves : List Move) : Type 0 where

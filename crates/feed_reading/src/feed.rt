@@ -1,9 +1,12 @@
 //! What is kept of a feed between its bytes.
 ghost use Rattle.std.specs.Prelude.{◌≡◌, ◌∷◌, ◌++◌, ℕ, List, []};
 ghost use Rattle.dover_model.specs.Feed.{account};
+ghost use Rattle.dover_model.specs.Lines.{lines_of};
+ghost use Rattle.event_feed.specs.Faults.{IsFirstFault, IsFaultIn};
+ghost use Rattle.event_feed.specs.declared.faults.FeedFault.{FeedFault};
 ghost use Rattle.feed_reading.specs.Feeding.{FeedStands};
 ghost use Rattle.feed_reading.specs.Listing.{StandsAt};
-ghost use Rattle.feed_reading.specs.declared.gathering.Progress.TheVariants.{Open};
+ghost use Rattle.feed_reading.specs.declared.gathering.Progress.TheVariants.{Open, Refused};
 
 use crate::gathering::{Gathering, Progress};
 use event_feed::Intake;
@@ -38,6 +41,8 @@ impl Feed {
         ensures at { (x : List ℕ) → FeedStands self.old x →
             StandsAt result self.new.gathering.declared self.new.gathering.jobs.items (account (x ++ byte ∷ [])) }
         ensures stands { (x : List ℕ) → FeedStands self.old x → result ≡ Open → FeedStands self.new (x ++ byte ∷ []) }
+        ensures names { (x : List ℕ) (fault : FeedFault) → FeedStands self.old x → result ≡ Refused fault →
+            IsFirstFault fault (lines_of (x ++ byte ∷ [])) }
     {
         match self.lines.push(byte) {
             Step::More => Progress::Open,
@@ -52,6 +57,7 @@ impl Feed {
         ensures at { (x : List ℕ) → FeedStands self.old x →
             StandsAt result self.new.gathering.declared self.new.gathering.jobs.items (account (x ++ bytes.now)) }
         ensures stands { (x : List ℕ) → FeedStands self.old x → result ≡ Open → FeedStands self.new (x ++ bytes.now) }
+        ensures names { (x : List ℕ) (fault : FeedFault) → FeedStands self.old x → result ≡ Refused fault → IsFaultIn fault (x ++ bytes.now) }
     {
         for byte in bytes {
             match self.take_byte(*byte) {

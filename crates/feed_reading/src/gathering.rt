@@ -3,7 +3,9 @@ ghost use Rattle.std.specs.Prelude.{◌≡◌, ◌∷◌, ◌++◌, ℕ, List, [
 ghost use Rattle.dover_model.specs.Feed.{Account, account_of_lines};
 ghost use Rattle.event_feed.specs.Answers.{IsFed, counted};
 ghost use Rattle.feed_reading.specs.Listing.{Keeps, Lists, StandsAt};
-ghost use Rattle.feed_reading.specs.declared.gathering.Progress.TheVariants.{Open};
+ghost use Rattle.feed_reading.specs.declared.gathering.Progress.TheVariants.{Open, Refused};
+ghost use Rattle.event_feed.specs.Faults.{IsFirstFault};
+ghost use Rattle.event_feed.specs.declared.faults.FeedFault.{FeedFault};
 ghost use Rattle.dover_model.specs.Feed as feeds;
 
 use dover_model::{Job, Ratio, Version};
@@ -36,6 +38,7 @@ impl Gathering {
         ensures stands { (a b : Account) → a.standing ≡ feeds.Open → Lists self.old.declared self.old.jobs.items a.session →
             IsFed (counted a) b fed → StandsAt result self.new.declared self.new.jobs.items b }
         ensures goes_on { result ≡ Open → fed ≡ Fed.Over → ⊥ }
+        ensures fine { (fault : FeedFault) → result ≡ Refused fault → ⊥ }
         ensures intake { self.new.intake ≡ self.old.intake }
     {
         match fed {
@@ -57,6 +60,8 @@ impl Gathering {
         ensures stands { (ls : List (List ℕ)) → Keeps self.old ls →
             StandsAt result self.new.declared self.new.jobs.items (account_of_lines (ls ++ line.now ∷ [])) }
         ensures keeps { (ls : List (List ℕ)) → Keeps self.old ls → result ≡ Open → Keeps self.new (ls ++ line.now ∷ []) }
+        ensures names { (ls : List (List ℕ)) (fault : FeedFault) → Keeps self.old ls → result ≡ Refused fault →
+            IsFirstFault fault (ls ++ line.now ∷ []) }
     {
         match self.intake.line(line) {
             Ok(fed) => self.take_fed(fed),

@@ -8,6 +8,3 @@ mod reading;
 
 pub use listed::Listed;
 pub use reading::{Reading, read_feed};
-
-#[cfg(test)]
-mod tests;

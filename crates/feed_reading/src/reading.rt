@@ -6,7 +6,7 @@ ghost use Rattle.dover_port.specs.Moves.{Since};
 ghost use Rattle.event_feed.specs.Answers.{short_after};
 ghost use Rattle.feed_reading.specs.Feeding.{FeedStands};
 ghost use Rattle.feed_reading.specs.Listing.{StandsAt};
-ghost use Rattle.feed_reading.specs.Record.{Reads, AreValid, GivesJobs, ReadCauses};
+ghost use Rattle.feed_reading.specs.Record.{Reads, AreValid, GivesJobs, ReadCauses, ReadStops};
 ghost use Rattle.feed_reading.specs.declared.gathering.Progress.TheVariants as progress;
 
 use crate::feed::Feed;
@@ -18,7 +18,7 @@ use event_feed::FeedFault;
 use std::alloc::Global;
 
 /// How many bytes a read asks for.
-const READ_BYTES: usize = 4096;
+const READ_BYTES: usize = 65_536;
 
 /// More reads than a feed has that goes on: its 4,000,000 lines have at most 129 bytes each, and the line that has begun at most 128.
 const MOST_READS: u64 = 516_000_129;
@@ -28,7 +28,7 @@ const MOST_READS: u64 = 516_000_129;
 pub enum Reading {
     /// The feed's `end` line was read. These are its jobs.
     Ended(Listed),
-    /// A faulty line was read, or the input has ended before the feed.
+    /// A faulty line was read, or the input has ended before the feed. Where the line breaks the ratio, the cause names the other job.
     Refused(FeedFault),
     /// The port failed to read.
     Unread,
@@ -68,6 +68,7 @@ pub fn read_feed<P: Port>(alloc: Global, port: &mut P) -> Reading
     ensures reads { Since (P.moves port.old) (P.moves port.new) (Reads result) }
     ensures valid { AreValid result }
     ensures causes { ReadCauses result (P.read_faults port.old) (P.read_faults port.new) (P.write_faults port.old) (P.write_faults port.new) }
+    ensures stops { ReadStops result (P.calls port.old) (P.calls port.new) }
 {
     let mut buf = [0u8; READ_BYTES];
     let mut feed = Feed::new(alloc);

@@ -192,6 +192,7 @@ module _ (kept : Kept) (ls rest : List (List ℕ)) (lane at : ℕ) (l u : Lane) 
           );
         },
         given.3,
+        inl given.4,
       )
 
   -- none is left
@@ -237,6 +238,7 @@ module _ (kept : Kept) (ls rest : List (List ℕ)) (from : ℕ) (it : StandsFor 
         closing_left.2 ∙ short.1,
         record { counted = it.counted; count = it.count; left = (closing_left.0, omega arith, refl, closing_quiet) },
         tt,
+        inr refl,
       )
 
   -- none is short any more

@@ -28,7 +28,7 @@ use Rattle.dover_model.proofs.Runs.{printed_append}
 use Rattle.dover_core.specs.declared.horizon.Horizon.TheVariants.{Mark, End}
 use Rattle.dover_core.specs.Service.{Service, with_job}
 use Rattle.dover_core.specs.Leading.{GivesNext, ReachesBarrier}
-use Rattle.lane_server.specs.Lane.{HasServed, IsServed, Settling, Admitting, Finishing, IsRunning, IsAtRest, Owes, Stands, IsQuiet}
+use Rattle.lane_server.specs.Lane.{HasServed, IsServed, Settling, Admitting, Finishing, IsRunning, IsAtRest, Owes, GivesFault, Stands, IsQuiet}
 use Rattle.lane_server.specs.declared.lane.Lane.{Lane}
 use Rattle.lane_server.specs.declared.lane.Work.{Work}
 use Rattle.lane_server.specs.declared.lane.Work.TheVariants.{Nothing, Settle, Admit}
@@ -271,18 +271,19 @@ lane_stands lane w u ls rest more it is owes = record {
   unended = it.unended;
   marked = it.marked;
   owes = subst (λ x. Owes x (Some u) (account_of_lines ls) more) (sym is) owes;
+  names = it.names;
 }
 
 -- the lane with its server taken further, and other work
 pub lane_turns : (lane : Lane) (w : Work) (u : Service) (ls rest more : List (List ℕ)) → Stands lane ls rest
-    → Owes w (Some u) (account_of_lines ls) more → Stands (record lane { server = Some u; work = w }) ls more
-lane_turns lane w u ls rest more it owes =
-    record { intake = it.intake; opened = it.opened; unended = it.unended; marked = it.marked; owes = owes }
+    → Owes w (Some u) (account_of_lines ls) more → GivesFault w ls → Stands (record lane { server = Some u; work = w }) ls more
+lane_turns lane w u ls rest more it owes names =
+    record { intake = it.intake; opened = it.opened; unended = it.unended; marked = it.marked; owes = owes; names = names }
 
 -- the lane is at rest
 pub lane_rests : (lane : Lane) (u : Service) (ls rest : List (List ℕ)) → Stands lane ls rest → IsAtRest (Some u) (account_of_lines ls)
     → IsQuiet (record lane { server = Some u; work = Nothing }) ls
-lane_rests lane u ls rest it fits = record { stands = lane_turns lane Nothing u ls rest [] it (refl, fits); quiet = refl }
+lane_rests lane u ls rest it fits = record { stands = lane_turns lane Nothing u ls rest [] it (refl, fits) tt; quiet = refl }
 
 -- the job comes to the lane
 pub admit_turns : (lane : Lane) (job : JobFacts) (v w y : Service) (t : ℕ) (ls rest : List (List ℕ)) → lane.work ≡ Admit job → lane.server ≡ Some v
@@ -292,6 +293,6 @@ admit_turns lane job v w y t ls rest is there same rules last reaches ended admi
     let owes : Admitting job v (account_of_lines ls) rest = lane_owes lane (Admit job) v (account_of_lines ls) rest is there it.owes in
     lane_turns lane (Settle t) y ls rest rest it (subst (λ m. Settling m y (account_of_lines ls) rest) (sym same)
     (admit_none job v w (account_of_lines ls) rest owes rules (subst (λ m. w.last ≡ Mark m) same last) y y.spare
-    (subst (λ m. ReachesBarrier m v.rules v.state w.state) same reaches) ended admitted))
+    (subst (λ m. ReachesBarrier m v.rules v.state w.state) same reaches) ended admitted)) tt
 
 -- ---- the end is given once

@@ -17,7 +17,7 @@ use Rattle.event_feed.specs.declared.faults.FeedFault.{FeedFault}
 use Rattle.event_feed.specs.declared.fed.Fed.{Fed}
 use Rattle.event_feed.specs.declared.fed.Fed.TheVariants.{Over}
 use Rattle.lane_server.specs.Lanes.{lines_added}
-use Rattle.lane_server.specs.Lane.{Fits, IsOpenAt, Owes, Adds, Stands, IsQuiet}
+use Rattle.lane_server.specs.Lane.{Fits, IsOpenAt, Owes, GivesFault, Adds, Stands, IsQuiet}
 use Rattle.lane_server.specs.declared.lane.Lane.{Lane}
 use Rattle.lane_server.specs.declared.lane.Work.TheVariants.{Nothing, Give, Settle, Admit, Finish}
 use Rattle.lane_server.specs.declared.out.LaneOut.TheVariants.{Header, Refuse, Refused}
@@ -36,6 +36,7 @@ declare_adds lane k version v a b at it new = record {
   due = header_due a b k version at.stands it;
   marked = at.marked ∙ sym (header_mark a b k version at.stands it);
   owes = (refl, header_fits a b k version at.stands it v v.spare new, tt);
+  names = λ ls. tt;
 }
 
 -- a job
@@ -49,6 +50,7 @@ arrive_adds lane n job v u t a b at it there is room same =
       due = job_due a b n job at.kept at.stands it v fits;
       marked = same ∙ sym (job_mark a b n job at.kept at.stands it v fits);
       owes = job_owes a b n job at.kept at.stands it v fits u u.spare is room;
+      names = λ ls. tt;
     }
 
 -- a tick
@@ -63,6 +65,7 @@ tick_adds lane t a b at it = by_server lane.server at.fits where
     due = tick_due a b t at.kept at.stands it v fits;
     marked = sym (tick_mark a b t at.kept at.stands it v fits);
     owes = tick_owes a b t at.kept at.stands it v fits;
+    names = λ ls. tt;
   }
 
 -- the end
@@ -77,6 +80,7 @@ over_adds lane a b at it = by_server lane.server at.fits where
     due = end_due a b at.kept at.stands it v fits;
     marked = at.marked ∙ sym (end_mark a b at.kept at.stands it v fits);
     owes = end_owes a b at.kept at.stands it v fits;
+    names = λ ls. tt;
   }
 
 -- a refused job line
@@ -94,6 +98,7 @@ refused_adds lane release work deadline value cause a b at it =
         refused_fits a b job cause at.kept at.stands it lane.server at.fits,
         (subst (λ m. m < 10 ^ 18) (sym at.marked) (refused_mark_short a b job cause at.kept at.stands it), it.numerals),
       );
+      names = λ ls. tt;
     }
 
 -- ---- a line of a lane
@@ -125,6 +130,7 @@ taken_stands lane ls line fed intake is over it = record {
   unended = not_over fed (account_of_lines ls) (account_of_lines (ls ++ line ∷ [])) (feed.has_ended lane.intake) lane.is_open is over it.opened;
   marked = it.marked;
   owes = subst (Owes lane.work lane.server (account_of_lines (ls ++ line ∷ []))) (added_is ls line it.rest it.due) it.owes;
+  names = it.names (ls ++ line ∷ []);
 }
 
 -- the lane after a faulty line
@@ -144,6 +150,7 @@ fault_stands lane i ls line fault intake marked it =
         λ opened. absurd (let e : Open ≡ Faulty (counted (account_of_lines ls)).lines (cause_of_fault fault.cause) = sym opened ∙ stands in cc),
         tt,
       );
+      names = record { before = ls; line = line; more = []; lines = refl; new = it };
     }
 
 -- the lane after a line that is disregarded
@@ -158,6 +165,7 @@ over_stands lane ls line it over =
       owes = subst (Owes lane.work lane.server (account_of_lines (ls ++ line ∷ [])))
           (added_is ls line [] (ap due_lines same ∙ sym (append-nil (due_lines (account_of_lines ls)))))
           (subst (λ a. Owes lane.work lane.server a []) (sym same) it.stands.owes);
+      names = subst (λ w. GivesFault w (ls ++ line ∷ [])) (sym it.quiet) tt;
     }
 
 -- what holds at Ok leads on

@@ -1,11 +1,13 @@
 -- What is kept of the lines of the input, and for which lines it stands.
-use Rattle.std.specs.Prelude.{◌≡◌, ◌≤◌, ◌<◌, ◌-◌, ℕ, suc, List, [], ◌∷◌, ◌++◌, length, map, Bool, true, false, Option, Some, None, Result, Ok, Err}
+use Rattle.std.specs.Prelude.{◌≡◌, ◌≤◌, ◌<◌, ◌-◌, ◌⊎◌, ℕ, suc, List, [], ◌∷◌, ◌++◌, length, map, Bool, true, false, Option, Some, None, Result, Ok, Err}
 use Rattle.std.specs.List.{slice_get}
 use Rattle.dover_model.specs.Limits.{most_lines}
 use Rattle.lane_server.specs.Lanes.{lane_count, OfLane, Close, lane_line, Handed, Input, Open, Closed, input_of_lines, lane_lines, in_lane}
 use Rattle.lane_server.specs.Lanes.{newly_due, shorts_from}
-use Rattle.lane_server.specs.Lane.{Stands, IsQuiet, out_text, HasNumerals}
+use Rattle.event_feed.specs.declared.faults.Cause.TheVariants.{Short}
+use Rattle.lane_server.specs.Lane.{Stands, IsQuiet, out_text, HasNumerals, NamesFault}
 use Rattle.lane_server.specs.declared.out.LaneOut.{LaneOut}
+use Rattle.lane_server.specs.declared.out.LaneOut.TheVariants.{Refused}
 use Rattle.lane_server.specs.declared.lane.Lane.{Lane}
 use Rattle.lane_server.specs.declared.lanes.Phase.{Phase}
 use Rattle.lane_server.specs.declared.lanes.Phase.TheVariants.{Ready, Giving, Closing}
@@ -84,8 +86,15 @@ Answers (Err fault.BadLane) old new ls bytes = HasRoom ls × (lane_line bytes �
 Answers (Err fault.Memory) old new ls bytes =
     HasRoom ls × ((lane : ℕ) × (line : List ℕ) × (lane_line bytes ≡ Some (OfLane lane line)))
 
--- the next line is the first of those left and can be written, and there is none exactly where none is left
+-- it says that the feed is short
+abbrev pub SaysShort : LaneOut → Type 0
+SaysShort (Refused line cause) = cause ≡ Short
+SaysShort _ = ⊥
+
+-- The next line is the first of those left, can be written, and names the fault for which it refuses a feed that isn't short. There is none
+-- exactly where none is left.
 abbrev pub GivesNext : Option (ℕ × LaneOut) → Kept → List (List ℕ) → List (List ℕ) → Type 0
 GivesNext None kept ls rest = (rest ≡ []) × StandsFor kept ls []
 GivesNext (Some given) kept ls rest =
     (more : List (List ℕ)) × (rest ≡ in_lane given.0 (out_text given.1) ∷ more) × StandsFor kept ls more × HasNumerals given.1
+    × (NamesFault given.1 (lane_lines (input_of_lines ls).handed given.0) ⊎ SaysShort given.1)

@@ -20,6 +20,7 @@ use Rattle.dover_core.specs.declared.horizon.Horizon.TheVariants.{Mark}
 use Rattle.dover_core.specs.Service.{Service, list_of}
 use Rattle.event_feed.specs.Kept as feed
 use Rattle.event_feed.specs.Kept.{cause_of_fault}
+use Rattle.event_feed.specs.Faults.{IsFirstFault}
 use Rattle.lane_server.specs.declared.out.LaneOut.{LaneOut}
 use Rattle.lane_server.specs.declared.out.LaneOut.TheVariants.{Header, Step as Printed, Refuse, Refused}
 use Rattle.lane_server.specs.declared.lane.Lane.{Lane}
@@ -40,6 +41,11 @@ HasNumerals (Header version k) = Unit {0}
 HasNumerals (Printed e) = AreShort (numbers_in e)
 HasNumerals (Refuse at release work deadline value cause) = AreShort (at ∷ release ∷ work ∷ deadline ∷ value ∷ [])
 HasNumerals (Refused line cause) = Unit {0}
+
+-- where it refuses the feed of these lines, it does so for the first that is at fault, and names the job with which its ratio is broken
+abbrev pub NamesFault : LaneOut → List (List ℕ) → Type 0
+NamesFault (Refused line cause) ls = IsFirstFault (record { line = line; cause = cause }) ls
+NamesFault _ ls = Unit {0}
 
 -- ---- how far a server is
 
@@ -129,6 +135,11 @@ Owes (Admit job) (Some v) a rest = Admitting job v a rest
 Owes Finish None a rest = ⊥
 Owes Finish (Some v) a rest = Finishing v a rest
 
+-- a line that refuses the feed, and is left to give, names its fault
+abbrev pub GivesFault : Work → List (List ℕ) → Type 0
+GivesFault (Give out) ls = NamesFault out ls
+GivesFault _ ls = Unit {0}
+
 -- ---- a lane
 
 -- The lane was handed these lines, and these are left to give.
@@ -138,6 +149,7 @@ pub record Stands (lane : Lane) (ls rest : List (List ℕ)) : Type 0 where
   pub unended : lane.is_open ≡ true → feed.has_ended lane.intake ≡ false
   pub marked : lane.mark ≡ (account_of_lines ls).mark
   pub owes : Owes lane.work lane.server (account_of_lines ls) rest
+  pub names : GivesFault lane.work ls
 
 -- it was handed these lines, and all that is due for them was given
 pub record IsQuiet (lane : Lane) (ls : List (List ℕ)) : Type 0 where
@@ -147,7 +159,8 @@ pub record IsQuiet (lane : Lane) (ls : List (List ℕ)) : Type 0 where
 -- it gives the first of the lines that are left, if one is
 abbrev pub Gives : Option LaneOut → Lane → List (List ℕ) → List (List ℕ) → Type 0
 Gives None lane ls rest = (rest ≡ []) × IsQuiet lane ls
-Gives (Some out) lane ls rest = (more : List (List ℕ)) × (rest ≡ out_text out ∷ more) × Stands lane ls more × HasNumerals out
+Gives (Some out) lane ls rest =
+    (more : List (List ℕ)) × (rest ≡ out_text out ∷ more) × Stands lane ls more × HasNumerals out × NamesFault out ls
 
 -- the account goes on, and the lane's server has taken its session to its mark
 pub record IsOpenAt (lane : Lane) (a : Account) : Type 0 where
@@ -164,3 +177,4 @@ pub record Adds (lane : Lane) (a b : Account) : Type 0 where
   pub due : due_lines b ≡ due_lines a ++ rest
   pub marked : lane.mark ≡ b.mark
   pub owes : Owes lane.work lane.server b rest
+  pub names : (ls : List (List ℕ)) → GivesFault lane.work ls

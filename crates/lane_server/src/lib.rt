@@ -5,8 +5,6 @@ mod lane;
 mod lanes;
 mod out;
 mod reading;
-#[cfg(test)]
-mod tests;
 
 pub use lanes::{LaneFault, LaneStep, Lanes};
 pub use out::LaneOut;

@@ -14,7 +14,7 @@ use Rattle.lane_server.specs.Lanes.{Input, InputStanding, Open, Closed, Faulty, 
 use Rattle.lanes_word.specs.Record.{closing_status}
 use Rattle.lanes_word.specs.Delivered.{Delivers, due_so_far, text_so_far}
 use Rattle.lanes_word.specs.Keeping.{Stands}
-use Rattle.lanes_word.specs.Turning.{Gets, TurnMakes, IsEnding, EndsWell, turn_of}
+use Rattle.lanes_word.specs.Turning.{Gets, TurnMakes, TurnCauses, IsEnding, EndsWell, turn_of}
 use Rattle.lanes_word.specs.declared.session.Session.{Session}
 use Rattle.lanes_word.specs.declared.progress.Progress.{Progress}
 use Rattle.lanes_word.specs.declared.progress.Progress.TheVariants as progress
@@ -133,3 +133,8 @@ ending a = by_standing a.standing where
 pub ends_well : (o : Progress) (old new : Option (List Move)) (p q : List ℕ) (a b : Input) → Delivers (Ok o) old new p q a b → EndsWell (turn_of o)
 ends_well progress.Open old new p q a b it = tt
 ends_well (progress.Over status) old new p q a b it = subst IsEnding (sym it.leaves.1.1) (ending b)
+
+-- a turn that takes the input so far leaves both counts
+pub plain_turn : (p : Progress) {reads reads' writes writes' : ℕ} → reads' ≡ reads → writes' ≡ writes → TurnCauses (turn_of p) reads reads' writes writes'
+plain_turn progress.Open r w = (r, w)
+plain_turn (progress.Over status) r w = (r, w)

@@ -2,7 +2,8 @@
 use Rattle.std.specs.Prelude.{◌≡◌, ℕ, List, [], ◌∷◌, ◌++◌, true, false, Option, Result, Ok, Err, length}
 use Rattle.dover_model.specs.Lines.{in_lines}
 use Rattle.dover_model.specs.WholeRun.{Begins}
-use Rattle.dover_port.specs.Causes.{Rose}
+use Rattle.dover_port.specs.Causes.{Rose, StaysWell, FailsLast}
+use Rattle.dover_port.specs.declared.calls.Calls.{Calls}
 use Rattle.dover_port.specs.Moves.{Move, Passes, CutsShort}
 use Rattle.lane_server.specs.Lanes.{Input, Open, Closed, Faulty, input, goes_on, lane_count, due_after, shorts_from, refused_line, fault_word}
 use Rattle.lane_server.specs.Kept.{Kept, StandsFor}
@@ -65,3 +66,9 @@ abbrev pub StopCause : {T : Type 0} → Result T Stop → (writes writes' reads 
 StopCause (Ok x) writes writes' reads reads' = (writes' ≡ writes) × (reads' ≡ reads)
 StopCause (Err NoMemory) writes writes' reads reads' = (writes' ≡ writes) × (reads' ≡ reads)
 StopCause (Err Unwritten) writes writes' reads reads' = Rose writes writes' × (reads' ≡ reads)
+
+-- No call follows one that failed: the last one alone has failed where a write did, and else none has.
+abbrev pub StopsOn : {T : Type 0} → Result T Stop → (old new : Calls) → Type 0
+StopsOn (Ok x) old new = StaysWell old new
+StopsOn (Err NoMemory) old new = StaysWell old new
+StopsOn (Err Unwritten) old new = FailsLast old new

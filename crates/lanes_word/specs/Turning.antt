@@ -2,7 +2,8 @@
 use Rattle.std.specs.Prelude.{◌≡◌, ℕ, suc, List, [], ◌∷◌, ◌++◌, false, Option, length, codes}
 use Rattle.dover_model.specs.Lines.{in_lines, whole_lines}
 use Rattle.dover_model.specs.WholeRun.{Begins}
-use Rattle.dover_port.specs.Causes.{Rose}
+use Rattle.dover_port.specs.Causes.{Rose, StaysWell, FailsLast}
+use Rattle.dover_port.specs.declared.calls.Calls.{Calls}
 use Rattle.dover_port.specs.Moves.{Move, Since, ArePuts, ins, outs, has_ended, EachRead, IsProperPrefix}
 use Rattle.dover_port.specs.Moves.Move.{Got, Ended}
 use Rattle.dover_port.specs.declared.status.Status.{Status}
@@ -60,6 +61,12 @@ abbrev pub TurnCauses : Turn → (reads reads' writes writes' : ℕ) → Type 0
 TurnCauses turn.Unread reads reads' writes writes' = Rose reads reads' × (writes' ≡ writes)
 TurnCauses turn.Unwritten reads reads' writes writes' = (reads' ≡ reads) × Rose writes writes'
 TurnCauses _ reads reads' writes writes' = (reads' ≡ reads) × (writes' ≡ writes)
+
+-- no call follows one that failed: the last one alone has failed where the turn ends with a fault, and else none has
+abbrev pub TurnStops : Turn → (old new : Calls) → Type 0
+TurnStops turn.Unread old new = FailsLast old new
+TurnStops turn.Unwritten old new = FailsLast old new
+TurnStops _ old new = StaysWell old new
 
 -- the turn that takes the input so far
 abbrev pub turn_of : Progress → Turn

@@ -1,6 +1,6 @@
 //! The reading loop.
 ghost use Rattle.std.specs.Prelude.{◌≡◌, ℕ, List};
-ghost use Rattle.dover_port.specs.Causes.{Causes, IsAnswer};
+ghost use Rattle.dover_port.specs.Causes.{Causes, IsAnswer, StopsWith};
 ghost use Rattle.dover_port.specs.Moves.{Since};
 ghost use Rattle.lanes_word.specs.Keeping.{Stands};
 ghost use Rattle.lanes_word.specs.Record.{Serves};
@@ -17,7 +17,7 @@ use std::sync::ledger::Ledger;
 use step_count::Steps;
 
 /// How many bytes a read asks for.
-const READ_BYTES: usize = 4096;
+const READ_BYTES: usize = 65_536;
 
 /// More reads than an input has that goes on: its 4,000,000 lines have at most 129 bytes each, and the line that has begun at most 128.
 const MOST_READS: u64 = 516_000_129;
@@ -28,6 +28,7 @@ fn refuse_short<P: Port>(port: &mut P, session: &Session) -> Status
     ensures text { (x : List ℕ) → Stands session.now x → Finishes result (P.moves port.old) (P.moves port.new) (short_text x) }
     ensures answer { IsAnswer result }
     ensures causes { Causes result (P.read_faults port.old) (P.read_faults port.new) (P.write_faults port.old) (P.write_faults port.new) }
+    ensures stops { StopsWith result (P.calls port.old) (P.calls port.new) }
 {
     let mut out = Output::new();
     match put_refusal(port, &mut out, session.lanes.lines() + 1, b"short") {
@@ -46,6 +47,7 @@ pub fn lanes_word<P: Port, L: Ledger>(alloc: Global, port: &mut P, steps: &mut S
     ensures serves { Since (P.moves port.old) (P.moves port.new) (Serves result) }
     ensures answer { IsAnswer result }
     ensures causes { Causes result (P.read_faults port.old) (P.read_faults port.new) (P.write_faults port.old) (P.write_faults port.new) }
+    ensures stops { StopsWith result (P.calls port.old) (P.calls port.new) }
 {
     let Ok(lanes) = Lanes::new(alloc) else {
         return Status::Memory;

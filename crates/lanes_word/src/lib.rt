@@ -8,6 +8,3 @@ mod session;
 mod turn;
 
 pub use lanes::lanes_word;
-
-#[cfg(test)]
-mod tests;

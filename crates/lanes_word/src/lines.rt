@@ -1,6 +1,6 @@
 //! Lines on their way out, each with its line feed.
 ghost use Rattle.std.specs.Prelude.{◌≡◌, ◌≤◌, ◌++◌, ◌∷◌, [], length, decimal};
-ghost use Rattle.dover_port.specs.Causes.{HasCause};
+ghost use Rattle.dover_port.specs.Causes.{HasCause, StopsAtFailure};
 ghost use Rattle.dover_port.specs.Moves.{PutsThrough};
 ghost use Rattle.lane_server.specs.Lane.{out_text, HasNumerals};
 ghost use Rattle.lane_server.specs.Lanes.{in_lane, refused_line};
@@ -16,6 +16,7 @@ use trace_format::TraceLine;
 fn put_lane<P: Port>(port: &mut P, out: &mut Output, lane: u8) -> Result<(), Failed>
     ensures text { PutsThrough (P.moves port.old) (P.moves port.new) result out.old out.new (decimal lane ++ 32 ∷ []) }
     ensures cause { HasCause (P.write_faults port.old) (P.write_faults port.new) (P.read_faults port.old) (P.read_faults port.new) result }
+    ensures stops { StopsAtFailure (P.calls port.old) (P.calls port.new) result }
 {
     let mut front = LineBuf::new();
     front.put_number(u64::from(lane));
@@ -28,6 +29,7 @@ fn put_text<P: Port>(port: &mut P, out: &mut Output, line: LaneOut) -> Result<()
     requires { HasNumerals line }
     ensures text { PutsThrough (P.moves port.old) (P.moves port.new) result out.old out.new (out_text line ++ 10 ∷ []) }
     ensures cause { HasCause (P.write_faults port.old) (P.write_faults port.new) (P.read_faults port.old) (P.read_faults port.new) result }
+    ensures stops { StopsAtFailure (P.calls port.old) (P.calls port.new) result }
 {
     match line {
         LaneOut::Header(version, k) => put_header(port, out, version, k),
@@ -64,6 +66,7 @@ pub(crate) fn put_out<P: Port>(
     requires { HasNumerals line }
     ensures text { PutsThrough (P.moves port.old) (P.moves port.new) result out.old out.new (in_lane lane (out_text line) ++ 10 ∷ []) }
     ensures cause { HasCause (P.write_faults port.old) (P.write_faults port.new) (P.read_faults port.old) (P.read_faults port.new) result }
+    ensures stops { StopsAtFailure (P.calls port.old) (P.calls port.new) result }
 {
     match put_lane(port, out, lane) {
         Ok(()) => {}
@@ -82,6 +85,7 @@ pub(crate) fn put_refusal<P: Port>(
     requires { length word.now ≤ 5 }
     ensures text { PutsThrough (P.moves port.old) (P.moves port.new) result out.old out.new (refused_line number word.now ++ 10 ∷ []) }
     ensures cause { HasCause (P.write_faults port.old) (P.write_faults port.new) (P.read_faults port.old) (P.read_faults port.new) result }
+    ensures stops { StopsAtFailure (P.calls port.old) (P.calls port.new) result }
 {
     let mut line = LineBuf::new();
     line.put_word(b"refused");

@@ -1,12 +1,12 @@
 //! What is kept of the input, and what its lines and pieces deliver.
 ghost use Rattle.std.specs.Prelude.{◌≡◌, ◌≤◌, ◌∷◌, ◌++◌, ℕ, suc, List, [], Ok, OnOk, false, if◌then◌else◌};
-ghost use Rattle.dover_port.specs.Causes.{HasCause};
+ghost use Rattle.dover_port.specs.Causes.{HasCause, StopsAtFailure};
 ghost use Rattle.dover_port.specs.Moves.{PutsThrough};
 ghost use Rattle.dover_model.specs.Lines.{in_lines};
 ghost use Rattle.dover_model.specs.Limits.{most_lines};
 ghost use Rattle.lane_server.specs.Kept.{StandsFor, IsReady, is_closed};
 ghost use Rattle.lane_server.specs.Lanes.{Input, InputFault, Faulty, Open as Going, input, input_of_lines, fault_word};
-ghost use Rattle.lanes_word.specs.Delivered.{Delivers, StopCause};
+ghost use Rattle.lanes_word.specs.Delivered.{Delivers, StopCause, StopsOn};
 ghost use Rattle.lanes_word.specs.Keeping.{Keeps, Stands};
 ghost use Rattle.lanes_word.specs.declared.progress.Progress.TheVariants.{Open};
 
@@ -41,6 +41,7 @@ fn put_due<P: Port, L: Ledger>(
     ensures stands { (ls rest : List (List ℕ)) → StandsFor lanes.old ls rest → OnOk result (StandsFor lanes.new ls []) }
     ensures ready { OnOk result (is_closed lanes.old ≡ false → IsReady lanes.new) }
     ensures cause { HasCause (P.write_faults port.old) (P.write_faults port.new) (P.read_faults port.old) (P.read_faults port.new) result }
+    ensures stops { StopsAtFailure (P.calls port.old) (P.calls port.new) result }
 {
     for _ in 0..MOST_OUTS {
         match lanes.next_out(steps) {
@@ -68,6 +69,7 @@ fn refuse<P: Port>(
         Delivers result (P.moves port.old) (P.moves port.new) out.old out.new a b }
     ensures over { result ≡ Ok Open → ⊥ }
     ensures cause { StopCause result (P.write_faults port.old) (P.write_faults port.new) (P.read_faults port.old) (P.read_faults port.new) }
+    ensures stops { StopsOn result (P.calls port.old) (P.calls port.new) }
 {
     match put_refusal(port, out, lanes.lines() + 1, word) {
         Ok(()) => Ok(Progress::Over(Status::Refused)),
@@ -99,6 +101,7 @@ fn take_line<P: Port, L: Ledger>(
         Delivers result (P.moves port.old) (P.moves port.new) out.old out.new (input_of_lines ls) (input_of_lines (ls ++ line.now ∷ [])) }
     ensures keeps { (ls : List (List ℕ)) → Keeps lanes.old ls → result ≡ Ok Open → Keeps lanes.new (ls ++ line.now ∷ []) }
     ensures cause { StopCause result (P.write_faults port.old) (P.write_faults port.new) (P.read_faults port.old) (P.read_faults port.new) }
+    ensures stops { StopsOn result (P.calls port.old) (P.calls port.new) }
 {
     match lanes.line(line) {
         Ok(LaneStep::Fed(_)) => match put_due(port, out, lanes, steps) {
@@ -127,6 +130,7 @@ fn take_byte<P: Port, L: Ledger>(
         Delivers result (P.moves port.old) (P.moves port.new) out.old out.new (input x) (input (x ++ byte ∷ [])) }
     ensures stands { (x : List ℕ) → Stands session.old x → result ≡ Ok Open → Stands session.new (x ++ byte ∷ []) }
     ensures cause { StopCause result (P.write_faults port.old) (P.write_faults port.new) (P.read_faults port.old) (P.read_faults port.new) }
+    ensures stops { StopsOn result (P.calls port.old) (P.calls port.new) }
 {
     match session.lines.push(byte) {
         Step::More => Ok(Progress::Open),
@@ -148,6 +152,7 @@ pub(crate) fn take_piece<P: Port, L: Ledger>(
         Delivers result (P.moves port.old) (P.moves port.new) out.old out.new (input x) (input (x ++ bytes.now)) }
     ensures stands { (x : List ℕ) → Stands session.old x → result ≡ Ok Open → Stands session.new (x ++ bytes.now) }
     ensures cause { StopCause result (P.write_faults port.old) (P.write_faults port.new) (P.read_faults port.old) (P.read_faults port.new) }
+    ensures stops { StopsOn result (P.calls port.old) (P.calls port.new) }
 {
     for byte in bytes {
         match take_byte(port, out, session, *byte, steps) {

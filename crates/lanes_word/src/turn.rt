@@ -2,7 +2,7 @@
 ghost use Rattle.std.specs.Prelude.{◌≡◌, ◌<◌, ◌++◌, ℕ, List, [], length};
 ghost use Rattle.dover_port.specs.Moves.{Since};
 ghost use Rattle.lanes_word.specs.Keeping.{Stands};
-ghost use Rattle.lanes_word.specs.Turning.{TurnMakes, TurnCauses, EndsWell, turn_of};
+ghost use Rattle.lanes_word.specs.Turning.{TurnMakes, TurnCauses, EndsWell, turn_of, TurnStops};
 ghost use Rattle.lanes_word.specs.declared.turn.Turn.TheVariants.{More, NoInput};
 
 use crate::progress::{Progress, Stop};
@@ -55,6 +55,7 @@ pub(crate) fn take_turn<P: Port, L: Ledger>(
     ensures input { result ≡ NoInput → session.new ≡ session.old }
     ensures over { EndsWell result }
     ensures causes { TurnCauses result (P.read_faults port.old) (P.read_faults port.new) (P.write_faults port.old) (P.write_faults port.new) }
+    ensures stops { TurnStops result (P.calls port.old) (P.calls port.new) }
 {
     let Ok(count) = port.read(buf) else {
         return Turn::Unread;

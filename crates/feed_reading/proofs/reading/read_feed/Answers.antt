@@ -10,6 +10,7 @@ loop-reads-init g c = record {
   stands = ([], omega arith, c.new-feed.ensures);
   read_faults = refl;
   write_faults = refl;
+  calls = λ well. well;
 }
 
 pub loop-reads-preserved : goal.loop-reads-preserved
@@ -27,6 +28,7 @@ loop-reads-preserved g c =
       );
       read_faults = c.in-Ok.ensures.cause.ok ∙ c.loop-reads.invariant.read_faults;
       write_faults = c.in-Ok.ensures.cause.other ∙ c.loop-reads.invariant.write_faults;
+      calls = λ well. c.in-Ok.ensures.stops.well (c.loop-reads.invariant.calls well);
     }
 
 pub unreachable-requires : goal.unreachable-requires
@@ -40,6 +42,7 @@ returns-then-count-eq0-clause-reads g c = on_end _ _ _ _ c.loop-reads.invariant.
 pub returns-in-Refused-clause-reads : goal.returns-in-Refused-clause-reads
 returns-in-Refused-clause-reads g c = on_refused _ _ _ _ c.loop-reads.invariant.moves _
     (some_front _ _ c.if-count-eq0.false c.in-Ok.ensures.bound) c.in-Ok.ensures.moved c.take_piece.new.self _ c.in-Refused.ensures.at
+    (λ x stands. c.in-Refused.ensures.names x _ stands refl)
 
 pub returns-in-NoMemory-clause-reads : goal.returns-in-NoMemory-clause-reads
 returns-in-NoMemory-clause-reads g c = on_no_memory _ _ _ _ c.loop-reads.invariant.moves _

@@ -19,6 +19,7 @@ loop-reads-init g c =
       stands = ([], omega arith, stands);
       read_faults = refl;
       write_faults = refl;
+      calls = λ well. well;
     }
 
 pub loop-reads-preserved : goal.loop-reads-preserved
@@ -31,6 +32,7 @@ loop-reads-preserved g c =
       stands = (was.0 ++ more.0, omega (arith, was.1, more.1, length-append was.0 more.0), more.2);
       read_faults = c.in-More.ensures.causes.0 ∙ c.loop-reads.invariant.read_faults;
       write_faults = c.in-More.ensures.causes.1 ∙ c.loop-reads.invariant.write_faults;
+      calls = λ well. c.in-More.ensures.stops (c.loop-reads.invariant.calls well);
     }
 
 pub returns-in-Over-clause-serves : goal.returns-in-Over-clause-serves

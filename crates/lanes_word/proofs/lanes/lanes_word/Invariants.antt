@@ -1,4 +1,5 @@
 use Rattle.std.proofs.Common.{◌≡◌, ◌≤◌, ◌-◌, ℕ, List, [], length}
+use Rattle.dover_port.specs.Causes.{StaysWell}
 use Rattle.dover_port.specs.Moves.{Since}
 use Rattle.lanes_word.specs.Keeping.{Stands}
 use Rattle.lanes_word.specs.Turning.{GoesOn}
@@ -12,6 +13,7 @@ invariant-loop-reads g l = record {
   stands : (x : List ℕ) × (l.reads ≤ length x) × Stands l.session x;
   read_faults : g.P.Port.read_faults l.port ≡ g.P.Port.read_faults l.initial.port;
   write_faults : g.P.Port.write_faults l.port ≡ g.P.Port.write_faults l.initial.port;
+  calls : StaysWell (g.P.Port.calls l.initial.port) (g.P.Port.calls l.port);
 }
 
 abbrev pub decreases-loop-reads : goal.decreases-loop-reads

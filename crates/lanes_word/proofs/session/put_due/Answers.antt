@@ -3,7 +3,7 @@ use Rattle.lanes_word.proofs.Giving.{given_none, given_more, given_cut, given_al
 use Rattle.lanes_word.proofs.session.put_due.Goals as goal
 
 pub loop-init : goal.loop-init
-loop-init g c = record { given = λ ls rest it. given_none _ _ _ ls rest it; closed = refl; writes = refl; reads = refl }
+loop-init g c = record { given = λ ls rest it. given_none _ _ _ ls rest it; closed = refl; writes = refl; reads = refl; calls = λ well. well }
 
 pub next_out-requires : goal.next_out-requires
 next_out-requires g c =
@@ -23,6 +23,7 @@ loop-preserved g c = record {
   closed = c.in-Some.ensures.closed ∙ c.loop.invariant.closed;
   writes = grind arith;
   reads = grind arith;
+  calls = λ well. c.in-Ok.ensures.stops.well (c.loop.invariant.calls well);
 }
 
 pub returns-in-Err-clause-text : goal.returns-in-Err-clause-text

@@ -1,5 +1,6 @@
 use Rattle.std.proofs.Common.{◌≡◌, List, ℕ}
 use Rattle.lane_server.specs.Kept.{StandsFor, is_closed}
+use Rattle.dover_port.specs.Causes.{StaysWell}
 use Rattle.lanes_word.specs.Delivered.{HasGiven}
 use Rattle.lanes_word.proofs.session.put_due.Given as goal
 
@@ -11,4 +12,5 @@ invariant-loop g l = record {
   closed : is_closed l.lanes ≡ is_closed l.initial.lanes;
   writes : g.P.Port.write_faults l.port ≡ g.P.Port.write_faults l.initial.port;
   reads : g.P.Port.read_faults l.port ≡ g.P.Port.read_faults l.initial.port;
+  calls : StaysWell (g.P.Port.calls l.initial.port) (g.P.Port.calls l.port);
 }

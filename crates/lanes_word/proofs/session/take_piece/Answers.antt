@@ -25,4 +25,5 @@ loop-byte-preserved g c = record {
       (c.in-Ok-Open.ensures.stands _ (c.loop-byte.invariant.stands x stands) (ap Ok c.in-Ok-Open.field-0-is));
   writes = grind arith;
   reads = grind arith;
+  calls = λ well. c.in-Ok-Open.ensures.stops (c.loop-byte.invariant.calls well);
 }

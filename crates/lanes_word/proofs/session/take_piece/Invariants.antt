@@ -1,5 +1,6 @@
 use Rattle.std.proofs.Common.{◌≡◌, ℕ, List, ◌++◌, take, Ok}
 use Rattle.lane_server.specs.Lanes.{input}
+use Rattle.dover_port.specs.Causes.{StaysWell}
 use Rattle.lanes_word.specs.Delivered.{Delivers}
 use Rattle.lanes_word.specs.Keeping.{Stands}
 use Rattle.lanes_word.specs.declared.progress.Progress.TheVariants.{Open}
@@ -14,4 +15,5 @@ invariant-loop-byte g l = record {
   stands : (x : List ℕ) → Stands l.initial.session x → Stands l.session (x ++ take l.byte-index l.bytes);
   writes : g.P.Port.write_faults l.port ≡ g.P.Port.write_faults l.initial.port;
   reads : g.P.Port.read_faults l.port ≡ g.P.Port.read_faults l.initial.port;
+  calls : StaysWell (g.P.Port.calls l.initial.port) (g.P.Port.calls l.port);
 }

@@ -1,6 +1,6 @@
-use Rattle.std.proofs.Common.{refl, subst}
+use Rattle.std.proofs.Common.{◌+◌, ◌∷◌, ◌++◌, [], refl, sym, subst, take, drop, get_or}
 use Rattle.feed_reading.specs.Feeding.{FeedStands}
-use Rattle.line_text.proofs.Pieces.{next_bytes}
+use Rattle.line_text.proofs.Pieces.{next_bytes, rest_bytes}
 use Rattle.feed_reading.proofs.Pieces.{piece_ended, piece_refused, piece_no_memory}
 use Rattle.feed_reading.proofs.feed.Feed.take_piece.Goals as goal
 
@@ -23,3 +23,11 @@ returns-in-Refused-clause-at c = λ x stands. piece_refused x c.args.bytes.now c
 pub returns-in-NoMemory-clause-at : goal.returns-in-NoMemory-clause-at
 returns-in-NoMemory-clause-at c = λ x stands. piece_no_memory x c.args.bytes.now c.loop-byte.byte-index c.loop-byte-test.true
     (c.in-NoMemory.ensures.at _ (c.loop-byte.invariant x stands))
+
+pub returns-in-Refused-clause-names : goal.returns-in-Refused-clause-names
+returns-in-Refused-clause-names c = λ x fault stands is. record {
+  read = (x ++ take c.loop-byte.byte-index c.args.bytes.now) ++ get_or c.args.bytes.now c.loop-byte.byte-index 0 ∷ [];
+  rest = drop (c.loop-byte.byte-index + 1) c.args.bytes.now;
+  front = sym (rest_bytes x c.args.bytes.now c.loop-byte.byte-index c.loop-byte-test.true);
+  first = c.in-Refused.ensures.names _ fault (c.loop-byte.invariant x stands) is;
+}

@@ -1,8 +1,9 @@
-use Rattle.std.proofs.Common.{◌∷◌, ◌++◌, [], sym, ap, ◌∙◌, subst}
+use Rattle.std.proofs.Common.{◌≡◌, ◌∷◌, ◌++◌, [], sym, ap, ◌∙◌, subst}
 use Rattle.event_feed.specs.Kept as feed
 use Rattle.dover_model.specs.Feed.{account_of_lines}
 use Rattle.feed_reading.specs.Listing.{StandsAt}
-use Rattle.feed_reading.proofs.Listing.{not_then}
+use Rattle.event_feed.specs.Faults.{IsFirstFault}
+use Rattle.feed_reading.proofs.Listing.{not_then, first_fault}
 use Rattle.feed_reading.proofs.gathering.Gathering.take_line.Goals as goal
 
 pub returns-in-Ok-clause-keeps : goal.returns-in-Ok-clause-keeps
@@ -16,3 +17,10 @@ returns-in-Ok-clause-keeps c = λ ls keeps is.
       stands = at.0;
       lists = at.1;
     }
+
+pub returns-in-Ok-clause-names : goal.returns-in-Ok-clause-names
+returns-in-Ok-clause-names c = λ ls fault keeps is. absurd (c.take_fed.ensures.fine fault is)
+
+pub returns-in-Err-clause-names : goal.returns-in-Err-clause-names
+returns-in-Err-clause-names c = λ ls fault keeps is. subst (λ f. IsFirstFault f (ls ++ c.args.line.now ∷ [])) (let e : c.in-Err.fault ≡ fault = cc in e)
+    (first_fault ls c.args.line.now c.in-Err.fault keeps.stands (c.in-Err.ensures.answer ls keeps.intake))

@@ -24,6 +24,7 @@ returns-in-Some-step g c = λ ls rest it.
           (subst (λ m. GivesNext (Mark m) c.in-Some.server.rules c.in-Some.server.state c.step.new.self.state c.in-Some-step.event)
           c.release-release.ensures.is c.in-Some-step.ensures.some) c.in-Some-step.ensures.ended
           (clock_known c.step.new.self c.in-Some-step.ensures.stands),
+      tt,
     )
 
 pub settle-requires-clause-stands : goal.settle-requires-clause-stands

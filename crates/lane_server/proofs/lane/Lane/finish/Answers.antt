@@ -18,4 +18,5 @@ returns-in-Some-step g c = λ ls rest it.
       lane_stands c.args.self.now Finish c.step.new.self ls rest given.0 it c.requires.work given.2,
       finish_short c.in-Some.server c.step.new.self (account_of_lines ls) rest owes c.in-Some-step.event c.in-Some-step.ensures.some on
           c.in-Some-step.ensures.rules (ended_now _ _ _ c.in-Some-step.ensures.ended on) (clock_known c.step.new.self c.in-Some-step.ensures.stands),
+      tt,
     )

@@ -18,6 +18,7 @@ returns-in-Some-step g c = λ ls rest it.
       settle_short c.args.mark c.in-Some.server c.step.new.self (account_of_lines ls) rest owes c.in-Some-step.ensures.rules
           c.in-Some-step.ensures.last c.in-Some-step.event c.in-Some-step.ensures.some c.in-Some-step.ensures.ended
           (clock_known c.step.new.self c.in-Some-step.ensures.stands),
+      tt,
     )
 
 pub returns-in-None : goal.returns-in-None

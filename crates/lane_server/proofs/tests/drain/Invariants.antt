@@ -1,9 +1,0 @@
-use Rattle.std.specs.Prelude.{◌≡◌, ℕ, List}
-use Rattle.lane_server.specs.Kept.{StandsFor, is_closed}
-use Rattle.lane_server.proofs.tests.drain.Given as goal
-
-abbrev pub invariant-loop : goal.invariant-loop
-invariant-loop g l = record {
-  stands : (ls : List (List ℕ)) × (rest : List (List ℕ)) × StandsFor l.lanes ls rest;
-  closed : is_closed l.lanes ≡ is_closed l.initial.lanes;
-}
