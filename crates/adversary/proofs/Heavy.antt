@@ -1,5 +1,5 @@
 -- The values of the chain: the greatest value that isn't heavy, and the least against which a unit job isn't.
-use Rattle.std.proofs.Common.{◌≡◌, ℕ, suc, ◌+◌, ◌-◌, ◌*◌, ◌/◌, ◌^◌, ◌≤◌, ◌<◌, ◌⊎◌, inl, inr, refl, sym, subst, Bool, true, false, IsTrue, arith}
+use Rattle.std.proofs.Common.{◌≡◌, ℕ, suc, ◌+◌, ◌-◌, ◌*◌, ◌/◌, ◌^◌, ◌≤◌, ◌<◌, ◌⊎◌, inl, inr, refl, sym, ◌∙◌, subst, Bool, true, false, IsTrue, arith}
 use Rattle.std.specs.Prelude.{not}
 use Rattle.std.proofs.lemmas.Bool.{cases_lt}
 use Rattle.std.proofs.lemmas.Nat.{mul-le}
@@ -8,6 +8,7 @@ use Rattle.dover_model.specs.Fraction.{Fraction, IsRatio}
 use Rattle.dover_model.specs.Greatest.{IsGreatest, greatest}
 use Rattle.dover_model.specs.Orders.{IsHeavy, is_heavy}
 use Rattle.dover_model.specs.Bait.{most_light}
+use Rattle.adversary.specs.Links.{IsLeastUnmoved, IsLeastHeavy, IsMostLight}
 use Rattle.dover_model.proofs.Tests.{never}
 use Rattle.dover_model.proofs.Agreement.{is_heavy-agrees}
 use Rattle.dover_model.proofs.Calculus.{heavy_mono, heavy_more, not_heavy, square_order}
@@ -138,18 +139,20 @@ heavy_zero k v ratio some = (is_heavy-agrees k v 0).1 (
     let whole : v - 0 ≡ v = omega arith in
     subst (λ x. k.p * 0 * 0 < k.q * x * x) (sym whole) (omega (arith, times)))
 
+-- the greatest value against which v is heavy is found
+pub moved_is : (k : Fraction) (v : ℕ) → IsRatio k → 1 ≤ v → v ≤ 1_000_000_000 → IsGreatest (λ n. is_heavy k v n) (greatest (λ n. is_heavy k v n))
+moved_is k v ratio some small = greatest-is (λ n. is_heavy k v n) (heavy_closed k v) (heavy_zero k v ratio some)
+    (fails (is_heavy k v (2 ^ 65)) (λ heavy. far (heavy_more k v (2 ^ 65) ((is_heavy-agrees k v (2 ^ 65)).0 heavy)))) where
+      far : 2 ^ 65 < v → ⊥
+      far less = omega arith
+
 -- where a unit job is heavy against the number before w, and not against w, this is the first link
 pub first_is : (k : Fraction) (v w : ℕ) → IsRatio k → 1 ≤ v → v ≤ 1_000_000_000 → 1 ≤ w → IsTrue (is_heavy k v (w - 1))
     → (IsTrue (is_heavy k v w) → ⊥) → suc (greatest (λ n. is_heavy k v n)) ≡ w
 first_is k v w ratio some small some_w below light =
-    let same : greatest (λ n. is_heavy k v n) ≡ w - 1 = one_greatest (λ n. is_heavy k v n) (greatest (λ n. is_heavy k v n)) (w - 1) found here in
+    let same : greatest (λ n. is_heavy k v n) ≡ w - 1 =
+    one_greatest (λ n. is_heavy k v n) (greatest (λ n. is_heavy k v n)) (w - 1) (moved_is k v ratio some small) here in
     omega (arith, same) where
-      found : IsGreatest (λ n. is_heavy k v n) (greatest (λ n. is_heavy k v n))
-      found = greatest-is (λ n. is_heavy k v n) (heavy_closed k v) (heavy_zero k v ratio some)
-          (fails (is_heavy k v (2 ^ 65)) (λ heavy. far (heavy_more k v (2 ^ 65) ((is_heavy-agrees k v (2 ^ 65)).0 heavy)))) where
-            far : 2 ^ 65 < v → ⊥
-            far less = omega arith
-
       none_greater : (n : ℕ) → IsTrue (is_heavy k v n) → n ≤ w - 1
       none_greater n heavy = by_order (cases_lt n w) where
         by_order : (n < w) ⊎ (w ≤ n) → n ≤ w - 1
@@ -158,3 +161,48 @@ first_is k v w ratio some small some_w below light =
 
       here : IsGreatest (λ n. is_heavy k v n) (w - 1)
       here = record { does = below; greatest = none_greater }
+
+-- it is the least value against which a unit job isn't heavy
+pub first_unmoved : (k : Fraction) (v : ℕ) → IsRatio k → 1 ≤ v → v ≤ 1_000_000_000 → IsLeastUnmoved k v (suc (greatest (λ n. is_heavy k v n)))
+first_unmoved k v ratio some small =
+    least (greatest (λ n. is_heavy k v n)) (moved_is k v ratio some small) where
+      least : (g : ℕ) → IsGreatest (λ n. is_heavy k v n) g → IsLeastUnmoved k v (suc g)
+      least g it = record {
+        some = omega arith;
+        unmoved = λ heavy. over (it.greatest (suc g) ((is_heavy-agrees k v (suc g)).1 heavy));
+        least = λ u _ unmoved. by_order u unmoved (cases_lt g u);
+      } where
+        over : suc g ≤ g → ⊥
+        over more = omega arith
+
+        by_order : (u : ℕ) → (IsHeavy k v u → ⊥) → (g < u) ⊎ (u ≤ g) → suc g ≤ u
+        by_order u unmoved (inl less) = less
+        by_order u unmoved (inr low) = absurd (unmoved ((is_heavy-agrees k v u).0 (heavy_closed k v u g low it.does)))
+
+-- ---- the next link, and the bait
+
+-- the greatest light value is the bait's
+pub most_is_light : (k : Fraction) (w : ℕ) → IsRatio k → w ≤ 1_000_000 → IsMostLight k w (most_light k w)
+most_is_light k w ratio small = record {
+  light = light_fact k w (most_light k w) (light_is k w ratio small).does;
+  most = λ u light. (light_is k w ratio small).greatest u (light_test k w u light);
+}
+
+-- the one after it is the next link
+pub next_is_heavy : (k : Fraction) (w : ℕ) → IsRatio k → w ≤ 1_000_000 → IsLeastHeavy k w (suc (most_light k w))
+next_is_heavy k w ratio small = least (most_light k w) (most_is_light k w ratio small) where
+  least : (m : ℕ) → IsMostLight k w m → IsLeastHeavy k w (suc m)
+  least m it = record {
+    heavy = by_test (is_heavy k (suc m) w) refl;
+    least = λ u heavy. by_order u heavy (cases_lt m u);
+  } where
+    over : suc m ≤ m → ⊥
+    over more = omega arith
+
+    by_test : (b : Bool) → is_heavy k (suc m) w ≡ b → IsHeavy k (suc m) w
+    by_test true heavy = (is_heavy-agrees k (suc m) w).0 heavy
+    by_test false light = absurd (over (it.most (suc m) (λ heavy. never (sym light ∙ (is_heavy-agrees k (suc m) w).1 heavy))))
+
+    by_order : (u : ℕ) → IsHeavy k u w → (m < u) ⊎ (u ≤ m) → suc m ≤ u
+    by_order u heavy (inl less) = less
+    by_order u heavy (inr low) = absurd (it.light (heavy_up k u m w low heavy))

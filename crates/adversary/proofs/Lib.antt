@@ -6,6 +6,7 @@ pub mod Chains
 pub mod Giving
 pub mod Plans
 pub mod Validity
+pub mod Linking
 pub mod Naming
 pub mod Doubling
 pub mod Worths

@@ -1,2 +1,3 @@
 pub mod Baiting
 pub mod Kept
+pub mod Links

@@ -119,10 +119,21 @@ impl Bait {
     ghost use Rattle.dover_model.specs.declared.events.Version.TheVariants.{One};
     ghost use Rattle.dover_model.specs.Run.{completed_value};
     ghost use Rattle.dover_model.specs.Schedules.{worth};
-    ghost use Rattle.bait_run.specs.Baiting.{baiting};
+    ghost use Rattle.bait_run.specs.Baiting.{baiting, CompletesLastAlone};
     ghost use Rattle.adversary.specs.Baiting.{FitsLimits};
 
-    /// The feed with so many jobs in its chain, at least one. None exactly where it has more than 1,000,000 jobs or a value above 10^9.
+    /// The feed with so many jobs in its chain, at least one. None exactly where it has more than 1,000,000 jobs or a
+    /// value above 10^9.
+    ///
+    /// # Examples
+    ///
+    /// ```
+    /// if let Some(bait) = Bait::new(k, 4) { // k is 1
+    ///     bait.jobs(); // 27
+    ///     bait.value(); // 15, which is what the rules complete
+    ///     bait.schedule_value(); // 52
+    /// }
+    /// ```
     pub fn new(k: Ratio, rounds: u32) -> Option<Bait>
         requires { 1 ≤ rounds }
         ensures fits { IsSome result ↔ FitsLimits k rounds }
@@ -182,10 +193,11 @@ impl Bait {
         self.bait_tick as u32 + self.rounds + 1
     }
 
-    /// The value that a run of the feed completes, which is that of the last job of the chain.
+    /// The value that a run of the feed completes, which is that of the last job of the chain: it completes no other.
     pub fn value(&self) -> u64
         ensures last { result ≡ last_link self.now.ratio self.now.rounds }
         ensures completed { result ≡ completed_value (baiting self.now.ratio One self.now.rounds) }
+        ensures alone { CompletesLastAlone self.now.ratio self.now.rounds (baiting self.now.ratio One self.now.rounds) }
     {
         self.chain.last
     }

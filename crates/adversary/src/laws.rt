@@ -1,11 +1,12 @@
 //! Laws of the baiting feed, each the contract of a function that does nothing.
-ghost use Rattle.std.specs.Prelude.{◌≡◌, ◌≤◌, ◌+◌, ◌*◌, ◌^◌, ℕ};
+ghost use Rattle.std.specs.Prelude.{◌≡◌, ◌≤◌, ◌+◌, ◌*◌, ◌^◌, ℕ, List, ◌∷◌, ◌++◌};
 ghost use Rattle.dover_model.specs.declared.events.Version.{Version};
 ghost use Rattle.dover_model.specs.Fraction.{Fraction, IsRatio};
 ghost use Rattle.dover_model.specs.Instance.{IsValid};
 ghost use Rattle.dover_model.specs.Schedules.{worth};
-ghost use Rattle.dover_model.specs.Bait.{last_link, bait_jobs, bait_plan, plan_value};
+ghost use Rattle.dover_model.specs.Bait.{unit_value, chain, last_link, bait_value, bait_jobs, bait_plan, plan_value};
 ghost use Rattle.adversary.specs.Baiting.{FitsLimits};
+ghost use Rattle.adversary.specs.Links.{IsLeastUnmoved, IsLeastHeavy, IsMostLight};
 
 /// The jobs of a baiting feed within the limits are valid for its ratio.
 pub fn baiting_jobs_are_valid()
@@ -24,4 +25,14 @@ pub fn links_double_at_ratio_one()
     ensures last { (k : Fraction) (rounds : ℕ) → IsRatio k → k.p ≡ k.q → 1 ≤ rounds → FitsLimits k rounds → last_link k rounds + 1 ≡ 2 ^ rounds }
     ensures plan { (k : Fraction) (rounds : ℕ) → IsRatio k → k.p ≡ k.q → 1 ≤ rounds → FitsLimits k rounds →
         plan_value k rounds + 2 * rounds ≡ 4 * last_link k rounds }
+{}
+
+/// The first value of the chain is the least, at least 1, against which a unit job isn't heavy; each further one is the least that is heavy
+/// against the one before it; and the bait's is the greatest that isn't heavy against the last.
+pub fn links_take_by_the_least_value()
+    ensures first { (k : Fraction) (rounds w : ℕ) (rest : List ℕ) → IsRatio k → chain k rounds ≡ w ∷ rest → IsLeastUnmoved k (unit_value k) w }
+    ensures next { (k : Fraction) (rounds : ℕ) (before rest : List ℕ) (w v : ℕ) → IsRatio k → FitsLimits k rounds →
+        chain k rounds ≡ before ++ w ∷ v ∷ rest → IsLeastHeavy k w v }
+    ensures bait { (k : Fraction) (rounds : ℕ) → IsRatio k → 1 ≤ rounds → FitsLimits k rounds →
+        IsMostLight k (last_link k rounds) (bait_value k rounds) }
 {}

@@ -6,7 +6,7 @@ mod laws;
 mod links;
 
 pub use feed::Bait;
-pub use laws::{baiting_jobs_are_valid, links_double_at_ratio_one, the_plan_is_worth_its_value};
-
-#[cfg(test)]
-mod tests;
+pub use laws::{
+    baiting_jobs_are_valid, links_double_at_ratio_one, links_take_by_the_least_value,
+    the_plan_is_worth_its_value,
+};

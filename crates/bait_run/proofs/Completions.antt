@@ -30,11 +30,11 @@ use Rattle.dover_model.proofs.Deeds.{Deed, Completed, Resumed, Started, Began, P
 use Rattle.dover_model.proofs.Kept.{step_deed, step_kept, opening_keeps, come_coming, end_same}
 use Rattle.dover_model.proofs.Ending.{end_over, run_is_whole}
 use Rattle.dover_model.proofs.Potential.{one_if}
-use Rattle.bait_run.specs.Baiting.{baiting}
+use Rattle.bait_run.specs.Baiting.{baiting, CompletesLastAlone}
 use Rattle.bait_run.proofs.Steady.{IsLast, IsChained, IsSteady, alone, stands_as, differ, completes, no_preemption, taken, on_taken, step_steady}
 use Rattle.bait_run.proofs.Steady.{value_of_steady}
 use Rattle.bait_run.proofs.Links.{links_ends}
-use Rattle.bait_run.proofs.Baited.{most, Link, Light, ratio, small, chained, opening_steady, each_steady}
+use Rattle.bait_run.proofs.Baited.{bait_completes, most, Link, Light, ratio, small, chained, opening_steady, each_steady}
 
 -- some job is done, or none is
 abbrev SomeDone : Bool → List Task → Type 0
@@ -252,15 +252,12 @@ module _ (k : Fraction) (version : Version) (n : ℕ) (valid : IsValid (baiting 
         done : IsLast (most k version n valid) (Link k version n valid) t.job
         done = later.stands (with_role t Done) here
 
--- one job completes
-pub bait_completes_once : (k : Fraction) (version : Version) (rounds : ℕ) → 1 ≤ rounds → IsValid (baiting k version rounds)
-    → count_by (λ x. is_complete x.move) (run (baiting k version rounds)) ≡ 1
-bait_completes_once k version zero some valid = absurd (omega arith)
-bait_completes_once k version (suc n) some valid = once k version n valid
-
--- it is the last of the chain
-pub bait_completes_last : (k : Fraction) (version : Version) (rounds at m : ℕ) → 1 ≤ rounds → IsValid (baiting k version rounds)
-    → Each (λ x. x.move ≡ Prints (Complete at m)
-    → Each (λ t. t.number ≡ m → last_or None (chain_jobs k rounds) ≡ Some t.job) x.before.tasks) (run (baiting k version rounds))
-bait_completes_last k version zero at m some valid = absurd (omega arith)
-bait_completes_last k version (suc n) at m some valid = last k version n valid at m
+-- the run completes the last job of the chain, and no other
+pub completes_last_alone : (k : Fraction) (version : Version) (rounds : ℕ) → 1 ≤ rounds → IsValid (baiting k version rounds)
+    → CompletesLastAlone k rounds (baiting k version rounds)
+completes_last_alone k version zero some valid = absurd (omega arith)
+completes_last_alone k version (suc n) some valid = record {
+  worth = bait_completes k version (suc n) some valid;
+  once = once k version n valid;
+  last = last k version n valid;
+}

@@ -1,10 +1,23 @@
--- A baiting feed with its rules.
-use Rattle.std.specs.Prelude.{ℕ}
+-- A baiting feed with its rules, and what its run completes.
+use Rattle.std.specs.Prelude.{◌≡◌, ℕ, None, Some}
+use Rattle.std.specs.List.{count_by, last_or}
 use Rattle.dover_model.specs.declared.events.Version.{Version}
+use Rattle.dover_model.specs.declared.events.Event.TheVariants.{Complete}
 use Rattle.dover_model.specs.Fraction.{Fraction}
 use Rattle.dover_model.specs.Instance.{Instance}
-use Rattle.dover_model.specs.Bait.{bait_jobs}
+use Rattle.dover_model.specs.Bait.{bait_jobs, chain_jobs, last_link}
+use Rattle.dover_model.specs.Step.{Prints}
+use Rattle.dover_model.specs.Run.{run, completed_value}
+use Rattle.dover_model.specs.Processor.{is_complete}
+use Rattle.dover_model.specs.Sound.{Each}
 
 -- the jobs of a baiting feed, and the rules that it declares
 abbrev pub baiting : Fraction → Version → (rounds : ℕ) → Instance
 baiting k version rounds = record { rules = record { ratio = k; version = version }; jobs = bait_jobs k rounds }
+
+-- the run of J completes the last job of the chain, and no other
+pub record CompletesLastAlone (k : Fraction) (rounds : ℕ) (J : Instance) : Type 0 where
+  pub worth : completed_value J ≡ last_link k rounds
+  pub once : count_by (λ x. is_complete x.move) (run J) ≡ 1
+  pub last : (at n : ℕ) → Each (λ x. x.move ≡ Prints (Complete at n)
+      → Each (λ t. t.number ≡ n → last_or None (chain_jobs k rounds) ≡ Some t.job) x.before.tasks) (run J)

@@ -75,7 +75,7 @@ adds whole s = cond (elim s [ feeds.Open ↦ true | feeds.Ended ↦ false | feed
 refusal_is : (fault : FeedFault) (xs : List Move) → reading.IsRefused fault xs
     → fault_text fault.line (cause_of_fault fault.cause) ++ 10 ∷ [] ≡ refusal_text (ins xs)
 refusal_is fault xs (inl faulty) =
-    sym (append-nil _) ∙ sym (ap (λ s. in_lines (fault_lines s ++ adds (length (whole_lines (ins xs))) s)) faulty)
+    sym (append-nil _) ∙ sym (ap (λ s. in_lines (fault_lines s ++ adds (length (whole_lines (ins xs))) s)) faulty.0)
 refusal_is fault xs (inr short) =
     ap (λ (f : FeedFault). fault_text f.line (cause_of_fault f.cause) ++ 10 ∷ []) short.2 ∙ sym (append-nil _)
     ∙ sym (ap (λ s. in_lines (fault_lines s ++ adds (length (whole_lines (ins xs))) s)) (standing_open (account (ins xs)) short.1))
@@ -102,7 +102,7 @@ module _ (says : Says) (a b c : Option (List Move)) where
           same = ap account (last_ins (read.Refused fault) xs ys g p)
 
           by_cause : reading.IsRefused fault xs → IsRefusedFeed (xs ++ ys)
-          by_cause (inl faulty) = inl (fault.line, cause_of_fault fault.cause, ap (λ (x : Account). x.standing) same ∙ faulty)
+          by_cause (inl faulty) = inl (fault.line, cause_of_fault fault.cause, ap (λ (x : Account). x.standing) same ∙ faulty.0)
           by_cause (inr short) = inr (last_ended (read.Refused fault) xs ys g p ∙ short.0, ap is_open same ∙ short.1)
 
         due_is : (xs ys : List Move) (g : Reads (read.Refused fault) xs) (p : ArePuts ys)

@@ -1,5 +1,5 @@
 -- What the word `feasible` says is what was judged.
-use Rattle.std.proofs.Common.{◌≡◌, ℕ, List, refl, ap, Option, inl, inr}
+use Rattle.std.proofs.Common.{◌≡◌, ℕ, List, refl, Option, inl, inr}
 use Rattle.dover_model.specs.Instance.{Instance}
 use Rattle.dover_port.specs.Moves.{Move, Since, ArePuts, outs, IsProperPrefix}
 use Rattle.dover_port.specs.declared.status.Status.{Status}
@@ -8,7 +8,7 @@ use Rattle.dover_port.proofs.Made.{since_weaker}
 use Rattle.deadline_oracle.specs.Feasibility.{IsAnswer}
 use Rattle.deadline_oracle.specs.declared.answer.Feasible.{Feasible}
 use Rattle.deadline_oracle.specs.declared.answer.Feasible.TheVariants.{All, Window}
-use Rattle.dover_words.specs.Feasible.{SaysFeasible, IsFeasibleAnswer, pieces_text, status_of, text_of}
+use Rattle.dover_words.specs.Feasible.{SaysFeasible, IsFeasibleAnswer, status_of, text_of}
 use Rattle.dover_words.specs.Record.{Finishes, IsRefusal}
 use Rattle.dover_words.proofs.Records.{IsSaying}
 
@@ -24,7 +24,7 @@ feasible_saying J Usage text it = absurd it
 
 -- the answer is what is said
 said : (J : Instance) (f : Feasible) → IsAnswer J.jobs f → SaysFeasible J (status_of f) (text_of f)
-said J (All pieces) it = (it.meets J.rules, ap pieces_text it.edf)
+said J (All pieces) it = (it.meets J.rules, (pieces.items, it, refl))
 said J (Window a b work) it = (it.unmet J.rules, (a, b, work, it, refl))
 
 module _ (a b : Option (List Move)) (J : Instance) (f : Feasible) (it : IsAnswer J.jobs f) where

@@ -1,14 +1,12 @@
 -- What the word `feasible` says of the jobs of a feed.
 use Rattle.std.specs.Prelude.{◌≡◌, ℕ, List, [], ◌∷◌, length, codes}
 use Rattle.dover_model.specs.Instance.{Instance}
-use Rattle.dover_model.specs.JobFacts.{JobFacts}
 use Rattle.dover_model.specs.Lines.{with_numbers, in_lines}
-use Rattle.dover_model.specs.Pieces.{stretches, edf}
 use Rattle.dover_model.specs.Schedules.{Meets}
 use Rattle.dover_model.specs.declared.pieces.Piece.{Piece}
 use Rattle.dover_port.specs.declared.status.Status.{Status}
 use Rattle.dover_port.specs.declared.status.Status.TheVariants.{Done, No, Refused, ReadFault, WriteFault, Memory}
-use Rattle.deadline_oracle.specs.Feasibility.{ShowsWindow}
+use Rattle.deadline_oracle.specs.Feasibility.{ShowsAll, ShowsWindow}
 use Rattle.deadline_oracle.specs.declared.answer.Feasible.{Feasible}
 use Rattle.deadline_oracle.specs.declared.answer.Feasible.TheVariants.{All, Window}
 use Rattle.dover_words.specs.Texts.{piece_lines}
@@ -17,17 +15,13 @@ use Rattle.dover_words.specs.Texts.{piece_lines}
 abbrev pub pieces_text : List Piece → List ℕ
 pieces_text pieces = in_lines (with_numbers (codes "feasible") (length pieces ∷ []) ∷ piece_lines pieces)
 
--- the schedule by earliest deadline
-abbrev pub feasible_text : List JobFacts → List ℕ
-feasible_text jobs = pieces_text (stretches (edf jobs))
-
 -- a window with more work than ticks
 abbrev pub window_text : (a b work : ℕ) → List ℕ
 window_text a b work = in_lines (with_numbers (codes "window") (a ∷ b ∷ work ∷ []) ∷ [])
 
--- Done where some schedule serves every job, with one that does, and else No, with the window that shows it
+-- Done where some schedule serves every job, with the pieces of one that does, and else No, with the window that shows it
 abbrev pub SaysFeasible : Instance → Status → List ℕ → Type 0
-SaysFeasible J Done text = Meets J × (text ≡ feasible_text J.jobs)
+SaysFeasible J Done text = Meets J × ((pieces : List Piece) × ShowsAll J.jobs pieces × (text ≡ pieces_text pieces))
 SaysFeasible J No text = (Meets J → ⊥) × ((a : ℕ) × (b : ℕ) × (work : ℕ) × ShowsWindow J.jobs a b work × (text ≡ window_text a b work))
 SaysFeasible J _ text = ⊥
 

@@ -2,7 +2,7 @@
 ghost use Rattle.std.specs.Prelude.{◌≡◌, ◌↔◌, ◌<◌, ◌++◌, IfOk, OnOk, Err, length};
 ghost use Rattle.dover_model.specs.Instance.{IsValid};
 ghost use Rattle.dover_model.specs.Lines.{in_lines};
-ghost use Rattle.dover_port.specs.Causes.{Causes, HasCause, IsAnswer};
+ghost use Rattle.dover_port.specs.Causes.{Causes, HasCause, IsAnswer, StopsAtFailure, StopsWith};
 ghost use Rattle.dover_port.specs.Moves.{Since, PutsText, PutsThrough};
 ghost use Rattle.feed_reading.specs.Listing.{listed_instance};
 ghost use Rattle.dover_core.specs.Spending.{AreFew};
@@ -61,6 +61,7 @@ fn find<L: Ledger>(
 fn put_found<P: Port>(port: &mut P, out: &mut Output, found: &Found) -> Result<(), Failed>
     ensures text { PutsThrough (P.moves port.old) (P.moves port.new) result out.old out.new (in_lines (found_lines found.now)) }
     ensures cause { HasCause (P.write_faults port.old) (P.write_faults port.new) (P.read_faults port.old) (P.read_faults port.new) result }
+    ensures stops { StopsAtFailure (P.calls port.old) (P.calls port.new) result }
 {
     match put_numbers(port, out, b"jobs", &[found.jobs]) {
         Ok(()) => {}
@@ -87,6 +88,7 @@ fn put_all_found<P: Port>(
     ensures text { PutsThrough (P.moves port.old) (P.moves port.new) result out.old out.new
         (in_lines (found_lines found.now) ++ in_lines (piece_lines pieces.now)) }
     ensures cause { HasCause (P.write_faults port.old) (P.write_faults port.new) (P.read_faults port.old) (P.read_faults port.new) result }
+    ensures stops { StopsAtFailure (P.calls port.old) (P.calls port.new) result }
 {
     match put_found(port, out, found) {
         Ok(()) => {}
@@ -99,6 +101,7 @@ fn put_all_found<P: Port>(
 fn write_found<P: Port>(port: &mut P, found: &Found, pieces: &[Piece]) -> Result<(), Failed>
     ensures text { PutsText (P.moves port.old) (P.moves port.new) result (in_lines (found_lines found.now) ++ in_lines (piece_lines pieces.now)) }
     ensures cause { HasCause (P.write_faults port.old) (P.write_faults port.new) (P.read_faults port.old) (P.read_faults port.new) result }
+    ensures stops { StopsAtFailure (P.calls port.old) (P.calls port.new) result }
 {
     let mut out = Output::new();
     match put_all_found(port, &mut out, found, pieces) {
@@ -120,6 +123,7 @@ fn answer<P: Port, L: Ledger>(
     ensures answer { IsAnswer result }
     ensures count { result ≡ Status.Done → AreFew (length listed.now.jobs.items) steps.old steps.new }
     ensures causes { Causes result (P.read_faults port.old) (P.read_faults port.new) (P.write_faults port.old) (P.write_faults port.new) }
+    ensures stops { StopsWith result (P.calls port.old) (P.calls port.new) }
 {
     match find(alloc, listed, steps) {
         Ok(found) => match write_found(port, &found.0, &found.1) {
@@ -140,6 +144,7 @@ pub fn best_word<P: Port, L: Ledger>(alloc: Global, port: &mut P, steps: &mut St
     ensures answer { IsAnswer result }
     ensures count { Since (P.moves port.old) (P.moves port.new) (λ moves. result ≡ Status.Done → IsFrugal steps.old steps.new moves) }
     ensures causes { Causes result (P.read_faults port.old) (P.read_faults port.new) (P.write_faults port.old) (P.write_faults port.new) }
+    ensures stops { StopsWith result (P.calls port.old) (P.calls port.new) }
 {
     match read_feed(alloc, port) {
         Reading::Ended(listed) => answer(alloc, port, &listed, steps),

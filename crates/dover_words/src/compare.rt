@@ -2,7 +2,7 @@
 ghost use Rattle.std.specs.Prelude.{◌≡◌, ◌↔◌, ◌≤◌, IfOk, OnOk, Err, length};
 ghost use Rattle.dover_model.specs.Instance.{IsValid};
 ghost use Rattle.dover_model.specs.Lines.{in_lines};
-ghost use Rattle.dover_port.specs.Causes.{Causes, HasCause, IsAnswer};
+ghost use Rattle.dover_port.specs.Causes.{Causes, HasCause, IsAnswer, StopsAtFailure, StopsWith};
 ghost use Rattle.dover_port.specs.Moves.{Since, PutsText, PutsThrough};
 ghost use Rattle.feed_reading.specs.Listing.{listed_instance};
 ghost use Rattle.policy_lab.specs.PolicyRun.{AreTooLarge};
@@ -58,6 +58,7 @@ fn compare<L: Ledger>(
 fn put_compared<P: Port>(port: &mut P, out: &mut Output, compared: &Compared) -> Result<(), Failed>
     ensures text { PutsThrough (P.moves port.old) (P.moves port.new) result out.old out.new (in_lines (compared_lines compared.now)) }
     ensures cause { HasCause (P.write_faults port.old) (P.write_faults port.new) (P.read_faults port.old) (P.read_faults port.new) result }
+    ensures stops { StopsAtFailure (P.calls port.old) (P.calls port.new) result }
 {
     match put_numbers(port, out, b"dover", &[compared.dover]) {
         Ok(()) => {}
@@ -78,6 +79,7 @@ fn put_compared<P: Port>(port: &mut P, out: &mut Output, compared: &Compared) ->
 fn write_compared<P: Port>(port: &mut P, compared: &Compared) -> Result<(), Failed>
     ensures text { PutsText (P.moves port.old) (P.moves port.new) result (in_lines (compared_lines compared.now)) }
     ensures cause { HasCause (P.write_faults port.old) (P.write_faults port.new) (P.read_faults port.old) (P.read_faults port.new) result }
+    ensures stops { StopsAtFailure (P.calls port.old) (P.calls port.new) result }
 {
     let mut out = Output::new();
     match put_compared(port, &mut out, compared) {
@@ -99,6 +101,7 @@ fn answer<P: Port, L: Ledger>(
     ensures answer { IsAnswer result }
     ensures count { result ≡ Status.Done → AreFew (length listed.now.jobs.items) steps.old steps.new }
     ensures causes { Causes result (P.read_faults port.old) (P.read_faults port.new) (P.write_faults port.old) (P.write_faults port.new) }
+    ensures stops { StopsWith result (P.calls port.old) (P.calls port.new) }
 {
     match compare(alloc, listed, steps) {
         Ok(compared) => match write_compared(port, &compared) {
@@ -119,6 +122,7 @@ pub fn compare_word<P: Port, L: Ledger>(alloc: Global, port: &mut P, steps: &mut
     ensures answer { IsAnswer result }
     ensures count { Since (P.moves port.old) (P.moves port.new) (λ moves. result ≡ Status.Done → IsFrugal steps.old steps.new moves) }
     ensures causes { Causes result (P.read_faults port.old) (P.read_faults port.new) (P.write_faults port.old) (P.write_faults port.new) }
+    ensures stops { StopsWith result (P.calls port.old) (P.calls port.new) }
 {
     match read_feed(alloc, port) {
         Reading::Ended(listed) => answer(alloc, port, &listed, steps),

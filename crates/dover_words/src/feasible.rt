@@ -2,7 +2,7 @@
 ghost use Rattle.std.specs.Prelude.{◌≡◌, length};
 ghost use Rattle.dover_model.specs.Instance.{Instance, IsValid};
 ghost use Rattle.dover_model.specs.Lines.{in_lines};
-ghost use Rattle.dover_port.specs.Causes.{Causes, HasCause};
+ghost use Rattle.dover_port.specs.Causes.{Causes, HasCause, StopsAtFailure, StopsWith};
 ghost use Rattle.dover_port.specs.Moves.{Since, PutsText, PutsThrough};
 ghost use Rattle.dover_words.specs.Feasible.{SaysFeasible, IsFeasibleAnswer, pieces_text, status_of, text_of};
 ghost use Rattle.dover_words.specs.Record.{Finishes, Puts, Tells};
@@ -20,6 +20,7 @@ use std::alloc::Global;
 fn put_schedule<P: Port>(port: &mut P, out: &mut Output, pieces: &[Piece]) -> Result<(), Failed>
     ensures text { PutsThrough (P.moves port.old) (P.moves port.new) result out.old out.new (pieces_text pieces.now) }
     ensures cause { HasCause (P.write_faults port.old) (P.write_faults port.new) (P.read_faults port.old) (P.read_faults port.new) result }
+    ensures stops { StopsAtFailure (P.calls port.old) (P.calls port.new) result }
 {
     match put_numbers(port, out, b"feasible", &[pieces.len() as u64]) {
         Ok(()) => {}
@@ -32,6 +33,7 @@ fn put_schedule<P: Port>(port: &mut P, out: &mut Output, pieces: &[Piece]) -> Re
 fn put_answer<P: Port>(port: &mut P, out: &mut Output, answer: &Feasible) -> Result<(), Failed>
     ensures text { PutsThrough (P.moves port.old) (P.moves port.new) result out.old out.new (text_of answer.now) }
     ensures cause { HasCause (P.write_faults port.old) (P.write_faults port.new) (P.read_faults port.old) (P.read_faults port.new) result }
+    ensures stops { StopsAtFailure (P.calls port.old) (P.calls port.new) result }
 {
     match answer {
         Feasible::All { pieces } => put_schedule(port, out, pieces),
@@ -43,6 +45,7 @@ fn put_answer<P: Port>(port: &mut P, out: &mut Output, answer: &Feasible) -> Res
 fn write_answer<P: Port>(port: &mut P, answer: &Feasible) -> Result<(), Failed>
     ensures text { PutsText (P.moves port.old) (P.moves port.new) result (text_of answer.now) }
     ensures cause { HasCause (P.write_faults port.old) (P.write_faults port.new) (P.read_faults port.old) (P.read_faults port.new) result }
+    ensures stops { StopsAtFailure (P.calls port.old) (P.calls port.new) result }
 {
     let mut out = Output::new();
     match put_answer(port, &mut out, answer) {
@@ -68,6 +71,7 @@ fn answer<P: Port>(alloc: Global, port: &mut P, jobs: &[Job]) -> Status
     ensures finishes { (J : Instance) → J.jobs ≡ jobs.now → Since (P.moves port.old) (P.moves port.new) (Finishes SaysFeasible J result) }
     ensures answer { IsFeasibleAnswer result }
     ensures causes { Causes result (P.read_faults port.old) (P.read_faults port.new) (P.write_faults port.old) (P.write_faults port.new) }
+    ensures stops { StopsWith result (P.calls port.old) (P.calls port.new) }
 {
     let Ok(feasible) = judge_feasible(alloc, jobs) else {
         return Status::Memory;
@@ -86,6 +90,7 @@ pub fn feasible_word<P: Port>(alloc: Global, port: &mut P) -> Status
     ensures tells { Since (P.moves port.old) (P.moves port.new) (Tells SaysFeasible result) }
     ensures answer { IsFeasibleAnswer result }
     ensures causes { Causes result (P.read_faults port.old) (P.read_faults port.new) (P.write_faults port.old) (P.write_faults port.new) }
+    ensures stops { StopsWith result (P.calls port.old) (P.calls port.new) }
 {
     match read_feed(alloc, port) {
         Reading::Ended(listed) => answer(alloc, port, &listed.jobs),

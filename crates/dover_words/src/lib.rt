@@ -13,6 +13,3 @@ pub use best::best_word;
 pub use compare::compare_word;
 pub use feasible::feasible_word;
 pub use question::{Question, question_word};
-
-#[cfg(test)]
-mod tests;

@@ -1,6 +1,6 @@
 //! The questions, each by its word.
 ghost use Rattle.std.specs.Prelude.{◌≡◌};
-ghost use Rattle.dover_port.specs.Causes.{Causes};
+ghost use Rattle.dover_port.specs.Causes.{Causes, StopsWith};
 ghost use Rattle.dover_port.specs.Moves.{Since};
 ghost use Rattle.dover_words.specs.Compare.{IsFrugal};
 ghost use Rattle.dover_words.specs.Questions.{says, IsAnswerTo};
@@ -36,6 +36,7 @@ pub fn question_word<P: Port, L: Ledger>(
     ensures answer { IsAnswerTo question result }
     ensures count { Since (P.moves port.old) (P.moves port.new) (λ moves. result ≡ Status.Done → IsFrugal steps.old steps.new moves) }
     ensures causes { Causes result (P.read_faults port.old) (P.read_faults port.new) (P.write_faults port.old) (P.write_faults port.new) }
+    ensures stops { StopsWith result (P.calls port.old) (P.calls port.new) }
 {
     match question {
         Question::Feasible => feasible_word(alloc, port),

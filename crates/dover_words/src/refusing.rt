@@ -1,7 +1,7 @@
 //! The line that refuses a feed.
 ghost use Rattle.std.specs.Prelude.{◌++◌, ◌∷◌, []};
 ghost use Rattle.dover_model.specs.Due as due;
-ghost use Rattle.dover_port.specs.Causes.{Causes};
+ghost use Rattle.dover_port.specs.Causes.{Causes, StopsWith};
 ghost use Rattle.dover_port.specs.Moves.{Since};
 ghost use Rattle.event_feed.specs.Kept.{cause_of_fault};
 ghost use Rattle.dover_words.specs.Texts.{size_text};
@@ -17,6 +17,7 @@ pub(crate) fn refuse<P: Port>(port: &mut P, fault: FeedFault) -> Status
         (Puts Status.Refused result (due.fault_text fault.line (cause_of_fault fault.cause) ++ 10 ∷ [])) }
     ensures answer { IsRefusal result }
     ensures causes { Causes result (P.read_faults port.old) (P.read_faults port.new) (P.write_faults port.old) (P.write_faults port.new) }
+    ensures stops { StopsWith result (P.calls port.old) (P.calls port.new) }
 {
     match put_all(port, fault_line(fault).bytes()) {
         Ok(()) => Status::Refused,
@@ -29,6 +30,7 @@ pub(crate) fn refuse_size<P: Port>(port: &mut P) -> Status
     ensures puts { Since (P.moves port.old) (P.moves port.new) (Puts Status.Refused result size_text) }
     ensures answer { IsRefusal result }
     ensures causes { Causes result (P.read_faults port.old) (P.read_faults port.new) (P.write_faults port.old) (P.write_faults port.new) }
+    ensures stops { StopsWith result (P.calls port.old) (P.calls port.new) }
 {
     match put_all(port, b"refused size\n") {
         Ok(()) => Status::Refused,

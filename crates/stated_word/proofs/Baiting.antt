@@ -9,6 +9,8 @@ use Rattle.dover_model.specs.Run.{printed, completed_value}
 use Rattle.dover_port.specs.declared.status.Status.{Status}
 use Rattle.dover_port.specs.declared.status.Status.TheVariants.{Done, No, Refused, ReadFault, WriteFault, Memory, Usage}
 use Rattle.adversary.specs.Baiting.{Baiting, FitsLimits}
+use Rattle.bait_run.specs.Baiting.{CompletesLastAlone}
+use Rattle.bait_run.proofs.Completions.{completes_last_alone}
 use Rattle.adversary.proofs.Validity.{some_bait, valid}
 use Rattle.adversary.proofs.Plans.{plan_worth}
 use Rattle.stated_word.specs.Lists.{stated}
@@ -26,6 +28,12 @@ module _ (k : Fraction) (rounds : ℕ) (feed : Baiting) (is : feed ≡ record { 
       let within : FitsLimits k rounds = subst (λ (b : Baiting). FitsLimits b.ratio b.rounds) is fits in
       subst (λ jobs. IsValid (stated k jobs)) (sym (ap (λ (b : Baiting). b.jobs) is))
       (valid k rounds here within (some_bait k rounds here some within) One)
+
+  -- its run completes the last job of the chain, and no other
+  pub feed_alone : 1 ≤ rounds → IsRatio feed.ratio → FitsLimits feed.ratio feed.rounds → CompletesLastAlone k rounds (bait_instance k rounds)
+  feed_alone some ratio fits =
+      completes_last_alone k One rounds some
+      (subst (λ jobs. IsValid (stated k jobs)) (ap (λ (b : Baiting). b.jobs) is) (feed_valid some ratio fits))
 
   -- as many are still to come as it has
   pub feed_count : (jobs : ℕ) → jobs ≡ length (bait_jobs feed.ratio feed.rounds) → jobs ≡ length feed.jobs

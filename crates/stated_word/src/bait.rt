@@ -2,10 +2,11 @@
 ghost use Rattle.std.specs.Prelude.{◌≡◌, ◌≤◌, length};
 ghost use Rattle.dover_model.specs.Bait.{bait_jobs};
 ghost use Rattle.dover_model.specs.Lines.{in_lines};
-ghost use Rattle.dover_port.specs.Causes.{HasCause};
+ghost use Rattle.dover_port.specs.Causes.{HasCause, StopsAtFailure, StopsWith};
 ghost use Rattle.dover_port.specs.Moves.{Since, PutsThrough, PutsText};
 ghost use Rattle.adversary.specs.Baiting.{FitsLimits};
-ghost use Rattle.stated_word.specs.Baited.{baited_lines, bait_text, size_text};
+ghost use Rattle.bait_run.specs.Baiting.{CompletesLastAlone};
+ghost use Rattle.stated_word.specs.Baited.{baited_lines, bait_instance, bait_text, size_text};
 ghost use Rattle.stated_word.specs.Record.{Writes, Refuses, IsAnswerFor, Causes};
 ghost use Rattle.dover_core.specs.Spending.{AreFew};
 
@@ -32,6 +33,7 @@ struct Baited {
 fn put_baited<P: Port>(port: &mut P, out: &mut Output, baited: &Baited) -> Result<(), Failed>
     ensures text { PutsThrough (P.moves port.old) (P.moves port.new) result out.old out.new (in_lines (baited_lines baited.now)) }
     ensures cause { HasCause (P.write_faults port.old) (P.write_faults port.new) (P.read_faults port.old) (P.read_faults port.new) result }
+    ensures stops { StopsAtFailure (P.calls port.old) (P.calls port.new) result }
 {
     match put_numbers(port, out, b"jobs", &[baited.jobs]) {
         Ok(()) => {}
@@ -52,6 +54,7 @@ fn put_baited<P: Port>(port: &mut P, out: &mut Output, baited: &Baited) -> Resul
 fn write_baited<P: Port>(port: &mut P, baited: &Baited) -> Result<(), Failed>
     ensures text { PutsText (P.moves port.old) (P.moves port.new) result (in_lines (baited_lines baited.now)) }
     ensures cause { HasCause (P.write_faults port.old) (P.write_faults port.new) (P.read_faults port.old) (P.read_faults port.new) result }
+    ensures stops { StopsAtFailure (P.calls port.old) (P.calls port.new) result }
 {
     let mut out = Output::new();
     match put_baited(port, &mut out, baited) {
@@ -66,6 +69,7 @@ fn refuse_size<P: Port>(port: &mut P) -> Status
     ensures text { Since (P.moves port.old) (P.moves port.new) (Refuses result size_text) }
     ensures answer { IsAnswerFor result ⊥ }
     ensures causes { Causes result (P.read_faults port.old) (P.read_faults port.new) (P.write_faults port.old) (P.write_faults port.new) }
+    ensures stops { StopsWith result (P.calls port.old) (P.calls port.new) }
 {
     match put_all(port, b"refused size\n") {
         Ok(()) => Status::Refused,
@@ -73,9 +77,9 @@ fn refuse_size<P: Port>(port: &mut P) -> Status
     }
 }
 
-/// Serves the baiting feed of so many rounds, at least one, and writes how many jobs it has, the value that its run completes, the value of
-/// the schedule that runs the unit jobs and the bait, and the bound on the value of every schedule. Nothing is read. A feed of more than
-/// 1,000,000 jobs, or with a value above 10^9, is refused.
+/// Serves the baiting feed of so many rounds, at least one, and writes how many jobs it has, the value that its run completes, which is that of
+/// the chain's last job alone, the value of the schedule that runs the unit jobs and the bait, and the bound on the value of every schedule.
+/// Nothing is read. A feed of more than 1,000,000 jobs, or with a value above 10^9, is refused.
 pub fn bait_word<P: Port, L: Ledger>(
     alloc: Global,
     port: &mut P,
@@ -86,8 +90,10 @@ pub fn bait_word<P: Port, L: Ledger>(
     requires rounds { 1 ≤ rounds }
     ensures writes { FitsLimits k rounds → Since (P.moves port.old) (P.moves port.new) (Writes result (bait_text k rounds)) }
     ensures refuses { (FitsLimits k rounds → ⊥) → Since (P.moves port.old) (P.moves port.new) (Refuses result size_text) }
+    ensures alone { result ≡ Status.Done → CompletesLastAlone k rounds (bait_instance k rounds) }
     ensures answer { IsAnswerFor result (FitsLimits k rounds) }
     ensures causes { Causes result (P.read_faults port.old) (P.read_faults port.new) (P.write_faults port.old) (P.write_faults port.new) }
+    ensures stops { StopsWith result (P.calls port.old) (P.calls port.new) }
     ensures count { result ≡ Status.Done → AreFew (length (bait_jobs k rounds)) steps.old steps.new }
 {
     let Some(mut feed) = Bait::new(k, rounds) else {

@@ -10,6 +10,3 @@ mod trial;
 
 pub use bait::bait_word;
 pub use trial::trial_word;
-
-#[cfg(test)]
-mod tests;

@@ -1,6 +1,6 @@
 //! The lines of a summary, on their way out.
 ghost use Rattle.dover_model.specs.Lines.{in_lines};
-ghost use Rattle.dover_port.specs.Causes.{HasCause};
+ghost use Rattle.dover_port.specs.Causes.{HasCause, StopsAtFailure};
 ghost use Rattle.dover_port.specs.Moves.{PutsThrough, PutsText};
 ghost use Rattle.dover_report.specs.Counts.{counts_lines};
 
@@ -12,6 +12,7 @@ use line_output::put_numbers;
 fn put_summary<P: Port>(port: &mut P, out: &mut Output, counts: &Counts) -> Result<(), Failed>
     ensures text { PutsThrough (P.moves port.old) (P.moves port.new) result out.old out.new (in_lines (counts_lines counts.now)) }
     ensures cause { HasCause (P.write_faults port.old) (P.write_faults port.new) (P.read_faults port.old) (P.read_faults port.new) result }
+    ensures stops { StopsAtFailure (P.calls port.old) (P.calls port.new) result }
 {
     match put_numbers(port, out, b"jobs", &[counts.jobs]) {
         Ok(()) => {}
@@ -36,6 +37,7 @@ fn put_summary<P: Port>(port: &mut P, out: &mut Output, counts: &Counts) -> Resu
 pub(crate) fn write_summary<P: Port>(port: &mut P, counts: &Counts) -> Result<(), Failed>
     ensures text { PutsText (P.moves port.old) (P.moves port.new) result (in_lines (counts_lines counts.now)) }
     ensures cause { HasCause (P.write_faults port.old) (P.write_faults port.new) (P.read_faults port.old) (P.read_faults port.new) result }
+    ensures stops { StopsAtFailure (P.calls port.old) (P.calls port.new) result }
 {
     let mut out = Output::new();
     match put_summary(port, &mut out, counts) {

@@ -2,6 +2,7 @@
 ghost use Rattle.std.specs.Prelude.{◌≡◌, ◌<◌, ◌≤◌, ◌^◌};
 ghost use Rattle.dover_model.specs.Limits.{most_jobs};
 ghost use Rattle.dover_model.specs.Reports.{summary};
+ghost use Rattle.dover_port.specs.Causes.{StopsWith};
 ghost use Rattle.dover_port.specs.Moves.{Since};
 ghost use Rattle.stated_word.specs.Lists.{trial_instance};
 ghost use Rattle.stated_word.specs.Record.{Writes, IsAnswer, Causes};
@@ -32,6 +33,7 @@ pub fn trial_word<P: Port, L: Ledger>(
     ensures writes { Since (P.moves port.old) (P.moves port.new) (Writes result (summary (trial_instance k seed count))) }
     ensures answer { IsAnswer result }
     ensures causes { Causes result (P.read_faults port.old) (P.read_faults port.new) (P.write_faults port.old) (P.write_faults port.new) }
+    ensures stops { StopsWith result (P.calls port.old) (P.calls port.new) }
     ensures count { result ≡ Status.Done → AreFew count steps.old steps.new }
 {
     keeps_limits(k);

@@ -8,6 +8,7 @@ loop-piece-preserved g c = record {
       c.loop-piece.invariant.passes c.in-Ok.ensures.text.all;
   writes = c.in-Ok.ensures.cause.ok ∙ c.loop-piece.invariant.writes;
   reads = c.in-Ok.ensures.cause.other ∙ c.loop-piece.invariant.reads;
+  calls = λ well. c.in-Ok.ensures.stops.well (c.loop-piece.invariant.calls well);
 }
 
 pub returns-in-Err-clause-text : goal.returns-in-Err-clause-text

@@ -1,5 +1,6 @@
 use Rattle.std.proofs.Common.{◌≡◌, take}
 use Rattle.dover_model.specs.Lines.{in_lines}
+use Rattle.dover_port.specs.Causes.{StaysWell}
 use Rattle.dover_port.specs.Moves.{Passes}
 use Rattle.dover_words.specs.Texts.{piece_lines}
 use Rattle.dover_words.proofs.lines.put_pieces.Given as goal
@@ -11,4 +12,5 @@ invariant-loop-piece g l = record {
       (in_lines (piece_lines (take l.piece-index l.pieces)));
   writes : g.P.Port.write_faults l.port ≡ g.P.Port.write_faults l.initial.port;
   reads : g.P.Port.read_faults l.port ≡ g.P.Port.read_faults l.initial.port;
+  calls : StaysWell (g.P.Port.calls l.initial.port) (g.P.Port.calls l.port);
 }

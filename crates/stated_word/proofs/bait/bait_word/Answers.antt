@@ -7,7 +7,7 @@ use Rattle.dover_model.specs.Bait.{bait_jobs}
 use Rattle.dover_core.specs.Spending.{AreFew}
 use Rattle.stated_word.specs.Baited.{baited_lines}
 use Rattle.stated_word.specs.declared.bait.Baited.{Baited}
-use Rattle.stated_word.proofs.Baiting.{feed_valid, feed_count, baited_is, never_fits, refuses_what}
+use Rattle.stated_word.proofs.Baiting.{feed_valid, feed_alone, feed_count, baited_is, never_fits, refuses_what}
 use Rattle.stated_word.proofs.Summing.{value_within, of_text}
 use Rattle.stated_word.proofs.bait.bait_word.Goals as goal
 
@@ -58,3 +58,7 @@ returns-in-Err-clause-refuses g c = λ never. absurd (never (c.in-Some.ensures.f
 pub returns-in-Ok-write_baited-clause-count : goal.returns-in-Ok-write_baited-clause-count
 returns-in-Ok-write_baited-clause-count g c = λ done. subst (λ n. AreFew n c.args.steps.now c.serve_all.new.steps)
     (c.jobs-jobs.ensures.count ∙ ap (λ (b : Baiting). length (bait_jobs b.ratio b.rounds)) c.in-Some.ensures.feed) c.in-Ok.ensures.count
+
+pub returns-in-Ok-write_baited-clause-alone : goal.returns-in-Ok-write_baited-clause-alone
+returns-in-Ok-write_baited-clause-alone g c = λ done. feed_alone c.args.k c.args.rounds c.in-Some.feed c.in-Some.ensures.feed c.requires.rounds
+    c.jobs-jobs.ensures.ratio c.jobs-jobs.ensures.fits
