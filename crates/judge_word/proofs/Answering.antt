@@ -7,6 +7,8 @@ use Rattle.dover_model.specs.declared.events.Version.{Version}
 use Rattle.dover_model.specs.Run.{completed_value}
 use Rattle.dover_model.specs.Session.{Session, instance_of}
 use Rattle.dover_model.specs.Verdict as model
+use Rattle.dover_port.specs.Causes.{StaysWell, StopsWith}
+use Rattle.dover_port.specs.declared.calls.Calls.{Calls}
 use Rattle.dover_port.specs.Moves.{Move, Since, ArePuts, IsProperPrefix, Passes, CutsShort, PutsThrough, outs}
 use Rattle.dover_port.proofs.Made.{since_weaker}
 use Rattle.dover_port.proofs.Through.{passes_then, passes_then_cut, cut_longer}
@@ -98,3 +100,9 @@ module _ (a b c : Option (List Move)) (q text : List ℕ) where
   pub answer_unflushed : Passes a b [] q (verdict_text (model.verdict text)) → CutsShort b c q [] → Since a c (Finishes WriteFault text)
   answer_unflushed first cut = since_weaker a c _ _ (passes_then_cut a b c [] q [] (verdict_text (model.verdict text)) [] first cut)
       (λ made it. (it.0, subst (IsProperPrefix (outs made)) (append-nil (verdict_text (model.verdict text))) it.1))
+
+-- where each call went well, the status of a verdict is no fault
+pub answer_stops : (verdict : Verdict) (old new : Calls) → StaysWell old new → StopsWith (status_of verdict) old new
+answer_stops (Accepted k version value most jobs) old new well = well
+answer_stops (Wrong line due) old new well = well
+answer_stops (Short lines) old new well = well

@@ -4,7 +4,8 @@ use Rattle.dover_model.specs.Run.{completed_value}
 use Rattle.dover_model.specs.Session.{Session, instance_of}
 use Rattle.dover_model.specs.Verdict as model
 use Rattle.dover_model.specs.Verdict.{verdict}
-use Rattle.dover_port.specs.Causes.{Rose}
+use Rattle.dover_port.specs.Causes.{Rose, StaysWell, FailsLast}
+use Rattle.dover_port.specs.declared.calls.Calls.{Calls}
 use Rattle.dover_port.specs.Moves.{Move, ArePuts, ins, outs, has_ended, EachRead, IsProperPrefix}
 use Rattle.dover_port.specs.declared.status.Status.{Status}
 use Rattle.dover_port.specs.declared.status.Status.TheVariants.{Done, No, ReadFault, WriteFault, Memory}
@@ -101,6 +102,11 @@ ReadsBy NoMemory judge moves = Judges Memory moves
 abbrev pub ReadCauses : Reading → (reads reads' writes writes' : ℕ) → Type 0
 ReadCauses Unread reads reads' writes writes' = Rose reads reads' × (writes' ≡ writes)
 ReadCauses _ reads reads' writes writes' = (reads' ≡ reads) × (writes' ≡ writes)
+
+-- no call follows one that failed: the last one alone has failed where a read did, and else none has
+abbrev pub ReadStops : Reading → (old new : Calls) → Type 0
+ReadStops Unread old new = FailsLast old new
+ReadStops _ old new = StaysWell old new
 
 -- ---- the answer
 

@@ -7,6 +7,3 @@ mod word;
 
 pub use reading::{Reading, read_text};
 pub use word::{answer, judge_word};
-
-#[cfg(test)]
-mod tests;

@@ -1,14 +1,14 @@
 //! The line of a verdict on its way out.
 ghost use Rattle.std.specs.Prelude.{◌≡◌, ◌≤◌, ◌++◌, ◌∷◌, [], List, ℕ, length};
 ghost use Rattle.dover_model.specs.Verdict as model;
-ghost use Rattle.dover_port.specs.Causes.{HasCause};
+ghost use Rattle.dover_port.specs.Causes.{HasCause, StopsAtFailure};
 ghost use Rattle.dover_port.specs.Moves.{PutsThrough};
 ghost use Rattle.trace_judge.specs.Judging.{Tells};
 ghost use Rattle.trace_judge.specs.Reads.{expected_of};
 ghost use Rattle.judge_word.specs.Line.{IsShortDue, accepted_line, wrong_front, expected_text, short_line, verdict_text};
 
 use dover_port::{Failed, Output, Port};
-use line_text::LineBuf;
+use line_text::{BackLine, LineBuf};
 use trace_format::write_event;
 use trace_judge::{Expected, Verdict};
 
@@ -51,18 +51,16 @@ fn wrong_front(number: u64) -> LineBuf
 }
 
 /// The text of what is due, and the end of the line.
-fn due_line(expected: Expected) -> LineBuf
+fn due_line(expected: Expected) -> BackLine
     requires { IsShortDue (expected_of expected) }
-    ensures text { result ≡ expected_text (expected_of expected) ++ 10 ∷ [] }
-    ensures fits { length result ≤ 129 }
+    ensures { result ≡ expected_text (expected_of expected) ++ 10 ∷ [] }
 {
-    let mut line = LineBuf::new();
+    let mut line = BackLine::new();
     match expected {
         Expected::Header => line.put_word(b"header"),
         Expected::Step(event) => write_event(&event, &mut line),
         Expected::Nothing => line.put_word(b"nothing"),
     }
-    line.end_line();
     line
 }
 
@@ -77,6 +75,7 @@ fn put_wrong<P: Port>(
     ensures text { PutsThrough (P.moves port.old) (P.moves port.new) result out.old out.new
         (verdict_text (model.Wrong number (expected_of expected))) }
     ensures cause { HasCause (P.write_faults port.old) (P.write_faults port.new) (P.read_faults port.old) (P.read_faults port.new) result }
+    ensures stops { StopsAtFailure (P.calls port.old) (P.calls port.new) result }
 {
     match out.put(port, wrong_front(number).bytes()) {
         Ok(()) => {}
@@ -95,6 +94,7 @@ pub(crate) fn put_verdict<P: Port>(
     ensures text { (text : List ℕ) → Tells verdict.now text →
         PutsThrough (P.moves port.old) (P.moves port.new) result out.old out.new (verdict_text (model.verdict text)) }
     ensures cause { HasCause (P.write_faults port.old) (P.write_faults port.new) (P.read_faults port.old) (P.read_faults port.new) result }
+    ensures stops { StopsAtFailure (P.calls port.old) (P.calls port.new) result }
 {
     match verdict {
         Verdict::Accepted { value, bound, .. } => {

@@ -2,14 +2,14 @@
 ghost use Rattle.std.specs.Prelude.{◌≡◌, [], ℕ, List};
 ghost use Rattle.dover_port.specs.Moves.{Since};
 ghost use Rattle.trace_judge.specs.Judging.{StandsFor};
-ghost use Rattle.judge_word.specs.Record.{ReadsBy, ReadCauses};
+ghost use Rattle.judge_word.specs.Record.{ReadsBy, ReadCauses, ReadStops};
 ghost use Rattle.judge_word.specs.declared.reading.Reading.TheVariants.{Over};
 
 use dover_port::Port;
 use trace_judge::Judge;
 
 /// How many bytes a read asks for.
-const READ_BYTES: usize = 4096;
+const READ_BYTES: usize = 65_536;
 
 /// More reads than a text has that isn't wrong: its 20,000,000 lines have at most 129 bytes each, and the line that has begun at most 128.
 const MOST_READS: u64 = 2_580_000_129;
@@ -33,6 +33,7 @@ pub fn read_text<P: Port>(port: &mut P, judge: &mut Judge) -> Reading
     ensures stands { result ≡ Over → (text : List ℕ) × StandsFor judge.new text }
     ensures keep { result ≡ Over → judge.new.reader.keep ≡ judge.old.reader.keep }
     ensures causes { ReadCauses result (P.read_faults port.old) (P.read_faults port.new) (P.write_faults port.old) (P.write_faults port.new) }
+    ensures stops { ReadStops result (P.calls port.old) (P.calls port.new) }
 {
     let mut buf = [0u8; READ_BYTES];
     let mut reads = 0u64;

@@ -1,6 +1,6 @@
 //! The word as a whole.
 ghost use Rattle.std.specs.Prelude.{◌≡◌, List, ℕ};
-ghost use Rattle.dover_port.specs.Causes.{Causes};
+ghost use Rattle.dover_port.specs.Causes.{Causes, StopsWith};
 ghost use Rattle.dover_port.specs.Moves.{Since};
 ghost use Rattle.trace_judge.specs.Judging.{StandsFor, Tells};
 ghost use Rattle.judge_word.specs.Record.{Judges, IsAnswer, Finishes, status_of};
@@ -28,6 +28,7 @@ pub fn answer<P: Port>(port: &mut P, verdict: &Verdict) -> Status
     ensures finishes { (text : List ℕ) → Tells verdict.now text → Since (P.moves port.old) (P.moves port.new) (Finishes result text) }
     ensures answer { IsAnswer result }
     ensures causes { Causes result (P.read_faults port.old) (P.read_faults port.new) (P.write_faults port.old) (P.write_faults port.new) }
+    ensures stops { StopsWith result (P.calls port.old) (P.calls port.new) }
 {
     let mut out = Output::new();
     match put_verdict(port, &mut out, verdict) {
@@ -46,6 +47,7 @@ pub fn judge_word<P: Port>(alloc: Global, port: &mut P) -> Status
     ensures judges { Since (P.moves port.old) (P.moves port.new) (Judges result) }
     ensures answer { IsAnswer result }
     ensures causes { Causes result (P.read_faults port.old) (P.read_faults port.new) (P.write_faults port.old) (P.write_faults port.new) }
+    ensures stops { StopsWith result (P.calls port.old) (P.calls port.new) }
 {
     let Ok(mut judge) = Judge::new(alloc, false) else {
         return Status::Memory;

@@ -10,6 +10,3 @@ mod verdict;
 
 pub use judge::{Closed, Judge};
 pub use verdict::{Expected, Verdict};
-
-#[cfg(test)]
-mod tests;

@@ -6,4 +6,4 @@ returns-in-Err-clause-text g c = wrong_cut _ _ _ _ _ _ _ (rw (c.bytes.ensures, c
 
 pub returns-clause-text : goal.returns-clause-text
 returns-clause-text g c = wrong_put _ _ _ _ _ _ _ _ _ (rw (c.bytes.ensures, c.wrong_front.ensures.text) at c.in-Ok.ensures.text.all)
-    (rw (c.bytes-2.ensures, c.due_line.ensures.text) at c.put-2.ensures.text)
+    (rw (c.bytes-2.ensures.is, c.due_line.ensures) at c.put-2.ensures.text)

@@ -41,6 +41,7 @@ loop-reads-preserved g c =
       keep = c.in-Ok-feed.ensures.fed.keep ∙ c.loop-reads.invariant.keep;
       read_faults = c.in-Ok.ensures.cause.ok ∙ c.loop-reads.invariant.read_faults;
       write_faults = c.in-Ok.ensures.cause.other ∙ c.loop-reads.invariant.write_faults;
+      calls = λ well. c.in-Ok.ensures.stops.well (c.loop-reads.invariant.calls well);
     }
 
 pub unreachable-requires : goal.unreachable-requires

@@ -1,5 +1,6 @@
 use Rattle.std.proofs.Common.{◌-◌, ◌≡◌, ◌≤◌, ℕ, List, length, false}
 use Rattle.dover_model.specs.Verdict.{verdict}
+use Rattle.dover_port.specs.Causes.{StaysWell}
 use Rattle.dover_port.specs.Moves.{Since}
 use Rattle.trace_judge.specs.Judging.{StandsFor, is_wrong}
 use Rattle.judge_word.specs.Record.{GoesOn}
@@ -13,6 +14,7 @@ invariant-loop-reads g l = record {
   keep : l.judge.reader.keep ≡ l.initial.judge.reader.keep;
   read_faults : g.P.Port.read_faults l.port ≡ g.P.Port.read_faults l.initial.port;
   write_faults : g.P.Port.write_faults l.port ≡ g.P.Port.write_faults l.initial.port;
+  calls : StaysWell (g.P.Port.calls l.initial.port) (g.P.Port.calls l.port);
 }
 
 abbrev pub decreases-loop-reads : goal.decreases-loop-reads

@@ -1,7 +1,8 @@
 use Rattle.std.proofs.Common.{◌+◌, ◌++◌, ◌∷◌, [], ℕ, List, take, drop, get_or, sym, ap, ◌∙◌, subst, arith, take-append-drop}
 use Rattle.std.proofs.lemmas.List.{take_more}
 use Rattle.trace_judge.specs.Judging.{Fed, IsOverfed}
-use Rattle.trace_judge.proofs.Judging.{err_of, fed_on, overfed_on}
+use Rattle.dover_model.proofs.Tests.{never}
+use Rattle.trace_judge.proofs.Judging.{err_of, fed_on, overfed_on, wrong_fed, good_not_wrong, stands_good}
 use Rattle.trace_judge.proofs.judge.Judge.feed.Goals as goal
 
 pub returns-in_err-take-clause-room : goal.returns-in_err-take-clause-room
@@ -21,3 +22,10 @@ loop-byte-preserved c =
     subst (Fed c.args.self.now c.take.new.self) (sym (take_more piece i 0 (omega arith)))
     (fed_on c.args.self.now c.loop-byte.self c.take.new.self (take i piece) (get_or piece i 0 ∷ []) c.loop-byte.invariant
     c.in_ok-take.ensures.fed)
+
+pub returns-in-Wrong-clause-fed : goal.returns-in-Wrong-clause-fed
+returns-in-Wrong-clause-fed c = wrong_fed c.args.self.now c.in-Wrong.line c.in-Wrong.expected c.args.piece.now c.in-Wrong.is
+
+pub returns-in_err-take-clause-decided : goal.returns-in_err-take-clause-decided
+returns-in_err-take-clause-decided c text stands wrong =
+    never (sym (good_not_wrong c.args.self.now text (stands_good c.args.self.now text c.in-Good.is stands)) ∙ wrong)
