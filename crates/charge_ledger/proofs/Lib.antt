@@ -6,4 +6,4 @@ pub mod Overs
 pub mod Takes
 pub mod Reading
 pub mod Charges
-pub mod TestRuns
+pub mod Weighed

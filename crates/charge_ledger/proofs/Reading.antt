@@ -3,7 +3,7 @@ use Rattle.std.proofs.Common.{◌≡◌, ℕ, ◌+◌, ◌≤◌, ◌<◌, ◌^�
 use Rattle.std.proofs.Common.{false, cond, arith, append-nil}
 use Rattle.std.specs.Prelude.{Option, None, ◌==◌}
 use Rattle.std.specs.Bool.{MatchBool, then_some}
-use Rattle.std.specs.List.{sum_by, filter, list_all, cons_option}
+use Rattle.std.specs.List.{sum_by, filter, filter_map, list_all, cons_option}
 use Rattle.dover_model.specs.Fraction.{Fraction}
 use Rattle.dover_model.specs.Instance.{Instance, IsValid}
 use Rattle.dover_model.specs.Intervals as model
@@ -18,14 +18,17 @@ use Rattle.dover_model.specs.WholeRun.{IsWholeRun}
 use Rattle.dover_model.specs.Sound.{IsMember, IsSound, Keeps}
 use Rattle.dover_model.proofs.Members.{by_bool, sum_map, sum_zero}
 use Rattle.dover_model.proofs.Roles.{passes}
+use Rattle.dover_model.proofs.Booked.{privileged_value}
 use Rattle.dover_model.proofs.Ticking.{Quiet}
 use Rattle.dover_model.proofs.Deeds.{Deed, Completed, Resumed, Started, Began, Preempted, Stayed, Arrived, Taken, Abandoned, Rested}
 use Rattle.dover_model.proofs.Kept.{step_deed, step_kept, opening_keeps, come_coming}
 use Rattle.dover_model.proofs.Ending.{run_is_whole, few_printed}
-use Rattle.dover_model.proofs.Honest.{count_jobs, last_value}
+use Rattle.dover_model.proofs.Honest.{count_jobs}
+use Rattle.dover_model.proofs.Runs.{last_value}
 use Rattle.charge_ledger.specs.Pages.{Page, blank, with_event, known_at, with_one_more, page_completed, ended, IsReadable}
-use Rattle.charge_ledger.specs.Rows.{numbers_of, rows_of}
+use Rattle.charge_ledger.specs.Rows.{numbers_of, rows_of, weight_of, weights}
 use Rattle.charge_ledger.proofs.Follows.{Follows, Next}
+use Rattle.charge_ledger.proofs.Sums.{values_fit}
 use Rattle.charge_ledger.proofs.Steps.{waiting_idle, fresh_idle, enters_next, resumes_next, waits_next}
 use Rattle.charge_ledger.proofs.Overs.{preempts_next, releases_next, abandons_next, completes_next, ticks_next, ends_next}
 use Rattle.charge_ledger.proofs.Takes.{takes_next}
@@ -124,55 +127,71 @@ module _ (J : Instance) (valid : IsValid J) where
         count : length s.tasks ≤ 1_000_000
         count = omega (arith, valid.count, count_jobs s.tasks, ap length keeps.jobs)
 
-  -- the next printed step can be read, and the page after it follows
+  -- the next printed step can be read, the page after it follows, and the page before it has what the active jobs are worth
   module _ (l : Page) (e : Event) (rest : List Event) (value : last_value l.value (e ∷ rest) ≡ completed_value J)
       (few : l.era + length (e ∷ rest) ≤ 5_000_002) where
+    abbrev OneRead : List Step → Type 0
+    OneRead xs = IsReadable l e × ((r : Reads J (with_event l e) rest) × (filter_map weight_of xs ≡ l.worth ∷ filter_map weight_of r.steps))
+
     next_read : (xs : List Step) (s : State) (current : Option model.Interval) → Keeps J s → (xs ≡ []) ⊎ IsWholeRun J.rules s xs
         → printed_of xs ≡ e ∷ rest → Follows J.rules.ratio s l current
         → l.rows ++ map numbers_of (model.intervals_of current xs) ≡ rows_of J
-        → IsReadable l e × Reads J (with_event l e) rest
+        → OneRead xs
     next_read [] s current keeps whole prints follows rows = absurd (let no : printed_of [] ≡ e ∷ rest = prints in cc)
     next_read (x ∷ xs) s current keeps (inl none) prints follows rows = absurd (let no : x ∷ xs ≡ [] = none in cc)
     next_read (x ∷ xs) s current keeps (inr whole) prints follows rows =
-        by_move (step J.rules s) (step_next s keeps l (omega (arith, few)) current follows) (step_kept J valid s keeps J.rules)
+        subst (λ (y : Step). OneRead (y ∷ xs)) (sym whole.0)
+        (by_move (step J.rules s) (step_next s keeps l (omega (arith, few)) current follows) (step_kept J valid s keeps J.rules)
         (one_of_two (is_end (step J.rules s)) whole.1)
         (ap (λ (y : Step). cons_option (event_of y.move) (printed_of xs)) (sym whole.0) ∙ prints)
         (ap (λ (y : Step). l.rows ++ map numbers_of (model.intervals_of current (y ∷ xs))) (sym whole.0) ∙ rows)
-        (next_read xs) where
+        (next_read xs)) where
           by_move : (m : Move) → Next J.rules.ratio s l current m → Keeps J (after s m) → (xs ≡ []) ⊎ IsWholeRun J.rules (after s m) xs
               → cons_option (event_of m) (printed_of xs) ≡ e ∷ rest
               → l.rows ++ map numbers_of (model.intervals_of current (record { before = s; move = m } ∷ xs)) ≡ rows_of J
               → ((t : State) (o : Option model.Interval) → Keeps J t → (xs ≡ []) ⊎ IsWholeRun J.rules t xs
               → printed_of xs ≡ e ∷ rest → Follows J.rules.ratio t l o
               → l.rows ++ map numbers_of (model.intervals_of o xs) ≡ rows_of J
-              → IsReadable l e × Reads J (with_event l e) rest)
-              → IsReadable l e × Reads J (with_event l e) rest
+              → OneRead xs)
+              → OneRead (record { before = s; move = m } ∷ xs)
           by_move (Prints f) next kept onward same_events same_rows more =
               let head : f ≡ e = cc in
               let tail : printed_of xs ≡ rest = cc in (
                 subst (IsReadable l) head next.readable,
-                record {
-                  before = after s (Prints f);
-                  steps = xs;
-                  current = next.later;
-                  keeps = kept;
-                  whole = onward;
-                  prints = tail;
-                  follows = subst (λ g. Follows J.rules.ratio (after s (Prints f)) (with_event l g) next.later) head next.follows;
-                  rows = ap (λ g. (with_event l g).rows ++ map numbers_of (model.intervals_of next.later xs)) (sym head) ∙ next.same xs ∙ same_rows;
-                  value = ap (λ v. last_value v rest) (value_after l e) ∙ value;
-                  few = omega (arith, few, era_after l e);
-                },
+                (
+                  record {
+                    before = after s (Prints f);
+                    steps = xs;
+                    current = next.later;
+                    keeps = kept;
+                    whole = onward;
+                    prints = tail;
+                    follows = subst (λ g. Follows J.rules.ratio (after s (Prints f)) (with_event l g) next.later) head next.follows;
+                    rows = ap (λ g. (with_event l g).rows ++ map numbers_of (model.intervals_of next.later xs)) (sym head) ∙ next.same xs ∙ same_rows;
+                    value = ap (λ v. last_value v rest) (value_after l e) ∙ value;
+                    few = omega (arith, few, era_after l e);
+                  },
+                  ap (λ w. w ∷ filter_map weight_of xs) (privileged_value s ∙ sym follows.tracks.worth),
+                ),
               )
           by_move (Waits n) next kept onward same_events same_rows more =
               more (after s (Waits n)) next.later kept onward same_events next.follows (next.same xs ∙ same_rows)
           by_move Ticks next kept onward same_events same_rows more =
               more (after s Ticks) next.later kept onward same_events next.follows (next.same xs ∙ same_rows)
 
-  -- the next printed step can be read, and the page after it follows
-  pub reads_next : (l : Page) (e : Event) (rest : List Event) → Reads J l (e ∷ rest) → IsReadable l e × Reads J (with_event l e) rest
-  reads_next l e rest reads = next_read l e rest reads.value reads.few reads.steps reads.before reads.current reads.keeps reads.whole reads.prints
+  -- the next printed step is read
+  one_read : (l : Page) (e : Event) (rest : List Event) (reads : Reads J l (e ∷ rest)) → OneRead l e rest reads.value reads.few reads.steps
+  one_read l e rest reads = next_read l e rest reads.value reads.few reads.steps reads.before reads.current reads.keeps reads.whole reads.prints
       reads.follows reads.rows
+
+  -- it can be read, and the page after it follows
+  pub reads_next : (l : Page) (e : Event) (rest : List Event) → Reads J l (e ∷ rest) → IsReadable l e × Reads J (with_event l e) rest
+  reads_next l e rest reads = let it = one_read l e rest reads in (it.0, it.1.0)
+
+  -- what the active jobs are worth before it, and before those behind it
+  pub weighs_next : (l : Page) (e : Event) (rest : List Event) (reads : Reads J l (e ∷ rest))
+      → (r : Reads J (with_event l e) rest) × (filter_map weight_of reads.steps ≡ l.worth ∷ filter_map weight_of r.steps)
+  weighs_next l e rest reads = (one_read l e rest reads).1
 
   -- a whole run prints something
   some_printed : (xs : List Step) (s : State) → IsWholeRun J.rules s xs → printed_of xs ≡ [] → ⊥
@@ -190,6 +209,24 @@ module _ (J : Instance) (valid : IsValid J) where
   all_read l reads = (by_steps reads.whole, reads.value) where
     by_steps : (reads.steps ≡ []) ⊎ IsWholeRun J.rules reads.before reads.steps → l.rows ≡ rows_of J
     by_steps (inl none) = sym (append-nil l.rows) ∙ ap (λ xs. l.rows ++ map numbers_of (model.intervals_of reads.current xs)) (sym none) ∙ reads.rows
+    by_steps (inr whole) = absurd (some_printed reads.steps reads.before whole reads.prints)
+
+  -- what the active jobs are worth is no more than all jobs are
+  pub worth_small : (l : Page) (rest : List Event) → Reads J l rest → l.worth ≤ 10_000_000_000_000
+  worth_small l rest reads = omega (
+    arith,
+    reads.follows.tracks.worth,
+    values_fit reads.before.tasks,
+    valid.total,
+    sum_map (λ (t : Task). t.job) (λ j. j.value) reads.before.tasks,
+    ap (sum_by (λ j. j.value)) reads.keeps.jobs,
+  )
+
+  -- and none is left to weigh
+  pub all_weighed : (l : Page) (reads : Reads J l []) → filter_map weight_of reads.steps ≡ []
+  all_weighed l reads = by_steps reads.whole where
+    by_steps : (reads.steps ≡ []) ⊎ IsWholeRun J.rules reads.before reads.steps → filter_map weight_of reads.steps ≡ []
+    by_steps (inl none) = ap (filter_map weight_of) none
     by_steps (inr whole) = absurd (some_printed reads.steps reads.before whole reads.prints)
 
   -- before the first step
@@ -218,3 +255,8 @@ module _ (J : Instance) (valid : IsValid J) where
   } where
     idle : (t : Task) → IsMember t (opening J.jobs).tasks → is_privileged t ≡ false
     idle t m = passes is_privileged t Coming false (come_coming 0 J.jobs t m).0 refl
+
+  -- all steps are to be weighed
+  pub none_weighed : (reads : Reads J blank (printed J)) × (filter_map weight_of reads.steps ≡ weights J)
+  unfolding none_read
+  none_weighed = (none_read, refl)

@@ -86,6 +86,13 @@ impl Ledger {
         Ok(())
     }
 
+    /// What the jobs that run or are held are worth.
+    pub fn worth(&self) -> u64
+        ensures { result ≡ self.now.worth }
+    {
+        self.worth
+    }
+
     /// The rows, and the value that the end names.
     pub fn into_parts(self) -> (Vec<Interval>, u64)
         ensures rows { result.0.items ≡ self.rows }

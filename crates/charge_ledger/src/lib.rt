@@ -4,9 +4,8 @@
 mod charge;
 mod interval;
 mod ledger;
+mod weighing;
 
 pub use charge::Charge;
 pub use interval::Interval;
-
-#[cfg(test)]
-mod tests;
+pub use weighing::weights;

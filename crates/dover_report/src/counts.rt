@@ -86,7 +86,7 @@ fn taken(run: &[Event]) -> usize
 }
 
 /// The value of the job of this number, 0 for none.
-fn value_of(jobs: &[Job], number: u32) -> u64
+pub fn value_of(jobs: &[Job], number: u32) -> u64
     ensures is { result ≡ value_in jobs.now number }
     ensures modest { result ≤ most_value }
 {

@@ -7,9 +7,6 @@ mod lines;
 mod report;
 mod rows;
 
-pub use counts::Counts;
+pub use counts::{Counts, released, value_of};
 pub use report::{summary, text};
 pub use rows::table;
-
-#[cfg(test)]
-mod tests;

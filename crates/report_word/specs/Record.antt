@@ -12,13 +12,17 @@ use Rattle.judge_word.specs.Line.{verdict_text}
 use Rattle.judge_word.specs.Record.{MayRead, IsTrace, IsNoTrace, IsOver, IsRefused, IsUnread}
 use Rattle.trace_judge.specs.Judging.{Tells, steps_told}
 use Rattle.trace_judge.specs.declared.judge.Closed.{Closed}
+use Rattle.run_view.specs.Chrome.{chrome}
+use Rattle.run_view.specs.Why.{why}
 use Rattle.report_word.specs.declared.form.Form.{Form}
-use Rattle.report_word.specs.declared.form.Form.TheVariants.{Text, Table}
+use Rattle.report_word.specs.declared.form.Form.TheVariants.{Text, Table, Chrome, Why}
 
--- the report on the run of these jobs, or the table of it
+-- the report on the run of these jobs, the table of it, its events for a viewer, or the story of one job
 abbrev pub report_text : Form → Instance → List ℕ
 report_text Text J = report J
 report_text Table J = table J
+report_text Chrome J = chrome J
+report_text (Why n) J = why n J
 
 -- what is told of a text by its verdict: the report on the run of an accepted trace, and else the line of the verdict
 abbrev pub told : Form → model.Verdict → List ℕ

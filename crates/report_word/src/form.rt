@@ -5,4 +5,8 @@ pub enum Form {
     Text,
     /// The table of the jobs with their fates, as comma-separated fields.
     Table,
+    /// The run as events for a viewer of traces.
+    Chrome,
+    /// What happened to the job of this number, and by which test.
+    Why(u32),
 }

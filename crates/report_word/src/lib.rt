@@ -6,6 +6,3 @@ mod word;
 
 pub use form::Form;
 pub use word::report_word;
-
-#[cfg(test)]
-mod tests;

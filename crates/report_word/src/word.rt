@@ -2,7 +2,7 @@
 ghost use Rattle.std.specs.Prelude.{◌≡◌, List, ℕ, IfOk};
 ghost use Rattle.charge_ledger.specs.Rows.{IsRunOf};
 ghost use Rattle.dover_model.specs.Instance.{Instance};
-ghost use Rattle.dover_port.specs.Causes.{Causes};
+ghost use Rattle.dover_port.specs.Causes.{Causes, StopsWith};
 ghost use Rattle.dover_port.specs.Moves.{Since};
 ghost use Rattle.judge_word.specs.Record.{IsAnswer};
 ghost use Rattle.report_word.specs.Record.{IsClosed, Finishes, Puts, Reports, report_text};
@@ -12,6 +12,7 @@ use dover_model::{Event, Memory, Ratio};
 use dover_port::{Port, Status, put_all};
 use dover_report::{table, text};
 use judge_word::{Reading, answer, read_text};
+use run_view::{chrome, why};
 use std::alloc::Global;
 use trace_judge::{Closed, Judge, Verdict};
 
@@ -23,6 +24,8 @@ fn report(alloc: Global, form: Form, ratio: Ratio, steps: &[Event]) -> Result<Ve
     match form {
         Form::Text => text(alloc, ratio, steps),
         Form::Table => table(alloc, steps),
+        Form::Chrome => chrome(alloc, ratio, steps),
+        Form::Why(number) => why(alloc, ratio, steps, number),
     }
 }
 
@@ -38,6 +41,7 @@ fn put_report<P: Port>(
     ensures puts { (J : Instance) → IsRunOf ratio steps.now J → Since (P.moves port.old) (P.moves port.new) (Puts result (report_text form J)) }
     ensures answer { IsAnswer result }
     ensures causes { Causes result (P.read_faults port.old) (P.read_faults port.new) (P.write_faults port.old) (P.write_faults port.new) }
+    ensures stops { StopsWith result (P.calls port.old) (P.calls port.new) }
 {
     let Ok(text) = report(alloc, form, ratio, steps) else {
         return Status::Memory;
@@ -54,6 +58,7 @@ fn tell<P: Port>(alloc: Global, port: &mut P, form: Form, closed: &Closed) -> St
     ensures finishes { (text : List ℕ) → IsClosed closed.now text → Since (P.moves port.old) (P.moves port.new) (Finishes form result text) }
     ensures answer { IsAnswer result }
     ensures causes { Causes result (P.read_faults port.old) (P.read_faults port.new) (P.write_faults port.old) (P.write_faults port.new) }
+    ensures stops { StopsWith result (P.calls port.old) (P.calls port.new) }
 {
     match closed.verdict {
         Verdict::Accepted { ratio, .. } => put_report(alloc, port, form, ratio, &closed.steps),
@@ -69,6 +74,7 @@ pub fn report_word<P: Port>(alloc: Global, port: &mut P, form: Form) -> Status
     ensures reports { Since (P.moves port.old) (P.moves port.new) (Reports form result) }
     ensures answer { IsAnswer result }
     ensures causes { Causes result (P.read_faults port.old) (P.read_faults port.new) (P.write_faults port.old) (P.write_faults port.new) }
+    ensures stops { StopsWith result (P.calls port.old) (P.calls port.new) }
 {
     let Ok(mut judge) = Judge::new(alloc, true) else {
         return Status::Memory;

@@ -2,3 +2,9 @@ use Rattle.report_word.proofs.word.report.Goals as goal
 
 pub returns-in-Table : goal.returns-in-Table
 returns-in-Table c = λ J is. rw c.in-Table.is (c.table.ensures c.args.ratio J is)
+
+pub returns-in-Chrome : goal.returns-in-Chrome
+returns-in-Chrome c = λ J is. rw c.in-Chrome.is (c.chrome.ensures J is)
+
+pub returns-in-Why : goal.returns-in-Why
+returns-in-Why c = λ J is. rw c.in-Why.is (c.why.ensures J is)

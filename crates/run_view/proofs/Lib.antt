@@ -1,0 +1,6 @@
+pub mod Joining
+pub mod Stepping
+pub mod Viewed
+pub mod Heavies
+pub mod Telling
+pub mod WorkedRows

@@ -1,0 +1,68 @@
+-- Reports for a viewer and on one job, by computation.
+use Rattle.std.proofs.Common.{◌≡◌, [], ◌∷◌, ◌++◌, refl}
+use Rattle.std.specs.Prelude.{codes}
+use Rattle.std.specs.Fmt.{digits}
+use Rattle.dover_model.specs.Instance.{Instance}
+use Rattle.dover_model.proofs.Written.{job, one}
+use Rattle.run_view.specs.Chrome.{chrome}
+use Rattle.run_view.specs.Why.{why}
+
+-- a take over a running and a held job
+abbrev take_over : Instance
+take_over = one 1 1 (job 0 3 30 3 ∷ job 0 2 4 2 ∷ job 0 12 12 12 ∷ [])
+
+displaced_job : why 0 take_over ≡
+    codes "job 0: release 0, work 3, deadline 30, value 3\n"
+    ++ codes "at 0 it runs\n"
+    ++ codes "at 0 it is preempted by job 1, which is due earlier\n"
+    ++ codes "at 0 it is displaced by job 2\n"
+    ++ codes "at 12 it runs\n"
+    ++ codes "at 15 it is completed\n"
+unfolding digits
+displaced_job = refl
+
+abandoned_job : why 1 take_over ≡
+    codes "job 1: release 0, work 2, deadline 4, value 2\n"
+    ++ codes "at 0 it preempts job 0, which is due later\n"
+    ++ codes "at 0 it is displaced by job 2\n"
+    ++ codes "at 2 it is abandoned, its value 2 against 12 under way: 1 * 0^2 = 0 not above 1 * 12^2 = 144; heavy from 25 on\n"
+unfolding digits
+abandoned_job = refl
+
+takes_job : why 2 take_over ≡
+    codes "job 2: release 0, work 12, deadline 12, value 12\n"
+    ++ codes "at 0 it takes the processor from job 1, its value 12 against 5 under way: 1 * 7^2 = 49 above 1 * 5^2 = 25; heavy from 11 on\n"
+    ++ codes "at 12 it is completed\n"
+unfolding digits
+takes_job = refl
+
+unknown_job : why 3 take_over ≡
+    codes "no job 3 among 3\n"
+unfolding digits
+unknown_job = refl
+
+viewed_run : chrome take_over ≡
+    codes "{\"traceEvents\":[\n"
+    ++ codes "{\"pid\":0,\"tid\":0,\"ph\":\"M\",\"name\":\"thread_name\",\"args\":{\"name\":\"processor\"}}\n"
+    ++ codes ",{\"pid\":0,\"tid\":0,\"ph\":\"b\",\"ts\":0,\"cat\":\"job\",\"id\":\"0\",\"name\":\"job 0\",\"args\":{\"work\":3,\"deadline\":30,\"value\":3}}\n"
+    ++ codes ",{\"pid\":0,\"tid\":0,\"ph\":\"B\",\"ts\":0,\"name\":\"job 0\"}\n"
+    ++ codes ",{\"pid\":0,\"tid\":0,\"ph\":\"b\",\"ts\":0,\"cat\":\"job\",\"id\":\"1\",\"name\":\"job 1\",\"args\":{\"work\":2,\"deadline\":4,\"value\":2}}\n"
+    ++ codes ",{\"pid\":0,\"tid\":0,\"ph\":\"E\",\"ts\":0,\"name\":\"job 0\"}\n"
+    ++ codes ",{\"pid\":0,\"tid\":0,\"ph\":\"B\",\"ts\":0,\"name\":\"job 1\"}\n"
+    ++ codes ",{\"pid\":0,\"tid\":0,\"ph\":\"b\",\"ts\":0,\"cat\":\"job\",\"id\":\"2\",\"name\":\"job 2\",\"args\":{\"work\":12,\"deadline\":12,\"value\":12}}\n"
+    ++ codes ",{\"pid\":0,\"tid\":0,\"ph\":\"E\",\"ts\":0,\"name\":\"job 1\"}\n"
+    ++ codes ",{\"pid\":0,\"tid\":0,\"ph\":\"B\",\"ts\":0,\"name\":\"job 2\"}\n"
+    ++ codes ",{\"pid\":0,\"tid\":0,\"ph\":\"i\",\"ts\":0,\"s\":\"g\",\"name\":\"take job 2\",\"args\":{\"value\":12,\"against\":5}}\n"
+    ++ codes ",{\"pid\":0,\"tid\":0,\"ph\":\"e\",\"ts\":2,\"cat\":\"job\",\"id\":\"1\",\"name\":\"job 1\",\"args\":{\"fate\":\"abandon\"}}\n"
+    ++ codes ",{\"pid\":0,\"tid\":0,\"ph\":\"i\",\"ts\":2,\"s\":\"g\",\"name\":\"abandon job 1\",\"args\":{\"value\":2,\"against\":12}}\n"
+    ++ codes ",{\"pid\":0,\"tid\":0,\"ph\":\"C\",\"ts\":2,\"name\":\"value\",\"args\":{\"completed\":0,\"lost\":2}}\n"
+    ++ codes ",{\"pid\":0,\"tid\":0,\"ph\":\"E\",\"ts\":12,\"name\":\"job 2\"}\n"
+    ++ codes ",{\"pid\":0,\"tid\":0,\"ph\":\"e\",\"ts\":12,\"cat\":\"job\",\"id\":\"2\",\"name\":\"job 2\",\"args\":{\"fate\":\"complete\"}}\n"
+    ++ codes ",{\"pid\":0,\"tid\":0,\"ph\":\"C\",\"ts\":12,\"name\":\"value\",\"args\":{\"completed\":12,\"lost\":2}}\n"
+    ++ codes ",{\"pid\":0,\"tid\":0,\"ph\":\"B\",\"ts\":12,\"name\":\"job 0\"}\n"
+    ++ codes ",{\"pid\":0,\"tid\":0,\"ph\":\"E\",\"ts\":15,\"name\":\"job 0\"}\n"
+    ++ codes ",{\"pid\":0,\"tid\":0,\"ph\":\"e\",\"ts\":15,\"cat\":\"job\",\"id\":\"0\",\"name\":\"job 0\",\"args\":{\"fate\":\"complete\"}}\n"
+    ++ codes ",{\"pid\":0,\"tid\":0,\"ph\":\"C\",\"ts\":15,\"name\":\"value\",\"args\":{\"completed\":15,\"lost\":2}}\n"
+    ++ codes "]}\n"
+unfolding digits
+viewed_run = refl

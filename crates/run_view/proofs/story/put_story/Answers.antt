@@ -1,0 +1,28 @@
+use Rattle.std.proofs.Common.{◌<◌, length, get_or, arith}
+use Rattle.std.proofs.lemmas.List.{get_or_default}
+use Rattle.run_view.proofs.Telling.{small_at, told_more, told_all}
+use Rattle.run_view.proofs.story.put_story.Goals as goal
+
+pub put_told-requires-clause-worth : goal.put_told-requires-clause-worth
+put_told-requires-clause-worth c = small_at c.args.worths.now c.loop-index.index c.requires.small
+
+pub loop-index-preserved : goal.loop-index-preserved
+loop-index-preserved c =
+    let worth = get_or c.args.worths.now c.loop-index.index 0 in
+    let there : c.loop-index.index < length c.args.worths.now = omega (
+      arith,
+      c.requires.same,
+      c.loop-index-test.true,
+    ) in
+    told_more c.args.asked.now.k c.args.asked.now.number c.args.asked.now.value c.args.run.now c.args.worths.now
+    c.loop-index.index
+    c.index-run-index.result worth c.loop-index.on c.is_on_after-on.result c.loop-index.text.items
+    c.put_told.new.text.items _
+    c.index-run-index.is (get_or_default c.args.worths.now c.loop-index.index 0 worth there) c.loop-index-test.true
+    c.requires.same
+    c.is_on_after-on.ensures c.in_ok-put_told.ensures c.loop-index.invariant
+
+pub returns : goal.returns
+returns c = told_all c.args.asked.now.k c.args.asked.now.number c.args.asked.now.value c.args.run.now
+    c.args.worths.now c.loop-index.index
+    c.loop-index.on c.loop-index.text.items _ (omega arith) c.loop-index.invariant

@@ -1,0 +1,24 @@
+use Rattle.std.proofs.Common.{length, refl, sym, ◌∙◌}
+use Rattle.std.proofs.lemmas.Option.{slice_get_past, slice_get_read}
+use Rattle.run_view.proofs.Stepping.{same_length}
+use Rattle.run_view.proofs.Telling.{why_none, why_some}
+use Rattle.run_view.proofs.story.why.Goals as goal
+
+pub returns-in_default : goal.returns-in_default
+returns-in_default c J of = why_none c.args.k c.args.run.now J of c.args.number c.deref.result.now
+    (c.deref.ensures.value ∙ c.in_ok-jobs.ensures) _ _
+    (slice_get_past c.deref.result.now c.args.number c.in_default.ensures.lookup.3) c.new-text.ensures.items (rw
+    (sym c.deref.ensures.len) at (rw c.len.ensures at c.in_ok-put_unknown.ensures))
+
+pub put_story-requires-clause-same : goal.put_story-requires-clause-same
+put_story-requires-clause-same c = same_length c.args.k c.args.run.now c.requires.0 c.requires.1 c.deref-2.result.now
+    (c.deref-2.ensures.value ∙ c.in_ok-worths.ensures.are c.requires.0 c.requires.1)
+
+pub returns : goal.returns
+returns c J of = why_some c.args.k c.args.run.now J of c.args.number c.deref.result.now (c.deref.ensures.value
+    ∙ c.in_ok-jobs.ensures)
+    c.in-Some.job.now c.deref-2.result.now _ _ _ (slice_get_read c.deref.result.now
+    (length c.deref.result.now) c.args.number c.in-Some.job.now refl
+    c.in-Some.ensures.lookup.3.0 c.in-Some.ensures.lookup.1) (c.deref-2.ensures.value
+    ∙ c.in_ok-worths.ensures.are J of)
+    c.new-text.ensures.items c.in_ok-put_asked.ensures (rw c.value.ensures.is at c.in_ok-put_story.ensures)

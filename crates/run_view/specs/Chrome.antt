@@ -1,0 +1,86 @@
+-- A run as events for a viewer of traces, one a line, with a tick as a microsecond.
+use Rattle.std.specs.Prelude.{ℕ, ◌+◌, List, [], ◌∷◌, ◌++◌, codes}
+use Rattle.dover_model.specs.declared.events.Event.{Event}
+use Rattle.dover_model.specs.declared.events.Event.TheVariants.{Release, Run, Preempt, Take, Complete, Abandon, End}
+use Rattle.dover_model.specs.JobFacts.{JobFacts}
+use Rattle.dover_model.specs.Instance.{Instance}
+use Rattle.dover_report.specs.Counts.{value_in, value_lost}
+use Rattle.run_view.specs.Moments.{moments}
+use Rattle.run_view.specs.Pieces.{Text, numbered}
+
+-- ---- one event each
+
+-- the front of an event of this phase at this tick
+abbrev pub front : Text → ℕ → Text
+front phase at = codes ",{\"pid\":0,\"tid\":0,\"ph\":\"" ++ phase ++ numbered (codes "\",\"ts\":") at
+
+-- the name of a job
+abbrev pub named : ℕ → Text
+named n = numbered (codes ",\"name\":\"job ") n ++ codes "\""
+
+-- the job gets the processor
+abbrev pub begins : (at n : ℕ) → Text
+begins at n = front (codes "B") at ++ named n ++ codes "}\n"
+
+-- it loses the processor
+abbrev pub ends : (at n : ℕ) → Text
+ends at n = front (codes "E") at ++ named n ++ codes "}\n"
+
+-- the span of a job, from its release to its fate
+abbrev pub spanned : ℕ → Text
+spanned n = numbered (codes ",\"cat\":\"job\",\"id\":\"") n ++ codes "\"" ++ named n
+
+-- it is released
+abbrev pub opens : ℕ → JobFacts → Text
+opens n j = front (codes "b") j.release ++ spanned n ++ numbered (codes ",\"args\":{\"work\":") j.work
+    ++ numbered (codes ",\"deadline\":") j.deadline ++ numbered (codes ",\"value\":") j.value ++ codes "}}\n"
+
+-- it has this fate
+abbrev pub closes : (at n : ℕ) → Text → Text
+closes at n fate = front (codes "e") at ++ spanned n ++ codes ",\"args\":{\"fate\":\"" ++ fate ++ codes "\"}}\n"
+
+-- at its latest start its value stands against what the running and the held jobs are worth
+abbrev pub weighed : (at n : ℕ) → Text → (value worth : ℕ) → Text
+weighed at n answer value worth = front (codes "i") at ++ codes ",\"s\":\"g\",\"name\":\"" ++ answer ++ numbered
+    (codes " job ") n
+    ++ numbered (codes "\",\"args\":{\"value\":") value ++ numbered (codes ",\"against\":") worth ++ codes "}}\n"
+
+-- so much value is completed by now, and so much is lost
+abbrev pub summed : (at done lost : ℕ) → Text
+summed at done lost = front (codes "C") at ++ numbered (codes ",\"name\":\"value\",\"args\":{\"completed\":") done
+    ++ numbered (codes ",\"lost\":") lost ++ codes "}}\n"
+
+-- ---- the run
+
+-- the value that a step completes
+abbrev pub value_done : List JobFacts → Event → ℕ
+value_done jobs (Complete at n) = value_in jobs n
+value_done jobs _ = 0
+
+-- the events of a step, after which so much value is completed and lost, where the jobs under way were worth so much
+abbrev pub events_of : List JobFacts → (done lost worth : ℕ) → Event → Text
+events_of jobs done lost worth (Release n job) = opens n job
+events_of jobs done lost worth (Run at n) = begins at n
+events_of jobs done lost worth (Preempt at stops starts) = ends at stops ++ begins at starts
+events_of jobs done lost worth (Take at stops starts) =
+    ends at stops ++ begins at starts ++ weighed at starts (codes "take") (value_in jobs starts) worth
+events_of jobs done lost worth (Complete at n) = ends at n ++ closes at n (codes "complete") ++ summed at done lost
+events_of jobs done lost worth (Abandon at n) =
+    closes at n (codes "abandon") ++ weighed at n (codes "abandon") (value_in jobs n) worth ++ summed at done lost
+events_of jobs done lost worth (End value) = []
+
+-- the events of these steps, before which so much value is completed and lost
+abbrev pub events_from : List JobFacts → (done lost : ℕ) → List (Event × ℕ) → Text
+events_from jobs done lost [] = []
+events_from jobs done lost (e_w ∷ more) = let now = done + value_done jobs e_w.0 in let gone = lost + value_lost jobs
+    e_w.0 in
+    events_of jobs now gone e_w.1 e_w.0 ++ events_from jobs now gone more
+
+-- the front of the text, with the name of the processor's track
+abbrev pub opening : Text
+opening = codes
+    "{\"traceEvents\":[\n{\"pid\":0,\"tid\":0,\"ph\":\"M\",\"name\":\"thread_name\",\"args\":{\"name\":\"processor\"}}\n"
+
+-- the whole text
+abbrev pub chrome : Instance → Text
+chrome J = opening ++ events_from J.jobs 0 0 (moments J) ++ codes "]}\n"

@@ -1,0 +1,4 @@
+pub mod Pieces
+pub mod Moments
+pub mod Chrome
+pub mod Why

@@ -1,0 +1,314 @@
+//! What happened to one job.
+ghost use Rattle.std.specs.Prelude.{◌≡◌, ◌≤◌, ◌++◌, ◌*◌, Bool, false, length, codes, OnOk, IfOk};
+ghost use Rattle.std.specs.List.{AllByRecursion, zip};
+ghost use Rattle.charge_ledger.specs.Rows.{IsRunOf};
+ghost use Rattle.dover_model.specs.Instance.{Instance};
+ghost use Rattle.dover_model.specs.Limits.{most_total, most_value};
+ghost use Rattle.run_view.specs.Why as story;
+
+use crate::pieces::{put, put_job, put_wide};
+use crate::threshold::least_heavy;
+use charge_ledger::weights;
+use dover_model::{Event, Job, Memory, Ratio};
+use dover_report::released;
+use std::alloc::Global;
+
+/// The job that is asked about.
+#[derive(Clone, Copy, Debug, PartialEq, Eq)]
+pub struct Asked {
+    /// The ratio of its run.
+    pub k: Ratio,
+    pub number: u32,
+    pub value: u64,
+}
+
+/// What happened to the job of this number in the run that prints these steps, and by which test, line by line; one
+/// line where there is no such job. The jobs of the run are valid for the ratio `k`. Want of memory is the only error.
+pub fn why(alloc: Global, k: Ratio, run: &[Event], number: u32) -> Result<Vec<u8>, Memory>
+    requires { (J : Instance) × IsRunOf k run.now J }
+    ensures { (J : Instance) → IsRunOf k run.now J → IfOk result (λ written. written.items ≡ story.why number J) }
+{
+    let jobs = released(alloc, run)?;
+    let mut text = Vec::new(alloc);
+    let Some(job) = jobs.get(number as usize) else {
+        put_unknown(&mut text, number, jobs.len() as u64)?;
+        return Ok(text);
+    };
+    let worths = weights(alloc, k, run)?;
+    put_asked(&mut text, number, job)?;
+    let asked = Asked {
+        k,
+        number,
+        value: job.value(),
+    };
+    put_story(&mut text, &asked, run, &worths)?;
+    Ok(text)
+}
+
+/// Appends that there is no such job.
+fn put_unknown(text: &mut Vec<u8>, number: u32, count: u64) -> Result<(), Memory>
+    ensures { OnOk result (text.new.items ≡ text.old.items ++ story.unknown number count) }
+{
+    put_job(text, b"no job ", number)?;
+    put(text, b" among ", count)?;
+    text.extend_from_slice(b"\n")?;
+    Ok(())
+}
+
+/// Appends the numbers of the job.
+fn put_asked(text: &mut Vec<u8>, number: u32, job: &Job) -> Result<(), Memory>
+    ensures { OnOk result (text.new.items ≡ text.old.items ++ story.asked number job.now) }
+{
+    put_job(text, b"job ", number)?;
+    put(text, b": release ", job.release())?;
+    put(text, b", work ", job.work())?;
+    put(text, b", deadline ", job.deadline())?;
+    put(text, b", value ", job.value())?;
+    text.extend_from_slice(b"\n")?;
+    Ok(())
+}
+
+/// Appends what these steps mean for the job, each with what the jobs under way are worth before it.
+fn put_story(text: &mut Vec<u8>, asked: &Asked, run: &[Event], worths: &[u64]) -> Result<(), Memory>
+    requires same { length worths.now ≡ length run.now }
+    requires value { asked.now.value ≤ most_value }
+    requires small { AllByRecursion (λ worth. worth ≤ most_total) worths.now }
+    ensures { OnOk result (text.new.items ≡ text.old.items
+        ++ story.story_from asked.now.k asked.now.number asked.now.value false (zip run.now worths.now)) }
+{
+    let mut on = false;
+    for (index, event) in run.iter().enumerate() {
+        put_told(text, asked, on, event, worths[index])?;
+        on = is_on_after(asked.number, on, event);
+    }
+    Ok(())
+}
+
+/// Whether the job runs or is held after a step.
+fn is_on_after(number: u32, on: bool, event: &Event) -> bool
+    ensures { result ≡ story.on_after number on event.now }
+{
+    match event {
+        Event::Run { number: other, .. } => on || *other == number,
+        Event::Preempt { starts, .. } => on || *starts == number,
+        Event::Take { starts, .. } => *starts == number,
+        Event::Complete { number: other, .. } => on && *other != number,
+        _ => on,
+    }
+}
+
+/// Appends what a step means for the job, which runs or is held where `on` is true.
+fn put_told(
+    text: &mut Vec<u8>,
+    asked: &Asked,
+    on: bool,
+    event: &Event,
+    worth: u64,
+) -> Result<(), Memory>
+    requires value { asked.now.value ≤ most_value }
+    requires worth { worth ≤ most_total }
+    ensures { OnOk result (text.new.items
+        ≡ text.old.items ++ story.told asked.now.k asked.now.number asked.now.value on worth event.now) }
+{
+    match *event {
+        Event::Run { at, number } => put_own(text, number == asked.number, at, b" it runs\n"),
+        Event::Preempt { at, stops, starts } => put_preempted(
+            text,
+            asked.number,
+            at,
+            stops,
+            starts,
+        ),
+        Event::Take { at, stops, starts } => put_taken(text, asked, on, at, stops, starts, worth),
+        Event::Complete { at, number } => put_own(
+            text,
+            number == asked.number,
+            at,
+            b" it is completed\n",
+        ),
+        Event::Abandon { at, number } => put_gone(text, asked, at, number, worth),
+        Event::Release { .. } => Ok(()),
+        Event::End { .. } => Ok(()),
+    }
+}
+
+/// Appends words at a tick, where the step is the job's own.
+fn put_own(text: &mut Vec<u8>, mine: bool, at: u64, words: &[u8]) -> Result<(), Memory>
+    ensures { OnOk result (text.new.items ≡ text.old.items ++ story.own mine at words.now) }
+{
+    if mine {
+        put_stamped(text, at, words)?;
+    }
+    Ok(())
+}
+
+/// Appends what a preemption means for the job of this number.
+fn put_preempted(
+    text: &mut Vec<u8>,
+    number: u32,
+    at: u64,
+    stops: u32,
+    starts: u32,
+) -> Result<(), Memory>
+    ensures { OnOk result (text.new.items ≡ text.old.items ++ story.preempted number at stops starts) }
+{
+    if starts == number {
+        return put_stamped_with(text, at, b" it preempts", stops, b", which is due later\n");
+    }
+    if stops == number {
+        return put_stamped_with(
+            text,
+            at,
+            b" it is preempted by",
+            starts,
+            b", which is due earlier\n",
+        );
+    }
+    Ok(())
+}
+
+/// Appends what a take means for the job, which runs or is held where `on` is true.
+fn put_taken(
+    text: &mut Vec<u8>,
+    asked: &Asked,
+    on: bool,
+    at: u64,
+    stops: u32,
+    starts: u32,
+    worth: u64,
+) -> Result<(), Memory>
+    requires value { asked.now.value ≤ most_value }
+    requires worth { worth ≤ most_total }
+    ensures { OnOk result (text.new.items
+        ≡ text.old.items ++ story.taken asked.now.k asked.now.number asked.now.value on at stops starts worth) }
+{
+    if starts == asked.number {
+        return put_takes(text, asked, at, stops, worth);
+    }
+    if on {
+        return put_stamped_with(text, at, b" it is displaced by", starts, b"\n");
+    }
+    Ok(())
+}
+
+/// Appends that at this tick the job takes the processor.
+fn put_takes(
+    text: &mut Vec<u8>,
+    asked: &Asked,
+    at: u64,
+    stops: u32,
+    worth: u64,
+) -> Result<(), Memory>
+    requires value { asked.now.value ≤ most_value }
+    requires worth { worth ≤ most_total }
+    ensures { OnOk result (text.new.items ≡ text.old.items ++ story.takes asked.now.k asked.now.value at stops worth) }
+{
+    put_stamped_with(text, at, b" it takes the processor from", stops, b"")?;
+    put_tested(text, asked, worth, b" above")?;
+    Ok(())
+}
+
+/// Appends what an abandonment means for the job.
+fn put_gone(
+    text: &mut Vec<u8>,
+    asked: &Asked,
+    at: u64,
+    number: u32,
+    worth: u64,
+) -> Result<(), Memory>
+    requires value { asked.now.value ≤ most_value }
+    requires worth { worth ≤ most_total }
+    ensures { OnOk result (text.new.items
+        ≡ text.old.items ++ story.gone asked.now.k asked.now.number asked.now.value at number worth) }
+{
+    if number == asked.number {
+        return put_goes(text, asked, at, worth);
+    }
+    Ok(())
+}
+
+/// Appends that at this tick the job is abandoned.
+fn put_goes(text: &mut Vec<u8>, asked: &Asked, at: u64, worth: u64) -> Result<(), Memory>
+    requires value { asked.now.value ≤ most_value }
+    requires worth { worth ≤ most_total }
+    ensures { OnOk result (text.new.items ≡ text.old.items ++ story.goes asked.now.k asked.now.value at worth) }
+{
+    put_stamped(text, at, b" it is abandoned")?;
+    put_tested(text, asked, worth, b" not above")?;
+    Ok(())
+}
+
+/// Appends words at a tick.
+fn put_stamped(text: &mut Vec<u8>, at: u64, words: &[u8]) -> Result<(), Memory>
+    ensures { OnOk result (text.new.items ≡ text.old.items ++ story.stamped at words.now) }
+{
+    put(text, b"at ", at)?;
+    text.extend_from_slice(words)?;
+    Ok(())
+}
+
+/// Appends words at a tick, and another job.
+fn put_stamped_with(
+    text: &mut Vec<u8>,
+    at: u64,
+    words: &[u8],
+    other: u32,
+    rest: &[u8],
+) -> Result<(), Memory>
+    ensures { OnOk result (text.new.items ≡ text.old.items ++ story.stamped_with at words.now other rest.now) }
+{
+    put_stamped(text, at, words)?;
+    put_job(text, b" job ", other)?;
+    text.extend_from_slice(rest)?;
+    Ok(())
+}
+
+/// Appends the test of its value against that of the jobs under way.
+fn put_tested(text: &mut Vec<u8>, asked: &Asked, worth: u64, answer: &[u8]) -> Result<(), Memory>
+    requires value { asked.now.value ≤ most_value }
+    requires worth { worth ≤ most_total }
+    ensures { OnOk result (text.new.items
+        ≡ text.old.items ++ story.tested asked.now.k asked.now.value worth answer.now) }
+{
+    put(text, b", its value ", asked.value)?;
+    put(text, b" against ", worth)?;
+    put_over(text, asked.k, asked.value, worth)?;
+    text.extend_from_slice(answer)?;
+    put_under(text, asked.k, worth)?;
+    put(text, b"; heavy from ", least_heavy(worth, asked.k))?;
+    text.extend_from_slice(b" on\n")?;
+    Ok(())
+}
+
+/// Appends the side of the value.
+fn put_over(text: &mut Vec<u8>, k: Ratio, value: u64, worth: u64) -> Result<(), Memory>
+    requires { value ≤ most_value }
+    ensures { OnOk result (text.new.items ≡ text.old.items ++ story.over k value worth) }
+{
+    let more = value.saturating_sub(worth);
+    put_job(text, b" under way: ", k.q())?;
+    put(text, b" * ", more)?;
+    put_wide(text, b"^2 = ", times_square(k.q(), more))?;
+    Ok(())
+}
+
+/// Appends the side of the jobs under way.
+fn put_under(text: &mut Vec<u8>, k: Ratio, worth: u64) -> Result<(), Memory>
+    requires { worth ≤ most_total }
+    ensures { OnOk result (text.new.items ≡ text.old.items ++ story.under k worth) }
+{
+    put_job(text, b" ", k.p())?;
+    put(text, b" * ", worth)?;
+    put_wide(text, b"^2 = ", times_square(k.p(), worth))?;
+    Ok(())
+}
+
+/// A part of a ratio times a square.
+fn times_square(part: u32, value: u64) -> u128
+    requires part { part ≤ 1_000_000 }
+    requires value { value ≤ most_total }
+    ensures { result ≡ part * value * value }
+{
+    let value = u128::from(value);
+    u128::from(part) * value * value
+}
