@@ -1,0 +1,23 @@
+use Rattle.dover_c.proofs.Programs.{numbers, settled_given, ended_given, given_append, within_given, honest_given, underload_given}
+use Rattle.dover_c.proofs.laws.a_program_is_given_one_run.Goals as goal
+
+pub returns-clause-numbers : goal.returns-clause-numbers
+returns-clause-numbers c = numbers
+
+pub returns-clause-settled : goal.returns-clause-settled
+returns-clause-settled c = settled_given
+
+pub returns-clause-ended : goal.returns-clause-ended
+returns-clause-ended c = ended_given
+
+pub returns-clause-online : goal.returns-clause-online
+returns-clause-online c = given_append
+
+pub returns-clause-within : goal.returns-clause-within
+returns-clause-within c = λ version p q capacity acts t s program. within_given version p q capacity acts t program s
+
+pub returns-clause-honest : goal.returns-clause-honest
+returns-clause-honest c = honest_given
+
+pub returns-clause-underload : goal.returns-clause-underload
+returns-clause-underload c = underload_given

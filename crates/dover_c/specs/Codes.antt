@@ -1,0 +1,163 @@
+-- What the numbers say that go to a caller in C.
+use Rattle.std.specs.Prelude.{◌≡◌, ℕ, ◌+◌, ◌≤◌, true, false, Option, Some, None, not, ◌||◌, ◌&&◌, ◌==◌, nat_lt, if◌then◌else◌, Result, Ok, Err}
+use Rattle.dover_model.specs.Limits.{most_jobs}
+use Rattle.dover_model.specs.Fraction.{is_ratio, IsRatio}
+use Rattle.dover_model.specs.declared.events.Version.{Version}
+use Rattle.dover_model.specs.declared.events.Version.TheVariants.{One, Two}
+use Rattle.dover_model.specs.JobFacts.{JobFacts}
+use Rattle.dover_core.specs.declared.horizon.Horizon.TheVariants as horizon
+use Rattle.dover_core.specs.Service.{MayFollow}
+use Rattle.admission.specs.declared.refused.Refused.TheVariants as refused
+use Rattle.dover_engine.specs.declared.causes.NotAdmitted.{NotAdmitted}
+use Rattle.dover_engine.specs.declared.causes.NotAdmitted.TheVariants.{Unsettled, Refused, Full}
+use Rattle.dover_engine.specs.declared.causes.NotMade.{NotMade}
+use Rattle.dover_engine.specs.declared.causes.NotMade.TheVariants as not_made
+use Rattle.dover_engine.specs.declared.causes.NotStepped.{NotStepped}
+use Rattle.dover_engine.specs.declared.causes.NotStepped.TheVariants as not_stepped
+use Rattle.dover_engine.specs.declared.decision.Decision.{Decision}
+use Rattle.dover_engine.specs.declared.decision.Decision.TheVariants.{Release, Run, Preempt, Take, Complete, Abandon, End}
+use Rattle.dover_engine.specs.Life.{Life, fresh_life, done_value, is_at_rest, is_countable, renewed_life}
+use Rattle.dover_engine.specs.Calls.{IsAdmitted, IsCause, Decides, mark_refusal}
+use Rattle.dover_c.specs.declared.Admitted.{Admitted}
+use Rattle.dover_c.specs.declared.Decided.{Decided}
+use Rattle.dover_c.specs.declared.slot.Slot.{Slot}
+
+-- ---- making
+
+-- the number of a cause
+abbrev pub made_code : NotMade → ℕ
+made_code not_made.Capacity = 2
+made_code not_made.Memory = 3
+
+-- why no engine was made: the first of the limits that is broken, and 3 for want of memory where none is
+abbrev pub status_of : (p q version capacity : ℕ) → ℕ
+status_of p q version capacity =
+    if not ((version == 1) || (version == 2)) then 4
+    else if not (is_ratio (record { p = p; q = q })) then 1
+    else if nat_lt most_jobs capacity then 2 else 3
+
+-- the number of a version
+abbrev pub version_number : Version → ℕ
+version_number One = 1
+version_number Two = 2
+
+-- an engine of this ratio and version, with no jobs and room for so many
+pub record IsFresh (p q version capacity : ℕ) (v : Life) : Type 0 where
+  pub which : Version
+  pub version_is : version ≡ version_number which
+  pub ratio : IsRatio (record { p = p; q = q })
+  pub fresh : v ≡ fresh_life which (record { p = p; q = q }) v.service.spare
+  pub room : capacity ≤ v.service.spare
+
+-- status 0 stands by an engine as it was asked for, and with none the status says why
+abbrev pub Stands : (p q version capacity : ℕ) → (status : ℕ) → Option Life → Type 0
+Stands p q version capacity status None = status ≡ status_of p q version capacity
+Stands p q version capacity status (Some v) = (status ≡ 0) × IsFresh p q version capacity v
+
+abbrev pub IsMade : (p q version capacity : ℕ) → Slot → Type 0
+IsMade p q version capacity s = Stands p q version capacity s.status s.engine
+
+-- the status stands there, and nothing changed
+abbrev pub StatusAnswers : Slot → Slot → ℕ → Type 0
+StatusAnswers s t answer = (answer ≡ s.status) × (t ≡ s)
+
+-- ---- a call of an engine, where there is one
+
+-- with no engine the place stays as it is, and else an engine is left there that the call says this of
+abbrev pub CallsOn : Option Life → Slot → Slot → (none : Type 0) → (Life → Life → Type 0) → Type 0
+CallsOn None s t none Says = none × (t ≡ s)
+CallsOn (Some v) s t none Says = (w : Life) × (t ≡ record s { engine = Some w }) × Says v w
+
+abbrev pub Calls : Slot → Slot → (none : Type 0) → (Life → Life → Type 0) → Type 0
+Calls s t none Says = CallsOn s.engine s t none Says
+
+-- ---- jobs
+
+-- the number of a cause
+abbrev pub cause_code : NotAdmitted → ℕ
+cause_code Unsettled = 1
+cause_code (Refused refused.BadJob) = 2
+cause_code (Refused refused.Count) = 3
+cause_code (Refused refused.Total) = 4
+cause_code (Refused (refused.Ratio other)) = 5
+cause_code Full = 6
+
+-- it wasn't admitted, for this cause, and nothing changed
+pub record IsRefused (v w : Life) (job : JobFacts) (code : ℕ) : Type 0 where
+  pub cause : NotAdmitted
+  pub code_is : code ≡ cause_code cause
+  pub holds : IsCause v.service job cause
+  pub same : w ≡ v
+
+-- what the answer to a job says
+pub record Admits (job : JobFacts) (answer : Admitted) (v w : Life) : Type 0 where
+  pub ok : answer.status ≡ 0 → IsAdmitted v w job answer.number
+  pub refused : (answer.status ≡ 0 → ⊥) → IsRefused v w job answer.status
+
+abbrev pub AdmitAnswers : Slot → Slot → JobFacts → Admitted → Type 0
+AdmitAnswers s t job answer = Calls s t (answer.status ≡ 7) (Admits job answer)
+
+-- ---- steps
+
+-- an answer as a caller in C sees it
+abbrev pub numbers_of : Option Decision → Decided
+numbers_of None = record { tick = 0; job = 0; other = 0; kind = 0 }
+numbers_of (Some (Release n job)) = record { tick = job.release; job = n; other = 0; kind = 1 }
+numbers_of (Some (Run at n)) = record { tick = at; job = n; other = 0; kind = 2 }
+numbers_of (Some (Preempt at stops starts)) = record { tick = at; job = starts; other = stops; kind = 3 }
+numbers_of (Some (Take at stops starts)) = record { tick = at; job = starts; other = stops; kind = 4 }
+numbers_of (Some (Complete at n)) = record { tick = at; job = n; other = 0; kind = 5 }
+numbers_of (Some (Abandon at n)) = record { tick = at; job = n; other = 0; kind = 6 }
+numbers_of (Some (End value)) = record { tick = value; job = 0; other = 0; kind = 7 }
+
+-- the number of a cause
+abbrev pub mark_code : NotStepped → ℕ
+mark_code not_stepped.Falls = 8
+mark_code not_stepped.Late = 9
+mark_code not_stepped.Finished = 10
+
+-- what the engine says of a step to a mark
+abbrev pub IsStepOf : ℕ → Life → Life → Result (Option Decision) NotStepped → Type 0
+IsStepOf mark v w (Ok answer) = MayFollow v.service.last (horizon.Mark mark) × Decides (horizon.Mark mark) v w answer
+IsStepOf mark v w (Err cause) = (mark_refusal v.service.last mark ≡ Some cause) × (w ≡ v)
+
+-- the answer to a step to a mark: a decision, none, or why no step was taken
+pub record Steps (mark : ℕ) (answer : Decided) (v w : Life) : Type 0 where
+  pub says : Result (Option Decision) NotStepped
+  pub step : IsStepOf mark v w says
+  pub shown : answer ≡ elim says [
+    | Ok decision ↦ numbers_of decision
+    | Err cause ↦ record { tick = 0; job = 0; other = 0; kind = mark_code cause }
+  ]
+
+abbrev pub StepAnswers : ℕ → Slot → Slot → Decided → Type 0
+StepAnswers mark s t answer = Calls s t (answer.kind ≡ 11) (Steps mark answer)
+
+-- the answer to a step to the end: a decision or none
+pub record Finishes (answer : Decided) (v w : Life) : Type 0 where
+  pub says : Option Decision
+  pub step : Decides horizon.End v w says
+  pub shown : answer ≡ numbers_of says
+
+abbrev pub FinishAnswers : Slot → Slot → Decided → Type 0
+FinishAnswers s t answer = Calls s t (answer.kind ≡ 11) (Finishes answer)
+
+-- ---- renewing
+
+-- 1 where all jobs are forgotten, which is where all are over, and else 0
+pub record Renews (answer : ℕ) (v w : Life) : Type 0 where
+  pub yes : (is_countable v && is_at_rest v) ≡ true → (answer ≡ 1) × (w ≡ renewed_life v)
+  pub no : (is_countable v && is_at_rest v) ≡ false → (answer ≡ 0) × (w ≡ v)
+
+abbrev pub RenewAnswers : Slot → Slot → ℕ → Type 0
+RenewAnswers s t answer = Calls s t (answer ≡ 0) (Renews answer)
+
+-- ---- questions
+
+-- the value of all jobs that completed is told, and nothing changed
+abbrev pub ValueAnswers : Slot → Slot → ℕ → Type 0
+ValueAnswers s t answer = Calls s t (answer ≡ 0) (λ v w. (answer ≡ v.earned + done_value v) × (w ≡ v))
+
+-- for how many jobs there is room is told, and nothing changed
+abbrev pub RoomAnswers : Slot → Slot → ℕ → Type 0
+RoomAnswers s t answer = Calls s t (answer ≡ 0) (λ v w. (answer ≡ v.service.spare) × (w ≡ v))

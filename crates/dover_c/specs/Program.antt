@@ -1,0 +1,83 @@
+-- What a program in C does with an engine, and what it is given.
+use Rattle.std.specs.Prelude.{◌≡◌, ℕ, List, [], ◌∷◌, map, Bool, ◌&&◌, ◌==◌, nat_le, if◌then◌else◌}
+use Rattle.std.specs.List.{filter}
+use Rattle.dover_model.specs.declared.events.Event.{Event}
+use Rattle.dover_model.specs.declared.events.Event.TheVariants.{Release, Run, Preempt, Take, Complete, Abandon, End}
+use Rattle.dover_model.specs.declared.events.Version.{Version}
+use Rattle.dover_model.specs.JobFacts.{JobFacts}
+use Rattle.dover_model.specs.Instance.{Instance}
+use Rattle.dover_c.specs.declared.Admitted.{Admitted}
+use Rattle.dover_c.specs.declared.Decided.{Decided}
+use Rattle.dover_c.specs.declared.slot.Slot.{Slot}
+use Rattle.dover_c.specs.Codes.{version_number, IsMade, AdmitAnswers, StepAnswers, FinishAnswers, RenewAnswers}
+
+-- a call between dover_init and dover_drop, with its answer
+pub data Act : Type 0 where
+  Admit : JobFacts → Admitted → Act
+  Step : ℕ → Decided → Act
+  Finish : Decided → Act
+  Renew : ℕ → Act
+  Ask : Act  -- for the status, the value or the room
+
+-- it leads from s to t
+abbrev pub Does : Act → Slot → Slot → Type 0
+Does (Admit job answer) s t = AdmitAnswers s t job answer
+Does (Step mark answer) s t = StepAnswers mark s t answer
+Does (Finish answer) s t = FinishAnswers s t answer
+Does (Renew answer) s t = RenewAnswers s t answer
+Does Ask s t = t ≡ s
+
+-- these lead from s to t, one after another
+abbrev pub DoesAll : List Act → Slot → Slot → Type 0
+DoesAll [] s t = t ≡ s
+DoesAll (act ∷ acts) s t = (u : Slot) × Does act s u × DoesAll acts u t
+
+-- an engine was made, and the program did this with it, whatever and in whatever order
+pub record IsProgram (version : Version) (p q capacity : ℕ) (acts : List Act) (t : Slot) : Type 0 where
+  pub made : Slot
+  pub is_made : IsMade p q (version_number version) capacity made
+  pub status : made.status ≡ 0
+  pub does : DoesAll acts made t
+
+-- the jobs that it was told were admitted, with the numbers that it was told
+abbrev pub told : List Act → List (ℕ × JobFacts)
+told [] = []
+told (Admit job answer ∷ acts) = if answer.status == 0 then (answer.number, job) ∷ told acts else told acts
+told (Step mark answer ∷ acts) = told acts
+told (Finish answer ∷ acts) = told acts
+told (Renew answer ∷ acts) = told acts
+told (Ask ∷ acts) = told acts
+
+-- the jobs alone, and their instance
+abbrev pub jobs_told : List Act → List JobFacts
+jobs_told acts = map (λ n_j. n_j.1) (told acts)
+
+abbrev pub all_told : Version → (p q : ℕ) → List Act → Instance
+all_told version p q acts = record { rules = record { ratio = record { p = p; q = q }; version = version }; jobs = jobs_told acts }
+
+-- an answer that is a decision
+abbrev pub is_decision : Decided → Bool
+is_decision answer = nat_le 1 answer.kind && nat_le answer.kind 7
+
+-- what it was answered by dover_step and dover_finish
+abbrev pub answers : List Act → List Decided
+answers [] = []
+answers (Admit job answer ∷ acts) = answers acts
+answers (Step mark answer ∷ acts) = answer ∷ answers acts
+answers (Finish answer ∷ acts) = answer ∷ answers acts
+answers (Renew answer ∷ acts) = answers acts
+answers (Ask ∷ acts) = answers acts
+
+-- the decisions that it was given
+abbrev pub given : List Act → List Decided
+given acts = filter is_decision (answers acts)
+
+-- an event in numbers
+abbrev pub shown : Event → Decided
+shown (Release n job) = record { tick = job.release; job = n; other = 0; kind = 1 }
+shown (Run at n) = record { tick = at; job = n; other = 0; kind = 2 }
+shown (Preempt at stops starts) = record { tick = at; job = starts; other = stops; kind = 3 }
+shown (Take at stops starts) = record { tick = at; job = starts; other = stops; kind = 4 }
+shown (Complete at n) = record { tick = at; job = n; other = 0; kind = 5 }
+shown (Abandon at n) = record { tick = at; job = n; other = 0; kind = 6 }
+shown (End value) = record { tick = value; job = 0; other = 0; kind = 7 }

@@ -1,0 +1,156 @@
+//! The engine for a program in C. A program hands in the address of a place of `dover_size` bytes, which holds an engine from
+//! `dover_init` to `dover_drop`, and is neither read nor written by it between the two.
+#![tactic(auto)]
+
+pub mod laws;
+mod slot;
+
+ghost use Rattle.std.specs.Prelude.{ℕ};
+ghost use types.Logic.{sem};
+ghost use base.Fraction.{full_share};
+ghost use denote.RawPtr.{lies_at, room_at};
+ghost use Rattle.dover_model.specs.JobFacts.{job_of_numbers};
+ghost use Rattle.dover_c.specs.declared.slot.Slot.{Slot};
+ghost use Rattle.dover_c.specs.contracts.slot.Slot.{the_row};
+ghost use Rattle.dover_c.specs.Codes.{IsMade, AdmitAnswers, StepAnswers, FinishAnswers, RenewAnswers, StatusAnswers, ValueAnswers, RoomAnswers};
+ghost use Rattle.dover_c.specs.Places.{after_at};
+
+use crate::slot::Slot;
+use std::alloc::Global;
+use std::rt::Memory;
+
+/// A place for an engine, as C sees it: only by its address.
+#[repr(C)]
+#[derive(Drop)]
+pub struct Place {
+    byte: u8,
+}
+
+/// The answer to a job: status 0 and its number, or why it wasn't admitted.
+#[repr(C)]
+#[derive(Clone, Copy)]
+pub struct Admitted {
+    pub number: u64,
+    pub status: u32,
+}
+
+/// A decision: its tick, or the value at the end; its job; the job that it stops; and its kind, which also says why there is none.
+#[repr(C)]
+#[derive(Clone, Copy)]
+pub struct Decided {
+    pub tick: u64,
+    pub job: u64,
+    pub other: u64,
+    pub kind: u32,
+}
+
+/// Makes an engine of this ratio and version with room for so many jobs, and puts it at the address. `dover_status` says whether there is one.
+#[unsafe(no_mangle)]
+pub unsafe extern "C" fn dover_init(
+    alloc: Global,
+    place: *mut Place,
+    p: u32,
+    q: u32,
+    version: u32,
+    capacity: u32,
+)
+    requires* { sem 𝓛 (room_at the_row place) }
+    ensures* { sem 𝓛 (after_at place (λ made. IsMade p q version capacity made)) }
+{
+    let made = slot::make(alloc, p, q, version, capacity);
+    let at = place as *mut Slot;
+    at.write(made);
+}
+
+/// 0 where there is an engine, else why there is none.
+#[unsafe(no_mangle)]
+pub unsafe extern "C" fn dover_status(place: *mut Place) -> u32
+    ghost v: { Slot }
+    requires* { sem 𝓛 (lies_at the_row full_share place v) }
+    ensures* { sem 𝓛 (after_at place (λ w. StatusAnswers v w result)) }
+{
+    slot::status(&mut *(place as *mut Slot))
+}
+
+/// Admits the job of these numbers. No memory is taken.
+#[unsafe(no_mangle)]
+pub unsafe extern "C" fn dover_admit(
+    place: *mut Place,
+    release: u64,
+    work: u64,
+    deadline: u64,
+    value: u64,
+) -> Admitted
+    ghost v: { Slot }
+    requires* { sem 𝓛 (lies_at the_row full_share place v) }
+    ensures* { sem 𝓛 (after_at place (λ w. AdmitAnswers v w (job_of_numbers release work deadline value) result)) }
+{
+    slot::admit(&mut *(place as *mut Slot), release, work, deadline, value)
+}
+
+/// The next decision that no job can change that is released at the mark or later. No memory is taken.
+#[unsafe(no_mangle)]
+pub unsafe extern "C" fn dover_step(place: *mut Place, mark: u64, memory: Memory) -> Decided
+    ghost v: { Slot }
+    requires* { sem 𝓛 (lies_at the_row full_share place v) }
+    ensures* { sem 𝓛 (after_at place (λ w. StepAnswers mark v w result)) }
+{
+    slot::step(&mut *(place as *mut Slot), mark, memory)
+}
+
+/// The next decision, where no further job can come. No memory is taken.
+#[unsafe(no_mangle)]
+pub unsafe extern "C" fn dover_finish(place: *mut Place, memory: Memory) -> Decided
+    ghost v: { Slot }
+    requires* { sem 𝓛 (lies_at the_row full_share place v) }
+    ensures* { sem 𝓛 (after_at place (λ w. FinishAnswers v w result)) }
+{
+    slot::finish(&mut *(place as *mut Slot), memory)
+}
+
+/// Forgets all jobs, where they are over and the last step was to a mark and answered that none comes: then it is 1, and else 0. No memory is taken.
+#[unsafe(no_mangle)]
+pub unsafe extern "C" fn dover_renew(place: *mut Place) -> u32
+    ghost v: { Slot }
+    requires* { sem 𝓛 (lies_at the_row full_share place v) }
+    ensures* { sem 𝓛 (after_at place (λ w. RenewAnswers v w result)) }
+{
+    slot::renew(&mut *(place as *mut Slot))
+}
+
+/// The value of all jobs that completed.
+#[unsafe(no_mangle)]
+pub unsafe extern "C" fn dover_value(place: *mut Place) -> u64
+    ghost v: { Slot }
+    requires* { sem 𝓛 (lies_at the_row full_share place v) }
+    ensures* { sem 𝓛 (after_at place (λ w. ValueAnswers v w result)) }
+{
+    slot::value(&mut *(place as *mut Slot))
+}
+
+/// For how many further jobs there is room.
+#[unsafe(no_mangle)]
+pub unsafe extern "C" fn dover_room(place: *mut Place) -> u32
+    ghost v: { Slot }
+    requires* { sem 𝓛 (lies_at the_row full_share place v) }
+    ensures* { sem 𝓛 (after_at place (λ w. RoomAnswers v w result)) }
+{
+    slot::room(&mut *(place as *mut Slot))
+}
+
+/// Gives back the engine's memory. The place is free again.
+#[unsafe(no_mangle)]
+pub unsafe extern "C" fn dover_drop(place: *mut Place)
+    ghost v: { Slot }
+    requires* { sem 𝓛 (lies_at the_row full_share place v) }
+    ensures* { sem 𝓛 (room_at the_row place) }
+{
+    let at = place as *mut Slot;
+    slot::end(at.read());
+}
+
+/// How many bytes a place has. It lies at a multiple of 8.
+#[unsafe(no_mangle)]
+pub extern "C" fn dover_size() -> usize {
+    std::mem::size_of::<Slot>()
+}

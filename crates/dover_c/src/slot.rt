@@ -1,0 +1,215 @@
+//! An engine where one could be made, and its calls with answers in numbers.
+ghost use Rattle.std.specs.Prelude.{◌≡◌, ◌<◌};
+ghost use Rattle.dover_model.specs.JobFacts.{job_of_numbers};
+ghost use Rattle.dover_core.specs.declared.horizon.Horizon.TheVariants.{End};
+ghost use Rattle.dover_engine.specs.Calls.{Decides};
+ghost use Rattle.dover_c.specs.Codes.{IsMade, AdmitAnswers, StepAnswers, FinishAnswers, RenewAnswers, StatusAnswers, ValueAnswers, RoomAnswers};
+ghost use Rattle.dover_c.specs.Codes.{cause_code, made_code, mark_code, numbers_of, IsStepOf};
+
+use crate::{Admitted, Decided};
+use admission::Refused;
+use dover_engine::{Decision, Engine, NotAdmitted, NotMade, NotStepped};
+use dover_model::{Ratio, Version};
+use std::alloc::Global;
+use std::marker::Brand;
+use std::rt::Memory;
+use std::sync::ledger::{Blank, Ledger};
+use step_count::Steps;
+
+/// An engine, or why there is none.
+#[derive(Drop)]
+pub struct Slot {
+    status: u32,
+    engine: Option<Engine>,
+}
+
+fn made_code(cause: NotMade) -> u32
+    ensures { result ≡ made_code cause }
+{
+    match cause {
+        NotMade::Capacity => 2,
+        NotMade::Memory => 3,
+    }
+}
+
+fn none(status: u32) -> Slot
+    ensures { result ≡ record { status = status; engine = None } }
+{
+    Slot {
+        status,
+        engine: None,
+    }
+}
+
+pub(crate) fn make(alloc: Global, p: u32, q: u32, version: u32, capacity: u32) -> Slot
+    ensures { IsMade p q version capacity result }
+{
+    let version = match version {
+        1 => Version::One,
+        2 => Version::Two,
+        _ => return none(4),
+    };
+    let Some(k) = Ratio::new(p, q) else {
+        return none(1);
+    };
+    match Engine::new(alloc, version, k, capacity) {
+        Ok(engine) => Slot {
+            status: 0,
+            engine: Some(engine),
+        },
+        Err(cause) => none(made_code(cause)),
+    }
+}
+
+pub(crate) fn end(slot: Slot) {
+    let Slot { .. } = slot;
+}
+
+pub(crate) fn status(slot: &mut Slot) -> u32
+    ensures { StatusAnswers slot.old slot.new result }
+{
+    slot.status
+}
+
+fn cause_code(cause: NotAdmitted) -> u32
+    ensures { result ≡ cause_code cause }
+{
+    match cause {
+        NotAdmitted::Unsettled => 1,
+        NotAdmitted::Refused(Refused::BadJob) => 2,
+        NotAdmitted::Refused(Refused::Count) => 3,
+        NotAdmitted::Refused(Refused::Total) => 4,
+        NotAdmitted::Refused(Refused::Ratio { .. }) => 5,
+        NotAdmitted::Full => 6,
+    }
+}
+
+pub(crate) fn admit(slot: &mut Slot, release: u64, work: u64, deadline: u64, value: u64) -> Admitted
+    ensures { AdmitAnswers slot.old slot.new (job_of_numbers release work deadline value) result }
+{
+    let Some(engine) = &mut slot.engine else {
+        return Admitted {
+            number: 0,
+            status: 7,
+        };
+    };
+    match engine.admit(release, work, deadline, value) {
+        Ok(number) => Admitted { number, status: 0 },
+        Err(cause) => Admitted {
+            number: 0,
+            status: cause_code(cause),
+        },
+    }
+}
+
+fn numbers(kind: u32, tick: u64, job: u64, other: u64) -> Decided
+    ensures { result ≡ record { tick = tick; job = job; other = other; kind = kind } }
+{
+    Decided {
+        tick,
+        job,
+        other,
+        kind,
+    }
+}
+
+fn numbers_of(answer: &Option<Decision>) -> Decided
+    ensures { result ≡ numbers_of answer.now }
+{
+    match answer {
+        None => numbers(0, 0, 0, 0),
+        Some(Decision::Release { number, job }) => numbers(1, job.release(), *number, 0),
+        Some(Decision::Run { at, number }) => numbers(2, *at, *number, 0),
+        Some(Decision::Preempt { at, stops, starts }) => numbers(3, *at, *starts, *stops),
+        Some(Decision::Take { at, stops, starts }) => numbers(4, *at, *starts, *stops),
+        Some(Decision::Complete { at, number }) => numbers(5, *at, *number, 0),
+        Some(Decision::Abandon { at, number }) => numbers(6, *at, *number, 0),
+        Some(Decision::End { value }) => numbers(7, *value, 0, 0),
+    }
+}
+
+fn mark_code(cause: NotStepped) -> u32
+    ensures { result ≡ mark_code cause }
+{
+    match cause {
+        NotStepped::Falls => 8,
+        NotStepped::Late => 9,
+        NotStepped::Finished => 10,
+    }
+}
+
+// A step of the engine to the mark, whose comparisons nobody counts.
+fn step_to<L: Ledger>(
+    engine: &mut Engine,
+    mark: u64,
+    memory: Memory,
+    blank: Blank,
+) -> Result<Option<Decision>, NotStepped>
+    requires name { blank.name ≡ L.name }
+    requires parts { blank.parts ≡ L.parts }
+    requires some { 0 < blank.parts }
+    ensures { IsStepOf mark engine.old engine.new result }
+{
+    let mut steps = Steps::<L>::new(memory, blank);
+    engine.step(mark, &mut steps)
+}
+
+pub(crate) fn step(slot: &mut Slot, mark: u64, memory: Memory) -> Decided
+    ensures { StepAnswers mark slot.old slot.new result }
+{
+    let Some(engine) = &mut slot.engine else {
+        return numbers(11, 0, 0, 0);
+    };
+    match step_to::<Brand>(engine, mark, memory, Blank::new(1)) {
+        Ok(answer) => numbers_of(&answer),
+        Err(cause) => numbers(mark_code(cause), 0, 0, 0),
+    }
+}
+
+// A step of the engine to the end, whose comparisons nobody counts.
+fn step_to_end<L: Ledger>(engine: &mut Engine, memory: Memory, blank: Blank) -> Option<Decision>
+    requires name { blank.name ≡ L.name }
+    requires parts { blank.parts ≡ L.parts }
+    requires some { 0 < blank.parts }
+    ensures { Decides End engine.old engine.new result }
+{
+    let mut steps = Steps::<L>::new(memory, blank);
+    engine.finish(&mut steps)
+}
+
+pub(crate) fn finish(slot: &mut Slot, memory: Memory) -> Decided
+    ensures { FinishAnswers slot.old slot.new result }
+{
+    let Some(engine) = &mut slot.engine else {
+        return numbers(11, 0, 0, 0);
+    };
+    let answer = step_to_end::<Brand>(engine, memory, Blank::new(1));
+    numbers_of(&answer)
+}
+
+pub(crate) fn renew(slot: &mut Slot) -> u32
+    ensures { RenewAnswers slot.old slot.new result }
+{
+    match &mut slot.engine {
+        Some(engine) => u32::from(engine.renew()),
+        None => 0,
+    }
+}
+
+pub(crate) fn value(slot: &mut Slot) -> u64
+    ensures { ValueAnswers slot.old slot.new result }
+{
+    match &slot.engine {
+        Some(engine) => engine.value(),
+        None => 0,
+    }
+}
+
+pub(crate) fn room(slot: &mut Slot) -> u32
+    ensures { RoomAnswers slot.old slot.new result }
+{
+    match &slot.engine {
+        Some(engine) => engine.spare(),
+        None => 0,
+    }
+}

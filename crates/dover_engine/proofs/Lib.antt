@@ -1,0 +1,4 @@
+mod Keeping
+mod Giving
+pub mod Lives
+pub mod LifeLaws

@@ -1,0 +1,14 @@
+use Rattle.dover_engine.proofs.LifeLaws.{within_all, honest_all, underload_all, value_all}
+use Rattle.dover_engine.proofs.laws.a_life_is_worth_enough.Goals as goal
+
+pub returns-clause-within : goal.returns-clause-within
+returns-clause-within c = λ version k calls w s life. within_all version k calls w life s
+
+pub returns-clause-honest : goal.returns-clause-honest
+returns-clause-honest c = honest_all
+
+pub returns-clause-underload : goal.returns-clause-underload
+returns-clause-underload c = underload_all
+
+pub returns-clause-value : goal.returns-clause-value
+returns-clause-value c = value_all

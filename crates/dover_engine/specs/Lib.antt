@@ -1,0 +1,5 @@
+pub mod Decisions
+pub mod Life
+pub mod Given
+pub mod Kept
+pub mod Calls

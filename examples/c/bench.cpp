@@ -1,0 +1,150 @@
+// Nanoseconds of dover_admit and dover_step with jobs waiting, and of a take over held jobs, beside a heap of the C++
+// library that does earliest deadline first on the same jobs. Prints the median, the 99.9% point and the greatest.
+#include <algorithm>
+#include <chrono>
+#include <cinttypes>
+#include <cstdio>
+#include <cstdlib>
+#include <queue>
+#include <random>
+#include <vector>
+#include "dover.h"
+
+static unsigned long taken; // calls for memory of C
+extern "C" {
+void *__real_malloc(size_t);
+void *__real_realloc(void *, size_t);
+void *__wrap_malloc(size_t n);
+void *__wrap_realloc(void *p, size_t n);
+void *__wrap_malloc(size_t n) { taken++; return __real_malloc(n); }
+void *__wrap_realloc(void *p, size_t n) { taken++; return __real_realloc(p, n); }
+}
+
+using Clock = std::chrono::steady_clock;
+static uint64_t nanoseconds() {
+    auto since = Clock::now().time_since_epoch();
+    return static_cast<uint64_t>(std::chrono::duration_cast<std::chrono::nanoseconds>(since).count());
+}
+
+static uint64_t overhead; // of a look at the clock
+
+struct Times {
+    std::vector<uint32_t> all;
+    Times() { all.reserve(4000000); }
+    void add(uint64_t from) {
+        uint64_t t = nanoseconds() - from;
+        all.push_back(static_cast<uint32_t>(t > overhead ? t - overhead : 0));
+    }
+    void show(const char *name, uint64_t waiting) {
+        if (all.empty()) return;
+        std::sort(all.begin(), all.end());
+        size_t n = all.size();
+        std::printf("%-22s %8" PRIu64 " %9zu %8" PRIu32 " %8" PRIu32 " %10" PRIu32 "\n", name, waiting, n, all[n / 2],
+                    all[n * 999 / 1000], all[n - 1]);
+        all.clear();
+    }
+};
+
+static Times admits, decisions, nones, takes, pushes, pops;
+static dover engine;
+
+[[noreturn]] static void fail(const char *what, uint32_t code) {
+    std::fprintf(stderr, "bench: %s %" PRIu32 "\n", what, code);
+    std::exit(1);
+}
+
+static void settle(uint64_t mark) {
+    for (;;) {
+        uint64_t from = nanoseconds();
+        dover_decision d = dover_step(&engine, mark);
+        if (d.kind == DOVER_NONE) return nones.add(from);
+        if (d.kind > DOVER_END) fail("kind", d.kind);
+        (d.kind == DOVER_TAKE ? takes : decisions).add(from);
+    }
+}
+
+static void admit(uint64_t release, uint64_t work, uint64_t deadline, uint64_t value) {
+    settle(release);
+    uint64_t from = nanoseconds();
+    dover_admitted a = dover_admit(&engine, release, work, deadline, value);
+    admits.add(from);
+    if (a.status != DOVER_ADMITTED) fail("status", a.status);
+    settle(release);
+}
+
+static void start() {
+    dover_init(&engine, 1000, 1, 1, 1000000);
+    if (dover_status(&engine) != DOVER_MADE) fail("no engine", dover_status(&engine));
+}
+
+static void forget() { admits.all.clear(), decisions.all.clear(), nones.all.clear(), takes.all.clear(); }
+
+struct Job {
+    uint64_t deadline, work, number;
+    bool operator<(const Job &other) const { return deadline > other.deadline; }
+};
+
+// So many wait; every ten ticks one comes and one is served.
+static void steady(uint64_t waiting, uint64_t rounds) {
+    std::mt19937_64 random(1);
+    std::vector<Job> jobs;
+    for (uint64_t i = 0; i < waiting + rounds; i++) jobs.push_back({1000000000 + random() % 1000000000, 10, i});
+    start();
+    unsigned long before = taken;
+    for (uint64_t i = 0; i < waiting; i++) admit(0, 10, jobs[i].deadline, 10 + i % 1000);
+    forget();
+    for (uint64_t i = 0; i < rounds; i++) admit(10 * (i + 1), 10, jobs[waiting + i].deadline, 10 + i % 1000);
+    if (taken != before) fail("calls for memory", static_cast<uint32_t>(taken - before));
+    admits.show("dover_admit", waiting);
+    decisions.show("dover_step, decision", waiting);
+    nones.show("dover_step, none", waiting);
+    forget();
+    dover_drop(&engine);
+    std::priority_queue<Job> heap; // earliest deadline first: the one of earliest deadline runs for ten ticks
+    for (uint64_t i = 0; i < waiting; i++) heap.push(jobs[i]);
+    uint64_t sum = 0;
+    for (uint64_t i = 0; i < rounds; i++) {
+        uint64_t from = nanoseconds();
+        heap.push(jobs[waiting + i]);
+        pushes.add(from);
+        from = nanoseconds();
+        sum += heap.top().number;
+        heap.pop();
+        pops.add(from);
+    }
+    if (sum == 1) std::puts("");
+    pushes.show("heap, push", waiting);
+    pops.show("heap, top and pop", waiting);
+}
+
+// So many are held when one that is worth more than all comes at its latest start.
+static void take(uint64_t held, int times) {
+    for (int i = 0; i < times; i++) {
+        start();
+        uint64_t due = 30 * held + 3000000, left = due - 10 * held - 500;
+        admit(0, left, due, left);
+        for (uint64_t j = 1; j <= held; j++) admit(j, 10, due - j, 10);
+        uint64_t t = held + 1;
+        admit(t, 1000000, t + 1000000, 1000000000);
+        settle(t + 1);
+        dover_drop(&engine);
+    }
+    if (takes.all.size() != static_cast<size_t>(times)) fail("takes", static_cast<uint32_t>(takes.all.size()));
+    takes.show("dover_step, a take", held);
+    forget();
+}
+
+int main(int words, char **) {
+    overhead = 1000;
+    for (int i = 0; i < 10000; i++) {
+        uint64_t from = nanoseconds(), to = nanoseconds();
+        overhead = std::min(overhead, to - from);
+    }
+    uint64_t rounds = words > 1 ? 2000 : 200000; // any word: a short run, to see that it runs
+    std::printf("%-22s %8s %9s %8s %8s %10s   (ns)\n", "call", "jobs", "calls", "median", "99.9%", "greatest");
+    for (uint64_t waiting : {10, 1000, 100000}) steady(waiting, rounds);
+    take(10, words > 1 ? 3 : 1000);
+    take(1000, words > 1 ? 3 : 200);
+    if (words == 1) take(100000, 20);
+    return 0;
+}

@@ -1,0 +1,155 @@
+/* Each cause of each call, renewals, two engines, and no memory after dover_init. Prints a line for each row that
+   fails, and ends with 0 where none does. */
+#include <stdio.h>
+#include <string.h>
+#include "dover.h"
+
+static unsigned long taken; /* calls for memory */
+void *__real_malloc(size_t);
+void *__real_realloc(void *, size_t);
+void *__wrap_malloc(size_t n);
+void *__wrap_realloc(void *p, size_t n);
+void *__wrap_malloc(size_t n) { taken++; return __real_malloc(n); }
+void *__wrap_realloc(void *p, size_t n) { taken++; return __real_realloc(p, n); }
+
+static dover a, b;
+static int rows, failed;
+#define ROW(holds) do { rows++; if (!(holds)) { failed++; printf("calls.c:%d: " #holds "\n", __LINE__); } } while (0)
+
+static uint32_t status_of(uint32_t p, uint32_t q, uint32_t version, uint32_t capacity) {
+    dover_init(&b, p, q, version, capacity);
+    uint32_t status = dover_status(&b);
+    dover_drop(&b);
+    return status;
+}
+static uint32_t settle(dover *d, uint64_t mark) {
+    dover_decision e;
+    while ((e = dover_step(d, mark)).kind != DOVER_NONE && e.kind <= DOVER_END) {}
+    return e.kind;
+}
+static uint32_t admit(dover *d, uint64_t r, uint64_t c, uint64_t dl, uint64_t v) {
+    return dover_admit(d, r, c, dl, v).status;
+}
+
+static void making(void) {
+    const uint64_t big = UINT64_C(1) << 63;
+    ROW(status_of(1, 1, 0, 10) == DOVER_BAD_VERSION);
+    ROW(status_of(1, 1, 3, 10) == DOVER_BAD_VERSION);
+    ROW(status_of(1, 2, 1, 10) == DOVER_BAD_RATIO);
+    ROW(status_of(1, 0, 1, 10) == DOVER_BAD_RATIO);
+    ROW(status_of(1000001, 1, 1, 10) == DOVER_BAD_RATIO);
+    ROW(status_of(UINT32_MAX, UINT32_MAX, 2, 10) == DOVER_BAD_RATIO);
+    ROW(status_of(1, 1, 1, 1000001) == DOVER_BAD_CAPACITY);
+    ROW(status_of(1, 1, 1, UINT32_MAX) == DOVER_BAD_CAPACITY);
+    ROW(status_of(1, 1, 1, 0) == DOVER_MADE);
+    ROW(status_of(1000000, 1, 2, 1000000) == DOVER_MADE);
+    dover_init(&b, 0, 0, 1, 10); /* no engine */
+    ROW(admit(&b, 0, 1, 1, 1) == DOVER_NOT_MADE && dover_step(&b, 0).kind == DOVER_NO_ENGINE &&
+        dover_finish(&b).kind == DOVER_NO_ENGINE);
+    ROW(dover_renew(&b) == 0 && dover_value(&b) == 0 && dover_room(&b) == 0 &&
+        dover_step(&b, big).kind == DOVER_NO_ENGINE);
+    dover_drop(&b);
+}
+
+static void one_by_one(void) {
+    const uint64_t big = UINT64_C(1) << 63, last = UINT64_C(1000000000000);
+    dover_init(&a, 2, 1, 1, 3);
+    dover_init(&b, 2, 1, 1, 0);
+    unsigned long before = taken;
+    ROW(dover_room(&a) == 3 && dover_room(&b) == 0);
+    ROW(admit(&a, 0, 2, 2, 2) == DOVER_UNSETTLED);
+    ROW(settle(&a, 0) == DOVER_NONE && settle(&b, 0) == DOVER_NONE);
+    ROW(admit(&b, 0, 2, 2, 2) == DOVER_FULL);
+    ROW(admit(&a, 0, 0, 2, 2) == DOVER_BAD_JOB && admit(&a, 0, 3, 2, 2) == DOVER_BAD_JOB &&
+        admit(&a, 0, 2, 2, 0) == DOVER_BAD_JOB);
+    ROW(admit(&a, 0, big, big, big) == DOVER_BAD_JOB && admit(&a, big, 1, 1, 1) == DOVER_UNSETTLED);
+    ROW(admit(&a, 0, 1, last + 1, 1) == DOVER_BAD_JOB &&
+        admit(&a, 0, UINT64_MAX, UINT64_MAX, UINT64_MAX) == DOVER_BAD_JOB);
+    dover_admitted first = dover_admit(&a, 0, 2, 2, 2);
+    ROW(first.status == DOVER_ADMITTED && first.number == 0);
+    ROW(admit(&a, 0, 2, 9, 2) == DOVER_UNSETTLED);
+    ROW(settle(&a, 0) == DOVER_NONE && admit(&a, 0, 2, 9, 5) == DOVER_DENSITY &&
+        admit(&a, 0, 2, 9, 4) == DOVER_ADMITTED);
+    ROW(dover_renew(&a) == 0); /* not settled, not at rest */
+    ROW(settle(&a, 1) == DOVER_NONE && dover_renew(&a) == 0 && dover_value(&a) == 0);
+    ROW(dover_step(&a, 0).kind == DOVER_FALLS && dover_step(&a, last + 1).kind == DOVER_LATE &&
+        dover_step(&a, big).kind == DOVER_LATE);
+    ROW(settle(&a, 4) == DOVER_NONE && dover_value(&a) == 6 && dover_room(&a) == 1);
+    ROW(dover_renew(&a) == 1 && dover_room(&a) == 3 && dover_value(&a) == 6 && dover_renew(&a) == 1);
+    ROW(dover_step(&a, 3).kind == DOVER_FALLS);
+    dover_admitted third = dover_admit(&a, 4, 1, 5, 1000); /* no earlier job binds its density */
+    ROW(third.status == DOVER_ADMITTED && third.number == 2);
+    dover_decision e = dover_step(&a, 4);
+    ROW(e.kind == DOVER_RELEASE && e.job == 2 && e.tick == 4);
+    ROW((e = dover_finish(&a)).kind == DOVER_RUN && e.job == 2 && e.tick == 4);
+    ROW(dover_step(&a, 4).kind == DOVER_FINISHED && admit(&a, 4, 1, 5, 1000) == DOVER_UNSETTLED &&
+        dover_renew(&a) == 0);
+    ROW((e = dover_finish(&a)).kind == DOVER_COMPLETE && e.job == 2 && e.tick == 5);
+    ROW((e = dover_finish(&a)).kind == DOVER_END && e.tick == 1006 && dover_finish(&a).kind == DOVER_NONE &&
+        dover_value(&a) == 1006);
+    ROW(dover_finish(&b).kind == DOVER_END);
+    ROW(taken == before);
+    dover_drop(&a);
+    dover_drop(&b);
+}
+
+/* An engine for four jobs serves 400,000, three at a time, beside one for four jobs in all. */
+static void for_long(void) {
+    dover_init(&a, 1000, 1, 2, 4);
+    dover_init(&b, 1000, 1, 2, 4);
+    unsigned long before = taken;
+    uint64_t t = 0, wrong = 0, number = 0;
+    for (int i = 0; i < 100000; i++) {
+        if (settle(&a, t) != DOVER_NONE || (i > 0 && dover_renew(&a) != 1)) wrong++;
+        for (uint64_t j = 0; j < 4; j++) {
+            dover_admitted x = dover_admit(&a, t, 2, t + 4 + j, 5 + j);
+            if (x.status != DOVER_ADMITTED || x.number != number++) wrong++;
+            if (settle(&a, t) != DOVER_NONE) wrong++;
+        }
+        t += 8;
+    }
+    ROW(wrong == 0 && number == 400000);
+    for (uint64_t j = 0; j < 5; j++) {
+        settle(&b, 9 * j);
+        ROW(admit(&b, 9 * j, 2, 9 * j + 4, 5) == (j < 4 ? DOVER_ADMITTED : DOVER_FULL));
+    }
+    ROW(taken == before);
+    dover_drop(&a);
+    dover_drop(&b);
+}
+
+static void limits(void) {
+    const uint64_t most = UINT64_C(1000000000);
+    dover_init(&a, 1, 1, 1, 20000);
+    ROW(settle(&a, 0) == DOVER_NONE);
+    for (uint64_t i = 0; i < 10000; i++) {
+        if (admit(&a, i, most, i + 2 * most, most) != DOVER_ADMITTED) ROW(0);
+        settle(&a, i);
+        settle(&a, i + 1);
+    }
+    ROW(admit(&a, 10000, most, 10000 + 2 * most, most) == DOVER_TOTAL);
+    ROW(admit(&a, 10000, 1, 10002, 1) == DOVER_TOTAL);
+    dover_drop(&a);
+    dover_init(&a, 1, 1, 1, 1000000);
+    unsigned long before = taken;
+    uint64_t t = 0;
+    for (int i = 0; i < 1000000; i++, t++) {
+        settle(&a, t);
+        if (admit(&a, t, 1, t + 1, 1) != DOVER_ADMITTED) ROW(0);
+    }
+    settle(&a, t);
+    ROW(dover_room(&a) == 0 && admit(&a, t, 1, t + 1, 1) == DOVER_COUNT);
+    ROW(dover_renew(&a) == 1 && dover_room(&a) == 1000000 && dover_admit(&a, t, 1, t + 1, 1).number == 1000000);
+    ROW(taken == before);
+    dover_drop(&a);
+}
+
+int main(void) {
+    ROW(dover_size() <= sizeof a);
+    making();
+    one_by_one();
+    for_long();
+    limits();
+    printf("%d rows, %d failed, %zu bytes a place\n", rows, failed, dover_size());
+    return failed != 0;
+}

@@ -1,0 +1,92 @@
+//! The engine for Rust: a wrapper whose calls are safe, since each meets what the library asks of a caller. The place
+//! is on the heap and in nobody else's hands; it holds an engine from `new` to `drop`; and `&mut self` gives it to one
+//! call at a time.
+use std::mem::MaybeUninit;
+use std::num::NonZeroU32;
+
+#[repr(C, align(8))]
+struct Place([u64; 64]);
+
+/// The answer to a job: status 0 and its number, or why it wasn't admitted.
+#[repr(C)]
+#[derive(Clone, Copy, Debug, PartialEq, Eq)]
+pub struct Admitted {
+    pub number: u64,
+    pub status: u32,
+}
+
+/// A decision, or by its kind why there is none.
+#[repr(C)]
+#[derive(Clone, Copy, Debug, PartialEq, Eq)]
+pub struct Decision {
+    pub tick: u64,
+    pub job: u64,
+    pub other: u64,
+    pub kind: u32,
+}
+
+const _: () = assert!(size_of::<Admitted>() == 16 && std::mem::offset_of!(Admitted, status) == 8);
+const _: () = assert!(size_of::<Decision>() == 32 && std::mem::offset_of!(Decision, kind) == 24);
+
+unsafe extern "C" {
+    fn dover_size() -> usize;
+    fn dover_init(place: *mut Place, p: u32, q: u32, version: u32, capacity: u32);
+    fn dover_status(place: *mut Place) -> u32;
+    fn dover_admit(place: *mut Place, release: u64, work: u64, deadline: u64, value: u64) -> Admitted;
+    fn dover_step(place: *mut Place, mark: u64) -> Decision;
+    fn dover_finish(place: *mut Place) -> Decision;
+    fn dover_renew(place: *mut Place) -> u32;
+    fn dover_value(place: *mut Place) -> u64;
+    fn dover_room(place: *mut Place) -> u32;
+    fn dover_drop(place: *mut Place);
+}
+
+/// An engine. It isn't `Send`: one thread makes, uses and drops it.
+pub struct Dover(*mut Place);
+
+impl Dover {
+    /// An engine, or the status that says why there is none.
+    pub fn new(p: u32, q: u32, version: u32, capacity: u32) -> Result<Dover, NonZeroU32> {
+        assert!(unsafe { dover_size() } <= size_of::<Place>(), "the place is too small");
+        let place = Box::into_raw(Box::new(MaybeUninit::<Place>::uninit())).cast::<Place>();
+        unsafe { dover_init(place, p, q, version, capacity) };
+        let engine = Dover(place);
+        match NonZeroU32::new(unsafe { dover_status(place) }) {
+            None => Ok(engine),
+            Some(status) => Err(status),
+        }
+    }
+
+    pub fn admit(&mut self, release: u64, work: u64, deadline: u64, value: u64) -> Admitted {
+        unsafe { dover_admit(self.0, release, work, deadline, value) }
+    }
+
+    pub fn step(&mut self, mark: u64) -> Decision {
+        unsafe { dover_step(self.0, mark) }
+    }
+
+    pub fn finish(&mut self) -> Decision {
+        unsafe { dover_finish(self.0) }
+    }
+
+    pub fn renew(&mut self) -> bool {
+        unsafe { dover_renew(self.0) == 1 }
+    }
+
+    pub fn value(&mut self) -> u64 {
+        unsafe { dover_value(self.0) }
+    }
+
+    pub fn room(&mut self) -> u32 {
+        unsafe { dover_room(self.0) }
+    }
+}
+
+impl Drop for Dover {
+    fn drop(&mut self) {
+        unsafe {
+            dover_drop(self.0);
+            drop(Box::from_raw(self.0.cast::<MaybeUninit<Place>>()));
+        }
+    }
+}

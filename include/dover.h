@@ -1,0 +1,106 @@
+/* An on-line scheduler for one processor under overload (D-over), as a library. What each call answers is proved;
+   docs/LIVE.md says what that is worth and what is trusted.
+
+   Units   A tick is whatever the caller counts: a microsecond, a millisecond, a frame. Releases, deadlines and marks
+           are ticks from 0 to 1,000,000,000,000; work is in ticks; value is in any unit. The clock is the caller's:
+           the engine goes where a mark sends it.
+   Jobs    1 <= work, release + work <= deadline <= 1,000,000,000,000, 1 <= value <= 1,000,000,000. The ratio p/q is
+           an upper bound of how often the densest job (value for each tick of work) is worth the least dense one:
+           1 <= q <= 1,000, q <= p <= 1,000,000.
+   Limits  Between two moments of rest (dover_renew): `capacity` jobs, at most 1,000,000, and 10,000,000,000,000 in
+           value.
+   Memory  dover_init takes all of it: 208 bytes for each job of the capacity and a little more. No later call takes
+           or gives back any, but dover_drop, which gives all back.
+   Errors  Every call but dover_init answers whatever it is asked, in any order. A refused call leaves the engine as
+           it was.
+   Threads One engine is used by one call at a time. Two engines are independent. No call is made from a signal
+           handler, or from the forked child of a process with threads. No call blocks, waits, locks or reads a clock.
+   Time    A step costs at most 20 comparisons, times the binary digits of the count of jobs, for each job that begins
+           or ceases to wait. A take moves all held jobs at once: the capacity bounds them. */
+#ifndef DOVER_H
+#define DOVER_H
+#include <stddef.h>
+#include <stdint.h>
+#ifdef __cplusplus
+extern "C" {
+#endif
+
+/* A place for an engine: static, on a stack or in an arena, at a multiple of 8 bytes. From dover_init to dover_drop
+   nobody but these calls reads or writes it. It isn't moved or copied. */
+#define DOVER_WORDS 64
+typedef struct { uint64_t opaque[DOVER_WORDS]; } dover;
+
+/* How many bytes an engine takes: at most sizeof(dover). Test it once, at the start. */
+size_t dover_size(void);
+
+/* Makes an engine in the place. dover_status says whether there is one. Called again without a dover_drop it leaks the
+   first one's memory. */
+void dover_init(dover *, uint32_t p, uint32_t q, uint32_t version, uint32_t capacity);
+
+/* Whether there is an engine, and else the first of these causes that held. */
+enum {
+    DOVER_MADE = 0,
+    DOVER_BAD_VERSION = 4,  /* the version is neither 1 nor 2; version 2 breaks ties of deadlines by value */
+    DOVER_BAD_RATIO = 1,    /* p/q is out of its limits */
+    DOVER_BAD_CAPACITY = 2, /* above 1,000,000 */
+    DOVER_NO_MEMORY = 3
+};
+uint32_t dover_status(dover *);
+
+/* Hands in a job under the next number, 0 at first. Numbers are never used twice, whatever dover_renew forgets.
+   The status is the first of these causes that holds, in this order, and 0 where none does. */
+typedef struct { uint64_t number; uint32_t status; } dover_admitted;
+enum {
+    DOVER_ADMITTED = 0,
+    DOVER_NOT_MADE = 7,  /* there is no engine */
+    DOVER_UNSETTLED = 1, /* dover_step to the release has to answer DOVER_NONE first, also between two jobs of one */
+    DOVER_BAD_JOB = 2,   /* a limit of a job */
+    DOVER_COUNT = 3,     /* 1,000,000 jobs since the last renewal */
+    DOVER_TOTAL = 4,     /* too much value since the last renewal */
+    DOVER_DENSITY = 5,   /* its density and that of a job since the last renewal break the ratio */
+    DOVER_FULL = 6       /* the capacity is used up: wait for rest and renew, or drop the job and go on */
+};
+dover_admitted dover_admit(dover *, uint64_t release, uint64_t work, uint64_t deadline, uint64_t value);
+
+/* The next decision that no job can change that is released at the mark or later, or DOVER_NONE where all of these were
+   given. Marks don't fall. */
+typedef struct { uint64_t tick, job, other; uint32_t kind; } dover_decision;
+enum {
+    DOVER_NONE = 0,
+    DOVER_RELEASE = 1,  /* the job came */
+    DOVER_RUN = 2,      /* at the tick the processor begins or goes on with the job */
+    DOVER_PREEMPT = 3,  /* the job runs, and `other` stops, to go on later */
+    DOVER_TAKE = 4,     /* the job runs, at its latest start; `other` stops: it and all that are held may be lost */
+    DOVER_COMPLETE = 5, /* the job is done */
+    DOVER_ABANDON = 6,  /* the job is given up */
+    DOVER_END = 7,      /* all jobs are over; `tick` is the value of all that completed */
+    DOVER_FALLS = 8,    /* the mark is below the last one */
+    DOVER_LATE = 9,     /* the mark is above 1,000,000,000,000 */
+    DOVER_FINISHED = 10, /* dover_finish was called */
+    DOVER_NO_ENGINE = 11
+};
+dover_decision dover_step(dover *, uint64_t mark);
+
+/* The next decision where no job can come any more: DOVER_END is the last, then there is DOVER_NONE. No job is
+   admitted from then on. */
+dover_decision dover_finish(dover *);
+
+/* Forgets all jobs, where all are over and the last dover_step answered DOVER_NONE: answers 1. The clock and numbers
+   go on, there is room again for `capacity` jobs, and the limits of count, value and ratio start anew. Else it answers
+   0, and nothing changes. It is 0 for good once more than 10^18 jobs, or more than 10^18 in value, would be
+   forgotten. */
+uint32_t dover_renew(dover *);
+
+/* The value of all jobs that completed, also of those that were forgotten. 0 where there is no engine. */
+uint64_t dover_value(dover *);
+
+/* For how many further jobs there is room. 0 where there is no engine. */
+uint32_t dover_room(dover *);
+
+/* Gives back the memory. The place is free again. */
+void dover_drop(dover *);
+
+#ifdef __cplusplus
+}
+#endif
+#endif
