@@ -3,14 +3,16 @@ use Rattle.std.proofs.Common.{◌≡◌, ℕ, ◌+◌, ◌<◌, ◌^◌, List, [
 use Rattle.std.specs.Prelude.{codes, bytes_eq, unwrap_or, if◌then◌else◌}
 use Rattle.std.specs.declared.alloc.Global.{Global}
 use Rattle.report_word.specs.declared.form.Form.{Form}
-use Rattle.report_word.specs.declared.form.Form.TheVariants.{Text, Table}
+use Rattle.report_word.specs.declared.form.Form.TheVariants.{Text, Table, Chrome, Why}
 use Rattle.dover_model.specs.Fraction.{Fraction, IsRatio}
 use Rattle.dover_model.specs.Numerals.{numeral}
 use Rattle.dover_model.proofs.Numerals.{numeral-decimal}
 use Rattle.dover_top.specs.Requests.{Asks, MayCarry}
 use Rattle.dover_top.specs.Words.{spelled, AreRow}
 use Rattle.dover_top.specs.declared.request.Request.{Request}
-use Rattle.dover_top.specs.declared.request.Request.TheVariants.{Serve, Judge, Report, Trial, Bait, Ask, Lanes}
+use Rattle.dover_top.specs.declared.request.Request.TheVariants.{Serve, Judge, Report, Trial, Bait, Ask, Lanes, Pause, Resume}
+use Rattle.serve_word.specs.declared.from.AtEnd.{AtEnd}
+use Rattle.serve_word.specs.declared.from.AtEnd.TheVariants as ends
 use Rattle.dover_words.specs.declared.question.Question.TheVariants.{Feasible, Best, Compare}
 
 -- ---- words read as what they ask for, if they ask for something
@@ -27,22 +29,30 @@ number_of word = unwrap_or (numeral word) 0
 abbrev ratio_at : ℕ → List (List ℕ) → Fraction
 ratio_at n words = record { p = number_of (word_at n words); q = number_of (word_at (n + 1) words) }
 
--- the form of report that a word names
-abbrev form_of : List ℕ → Form
-form_of word = if bytes_eq word (codes "text") then Text else Table
+-- the form of report that words name
+abbrev form_of : List (List ℕ) → Form
+form_of words = let word = word_at 1 words in
+    if bytes_eq word (codes "text") then Text else (if bytes_eq word (codes "csv") then Table else (
+    if bytes_eq word (codes "chrome") then Chrome else Why (number_of (word_at 2 words))))
+
+-- what is done where the input ends that a word names
+abbrev end_of : List ℕ → AtEnd
+end_of word = if bytes_eq word (codes "pause") then ends.Pause else ends.Refuse
 
 -- by the first word
 abbrev request_of : List (List ℕ) → Request
 request_of words =
     if bytes_eq (word_at 0 words) (codes "serve") then Serve else (
     if bytes_eq (word_at 0 words) (codes "judge") then Judge else (
-    if bytes_eq (word_at 0 words) (codes "report") then Report (form_of (word_at 1 words)) else (
+    if bytes_eq (word_at 0 words) (codes "report") then Report (form_of words) else (
     if bytes_eq (word_at 0 words) (codes "trial")
     then Trial (number_of (word_at 1 words)) (number_of (word_at 2 words)) (ratio_at 3 words) else (
     if bytes_eq (word_at 0 words) (codes "bait") then Bait (ratio_at 1 words) (number_of (word_at 3 words)) else (
     if bytes_eq (word_at 0 words) (codes "feasible") then Ask Feasible else (
     if bytes_eq (word_at 0 words) (codes "best") then Ask Best else (
-    if bytes_eq (word_at 0 words) (codes "compare") then Ask Compare else Lanes)))))))
+    if bytes_eq (word_at 0 words) (codes "compare") then Ask Compare else (
+    if bytes_eq (word_at 0 words) (codes "lanes") then Lanes else (
+    if bytes_eq (word_at 0 words) (codes "pause") then Pause else Resume (end_of (word_at 1 words)))))))))))
 
 -- a number is read back
 number_same : (n : ℕ) → n < 10 ^ 18 → number_of (decimal n) ≡ n
@@ -61,8 +71,10 @@ ratio_same k r = both (number_same k.p (omega (arith, r.small_p))) (number_same 
 is_read : (words : List (String Global)) (r : Request) → Asks words r → request_of (spelled words) ≡ r
 is_read words Serve asks = ap request_of asks
 is_read words Judge asks = ap request_of asks
-is_read words (Report Text) asks = ap request_of asks
-is_read words (Report Table) asks = ap request_of asks
+is_read words (Report Text) asks = ap request_of asks.row
+is_read words (Report Table) asks = ap request_of asks.row
+is_read words (Report Chrome) asks = ap request_of asks.row
+is_read words (Report (Why n)) asks = ap request_of asks.row ∙ ap (λ m. Report (Why m)) (number_same n (omega (arith, asks.formed)))
 is_read words (Trial seed count k) asks = ap request_of asks.row
     ∙ ap (λ n. Trial n (number_of (decimal count)) (ratio_at 0 (decimal k.p ∷ decimal k.q ∷ []))) (number_same seed (omega (arith, asks.small)))
     ∙ ap (λ n. Trial seed n (ratio_at 0 (decimal k.p ∷ decimal k.q ∷ []))) (number_same count (omega (arith, asks.few)))
@@ -74,6 +86,9 @@ is_read words (Ask Feasible) asks = ap request_of asks
 is_read words (Ask Best) asks = ap request_of asks
 is_read words (Ask Compare) asks = ap request_of asks
 is_read words Lanes asks = ap request_of asks
+is_read words Pause asks = ap request_of asks
+is_read words (Resume ends.Refuse) asks = ap request_of asks
+is_read words (Resume ends.Pause) asks = ap request_of asks
 
 -- words that ask for two things ask for one
 pub asks_one : (words : List (String Global)) (r other : Request) → Asks words r → Asks words other → r ≡ other
@@ -87,7 +102,9 @@ no_row words none (inr (inr (inl (form, asks)))) = none (Report form) asks
 no_row words none (inr (inr (inr (inl (seed, count, k, asks))))) = none (Trial seed count k) asks
 no_row words none (inr (inr (inr (inr (inl (k, rounds, asks)))))) = none (Bait k rounds) asks
 no_row words none (inr (inr (inr (inr (inr (inl (question, asks))))))) = none (Ask question) asks
-no_row words none (inr (inr (inr (inr (inr (inr asks)))))) = none Lanes asks
+no_row words none (inr (inr (inr (inr (inr (inr (inl asks))))))) = none Lanes asks
+no_row words none (inr (inr (inr (inr (inr (inr (inr (inl asks)))))))) = none Pause asks
+no_row words none (inr (inr (inr (inr (inr (inr (inr (inr (at_end, asks))))))))) = none (Resume at_end) asks
 
 -- words that ask for something are a row
 pub are_row : (words : List (String Global)) (r : Request) → Asks words r → AreRow words
@@ -97,7 +114,9 @@ are_row words (Report form) asks = inr (inr (inl (form, asks)))
 are_row words (Trial seed count k) asks = inr (inr (inr (inl (seed, count, k, asks))))
 are_row words (Bait k rounds) asks = inr (inr (inr (inr (inl (k, rounds, asks)))))
 are_row words (Ask question) asks = inr (inr (inr (inr (inr (inl (question, asks))))))
-are_row words Lanes asks = inr (inr (inr (inr (inr (inr asks)))))
+are_row words Lanes asks = inr (inr (inr (inr (inr (inr (inl asks))))))
+are_row words Pause asks = inr (inr (inr (inr (inr (inr (inr (inl asks)))))))
+are_row words (Resume at_end) asks = inr (inr (inr (inr (inr (inr (inr (inr (at_end, asks))))))))
 
 -- what words ask for is within the limits of its word
 pub may_carry : (words : List (String Global)) (r : Request) → Asks words r → MayCarry r
@@ -108,6 +127,8 @@ may_carry words (Trial seed count k) asks = (asks.small, asks.few)
 may_carry words (Bait k rounds) asks = asks.some
 may_carry words (Ask question) asks = tt
 may_carry words Lanes asks = tt
+may_carry words Pause asks = tt
+may_carry words (Resume at_end) asks = tt
 
 -- what holds of the numbers of a trial, as a fact on a request
 abbrev OfTrial : (ℕ → ℕ → Fraction → Type 0) → Request → Type 0
@@ -118,6 +139,8 @@ OfTrial P (Trial seed count k) = P seed count k
 OfTrial P (Bait k rounds) = Unit {0}
 OfTrial P (Ask question) = Unit {0}
 OfTrial P Lanes = Unit {0}
+OfTrial P Pause = Unit {0}
+OfTrial P (Resume at_end) = Unit {0}
 
 -- equal trials have the same numbers
 pub trial_is : (P : ℕ → ℕ → Fraction → Type 0) (seed count seed' count' : ℕ) (k l : Fraction) → Trial seed count k ≡ Trial seed' count' l
@@ -133,6 +156,8 @@ OfBait P (Trial seed count k) = Unit {0}
 OfBait P (Bait k rounds) = P k rounds
 OfBait P (Ask question) = Unit {0}
 OfBait P Lanes = Unit {0}
+OfBait P Pause = Unit {0}
+OfBait P (Resume at_end) = Unit {0}
 
 -- equal baits have the same numbers
 pub bait_is : (P : Fraction → ℕ → Type 0) (k l : Fraction) (rounds rounds' : ℕ) → Bait k rounds ≡ Bait l rounds' → P k rounds → P l rounds'

@@ -1,4 +1,6 @@
 pub mod Settling
+pub mod PausedFeeds
+pub mod ResumedFeeds
 pub mod LaneFeeds
 pub mod ServedLanes
 pub mod Asking

@@ -31,7 +31,7 @@ use Rattle.dover_model.specs.Fraction.{Fraction, IsRatio}
 use Rattle.dover_model.specs.Limits.{most_jobs}
 use Rattle.dover_model.specs.Reports.{summary}
 use Rattle.job_gen.proofs.Drawn.{valid as generated_valid}
-use Rattle.bait_run.proofs.Baited.{bait_completes}
+use Rattle.bait_run.proofs.Completions.{completes_last_alone}
 use Rattle.adversary.specs.Baiting.{FitsLimits}
 use Rattle.adversary.proofs.Validity.{some_bait, valid as bait_valid}
 use Rattle.adversary.proofs.Plans.{plan_worth}
@@ -148,7 +148,7 @@ complete Usage r r' w w' answer cause read write = absurd answer
 -- ---- the answer that the feed calls for
 
 -- an account that has ended neither goes on nor is faulty
-ended_alone : (a : Account) (X : Type 0) → is_ended a ≡ true → IsFaulty a ⊎ (X × (is_open a ≡ true)) → ⊥
+pub ended_alone : (a : Account) (X : Type 0) → is_ended a ≡ true → IsFaulty a ⊎ (X × (is_open a ≡ true)) → ⊥
 ended_alone a X ended (inl faulty) =
     let e : is_ended a ≡ false = ap (λ s. elim s [ Open ↦ false | Ended ↦ true | Faulty line cause ↦ false ]) faulty.2 in
     absurd (let clash : false ≡ true = sym e ∙ ended in cc)
@@ -308,7 +308,7 @@ baited k rounds moves allowed some fits writes =
       only = writes.0;
       text = writes.1;
       schedule = plan_worth k rounds One;
-      last = bait_completes k One rounds some valid;
+      last = completes_last_alone k One rounds some valid;
       promises = promises_of (bait_instance k rounds) valid;
     }
 

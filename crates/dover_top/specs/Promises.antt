@@ -1,5 +1,5 @@
 -- What a served feed comes to.
-use Rattle.std.specs.Prelude.{◌≡◌, ◌≢◌, ◌<◌, ℕ, List, [], true, false, ◌⊎◌, Some}
+use Rattle.std.specs.Prelude.{◌≡◌, ◌≢◌, ◌<◌, ℕ, List, [], ◌++◌, true, false, ◌⊎◌, Some}
 use Rattle.std.specs.List.{sum_by}
 use Rattle.dover_model.specs.Instance.{Instance, IsValid}
 use Rattle.dover_model.specs.Session.{Session, IsValidSession, instance_of}
@@ -16,11 +16,19 @@ use Rattle.dover_port.specs.Moves.{Move, ArePuts, ins, outs, has_ended, IsProper
 use Rattle.dover_port.specs.declared.status.Status.{Status}
 use Rattle.dover_port.specs.declared.status.Status.TheVariants.{Done, No, Refused, Memory}
 use Rattle.serve_word.specs.Delivered.{IsFaulty}
+use Rattle.serve_word.specs.Closing.{PausesAt}
+use Rattle.serve_word.specs.From.{IsPausedAt, IsCutOffAt}
+use Rattle.serve_word.specs.Pausing.{IsPaused, IsCutOff}
+use Rattle.serve_word.specs.declared.from.AtEnd.{AtEnd}
+use Rattle.resume_word.specs.Record.{Behind, IsRefusedFor}
+use Rattle.snapshot.specs.Snapshot.{MayPause, snapshot}
+use Rattle.dover_model.specs.Due.{due}
 use Rattle.judge_word.specs.Line.{verdict_text}
 use Rattle.judge_word.specs.Record.{IsNoTrace, IsOver}
 use Rattle.dover_model.specs.Fraction.{Fraction}
 use Rattle.dover_model.specs.Reports.{summary}
-use Rattle.dover_model.specs.Bait.{bait_plan, plan_value, last_link}
+use Rattle.dover_model.specs.Bait.{bait_plan, plan_value}
+use Rattle.bait_run.specs.Baiting.{CompletesLastAlone}
 use Rattle.report_word.specs.Record.{report_text}
 use Rattle.stated_word.specs.Baited.{bait_instance, bait_text, size_text}
 use Rattle.report_word.specs.declared.form.Form.{Form}
@@ -65,6 +73,34 @@ pub record IsSettled (status : Status) (moves : List Move) : Type 0 where
   pub refused : IsFaulty (account (ins moves)) ⊎ ((has_ended moves ≡ true) × (is_open (account (ins moves)) ≡ true))
       → (status ≡ Refused) ⊎ (status ≡ Memory)
 
+-- the feed that was read ended without a fault, and its trace was written; or its input ended, and what is due and its snapshot were written
+abbrev pub IsTracedOrPaused : List Move → Type 0
+IsTracedOrPaused moves = IsTraced moves ⊎ IsPaused moves
+
+-- A feed that ended has its trace, one that has a fault or is cut off where it may not pause has its refusal, if there was memory, and one
+-- that may pause where its input ends was paused.
+pub record IsSettledOrPaused (status : Status) (moves : List Move) : Type 0 where
+  pub ended : is_ended (account (ins moves)) ≡ true → (status ≡ Done) ⊎ (status ≡ Memory)
+  pub refused : IsFaulty (account (ins moves)) ⊎ IsCutOff moves → (status ≡ Refused) ⊎ (status ≡ Memory)
+  pub paused : has_ended moves ≡ true → MayPause (ins moves) → status ≡ Done
+
+-- Of each feed whose snapshot was read, and what follows it: the whole feed ended without a fault, and what was due where it was paused and
+-- what was written are the trace of its session; or the input ended, and it was paused again.
+abbrev pub IsResumed : AtEnd → List Move → Type 0
+IsResumed at_end moves = Behind (ins moves)
+    (λ F H. IsTraceOf (F ++ H) (due F ++ outs moves) ⊎ IsPausedAt F at_end H (outs moves) (has_ended moves))
+
+-- Of each feed whose snapshot was read, and what follows it: one that ended has its trace, one that has a fault or is cut off has its refusal, if
+-- there was memory, and one that may pause where its input ends was paused. A snapshot with a line that no snapshot has there is refused.
+pub record IsSettledOrResumed (at_end : AtEnd) (status : Status) (moves : List Move) : Type 0 where
+  pub ended : (F H : List ℕ) → MayPause F → ins moves ≡ snapshot F ++ H → is_ended (account (F ++ H)) ≡ true
+      → (status ≡ Done) ⊎ (status ≡ Memory)
+  pub refused : (F H : List ℕ) → MayPause F → ins moves ≡ snapshot F ++ H
+      → IsFaulty (account (F ++ H)) ⊎ IsCutOffAt F at_end H (outs moves) (has_ended moves) → (status ≡ Refused) ⊎ (status ≡ Memory)
+  pub paused : (F H : List ℕ) → MayPause F → ins moves ≡ snapshot F ++ H → has_ended moves ≡ true → PausesAt at_end (F ++ H)
+      → status ≡ Done
+  pub no_snapshot : (line : ℕ) → IsRefusedFor line moves → (status ≡ Refused) ⊎ (status ≡ Memory)
+
 -- the text that was read to its end is the trace of a valid session, and its verdict was written
 pub record IsAccepted (moves : List Move) : Type 0 where
   pub session : Session
@@ -102,7 +138,7 @@ pub record IsBaited (k : Fraction) (rounds : ℕ) (moves : List Move) : Type 0 w
   -- The third number is what the schedule of the unit jobs and the bait is worth.
   pub schedule : worth (bait_instance k rounds) (bait_plan k rounds) ≡ plan_value k rounds
   -- The run completes the last job of the chain, and no other.
-  pub last : completed_value (bait_instance k rounds) ≡ last_link k rounds
+  pub last : CompletesLastAlone k rounds (bait_instance k rounds)
   pub promises : KeepsPromises (bait_instance k rounds)
 
 -- nothing was read, and that the baiting jobs don't fit the limits was written

@@ -2,9 +2,10 @@
 use Rattle.std.specs.Prelude.{◌^◌, ◌<◌, ◌≤◌, List, String}
 use Rattle.dover_model.specs.Limits.{most_jobs}
 use Rattle.std.specs.declared.alloc.Global.{Global}
-use Rattle.dover_top.specs.Words.{AsksServe, AsksJudge, AsksReport, AsksTrial, AsksBait, AsksQuestion, AsksLanes}
+use Rattle.dover_top.specs.Words.{AsksServe, AsksJudge, AsksReport, AsksTrial, AsksBait, AsksQuestion, AsksLanes, AsksPause}
+use Rattle.dover_top.specs.Words.{AsksResume}
 use Rattle.dover_top.specs.declared.request.Request.{Request}
-use Rattle.dover_top.specs.declared.request.Request.TheVariants.{Serve, Judge, Report, Trial, Bait, Ask, Lanes}
+use Rattle.dover_top.specs.declared.request.Request.TheVariants.{Serve, Judge, Report, Trial, Bait, Ask, Lanes, Pause, Resume}
 
 -- the words ask for this
 abbrev pub Asks : List (String Global) → Request → Type 0
@@ -15,6 +16,8 @@ Asks words (Trial seed count k) = AsksTrial words seed count k
 Asks words (Bait k rounds) = AsksBait words k rounds
 Asks words (Ask question) = AsksQuestion words question
 Asks words Lanes = AsksLanes words
+Asks words Pause = AsksPause words
+Asks words (Resume at_end) = AsksResume words at_end
 
 -- the request is within the limits of its word
 abbrev pub MayCarry : Request → Type 0
@@ -25,3 +28,5 @@ MayCarry (Trial seed count k) = (seed < 2 ^ 31) × (count ≤ most_jobs)
 MayCarry (Bait k rounds) = 1 ≤ rounds
 MayCarry (Ask question) = Unit {0}
 MayCarry Lanes = Unit {0}
+MayCarry Pause = Unit {0}
+MayCarry (Resume at_end) = Unit {0}

@@ -4,7 +4,9 @@ use Rattle.std.specs.declared.alloc.Global.{Global}
 use Rattle.dover_model.specs.Fraction.{Fraction, IsRatio}
 use Rattle.dover_model.specs.Limits.{most_jobs}
 use Rattle.report_word.specs.declared.form.Form.{Form}
-use Rattle.report_word.specs.declared.form.Form.TheVariants.{Text, Table}
+use Rattle.report_word.specs.declared.form.Form.TheVariants.{Text, Table, Chrome, Why}
+use Rattle.serve_word.specs.declared.from.AtEnd.{AtEnd}
+use Rattle.serve_word.specs.declared.from.AtEnd.TheVariants.{Refuse, Pause}
 use Rattle.dover_words.specs.declared.question.Question.{Question}
 use Rattle.dover_words.specs.declared.question.Question.TheVariants.{Feasible, Best, Compare}
 
@@ -20,14 +22,22 @@ AsksServe words = spelled words ≡ codes "serve" ∷ []
 abbrev pub AsksJudge : List (String Global) → Type 0
 AsksJudge words = spelled words ≡ codes "judge" ∷ []
 
--- the word for a form of report
-abbrev pub form_word : Form → List ℕ
-form_word Text = codes "text"
-form_word Table = codes "csv"
+-- the words for a form of report
+abbrev pub form_words : Form → List (List ℕ)
+form_words Text = codes "text" ∷ []
+form_words Table = codes "csv" ∷ []
+form_words Chrome = codes "chrome" ∷ []
+form_words (Why n) = codes "why" ∷ decimal n ∷ []
 
--- the two words that ask for a report on a text, in this form
-abbrev pub AsksReport : List (String Global) → Form → Type 0
-AsksReport words form = spelled words ≡ codes "report" ∷ form_word form ∷ []
+-- the number of a job that is asked about is small
+abbrev pub IsFormed : Form → Type 0
+IsFormed (Why n) = n ≤ most_jobs
+IsFormed _ = Unit {0}
+
+-- the words that ask for a report on a text, in this form
+pub record AsksReport (words : List (String Global)) (form : Form) : Type 0 where
+  pub row : spelled words ≡ codes "report" ∷ form_words form
+  pub formed : IsFormed form
 
 -- the words that ask for the run of so many jobs of a seed, within a ratio
 pub record AsksTrial (words : List (String Global)) (seed count : ℕ) (k : Fraction) : Type 0 where
@@ -57,6 +67,19 @@ AsksQuestion words question = spelled words ≡ question_word question ∷ []
 abbrev pub AsksLanes : List (String Global) → Type 0
 AsksLanes words = spelled words ≡ codes "lanes" ∷ []
 
+-- the one word that asks for the serving of a feed that pauses where its input ends
+abbrev pub AsksPause : List (String Global) → Type 0
+AsksPause words = spelled words ≡ codes "pause" ∷ []
+
+-- the word for what is done where the input of a resumed feed ends, if there is one
+abbrev pub end_words : AtEnd → List (List ℕ)
+end_words Refuse = []
+end_words Pause = codes "pause" ∷ []
+
+-- the words that ask for a feed to be served on from its snapshot
+abbrev pub AsksResume : List (String Global) → AtEnd → Type 0
+AsksResume words at_end = spelled words ≡ codes "resume" ∷ end_words at_end
+
 -- the words are a row
 abbrev pub AreRow : List (String Global) → Type 0
 AreRow words = AsksServe words ⊎ AsksJudge words ⊎ ((form : Form) × AsksReport words form)
@@ -64,3 +87,5 @@ AreRow words = AsksServe words ⊎ AsksJudge words ⊎ ((form : Form) × AsksRep
     ⊎ ((k : Fraction) × (rounds : ℕ) × AsksBait words k rounds)
     ⊎ ((question : Question) × AsksQuestion words question)
     ⊎ AsksLanes words
+    ⊎ AsksPause words
+    ⊎ ((at_end : AtEnd) × AsksResume words at_end)

@@ -3,9 +3,12 @@ ghost use Rattle.std.specs.Prelude.{◌≡◌, ◌≢◌, ℕ, length};
 ghost use Rattle.dover_model.specs.Bait.{bait_jobs};
 ghost use Rattle.dover_model.specs.Fraction.{Fraction};
 ghost use Rattle.dover_model.specs.Reports.{summary};
-ghost use Rattle.dover_port.specs.Causes.{Causes, IsAnswer};
+ghost use Rattle.dover_port.specs.Causes.{Causes, IsAnswer, StopsWith};
 ghost use Rattle.dover_port.specs.Moves.{Since};
 ghost use Rattle.serve_word.specs.Record as served;
+ghost use Rattle.serve_word.specs.Pausing as paused;
+ghost use Rattle.serve_word.specs.declared.from.AtEnd.{AtEnd};
+ghost use Rattle.resume_word.specs.Record as resumed;
 ghost use Rattle.judge_word.specs.Record as judged;
 ghost use Rattle.report_word.specs.Record as reported;
 ghost use Rattle.report_word.specs.declared.form.Form.{Form};
@@ -27,7 +30,8 @@ use dover_words::question_word;
 use judge_word::judge_word;
 use lanes_word::lanes_word;
 use report_word::report_word;
-use serve_word::serve_word;
+use resume_word::resume_word;
+use serve_word::{pause_word, serve_word};
 use stated_word::{bait_word, trial_word};
 use std::alloc::Global;
 use std::sync::ledger::Ledger;
@@ -60,7 +64,14 @@ pub(crate) fn carry_out<P: Port, L: Ledger>(
     ensures ask_answers { (question : Question) → request ≡ Request.Ask question → IsAnswerTo question result }
     ensures serves_lanes { request ≡ Request.Lanes → Since (P.moves port.old) (P.moves port.new) (laned.Serves result) }
     ensures lanes_answers { request ≡ Request.Lanes → IsAnswer result }
+    ensures pauses { request ≡ Request.Pause → Since (P.moves port.old) (P.moves port.new) (paused.Pauses result) }
+    ensures pause_answers { request ≡ Request.Pause → IsAnswer result }
+    ensures resumes { (at_end : AtEnd) → request ≡ Request.Resume at_end →
+        Since (P.moves port.old) (P.moves port.new) (resumed.Resumes at_end result) }
+    ensures resume_answers { (at_end : AtEnd) → request ≡ Request.Resume at_end → IsAnswer result }
     ensures comparisons { request ≡ Request.Serve → Since (P.moves port.old) (P.moves port.new) (served.IsFrugal steps.old steps.new) }
+    ensures pause_comparisons { request ≡ Request.Pause →
+        Since (P.moves port.old) (P.moves port.new) (served.IsFrugal steps.old steps.new) }
     ensures trial_comparisons { (seed count : ℕ) (k : Fraction) → request ≡ Request.Trial seed count k → result ≡ Status.Done →
         AreFew count steps.old steps.new }
     ensures bait_comparisons { (k : Fraction) (rounds : ℕ) → request ≡ Request.Bait k rounds → result ≡ Status.Done →
@@ -69,6 +80,7 @@ pub(crate) fn carry_out<P: Port, L: Ledger>(
         Since (P.moves port.old) (P.moves port.new) (λ moves. result ≡ Status.Done → IsFrugal steps.old steps.new moves) }
     ensures usage { result ≢ Status.Usage }
     ensures causes { Causes result (P.read_faults port.old) (P.read_faults port.new) (P.write_faults port.old) (P.write_faults port.new) }
+    ensures stops { StopsWith result (P.calls port.old) (P.calls port.new) }
 {
     match request {
         Request::Serve => serve_word(alloc, port, steps),
@@ -78,5 +90,7 @@ pub(crate) fn carry_out<P: Port, L: Ledger>(
         Request::Bait { k, rounds } => bait_word(alloc, port, k, rounds, steps),
         Request::Ask(question) => question_word(alloc, port, question, steps),
         Request::Lanes => lanes_word(alloc, port, steps),
+        Request::Pause => pause_word(alloc, port, steps),
+        Request::Resume(at_end) => resume_word(alloc, port, at_end, steps),
     }
 }

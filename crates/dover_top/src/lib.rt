@@ -3,10 +3,6 @@
 
 mod carrying;
 mod request;
-#[cfg(test)]
-mod tests;
 mod top;
-#[cfg(test)]
-mod wrong_texts;
 
 pub use top::dover;

@@ -8,6 +8,7 @@ use dover_model::Ratio;
 use dover_words::Question;
 use line_text::numeral;
 use report_word::Form;
+use serve_word::AtEnd;
 
 /// What the words ask for.
 #[derive(Clone, Copy, Debug, PartialEq, Eq)]
@@ -26,6 +27,10 @@ pub(crate) enum Request {
     Ask(Question),
     /// Many feeds in one input are served.
     Lanes,
+    /// A feed is served, and paused where its input ends.
+    Pause,
+    /// A feed is served on from its snapshot, and where its input ends it is refused or paused again.
+    Resume(AtEnd),
 }
 
 /// The most jobs, and the most rounds.
@@ -85,22 +90,52 @@ fn one_word(word: &String) -> Option<Request>
     if is_word(word, "lanes") {
         return Some(Request::Lanes);
     }
+    if is_word(word, "pause") {
+        return Some(Request::Pause);
+    }
+    if is_word(word, "resume") {
+        return Some(Request::Resume(AtEnd::Refuse));
+    }
     None
 }
 
-/// The word `report` and a form.
-fn report(word: &String, form: &String) -> Option<Request>
-    ensures some { IfSome result (λ r. Asks (word.now ∷ form.now ∷ []) r) }
-    ensures none { IsNone result → (r : Request) → Asks (word.now ∷ form.now ∷ []) r → ⊥ }
+/// The words `report` and `why`, and the number of a job.
+fn story(word: &String, form: &String, number_word: &String) -> Option<Request>
+    ensures some { IfSome result (λ r. Asks (word.now ∷ form.now ∷ number_word.now ∷ []) r) }
+    ensures none { IsNone result → (r : Request) → Asks (word.now ∷ form.now ∷ number_word.now ∷ []) r → ⊥ }
 {
     if !is_word(word, "report") {
         return None;
     }
-    if is_word(form, "text") {
+    if !is_word(form, "why") {
+        return None;
+    }
+    let number = number(number_word, MOST)?;
+    Some(Request::Report(Form::Why(number)))
+}
+
+/// The words `resume pause`, or the word `report` and a form.
+fn two_words(word: &String, last: &String) -> Option<Request>
+    ensures some { IfSome result (λ r. Asks (word.now ∷ last.now ∷ []) r) }
+    ensures none { IsNone result → (r : Request) → Asks (word.now ∷ last.now ∷ []) r → ⊥ }
+{
+    if is_word(word, "resume") {
+        if is_word(last, "pause") {
+            return Some(Request::Resume(AtEnd::Pause));
+        }
+        return None;
+    }
+    if !is_word(word, "report") {
+        return None;
+    }
+    if is_word(last, "text") {
         return Some(Request::Report(Form::Text));
     }
-    if is_word(form, "csv") {
+    if is_word(last, "csv") {
         return Some(Request::Report(Form::Table));
+    }
+    if is_word(last, "chrome") {
+        return Some(Request::Report(Form::Chrome));
     }
     None
 }
@@ -145,7 +180,8 @@ pub(crate) fn asked(words: &[String]) -> Option<Request>
 {
     match words {
         [word] => one_word(word),
-        [word, form] => report(word, form),
+        [word, last] => two_words(word, last),
+        [word, form, number] => story(word, form, number),
         [word, p, q, rounds] => bait(word, p, q, rounds),
         [word, seed, count, p, q] => trial(word, seed, count, p, q),
         _ => None,

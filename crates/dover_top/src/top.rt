@@ -1,8 +1,11 @@
 //! The call `dover`.
 ghost use Rattle.std.specs.Prelude.{◌≡◌, ◌≢◌, ◌⊎◌, ◌↔◌, ℕ, [], length};
-ghost use Rattle.dover_port.specs.Causes.{Rose, IsAnswer};
+ghost use Rattle.dover_port.specs.Causes.{Rose, IsAnswer, StopsWith};
 ghost use Rattle.dover_port.specs.Moves.{Since, EachRead};
 ghost use Rattle.serve_word.specs.Record as served;
+ghost use Rattle.serve_word.specs.Pausing as paused;
+ghost use Rattle.serve_word.specs.declared.from.AtEnd.{AtEnd};
+ghost use Rattle.resume_word.specs.Record as resumed;
 ghost use Rattle.judge_word.specs.Record as judged;
 ghost use Rattle.report_word.specs.Record as reported;
 ghost use Rattle.report_word.specs.declared.form.Form.{Form};
@@ -21,8 +24,9 @@ ghost use Rattle.dover_words.specs.Record as asked;
 ghost use Rattle.dover_words.specs.declared.question.Question.{Question};
 ghost use Rattle.lanes_word.specs.Record as laned;
 ghost use Rattle.dover_top.specs.Promises.{IsTraced, IsSettled, IsAccepted, IsJudged, IsReported, IsSummed, IsBaited, IsTooLarge, IsCutShort};
+ghost use Rattle.dover_top.specs.Promises.{IsTracedOrPaused, IsSettledOrPaused, IsResumed, IsSettledOrResumed};
 ghost use Rattle.dover_top.specs.Promises.{IsGiven, IsTold, IsAsked, AllServed, AreServed, AreSettled};
-ghost use Rattle.dover_top.specs.Words.{AsksServe, AsksJudge, AsksReport, AsksTrial, AsksBait, AsksQuestion, AsksLanes, AreRow};
+ghost use Rattle.dover_top.specs.Words.{AsksServe, AsksJudge, AsksReport, AsksTrial, AsksBait, AsksQuestion, AsksLanes, AsksPause, AsksResume, AreRow};
 
 use crate::carrying::carry_out;
 use crate::request::asked;
@@ -36,6 +40,8 @@ use step_count::Steps;
 /// - `serve` reads a feed from the port and writes the feed's trace to it, each line that is settled before the next read.
 /// - `judge` reads a text and writes one line: whether it is the trace of a valid session, and if not where it is wrong or that it is short.
 /// - `report text` and `report csv` read a text, and write a report on its run where it is such a trace, else the line that `judge` writes.
+/// - `report chrome` does the same, with the run as events for a viewer of traces, and `report why N` with what happened to the job of number N
+///   and by which test.
 /// - `trial SEED COUNT P Q` reads nothing, and writes the summary of the run of so many stated jobs of a seed, within the ratio P/Q.
 /// - `bait P Q N` reads nothing, and writes what the run of the baiting jobs comes to, and what another schedule of them is worth.
 /// - `feasible` reads a feed, and writes a schedule that serves all its jobs, or a window in which they have more work than it has ticks.
@@ -44,13 +50,18 @@ use step_count::Steps;
 /// - `compare` reads a feed, and writes what the rules complete, and what two other policies do.
 /// - `lanes` reads up to 64 feeds in one input, each line with its lane's number in front, and serves each on its own: each line that is settled
 ///   for a lane is written with the number in front, before the next read.
+/// - `pause` does what `serve` does, but where the input ends behind whole lines, with the ratio declared and neither an `end` line nor a fault:
+///   there it writes a snapshot of the feed behind what is settled.
+/// - `resume` reads a snapshot and the further lines of its feed, and writes what `serve` writes for the whole feed beyond what was settled where it
+///   was paused. `resume pause` does the same, but where the input ends it does what `pause` does.
 ///
 /// The statuses: `Done` where the feed ended without a fault and its whole trace was written, where the text was accepted, the run was told, or the
-/// question answered, and for lanes where each that has a line ended without a fault before `close`; `No` where the text is wrong or short, or not
+/// question answered, for lanes where each that has a line ended without a fault before `close`, and for `pause` and
+/// `resume pause` also where the snapshot was written; `No` where the text is wrong or short, or not
 /// all deadlines can be met; `Refused` at the feed's first faulty line, where the input ends before the `end` line, or where the jobs don't fit the
 /// limits of the word, and for lanes where one that has a line is faulty or not ended at `close`, at a fault of the whole input, or where it ends
-/// before `close`; `ReadFault` and `WriteFault` where a call of the port failed; `Memory` where there was none, which with `serve` can't come
-/// before the ratio line; `Usage` exactly where the words are no row.
+/// before `close`; `ReadFault` and `WriteFault` where a call of the port failed, which is then the last; `Memory` where there was none, which with
+/// `serve` can't come before the ratio line; `Usage` exactly where the words are no row.
 pub fn dover<P: Port, L: Ledger>(
     alloc: Global,
     words: &[String],
@@ -144,8 +155,42 @@ pub fn dover<P: Port, L: Ledger>(
     ensures lanes_memory { AsksLanes words.now → result ≡ Status.Memory →
         Since (P.moves port.old) (P.moves port.new) laned.IsOutOfMemory }
 
-    // How many comparisons a call makes: for n jobs at most 80 * (n + 1) * d, where n + 1 has at most d binary digits.
+    // pause: before each read what stands on the output is what is due for the input so far, and the feed goes on.
+    ensures pause_reads { AsksPause words.now → Since (P.moves port.old) (P.moves port.new) (EachRead served.MayRead) }
+
+    // What was read and written, by the status.
+    ensures paused { AsksPause words.now → result ≡ Status.Done → Since (P.moves port.old) (P.moves port.new) IsTracedOrPaused }
+    ensures pause_refused { AsksPause words.now → result ≡ Status.Refused →
+        Since (P.moves port.old) (P.moves port.new) paused.IsRefused }
+    ensures pause_unread { AsksPause words.now → result ≡ Status.ReadFault →
+        Since (P.moves port.old) (P.moves port.new) served.IsUnread }
+    ensures pause_unwritten { AsksPause words.now → result ≡ Status.WriteFault →
+        Since (P.moves port.old) (P.moves port.new) paused.IsUnwritten }
+    ensures pause_memory { AsksPause words.now → result ≡ Status.Memory →
+        Since (P.moves port.old) (P.moves port.new) served.IsOutOfMemory }
+
+    // resume, resume pause: before each read the snapshot is still to be read on and nothing was put; or what stands on the output is what is due
+    // for the whole feed so far beyond what was due where it was paused, and the feed goes on.
+    ensures resume_reads { (at_end : AtEnd) → AsksResume words.now at_end →
+        Since (P.moves port.old) (P.moves port.new) (EachRead resumed.MayRead) }
+
+    // What was read and written, by the status, for each feed with the snapshot that was read.
+    ensures resumed { (at_end : AtEnd) → AsksResume words.now at_end → result ≡ Status.Done →
+        Since (P.moves port.old) (P.moves port.new) (IsResumed at_end) }
+    ensures resume_refused { (at_end : AtEnd) → AsksResume words.now at_end → result ≡ Status.Refused →
+        Since (P.moves port.old) (P.moves port.new) (resumed.IsRefused at_end) }
+    ensures resume_unread { (at_end : AtEnd) → AsksResume words.now at_end → result ≡ Status.ReadFault →
+        Since (P.moves port.old) (P.moves port.new) (resumed.IsUnread at_end) }
+    ensures resume_unwritten { (at_end : AtEnd) → AsksResume words.now at_end → result ≡ Status.WriteFault →
+        Since (P.moves port.old) (P.moves port.new) (resumed.IsUnwritten at_end) }
+    ensures resume_memory { (at_end : AtEnd) → AsksResume words.now at_end → result ≡ Status.Memory →
+        Since (P.moves port.old) (P.moves port.new) (resumed.IsOutOfMemory at_end) }
+
+    // How many comparisons a call makes: for n jobs at most 80 * (n + 1) * d, where n + 1 has at most d binary digits; serve and pause at every
+    // status, for the jobs that were admitted, none before a ratio line.
     ensures comparisons { AsksServe words.now → Since (P.moves port.old) (P.moves port.new) (served.IsFrugal steps.old steps.new) }
+    ensures pause_comparisons { AsksPause words.now →
+        Since (P.moves port.old) (P.moves port.new) (served.IsFrugal steps.old steps.new) }
     ensures trial_comparisons { (seed count : ℕ) (k : Fraction) → AsksTrial words.now seed count k → result ≡ Status.Done →
         AreFew count steps.old steps.new }
     ensures bait_comparisons { (k : Fraction) (rounds : ℕ) → AsksBait words.now k rounds → result ≡ Status.Done →
@@ -158,6 +203,8 @@ pub fn dover<P: Port, L: Ledger>(
     ensures write_fault { result ≡ Status.WriteFault → Rose (P.write_faults port.old) (P.write_faults port.new) }
     ensures read_count { result ≢ Status.ReadFault → P.read_faults port.new ≡ P.read_faults port.old }
     ensures write_count { result ≢ Status.WriteFault → P.write_faults port.new ≡ P.write_faults port.old }
+    // No call of the port follows one that failed: the last one alone has failed at a fault, and else none has.
+    ensures stops { StopsWith result (P.calls port.old) (P.calls port.new) }
 
     // Wrong words, and no others, give Usage.
     ensures usage { (result ≡ Status.Usage) ↔ (AreRow words.now → ⊥) }
@@ -170,6 +217,8 @@ pub fn dover<P: Port, L: Ledger>(
     ensures question_answers { (question : Question) → AsksQuestion words.now question → IsAnswerTo question result }
 
     ensures lanes_answers { AsksLanes words.now → IsAnswer result }
+    ensures pause_answers { AsksPause words.now → IsAnswer result }
+    ensures resume_answers { (at_end : AtEnd) → AsksResume words.now at_end → IsAnswer result }
 
     // Where no count rose there is an answer, the one that the input calls for, or no memory.
     ensures complete { AsksServe words.now → (Rose (P.read_faults port.old) (P.read_faults port.new) → ⊥)
@@ -204,6 +253,18 @@ pub fn dover<P: Port, L: Ledger>(
         → (Rose (P.write_faults port.old) (P.write_faults port.new) → ⊥)
         → Since (P.moves port.old) (P.moves port.new) (AreSettled result) }
     ensures lanes_complete { AsksLanes words.now → (Rose (P.read_faults port.old) (P.read_faults port.new) → ⊥)
+        → (Rose (P.write_faults port.old) (P.write_faults port.new) → ⊥)
+        → (result ≡ Status.Done) ⊎ (result ≡ Status.Refused) ⊎ (result ≡ Status.Memory) }
+    ensures pause_settled { AsksPause words.now → (Rose (P.read_faults port.old) (P.read_faults port.new) → ⊥)
+        → (Rose (P.write_faults port.old) (P.write_faults port.new) → ⊥)
+        → Since (P.moves port.old) (P.moves port.new) (IsSettledOrPaused result) }
+    ensures pause_complete { AsksPause words.now → (Rose (P.read_faults port.old) (P.read_faults port.new) → ⊥)
+        → (Rose (P.write_faults port.old) (P.write_faults port.new) → ⊥)
+        → (result ≡ Status.Done) ⊎ (result ≡ Status.Refused) ⊎ (result ≡ Status.Memory) }
+    ensures resume_settled { (at_end : AtEnd) → AsksResume words.now at_end → (Rose (P.read_faults port.old) (P.read_faults port.new) → ⊥)
+        → (Rose (P.write_faults port.old) (P.write_faults port.new) → ⊥)
+        → Since (P.moves port.old) (P.moves port.new) (IsSettledOrResumed at_end result) }
+    ensures resume_complete { (at_end : AtEnd) → AsksResume words.now at_end → (Rose (P.read_faults port.old) (P.read_faults port.new) → ⊥)
         → (Rose (P.write_faults port.old) (P.write_faults port.new) → ⊥)
         → (result ≡ Status.Done) ⊎ (result ≡ Status.Refused) ⊎ (result ≡ Status.Memory) }
 {

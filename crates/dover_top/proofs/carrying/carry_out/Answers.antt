@@ -44,3 +44,84 @@ returns-in-Bait-clause-bait_comparisons g c = λ k rounds e done. bait_is
 
 pub returns-in-Bait-clause-causes : goal.returns-in-Bait-clause-causes
 returns-in-Bait-clause-causes g c = causes_too _ _ _ _ _ (no_read_for _ _ c.bait_word.ensures.answer) c.bait_word.ensures.causes
+
+pub returns-in-Pause-clause-pauses : goal.returns-in-Pause-clause-pauses
+returns-in-Pause-clause-pauses g c = λ _. c.pause_word.ensures.pauses
+
+pub returns-in-Pause-clause-pause_answers : goal.returns-in-Pause-clause-pause_answers
+returns-in-Pause-clause-pause_answers g c = λ _. c.pause_word.ensures.answer
+
+pub returns-in-Pause-clause-pause_comparisons : goal.returns-in-Pause-clause-pause_comparisons
+returns-in-Pause-clause-pause_comparisons g c = λ _. c.pause_word.ensures.count
+
+pub returns-in-Pause-clause-causes : goal.returns-in-Pause-clause-causes
+returns-in-Pause-clause-causes g c = c.pause_word.ensures.causes
+
+pub returns-in-Serve-clause-causes : goal.returns-in-Serve-clause-causes
+returns-in-Serve-clause-causes g c = c.serve_word.ensures.causes
+
+pub returns-in-Judge-clause-causes : goal.returns-in-Judge-clause-causes
+returns-in-Judge-clause-causes g c = c.judge_word.ensures.causes
+
+pub returns-in-Report-clause-causes : goal.returns-in-Report-clause-causes
+returns-in-Report-clause-causes g c = c.report_word.ensures.causes
+
+pub returns-in-Ask-clause-causes : goal.returns-in-Ask-clause-causes
+returns-in-Ask-clause-causes g c = c.question_word.ensures.causes
+
+pub returns-in-Lanes-clause-causes : goal.returns-in-Lanes-clause-causes
+returns-in-Lanes-clause-causes g c = c.lanes_word.ensures.causes
+
+pub returns-in-Serve-clause-serves : goal.returns-in-Serve-clause-serves
+returns-in-Serve-clause-serves g c = λ e. c.serve_word.ensures.serves
+
+pub returns-in-Serve-clause-serve_answers : goal.returns-in-Serve-clause-serve_answers
+returns-in-Serve-clause-serve_answers g c = λ e. c.serve_word.ensures.answer
+
+pub returns-in-Serve-clause-comparisons : goal.returns-in-Serve-clause-comparisons
+returns-in-Serve-clause-comparisons g c = λ e. c.serve_word.ensures.count
+
+pub returns-in-Judge-clause-judges : goal.returns-in-Judge-clause-judges
+returns-in-Judge-clause-judges g c = λ e. c.judge_word.ensures.judges
+
+pub returns-in-Judge-clause-judge_answers : goal.returns-in-Judge-clause-judge_answers
+returns-in-Judge-clause-judge_answers g c = λ e. c.judge_word.ensures.answer
+
+pub returns-in-Lanes-clause-serves_lanes : goal.returns-in-Lanes-clause-serves_lanes
+returns-in-Lanes-clause-serves_lanes g c = λ e. c.lanes_word.ensures.serves
+
+pub returns-in-Lanes-clause-lanes_answers : goal.returns-in-Lanes-clause-lanes_answers
+returns-in-Lanes-clause-lanes_answers g c = λ e. c.lanes_word.ensures.answer
+
+pub returns-in-Serve-clause-stops : goal.returns-in-Serve-clause-stops
+returns-in-Serve-clause-stops g c = c.serve_word.ensures.stops
+
+pub returns-in-Judge-clause-stops : goal.returns-in-Judge-clause-stops
+returns-in-Judge-clause-stops g c = c.judge_word.ensures.stops
+
+pub returns-in-Report-clause-stops : goal.returns-in-Report-clause-stops
+returns-in-Report-clause-stops g c = c.report_word.ensures.stops
+
+pub returns-in-Trial-clause-stops : goal.returns-in-Trial-clause-stops
+returns-in-Trial-clause-stops g c = c.trial_word.ensures.stops
+
+pub returns-in-Bait-clause-stops : goal.returns-in-Bait-clause-stops
+returns-in-Bait-clause-stops g c = c.bait_word.ensures.stops
+
+pub returns-in-Ask-clause-stops : goal.returns-in-Ask-clause-stops
+returns-in-Ask-clause-stops g c = c.question_word.ensures.stops
+
+pub returns-in-Lanes-clause-stops : goal.returns-in-Lanes-clause-stops
+returns-in-Lanes-clause-stops g c = c.lanes_word.ensures.stops
+
+pub returns-in-Pause-clause-stops : goal.returns-in-Pause-clause-stops
+returns-in-Pause-clause-stops g c = c.pause_word.ensures.stops
+
+pub returns-in-Resume-clause-resume_answers : goal.returns-in-Resume-clause-resume_answers
+returns-in-Resume-clause-resume_answers g c = λ at_end _. c.resume_word.ensures.answer
+
+pub returns-in-Resume-clause-causes : goal.returns-in-Resume-clause-causes
+returns-in-Resume-clause-causes g c = c.resume_word.ensures.causes
+
+pub returns-in-Resume-clause-stops : goal.returns-in-Resume-clause-stops
+returns-in-Resume-clause-stops g c = c.resume_word.ensures.stops

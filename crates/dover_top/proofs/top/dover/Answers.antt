@@ -9,9 +9,11 @@ use Rattle.stated_word.specs.Record as stated
 use Rattle.dover_words.specs.Questions.{says}
 use Rattle.dover_words.specs.Record as asked
 use Rattle.lanes_word.specs.Record as laned
+use Rattle.serve_word.specs.Pausing as paused
+use Rattle.resume_word.specs.Record as resumed
 use Rattle.stated_word.specs.Lists.{trial_instance}
 use Rattle.stated_word.specs.Baited.{bait_text, size_text}
-use Rattle.dover_top.specs.declared.request.Request.TheVariants.{Serve, Judge, Report, Trial, Bait, Ask, Lanes}
+use Rattle.dover_top.specs.declared.request.Request.TheVariants.{Serve, Judge, Report, Trial, Bait, Ask, Lanes, Pause, Resume}
 use Rattle.dover_top.proofs.Asking.{asks_one, no_row, are_row, may_carry}
 use Rattle.dover_top.proofs.Settling.{
   at_status,
@@ -33,6 +35,8 @@ use Rattle.dover_top.proofs.Settling.{
   complete,
 }
 use Rattle.dover_top.proofs.ServedLanes.{served_so, all_served, lanes_so}
+use Rattle.dover_top.proofs.PausedFeeds.{traced_or_paused, settled_or_paused}
+use Rattle.dover_top.proofs.ResumedFeeds.{resumed_so, settled_or_resumed}
 use Rattle.dover_top.proofs.top.dover.Goals as goal
 
 pub returns-in-Some-clause-done : goal.returns-in-Some-clause-done
@@ -295,3 +299,105 @@ returns-in-None-clause-lanes_settled g c = λ asks read write. absurd (c.in-None
 
 pub returns-in-None-clause-lanes_complete : goal.returns-in-None-clause-lanes_complete
 returns-in-None-clause-lanes_complete g c = λ asks read write. absurd (c.in-None.ensures.none refl Lanes asks)
+
+pub returns-in-Some-clause-pause_reads : goal.returns-in-Some-clause-pause_reads
+returns-in-Some-clause-pause_reads g c = λ asks. since_weaker _ _ _ _
+    (c.carry_out.ensures.pauses (asks_one _ _ Pause c.in-Some.ensures.some asks)) (λ xs s. s.reads)
+
+pub returns-in-Some-clause-paused : goal.returns-in-Some-clause-paused
+returns-in-Some-clause-paused g c = λ asks e. since_weaker _ _ _ _
+    (c.carry_out.ensures.pauses (asks_one _ _ Pause c.in-Some.ensures.some asks))
+    (λ xs s. traced_or_paused xs (subst (λ t. paused.Ends t xs) e s.ends))
+
+pub returns-in-Some-clause-pause_refused : goal.returns-in-Some-clause-pause_refused
+returns-in-Some-clause-pause_refused g c = λ asks e. since_weaker _ _ _ _
+    (c.carry_out.ensures.pauses (asks_one _ _ Pause c.in-Some.ensures.some asks)) (λ xs s. subst (λ t. paused.Ends t xs) e s.ends)
+
+pub returns-in-Some-clause-pause_unread : goal.returns-in-Some-clause-pause_unread
+returns-in-Some-clause-pause_unread g c = λ asks e. since_weaker _ _ _ _
+    (c.carry_out.ensures.pauses (asks_one _ _ Pause c.in-Some.ensures.some asks)) (λ xs s. subst (λ t. paused.Ends t xs) e s.ends)
+
+pub returns-in-Some-clause-pause_unwritten : goal.returns-in-Some-clause-pause_unwritten
+returns-in-Some-clause-pause_unwritten g c = λ asks e. since_weaker _ _ _ _
+    (c.carry_out.ensures.pauses (asks_one _ _ Pause c.in-Some.ensures.some asks)) (λ xs s. subst (λ t. paused.Ends t xs) e s.ends)
+
+pub returns-in-Some-clause-pause_memory : goal.returns-in-Some-clause-pause_memory
+returns-in-Some-clause-pause_memory g c = λ asks e. since_weaker _ _ _ _
+    (c.carry_out.ensures.pauses (asks_one _ _ Pause c.in-Some.ensures.some asks)) (λ xs s. subst (λ t. paused.Ends t xs) e s.ends)
+
+pub returns-in-Some-clause-pause_comparisons : goal.returns-in-Some-clause-pause_comparisons
+returns-in-Some-clause-pause_comparisons g c = λ asks. c.carry_out.ensures.pause_comparisons
+    (asks_one _ _ Pause c.in-Some.ensures.some asks)
+
+pub returns-in-Some-clause-pause_answers : goal.returns-in-Some-clause-pause_answers
+returns-in-Some-clause-pause_answers g c = λ asks. c.carry_out.ensures.pause_answers (asks_one _ _ Pause c.in-Some.ensures.some asks)
+
+pub returns-in-Some-clause-pause_settled : goal.returns-in-Some-clause-pause_settled
+returns-in-Some-clause-pause_settled g c = λ asks read write. since_weaker _ _ _ _
+    (c.carry_out.ensures.pauses (asks_one _ _ Pause c.in-Some.ensures.some asks))
+    (λ xs s. settled_or_paused _ _ _ _ _ c.carry_out.ensures.causes read write xs s)
+
+pub returns-in-Some-clause-pause_complete : goal.returns-in-Some-clause-pause_complete
+returns-in-Some-clause-pause_complete g c = λ asks read write. complete _ _ _ _ _
+    (c.carry_out.ensures.pause_answers (asks_one _ _ Pause c.in-Some.ensures.some asks)) c.carry_out.ensures.causes read write
+
+pub returns-in-None-clause-pause_answers : goal.returns-in-None-clause-pause_answers
+returns-in-None-clause-pause_answers g c = λ asks. absurd (c.in-None.ensures.none refl Pause asks)
+
+pub returns-in-None-clause-pause_settled : goal.returns-in-None-clause-pause_settled
+returns-in-None-clause-pause_settled g c = λ asks read write. absurd (c.in-None.ensures.none refl Pause asks)
+
+pub returns-in-None-clause-pause_complete : goal.returns-in-None-clause-pause_complete
+returns-in-None-clause-pause_complete g c = λ asks read write. absurd (c.in-None.ensures.none refl Pause asks)
+
+pub returns-in-Some-clause-resume_reads : goal.returns-in-Some-clause-resume_reads
+returns-in-Some-clause-resume_reads g c = λ at_end asks. since_weaker _ _ _ _
+    (c.carry_out.ensures.resumes at_end (asks_one _ _ (Resume at_end) c.in-Some.ensures.some asks)) (λ xs s. s.reads)
+
+pub returns-in-Some-clause-resumed : goal.returns-in-Some-clause-resumed
+returns-in-Some-clause-resumed g c = λ at_end asks e. since_weaker _ _ _ _
+    (c.carry_out.ensures.resumes at_end (asks_one _ _ (Resume at_end) c.in-Some.ensures.some asks))
+    (λ xs s. resumed_so at_end xs (subst (λ t. resumed.Ends at_end t xs) e s.ends))
+
+pub returns-in-Some-clause-resume_refused : goal.returns-in-Some-clause-resume_refused
+returns-in-Some-clause-resume_refused g c = λ at_end asks e. since_weaker _ _ _ _
+    (c.carry_out.ensures.resumes at_end (asks_one _ _ (Resume at_end) c.in-Some.ensures.some asks))
+    (λ xs s. subst (λ t. resumed.Ends at_end t xs) e s.ends)
+
+pub returns-in-Some-clause-resume_unread : goal.returns-in-Some-clause-resume_unread
+returns-in-Some-clause-resume_unread g c = λ at_end asks e. since_weaker _ _ _ _
+    (c.carry_out.ensures.resumes at_end (asks_one _ _ (Resume at_end) c.in-Some.ensures.some asks))
+    (λ xs s. subst (λ t. resumed.Ends at_end t xs) e s.ends)
+
+pub returns-in-Some-clause-resume_unwritten : goal.returns-in-Some-clause-resume_unwritten
+returns-in-Some-clause-resume_unwritten g c = λ at_end asks e. since_weaker _ _ _ _
+    (c.carry_out.ensures.resumes at_end (asks_one _ _ (Resume at_end) c.in-Some.ensures.some asks))
+    (λ xs s. subst (λ t. resumed.Ends at_end t xs) e s.ends)
+
+pub returns-in-Some-clause-resume_memory : goal.returns-in-Some-clause-resume_memory
+returns-in-Some-clause-resume_memory g c = λ at_end asks e. since_weaker _ _ _ _
+    (c.carry_out.ensures.resumes at_end (asks_one _ _ (Resume at_end) c.in-Some.ensures.some asks))
+    (λ xs s. subst (λ t. resumed.Ends at_end t xs) e s.ends)
+
+pub returns-in-Some-clause-resume_answers : goal.returns-in-Some-clause-resume_answers
+returns-in-Some-clause-resume_answers g c = λ at_end asks. c.carry_out.ensures.resume_answers at_end
+    (asks_one _ _ (Resume at_end) c.in-Some.ensures.some asks)
+
+pub returns-in-Some-clause-resume_settled : goal.returns-in-Some-clause-resume_settled
+returns-in-Some-clause-resume_settled g c = λ at_end asks read write. since_weaker _ _ _ _
+    (c.carry_out.ensures.resumes at_end (asks_one _ _ (Resume at_end) c.in-Some.ensures.some asks))
+    (λ xs s. settled_or_resumed at_end _ _ _ _ _ c.carry_out.ensures.causes read write xs s)
+
+pub returns-in-Some-clause-resume_complete : goal.returns-in-Some-clause-resume_complete
+returns-in-Some-clause-resume_complete g c = λ at_end asks read write. complete _ _ _ _ _
+    (c.carry_out.ensures.resume_answers at_end (asks_one _ _ (Resume at_end) c.in-Some.ensures.some asks))
+    c.carry_out.ensures.causes read write
+
+pub returns-in-None-clause-resume_answers : goal.returns-in-None-clause-resume_answers
+returns-in-None-clause-resume_answers g c = λ at_end asks. absurd (c.in-None.ensures.none refl (Resume at_end) asks)
+
+pub returns-in-None-clause-resume_settled : goal.returns-in-None-clause-resume_settled
+returns-in-None-clause-resume_settled g c = λ at_end asks read write. absurd (c.in-None.ensures.none refl (Resume at_end) asks)
+
+pub returns-in-None-clause-resume_complete : goal.returns-in-None-clause-resume_complete
+returns-in-None-clause-resume_complete g c = λ at_end asks read write. absurd (c.in-None.ensures.none refl (Resume at_end) asks)
