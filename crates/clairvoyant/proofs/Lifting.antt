@@ -1,45 +1,18 @@
 -- Schedules of the jobs of a set, under their places there and under their numbers among all jobs.
-use Rattle.std.proofs.Common.{◌≡◌, ℕ, suc, zero, ◌+◌, ◌-◌, ◌≤◌, ◌<◌, inl, inr, List, [], ◌∷◌, ◌++◌, length, drop, take, get_or, map, refl}
+use Rattle.std.proofs.Common.{◌≡◌, ℕ, suc, zero, ◌+◌, ◌-◌, ◌≤◌, ◌<◌, inl, inr, List, [], ◌∷◌, ◌++◌, length, get_or, map, refl}
 use Rattle.std.proofs.Common.{sym, ap, ◌∙◌, subst, arith, cond, eqb, Bool, true, false, IsTrue, replicate}
 use Rattle.std.specs.Prelude.{Some, None, Option, slice_get, IfSome, ◌&&◌, ◌==◌}
-use Rattle.std.specs.List.{count_by, enumerate_from, cons_option, AllByRecursion}
-use Rattle.std.proofs.lemmas.Bool.{le-leb, leb-true, eqb-true, eq-eqb}
-use Rattle.std.proofs.lemmas.List.{take-map, drop-map, map-append}
-use Rattle.std.proofs.lemmas.List.Sums.{sum_by-cons}
+use Rattle.std.specs.List.{enumerate_from, cons_option, AllByRecursion}
+use Rattle.std.proofs.lemmas.List.{map-append}
 use Rattle.dover_model.specs.JobFacts.{JobFacts}
 use Rattle.dover_model.specs.Instance.{IsInOrder}
-use Rattle.dover_model.specs.Schedules.{ticks_given, is_served}
+use Rattle.dover_model.specs.Schedules.{is_served}
 use Rattle.dover_model.specs.Sound.{IsMember, Each}
+use Rattle.dover_model.proofs.Parting.{served_map}
 use Rattle.dover_model.specs.declared.pieces.Piece.{Piece}
 use Rattle.dover_model.specs.Pieces.{spread, spread_from, stretches, stretches_from, with_tick}
 use Rattle.clairvoyant.specs.BestSet.{RiseWithin, Serves, jobs_at, renumbered}
 use Rattle.clairvoyant.proofs.Values.{Has, has}
-
--- a tick of a number is a tick of the number that it goes to
-count_map : (f : ℕ → ℕ) (a b : ℕ) → f a ≡ b → (xs : List ℕ) → count_by (λ m. eqb m a) xs ≤ count_by (λ m. eqb m b) (map f xs)
-count_map f a b to [] = omega arith
-count_map f a b to (x ∷ xs) = by_test (eqb x a) refl (count_map f a b to xs) where
-  by_test : (c : Bool) → eqb x a ≡ c → count_by (λ m. eqb m a) xs ≤ count_by (λ m. eqb m b) (map f xs)
-      → count_by (λ m. eqb m a) (x ∷ xs) ≤ count_by (λ m. eqb m b) (map f (x ∷ xs))
-  by_test true same rest =
-      let is : eqb (f x) b ≡ true = eq-eqb (f x) b (ap f (eqb-true x a same) ∙ to) in
-      let one : cond {A = ℕ} (eqb x a) 1 0 ≡ 1 = ap {B = ℕ} (λ c. cond c 1 0) same in
-      let other : cond {A = ℕ} (eqb (f x) b) 1 0 ≡ 1 = ap {B = ℕ} (λ c. cond c 1 0) is in
-      omega (arith, one, other, rest, sum_by-cons (λ m. cond (eqb m a) 1 0) x xs, sum_by-cons (λ m. cond (eqb m b) 1 0) (f x) (map f xs))
-  by_test false apart rest =
-      let nothing : cond {A = ℕ} (eqb x a) 1 0 ≡ 0 = ap {B = ℕ} (λ c. cond c 1 0) apart in
-      omega (arith, nothing, rest, sum_by-cons (λ m. cond (eqb m a) 1 0) x xs, sum_by-cons (λ m. cond (eqb m b) 1 0) (f x) (map f xs))
-
--- a job is served under the number that its own goes to
-pub served_map : (f : ℕ → ℕ) (s : List ℕ) (a b : ℕ) (j : JobFacts) → f a ≡ b → IsTrue (is_served s (a, j)) → IsTrue (is_served (map f s) (b, j))
-served_map f s a b j to served =
-    let enough : j.work ≤ ticks_given s a j = leb-true _ _ served in
-    let more : ticks_given s a j ≤ count_by (λ m. eqb m b) (map f (drop j.release (take j.deadline s))) =
-    count_map f a b to (drop j.release (take j.deadline s)) in
-    let same : map f (drop j.release (take j.deadline s)) ≡ drop j.release (take j.deadline (map f s)) =
-    sym (ap (drop j.release) (take-map f j.deadline s) ∙ drop-map f j.release (take j.deadline s)) in
-    let given : count_by (λ m. eqb m b) (map f (drop j.release (take j.deadline s))) ≡ ticks_given (map f s) b j = ap (count_by (λ m. eqb m b)) same in
-    le-leb j.work (ticks_given (map f s) b j) (omega arith)
 
 -- the jobs of a set, one by one
 pub jobs_cons : (jobs : List JobFacts) (n : ℕ) (j : JobFacts) (chosen : List ℕ) → slice_get jobs n ≡ Some j

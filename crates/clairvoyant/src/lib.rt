@@ -8,6 +8,3 @@ mod search;
 
 pub use optimum::best;
 pub use outcome::{Best, BestFault};
-
-#[cfg(test)]
-mod tests;

@@ -11,6 +11,3 @@ mod window;
 pub use answer::Feasible;
 pub use judging::judge_feasible;
 pub use laws::an_overfull_window_excludes_meeting;
-
-#[cfg(test)]
-mod tests;

@@ -7,6 +7,3 @@ mod laws;
 
 pub use generator::Gen;
 pub use laws::generated_jobs_are_valid;
-
-#[cfg(test)]
-mod tests;

@@ -12,6 +12,3 @@ pub use lab::{LabFault, Outcome, run_policy};
 pub use laws::policies_are_on_line;
 pub use policy::Policy;
 pub use standard::{Dense, Edf};
-
-#[cfg(test)]
-mod tests;

@@ -1,0 +1,137 @@
+use dover_model::{Job, Ratio, Refusal, Version};
+use event_feed::{Cause, Fed, FeedFault, Intake};
+
+// What the lines of a text, each ended by a slash, are answered: the last of them, and the end of the input after it.
+#[derive(Drop)]
+struct Outcome {
+    last: Option<Result<Fed, FeedFault>>,
+    end: Result<(), FeedFault>,
+}
+
+fn answers(text: &[u8]) -> Outcome {
+    let mut intake = Intake::new();
+    let mut last = None;
+    for line in text.split(|byte| *byte == b'/') {
+        let answer = intake.line(line);
+        let is_over = answer == Ok(Fed::Over);
+        last = Some(answer);
+        if is_over {
+            break;
+        }
+    }
+    Outcome {
+        last,
+        end: intake.end(),
+    }
+}
+
+fn fault(line: u64, cause: Cause) -> FeedFault {
+    FeedFault { line, cause }
+}
+
+// The first line that has a cause is at fault, and every later one is answered by that fault, as is the end.
+#[test]
+fn faults_stand_at_their_lines(rt: HostRuntime) {
+    let rows: [(&[u8], u64, Cause); 18] = [
+        (b"job 0 1 1 1", 1, Cause::Declared),
+        (b"tick 5", 1, Cause::Declared),
+        (b"junk", 1, Cause::Line),
+        (b"k 1 2", 1, Cause::Declared),
+        (b"k 1 1 1", 1, Cause::Declared),
+        (b"k 1 1 3", 1, Cause::Declared),
+        (b"k 1 1 02", 1, Cause::Line),
+        (b"k 4294967297 1", 1, Cause::Declared),
+        (b"k 1 2/k 1 1/end", 1, Cause::Declared),
+        (b"k 1 1/k 1 1", 2, Cause::Declared),
+        (b"k 1 1/job 0 01 5 1", 2, Cause::Line),
+        (b"k 1 1/job 0 1 1000000000001 1", 2, Cause::BadJob),
+        (b"k 1 1/tick 1000000000001", 2, Cause::Order),
+        (b"k 1 1/job 1000000000001 1 5 1", 2, Cause::BadJob),
+        (b"k 1 1/tick 5/tick 4", 3, Cause::Order),
+        (b"k 1 1/tick 5/tick 5/tick 4/tick 9", 4, Cause::Order),
+        (b"k 1 1 2/tick 5/job 4 1 9 1", 3, Cause::Order),
+        (
+            b"k 2 1/job 0 1 5 1/job 0 1 5 2/job 0 1 5 3",
+            4,
+            Cause::Ratio { other: 0 },
+        ),
+    ];
+    for (text, line, cause) in rows {
+        let outcome = answers(text);
+        let holds = outcome.last == Some(Err(fault(line, cause)))
+            && outcome.end == Err(fault(line, cause));
+        assert!(rt; holds);
+    }
+}
+
+// A job line that isn't admitted is no fault in version Two, and the mark stays.
+#[test]
+fn refused_lines_go_on(rt: HostRuntime) {
+    let rows: [(&[u8], u64, u64, u64, u64, Refusal); 3] = [
+        (
+            b"k 2 1 2/job 0 1 5 1/job 0 1 5 2/job 0 1 5 3",
+            0,
+            1,
+            5,
+            3,
+            Refusal::Ratio,
+        ),
+        (b"k 2 1 2/job 3 9 5 9", 3, 9, 5, 9, Refusal::BadJob),
+        (
+            b"k 1 1 2/job 9 9 9 9/job 2 5 6 5",
+            2,
+            5,
+            6,
+            5,
+            Refusal::BadJob,
+        ),
+    ];
+    for (text, release, work, deadline, value, cause) in rows {
+        let refused = Fed::Refused {
+            release,
+            work,
+            deadline,
+            value,
+            cause,
+        };
+        assert!(rt; answers(text).last == Some(Ok(refused)));
+    }
+}
+
+// Good lines say what they say.
+#[test]
+fn good_lines_are_answered(rt: HostRuntime) {
+    let holds = answers(b"k 1 1/tick 5").last == Some(Ok(Fed::Tick(5)))
+        && answers(b"k 1 1/end").last == Some(Ok(Fed::Over))
+        && answers(b"k 1 1/end").end == Ok(());
+    assert!(rt; holds);
+    let ratio = Ratio::new(3, 2).unwrap();
+    assert!(rt; answers(b"k 3 2 2").last == Some(Ok(Fed::Ratio(ratio, Version::Two))));
+    let job = Job::new(1, 2, 3, 2).unwrap();
+    let last = answers(b"k 1 1 2/job 9 9 9 9/tick 1/job 1 2 3 2/job 1 2 3 2").last;
+    assert!(rt; last == Some(Ok(Fed::Job(1, job))));
+}
+
+// Without its end line a feed is short by the line after its last whole one.
+#[test]
+fn the_end_may_come_too_early(rt: HostRuntime) {
+    let holds = Intake::new().end() == Err(fault(1, Cause::Short))
+        && answers(b"k 1 1/job 0 2 2 2").end == Err(fault(3, Cause::Short));
+    assert!(rt; holds);
+}
+
+// A line of 129 bytes is too long, and line 4,000,001 is one too many.
+#[test]
+fn lines_are_bounded(rt: HostRuntime) {
+    let mut intake = Intake::new();
+    match intake.line(b"k 1 1") {
+        Ok(Fed::Ratio(_, _)) => {
+            intake.skip(3_999_999);
+            let last = intake.line(&[b'x'; 129]);
+            assert!(rt; last == Err(fault(4_000_001, Cause::Lines)));
+        }
+        _ => assert!(rt; false),
+    }
+    let mut longer = Intake::new();
+    assert!(rt; longer.line(&[b'x'; 129]) == Err(fault(1, Cause::Line)));
+}

@@ -1,0 +1,78 @@
+//! Calls of `dover` over ports in memory.
+ghost use Rattle.std.specs.Prelude.{◌≡◌, ◌<◌};
+
+use dover_port::{MemoryPort, Status};
+use dover_top::dover;
+use std::alloc::{AllocError, Global};
+use std::marker::Brand;
+use std::sync::ledger::{Blank, Ledger};
+use std::test::Fail;
+use step_count::Steps;
+
+/// How a call ended, and what it wrote.
+#[derive(Drop)]
+pub(crate) struct Called {
+    pub(crate) status: Status,
+    pub(crate) written: Vec<u8>,
+}
+
+/// One call over a port, with a ledger of its own.
+fn answer_in<L: Ledger>(
+    rt: &HostRuntime,
+    words: &[String],
+    port: &mut MemoryPort,
+    blank: Blank,
+) -> Status
+    requires name { blank.name ≡ L.name }
+    requires parts { blank.parts ≡ L.parts }
+    requires some { 0 < blank.parts }
+{
+    let mut steps = Steps::<L>::new(rt.memory(), blank);
+    dover(rt.alloc(), words, port, &mut steps)
+}
+
+/// One call over a port.
+pub(crate) fn answer(rt: &HostRuntime, words: &[String], port: &mut MemoryPort) -> Status {
+    answer_in::<Brand>(rt, words, port, Blank::new(1))
+}
+
+/// The words of a row.
+pub(crate) fn words_of(alloc: Global, texts: &[&'static str]) -> Result<Vec<String>, AllocError> {
+    let mut words = Vec::new(alloc);
+    for text in texts {
+        words.push(String::from_str(alloc, text)?)?;
+    }
+    Ok(words)
+}
+
+/// The bytes in pieces of so many.
+pub(crate) fn pieces(alloc: Global, bytes: &[u8], size: usize) -> Result<Vec<Vec<u8>>, AllocError> {
+    let mut pieces = Vec::new(alloc);
+    let mut piece = Vec::new(alloc);
+    for byte in bytes {
+        piece.push(*byte)?;
+        if piece.len() >= size {
+            pieces.push(piece)?;
+            piece = Vec::new(alloc);
+        }
+    }
+    pieces.push(piece)?;
+    Ok(pieces)
+}
+
+/// What the words do with this input, in pieces of so many bytes.
+pub(crate) fn call(
+    rt: &HostRuntime,
+    words: &[&'static str],
+    input: &[u8],
+    size: usize,
+) -> Result<Called, Fail> {
+    let alloc = rt.alloc();
+    let words = words_of(alloc, words)?;
+    let script = pieces(alloc, input, size)?;
+    let mut port = MemoryPort::new(alloc, script, Vec::new(alloc), Vec::new(alloc), 4096, 4096)?;
+    let status = answer(rt, &words, &mut port);
+    let mut written = Vec::new(alloc);
+    written.extend_from_slice(port.written())?;
+    Ok(Called { status, written })
+}

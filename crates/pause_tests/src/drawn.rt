@@ -1,0 +1,112 @@
+//! Feeds that a seed draws.
+ghost use Rattle.std.specs.Prelude.{◌<◌, ℕ};
+
+use job_format::FeedLine;
+use std::alloc::{AllocError, Global};
+use std::test::Fail;
+
+/// Numbers drawn one after another.
+#[derive(Drop)]
+pub(crate) struct Draw {
+    state: u64,
+}
+
+impl Draw {
+    /// Begins with a seed.
+    pub(crate) fn new(seed: u64) -> Draw {
+        Draw {
+            state: seed % 2_147_483_646 + 1,
+        }
+    }
+
+    /// The next number below `most`.
+    pub(crate) fn below(&mut self, most: u64) -> u64
+        requires { 0 < most }
+        ensures { result < most }
+    {
+        self.state = self.state % 2_147_483_647 * 48_271 % 2_147_483_647;
+        self.state / 7 % most
+    }
+}
+
+/// A line of a feed, the later the greater `place` is. With `faulty` it may be a job that asks for too much.
+fn draw_line(draw: &mut Draw, place: u32, faulty: bool) -> FeedLine {
+    let release = u64::from(place) * 3 + draw.below(3);
+    let kind = draw.below(8);
+    if kind == 0 {
+        return FeedLine::Tick { at: release };
+    }
+    let work = 1 + draw.below(9);
+    let value = work * (1 + draw.below(3));
+    if kind == 1 && faulty {
+        return FeedLine::Job {
+            release,
+            work,
+            deadline: release,
+            value,
+        };
+    }
+    FeedLine::Job {
+        release,
+        work,
+        deadline: release + work + draw.below(9),
+        value,
+    }
+}
+
+/// A feed of twelve lines, of either version, with or without its `end` line. Its jobs are within the ratio.
+pub(crate) fn draw_feed(alloc: Global, seed: u64) -> Result<Vec<FeedLine>, AllocError> {
+    let mut draw = Draw::new(seed);
+    let two = draw.below(2) == 1;
+    let faulty = two || draw.below(3) == 0;
+    let mut lines = Vec::new(alloc);
+    lines.push(FeedLine::Declared {
+        p: 3 + draw.below(3),
+        q: 1,
+        version: if two { Some(2) } else { None },
+    })?;
+    for place in 0..10u32 {
+        lines.push(draw_line(&mut draw, place, faulty))?;
+    }
+    lines.push(if draw.below(4) == 0 {
+        FeedLine::Tick { at: 100 }
+    } else {
+        FeedLine::End
+    })?;
+    Ok(lines)
+}
+
+/// A line's text.
+fn text_of_line(alloc: Global, line: &FeedLine) -> Result<String, Fail> {
+    let text = match line {
+        FeedLine::Declared {
+            p,
+            q,
+            version: None,
+        } => format!(in alloc; "k {p} {q}\n")?,
+        FeedLine::Declared {
+            p,
+            q,
+            version: Some(version),
+        } => format!(in alloc; "k {p} {q} {version}\n")?,
+        FeedLine::Job {
+            release,
+            work,
+            deadline,
+            value,
+        } => { format!(in alloc; "job {release} {work} {deadline} {value}\n")? }
+        FeedLine::Tick { at } => format!(in alloc; "tick {at}\n")?,
+        FeedLine::End => format!(in alloc; "end\n")?,
+    };
+    Ok(text)
+}
+
+/// The text of these lines.
+pub(crate) fn text_of(alloc: Global, lines: &[FeedLine]) -> Result<Vec<u8>, Fail> {
+    let mut text = Vec::new(alloc);
+    for line in lines {
+        let written = text_of_line(alloc, line)?;
+        text.extend_from_slice(written.as_bytes())?;
+    }
+    Ok(text)
+}

@@ -1,0 +1,288 @@
+//! Rows of words: an input, how the call ends, and what it writes.
+use crate::calls::{answer, call, pieces, words_of};
+use dover_port::{MemoryPort, Status};
+use std::test::Fail;
+
+/// What `pause` does with feeds.
+const PAUSES: [(&str, Status, &str); 13] = [
+    (
+        "k 1 1\njob 0 4 10 4\ntick 2\n",
+        Status::Done,
+        "dover 1 1 1\njob 0 0 4 10 4\nrun 0 0\nsnapshot 1 1 1 3 2 1\nstate 0 running 2 0 4 10 4\nresume\n",
+    ),
+    (
+        "k 1 1\n",
+        Status::Done,
+        "dover 1 1 1\nsnapshot 1 1 1 1 0 0\nresume\n",
+    ),
+    // a refused line counts as a line, and has no state
+    (
+        "k 1 1 2\njob 0 4 10 4\njob 1 1 1 1\n",
+        Status::Done,
+        "dover 2 1 1\njob 0 0 4 10 4\nrun 0 0\nrefuse 0 1 1 1 1 job\nsnapshot 2 1 1 3 0 1\nstate 0 running 0 0 4 10 4\nresume\n",
+    ),
+    // one job waits, one is held, one runs, one is done, and one is over
+    (
+        "k 1 1\njob 0 3 30 3\njob 0 2 4 2\njob 0 12 12 12\ntick 1\n",
+        Status::Done,
+        "dover 1 1 1\njob 0 0 3 30 3\nrun 0 0\njob 1 0 2 4 2\npreempt 0 0 1\njob 2 0 12 12 12\ntake 0 1 2\nsnapshot 1 1 1 5 1 3\nstate 0 waiting 0 0 3 30 3\nstate 1 waiting 0 0 2 4 2\nstate 2 running 1 0 12 12 12\nresume\n",
+    ),
+    (
+        "k 1 1\njob 0 4 10 4\njob 1 2 5 2\n",
+        Status::Done,
+        "dover 1 1 1\njob 0 0 4 10 4\nrun 0 0\njob 1 1 2 5 2\npreempt 1 0 1\nsnapshot 1 1 1 3 1 2\nstate 0 held 1 0 4 10 4\nstate 1 running 0 1 2 5 2\nresume\n",
+    ),
+    (
+        "k 1 1\njob 0 10 10 10\njob 0 20 20 20\ntick 12\n",
+        Status::Done,
+        "dover 1 1 1\njob 0 0 10 10 10\nrun 0 0\njob 1 0 20 20 20\nabandon 0 1\ncomplete 10 0\nsnapshot 1 1 1 4 12 2\nstate 0 done 10 0 10 10 10\nstate 1 gone 0 0 20 20 20\nresume\n",
+    ),
+    // all other inputs as `serve` has them
+    ("k 1 1\nend\n", Status::Done, "dover 1 1 1\nend 0\n"),
+    ("", Status::Refused, "refused 1 short\n"),
+    (
+        "k 1 1\nx",
+        Status::Refused,
+        "dover 1 1 1\nrefused 2 short\n",
+    ),
+    (
+        "k 1 1\njob 0 2 2 2",
+        Status::Refused,
+        "dover 1 1 1\nrefused 2 short\n",
+    ),
+    ("job 0 1 1 1\n", Status::Refused, "refused 1 declared\n"),
+    (
+        "k 1 1\ntick 5\ntick 4\n",
+        Status::Refused,
+        "dover 1 1 1\nrefused 3 order\n",
+    ),
+    (
+        "snapshot 1 1 1 1 0 0\nresume\n",
+        Status::Refused,
+        "refused 1 line\n",
+    ),
+];
+
+/// What `resume` does with snapshots and what follows them.
+const RESUMES: [(&str, Status, &str); 24] = [
+    (
+        "snapshot 1 1 1 3 2 1\nstate 0 running 2 0 4 10 4\nresume\njob 2 1 4 1\nend\n",
+        Status::Done,
+        "job 1 2 1 4 1\npreempt 2 0 1\ncomplete 3 1\nrun 3 0\ncomplete 5 0\nend 5\n",
+    ),
+    (
+        "snapshot 1 1 1 1 0 0\nresume\nend\n",
+        Status::Done,
+        "end 0\n",
+    ),
+    // a changed state is refused at the last line
+    (
+        "snapshot 1 1 1 3 2 1\nstate 0 running 1 0 4 10 4\nresume\nend\n",
+        Status::Refused,
+        "refused 3 snapshot\n",
+    ),
+    (
+        "snapshot 1 1 1 3 2 1\nstate 0 held 2 0 4 10 4\nresume\nend\n",
+        Status::Refused,
+        "refused 3 snapshot\n",
+    ),
+    // lines are counted from the paused feed's
+    (
+        "snapshot 1 1 1 3 2 1\nstate 0 running 2 0 4 10 4\nresume\ntick 1\n",
+        Status::Refused,
+        "refused 4 order\n",
+    ),
+    (
+        "snapshot 1 1 1 3 2 1\nstate 0 running 2 0 4 10 4\nresume\n",
+        Status::Refused,
+        "refused 4 short\n",
+    ),
+    (
+        "snapshot 1 1 1 3 2 1\nstate 0 running 2 0 4 10 4\nresume\ntick 3\ntick 3",
+        Status::Refused,
+        "refused 5 short\n",
+    ),
+    // the input ends before the last line
+    (
+        "snapshot 1 1 1 3 2 1\nstate 0 running 2 0 4 10 4\n",
+        Status::Refused,
+        "refused 3 snapshot\n",
+    ),
+    (
+        "snapshot 1 1 1 3 2 1\nstate 0 running 2 0 4 10 4\nresume",
+        Status::Refused,
+        "refused 3 snapshot\n",
+    ),
+    ("", Status::Refused, "refused 1 snapshot\n"),
+    // a line of another form
+    (
+        "snapshot 1 1 1 3 2 1\nx",
+        Status::Refused,
+        "refused 2 snapshot\n",
+    ),
+    (
+        "snapshot 1 1 1 3 2 1\nstate 0 fresh 0 0 4 10 4\nresume\n",
+        Status::Refused,
+        "refused 2 snapshot\n",
+    ),
+    (
+        "snapshot 1 1 1 3 2 1\nstate 1 running 2 0 4 10 4\nresume\n",
+        Status::Refused,
+        "refused 2 snapshot\n",
+    ),
+    (
+        "snapshot 1 1 1 3 2 1\nstate 0 running 2 3 4 10 4\nresume\n",
+        Status::Refused,
+        "refused 2 snapshot\n",
+    ),
+    (
+        "snapshot 1 1 1 3 2 1\nstate 0 running 2 0 4 3 4\nresume\n",
+        Status::Refused,
+        "refused 2 snapshot\n",
+    ),
+    (
+        "snapshot 1 1 1 3 2 1\nstate 0 running 2 0 4 10 4\nresumed\n",
+        Status::Refused,
+        "refused 3 snapshot\n",
+    ),
+    (
+        "snapshot 3 1 1 1 0 0\nresume\n",
+        Status::Refused,
+        "refused 1 snapshot\n",
+    ),
+    (
+        "snapshot 1 1 2 1 0 0\nresume\n",
+        Status::Refused,
+        "refused 1 snapshot\n",
+    ),
+    (
+        "snapshot 1 1 1 1 0 1\nresume\n",
+        Status::Refused,
+        "refused 1 snapshot\n",
+    ),
+    (
+        "snapshot 1 1 1 4000001 0 0\nresume\n",
+        Status::Refused,
+        "refused 1 snapshot\n",
+    ),
+    // no line can have moved the mark
+    (
+        "snapshot 1 1 1 1 5 0\nresume\n",
+        Status::Refused,
+        "refused 2 snapshot\n",
+    ),
+    // a feed isn't a snapshot
+    ("k 1 1\nend\n", Status::Refused, "refused 1 snapshot\n"),
+    // version Two: a refused line behind the pause, whose jobs are those before it
+    (
+        "snapshot 2 1 1 3 0 1\nstate 0 running 0 0 4 10 4\nresume\njob 1 1 1 1\nend\n",
+        Status::Done,
+        "refuse 0 1 1 1 1 job\ncomplete 4 0\nend 4\n",
+    ),
+    (
+        "snapshot 1 1 1 2 0 1\nstate 0 running 0 0 4 10 4\nresume\njob 1 1 1 1\n",
+        Status::Refused,
+        "refused 3 job\n",
+    ),
+];
+
+#[test]
+fn feeds_are_paused(rt: HostRuntime) -> Result<(), Fail> {
+    for (input, status, output) in PAUSES {
+        for size in [4096, 1, 7] {
+            let called = call(&rt, &["pause"], input.as_bytes(), size)?;
+            assert!(rt; called.status == status && called.written.as_slice() == output.as_bytes());
+        }
+    }
+    Ok(())
+}
+
+#[test]
+fn snapshots_are_resumed(rt: HostRuntime) -> Result<(), Fail> {
+    for (input, status, output) in RESUMES {
+        for size in [4096, 1, 7] {
+            let called = call(&rt, &["resume"], input.as_bytes(), size)?;
+            assert!(rt; called.status == status && called.written.as_slice() == output.as_bytes());
+        }
+    }
+    Ok(())
+}
+
+/// The snapshot of a feed that has as many lines as one may have, none of which is a job.
+const FULL: &str = "snapshot 1 1 1 4000000 5 0\nresume\nend\n";
+
+#[test]
+fn a_full_feed_has_no_line_more(rt: HostRuntime) -> Result<(), Fail> {
+    let called = call(&rt, &["resume"], FULL.as_bytes(), 4096)?;
+    assert!(rt;
+        called.status == Status::Refused
+            && called.written.as_slice() == b"refused 4000001 lines\n".as_slice()
+    );
+    Ok(())
+}
+
+#[test]
+fn a_resumed_feed_is_paused_again(rt: HostRuntime) -> Result<(), Fail> {
+    for (input, status, output) in [
+        (
+            "snapshot 1 1 1 3 2 1\nstate 0 running 2 0 4 10 4\nresume\n",
+            Status::Done,
+            "snapshot 1 1 1 3 2 1\nstate 0 running 2 0 4 10 4\nresume\n",
+        ),
+        (
+            "snapshot 1 1 1 3 2 1\nstate 0 running 2 0 4 10 4\nresume\njob 2 1 4 1\n",
+            Status::Done,
+            "job 1 2 1 4 1\npreempt 2 0 1\nsnapshot 1 1 1 4 2 2\nstate 0 held 2 0 4 10 4\nstate 1 running 0 2 1 4 1\nresume\n",
+        ),
+        (
+            "snapshot 1 1 1 3 2 1\nstate 0 running 2 0 4 10 4\nresume\nend\n",
+            Status::Done,
+            "complete 4 0\nend 4\n",
+        ),
+        (
+            "snapshot 1 1 1 3 2 1\nstate 0 running 2 0 4 10 4\nresume\nx",
+            Status::Refused,
+            "refused 4 short\n",
+        ),
+        (
+            "snapshot 1 1 1 3 2 1\n",
+            Status::Refused,
+            "refused 2 snapshot\n",
+        ),
+    ] {
+        for size in [4096, 1, 7] {
+            let called = call(&rt, &["resume", "pause"], input.as_bytes(), size)?;
+            assert!(rt; called.status == status && called.written.as_slice() == output.as_bytes());
+        }
+    }
+    Ok(())
+}
+
+#[test]
+fn failing_calls(rt: HostRuntime) -> Result<(), Fail> {
+    let alloc = rt.alloc();
+    let feed = "k 1 1\njob 0 4 10 4\ntick 2\n";
+    let rest = "snapshot 1 1 1 3 2 1\nstate 0 running 2 0 4 10 4\nresume\nend\n";
+    let begun = "dover 1 1 1\njob 0 0 4 10 4\nrun 0 0\n";
+    // the word, the input, the bytes of a piece, the read and the write that fail
+    for (word, input, piece, read, write, status, text) in [
+        ("pause", feed, 4096, 1, 0, Status::ReadFault, ""),
+        ("pause", feed, 4096, 2, 0, Status::ReadFault, begun),
+        ("pause", feed, 4096, 0, 1, Status::WriteFault, ""),
+        ("pause", feed, 4096, 0, 2, Status::WriteFault, begun),
+        ("resume", rest, 4096, 1, 0, Status::ReadFault, ""),
+        ("resume", rest, 20, 3, 0, Status::ReadFault, ""),
+        ("resume", rest, 55, 2, 0, Status::ReadFault, ""),
+        ("resume", rest, 4096, 0, 1, Status::WriteFault, ""),
+        ("resume", "resume\n", 4096, 0, 1, Status::WriteFault, ""),
+    ] {
+        let words = words_of(alloc, &[word])?;
+        let script = pieces(alloc, input.as_bytes(), piece)?;
+        let fail_reads = vec![in alloc; read]?;
+        let fail_writes = vec![in alloc; write]?;
+        let mut port = MemoryPort::new(alloc, script, fail_reads, fail_writes, 4096, 4096)?;
+        let answer = answer(&rt, &words, &mut port);
+        assert!(rt; answer == status && port.written() == text.as_bytes());
+    }
+    Ok(())
+}

@@ -1,0 +1,118 @@
+ghost use Rattle.std.specs.Prelude.{◌≡◌};
+ghost use Rattle.dover_model.specs.Instance.{IsInOrder};
+
+use clairvoyant::{BestFault, best};
+use dover_model::{Job, Piece};
+use std::alloc::Global;
+use std::process::Abort;
+
+/// The job of these numbers.
+fn job(rt: &impl Abort, release: u64, work: u64, deadline: u64, value: u64) -> Job
+    ensures { result ≡ record { release = release; work = work; deadline = deadline; value = value } }
+{
+    Job::new(release, work, deadline, value).expect(rt, "a job")
+}
+
+/// The best set of these jobs has this value, these numbers and these stretches, each its first tick, the tick behind its last, and a number.
+fn comes_to(
+    rt: &impl Abort,
+    alloc: Global,
+    jobs: &[Job],
+    value: u64,
+    numbers: &[u32],
+    stretches: &[(u64, u64, u32)],
+)
+    requires { IsInOrder jobs.now }
+{
+    let found = best(alloc, jobs).expect(rt, "memory");
+    let holds = found.value == value
+        && found.chosen.as_slice() == numbers
+        && found.pieces.len() == stretches.len();
+    assert!(rt; holds);
+    for (piece, (from, until, number)) in found.pieces.iter().zip(stretches) {
+        assert!(rt;
+            *piece
+                == Piece {
+                    from: *from,
+                    until: *until,
+                    number: *number
+                }
+        );
+    }
+}
+
+#[test]
+fn no_jobs_are_worth_nothing(rt: HostRuntime) {
+    comes_to(&rt, rt.alloc(), &[], 0, &[], &[]);
+}
+
+#[test]
+fn the_greater_of_two_is_chosen(rt: HostRuntime) {
+    let jobs = [job(&rt, 0, 10, 10, 10), job(&rt, 0, 21, 21, 21)];
+    comes_to(&rt, rt.alloc(), &jobs, 21, &[1], &[(0, 21, 1)]);
+}
+
+#[test]
+fn pieces_have_the_numbers_among_all_jobs(rt: HostRuntime) {
+    let jobs = [
+        job(&rt, 0, 10, 14, 10),
+        job(&rt, 1, 2, 5, 2),
+        job(&rt, 1, 3, 8, 3),
+    ];
+    comes_to(
+        &rt,
+        rt.alloc(),
+        &jobs,
+        13,
+        &[0, 2],
+        &[(0, 1, 0), (1, 4, 2), (4, 13, 0)],
+    );
+}
+
+#[test]
+fn the_earliest_of_equal_sets_is_chosen(rt: HostRuntime) {
+    let jobs = [
+        job(&rt, 0, 2, 2, 5),
+        job(&rt, 0, 2, 2, 5),
+        job(&rt, 1, 1, 3, 5),
+    ];
+    comes_to(&rt, rt.alloc(), &jobs, 10, &[0, 2], &[(0, 2, 0), (2, 3, 2)]);
+}
+
+#[test]
+fn five_of_eight_jobs(rt: HostRuntime) {
+    let jobs = [
+        job(&rt, 3, 4, 9, 2),
+        job(&rt, 5, 1, 11, 13),
+        job(&rt, 5, 5, 16, 12),
+        job(&rt, 8, 5, 13, 15),
+        job(&rt, 8, 6, 16, 20),
+        job(&rt, 9, 1, 13, 15),
+        job(&rt, 11, 5, 21, 17),
+        job(&rt, 13, 4, 18, 19),
+    ];
+    comes_to(
+        &rt,
+        rt.alloc(),
+        &jobs,
+        76,
+        &[1, 2, 5, 6, 7],
+        &[
+            (5, 6, 1),
+            (6, 9, 2),
+            (9, 10, 5),
+            (10, 12, 2),
+            (12, 13, 6),
+            (13, 17, 7),
+            (17, 21, 6),
+        ],
+    );
+}
+
+#[test]
+fn one_and_twenty_jobs_are_too_many(rt: HostRuntime) {
+    let one = job(&rt, 0, 1, 20, 1);
+    assert!(rt; best(rt.alloc(), &[one; 21]) == Err(BestFault::TooMany));
+    let found = best(rt.alloc(), &[one; 20]).expect(&rt, "memory");
+    assert!(rt; found.value == 20);
+}

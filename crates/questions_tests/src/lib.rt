@@ -1,0 +1,9 @@
+//! Tests of the questions on a list of jobs: `deadline_oracle`, `clairvoyant` and `policy_lab`.
+#![tactic(auto)]
+
+#[cfg(test)]
+mod best_sets;
+#[cfg(test)]
+mod overfull_windows;
+#[cfg(test)]
+mod policies;

@@ -1,0 +1,17 @@
+//! Tests of the crates below the server: `root_compare`, `tick_cpu`, `privileged_queue`, `rank_heap`, `waiting_queue` and `plain_step`.
+#![tactic(auto)]
+
+#[cfg(test)]
+mod entries;
+#[cfg(test)]
+mod heap_orders;
+#[cfg(test)]
+mod held_jobs;
+#[cfg(test)]
+mod jumps;
+#[cfg(test)]
+mod roots;
+#[cfg(test)]
+mod single_steps;
+#[cfg(test)]
+mod waiting_firsts;

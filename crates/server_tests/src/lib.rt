@@ -1,0 +1,9 @@
+//! Tests of the server and of what stands on it: `dover_core`, `lane_server` and `snapshot`.
+#![tactic(auto)]
+
+#[cfg(test)]
+mod many_lanes;
+#[cfg(test)]
+mod served_runs;
+#[cfg(test)]
+mod snapshots;

@@ -1,0 +1,118 @@
+//! Snapshots of worked feeds.
+ghost use Rattle.std.specs.Prelude.{◌≡◌, ◌<◌};
+
+use dover_core::Server;
+use dover_model::{Memory, Ratio, Version};
+use line_text::LineBuf;
+use snapshot::{Got, Reader, SnapFault, head, state};
+use std::marker::Brand;
+use std::sync::ledger::{Blank, Ledger};
+use std::test::Fail;
+use step_count::Steps;
+
+// The first line of a feed with no job.
+#[test]
+fn a_head_is_written(rt: HostRuntime) -> Result<(), Fail> {
+    let k = Ratio::new(9, 4).unwrap();
+    let server = Server::new(rt.alloc(), Version::Two, k)?;
+    let mut line = LineBuf::new();
+    head(3, 5, Version::Two, k, &server, &mut line);
+    assert!(rt; line.bytes() == b"snapshot 2 9 4 3 5 0".as_slice());
+    Ok(())
+}
+
+// What the lines of a snapshot come to.
+#[derive(Clone, Copy, Debug, PartialEq, Eq)]
+enum Outcome {
+    Open,
+    // The last lines are those of this many jobs, written again.
+    Taken,
+    Written,
+    Refused(u64),
+}
+
+// Writes the line of the last job again, if there is one, and compares it.
+fn is_written_again(server: &Server, wanted: &[u8]) -> bool {
+    let clock = server.clock();
+    if server.admitted() == 0 || !server.ready_for(clock) {
+        return false;
+    }
+    let mut line = LineBuf::new();
+    state(server, server.admitted() - 1, &mut line);
+    line.bytes() == wanted
+}
+
+fn outcome_in<L: Ledger>(
+    rt: &HostRuntime,
+    lines: &[&[u8]],
+    last_job: &[u8],
+    blank: Blank,
+) -> Result<Outcome, Memory>
+    requires name { blank.name ≡ L.name }
+    requires parts { blank.parts ≡ L.parts }
+    requires some { 0 < blank.parts }
+{
+    let mut steps: Steps<L> = Steps::new(rt.memory(), blank);
+    let mut reader = Reader::new(rt.alloc());
+    for line in lines {
+        match reader.line(line, &mut steps) {
+            Ok(Got::More) => {}
+            Ok(Got::Ready) => {
+                let (server, _) = reader.take();
+                return Ok(match is_written_again(&server, last_job) {
+                    true => Outcome::Written,
+                    false => Outcome::Taken,
+                });
+            }
+            Err(SnapFault::BadSnapshot { line }) => return Ok(Outcome::Refused(line)),
+            Err(SnapFault::Memory) => return Err(Memory),
+        }
+    }
+    Ok(Outcome::Open)
+}
+
+fn answer(rt: &HostRuntime, lines: &[&[u8]], last_job: &[u8]) -> Result<Outcome, Memory> {
+    outcome_in::<Brand>(rt, lines, last_job, Blank::new(1))
+}
+
+// The head, the line of a job and the last line, and what they come to.
+#[test]
+fn snapshots_are_read(rt: HostRuntime) -> Result<(), Fail> {
+    let head: &[u8] = b"snapshot 1 1 1 3 2 1";
+    let job: &[u8] = b"state 0 running 2 0 4 10 4";
+    let last: &[u8] = b"resume";
+    let rows: [(&[u8], &[u8], &[u8], Outcome); 9] = [
+        (head, job, last, Outcome::Written),
+        (
+            head,
+            b"state 0 running 1 0 4 10 4",
+            last,
+            Outcome::Refused(3),
+        ),
+        (head, b"state 0 held 2 0 4 10 4", last, Outcome::Refused(3)),
+        (head, b"state 0 fresh 2 0 4 10 4", last, Outcome::Refused(2)),
+        (
+            head,
+            b"state 1 running 2 0 4 10 4",
+            last,
+            Outcome::Refused(2),
+        ),
+        (
+            head,
+            b"state 0 waiting 0 3 4 10 4",
+            last,
+            Outcome::Refused(2),
+        ),
+        (b"snapshot 1 1 1 2 2 1", job, last, Outcome::Refused(3)),
+        (b"snapshot 1 1 1 1 2 1", job, last, Outcome::Refused(1)),
+        (head, job, b"end", Outcome::Refused(3)),
+    ];
+    for (first, second, third, wanted) in rows {
+        let lines = [first, second, third];
+        assert!(rt; answer(&rt, &lines, job)? == wanted);
+    }
+    let open = answer(&rt, &[head, job], job)?;
+    let taken = answer(&rt, &[b"snapshot 2 9 4 1 0 0", last], job)?;
+    assert!(rt; open == Outcome::Open && taken == Outcome::Taken);
+    Ok(())
+}

@@ -1,0 +1,17 @@
+//! Tests of the words: `feed_reading`, `judge_word`, `report_word`, `stated_word`, `dover_words` and `lanes_word`.
+#![tactic(auto)]
+
+#[cfg(test)]
+mod asked_questions;
+#[cfg(test)]
+mod judged_texts;
+#[cfg(test)]
+mod laned_feeds;
+#[cfg(test)]
+mod ports;
+#[cfg(test)]
+mod read_feeds;
+#[cfg(test)]
+mod stated_lists;
+#[cfg(test)]
+mod told_reports;
