@@ -13,7 +13,8 @@ not_both i j one other = absurd (omega arith)
 -- what isn't less dense
 pub no_less : (i j : JobFacts) → (IsLessDense i j → ⊥) → j.value * i.work ≤ i.value * j.work
 no_less i j none = by_order (cases_lt (i.value * j.work) (j.value * i.work)) where
-  by_order : ((i.value * j.work) < (j.value * i.work)) ⊎ ((j.value * i.work) ≤ (i.value * j.work)) → j.value * i.work ≤ i.value * j.work
+  by_order : ((i.value * j.work) < (j.value * i.work)) ⊎ ((j.value * i.work) ≤ (i.value * j.work))
+      → j.value * i.work ≤ i.value * j.work
   by_order (inl less) = absurd (none less)
   by_order (inr more) = more
 
@@ -28,15 +29,19 @@ chained a b c d e f some one other = by_order (cases_lt (a * f) (e * b)) where
       let third : (e * b) * d ≤ (a * f) * d = mul-le (e * b) d (a * f) d more (omega arith) in omega arith)
 
 -- what is within p/q times the least density is within it times any
-pub within_least : (p q jv jw lv lw xv xw : ℕ) → 1 ≤ lw → lv * xw ≤ xv * lw → q * jv * lw ≤ p * lv * jw → q * jv * xw ≤ p * xv * jw
+pub within_least : (p q jv jw lv lw xv xw : ℕ) → 1 ≤ lw → lv * xw ≤ xv * lw → q * jv * lw ≤ p * lv * jw
+    → q * jv * xw ≤ p * xv * jw
 within_least p q jv jw lv lw xv xw some less within =
     let one : (q * jv * lw) * xw ≤ (p * lv * jw) * xw = mul-le (q * jv * lw) xw (p * lv * jw) xw within (omega arith) in
-    let two : (p * jw) * (lv * xw) ≤ (p * jw) * (xv * lw) = mul-le (p * jw) (lv * xw) (p * jw) (xv * lw) (omega arith) less in
+    let two : (p * jw) * (lv * xw) ≤ (p * jw) * (xv * lw) =
+    mul-le (p * jw) (lv * xw) (p * jw) (xv * lw) (omega arith) less in
     cancel lw (q * jv * xw) (p * xv * jw) some (omega arith)
 
 -- where the greatest density is within p/q times another, any is
-pub within_densest : (p q jv jw dv dw xv xw : ℕ) → 1 ≤ dw → xv * dw ≤ dv * xw → q * dv * jw ≤ p * jv * dw → q * xv * jw ≤ p * jv * xw
+pub within_densest : (p q jv jw dv dw xv xw : ℕ) → 1 ≤ dw → xv * dw ≤ dv * xw → q * dv * jw ≤ p * jv * dw
+    → q * xv * jw ≤ p * jv * xw
 within_densest p q jv jw dv dw xv xw some less within =
     let one : (q * dv * jw) * xw ≤ (p * jv * dw) * xw = mul-le (q * dv * jw) xw (p * jv * dw) xw within (omega arith) in
-    let two : (q * jw) * (xv * dw) ≤ (q * jw) * (dv * xw) = mul-le (q * jw) (xv * dw) (q * jw) (dv * xw) (omega arith) less in
+    let two : (q * jw) * (xv * dw) ≤ (q * jw) * (dv * xw) =
+    mul-le (q * jw) (xv * dw) (q * jw) (dv * xw) (omega arith) less in
     cancel dw (q * xv * jw) (p * jv * xw) some (omega arith)

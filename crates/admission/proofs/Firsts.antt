@@ -1,8 +1,10 @@
 -- The least dense and the densest of jobs that grow by one.
-use Rattle.std.proofs.Common.{◌≡◌, ◌*◌, ◌≤◌, ◌<◌, ◌⊎◌, inl, inr, List, [], ◌∷◌, ◌++◌, length, refl, sym, ap, ◌∙◌, subst, append_assoc, arith}
+use Rattle.std.proofs.Common.{◌≡◌, ◌*◌, ◌≤◌, ◌<◌, ◌⊎◌, inl, inr, List, [], ◌∷◌, ◌++◌, length, refl, sym, ap, ◌∙◌, subst}
+use Rattle.std.proofs.Common.{append_assoc, arith}
 use Rattle.std.specs.List.{AllByRecursion}
 use Rattle.std.proofs.lemmas.Bool.{cases_lt}
 use Rattle.dover_model.specs.JobFacts.{JobFacts, IsJob}
+use Rattle.dover_model.proofs.Members.{all_append}
 use Rattle.dover_model.proofs.Valid.{all_from}
 use Rattle.dover_model.proofs.Growing.{all_behind}
 use Rattle.admission.specs.declared.extremes.Numbered.{Numbered}
@@ -12,31 +14,30 @@ use Rattle.admission.proofs.Comparing.{not_both, no_less, chained}
 
 -- ---- lists
 
--- of each in both parts
-pub all_append : {X : Type 0} (P : X → Type 0) (xs ys : List X) → AllByRecursion P xs → AllByRecursion P ys → AllByRecursion P (xs ++ ys)
-all_append P [] ys one other = other
-all_append P (x ∷ xs) ys one other = (one.0, all_append P xs ys one.1 other)
-
 -- what each keeps, and what holds of both, holds of each
-pub all_both : {X : Type 0} (P Q R : X → Type 0) (xs : List X) → ((x : X) → P x → Q x → R x) → AllByRecursion P xs → AllByRecursion Q xs
+pub all_both : {X : Type 0} (P Q R : X → Type 0) (xs : List X) → ((x : X) → P x → Q x → R x) → AllByRecursion P xs
+    → AllByRecursion Q xs
     → AllByRecursion R xs
 all_both P Q R [] h one other = tt
 all_both P Q R (x ∷ xs) h one other = (h x one.0 other.0, all_both P Q R xs h one.1 other.1)
 
 -- the one in the middle
-pub all_middle : {X : Type 0} (P : X → Type 0) (xs : List X) (y : X) (ys : List X) → AllByRecursion P (xs ++ y ∷ ys) → P y
+pub all_middle : {X : Type 0} (P : X → Type 0) (xs : List X) (y : X) (ys : List X) → AllByRecursion P (xs ++ y ∷ ys)
+    → P y
 all_middle P [] y ys all = all.0
 all_middle P (x ∷ xs) y ys all = all_middle P xs y ys all.1
 
 -- ---- the first of some jobs
 
-module _ (Under : JobFacts → JobFacts → Type 0) (not_mutual : (i j : JobFacts) → Under i j → Under j i → ⊥) (jobs : List JobFacts) (x : Numbered)
+module _ (Under : JobFacts → JobFacts → Type 0) (not_mutual : (i j : JobFacts) → Under i j → Under j i → ⊥)
+    (jobs : List JobFacts) (x : Numbered)
     (it : IsFirstBy Under jobs x) where
   -- none comes under it
   pub none_under : AllByRecursion (λ i. Under i x.job → ⊥) jobs
   none_under = subst (AllByRecursion (λ i. Under i x.job → ⊥)) (sym it.place)
       (all_append (λ i. Under i x.job → ⊥) it.before (x.job ∷ it.behind)
-      (all_from (λ i. Under x.job i) (λ i. Under i x.job → ⊥) it.before (λ i first under. not_mutual x.job i first under) it.first)
+      (all_from (λ i. Under x.job i) (λ i. Under i x.job → ⊥) it.before
+      (λ i first under. not_mutual x.job i first under) it.first)
       (λ under. not_mutual x.job x.job under under, it.later))
 
   -- what holds of each holds of it
@@ -85,35 +86,45 @@ pub of_one : (y : Numbered) → IsJob y.job → y.number ≡ 0 → AreExtremes (
 of_one y job number =
     record { each = (job, tt); least = alone_first IsLessDense y number; densest = alone_first IsDenser y number }
 
-module _ (jobs : List JobFacts) (e : Extremes) (it : AreExtremes jobs e) (y : Numbered) (job : IsJob y.job) (number : y.number ≡ length jobs) where
+module _ (jobs : List JobFacts) (e : Extremes) (it : AreExtremes jobs e) (y : Numbered) (job : IsJob y.job)
+    (number : y.number ≡ length jobs) where
   -- each is a job
   pub each_more : AllByRecursion IsJob (jobs ++ y.job ∷ [])
   each_more = all_behind IsJob jobs y.job it.each job
 
   -- the one that is kept as the least dense
-  pub least_more : (x : Numbered) → (IsLessDense y.job e.least.job → x ≡ y) → ((IsLessDense y.job e.least.job → ⊥) → x ≡ e.least)
+  pub least_more : (x : Numbered) → (IsLessDense y.job e.least.job → x ≡ y)
+      → ((IsLessDense y.job e.least.job → ⊥) → x ≡ e.least)
       → IsLeastDense (jobs ++ y.job ∷ []) x
   least_more x new old = by_order (cases_lt (y.job.value * e.least.job.work) (e.least.job.value * y.job.work)) where
     by_order : IsLessDense y.job e.least.job ⊎ ((e.least.job.value * y.job.work) ≤ (y.job.value * e.least.job.work))
         → IsLeastDense (jobs ++ y.job ∷ []) x
     by_order (inl less) = subst (IsLeastDense (jobs ++ y.job ∷ [])) (sym (new less))
         (becomes_first IsLessDense not_both jobs e.least it.least y number it.each
-        (λ i i_job none. chained y.job.value y.job.work e.least.job.value e.least.job.work i.value i.work i_job.work less
+        (λ i i_job none. chained y.job.value y.job.work e.least.job.value e.least.job.work i.value i.work i_job.work
+        less
         (no_less i e.least.job none)))
     by_order (inr more) = let over : IsLessDense y.job e.least.job → ⊥ = λ less. absurd (omega arith) in
-        subst (IsLeastDense (jobs ++ y.job ∷ [])) (sym (old over)) (stays_first IsLessDense not_both jobs e.least it.least y.job over)
+        subst (IsLeastDense (jobs ++ y.job ∷ [])) (sym (old over))
+        (stays_first IsLessDense not_both jobs e.least it.least y.job over)
 
   -- the one that is kept as the densest
-  pub densest_more : (x : Numbered) → (IsLessDense e.densest.job y.job → x ≡ y) → ((IsLessDense e.densest.job y.job → ⊥) → x ≡ e.densest)
+  pub densest_more : (x : Numbered) → (IsLessDense e.densest.job y.job → x ≡ y)
+      → ((IsLessDense e.densest.job y.job → ⊥) → x ≡ e.densest)
       → IsDensest (jobs ++ y.job ∷ []) x
-  densest_more x new old = by_order (cases_lt (e.densest.job.value * y.job.work) (y.job.value * e.densest.job.work)) where
-    by_order : IsLessDense e.densest.job y.job ⊎ ((y.job.value * e.densest.job.work) ≤ (e.densest.job.value * y.job.work))
-        → IsDensest (jobs ++ y.job ∷ []) x
-    by_order (inl denser) = subst (IsDensest (jobs ++ y.job ∷ [])) (sym (new denser))
-        (becomes_first IsDenser not_both_denser jobs e.densest it.densest y number it.each (λ i i_job none.
-        let at_most : i.value * e.densest.job.work ≤ e.densest.job.value * i.work = no_less e.densest.job i none in
-        let swapped : y.job.work * i.value < i.work * y.job.value =
-        chained y.job.work y.job.value e.densest.job.work e.densest.job.value i.work i.value i_job.worth (omega arith) (omega arith) in
-        omega arith))
-    by_order (inr less) = let over : IsLessDense e.densest.job y.job → ⊥ = λ denser. absurd (omega arith) in
-        subst (IsDensest (jobs ++ y.job ∷ [])) (sym (old over)) (stays_first IsDenser not_both_denser jobs e.densest it.densest y.job over)
+  densest_more x new old =
+      by_order (cases_lt (e.densest.job.value * y.job.work) (y.job.value * e.densest.job.work)) where
+        by_order : IsLessDense e.densest.job y.job
+            ⊎ ((y.job.value * e.densest.job.work) ≤ (e.densest.job.value * y.job.work))
+            → IsDensest (jobs ++ y.job ∷ []) x
+        by_order (inl denser) = subst (IsDensest (jobs ++ y.job ∷ [])) (sym (new denser))
+            (becomes_first IsDenser not_both_denser jobs e.densest it.densest y number it.each (λ i i_job none.
+            let at_most : i.value * e.densest.job.work ≤ e.densest.job.value * i.work = no_less e.densest.job i none in
+            let swapped : y.job.work * i.value < i.work * y.job.value =
+            chained y.job.work y.job.value e.densest.job.work e.densest.job.value i.work i.value i_job.worth
+            (omega arith)
+            (omega arith) in
+            omega arith))
+        by_order (inr less) = let over : IsLessDense e.densest.job y.job → ⊥ = λ denser. absurd (omega arith) in
+            subst (IsDensest (jobs ++ y.job ∷ [])) (sym (old over))
+            (stays_first IsDenser not_both_denser jobs e.densest it.densest y.job over)

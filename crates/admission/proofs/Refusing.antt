@@ -19,26 +19,32 @@ use Rattle.admission.proofs.Comparing.{not_both, no_less, within_least, within_d
 use Rattle.admission.proofs.Firsts.{all_both, none_under, first_is, IsDenser, not_both_denser}
 
 -- the test says so of both ways
-both_ways : (k : Fraction) (i j : JobFacts) → (IsWithinRatio k i j × IsWithinRatio k j i) → is_within_ratio_both_ways k i j ≡ true
+both_ways : (k : Fraction) (i j : JobFacts) → (IsWithinRatio k i j × IsWithinRatio k j i)
+    → is_within_ratio_both_ways k i j ≡ true
 both_ways k i j within = (both _ _ (is_within_ratio-agrees k i j) (is_within_ratio-agrees k j i)).1 within
 
 -- both ways are within
-ways : (k : Fraction) (i j : JobFacts) → is_within_ratio_both_ways k i j ≡ true → IsWithinRatio k i j × IsWithinRatio k j i
+ways : (k : Fraction) (i j : JobFacts) → is_within_ratio_both_ways k i j ≡ true → IsWithinRatio k i j
+    × IsWithinRatio k j i
 ways k i j within = (both _ _ (is_within_ratio-agrees k i j) (is_within_ratio-agrees k j i)).0 within
 
 -- what the least dense and the densest job keep, all keep
 pub all_keep : (k : Fraction) (jobs : List JobFacts) (e : Extremes) (j : JobFacts) → AreExtremes jobs e
-    → is_within_ratio_both_ways k e.least.job j ≡ true → is_within_ratio_both_ways k e.densest.job j ≡ true → AllKeepRatio k jobs j
+    → is_within_ratio_both_ways k e.least.job j ≡ true → is_within_ratio_both_ways k e.densest.job j ≡ true
+    → AllKeepRatio k jobs j
 all_keep k jobs e j it least densest =
-    all_both (λ i. IsLessDense i e.least.job → ⊥) (λ i. IsDenser i e.densest.job → ⊥) (λ i. is_within_ratio_both_ways k i j ≡ true) jobs
-    keeps (none_under IsLessDense not_both jobs e.least it.least) (none_under IsDenser not_both_denser jobs e.densest it.densest) where
+    all_both (λ i. IsLessDense i e.least.job → ⊥) (λ i. IsDenser i e.densest.job → ⊥)
+    (λ i. is_within_ratio_both_ways k i j ≡ true) jobs
+    keeps (none_under IsLessDense not_both jobs e.least it.least)
+    (none_under IsDenser not_both_denser jobs e.densest it.densest) where
       least_job : IsJob e.least.job
       least_job = first_is IsLessDense not_both jobs e.least it.least IsJob it.each
 
       densest_job : IsJob e.densest.job
       densest_job = first_is IsDenser not_both_denser jobs e.densest it.densest IsJob it.each
 
-      keeps : (i : JobFacts) → (IsLessDense i e.least.job → ⊥) → (IsDenser i e.densest.job → ⊥) → is_within_ratio_both_ways k i j ≡ true
+      keeps : (i : JobFacts) → (IsLessDense i e.least.job → ⊥) → (IsDenser i e.densest.job → ⊥)
+          → is_within_ratio_both_ways k i j ≡ true
       keeps i no_less_dense no_denser = both_ways k i j (
         within_densest k.p k.q j.value j.work e.densest.job.value e.densest.job.work i.value i.work densest_job.work
             (no_less e.densest.job i no_denser) (ways k e.densest.job j densest).0,
@@ -70,6 +76,9 @@ no_cause a b c d one two three four = rw (one, two, three, four) refl
 -- a job within all limits that keeps the ratio with all isn't refused
 pub not_refused : (k : Fraction) (jobs : List JobFacts) (j : JobFacts) → IsJob j → length jobs < most_jobs
     → total_value jobs + j.value ≤ most_total → AllKeepRatio k jobs j → refusal_of k jobs j ≡ None
-not_refused k jobs j job count total all = no_cause (is_job j) (nat_le most_jobs (length jobs)) (nat_lt most_total (total_value jobs + j.value))
-    (list_all (λ i. is_within_ratio_both_ways k i j) jobs) ((is_job-agrees j).1 job) (lt-leb _ _ count) (le-ltb _ _ total)
-    ((each (λ i. is_within_ratio_both_ways k i j) (λ i. is_within_ratio_both_ways k i j ≡ true) (λ i. (λ h. h, λ h. h)) jobs).1 all)
+not_refused k jobs j job count total all =
+    no_cause (is_job j) (nat_le most_jobs (length jobs)) (nat_lt most_total (total_value jobs + j.value))
+    (list_all (λ i. is_within_ratio_both_ways k i j) jobs) ((is_job-agrees j).1 job) (lt-leb _ _ count)
+    (le-ltb _ _ total)
+    ((each (λ i. is_within_ratio_both_ways k i j) (λ i. is_within_ratio_both_ways k i j ≡ true)
+    (λ i. (λ h. h, λ h. h)) jobs).1 all)

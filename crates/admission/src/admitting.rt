@@ -10,7 +10,8 @@ const MOST_JOBS: u32 = 1_000_000;
 /// The greatest sum of the values of all jobs.
 const MOST_TOTAL: u64 = 10_000_000_000_000;
 
-/// What admitting the next job depends on: the ratio, how many jobs were admitted, the sum of their values, and the least
+/// What admitting the next job depends on: the ratio, how many jobs were admitted, the sum of their values, and the
+/// least
 /// dense and the densest one.
 #[derive(Drop)]
 pub struct Admission {
@@ -66,8 +67,10 @@ impl Admission {
 
     /// The number of the kept job that breaks the ratio with this one, if one does: the least dense one first.
     fn breaker(&self, job: &Job) -> Option<u32>
-        ensures other { (jobs : List JobFacts) → StandsFor self.now jobs → IfSome result (λ other. IsOther self.now.ratio jobs job.now other) }
-        ensures none { (jobs : List JobFacts) → StandsFor self.now jobs → IsNone result → AllKeepRatio self.now.ratio jobs job.now }
+        ensures other { (jobs : List JobFacts) → StandsFor self.now jobs
+            → IfSome result (λ other. IsOther self.now.ratio jobs job.now other) }
+        ensures none { (jobs : List JobFacts) → StandsFor self.now jobs → IsNone result
+            → AllKeepRatio self.now.ratio jobs job.now }
     {
         match &self.extremes {
             Some(extremes) => extremes.breaker(self.ratio, job),
@@ -75,7 +78,8 @@ impl Admission {
         }
     }
 
-    /// The job of these numbers, release, work and deadline in ticks, where it may be admitted next, or why it may not. The
+    /// The job of these numbers, release, work and deadline in ticks, where it may be admitted next, or why it may not.
+    /// The
     /// numbers may be out of the limits of a job.
     #[inline(always)]
     pub fn check(&self, release: u64, work: u64, deadline: u64, value: u64) -> Result<Job, Refused>
@@ -84,7 +88,8 @@ impl Admission {
         ensures refusal { (jobs : List JobFacts) → StandsFor self.now jobs →
             refusal_of self.now.ratio jobs (job_of_numbers release work deadline value) ≡ refusal_in result }
         ensures other { (jobs : List JobFacts) → StandsFor self.now jobs →
-            IfErr result (λ refused. NamesOther self.now.ratio jobs (job_of_numbers release work deadline value) refused) }
+            IfErr result (λ refused. NamesOther self.now.ratio jobs
+            (job_of_numbers release work deadline value) refused) }
     {
         let Some(job) = Job::new(release, work, deadline, value) else {
             return Err(Refused::BadJob);

@@ -70,8 +70,10 @@ impl Extremes {
 
     /// The number of the one that breaks the ratio with this job, if one does: the least dense one first.
     pub fn breaker(&self, ratio: Ratio, job: &Job) -> Option<u32>
-        ensures other { (jobs : List JobFacts) → AreExtremes jobs self.now → IfSome result (λ other. IsOther ratio jobs job.now other) }
-        ensures none { (jobs : List JobFacts) → AreExtremes jobs self.now → IsNone result → AllKeepRatio ratio jobs job.now }
+        ensures other { (jobs : List JobFacts) → AreExtremes jobs self.now
+            → IfSome result (λ other. IsOther ratio jobs job.now other) }
+        ensures none { (jobs : List JobFacts) → AreExtremes jobs self.now → IsNone result
+            → AllKeepRatio ratio jobs job.now }
     {
         if !keeps_ratio(ratio, &self.least.job, job) {
             return Some(self.least.number);

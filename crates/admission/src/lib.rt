@@ -1,4 +1,5 @@
-//! Which jobs are admitted: within the limits of one job and of all jobs, and within the ratio of each other's densities.
+//! Which jobs are admitted: within the limits of one job and of all jobs, and within the ratio of each other's
+//! densities.
 #![tactic(auto)]
 
 mod admitting;

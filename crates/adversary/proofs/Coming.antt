@@ -1,5 +1,6 @@
 -- The jobs that are still to come, one by one: a link of the tick, else the tick's unit job, else the bait.
-use Rattle.std.proofs.Common.{◌≡◌, ℕ, zero, suc, ◌+◌, ◌-◌, ◌≤◌, ◌<◌, List, [], ◌∷◌, ◌++◌, cond, eqb, refl, ap, ◌∙◌, arith}
+use Rattle.std.proofs.Common.{◌≡◌, ℕ, zero, suc, ◌+◌, ◌-◌, ◌≤◌, ◌<◌, List, [], ◌∷◌, ◌++◌, cond, eqb, refl, ap, ◌∙◌}
+use Rattle.std.proofs.Common.{arith}
 use Rattle.std.specs.List.{filter, flat_map, range_with_len, AllByRecursion, sum}
 use Rattle.std.proofs.lemmas.Bool.{eq-eqb, ne_eqb}
 use Rattle.std.proofs.lemmas.List.Sums.{sum_by-cons}
@@ -23,9 +24,10 @@ AreAfter t xs = AllByRecursion (λ j. t < j.release) xs
 -- none is released at a tick before all
 none_at : (t : ℕ) (xs : List JobFacts) → AreAfter t xs → at xs t ≡ []
 none_at t [] later = refl
-none_at t (j ∷ xs) later = ap (λ b. cond b (j ∷ at xs t) (at xs t)) (ne_eqb j.release t (other j.release later.0)) ∙ none_at t xs later.1 where
-  other : (r : ℕ) → t < r → r ≡ t → ⊥
-  other r less same = omega arith
+none_at t (j ∷ xs) later = ap (λ b. cond b (j ∷ at xs t) (at xs t)) (ne_eqb j.release t (other j.release later.0))
+    ∙ none_at t xs later.1 where
+      other : (r : ℕ) → t < r → r ≡ t → ⊥
+      other r less same = omega arith
 
 -- one that is released at the tick is the first
 pub one_at : (t : ℕ) (j : JobFacts) (xs : List JobFacts) → j.release ≡ t → at (j ∷ xs) t ≡ j ∷ at xs t
@@ -42,7 +44,8 @@ not_later : (unit : ℕ) (j : JobFacts) (xs : List JobFacts) (t n : ℕ) → j.r
     → flat_map (of_tick unit (j ∷ xs)) (range_with_len t n) ≡ flat_map (of_tick unit xs) (range_with_len t n)
 not_later unit j xs t zero before = refl
 not_later unit j xs t (suc n) before =
-    ap (λ ys. (ys ++ tight_job t 1 unit ∷ []) ++ flat_map (of_tick unit (j ∷ xs)) (range_with_len (t + 1) n)) (not_at t j xs before)
+    ap (λ ys. (ys ++ tight_job t 1 unit ∷ []) ++ flat_map (of_tick unit (j ∷ xs)) (range_with_len (t + 1) n))
+    (not_at t j xs before)
     ∙ ap (λ ys. of_tick unit xs t ++ ys) (not_later unit j xs (t + 1) n (omega arith))
 
 -- a link of the present tick comes first
@@ -50,11 +53,13 @@ pub link_first : (unit bait b : ℕ) (j : JobFacts) (xs : List JobFacts) (t n : 
     → jobs_from unit bait b (j ∷ xs) t n ≡ j ∷ jobs_from unit bait b xs t n
 link_first unit bait b j xs t zero here end = ap (λ ys. ys ++ tight_job b bait 1 ∷ []) (one_at b j xs (omega arith))
 link_first unit bait b j xs t (suc n) here end =
-    ap (λ ys. (((ys ++ tight_job t 1 unit ∷ []) ++ flat_map (of_tick unit (j ∷ xs)) (range_with_len (t + 1) n)) ++ at (j ∷ xs) b)
+    ap (λ ys. (((ys ++ tight_job t 1 unit ∷ []) ++ flat_map (of_tick unit (j ∷ xs)) (range_with_len (t + 1) n)) ++ at
+    (j ∷ xs) b)
     ++ tight_job b bait 1 ∷ []) (one_at t j xs here)
     ∙ ap (λ ys. ((((j ∷ at xs t) ++ tight_job t 1 unit ∷ []) ++ ys) ++ at (j ∷ xs) b) ++ tight_job b bait 1 ∷ [])
     (not_later unit j xs (t + 1) n (omega arith))
-    ∙ ap (λ ys. ((((j ∷ at xs t) ++ tight_job t 1 unit ∷ []) ++ flat_map (of_tick unit xs) (range_with_len (t + 1) n)) ++ ys)
+    ∙ ap (λ ys. ((((j ∷ at xs t) ++ tight_job t 1 unit ∷ []) ++ flat_map (of_tick unit xs) (range_with_len (t + 1) n))
+    ++ ys)
     ++ tight_job b bait 1 ∷ []) (not_at b j xs (omega arith))
 
 -- where no link is left in the tick, the unit job is next
@@ -65,7 +70,8 @@ unit_next unit bait b xs t n later =
     ++ tight_job b bait 1 ∷ []) (none_at t xs later)
 
 -- and at the bait's tick the bait is
-pub bait_last : (unit bait b : ℕ) (xs : List JobFacts) → AreAfter b xs → jobs_from unit bait b xs b 0 ≡ tight_job b bait 1 ∷ []
+pub bait_last : (unit bait b : ℕ) (xs : List JobFacts) → AreAfter b xs
+    → jobs_from unit bait b xs b 0 ≡ tight_job b bait 1 ∷ []
 bait_last unit bait b xs later = ap (λ ys. ys ++ tight_job b bait 1 ∷ []) (none_at b xs later)
 
 -- ---- the links
@@ -88,7 +94,9 @@ are_after t r (w ∷ ws) some later = (later, are_after t (r + w - 1) ws some.1 
 -- links of at least one sum to at least their number
 pub sum_least : (k : Fraction) (links w : ℕ) → 1 ≤ w → links ≤ sum (chain_from k links w)
 sum_least k zero w some = omega arith
-sum_least k (suc links) w some = rise w (sum (chain_from k links (suc (most_light k w)))) (sum (chain_from k (suc links) w)) some
-    (sum_least k links (suc (most_light k w)) (omega arith)) (sum_by-cons (λ x. x) w (chain_from k links (suc (most_light k w)))) where
+sum_least k (suc links) w some =
+    rise w (sum (chain_from k links (suc (most_light k w)))) (sum (chain_from k (suc links) w)) some
+    (sum_least k links (suc (most_light k w)) (omega arith))
+    (sum_by-cons (λ x. x) w (chain_from k links (suc (most_light k w)))) where
       rise : (w rest all : ℕ) → 1 ≤ w → links ≤ rest → all ≡ w + rest → suc links ≤ all
       rise w rest all some low is = omega arith

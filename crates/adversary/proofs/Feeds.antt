@@ -1,5 +1,7 @@
--- What is true of a feed that streams: how many jobs it has, what they are worth, that each is within limits, and that they are in order.
-use Rattle.std.proofs.Common.{◌≡◌, ℕ, zero, suc, ◌+◌, ◌-◌, ◌*◌, ◌≤◌, ◌<◌, inl, inr, List, [], ◌∷◌, length, refl, ap, ◌∙◌, subst, arith}
+-- What is true of a feed that streams: how many jobs it has, what they are worth, that each is within limits, and that
+-- they are in order.
+use Rattle.std.proofs.Common.{◌≡◌, ℕ, zero, suc, ◌+◌, ◌-◌, ◌*◌, ◌≤◌, ◌<◌, inl, inr, List, [], ◌∷◌, length, refl, ap}
+use Rattle.std.proofs.Common.{◌∙◌, subst, arith}
 use Rattle.std.specs.List.{sum, AllByRecursion}
 use Rattle.std.proofs.lemmas.List.Sums.{sum_by-cons}
 use Rattle.std.proofs.Math.Nat.{div-le_self, le-div_iff_mul-le}
@@ -9,23 +11,28 @@ use Rattle.dover_model.specs.JobFacts.{JobFacts}
 use Rattle.dover_model.specs.Instance.{IsInOrder, total_value}
 use Rattle.dover_model.specs.Sound.{IsMember}
 use Rattle.dover_model.proofs.Members.{all_member}
-use Rattle.dover_model.specs.Bait.{unit_value, first_link, most_light, chain_from, chain, bait_value, tight_job, chain_jobs, bait_tick, bait_jobs}
+use Rattle.dover_model.specs.Bait.{unit_value, first_link, most_light, chain_from, chain, bait_value, tight_job}
+use Rattle.dover_model.specs.Bait.{chain_jobs, bait_tick, bait_jobs}
 use Rattle.adversary.specs.Baiting.{FitsLimits}
 use Rattle.adversary.proofs.Coming.{are_some, sum_least}
 use Rattle.adversary.proofs.Streaming.{Streams, gives_link, gives_unit, gives_bait, LeadsTo, plan_from, streams}
 
 module _ (unit bait : ℕ) where
   -- how many jobs there are
-  pub how_many : (n t ticks r : ℕ) (ws : List ℕ) (jobs : List JobFacts) (plan : List ℕ) → Streams unit bait n t ticks r ws jobs plan
+  pub how_many : (n t ticks r : ℕ) (ws : List ℕ) (jobs : List JobFacts) (plan : List ℕ)
+      → Streams unit bait n t ticks r ws jobs plan
       → length jobs ≡ ticks + length ws + 1
-  how_many n t ticks r (w ∷ ws) (j ∷ jobs) plan (gives_link now some more) = ap suc (how_many (suc n) t ticks (r + w - 1) ws jobs plan more)
+  how_many n t ticks r (w ∷ ws) (j ∷ jobs) plan (gives_link now some more) =
+      ap suc (how_many (suc n) t ticks (r + w - 1) ws jobs plan more)
       ∙ omega arith
-  how_many n t (suc ticks) r ws (j ∷ jobs) (m ∷ plan) (gives_unit early later more) = ap suc (how_many (suc n) (t + 1) ticks r ws jobs plan more)
+  how_many n t (suc ticks) r ws (j ∷ jobs) (m ∷ plan) (gives_unit early later more) =
+      ap suc (how_many (suc n) (t + 1) ticks r ws jobs plan more)
       ∙ omega arith
   how_many n t zero r [] jobs plan gives_bait = refl
 
   -- what they are worth
-  pub how_much : (n t ticks r : ℕ) (ws : List ℕ) (jobs : List JobFacts) (plan : List ℕ) → Streams unit bait n t ticks r ws jobs plan
+  pub how_much : (n t ticks r : ℕ) (ws : List ℕ) (jobs : List JobFacts) (plan : List ℕ)
+      → Streams unit bait n t ticks r ws jobs plan
       → total_value jobs ≡ sum ws + unit * ticks + bait
   how_much n t ticks r (w ∷ ws) (j ∷ jobs) plan (gives_link now some more) = omega (
     arith,
@@ -41,22 +48,29 @@ module _ (unit bait : ℕ) where
   how_much n t zero r [] jobs plan gives_bait = omega (arith, sum_by-cons (λ i. i.value) (tight_job t bait 1) [])
 
   -- what holds of each link, of each unit job and of the bait holds of each job
-  pub all_given : (P : JobFacts → Type 0) (last most : ℕ) → ((s w : ℕ) → s ≤ last → 1 ≤ w → w ≤ most → P (tight_job s w 1))
+  pub all_given : (P : JobFacts → Type 0) (last most : ℕ)
+      → ((s w : ℕ) → s ≤ last → 1 ≤ w → w ≤ most → P (tight_job s w 1))
       → ((s : ℕ) → s ≤ last → P (tight_job s 1 unit)) → ((s : ℕ) → s ≤ last → P (tight_job s bait 1))
-      → (n t ticks r : ℕ) (ws : List ℕ) (jobs : List JobFacts) (plan : List ℕ) → Streams unit bait n t ticks r ws jobs plan
+      → (n t ticks r : ℕ) (ws : List ℕ) (jobs : List JobFacts) (plan : List ℕ)
+      → Streams unit bait n t ticks r ws jobs plan
       → t + ticks ≤ last → AllByRecursion (λ w. w ≤ most) ws → AllByRecursion P jobs
-  all_given P last most link unit_job bait_job n t ticks r (w ∷ ws) (j ∷ jobs) plan (gives_link now some more) within modest = (
-    link r w (omega (arith, within, now)) some modest.0,
-    all_given P last most link unit_job bait_job (suc n) t ticks (r + w - 1) ws jobs plan more within modest.1,
-  )
-  all_given P last most link unit_job bait_job n t (suc ticks) r ws (j ∷ jobs) (m ∷ plan) (gives_unit early later more) within modest = (
-    unit_job t (omega (arith, within)),
-    all_given P last most link unit_job bait_job (suc n) (t + 1) ticks r ws jobs plan more (omega (arith, within)) modest,
-  )
-  all_given P last most link unit_job bait_job n t zero r [] jobs plan gives_bait within modest = (bait_job t (omega (arith, within)), tt)
+  all_given P last most link unit_job bait_job n t ticks r (w ∷ ws) (j ∷ jobs) plan
+      (gives_link now some more) within modest = (
+        link r w (omega (arith, within, now)) some modest.0,
+        all_given P last most link unit_job bait_job (suc n) t ticks (r + w - 1) ws jobs plan more within modest.1,
+      )
+  all_given P last most link unit_job bait_job n t (suc ticks) r ws (j ∷ jobs) (m ∷ plan)
+      (gives_unit early later more) within modest = (
+        unit_job t (omega (arith, within)),
+        all_given P last most link unit_job bait_job (suc n) (t + 1) ticks r ws jobs plan more
+            (omega (arith, within)) modest,
+      )
+  all_given P last most link unit_job bait_job n t zero r [] jobs plan gives_bait within modest =
+      (bait_job t (omega (arith, within)), tt)
 
   -- no release comes before the present tick
-  all_later : (low n t ticks r : ℕ) (ws : List ℕ) (jobs : List JobFacts) (plan : List ℕ) → Streams unit bait n t ticks r ws jobs plan
+  all_later : (low n t ticks r : ℕ) (ws : List ℕ) (jobs : List JobFacts) (plan : List ℕ)
+      → Streams unit bait n t ticks r ws jobs plan
       → low ≤ t → AllByRecursion (λ j. low ≤ j.release) jobs
   all_later low n t ticks r (w ∷ ws) (j ∷ jobs) plan (gives_link now some more) early =
       (omega (arith, early, now), all_later low (suc n) t ticks (r + w - 1) ws jobs plan more early)
@@ -65,20 +79,28 @@ module _ (unit bait : ℕ) where
   all_later low n t zero r [] jobs plan gives_bait early = (early, tt)
 
   -- the jobs are in the order of their releases
-  pub in_order : (n t ticks r : ℕ) (ws : List ℕ) (jobs : List JobFacts) (plan : List ℕ) → Streams unit bait n t ticks r ws jobs plan
+  pub in_order : (n t ticks r : ℕ) (ws : List ℕ) (jobs : List JobFacts) (plan : List ℕ)
+      → Streams unit bait n t ticks r ws jobs plan
       → IsInOrder jobs
-  in_order n t ticks r (w ∷ ws) (j ∷ jobs) plan (gives_link now some more) =
-      (all_later r (suc n) t ticks (r + w - 1) ws jobs plan more (omega (arith, now)), in_order (suc n) t ticks (r + w - 1) ws jobs plan more)
-  in_order n t (suc ticks) r ws (j ∷ jobs) (m ∷ plan) (gives_unit early later more) =
-      (all_later t (suc n) (t + 1) ticks r ws jobs plan more (omega arith), in_order (suc n) (t + 1) ticks r ws jobs plan more)
+  in_order n t ticks r (w ∷ ws) (j ∷ jobs) plan (gives_link now some more) = (
+    all_later r (suc n) t ticks (r + w - 1) ws jobs plan more (omega (arith, now)),
+    in_order (suc n) t ticks (r + w - 1) ws jobs plan more,
+  )
+  in_order n t (suc ticks) r ws (j ∷ jobs) (m ∷ plan) (gives_unit early later more) = (
+    all_later t (suc n) (t + 1) ticks r ws jobs plan more (omega arith),
+    in_order (suc n) (t + 1) ticks r ws jobs plan more,
+  )
   in_order n t zero r [] jobs plan gives_bait = (tt, tt)
 
   -- the bait is one of the jobs
-  pub has_bait : (n t ticks r : ℕ) (ws : List ℕ) (jobs : List JobFacts) (plan : List ℕ) → Streams unit bait n t ticks r ws jobs plan
+  pub has_bait : (n t ticks r : ℕ) (ws : List ℕ) (jobs : List JobFacts) (plan : List ℕ)
+      → Streams unit bait n t ticks r ws jobs plan
       → IsMember (tight_job (t + ticks) bait 1) jobs
-  has_bait n t ticks r (w ∷ ws) (j ∷ jobs) plan (gives_link now some more) = inr (has_bait (suc n) t ticks (r + w - 1) ws jobs plan more)
+  has_bait n t ticks r (w ∷ ws) (j ∷ jobs) plan (gives_link now some more) =
+      inr (has_bait (suc n) t ticks (r + w - 1) ws jobs plan more)
   has_bait n t (suc ticks) r ws (j ∷ jobs) (m ∷ plan) (gives_unit early later more) =
-      inr (subst (λ s. IsMember (tight_job s bait 1) jobs) same (has_bait (suc n) (t + 1) ticks r ws jobs plan more)) where
+      inr (subst (λ s. IsMember (tight_job s bait 1) jobs) same
+      (has_bait (suc n) (t + 1) ticks r ws jobs plan more)) where
         same : t + 1 + ticks ≡ t + suc ticks
         same = omega arith
   has_bait n t zero r [] jobs plan gives_bait = inl (ap (λ s. tight_job s bait 1) same) where
@@ -120,9 +142,11 @@ module _ (k : Fraction) (rounds : ℕ) where
     level all many is low = omega arith
 
   -- the whole feed streams
-  pub whole : Streams (unit_value k) (bait_value k rounds) 0 0 (bait_tick k rounds) 0 (chain k rounds) (bait_jobs k rounds)
+  pub whole : Streams (unit_value k) (bait_value k rounds) 0 0 (bait_tick k rounds) 0 (chain k rounds)
+      (bait_jobs k rounds)
       (plan_from (bait_value k rounds) 0 (chain_jobs k rounds) 0 (bait_tick k rounds))
-  whole = streams (unit_value k) (bait_value k rounds) (bait_tick k rounds) (bait_tick k rounds + length (chain k rounds)) 0 0
+  whole = streams (unit_value k) (bait_value k rounds) (bait_tick k rounds)
+      (bait_tick k rounds + length (chain k rounds)) 0 0
       (bait_tick k rounds) 0
       (chain k rounds) (omega arith) leads
 
@@ -138,13 +162,17 @@ module _ (k : Fraction) (rounds : ℕ) where
   -- what holds of each link, of each unit job and of the bait of a small feed holds of each job
   pub all_jobs : (P : JobFacts → Type 0) → sum (chain k rounds) < most_jobs
       → ((s w : ℕ) → s < most_jobs → 1 ≤ w → w < most_jobs → P (tight_job s w 1))
-      → ((s : ℕ) → s < most_jobs → P (tight_job s 1 (unit_value k))) → ((s : ℕ) → s < most_jobs → P (tight_job s (bait_value k rounds) 1))
+      → ((s : ℕ) → s < most_jobs → P (tight_job s 1 (unit_value k)))
+      → ((s : ℕ) → s < most_jobs → P (tight_job s (bait_value k rounds) 1))
       → AllByRecursion P (bait_jobs k rounds)
   all_jobs P small link unit_job bait_job = all_given (unit_value k) (bait_value k rounds) P 999_999 999_999
-      (λ s w early some low. link s w (omega arith) some (omega arith)) (λ s early. unit_job s (omega arith)) (λ s early. bait_job s (omega arith))
-      0 0 (bait_tick k rounds) 0 (chain k rounds) (bait_jobs k rounds) (plan_from (bait_value k rounds) 0 (chain_jobs k rounds) 0
+      (λ s w early some low. link s w (omega arith) some (omega arith)) (λ s early. unit_job s (omega arith))
+      (λ s early. bait_job s (omega arith))
+      0 0 (bait_tick k rounds) 0 (chain k rounds) (bait_jobs k rounds)
+      (plan_from (bait_value k rounds) 0 (chain_jobs k rounds) 0
       (bait_tick k rounds)) whole
-      (level (sum (chain k rounds)) small) (links_low 999_999 (chain k rounds) (below (sum (chain k rounds)) small)) where
+      (level (sum (chain k rounds)) small)
+      (links_low 999_999 (chain k rounds) (below (sum (chain k rounds)) small)) where
         level : (all : ℕ) → all < most_jobs → 0 + (all - rounds) ≤ 999_999
         level all low = omega arith
 
@@ -171,13 +199,16 @@ unit_low k ratio = omega (arith, div-le_self k.p k.q, ratio.small_p)
 
 -- and at least one
 pub unit_some : (k : Fraction) → IsRatio k → 1 ≤ unit_value k
-unit_some k ratio = (le-div_iff_mul-le {k = k.q} {x = 1} {y = k.p} (omega (arith, ratio.least))).1 (omega (arith, ratio.above_one))
+unit_some k ratio = (le-div_iff_mul-le {k = k.q} {x = 1} {y = k.p} (omega (arith, ratio.least))).1
+    (omega (arith, ratio.above_one))
 
 -- a small chain with a modest bait is within the limits
-pub fits : (k : Fraction) (rounds : ℕ) → IsRatio k → sum (chain k rounds) < most_jobs → bait_value k rounds ≤ most_value → FitsLimits k rounds
+pub fits : (k : Fraction) (rounds : ℕ) → IsRatio k → sum (chain k rounds) < most_jobs → bait_value k rounds ≤ most_value
+    → FitsLimits k rounds
 fits k rounds ratio low modest = record {
   few = level (sum (chain k rounds)) (length (bait_jobs k rounds)) (count k rounds) low;
-  modest = all_member (λ j. j.value ≤ most_value) (bait_jobs k rounds) (all_jobs k rounds (λ j. j.value ≤ most_value) low
+  modest = all_member (λ j. j.value ≤ most_value) (bait_jobs k rounds)
+      (all_jobs k rounds (λ j. j.value ≤ most_value) low
       (λ s w early some below. omega arith) (λ s early. unit_of (unit_value k) (unit_low k ratio))
       (λ s early. bait_of (bait_value k rounds) modest));
 } where

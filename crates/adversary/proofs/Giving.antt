@@ -1,5 +1,6 @@
 -- What the fields of a Bait say, and what they become when a job is given.
-use Rattle.std.proofs.Common.{◌≡◌, ℕ, zero, suc, ◌+◌, ◌-◌, ◌*◌, ◌≤◌, ◌<◌, ◌⊎◌, inl, inr, List, [], ◌∷◌, Bool, true, false, cond, length, sym, ap}
+use Rattle.std.proofs.Common.{◌≡◌, ℕ, zero, suc, ◌+◌, ◌-◌, ◌*◌, ◌≤◌, ◌<◌, ◌⊎◌, inl, inr, List, [], ◌∷◌, Bool, true}
+use Rattle.std.proofs.Common.{false, cond, length, sym, ap}
 use Rattle.std.proofs.Common.{◌∙◌, subst}
 use Rattle.std.proofs.Common.{arith, Fits, w64}
 use Rattle.std.specs.List.{sum}
@@ -9,7 +10,8 @@ use Rattle.std.proofs.lemmas.List.Sums.{sum_by-cons}
 use Rattle.dover_model.specs.Limits.{most_jobs, most_value, last_tick}
 use Rattle.dover_model.specs.Fraction.{Fraction}
 use Rattle.dover_model.specs.JobFacts.{JobFacts}
-use Rattle.dover_model.specs.Bait.{most_light, first_link, chain_from, chain, bait_tick, bait_value, chain_jobs_from, tight_job, bait_jobs}
+use Rattle.dover_model.specs.Bait.{most_light, first_link, chain_from, chain, bait_tick, bait_value, chain_jobs_from}
+use Rattle.dover_model.specs.Bait.{tight_job, bait_jobs}
 use Rattle.dover_model.specs.Bait.{unit_value, plan_value}
 use Rattle.adversary.specs.declared.feed.Bait.TheInside.{Inside}
 use Rattle.adversary.specs.Baiting.{Baiting, FitsLimits, jobs_from}
@@ -36,7 +38,8 @@ module _ (a : Inside) (kept : IsKept a) where
     level b rounds all is = omega arith
 
   pub kept_plan : (unit : ℕ) → unit ≡ unit_value a.k → unit * a.bait_tick + a.chain.light ≡ plan_value a.k a.rounds
-  kept_plan unit is = ap (λ u. u * a.bait_tick + a.chain.light) is ∙ ap (λ b. unit_value a.k * b + a.chain.light) kept_tick
+  kept_plan unit is = ap (λ u. u * a.bait_tick + a.chain.light) is
+      ∙ ap (λ b. unit_value a.k * b + a.chain.light) kept_tick
       ∙ ap (λ v. unit_value a.k * bait_tick a.k a.rounds + v) kept.numbers.light
 
   pub tick_low : a.bait_tick < 1_000_000
@@ -48,15 +51,18 @@ product_low : (unit b : ℕ) → unit ≤ 1_000_000 → b < 1_000_000 → unit *
 product_low unit b small low = mul-le unit b 1_000_000 1_000_000 small (omega arith)
 
 pub product_fits : (unit b : ℕ) → unit ≤ 1_000_000 → b < 1_000_000 → Fits w64 (unit * b)
-product_fits unit b small low = let most : unit * b ≤ 1_000_000 * 1_000_000 = product_low unit b small low in omega (arith, most)
+product_fits unit b small low = let most : unit * b ≤ 1_000_000 * 1_000_000 = product_low unit b small low in
+    omega (arith, most)
 
 pub plan_fits : (unit b v : ℕ) → unit ≤ 1_000_000 → b < 1_000_000 → v ≤ most_value → Fits w64 (unit * b + v)
-plan_fits unit b v small low modest = let most : unit * b ≤ 1_000_000 * 1_000_000 = product_low unit b small low in omega (arith, most, modest)
+plan_fits unit b v small low modest = let most : unit * b ≤ 1_000_000 * 1_000_000 = product_low unit b small low in
+    omega (arith, most, modest)
 
 -- ---- the next link
 
 -- where links are left, the next one is due one tick behind the bait's tick at the latest
-pub link_within : (k : Fraction) (links r w b : ℕ) → 1 ≤ links → 1 ≤ w → r + sum (chain_from k links w) ≡ b + links → r + w ≤ b + 1
+pub link_within : (k : Fraction) (links r w b : ℕ) → 1 ≤ links → 1 ≤ w → r + sum (chain_from k links w) ≡ b + links
+    → r + w ≤ b + 1
 link_within k zero r w b many some left = absurd (omega (arith, many))
 link_within k (suc links) r w b many some left =
     level (sum (chain_from k links (suc (most_light k w)))) (sum (chain_from k (suc links) w))
@@ -75,7 +81,8 @@ release_within k (suc links) r w b some left = level (link_within k (suc links) 
   level low = omega arith
 
 -- the links behind it lead to the bait's tick as well
-pub link_left : (k : Fraction) (links r w b light : ℕ) → 1 ≤ links → 1 ≤ w → light ≡ most_light k w → r + sum (chain_from k links w) ≡ b + links
+pub link_left : (k : Fraction) (links r w b light : ℕ) → 1 ≤ links → 1 ≤ w → light ≡ most_light k w
+    → r + sum (chain_from k links w) ≡ b + links
     → r + (w - 1) + sum (chain_from k (links - 1) (light + 1)) ≡ b + (links - 1)
 link_left k links r w b light many some lights left =
     level (sum (chain_from k (links - 1) (light + 1))) (sum (chain_from k links w))
@@ -88,13 +95,18 @@ link_left k links r w b light many some lights left =
       level rest all is left = omega (arith, many, some)
 
 -- a link of the present tick is given
-pub link_given : (unit bait b : ℕ) (k : Fraction) (links r w t light : ℕ) → 1 ≤ links → 1 ≤ w → r ≡ t → t ≤ b → light ≡ most_light k w
+pub link_given : (unit bait b : ℕ) (k : Fraction) (links r w t light : ℕ) → 1 ≤ links → 1 ≤ w → r ≡ t → t ≤ b
+    → light ≡ most_light k w
     → jobs_from unit bait b (chain_jobs_from r (chain_from k links w)) t (b - t)
-    ≡ tight_job r w 1 ∷ jobs_from unit bait b (chain_jobs_from (r + (w - 1)) (chain_from k (links - 1) (light + 1))) t (b - t)
+    ≡ tight_job r w 1 ∷ jobs_from unit bait b (chain_jobs_from (r + (w - 1)) (chain_from k (links - 1) (light + 1))) t
+    (b - t)
 link_given unit bait b k links r w t light many some now early lights =
-    ap (λ ws. jobs_from unit bait b (chain_jobs_from r ws) t (b - t)) (chain_step k links (links - 1) w light (fewer links many) lights)
-    ∙ link_first unit bait b (tight_job r w 1) (chain_jobs_from (r + w - 1) (chain_from k (links - 1) (light + 1))) t (b - t) now (end t early)
-    ∙ ap (λ s. tight_job r w 1 ∷ jobs_from unit bait b (chain_jobs_from s (chain_from k (links - 1) (light + 1))) t (b - t)) (next w some) where
+    ap (λ ws. jobs_from unit bait b (chain_jobs_from r ws) t (b - t))
+    (chain_step k links (links - 1) w light (fewer links many) lights)
+    ∙ link_first unit bait b (tight_job r w 1) (chain_jobs_from (r + w - 1) (chain_from k (links - 1) (light + 1))) t
+    (b - t) now (end t early)
+    ∙ ap (λ s. tight_job r w 1 ∷ jobs_from unit bait b (chain_jobs_from s (chain_from k (links - 1) (light + 1))) t
+    (b - t)) (next w some) where
       fewer : (m : ℕ) → 1 ≤ m → m ≡ suc (m - 1)
       fewer m many = omega arith
 
@@ -135,7 +147,8 @@ at_end t r b early within late = omega arith
 abbrev pub NoneNow : (links r t : ℕ) → Type 0
 NoneNow links r t = (links ≤ 0) ⊎ (r ≡ t → ⊥)
 
-none_now_after : (k : Fraction) (links r w t : ℕ) → 1 ≤ w → t ≤ r → NoneNow links r t → AreAfter t (chain_jobs_from r (chain_from k links w))
+none_now_after : (k : Fraction) (links r w t : ℕ) → 1 ≤ w → t ≤ r → NoneNow links r t
+    → AreAfter t (chain_jobs_from r (chain_from k links w))
 none_now_after k zero r w t some early none = tt
 none_now_after k (suc links) r w t some early (inl none) = absurd (omega (arith, none))
 none_now_after k (suc links) r w t some early (inr other) =
@@ -150,12 +163,14 @@ pub unit_given : (unit bait b : ℕ) (k : Fraction) (links r w t : ℕ) → 1 �
     ≡ tight_job t 1 unit ∷ jobs_from unit bait b (chain_jobs_from r (chain_from k links w)) (t + 1) (b - (t + 1))
 unit_given unit bait b k links r w t some early none before =
     ap (λ n. jobs_from unit bait b (chain_jobs_from r (chain_from k links w)) t n) fewer
-    ∙ unit_next unit bait b (chain_jobs_from r (chain_from k links w)) t (b - (t + 1)) (none_now_after k links r w t some early none) where
+    ∙ unit_next unit bait b (chain_jobs_from r (chain_from k links w)) t (b - (t + 1))
+    (none_now_after k links r w t some early none) where
       fewer : b - t ≡ suc (b - (t + 1))
       fewer = omega arith
 
 -- and the next tick has not passed the next release
-pub unit_early : (k : Fraction) (links r w b t : ℕ) → t ≤ r → NoneNow links r t → r + sum (chain_from k links w) ≡ b + links → t < b → t + 1 ≤ r
+pub unit_early : (k : Fraction) (links r w b t : ℕ) → t ≤ r → NoneNow links r t
+    → r + sum (chain_from k links w) ≡ b + links → t < b → t + 1 ≤ r
 unit_early k zero r w b t early none left before = level left where
   level : r + 0 ≡ b + 0 → t + 1 ≤ r
   level left = omega arith
@@ -171,24 +186,30 @@ pub bait_given : (unit bait b : ℕ) (k : Fraction) (links r w t : ℕ) → 1 �
 bait_given unit bait b k links r w t some early none end =
     ap (λ s. jobs_from unit bait s (chain_jobs_from r (chain_from k links w)) t (s - t)) (sym end)
     ∙ ap (λ n. jobs_from unit bait t (chain_jobs_from r (chain_from k links w)) t n) over
-    ∙ bait_last unit bait t (chain_jobs_from r (chain_from k links w)) (none_now_after k links r w t some early none) where
+    ∙ bait_last unit bait t (chain_jobs_from r (chain_from k links w))
+    (none_now_after k links r w t some early none) where
       over : t - t ≡ 0
       over = omega arith
 
 -- ---- what is seen of it
 
 -- a job is given, while the bait is still to come
-pub turn : (before after : List JobFacts) (over : Bool) (xs ys : List JobFacts) (i j : JobFacts) → cond over [] xs ≡ before → over ≡ false → j ≡ i
+pub turn : (before after : List JobFacts) (over : Bool) (xs ys : List JobFacts) (i j : JobFacts)
+    → cond over [] xs ≡ before → over ≡ false → j ≡ i
     → xs ≡ i ∷ ys → cond over [] ys ≡ after → before ≡ j ∷ after
 turn before after over xs ys i j here not_over same given there =
-    sym here ∙ ap (λ o. cond o [] xs) not_over ∙ given ∙ ap (λ x. x ∷ ys) (sym same) ∙ ap (λ o. j ∷ cond o [] ys) (sym not_over)
+    sym here ∙ ap (λ o. cond o [] xs) not_over ∙ given ∙ ap (λ x. x ∷ ys) (sym same)
+    ∙ ap (λ o. j ∷ cond o [] ys) (sym not_over)
     ∙ ap (λ zs. j ∷ zs) there
 
-pub last_turn : (before : List JobFacts) (over : Bool) (xs : List JobFacts) (i j : JobFacts) → cond over [] xs ≡ before → over ≡ false → j ≡ i
+pub last_turn : (before : List JobFacts) (over : Bool) (xs : List JobFacts) (i j : JobFacts) → cond over [] xs ≡ before
+    → over ≡ false → j ≡ i
     → xs ≡ i ∷ [] → before ≡ j ∷ []
-last_turn before over xs i j here not_over same given = sym here ∙ ap (λ o. cond o [] xs) not_over ∙ given ∙ ap (λ x. x ∷ []) (sym same)
+last_turn before over xs i j here not_over same given = sym here ∙ ap (λ o. cond o [] xs) not_over ∙ given
+    ∙ ap (λ x. x ∷ []) (sym same)
 
-pub some_given : (before after : List JobFacts) (j : JobFacts) → before ≡ j ∷ after → (true ≡ false → before ≡ []) × (before ≡ [] → true ≡ false)
+pub some_given : (before after : List JobFacts) (j : JobFacts) → before ≡ j ∷ after → (true ≡ false → before ≡ [])
+    × (before ≡ [] → true ≡ false)
 some_given before after j given = (λ e. absurd (cc), λ e. absurd (let none : j ∷ after ≡ [] = sym given ∙ e in cc))
 
 -- ---- a new feed
@@ -200,9 +221,10 @@ pub too_heavy : (v w : ℕ) → v ≡ w → most_value < v → w ≤ most_value 
 too_heavy v w is much modest = absurd (omega arith)
 
 pub rounds_low : (k : Fraction) (rounds r all : ℕ) → r ≡ rounds → all ≡ sum (chain k rounds) → r ≤ all
-rounds_low k rounds r all is total = level (sum (chain k rounds)) total (sum_least k rounds (first_link k) (omega arith)) where
-  level : (whole : ℕ) → all ≡ whole → rounds ≤ whole → r ≤ all
-  level whole total low = omega arith
+rounds_low k rounds r all is total =
+    level (sum (chain k rounds)) total (sum_least k rounds (first_link k) (omega arith)) where
+      level : (whole : ℕ) → all ≡ whole → rounds ≤ whole → r ≤ all
+      level whole total low = omega arith
 
 pub first_some : (k : Fraction) (first : ℕ) → first ≡ first_link k → 1 ≤ first
 first_some k first is = subst (λ n. 1 ≤ n) (sym is) (omega arith)
@@ -210,21 +232,27 @@ first_some k first is = subst (λ n. 1 ≤ n) (sym is) (omega arith)
 pub tick_and_rounds : (all r rounds : ℕ) → r ≡ rounds → r ≤ all → all - r + rounds ≡ all
 tick_and_rounds all r rounds is low = omega arith
 
-pub new_left : (k : Fraction) (rounds first all r : ℕ) → first ≡ first_link k → all ≡ sum (chain k rounds) → r ≡ rounds → r ≤ all
+pub new_left : (k : Fraction) (rounds first all r : ℕ) → first ≡ first_link k → all ≡ sum (chain k rounds) → r ≡ rounds
+    → r ≤ all
     → 0 + sum (chain_from k rounds first) ≡ all - r + rounds
 new_left k rounds first all r is total many low =
-    level (sum (chain_from k rounds first)) (sum (chain k rounds)) (ap (λ w. sum (chain_from k rounds w)) is) total where
+    level (sum (chain_from k rounds first)) (sum (chain k rounds))
+    (ap (λ w. sum (chain_from k rounds w)) is) total where
       level : (rest whole : ℕ) → rest ≡ whole → all ≡ whole → 0 + rest ≡ all - r + rounds
       level rest whole same total = omega (arith, many, low)
 
-pub new_jobs : (k : Fraction) (rounds light first all r : ℕ) → light ≡ bait_value k rounds → first ≡ first_link k → all ≡ sum (chain k rounds)
-    → r ≡ rounds → jobs_from (unit_value k) light (all - r) (chain_jobs_from 0 (chain_from k rounds first)) 0 (all - r - 0) ≡ bait_jobs k rounds
+pub new_jobs : (k : Fraction) (rounds light first all r : ℕ) → light ≡ bait_value k rounds → first ≡ first_link k
+    → all ≡ sum (chain k rounds)
+    → r ≡ rounds → jobs_from (unit_value k) light (all - r) (chain_jobs_from 0 (chain_from k rounds first)) 0
+    (all - r - 0) ≡ bait_jobs k rounds
 new_jobs k rounds light first all r lights is total many =
     ap (λ n. jobs_from (unit_value k) light (all - r) (chain_jobs_from 0 (chain_from k rounds first)) 0 n) all_ticks
     ∙ ap (λ b. jobs_from (unit_value k) light b (chain_jobs_from 0 (chain_from k rounds first)) 0 b)
     (ap (λ n. n - r) total ∙ ap (λ n. sum (chain k rounds) - n) many)
-    ∙ ap (λ v. jobs_from (unit_value k) v (bait_tick k rounds) (chain_jobs_from 0 (chain_from k rounds first)) 0 (bait_tick k rounds)) lights
-    ∙ ap (λ w. jobs_from (unit_value k) (bait_value k rounds) (bait_tick k rounds) (chain_jobs_from 0 (chain_from k rounds w)) 0
+    ∙ ap (λ v. jobs_from (unit_value k) v (bait_tick k rounds) (chain_jobs_from 0 (chain_from k rounds first)) 0
+    (bait_tick k rounds)) lights
+    ∙ ap (λ w. jobs_from (unit_value k) (bait_value k rounds) (bait_tick k rounds)
+    (chain_jobs_from 0 (chain_from k rounds w)) 0
     (bait_tick k rounds)) is where
       all_ticks : all - r - 0 ≡ all - r
       all_ticks = omega arith

@@ -1,5 +1,6 @@
 -- The values of the chain: the greatest value that isn't heavy, and the least against which a unit job isn't.
-use Rattle.std.proofs.Common.{◌≡◌, ℕ, suc, ◌+◌, ◌-◌, ◌*◌, ◌/◌, ◌^◌, ◌≤◌, ◌<◌, ◌⊎◌, inl, inr, refl, sym, ◌∙◌, subst, Bool, true, false, IsTrue, arith}
+use Rattle.std.proofs.Common.{◌≡◌, ℕ, suc, ◌+◌, ◌-◌, ◌*◌, ◌/◌, ◌^◌, ◌≤◌, ◌<◌, ◌⊎◌, inl, inr, refl, sym, ◌∙◌, subst}
+use Rattle.std.proofs.Common.{Bool, true, false, IsTrue, arith}
 use Rattle.std.specs.Prelude.{not}
 use Rattle.std.proofs.lemmas.Bool.{cases_lt}
 use Rattle.std.proofs.lemmas.Nat.{mul-le}
@@ -37,7 +38,8 @@ no_contrary false light holds = never holds
 -- what is more is heavy as well
 heavy_up : (k : Fraction) (v more w : ℕ) → v ≤ more → IsHeavy k v w → IsHeavy k more w
 heavy_up k v more w less heavy =
-    let square : (v - w) * (v - w) ≤ (more - w) * (more - w) = mul-le (v - w) (v - w) (more - w) (more - w) (omega arith) (omega arith) in
+    let square : (v - w) * (v - w) ≤ (more - w) * (more - w) =
+    mul-le (v - w) (v - w) (more - w) (more - w) (omega arith) (omega arith) in
     let times : k.q * ((v - w) * (v - w)) ≤ k.q * ((more - w) * (more - w)) =
     mul-le k.q ((v - w) * (v - w)) k.q ((more - w) * (more - w)) (omega arith) square in
     join (v - w) (more - w) heavy times where
@@ -68,13 +70,15 @@ far_heavy k w ratio small =
     let times : 1 * (1_000_000_000_000 * 1_000_000_000_000) ≤ k.q * ((2 ^ 65 - w) * (2 ^ 65 - w)) =
     mul-le 1 (1_000_000_000_000 * 1_000_000_000_000) k.q ((2 ^ 65 - w) * (2 ^ 65 - w)) ratio.least square in
     join (2 ^ 65 - w) times one where
-      join : (x : ℕ) → 1 * (1_000_000_000_000 * 1_000_000_000_000) ≤ k.q * (x * x) → k.p * (w * w) ≤ 1_000_000 * (1_000_000 * 1_000_000)
+      join : (x : ℕ) → 1 * (1_000_000_000_000 * 1_000_000_000_000) ≤ k.q * (x * x)
+          → k.p * (w * w) ≤ 1_000_000 * (1_000_000 * 1_000_000)
           → k.p * w * w < k.q * x * x
       join x times one = omega arith
 
 -- the greatest light value is found
 pub light_is : (k : Fraction) (w : ℕ) → IsRatio k → w ≤ 1_000_000 → IsGreatest (is_light k w) (most_light k w)
-light_is k w ratio small = greatest-is (is_light k w) (light_closed k w) (light_test k w 0 (λ heavy. nothing (heavy_more k 0 w heavy)))
+light_is k w ratio small =
+    greatest-is (is_light k w) (light_closed k w) (light_test k w 0 (λ heavy. nothing (heavy_more k 0 w heavy)))
     (beyond (is_heavy k (2 ^ 65) w) ((is_heavy-agrees k (2 ^ 65) w).1 (far_heavy k w ratio small))) where
       nothing : w < 0 → ⊥
       nothing less = omega arith
@@ -85,9 +89,10 @@ light_is k w ratio small = greatest-is (is_light k w) (light_closed k w) (light_
 
 -- w is light against itself
 pub light_least : (k : Fraction) (w : ℕ) → IsRatio k → w ≤ 1_000_000 → w ≤ most_light k w
-light_least k w ratio small = (light_is k w ratio small).greatest w (light_test k w w (λ heavy. same (heavy_more k w w heavy))) where
-  same : w < w → ⊥
-  same less = omega arith
+light_least k w ratio small =
+    (light_is k w ratio small).greatest w (light_test k w w (λ heavy. same (heavy_more k w w heavy))) where
+      same : w < w → ⊥
+      same less = omega arith
 
 -- what the root gives is the greatest light value
 pub root_is : (k : Fraction) (w root : ℕ) → IsRatio k → root * root ≤ k.p * (w * w) / k.q
@@ -98,7 +103,8 @@ root_is k w root ratio within greatest = record {
       (light_fact k w v light);
 } where
   square : k.q * (root * root) ≤ k.p * (w * w)
-  square = let times : k.q * (root * root) ≤ k.q * (k.p * (w * w) / k.q) = mul-le k.q (root * root) k.q (k.p * (w * w) / k.q)
+  square = let times : k.q * (root * root) ≤ k.q * (k.p * (w * w) / k.q) =
+      mul-le k.q (root * root) k.q (k.p * (w * w) / k.q)
       (omega arith) within in
       omega (arith, times, mul-div-le (k.p * (w * w)) k.q)
 
@@ -112,7 +118,8 @@ root_is k w root ratio within greatest = record {
   none_greater v light =
       let row : k.q * (v - w) * (v - w) ≤ k.p * w * w = not_heavy k v w light in
       let divided : (v - w) * (v - w) ≤ k.p * (w * w) / k.q =
-      (le-div_iff_mul-le {k = k.q} {x = (v - w) * (v - w)} {y = k.p * (w * w)} (omega (arith, ratio.least))).1 (turn (v - w) row) in
+      (le-div_iff_mul-le {k = k.q} {x = (v - w) * (v - w)} {y = k.p * (w * w)} (omega (arith, ratio.least))).1
+      (turn (v - w) row) in
       let less : v - w ≤ root = greatest (v - w) divided in
       omega (arith, less) where
         turn : (x : ℕ) → k.q * x * x ≤ k.p * w * w → (x * x) * k.q ≤ k.p * (w * w)
@@ -121,8 +128,10 @@ root_is k w root ratio within greatest = record {
 -- the root is at most a thousand times w
 pub root_small : (k : Fraction) (w root : ℕ) → IsRatio k → root * root ≤ k.p * (w * w) / k.q → root ≤ 1_000 * w
 root_small k w root ratio within = square_order root (1_000 * w)
-    (let times : k.q * (root * root) ≤ k.q * (k.p * (w * w) / k.q) = mul-le k.q (root * root) k.q (k.p * (w * w) / k.q) (omega arith) within in
-    let one : 1 * (root * root) ≤ k.q * (root * root) = mul-le 1 (root * root) k.q (root * root) ratio.least (omega arith) in
+    (let times : k.q * (root * root) ≤ k.q * (k.p * (w * w) / k.q) =
+    mul-le k.q (root * root) k.q (k.p * (w * w) / k.q) (omega arith) within in
+    let one : 1 * (root * root) ≤ k.q * (root * root) =
+    mul-le 1 (root * root) k.q (root * root) ratio.least (omega arith) in
     let all : k.p * (w * w) ≤ 1_000_000 * (w * w) = mul-le k.p (w * w) 1_000_000 (w * w) ratio.small_p (omega arith) in
     omega (arith, times, one, all, mul-div-le (k.p * (w * w)) k.q))
 
@@ -140,9 +149,11 @@ heavy_zero k v ratio some = (is_heavy-agrees k v 0).1 (
     subst (λ x. k.p * 0 * 0 < k.q * x * x) (sym whole) (omega (arith, times)))
 
 -- the greatest value against which v is heavy is found
-pub moved_is : (k : Fraction) (v : ℕ) → IsRatio k → 1 ≤ v → v ≤ 1_000_000_000 → IsGreatest (λ n. is_heavy k v n) (greatest (λ n. is_heavy k v n))
+pub moved_is : (k : Fraction) (v : ℕ) → IsRatio k → 1 ≤ v → v ≤ 1_000_000_000
+    → IsGreatest (λ n. is_heavy k v n) (greatest (λ n. is_heavy k v n))
 moved_is k v ratio some small = greatest-is (λ n. is_heavy k v n) (heavy_closed k v) (heavy_zero k v ratio some)
-    (fails (is_heavy k v (2 ^ 65)) (λ heavy. far (heavy_more k v (2 ^ 65) ((is_heavy-agrees k v (2 ^ 65)).0 heavy)))) where
+    (fails (is_heavy k v (2 ^ 65))
+    (λ heavy. far (heavy_more k v (2 ^ 65) ((is_heavy-agrees k v (2 ^ 65)).0 heavy)))) where
       far : 2 ^ 65 < v → ⊥
       far less = omega arith
 
@@ -163,7 +174,8 @@ first_is k v w ratio some small some_w below light =
       here = record { does = below; greatest = none_greater }
 
 -- it is the least value against which a unit job isn't heavy
-pub first_unmoved : (k : Fraction) (v : ℕ) → IsRatio k → 1 ≤ v → v ≤ 1_000_000_000 → IsLeastUnmoved k v (suc (greatest (λ n. is_heavy k v n)))
+pub first_unmoved : (k : Fraction) (v : ℕ) → IsRatio k → 1 ≤ v → v ≤ 1_000_000_000
+    → IsLeastUnmoved k v (suc (greatest (λ n. is_heavy k v n)))
 first_unmoved k v ratio some small =
     least (greatest (λ n. is_heavy k v n)) (moved_is k v ratio some small) where
       least : (g : ℕ) → IsGreatest (λ n. is_heavy k v n) g → IsLeastUnmoved k v (suc g)
@@ -201,7 +213,8 @@ next_is_heavy k w ratio small = least (most_light k w) (most_is_light k w ratio 
 
     by_test : (b : Bool) → is_heavy k (suc m) w ≡ b → IsHeavy k (suc m) w
     by_test true heavy = (is_heavy-agrees k (suc m) w).0 heavy
-    by_test false light = absurd (over (it.most (suc m) (λ heavy. never (sym light ∙ (is_heavy-agrees k (suc m) w).1 heavy))))
+    by_test false light = absurd
+        (over (it.most (suc m) (λ heavy. never (sym light ∙ (is_heavy-agrees k (suc m) w).1 heavy))))
 
     by_order : (u : ℕ) → IsHeavy k u w → (m < u) ⊎ (u ≤ m) → suc m ≤ u
     by_order u heavy (inl less) = less

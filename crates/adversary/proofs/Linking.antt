@@ -19,7 +19,8 @@ tails : {x y : ℕ} {xs ys : List ℕ} → x ∷ xs ≡ y ∷ ys → xs ≡ ys
 tails e = cc
 
 -- the first value
-pub first_least : (k : Fraction) (rounds w : ℕ) (rest : List ℕ) → IsRatio k → chain k rounds ≡ w ∷ rest → IsLeastUnmoved k (unit_value k) w
+pub first_least : (k : Fraction) (rounds w : ℕ) (rest : List ℕ) → IsRatio k → chain k rounds ≡ w ∷ rest
+    → IsLeastUnmoved k (unit_value k) w
 first_least k zero w rest ratio is = absurd (cc)
 first_least k (suc rounds) w rest ratio is =
     subst (IsLeastUnmoved k (unit_value k)) (heads is)
@@ -34,7 +35,8 @@ part_small w ws few = level w (sum ws) (sum (w ∷ ws)) (sum_by-cons (λ x. x) w
   level w rest all is few = (omega arith, omega arith)
 
 -- a value and the one before it
-next_from : (k : Fraction) (rounds first : ℕ) → IsRatio k → sum (chain_from k rounds first) < most_jobs → (before rest : List ℕ) (w v : ℕ)
+next_from : (k : Fraction) (rounds first : ℕ) → IsRatio k → sum (chain_from k rounds first) < most_jobs
+    → (before rest : List ℕ) (w v : ℕ)
     → chain_from k rounds first ≡ before ++ w ∷ v ∷ rest → IsLeastHeavy k w v
 next_from k zero first ratio few [] rest w v is = absurd (cc)
 next_from k zero first ratio few (b ∷ before) rest w v is = absurd (cc)
@@ -43,15 +45,18 @@ next_from k (suc (suc rounds)) first ratio few [] rest w v is =
     subst (λ u. IsLeastHeavy k u v) (heads is) (subst (IsLeastHeavy k first) (heads (tails is))
     (next_is_heavy k first ratio (part_small first (chain_from k (suc rounds) (suc (most_light k first))) few).0))
 next_from k (suc rounds) first ratio few (b ∷ before) rest w v is =
-    next_from k rounds (suc (most_light k first)) ratio (part_small first (chain_from k rounds (suc (most_light k first))) few).1 before rest w v
+    next_from k rounds (suc (most_light k first)) ratio
+    (part_small first (chain_from k rounds (suc (most_light k first))) few).1 before rest w v
     (tails is)
 
 pub next_least : (k : Fraction) (rounds : ℕ) (before rest : List ℕ) (w v : ℕ) → IsRatio k → FitsLimits k rounds
     → chain k rounds ≡ before ++ w ∷ v ∷ rest → IsLeastHeavy k w v
-next_least k rounds before rest w v ratio fits = next_from k rounds (first_link k) ratio (small k rounds fits) before rest w v
+next_least k rounds before rest w v ratio fits =
+    next_from k rounds (first_link k) ratio (small k rounds fits) before rest w v
 
 -- the bait
-pub bait_most : (k : Fraction) (rounds : ℕ) → IsRatio k → 1 ≤ rounds → FitsLimits k rounds → IsMostLight k (last_link k rounds) (bait_value k rounds)
+pub bait_most : (k : Fraction) (rounds : ℕ) → IsRatio k → 1 ≤ rounds → FitsLimits k rounds
+    → IsMostLight k (last_link k rounds) (bait_value k rounds)
 bait_most k rounds ratio some fits =
     most_is_light k (last_link k rounds) ratio
     (low (last_link k rounds) (sum (chain k rounds)) (last_link_within k rounds some).1 (small k rounds fits)) where

@@ -9,8 +9,10 @@ use Rattle.dover_model.specs.declared.events.Version.{Version}
 use Rattle.dover_model.specs.Fraction.{Fraction, IsRatio}
 use Rattle.dover_model.specs.JobFacts.{IsJob}
 use Rattle.dover_model.specs.Instance.{IsValid, IsWithinRatio, total_value}
-use Rattle.dover_model.specs.Bait.{unit_value, most_light, first_link, chain_from, chain, last_link, bait_value, tight_job, chain_jobs}
+use Rattle.dover_model.specs.Bait.{unit_value, most_light, first_link, chain_from, chain, last_link, bait_value}
+use Rattle.dover_model.specs.Bait.{tight_job, chain_jobs}
 use Rattle.dover_model.specs.Bait.{bait_tick, bait_jobs}
+use Rattle.dover_model.proofs.Calculus.{dense_within}
 use Rattle.adversary.specs.Baiting.{FitsLimits}
 use Rattle.adversary.proofs.Coming.{AreSome, are_some}
 use Rattle.adversary.proofs.Chains.{last_from}
@@ -29,7 +31,8 @@ last_within w (x ∷ ws) some others =
       level : (last part all : ℕ) → last ≤ part → all ≡ w + part → last ≤ all
       level last part all low is = omega arith
 
-pub last_link_within : (k : Fraction) (rounds : ℕ) → 1 ≤ rounds → (1 ≤ last_link k rounds) × (last_link k rounds ≤ sum (chain k rounds))
+pub last_link_within : (k : Fraction) (rounds : ℕ) → 1 ≤ rounds → (1 ≤ last_link k rounds)
+    × (last_link k rounds ≤ sum (chain k rounds))
 last_link_within k zero many = absurd (omega (arith, many))
 last_link_within k (suc rounds) many =
     last_within (first_link k) (chain_from k rounds (suc (most_light k (first_link k)))) (omega arith)
@@ -41,11 +44,13 @@ some_bait k rounds ratio many fits =
     let ends = last_link_within k rounds many in
     join (last_link k rounds) (sum (chain k rounds)) (bait_value k rounds) ends.0 ends.1 (small k rounds fits)
     (λ low. light_least k (last_link k rounds) ratio low) where
-      join : (last all light : ℕ) → 1 ≤ last → last ≤ all → all < most_jobs → (last ≤ 1_000_000 → last ≤ light) → 1 ≤ light
+      join : (last all light : ℕ) → 1 ≤ last → last ≤ all → all < most_jobs → (last ≤ 1_000_000 → last ≤ light)
+          → 1 ≤ light
       join last all light some low few least = omega (arith, some, least (omega (arith, low, few)))
 
 -- a job without slack is within the limits
-tight_is_job : (s w d : ℕ) → s < most_jobs → 1 ≤ w → w ≤ most_value → 1 ≤ d * w → d * w ≤ most_value → IsJob (tight_job s w d)
+tight_is_job : (s w d : ℕ) → s < most_jobs → 1 ≤ w → w ≤ most_value → 1 ≤ d * w → d * w ≤ most_value
+    → IsJob (tight_job s w d)
 tight_is_job s w d early some low worth modest = record {
   work = some;
   window = omega arith;
@@ -54,21 +59,16 @@ tight_is_job s w d early some low worth modest = record {
   modest = modest;
 }
 
--- values that are densities times work, where each density is at least one and at most the ratio
-within : (p q d e w v : ℕ) → q * d ≤ p → 1 ≤ e → q * (d * w) * v ≤ p * (e * v) * w
-within p q d e w v low some =
-    let more : p * 1 ≤ p * e = mul-le p 1 p e (omega arith) some in
-    let dense : q * d ≤ p * e = omega (arith, more) in
-    let all : (q * d) * (w * v) ≤ (p * e) * (w * v) = mul-le (q * d) (w * v) (p * e) (w * v) dense (omega arith) in
-    omega (arith, all)
-
-module _ (k : Fraction) (rounds : ℕ) (ratio : IsRatio k) (fits : FitsLimits k rounds) (some_bait : 1 ≤ bait_value k rounds) where
+module _ (k : Fraction) (rounds : ℕ) (ratio : IsRatio k) (fits : FitsLimits k rounds)
+    (some_bait : 1 ≤ bait_value k rounds) where
   each_is_job : AllByRecursion IsJob (bait_jobs k rounds)
-  each_is_job = all_jobs k rounds IsJob (small k rounds fits) (λ s w early some low. tight_is_job s w 1 early some (below w low) (once w some)
+  each_is_job = all_jobs k rounds IsJob (small k rounds fits)
+      (λ s w early some low. tight_is_job s w 1 early some (below w low) (once w some)
       (once_low w low))
       (λ s early. tight_is_job s 1 (unit_value k) early one one_low (unit_worth (unit_value k) (unit_some k ratio))
       (unit_modest (unit_value k) (unit_low k ratio)))
-      (λ s early. tight_is_job s (bait_value k rounds) 1 early some_bait (modest k rounds fits) (once (bait_value k rounds) some_bait)
+      (λ s early. tight_is_job s (bait_value k rounds) 1 early some_bait (modest k rounds fits)
+      (once (bait_value k rounds) some_bait)
       (once_modest (bait_value k rounds) (modest k rounds fits))) where
         below : (w : ℕ) → w < most_jobs → w ≤ most_value
         below w low = omega arith
@@ -97,15 +97,17 @@ module _ (k : Fraction) (rounds : ℕ) (ratio : IsRatio k) (fits : FitsLimits k 
   -- a job without slack of a density within the ratio is within the ratio of each
   dense : (s w d : ℕ) → k.q * d ≤ k.p → AllByRecursion (IsWithinRatio k (tight_job s w d)) (bait_jobs k rounds)
   dense s w d low = all_jobs k rounds (IsWithinRatio k (tight_job s w d)) (small k rounds fits)
-      (λ s2 v early some less. within k.p k.q d 1 w v low one)
-      (λ s2 early. within k.p k.q d (unit_value k) w 1 low (unit_some k ratio)) (λ s2 early. within k.p k.q d 1 w (bait_value k rounds) low one)
+      (λ s2 v early some less. dense_within k.p k.q d 1 w v low one)
+      (λ s2 early. dense_within k.p k.q d (unit_value k) w 1 low (unit_some k ratio))
+      (λ s2 early. dense_within k.p k.q d 1 w (bait_value k rounds) low one)
     where
       one : 1 ≤ 1
       one = omega arith
 
   densities : AllByRecursion (λ i. AllByRecursion (IsWithinRatio k i) (bait_jobs k rounds)) (bait_jobs k rounds)
   densities = all_jobs k rounds (λ i. AllByRecursion (IsWithinRatio k i) (bait_jobs k rounds)) (small k rounds fits)
-      (λ s w early some less. dense s w 1 (plain ratio.above_one)) (λ s early. dense s 1 (unit_value k) (mul-div-le k.p k.q))
+      (λ s w early some less. dense s w 1 (plain ratio.above_one))
+      (λ s early. dense s 1 (unit_value k) (mul-div-le k.p k.q))
       (λ s early. dense s (bait_value k rounds) 1 (plain ratio.above_one)) where
         plain : k.q ≤ k.p → k.q * 1 ≤ k.p
         plain low = omega arith
@@ -113,20 +115,25 @@ module _ (k : Fraction) (rounds : ℕ) (ratio : IsRatio k) (fits : FitsLimits k 
   total : total_value (bait_jobs k rounds) ≤ most_total
   total = level (total_value (bait_jobs k rounds)) (sum (chain k rounds)) (unit_value k) (bait_value k rounds)
       (how_much (unit_value k) (bait_value k rounds) 0 0 (bait_tick k rounds) 0 (chain k rounds) (bait_jobs k rounds)
-      (plan_from (bait_value k rounds) 0 (chain_jobs k rounds) 0 (bait_tick k rounds)) (whole k rounds)) (small k rounds fits) (unit_low k ratio)
+      (plan_from (bait_value k rounds) 0 (chain_jobs k rounds) 0 (bait_tick k rounds)) (whole k rounds))
+      (small k rounds fits) (unit_low k ratio)
       (modest k rounds fits) where
-        level : (all links unit bait : ℕ) → all ≡ links + unit * (links - rounds) + bait → links < most_jobs → unit ≤ 1_000_000 → bait ≤ most_value
+        level : (all links unit bait : ℕ) → all ≡ links + unit * (links - rounds) + bait → links < most_jobs
+            → unit ≤ 1_000_000 → bait ≤ most_value
             → all ≤ most_total
         level all links unit bait is few low modest =
-            let product : unit * (links - rounds) ≤ 1_000_000 * 1_000_000 = mul-le unit (links - rounds) 1_000_000 1_000_000 low
+            let product : unit * (links - rounds) ≤ 1_000_000 * 1_000_000 =
+            mul-le unit (links - rounds) 1_000_000 1_000_000 low
             (omega (arith, few)) in
             omega (arith, is, few, product, modest)
 
-  pub valid : (version : Version) → IsValid (record { rules = record { ratio = k; version = version }; jobs = bait_jobs k rounds })
+  pub valid : (version : Version)
+      → IsValid (record { rules = record { ratio = k; version = version }; jobs = bait_jobs k rounds })
   valid version = record {
     ratio = ratio;
     each = each_is_job;
-    in_order = in_order (unit_value k) (bait_value k rounds) 0 0 (bait_tick k rounds) 0 (chain k rounds) (bait_jobs k rounds)
+    in_order = in_order (unit_value k) (bait_value k rounds) 0 0 (bait_tick k rounds) 0 (chain k rounds)
+        (bait_jobs k rounds)
         (plan_from (bait_value k rounds) 0 (chain_jobs k rounds) 0 (bait_tick k rounds)) (whole k rounds);
     count = fits.few;
     total = total;

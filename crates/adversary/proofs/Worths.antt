@@ -13,7 +13,8 @@ use Rattle.adversary.proofs.Validity.{some_bait, valid}
 pub kept_alone : (a : Inside) → IsKept a → CompletesLastAlone a.k a.rounds (baiting a.k One a.rounds)
 kept_alone a kept =
     let fits = kept_fits a kept in
-    completes_last_alone a.k One a.rounds kept.rounds (valid a.k a.rounds kept.ratio fits (some_bait a.k a.rounds kept.ratio kept.rounds fits) One)
+    completes_last_alone a.k One a.rounds kept.rounds
+    (valid a.k a.rounds kept.ratio fits (some_bait a.k a.rounds kept.ratio kept.rounds fits) One)
 
 -- the last value of the chain is what a run completes
 pub kept_completed : (a : Inside) → IsKept a → a.chain.last ≡ completed_value (baiting a.k One a.rounds)

@@ -18,7 +18,8 @@ pub record Baiting : Type 0 where
   pub rounds : ℕ
   pub jobs : List JobFacts
 
--- The jobs from a tick on: in each of so many ticks the links of that tick and a unit job, and in the bait's tick its links and the bait.
+-- The jobs from a tick on: in each of so many ticks the links of that tick and a unit job, and in the bait's tick its
+-- links and the bait.
 abbrev pub jobs_from : (unit bait bait_tick : ℕ) → (links : List JobFacts) → (tick ticks : ℕ) → List JobFacts
 jobs_from unit bait bait_tick links tick ticks =
     flat_map (λ t. filter (λ j. j.release == t) links ++ tight_job t 1 unit ∷ []) (range_with_len tick ticks)

@@ -22,7 +22,8 @@ abbrev pub baiting_of : Inside → Baiting
 baiting_of a = record {
   ratio = a.k;
   rounds = a.rounds;
-  jobs = if a.is_over then [] else jobs_from (unit_value a.k) a.chain.light a.bait_tick (chain_jobs_from a.release (chain_from a.k a.links a.work))
+  jobs = if a.is_over then [] else jobs_from (unit_value a.k) a.chain.light a.bait_tick
+      (chain_jobs_from a.release (chain_from a.k a.links a.work))
       a.tick (a.bait_tick - a.tick);
 }
 

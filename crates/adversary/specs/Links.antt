@@ -1,4 +1,5 @@
--- What the values of a baiting feed are to be: a link takes the processor by as little as it can, and the bait just doesn't.
+-- What the values of a baiting feed are to be: a link takes the processor by as little as it can, and the bait just
+-- doesn't.
 use Rattle.std.specs.Prelude.{ℕ, ◌≤◌}
 use Rattle.dover_model.specs.Fraction.{Fraction}
 use Rattle.dover_model.specs.Orders.{IsHeavy}

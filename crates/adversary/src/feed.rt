@@ -65,7 +65,8 @@ fn tight_job(release: u64, work: u64, density: u64) -> Option<Job>
     Job::new(release, work, release + work, density * work)
 }
 
-/// How many of the chain's jobs are released up to a tick. The chain's first value is `first`, and its values sum to less than 1,000,000.
+/// How many of the chain's jobs are released up to a tick. The chain's first value is `first`, and its values sum to
+/// less than 1,000,000.
 fn links_until(k: Ratio, rounds: u32, first: u64, tick: u64) -> u32
     requires first { first ≡ first_link k }
     requires small { sum (chain k rounds) < most_jobs }
@@ -205,7 +206,8 @@ impl Bait {
     /// The value of the schedule that runs each unit job in its tick, and then the bait.
     pub fn schedule_value(&self) -> u64
         ensures plan { result ≡ plan_value self.now.ratio self.now.rounds }
-        ensures worth { result ≡ worth (baiting self.now.ratio One self.now.rounds) (bait_plan self.now.ratio self.now.rounds) }
+        ensures worth { result ≡ worth (baiting self.now.ratio One self.now.rounds)
+            (bait_plan self.now.ratio self.now.rounds) }
     {
         unit(self.k) * self.bait_tick + self.chain.light
     }

@@ -17,20 +17,25 @@ pub fn baiting_jobs_are_valid()
 /// The schedule that runs each unit job in its tick, and then the bait, serves exactly these.
 pub fn the_plan_is_worth_its_value()
     ensures { (k : Fraction) (rounds : ℕ) (version : Version) →
-        worth (record { rules = record { ratio = k; version = version }; jobs = bait_jobs k rounds }) (bait_plan k rounds) ≡ plan_value k rounds }
+        worth (record { rules = record { ratio = k; version = version }; jobs = bait_jobs k rounds })
+        (bait_plan k rounds) ≡ plan_value k rounds }
 {}
 
-/// At ratio one the last value of the chain is one less than a power of two, and the schedule is worth almost four times that.
+/// At ratio one the last value of the chain is one less than a power of two, and the schedule is worth almost four
+/// times that.
 pub fn links_double_at_ratio_one()
-    ensures last { (k : Fraction) (rounds : ℕ) → IsRatio k → k.p ≡ k.q → 1 ≤ rounds → FitsLimits k rounds → last_link k rounds + 1 ≡ 2 ^ rounds }
+    ensures last { (k : Fraction) (rounds : ℕ) → IsRatio k → k.p ≡ k.q → 1 ≤ rounds → FitsLimits k rounds
+        → last_link k rounds + 1 ≡ 2 ^ rounds }
     ensures plan { (k : Fraction) (rounds : ℕ) → IsRatio k → k.p ≡ k.q → 1 ≤ rounds → FitsLimits k rounds →
         plan_value k rounds + 2 * rounds ≡ 4 * last_link k rounds }
 {}
 
-/// The first value of the chain is the least, at least 1, against which a unit job isn't heavy; each further one is the least that is heavy
+/// The first value of the chain is the least, at least 1, against which a unit job isn't heavy; each further one is the
+/// least that is heavy
 /// against the one before it; and the bait's is the greatest that isn't heavy against the last.
 pub fn links_take_by_the_least_value()
-    ensures first { (k : Fraction) (rounds w : ℕ) (rest : List ℕ) → IsRatio k → chain k rounds ≡ w ∷ rest → IsLeastUnmoved k (unit_value k) w }
+    ensures first { (k : Fraction) (rounds w : ℕ) (rest : List ℕ) → IsRatio k → chain k rounds ≡ w ∷ rest
+        → IsLeastUnmoved k (unit_value k) w }
     ensures next { (k : Fraction) (rounds : ℕ) (before rest : List ℕ) (w v : ℕ) → IsRatio k → FitsLimits k rounds →
         chain k rounds ≡ before ++ w ∷ v ∷ rest → IsLeastHeavy k w v }
     ensures bait { (k : Fraction) (rounds : ℕ) → IsRatio k → 1 ≤ rounds → FitsLimits k rounds →

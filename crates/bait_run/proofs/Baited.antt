@@ -1,5 +1,6 @@
 -- The run of a baiting feed is worth the last link.
-use Rattle.std.proofs.Common.{◌≡◌, ℕ, zero, suc, ◌+◌, ◌-◌, ◌*◌, ◌≤◌, ◌<◌, ◌⊎◌, inl, inr, List, [], ◌∷◌, refl, sym, ap, ◌∙◌, subst, false, cond}
+use Rattle.std.proofs.Common.{◌≡◌, ℕ, zero, suc, ◌+◌, ◌-◌, ◌*◌, ◌≤◌, ◌<◌, ◌⊎◌, inl, inr, List, [], ◌∷◌, refl, sym, ap}
+use Rattle.std.proofs.Common.{◌∙◌, subst, false, cond}
 use Rattle.std.proofs.Common.{arith, eqb}
 use Rattle.std.specs.Prelude.{None}
 use Rattle.std.proofs.lemmas.Bool.{ne_eqb}
@@ -7,7 +8,8 @@ use Rattle.dover_model.specs.Fraction.{Fraction, IsRatio}
 use Rattle.dover_model.specs.JobFacts.{JobFacts, IsJob}
 use Rattle.dover_model.specs.Instance.{Instance, IsValid}
 use Rattle.dover_model.specs.Orders.{is_heavy}
-use Rattle.dover_model.specs.Bait.{unit_value, most_light, first_link, bait_value, bait_tick, tight_job, chain_jobs, bait_jobs, last_link}
+use Rattle.dover_model.specs.Bait.{unit_value, most_light, first_link, bait_value, bait_tick, tight_job, chain_jobs}
+use Rattle.dover_model.specs.Bait.{bait_jobs, last_link}
 use Rattle.dover_model.specs.declared.events.Version.{Version}
 use Rattle.dover_model.specs.declared.events.Role.TheVariants.{Coming, Running}
 use Rattle.dover_model.specs.State.{opening}
@@ -21,8 +23,10 @@ use Rattle.dover_model.proofs.Ending.{run_is_whole, run_over}
 use Rattle.dover_model.proofs.Runs.{run_states, value_of_run}
 use Rattle.bait_run.specs.Baiting.{baiting}
 use Rattle.bait_run.proofs.Heavy.{most_light_light, most_light_more, unit_light}
-use Rattle.bait_run.proofs.Links.{last_from, end_from, links, last_is, end_is, IsTight, links_tight, links_due, AreSmall, links_above, last_above}
-use Rattle.bait_run.proofs.Links.{last_small, last_more, links_most, links_heavier, HasNext, links_next, links_last, links_one}
+use Rattle.bait_run.proofs.Links.{last_from, end_from, links, last_is, end_is, IsTight, links_tight, links_due}
+use Rattle.bait_run.proofs.Links.{AreSmall, links_above, last_above}
+use Rattle.bait_run.proofs.Links.{last_small, last_more, links_most, links_heavier, HasNext, links_next, links_last}
+use Rattle.bait_run.proofs.Links.{links_one}
 use Rattle.bait_run.proofs.Feeds.{in_back, unit_at, IsUnit, bait, feed_is, link_in_feed, feed_begins, feed_sum}
 use Rattle.bait_run.proofs.Steady.{IsLast, IsChained, Stands, IsSteady, step_steady, value_of_steady}
 
@@ -69,7 +73,8 @@ module _ (k : Fraction) (version : Version) (n : ℕ) (valid : IsValid (baiting 
 
   -- the links are within the limits
   pub small : AreSmall (chain_jobs k (suc n))
-  small j link = (all_member IsJob (bait_jobs k (suc n)) valid.each j (link_in_feed k (suc n) j link (within j link))).modest
+  small j link = (all_member IsJob (bait_jobs k (suc n)) valid.each j
+      (link_in_feed k (suc n) j link (within j link))).modest
 
   -- so is the last
   small_most : most ≤ 1_000_000_000
@@ -80,7 +85,8 @@ module _ (k : Fraction) (version : Version) (n : ℕ) (valid : IsValid (baiting 
   some_most = omega (arith, some, last_above k ratio n 0 (first_link k) small)
 
   -- where there is a unit job, the last link is at least two
-  two_most : (m : ℕ) → AreSmall (links k (suc m) 0 (first_link k)) → 0 < end_from k (suc m) 0 (first_link k) → 2 ≤ last_from k m (first_link k)
+  two_most : (m : ℕ) → AreSmall (links k (suc m) 0 (first_link k)) → 0 < end_from k (suc m) 0 (first_link k)
+      → 2 ≤ last_from k m (first_link k)
   two_most zero low later = omega arith
   two_most (suc m) low later = omega (arith, some, last_more k ratio m 0 (first_link k) low)
 
@@ -111,13 +117,16 @@ module _ (k : Fraction) (version : Version) (n : ℕ) (valid : IsValid (baiting 
   -- a light job isn't heavy against a link that it meets
   light_meets : (a r : JobFacts) → Light a → Link r → a.release < r.deadline → is_heavy k a.value r.value ≡ false
   light_meets a r (inl unit) link before =
-      ap (λ v. is_heavy k v r.value) unit ∙ unit_light k ratio r.value (links_above k ratio (suc n) 0 (first_link k) small r link)
+      ap (λ v. is_heavy k v r.value) unit
+      ∙ unit_light k ratio r.value (links_above k ratio (suc n) 0 (first_link k) small r link)
   light_meets a r (inr it) link before = ap (λ v. is_heavy k v r.value) (it.1 ∙ bait_is)
-      ∙ ap (is_heavy k (most_light k most)) (late_last r link (let here : a.release ≡ bait_tick k (suc n) = it.0 in omega arith))
+      ∙ ap (is_heavy k (most_light k most))
+      (late_last r link (let here : a.release ≡ bait_tick k (suc n) = it.0 in omega arith))
       ∙ most_light_light k ratio most small_most
 
   -- what is in the feed, by its kind
-  by_kind : (P : JobFacts → Type 0) → ((j : JobFacts) → Link j → P j) → ((t : ℕ) → t < bait_tick k (suc n) → P (unit_at k (suc n) t))
+  by_kind : (P : JobFacts → Type 0) → ((j : JobFacts) → Link j → P j)
+      → ((t : ℕ) → t < bait_tick k (suc n) → P (unit_at k (suc n) t))
       → P (bait k (suc n)) → Each P (bait_jobs k (suc n))
   by_kind P link unit last j member = each (feed_is k (suc n) j member) where
     each : Link j ⊎ (IsUnit k (suc n) (bait_tick k (suc n)) j ⊎ (j ≡ bait k (suc n))) → P j
@@ -127,10 +136,12 @@ module _ (k : Fraction) (version : Version) (n : ℕ) (valid : IsValid (baiting 
 
   -- the next link is in the feed
   next_there : (a : JobFacts) → Link a
-      → (a.value ≡ most) ⊎ ((u : JobFacts) × IsMember u (bait_jobs k (suc n)) × Link u × (a.value < u.value) × (u.release + 1 ≡ a.deadline))
+      → (a.value ≡ most) ⊎ ((u : JobFacts) × IsMember u (bait_jobs k (suc n)) × Link u × (a.value < u.value)
+      × (u.release + 1 ≡ a.deadline))
   next_there a link = by_next (links_next k ratio n 0 (first_link k) some small a link) where
     by_next : (a.value ≡ most) ⊎ HasNext k ratio (links k (suc n) 0 (first_link k)) a
-        → (a.value ≡ most) ⊎ ((u : JobFacts) × IsMember u (bait_jobs k (suc n)) × Link u × (a.value < u.value) × (u.release + 1 ≡ a.deadline))
+        → (a.value ≡ most) ⊎ ((u : JobFacts) × IsMember u (bait_jobs k (suc n)) × Link u × (a.value < u.value)
+        × (u.release + 1 ≡ a.deadline))
     by_next (inl same) = inl same
     by_next (inr u) = inr (u.0, link_in_feed k (suc n) u.0 u.1 (within u.0 u.1), u.1, u.2, u.3)
 
@@ -144,7 +155,8 @@ module _ (k : Fraction) (version : Version) (n : ℕ) (valid : IsValid (baiting 
     kinds = by_kind (λ j. Link j ⊎ Light j) (λ j link. inl link)
         (λ t before. inr (inl (let one : 1 * unit_value k ≡ unit_value k = omega arith in omega arith)))
         (inr (inr (refl, omega arith)));
-    tight = by_kind (λ j. j.deadline ≡ j.release + j.work) (λ j link. (link_tight j link).tight) (λ t before. refl) refl;
+    tight = by_kind (λ j. j.deadline ≡ j.release + j.work) (λ j link. (link_tight j link).tight)
+        (λ t before. refl) refl;
     heavier = λ a b link_a link_b less. links_heavier k ratio (suc n) 0 (first_link k) small a b link_a link_b less;
     lighter = light_meets;
     least = some_most;
@@ -154,15 +166,18 @@ module _ (k : Fraction) (version : Version) (n : ℕ) (valid : IsValid (baiting 
         (λ t before. omega (arith, last_due a last)) (omega (arith, last_due a last));
     due = λ a b last link. omega (arith, link_due b link, last_due a last);
     first = let it : (rest : List JobFacts) × (bait_jobs k (suc n) ≡ tight_job 0 (first_link k) 1 ∷ rest) =
-        feed_begins k (suc n) (tight_job 0 (first_link k) 1) (links k n (0 + first_link k - 1) (suc (most_light k (first_link k)))) refl refl in
+        feed_begins k (suc n) (tight_job 0 (first_link k) 1)
+        (links k n (0 + first_link k - 1) (suc (most_light k (first_link k)))) refl refl in
         (tight_job 0 (first_link k) 1, it.0, it.1, inl refl);
     even = λ a link. (link_tight a link).even;
     known = by_kind (λ j. j.work ≡ most → Link j) (λ j link _. link)
         (λ t before same. absurd (omega (arith, units_two t before)))
         (λ same. absurd (omega (arith, bait_more)));
     one = feed_sum k (suc n) (λ j. cond (eqb j.work most) j.value 0)
-        (λ t before. ap (λ b. cond b (unit_value k * 1) 0) (ne_eqb 1 most (λ same. absurd (omega (arith, units_two t before)))))
-        (ap (λ b. cond b (1 * bait_value k (suc n)) 0) (ne_eqb (bait_value k (suc n)) most (λ same. absurd (omega (arith, bait_more)))))
+        (λ t before. ap (λ b. cond b (unit_value k * 1) 0)
+        (ne_eqb 1 most (λ same. absurd (omega (arith, units_two t before)))))
+        (ap (λ b. cond b (1 * bait_value k (suc n)) 0)
+        (ne_eqb (bait_value k (suc n)) most (λ same. absurd (omega (arith, bait_more)))))
         within
         ∙ links_one k ratio most n 0 (first_link k) small refl;
   }
@@ -170,7 +185,8 @@ module _ (k : Fraction) (version : Version) (n : ℕ) (valid : IsValid (baiting 
   -- the opening is steady
   pub opening_steady : IsSteady most Link Light (opening (bait_jobs k (suc n)))
   opening_steady = record {
-    stands = λ t m. subst (λ role. Stands most Link Light 0 role t) (sym (come_coming 0 (bait_jobs k (suc n)) t m).0) tt;
+    stands = λ t m. subst (λ role. Stands most Link Light 0 role t)
+        (sym (come_coming 0 (bait_jobs k (suc n)) t m).0) tt;
     follows = λ r u mr mu runs link less. absurd
         (let e : Coming ≡ Running = sym (come_coming 0 (bait_jobs k (suc n)) r mr).0 ∙ runs in cc);
     idle = λ none. inl (λ t m. inl (come_coming 0 (bait_jobs k (suc n)) t m).0);

@@ -1,5 +1,6 @@
 -- One job completes in a run of a chain, and that is the last link.
-use Rattle.std.proofs.Common.{◌≡◌, ℕ, suc, zero, ◌+◌, ◌≤◌, ◌⊎◌, inl, inr, List, [], ◌∷◌, map, refl, sym, ap, ◌∙◌, subst, Bool, true, false, cond}
+use Rattle.std.proofs.Common.{◌≡◌, ℕ, suc, zero, ◌+◌, ◌≤◌, ◌⊎◌, inl, inr, List, [], ◌∷◌, map, refl, sym, ap, ◌∙◌, subst}
+use Rattle.std.proofs.Common.{Bool, true, false, cond}
 use Rattle.std.proofs.Common.{arith, eqb}
 use Rattle.std.specs.Prelude.{None, Some}
 use Rattle.std.specs.Bool.{MatchBool, then_some}
@@ -26,15 +27,18 @@ use Rattle.dover_model.proofs.Members.{on_map, map_member, sum_filter, sum_zero}
 use Rattle.dover_model.proofs.Roles.{one_number, passes, is_over_role}
 use Rattle.dover_model.proofs.OneChange.{state_with, on_changed, changed_here, changed_there}
 use Rattle.dover_model.proofs.Ticking.{Quiet}
-use Rattle.dover_model.proofs.Deeds.{Deed, Completed, Resumed, Started, Began, Preempted, Stayed, Arrived, Taken, Abandoned, Rested}
+use Rattle.dover_model.proofs.Deeds.{Deed, Completed, Resumed, Started, Began, Preempted, Stayed, Arrived, Taken}
+use Rattle.dover_model.proofs.Deeds.{Abandoned, Rested}
 use Rattle.dover_model.proofs.Kept.{step_deed, step_kept, opening_keeps, come_coming, end_same}
 use Rattle.dover_model.proofs.Ending.{end_over, run_is_whole}
 use Rattle.dover_model.proofs.Potential.{one_if}
 use Rattle.bait_run.specs.Baiting.{baiting, CompletesLastAlone}
-use Rattle.bait_run.proofs.Steady.{IsLast, IsChained, IsSteady, alone, stands_as, differ, completes, no_preemption, taken, on_taken, step_steady}
+use Rattle.bait_run.proofs.Steady.{IsLast, IsChained, IsSteady, alone, stands_as, differ, completes, no_preemption}
+use Rattle.bait_run.proofs.Steady.{taken, on_taken, step_steady}
 use Rattle.bait_run.proofs.Steady.{value_of_steady}
 use Rattle.bait_run.proofs.Links.{links_ends}
-use Rattle.bait_run.proofs.Baited.{bait_completes, most, Link, Light, ratio, small, chained, opening_steady, each_steady}
+use Rattle.bait_run.proofs.Baited.{bait_completes, most, Link, Light, ratio, small, chained, opening_steady}
+use Rattle.bait_run.proofs.Baited.{each_steady}
 
 -- some job is done, or none is
 abbrev SomeDone : Bool → List Task → Type 0
@@ -42,7 +46,8 @@ SomeDone true tasks = (t : Task) × IsMember t tasks × (t.role ≡ Done)
 SomeDone false tasks = Each (λ t. t.role ≡ Done → ⊥) tasks
 
 -- a job that neither was done nor is changes nothing
-still_done : (s : State) → IsSound s → (done : Bool) (r : Task) → IsMember r s.tasks → (new : Role) → (r.role ≡ Done → ⊥) → (new ≡ Done → ⊥)
+still_done : (s : State) → IsSound s → (done : Bool) (r : Task) → IsMember r s.tasks → (new : Role)
+    → (r.role ≡ Done → ⊥) → (new ≡ Done → ⊥)
     → SomeDone done s.tasks → SomeDone done (state_with s r new).tasks
 still_done s sound true r member new was not_new it = (
   it.0,
@@ -73,12 +78,15 @@ record Counts (done : Bool) (s : State) (m : Move) : Type 0 where
 not_done : (t : Task) (role : Role) → t.role ≡ role → (role ≡ Done → ⊥) → t.role ≡ Done → ⊥
 not_done t role is_role apart done = apart (sym is_role ∙ done)
 
-module _ (k : Fraction) (jobs : List JobFacts) (most : ℕ) (Link Light : JobFacts → Type 0) (chained : IsChained k jobs most Link Light)
+module _ (k : Fraction) (jobs : List JobFacts) (most : ℕ) (Link Light : JobFacts → Type 0)
+    (chained : IsChained k jobs most Link Light)
     (s : State) (sound : IsSound s) (are : jobs_of s.tasks ≡ jobs) (steady : IsSteady most Link Light s) where
   -- the one that runs completes
-  completed_counts : (done : Bool) → SomeDone done s.tasks → (r : Task) → IsMember r s.tasks → r.role ≡ Running → left r ≡ 0
+  completed_counts : (done : Bool) → SomeDone done s.tasks → (r : Task) → IsMember r s.tasks → r.role ≡ Running
+      → left r ≡ 0
       → Counts done s (Prints (Complete s.clock r.number))
-  completed_counts true it r member runs none_left = absurd (alone k jobs most Link Light chained s sound are it.0 r it.1 member
+  completed_counts true it r member runs none_left =
+      absurd (alone k jobs most Link Light chained s sound are it.0 r it.1 member
       (stands_as k jobs most Link Light chained s sound are steady it.0 it.1 Done it.2)
       ((completes k jobs most Link Light chained s sound are steady r member runs none_left).stands (with_role r Done)
       (changed_here 0 s.tasks sound.numbered r member Done))
@@ -90,24 +98,31 @@ module _ (k : Fraction) (jobs : List JobFacts) (most : ℕ) (Link Light : JobFac
   }
 
   -- a take changes nothing of it
-  taken_counts : (done : Bool) → SomeDone done s.tasks → (r x : Task) (member : IsMember r s.tasks) (runs : r.role ≡ Running) (some : 1 ≤ left r)
-      (x_member : IsMember x s.tasks) (waiting : x.role ≡ Waiting) (heavy : is_heavy k x.job.value (value_sum (privileged s)) ≡ true)
-      → SomeDone done (taken k jobs most Link Light chained s sound are steady r x member runs some x_member waiting heavy).tasks
+  taken_counts : (done : Bool) → SomeDone done s.tasks
+      → (r x : Task) (member : IsMember r s.tasks) (runs : r.role ≡ Running) (some : 1 ≤ left r)
+      (x_member : IsMember x s.tasks) (waiting : x.role ≡ Waiting)
+      (heavy : is_heavy k x.job.value (value_sum (privileged s)) ≡ true)
+      → SomeDone done (taken k jobs most Link Light chained s sound are steady r x member runs some x_member waiting
+      heavy).tasks
   taken_counts true it r x member runs some x_member waiting heavy = (
     with_role it.0 (cond (eqb it.0.number x.number) Running (displaced it.0.role)),
     map_member (λ t. with_role t (cond (eqb t.number x.number) Running (displaced t.role))) s.tasks it.0 it.1,
     ap (λ b. cond b Running (displaced it.0.role)) (ne_eqb it.0.number x.number
-        (differ k jobs most Link Light chained s sound are steady x it.0 Waiting Done x_member it.1 waiting it.2 (λ e. cc)))
+        (differ k jobs most Link Light chained s sound are steady x it.0 Waiting Done x_member it.1 waiting it.2
+        (λ e. cc)))
         ∙ ap displaced it.2,
   )
   taken_counts false none r x member runs some x_member waiting heavy =
-      on_taken k jobs most Link Light chained s sound are steady r x member runs some x_member waiting heavy (λ t. t.role ≡ Done → ⊥)
+      on_taken k jobs most Link Light chained s sound are steady r x member runs some x_member waiting heavy
+      (λ t. t.role ≡ Done → ⊥)
       (λ e. let f : Running ≡ Done = e in cc) (λ t m apart e. none t m (displaced_done t.role e))
 
   -- each deed completes a job, or leaves it as it is
-  deed_counts : (other : Move) (done : Bool) → SomeDone done s.tasks → (Quiet s → Counts done s other) → (m : Move) → Deed k s other m
+  deed_counts : (other : Move) (done : Bool) → SomeDone done s.tasks → (Quiet s → Counts done s other) → (m : Move)
+      → Deed k s other m
       → Counts done s m
-  deed_counts other done it rested m (Completed r member runs none_left) = completed_counts done it r member runs none_left
+  deed_counts other done it rested m (Completed r member runs none_left) =
+      completed_counts done it r member runs none_left
   deed_counts other done it rested m (Resumed p member is_h none least why) = record {
     then_done = done;
     some = still_done s sound done p member Running (not_done p Held is_h (λ e. cc)) (λ e. cc) it;
@@ -153,21 +168,25 @@ module _ (k : Fraction) (jobs : List JobFacts) (most : ℕ) (Link Light : JobFac
   ticks_counts false none = on_map ticked (λ t. t.role ≡ Done → ⊥) s.tasks none
 
   -- nor does a step but a completion
-  step_counts : (done : Bool) → SomeDone done s.tasks → (m : Move) → Deed k s (ending s or_else Ticks) m → Counts done s m
-  step_counts done it m deed = deed_counts (ending s or_else Ticks) done it (by_end (list_all is_over s.tasks)) m deed where
-    by_end : (b : Bool) → Quiet s → Counts done s (then_some b (Prints (End (value_sum (filter is_done s.tasks)))) or_else Ticks)
-    by_end true quiet = record {
-      then_done = done;
-      some = subst (SomeDone done) (sym (end_same s (value_sum (filter is_done s.tasks)))) it;
-      balance = omega arith;
-    }
-    by_end false quiet = record { then_done = done; some = ticks_counts done it; balance = omega arith }
+  step_counts : (done : Bool) → SomeDone done s.tasks → (m : Move) → Deed k s (ending s or_else Ticks) m
+      → Counts done s m
+  step_counts done it m deed =
+      deed_counts (ending s or_else Ticks) done it (by_end (list_all is_over s.tasks)) m deed where
+        by_end : (b : Bool) → Quiet s
+            → Counts done s (then_some b (Prints (End (value_sum (filter is_done s.tasks)))) or_else Ticks)
+        by_end true quiet = record {
+          then_done = done;
+          some = subst (SomeDone done) (sym (end_same s (value_sum (filter is_done s.tasks)))) it;
+          balance = omega arith;
+        }
+        by_end false quiet = record { then_done = done; some = ticks_counts done it; balance = omega arith }
 
   -- where all jobs are over, one is done
   over_done : (done : Bool) → SomeDone done s.tasks → Each (λ t. is_over t ≡ true) s.tasks → done ≡ true
   over_done true it over = refl
   over_done false none over = absurd (
-      let worth : value_sum (filter is_done s.tasks) ≡ most = value_of_steady k jobs most Link Light chained s sound are steady over in
+      let worth : value_sum (filter is_done s.tasks) ≡ most =
+      value_of_steady k jobs most Link Light chained s sound are steady over in
       let nothing : value_sum (filter is_done s.tasks) ≡ 0 = sum_filter is_done (λ t. t.job.value) s.tasks
       ∙ sum_zero (λ t. cond (is_done t) t.job.value 0) s.tasks
       (λ t m. ap (λ b. cond b t.job.value 0) (out t m)) in
@@ -193,20 +212,26 @@ module _ (k : Fraction) (version : Version) (n : ℕ) (valid : IsValid (baiting 
 
   -- the state after a step is steady
   then_steady : (s : State) → Keeps feed s → Steady s → Steady (after s (step feed.rules s))
-  then_steady s keeps steady = step_steady k (bait_jobs k (suc n)) (most k version n valid) (Link k version n valid) (Light k version n valid)
-      (chained k version n valid) s keeps.sound keeps.jobs steady (step feed.rules s) (step_deed feed valid s keeps feed.rules)
+  then_steady s keeps steady =
+      step_steady k (bait_jobs k (suc n)) (most k version n valid) (Link k version n valid) (Light k version n valid)
+      (chained k version n valid) s keeps.sound keeps.jobs steady (step feed.rules s)
+      (step_deed feed valid s keeps feed.rules)
 
   -- from a state on one job completes, if none has
-  one_completes : (xs : List Step) (s : State) → Keeps feed s → Steady s → (done : Bool) → SomeDone done s.tasks → IsWholeRun feed.rules s xs
+  one_completes : (xs : List Step) (s : State) → Keeps feed s → Steady s → (done : Bool) → SomeDone done s.tasks
+      → IsWholeRun feed.rules s xs
       → one_if done + completions xs ≡ 1
   one_completes [] s keeps steady done some whole = absurd whole
   one_completes (x ∷ xs) s keeps steady done some whole =
       by_end (is_end (step feed.rules s)) refl whole.1
-      (one_completes xs (after s (step feed.rules s)) (step_kept feed valid s keeps feed.rules) (then_steady s keeps steady)
+      (one_completes xs (after s (step feed.rules s)) (step_kept feed valid s keeps feed.rules)
+      (then_steady s keeps steady)
       it.then_done it.some) where
         it : Counts done s (step feed.rules s)
-        it = step_counts k (bait_jobs k (suc n)) (most k version n valid) (Link k version n valid) (Light k version n valid)
-            (chained k version n valid) s keeps.sound keeps.jobs steady done some (step feed.rules s) (step_deed feed valid s keeps feed.rules)
+        it = step_counts k (bait_jobs k (suc n)) (most k version n valid) (Link k version n valid)
+            (Light k version n valid)
+            (chained k version n valid) s keeps.sound keeps.jobs steady done some (step feed.rules s)
+            (step_deed feed valid s keeps feed.rules)
 
         first_counted : completions (x ∷ xs) ≡ one_if (is_complete (step feed.rules s)) + completions xs
         first_counted = sum_by-cons (λ y. one_if (is_complete y.move)) x xs
@@ -217,9 +242,11 @@ module _ (k : Fraction) (version : Version) (n : ℕ) (valid : IsValid (baiting 
             → (IsWholeRun feed.rules (after s (step feed.rules s)) xs → one_if it.then_done + completions xs ≡ 1)
             → one_if done + completions (x ∷ xs) ≡ 1
         by_end true last none more =
-            let ends : (step feed.rules s ≡ Prints (End (value_sum (filter is_done s.tasks)))) × Each (λ t. is_over t ≡ true) s.tasks =
+            let ends : (step feed.rules s ≡ Prints (End (value_sum (filter is_done s.tasks))))
+            × Each (λ t. is_over t ≡ true) s.tasks =
             end_over feed valid s keeps feed.rules last in
-            let one : done ≡ true = over_done k (bait_jobs k (suc n)) (most k version n valid) (Link k version n valid) (Light k version n valid)
+            let one : done ≡ true = over_done k (bait_jobs k (suc n)) (most k version n valid) (Link k version n valid)
+            (Light k version n valid)
             (chained k version n valid) s keeps.sound keeps.jobs steady done some ends.1 in
             let no_complete : is_complete (step feed.rules s) ≡ false = ap is_complete ends.0 in
             omega (arith, first_counted, ap one_if one, ap one_if no_complete, ap completions none)
@@ -230,7 +257,8 @@ module _ (k : Fraction) (version : Version) (n : ℕ) (valid : IsValid (baiting 
   once = omega (
     arith,
     one_completes (run feed) (opening feed.jobs) (opening_keeps feed) (opening_steady k version n valid) false
-        (λ t m done. let comes : t.role ≡ Coming = (come_coming 0 feed.jobs t m).0 in let e : Coming ≡ Done = sym comes ∙ done in cc)
+        (λ t m done. let comes : t.role ≡ Coming = (come_coming 0 feed.jobs t m).0 in let e : Coming ≡ Done = sym comes
+        ∙ done in cc)
         (run_is_whole feed valid),
   )
 
@@ -243,17 +271,20 @@ module _ (k : Fraction) (version : Version) (n : ℕ) (valid : IsValid (baiting 
         it = each_steady k version n valid x member
 
         later : Steady (after x.before (Prints (Complete at m)))
-        later = subst (λ (move : Move). Steady (after x.before move)) (sym it.0 ∙ moves) (then_steady x.before it.1 it.2)
+        later = subst (λ (move : Move). Steady (after x.before move)) (sym it.0 ∙ moves)
+            (then_steady x.before it.1 it.2)
 
         here : IsMember (with_role t Done) (after x.before (Prints (Complete at m))).tasks
-        here = subst (λ b. IsMember (with_role t (cond b Done t.role)) (after x.before (Prints (Complete at m))).tasks) (eq-eqb t.number m same)
+        here = subst (λ b. IsMember (with_role t (cond b Done t.role)) (after x.before (Prints (Complete at m))).tasks)
+            (eq-eqb t.number m same)
             (map_member (λ u. with_role u (cond (eqb u.number m) Done u.role)) x.before.tasks t mt)
 
         done : IsLast (most k version n valid) (Link k version n valid) t.job
         done = later.stands (with_role t Done) here
 
 -- the run completes the last job of the chain, and no other
-pub completes_last_alone : (k : Fraction) (version : Version) (rounds : ℕ) → 1 ≤ rounds → IsValid (baiting k version rounds)
+pub completes_last_alone : (k : Fraction) (version : Version) (rounds : ℕ) → 1 ≤ rounds
+    → IsValid (baiting k version rounds)
     → CompletesLastAlone k rounds (baiting k version rounds)
 completes_last_alone k version zero some valid = absurd (omega arith)
 completes_last_alone k version (suc n) some valid = record {

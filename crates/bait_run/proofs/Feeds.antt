@@ -1,5 +1,6 @@
 -- The jobs of a baiting feed: the links, the unit jobs and the bait.
-use Rattle.std.proofs.Common.{◌≡◌, ℕ, zero, suc, ◌+◌, ◌≤◌, ◌<◌, ◌⊎◌, inl, inr, List, [], ◌∷◌, ◌++◌, refl, sym, ap, ◌∙◌, Bool, true, false, cond}
+use Rattle.std.proofs.Common.{◌≡◌, ℕ, zero, suc, ◌+◌, ◌≤◌, ◌<◌, ◌⊎◌, inl, inr, List, [], ◌∷◌, ◌++◌, refl, sym, ap, ◌∙◌}
+use Rattle.std.proofs.Common.{Bool, true, false, cond}
 use Rattle.std.proofs.Common.{arith, eqb}
 use Rattle.std.specs.Prelude.{◌==◌}
 use Rattle.std.specs.List.{filter, flat_map, range_with_len, sum_by}
@@ -7,7 +8,8 @@ use Rattle.std.proofs.lemmas.Bool.{eqb-true, eq-eqb, ne_eqb, cases_lt}
 use Rattle.std.proofs.lemmas.List.Sums.{sum_by-cons, sum_by-append}
 use Rattle.dover_model.specs.Fraction.{Fraction}
 use Rattle.dover_model.specs.JobFacts.{JobFacts}
-use Rattle.dover_model.specs.Bait.{unit_value, bait_value, bait_tick, tight_job, chain_jobs, links_at, released_at, bait_jobs}
+use Rattle.dover_model.specs.Bait.{unit_value, bait_value, bait_tick, tight_job, chain_jobs, links_at, released_at}
+use Rattle.dover_model.specs.Bait.{bait_jobs}
 use Rattle.dover_model.specs.Sound.{IsMember, Each}
 use Rattle.dover_model.proofs.Members.{filter_member, member_filter, sum_filter, sum_plus, sum_same}
 
@@ -52,10 +54,13 @@ above_among a (suc n) r more = ap (λ b. cond b true (is_among (a + 1) n r)) (ne
 -- what is within is
 within_among : (a n r : ℕ) → a ≤ r → r < a + n → is_among a n r ≡ true
 within_among a zero r low high = absurd (omega arith)
-within_among a (suc n) r low high = by_low (cases_lt a r) (λ above. within_among (a + 1) n r (omega (arith, above)) (omega arith)) where
-  by_low : (a < r) ⊎ (r ≤ a) → (a < r → is_among (a + 1) n r ≡ true) → cond (r == a) true (is_among (a + 1) n r) ≡ true
-  by_low (inl above) more = ap (λ b. cond b true (is_among (a + 1) n r)) (ne_eqb r a (λ same. absurd (omega arith))) ∙ more above
-  by_low (inr here) more = ap (λ b. cond b true (is_among (a + 1) n r)) (eq-eqb r a (omega arith))
+within_among a (suc n) r low high =
+    by_low (cases_lt a r) (λ above. within_among (a + 1) n r (omega (arith, above)) (omega arith)) where
+      by_low : (a < r) ⊎ (r ≤ a) → (a < r → is_among (a + 1) n r ≡ true)
+          → cond (r == a) true (is_among (a + 1) n r) ≡ true
+      by_low (inl above) more = ap (λ b. cond b true (is_among (a + 1) n r)) (ne_eqb r a (λ same. absurd (omega arith)))
+          ∙ more above
+      by_low (inr here) more = ap (λ b. cond b true (is_among (a + 1) n r)) (eq-eqb r a (omega arith))
 
 module _ (k : Fraction) (rounds : ℕ) where
   -- the jobs of n ticks from a on
@@ -67,7 +72,8 @@ module _ (k : Fraction) (rounds : ℕ) where
   unit_at t = tight_job t 1 (unit_value k)
 
   -- a link of one of these ticks is there
-  link_there : (a n : ℕ) (j : JobFacts) → IsMember j (chain_jobs k rounds) → a ≤ j.release → j.release < a + n → IsMember j (released a n)
+  link_there : (a n : ℕ) (j : JobFacts) → IsMember j (chain_jobs k rounds) → a ≤ j.release → j.release < a + n
+      → IsMember j (released a n)
   link_there a zero j member low high = absurd (omega arith)
   link_there a (suc n) j member low high =
       by_low (cases_lt a j.release) (λ above. link_there (a + 1) n j member (omega (arith, above)) (omega arith)) where
@@ -83,33 +89,38 @@ module _ (k : Fraction) (rounds : ℕ) where
   IsUnit b j = (t : ℕ) × (t < b) × (j ≡ unit_at t)
 
   -- what is released at a tick is a link or its unit job
-  at_tick : (a : ℕ) (j : JobFacts) → IsMember j (released_at k rounds a) → IsMember j (chain_jobs k rounds) ⊎ (j ≡ unit_at a)
+  at_tick : (a : ℕ) (j : JobFacts) → IsMember j (released_at k rounds a) → IsMember j (chain_jobs k rounds)
+      ⊎ (j ≡ unit_at a)
   at_tick a j member = by_part (in_either (links_at k rounds a) (unit_at a ∷ []) j member) where
     by_unit : IsMember j (unit_at a ∷ []) → j ≡ unit_at a
     by_unit (inl e) = e
     by_unit (inr none) = absurd none
 
-    by_part : IsMember j (links_at k rounds a) ⊎ IsMember j (unit_at a ∷ []) → IsMember j (chain_jobs k rounds) ⊎ (j ≡ unit_at a)
+    by_part : IsMember j (links_at k rounds a) ⊎ IsMember j (unit_at a ∷ []) → IsMember j (chain_jobs k rounds)
+        ⊎ (j ≡ unit_at a)
     by_part (inl m) = inl (member_filter (λ i. i.release == a) (chain_jobs k rounds) j m).0
     by_part (inr m) = inr (by_unit m)
 
   -- what is there is a link or the unit job of one of these ticks
   there_is : (a n : ℕ) (j : JobFacts) → IsMember j (released a n) → IsMember j (chain_jobs k rounds) ⊎ IsUnit (a + n) j
   there_is a zero j member = absurd member
-  there_is a (suc n) j member = by_part (in_either (released_at k rounds a) (released (a + 1) n) j member) (there_is (a + 1) n j) where
-    by_first : IsMember j (chain_jobs k rounds) ⊎ (j ≡ unit_at a) → IsMember j (chain_jobs k rounds) ⊎ IsUnit (a + suc n) j
-    by_first (inl m) = inl m
-    by_first (inr e) = inr (a, omega arith, e)
+  there_is a (suc n) j member =
+      by_part (in_either (released_at k rounds a) (released (a + 1) n) j member) (there_is (a + 1) n j) where
+        by_first : IsMember j (chain_jobs k rounds) ⊎ (j ≡ unit_at a) → IsMember j (chain_jobs k rounds)
+            ⊎ IsUnit (a + suc n) j
+        by_first (inl m) = inl m
+        by_first (inr e) = inr (a, omega arith, e)
 
-    by_rest : IsMember j (chain_jobs k rounds) ⊎ IsUnit (a + 1 + n) j → IsMember j (chain_jobs k rounds) ⊎ IsUnit (a + suc n) j
-    by_rest (inl m) = inl m
-    by_rest (inr it) = inr (it.0, let low : it.0 < a + 1 + n = it.1 in omega arith, it.2)
+        by_rest : IsMember j (chain_jobs k rounds) ⊎ IsUnit (a + 1 + n) j → IsMember j (chain_jobs k rounds)
+            ⊎ IsUnit (a + suc n) j
+        by_rest (inl m) = inl m
+        by_rest (inr it) = inr (it.0, let low : it.0 < a + 1 + n = it.1 in omega arith, it.2)
 
-    by_part : IsMember j (released_at k rounds a) ⊎ IsMember j (released (a + 1) n)
-        → (IsMember j (released (a + 1) n) → IsMember j (chain_jobs k rounds) ⊎ IsUnit (a + 1 + n) j)
-        → IsMember j (chain_jobs k rounds) ⊎ IsUnit (a + suc n) j
-    by_part (inl m) more = by_first (at_tick a j m)
-    by_part (inr m) more = by_rest (more m)
+        by_part : IsMember j (released_at k rounds a) ⊎ IsMember j (released (a + 1) n)
+            → (IsMember j (released (a + 1) n) → IsMember j (chain_jobs k rounds) ⊎ IsUnit (a + 1 + n) j)
+            → IsMember j (chain_jobs k rounds) ⊎ IsUnit (a + suc n) j
+        by_part (inl m) more = by_first (at_tick a j m)
+        by_part (inr m) more = by_rest (more m)
 
   -- the bait
   abbrev pub bait : JobFacts
@@ -137,18 +148,22 @@ module _ (k : Fraction) (rounds : ℕ) where
     by_bait (inl e) = e
     by_bait (inr none) = absurd none
 
-    by_part : IsMember j front ⊎ IsMember j (bait ∷ []) → IsMember j (chain_jobs k rounds) ⊎ (IsUnit (bait_tick k rounds) j ⊎ (j ≡ bait))
-    by_part (inl m) = by_front (in_either (released 0 (bait_tick k rounds)) (links_at k rounds (bait_tick k rounds)) j m)
+    by_part : IsMember j front ⊎ IsMember j (bait ∷ []) → IsMember j (chain_jobs k rounds)
+        ⊎ (IsUnit (bait_tick k rounds) j ⊎ (j ≡ bait))
+    by_part (inl m) = by_front
+        (in_either (released 0 (bait_tick k rounds)) (links_at k rounds (bait_tick k rounds)) j m)
     by_part (inr m) = inr (inr (by_bait m))
 
   -- a link that is released by the bait's tick is in the feed
-  pub link_in_feed : (j : JobFacts) → IsMember j (chain_jobs k rounds) → j.release ≤ bait_tick k rounds → IsMember j (bait_jobs k rounds)
+  pub link_in_feed : (j : JobFacts) → IsMember j (chain_jobs k rounds) → j.release ≤ bait_tick k rounds
+      → IsMember j (bait_jobs k rounds)
   link_in_feed j member low = in_front front (bait ∷ []) j (by_low (cases_lt j.release (bait_tick k rounds))) where
     by_low : (j.release < bait_tick k rounds) ⊎ (bait_tick k rounds ≤ j.release) → IsMember j front
     by_low (inl before) = in_front (released 0 (bait_tick k rounds)) (links_at k rounds (bait_tick k rounds)) j
         (link_there 0 (bait_tick k rounds) j member (omega arith) (omega arith))
     by_low (inr here) = in_back (released 0 (bait_tick k rounds)) (links_at k rounds (bait_tick k rounds)) j
-        (filter_member (λ i. i.release == bait_tick k rounds) (chain_jobs k rounds) j member (eq-eqb j.release (bait_tick k rounds) (omega arith)))
+        (filter_member (λ i. i.release == bait_tick k rounds) (chain_jobs k rounds) j member
+        (eq-eqb j.release (bait_tick k rounds) (omega arith)))
 
   -- the jobs before the tick b, then the links at it, and one more
   abbrev feed_at : ℕ → JobFacts → List JobFacts
@@ -160,19 +175,25 @@ module _ (k : Fraction) (rounds : ℕ) where
   feed_begins j more are zero_at = by_tick (bait_tick k rounds) bait where
     links_at_zero : links_at k rounds 0 ≡ j ∷ filter (λ i. i.release == 0) more
     links_at_zero = ap (filter (λ (i : JobFacts). i.release == 0)) are
-        ∙ ap (λ b. cond b (j ∷ filter (λ (i : JobFacts). i.release == 0) more) (filter (λ (i : JobFacts). i.release == 0) more))
+        ∙ ap (λ b. cond b (j ∷ filter (λ (i : JobFacts). i.release == 0) more)
+        (filter (λ (i : JobFacts). i.release == 0) more))
         (eq-eqb j.release 0 zero_at)
 
     by_tick : (b : ℕ) (last : JobFacts) → (rest : List JobFacts) × (feed_at b last ≡ j ∷ rest)
-    by_tick zero last = (filter (λ (i : JobFacts). i.release == 0) more ++ last ∷ [], ap (λ xs. xs ++ last ∷ []) links_at_zero)
+    by_tick zero last = (
+      filter (λ (i : JobFacts). i.release == 0) more ++ last ∷ [],
+      ap (λ xs. xs ++ last ∷ []) links_at_zero,
+    )
     by_tick (suc b) last = (
-      ((filter (λ (i : JobFacts). i.release == 0) more ++ unit_at 0 ∷ []) ++ released (0 + 1) b) ++ links_at k rounds (suc b) ++ last ∷ [],
+      ((filter (λ (i : JobFacts). i.release == 0) more ++ unit_at 0 ∷ []) ++ released (0 + 1) b) ++ links_at k rounds
+          (suc b) ++ last ∷ [],
       ap (λ xs. ((xs ++ unit_at 0 ∷ []) ++ released (0 + 1) b) ++ links_at k rounds (suc b) ++ last ∷ []) links_at_zero,
     )
 
   module _ (f : JobFacts → ℕ) where
     -- of those that are released at a
-    at_sum : (a : ℕ) → sum_by f (links_at k rounds a) ≡ sum_by (λ j. cond (j.release == a) (f j) 0) (chain_jobs k rounds)
+    at_sum : (a : ℕ) → sum_by f (links_at k rounds a) ≡ sum_by (λ j. cond (j.release == a) (f j) 0)
+        (chain_jobs k rounds)
     at_sum a = sum_filter (λ j. j.release == a) f (chain_jobs k rounds)
 
     -- a sum that is nothing at the unit jobs is one over the links
@@ -183,9 +204,11 @@ module _ (k : Fraction) (rounds : ℕ) where
       sum_zeros [] = refl
       sum_zeros (x ∷ xs) = omega (arith, sum_by-cons (λ (j : JobFacts). 0) x xs, sum_zeros xs)
     released_sum a (suc n) none =
-        let rest : sum_by f (released (a + 1) n) ≡ sum_by (λ j. cond (is_among (a + 1) n j.release) (f j) 0) (chain_jobs k rounds) =
+        let rest : sum_by f (released (a + 1) n) ≡ sum_by (λ j. cond (is_among (a + 1) n j.release) (f j) 0)
+        (chain_jobs k rounds) =
         released_sum (a + 1) n (λ t low. none t (omega arith)) in
-        let front : sum_by f (released_at k rounds a ++ released (a + 1) n) ≡ sum_by f (released_at k rounds a) + sum_by f (released (a + 1) n) =
+        let front : sum_by f (released_at k rounds a ++ released (a + 1) n) ≡ sum_by f (released_at k rounds a)
+        + sum_by f (released (a + 1) n) =
         sum_by-append f (released_at k rounds a) (released (a + 1) n) in
         let here : sum_by f (released_at k rounds a) ≡ sum_by f (links_at k rounds a) + sum_by f (unit_at a ∷ []) =
         sum_by-append f (links_at k rounds a) (unit_at a ∷ []) in
@@ -194,14 +217,18 @@ module _ (k : Fraction) (rounds : ℕ) where
         ≡ sum_by (λ j. cond (j.release == a) (f j) 0) (chain_jobs k rounds)
         + sum_by (λ j. cond (is_among (a + 1) n j.release) (f j) 0) (chain_jobs k rounds) =
         omega (arith, at_sum a, sum_by-cons f (unit_at a) []) in
-        whole ∙ sym (sum_plus (λ j. cond (j.release == a) (f j) 0) (λ j. cond (is_among (a + 1) n j.release) (f j) 0) (chain_jobs k rounds))
+        whole ∙ sym (sum_plus (λ j. cond (j.release == a) (f j) 0) (λ j. cond (is_among (a + 1) n j.release) (f j) 0)
+        (chain_jobs k rounds))
         ∙ sum_same (λ j. cond (j.release == a) (f j) 0 + cond (is_among (a + 1) n j.release) (f j) 0)
         (λ j. cond (is_among a (suc n) j.release) (f j) 0) (chain_jobs k rounds)
         (λ j m. by_release j (eqb j.release a) refl) where
           by_release : (j : JobFacts) (b : Bool) → eqb j.release a ≡ b
-              → cond b (f j) 0 + cond (is_among (a + 1) n j.release) (f j) 0 ≡ cond (cond b true (is_among (a + 1) n j.release)) (f j) 0
+              → cond b (f j) 0 + cond (is_among (a + 1) n j.release) (f j) 0 ≡ cond
+              (cond b true (is_among (a + 1) n j.release)) (f j) 0
           by_release j true same = let out : cond (is_among (a + 1) n j.release) (f j) 0 ≡ 0 =
-              ap (λ b. cond b (f j) 0) (below_among (a + 1) n j.release (let e : j.release ≡ a = eqb-true _ _ same in omega arith)) in omega arith
+              ap (λ b. cond b (f j) 0)
+              (below_among (a + 1) n j.release (let e : j.release ≡ a = eqb-true _ _ same in omega arith)) in
+              omega arith
           by_release j false differs = omega arith
 
     -- so is one over the feed
@@ -209,8 +236,10 @@ module _ (k : Fraction) (rounds : ℕ) where
         → Each (λ j. j.release ≤ bait_tick k rounds) (chain_jobs k rounds)
         → sum_by f (bait_jobs k rounds) ≡ sum_by f (chain_jobs k rounds)
     feed_sum none no_bait within =
-        let all : sum_by f (front ++ bait ∷ []) ≡ sum_by f front + sum_by f (bait ∷ []) = sum_by-append f front (bait ∷ []) in
-        let parts : sum_by f front ≡ sum_by f (released 0 (bait_tick k rounds)) + sum_by f (links_at k rounds (bait_tick k rounds)) =
+        let all : sum_by f (front ++ bait ∷ []) ≡ sum_by f front + sum_by f (bait ∷ []) =
+        sum_by-append f front (bait ∷ []) in
+        let parts : sum_by f front ≡ sum_by f (released 0 (bait_tick k rounds)) + sum_by f
+        (links_at k rounds (bait_tick k rounds)) =
         sum_by-append f (released 0 (bait_tick k rounds)) (links_at k rounds (bait_tick k rounds)) in
         let early : sum_by f (released 0 (bait_tick k rounds))
         ≡ sum_by (λ j. cond (is_among 0 (bait_tick k rounds) j.release) (f j) 0) (chain_jobs k rounds) =
@@ -221,15 +250,19 @@ module _ (k : Fraction) (rounds : ℕ) where
         omega (arith, at_sum (bait_tick k rounds), sum_by-cons f bait []) in
         whole ∙ sym (sum_plus (λ j. cond (is_among 0 (bait_tick k rounds) j.release) (f j) 0)
         (λ j. cond (j.release == bait_tick k rounds) (f j) 0) (chain_jobs k rounds))
-        ∙ sum_same (λ j. cond (is_among 0 (bait_tick k rounds) j.release) (f j) 0 + cond (j.release == bait_tick k rounds) (f j) 0) f
+        ∙ sum_same (λ j. cond (is_among 0 (bait_tick k rounds) j.release) (f j) 0 + cond
+        (j.release == bait_tick k rounds) (f j) 0) f
         (chain_jobs k rounds) (λ j m. by_release j (within j m) (cases_lt j.release (bait_tick k rounds))) where
-          by_release : (j : JobFacts) → j.release ≤ bait_tick k rounds → (j.release < bait_tick k rounds) ⊎ (bait_tick k rounds ≤ j.release)
-              → cond (is_among 0 (bait_tick k rounds) j.release) (f j) 0 + cond (j.release == bait_tick k rounds) (f j) 0 ≡ f j
+          by_release : (j : JobFacts) → j.release ≤ bait_tick k rounds → (j.release < bait_tick k rounds)
+              ⊎ (bait_tick k rounds ≤ j.release)
+              → cond (is_among 0 (bait_tick k rounds) j.release) (f j) 0 + cond (j.release == bait_tick k rounds)
+              (f j) 0 ≡ f j
           by_release j low (inl before) =
               let one : cond (is_among 0 (bait_tick k rounds) j.release) (f j) 0 ≡ f j =
               ap (λ b. cond b (f j) 0) (within_among 0 (bait_tick k rounds) j.release (omega arith) (omega arith)) in
               let two : cond (j.release == bait_tick k rounds) (f j) 0 ≡ 0 =
-              ap (λ b. cond b (f j) 0) (ne_eqb j.release (bait_tick k rounds) (λ same. absurd (omega arith))) in omega arith
+              ap (λ b. cond b (f j) 0) (ne_eqb j.release (bait_tick k rounds) (λ same. absurd (omega arith))) in
+              omega arith
           by_release j low (inr here) =
               let one : cond (is_among 0 (bait_tick k rounds) j.release) (f j) 0 ≡ 0 =
               ap (λ b. cond b (f j) 0) (above_among 0 (bait_tick k rounds) j.release (omega arith)) in

@@ -1,5 +1,6 @@
 -- What is heavy, the greatest value that isn't, and the first link.
-use Rattle.std.proofs.Common.{◌≡◌, ℕ, suc, ◌-◌, ◌*◌, ◌/◌, ◌^◌, ◌≤◌, ◌<◌, refl, sym, ◌∙◌, true, false, IsTrue, arith, subst}
+use Rattle.std.proofs.Common.{◌≡◌, ℕ, suc, ◌-◌, ◌*◌, ◌/◌, ◌^◌, ◌≤◌, ◌<◌, refl, sym, ◌∙◌, true, false, IsTrue, arith}
+use Rattle.std.proofs.Common.{subst}
 use Rattle.std.specs.Prelude.{not, nat_lt}
 use Rattle.std.proofs.lemmas.Bool.{lt-ltb, ltb-true, and_from, and_parts}
 use Rattle.std.proofs.lemmas.Nat.{le-div}
@@ -21,11 +22,13 @@ square_le a m n less = let one : a * m ≤ a * n = mul-le-mul_left a less in
 -- the two tests of what is heavy
 heavy_parts : (k : Fraction) (v w : ℕ) → is_heavy k v w ≡ true → (w < v) × (k.p * w * w < k.q * (v - w) * (v - w))
 heavy_parts k v w heavy = let it : (nat_lt w v ≡ true) × (nat_lt (k.p * w * w) (k.q * (v - w) * (v - w)) ≡ true) =
-    and_parts (nat_lt w v) (nat_lt (k.p * w * w) (k.q * (v - w) * (v - w))) heavy in (ltb-true _ _ it.0, ltb-true _ _ it.1)
+    and_parts (nat_lt w v) (nat_lt (k.p * w * w) (k.q * (v - w) * (v - w))) heavy in
+    (ltb-true _ _ it.0, ltb-true _ _ it.1)
 
 -- what is both is heavy
 heavy_from : (k : Fraction) (v w : ℕ) → w < v → k.p * w * w < k.q * (v - w) * (v - w) → is_heavy k v w ≡ true
-heavy_from k v w more excess = and_from (nat_lt w v) (nat_lt (k.p * w * w) (k.q * (v - w) * (v - w))) (lt-ltb _ _ more) (lt-ltb _ _ excess)
+heavy_from k v w more excess =
+    and_from (nat_lt w v) (nat_lt (k.p * w * w) (k.q * (v - w) * (v - w))) (lt-ltb _ _ more) (lt-ltb _ _ excess)
 
 -- more is heavy against less
 pub heavy_grows : (k : Fraction) (v w v2 w2 : ℕ) → v ≤ v2 → w2 ≤ w → is_heavy k v w ≡ true → is_heavy k v2 w2 ≡ true
@@ -67,9 +70,11 @@ module _ (k : Fraction) (ratio : IsRatio k) (w : ℕ) (small : w ≤ 1_000_000_0
 
   -- one more is
   pub next_heavy : is_heavy k (suc (most_light k w)) w ≡ true
-  next_heavy = by_bool (is_heavy k (suc (most_light k w)) w ≡ true) (is_heavy k (suc (most_light k w)) w) (λ heavy. heavy)
+  next_heavy = by_bool (is_heavy k (suc (most_light k w)) w ≡ true) (is_heavy k (suc (most_light k w)) w)
+      (λ heavy. heavy)
       (λ out. absurd (
-      let low : suc (most_light k w) ≤ most_light k w = light_greatest.greatest (suc (most_light k w)) (rw out (refl)) in omega arith))
+      let low : suc (most_light k w) ≤ most_light k w =
+      light_greatest.greatest (suc (most_light k w)) (rw out (refl)) in omega arith))
 
   -- the next value is more
   pub next_more : w < suc (most_light k w)
@@ -78,7 +83,8 @@ module _ (k : Fraction) (ratio : IsRatio k) (w : ℕ) (small : w ≤ 1_000_000_0
   -- one more than w isn't heavy against it, so the greatest is more than w
   pub most_light_more : 1 ≤ w → w < most_light k w
   most_light_more some = by_bool (w < most_light k w) (is_heavy k (suc w) w)
-      (λ heavy. absurd (let excess : k.p * w * w < k.q * (suc w - w) * (suc w - w) = (heavy_parts k (suc w) w heavy).1 in
+      (λ heavy. absurd (let excess : k.p * w * w < k.q * (suc w - w) * (suc w - w) =
+      (heavy_parts k (suc w) w heavy).1 in
       let one : suc w - w ≡ 1 = omega arith in
       let excess_one : k.p * w * w < k.q * 1 * 1 = subst (λ d. k.p * w * w < k.q * d * d) one excess in
       let low : k.p * 1 * 1 ≤ k.p * w * w = square_le k.p 1 w some in omega (arith, ratio.above_one, excess_one, low)))
@@ -101,11 +107,13 @@ module _ (k : Fraction) (ratio : IsRatio k) where
       (let low : k.q * 1 * 1 ≤ k.q * (unit_value k - 0) * (unit_value k - 0) =
       square_le k.q 1 (unit_value k - 0) (omega (arith, some_value)) in omega (arith, low, ratio.least)))
       (by_bool (is_heavy k (unit_value k) (2 ^ 65) ≡ false) (is_heavy k (unit_value k) (2 ^ 65))
-      (λ heavy. absurd (let above : 2 ^ 65 < unit_value k = (heavy_parts k (unit_value k) (2 ^ 65) heavy).0 in omega (arith, little_value)))
+      (λ heavy. absurd (let above : 2 ^ 65 < unit_value k = (heavy_parts k (unit_value k) (2 ^ 65) heavy).0 in
+      omega (arith, little_value)))
       (λ out. out))
 
   -- a unit job isn't heavy against a link
   pub unit_light : (w : ℕ) → first_link k ≤ w → is_heavy k (unit_value k) w ≡ false
   unit_light w above = by_bool (is_heavy k (unit_value k) w ≡ false) (is_heavy k (unit_value k) w)
-      (λ heavy. absurd (let low : w ≤ greatest (λ x. is_heavy k (unit_value k) x) = unit_greatest.greatest w heavy in omega (arith, above)))
+      (λ heavy. absurd (let low : w ≤ greatest (λ x. is_heavy k (unit_value k) x) = unit_greatest.greatest w heavy in
+      omega (arith, above)))
       (λ out. out)

@@ -1,5 +1,6 @@
 -- The page follows each step of the machine.
-use Rattle.std.proofs.Common.{◌≡◌, ℕ, ◌+◌, ◌*◌, ◌≤◌, ◌<◌, ◌^◌, List, ◌∷◌, ◌++◌, length, map, refl, sym, ap, ◌∙◌, subst, Bool, true, false, cond}
+use Rattle.std.proofs.Common.{◌≡◌, ℕ, ◌+◌, ◌*◌, ◌≤◌, ◌<◌, ◌^◌, List, ◌∷◌, ◌++◌, length, map, refl, sym, ap, ◌∙◌, subst}
+use Rattle.std.proofs.Common.{Bool, true, false, cond}
 use Rattle.std.proofs.Common.{arith}
 use Rattle.std.specs.Prelude.{Option, Some, None}
 use Rattle.std.specs.List.{sum_by}
@@ -33,13 +34,18 @@ scaled_square q a b less =
     let times : q * (a * a) ≤ q * (b * b) = mul-le q (a * a) q (b * b) (omega arith) square in omega (arith, times)
 
 -- what is paid for stays so where the values of jobs done and gone stay, and that of active ones does not fall
-pub paid_more : (k : Fraction) (s t : State) (w v : ℕ) (o : Option model.Interval) → value_where is_done s.tasks ≤ value_where is_done t.tasks
+pub paid_more : (k : Fraction) (s t : State) (w v : ℕ) (o : Option model.Interval)
+    → value_where is_done s.tasks ≤ value_where is_done t.tasks
     → value_where is_gone s.tasks ≤ value_where is_gone t.tasks → w ≤ v → ArePaid k s w o → ArePaid k t v o
 paid_more k s t w v None done gone more paid = tt
 paid_more k s t w v (Some i) done gone more paid = record {
   done = omega (arith, paid.done);
   gone = omega (arith, paid.gone);
-  displaced = omega (arith, paid.displaced, scaled_square k.q (i.regular + i.taken + w) (i.regular + i.taken + v) (omega arith));
+  displaced = omega (
+    arith,
+    paid.displaced,
+    scaled_square k.q (i.regular + i.taken + w) (i.regular + i.taken + v) (omega arith),
+  );
 }
 
 -- the interval that is under way once a job runs
@@ -99,7 +105,8 @@ module _ (k : Fraction) (s : State) (numbered : IsNumberedFrom 0 s.tasks) (l : P
   -- a sum over jobs of which this one is none stays
   pub none_of : (p : Task → Bool) (new : Role) → p r ≡ false → p (with_role r new) ≡ false
       → value_where p (with_roles (changed r new) s.tasks) ≡ value_where p s.tasks
-  none_of p new before after = omega (arith, turned p (λ j. j.value) s.tasks numbered r member new false false before after)
+  none_of p new before after =
+      omega (arith, turned p (λ j. j.value) s.tasks numbered r member new false false before after)
 
   -- a job that comes to run
   pub enters : IsIdle r → Follows k (state_with s r Running) (with_one_more l r.number) current
@@ -112,17 +119,21 @@ module _ (k : Fraction) (s : State) (numbered : IsNumberedFrom 0 s.tasks) (l : P
   }
 
   -- a job that is as active as before
-  pub turns : (old new : Role) → r.role ≡ old → (old ≡ Coming → ⊥) → (new ≡ Coming → ⊥) → is_over (with_role r old) ≡ false
-      → is_privileged (with_role r old) ≡ is_privileged (with_role r new) → is_done (with_role r old) ≡ false → is_gone (with_role r old) ≡ false
+  pub turns : (old new : Role) → r.role ≡ old → (old ≡ Coming → ⊥) → (new ≡ Coming → ⊥)
+      → is_over (with_role r old) ≡ false
+      → is_privileged (with_role r old) ≡ is_privileged (with_role r new) → is_done (with_role r old) ≡ false
+      → is_gone (with_role r old) ≡ false
       → is_done (with_role r new) ≡ false → is_gone (with_role r new) ≡ false
       → Follows k (state_with s r new) l current
   turns old new e before after lives same not_done not_gone new_done new_gone = record {
-    tracks = turns_tracks s numbered l follows.tracks r member (λ c. before (sym e ∙ c)) new after (passes is_over r old false e lives)
+    tracks = turns_tracks s numbered l follows.tracks r member (λ c. before (sym e ∙ c)) new after
+        (passes is_over r old false e lives)
         (passes is_privileged r old (is_privileged (with_role r new)) e same);
     under = follows.under;
     paid = paid_more k s (state_with s r new) l.worth l.worth current (omega
         (arith, none_of is_done new (passes is_done r old false e not_done) new_done))
-        (omega (arith, none_of is_gone new (passes is_gone r old false e not_gone) new_gone)) (omega arith) follows.paid;
+        (omega (arith, none_of is_gone new (passes is_gone r old false e not_gone) new_gone))
+        (omega arith) follows.paid;
   }
 
 -- ---- a job runs
@@ -161,7 +172,8 @@ module _ (k : Fraction) (s : State) (l : Page) (n : ℕ) where
   run_same (Some i) xs = refl
 
   -- the step, where the page without the interval is known
-  run_next : (current : Option model.Interval) (p : Page) → joined l n ≡ p → p.rows ≡ l.rows → p.under_way ≡ l.under_way → CanJoin l n
+  run_next : (current : Option model.Interval) (p : Page) → joined l n ≡ p → p.rows ≡ l.rows → p.under_way ≡ l.under_way
+      → CanJoin l n
       → Follows k (after s (Prints (Run s.clock n))) p current → Next k s l current (Prints (Run s.clock n))
   run_next current p e rows under can follows = record {
     readable = can;
@@ -169,7 +181,8 @@ module _ (k : Fraction) (s : State) (l : Page) (n : ℕ) where
     follows = subst (λ (u : Option UnderWay). Follows k (after s (Prints (Run s.clock n)))
         (record (joined l n) { under_way = Some (begun_or s.clock u) })
         (run_on s.clock current)) under
-        (subst (λ (q : Page). Follows k (after s (Prints (Run s.clock n))) (record q { under_way = Some (begun_or s.clock p.under_way) })
+        (subst (λ (q : Page). Follows k (after s (Prints (Run s.clock n)))
+        (record q { under_way = Some (begun_or s.clock p.under_way) })
         (run_on s.clock current))
         (sym e) (begins (after s (Prints (Run s.clock n))) p current follows));
     same = λ xs. ap (λ (q : Page). q.rows ++ map numbers_of (model.intervals_of (run_on s.clock current) xs)) e
@@ -177,8 +190,10 @@ module _ (k : Fraction) (s : State) (l : Page) (n : ℕ) where
         ∙ ap (λ is. l.rows ++ map numbers_of is) (run_same current xs);
   }
 
-module _ (k : Fraction) (some_q : 1 ≤ k.q) (ratio : k.q ≤ k.p) (s : State) (sound : IsSound s) (l : Page) (few : l.era + 1 < 2 ^ 64)
-    (total : sum_by (λ t. t.job.value) s.tasks ≤ 10_000_000_000_000) (count : length s.tasks ≤ 1_000_000) (current : Option model.Interval)
+module _ (k : Fraction) (some_q : 1 ≤ k.q) (ratio : k.q ≤ k.p) (s : State) (sound : IsSound s) (l : Page)
+    (few : l.era + 1 < 2 ^ 64)
+    (total : sum_by (λ t. t.job.value) s.tasks ≤ 10_000_000_000_000) (count : length s.tasks ≤ 1_000_000)
+    (current : Option model.Interval)
     (follows : Follows k s l current) where
   -- there is room for a job
   pub can_join : (r : Task) → IsMember r s.tasks → (r.role ≡ Coming → ⊥) → CanJoin l r.number
@@ -196,7 +211,8 @@ module _ (k : Fraction) (some_q : 1 ≤ k.q) (ratio : k.q ≤ k.p) (s : State) (
 
   -- a job that was not active joins
   pub joins : (r : Task) → IsMember r s.tasks → IsIdle r → joined l r.number ≡ with_one_more l r.number
-  joins r member i = ap (λ b. cond b l (with_one_more l r.number)) ((follows.tracks.known r member i.released).active i.lives ∙ i.idle)
+  joins r member i = ap (λ b. cond b l (with_one_more l r.number))
+      ((follows.tracks.known r member i.released).active i.lives ∙ i.idle)
 
   -- a job that was active goes on
   goes_on : (r : Task) → IsMember r s.tasks → r.role ≡ Held → joined l r.number ≡ l
@@ -206,14 +222,18 @@ module _ (k : Fraction) (some_q : 1 ≤ k.q) (ratio : k.q ≤ k.p) (s : State) (
 
   -- it comes to run
   pub enters_next : (r : Task) → IsMember r s.tasks → IsIdle r → Next k s l current (Prints (Run s.clock r.number))
-  enters_next r member i = run_next k s l r.number current (with_one_more l r.number) (joins r member i) refl refl (can_join r member i.released)
+  enters_next r member i =
+      run_next k s l r.number current (with_one_more l r.number) (joins r member i) refl refl
+      (can_join r member i.released)
       (enters k s sound.numbered l current follows r member i)
 
   -- it runs again
-  pub resumes_next : (r : Task) → IsMember r s.tasks → r.role ≡ Held → Next k s l current (Prints (Run s.clock r.number))
+  pub resumes_next : (r : Task) → IsMember r s.tasks → r.role ≡ Held
+      → Next k s l current (Prints (Run s.clock r.number))
   resumes_next r member held = run_next k s l r.number current l (goes_on r member held) refl refl
       (can_join r member (λ c. held_comes (sym held ∙ c)))
-      (turns k s sound.numbered l current follows r member Held Running held held_comes running_comes refl refl refl refl refl refl)
+      (turns k s sound.numbered l current follows r member Held Running held held_comes running_comes refl refl refl
+      refl refl refl)
 
   -- it waits
   pub waits_next : (f : Task) → IsMember f s.tasks → f.role ≡ Fresh → Next k s l current (Waits f.number)

@@ -1,5 +1,6 @@
 -- What the ledger keeps of a run, and what each printed step does to it.
-use Rattle.std.specs.Prelude.{◌≡◌, ℕ, ◌+◌, ◌-◌, ◌≤◌, ◌<◌, ◌^◌, List, [], ◌∷◌, ◌++◌, length, set, true, false, ◌==◌, if◌then◌else◌, Option, Some, None}
+use Rattle.std.specs.Prelude.{◌≡◌, ℕ, ◌+◌, ◌-◌, ◌≤◌, ◌<◌, ◌^◌, List, [], ◌∷◌, ◌++◌, length, set, true, false, ◌==◌}
+use Rattle.std.specs.Prelude.{if◌then◌else◌, Option, Some, None}
 use Rattle.std.specs.Prelude.{slice_index_or}
 use Rattle.dover_model.specs.declared.events.Event.{Event}
 use Rattle.dover_model.specs.declared.events.Event.TheVariants.{Release, Run, Preempt, Take, Complete, Abandon, End}
@@ -47,7 +48,10 @@ joined l n = if (known_at l n).era == l.era then l else with_one_more l n
 
 -- the interval that starts at a tick
 abbrev pub begun : ℕ → UnderWay
-begun at = record { interval = record { from = at; until = at; regular = 0; taken = 0; displaced = 0; abandoned = 0 }; took = false }
+begun at = record {
+  interval = record { from = at; until = at; regular = 0; taken = 0; displaced = 0; abandoned = 0 };
+  took = false;
+}
 
 -- the interval under way, or one that starts now
 abbrev pub begun_or : ℕ → Option UnderWay → UnderWay
@@ -56,7 +60,8 @@ begun_or at (Some u) = u
 
 -- after a take that displaces so much value
 abbrev pub with_take : ℕ → ℕ → UnderWay → UnderWay
-with_take at value u = record { interval = record u.interval { until = at; displaced = u.interval.displaced + value }; took = true }
+with_take at value u = record
+    { interval = record u.interval { until = at; displaced = u.interval.displaced + value }; took = true }
 
 -- after a completion
 abbrev pub with_completion : ℕ → ℕ → UnderWay → UnderWay
@@ -68,7 +73,8 @@ with_completion at value u = record u {
 
 -- after an abandonment
 abbrev pub with_abandonment : ℕ → ℕ → UnderWay → UnderWay
-with_abandonment at value u = record u { interval = record u.interval { until = at; abandoned = u.interval.abandoned + value } }
+with_abandonment at value u =
+    record u { interval = record u.interval { until = at; abandoned = u.interval.abandoned + value } }
 
 -- what is done to the interval under way, if there is one
 abbrev pub in_one : (UnderWay → UnderWay) → Option UnderWay → Option UnderWay
@@ -131,7 +137,8 @@ pub record CanComplete (l : Page) (n : ℕ) : Type 0 where
   pub known : n < length l.jobs
   pub some : 1 ≤ l.active
   pub worth : value_at l n ≤ l.worth
-  pub small : (u : UnderWay) → l.under_way ≡ Some u → (u.interval.regular + value_at l n < 2 ^ 64) × (u.interval.taken + value_at l n < 2 ^ 64)
+  pub small : (u : UnderWay) → l.under_way ≡ Some u → (u.interval.regular + value_at l n < 2 ^ 64)
+      × (u.interval.taken + value_at l n < 2 ^ 64)
 
 -- there is room for what is abandoned
 pub record CanAbandon (l : Page) (n : ℕ) : Type 0 where

@@ -12,7 +12,14 @@ use Rattle.charge_ledger.specs.declared.interval.Interval.{Interval}
 
 -- the six numbers of an interval
 abbrev pub numbers_of : model.Interval → Interval
-numbers_of i = record { from = i.from; until = i.until; regular = i.regular; taken = i.taken; displaced = i.displaced; abandoned = i.abandoned }
+numbers_of i = record {
+  from = i.from;
+  until = i.until;
+  regular = i.regular;
+  taken = i.taken;
+  displaced = i.displaced;
+  abandoned = i.abandoned;
+}
 
 -- the rows of the intervals of a run
 abbrev pub rows_of : Instance → List Interval

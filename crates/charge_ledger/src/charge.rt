@@ -34,19 +34,23 @@ impl Model for Charge {
 }
 
 impl Charge {
-    /// The intervals of the run that prints these steps, in one pass over them. The jobs of the run are valid for the ratio `k`.
+    /// The intervals of the run that prints these steps, in one pass over them. The jobs of the run are valid for the
+    /// ratio `k`.
     /// Want of memory is the only error.
     pub fn of(alloc: Global, k: Ratio, run: &[Event]) -> Result<Charge, Memory>
         requires { (J : Instance) × IsRunOf k run.now J }
         ensures rows { (J : Instance) → IsRunOf k run.now J → IfOk result (λ c. c.rows ≡ rows_of J) }
         ensures value { (J : Instance) → IsRunOf k run.now J → IfOk result (λ c. c.value ≡ completed_value J) }
-        ensures bound { (J : Instance) → IsRunOf k run.now J → IfOk result (λ c. (s : List ℕ) → IsWithin k (worth J s) c.value) }
+        ensures bound { (J : Instance) → IsRunOf k run.now J
+            → IfOk result (λ c. (s : List ℕ) → IsWithin k (worth J s) c.value) }
         ensures honest { (J : Instance) → IsRunOf k run.now J → IfOk result (λ c. worth J (ran J) ≡ c.value) }
         ensures ordered { IfOk result (λ c. Each (λ i. i.from ≤ i.until) c.rows) }
-        ensures displaced { IfOk result (λ c. Each (λ i. k.p * i.displaced * i.displaced ≤ k.q * i.taken * i.taken) c.rows) }
+        ensures displaced { IfOk result
+            (λ c. Each (λ i. k.p * i.displaced * i.displaced ≤ k.q * i.taken * i.taken) c.rows) }
         ensures paid { (J : Instance) → IsRunOf k run.now J → IfOk result (λ c. (j : JobFacts) → IsLeastDense J j →
             Each (λ i. j.value * (i.until - i.from) ≤ j.work * (i.regular + i.taken + i.displaced)) c.rows) }
-        ensures light { (J : Instance) → IsRunOf k run.now J → IfOk result (λ c. (c.rows ≡ map numbers_of (intervals J)) ×
+        ensures light { (J : Instance) → IsRunOf k run.now J
+            → IfOk result (λ c. (c.rows ≡ map numbers_of (intervals J)) ×
             Each (λ i. Each (λ value. IsHeavy k value (i.regular + i.taken) → ⊥) i.lost) (intervals J)) }
         ensures completed { IfOk result (λ c. sum_by (λ i. i.regular + i.taken) c.rows ≡ c.value) }
         ensures abandoned { (J : Instance) → IsRunOf k run.now J →

@@ -1,5 +1,6 @@
 -- The values of sets of jobs, and what schedules are worth.
-use Rattle.std.proofs.Common.{◌≡◌, ℕ, suc, zero, ◌+◌, ◌*◌, ◌≤◌, ◌<◌, inl, inr, List, [], ◌∷◌, ◌++◌, length, drop, get_or, refl, sym, ap}
+use Rattle.std.proofs.Common.{◌≡◌, ℕ, suc, zero, ◌+◌, ◌*◌, ◌≤◌, ◌<◌, inl, inr, List, [], ◌∷◌, ◌++◌, length, drop}
+use Rattle.std.proofs.Common.{get_or, refl, sym, ap}
 use Rattle.std.proofs.Common.{◌∙◌, subst, arith, add-one, cond, eqb, Bool, true, false, IsTrue}
 use Rattle.std.specs.Prelude.{Some, slice_get, IfSome}
 use Rattle.std.specs.List.{sum_by, enumerate_from}
@@ -28,7 +29,8 @@ has (j ∷ jobs) (suc n) short = deeper (has jobs n (omega arith)) where
   deeper it = record { job = it.job; at = it.at; rest = it.rest; member = inr it.member }
 
 -- the job that is read at a place
-pub get_is : (jobs : List JobFacts) (n : ℕ) (j : JobFacts) → n < length jobs → j ≡ get_or jobs n j → slice_get jobs n ≡ Some j
+pub get_is : (jobs : List JobFacts) (n : ℕ) (j : JobFacts) → n < length jobs → j ≡ get_or jobs n j
+    → slice_get jobs n ≡ Some j
 get_is [] n j short is = absurd (omega arith)
 get_is (k ∷ jobs) zero j short is = ap Some (sym is)
 get_is (k ∷ jobs) (suc n) j short is = get_is jobs n j (omega arith) is
@@ -58,7 +60,8 @@ pub most_more : (jobs : List JobFacts) (next : ℕ) (more : List ℕ) → RiseWi
 most_more jobs next [] rise = omega arith
 most_more jobs next (n ∷ more) rise =
     with_job (has jobs n rise.1) (most_more jobs (suc n) more rise.2) where
-      with_job : Has jobs n → value_of jobs more ≤ total_value (drop (suc n) jobs) → value_of jobs (n ∷ more) ≤ total_value (drop next jobs)
+      with_job : Has jobs n → value_of jobs more ≤ total_value (drop (suc n) jobs)
+          → value_of jobs (n ∷ more) ≤ total_value (drop next jobs)
       with_job it rest =
           let here : value_at jobs n ≡ it.job.value = value_is jobs n it.job it.at in
           let all : total_value (drop n jobs) ≡ it.job.value + total_value (drop (suc n) jobs) =
@@ -74,20 +77,23 @@ total_few (j ∷ jobs) all =
     omega (arith, sum_by-cons (λ (i : JobFacts). i.value) j jobs)
 
 -- so is a set of them
-pub value_few : (jobs : List JobFacts) (chosen : List ℕ) → Each IsJob jobs → length jobs ≤ 20 → RiseWithin 0 (length jobs) chosen
+pub value_few : (jobs : List JobFacts) (chosen : List ℕ) → Each IsJob jobs → length jobs ≤ 20
+    → RiseWithin 0 (length jobs) chosen
     → value_of jobs chosen ≤ 20_000_000_000
 value_few jobs chosen all few rise =
     let some : value_of jobs chosen ≤ total_value jobs = most_more jobs 0 chosen rise in
     let most : total_value jobs ≤ 1_000_000_000 * length jobs = total_few jobs all in omega arith
 
 -- and what is left of them
-pub left_few : (jobs : List JobFacts) (next : ℕ) → Each IsJob jobs → length jobs ≤ 20 → total_value (drop next jobs) ≤ 20_000_000_000
+pub left_few : (jobs : List JobFacts) (next : ℕ) → Each IsJob jobs → length jobs ≤ 20
+    → total_value (drop next jobs) ≤ 20_000_000_000
 left_few jobs next all few =
     let some : total_value (drop next jobs) ≤ total_value jobs = total_drop 0 next jobs (omega arith) in
     let most : total_value jobs ≤ 1_000_000_000 * length jobs = total_few jobs all in omega arith
 
 -- one set behind another
-pub value_append : (jobs : List JobFacts) (taken more : List ℕ) → value_of jobs (taken ++ more) ≡ value_of jobs taken + value_of jobs more
+pub value_append : (jobs : List JobFacts) (taken more : List ℕ)
+    → value_of jobs (taken ++ more) ≡ value_of jobs taken + value_of jobs more
 value_append jobs taken more = sum_by-append (value_at jobs) taken more
 
 -- ---- the jobs that a schedule serves
@@ -101,12 +107,17 @@ served_from s i (j ∷ jobs) = cond (is_served s (i, j)) (i ∷ served_from s (i
 abbrev worth_from : List ℕ → ℕ → List JobFacts → ℕ
 worth_from s i jobs = sum_by (λ n_j. cond (is_served s n_j) n_j.1.value 0) (enumerate_from i jobs)
 
-served_rise : (s : List ℕ) (i end : ℕ) (jobs : List JobFacts) → i + length jobs ≡ end → RiseWithin i end (served_from s i jobs)
+served_rise : (s : List ℕ) (i end : ℕ) (jobs : List JobFacts) → i + length jobs ≡ end
+    → RiseWithin i end (served_from s i jobs)
 served_rise s i end [] long = tt
 served_rise s i end (j ∷ jobs) long = by_test (is_served s (i, j)) (served_rise s (i + 1) end jobs (omega arith)) where
   by_test : (b : Bool) → RiseWithin (i + 1) end (served_from s (i + 1) jobs)
       → RiseWithin i end (cond b (i ∷ served_from s (i + 1) jobs) (served_from s (i + 1) jobs))
-  by_test true rest = (omega arith, omega arith, subst (λ k. RiseWithin k end (served_from s (i + 1) jobs)) (add-one i) rest)
+  by_test true rest = (
+    omega arith,
+    omega arith,
+    subst (λ k. RiseWithin k end (served_from s (i + 1) jobs)) (add-one i) rest,
+  )
   by_test false rest = rise_wider i (i + 1) end end (served_from s (i + 1) jobs) (omega arith) (omega arith) rest
 
 -- the next job of the rest
@@ -123,17 +134,23 @@ served_value jobs s i (j ∷ rest) e =
     by_test (is_served s (i, j)) (next_of jobs i j rest e).0
     (served_value jobs s (i + 1) rest ((next_of jobs i j rest e).1 ∙ ap (λ k. drop k jobs) (sym (add-one i))))
     ∙ sym (sum_by-cons (λ n_j. cond (is_served s n_j) n_j.1.value 0) (i, j) (enumerate_from (i + 1) rest)) where
-      by_test : (b : Bool) → slice_get jobs i ≡ Some j → value_of jobs (served_from s (i + 1) rest) ≡ worth_from s (i + 1) rest
-          → value_of jobs (cond b (i ∷ served_from s (i + 1) rest) (served_from s (i + 1) rest)) ≡ cond b j.value 0 + worth_from s (i + 1) rest
-      by_test true at same = omega (arith, same, sum_by-cons (value_at jobs) i (served_from s (i + 1) rest), value_is jobs i j at)
+      by_test : (b : Bool) → slice_get jobs i ≡ Some j
+          → value_of jobs (served_from s (i + 1) rest) ≡ worth_from s (i + 1) rest
+          → value_of jobs (cond b (i ∷ served_from s (i + 1) rest) (served_from s (i + 1) rest)) ≡ cond b j.value 0
+          + worth_from s (i + 1) rest
+      by_test true at same = omega
+          (arith, same, sum_by-cons (value_at jobs) i (served_from s (i + 1) rest), value_is jobs i j at)
       by_test false at same = omega (arith, same)
 
-served_each : (jobs : List JobFacts) (s : List ℕ) (i : ℕ) (rest : List JobFacts) → rest ≡ drop i jobs → Each (Serves jobs s) (served_from s i rest)
+served_each : (jobs : List JobFacts) (s : List ℕ) (i : ℕ) (rest : List JobFacts) → rest ≡ drop i jobs
+    → Each (Serves jobs s) (served_from s i rest)
 served_each jobs s i [] e n member = absurd member
 served_each jobs s i (j ∷ rest) e n member =
     by_test (is_served s (i, j)) refl (next_of jobs i j rest e).0
-    (served_each jobs s (i + 1) rest ((next_of jobs i j rest e).1 ∙ ap (λ k. drop k jobs) (sym (add-one i)))) member where
-      by_test : (b : Bool) → is_served s (i, j) ≡ b → slice_get jobs i ≡ Some j → Each (Serves jobs s) (served_from s (i + 1) rest)
+    (served_each jobs s (i + 1) rest ((next_of jobs i j rest e).1 ∙ ap (λ k. drop k jobs) (sym (add-one i))))
+    member where
+      by_test : (b : Bool) → is_served s (i, j) ≡ b → slice_get jobs i ≡ Some j
+          → Each (Serves jobs s) (served_from s (i + 1) rest)
           → IsMember n (cond b (i ∷ served_from s (i + 1) rest) (served_from s (i + 1) rest)) → Serves jobs s n
       by_test true h at all (inl same) = subst (Serves jobs s) (sym same)
           (subst (λ o. IfSome o (λ k. IsTrue (is_served s (i, k)))) (sym at) h)
@@ -142,7 +159,12 @@ served_each jobs s i (j ∷ rest) e n member =
 
 -- the set that a schedule serves is good, and is worth what the schedule is
 pub served_good : (jobs : List JobFacts) (s : List ℕ) → IsGood jobs (served_from s 0 jobs)
-served_good jobs s = record { numbers = served_rise s 0 (length jobs) jobs (omega arith); schedule = s; served = served_each jobs s 0 jobs refl }
+served_good jobs s = record {
+  numbers = served_rise s 0 (length jobs) jobs (omega arith);
+  schedule = s;
+  served =
+      served_each jobs s 0 jobs refl;
+}
 
 pub worth_served : (rules : Rules) (jobs : List JobFacts) (s : List ℕ)
     → worth (record { rules = rules; jobs = jobs }) s ≡ value_of jobs (served_from s 0 jobs)
@@ -167,7 +189,8 @@ value_served jobs s i (j ∷ rest) (n ∷ chosen) e rise all = by_test (eqb n i)
       next : rest ≡ drop (i + 1) jobs
       next = (next_of jobs i j rest e).1 ∙ ap (λ k. drop k jobs) (sym (add-one i))
 
-      by_test : (b : Bool) → eqb n i ≡ b → (RiseWithin (i + 1) (length jobs) (n ∷ chosen) → value_of jobs (n ∷ chosen) ≤ worth_from s (i + 1) rest)
+      by_test : (b : Bool) → eqb n i ≡ b
+          → (RiseWithin (i + 1) (length jobs) (n ∷ chosen) → value_of jobs (n ∷ chosen) ≤ worth_from s (i + 1) rest)
           → (RiseWithin (i + 1) (length jobs) chosen → value_of jobs chosen ≤ worth_from s (i + 1) rest)
           → value_of jobs (n ∷ chosen) ≤ worth_from s i (j ∷ rest)
       by_test true same other more =
@@ -188,6 +211,7 @@ value_served jobs s i (j ∷ rest) (n ∷ chosen) e rise all = by_test (eqb n i)
           let later : value_of jobs (n ∷ chosen) ≤ worth_from s (i + 1) rest = other (above, rise.1, rise.2) in
           omega (arith, sum_by-cons (λ n_j. cond (is_served s n_j) n_j.1.value 0) (i, j) (enumerate_from (i + 1) rest))
 
-pub value_worth : (rules : Rules) (jobs : List JobFacts) (s chosen : List ℕ) → RiseWithin 0 (length jobs) chosen → Each (Serves jobs s) chosen
+pub value_worth : (rules : Rules) (jobs : List JobFacts) (s chosen : List ℕ) → RiseWithin 0 (length jobs) chosen
+    → Each (Serves jobs s) chosen
     → value_of jobs chosen ≤ worth (record { rules = rules; jobs = jobs }) s
 value_worth rules jobs s chosen rise all = value_served jobs s 0 jobs chosen refl rise all

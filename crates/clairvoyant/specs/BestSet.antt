@@ -1,5 +1,6 @@
 -- The best set of jobs that one schedule can serve.
-use Rattle.std.specs.Prelude.{◌≡◌, ◌<◌, ◌≤◌, ◌↔◌, ℕ, suc, List, [], ◌∷◌, length, map, IfSome, IsTrue, slice_get, slice_index}
+use Rattle.std.specs.Prelude.{◌≡◌, ◌<◌, ◌≤◌, ◌↔◌, ℕ, suc, List, [], ◌∷◌, length, map, IfSome, IsTrue, slice_get}
+use Rattle.std.specs.Prelude.{slice_index}
 use Rattle.std.specs.List.{sum_by, filter_map}
 use Rattle.std.specs.Option.{option_map_or}
 use Rattle.dover_model.specs.JobFacts.{JobFacts}
@@ -42,7 +43,8 @@ pub record IsEarlier (one other : List ℕ) : Type 0 where
 pub record IsBestSet (jobs : List JobFacts) (chosen : List ℕ) : Type 0 where
   pub good : IsGood jobs chosen
   pub greatest : (other : List ℕ) → IsGood jobs other → value_of jobs other ≤ value_of jobs chosen
-  pub earliest : (other : List ℕ) → IsGood jobs other → value_of jobs other ≡ value_of jobs chosen → IsEarlier other chosen → ⊥
+  pub earliest : (other : List ℕ) → IsGood jobs other → value_of jobs other ≡ value_of jobs chosen
+      → IsEarlier other chosen → ⊥
 
 -- the jobs of these numbers
 abbrev pub jobs_at : List JobFacts → List ℕ → List JobFacts

@@ -22,7 +22,8 @@ pub record Extends (all : List JobFacts) (taken : List ℕ) (next : ℕ) (number
 
 -- the good sets that extend these numbers have less value than is wanted
 abbrev pub NoneFound : List JobFacts → (taken : List ℕ) → (next wanted : ℕ) → Type 0
-NoneFound all taken next wanted = (other : List ℕ) → Extends all taken next other → IsGood all other → value_of all other < wanted
+NoneFound all taken next wanted = (other : List ℕ) → Extends all taken next other → IsGood all other
+    → value_of all other < wanted
 
 -- of the good sets that extend these numbers, and have as much value as is wanted, the earliest of greatest value
 pub record IsFound (all : List JobFacts) (taken : List ℕ) (next wanted : ℕ) (found : Choice) : Type 0 where

@@ -1,5 +1,6 @@
 //! Sets of jobs that one schedule serves.
-ghost use Rattle.std.specs.Prelude.{◌≡◌, ◌<◌, ◌≤◌, ◌+◌, ◌*◌, ◌++◌, ◌∷◌, [], List, ℕ, length, slice_get, Some, IfOk, MatchOption};
+ghost use Rattle.std.specs.Prelude.{◌≡◌, ◌<◌, ◌≤◌, ◌+◌, ◌*◌, ◌++◌, ◌∷◌, [], List, ℕ, length, slice_get, Some, IfOk};
+ghost use Rattle.std.specs.Prelude.{MatchOption};
 ghost use Rattle.dover_model.specs.Instance.{IsInOrder};
 ghost use Rattle.dover_model.specs.JobFacts.{IsJob};
 ghost use Rattle.dover_model.specs.Sound.{Each};
@@ -43,9 +44,11 @@ impl Choice {
         requires count { length all.now ≤ 20 }
         requires in_order { IsInOrder all.now }
         requires each { Each IsJob all.now }
-        ensures none { IfOk result (λ with. MatchOption with (IsGood all.now (self.now.numbers.items ++ number ∷ []) → ⊥)
+        ensures none { IfOk result
+            (λ with. MatchOption with (IsGood all.now (self.now.numbers.items ++ number ∷ []) → ⊥)
             (λ choice. choice.numbers.items ≡ self.now.numbers.items ++ number ∷ [])) }
-        ensures choice { IfOk result (λ with. MatchOption with (Unit {0}) (λ choice. IsChoice all.now (number + 1) choice)) }
+        ensures choice { IfOk result
+            (λ with. MatchOption with (Unit {0}) (λ choice. IsChoice all.now (number + 1) choice)) }
     {
         let job = all[number as usize];
         let mut jobs = Vec::from_slice(alloc, &self.jobs)?;

@@ -57,7 +57,8 @@ fn find(alloc: Global, jobs: &[Job]) -> Result<Best, Memory>
     ensures pieces { IfOk result (λ best. best.pieces.items ≡ pieces_of jobs.now best.chosen.items) }
     ensures worth { IfOk result (λ best. (rules : Rules) →
         worth (record { rules = rules; jobs = jobs.now }) (spread best.pieces.items) ≡ best.value) }
-    ensures most { IfOk result (λ best. (rules : Rules) (s : List ℕ) → worth (record { rules = rules; jobs = jobs.now }) s ≤ best.value) }
+    ensures most { IfOk result
+        (λ best. (rules : Rules) (s : List ℕ) → worth (record { rules = rules; jobs = jobs.now }) s ≤ best.value) }
 {
     let left = total_value(jobs);
     let Some(choice) = search(alloc, jobs, 0, Choice::none(alloc), left, 0)? else {
@@ -100,7 +101,8 @@ pub fn best(alloc: Global, jobs: &[Job]) -> Result<Best, BestFault>
     ensures pieces { IfOk result (λ best. best.pieces.items ≡ pieces_of jobs.now best.chosen.items) }
     ensures worth { IfOk result (λ best. (rules : Rules) →
         worth (record { rules = rules; jobs = jobs.now }) (spread best.pieces.items) ≡ best.value) }
-    ensures most { IfOk result (λ best. (rules : Rules) (s : List ℕ) → worth (record { rules = rules; jobs = jobs.now }) s ≤ best.value) }
+    ensures most { IfOk result
+        (λ best. (rules : Rules) (s : List ℕ) → worth (record { rules = rules; jobs = jobs.now }) s ≤ best.value) }
 {
     if jobs.len() > MOST_JOBS {
         return Err(BestFault::TooMany);

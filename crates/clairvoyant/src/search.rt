@@ -9,7 +9,8 @@ use crate::choice::Choice;
 use dover_model::{Job, Memory};
 use std::alloc::Global;
 
-/// Of the sets that extend this choice by jobs from number `next` on, and are worth at least `wanted`, the earliest of greatest value. Each
+/// Of the sets that extend this choice by jobs from number `next` on, and are worth at least `wanted`, the earliest of
+/// greatest value. Each
 /// job is put in before it is left out. `left` is the sum of the values of the jobs from `next` on.
 pub fn search(
     alloc: Global,

@@ -1,5 +1,6 @@
 -- What the whole schedule by earliest deadline shows of the jobs.
-use Rattle.std.proofs.Common.{◌≡◌, ℕ, zero, suc, ◌+◌, ◌-◌, ◌≤◌, ◌<◌, ◌⊎◌, inl, inr, List, [], ◌∷◌, ◌++◌, length, take, drop, replicate}
+use Rattle.std.proofs.Common.{◌≡◌, ℕ, zero, suc, ◌+◌, ◌-◌, ◌≤◌, ◌<◌, ◌⊎◌, inl, inr, List, [], ◌∷◌, ◌++◌, length, take}
+use Rattle.std.proofs.Common.{drop, replicate}
 use Rattle.std.proofs.Common.{refl, sym, ap, subst, Bool, true, false, cond, eqb, arith, IsTrue}
 use Rattle.std.specs.Prelude.{nat_le, Some, None}
 use Rattle.std.specs.List.{sum_by, count_by, enumerate_from, AllByRecursion}
@@ -14,7 +15,7 @@ use Rattle.dover_model.specs.Windows.{IsOverfull, is_inside, work_inside}
 use Rattle.dover_model.specs.Pieces.{AreInOrder, spread, stretches, edf}
 use Rattle.dover_model.specs.declared.pieces.Piece.{Piece}
 use Rattle.dover_model.proofs.Members.{sum_le}
-use Rattle.dover_model.proofs.Serving.{given, given_nil, one_name_per_tick, sum_numbered}
+use Rattle.dover_model.proofs.Serving.{given, given_nil, given_less, one_name_per_tick, sum_numbered}
 use Rattle.deadline_oracle.specs.Feasibility.{IsRelease, ServesAll, ShowsAll, ShowsWindow}
 use Rattle.deadline_oracle.specs.Progress.{IsLateBy, IsWhole}
 use Rattle.deadline_oracle.proofs.Overfull.{work_is, overfull_excludes}
@@ -33,10 +34,12 @@ each_all P (x ∷ xs) all = (all x (inl refl), each_all P xs (λ y m. all y (inr
 numbers_below : (k : ℕ) (jobs : List JobFacts) → Each (λ n_j. n_j.0 < k + length jobs) (enumerate_from k jobs)
 numbers_below k [] n_j member = absurd member
 numbers_below k (j ∷ jobs) n_j (inl e) = let here : n_j.0 ≡ k = ap (λ (x : ℕ × JobFacts). x.0) e in omega arith
-numbers_below k (j ∷ jobs) n_j (inr member) = let low : n_j.0 < k + 1 + length jobs = numbers_below (k + 1) jobs n_j member in omega (arith, low)
+numbers_below k (j ∷ jobs) n_j (inr member) = let low : n_j.0 < k + 1 + length jobs =
+    numbers_below (k + 1) jobs n_j member in omega (arith, low)
 
 -- where no job is late, the pieces show it
-pub shows_all : (jobs : List JobFacts) (pieces : List Piece) → length jobs ≤ most_jobs → IsWhole jobs pieces None → ShowsAll jobs pieces
+pub shows_all : (jobs : List JobFacts) (pieces : List Piece) → length jobs ≤ most_jobs → IsWhole jobs pieces None
+    → ShowsAll jobs pieces
 shows_all jobs pieces count it = record {
   meets = λ rules. (spread pieces, serves);
   in_order = subst AreInOrder (sym it.stretch) (stretches_in_order 0 (edf jobs));
@@ -47,18 +50,21 @@ shows_all jobs pieces count it = record {
   again : (k : ℕ) × (edf jobs ≡ spread (stretches (edf jobs)) ++ replicate k idle)
   again = spread_again 0 (edf jobs)
 
-  in_pieces : (n_j : ℕ × JobFacts) → IsMember n_j (enumerate_from 0 jobs) → IsTrue (is_served (edf jobs) n_j) ⊎ IsLateBy None n_j.1.deadline
+  in_pieces : (n_j : ℕ × JobFacts) → IsMember n_j (enumerate_from 0 jobs) → IsTrue (is_served (edf jobs) n_j)
+      ⊎ IsLateBy None n_j.1.deadline
       → IsTrue (is_served (spread pieces) n_j)
   in_pieces n_j member (inr late) = absurd late
   in_pieces n_j member (inl served) =
       let low : n_j.1.work ≤ ticks_given (edf jobs) n_j.0 n_j.1 = leb-true _ _ served in
       let number : n_j.0 < 0 + length jobs = numbers_below 0 jobs n_j member in
-      let whole : ticks_given (edf jobs) n_j.0 n_j.1 ≡ ticks_given (spread (stretches (edf jobs)) ++ replicate again.0 idle) n_j.0 n_j.1 =
+      let whole : ticks_given (edf jobs) n_j.0 n_j.1 ≡ ticks_given
+      (spread (stretches (edf jobs)) ++ replicate again.0 idle) n_j.0 n_j.1 =
       ap (λ s. ticks_given s n_j.0 n_j.1) again.1 in
       let other : eqb idle n_j.0 ≡ false = ne_eqb idle n_j.0 (λ e. absurd (omega (arith, e, count, number))) in
       let kept : ticks_given (spread (stretches (edf jobs)) ++ replicate again.0 idle) n_j.0 n_j.1
       ≤ ticks_given (spread (stretches (edf jobs))) n_j.0 n_j.1 =
-      given_without (λ m. eqb m n_j.0) idle n_j.1.release n_j.1.deadline again.0 (spread (stretches (edf jobs))) other in
+      given_without (λ m. eqb m n_j.0) idle n_j.1.release n_j.1.deadline again.0
+      (spread (stretches (edf jobs))) other in
       subst (λ (ps : List Piece). IsTrue (is_served (spread ps) n_j)) (sym it.stretch)
       (le-leb n_j.1.work (ticks_given (spread (stretches (edf jobs))) n_j.0 n_j.1) (omega (arith, low, whole, kept)))
 
@@ -68,24 +74,9 @@ shows_all jobs pieces count it = record {
 
 -- ---- not all can be served
 
--- a window gives no more than one around it
-given_less : (p : ℕ → Bool) (s : List ℕ) (r d a b : ℕ) → a ≤ r → d ≤ b → given p r d s ≤ given p a b s
-given_less p [] r d a b low high = omega (arith, given_nil p r d)
-given_less p (x ∷ s) r zero a b low high = omega (arith, given_zero p r (x ∷ s))
-given_less p (x ∷ s) r (suc d) a zero low high = absurd (omega arith)
-given_less p (x ∷ s) zero (suc d) zero (suc b) low high = omega (
-  arith,
-  sum_by-cons (λ n. cond (p n) 1 0) x (take d s),
-  sum_by-cons (λ n. cond (p n) 1 0) x (take b s),
-  given_less p s 0 d 0 b (omega arith) (omega arith),
-)
-given_less p (x ∷ s) zero (suc d) (suc a) (suc b) low high = absurd (omega arith)
-given_less p (x ∷ s) (suc r) (suc d) zero (suc b) low high =
-    omega (arith, sum_by-cons (λ n. cond (p n) 1 0) x (take b s), given_less p s r d 0 b (omega arith) (omega arith))
-given_less p (x ∷ s) (suc r) (suc d) (suc a) (suc b) low high = given_less p s r d a b (omega arith) (omega arith)
-
 -- where each job that is due by b is served, no window to b is overfull
-served_fit : (jobs : List JobFacts) (s : List ℕ) (a b : ℕ) → Each (λ n_j. n_j.1.deadline ≤ b → IsTrue (is_served s n_j)) (enumerate_from 0 jobs)
+served_fit : (jobs : List JobFacts) (s : List ℕ) (a b : ℕ)
+    → Each (λ n_j. n_j.1.deadline ≤ b → IsTrue (is_served s n_j)) (enumerate_from 0 jobs)
     → sum_by (asked a b) jobs ≤ b - a
 served_fit jobs s a b served =
     let less : sum_by (λ n_j. asked a b n_j.1) (enumerate_from 0 jobs)
@@ -99,18 +90,26 @@ served_fit jobs s a b served =
       length-drop a (take b s),
       length-take b s,
     ) where
-      by_test : (n_j : ℕ × JobFacts) → (n_j.1.deadline ≤ b → IsTrue (is_served s n_j)) → (t : Bool) → is_inside a b n_j.1 ≡ t
+      by_test : (n_j : ℕ × JobFacts) → (n_j.1.deadline ≤ b → IsTrue (is_served s n_j)) → (t : Bool)
+          → is_inside a b n_j.1 ≡ t
           → cond t n_j.1.work 0 ≤ count_by (λ m. eqb m n_j.0) (drop a (take b s))
       by_test n_j met true is_in =
           let both : (nat_le a n_j.1.release ≡ true) × (nat_le n_j.1.deadline b ≡ true) =
           and_parts (nat_le a n_j.1.release) (nat_le n_j.1.deadline b) is_in in
           let low : n_j.1.work ≤ ticks_given s n_j.0 n_j.1 = leb-true _ _ (met (leb-true _ _ both.1)) in
-          omega (arith, low, given_less (λ m. eqb m n_j.0) s n_j.1.release n_j.1.deadline a b (leb-true _ _ both.0) (leb-true _ _ both.1))
+          omega (
+            arith,
+            low,
+            given_less (λ m. eqb m n_j.0) s n_j.1.release n_j.1.deadline a b (leb-true _ _ both.0)
+                (leb-true _ _ both.1),
+          )
       by_test n_j met false out = omega arith
 
 -- where some job is late, a window to the least late deadline shows it
-pub shows_window : (jobs : List JobFacts) (pieces : List Piece) (a b work : ℕ) → IsWhole jobs pieces (Some b) → IsRelease jobs a
-    → IsOverfull jobs a b (work_inside jobs a b) → ((c w : ℕ) → IsOverfull jobs c b w → c ≤ a) → work ≡ work_inside jobs a b
+pub shows_window : (jobs : List JobFacts) (pieces : List Piece) (a b work : ℕ) → IsWhole jobs pieces (Some b)
+    → IsRelease jobs a
+    → IsOverfull jobs a b (work_inside jobs a b) → ((c w : ℕ) → IsOverfull jobs c b w → c ≤ a)
+    → work ≡ work_inside jobs a b
     → ShowsWindow jobs a b work
 shows_window jobs pieces a b work it release over last same = record {
   unmet = λ rules. overfull_excludes (record { rules = rules; jobs = jobs }) a b (work_inside jobs a b) over;
@@ -120,7 +119,8 @@ shows_window jobs pieces a b work it release over last same = record {
   start = release;
   last_start = last;
 } where
-  met : (d : ℕ) → d < b → (n_j : ℕ × JobFacts) → IsTrue (is_served (edf jobs) n_j) ⊎ IsLateBy (Some b) n_j.1.deadline → n_j.1.deadline ≤ d
+  met : (d : ℕ) → d < b → (n_j : ℕ × JobFacts) → IsTrue (is_served (edf jobs) n_j) ⊎ IsLateBy (Some b) n_j.1.deadline
+      → n_j.1.deadline ≤ d
       → IsTrue (is_served (edf jobs) n_j)
   met d less n_j (inl served) due = served
   met d less n_j (inr late) due = absurd (omega (arith, late))

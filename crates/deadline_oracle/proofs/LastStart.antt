@@ -1,5 +1,6 @@
 -- The greatest start of an overfull window, found from the last job on.
-use Rattle.std.proofs.Common.{◌≡◌, ℕ, ◌+◌, ◌-◌, ◌≤◌, ◌<◌, ◌⊎◌, inl, inr, List, [], ◌∷◌, ◌++◌, length, take, drop, get_or, take-append-drop}
+use Rattle.std.proofs.Common.{◌≡◌, ℕ, ◌+◌, ◌-◌, ◌≤◌, ◌<◌, ◌⊎◌, inl, inr, List, [], ◌∷◌, ◌++◌, length, take, drop}
+use Rattle.std.proofs.Common.{get_or, take-append-drop}
 use Rattle.std.proofs.Common.{refl, sym, ap, ◌∙◌, subst, Bool, true, false, cond, arith}
 use Rattle.std.specs.Prelude.{nat_le, ◌&&◌}
 use Rattle.std.specs.List.{sum_by}
@@ -56,7 +57,8 @@ due_all : (b : ℕ) (j : JobFacts) → j.deadline ≤ b → due_work b j ≡ j.w
 due_all b j due = ap (λ x. cond x j.work 0) (le-leb _ _ due)
 
 -- a job that isn't due adds nothing
-pub passed_late : (b work : ℕ) (j : JobFacts) (behind : List JobFacts) → IsInOrder (j ∷ behind) → b < j.deadline → Passed b work behind
+pub passed_late : (b work : ℕ) (j : JobFacts) (behind : List JobFacts) → IsInOrder (j ∷ behind) → b < j.deadline
+    → Passed b work behind
     → Passed b work (j ∷ behind)
 passed_late b work j behind order late p = record {
   sum = omega (arith, p.sum, sum_by-cons (due_work b) j behind, due_none b j late);
@@ -65,7 +67,8 @@ passed_late b work j behind order late p = record {
 }
 
 -- a job that is due, where the window from its release isn't overfull
-pub passed_due : (b work : ℕ) (j : JobFacts) (behind : List JobFacts) → IsInOrder (j ∷ behind) → j.deadline ≤ b → j.release ≤ b
+pub passed_due : (b work : ℕ) (j : JobFacts) (behind : List JobFacts) → IsInOrder (j ∷ behind) → j.deadline ≤ b
+    → j.release ≤ b
     → work + j.work ≤ b - j.release → Passed b work behind → Passed b (work + j.work) (j ∷ behind)
 passed_due b work j behind order due released fits p = record {
   sum = omega (arith, p.sum, sum_by-cons (due_work b) j behind, due_all b j due);
@@ -85,12 +88,14 @@ pub record StartsAt (jobs : List JobFacts) (b a : ℕ) : Type 0 where
   pub last : (c w : ℕ) → IsOverfull jobs c b w → c ≤ a
 
 -- the jobs before a place are released no later
-front_order : (front : List JobFacts) (j : JobFacts) (behind : List JobFacts) → IsInOrder (front ++ j ∷ behind) → Each (λ i. i.release
+front_order : (front : List JobFacts) (j : JobFacts) (behind : List JobFacts) → IsInOrder (front ++ j ∷ behind)
+    → Each (λ i. i.release
     ≤ j.release) front
 front_order [] j behind order i member = absurd member
 front_order (x ∷ front) j behind order i (inl e) =
     subst (λ (y : JobFacts). y.release ≤ j.release) (sym e)
-    (all_member (λ (later : JobFacts). x.release ≤ later.release) (front ++ j ∷ behind) order.0 j (in_middle front)) where
+    (all_member (λ (later : JobFacts). x.release ≤ later.release) (front ++ j ∷ behind) order.0 j
+    (in_middle front)) where
       in_middle : (xs : List JobFacts) → IsMember j (xs ++ j ∷ behind)
       in_middle [] = inl refl
       in_middle (y ∷ xs) = inr (in_middle xs)
@@ -102,11 +107,17 @@ order_behind [] behind order = order
 order_behind (x ∷ front) behind order = order_behind front behind order.1
 
 -- at the first place from the end at which the window is overfull
-pub starts_here : (b work : ℕ) (front : List JobFacts) (j : JobFacts) (behind : List JobFacts) → IsInOrder (front ++ j ∷ behind) → j.deadline ≤ b
+pub starts_here : (b work : ℕ) (front : List JobFacts) (j : JobFacts) (behind : List JobFacts)
+    → IsInOrder (front ++ j ∷ behind) → j.deadline ≤ b
     → j.release ≤ b → b - j.release < work + j.work → Passed b work behind → StartsAt (front ++ j ∷ behind) b j.release
 starts_here b work front j behind order due released full p = record {
   release = (j, in_middle front, refl);
-  overfull = record { window = released; work = refl; too_much = omega (arith, work_is (front ++ j ∷ behind) j.release b, all_work) };
+  overfull = record {
+    window = released;
+    work = refl;
+    too_much =
+        omega (arith, work_is (front ++ j ∷ behind) j.release b, all_work);
+  };
   last = λ c w over. by_start c w over (cases_lt j.release c);
 } where
   in_middle : (xs : List JobFacts) → IsMember j (xs ++ j ∷ behind)
@@ -122,7 +133,12 @@ starts_here b work front j behind order due released full p = record {
       let here : asked j.release b j ≡ j.work = asked_due j.release b j (omega arith) ∙ due_all b j due in
       let rest : sum_by (asked j.release b) behind ≡ sum_by (due_work b) behind =
       sum_same (asked j.release b) (due_work b) behind (λ i member. asked_due j.release b i (later i member)) in
-      omega (arith, p.sum, sum_by-append (asked j.release b) front (j ∷ behind), sum_by-cons (asked j.release b) j behind)
+      omega (
+        arith,
+        p.sum,
+        sum_by-append (asked j.release b) front (j ∷ behind),
+        sum_by-cons (asked j.release b) j behind,
+      )
 
   by_start : (c w : ℕ) → IsOverfull (front ++ j ∷ behind) c b w → (j.release < c) ⊎ (c ≤ j.release) → c ≤ j.release
   by_start c w over (inr low) = low
@@ -144,15 +160,18 @@ starts_here b work front j behind order due released full p = record {
 
 -- where all jobs are passed, none is overfull
 pub none_passed : (b work : ℕ) (jobs : List JobFacts) → Passed b work jobs → (a w : ℕ) → IsOverfull jobs a b w → ⊥
-none_passed b work jobs p a w over = omega (arith, over.work, over.too_much, over.window, work_is jobs a b, p.none a over.window)
+none_passed b work jobs p a w over =
+    omega (arith, over.work, over.too_much, over.window, work_is jobs a b, p.none a over.window)
 
 -- ---- by place
 
-module _ (jobs : List JobFacts) (order : IsInOrder jobs) (b work k : ℕ) (j : JobFacts) (low : k ≤ length jobs) (some : 0 < k)
+module _ (jobs : List JobFacts) (order : IsInOrder jobs) (b work k : ℕ) (j : JobFacts) (low : k ≤ length jobs)
+    (some : 0 < k)
     (at : j ≡ get_or jobs (k - 1) j) (p : Passed b work (drop k jobs)) where
   -- the jobs from this place on
   from_here : drop (k - 1) jobs ≡ j ∷ drop k jobs
-  from_here = drop_more jobs (k - 1) j (omega (arith, low, some)) ∙ ap (λ (x : JobFacts). x ∷ drop (k - 1 + 1) jobs) (sym at)
+  from_here = drop_more jobs (k - 1) j (omega (arith, low, some))
+      ∙ ap (λ (x : JobFacts). x ∷ drop (k - 1 + 1) jobs) (sym at)
       ∙ ap (λ n. j ∷ drop n jobs) (let same : k - 1 + 1 ≡ k = omega (arith, some) in same)
 
   -- all jobs
@@ -166,13 +185,16 @@ module _ (jobs : List JobFacts) (order : IsInOrder jobs) (b work k : ℕ) (j : J
   -- the greatest start is here
   pub starts_at : IsJob j → j.deadline ≤ b → b - j.release < work + j.work → StartsAt jobs b j.release
   starts_at is_job due full = subst (λ js. StartsAt js b j.release) (sym whole)
-      (starts_here b work (take (k - 1) jobs) j (drop k jobs) (subst IsInOrder whole order) due (omega (arith, due, is_job.window)) full p)
+      (starts_here b work (take (k - 1) jobs) j (drop k jobs) (subst IsInOrder whole order) due
+      (omega (arith, due, is_job.window)) full p)
 
   -- it isn't here
-  pub passed_at : IsJob j → j.deadline ≤ b → work + j.work ≤ b - j.release → Passed b (work + j.work) (drop (k - 1) jobs)
+  pub passed_at : IsJob j → j.deadline ≤ b → work + j.work ≤ b - j.release
+      → Passed b (work + j.work) (drop (k - 1) jobs)
   passed_at is_job due fits = subst (λ js. Passed b (work + j.work) js) (sym from_here)
       (passed_due b work j (drop k jobs) in_order_here due (omega (arith, due, is_job.window)) fits p)
 
   -- the job isn't due
   pub passed_by : b < j.deadline → Passed b work (drop (k - 1) jobs)
-  passed_by late = subst (λ js. Passed b work js) (sym from_here) (passed_late b work j (drop k jobs) in_order_here late p)
+  passed_by late = subst (λ js. Passed b work js) (sym from_here)
+      (passed_late b work j (drop k jobs) in_order_here late p)

@@ -8,20 +8,18 @@ use Rattle.dover_model.specs.State.{to_come}
 use Rattle.dover_model.specs.Sound.{jobs_of}
 use Rattle.dover_model.specs.Windows.{IsOverfull, is_inside, work_inside}
 use Rattle.dover_model.specs.declared.events.Task.{Task}
+use Rattle.dover_model.proofs.Kept.{come_jobs}
 use Rattle.dover_model.proofs.Members.{sum_filter, sum_map}
 use Rattle.dover_model.proofs.Serving.{none_overfull, demand_in}
 
--- the jobs of the tasks to come
-pub come_jobs : (n : ℕ) (jobs : List JobFacts) → jobs_of (to_come n jobs) ≡ jobs
-come_jobs n [] = refl
-come_jobs n (j ∷ jobs) = ap (λ xs. j ∷ xs) (come_jobs (suc n) jobs)
-
 -- the work inside a window, as a sum over all jobs
-pub work_is : (jobs : List JobFacts) (a b : ℕ) → work_inside jobs a b ≡ sum_by (λ j. cond (is_inside a b j) j.work 0) jobs
+pub work_is : (jobs : List JobFacts) (a b : ℕ)
+    → work_inside jobs a b ≡ sum_by (λ j. cond (is_inside a b j) j.work 0) jobs
 work_is jobs a b = sum_filter (is_inside a b) (λ j. j.work) jobs
 
 -- and over tasks of these jobs
-pub work_of_tasks : (jobs : List JobFacts) (tasks : List Task) (a b : ℕ) → jobs_of tasks ≡ jobs → work_inside jobs a b ≡ demand_in a b tasks
+pub work_of_tasks : (jobs : List JobFacts) (tasks : List Task) (a b : ℕ) → jobs_of tasks ≡ jobs
+    → work_inside jobs a b ≡ demand_in a b tasks
 work_of_tasks jobs tasks a b same = work_is jobs a b ∙ sym (ap (sum_by (λ j. cond (is_inside a b j) j.work 0)) same)
     ∙ sum_map (λ (t : Task). t.job) (λ j. cond (is_inside a b j) j.work 0) tasks
 

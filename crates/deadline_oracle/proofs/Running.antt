@@ -1,5 +1,6 @@
 -- How far the job that is due first runs, and what comes of it.
-use Rattle.std.proofs.Common.{◌≡◌, ℕ, zero, suc, ◌+◌, ◌-◌, ◌≤◌, ◌<◌, ◌⊎◌, inl, inr, List, [], ◌∷◌, ◌++◌, length, replicate, min, refl, sym}
+use Rattle.std.proofs.Common.{◌≡◌, ℕ, zero, suc, ◌+◌, ◌-◌, ◌≤◌, ◌<◌, ◌⊎◌, inl, inr, List, [], ◌∷◌, ◌++◌, length}
+use Rattle.std.proofs.Common.{replicate, min, refl, sym}
 use Rattle.std.proofs.Common.{ap, ◌∙◌, subst, arith, Option}
 use Rattle.std.specs.Prelude.{Some, None, slice_get}
 use Rattle.std.proofs.lemmas.Bool.{cases_lt}
@@ -24,7 +25,8 @@ place_past [] i none = omega arith
 place_past (j ∷ jobs) zero none = none_is_some (sym none)
 place_past (j ∷ jobs) (suc i) none = let past : length jobs ≤ i = place_past jobs i none in omega (arith, past)
 
-module _ (jobs : List JobFacts) (clock released l : ℕ) (some : 1 ≤ l) (none : NoneBefore jobs (clock + 1) released) where
+module _ (jobs : List JobFacts) (clock released l : ℕ) (some : 1 ≤ l)
+    (none : NoneBefore jobs (clock + 1) released) where
   -- with a next job
   pub until_next : (j : JobFacts) (until : ℕ) → slice_get jobs released ≡ Some j → until ≡ min (clock + l) j.release
       → RunsUntil jobs clock released l until
@@ -36,7 +38,8 @@ module _ (jobs : List JobFacts) (clock released l : ℕ) (some : 1 ≤ l) (none 
   } where
     later : NoneBefore jobs (clock + 1) released → clock < j.release
     later (inl all) = absurd (let low : released < length jobs = place_below jobs released j found in omega arith)
-    later (inr next) = let same : next.0.release ≡ j.release = ap (λ (x : JobFacts). x.release) (some_same next.0 j (sym next.1 ∙ found)) in
+    later (inr next) = let same : next.0.release ≡ j.release =
+        ap (λ (x : JobFacts). x.release) (some_same next.0 j (sym next.1 ∙ found)) in
         let ahead : clock + 1 ≤ next.0.release = next.2 in omega arith
 
     by_end : (j.release < clock + l) ⊎ (clock + l ≤ j.release) → (until ≡ clock + l) ⊎ IsPending jobs until released
@@ -60,7 +63,8 @@ module _ (jobs : List JobFacts) (clock released due n l : ℕ) (kept : List Kept
 
   -- the job has something left
   pub some_left : 1 ≤ l
-  some_left = let e : l ≡ left first_task.0 = ap (λ (x : Kept). x.1) first_task.4 in let some : 1 ≤ left first_task.0 = first_task.3 in omega arith
+  some_left = let e : l ≡ left first_task.0 = ap (λ (x : Kept). x.1) first_task.4 in let some : 1 ≤ left first_task.0 =
+      first_task.3 in omega arith
 
   -- its number isn't the idle one
   pub not_idle : length jobs ≤ most_jobs → n ≡ idle → ⊥
@@ -82,8 +86,10 @@ module _ (jobs : List JobFacts) (clock released due n l : ℕ) (kept : List Kept
           next_later jobs clock released (((due, n), l) ∷ kept) pieces late s j e in omega arith),
     )
 
-  module _ (order : IsInOrder jobs) (behind : AreBehind due n kept) (until : ℕ) (runs : RunsUntil jobs clock released l until) (after : List Piece)
-      (adds : (x : List ℕ) → length x ≡ clock → pieces ≡ stretches x → after ≡ stretches (x ++ replicate (until - clock) n)) where
+  module _ (order : IsInOrder jobs) (behind : AreBehind due n kept) (until : ℕ)
+      (runs : RunsUntil jobs clock released l until) (after : List Piece)
+      (adds : (x : List ℕ) → length x ≡ clock → pieces ≡ stretches x
+      → after ≡ stretches (x ++ replicate (until - clock) n)) where
     -- until then no job comes
     still : Stands jobs clock released (((due, n), l) ∷ kept) pieces late (clock + (until - clock))
     still = subst (λ u. Stands jobs clock released (((due, n), l) ∷ kept) pieces late u)
@@ -97,18 +103,23 @@ module _ (jobs : List JobFacts) (clock released due n l : ℕ) (kept : List Kept
         let there : clock + (until - clock) ≡ until = omega (arith, runs.some) in
         let left_same : l - (until - clock) ≡ clock + l - until = omega (arith, runs.some) in
         subst (λ u. Stands jobs u released now after (with_late late due (clock + l)) u) there
-        (subst (λ ks. Stands jobs (clock + (until - clock)) released ks after (with_late late due (clock + l)) (clock + (until - clock)))
+        (subst (λ ks. Stands jobs (clock + (until - clock)) released ks after (with_late late due (clock + l))
+        (clock + (until - clock)))
         (ap (λ v. insert kept (due, n) v) left_same ∙ sym e)
-        (stands_run jobs clock released due n l kept pieces late (until - clock) still behind (omega (arith, runs.some)) (omega (arith, runs.within))
+        (stands_run jobs clock released due n l kept pieces late (until - clock) still behind (omega (arith, runs.some))
+        (omega (arith, runs.within))
         after adds (omega (arith, runs.some))))
 
     -- with nothing left
-    pub ran_out : (now : List Kept) → clock + l ≤ until → now ≡ kept → Stands jobs until released now after (with_late late due (clock + l)) until
+    pub ran_out : (now : List Kept) → clock + l ≤ until → now ≡ kept
+        → Stands jobs until released now after (with_late late due (clock + l)) until
     ran_out now all e =
         let there : clock + (until - clock) ≡ until = omega (arith, runs.some) in
         subst (λ u. Stands jobs u released now after (with_late late due (clock + l)) u) there
-        (subst (λ ks. Stands jobs (clock + (until - clock)) released ks after (with_late late due (clock + l)) (clock + (until - clock))) (sym e)
-        (stands_done jobs clock released due n l kept pieces late (until - clock) still behind (omega (arith, runs.some)) (omega (arith, runs.within))
+        (subst (λ ks. Stands jobs (clock + (until - clock)) released ks after (with_late late due (clock + l))
+        (clock + (until - clock))) (sym e)
+        (stands_done jobs clock released due n l kept pieces late (until - clock) still behind
+        (omega (arith, runs.some)) (omega (arith, runs.within))
         after adds (omega (arith, runs.some, runs.within))))
 
   -- where something is left, the next job is released by then
@@ -119,12 +130,16 @@ module _ (jobs : List JobFacts) (clock released due n l : ℕ) (kept : List Kept
     by_end (inr next) = next
 
   -- what is there afterwards
-  pub few_on : (until : ℕ) → RunsUntil jobs clock released l until → (after : List Piece) (now : List Kept) → length after ≤ length pieces + 1
+  pub few_on : (until : ℕ) → RunsUntil jobs clock released l until → (after : List Piece) (now : List Kept)
+      → length after ≤ length pieces + 1
       → until < clock + l → now ≡ insert kept (due, n) (clock + l - until)
       → (length after + length now ≤ length pieces + length kept + 1)
       ⊎ ((length after + length now ≤ length pieces + length kept + 2) × IsPending jobs until released)
   few_on until runs after now count less e =
-      inr (omega (arith, ap (λ (xs : List Kept). length xs) e, insert_length kept (due, n) (clock + l - until)), pending until runs less)
+      inr (
+        omega (arith, ap (λ (xs : List Kept). length xs) e, insert_length kept (due, n) (clock + l - until)),
+        pending until runs less,
+      )
 
   pub few_out : (until : ℕ) (after : List Piece) (now : List Kept) → length after ≤ length pieces + 1 → now ≡ kept
       → (length after + length now ≤ length pieces + length kept + 1)

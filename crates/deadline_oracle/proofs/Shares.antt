@@ -1,5 +1,6 @@
 -- How many ticks of a schedule that grows a number gets.
-use Rattle.std.proofs.Common.{◌≡◌, ℕ, zero, suc, ◌+◌, ◌*◌, ◌-◌, ◌≤◌, List, [], ◌∷◌, ◌++◌, length, take, drop, replicate, refl, ap, ◌∙◌}
+use Rattle.std.proofs.Common.{◌≡◌, ℕ, zero, suc, ◌+◌, ◌*◌, ◌-◌, ◌≤◌, List, [], ◌∷◌, ◌++◌, length, take, drop, replicate}
+use Rattle.std.proofs.Common.{refl, ap, ◌∙◌}
 use Rattle.std.proofs.Common.{Bool, false, cond, eqb, arith}
 use Rattle.std.specs.List.{count_by}
 use Rattle.std.proofs.lemmas.Bool.{eq-eqb, ne_eqb}
@@ -25,10 +26,12 @@ named_other n m k other = sum_by-replicate (λ i. cond (eqb i n) 1 0) k m
 -- a run behind the schedule adds its ticks
 pub run_adds : (n r k : ℕ) (s : List ℕ) → r ≤ length s → named n (drop r (s ++ replicate k n)) ≡ named n (drop r s) + k
 run_adds n r k s low = ap (named n) (drop-append-le r s (replicate k n) low)
-    ∙ sum_by-append (λ m. cond (eqb m n) 1 0) (drop r s) (replicate k n) ∙ ap (λ x. named n (drop r s) + x) (named_run n k)
+    ∙ sum_by-append (λ m. cond (eqb m n) 1 0) (drop r s) (replicate k n)
+    ∙ ap (λ x. named n (drop r s) + x) (named_run n k)
 
 -- a run of another number adds nothing
-pub other_adds_none : (n m r k : ℕ) (s : List ℕ) → (m ≡ n → ⊥) → named n (drop r (s ++ replicate k m)) ≡ named n (drop r s)
+pub other_adds_none : (n m r k : ℕ) (s : List ℕ) → (m ≡ n → ⊥)
+    → named n (drop r (s ++ replicate k m)) ≡ named n (drop r s)
 other_adds_none n m zero k s other = sum_by-append (λ i. cond (eqb i n) 1 0) s (replicate k m)
     ∙ (let none : named n (replicate k m) ≡ 0 = named_other n m k other in omega (arith, none))
 other_adds_none n m (suc r) k [] other = ap (named n) (drop-replicate (suc r) k m) ∙ named_other n m (k - suc r) other
@@ -72,7 +75,8 @@ given_run p z zero (suc d) (suc k) other = omega (
 given_run p z (suc r) (suc d) (suc k) other = given_run p z r d k other
 
 -- and adds nothing behind a schedule
-pub given_without : (p : ℕ → Bool) (z r d k : ℕ) (s : List ℕ) → p z ≡ false → given p r d (s ++ replicate k z) ≤ given p r d s
+pub given_without : (p : ℕ → Bool) (z r d k : ℕ) (s : List ℕ) → p z ≡ false
+    → given p r d (s ++ replicate k z) ≤ given p r d s
 given_without p z r d k [] other = omega (arith, given_run p z r d k other)
 given_without p z r zero k (x ∷ s) other = omega (arith, given_zero p r (x ∷ s ++ replicate k z))
 given_without p z zero (suc d) k (x ∷ s) other = omega (

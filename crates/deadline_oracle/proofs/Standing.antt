@@ -1,5 +1,6 @@
 -- Each step of the simulation, from where it stands to where it stands next.
-use Rattle.std.proofs.Common.{◌≡◌, ℕ, ◌+◌, ◌-◌, ◌*◌, ◌≤◌, ◌<◌, ◌⊎◌, inl, inr, List, [], ◌∷◌, ◌++◌, length, map, replicate, append-nil, refl}
+use Rattle.std.proofs.Common.{◌≡◌, ℕ, ◌+◌, ◌-◌, ◌*◌, ◌≤◌, ◌<◌, ◌⊎◌, inl, inr, List, [], ◌∷◌, ◌++◌, length, map}
+use Rattle.std.proofs.Common.{replicate, append-nil, refl}
 use Rattle.std.proofs.Common.{sym, ap, ◌∙◌, subst, arith, Option, IsTrue}
 use Rattle.std.specs.Prelude.{Some, None, slice_get}
 use Rattle.std.specs.List.{sum_by, enumerate_from}
@@ -17,16 +18,18 @@ use Rattle.dover_model.specs.declared.pieces.Piece.{Piece}
 use Rattle.dover_model.proofs.Members.{on_map, map_member, some_same}
 use Rattle.dover_model.proofs.Roles.{one_number}
 use Rattle.dover_model.proofs.Honest.{numbers_low, count_jobs}
-use Rattle.deadline_oracle.specs.Progress.{AreReleased, IsLateBy, with_late, IsShown, AreServed, Stands, IsPending, NoneBefore, IsWhole}
+use Rattle.deadline_oracle.specs.Progress.{AreReleased, IsLateBy, with_late, IsShown, AreServed, Stands, IsPending}
+use Rattle.deadline_oracle.specs.Progress.{NoneBefore, IsWhole}
 use Rattle.deadline_oracle.specs.Progress.{AreBehind, kept_as}
-use Rattle.deadline_oracle.proofs.EarliestFirst.{had_more, given_ticks, by_given, given_here, given_other, IsBehind, Leads, Rests, edf_over}
+use Rattle.deadline_oracle.proofs.EarliestFirst.{had_more, given_ticks, by_given, given_here, given_other, IsBehind}
+use Rattle.deadline_oracle.proofs.EarliestFirst.{Leads, Rests, edf_over}
 use Rattle.deadline_oracle.proofs.Shares.{none_behind}
 use Rattle.deadline_oracle.proofs.Coming.{come_run, come_idle}
 use Rattle.deadline_oracle.proofs.Lateness.{shown_on, late_shows, served_run, served_idle}
 use Rattle.deadline_oracle.proofs.Keeping.{Kept, insert, insert_new, insert_member, insert_keeps, insert_sum}
-use Rattle.deadline_oracle.proofs.Numbered.{come_numbered, come_had, come_left, task_at, place_below, releases_rise, each_numbered}
+use Rattle.dover_model.proofs.Kept.{come_numbered, come_jobs}
+use Rattle.deadline_oracle.proofs.Numbered.{come_had, come_left, task_at, place_below, releases_rise, each_numbered}
 use Rattle.deadline_oracle.proofs.Numbered.{release_before_last}
-use Rattle.deadline_oracle.proofs.Overfull.{come_jobs}
 use Rattle.deadline_oracle.proofs.Stretches.{stretches_idle}
 
 -- ---- at the beginning
@@ -45,12 +48,19 @@ stands_first jobs = record {
     more = last_release jobs + sum_by (λ j. j.work) jobs;
     rest = refl;
     enough = omega (arith, come_left 0 jobs);
-    busy = λ d. record { since = 0; past = omega arith; filled = omega arith; clean = λ t member early due. absurd (omega arith) };
+    busy = λ d. record {
+      since = 0;
+      past = omega arith;
+      filled = omega arith;
+      clean =
+          λ t member early due. absurd (omega arith);
+    };
   };
   ready = record { each = λ e member. absurd member; all = λ t member low some. absurd (omega arith) };
   releases = record { past = λ t member low. absurd (omega arith); ahead = λ t member low. omega arith };
   stretch = refl;
-  served = λ t member done. inl (le-leb t.job.work (ticks_given [] t.number t.job) (omega (arith, done, come_had 0 jobs t member)));
+  served = λ t member done. inl
+      (le-leb t.job.work (ticks_given [] t.number t.job) (omega (arith, done, come_had 0 jobs t member)));
   shown = tt;
   few = omega arith;
   soon = omega arith;
@@ -58,10 +68,12 @@ stands_first jobs = record {
 
 -- ---- the jobs that are to come
 
-module _ (jobs : List JobFacts) (clock released : ℕ) (kept : List Kept) (pieces : List Piece) (late : Option ℕ) (from : ℕ)
+module _ (jobs : List JobFacts) (clock released : ℕ) (kept : List Kept) (pieces : List Piece) (late : Option ℕ)
+    (from : ℕ)
     (s : Stands jobs clock released kept pieces late from) where
   -- the task of a number
-  pub task_of : (i : ℕ) (j : JobFacts) → slice_get jobs i ≡ Some j → (t : Task) × IsMember t s.tasks × (t.number ≡ i) × (t.job ≡ j)
+  pub task_of : (i : ℕ) (j : JobFacts) → slice_get jobs i ≡ Some j → (t : Task) × IsMember t s.tasks × (t.number ≡ i)
+      × (t.job ≡ j)
   task_of i j found = at_zero (task_at 0 i s.tasks j s.come.numbered
       (subst (λ (js : List JobFacts). slice_get js i ≡ Some j) (sym s.come.of_jobs) found)) where
         at_zero : ((t : Task) × IsMember t s.tasks × (t.number ≡ 0 + i) × (t.job ≡ j))
@@ -79,22 +91,27 @@ module _ (jobs : List JobFacts) (clock released : ℕ) (kept : List Kept) (piece
       sym (s.come.had t member) ∙ none_behind t.number t.job.release s.so_far (omega (arith, s.come.ticks))
 
   -- no job comes before a later tick
-  pub released_until : IsInOrder jobs → (until : ℕ) → NoneBefore jobs until released → AreReleased released clock until s.tasks
-  released_until order until none = record { past = s.releases.past; ahead = λ t member high. ahead none t member high } where
-    ahead : NoneBefore jobs until released → (t : Task) → IsMember t s.tasks → released ≤ t.number → until ≤ t.job.release
-    ahead (inl all) t member high = absurd (omega (arith, number_low t member))
-    ahead (inr next) t member high = by_task (task_of released next.0 next.1) where
-      by_task : ((u : Task) × IsMember u s.tasks × (u.number ≡ released) × (u.job ≡ next.0)) → until ≤ t.job.release
-      by_task it =
-          let number : it.0.number ≡ released = it.2 in
-          let release : it.0.job.release ≡ next.0.release = ap (λ (j : JobFacts). j.release) it.3 in
-          let rise : it.0.job.release ≤ t.job.release =
-          releases_rise 0 s.tasks s.come.numbered (subst IsInOrder (sym s.come.of_jobs) order) it.0 t it.1 member (omega arith) in
-          let low : until ≤ next.0.release = next.2 in
-          omega arith
+  pub released_until : IsInOrder jobs → (until : ℕ) → NoneBefore jobs until released
+      → AreReleased released clock until s.tasks
+  released_until order until none =
+      record { past = s.releases.past; ahead = λ t member high. ahead none t member high } where
+        ahead : NoneBefore jobs until released → (t : Task) → IsMember t s.tasks → released ≤ t.number
+            → until ≤ t.job.release
+        ahead (inl all) t member high = absurd (omega (arith, number_low t member))
+        ahead (inr next) t member high = by_task (task_of released next.0 next.1) where
+          by_task : ((u : Task) × IsMember u s.tasks × (u.number ≡ released) × (u.job ≡ next.0)) → until ≤ t.job.release
+          by_task it =
+              let number : it.0.number ≡ released = it.2 in
+              let release : it.0.job.release ≡ next.0.release = ap (λ (j : JobFacts). j.release) it.3 in
+              let rise : it.0.job.release ≤ t.job.release =
+              releases_rise 0 s.tasks s.come.numbered (subst IsInOrder (sym s.come.of_jobs) order) it.0 t it.1 member
+              (omega arith) in
+              let low : until ≤ next.0.release = next.2 in
+              omega arith
 
   -- so it stands the same
-  pub stands_until : IsInOrder jobs → (until : ℕ) → NoneBefore jobs until released → Stands jobs clock released kept pieces late until
+  pub stands_until : IsInOrder jobs → (until : ℕ) → NoneBefore jobs until released
+      → Stands jobs clock released kept pieces late until
   stands_until order until none = record {
     tasks = s.tasks;
     so_far = s.so_far;
@@ -136,13 +153,15 @@ module _ (jobs : List JobFacts) (clock released : ℕ) (kept : List Kept) (piece
 
     -- the task of this number
     is_it : (t : Task) → IsMember t s.tasks → t.number ≡ released → t.job ≡ j
-    is_it t member same = ap (λ (u : Task). u.job) (one_number 0 s.tasks s.come.numbered t it.0 member it.1 (same ∙ sym it.2)) ∙ it.3
+    is_it t member same = ap (λ (u : Task). u.job)
+        (one_number 0 s.tasks s.come.numbered t it.0 member it.1 (same ∙ sym it.2)) ∙ it.3
 
     -- as it is kept
     as_kept : (t : Task) → IsMember t s.tasks → t.number ≡ released → kept_as t ≡ ((j.deadline, released), j.work)
     as_kept t member same =
         let job : t.job ≡ j = is_it t member same in
-        let all_left : left t ≡ t.job.work = let none : t.had ≡ 0 = had_none after t member (omega arith) in omega (arith, none) in
+        let all_left : left t ≡ t.job.work = let none : t.had ≡ 0 = had_none after t member (omega arith) in
+        omega (arith, none) in
         ap (λ (x : JobFacts). ((x.deadline, t.number), left t)) job ∙ ap (λ n. ((j.deadline, n), left t)) same
         ∙ ap (λ n. ((j.deadline, released), n)) (all_left ∙ ap (λ (x : JobFacts). x.work) job)
 
@@ -158,24 +177,29 @@ module _ (jobs : List JobFacts) (clock released : ℕ) (kept : List Kept) (piece
           → (t : Task) × IsMember t s.tasks × (t.number < released + 1) × (1 ≤ left t) × (e ≡ kept_as t)
       more found = (found.0, found.1, (let low : found.0.number < released = found.2 in omega arith), found.3, found.4)
 
-    all : (t : Task) → IsMember t s.tasks → 1 ≤ left t → (t.number < released) ⊎ (released ≤ t.number) → t.number < released + 1
+    all : (t : Task) → IsMember t s.tasks → 1 ≤ left t → (t.number < released) ⊎ (released ≤ t.number)
+        → t.number < released + 1
         → IsMember (kept_as t) (insert kept (j.deadline, released) j.work)
-    all t member some_left (inl low) top = insert_keeps kept (j.deadline, released) j.work (kept_as t) (s.ready.all t member low some_left)
+    all t member some_left (inl low) top =
+        insert_keeps kept (j.deadline, released) j.work (kept_as t) (s.ready.all t member low some_left)
         (λ same. absurd (let e : t.number ≡ released = ap (λ (x : ℕ × ℕ). x.1) same in omega arith))
     all t member some_left (inr high) top =
         let same : t.number ≡ released = omega arith in
-        subst (λ e. IsMember e (insert kept (j.deadline, released) j.work)) (sym (as_kept t member same)) (insert_new kept
+        subst (λ e. IsMember e (insert kept (j.deadline, released) j.work)) (sym (as_kept t member same))
+        (insert_new kept
         (j.deadline, released) j.work)
 
     past : (t : Task) → IsMember t s.tasks → (t.number < released) ⊎ (released ≤ t.number) → t.number < released + 1
         → (t.job.release ≤ clock) × IsJob t.job
     past t member (inl low) top = s.releases.past t member low
-    past t member (inr high) top = subst (λ (x : JobFacts). (x.release ≤ clock) × IsJob x) (sym (is_it t member (let same : t.number
+    past t member (inr high) top =
+        subst (λ (x : JobFacts). (x.release ≤ clock) × IsJob x) (sym (is_it t member (let same : t.number
         ≡ released = omega arith in same)))
         (now, is_job)
 
 -- a pending job is released, where the next one comes later
-pub moved_to_next : (jobs : List JobFacts) (clock old released : ℕ) (j : JobFacts) → old ≤ released → slice_get jobs released ≡ Some j
+pub moved_to_next : (jobs : List JobFacts) (clock old released : ℕ) (j : JobFacts) → old ≤ released
+    → slice_get jobs released ≡ Some j
     → clock < j.release
     → IsPending jobs clock old → old < released
 moved_to_next jobs clock old released j rises found later pending = by_order (cases_lt old released) where
@@ -188,13 +212,17 @@ moved_to_next jobs clock old released j rises found later pending = by_order (ca
       absurd (let also : pending.0.release ≡ j.release = ap (λ (x : JobFacts). x.release) is in omega arith)
 
 -- and where there is none
-pub moved_to_end : (jobs : List JobFacts) (clock old released : ℕ) → length jobs ≤ released → IsPending jobs clock old → old < released
-moved_to_end jobs clock old released all pending = let low : old < length jobs = place_below jobs old pending.0 pending.1 in omega arith
+pub moved_to_end : (jobs : List JobFacts) (clock old released : ℕ) → length jobs ≤ released → IsPending jobs clock old
+    → old < released
+moved_to_end jobs clock old released all pending = let low : old < length jobs =
+    place_below jobs old pending.0 pending.1 in omega arith
 
 -- ---- a job runs
 
-module _ (jobs : List JobFacts) (clock released due n l : ℕ) (kept : List Kept) (pieces : List Piece) (late : Option ℕ) (k : ℕ)
-    (s : Stands jobs clock released (((due, n), l) ∷ kept) pieces late (clock + k)) (behind : AreBehind due n kept) (some : 1 ≤ k) (long : k
+module _ (jobs : List JobFacts) (clock released due n l : ℕ) (kept : List Kept) (pieces : List Piece) (late : Option ℕ)
+    (k : ℕ)
+    (s : Stands jobs clock released (((due, n), l) ∷ kept) pieces late (clock + k)) (behind : AreBehind due n kept)
+    (some : 1 ≤ k) (long : k
     ≤ l) where
   -- equal in its three parts
   same_kept : (d m x : ℕ) → {y : ℕ} → d ≡ due → m ≡ n → x ≡ y → ◌≡◌ {A = Kept} ((d, m), x) ((due, n), y)
@@ -217,7 +245,8 @@ module _ (jobs : List JobFacts) (clock released due n l : ℕ) (kept : List Kept
   runner_left = ap (λ (e : Kept). e.1) runner.4
 
   -- a task of another number that has something left is kept with the others
-  others_kept : (u : Task) → IsMember u s.tasks → (u.number ≡ n → ⊥) → u.number < released → 1 ≤ left u → IsMember (kept_as u) kept
+  others_kept : (u : Task) → IsMember u s.tasks → (u.number ≡ n → ⊥) → u.number < released → 1 ≤ left u
+      → IsMember (kept_as u) kept
   others_kept u member other low some_left = by_member (s.ready.all u member low some_left) where
     by_member : (kept_as u ≡ ((due, n), l)) ⊎ IsMember (kept_as u) kept → IsMember (kept_as u) kept
     by_member (inl same) = absurd (other (ap (λ (e : Kept). e.0.1) same))
@@ -233,7 +262,8 @@ module _ (jobs : List JobFacts) (clock released due n l : ℕ) (kept : List Kept
     long = omega (arith, runner_left);
     first = λ u member. by_number u member (cases_eq u.number n) (cases_lt u.number released) (cases_lt 0 (left u));
   } where
-    by_number : (u : Task) → IsMember u s.tasks → (u.number ≡ n) ⊎ (u.number ≡ n → ⊥) → (u.number < released) ⊎ (released ≤ u.number)
+    by_number : (u : Task) → IsMember u s.tasks → (u.number ≡ n) ⊎ (u.number ≡ n → ⊥) → (u.number < released)
+        ⊎ (released ≤ u.number)
         → (0 < left u) ⊎ (left u ≤ 0)
         → (u.number ≡ n) ⊎ ((left u ≡ 0) ⊎ ((clock + k ≤ u.job.release) ⊎ IsBehind runner.0.job.deadline n u))
     by_number u member (inl same) low some_left = inl same
@@ -250,13 +280,15 @@ module _ (jobs : List JobFacts) (clock released due n l : ℕ) (kept : List Kept
   tasks_after = map (given_ticks k n) s.tasks
 
   -- an entry behind the job is kept of the same task
-  same_entry : (e : Kept) → IsMember e kept → (t : Task) × IsMember t tasks_after × (t.number < released) × (1 ≤ left t) × (e ≡ kept_as t)
+  same_entry : (e : Kept) → IsMember e kept → (t : Task) × IsMember t tasks_after × (t.number < released) × (1 ≤ left t)
+      × (e ≡ kept_as t)
   same_entry e member = by_task (s.ready.each e (inr member)) where
     by_task : ((t : Task) × IsMember t s.tasks × (t.number < released) × (1 ≤ left t) × (e ≡ kept_as t))
         → (t : Task) × IsMember t tasks_after × (t.number < released) × (1 ≤ left t) × (e ≡ kept_as t)
     by_task it = (
       it.0,
-      subst (λ (u : Task). IsMember u tasks_after) (given_other k n it.0 other) (map_member (given_ticks k n) s.tasks it.0 it.1),
+      subst (λ (u : Task). IsMember u tasks_after) (given_other k n it.0 other)
+          (map_member (given_ticks k n) s.tasks it.0 it.1),
       it.2,
       it.3,
       it.4,
@@ -268,8 +300,10 @@ module _ (jobs : List JobFacts) (clock released due n l : ℕ) (kept : List Kept
 
         by_behind : (due < e.0.0) ⊎ ((due ≡ e.0.0) × (n < e.0.1)) → ⊥
         by_behind (inl less) =
-            let here : e.0.0 ≡ due = ap (λ (x : Kept). x.0.0) it.4 ∙ ap (λ (t : Task). t.job.deadline) is_runner ∙ sym runner_due in omega arith
-        by_behind (inr tie) = let here : e.0.1 ≡ n = ap (λ (x : Kept). x.0.1) it.4 ∙ same in let low : n < e.0.1 = tie.1 in omega arith
+            let here : e.0.0 ≡ due = ap (λ (x : Kept). x.0.0) it.4 ∙ ap (λ (t : Task). t.job.deadline) is_runner
+            ∙ sym runner_due in omega arith
+        by_behind (inr tie) = let here : e.0.1 ≡ n = ap (λ (x : Kept). x.0.1) it.4 ∙ same in let low : n < e.0.1 =
+            tie.1 in omega arith
 
   -- the jobs that are released
   released_after : AreReleased released (clock + k) (clock + k) tasks_after
@@ -278,7 +312,8 @@ module _ (jobs : List JobFacts) (clock released due n l : ℕ) (kept : List Kept
         (λ u member. by_given (λ t. t.number < released → (t.job.release ≤ clock + k) × IsJob t.job) k n u
         (λ _ low. later u (s.releases.past u member low)) (λ _ low. later u (s.releases.past u member low)));
     ahead = on_map (given_ticks k n) (λ t. released ≤ t.number → clock + k ≤ t.job.release) s.tasks
-        (λ u member. by_given (λ t. released ≤ t.number → clock + k ≤ t.job.release) k n u (λ _. s.releases.ahead u member)
+        (λ u member. by_given (λ t. released ≤ t.number → clock + k ≤ t.job.release) k n u
+        (λ _. s.releases.ahead u member)
         (λ _. s.releases.ahead u member));
   } where
     later : (u : Task) → (u.job.release ≤ clock) × IsJob u.job → (u.job.release ≤ clock + k) × IsJob u.job
@@ -287,31 +322,40 @@ module _ (jobs : List JobFacts) (clock released due n l : ℕ) (kept : List Kept
   -- with the late deadline
   served_after : AreServed (with_late late due (clock + l)) (s.so_far ++ replicate k n) tasks_after
   unfolding runner leads
-  served_after = subst (λ x. AreServed (with_late late x (clock + l)) (s.so_far ++ replicate k n) tasks_after) (sym runner_due)
-      (subst (λ x. AreServed (with_late late runner.0.job.deadline (clock + x)) (s.so_far ++ replicate k n) tasks_after) (sym runner_left)
+  served_after = subst (λ x. AreServed (with_late late x (clock + l)) (s.so_far ++ replicate k n) tasks_after)
+      (sym runner_due)
+      (subst (λ x. AreServed (with_late late runner.0.job.deadline (clock + x)) (s.so_far ++ replicate k n) tasks_after)
+      (sym runner_left)
       (served_run jobs clock s.so_far s.tasks s.come k n some leads late s.served))
 
   -- and what shows it
   shown_after : IsShown jobs (with_late late due (clock + l))
   shown_after = shown_on jobs late due (clock + l) s.shown
       (λ behind_time. subst (λ x. IsShown jobs (Some x)) (sym runner_due)
-      (late_shows jobs clock s.so_far s.tasks s.come runner.0 runner.1 (s.releases.past runner.0 runner.1 runner.2).1 runner.3
+      (late_shows jobs clock s.so_far s.tasks s.come runner.0 runner.1
+      (s.releases.past runner.0 runner.1 runner.2).1 runner.3
       (omega (arith, runner_due, runner_left))))
 
-  module _ (after : List Piece) (adds : (x : List ℕ) → length x ≡ clock → pieces ≡ stretches x → after ≡ stretches (x ++ replicate k n)) where
+  module _ (after : List Piece)
+      (adds : (x : List ℕ) → length x ≡ clock → pieces ≡ stretches x → after ≡ stretches (x ++ replicate k n)) where
     -- where something is left, the job is kept
-    pub stands_run : k < l → Stands jobs (clock + k) released (insert kept (due, n) (l - k)) after (with_late late due (clock + l)) (clock + k)
+    pub stands_run : k < l → Stands jobs (clock + k) released (insert kept (due, n) (l - k)) after
+        (with_late late due (clock + l)) (clock + k)
     stands_run less = record {
       tasks = tasks_after;
       so_far = s.so_far ++ replicate k n;
       come = come_run jobs clock s.so_far s.tasks s.come k n some leads;
       ready = record {
         each = λ e member. each e (insert_member kept (due, n) (l - k) e member);
-        all = on_map (given_ticks k n) (λ t. t.number < released → 1 ≤ left t → IsMember (kept_as t) (insert kept (due, n) (l - k))) s.tasks
-            (λ u member. by_given (λ t. t.number < released → 1 ≤ left t → IsMember (kept_as t) (insert kept (due, n) (l - k))) k n u
-            (λ same low some_left. subst (λ e. IsMember e (insert kept (due, n) (l - k))) (sym (here u member same)) (insert_new kept (due, n)
+        all = on_map (given_ticks k n)
+            (λ t. t.number < released → 1 ≤ left t → IsMember (kept_as t) (insert kept (due, n) (l - k))) s.tasks
+            (λ u member. by_given (λ t. t.number < released → 1 ≤ left t
+            → IsMember (kept_as t) (insert kept (due, n) (l - k))) k n u
+            (λ same low some_left. subst (λ e. IsMember e (insert kept (due, n) (l - k))) (sym (here u member same))
+            (insert_new kept (due, n)
             (l - k)))
-            (λ other low some_left. insert_keeps kept (due, n) (l - k) (kept_as u) (others_kept u member other low some_left)
+            (λ other low some_left. insert_keeps kept (due, n) (l - k) (kept_as u)
+            (others_kept u member other low some_left)
             (λ same. other (ap (λ (x : ℕ × ℕ). x.1) same))));
       };
       releases = released_after;
@@ -319,13 +363,15 @@ module _ (jobs : List JobFacts) (clock released due n l : ℕ) (kept : List Kept
       served = served_after;
       shown = shown_after;
       few = s.few;
-      soon = let sum : sum_by (λ e. e.1) (insert kept (due, n) (l - k)) ≤ sum_by (λ e. e.1) kept + (l - k) = insert_sum kept (due, n) (l - k) in
+      soon = let sum : sum_by (λ e. e.1) (insert kept (due, n) (l - k)) ≤ sum_by (λ e. e.1) kept + (l - k) =
+          insert_sum kept (due, n) (l - k) in
           omega (arith, s.soon, sum_by-cons (λ (e : Kept). e.1) ((due, n), l) kept);
     } where
       -- the task that ran
       here : (u : Task) → IsMember u s.tasks → u.number ≡ n → kept_as (had_more k u) ≡ ((due, n), l - k)
       here u member same =
-          let is : u ≡ runner.0 = one_number 0 s.tasks s.come.numbered u runner.0 member runner.1 (same ∙ runner_number) in
+          let is : u ≡ runner.0 = one_number 0 s.tasks s.come.numbered u runner.0 member runner.1
+          (same ∙ runner_number) in
           let due_same : u.job.deadline ≡ due = ap (λ (t : Task). t.job.deadline) is ∙ sym runner_due in
           let left_same : left u ≡ l = ap left is ∙ sym runner_left in
           let left_after : left (had_more k u) ≡ l - k = omega (arith, left_same) in
@@ -366,7 +412,8 @@ module _ (jobs : List JobFacts) (clock released due n l : ℕ) (kept : List Kept
       -- the task that ran
       nothing : (u : Task) → IsMember u s.tasks → u.number ≡ n → 1 ≤ left (had_more k u) → ⊥
       nothing u member same some_left =
-          let is : u ≡ runner.0 = one_number 0 s.tasks s.come.numbered u runner.0 member runner.1 (same ∙ runner_number) in
+          let is : u ≡ runner.0 = one_number 0 s.tasks s.come.numbered u runner.0 member runner.1
+          (same ∙ runner_number) in
           let left_same : left u ≡ l = ap left is ∙ sym runner_left in
           omega (arith, left_same)
 
@@ -374,7 +421,8 @@ module _ (jobs : List JobFacts) (clock released due n l : ℕ) (kept : List Kept
 
 -- the next job comes later
 pub next_later : (jobs : List JobFacts) (clock released : ℕ) (kept : List Kept) (pieces : List Piece) (late : Option ℕ)
-    → Stands jobs clock released kept pieces late (clock + 1) → (j : JobFacts) → slice_get jobs released ≡ Some j → clock < j.release
+    → Stands jobs clock released kept pieces late (clock + 1) → (j : JobFacts) → slice_get jobs released ≡ Some j
+    → clock < j.release
 next_later jobs clock released kept pieces late s j found = by_task (task_of jobs clock released kept pieces late
     (clock + 1) s released j found) where
       by_task : ((t : Task) × IsMember t s.tasks × (t.number ≡ released) × (t.job ≡ j)) → clock < j.release
@@ -383,8 +431,10 @@ next_later jobs clock released kept pieces late s j found = by_task (task_of job
           let same : it.0.job.release ≡ j.release = ap (λ (x : JobFacts). x.release) it.3 in omega arith
 
 -- the simulation waits for the next release
-pub stands_idle : (jobs : List JobFacts) (clock released : ℕ) (pieces : List Piece) (late : Option ℕ) → length jobs ≤ most_jobs → IsInOrder jobs
-    → Stands jobs clock released [] pieces late (clock + 1) → (j : JobFacts) → slice_get jobs released ≡ Some j → IsJob j
+pub stands_idle : (jobs : List JobFacts) (clock released : ℕ) (pieces : List Piece) (late : Option ℕ)
+    → length jobs ≤ most_jobs → IsInOrder jobs
+    → Stands jobs clock released [] pieces late (clock + 1) → (j : JobFacts) → slice_get jobs released ≡ Some j
+    → IsJob j
     → Stands jobs j.release released [] pieces late j.release
 stands_idle jobs clock released pieces late count order s j found is_job = at_release (j.release - clock) refl where
   it : (t : Task) × IsMember t s.tasks × (t.number ≡ released) × (t.job ≡ j)
@@ -397,7 +447,8 @@ stands_idle jobs clock released pieces late count order s j found is_job = at_re
   -- and has all its work left
   some_left : 1 ≤ left it.0
   some_left = let number : it.0.number ≡ released = it.2 in
-      let none : it.0.had ≡ 0 = had_none jobs clock released [] pieces late (clock + 1) s (omega arith) it.0 it.1 (omega arith) in
+      let none : it.0.had ≡ 0 =
+      had_none jobs clock released [] pieces late (clock + 1) s (omega arith) it.0 it.1 (omega arith) in
       let work : it.0.job.work ≡ j.work = ap (λ (x : JobFacts). x.work) it.3 in omega (arith, is_job.work)
 
   -- none comes until then
@@ -410,12 +461,15 @@ stands_idle jobs clock released pieces late count order s j found is_job = at_re
     task = it.0;
     member = it.1;
     some = some_left;
-    named = λ u member same. let low : u.number < length jobs = number_low jobs clock released [] pieces late (clock + 1) s u member in omega arith;
+    named = λ u member same. let low : u.number < length jobs =
+        number_low jobs clock released [] pieces late (clock + 1) s u member in omega arith;
     none = λ u member. by_number u member (cases_lt u.number released) (cases_lt 0 (left u));
   } where
-    by_number : (u : Task) → IsMember u s.tasks → (u.number < released) ⊎ (released ≤ u.number) → (0 < left u) ⊎ (left u ≤ 0)
+    by_number : (u : Task) → IsMember u s.tasks → (u.number < released) ⊎ (released ≤ u.number) → (0 < left u)
+        ⊎ (left u ≤ 0)
         → (left u ≡ 0) ⊎ (clock + (j.release - clock) ≤ u.job.release)
-    by_number u member (inr high) some_or_none = inr (let ahead : j.release ≤ u.job.release = until.ahead u member high in omega (arith, later))
+    by_number u member (inr high) some_or_none =
+        inr (let ahead : j.release ≤ u.job.release = until.ahead u member high in omega (arith, later))
     by_number u member (inl low) (inr none) = inl (omega (arith, none))
     by_number u member (inl low) (inl more) = absurd (s.ready.all u member low (omega (arith, more)))
 
@@ -423,7 +477,8 @@ stands_idle jobs clock released pieces late count order s j found is_job = at_re
   at_release k same =
       let there : clock + k ≡ j.release = omega (arith, same, later) in
       let in_jobs : IsMember j jobs = subst (λ (js : List JobFacts). IsMember j js) s.come.of_jobs
-      (subst (λ (x : JobFacts). IsMember x (jobs_of s.tasks)) it.3 (map_member (λ (t : Task). t.job) s.tasks it.0 it.1)) in
+      (subst (λ (x : JobFacts). IsMember x (jobs_of s.tasks)) it.3
+      (map_member (λ (t : Task). t.job) s.tasks it.0 it.1)) in
       subst (λ c. Stands jobs c released [] pieces late j.release) there (record {
         tasks = s.tasks;
         so_far = s.so_far ++ replicate k idle;
@@ -449,11 +504,13 @@ stands_idle jobs clock released pieces late count order s j found is_job = at_re
 
 -- all jobs are released and done
 pub stands_last : (jobs : List JobFacts) (clock released : ℕ) (pieces : List Piece) (late : Option ℕ) (from : ℕ)
-    → Stands jobs clock released [] pieces late from → length jobs ≤ released → length pieces ≤ 2 * released → IsWhole jobs pieces late
+    → Stands jobs clock released [] pieces late from → length jobs ≤ released → length pieces ≤ 2 * released
+    → IsWhole jobs pieces late
 stands_last jobs clock released pieces late from s all count = record {
   stretch = s.stretch ∙ ap stretches (sym whole);
   count = omega (arith, s.few);
-  served = subst (λ x. Each (λ n_j. IsTrue (is_served x n_j) ⊎ IsLateBy late n_j.1.deadline) (enumerate_from 0 jobs)) (sym whole)
+  served = subst (λ x. Each (λ n_j. IsTrue (is_served x n_j) ⊎ IsLateBy late n_j.1.deadline) (enumerate_from 0 jobs))
+      (sym whole)
       (subst (λ (js : List JobFacts). Each (λ n_j. IsTrue (is_served s.so_far n_j)
       ⊎ IsLateBy late n_j.1.deadline) (enumerate_from 0 js)) s.come.of_jobs
       (each_numbered (λ n_j. IsTrue (is_served s.so_far n_j) ⊎ IsLateBy late n_j.1.deadline) 0 s.tasks s.come.numbered

@@ -1,5 +1,6 @@
 -- The stretches of a schedule: in order, spread again, and with a run of one job behind.
-use Rattle.std.proofs.Common.{◌≡◌, ℕ, zero, suc, ◌+◌, ◌-◌, ◌≤◌, ◌<◌, List, [], ◌∷◌, ◌++◌, length, replicate, refl, sym, ap, ◌∙◌, Bool, true}
+use Rattle.std.proofs.Common.{◌≡◌, ℕ, zero, suc, ◌+◌, ◌-◌, ◌≤◌, ◌<◌, List, [], ◌∷◌, ◌++◌, length, replicate, refl, sym}
+use Rattle.std.proofs.Common.{ap, ◌∙◌, Bool, true}
 use Rattle.std.proofs.Common.{false, cond, eqb, arith, append_assoc}
 use Rattle.std.specs.Prelude.{◌&&◌}
 use Rattle.std.proofs.lemmas.Bool.{eqb-true, eq-eqb, ne_eqb, and_parts, and_from}
@@ -28,7 +29,8 @@ with_piece (q ∷ []) p = cond (goes_on q p) (joined q p ∷ []) (q ∷ p ∷ []
 with_piece (q ∷ r ∷ more) p = q ∷ with_piece (r ∷ more) p
 
 -- behind the last of the others
-pub piece_behind : (xs : List Piece) (q p : Piece) → with_piece (xs ++ q ∷ []) p ≡ xs ++ cond (goes_on q p) (joined q p ∷ []) (q ∷ p ∷ [])
+pub piece_behind : (xs : List Piece) (q p : Piece)
+    → with_piece (xs ++ q ∷ []) p ≡ xs ++ cond (goes_on q p) (joined q p ∷ []) (q ∷ p ∷ [])
 piece_behind [] q p = refl
 piece_behind (x ∷ []) q p = refl
 piece_behind (x ∷ y ∷ xs) q p = ap (λ zs. x ∷ zs) (piece_behind (y ∷ xs) q p)
@@ -47,23 +49,29 @@ turned m n = by_bool _ (eqb m n) (λ e. e ∙ sym (eq-eqb n m (sym (eqb-true m n
     (λ e. e ∙ sym (ne_eqb n m (λ same. never (sym e ∙ eq-eqb m n (sym same)))))
 
 -- a tick in front and a piece behind can come in either order
-pub tick_and_piece : (t m : ℕ) (ps : List Piece) (p : Piece) → with_tick t m (with_piece ps p) ≡ with_piece (with_tick t m ps) p
+pub tick_and_piece : (t m : ℕ) (ps : List Piece) (p : Piece)
+    → with_tick t m (with_piece ps p) ≡ with_piece (with_tick t m ps) p
 tick_and_piece t m [] p = by_test (before t m p) refl where
   same : goes_on (piece_of t (t + 1) m) p ≡ before t m p
-  same = let e : eqb m p.number ≡ eqb p.number m = turned m p.number in let f : eqb (t + 1) p.from ≡ eqb p.from (t + 1) = turned (t + 1) p.from in
+  same = let e : eqb m p.number ≡ eqb p.number m = turned m p.number in
+      let f : eqb (t + 1) p.from ≡ eqb p.from (t + 1) = turned (t + 1) p.from in
       ap (λ b. b && eqb (t + 1) p.from) e ∙ ap (λ b. eqb p.number m && b) f
 
   by_test : (b : Bool) → before t m p ≡ b
-      → in_front (before t m p) t m p [] ≡ cond (goes_on (piece_of t (t + 1) m) p) (piece_of t p.until m ∷ []) (piece_of t (t + 1) m ∷ p ∷ [])
+      → in_front (before t m p) t m p [] ≡ cond (goes_on (piece_of t (t + 1) m) p) (piece_of t p.until m ∷ [])
+      (piece_of t (t + 1) m ∷ p ∷ [])
   by_test true e =
-      let parts : (eqb p.number m ≡ true) × (eqb p.from (t + 1) ≡ true) = and_parts (eqb p.number m) (eqb p.from (t + 1)) e in
+      let parts : (eqb p.number m ≡ true) × (eqb p.from (t + 1) ≡ true) =
+      and_parts (eqb p.number m) (eqb p.from (t + 1)) e in
       let number : p.number ≡ m = eqb-true p.number m parts.0 in
       ap (λ b. in_front b t m p []) e ∙ ap (λ n. piece_of t p.until n ∷ []) number
       ∙ sym (ap (λ b. cond b (piece_of t p.until m ∷ []) (piece_of t (t + 1) m ∷ p ∷ [])) (same ∙ e))
-  by_test false e = ap (λ b. in_front b t m p []) e ∙ sym (ap (λ b. cond b (piece_of t p.until m ∷ []) (piece_of t (t + 1) m ∷ p ∷ [])) (same ∙ e))
+  by_test false e = ap (λ b. in_front b t m p []) e
+      ∙ sym (ap (λ b. cond b (piece_of t p.until m ∷ []) (piece_of t (t + 1) m ∷ p ∷ [])) (same ∙ e))
 tick_and_piece t m (q ∷ []) p = by_two (before t m q) (goes_on q p) refl refl where
   by_two : (b c : Bool) → before t m q ≡ b → goes_on q p ≡ c
-      → with_tick t m (cond (goes_on q p) (joined q p ∷ []) (q ∷ p ∷ [])) ≡ with_piece (in_front (before t m q) t m q []) p
+      → with_tick t m (cond (goes_on q p) (joined q p ∷ []) (q ∷ p ∷ [])) ≡ with_piece
+      (in_front (before t m q) t m q []) p
   by_two true true e f =
       ap (λ c. with_tick t m (cond c (joined q p ∷ []) (q ∷ p ∷ []))) f
       ∙ ap (λ b. in_front b t m (joined q p) []) e
@@ -86,39 +94,50 @@ tick_and_piece t m (q ∷ []) p = by_two (before t m q) (goes_on q p) refl refl 
       ∙ sym (ap (λ b. with_piece (in_front b t m q []) p) e)
 tick_and_piece t m (q ∷ r ∷ more) p = by_test (before t m q) refl where
   by_test : (b : Bool) → before t m q ≡ b
-      → in_front (before t m q) t m q (with_piece (r ∷ more) p) ≡ with_piece (in_front (before t m q) t m q (r ∷ more)) p
-  by_test true e = ap (λ b. in_front b t m q (with_piece (r ∷ more) p)) e ∙ sym (ap (λ b. with_piece (in_front b t m q (r ∷ more)) p) e)
-  by_test false e = ap (λ b. in_front b t m q (with_piece (r ∷ more) p)) e ∙ sym (ap (λ b. with_piece (in_front b t m q (r ∷ more)) p) e)
+      → in_front (before t m q) t m q (with_piece (r ∷ more) p) ≡ with_piece
+      (in_front (before t m q) t m q (r ∷ more)) p
+  by_test true e = ap (λ b. in_front b t m q (with_piece (r ∷ more) p)) e
+      ∙ sym (ap (λ b. with_piece (in_front b t m q (r ∷ more)) p) e)
+  by_test false e = ap (λ b. in_front b t m q (with_piece (r ∷ more) p)) e
+      ∙ sym (ap (λ b. with_piece (in_front b t m q (r ∷ more)) p) e)
 
 -- ---- a run of one job behind
 
 -- a run of one job is one stretch
-run_alone : (t n : ℕ) (k until : ℕ) → (n ≡ idle → ⊥) → until ≡ t + suc k → stretches_from t (replicate (suc k) n) ≡ piece_of t until n ∷ []
+run_alone : (t n : ℕ) (k until : ℕ) → (n ≡ idle → ⊥) → until ≡ t + suc k
+    → stretches_from t (replicate (suc k) n) ≡ piece_of t until n ∷ []
 run_alone t n zero until job e = by_idle (ne_eqb n idle job) where
   by_idle : eqb n idle ≡ false → stretches_from t (n ∷ []) ≡ piece_of t until n ∷ []
   by_idle f = ap (λ b. cond b (stretches_from (t + 1) []) (with_tick t n (stretches_from (t + 1) []))) f
       ∙ ap (λ u. piece_of t u n ∷ []) (let same : t + 1 ≡ until = omega (arith, e) in same)
-run_alone t n (suc k) until job e = by_idle (ne_eqb n idle job) (run_alone (t + 1) n k until job (omega (arith, e))) where
-  goes : before t n (piece_of (t + 1) until n) ≡ true
-  goes = ap (λ b. b && eqb (t + 1) (t + 1)) (eq-eqb n n refl) ∙ eq-eqb (t + 1) (t + 1) refl
+run_alone t n (suc k) until job e =
+    by_idle (ne_eqb n idle job) (run_alone (t + 1) n k until job (omega (arith, e))) where
+      goes : before t n (piece_of (t + 1) until n) ≡ true
+      goes = ap (λ b. b && eqb (t + 1) (t + 1)) (eq-eqb n n refl) ∙ eq-eqb (t + 1) (t + 1) refl
 
-  by_idle : eqb n idle ≡ false → stretches_from (t + 1) (replicate (suc k) n) ≡ piece_of (t + 1) until n ∷ []
-      → stretches_from t (n ∷ replicate (suc k) n) ≡ piece_of t until n ∷ []
-  by_idle f rest = ap (λ b. cond b (stretches_from (t + 1) (replicate (suc k) n)) (with_tick t n (stretches_from (t + 1) (replicate (suc k) n)))) f
-      ∙ ap (λ ps. with_tick t n ps) rest ∙ ap (λ b. in_front b t n (piece_of (t + 1) until n) []) goes
+      by_idle : eqb n idle ≡ false → stretches_from (t + 1) (replicate (suc k) n) ≡ piece_of (t + 1) until n ∷ []
+          → stretches_from t (n ∷ replicate (suc k) n) ≡ piece_of t until n ∷ []
+      by_idle f rest = ap (λ b. cond b (stretches_from (t + 1) (replicate (suc k) n))
+          (with_tick t n (stretches_from (t + 1) (replicate (suc k) n)))) f
+          ∙ ap (λ ps. with_tick t n ps) rest ∙ ap (λ b. in_front b t n (piece_of (t + 1) until n) []) goes
 
 -- behind a schedule
 stretches_run_from : (t : ℕ) (s : List ℕ) (n k at until : ℕ) → (n ≡ idle → ⊥) → at ≡ t + length s → until ≡ at + suc k
     → stretches_from t (s ++ replicate (suc k) n) ≡ with_piece (stretches_from t s) (piece_of at until n)
 stretches_run_from t [] n k at until job e f =
-    run_alone t n k until job (omega (arith, e, f)) ∙ ap (λ a. piece_of a until n ∷ []) (let same : t ≡ at = omega (arith, e) in same)
+    run_alone t n k until job (omega (arith, e, f))
+    ∙ ap (λ a. piece_of a until n ∷ []) (let same : t ≡ at = omega (arith, e) in same)
 stretches_run_from t (x ∷ s) n k at until job e f =
     by_idle (eqb x idle) (stretches_run_from (t + 1) s n k at until job (omega (arith, e)) f) where
-      by_idle : (b : Bool) → stretches_from (t + 1) (s ++ replicate (suc k) n) ≡ with_piece (stretches_from (t + 1) s) (piece_of at until n)
-          → cond b (stretches_from (t + 1) (s ++ replicate (suc k) n)) (with_tick t x (stretches_from (t + 1) (s ++ replicate (suc k) n)))
-          ≡ with_piece (cond b (stretches_from (t + 1) s) (with_tick t x (stretches_from (t + 1) s))) (piece_of at until n)
+      by_idle : (b : Bool) → stretches_from (t + 1) (s ++ replicate (suc k) n) ≡ with_piece (stretches_from (t + 1) s)
+          (piece_of at until n)
+          → cond b (stretches_from (t + 1) (s ++ replicate (suc k) n))
+          (with_tick t x (stretches_from (t + 1) (s ++ replicate (suc k) n)))
+          ≡ with_piece (cond b (stretches_from (t + 1) s) (with_tick t x (stretches_from (t + 1) s)))
+          (piece_of at until n)
       by_idle true rest = rest
-      by_idle false rest = ap (λ ps. with_tick t x ps) rest ∙ tick_and_piece t x (stretches_from (t + 1) s) (piece_of at until n)
+      by_idle false rest = ap (λ ps. with_tick t x ps) rest
+          ∙ tick_and_piece t x (stretches_from (t + 1) s) (piece_of at until n)
 
 -- idle ticks behind a schedule add nothing
 pub stretches_idle : (t : ℕ) (s : List ℕ) (k : ℕ) → stretches_from t (s ++ replicate k idle) ≡ stretches_from t s
@@ -157,13 +176,16 @@ no_ticks : (t : ℕ) (n : ℕ) → replicate (t - t) n ≡ []
 no_ticks t n = ap (λ k. replicate k n) (let none : t - t ≡ 0 = omega arith in none)
 
 -- a tick in front comes first
-spread_tick : (t m : ℕ) (ps : List Piece) → InOrderFrom (t + 1) ps → spread_from t (with_tick t m ps) ≡ m ∷ spread_from (t + 1) ps
+spread_tick : (t m : ℕ) (ps : List Piece) → InOrderFrom (t + 1) ps
+    → spread_from t (with_tick t m ps) ≡ m ∷ spread_from (t + 1) ps
 spread_tick t m [] all = ap (λ xs. xs ++ replicate (t + 1 - t) m ++ []) (no_ticks t idle)
     ∙ ap (λ k. replicate k m ++ []) (let one : t + 1 - t ≡ 1 = omega arith in one)
 spread_tick t m (p ∷ ps) all = by_test (before t m p) refl where
-  by_test : (b : Bool) → before t m p ≡ b → spread_from t (in_front (before t m p) t m p ps) ≡ m ∷ spread_from (t + 1) (p ∷ ps)
+  by_test : (b : Bool) → before t m p ≡ b
+      → spread_from t (in_front (before t m p) t m p ps) ≡ m ∷ spread_from (t + 1) (p ∷ ps)
   by_test true e =
-      let parts : (eqb p.number m ≡ true) × (eqb p.from (t + 1) ≡ true) = and_parts (eqb p.number m) (eqb p.from (t + 1)) e in
+      let parts : (eqb p.number m ≡ true) × (eqb p.from (t + 1) ≡ true) =
+      and_parts (eqb p.number m) (eqb p.from (t + 1)) e in
       let number : p.number ≡ m = eqb-true p.number m parts.0 in
       let from : p.from ≡ t + 1 = eqb-true p.from (t + 1) parts.1 in
       ap (λ b. spread_from t (in_front b t m p ps)) e
@@ -179,8 +201,10 @@ spread_tick t m (p ∷ ps) all = by_test (before t m p) refl where
       ∙ ap (λ k. replicate k m ++ spread_from (t + 1) (p ∷ ps)) (let one : t + 1 - t ≡ 1 = omega arith in one)
 
 -- where the pieces begin later, the first tick is idle
-spread_later : (t : ℕ) (p : Piece) (ps : List Piece) → t + 1 ≤ p.from → spread_from t (p ∷ ps) ≡ idle ∷ spread_from (t + 1) (p ∷ ps)
-spread_later t p ps later = ap (λ k. replicate k idle ++ replicate (p.until - p.from) p.number ++ spread_from p.until ps)
+spread_later : (t : ℕ) (p : Piece) (ps : List Piece) → t + 1 ≤ p.from
+    → spread_from t (p ∷ ps) ≡ idle ∷ spread_from (t + 1) (p ∷ ps)
+spread_later t p ps later =
+    ap (λ k. replicate k idle ++ replicate (p.until - p.from) p.number ++ spread_from p.until ps)
     (let more : p.from - t ≡ suc (p.from - (t + 1)) = omega (arith, later) in more)
 
 -- the stretches of a schedule are the schedule again, but for idle ticks behind
@@ -190,11 +214,14 @@ spread_again t (x ∷ s) = by_idle (eqb x idle) refl (spread_again (t + 1) s) (s
   by_first : (ps : List Piece) (k : ℕ) → s ≡ spread_from (t + 1) ps ++ replicate k idle → InOrderFrom (t + 1) ps
       → (l : ℕ) × (idle ∷ s ≡ spread_from t ps ++ replicate l idle)
   by_first [] k e all = (suc k, ap (λ xs. idle ∷ xs) e)
-  by_first (p ∷ ps) k e all = (k, ap (λ xs. idle ∷ xs) e ∙ sym (ap (λ xs. xs ++ replicate k idle) (spread_later t p ps all.0)))
+  by_first (p ∷ ps) k e all =
+      (k, ap (λ xs. idle ∷ xs) e ∙ sym (ap (λ xs. xs ++ replicate k idle) (spread_later t p ps all.0)))
 
-  by_idle : (b : Bool) → eqb x idle ≡ b → ((k : ℕ) × (s ≡ spread_from (t + 1) (stretches_from (t + 1) s) ++ replicate k idle))
+  by_idle : (b : Bool) → eqb x idle ≡ b
+      → ((k : ℕ) × (s ≡ spread_from (t + 1) (stretches_from (t + 1) s) ++ replicate k idle))
       → InOrderFrom (t + 1) (stretches_from (t + 1) s)
-      → (k : ℕ) × (x ∷ s ≡ spread_from t (cond (eqb x idle) (stretches_from (t + 1) s) (with_tick t x (stretches_from (t + 1) s)))
+      → (k : ℕ) × (x ∷ s ≡ spread_from t
+      (cond (eqb x idle) (stretches_from (t + 1) s) (with_tick t x (stretches_from (t + 1) s)))
       ++ replicate k idle)
   by_idle true e rest all =
       let found : (l : ℕ) × (idle ∷ s ≡ spread_from t (stretches_from (t + 1) s) ++ replicate l idle) =
@@ -208,7 +235,8 @@ spread_again t (x ∷ s) = by_idle (eqb x idle) refl (spread_again (t + 1) s) (s
     rest.0,
     ap (λ xs. x ∷ xs) rest.1
         ∙ sym (ap (λ xs. xs ++ replicate rest.0 idle) (spread_tick t x (stretches_from (t + 1) s) all))
-        ∙ sym (ap (λ b. spread_from t (cond b (stretches_from (t + 1) s) (with_tick t x (stretches_from (t + 1) s))) ++ replicate rest.0 idle) e),
+        ∙ sym (ap (λ b. spread_from t (cond b (stretches_from (t + 1) s) (with_tick t x (stretches_from (t + 1) s)))
+        ++ replicate rest.0 idle) e),
   )
 
 -- ---- one more piece
@@ -224,10 +252,12 @@ module _ (s : List ℕ) (p : Piece) (some : p.from < p.until) (job : p.number �
   stretches_more =
       let longer : p.until - p.from ≡ suc (p.until - p.from - 1) = omega (arith, some) in
       ap (λ k. stretches (s ++ replicate k p.number)) longer
-      ∙ stretches_run_from 0 s p.number (p.until - p.from - 1) p.from p.until job (omega (arith, here)) (omega (arith, some))
+      ∙ stretches_run_from 0 s p.number (p.until - p.from - 1) p.from p.until job (omega (arith, here))
+      (omega (arith, some))
 
   -- behind no other
-  pub more_first : (old mid new : List Piece) → old ≡ stretches s → length old ≡ 0 → length mid ≡ 0 → new ≡ mid ++ p ∷ []
+  pub more_first : (old mid new : List Piece) → old ≡ stretches s → length old ≡ 0 → length mid ≡ 0
+      → new ≡ mid ++ p ∷ []
       → new ≡ stretches (s ++ replicate (p.until - p.from) p.number)
   more_first old mid new is none nothing e = e ∙ ap (λ ps. ps ++ p ∷ []) (no_pieces mid nothing)
       ∙ sym (ap (λ ps. with_piece ps p) (no_pieces old none))
@@ -235,14 +265,17 @@ module _ (s : List ℕ) (p : Piece) (some : p.from < p.until) (job : p.number �
 
   module _ (xs old : List Piece) (q : Piece) (is : old ≡ stretches s) (last : old ≡ xs ++ q ∷ []) where
     -- behind others
-    more_behind : stretches (s ++ replicate (p.until - p.from) p.number) ≡ xs ++ cond (goes_on q p) (joined q p ∷ []) (q ∷ p ∷ [])
+    more_behind : stretches (s ++ replicate (p.until - p.from) p.number) ≡ xs ++ cond (goes_on q p) (joined q p ∷ [])
+        (q ∷ p ∷ [])
     more_behind = stretches_more ∙ ap (λ ps. with_piece ps p) (sym is ∙ last) ∙ piece_behind xs q p
 
     -- it goes on with the last
-    pub more_joined : (new : List Piece) → q.number ≡ p.number → q.until ≡ p.from → new ≡ xs ++ piece_of q.from p.until p.number ∷ []
+    pub more_joined : (new : List Piece) → q.number ≡ p.number → q.until ≡ p.from
+        → new ≡ xs ++ piece_of q.from p.until p.number ∷ []
         → new ≡ stretches (s ++ replicate (p.until - p.from) p.number)
     more_joined new same at_end e =
-        let goes : goes_on q p ≡ true = and_from (eqb q.number p.number) (eqb q.until p.from) (eq-eqb _ _ same) (eq-eqb _ _ at_end) in
+        let goes : goes_on q p ≡ true =
+        and_from (eqb q.number p.number) (eqb q.until p.from) (eq-eqb _ _ same) (eq-eqb _ _ at_end) in
         e ∙ ap (λ n. xs ++ piece_of q.from p.until n ∷ []) (sym same)
         ∙ sym (more_behind ∙ ap (λ b. xs ++ cond b (joined q p ∷ []) (q ∷ p ∷ [])) goes)
 
@@ -250,8 +283,10 @@ module _ (s : List ℕ) (p : Piece) (some : p.from < p.until) (job : p.number �
     pub more_apart : (new : List Piece) → (q.number ≡ p.number → q.until ≡ p.from → ⊥) → new ≡ xs ++ q ∷ [] ++ p ∷ []
         → new ≡ stretches (s ++ replicate (p.until - p.from) p.number)
     more_apart new other e =
-        let stays : goes_on q p ≡ false = by_bool _ (goes_on q p) (λ t. absurd (clash (and_parts (eqb q.number p.number) (eqb q.until p.from) t)))
+        let stays : goes_on q p ≡ false =
+        by_bool _ (goes_on q p) (λ t. absurd (clash (and_parts (eqb q.number p.number) (eqb q.until p.from) t)))
         (λ f. f) in
-        e ∙ append_assoc xs (q ∷ []) (p ∷ []) ∙ sym (more_behind ∙ ap (λ b. xs ++ cond b (joined q p ∷ []) (q ∷ p ∷ [])) stays) where
+        e ∙ append_assoc xs (q ∷ []) (p ∷ [])
+        ∙ sym (more_behind ∙ ap (λ b. xs ++ cond b (joined q p ∷ []) (q ∷ p ∷ [])) stays) where
           clash : (eqb q.number p.number ≡ true) × (eqb q.until p.from ≡ true) → ⊥
           clash both = other (eqb-true _ _ both.0) (eqb-true _ _ both.1)

@@ -1,5 +1,6 @@
 -- Where the schedule by earliest deadline stands at a tick.
-use Rattle.std.specs.Prelude.{◌≡◌, ℕ, ◌+◌, ◌-◌, ◌*◌, ◌≤◌, ◌<◌, ◌⊎◌, List, ◌++◌, length, drop, ◌==◌, cond, IsTrue, Option, None, Some}
+use Rattle.std.specs.Prelude.{◌≡◌, ℕ, ◌+◌, ◌-◌, ◌*◌, ◌≤◌, ◌<◌, ◌⊎◌, List, ◌++◌, length, drop, ◌==◌, cond, IsTrue}
+use Rattle.std.specs.Prelude.{Option, None, Some}
 use Rattle.std.specs.Prelude.{slice_get, nat_lt, min, if◌then◌else◌}
 use Rattle.std.specs.List.{sum_by, count_by, enumerate_from}
 use Rattle.dover_model.specs.Limits.{last_tick}
@@ -18,7 +19,8 @@ use Rattle.deadline_oracle.specs.Feasibility.{IsDeadline}
 abbrev pub had_inside : ℕ → ℕ → List Task → ℕ
 had_inside a d tasks = sum_by (λ t. cond (is_inside a d t.job) t.had 0) tasks
 
--- since some tick only jobs that are released then or later and due by d have run, and of those due by d the earlier ones are done
+-- since some tick only jobs that are released then or later and due by d have run, and of those due by d the earlier
+-- ones are done
 pub record IsBusy (d clock : ℕ) (tasks : List Task) : Type 0 where
   pub since : ℕ
   pub past : since ≤ clock
@@ -68,10 +70,13 @@ IsShown jobs (Some b) = IsDeadline jobs b × ((a : ℕ) × IsOverfull jobs a b (
 
 -- each job that is done is served, or due no sooner than the late deadline
 abbrev pub AreServed : Option ℕ → List ℕ → List Task → Type 0
-AreServed late s tasks = Each (λ t. left t ≡ 0 → IsTrue (is_served s (t.number, t.job)) ⊎ IsLateBy late t.job.deadline) tasks
+AreServed late s tasks =
+    Each (λ t. left t ≡ 0 → IsTrue (is_served s (t.number, t.job)) ⊎ IsLateBy late t.job.deadline) tasks
 
--- the simulation has come to the tick `clock`, and no job that isn't counted as released is released before the tick `from`
-pub record Stands (jobs : List JobFacts) (clock released : ℕ) (kept : List ((ℕ × ℕ) × ℕ)) (pieces : List Piece) (late : Option ℕ)
+-- the simulation has come to the tick `clock`, and no job that isn't counted as released is released before the tick
+-- `from`
+pub record Stands (jobs : List JobFacts) (clock released : ℕ) (kept : List ((ℕ × ℕ) × ℕ)) (pieces : List Piece)
+    (late : Option ℕ)
     (from : ℕ) : Type 0 where
   pub tasks : List Task
   pub so_far : List ℕ
@@ -102,7 +107,8 @@ IsPending jobs clock released = (j : JobFacts) × (slice_get jobs released ≡ S
 
 -- no job that isn't counted as released is released before the tick `from`
 abbrev pub NoneBefore : List JobFacts → (from released : ℕ) → Type 0
-NoneBefore jobs from released = (length jobs ≤ released) ⊎ ((j : JobFacts) × (slice_get jobs released ≡ Some j) × (from ≤ j.release))
+NoneBefore jobs from released = (length jobs ≤ released)
+    ⊎ ((j : JobFacts) × (slice_get jobs released ≡ Some j) × (from ≤ j.release))
 
 -- how far a job runs that has l ticks left: to its end, or to the next release
 pub record RunsUntil (jobs : List JobFacts) (clock released l until : ℕ) : Type 0 where

@@ -3,7 +3,8 @@ ghost use Rattle.std.specs.Prelude.{◌≡◌, ◌+◌, ◌^◌, ◌<◌, ◌≤
 ghost use Rattle.std.specs.Bool.{OnTrue, OnFalse};
 ghost use Rattle.dover_model.specs.Instance.{IsInOrder};
 ghost use Rattle.dover_model.specs.Limits.{most_jobs};
-ghost use Rattle.deadline_oracle.specs.Progress.{Stands, StandsAt, AreBehind, HasFew, IsPending, NoneBefore, RunsUntil, IsWhole, with_late};
+ghost use Rattle.deadline_oracle.specs.Progress.{Stands, StandsAt, AreBehind, HasFew, IsPending, NoneBefore, RunsUntil};
+ghost use Rattle.deadline_oracle.specs.Progress.{IsWhole, with_late};
 
 use crate::pieces::add_piece;
 use dover_model::{Job, Memory, Piece};
@@ -36,7 +37,8 @@ impl Simulation {
         ensures rises { self.old.released ≤ self.new.released }
         ensures few { OnOk result (length self.new.pieces.items + length self.new.ready.entries + self.old.released
             ≤ length self.old.pieces.items + length self.old.ready.entries + self.new.released) }
-        ensures moves { IsPending jobs.now self.old.clock self.old.released → OnOk result (self.old.released < self.new.released) }
+        ensures moves { IsPending jobs.now self.old.clock self.old.released
+            → OnOk result (self.old.released < self.new.released) }
     {
         while let Some(job) = jobs.get(self.released) {
             if self.clock < job.release() {
@@ -67,7 +69,8 @@ impl Simulation {
     fn run(&mut self, jobs: &[Job], deadline: u64, number: u32, left: u64) -> Result<(), Memory>
         requires order { IsInOrder jobs.now }
         requires count { length jobs.now ≤ most_jobs }
-        requires stands { Stands jobs.now self.old.clock self.old.released (((deadline, number), left) ∷ self.old.ready.entries)
+        requires stands { Stands jobs.now self.old.clock self.old.released
+            (((deadline, number), left) ∷ self.old.ready.entries)
             self.old.pieces.items self.old.late (self.old.clock + 1) }
         requires behind { AreBehind deadline number self.old.ready.entries }
         ensures stands { OnOk result (StandsAt jobs.now self.new self.new.clock) }
@@ -75,7 +78,8 @@ impl Simulation {
         ensures released { self.new.released ≡ self.old.released }
         ensures few { OnOk result (
             (length self.new.pieces.items + length self.new.ready.entries ≤ length self.old.pieces.items + length self.old.ready.entries + 1)
-            ⊎ ((length self.new.pieces.items + length self.new.ready.entries ≤ length self.old.pieces.items + length self.old.ready.entries + 2)
+            ⊎ ((length self.new.pieces.items + length self.new.ready.entries ≤ length self.old.pieces.items
+            + length self.old.ready.entries + 2)
             × IsPending jobs.now self.new.clock self.new.released)) }
     {
         let done = self.clock + left;

@@ -7,7 +7,8 @@ ghost use Rattle.deadline_oracle.specs.Feasibility.{IsRelease};
 
 use dover_model::Job;
 
-/// The greatest `a` for which the jobs that are released at `a` or later and due by `b` have more than `b - a` ticks of work.
+/// The greatest `a` for which the jobs that are released at `a` or later and due by `b` have more than `b - a` ticks of
+/// work.
 pub fn last_start(jobs: &[Job], b: u64) -> u64
     requires order { IsInOrder jobs.now }
     requires count { length jobs.now ≤ most_jobs }

@@ -1,5 +1,6 @@
 -- The comparisons of the steps on the way to a horizon.
-use Rattle.std.proofs.Common.{◌≡◌, ℕ, ◌+◌, ◌^◌, ◌*◌, ◌≤◌, ◌<◌, List, [], ◌∷◌, ◌++◌, length, refl, sym, ap, ◌∙◌, subst, arith}
+use Rattle.std.proofs.Common.{◌≡◌, ℕ, ◌+◌, ◌^◌, ◌*◌, ◌≤◌, ◌<◌, List, [], ◌∷◌, ◌++◌, length, refl, sym, ap, ◌∙◌, subst}
+use Rattle.std.proofs.Common.{arith}
 use Rattle.std.proofs.lemmas.List.{length-map}
 use Rattle.std.proofs.lemmas.List.Sums.{sum_by-cons, sum_by-append}
 use Rattle.dover_model.specs.declared.events.Task.{Task}
@@ -20,7 +21,8 @@ twenty : (d m n : ℕ) → 2 * d * m + 6 * d * n ≤ 20 * d * (m + n)
 twenty d m n = omega arith
 
 -- twice as many
-both : (d m n before between later : ℕ) → between ≤ before + 20 * d * m → later ≤ between + 20 * d * n → later ≤ before + 20 * d * (m + n)
+both : (d m n before between later : ℕ) → between ≤ before + 20 * d * m → later ≤ between + 20 * d * n
+    → later ≤ before + 20 * d * (m + n)
 both d m n before between later one other = omega (arith, one, other)
 
 module _ (to : Horizon) (rules : Rules) where
@@ -33,7 +35,8 @@ module _ (to : Horizon) (rules : Rules) where
   counted_silent s u d n silent = record { path = silent.steps; lead = silent.lead; few = omega arith }
 
   -- one step
-  pub counted_one : (s : State) (m : Move) (d before later : ℕ) → MayGo to rules s → step_to to rules s ≡ m → later ≤ before + cost_of d s m
+  pub counted_one : (s : State) (m : Move) (d before later : ℕ) → MayGo to rules s → step_to to rules s ≡ m
+      → later ≤ before + cost_of d s m
       → IsCounted to rules s (after s m) d before later
   counted_one s m d before later may is cost = subst (λ x. IsCounted to rules s (after s x) d before later) is (record {
     path = taken_to to rules s ∷ [];
@@ -41,14 +44,16 @@ module _ (to : Horizon) (rules : Rules) where
     few = subst (λ n. later ≤ before + 20 * d * n) (sym one) paid;
   }) where
     one : waits_in (taken_to to rules s ∷ []) ≡ enters s (step_to to rules s) + leaves s (step_to to rules s)
-    one = sum_by-cons (λ (x : Step). enters x.before x.move + leaves x.before x.move) (taken_to to rules s) [] ∙ (omega arith)
+    one = sum_by-cons (λ (x : Step). enters x.before x.move + leaves x.before x.move) (taken_to to rules s) []
+        ∙ (omega arith)
 
     paid : later ≤ before + 20 * d * (enters s (step_to to rules s) + leaves s (step_to to rules s))
     paid = subst (λ x. later ≤ before + 20 * d * (enters s x + leaves s x)) (sym is)
         (omega (arith, cost, twenty d (enters s m) (leaves s m)))
 
   -- steps, and more steps
-  pub counted_append : (s u w : State) (d before between later : ℕ) → IsCounted to rules s u d before between → IsCounted to rules u w d between later
+  pub counted_append : (s u w : State) (d before between later : ℕ) → IsCounted to rules s u d before between
+      → IsCounted to rules u w d between later
       → IsCounted to rules s w d before later
   counted_append s u w d before between later one other = record {
     path = one.path ++ other.path;
@@ -59,6 +64,7 @@ module _ (to : Horizon) (rules : Rules) where
   }
 
 -- as many tasks as before
-pub fits_still : (d : ℕ) (tasks before : List Task) → jobs_of tasks ≡ jobs_of before → length before + 1 < 2 ^ d → length tasks + 1 < 2 ^ d
+pub fits_still : (d : ℕ) (tasks before : List Task) → jobs_of tasks ≡ jobs_of before → length before + 1 < 2 ^ d
+    → length tasks + 1 < 2 ^ d
 fits_still d tasks before same fits = subst (λ n. n + 1 < 2 ^ d)
     (sym (sym (length-map tasks (λ t. t.job)) ∙ ap length same ∙ length-map before (λ t. t.job))) fits

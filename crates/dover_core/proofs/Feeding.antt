@@ -35,11 +35,13 @@ module _ (v : Service) (j : JobFacts) (rest : List JobFacts) (valid : IsValid (w
 
   -- the list with the next job alone is valid
   pub next_valid : IsValid (with_jobs (list_of v) (j ∷ []))
-  next_valid = valid_front (with_jobs (list_of v) (j ∷ [])) rest (subst (λ jobs. IsValid (record { rules = v.rules; jobs = jobs })) parts valid)
+  next_valid = valid_front (with_jobs (list_of v) (j ∷ [])) rest
+      (subst (λ jobs. IsValid (record { rules = v.rules; jobs = jobs })) parts valid)
 
   -- so is the list after it with all further ones
   pub rest_valid : (spare : ℕ) → IsValid (with_jobs (list_of (with_job v j spare)) rest)
-  rest_valid spare = subst (λ jobs. IsValid (record { rules = v.rules; jobs = jobs ++ rest })) (sym (jobs_more v.state.tasks (admitted_task _ j)))
+  rest_valid spare = subst (λ jobs. IsValid (record { rules = v.rules; jobs = jobs ++ rest }))
+      (sym (jobs_more v.state.tasks (admitted_task _ j)))
       (subst (λ jobs. IsValid (record { rules = v.rules; jobs = jobs })) parts valid)
 
   -- their releases may follow its release
@@ -49,4 +51,5 @@ module _ (v : Service) (j : JobFacts) (rest : List JobFacts) (valid : IsValid (w
 
   -- so may its own
   pub same_follows : MayFollow (Mark j.release) (Mark j.release)
-  same_follows = (may_follow j.release (j ∷ []) (omega arith, tt) ((all_back IsJob (jobs_of v.state.tasks) (j ∷ rest) valid.each).0, tt)).0
+  same_follows = (may_follow j.release (j ∷ []) (omega arith, tt)
+      ((all_back IsJob (jobs_of v.state.tasks) (j ∷ rest) valid.each).0, tt)).0

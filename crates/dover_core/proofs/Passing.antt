@@ -16,7 +16,8 @@ use Rattle.dover_core.specs.Leading.{LeadsTo}
 -- ---- paths
 
 -- what leads to a mark is a path of open steps
-pub leads_open : (mark : ℕ) (rules : Rules) (xs : List Step) (s u : State) → LeadsTo (Mark mark) rules s xs u → IsOpenPath rules mark s xs u
+pub leads_open : (mark : ℕ) (rules : Rules) (xs : List Step) (s u : State) → LeadsTo (Mark mark) rules s xs u
+    → IsOpenPath rules mark s xs u
 leads_open mark rules [] s u here = here
 leads_open mark rules (x ∷ xs) s u path = (path.0, path.1, leads_open mark rules xs _ u path.2)
 
@@ -24,7 +25,8 @@ leads_open mark rules (x ∷ xs) s u path = (path.0, path.1, leads_open mark rul
 pub printed_next : (xs ys : List Step) (s : State) (m : Move) (e : Event) → printed_of ys ≡ [] → m ≡ Prints e
     → printed_of (xs ++ (ys ++ record { before = s; move = m } ∷ [])) ≡ printed_of xs ++ e ∷ []
 printed_next xs ys s m e none is = printed_append xs (ys ++ record { before = s; move = m } ∷ [])
-    ∙ ap (λ es. printed_of xs ++ es) (printed_append ys (record { before = s; move = m } ∷ []) ∙ ap (λ es. es ++ cons_option (event_of m) []) none
+    ∙ ap (λ es. printed_of xs ++ es)
+    (printed_append ys (record { before = s; move = m } ∷ []) ∙ ap (λ es. es ++ cons_option (event_of m) []) none
     ∙ ap (λ n. cons_option (event_of n) []) is)
 
 -- a printed End is no silent step
@@ -40,17 +42,23 @@ silent_rest (Waits n) es none = none
 silent_rest Ticks es none = none
 
 -- silent steps on the way to the end are closed steps, none of which is End
-pub leads_closed : (rules : Rules) (xs : List Step) (s u : State) → LeadsTo End rules s xs u → printed_of xs ≡ [] → IsPath rules s xs u
+pub leads_closed : (rules : Rules) (xs : List Step) (s u : State) → LeadsTo End rules s xs u → printed_of xs ≡ []
+    → IsPath rules s xs u
 leads_closed rules [] s u here none = here
 leads_closed rules (x ∷ xs) s u path none =
     let at : cons_option (event_of (step rules s)) (printed_of xs) ≡ [] =
-    sym (ap (λ (y : Step). cons_option (event_of y.move) (printed_of xs)) path.0) ∙ none in
-    (path.0, silent_goes_on (step rules s) (printed_of xs) at, leads_closed rules xs _ u path.2 (silent_rest (step rules s) (printed_of xs) at))
+    sym (ap (λ (y : Step). cons_option (event_of y.move) (printed_of xs)) path.0) ∙ none in (
+      path.0,
+      silent_goes_on (step rules s) (printed_of xs) at,
+      leads_closed rules xs _ u path.2 (silent_rest (step rules s) (printed_of xs) at),
+    )
 
 -- closed steps behind closed steps
-pub closed_append : (rules : Rules) (xs ys : List Step) (s t u : State) → IsPath rules s xs t → IsPath rules t ys u → IsPath rules s (xs ++ ys) u
+pub closed_append : (rules : Rules) (xs ys : List Step) (s t u : State) → IsPath rules s xs t → IsPath rules t ys u
+    → IsPath rules s (xs ++ ys) u
 closed_append rules [] ys s t u here more = subst (λ z. IsPath rules z ys u) here more
-closed_append rules (x ∷ xs) ys s t u path more = (path.0, path.1, closed_append rules xs ys (after s (step rules s)) t u path.2 more)
+closed_append rules (x ∷ xs) ys s t u path more =
+    (path.0, path.1, closed_append rules xs ys (after s (step rules s)) t u path.2 more)
 
 -- ---- what comes next
 

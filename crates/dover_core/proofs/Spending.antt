@@ -1,5 +1,7 @@
--- How comparisons are paid for, step by step: each step of a server pays for the times that its jobs begin and cease to wait.
-use Rattle.std.proofs.Common.{◌≡◌, ℕ, ◌+◌, ◌*◌, ◌-◌, ◌≤◌, List, [], ◌∷◌, length, refl, sym, ap, ◌∙◌, Bool, true, false, ◌<◌, ◌^◌, subst}
+-- How comparisons are paid for, step by step: each step of a server pays for the times that its jobs begin and cease to
+-- wait.
+use Rattle.std.proofs.Common.{◌≡◌, ℕ, ◌+◌, ◌*◌, ◌-◌, ◌≤◌, List, [], ◌∷◌, length, refl, sym, ap, ◌∙◌, Bool, true, false}
+use Rattle.std.proofs.Common.{◌<◌, ◌^◌, subst}
 use Rattle.std.proofs.Common.{arith, length-append, ◌||◌}
 use Rattle.std.specs.Prelude.{nat_lt}
 use Rattle.std.specs.List.{sum_by}
@@ -16,7 +18,7 @@ use Rattle.dover_model.specs.State.{State, with_later, is_waiting, latest_start}
 use Rattle.dover_model.specs.Step.{with_role}
 use Rattle.dover_model.proofs.Honest.{count_jobs}
 use Rattle.dover_model.proofs.Members.{sum_le}
-use Rattle.dover_model.proofs.Potential.{one_if, weight, weight_in, standing, stands}
+use Rattle.dover_model.proofs.Potential.{one_if, one_most, weight, weight_in, standing, stands}
 use Rattle.dover_model.proofs.WaitingMoves.{exits_scale, waiting_count}
 use Rattle.dover_core.specs.declared.horizon.Horizon.{Horizon}
 use Rattle.dover_core.specs.Service.{Service, list_of, with_job, admitted_task}
@@ -25,11 +27,6 @@ use Rattle.dover_core.specs.Spending.{exits, waits_so_far, HasSpent, AreFew}
 use Rattle.dover_core.proofs.Counting.{counted_pays}
 
 -- ---- what may still come
-
--- at most one
-one_most : (b : Bool) → one_if b ≤ 1
-one_most true = omega arith
-one_most false = omega arith
 
 -- a job ceases to wait twice at most
 exits_each : (clock w : ℕ) (t : Task) (role : Role) → weight_in exits_scale role clock w t ≤ 2
@@ -47,10 +44,12 @@ sum_twice f most [] = omega arith
 sum_twice f most (t ∷ ts) = omega (arith, sum_by-cons f t ts, most t, sum_twice f most ts)
 
 exits_most : (s : State) → exits s ≤ 2 * length s.tasks
-exits_most s = sum_twice (weight exits_scale s.clock (standing s.tasks)) (λ t. exits_each s.clock (standing s.tasks) t t.role) s.tasks
+exits_most s = sum_twice (weight exits_scale s.clock (standing s.tasks))
+    (λ t. exits_each s.clock (standing s.tasks) t t.role) s.tasks
 
 -- a job that waits may cease to
-waits_least : (clock w : ℕ) (t : Task) (role : Role) → one_if (is_waiting (with_role t role)) ≤ weight_in exits_scale role clock w t
+waits_least : (clock w : ℕ) (t : Task) (role : Role)
+    → one_if (is_waiting (with_role t role)) ≤ weight_in exits_scale role clock w t
 waits_least clock w t Coming = omega arith
 waits_least clock w t Fresh = omega arith
 waits_least clock w t Waiting = omega arith
@@ -87,14 +86,17 @@ tasks_count v u same = sym (length-map u.state.tasks (λ (t : Task). t.job)) ∙
     ∙ length-map v.state.tasks (λ (t : Task). t.job)
 
 -- a step pays for what has come by it
-pub step_pays : (to : Horizon) (v u : Service) (before after d : ℕ) → IsValid (list_of v) → IsSound v.state → list_of u ≡ list_of v
+pub step_pays : (to : Horizon) (v u : Service) (before after d : ℕ) → IsValid (list_of v) → IsSound v.state
+    → list_of u ≡ list_of v
     → IsCounted to v.rules v.state u.state d before after
     → after + 20 * d * waits_so_far v.state ≤ before + 20 * d * waits_so_far u.state
 step_pays to v u before after d valid sound same counted =
-    paid_so_far (20 * d) (length v.state.tasks) (exits v.state) (exits u.state) (waiting_count v.state) (waiting_count u.state)
+    paid_so_far (20 * d) (length v.state.tasks) (exits v.state) (exits u.state) (waiting_count v.state)
+    (waiting_count u.state)
     (waits_so_far v.state) (waits_so_far u.state) before after (so_far v.state)
     (so_far u.state ∙ ap (λ n. 4 * n + waiting_count u.state) (tasks_count v u same))
-    (counted_pays to v.rules (list_of v) v.state u.state d before after valid (record { sound = sound; jobs = refl }) counted)
+    (counted_pays to v.rules (list_of v) v.state u.state d before after valid
+    (record { sound = sound; jobs = refl }) counted)
 
 -- ---- a job more
 
@@ -112,7 +114,8 @@ module _ (s : State) (n : ℕ) (job : JobFacts) where
   -- it may cease to wait twice
   more_exits : exits more ≡ exits s + 2
   more_exits = sum_by-append (weight exits_scale s.clock (standing more.tasks)) s.tasks (admitted_task n job ∷ [])
-      ∙ ap (λ w. sum_by (weight exits_scale s.clock w) s.tasks + sum_by (weight exits_scale s.clock w) (admitted_task n job ∷ [])) more_standing
+      ∙ ap (λ w. sum_by (weight exits_scale s.clock w) s.tasks + sum_by (weight exits_scale s.clock w)
+      (admitted_task n job ∷ [])) more_standing
 
   -- it doesn't wait
   more_waiting : waiting_count more ≡ waiting_count s
@@ -126,7 +129,8 @@ module _ (s : State) (n : ℕ) (job : JobFacts) where
 
   -- nothing has come by that
   pub more_so_far : waits_so_far more ≡ waits_so_far s
-  more_so_far = let was = so_far s in let is = so_far more in omega (arith, was, is, more_exits, more_waiting, more_count)
+  more_so_far = let was = so_far s in let is = so_far more in
+      omega (arith, was, is, more_exits, more_waiting, more_count)
 
 -- ---- what a run has cost so far
 
@@ -135,7 +139,8 @@ pub spent_none : (s : State) (n : ℕ) → HasSpent s n n
 spent_none s n = λ d enough. omega arith
 
 -- a step
-pub spent_next : (to : Horizon) (v u : Service) (start before after : ℕ) → IsValid (list_of v) → IsSound v.state → list_of u ≡ list_of v
+pub spent_next : (to : Horizon) (v u : Service) (start before after : ℕ) → IsValid (list_of v) → IsSound v.state
+    → list_of u ≡ list_of v
     → ((d : ℕ) → length v.state.tasks + 1 < 2 ^ d → IsCounted to v.rules v.state u.state d before after)
     → HasSpent v.state start before → HasSpent u.state start after
 spent_next to v u start before after valid sound same counted spent = λ d enough.
@@ -146,7 +151,8 @@ spent_next to v u start before after valid sound same counted spent = λ d enoug
       joins was is first second = omega (arith, first, second)
 
 -- the admission of a job costs nothing
-pub spent_job : (v w : Service) (job : JobFacts) (spare : ℕ) → w ≡ with_job v job spare → (start now : ℕ) → HasSpent v.state start now
+pub spent_job : (v w : Service) (job : JobFacts) (spare : ℕ) → w ≡ with_job v job spare → (start now : ℕ)
+    → HasSpent v.state start now
     → HasSpent w.state start now
 spent_job v w job spare is start now spent = subst (λ (u : Service). HasSpent u.state start now) (sym is)
     (λ d enough. subst (λ m. now ≤ start + 20 * d * m) (sym (more_so_far v.state (length v.state.tasks) job))
@@ -157,12 +163,15 @@ spent_job v w job spare is start now spent = subst (λ (u : Service). HasSpent u
 -- what all that has come costs is few
 pub all_few : (n d waits start now : ℕ) → waits ≤ 4 * n → now ≤ start + 20 * d * waits → now ≤ start + 80 * (n + 1) * d
 all_few n d waits start now most few =
-    let product : 20 * d * waits ≤ 20 * d * (4 * n) = mul-le (20 * d) waits (20 * d) (4 * n) (omega arith) (omega (arith, most)) in
+    let product : 20 * d * waits ≤ 20 * d * (4 * n) =
+    mul-le (20 * d) waits (20 * d) (4 * n) (omega arith) (omega (arith, most)) in
     omega (arith, few, product)
 
 -- the comparisons for all jobs are few
-pub spent_all : (J : Instance) (v : Service) (start now : ℕ) → list_of v ≡ J → HasSpent v.state start now → AreFew (length J.jobs) start now
+pub spent_all : (J : Instance) (v : Service) (start now : ℕ) → list_of v ≡ J → HasSpent v.state start now
+    → AreFew (length J.jobs) start now
 spent_all J v start now same spent = λ d enough. all_few (length J.jobs) d (waits_so_far v.state) start now
-    (subst (λ n. waits_so_far v.state ≤ 4 * n) count (so_far_most v.state)) (spent d (subst (λ n. n + 1 < 2 ^ d) (sym count) enough)) where
+    (subst (λ n. waits_so_far v.state ≤ 4 * n) count (so_far_most v.state))
+    (spent d (subst (λ n. n + 1 < 2 ^ d) (sym count) enough)) where
       count : length v.state.tasks ≡ length J.jobs
       count = sym (count_jobs v.state.tasks) ∙ ap (λ (K : Instance). length K.jobs) same

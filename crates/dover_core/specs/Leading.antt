@@ -27,7 +27,8 @@ taken_to to rules s = record { before = s; move = step_to to rules s }
 -- these steps lead from s to u, all before the barrier
 abbrev pub LeadsTo : Horizon → Rules → State → List Step → State → Type 0
 LeadsTo to rules s [] u = u ≡ s
-LeadsTo to rules s (x ∷ xs) u = (x ≡ taken_to to rules s) × MayGo to rules s × LeadsTo to rules (after s (step_to to rules s)) xs u
+LeadsTo to rules s (x ∷ xs) u = (x ≡ taken_to to rules s) × MayGo to rules s
+    × LeadsTo to rules (after s (step_to to rules s)) xs u
 
 -- silent steps lead from s to u, all before the barrier
 pub record LeadsSilently (to : Horizon) (rules : Rules) (s u : State) : Type 0 where

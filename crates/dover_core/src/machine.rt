@@ -90,7 +90,8 @@ fn go_on<L: Ledger>(to: Horizon, step: &Move, queues: &mut Queues, steps: &mut S
     requires step { step_to to queues.old.rules queues.old.state ≡ step_of step.now }
     requires silent { event_of (step_of step.now) ≡ None }
     ensures goes { GoesOn to queues.old.rules queues.old.state queues.new.state }
-    ensures far { step_of step.now ≡ Ticks → (n : ℕ) → NothingDue n queues.old.state → queues.old.state.clock + n ≤ last_clock to →
+    ensures far { step_of step.now ≡ Ticks → (n : ℕ) → NothingDue n queues.old.state
+        → queues.old.state.clock + n ≤ last_clock to →
         queues.old.state.clock + n ≤ queues.new.state.clock }
     ensures count { (d : ℕ) → length queues.old.state.tasks + 1 < 2 ^ d →
         IsCounted to queues.old.rules queues.old.state queues.new.state d steps.old steps.new }
@@ -119,7 +120,8 @@ fn print_step<L: Ledger>(to: Horizon, e: &Event, queues: &mut Queues, steps: &mu
     }
 }
 
-/// Takes steps on the way to the horizon up to the first printed one, which is the answer. None where the barrier comes first.
+/// Takes steps on the way to the horizon up to the first printed one, which is the answer. None where the barrier comes
+/// first.
 pub fn next_printed<L: Ledger>(
     to: Horizon,
     queues: &mut Queues,

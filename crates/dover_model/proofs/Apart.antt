@@ -1,5 +1,6 @@
 -- What is settled falls apart at rest, and so do runs of many lists in turn.
-use Rattle.std.proofs.Common.{◌≡◌, ℕ, length-append, ◌+◌, ◌-◌, ◌*◌, ◌≤◌, inl, inr, List, [], ◌∷◌, ◌++◌, length, map, refl, sym, ap, ◌∙◌, subst}
+use Rattle.std.proofs.Common.{◌≡◌, ℕ, length-append, ◌+◌, ◌-◌, ◌*◌, ◌≤◌, inl, inr, List, [], ◌∷◌, ◌++◌, length, map}
+use Rattle.std.proofs.Common.{refl, sym, ap, ◌∙◌, subst}
 use Rattle.std.proofs.Common.{Bool, true, false, cond, arith, not, append-nil, append_assoc}
 use Rattle.std.specs.Prelude.{◌&&◌, nat_le}
 use Rattle.std.specs.List.{filter, cons_option}
@@ -16,17 +17,20 @@ use Rattle.dover_model.specs.Settled.{is_late, settled, settled_steps, AllComeFr
 use Rattle.dover_model.specs.WholeRun.{open_at, step_at, EndsOver, IsSettledRun}
 use Rattle.dover_model.specs.Paths.{IsOpenPath}
 use Rattle.dover_model.specs.Sound.{Each, Keeps}
-use Rattle.dover_model.specs.Rest.{instead, NoneBefore, IsAtRest, behind, names_end, before_end, IsInTurn, in_turn, printed_in_turn, completed_in_turn}
+use Rattle.dover_model.specs.Rest.{instead, NoneBefore, IsAtRest, behind, names_end, before_end, IsInTurn, in_turn}
+use Rattle.dover_model.specs.Rest.{printed_in_turn, completed_in_turn}
 use Rattle.dover_model.proofs.Kept.{open_deed, open_kept, opening_keeps}
 use Rattle.dover_model.proofs.Ending.{run_over}
 use Rattle.dover_model.proofs.Settling.{late_early, settled_is_run, enough_settled}
 use Rattle.dover_model.proofs.Later.{same_step}
-use Rattle.dover_model.proofs.Prefixes.{same_after, open_goes_on, come_from}
+use Rattle.dover_model.proofs.Prefixes.{same_after, open_goes_on, come_from, come_append}
 use Rattle.dover_model.proofs.Runs.{printed_append, value_of_run, last_value, value_last}
 use Rattle.dover_model.proofs.Paths.{path_later, one_settled_run}
 use Rattle.dover_model.proofs.Shifting.{beside, came_to, settled_beside}
-use Rattle.dover_model.proofs.Resting.{at_tick, RunsFrom, Rests, at_rest, settles_from, ticks_path, tick_keeps, come_shift, come_append}
-use Rattle.dover_model.proofs.Resting.{numbers_below, numbers_apart, value_there, printed_at_rest, joined, runs_all, due_later, printed_apart}
+use Rattle.dover_model.proofs.Resting.{at_tick, RunsFrom, Rests, at_rest, settles_from, ticks_path, tick_keeps}
+use Rattle.dover_model.proofs.Resting.{come_shift}
+use Rattle.dover_model.proofs.Resting.{numbers_below, numbers_apart, value_there, printed_at_rest, joined, runs_all}
+use Rattle.dover_model.proofs.Resting.{due_later, printed_apart}
 use Rattle.dover_model.proofs.Tests.{never}
 
 -- from the tick on, with all these jobs to come, these events are settled at the mark
@@ -35,7 +39,8 @@ SettlesFrom rules mark m jobs events = (xs : List Step) × IsSettledRun rules ma
     × (length xs ≤ (mark - m) + 6 * length jobs) × (printed_of xs ≡ events)
 
 -- an open path, and what settles behind it
-pub path_then_settled : (rules : Rules) (mark : ℕ) (xs ys : List Step) (s t : State) → IsOpenPath rules mark s xs t → IsSettledRun rules mark t ys
+pub path_then_settled : (rules : Rules) (mark : ℕ) (xs ys : List Step) (s t : State) → IsOpenPath rules mark s xs t
+    → IsSettledRun rules mark t ys
     → IsSettledRun rules mark s (xs ++ ys)
 path_then_settled rules mark [] ys s t here run = subst (λ z. IsSettledRun rules mark z ys) here run
 path_then_settled rules mark (x ∷ xs) ys s t path run =
@@ -54,14 +59,17 @@ module _ (J : Instance) (valid : IsValid J) (mark : ℕ) (more : List JobFacts) 
 
   -- all steps of a path
   open_behind : (xs : List Step) (s t : State) → Keeps J s → IsOpenPath J.rules mark s xs t
-      → (ys : List Step) × IsOpenPath J.rules mark (with_later s ks) ys (with_later t ks) × (length ys ≡ length xs) × (printed_of ys ≡ printed_of xs)
+      → (ys : List Step) × IsOpenPath J.rules mark (with_later s ks) ys (with_later t ks) × (length ys ≡ length xs)
+      × (printed_of ys ≡ printed_of xs)
   open_behind [] s t keeps here = ([], ap (λ z. with_later z ks) here, refl, refl)
   open_behind (x ∷ xs) s t keeps path =
       let same : open_step J.rules (with_later s ks) ≡ open_step J.rules s =
       same_step J.rules s ks mark come.0 come.1 (late_early (is_late (open_step J.rules s)) mark s.clock path.1) in
-      let next : after (with_later s ks) (open_step J.rules (with_later s ks)) ≡ with_later (after s (open_step J.rules s)) ks =
+      let next : after (with_later s ks) (open_step J.rules (with_later s ks)) ≡ with_later
+      (after s (open_step J.rules s)) ks =
       ap (after (with_later s ks)) same
-      ∙ same_after J.rules.ratio s ks come.0 (numbers_apart J s keeps more) (open_step J.rules s) (open_deed J valid s keeps J.rules) in
+      ∙ same_after J.rules.ratio s ks come.0 (numbers_apart J s keeps more) (open_step J.rules s)
+      (open_deed J valid s keeps J.rules) in
       let rest = open_behind xs (after s (open_step J.rules s)) t (open_kept J valid s keeps J.rules) path.2 in (
         open_at J.rules (with_later s ks) ∷ rest.0,
         (
@@ -70,32 +78,54 @@ module _ (J : Instance) (valid : IsValid J) (mark : ℕ) (more : List JobFacts) 
           subst (λ z. IsOpenPath J.rules mark z rest.0 (with_later t ks)) (sym next) rest.1,
         ),
         omega (arith, rest.2),
-        ap (λ m. cons_option (event_of m) (printed_of rest.0)) same ∙ ap (λ es. cons_option (event_of (open_step J.rules s)) es) rest.3
+        ap (λ m. cons_option (event_of m) (printed_of rest.0)) same
+            ∙ ap (λ es. cons_option (event_of (open_step J.rules s)) es) rest.3
             ∙ sym (ap (λ (z : Step). cons_option (event_of z.move) (printed_of xs)) path.0),
       )
 
 -- a valid instance by itself
-pub settles_alone : (J : Instance) → IsValid J → (m mark : ℕ) → NoneBefore m J.jobs → m ≤ mark → SettlesFrom J.rules mark m J.jobs (settled J mark)
+pub settles_alone : (J : Instance) → IsValid J → (m mark : ℕ) → NoneBefore m J.jobs → m ≤ mark
+    → SettlesFrom J.rules mark m J.jobs (settled J mark)
 settles_alone J valid m mark late low =
     let ticks = ticks_path J valid m late mark low m 0 (omega arith) in
     let on = settles_from J valid m late mark low in
-    let all : settled_steps J mark ≡ ticks.0 ++ on.0 = one_settled_run J.rules mark (settled_steps J mark) (ticks.0 ++ on.0) (opening J.jobs)
-    (settled_is_run J mark valid) (path_then_settled J.rules mark ticks.0 on.0 (opening J.jobs) (at_tick m J.jobs) ticks.1 on.1) in
-    (on.0, on.1, omega (arith, on.2), sym (ap printed_of all ∙ printed_append ticks.0 on.0 ∙ ap (λ es. es ++ printed_of on.0) ticks.2))
+    let all : settled_steps J mark ≡ ticks.0 ++ on.0 =
+    one_settled_run J.rules mark (settled_steps J mark) (ticks.0 ++ on.0) (opening J.jobs)
+    (settled_is_run J mark valid)
+    (path_then_settled J.rules mark ticks.0 on.0 (opening J.jobs) (at_tick m J.jobs) ticks.1 on.1) in (
+      on.0,
+      on.1,
+      omega (arith, on.2),
+      sym (ap printed_of all ∙ printed_append ticks.0 on.0 ∙ ap (λ es. es ++ printed_of on.0) ticks.2),
+    )
 
 -- and one with jobs behind, once it is at rest
-module _ (J : Instance) (valid : IsValid J) (m0 m mark : ℕ) (late0 : NoneBefore m0 J.jobs) (later : m0 ≤ m) (on : m ≤ mark) (rest : IsAtRest J m) where
-  pub settles_joined : (more : List JobFacts) (events : List Event) → NoneBefore m more → SettlesFrom J.rules mark m more events
-      → SettlesFrom J.rules mark m0 (J.jobs ++ more) (settled J m ++ map (behind (length J.jobs) (completed_value J)) events)
+module _ (J : Instance) (valid : IsValid J) (m0 m mark : ℕ) (late0 : NoneBefore m0 J.jobs) (later : m0 ≤ m)
+    (on : m ≤ mark) (rest : IsAtRest J m) where
+  pub settles_joined : (more : List JobFacts) (events : List Event) → NoneBefore m more
+      → SettlesFrom J.rules mark m more events
+      → SettlesFrom J.rules mark m0 (J.jobs ++ more)
+      (settled J m ++ map (behind (length J.jobs) (completed_value J)) events)
   settles_joined more events late it = (
     before.0 ++ behind_them.0,
     subst (λ s. IsSettledRun J.rules mark s (before.0 ++ behind_them.0)) (sym begins)
-        (path_then_settled J.rules mark before.0 behind_them.0 (with_later (at_tick m0 J.jobs) ks_there) (with_later r.last ks_there)
-        (path_later J.rules m mark on before.0 (with_later (at_tick m0 J.jobs) ks_there) (with_later r.last ks_there) before.1)
+        (path_then_settled J.rules mark before.0 behind_them.0 (with_later (at_tick m0 J.jobs) ks_there)
+        (with_later r.last ks_there)
+        (path_later J.rules m mark on before.0 (with_later (at_tick m0 J.jobs) ks_there)
+        (with_later r.last ks_there) before.1)
         (subst (λ s. IsSettledRun J.rules mark s behind_them.0) (sym joins) behind_them.1)),
-    omega (arith, length-append before.0 behind_them.0, length-append J.jobs more, before.2, behind_them.2, it.2, r.few),
+    omega (
+      arith,
+      length-append before.0 behind_them.0,
+      length-append J.jobs more,
+      before.2,
+      behind_them.2,
+      it.2,
+      r.few,
+    ),
     printed_append before.0 behind_them.0 ∙ ap (λ es. es ++ printed_of behind_them.0) (before.3 ∙ r.prints)
-        ∙ ap (λ es. settled J m ++ es) (behind_them.3 ∙ ap (λ es. map (behind n (came_to J.rules n r.last.tasks r.over)) es) it.3
+        ∙ ap (λ es. settled J m ++ es)
+        (behind_them.3 ∙ ap (λ es. map (behind n (came_to J.rules n r.last.tasks r.over)) es) it.3
         ∙ ap (λ v. map (behind n v) events) came),
   ) where
     n : ℕ
@@ -107,13 +137,17 @@ module _ (J : Instance) (valid : IsValid J) (m0 m mark : ℕ) (late0 : NoneBefor
     ks_there : List Task
     ks_there = to_come (length J.jobs) more
 
-    before : (ys : List Step) × IsOpenPath J.rules m (with_later (at_tick m0 J.jobs) ks_there) ys (with_later r.last ks_there)
+    before : (ys : List Step)
+        × IsOpenPath J.rules m (with_later (at_tick m0 J.jobs) ks_there) ys (with_later r.last ks_there)
         × (length ys ≡ length r.steps) × (printed_of ys ≡ printed_of r.steps)
-    before = open_behind J valid m more late r.steps (at_tick m0 J.jobs) r.last (tick_keeps J valid m0 late0 m0 (omega arith)) r.path
+    before = open_behind J valid m more late r.steps (at_tick m0 J.jobs) r.last
+        (tick_keeps J valid m0 late0 m0 (omega arith)) r.path
 
-    behind_them : (ys : List Step) × IsSettledRun J.rules mark (beside n r.last.tasks (at_tick m more)) ys × (length ys ≡ length it.0)
+    behind_them : (ys : List Step) × IsSettledRun J.rules mark (beside n r.last.tasks (at_tick m more)) ys
+        × (length ys ≡ length it.0)
         × (printed_of ys ≡ map (behind n (came_to J.rules n r.last.tasks r.over)) (printed_of it.0))
-    behind_them = settled_beside J.rules n r.last.tasks r.over (numbers_below J r.last r.keeps) mark it.0 (at_tick m more) it.1
+    behind_them = settled_beside J.rules n r.last.tasks r.over (numbers_below J r.last r.keeps) mark it.0
+        (at_tick m more) it.1
 
     joins : with_later r.last ks_there ≡ beside n r.last.tasks (at_tick m more)
     joins = ap (λ clock. let s : State = record { clock = clock; tasks = r.last.tasks ++ ks_there } in s) r.clock
@@ -128,26 +162,33 @@ module _ (J : Instance) (valid : IsValid J) (m0 m mark : ℕ) (late0 : NoneBefor
     came = ap (λ (z : State). value_sum (filter is_done z.tasks)) r.is ∙ sym (value_there J valid m rest)
 
 -- from the opening on, it is what is settled
-pub settled_all : (rules : Rules) (mark : ℕ) (jobs : List JobFacts) (events : List Event) → SettlesFrom rules mark 0 jobs events
+pub settled_all : (rules : Rules) (mark : ℕ) (jobs : List JobFacts) (events : List Event)
+    → SettlesFrom rules mark 0 jobs events
     → settled (record { rules = rules; jobs = jobs }) mark ≡ events
 settled_all rules mark jobs events it =
-    ap printed_of (enough_settled rules mark (mark + 6 * length jobs + 1) (opening jobs) it.0 it.1 (omega (arith, it.2))) ∙ it.3
+    ap printed_of (enough_settled rules mark (mark + 6 * length jobs + 1) (opening jobs) it.0 it.1
+    (omega (arith, it.2))) ∙ it.3
 
 -- what is settled falls apart at rest
-pub settled_apart : (J : Instance) (more : List JobFacts) (m mark : ℕ) → IsValid J → IsValid (instead J more) → IsAtRest J m → NoneBefore m more → m ≤ mark
-    → settled (with_jobs J more) mark ≡ settled J m ++ map (behind (length J.jobs) (completed_value J)) (settled (instead J more) mark)
+pub settled_apart : (J : Instance) (more : List JobFacts) (m mark : ℕ) → IsValid J → IsValid (instead J more)
+    → IsAtRest J m → NoneBefore m more → m ≤ mark
+    → settled (with_jobs J more) mark ≡ settled J m ++ map (behind (length J.jobs) (completed_value J))
+    (settled (instead J more) mark)
 settled_apart J more m mark valid valid_more rest late on = settled_all J.rules mark (J.jobs ++ more) _
-    (settles_joined J valid 0 m mark (λ j member. omega arith) (omega arith) on rest more (settled (instead J more) mark) late
+    (settles_joined J valid 0 m mark (λ j member. omega arith) (omega arith) on rest more
+    (settled (instead J more) mark) late
     (settles_alone (instead J more) valid_more m mark late on))
 
 -- ---- before End
 
 -- no End is settled
-settled_without : (J : Instance) → IsValid J → (mark : ℕ) (xs : List Step) (s : State) → Keeps J s → IsSettledRun J.rules mark s xs
+settled_without : (J : Instance) → IsValid J → (mark : ℕ) (xs : List Step) (s : State) → Keeps J s
+    → IsSettledRun J.rules mark s xs
     → before_end (printed_of xs) ≡ printed_of xs
 settled_without J valid mark [] s keeps run = refl
 settled_without J valid mark (x ∷ xs) s keeps run =
-    subst (λ (y : Step). before_end (cons_option (event_of y.move) (printed_of xs)) ≡ cons_option (event_of y.move) (printed_of xs)) (sym run.0)
+    subst (λ (y : Step). before_end (cons_option (event_of y.move) (printed_of xs)) ≡ cons_option (event_of y.move)
+    (printed_of xs)) (sym run.0)
     (by_move (open_step J.rules s) (open_goes_on J valid J.rules s keeps)
     (settled_without J valid mark xs (after s (open_step J.rules s)) (open_kept J valid s keeps J.rules) run.2)) where
       by_move : (m : Move) → is_end m ≡ false → before_end (printed_of xs) ≡ printed_of xs
@@ -167,37 +208,49 @@ pub before_append : (es fs : List Event) → before_end (es ++ fs) ≡ before_en
 before_append [] fs = refl
 before_append (e ∷ es) fs = by_test (not (names_end e)) (before_append es fs) where
   by_test : (b : Bool) → before_end (es ++ fs) ≡ before_end es ++ before_end fs
-      → cond b (e ∷ before_end (es ++ fs)) (before_end (es ++ fs)) ≡ cond b (e ∷ before_end es) (before_end es) ++ before_end fs
+      → cond b (e ∷ before_end (es ++ fs)) (before_end (es ++ fs)) ≡ cond b (e ∷ before_end es) (before_end es)
+      ++ before_end fs
   by_test true same = ap (λ gs. e ∷ gs) same
   by_test false same = same
 
 -- at rest, what is settled is what is printed before End
 pub settled_at_rest : (J : Instance) (m : ℕ) → IsValid J → IsAtRest J m → settled J m ≡ before_end (printed J)
-settled_at_rest J m valid rest = sym (ap before_end (printed_at_rest J valid m rest) ∙ before_append (settled J m) (End (completed_value J) ∷ [])
+settled_at_rest J m valid rest =
+    sym (ap before_end (printed_at_rest J valid m rest) ∙ before_append (settled J m) (End (completed_value J) ∷ [])
     ∙ append-nil (before_end (settled J m))
     ∙ settled_without J valid m (settled_steps J m) (opening J.jobs) (opening_keeps J) (settled_is_run J m valid))
 
 -- and End follows, with the value of the run
-pub end_at_rest : (J : Instance) (m : ℕ) → IsValid J → IsAtRest J m → printed J ≡ before_end (printed J) ++ (End (completed_value J) ∷ [])
-end_at_rest J m valid rest = printed_at_rest J valid m rest ∙ ap (λ es. es ++ (End (completed_value J) ∷ [])) (settled_at_rest J m valid rest)
+pub end_at_rest : (J : Instance) (m : ℕ) → IsValid J → IsAtRest J m
+    → printed J ≡ before_end (printed J) ++ (End (completed_value J) ∷ [])
+end_at_rest J m valid rest = printed_at_rest J valid m rest
+    ∙ ap (λ es. es ++ (End (completed_value J) ∷ [])) (settled_at_rest J m valid rest)
 
 -- a run falls apart at rest
-pub falls_apart : (J : Instance) (more : List JobFacts) (m : ℕ) → IsValid J → IsValid (instead J more) → IsAtRest J m → NoneBefore m more
-    → printed (with_jobs J more) ≡ before_end (printed J) ++ map (behind (length J.jobs) (completed_value J)) (printed (instead J more))
+pub falls_apart : (J : Instance) (more : List JobFacts) (m : ℕ) → IsValid J → IsValid (instead J more) → IsAtRest J m
+    → NoneBefore m more
+    → printed (with_jobs J more) ≡ before_end (printed J) ++ map (behind (length J.jobs) (completed_value J))
+    (printed (instead J more))
 falls_apart J more m valid valid_more rest late = printed_apart J more m valid valid_more rest late
-    ∙ ap (λ es. es ++ map (behind (length J.jobs) (completed_value J)) (printed (instead J more))) (settled_at_rest J m valid rest)
+    ∙ ap (λ es. es ++ map (behind (length J.jobs) (completed_value J)) (printed (instead J more)))
+    (settled_at_rest J m valid rest)
 
 -- so does what is settled
-pub settled_falls_apart : (J : Instance) (more : List JobFacts) (m mark : ℕ) → IsValid J → IsValid (instead J more) → IsAtRest J m → NoneBefore m more
+pub settled_falls_apart : (J : Instance) (more : List JobFacts) (m mark : ℕ) → IsValid J → IsValid (instead J more)
+    → IsAtRest J m → NoneBefore m more
     → m ≤ mark
-    → settled (with_jobs J more) mark ≡ before_end (printed J) ++ map (behind (length J.jobs) (completed_value J)) (settled (instead J more) mark)
-settled_falls_apart J more m mark valid valid_more rest late on = settled_apart J more m mark valid valid_more rest late on
-    ∙ ap (λ es. es ++ map (behind (length J.jobs) (completed_value J)) (settled (instead J more) mark)) (settled_at_rest J m valid rest)
+    → settled (with_jobs J more) mark ≡ before_end (printed J) ++ map (behind (length J.jobs) (completed_value J))
+    (settled (instead J more) mark)
+settled_falls_apart J more m mark valid valid_more rest late on =
+    settled_apart J more m mark valid valid_more rest late on
+    ∙ ap (λ es. es ++ map (behind (length J.jobs) (completed_value J)) (settled (instead J more) mark))
+    (settled_at_rest J m valid rest)
 
 -- ---- the value
 
 -- an End behind
-pub behind_last : (n value last : ℕ) (es : List Event) → map (behind n value) (es ++ (End last ∷ [])) ≡ map (behind n value) es ++ (End (value + last) ∷ [])
+pub behind_last : (n value last : ℕ) (es : List Event)
+    → map (behind n value) (es ++ (End last ∷ [])) ≡ map (behind n value) es ++ (End (value + last) ∷ [])
 behind_last n value last [] = refl
 behind_last n value last (e ∷ es) = ap (λ gs. behind n value e ∷ gs) (behind_last n value last es)
 
@@ -213,13 +266,15 @@ run_ends J valid = (
   over = run_over J valid
 
 -- what runs complete adds up at rest
-pub value_apart : (J : Instance) (more : List JobFacts) (m : ℕ) → IsValid J → IsValid (instead J more) → IsAtRest J m → NoneBefore m more
+pub value_apart : (J : Instance) (more : List JobFacts) (m : ℕ) → IsValid J → IsValid (instead J more) → IsAtRest J m
+    → NoneBefore m more
     → completed_value (with_jobs J more) ≡ completed_value J + completed_value (instead J more)
 value_apart J more m valid valid_more rest late =
     let it = run_ends (instead J more) valid_more in
     ap (last_value 0) (falls_apart J more m valid valid_more rest late
     ∙ ap (λ es. before_end (printed J) ++ map (behind (length J.jobs) (completed_value J)) es) it.1
-    ∙ ap (λ es. before_end (printed J) ++ es) (behind_last (length J.jobs) (completed_value J) (completed_value (instead J more)) it.0)
+    ∙ ap (λ es. before_end (printed J) ++ es)
+    (behind_last (length J.jobs) (completed_value J) (completed_value (instead J more)) it.0)
     ∙ sym (append_assoc (before_end (printed J)) (map (behind (length J.jobs) (completed_value J)) it.0)
     (End (completed_value J + completed_value (instead J more)) ∷ [])))
     ∙ value_last 0 (completed_value J + completed_value (instead J more))
@@ -239,30 +294,37 @@ module _ (rules : Rules) where
   of_rules jobs = record { rules = rules; jobs = jobs }
 
   -- none of lists in turn is released before the first tick
-  pub turn_late : (lists : List (List JobFacts)) (from : ℕ) → IsInTurn rules from lists → NoneBefore from (in_turn lists)
+  pub turn_late : (lists : List (List JobFacts)) (from : ℕ) → IsInTurn rules from lists
+      → NoneBefore from (in_turn lists)
   turn_late [] from turn = λ j member. absurd member
   turn_late (jobs ∷ lists) from turn = each_append (λ i. from ≤ i.release) jobs (in_turn lists) turn.1
       (λ i member. let at : turn.2.0 ≤ i.release = turn_late lists turn.2.0 turn.2.3 i member in
       let low : from ≤ turn.2.0 = turn.2.1 in omega arith)
 
   -- nor due before it
-  turn_due : (lists : List (List JobFacts)) (from : ℕ) → IsInTurn rules from lists → Each (λ j. from ≤ j.deadline) (in_turn lists)
+  turn_due : (lists : List (List JobFacts)) (from : ℕ) → IsInTurn rules from lists
+      → Each (λ j. from ≤ j.deadline) (in_turn lists)
   turn_due [] from turn = λ j member. absurd member
-  turn_due (jobs ∷ lists) from turn = each_append (λ i. from ≤ i.deadline) jobs (in_turn lists) (due_later (of_rules jobs) turn.0 from turn.1)
+  turn_due (jobs ∷ lists) from turn =
+      each_append (λ i. from ≤ i.deadline) jobs (in_turn lists) (due_later (of_rules jobs) turn.0 from turn.1)
       (λ i member. let at : turn.2.0 ≤ i.deadline = turn_due lists turn.2.0 turn.2.3 i member in
       let low : from ≤ turn.2.0 = turn.2.1 in omega arith)
 
   -- from a tick on
-  turn_runs : (lists : List (List JobFacts)) (from : ℕ) → IsInTurn rules from lists → RunsFrom rules from (in_turn lists) (printed_in_turn rules lists)
+  turn_runs : (lists : List (List JobFacts)) (from : ℕ) → IsInTurn rules from lists
+      → RunsFrom rules from (in_turn lists) (printed_in_turn rules lists)
   turn_runs [] from turn = (step_at rules (at_tick from []) ∷ [], (refl, refl), omega arith, refl)
   turn_runs (jobs ∷ lists) from turn =
-      subst (λ es. RunsFrom rules from (jobs ++ in_turn lists) (es ++ map (behind (length jobs) (completed_value (of_rules jobs))) (printed_in_turn rules lists)))
+      subst (λ es. RunsFrom rules from (jobs ++ in_turn lists)
+      (es ++ map (behind (length jobs) (completed_value (of_rules jobs))) (printed_in_turn rules lists)))
       (settled_at_rest (of_rules jobs) turn.2.0 turn.0 turn.2.2)
-      (joined (of_rules jobs) turn.0 from turn.2.0 turn.1 turn.2.1 turn.2.2 (in_turn lists) (printed_in_turn rules lists)
+      (joined (of_rules jobs) turn.0 from turn.2.0 turn.1 turn.2.1 turn.2.2 (in_turn lists)
+      (printed_in_turn rules lists)
       (turn_late lists turn.2.0 turn.2.3) (turn_due lists turn.2.0 turn.2.3) (turn_runs lists turn.2.0 turn.2.3))
 
   -- the run of all the jobs is the runs in turn
-  pub runs_in_turn : (lists : List (List JobFacts)) → IsInTurn rules 0 lists → printed (of_rules (in_turn lists)) ≡ printed_in_turn rules lists
+  pub runs_in_turn : (lists : List (List JobFacts)) → IsInTurn rules 0 lists
+      → printed (of_rules (in_turn lists)) ≡ printed_in_turn rules lists
   runs_in_turn lists turn = runs_all rules (in_turn lists) (printed_in_turn rules lists) (turn_runs lists 0 turn)
 
   -- what is printed in turn ends with the value of all
@@ -271,12 +333,15 @@ module _ (rules : Rules) where
   ends_with_value [] = ([], refl)
   ends_with_value (jobs ∷ lists) = let it = ends_with_value lists in (
     before_end (printed (of_rules jobs)) ++ map (behind (length jobs) (completed_value (of_rules jobs))) it.0,
-    ap (λ es. before_end (printed (of_rules jobs)) ++ map (behind (length jobs) (completed_value (of_rules jobs))) es) it.1
+    ap (λ es. before_end (printed (of_rules jobs)) ++ map (behind (length jobs) (completed_value (of_rules jobs))) es)
+        it.1
         ∙ ap (λ es. before_end (printed (of_rules jobs)) ++ es)
         (behind_last (length jobs) (completed_value (of_rules jobs)) (completed_in_turn rules lists) it.0)
-        ∙ sym (append_assoc (before_end (printed (of_rules jobs))) (map (behind (length jobs) (completed_value (of_rules jobs))) it.0)
+        ∙ sym (append_assoc (before_end (printed (of_rules jobs)))
+        (map (behind (length jobs) (completed_value (of_rules jobs))) it.0)
         (End (completed_value (of_rules jobs) + completed_in_turn rules lists) ∷ []))
-        ∙ ap (λ v. (before_end (printed (of_rules jobs)) ++ map (behind (length jobs) (completed_value (of_rules jobs))) it.0) ++ (End v ∷ []))
+        ∙ ap (λ v. (before_end (printed (of_rules jobs)) ++ map
+        (behind (length jobs) (completed_value (of_rules jobs))) it.0) ++ (End v ∷ []))
         (sym (sum_by-cons (λ js. completed_value (of_rules js)) jobs lists)),
   )
 

@@ -10,14 +10,16 @@ use Rattle.dover_model.specs.Run.{Step}
 use Rattle.dover_model.specs.Settled.{is_late, settled_state}
 use Rattle.dover_model.specs.WholeRun.{IsBarrier, IsBefore, IsSettledRun}
 use Rattle.dover_model.specs.Sound.{Each, Keeps}
-use Rattle.dover_model.proofs.Deeds.{Deed, Completed, Resumed, Started, Began, Preempted, Stayed, Arrived, Taken, Abandoned, Rested}
+use Rattle.dover_model.proofs.Deeds.{Deed, Completed, Resumed, Started, Began, Preempted, Stayed, Arrived, Taken}
+use Rattle.dover_model.proofs.Deeds.{Abandoned, Rested}
 use Rattle.dover_model.proofs.Kept.{open_deed, open_kept, opening_keeps}
 use Rattle.dover_model.proofs.Ending.{clock_after}
 use Rattle.dover_model.proofs.Settling.{late_early, at_barrier, settled_is_run}
 use Rattle.dover_model.proofs.Tests.{never}
 
 -- no job is fresh where a late step is taken
-late_none_fresh : (k : Fraction) (s : State) (m : Move) → Deed k s Ticks m → is_late m ≡ true → Each (λ t. t.role ≡ Fresh → ⊥) s.tasks
+late_none_fresh : (k : Fraction) (s : State) (m : Move) → Deed k s Ticks m → is_late m ≡ true
+    → Each (λ t. t.role ≡ Fresh → ⊥) s.tasks
 late_none_fresh k s m (Completed r member runs done) late = never late
 late_none_fresh k s m (Resumed p member held none least why) late = never late
 late_none_fresh k s m (Started o member waiting none first fits next) late = never late
@@ -42,20 +44,23 @@ pub record AtBarrier (J : Instance) (mark : ℕ) (s : State) : Type 0 where
 
 module _ (J : Instance) (valid : IsValid J) (mark : ℕ) where
   -- the clock doesn't pass the mark before the barrier
-  pub clock_stays : (s : State) → s.clock ≤ mark → IsBefore J.rules mark s → (after s (open_step J.rules s)).clock ≤ mark
+  pub clock_stays : (s : State) → s.clock ≤ mark → IsBefore J.rules mark s
+      → (after s (open_step J.rules s)).clock ≤ mark
   clock_stays s low before = by_clock (clock_after s (open_step J.rules s)) where
     by_clock : ((after s (open_step J.rules s)).clock ≡ s.clock)
         ⊎ ((open_step J.rules s ≡ Ticks) × ((after s (open_step J.rules s)).clock ≡ s.clock + 1))
         → (after s (open_step J.rules s)).clock ≤ mark
     by_clock (inl same) = omega arith
     by_clock (inr it) =
-        let less : s.clock < mark = late_early (is_late (open_step J.rules s)) mark s.clock before (ap is_late it.0) in omega (arith, it.1)
+        let less : s.clock < mark = late_early (is_late (open_step J.rules s)) mark s.clock before (ap is_late it.0) in
+        omega (arith, it.1)
 
   -- a settled run ends at its barrier
   pub ends_at_barrier : (xs : List Step) (s : State) → Keeps J s → s.clock ≤ mark → IsSettledRun J.rules mark s xs
       → AtBarrier J mark (state_after s xs)
   ends_at_barrier [] s keeps low run =
-      let it : (is_late (open_step J.rules s) ≡ true) × (mark ≤ s.clock) = at_barrier (is_late (open_step J.rules s)) mark s.clock run in
+      let it : (is_late (open_step J.rules s) ≡ true) × (mark ≤ s.clock) =
+      at_barrier (is_late (open_step J.rules s)) mark s.clock run in
       record {
         keeps = keeps;
         clock = omega (arith, it.1);
@@ -64,7 +69,8 @@ module _ (J : Instance) (valid : IsValid J) (mark : ℕ) where
       }
   ends_at_barrier (x ∷ xs) s keeps low run =
       subst (λ (z : State). AtBarrier J mark (state_after z xs)) (sym (ap (λ (y : Step). after y.before y.move) run.0))
-      (ends_at_barrier xs (after s (open_step J.rules s)) (open_kept J valid s keeps J.rules) (clock_stays s low run.1) run.2)
+      (ends_at_barrier xs (after s (open_step J.rules s)) (open_kept J valid s keeps J.rules)
+      (clock_stays s low run.1) run.2)
 
   -- so do the settled steps of an instance
   pub settled_at_barrier : AtBarrier J mark (settled_state J mark)

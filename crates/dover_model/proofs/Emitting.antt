@@ -24,13 +24,15 @@ texts_more S steps more within = ap (λ ls. header S.rules ∷ ls)
     ∙ ap (λ ls. map text_of_line (lines_among S steps) ++ ls) (printed_texts more))
 
 -- a job adds nothing by itself
-pub texts_job : (S : Session) (j : JobFacts) (steps : List Event) → texts_among (with_item S (JobItem j)) steps ≡ texts_among S steps
+pub texts_job : (S : Session) (j : JobFacts) (steps : List Event)
+    → texts_among (with_item S (JobItem j)) steps ≡ texts_among S steps
 texts_job S j steps = ap (λ ps. header S.rules ∷ map text_of_line (put_in ps 0 steps))
     (places_after-append S.rules [] S.items (JobItem j ∷ []) ∙ append-nil (places_of S))
 
 -- a refused line adds its text behind what is settled at its tick
 pub texts_refused : (S : Session) (r : RefusedJob) → Reads S r.at
-    → texts_among (with_item S (RefusedItem r)) (settled (instance_of (with_item S (RefusedItem r))) r.at) ≡ texts_among S
+    → texts_among (with_item S (RefusedItem r)) (settled (instance_of (with_item S (RefusedItem r))) r.at)
+    ≡ texts_among S
     (settled (instance_of S) r.at) ++ refused_text r ∷ []
 texts_refused S r reads = ap (λ ls. header S.rules ∷ map text_of_line ls) (lines_refused S r reads)
     ∙ ap (λ ls. header S.rules ∷ ls) (map-append text_of_line (lines_among S (settled (instance_of S) r.at)) _)

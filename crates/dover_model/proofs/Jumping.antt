@@ -1,5 +1,6 @@
 -- Silent ticks taken at once.
-use Rattle.std.proofs.Common.{◌≡◌, ℕ, zero, suc, ◌+◌, ◌-◌, ◌≤◌, ◌<◌, List, map, refl, sym, ap, ◌∙◌, subst, Bool, true, false, cond}
+use Rattle.std.proofs.Common.{◌≡◌, ℕ, zero, suc, ◌+◌, ◌-◌, ◌≤◌, ◌<◌, List, map, refl, sym, ap, ◌∙◌, subst, Bool, true}
+use Rattle.std.proofs.Common.{false, cond}
 use Rattle.std.proofs.Common.{arith, add-zero, add_assoc}
 use Rattle.dover_model.specs.Fraction.{Fraction}
 use Rattle.dover_model.specs.declared.events.Role.TheVariants.{Coming, Fresh, Waiting, Held, Running}
@@ -11,7 +12,8 @@ use Rattle.dover_model.specs.Sound.{Keeps}
 use Rattle.dover_model.specs.Jumps.{ticked_by, later_by, NothingDue}
 use Rattle.dover_model.proofs.Members.{on_map, map_map, map_same, map_self, map_member}
 use Rattle.dover_model.proofs.Roles.{passes}
-use Rattle.dover_model.proofs.Deeds.{Deed, Completed, Resumed, Started, Began, Preempted, Stayed, Arrived, Taken, Abandoned, Rested}
+use Rattle.dover_model.proofs.Deeds.{Deed, Completed, Resumed, Started, Began, Preempted, Stayed, Arrived, Taken}
+use Rattle.dover_model.proofs.Deeds.{Abandoned, Rested}
 use Rattle.dover_model.proofs.Kept.{open_deed, open_kept}
 use Rattle.dover_model.proofs.Tests.{never}
 
@@ -23,17 +25,20 @@ had_zero true had = add-zero had
 had_zero false had = refl
 
 -- one more
-had_more : (b : Bool) (had n : ℕ) → cond b (cond b (had + n) had + 1) (cond b (had + n) had) ≡ cond b (had + (n + 1)) had
+had_more : (b : Bool) (had n : ℕ)
+    → cond b (cond b (had + n) had + 1) (cond b (had + n) had) ≡ cond b (had + (n + 1)) had
 had_more true had n = add_assoc had n 1
 had_more false had n = refl
 
 -- no tick leaves a task as it is
 no_tick : (t : Task) → ticked_by 0 t ≡ t
-no_tick t = ap (λ had. record { number = t.number; job = t.job; role = t.role; had = had }) (had_zero (is_running t) t.had)
+no_tick t = ap (λ had. record { number = t.number; job = t.job; role = t.role; had = had })
+    (had_zero (is_running t) t.had)
 
 -- a tick more
 tick_more : (n : ℕ) (t : Task) → ticked (ticked_by n t) ≡ ticked_by (n + 1) t
-tick_more n t = ap (λ had. record { number = t.number; job = t.job; role = t.role; had = had }) (had_more (is_running t) t.had n)
+tick_more n t = ap (λ had. record { number = t.number; job = t.job; role = t.role; had = had })
+    (had_more (is_running t) t.had n)
 
 -- no tick leaves all as they are
 no_ticks : (tasks : List Task) → map (ticked_by 0) tasks ≡ tasks
@@ -41,7 +46,8 @@ no_ticks tasks = map_self (ticked_by 0) tasks no_tick
 
 -- a tick more for all
 ticks_more : (n : ℕ) (tasks : List Task) → map ticked (map (ticked_by n) tasks) ≡ map (ticked_by (n + 1)) tasks
-ticks_more n tasks = map_map ticked (ticked_by n) tasks ∙ map_same (λ t. ticked (ticked_by n t)) (ticked_by (n + 1)) tasks (λ t m. tick_more n t)
+ticks_more n tasks = map_map ticked (ticked_by n) tasks
+    ∙ map_same (λ t. ticked (ticked_by n t)) (ticked_by (n + 1)) tasks (λ t m. tick_more n t)
 
 -- a state
 abbrev state_of : ℕ → List Task → State
@@ -49,7 +55,8 @@ state_of clock tasks = record { clock = clock; tasks = tasks }
 
 -- no tick leaves the state as it is
 pub later_by-zero : (s : State) → later_by 0 s ≡ s
-later_by-zero s = ap (λ clock. state_of clock (map (ticked_by 0) s.tasks)) (add-zero s.clock) ∙ ap (state_of s.clock) (no_ticks s.tasks)
+later_by-zero s = ap (λ clock. state_of clock (map (ticked_by 0) s.tasks)) (add-zero s.clock)
+    ∙ ap (state_of s.clock) (no_ticks s.tasks)
 
 -- a silent tick more
 pub after-later_by : (n : ℕ) (s : State) → after (later_by n s) Ticks ≡ later_by (n + 1) s
@@ -76,7 +83,9 @@ left_less false work had n m less some = omega arith
 module _ (s : State) (n i : ℕ) (due : NothingDue n s) (before : i < n) where
   -- a task that waits does not run
   waits_as_before : (t : Task) → t.role ≡ Waiting → latest_start (ticked_by i t) ≡ latest_start t
-  waits_as_before t waits = ap (λ l. t.job.deadline - l) (left_same (is_running t) t.job.work t.had i (passes is_running t Waiting false waits refl))
+  waits_as_before t waits =
+      ap (λ l. t.job.deadline - l)
+      (left_same (is_running t) t.job.work t.had i (passes is_running t Waiting false waits refl))
 
   -- one more tick is silent, where fewer than n have passed
   nothing_later : NothingDue 1 (later_by i s)
@@ -89,7 +98,8 @@ module _ (s : State) (n i : ℕ) (due : NothingDue n s) (before : i < n) where
         subst (λ l. s.clock + i + 1 ≤ l) (sym (waits_as_before t waits)) (omega arith));
     coming = on_map (ticked_by i) (λ t. t.role ≡ Coming → s.clock + i + 1 ≤ t.job.release) s.tasks
         (λ t m comes. let later : s.clock + n ≤ t.job.release = due.coming t m comes in omega arith);
-    busy = λ none. on_map (ticked_by i) (λ t. is_ready_behind t ≡ true → ⊥) s.tasks (due.busy (λ t m runs. none (ticked_by i t)
+    busy = λ none. on_map (ticked_by i) (λ t. is_ready_behind t ≡ true → ⊥) s.tasks
+        (due.busy (λ t m runs. none (ticked_by i t)
         (map_member (ticked_by i) s.tasks t m) runs));
   }
 
@@ -98,9 +108,12 @@ module _ (s : State) (n i : ℕ) (due : NothingDue n s) (before : i < n) where
 module _ (k : Fraction) (s : State) (due : NothingDue 1 s) where
   -- where nothing is due, the step is a rest
   pub due_rests : (m : Move) → Deed k s Ticks m → m ≡ Ticks
-  due_rests m (Completed r member runs done) = absurd (let some : 1 ≤ left r = due.running r member runs in omega (arith, done))
-  due_rests m (Resumed p member held none least why) = absurd (due.busy none p member (passes is_ready_behind p Held true held refl))
-  due_rests m (Started o member waiting none first fits next) = absurd (due.busy none o member (passes is_ready_behind o Waiting true waiting refl))
+  due_rests m (Completed r member runs done) =
+      absurd (let some : 1 ≤ left r = due.running r member runs in omega (arith, done))
+  due_rests m (Resumed p member held none least why) =
+      absurd (due.busy none p member (passes is_ready_behind p Held true held refl))
+  due_rests m (Started o member waiting none first fits next) =
+      absurd (due.busy none o member (passes is_ready_behind o Waiting true waiting refl))
   due_rests m (Began f member fresh none) = absurd (due.none_fresh f member fresh)
   due_rests m (Preempted r f member runs some f_member fresh before fits) = absurd (due.none_fresh f f_member fresh)
   due_rests m (Stayed r f member runs some f_member fresh why) = absurd (due.none_fresh f f_member fresh)
@@ -119,10 +132,12 @@ module _ (J : Instance) (valid : IsValid J) (s : State) (keeps : Keeps J s) (n :
   later_keeps (suc i) before =
       let sound : Keeps J (later_by i s) = later_keeps i (omega arith) in
       let ticks : open_step J.rules (later_by i s) ≡ Ticks =
-      due_rests J.rules.ratio (later_by i s) (nothing_later s n i due (omega arith)) _ (open_deed J valid (later_by i s) sound J.rules) in
+      due_rests J.rules.ratio (later_by i s)
+      (nothing_later s n i due (omega arith)) _ (open_deed J valid (later_by i s) sound J.rules) in
       let one : i + 1 ≡ suc i = omega arith in
       subst (λ m. Keeps J (later_by m s)) one
-      (subst (Keeps J) (ap (after (later_by i s)) ticks ∙ after-later_by i s) (open_kept J valid (later_by i s) sound J.rules))
+      (subst (Keeps J) (ap (after (later_by i s)) ticks ∙ after-later_by i s)
+      (open_kept J valid (later_by i s) sound J.rules))
 
   -- and the open steps are silent ticks
   pub later_ticks : (i : ℕ) → i < n → open_step J.rules (later_by i s) ≡ Ticks

@@ -18,6 +18,8 @@ pub mod Agreement
 pub mod EntryOrders
 pub mod FirstOfTasks
 pub mod Members
+pub mod InPlace
+pub mod Taking
 pub mod Cases
 pub mod RunLaws
 pub mod Roles

@@ -1,5 +1,7 @@
--- Over a run each job takes once at most and preempts once at most, and as often as a job completes, one gets the free processor.
-use Rattle.std.proofs.Common.{◌≡◌, ℕ, ◌+◌, ◌≤◌, ◌<◌, ◌⊎◌, inl, inr, List, [], ◌∷◌, map, refl, sym, ap, ◌∙◌, subst, Bool, true, false, cond}
+-- Over a run each job takes once at most and preempts once at most, and as often as a job completes, one gets the free
+-- processor.
+use Rattle.std.proofs.Common.{◌≡◌, ℕ, ◌+◌, ◌≤◌, ◌<◌, ◌⊎◌, inl, inr, List, [], ◌∷◌, map, refl, sym, ap, ◌∙◌, subst, Bool}
+use Rattle.std.proofs.Common.{true, false, cond}
 use Rattle.std.proofs.Common.{arith, eqb}
 use Rattle.std.specs.Bool.{MatchBool, then_some}
 use Rattle.std.specs.List.{count_by, list_all, filter}
@@ -11,7 +13,8 @@ use Rattle.dover_model.specs.declared.events.Role.TheVariants.{Coming, Fresh, Wa
 use Rattle.dover_model.specs.declared.events.Event.TheVariants.{Run, Preempt, Take, End}
 use Rattle.dover_model.specs.declared.events.Task.{Task}
 use Rattle.dover_model.specs.Instance.{Rules, Instance, IsValid}
-use Rattle.dover_model.specs.State.{State, opening, is_privileged, is_over, is_done, left, latest_start, value_sum, privileged}
+use Rattle.dover_model.specs.State.{State, opening, is_privileged, is_over, is_done, left, latest_start, value_sum}
+use Rattle.dover_model.specs.State.{privileged}
 use Rattle.dover_model.specs.Orders.{is_heavy}
 use Rattle.dover_model.specs.Step.{Move, Prints, Ticks, step, after, ending, ◌or_else◌, with_role, displaced, ticked}
 use Rattle.dover_model.specs.Run.{Step, is_end, run}
@@ -25,17 +28,20 @@ use Rattle.dover_model.proofs.Loads.{Fits, with_roles}
 use Rattle.dover_model.proofs.OneChange.{state_with, on_changed, changed_here, changed_there}
 use Rattle.dover_model.proofs.Moves.{says, active_slack}
 use Rattle.dover_model.proofs.Ticking.{Quiet}
-use Rattle.dover_model.proofs.Deeds.{Deed, Completed, Resumed, Started, Began, Preempted, Stayed, Arrived, Taken, Abandoned, Rested}
+use Rattle.dover_model.proofs.Deeds.{Deed, Completed, Resumed, Started, Began, Preempted, Stayed, Arrived, Taken}
+use Rattle.dover_model.proofs.Deeds.{Abandoned, Rested}
 use Rattle.dover_model.proofs.Kept.{step_deed, step_kept, opening_keeps, come_coming, end_same}
 use Rattle.dover_model.proofs.Preempting.{waits_sound, r_there, held_sound, f_there, same_tasks, one_waits, one_held}
-use Rattle.dover_model.proofs.Potential.{standing, stands, one_if, standing_more, stands_of, stands_running, stands_done, stood_not}
+use Rattle.dover_model.proofs.Potential.{standing, stands, one_if, standing_more, stands_of, stands_running}
+use Rattle.dover_model.proofs.Potential.{stands_done, stood_not}
 use Rattle.dover_model.proofs.Potential.{steps_scale, stood_less, stands_then, stood}
 use Rattle.dover_model.proofs.Ending.{end_over, run_is_whole}
 use Rattle.dover_model.proofs.Tests.{never}
 
 -- ---- jobs that are decided on, and those that can't take any more
 
--- The job is decided on; where `late`, it is also at its latest start or past it, and if it waits, its value is at most what stands
+-- The job is decided on; where `late`, it is also at its latest start or past it, and if it waits, its value is at most
+-- what stands
 -- against a take, which is w.
 abbrev Spent : Bool → Role → ℕ → ℕ → Task → Type 0
 Spent late Coming clock w t = ⊥
@@ -51,22 +57,27 @@ abbrev IsSpent : Bool → ℕ → State → Type 0
 IsSpent late n s = Each (λ t. t.number ≡ n → Spent late t.role s.clock (standing s.tasks) t) s.tasks
 
 -- where more stands against a take, it stays so
-spent_more : (late : Bool) (role : Role) (clock w w' : ℕ) (t : Task) → w ≤ w' → Spent late role clock w t → Spent late role clock w' t
+spent_more : (late : Bool) (role : Role) (clock w w' : ℕ) (t : Task) → w ≤ w' → Spent late role clock w t
+    → Spent late role clock w' t
 spent_more late Coming clock w w' t more spent = spent
 spent_more late Fresh clock w w' t more spent = spent
-spent_more late Waiting clock w w' t more spent = λ e. let low : t.job.value ≤ w = (spent e).1 in ((spent e).0, omega arith)
+spent_more late Waiting clock w w' t more spent = λ e. let low : t.job.value ≤ w = (spent e).1 in
+    ((spent e).0, omega arith)
 spent_more late Held clock w w' t more spent = spent
 spent_more late Running clock w w' t more spent = spent
 spent_more late Done clock w w' t more spent = spent
 spent_more late Gone clock w w' t more spent = spent
 
 -- a job of a known role
-spent_as : (late : Bool) (clock w : ℕ) (t : Task) (role : Role) → t.role ≡ role → Spent late t.role clock w t → Spent late role clock w t
+spent_as : (late : Bool) (clock w : ℕ) (t : Task) (role : Role) → t.role ≡ role → Spent late t.role clock w t
+    → Spent late role clock w t
 spent_as late clock w t role e spent = subst (λ x. Spent late x clock w t) e spent
 
-module _ (late : Bool) (n : ℕ) (s : State) (sound : IsSound s) (r : Task) (member : IsMember r s.tasks) (new : Role) where
+module _ (late : Bool) (n : ℕ) (s : State) (sound : IsSound s) (r : Task) (member : IsMember r s.tasks)
+    (new : Role) where
   -- it stays so where one job gets a new role
-  one_spent : stands r ≤ stands (with_role r new) → ((w : ℕ) → Spent late r.role s.clock w r → Spent late new s.clock w (with_role r new))
+  one_spent : stands r ≤ stands (with_role r new)
+      → ((w : ℕ) → Spent late r.role s.clock w r → Spent late new s.clock w (with_role r new))
       → IsSpent late n s → IsSpent late n (state_with s r new)
   one_spent no_less goes spent = on_changed 0 s.tasks sound.numbered r member new
       (λ t. t.number ≡ n → Spent late t.role s.clock (standing (state_with s r new).tasks) t)
@@ -76,13 +87,15 @@ module _ (late : Bool) (n : ℕ) (s : State) (sound : IsSound s) (r : Task) (mem
       (standing_more steps_scale s sound r member new no_less) (spent t m same))
 
   -- it is so of the job that gets the role
-  here_spent : r.number ≡ n → ((w : ℕ) → Spent late new s.clock w (with_role r new)) → IsSpent late n (state_with s r new)
+  here_spent : r.number ≡ n → ((w : ℕ) → Spent late new s.clock w (with_role r new))
+      → IsSpent late n (state_with s r new)
   here_spent is_n now = on_changed 0 s.tasks sound.numbered r member new
       (λ t. t.number ≡ n → Spent late t.role s.clock (standing (state_with s r new).tasks) t)
       (λ _. now (standing (state_with s r new).tasks)) (λ t m differs same. absurd (differs (same ∙ sym is_n)))
 
 -- a displaced job takes no more than before
-displaced_spent : (late : Bool) (role : Role) (clock w w' : ℕ) (t : Task) → w ≤ w' → (is_privileged (with_role t role) ≡ true → t.job.value ≤ w')
+displaced_spent : (late : Bool) (role : Role) (clock w w' : ℕ) (t : Task) → w ≤ w'
+    → (is_privileged (with_role t role) ≡ true → t.job.value ≤ w')
     → Spent late role clock w t → Spent late (displaced role) clock w' (with_role t (displaced role))
 displaced_spent late Coming clock w w' t more stood spent = spent
 displaced_spent late Fresh clock w w' t more stood spent = spent
@@ -92,7 +105,8 @@ displaced_spent late Running clock w w' t more stood spent = λ e. (spent e, sto
 displaced_spent late Done clock w w' t more stood spent = spent
 displaced_spent late Gone clock w w' t more stood spent = spent
 
-module _ (late : Bool) (n : ℕ) (k : Fraction) (s : State) (sound : IsSound s) (r x : Task) (member : IsMember r s.tasks) (runs : r.role ≡ Running)
+module _ (late : Bool) (n : ℕ) (k : Fraction) (s : State) (sound : IsSound s) (r x : Task) (member : IsMember r s.tasks)
+    (runs : r.role ≡ Running)
     (some : 1 ≤ left r) (x_member : IsMember x s.tasks) (waiting : x.role ≡ Waiting)
     (now : latest_start x ≡ s.clock) (heavy : is_heavy k x.job.value (value_sum (privileged s)) ≡ true) where
   -- the state after the take
@@ -102,8 +116,10 @@ module _ (late : Bool) (n : ℕ) (k : Fraction) (s : State) (sound : IsSound s) 
   -- more stands then
   stands_up : standing s.tasks < standing taken.tasks
   stands_up =
-      let less : standing s.tasks < x.job.value = stood_less steps_scale k s sound r x member runs some x_member waiting now heavy in
-      let most : x.job.value ≤ standing taken.tasks = stands_then steps_scale k s sound r x member runs some x_member waiting now heavy in
+      let less : standing s.tasks < x.job.value =
+      stood_less steps_scale k s sound r x member runs some x_member waiting now heavy in
+      let most : x.job.value ≤ standing taken.tasks =
+      stands_then steps_scale k s sound r x member runs some x_member waiting now heavy in
       omega arith
 
   -- after a take it is so of the taker, and of those of which it was so
@@ -111,8 +127,10 @@ module _ (late : Bool) (n : ℕ) (k : Fraction) (s : State) (sound : IsSound s) 
   take_spent why = on_map (λ t. with_role t (cond (eqb t.number x.number) Running (displaced t.role)))
       (λ t. t.number ≡ n → Spent late t.role s.clock (standing taken.tasks) t) s.tasks
       (λ t m same. by_number t m same (eqb t.number x.number) refl why) where
-        by_number : (t : Task) → IsMember t s.tasks → t.number ≡ n → (b : Bool) → eqb t.number x.number ≡ b → (x.number ≡ n) ⊎ IsSpent late n s
-            → Spent late (cond b Running (displaced t.role)) s.clock (standing taken.tasks) (with_role t (cond b Running (displaced t.role)))
+        by_number : (t : Task) → IsMember t s.tasks → t.number ≡ n → (b : Bool) → eqb t.number x.number ≡ b
+            → (x.number ≡ n) ⊎ IsSpent late n s
+            → Spent late (cond b Running (displaced t.role)) s.clock (standing taken.tasks)
+            (with_role t (cond b Running (displaced t.role)))
         by_number t m same true is_x _ = λ _. subst (λ y. latest_start y ≤ s.clock)
             (sym (one_number 0 s.tasks sound.numbered t x m x_member (eqb-true _ _ is_x))) (omega (arith, now))
         by_number t m same false differs (inl is_n) = absurd (eqb-false _ _ differs (same ∙ sym is_n))
@@ -125,13 +143,16 @@ module _ (late : Bool) (n : ℕ) (k : Fraction) (s : State) (sound : IsSound s) 
   -- a job of which it is so doesn't take
   takes_not : IsSpent true n s → x.number ≡ n → ⊥
   takes_not spent is_n =
-      let less : standing s.tasks < x.job.value = stood_less steps_scale k s sound r x member runs some x_member waiting now heavy in
-      let low : x.job.value ≤ standing s.tasks = (spent_as true s.clock (standing s.tasks) x Waiting waiting (spent x x_member is_n) refl).1 in
+      let less : standing s.tasks < x.job.value =
+      stood_less steps_scale k s sound r x member runs some x_member waiting now heavy in
+      let low : x.job.value ≤ standing s.tasks =
+      (spent_as true s.clock (standing s.tasks) x Waiting waiting (spent x x_member is_n) refl).1 in
       omega arith
 
 module _ (late : Bool) (n : ℕ) (s : State) (sound : IsSound s) (r f : Task) (member : IsMember r s.tasks)
     (runs : r.role ≡ Running) (some : 1 ≤ left r)
-    (f_member : IsMember f s.tasks) (fresh : f.role ≡ Fresh) (before : f.job.deadline < r.job.deadline) (fits : Fits (left f) s) where
+    (f_member : IsMember f s.tasks) (fresh : f.role ≡ Fresh) (before : f.job.deadline < r.job.deadline)
+    (fits : Fits (left f) s) where
   -- the fresh job waits
   abbrev first_state : State
   first_state = one_waits s sound r f member runs some f_member fresh before fits
@@ -152,17 +173,21 @@ module _ (late : Bool) (n : ℕ) (s : State) (sound : IsSound s) (r f : Task) (m
   -- a preemption changes nothing of it
   preempt_spent : IsSpent late n s → IsSpent late n preempted
   preempt_spent spent = by_changes
-      (one_spent late n second_state (held_sound s sound r f member runs some f_member fresh before fits) (with_role f Waiting)
+      (one_spent late n second_state (held_sound s sound r f member runs some f_member fresh before fits)
+      (with_role f Waiting)
       (f_there s sound r f member runs some f_member fresh before fits) Running (omega arith) (λ w h e. (h e).0)
       (one_spent late n first_state (waits_sound s sound r f member runs some f_member fresh before fits) r
-      (r_there s sound r f member runs some f_member fresh before fits) Held (omega (arith, stands_of r Running runs, stands_running r some))
+      (r_there s sound r f member runs some f_member fresh before fits) Held
+      (omega (arith, stands_of r Running runs, stands_running r some))
       (λ w h. spent_as late s.clock w r Running runs h)
       (one_spent late n s sound f f_member Waiting (stood_not f Fresh fresh refl (stands (with_role f Waiting)))
       (λ w h. absurd (spent_as late s.clock w f Fresh fresh h)) spent)))
 
 -- the job that preempts is decided on
-preempt_decides : (n : ℕ) (s : State) (sound : IsSound s) (r f : Task) (member : IsMember r s.tasks) (runs : r.role ≡ Running) (some : 1 ≤ left r)
-    (f_member : IsMember f s.tasks) (fresh : f.role ≡ Fresh) (before : f.job.deadline < r.job.deadline) (fits : Fits (left f) s) → f.number ≡ n
+preempt_decides : (n : ℕ) (s : State) (sound : IsSound s) (r f : Task) (member : IsMember r s.tasks)
+    (runs : r.role ≡ Running) (some : 1 ≤ left r)
+    (f_member : IsMember f s.tasks) (fresh : f.role ≡ Fresh) (before : f.job.deadline < r.job.deadline)
+    (fits : Fits (left f) s) → f.number ≡ n
     → IsSpent false n (after s (Prints (Preempt s.clock r.number f.number)))
 preempt_decides n s sound r f member runs some f_member fresh before fits is_n =
     by_changes false n s sound r f member runs some f_member fresh before fits
@@ -196,32 +221,44 @@ module _ (late : Bool) (n : ℕ) (s : State) (sound : IsSound s) (quiet : Quiet 
 
   -- a silent tick changes nothing of it
   tick_spent : IsSpent late n s → IsSpent late n (after s Ticks)
-  tick_spent spent = on_map ticked (λ t. t.number ≡ n → Spent late t.role (s.clock + 1) (standing (map ticked s.tasks)) t) s.tasks
-      (λ t m same. tick_role (standing s.tasks) (standing (map ticked s.tasks)) t t.role (waits_slack t m) (quiet.early t m) (quiet.busy t m)
+  tick_spent spent = on_map ticked
+      (λ t. t.number ≡ n → Spent late t.role (s.clock + 1) (standing (map ticked s.tasks)) t) s.tasks
+      (λ t m same. tick_role (standing s.tasks) (standing (map ticked s.tasks)) t t.role (waits_slack t m)
+      (quiet.early t m) (quiet.busy t m)
       (active_slack s sound t m) (spent t m same))
 
 module _ (n : ℕ) (k : Fraction) (s : State) (other : Move) (sound : IsSound s) where
   -- each deed keeps it
-  deed_spent : (late : Bool) → (Quiet s → IsSpent late n s → IsSpent late n (after s other)) → IsSpent late n s → (m : Move) → Deed k s other m
+  deed_spent : (late : Bool) → (Quiet s → IsSpent late n s → IsSpent late n (after s other)) → IsSpent late n s
+      → (m : Move) → Deed k s other m
       → IsSpent late n (after s m)
   deed_spent late rests spent m (Completed r member runs done) =
-      one_spent late n s sound r member Done (omega (arith, stands_of r Running runs, stands_done r done)) (λ w h. tt) spent
+      one_spent late n s sound r member Done (omega (arith, stands_of r Running runs, stands_done r done))
+      (λ w h. tt) spent
   deed_spent late rests spent m (Resumed p member held none least why) = one_spent late n s sound p member Running
       (omega (arith, stands_of p Held held, stands_running p (says s sound p member Held held).0))
       (λ w h. spent_as late s.clock w p Held held h) spent
-  deed_spent late rests spent m (Started o member waiting none ahead fits next) = one_spent late n s sound o member Running
-      (stood_not o Waiting waiting refl (stands (with_role o Running))) (λ w h e. (spent_as late s.clock w o Waiting waiting h e).0) spent
+  deed_spent late rests spent m (Started o member waiting none ahead fits next) =
+      one_spent late n s sound o member Running
+      (stood_not o Waiting waiting refl (stands (with_role o Running)))
+      (λ w h e. (spent_as late s.clock w o Waiting waiting h e).0) spent
   deed_spent late rests spent m (Began f member fresh none) = one_spent late n s sound f member Running
-      (stood_not f Fresh fresh refl (stands (with_role f Running))) (λ w h. absurd (spent_as late s.clock w f Fresh fresh h)) spent
+      (stood_not f Fresh fresh refl (stands (with_role f Running)))
+      (λ w h. absurd (spent_as late s.clock w f Fresh fresh h)) spent
   deed_spent late rests spent m (Preempted r f member runs some f_member fresh before fits) =
       preempt_spent late n s sound r f member runs some f_member fresh before fits spent
-  deed_spent late rests spent m (Stayed r f member runs some f_member fresh why) = one_spent late n s sound f f_member Waiting
-      (stood_not f Fresh fresh refl (stands (with_role f Waiting))) (λ w h. absurd (spent_as late s.clock w f Fresh fresh h)) spent
-  deed_spent late rests spent m (Arrived c member comes now least stale busy free) = one_spent late n s sound c member Fresh
-      (stood_not c Coming comes refl (stands (with_role c Fresh))) (λ w h. absurd (spent_as late s.clock w c Coming comes h)) spent
+  deed_spent late rests spent m (Stayed r f member runs some f_member fresh why) =
+      one_spent late n s sound f f_member Waiting
+      (stood_not f Fresh fresh refl (stands (with_role f Waiting)))
+      (λ w h. absurd (spent_as late s.clock w f Fresh fresh h)) spent
+  deed_spent late rests spent m (Arrived c member comes now least stale busy free) =
+      one_spent late n s sound c member Fresh
+      (stood_not c Coming comes refl (stands (with_role c Fresh)))
+      (λ w h. absurd (spent_as late s.clock w c Coming comes h)) spent
   deed_spent late rests spent m (Taken r x member runs some x_member waiting now stale heavy) =
       take_spent late n k s sound r x member runs some x_member waiting now heavy (inr spent)
-  deed_spent late rests spent m (Abandoned r x member runs some x_member waiting now stale light) = one_spent late n s sound x x_member Gone
+  deed_spent late rests spent m (Abandoned r x member runs some x_member waiting now stale light) =
+      one_spent late n s sound x x_member Gone
       (stood_not x Waiting waiting refl (stands (with_role x Gone))) (λ w h. tt) spent
   deed_spent late rests spent m (Rested quiet) = rests quiet spent
 
@@ -271,13 +308,15 @@ abbrev counted : (Move → Bool) → List Step → ℕ
 counted test xs = count_by (λ x. test x.move) xs
 
 -- the first step and the others
-first_counted : (rules : Rules) (test : Move → Bool) (x : Step) (xs : List Step) (s : State) → IsWholeRun rules s (x ∷ xs)
+first_counted : (rules : Rules) (test : Move → Bool) (x : Step) (xs : List Step) (s : State)
+    → IsWholeRun rules s (x ∷ xs)
     → counted test (x ∷ xs) ≡ one_if (test (step rules s)) + counted test xs
 first_counted rules test x xs s whole =
     sum_by-cons (λ y. one_if (test y.move)) x xs ∙ ap (λ (y : Step). one_if (test y.move) + counted test xs) whole.0
 
 -- what holds of no steps and of a whole run holds of the steps after the first
-of_later : (Q : Type 0) (b : Bool) (rules : Rules) (s : State) (xs : List Step) → MatchBool b (xs ≡ []) (IsWholeRun rules s xs)
+of_later : (Q : Type 0) (b : Bool) (rules : Rules) (s : State) (xs : List Step)
+    → MatchBool b (xs ≡ []) (IsWholeRun rules s xs)
     → (xs ≡ [] → Q) → (IsWholeRun rules s xs → Q) → Q
 of_later Q true rules s xs none last onward = last none
 of_later Q false rules s xs more last onward = onward more
@@ -289,9 +328,12 @@ module _ (J : Instance) (valid : IsValid J) (rules : Rules) (test : Move → Boo
   none_more : (xs : List Step) (s : State) → Keeps J s → P s → IsWholeRun rules s xs → counted test xs ≡ 0
   none_more [] s keeps holds whole = absurd whole
   none_more (x ∷ xs) s keeps holds whole =
-      let none : one_if (test (step rules s)) ≡ 0 = ap one_if (is_not (test (step rules s)) (λ passed. (passes_once s keeps passed).0 holds)) in
-      let later : counted test xs ≡ 0 = of_later (counted test xs ≡ 0) (is_end (step rules s)) rules (after s (step rules s)) xs whole.1
-      (ap (counted test)) (none_more xs (after s (step rules s)) (step_kept J valid s keeps rules) (kept s keeps holds)) in
+      let none : one_if (test (step rules s)) ≡ 0 =
+      ap one_if (is_not (test (step rules s)) (λ passed. (passes_once s keeps passed).0 holds)) in
+      let later : counted test xs ≡ 0 =
+      of_later (counted test xs ≡ 0) (is_end (step rules s)) rules (after s (step rules s)) xs whole.1
+      (ap (counted test)) (none_more xs (after s (step rules s)) (step_kept J valid s keeps rules)
+      (kept s keeps holds)) in
       omega (arith, first_counted rules test x xs s whole)
 
   -- one step passes at most
@@ -300,10 +342,13 @@ module _ (J : Instance) (valid : IsValid J) (rules : Rules) (test : Move → Boo
   once (x ∷ xs) s keeps whole =
       by_test (test (step rules s)) refl (first_counted rules test x xs s whole)
       (of_later (counted test xs ≤ 1) (is_end (step rules s)) rules (after s (step rules s)) xs whole.1
-      (λ none. omega (arith, ap (counted test) none)) (once xs (after s (step rules s)) (step_kept J valid s keeps rules)))
-      (λ passed. of_later (counted test xs ≡ 0) (is_end (step rules s)) rules (after s (step rules s)) xs whole.1 (ap (counted test))
+      (λ none. omega (arith, ap (counted test) none))
+      (once xs (after s (step rules s)) (step_kept J valid s keeps rules)))
+      (λ passed. of_later (counted test xs ≡ 0) (is_end (step rules s)) rules (after s (step rules s)) xs whole.1
+      (ap (counted test))
       (none_more xs (after s (step rules s)) (step_kept J valid s keeps rules) (passes_once s keeps passed).1)) where
-        by_test : (b : Bool) → test (step rules s) ≡ b → counted test (x ∷ xs) ≡ one_if b + counted test xs → counted test xs ≤ 1
+        by_test : (b : Bool) → test (step rules s) ≡ b → counted test (x ∷ xs) ≡ one_if b + counted test xs
+            → counted test xs ≤ 1
             → (test (step rules s) ≡ true → counted test xs ≡ 0) → counted test (x ∷ xs) ≤ 1
         by_test true passed all more none = omega (arith, all, none passed)
         by_test false failed all more none = omega (arith, all, more)
@@ -313,16 +358,19 @@ abbrev rest_of : State → Move
 rest_of s = ending s or_else Ticks
 
 -- neither End nor a silent tick passes
-rest_fails : (test : Move → Bool) → ((value : ℕ) → test (Prints (End value)) ≡ false) → test Ticks ≡ false → (s : State) → test (rest_of s) ≡ false
+rest_fails : (test : Move → Bool) → ((value : ℕ) → test (Prints (End value)) ≡ false) → test Ticks ≡ false → (s : State)
+    → test (rest_of s) ≡ false
 rest_fails test ends ticks s = by_end (list_all is_over s.tasks) where
   by_end : (b : Bool) → test (then_some b (Prints (End (value_sum (filter is_done s.tasks)))) or_else Ticks) ≡ false
   by_end true = ends (value_sum (filter is_done s.tasks))
   by_end false = ticks
 
 -- they change nothing of it
-rest_spent : (late : Bool) (n : ℕ) (s : State) → IsSound s → Quiet s → IsSpent late n s → IsSpent late n (after s (rest_of s))
+rest_spent : (late : Bool) (n : ℕ) (s : State) → IsSound s → Quiet s → IsSpent late n s
+    → IsSpent late n (after s (rest_of s))
 rest_spent late n s sound quiet spent = by_end (list_all is_over s.tasks) where
-  by_end : (b : Bool) → IsSpent late n (after s (then_some b (Prints (End (value_sum (filter is_done s.tasks)))) or_else Ticks))
+  by_end : (b : Bool) → IsSpent late n
+      (after s (then_some b (Prints (End (value_sum (filter is_done s.tasks)))) or_else Ticks))
   by_end true = subst (λ (tasks : List Task). IsSpent late n (record { clock = s.clock; tasks = tasks }))
       (sym (end_same s (value_sum (filter is_done s.tasks)))) spent
   by_end false = tick_spent late n s sound quiet spent
@@ -336,14 +384,16 @@ module _ (J : Instance) (n : ℕ) (valid : IsValid J) where
   -- a job takes once at most
   pub takes_once : count_by (λ x. is_take_of n x.move) (run J) ≤ 1
   takes_once = once J valid J.rules (is_take_of n) (IsSpent true n) (step_spent true)
-      (λ s keeps. deed_takes n J.rules.ratio s (rest_of s) keeps.sound (rest_fails (is_take_of n) (λ value. refl) refl s)
+      (λ s keeps. deed_takes n J.rules.ratio s (rest_of s) keeps.sound
+      (rest_fails (is_take_of n) (λ value. refl) refl s)
       (step J.rules s) (step_deed J valid s keeps J.rules))
       (run J) (opening J.jobs) (opening_keeps J) (run_is_whole J valid)
 
   -- a job preempts once at most
   pub preempts_once : count_by (λ x. is_preempt_of n x.move) (run J) ≤ 1
   preempts_once = once J valid J.rules (is_preempt_of n) (IsSpent false n) (step_spent false)
-      (λ s keeps. deed_preempts n J.rules.ratio s (rest_of s) keeps.sound (rest_fails (is_preempt_of n) (λ value. refl) refl s)
+      (λ s keeps. deed_preempts n J.rules.ratio s (rest_of s) keeps.sound
+      (rest_fails (is_preempt_of n) (λ value. refl) refl s)
       (step J.rules s) (step_deed J valid s keeps J.rules))
       (run J) (opening J.jobs) (opening_keeps J) (run_is_whole J valid)
 
@@ -355,7 +405,8 @@ Uses true tasks = SomeRuns tasks
 Uses false tasks = NoneRuns tasks
 
 -- where one runs, it isn't so that none does
-is_busy : (tasks : List Task) (busy : Bool) (r : Task) → IsMember r tasks → r.role ≡ Running → Uses busy tasks → busy ≡ true
+is_busy : (tasks : List Task) (busy : Bool) (r : Task) → IsMember r tasks → r.role ≡ Running → Uses busy tasks
+    → busy ≡ true
 is_busy tasks true r member runs uses = refl
 is_busy tasks false r member runs uses = absurd (uses r member runs)
 
@@ -377,11 +428,13 @@ record Gives (busy : Bool) (s : State) (m : Move) : Type 0 where
 -- where roles are changed, a job that runs then
 some_runs : (role_then : Task → Role) (tasks : List Task) (r : Task) → IsMember r tasks → role_then r ≡ Running
     → SomeRuns (with_roles role_then tasks)
-some_runs role_then tasks r member runs = (with_role r (role_then r), map_member (λ t. with_role t (role_then t)) tasks r member, runs)
+some_runs role_then tasks r member runs =
+    (with_role r (role_then r), map_member (λ t. with_role t (role_then t)) tasks r member, runs)
 
 module _ (s : State) (sound : IsSound s) where
   -- a job that neither ran nor runs changes nothing
-  still_uses : (busy : Bool) (r : Task) → IsMember r s.tasks → (new : Role) → (r.role ≡ Running → ⊥) → (new ≡ Running → ⊥) → Uses busy s.tasks
+  still_uses : (busy : Bool) (r : Task) → IsMember r s.tasks → (new : Role) → (r.role ≡ Running → ⊥)
+      → (new ≡ Running → ⊥) → Uses busy s.tasks
       → Uses busy (state_with s r new).tasks
   still_uses true r member new ran not_new it = (
     it.0,
@@ -392,9 +445,11 @@ module _ (s : State) (sound : IsSound s) where
   still_uses false r member new ran not_new none =
       on_changed 0 s.tasks sound.numbered r member new (λ t. t.role ≡ Running → ⊥) not_new (λ t m _. none t m)
 
-module _ (k : Fraction) (s : State) (other : Move) (sound : IsSound s) (rests : (busy : Bool) → Uses busy s.tasks → Gives busy s other) where
+module _ (k : Fraction) (s : State) (other : Move) (sound : IsSound s)
+    (rests : (busy : Bool) → Uses busy s.tasks → Gives busy s other) where
   -- a job gets the free processor
-  one_given : (busy : Bool) → Uses busy s.tasks → NoneRuns s.tasks → (r : Task) → IsMember r s.tasks → Gives busy s (Prints (Run s.clock r.number))
+  one_given : (busy : Bool) → Uses busy s.tasks → NoneRuns s.tasks → (r : Task) → IsMember r s.tasks
+      → Gives busy s (Prints (Run s.clock r.number))
   one_given busy uses none r member = record {
     then_busy = true;
     uses = (with_role r Running, changed_here 0 s.tasks sound.numbered r member Running, refl);
@@ -414,18 +469,21 @@ module _ (k : Fraction) (s : State) (other : Move) (sound : IsSound s) (rests : 
   deed_gives busy uses m (Began f member fresh none) = one_given busy uses none f member
   deed_gives busy uses m (Preempted r f member runs some f_member fresh before fits) = record {
     then_busy = true;
-    uses = some_runs (λ t. cond (eqb t.number f.number) Running (cond (eqb t.number r.number) Held t.role)) s.tasks f f_member
+    uses = some_runs (λ t. cond (eqb t.number f.number) Running (cond (eqb t.number r.number) Held t.role)) s.tasks f
+        f_member
         (ap (λ b. cond b Running (cond (eqb f.number r.number) Held f.role)) (eq-eqb f.number f.number refl));
     balance = ap (λ b. one_if b + 0) (is_busy s.tasks busy r member runs uses);
   }
   deed_gives busy uses m (Stayed r f member runs some f_member fresh why) = record {
     then_busy = busy;
-    uses = still_uses s sound busy f f_member Waiting (λ e. let g : Fresh ≡ Running = sym fresh ∙ e in cc) (λ e. absurd (cc)) uses;
+    uses = still_uses s sound busy f f_member Waiting (λ e. let g : Fresh ≡ Running = sym fresh ∙ e in cc)
+        (λ e. absurd (cc)) uses;
     balance = omega arith;
   }
   deed_gives busy uses m (Arrived c member comes now least stale busy_then free) = record {
     then_busy = busy;
-    uses = still_uses s sound busy c member Fresh (λ e. let g : Coming ≡ Running = sym comes ∙ e in cc) (λ e. absurd (cc)) uses;
+    uses = still_uses s sound busy c member Fresh (λ e. let g : Coming ≡ Running = sym comes ∙ e in cc)
+        (λ e. absurd (cc)) uses;
     balance = omega arith;
   }
   deed_gives busy uses m (Taken r x member runs some x_member waiting now stale heavy) = record {
@@ -436,7 +494,8 @@ module _ (k : Fraction) (s : State) (other : Move) (sound : IsSound s) (rests : 
   }
   deed_gives busy uses m (Abandoned r x member runs some x_member waiting now stale light) = record {
     then_busy = busy;
-    uses = still_uses s sound busy x x_member Gone (λ e. let g : Waiting ≡ Running = sym waiting ∙ e in cc) (λ e. absurd (cc)) uses;
+    uses = still_uses s sound busy x x_member Gone (λ e. let g : Waiting ≡ Running = sym waiting ∙ e in cc)
+        (λ e. absurd (cc)) uses;
     balance = omega arith;
   }
   deed_gives busy uses m (Rested quiet) = rests busy uses
@@ -461,7 +520,8 @@ module _ (J : Instance) (valid : IsValid J) (rules : Rules) where
   -- what a step does to the processor
   step_gives : (s : State) → Keeps J s → (busy : Bool) → Uses busy s.tasks → Gives busy s (step rules s)
   step_gives s keeps busy uses =
-      deed_gives rules.ratio s (rest_of s) keeps.sound (rest_gives s) busy uses (step rules s) (step_deed J valid s keeps rules)
+      deed_gives rules.ratio s (rest_of s) keeps.sound (rest_gives s) busy uses (step rules s)
+      (step_deed J valid s keeps rules)
 
   -- the processor is freed as often as it is given, and once more where some job runs
   freed_as_given : (xs : List Step) (s : State) → Keeps J s → (busy : Bool) → Uses busy s.tasks → IsWholeRun rules s xs
@@ -473,14 +533,17 @@ module _ (J : Instance) (valid : IsValid J) (rules : Rules) where
         it : Gives busy s (step rules s)
         it = step_gives s keeps busy uses
 
-        by_end : (b : Bool) → is_end (step rules s) ≡ b → MatchBool b (xs ≡ []) (IsWholeRun rules (after s (step rules s)) xs)
+        by_end : (b : Bool) → is_end (step rules s) ≡ b
+            → MatchBool b (xs ≡ []) (IsWholeRun rules (after s (step rules s)) xs)
             → (IsWholeRun rules (after s (step rules s)) xs
             → one_if it.then_busy + counted is_run xs ≡ counted is_complete xs)
             → one_if busy + counted is_run (x ∷ xs) ≡ counted is_complete (x ∷ xs)
         by_end true last none more =
-            let nobody : busy ≡ false = is_free s.tasks busy (over_runs_none s (end_over J valid s keeps rules last).1) uses in
+            let nobody : busy ≡ false =
+            is_free s.tasks busy (over_runs_none s (end_over J valid s keeps rules last).1) uses in
             let no_run : is_run (step rules s) ≡ false = ap is_run (end_over J valid s keeps rules last).0 in
-            let no_complete : is_complete (step rules s) ≡ false = ap is_complete (end_over J valid s keeps rules last).0 in
+            let no_complete : is_complete (step rules s) ≡ false =
+            ap is_complete (end_over J valid s keeps rules last).0 in
             omega (
               arith,
               first_counted rules is_run x xs s whole,
@@ -500,11 +563,13 @@ module _ (J : Instance) (valid : IsValid J) (rules : Rules) where
         )
 
 -- over a run the processor is freed as often as it is given
-pub runs_complete : (J : Instance) → IsValid J → count_by (λ x. is_run x.move) (run J) ≡ count_by (λ x. is_complete x.move) (run J)
+pub runs_complete : (J : Instance) → IsValid J
+    → count_by (λ x. is_run x.move) (run J) ≡ count_by (λ x. is_complete x.move) (run J)
 runs_complete J valid =
     omega (
       arith,
       freed_as_given J valid J.rules (run J) (opening J.jobs) (opening_keeps J) false
-          (λ t m runs. let comes : t.role ≡ Coming = (come_coming 0 J.jobs t m).0 in let e : Coming ≡ Running = sym comes ∙ runs in cc)
+          (λ t m runs. let comes : t.role ≡ Coming = (come_coming 0 J.jobs t m).0 in let e : Coming ≡ Running =
+          sym comes ∙ runs in cc)
           (run_is_whole J valid),
     )

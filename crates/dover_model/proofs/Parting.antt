@@ -1,5 +1,6 @@
 -- What schedules of all jobs give to the jobs of a part, and sums of bounds.
-use Rattle.std.proofs.Common.{◌≡◌, ℕ, suc, ◌+◌, ◌-◌, ◌*◌, ◌≤◌, inl, inr, List, [], ◌∷◌, ◌++◌, length, drop, take, map, refl}
+use Rattle.std.proofs.Common.{◌≡◌, ℕ, suc, ◌+◌, ◌-◌, ◌*◌, ◌≤◌, inl, inr, List, [], ◌∷◌, ◌++◌, length, drop, take, map}
+use Rattle.std.proofs.Common.{refl}
 use Rattle.std.proofs.Common.{sym, ap, ◌∙◌, subst, arith, cond, eqb, Bool, true, false, IsTrue}
 use Rattle.std.specs.List.{count_by, sum_by, filter, enumerate_from, AllByRecursion}
 use Rattle.std.proofs.lemmas.Bool.{le-leb, leb-true, eqb-true, eq-eqb, ne_eqb}
@@ -30,7 +31,8 @@ Job = ℕ × JobFacts
 -- ---- a schedule under other numbers
 
 -- a tick of a number is a tick of the number that it goes to
-pub count_map : (f : ℕ → ℕ) (a b : ℕ) → f a ≡ b → (xs : List ℕ) → count_by (λ m. eqb m a) xs ≤ count_by (λ m. eqb m b) (map f xs)
+pub count_map : (f : ℕ → ℕ) (a b : ℕ) → f a ≡ b → (xs : List ℕ)
+    → count_by (λ m. eqb m a) xs ≤ count_by (λ m. eqb m b) (map f xs)
 count_map f a b to [] = omega arith
 count_map f a b to (x ∷ xs) = by_test (eqb x a) refl (count_map f a b to xs) where
   by_test : (c : Bool) → eqb x a ≡ c → count_by (λ m. eqb m a) xs ≤ count_by (λ m. eqb m b) (map f xs)
@@ -39,20 +41,35 @@ count_map f a b to (x ∷ xs) = by_test (eqb x a) refl (count_map f a b to xs) w
       let is : eqb (f x) b ≡ true = eq-eqb (f x) b (ap f (eqb-true x a same) ∙ to) in
       let one : cond {A = ℕ} (eqb x a) 1 0 ≡ 1 = ap {B = ℕ} (λ c. cond c 1 0) same in
       let other : cond {A = ℕ} (eqb (f x) b) 1 0 ≡ 1 = ap {B = ℕ} (λ c. cond c 1 0) is in
-      omega (arith, one, other, rest, sum_by-cons (λ m. cond (eqb m a) 1 0) x xs, sum_by-cons (λ m. cond (eqb m b) 1 0) (f x) (map f xs))
+      omega (
+        arith,
+        one,
+        other,
+        rest,
+        sum_by-cons (λ m. cond (eqb m a) 1 0) x xs,
+        sum_by-cons (λ m. cond (eqb m b) 1 0) (f x) (map f xs),
+      )
   by_test false apart rest =
       let nothing : cond {A = ℕ} (eqb x a) 1 0 ≡ 0 = ap {B = ℕ} (λ c. cond c 1 0) apart in
-      omega (arith, nothing, rest, sum_by-cons (λ m. cond (eqb m a) 1 0) x xs, sum_by-cons (λ m. cond (eqb m b) 1 0) (f x) (map f xs))
+      omega (
+        arith,
+        nothing,
+        rest,
+        sum_by-cons (λ m. cond (eqb m a) 1 0) x xs,
+        sum_by-cons (λ m. cond (eqb m b) 1 0) (f x) (map f xs),
+      )
 
 -- a job is served under the number that its own goes to
-pub served_map : (f : ℕ → ℕ) (s : List ℕ) (a b : ℕ) (j : JobFacts) → f a ≡ b → IsTrue (is_served s (a, j)) → IsTrue (is_served (map f s) (b, j))
+pub served_map : (f : ℕ → ℕ) (s : List ℕ) (a b : ℕ) (j : JobFacts) → f a ≡ b → IsTrue (is_served s (a, j))
+    → IsTrue (is_served (map f s) (b, j))
 served_map f s a b j to served =
     let enough : j.work ≤ ticks_given s a j = leb-true _ _ served in
     let more : ticks_given s a j ≤ count_by (λ m. eqb m b) (map f (drop j.release (take j.deadline s))) =
     count_map f a b to (drop j.release (take j.deadline s)) in
     let same : map f (drop j.release (take j.deadline s)) ≡ drop j.release (take j.deadline (map f s)) =
     sym (ap (drop j.release) (take-map f j.deadline s) ∙ drop-map f j.release (take j.deadline s)) in
-    let given : count_by (λ m. eqb m b) (map f (drop j.release (take j.deadline s))) ≡ ticks_given (map f s) b j = ap (count_by (λ m. eqb m b)) same in
+    let given : count_by (λ m. eqb m b) (map f (drop j.release (take j.deadline s))) ≡ ticks_given (map f s) b j =
+    ap (count_by (λ m. eqb m b)) same in
     le-leb j.work (ticks_given (map f s) b j) (omega arith)
 
 -- what a job is worth to a schedule
@@ -113,7 +130,11 @@ rises_less low low2 (n_j ∷ ns) less rise = (let from : low ≤ n_j.0 = rise.0 
 -- jobs under their numbers rise
 numbers_rise : (k : ℕ) (jobs : List JobFacts) → Rises k (enumerate_from k jobs)
 numbers_rise k [] = tt
-numbers_rise k (j ∷ jobs) = (omega arith, subst (λ l. Rises l (enumerate_from (k + 1) jobs)) (let e : k + 1 ≡ suc k = omega arith in e) (numbers_rise (k + 1) jobs))
+numbers_rise k (j ∷ jobs) = (
+  omega arith,
+  subst (λ l. Rises l (enumerate_from (k + 1) jobs)) (let e : k + 1 ≡ suc k = omega arith in e)
+      (numbers_rise (k + 1) jobs),
+)
 
 -- so do some of them
 filter_rises : (p : Job → Bool) (low : ℕ) (ns : List Job) → Rises low ns → Rises low (filter p ns)
@@ -124,11 +145,13 @@ filter_rises p low (n_j ∷ ns) rise = by_test (p n_j) (filter_rises p (suc n_j.
   by_test false rest = rises_less (suc n_j.0) low (filter p ns) (let from : low ≤ n_j.0 = rise.0 in omega arith) rest
 
 -- what is the same from the least number on places them the same
-placed_same : (f g : ℕ → ℕ) (k low : ℕ) (ns : List Job) → Rises low ns → ((m : ℕ) → low ≤ m → f m ≡ g m) → AllPlaced g k ns → AllPlaced f k ns
+placed_same : (f g : ℕ → ℕ) (k low : ℕ) (ns : List Job) → Rises low ns → ((m : ℕ) → low ≤ m → f m ≡ g m)
+    → AllPlaced g k ns → AllPlaced f k ns
 placed_same f g k low [] rise same placed = tt
 placed_same f g k low (n_j ∷ ns) rise same placed = (
   same n_j.0 rise.0 ∙ placed.0,
-  placed_same f g (k + 1) (suc n_j.0) ns rise.1 (λ m above. same m (let from : low ≤ n_j.0 = rise.0 in omega arith)) placed.1,
+  placed_same f g (k + 1) (suc n_j.0) ns rise.1
+      (λ m above. same m (let from : low ≤ n_j.0 = rise.0 in omega arith)) placed.1,
 )
 
 -- the places of rising numbers
@@ -154,7 +177,8 @@ module _ (owner : ℕ → ℕ) (jobs : List JobFacts) where
 
   -- the jobs of the part are placed
   part_placed : (part : ℕ) → AllPlaced (place 0 (part_jobs part)) 0 (part_jobs part)
-  part_placed part = places 0 0 (part_jobs part) (filter_rises (λ n_j. eqb (owner n_j.0) part) 0 (enumerate_from 0 jobs) (numbers_rise 0 jobs))
+  part_placed part = places 0 0 (part_jobs part)
+      (filter_rises (λ n_j. eqb (owner n_j.0) part) 0 (enumerate_from 0 jobs) (numbers_rise 0 jobs))
 
   -- a sum over jobs that are each in some part is at most that over the parts
   sum_parts : (f : Job → ℕ) (parts : List ℕ) (ns : List Job) → Each (λ n_j. IsMember (owner n_j.0) parts) ns
@@ -164,13 +188,18 @@ module _ (owner : ℕ → ℕ) (jobs : List JobFacts) where
       let here : f n_j ≤ sum_by (λ part. cond (eqb (owner n_j.0) part) (f n_j) 0) parts = own in
       let rest : sum_by f ns ≤ sum_by (λ part. sum_by f (filter (λ x. eqb (owner x.0) part) ns)) parts =
       sum_parts f parts ns (λ x member. each x (inr member)) in
-      let both : sum_by (λ part. cond (eqb (owner n_j.0) part) (f n_j) 0 + sum_by f (filter (λ x. eqb (owner x.0) part) ns)) parts
-      ≡ sum_by (λ part. cond (eqb (owner n_j.0) part) (f n_j) 0) parts + sum_by (λ part. sum_by f (filter (λ x. eqb (owner x.0) part) ns)) parts =
-      sum_plus (λ part. cond (eqb (owner n_j.0) part) (f n_j) 0) (λ part. sum_by f (filter (λ x. eqb (owner x.0) part) ns)) parts in
-      let all : sum_by (λ part. cond (eqb (owner n_j.0) part) (f n_j) 0 + sum_by f (filter (λ x. eqb (owner x.0) part) ns)) parts
+      let both : sum_by (λ part. cond (eqb (owner n_j.0) part) (f n_j) 0 + sum_by f
+      (filter (λ x. eqb (owner x.0) part) ns)) parts
+      ≡ sum_by (λ part. cond (eqb (owner n_j.0) part) (f n_j) 0) parts + sum_by
+      (λ part. sum_by f (filter (λ x. eqb (owner x.0) part) ns)) parts =
+      sum_plus (λ part. cond (eqb (owner n_j.0) part) (f n_j) 0)
+      (λ part. sum_by f (filter (λ x. eqb (owner x.0) part) ns)) parts in
+      let all : sum_by (λ part. cond (eqb (owner n_j.0) part) (f n_j) 0 + sum_by f
+      (filter (λ x. eqb (owner x.0) part) ns)) parts
       ≤ sum_by (λ part. sum_by f (filter (λ x. eqb (owner x.0) part) (n_j ∷ ns))) parts =
       sum_le (λ part. cond (eqb (owner n_j.0) part) (f n_j) 0 + sum_by f (filter (λ x. eqb (owner x.0) part) ns))
-      (λ part. sum_by f (filter (λ x. eqb (owner x.0) part) (n_j ∷ ns))) parts (λ part member. one (eqb (owner n_j.0) part) part) in
+      (λ part. sum_by f (filter (λ x. eqb (owner x.0) part) (n_j ∷ ns))) parts
+      (λ part member. one (eqb (owner n_j.0) part) part) in
       omega (arith, sum_by-cons f n_j ns) where
         own : f n_j ≤ sum_by (λ part. cond (eqb (owner n_j.0) part) (f n_j) 0) parts
         own = subst (λ b. cond b (f n_j) 0 ≤ sum_by (λ part. cond (eqb (owner n_j.0) part) (f n_j) 0) parts)
@@ -184,13 +213,16 @@ module _ (owner : ℕ → ℕ) (jobs : List JobFacts) where
 
   -- a schedule of all jobs is worth at most what it is worth to the parts
   pub worth_parted : (rules : Rules) (of_part : ℕ → Rules) (parts : List ℕ) (s : List ℕ) → IsParted owner parts jobs
-      → worth (record { rules = rules; jobs = jobs }) s ≤ sum_by (λ part. worth (part_under of_part owner jobs part) (restricted part s)) parts
+      → worth (record { rules = rules; jobs = jobs }) s ≤ sum_by
+      (λ part. worth (part_under of_part owner jobs part) (restricted part s)) parts
   worth_parted rules of_part parts s parted =
-      let split : sum_by (worth_to s) (enumerate_from 0 jobs) ≤ sum_by (λ part. sum_by (worth_to s) (part_jobs part)) parts =
+      let split : sum_by (worth_to s) (enumerate_from 0 jobs) ≤ sum_by
+      (λ part. sum_by (worth_to s) (part_jobs part)) parts =
       sum_parts (worth_to s) parts (enumerate_from 0 jobs) parted in
       let each : sum_by (λ part. sum_by (worth_to s) (part_jobs part)) parts
       ≤ sum_by (λ part. worth (part_under of_part owner jobs part) (restricted part s)) parts =
-      sum_le (λ part. sum_by (worth_to s) (part_jobs part)) (λ part. worth (part_under of_part owner jobs part) (restricted part s)) parts
+      sum_le (λ part. sum_by (worth_to s) (part_jobs part))
+      (λ part. worth (part_under of_part owner jobs part) (restricted part s)) parts
       (λ part member. worth_placed (place 0 (part_jobs part)) s 0 (part_jobs part) (part_placed part)) in
       omega arith
 
@@ -201,81 +233,104 @@ pub within_less : (k : Fraction) (c c2 a : ℕ) → c ≤ c2 → IsWithin k c2 a
 within_less k c c2 a less within =
     let times : k.q * c ≤ k.q * c2 = mul-le k.q c k.q c2 (omega arith) less in
     let low : k.q * c - (k.p + k.q) * a ≤ k.q * c2 - (k.p + k.q) * a = omega arith in
-    let square : (k.q * c - (k.p + k.q) * a) * (k.q * c - (k.p + k.q) * a) ≤ (k.q * c2 - (k.p + k.q) * a) * (k.q * c2 - (k.p + k.q) * a) =
+    let square : (k.q * c - (k.p + k.q) * a) * (k.q * c - (k.p + k.q) * a) ≤ (k.q * c2 - (k.p + k.q) * a)
+    * (k.q * c2 - (k.p + k.q) * a) =
     mul-le _ _ _ _ low low in omega (arith, within, square)
 
 -- what is within two values is together within their sum
 pub within_add : (k : Fraction) (c c2 a a2 : ℕ) → IsWithin k c a → IsWithin k c2 a2 → IsWithin k (c + c2) (a + a2)
-within_add k c c2 a a2 one other = by_excess (k.q * c - (k.p + k.q) * a) (k.q * c2 - (k.p + k.q) * a2) one other (omega arith) where
-  by_excess : (x x2 : ℕ) → x * x ≤ 4 * k.p * k.q * a * a → x2 * x2 ≤ 4 * k.p * k.q * a2 * a2
-      → k.q * (c + c2) - (k.p + k.q) * (a + a2) ≤ x + x2 → IsWithin k (c + c2) (a + a2)
-  by_excess x x2 one other most =
-      let both : (x + x2) * (x + x2) ≤ 4 * k.p * k.q * (a + a2) * (a + a2) = below_add (4 * k.p * k.q) x x2 a a2 one other in
-      let square : (k.q * (c + c2) - (k.p + k.q) * (a + a2)) * (k.q * (c + c2) - (k.p + k.q) * (a + a2)) ≤ (x + x2) * (x + x2) =
-      mul-le _ _ _ _ most most in omega (arith, both, square)
+within_add k c c2 a a2 one other =
+    by_excess (k.q * c - (k.p + k.q) * a) (k.q * c2 - (k.p + k.q) * a2) one other (omega arith) where
+      by_excess : (x x2 : ℕ) → x * x ≤ 4 * k.p * k.q * a * a → x2 * x2 ≤ 4 * k.p * k.q * a2 * a2
+          → k.q * (c + c2) - (k.p + k.q) * (a + a2) ≤ x + x2 → IsWithin k (c + c2) (a + a2)
+      by_excess x x2 one other most =
+          let both : (x + x2) * (x + x2) ≤ 4 * k.p * k.q * (a + a2) * (a + a2) =
+          below_add (4 * k.p * k.q) x x2 a a2 one other in
+          let square : (k.q * (c + c2) - (k.p + k.q) * (a + a2)) * (k.q * (c + c2) - (k.p + k.q) * (a + a2)) ≤ (x + x2)
+          * (x + x2) =
+          mul-le _ _ _ _ most most in omega (arith, both, square)
 
 -- and so are many
-pub within_sum : {X : Type 0} (k : Fraction) (f g : X → ℕ) (xs : List X) → Each (λ x. IsWithin k (f x) (g x)) xs → IsWithin k (sum_by f xs) (sum_by g xs)
-within_sum k f g [] all = (let none : k.q * 0 - (k.p + k.q) * 0 ≡ 0 = omega arith in subst (λ x. x * x ≤ 4 * k.p * k.q * 0 * 0) (sym none) (omega arith))
+pub within_sum : {X : Type 0} (k : Fraction) (f g : X → ℕ) (xs : List X) → Each (λ x. IsWithin k (f x) (g x)) xs
+    → IsWithin k (sum_by f xs) (sum_by g xs)
+within_sum k f g [] all =
+    (let none : k.q * 0 - (k.p + k.q) * 0 ≡ 0 = omega arith in
+    subst (λ x. x * x ≤ 4 * k.p * k.q * 0 * 0) (sym none) (omega arith))
 within_sum k f g (x ∷ xs) all = subst (λ c. IsWithin k c (sum_by g (x ∷ xs))) (sym (sum_by-cons f x xs))
     (subst (λ a. IsWithin k (f x + sum_by f xs) a) (sym (sum_by-cons g x xs))
-    (within_add k (f x) (sum_by f xs) (g x) (sum_by g xs) (all x (inl refl)) (within_sum k f g xs (λ y member. all y (inr member)))))
+    (within_add k (f x) (sum_by f xs) (g x) (sum_by g xs) (all x (inl refl))
+    (within_sum k f g xs (λ y member. all y (inr member)))))
 
 -- a run completes at most the sum of all values
 completed_most : (J : Instance) → IsValid J → completed_value J ≤ 10_000_000_000_000
 completed_most J valid =
-    let all : completed_value J + sum_by (λ i. i.abandoned) (intervals J) ≡ sum_by (λ j. j.value) J.jobs = intervals_abandon J valid in
+    let all : completed_value J + sum_by (λ i. i.abandoned) (intervals J) ≡ sum_by (λ j. j.value) J.jobs =
+    intervals_abandon J valid in
     omega (arith, valid.total)
 
 -- each schedule of a valid instance is worth at most its bound
 pub bound_most : (J : Instance) (s : List ℕ) → IsValid J → worth J s ≤ bound J.rules.ratio (completed_value J)
-bound_most J s valid = (bound-is J.rules.ratio (completed_value J) valid.ratio (completed_most J valid)).greatest (worth J s)
+bound_most J s valid = (bound-is J.rules.ratio (completed_value J) valid.ratio (completed_most J valid)).greatest
+    (worth J s)
     (le-leb _ _ (no_more J s valid))
 
 -- ---- the bound of parts
 
 -- with a ratio for all of them
-pub bound_parted : (rules : Rules) (owner : ℕ → ℕ) (parts : List ℕ) (jobs : List JobFacts) (s : List ℕ) → IsParted owner parts jobs
+pub bound_parted : (rules : Rules) (owner : ℕ → ℕ) (parts : List ℕ) (jobs : List JobFacts) (s : List ℕ)
+    → IsParted owner parts jobs
     → Each (λ part. IsValid (part_under (λ _. rules) owner jobs part)) parts
-    → IsWithin rules.ratio (worth (record { rules = rules; jobs = jobs }) s) (completed_in_parts (λ _. rules) owner parts jobs)
-bound_parted rules owner parts jobs s parted valid = within_less rules.ratio (worth (record { rules = rules; jobs = jobs }) s)
+    → IsWithin rules.ratio (worth (record { rules = rules; jobs = jobs }) s)
+    (completed_in_parts (λ _. rules) owner parts jobs)
+bound_parted rules owner parts jobs s parted valid =
+    within_less rules.ratio (worth (record { rules = rules; jobs = jobs }) s)
     (sum_by (λ part. worth (part_under (λ _. rules) owner jobs part) (restricted owner jobs part s)) parts)
     (completed_in_parts (λ _. rules) owner parts jobs) (worth_parted owner jobs rules (λ _. rules) parts s parted)
     (within_sum rules.ratio (λ part. worth (part_under (λ _. rules) owner jobs part) (restricted owner jobs part s))
     (λ part. completed_value (part_under (λ _. rules) owner jobs part)) parts
-    (λ part member. no_more (part_under (λ _. rules) owner jobs part) (restricted owner jobs part s) (valid part member)))
+    (λ part member. no_more (part_under (λ _. rules) owner jobs part) (restricted owner jobs part s)
+    (valid part member)))
 
 -- with a ratio for each
-pub bounds_parted : (J : Instance) (rules : ℕ → Rules) (owner : ℕ → ℕ) (parts : List ℕ) (s : List ℕ) → IsParted owner parts J.jobs
-    → Each (λ part. IsValid (part_under rules owner J.jobs part)) parts → worth J s ≤ bounds_of_parts rules owner parts J.jobs
+pub bounds_parted : (J : Instance) (rules : ℕ → Rules) (owner : ℕ → ℕ) (parts : List ℕ) (s : List ℕ)
+    → IsParted owner parts J.jobs
+    → Each (λ part. IsValid (part_under rules owner J.jobs part)) parts
+    → worth J s ≤ bounds_of_parts rules owner parts J.jobs
 bounds_parted J rules owner parts s parted valid =
-    let split : worth J s ≤ sum_by (λ part. worth (part_under rules owner J.jobs part) (restricted owner J.jobs part s)) parts =
+    let split : worth J s ≤ sum_by
+    (λ part. worth (part_under rules owner J.jobs part) (restricted owner J.jobs part s)) parts =
     worth_parted owner J.jobs J.rules rules parts s parted in
     let each : sum_by (λ part. worth (part_under rules owner J.jobs part) (restricted owner J.jobs part s)) parts
     ≤ bounds_of_parts rules owner parts J.jobs =
     sum_le (λ part. worth (part_under rules owner J.jobs part) (restricted owner J.jobs part s))
     (λ part. bound (rules part).ratio (completed_value (part_under rules owner J.jobs part))) parts
-    (λ part member. bound_most (part_under rules owner J.jobs part) (restricted owner J.jobs part s) (valid part member)) in
+    (λ part member. bound_most (part_under rules owner J.jobs part) (restricted owner J.jobs part s)
+    (valid part member)) in
     omega arith
 
 -- where one schedule serves all jobs, each part loses nothing
-pub meets_parted : (J : Instance) (rules : Rules) (owner : ℕ → ℕ) (part : ℕ) → Meets J → Meets (part_under (λ _. rules) owner J.jobs part)
+pub meets_parted : (J : Instance) (rules : Rules) (owner : ℕ → ℕ) (part : ℕ) → Meets J
+    → Meets (part_under (λ _. rules) owner J.jobs part)
 meets_parted J rules owner part meets = (
   restricted owner J.jobs part meets.0,
-  served_placed (place 0 (part_jobs owner J.jobs part)) meets.0 0 (part_jobs owner J.jobs part) (part_placed owner J.jobs part)
+  served_placed (place 0 (part_jobs owner J.jobs part)) meets.0 0 (part_jobs owner J.jobs part)
+      (part_placed owner J.jobs part)
       (λ n_j member. all_member (λ x. IsTrue (is_served meets.0 x)) (enumerate_from 0 J.jobs) meets.1 n_j
       (member_filter (λ x. eqb (owner x.0) part) (enumerate_from 0 J.jobs) n_j member).0),
 )
 
 -- so it completes all of its value
-pub part_loses_nothing : (J : Instance) (rules : Rules) (owner : ℕ → ℕ) (part : ℕ) → Meets J → IsValid (part_under (λ _. rules) owner J.jobs part)
+pub part_loses_nothing : (J : Instance) (rules : Rules) (owner : ℕ → ℕ) (part : ℕ) → Meets J
+    → IsValid (part_under (λ _. rules) owner J.jobs part)
     → completed_value (part_under (λ _. rules) owner J.jobs part) ≡ total_value (part_of owner part J.jobs)
-part_loses_nothing J rules owner part meets valid = all_value (part_under (λ _. rules) owner J.jobs part) valid (meets_parted J rules owner part meets)
+part_loses_nothing J rules owner part meets valid =
+    all_value (part_under (λ _. rules) owner J.jobs part) valid (meets_parted J rules owner part meets)
 
 -- ---- lists in turn
 
 -- numbers of one list behind another
-pub enumerate_append : (k : ℕ) (jobs more : List JobFacts) → enumerate_from k (jobs ++ more) ≡ enumerate_from k jobs ++ enumerate_from (k + length jobs) more
+pub enumerate_append : (k : ℕ) (jobs more : List JobFacts)
+    → enumerate_from k (jobs ++ more) ≡ enumerate_from k jobs ++ enumerate_from (k + length jobs) more
 enumerate_append k [] more = ap (λ m. enumerate_from m more) (omega arith)
 enumerate_append k (j ∷ jobs) more = ap (λ xs. (k, j) ∷ xs)
     (enumerate_append (k + 1) jobs more ∙ ap (λ m. enumerate_from (k + 1) jobs ++ enumerate_from m more) (omega arith))
@@ -286,7 +341,8 @@ sum_append f [] ys = omega arith
 sum_append f (x ∷ xs) ys = omega (arith, sum_by-cons f x (xs ++ ys), sum_by-cons f x xs, sum_append f xs ys)
 
 -- all of both
-all_append : (P : Job → Type 0) (xs ys : List Job) → AllByRecursion P (xs ++ ys) → AllByRecursion P xs × AllByRecursion P ys
+all_append : (P : Job → Type 0) (xs ys : List Job) → AllByRecursion P (xs ++ ys) → AllByRecursion P xs
+    × AllByRecursion P ys
 all_append P [] ys all = (tt, all)
 all_append P (x ∷ xs) ys all = let rest = all_append P xs ys all.1 in ((all.0, rest.0), rest.1)
 
@@ -300,7 +356,8 @@ placed_behind : (n k : ℕ) (more : List JobFacts) → AllPlaced (λ m. m - n) k
 placed_behind n k [] = tt
 placed_behind n k (j ∷ more) = (
   omega arith,
-  subst (λ m. AllPlaced (λ l. l - n) (k + 1) (enumerate_from m more)) (let e : n + (k + 1) ≡ n + k + 1 = omega arith in e) (placed_behind n (k + 1) more),
+  subst (λ m. AllPlaced (λ l. l - n) (k + 1) (enumerate_from m more))
+      (let e : n + (k + 1) ≡ n + k + 1 = omega arith in e) (placed_behind n (k + 1) more),
 )
 
 module _ (rules : Rules) where
@@ -310,33 +367,45 @@ module _ (rules : Rules) where
 
   -- a schedule of both lists is worth at most what it is worth to each
   pub worth_append : (jobs more : List JobFacts) (s : List ℕ)
-      → worth (of_rules (jobs ++ more)) s ≤ worth (of_rules jobs) s + worth (of_rules more) (map (λ m. m - length jobs) s)
+      → worth (of_rules (jobs ++ more)) s ≤ worth (of_rules jobs) s + worth (of_rules more)
+      (map (λ m. m - length jobs) s)
   worth_append jobs more s =
       let split : sum_by (worth_to s) (enumerate_from 0 (jobs ++ more))
       ≡ sum_by (worth_to s) (enumerate_from 0 jobs) + sum_by (worth_to s) (enumerate_from (0 + length jobs) more) =
-      ap (sum_by (worth_to s)) (enumerate_append 0 jobs more) ∙ sum_append (worth_to s) (enumerate_from 0 jobs) (enumerate_from (0 + length jobs) more) in
+      ap (sum_by (worth_to s)) (enumerate_append 0 jobs more)
+      ∙ sum_append (worth_to s) (enumerate_from 0 jobs) (enumerate_from (0 + length jobs) more) in
       let low : sum_by (worth_to s) (enumerate_from (length jobs + 0) more)
-      ≤ sum_by (worth_to (map (λ m. m - length jobs) s)) (enumerate_from 0 (map (λ (x : Job). x.1) (enumerate_from (length jobs + 0) more))) =
-      worth_placed (λ m. m - length jobs) s 0 (enumerate_from (length jobs + 0) more) (placed_behind (length jobs) 0 more) in
-      let same : sum_by (worth_to (map (λ m. m - length jobs) s)) (enumerate_from 0 (map (λ (x : Job). x.1) (enumerate_from (length jobs + 0) more)))
+      ≤ sum_by (worth_to (map (λ m. m - length jobs) s))
+      (enumerate_from 0 (map (λ (x : Job). x.1) (enumerate_from (length jobs + 0) more))) =
+      worth_placed (λ m. m - length jobs) s 0 (enumerate_from (length jobs + 0) more)
+      (placed_behind (length jobs) 0 more) in
+      let same : sum_by (worth_to (map (λ m. m - length jobs) s))
+      (enumerate_from 0 (map (λ (x : Job). x.1) (enumerate_from (length jobs + 0) more)))
       ≡ sum_by (worth_to (map (λ m. m - length jobs) s)) (enumerate_from 0 more) =
-      ap (λ js. sum_by (worth_to (map (λ m. m - length jobs) s)) (enumerate_from 0 js)) (jobs_alone (length jobs + 0) more) in
-      let first : sum_by (worth_to s) (enumerate_from (0 + length jobs) more) ≡ sum_by (worth_to s) (enumerate_from (length jobs + 0) more) =
+      ap (λ js. sum_by (worth_to (map (λ m. m - length jobs) s)) (enumerate_from 0 js))
+      (jobs_alone (length jobs + 0) more) in
+      let first : sum_by (worth_to s) (enumerate_from (0 + length jobs) more) ≡ sum_by (worth_to s)
+      (enumerate_from (length jobs + 0) more) =
       ap (λ m. sum_by (worth_to s) (enumerate_from m more)) (omega arith) in
       omega arith
 
   -- a schedule that serves both serves each
-  meets_append : (jobs more : List JobFacts) → Meets (of_rules (jobs ++ more)) → Meets (of_rules jobs) × Meets (of_rules more)
+  meets_append : (jobs more : List JobFacts) → Meets (of_rules (jobs ++ more)) → Meets (of_rules jobs)
+      × Meets (of_rules more)
   meets_append jobs more meets =
-      let both = all_append (λ n_j. IsTrue (is_served meets.0 n_j)) (enumerate_from 0 jobs) (enumerate_from (length jobs + 0) more)
+      let both = all_append (λ n_j. IsTrue (is_served meets.0 n_j)) (enumerate_from 0 jobs)
+      (enumerate_from (length jobs + 0) more)
       (subst (AllByRecursion (λ n_j. IsTrue (is_served meets.0 n_j)))
-      (enumerate_append 0 jobs more ∙ ap (λ m. enumerate_from 0 jobs ++ enumerate_from m more) (omega arith)) meets.1) in (
+      (enumerate_append 0 jobs more ∙ ap (λ m. enumerate_from 0 jobs ++ enumerate_from m more) (omega arith))
+      meets.1) in (
         (meets.0, both.0),
         (
           map (λ m. m - length jobs) meets.0,
-          subst (λ js. AllByRecursion (λ n_j. IsTrue (is_served (map (λ m. m - length jobs) meets.0) n_j)) (enumerate_from 0 js))
+          subst (λ js. AllByRecursion (λ n_j. IsTrue (is_served (map (λ m. m - length jobs) meets.0) n_j))
+              (enumerate_from 0 js))
               (jobs_alone (length jobs + 0) more)
-              (served_placed (λ m. m - length jobs) meets.0 0 (enumerate_from (length jobs + 0) more) (placed_behind (length jobs) 0 more)
+              (served_placed (λ m. m - length jobs) meets.0 0 (enumerate_from (length jobs + 0) more)
+              (placed_behind (length jobs) 0 more)
               (all_member (λ n_j. IsTrue (is_served meets.0 n_j)) (enumerate_from (length jobs + 0) more) both.1)),
         ),
       )
@@ -351,32 +420,39 @@ module _ (rules : Rules) where
       (within_less rules.ratio (worth (of_rules (jobs ++ in_turn lists)) s)
       (worth (of_rules jobs) s + worth (of_rules (in_turn lists)) (map (λ m. m - length jobs) s))
       (completed_value (of_rules jobs) + completed_in_turn rules lists) (worth_append jobs (in_turn lists) s)
-      (within_add rules.ratio (worth (of_rules jobs) s) (worth (of_rules (in_turn lists)) (map (λ m. m - length jobs) s))
-      (completed_value (of_rules jobs)) (completed_in_turn rules lists) (no_more (of_rules jobs) s (valid jobs (inl refl)))
+      (within_add rules.ratio (worth (of_rules jobs) s)
+      (worth (of_rules (in_turn lists)) (map (λ m. m - length jobs) s))
+      (completed_value (of_rules jobs)) (completed_in_turn rules lists)
+      (no_more (of_rules jobs) s (valid jobs (inl refl)))
       (bound_in_turn lists (map (λ m. m - length jobs) s) (λ js member. valid js (inr member)))))
 
   -- where one schedule serves all jobs, no list loses anything
-  pub none_lost_in_turn : (lists : List (List JobFacts)) → Each (λ jobs. IsValid (of_rules jobs)) lists → Meets (of_rules (in_turn lists))
+  pub none_lost_in_turn : (lists : List (List JobFacts)) → Each (λ jobs. IsValid (of_rules jobs)) lists
+      → Meets (of_rules (in_turn lists))
       → Each (λ jobs. Each (λ x. loses x.move ≡ false) (run (of_rules jobs))) lists
   none_lost_in_turn [] valid meets = λ jobs member. absurd member
   none_lost_in_turn (jobs ∷ lists) valid meets =
       let both = meets_append jobs (in_turn lists) meets in
-      each_cons jobs lists (λ js. Each (λ x. loses x.move ≡ false) (run (of_rules js))) (none_lost (of_rules jobs) (valid jobs (inl refl)) both.0)
+      each_cons jobs lists (λ js. Each (λ x. loses x.move ≡ false) (run (of_rules js)))
+      (none_lost (of_rules jobs) (valid jobs (inl refl)) both.0)
       (none_lost_in_turn lists (λ js member. valid js (inr member)) both.1) where
         each_cons : {X : Type 0} (x : X) (xs : List X) (P : X → Type 0) → P x → Each P xs → Each P (x ∷ xs)
         each_cons x xs P here more y (inl e) = subst P (sym e) here
         each_cons x xs P here more y (inr member) = more y member
 
   -- and together they complete the value of all
-  pub all_value_in_turn : (lists : List (List JobFacts)) → Each (λ jobs. IsValid (of_rules jobs)) lists → Meets (of_rules (in_turn lists))
+  pub all_value_in_turn : (lists : List (List JobFacts)) → Each (λ jobs. IsValid (of_rules jobs)) lists
+      → Meets (of_rules (in_turn lists))
       → completed_in_turn rules lists ≡ total_value (in_turn lists)
   all_value_in_turn [] valid meets = refl
   all_value_in_turn (jobs ∷ lists) valid meets =
       let both = meets_append jobs (in_turn lists) meets in
-      let here : completed_value (of_rules jobs) ≡ total_value jobs = all_value (of_rules jobs) (valid jobs (inl refl)) both.0 in
+      let here : completed_value (of_rules jobs) ≡ total_value jobs =
+      all_value (of_rules jobs) (valid jobs (inl refl)) both.0 in
       let rest : completed_in_turn rules lists ≡ total_value (in_turn lists) =
       all_value_in_turn lists (λ js member. valid js (inr member)) both.1 in
-      let sums : total_value (jobs ++ in_turn lists) ≡ total_value jobs + total_value (in_turn lists) = values_append jobs (in_turn lists) in
+      let sums : total_value (jobs ++ in_turn lists) ≡ total_value jobs + total_value (in_turn lists) =
+      values_append jobs (in_turn lists) in
       omega (arith, sum_by-cons (λ js. completed_value (of_rules js)) jobs lists) where
         values_append : (xs ys : List JobFacts) → total_value (xs ++ ys) ≡ total_value xs + total_value ys
         values_append [] ys = omega arith

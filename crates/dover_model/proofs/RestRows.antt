@@ -6,7 +6,8 @@ use Rattle.dover_model.specs.declared.events.Event.TheVariants.{Release, Run, Pr
 use Rattle.dover_model.specs.JobFacts.{JobFacts}
 use Rattle.dover_model.specs.Run.{printed, completed_value}
 use Rattle.dover_model.specs.Settled.{settled}
-use Rattle.dover_model.specs.Rest.{end_tick, behind, before_end, in_turn, printed_in_turn, completed_in_turn, anew, printed_anew}
+use Rattle.dover_model.specs.Rest.{end_tick, behind, before_end, in_turn, printed_in_turn, completed_in_turn, anew}
+use Rattle.dover_model.specs.Rest.{printed_anew}
 use Rattle.dover_model.specs.Parts.{part_of}
 use Rattle.dover_model.proofs.Written.{job, two}
 
@@ -23,11 +24,13 @@ abbrev early_events : List Event
 early_events = Release 0 (job 0 2 2 2) ∷ Run 0 0 ∷ Complete 2 0 ∷ []
 
 abbrev late_events : List Event
-late_events = Release 0 (job 2 3 6 3) ∷ Run 2 0 ∷ Release 1 (job 2 1 3 1) ∷ Preempt 2 0 1 ∷ Complete 3 1 ∷ Run 3 0 ∷ Complete 6 0 ∷ []
+late_events = Release 0 (job 2 3 6 3) ∷ Run 2 0 ∷ Release 1 (job 2 1 3 1) ∷ Preempt 2 0 1 ∷ Complete 3 1 ∷ Run 3 0
+    ∷ Complete 6 0 ∷ []
 
 -- and numbered behind the first job
 abbrev all_events : List Event
-all_events = Release 0 (job 0 2 2 2) ∷ Run 0 0 ∷ Complete 2 0 ∷ Release 1 (job 2 3 6 3) ∷ Run 2 1 ∷ Release 2 (job 2 1 3 1) ∷ Preempt 2 1 2
+all_events = Release 0 (job 0 2 2 2) ∷ Run 0 0 ∷ Complete 2 0 ∷ Release 1 (job 2 3 6 3) ∷ Run 2 1 ∷ Release 2
+    (job 2 1 3 1) ∷ Preempt 2 1 2
     ∷ Complete 3 2 ∷ Run 3 1 ∷ Complete 6 1 ∷ End 6 ∷ []
 
 ends_at : end_tick (two 1 1 early) ≡ 2
@@ -64,7 +67,8 @@ in_turn_completes : completed_in_turn (two 1 1 []).rules (early ∷ late ∷ [])
 in_turn_completes = refl
 
 -- a job that comes a tick before rest is printed among the others
-not_at_rest : printed (two 1 1 (early ++ (job 1 1 3 1 ∷ []))) ≡ Release 0 (job 0 2 2 2) ∷ Run 0 0 ∷ Release 1 (job 1 1 3 1) ∷ Complete 2 0 ∷ Run 2 1
+not_at_rest : printed (two 1 1 (early ++ (job 1 1 3 1 ∷ []))) ≡ Release 0 (job 0 2 2 2) ∷ Run 0 0 ∷ Release 1
+    (job 1 1 3 1) ∷ Complete 2 0 ∷ Run 2 1
     ∷ Complete 3 1 ∷ End 3 ∷ []
 not_at_rest = refl
 

@@ -1,5 +1,6 @@
 -- A run is at rest from the tick on at which it ends, and not before.
-use Rattle.std.proofs.Common.{◌≡◌, ℕ, ◌+◌, ◌≤◌, ◌<◌, ◌⊎◌, ◌↔◌, inl, inr, List, [], ◌∷◌, ◌++◌, map, refl, sym, ap, ◌∙◌, subst}
+use Rattle.std.proofs.Common.{◌≡◌, ℕ, ◌+◌, ◌≤◌, ◌<◌, ◌⊎◌, ◌↔◌, inl, inr, List, [], ◌∷◌, ◌++◌, map, refl, sym, ap, ◌∙◌}
+use Rattle.std.proofs.Common.{subst}
 use Rattle.std.proofs.Common.{Bool, true, false, cond, arith, eqb}
 use Rattle.std.specs.Prelude.{◌&&◌, nat_le}
 use Rattle.std.specs.Bool.{MatchBool}
@@ -20,7 +21,8 @@ use Rattle.dover_model.specs.Sound.{IsMember, Each, IsSound, Keeps}
 use Rattle.dover_model.specs.Rest.{IsAtRest, end_tick}
 use Rattle.dover_model.proofs.Members.{all_each, map_member}
 use Rattle.dover_model.proofs.Roles.{passes, one_number}
-use Rattle.dover_model.proofs.Deeds.{Deed, Completed, Resumed, Started, Began, Preempted, Stayed, Arrived, Taken, Abandoned, Rested, over_rests}
+use Rattle.dover_model.proofs.Deeds.{Deed, Completed, Resumed, Started, Began, Preempted, Stayed, Arrived, Taken}
+use Rattle.dover_model.proofs.Deeds.{Abandoned, Rested, over_rests}
 use Rattle.dover_model.proofs.Kept.{open_deed, open_kept, step_kept, opening_keeps}
 use Rattle.dover_model.proofs.Ending.{potential, clock_after, end_over, run_is_whole}
 use Rattle.dover_model.proofs.Settling.{settles, settled_is_run}
@@ -37,17 +39,20 @@ end_clock from xs = fold (λ clock step. step.before.clock) from xs
 -- the clock never goes back
 pub later_clock : (s : State) (m : Move) → s.clock ≤ (after s m).clock
 later_clock s m = by_clock (clock_after s m) where
-  by_clock : ((after s m).clock ≡ s.clock) ⊎ ((m ≡ Ticks) × ((after s m).clock ≡ s.clock + 1)) → s.clock ≤ (after s m).clock
+  by_clock : ((after s m).clock ≡ s.clock) ⊎ ((m ≡ Ticks) × ((after s m).clock ≡ s.clock + 1))
+      → s.clock ≤ (after s m).clock
   by_clock (inl e) = omega arith
   by_clock (inr it) = let e : (after s m).clock ≡ s.clock + 1 = it.1 in omega arith
 
 -- a whole run ends no sooner than it begins
-whole_clock : (rules : Rules) (zs : List Step) (s : State) (from : ℕ) → IsWholeRun rules s zs → s.clock ≤ end_clock from zs
+whole_clock : (rules : Rules) (zs : List Step) (s : State) (from : ℕ) → IsWholeRun rules s zs
+    → s.clock ≤ end_clock from zs
 whole_clock rules [] s from whole = absurd whole
 whole_clock rules (z ∷ zs) s from whole = subst (λ (y : Step). s.clock ≤ end_clock y.before.clock zs) (sym whole.0)
     (by_end (is_end (step rules s)) whole.1 (whole_clock rules zs (after s (step rules s)) s.clock)) where
       by_end : (b : Bool) → MatchBool b (zs ≡ []) (IsWholeRun rules (after s (step rules s)) zs)
-          → (IsWholeRun rules (after s (step rules s)) zs → (after s (step rules s)).clock ≤ end_clock s.clock zs) → s.clock ≤ end_clock s.clock zs
+          → (IsWholeRun rules (after s (step rules s)) zs → (after s (step rules s)).clock ≤ end_clock s.clock zs)
+          → s.clock ≤ end_clock s.clock zs
       by_end true none more = subst (λ xs. s.clock ≤ end_clock s.clock xs) (sym none) (omega arith)
       by_end false rest more = omega (arith, later_clock s (step rules s), more rest)
 
@@ -60,7 +65,11 @@ RunsOn s = (r : Task) × IsMember r s.tasks × (r.role ≡ Running) × (1 ≤ le
 module _ (k : Fraction) (s : State) (sound : IsSound s) where
   -- a change of another job's role leaves it so
   still : (x : Task) (new : Role) → IsMember x s.tasks → is_running x ≡ false → RunsOn s
-      → RunsOn (record { clock = s.clock; tasks = map (λ t. with_role t (cond (eqb t.number x.number) new t.role)) s.tasks })
+      → RunsOn (record {
+        clock = s.clock;
+        tasks =
+            map (λ t. with_role t (cond (eqb t.number x.number) new t.role)) s.tasks;
+      })
   still x new member out it = (
     with_role it.0 (cond (eqb it.0.number x.number) new it.0.role),
     map_member (λ t. with_role t (cond (eqb t.number x.number) new t.role)) s.tasks it.0 it.1,
@@ -73,7 +82,11 @@ module _ (k : Fraction) (s : State) (sound : IsSound s) where
 
   -- what takes the processor runs on
   taker : (x : Task) (others : Task → Role) → IsMember x s.tasks → 1 ≤ left x
-      → RunsOn (record { clock = s.clock; tasks = map (λ t. with_role t (cond (eqb t.number x.number) Running (others t))) s.tasks })
+      → RunsOn (record {
+        clock = s.clock;
+        tasks =
+            map (λ t. with_role t (cond (eqb t.number x.number) Running (others t))) s.tasks;
+      })
   taker x others member some = (
     with_role x (cond (eqb x.number x.number) Running (others x)),
     map_member (λ t. with_role t (cond (eqb t.number x.number) Running (others t))) s.tasks x member,
@@ -83,23 +96,27 @@ module _ (k : Fraction) (s : State) (sound : IsSound s) where
 
   -- a fresh job has something left
   fresh_left : (f : Task) → IsMember f s.tasks → f.role ≡ Fresh → 1 ≤ left f
-  fresh_left f member fresh = (subst (λ role. Rattle.dover_model.specs.Sound.FitsRole s.clock role f) fresh (sound.roles f member)).1
+  fresh_left f member fresh =
+      (subst (λ role. Rattle.dover_model.specs.Sound.FitsRole s.clock role f) fresh (sound.roles f member)).1
 
   -- so has a waiting one
   waiting_left : (x : Task) → IsMember x s.tasks → x.role ≡ Waiting → 1 ≤ left x
-  waiting_left x member waits = (subst (λ role. Rattle.dover_model.specs.Sound.FitsRole s.clock role x) waits (sound.roles x member)).0
+  waiting_left x member waits =
+      (subst (λ role. Rattle.dover_model.specs.Sound.FitsRole s.clock role x) waits (sound.roles x member)).0
 
   -- where a job runs on, it goes on, or a job runs on after the step
   goes_on : (other m : Move) → Deed k s other m → RunsOn s → (m ≡ other) ⊎ RunsOn (after s m)
   goes_on other m (Completed r member runs done) it = absurd (
-      let one : r ≡ it.0 = one_number 0 s.tasks sound.numbered r it.0 member it.1 (sound.one_runs r it.0 member it.1 runs it.2) in
+      let one : r ≡ it.0 = one_number 0 s.tasks sound.numbered r it.0 member it.1
+      (sound.one_runs r it.0 member it.1 runs it.2) in
       let some : 1 ≤ left r = subst (λ t. 1 ≤ left t) (sym one) it.3 in omega arith)
   goes_on other m (Resumed p member held none least why) it = absurd (none it.0 it.1 it.2)
   goes_on other m (Started o member waiting none first fits next) it = absurd (none it.0 it.1 it.2)
   goes_on other m (Began f member fresh none) it = absurd (none it.0 it.1 it.2)
   goes_on other m (Preempted r f member runs some f_member fresh before fits) it =
       inr (taker f (λ t. cond (eqb t.number r.number) Held t.role) f_member (fresh_left f f_member fresh))
-  goes_on other m (Stayed r f member runs some f_member fresh why) it = inr (still f Waiting f_member (passes is_running f Fresh false fresh refl) it)
+  goes_on other m (Stayed r f member runs some f_member fresh why) it =
+      inr (still f Waiting f_member (passes is_running f Fresh false fresh refl) it)
   goes_on other m (Arrived c member comes now first stale busy free) it =
       inr (still c Fresh member (passes is_running c Coming false comes refl) it)
   goes_on other m (Taken r x member runs some x_member waiting now stale heavy) it =
@@ -132,25 +149,32 @@ module _ (J : Instance) (valid : IsValid J) where
     by_all false some = step_open J.rules s some
 
   -- where a job runs on, the run ends at a later tick
-  ends_later : (zs : List Step) (s : State) (from : ℕ) → Keeps J s → RunsOn s → IsWholeRun J.rules s zs → s.clock + 1 ≤ end_clock from zs
+  ends_later : (zs : List Step) (s : State) (from : ℕ) → Keeps J s → RunsOn s → IsWholeRun J.rules s zs
+      → s.clock + 1 ≤ end_clock from zs
   ends_later [] s from keeps it whole = absurd whole
-  ends_later (z ∷ zs) s from keeps it whole = subst (λ (y : Step). s.clock + 1 ≤ end_clock y.before.clock zs) (sym whole.0)
+  ends_later (z ∷ zs) s from keeps it whole =
+      subst (λ (y : Step). s.clock + 1 ≤ end_clock y.before.clock zs) (sym whole.0)
       (by_end (is_end (step J.rules s)) refl whole.1
       (λ runs. ends_later zs (after s (step J.rules s)) s.clock (step_kept J valid s keeps J.rules) runs)) where
-        by_end : (b : Bool) → is_end (step J.rules s) ≡ b → MatchBool b (zs ≡ []) (IsWholeRun J.rules (after s (step J.rules s)) zs)
+        by_end : (b : Bool) → is_end (step J.rules s) ≡ b
+            → MatchBool b (zs ≡ []) (IsWholeRun J.rules (after s (step J.rules s)) zs)
             → (RunsOn (after s (step J.rules s)) → IsWholeRun J.rules (after s (step J.rules s)) zs
             → (after s (step J.rules s)).clock + 1 ≤ end_clock s.clock zs) → s.clock + 1 ≤ end_clock s.clock zs
-        by_end true last none more = never (sym (passes is_over it.0 Running false it.2 refl) ∙ (end_over J valid s keeps J.rules last).1 it.0 it.1)
+        by_end true last none more =
+            never (sym (passes is_over it.0 Running false it.2 refl)
+            ∙ (end_over J valid s keeps J.rules last).1 it.0 it.1)
         by_end false on rest more = by_goes (goes_on J.rules.ratio s keeps.sound Ticks (step J.rules s)
             (subst (Deed J.rules.ratio s Ticks) (sym (goes s keeps on)) (open_deed J valid s keeps J.rules)) it) where
-              by_goes : (step J.rules s ≡ Ticks) ⊎ RunsOn (after s (step J.rules s)) → s.clock + 1 ≤ end_clock s.clock zs
+              by_goes : (step J.rules s ≡ Ticks) ⊎ RunsOn (after s (step J.rules s))
+                  → s.clock + 1 ≤ end_clock s.clock zs
               by_goes (inl ticks) =
                   let next : (after s (step J.rules s)).clock ≡ s.clock + 1 = ap (λ m. (after s m).clock) ticks in
                   omega (arith, whole_clock J.rules zs (after s (step J.rules s)) s.clock rest)
               by_goes (inr runs) = omega (arith, later_clock s (step J.rules s), more runs rest)
 
   -- a run that ends by the mark is a path of open steps to where all jobs are over
-  comes_to_rest : (mark : ℕ) (zs : List Step) (s : State) (from : ℕ) → Keeps J s → IsWholeRun J.rules s zs → end_clock from zs ≤ mark
+  comes_to_rest : (mark : ℕ) (zs : List Step) (s : State) (from : ℕ) → Keeps J s → IsWholeRun J.rules s zs
+      → end_clock from zs ≤ mark
       → (t : State) × (xs : List Step) × IsOpenPath J.rules mark s xs t × Each (λ u. is_over u ≡ true) t.tasks
   comes_to_rest mark [] s from keeps whole low = absurd whole
   comes_to_rest mark (z ∷ zs) s from keeps whole low = by_end (is_end (step J.rules s)) refl whole.1
@@ -158,9 +182,11 @@ module _ (J : Instance) (valid : IsValid J) where
         ends : end_clock s.clock zs ≤ mark
         ends = subst (λ (y : Step). end_clock y.before.clock zs ≤ mark) whole.0 low
 
-        by_end : (b : Bool) → is_end (step J.rules s) ≡ b → MatchBool b (zs ≡ []) (IsWholeRun J.rules (after s (step J.rules s)) zs)
+        by_end : (b : Bool) → is_end (step J.rules s) ≡ b
+            → MatchBool b (zs ≡ []) (IsWholeRun J.rules (after s (step J.rules s)) zs)
             → (IsWholeRun J.rules (after s (step J.rules s)) zs → end_clock s.clock zs ≤ mark
-            → (t : State) × (xs : List Step) × IsOpenPath J.rules mark (after s (step J.rules s)) xs t × Each (λ u. is_over u ≡ true) t.tasks)
+            → (t : State) × (xs : List Step) × IsOpenPath J.rules mark (after s (step J.rules s)) xs t
+            × Each (λ u. is_over u ≡ true) t.tasks)
             → (t : State) × (xs : List Step) × IsOpenPath J.rules mark s xs t × Each (λ u. is_over u ≡ true) t.tasks
         by_end true last none more = (s, [], refl, (end_over J valid s keeps J.rules last).1)
         by_end false on rest more = let it = more rest ends in (
@@ -170,18 +196,21 @@ module _ (J : Instance) (valid : IsValid J) where
           it.3,
         ) where
           early : is_late (open_step J.rules s) ≡ true → s.clock < mark
-          early late = by_goes (late_goes J.rules.ratio s keeps.sound (open_step J.rules s) (open_deed J valid s keeps J.rules) late) where
-            by_goes : (open_step J.rules s ≡ Ticks) ⊎ RunsOn (after s (open_step J.rules s)) → s.clock < mark
-            by_goes (inl ticks) =
-                let next : (after s (step J.rules s)).clock ≡ s.clock + 1 = ap (λ m. (after s m).clock) (goes s keeps on ∙ ticks) in
-                omega (arith, whole_clock J.rules zs (after s (step J.rules s)) s.clock rest, ends)
-            by_goes (inr runs) = omega (
-              arith,
-              later_clock s (step J.rules s),
-              ends,
-              ends_later zs (after s (step J.rules s)) s.clock
-                  (step_kept J valid s keeps J.rules) (subst (λ m. RunsOn (after s m)) (sym (goes s keeps on)) runs) rest,
-            )
+          early late = by_goes (late_goes J.rules.ratio s keeps.sound (open_step J.rules s)
+              (open_deed J valid s keeps J.rules) late) where
+                by_goes : (open_step J.rules s ≡ Ticks) ⊎ RunsOn (after s (open_step J.rules s)) → s.clock < mark
+                by_goes (inl ticks) =
+                    let next : (after s (step J.rules s)).clock ≡ s.clock + 1 =
+                    ap (λ m. (after s m).clock) (goes s keeps on ∙ ticks) in
+                    omega (arith, whole_clock J.rules zs (after s (step J.rules s)) s.clock rest, ends)
+                by_goes (inr runs) = omega (
+                  arith,
+                  later_clock s (step J.rules s),
+                  ends,
+                  ends_later zs (after s (step J.rules s)) s.clock
+                      (step_kept J valid s keeps J.rules)
+                      (subst (λ m. RunsOn (after s m)) (sym (goes s keeps on)) runs) rest,
+                )
 
           before : IsBefore J.rules mark s
           before = by_late (is_late (open_step J.rules s)) refl where
@@ -190,11 +219,13 @@ module _ (J : Instance) (valid : IsValid J) where
             by_late false late = refl
 
   -- where all jobs are over, they stay so up to the barrier
-  stays_over : (mark : ℕ) (xs : List Step) (s : State) → Keeps J s → Each (λ t. is_over t ≡ true) s.tasks → IsSettledRun J.rules mark s xs
+  stays_over : (mark : ℕ) (xs : List Step) (s : State) → Keeps J s → Each (λ t. is_over t ≡ true) s.tasks
+      → IsSettledRun J.rules mark s xs
       → Each (λ t. is_over t ≡ true) (state_after s xs).tasks
   stays_over mark [] s keeps over settled = over
   stays_over mark (x ∷ xs) s keeps over settled =
-      let ticks : open_step J.rules s ≡ Ticks = over_rests J.rules.ratio s Ticks over (open_step J.rules s) (open_deed J valid s keeps J.rules) in
+      let ticks : open_step J.rules s ≡ Ticks =
+      over_rests J.rules.ratio s Ticks over (open_step J.rules s) (open_deed J valid s keeps J.rules) in
       subst (λ (y : Step). Each (λ t. is_over t ≡ true) (state_after (after y.before y.move) xs).tasks) (sym settled.0)
       (stays_over mark xs (after s (open_step J.rules s)) (open_kept J valid s keeps J.rules)
       (subst (λ m. Each (λ t. is_over t ≡ true) (after s m).tasks) (sym ticks) (over_ticked s over)) settled.2)
@@ -210,12 +241,14 @@ module _ (J : Instance) (valid : IsValid J) where
       let it = comes_to_rest m (run J) (opening J.jobs) 0 (opening_keeps J) (run_is_whole J valid) low in
       let keeps : Keeps J it.0 = path_keeps J valid m it.1 (opening J.jobs) it.0 (opening_keeps J) it.2 in
       let rest = settles J valid J.rules m (potential m it.0) it.0 keeps (omega arith) in
-      let all : settled_steps J m ≡ it.1 ++ rest.0 = one_settled_run J.rules m (settled_steps J m) (it.1 ++ rest.0) (opening J.jobs)
+      let all : settled_steps J m ≡ it.1 ++ rest.0 =
+      one_settled_run J.rules m (settled_steps J m) (it.1 ++ rest.0) (opening J.jobs)
       (settled_is_run J m valid) (path_then_settled J.rules m it.1 rest.0 (opening J.jobs) it.0 it.2 rest.1) in
       let same : settled_state J m ≡ state_after it.0 rest.0 =
       ap (state_after (opening J.jobs)) all ∙ after_both it.1 rest.0 (opening J.jobs)
       ∙ ap (λ s. state_after s rest.0) (path_state J.rules m it.1 (opening J.jobs) it.0 it.2) in
-      subst (λ (s : State). Each (λ t. is_over t ≡ true) s.tasks) (sym same) (stays_over m rest.0 it.0 keeps it.3 rest.1)
+      subst (λ (s : State). Each (λ t. is_over t ≡ true) s.tasks) (sym same)
+      (stays_over m rest.0 it.0 keeps it.3 rest.1)
 
   -- ---- and not before
 
@@ -223,19 +256,23 @@ module _ (J : Instance) (valid : IsValid J) where
   path_rises : (mark : ℕ) (xs : List Step) (s t : State) → IsOpenPath J.rules mark s xs t → s.clock ≤ t.clock
   path_rises mark [] s t here = subst (λ (z : State). s.clock ≤ z.clock) (sym here) (omega arith)
   path_rises mark (x ∷ xs) s t path =
-      let rest : (after s (open_step J.rules s)).clock ≤ t.clock = path_rises mark xs (after s (open_step J.rules s)) t path.2 in
+      let rest : (after s (open_step J.rules s)).clock ≤ t.clock =
+      path_rises mark xs (after s (open_step J.rules s)) t path.2 in
       omega (arith, later_clock s (open_step J.rules s))
 
   -- where all jobs are over, the run ends
-  ends_here : (z : Step) (zs : List Step) (s : State) → Keeps J s → Each (λ t. is_over t ≡ true) s.tasks → IsWholeRun J.rules s (z ∷ zs)
+  ends_here : (z : Step) (zs : List Step) (s : State) → Keeps J s → Each (λ t. is_over t ≡ true) s.tasks
+      → IsWholeRun J.rules s (z ∷ zs)
       → (from : ℕ) → end_clock from (z ∷ zs) ≡ s.clock
   ends_here z zs s keeps over whole from =
       let last : is_end (step J.rules s) ≡ true = ap is_end (end_step J valid s keeps over) in
-      let none : zs ≡ [] = subst (λ b. MatchBool b (zs ≡ []) (IsWholeRun J.rules (after s (step J.rules s)) zs)) last whole.1 in
+      let none : zs ≡ [] = subst
+      (λ b. MatchBool b (zs ≡ []) (IsWholeRun J.rules (after s (step J.rules s)) zs)) last whole.1 in
       ap (end_clock z.before.clock) none ∙ ap (λ (y : Step). y.before.clock) whole.0
 
   -- the run ends by the clock of a state where all jobs are over
-  ends_by : (mark : ℕ) (xs zs : List Step) (s t : State) → Keeps J s → IsOpenPath J.rules mark s xs t → Each (λ u. is_over u ≡ true) t.tasks
+  ends_by : (mark : ℕ) (xs zs : List Step) (s t : State) → Keeps J s → IsOpenPath J.rules mark s xs t
+      → Each (λ u. is_over u ≡ true) t.tasks
       → IsWholeRun J.rules s zs → (from : ℕ) → end_clock from zs ≤ t.clock
   ends_by mark xs [] s t keeps path over whole from = absurd whole
   ends_by mark [] (z ∷ zs) s t keeps here over whole from =
@@ -245,24 +282,30 @@ module _ (J : Instance) (valid : IsValid J) where
   ends_by mark (x ∷ xs) (z ∷ zs) s t keeps path over whole from = by_all (list_all is_over s.tasks) refl
       (ends_by mark xs zs (after s (open_step J.rules s)) t (open_kept J valid s keeps J.rules) path.2 over) where
         by_all : (b : Bool) → list_all is_over s.tasks ≡ b
-            → (IsWholeRun J.rules (after s (open_step J.rules s)) zs → (next : ℕ) → end_clock next zs ≤ t.clock) → end_clock from (z ∷ zs) ≤ t.clock
+            → (IsWholeRun J.rules (after s (open_step J.rules s)) zs → (next : ℕ) → end_clock next zs ≤ t.clock)
+            → end_clock from (z ∷ zs) ≤ t.clock
         by_all true all more =
-            let same : end_clock from (z ∷ zs) ≡ s.clock = ends_here z zs s keeps (all_each is_over s.tasks all) whole from in
+            let same : end_clock from (z ∷ zs) ≡ s.clock =
+            ends_here z zs s keeps (all_each is_over s.tasks all) whole from in
             let low : s.clock ≤ t.clock = path_rises mark (x ∷ xs) s t path in omega arith
         by_all false some more = by_end (is_end (step J.rules s)) refl whole.1 where
-          by_end : (b : Bool) → is_end (step J.rules s) ≡ b → MatchBool b (zs ≡ []) (IsWholeRun J.rules (after s (step J.rules s)) zs)
+          by_end : (b : Bool) → is_end (step J.rules s) ≡ b
+              → MatchBool b (zs ≡ []) (IsWholeRun J.rules (after s (step J.rules s)) zs)
               → end_clock z.before.clock zs ≤ t.clock
           by_end true last none = never (sym some ∙ all_over s.tasks (end_over J valid s keeps J.rules last).1) where
             all_over : (tasks : List Task) → Each (λ u. is_over u ≡ true) tasks → list_all is_over tasks ≡ true
             all_over [] each = refl
-            all_over (u ∷ tasks) each = ap (λ b. b && list_all is_over tasks) (each u (inl refl)) ∙ all_over tasks (λ v member. each v (inr member))
-          by_end false on rest = more (subst (λ m. IsWholeRun J.rules (after s m) zs) (step_open J.rules s some) rest) z.before.clock
+            all_over (u ∷ tasks) each = ap (λ b. b && list_all is_over tasks) (each u (inl refl))
+                ∙ all_over tasks (λ v member. each v (inr member))
+          by_end false on rest = more
+              (subst (λ m. IsWholeRun J.rules (after s m) zs) (step_open J.rules s some) rest) z.before.clock
 
   -- where it is at rest, it has ended
   pub ended_by : (m : ℕ) → IsAtRest J m → end_tick J ≤ m
   ended_by m rest =
       let r : Rests J 0 m = at_rest J valid 0 m (λ j member. omega arith) (omega arith) rest in
-      let low : end_tick J ≤ r.last.clock = ends_by m r.steps (run J) (opening J.jobs) r.last (opening_keeps J) r.path r.over (run_is_whole J valid) 0 in
+      let low : end_tick J ≤ r.last.clock =
+      ends_by m r.steps (run J) (opening J.jobs) r.last (opening_keeps J) r.path r.over (run_is_whole J valid) 0 in
       omega (arith, r.clock)
 
 -- both

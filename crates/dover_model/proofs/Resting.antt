@@ -1,5 +1,6 @@
 -- A run falls apart at a moment of rest.
-use Rattle.std.proofs.Common.{◌≡◌, ℕ, zero, suc, length-append, ◌+◌, ◌-◌, ◌*◌, ◌≤◌, ◌<◌, inl, inr, List, [], ◌∷◌, ◌++◌, length, map, refl, sym, ap, ◌∙◌, subst, append-nil}
+use Rattle.std.proofs.Common.{◌≡◌, ℕ, zero, suc, length-append, ◌+◌, ◌-◌, ◌*◌, ◌≤◌, ◌<◌, inl, inr, List, [], ◌∷◌, ◌++◌}
+use Rattle.std.proofs.Common.{length, map, refl, sym, ap, ◌∙◌, subst, append-nil}
 use Rattle.std.proofs.Common.{Bool, true, false, cond, arith}
 use Rattle.std.specs.Prelude.{◌&&◌, nat_le}
 use Rattle.std.specs.Bool.{MatchBool, then_some}
@@ -11,9 +12,11 @@ use Rattle.dover_model.specs.declared.events.Event.TheVariants.{End}
 use Rattle.dover_model.specs.declared.events.Role.TheVariants.{Coming, Fresh, Waiting, Running}
 use Rattle.dover_model.specs.declared.events.Task.{Task}
 use Rattle.dover_model.specs.Instance.{Rules, Instance, IsValid, with_jobs}
-use Rattle.dover_model.specs.State.{State, with_later, opening, to_come, is_over, is_done, is_ready_behind, is_running, is_fresh, is_waiting, value_sum}
+use Rattle.dover_model.specs.State.{State, with_later, opening, to_come, is_over, is_done, is_ready_behind, is_running}
+use Rattle.dover_model.specs.State.{is_fresh, is_waiting, value_sum}
 use Rattle.dover_model.specs.Step.{Prints, Ticks, step, open_step, after, ending, ◌or_else◌, ticked}
-use Rattle.dover_model.specs.Run.{Step, is_end, event_of, printed_of, printed, run, last_deadline, enough, completed_value}
+use Rattle.dover_model.specs.Run.{Step, is_end, event_of, printed_of, printed, run, last_deadline, enough}
+use Rattle.dover_model.specs.Run.{completed_value}
 use Rattle.dover_model.specs.Settled.{is_late, settled, settled_steps, settled_state, AllComeFrom}
 use Rattle.dover_model.specs.WholeRun.{open_at, step_at, IsWholeRun, IsBarrier, IsBefore, IsSettledRun}
 use Rattle.dover_model.specs.Paths.{IsOpenPath, IsPath, HasPrinted}
@@ -31,7 +34,7 @@ use Rattle.dover_model.proofs.RunLaws.{enough_fuel}
 use Rattle.dover_model.proofs.Settling.{late_early, settles, settled_is_run}
 use Rattle.dover_model.proofs.Barriers.{AtBarrier, settled_at_barrier}
 use Rattle.dover_model.proofs.Later.{same_step}
-use Rattle.dover_model.proofs.Prefixes.{same_after, step_open, open_goes_on, come_from}
+use Rattle.dover_model.proofs.Prefixes.{same_after, step_open, open_goes_on, come_from, come_append}
 use Rattle.dover_model.proofs.Runs.{printed_append, last_value, value_last}
 use Rattle.dover_model.proofs.Honest.{numbers_low, count_jobs}
 use Rattle.dover_model.proofs.Paths.{path_append, path_settles, one_settled_run, printed_then_run, closed_then_run}
@@ -55,12 +58,6 @@ come_shift n m [] = refl
 come_shift n m (j ∷ jobs) = ap (λ ts. record { number = n + m; job = j; role = Coming; had = 0 } ∷ ts)
     (ap (λ k. to_come k jobs) (omega arith) ∙ come_shift n (suc m) jobs)
 
--- and those behind them
-pub come_append : (n : ℕ) (jobs more : List JobFacts) → to_come n (jobs ++ more) ≡ to_come n jobs ++ to_come (n + length jobs) more
-come_append n [] more = ap (λ m. to_come m more) (omega arith)
-come_append n (j ∷ jobs) more = ap (λ ts. record { number = n; job = j; role = Coming; had = 0 } ∷ ts)
-    (come_append (suc n) jobs more ∙ ap (λ m. to_come (suc n) jobs ++ to_come m more) (omega arith))
-
 -- no number is below the first
 pub come_above : (n : ℕ) (jobs : List JobFacts) → Each (λ t. n ≤ t.number) (to_come n jobs)
 come_above n [] t member = absurd member
@@ -69,7 +66,8 @@ come_above n (j ∷ jobs) t (inr member) = let later : suc n ≤ t.number = come
 
 -- every number is below the count of the jobs
 pub numbers_below : (J : Instance) (s : State) → Keeps J s → Each (λ t. t.number < length J.jobs) s.tasks
-numbers_below J s keeps t member = omega (arith, numbers_low 0 s.tasks keeps.sound.numbered t member, count_jobs s.tasks, ap length keeps.jobs)
+numbers_below J s keeps t member =
+    omega (arith, numbers_low 0 s.tasks keeps.sound.numbered t member, count_jobs s.tasks, ap length keeps.jobs)
 
 -- so those behind have others
 pub numbers_apart : (J : Instance) (s : State) → Keeps J s → (more : List JobFacts) (t u : Task) → IsMember t s.tasks
@@ -113,13 +111,15 @@ dues_from a (j ∷ jobs) = let here : a ≤ later_due a j = (due_least a j).0 in
     let rest : later_due a j ≤ fold later_due (later_due a j) jobs = dues_from (later_due a j) jobs in omega arith
 
 -- one list after another
-dues_append : (a : ℕ) (jobs more : List JobFacts) → fold later_due a (jobs ++ more) ≡ fold later_due (fold later_due a jobs) more
+dues_append : (a : ℕ) (jobs more : List JobFacts)
+    → fold later_due a (jobs ++ more) ≡ fold later_due (fold later_due a jobs) more
 dues_append a [] more = refl
 dues_append a (j ∷ jobs) more = dues_append (later_due a j) jobs more
 
 -- the last deadline of more jobs is no sooner
 last_more : (jobs more : List JobFacts) → last_deadline more ≤ last_deadline (jobs ++ more)
-last_more jobs more = subst (λ d. last_deadline more ≤ d) (sym (dues_append 0 jobs more)) (dues_mono 0 (fold later_due 0 jobs) more (omega arith))
+last_more jobs more = subst (λ d. last_deadline more ≤ d) (sym (dues_append 0 jobs more))
+    (dues_mono 0 (fold later_due 0 jobs) more (omega arith))
 
 -- the last deadline is no sooner than the first job's
 last_first : (j : JobFacts) (jobs : List JobFacts) → j.deadline ≤ last_deadline (j ∷ jobs)
@@ -136,22 +136,28 @@ module _ (J : Instance) (valid : IsValid J) (m : ℕ) (late : NoneBefore m J.job
   -- nothing is due before m
   nothing_due : NothingDue m (opening J.jobs)
   nothing_due = record {
-    none_fresh = λ t member fresh. never (sym (passes is_fresh t Coming false (come_not t member) refl) ∙ passes is_fresh t Fresh true fresh refl);
-    running = λ t member runs. never (sym (passes is_running t Coming false (come_not t member) refl) ∙ passes is_running t Running true runs refl);
-    waiting = λ t member waits. never (sym (passes is_waiting t Coming false (come_not t member) refl) ∙ passes is_waiting t Waiting true waits refl);
+    none_fresh = λ t member fresh. never
+        (sym (passes is_fresh t Coming false (come_not t member) refl) ∙ passes is_fresh t Fresh true fresh refl);
+    running = λ t member runs. never
+        (sym (passes is_running t Coming false (come_not t member) refl) ∙ passes is_running t Running true runs refl);
+    waiting = λ t member waits. never
+        (sym (passes is_waiting t Coming false (come_not t member) refl) ∙ passes is_waiting t Waiting true waits refl);
     coming = λ t member comes. let at : m ≤ t.job.release = (come_from m 0 J.jobs late).1 t member in omega arith;
-    busy = λ none t member behind. never (sym (passes is_ready_behind t Coming false (come_not t member) refl) ∙ behind);
+    busy = λ none t member behind. never
+        (sym (passes is_ready_behind t Coming false (come_not t member) refl) ∙ behind);
   }
 
   -- ticks leave the jobs to come as they are
   come_ticked : (i n : ℕ) (jobs : List JobFacts) → map (ticked_by i) (to_come n jobs) ≡ to_come n jobs
   come_ticked i n [] = refl
-  come_ticked i n (j ∷ jobs) = ap (λ ts. record { number = n; job = j; role = Coming; had = 0 } ∷ ts) (come_ticked i (suc n) jobs)
+  come_ticked i n (j ∷ jobs) =
+      ap (λ ts. record { number = n; job = j; role = Coming; had = 0 } ∷ ts) (come_ticked i (suc n) jobs)
 
   -- so does one
   come_tick : (n : ℕ) (jobs : List JobFacts) → map ticked (to_come n jobs) ≡ to_come n jobs
   come_tick n [] = refl
-  come_tick n (j ∷ jobs) = ap (λ ts. record { number = n; job = j; role = Coming; had = 0 } ∷ ts) (come_tick (suc n) jobs)
+  come_tick n (j ∷ jobs) =
+      ap (λ ts. record { number = n; job = j; role = Coming; had = 0 } ∷ ts) (come_tick (suc n) jobs)
 
   -- the opening after i ticks
   later_opening : (i : ℕ) → later_by i (opening J.jobs) ≡ at_tick i J.jobs
@@ -160,7 +166,8 @@ module _ (J : Instance) (valid : IsValid J) (m : ℕ) (late : NoneBefore m J.job
 
   -- it is sound
   pub tick_keeps : (i : ℕ) → i ≤ m → Keeps J (at_tick i J.jobs)
-  tick_keeps i low = subst (Keeps J) (later_opening i) (later_keeps J valid (opening J.jobs) (opening_keeps J) m nothing_due i low)
+  tick_keeps i low = subst (Keeps J) (later_opening i)
+      (later_keeps J valid (opening J.jobs) (opening_keeps J) m nothing_due i low)
 
   -- its step is a silent tick
   tick_ticks : (i : ℕ) → i < m → open_step J.rules (at_tick i J.jobs) ≡ Ticks
@@ -169,12 +176,14 @@ module _ (J : Instance) (valid : IsValid J) (m : ℕ) (late : NoneBefore m J.job
 
   -- silent ticks lead on to m
   pub ticks_path : (mark : ℕ) → m ≤ mark → (k i : ℕ) → i + k ≡ m
-      → (xs : List Step) × IsOpenPath J.rules mark (at_tick i J.jobs) xs (at_tick m J.jobs) × (printed_of xs ≡ []) × (length xs ≡ k)
+      → (xs : List Step) × IsOpenPath J.rules mark (at_tick i J.jobs) xs (at_tick m J.jobs) × (printed_of xs ≡ [])
+      × (length xs ≡ k)
   ticks_path mark low zero i here = ([], ap (λ clock. at_tick clock J.jobs) (omega (arith, here)), refl, refl)
   ticks_path mark low (suc k) i here =
       let ticks : open_step J.rules (at_tick i J.jobs) ≡ Ticks = tick_ticks i (omega (arith, here)) in
       let next : after (at_tick i J.jobs) (open_step J.rules (at_tick i J.jobs)) ≡ at_tick (i + 1) J.jobs =
-      ap (after (at_tick i J.jobs)) ticks ∙ ap (λ tasks. let s : State = record { clock = i + 1; tasks = tasks } in s) (come_tick 0 J.jobs) in
+      ap (after (at_tick i J.jobs)) ticks
+      ∙ ap (λ tasks. let s : State = record { clock = i + 1; tasks = tasks } in s) (come_tick 0 J.jobs) in
       let rest = ticks_path mark low k (i + 1) (omega (arith, here)) in (
         open_at J.rules (at_tick i J.jobs) ∷ rest.0,
         (
@@ -188,7 +197,8 @@ module _ (J : Instance) (valid : IsValid J) (m : ℕ) (late : NoneBefore m J.job
 
   -- what is printed by m: nothing
   pub printed_none : HasPrinted J m (at_tick m J.jobs) []
-  printed_none = let it = ticks_path m (omega arith) m 0 (omega arith) in record { steps = it.0; path = it.1; prints = it.2 }
+  printed_none = let it = ticks_path m (omega arith) m 0 (omega arith) in
+      record { steps = it.0; path = it.1; prints = it.2 }
 
   -- all jobs weigh five, at each tick
   come_weighs : weights (at_tick m J.jobs) ≡ 5 * length J.jobs
@@ -198,14 +208,21 @@ module _ (J : Instance) (valid : IsValid J) (m : ℕ) (late : NoneBefore m J.job
   -- a valid instance by itself
   pub alone : RunsFrom J.rules m J.jobs (printed J)
   alone =
-      let it = ends J valid J.rules (potential (last_deadline J.jobs) (at_tick m J.jobs)) (at_tick m J.jobs) (tick_keeps m (omega arith)) (omega arith) in
-      (it.0, it.1, omega (arith, it.2, come_weighs), sym (printed_then_run J m (at_tick m J.jobs) [] it.0 valid printed_none it.1))
+      let it = ends J valid J.rules (potential (last_deadline J.jobs) (at_tick m J.jobs)) (at_tick m J.jobs)
+      (tick_keeps m (omega arith)) (omega arith) in (
+        it.0,
+        it.1,
+        omega (arith, it.2, come_weighs),
+        sym (printed_then_run J m (at_tick m J.jobs) [] it.0 valid printed_none it.1),
+      )
 
   -- the open steps from m on, up to the barrier of a later mark
   pub settles_from : (mark : ℕ) → m ≤ mark
-      → (xs : List Step) × IsSettledRun J.rules mark (at_tick m J.jobs) xs × (length xs ≤ (mark - m) + 5 * length J.jobs)
+      → (xs : List Step) × IsSettledRun J.rules mark (at_tick m J.jobs) xs
+      × (length xs ≤ (mark - m) + 5 * length J.jobs)
   settles_from mark low =
-      let it = settles J valid J.rules mark (potential mark (at_tick m J.jobs)) (at_tick m J.jobs) (tick_keeps m (omega arith)) (omega arith) in
+      let it = settles J valid J.rules mark (potential mark (at_tick m J.jobs)) (at_tick m J.jobs)
+      (tick_keeps m (omega arith)) (omega arith) in
       (it.0, it.1, omega (arith, it.2, come_weighs))
 
 -- ---- a settled run is a path to its barrier
@@ -215,7 +232,8 @@ abbrev pub state_after : State → List Step → State
 state_after s xs = fold (λ s step. after step.before step.move) s xs
 
 -- the end of a path
-pub path_state : (rules : Rules) (mark : ℕ) (xs : List Step) (s t : State) → IsOpenPath rules mark s xs t → state_after s xs ≡ t
+pub path_state : (rules : Rules) (mark : ℕ) (xs : List Step) (s t : State) → IsOpenPath rules mark s xs t
+    → state_after s xs ≡ t
 path_state rules mark [] s t here = sym here
 path_state rules mark (x ∷ xs) s t path = ap (λ (y : Step). state_after (after y.before y.move) xs) path.0
     ∙ path_state rules mark xs (after s (open_step rules s)) t path.2
@@ -224,19 +242,22 @@ path_state rules mark (x ∷ xs) s t path = ap (λ (y : Step). state_after (afte
 pub settled_path : (rules : Rules) (mark : ℕ) (xs : List Step) (s : State) → IsSettledRun rules mark s xs
     → (t : State) × IsOpenPath rules mark s xs t × IsBarrier rules mark t
 settled_path rules mark [] s run = (s, refl, run)
-settled_path rules mark (x ∷ xs) s run = let it = settled_path rules mark xs (after s (open_step rules s)) run.2 in (it.0, (run.0, run.1, it.1), it.2)
+settled_path rules mark (x ∷ xs) s run = let it = settled_path rules mark xs (after s (open_step rules s)) run.2 in
+    (it.0, (run.0, run.1, it.1), it.2)
 
 -- ---- with jobs to come behind, the closed steps are the open ones
 
 -- not all are over
-not_over : (tasks : List Task) (k : Task) (more : List Task) → is_over k ≡ false → list_all is_over (tasks ++ (k ∷ more)) ≡ false
+not_over : (tasks : List Task) (k : Task) (more : List Task) → is_over k ≡ false
+    → list_all is_over (tasks ++ (k ∷ more)) ≡ false
 not_over [] k more out = ap (λ b. b && list_all is_over more) out
 not_over (t ∷ tasks) k more out = ap (λ b. is_over t && b) (not_over tasks k more out) ∙ by_test (is_over t) where
   by_test : (b : Bool) → (b && false) ≡ false
   by_test true = refl
   by_test false = refl
 
-module _ (J : Instance) (valid : IsValid J) (mark : ℕ) (j : JobFacts) (js : List JobFacts) (late : NoneBefore mark (j ∷ js)) where
+module _ (J : Instance) (valid : IsValid J) (mark : ℕ) (j : JobFacts) (js : List JobFacts)
+    (late : NoneBefore mark (j ∷ js)) where
   -- the jobs behind
   abbrev ks : List Task
   ks = to_come (length J.jobs) (j ∷ js)
@@ -252,13 +273,16 @@ module _ (J : Instance) (valid : IsValid J) (mark : ℕ) (j : JobFacts) (js : Li
 
   -- all steps of a path
   pub path_behind : (xs : List Step) (s t : State) → Keeps J s → IsOpenPath J.rules mark s xs t
-      → (ys : List Step) × IsPath J.rules (with_later s ks) ys (with_later t ks) × (length ys ≡ length xs) × (printed_of ys ≡ printed_of xs)
+      → (ys : List Step) × IsPath J.rules (with_later s ks) ys (with_later t ks) × (length ys ≡ length xs)
+      × (printed_of ys ≡ printed_of xs)
   path_behind [] s t keeps here = ([], ap (λ z. with_later z ks) here, refl, refl)
   path_behind (x ∷ xs) s t keeps path =
       let same : step J.rules (with_later s ks) ≡ open_step J.rules s = step_behind s keeps path.1 in
-      let next : after (with_later s ks) (step J.rules (with_later s ks)) ≡ with_later (after s (open_step J.rules s)) ks =
+      let next : after (with_later s ks) (step J.rules (with_later s ks)) ≡ with_later
+      (after s (open_step J.rules s)) ks =
       ap (after (with_later s ks)) same
-      ∙ same_after J.rules.ratio s ks come.0 (numbers_apart J s keeps (j ∷ js)) (open_step J.rules s) (open_deed J valid s keeps J.rules) in
+      ∙ same_after J.rules.ratio s ks come.0 (numbers_apart J s keeps (j ∷ js)) (open_step J.rules s)
+      (open_deed J valid s keeps J.rules) in
       let rest = path_behind xs (after s (open_step J.rules s)) t (open_kept J valid s keeps J.rules) path.2 in (
         step_at J.rules (with_later s ks) ∷ rest.0,
         (
@@ -267,7 +291,8 @@ module _ (J : Instance) (valid : IsValid J) (mark : ℕ) (j : JobFacts) (js : Li
           subst (λ z. IsPath J.rules z rest.0 (with_later t ks)) (sym next) rest.1,
         ),
         omega (arith, rest.2),
-        ap (λ m. cons_option (event_of m) (printed_of rest.0)) same ∙ ap (λ es. cons_option (event_of (open_step J.rules s)) es) rest.3
+        ap (λ m. cons_option (event_of m) (printed_of rest.0)) same
+            ∙ ap (λ es. cons_option (event_of (open_step J.rules s)) es) rest.3
             ∙ sym (ap (λ (z : Step). cons_option (event_of z.move) (printed_of xs)) path.0),
       )
 
@@ -301,7 +326,8 @@ module _ (J : Instance) (valid : IsValid J) (m0 m : ℕ) (late0 : NoneBefore m0 
     prints = sym (ap printed_of all ∙ printed_append ticks.0 on.0 ∙ ap (λ es. es ++ printed_of on.0) ticks.2);
     barrier = path.2;
   } where
-    ticks : (xs : List Step) × IsOpenPath J.rules m (at_tick 0 J.jobs) xs (at_tick m0 J.jobs) × (printed_of xs ≡ []) × (length xs ≡ m0)
+    ticks : (xs : List Step) × IsOpenPath J.rules m (at_tick 0 J.jobs) xs (at_tick m0 J.jobs) × (printed_of xs ≡ [])
+        × (length xs ≡ m0)
     ticks = ticks_path J valid m0 late0 m later m0 0 (omega arith)
 
     on : (xs : List Step) × IsSettledRun J.rules m (at_tick m0 J.jobs) xs × (length xs ≤ (m - m0) + 5 * length J.jobs)
@@ -318,7 +344,8 @@ module _ (J : Instance) (valid : IsValid J) (m0 m : ℕ) (late0 : NoneBefore m0 
         (path_settles J.rules m (ticks.0 ++ on.0) (opening J.jobs) path.0 whole path.2)
 
     is_last : path.0 ≡ settled_state J m
-    is_last = sym (ap (state_after (opening J.jobs)) all ∙ path_state J.rules m (ticks.0 ++ on.0) (opening J.jobs) path.0 whole)
+    is_last = sym (ap (state_after (opening J.jobs)) all
+        ∙ path_state J.rules m (ticks.0 ++ on.0) (opening J.jobs) path.0 whole)
 
     barrier : AtBarrier J m (settled_state J m)
     barrier = settled_at_barrier J valid m
@@ -326,11 +353,14 @@ module _ (J : Instance) (valid : IsValid J) (m0 m : ℕ) (late0 : NoneBefore m0 
 -- where all jobs are over, the step is End
 pub end_step : (J : Instance) → IsValid J → (s : State) → Keeps J s → Each (λ t. is_over t ≡ true) s.tasks
     → step J.rules s ≡ Prints (End (value_sum (filter is_done s.tasks)))
-end_step J valid s keeps over = over_rests J.rules.ratio s (ending s or_else Ticks) over (step J.rules s) (step_deed J valid s keeps J.rules)
-    ∙ ap (λ b. then_some b (Prints (End (value_sum (filter is_done s.tasks)))) or_else Ticks) (all_over s.tasks over) where
+end_step J valid s keeps over =
+    over_rests J.rules.ratio s (ending s or_else Ticks) over (step J.rules s) (step_deed J valid s keeps J.rules)
+    ∙ ap (λ b. then_some b (Prints (End (value_sum (filter is_done s.tasks)))) or_else Ticks)
+    (all_over s.tasks over) where
       all_over : (tasks : List Task) → Each (λ t. is_over t ≡ true) tasks → list_all is_over tasks ≡ true
       all_over [] each = refl
-      all_over (t ∷ tasks) each = ap (λ b. b && list_all is_over tasks) (each t (inl refl)) ∙ all_over tasks (λ u m. each u (inr m))
+      all_over (t ∷ tasks) each = ap (λ b. b && list_all is_over tasks) (each t (inl refl))
+          ∙ all_over tasks (λ u m. each u (inr m))
 
 module _ (J : Instance) (valid : IsValid J) (m : ℕ) (rest : IsAtRest J m) where
   -- no job is released before tick 0
@@ -351,8 +381,11 @@ module _ (J : Instance) (valid : IsValid J) (m : ℕ) (rest : IsAtRest J m) wher
       let end : step J.rules there.last ≡ Prints (End (value_sum (filter is_done there.last.tasks))) =
       end_step J valid there.last there.keeps there.over in
       printed_then_run J m there.last (settled J m) (step_at J.rules there.last ∷ []) valid
-      (record { steps = there.steps; path = there.path; prints = there.prints })
-      (refl, subst (λ x. MatchBool (is_end x) (no_steps ≡ []) (IsWholeRun J.rules (after there.last x) no_steps)) (sym end) refl)
+      (record { steps = there.steps; path = there.path; prints = there.prints }) (
+        refl,
+        subst (λ x. MatchBool (is_end x) (no_steps ≡ []) (IsWholeRun J.rules (after there.last x) no_steps))
+            (sym end) refl,
+      )
       ∙ ap (λ x. settled J m ++ cons_option (event_of x) []) end
       ∙ ap (λ (z : State). settled J m ++ (End (value_sum (filter is_done z.tasks)) ∷ [])) there.is where
         no_steps : List Step
@@ -368,34 +401,43 @@ module _ (J : Instance) (valid : IsValid J) (m : ℕ) (rest : IsAtRest J m) wher
 
 -- ---- the jobs behind
 
-module _ (J : Instance) (valid : IsValid J) (m0 m : ℕ) (late0 : NoneBefore m0 J.jobs) (later : m0 ≤ m) (rest : IsAtRest J m) where
+module _ (J : Instance) (valid : IsValid J) (m0 m : ℕ) (late0 : NoneBefore m0 J.jobs) (later : m0 ≤ m)
+    (rest : IsAtRest J m) where
   -- none behind
   joined_none : (events : List Event) → RunsFrom J.rules m [] events
       → RunsFrom J.rules m0 (J.jobs ++ []) (settled J m ++ map (behind (length J.jobs) (completed_value J)) events)
-  joined_none events it = subst (λ jobs. RunsFrom J.rules m0 jobs (settled J m ++ map (behind (length J.jobs) (completed_value J)) events))
+  joined_none events it = subst
+      (λ jobs. RunsFrom J.rules m0 jobs (settled J m ++ map (behind (length J.jobs) (completed_value J)) events))
       (sym (append-nil J.jobs))
-      (subst (RunsFrom J.rules m0 J.jobs) (printed_at_rest J valid m rest ∙ ends_too (alone J valid m0 late0)) (alone J valid m0 late0)) where
+      (subst (RunsFrom J.rules m0 J.jobs) (printed_at_rest J valid m rest ∙ ends_too (alone J valid m0 late0))
+      (alone J valid m0 late0)) where
         only_end : (zs : List Step) → IsWholeRun J.rules (at_tick m []) zs → printed_of zs ≡ End 0 ∷ []
         only_end [] whole = absurd whole
-        only_end (z ∷ zs) whole = ap (λ (y : Step). cons_option (event_of y.move) (printed_of zs)) whole.0 ∙ ap (λ ys. End 0 ∷ printed_of ys) whole.1
+        only_end (z ∷ zs) whole = ap (λ (y : Step). cons_option (event_of y.move) (printed_of zs)) whole.0
+            ∙ ap (λ ys. End 0 ∷ printed_of ys) whole.1
 
         ends_too : RunsFrom J.rules m0 J.jobs (printed J)
-            → settled J m ++ (End (completed_value J) ∷ []) ≡ settled J m ++ map (behind (length J.jobs) (completed_value J)) events
+            → settled J m ++ (End (completed_value J) ∷ []) ≡ settled J m ++ map
+            (behind (length J.jobs) (completed_value J)) events
         ends_too alone_it = ap (λ v. settled J m ++ (End v ∷ [])) (omega arith)
-            ∙ ap (λ es. settled J m ++ map (behind (length J.jobs) (completed_value J)) es) (sym (only_end it.0 it.1) ∙ it.3)
+            ∙ ap (λ es. settled J m ++ map (behind (length J.jobs) (completed_value J)) es)
+            (sym (only_end it.0 it.1) ∙ it.3)
 
   -- some behind
   joined_some : (j : JobFacts) (js : List JobFacts) (events : List Event) → NoneBefore m (j ∷ js) → m ≤ j.deadline
       → RunsFrom J.rules m (j ∷ js) events
-      → RunsFrom J.rules m0 (J.jobs ++ (j ∷ js)) (settled J m ++ map (behind (length J.jobs) (completed_value J)) events)
+      → RunsFrom J.rules m0 (J.jobs ++ (j ∷ js))
+      (settled J m ++ map (behind (length J.jobs) (completed_value J)) events)
   joined_some j js events late due it = (
     before.0 ++ behind_them.0,
     subst (λ s. IsWholeRun J.rules s (before.0 ++ behind_them.0)) (sym begins)
-        (closed_then_run J.rules before.0 behind_them.0 (with_later (at_tick m0 J.jobs) ks_there) (with_later r.last ks_there) before.1
+        (closed_then_run J.rules before.0 behind_them.0 (with_later (at_tick m0 J.jobs) ks_there)
+        (with_later r.last ks_there) before.1
         (subst (λ s. IsWholeRun J.rules s behind_them.0) (sym joins) behind_them.1)),
     few_steps,
     printed_append before.0 behind_them.0 ∙ ap (λ es. es ++ printed_of behind_them.0) (before.3 ∙ r.prints)
-        ∙ ap (λ es. settled J m ++ es) (behind_them.3 ∙ ap (λ es. map (behind n (came_to J.rules n r.last.tasks r.over)) es) it.3
+        ∙ ap (λ es. settled J m ++ es)
+        (behind_them.3 ∙ ap (λ es. map (behind n (came_to J.rules n r.last.tasks r.over)) es) it.3
         ∙ ap (λ v. map (behind n v) events) came),
   ) where
     n : ℕ
@@ -409,11 +451,14 @@ module _ (J : Instance) (valid : IsValid J) (m0 m : ℕ) (late0 : NoneBefore m0 
 
     before : (ys : List Step) × IsPath J.rules (with_later (at_tick m0 J.jobs) ks_there) ys (with_later r.last ks_there)
         × (length ys ≡ length r.steps) × (printed_of ys ≡ printed_of r.steps)
-    before = path_behind J valid m j js late r.steps (at_tick m0 J.jobs) r.last (tick_keeps J valid m0 late0 m0 (omega arith)) r.path
+    before = path_behind J valid m j js late r.steps (at_tick m0 J.jobs) r.last
+        (tick_keeps J valid m0 late0 m0 (omega arith)) r.path
 
-    behind_them : (ys : List Step) × IsWholeRun J.rules (beside n r.last.tasks (at_tick m (j ∷ js))) ys × (length ys ≡ length it.0)
+    behind_them : (ys : List Step) × IsWholeRun J.rules (beside n r.last.tasks (at_tick m (j ∷ js))) ys
+        × (length ys ≡ length it.0)
         × (printed_of ys ≡ map (behind n (came_to J.rules n r.last.tasks r.over)) (printed_of it.0))
-    behind_them = whole_beside J.rules n r.last.tasks r.over (numbers_below J r.last r.keeps) it.0 (at_tick m (j ∷ js)) it.1
+    behind_them = whole_beside J.rules n r.last.tasks r.over (numbers_below J r.last r.keeps) it.0
+        (at_tick m (j ∷ js)) it.1
 
     joins : with_later r.last ks_there ≡ beside n r.last.tasks (at_tick m (j ∷ js))
     joins = ap (λ clock. let s : State = record { clock = clock; tasks = r.last.tasks ++ ks_there } in s) r.clock
@@ -427,14 +472,25 @@ module _ (J : Instance) (valid : IsValid J) (m0 m : ℕ) (late0 : NoneBefore m0 
     came : came_to J.rules n r.last.tasks r.over ≡ completed_value J
     came = ap (λ (z : State). value_sum (filter is_done z.tasks)) r.is ∙ sym (value_there J valid m rest)
 
-    few_steps : length (before.0 ++ behind_them.0) ≤ (last_deadline (J.jobs ++ (j ∷ js)) - m0) + 6 * length (J.jobs ++ (j ∷ js)) + 1
+    few_steps : length (before.0 ++ behind_them.0) ≤ (last_deadline (J.jobs ++ (j ∷ js)) - m0) + 6 * length
+        (J.jobs ++ (j ∷ js)) + 1
     few_steps =
-        let first : m ≤ last_deadline (j ∷ js) = let up : j.deadline ≤ last_deadline (j ∷ js) = last_first j js in omega arith in
+        let first : m ≤ last_deadline (j ∷ js) = let up : j.deadline ≤ last_deadline (j ∷ js) = last_first j js in
+        omega arith in
         let last : last_deadline (j ∷ js) ≤ last_deadline (J.jobs ++ (j ∷ js)) = last_more J.jobs (j ∷ js) in
-        omega (arith, length-append before.0 behind_them.0, length-append J.jobs (j ∷ js), before.2, behind_them.2, it.2, r.few)
+        omega (
+          arith,
+          length-append before.0 behind_them.0,
+          length-append J.jobs (j ∷ js),
+          before.2,
+          behind_them.2,
+          it.2,
+          r.few,
+        )
 
   -- any
-  pub joined : (more : List JobFacts) (events : List Event) → NoneBefore m more → Each (λ j. m ≤ j.deadline) more → RunsFrom J.rules m more events
+  pub joined : (more : List JobFacts) (events : List Event) → NoneBefore m more → Each (λ j. m ≤ j.deadline) more
+      → RunsFrom J.rules m more events
       → RunsFrom J.rules m0 (J.jobs ++ more) (settled J m ++ map (behind (length J.jobs) (completed_value J)) events)
   joined [] events late due it = joined_none events it
   joined (j ∷ js) events late due it = joined_some j js events late (due j (inl refl)) it
@@ -442,7 +498,8 @@ module _ (J : Instance) (valid : IsValid J) (m0 m : ℕ) (late0 : NoneBefore m0 
 -- from the opening on, it is the run
 pub runs_all : (rules : Rules) (jobs : List JobFacts) (events : List Event) → RunsFrom rules 0 jobs events
     → printed (record { rules = rules; jobs = jobs }) ≡ events
-runs_all rules jobs events it = ap printed_of (enough_fuel rules (enough jobs) (opening jobs) it.0 it.1 (omega (arith, it.2))) ∙ it.3
+runs_all rules jobs events it =
+    ap printed_of (enough_fuel rules (enough jobs) (opening jobs) it.0 it.1 (omega (arith, it.2))) ∙ it.3
 
 -- no valid job is due before its release
 pub due_later : (J : Instance) → IsValid J → (m : ℕ) → NoneBefore m J.jobs → Each (λ j. m ≤ j.deadline) J.jobs
@@ -452,8 +509,11 @@ due_later J valid m late j member =
     let at : m ≤ j.release = late j member in omega arith
 
 -- a run falls apart at rest
-pub printed_apart : (J : Instance) (more : List JobFacts) (m : ℕ) → IsValid J → IsValid (instead J more) → IsAtRest J m → NoneBefore m more
-    → printed (with_jobs J more) ≡ settled J m ++ map (behind (length J.jobs) (completed_value J)) (printed (instead J more))
+pub printed_apart : (J : Instance) (more : List JobFacts) (m : ℕ) → IsValid J → IsValid (instead J more) → IsAtRest J m
+    → NoneBefore m more
+    → printed (with_jobs J more) ≡ settled J m ++ map (behind (length J.jobs) (completed_value J))
+    (printed (instead J more))
 printed_apart J more m valid valid_more rest late = runs_all J.rules (J.jobs ++ more) _
-    (joined J valid 0 m (λ j member. omega arith) (omega arith) rest more (printed (instead J more)) late (due_later (instead J more) valid_more m late)
+    (joined J valid 0 m (λ j member. omega arith) (omega arith) rest more (printed (instead J more)) late
+    (due_later (instead J more) valid_more m late)
     (alone (instead J more) valid_more m late))

@@ -1,5 +1,6 @@
 -- The steps of tasks that stand behind tasks that are over, under greater numbers.
-use Rattle.std.proofs.Common.{◌≡◌, ℕ, ◌+◌, ◌-◌, ◌≤◌, ◌<◌, ◌⊎◌, inl, inr, List, [], ◌∷◌, ◌++◌, length, map, refl, sym, ap, ◌∙◌, subst, Bool, true, false, cond, arith}
+use Rattle.std.proofs.Common.{◌≡◌, ℕ, ◌+◌, ◌-◌, ◌≤◌, ◌<◌, ◌⊎◌, inl, inr, List, [], ◌∷◌, ◌++◌, length, map, refl, sym}
+use Rattle.std.proofs.Common.{ap, ◌∙◌, subst, Bool, true, false, cond, arith}
 use Rattle.std.proofs.Common.{eqb, Option, Some, None}
 use Rattle.std.specs.Prelude.{nat_lt, nat_le, ◌&&◌, ◌||◌}
 use Rattle.std.specs.Bool.{MatchBool, then_some}
@@ -15,10 +16,12 @@ use Rattle.dover_model.specs.declared.events.Version.{Version}
 use Rattle.dover_model.specs.declared.events.Version.TheVariants.{One, Two}
 use Rattle.dover_model.specs.declared.events.Task.{Task}
 use Rattle.dover_model.specs.Instance.{Rules}
-use Rattle.dover_model.specs.State.{State, is_coming, is_fresh, is_waiting, is_held, is_running, is_privileged, is_done, is_over, left, latest_start}
+use Rattle.dover_model.specs.State.{State, is_coming, is_fresh, is_waiting, is_held, is_running, is_privileged, is_done}
+use Rattle.dover_model.specs.State.{is_over, left, latest_start}
 use Rattle.dover_model.specs.State.{room, demand_by, least, value_sum}
 use Rattle.dover_model.specs.Orders.{is_heavy, first, earlier, due_first, latest_first}
-use Rattle.dover_model.specs.Step.{Move, Prints, Waits, Ticks, View, view, with_role, ticked, displaced, ◌or_else◌, completion, dispatch, decision, arrival, alarm}
+use Rattle.dover_model.specs.Step.{Move, Prints, Waits, Ticks, View, view, with_role, ticked, displaced, ◌or_else◌}
+use Rattle.dover_model.specs.Step.{completion, dispatch, decision, arrival, alarm}
 use Rattle.dover_model.specs.Step.{urgent_or, step, open_step, ending, after, preempts, runs, is_at_latest_start}
 use Rattle.dover_model.specs.Run.{Step, is_end, event_of, printed_of}
 use Rattle.dover_model.specs.Settled.{is_late}
@@ -76,22 +79,26 @@ module _ (n : ℕ) (p : Task → Bool) (same : (t : Task) → p (shifted n t) �
   find_shift : (tasks : List Task) → find p (map (shifted n) tasks) ≡ shift_option n (find p tasks)
   find_shift [] = refl
   find_shift (t ∷ tasks) =
-      ap (λ b. cond b (Some (shifted n t)) (find p (map (shifted n) tasks))) (same t) ∙ by_test (p t) (find_shift tasks) where
+      ap (λ b. cond b (Some (shifted n t)) (find p (map (shifted n) tasks))) (same t)
+      ∙ by_test (p t) (find_shift tasks) where
         by_test : (b : Bool) → find p (map (shifted n) tasks) ≡ shift_option n (find p tasks)
-            → cond b (Some (shifted n t)) (find p (map (shifted n) tasks)) ≡ shift_option n (cond b (Some t) (find p tasks))
+            → cond b (Some (shifted n t)) (find p (map (shifted n) tasks)) ≡ shift_option n
+            (cond b (Some t) (find p tasks))
         by_test true rest = refl
         by_test false rest = rest
 
   -- whether all pass
   all_shift : (tasks : List Task) → list_all p (map (shifted n) tasks) ≡ list_all p tasks
   all_shift [] = refl
-  all_shift (t ∷ tasks) = ap (λ b. b && list_all p (map (shifted n) tasks)) (same t) ∙ ap (λ b. p t && b) (all_shift tasks)
+  all_shift (t ∷ tasks) = ap (λ b. b && list_all p (map (shifted n) tasks)) (same t)
+      ∙ ap (λ b. p t && b) (all_shift tasks)
 
 module _ (p : Task → Bool) where
   -- a filter that none of the first passes
   filter_back : (overs tasks : List Task) → Each (λ t. p t ≡ false) overs → filter p (overs ++ tasks) ≡ filter p tasks
   filter_back [] tasks none = refl
-  filter_back (t ∷ overs) tasks none = ap (λ b. cond b (t ∷ filter p (overs ++ tasks)) (filter p (overs ++ tasks))) (none t (inl refl))
+  filter_back (t ∷ overs) tasks none =
+      ap (λ b. cond b (t ∷ filter p (overs ++ tasks)) (filter p (overs ++ tasks))) (none t (inl refl))
       ∙ filter_back overs tasks (λ u m. none u (inr m))
 
   -- what none of the first passes is found behind
@@ -103,7 +110,8 @@ module _ (p : Task → Bool) where
   -- where the first pass, all do if those behind do
   all_back : (overs tasks : List Task) → Each (λ t. p t ≡ true) overs → list_all p (overs ++ tasks) ≡ list_all p tasks
   all_back [] tasks all = refl
-  all_back (t ∷ overs) tasks all = ap (λ b. b && list_all p (overs ++ tasks)) (all t (inl refl)) ∙ all_back overs tasks (λ u m. all u (inr m))
+  all_back (t ∷ overs) tasks all = ap (λ b. b && list_all p (overs ++ tasks)) (all t (inl refl))
+      ∙ all_back overs tasks (λ u m. all u (inr m))
 
 -- the value of those that pass, of both lists
 value_append : (p : Task → Bool) (overs tasks : List Task)
@@ -125,13 +133,15 @@ value_append p (t ∷ overs) tasks = by_test (p t) (value_append p overs tasks) 
 
 module _ (n : ℕ) where
   -- a fold that keeps the first
-  fold_shift : (before : Task → Task → Bool) → ((a b : Task) → before (shifted n a) (shifted n b) ≡ before a b) → (tasks : List Task) (a : Task)
+  fold_shift : (before : Task → Task → Bool) → ((a b : Task) → before (shifted n a) (shifted n b) ≡ before a b)
+      → (tasks : List Task) (a : Task)
       → fold (earlier before) (shifted n a) (map (shifted n) tasks) ≡ shifted n (fold (earlier before) a tasks)
   fold_shift before same [] a = refl
   fold_shift before same (t ∷ tasks) a =
       ap (λ b. fold (earlier before) (cond b (shifted n t) (shifted n a)) (map (shifted n) tasks)) (same t a)
       ∙ by_test (before t a) (fold_shift before same tasks t) (fold_shift before same tasks a) where
-        by_test : (b : Bool) → fold (earlier before) (shifted n t) (map (shifted n) tasks) ≡ shifted n (fold (earlier before) t tasks)
+        by_test : (b : Bool) → fold (earlier before) (shifted n t) (map (shifted n) tasks) ≡ shifted n
+            (fold (earlier before) t tasks)
             → fold (earlier before) (shifted n a) (map (shifted n) tasks) ≡ shifted n (fold (earlier before) a tasks)
             → fold (earlier before) (cond b (shifted n t) (shifted n a)) (map (shifted n) tasks)
             ≡ shifted n (fold (earlier before) (cond b t a) tasks)
@@ -139,27 +149,31 @@ module _ (n : ℕ) where
         by_test false one other = other
 
   -- the first of shifted tasks
-  first_shift : (before : Task → Task → Bool) → ((a b : Task) → before (shifted n a) (shifted n b) ≡ before a b) → (tasks : List Task)
+  first_shift : (before : Task → Task → Bool) → ((a b : Task) → before (shifted n a) (shifted n b) ≡ before a b)
+      → (tasks : List Task)
       → first before (map (shifted n) tasks) ≡ shift_option n (first before tasks)
   first_shift before same [] = refl
   first_shift before same (t ∷ tasks) = ap Some (fold_shift before same tasks t)
 
   -- the order by deadline
   due_shift : (v : Version) (a b : Task) → due_first v (shifted n a) (shifted n b) ≡ due_first v a b
-  due_shift One a b = ap (λ less. nat_lt a.job.deadline b.job.deadline || (eqb a.job.deadline b.job.deadline && less)) (lt_shift n a.number b.number)
+  due_shift One a b = ap (λ less. nat_lt a.job.deadline b.job.deadline || (eqb a.job.deadline b.job.deadline && less))
+      (lt_shift n a.number b.number)
   due_shift Two a b = ap (λ less. nat_lt a.job.deadline b.job.deadline || (eqb a.job.deadline b.job.deadline
       && (nat_lt b.job.value a.job.value || (eqb a.job.value b.job.value && less)))) (lt_shift n a.number b.number)
 
   -- the order by latest start
   latest_shift : (v : Version) (a b : Task) → latest_first v (shifted n a) (shifted n b) ≡ latest_first v a b
   latest_shift One a b =
-      ap (λ less. nat_lt (latest_start a) (latest_start b) || (eqb (latest_start a) (latest_start b) && less)) (lt_shift n a.number b.number)
+      ap (λ less. nat_lt (latest_start a) (latest_start b) || (eqb (latest_start a) (latest_start b) && less))
+      (lt_shift n a.number b.number)
   latest_shift Two a b = ap (λ less. nat_lt (latest_start a) (latest_start b) || (eqb (latest_start a) (latest_start b)
       && (nat_lt b.job.value a.job.value || (eqb a.job.value b.job.value && less)))) (lt_shift n a.number b.number)
 
   -- the demand up to a task
   demand_shift : (set : List Task) (t : Task)
-      → demand_by (λ (u : Task). u.job.deadline) left (map (shifted n) set) (shifted n t) ≡ demand_by (λ (u : Task). u.job.deadline) left set t
+      → demand_by (λ (u : Task). u.job.deadline) left (map (shifted n) set) (shifted n t) ≡ demand_by
+      (λ (u : Task). u.job.deadline) left set t
   demand_shift set t = ap (λ us. left t + sum_by left us)
       (filter_shift n (λ u. nat_lt u.job.deadline t.job.deadline) (λ u. refl) set)
       ∙ ap (λ m. left t + m) (sum_map (shifted n) left (filter (λ u. nat_lt u.job.deadline t.job.deadline) set))
@@ -167,8 +181,10 @@ module _ (n : ℕ) where
   -- the room
   room_shift : (clock : ℕ) (set : List Task) → room clock (map (shifted n) set) ≡ room clock set
   room_shift clock set = ap least
-      (map_map (λ (t : Task). t.job.deadline - (clock + demand_by (λ (u : Task). u.job.deadline) left (map (shifted n) set) t)) (shifted n) set
-      ∙ map_same (λ (t : Task). t.job.deadline - (clock + demand_by (λ (u : Task). u.job.deadline) left (map (shifted n) set) (shifted n t)))
+      (map_map (λ (t : Task). t.job.deadline -
+      (clock + demand_by (λ (u : Task). u.job.deadline) left (map (shifted n) set) t)) (shifted n) set
+      ∙ map_same (λ (t : Task). t.job.deadline -
+      (clock + demand_by (λ (u : Task). u.job.deadline) left (map (shifted n) set) (shifted n t)))
       (λ (t : Task). t.job.deadline - (clock + demand_by (λ (u : Task). u.job.deadline) left set t)) set
       (λ t m. ap (λ d. t.job.deadline - (clock + d)) (demand_shift set t)))
 
@@ -193,7 +209,8 @@ module _ (n : ℕ) where
 
   module _ (overs : List Task) (over : Each (λ t. is_over t ≡ true) overs) where
     -- a test that fails of what is over
-    over_fails : (p : Task → Bool) → ((t : Task) → p (with_role t Done) ≡ false) → ((t : Task) → p (with_role t Gone) ≡ false)
+    over_fails : (p : Task → Bool) → ((t : Task) → p (with_role t Done) ≡ false)
+        → ((t : Task) → p (with_role t Gone) ≡ false)
         → Each (λ t. p t ≡ false) overs
     over_fails p done gone t member = by_end (is_over_role t (over t member)) where
       by_end : (t.role ≡ Done) ⊎ (t.role ≡ Gone) → p t ≡ false
@@ -201,14 +218,20 @@ module _ (n : ℕ) where
       by_end (inr e) = passes p t Gone false e (gone t)
 
     -- what is found is found behind
-    find_there : (p : Task → Bool) → ((t : Task) → p (with_role t Done) ≡ false) → ((t : Task) → p (with_role t Gone) ≡ false)
-        → ((t : Task) → p (shifted n t) ≡ p t) → (tasks : List Task) → find p (overs ++ map (shifted n) tasks) ≡ shift_option n (find p tasks)
-    find_there p done gone same tasks = find_back p overs (map (shifted n) tasks) (over_fails p done gone) ∙ find_shift n p same tasks
+    find_there : (p : Task → Bool) → ((t : Task) → p (with_role t Done) ≡ false)
+        → ((t : Task) → p (with_role t Gone) ≡ false)
+        → ((t : Task) → p (shifted n t) ≡ p t) → (tasks : List Task)
+        → find p (overs ++ map (shifted n) tasks) ≡ shift_option n (find p tasks)
+    find_there p done gone same tasks = find_back p overs (map (shifted n) tasks) (over_fails p done gone)
+        ∙ find_shift n p same tasks
 
     -- so is what passes
-    filter_there : (p : Task → Bool) → ((t : Task) → p (with_role t Done) ≡ false) → ((t : Task) → p (with_role t Gone) ≡ false)
-        → ((t : Task) → p (shifted n t) ≡ p t) → (tasks : List Task) → filter p (overs ++ map (shifted n) tasks) ≡ map (shifted n) (filter p tasks)
-    filter_there p done gone same tasks = filter_back p overs (map (shifted n) tasks) (over_fails p done gone) ∙ filter_shift n p same tasks
+    filter_there : (p : Task → Bool) → ((t : Task) → p (with_role t Done) ≡ false)
+        → ((t : Task) → p (with_role t Gone) ≡ false)
+        → ((t : Task) → p (shifted n t) ≡ p t) → (tasks : List Task)
+        → filter p (overs ++ map (shifted n) tasks) ≡ map (shifted n) (filter p tasks)
+    filter_there p done gone same tasks = filter_back p overs (map (shifted n) tasks) (over_fails p done gone)
+        ∙ filter_shift n p same tasks
 
     -- the view of a state behind
     view_beside : (version : Version) (s : State) → view version (beside n overs s) ≡ shifted_view (view version s)
@@ -221,9 +244,11 @@ module _ (n : ℕ) where
         find_there is_coming (λ _. refl) (λ _. refl) (λ _. refl) s.tasks in
         let e_held : filter is_held (overs ++ map (shifted n) s.tasks) ≡ map (shifted n) (filter is_held s.tasks) =
         filter_there is_held (λ _. refl) (λ _. refl) (λ _. refl) s.tasks in
-        let e_waiting : filter is_waiting (overs ++ map (shifted n) s.tasks) ≡ map (shifted n) (filter is_waiting s.tasks) =
+        let e_waiting : filter is_waiting (overs ++ map (shifted n) s.tasks) ≡ map (shifted n)
+        (filter is_waiting s.tasks) =
         filter_there is_waiting (λ _. refl) (λ _. refl) (λ _. refl) s.tasks in
-        let e_privileged : filter is_privileged (overs ++ map (shifted n) s.tasks) ≡ map (shifted n) (filter is_privileged s.tasks) =
+        let e_privileged : filter is_privileged (overs ++ map (shifted n) s.tasks) ≡ map (shifted n)
+        (filter is_privileged s.tasks) =
         filter_there is_privileged (λ _. refl) (λ _. refl) (λ _. refl) s.tasks in
         rw (
           e_running,
@@ -235,7 +260,8 @@ module _ (n : ℕ) where
           first_shift (due_first version) (due_shift version) (filter is_held s.tasks),
           first_shift (due_first version) (due_shift version) (filter is_waiting s.tasks),
           filter_shift n (is_at_latest_start s) (λ _. refl) (filter is_waiting s.tasks),
-          first_shift (latest_first version) (latest_shift version) (filter (is_at_latest_start s) (filter is_waiting s.tasks)),
+          first_shift (latest_first version) (latest_shift version)
+              (filter (is_at_latest_start s) (filter is_waiting s.tasks)),
           room_shift s.clock (filter is_held s.tasks),
           room_shift s.clock (filter is_privileged s.tasks),
           value_shift (filter is_privileged s.tasks),
@@ -280,22 +306,28 @@ moved_late n value Ticks = refl
 
 module _ (n value : ℕ) where
   -- a completion
-  completion_shift : (v : View) (r : Option Task) → completion (shifted_view n v) (shift_option n r) ≡ moved_option n value (completion v r)
+  completion_shift : (v : View) (r : Option Task)
+      → completion (shifted_view n v) (shift_option n r) ≡ moved_option n value (completion v r)
   completion_shift v None = refl
   completion_shift v (Some r) = by_test (eqb (left r) 0) where
-    by_test : (b : Bool) → then_some b (Prints (Complete v.clock (n + r.number))) ≡ moved_option n value (then_some b (Prints (Complete v.clock r.number)))
+    by_test : (b : Bool) → then_some b (Prints (Complete v.clock (n + r.number))) ≡ moved_option n value
+        (then_some b (Prints (Complete v.clock r.number)))
     by_test true = refl
     by_test false = refl
 
   -- a dispatch
   dispatch_shift : (v : View) (r p o : Option Task)
-      → dispatch (shifted_view n v) (shift_option n r) (shift_option n p) (shift_option n o) ≡ moved_option n value (dispatch v r p o)
+      → dispatch (shifted_view n v) (shift_option n r) (shift_option n p) (shift_option n o) ≡ moved_option n value
+      (dispatch v r p o)
   dispatch_shift v (Some r) p o = refl
   dispatch_shift v None (Some p) None = refl
-  dispatch_shift v None (Some p) (Some o) = by_test (nat_lt o.job.deadline p.job.deadline && nat_le (left o) v.room_held) where
-    by_test : (b : Bool) → Some (runs (shifted_view n v) (cond b (shifted n o) (shifted n p))) ≡ moved_option n value (Some (runs v (cond b o p)))
-    by_test true = refl
-    by_test false = refl
+  dispatch_shift v None (Some p) (Some o) =
+      by_test (nat_lt o.job.deadline p.job.deadline && nat_le (left o) v.room_held) where
+        by_test : (b : Bool) → Some (runs (shifted_view n v) (cond b (shifted n o) (shifted n p)))
+            ≡ moved_option n value
+            (Some (runs v (cond b o p)))
+        by_test true = refl
+        by_test false = refl
   dispatch_shift v None None (Some o) = refl
   dispatch_shift v None None None = refl
 
@@ -312,10 +344,12 @@ module _ (n value : ℕ) where
     by_test false = refl
 
   -- an arrival
-  arrival_shift : (v : View) (c : Option Task) → arrival (shifted_view n v) (shift_option n c) ≡ moved_option n value (arrival v c)
+  arrival_shift : (v : View) (c : Option Task)
+      → arrival (shifted_view n v) (shift_option n c) ≡ moved_option n value (arrival v c)
   arrival_shift v None = refl
   arrival_shift v (Some c) = by_test (eqb c.job.release v.clock) where
-    by_test : (b : Bool) → then_some b (Prints (Release (n + c.number) c.job)) ≡ moved_option n value (then_some b (Prints (Release c.number c.job)))
+    by_test : (b : Bool) → then_some b (Prints (Release (n + c.number) c.job)) ≡ moved_option n value
+        (then_some b (Prints (Release c.number c.job)))
     by_test true = refl
     by_test false = refl
 
@@ -326,15 +360,18 @@ module _ (n value : ℕ) where
   alarm_shift k v (Some r) None = refl
   alarm_shift k v None (Some x) = refl
   alarm_shift k v (Some r) (Some x) = by_test (is_heavy k x.job.value v.value) where
-    by_test : (b : Bool) → Some (Prints (cond b (Take v.clock (n + r.number) (n + x.number)) (Abandon v.clock (n + x.number))))
+    by_test : (b : Bool) → Some
+        (Prints (cond b (Take v.clock (n + r.number) (n + x.number)) (Abandon v.clock (n + x.number))))
         ≡ moved_option n value (Some (Prints (cond b (Take v.clock r.number x.number) (Abandon v.clock x.number))))
     by_test true = refl
     by_test false = refl
 
   -- the first that there is
   first_moved : (a b c d e : Option Move) (m : Move)
-      → (moved_option n value a or_else moved_option n value b or_else moved_option n value c or_else moved_option n value d
-      or_else moved_option n value e or_else moved n value m) ≡ moved n value (a or_else b or_else c or_else d or_else e or_else m)
+      → (moved_option n value a or_else moved_option n value b or_else moved_option n value c or_else moved_option n
+      value d
+      or_else moved_option n value e or_else moved n value m) ≡ moved n value
+      (a or_else b or_else c or_else d or_else e or_else m)
   first_moved (Some x) b c d e m = refl
   first_moved None (Some x) c d e m = refl
   first_moved None None (Some x) d e m = refl
@@ -343,33 +380,48 @@ module _ (n value : ℕ) where
   first_moved None None None None None m = refl
 
   -- the first of the cases that applies
-  urgent_shift : (k : Fraction) (v : View) (m : Move) → urgent_or k (shifted_view n v) (moved n value m) ≡ moved n value (urgent_or k v m)
+  urgent_shift : (k : Fraction) (v : View) (m : Move)
+      → urgent_or k (shifted_view n v) (moved n value m) ≡ moved n value (urgent_or k v m)
   urgent_shift k v m =
-      let e_completion : completion (shifted_view n v) (shift_option n v.running) ≡ moved_option n value (completion v v.running) =
+      let e_completion : completion (shifted_view n v) (shift_option n v.running) ≡ moved_option n value
+      (completion v v.running) =
       completion_shift v v.running in
-      let e_dispatch : dispatch (shifted_view n v) (shift_option n v.running) (shift_option n v.held) (shift_option n v.waiting)
+      let e_dispatch : dispatch (shifted_view n v) (shift_option n v.running) (shift_option n v.held)
+      (shift_option n v.waiting)
       ≡ moved_option n value (dispatch v v.running v.held v.waiting) = dispatch_shift v v.running v.held v.waiting in
       let e_decision : decision (shifted_view n v) (shift_option n v.running) (shift_option n v.fresh)
       ≡ moved_option n value (decision v v.running v.fresh) = decision_shift v v.running v.fresh in
-      let e_arrival : arrival (shifted_view n v) (shift_option n v.coming) ≡ moved_option n value (arrival v v.coming) = arrival_shift v v.coming in
+      let e_arrival : arrival (shifted_view n v) (shift_option n v.coming) ≡ moved_option n value (arrival v v.coming) =
+      arrival_shift v v.coming in
       let e_alarm : alarm k (shifted_view n v) (shift_option n v.running) (shift_option n v.late)
       ≡ moved_option n value (alarm k v v.running v.late) = alarm_shift k v v.running v.late in
-      ap (λ a. a or_else dispatch (shifted_view n v) (shift_option n v.running) (shift_option n v.held) (shift_option n v.waiting)
-      or_else decision (shifted_view n v) (shift_option n v.running) (shift_option n v.fresh) or_else arrival (shifted_view n v) (shift_option n v.coming)
-      or_else alarm k (shifted_view n v) (shift_option n v.running) (shift_option n v.late) or_else moved n value m) e_completion
+      ap (λ a. a or_else dispatch (shifted_view n v) (shift_option n v.running) (shift_option n v.held)
+      (shift_option n v.waiting)
+      or_else decision (shifted_view n v) (shift_option n v.running) (shift_option n v.fresh) or_else arrival
+      (shifted_view n v) (shift_option n v.coming)
+      or_else alarm k (shifted_view n v) (shift_option n v.running) (shift_option n v.late) or_else moved n value m)
+      e_completion
       ∙ ap (λ a. moved_option n value (completion v v.running) or_else a
-      or_else decision (shifted_view n v) (shift_option n v.running) (shift_option n v.fresh) or_else arrival (shifted_view n v) (shift_option n v.coming)
-      or_else alarm k (shifted_view n v) (shift_option n v.running) (shift_option n v.late) or_else moved n value m) e_dispatch
-      ∙ ap (λ a. moved_option n value (completion v v.running) or_else moved_option n value (dispatch v v.running v.held v.waiting)
+      or_else decision (shifted_view n v) (shift_option n v.running) (shift_option n v.fresh) or_else arrival
+      (shifted_view n v) (shift_option n v.coming)
+      or_else alarm k (shifted_view n v) (shift_option n v.running) (shift_option n v.late) or_else moved n value m)
+      e_dispatch
+      ∙ ap (λ a. moved_option n value (completion v v.running) or_else moved_option n value
+      (dispatch v v.running v.held v.waiting)
       or_else a or_else arrival (shifted_view n v) (shift_option n v.coming)
-      or_else alarm k (shifted_view n v) (shift_option n v.running) (shift_option n v.late) or_else moved n value m) e_decision
-      ∙ ap (λ a. moved_option n value (completion v v.running) or_else moved_option n value (dispatch v v.running v.held v.waiting)
+      or_else alarm k (shifted_view n v) (shift_option n v.running) (shift_option n v.late) or_else moved n value m)
+      e_decision
+      ∙ ap (λ a. moved_option n value (completion v v.running) or_else moved_option n value
+      (dispatch v v.running v.held v.waiting)
       or_else moved_option n value (decision v v.running v.fresh) or_else a
-      or_else alarm k (shifted_view n v) (shift_option n v.running) (shift_option n v.late) or_else moved n value m) e_arrival
-      ∙ ap (λ a. moved_option n value (completion v v.running) or_else moved_option n value (dispatch v v.running v.held v.waiting)
+      or_else alarm k (shifted_view n v) (shift_option n v.running) (shift_option n v.late) or_else moved n value m)
+      e_arrival
+      ∙ ap (λ a. moved_option n value (completion v v.running) or_else moved_option n value
+      (dispatch v v.running v.held v.waiting)
       or_else moved_option n value (decision v v.running v.fresh) or_else moved_option n value (arrival v v.coming)
       or_else a or_else moved n value m) e_alarm
-      ∙ first_moved (completion v v.running) (dispatch v v.running v.held v.waiting) (decision v v.running v.fresh) (arrival v v.coming)
+      ∙ first_moved (completion v v.running) (dispatch v v.running v.held v.waiting) (decision v v.running v.fresh)
+      (arrival v v.coming)
       (alarm k v v.running v.late) m
 
 module _ (rules : Rules) (n : ℕ) (overs : List Task) (over : Each (λ t. is_over t ≡ true) overs) where
@@ -382,11 +434,13 @@ module _ (rules : Rules) (n : ℕ) (overs : List Task) (over : Each (λ t. is_ov
   ending_beside s =
       let e_all : list_all is_over (overs ++ map (shifted n) s.tasks) ≡ list_all is_over s.tasks =
       all_back is_over overs (map (shifted n) s.tasks) over ∙ all_shift n is_over (λ _. refl) s.tasks in
-      let e_done : value_sum (filter is_done (overs ++ map (shifted n) s.tasks)) ≡ came_to + value_sum (filter is_done s.tasks) =
+      let e_done : value_sum (filter is_done (overs ++ map (shifted n) s.tasks)) ≡ came_to + value_sum
+      (filter is_done s.tasks) =
       value_append is_done overs (map (shifted n) s.tasks)
       ∙ ap (λ ts. came_to + value_sum ts) (filter_shift n is_done (λ _. refl) s.tasks)
       ∙ ap (λ v. came_to + v) (value_shift n (filter is_done s.tasks)) in
-      ap (λ b. then_some b (Prints (End (value_sum (filter is_done (overs ++ map (shifted n) s.tasks))))) or_else Ticks) e_all
+      ap (λ b. then_some b (Prints (End (value_sum (filter is_done (overs ++ map (shifted n) s.tasks))))) or_else Ticks)
+      e_all
       ∙ ap (λ v. then_some (list_all is_over s.tasks) (Prints (End v)) or_else Ticks) e_done
       ∙ by_test (list_all is_over s.tasks) where
         by_test : (b : Bool) → (then_some b (Prints (End (came_to + value_sum (filter is_done s.tasks)))) or_else Ticks)
@@ -396,7 +450,8 @@ module _ (rules : Rules) (n : ℕ) (overs : List Task) (over : Each (λ t. is_ov
 
   -- the step of a state behind
   pub step_beside : (s : State) → step rules (beside n overs s) ≡ moved n came_to (step rules s)
-  step_beside s = ap (λ v. urgent_or rules.ratio v (ending (beside n overs s) or_else Ticks)) (view_beside n overs over rules.version s)
+  step_beside s = ap (λ v. urgent_or rules.ratio v (ending (beside n overs s) or_else Ticks))
+      (view_beside n overs over rules.version s)
       ∙ ap (urgent_or rules.ratio (shifted_view n (view rules.version s))) (ending_beside s)
       ∙ urgent_shift n came_to rules.ratio (view rules.version s) (ending s or_else Ticks)
 
@@ -407,7 +462,8 @@ module _ (rules : Rules) (n : ℕ) (overs : List Task) (over : Each (λ t. is_ov
 
   module _ (low : Each (λ t. t.number < n) overs) where
     -- a change that leaves what is over, and is one behind
-    change_beside : (clock : ℕ) (f g : Task → Task) → Each (λ u. f u ≡ u) overs → ((t : Task) → f (shifted n t) ≡ shifted n (g t)) → (tasks : List Task)
+    change_beside : (clock : ℕ) (f g : Task → Task) → Each (λ u. f u ≡ u) overs
+        → ((t : Task) → f (shifted n t) ≡ shifted n (g t)) → (tasks : List Task)
         → map f (overs ++ map (shifted n) tasks) ≡ overs ++ map (shifted n) (map g tasks)
     change_beside clock f g still same tasks = front overs still where
       back : (ts : List Task) → map f (map (shifted n) ts) ≡ map (shifted n) (map g ts)
@@ -415,10 +471,12 @@ module _ (rules : Rules) (n : ℕ) (overs : List Task) (over : Each (λ t. is_ov
       back (t ∷ ts) = let here : f (shifted n t) ≡ shifted n (g t) = same t in
           let rest : map f (map (shifted n) ts) ≡ map (shifted n) (map g ts) = back ts in cc
 
-      front : (us : List Task) → Each (λ u. f u ≡ u) us → map f (us ++ map (shifted n) tasks) ≡ us ++ map (shifted n) (map g tasks)
+      front : (us : List Task) → Each (λ u. f u ≡ u) us
+          → map f (us ++ map (shifted n) tasks) ≡ us ++ map (shifted n) (map g tasks)
       front [] none = back tasks
       front (u ∷ us) none = let here : f u ≡ u = none u (inl refl) in
-          let rest : map f (us ++ map (shifted n) tasks) ≡ us ++ map (shifted n) (map g tasks) = front us (λ x m. none x (inr m)) in cc
+          let rest : map f (us ++ map (shifted n) tasks) ≡ us ++ map (shifted n) (map g tasks) =
+          front us (λ x m. none x (inr m)) in cc
 
     -- none that is over has a number from n on
     unnamed : (m : ℕ) → Each (λ u. eqb u.number (n + m) ≡ false) overs
@@ -462,7 +520,8 @@ module _ (rules : Rules) (n : ℕ) (overs : List Task) (over : Each (λ t. is_ov
     state_of clock tasks = record { clock = clock; tasks = tasks }
 
     -- the state after the step of a state behind
-    pub after_beside : (s : State) (m : Move) → after (beside n overs s) (moved n came_to m) ≡ beside n overs (after s m)
+    pub after_beside : (s : State) (m : Move)
+        → after (beside n overs s) (moved n came_to m) ≡ beside n overs (after s m)
     after_beside s (Prints (Release m job)) = ap (state_of s.clock) (one_beside s.clock m Fresh s.tasks)
     after_beside s (Prints (Run at m)) = ap (state_of s.clock) (one_beside s.clock m Running s.tasks)
     after_beside s (Prints (Complete at m)) = ap (state_of s.clock) (one_beside s.clock m Done s.tasks)
@@ -471,75 +530,89 @@ module _ (rules : Rules) (n : ℕ) (overs : List Task) (over : Each (λ t. is_ov
     after_beside s (Prints (Preempt at stops starts)) = ap (state_of s.clock) (change_beside s.clock
         (λ t. with_role t (cond (eqb t.number (n + starts)) Running (cond (eqb t.number (n + stops)) Held t.role)))
         (λ t. with_role t (cond (eqb t.number starts) Running (cond (eqb t.number stops) Held t.role)))
-        (λ u member. ap (λ b. with_role u (cond b Running (cond (eqb u.number (n + stops)) Held u.role))) (unnamed starts u member)
+        (λ u member. ap (λ b. with_role u (cond b Running (cond (eqb u.number (n + stops)) Held u.role)))
+        (unnamed starts u member)
         ∙ one_still stops Held u member)
-        (λ t. ap (λ b. with_role (shifted n t) (cond b Running (cond (eqb (n + t.number) (n + stops)) Held t.role))) (eq_shift n t.number starts)
-        ∙ ap (λ b. with_role (shifted n t) (cond (eqb t.number starts) Running (cond b Held t.role))) (eq_shift n t.number stops)) s.tasks)
+        (λ t. ap (λ b. with_role (shifted n t) (cond b Running (cond (eqb (n + t.number) (n + stops)) Held t.role)))
+        (eq_shift n t.number starts)
+        ∙ ap (λ b. with_role (shifted n t) (cond (eqb t.number starts) Running (cond b Held t.role)))
+        (eq_shift n t.number stops)) s.tasks)
     after_beside s (Prints (Take at stops starts)) = ap (state_of s.clock) (change_beside s.clock
         (λ t. with_role t (cond (eqb t.number (n + starts)) Running (displaced t.role)))
         (λ t. with_role t (cond (eqb t.number starts) Running (displaced t.role)))
-        (λ u member. ap (λ b. with_role u (cond b Running (displaced u.role))) (unnamed starts u member) ∙ over_displaced u (over u member))
-        (λ t. ap (λ b. with_role (shifted n t) (cond b Running (displaced t.role))) (eq_shift n t.number starts)) s.tasks)
-    after_beside s (Prints (End value)) = ap (state_of s.clock) (change_beside s.clock (λ t. with_role t t.role) (λ t. with_role t t.role)
+        (λ u member. ap (λ b. with_role u (cond b Running (displaced u.role))) (unnamed starts u member)
+        ∙ over_displaced u (over u member))
+        (λ t. ap (λ b. with_role (shifted n t) (cond b Running (displaced t.role))) (eq_shift n t.number starts))
+        s.tasks)
+    after_beside s (Prints (End value)) =
+        ap (state_of s.clock) (change_beside s.clock (λ t. with_role t t.role) (λ t. with_role t t.role)
         (λ u member. refl) (λ t. refl) s.tasks)
     after_beside s Ticks = ap (state_of (s.clock + 1)) (change_beside s.clock ticked ticked
         (λ u member. over_still u (over u member)) (λ t. refl) s.tasks)
 
     -- what a step prints
-    event_moved : (m : Move) → event_of (moved n came_to m) ≡ elim (event_of m) [ None ↦ None | Some e ↦ Some (behind n came_to e) ]
+    event_moved : (m : Move)
+        → event_of (moved n came_to m) ≡ elim (event_of m) [ None ↦ None | Some e ↦ Some (behind n came_to e) ]
     event_moved (Prints e) = refl
     event_moved (Waits m) = refl
     event_moved Ticks = refl
 
     -- one more event
     cons_moved : (e : Option Event) (es fs : List Event) → fs ≡ map (behind n came_to) es
-        → cons_option (elim e [ None ↦ None | Some e ↦ Some (behind n came_to e) ]) fs ≡ map (behind n came_to) (cons_option e es)
+        → cons_option (elim e [ None ↦ None | Some e ↦ Some (behind n came_to e) ]) fs ≡ map (behind n came_to)
+        (cons_option e es)
     cons_moved None es fs same = same
     cons_moved (Some e) es fs same = ap (λ gs. behind n came_to e ∷ gs) same
 
     -- the whole run of a state behind
     pub whole_beside : (zs : List Step) (s : State) → IsWholeRun rules s zs
-        → (ys : List Step) × IsWholeRun rules (beside n overs s) ys × (length ys ≡ length zs) × (printed_of ys ≡ map (behind n came_to) (printed_of zs))
+        → (ys : List Step) × IsWholeRun rules (beside n overs s) ys × (length ys ≡ length zs)
+        × (printed_of ys ≡ map (behind n came_to) (printed_of zs))
     whole_beside [] s whole = absurd whole
-    whole_beside (z ∷ zs) s whole = by_end (is_end (step rules s)) refl whole.1 (whole_beside zs (after s (step rules s))) where
-      there : State
-      there = beside n overs s
+    whole_beside (z ∷ zs) s whole =
+        by_end (is_end (step rules s)) refl whole.1 (whole_beside zs (after s (step rules s))) where
+          there : State
+          there = beside n overs s
 
-      shown : (ys : List Step) → printed_of ys ≡ map (behind n came_to) (printed_of zs)
-          → printed_of (step_at rules there ∷ ys) ≡ map (behind n came_to) (printed_of (z ∷ zs))
-      shown ys same = ap (λ m. cons_option (event_of m) (printed_of ys)) (step_beside s)
-          ∙ ap (λ e. cons_option e (printed_of ys)) (event_moved (step rules s))
-          ∙ cons_moved (event_of (step rules s)) (printed_of zs) (printed_of ys) same
-          ∙ sym (ap (λ (y : Step). map (behind n came_to) (cons_option (event_of y.move) (printed_of zs))) whole.0)
+          shown : (ys : List Step) → printed_of ys ≡ map (behind n came_to) (printed_of zs)
+              → printed_of (step_at rules there ∷ ys) ≡ map (behind n came_to) (printed_of (z ∷ zs))
+          shown ys same = ap (λ m. cons_option (event_of m) (printed_of ys)) (step_beside s)
+              ∙ ap (λ e. cons_option e (printed_of ys)) (event_moved (step rules s))
+              ∙ cons_moved (event_of (step rules s)) (printed_of zs) (printed_of ys) same
+              ∙ sym (ap (λ (y : Step). map (behind n came_to) (cons_option (event_of y.move) (printed_of zs))) whole.0)
 
-      no_steps : List Step
-      no_steps = []
+          no_steps : List Step
+          no_steps = []
 
-      by_end : (b : Bool) → is_end (step rules s) ≡ b → MatchBool b (zs ≡ []) (IsWholeRun rules (after s (step rules s)) zs)
-          → (IsWholeRun rules (after s (step rules s)) zs → (ys : List Step) × IsWholeRun rules (beside n overs (after s (step rules s))) ys
-          × (length ys ≡ length zs) × (printed_of ys ≡ map (behind n came_to) (printed_of zs)))
-          → (ys : List Step) × IsWholeRun rules there ys × (length ys ≡ length (z ∷ zs)) × (printed_of ys ≡ map (behind n came_to) (printed_of (z ∷ zs)))
-      by_end true last none more = (
-        step_at rules there ∷ [],
-        (
-          refl,
-          subst (λ b. MatchBool b (no_steps ≡ []) (IsWholeRun rules (after there (step rules there)) []))
-              (sym (ap is_end (step_beside s) ∙ moved_end n came_to (step rules s) ∙ last)) refl,
-        ),
-        ap (λ xs. length (z ∷ xs)) (sym none),
-        shown [] (ap (λ xs. map (behind n came_to) (printed_of xs)) (sym none)),
-      )
-      by_end false on rest more = let it = more rest in (
-        step_at rules there ∷ it.0,
-        (
-          refl,
-          subst (λ b. MatchBool b (it.0 ≡ []) (IsWholeRun rules (after there (step rules there)) it.0))
-              (sym (ap is_end (step_beside s) ∙ moved_end n came_to (step rules s) ∙ on))
-              (subst (λ t. IsWholeRun rules t it.0) (sym (ap (after there) (step_beside s) ∙ after_beside s (step rules s))) it.1),
-        ),
-        omega (arith, it.2),
-        shown it.0 it.3,
-      )
+          by_end : (b : Bool) → is_end (step rules s) ≡ b
+              → MatchBool b (zs ≡ []) (IsWholeRun rules (after s (step rules s)) zs)
+              → (IsWholeRun rules (after s (step rules s)) zs → (ys : List Step)
+              × IsWholeRun rules (beside n overs (after s (step rules s))) ys
+              × (length ys ≡ length zs) × (printed_of ys ≡ map (behind n came_to) (printed_of zs)))
+              → (ys : List Step) × IsWholeRun rules there ys × (length ys ≡ length (z ∷ zs))
+              × (printed_of ys ≡ map (behind n came_to) (printed_of (z ∷ zs)))
+          by_end true last none more = (
+            step_at rules there ∷ [],
+            (
+              refl,
+              subst (λ b. MatchBool b (no_steps ≡ []) (IsWholeRun rules (after there (step rules there)) []))
+                  (sym (ap is_end (step_beside s) ∙ moved_end n came_to (step rules s) ∙ last)) refl,
+            ),
+            ap (λ xs. length (z ∷ xs)) (sym none),
+            shown [] (ap (λ xs. map (behind n came_to) (printed_of xs)) (sym none)),
+          )
+          by_end false on rest more = let it = more rest in (
+            step_at rules there ∷ it.0,
+            (
+              refl,
+              subst (λ b. MatchBool b (it.0 ≡ []) (IsWholeRun rules (after there (step rules there)) it.0))
+                  (sym (ap is_end (step_beside s) ∙ moved_end n came_to (step rules s) ∙ on))
+                  (subst (λ t. IsWholeRun rules t it.0)
+                  (sym (ap (after there) (step_beside s) ∙ after_beside s (step rules s))) it.1),
+            ),
+            omega (arith, it.2),
+            shown it.0 it.3,
+          )
 
     -- the settled run of a state behind
     pub settled_beside : (mark : ℕ) (xs : List Step) (s : State) → IsSettledRun rules mark s xs
@@ -547,7 +620,8 @@ module _ (rules : Rules) (n : ℕ) (overs : List Task) (over : Each (λ t. is_ov
         × (printed_of ys ≡ map (behind n came_to) (printed_of xs))
     settled_beside mark [] s run = (
       [],
-      ap (λ m. is_late m && nat_le mark s.clock) (open_beside s) ∙ ap (λ b. b && nat_le mark s.clock) (moved_late n came_to (open_step rules s)) ∙ run,
+      ap (λ m. is_late m && nat_le mark s.clock) (open_beside s)
+          ∙ ap (λ b. b && nat_le mark s.clock) (moved_late n came_to (open_step rules s)) ∙ run,
       refl,
       refl,
     )
@@ -555,8 +629,10 @@ module _ (rules : Rules) (n : ℕ) (overs : List Task) (over : Each (λ t. is_ov
       open_at rules (beside n overs s) ∷ it.0,
       (
         refl,
-        ap (λ m. is_late m && nat_le mark s.clock) (open_beside s) ∙ ap (λ b. b && nat_le mark s.clock) (moved_late n came_to (open_step rules s)) ∙ run.1,
-        subst (λ t. IsSettledRun rules mark t it.0) (sym (ap (after (beside n overs s)) (open_beside s) ∙ after_beside s (open_step rules s))) it.1,
+        ap (λ m. is_late m && nat_le mark s.clock) (open_beside s)
+            ∙ ap (λ b. b && nat_le mark s.clock) (moved_late n came_to (open_step rules s)) ∙ run.1,
+        subst (λ t. IsSettledRun rules mark t it.0)
+            (sym (ap (after (beside n overs s)) (open_beside s) ∙ after_beside s (open_step rules s))) it.1,
       ),
       omega (arith, it.2),
       ap (λ m. cons_option (event_of m) (printed_of it.0)) (open_beside s)

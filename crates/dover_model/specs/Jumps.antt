@@ -7,7 +7,13 @@ use Rattle.dover_model.specs.Sound.{Each, NoneRuns}
 
 -- the running job has n ticks more
 abbrev pub ticked_by : ℕ → Task → Task
-ticked_by n t = record { number = t.number; job = t.job; role = t.role; had = if is_running t then t.had + n else t.had }
+ticked_by n t = record {
+  number = t.number;
+  job = t.job;
+  role = t.role;
+  had =
+      if is_running t then t.had + n else t.had;
+}
 
 -- the state with the clock n further, and n ticks more for the running job
 abbrev pub later_by : ℕ → State → State

@@ -25,4 +25,5 @@ completed_in_parts rules owner parts jobs = sum_by (λ part. completed_value (pa
 
 -- the sum of their bounds
 abbrev pub bounds_of_parts : (ℕ → Rules) → (ℕ → ℕ) → List ℕ → List JobFacts → ℕ
-bounds_of_parts rules owner parts jobs = sum_by (λ part. bound (rules part).ratio (completed_value (part_under rules owner jobs part))) parts
+bounds_of_parts rules owner parts jobs =
+    sum_by (λ part. bound (rules part).ratio (completed_value (part_under rules owner jobs part))) parts

@@ -57,7 +57,8 @@ IsInTurn rules from (jobs ∷ lists) = IsValid (record { rules = rules; jobs = j
 abbrev pub AreOverAt : Rules → ℕ → List (List JobFacts) → (tick : ℕ) → Type 0
 AreOverAt rules from [] tick = from ≤ tick
 AreOverAt rules from (jobs ∷ lists) tick = IsValid (record { rules = rules; jobs = jobs }) × NoneBefore from jobs
-    × ((rest : ℕ) × (from ≤ rest) × IsAtRest (record { rules = rules; jobs = jobs }) rest × AreOverAt rules rest lists tick)
+    × ((rest : ℕ) × (from ≤ rest) × IsAtRest (record { rules = rules; jobs = jobs }) rest
+    × AreOverAt rules rest lists tick)
 
 -- all their jobs
 abbrev pub in_turn : List (List JobFacts) → List JobFacts
@@ -68,7 +69,8 @@ in_turn (jobs ∷ lists) = jobs ++ in_turn lists
 abbrev pub printed_in_turn : Rules → List (List JobFacts) → List Event
 printed_in_turn rules [] = End 0 ∷ []
 printed_in_turn rules (jobs ∷ lists) = before_end (printed (record { rules = rules; jobs = jobs }))
-    ++ map (behind (length jobs) (completed_value (record { rules = rules; jobs = jobs }))) (printed_in_turn rules lists)
+    ++ map (behind (length jobs) (completed_value (record { rules = rules; jobs = jobs })))
+    (printed_in_turn rules lists)
 
 -- the sum of what their runs complete
 abbrev pub completed_in_turn : Rules → List (List JobFacts) → ℕ
@@ -90,10 +92,12 @@ later_event c (Complete at n) = Complete (at + c) n
 later_event c (Abandon at n) = Abandon (at + c) n
 later_event c (End value) = End value
 
--- Lists of jobs, each with a tick, that are valid and at rest at that tick, each by itself and in a time of its own from the tick 0 on.
+-- Lists of jobs, each with a tick, that are valid and at rest at that tick, each by itself and in a time of its own
+-- from the tick 0 on.
 abbrev pub AreAnew : Rules → List (ℕ × List JobFacts) → Type 0
 AreAnew rules [] = Unit {0}
-AreAnew rules (t_jobs ∷ lists) = IsValid (record { rules = rules; jobs = t_jobs.1 }) × IsAtRest (record { rules = rules; jobs = t_jobs.1 }) t_jobs.0
+AreAnew rules (t_jobs ∷ lists) = IsValid (record { rules = rules; jobs = t_jobs.1 })
+    × IsAtRest (record { rules = rules; jobs = t_jobs.1 }) t_jobs.0
     × AreAnew rules lists
 
 -- all their jobs in one time, in which each list begins at the tick at which the one before it is at rest

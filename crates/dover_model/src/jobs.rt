@@ -23,7 +23,8 @@ impl Model for Job {
 
     ghost view = { λ j. record { release = j.release; work = j.work; deadline = j.deadline; value = j.value } };
 
-    ghost invariant = { λ j. IsJob (record { release = j.release; work = j.work; deadline = j.deadline; value = j.value }) };
+    ghost invariant = { λ j. IsJob
+        (record { release = j.release; work = j.work; deadline = j.deadline; value = j.value }) };
 
     ghost inverse = { λ j. record { release = j.release; work = j.work; deadline = j.deadline; value = j.value } };
 }
@@ -34,8 +35,10 @@ impl Job {
 
     /// None exactly where a limit of one job is broken.
     pub fn new(release: u64, work: u64, deadline: u64, value: u64) -> Option<Job>
-        ensures allowed { IsSome result ↔ IsJob (record { release = release; work = work; deadline = deadline; value = value }) }
-        ensures facts { IfSome result (λ job. job ≡ record { release = release; work = work; deadline = deadline; value = value }) }
+        ensures allowed { IsSome result ↔ IsJob
+            (record { release = release; work = work; deadline = deadline; value = value }) }
+        ensures facts { IfSome result
+            (λ job. job ≡ record { release = release; work = work; deadline = deadline; value = value }) }
     {
         if work < 1 || deadline > LAST_TICK || value < 1 || value > MOST_VALUE {
             return None;

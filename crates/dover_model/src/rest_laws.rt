@@ -9,7 +9,8 @@ ghost use Rattle.dover_model.specs.Schedules.{Meets, worth};
 ghost use Rattle.dover_model.specs.Bound.{IsWithin};
 ghost use Rattle.dover_model.specs.Underload.{loses};
 ghost use Rattle.dover_model.specs.Sound.{Each};
-ghost use Rattle.dover_model.specs.Rest.{instead, NoneBefore, IsAtRest, end_tick, behind, before_end, IsInTurn, AreOverAt, in_turn, printed_in_turn, completed_in_turn};
+ghost use Rattle.dover_model.specs.Rest.{instead, NoneBefore, IsAtRest, end_tick, behind, before_end, IsInTurn};
+ghost use Rattle.dover_model.specs.Rest.{AreOverAt, in_turn, printed_in_turn, completed_in_turn};
 ghost use Rattle.dover_model.specs.Rest.{later_job, later_event, AreAnew, anew, printed_anew, completed_anew};
 ghost use Rattle.dover_model.specs.Parts.{part_of, IsParted, part_under, completed_in_parts, bounds_of_parts};
 
@@ -17,17 +18,24 @@ ghost use Rattle.dover_model.specs.Parts.{part_of, IsParted, part_under, complet
 pub fn all_is_settled_at_rest()
     ensures rest { (J : Instance) (m : ℕ) → IsValid J → IsAtRest J m ↔ (end_tick J ≤ m) }
     ensures settled { (J : Instance) (m : ℕ) → IsValid J → IsAtRest J m → settled J m ≡ before_end (printed J) }
-    ensures end { (J : Instance) (m : ℕ) → IsValid J → IsAtRest J m → printed J ≡ before_end (printed J) ++ (End (completed_value J) ∷ []) }
+    ensures end { (J : Instance) (m : ℕ) → IsValid J → IsAtRest J m
+        → printed J ≡ before_end (printed J) ++ (End (completed_value J) ∷ []) }
 {}
 
-/// A run falls apart at rest: with jobs that are released then or later it prints what it prints without them, and then what they print alone, numbered behind.
+/// A run falls apart at rest: with jobs that are released then or later it prints what it prints without them, and then
+/// what they print alone, numbered behind.
 pub fn runs_fall_apart_at_rest()
-    ensures printed { (J : Instance) (more : List JobFacts) (m : ℕ) → IsValid J → IsValid (instead J more) → IsAtRest J m → NoneBefore m more →
-        printed (with_jobs J more) ≡ before_end (printed J) ++ map (behind (length J.jobs) (completed_value J)) (printed (instead J more)) }
-    ensures settled { (J : Instance) (more : List JobFacts) (m mark : ℕ) → IsValid J → IsValid (instead J more) → IsAtRest J m → NoneBefore m more →
+    ensures printed { (J : Instance) (more : List JobFacts) (m : ℕ) → IsValid J → IsValid (instead J more)
+        → IsAtRest J m → NoneBefore m more →
+        printed (with_jobs J more) ≡ before_end (printed J) ++ map (behind (length J.jobs) (completed_value J))
+        (printed (instead J more)) }
+    ensures settled { (J : Instance) (more : List JobFacts) (m mark : ℕ) → IsValid J → IsValid (instead J more)
+        → IsAtRest J m → NoneBefore m more →
         m ≤ mark →
-        settled (with_jobs J more) mark ≡ before_end (printed J) ++ map (behind (length J.jobs) (completed_value J)) (settled (instead J more) mark) }
-    ensures value { (J : Instance) (more : List JobFacts) (m : ℕ) → IsValid J → IsValid (instead J more) → IsAtRest J m → NoneBefore m more →
+        settled (with_jobs J more) mark ≡ before_end (printed J) ++ map (behind (length J.jobs) (completed_value J))
+        (settled (instead J more) mark) }
+    ensures value { (J : Instance) (more : List JobFacts) (m : ℕ) → IsValid J → IsValid (instead J more) → IsAtRest J m
+        → NoneBefore m more →
         completed_value (with_jobs J more) ≡ completed_value J + completed_value (instead J more) }
 {}
 
@@ -43,25 +51,32 @@ pub fn runs_in_turn_are_one_run()
         IsWithin rules.ratio (worth (record { rules = rules; jobs = in_turn lists }) s) (completed_value (record { rules = rules; jobs = in_turn lists })) }
 {}
 
-/// Behind lists in turn that are over, further jobs run as they do alone, numbered behind, and so does what is settled of them.
+/// Behind lists in turn that are over, further jobs run as they do alone, numbered behind, and so does what is settled
+/// of them.
 pub fn runs_go_on_in_turn()
-    ensures settled { (rules : Rules) (lists : List (List JobFacts)) (more : List JobFacts) (m mark : ℕ) → AreOverAt rules 0 lists m →
+    ensures settled { (rules : Rules) (lists : List (List JobFacts)) (more : List JobFacts) (m mark : ℕ)
+        → AreOverAt rules 0 lists m →
         IsValid (record { rules = rules; jobs = more }) → NoneBefore m more → m ≤ mark →
-        settled (record { rules = rules; jobs = in_turn lists ++ more }) mark ≡ before_end (printed (record { rules = rules; jobs = in_turn lists }))
+        settled (record { rules = rules; jobs = in_turn lists ++ more }) mark ≡ before_end
+        (printed (record { rules = rules; jobs = in_turn lists }))
         ++ map (behind (length (in_turn lists)) (completed_in_turn rules lists)) (settled (record { rules = rules; jobs = more }) mark) }
-    ensures printed { (rules : Rules) (lists : List (List JobFacts)) (more : List JobFacts) (m : ℕ) → AreOverAt rules 0 lists m →
+    ensures printed { (rules : Rules) (lists : List (List JobFacts)) (more : List JobFacts) (m : ℕ)
+        → AreOverAt rules 0 lists m →
         IsValid (record { rules = rules; jobs = more }) → NoneBefore m more →
-        printed (record { rules = rules; jobs = in_turn lists ++ more }) ≡ before_end (printed (record { rules = rules; jobs = in_turn lists }))
+        printed (record { rules = rules; jobs = in_turn lists ++ more }) ≡ before_end
+        (printed (record { rules = rules; jobs = in_turn lists }))
         ++ map (behind (length (in_turn lists)) (completed_in_turn rules lists)) (printed (record { rules = rules; jobs = more })) }
 {}
 
 /// A run of jobs moved in time is the run, moved in time.
 pub fn runs_move_in_time()
-    ensures { (J : Instance) (c : ℕ) → IsValid J → IsValid (record { rules = J.rules; jobs = map (later_job c) J.jobs }) →
+    ensures { (J : Instance) (c : ℕ) → IsValid J → IsValid (record { rules = J.rules; jobs = map (later_job c) J.jobs })
+        →
         printed (record { rules = J.rules; jobs = map (later_job c) J.jobs }) ≡ map (later_event c) (printed J) }
 {}
 
-/// So runs one after another, each in a time of its own, are one run, of any length: its jobs together keep no limit of count, sum, ratio or time.
+/// So runs one after another, each in a time of its own, are one run, of any length: its jobs together keep no limit of
+/// count, sum, ratio or time.
 pub fn runs_anew_are_one_run()
     ensures printed { (rules : Rules) (lists : List (ℕ × List JobFacts)) → AreAnew rules lists →
         printed (record { rules = rules; jobs = anew lists }) ≡ printed_anew rules lists }
@@ -73,11 +88,15 @@ pub fn runs_anew_are_one_run()
 
 /// Bounds add up: no schedule of all jobs is worth more than the runs of the parts allow, each part valid by itself.
 pub fn bounds_add_up()
-    ensures common { (rules : Rules) (owner : ℕ → ℕ) (parts : List ℕ) (jobs : List JobFacts) (s : List ℕ) → IsParted owner parts jobs →
+    ensures common { (rules : Rules) (owner : ℕ → ℕ) (parts : List ℕ) (jobs : List JobFacts) (s : List ℕ)
+        → IsParted owner parts jobs →
         Each (λ part. IsValid (part_under (λ _. rules) owner jobs part)) parts →
-        IsWithin rules.ratio (worth (record { rules = rules; jobs = jobs }) s) (completed_in_parts (λ _. rules) owner parts jobs) }
-    ensures own { (J : Instance) (rules : ℕ → Rules) (owner : ℕ → ℕ) (parts : List ℕ) (s : List ℕ) → IsParted owner parts J.jobs →
-        Each (λ part. IsValid (part_under rules owner J.jobs part)) parts → worth J s ≤ bounds_of_parts rules owner parts J.jobs }
+        IsWithin rules.ratio (worth (record { rules = rules; jobs = jobs }) s)
+        (completed_in_parts (λ _. rules) owner parts jobs) }
+    ensures own { (J : Instance) (rules : ℕ → Rules) (owner : ℕ → ℕ) (parts : List ℕ) (s : List ℕ)
+        → IsParted owner parts J.jobs →
+        Each (λ part. IsValid (part_under rules owner J.jobs part)) parts
+        → worth J s ≤ bounds_of_parts rules owner parts J.jobs }
     ensures in_turn { (rules : Rules) (lists : List (List JobFacts)) (s : List ℕ) →
         Each (λ jobs. IsValid (record { rules = rules; jobs = jobs })) lists →
         IsWithin rules.ratio (worth (record { rules = rules; jobs = in_turn lists }) s) (completed_in_turn rules lists) }
@@ -85,11 +104,15 @@ pub fn bounds_add_up()
 
 /// Where one schedule serves all jobs, no part loses anything.
 pub fn no_part_loses_in_underload()
-    ensures parted { (J : Instance) (rules : Rules) (owner : ℕ → ℕ) (part : ℕ) → Meets J → IsValid (part_under (λ _. rules) owner J.jobs part) →
+    ensures parted { (J : Instance) (rules : Rules) (owner : ℕ → ℕ) (part : ℕ) → Meets J
+        → IsValid (part_under (λ _. rules) owner J.jobs part) →
         completed_value (part_under (λ _. rules) owner J.jobs part) ≡ total_value (part_of owner part J.jobs) }
-    ensures in_turn { (rules : Rules) (lists : List (List JobFacts)) → Each (λ jobs. IsValid (record { rules = rules; jobs = jobs })) lists →
+    ensures in_turn { (rules : Rules) (lists : List (List JobFacts))
+        → Each (λ jobs. IsValid (record { rules = rules; jobs = jobs })) lists →
         Meets (record { rules = rules; jobs = in_turn lists }) →
         Each (λ jobs. Each (λ x. loses x.move ≡ false) (run (record { rules = rules; jobs = jobs }))) lists }
-    ensures value { (rules : Rules) (lists : List (List JobFacts)) → Each (λ jobs. IsValid (record { rules = rules; jobs = jobs })) lists →
-        Meets (record { rules = rules; jobs = in_turn lists }) → completed_in_turn rules lists ≡ total_value (in_turn lists) }
+    ensures value { (rules : Rules) (lists : List (List JobFacts))
+        → Each (λ jobs. IsValid (record { rules = rules; jobs = jobs })) lists →
+        Meets (record { rules = rules; jobs = in_turn lists })
+        → completed_in_turn rules lists ≡ total_value (in_turn lists) }
 {}

@@ -1,5 +1,6 @@
 -- Texts that pass through a buffer, one behind another.
-use Rattle.std.proofs.Common.{◌≡◌, ℕ, List, [], ◌++◌, length, Result, Option, length-append, arith, sym, ap, ◌∙◌, append_assoc}
+use Rattle.std.proofs.Common.{◌≡◌, ℕ, List, [], ◌++◌, length, Result, Option, length-append, arith, sym, ap, ◌∙◌}
+use Rattle.std.proofs.Common.{append_assoc}
 use Rattle.std.proofs.lemmas.List.{append-nil}
 use Rattle.std.proofs.lemmas.Result.{on_ok_weaker}
 use Rattle.dover_port.specs.Moves.{IsProperPrefix, PutsText, Passes, CutsShort, PutsThrough, Move, ArePuts, outs}
@@ -11,12 +12,14 @@ module _ (a b c : Option (List Move)) (p q r t u : List ℕ) where
       → ArePuts (xs ++ ys) × (outs (xs ++ ys) ++ r ≡ p ++ (t ++ u))
   join_all xs ys f s = (
     ArePuts-append xs ys f.0 s.0,
-    ap (λ l. l ++ r) (outs-append xs ys) ∙ append_assoc (outs xs) (outs ys) r ∙ ap (λ l. outs xs ++ l) s.1 ∙ sym (append_assoc (outs xs) q u)
+    ap (λ l. l ++ r) (outs-append xs ys) ∙ append_assoc (outs xs) (outs ys) r ∙ ap (λ l. outs xs ++ l) s.1
+        ∙ sym (append_assoc (outs xs) q u)
         ∙ ap (λ l. l ++ u) f.1 ∙ append_assoc p t u,
   )
 
   -- a text, and a front of another
-  join_part : (xs ys : List Move) → ArePuts xs × (outs xs ++ q ≡ p ++ t) → ArePuts ys × IsProperPrefix (outs ys) (q ++ u)
+  join_part : (xs ys : List Move) → ArePuts xs × (outs xs ++ q ≡ p ++ t) → ArePuts ys
+      × IsProperPrefix (outs ys) (q ++ u)
       → ArePuts (xs ++ ys) × IsProperPrefix (outs (xs ++ ys)) (p ++ (t ++ u))
   join_part xs ys f s = (
     ArePuts-append xs ys f.0 s.0,
@@ -38,7 +41,8 @@ module _ (a b c : Option (List Move)) (p q r t u : List ℕ) where
 
 module _ (a b : Option (List Move)) (p t : List ℕ) where
   -- a front of the first of two texts
-  longer : (u : List ℕ) (xs : List Move) → ArePuts xs × IsProperPrefix (outs xs) (p ++ t) → ArePuts xs × IsProperPrefix (outs xs) (p ++ (t ++ u))
+  longer : (u : List ℕ) (xs : List Move) → ArePuts xs × IsProperPrefix (outs xs) (p ++ t) → ArePuts xs
+      × IsProperPrefix (outs xs) (p ++ (t ++ u))
   longer u xs it = (
     it.0,
     (
@@ -53,7 +57,8 @@ module _ (a b : Option (List Move)) (p t : List ℕ) where
   cut_longer u first = since_weaker a b _ _ first (longer u)
 
   -- What is put at once passes with nothing pending after it.
-  pub passes_at_once : {T E : Type 0} (result : Result T E) → PutsText a b result (p ++ t) → PutsThrough a b result p [] t
+  pub passes_at_once : {T E : Type 0} (result : Result T E) → PutsText a b result (p ++ t)
+      → PutsThrough a b result p [] t
   passes_at_once result f = record {
     all = on_ok_weaker result (λ more. since_weaker a b _ _ more (λ xs it. (it.0, append-nil (outs xs) ∙ it.1))) f.all;
     part = f.part;

@@ -1,4 +1,5 @@
-ghost use Rattle.std.specs.Prelude.{◌≡◌, ◌≢◌, ◌+◌, ◌-◌, ◌<◌, ◌≤◌, ◌↔◌, [], ◌∷◌, ◌++◌, length, take, drop, map, Some, IfOk, OnErr, IsErr, IsTrue, vec_len};
+ghost use Rattle.std.specs.Prelude.{◌≡◌, ◌≢◌, ◌+◌, ◌-◌, ◌<◌, ◌≤◌, ◌↔◌, [], ◌∷◌, ◌++◌, length, take, drop, map, Some};
+ghost use Rattle.std.specs.Prelude.{IfOk, OnErr, IsErr, IsTrue, vec_len};
 ghost use Rattle.std.specs.Prelude.{vec_capacity};
 ghost use Rattle.std.specs.List.{flat_map};
 ghost use Rattle.dover_port.specs.Causes.{HasCause, StopsAtFailure};
@@ -131,7 +132,8 @@ impl MemoryPort {
     ) -> Result<MemoryPort, Memory>
         requires { 0 < most }
         ensures moves { IfOk result (λ port. ⟦<MemoryPort as Port>⟧.moves port ≡ Some []) }
-        ensures left { IfOk result (λ port. ⟦<MemoryPort as Port>⟧.left port ≡ Some (flat_map (λ piece. piece.items) script.items)) }
+        ensures left { IfOk result
+            (λ port. ⟦<MemoryPort as Port>⟧.left port ≡ Some (flat_map (λ piece. piece.items) script.items)) }
         ensures reads { IfOk result (λ port. ⟦<MemoryPort as Port>⟧.read_faults port ≡ 0) }
         ensures writes { IfOk result (λ port. ⟦<MemoryPort as Port>⟧.write_faults port ≡ 0) }
         ensures calls { IfOk result (λ port. ⟦<MemoryPort as Port>⟧.calls port ≡ Well) }
@@ -187,7 +189,8 @@ impl MemoryPort {
 }
 
 impl Port for MemoryPort {
-    ghost use Rattle.dover_port.specs.Memory.{made, read_count, ReadFails, write_count, WriteFails, KeepsScript, number_of};
+    ghost use Rattle.dover_port.specs.Memory.{made, read_count, ReadFails, write_count, WriteFails, KeepsScript};
+    ghost use Rattle.dover_port.specs.Memory.{number_of};
 
     ghost moves = { λ m. Some (made m) };
 
@@ -202,12 +205,16 @@ impl Port for MemoryPort {
     fn read(&mut self, buf: &mut [u8]) -> Result<usize, Failed>
         requires { 0 < length buf.old }
         ensures bound { IfOk result (λ n. n ≤ length buf.new) }
-        ensures moved { IfOk result (λ n. Adds (Some (made self.old)) (Some (made self.new)) (read_move (take n buf.new))) }
-        ensures taken { IfOk result (λ n. drop self.old.at self.old.input.items ≡ take n buf.new ++ drop self.new.at self.new.input.items) }
+        ensures moved { IfOk result
+            (λ n. Adds (Some (made self.old)) (Some (made self.new)) (read_move (take n buf.new))) }
+        ensures taken { IfOk result
+            (λ n. drop self.old.at self.old.input.items ≡ take n buf.new ++ drop self.new.at self.new.input.items) }
         ensures end { IfOk result (λ n. (n ≡ 0) ↔ (drop self.old.at self.old.input.items ≡ [])) }
         ensures failed { OnErr result
-            ((made self.new ≡ made self.old) × (drop self.new.at self.new.input.items ≡ drop self.old.at self.old.input.items)) }
-        ensures cause { HasCause self.old.read_faults self.new.read_faults self.old.write_faults self.new.write_faults result }
+            ((made self.new ≡ made self.old)
+            × (drop self.new.at self.new.input.items ≡ drop self.old.at self.old.input.items)) }
+        ensures cause { HasCause self.old.read_faults self.new.read_faults self.old.write_faults self.new.write_faults
+            result }
         ensures stops { StopsAtFailure self.old.calls self.new.calls result }
         ensures went_on { self.old.calls ≢ Well → self.new.calls ≡ WentOn }
         ensures count { IfOk result (λ n. n ≡ read_count self.old (length buf.old)) }
@@ -245,7 +252,8 @@ impl Port for MemoryPort {
         ensures moved { IfOk result (λ n. Adds (Some (made self.old)) (Some (made self.new)) (Put (take n bytes.now))) }
         ensures left { drop self.new.at self.new.input.items ≡ drop self.old.at self.old.input.items }
         ensures failed { OnErr result (made self.new ≡ made self.old) }
-        ensures cause { HasCause self.old.write_faults self.new.write_faults self.old.read_faults self.new.read_faults result }
+        ensures cause { HasCause self.old.write_faults self.new.write_faults self.old.read_faults self.new.read_faults
+            result }
         ensures stops { StopsAtFailure self.old.calls self.new.calls result }
         ensures went_on { self.old.calls ≢ Well → self.new.calls ≡ WentOn }
         ensures count { IfOk result (λ n. n ≡ write_count self.old (length bytes.now)) }

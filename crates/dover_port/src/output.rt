@@ -9,7 +9,8 @@ use std::marker::Model;
 /// How many bytes an `Output` keeps back at most.
 pub const OUTPUT_BYTES: usize = 65_536;
 
-/// Bytes that are due and not yet put. They are put together when there is no room for more, and when `flush` is called.
+/// Bytes that are due and not yet put. They are put together when there is no room for more, and when `flush` is
+/// called.
 #[derive(Drop)]
 pub struct Output {
     bytes: [u8; OUTPUT_BYTES],
@@ -42,7 +43,8 @@ impl Output {
         ensures text { PutsThrough (P.moves port.old) (P.moves port.new) result self.old [] [] }
         ensures empty { OnOk result (self.new ≡ []) }
         ensures same { OnErr result (self.new ≡ self.old) }
-        ensures cause { HasCause (P.write_faults port.old) (P.write_faults port.new) (P.read_faults port.old) (P.read_faults port.new) result }
+        ensures cause { HasCause (P.write_faults port.old) (P.write_faults port.new) (P.read_faults port.old)
+            (P.read_faults port.new) result }
         ensures stops { StopsAtFailure (P.calls port.old) (P.calls port.new) result }
     {
         match put_all(port, &self.bytes[..self.used]) {
@@ -76,7 +78,8 @@ impl Output {
         requires { length bytes.now ≤ OUTPUT_BYTES }
         ensures text { PutsThrough (P.moves port.old) (P.moves port.new) result self.old self.new bytes.now }
         ensures same { OnErr result (self.new ≡ self.old) }
-        ensures cause { HasCause (P.write_faults port.old) (P.write_faults port.new) (P.read_faults port.old) (P.read_faults port.new) result }
+        ensures cause { HasCause (P.write_faults port.old) (P.write_faults port.new) (P.read_faults port.old)
+            (P.read_faults port.new) result }
         ensures stops { StopsAtFailure (P.calls port.old) (P.calls port.new) result }
     {
         if !self.has_room(bytes.len()) {

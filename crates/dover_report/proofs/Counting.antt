@@ -1,5 +1,6 @@
 -- Counts among the printed steps of a run are those of its report.
-use Rattle.std.proofs.Common.{◌≡◌, ℕ, ◌+◌, ◌≤◌, ◌<◌, List, [], ◌∷◌, ◌++◌, length, map, take, get_or, refl, sym, ap, ◌∙◌, cond, arith, append_assoc}
+use Rattle.std.proofs.Common.{◌≡◌, ℕ, ◌+◌, ◌≤◌, ◌<◌, List, [], ◌∷◌, ◌++◌, length, map, take, get_or, refl, sym, ap, ◌∙◌}
+use Rattle.std.proofs.Common.{cond, arith, append_assoc}
 use Rattle.std.proofs.lemmas.List.{length-take}
 use Rattle.std.specs.Prelude.{Option, Some, None, option_to_list, codes}
 use Rattle.std.specs.List.{filter_map, sum_by, count_by, cons_option, enumerate_from}
@@ -29,7 +30,8 @@ use Rattle.dover_model.proofs.JobSessions.{jobs_back, instance_back, session_of_
 use Rattle.dover_model.proofs.Walks.{session_names}
 use Rattle.charge_ledger.specs.Rows.{IsRunOf, numbers_of, rows_of}
 use Rattle.charge_ledger.specs.declared.interval.Interval.{Interval}
-use Rattle.dover_report.specs.Counts.{job_released, jobs_released, is_completion, is_abandonment, value_in, value_lost, all_lost}
+use Rattle.dover_report.specs.Counts.{job_released, jobs_released, is_completion, is_abandonment, value_in, value_lost}
+use Rattle.dover_report.specs.Counts.{all_lost}
 use Rattle.dover_report.specs.Counts.{counts_of, counts_lines}
 use Rattle.dover_report.specs.Lines.{row_line, row_lines}
 
@@ -39,7 +41,8 @@ use Rattle.dover_report.specs.Lines.{row_line, row_lines}
 pub released_more : (run : List Event) (i : ℕ) (e : Event) (jobs : List JobFacts) → e ≡ get_or run i e → i < length run
     → jobs ≡ jobs_released (take i run) → jobs ++ option_to_list (job_released e) ≡ jobs_released (take (i + 1) run)
 released_more run i e jobs is there before =
-    ap (λ js. js ++ option_to_list (job_released e)) before ∙ ap (λ x. jobs_released (take i run) ++ x) (one (job_released e))
+    ap (λ js. js ++ option_to_list (job_released e)) before
+    ∙ ap (λ x. jobs_released (take i run) ++ x) (one (job_released e))
     ∙ sym (filter_map-append job_released (take i run) (e ∷ []))
     ∙ ap (λ x. jobs_released (take i run ++ x ∷ [])) is ∙ ap jobs_released (sym (take_more run i e there)) where
       one : (p : Option JobFacts) → option_to_list p ≡ cons_option p []
@@ -71,7 +74,8 @@ releases_are J valid = sym (jobs_back (releases (printed J)))
           let lines : put_in (places_after J.rules [] (map JobItem J.jobs)) 0 (printed J) ≡ map Printed (printed J) =
           ap (λ places. put_in places 0 (printed J)) (no_places J [] J.jobs) in
           ap (filter_map item_of_line) (sym lines)
-          ∙ ap (λ (K : Instance). filter_map item_of_line (put_in (places_after J.rules [] (map JobItem J.jobs)) 0 (printed K)))
+          ∙ ap (λ (K : Instance). filter_map item_of_line
+          (put_in (places_after J.rules [] (map JobItem J.jobs)) 0 (printed K)))
           (sym (instance_back J))
           ∙ session_names (session_of J) (session_of_valid J valid)
 
@@ -80,10 +84,14 @@ releases_are J valid = sym (jobs_back (releases (printed J)))
 -- jobs that are done
 completions : (run : List Event) → count_by is_completed (filter_map fate_of_event run) ≡ count_by is_completion run
 completions [] = refl
-completions (Release n job ∷ run) = omega (arith, sum_by-cons (λ e. cond (is_completion e) 1 0) (Release n job) run, completions run)
-completions (Run at n ∷ run) = omega (arith, sum_by-cons (λ e. cond (is_completion e) 1 0) (Run at n) run, completions run)
-completions (Preempt at r n ∷ run) = omega (arith, sum_by-cons (λ e. cond (is_completion e) 1 0) (Preempt at r n) run, completions run)
-completions (Take at r n ∷ run) = omega (arith, sum_by-cons (λ e. cond (is_completion e) 1 0) (Take at r n) run, completions run)
+completions (Release n job ∷ run) =
+    omega (arith, sum_by-cons (λ e. cond (is_completion e) 1 0) (Release n job) run, completions run)
+completions (Run at n ∷ run) =
+    omega (arith, sum_by-cons (λ e. cond (is_completion e) 1 0) (Run at n) run, completions run)
+completions (Preempt at r n ∷ run) =
+    omega (arith, sum_by-cons (λ e. cond (is_completion e) 1 0) (Preempt at r n) run, completions run)
+completions (Take at r n ∷ run) =
+    omega (arith, sum_by-cons (λ e. cond (is_completion e) 1 0) (Take at r n) run, completions run)
 completions (Complete at n ∷ run) = omega (
   arith,
   sum_by-cons (λ e. cond (is_completion e) 1 0) (Complete at n) run,
@@ -96,7 +104,8 @@ completions (Abandon at n ∷ run) = omega (
   sum_by-cons (λ f. cond (is_completed f) 1 0) (Abandoned n at) (filter_map fate_of_event run),
   completions run,
 )
-completions (End value ∷ run) = omega (arith, sum_by-cons (λ e. cond (is_completion e) 1 0) (End value) run, completions run)
+completions (End value ∷ run) =
+    omega (arith, sum_by-cons (λ e. cond (is_completion e) 1 0) (End value) run, completions run)
 
 -- the numbers of the jobs that are gone
 abbrev gone : List Event → List ℕ
@@ -105,13 +114,20 @@ gone run = filter_map abandoned_number (filter_map fate_of_event run)
 -- jobs that are gone
 abandonments : (run : List Event) → length (gone run) ≡ count_by is_abandonment run
 abandonments [] = refl
-abandonments (Release n job ∷ run) = omega (arith, sum_by-cons (λ e. cond (is_abandonment e) 1 0) (Release n job) run, abandonments run)
-abandonments (Run at n ∷ run) = omega (arith, sum_by-cons (λ e. cond (is_abandonment e) 1 0) (Run at n) run, abandonments run)
-abandonments (Preempt at r n ∷ run) = omega (arith, sum_by-cons (λ e. cond (is_abandonment e) 1 0) (Preempt at r n) run, abandonments run)
-abandonments (Take at r n ∷ run) = omega (arith, sum_by-cons (λ e. cond (is_abandonment e) 1 0) (Take at r n) run, abandonments run)
-abandonments (Complete at n ∷ run) = omega (arith, sum_by-cons (λ e. cond (is_abandonment e) 1 0) (Complete at n) run, abandonments run)
-abandonments (Abandon at n ∷ run) = omega (arith, sum_by-cons (λ e. cond (is_abandonment e) 1 0) (Abandon at n) run, abandonments run)
-abandonments (End value ∷ run) = omega (arith, sum_by-cons (λ e. cond (is_abandonment e) 1 0) (End value) run, abandonments run)
+abandonments (Release n job ∷ run) =
+    omega (arith, sum_by-cons (λ e. cond (is_abandonment e) 1 0) (Release n job) run, abandonments run)
+abandonments (Run at n ∷ run) =
+    omega (arith, sum_by-cons (λ e. cond (is_abandonment e) 1 0) (Run at n) run, abandonments run)
+abandonments (Preempt at r n ∷ run) =
+    omega (arith, sum_by-cons (λ e. cond (is_abandonment e) 1 0) (Preempt at r n) run, abandonments run)
+abandonments (Take at r n ∷ run) =
+    omega (arith, sum_by-cons (λ e. cond (is_abandonment e) 1 0) (Take at r n) run, abandonments run)
+abandonments (Complete at n ∷ run) =
+    omega (arith, sum_by-cons (λ e. cond (is_abandonment e) 1 0) (Complete at n) run, abandonments run)
+abandonments (Abandon at n ∷ run) =
+    omega (arith, sum_by-cons (λ e. cond (is_abandonment e) 1 0) (Abandon at n) run, abandonments run)
+abandonments (End value ∷ run) =
+    omega (arith, sum_by-cons (λ e. cond (is_abandonment e) 1 0) (End value) run, abandonments run)
 
 -- their value
 losses : (jobs : List JobFacts) (run : List Event) → sum_by (value_in jobs) (gone run) ≡ all_lost jobs run
@@ -133,14 +149,17 @@ losses jobs (End value ∷ run) = omega (arith, sum_by-cons (value_lost jobs) (E
 
 -- equal numbers have equal lines
 same_lines : (n m x y a b g h v w t u c d : ℕ) → n ≡ m → x ≡ y → a ≡ b → g ≡ h → v ≡ w → t ≡ u → c ≡ d
-    → with_numbers (codes "jobs") (n ∷ []) ∷ with_numbers (codes "completed") (x ∷ a ∷ []) ∷ with_numbers (codes "abandoned") (g ∷ v ∷ [])
+    → with_numbers (codes "jobs") (n ∷ []) ∷ with_numbers (codes "completed") (x ∷ a ∷ []) ∷ with_numbers
+    (codes "abandoned") (g ∷ v ∷ [])
     ∷ with_numbers (codes "taken") (t ∷ []) ∷ with_numbers (codes "bound") (c ∷ []) ∷ []
-    ≡ with_numbers (codes "jobs") (m ∷ []) ∷ with_numbers (codes "completed") (y ∷ b ∷ []) ∷ with_numbers (codes "abandoned") (h ∷ w ∷ [])
+    ≡ with_numbers (codes "jobs") (m ∷ []) ∷ with_numbers (codes "completed") (y ∷ b ∷ []) ∷ with_numbers
+    (codes "abandoned") (h ∷ w ∷ [])
     ∷ with_numbers (codes "taken") (u ∷ []) ∷ with_numbers (codes "bound") (d ∷ []) ∷ []
 same_lines n m x y a b g h v w t u c d e1 e2 e3 e4 e5 e6 e7 = cc
 
 -- the rows have the lines of the intervals
-rows_lines : (n : ℕ) (is : List model.Interval) → map row_line (enumerate_from n (map numbers_of is)) ≡ map interval_line (enumerate_from n is)
+rows_lines : (n : ℕ) (is : List model.Interval)
+    → map row_line (enumerate_from n (map numbers_of is)) ≡ map interval_line (enumerate_from n is)
 rows_lines n [] = refl
 rows_lines n (i ∷ is) = ap (λ ls. interval_line (n, i) ∷ ls) (rows_lines (n + 1) is)
 
@@ -150,14 +169,17 @@ lines_snoc : (n : ℕ) (rows : List Interval) (r : Interval) → map row_line (e
 lines_snoc n [] r = ap (λ m. row_line (m, r) ∷ []) (omega arith)
 lines_snoc n (x ∷ rows) r =
     let same : n + 1 + length rows ≡ n + length (x ∷ rows) = omega arith in
-    ap (λ ls. row_line (n, x) ∷ ls) (lines_snoc (n + 1) rows r ∙ ap (λ m. map row_line (enumerate_from (n + 1) rows) ++ row_line (m, r) ∷ []) same)
+    ap (λ ls. row_line (n, x) ∷ ls)
+    (lines_snoc (n + 1) rows r ∙ ap (λ m. map row_line (enumerate_from (n + 1) rows) ++ row_line (m, r) ∷ []) same)
 
 pub rows_more : (rows : List Interval) (i : ℕ) (d : Interval) → i < length rows
-    → in_lines (row_lines (take i rows)) ++ in_lines (row_line (i + 1, get_or rows i d) ∷ []) ≡ in_lines (row_lines (take (i + 1) rows))
+    → in_lines (row_lines (take i rows)) ++ in_lines (row_line (i + 1, get_or rows i d) ∷ []) ≡ in_lines
+    (row_lines (take (i + 1) rows))
 rows_more rows i d there =
     let count : length (take i rows) ≡ i = omega (arith, length-take i rows) in
     let number : 1 + length (take i rows) ≡ i + 1 = omega (arith, count) in
-    sym (flat_map-append (λ (l : List ℕ). l ++ 10 ∷ []) (row_lines (take i rows)) (row_line (i + 1, get_or rows i d) ∷ []))
+    sym (flat_map-append (λ (l : List ℕ). l ++ 10 ∷ []) (row_lines (take i rows))
+    (row_line (i + 1, get_or rows i d) ∷ []))
     ∙ ap (λ m. in_lines (row_lines (take i rows) ++ row_line (m, get_or rows i d) ∷ [])) (sym number)
     ∙ ap in_lines (sym (lines_snoc 1 (take i rows) (get_or rows i d)))
     ∙ ap (λ rs. in_lines (row_lines rs)) (sym (take_more rows i d there))
@@ -175,28 +197,35 @@ module _ (k : Fraction) (run : List Event) (J : Instance) (of : IsRunOf k run J)
       (sym (completions run) ∙ ap (λ es. count_by is_completed (filter_map fate_of_event es)) (sym of.prints))
       worth
       (sym (abandonments run) ∙ ap (λ es. length (gone es)) (sym of.prints))
-      (ap (λ js. all_lost js run) jobs_same ∙ sym (losses J.jobs run) ∙ ap (λ es. sum_by (value_in J.jobs) (gone es)) (sym of.prints))
+      (ap (λ js. all_lost js run) jobs_same ∙ sym (losses J.jobs run)
+      ∙ ap (λ es. sum_by (value_in J.jobs) (gone es)) (sym of.prints))
       (ap (count_by is_take) (sym of.prints))
       (ap (bound k) worth ∙ ap (λ (r : Fraction). bound r (completed_value J)) (sym of.ratio)) where
         jobs_same : jobs ≡ J.jobs
         jobs_same = same ∙ jobs_are
 
   -- the report, put together
-  pub report_is : (jobs : List JobFacts) (value : ℕ) (rows : List Interval) → jobs ≡ jobs_released run → value ≡ completed_value J → rows ≡ rows_of J
-      → (in_lines (with_numbers (codes "ratio") (k.p ∷ k.q ∷ []) ∷ []) ++ in_lines (counts_lines (counts_of k run jobs value))) ++ in_lines
+  pub report_is : (jobs : List JobFacts) (value : ℕ) (rows : List Interval) → jobs ≡ jobs_released run
+      → value ≡ completed_value J → rows ≡ rows_of J
+      → (in_lines (with_numbers (codes "ratio") (k.p ∷ k.q ∷ []) ∷ []) ++ in_lines
+      (counts_lines (counts_of k run jobs value))) ++ in_lines
       (row_lines rows)
       ≡ report J
   report_is jobs value rows same worth all =
-      append_assoc (in_lines (with_numbers (codes "ratio") (k.p ∷ k.q ∷ []) ∷ [])) (in_lines (counts_lines (counts_of k run jobs value)))
+      append_assoc (in_lines (with_numbers (codes "ratio") (k.p ∷ k.q ∷ []) ∷ []))
+      (in_lines (counts_lines (counts_of k run jobs value)))
       (in_lines (row_lines rows))
       ∙ ap (λ x. in_lines (with_numbers (codes "ratio") (k.p ∷ k.q ∷ []) ∷ []) ++ x)
-      (sym (flat_map-append (λ (l : List ℕ). l ++ 10 ∷ []) (counts_lines (counts_of k run jobs value)) (row_lines rows)))
+      (sym (flat_map-append (λ (l : List ℕ). l ++ 10 ∷ []) (counts_lines (counts_of k run jobs value))
+      (row_lines rows)))
       ∙ sym (flat_map-append (λ (l : List ℕ). l ++ 10 ∷ []) (with_numbers (codes "ratio") (k.p ∷ k.q ∷ []) ∷ [])
       (counts_lines (counts_of k run jobs value) ++ row_lines rows))
-      ∙ ap (λ ls. in_lines (with_numbers (codes "ratio") (k.p ∷ k.q ∷ []) ∷ ls ++ row_lines rows)) (summary_is jobs value same worth)
+      ∙ ap (λ ls. in_lines (with_numbers (codes "ratio") (k.p ∷ k.q ∷ []) ∷ ls ++ row_lines rows))
+      (summary_is jobs value same worth)
       ∙ ap (λ ls. in_lines (with_numbers (codes "ratio") (k.p ∷ k.q ∷ []) ∷ summary_lines J ++ ls))
       (ap row_lines all ∙ rows_lines 1 (model.intervals J))
-      ∙ ap (λ (r : Fraction). in_lines (with_numbers (codes "ratio") (r.p ∷ r.q ∷ []) ∷ summary_lines J ++ map interval_line
+      ∙ ap (λ (r : Fraction). in_lines
+      (with_numbers (codes "ratio") (r.p ∷ r.q ∷ []) ∷ summary_lines J ++ map interval_line
       (enumerate_from 1 (model.intervals J))))
       (sym of.ratio)
 

@@ -1,5 +1,6 @@
 -- The table of a run, put together row by row.
-use Rattle.std.proofs.Common.{◌≡◌, ℕ, ◌+◌, ◌<◌, List, [], ◌∷◌, ◌++◌, length, map, take, get_or, refl, sym, ap, ◌∙◌, arith}
+use Rattle.std.proofs.Common.{◌≡◌, ℕ, ◌+◌, ◌<◌, List, [], ◌∷◌, ◌++◌, length, map, take, get_or, refl, sym, ap, ◌∙◌}
+use Rattle.std.proofs.Common.{arith}
 use Rattle.std.proofs.Common.{append_assoc, append-nil}
 use Rattle.std.specs.Prelude.{Option, Some, None, ◌==◌, codes, decimal}
 use Rattle.std.specs.List.{filter_map, find, enumerate_from, join_with_byte}
@@ -19,7 +20,8 @@ use Rattle.dover_report.specs.Rows.{ending_of, ending_in, ending_fields, after_c
 use Rattle.dover_report.proofs.Counting.{jobs_are}
 
 -- fields that are joined by commas
-joined_fields : (first : List ℕ) (fields : List (List ℕ)) → join_with_byte 44 (first ∷ fields) ≡ first ++ after_commas fields
+joined_fields : (first : List ℕ) (fields : List (List ℕ))
+    → join_with_byte 44 (first ∷ fields) ≡ first ++ after_commas fields
 joined_fields first [] = sym (append-nil first)
 joined_fields first (field ∷ fields) = ap (λ rest. first ++ 44 ∷ rest) (joined_fields field fields)
 
@@ -35,35 +37,42 @@ module _ (k : Fraction) (run : List Event) (J : Instance) (of : IsRunOf k run J)
   row_is n j = sym (joined_fields (decimal n) (map decimal (job_numbers j) ++ ending_fields (ending_in run n)))
       ∙ ap (λ fields. join_with_byte 44 (map decimal (n ∷ job_numbers j) ++ fields))
       (same_fields (find (λ fate. model.number_of fate == n) (filter_map model.fate_of_event run))
-      ∙ ap (λ es. model.fate_fields (find (λ fate. model.number_of fate == n) (filter_map model.fate_of_event es))) (sym of.prints))
+      ∙ ap (λ es. model.fate_fields (find (λ fate. model.number_of fate == n) (filter_map model.fate_of_event es)))
+      (sym of.prints))
 
   -- all rows
   rows_are : (n : ℕ) (jobs : List JobFacts) → rows_from run n jobs ≡ map (model.table_row J) (enumerate_from n jobs)
   rows_are n [] = refl
-  rows_are n (j ∷ jobs) = ap (λ r. r ∷ rows_from run (n + 1) jobs) (row_is n j) ∙ ap (λ rs. model.table_row J (n, j) ∷ rs) (rows_are (n + 1) jobs)
+  rows_are n (j ∷ jobs) = ap (λ r. r ∷ rows_from run (n + 1) jobs) (row_is n j)
+      ∙ ap (λ rs. model.table_row J (n, j) ∷ rs) (rows_are (n + 1) jobs)
 
   -- the table
   pub table_is : (jobs : List JobFacts) → jobs ≡ jobs_released run
       → codes "job,release,work,deadline,value,fate,tick\n" ++ in_lines (rows_from run 0 jobs) ≡ model.table J
-  table_is jobs same = ap (λ js. codes "job,release,work,deadline,value,fate,tick\n" ++ in_lines (rows_from run 0 js)) (same ∙ jobs_are k run J of)
+  table_is jobs same = ap (λ js. codes "job,release,work,deadline,value,fate,tick\n" ++ in_lines (rows_from run 0 js))
+      (same ∙ jobs_are k run J of)
       ∙ ap (λ rs. codes "job,release,work,deadline,value,fate,tick\n" ++ in_lines rs) (rows_are 0 J.jobs)
 
 -- one row more
 row_snoc : (run : List Event) (n : ℕ) (jobs : List JobFacts) (j : JobFacts)
-    → rows_from run n (jobs ++ j ∷ []) ≡ rows_from run n jobs ++ row_text (n + length jobs) j (ending_in run (n + length jobs)) ∷ []
+    → rows_from run n (jobs ++ j ∷ []) ≡ rows_from run n jobs ++ row_text (n + length jobs) j
+    (ending_in run (n + length jobs)) ∷ []
 row_snoc run n [] j = ap (λ m. row_text m j (ending_in run m) ∷ []) (omega arith)
 row_snoc run n (x ∷ jobs) j =
     let same : n + 1 + length jobs ≡ n + length (x ∷ jobs) = omega arith in
     ap (λ rs. row_text n x (ending_in run n) ∷ rs) (row_snoc run (n + 1) jobs j
     ∙ ap (λ m. rows_from run (n + 1) jobs ++ row_text m j (ending_in run m) ∷ []) same)
 
-pub row_more : (run : List Event) (jobs : List JobFacts) (i : ℕ) (j : JobFacts) (text : List ℕ) (end : Option Ending) → j ≡ get_or jobs i j
+pub row_more : (run : List Event) (jobs : List JobFacts) (i : ℕ) (j : JobFacts) (text : List ℕ) (end : Option Ending)
+    → j ≡ get_or jobs i j
     → i < length jobs → end ≡ ending_in run i
-    → (text ++ in_lines (rows_from run 0 (take i jobs))) ++ in_lines (row_text i j end ∷ []) ≡ text ++ in_lines (rows_from run 0 (take (i + 1) jobs))
+    → (text ++ in_lines (rows_from run 0 (take i jobs))) ++ in_lines (row_text i j end ∷ []) ≡ text ++ in_lines
+    (rows_from run 0 (take (i + 1) jobs))
 row_more run jobs i j text end is there ends =
     let number : 0 + length (take i jobs) ≡ i = omega (arith, length-take-le i jobs (omega arith)) in
     append_assoc text (in_lines (rows_from run 0 (take i jobs))) (in_lines (row_text i j end ∷ []))
-    ∙ ap (λ x. text ++ x) (sym (flat_map-append (λ (l : List ℕ). l ++ 10 ∷ []) (rows_from run 0 (take i jobs)) (row_text i j end ∷ []))
+    ∙ ap (λ x. text ++ x) (sym
+    (flat_map-append (λ (l : List ℕ). l ++ 10 ∷ []) (rows_from run 0 (take i jobs)) (row_text i j end ∷ []))
     ∙ ap (λ o. in_lines (rows_from run 0 (take i jobs) ++ row_text i j o ∷ [])) ends
     ∙ ap (λ m. in_lines (rows_from run 0 (take i jobs) ++ row_text m j (ending_in run m) ∷ [])) (sym number)
     ∙ ap in_lines (sym (row_snoc run 0 (take i jobs) j))

@@ -1,5 +1,6 @@
 -- The rows of a table: a job, and how it ended.
-use Rattle.std.specs.Prelude.{ℕ, List, [], ◌∷◌, ◌++◌, length, map, set, ◌==◌, nat_lt, if◌then◌else◌, Option, Some, None, codes, decimal}
+use Rattle.std.specs.Prelude.{ℕ, List, [], ◌∷◌, ◌++◌, length, map, set, ◌==◌, nat_lt, if◌then◌else◌, Option, Some, None}
+use Rattle.std.specs.Prelude.{codes, decimal}
 use Rattle.std.specs.List.{filter_map, find, enumerate_from, flat_map}
 use Rattle.std.specs.Option.{option_map}
 use Rattle.dover_model.specs.declared.events.Event.{Event}

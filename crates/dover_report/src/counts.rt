@@ -2,7 +2,8 @@
 ghost use Rattle.std.specs.Prelude.{◌≡◌, ◌≤◌, ◌++◌, length, count_by, OnOk, IfOk, option_to_list};
 ghost use Rattle.dover_model.specs.Limits.{most_total, most_value};
 ghost use Rattle.dover_model.specs.Reports.{is_take};
-ghost use Rattle.dover_report.specs.Counts.{job_released, jobs_released, is_completion, is_abandonment, value_in, all_lost, counts_of};
+ghost use Rattle.dover_report.specs.Counts.{job_released, jobs_released, is_completion, is_abandonment, value_in};
+ghost use Rattle.dover_report.specs.Counts.{all_lost, counts_of};
 
 use dover_model::{Event, Job, Memory, Ratio};
 use root_compare::bound;

@@ -2,11 +2,11 @@
 #![tactic(auto)]
 
 mod counts;
-mod endings;
+pub mod endings;
 mod lines;
 mod report;
 mod rows;
 
-pub use counts::{Counts, released, value_of};
+pub use counts::{Counts, count, released, value_of};
 pub use report::{summary, text};
 pub use rows::table;

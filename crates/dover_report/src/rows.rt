@@ -13,7 +13,8 @@ use dover_model::{Event, Job, Memory};
 use itoa::Buffer;
 use std::alloc::Global;
 
-/// The table of the run that prints these steps: a row of names, and a row for each job. The jobs of the run are valid for some
+/// The table of the run that prints these steps: a row of names, and a row for each job. The jobs of the run are valid
+/// for some
 /// ratio. Want of memory is the only error.
 pub fn table(alloc: Global, run: &[Event]) -> Result<Vec<u8>, Memory>
     requires { (k : Fraction) × ((J : Instance) × IsRunOf k run.now J) }

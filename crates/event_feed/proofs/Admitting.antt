@@ -8,7 +8,8 @@ use Rattle.dover_model.specs.Limits.{most_lines, last_tick}
 use Rattle.dover_model.specs.JobFacts.{JobFacts}
 use Rattle.dover_model.specs.declared.events.Refusal.{Refusal}
 use Rattle.dover_model.specs.Admission.{refusal_of}
-use Rattle.dover_model.specs.Session.{Session, Item, JobItem, RefusedItem, RefusedJob, refused_at, admitted_jobs, is_two}
+use Rattle.dover_model.specs.Session.{Session, Item, JobItem, RefusedItem, RefusedJob, refused_at, admitted_jobs}
+use Rattle.dover_model.specs.Session.{is_two}
 use Rattle.dover_model.specs.FeedLine.{FeedLine, RatioLine, JobLine, TickLine, EndLine, feed_line}
 use Rattle.dover_model.specs.Feed.{Account, Standing, Lines, Line, is_open, next_line, read_line, with_line, with_fault}
 use Rattle.dover_model.specs.Feed.{with_item_in, later_line_cause, Order, NotAdmitted, account}
@@ -18,13 +19,15 @@ use Rattle.event_feed.specs.Answers.{admitted_in}
 -- ---- items
 
 -- a job more
-pub job_more : (items : List Item) (j : JobFacts) → length (admitted_jobs (items ++ JobItem j ∷ [])) ≡ length (admitted_jobs items) + 1
+pub job_more : (items : List Item) (j : JobFacts)
+    → length (admitted_jobs (items ++ JobItem j ∷ [])) ≡ length (admitted_jobs items) + 1
 job_more [] j = refl
 job_more (JobItem i ∷ items) j = omega (arith, job_more items j)
 job_more (RefusedItem r ∷ items) j = job_more items j
 
 -- a refused line more
-pub refused_more : (items : List Item) (r : RefusedJob) → length (admitted_jobs (items ++ RefusedItem r ∷ [])) ≡ length (admitted_jobs items)
+pub refused_more : (items : List Item) (r : RefusedJob)
+    → length (admitted_jobs (items ++ RefusedItem r ∷ [])) ≡ length (admitted_jobs items)
 refused_more [] r = refl
 refused_more (JobItem i ∷ items) r = omega (arith, refused_more items r)
 refused_more (RefusedItem s ∷ items) r = refused_more items r
@@ -61,7 +64,8 @@ module _ (lines : ℕ) (S : Session) (mark : ℕ) (standing : Standing) where
     by_refusal (Some refusal) = by_two refusal (is_two S.rules.version)
 
     by_order : (b : Bool) → n ≤ admitted_in
-        (with_line at (JobLine j) (cond b (Some Order) (option_map NotAdmitted (refusal_of S.rules.ratio (admitted_jobs S.items) j))))
+        (with_line at (JobLine j)
+        (cond b (Some Order) (option_map NotAdmitted (refusal_of S.rules.ratio (admitted_jobs S.items) j))))
     by_order true = omega arith
     by_order false = by_refusal (refusal_of S.rules.ratio (admitted_jobs S.items) j)
 
@@ -90,8 +94,10 @@ keeps_next a l = by_session a.session refl where
   by_session : (o : Option Session) → a.session ≡ o → admitted_in a ≤ admitted_in (next_line a l)
   by_session None none = let zero : admitted_in a ≡ 0 = ap admitted_by none in omega arith
   by_session (Some S) there =
-      subst (λ o. admitted_by o ≤ admitted_in (next_line (record a { session = o }) l)) (sym there) (by_open (is_open a)) where
-        by_open : (b : Bool) → length (admitted_jobs S.items) ≤ admitted_in (cond b (read_line (account_with (suc a.lines) S a.mark a.standing) l)
+      subst (λ o. admitted_by o ≤ admitted_in (next_line (record a { session = o }) l)) (sym there)
+      (by_open (is_open a)) where
+        by_open : (b : Bool) → length (admitted_jobs S.items) ≤ admitted_in
+            (cond b (read_line (account_with (suc a.lines) S a.mark a.standing) l)
             (account_with a.lines S a.mark a.standing))
         by_open true = read_keeps (suc a.lines) S a.mark a.standing l
         by_open false = omega arith

@@ -1,5 +1,6 @@
 -- Each line of an open account is counted.
-use Rattle.std.proofs.Common.{◌≡◌, ℕ, suc, ◌+◌, List, [], ◌∷◌, length, refl, cond, Bool, true, false, Option, Some, None, arith}
+use Rattle.std.proofs.Common.{◌≡◌, ℕ, suc, ◌+◌, List, [], ◌∷◌, length, refl, cond, Bool, true, false, Option, Some}
+use Rattle.std.proofs.Common.{None, arith}
 use Rattle.std.specs.List.{fold}
 use Rattle.std.specs.Prelude.{nat_lt}
 use Rattle.dover_model.specs.Limits.{most_lines}
@@ -19,10 +20,12 @@ after_refusal a j refusal (Some S) =
     cond (is_two S.rules.version) (with_item_in a (refused_at a.mark j refusal)) (with_fault a (NotAdmitted refusal))
 
 -- a refused job changes no count
-refused_lines : (a : Account) (j : JobFacts) (refusal : Refusal) (session : Option Session) → (after_refusal a j refusal session).lines ≡ a.lines
+refused_lines : (a : Account) (j : JobFacts) (refusal : Refusal) (session : Option Session)
+    → (after_refusal a j refusal session).lines ≡ a.lines
 refused_lines a j refusal None = refl
 refused_lines a j refusal (Some S) = by_version (is_two S.rules.version) where
-  by_version : (two : Bool) → (cond two (with_item_in a (refused_at a.mark j refusal)) (with_fault a (NotAdmitted refusal))).lines ≡ a.lines
+  by_version : (two : Bool)
+      → (cond two (with_item_in a (refused_at a.mark j refusal)) (with_fault a (NotAdmitted refusal))).lines ≡ a.lines
   by_version true = refl
   by_version false = refl
 
@@ -50,7 +53,8 @@ after_form a (Some line) = with_line a line (cause_of a line)
 -- nor does any line
 read_lines : (a : Account) (bytes : List ℕ) → (read_line a bytes).lines ≡ a.lines
 read_lines a bytes = by_count (nat_lt most_lines a.lines) (feed_line bytes) where
-  by_count : (many : Bool) (line : Option FeedLine) → (cond many (with_fault a model.Lines) (after_form a line)).lines ≡ a.lines
+  by_count : (many : Bool) (line : Option FeedLine)
+      → (cond many (with_fault a model.Lines) (after_form a line)).lines ≡ a.lines
   by_count true line = refl
   by_count false None = refl
   by_count false (Some l) = formed_lines a l (cause_of a l)
@@ -58,23 +62,29 @@ read_lines a bytes = by_count (nat_lt most_lines a.lines) (feed_line bytes) wher
 -- the next line of an open account is counted
 pub next_counted : (lines : ℕ) (session : Option Session) (mark : ℕ) (standing : Standing) (bytes : List ℕ)
     → (next_line (record { lines = lines; session = session; mark = mark; standing = standing }) bytes).standing ≡ Open
-    → (standing ≡ Open) × ((next_line (record { lines = lines; session = session; mark = mark; standing = standing }) bytes).lines ≡ suc lines)
+    → (standing ≡ Open) × ((next_line
+    (record { lines = lines; session = session; mark = mark; standing = standing }) bytes).lines ≡ suc lines)
 next_counted lines session mark Open bytes opened =
     (refl, read_lines (record { lines = suc lines; session = session; mark = mark; standing = Open }) bytes)
 next_counted lines session mark Ended bytes opened = absurd (let e : Ended ≡ Open = opened in cc)
-next_counted lines session mark (Faulty line cause) bytes opened = absurd (let e : Faulty line cause ≡ Open = opened in cc)
+next_counted lines session mark (Faulty line cause) bytes opened =
+    absurd (let e : Faulty line cause ≡ Open = opened in cc)
 
 -- all lines behind an account that stays open are counted
 pub all_counted : (ls : List (List ℕ)) (a : Account) → (fold next_line a ls).standing ≡ Open
     → (a.standing ≡ Open) × ((fold next_line a ls).lines ≡ a.lines + length ls)
 all_counted [] a opened = (opened, omega arith)
 all_counted (l ∷ ls) a opened =
-    let more : ((next_line a l).standing ≡ Open) × ((fold next_line (next_line a l) ls).lines ≡ (next_line a l).lines + length ls) =
+    let more : ((next_line a l).standing ≡ Open)
+    × ((fold next_line (next_line a l) ls).lines ≡ (next_line a l).lines + length ls) =
     all_counted ls (next_line a l) opened in
-    let one : (a.standing ≡ Open) × ((next_line a l).lines ≡ suc a.lines) = next_counted a.lines a.session a.mark a.standing l more.0 in
+    let one : (a.standing ≡ Open) × ((next_line a l).lines ≡ suc a.lines) =
+    next_counted a.lines a.session a.mark a.standing l more.0 in
     (one.0, omega (arith, more.1, one.1))
 
 -- an open account counts its lines
-pub lines_counted : (ls : List (List ℕ)) → (account_of_lines ls).standing ≡ Open → (account_of_lines ls).lines ≡ length ls
-lines_counted ls opened = let it : (no_lines.standing ≡ Open) × ((account_of_lines ls).lines ≡ 0 + length ls) = all_counted ls no_lines opened in
+pub lines_counted : (ls : List (List ℕ)) → (account_of_lines ls).standing ≡ Open
+    → (account_of_lines ls).lines ≡ length ls
+lines_counted ls opened = let it : (no_lines.standing ≡ Open) × ((account_of_lines ls).lines ≡ 0 + length ls) =
+    all_counted ls no_lines opened in
     omega (arith, it.1)

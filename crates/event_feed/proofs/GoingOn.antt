@@ -1,5 +1,6 @@
 -- A feed that goes on has few lines and few bytes, and the account of one that doesn't stays.
-use Rattle.std.proofs.Common.{◌≡◌, ◌≤◌, ◌<◌, ◌+◌, ℕ, suc, List, ◌∷◌, ◌++◌, [], length, refl, ap, ◌∙◌, subst, Bool, true, false, cond}
+use Rattle.std.proofs.Common.{◌≡◌, ◌≤◌, ◌<◌, ◌+◌, ℕ, suc, List, ◌∷◌, ◌++◌, [], length, refl, ap, ◌∙◌, subst, Bool, true}
+use Rattle.std.proofs.Common.{false, cond}
 use Rattle.std.proofs.Common.{Option, Some, None, arith}
 use Rattle.std.specs.Prelude.{nat_lt}
 use Rattle.std.specs.List.{fold}
@@ -9,7 +10,8 @@ use Rattle.dover_model.specs.Limits.{most_lines}
 use Rattle.dover_model.specs.Lines.{lines_of, whole_lines, rest_of, is_too_long, fields_of}
 use Rattle.dover_model.specs.FeedLine.{FeedLine, feed_line, line_of_fields}
 use Rattle.dover_model.specs.Session.{Session}
-use Rattle.dover_model.specs.Feed.{Account, Standing, Open, Ended, Faulty, Lines, Cause, no_lines, is_open, next_line, read_line, with_fault}
+use Rattle.dover_model.specs.Feed.{Account, Standing, Open, Ended, Faulty, Lines, Cause, no_lines, is_open, next_line}
+use Rattle.dover_model.specs.Feed.{read_line, with_fault}
 use Rattle.dover_model.specs.Feed.{account}
 use Rattle.dover_model.proofs.Accounts.{account_append}
 use Rattle.line_text.proofs.Lengths.{AreNotTooLong, text_few}
@@ -20,7 +22,8 @@ use Rattle.event_feed.proofs.Counting.{after_form, next_counted, all_counted}
 -- it stays
 pub closed_stays : (ls : List (List ℕ)) (a : Account) → is_open a ≡ false → fold next_line a ls ≡ a
 closed_stays [] a closed = refl
-closed_stays (l ∷ ls) a closed = ap (λ b. fold next_line b ls) (ap (λ x. cond x (read_line (record a { lines = suc a.lines }) l) a) closed)
+closed_stays (l ∷ ls) a closed =
+    ap (λ b. fold next_line b ls) (ap (λ x. cond x (read_line (record a { lines = suc a.lines }) l) a) closed)
     ∙ closed_stays ls a closed
 
 -- so does that of more bytes
@@ -53,7 +56,8 @@ read_good a l opened = by_count (nat_lt most_lines a.lines) (feed_line l) refl r
 next_good : (lines : ℕ) (session : Option Session) (mark : ℕ) (standing : Standing) (l : List ℕ)
     → (next_line (record { lines = lines; session = session; mark = mark; standing = standing }) l).standing ≡ Open
     → (suc lines ≤ most_lines) × (length l ≤ 128)
-next_good lines session mark Open l opened = read_good (record { lines = suc lines; session = session; mark = mark; standing = Open }) l opened
+next_good lines session mark Open l opened =
+    read_good (record { lines = suc lines; session = session; mark = mark; standing = Open }) l opened
 next_good lines session mark Ended l opened = absurd (let e : Ended ≡ Open = opened in cc)
 next_good lines session mark (Faulty line cause) l opened = absurd (let e : Faulty line cause ≡ Open = opened in cc)
 
@@ -72,7 +76,9 @@ lines_good (l ∷ ls) a opened =
 -- a feed that goes on has at most so many bytes
 pub open_bytes : (x : List ℕ) → (account x).standing ≡ Open → is_too_long (rest_of x) ≡ false → length x < 516_000_129
 open_bytes x opened short =
-    let whole : lines_of x ≡ whole_lines x = ap (λ b. whole_lines x ++ cond b (rest_of x ∷ []) []) short ∙ append-nil (whole_lines x) in
+    let whole : lines_of x ≡ whole_lines x = ap (λ b. whole_lines x ++ cond b (rest_of x ∷ []) []) short
+    ∙ append-nil (whole_lines x) in
     let good = lines_good (lines_of x) no_lines opened in
-    let few : 0 + length (whole_lines x) ≤ most_lines = subst (λ ls. 0 + length ls ≤ most_lines) whole (good.1 (omega arith)) in
+    let few : 0 + length (whole_lines x) ≤ most_lines =
+    subst (λ ls. 0 + length ls ≤ most_lines) whole (good.1 (omega arith)) in
     omega (arith, text_few x most_lines (subst AreNotTooLong whole good.0) (omega (arith, few)) (ltb-false _ _ short))

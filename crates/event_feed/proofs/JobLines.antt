@@ -1,5 +1,6 @@
 -- A job line in a session that goes on: admitted, refused, or at fault.
-use Rattle.std.proofs.Common.{◌≡◌, ℕ, ◌≤◌, List, [], ◌∷◌, ◌++◌, refl, sym, ap, ◌∙◌, subst, cond, Option, Some, None, Ok, Err}
+use Rattle.std.proofs.Common.{◌≡◌, ℕ, ◌≤◌, List, [], ◌∷◌, ◌++◌, refl, sym, ap, ◌∙◌, subst, cond, Option, Some, None, Ok}
+use Rattle.std.proofs.Common.{Err}
 use Rattle.std.specs.Option.{option_map}
 use Rattle.std.proofs.lemmas.Bool.{le-ltb}
 use Rattle.dover_model.specs.Numerals.{AreShort}
@@ -9,7 +10,8 @@ use Rattle.dover_model.specs.JobFacts.{JobFacts, job_numbers}
 use Rattle.dover_model.specs.Admission.{refusal_of}
 use Rattle.dover_model.specs.Session.{Session, refused_at, admitted_jobs, is_two}
 use Rattle.dover_model.specs.FeedLine.{JobLine}
-use Rattle.dover_model.specs.Feed.{Account, NotAdmitted, Order, cause_of, with_fault, with_line, with_item_in, rules_with}
+use Rattle.dover_model.specs.Feed.{Account, NotAdmitted, Order, cause_of, with_fault, with_line, with_item_in}
+use Rattle.dover_model.specs.Feed.{rules_with}
 use Rattle.dover_model.proofs.Growing.{job_instance, refused_instance}
 use Rattle.admission.specs.Kept as admission
 use Rattle.admission.specs.Answers as answers
@@ -30,21 +32,25 @@ module _ (lines : ℕ) (S : Session) (mark : ℕ) (j : JobFacts) (no_fall : mark
   job_cause : (refusal : Option Refusal) → refusal_of S.rules.ratio (admitted_jobs S.items) j ≡ refusal
       → cause_of before (JobLine j) ≡ option_map NotAdmitted refusal
   job_cause refusal is =
-      ap (λ b. cond b (Some Order) (option_map NotAdmitted (refusal_of S.rules.ratio (admitted_jobs S.items) j))) (le-ltb _ _ no_fall)
+      ap (λ b. cond b (Some Order) (option_map NotAdmitted (refusal_of S.rules.ratio (admitted_jobs S.items) j)))
+      (le-ltb _ _ no_fall)
       ∙ ap (option_map NotAdmitted) is
 
   -- the job is admitted
   pub takes_job : (kept new : KeptSession) (number : ℕ) → IsKeptOf kept S mark → new.version ≡ kept.version
       → new.admission.ratio ≡ kept.admission.ratio → new.mark ≡ j.release
-      → ((jobs : List JobFacts) → admission.StandsFor kept.admission jobs → admission.StandsFor new.admission (jobs ++ j ∷ []))
+      → ((jobs : List JobFacts) → admission.StandsFor kept.admission jobs
+      → admission.StandsFor new.admission (jobs ++ j ∷ []))
       → refusal_of S.rules.ratio (admitted_jobs S.items) j ≡ None → number ≡ kept.admission.count
       → Takes (JobLine j) lines S mark new (Ok (fed.Job number j))
   takes_job kept new number it version ratio marked stands none counts =
       subst (λ b. IsTaken (Some new) (Some (JobLine j)) before b (Ok (fed.Job number j)))
       (sym (ap (with_line before (JobLine j)) (job_cause None none))) (record {
         keeps = record {
-          rules = it.rules ∙ ap (λ k. rules_with k kept.version) (sym ratio) ∙ ap (rules_with new.admission.ratio) (sym version);
-          jobs = subst (admission.StandsFor new.admission) (sym (ap (λ J. J.jobs) (job_instance S j))) (stands (admitted_jobs S.items) it.jobs);
+          rules = it.rules ∙ ap (λ k. rules_with k kept.version) (sym ratio)
+              ∙ ap (rules_with new.admission.ratio) (sym version);
+          jobs = subst (admission.StandsFor new.admission) (sym (ap (λ J. J.jobs) (job_instance S j)))
+              (stands (admitted_jobs S.items) it.jobs);
           marked = marked;
         };
         gives = record {
@@ -58,13 +64,16 @@ module _ (lines : ℕ) (S : Session) (mark : ℕ) (j : JobFacts) (no_fall : mark
       })
 
   -- the line of a refused job is handed in, in version Two
-  pub takes_refused : (kept : KeptSession) → IsKeptOf kept S mark → S.rules.version ≡ Two → AreShort (job_numbers j) → (refusal : Refusal)
+  pub takes_refused : (kept : KeptSession) → IsKeptOf kept S mark → S.rules.version ≡ Two → AreShort (job_numbers j)
+      → (refusal : Refusal)
       → refusal_of S.rules.ratio (admitted_jobs S.items) j ≡ Some refusal
       → Takes (JobLine j) lines S mark kept (Ok (fed.Refused j.release j.work j.deadline j.value refusal))
   takes_refused kept it version numerals refusal is =
-      subst (λ b. IsTaken (Some kept) (Some (JobLine j)) before b (Ok (fed.Refused j.release j.work j.deadline j.value refusal)))
+      subst (λ b. IsTaken (Some kept) (Some (JobLine j)) before b
+      (Ok (fed.Refused j.release j.work j.deadline j.value refusal)))
       (sym (ap (with_line before (JobLine j)) (job_cause (Some refusal) is)
-      ∙ ap (λ v. cond (is_two v) (with_item_in before (refused_at mark j refusal)) (with_fault before (NotAdmitted refusal))) version)) (record {
+      ∙ ap (λ v. cond (is_two v) (with_item_in before (refused_at mark j refusal))
+      (with_fault before (NotAdmitted refusal))) version)) (record {
         keeps = record {
           rules = it.rules;
           jobs = subst (admission.StandsFor kept.admission)
@@ -91,7 +100,8 @@ module _ (lines : ℕ) (S : Session) (mark : ℕ) (j : JobFacts) (no_fall : mark
   names_other (Ratio n) other = record { session = S; before_is = refl; job = j; line_is = refl; earlier = other }
 
   -- the fault of a refused job is its refusal
-  fault_of_refused : (refused : Refused) → cause_of_fault (cause_of_refused refused) ≡ NotAdmitted (answers.refusal_of_refused refused)
+  fault_of_refused : (refused : Refused)
+      → cause_of_fault (cause_of_refused refused) ≡ NotAdmitted (answers.refusal_of_refused refused)
   fault_of_refused BadJob = refl
   fault_of_refused Count = refl
   fault_of_refused Total = refl
@@ -106,7 +116,12 @@ module _ (lines : ℕ) (S : Session) (mark : ℕ) (j : JobFacts) (no_fall : mark
       let refusal : Refusal = answers.refusal_of_refused refused in
       subst (λ b. IsTaken (Some kept) (Some (JobLine j)) before b (Err (cause_of_refused refused)))
       (sym (ap (with_line before (JobLine j)) (job_cause (Some refusal) is)
-      ∙ ap (λ v. cond (is_two v) (with_item_in before (refused_at mark j refusal)) (with_fault before (NotAdmitted refusal))) version)) (record {
+      ∙ ap (λ v. cond (is_two v) (with_item_in before (refused_at mark j refusal))
+      (with_fault before (NotAdmitted refusal))) version)) (record {
         keeps = it;
-        gives = record { after_is = ap (with_fault before) (sym (fault_of_refused refused)); other = names_other refused other };
+        gives = record {
+          after_is = ap (with_fault before) (sym (fault_of_refused refused));
+          other =
+              names_other refused other;
+        };
       })

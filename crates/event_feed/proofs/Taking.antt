@@ -20,15 +20,20 @@ use Rattle.event_feed.specs.Answers.{counted, Answers}
 use Rattle.event_feed.specs.Reading.{open_account, IsTaken, TakesIn}
 
 -- what is taken of a line's form is taken of the line
-pub taken_line : (a : Account) (bytes : List ℕ) (line : FeedLine) (kept : Option KeptSession) (answer : Result Fed Cause) → a.standing ≡ Open
-    → a.lines ≤ most_lines → feed_line bytes ≡ Some line → TakesIn (open_account a.lines a.session a.mark) line kept answer
+pub taken_line : (a : Account) (bytes : List ℕ) (line : FeedLine) (kept : Option KeptSession)
+    (answer : Result Fed Cause) → a.standing ≡ Open
+    → a.lines ≤ most_lines → feed_line bytes ≡ Some line
+    → TakesIn (open_account a.lines a.session a.mark) line kept answer
     → IsTaken kept (feed_line bytes) a (read_line a bytes) answer
 taken_line a bytes line kept answer opened few read it =
     let taken : TakesIn a line kept answer =
-    subst (λ b. TakesIn b line kept answer) (sym (ap (λ s. let b : Account = record a { standing = s } in b) opened)) it in
+    subst (λ b. TakesIn b line kept answer)
+    (sym (ap (λ s. let b : Account = record a { standing = s } in b) opened)) it in
     let after : read_line a bytes ≡ with_line a line (cause_of a line) =
-    ap (λ b. cond b (with_fault a model.Lines) (elim (feed_line bytes) [ None ↦ with_fault a model.Line | Some l ↦ with_line a l (cause_of a l) ]))
-    (le-ltb _ _ few) ∙ ap (λ o. elim o [ None ↦ with_fault a model.Line | Some l ↦ with_line a l (cause_of a l) ]) read in
+    ap (λ b. cond b (with_fault a model.Lines)
+    (elim (feed_line bytes) [ None ↦ with_fault a model.Line | Some l ↦ with_line a l (cause_of a l) ]))
+    (le-ltb _ _ few) ∙ ap (λ o. elim o [ None ↦ with_fault a model.Line | Some l ↦ with_line a l (cause_of a l) ])
+    read in
     subst (λ o. IsTaken kept o a (read_line a bytes) answer) (sym read)
     (subst (λ b. IsTaken kept (Some line) a b answer) (sym after) taken)
 
@@ -42,34 +47,52 @@ next_account ls bytes opened = fold-append next_line no_lines ls (bytes ∷ [])
 -- a fault is kept
 pub keeps_fault : (ls : List (List ℕ)) (bytes : List ℕ) (session : Option KeptSession) (lines : ℕ) (cause : Cause)
     → (account_of_lines ls).standing ≡ Open → lines ≡ suc (account_of_lines ls).lines
-    → IsTaken session (feed_line bytes) (counted (account_of_lines ls)) (read_line (counted (account_of_lines ls)) bytes) (Err cause)
-    → StandsFor (record { lines = lines; session = session; standing = kept.Faulty (record { line = lines; cause = cause }) }) (ls ++ bytes ∷ [])
+    → IsTaken session (feed_line bytes) (counted (account_of_lines ls))
+    (read_line (counted (account_of_lines ls)) bytes) (Err cause)
+    → StandsFor (record {
+      lines = lines;
+      session = session;
+      standing =
+          kept.Faulty (record { line = lines; cause = cause });
+    }) (ls ++ bytes ∷ [])
 keeps_fault ls bytes session lines cause opened counts it = record {
-  by_account = subst (KeepsAccount (record { lines = lines; session = session; standing = kept.Faulty (record { line = lines; cause = cause }) }))
+  by_account = subst (KeepsAccount
+      (record { lines = lines; session = session; standing = kept.Faulty (record { line = lines; cause = cause }) }))
       (sym (next_account ls bytes opened)) (record {
         counted = counts ∙ sym (ap (λ a. a.lines) it.gives.after_is);
         session = it.keeps;
-        standing = ap (λ n. model.Faulty n (cause_of_fault cause)) counts ∙ sym (ap (λ a. a.standing) it.gives.after_is);
+        standing = ap (λ n. model.Faulty n (cause_of_fault cause)) counts
+            ∙ sym (ap (λ a. a.standing) it.gives.after_is);
       });
 }
 
 -- and answered
 pub answers_fault : (ls : List (List ℕ)) (bytes : List ℕ) (session : Option KeptSession) (lines : ℕ) (cause : Cause)
     → (account_of_lines ls).standing ≡ Open → lines ≡ suc (account_of_lines ls).lines
-    → IsTaken session (feed_line bytes) (counted (account_of_lines ls)) (read_line (counted (account_of_lines ls)) bytes) (Err cause)
-    → Answers bytes (account_of_lines ls) (account_of_lines (ls ++ bytes ∷ [])) (Err (record { line = lines; cause = cause }))
+    → IsTaken session (feed_line bytes) (counted (account_of_lines ls))
+    (read_line (counted (account_of_lines ls)) bytes) (Err cause)
+    → Answers bytes (account_of_lines ls) (account_of_lines (ls ++ bytes ∷ []))
+    (Err (record { line = lines; cause = cause }))
 answers_fault ls bytes session lines cause opened counts it =
-    inl (record { opened = opened; line = counts; after_is = next_account ls bytes opened ∙ it.gives.after_is; other = it.gives.other })
+    inl (record {
+      opened = opened;
+      line = counts;
+      after_is = next_account ls bytes opened ∙ it.gives.after_is;
+      other =
+          it.gives.other;
+    })
 
 -- where neither the end nor a fault came, the feed goes on
-pub goes_on : (standing : standings.Standing) → has_ended (record { lines = 0; session = None; standing = standing }) ≡ false
+pub goes_on : (standing : standings.Standing)
+    → has_ended (record { lines = 0; session = None; standing = standing }) ≡ false
     → ((fault : FeedFault) → standing ≡ kept.Faulty fault → ⊥) → standing ≡ kept.Open
 goes_on kept.Open not_over not_faulty = refl
 goes_on kept.Over not_over not_faulty = absurd (let e : true ≡ false = not_over in cc)
 goes_on (kept.Faulty fault) not_over not_faulty = absurd (not_faulty fault refl)
 
 -- a session is going on where it is declared and still open
-pub is_going : (lines : ℕ) (session : Option KeptSession) (standing : standings.Standing) → IsSome session → standing ≡ kept.Open
+pub is_going : (lines : ℕ) (session : Option KeptSession) (standing : standings.Standing) → IsSome session
+    → standing ≡ kept.Open
     → IsGoing (record { lines = lines; session = session; standing = standing })
 is_going lines session standing declared opened = record {
   declared = declared;

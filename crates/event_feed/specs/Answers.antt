@@ -74,7 +74,8 @@ IsFed a after (fed.Ratio k version) = DeclaresRatio k version a after
 IsFed a after (fed.Job number job) = AddsJob number job a after
 IsFed a after (fed.Tick tick) = MovesMark tick a after
 IsFed a after fed.Over = EndsFeed a after
-IsFed a after (fed.Refused release work deadline value refusal) = AddsRefused (job_of_numbers release work deadline value) refusal a after
+IsFed a after (fed.Refused release work deadline value refusal) =
+    AddsRefused (job_of_numbers release work deadline value) refusal a after
 
 -- ---- faults
 

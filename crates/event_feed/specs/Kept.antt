@@ -9,7 +9,8 @@ use Rattle.admission.specs.Kept as admission
 use Rattle.admission.specs.declared.refused.Refused.{Refused}
 use Rattle.admission.specs.declared.refused.Refused.TheVariants as refused
 use Rattle.event_feed.specs.declared.faults.Cause.{Cause}
-use Rattle.event_feed.specs.declared.faults.Cause.TheVariants.{Lines, Line, Declared, Order, BadJob, Count, Total, Ratio, Short}
+use Rattle.event_feed.specs.declared.faults.Cause.TheVariants.{Lines, Line, Declared, Order, BadJob, Count, Total}
+use Rattle.event_feed.specs.declared.faults.Cause.TheVariants.{Ratio, Short}
 use Rattle.event_feed.specs.declared.faults.FeedFault.{FeedFault}
 use Rattle.event_feed.specs.declared.intake.Standing.{Standing}
 use Rattle.event_feed.specs.declared.intake.Standing.TheVariants.{Open, Over, Faulty}

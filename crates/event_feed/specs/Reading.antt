@@ -34,7 +34,8 @@ Gives line a after (Ok fed) = IsFed a after fed
 Gives line a after (Err cause) = IsFault line a after cause
 
 -- what is kept afterwards, and the answer
-pub record IsTaken (kept : Option KeptSession) (line : Option FeedLine) (a after : Account) (answer : Result Fed Cause) : Type 0 where
+pub record IsTaken (kept : Option KeptSession) (line : Option FeedLine) (a after : Account)
+    (answer : Result Fed Cause) : Type 0 where
   pub keeps : KeepsSession kept after.session after.mark
   pub gives : Gives line a after answer
 

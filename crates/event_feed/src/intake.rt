@@ -1,5 +1,6 @@
 //! The lines of a feed, taken in one by one.
-ghost use Rattle.std.specs.Prelude.{◌≡◌, ℕ, List, [], ◌∷◌, ◌++◌, ◌↔◌, true, false, Option, IsOk, IfOk, OnOk, IsSome, ◌≤◌, ◌+◌, replicate};
+ghost use Rattle.std.specs.Prelude.{◌≡◌, ℕ, List, [], ◌∷◌, ◌++◌, ◌↔◌, true, false, Option, IsOk, IfOk, OnOk, IsSome};
+ghost use Rattle.std.specs.Prelude.{◌≤◌, ◌+◌, replicate};
 ghost use Rattle.std.specs.Option.{option_map};
 ghost use Rattle.std.specs.Bool.{then_some};
 ghost use Rattle.dover_model.specs.Limits.{most_lines};
@@ -106,7 +107,8 @@ fn read(session: &mut Option<KeptSession>, lines: u64, line: &[u8]) -> Result<Fe
     }
 }
 
-/// Takes in the lines of a feed, one by one. It keeps the number of lines, the session as far as the next line needs it, and
+/// Takes in the lines of a feed, one by one. It keeps the number of lines, the session as far as the next line needs
+/// it, and
 /// whether the feed goes on.
 #[derive(Drop)]
 pub struct Intake {
@@ -168,7 +170,8 @@ impl Intake {
         ensures ended { (has_ended self.new ≡ true) ↔ (result ≡ Ok Fed.Over) }
         ensures fault { fault_of self.new ≡ fault_in result }
         ensures counted { self.new.lines ≤ self.old.lines + 1 }
-        ensures again { (fault : FeedFault) → fault_of self.old ≡ Some fault → (result ≡ Err fault) × (self.new ≡ self.old) }
+        ensures again { (fault : FeedFault) → fault_of self.old ≡ Some fault → (result ≡ Err fault)
+            × (self.new ≡ self.old) }
     {
         if let Standing::Faulty(fault) = self.standing {
             return Err(fault);
@@ -191,7 +194,8 @@ impl Intake {
         }
     }
 
-    /// The input ends here. The fault is that of an earlier line, or that there was no end line. It leaves all as before.
+    /// The input ends here. The fault is that of an earlier line, or that there was no end line. It leaves all as
+    /// before.
     pub fn end(&self) -> Result<(), FeedFault>
         ensures ended { IsOk result ↔ (has_ended self.now ≡ true) }
         ensures fault { (fault : FeedFault) → fault_of self.now ≡ Some fault → result ≡ Err fault }

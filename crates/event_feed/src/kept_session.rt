@@ -47,7 +47,8 @@ impl KeptSession {
         value: u64,
         refused: Refused,
     ) -> Result<Fed, Cause>
-        ensures { (lines : ℕ) (S : Session) (mark : ℕ) → Refuses self.now S mark (job_of_numbers release work deadline value) refused →
+        ensures { (lines : ℕ) (S : Session) (mark : ℕ)
+            → Refuses self.now S mark (job_of_numbers release work deadline value) refused →
             Takes (JobLine (job_of_numbers release work deadline value)) lines S mark self.now result }
     {
         match self.version {
@@ -84,7 +85,8 @@ impl KeptSession {
 
     /// The line of this tick.
     fn tick(&mut self, at: u64) -> Result<Fed, Cause>
-        ensures { (lines : ℕ) (S : Session) (mark : ℕ) → IsKeptOf self.old S mark → Takes (TickLine at) lines S mark self.new result }
+        ensures { (lines : ℕ) (S : Session) (mark : ℕ) → IsKeptOf self.old S mark
+            → Takes (TickLine at) lines S mark self.new result }
     {
         if at < self.mark || at > LAST_TICK {
             return Err(Cause::Order);
@@ -96,7 +98,8 @@ impl KeptSession {
     /// A line after the first.
     pub fn line(&mut self, line: FeedLine) -> Result<Fed, Cause>
         requires { HasNumerals (form_of line) }
-        ensures { (lines : ℕ) (S : Session) (mark : ℕ) → IsKeptOf self.old S mark → Takes (form_of line) lines S mark self.new result }
+        ensures { (lines : ℕ) (S : Session) (mark : ℕ) → IsKeptOf self.old S mark
+            → Takes (form_of line) lines S mark self.new result }
     {
         match line {
             FeedLine::Declared { .. } => Err(Cause::Declared),

@@ -1,5 +1,6 @@
 -- What is read of a feed's line.
-use Rattle.std.proofs.Common.{◌≡◌, ℕ, ◌<◌, List, [], ◌∷◌, length, refl, ap, ◌∙◌, Bool, true, false, cond, Option, Some, None, arith, codes}
+use Rattle.std.proofs.Common.{◌≡◌, ℕ, ◌<◌, List, [], ◌∷◌, length, refl, ap, ◌∙◌, Bool, true, false, cond, Option, Some}
+use Rattle.std.proofs.Common.{None, arith, codes}
 use Rattle.std.specs.Prelude.{Result, Ok, Err, IfOk, bytes_eq, if◌then◌else◌}
 use Rattle.std.specs.Option.{option_and_then}
 use Rattle.dover_model.specs.Numerals.{numerals}
@@ -37,13 +38,16 @@ many_end [] many = absurd (omega arith)
 many_end (a ∷ ns) many = refl
 
 many_word : (word ns : List ℕ) → 5 < length ns → model.line_of_word word ns ≡ None
-many_word word ns many = by (bytes_eq word (codes "k")) (bytes_eq word (codes "job")) (bytes_eq word (codes "tick")) (bytes_eq word (codes "end")) where
-  by : (a b c d : Bool) → cond a (model.ratio_line ns) (cond b (model.job_line ns) (cond c (model.tick_line ns) (cond d (model.end_line ns) None))) ≡ None
-  by true b c d = many_ratio ns many
-  by false true c d = many_job ns many
-  by false false true d = many_tick ns many
-  by false false false true = many_end ns many
-  by false false false false = refl
+many_word word ns many =
+    by (bytes_eq word (codes "k")) (bytes_eq word (codes "job")) (bytes_eq word (codes "tick"))
+    (bytes_eq word (codes "end")) where
+      by : (a b c d : Bool) → cond a (model.ratio_line ns)
+          (cond b (model.job_line ns) (cond c (model.tick_line ns) (cond d (model.end_line ns) None))) ≡ None
+      by true b c d = many_ratio ns many
+      by false true c d = many_job ns many
+      by false false true d = many_tick ns many
+      by false false false true = many_end ns many
+      by false false false false = refl
 
 -- so fields with no numbers, or more than five, are no line
 pub none_read : (line word : List ℕ) (rest : List (List ℕ)) → fields_of line ≡ word ∷ rest

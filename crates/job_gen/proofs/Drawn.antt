@@ -8,15 +8,9 @@ use Rattle.dover_model.specs.declared.events.Version.{Version}
 use Rattle.dover_model.specs.Fraction.{Fraction, IsRatio}
 use Rattle.dover_model.specs.JobFacts.{JobFacts, IsJob}
 use Rattle.dover_model.specs.Instance.{IsValid, IsWithinRatio, IsInOrder, total_value}
-use Rattle.dover_model.specs.Generator.{next_state, high_bits, most_density, job_of_draws, generated_jobs_from, generated_jobs}
-
--- values that are densities times work, where each density is at least one and at most the ratio
-within : (p q d e w v : ℕ) → q * d ≤ p → 1 ≤ e → q * (d * w) * v ≤ p * (e * v) * w
-within p q d e w v low some =
-    let more : p * 1 ≤ p * e = mul-le p 1 p e (omega arith) some in
-    let dense : q * d ≤ p * e = omega (arith, more) in
-    let all : (q * d) * (w * v) ≤ (p * e) * (w * v) = mul-le (q * d) (w * v) (p * e) (w * v) dense (omega arith) in
-    omega (arith, all)
+use Rattle.dover_model.specs.Generator.{next_state, high_bits, most_density, job_of_draws, generated_jobs_from}
+use Rattle.dover_model.specs.Generator.{generated_jobs}
+use Rattle.dover_model.proofs.Calculus.{dense_within}
 
 -- the state after four draws
 abbrev pub next_four : ℕ → ℕ
@@ -32,7 +26,8 @@ pub so_many : (k : Fraction) (count state last : ℕ) → length (generated_jobs
 so_many k zero state last = refl
 so_many k (suc count) state last = ap suc (so_many k count _ _)
 
-module _ (k : Fraction) (state last a b c d : ℕ) (first : a ≡ next_state state) (second : b ≡ next_state a) (third : c ≡ next_state b)
+module _ (k : Fraction) (state last a b c d : ℕ) (first : a ≡ next_state state) (second : b ≡ next_state a)
+    (third : c ≡ next_state b)
     (fourth : d ≡ next_state c) where
   two : b ≡ next_state (next_state state)
   two = second ∙ ap next_state first
@@ -45,16 +40,19 @@ module _ (k : Fraction) (state last a b c d : ℕ) (first : a ≡ next_state sta
   four = fourth ∙ ap next_state three
 
   -- and to this job
-  pub job_is : (job : JobFacts) → job ≡ job_of_draws k last (high_bits a) (high_bits b) (high_bits c) (high_bits d) → job ≡ next_job k state last
+  pub job_is : (job : JobFacts) → job ≡ job_of_draws k last (high_bits a) (high_bits b) (high_bits c) (high_bits d)
+      → job ≡ next_job k state last
   job_is job is = is
       ∙ ap (λ x. job_of_draws k last (high_bits x) (high_bits b) (high_bits c) (high_bits d)) first
       ∙ ap (λ x. job_of_draws k last (high_bits (next_state state)) (high_bits x) (high_bits c) (high_bits d)) two
-      ∙ ap (λ x. job_of_draws k last (high_bits (next_state state)) (high_bits (next_state (next_state state))) (high_bits x) (high_bits d)) three
+      ∙ ap (λ x. job_of_draws k last (high_bits (next_state state)) (high_bits (next_state (next_state state)))
+      (high_bits x) (high_bits d)) three
       ∙ ap (λ x. job_of_draws k last (high_bits (next_state state)) (high_bits (next_state (next_state state)))
       (high_bits (next_state (next_state (next_state state)))) (high_bits x)) four
 
 -- where some are still to come, the next job is before the others
-pub next_one : (k : Fraction) (left state last : ℕ) (job : JobFacts) (state2 last2 : ℕ) → 1 ≤ left → job ≡ next_job k state last
+pub next_one : (k : Fraction) (left state last : ℕ) (job : JobFacts) (state2 last2 : ℕ) → 1 ≤ left
+    → job ≡ next_job k state last
     → state2 ≡ next_four state → last2 ≡ job.release
     → generated_jobs_from k left state last ≡ job ∷ generated_jobs_from k (left - 1) state2 last2
 next_one k zero state last job state2 last2 some here later release = absurd (omega arith)
@@ -69,7 +67,8 @@ next_one k (suc left) state last job state2 last2 some here later release =
 module _ (k : Fraction) (ratio : IsRatio k) where
   -- a density is drawn from at least one
   some_density : 1 ≤ most_density k
-  some_density = let one : 1 ≤ k.p / k.q = (le-div_iff_mul-le {k = k.q} {x = 1} {y = k.p} (omega (arith, ratio.least))).1
+  some_density = let one : 1 ≤ k.p / k.q =
+      (le-div_iff_mul-le {k = k.q} {x = 1} {y = k.p} (omega (arith, ratio.least))).1
       (omega (arith, ratio.above_one)) in
       omega (arith, one)
 
@@ -77,7 +76,8 @@ module _ (k : Fraction) (ratio : IsRatio k) where
   density_low : (h : ℕ) → k.q * (1 + h % most_density k) ≤ k.p
   density_low h =
       let most : 1 + h % most_density k ≤ k.p / k.q = omega (arith, some_density) in
-      let times : k.q * (1 + h % most_density k) ≤ k.q * (k.p / k.q) = mul-le k.q (1 + h % most_density k) k.q (k.p / k.q) (omega arith) most in
+      let times : k.q * (1 + h % most_density k) ≤ k.q * (k.p / k.q) =
+      mul-le k.q (1 + h % most_density k) k.q (k.p / k.q) (omega arith) most in
       omega (arith, times, mul-div-le k.p k.q)
 
   -- the value of a job
@@ -98,18 +98,23 @@ module _ (k : Fraction) (ratio : IsRatio k) where
   }
 
   -- two drawn jobs are within the ratio
-  two_within : (last r w s d last2 r2 w2 s2 d2 : ℕ) → IsWithinRatio k (job_of_draws k last r w s d) (job_of_draws k last2 r2 w2 s2 d2)
+  two_within : (last r w s d last2 r2 w2 s2 d2 : ℕ)
+      → IsWithinRatio k (job_of_draws k last r w s d) (job_of_draws k last2 r2 w2 s2 d2)
   two_within last r w s d last2 r2 w2 s2 d2 =
-      within k.p k.q (1 + d % most_density k) (1 + d2 % most_density k) (1 + w % 20) (1 + w2 % 20) (density_low d) (omega arith)
+      dense_within k.p k.q (1 + d % most_density k) (1 + d2 % most_density k) (1 + w % 20) (1 + w2 % 20) (density_low d)
+      (omega arith)
 
   -- of each job of a list
   all_drawn : (P : JobFacts → Type 0) → ((last r w s d : ℕ) → last ≤ 8_000_000 → P (job_of_draws k last r w s d))
-      → (count state last : ℕ) → last + 8 * count ≤ 8_000_000 → AllByRecursion P (generated_jobs_from k count state last)
+      → (count state last : ℕ) → last + 8 * count ≤ 8_000_000
+      → AllByRecursion P (generated_jobs_from k count state last)
   all_drawn P each zero state last fits = tt
-  all_drawn P each (suc count) state last fits = (each last _ _ _ _ (omega arith), all_drawn P each count _ _ (omega arith))
+  all_drawn P each (suc count) state last fits =
+      (each last _ _ _ _ (omega arith), all_drawn P each count _ _ (omega arith))
 
   -- no release is below the last one
-  all_later : (low count state last : ℕ) → low ≤ last → AllByRecursion (λ j. low ≤ j.release) (generated_jobs_from k count state last)
+  all_later : (low count state last : ℕ) → low ≤ last
+      → AllByRecursion (λ j. low ≤ j.release) (generated_jobs_from k count state last)
   all_later low zero state last early = tt
   all_later low (suc count) state last early = (omega arith, all_later low count _ _ (omega arith))
 
@@ -122,7 +127,8 @@ module _ (k : Fraction) (ratio : IsRatio k) where
   total_low zero state last = omega arith
   total_low (suc count) state last = omega (
     arith,
-    sum_by-cons (λ j. j.value) (next_job k state last) (generated_jobs_from k count (next_four state) (next_job k state last).release),
+    sum_by-cons (λ j. j.value) (next_job k state last)
+        (generated_jobs_from k count (next_four state) (next_job k state last).release),
     value_low (high_bits (next_four state)) (high_bits (next_state (next_state state))),
     total_low count (next_four state) (next_job k state last).release,
   )
@@ -138,5 +144,6 @@ module _ (k : Fraction) (ratio : IsRatio k) where
     total = omega (arith, total_low count seed 0, few);
     densities = all_drawn (λ i. AllByRecursion (IsWithinRatio k i) (generated_jobs seed count k))
         (λ last r w s d _. all_drawn (IsWithinRatio k (job_of_draws k last r w s d))
-        (λ last2 r2 w2 s2 d2 _. two_within last r w s d last2 r2 w2 s2 d2) count seed 0 (omega (arith, few))) count seed 0 (omega (arith, few));
+        (λ last2 r2 w2 s2 d2 _. two_within last r w s d last2 r2 w2 s2 d2) count seed 0 (omega (arith, few))) count seed
+        0 (omega (arith, few));
   }

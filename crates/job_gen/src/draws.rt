@@ -24,7 +24,8 @@ pub fn drawn_job(
 ) -> Option<Job>
     requires early { last ≤ 8_000_000 }
     ensures some { IsSome result }
-    ensures is { IfSome result (λ job. job ≡ job_of_draws k last (high_bits release) (high_bits work) (high_bits slack) (high_bits density)) }
+    ensures is { IfSome result
+        (λ job. job ≡ job_of_draws k last (high_bits release) (high_bits work) (high_bits slack) (high_bits density)) }
 {
     let most = u64::from(k.p() / k.q()).min(1_000);
     let from = last + release / 65_536 % 8;

@@ -1,5 +1,6 @@
 -- What each line of a feed adds to what is due, and how the lane comes to owe it.
-use Rattle.std.proofs.Common.{◌≡◌, ℕ, suc, ◌+◌, ◌≤◌, ◌<◌, ◌^◌, List, [], ◌∷◌, ◌++◌, length, map, refl, sym, ap, ◌∙◌, subst, arith, inl, inr, ◌⊎◌, Bool, true, false}
+use Rattle.std.proofs.Common.{◌≡◌, ℕ, suc, ◌+◌, ◌≤◌, ◌<◌, ◌^◌, List, [], ◌∷◌, ◌++◌, length, map, refl, sym, ap, ◌∙◌}
+use Rattle.std.proofs.Common.{subst, arith, inl, inr, ◌⊎◌, Bool, true, false}
 use Rattle.std.proofs.Common.{Some, None, Option, cond}
 use Rattle.std.proofs.lemmas.List.{append-nil}
 use Rattle.std.specs.Bool.{MatchBool}
@@ -12,7 +13,8 @@ use Rattle.dover_model.specs.Limits.{last_tick, most_jobs}
 use Rattle.dover_model.specs.JobFacts.{JobFacts}
 use Rattle.dover_model.specs.Fraction.{Fraction}
 use Rattle.dover_model.specs.Instance.{Rules, Instance, IsValid, with_jobs}
-use Rattle.dover_model.specs.Session.{JobItem, RefusedItem, RefusedJob, Session, instance_of, new_session, with_item, admitted_jobs}
+use Rattle.dover_model.specs.Session.{JobItem, RefusedItem, RefusedJob, Session, instance_of, new_session, with_item}
+use Rattle.dover_model.specs.Session.{admitted_jobs}
 use Rattle.dover_model.specs.Run.{printed}
 use Rattle.dover_model.specs.Settled.{settled}
 use Rattle.dover_model.specs.WholeRun.{Begins}
@@ -20,18 +22,21 @@ use Rattle.dover_model.specs.Paths.{HasPrinted}
 use Rattle.dover_model.specs.Sound.{IsMember}
 use Rattle.dover_model.specs.Text.{header, text_of, refused_text}
 use Rattle.dover_model.specs.Trace.{Printed, text_of_line, texts_among}
-use Rattle.dover_model.specs.Feed.{read_line, Account, Standing, Open, Ended, Faulty, Cause, rules_with, no_lines, next_line, account_of_lines, is_open}
+use Rattle.dover_model.specs.Feed.{read_line, Account, Standing, Open, Ended, Faulty, Cause, rules_with, no_lines}
+use Rattle.dover_model.specs.Feed.{next_line, account_of_lines, is_open}
 use Rattle.dover_model.specs.Due.{due_lines, fault_text}
 use Rattle.dover_model.proofs.Accounts.{Holds, HoldsBy, IsKept, lines_goes}
 use Rattle.dover_model.proofs.Admitting.{admits, not_refused}
 use Rattle.dover_model.proofs.Beginnings.{begins_onward}
 use Rattle.dover_model.proofs.Emitting.{texts_more, texts_job, texts_refused}
-use Rattle.dover_model.proofs.Growing.{Reads, reads_later, settled_later, settled_of_run, job_instance, refused_instance}
+use Rattle.dover_model.proofs.Growing.{Reads, reads_later, settled_later, settled_of_run, job_instance}
+use Rattle.dover_model.proofs.Growing.{refused_instance}
 use Rattle.dover_model.proofs.Paths.{printed_nothing}
 use Rattle.dover_model.proofs.Prefixes.{settled_prefix}
 use Rattle.dover_core.specs.Service.{Service, fresh_service}
 use Rattle.event_feed.specs.Kept.{cause_of_fault}
-use Rattle.event_feed.specs.Answers.{DeclaresRatio, AddsJob, MovesMark, EndsFeed, AddsRefused, NewFault, OldFault, counted}
+use Rattle.event_feed.specs.Answers.{DeclaresRatio, AddsJob, MovesMark, EndsFeed, AddsRefused, NewFault, OldFault}
+use Rattle.event_feed.specs.Answers.{counted}
 use Rattle.event_feed.specs.declared.faults.FeedFault.{FeedFault}
 use Rattle.lane_server.specs.Lanes.{lines_added}
 use Rattle.lane_server.specs.Lane.{IsServed, Fits, IsAtRest, Settling, Admitting, Finishing, IsRunning}
@@ -41,7 +46,8 @@ use Rattle.lane_server.proofs.Printing.{tasks_count}
 
 -- an account that goes on keeps what open accounts keep of their session
 pub holds_of : (a : Account) (S : Session) → IsKept a → a.standing ≡ Open → a.session ≡ Some S → Holds S a.mark a.lines
-holds_of a S kept stands there = subst (λ o. HoldsBy Open o a.mark a.lines) there (subst (λ x. HoldsBy x a.session a.mark a.lines) stands kept)
+holds_of a S kept stands there =
+    subst (λ o. HoldsBy Open o a.mark a.lines) there (subst (λ x. HoldsBy x a.session a.mark a.lines) stands kept)
 
 -- each account of lines keeps what accounts keep
 pub lines_kept : (ls : List (List ℕ)) → IsKept (account_of_lines ls)
@@ -58,18 +64,21 @@ open_stands a opened = by_standing a.standing opened where
   by_standing (Faulty line cause) e = absurd (let f : false ≡ true = e in cc)
 
 -- whether it goes on, by how it stands
-pub opens_by : (a : Account) (s : Standing) → a.standing ≡ s → is_open a ≡ elim s [ Open ↦ true | Ended ↦ false | Faulty line cause ↦ false ]
+pub opens_by : (a : Account) (s : Standing) → a.standing ≡ s
+    → is_open a ≡ elim s [ Open ↦ true | Ended ↦ false | Faulty line cause ↦ false ]
 opens_by a s e = ap (λ (x : Standing). elim x [ Open ↦ true | Ended ↦ false | Faulty line cause ↦ false ]) e
 
 -- the account of one line more
-pub account_next : (ls : List (List ℕ)) (l : List ℕ) → account_of_lines (ls ++ l ∷ []) ≡ next_line (account_of_lines ls) l
+pub account_next : (ls : List (List ℕ)) (l : List ℕ)
+    → account_of_lines (ls ++ l ∷ []) ≡ next_line (account_of_lines ls) l
 account_next ls l = fold-append next_line no_lines ls (l ∷ [])
 
 -- a feed that doesn't go on disregards lines
 pub account_over : (ls : List (List ℕ)) (l : List ℕ) → is_open (account_of_lines ls) ≡ false
     → account_of_lines (ls ++ l ∷ []) ≡ account_of_lines ls
 account_over ls l over = account_next ls l ∙ by_open (is_open (account_of_lines ls)) over where
-  by_open : (b : Bool) → b ≡ false → cond b (read_line (record (account_of_lines ls) { lines = suc (account_of_lines ls).lines }) l)
+  by_open : (b : Bool) → b ≡ false
+      → cond b (read_line (record (account_of_lines ls) { lines = suc (account_of_lines ls).lines }) l)
       (account_of_lines ls) ≡ account_of_lines ls
   by_open true e = absurd (let f : true ≡ false = e in cc)
   by_open false e = refl
@@ -82,7 +91,8 @@ drop_front (x ∷ xs) ys = drop_front xs ys
 -- what is due beyond what was due is what a line adds
 pub added_is : (ls : List (List ℕ)) (l : List ℕ) (rest : List (List ℕ))
     → due_lines (account_of_lines (ls ++ l ∷ [])) ≡ due_lines (account_of_lines ls) ++ rest → rest ≡ lines_added ls l
-added_is ls l rest due = sym (ap (drop (length (due_lines (account_of_lines ls)))) due ∙ drop_front (due_lines (account_of_lines ls)) rest)
+added_is ls l rest due =
+    sym (ap (drop (length (due_lines (account_of_lines ls)))) due ∙ drop_front (due_lines (account_of_lines ls)) rest)
 
 -- ---- what is due for an account
 
@@ -94,14 +104,17 @@ account_with lines session mark standing = record { lines = lines; session = ses
 parts : (a : Account) (session : Option Session) (standing : Standing) → a.session ≡ session → a.standing ≡ standing
     → due_lines a ≡ due_lines (account_with a.lines session a.mark standing)
 parts a session standing e f =
-    ap (λ o. due_lines (account_with a.lines o a.mark a.standing)) e ∙ ap (λ x. due_lines (account_with a.lines session a.mark x)) f
+    ap (λ o. due_lines (account_with a.lines o a.mark a.standing)) e
+    ∙ ap (λ x. due_lines (account_with a.lines session a.mark x)) f
 
 -- of one that goes on
-due_open : (a : Account) (S : Session) → a.session ≡ Some S → a.standing ≡ Open → due_lines a ≡ texts_among S (settled (instance_of S) a.mark)
+due_open : (a : Account) (S : Session) → a.session ≡ Some S → a.standing ≡ Open
+    → due_lines a ≡ texts_among S (settled (instance_of S) a.mark)
 due_open a S e f = parts a (Some S) Open e f ∙ append-nil (texts_among S (settled (instance_of S) a.mark))
 
 -- of one that has ended
-due_ended : (a : Account) (S : Session) → a.session ≡ Some S → a.standing ≡ Ended → due_lines a ≡ texts_among S (printed (instance_of S))
+due_ended : (a : Account) (S : Session) → a.session ≡ Some S → a.standing ≡ Ended
+    → due_lines a ≡ texts_among S (printed (instance_of S))
 due_ended a S e f = parts a (Some S) Ended e f ∙ append-nil (texts_among S (printed (instance_of S)))
 
 -- of one with no session yet
@@ -109,15 +122,18 @@ due_nothing : (a : Account) → a.session ≡ None → a.standing ≡ Open → d
 due_nothing a e f = parts a None Open e f
 
 -- a fault comes behind what was due
-pub due_fault : (a b : Account) (line : ℕ) (cause : Cause) → a.standing ≡ Open → b ≡ record a { lines = suc a.lines; standing = Faulty line cause }
+pub due_fault : (a b : Account) (line : ℕ) (cause : Cause) → a.standing ≡ Open
+    → b ≡ record a { lines = suc a.lines; standing = Faulty line cause }
     → due_lines b ≡ due_lines a ++ fault_text line cause ∷ []
 due_fault a b line cause stands is =
-    ap due_lines is ∙ by_session a.session ∙ ap (λ ls. ls ++ fault_text line cause ∷ []) (sym (parts a _ Open refl stands))
+    ap due_lines is ∙ by_session a.session
+    ∙ ap (λ ls. ls ++ fault_text line cause ∷ []) (sym (parts a _ Open refl stands))
   where
     by_session : (o : Option Session) → due_lines (account_with (suc a.lines) o a.mark (Faulty line cause)) ≡ due_lines
         (account_with a.lines o a.mark Open) ++ fault_text line cause ∷ []
     by_session None = refl
-    by_session (Some S) = ap (λ ls. ls ++ fault_text line cause ∷ []) (sym (append-nil (texts_among S (settled (instance_of S) a.mark))))
+    by_session (Some S) = ap (λ ls. ls ++ fault_text line cause ∷ [])
+        (sym (append-nil (texts_among S (settled (instance_of S) a.mark))))
 
 -- the same session
 one_session : (S T : Session) (a : Account) → a.session ≡ Some S → a.session ≡ Some T → S ≡ T
@@ -133,7 +149,8 @@ fits_session a S v fits there = subst (λ T. IsServed T a.mark v) (one_session f
 nothing_settled : (rules : Rules) → settled (instance_of (new_session rules)) 0 ≡ []
 nothing_settled rules = refl
 
-module _ (a b : Account) (k : Fraction) (version : Version) (stands : a.standing ≡ Open) (it : DeclaresRatio k version (counted a) b) where
+module _ (a b : Account) (k : Fraction) (version : Version) (stands : a.standing ≡ Open)
+    (it : DeclaresRatio k version (counted a) b) where
   -- the session
   abbrev started : Session
   started = new_session (rules_with k version)
@@ -154,7 +171,8 @@ module _ (a b : Account) (k : Fraction) (version : Version) (stands : a.standing
   pub header_due : due_lines b ≡ due_lines a ++ header (rules_with k version) ∷ []
   header_due = due_open b started header_session header_stands
       ∙ ap (λ m. texts_among started (settled (instance_of started) m)) (header_mark ∙ it.no_mark)
-      ∙ ap (λ es. header (rules_with k version) ∷ map text_of_line (map Printed es)) (nothing_settled (rules_with k version))
+      ∙ ap (λ es. header (rules_with k version) ∷ map text_of_line (map Printed es))
+      (nothing_settled (rules_with k version))
       ∙ ap (λ ls. ls ++ header (rules_with k version) ∷ []) (sym (due_nothing a it.first stands))
 
   -- a new server has served all that is settled
@@ -164,7 +182,8 @@ module _ (a b : Account) (k : Fraction) (version : Version) (stands : a.standing
     header_session,
     subst (λ m. IsServed started m v) (sym (header_mark ∙ it.no_mark)) (subst (IsServed started 0) (sym new) (record {
       jobs = refl;
-      printed = subst (HasPrinted (instance_of started) 0 (fresh_service version k spare).state) (sym (nothing_settled (rules_with k version)))
+      printed = subst (HasPrinted (instance_of started) 0 (fresh_service version k spare).state)
+          (sym (nothing_settled (rules_with k version)))
           (printed_nothing (instance_of started) 0);
       last = refl;
       goes_on = refl;
@@ -180,7 +199,8 @@ new_fault_due bytes fault a b it = due_fault a b (suc a.lines) (cause_of_fault f
     ∙ ap (λ n. due_lines a ++ fault_text n (cause_of_fault fault.cause) ∷ []) (sym it.line)
 
 -- an account that goes on has no fault yet
-pub new_fault : (bytes : List ℕ) (fault : FeedFault) (a b : Account) → a.standing ≡ Open → NewFault bytes fault a b ⊎ OldFault fault a b
+pub new_fault : (bytes : List ℕ) (fault : FeedFault) (a b : Account) → a.standing ≡ Open → NewFault bytes fault a b
+    ⊎ OldFault fault a b
     → NewFault bytes fault a b
 new_fault bytes fault a b stands (inl is) = is
 new_fault bytes fault a b stands (inr was) = absurd (let e = sym stands ∙ was.faulty in cc)
@@ -193,18 +213,22 @@ module _ (a : Account) (S : Session) (kept : IsKept a) (stands : a.standing ≡ 
   holds = holds_of a S kept stands there
 
   -- what is printed behind what is due for a
-  due_on : (b : Account) (all more : List Event) → due_lines b ≡ texts_among S all → all ≡ settled (instance_of S) a.mark ++ more
+  due_on : (b : Account) (all more : List Event) → due_lines b ≡ texts_among S all
+      → all ≡ settled (instance_of S) a.mark ++ more
       → due_lines b ≡ due_lines a ++ map text_of more
-  due_on b all more due is = due ∙ ap (texts_among S) is ∙ texts_more S (settled (instance_of S) a.mark) more holds.reads.within
+  due_on b all more due is = due ∙ ap (texts_among S) is
+      ∙ texts_more S (settled (instance_of S) a.mark) more holds.reads.within
       ∙ ap (λ ls. ls ++ map text_of more) (sym (due_open a S there stands))
 
 -- ---- a tick
 
-module _ (a b : Account) (t : ℕ) (kept : IsKept a) (stands : a.standing ≡ Open) (it : MovesMark t (counted a) b) (v : Service) (fits : Fits a (Some v))
+module _ (a b : Account) (t : ℕ) (kept : IsKept a) (stands : a.standing ≡ Open) (it : MovesMark t (counted a) b)
+    (v : Service) (fits : Fits a (Some v))
   where
     -- what is settled further
     pub tick_begins : Begins (settled (instance_of it.session) a.mark) (settled (instance_of it.session) t)
-    tick_begins = settled_later (instance_of it.session) a.mark t (holds_of a it.session kept stands it.before_is).reads.valid it.no_fall
+    tick_begins = settled_later (instance_of it.session) a.mark t
+        (holds_of a it.session kept stands it.before_is).reads.valid it.no_fall
 
     -- its lines
     abbrev pub tick_rest : List (List ℕ)
@@ -225,7 +249,8 @@ module _ (a b : Account) (t : ℕ) (kept : IsKept a) (stands : a.standing ≡ Op
     -- they are due
     pub tick_due : due_lines b ≡ due_lines a ++ tick_rest
     tick_due = due_on a it.session kept stands it.before_is b (settled (instance_of it.session) t) tick_begins.0
-        (due_open b it.session tick_session tick_stands ∙ ap (λ m. texts_among it.session (settled (instance_of it.session) m)) tick_mark)
+        (due_open b it.session tick_session tick_stands
+        ∙ ap (λ m. texts_among it.session (settled (instance_of it.session) m)) tick_mark)
         tick_begins.1
 
     -- they are left
@@ -237,14 +262,20 @@ module _ (a b : Account) (t : ℕ) (kept : IsKept a) (stands : a.standing ≡ Op
       valid = (holds_of a it.session kept stands it.before_is).reads.valid;
       events = settled (instance_of it.session) a.mark;
       left = tick_begins.0;
-      way = record { from = a.mark; served = fits_session a it.session v fits it.before_is; ordered = it.no_fall; known = it.known };
+      way = record {
+        from = a.mark;
+        served = fits_session a it.session v fits it.before_is;
+        ordered = it.no_fall;
+        known = it.known;
+      };
       due = tick_begins.1;
       texts = refl;
     }
 
 -- ---- a job
 
-module _ (a b : Account) (n : ℕ) (j : JobFacts) (kept : IsKept a) (stands : a.standing ≡ Open) (it : AddsJob n j (counted a) b) (v : Service)
+module _ (a b : Account) (n : ℕ) (j : JobFacts) (kept : IsKept a) (stands : a.standing ≡ Open)
+    (it : AddsJob n j (counted a) b) (v : Service)
     (fits : Fits a (Some v)) where
   -- the session with the job
   abbrev joined : Session
@@ -268,11 +299,13 @@ module _ (a b : Account) (n : ℕ) (j : JobFacts) (kept : IsKept a) (stands : a.
 
   -- its release is a tick
   job_known : j.release ≤ last_tick
-  job_known = let it = (not_refused it.session.rules.ratio (admitted_jobs it.session.items) j it.admitted).job in omega (arith, it.window, it.due)
+  job_known = let it = (not_refused it.session.rules.ratio (admitted_jobs it.session.items) j it.admitted).job in
+      omega (arith, it.window, it.due)
 
   -- what is settled without the job begins what is settled with it
   settled_before : Begins (settled (instance_of it.session) j.release) (settled (instance_of joined) j.release)
-  settled_before = subst (λ J. Begins (settled (instance_of it.session) j.release) (settled J j.release)) (sym (job_instance it.session j))
+  settled_before = subst (λ J. Begins (settled (instance_of it.session) j.release) (settled J j.release))
+      (sym (job_instance it.session j))
       (settled_prefix (instance_of it.session) (j ∷ []) j.release job_valid is_last j.release (omega arith)) where
         is_last : (i : JobFacts) → IsMember i (j ∷ []) → j.release ≤ i.release
         is_last i (inl e) = subst (λ (x : JobFacts). j.release ≤ x.release) (sym e) (omega arith)
@@ -281,7 +314,8 @@ module _ (a b : Account) (n : ℕ) (j : JobFacts) (kept : IsKept a) (stands : a.
   -- what is settled further
   pub job_begins : Begins (settled (instance_of it.session) a.mark) (settled (instance_of joined) j.release)
   job_begins = begins_onward (settled (instance_of it.session) a.mark) (settled (instance_of it.session) j.release)
-      (settled (instance_of joined) j.release) (settled_later (instance_of it.session) a.mark j.release job_reads.valid it.no_fall) settled_before
+      (settled (instance_of joined) j.release)
+      (settled_later (instance_of it.session) a.mark j.release job_reads.valid it.no_fall) settled_before
 
   -- its lines
   abbrev pub job_rest : List (List ℕ)
@@ -330,7 +364,8 @@ module _ (a b : Account) (n : ℕ) (j : JobFacts) (kept : IsKept a) (stands : a.
 
 -- ---- the end
 
-module _ (a b : Account) (kept : IsKept a) (stands : a.standing ≡ Open) (it : EndsFeed (counted a) b) (v : Service) (fits : Fits a (Some v)) where
+module _ (a b : Account) (kept : IsKept a) (stands : a.standing ≡ Open) (it : EndsFeed (counted a) b) (v : Service)
+    (fits : Fits a (Some v)) where
   -- the session's jobs are valid
   end_valid : IsValid (instance_of it.session)
   end_valid = (holds_of a it.session kept stands it.before_is).reads.valid
@@ -368,18 +403,21 @@ module _ (a b : Account) (kept : IsKept a) (stands : a.standing ≡ Open) (it : 
     before = settled (instance_of it.session) a.mark;
     settled = served.printed;
     left = end_begins.0;
-    so_far = subst (λ x. MatchBool x (end_begins.0 ≡ []) (IsRunning (instance_of it.session) v.state (settled (instance_of it.session) a.mark) v
+    so_far = subst (λ x. MatchBool x (end_begins.0 ≡ [])
+        (IsRunning (instance_of it.session) v.state (settled (instance_of it.session) a.mark) v
         end_begins.0)) (sym served.goes_on) (record {
           steps = [];
           path = refl;
-          due = end_begins.1 ∙ ap (λ es. es ++ end_begins.0) (sym (append-nil (settled (instance_of it.session) a.mark)));
+          due = end_begins.1 ∙ ap (λ es. es ++ end_begins.0)
+              (sym (append-nil (settled (instance_of it.session) a.mark)));
         });
     texts = refl;
   }
 
 -- ---- a refused job line
 
-module _ (a b : Account) (j : JobFacts) (cause : Refusal) (kept : IsKept a) (stands : a.standing ≡ Open) (it : AddsRefused j cause (counted a) b) where
+module _ (a b : Account) (j : JobFacts) (cause : Refusal) (kept : IsKept a) (stands : a.standing ≡ Open)
+    (it : AddsRefused j cause (counted a) b) where
   -- the refused line
   abbrev refused : RefusedJob
   refused = record { at = a.mark; job = j; refusal = cause }
@@ -403,7 +441,8 @@ module _ (a b : Account) (j : JobFacts) (cause : Refusal) (kept : IsKept a) (sta
   -- its line is due
   pub refused_due : due_lines b ≡ due_lines a ++ refused_text refused ∷ []
   refused_due = due_open b (with_item it.session (RefusedItem refused)) refused_session refused_stands
-      ∙ ap (λ m. texts_among (with_item it.session (RefusedItem refused)) (settled (instance_of (with_item it.session (RefusedItem refused))) m))
+      ∙ ap (λ m. texts_among (with_item it.session (RefusedItem refused))
+      (settled (instance_of (with_item it.session (RefusedItem refused))) m))
       refused_mark
       ∙ texts_refused it.session refused (holds_of a it.session kept stands it.before_is).reads
       ∙ ap (λ ls. ls ++ refused_text refused ∷ []) (sym (due_open a it.session it.before_is stands))
@@ -416,7 +455,8 @@ module _ (a b : Account) (j : JobFacts) (cause : Refusal) (kept : IsKept a) (sta
     refused_session,
     subst (λ m. IsServed (with_item it.session (RefusedItem refused)) m v) (sym refused_mark) (record {
       jobs = served.jobs ∙ sym (refused_instance it.session refused);
-      printed = subst (λ J. HasPrinted J a.mark v.state (settled J a.mark)) (sym (refused_instance it.session refused)) served.printed;
+      printed = subst (λ J. HasPrinted J a.mark v.state (settled J a.mark))
+          (sym (refused_instance it.session refused)) served.printed;
       last = served.last;
       goes_on = served.goes_on;
     }),

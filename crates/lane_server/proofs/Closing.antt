@@ -37,7 +37,8 @@ module _ (rules : Rules) (v u : State) (e : Event) (gives : GivesNext End rules 
   pub whole_on : is_end (Prints e) ≡ true → IsWholeRun rules v steps_on
   whole_on end = closed_then_run rules gives.waits.steps (step_at rules gives.before ∷ []) v gives.before silent_on (
     refl,
-    subst (λ x. MatchBool x (no_steps ≡ no_steps) (IsWholeRun rules (after gives.before (step rules gives.before)) no_steps))
+    subst (λ x. MatchBool x (no_steps ≡ no_steps)
+        (IsWholeRun rules (after gives.before (step rules gives.before)) no_steps))
         (sym (ap is_end gives.prints ∙ end)) refl,
   )
 

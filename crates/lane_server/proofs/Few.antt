@@ -1,5 +1,6 @@
 -- Few lines are left to give at any time.
-use Rattle.std.proofs.Common.{◌≡◌, ◌≤◌, ◌<◌, ◌+◌, ◌-◌, ℕ, zero, suc, List, [], ◌∷◌, ◌++◌, length, refl, sym, ap, subst, Bool, true, false, Option, Some, None, cond}
+use Rattle.std.proofs.Common.{◌≡◌, ◌≤◌, ◌<◌, ◌+◌, ◌-◌, ℕ, zero, suc, List, [], ◌∷◌, ◌++◌, length, refl, sym, ap, subst}
+use Rattle.std.proofs.Common.{Bool, true, false, Option, Some, None, cond}
 use Rattle.std.proofs.Common.{arith, length-append}
 use Rattle.std.specs.Bool.{MatchBool}
 use Rattle.std.specs.List.{flat_map, range_with_len, slice_get}
@@ -16,7 +17,8 @@ use Rattle.dover_model.proofs.Beginnings.{begins_length}
 use Rattle.dover_model.proofs.Ending.{few_printed}
 use Rattle.dover_model.proofs.Growing.{settled_of_run, job_instance}
 use Rattle.dover_core.specs.Service.{Service}
-use Rattle.lane_server.specs.Lanes.{lane_count, Handed, input_of_lines, lane_lines, in_lane, feed_short, lane_short, shorts_from}
+use Rattle.lane_server.specs.Lanes.{lane_count, Handed, input_of_lines, lane_lines, in_lane, feed_short, lane_short}
+use Rattle.lane_server.specs.Lanes.{shorts_from}
 use Rattle.lane_server.specs.Lane.{IsRunning, Owes}
 use Rattle.lane_server.specs.Kept.{Kept, Leaves, StandsFor}
 use Rattle.lane_server.specs.declared.lane.Work.{Work}
@@ -29,7 +31,8 @@ run_few : (J : Instance) → IsValid J → length (printed J) ≤ 5_000_001
 run_few J valid = omega (arith, few_printed J valid, valid.count)
 
 -- what is left of what is settled
-settled_few : (J : Instance) (mark : ℕ) (events left : List Event) → IsValid J → settled J mark ≡ events ++ left → length left ≤ 5_000_001
+settled_few : (J : Instance) (mark : ℕ) (events left : List Event) → IsValid J → settled J mark ≡ events ++ left
+    → length left ≤ 5_000_001
 settled_few J mark events left valid is = omega (
   arith,
   run_few J valid,
@@ -43,7 +46,8 @@ left_few : (J : Instance) (front left : List Event) → IsValid J → printed J 
 left_few J front left valid is = omega (arith, run_few J valid, ap length is, length-append front left)
 
 -- what the work under way still gives
-owes_few : (work : Work) (server : Option Service) (a : Account) (rest : List (List ℕ)) → Owes work server a rest → length rest ≤ 5_000_001
+owes_few : (work : Work) (server : Option Service) (a : Account) (rest : List (List ℕ)) → Owes work server a rest
+    → length rest ≤ 5_000_001
 owes_few Nothing server a rest owes = omega (arith, ap length owes.0)
 owes_few (Give out) server a rest owes = omega (arith, ap length owes.0)
 owes_few (Settle mark) None a rest owes = absurd owes
@@ -62,11 +66,14 @@ owes_few (Admit job) (Some v) a rest owes = omega (
       (subst IsValid (sym (job_instance owes.session job)) owes.valid_with) owes.due,
 )
 owes_few Finish None a rest owes = absurd owes
-owes_few Finish (Some v) a rest owes = omega (arith, ap length owes.texts, length-map owes.left text_of, by_end v.ended owes.so_far) where
-  by_end : (b : Bool) → MatchBool b (owes.left ≡ []) (IsRunning (instance_of owes.session) owes.start owes.before v owes.left)
-      → length owes.left ≤ 5_000_001
-  by_end true none = omega (arith, ap length none)
-  by_end false runs = left_few (instance_of owes.session) (owes.before ++ printed_of runs.steps) owes.left owes.valid runs.due
+owes_few Finish (Some v) a rest owes =
+    omega (arith, ap length owes.texts, length-map owes.left text_of, by_end v.ended owes.so_far) where
+      by_end : (b : Bool) → MatchBool b (owes.left ≡ [])
+          (IsRunning (instance_of owes.session) owes.start owes.before v owes.left)
+          → length owes.left ≤ 5_000_001
+      by_end true none = omega (arith, ap length none)
+      by_end false runs = left_few (instance_of owes.session)
+          (owes.before ++ printed_of runs.steps) owes.left owes.valid runs.due
 
 -- a feed is short once at most
 short_few : (ls : List (List ℕ)) → length (feed_short ls) ≤ 1
@@ -77,7 +84,8 @@ short_few (l ∷ ls) = by_open (is_open (account_of_lines (l ∷ ls))) where
   by_open false = omega arith
 
 -- so are lanes
-range_few : (handed : List Handed) (from more : ℕ) → length (flat_map (lane_short handed) (range_with_len from more)) ≤ more
+range_few : (handed : List Handed) (from more : ℕ)
+    → length (flat_map (lane_short handed) (range_with_len from more)) ≤ more
 range_few handed from zero = omega arith
 range_few handed from (suc more) = omega (
   arith,
@@ -110,7 +118,8 @@ few_left kept ls rest it = by_phase kept.phase it.left where
         arith,
         ap length left.2,
         length-map left.0 (in_lane lane),
-        owes_few there.0.work there.0.server (account_of_lines (lane_lines (input_of_lines ls).handed lane)) left.0 stands.owes,
+        owes_few there.0.work there.0.server
+            (account_of_lines (lane_lines (input_of_lines ls).handed lane)) left.0 stands.owes,
       )
   by_phase (Closing next) left =
       omega (arith, ap length left.2, shorts_few (input_of_lines ls).handed next (lane_count - next))

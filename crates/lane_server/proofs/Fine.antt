@@ -1,5 +1,6 @@
 -- Lanes that have no line, or are ended without a fault.
-use Rattle.std.proofs.Common.{◌≡◌, ◌<◌, ◌-◌, ◌+◌, ◌⊎◌, inl, inr, ℕ, suc, List, [], length, refl, sym, ap, ◌∙◌, subst, Bool, true, false, ◌&&◌}
+use Rattle.std.proofs.Common.{◌≡◌, ◌<◌, ◌-◌, ◌+◌, ◌⊎◌, inl, inr, ℕ, suc, List, [], length, refl, sym, ap, ◌∙◌, subst}
+use Rattle.std.proofs.Common.{Bool, true, false, ◌&&◌}
 use Rattle.std.proofs.Common.{arith, Some, get_or}
 use Rattle.std.specs.List.{slice_get, list_all, range_with_len}
 use Rattle.std.proofs.lemmas.Option.{slice_get_read}
@@ -12,7 +13,8 @@ use Rattle.lane_server.specs.declared.lanes.Phase.TheVariants.{Ready, Giving, Cl
 use Rattle.lane_server.proofs.Handing.{same_or_not}
 
 -- whatever is under way, each lane was handed its lines
-pub all_stand : (kept : Kept) (ls rest : List (List ℕ)) → StandsFor kept ls rest → AllStand kept.lanes (input_of_lines ls).handed
+pub all_stand : (kept : Kept) (ls rest : List (List ℕ)) → StandsFor kept ls rest
+    → AllStand kept.lanes (input_of_lines ls).handed
 all_stand kept ls rest it = by_phase kept.phase it.left where
   by_phase : (p : Phase) → Leaves p kept.lanes (input_of_lines ls) rest → AllStand kept.lanes (input_of_lines ls).handed
   by_phase Ready left = λ i lane there. ([], (left.2 i lane there).stands)
@@ -28,7 +30,8 @@ all_stand kept ls rest it = by_phase kept.phase it.left where
   by_phase (Closing next) left = λ i lane there. ([], (left.3 i lane there).stands)
 
 -- one of them
-pub one_stands : (lanes : List Lane) (handed : List Handed) (i at : ℕ) (l : Lane) → AllStand lanes handed → length lanes ≡ lane_count
+pub one_stands : (lanes : List Lane) (handed : List Handed) (i at : ℕ) (l : Lane) → AllStand lanes handed
+    → length lanes ≡ lane_count
     → i < lane_count → at ≡ i → l ≡ get_or lanes at l → (more : List (List ℕ)) × Stands l (lane_lines handed i) more
 one_stands lanes handed i at l all count low same is =
     all i l (slice_get_read lanes lane_count i l (sym count) low (subst (λ k. l ≡ get_or lanes k l) same is))
@@ -45,7 +48,8 @@ unfolding all_ended fine_from
 all_fine handed = refl
 
 -- the first of them, and those behind it
-fine_cons : (handed : List Handed) (i m n : ℕ) → m ≡ suc n → fine_from handed i m ≡ is_fine (lane_lines handed i) && fine_from handed (i + 1) n
+fine_cons : (handed : List Handed) (i m n : ℕ) → m ≡ suc n
+    → fine_from handed i m ≡ is_fine (lane_lines handed i) && fine_from handed (i + 1) n
 unfolding fine_from
 fine_cons handed i m n is = ap (λ k. list_all (λ lane. is_fine (lane_lines handed lane)) (range_with_len i k)) is
 
@@ -56,7 +60,8 @@ fine_next handed i low fine = fine_cons handed i (lane_count - i) (lane_count - 
     ∙ ap (λ b. b && fine_from handed (i + 1) (lane_count - (i + 1))) fine
 
 -- at one that isn't
-pub fine_not : (handed : List Handed) (i : ℕ) → i < lane_count → is_fine (lane_lines handed i) ≡ false → fine_from handed i (lane_count - i) ≡ false
+pub fine_not : (handed : List Handed) (i : ℕ) → i < lane_count → is_fine (lane_lines handed i) ≡ false
+    → fine_from handed i (lane_count - i) ≡ false
 fine_not handed i low not = fine_cons handed i (lane_count - i) (lane_count - (i + 1)) (omega arith)
     ∙ ap (λ b. b && fine_from handed (i + 1) (lane_count - (i + 1))) not
 

@@ -1,5 +1,6 @@
 -- What a line of the input hands to its lane.
-use Rattle.std.proofs.Common.{◌≡◌, ◌≤◌, ◌<◌, ◌+◌, ◌-◌, ℕ, suc, List, [], ◌∷◌, ◌++◌, length, map, refl, sym, ap, ◌∙◌, arith, Bool, true, false, cond, ◌==◌, Option, Some, None, ◌⊎◌, inl, inr}
+use Rattle.std.proofs.Common.{◌≡◌, ◌≤◌, ◌<◌, ◌+◌, ◌-◌, ℕ, suc, List, [], ◌∷◌, ◌++◌, length, map, refl, sym, ap, ◌∙◌}
+use Rattle.std.proofs.Common.{arith, Bool, true, false, cond, ◌==◌, Option, Some, None, ◌⊎◌, inl, inr}
 use Rattle.std.specs.Prelude.{nat_lt, option_map}
 use Rattle.std.specs.Option.{option_and_then}
 use Rattle.std.specs.List.{filter, flat_map, range_with_len}
@@ -14,15 +15,18 @@ use Rattle.dover_model.specs.Numerals.{numeral}
 use Rattle.dover_model.specs.Feed.{Short}
 use Rattle.dover_model.specs.Due.{fault_text}
 use Rattle.line_text.specs.Reading.{number_of_first}
-use Rattle.lane_server.specs.Lanes.{lane_count, LaneLine, OfLane, Close, lane_line, numbered_line, of_lane, Handed, Input, Open, Closed, Faulty}
-use Rattle.lane_server.specs.Lanes.{InputStanding, TooManyLines, BadLane, no_input, next_line, with_lane_line, goes_on, input_of_lines}
+use Rattle.lane_server.specs.Lanes.{lane_count, LaneLine, OfLane, Close, lane_line, numbered_line, of_lane, Handed}
+use Rattle.lane_server.specs.Lanes.{Input, Open, Closed, Faulty}
+use Rattle.lane_server.specs.Lanes.{InputStanding, TooManyLines, BadLane, no_input, next_line, with_lane_line, goes_on}
+use Rattle.lane_server.specs.Lanes.{input_of_lines}
 use Rattle.lane_server.specs.Lanes.{lane_lines, in_lane, feed_short, lane_short, shorts_from}
 use Rattle.lane_server.specs.Shorts.{short_texts}
 
 -- ---- reading
 
 -- the line of a lane's number and what is behind it
-pub numbered_is : (fields : List (List ℕ)) (number : ℕ) (r : List ℕ) → number_of_first fields ≡ Some (number, fields_of r) → number < lane_count
+pub numbered_is : (fields : List (List ℕ)) (number : ℕ) (r : List ℕ)
+    → number_of_first fields ≡ Some (number, fields_of r) → number < lane_count
     → numbered_line fields ≡ Some (OfLane number r)
 numbered_is [] number r read low = absurd (let e : None ≡ Some (number, fields_of r) = read in cc)
 numbered_is (field ∷ more) number r read low = by_numeral (numeral field) refl read where
@@ -36,13 +40,15 @@ numbered_is (field ∷ more) number r read low = by_numeral (numeral field) refl
       ap (option_and_then (of_lane (line_of (m ∷ ms)))) spells
       ∙ ap (λ b. cond b (Some (OfLane number (line_of (m ∷ ms)))) None) (lt-ltb number lane_count low)
 
-  by_numeral : (o : Option ℕ) → numeral field ≡ o → option_map {U = ℕ × List (List ℕ)} (λ n. (n, more)) o ≡ Some (number, fields_of r)
+  by_numeral : (o : Option ℕ) → numeral field ≡ o
+      → option_map {U = ℕ × List (List ℕ)} (λ n. (n, more)) o ≡ Some (number, fields_of r)
       → numbered_line (field ∷ more) ≡ Some (OfLane number r)
   by_numeral None is e = absurd (let f : None ≡ Some (number, fields_of r) = e in cc)
   by_numeral (Some n) is e =
       let both : (n, more) ≡ (number, fields_of r) = let f : Some (n, more) ≡ Some (number, fields_of r) = e in cc in
       let same : more ≡ fields_of r = ap (λ (p : ℕ × List (List ℕ)). p.1) both in
-      by_more more refl same (is ∙ ap Some (ap (λ (p : ℕ × List (List ℕ)). p.0) both)) ∙ ap (λ l. Some (OfLane number l)) (joined same)
+      by_more more refl same (is ∙ ap Some (ap (λ (p : ℕ × List (List ℕ)). p.0) both))
+      ∙ ap (λ l. Some (OfLane number l)) (joined same)
 
 -- ---- the input of one line more
 
@@ -51,11 +57,14 @@ input_next : (ls : List (List ℕ)) (l : List ℕ) → input_of_lines (ls ++ l �
 input_next ls l = fold-append next_line no_input ls (l ∷ [])
 
 -- a good line that isn't one too many
-next_good : (a : Input) (l : List ℕ) (x : LaneLine) → a.standing ≡ Open → suc a.lines ≤ most_lines → lane_line l ≡ Some x
+next_good : (a : Input) (l : List ℕ) (x : LaneLine) → a.standing ≡ Open → suc a.lines ≤ most_lines
+    → lane_line l ≡ Some x
     → next_line a l ≡ with_lane_line (record a { lines = suc a.lines }) x
-next_good a l x stands room reads = by_parts (goes_on a) (nat_lt most_lines (suc a.lines)) (lane_line l) (opens a.standing stands)
+next_good a l x stands room reads =
+    by_parts (goes_on a) (nat_lt most_lines (suc a.lines)) (lane_line l) (opens a.standing stands)
     (few (nat_lt most_lines (suc a.lines)) refl) reads where
-      opens : (s : InputStanding) → s ≡ Open → elim s [ Open ↦ true | Closed ↦ false | Faulty line fault ↦ false ] ≡ true
+      opens : (s : InputStanding) → s ≡ Open
+          → elim s [ Open ↦ true | Closed ↦ false | Faulty line fault ↦ false ] ≡ true
       opens Open e = refl
       opens Closed e = absurd (let f : Closed ≡ Open = e in cc)
       opens (Faulty line fault) e = absurd (let f : Faulty line fault ≡ Open = e in cc)
@@ -88,8 +97,10 @@ input_fed ls bytes lane line stands room reads =
 -- with `close`
 pub input_closed : (ls : List (List ℕ)) (bytes : List ℕ) → (input_of_lines ls).standing ≡ Open
     → suc (input_of_lines ls).lines ≤ most_lines → lane_line bytes ≡ Some Close
-    → input_of_lines (ls ++ bytes ∷ []) ≡ record (input_of_lines ls) { lines = suc (input_of_lines ls).lines; standing = Closed }
-input_closed ls bytes stands room reads = input_next ls bytes ∙ next_good (input_of_lines ls) bytes Close stands room reads
+    → input_of_lines (ls ++ bytes ∷ []) ≡ record (input_of_lines ls)
+    { lines = suc (input_of_lines ls).lines; standing = Closed }
+input_closed ls bytes stands room reads = input_next ls bytes
+    ∙ next_good (input_of_lines ls) bytes Close stands room reads
 
 -- ---- the lines of a lane
 
@@ -97,7 +108,8 @@ input_closed ls bytes stands room reads = input_next ls bytes ∙ next_good (inp
 lines_with : (handed : List Handed) (h : Handed) (i : ℕ)
     → lane_lines (handed ++ h ∷ []) i ≡ lane_lines handed i ++ cond (h.lane == i) (h.line ∷ []) []
 lines_with handed h i = ap (map (λ (x : Handed). x.line)) (filter-append (λ (x : Handed). x.lane == i) handed (h ∷ []))
-    ∙ map-append (λ (x : Handed). x.line) (filter (λ (x : Handed). x.lane == i) handed) (filter (λ (x : Handed). x.lane == i) (h ∷ []))
+    ∙ map-append (λ (x : Handed). x.line) (filter (λ (x : Handed). x.lane == i) handed)
+    (filter (λ (x : Handed). x.lane == i) (h ∷ []))
     ∙ ap (λ ls. lane_lines handed i ++ ls) (by_test (h.lane == i)) where
       by_test : (b : Bool) → map (λ (x : Handed). x.line) (cond b (h ∷ []) []) ≡ cond b (h.line ∷ []) []
       by_test true = refl
@@ -116,12 +128,14 @@ lines_same handed lane line = lines_with handed (record { lane = lane; line = li
 pub lines_other : (handed : List Handed) (lane : ℕ) (line : List ℕ) (i : ℕ) → (i ≡ lane → ⊥)
     → lane_lines (handed ++ record { lane = lane; line = line } ∷ []) i ≡ lane_lines handed i
 lines_other handed lane line i other = lines_with handed (record { lane = lane; line = line }) i
-    ∙ ap (λ b. lane_lines handed i ++ cond b (line ∷ []) []) (ne_eqb lane i (λ e. other (sym e))) ∙ append-nil (lane_lines handed i)
+    ∙ ap (λ b. lane_lines handed i ++ cond b (line ∷ []) []) (ne_eqb lane i (λ e. other (sym e)))
+    ∙ append-nil (lane_lines handed i)
 
 -- ---- short lanes
 
 -- from a lane on
-shorts_cons : (handed : List Handed) (i m n : ℕ) → m ≡ suc n → shorts_from handed i m ≡ lane_short handed i ++ shorts_from handed (i + 1) n
+shorts_cons : (handed : List Handed) (i m n : ℕ) → m ≡ suc n
+    → shorts_from handed i m ≡ lane_short handed i ++ shorts_from handed (i + 1) n
 unfolding shorts_from
 shorts_cons handed i m n is = ap (λ k. flat_map (lane_short handed) (range_with_len i k)) is
 
@@ -142,8 +156,10 @@ shorts_skip handed i low none =
     shorts_next handed i low ∙ ap (λ ls. map (in_lane i) ls ++ shorts_from handed (i + 1) (lane_count - (i + 1))) none
 
 -- one that is short adds its line
-pub shorts_first : (handed : List Handed) (i line : ℕ) → i < lane_count → feed_short (lane_lines handed i) ≡ short_texts (Some line)
-    → shorts_from handed i (lane_count - i) ≡ in_lane i (fault_text line Short) ∷ shorts_from handed (i + 1) (lane_count - (i + 1))
+pub shorts_first : (handed : List Handed) (i line : ℕ) → i < lane_count
+    → feed_short (lane_lines handed i) ≡ short_texts (Some line)
+    → shorts_from handed i (lane_count - i) ≡ in_lane i (fault_text line Short) ∷ shorts_from handed (i + 1)
+    (lane_count - (i + 1))
 shorts_first handed i line low one =
     shorts_next handed i low ∙ ap (λ ls. map (in_lane i) ls ++ shorts_from handed (i + 1) (lane_count - (i + 1))) one
 

@@ -1,5 +1,6 @@
 -- How a lane comes to owe what a line of its feed adds.
-use Rattle.std.proofs.Common.{◌≡◌, ◌≤◌, ◌<◌, ◌^◌, ℕ, List, [], ◌∷◌, ◌++◌, refl, sym, ap, ◌∙◌, subst, Option, Some, None, Bool, true, false, Result, Ok, Err}
+use Rattle.std.proofs.Common.{◌≡◌, ◌≤◌, ◌<◌, ◌^◌, ℕ, List, [], ◌∷◌, ◌++◌, refl, sym, ap, ◌∙◌, subst, Option, Some, None}
+use Rattle.std.proofs.Common.{Bool, true, false, Result, Ok, Err}
 use Rattle.std.specs.Prelude.{OnOk}
 use Rattle.std.proofs.lemmas.List.{append-nil}
 use Rattle.dover_model.specs.declared.events.Version.{Version}
@@ -21,9 +22,12 @@ use Rattle.lane_server.specs.Lane.{Fits, IsOpenAt, Owes, GivesFault, Adds, Stand
 use Rattle.lane_server.specs.declared.lane.Lane.{Lane}
 use Rattle.lane_server.specs.declared.lane.Work.TheVariants.{Nothing, Give, Settle, Admit, Finish}
 use Rattle.lane_server.specs.declared.out.LaneOut.TheVariants.{Header, Refuse, Refused}
-use Rattle.lane_server.proofs.Adding.{header_stands, header_mark, header_due, header_fits, job_stands, job_mark, job_rest, job_due, job_owes}
-use Rattle.lane_server.proofs.Adding.{tick_stands, tick_mark, tick_rest, tick_due, tick_owes, end_stands, end_mark, end_rest, end_due, end_owes}
-use Rattle.lane_server.proofs.Adding.{refused_stands, refused_mark, refused_due, refused_mark_short, refused_fits, new_fault_due, opens_by, open_stands, lines_kept}
+use Rattle.lane_server.proofs.Adding.{header_stands, header_mark, header_due, header_fits, job_stands, job_mark}
+use Rattle.lane_server.proofs.Adding.{job_rest, job_due, job_owes}
+use Rattle.lane_server.proofs.Adding.{tick_stands, tick_mark, tick_rest, tick_due, tick_owes, end_stands, end_mark}
+use Rattle.lane_server.proofs.Adding.{end_rest, end_due, end_owes}
+use Rattle.lane_server.proofs.Adding.{refused_stands, refused_mark, refused_due, refused_mark_short, refused_fits}
+use Rattle.lane_server.proofs.Adding.{new_fault_due, opens_by, open_stands, lines_kept}
 use Rattle.lane_server.proofs.Adding.{added_is, account_over}
 
 -- the ratio line
@@ -40,7 +44,8 @@ declare_adds lane k version v a b at it new = record {
 }
 
 -- a job
-pub arrive_adds : (lane : Lane) (n : ℕ) (job : JobFacts) (v u : Service) (t : ℕ) (a b : Account) → IsOpenAt lane a → AddsJob n job (counted a) b
+pub arrive_adds : (lane : Lane) (n : ℕ) (job : JobFacts) (v u : Service) (t : ℕ) (a b : Account) → IsOpenAt lane a
+    → AddsJob n job (counted a) b
     → lane.server ≡ Some v → u ≡ record v { spare = u.spare } → 1 ≤ u.spare → t ≡ job.release
     → Adds (record lane { server = Some u; mark = t; work = Admit job }) a b
 arrive_adds lane n job v u t a b at it there is room same =
@@ -113,23 +118,30 @@ open_at lane i ls it opened =
     record { opened = opened; kept = lines_kept ls; stands = stands; fits = owes.1 stands; marked = it.stands.marked }
 
 -- a feed that was ended doesn't go on
-not_over : (fed : Fed) (a b : Account) (ended opened : Bool) → IsFed (counted a) b fed → (ended ≡ true → fed ≡ Over) → opened ≡ is_open b
+not_over : (fed : Fed) (a b : Account) (ended opened : Bool) → IsFed (counted a) b fed → (ended ≡ true → fed ≡ Over)
+    → opened ≡ is_open b
     → opened ≡ true → ended ≡ false
 not_over fed a b false opened it over is goes_on = refl
 not_over fed a b true opened it over is goes_on =
     let ends : EndsFeed (counted a) b = subst (λ x. IsFed (counted a) b x) (over refl) it in
-    absurd (let e : true ≡ false = sym goes_on ∙ is ∙ opens_by b Ended (ap (λ (x : Account). x.standing) ends.after_is) in cc)
+    absurd (let e : true ≡ false = sym goes_on ∙ is
+    ∙ opens_by b Ended (ap (λ (x : Account). x.standing) ends.after_is) in cc)
 
 -- the lane after a good line
-pub taken_stands : (lane : Lane) (ls : List (List ℕ)) (line : List ℕ) (fed : Fed) → feed.StandsFor lane.intake (ls ++ line ∷ [])
-    → IsFed (counted (account_of_lines ls)) (account_of_lines (ls ++ line ∷ [])) fed → (feed.has_ended lane.intake ≡ true → fed ≡ Over)
-    → Adds lane (account_of_lines ls) (account_of_lines (ls ++ line ∷ [])) → Stands lane (ls ++ line ∷ []) (lines_added ls line)
+pub taken_stands : (lane : Lane) (ls : List (List ℕ)) (line : List ℕ) (fed : Fed)
+    → feed.StandsFor lane.intake (ls ++ line ∷ [])
+    → IsFed (counted (account_of_lines ls)) (account_of_lines (ls ++ line ∷ [])) fed
+    → (feed.has_ended lane.intake ≡ true → fed ≡ Over)
+    → Adds lane (account_of_lines ls) (account_of_lines (ls ++ line ∷ []))
+    → Stands lane (ls ++ line ∷ []) (lines_added ls line)
 taken_stands lane ls line fed intake is over it = record {
   intake = intake;
   opened = it.opened;
-  unended = not_over fed (account_of_lines ls) (account_of_lines (ls ++ line ∷ [])) (feed.has_ended lane.intake) lane.is_open is over it.opened;
+  unended = not_over fed (account_of_lines ls) (account_of_lines (ls ++ line ∷ []))
+      (feed.has_ended lane.intake) lane.is_open is over it.opened;
   marked = it.marked;
-  owes = subst (Owes lane.work lane.server (account_of_lines (ls ++ line ∷ []))) (added_is ls line it.rest it.due) it.owes;
+  owes = subst (Owes lane.work lane.server (account_of_lines (ls ++ line ∷ [])))
+      (added_is ls line it.rest it.due) it.owes;
   names = it.names (ls ++ line ∷ []);
 }
 
@@ -137,17 +149,21 @@ taken_stands lane ls line fed intake is over it = record {
 pub fault_stands : (lane : Lane) (i : feed.Kept) (ls : List (List ℕ)) (line : List ℕ) (fault : FeedFault)
     → feed.StandsFor i (ls ++ line ∷ []) → lane.mark ≡ (account_of_lines ls).mark
     → NewFault line fault (account_of_lines ls) (account_of_lines (ls ++ line ∷ []))
-    → Stands (record lane { intake = i; is_open = false; work = Give (Refused fault.line fault.cause) }) (ls ++ line ∷ []) (lines_added ls line)
+    → Stands (record lane { intake = i; is_open = false; work = Give (Refused fault.line fault.cause) })
+    (ls ++ line ∷ []) (lines_added ls line)
 fault_stands lane i ls line fault intake marked it =
-    let stands : (account_of_lines (ls ++ line ∷ [])).standing ≡ Faulty (counted (account_of_lines ls)).lines (cause_of_fault fault.cause) =
+    let stands : (account_of_lines (ls ++ line ∷ [])).standing ≡ Faulty (counted (account_of_lines ls)).lines
+    (cause_of_fault fault.cause) =
     ap (λ (x : Account). x.standing) it.after_is in record {
       intake = intake;
       opened = sym (opens_by (account_of_lines (ls ++ line ∷ [])) _ stands);
       unended = λ e. absurd (let f : false ≡ true = e in cc);
       marked = marked ∙ sym (ap (λ (x : Account). x.mark) it.after_is);
       owes = (
-        sym (added_is ls line _ (new_fault_due line fault (account_of_lines ls) (account_of_lines (ls ++ line ∷ [])) it)),
-        λ opened. absurd (let e : Open ≡ Faulty (counted (account_of_lines ls)).lines (cause_of_fault fault.cause) = sym opened ∙ stands in cc),
+        sym (added_is ls line _ (new_fault_due line fault (account_of_lines ls)
+            (account_of_lines (ls ++ line ∷ [])) it)),
+        λ opened. absurd (let e : Open ≡ Faulty (counted (account_of_lines ls)).lines (cause_of_fault fault.cause) =
+            sym opened ∙ stands in cc),
         tt,
       );
       names = record { before = ls; line = line; more = []; lines = refl; new = it };
@@ -157,7 +173,8 @@ fault_stands lane i ls line fault intake marked it =
 pub over_stands : (lane : Lane) (ls : List (List ℕ)) (line : List ℕ) → IsQuiet lane ls → lane.is_open ≡ false
     → Stands lane (ls ++ line ∷ []) (lines_added ls line)
 over_stands lane ls line it over =
-    let same : account_of_lines (ls ++ line ∷ []) ≡ account_of_lines ls = account_over ls line (sym it.stands.opened ∙ over) in record {
+    let same : account_of_lines (ls ++ line ∷ []) ≡ account_of_lines ls =
+    account_over ls line (sym it.stands.opened ∙ over) in record {
       intake = record { by_account = subst (feed.KeepsAccount lane.intake) (sym same) it.stands.intake.by_account };
       opened = it.stands.opened ∙ ap is_open (sym same);
       unended = it.stands.unended;

@@ -1,8 +1,10 @@
 -- What is kept of the lines of the input, and for which lines it stands.
-use Rattle.std.specs.Prelude.{◌≡◌, ◌≤◌, ◌<◌, ◌-◌, ◌⊎◌, ℕ, suc, List, [], ◌∷◌, ◌++◌, length, map, Bool, true, false, Option, Some, None, Result, Ok, Err}
+use Rattle.std.specs.Prelude.{◌≡◌, ◌≤◌, ◌<◌, ◌-◌, ◌⊎◌, ℕ, suc, List, [], ◌∷◌, ◌++◌, length, map, Bool, true, false}
+use Rattle.std.specs.Prelude.{Option, Some, None, Result, Ok, Err}
 use Rattle.std.specs.List.{slice_get}
 use Rattle.dover_model.specs.Limits.{most_lines}
-use Rattle.lane_server.specs.Lanes.{lane_count, OfLane, Close, lane_line, Handed, Input, Open, Closed, input_of_lines, lane_lines, in_lane}
+use Rattle.lane_server.specs.Lanes.{lane_count, OfLane, Close, lane_line, Handed, Input, Open, Closed, input_of_lines}
+use Rattle.lane_server.specs.Lanes.{lane_lines, in_lane}
 use Rattle.lane_server.specs.Lanes.{newly_due, shorts_from}
 use Rattle.event_feed.specs.declared.faults.Cause.TheVariants.{Short}
 use Rattle.lane_server.specs.Lane.{Stands, IsQuiet, out_text, HasNumerals, NamesFault}
@@ -28,13 +30,15 @@ AllQuiet lanes handed = (i : ℕ) (lane : Lane) → slice_get lanes i ≡ Some l
 
 -- every lane was handed its lines
 abbrev pub AllStand : List Lane → List Handed → Type 0
-AllStand lanes handed = (i : ℕ) (lane : Lane) → slice_get lanes i ≡ Some lane → (rest : List (List ℕ)) × Stands lane (lane_lines handed i) rest
+AllStand lanes handed = (i : ℕ) (lane : Lane) → slice_get lanes i ≡ Some lane → (rest : List (List ℕ))
+    × Stands lane (lane_lines handed i) rest
 
 -- this lane has lines left, and every other has given all
 pub record OneGives (lanes : List Lane) (handed : List Handed) (giving : ℕ) (left : List (List ℕ)) : Type 0 where
   pub within : giving < lane_count
   pub gives : (lane : Lane) → slice_get lanes giving ≡ Some lane → Stands lane (lane_lines handed giving) left
-  pub others : (i : ℕ) (lane : Lane) → (i ≡ giving → ⊥) → slice_get lanes i ≡ Some lane → IsQuiet lane (lane_lines handed i)
+  pub others : (i : ℕ) (lane : Lane) → (i ≡ giving → ⊥) → slice_get lanes i ≡ Some lane
+      → IsQuiet lane (lane_lines handed i)
 
 -- by what is under way, these lines are left
 abbrev pub Leaves : Phase → List Lane → Input → List (List ℕ) → Type 0
@@ -42,7 +46,8 @@ Leaves Ready lanes a rest = (a.standing ≡ Open) × (rest ≡ []) × AllQuiet l
 Leaves (Giving lane) lanes a rest =
     (left : List (List ℕ)) × (a.standing ≡ Open) × (rest ≡ map (in_lane lane) left) × OneGives lanes a.handed lane left
 Leaves (Closing next) lanes a rest =
-    (a.standing ≡ Closed) × (next ≤ lane_count) × (rest ≡ shorts_from a.handed next (lane_count - next)) × AllQuiet lanes a.handed
+    (a.standing ≡ Closed) × (next ≤ lane_count) × (rest ≡ shorts_from a.handed next (lane_count - next))
+    × AllQuiet lanes a.handed
 
 -- These lines were handed in, and these are left to give of what is due for them.
 pub record StandsFor (kept : Kept) (ls rest : List (List ℕ)) : Type 0 where
@@ -67,7 +72,8 @@ pub record IsFed (lane : ℕ) (kept : Kept) (ls : List (List ℕ)) (bytes : List
   pub room : HasRoom ls
   pub line : List ℕ
   pub reads : lane_line bytes ≡ Some (OfLane lane line)
-  pub stands : StandsFor kept (ls ++ bytes ∷ []) (newly_due (input_of_lines ls).handed (record { lane = lane; line = line }))
+  pub stands : StandsFor kept (ls ++ bytes ∷ [])
+      (newly_due (input_of_lines ls).handed (record { lane = lane; line = line }))
   pub going : is_closed kept ≡ false
 
 -- the line is `close`, and a short line is left for each lane that has a line and is neither ended nor faulty
@@ -91,10 +97,12 @@ abbrev pub SaysShort : LaneOut → Type 0
 SaysShort (Refused line cause) = cause ≡ Short
 SaysShort _ = ⊥
 
--- The next line is the first of those left, can be written, and names the fault for which it refuses a feed that isn't short. There is none
+-- The next line is the first of those left, can be written, and names the fault for which it refuses a feed that isn't
+-- short. There is none
 -- exactly where none is left.
 abbrev pub GivesNext : Option (ℕ × LaneOut) → Kept → List (List ℕ) → List (List ℕ) → Type 0
 GivesNext None kept ls rest = (rest ≡ []) × StandsFor kept ls []
 GivesNext (Some given) kept ls rest =
-    (more : List (List ℕ)) × (rest ≡ in_lane given.0 (out_text given.1) ∷ more) × StandsFor kept ls more × HasNumerals given.1
+    (more : List (List ℕ)) × (rest ≡ in_lane given.0 (out_text given.1) ∷ more) × StandsFor kept ls more
+    × HasNumerals given.1
     × (NamesFault given.1 (lane_lines (input_of_lines ls).handed given.0) ⊎ SaysShort given.1)

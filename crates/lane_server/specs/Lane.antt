@@ -42,7 +42,8 @@ HasNumerals (Printed e) = AreShort (numbers_in e)
 HasNumerals (Refuse at release work deadline value cause) = AreShort (at ∷ release ∷ work ∷ deadline ∷ value ∷ [])
 HasNumerals (Refused line cause) = Unit {0}
 
--- where it refuses the feed of these lines, it does so for the first that is at fault, and names the job with which its ratio is broken
+-- where it refuses the feed of these lines, it does so for the first that is at fault, and names the job with which its
+-- ratio is broken
 abbrev pub NamesFault : LaneOut → List (List ℕ) → Type 0
 NamesFault (Refused line cause) ls = IsFirstFault (record { line = line; cause = cause }) ls
 NamesFault _ ls = Unit {0}
@@ -86,7 +87,8 @@ pub record Settling (mark : ℕ) (v : Service) (a : Account) (rest : List (List 
   pub due : settled (instance_of session) mark ≡ events ++ left
   pub texts : rest ≡ map text_of left
 
--- The server is on the way to the release of a job for which there is room, and these lines are left up to it with the job.
+-- The server is on the way to the release of a job for which there is room, and these lines are left up to it with the
+-- job.
 pub record Admitting (job : JobFacts) (v : Service) (a : Account) (rest : List (List ℕ)) : Type 0 where
   pub session : Session
   pub there : a.session ≡ Some (with_item session (JobItem job))
@@ -101,7 +103,8 @@ pub record Admitting (job : JobFacts) (v : Service) (a : Account) (rest : List (
   pub texts : rest ≡ map text_of left
 
 -- the run went on from a state to that of the server, and this is left of it
-pub record IsRunning (J : Instance) (start : State) (before : List Event) (v : Service) (left : List Event) : Type 0 where
+pub record IsRunning (J : Instance) (start : State) (before : List Event) (v : Service)
+    (left : List Event) : Type 0 where
   pub steps : List Step
   pub path : IsPath J.rules start steps v.state
   pub due : printed J ≡ (before ++ printed_of steps) ++ left

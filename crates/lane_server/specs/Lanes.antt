@@ -1,5 +1,6 @@
 -- Many feeds in one input: what each lane is handed, and what is due for all of them.
-use Rattle.std.specs.Prelude.{ℕ, suc, List, [], ◌∷◌, ◌++◌, length, map, drop, Bool, true, false, ◌==◌, nat_lt, if◌then◌else◌, Option}
+use Rattle.std.specs.Prelude.{ℕ, suc, List, [], ◌∷◌, ◌++◌, length, map, drop, Bool, true, false, ◌==◌, nat_lt}
+use Rattle.std.specs.Prelude.{if◌then◌else◌, Option}
 use Rattle.std.specs.Prelude.{Some, None, codes, decimal, bytes_eq}
 use Rattle.std.specs.List.{fold, filter, flat_map, list_all, range_with_len}
 use Rattle.std.specs.Option.{option_and_then}
@@ -105,7 +106,8 @@ in_lane lane line = line_of (decimal lane ∷ line ∷ [])
 
 -- what is due for a feed's further line, after these, that wasn't due before it
 abbrev pub lines_added : List (List ℕ) → List ℕ → List (List ℕ)
-lines_added before line = drop (length (due_lines (account_of_lines before))) (due_lines (account_of_lines (before ++ line ∷ [])))
+lines_added before line =
+    drop (length (due_lines (account_of_lines before))) (due_lines (account_of_lines (before ++ line ∷ [])))
 
 -- the same for a lane
 abbrev pub newly_due : List Handed → Handed → List (List ℕ)

@@ -55,7 +55,8 @@ impl Lane {
     }
 
     fn declare(&mut self, alloc: Global, version: Version, k: Ratio) -> Result<(), Memory>
-        ensures adds { (a b : Account) → IsOpenAt self.old a → DeclaresRatio k version (counted a) b → OnOk result (Adds self.new a b) }
+        ensures adds { (a b : Account) → IsOpenAt self.old a → DeclaresRatio k version (counted a) b
+            → OnOk result (Adds self.new a b) }
         ensures intake { self.new.intake ≡ self.old.intake }
     {
         self.server = Some(Server::new(alloc, version, k)?);
@@ -65,13 +66,14 @@ impl Lane {
 
     fn arrive(&mut self, job: Job) -> Result<(), Memory>
         requires { (n : ℕ) × (a : Account) × (b : Account) × IsOpenAt self.old a × AddsJob n job (counted a) b }
-        ensures adds { (n : ℕ) (a b : Account) → IsOpenAt self.old a → AddsJob n job (counted a) b → OnOk result (Adds self.new a b) }
+        ensures adds { (n : ℕ) (a b : Account) → IsOpenAt self.old a → AddsJob n job (counted a) b
+            → OnOk result (Adds self.new a b) }
         ensures intake { self.new.intake ≡ self.old.intake }
     {
         let Some(server) = &mut self.server else {
             unreachable!();
         };
-        server.reserve(1)?;
+        server.make_room()?;
         self.mark = job.release();
         self.work = Work::Admit(job);
         Ok(())
@@ -79,7 +81,8 @@ impl Lane {
 
     fn take(&mut self, alloc: Global, fed: Fed) -> Result<(), Memory>
         requires { (a : Account) × (b : Account) × IsOpenAt self.old a × IsFed (counted a) b fed }
-        ensures adds { (a b : Account) → IsOpenAt self.old a → IsFed (counted a) b fed → OnOk result (Adds self.new a b) }
+        ensures adds { (a b : Account) → IsOpenAt self.old a → IsFed (counted a) b fed
+            → OnOk result (Adds self.new a b) }
         ensures intake { self.new.intake ≡ self.old.intake }
     {
         match fed {
@@ -116,7 +119,8 @@ impl Lane {
     /// Takes the next line of the feed. After its end or its fault, lines are disregarded.
     pub(crate) fn line(&mut self, alloc: Global, line: &[u8]) -> Result<(), Memory>
         requires { (ls : List (List ℕ)) × IsQuiet self.old ls }
-        ensures { (ls : List (List ℕ)) → IsQuiet self.old ls → OnOk result (Stands self.new (ls ++ line.now ∷ []) (lines_added ls line.now)) }
+        ensures { (ls : List (List ℕ)) → IsQuiet self.old ls
+            → OnOk result (Stands self.new (ls ++ line.now ∷ []) (lines_added ls line.now)) }
     {
         if !self.is_open {
             return Ok(());
@@ -206,7 +210,8 @@ impl Lane {
         }
     }
 
-    /// The line at which the feed is short where no more comes: one behind its lines. None where it has no line, or was ended or at fault.
+    /// The line at which the feed is short where no more comes: one behind its lines. None where it has no line, or was
+    /// ended or at fault.
     pub(crate) fn short(&self) -> Option<u64>
         ensures { (ls : List (List ℕ)) → IsQuiet self.now ls → feed_short ls ≡ short_texts result }
     {

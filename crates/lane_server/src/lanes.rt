@@ -125,7 +125,8 @@ impl Lanes {
         requires stands { (ls : List (List ℕ)) × StandsFor self.old ls [] }
         requires room { self.old.lines < 4_000_000 }
         requires lane { lane < lane_count }
-        ensures { (ls : List (List ℕ)) (bytes : List ℕ) → StandsFor self.old ls [] → lane_line bytes ≡ Some (OfLane lane line.now) →
+        ensures { (ls : List (List ℕ)) (bytes : List ℕ) → StandsFor self.old ls []
+            → lane_line bytes ≡ Some (OfLane lane line.now) →
             Answers result self.old self.new ls bytes }
     {
         match self.lanes[usize::from(lane)].line(self.alloc, line) {
@@ -225,7 +226,8 @@ impl Lanes {
     /// Whether each lane that has a line is ended without a fault.
     pub fn all_ended(&self) -> bool
         requires { (ls : List (List ℕ)) × (rest : List (List ℕ)) × StandsFor self.now ls rest }
-        ensures { (ls rest : List (List ℕ)) → StandsFor self.now ls rest → result ≡ all_ended (input_of_lines ls).handed }
+        ensures { (ls rest : List (List ℕ)) → StandsFor self.now ls rest
+            → result ≡ all_ended (input_of_lines ls).handed }
     {
         all_fine(&self.lanes)
     }

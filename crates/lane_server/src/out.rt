@@ -18,7 +18,8 @@ pub enum LaneOut {
         value: u64,
         cause: Refusal,
     },
-    /// The feed is refused at this line of its own, numbered from 1. Where the line breaks the ratio, the cause names the other job.
+    /// The feed is refused at this line of its own, numbered from 1. Where the line breaks the ratio, the cause names
+    /// the other job.
     Refused {
         line: u64,
         cause: Cause,

@@ -1,5 +1,6 @@
 -- What a line of the input delivers, and how that goes on byte by byte.
-use Rattle.std.proofs.Common.{◌≡◌, ◌<◌, ◌≤◌, ◌+◌, ℕ, suc, List, [], ◌∷◌, ◌++◌, length, take, drop, get_or, sym, ap, ◌∙◌, subst, Option, Some}
+use Rattle.std.proofs.Common.{◌≡◌, ◌<◌, ◌≤◌, ◌+◌, ℕ, suc, List, [], ◌∷◌, ◌++◌, length, take, drop, get_or, sym, ap, ◌∙◌}
+use Rattle.std.proofs.Common.{subst, Option, Some}
 use Rattle.std.proofs.Common.{Result, Ok, Err, Bool, true, cond, append_assoc, append-nil, arith}
 use Rattle.dover_model.specs.Limits.{most_lines}
 use Rattle.dover_model.specs.Lines.{in_lines, lines_of, is_too_long}
@@ -10,7 +11,8 @@ use Rattle.dover_port.specs.declared.status.Status.{Status}
 use Rattle.dover_port.specs.declared.status.Status.TheVariants.{Done, Refused}
 use Rattle.dover_port.proofs.Through.{passes_then, passes_then_cut, passes_nothing, cut_longer}
 use Rattle.line_text.proofs.Pieces.{next_bytes, rest_bytes}
-use Rattle.lane_server.specs.Lanes.{OfLane, lane_line, Handed, Input, InputFault, Open, Closed, Faulty, input, input_of_lines, goes_on, due_after}
+use Rattle.lane_server.specs.Lanes.{OfLane, lane_line, Handed, Input, InputFault, Open, Closed, Faulty, input}
+use Rattle.lane_server.specs.Lanes.{input_of_lines, goes_on, due_after}
 use Rattle.lane_server.specs.Lanes.{newly_due}
 use Rattle.lane_server.specs.Lanes.{lane_count, shorts_from, refused_line, fault_word, all_ended}
 use Rattle.lane_server.specs.Kept.{Kept, IsFed, IsClosed}
@@ -23,8 +25,9 @@ use Rattle.lanes_word.specs.declared.progress.Progress.{Progress}
 use Rattle.lanes_word.specs.declared.progress.Progress.TheVariants as progress
 use Rattle.lanes_word.specs.declared.progress.Stop.{Stop}
 use Rattle.lanes_word.specs.declared.progress.Stop.TheVariants.{NoMemory, Unwritten}
-use Rattle.lanes_word.proofs.Alone.{in_lines-append}
-use Rattle.lanes_word.proofs.Inputs.{goes_on_at, few_lines, long_ends, due_open, due_fed, due_longer, line_stays, Grows, input_grows, input_stays}
+use Rattle.dover_model.proofs.Beginnings.{in_lines-append}
+use Rattle.lanes_word.proofs.Inputs.{goes_on_at, few_lines, long_ends, due_open, due_fed, due_longer, line_stays, Grows}
+use Rattle.lanes_word.proofs.Inputs.{input_grows, input_stays}
 
 -- ---- one line
 
@@ -40,7 +43,8 @@ keeps_on lanes ls it = ap goes_on_at (keeps_open lanes ls it)
 pub keeps_few : (lanes : Kept) (ls : List (List ℕ)) → Keeps lanes ls → lanes.lines ≤ most_lines
 keeps_few lanes ls it = omega (arith, it.stands.counted, few_lines ls (keeps_on lanes ls it))
 
-module _ (ls : List (List ℕ)) (bytes : List ℕ) (stands : (input_of_lines ls).standing ≡ Open) (old new : Option (List Move)) (p q : List ℕ) where
+module _ (ls : List (List ℕ)) (bytes : List ℕ) (stands : (input_of_lines ls).standing ≡ Open)
+    (old new : Option (List Move)) (p q : List ℕ) where
   -- the input so far
   abbrev a : Input
   a = input_of_lines ls
@@ -86,7 +90,8 @@ module _ (ls : List (List ℕ)) (bytes : List ℕ) (stands : (input_of_lines ls)
 
     -- they were put
     pub closed_put : (status : Status) (fine : Bool) → fine ≡ all_ended b.handed → status ≡ cond fine Done Refused
-        → Passes old new p q (in_lines (shorts_from a.handed 0 lane_count)) → Delivers (Ok (progress.Over status)) old new p q a b
+        → Passes old new p q (in_lines (shorts_from a.handed 0 lane_count))
+        → Delivers (Ok (progress.Over status)) old new p q a b
     closed_put status fine is status_is puts = record {
       text = shorts_from a.handed 0 lane_count;
       puts = puts;
@@ -94,17 +99,20 @@ module _ (ls : List (List ℕ)) (bytes : List ℕ) (stands : (input_of_lines ls)
         closed_due,
         (
           ap goes_on closed_is,
-          status_is ∙ ap (λ x. cond x Done Refused) (is ∙ ap (λ (x : Input). all_ended x.handed) closed_is) ∙ sym (ap closing_status closed_is),
+          status_is ∙ ap (λ x. cond x Done Refused) (is ∙ ap (λ (x : Input). all_ended x.handed) closed_is)
+              ∙ sym (ap closing_status closed_is),
         ),
       );
     }
 
     -- a front of them was put
-    pub closed_cut : CutsShort old new p (in_lines (shorts_from a.handed 0 lane_count)) → Delivers (Err Unwritten) old new p q a b
+    pub closed_cut : CutsShort old new p (in_lines (shorts_from a.handed 0 lane_count))
+        → Delivers (Err Unwritten) old new p q a b
     closed_cut puts = record { text = shorts_from a.handed 0 lane_count; puts = puts; leaves = closed_due }
 
   -- there was no memory for a line of a lane
-  pub memory_lacks : suc a.lines ≤ most_lines → (lane : ℕ) (line : List ℕ) → lane_line bytes ≡ Some (OfLane lane line) → old ≡ new → p ≡ q
+  pub memory_lacks : suc a.lines ≤ most_lines → (lane : ℕ) (line : List ℕ) → lane_line bytes ≡ Some (OfLane lane line)
+      → old ≡ new → p ≡ q
       → Delivers (Err NoMemory) old new p q a b
   memory_lacks room lane line reads same none =
       let is : b ≡ record a { lines = suc a.lines; handed = a.handed ++ record { lane = lane; line = line } ∷ [] } =
@@ -115,7 +123,8 @@ module _ (ls : List (List ℕ)) (bytes : List ℕ) (stands : (input_of_lines ls)
           (
             newly_due a.handed (record { lane = lane; line = line }),
             ap (λ (x : Input). due_after [] x.handed) is ∙ due_fed a.handed (record { lane = lane; line = line })
-                ∙ ap (λ xs. xs ++ newly_due a.handed (record { lane = lane; line = line })) (sym (append-nil (due_so_far a) ∙ due_open a stands)),
+                ∙ ap (λ xs. xs ++ newly_due a.handed (record { lane = lane; line = line }))
+                (sym (append-nil (due_so_far a) ∙ due_open a stands)),
           ),
           subst (λ (x : Input). HasLine x.handed) (sym is) (has_last a.handed (record { lane = lane; line = line })),
         );
@@ -128,7 +137,8 @@ module _ (ls : List (List ℕ)) (bytes : List ℕ) (stands : (input_of_lines ls)
 -- ---- the line that refuses the input
 
 module _ (a b : Input) (fault : InputFault) (stands : a.standing ≡ Open)
-    (is : b ≡ record a { lines = suc a.lines; standing = Faulty (suc a.lines) fault }) (number : ℕ) (word : List ℕ) (count : number ≡ suc a.lines)
+    (is : b ≡ record a { lines = suc a.lines; standing = Faulty (suc a.lines) fault }) (number : ℕ) (word : List ℕ)
+    (count : number ≡ suc a.lines)
     (named : word ≡ fault_word fault) (old new : Option (List Move)) (p q : List ℕ) where
   -- the line
   abbrev line : List ℕ
@@ -144,7 +154,8 @@ module _ (a b : Input) (fault : InputFault) (stands : a.standing ≡ Open)
   refused_due = ap due_so_far is ∙ ap (λ xs. xs ++ line ∷ []) (sym (due_open a stands))
 
   -- it was put
-  pub refused_put : Passes old new p q (refused_line number word ++ 10 ∷ []) → Delivers (Ok (progress.Over Refused)) old new p q a b
+  pub refused_put : Passes old new p q (refused_line number word ++ 10 ∷ [])
+      → Delivers (Ok (progress.Over Refused)) old new p q a b
   refused_put puts = record {
     text = line ∷ [];
     puts = subst (Passes old new p q) line_is puts;
@@ -168,8 +179,10 @@ delivers_then result old mid new p q r a b c first second = record {
   puts_by : (x : Result Progress Stop) → PutsBy x mid new q r (in_lines second.text)
       → PutsBy x old new p r (in_lines first.text ++ in_lines second.text)
   puts_by (Ok x) puts = passes_then old mid new p q r (in_lines first.text) (in_lines second.text) first.puts puts
-  puts_by (Err NoMemory) puts = passes_then old mid new p q r (in_lines first.text) (in_lines second.text) first.puts puts
-  puts_by (Err Unwritten) puts = passes_then_cut old mid new p q r (in_lines first.text) (in_lines second.text) first.puts puts
+  puts_by (Err NoMemory) puts =
+      passes_then old mid new p q r (in_lines first.text) (in_lines second.text) first.puts puts
+  puts_by (Err Unwritten) puts =
+      passes_then_cut old mid new p q r (in_lines first.text) (in_lines second.text) first.puts puts
 
   both : due_so_far b ++ second.text ≡ due_so_far a ++ (first.text ++ second.text)
   both = ap (λ ls. ls ++ second.text) first.leaves.0 ∙ append_assoc (due_so_far a) first.text second.text
@@ -180,18 +193,22 @@ delivers_then result old mid new p q r a b c first second = record {
   leaves_by (Err Unwritten) leaves = leaves ∙ both
 
 -- nothing is delivered where nothing is done
-pub delivers_nothing : (old : Option (List Move)) (p : List ℕ) (a : Input) → goes_on a ≡ true → Delivers (Ok progress.Open) old old p p a a
-delivers_nothing old p a on = record { text = []; puts = passes_nothing old p; leaves = (sym (append-nil (due_so_far a)), on) }
+pub delivers_nothing : (old : Option (List Move)) (p : List ℕ) (a : Input) → goes_on a ≡ true
+    → Delivers (Ok progress.Open) old old p p a a
+delivers_nothing old p a on =
+    record { text = []; puts = passes_nothing old p; leaves = (sym (append-nil (due_so_far a)), on) }
 
 -- what wasn't put whole is a front of what is due for more
-stopped_longer : (stop : Stop) (old new : Option (List Move)) (p q : List ℕ) (a b c : Input) → Grows b c → Delivers (Err stop) old new p q a b
+stopped_longer : (stop : Stop) (old new : Option (List Move)) (p q : List ℕ) (a b c : Input) → Grows b c
+    → Delivers (Err stop) old new p q a b
     → Delivers (Err stop) old new p q a c
 stopped_longer NoMemory old new p q a b c grows it = record {
   text = it.text;
   puts = it.puts;
   leaves = (
     begins_onward (due_so_far a ++ it.text) (due_after [] b.handed) (due_after [] c.handed) it.leaves.0
-        (subst (λ hs. Begins (due_after [] b.handed) (due_after [] hs)) (sym grows.handed) (due_longer b.handed grows.more)),
+        (subst (λ hs. Begins (due_after [] b.handed) (due_after [] hs)) (sym grows.handed)
+        (due_longer b.handed grows.more)),
     subst HasLine (sym grows.handed) (line_stays b.handed grows.more it.leaves.1),
   );
 }
@@ -213,31 +230,41 @@ module _ (x bytes : List ℕ) (i : ℕ) (before : i < length bytes) (old mid new
   -- one byte more
   pub piece_next : Delivers (Ok progress.Open) mid new q r (input (x ++ take i bytes)) (input read)
       → Delivers (Ok progress.Open) old new p r (input x) (input (x ++ take (i + 1) bytes))
-  piece_next second = subst (λ y. Delivers (Ok progress.Open) old new p r (input x) (input y)) (next_bytes x bytes i before)
-      (delivers_then (Ok progress.Open) old mid new p q r (input x) (input (x ++ take i bytes)) (input read) first second)
+  piece_next second = subst (λ y. Delivers (Ok progress.Open) old new p r (input x) (input y))
+      (next_bytes x bytes i before)
+      (delivers_then (Ok progress.Open) old mid new p q r (input x) (input (x ++ take i bytes))
+      (input read) first second)
 
   -- the session is over with this byte
-  pub piece_over : (status : Status) → Delivers (Ok (progress.Over status)) mid new q r (input (x ++ take i bytes)) (input read)
+  pub piece_over : (status : Status)
+      → Delivers (Ok (progress.Over status)) mid new q r (input (x ++ take i bytes)) (input read)
       → Delivers (Ok (progress.Over status)) old new p r (input x) (input (x ++ bytes))
   piece_over status second = subst (λ a. Delivers (Ok (progress.Over status)) old new p r (input x) a)
       (sym (input_stays read (drop (i + 1) bytes) second.leaves.1.0) ∙ ap input (rest_bytes x bytes i before))
-      (delivers_then (Ok (progress.Over status)) old mid new p q r (input x) (input (x ++ take i bytes)) (input read) first second)
+      (delivers_then (Ok (progress.Over status)) old mid new p q r (input x) (input (x ++ take i bytes))
+      (input read) first second)
 
   -- what is due for this byte wasn't put whole
   pub piece_stopped : (stop : Stop) → Delivers (Err stop) mid new q r (input (x ++ take i bytes)) (input read)
       → Delivers (Err stop) old new p r (input x) (input (x ++ bytes))
-  piece_stopped stop second = subst (λ y. Delivers (Err stop) old new p r (input x) (input y)) (rest_bytes x bytes i before)
-      (stopped_longer stop old new p r (input x) (input read) (input (read ++ drop (i + 1) bytes)) (input_grows read (drop (i + 1) bytes))
+  piece_stopped stop second =
+      subst (λ y. Delivers (Err stop) old new p r (input x) (input y)) (rest_bytes x bytes i before)
+      (stopped_longer stop old new p r (input x) (input read) (input (read ++ drop (i + 1) bytes))
+      (input_grows read (drop (i + 1) bytes))
       (delivers_then (Err stop) old mid new p q r (input x) (input (x ++ take i bytes)) (input read) first second))
 
 -- a byte that goes on with its line delivers nothing
-pub byte_nothing : (x : List ℕ) (byte : ℕ) (old : Option (List Move)) (p : List ℕ) → lines_of (x ++ byte ∷ []) ≡ lines_of x → goes_on (input x) ≡ true
+pub byte_nothing : (x : List ℕ) (byte : ℕ) (old : Option (List Move)) (p : List ℕ)
+    → lines_of (x ++ byte ∷ []) ≡ lines_of x → goes_on (input x) ≡ true
     → Delivers (Ok progress.Open) old old p p (input x) (input (x ++ byte ∷ []))
 byte_nothing x byte old p same on =
-    subst (λ ls. Delivers (Ok progress.Open) old old p p (input x) (input_of_lines ls)) (sym same) (delivers_nothing old p (input x) on)
+    subst (λ ls. Delivers (Ok progress.Open) old old p p (input x) (input_of_lines ls)) (sym same)
+    (delivers_nothing old p (input x) on)
 
 -- a line that is too long doesn't go on
-pub long_over : (result : Result Progress Stop) (old new : Option (List Move)) (p q : List ℕ) (a : Input) (ls : List (List ℕ)) (l : List ℕ)
-    → is_too_long l ≡ true → Delivers result old new p q a (input_of_lines (ls ++ l ∷ [])) → result ≡ Ok progress.Open → ⊥
+pub long_over : (result : Result Progress Stop) (old new : Option (List Move)) (p q : List ℕ) (a : Input)
+    (ls : List (List ℕ)) (l : List ℕ)
+    → is_too_long l ≡ true → Delivers result old new p q a (input_of_lines (ls ++ l ∷ [])) → result ≡ Ok progress.Open
+    → ⊥
 long_over result old new p q a ls l long it is =
     long_ends ls l long (subst (λ x. LeavesBy x it.text a (input_of_lines (ls ++ l ∷ []))) is it.leaves).1

@@ -13,7 +13,8 @@ use Rattle.lanes_word.specs.declared.session.Session.{Session}
 use Rattle.lanes_word.proofs.Inputs.{whole_counted}
 use Rattle.lanes_word.proofs.Delivering.{keeps_on}
 
-module _ (session : Session) (x : List ℕ) (stands : Stands session x) (number : ℕ) (is : number ≡ session.lanes.lines + 1) where
+module _ (session : Session) (x : List ℕ) (stands : Stands session x) (number : ℕ)
+    (is : number ≡ session.lanes.lines + 1) where
   -- the line that refuses the input
   abbrev line : List ℕ
   line = refused_line number (codes "short")
@@ -44,5 +45,6 @@ module _ (session : Session) (x : List ℕ) (stands : Stands session x) (number 
         (λ made it. (it.0, subst (IsProperPrefix (outs made)) (append-nil (line ++ 10 ∷ []) ∙ short_is) it.1))
 
   -- the line couldn't be put
-  pub short_cut : (a b : Option (List Move)) → CutsShort a b [] (line ++ 10 ∷ []) → Finishes WriteFault a b (short_text x)
+  pub short_cut : (a b : Option (List Move)) → CutsShort a b [] (line ++ 10 ∷ [])
+      → Finishes WriteFault a b (short_text x)
   short_cut a b cut = since_weaker a b _ _ cut (λ made it. (it.0, subst (IsProperPrefix (outs made)) short_is it.1))

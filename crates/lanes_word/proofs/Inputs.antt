@@ -1,5 +1,6 @@
 -- The input of more lines and of more bytes, and what is due for it.
-use Rattle.std.proofs.Common.{◌≡◌, ◌<◌, ◌≤◌, ◌+◌, ℕ, suc, List, [], ◌∷◌, ◌++◌, length, refl, sym, ap, ◌∙◌, subst, Option, Some, None, Bool, true}
+use Rattle.std.proofs.Common.{◌≡◌, ◌<◌, ◌≤◌, ◌+◌, ℕ, suc, List, [], ◌∷◌, ◌++◌, length, refl, sym, ap, ◌∙◌, subst}
+use Rattle.std.proofs.Common.{Option, Some, None, Bool, true}
 use Rattle.std.proofs.Common.{false, cond}
 use Rattle.std.proofs.Common.{append_assoc, append-nil, arith, length-append, codes, bytes_eq}
 use Rattle.std.specs.Prelude.{nat_lt}
@@ -9,11 +10,14 @@ use Rattle.std.proofs.lemmas.List.Sums.{fold-append}
 use Rattle.dover_model.specs.Limits.{most_lines}
 use Rattle.dover_model.specs.Lines.{cut, whole_lines, rest_of, lines_of, is_too_long, fields_of}
 use Rattle.dover_model.specs.WholeRun.{Begins}
+use Rattle.dover_model.proofs.Accounts.{longer, counted_lines, first_counts}
 use Rattle.dover_model.proofs.Beginnings.{begins_itself, begins_onward}
 use Rattle.dover_model.proofs.Cuts.{CutText, onto, first_part, cut_append, first_onto}
-use Rattle.lane_server.specs.Lanes.{LaneLine, OfLane, Close, lane_line, numbered_line, Handed, Input, InputStanding, Open, Closed, Faulty}
+use Rattle.lane_server.specs.Lanes.{LaneLine, OfLane, Close, lane_line, numbered_line, Handed, Input, InputStanding}
+use Rattle.lane_server.specs.Lanes.{Open, Closed, Faulty}
 use Rattle.lane_server.specs.Lanes.{TooManyLines, BadLane}
-use Rattle.lane_server.specs.Lanes.{no_input, next_line, read_lane_line, with_lane_line, goes_on, input_of_lines, input, newly_due, due_after}
+use Rattle.lane_server.specs.Lanes.{no_input, next_line, read_lane_line, with_lane_line, goes_on, input_of_lines, input}
+use Rattle.lane_server.specs.Lanes.{newly_due, due_after}
 use Rattle.line_text.proofs.Lengths.{AreNotTooLong, text_few}
 use Rattle.lanes_word.specs.Record.{HasLine}
 use Rattle.lanes_word.specs.Delivered.{last_lines, due_so_far}
@@ -37,19 +41,23 @@ is_open a on = by_standing a.standing on where
 -- ---- what is due for more lines
 
 -- for lines, and then for more
-due_after-append : (before xs ys : List Handed) → due_after before (xs ++ ys) ≡ due_after before xs ++ due_after (before ++ xs) ys
+due_after-append : (before xs ys : List Handed)
+    → due_after before (xs ++ ys) ≡ due_after before xs ++ due_after (before ++ xs) ys
 due_after-append before [] ys = ap (λ b. due_after b ys) (sym (append-nil before))
 due_after-append before (h ∷ xs) ys = ap (λ ls. newly_due before h ++ ls) (due_after-append (before ++ h ∷ []) xs ys
     ∙ ap (λ b. due_after (before ++ h ∷ []) xs ++ due_after b ys) (append_assoc before (h ∷ []) xs))
     ∙ sym (append_assoc (newly_due before h) (due_after (before ++ h ∷ []) xs) (due_after (before ++ h ∷ xs) ys))
 
 -- with one line more
-pub due_fed : (handed : List Handed) (h : Handed) → due_after [] (handed ++ h ∷ []) ≡ due_after [] handed ++ newly_due handed h
-due_fed handed h = due_after-append [] handed (h ∷ []) ∙ ap (λ ls. due_after [] handed ++ ls) (append-nil (newly_due handed h))
+pub due_fed : (handed : List Handed) (h : Handed)
+    → due_after [] (handed ++ h ∷ []) ≡ due_after [] handed ++ newly_due handed h
+due_fed handed h = due_after-append [] handed (h ∷ [])
+    ∙ ap (λ ls. due_after [] handed ++ ls) (append-nil (newly_due handed h))
 
 -- while the input goes on there are no last lines
 pub due_open : (a : Input) → a.standing ≡ Open → due_so_far a ≡ due_after [] a.handed
-due_open a stands = ap (λ s. due_after [] a.handed ++ last_lines (record a { standing = s })) stands ∙ append-nil (due_after [] a.handed)
+due_open a stands = ap (λ s. due_after [] a.handed ++ last_lines (record a { standing = s })) stands
+    ∙ append-nil (due_after [] a.handed)
 
 -- ---- one line more
 
@@ -89,7 +97,8 @@ line_grows lines handed Open l = by_tests (nat_lt most_lines (suc lines)) (lane_
   }
 
   by_tests : (b : Bool) (o : Option LaneLine)
-      → Grows (input_with lines handed Open) (cond b (input_with (suc lines) handed (Faulty (suc lines) TooManyLines)) (elim o [
+      → Grows (input_with lines handed Open)
+      (cond b (input_with (suc lines) handed (Faulty (suc lines) TooManyLines)) (elim o [
         | None ↦ input_with (suc lines) handed (Faulty (suc lines) BadLane)
         | Some line ↦ with_lane_line (input_with (suc lines) handed Open) line
       ]))
@@ -101,8 +110,10 @@ line_grows lines handed Open l = by_tests (nat_lt most_lines (suc lines)) (lane_
     handed = refl;
     due = (
       newly_due handed (record { lane = lane; line = line }),
-      append-nil (due_after [] (handed ++ record { lane = lane; line = line } ∷ [])) ∙ due_fed handed (record { lane = lane; line = line })
-          ∙ ap (λ ls. ls ++ newly_due handed (record { lane = lane; line = line })) (sym (append-nil (due_after [] handed))),
+      append-nil (due_after [] (handed ++ record { lane = lane; line = line } ∷ []))
+          ∙ due_fed handed (record { lane = lane; line = line })
+          ∙ ap (λ ls. ls ++ newly_due handed (record { lane = lane; line = line }))
+          (sym (append-nil (due_after [] handed))),
     );
   }
 
@@ -110,13 +121,15 @@ line_grows lines handed Open l = by_tests (nat_lt most_lines (suc lines)) (lane_
 lines_grow : (ls : List (List ℕ)) (a : Input) → Grows a (fold next_line a ls)
 lines_grow [] a = grows_none a
 lines_grow (l ∷ ls) a =
-    grows_then a (next_line a l) (fold next_line (next_line a l) ls) (line_grows a.lines a.handed a.standing l) (lines_grow ls (next_line a l))
+    grows_then a (next_line a l) (fold next_line (next_line a l) ls) (line_grows a.lines a.handed a.standing l)
+    (lines_grow ls (next_line a l))
 
 -- an input that doesn't go on stays
 lines_stay : (ls : List (List ℕ)) (a : Input) → goes_on a ≡ false → fold next_line a ls ≡ a
 lines_stay [] a over = refl
 lines_stay (l ∷ ls) a over =
-    ap (λ b. fold next_line b ls) (ap (λ x. cond x (read_lane_line (record a { lines = suc a.lines }) l) a) over) ∙ lines_stay ls a over
+    ap (λ b. fold next_line b ls) (ap (λ x. cond x (read_lane_line (record a { lines = suc a.lines }) l) a) over)
+    ∙ lines_stay ls a over
 
 -- ---- more bytes
 
@@ -131,25 +144,12 @@ input_after a o = cond (goes_on a) (cond (nat_lt most_lines (suc a.lines))
 
 -- a line that is too long isn't read
 unread : (l : List ℕ) → is_too_long l ≡ true → lane_line l ≡ None
-unread l long = ap (λ b. cond b None (cond (bytes_eq l (codes "close")) (Some Close) (numbered_line (fields_of l)))) long
+unread l long = ap (λ b. cond b None (cond (bytes_eq l (codes "close")) (Some Close) (numbered_line (fields_of l))))
+    long
 
 -- lines that are too long count as one and the same
 too_long_same : (a : Input) (l m : List ℕ) → is_too_long l ≡ true → is_too_long m ≡ true → next_line a l ≡ next_line a m
 too_long_same a l m long_l long_m = ap (input_after a) (unread l long_l ∙ sym (unread m long_m))
-
--- what is longer is too long as well
-longer : (l more : List ℕ) → is_too_long l ≡ true → is_too_long (l ++ more) ≡ true
-longer l more long = let above : 128 < length l = ltb-true _ _ long in lt-ltb 128 (length (l ++ more)) (omega (arith, length-append l more))
-
--- the lines that count of a cut text
-abbrev counted_lines : List (List ℕ) → List ℕ → List (List ℕ)
-counted_lines ls rest = ls ++ cond (is_too_long rest) (rest ∷ []) []
-
--- where the first part is too long, the lines that count begin with it
-first_counts : (ls : List (List ℕ)) (rest : List ℕ) → is_too_long (first_part ls rest) ≡ true
-    → (more : List (List ℕ)) × (counted_lines ls rest ≡ first_part ls rest ∷ more)
-first_counts [] rest long = ([], ap (λ b. cond b (rest ∷ []) []) long)
-first_counts (l ∷ ls) rest long = (counted_lines ls rest, refl)
 
 module _ (F G : List ℕ) where
   -- the lines behind the whole ones of F
@@ -168,7 +168,8 @@ module _ (F G : List ℕ) where
 
   -- the input of F, where its rest doesn't count
   short_input : is_too_long (rest_of F) ≡ false → input F ≡ whole
-  short_input short = ap (λ b. input_of_lines (whole_lines F ++ cond b (rest_of F ∷ []) [])) short ∙ ap input_of_lines (append-nil (whole_lines F))
+  short_input short = ap (λ b. input_of_lines (whole_lines F ++ cond b (rest_of F ∷ []) [])) short
+      ∙ ap input_of_lines (append-nil (whole_lines F))
 
   -- and where it does
   long_input : is_too_long (rest_of F) ≡ true → input F ≡ next_line whole (rest_of F)
@@ -183,13 +184,18 @@ module _ (F G : List ℕ) where
   -- the input of a text that grows is that of the text, with further lines
   input_append : (ls : List (List ℕ)) × (input (F ++ G) ≡ fold next_line (input F) ls)
   input_append = by_length (is_too_long (rest_of F)) refl where
-    by_length : (b : Bool) → is_too_long (rest_of F) ≡ b → (ls : List (List ℕ)) × (input (F ++ G) ≡ fold next_line (input F) ls)
-    by_length false short =
-        (counted_lines behind.0 behind.1, all_lines ∙ ap (λ a. fold next_line a (counted_lines behind.0 behind.1)) (sym (short_input short)))
+    by_length : (b : Bool) → is_too_long (rest_of F) ≡ b → (ls : List (List ℕ))
+        × (input (F ++ G) ≡ fold next_line (input F) ls)
+    by_length false short = (
+      counted_lines behind.0 behind.1,
+      all_lines
+          ∙ ap (λ a. fold next_line a (counted_lines behind.0 behind.1)) (sym (short_input short)),
+    )
     by_length true long = let it = first_counts behind.0 behind.1 (first_long long) in (
       it.0,
       all_lines ∙ ap (fold next_line whole) it.1
-          ∙ ap (λ a. fold next_line a it.0) (too_long_same whole (first_part behind.0 behind.1) (rest_of F) (first_long long) long)
+          ∙ ap (λ a. fold next_line a it.0)
+          (too_long_same whole (first_part behind.0 behind.1) (rest_of F) (first_long long) long)
           ∙ ap (λ a. fold next_line a it.0) (sym (long_input long)),
     )
 
@@ -226,9 +232,11 @@ line_good a l on = by_tests (nat_lt most_lines a.lines) (is_too_long l) refl ref
   count_stays (Some (OfLane lane line)) = refl
 
   by_tests : (b c : Bool) → nat_lt most_lines a.lines ≡ b → is_too_long l ≡ c
-      → goes_on (next b (cond c None (cond (bytes_eq l (codes "close")) (Some Close) (numbered_line (fields_of l))))) ≡ true
+      → goes_on (next b (cond c None (cond (bytes_eq l (codes "close")) (Some Close) (numbered_line (fields_of l)))))
+      ≡ true
       → (a.lines ≤ most_lines) × (length l ≤ 128)
-      × ((next b (cond c None (cond (bytes_eq l (codes "close")) (Some Close) (numbered_line (fields_of l))))).lines ≡ a.lines)
+      × ((next b (cond c None (cond (bytes_eq l (codes "close")) (Some Close) (numbered_line (fields_of l))))).lines
+      ≡ a.lines)
   by_tests true c many long on = absurd (let e : false ≡ true = on in cc)
   by_tests false true few long on = absurd (let e : false ≡ true = on in cc)
   by_tests false false few fits on = (
@@ -241,7 +249,8 @@ line_good a l on = by_tests (nat_lt most_lines a.lines) (is_too_long l) refl ref
 next_good : (a : Input) (l : List ℕ) → goes_on (next_line a l) ≡ true
     → (suc a.lines ≤ most_lines) × (length l ≤ 128) × ((next_line a l).lines ≡ suc a.lines)
 next_good a l on = by_old (goes_on a) refl where
-  by_old : (b : Bool) → goes_on a ≡ b → (suc a.lines ≤ most_lines) × (length l ≤ 128) × ((next_line a l).lines ≡ suc a.lines)
+  by_old : (b : Bool) → goes_on a ≡ b → (suc a.lines ≤ most_lines) × (length l ≤ 128)
+      × ((next_line a l).lines ≡ suc a.lines)
   by_old true was =
       let same : next_line a l ≡ read_lane_line (record a { lines = suc a.lines }) l =
       ap (λ x. cond x (read_lane_line (record a { lines = suc a.lines }) l) a) was in
@@ -253,7 +262,8 @@ next_good a l on = by_old (goes_on a) refl where
 
 -- many lines are counted, few and short
 lines_good : (ls : List (List ℕ)) (a : Input) → goes_on (fold next_line a ls) ≡ true
-    → AreNotTooLong ls × ((fold next_line a ls).lines ≡ a.lines + length ls) × (a.lines ≤ most_lines → a.lines + length ls ≤ most_lines)
+    → AreNotTooLong ls × ((fold next_line a ls).lines ≡ a.lines + length ls)
+    × (a.lines ≤ most_lines → a.lines + length ls ≤ most_lines)
 lines_good [] a on = (tt, omega arith, λ few. omega arith)
 lines_good (l ∷ ls) a on = by_next (goes_on (next_line a l)) refl (lines_good ls (next_line a l) on) where
   by_next : (b : Bool) → goes_on (next_line a l) ≡ b
@@ -261,7 +271,8 @@ lines_good (l ∷ ls) a on = by_next (goes_on (next_line a l)) refl (lines_good 
       × ((next_line a l).lines ≤ most_lines → (next_line a l).lines + length ls ≤ most_lines)
       → AreNotTooLong (l ∷ ls) × ((fold next_line a (l ∷ ls)).lines ≡ a.lines + length (l ∷ ls))
       × (a.lines ≤ most_lines → a.lines + length (l ∷ ls) ≤ most_lines)
-  by_next false over rest = absurd (let e : true ≡ false = sym on ∙ ap goes_on (lines_stay ls (next_line a l) over) ∙ over in cc)
+  by_next false over rest =
+      absurd (let e : true ≡ false = sym on ∙ ap goes_on (lines_stay ls (next_line a l) over) ∙ over in cc)
   by_next true goes rest =
       let good = next_good a l goes in
       let all : (next_line a l).lines + length ls ≤ most_lines = rest.2 (omega (arith, good.0, good.2)) in
@@ -272,7 +283,8 @@ pub few_lines : (ls : List (List ℕ)) → goes_on (input_of_lines ls) ≡ true 
 few_lines ls on = let good = lines_good ls no_input on in omega (arith, good.1, good.2 (omega arith))
 
 -- a line that is too long ends it
-pub long_ends : (ls : List (List ℕ)) (l : List ℕ) → is_too_long l ≡ true → goes_on (input_of_lines (ls ++ l ∷ [])) ≡ true → ⊥
+pub long_ends : (ls : List (List ℕ)) (l : List ℕ) → is_too_long l ≡ true
+    → goes_on (input_of_lines (ls ++ l ∷ [])) ≡ true → ⊥
 long_ends ls l long on =
     let good = next_good (input_of_lines ls) l (sym (ap goes_on (fold-append next_line no_input ls (l ∷ []))) ∙ on) in
     absurd (omega (arith, good.1, ltb-true 128 (length l) long))
@@ -290,8 +302,13 @@ module _ (x : List ℕ) (on : goes_on (input x) ≡ true) (short : is_too_long (
   pub open_bytes : length x < 516_000_129
   open_bytes =
       let good = lines_good (lines_of x) no_input on in
-      let few : 0 + length (whole_lines x) ≤ most_lines = subst (λ ls. 0 + length ls ≤ most_lines) lines_are (good.2 (omega arith)) in
-      omega (arith, text_few x most_lines (subst AreNotTooLong lines_are good.0) (omega (arith, few)) (ltb-false 128 (length (rest_of x)) short))
+      let few : 0 + length (whole_lines x) ≤ most_lines =
+      subst (λ ls. 0 + length ls ≤ most_lines) lines_are (good.2 (omega arith)) in
+      omega (
+        arith,
+        text_few x most_lines (subst AreNotTooLong lines_are good.0) (omega (arith, few))
+            (ltb-false 128 (length (rest_of x)) short),
+      )
 
 -- ---- a line that refuses the input
 
@@ -302,14 +319,16 @@ module _ (ls : List (List ℕ)) (l : List ℕ) (stands : (input_of_lines ls).sta
 
   -- the input with the line, by its tests
   next_by : (b : Bool) (o : Option LaneLine) → nat_lt most_lines (suc a.lines) ≡ b → lane_line l ≡ o
-      → input_of_lines (ls ++ l ∷ []) ≡ cond b (record a { lines = suc a.lines; standing = Faulty (suc a.lines) TooManyLines })
+      → input_of_lines (ls ++ l ∷ []) ≡ cond b
+      (record a { lines = suc a.lines; standing = Faulty (suc a.lines) TooManyLines })
       (elim o [
         | None ↦ record a { lines = suc a.lines; standing = Faulty (suc a.lines) BadLane }
         | Some line ↦ with_lane_line (record a { lines = suc a.lines }) line
       ])
   next_by b o is reads = fold-append next_line no_input ls (l ∷ [])
       ∙ ap (λ x. cond x (read_lane_line (record a { lines = suc a.lines }) l) a) (ap goes_on_at stands)
-      ∙ ap (λ x. cond x (record a { lines = suc a.lines; standing = Faulty (suc a.lines) TooManyLines }) (elim (lane_line l) [
+      ∙ ap (λ x. cond x (record a { lines = suc a.lines; standing = Faulty (suc a.lines) TooManyLines })
+      (elim (lane_line l) [
         | None ↦ record a { lines = suc a.lines; standing = Faulty (suc a.lines) BadLane }
         | Some line ↦ with_lane_line (record a { lines = suc a.lines }) line
       ])) is

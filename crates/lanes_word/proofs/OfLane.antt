@@ -1,6 +1,8 @@
 -- The lines of one lane among those that are due for all.
-use Rattle.std.proofs.Common.{◌≡◌, ◌<◌, ◌≤◌, ℕ, zero, suc, ◌+◌, List, [], ◌∷◌, ◌++◌, map, refl, sym, ap, ◌∙◌, Bool, true, false}
-use Rattle.std.proofs.Common.{cond, not, ◌&&◌, ◌==◌, arith, decimal, codes, length, append-nil, ◌⊎◌, inl, inr, bytes_eq, nat_le}
+use Rattle.std.proofs.Common.{◌≡◌, ◌<◌, ◌≤◌, ℕ, zero, suc, ◌+◌, List, [], ◌∷◌, ◌++◌, map, refl, sym, ap, ◌∙◌, Bool}
+use Rattle.std.proofs.Common.{true, false}
+use Rattle.std.proofs.Common.{cond, not, ◌&&◌, ◌==◌, arith, decimal, codes, length, append-nil, ◌⊎◌, inl, inr, bytes_eq}
+use Rattle.std.proofs.Common.{nat_le}
 use Rattle.std.specs.List.{list_all, onto_first, flat_map, range_with_len}
 use Rattle.std.specs.Str.{all_ascii_digits}
 use Rattle.std.specs.Char.{is_ascii_digit}
@@ -15,7 +17,7 @@ use Rattle.dover_model.proofs.Tests.{not_true}
 use Rattle.lane_server.specs.Lanes.{lane_count, Handed, lane_lines, in_lane, feed_short, lane_short, shorts_from}
 use Rattle.lane_server.specs.Lanes.{refused_line}
 use Rattle.lanes_word.specs.Alone.{behind_number}
-use Rattle.lanes_word.proofs.Feedless.{decimal_digits}
+use Rattle.dover_model.proofs.NoFeeds.{decimal_digits}
 
 -- ---- a line and its number
 
@@ -31,7 +33,8 @@ picks lane ls = flat_map (picked lane) ls
 front_field : (bs rest : List ℕ) → HasNoSpace bs → fields_of (bs ++ 32 ∷ rest) ≡ bs ∷ fields_of rest
 front_field [] rest none = refl
 front_field (b ∷ bs) rest none = let both = and_parts _ _ none in
-    ap (λ c. cond c ([] ∷ fields_of (bs ++ 32 ∷ rest)) (onto_first b (fields_of (bs ++ 32 ∷ rest)))) (not_true (is_space b) both.0)
+    ap (λ c. cond c ([] ∷ fields_of (bs ++ 32 ∷ rest)) (onto_first b (fields_of (bs ++ 32 ∷ rest))))
+    (not_true (is_space b) both.0)
     ∙ ap (onto_first b) (front_field bs rest both.1)
 
 -- digits have no space
@@ -40,7 +43,8 @@ spaceless [] digits = refl
 spaceless (d ∷ ds) digits =
     let both = and_parts (is_ascii_digit d) (all_ascii_digits ds) digits in
     let least : 48 ≤ d = leb-true 48 d (and_parts _ _ both.0).0 in
-    ap (λ b. not b && list_all (λ b. not (is_space b)) ds) (ne_eqb d 32 (λ same. absurd (omega arith))) ∙ spaceless ds both.1
+    ap (λ b. not b && list_all (λ b. not (is_space b)) ds) (ne_eqb d 32 (λ same. absurd (omega arith)))
+    ∙ spaceless ds both.1
 
 -- the fields of a line in a lane
 fields_in_lane : (lane : ℕ) (line : List ℕ) → fields_of (in_lane lane line) ≡ decimal lane ∷ fields_of line
@@ -60,7 +64,8 @@ behind_field lane number line = by_fields (fields_of line) (omega (arith, length
 same_number : (m lane : ℕ) → m < lane_count → lane < lane_count → bytes_eq (decimal m) (decimal lane) ≡ (m == lane)
 same_number m lane low_m low = by_test (bytes_eq (decimal m) (decimal lane)) refl where
   by_test : (b : Bool) → bytes_eq (decimal m) (decimal lane) ≡ b → b ≡ (m == lane)
-  by_test true is = sym (eq-eqb m lane (decimal_injective m lane (omega arith) (omega arith) ((bytes_eq-Decides (decimal m) (decimal lane)).0 is)))
+  by_test true is = sym (eq-eqb m lane
+      (decimal_injective m lane (omega arith) (omega arith) ((bytes_eq-Decides (decimal m) (decimal lane)).0 is)))
   by_test false is = sym (ne_eqb m lane (λ same. absurd (let e : true ≡ false =
       sym ((bytes_eq-Decides (decimal m) (decimal lane)).1 (ap decimal same)) ∙ is in cc)))
 
@@ -78,16 +83,20 @@ module _ (lane : ℕ) (low : lane < lane_count) where
       ∙ ap (λ xs. l ∷ xs) (picks_own ls)
 
   -- lines of another
-  pub picks_other : (m : ℕ) (ls : List (List ℕ)) → m < lane_count → (m ≡ lane → ⊥) → picks lane (map (in_lane m) ls) ≡ []
+  pub picks_other : (m : ℕ) (ls : List (List ℕ)) → m < lane_count → (m ≡ lane → ⊥)
+      → picks lane (map (in_lane m) ls) ≡ []
   picks_other m [] low_m other = refl
   picks_other m (l ∷ ls) low_m other =
-      ap (λ xs. xs ++ picks lane (map (in_lane m) ls)) (picked_is m l low_m ∙ ap (λ b. cond b (l ∷ []) []) (ne_eqb m lane other))
+      ap (λ xs. xs ++ picks lane (map (in_lane m) ls))
+      (picked_is m l low_m ∙ ap (λ b. cond b (l ∷ []) []) (ne_eqb m lane other))
       ∙ picks_other m ls low_m other
 
   -- a line that no lane has in front
-  word_not_picked : (word : List ℕ) (first : ℕ) (rest line : List ℕ) → word ≡ first ∷ rest → 57 < first → HasNoSpace word
+  word_not_picked : (word : List ℕ) (first : ℕ) (rest line : List ℕ) → word ≡ first ∷ rest → 57 < first
+      → HasNoSpace word
       → picked lane (word ++ 32 ∷ line) ≡ []
-  word_not_picked word first rest line is high none = ap (behind_number lane) (front_field word line none) ∙ behind_field lane word line
+  word_not_picked word first rest line is high none = ap (behind_number lane) (front_field word line none)
+      ∙ behind_field lane word line
       ∙ ap (λ b. cond b (line ∷ []) []) (by_test (bytes_eq word (decimal lane)) refl) where
         no_digit : (ds : List ℕ) → all_ascii_digits ds ≡ true → first ∷ rest ≡ ds → ⊥
         no_digit [] digits same = absurd (omega (arith, ap length same))
@@ -98,7 +107,8 @@ module _ (lane : ℕ) (low : lane < lane_count) where
             absurd (omega arith)
 
         by_test : (b : Bool) → bytes_eq word (decimal lane) ≡ b → b ≡ false
-        by_test true eq = absurd (no_digit (decimal lane) (decimal_digits lane) (sym is ∙ (bytes_eq-Decides word (decimal lane)).0 eq))
+        by_test true eq = absurd
+            (no_digit (decimal lane) (decimal_digits lane) (sym is ∙ (bytes_eq-Decides word (decimal lane)).0 eq))
         by_test false eq = refl
 
   -- the line that refuses the input
@@ -109,11 +119,13 @@ module _ (lane : ℕ) (low : lane < lane_count) where
   -- ---- short lanes
 
   -- lanes among which this one isn't
-  shorts_elsewhere : (handed : List Handed) (from more : ℕ) → from + more ≤ lane_count → (lane < from) ⊎ (from + more ≤ lane)
+  shorts_elsewhere : (handed : List Handed) (from more : ℕ) → from + more ≤ lane_count → (lane < from)
+      ⊎ (from + more ≤ lane)
       → picks lane (flat_map (lane_short handed) (range_with_len from more)) ≡ []
   shorts_elsewhere handed from zero within apart = refl
   shorts_elsewhere handed from (suc more) within apart =
-      flat_map-append (picked lane) (lane_short handed from) (flat_map (lane_short handed) (range_with_len (from + 1) more))
+      flat_map-append (picked lane) (lane_short handed from)
+      (flat_map (lane_short handed) (range_with_len (from + 1) more))
       ∙ ap (λ xs. xs ++ picks lane (flat_map (lane_short handed) (range_with_len (from + 1) more)))
       (picks_other from (feed_short (lane_lines handed from)) (omega arith) (other apart))
       ∙ shorts_elsewhere handed (from + 1) more (omega arith) (next apart) where
@@ -130,21 +142,27 @@ module _ (lane : ℕ) (low : lane < lane_count) where
       → picks lane (flat_map (lane_short handed) (range_with_len from more)) ≡ feed_short (lane_lines handed lane)
   shorts_among handed from zero within least most = absurd (omega arith)
   shorts_among handed from (suc more) within least most =
-      flat_map-append (picked lane) (lane_short handed from) (flat_map (lane_short handed) (range_with_len (from + 1) more))
-      ∙ by_test (from == lane) refl (λ below. shorts_among handed (from + 1) more (omega arith) below (omega arith)) where
+      flat_map-append (picked lane) (lane_short handed from)
+      (flat_map (lane_short handed) (range_with_len (from + 1) more))
+      ∙ by_test (from == lane) refl
+      (λ below. shorts_among handed (from + 1) more (omega arith) below (omega arith)) where
         behind : List (List ℕ)
         behind = picks lane (flat_map (lane_short handed) (range_with_len (from + 1) more))
 
         by_test : (b : Bool) → (from == lane) ≡ b
-            → (from + 1 ≤ lane → picks lane (flat_map (lane_short handed) (range_with_len (from + 1) more)) ≡ feed_short (lane_lines handed lane))
-            → picks lane (lane_short handed from) ++ picks lane (flat_map (lane_short handed) (range_with_len (from + 1) more))
+            → (from + 1 ≤ lane → picks lane (flat_map (lane_short handed) (range_with_len (from + 1) more)) ≡ feed_short
+            (lane_lines handed lane))
+            → picks lane (lane_short handed from) ++ picks lane
+            (flat_map (lane_short handed) (range_with_len (from + 1) more))
             ≡ feed_short (lane_lines handed lane)
         by_test true is rest =
             let same : from ≡ lane = eqb-true from lane is in
-            ap (λ i. picks lane (lane_short handed i) ++ picks lane (flat_map (lane_short handed) (range_with_len (from + 1) more))) same
+            ap (λ i. picks lane (lane_short handed i) ++ picks lane
+            (flat_map (lane_short handed) (range_with_len (from + 1) more))) same
             ∙ ap (λ xs. xs ++ picks lane (flat_map (lane_short handed) (range_with_len (from + 1) more)))
             (picks_own (feed_short (lane_lines handed lane)))
-            ∙ ap (λ xs. feed_short (lane_lines handed lane) ++ xs) (shorts_elsewhere handed (from + 1) more (omega arith) (inl (omega arith)))
+            ∙ ap (λ xs. feed_short (lane_lines handed lane) ++ xs)
+            (shorts_elsewhere handed (from + 1) more (omega arith) (inl (omega arith)))
             ∙ append-nil (feed_short (lane_lines handed lane))
         by_test false is rest =
             let other : from ≡ lane → ⊥ = eqb-false from lane is in
@@ -155,6 +173,7 @@ module _ (lane : ℕ) (low : lane < lane_count) where
               less i j below apart = omega arith
 
   -- of all lanes
-  pub picks_shorts : (handed : List Handed) → picks lane (shorts_from handed 0 lane_count) ≡ feed_short (lane_lines handed lane)
+  pub picks_shorts : (handed : List Handed)
+      → picks lane (shorts_from handed 0 lane_count) ≡ feed_short (lane_lines handed lane)
   unfolding shorts_from
   picks_shorts handed = shorts_among handed 0 lane_count (omega arith) (omega arith) (omega (arith, low))

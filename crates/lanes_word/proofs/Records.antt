@@ -9,9 +9,11 @@ use Rattle.dover_port.specs.Moves.{Move, Since, ArePuts, ins, outs, has_ended, E
 use Rattle.dover_port.specs.Moves.Move.{Got, Ended}
 use Rattle.dover_port.specs.declared.status.Status.{Status}
 use Rattle.dover_port.specs.declared.status.Status.TheVariants.{Done, No, Refused, ReadFault, WriteFault, Memory, Usage}
-use Rattle.dover_port.proofs.Made.{since_then, since_then_at, ins-append, outs-append, ins-puts, has_ended-append, has_ended-puts}
+use Rattle.dover_port.proofs.Made.{since_then, since_then_at, ins-append, outs-append, ins-puts, has_ended-append}
+use Rattle.dover_port.proofs.Made.{has_ended-puts}
 use Rattle.dover_port.proofs.Made.{EachReadFrom-append, EachReadFrom-puts}
-use Rattle.lane_server.specs.Lanes.{Input, InputStanding, Open, Closed, Faulty, input, goes_on, due_after, lane_due, closing_lines, lanes_closed}
+use Rattle.lane_server.specs.Lanes.{Input, InputStanding, Open, Closed, Faulty, input, goes_on, due_after, lane_due}
+use Rattle.lane_server.specs.Lanes.{closing_lines, lanes_closed}
 use Rattle.line_text.specs.Cutting as cutting
 use Rattle.lane_server.specs.Kept.{IsReady, StandsFor}
 use Rattle.lanes_word.specs.Record.{MayRead, HasLine, closing_status, IsOver, IsClosed, IsUnwritten, Ends, Serves}
@@ -21,7 +23,8 @@ use Rattle.lanes_word.specs.Keeping.{Stands}
 use Rattle.lanes_word.specs.Turning.{GoesOn, TurnMakes, IsEnding, Finishes, short_text}
 use Rattle.lanes_word.specs.declared.session.Session.{Session}
 use Rattle.lanes_word.specs.declared.turn.Turn.TheVariants as turn
-use Rattle.lanes_word.proofs.Alone.{in_lines-append, alone}
+use Rattle.dover_model.proofs.Beginnings.{in_lines-append}
+use Rattle.lanes_word.proofs.Alone.{alone}
 use Rattle.lanes_word.proofs.Inputs.{is_open, due_open}
 use Rattle.lanes_word.proofs.Delivering.{keeps_on}
 use Rattle.lanes_word.proofs.Turns.{ending}
@@ -41,14 +44,16 @@ over_text : (x : List ℕ) → goes_on (input x) ≡ false → text_so_far x ≡
 over_text x over = in_lines-append (due_after [] (input x).handed) (last_lines (input x))
     ∙ ap (λ ls. lane_due x ++ in_lines ls) (by_standing (input x).standing over) where
       by_standing : (s : InputStanding) → goes_on (record (input x) { standing = s }) ≡ false
-          → last_lines (record (input x) { standing = s }) ≡ closing_lines (length (whole_lines x)) (record (input x) { standing = s })
+          → last_lines (record (input x) { standing = s }) ≡ closing_lines (length (whole_lines x))
+          (record (input x) { standing = s })
       by_standing Open over = absurd (let e : true ≡ false = over in cc)
       by_standing Closed over = refl
       by_standing (Faulty line fault) over = refl
 
 -- where the input ends before, its last line comes behind
 short_all : (x : List ℕ) → goes_on (input x) ≡ true → lane_due x ++ short_text x ≡ lanes_closed x
-short_all x on = ap (λ s. lane_due x ++ in_lines (closing_lines (length (whole_lines x)) (record (input x) { standing = s })))
+short_all x on = ap (λ s. lane_due x ++ in_lines
+    (closing_lines (length (whole_lines x)) (record (input x) { standing = s })))
     (sym (is_open (input x) on))
 
 -- and the status is that of a refusal
@@ -66,7 +71,8 @@ ends_closed Memory moves ending it = absurd ending
 ends_closed Usage moves ending it = absurd ending
 
 -- all that the session writes was put
-closed_record : (status : Status) (moves : List Move) → EachRead MayRead moves → IsOver moves → status ≡ closing_status (input (ins moves))
+closed_record : (status : Status) (moves : List Move) → EachRead MayRead moves → IsOver moves
+    → status ≡ closing_status (input (ins moves))
     → outs moves ≡ lanes_closed (ins moves) → Serves status moves
 closed_record status moves reads over answered text = record {
   reads = reads;
@@ -89,8 +95,10 @@ may : (session : Session) (xs : List Move) → GoesOn session xs → MayRead (in
 may session xs g = let on = stands_on session (ins xs) g.stands in (g.text ∙ open_text (ins xs) on, on)
 
 -- what is kept at the start
-pub new_stands : (session : Session) → cutting.StandsFor session.lines [] → IsReady session.lanes → StandsFor session.lanes [] [] → Stands session []
-new_stands session cut ready stands = record { cut = cut; short = refl; keeps = record { ready = ready; stands = stands } }
+pub new_stands : (session : Session) → cutting.StandsFor session.lines [] → IsReady session.lanes
+    → StandsFor session.lanes [] [] → Stands session []
+new_stands session cut ready stands =
+    record { cut = cut; short = refl; keeps = record { ready = ready; stands = stands } }
 
 -- there was no memory for the lanes
 pub no_lanes : Serves Memory []
@@ -98,10 +106,12 @@ no_lanes = record { reads = tt; ends = record { unended = refl; used = inl refl;
 
 -- ---- some bytes were got, and puts came behind
 
-module _ (session : Session) (xs : List Move) (g : GoesOn session xs) (bytes : List ℕ) (puts : List Move) (p : ArePuts puts) where
+module _ (session : Session) (xs : List Move) (g : GoesOn session xs) (bytes : List ℕ) (puts : List Move)
+    (p : ArePuts puts) where
   -- the bytes got
   got_ins : ins (xs ++ Got bytes ∷ puts) ≡ ins xs ++ bytes
-  got_ins = ins-append xs (Got bytes ∷ puts) ∙ ap (λ l. ins xs ++ (bytes ++ l)) (ins-puts puts p) ∙ ap (λ l. ins xs ++ l) (append-nil bytes)
+  got_ins = ins-append xs (Got bytes ∷ puts) ∙ ap (λ l. ins xs ++ (bytes ++ l)) (ins-puts puts p)
+      ∙ ap (λ l. ins xs ++ l) (append-nil bytes)
 
   -- the bytes put
   got_outs : outs (xs ++ Got bytes ∷ puts) ≡ text_so_far (ins xs) ++ outs puts
@@ -122,7 +132,8 @@ module _ (session : Session) (xs : List Move) (g : GoesOn session xs) (bytes : L
   got_text is = got_outs ∙ is ∙ ap text_so_far (sym got_ins)
 
   -- the input goes on
-  on_more : (new : Session) → text_so_far (ins xs) ++ outs puts ≡ text_so_far (ins xs ++ bytes) → Stands new (ins xs ++ bytes)
+  on_more : (new : Session) → text_so_far (ins xs) ++ outs puts ≡ text_so_far (ins xs ++ bytes)
+      → Stands new (ins xs ++ bytes)
       → GoesOn new (xs ++ Got bytes ∷ puts)
   on_more new is stands = record {
     reads = got_reads;
@@ -132,34 +143,40 @@ module _ (session : Session) (xs : List Move) (g : GoesOn session xs) (bytes : L
   }
 
   -- the session is over
-  on_over : (status : Status) → text_so_far (ins xs) ++ outs puts ≡ text_so_far (ins xs ++ bytes) → goes_on (input (ins xs ++ bytes)) ≡ false
+  on_over : (status : Status) → text_so_far (ins xs) ++ outs puts ≡ text_so_far (ins xs ++ bytes)
+      → goes_on (input (ins xs ++ bytes)) ≡ false
       → status ≡ closing_status (input (ins xs ++ bytes)) → Serves status (xs ++ Got bytes ∷ puts)
   on_over status is over answered =
       let here : goes_on (input (ins (xs ++ Got bytes ∷ puts))) ≡ false = ap (λ y. goes_on (input y)) got_ins ∙ over in
-      closed_record status (xs ++ Got bytes ∷ puts) got_reads (inl here) (answered ∙ ap (λ y. closing_status (input y)) (sym got_ins))
+      closed_record status (xs ++ Got bytes ∷ puts) got_reads (inl here)
+      (answered ∙ ap (λ y. closing_status (input y)) (sym got_ins))
       (got_text is ∙ over_text (ins (xs ++ Got bytes ∷ puts)) here)
 
   -- a write failed
-  on_unwritten : IsProperPrefix (text_so_far (ins xs) ++ outs puts) (text_so_far (ins xs ++ bytes)) → Serves WriteFault (xs ++ Got bytes ∷ puts)
-  on_unwritten part = record { reads = got_reads; ends = by_standing (goes_on (input (ins (xs ++ Got bytes ∷ puts)))) refl } where
-    here : IsProperPrefix (outs (xs ++ Got bytes ∷ puts)) (text_so_far (ins (xs ++ Got bytes ∷ puts)))
-    here = (part.0, part.1, ap text_so_far got_ins ∙ part.2 ∙ ap (λ l. l ++ part.0) (sym got_outs))
+  on_unwritten : IsProperPrefix (text_so_far (ins xs) ++ outs puts) (text_so_far (ins xs ++ bytes))
+      → Serves WriteFault (xs ++ Got bytes ∷ puts)
+  on_unwritten part = record
+      { reads = got_reads; ends = by_standing (goes_on (input (ins (xs ++ Got bytes ∷ puts)))) refl } where
+        here : IsProperPrefix (outs (xs ++ Got bytes ∷ puts)) (text_so_far (ins (xs ++ Got bytes ∷ puts)))
+        here = (part.0, part.1, ap text_so_far got_ins ∙ part.2 ∙ ap (λ l. l ++ part.0) (sym got_outs))
 
-    by_standing : (b : Bool) → goes_on (input (ins (xs ++ Got bytes ∷ puts))) ≡ b → IsUnwritten (xs ++ Got bytes ∷ puts)
-    by_standing true on = inr (
-      got_unended,
-      on,
-      subst (IsProperPrefix (outs (xs ++ Got bytes ∷ puts)))
-          (open_text (ins (xs ++ Got bytes ∷ puts)) on) here,
-    )
-    by_standing false over = inl (
-      inl over,
-      subst (IsProperPrefix (outs (xs ++ Got bytes ∷ puts)))
-          (over_text (ins (xs ++ Got bytes ∷ puts)) over) here,
-    )
+        by_standing : (b : Bool) → goes_on (input (ins (xs ++ Got bytes ∷ puts))) ≡ b
+            → IsUnwritten (xs ++ Got bytes ∷ puts)
+        by_standing true on = inr (
+          got_unended,
+          on,
+          subst (IsProperPrefix (outs (xs ++ Got bytes ∷ puts)))
+              (open_text (ins (xs ++ Got bytes ∷ puts)) on) here,
+        )
+        by_standing false over = inl (
+          inl over,
+          subst (IsProperPrefix (outs (xs ++ Got bytes ∷ puts)))
+              (over_text (ins (xs ++ Got bytes ∷ puts)) over) here,
+        )
 
   -- there was no memory
-  on_no_memory : Begins (text_so_far (ins xs) ++ outs puts) (lane_due (ins xs ++ bytes)) → HasLine (input (ins xs ++ bytes)).handed
+  on_no_memory : Begins (text_so_far (ins xs) ++ outs puts) (lane_due (ins xs ++ bytes))
+      → HasLine (input (ins xs ++ bytes)).handed
       → Serves Memory (xs ++ Got bytes ∷ puts)
   on_no_memory part has = record {
     reads = got_reads;
@@ -176,28 +193,39 @@ module _ (a b c : Option (List Move)) (old new : Session) (run : Since a b (Goes
   -- a turn that read
   pub turn_more : ((x : List ℕ) → Stands old x → Since b c (TurnMakes turn.More new x)) → Since a c (GoesOn new)
   turn_more it = since_then_at a b c _ (λ xs. TurnMakes turn.More new (ins xs)) _ run (λ xs g. it (ins xs) g.stands)
-      (λ xs ys g m. subst (λ ms. GoesOn new (xs ++ ms)) (sym m.made) (on_more old xs g m.bytes m.puts m.are_puts new m.gives.0 m.gives.1))
+      (λ xs ys g m. subst (λ ms. GoesOn new (xs ++ ms)) (sym m.made)
+      (on_more old xs g m.bytes m.puts m.are_puts new m.gives.0 m.gives.1))
 
   -- a turn that read `close` or a fault of the whole input
-  pub turn_over : (status : Status) → ((x : List ℕ) → Stands old x → Since b c (TurnMakes (turn.Over status) new x)) → Since a c (Serves status)
-  turn_over status it = since_then_at a b c _ (λ xs. TurnMakes (turn.Over status) new (ins xs)) _ run (λ xs g. it (ins xs) g.stands)
+  pub turn_over : (status : Status) → ((x : List ℕ) → Stands old x → Since b c (TurnMakes (turn.Over status) new x))
+      → Since a c (Serves status)
+  turn_over status it = since_then_at a b c _ (λ xs. TurnMakes (turn.Over status) new (ins xs)) _ run
+      (λ xs g. it (ins xs) g.stands)
       (λ xs ys g m. subst (λ ms. Serves status (xs ++ ms)) (sym m.made)
       (on_over old xs g m.bytes m.puts m.are_puts status m.gives.0 m.gives.1 m.gives.2))
 
   -- a turn in which a write failed
-  pub turn_unput : ((x : List ℕ) → Stands old x → Since b c (TurnMakes turn.Unwritten new x)) → Since a c (Serves WriteFault)
-  turn_unput it = since_then_at a b c _ (λ xs. TurnMakes turn.Unwritten new (ins xs)) _ run (λ xs g. it (ins xs) g.stands)
-      (λ xs ys g m. subst (λ ms. Serves WriteFault (xs ++ ms)) (sym m.made) (on_unwritten old xs g m.bytes m.puts m.are_puts m.gives))
+  pub turn_unput : ((x : List ℕ) → Stands old x → Since b c (TurnMakes turn.Unwritten new x))
+      → Since a c (Serves WriteFault)
+  turn_unput it = since_then_at a b c _ (λ xs. TurnMakes turn.Unwritten new (ins xs)) _ run
+      (λ xs g. it (ins xs) g.stands)
+      (λ xs ys g m. subst (λ ms. Serves WriteFault (xs ++ ms)) (sym m.made)
+      (on_unwritten old xs g m.bytes m.puts m.are_puts m.gives))
 
   -- a turn without memory
-  pub turn_memory : ((x : List ℕ) → Stands old x → Since b c (TurnMakes turn.NoMemory new x)) → Since a c (Serves Memory)
-  turn_memory it = since_then_at a b c _ (λ xs. TurnMakes turn.NoMemory new (ins xs)) _ run (λ xs g. it (ins xs) g.stands)
-      (λ xs ys g m. subst (λ ms. Serves Memory (xs ++ ms)) (sym m.made) (on_no_memory old xs g m.bytes m.puts m.are_puts m.gives.0 m.gives.1))
+  pub turn_memory : ((x : List ℕ) → Stands old x → Since b c (TurnMakes turn.NoMemory new x))
+      → Since a c (Serves Memory)
+  turn_memory it = since_then_at a b c _ (λ xs. TurnMakes turn.NoMemory new (ins xs)) _ run
+      (λ xs g. it (ins xs) g.stands)
+      (λ xs ys g m. subst (λ ms. Serves Memory (xs ++ ms)) (sym m.made)
+      (on_no_memory old xs g m.bytes m.puts m.are_puts m.gives.0 m.gives.1))
 
   -- a turn whose read failed
-  pub turn_unread : ((x : List ℕ) → Stands old x → Since b c (TurnMakes turn.Unread new x)) → Since a c (Serves ReadFault)
+  pub turn_unread : ((x : List ℕ) → Stands old x → Since b c (TurnMakes turn.Unread new x))
+      → Since a c (Serves ReadFault)
   turn_unread it = since_then_at a b c _ (λ xs. TurnMakes turn.Unread new (ins xs)) _ run (λ xs g. it (ins xs) g.stands)
-      (λ xs ys g none. subst (λ ms. Serves ReadFault (xs ++ ms)) (sym none) (subst (Serves ReadFault) (sym (append-nil xs)) (record {
+      (λ xs ys g none. subst (λ ms. Serves ReadFault (xs ++ ms)) (sym none)
+      (subst (Serves ReadFault) (sym (append-nil xs)) (record {
         reads = g.reads;
         ends = record { unended = g.unended; open_still = (may old xs g).1; text = (may old xs g).0 };
       })))
@@ -225,7 +253,8 @@ module _ (session : Session) (xs : List Move) (g : GoesOn session xs) (puts : Li
   on_short : outs puts ≡ short_text (ins xs) → Serves Refused (xs ++ Ended ∷ puts)
   on_short is = closed_record Refused (xs ++ Ended ∷ puts) end_reads (inr end_ended)
       (short_status (input (ins xs)) (may session xs g).1 ∙ ap (λ y. closing_status (input y)) (sym end_ins))
-      (end_outs ∙ ap (λ l. lane_due (ins xs) ++ l) is ∙ short_all (ins xs) (may session xs g).1 ∙ ap lanes_closed (sym end_ins))
+      (end_outs ∙ ap (λ l. lane_due (ins xs) ++ l) is ∙ short_all (ins xs) (may session xs g).1
+      ∙ ap lanes_closed (sym end_ins))
 
   -- the last line couldn't be put
   on_short_cut : IsProperPrefix (outs puts) (short_text (ins xs)) → Serves WriteFault (xs ++ Ended ∷ puts)
@@ -236,7 +265,8 @@ module _ (session : Session) (xs : List Move) (g : GoesOn session xs) (puts : Li
       (
         part.0,
         part.1,
-        ap lanes_closed end_ins ∙ sym (short_all (ins xs) (may session xs g).1) ∙ ap (λ l. lane_due (ins xs) ++ l) part.2
+        ap lanes_closed end_ins ∙ sym (short_all (ins xs) (may session xs g).1)
+            ∙ ap (λ l. lane_due (ins xs) ++ l) part.2
             ∙ sym (append_assoc (lane_due (ins xs)) (outs puts) part.0) ∙ ap (λ l. l ++ part.0) (sym end_outs),
       ),
     );
@@ -247,7 +277,8 @@ module _ (a b c d : Option (List Move)) (session : Session) (run : Since a b (Go
   -- the end of the input, and puts behind it
   ends_with : (status : Status) (T : List ℕ → List ℕ → Type 0)
       → ((x : List ℕ) → Stands session x → Since c d (λ made. ArePuts made × T x (outs made)))
-      → ((xs : List Move) → GoesOn session xs → (puts : List Move) → ArePuts puts → T (ins xs) (outs puts) → Serves status (xs ++ Ended ∷ puts))
+      → ((xs : List Move) → GoesOn session xs → (puts : List Move) → ArePuts puts → T (ins xs) (outs puts)
+      → Serves status (xs ++ Ended ∷ puts))
       → Since a d (Serves status)
   ends_with status T last serves = since_then_at a b d _
       (λ xs ms. (puts : List Move) × (ms ≡ Ended ∷ puts) × ArePuts puts × T (ins xs) (outs puts)) _ run
@@ -257,11 +288,14 @@ module _ (a b c d : Option (List Move)) (session : Session) (run : Since a b (Go
 
   -- what can't come
   never_so : (status : Status) → ((x : List ℕ) → Stands session x → ⊥) → Since a d (Serves status)
-  never_so status never = since_then_at a b d _ (λ xs ms. ⊥) _ run (λ xs g. absurd (never (ins xs) g.stands)) (λ xs ms g m. absurd m)
+  never_so status never = since_then_at a b d _ (λ xs ms. ⊥) _ run (λ xs g. absurd (never (ins xs) g.stands))
+      (λ xs ms g m. absurd m)
 
   -- by the status
-  pub ends_short : (status : Status) → ((x : List ℕ) → Stands session x → Finishes status c d (short_text x)) → Since a d (Serves status)
-  ends_short Refused last = ends_with Refused (λ x put. put ≡ short_text x) last (λ xs g puts p is. on_short session xs g puts p is)
+  pub ends_short : (status : Status) → ((x : List ℕ) → Stands session x → Finishes status c d (short_text x))
+      → Since a d (Serves status)
+  ends_short Refused last =
+      ends_with Refused (λ x put. put ≡ short_text x) last (λ xs g puts p is. on_short session xs g puts p is)
   ends_short WriteFault last = ends_with WriteFault (λ x put. IsProperPrefix put (short_text x)) last
       (λ xs g puts p part. on_short_cut session xs g puts p part)
   ends_short Done last = never_so Done last
@@ -283,7 +317,8 @@ ending_answers Memory ending = absurd ending
 ending_answers Usage ending = absurd ending
 
 -- and leaves both counts
-pub ending_causes : (status : Status) (reads reads2 writes writes2 : ℕ) → IsEnding status → reads2 ≡ reads → writes2 ≡ writes
+pub ending_causes : (status : Status) (reads reads2 writes writes2 : ℕ) → IsEnding status → reads2 ≡ reads
+    → writes2 ≡ writes
     → Causes status reads reads2 writes writes2
 ending_causes Done reads reads2 writes writes2 ending one other = (one, other)
 ending_causes Refused reads reads2 writes writes2 ending one other = (one, other)

@@ -1,5 +1,6 @@
 -- Lines with their line feeds, put through a buffer.
-use Rattle.std.proofs.Common.{◌≡◌, ◌<◌, ◌≤◌, ◌^◌, ℕ, List, [], ◌∷◌, ◌++◌, length, refl, sym, ap, ◌∙◌, arith, length-append, codes, decimal}
+use Rattle.std.proofs.Common.{◌≡◌, ◌<◌, ◌≤◌, ◌^◌, ℕ, List, [], ◌∷◌, ◌++◌, length, refl, sym, ap, ◌∙◌, arith}
+use Rattle.std.proofs.Common.{length-append, codes, decimal}
 use Rattle.std.proofs.Common.{append_assoc}
 use Rattle.std.proofs.lemmas.Fmt.{decimal_nonempty}
 use Rattle.dover_model.specs.declared.events.Event.{Event}
@@ -32,11 +33,14 @@ lane_front lane small = number_in_front (decimal lane) (decimal_nonempty lane sm
 
 -- it fits
 pub lane_fits : (lane : ℕ) → lane < 2 ^ 64 → length (with_field (decimal lane) []) ≤ 21
-lane_fits lane small = omega (arith, ap length (lane_front lane small), digits lane small, length-append (decimal lane) (32 ∷ []))
+lane_fits lane small = omega
+    (arith, ap length (lane_front lane small), digits lane small, length-append (decimal lane) (32 ∷ []))
 
 -- a lane's line is its number, a space and the line
-pub lane_text : (lane : ℕ) (line : List ℕ) → in_lane lane line ++ 10 ∷ [] ≡ (decimal lane ++ 32 ∷ []) ++ (line ++ 10 ∷ [])
-lane_text lane line = append_assoc (decimal lane) (32 ∷ line) (10 ∷ []) ∙ sym (append_assoc (decimal lane) (32 ∷ []) (line ++ 10 ∷ []))
+pub lane_text : (lane : ℕ) (line : List ℕ)
+    → in_lane lane line ++ 10 ∷ [] ≡ (decimal lane ++ 32 ∷ []) ++ (line ++ 10 ∷ [])
+lane_text lane line = append_assoc (decimal lane) (32 ∷ line) (10 ∷ [])
+    ∙ sym (append_assoc (decimal lane) (32 ∷ []) (line ++ 10 ∷ []))
 
 -- the whole line that refuses the input
 pub whole_line : (n : ℕ) (word : List ℕ) → n < 2 ^ 64 → length word ≤ 5

@@ -1,5 +1,6 @@
 -- What the moves of a turn come to.
-use Rattle.std.proofs.Common.{◌≡◌, ◌<◌, ◌≤◌, ℕ, List, ◌∷◌, ◌++◌, [], length, take, refl, sym, ap, ◌∙◌, subst, Option, Ok, Err, arith, append_assoc}
+use Rattle.std.proofs.Common.{◌≡◌, ◌<◌, ◌≤◌, ℕ, List, ◌∷◌, ◌++◌, [], length, take, refl, sym, ap, ◌∙◌, subst, Option}
+use Rattle.std.proofs.Common.{Ok, Err, arith, append_assoc}
 use Rattle.std.proofs.Common.{Bool, true, false, cond}
 use Rattle.std.proofs.lemmas.List.{append-nil, length-take}
 use Rattle.dover_model.specs.Lines.{in_lines}
@@ -20,10 +21,11 @@ use Rattle.lanes_word.specs.declared.progress.Progress.{Progress}
 use Rattle.lanes_word.specs.declared.progress.Progress.TheVariants as progress
 use Rattle.lanes_word.specs.declared.progress.Stop.TheVariants.{NoMemory, Unwritten}
 use Rattle.lanes_word.specs.declared.turn.Turn.TheVariants as turn
-use Rattle.lanes_word.proofs.Alone.{in_lines-append}
+use Rattle.dover_model.proofs.Beginnings.{in_lines-append}
 
 -- the end of the input
-pub no_input : (a b : Option (List Move)) (buf : List ℕ) (n : ℕ) → n ≡ 0 → Adds a b (read_move (take n buf)) → Since a b (λ moves. moves ≡ Ended ∷ [])
+pub no_input : (a b : Option (List Move)) (buf : List ℕ) (n : ℕ) → n ≡ 0 → Adds a b (read_move (take n buf))
+    → Since a b (λ moves. moves ≡ Ended ∷ [])
 no_input a b buf n none moved = subst (λ m. Adds a b (read_move (take m buf))) none moved
 
 -- some bytes were got
@@ -42,9 +44,11 @@ text_more : (x y : List ℕ) (text : List (List ℕ)) → due_so_far (input y) �
     → text_so_far y ≡ text_so_far x ++ in_lines text
 text_more x y text is = ap in_lines is ∙ in_lines-append (due_so_far (input x)) text
 
-module _ (a b c : Option (List Move)) (x bytes : List ℕ) (some : 0 < length bytes) (moved : Adds a b (read_move bytes)) where
+module _ (a b c : Option (List Move)) (x bytes : List ℕ) (some : 0 < length bytes)
+    (moved : Adds a b (read_move bytes)) where
   -- a read, and puts behind it
-  gets : (T U : List ℕ → List ℕ → Type 0) → ((put : List ℕ) → T bytes put → U bytes put) → Since b c (λ made. ArePuts made × T bytes (outs made))
+  gets : (T U : List ℕ → List ℕ → Type 0) → ((put : List ℕ) → T bytes put → U bytes put)
+      → Since b c (λ made. ArePuts made × T bytes (outs made))
       → Since a c (λ moves. Gets moves U)
   gets T U weaker puts = since_then a b c _ _ _ moved puts (λ xs ys is made. record {
     bytes = bytes;
@@ -57,7 +61,8 @@ module _ (a b c : Option (List Move)) (x bytes : List ℕ) (some : 0 < length by
   module _ (mid : Option (List Move)) (q : List ℕ) (session : Session) where
     -- all that is due was put, and the buffer was emptied
     pub turn_made : (over : Progress) → Delivers (Ok over) b mid [] q (input x) (input (x ++ bytes))
-        → (over ≡ progress.Open → Stands session (x ++ bytes)) → Passes mid c q [] [] → Since a c (TurnMakes (turn_of over) session x)
+        → (over ≡ progress.Open → Stands session (x ++ bytes)) → Passes mid c q [] []
+        → Since a c (TurnMakes (turn_of over) session x)
     turn_made over it stands flushed = by_progress over it stands where
       all : (o : Progress) → Delivers (Ok o) b mid [] q (input x) (input (x ++ bytes))
           → Since b c (λ made. ArePuts made × (text_so_far x ++ outs made ≡ text_so_far (x ++ bytes)))
@@ -68,10 +73,12 @@ module _ (a b c : Option (List Move)) (x bytes : List ℕ) (some : 0 < length by
                 ∙ sym (text_more x (x ++ bytes) it.text it.leaves.0),
           ))
 
-      by_progress : (o : Progress) → Delivers (Ok o) b mid [] q (input x) (input (x ++ bytes)) → (o ≡ progress.Open → Stands session (x ++ bytes))
+      by_progress : (o : Progress) → Delivers (Ok o) b mid [] q (input x) (input (x ++ bytes))
+          → (o ≡ progress.Open → Stands session (x ++ bytes))
           → Since a c (TurnMakes (turn_of o) session x)
       by_progress progress.Open it stands =
-          gets (λ bs put. text_so_far x ++ put ≡ text_so_far (x ++ bs)) _ (λ put is. (is, stands refl)) (all progress.Open it)
+          gets (λ bs put. text_so_far x ++ put ≡ text_so_far (x ++ bs)) _ (λ put is. (is, stands refl))
+          (all progress.Open it)
       by_progress (progress.Over status) it stands =
           gets (λ bs put. text_so_far x ++ put ≡ text_so_far (x ++ bs)) _ (λ put is. (is, it.leaves.1.0, it.leaves.1.1))
           (all (progress.Over status) it)
@@ -82,13 +89,16 @@ module _ (a b c : Option (List Move)) (x bytes : List ℕ) (some : 0 < length by
     front_due text is put part = (
       part.0,
       part.1,
-      text_more x (x ++ bytes) text is ∙ ap (λ l. text_so_far x ++ l) part.2 ∙ sym (append_assoc (text_so_far x) put part.0),
+      text_more x (x ++ bytes) text is ∙ ap (λ l. text_so_far x ++ l) part.2
+          ∙ sym (append_assoc (text_so_far x) put part.0),
     )
 
     -- the buffer couldn't be emptied
-    pub turn_unflushed : (over : Progress) → Delivers (Ok over) b mid [] q (input x) (input (x ++ bytes)) → CutsShort mid c q []
+    pub turn_unflushed : (over : Progress) → Delivers (Ok over) b mid [] q (input x) (input (x ++ bytes))
+        → CutsShort mid c q []
         → Since a c (TurnMakes turn.Unwritten session x)
-    turn_unflushed over it cut = gets (λ bs put. IsProperPrefix (text_so_far x ++ put) (text_so_far (x ++ bs))) _ (λ put is. is)
+    turn_unflushed over it cut =
+        gets (λ bs put. IsProperPrefix (text_so_far x ++ put) (text_so_far (x ++ bs))) _ (λ put is. is)
         (since_weaker b c _ _ (passes_then_cut b mid c [] q [] (in_lines it.text) [] it.puts cut)
         (λ made part. (
           part.0,
@@ -97,21 +107,27 @@ module _ (a b c : Option (List Move)) (x bytes : List ℕ) (some : 0 < length by
         )))
 
   -- a line couldn't be put
-  pub turn_unwritten : (q : List ℕ) (session : Session) → Delivers (Err Unwritten) b c [] q (input x) (input (x ++ bytes))
+  pub turn_unwritten : (q : List ℕ) (session : Session)
+      → Delivers (Err Unwritten) b c [] q (input x) (input (x ++ bytes))
       → Since a c (TurnMakes turn.Unwritten session x)
-  turn_unwritten q session it = gets (λ bs put. IsProperPrefix (text_so_far x ++ put) (text_so_far (x ++ bs))) _ (λ put is. is)
+  turn_unwritten q session it =
+      gets (λ bs put. IsProperPrefix (text_so_far x ++ put) (text_so_far (x ++ bs))) _ (λ put is. is)
       (since_weaker b c _ _ it.puts (λ made part. (part.0, front_due c q session it.text it.leaves (outs made) part.1)))
 
   -- there was no memory
-  pub turn_no_memory : (q : List ℕ) (session : Session) → Delivers (Err NoMemory) b c [] q (input x) (input (x ++ bytes))
+  pub turn_no_memory : (q : List ℕ) (session : Session)
+      → Delivers (Err NoMemory) b c [] q (input x) (input (x ++ bytes))
       → Since a c (TurnMakes turn.NoMemory session x)
-  turn_no_memory q session it = gets (λ bs put. Begins (text_so_far x ++ put) (lane_due (x ++ bs))) _ (λ put is. (is, it.leaves.1))
+  turn_no_memory q session it =
+      gets (λ bs put. Begins (text_so_far x ++ put) (lane_due (x ++ bs))) _ (λ put is. (is, it.leaves.1))
       (since_weaker b c _ _ it.puts (λ made put.
-      let more = begins_in_lines (due_so_far (input x) ++ it.text) (due_after [] (input (x ++ bytes)).handed) it.leaves.0 in (
+      let more = begins_in_lines (due_so_far (input x) ++ it.text)
+      (due_after [] (input (x ++ bytes)).handed) it.leaves.0 in (
         put.0,
         (
           q ++ more.0,
-          more.1 ∙ ap (λ l. l ++ more.0) (in_lines-append (due_so_far (input x)) it.text ∙ ap (λ l. text_so_far x ++ l) (sym put.1)
+          more.1 ∙ ap (λ l. l ++ more.0)
+              (in_lines-append (due_so_far (input x)) it.text ∙ ap (λ l. text_so_far x ++ l) (sym put.1)
               ∙ sym (append_assoc (text_so_far x) (outs made) q))
               ∙ append_assoc (text_so_far x ++ outs made) q more.0,
         ),
@@ -130,11 +146,13 @@ ending a = by_standing a.standing where
   by_standing (Faulty line fault) = tt
 
 -- so is a turn that ends it
-pub ends_well : (o : Progress) (old new : Option (List Move)) (p q : List ℕ) (a b : Input) → Delivers (Ok o) old new p q a b → EndsWell (turn_of o)
+pub ends_well : (o : Progress) (old new : Option (List Move)) (p q : List ℕ) (a b : Input)
+    → Delivers (Ok o) old new p q a b → EndsWell (turn_of o)
 ends_well progress.Open old new p q a b it = tt
 ends_well (progress.Over status) old new p q a b it = subst IsEnding (sym it.leaves.1.1) (ending b)
 
 -- a turn that takes the input so far leaves both counts
-pub plain_turn : (p : Progress) {reads reads' writes writes' : ℕ} → reads' ≡ reads → writes' ≡ writes → TurnCauses (turn_of p) reads reads' writes writes'
+pub plain_turn : (p : Progress) {reads reads' writes writes' : ℕ} → reads' ≡ reads → writes' ≡ writes
+    → TurnCauses (turn_of p) reads reads' writes writes'
 plain_turn progress.Open r w = (r, w)
 plain_turn (progress.Over status) r w = (r, w)

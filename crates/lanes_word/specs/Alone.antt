@@ -9,7 +9,8 @@ use Rattle.lane_server.specs.Lanes.{Input, Open, Closed, Faulty, lane_lines}
 abbrev pub behind_number : ℕ → List (List ℕ) → List (List ℕ)
 behind_number lane [] = []
 behind_number lane (number ∷ []) = []
-behind_number lane (number ∷ field ∷ fields) = if bytes_eq number (decimal lane) then line_of (field ∷ fields) ∷ [] else []
+behind_number lane (number ∷ field ∷ fields) =
+    if bytes_eq number (decimal lane) then line_of (field ∷ fields) ∷ [] else []
 
 -- the lines of the text that have the lane's number in front, without it
 abbrev pub text_of_lane : ℕ → List ℕ → List ℕ

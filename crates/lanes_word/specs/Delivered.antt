@@ -5,7 +5,8 @@ use Rattle.dover_model.specs.WholeRun.{Begins}
 use Rattle.dover_port.specs.Causes.{Rose, StaysWell, FailsLast}
 use Rattle.dover_port.specs.declared.calls.Calls.{Calls}
 use Rattle.dover_port.specs.Moves.{Move, Passes, CutsShort}
-use Rattle.lane_server.specs.Lanes.{Input, Open, Closed, Faulty, input, goes_on, lane_count, due_after, shorts_from, refused_line, fault_word}
+use Rattle.lane_server.specs.Lanes.{Input, Open, Closed, Faulty, input, goes_on, lane_count, due_after, shorts_from}
+use Rattle.lane_server.specs.Lanes.{refused_line, fault_word}
 use Rattle.lane_server.specs.Kept.{Kept, StandsFor}
 use Rattle.lanes_word.specs.Record.{HasLine, closing_status}
 use Rattle.lanes_word.specs.declared.progress.Progress.{Progress}
@@ -30,7 +31,8 @@ abbrev pub text_so_far : List ℕ → List ℕ
 text_so_far bytes = in_lines (due_so_far (input bytes))
 
 -- how the text was put, by the result
-abbrev pub PutsBy : {T : Type 0} → Result T Stop → (old new : Option (List Move)) → (before after text : List ℕ) → Type 0
+abbrev pub PutsBy : {T : Type 0} → Result T Stop → (old new : Option (List Move)) → (before after text : List ℕ)
+    → Type 0
 PutsBy (Ok x) old new before after text = Passes old new before after text
 PutsBy (Err NoMemory) old new before after text = Passes old new before after text
 PutsBy (Err Unwritten) old new before after text = CutsShort old new before text
@@ -47,13 +49,15 @@ LeavesBy (Err NoMemory) text a b = Begins (due_so_far a ++ text) (due_after [] b
 LeavesBy (Err Unwritten) text a b = due_so_far b ≡ due_so_far a ++ text
 
 -- the lines that are put on the way from a to b
-pub record Delivers (result : Result Progress Stop) (old new : Option (List Move)) (before after : List ℕ) (a b : Input) : Type 0 where
+pub record Delivers (result : Result Progress Stop) (old new : Option (List Move)) (before after : List ℕ)
+    (a b : Input) : Type 0 where
   pub text : List (List ℕ)
   pub puts : PutsBy result old new before after (in_lines text)
   pub leaves : LeavesBy result text a b
 
 -- of the lines that were left some were given and put, so many, and the others are still left
-pub record HasGiven (old new : Option (List Move)) (before after : List ℕ) (lanes : Kept) (ls rest : List (List ℕ)) (count : ℕ) : Type 0 where
+pub record HasGiven (old new : Option (List Move)) (before after : List ℕ) (lanes : Kept) (ls rest : List (List ℕ))
+    (count : ℕ) : Type 0 where
   pub text : List (List ℕ)
   pub left : List (List ℕ)
   pub whole : rest ≡ text ++ left

@@ -4,7 +4,8 @@ use Rattle.dover_model.specs.WholeRun.{Begins}
 use Rattle.dover_port.specs.Moves.{Move, ins, outs, has_ended, EachRead, IsProperPrefix}
 use Rattle.dover_port.specs.declared.status.Status.{Status}
 use Rattle.dover_port.specs.declared.status.Status.TheVariants.{Done, Refused, ReadFault, WriteFault, Memory}
-use Rattle.lane_server.specs.Lanes.{Input, Open, Closed, Faulty, Handed, input, goes_on, lane_count, lane_due, lanes_closed, all_ended}
+use Rattle.lane_server.specs.Lanes.{Input, Open, Closed, Faulty, Handed, input, goes_on, lane_count, lane_due}
+use Rattle.lane_server.specs.Lanes.{lanes_closed, all_ended}
 use Rattle.lanes_word.specs.Alone.{text_of_lane, served_alone}
 
 -- Before a read: what is due for the bytes got was put, and they have neither `close` nor a fault of the whole input.
@@ -40,7 +41,8 @@ pub record IsUnread (moves : List Move) : Type 0 where
 -- a write failed: a front of what is due was put, and not all of it
 abbrev pub IsUnwritten : List Move → Type 0
 IsUnwritten moves = (IsOver moves × IsProperPrefix (outs moves) (lanes_closed (ins moves)))
-    ⊎ ((has_ended moves ≡ false) × (goes_on (input (ins moves)) ≡ true) × IsProperPrefix (outs moves) (lane_due (ins moves)))
+    ⊎ ((has_ended moves ≡ false) × (goes_on (input (ins moves)) ≡ true)
+    × IsProperPrefix (outs moves) (lane_due (ins moves)))
 
 -- a lane has a line
 abbrev pub HasLine : List Handed → Type 0

@@ -37,13 +37,16 @@ pub record Gets (moves : List Move) (T : List ℕ → List ℕ → Type 0) : Typ
 abbrev pub TurnMakes : Turn → Session → List ℕ → List Move → Type 0
 TurnMakes turn.More session x moves =
     Gets moves (λ bytes put. (text_so_far x ++ put ≡ text_so_far (x ++ bytes)) × Stands session (x ++ bytes))
-TurnMakes (turn.Over status) session x moves = Gets moves (λ bytes put. (text_so_far x ++ put ≡ text_so_far (x ++ bytes))
+TurnMakes (turn.Over status) session x moves =
+    Gets moves (λ bytes put. (text_so_far x ++ put ≡ text_so_far (x ++ bytes))
     × (goes_on (input (x ++ bytes)) ≡ false) × (status ≡ closing_status (input (x ++ bytes))))
 TurnMakes turn.NoInput session x moves = moves ≡ Ended ∷ []
 TurnMakes turn.Unread session x moves = moves ≡ []
-TurnMakes turn.Unwritten session x moves = Gets moves (λ bytes put. IsProperPrefix (text_so_far x ++ put) (text_so_far (x ++ bytes)))
+TurnMakes turn.Unwritten session x moves =
+    Gets moves (λ bytes put. IsProperPrefix (text_so_far x ++ put) (text_so_far (x ++ bytes)))
 TurnMakes turn.NoMemory session x moves =
-    Gets moves (λ bytes put. Begins (text_so_far x ++ put) (lane_due (x ++ bytes)) × HasLine (input (x ++ bytes)).handed)
+    Gets moves (λ bytes put. Begins (text_so_far x ++ put) (lane_due (x ++ bytes))
+    × HasLine (input (x ++ bytes)).handed)
 
 -- a session that is over by a line of the input is done or refused
 abbrev pub IsEnding : Status → Type 0

@@ -19,15 +19,18 @@ use step_count::Steps;
 /// How many bytes a read asks for.
 const READ_BYTES: usize = 65_536;
 
-/// More reads than an input has that goes on: its 4,000,000 lines have at most 129 bytes each, and the line that has begun at most 128.
+/// More reads than an input has that goes on: its 4,000,000 lines have at most 129 bytes each, and the line that has
+/// begun at most 128.
 const MOST_READS: u64 = 516_000_129;
 
 /// Refuses an input that has ended before `close`.
 fn refuse_short<P: Port>(port: &mut P, session: &Session) -> Status
     requires { (x : List ℕ) × Stands session.now x }
-    ensures text { (x : List ℕ) → Stands session.now x → Finishes result (P.moves port.old) (P.moves port.new) (short_text x) }
+    ensures text { (x : List ℕ) → Stands session.now x
+        → Finishes result (P.moves port.old) (P.moves port.new) (short_text x) }
     ensures answer { IsAnswer result }
-    ensures causes { Causes result (P.read_faults port.old) (P.read_faults port.new) (P.write_faults port.old) (P.write_faults port.new) }
+    ensures causes { Causes result (P.read_faults port.old) (P.read_faults port.new) (P.write_faults port.old)
+        (P.write_faults port.new) }
     ensures stops { StopsWith result (P.calls port.old) (P.calls port.new) }
 {
     let mut out = Output::new();
@@ -41,12 +44,15 @@ fn refuse_short<P: Port>(port: &mut P, session: &Session) -> Status
     }
 }
 
-/// Serves up to 64 feeds that come in one input: reads it to its `close` line, its first fault as a whole or its end, and writes each line
-/// that is due for a lane, with the lane's number in front, before the next read. Memory is taken at the start and at lines of lanes alone.
+/// Serves up to 64 feeds that come in one input: reads it to its `close` line, its first fault as a whole or its end,
+/// and writes each line
+/// that is due for a lane, with the lane's number in front, before the next read. Memory is taken at the start and at
+/// lines of lanes alone.
 pub fn lanes_word<P: Port, L: Ledger>(alloc: Global, port: &mut P, steps: &mut Steps<L>) -> Status
     ensures serves { Since (P.moves port.old) (P.moves port.new) (Serves result) }
     ensures answer { IsAnswer result }
-    ensures causes { Causes result (P.read_faults port.old) (P.read_faults port.new) (P.write_faults port.old) (P.write_faults port.new) }
+    ensures causes { Causes result (P.read_faults port.old) (P.read_faults port.new) (P.write_faults port.old)
+        (P.write_faults port.new) }
     ensures stops { StopsWith result (P.calls port.old) (P.calls port.new) }
 {
     let Ok(lanes) = Lanes::new(alloc) else {

@@ -15,7 +15,8 @@ use trace_format::TraceLine;
 /// Puts a lane's number, and the space behind it.
 fn put_lane<P: Port>(port: &mut P, out: &mut Output, lane: u8) -> Result<(), Failed>
     ensures text { PutsThrough (P.moves port.old) (P.moves port.new) result out.old out.new (decimal lane ++ 32 ∷ []) }
-    ensures cause { HasCause (P.write_faults port.old) (P.write_faults port.new) (P.read_faults port.old) (P.read_faults port.new) result }
+    ensures cause { HasCause (P.write_faults port.old) (P.write_faults port.new) (P.read_faults port.old)
+        (P.read_faults port.new) result }
     ensures stops { StopsAtFailure (P.calls port.old) (P.calls port.new) result }
 {
     let mut front = LineBuf::new();
@@ -28,7 +29,8 @@ fn put_lane<P: Port>(port: &mut P, out: &mut Output, lane: u8) -> Result<(), Fai
 fn put_text<P: Port>(port: &mut P, out: &mut Output, line: LaneOut) -> Result<(), Failed>
     requires { HasNumerals line }
     ensures text { PutsThrough (P.moves port.old) (P.moves port.new) result out.old out.new (out_text line ++ 10 ∷ []) }
-    ensures cause { HasCause (P.write_faults port.old) (P.write_faults port.new) (P.read_faults port.old) (P.read_faults port.new) result }
+    ensures cause { HasCause (P.write_faults port.old) (P.write_faults port.new) (P.read_faults port.old)
+        (P.read_faults port.new) result }
     ensures stops { StopsAtFailure (P.calls port.old) (P.calls port.new) result }
 {
     match line {
@@ -64,8 +66,10 @@ pub(crate) fn put_out<P: Port>(
     line: LaneOut,
 ) -> Result<(), Failed>
     requires { HasNumerals line }
-    ensures text { PutsThrough (P.moves port.old) (P.moves port.new) result out.old out.new (in_lane lane (out_text line) ++ 10 ∷ []) }
-    ensures cause { HasCause (P.write_faults port.old) (P.write_faults port.new) (P.read_faults port.old) (P.read_faults port.new) result }
+    ensures text { PutsThrough (P.moves port.old) (P.moves port.new) result out.old out.new
+        (in_lane lane (out_text line) ++ 10 ∷ []) }
+    ensures cause { HasCause (P.write_faults port.old) (P.write_faults port.new) (P.read_faults port.old)
+        (P.read_faults port.new) result }
     ensures stops { StopsAtFailure (P.calls port.old) (P.calls port.new) result }
 {
     match put_lane(port, out, lane) {
@@ -83,8 +87,10 @@ pub(crate) fn put_refusal<P: Port>(
     word: &[u8],
 ) -> Result<(), Failed>
     requires { length word.now ≤ 5 }
-    ensures text { PutsThrough (P.moves port.old) (P.moves port.new) result out.old out.new (refused_line number word.now ++ 10 ∷ []) }
-    ensures cause { HasCause (P.write_faults port.old) (P.write_faults port.new) (P.read_faults port.old) (P.read_faults port.new) result }
+    ensures text { PutsThrough (P.moves port.old) (P.moves port.new) result out.old out.new
+        (refused_line number word.now ++ 10 ∷ []) }
+    ensures cause { HasCause (P.write_faults port.old) (P.write_faults port.new) (P.read_faults port.old)
+        (P.read_faults port.new) result }
     ensures stops { StopsAtFailure (P.calls port.old) (P.calls port.new) result }
 {
     let mut line = LineBuf::new();

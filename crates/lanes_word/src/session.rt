@@ -40,7 +40,8 @@ fn put_due<P: Port, L: Ledger>(
         PutsThrough (P.moves port.old) (P.moves port.new) result out.old out.new (in_lines rest) }
     ensures stands { (ls rest : List (List ℕ)) → StandsFor lanes.old ls rest → OnOk result (StandsFor lanes.new ls []) }
     ensures ready { OnOk result (is_closed lanes.old ≡ false → IsReady lanes.new) }
-    ensures cause { HasCause (P.write_faults port.old) (P.write_faults port.new) (P.read_faults port.old) (P.read_faults port.new) result }
+    ensures cause { HasCause (P.write_faults port.old) (P.write_faults port.new) (P.read_faults port.old)
+        (P.read_faults port.new) result }
     ensures stops { StopsAtFailure (P.calls port.old) (P.calls port.new) result }
 {
     for _ in 0..MOST_OUTS {
@@ -64,11 +65,13 @@ fn refuse<P: Port>(
 ) -> Result<Progress, Stop>
     requires few { lanes.now.lines ≤ most_lines }
     requires word { (fault : InputFault) × (word.now ≡ fault_word fault) }
-    ensures delivers { (a b : Input) (fault : InputFault) → a.standing ≡ Going → lanes.now.lines ≡ a.lines → word.now ≡ fault_word fault →
+    ensures delivers { (a b : Input) (fault : InputFault) → a.standing ≡ Going → lanes.now.lines ≡ a.lines
+        → word.now ≡ fault_word fault →
         b ≡ record a { lines = suc a.lines; standing = Faulty (suc a.lines) fault } →
         Delivers result (P.moves port.old) (P.moves port.new) out.old out.new a b }
     ensures over { result ≡ Ok Open → ⊥ }
-    ensures cause { StopCause result (P.write_faults port.old) (P.write_faults port.new) (P.read_faults port.old) (P.read_faults port.new) }
+    ensures cause { StopCause result (P.write_faults port.old) (P.write_faults port.new) (P.read_faults port.old)
+        (P.read_faults port.new) }
     ensures stops { StopsOn result (P.calls port.old) (P.calls port.new) }
 {
     match put_refusal(port, out, lanes.lines() + 1, word) {
@@ -99,8 +102,10 @@ fn take_line<P: Port, L: Ledger>(
     requires { (ls : List (List ℕ)) × Keeps lanes.old ls }
     ensures delivers { (ls : List (List ℕ)) → Keeps lanes.old ls →
         Delivers result (P.moves port.old) (P.moves port.new) out.old out.new (input_of_lines ls) (input_of_lines (ls ++ line.now ∷ [])) }
-    ensures keeps { (ls : List (List ℕ)) → Keeps lanes.old ls → result ≡ Ok Open → Keeps lanes.new (ls ++ line.now ∷ []) }
-    ensures cause { StopCause result (P.write_faults port.old) (P.write_faults port.new) (P.read_faults port.old) (P.read_faults port.new) }
+    ensures keeps { (ls : List (List ℕ)) → Keeps lanes.old ls → result ≡ Ok Open
+        → Keeps lanes.new (ls ++ line.now ∷ []) }
+    ensures cause { StopCause result (P.write_faults port.old) (P.write_faults port.new) (P.read_faults port.old)
+        (P.read_faults port.new) }
     ensures stops { StopsOn result (P.calls port.old) (P.calls port.new) }
 {
     match lanes.line(line) {
@@ -129,7 +134,8 @@ fn take_byte<P: Port, L: Ledger>(
     ensures delivers { (x : List ℕ) → Stands session.old x →
         Delivers result (P.moves port.old) (P.moves port.new) out.old out.new (input x) (input (x ++ byte ∷ [])) }
     ensures stands { (x : List ℕ) → Stands session.old x → result ≡ Ok Open → Stands session.new (x ++ byte ∷ []) }
-    ensures cause { StopCause result (P.write_faults port.old) (P.write_faults port.new) (P.read_faults port.old) (P.read_faults port.new) }
+    ensures cause { StopCause result (P.write_faults port.old) (P.write_faults port.new) (P.read_faults port.old)
+        (P.read_faults port.new) }
     ensures stops { StopsOn result (P.calls port.old) (P.calls port.new) }
 {
     match session.lines.push(byte) {
@@ -151,7 +157,8 @@ pub(crate) fn take_piece<P: Port, L: Ledger>(
     ensures delivers { (x : List ℕ) → Stands session.old x →
         Delivers result (P.moves port.old) (P.moves port.new) out.old out.new (input x) (input (x ++ bytes.now)) }
     ensures stands { (x : List ℕ) → Stands session.old x → result ≡ Ok Open → Stands session.new (x ++ bytes.now) }
-    ensures cause { StopCause result (P.write_faults port.old) (P.write_faults port.new) (P.read_faults port.old) (P.read_faults port.new) }
+    ensures cause { StopCause result (P.write_faults port.old) (P.write_faults port.new) (P.read_faults port.old)
+        (P.read_faults port.new) }
     ensures stops { StopsOn result (P.calls port.old) (P.calls port.new) }
 {
     for byte in bytes {

@@ -48,13 +48,15 @@ pub(crate) fn take_turn<P: Port, L: Ledger>(
     requires some { 0 < length buf.old }
     requires empty { out.old ≡ [] }
     requires stands { (x : List ℕ) × Stands session.old x }
-    ensures makes { (x : List ℕ) → Stands session.old x → Since (P.moves port.old) (P.moves port.new) (TurnMakes result session.new x) }
+    ensures makes { (x : List ℕ) → Stands session.old x
+        → Since (P.moves port.old) (P.moves port.new) (TurnMakes result session.new x) }
     ensures goes_on { result ≡ More → out.new ≡ [] }
     ensures stands { (x : List ℕ) → Stands session.old x → result ≡ More →
         (bytes : List ℕ) × (0 < length bytes) × Stands session.new (x ++ bytes) }
     ensures input { result ≡ NoInput → session.new ≡ session.old }
     ensures over { EndsWell result }
-    ensures causes { TurnCauses result (P.read_faults port.old) (P.read_faults port.new) (P.write_faults port.old) (P.write_faults port.new) }
+    ensures causes { TurnCauses result (P.read_faults port.old) (P.read_faults port.new) (P.write_faults port.old)
+        (P.write_faults port.new) }
     ensures stops { TurnStops result (P.calls port.old) (P.calls port.new) }
 {
     let Ok(count) = port.read(buf) else {

@@ -27,7 +27,8 @@ word_size (NotAdmitted Ratio) = omega arith
 word_size Short = omega arith
 
 -- the whole line
-pub whole_line : (n : ℕ) (cause : Cause) → n < 2 ^ 64 → length (with_field (with_field (codes "refused") (decimal n)) (cause_word cause)) ≤ 37
+pub whole_line : (n : ℕ) (cause : Cause) → n < 2 ^ 64
+    → length (with_field (with_field (codes "refused") (decimal n)) (cause_word cause)) ≤ 37
 whole_line n cause small = omega (
   arith,
   word_and_number n small,

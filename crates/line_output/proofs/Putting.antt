@@ -15,7 +15,8 @@ module _ {T E : Type 0} (a b c : Option (List Move)) (p q r t u : List ℕ) (res
   }
 
 -- a text behind which none comes
-pub puts_last : {T E : Type 0} (a b : Option (List Move)) (p q t : List ℕ) (result : Result T E) → PutsThrough a b result p q t
+pub puts_last : {T E : Type 0} (a b : Option (List Move)) (p q t : List ℕ) (result : Result T E)
+    → PutsThrough a b result p q t
     → PutsThrough a b result p q (t ++ [])
 puts_last a b p q t result it = subst (PutsThrough a b result p q) (sym (append-nil t)) it
 
@@ -25,19 +26,23 @@ pub puts_cut : {T E : Type 0} (a b : Option (List Move)) (p q t u : List ℕ) (d
 puts_cut a b p q t u d it = record { all = tt; part = cut_longer a b p t u it }
 
 -- what passes through a buffer that is empty before and after was put
-pub puts_all : {T E : Type 0} (a b : Option (List Move)) (t : List ℕ) (result : Result T E) → PutsThrough a b result [] [] t → PutsText a b result t
+pub puts_all : {T E : Type 0} (a b : Option (List Move)) (t : List ℕ) (result : Result T E)
+    → PutsThrough a b result [] [] t → PutsText a b result t
 puts_all a b t result it = record {
-  all = on_ok_weaker result (λ more. since_weaker a b _ _ more (λ made put. (put.0, sym (append-nil (outs made)) ∙ put.1))) it.all;
+  all = on_ok_weaker result
+      (λ more. since_weaker a b _ _ more (λ made put. (put.0, sym (append-nil (outs made)) ∙ put.1))) it.all;
   part = it.part;
 }
 
 -- a text passes through an empty buffer, which is then emptied
-pub puts_flushed : {T E : Type 0} (a b c : Option (List Move)) (p q t : List ℕ) (result : Result T E) → p ≡ [] → Passes a b p q t
+pub puts_flushed : {T E : Type 0} (a b c : Option (List Move)) (p q t : List ℕ) (result : Result T E) → p ≡ []
+    → Passes a b p q t
     → PutsThrough b c result q [] [] → PutsText a c result t
 puts_flushed a b c p q t result empty first second = puts_all a c t result
     (subst (PutsThrough a c result [] []) (append-nil t)
     (puts_behind a b c [] q [] t [] result (subst (λ x. Passes a b x q t) empty first) second))
 
 -- it is cut short in an empty buffer
-pub puts_cut_at : {T E : Type 0} (a b : Option (List Move)) (p t : List ℕ) (d : E) → p ≡ [] → CutsShort a b p t → PutsText {T = T} a b (Err d) t
+pub puts_cut_at : {T E : Type 0} (a b : Option (List Move)) (p t : List ℕ) (d : E) → p ≡ [] → CutsShort a b p t
+    → PutsText {T = T} a b (Err d) t
 puts_cut_at a b p t d empty it = record { all = tt; part = subst (λ x. CutsShort a b x t) empty it }

@@ -7,19 +7,22 @@ ghost use Rattle.dover_port.specs.Moves.{PutsThrough};
 use dover_port::{Failed, Output, Port};
 use line_text::LineBuf;
 
-/// Puts a line with its line feed, or keeps it back in `out`. The line has at most 128 bytes. An `Err`: a write failed, and a front of what
+/// Puts a line with its line feed, or keeps it back in `out`. The line has at most 128 bytes. An `Err`: a write failed,
+/// and a front of what
 /// was kept back and of the line was put, but not all of it.
 pub fn put_line<P: Port>(port: &mut P, out: &mut Output, mut line: LineBuf) -> Result<(), Failed>
     requires { length line < 129 }
     ensures text { PutsThrough (P.moves port.old) (P.moves port.new) result out.old out.new (line ++ 10 ∷ []) }
-    ensures cause { HasCause (P.write_faults port.old) (P.write_faults port.new) (P.read_faults port.old) (P.read_faults port.new) result }
+    ensures cause { HasCause (P.write_faults port.old) (P.write_faults port.new) (P.read_faults port.old)
+        (P.read_faults port.new) result }
     ensures stops { StopsAtFailure (P.calls port.old) (P.calls port.new) result }
 {
     line.end_line();
     out.put(port, line.bytes())
 }
 
-/// Puts the line of a word and numbers, as `put_line` does. The word isn't empty, and with 21 bytes for each number the line is shorter than
+/// Puts the line of a word and numbers, as `put_line` does. The word isn't empty, and with 21 bytes for each number the
+/// line is shorter than
 /// 129 bytes.
 pub fn put_numbers<P: Port>(
     port: &mut P,
@@ -29,8 +32,10 @@ pub fn put_numbers<P: Port>(
 ) -> Result<(), Failed>
     requires word { 0 < length word.now }
     requires short { length word.now + 21 * length numbers.now < 129 }
-    ensures text { PutsThrough (P.moves port.old) (P.moves port.new) result out.old out.new (with_numbers word.now numbers.now ++ 10 ∷ []) }
-    ensures cause { HasCause (P.write_faults port.old) (P.write_faults port.new) (P.read_faults port.old) (P.read_faults port.new) result }
+    ensures text { PutsThrough (P.moves port.old) (P.moves port.new) result out.old out.new
+        (with_numbers word.now numbers.now ++ 10 ∷ []) }
+    ensures cause { HasCause (P.write_faults port.old) (P.write_faults port.new) (P.read_faults port.old)
+        (P.read_faults port.new) result }
     ensures stops { StopsAtFailure (P.calls port.old) (P.calls port.new) result }
 {
     let mut line = LineBuf::new();

@@ -21,7 +21,8 @@ pub fn put_header<P: Port>(
 ) -> Result<(), Failed>
     ensures text { PutsThrough (P.moves port.old) (P.moves port.new) result out.old out.new
         (text.header (record { ratio = k; version = version }) ++ 10 ∷ []) }
-    ensures cause { HasCause (P.write_faults port.old) (P.write_faults port.new) (P.read_faults port.old) (P.read_faults port.new) result }
+    ensures cause { HasCause (P.write_faults port.old) (P.write_faults port.new) (P.read_faults port.old)
+        (P.read_faults port.new) result }
     ensures stops { StopsAtFailure (P.calls port.old) (P.calls port.new) result }
 {
     let mut line = LineBuf::new();
@@ -33,8 +34,10 @@ pub fn put_header<P: Port>(
 #[inline(always)]
 pub fn put_event<P: Port>(port: &mut P, out: &mut Output, event: &Event) -> Result<(), Failed>
     requires { AreShort (step_numbers event.now) }
-    ensures text { PutsThrough (P.moves port.old) (P.moves port.new) result out.old out.new (text.text_of event.now ++ 10 ∷ []) }
-    ensures cause { HasCause (P.write_faults port.old) (P.write_faults port.new) (P.read_faults port.old) (P.read_faults port.new) result }
+    ensures text { PutsThrough (P.moves port.old) (P.moves port.new) result out.old out.new
+        (text.text_of event.now ++ 10 ∷ []) }
+    ensures cause { HasCause (P.write_faults port.old) (P.write_faults port.new) (P.read_faults port.old)
+        (P.read_faults port.new) result }
     ensures stops { StopsAtFailure (P.calls port.old) (P.calls port.new) result }
 {
     let mut line = BackLine::new();
@@ -49,8 +52,10 @@ pub fn put_refused<P: Port>(
     refused: &TraceLine,
 ) -> Result<(), Failed>
     requires { IsRefusedLine refused.now }
-    ensures text { PutsThrough (P.moves port.old) (P.moves port.new) result out.old out.new (trace_text refused.now ++ 10 ∷ []) }
-    ensures cause { HasCause (P.write_faults port.old) (P.write_faults port.new) (P.read_faults port.old) (P.read_faults port.new) result }
+    ensures text { PutsThrough (P.moves port.old) (P.moves port.new) result out.old out.new
+        (trace_text refused.now ++ 10 ∷ []) }
+    ensures cause { HasCause (P.write_faults port.old) (P.write_faults port.new) (P.read_faults port.old)
+        (P.read_faults port.new) result }
     ensures stops { StopsAtFailure (P.calls port.old) (P.calls port.new) result }
 {
     let mut line = LineBuf::new();

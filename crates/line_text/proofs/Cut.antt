@@ -1,5 +1,6 @@
 -- What another byte makes of whole lines and the rest.
-use Rattle.std.proofs.Common.{◌≡◌, ℕ, ◌+◌, min, List, [], ◌∷◌, ◌++◌, length, length-append, append-nil, refl, sym, ap, ◌∙◌, subst}
+use Rattle.std.proofs.Common.{◌≡◌, ℕ, ◌+◌, min, List, [], ◌∷◌, ◌++◌, length, length-append, append-nil, refl, sym, ap}
+use Rattle.std.proofs.Common.{◌∙◌, subst}
 use Rattle.std.proofs.Common.{Bool, true, false, cond, arith}
 use Rattle.std.specs.Prelude.{if◌then◌else◌}
 use Rattle.dover_model.specs.Lines.{whole_lines, rest_of, lines_of, is_too_long, cut}
@@ -32,12 +33,15 @@ abbrev before : List (List ℕ) → CutText → CutText
 before ls c = (ls ++ c.0, c.1)
 
 -- a line feed ends the line
-cut_with_feed : (bytes : List ℕ) (byte : ℕ) → is_feed byte ≡ true → cut (bytes ++ byte ∷ []) ≡ (whole_lines bytes ++ rest_of bytes ∷ [], [])
+cut_with_feed : (bytes : List ℕ) (byte : ℕ) → is_feed byte ≡ true
+    → cut (bytes ++ byte ∷ []) ≡ (whole_lines bytes ++ rest_of bytes ∷ [], [])
 cut_with_feed bytes byte feed = cut_append bytes (byte ∷ [])
-    ∙ ap (behind (whole_lines bytes) (rest_of bytes)) (cut_feed byte [] feed) ∙ ap (before (whole_lines bytes)) (onto_feed (rest_of bytes))
+    ∙ ap (behind (whole_lines bytes) (rest_of bytes)) (cut_feed byte [] feed)
+    ∙ ap (before (whole_lines bytes)) (onto_feed (rest_of bytes))
 
 -- another byte goes on with it
-cut_with_other : (bytes : List ℕ) (byte : ℕ) → is_feed byte ≡ false → cut (bytes ++ byte ∷ []) ≡ (whole_lines bytes, rest_of bytes ++ byte ∷ [])
+cut_with_other : (bytes : List ℕ) (byte : ℕ) → is_feed byte ≡ false
+    → cut (bytes ++ byte ∷ []) ≡ (whole_lines bytes, rest_of bytes ++ byte ∷ [])
 cut_with_other bytes byte other = cut_append bytes (byte ∷ [])
     ∙ ap (behind (whole_lines bytes) (rest_of bytes)) (cut_other byte [] other)
     ∙ ap (before (whole_lines bytes)) (onto_other (rest_of bytes) byte)
@@ -81,21 +85,29 @@ module _ (count : ℕ) (bytes : List ℕ) (byte : ℕ) (counted : count ≡ min 
   -- a line feed
   ends : is_feed byte ≡ true → Goes (ended count (rest_of bytes)) bytes byte
   ends feed = let e = cut_with_feed bytes byte feed in
-      let whole : whole_lines (bytes ++ byte ∷ []) ≡ whole_lines bytes ++ rest_of bytes ∷ [] = ap (λ (k : CutText). k.0) e in
+      let whole : whole_lines (bytes ++ byte ∷ []) ≡ whole_lines bytes ++ rest_of bytes ∷ [] =
+      ap (λ (k : CutText). k.0) e in
       let rest : rest_of (bytes ++ byte ∷ []) ≡ [] = ap (λ (k : CutText). k.1) e in
       let size : length (whole_lines bytes ++ rest_of bytes ∷ []) ≡ length (whole_lines bytes) + 1 =
       length-append (whole_lines bytes) (rest_of bytes ∷ []) in
       record {
         stands = record {
-          count = min_at count (length (whole_lines bytes)) counted ∙ ap (λ n. min n most_count) (sym (ap length whole ∙ size));
+          count = min_at count (length (whole_lines bytes)) counted
+              ∙ ap (λ n. min n most_count) (sym (ap length whole ∙ size));
           rest = sym rest;
           over = ap is_too_long (sym rest);
         };
-        cut = (whole, rest, lines_short (bytes ++ byte ∷ []) _ e refl ∙ ap (λ ls. ls ++ rest_of bytes ∷ []) (sym lines_before));
+        cut = (
+          whole,
+          rest,
+          lines_short (bytes ++ byte ∷ []) _ e refl
+              ∙ ap (λ ls. ls ++ rest_of bytes ∷ []) (sym lines_before),
+        );
       }
 
   -- another byte
-  more : is_feed byte ≡ false → Goes (going count (rest_of bytes ++ byte ∷ []) (is_too_long (rest_of bytes ++ byte ∷ []))) bytes byte
+  more : is_feed byte ≡ false
+      → Goes (going count (rest_of bytes ++ byte ∷ []) (is_too_long (rest_of bytes ++ byte ∷ []))) bytes byte
   more other = by (is_too_long (rest_of bytes ++ byte ∷ [])) refl where
     e : cut (bytes ++ byte ∷ []) ≡ (whole_lines bytes, rest_of bytes ++ byte ∷ [])
     e = cut_with_other bytes byte other
@@ -109,10 +121,16 @@ module _ (count : ℕ) (bytes : List ℕ) (byte : ℕ) (counted : count ≡ min 
     still : count ≡ min (length (whole_lines (bytes ++ byte ∷ []))) most_count
     still = counted ∙ ap (λ ls. min (length ls) most_count) (sym whole)
 
-    by : (b : Bool) → is_too_long (rest_of bytes ++ byte ∷ []) ≡ b → Goes (going count (rest_of bytes ++ byte ∷ []) b) bytes byte
+    by : (b : Bool) → is_too_long (rest_of bytes ++ byte ∷ []) ≡ b
+        → Goes (going count (rest_of bytes ++ byte ∷ []) b) bytes byte
     by true long = record {
       stands = record { count = still; rest = sym rest; over = sym long ∙ ap is_too_long (sym rest) };
-      cut = (whole, rest, lines_long (bytes ++ byte ∷ []) _ e long ∙ ap (λ ls. ls ++ (rest_of bytes ++ byte ∷ []) ∷ []) (sym lines_before));
+      cut = (
+        whole,
+        rest,
+        lines_long (bytes ++ byte ∷ []) _ e long
+            ∙ ap (λ ls. ls ++ (rest_of bytes ++ byte ∷ []) ∷ []) (sym lines_before),
+      );
     }
     by false long = record {
       stands = record { count = still; rest = sym rest; over = sym long ∙ ap is_too_long (sym rest) };
@@ -130,33 +148,40 @@ module _ (count : ℕ) (bytes : List ℕ) (byte : ℕ) (counted : count ≡ min 
     by false other = more other
 
 -- a line that goes on
-from_line : (line : List ℕ) (count : ℕ) (bytes : List ℕ) (byte : ℕ) → count ≡ min (length (whole_lines bytes)) most_count → line ≡ rest_of bytes
+from_line : (line : List ℕ) (count : ℕ) (bytes : List ℕ) (byte : ℕ)
+    → count ≡ min (length (whole_lines bytes)) most_count → line ≡ rest_of bytes
     → is_too_long (rest_of bytes) ≡ false → Goes (goes_on count line byte) bytes byte
 from_line line count bytes byte counted same short =
     subst (λ l. Goes (goes_on count l byte) bytes byte) (sym same) (goes count bytes byte counted short)
 
 -- what is kept after another byte, by what was kept before
-kept : (last : Step) (line : List ℕ) (count : ℕ) (bytes : List ℕ) (byte : ℕ) → StandsFor (record { line = line; count = count; last = last }) bytes
-    → is_too_long (rest_of bytes) ≡ false → Goes (after_byte (record { line = line; count = count; last = last }) byte) bytes byte
+kept : (last : Step) (line : List ℕ) (count : ℕ) (bytes : List ℕ) (byte : ℕ)
+    → StandsFor (record { line = line; count = count; last = last }) bytes
+    → is_too_long (rest_of bytes) ≡ false
+    → Goes (after_byte (record { line = line; count = count; last = last }) byte) bytes byte
 kept More line count bytes byte stands short = from_line line count bytes byte stands.count stands.rest short
 kept Line line count bytes byte stands short = from_line [] count bytes byte stands.count stands.rest short
 kept TooLong line count bytes byte stands short = never (sym (stands.over ∙ short))
 
 -- what is kept of a line that may go on
-pub after_byte-Goes : (c : Cutting) (bytes : List ℕ) (byte : ℕ) → StandsFor c bytes → is_too_long (rest_of bytes) ≡ false
+pub after_byte-Goes : (c : Cutting) (bytes : List ℕ) (byte : ℕ) → StandsFor c bytes
+    → is_too_long (rest_of bytes) ≡ false
     → Goes (after_byte c byte) bytes byte
 after_byte-Goes c bytes byte stands short = kept c.last c.line c.count bytes byte stands short
 
 -- behind a line that is too long nothing changes
 stays : (last : Step) (line : List ℕ) (count : ℕ) (byte : ℕ) → is_over last ≡ true
-    → after_byte (record { line = line; count = count; last = last }) byte ≡ record { line = line; count = count; last = last }
+    → after_byte (record { line = line; count = count; last = last }) byte ≡ record
+    { line = line; count = count; last = last }
 stays More line count byte over = never over
 stays Line line count byte over = never over
 stays TooLong line count byte over = refl
 
 -- what is kept stands for the bytes with one more
-pub after_byte-StandsFor : (c : Cutting) (bytes : List ℕ) (byte : ℕ) → StandsFor c bytes → StandsFor (after_byte c byte) (with_byte bytes byte)
+pub after_byte-StandsFor : (c : Cutting) (bytes : List ℕ) (byte : ℕ) → StandsFor c bytes
+    → StandsFor (after_byte c byte) (with_byte bytes byte)
 after_byte-StandsFor c bytes byte stands = by (is_too_long (rest_of bytes)) refl where
-  by : (b : Bool) → is_too_long (rest_of bytes) ≡ b → StandsFor (after_byte c byte) (if b then bytes else bytes ++ byte ∷ [])
+  by : (b : Bool) → is_too_long (rest_of bytes) ≡ b
+      → StandsFor (after_byte c byte) (if b then bytes else bytes ++ byte ∷ [])
   by true long = subst (λ k. StandsFor k bytes) (sym (stays c.last c.line c.count byte (stands.over ∙ long))) stands
   by false short = (after_byte-Goes c bytes byte stands short).stands

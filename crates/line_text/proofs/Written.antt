@@ -1,5 +1,6 @@
 -- A line that is written number by number.
-use Rattle.std.proofs.Common.{◌≡◌, ℕ, zero, suc, ◌+◌, ◌-◌, ◌<◌, ◌≤◌, List, [], ◌∷◌, ◌++◌, length, length-append, append_assoc, append-nil, refl, ap}
+use Rattle.std.proofs.Common.{◌≡◌, ℕ, zero, suc, ◌+◌, ◌-◌, ◌<◌, ◌≤◌, List, [], ◌∷◌, ◌++◌, length, length-append}
+use Rattle.std.proofs.Common.{append_assoc, append-nil, refl, ap}
 use Rattle.std.proofs.Common.{◌∙◌, sym, arith, decimal, drop, set, get_or}
 use Rattle.std.proofs.lemmas.Fmt.{length-decimal-le}
 use Rattle.std.proofs.lemmas.List.{drop-set}
@@ -24,10 +25,12 @@ one_behind line n ns whole begun e = ap (λ bs. bs ++ numbers_behind ns) (with_f
     ∙ append_assoc line (32 ∷ decimal n) (numbers_behind ns) ∙ e
 
 -- it fits where the whole fits
-pub one_fits : (line : List ℕ) (n : ℕ) (ns whole : List ℕ) (most : ℕ) → 0 < length line → line ++ numbers_behind (n ∷ ns) ≡ whole
+pub one_fits : (line : List ℕ) (n : ℕ) (ns whole : List ℕ) (most : ℕ) → 0 < length line
+    → line ++ numbers_behind (n ∷ ns) ≡ whole
     → length whole ≤ most → length (with_field line (decimal n)) ≤ most
 one_fits line n ns whole most begun e fits =
-    let size : length (with_field line (decimal n) ++ numbers_behind ns) ≡ length whole = ap length (one_behind line n ns whole begun e) in
+    let size : length (with_field line (decimal n) ++ numbers_behind ns) ≡ length whole =
+    ap length (one_behind line n ns whole begun e) in
     omega (arith, length-append (with_field line (decimal n)) (numbers_behind ns))
 
 -- ---- a line that is written from its end
@@ -39,7 +42,8 @@ pub number_before : (written : List ℕ) (at n : ℕ) (ns behind tail : List ℕ
 number_before written at n ns behind tail some inside digits rest =
     drop-set written (at - 1) 32 (omega arith)
     ∙ ap (λ i. 32 ∷ drop i written) (back at some)
-    ∙ ap (λ bs. 32 ∷ bs) (digits ∙ ap (λ bs. decimal n ++ bs) rest ∙ sym (append_assoc (decimal n) (numbers_behind ns) tail)) where
+    ∙ ap (λ bs. 32 ∷ bs) (digits ∙ ap (λ bs. decimal n ++ bs) rest
+    ∙ sym (append_assoc (decimal n) (numbers_behind ns) tail)) where
       back : (m : ℕ) → 1 ≤ m → m - 1 + 1 ≡ m
       back m low = omega arith
 

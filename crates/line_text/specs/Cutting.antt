@@ -1,10 +1,12 @@
 -- Bytes that come one by one, cut into lines.
-use Rattle.std.specs.Prelude.{◌≡◌, ℕ, ◌+◌, ◌≤◌, min, List, [], ◌∷◌, ◌++◌, length, Bool, true, false, ◌==◌, if◌then◌else◌}
+use Rattle.std.specs.Prelude.{◌≡◌, ℕ, ◌+◌, ◌≤◌, min, List, [], ◌∷◌, ◌++◌, length, Bool, true, false, ◌==◌}
+use Rattle.std.specs.Prelude.{if◌then◌else◌}
 use Rattle.line_text.specs.declared.cutting.Step.{Step}
 use Rattle.line_text.specs.declared.cutting.Step.TheVariants.{More, Line, TooLong}
 use Rattle.dover_model.specs.Lines.{whole_lines, rest_of, lines_of, is_too_long}
 
--- what is kept of the bytes: the line that goes on or has just ended, how many lines are whole, and what the last byte made of the line
+-- what is kept of the bytes: the line that goes on or has just ended, how many lines are whole, and what the last byte
+-- made of the line
 pub record Cutting : Type 0 where
   pub line : List ℕ
   pub count : ℕ
@@ -49,9 +51,11 @@ with_byte bytes byte = if is_too_long (rest_of bytes) then bytes else bytes ++ b
 
 -- how the whole lines, the rest and the lines of the bytes before and after another byte differ, with this line kept
 abbrev pub HasCut : Step → List ℕ → List ℕ → List ℕ → Type 0
-HasCut More line before after = (whole_lines after ≡ whole_lines before) × (rest_of after ≡ line) × (lines_of after ≡ lines_of before)
+HasCut More line before after = (whole_lines after ≡ whole_lines before) × (rest_of after ≡ line)
+    × (lines_of after ≡ lines_of before)
 HasCut Line line before after =
-    (whole_lines after ≡ whole_lines before ++ line ∷ []) × (rest_of after ≡ []) × (lines_of after ≡ lines_of before ++ line ∷ [])
+    (whole_lines after ≡ whole_lines before ++ line ∷ []) × (rest_of after ≡ [])
+    × (lines_of after ≡ lines_of before ++ line ∷ [])
 HasCut TooLong line before after =
     (whole_lines after ≡ whole_lines before) × (rest_of after ≡ line) × (lines_of after ≡ lines_of before ++ line ∷ [])
 
@@ -59,7 +63,12 @@ HasCut TooLong line before after =
 abbrev pub goes_on : ℕ → List ℕ → ℕ → Cutting
 goes_on count line byte = if byte == 10
     then record { line = line; count = min (count + 1) most_count; last = Line }
-    else record { line = line ++ byte ∷ []; count = count; last = if is_too_long (line ++ byte ∷ []) then TooLong else More }
+    else record {
+      line = line ++ byte ∷ [];
+      count = count;
+      last =
+          if is_too_long (line ++ byte ∷ []) then TooLong else More;
+    }
 
 -- what is kept after another byte
 abbrev pub after_byte : Cutting → ℕ → Cutting

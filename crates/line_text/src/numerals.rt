@@ -1,5 +1,6 @@
 //! Numbers as a line spells them.
-ghost use Rattle.std.specs.Prelude.{◌≡◌, IfSome, IfNone, ◌+◌, ◌<◌, ◌≤◌, ◌^◌, length, take, get_or, true, false, option_map, option_and_then, ◌∷◌};
+ghost use Rattle.std.specs.Prelude.{◌≡◌, IfSome, IfNone, ◌+◌, ◌<◌, ◌≤◌, ◌^◌, length, take, get_or, true, false};
+ghost use Rattle.std.specs.Prelude.{option_map, option_and_then, ◌∷◌};
 ghost use Rattle.std.specs.Char.{is_ascii_digit};
 ghost use Rattle.std.specs.Str.{all_ascii_digits};
 ghost use Rattle.dover_model.specs.Lines.{fields_of};

@@ -8,12 +8,15 @@ use Rattle.dover_model.specs.declared.events.Event.TheVariants.{Complete}
 use Rattle.dover_model.specs.declared.events.Task.{Task}
 use Rattle.dover_model.specs.Fraction.{Fraction}
 use Rattle.dover_model.specs.State.{State, is_running, is_fresh, left}
-use Rattle.dover_model.specs.Step.{View, Move, Prints, view, completion, dispatch, decision, alarm, ◌or_else◌, runs, urgent_or}
+use Rattle.dover_model.specs.Step.{View, Move, Prints, view, completion, dispatch, decision, alarm, ◌or_else◌, runs}
+use Rattle.dover_model.specs.Step.{urgent_or}
 use Rattle.plain_step.specs.Cases.{next_of, next_ready, arrival_of}
 
 -- what is done while r runs
 abbrev pub busy : Fraction → View → Task → Bool → Option Task → Option Move → Option Task → Move → Move
-busy k v r done f a x other = then_some done (Prints (Complete v.clock r.number)) or_else decision v (Some r) f or_else a or_else alarm k v (Some r)
+busy k v r done f a x other =
+    then_some done (Prints (Complete v.clock r.number)) or_else decision v (Some r) f or_else a or_else alarm k v
+    (Some r)
     x or_else other
 
 -- what is done while none runs
@@ -27,10 +30,13 @@ module _ (k : Fraction) (version : Version) (s : State) (other : Move) where
   v = view version s
 
   -- while r runs
-  pub busy_is : (r : Task) (done : Bool) (f : Option Task) (a : Option Move) (x : Option Task) → find is_running s.tasks ≡ Some r
-      → (left r == 0) ≡ done → find is_fresh s.tasks ≡ f → arrival_of v ≡ a → v.late ≡ x → busy k v r done f a x other ≡ urgent_or k v other
+  pub busy_is : (r : Task) (done : Bool) (f : Option Task) (a : Option Move) (x : Option Task)
+      → find is_running s.tasks ≡ Some r
+      → (left r == 0) ≡ done → find is_fresh s.tasks ≡ f → arrival_of v ≡ a → v.late ≡ x
+      → busy k v r done f a x other ≡ urgent_or k v other
   busy_is r done f a x runs left_is fresh arrives late = sym (
-      ap (λ o. completion v o or_else dispatch v o v.held v.waiting or_else decision v o v.fresh or_else arrival_of v or_else alarm k v o v.late
+      ap (λ o. completion v o or_else dispatch v o v.held v.waiting or_else decision v o v.fresh or_else arrival_of v
+      or_else alarm k v o v.late
       or_else other) runs
       ∙ ap (λ b. busy k v r b v.fresh (arrival_of v) v.late other) left_is
       ∙ ap (λ o. busy k v r done o (arrival_of v) v.late other) fresh
@@ -38,17 +44,20 @@ module _ (k : Fraction) (version : Version) (s : State) (other : Move) where
       ∙ ap (λ o. busy k v r done f a o other) late)
 
   -- while none does
-  pub free_is : (next f : Option Task) (a : Option Move) → find is_running s.tasks ≡ None → next_ready version s ≡ next → find is_fresh s.tasks ≡ f
+  pub free_is : (next f : Option Task) (a : Option Move) → find is_running s.tasks ≡ None → next_ready version s ≡ next
+      → find is_fresh s.tasks ≡ f
       → arrival_of v ≡ a → free v next f a other ≡ urgent_or k v other
   free_is next f a none ready fresh arrives = sym (
-      ap (λ o. completion v o or_else dispatch v o v.held v.waiting or_else decision v o v.fresh or_else arrival_of v or_else alarm k v o v.late
+      ap (λ o. completion v o or_else dispatch v o v.held v.waiting or_else decision v o v.fresh or_else arrival_of v
+      or_else alarm k v o v.late
       or_else other) none
       ∙ by_ready v.held v.waiting v.fresh (arrival_of v) v.late
       ∙ ap (λ o. free v o v.fresh (arrival_of v) other) ready
       ∙ ap (λ o. free v next o (arrival_of v) other) fresh
       ∙ ap (λ o. free v next f o other) arrives) where
         by_ready : (p o f : Option Task) (a : Option Move) (x : Option Task)
-            → (dispatch v None p o or_else decision v None f or_else a or_else alarm k v None x or_else other) ≡ free v (next_of v p o) f a other
+            → (dispatch v None p o or_else decision v None f or_else a or_else alarm k v None x or_else other) ≡ free v
+            (next_of v p o) f a other
         by_ready (Some p) o f a x = refl
         by_ready None (Some o) f a x = refl
         by_ready None None (Some f) a x = refl

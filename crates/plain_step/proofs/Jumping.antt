@@ -1,5 +1,6 @@
 -- Where the next step is a silent tick, and for how long it is.
-use Rattle.std.proofs.Common.{◌≡◌, ℕ, ◌+◌, ◌-◌, ◌≤◌, ◌<◌, ◌⊎◌, inl, inr, List, [], ◌∷◌, map, min, Bool, true, false, cond, refl, sym, ap}
+use Rattle.std.proofs.Common.{◌≡◌, ℕ, ◌+◌, ◌-◌, ◌≤◌, ◌<◌, ◌⊎◌, inl, inr, List, [], ◌∷◌, map, min, Bool, true, false}
+use Rattle.std.proofs.Common.{cond, refl, sym, ap}
 use Rattle.std.proofs.Common.{◌∙◌, subst, arith, eq-eqb, ne_eqb}
 use Rattle.std.specs.Prelude.{Option, Some, None, nat_le, ◌==◌}
 use Rattle.std.specs.Bool.{then_some}
@@ -11,11 +12,14 @@ use Rattle.dover_model.specs.declared.events.Task.{Task}
 use Rattle.dover_model.specs.Fraction.{Fraction}
 use Rattle.dover_model.specs.Instance.{Rules}
 use Rattle.dover_model.specs.Orders.{first, earlier, due_first, latest_first}
-use Rattle.dover_model.specs.State.{State, is_running, is_fresh, is_coming, is_waiting, is_held, left, latest_start, running, waiting}
-use Rattle.dover_model.specs.Step.{completion, dispatch, decision, View, Move, Prints, Waits, Ticks, view, arrival, alarm, ◌or_else◌}
+use Rattle.dover_model.specs.State.{State, is_running, is_fresh, is_coming, is_waiting, is_held, left, latest_start}
+use Rattle.dover_model.specs.State.{running, waiting}
+use Rattle.dover_model.specs.Step.{completion, dispatch, decision, View, Move, Prints, Waits, Ticks, view, arrival}
+use Rattle.dover_model.specs.Step.{alarm, ◌or_else◌}
 use Rattle.dover_model.specs.Step.{runs, preempts, open_step, urgent_or, is_at_latest_start}
 use Rattle.dover_model.specs.Sound.{IsMember, Each}
-use Rattle.dover_model.proofs.Members.{by_bool, found, filter_member, member_filter, reduce_none, some_same, on_map, map_member}
+use Rattle.dover_model.proofs.Members.{by_bool, found, filter_member, member_filter, reduce_none, some_same, on_map}
+use Rattle.dover_model.proofs.Members.{map_member}
 use Rattle.dover_model.proofs.Roles.{passes, is_waiting_role}
 use Rattle.dover_model.specs.declared.events.Role.TheVariants.{Waiting}
 use Rattle.dover_model.proofs.Tests.{never, none_is_some}
@@ -36,12 +40,14 @@ record Still (s : State) : Type 0 where
   early : (r : Task) → running s ≡ Some r → Each (λ t. is_waiting t ≡ true → latest_start t ≡ s.clock → ⊥) s.tasks
 
 -- neither a preemption nor a wait is a tick
-decides : (v : View) (r f : Task) (b : Bool) → cond b (Prints (Preempt v.clock r.number f.number)) (Waits f.number) ≡ Ticks → ⊥
+decides : (v : View) (r f : Task) (b : Bool)
+    → cond b (Prints (Preempt v.clock r.number f.number)) (Waits f.number) ≡ Ticks → ⊥
 decides v r f true e = cc
 decides v r f false e = cc
 
 -- a job arrives now, or not
-arrives : (v : View) (c : Task) (b : Bool) (rest : Move) → (then_some b (Prints (Release c.number c.job)) or_else rest) ≡ Ticks → (b ≡ false)
+arrives : (v : View) (c : Task) (b : Bool) (rest : Move)
+    → (then_some b (Prints (Release c.number c.job)) or_else rest) ≡ Ticks → (b ≡ false)
     × (rest ≡ Ticks)
 arrives v c true rest e = absurd (cc)
 arrives v c false rest e = (refl, e)
@@ -53,19 +59,23 @@ record BusyTick (v : View) (done : Bool) (f c x : Option Task) : Type 0 where
   ahead : (t : Task) → c ≡ Some t → (t.job.release == v.clock) ≡ false
   early : x ≡ None
 
-busy_ticks : (k : Fraction) (v : View) (r : Task) (done : Bool) (f c x : Option Task) → busy k v r done f (arrival v c) x Ticks ≡ Ticks
+busy_ticks : (k : Fraction) (v : View) (r : Task) (done : Bool) (f c x : Option Task)
+    → busy k v r done f (arrival v c) x Ticks ≡ Ticks
     → BusyTick v done f c x
 busy_ticks k v r true f c x e = absurd (cc)
 busy_ticks k v r false (Some f) c x e = absurd (decides v r f (preempts v f r) e)
 busy_ticks k v r false None None (Some x) e = absurd (cc)
-busy_ticks k v r false None None None e = record { more = refl; stale = refl; ahead = λ t same. none_is_some same; early = refl }
+busy_ticks k v r false None None None e =
+    record { more = refl; stale = refl; ahead = λ t same. none_is_some same; early = refl }
 busy_ticks k v r false None (Some c) None e = record {
   more = refl;
   stale = refl;
-  ahead = λ t same. subst (λ u. (u.job.release == v.clock) ≡ false) (some_same c t same) (arrives v c (c.job.release == v.clock) Ticks e).0;
+  ahead = λ t same. subst (λ u. (u.job.release == v.clock) ≡ false) (some_same c t same)
+      (arrives v c (c.job.release == v.clock) Ticks e).0;
   early = refl;
 }
-busy_ticks k v r false None (Some c) (Some x) e = absurd (let late : (alarm k v (Some r) (Some x) or_else Ticks) ≡ Ticks =
+busy_ticks k v r false None (Some c) (Some x) e =
+    absurd (let late : (alarm k v (Some r) (Some x) or_else Ticks) ≡ Ticks =
     (arrives v c (c.job.release == v.clock) (alarm k v (Some r) (Some x) or_else Ticks) e).1 in cc)
 
 -- what follows where none runs
@@ -81,7 +91,8 @@ free_ticks v None None None e = record { none = refl; stale = refl; ahead = λ t
 free_ticks v None None (Some c) e = record {
   none = refl;
   stale = refl;
-  ahead = λ t same. subst (λ u. (u.job.release == v.clock) ≡ false) (some_same c t same) (arrives v c (c.job.release == v.clock) Ticks e).0;
+  ahead = λ t same. subst (λ u. (u.job.release == v.clock) ≡ false) (some_same c t same)
+      (arrives v c (c.job.release == v.clock) Ticks e).0;
 }
 
 -- where none gets the processor, none is held and none waits
@@ -103,7 +114,8 @@ module _ (rules : Rules) (s : State) where
     by_running : (o : Option Task) → running s ≡ o → Still s
     by_running (Some r) runs =
         let it : BusyTick v (left r == 0) (find is_fresh s.tasks) (find is_coming s.tasks) v.late =
-        busy_ticks rules.ratio v r _ _ _ _ (busy_is rules.ratio rules.version s Ticks r _ _ _ _ runs refl refl refl refl ∙ ticks) in
+        busy_ticks rules.ratio v
+        r _ _ _ _ (busy_is rules.ratio rules.version s Ticks r _ _ _ _ runs refl refl refl refl ∙ ticks) in
         record {
           free = λ none. none_is_some (sym none ∙ runs);
           busy = λ u same. apart _ _ (subst (λ w. (left w == 0) ≡ false) (some_same r u (sym runs ∙ same)) it.more);
@@ -111,7 +123,8 @@ module _ (rules : Rules) (s : State) where
           ahead = λ c first. apart _ _ (it.ahead c first);
           early = λ u same t member waits now.
               reduce_none (earlier (latest_first rules.version)) (filter (is_at_latest_start s) (waiting s)) it.early t
-              (filter_member (is_at_latest_start s) (waiting s) t (filter_member is_waiting s.tasks t member waits) (eq-eqb _ _ now));
+              (filter_member (is_at_latest_start s) (waiting s) t (filter_member is_waiting s.tasks t member waits)
+              (eq-eqb _ _ now));
         }
     by_running None none =
         let it : FreeTick v (next_ready rules.version s) (find is_fresh s.tasks) (find is_coming s.tasks) =
@@ -137,10 +150,13 @@ module _ (rules : Rules) (s : State) where
   still_rests other still = by_running (running s) refl where
     none_arrives : (o : Option Task) → find is_coming s.tasks ≡ o → arrival_of v ≡ None
     none_arrives None first = ap (arrival v) first
-    none_arrives (Some c) first = ap (arrival v) first ∙ ap (λ b. then_some b (Prints (Release c.number c.job))) (ne_eqb _ _ (still.ahead c first))
+    none_arrives (Some c) first = ap (arrival v) first
+        ∙ ap (λ b. then_some b (Prints (Release c.number c.job))) (ne_eqb _ _ (still.ahead c first))
 
     by_running : (o : Option Task) → running s ≡ o → urgent_or rules.ratio v other ≡ other
-    by_running (Some r) runs = sym (busy_is rules.ratio rules.version s other r false None None None runs (ne_eqb _ _ (still.busy r runs)) still.stale
+    by_running (Some r) runs =
+        sym (busy_is rules.ratio rules.version s other r false None None None runs
+        (ne_eqb _ _ (still.busy r runs)) still.stale
         (none_arrives (find is_coming s.tasks) refl)
         (ap (first (latest_first rules.version)) (none_filtered (is_at_latest_start s) (waiting s) (λ t member.
         let it : IsMember t s.tasks × (is_waiting t ≡ true) = member_filter is_waiting s.tasks t member in
@@ -148,11 +164,13 @@ module _ (rules : Rules) (s : State) where
     by_running None none = sym (free_is rules.ratio rules.version s other None None None none
         (ap (λ p. next_of v p v.waiting) (ap (first (due_first rules.version))
         (none_filtered is_held s.tasks (λ t member. (still.free none t member).1)))
-        ∙ ap (first (due_first rules.version)) (none_filtered is_waiting s.tasks (λ t member. (still.free none t member).0)))
+        ∙ ap (first (due_first rules.version))
+        (none_filtered is_waiting s.tasks (λ t member. (still.free none t member).0)))
         still.stale (none_arrives (find is_coming s.tasks) refl))
 
 -- where an open step is a tick, nothing else is next
-pub tick_rests : (rules : Rules) (s : State) (other : Move) → open_step rules s ≡ Ticks → urgent_or rules.ratio (view rules.version s) other ≡ other
+pub tick_rests : (rules : Rules) (s : State) (other : Move) → open_step rules s ≡ Ticks
+    → urgent_or rules.ratio (view rules.version s) other ≡ other
 tick_rests rules s other ticks = still_rests rules s other (tick_still rules s ticks)
 
 -- the first answer, or what else is done
@@ -170,7 +188,8 @@ or_same None None None None None x y = inr refl
 pub urgent_is : (rules : Rules) (s : State) (other : Move) → (open_step rules s ≡ Ticks → ⊥)
     → urgent_or rules.ratio (view rules.version s) other ≡ open_step rules s
 urgent_is rules s other some = let v = view rules.version s in by_case
-    (or_same (completion v v.running) (dispatch v v.running v.held v.waiting) (decision v v.running v.fresh) (arrival_of v)
+    (or_same (completion v v.running) (dispatch v v.running v.held v.waiting) (decision v v.running v.fresh)
+    (arrival_of v)
     (alarm rules.ratio v v.running v.late) Ticks other) where
       by_case : (open_step rules s ≡ urgent_or rules.ratio (view rules.version s) other) ⊎ (open_step rules s ≡ Ticks)
           → urgent_or rules.ratio (view rules.version s) other ≡ open_step rules s
@@ -187,8 +206,10 @@ record Until (moment clock most n : ℕ) : Type 0 where
 
 until : (moment clock most : ℕ) → Until moment clock most (ticks_until moment clock most)
 until moment clock most = by_test (nat_le moment clock) refl where
-  by_less : (moment - clock < most) ⊎ (most ≤ moment - clock) → clock < moment → Until moment clock most (min most (moment - clock))
-  by_less (inl less) ahead = record { within = omega arith; before = λ _. omega arith; reached = inr (ahead, omega arith) }
+  by_less : (moment - clock < most) ⊎ (most ≤ moment - clock) → clock < moment
+      → Until moment clock most (min most (moment - clock))
+  by_less (inl less) ahead =
+      record { within = omega arith; before = λ _. omega arith; reached = inr (ahead, omega arith) }
   by_less (inr more) ahead = record { within = omega arith; before = λ _. omega arith; reached = inl (omega arith) }
 
   by_test : (b : Bool) → nat_le moment clock ≡ b → Until moment clock most (cond b most (min most (moment - clock)))
@@ -210,7 +231,8 @@ record UntilLatest (clock most n : ℕ) (waiting : List Task) : Type 0 where
   reached : (n ≡ most) ⊎ Reaches clock n waiting
 
 -- with one waiting job more
-latest_cons : (clock most mid n : ℕ) (t : Task) (ts : List Task) → Until (latest_start t) clock most mid → UntilLatest clock mid n ts
+latest_cons : (clock most mid n : ℕ) (t : Task) (ts : List Task) → Until (latest_start t) clock most mid
+    → UntilLatest clock mid n ts
     → UntilLatest clock most n (t ∷ ts)
 latest_cons clock most mid n t ts one rest = record {
   within = let low : n ≤ mid = rest.within in let high : mid ≤ most = one.within in omega arith;
@@ -219,21 +241,26 @@ latest_cons clock most mid n t ts one rest = record {
 } where
   each : Each (λ u. clock < latest_start u → clock + n ≤ latest_start u) (t ∷ ts)
   each u (inl e) = subst (λ w. clock < latest_start w → clock + n ≤ latest_start w) (sym e)
-      (λ ahead. let at : clock + mid ≤ latest_start t = one.before ahead in let low : n ≤ mid = rest.within in omega arith)
+      (λ ahead. let at : clock + mid ≤ latest_start t = one.before ahead in let low : n ≤ mid = rest.within in
+      omega arith)
   each u (inr member) = rest.before u member
 
-  by_one : n ≡ mid → (mid ≡ most) ⊎ ((clock < latest_start t) × (clock + mid ≡ latest_start t)) → (n ≡ most) ⊎ Reaches clock n (t ∷ ts)
+  by_one : n ≡ mid → (mid ≡ most) ⊎ ((clock < latest_start t) × (clock + mid ≡ latest_start t)) → (n ≡ most)
+      ⊎ Reaches clock n (t ∷ ts)
   by_one same (inl e) = inl (same ∙ e)
-  by_one same (inr it) = inr (record { job = t; member = inl refl; ahead = it.0; now = ap (λ m. clock + m) same ∙ it.1 })
+  by_one same (inr it) = inr
+      (record { job = t; member = inl refl; ahead = it.0; now = ap (λ m. clock + m) same ∙ it.1 })
 
-  by_reached : (n ≡ mid) ⊎ Reaches clock n ts → (mid ≡ most) ⊎ ((clock < latest_start t) × (clock + mid ≡ latest_start t))
+  by_reached : (n ≡ mid) ⊎ Reaches clock n ts → (mid ≡ most)
+      ⊎ ((clock < latest_start t) × (clock + mid ≡ latest_start t))
       → (n ≡ most) ⊎ Reaches clock n (t ∷ ts)
   by_reached (inl same) first = by_one same first
   by_reached (inr it) first = inr (record { job = it.job; member = inr it.member; ahead = it.ahead; now = it.now })
 
 latest : (clock : ℕ) (ts : List Task) (most : ℕ) → UntilLatest clock most (fold (until_latest clock) most ts) ts
 latest clock [] most = record { within = omega arith; before = λ t member. absurd member; reached = inl refl }
-latest clock (t ∷ ts) most = latest_cons clock most (until_latest clock most t) _ t ts (until (latest_start t) clock most)
+latest clock (t ∷ ts) most =
+    latest_cons clock most (until_latest clock most t) _ t ts (until (latest_start t) clock most)
     (latest clock ts (until_latest clock most t))
 
 -- what n is where it is the ticks before the running job is done
@@ -249,7 +276,8 @@ done_by (Some t) most = by_less (cases_lt (left t) most) where
   each low r same = subst (λ u. min most (left t) ≤ left u) (some_same t r same) low
 
   by_less : (left t < most) ⊎ (most ≤ left t) → UntilDone (Some t) most (min most (left t))
-  by_less (inl less) = record { within = omega arith; before = each (omega arith); reached = inr (t, refl, omega arith) }
+  by_less (inl less) = record
+      { within = omega arith; before = each (omega arith); reached = inr (t, refl, omega arith) }
   by_less (inr more) = record { within = omega arith; before = each (omega arith); reached = inl (omega arith) }
 
 -- what n is where it is the ticks before the release of the first job to come
@@ -286,11 +314,13 @@ record Dues (s : State) (most n : ℕ) : Type 0 where
 
 dues : (s : State) (most : ℕ) → Dues s most (still_ticks most s)
 dues s most = record {
-  within = let low : n ≤ after_done = waits.within in let mid : after_done ≤ after_release = dones.within in let high : after_release ≤ most =
+  within = let low : n ≤ after_done = waits.within in let mid : after_done ≤ after_release = dones.within in
+      let high : after_release ≤ most =
       comes.within in omega arith;
   release = λ c first ahead. let at : s.clock + after_release ≤ c.job.release = comes.before c first ahead in
       let low : n ≤ after_done = waits.within in let mid : after_done ≤ after_release = dones.within in omega arith;
-  done = λ r runs. let at : after_done ≤ left r = dones.before r runs in let low : n ≤ after_done = waits.within in omega arith;
+  done = λ r runs. let at : after_done ≤ left r = dones.before r runs in let low : n ≤ after_done = waits.within in
+      omega arith;
   before = waits.before;
   reached = by_waits waits.reached;
 } where
@@ -313,13 +343,15 @@ dues s most = record {
   comes = release_by s.clock (find is_coming s.tasks) most
 
   by_comes : n ≡ after_release
-      → (after_release ≡ most) ⊎ ((c : Task) × (find is_coming s.tasks ≡ Some c) × (s.clock + after_release ≡ c.job.release)) → n < most
+      → (after_release ≡ most)
+      ⊎ ((c : Task) × (find is_coming s.tasks ≡ Some c) × (s.clock + after_release ≡ c.job.release)) → n < most
       → ((c : Task) × (find is_coming s.tasks ≡ Some c) × (s.clock + n ≡ c.job.release))
       ⊎ (((r : Task) × (running s ≡ Some r) × (n ≡ left r)) ⊎ Reaches s.clock n (waiting s))
   by_comes same (inl all) less = absurd (omega arith)
   by_comes same (inr it) less = inl (it.0, it.1, ap (λ m. s.clock + m) same ∙ it.2)
 
-  by_dones : n ≡ after_done → (after_done ≡ after_release) ⊎ ((r : Task) × (running s ≡ Some r) × (after_done ≡ left r)) → n < most
+  by_dones : n ≡ after_done → (after_done ≡ after_release) ⊎ ((r : Task) × (running s ≡ Some r) × (after_done ≡ left r))
+      → n < most
       → ((c : Task) × (find is_coming s.tasks ≡ Some c) × (s.clock + n ≡ c.job.release))
       ⊎ (((r : Task) × (running s ≡ Some r) × (n ≡ left r)) ⊎ Reaches s.clock n (waiting s))
   by_dones same (inl e) less = by_comes (same ∙ e) comes.reached less
@@ -334,16 +366,19 @@ dues s most = record {
 -- ---- so many ticks on
 
 -- what is found in a list that is changed
-find_map : (p : Task → Bool) (f : Task → Task) → ((t : Task) → p (f t) ≡ p t) → (ts : List Task) → find p (map f ts) ≡ option_map f (find p ts)
+find_map : (p : Task → Bool) (f : Task → Task) → ((t : Task) → p (f t) ≡ p t) → (ts : List Task)
+    → find p (map f ts) ≡ option_map f (find p ts)
 find_map p f same [] = refl
-find_map p f same (t ∷ ts) = ap (λ b. cond b (Some (f t)) (find p (map f ts))) (same t) ∙ by_test (p t) (find_map p f same ts) where
-  by_test : (b : Bool) → find p (map f ts) ≡ option_map f (find p ts)
-      → cond b (Some (f t)) (find p (map f ts)) ≡ option_map f (cond b (Some t) (find p ts))
-  by_test true rest = refl
-  by_test false rest = rest
+find_map p f same (t ∷ ts) = ap (λ b. cond b (Some (f t)) (find p (map f ts))) (same t)
+    ∙ by_test (p t) (find_map p f same ts) where
+      by_test : (b : Bool) → find p (map f ts) ≡ option_map f (find p ts)
+          → cond b (Some (f t)) (find p (map f ts)) ≡ option_map f (cond b (Some t) (find p ts))
+      by_test true rest = refl
+      by_test false rest = rest
 
 -- where the changed list has one, so has the list
-found_before : {X : Type 0} (f : X → X) (o : Option X) (y : X) → option_map f o ≡ Some y → (x : X) × (o ≡ Some x) × (f x ≡ y)
+found_before : {X : Type 0} (f : X → X) (o : Option X) (y : X) → option_map f o ≡ Some y → (x : X) × (o ≡ Some x)
+    × (f x ≡ y)
 found_before f None y e = none_is_some e
 found_before f (Some x) y e = (x, refl, some_same _ _ e)
 
@@ -364,38 +399,48 @@ runs_on n r runs = ap (λ b. r.job.work - cond b (r.had + n) r.had) runs
 module _ (s : State) (n : ℕ) where
   -- what runs so many ticks on
   runs_before : (y : Task) → running (later_by n s) ≡ Some y → (x : Task) × (running s ≡ Some x) × (ticked_by n x ≡ y)
-  runs_before y e = found_before (ticked_by n) (running s) y (sym (find_map is_running (ticked_by n) (λ t. refl) s.tasks) ∙ e)
+  runs_before y e = found_before (ticked_by n) (running s) y
+      (sym (find_map is_running (ticked_by n) (λ t. refl) s.tasks) ∙ e)
 
   -- what is to come
-  comes_before : (y : Task) → find is_coming (later_by n s).tasks ≡ Some y → (x : Task) × (find is_coming s.tasks ≡ Some x) × (ticked_by n x ≡ y)
-  comes_before y e = found_before (ticked_by n) (find is_coming s.tasks) y (sym (find_map is_coming (ticked_by n) (λ t. refl) s.tasks) ∙ e)
+  comes_before : (y : Task) → find is_coming (later_by n s).tasks ≡ Some y → (x : Task)
+      × (find is_coming s.tasks ≡ Some x) × (ticked_by n x ≡ y)
+  comes_before y e = found_before (ticked_by n) (find is_coming s.tasks) y
+      (sym (find_map is_coming (ticked_by n) (λ t. refl) s.tasks) ∙ e)
 
   -- before anything is due, nothing is due
   still_on : (most d : ℕ) → Dues s most d → Still s → n < d → Still (later_by n s)
   still_on most d it still early = record {
     free = λ none. on_map (ticked_by n) (λ t. (is_waiting t ≡ false) × (is_held t ≡ false)) s.tasks
-        (still.free (none_before (ticked_by n) (running s) (sym (find_map is_running (ticked_by n) (λ t. refl) s.tasks) ∙ none)));
+        (still.free (none_before (ticked_by n) (running s)
+        (sym (find_map is_running (ticked_by n) (λ t. refl) s.tasks) ∙ none)));
     busy = λ y runs. let x : (x : Task) × (running s ≡ Some x) × (ticked_by n x ≡ y) = runs_before y runs in
         subst (λ z. left z ≡ 0 → ⊥) x.2 (λ none.
         let some : d ≤ left x.0 = it.done x.0 x.1 in
-        let now : x.0.job.work - (x.0.had + n) ≡ 0 = sym (runs_on n x.0 (found is_running s.tasks x.0 x.1).1) ∙ none in omega arith);
+        let now : x.0.job.work - (x.0.had + n) ≡ 0 = sym (runs_on n x.0 (found is_running s.tasks x.0 x.1).1) ∙ none in
+        omega arith);
     stale = find_map is_fresh (ticked_by n) (λ t. refl) s.tasks ∙ ap (option_map (ticked_by n)) still.stale;
-    ahead = λ y first. let x : (x : Task) × (find is_coming s.tasks ≡ Some x) × (ticked_by n x ≡ y) = comes_before y first in
+    ahead = λ y first. let x : (x : Task) × (find is_coming s.tasks ≡ Some x) × (ticked_by n x ≡ y) =
+        comes_before y first in
         subst (λ z. z.job.release ≡ s.clock + n → ⊥) x.2 (λ now. comes x.0 (cases_lt s.clock x.0.job.release) x.1 now);
     early = λ y runs. let x : (x : Task) × (running s ≡ Some x) × (ticked_by n x ≡ y) = runs_before y runs in
         on_map (ticked_by n) (λ t. is_waiting t ≡ true → latest_start t ≡ s.clock + n → ⊥) s.tasks
-        (λ t member waits now. waits_on t member (still.early x.0 x.1 t member waits) (cases_lt s.clock (latest_start t)) waits
+        (λ t member waits now. waits_on t member (still.early x.0 x.1 t member waits)
+        (cases_lt s.clock (latest_start t)) waits
         (sym (waits_still n t waits) ∙ now));
   } where
-    comes : (c : Task) → (s.clock < c.job.release) ⊎ (c.job.release ≤ s.clock) → find is_coming s.tasks ≡ Some c → c.job.release ≡ s.clock + n → ⊥
+    comes : (c : Task) → (s.clock < c.job.release) ⊎ (c.job.release ≤ s.clock) → find is_coming s.tasks ≡ Some c
+        → c.job.release ≡ s.clock + n → ⊥
     comes c (inl ahead) first now = let at : s.clock + d ≤ c.job.release = it.release c first ahead in omega arith
     comes c (inr past) first now = still.ahead c first (omega arith)
 
-    waits_on : (t : Task) → IsMember t s.tasks → (latest_start t ≡ s.clock → ⊥) → (s.clock < latest_start t) ⊎ (latest_start t ≤ s.clock)
+    waits_on : (t : Task) → IsMember t s.tasks → (latest_start t ≡ s.clock → ⊥) → (s.clock < latest_start t)
+        ⊎ (latest_start t ≤ s.clock)
         → is_waiting t ≡ true
         → latest_start t ≡ s.clock + n → ⊥
     waits_on t member not_now (inl ahead) waits now =
-        let at : s.clock + d ≤ latest_start t = it.before t (filter_member is_waiting s.tasks t member waits) ahead in omega arith
+        let at : s.clock + d ≤ latest_start t = it.before t (filter_member is_waiting s.tasks t member waits) ahead in
+        omega arith
     waits_on t member not_now (inr past) waits now = not_now (omega arith)
 
   -- where something is due, it isn't still
@@ -405,8 +450,10 @@ module _ (s : State) (n : ℕ) where
         → find p (later_by n s).tasks ≡ Some (ticked_by n x)
     found_on p same x e = find_map p (ticked_by n) same s.tasks ∙ ap (option_map (ticked_by n)) e
 
-    waits_due : (o : Option Task) → running s ≡ o → (t : Task) → IsMember t s.tasks → is_waiting t ≡ true → s.clock + n ≡ latest_start t → ⊥
-    waits_due (Some r) runs t member waits now = still.early (ticked_by n r) (found_on is_running (λ t. refl) r runs) (ticked_by n t)
+    waits_due : (o : Option Task) → running s ≡ o → (t : Task) → IsMember t s.tasks → is_waiting t ≡ true
+        → s.clock + n ≡ latest_start t → ⊥
+    waits_due (Some r) runs t member waits now =
+        still.early (ticked_by n r) (found_on is_running (λ t. refl) r runs) (ticked_by n t)
         (map_member (ticked_by n) s.tasks t member) waits (waits_still n t waits ∙ sym now)
     waits_due None none t member waits now = never (sym (still.free
         (find_map is_running (ticked_by n) (λ t. refl) s.tasks ∙ ap (option_map (ticked_by n)) none)
@@ -418,7 +465,8 @@ module _ (s : State) (n : ℕ) where
     by_due (inr (inl it)) = still.busy (ticked_by n it.0) (found_on is_running (λ t. refl) it.0 it.1)
         (let all : n ≡ left it.0 = it.2 in runs_on n it.0 (found is_running s.tasks it.0 it.1).1
         ∙ (let none : it.0.job.work - (it.0.had + n) ≡ 0 = omega arith in none))
-    by_due (inr (inr it)) = let both : IsMember it.job s.tasks × (is_waiting it.job ≡ true) = member_filter is_waiting s.tasks it.job it.member in
+    by_due (inr (inr it)) = let both : IsMember it.job s.tasks × (is_waiting it.job ≡ true) =
+        member_filter is_waiting s.tasks it.job it.member in
         waits_due (running s) refl it.job both.0 both.1 it.now
 
 -- ---- the laws of the jump
@@ -431,7 +479,8 @@ module _ (rules : Rules) (s : State) (most : ℕ) where
 
   -- where it ends early, another step is next
   pub due : still_ticks most s < most → open_step rules (later_by (still_ticks most s) s) ≡ Ticks → ⊥
-  due less ticks = due_on s (still_ticks most s) most (dues s most) (tick_still rules (later_by (still_ticks most s) s) ticks) less
+  due less ticks = due_on s (still_ticks most s) most (dues s most)
+      (tick_still rules (later_by (still_ticks most s) s) ticks) less
 
 -- it is as long as it may be at most
 pub within : (s : State) (most : ℕ) → still_ticks most s ≤ most

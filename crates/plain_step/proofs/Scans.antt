@@ -1,5 +1,6 @@
 -- Sums over a part of a list, and the least of some numbers.
-use Rattle.std.proofs.Common.{◌≡◌, ℕ, zero, suc, ◌+◌, ◌-◌, ◌≤◌, List, [], ◌∷◌, take, map, Bool, true, false, cond, refl, sym, ap, ◌∙◌}
+use Rattle.std.proofs.Common.{◌≡◌, ℕ, zero, suc, ◌+◌, ◌-◌, ◌≤◌, List, [], ◌∷◌, take, map, Bool, true, false, cond, refl}
+use Rattle.std.proofs.Common.{sym, ap, ◌∙◌}
 use Rattle.std.proofs.Common.{subst, arith, min, inl, inr}
 use Rattle.std.specs.Prelude.{nat_le, ◌&&◌}
 use Rattle.std.specs.List.{sum_by, filter, list_all}
@@ -11,7 +12,8 @@ use Rattle.dover_model.proofs.Members.{by_bool, filter_member}
 use Rattle.plain_step.specs.Rooms.{all_fit}
 
 -- a part of a list sums up to at most as much
-pub part_sum : {X : Type 0} (p : X → Bool) (f : X → ℕ) (n : ℕ) (xs : List X) → sum_by f (filter p (take n xs)) ≤ sum_by f xs
+pub part_sum : {X : Type 0} (p : X → Bool) (f : X → ℕ) (n : ℕ) (xs : List X)
+    → sum_by f (filter p (take n xs)) ≤ sum_by f xs
 part_sum p f zero xs = omega arith
 part_sum p f (suc n) [] = omega arith
 part_sum p f (suc n) (x ∷ xs) = by_test (p x) (part_sum p f n xs) where
@@ -38,15 +40,18 @@ least_all amount f x (y ∷ xs) = both_least amount (f x) (least (map f (y ∷ x
 
 -- an element that passes a test is in the filter
 filtered_some : {X : Type 0} (p : X → Bool) (xs : List X) → filter p xs ≡ [] → Each (λ x. p x ≡ false) xs
-filtered_some p xs none x member = by_bool (p x ≡ false) (p x) (λ yes. absurd (subst (IsMember x) none (filter_member p xs x member yes))) (λ no. no)
+filtered_some p xs none x member =
+    by_bool (p x ≡ false) (p x) (λ yes. absurd (subst (IsMember x) none (filter_member p xs x member yes))) (λ no. no)
 
 -- an amount is at most the room where it fits before each member
 pub room_all : (amount clock : ℕ) (p : Task → Bool) (tasks : List Task) → (Each (λ t. p t ≡ false) tasks → ⊥)
     → all_fit amount clock (filter p tasks) ≡ nat_le amount (room clock (filter p tasks))
 room_all amount clock p tasks some = by_list (filter p tasks) refl where
-  by_list : (members : List Task) → filter p tasks ≡ members → all_fit amount clock members ≡ nat_le amount (room clock members)
+  by_list : (members : List Task) → filter p tasks ≡ members
+      → all_fit amount clock members ≡ nat_le amount (room clock members)
   by_list [] e = absurd (some (filtered_some p tasks e))
-  by_list (t ∷ members) e = sym (least_all amount (λ u. u.job.deadline - (clock + demand_up_to (t ∷ members) u)) t members)
+  by_list (t ∷ members) e =
+      sym (least_all amount (λ u. u.job.deadline - (clock + demand_up_to (t ∷ members) u)) t members)
 
 -- where none passes a test, the filter is empty
 pub none_filtered : {X : Type 0} (p : X → Bool) (xs : List X) → Each (λ x. p x ≡ false) xs → filter p xs ≡ []

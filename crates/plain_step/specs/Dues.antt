@@ -25,4 +25,5 @@ until_latest clock most t = ticks_until (latest_start t) clock most
 
 -- before any of these
 abbrev pub still_ticks : ℕ → State → ℕ
-still_ticks most s = fold (until_latest s.clock) (until_done (running s) (until_release s.clock (find is_coming s.tasks) most)) (waiting s)
+still_ticks most s = fold (until_latest s.clock)
+    (until_done (running s) (until_release s.clock (find is_coming s.tasks) most)) (waiting s)

@@ -125,7 +125,8 @@ fn free_step(version: Version, clock: u64, tasks: &[Task]) -> Move
     requires clock { clock ≤ last_tick }
     requires count { length tasks.now ≤ most_jobs }
     requires free { find is_running tasks.now ≡ None }
-    ensures { (k : Fraction) → step_of result ≡ open_step (record { ratio = k; version = version }) (state_at clock tasks.now) }
+    ensures { (k : Fraction)
+        → step_of result ≡ open_step (record { ratio = k; version = version }) (state_at clock tasks.now) }
 {
     if let Some(next) = next_ready(version, clock, tasks) {
         return run(clock, &next);

@@ -43,7 +43,8 @@ pub fn silent_ticks(clock: u64, tasks: &[Task], most: u64) -> u64
     ensures most { result ≤ most }
     ensures silent { (rules : Rules) → open_step rules (state_at clock tasks.now) ≡ Ticks →
         (n : ℕ) → n < result → open_step rules (later_by n (state_at clock tasks.now)) ≡ Ticks }
-    ensures due { (rules : Rules) → result < most → open_step rules (later_by result (state_at clock tasks.now)) ≡ Ticks → ⊥ }
+    ensures due { (rules : Rules) → result < most → open_step rules (later_by result (state_at clock tasks.now)) ≡ Ticks
+        → ⊥ }
 {
     still_ticks(clock, tasks, most)
 }

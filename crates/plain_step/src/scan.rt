@@ -142,7 +142,8 @@ pub fn first_waiting(version: Version, tasks: &[Task]) -> Option<Task>
 
 // Of the waiting jobs at their latest start, the first in that order.
 pub fn first_late(version: Version, clock: u64, tasks: &[Task]) -> Option<Task>
-    ensures { result ≡ first (latest_first version) (filter (is_at_latest_start (state_at clock tasks.now)) (filter is_waiting tasks.now)) }
+    ensures { result ≡ first (latest_first version)
+        (filter (is_at_latest_start (state_at clock tasks.now)) (filter is_waiting tasks.now)) }
 {
     tasks
         .iter()

@@ -1,5 +1,6 @@
 -- The ready jobs, as a run keeps them from tick to tick.
-use Rattle.std.proofs.Common.{◌≡◌, ℕ, suc, zero, ◌+◌, ◌-◌, ◌≤◌, ◌<◌, inl, inr, List, [], ◌∷◌, ◌++◌, length, drop, get_or, map, refl, sym}
+use Rattle.std.proofs.Common.{◌≡◌, ℕ, suc, zero, ◌+◌, ◌-◌, ◌≤◌, ◌<◌, inl, inr, List, [], ◌∷◌, ◌++◌, length, drop}
+use Rattle.std.proofs.Common.{get_or, map, refl, sym}
 use Rattle.std.proofs.Common.{ap, ◌∙◌, subst}
 use Rattle.std.proofs.Common.{Bool, true, false, cond, eqb, arith, add-one, append_assoc}
 use Rattle.std.specs.List.{filter}
@@ -19,7 +20,7 @@ use Rattle.dover_model.proofs.Releasing.{coming_task}
 use Rattle.policy_lab.specs.PolicyRun.{is_ready}
 use Rattle.policy_lab.specs.Bench.{HasReady, given_entry, is_in_time, entry_to_come}
 use Rattle.policy_lab.proofs.Given.{ready_says, says_ready, given_other, given_job, Fits}
-use Rattle.policy_lab.proofs.Taking.{each_behind}
+use Rattle.dover_model.proofs.Taking.{each_behind}
 use Rattle.policy_lab.proofs.Entries.{entries_after}
 
 -- ---- jobs in order
@@ -31,7 +32,8 @@ order_drop (suc n) [] order = tt
 order_drop (suc n) (j ∷ jobs) order = order_drop n jobs order.1
 
 -- where the next job is late, all are
-pub all_late : (t n : ℕ) (jobs : List JobFacts) (j : JobFacts) → IsInOrder jobs → n < length jobs → j ≡ get_or jobs n j → t < j.release
+pub all_late : (t n : ℕ) (jobs : List JobFacts) (j : JobFacts) → IsInOrder jobs → n < length jobs → j ≡ get_or jobs n j
+    → t < j.release
     → Each (λ i. t < i.release) (drop n jobs)
 all_late t n jobs j order short is late = subst (Each (λ i. t < i.release)) (sym rest_is) each where
   rest_is : drop n jobs ≡ j ∷ drop (n + 1) jobs
@@ -42,19 +44,22 @@ all_late t n jobs j order short is late = subst (Each (λ i. t < i.release)) (sy
 
   each : Each (λ i. t < i.release) (j ∷ drop (n + 1) jobs)
   each i (inl e) = subst (λ (k : JobFacts). t < k.release) (sym e) late
-  each i (inr member) = let above : j.release ≤ i.release = all_member (λ k. j.release ≤ k.release) (drop (n + 1) jobs) ordered.0 i member in omega arith
+  each i (inr member) = let above : j.release ≤ i.release =
+      all_member (λ k. j.release ≤ k.release) (drop (n + 1) jobs) ordered.0 i member in omega arith
 
 -- none is left
 pub none_late : (t n : ℕ) (jobs : List JobFacts) → length jobs ≤ n → Each (λ i. t < i.release) (drop n jobs)
 none_late t n jobs long = subst (Each (λ i. t < i.release)) (sym (drop_all n jobs long)) (λ i member. absurd member)
 
 -- what holds of the rest holds of the rest behind the next
-pub rest_behind : (P : JobFacts → Type 0) (n : ℕ) (jobs : List JobFacts) (j : JobFacts) → n < length jobs → Each P (drop n jobs)
+pub rest_behind : (P : JobFacts → Type 0) (n : ℕ) (jobs : List JobFacts) (j : JobFacts) → n < length jobs
+    → Each P (drop n jobs)
     → Each P (drop (n + 1) jobs)
 rest_behind P n jobs j short all = λ i member. all i (subst (IsMember i) (sym (drop_more jobs n j short)) (inr member))
 
 -- what holds of the rest holds of the next
-pub next_of_rest : (P : JobFacts → Type 0) (n : ℕ) (jobs : List JobFacts) (j : JobFacts) → n < length jobs → j ≡ get_or jobs n j
+pub next_of_rest : (P : JobFacts → Type 0) (n : ℕ) (jobs : List JobFacts) (j : JobFacts) → n < length jobs
+    → j ≡ get_or jobs n j
     → Each P (drop n jobs) → P j
 next_of_rest P n jobs j short is all = all j (subst (IsMember j) (sym (drop_more jobs n j short)) (inl is))
 
@@ -64,17 +69,20 @@ next_of_rest P n jobs j short is all = all j (subst (IsMember j) (sym (drop_more
 entry_come : (n : ℕ) (j : JobFacts) → entry_of (coming_task n j) ≡ entry_to_come n j
 entry_come n j = ap (with_left n j) (let e : j.work - 0 ≡ j.work = omega arith in e) where
   with_left : ℕ → JobFacts → ℕ → Entry
-  with_left n j rest = record { number = n; deadline = j.deadline; latest = j.deadline - rest; left = rest; value = j.value }
+  with_left n j rest = record
+      { number = n; deadline = j.deadline; latest = j.deadline - rest; left = rest; value = j.value }
 
 -- one job more is released
-pub ready_more : (t n : ℕ) (jobs : List JobFacts) (entries : List Entry) (tasks : List Task) (j : JobFacts) → HasReady t jobs n entries tasks
+pub ready_more : (t n : ℕ) (jobs : List JobFacts) (entries : List Entry) (tasks : List Task) (j : JobFacts)
+    → HasReady t jobs n entries tasks
     → n < length jobs → j ≡ get_or jobs n j → j.release ≤ t → t ≤ j.release → IsJob j
     → HasReady t jobs (n + 1) (entries ++ (entry_to_come n j ∷ [])) tasks
 ready_more t n jobs entries tasks j has short is released now good = record {
   known = has.known ++ (coming_task n j ∷ []);
   count = one_longer has.known (coming_task n j) ∙ ap (λ m. m + 1) has.count;
   whole =
-      has.whole ∙ ap (λ rest. has.known ++ to_come n rest) rest_is ∙ sym (append_assoc has.known (coming_task n j ∷ []) (to_come (suc n) (drop (n + 1) jobs)))
+      has.whole ∙ ap (λ rest. has.known ++ to_come n rest) rest_is
+      ∙ sym (append_assoc has.known (coming_task n j ∷ []) (to_come (suc n) (drop (n + 1) jobs)))
       ∙ ap (λ m. (has.known ++ (coming_task n j ∷ [])) ++ to_come m (drop (n + 1) jobs)) (sym (add-one n));
   early = each_behind (λ task. task.job.release ≤ t) has.known (coming_task n j) has.early released;
   ready =
@@ -96,21 +104,27 @@ ready_more t n jobs entries tasks j has short is released now good = record {
   one_longer (x ∷ tasks) task = omega (arith, one_longer tasks task)
 
 -- of late jobs none is ready
-none_ready : (t n : ℕ) (jobs : List JobFacts) → Each (λ j. t < j.release) jobs → filter (is_ready t) (to_come n jobs) ≡ []
+none_ready : (t n : ℕ) (jobs : List JobFacts) → Each (λ j. t < j.release) jobs
+    → filter (is_ready t) (to_come n jobs) ≡ []
 none_ready t n [] late = refl
 none_ready t n (j ∷ jobs) late =
-    ap (λ b. cond b (coming_task n j ∷ filter (is_ready t) (to_come (suc n) jobs)) (filter (is_ready t) (to_come (suc n) jobs))) (not_yet (is_ready t (coming_task n j)) refl)
+    ap (λ b. cond b (coming_task n j ∷ filter (is_ready t) (to_come (suc n) jobs))
+    (filter (is_ready t) (to_come (suc n) jobs))) (not_yet (is_ready t (coming_task n j)) refl)
     ∙ none_ready t (suc n) jobs (λ i m. late i (inr m)) where
       not_yet : (b : Bool) → is_ready t (coming_task n j) ≡ b → b ≡ false
       not_yet false h = refl
-      not_yet true h = absurd (let released : j.release ≤ t = (ready_says t (coming_task n j) h).0 in let above : t < j.release = late j (inl refl) in omega arith)
+      not_yet true h = absurd (let released : j.release ≤ t = (ready_says t (coming_task n j) h).0 in
+          let above : t < j.release = late j (inl refl) in omega arith)
 
 -- the entries are those of all ready tasks
-pub all_ready : (t n : ℕ) (jobs : List JobFacts) (entries : List Entry) (tasks : List Task) → HasReady t jobs n entries tasks
+pub all_ready : (t n : ℕ) (jobs : List JobFacts) (entries : List Entry) (tasks : List Task)
+    → HasReady t jobs n entries tasks
     → Each (λ j. t < j.release) (drop n jobs) → entries ≡ map entry_of (filter (is_ready t) tasks)
 all_ready t n jobs entries tasks has late =
-    has.ready ∙ ap (map entry_of) (sym (ap (filter (is_ready t)) has.whole ∙ filter-append (is_ready t) has.known (to_come n (drop n jobs))
-    ∙ ap (λ rest. filter (is_ready t) has.known ++ rest) (none_ready t n (drop n jobs) late) ∙ append_nil (filter (is_ready t) has.known))) where
+    has.ready ∙ ap (map entry_of)
+    (sym (ap (filter (is_ready t)) has.whole ∙ filter-append (is_ready t) has.known (to_come n (drop n jobs))
+    ∙ ap (λ rest. filter (is_ready t) has.known ++ rest) (none_ready t n (drop n jobs) late)
+    ∙ append_nil (filter (is_ready t) has.known))) where
       append_nil : (xs : List Task) → xs ++ [] ≡ xs
       append_nil [] = refl
       append_nil (x ∷ xs) = ap (λ ys. x ∷ ys) (append_nil xs)
@@ -125,11 +139,13 @@ still_to_come t n m (j ∷ jobs) late fits =
     still_to_come t (suc n) m jobs (λ i among. late i (inr among)) (λ task among. fits task (inr among)) in cc where
       stays : (b : Bool) → eqb n m ≡ b → given m (coming_task n j) ≡ coming_task n j
       stays false other = given_other m (coming_task n j) other
-      stays true same = absurd (let released : j.release ≤ t = (ready_says t (coming_task n j) (fits (coming_task n j) (inl refl) same)).0 in
+      stays true same = absurd
+          (let released : j.release ≤ t = (ready_says t (coming_task n j) (fits (coming_task n j) (inl refl) same)).0 in
           let above : t < j.release = late j (inl refl) in omega arith)
 
 -- after a tick
-pub ready_after : (t n m : ℕ) (jobs : List JobFacts) (entries : List Entry) (tasks : List Task) → HasReady t jobs n entries tasks
+pub ready_after : (t n m : ℕ) (jobs : List JobFacts) (entries : List Entry) (tasks : List Task)
+    → HasReady t jobs n entries tasks
     → Each (λ j. t < j.release) (drop n jobs) → Fits m t tasks
     → HasReady (t + 1) jobs n (filter (is_in_time (t + 1)) (map (given_entry m) entries)) (map (given m) tasks)
 ready_after t n m jobs entries tasks has late fits = record {
@@ -138,14 +154,17 @@ ready_after t n m jobs entries tasks has late fits = record {
   whole =
       ap (map (given m)) has.whole ∙ map-append (given m) has.known (to_come n (drop n jobs))
       ∙ ap (λ rest. map (given m) has.known ++ rest) (still_to_come t n m (drop n jobs) late
-      (λ task among. fits task (subst (IsMember task) (sym has.whole) (member_behind has.known (to_come n (drop n jobs)) task among))));
+      (λ task among. fits task
+      (subst (IsMember task) (sym has.whole) (member_behind has.known (to_come n (drop n jobs)) task among))));
   early = on_map (given m) (λ task. task.job.release ≤ t + 1) has.known (λ task among.
       let before : task.job.release ≤ t = has.early task among in
-      subst (λ (j : JobFacts). j.release ≤ t + 1) (sym (given_job m task)) (let later : task.job.release ≤ t + 1 = omega arith in later));
+      subst (λ (j : JobFacts). j.release ≤ t + 1) (sym (given_job m task))
+      (let later : task.job.release ≤ t + 1 = omega arith in later));
   ready =
       ap (λ es. filter (is_in_time (t + 1)) (map (given_entry m) es)) has.ready
       ∙ entries_after m t has.known has.early
-      (λ task among. fits task (subst (IsMember task) (sym has.whole) (member_front has.known (to_come n (drop n jobs)) task among)));
+      (λ task among. fits task
+      (subst (IsMember task) (sym has.whole) (member_front has.known (to_come n (drop n jobs)) task among)));
 } where
   same_length : (xs : List Task) → length (map (given m) xs) ≡ length xs
   same_length [] = refl

@@ -2,7 +2,6 @@ pub mod Given
 pub mod Counts
 pub mod Entries
 pub mod Runs
-pub mod InPlace
 pub mod Taking
 pub mod Stretching
 pub mod Holding

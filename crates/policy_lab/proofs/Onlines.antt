@@ -1,5 +1,6 @@
 -- What a policy picks up to a tick depends on the jobs that are released by then alone.
-use Rattle.std.proofs.Common.{◌≡◌, ℕ, suc, zero, ◌+◌, ◌≤◌, ◌<◌, inl, inr, List, [], ◌∷◌, ◌++◌, length, get_or, map, refl, sym, ap, ◌∙◌}
+use Rattle.std.proofs.Common.{◌≡◌, ℕ, suc, zero, ◌+◌, ◌≤◌, ◌<◌, inl, inr, List, [], ◌∷◌, ◌++◌, length, get_or, map}
+use Rattle.std.proofs.Common.{refl, sym, ap, ◌∙◌}
 use Rattle.std.proofs.Common.{subst, Bool, true, false, cond}
 use Rattle.std.proofs.Common.{arith}
 use Rattle.std.specs.Prelude.{nat_le, None, unwrap_or}
@@ -18,13 +19,15 @@ use Rattle.dover_model.specs.Pieces.{given}
 use Rattle.dover_model.specs.Online.{known_at}
 use Rattle.dover_model.specs.Sound.{IsMember, Each}
 use Rattle.dover_model.proofs.Members.{on_map}
+use Rattle.dover_model.proofs.Prefixes.{come_append}
 use Rattle.dover_model.proofs.Valid.{Split, split_known}
 use Rattle.policy_lab.specs.Picks.{Picks}
 use Rattle.policy_lab.specs.PolicyRun.{is_ready, picked, policy_run_from, policy_run}
 use Rattle.policy_lab.proofs.Given.{ready_says, given_job}
 
 -- of tasks that can't be ready none is
-none_ready : (t : ℕ) (tasks : List Task) → Each (λ task. is_ready t task ≡ true → ⊥) tasks → filter (is_ready t) tasks ≡ []
+none_ready : (t : ℕ) (tasks : List Task) → Each (λ task. is_ready t task ≡ true → ⊥) tasks
+    → filter (is_ready t) tasks ≡ []
 none_ready t [] never = refl
 none_ready t (task ∷ tasks) never =
     ap (λ b. cond b (task ∷ filter (is_ready t) tasks) (filter (is_ready t) tasks)) (not_so (is_ready t task) refl)
@@ -39,21 +42,26 @@ seen picks zero t tasks = picked picks t tasks
 seen picks (suc ticks) t tasks = seen picks ticks (t + 1) (map (given (picked picks t tasks)) tasks)
 
 -- what a tick does to tasks changes none of their jobs
-each_given : (P : JobFacts → Type 0) (n : ℕ) (tasks : List Task) → Each (λ task. P task.job) tasks → Each (λ task. P task.job) (map (given n) tasks)
-each_given P n tasks all = on_map (given n) (λ task. P task.job) tasks (λ task m. subst P (sym (given_job n task)) (all task m))
+each_given : (P : JobFacts → Type 0) (n : ℕ) (tasks : List Task) → Each (λ task. P task.job) tasks
+    → Each (λ task. P task.job) (map (given n) tasks)
+each_given P n tasks all =
+    on_map (given n) (λ task. P task.job) tasks (λ task m. subst P (sym (given_job n task)) (all task m))
 
 module _ (picks : Picks) (idles : picks [] ≡ None) where
   -- behind all deadlines nothing is picked
-  none_behind : (ticks t : ℕ) (tasks : List Task) → Each (λ task. task.job.deadline ≤ t) tasks → seen picks ticks t tasks ≡ 1_000_000
+  none_behind : (ticks t : ℕ) (tasks : List Task) → Each (λ task. task.job.deadline ≤ t) tasks
+      → seen picks ticks t tasks ≡ 1_000_000
   none_behind zero t tasks over =
       ap (λ ready. unwrap_or (picks (map entry_of ready)) 1_000_000)
       (none_ready t tasks (λ task m ready.
-      let says : (task.job.release ≤ t) × (0 < left task) × (t + left task ≤ task.job.deadline) = ready_says t task ready in
+      let says : (task.job.release ≤ t) × (0 < left task) × (t + left task ≤ task.job.deadline) =
+      ready_says t task ready in
       let due : task.job.deadline ≤ t = over task m in
       let some : 0 < left task = says.1 in let fits : t + left task ≤ task.job.deadline = says.2 in omega arith))
       ∙ ap (λ o. unwrap_or o 1_000_000) idles
   none_behind (suc ticks) t tasks over = none_behind ticks (t + 1) (map (given (picked picks t tasks)) tasks)
-      (each_given (λ j. j.deadline ≤ t + 1) (picked picks t tasks) tasks (λ task m. let due : task.job.deadline ≤ t = over task m in omega arith))
+      (each_given (λ j. j.deadline ≤ t + 1) (picked picks t tasks) tasks
+      (λ task m. let due : task.job.deadline ≤ t = over task m in omega arith))
 
   -- jobs that are released later change nothing of what is picked before
   unseen : (t last : ℕ) (known later : List Task) → t ≤ last → Each (λ task. last < task.job.release) later
@@ -62,14 +70,16 @@ module _ (picks : Picks) (idles : picks [] ≡ None) where
       (filter-append (is_ready t) known later
       ∙ ap (λ rest. filter (is_ready t) known ++ rest)
       (none_ready t later (λ task m ready.
-      let released : task.job.release ≤ t = (ready_says t task ready).0 in let above : last < task.job.release = late task m in omega arith))
+      let released : task.job.release ≤ t = (ready_says t task ready).0 in let above : last < task.job.release =
+      late task m in omega arith))
       ∙ append_nil (filter (is_ready t) known)) where
         append_nil : (xs : List Task) → xs ++ [] ≡ xs
         append_nil [] = refl
         append_nil (x ∷ xs) = ap (λ ys. x ∷ ys) (append_nil xs)
 
   -- what a run picks at a tick depends on the known tasks alone
-  alone : (last ticks n t : ℕ) (known later : List Task) → t + ticks ≤ last → Each (λ task. last < task.job.release) later
+  alone : (last ticks n t : ℕ) (known later : List Task) → t + ticks ≤ last
+      → Each (λ task. last < task.job.release) later
       → Each (λ task. task.job.deadline ≤ t + n) known
       → get_or (policy_run_from picks n t (known ++ later)) ticks 1_000_000 ≡ seen picks ticks t known
   alone last ticks zero t known later early late due =
@@ -78,8 +88,10 @@ module _ (picks : Picks) (idles : picks [] ≡ None) where
   alone last (suc ticks) (suc n) t known later early late due =
       ap (λ tasks. get_or (policy_run_from picks n (t + 1) tasks) ticks 1_000_000)
       (ap (λ m. map (given m) (known ++ later)) same ∙ map-append (given number) known later)
-      ∙ alone last ticks n (t + 1) (map (given number) known) (map (given number) later) (omega arith) (each_given (λ j. last < j.release) number later late)
-      (each_given (λ j. j.deadline ≤ t + 1 + n) number known (λ task m. let at_most : task.job.deadline ≤ t + suc n = due task m in omega arith)) where
+      ∙ alone last ticks n (t + 1) (map (given number) known) (map (given number) later) (omega arith)
+      (each_given (λ j. last < j.release) number later late)
+      (each_given (λ j. j.deadline ≤ t + 1 + n) number known
+      (λ task m. let at_most : task.job.deadline ≤ t + suc n = due task m in omega arith)) where
         number : ℕ
         number = picked picks t known
 
@@ -98,25 +110,24 @@ later_is d j = by_test (nat_le d j.deadline) refl where
   by_test false h = let low : j.deadline < d = leb-false _ _ h in (omega arith, omega arith)
 
 -- no deadline is greater than the greatest
-greatest : (jobs : List JobFacts) (d : ℕ) → (d ≤ fold later_of d jobs) × Each (λ j. j.deadline ≤ fold later_of d jobs) jobs
+greatest : (jobs : List JobFacts) (d : ℕ) → (d ≤ fold later_of d jobs)
+    × Each (λ j. j.deadline ≤ fold later_of d jobs) jobs
 greatest [] d = (omega arith, λ j member. absurd member)
 greatest (j ∷ jobs) d = with_first (greatest jobs (later_of d j)) where
-  with_first : (later_of d j ≤ fold later_of (later_of d j) jobs) × Each (λ i. i.deadline ≤ fold later_of (later_of d j) jobs) jobs
+  with_first : (later_of d j ≤ fold later_of (later_of d j) jobs)
+      × Each (λ i. i.deadline ≤ fold later_of (later_of d j) jobs) jobs
       → (d ≤ fold later_of (later_of d j) jobs) × Each (λ i. i.deadline ≤ fold later_of (later_of d j) jobs) (j ∷ jobs)
   with_first rest = (omega (arith, (later_is d j).0, rest.0), each rest.0 rest.1) where
-    each : later_of d j ≤ fold later_of (later_of d j) jobs → Each (λ i. i.deadline ≤ fold later_of (later_of d j) jobs) jobs
+    each : later_of d j ≤ fold later_of (later_of d j) jobs
+        → Each (λ i. i.deadline ≤ fold later_of (later_of d j) jobs) jobs
         → Each (λ i. i.deadline ≤ fold later_of (later_of d j) jobs) (j ∷ jobs)
-    each most of_rest i (inl e) = let same : i.deadline ≡ j.deadline = ap (λ (x : JobFacts). x.deadline) e in omega (arith, (later_is d j).1, most)
+    each most of_rest i (inl e) = let same : i.deadline ≡ j.deadline = ap (λ (x : JobFacts). x.deadline) e in
+        omega (arith, (later_is d j).1, most)
     each most of_rest i (inr member) = of_rest i member
 
--- jobs to come, and those behind them
-come_append : (n : ℕ) (jobs more : List JobFacts) → to_come n (jobs ++ more) ≡ to_come n jobs ++ to_come (n + length jobs) more
-come_append n [] more = ap (λ m. to_come m more) (let e : n ≡ n + 0 = omega arith in e)
-come_append n (j ∷ jobs) more = ap (λ ts. record { number = n; job = j; role = Coming; had = 0 } ∷ ts)
-    (come_append (suc n) jobs more ∙ ap (λ m. to_come (suc n) jobs ++ to_come m more) (let e : suc n + length jobs ≡ n + suc (length jobs) = omega arith in e))
-
 -- of the jobs of tasks that are to come
-each_come : (P : JobFacts → Type 0) (n : ℕ) (jobs : List JobFacts) → Each P jobs → Each (λ task. P task.job) (to_come n jobs)
+each_come : (P : JobFacts → Type 0) (n : ℕ) (jobs : List JobFacts) → Each P jobs
+    → Each (λ task. P task.job) (to_come n jobs)
 each_come P n [] all task member = absurd member
 each_come P n (j ∷ jobs) all task (inl e) = subst (λ (u : Task). P u.job) (sym e) (all j (inl refl))
 each_come P n (j ∷ jobs) all task (inr member) = each_come P (suc n) jobs (λ i m. all i (inr m)) task member
@@ -128,10 +139,14 @@ module _ (picks : Picks) (idles : picks [] ≡ None) (t : ℕ) where
   by_known jobs order tick early =
       ap (λ tasks. get_or (policy_run_from picks (last_deadline jobs) 0 tasks) tick 1_000_000)
       (ap (to_come 0) parts.whole ∙ come_append 0 (known_at t jobs) parts.more)
-      ∙ alone picks idles t tick (last_deadline jobs) 0 (to_come 0 (known_at t jobs)) (to_come (0 + length (known_at t jobs)) parts.more) (omega arith)
-      (each_come (λ j. t < j.release) (0 + length (known_at t jobs)) parts.more (λ j m. let late : t + 1 ≤ j.release = parts.late j m in omega arith))
+      ∙ alone picks idles t tick (last_deadline jobs) 0 (to_come 0 (known_at t jobs))
+      (to_come (0 + length (known_at t jobs)) parts.more) (omega arith)
+      (each_come (λ j. t < j.release) (0 + length (known_at t jobs)) parts.more
+      (λ j m. let late : t + 1 ≤ j.release = parts.late j m in omega arith))
       (each_come (λ j. j.deadline ≤ 0 + last_deadline jobs) 0 (known_at t jobs) (λ j m.
-      let due : j.deadline ≤ last_deadline jobs = (greatest jobs 0).1 j (subst (IsMember j) (sym parts.whole) (in_front (known_at t jobs) parts.more j m)) in omega arith)) where
+      let due : j.deadline ≤ last_deadline jobs =
+      (greatest jobs 0).1 j (subst (IsMember j) (sym parts.whole) (in_front (known_at t jobs) parts.more j m)) in
+      omega arith)) where
         parts : Split t jobs
         parts = split_known t jobs order
 
@@ -141,7 +156,8 @@ module _ (picks : Picks) (idles : picks [] ≡ None) (t : ℕ) where
         in_front (y ∷ xs) ys x (inr member) = inr (in_front xs ys x member)
 
 -- the schedules of a policy agree where the known jobs do
-pub on_line : (picks : Picks) (t : ℕ) (jobs others : List JobFacts) → picks [] ≡ None → IsInOrder jobs → IsInOrder others
+pub on_line : (picks : Picks) (t : ℕ) (jobs others : List JobFacts) → picks [] ≡ None → IsInOrder jobs
+    → IsInOrder others
     → known_at t jobs ≡ known_at t others → (tick : ℕ) → tick ≤ t
     → get_or (policy_run picks jobs) tick 1_000_000 ≡ get_or (policy_run picks others) tick 1_000_000
 on_line picks t jobs others idles order order2 same tick early =

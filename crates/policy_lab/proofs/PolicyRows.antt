@@ -9,7 +9,8 @@ use Rattle.policy_lab.specs.Standard.{earliest_deadline, greatest_density}
 
 -- what the machine's run is worth, and the schedules of the two policies
 abbrev values : Instance → List ℕ
-values J = completed_value J ∷ worth J (policy_run earliest_deadline J.jobs) ∷ worth J (policy_run greatest_density J.jobs) ∷ []
+values J = completed_value J ∷ worth J (policy_run earliest_deadline J.jobs) ∷ worth J
+    (policy_run greatest_density J.jobs) ∷ []
 
 -- a job that the machine takes late
 taken : values (one 1 1 (job 0 10 10 10 ∷ job 0 21 21 21 ∷ [])) ≡ 21 ∷ 10 ∷ 10 ∷ []

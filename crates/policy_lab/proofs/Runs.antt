@@ -1,5 +1,6 @@
 -- A policy's run, tick by tick: its tasks, its schedule, and what it is worth.
-use Rattle.std.proofs.Common.{◌≡◌, ℕ, suc, zero, ◌+◌, ◌-◌, ◌≤◌, ◌<◌, inl, inr, List, [], ◌∷◌, ◌++◌, length, map, refl, sym, ap, ◌∙◌, Bool}
+use Rattle.std.proofs.Common.{◌≡◌, ℕ, suc, zero, ◌+◌, ◌-◌, ◌≤◌, ◌<◌, inl, inr, List, [], ◌∷◌, ◌++◌, length, map, refl}
+use Rattle.std.proofs.Common.{sym, ap, ◌∙◌, Bool}
 use Rattle.std.proofs.Common.{true, false, cond}
 use Rattle.std.proofs.Common.{eqb, arith, add-one, append_assoc, append-nil}
 use Rattle.std.specs.Prelude.{nat_le, Option, Some, None, unwrap_or}
@@ -15,6 +16,7 @@ use Rattle.dover_model.specs.Schedules.{ticks_given, is_served, worth}
 use Rattle.dover_model.specs.Pieces.{given}
 use Rattle.dover_model.specs.Run.{last_deadline}
 use Rattle.dover_model.specs.Sound.{IsMember, Each, IsNumberedFrom, jobs_of}
+use Rattle.dover_model.proofs.Kept.{come_numbered, come_jobs}
 use Rattle.dover_model.proofs.Members.{on_map, sum_same}
 use Rattle.dover_model.proofs.Roles.{numbered_map, one_number}
 use Rattle.dover_model.proofs.Serving.{given_nil}
@@ -28,14 +30,6 @@ use Rattle.policy_lab.proofs.Entries.{are_ready, number_ready}
 
 -- ---- numbers and jobs
 
-pub come_numbered : (n : ℕ) (jobs : List JobFacts) → IsNumberedFrom n (to_come n jobs)
-come_numbered n [] = tt
-come_numbered n (j ∷ jobs) = (refl, come_numbered (suc n) jobs)
-
-come_jobs : (n : ℕ) (jobs : List JobFacts) → jobs_of (to_come n jobs) ≡ jobs
-come_jobs n [] = refl
-come_jobs n (j ∷ jobs) = ap (λ js. j ∷ js) (come_jobs (suc n) jobs)
-
 jobs_given : (n : ℕ) (tasks : List Task) → jobs_of (map (given n) tasks) ≡ jobs_of tasks
 jobs_given n [] = refl
 jobs_given n (task ∷ tasks) = let here : (given n task).job ≡ task.job = given_job n task in
@@ -45,7 +39,8 @@ module _ (picks : Picks) (jobs : List JobFacts) where
   -- the tasks keep their numbers
   pub numbered_at : (t : ℕ) → IsNumberedFrom 0 (tasks_at picks jobs t)
   numbered_at zero = come_numbered 0 jobs
-  numbered_at (suc t) = numbered_map (given (picked picks t (tasks_at picks jobs t))) (given_number (picked picks t (tasks_at picks jobs t))) 0
+  numbered_at (suc t) = numbered_map (given (picked picks t (tasks_at picks jobs t)))
+      (given_number (picked picks t (tasks_at picks jobs t))) 0
       (tasks_at picks jobs t) (numbered_at t)
 
   -- and their jobs
@@ -54,24 +49,31 @@ module _ (picks : Picks) (jobs : List JobFacts) where
   jobs_at (suc t) = jobs_given (picked picks t (tasks_at picks jobs t)) (tasks_at picks jobs t) ∙ jobs_at t
 
   -- the tick behind t
-  pub tasks_next : (t : ℕ) → tasks_at picks jobs (t + 1) ≡ map (given (picked picks t (tasks_at picks jobs t))) (tasks_at picks jobs t)
+  pub tasks_next : (t : ℕ)
+      → tasks_at picks jobs (t + 1) ≡ map (given (picked picks t (tasks_at picks jobs t))) (tasks_at picks jobs t)
   tasks_next t = ap (tasks_at picks jobs) (add-one t)
 
-  pub schedule_next : (t : ℕ) → schedule_before picks jobs (t + 1) ≡ schedule_before picks jobs t ++ (picked picks t (tasks_at picks jobs t) ∷ [])
+  pub schedule_next : (t : ℕ)
+      → schedule_before picks jobs (t + 1) ≡ schedule_before picks jobs t
+      ++ (picked picks t (tasks_at picks jobs t) ∷ [])
   schedule_next t = ap (schedule_before picks jobs) (add-one t)
 
   -- the schedule has a place for each tick
   pub schedule_length : (t : ℕ) → length (schedule_before picks jobs t) ≡ t
   schedule_length zero = refl
-  schedule_length (suc t) = one_longer (schedule_before picks jobs t) (picked picks t (tasks_at picks jobs t)) ∙ ap (λ n. n + 1) (schedule_length t) ∙ add-one t
+  schedule_length (suc t) = one_longer (schedule_before picks jobs t) (picked picks t (tasks_at picks jobs t))
+      ∙ ap (λ n. n + 1) (schedule_length t) ∙ add-one t
 
   -- what comes before tick t, and from it on, is the whole
   split_at : (n t m : ℕ) → m ≡ t + n
       → schedule_before picks jobs t ++ policy_run_from picks n t (tasks_at picks jobs t) ≡ schedule_before picks jobs m
-  split_at zero t m e = append-nil (schedule_before picks jobs t) ∙ ap (schedule_before picks jobs) (let same : t ≡ m = omega arith in same)
+  split_at zero t m e = append-nil (schedule_before picks jobs t)
+      ∙ ap (schedule_before picks jobs) (let same : t ≡ m = omega arith in same)
   split_at (suc n) t m e =
-      sym (append_assoc (schedule_before picks jobs t) (picked picks t (tasks_at picks jobs t) ∷ []) (policy_run_from picks n (t + 1) (tasks_at picks jobs (suc t))))
-      ∙ ap (λ u. schedule_before picks jobs (suc t) ++ policy_run_from picks n u (tasks_at picks jobs (suc t))) (add-one t)
+      sym (append_assoc (schedule_before picks jobs t) (picked picks t (tasks_at picks jobs t) ∷ [])
+      (policy_run_from picks n (t + 1) (tasks_at picks jobs (suc t))))
+      ∙ ap (λ u. schedule_before picks jobs (suc t) ++ policy_run_from picks n u (tasks_at picks jobs (suc t)))
+      (add-one t)
       ∙ split_at n (suc t) m (omega arith)
 
   -- the policy's run, as the schedule of the ticks before the last deadline
@@ -82,7 +84,8 @@ module _ (picks : Picks) (jobs : List JobFacts) where
     -- no job has the number that names none
     pub low_numbers : (t : ℕ) → Each (λ task. task.number < 10_000) (tasks_at picks jobs t)
     low_numbers t task member =
-        let low : task.number < 0 + length (tasks_at picks jobs t) = numbers_low 0 (tasks_at picks jobs t) (numbered_at t) task member in
+        let low : task.number < 0 + length (tasks_at picks jobs t) =
+        numbers_low 0 (tasks_at picks jobs t) (numbered_at t) task member in
         omega (arith, count_jobs (tasks_at picks jobs t), ap length (jobs_at t))
 
     -- each tick goes to a job that is ready
@@ -105,12 +108,14 @@ module _ (picks : Picks) (jobs : List JobFacts) where
           ap (is_ready t) is_it ∙ it.2
 
     -- the ticks so far are those that the jobs had
-    gave : (t : ℕ) → Each (λ task. ticks_given (schedule_before picks jobs t) task.number task.job ≡ task.had) (tasks_at picks jobs t)
-    gave zero task member = given_nil (λ m. eqb m task.number) task.job.release task.job.deadline ∙ sym (none_had 0 jobs task member) where
-      none_had : (n : ℕ) (js : List JobFacts) → Each (λ (u : Task). u.had ≡ 0) (to_come n js)
-      none_had n [] u m = absurd m
-      none_had n (j ∷ js) u (inl e) = ap (λ (v : Task). v.had) e
-      none_had n (j ∷ js) u (inr m) = none_had (suc n) js u m
+    gave : (t : ℕ) → Each (λ task. ticks_given (schedule_before picks jobs t) task.number task.job ≡ task.had)
+        (tasks_at picks jobs t)
+    gave zero task member = given_nil (λ m. eqb m task.number) task.job.release task.job.deadline
+        ∙ sym (none_had 0 jobs task member) where
+          none_had : (n : ℕ) (js : List JobFacts) → Each (λ (u : Task). u.had ≡ 0) (to_come n js)
+          none_had n [] u m = absurd m
+          none_had n (j ∷ js) u (inl e) = ap (λ (v : Task). v.had) e
+          none_had n (j ∷ js) u (inr m) = none_had (suc n) js u m
     gave (suc t) later among = one_more (gave t) later among where
       tasks : List Task
       tasks = tasks_at picks jobs t
@@ -126,28 +131,35 @@ module _ (picks : Picks) (jobs : List JobFacts) where
       one_more before = on_map (given n) (λ task. ticks_given (past ++ (n ∷ [])) task.number task.job ≡ task.had) tasks
           (λ task member. by_test task member (eqb task.number n) refl) where
             by_test : (task : Task) → IsMember task tasks → (b : Bool) → eqb task.number n ≡ b
-                → ticks_given (past ++ (n ∷ [])) (cond b (record task { had = task.had + 1 }) task).number (cond b (record task { had = task.had + 1 }) task).job
+                → ticks_given (past ++ (n ∷ [])) (cond b (record task { had = task.had + 1 }) task).number
+                (cond b (record task { had = task.had + 1 }) task).job
                 ≡ (cond b (record task { had = task.had + 1 }) task).had
             by_test task member true same =
-                let says : (task.job.release ≤ t) × (0 < left task) × (t + left task ≤ task.job.deadline) = ready_says t task (fits_at t task member same) in
+                let says : (task.job.release ≤ t) × (0 < left task) × (t + left task ≤ task.job.deadline) =
+                ready_says t task (fits_at t task member same) in
                 let released : task.job.release ≤ t = says.0 in
                 let some : 0 < left task = says.1 in
                 let fits : t + left task ≤ task.job.deadline = says.2 in
-                given_hit (λ m. eqb m task.number) n (eq-eqb n task.number (sym (eqb-true task.number n same))) past task.job.release task.job.deadline
-                (omega (arith, schedule_length t)) (omega (arith, schedule_length t)) ∙ ap (λ had. had + 1) (before task member)
+                given_hit (λ m. eqb m task.number) n
+                (eq-eqb n task.number (sym (eqb-true task.number n same))) past task.job.release task.job.deadline
+                (omega (arith, schedule_length t)) (omega (arith, schedule_length t))
+                ∙ ap (λ had. had + 1) (before task member)
             by_test task member false other =
-                given_miss (λ m. eqb m task.number) n (ne_eqb n task.number (λ same. clash (eq-eqb task.number n (sym same)))) past
+                given_miss (λ m. eqb m task.number) n
+                (ne_eqb n task.number (λ same. clash (eq-eqb task.number n (sym same)))) past
                 task.job.release task.job.deadline ∙ before task member where
                   clash : eqb task.number n ≡ true → ⊥
                   clash same = let e : true ≡ false = sym same ∙ other in cc
 
     -- the value of a schedule so far is that of the jobs served fully
     pub worth_before : (rules : Rules) (t : ℕ)
-        → worth (record { rules = rules; jobs = jobs }) (schedule_before picks jobs t) ≡ served_value (tasks_at picks jobs t)
+        → worth (record { rules = rules; jobs = jobs }) (schedule_before picks jobs t) ≡ served_value
+        (tasks_at picks jobs t)
     worth_before rules t =
         ap (λ js. sum_by (λ n_j. cond (is_served past n_j) n_j.1.value 0) (enumerate_from 0 js)) (sym (jobs_at t))
         ∙ sum_tasks (λ n_j. cond (is_served past n_j) n_j.1.value 0) 0 tasks (numbered_at t)
-        ∙ sum_same (λ task. cond (is_served past (task.number, task.job)) task.job.value 0) (λ task. cond (eqb (left task) 0) task.job.value 0) tasks
+        ∙ sum_same (λ task. cond (is_served past (task.number, task.job)) task.job.value 0)
+        (λ task. cond (eqb (left task) 0) task.job.value 0) tasks
         (λ task member. ap (λ b. cond b task.job.value 0)
         (ap (nat_le task.job.work) (gave t task member) ∙ done task.job.work task.had)) where
           tasks : List Task
@@ -161,5 +173,6 @@ module _ (picks : Picks) (jobs : List JobFacts) where
 
     -- what the whole run is worth
     pub worth_is : (rules : Rules)
-        → worth (record { rules = rules; jobs = jobs }) (policy_run picks jobs) ≡ served_value (tasks_at picks jobs (last_deadline jobs))
+        → worth (record { rules = rules; jobs = jobs }) (policy_run picks jobs) ≡ served_value
+        (tasks_at picks jobs (last_deadline jobs))
     worth_is rules = ap (worth (record { rules = rules; jobs = jobs })) run_is ∙ worth_before rules (last_deadline jobs)

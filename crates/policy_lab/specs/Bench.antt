@@ -1,5 +1,6 @@
 -- What a policy's run has come to before a tick.
-use Rattle.std.specs.Prelude.{◌≡◌, ◌≤◌, ℕ, zero, suc, ◌+◌, ◌-◌, List, [], ◌∷◌, ◌++◌, length, drop, map, Bool, ◌&&◌, ◌==◌, nat_lt, nat_le}
+use Rattle.std.specs.Prelude.{◌≡◌, ◌≤◌, ℕ, zero, suc, ◌+◌, ◌-◌, List, [], ◌∷◌, ◌++◌, length, drop, map, Bool, ◌&&◌}
+use Rattle.std.specs.Prelude.{◌==◌, nat_lt, nat_le}
 use Rattle.std.specs.Prelude.{if◌then◌else◌}
 use Rattle.std.specs.List.{filter, sum_by}
 use Rattle.dover_model.specs.declared.events.Task.{Task}
@@ -41,14 +42,16 @@ is_in_time t e = nat_lt 0 e.left && nat_le (t + e.left) e.deadline
 
 -- the entry of a job that is to come
 abbrev pub entry_to_come : ℕ → JobFacts → Entry
-entry_to_come n j = record { number = n; deadline = j.deadline; latest = j.deadline - j.work; left = j.work; value = j.value }
+entry_to_come n j = record
+    { number = n; deadline = j.deadline; latest = j.deadline - j.work; left = j.work; value = j.value }
 
 -- a stretch of this number, which ends where tick t begins
 abbrev pub goes_on : ℕ → ℕ → Piece → Bool
 goes_on t number piece = (piece.number == number) && (piece.until == t)
 
 -- so many of the jobs are released by tick t, and the entries are those of them that are ready
-pub record HasReady (t : ℕ) (jobs : List JobFacts) (released : ℕ) (entries : List Entry) (tasks : List Task) : Type 0 where
+pub record HasReady (t : ℕ) (jobs : List JobFacts) (released : ℕ) (entries : List Entry)
+    (tasks : List Task) : Type 0 where
   pub known : List Task
   pub count : length known ≡ released
   pub whole : tasks ≡ known ++ to_come released (drop released jobs)
@@ -56,7 +59,8 @@ pub record HasReady (t : ℕ) (jobs : List JobFacts) (released : ℕ) (entries :
   pub ready : entries ≡ map entry_of (filter (is_ready t) known)
 
 -- what a run has come to before tick t: its ready jobs, the value that it has served, and its stretches
-pub record HasRun (picks : Picks) (jobs : List JobFacts) (t released value : ℕ) (entries : List Entry) (pieces : List Piece) : Type 0 where
+pub record HasRun (picks : Picks) (jobs : List JobFacts) (t released value : ℕ) (entries : List Entry)
+    (pieces : List Piece) : Type 0 where
   pub ready : HasReady t jobs released entries (tasks_at picks jobs t)
   pub later : Each (λ j. t ≤ j.release) (drop released jobs)
   pub served : value ≡ served_value (tasks_at picks jobs t)

@@ -24,7 +24,8 @@ module _ (before : Entry → Entry → Bool) where
   -- the number of the first entry is one of them
   pub first_picks : IsPolicy (λ entries. option_map number_of (first before entries))
   first_picks [] ready = refl
-  first_picks (e ∷ entries) ready = map_member number_of (e ∷ entries) (fold (earlier before) e entries) (fold_member entries e)
+  first_picks (e ∷ entries) ready =
+      map_member number_of (e ∷ entries) (fold (earlier before) e entries) (fold_member entries e)
 
 pub deadlines_pick : IsPolicy earliest_deadline
 deadlines_pick = first_picks is_due_first

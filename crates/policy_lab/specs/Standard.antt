@@ -11,7 +11,8 @@ is_due_first a b = nat_lt a.deadline b.deadline || ((a.deadline == b.deadline) &
 
 -- worth more for each tick left than b, ties to the smaller number
 abbrev pub is_denser : Entry → Entry → Bool
-is_denser a b = nat_lt (b.value * a.left) (a.value * b.left) || ((a.value * b.left == b.value * a.left) && nat_lt a.number b.number)
+is_denser a b = nat_lt (b.value * a.left) (a.value * b.left) ||
+    ((a.value * b.left == b.value * a.left) && nat_lt a.number b.number)
 
 -- earliest deadline first
 abbrev pub earliest_deadline : Picks

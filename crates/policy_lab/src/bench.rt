@@ -1,5 +1,6 @@
 //! A policy's run under way.
-ghost use Rattle.std.specs.Prelude.{◌≡◌, ◌≢◌, ◌≤◌, ◌<◌, ◌+◌, ◌-◌, ℕ, List, [], ◌∷◌, ◌++◌, length, drop, slice_get, false, IfOk, OnOk};
+ghost use Rattle.std.specs.Prelude.{◌≡◌, ◌≢◌, ◌≤◌, ◌<◌, ◌+◌, ◌-◌, ℕ, List, [], ◌∷◌, ◌++◌, length, drop, slice_get};
+ghost use Rattle.std.specs.Prelude.{false, IfOk, OnOk};
 ghost use Rattle.std.specs.Option.{option_map_or};
 ghost use Rattle.dover_model.specs.Limits.{idle, most_total};
 ghost use Rattle.dover_model.specs.JobFacts.{IsJob};
@@ -31,7 +32,8 @@ struct Bench {
 fn release(jobs: &[Job], before: usize, tick: u64, ready: &mut Vec<Entry>) -> Result<usize, Memory>
     requires in_order { IsInOrder jobs.now }
     requires count { length jobs.now ≤ 10_000 }
-    ensures ready { (tasks : List Task) → HasReady tick jobs.now before ready.old.items tasks → Each (λ j. tick ≤ j.release) (drop before jobs.now) →
+    ensures ready { (tasks : List Task) → HasReady tick jobs.now before ready.old.items tasks
+        → Each (λ j. tick ≤ j.release) (drop before jobs.now) →
         IfOk result (λ released. HasReady tick jobs.now released ready.new.items tasks) }
     ensures later { Each (λ j. tick ≤ j.release) (drop before jobs.now) →
         IfOk result (λ released. Each (λ j. tick < j.release) (drop released jobs.now)) }
@@ -101,7 +103,8 @@ impl Bench {
         requires count { length jobs.now ≤ 10_000 }
         requires total { total_value jobs.now ≤ most_total }
         requires tick { tick < 100_000 }
-        requires run { HasRun (P.picks policy.now) jobs.now tick self.old.released self.old.value self.old.ready.items self.old.pieces.items }
+        requires run { HasRun (P.picks policy.now) jobs.now tick self.old.released self.old.value self.old.ready.items
+            self.old.pieces.items }
         ensures { OnOk result
             (HasRun (P.picks policy.now) jobs.now (tick + 1) self.new.released self.new.value self.new.ready.items self.new.pieces.items) }
     {
@@ -129,7 +132,8 @@ pub fn run_ticks<P: Policy>(
     requires total { total_value jobs.now ≤ most_total }
     requires ticks { ticks ≤ 100_000 }
     ensures value { IfOk result (λ outcome. outcome.0 ≡ served_value (tasks_at (P.picks policy.now) jobs.now ticks)) }
-    ensures pieces { IfOk result (λ outcome. outcome.1.items ≡ stretches (schedule_before (P.picks policy.now) jobs.now ticks)) }
+    ensures pieces { IfOk result
+        (λ outcome. outcome.1.items ≡ stretches (schedule_before (P.picks policy.now) jobs.now ticks)) }
 {
     let mut bench = Bench::new(alloc);
     for t in 0..ticks {

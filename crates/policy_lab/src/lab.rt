@@ -39,14 +39,16 @@ pub enum LabFault {
 }
 
 /// Runs the policy over these jobs, whose releases never fall along the list and whose values sum to at most 10^13.
-/// TooLarge exactly where there are more than 10,000 jobs or a deadline is above 100,000. Otherwise want of memory is the only error.
+/// TooLarge exactly where there are more than 10,000 jobs or a deadline is above 100,000. Otherwise want of memory is
+/// the only error.
 pub fn run_policy<P: Policy>(alloc: Global, policy: &P, jobs: &[Job]) -> Result<Outcome, LabFault>
     requires in_order { IsInOrder jobs.now }
     requires total { total_value jobs.now ≤ most_total }
     ensures too_large { (result ≡ Err LabFault.TooLarge) ↔ AreTooLarge jobs.now }
     ensures value { (rules : Rules) → IfOk result (λ outcome.
         outcome.value ≡ worth (record { rules = rules; jobs = jobs.now }) (policy_run (P.picks policy.now) jobs.now)) }
-    ensures pieces { IfOk result (λ outcome. outcome.pieces.items ≡ stretches (policy_run (P.picks policy.now) jobs.now)) }
+    ensures pieces { IfOk result
+        (λ outcome. outcome.pieces.items ≡ stretches (policy_run (P.picks policy.now) jobs.now)) }
 {
     let ticks = last_deadline(jobs);
     if jobs.len() > MOST_JOBS {

@@ -10,7 +10,8 @@ pub trait Policy {
     /// The number that the policy picks, which depends on the list alone.
     ghost picks: { Self → List Entry → Option ℕ };
 
-    /// The number of one of these entries, whose numbers differ and of which each has work left. None exactly where there are none.
+    /// The number of one of these entries, whose numbers differ and of which each has work left. None exactly where
+    /// there are none.
     fn pick(&self, ready: &[Entry]) -> Option<u32>
         requires { AreReady ready.now }
         ensures by_the_list { result ≡ picks self.now ready.now }

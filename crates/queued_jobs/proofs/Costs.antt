@@ -1,5 +1,6 @@
 -- What a step costs, by the jobs that begin or cease to wait.
-use Rattle.std.proofs.Common.{◌≡◌, ℕ, ◌+◌, ◌*◌, ◌≤◌, ◌<◌, List, length, refl, sym, ap, ◌∙◌, subst, Bool, true, false, not, cond, arith, eq-eqb}
+use Rattle.std.proofs.Common.{◌≡◌, ℕ, ◌+◌, ◌*◌, ◌≤◌, ◌<◌, List, length, refl, sym, ap, ◌∙◌, subst, Bool, true, false}
+use Rattle.std.proofs.Common.{not, cond, arith, eq-eqb}
 use Rattle.std.specs.Prelude.{◌==◌, ◌&&◌}
 use Rattle.std.specs.List.{count_by, filter}
 use Rattle.std.proofs.lemmas.List.{length-map}
@@ -23,7 +24,8 @@ one_when b = cond b 1 0
 
 -- a member that passes counts
 counts_one : (p : Task → Bool) (tasks : List Task) (t : Task) → IsMember t tasks → p t ≡ true → 1 ≤ count_by p tasks
-counts_one p tasks t member pass = subst (λ n. n ≤ count_by p tasks) (ap one_when pass) (term_le_sum (λ u. one_when (p u)) tasks t member)
+counts_one p tasks t member pass =
+    subst (λ n. n ≤ count_by p tasks) (ap one_when pass) (term_le_sum (λ u. one_when (p u)) tasks t member)
 
 module _ (s : State) (t : Task) (member : IsMember t s.tasks) where
   -- a waiting job that doesn't wait after the move ceases to
@@ -34,15 +36,18 @@ module _ (s : State) (t : Task) (member : IsMember t s.tasks) where
   -- a job that runs ceases to wait
   pub run_leaves : (at n : ℕ) → t.role ≡ Waiting → t.number ≡ n → 1 ≤ leaves s (Prints (Run at n))
   run_leaves at n role same =
-      leaves_one (Prints (Run at n)) role (ap (λ b. is_waiting (with_role t (cond b Running t.role))) (eq-eqb t.number n same))
+      leaves_one (Prints (Run at n)) role
+      (ap (λ b. is_waiting (with_role t (cond b Running t.role))) (eq-eqb t.number n same))
 
   -- so does one that is abandoned
   pub abandon_leaves : (at n : ℕ) → t.role ≡ Waiting → t.number ≡ n → 1 ≤ leaves s (Prints (Abandon at n))
   abandon_leaves at n role same =
-      leaves_one (Prints (Abandon at n)) role (ap (λ b. is_waiting (with_role t (cond b Gone t.role))) (eq-eqb t.number n same))
+      leaves_one (Prints (Abandon at n)) role
+      (ap (λ b. is_waiting (with_role t (cond b Gone t.role))) (eq-eqb t.number n same))
 
   -- so does one that takes the processor
-  pub take_leaves : (at stops starts : ℕ) → t.role ≡ Waiting → t.number ≡ starts → 1 ≤ leaves s (Prints (Take at stops starts))
+  pub take_leaves : (at stops starts : ℕ) → t.role ≡ Waiting → t.number ≡ starts
+      → 1 ≤ leaves s (Prints (Take at stops starts))
   take_leaves at stops starts role same = leaves_one (Prints (Take at stops starts)) role
       (ap (λ b. is_waiting (with_role t (cond b Running (displaced t.role)))) (eq-eqb t.number starts same))
 
@@ -53,7 +58,8 @@ module _ (s : State) (t : Task) (member : IsMember t s.tasks) where
       ∙ ap not (passes is_waiting t Fresh false role refl))
 
 -- a held or running job that is displaced begins to wait
-displaced_enters : (t : Task) (role : Role) → one_when (is_held (with_role t role)) + one_when (is_running (with_role t role))
+displaced_enters : (t : Task) (role : Role)
+    → one_when (is_held (with_role t role)) + one_when (is_running (with_role t role))
     ≤ one_when (is_waiting (with_role t (displaced role)) && not (is_waiting (with_role t role)))
 displaced_enters t Coming = omega arith
 displaced_enters t Fresh = omega arith
@@ -64,9 +70,11 @@ displaced_enters t Done = omega arith
 displaced_enters t Gone = omega arith
 
 -- at a take by x the held jobs and the running one begin to wait
-pub take_enters : (s : State) → IsNumberedFrom 0 s.tasks → (r x : Task) → IsMember r s.tasks → r.role ≡ Running → IsMember x s.tasks
+pub take_enters : (s : State) → IsNumberedFrom 0 s.tasks → (r x : Task) → IsMember r s.tasks → r.role ≡ Running
+    → IsMember x s.tasks
     → x.role ≡ Waiting
-    → (at stops starts : ℕ) → x.number ≡ starts → length (filter is_held s.tasks) + 1 ≤ enters s (Prints (Take at stops starts))
+    → (at stops starts : ℕ) → x.number ≡ starts
+    → length (filter is_held s.tasks) + 1 ≤ enters s (Prints (Take at stops starts))
 take_enters s numbered r x r_in runs x_in waits at stops starts same = omega (
   arith,
   length-filter is_held s.tasks,
@@ -84,14 +92,16 @@ take_enters s numbered r x r_in runs x_in waits at stops starts same = omega (
     by_test : (b : Bool) → (t.number == starts) ≡ b → one_when (is_held t) + one_when (is_running t)
         ≤ one_when (is_waiting (with_role t (cond b Running (displaced t.role))) && not (is_waiting t))
     by_test true e =
-        let role : t.role ≡ Waiting = ap (λ (u : Task). u.role) (one_number 0 s.tasks numbered t x m x_in (number t e ∙ sym same)) ∙ waits in
+        let role : t.role ≡ Waiting =
+        ap (λ (u : Task). u.role) (one_number 0 s.tasks numbered t x m x_in (number t e ∙ sym same)) ∙ waits in
         let not_held : is_held t ≡ false = passes is_held t Waiting false role refl in
         let not_running : is_running t ≡ false = passes is_running t Waiting false role refl in
         omega (arith, ap one_when not_held, ap one_when not_running)
     by_test false e = displaced_enters t t.role
 
 -- where a job begins to wait, no more are held
-pub no_more_held : (n : ℕ) (tasks : List Task) → length (filter is_held (with_role_at n Waiting tasks)) ≤ length (filter is_held tasks)
+pub no_more_held : (n : ℕ) (tasks : List Task)
+    → length (filter is_held (with_role_at n Waiting tasks)) ≤ length (filter is_held tasks)
 no_more_held n tasks = omega (
   arith,
   length-filter is_held (with_role_at n Waiting tasks),
@@ -112,21 +122,25 @@ same_length xs ys same = sym (length-map xs (λ t. with_role t (displaced t.role
 -- ---- sums
 
 -- one ceases to wait at least
-pub one_leaves : (d enters leaves before after : ℕ) → after ≤ before + 6 * d → 1 ≤ leaves → after ≤ before + (2 * d * enters + 6 * d * leaves)
+pub one_leaves : (d enters leaves before after : ℕ) → after ≤ before + 6 * d → 1 ≤ leaves
+    → after ≤ before + (2 * d * enters + 6 * d * leaves)
 one_leaves d enters leaves before after cost some = omega (arith, mul-le-mul_left (6 * d) some)
 
 -- one begins to wait at least
-pub one_enters : (d enters leaves before after : ℕ) → after ≤ before + 2 * d → 1 ≤ enters → after ≤ before + (2 * d * enters + 6 * d * leaves)
+pub one_enters : (d enters leaves before after : ℕ) → after ≤ before + 2 * d → 1 ≤ enters
+    → after ≤ before + (2 * d * enters + 6 * d * leaves)
 one_enters d enters leaves before after cost some = omega (arith, mul-le-mul_left (2 * d) some)
 
 -- one of those that are held is displaced
-pub one_displaced : (d fewer held start before after : ℕ) → fewer < held → after ≤ before + 2 * d → before + 2 * d * held ≤ start
+pub one_displaced : (d fewer held start before after : ℕ) → fewer < held → after ≤ before + 2 * d
+    → before + 2 * d * held ≤ start
     → after + 2 * d * fewer ≤ start
 one_displaced d fewer held start before after less cost so_far =
     let more : fewer + 1 ≤ held = omega arith in omega (arith, mul-le-mul_left (2 * d) more)
 
 -- the running job and those that are held are displaced, and one starts
-pub take_costs : (d held_then held enters leaves start stopped displaced after : ℕ) → held_then ≤ held → held + 1 ≤ enters → 1 ≤ leaves
+pub take_costs : (d held_then held enters leaves start stopped displaced after : ℕ) → held_then ≤ held
+    → held + 1 ≤ enters → 1 ≤ leaves
     → stopped ≤ start + 2 * d → displaced ≤ stopped + 2 * d * held_then → after ≤ displaced + 6 * d
     → after ≤ start + (2 * d * enters + 6 * d * leaves)
 take_costs d held_then held enters leaves start stopped displaced after few all some stop displace begin =

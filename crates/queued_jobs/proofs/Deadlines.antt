@@ -1,5 +1,6 @@
 -- Entries in the order of their deadlines: the same members, sums and room.
-use Rattle.std.proofs.Common.{◌≡◌, ℕ, ◌+◌, ◌-◌, ◌≤◌, ◌<◌, ◌⊎◌, inl, inr, min, List, [], ◌∷◌, map, refl, sym, ap, ◌∙◌, subst, Bool, true, false, arith}
+use Rattle.std.proofs.Common.{◌≡◌, ℕ, ◌+◌, ◌-◌, ◌≤◌, ◌<◌, ◌⊎◌, inl, inr, min, List, [], ◌∷◌, map, refl, sym, ap, ◌∙◌}
+use Rattle.std.proofs.Common.{subst, Bool, true, false, arith}
 use Rattle.std.proofs.Common.{nat_lt, cond}
 use Rattle.std.specs.Prelude.{Some, None}
 use Rattle.std.specs.List.{filter, sum_by}
@@ -35,7 +36,8 @@ sorted_member (x ∷ xs) y (inr m) = put_member x (by_deadline xs) y (inr (sorte
 member_put : (e : Entry) (xs : List Entry) (y : Entry) → IsMember y (put_in e xs) → (y ≡ e) ⊎ IsMember y xs
 member_put e [] y m = m
 member_put e (x ∷ xs) y m = by_test (nat_lt x.deadline e.deadline) m (member_put e xs y) where
-  by_test : (b : Bool) → IsMember y (cond b (x ∷ put_in e xs) (e ∷ x ∷ xs)) → (IsMember y (put_in e xs) → (y ≡ e) ⊎ IsMember y xs)
+  by_test : (b : Bool) → IsMember y (cond b (x ∷ put_in e xs) (e ∷ x ∷ xs))
+      → (IsMember y (put_in e xs) → (y ≡ e) ⊎ IsMember y xs)
       → (y ≡ e) ⊎ ((y ≡ x) ⊎ IsMember y xs)
   by_test true (inl is) rest = inr (inl is)
   by_test true (inr m) rest = elim (rest m) [ inl is ↦ inl is | inr later ↦ inr (inr later) ]
@@ -44,14 +46,16 @@ member_put e (x ∷ xs) y m = by_test (nat_lt x.deadline e.deadline) m (member_p
 -- and no other comes in
 pub member_sorted : (xs : List Entry) (y : Entry) → IsMember y (by_deadline xs) → IsMember y xs
 member_sorted [] y m = absurd m
-member_sorted (x ∷ xs) y m = elim (member_put x (by_deadline xs) y m) [ inl is ↦ inl is | inr later ↦ inr (member_sorted xs y later) ]
+member_sorted (x ∷ xs) y m =
+    elim (member_put x (by_deadline xs) y m) [ inl is ↦ inl is | inr later ↦ inr (member_sorted xs y later) ]
 
 -- ---- sums
 
 sum_put : (f : Entry → ℕ) (e : Entry) (xs : List Entry) → sum_by f (put_in e xs) ≡ f e + sum_by f xs
 sum_put f e [] = sum_by-cons f e []
 sum_put f e (x ∷ xs) = by_test (nat_lt x.deadline e.deadline) (sum_put f e xs) where
-  by_test : (b : Bool) → sum_by f (put_in e xs) ≡ f e + sum_by f xs → sum_by f (cond b (x ∷ put_in e xs) (e ∷ x ∷ xs)) ≡ f e + sum_by f (x ∷ xs)
+  by_test : (b : Bool) → sum_by f (put_in e xs) ≡ f e + sum_by f xs
+      → sum_by f (cond b (x ∷ put_in e xs) (e ∷ x ∷ xs)) ≡ f e + sum_by f (x ∷ xs)
   by_test true rest = omega (arith, rest, sum_by-cons f x (put_in e xs), sum_by-cons f x xs)
   by_test false rest = sum_by-cons f e (x ∷ xs)
 
@@ -111,7 +115,8 @@ demand_sorted xs t = ap (λ n. t.left + n) (
 -- the order leaves the room as it is
 pub room_sorted : (clock : ℕ) (xs : List Entry) → room_of clock (by_deadline xs) ≡ room_of clock xs
 room_sorted clock xs =
-    ap least (map_same (λ t. t.deadline - (clock + demand (by_deadline xs) t)) (λ t. t.deadline - (clock + demand xs t)) (by_deadline xs)
+    ap least (map_same (λ t. t.deadline - (clock + demand (by_deadline xs) t)) (λ t. t.deadline - (clock + demand xs t))
+    (by_deadline xs)
     (λ t m. ap (λ n. t.deadline - (clock + n)) (demand_sorted xs t)))
     ∙ least_sorted (λ t. t.deadline - (clock + demand xs t)) xs
 
@@ -125,18 +130,21 @@ demand_map ts t = ap (λ n. left t + n) (
 pub room_map : (clock : ℕ) (ts : List Task) → room_of clock (map entry_of ts) ≡ room clock ts
 room_map clock ts = ap least (
     map_map (λ e. e.deadline - (clock + demand (map entry_of ts) e)) entry_of ts
-    ∙ map_same (λ t. t.job.deadline - (clock + demand (map entry_of ts) (entry_of t))) (λ t. t.job.deadline - (clock + demand_up_to ts t)) ts
+    ∙ map_same (λ t. t.job.deadline - (clock + demand (map entry_of ts) (entry_of t)))
+    (λ t. t.job.deadline - (clock + demand_up_to ts t)) ts
     (λ t m. ap (λ n. t.job.deadline - (clock + n)) (demand_map ts t)))
 
 -- ---- one more that is due before all
 
-least_less : {X : Type 0} (f g : X → ℕ) (d : ℕ) (xs : List X) → Each (λ x. g x ≡ f x - d) xs → least (map g xs) ≡ least (map f xs) - d
+least_less : {X : Type 0} (f g : X → ℕ) (d : ℕ) (xs : List X) → Each (λ x. g x ≡ f x - d) xs
+    → least (map g xs) ≡ least (map f xs) - d
 least_less f g d [] less = omega arith
 least_less f g d (x ∷ []) less = less x (inl refl)
 least_less f g d (x ∷ y ∷ more) less =
     let one : g x ≡ f x - d = less x (inl refl) in
     let rest = least_less f g d (y ∷ more) (λ z m. less z (inr m)) in
-    ap (λ n. min n (least (map g (y ∷ more)))) one ∙ ap (min (f x - d)) rest ∙ min_less (f x) (least (map f (y ∷ more))) where
+    ap (λ n. min n (least (map g (y ∷ more)))) one ∙ ap (min (f x - d)) rest
+    ∙ min_less (f x) (least (map f (y ∷ more))) where
       min_less : (m n : ℕ) → min (m - d) (n - d) ≡ min m n - d
       min_less m n = omega arith
 
@@ -150,7 +158,8 @@ module _ (clock : ℕ) (e : Entry) (held : List Entry) (first : Each (λ f. e.de
         each : Each (λ u. cond (nat_lt u.deadline e.deadline) u.left 0 ≡ 0) (e ∷ held)
         each u (inl is) = let same : u.deadline ≡ e.deadline = ap (λ (x : Entry). x.deadline) is in
             not_less u.deadline e.deadline u.left (omega arith)
-        each u (inr m) = let less : e.deadline < u.deadline = first u m in not_less u.deadline e.deadline u.left (omega arith)
+        each u (inr m) = let less : e.deadline < u.deadline = first u m in
+            not_less u.deadline e.deadline u.left (omega arith)
 
   own_slack : e.deadline - (clock + demand (e ∷ held) e) ≡ e.deadline - (clock + e.left)
   own_slack = let none = none_before in omega (arith, none)
@@ -167,34 +176,41 @@ module _ (clock : ℕ) (e : Entry) (held : List Entry) (first : Each (λ f. e.de
         is_less m n l h = grind arith
 
   others : least (map (λ f. f.deadline - (clock + demand (e ∷ held) f)) held) ≡ room_of clock held - e.left
-  others = least_less (λ f. f.deadline - (clock + demand held f)) (λ f. f.deadline - (clock + demand (e ∷ held) f)) e.left held
+  others = least_less (λ f. f.deadline - (clock + demand held f))
+      (λ f. f.deadline - (clock + demand (e ∷ held) f)) e.left held
       (λ f m. let more = more_before f m in omega (arith, more))
 
   -- the room of it alone
   pub room_alone : held ≡ [] → room_of clock (e ∷ held) ≡ e.deadline - (clock + e.left)
-  room_alone none = ap least (ap (λ l. (e.deadline - (clock + demand (e ∷ held) e)) ∷ map (λ f. f.deadline - (clock + demand (e ∷ held) f)) l) none)
+  room_alone none = ap least
+      (ap (λ l. (e.deadline - (clock + demand (e ∷ held) e)) ∷ map (λ f. f.deadline - (clock + demand (e ∷ held) f)) l)
+      none)
       ∙ own_slack
 
   -- the room of it and others
   pub room_more : (f : Entry) (more : List Entry) → held ≡ f ∷ more
       → room_of clock (e ∷ held) ≡ min (e.deadline - (clock + e.left)) (room_of clock held - e.left)
   room_more f more some =
-      least_cons (e.deadline - (clock + demand (e ∷ held) e)) _ (map (λ f. f.deadline - (clock + demand (e ∷ held) f)) held) _
+      least_cons (e.deadline - (clock + demand (e ∷ held) e)) _ (map
+      (λ f. f.deadline - (clock + demand (e ∷ held) f)) held) _
       (ap (map (λ f. f.deadline - (clock + demand (e ∷ held) f))) some)
       ∙ ap (λ n. min n (least (map (λ f. f.deadline - (clock + demand (e ∷ held) f)) held))) own_slack
       ∙ ap (min (e.deadline - (clock + e.left))) others
 
 -- the room of others with it
-pub room_over : (clock : ℕ) (e : Entry) (held : List Entry) (n : ℕ) → Each (λ f. e.deadline < f.deadline) held → room_at clock held ≡ Some n
+pub room_over : (clock : ℕ) (e : Entry) (held : List Entry) (n : ℕ) → Each (λ f. e.deadline < f.deadline) held
+    → room_at clock held ≡ Some n
     → min (e.deadline - e.left - clock) (n - e.left) ≡ room_of clock (e ∷ held)
 room_over clock e [] n first at = none_is_some at
 room_over clock e (f ∷ more) n first at =
     let slack : e.deadline - e.left - clock ≡ e.deadline - (clock + e.left) = omega arith in
-    ap (λ m. min m (n - e.left)) slack ∙ ap (λ m. min (e.deadline - (clock + e.left)) (m - e.left)) (sym (some_same _ n at))
+    ap (λ m. min m (n - e.left)) slack
+    ∙ ap (λ m. min (e.deadline - (clock + e.left)) (m - e.left)) (sym (some_same _ n at))
     ∙ sym (room_more clock e (f ∷ more) first f more refl)
 
 -- and of it alone
-pub room_under : (clock : ℕ) (e : Entry) (held : List Entry) → Each (λ f. e.deadline < f.deadline) held → room_at clock held ≡ None
+pub room_under : (clock : ℕ) (e : Entry) (held : List Entry) → Each (λ f. e.deadline < f.deadline) held
+    → room_at clock held ≡ None
     → e.deadline - e.left - clock ≡ room_of clock (e ∷ held)
 room_under clock e [] first at =
     let slack : e.deadline - e.left - clock ≡ e.deadline - (clock + e.left) = omega arith in

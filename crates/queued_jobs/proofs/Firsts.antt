@@ -1,5 +1,6 @@
 -- The first of a list by a strict order.
-use Rattle.std.proofs.Common.{◌≡◌, ℕ, ◌≤◌, ◌<◌, ◌⊎◌, inl, inr, List, [], ◌∷◌, refl, sym, ap, ◌∙◌, subst, Bool, true, false, arith, nat_lt, Some}
+use Rattle.std.proofs.Common.{◌≡◌, ℕ, ◌≤◌, ◌<◌, ◌⊎◌, inl, inr, List, [], ◌∷◌, refl, sym, ap, ◌∙◌, subst, Bool, true}
+use Rattle.std.proofs.Common.{false, arith, nat_lt, Some}
 use Rattle.std.specs.Prelude.{◌||◌, ◌&&◌, ◌==◌}
 use Rattle.std.specs.List.{fold}
 use Rattle.std.proofs.lemmas.Bool.{cases_eq, false≢true}
@@ -17,19 +18,25 @@ each_cons P x xs here more y (inl e) = subst P (sym e) here
 each_cons P x xs here more y (inr member) = more y member
 
 -- the better of two is one of them
-earlier_pick : {X : Type 0} (before : X → X → Bool) (acc x : X) (b : Bool) → before x acc ≡ b → earlier before acc x ≡ earlier (λ _ _. b) acc x
+earlier_pick : {X : Type 0} (before : X → X → Bool) (acc x : X) (b : Bool) → before x acc ≡ b
+    → earlier before acc x ≡ earlier (λ _ _. b) acc x
 earlier_pick before acc x b h = ap (λ c. earlier (λ _ _. c) acc x) h
 
 -- what a fold keeps is one of the elements
-fold_member : {X : Type 0} (before : X → X → Bool) (acc : X) (xs : List X) → IsMember (fold (earlier before) acc xs) (acc ∷ xs)
+fold_member : {X : Type 0} (before : X → X → Bool) (acc : X) (xs : List X)
+    → IsMember (fold (earlier before) acc xs) (acc ∷ xs)
 fold_member before acc [] = inl refl
-fold_member before acc (x ∷ xs) = by_test (before x acc) refl (fold_member before x xs) (fold_member before acc xs) where
-  by_test : (b : Bool) → before x acc ≡ b → IsMember (fold (earlier before) x xs) (x ∷ xs) → IsMember (fold (earlier before) acc xs) (acc ∷ xs)
-      → IsMember (fold (earlier before) (earlier before acc x) xs) (acc ∷ x ∷ xs)
-  by_test true h at_x at_acc = subst (λ y. IsMember (fold (earlier before) y xs) (acc ∷ x ∷ xs)) (sym (earlier_pick before acc x true h)) (inr at_x)
-  by_test false h at_x at_acc =
-      subst (λ y. IsMember (fold (earlier before) y xs) (acc ∷ x ∷ xs)) (sym (earlier_pick before acc x false h))
-      (elim at_acc [ inl e ↦ inl e | inr m ↦ inr (inr m) ])
+fold_member before acc (x ∷ xs) =
+    by_test (before x acc) refl (fold_member before x xs) (fold_member before acc xs) where
+      by_test : (b : Bool) → before x acc ≡ b → IsMember (fold (earlier before) x xs) (x ∷ xs)
+          → IsMember (fold (earlier before) acc xs) (acc ∷ xs)
+          → IsMember (fold (earlier before) (earlier before acc x) xs) (acc ∷ x ∷ xs)
+      by_test true h at_x at_acc =
+          subst (λ y. IsMember (fold (earlier before) y xs) (acc ∷ x ∷ xs)) (sym (earlier_pick before acc x true h))
+          (inr at_x)
+      by_test false h at_x at_acc =
+          subst (λ y. IsMember (fold (earlier before) y xs) (acc ∷ x ∷ xs)) (sym (earlier_pick before acc x false h))
+          (elim at_acc [ inl e ↦ inl e | inr m ↦ inr (inr m) ])
 
 -- the first is one of the elements
 pub first_member : {X : Type 0} (before : X → X → Bool) (xs : List X) (y : X) → first before xs ≡ Some y → IsMember y xs
@@ -53,15 +60,18 @@ module _ (before : Entry → Entry → Bool) (strict : IsStrictOrder before) whe
   fold_best : (e acc : Entry) (xs : List Entry) → fold (earlier before) acc xs ≡ e → Best e acc xs
   fold_best e acc [] is = (inl (sym is), λ x m. absurd m)
   fold_best e acc (x ∷ xs) is = by_test (before x acc) refl (fold_best e x xs) (fold_best e acc xs) where
-    by_test : (b : Bool) → before x acc ≡ b → (fold (earlier before) x xs ≡ e → Best e x xs) → (fold (earlier before) acc xs ≡ e → Best e acc xs)
+    by_test : (b : Bool) → before x acc ≡ b → (fold (earlier before) x xs ≡ e → Best e x xs)
+        → (fold (earlier before) acc xs ≡ e → Best e acc xs)
         → Best e acc (x ∷ xs)
     by_test true h at_x at_acc =
-        let best : Best e x xs = at_x (ap (λ y. fold (earlier before) y xs) (sym (earlier_pick before acc x true h)) ∙ is) in (
+        let best : Best e x xs =
+        at_x (ap (λ y. fold (earlier before) y xs) (sym (earlier_pick before acc x true h)) ∙ is) in (
           inr (elim best.0 [ inl same ↦ ap (λ y. before y acc) same ∙ h | inr less ↦ strict.onward e x acc less h ]),
           each_cons (λ y. before y e ≡ true → ⊥) x xs (not_before e x best.0) best.1,
         )
     by_test false h at_x at_acc =
-        let best : Best e acc xs = at_acc (ap (λ y. fold (earlier before) y xs) (sym (earlier_pick before acc x false h)) ∙ is) in (
+        let best : Best e acc xs =
+        at_acc (ap (λ y. fold (earlier before) y xs) (sym (earlier_pick before acc x false h)) ∙ is) in (
           best.0,
           each_cons (λ y. before y e ≡ true → ⊥) x xs
               (λ at. elim best.0 [

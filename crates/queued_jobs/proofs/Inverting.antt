@@ -1,5 +1,6 @@
 -- What a step says of the jobs that it names.
-use Rattle.std.proofs.Common.{◌≡◌, ℕ, ◌+◌, ◌-◌, ◌≤◌, ◌⊎◌, inl, inr, List, map, refl, sym, ap, ◌∙◌, subst, Bool, true, false, arith, zero, suc, cond}
+use Rattle.std.proofs.Common.{◌≡◌, ℕ, ◌+◌, ◌-◌, ◌≤◌, ◌⊎◌, inl, inr, List, map, refl, sym, ap, ◌∙◌, subst, Bool, true}
+use Rattle.std.proofs.Common.{false, arith, zero, suc, cond}
 use Rattle.std.proofs.Common.{[], ◌∷◌}
 use Rattle.std.specs.Prelude.{Option, Some, None, ◌==◌}
 use Rattle.std.proofs.lemmas.Bool.{false≢true}
@@ -13,7 +14,8 @@ use Rattle.dover_model.specs.declared.events.Event.TheVariants.{Release, Run, Pr
 use Rattle.dover_model.specs.declared.events.Task.{Task}
 use Rattle.dover_model.specs.declared.events.Entry.{Entry}
 use Rattle.dover_model.specs.Fraction.{Fraction}
-use Rattle.dover_model.specs.State.{State, is_coming, is_held, is_running, is_privileged, held, running, left, value_sum}
+use Rattle.dover_model.specs.State.{State, is_coming, is_held, is_running, is_privileged, held, running, left}
+use Rattle.dover_model.specs.State.{value_sum}
 use Rattle.dover_model.specs.Limits.{last_tick, most_total}
 use Rattle.dover_model.specs.Instance.{Instance, IsValid}
 use Rattle.dover_model.proofs.Kept.{realistic}
@@ -26,14 +28,16 @@ use Rattle.dover_model.proofs.EntryOrders.{strict_by}
 use Rattle.dover_model.proofs.Members.{some_same, found, filter_member, member_filter, map_member, on_map, sum_map}
 use Rattle.dover_model.proofs.Roles.{passes, one_number, is_held_role, is_running_role, is_coming_role, numbers_above}
 use Rattle.dover_model.proofs.Tests.{none_is_some, never}
-use Rattle.dover_model.proofs.Deeds.{Deed, Completed, Resumed, Started, Began, Preempted, Stayed, Arrived, Taken, Abandoned, Rested}
+use Rattle.dover_model.proofs.Deeds.{Deed, Completed, Resumed, Started, Began, Preempted, Stayed, Arrived, Taken}
+use Rattle.dover_model.proofs.Deeds.{Abandoned, Rested}
 use Rattle.queued_jobs.proofs.Firsts.{first_only, key_most, not_itself}
 use Rattle.queued_jobs.proofs.Lookup.{at_number, found_first, own_entries, of_entry}
 
 -- ---- what is found
 
 -- a job stands at its number
-pub task_at : (tasks : List Task) (t : Task) → IsNumberedFrom 0 tasks → IsMember t tasks → slice_get tasks t.number ≡ Some t
+pub task_at : (tasks : List Task) (t : Task) → IsNumberedFrom 0 tasks → IsMember t tasks
+    → slice_get tasks t.number ≡ Some t
 task_at tasks t all member = ap (slice_get tasks) (off t.number) ∙ at_number 0 tasks t all member where
   off : (m : ℕ) → m ≡ m - 0
   off m = omega arith
@@ -71,8 +75,10 @@ held_first v s sound p member role least =
           let most : y.deadline ≤ p.job.deadline = key_most (λ x. x.deadline) v y (entry_of p) h in
           let low : p.job.deadline ≤ it.0.job.deadline = least it.0 held_it.0 (is_held_role it.0 held_it.1) in
           let same : y.deadline ≡ it.0.job.deadline = ap (λ (x : Entry). x.deadline) it.2 in
-          let number = sound.distinct it.0 p held_it.0 member (privileged it.0 (is_held_role it.0 held_it.1)) (privileged p role) (omega arith) in
-          let is : y ≡ entry_of p = it.2 ∙ ap entry_of (one_number 0 s.tasks sound.numbered it.0 p held_it.0 member number) in
+          let number = sound.distinct it.0 p held_it.0 member (privileged it.0 (is_held_role it.0 held_it.1))
+          (privileged p role) (omega arith) in
+          let is : y ≡ entry_of p = it.2
+          ∙ ap entry_of (one_number 0 s.tasks sound.numbered it.0 p held_it.0 member number) in
           not_itself (is_due_before v) strict (entry_of p) (ap (λ x. is_due_before v x (entry_of p)) (sym is) ∙ h) where
             privileged : (t : Task) → t.role ≡ Held → is_privileged t ≡ true
             privileged t e = passes is_privileged t Held true e refl
@@ -90,7 +96,8 @@ pub record Runs (v : Version) (s : State) (n : ℕ) : Type 0 where
   pub member : IsMember task s.tasks
   pub number : task.number ≡ n
   pub free : running s ≡ None
-  pub role : ((task.role ≡ Held) × (first (due_first v) (held s) ≡ Some task)) ⊎ ((task.role ≡ Waiting) ⊎ (task.role ≡ Fresh))
+  pub role : ((task.role ≡ Held) × (first (due_first v) (held s) ≡ Some task))
+      ⊎ ((task.role ≡ Waiting) ⊎ (task.role ≡ Fresh))
 
 pub record Completes (s : State) (n : ℕ) : Type 0 where
   pub task : Task
@@ -150,7 +157,8 @@ module _ (v : Version) (k : Fraction) (s : State) (sound : IsSound s) where
   runs_says at n m (Rested quiet) e = absurd (cc)
 
   pub completes_says : (at n : ℕ) (m : Move) → Deed k s Ticks m → m ≡ Prints (Complete at n) → Completes s n
-  completes_says at n m (Completed r member role done) e = record { task = r; member = member; number = cc; role = role }
+  completes_says at n m (Completed r member role done) e =
+      record { task = r; member = member; number = cc; role = role }
   completes_says at n m (Resumed p member role none least why) e = absurd (cc)
   completes_says at n m (Started o member role none first fits next) e = absurd (cc)
   completes_says at n m (Began f member role none) e = absurd (cc)
@@ -170,7 +178,8 @@ module _ (v : Version) (k : Fraction) (s : State) (sound : IsSound s) where
   abandons_says at n m (Stayed r f r_in runs some f_in fresh why) e = absurd (cc)
   abandons_says at n m (Arrived c member role now least stale busy free) e = absurd (cc)
   abandons_says at n m (Taken r x r_in runs some x_in waits now stale heavy) e = absurd (cc)
-  abandons_says at n m (Abandoned r x r_in runs some x_in waits now stale light) e = record { task = x; member = x_in; number = cc; role = waits }
+  abandons_says at n m (Abandoned r x r_in runs some x_in waits now stale light) e =
+      record { task = x; member = x_in; number = cc; role = waits }
   abandons_says at n m (Rested quiet) e = absurd (cc)
 
   pub stays_says : (n : ℕ) (m : Move) → Deed k s Ticks m → m ≡ Waits n → Stays s n
@@ -179,7 +188,8 @@ module _ (v : Version) (k : Fraction) (s : State) (sound : IsSound s) where
   stays_says n m (Started o member role none first fits next) e = absurd (cc)
   stays_says n m (Began f member role none) e = absurd (cc)
   stays_says n m (Preempted r f r_in runs some f_in fresh before fits) e = absurd (cc)
-  stays_says n m (Stayed r f r_in runs some f_in fresh why) e = record { task = f; member = f_in; number = cc; role = fresh }
+  stays_says n m (Stayed r f r_in runs some f_in fresh why) e =
+      record { task = f; member = f_in; number = cc; role = fresh }
   stays_says n m (Arrived c member role now least stale busy free) e = absurd (cc)
   stays_says n m (Taken r x r_in runs some x_in waits now stale heavy) e = absurd (cc)
   stays_says n m (Abandoned r x r_in runs some x_in waits now stale light) e = absurd (cc)
@@ -200,11 +210,13 @@ in_time J valid s keeps t member role = omega (arith, (realistic J valid s keeps
 pub all_value : (J : Instance) (tasks : List Task) → IsValid J → jobs_of tasks ≡ J.jobs → value_sum tasks ≤ most_total
 all_value J tasks valid jobs =
     let all : sum_by (λ j. j.value) (jobs_of tasks) ≡ value_sum tasks = sum_map (λ t. t.job) (λ j. j.value) tasks in
-    let total : sum_by (λ j. j.value) (jobs_of tasks) ≤ most_total = subst (λ js. sum_by (λ j. j.value) js ≤ most_total) (sym jobs) valid.total in
+    let total : sum_by (λ j. j.value) (jobs_of tasks) ≤ most_total =
+    subst (λ js. sum_by (λ j. j.value) js ≤ most_total) (sym jobs) valid.total in
     omega (arith, all, total)
 
 -- the job that is read at a number is the one of that number
-pub same_task : (tasks : List Task) (n : ℕ) (o : Option Task) (r : Task) → IsNumberedFrom 0 tasks → IsMember r tasks → r.number ≡ n
+pub same_task : (tasks : List Task) (n : ℕ) (o : Option Task) (r : Task) → IsNumberedFrom 0 tasks → IsMember r tasks
+    → r.number ≡ n
     → o ≡ slice_get tasks n
     → o ≡ Some r
 same_task tasks n o r all member number read = read ∙ ap (slice_get tasks) (sym number) ∙ task_at tasks r all member
@@ -217,14 +229,16 @@ pub coming_first : (n : ℕ) (tasks : List Task) (c : Task) → IsNumberedFrom n
 coming_first n [] c all member role least = absurd member
 coming_first n (x ∷ tasks) c all member role least =
     by_test (is_coming x) refl member (λ m. coming_first (suc n) tasks c all.1 m role (λ t k. least t (inr k))) where
-      by_test : (b : Bool) → is_coming x ≡ b → IsMember c (x ∷ tasks) → (IsMember c tasks → find is_coming tasks ≡ Some c)
+      by_test : (b : Bool) → is_coming x ≡ b → IsMember c (x ∷ tasks)
+          → (IsMember c tasks → find is_coming tasks ≡ Some c)
           → cond b (Some x) (find is_coming tasks) ≡ Some c
       by_test true h (inl e) rest = ap Some (sym e)
       by_test true h (inr m) rest = absurd (
           let low : c.number ≤ x.number = least x (inl refl) (is_coming_role x h) in
           let above : suc n ≤ c.number = numbers_above (suc n) tasks all.1 c m in
           let here : x.number ≡ n = all.0 in omega arith)
-      by_test false h (inl e) rest = absurd (false≢true (sym h ∙ passes is_coming x Coming true (ap (λ (y : Task). y.role) (sym e) ∙ role) refl))
+      by_test false h (inl e) rest =
+          absurd (false≢true (sym h ∙ passes is_coming x Coming true (ap (λ (y : Task). y.role) (sym e) ∙ role) refl))
       by_test false h (inr m) rest = rest m
 
 module _ (v : Version) (k : Fraction) (s : State) (sound : IsSound s) where
@@ -270,7 +284,8 @@ pub record Takes (s : State) (stops starts : ℕ) : Type 0 where
   pub started_role : started.role ≡ Waiting
 
 module _ (k : Fraction) (s : State) where
-  pub preempts_says : (at stops starts : ℕ) (m : Move) → Deed k s Ticks m → m ≡ Prints (Preempt at stops starts) → Preempts s stops starts
+  pub preempts_says : (at stops starts : ℕ) (m : Move) → Deed k s Ticks m → m ≡ Prints (Preempt at stops starts)
+      → Preempts s stops starts
   preempts_says at stops starts m (Completed r member role done) e = absurd (cc)
   preempts_says at stops starts m (Resumed p member role none least why) e = absurd (cc)
   preempts_says at stops starts m (Started o member role none first fits next) e = absurd (cc)
@@ -291,7 +306,8 @@ module _ (k : Fraction) (s : State) where
   preempts_says at stops starts m (Abandoned r x r_in runs some x_in waits now stale light) e = absurd (cc)
   preempts_says at stops starts m (Rested quiet) e = absurd (cc)
 
-  pub takes_says : (at stops starts : ℕ) (m : Move) → Deed k s Ticks m → m ≡ Prints (Take at stops starts) → Takes s stops starts
+  pub takes_says : (at stops starts : ℕ) (m : Move) → Deed k s Ticks m → m ≡ Prints (Take at stops starts)
+      → Takes s stops starts
   takes_says at stops starts m (Completed r member role done) e = absurd (cc)
   takes_says at stops starts m (Resumed p member role none least why) e = absurd (cc)
   takes_says at stops starts m (Started o member role none first fits next) e = absurd (cc)
@@ -315,12 +331,14 @@ module _ (k : Fraction) (s : State) where
 -- ---- one change after another
 
 -- a job of another number stays as it is
-pub other_stays : (tasks : List Task) (n m : ℕ) (role : Role) (t : Task) → slice_get tasks n ≡ Some t → (t.number ≡ m → ⊥)
+pub other_stays : (tasks : List Task) (n m : ℕ) (role : Role) (t : Task) → slice_get tasks n ≡ Some t
+    → (t.number ≡ m → ⊥)
     → slice_get (with_role_at m role tasks) n ≡ Some t
 other_stays [] n m role t found other = none_is_some found
 other_stays (x ∷ tasks) zero m role t found other =
     let is : x ≡ t = some_same x t found in
-    ap (λ y. Some (with_role y (cond (y.number == m) role y.role))) is ∙ same (t.number == m) (differs t.number m other) where
+    ap (λ y. Some (with_role y (cond (y.number == m) role y.role))) is
+    ∙ same (t.number == m) (differs t.number m other) where
       differs : (a b : ℕ) → (a ≡ b → ⊥) → (a == b) ≡ false
       differs a b h = grind arith
 
@@ -330,12 +348,15 @@ other_stays (x ∷ tasks) zero m role t found other =
 other_stays (x ∷ tasks) (suc n) m role t found other = other_stays tasks n m role t found other
 
 -- once the running job is stopped, none runs
-pub none_after : (s : State) → IsSound s → (r : Task) → IsMember r s.tasks → r.role ≡ Running → (role : Role) → (role ≡ Running → ⊥)
+pub none_after : (s : State) → IsSound s → (r : Task) → IsMember r s.tasks → r.role ≡ Running → (role : Role)
+    → (role ≡ Running → ⊥)
     → running (record { clock = s.clock; tasks = with_role_at r.number role s.tasks }) ≡ None
 none_after s sound r member runs role other =
     none_of is_running (with_role_at r.number role s.tasks)
-    (on_map (λ t. with_role t (cond (t.number == r.number) role t.role)) (λ t. is_running t ≡ true → ⊥) s.tasks each) where
-      each : (t : Task) → IsMember t s.tasks → is_running (with_role t (cond (t.number == r.number) role t.role)) ≡ true → ⊥
+    (on_map (λ t. with_role t (cond (t.number == r.number) role t.role))
+    (λ t. is_running t ≡ true → ⊥) s.tasks each) where
+      each : (t : Task) → IsMember t s.tasks → is_running (with_role t (cond (t.number == r.number) role t.role)) ≡ true
+          → ⊥
       each t m h = by_test (t.number == r.number) refl h where
         equal : (a b : ℕ) → (a == b) ≡ false → a ≡ b → ⊥
         equal a b e f = grind arith
@@ -345,7 +366,8 @@ none_after s sound r member runs role other =
         by_test false e h = equal t.number r.number e (sound.one_runs t r m member (is_running_role t h) runs)
 
 -- jobs of two roles have two numbers
-pub two_roles : (tasks : List Task) (r f : Task) → IsNumberedFrom 0 tasks → IsMember r tasks → IsMember f tasks → r.role ≡ Running → f.role ≡ Fresh
+pub two_roles : (tasks : List Task) (r f : Task) → IsNumberedFrom 0 tasks → IsMember r tasks → IsMember f tasks
+    → r.role ≡ Running → f.role ≡ Fresh
     → r.number ≡ f.number → ⊥
 two_roles tasks r f all r_in f_in runs fresh same =
     apart (sym runs ∙ ap (λ (x : Task). x.role) (one_number 0 tasks all r f r_in f_in same) ∙ fresh) where

@@ -1,5 +1,6 @@
 -- What the heads of the queues say of the jobs.
-use Rattle.std.proofs.Common.{◌≡◌, ◌≢◌, ℕ, ◌+◌, ◌≤◌, ◌<◌, ◌⊎◌, inl, inr, List, [], ◌∷◌, ◌++◌, map, replicate, refl, sym, ap, ◌∙◌, subst, Bool, true}
+use Rattle.std.proofs.Common.{◌≡◌, ◌≢◌, ℕ, ◌+◌, ◌≤◌, ◌<◌, ◌⊎◌, inl, inr, List, [], ◌∷◌, ◌++◌, map, replicate, refl, sym}
+use Rattle.std.proofs.Common.{ap, ◌∙◌, subst, Bool, true}
 use Rattle.std.proofs.Common.{false, arith, cond, add-zero}
 use Rattle.std.specs.Prelude.{Option, Some, None, option_map, unwrap_or, ◌||◌, ◌==◌, nat_lt}
 use Rattle.std.specs.Option.{option_to_list}
@@ -10,7 +11,8 @@ use Rattle.dover_model.specs.declared.events.Version.{Version}
 use Rattle.dover_model.specs.declared.events.Role.TheVariants.{Running, Held, Waiting}
 use Rattle.dover_model.specs.declared.events.Task.{Task}
 use Rattle.dover_model.specs.declared.events.Entry.{Entry}
-use Rattle.dover_model.specs.State.{State, is_running, is_held, is_waiting, is_privileged, room, latest_start, value_sum}
+use Rattle.dover_model.specs.State.{State, is_running, is_held, is_waiting, is_privileged, room, latest_start}
+use Rattle.dover_model.specs.State.{value_sum}
 use Rattle.dover_model.specs.Limits.{most_total}
 use Rattle.dover_model.specs.Instance.{Instance, IsValid}
 use Rattle.dover_model.specs.Entries.{IsStrictOrder, entry_of, room_of, is_due_before, is_latest_before}
@@ -18,7 +20,8 @@ use Rattle.dover_model.specs.Orders.{due_first, latest_first, first}
 use Rattle.dover_model.specs.Step.{is_at_latest_start}
 use Rattle.dover_model.specs.Sound.{IsMember, Each, IsNumberedFrom, IsSound, jobs_of}
 use Rattle.dover_model.proofs.EntryOrders.{strict_by}
-use Rattle.dover_model.proofs.Members.{some_same, member_filter, filter_member, all_member, map_member, map_map, sum_le, sum_filter, sum_same}
+use Rattle.dover_model.proofs.Members.{some_same, member_filter, filter_member, all_member, map_member, map_map, sum_le}
+use Rattle.dover_model.proofs.Members.{sum_filter, sum_same}
 use Rattle.dover_model.proofs.Members.{sum_plus, sum_map}
 use Rattle.dover_model.proofs.Roles.{is_running_role, is_held_role, is_waiting_role}
 use Rattle.dover_model.proofs.Tests.{none_is_some, never}
@@ -38,7 +41,8 @@ passing p tasks t m = (member_filter p tasks t m).0
 -- ---- held
 
 -- the one on top is the first held job
-pub held_found : (v : Version) (tasks : List Task) (held : List Entry) (e : Entry) → IsNumberedFrom 0 tasks → held ≡ held_entries tasks
+pub held_found : (v : Version) (tasks : List Task) (held : List Entry) (e : Entry) → IsNumberedFrom 0 tasks
+    → held ≡ held_entries tasks
     → IsByDeadline held
     → Some e ≡ top_of held → slice_get tasks e.number ≡ first (due_first v) (filter is_held tasks)
 held_found v tasks [] e all is order top = none_is_some (sym top)
@@ -56,14 +60,16 @@ held_found v tasks (f ∷ rest) e all is order top =
       same = some_same e f top
 
       best : Each (λ y. is_due_before v y e ≡ true → ⊥) (map entry_of (filter is_held tasks))
-      best y m h = by_place (subst (IsMember y) (sym is) (sorted_member (map entry_of (filter is_held tasks)) y m)) where
-        by_place : (y ≡ f) ⊎ IsMember y rest → ⊥
-        by_place (inl at) = not_itself (is_due_before v) strict f (ap (λ x. is_due_before v x f) (sym at) ∙ ap (is_due_before v y) (sym same) ∙ h)
-        by_place (inr below) =
-            let later : f.deadline < y.deadline = all_member (λ x. f.deadline < x.deadline) rest order.0 y below in
-            let most : y.deadline ≤ e.deadline = key_most (λ x. x.deadline) v y e h in
-            let at : e.deadline ≡ f.deadline = ap (λ (x : Entry). x.deadline) same in
-            omega arith
+      best y m h = by_place (subst (IsMember y) (sym is)
+          (sorted_member (map entry_of (filter is_held tasks)) y m)) where
+            by_place : (y ≡ f) ⊎ IsMember y rest → ⊥
+            by_place (inl at) = not_itself (is_due_before v) strict f
+                (ap (λ x. is_due_before v x f) (sym at) ∙ ap (is_due_before v y) (sym same) ∙ h)
+            by_place (inr below) =
+                let later : f.deadline < y.deadline = all_member (λ x. f.deadline < x.deadline) rest order.0 y below in
+                let most : y.deadline ≤ e.deadline = key_most (λ x. x.deadline) v y e h in
+                let at : e.deadline ≡ f.deadline = ap (λ (x : Entry). x.deadline) same in
+                omega arith
 
 -- without members nothing is sorted
 none_sorted : (es : List Entry) → [] ≡ by_deadline es → es ≡ []
@@ -89,20 +95,25 @@ members_waiting (t ∷ tasks) = by_test (is_waiting t) (members_waiting tasks) w
   by_test false rest = rest
 
 -- the members of the table are the entries of the waiting jobs
-pub waiting_members : (tasks : List Task) (table : List (Option Entry)) (k : ℕ) → table ≡ map waiting_entry tasks ++ replicate k None
+pub waiting_members : (tasks : List Task) (table : List (Option Entry)) (k : ℕ)
+    → table ≡ map waiting_entry tasks ++ replicate k None
     → members_of table ≡ map entry_of (filter is_waiting tasks)
 waiting_members tasks table k is = ap members_of is ∙ grown_members (map waiting_entry tasks) k ∙ members_waiting tasks
 
 -- the first entry is that of the first waiting job
-pub waiting_found : (before : Entry → Entry → Bool) (tasks : List Task) (es : List Entry) (e : Entry) → IsNumberedFrom 0 tasks
+pub waiting_found : (before : Entry → Entry → Bool) (tasks : List Task) (es : List Entry) (e : Entry)
+    → IsNumberedFrom 0 tasks
     → es ≡ map entry_of (filter is_waiting tasks) → Some e ≡ first before es
     → slice_get tasks e.number ≡ first (λ a b. before (entry_of a) (entry_of b)) (filter is_waiting tasks)
 waiting_found before tasks es e all is at =
-    found_first before tasks (filter is_waiting tasks) e all (passing is_waiting tasks) (ap (first before) (sym is) ∙ sym at)
+    found_first before tasks (filter is_waiting tasks) e all (passing is_waiting tasks)
+    (ap (first before) (sym is) ∙ sym at)
 
-pub waiting_none : (before : Entry → Entry → Bool) (tasks : List Task) (es : List Entry) → es ≡ map entry_of (filter is_waiting tasks)
+pub waiting_none : (before : Entry → Entry → Bool) (tasks : List Task) (es : List Entry)
+    → es ≡ map entry_of (filter is_waiting tasks)
     → None ≡ first before es → None ≡ first (λ a b. before (entry_of a) (entry_of b)) (filter is_waiting tasks)
-waiting_none before tasks es is at = sym (found_first_none before (filter is_waiting tasks) (ap (first before) (sym is) ∙ sym at))
+waiting_none before tasks es is at =
+    sym (found_first_none before (filter is_waiting tasks) (ap (first before) (sym is) ∙ sym at))
 
 -- none passes a test that each fails
 none_passes : {X : Type 0} (p : X → Bool) (xs : List X) → Each (λ x. p x ≡ false) xs → filter p xs ≡ []
@@ -112,7 +123,8 @@ none_passes p (x ∷ xs) fail = by_test (p x) (fail x (inl refl)) (none_passes p
   by_test true h rest = never (sym h)
   by_test false h rest = rest
 
-module _ (v : Version) (s : State) (sound : IsSound s) (es : List Entry) (is : es ≡ map entry_of (filter is_waiting s.tasks)) where
+module _ (v : Version) (s : State) (sound : IsSound s) (es : List Entry)
+    (is : es ≡ map entry_of (filter is_waiting s.tasks)) where
   -- the waiting jobs at their latest start
   abbrev late : List Task
   late = filter (is_at_latest_start s) (filter is_waiting s.tasks)
@@ -124,15 +136,19 @@ module _ (v : Version) (s : State) (sound : IsSound s) (es : List Entry) (is : e
       let fits = says s sound t it.0 Waiting (is_waiting_role t it.1) in
       omega (arith, fits.2)
 
-  none_at : Each (λ t. s.clock < latest_start t) (filter is_waiting s.tasks) → filter (is_at_latest_start s) (filter is_waiting s.tasks) ≡ []
-  none_at early = none_passes (is_at_latest_start s) (filter is_waiting s.tasks) (λ t m. differs (latest_start t) s.clock (early t m)) where
-    differs : (m n : ℕ) → n < m → (m == n) ≡ false
-    differs m n h = grind arith
+  none_at : Each (λ t. s.clock < latest_start t) (filter is_waiting s.tasks)
+      → filter (is_at_latest_start s) (filter is_waiting s.tasks) ≡ []
+  none_at early = none_passes (is_at_latest_start s) (filter is_waiting s.tasks)
+      (λ t m. differs (latest_start t) s.clock (early t m)) where
+        differs : (m n : ℕ) → n < m → (m == n) ≡ false
+        differs m n h = grind arith
 
   -- none is late where none waits
   pub late_none : None ≡ first (is_latest_before v) es → None ≡ first (latest_first v) late
-  late_none none = ap (first (latest_first v)) (sym (none_at (λ t m. absurd (none_waits (map entry_of (filter is_waiting s.tasks))
-      (ap (first (is_latest_before v)) (sym is) ∙ sym none) (entry_of t) (there t (filter is_waiting s.tasks) m))))) where
+  late_none none = ap (first (latest_first v))
+      (sym (none_at (λ t m. absurd (none_waits (map entry_of (filter is_waiting s.tasks))
+      (ap (first (is_latest_before v)) (sym is) ∙ sym none) (entry_of t)
+      (there t (filter is_waiting s.tasks) m))))) where
         there : (t : Task) (ts : List Task) → IsMember t ts → IsMember (entry_of t) (map entry_of ts)
         there t [] m = absurd m
         there t (u ∷ us) (inl e) = inl (ap entry_of e)
@@ -147,15 +163,18 @@ module _ (v : Version) (s : State) (sound : IsSound s) (es : List Entry) (is : e
     strict = strict_by (λ x. x.latest) v
 
     best : Each (λ y. is_latest_before v y e ≡ true → ⊥) (map entry_of (filter is_waiting s.tasks))
-    best = first_best (is_latest_before v) strict e (map entry_of (filter is_waiting s.tasks)) (ap (first (is_latest_before v)) (sym is) ∙ sym at)
+    best = first_best (is_latest_before v) strict e (map entry_of (filter is_waiting s.tasks))
+        (ap (first (is_latest_before v)) (sym is) ∙ sym at)
 
     there : IsMember e (map entry_of (filter is_waiting s.tasks))
-    there = first_member (is_latest_before v) (map entry_of (filter is_waiting s.tasks)) e (ap (first (is_latest_before v)) (sym is) ∙ sym at)
+    there = first_member (is_latest_before v) (map entry_of (filter is_waiting s.tasks)) e
+        (ap (first (is_latest_before v)) (sym is) ∙ sym at)
 
     -- none starts earlier
     pub not_earlier : (t : Task) → IsMember t (filter is_waiting s.tasks) → e.latest ≤ latest_start t
     not_earlier t m = elim (cases_lt (latest_start t) e.latest) [
-      | inl less ↦ absurd (best (entry_of t) (map_member entry_of (filter is_waiting s.tasks) t m) (key_less (λ x. x.latest) v (entry_of t) e less))
+      | inl less ↦ absurd (best (entry_of t) (map_member entry_of (filter is_waiting s.tasks) t m)
+          (key_less (λ x. x.latest) v (entry_of t) e less))
       | inr not ↦ not
     ]
 
@@ -180,13 +199,15 @@ module _ (v : Version) (s : State) (sound : IsSound s) (es : List Entry) (is : e
         (λ y m h. best y (kept y m) h)
         (own_entries s.tasks late sound.numbered inside)) where
           inside : Each (λ t. IsMember t s.tasks) late
-          inside t m = passing is_waiting s.tasks t (member_filter (is_at_latest_start s) (filter is_waiting s.tasks) t m).0
+          inside t m = passing is_waiting s.tasks t
+              (member_filter (is_at_latest_start s) (filter is_waiting s.tasks) t m).0
 
           kept : (y : Entry) → IsMember y (map entry_of late) → IsMember y (map entry_of (filter is_waiting s.tasks))
           kept y m =
               let it = of_entry late y m in
               subst (λ x. IsMember x (map entry_of (filter is_waiting s.tasks))) (sym it.2)
-              (map_member entry_of (filter is_waiting s.tasks) it.0 (member_filter (is_at_latest_start s) (filter is_waiting s.tasks) it.0 it.1).0)
+              (map_member entry_of (filter is_waiting s.tasks) it.0
+              (member_filter (is_at_latest_start s) (filter is_waiting s.tasks) it.0 it.1).0)
 
           is_equal : (m n : ℕ) → m ≡ n → (m == n) ≡ true
           is_equal m n h = grind arith
@@ -201,10 +222,12 @@ module _ (v : Version) (s : State) (sound : IsSound s) (es : List Entry) (is : e
 -- ---- the running and the held jobs
 
 -- only r runs
-pub only_running : (tasks : List Task) (o : Option (ℕ × ℕ)) (r : Task) → map turn_of (filter is_running tasks) ≡ option_to_list o
+pub only_running : (tasks : List Task) (o : Option (ℕ × ℕ)) (r : Task)
+    → map turn_of (filter is_running tasks) ≡ option_to_list o
     → find is_running tasks ≡ Some r → filter is_running tasks ≡ r ∷ []
 only_running tasks o r one found = by_list (filter is_running tasks) refl one where
-  by_list : (l : List Task) → filter is_running tasks ≡ l → map turn_of l ≡ option_to_list o → filter is_running tasks ≡ r ∷ []
+  by_list : (l : List Task) → filter is_running tasks ≡ l → map turn_of l ≡ option_to_list o
+      → filter is_running tasks ≡ r ∷ []
   by_list [] is one = none_is_some (sym (find_none is_running tasks is) ∙ found)
   by_list (t ∷ []) is one = is ∙ ap (λ x. x ∷ []) (some_same t r (sym (find_head is_running tasks t [] is) ∙ found))
   by_list (t ∷ u ∷ more) is one = absurd (no_two o one) where
@@ -226,19 +249,23 @@ both_sum f tasks =
     ∙ sum_plus (λ t. cond (is_running t) (f t) 0) (λ t. cond (is_held t) (f t) 0) tasks
     ∙ ap (λ n. n + sum_by (λ t. cond (is_held t) (f t) 0) tasks) (sym (sum_filter is_running f tasks))
     ∙ ap (λ n. sum_by f (filter is_running tasks) + n) (sym (sum_filter is_held f tasks)) where
-      by_test : (t : Task) (b c : Bool) → is_running t ≡ b → is_held t ≡ c → cond (b || c) (f t) 0 ≡ cond b (f t) 0 + cond c (f t) 0
+      by_test : (t : Task) (b c : Bool) → is_running t ≡ b → is_held t ≡ c
+          → cond (b || c) (f t) 0 ≡ cond b (f t) 0 + cond c (f t) 0
       by_test t true true runs held = absurd (apart t runs held)
       by_test t true false runs held = omega arith
       by_test t false true runs held = omega arith
       by_test t false false runs held = omega arith
 
 -- the value of the held jobs
-pub held_value : (tasks : List Task) (held : List Entry) → held ≡ held_entries tasks → value_of held ≡ value_sum (filter is_held tasks)
+pub held_value : (tasks : List Task) (held : List Entry) → held ≡ held_entries tasks
+    → value_of held ≡ value_sum (filter is_held tasks)
 held_value tasks held is =
-    ap value_of is ∙ sum_sorted (λ e. e.value) (map entry_of (filter is_held tasks)) ∙ sum_map entry_of (λ e. e.value) (filter is_held tasks)
+    ap value_of is ∙ sum_sorted (λ e. e.value) (map entry_of (filter is_held tasks))
+    ∙ sum_map entry_of (λ e. e.value) (filter is_held tasks)
 
 -- and that of the running job with it
-pub busy_value : (tasks : List Task) (held : List Entry) (r : Task) → held ≡ held_entries tasks → filter is_running tasks ≡ r ∷ []
+pub busy_value : (tasks : List Task) (held : List Entry) (r : Task) → held ≡ held_entries tasks
+    → filter is_running tasks ≡ r ∷ []
     → r.job.value + value_of held ≡ value_sum (filter is_privileged tasks)
 busy_value tasks held r is runs =
     let both = both_sum (λ t. t.job.value) tasks in
@@ -247,12 +274,14 @@ busy_value tasks held r is runs =
     omega (arith, both, one, held_value tasks held is)
 
 -- where none runs, the running and the held jobs are the held ones
-pub free_privileged : (tasks : List Task) → filter is_running tasks ≡ [] → filter is_privileged tasks ≡ filter is_held tasks
+pub free_privileged : (tasks : List Task) → filter is_running tasks ≡ []
+    → filter is_privileged tasks ≡ filter is_held tasks
 free_privileged [] none = refl
 free_privileged (x ∷ tasks) none = by_test (is_running x) (is_held x) none (free_privileged tasks) where
   by_test : (b c : Bool) → cond b (x ∷ filter is_running tasks) (filter is_running tasks) ≡ []
       → (filter is_running tasks ≡ [] → filter is_privileged tasks ≡ filter is_held tasks)
-      → cond (b || c) (x ∷ filter is_privileged tasks) (filter is_privileged tasks) ≡ cond c (x ∷ filter is_held tasks) (filter is_held tasks)
+      → cond (b || c) (x ∷ filter is_privileged tasks) (filter is_privileged tasks) ≡ cond c (x ∷ filter is_held tasks)
+      (filter is_held tasks)
   by_test true c none rest = absurd (cons_none none) where
     cons_none : x ∷ filter is_running tasks ≡ [] → ⊥
     cons_none e = cc
@@ -287,8 +316,10 @@ both_entries [] r runs later = absurd (none_cons runs) where
   none_cons e = cc
 both_entries (x ∷ tasks) r runs later = by_test (is_running x) (is_held x) refl refl runs
     (λ one. both_entries tasks r one (λ t m. later t (inr m))) where
-      by_test : (b c : Bool) → is_running x ≡ b → is_held x ≡ c → cond b (x ∷ filter is_running tasks) (filter is_running tasks) ≡ r ∷ []
-          → (filter is_running tasks ≡ r ∷ [] → by_deadline (map entry_of (filter is_privileged tasks)) ≡ entry_of r ∷ held_entries tasks)
+      by_test : (b c : Bool) → is_running x ≡ b → is_held x ≡ c
+          → cond b (x ∷ filter is_running tasks) (filter is_running tasks) ≡ r ∷ []
+          → (filter is_running tasks ≡ r ∷ []
+          → by_deadline (map entry_of (filter is_privileged tasks)) ≡ entry_of r ∷ held_entries tasks)
           → by_deadline (map entry_of (cond (b || c) (x ∷ filter is_privileged tasks) (filter is_privileged tasks)))
           ≡ entry_of r ∷ by_deadline (map entry_of (cond c (x ∷ filter is_held tasks) (filter is_held tasks)))
       by_test true true is held one rest = absurd (apart x is held)
@@ -312,10 +343,12 @@ both_entries (x ∷ tasks) r runs later = by_test (is_running x) (is_held x) ref
 pub held_room : (clock : ℕ) (tasks : List Task) (held : List Entry) → held ≡ held_entries tasks
     → room_of clock held ≡ room clock (filter is_held tasks)
 held_room clock tasks held is =
-    ap (room_of clock) is ∙ room_sorted clock (map entry_of (filter is_held tasks)) ∙ room_map clock (filter is_held tasks)
+    ap (room_of clock) is ∙ room_sorted clock (map entry_of (filter is_held tasks))
+    ∙ room_map clock (filter is_held tasks)
 
 -- and that of the running job with it
-pub busy_room : (clock : ℕ) (tasks : List Task) (held : List Entry) (r : Task) → held ≡ held_entries tasks → filter is_running tasks ≡ r ∷ []
+pub busy_room : (clock : ℕ) (tasks : List Task) (held : List Entry) (r : Task) → held ≡ held_entries tasks
+    → filter is_running tasks ≡ r ∷ []
     → Each (λ t. is_held t ≡ true → r.job.deadline < t.job.deadline) tasks
     → room_of clock (entry_of r ∷ held) ≡ room clock (filter is_privileged tasks)
 busy_room clock tasks held r is runs later =
@@ -336,11 +369,13 @@ no_value f None e = refl
 no_value f (Some x) e = none_is_some (sym e)
 
 -- the number that runs, as a list
-pub turn_numbers : (ts : List Task) (o : Option (ℕ × ℕ)) (n : ℕ) → map turn_of ts ≡ option_to_list o → option_map (λ (j : ℕ × ℕ). j.0) o ≡ Some n
+pub turn_numbers : (ts : List Task) (o : Option (ℕ × ℕ)) (n : ℕ) → map turn_of ts ≡ option_to_list o
+    → option_map (λ (j : ℕ × ℕ). j.0) o ≡ Some n
     → map (λ (t : Task). t.number) ts ≡ n ∷ []
 turn_numbers ts None n is at = none_is_some at
 turn_numbers ts (Some j) n is at =
-    sym (map_map (λ (i : ℕ × ℕ). i.0) turn_of ts) ∙ ap (map (λ (i : ℕ × ℕ). i.0)) is ∙ ap (λ k. k ∷ []) (some_same j.0 n at)
+    sym (map_map (λ (i : ℕ × ℕ). i.0) turn_of ts) ∙ ap (map (λ (i : ℕ × ℕ). i.0)) is
+    ∙ ap (λ k. k ∷ []) (some_same j.0 n at)
 
 -- the room at the top of the stack
 pub room_or_none : (clock : ℕ) (held : List Entry) → unwrap_or (room_at clock held) 0 ≡ room_of clock held
@@ -359,12 +394,14 @@ none_found {X} p xs none = by_list (filter p xs) refl where
 -- ---- limits
 
 -- the value of some jobs is within the limit
-pub few_value : (p : Task → Bool) (J : Instance) (tasks : List Task) → IsValid J → jobs_of tasks ≡ J.jobs → value_sum (filter p tasks) ≤ most_total
+pub few_value : (p : Task → Bool) (J : Instance) (tasks : List Task) → IsValid J → jobs_of tasks ≡ J.jobs
+    → value_sum (filter p tasks) ≤ most_total
 few_value p J tasks valid jobs =
     let some : value_sum (filter p tasks) ≤ value_sum tasks = le_along (sym (sum_filter p (λ t. t.job.value) tasks))
     (sum_le (λ t. cond (p t) t.job.value 0) (λ t. t.job.value) tasks (λ t m. by_test (p t) t.job.value)) in
     let all : sum_by (λ j. j.value) (jobs_of tasks) ≡ value_sum tasks = sum_map (λ t. t.job) (λ j. j.value) tasks in
-    let total : sum_by (λ j. j.value) (jobs_of tasks) ≤ most_total = subst (λ js. sum_by (λ j. j.value) js ≤ most_total) (sym jobs) valid.total in
+    let total : sum_by (λ j. j.value) (jobs_of tasks) ≤ most_total =
+    subst (λ js. sum_by (λ j. j.value) js ≤ most_total) (sym jobs) valid.total in
     omega (arith, some, all, total) where
       by_test : (b : Bool) (n : ℕ) → cond b n 0 ≤ n
       by_test true n = omega arith

@@ -30,30 +30,36 @@ busy_over s busy = by_option (running s) refl busy where
   by_option : (o : Option Task) → running s ≡ o → is_none o ≡ false → false ≡ list_all is_over s.tasks
   by_option None is e = never (sym e)
   by_option (Some r) is e =
-      let it = found is_running s.tasks r is in not_over s.tasks r it.0 (passes is_over r Running false (is_running_role r it.1) refl)
+      let it = found is_running s.tasks r is in
+      not_over s.tasks r it.0 (passes is_over r Running false (is_running_role r it.1) refl)
 
-pub free_over : (s : State) → Quiet s → is_none (running s) ≡ true → is_none (find is_coming s.tasks) ≡ list_all is_over s.tasks
+pub free_over : (s : State) → Quiet s → is_none (running s) ≡ true
+    → is_none (find is_coming s.tasks) ≡ list_all is_over s.tasks
 free_over s quiet free = by_option (running s) refl free where
   by_coming : running s ≡ None → (o : Option Task) → find is_coming s.tasks ≡ o → is_none o ≡ list_all is_over s.tasks
   by_coming none (Some x) is =
-      let it = found is_coming s.tasks x is in not_over s.tasks x it.0 (passes is_over x Coming false (is_coming_role x it.1) refl)
-  by_coming none None is = sym (each_all is_over s.tasks (λ t m. by_role (λ u role. t.role ≡ role → is_over u ≡ true) t (over t m) refl)) where
-    idle : Each (λ t. t.role ≡ Running → ⊥) s.tasks
-    idle = none_running s none
+      let it = found is_coming s.tasks x is in
+      not_over s.tasks x it.0 (passes is_over x Coming false (is_coming_role x it.1) refl)
+  by_coming none None is =
+      sym (each_all is_over s.tasks
+      (λ t m. by_role (λ u role. t.role ≡ role → is_over u ≡ true) t (over t m) refl)) where
+        idle : Each (λ t. t.role ≡ Running → ⊥) s.tasks
+        idle = none_running s none
 
-    behind : (t : Task) → IsMember t s.tasks → is_ready_behind t ≡ true → ⊥
-    behind = quiet.free idle
+        behind : (t : Task) → IsMember t s.tasks → is_ready_behind t ≡ true → ⊥
+        behind = quiet.free idle
 
-    over : (t : Task) → IsMember t s.tasks → (role : Role) → t.role ≡ role → is_over (with_role t role) ≡ true
-    over t m Coming e = never (sym (not_found is_coming s.tasks is t m) ∙ passes is_coming t Coming true e refl)
-    over t m Fresh e = absurd (quiet.stale t m e)
-    over t m Waiting e = absurd (behind t m (passes is_ready_behind t Waiting true e refl))
-    over t m Held e = absurd (behind t m (passes is_ready_behind t Held true e refl))
-    over t m Running e = absurd (idle t m e)
-    over t m Done e = refl
-    over t m Gone e = refl
+        over : (t : Task) → IsMember t s.tasks → (role : Role) → t.role ≡ role → is_over (with_role t role) ≡ true
+        over t m Coming e = never (sym (not_found is_coming s.tasks is t m) ∙ passes is_coming t Coming true e refl)
+        over t m Fresh e = absurd (quiet.stale t m e)
+        over t m Waiting e = absurd (behind t m (passes is_ready_behind t Waiting true e refl))
+        over t m Held e = absurd (behind t m (passes is_ready_behind t Held true e refl))
+        over t m Running e = absurd (idle t m e)
+        over t m Done e = refl
+        over t m Gone e = refl
 
-  by_option : (o : Option Task) → running s ≡ o → is_none o ≡ true → is_none (find is_coming s.tasks) ≡ list_all is_over s.tasks
+  by_option : (o : Option Task) → running s ≡ o → is_none o ≡ true
+      → is_none (find is_coming s.tasks) ≡ list_all is_over s.tasks
   by_option None is e = by_coming is (find is_coming s.tasks) refl
   by_option (Some r) is e = never e
 

@@ -1,5 +1,6 @@
 -- A list in which one job is replaced: what a queue that follows it does.
-use Rattle.std.proofs.Common.{◌≡◌, ℕ, suc, ◌+◌, ◌<◌, inl, inr, List, [], ◌∷◌, ◌++◌, length, map, set, refl, sym, ap, ◌∙◌, subst, Bool, true, false}
+use Rattle.std.proofs.Common.{◌≡◌, ℕ, suc, ◌+◌, ◌<◌, inl, inr, List, [], ◌∷◌, ◌++◌, length, map, set, refl, sym, ap}
+use Rattle.std.proofs.Common.{◌∙◌, subst, Bool, true, false}
 use Rattle.std.proofs.Common.{arith, cond, nat_lt}
 use Rattle.std.specs.Prelude.{Option}
 use Rattle.std.specs.List.{filter}
@@ -14,11 +15,13 @@ use Rattle.queued_jobs.specs.Queued.{waiting_entry, put_in, by_deadline, held_en
 use Rattle.queued_jobs.proofs.Looking.{put_first, entries_later}
 
 -- each element but the one in the middle
-pub each_other : {X : Type 0} (P : X → Type 0) (front back : List X) (u : X) → Each P front → Each P back → P u → Each P (front ++ u ∷ back)
+pub each_other : {X : Type 0} (P : X → Type 0) (front back : List X) (u : X) → Each P front → Each P back → P u
+    → Each P (front ++ u ∷ back)
 each_other P [] back u before behind here y (inl e) = subst P (sym e) here
 each_other P [] back u before behind here y (inr m) = behind y m
 each_other P (x ∷ front) back u before behind here y (inl e) = before y (inl e)
-each_other P (x ∷ front) back u before behind here y (inr m) = each_other P front back u (λ z n. before z (inr n)) behind here y m
+each_other P (x ∷ front) back u before behind here y (inr m) =
+    each_other P front back u (λ z n. before z (inr n)) behind here y m
 
 pub in_front : {X : Type 0} (front back : List X) (t x : X) → IsMember x front → IsMember x (front ++ t ∷ back)
 in_front [] back t x m = absurd m
@@ -33,13 +36,15 @@ pub in_middle : {X : Type 0} (front back : List X) (t : X) → IsMember t (front
 in_middle [] back t = inl refl
 in_middle (y ∷ front) back t = inr (in_middle front back t)
 
-pub numbered_other : (n : ℕ) (front back : List Task) (t u : Task) → u.number ≡ t.number → IsNumberedFrom n (front ++ t ∷ back)
+pub numbered_other : (n : ℕ) (front back : List Task) (t u : Task) → u.number ≡ t.number
+    → IsNumberedFrom n (front ++ t ∷ back)
     → IsNumberedFrom n (front ++ u ∷ back)
 numbered_other n [] back t u same all = (same ∙ all.0, all.1)
 numbered_other n (x ∷ front) back t u same all = (all.0, numbered_other (suc n) front back t u same all.1)
 
 -- its place is its number
-pub place_number : (n : ℕ) (front back : List Task) (t : Task) → IsNumberedFrom n (front ++ t ∷ back) → t.number ≡ n + length front
+pub place_number : (n : ℕ) (front back : List Task) (t : Task) → IsNumberedFrom n (front ++ t ∷ back)
+    → t.number ≡ n + length front
 place_number n [] back t all = all.0 ∙ add_none n where
   add_none : (m : ℕ) → m ≡ m + 0
   add_none m = omega arith
@@ -51,9 +56,11 @@ place_number n (x ∷ front) back t all = place_number (suc n) front back t all.
 
 module _ (p : Task → Bool) (t u : Task) where
   -- where neither passes, the same pass
-  pub filter_same : (front back : List Task) → p t ≡ false → p u ≡ false → filter p (front ++ u ∷ back) ≡ filter p (front ++ t ∷ back)
+  pub filter_same : (front back : List Task) → p t ≡ false → p u ≡ false
+      → filter p (front ++ u ∷ back) ≡ filter p (front ++ t ∷ back)
   filter_same [] back t_fails u_fails = by_tests (p t) (p u) t_fails u_fails where
-    by_tests : (b c : Bool) → b ≡ false → c ≡ false → cond c (u ∷ filter p back) (filter p back) ≡ cond b (t ∷ filter p back) (filter p back)
+    by_tests : (b c : Bool) → b ≡ false → c ≡ false
+        → cond c (u ∷ filter p back) (filter p back) ≡ cond b (t ∷ filter p back) (filter p back)
     by_tests true c h k = never (sym h)
     by_tests false true h k = never (sym k)
     by_tests false false h k = refl
@@ -76,7 +83,8 @@ module _ (p : Task → Bool) (t u : Task) where
       by_test false e rest = rest e
 
     -- the only one that passes comes in
-    pub filter_in : (front back : List Task) → map f (filter p (front ++ t ∷ back)) ≡ [] → map f (filter p (front ++ u ∷ back)) ≡ f u ∷ []
+    pub filter_in : (front back : List Task) → map f (filter p (front ++ t ∷ back)) ≡ []
+        → map f (filter p (front ++ u ∷ back)) ≡ f u ∷ []
     filter_in [] back none = by_tests (p t) (p u) t_fails u_passes none where
       by_tests : (b c : Bool) → b ≡ false → c ≡ true → map f (cond b (t ∷ filter p back) (filter p back)) ≡ []
           → map f (cond c (u ∷ filter p back) (filter p back)) ≡ f u ∷ []
@@ -93,7 +101,8 @@ module _ (p : Task → Bool) (t u : Task) where
       by_test false e rest = rest e
 
     -- and goes out
-    pub filter_out : (a : A) (front back : List Task) → map f (filter p (front ++ u ∷ back)) ≡ a ∷ [] → map f (filter p (front ++ t ∷ back)) ≡ []
+    pub filter_out : (a : A) (front back : List Task) → map f (filter p (front ++ u ∷ back)) ≡ a ∷ []
+        → map f (filter p (front ++ t ∷ back)) ≡ []
     filter_out a [] back one = by_tests (p t) (p u) t_fails u_passes one where
       by_tests : (b c : Bool) → b ≡ false → c ≡ true → map f (cond c (u ∷ filter p back) (filter p back)) ≡ a ∷ []
           → map f (cond b (t ∷ filter p back) (filter p back)) ≡ []
@@ -123,7 +132,8 @@ done_in t u t_not u_done [] back = by_tests (is_done t) (is_done u) t_not u_done
   by_tests false true h k = let one = sum_by-cons (λ x. x.job.value) u (filter is_done back) in omega (arith, one)
   by_tests false false h k = never k
 done_in t u t_not u_done (x ∷ front) back = by_test (is_done x) (done_in t u t_not u_done front back) where
-  by_test : (b : Bool) → value_sum (filter is_done (front ++ u ∷ back)) ≡ value_sum (filter is_done (front ++ t ∷ back)) + u.job.value
+  by_test : (b : Bool) → value_sum (filter is_done (front ++ u ∷ back)) ≡ value_sum (filter is_done (front ++ t ∷ back))
+      + u.job.value
       → value_sum (cond b (x ∷ filter is_done (front ++ u ∷ back)) (filter is_done (front ++ u ∷ back)))
       ≡ value_sum (cond b (x ∷ filter is_done (front ++ t ∷ back)) (filter is_done (front ++ t ∷ back))) + u.job.value
   by_test true rest =
@@ -142,7 +152,8 @@ table_same t u same (x ∷ front) back = ap (λ l. waiting_entry x ∷ l) (table
 
 -- the entry is written at its number
 pub table_set : (t u : Task) (rest : List (Option Entry)) (front back : List Task)
-    → set (map waiting_entry (front ++ t ∷ back) ++ rest) (length front) (waiting_entry u) ≡ map waiting_entry (front ++ u ∷ back) ++ rest
+    → set (map waiting_entry (front ++ t ∷ back) ++ rest) (length front) (waiting_entry u) ≡ map waiting_entry
+    (front ++ u ∷ back) ++ rest
 table_set t u rest [] back = refl
 table_set t u rest (x ∷ front) back = ap (λ l. waiting_entry x ∷ l) (table_set t u rest front back)
 
@@ -153,16 +164,21 @@ pub held_in : (t u : Task) → is_held t ≡ false → is_held u ≡ true → (f
     → Each (λ x. is_held x ≡ true → u.job.deadline < x.job.deadline) (front ++ t ∷ back)
     → held_entries (front ++ u ∷ back) ≡ entry_of u ∷ held_entries (front ++ t ∷ back)
 held_in t u t_not u_held [] back later = by_tests (is_held t) (is_held u) t_not u_held where
-  by_tests : (b c : Bool) → b ≡ false → c ≡ true → by_deadline (map entry_of (cond c (u ∷ filter is_held back) (filter is_held back)))
+  by_tests : (b c : Bool) → b ≡ false → c ≡ true
+      → by_deadline (map entry_of (cond c (u ∷ filter is_held back) (filter is_held back)))
       ≡ entry_of u ∷ by_deadline (map entry_of (cond b (t ∷ filter is_held back) (filter is_held back)))
   by_tests true c h k = never (sym h)
-  by_tests false true h k = put_first (entry_of u) (held_entries back) (entries_later u.job.deadline back (λ x m. later x (inr m)))
+  by_tests false true h k =
+      put_first (entry_of u) (held_entries back) (entries_later u.job.deadline back (λ x m. later x (inr m)))
   by_tests false false h k = never k
 held_in t u t_not u_held (x ∷ front) back later =
     by_test (is_held x) refl (held_in t u t_not u_held front back (λ y m. later y (inr m))) where
-      by_test : (b : Bool) → is_held x ≡ b → held_entries (front ++ u ∷ back) ≡ entry_of u ∷ held_entries (front ++ t ∷ back)
-          → by_deadline (map entry_of (cond b (x ∷ filter is_held (front ++ u ∷ back)) (filter is_held (front ++ u ∷ back))))
-          ≡ entry_of u ∷ by_deadline (map entry_of (cond b (x ∷ filter is_held (front ++ t ∷ back)) (filter is_held (front ++ t ∷ back))))
+      by_test : (b : Bool) → is_held x ≡ b
+          → held_entries (front ++ u ∷ back) ≡ entry_of u ∷ held_entries (front ++ t ∷ back)
+          → by_deadline (map entry_of
+          (cond b (x ∷ filter is_held (front ++ u ∷ back)) (filter is_held (front ++ u ∷ back))))
+          ≡ entry_of u ∷ by_deadline
+          (map entry_of (cond b (x ∷ filter is_held (front ++ t ∷ back)) (filter is_held (front ++ t ∷ back))))
       by_test true h rest =
           ap (put_in (entry_of x)) rest
           ∙ ap (λ b. cond b (entry_of u ∷ put_in (entry_of x) (held_entries (front ++ t ∷ back)))

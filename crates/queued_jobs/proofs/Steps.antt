@@ -1,5 +1,6 @@
 -- The queues before and after a change of the role of one job.
-use Rattle.std.proofs.Common.{◌≡◌, ℕ, zero, suc, ◌+◌, ◌<◌, ◌≤◌, inl, inr, Bool, nat_lt, false, cond, arith, List, [], ◌∷◌, ◌++◌, length, get_or}
+use Rattle.std.proofs.Common.{◌≡◌, ℕ, zero, suc, ◌+◌, ◌<◌, ◌≤◌, inl, inr, Bool, nat_lt, false, cond, arith, List, []}
+use Rattle.std.proofs.Common.{◌∷◌, ◌++◌, length, get_or}
 use Rattle.std.proofs.Common.{replicate, map, set, sym, ap, ◌∙◌, subst, true, refl}
 use Rattle.std.specs.Prelude.{Option, Some, None}
 use Rattle.std.specs.List.{filter, sum_by, slice_get}
@@ -20,7 +21,8 @@ use Rattle.dover_model.specs.Entries.{entry_of}
 use Rattle.dover_model.specs.Sound.{IsMember, Each, IsNumberedFrom}
 use Rattle.dover_model.proofs.Roles.{passes, is_held_role}
 use Rattle.privileged_queue.specs.Stack.{IsByDeadline}
-use Rattle.queued_jobs.specs.Queued.{Queued, Agrees, turn_of, waiting_entry, put_in, by_deadline, held_entries, in_state, with_job_in}
+use Rattle.queued_jobs.specs.Queued.{Queued, Agrees, turn_of, waiting_entry, put_in, by_deadline, held_entries}
+use Rattle.queued_jobs.specs.Queued.{in_state, with_job_in}
 use Rattle.queued_jobs.specs.Roles.{with_role_at}
 use Rattle.rank_heap.proofs.Tables.{grown_count}
 use Rattle.waiting_queue.specs.Queue.{Queue, without}
@@ -37,7 +39,8 @@ use Rattle.queued_jobs.proofs.Stepping.{agrees_release, agrees_complete, agrees_
 use Rattle.queued_jobs.proofs.Stepping.{agrees_wait, agrees_hold, agrees_stop, agrees_displace, agrees_abandon}
 
 module _ (tasks changed : List Task) (t : Task) (table : List (Option Entry)) (k : ℕ) where
-  pub release_step : (stack : List Entry) (job : Option (ℕ × ℕ)) (newest : Option ℕ) (upcoming worth : ℕ) → Splits t Fresh tasks changed
+  pub release_step : (stack : List Entry) (job : Option (ℕ × ℕ)) (newest : Option ℕ) (upcoming worth : ℕ)
+      → Splits t Fresh tasks changed
       → t.role ≡ Coming
       → Agrees tasks table k stack job newest upcoming worth
       → newest ≡ None
@@ -53,19 +56,22 @@ module _ (tasks changed : List Task) (t : Task) (table : List (Option Entry)) (k
       subst (λ ts. Agrees ts table k stack job (Some t.number) (t.number + 1) worth) (sym sp.after)
       (agrees_release sp.front sp.back t table k stack job worth role split)
 
-  pub complete_step : (stack : List Entry) (job : Option (ℕ × ℕ)) (newest : Option ℕ) (upcoming worth : ℕ) → Splits t Done tasks changed
+  pub complete_step : (stack : List Entry) (job : Option (ℕ × ℕ)) (newest : Option ℕ) (upcoming worth : ℕ)
+      → Splits t Done tasks changed
       → t.role ≡ Running
       → Agrees tasks table k stack job newest upcoming worth
       → Agrees changed table k stack None newest upcoming (worth + t.job.value)
   complete_step stack job newest upcoming worth sp role kept =
       let member : IsMember t tasks = subst (IsMember t) (sym sp.before) (in_middle sp.front sp.back t) in
-      let job_is = only_one turn_of is_running tasks job t kept.running member (passes is_running t Running true role refl) in
+      let job_is = only_one turn_of is_running tasks job t kept.running member
+      (passes is_running t Running true role refl) in
       let at1 = subst (λ o. Agrees tasks table k stack o newest upcoming worth) job_is kept in
       let split = subst (λ ts. Agrees ts table k stack (Some (turn_of t)) newest upcoming worth) sp.before at1 in
       subst (λ ts. Agrees ts table k stack None newest upcoming (worth + t.job.value)) (sym sp.after)
       (agrees_complete sp.front sp.back t table k stack newest upcoming worth role split)
 
-  pub resume_step : (e : Entry) (stack : List Entry) (job : Option (ℕ × ℕ)) (newest : Option ℕ) (upcoming worth : ℕ) → Splits t Running tasks changed
+  pub resume_step : (e : Entry) (stack : List Entry) (job : Option (ℕ × ℕ)) (newest : Option ℕ) (upcoming worth : ℕ)
+      → Splits t Running tasks changed
       → t.role ≡ Held
       → Agrees tasks table k (e ∷ stack) job newest upcoming worth
       → IsByDeadline (e ∷ stack)
@@ -80,7 +86,8 @@ module _ (tasks changed : List Task) (t : Task) (table : List (Option Entry)) (k
       subst (λ ts. Agrees ts table k stack (Some (turn_of t)) newest upcoming worth) (sym sp.after)
       (agrees_resume sp.front sp.back t table k e stack newest upcoming worth role split order same)
 
-  pub start_step : (stack : List Entry) (job : Option (ℕ × ℕ)) (newest : Option ℕ) (upcoming worth : ℕ) → Splits t Running tasks changed
+  pub start_step : (stack : List Entry) (job : Option (ℕ × ℕ)) (newest : Option ℕ) (upcoming worth : ℕ)
+      → Splits t Running tasks changed
       → t.role ≡ Waiting
       → Agrees tasks table k stack job newest upcoming worth
       → job ≡ None
@@ -93,7 +100,8 @@ module _ (tasks changed : List Task) (t : Task) (table : List (Option Entry)) (k
       subst (λ ts. Agrees ts (set table t.number None) k stack (Some (turn_of t)) newest upcoming worth) (sym sp.after)
       (agrees_start sp.front sp.back t table k stack newest upcoming worth role split)
 
-  pub begin_step : (stack : List Entry) (job : Option (ℕ × ℕ)) (newest : Option ℕ) (upcoming worth : ℕ) → Splits t Running tasks changed
+  pub begin_step : (stack : List Entry) (job : Option (ℕ × ℕ)) (newest : Option ℕ) (upcoming worth : ℕ)
+      → Splits t Running tasks changed
       → t.role ≡ Fresh
       → Agrees tasks table k stack job newest upcoming worth
       → job ≡ None
@@ -101,46 +109,53 @@ module _ (tasks changed : List Task) (t : Task) (table : List (Option Entry)) (k
   begin_step stack job newest upcoming worth sp role kept free =
       let member : IsMember t tasks = subst (IsMember t) (sym sp.before) (in_middle sp.front sp.back t) in
       let job_is = free in
-      let new_is = only_one (λ x. x.number) is_fresh tasks newest t kept.fresh member (passes is_fresh t Fresh true role refl) in
+      let new_is = only_one (λ x. x.number) is_fresh tasks newest t kept.fresh member
+      (passes is_fresh t Fresh true role refl) in
       let at1 = subst (λ o. Agrees tasks table k stack o newest upcoming worth) job_is kept in
       let at2 = subst (λ o. Agrees tasks table k stack None o upcoming worth) new_is at1 in
       let split = subst (λ ts. Agrees ts table k stack None (Some t.number) upcoming worth) sp.before at2 in
       subst (λ ts. Agrees ts table k stack (Some (turn_of t)) None upcoming worth) (sym sp.after)
       (agrees_begin sp.front sp.back t table k stack upcoming worth role split)
 
-  pub wait_step : (stack : List Entry) (job : Option (ℕ × ℕ)) (newest : Option ℕ) (upcoming worth : ℕ) → Splits t Waiting tasks changed
+  pub wait_step : (stack : List Entry) (job : Option (ℕ × ℕ)) (newest : Option ℕ) (upcoming worth : ℕ)
+      → Splits t Waiting tasks changed
       → t.role ≡ Fresh
       → Agrees tasks table k stack job newest upcoming worth
       → Agrees changed (set table t.number (Some (entry_of t))) k stack job None upcoming worth
   wait_step stack job newest upcoming worth sp role kept =
       let member : IsMember t tasks = subst (IsMember t) (sym sp.before) (in_middle sp.front sp.back t) in
-      let new_is = only_one (λ x. x.number) is_fresh tasks newest t kept.fresh member (passes is_fresh t Fresh true role refl) in
+      let new_is = only_one (λ x. x.number) is_fresh tasks newest t kept.fresh member
+      (passes is_fresh t Fresh true role refl) in
       let at1 = subst (λ o. Agrees tasks table k stack job o upcoming worth) new_is kept in
       let split = subst (λ ts. Agrees ts table k stack job (Some t.number) upcoming worth) sp.before at1 in
       subst (λ ts. Agrees ts (set table t.number (Some (entry_of t))) k stack job None upcoming worth) (sym sp.after)
       (agrees_wait sp.front sp.back t table k stack job upcoming worth role split)
 
-  pub hold_step : (stack : List Entry) (job : Option (ℕ × ℕ)) (newest : Option ℕ) (upcoming worth : ℕ) → Splits t Held tasks changed
+  pub hold_step : (stack : List Entry) (job : Option (ℕ × ℕ)) (newest : Option ℕ) (upcoming worth : ℕ)
+      → Splits t Held tasks changed
       → t.role ≡ Running
       → Agrees tasks table k stack job newest upcoming worth
       → Each (λ x. is_held x ≡ true → t.job.deadline < x.job.deadline) tasks
       → Agrees changed table k (entry_of t ∷ stack) None newest upcoming worth
   hold_step stack job newest upcoming worth sp role kept later =
       let member : IsMember t tasks = subst (IsMember t) (sym sp.before) (in_middle sp.front sp.back t) in
-      let job_is = only_one turn_of is_running tasks job t kept.running member (passes is_running t Running true role refl) in
+      let job_is = only_one turn_of is_running tasks job t kept.running member
+      (passes is_running t Running true role refl) in
       let at1 = subst (λ o. Agrees tasks table k stack o newest upcoming worth) job_is kept in
       let split = subst (λ ts. Agrees ts table k stack (Some (turn_of t)) newest upcoming worth) sp.before at1 in
       subst (λ ts. Agrees ts table k (entry_of t ∷ stack) None newest upcoming worth) (sym sp.after)
       (agrees_hold sp.front sp.back t table k stack newest upcoming worth role split
       (subst (Each (λ x. is_held x ≡ true → t.job.deadline < x.job.deadline)) sp.before later))
 
-  pub stop_step : (stack : List Entry) (job : Option (ℕ × ℕ)) (newest : Option ℕ) (upcoming worth : ℕ) → Splits t Waiting tasks changed
+  pub stop_step : (stack : List Entry) (job : Option (ℕ × ℕ)) (newest : Option ℕ) (upcoming worth : ℕ)
+      → Splits t Waiting tasks changed
       → t.role ≡ Running
       → Agrees tasks table k stack job newest upcoming worth
       → Agrees changed (set table t.number (Some (entry_of t))) k stack None newest upcoming worth
   stop_step stack job newest upcoming worth sp role kept =
       let member : IsMember t tasks = subst (IsMember t) (sym sp.before) (in_middle sp.front sp.back t) in
-      let job_is = only_one turn_of is_running tasks job t kept.running member (passes is_running t Running true role refl) in
+      let job_is = only_one turn_of is_running tasks job t kept.running member
+      (passes is_running t Running true role refl) in
       let at1 = subst (λ o. Agrees tasks table k stack o newest upcoming worth) job_is kept in
       let split = subst (λ ts. Agrees ts table k stack (Some (turn_of t)) newest upcoming worth) sp.before at1 in
       subst (λ ts. Agrees ts (set table t.number (Some (entry_of t))) k stack None newest upcoming worth) (sym sp.after)
@@ -158,7 +173,8 @@ module _ (tasks changed : List Task) (t : Task) (table : List (Option Entry)) (k
       subst (λ ts. Agrees ts (set table t.number (Some (entry_of t))) k stack job newest upcoming worth) (sym sp.after)
       (agrees_displace sp.front sp.back t table k e stack job newest upcoming worth role split order same)
 
-  pub abandon_step : (stack : List Entry) (job : Option (ℕ × ℕ)) (newest : Option ℕ) (upcoming worth : ℕ) → Splits t Gone tasks changed
+  pub abandon_step : (stack : List Entry) (job : Option (ℕ × ℕ)) (newest : Option ℕ) (upcoming worth : ℕ)
+      → Splits t Gone tasks changed
       → t.role ≡ Waiting
       → Agrees tasks table k stack job newest upcoming worth
       → Agrees changed (set table t.number None) k stack job newest upcoming worth
@@ -199,7 +215,8 @@ value_room p tasks t member fails =
       some true n = omega arith
       some false n = omega arith
 
-      below : (ts : List Task) → IsMember t ts → sum_by (λ x. cond (p x) x.job.value 0) ts + t.job.value ≤ sum_by (λ x. x.job.value) ts
+      below : (ts : List Task) → IsMember t ts
+          → sum_by (λ x. cond (p x) x.job.value 0) ts + t.job.value ≤ sum_by (λ x. x.job.value) ts
       below [] m = absurd m
       below (x ∷ ts) (inl e) =
           let one = sum_by-cons (λ y. cond (p y) y.job.value 0) x ts in
@@ -216,13 +233,15 @@ value_room p tasks t member fails =
           omega (arith, one, other, rest, here)
 
 -- a job that fails a test leaves fewer that pass
-pub fewer_pass : (p : Task → Bool) (tasks : List Task) (t : Task) → IsMember t tasks → p t ≡ false → length (filter p tasks) + 1 ≤ length tasks
+pub fewer_pass : (p : Task → Bool) (tasks : List Task) (t : Task) → IsMember t tasks → p t ≡ false
+    → length (filter p tasks) + 1 ≤ length tasks
 fewer_pass p [] t m fails = absurd m
 fewer_pass p (x ∷ tasks) t (inl e) fails = by_test (p x) (ap p (sym e) ∙ fails) (most tasks) where
   most : (ts : List Task) → length (filter p ts) ≤ length ts
   most [] = omega arith
   most (y ∷ ts) = by_one (p y) (most ts) where
-    by_one : (b : Bool) → length (filter p ts) ≤ length ts → length (cond b (y ∷ filter p ts) (filter p ts)) ≤ length (y ∷ ts)
+    by_one : (b : Bool) → length (filter p ts) ≤ length ts
+        → length (cond b (y ∷ filter p ts) (filter p ts)) ≤ length (y ∷ ts)
     by_one true rest = omega (arith, rest)
     by_one false rest = omega (arith, rest)
 
@@ -231,7 +250,8 @@ fewer_pass p (x ∷ tasks) t (inl e) fails = by_test (p x) (ap p (sym e) ∙ fai
   by_test true h rest = never (sym h)
   by_test false h rest = omega (arith, rest)
 fewer_pass p (x ∷ tasks) t (inr m) fails = by_test (p x) (fewer_pass p tasks t m fails) where
-  by_test : (b : Bool) → length (filter p tasks) + 1 ≤ length tasks → length (cond b (x ∷ filter p tasks) (filter p tasks)) + 1 ≤ length (x ∷ tasks)
+  by_test : (b : Bool) → length (filter p tasks) + 1 ≤ length tasks
+      → length (cond b (x ∷ filter p tasks) (filter p tasks)) + 1 ≤ length (x ∷ tasks)
   by_test true rest = omega (arith, rest)
   by_test false rest = omega (arith, rest)
 
@@ -242,39 +262,48 @@ length_sorted (x ∷ xs) = put_length x (by_deadline xs) ∙ ap suc (length_sort
   put_length : (e : Entry) (ys : List Entry) → length (put_in e ys) ≡ suc (length ys)
   put_length e [] = refl
   put_length e (y ∷ ys) = by_test (nat_lt y.deadline e.deadline) (put_length e ys) where
-    by_test : (b : Bool) → length (put_in e ys) ≡ suc (length ys) → length (cond b (y ∷ put_in e ys) (e ∷ y ∷ ys)) ≡ suc (suc (length ys))
+    by_test : (b : Bool) → length (put_in e ys) ≡ suc (length ys)
+        → length (cond b (y ∷ put_in e ys) (e ∷ y ∷ ys)) ≡ suc (suc (length ys))
     by_test true rest = ap suc rest
     by_test false rest = refl
 
-pub stack_length : (tasks : List Task) (stack : List Entry) → stack ≡ held_entries tasks → length stack ≡ length (filter is_held tasks)
-stack_length tasks stack is = ap length is ∙ length_sorted (map entry_of (filter is_held tasks)) ∙ length-map (filter is_held tasks) entry_of
+pub stack_length : (tasks : List Task) (stack : List Entry) → stack ≡ held_entries tasks
+    → length stack ≡ length (filter is_held tasks)
+stack_length tasks stack is = ap length is ∙ length_sorted (map entry_of (filter is_held tasks))
+    ∙ length-map (filter is_held tasks) entry_of
 
 -- what holds of each entry holds of the top
-pub top_later : (d : ℕ) (stack : List Entry) (x : Entry) → Each (λ f. d < f.deadline) stack → top_of stack ≡ Some x → d < x.deadline
+pub top_later : (d : ℕ) (stack : List Entry) (x : Entry) → Each (λ f. d < f.deadline) stack → top_of stack ≡ Some x
+    → d < x.deadline
 top_later d [] x all top = none_is_some top
 top_later d (e ∷ stack) x all top = subst (λ y. d < y.deadline) (some_same e x top) (all e (inl refl))
 
 -- a job that is found has the number at which it is found
-pub found_number : (m : ℕ) (tasks : List Task) (n : ℕ) (t : Task) → IsNumberedFrom m tasks → slice_get tasks n ≡ Some t → t.number ≡ m + n
+pub found_number : (m : ℕ) (tasks : List Task) (n : ℕ) (t : Task) → IsNumberedFrom m tasks → slice_get tasks n ≡ Some t
+    → t.number ≡ m + n
 found_number m [] n t all found = none_is_some found
-found_number m (x ∷ tasks) zero t all found = ap (λ (y : Task). y.number) (sym (some_same x t found)) ∙ all.0 ∙ add_none m where
-  add_none : (k : ℕ) → k ≡ k + 0
-  add_none k = omega arith
+found_number m (x ∷ tasks) zero t all found = ap (λ (y : Task). y.number) (sym (some_same x t found)) ∙ all.0
+    ∙ add_none m where
+      add_none : (k : ℕ) → k ≡ k + 0
+      add_none k = omega arith
 found_number m (x ∷ tasks) (suc n) t all found = found_number (suc m) tasks n t all.1 found ∙ shift m n where
   shift : (k l : ℕ) → suc k + l ≡ k + suc l
   shift k l = omega arith
 
 -- what stands in the table at a number
-pub table_at : (tasks : List Task) (table : List (Option Entry)) (k n : ℕ) (t : Task) → table ≡ map waiting_entry tasks ++ replicate k None
+pub table_at : (tasks : List Task) (table : List (Option Entry)) (k n : ℕ) (t : Task)
+    → table ≡ map waiting_entry tasks ++ replicate k None
     → slice_get tasks n ≡ Some t → get_or table n None ≡ waiting_entry t
 table_at tasks table k n t is found = ap (λ l. get_or l n None) is ∙ by_place tasks n found where
-  by_place : (ts : List Task) (m : ℕ) → slice_get ts m ≡ Some t → get_or (map waiting_entry ts ++ replicate k None) m None ≡ waiting_entry t
+  by_place : (ts : List Task) (m : ℕ) → slice_get ts m ≡ Some t
+      → get_or (map waiting_entry ts ++ replicate k None) m None ≡ waiting_entry t
   by_place [] m at = none_is_some at
   by_place (x ∷ ts) zero at = ap waiting_entry (some_same x t at)
   by_place (x ∷ ts) (suc m) at = by_place ts m at
 
 -- at most as many wait as there are jobs
-pub few_wait : (tasks : List Task) (table : List (Option Entry)) (k : ℕ) → table ≡ map waiting_entry tasks ++ replicate k None
+pub few_wait : (tasks : List Task) (table : List (Option Entry)) (k : ℕ)
+    → table ≡ map waiting_entry tasks ++ replicate k None
     → count_by is_some table ≤ length tasks
 few_wait tasks table k is =
     let same : count_by is_some table ≡ count_by is_some (map waiting_entry tasks) =
@@ -282,7 +311,8 @@ few_wait tasks table k is =
     omega (arith, same, count_by-le-length is_some (map waiting_entry tasks), length-map tasks waiting_entry)
 
 -- no job of the processor where none runs
-pub free_job : (tasks : List Task) (job : Option (ℕ × ℕ)) → map turn_of (filter is_running tasks) ≡ option_to_list job → find is_running tasks ≡ None
+pub free_job : (tasks : List Task) (job : Option (ℕ × ℕ)) → map turn_of (filter is_running tasks) ≡ option_to_list job
+    → find is_running tasks ≡ None
     → job ≡ None
 free_job tasks job one none = by_option job (sym one ∙ ap (map turn_of) (none_found is_running tasks none)) where
   by_option : (o : Option (ℕ × ℕ)) → option_to_list o ≡ [] → o ≡ None
@@ -292,17 +322,20 @@ free_job tasks job one none = by_option job (sym one ∙ ap (map turn_of) (none_
     cons_none e = cc
 
 -- no fresh number where none is fresh
-pub stale_number : (tasks : List Task) (newest : Option ℕ) → map (λ (t : Task). t.number) (filter is_fresh tasks) ≡ option_to_list newest
+pub stale_number : (tasks : List Task) (newest : Option ℕ)
+    → map (λ (t : Task). t.number) (filter is_fresh tasks) ≡ option_to_list newest
     → find is_fresh tasks ≡ None → newest ≡ None
-stale_number tasks newest one none = by_option newest (sym one ∙ ap (map (λ (t : Task). t.number)) (none_found is_fresh tasks none)) where
-  by_option : (o : Option ℕ) → option_to_list o ≡ [] → o ≡ None
-  by_option None e = refl
-  by_option (Some j) e = absurd (cons_none e) where
-    cons_none : j ∷ [] ≡ [] → ⊥
-    cons_none e = cc
+stale_number tasks newest one none =
+    by_option newest (sym one ∙ ap (map (λ (t : Task). t.number)) (none_found is_fresh tasks none)) where
+      by_option : (o : Option ℕ) → option_to_list o ≡ [] → o ≡ None
+      by_option None e = refl
+      by_option (Some j) e = absurd (cons_none e) where
+        cons_none : j ∷ [] ≡ [] → ⊥
+        cons_none e = cc
 
 -- the queue without a waiting job
-pub taken_out : (w left_ : Queue) (tasks : List Task) (k : ℕ) (t : Task) (r : Option Entry) → w.table ≡ map waiting_entry tasks ++ replicate k None
+pub taken_out : (w left_ : Queue) (tasks : List Task) (k : ℕ) (t : Task) (r : Option Entry)
+    → w.table ≡ map waiting_entry tasks ++ replicate k None
     → slice_get tasks t.number ≡ Some t → t.role ≡ Waiting → r ≡ get_or w.table t.number None → left_ ≡ without w r
     → left_ ≡ record { version = w.version; table = set w.table t.number None }
 taken_out w left_ tasks k t r is found role was rest =
@@ -340,7 +373,8 @@ pub record IsTop (t : Task) (tasks : List Task) (stack : List Entry) : Type 0 wh
   pub found : slice_get tasks t.number ≡ Some t
   pub role : t.role ≡ Held
 
-pub top_job : (v : Version) (tasks : List Task) (stack : List Entry) (t : Task) → IsNumberedFrom 0 tasks → stack ≡ held_entries tasks
+pub top_job : (v : Version) (tasks : List Task) (stack : List Entry) (t : Task) → IsNumberedFrom 0 tasks
+    → stack ≡ held_entries tasks
     → IsByDeadline stack
     → first (due_first v) (filter is_held tasks) ≡ Some t → IsTop t tasks stack
 top_job v tasks [] t all is order top = none_is_some (held_none v tasks [] is refl ∙ top)

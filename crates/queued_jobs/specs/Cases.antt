@@ -16,4 +16,5 @@ arrival_of v = arrival v v.coming
 
 -- the job x takes the processor from r, or is abandoned
 abbrev pub alarm_of : Fraction → View → Task → Task → Move
-alarm_of k v r x = Prints (if is_heavy k x.job.value v.value then Take v.clock r.number x.number else Abandon v.clock x.number)
+alarm_of k v r x = Prints
+    (if is_heavy k x.job.value v.value then Take v.clock r.number x.number else Abandon v.clock x.number)

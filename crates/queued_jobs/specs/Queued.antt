@@ -1,5 +1,6 @@
 -- Jobs by number, with queues of those that wait or are held.
-use Rattle.std.specs.Prelude.{◌≡◌, ℕ, ◌+◌, ◌≤◌, List, [], ◌∷◌, ◌++◌, length, map, replicate, nat_le, nat_lt, Option, Some, None, if◌then◌else◌}
+use Rattle.std.specs.Prelude.{◌≡◌, ℕ, ◌+◌, ◌≤◌, List, [], ◌∷◌, ◌++◌, length, map, replicate, nat_le, nat_lt, Option}
+use Rattle.std.specs.Prelude.{Some, None, if◌then◌else◌}
 use Rattle.std.specs.Prelude.{vec_len, vec_capacity}
 use Rattle.std.specs.Option.{option_to_list}
 use Rattle.std.specs.List.{filter}
@@ -8,7 +9,8 @@ use Rattle.dover_model.specs.declared.events.Entry.{Entry}
 use Rattle.dover_model.specs.Limits.{most_jobs}
 use Rattle.dover_model.specs.Instance.{Rules, Instance, IsValid}
 use Rattle.dover_model.specs.Step.{Move, open_step, after}
-use Rattle.dover_model.specs.State.{State, is_coming, is_fresh, is_waiting, is_held, is_running, is_done, left, value_sum}
+use Rattle.dover_model.specs.State.{State, is_coming, is_fresh, is_waiting, is_held, is_running, is_done, left}
+use Rattle.dover_model.specs.State.{value_sum}
 use Rattle.dover_model.specs.Entries.{entry_of}
 use Rattle.dover_model.specs.Sound.{Each, IsNumberedFrom, IsSound, jobs_of}
 use Rattle.dover_model.specs.declared.events.Role.{Role}
@@ -74,7 +76,8 @@ abbrev pub held_entries : List Task → List Entry
 held_entries tasks = by_deadline (map entry_of (filter is_held tasks))
 
 -- the queues agree with the tasks; k numbers more are ready than there are tasks
-pub record Agrees (tasks : List Task) (table : List (Option Entry)) (k : ℕ) (stack : List Entry) (job : Option (ℕ × ℕ)) (newest : Option ℕ)
+pub record Agrees (tasks : List Task) (table : List (Option Entry)) (k : ℕ) (stack : List Entry) (job : Option (ℕ × ℕ))
+    (newest : Option ℕ)
     (upcoming worth : ℕ) : Type 0 where
   pub numbered : IsNumberedFrom 0 tasks
   pub running : map turn_of (filter is_running tasks) ≡ option_to_list job
@@ -88,7 +91,8 @@ pub record Agrees (tasks : List Task) (table : List (Option Entry)) (k : ℕ) (s
 -- the fields agree with the tasks, and there is room for the spare jobs
 pub record IsQueued (a : Inside) : Type 0 where
   pub version : a.waiting.version ≡ a.version
-  pub agrees : (k : ℕ) × (a.spare ≤ k) × Agrees a.tasks.items a.waiting.table k a.held.held a.cpu.job a.fresh a.next a.done
+  pub agrees : (k : ℕ) × (a.spare ≤ k)
+      × Agrees a.tasks.items a.waiting.table k a.held.held a.cpu.job a.fresh a.next a.done
   pub latest : a.held.latest ≤ a.cpu.clock
   pub fits : vec_len a.tasks + a.spare ≤ vec_capacity a.tasks
   pub fits_held : vec_len a.tasks + a.spare ≤ length a.held.held + a.held.spare

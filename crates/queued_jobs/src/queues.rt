@@ -1,11 +1,14 @@
 //! The jobs and their queues.
-ghost use Rattle.std.specs.Prelude.{◌≡◌, ◌≢◌, ◌≤◌, ◌<◌, ◌+◌, ◌-◌, ◌*◌, ◌^◌, ℕ, length, [], ◌∷◌, ◌++◌, Some, None, IfOk, IsOk, IfSome, OnOk, OnErr, IsNone, IsSome, true, max, map, vec_len, vec_capacity};
+ghost use Rattle.std.specs.Prelude.{◌≡◌, ◌≢◌, ◌≤◌, ◌<◌, ◌+◌, ◌-◌, ◌*◌, ◌^◌, ℕ, length, [], ◌∷◌, ◌++◌, Some, None, IfOk};
+ghost use Rattle.std.specs.Prelude.{IsOk, IfSome, OnOk, OnErr, IsNone, IsSome, true, max, map, vec_len, vec_capacity};
 ghost use Rattle.std.specs.List.{filter, find, slice_get, list_all};
 ghost use Rattle.std.specs.Option.{option_to_list, option_map};
 ghost use Rattle.dover_model.specs.Limits.{most_jobs, most_total, last_tick};
-ghost use Rattle.dover_model.specs.declared.events.Role.TheVariants.{Coming, Fresh, Waiting as Waits, Held, Running, Done, Gone};
+ghost use Rattle.dover_model.specs.declared.events.Role.TheVariants.{Coming, Fresh, Waiting as Waits, Held, Running};
+ghost use Rattle.dover_model.specs.declared.events.Role.TheVariants.{Done, Gone};
 ghost use Rattle.dover_model.specs.Instance.{IsValid, with_jobs};
-ghost use Rattle.dover_model.specs.State.{State, opening, with_later, is_over, is_done, is_fresh, is_coming, is_held, is_running, left, latest_start, value_sum};
+ghost use Rattle.dover_model.specs.State.{State, opening, with_later, is_over, is_done, is_fresh, is_coming, is_held};
+ghost use Rattle.dover_model.specs.State.{is_running, left, latest_start, value_sum};
 ghost use Rattle.dover_model.specs.State.{running, held, waiting, privileged, room};
 ghost use Rattle.dover_model.specs.Orders.{due_first, latest_first, first};
 ghost use Rattle.dover_model.specs.Step.{open_step, view, after, is_at_latest_start, resumed, runs};
@@ -120,7 +123,8 @@ fn serve(tasks: &mut Vec<Task>, runner: Option<u32>, ticks: u64)
 impl Queues {
     /// No jobs, and no room.
     pub fn new(alloc: Global, version: Version, ratio: Ratio) -> Result<Queues, Memory>
-        ensures { IfOk result (λ q. q ≡ record { rules = record { ratio = ratio; version = version }; state = opening []; spare = 0 }) }
+        ensures { IfOk result (λ q. q ≡ record
+            { rules = record { ratio = ratio; version = version }; state = opening []; spare = 0 }) }
     {
         Ok(Queues {
             version,
@@ -136,7 +140,8 @@ impl Queues {
         })
     }
 
-    /// Makes room for `more` further jobs. Where there is room for them, it takes no memory; want of it leaves all as before.
+    /// Makes room for `more` further jobs. Where there is room for them, it takes no memory; want of it leaves all as
+    /// before.
     pub fn reserve(&mut self, more: u32) -> Result<(), Memory>
         requires { length self.old.state.tasks + more ≤ most_jobs }
         ensures ok { OnOk result (self.new ≡ record self.old { spare = max self.old.spare more }) }
@@ -255,7 +260,8 @@ impl Queues {
     // Of the waiting jobs at their latest start, the first in that order.
     fn first_late(&self) -> Option<Task>
         requires { IsSound self.now.state }
-        ensures { result ≡ first (latest_first self.now.rules.version) (filter (is_at_latest_start self.now.state) (waiting self.now.state)) }
+        ensures { result ≡ first (latest_first self.now.rules.version)
+            (filter (is_at_latest_start self.now.state) (waiting self.now.state)) }
     {
         let e = self.waiting.first_latest()?;
         if e.latest != self.cpu.clock() {
@@ -325,7 +331,8 @@ impl Queues {
         requires valid { IsValid (instance_of self.now) }
         requires sound { IsSound self.now.state }
         requires running { running self.now.state ≡ Some r.now }
-        ensures { step_of result ≡ alarm_of self.now.rules.ratio (view self.now.rules.version self.now.state) r.now x.now }
+        ensures { step_of result ≡ alarm_of self.now.rules.ratio
+            (view self.now.rules.version self.now.state) r.now x.now }
     {
         if heavy(x.job.value(), self.value_busy(r), self.ratio) {
             Move::Prints(Event::Take {
@@ -606,7 +613,8 @@ impl Queues {
     fn displace_held<L: Ledger>(&mut self, steps: &mut Steps<L>)
         requires numbered { IsNumberedFrom 0 self.old.state.tasks }
         requires free { running self.old.state ≡ None }
-        ensures waits { self.new ≡ in_state self.old (record { clock = self.old.state.clock; tasks = all_displaced self.old.state.tasks }) }
+        ensures waits { self.new ≡ in_state self.old
+            (record { clock = self.old.state.clock; tasks = all_displaced self.old.state.tasks }) }
         ensures count { (d : ℕ) → length self.old.state.tasks + 1 < 2 ^ d → steps.new ≤
             steps.old + 2 * d * length (held self.old.state) }
     {
@@ -680,7 +688,8 @@ impl Queues {
         requires { IsSound self.now.state }
         ensures most { result ≤ most }
         ensures due { Each (λ t. t.role ≡ Waits → self.now.state.clock + result ≤ latest_start t) self.now.state.tasks }
-        ensures all { (n : ℕ) → n ≤ most → Each (λ t. t.role ≡ Waits → self.now.state.clock + n ≤ latest_start t) self.now.state.tasks →
+        ensures all { (n : ℕ) → n ≤ most
+            → Each (λ t. t.role ≡ Waits → self.now.state.clock + n ≤ latest_start t) self.now.state.tasks →
             n ≤ result }
     {
         match self.waiting.first_latest() {
@@ -695,7 +704,8 @@ impl Queues {
         requires sound { IsSound self.now.state }
         ensures most { result ≤ most }
         ensures due { Each (λ t. t.role ≡ Coming → self.now.state.clock + result ≤ t.job.release) self.now.state.tasks }
-        ensures all { (n : ℕ) → n ≤ most → Each (λ t. t.role ≡ Coming → self.now.state.clock + n ≤ t.job.release) self.now.state.tasks →
+        ensures all { (n : ℕ) → n ≤ most
+            → Each (λ t. t.role ≡ Coming → self.now.state.clock + n ≤ t.job.release) self.now.state.tasks →
             n ≤ result }
     {
         match self.coming() {
@@ -704,7 +714,8 @@ impl Queues {
         }
     }
 
-    /// How many silent ticks come before anything is due, all of them but at most so many, where the next step is a silent tick.
+    /// How many silent ticks come before anything is due, all of them but at most so many, where the next step is a
+    /// silent tick.
     pub fn silent_ticks(&self, most: u64) -> u64
         requires { IsNext self.now TicksOn }
         ensures most { result ≤ most }

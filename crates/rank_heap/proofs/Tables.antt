@@ -1,5 +1,6 @@
 -- Tables with the entry of one number changed, and with more numbers.
-use Rattle.std.proofs.Common.{◌≡◌, ℕ, zero, suc, ◌+◌, ◌<◌, cond, List, [], ◌∷◌, ◌++◌, Option, Some, None, length, set, get_or, replicate}
+use Rattle.std.proofs.Common.{◌≡◌, ℕ, zero, suc, ◌+◌, ◌<◌, cond, List, [], ◌∷◌, ◌++◌, Option, Some, None, length, set}
+use Rattle.std.proofs.Common.{get_or, replicate}
 use Rattle.std.proofs.Common.{refl, ap, ◌∙◌, sym, arith, ◌⊎◌, inl, inr, ◌≤◌}
 use Rattle.std.specs.Prelude.{is_some, IfSome}
 use Rattle.std.specs.List.{count_by}
@@ -28,13 +29,16 @@ count_taken t n e inside there =
     omega (arith, one_there, sum_by-set one_for t n None None inside)
 
 -- what is taken frees its number, and leaves all numbers ready
-pub taken_free : {O : Type 0} (m : Members O) (n : ℕ) (r : Option Entry) → r ≡ get_or m.table n None → IfSome r (λ e. e.number ≡ n)
+pub taken_free : {O : Type 0} (m : Members O) (n : ℕ) (r : Option Entry) → r ≡ get_or m.table n None
+    → IfSome r (λ e. e.number ≡ n)
     → get_or (without_member m r).table n None ≡ None
 taken_free m n None is named = sym is
 taken_free m n (Some e) is named = rw (← named) (by_length (cases_lt e.number (length m.table))) where
-  by_length : (e.number < length m.table) ⊎ (length m.table ≤ e.number) → get_or (set m.table e.number None) e.number None ≡ None
+  by_length : (e.number < length m.table) ⊎ (length m.table ≤ e.number)
+      → get_or (set m.table e.number None) e.number None ≡ None
   by_length (inl inside) = get_or-set_same m.table e.number None None inside
-  by_length (inr past) = get_or_past (set m.table e.number None) e.number None (omega (arith, past, length-set m.table e.number None))
+  by_length (inr past) = get_or_past (set m.table e.number None) e.number None
+      (omega (arith, past, length-set m.table e.number None))
 
 pub taken_len : {O : Type 0} (m : Members O) (r : Option Entry) → length (without_member m r).table ≡ length m.table
 taken_len m None = refl

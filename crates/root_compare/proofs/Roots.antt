@@ -13,18 +13,21 @@ pub square_small : (p q a : ℕ) → p ≤ 1_000_000 → q ≤ 1_000 → a ≤ 1
     4 * p * q * a * a ≤ 400_000_000_000_000_000_000_000_000_000_000_000
 square_small p q a small_p small_q small_a =
     let pq : (4 * p) * q ≤ 4_000_000 * 1_000 = mul-le (4 * p) q 4_000_000 1_000 (omega arith) small_q in
-    let aa : a * a ≤ 10_000_000_000_000 * 10_000_000_000_000 = mul-le a a 10_000_000_000_000 10_000_000_000_000 small_a small_a in
+    let aa : a * a ≤ 10_000_000_000_000 * 10_000_000_000_000 =
+    mul-le a a 10_000_000_000_000 10_000_000_000_000 small_a small_a in
     let all : ((4 * p) * q) * (a * a) ≤ (4_000_000 * 1_000) * (10_000_000_000_000 * 10_000_000_000_000) =
     mul-le ((4 * p) * q) (a * a) (4_000_000 * 1_000) (10_000_000_000_000 * 10_000_000_000_000) pq aa in
     omega (arith, all)
 
 -- its root is small
-pub root_small : (root square : ℕ) → root * root ≤ square → square ≤ 400_000_000_000_000_000_000_000_000_000_000_000 → root
+pub root_small : (root square : ℕ) → root * root ≤ square → square ≤ 400_000_000_000_000_000_000_000_000_000_000_000
+    → root
     ≤ 1_000_000_000_000_000_000
 root_small root square within small = square_order root 1_000_000_000_000_000_000 (omega (arith, within, small))
 
 -- what is added to the root stays below 2 ^ 64
-pub sum_small : (p q a : ℕ) → p ≤ 1_000_000 → q ≤ 1_000 → a ≤ 10_000_000_000_000 → (p + q) * a ≤ 10_010_000_000_000_000_000
+pub sum_small : (p q a : ℕ) → p ≤ 1_000_000 → q ≤ 1_000 → a ≤ 10_000_000_000_000
+    → (p + q) * a ≤ 10_010_000_000_000_000_000
 sum_small p q a small_p small_q small_a = mul-le (p + q) a 1_001_000 10_000_000_000_000 (omega arith) small_a
 
 -- two greatest numbers are one
@@ -37,7 +40,8 @@ module _ (k : Fraction) (a root : ℕ) (some : 1 ≤ k.q)
     (greatest : (r : ℕ) → r * r ≤ 4 * k.p * k.q * a * a → r ≤ root) where
   -- what is over at the value that the root gives is at most the root
   over : k.q * (((k.p + k.q) * a + root) / k.q) - (k.p + k.q) * a ≤ root
-  over = let whole : k.q * (((k.p + k.q) * a + root) / k.q) ≤ (k.p + k.q) * a + root = mul-div-le ((k.p + k.q) * a + root) k.q in omega (arith, whole)
+  over = let whole : k.q * (((k.p + k.q) * a + root) / k.q) ≤ (k.p + k.q) * a + root =
+      mul-div-le ((k.p + k.q) * a + root) k.q in omega (arith, whole)
 
   -- so the value is within
   does : IsTrue (is_within k (((k.p + k.q) * a + root) / k.q) a)

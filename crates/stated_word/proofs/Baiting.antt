@@ -20,7 +20,8 @@ use Rattle.stated_word.specs.declared.bait.Baited.{Baited}
 use Rattle.stated_word.specs.declared.tally.Tally.{Tally}
 use Rattle.stated_word.specs.Record.{IsAnswerFor}
 
-module _ (k : Fraction) (rounds : ℕ) (feed : Baiting) (is : feed ≡ record { ratio = k; rounds = rounds; jobs = bait_jobs k rounds }) where
+module _ (k : Fraction) (rounds : ℕ) (feed : Baiting)
+    (is : feed ≡ record { ratio = k; rounds = rounds; jobs = bait_jobs k rounds }) where
   -- its jobs are valid
   pub feed_valid : 1 ≤ rounds → IsRatio feed.ratio → FitsLimits feed.ratio feed.rounds → IsValid (stated k feed.jobs)
   feed_valid some ratio fits =
@@ -30,21 +31,26 @@ module _ (k : Fraction) (rounds : ℕ) (feed : Baiting) (is : feed ≡ record { 
       (valid k rounds here within (some_bait k rounds here some within) One)
 
   -- its run completes the last job of the chain, and no other
-  pub feed_alone : 1 ≤ rounds → IsRatio feed.ratio → FitsLimits feed.ratio feed.rounds → CompletesLastAlone k rounds (bait_instance k rounds)
+  pub feed_alone : 1 ≤ rounds → IsRatio feed.ratio → FitsLimits feed.ratio feed.rounds
+      → CompletesLastAlone k rounds (bait_instance k rounds)
   feed_alone some ratio fits =
       completes_last_alone k One rounds some
       (subst (λ jobs. IsValid (stated k jobs)) (ap (λ (b : Baiting). b.jobs) is) (feed_valid some ratio fits))
 
   -- as many are still to come as it has
   pub feed_count : (jobs : ℕ) → jobs ≡ length (bait_jobs feed.ratio feed.rounds) → jobs ≡ length feed.jobs
-  feed_count jobs count = count ∙ ap (λ (b : Baiting). length (bait_jobs b.ratio b.rounds)) is ∙ sym (ap (λ (b : Baiting). length b.jobs) is)
+  feed_count jobs count = count ∙ ap (λ (b : Baiting). length (bait_jobs b.ratio b.rounds)) is
+      ∙ sym (ap (λ (b : Baiting). length b.jobs) is)
 
   -- what was counted of its run, and its numbers
   pub baited_is : (jobs schedule most : ℕ) (tally : Tally) → jobs ≡ length (bait_jobs feed.ratio feed.rounds)
-      → schedule ≡ plan_value feed.ratio feed.rounds → tally ≡ tally_of feed.jobs (printed (stated k feed.jobs)) → most ≡ bound k tally.value
+      → schedule ≡ plan_value feed.ratio feed.rounds → tally ≡ tally_of feed.jobs (printed (stated k feed.jobs))
+      → most ≡ bound k tally.value
       → record { jobs = jobs; value = tally.value; schedule = schedule; bound = most } ≡ baited_of k rounds
-  baited_is jobs schedule most tally count plan counted bounds = same (count ∙ ap (λ (b : Baiting). length (bait_jobs b.ratio b.rounds)) is) value
-      (plan ∙ ap (λ (b : Baiting). plan_value b.ratio b.rounds) is ∙ sym (plan_worth k rounds One)) (bounds ∙ ap (bound k) value) where
+  baited_is jobs schedule most tally count plan counted bounds =
+      same (count ∙ ap (λ (b : Baiting). length (bait_jobs b.ratio b.rounds)) is) value
+      (plan ∙ ap (λ (b : Baiting). plan_value b.ratio b.rounds) is ∙ sym (plan_worth k rounds One))
+      (bounds ∙ ap (bound k) value) where
         value : tally.value ≡ completed_value (bait_instance k rounds)
         value = ap (λ (t : Tally). t.value) counted ∙ ap (λ (b : Baiting). completed_value (stated k b.jobs)) is
 

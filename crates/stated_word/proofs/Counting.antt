@@ -1,5 +1,6 @@
 -- What is counted with one step more, and with one job more.
-use Rattle.std.proofs.Common.{◌≡◌, ℕ, suc, zero, ◌+◌, ◌*◌, ◌≤◌, ◌<◌, List, [], ◌∷◌, ◌++◌, length, refl, ap, cond, arith, length-append}
+use Rattle.std.proofs.Common.{◌≡◌, ℕ, suc, zero, ◌+◌, ◌*◌, ◌≤◌, ◌<◌, List, [], ◌∷◌, ◌++◌, length, refl, ap, cond, arith}
+use Rattle.std.proofs.Common.{length-append}
 use Rattle.std.specs.List.{count_by, AllByRecursion}
 use Rattle.std.proofs.lemmas.List.Sums.{sum_by_push, sum_by-cons, fold-append}
 use Rattle.dover_model.specs.declared.events.Event.{Event}
@@ -60,7 +61,8 @@ modest_lost jobs (Abandon at n) all = modest_value jobs n all
 modest_lost jobs (End value) all = omega arith
 
 -- what so many steps abandon
-pub lost_low : (jobs : List JobFacts) (events : List Event) → AllByRecursion IsJob jobs → all_lost jobs events ≤ 1_000_000_000 * length events
+pub lost_low : (jobs : List JobFacts) (events : List Event) → AllByRecursion IsJob jobs
+    → all_lost jobs events ≤ 1_000_000_000 * length events
 lost_low jobs [] all = omega arith
 lost_low jobs (e ∷ events) all = omega (
   arith,
@@ -74,7 +76,8 @@ begins_shorter : {X : Type 0} (xs ys : List X) → Begins xs ys → length xs �
 begins_shorter xs ys it = omega (arith, ap length it.1, length-append xs it.0)
 
 -- what was printed is few steps
-pub few_events : (J : Instance) (mark : ℕ) (s t : State) (events : List Event) (xs : List Step) → IsValid J → HasPrinted J mark s events
+pub few_events : (J : Instance) (mark : ℕ) (s t : State) (events : List Event) (xs : List Step) → IsValid J
+    → HasPrinted J mark s events
     → IsPath J.rules s xs t → length (events ++ printed_of xs) ≤ 5_000_001
 few_events J mark s t events xs valid it path = omega (
   arith,
@@ -84,7 +87,8 @@ few_events J mark s t events xs valid it path = omega (
 )
 
 -- the same at the end
-pub few_all : (J : Instance) (mark : ℕ) (s : State) (events : List Event) (xs : List Step) → IsValid J → HasPrinted J mark s events
+pub few_all : (J : Instance) (mark : ℕ) (s : State) (events : List Event) (xs : List Step) → IsValid J
+    → HasPrinted J mark s events
     → IsWholeRun J.rules s xs → length (events ++ printed_of xs) ≤ 5_000_001
 few_all J mark s events xs valid it whole = omega (
   arith,
@@ -96,13 +100,15 @@ few_all J mark s events xs valid it whole = omega (
 -- ---- one job more
 
 -- the value of a job that is there
-value_behind : (jobs : List JobFacts) (j : JobFacts) (n : ℕ) → n < length jobs → value_in (jobs ++ j ∷ []) n ≡ value_in jobs n
+value_behind : (jobs : List JobFacts) (j : JobFacts) (n : ℕ) → n < length jobs
+    → value_in (jobs ++ j ∷ []) n ≡ value_in jobs n
 value_behind [] j n there = absurd (omega arith)
 value_behind (i ∷ jobs) j zero there = refl
 value_behind (i ∷ jobs) j (suc n) there = value_behind jobs j n (omega arith)
 
 -- what a step abandons of the jobs that are there
-step_behind : (jobs : List JobFacts) (j : JobFacts) (e : Event) → AbandonsOneOf (length jobs) e → value_lost (jobs ++ j ∷ []) e ≡ value_lost jobs e
+step_behind : (jobs : List JobFacts) (j : JobFacts) (e : Event) → AbandonsOneOf (length jobs) e
+    → value_lost (jobs ++ j ∷ []) e ≡ value_lost jobs e
 step_behind jobs j (Release n job) one = refl
 step_behind jobs j (Run at n) one = refl
 step_behind jobs j (Preempt at r n) one = refl
@@ -112,7 +118,8 @@ step_behind jobs j (Abandon at n) one = value_behind jobs j n one
 step_behind jobs j (End value) one = refl
 
 -- what steps abandon of them
-lost_behind : (jobs : List JobFacts) (j : JobFacts) (events : List Event) → AllByRecursion (AbandonsOneOf (length jobs)) events
+lost_behind : (jobs : List JobFacts) (j : JobFacts) (events : List Event)
+    → AllByRecursion (AbandonsOneOf (length jobs)) events
     → all_lost (jobs ++ j ∷ []) events ≡ all_lost jobs events
 lost_behind jobs j [] all = refl
 lost_behind jobs j (e ∷ events) all = omega (
@@ -124,7 +131,8 @@ lost_behind jobs j (e ∷ events) all = omega (
 )
 
 -- the tally is the same with a job behind
-pub tally_behind : (jobs : List JobFacts) (j : JobFacts) (events : List Event) → AllByRecursion (AbandonsOneOf (length jobs)) events
+pub tally_behind : (jobs : List JobFacts) (j : JobFacts) (events : List Event)
+    → AllByRecursion (AbandonsOneOf (length jobs)) events
     → tally_of (jobs ++ j ∷ []) events ≡ tally_of jobs events
 tally_behind jobs j events all = ap (λ lost. record {
   completed = count_by is_completion events;
@@ -145,12 +153,14 @@ one_of_more n m low (Abandon at number) one = omega (arith, low, one)
 one_of_more n m low (End value) one = tt
 
 -- the same of all steps
-pub all_of_more : (n m : ℕ) → n ≤ m → (events : List Event) → AllByRecursion (AbandonsOneOf n) events → AllByRecursion (AbandonsOneOf m) events
+pub all_of_more : (n m : ℕ) → n ≤ m → (events : List Event) → AllByRecursion (AbandonsOneOf n) events
+    → AllByRecursion (AbandonsOneOf m) events
 all_of_more n m low [] all = tt
 all_of_more n m low (e ∷ events) all = (one_of_more n m low e all.0, all_of_more n m low events all.1)
 
 -- and of one step more
-pub all_and_one : (n : ℕ) (events : List Event) (e : Event) → AllByRecursion (AbandonsOneOf n) events → AbandonsOneOf n e
+pub all_and_one : (n : ℕ) (events : List Event) (e : Event) → AllByRecursion (AbandonsOneOf n) events
+    → AbandonsOneOf n e
     → AllByRecursion (AbandonsOneOf n) (events ++ e ∷ [])
 all_and_one n [] e all one = (one, tt)
 all_and_one n (x ∷ events) e all one = (all.0, all_and_one n events e all.1 one)

@@ -37,15 +37,18 @@ finishing_starts mark v tally it = record {
   before = it.events;
   printed = it.printed;
   steps = [];
-  so_far = subst (λ y. MatchBool y (IsWholeRun v.rules v.state []) (IsPath v.rules v.state [] v.state)) (sym it.goes_on) refl;
+  so_far = subst (λ y. MatchBool y (IsWholeRun v.rules v.state []) (IsPath v.rules v.state [] v.state))
+      (sym it.goes_on) refl;
   counts = it.counts ∙ ap (tally_of (jobs_of v.state.tasks)) (sym (append-nil it.events));
 }
 
-module _ (v u : Service) (tally : Tally) (it : IsFinishing v tally) (same : list_of u ≡ list_of v) (goes_on : v.ended ≡ false) (e : Event)
+module _ (v u : Service) (tally : Tally) (it : IsFinishing v tally) (same : list_of u ≡ list_of v)
+    (goes_on : v.ended ≡ false) (e : Event)
     (gives : GivesNext horizon.End v.rules v.state u.state e) where
   -- the closed steps so far
   path : IsPath v.rules it.from it.steps v.state
-  path = subst (λ x. MatchBool x (IsWholeRun v.rules it.from it.steps) (IsPath v.rules it.from it.steps v.state)) goes_on it.so_far
+  path = subst (λ x. MatchBool x (IsWholeRun v.rules it.from it.steps) (IsPath v.rules it.from it.steps v.state))
+      goes_on it.so_far
 
   -- the silent ones up to the next printed step
   silent : IsPath v.rules v.state gives.waits.steps gives.before
@@ -58,7 +61,8 @@ module _ (v u : Service) (tally : Tally) (it : IsFinishing v tally) (same : list
   -- they print one event more
   prints_next : it.before ++ printed_of steps_next ≡ (it.before ++ printed_of it.steps) ++ e ∷ []
   prints_next = ap (λ es. it.before ++ es)
-      (printed_next it.steps gives.waits.steps gives.before (step v.rules gives.before) e gives.waits.silent gives.prints)
+      (printed_next it.steps gives.waits.steps gives.before
+      (step v.rules gives.before) e gives.waits.silent gives.prints)
       ∙ sym (append_assoc it.before (printed_of it.steps) (e ∷ []))
 
   -- the tally so far is one of the jobs after it
@@ -67,16 +71,19 @@ module _ (v u : Service) (tally : Tally) (it : IsFinishing v tally) (same : list
 
   -- where it is End, these are all steps
   last : is_end (Prints e) ≡ true → IsWholeRun v.rules it.from steps_next
-  last end = closed_then_run v.rules it.steps (gives.waits.steps ++ step_at v.rules gives.before ∷ []) it.from v.state path
+  last end = closed_then_run v.rules it.steps
+      (gives.waits.steps ++ step_at v.rules gives.before ∷ []) it.from v.state path
       (closed_then_run v.rules gives.waits.steps (step_at v.rules gives.before ∷ []) v.state gives.before silent (
         refl,
-        subst (λ x. MatchBool x (no_steps ≡ no_steps) (IsWholeRun v.rules (after gives.before (step v.rules gives.before)) no_steps))
+        subst (λ x. MatchBool x (no_steps ≡ no_steps)
+            (IsWholeRun v.rules (after gives.before (step v.rules gives.before)) no_steps))
             (sym (ap is_end gives.prints ∙ end)) refl,
       ))
 
   -- else they lead on
   more : is_end (Prints e) ≡ false → IsPath v.rules it.from steps_next u.state
-  more on = closed_append v.rules it.steps (gives.waits.steps ++ step_at v.rules gives.before ∷ []) it.from v.state u.state path
+  more on = closed_append v.rules it.steps
+      (gives.waits.steps ++ step_at v.rules gives.before ∷ []) it.from v.state u.state path
       (closed_append v.rules gives.waits.steps (step_at v.rules gives.before ∷ []) v.state gives.before u.state silent
       (refl, ap is_end gives.prints ∙ on, gives.state ∙ ap (after gives.before) (sym gives.prints)))
 
@@ -107,15 +114,18 @@ module _ (v u : Service) (tally : Tally) (it : IsFinishing v tally) (same : list
     before = it.before;
     printed = subst (λ J. HasPrinted J it.mark it.from it.before) (sym same) it.printed;
     steps = steps_next;
-    so_far = subst (λ k. MatchBool u.ended (IsWholeRun k it.from steps_next) (IsPath k it.from steps_next u.state)) (sym rules)
+    so_far = subst (λ k. MatchBool u.ended (IsWholeRun k it.from steps_next) (IsPath k it.from steps_next u.state))
+        (sym rules)
         (by_end (is_end (Prints e)) refl);
     counts = counts ∙ ap (tally_of (jobs_of u.state.tasks)) (sym prints_next);
   } where
     by_end : (x : Bool) → is_end (Prints e) ≡ x
         → MatchBool u.ended (IsWholeRun v.rules it.from steps_next) (IsPath v.rules it.from steps_next u.state)
-    by_end true end = subst (λ x. MatchBool x (IsWholeRun v.rules it.from steps_next) (IsPath v.rules it.from steps_next u.state))
+    by_end true end = subst (λ x. MatchBool x (IsWholeRun v.rules it.from steps_next)
+        (IsPath v.rules it.from steps_next u.state))
         (sym (ended ∙ end)) (last end)
-    by_end false on = subst (λ x. MatchBool x (IsWholeRun v.rules it.from steps_next) (IsPath v.rules it.from steps_next u.state))
+    by_end false on = subst (λ x. MatchBool x (IsWholeRun v.rules it.from steps_next)
+        (IsPath v.rules it.from steps_next u.state))
         (sym (ended ∙ on)) (more on)
 
 -- at its end
@@ -124,4 +134,5 @@ pub finishing_ends : (v : Service) (tally : Tally) → IsFinishing v tally → v
 finishing_ends v tally it ended = it.counts ∙ ap (tally_of (list_of v).jobs)
     (sym (printed_then_run (list_of v) it.mark it.from it.before it.steps it.valid it.printed whole)) where
       whole : IsWholeRun v.rules it.from it.steps
-      whole = subst (λ y. MatchBool y (IsWholeRun v.rules it.from it.steps) (IsPath v.rules it.from it.steps v.state)) ended it.so_far
+      whole = subst (λ y. MatchBool y (IsWholeRun v.rules it.from it.steps) (IsPath v.rules it.from it.steps v.state))
+          ended it.so_far

@@ -14,7 +14,8 @@ use Rattle.dover_model.specs.Settled.{AllComeFrom}
 use Rattle.dover_model.specs.Sound.{Keeps, IsSound, IsNumberedFrom, jobs_of}
 use Rattle.dover_model.specs.WholeRun.{open_at}
 use Rattle.dover_model.specs.Paths.{HasPrinted, IsOpenPath}
-use Rattle.dover_model.proofs.Deeds.{Deed, Completed, Resumed, Started, Began, Preempted, Stayed, Arrived, Taken, Abandoned, Rested}
+use Rattle.dover_model.proofs.Deeds.{Deed, Completed, Resumed, Started, Began, Preempted, Stayed, Arrived, Taken}
+use Rattle.dover_model.proofs.Deeds.{Abandoned, Rested}
 use Rattle.dover_model.proofs.Honest.{numbers_low, count_jobs}
 use Rattle.dover_model.proofs.Kept.{opening_keeps, open_deed}
 use Rattle.dover_model.proofs.Prefixes.{open_not_end}
@@ -41,7 +42,8 @@ AbandonsWithin count (Waits n) = Unit {0}
 AbandonsWithin count Ticks = Unit {0}
 
 -- it is a job of the state
-deed_names : (s : State) → IsNumberedFrom 0 s.tasks → (k : Fraction) (m : Move) → Deed k s Ticks m → AbandonsWithin (length s.tasks) m
+deed_names : (s : State) → IsNumberedFrom 0 s.tasks → (k : Fraction) (m : Move) → Deed k s Ticks m
+    → AbandonsWithin (length s.tasks) m
 deed_names s numbered k m (Completed r member runs done) = tt
 deed_names s numbered k m (Resumed p member held none least why) = tt
 deed_names s numbered k m (Started o member waiting none first fits next) = tt
@@ -56,7 +58,9 @@ deed_names s numbered k m (Rested quiet) = tt
 
 -- the state of a server that has taken some steps is sound
 pub tallied_sound : (mark : ℕ) (v : Service) (tally : Tally) → HasTallied v mark tally → IsSound v.state
-tallied_sound mark v tally it = (path_keeps (list_of v) it.valid mark it.printed.steps (opening (list_of v).jobs) v.state (opening_keeps (list_of v))
+tallied_sound mark v tally it =
+    (path_keeps (list_of v) it.valid mark it.printed.steps (opening (list_of v).jobs) v.state
+    (opening_keeps (list_of v))
     it.printed.path).sound
 
 -- ---- one step
@@ -64,7 +68,8 @@ tallied_sound mark v tally it = (path_keeps (list_of v) it.valid mark it.printed
 module _ (mark : ℕ) (v u : Service) (tally : Tally) (it : HasTallied v mark tally) (same : list_of u ≡ list_of v) where
   -- the state so far is one of the jobs
   keeps : Keeps (list_of v) v.state
-  keeps = path_keeps (list_of v) it.valid mark it.printed.steps (opening (list_of v).jobs) v.state (opening_keeps (list_of v)) it.printed.path
+  keeps = path_keeps (list_of v) it.valid mark it.printed.steps (opening (list_of v).jobs) v.state
+      (opening_keeps (list_of v)) it.printed.path
 
   -- the jobs stay
   jobs_same : jobs_of u.state.tasks ≡ jobs_of v.state.tasks
@@ -91,11 +96,14 @@ module _ (mark : ℕ) (v u : Service) (tally : Tally) (it : HasTallied v mark ta
     pub printed_one : HasPrinted (list_of u) mark u.state (it.events ++ e ∷ [])
     printed_one = subst (λ J. HasPrinted J mark u.state (it.events ++ e ∷ [])) (sym same) (record {
       steps = it.printed.steps ++ (gives.waits.steps ++ open_at v.rules gives.before ∷ []);
-      path = path_append v.rules mark it.printed.steps (gives.waits.steps ++ open_at v.rules gives.before ∷ []) (opening (list_of v).jobs) v.state
+      path = path_append v.rules mark it.printed.steps (gives.waits.steps ++ open_at v.rules gives.before ∷ [])
+          (opening (list_of v).jobs) v.state
           u.state it.printed.path
-          (path_append v.rules mark gives.waits.steps (open_at v.rules gives.before ∷ []) v.state gives.before u.state silent
+          (path_append v.rules mark gives.waits.steps
+          (open_at v.rules gives.before ∷ []) v.state gives.before u.state silent
           (refl, gives.goes, gives.state ∙ ap (after gives.before) (sym gives.prints)));
-      prints = printed_next it.printed.steps gives.waits.steps gives.before (open_step v.rules gives.before) e gives.waits.silent gives.prints
+      prints = printed_next it.printed.steps gives.waits.steps gives.before
+          (open_step v.rules gives.before) e gives.waits.silent gives.prints
           ∙ ap (λ es. es ++ e ∷ []) it.printed.prints;
     })
 
@@ -124,13 +132,15 @@ module _ (mark : ℕ) (v u : Service) (tally : Tally) (it : HasTallied v mark ta
     -- a job that it abandons is one of the server's
     names_one : AbandonsOneOf (length v.state.tasks) e
     names_one = subst (λ n. AbandonsOneOf n e) count
-        (subst (AbandonsWithin (length gives.before.tasks)) gives.prints (deed_names gives.before keeps_before.sound.numbered v.rules.ratio
+        (subst (AbandonsWithin (length gives.before.tasks)) gives.prints
+        (deed_names gives.before keeps_before.sound.numbered v.rules.ratio
         (open_step v.rules gives.before) (open_deed (list_of v) it.valid gives.before keeps_before v.rules))) where
           count : length gives.before.tasks ≡ length v.state.tasks
           count = omega (arith, count_jobs gives.before.tasks, count_jobs v.state.tasks, ap length keeps_before.jobs)
 
     -- the run is taken one printed step further
-    pub settled_next : (next : Tally) → next ≡ tally_of (jobs_of u.state.tasks) (it.events ++ e ∷ []) → u.ended ≡ (v.ended || is_end (Prints e))
+    pub settled_next : (next : Tally) → next ≡ tally_of (jobs_of u.state.tasks) (it.events ++ e ∷ [])
+        → u.ended ≡ (v.ended || is_end (Prints e))
         → HasTallied u mark next
     settled_next next counts ended = record {
       valid = valid_still;
@@ -143,16 +153,19 @@ module _ (mark : ℕ) (v u : Service) (tally : Tally) (it : HasTallied v mark ta
     }
 
   -- at the barrier
-  pub settled_ends : ReachesBarrier mark v.rules v.state u.state → u.ended ≡ (v.ended || false) → HasTallied u mark tally
+  pub settled_ends : ReachesBarrier mark v.rules v.state u.state → u.ended ≡ (v.ended || false)
+      → HasTallied u mark tally
   settled_ends reaches ended = record {
     valid = valid_still;
     goes_on = or_fails v.ended false u.ended ended refl ∙ it.goes_on;
     events = it.events;
     printed = subst (λ J. HasPrinted J mark u.state it.events) (sym same) (record {
       steps = it.printed.steps ++ reaches.waits.steps;
-      path = path_append v.rules mark it.printed.steps reaches.waits.steps (opening (list_of v).jobs) v.state u.state it.printed.path
+      path = path_append v.rules mark it.printed.steps reaches.waits.steps
+          (opening (list_of v).jobs) v.state u.state it.printed.path
           (leads_open mark v.rules reaches.waits.steps v.state u.state reaches.waits.lead);
-      prints = printed_append it.printed.steps reaches.waits.steps ∙ ap (λ es. printed_of it.printed.steps ++ es) reaches.waits.silent
+      prints = printed_append it.printed.steps reaches.waits.steps
+          ∙ ap (λ es. printed_of it.printed.steps ++ es) reaches.waits.silent
           ∙ append-nil (printed_of it.printed.steps) ∙ it.printed.prints;
     });
     named = subst (λ n. AllByRecursion (AbandonsOneOf n) it.events) (sym (tasks_count v u same)) it.named;

@@ -28,7 +28,8 @@ module _ (k : Fraction) (jobs : List JobFacts) (valid : IsValid (stated k jobs))
 
   -- the value that was counted is that of a valid list
   pub value_within : (tally : Tally) → tally ≡ tally_of jobs (printed (stated k jobs)) → tally.value ≤ most_total
-  value_within tally is = subst (λ (t : Tally). t.value ≤ most_total) (sym is) (value_small k (printed (stated k jobs)) (stated k jobs) of)
+  value_within tally is = subst (λ (t : Tally). t.value ≤ most_total) (sym is)
+      (value_small k (printed (stated k jobs)) (stated k jobs) of)
 
   -- the lines of the counts are the summary
   pub summary_text : (c : Counts) → c ≡ counts_of k (printed (stated k jobs)) jobs (value_of (printed (stated k jobs)))
@@ -38,11 +39,14 @@ module _ (k : Fraction) (jobs : List JobFacts) (valid : IsValid (stated k jobs))
       (sym (jobs_are k (printed (stated k jobs)) (stated k jobs) of)) refl)
 
 -- the jobs of a seed are valid
-pub seed_valid : (seed count : ℕ) (k : Fraction) (jobs : List JobFacts) → IsRatio k → count ≤ most_jobs → jobs ≡ generated_jobs seed count k
+pub seed_valid : (seed count : ℕ) (k : Fraction) (jobs : List JobFacts) → IsRatio k → count ≤ most_jobs
+    → jobs ≡ generated_jobs seed count k
     → IsValid (stated k jobs)
-seed_valid seed count k jobs ratio few is = subst (λ js. IsValid (stated k js)) (sym is) (drawn.valid k ratio seed count One few)
+seed_valid seed count k jobs ratio few is =
+    subst (λ js. IsValid (stated k js)) (sym is) (drawn.valid k ratio seed count One few)
 
 -- what was put is the same text
-pub of_text : (old new : Option (List Move)) (status : Status) (t u : List ℕ) → t ≡ u → Since old new (Writes status t) → Since old new
+pub of_text : (old new : Option (List Move)) (status : Status) (t u : List ℕ) → t ≡ u → Since old new (Writes status t)
+    → Since old new
     (Writes status u)
 of_text old new status t u same it = subst (λ text. Since old new (Writes status text)) same it

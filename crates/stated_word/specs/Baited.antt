@@ -23,7 +23,8 @@ baited_lines b =
     ∷ with_numbers (codes "bound") (b.bound ∷ [])
     ∷ []
 
--- how many jobs the feed has, what its run completes, what the schedule of its unit jobs and its bait is worth, and the bound
+-- how many jobs the feed has, what its run completes, what the schedule of its unit jobs and its bait is worth, and the
+-- bound
 abbrev pub baited_of : Fraction → (rounds : ℕ) → Baited
 baited_of k rounds = let value = completed_value (bait_instance k rounds) in record {
   jobs = length (bait_jobs k rounds);

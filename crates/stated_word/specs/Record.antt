@@ -5,7 +5,8 @@ use Rattle.dover_port.specs.Moves.{Move, ArePuts, outs, IsProperPrefix}
 use Rattle.dover_port.specs.declared.status.Status.{Status}
 use Rattle.dover_port.specs.declared.status.Status.TheVariants.{Done, Refused, WriteFault, Memory}
 
--- nothing is read, and the text was put: all of it, or a front of it where a write failed, or nothing where there was no memory
+-- nothing is read, and the text was put: all of it, or a front of it where a write failed, or nothing where there was
+-- no memory
 abbrev pub Writes : Status → List ℕ → List Move → Type 0
 Writes Done text moves = ArePuts moves × (outs moves ≡ text)
 Writes WriteFault text moves = ArePuts moves × IsProperPrefix (outs moves) text

@@ -19,7 +19,8 @@ abbrev pub AbandonsOneOf : ℕ → Event → Type 0
 AbandonsOneOf count (Abandon at n) = n < count
 AbandonsOneOf count _ = Unit {0}
 
--- The server has taken open steps of the run of its jobs, before the barrier of the mark, and this is the tally of what they printed.
+-- The server has taken open steps of the run of its jobs, before the barrier of the mark, and this is the tally of what
+-- they printed.
 pub record HasTallied (v : Service) (mark : ℕ) (tally : Tally) : Type 0 where
   pub valid : IsValid (list_of v)
   pub goes_on : v.ended ≡ false
@@ -28,7 +29,8 @@ pub record HasTallied (v : Service) (mark : ℕ) (tally : Tally) : Type 0 where
   pub named : AllByRecursion (AbandonsOneOf (length v.state.tasks)) events
   pub counts : tally ≡ tally_of (jobs_of v.state.tasks) events
 
--- The server has taken the run of its jobs further, to its End where that was given, and this is the tally of what was printed.
+-- The server has taken the run of its jobs further, to its End where that was given, and this is the tally of what was
+-- printed.
 pub record IsFinishing (v : Service) (tally : Tally) : Type 0 where
   pub valid : IsValid (list_of v)
   pub mark : ℕ

@@ -20,7 +20,8 @@ use std::alloc::Global;
 use std::sync::ledger::Ledger;
 use step_count::Steps;
 
-/// What is said of a baiting feed: its jobs, the value that its run completes, the value of the given schedule, and the bound.
+/// What is said of a baiting feed: its jobs, the value that its run completes, the value of the given schedule, and the
+/// bound.
 #[derive(Clone, Copy, Debug, PartialEq, Eq)]
 struct Baited {
     jobs: u64,
@@ -31,8 +32,10 @@ struct Baited {
 
 /// Puts the lines of a baiting feed.
 fn put_baited<P: Port>(port: &mut P, out: &mut Output, baited: &Baited) -> Result<(), Failed>
-    ensures text { PutsThrough (P.moves port.old) (P.moves port.new) result out.old out.new (in_lines (baited_lines baited.now)) }
-    ensures cause { HasCause (P.write_faults port.old) (P.write_faults port.new) (P.read_faults port.old) (P.read_faults port.new) result }
+    ensures text { PutsThrough (P.moves port.old) (P.moves port.new) result out.old out.new
+        (in_lines (baited_lines baited.now)) }
+    ensures cause { HasCause (P.write_faults port.old) (P.write_faults port.new) (P.read_faults port.old)
+        (P.read_faults port.new) result }
     ensures stops { StopsAtFailure (P.calls port.old) (P.calls port.new) result }
 {
     match put_numbers(port, out, b"jobs", &[baited.jobs]) {
@@ -53,7 +56,8 @@ fn put_baited<P: Port>(port: &mut P, out: &mut Output, baited: &Baited) -> Resul
 /// Writes the lines of a baiting feed.
 fn write_baited<P: Port>(port: &mut P, baited: &Baited) -> Result<(), Failed>
     ensures text { PutsText (P.moves port.old) (P.moves port.new) result (in_lines (baited_lines baited.now)) }
-    ensures cause { HasCause (P.write_faults port.old) (P.write_faults port.new) (P.read_faults port.old) (P.read_faults port.new) result }
+    ensures cause { HasCause (P.write_faults port.old) (P.write_faults port.new) (P.read_faults port.old)
+        (P.read_faults port.new) result }
     ensures stops { StopsAtFailure (P.calls port.old) (P.calls port.new) result }
 {
     let mut out = Output::new();
@@ -68,7 +72,8 @@ fn write_baited<P: Port>(port: &mut P, baited: &Baited) -> Result<(), Failed>
 fn refuse_size<P: Port>(port: &mut P) -> Status
     ensures text { Since (P.moves port.old) (P.moves port.new) (Refuses result size_text) }
     ensures answer { IsAnswerFor result ⊥ }
-    ensures causes { Causes result (P.read_faults port.old) (P.read_faults port.new) (P.write_faults port.old) (P.write_faults port.new) }
+    ensures causes { Causes result (P.read_faults port.old) (P.read_faults port.new) (P.write_faults port.old)
+        (P.write_faults port.new) }
     ensures stops { StopsWith result (P.calls port.old) (P.calls port.new) }
 {
     match put_all(port, b"refused size\n") {
@@ -77,8 +82,10 @@ fn refuse_size<P: Port>(port: &mut P) -> Status
     }
 }
 
-/// Serves the baiting feed of so many rounds, at least one, and writes how many jobs it has, the value that its run completes, which is that of
-/// the chain's last job alone, the value of the schedule that runs the unit jobs and the bait, and the bound on the value of every schedule.
+/// Serves the baiting feed of so many rounds, at least one, and writes how many jobs it has, the value that its run
+/// completes, which is that of
+/// the chain's last job alone, the value of the schedule that runs the unit jobs and the bait, and the bound on the
+/// value of every schedule.
 /// Nothing is read. A feed of more than 1,000,000 jobs, or with a value above 10^9, is refused.
 pub fn bait_word<P: Port, L: Ledger>(
     alloc: Global,
@@ -88,11 +95,14 @@ pub fn bait_word<P: Port, L: Ledger>(
     steps: &mut Steps<L>,
 ) -> Status
     requires rounds { 1 ≤ rounds }
-    ensures writes { FitsLimits k rounds → Since (P.moves port.old) (P.moves port.new) (Writes result (bait_text k rounds)) }
-    ensures refuses { (FitsLimits k rounds → ⊥) → Since (P.moves port.old) (P.moves port.new) (Refuses result size_text) }
+    ensures writes { FitsLimits k rounds
+        → Since (P.moves port.old) (P.moves port.new) (Writes result (bait_text k rounds)) }
+    ensures refuses { (FitsLimits k rounds → ⊥)
+        → Since (P.moves port.old) (P.moves port.new) (Refuses result size_text) }
     ensures alone { result ≡ Status.Done → CompletesLastAlone k rounds (bait_instance k rounds) }
     ensures answer { IsAnswerFor result (FitsLimits k rounds) }
-    ensures causes { Causes result (P.read_faults port.old) (P.read_faults port.new) (P.write_faults port.old) (P.write_faults port.new) }
+    ensures causes { Causes result (P.read_faults port.old) (P.read_faults port.new) (P.write_faults port.old)
+        (P.write_faults port.new) }
     ensures stops { StopsWith result (P.calls port.old) (P.calls port.new) }
     ensures count { result ≡ Status.Done → AreFew (length (bait_jobs k rounds)) steps.old steps.new }
 {

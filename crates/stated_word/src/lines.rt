@@ -10,8 +10,10 @@ use line_output::put_numbers;
 
 /// Puts the lines of a summary.
 fn put_summary<P: Port>(port: &mut P, out: &mut Output, counts: &Counts) -> Result<(), Failed>
-    ensures text { PutsThrough (P.moves port.old) (P.moves port.new) result out.old out.new (in_lines (counts_lines counts.now)) }
-    ensures cause { HasCause (P.write_faults port.old) (P.write_faults port.new) (P.read_faults port.old) (P.read_faults port.new) result }
+    ensures text { PutsThrough (P.moves port.old) (P.moves port.new) result out.old out.new
+        (in_lines (counts_lines counts.now)) }
+    ensures cause { HasCause (P.write_faults port.old) (P.write_faults port.new) (P.read_faults port.old)
+        (P.read_faults port.new) result }
     ensures stops { StopsAtFailure (P.calls port.old) (P.calls port.new) result }
 {
     match put_numbers(port, out, b"jobs", &[counts.jobs]) {
@@ -36,7 +38,8 @@ fn put_summary<P: Port>(port: &mut P, out: &mut Output, counts: &Counts) -> Resu
 /// Writes the summary of a run.
 pub(crate) fn write_summary<P: Port>(port: &mut P, counts: &Counts) -> Result<(), Failed>
     ensures text { PutsText (P.moves port.old) (P.moves port.new) result (in_lines (counts_lines counts.now)) }
-    ensures cause { HasCause (P.write_faults port.old) (P.write_faults port.new) (P.read_faults port.old) (P.read_faults port.new) result }
+    ensures cause { HasCause (P.write_faults port.old) (P.write_faults port.new) (P.read_faults port.old)
+        (P.read_faults port.new) result }
     ensures stops { StopsAtFailure (P.calls port.old) (P.calls port.new) result }
 {
     let mut out = Output::new();

@@ -26,7 +26,8 @@ fn settle<L: Ledger>(server: &mut Server, mark: u64, tally: &mut Tally, steps: &
     ensures last { server.new.last ≡ Mark mark }
     ensures ready { server.new.ready ≡ true }
     ensures spare { server.old.spare ≤ server.new.spare }
-    ensures count { (start : ℕ) → HasSpent server.old.state start steps.old → HasSpent server.new.state start steps.new }
+    ensures count { (start : ℕ) → HasSpent server.old.state start steps.old
+        → HasSpent server.new.state start steps.new }
 {
     while let Some(event) = server.step(Horizon::Mark(mark), steps) {
         tally.add(server, &event);
@@ -39,14 +40,16 @@ fn finish<L: Ledger>(server: &mut Server, tally: &mut Tally, steps: &mut Steps<L
     requires follows { MayFollow server.old.last End }
     ensures tally { tally.new ≡ tally_of (list_of server.old).jobs (printed (list_of server.old)) }
     ensures list { list_of server.new ≡ list_of server.old }
-    ensures count { (start : ℕ) → HasSpent server.old.state start steps.old → HasSpent server.new.state start steps.new }
+    ensures count { (start : ℕ) → HasSpent server.old.state start steps.old
+        → HasSpent server.new.state start steps.new }
 {
     while let Some(event) = server.step(Horizon::End, steps) {
         tally.add(server, &event);
     }
 }
 
-/// Serves the jobs, of which there are so many, and counts the printed steps of their run. Memory is taken for all jobs before the first is
+/// Serves the jobs, of which there are so many, and counts the printed steps of their run. Memory is taken for all jobs
+/// before the first is
 /// served, and nowhere else.
 pub(crate) fn serve_all<S: Stated, L: Ledger>(
     alloc: Global,

@@ -9,7 +9,8 @@ use dover_model::{Event, Ratio};
 use dover_report::Counts;
 use root_compare::bound;
 
-/// What was counted of the printed steps so far: jobs that are done and the value that End names, jobs that are gone and their value, takes.
+/// What was counted of the printed steps so far: jobs that are done and the value that End names, jobs that are gone
+/// and their value, takes.
 #[derive(Clone, Copy, Debug, PartialEq, Eq)]
 pub(crate) struct Tally {
     pub(crate) completed: u64,
@@ -56,7 +57,8 @@ impl Tally {
     /// Counts one more step that the server printed. There were at most 5,000,000 before it.
     pub(crate) fn add(&mut self, server: &Server, event: &Event)
         requires valid { IsValid (list_of server.now) }
-        requires counts { (events : List Event) × (self.old ≡ tally_of (jobs_of server.now.state.tasks) events) × (length events ≤ 5_000_000) }
+        requires counts { (events : List Event) × (self.old ≡ tally_of (jobs_of server.now.state.tasks) events)
+            × (length events ≤ 5_000_000) }
         ensures { (events : List Event) → self.old ≡ tally_of (jobs_of server.now.state.tasks) events
             → self.new ≡ tally_of (jobs_of server.now.state.tasks) (events ++ event.now ∷ []) }
     {

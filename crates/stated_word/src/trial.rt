@@ -18,8 +18,10 @@ use std::alloc::Global;
 use std::sync::ledger::Ledger;
 use step_count::Steps;
 
-/// Serves the stated jobs of a seed, and writes the summary of their run: the jobs, those that were completed and abandoned with their
-/// values, the takes, and the bound on the value of every schedule. Nothing is read. The seed is below 2^31, the count at most 1,000,000.
+/// Serves the stated jobs of a seed, and writes the summary of their run: the jobs, those that were completed and
+/// abandoned with their
+/// values, the takes, and the bound on the value of every schedule. Nothing is read. The seed is below 2^31, the count
+/// at most 1,000,000.
 pub fn trial_word<P: Port, L: Ledger>(
     alloc: Global,
     port: &mut P,
@@ -30,9 +32,11 @@ pub fn trial_word<P: Port, L: Ledger>(
 ) -> Status
     requires seed { seed < 2 ^ 31 }
     requires count { count ≤ most_jobs }
-    ensures writes { Since (P.moves port.old) (P.moves port.new) (Writes result (summary (trial_instance k seed count))) }
+    ensures writes { Since (P.moves port.old) (P.moves port.new)
+        (Writes result (summary (trial_instance k seed count))) }
     ensures answer { IsAnswer result }
-    ensures causes { Causes result (P.read_faults port.old) (P.read_faults port.new) (P.write_faults port.old) (P.write_faults port.new) }
+    ensures causes { Causes result (P.read_faults port.old) (P.read_faults port.new) (P.write_faults port.old)
+        (P.write_faults port.new) }
     ensures stops { StopsWith result (P.calls port.old) (P.calls port.new) }
     ensures count { result ≡ Status.Done → AreFew count steps.old steps.new }
 {

@@ -1,5 +1,7 @@
--- A trace's line has one spelling: what is read has a form and the bytes as its text, and the text of what has a form is read as that.
-use Rattle.std.proofs.Common.{◌≡◌, ℕ, ◌^◌, ◌<◌, ◌≤◌, List, [], ◌∷◌, ◌++◌, map, refl, sym, ap, ◌∙◌, subst, Bool, true, false, cond, Option, Some}
+-- A trace's line has one spelling: what is read has a form and the bytes as its text, and the text of what has a form
+-- is read as that.
+use Rattle.std.proofs.Common.{◌≡◌, ℕ, ◌^◌, ◌<◌, ◌≤◌, List, [], ◌∷◌, ◌++◌, map, refl, sym, ap, ◌∙◌, subst, Bool, true}
+use Rattle.std.proofs.Common.{false, cond, Option, Some}
 use Rattle.std.proofs.Common.{None, arith, codes, decimal}
 use Rattle.std.specs.Prelude.{bytes_eq, nat_le, if◌then◌else◌, length, ◌==◌}
 use Rattle.std.specs.Bool.{then_some}
@@ -23,15 +25,18 @@ use Rattle.dover_model.proofs.Tests.{none_is_some}
 use Rattle.dover_model.proofs.Members.{some_same}
 use Rattle.dover_model.proofs.Agreement.{is_job-agrees}
 use Rattle.dover_model.proofs.Numerals.{numeral-decimal, decimal-numeral}
-use Rattle.dover_model.proofs.Fields.{HasNoSpace, fields_of-line_of, line_of-fields_of, decimals-HasNoSpace, numerals-decimals, decimals-numerals}
+use Rattle.dover_model.proofs.Fields.{HasNoSpace, fields_of-line_of, line_of-fields_of, decimals-HasNoSpace}
+use Rattle.dover_model.proofs.Fields.{numerals-decimals, decimals-numerals}
 use Rattle.dover_model.proofs.ReadShort.{numerals_short}
 use Rattle.dover_model.proofs.TraceLines.{word_HasNoSpace, then_word, item_of-text_of_line}
 use Rattle.line_text.specs.Reading.{number_of_first}
 use Rattle.trace_format.specs.declared.lines.TraceLine.{TraceLine}
 use Rattle.trace_format.specs.declared.lines.TraceLine.TheVariants.{Header, Step, Refused}
-use Rattle.trace_format.specs.Form.{last_number, trace_text, step_numbers, NamesJobs, HasForm, item_in, rules_in, refused_job}
+use Rattle.trace_format.specs.Form.{last_number, trace_text, step_numbers, NamesJobs, HasForm, item_in, rules_in}
+use Rattle.trace_format.specs.Form.{refused_job}
 use Rattle.trace_format.specs.Reading.{◌>>=◌, job_number, new_job, release_of, one_job, two_jobs}
-use Rattle.trace_format.specs.Reading.{end_of, step_of_word, header_of, line_of_word, last_word, refused_of, line_of_fields}
+use Rattle.trace_format.specs.Reading.{end_of, step_of_word, header_of, line_of_word, last_word, refused_of}
+use Rattle.trace_format.specs.Reading.{line_of_fields}
 
 -- ---- steps
 
@@ -80,13 +85,15 @@ one_ok at n low = ap (λ o. o >>= λ number. let f : ℕ × ℕ = (at, number) i
 -- a clock and two jobs
 two_ok : (at a b : ℕ) → a ≤ last_number → b ≤ last_number → two_jobs (at ∷ a ∷ b ∷ []) ≡ Some (at, a, b)
 two_ok at a b low other =
-    ap (λ o. o >>= λ stops. job_number b >>= λ starts. let f : ℕ × ℕ × ℕ = (at, stops, starts) in Some f) (number_ok a low)
+    ap (λ o. o >>= λ stops. job_number b >>= λ starts. let f : ℕ × ℕ × ℕ = (at, stops, starts) in Some f)
+    (number_ok a low)
     ∙ ap (λ o. o >>= λ starts. let f : ℕ × ℕ × ℕ = (at, a, starts) in Some f) (number_ok b other)
 
 -- the word and numbers of a step are read as the step
 step_read : (e : Event) → NamesJobs e → step_of_word (word_of e) (step_numbers e) ≡ Some e
 step_read (Release n j) named =
-    ap (λ o. o >>= λ number. new_job j.release j.work j.deadline j.value >>= λ job. Some (Release number job)) (number_ok n named.0)
+    ap (λ o. o >>= λ number. new_job j.release j.work j.deadline j.value >>= λ job. Some (Release number job))
+    (number_ok n named.0)
     ∙ ap (λ o. o >>= λ job. Some (Release n job)) (job_ok j named.1)
 step_read (Run at n) named = ap (λ o. o >>= λ f. Some (Run f.0 f.1)) (one_ok at n named)
 step_read (Preempt at a b) named = ap (λ o. o >>= λ f. Some (Preempt f.0 f.1 f.2)) (two_ok at a b named.0 named.1)
@@ -98,7 +105,8 @@ step_read (End value) named = refl
 -- ---- what is read of a word and numbers
 
 -- what a value followed from
-bind_some : {A B : Type 0} (o : Option A) (f : A → Option B) (y : B) → (o >>= f) ≡ Some y → (x : A) × (o ≡ Some x) × (f x ≡ Some y)
+bind_some : {A B : Type 0} (o : Option A) (f : A → Option B) (y : B) → (o >>= f) ≡ Some y → (x : A) × (o ≡ Some x)
+    × (f x ≡ Some y)
 bind_some None f y e = none_is_some e
 bind_some (Some x) f y e = (x, refl, e)
 
@@ -129,12 +137,14 @@ one_from (at ∷ n ∷ []) f e =
     )
 one_from (at ∷ n ∷ a ∷ ns) f e = none_is_some e
 
-two_from : (ns : List ℕ) (f : ℕ × ℕ × ℕ) → two_jobs ns ≡ Some f → (f.0 ∷ f.1 ∷ f.2 ∷ [] ≡ ns) × (f.1 ≤ last_number) × (f.2 ≤ last_number)
+two_from : (ns : List ℕ) (f : ℕ × ℕ × ℕ) → two_jobs ns ≡ Some f → (f.0 ∷ f.1 ∷ f.2 ∷ [] ≡ ns) × (f.1 ≤ last_number)
+    × (f.2 ≤ last_number)
 two_from [] f e = none_is_some e
 two_from (at ∷ []) f e = none_is_some e
 two_from (at ∷ a ∷ []) f e = none_is_some e
 two_from (at ∷ a ∷ b ∷ []) f e =
-    let it = bind_some (job_number a) (λ stops. job_number b >>= λ starts. let g : ℕ × ℕ × ℕ = (at, stops, starts) in Some g) f e in
+    let it = bind_some (job_number a)
+    (λ stops. job_number b >>= λ starts. let g : ℕ × ℕ × ℕ = (at, stops, starts) in Some g) f e in
     let more = bind_some (job_number b) (λ starts. let g : ℕ × ℕ × ℕ = (at, it.0, starts) in Some g) f it.2 in
     let stops = number_from a it.0 it.1 in
     let starts = number_from b more.0 more.1 in
@@ -154,7 +164,12 @@ one_step word ns step e words numbers names read =
     let it = bind_some (one_job ns) (λ f. Some (step f.0 f.1)) e read in
     let from = one_from ns it.0 it.1 in
     subst (Reads word ns) (some_same _ _ it.2)
-    (record { spelled = words it.0.0 it.0.1; counted = numbers it.0.0 it.0.1 ∙ from.0; named = names it.0.0 it.0.1 from.1 })
+    (record {
+      spelled = words it.0.0 it.0.1;
+      counted = numbers it.0.0 it.0.1 ∙ from.0;
+      named =
+          names it.0.0 it.0.1 from.1;
+    })
 
 -- a step of two jobs
 two_step : (word ns : List ℕ) (step : ℕ → ℕ → ℕ → Event) (e : Event) → ((at a b : ℕ) → word_of (step at a b) ≡ word)
@@ -193,11 +208,14 @@ release_from (n ∷ r ∷ c ∷ d ∷ v ∷ a ∷ ns) e read = none_is_some read
 -- the end
 end_from : (ns : List ℕ) (e : Event) → end_of ns ≡ Some e → Reads (codes "end") ns e
 end_from [] e read = none_is_some read
-end_from (value ∷ []) e read = subst (Reads (codes "end") (value ∷ [])) (some_same _ _ read) (record { spelled = refl; counted = refl; named = tt })
+end_from (value ∷ []) e read =
+    subst (Reads (codes "end") (value ∷ [])) (some_same _ _ read)
+    (record { spelled = refl; counted = refl; named = tt })
 end_from (value ∷ n ∷ ns) e read = none_is_some read
 
 -- where the word is the one tested for, or else the next test decides
-by_word : {A : Type 0} (word tested_word : List ℕ) (P : List ℕ → Type 0) (here other : Option A) (y : A) → (here ≡ Some y → P tested_word)
+by_word : {A : Type 0} (word tested_word : List ℕ) (P : List ℕ → Type 0) (here other : Option A) (y : A)
+    → (here ≡ Some y → P tested_word)
     → (other ≡ Some y → P word) → (if bytes_eq word tested_word then here else other) ≡ Some y → P word
 by_word word tested_word P here other y so else_so = by (bytes_eq word tested_word) refl where
   by : (b : Bool) → bytes_eq word tested_word ≡ b → (if b then here else other) ≡ Some y → P word
@@ -208,12 +226,17 @@ by_word word tested_word P here other y so else_so = by (bytes_eq word tested_wo
 step_from : (word ns : List ℕ) (e : Event) → step_of_word word ns ≡ Some e → Reads word ns e
 step_from word ns e = next (codes "job") _ _ (release_from ns e)
     (next (codes "run") _ _ (one_step (codes "run") ns Run e (λ at n. refl) (λ at n. refl) (λ at n low. low))
-    (next (codes "complete") _ _ (one_step (codes "complete") ns Complete e (λ at n. refl) (λ at n. refl) (λ at n low. low))
-    (next (codes "preempt") _ _ (two_step (codes "preempt") ns Preempt e (λ at a b. refl) (λ at a b. refl) (λ at a b low other. (low, other)))
-    (next (codes "abandon") _ _ (one_step (codes "abandon") ns Abandon e (λ at n. refl) (λ at n. refl) (λ at n low. low))
-    (next (codes "take") _ _ (two_step (codes "take") ns Take e (λ at a b. refl) (λ at a b. refl) (λ at a b low other. (low, other)))
+    (next (codes "complete") _ _ (one_step (codes "complete") ns Complete e (λ at n. refl) (λ at n. refl)
+    (λ at n low. low))
+    (next (codes "preempt") _ _ (two_step (codes "preempt") ns Preempt e (λ at a b. refl) (λ at a b. refl)
+    (λ at a b low other. (low, other)))
+    (next (codes "abandon") _ _ (one_step (codes "abandon") ns Abandon e (λ at n. refl) (λ at n. refl)
+    (λ at n low. low))
+    (next (codes "take") _ _ (two_step (codes "take") ns Take e (λ at a b. refl) (λ at a b. refl)
+    (λ at a b low other. (low, other)))
     (next (codes "end") _ _ (end_from ns e) none_is_some)))))) where
-      next : (tested_word : List ℕ) (here other : Option Event) → (here ≡ Some e → Reads tested_word ns e) → (other ≡ Some e → Reads word ns e)
+      next : (tested_word : List ℕ) (here other : Option Event) → (here ≡ Some e → Reads tested_word ns e)
+          → (other ≡ Some e → Reads word ns e)
           → (if bytes_eq word tested_word then here else other) ≡ Some e → Reads word ns e
       next tested_word here other = by_word word tested_word (λ w. Reads w ns e) here other e
 
@@ -234,7 +257,8 @@ header_from (a ∷ b ∷ c ∷ []) x read =
 header_from (a ∷ b ∷ c ∷ d ∷ ns) x read = none_is_some read
 
 -- a printed step
-printed_from : (word ns : List ℕ) (x : TraceLine) (o : Option Event) → ((e : Event) → o ≡ Some e → Reads word ns e) → option_map Step o ≡ Some x
+printed_from : (word ns : List ℕ) (x : TraceLine) (o : Option Event) → ((e : Event) → o ≡ Some e → Reads word ns e)
+    → option_map Step o ≡ Some x
     → Spells word ns x
 printed_from word ns x None so read = none_is_some read
 printed_from word ns x (Some e) so read = let it = so e refl in subst (Spells word ns) (some_same _ _ read) (record {
@@ -244,25 +268,29 @@ printed_from word ns x (Some e) so read = let it = so e refl in subst (Spells wo
 
 -- a word and numbers
 word_from : (word ns : List ℕ) (x : TraceLine) → line_of_word word ns ≡ Some x → Spells word ns x
-word_from word ns x = by_word word (codes "dover") (λ w. Spells w ns x) (header_of ns) (option_map Step (step_of_word word ns)) x
+word_from word ns x = by_word word (codes "dover") (λ w. Spells w ns x) (header_of ns)
+    (option_map Step (step_of_word word ns)) x
     (header_from ns x) (printed_from word ns x (step_of_word word ns) (step_from word ns))
 
 -- ---- refused lines
 
 -- what a value was made from
-mapped : {A B : Type 0} (o : Option A) (f : A → B) (y : B) → option_map f o ≡ Some y → (x : A) × (o ≡ Some x) × (f x ≡ y)
+mapped : {A B : Type 0} (o : Option A) (f : A → B) (y : B) → option_map f o ≡ Some y → (x : A) × (o ≡ Some x)
+    × (f x ≡ y)
 mapped None f y e = none_is_some e
 mapped (Some x) f y e = (x, refl, some_same _ _ e)
 
 -- the first number that is read, and the fields behind it
-first_from : (fields : List (List ℕ)) (f : ℕ × List (List ℕ)) → number_of_first fields ≡ Some f → (fields ≡ decimal f.0 ∷ f.1) × (f.0 < 10 ^ 18)
+first_from : (fields : List (List ℕ)) (f : ℕ × List (List ℕ)) → number_of_first fields ≡ Some f
+    → (fields ≡ decimal f.0 ∷ f.1) × (f.0 < 10 ^ 18)
 first_from [] f read = none_is_some read
 first_from (field ∷ fields) f read =
     let it = mapped (numeral field) (λ n. let g : ℕ × List (List ℕ) = (n, fields) in g) f read in
     let same : (it.0, fields) ≡ f = it.2 in
     let short : AreShort (it.0 ∷ []) = numerals_short (field ∷ []) (it.0 ∷ [])
     (ap (λ o. option_and_then (λ n. option_map (λ ns. n ∷ ns) (Some [])) o) it.1) in (
-      subst (λ (g : ℕ × List (List ℕ)). field ∷ fields ≡ decimal g.0 ∷ g.1) same (ap (λ w. w ∷ fields) (sym (decimal-numeral field it.0 it.1))),
+      subst (λ (g : ℕ × List (List ℕ)). field ∷ fields ≡ decimal g.0 ∷ g.1) same
+          (ap (λ w. w ∷ fields) (sym (decimal-numeral field it.0 it.1))),
       subst (λ (g : ℕ × List (List ℕ)). g.0 < 10 ^ 18) same short.0,
     )
 
@@ -275,7 +303,8 @@ named_from word cause = next BadJob _ (next Count _ (next Total _ (next Ratio _ 
       (λ read. ap refusal_word (sym (some_same _ _ read)))
 
 -- the last word
-last_from : (fields : List (List ℕ)) (cause : Refusal) → last_word fields ≡ Some cause → fields ≡ refusal_word cause ∷ []
+last_from : (fields : List (List ℕ)) (cause : Refusal) → last_word fields ≡ Some cause
+    → fields ≡ refusal_word cause ∷ []
 last_from [] cause read = none_is_some read
 last_from (word ∷ []) cause read = ap (λ w. w ∷ []) (sym (named_from word cause read))
 last_from (word ∷ next ∷ fields) cause read = none_is_some read
@@ -297,10 +326,12 @@ abbrev behind_mark : (t : ℕ) → List (List ℕ) → Option TraceLine
 behind_mark t fields = number_of_first fields >>= λ r. behind_release t r.0 r.1
 
 -- fields that were taken one by one
-joined : {fs rs cs ds vs ws more : List (List ℕ)} (t r c d v : List ℕ) → fs ≡ t ∷ rs → rs ≡ r ∷ cs → cs ≡ c ∷ ds → ds ≡ d ∷ vs → vs ≡ v ∷ ws
+joined : {fs rs cs ds vs ws more : List (List ℕ)} (t r c d v : List ℕ) → fs ≡ t ∷ rs → rs ≡ r ∷ cs → cs ≡ c ∷ ds
+    → ds ≡ d ∷ vs → vs ≡ v ∷ ws
     → ws ≡ more → fs ≡ t ∷ r ∷ c ∷ d ∷ v ∷ more
 joined t r c d v a b e f g h =
-    a ∙ ap (λ xs. t ∷ xs) (b ∙ ap (λ xs. r ∷ xs) (e ∙ ap (λ xs. c ∷ xs) (f ∙ ap (λ xs. d ∷ xs) (g ∙ ap (λ xs. v ∷ xs) h))))
+    a ∙ ap (λ xs. t ∷ xs) (b
+    ∙ ap (λ xs. r ∷ xs) (e ∙ ap (λ xs. c ∷ xs) (f ∙ ap (λ xs. d ∷ xs) (g ∙ ap (λ xs. v ∷ xs) h))))
 
 -- the line is spelled by these fields behind the word
 pub record RefusedBy (fields : List (List ℕ)) (x : TraceLine) : Type 0 where
@@ -309,7 +340,8 @@ pub record RefusedBy (fields : List (List ℕ)) (x : TraceLine) : Type 0 where
 
 -- these fields make up the line of what was read of them
 refused_made : (fields : List (List ℕ)) (x : TraceLine) (t r c d v : ℕ) (cause : Refusal)
-    → fields ≡ decimal t ∷ decimal r ∷ decimal c ∷ decimal d ∷ decimal v ∷ refusal_word cause ∷ [] → AreShort (t ∷ r ∷ c ∷ d ∷ v ∷ [])
+    → fields ≡ decimal t ∷ decimal r ∷ decimal c ∷ decimal d ∷ decimal v ∷ refusal_word cause ∷ []
+    → AreShort (t ∷ r ∷ c ∷ d ∷ v ∷ [])
     → Some (Refused t r c d v cause) ≡ Some x → RefusedBy fields x
 refused_made fields x t r c d v cause whole short made = subst (RefusedBy fields) (some_same _ _ made)
     (record { text = ap (λ fs. line_of (codes "refuse" ∷ fs)) (sym whole); form = short })
@@ -330,7 +362,8 @@ refused_from fields x read =
     let deadline = first_from c.0.1 d.0 d.1 in
     let value = first_from d.0.1 v.0 v.1 in
     refused_made fields x t.0.0 r.0.0 c.0.0 d.0.0 v.0.0 cause.0
-    (joined (decimal t.0.0) (decimal r.0.0) (decimal c.0.0) (decimal d.0.0) (decimal v.0.0) mark.0 release.0 work.0 deadline.0 value.0
+    (joined (decimal t.0.0) (decimal r.0.0) (decimal c.0.0) (decimal d.0.0)
+    (decimal v.0.0) mark.0 release.0 work.0 deadline.0 value.0
     (last_from v.0.1 cause.0 cause.1)) (mark.1, (release.1, (work.1, (deadline.1, (value.1, tt))))) cause.2
 
 -- a number is read
@@ -359,16 +392,22 @@ refused_read t r c d v cause short =
 -- ---- lines
 
 -- what is read has a form, and its text is the line of the fields
-pub line_from : (fields : List (List ℕ)) (x : TraceLine) → line_of_fields fields ≡ Some x → HasForm x × (trace_text x ≡ line_of fields)
+pub line_from : (fields : List (List ℕ)) (x : TraceLine) → line_of_fields fields ≡ Some x → HasForm x
+    × (trace_text x ≡ line_of fields)
 line_from [] x read = none_is_some read
-line_from (word ∷ fields) x read = by_word word (codes "refuse") (λ w. HasForm x × (trace_text x ≡ line_of (w ∷ fields))) (refused_of fields)
-    (option_and_then (line_of_word word) (numerals fields)) x (λ refused. let it = refused_from fields x refused in (it.form, it.text))
+line_from (word ∷ fields) x read =
+    by_word word (codes "refuse") (λ w. HasForm x × (trace_text x ≡ line_of (w ∷ fields))) (refused_of fields)
+    (option_and_then (line_of_word word) (numerals fields)) x
+    (λ refused. let it = refused_from fields x refused in (it.form, it.text))
     (by_numbers (numerals fields) refl) read where
       by_numbers : (o : Option (List ℕ)) → numerals fields ≡ o → option_and_then (line_of_word word) o ≡ Some x
           → HasForm x × (trace_text x ≡ line_of (word ∷ fields))
       by_numbers None e other = none_is_some other
-      by_numbers (Some ns) e other = let it = word_from word ns x other in
-          (it.form (numerals_short fields ns e), it.text ∙ ap (λ fs. line_of (word ∷ fs)) (decimals-numerals fields ns e))
+      by_numbers (Some ns) e other = let it = word_from word ns x other in (
+        it.form (numerals_short fields ns e),
+        it.text
+            ∙ ap (λ fs. line_of (word ∷ fs)) (decimals-numerals fields ns e),
+      )
 
 -- the fields of a line's text
 abbrev fields_in : TraceLine → List (List ℕ)
@@ -379,9 +418,11 @@ fields_in (Refused t r c d v cause) = codes "refuse" ∷ map decimal (t ∷ r �
 -- the text is cut into them
 text_cut : (x : TraceLine) → HasForm x → fields_of (trace_text x) ≡ fields_in x
 text_cut (Header version p q) form =
-    fields_of-line_of (codes "dover") (map decimal (version ∷ p ∷ q ∷ [])) refl (decimals-HasNoSpace (version ∷ p ∷ q ∷ []) form)
+    fields_of-line_of (codes "dover") (map decimal (version ∷ p ∷ q ∷ [])) refl
+    (decimals-HasNoSpace (version ∷ p ∷ q ∷ []) form)
 text_cut (Step e) form = ap fields_of (text_is e)
-    ∙ fields_of-line_of (word_of e) (map decimal (step_numbers e)) (word_whole e) (decimals-HasNoSpace (step_numbers e) form.0)
+    ∙ fields_of-line_of (word_of e) (map decimal (step_numbers e)) (word_whole e)
+    (decimals-HasNoSpace (step_numbers e) form.0)
 text_cut (Refused t r c d v cause) form =
     fields_of-line_of (codes "refuse") (map decimal (t ∷ r ∷ c ∷ d ∷ v ∷ []) ++ refusal_word cause ∷ []) refl
     (then_word (refusal_word cause) (t ∷ r ∷ c ∷ d ∷ v ∷ []) (word_HasNoSpace cause) form)
@@ -401,7 +442,8 @@ step_line (End value) ns = refl
 fields_read : (x : TraceLine) → HasForm x → line_of_fields (fields_in x) ≡ Some x
 fields_read (Header version p q) form = ap (option_and_then header_of) (numerals-decimals (version ∷ p ∷ q ∷ []) form)
 fields_read (Step e) form = step_line e (step_numbers e)
-    ∙ ap (option_and_then (λ ms. option_map Step (step_of_word (word_of e) ms))) (numerals-decimals (step_numbers e) form.0)
+    ∙ ap (option_and_then (λ ms. option_map Step (step_of_word (word_of e) ms)))
+    (numerals-decimals (step_numbers e) form.0)
     ∙ ap (option_map Step) (step_read e form.1)
 fields_read (Refused t r c d v cause) form = refused_read t r c d v cause form
 
@@ -413,7 +455,8 @@ text_read x form = ap line_of_fields (text_cut x form) ∙ fields_read x form
 
 -- what the fields of a line name
 abbrev item_of_fields : List (List ℕ) → Option Item
-item_of_fields fields = option_or (option_and_then verdict.job_from (numbers_after (codes "job") fields)) (verdict.refused_from fields)
+item_of_fields fields = option_or (option_and_then verdict.job_from (numbers_after (codes "job") fields))
+    (verdict.refused_from fields)
 
 -- the text of a line names its item
 text_item : (x : TraceLine) → HasForm x → verdict.item_of (trace_text x) ≡ item_in x
@@ -468,7 +511,8 @@ read_IsRead line x read =
     }
 
 -- a line that is the text of something is read as that
-pub only_read : (line : List ℕ) (x : TraceLine) → HasForm x → trace_text x ≡ line → line_of_fields (fields_of line) ≡ Some x
+pub only_read : (line : List ℕ) (x : TraceLine) → HasForm x → trace_text x ≡ line
+    → line_of_fields (fields_of line) ≡ Some x
 only_read line x form same = ap (λ bs. line_of_fields (fields_of bs)) (sym same) ∙ text_read x form
 
 -- ---- fields that are no line
@@ -490,11 +534,14 @@ many_numbers word (a ∷ b ∷ []) many = absurd (omega arith)
 many_numbers word (a ∷ b ∷ c ∷ []) many = absurd (omega arith)
 many_numbers word (a ∷ b ∷ c ∷ d ∷ []) many = absurd (omega arith)
 many_numbers word (a ∷ b ∷ c ∷ d ∷ e ∷ []) many = absurd (omega arith)
-many_numbers word (a ∷ b ∷ c ∷ d ∷ e ∷ f ∷ ns) many = none_of (bytes_eq word (codes "dover")) (bytes_eq word (codes "job"))
-    (bytes_eq word (codes "run")) (bytes_eq word (codes "complete")) (bytes_eq word (codes "preempt")) (bytes_eq word (codes "abandon"))
+many_numbers word (a ∷ b ∷ c ∷ d ∷ e ∷ f ∷ ns) many =
+    none_of (bytes_eq word (codes "dover")) (bytes_eq word (codes "job"))
+    (bytes_eq word (codes "run")) (bytes_eq word (codes "complete")) (bytes_eq word (codes "preempt"))
+    (bytes_eq word (codes "abandon"))
     (bytes_eq word (codes "take")) (bytes_eq word (codes "end")) where
       none_of : (a b c d e f g h : Bool) → cond a None
-          (option_map Step (cond b None (cond c None (cond d None (cond e None (cond f None (cond g None (cond h None None)))))))) ≡ None
+          (option_map Step (cond b None
+          (cond c None (cond d None (cond e None (cond f None (cond g None (cond h None None)))))))) ≡ None
       none_of true b c d e f g h = refl
       none_of false true c d e f g h = refl
       none_of false false true d e f g h = refl
@@ -509,7 +556,8 @@ many_numbers word (a ∷ b ∷ c ∷ d ∷ e ∷ f ∷ ns) many = none_of (bytes
 pub none_read : (word : List ℕ) (fields : List (List ℕ)) → bytes_eq word (codes "refuse") ≡ false
     → ((ns : List ℕ) → numerals fields ≡ Some ns → 5 < length ns) → line_of_fields (word ∷ fields) ≡ None
 none_read word fields other many =
-    ap (λ b. if b then refused_of fields else option_and_then (line_of_word word) (numerals fields)) other ∙ by_numbers (numerals fields) refl where
+    ap (λ b. if b then refused_of fields else option_and_then (line_of_word word) (numerals fields)) other
+    ∙ by_numbers (numerals fields) refl where
       by_numbers : (o : Option (List ℕ)) → numerals fields ≡ o → option_and_then (line_of_word word) o ≡ None
       by_numbers None e = refl
       by_numbers (Some ns) e = many_numbers word ns (many ns e)

@@ -94,7 +94,8 @@ last_word _ = None
 
 -- the refused line of five numbers and a word
 unfoldable pub refused_of : List (List ℕ) → Option TraceLine
-refused_of fields = number_of_first fields >>= λ t. number_of_first t.1 >>= λ r. number_of_first r.1 >>= λ c. number_of_first c.1 >>= λ d.
+refused_of fields = number_of_first fields >>= λ t. number_of_first t.1 >>= λ r. number_of_first r.1 >>= λ c.
+    number_of_first c.1 >>= λ d.
     number_of_first d.1 >>= λ v. last_word v.1 >>= λ cause. Some (Refused t.0 r.0 c.0 d.0 v.0 cause)
 
 -- the line of these fields

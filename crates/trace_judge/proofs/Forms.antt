@@ -15,7 +15,8 @@ use Rattle.dover_model.specs.Run.{printed, printed_of}
 use Rattle.dover_model.specs.Sound.{IsMember, Keeps}
 use Rattle.dover_model.specs.Session.{Session, instance_of}
 use Rattle.dover_model.proofs.Members.{some_same}
-use Rattle.dover_model.proofs.Deeds.{Deed, Completed, Resumed, Started, Began, Preempted, Stayed, Arrived, Taken, Abandoned, Rested}
+use Rattle.dover_model.proofs.Deeds.{Deed, Completed, Resumed, Started, Began, Preempted, Stayed, Arrived, Taken}
+use Rattle.dover_model.proofs.Deeds.{Abandoned, Rested}
 use Rattle.dover_model.proofs.Kept.{step_deed, each_job}
 use Rattle.dover_model.proofs.Honest.{numbers_low, count_jobs}
 use Rattle.dover_model.proofs.ShortNumbers.{printed_short}
@@ -34,7 +35,8 @@ use Rattle.trace_reading.proofs.Seeing.{sees_keeps, sees_next}
 
 -- a line has one form
 pub one_form : (x y : TraceLine) → HasForm x → HasForm y → trace_text x ≡ trace_text y → x ≡ y
-one_form x y form_x form_y same = some_same x y (sym (text_read x form_x) ∙ ap (λ l. line_of_fields (fields_of l)) same ∙ text_read y form_y)
+one_form x y form_x form_y same =
+    some_same x y (sym (text_read x form_x) ∙ ap (λ l. line_of_fields (fields_of l)) same ∙ text_read y form_y)
 
 -- the numbers of a step's line
 same_numbers : (e : Event) → numbers_in e ≡ step_numbers e
@@ -64,27 +66,32 @@ module _ (J : Instance) (valid : IsValid J) (s : State) (keeps : Keeps J s) wher
   deed_names k other m rests (Resumed p member held none least why) = low p member
   deed_names k other m rests (Started o member waiting none first fits next) = low o member
   deed_names k other m rests (Began f member fresh none) = low f member
-  deed_names k other m rests (Preempted r f member runs some f_member fresh before fits) = (low r member, low f f_member)
+  deed_names k other m rests (Preempted r f member runs some f_member fresh before fits) =
+      (low r member, low f f_member)
   deed_names k other m rests (Stayed r f member runs some f_member fresh why) = tt
   deed_names k other m rests (Arrived c member comes now first stale busy free) =
       (low c member, each_job IsJob s.tasks (subst (AllByRecursion IsJob) (sym keeps.jobs) valid.each) c member)
-  deed_names k other m rests (Taken r x member runs some x_member waiting now stale heavy) = (low r member, low x x_member)
+  deed_names k other m rests (Taken r x member runs some x_member waiting now stale heavy) =
+      (low r member, low x x_member)
   deed_names k other m rests (Abandoned r x member runs some x_member waiting now stale light) = low x x_member
   deed_names k other m rests (Rested quiet) = rests
 
   -- so does each step
   step_names : (rules : Rules) → MoveNames (step rules s)
-  step_names rules = deed_names rules.ratio (ending s or_else Ticks) (step rules s) (by_over (list_all is_over s.tasks)) (step_deed J valid s keeps rules) where
-    by_over : (b : Bool) → MoveNames (then_some b (Prints (End (value_sum (filter is_done s.tasks)))) or_else Ticks)
-    by_over true = tt
-    by_over false = tt
+  step_names rules = deed_names rules.ratio (ending s or_else Ticks) (step rules s) (by_over (list_all is_over s.tasks))
+      (step_deed J valid s keeps rules) where
+        by_over : (b : Bool) → MoveNames (then_some b (Prints (End (value_sum (filter is_done s.tasks)))) or_else Ticks)
+        by_over true = tt
+        by_over false = tt
 
 -- what is printed next has the form of a trace's line
 pub next_form : (ls : List (List ℕ)) (S : Session) (floor : ℕ) (z : State) → Sees ls S floor z → (e : Event) (y : State)
     → PrintsNext S.rules z e y → HasForm (Step e)
 next_form ls S floor z sees e y next =
-    let it : (more : List Event) × (printed (instance_of S) ≡ printed_of sees.steps ++ e ∷ more) = sees_next ls S floor z sees e y next in
-    let keeps_y : Keeps (instance_of S) y = passes_keeps (instance_of S) sees.valid.jobs S.rules y.clock next.steps z y (sees_keeps ls S floor z sees)
+    let it : (more : List Event) × (printed (instance_of S) ≡ printed_of sees.steps ++ e ∷ more) =
+    sees_next ls S floor z sees e y next in
+    let keeps_y : Keeps (instance_of S) y =
+    passes_keeps (instance_of S) sees.valid.jobs S.rules y.clock next.steps z y (sees_keeps ls S floor z sees)
     (leads_passes S.rules y.clock next.steps z y (idles_leads S.rules next.steps z y next.idles)) in (
       subst AreShort (same_numbers e) (all_at (λ e. AreShort (numbers_in e)) (printed_of sees.steps) e it.0
           (subst (AllByRecursion (λ e. AreShort (numbers_in e))) it.1 (printed_short (instance_of S) sees.valid.jobs))),

@@ -1,5 +1,6 @@
 -- What the judge finds of a text, byte by byte.
-use Rattle.std.proofs.Common.{◌≡◌, ℕ, suc, ◌+◌, ◌-◌, ◌*◌, ◌≤◌, ◌<◌, max, min, List, [], ◌∷◌, ◌++◌, length, length-append, map, take, drop, refl, sym, ap, ◌∙◌, subst}
+use Rattle.std.proofs.Common.{◌≡◌, ℕ, suc, ◌+◌, ◌-◌, ◌*◌, ◌≤◌, ◌<◌, max, min, List, [], ◌∷◌, ◌++◌, length}
+use Rattle.std.proofs.Common.{length-append, map, take, drop, refl, sym, ap, ◌∙◌, subst}
 use Rattle.std.proofs.Common.{Bool, true, false, cond, ◌||◌, ◌&&◌, arith, take-append-drop}
 use Rattle.std.specs.Prelude.{nat_lt, ◌==◌}
 use Rattle.std.specs.List.{filter}
@@ -14,7 +15,8 @@ use Rattle.dover_model.specs.JobFacts.{JobFacts}
 use Rattle.dover_model.specs.Lines.{whole_lines, rest_of, is_too_long, cut}
 use Rattle.dover_model.specs.Run.{printed, completed_value}
 use Rattle.dover_model.specs.Session.{Item, JobItem, RefusedItem, Session, instance_of, admitted_jobs, IsValidSession}
-use Rattle.dover_model.specs.Trace.{Printed, Refuses, Placed, put_in, places_after, places_of, lines_among, text_of_line, trace_lines}
+use Rattle.dover_model.specs.Trace.{Printed, Refuses, Placed, put_in, places_after, places_of, lines_among}
+use Rattle.dover_model.specs.Trace.{text_of_line, trace_lines}
 use Rattle.dover_model.specs.Verdict as model
 use Rattle.dover_model.proofs.Beginnings.{begins_length}
 use Rattle.dover_model.proofs.Cuts.{onto, cut_append}
@@ -45,7 +47,8 @@ use Rattle.trace_judge.specs.declared.judge.Judge.{Judge}
 use Rattle.trace_judge.specs.declared.judge.Found.{Found}
 use Rattle.trace_judge.specs.declared.judge.Found.TheVariants.{Good, Wrong as Bad, NoMemory}
 use Rattle.trace_judge.specs.Reads.{Reading, expected_of, Ends, Reads, is_job_line, job_lines_in, kept_steps}
-use Rattle.trace_judge.specs.Judging.{jobs_named, steps_told, IsGood, IsCut, StandsFor, Fed, IsOverfed, Tells, IsEarned, is_wrong}
+use Rattle.trace_judge.specs.Judging.{jobs_named, steps_told, IsGood, IsCut, StandsFor, Fed, IsOverfed, Tells, IsEarned}
+use Rattle.trace_judge.specs.Judging.{is_wrong}
 use Rattle.trace_judge.proofs.Readings.{HereBy, ends_of, reads_ahead, with_room, room_opens, room_goes, room_ends}
 
 -- ---- a trace has few lines
@@ -55,7 +58,8 @@ length_put_in : (ps : List Placed) (before : ℕ) (es : List Event) → length (
 length_put_in [] before es = omega (arith, length-map es Printed)
 length_put_in (p ∷ ps) before es =
     let n : ℕ = p.place - before in
-    let parts : length (take n es) + length (drop n es) ≡ length es = sym (length-append (take n es) (drop n es)) ∙ ap length (take-append-drop n es) in
+    let parts : length (take n es) + length (drop n es) ≡ length es = sym (length-append (take n es) (drop n es))
+    ∙ ap length (take-append-drop n es) in
     omega (
       arith,
       length-append (map Printed (take n es)) (Refuses p.refused ∷ put_in ps (max before p.place) (drop n es)),
@@ -64,7 +68,8 @@ length_put_in (p ∷ ps) before es =
     )
 
 -- no more of them than items
-few_places : (rules : Rules) (jobs : List JobFacts) (items : List Item) → length (places_after rules jobs items) ≤ length items
+few_places : (rules : Rules) (jobs : List JobFacts) (items : List Item)
+    → length (places_after rules jobs items) ≤ length items
 few_places rules jobs [] = omega arith
 few_places rules jobs (JobItem j ∷ items) = omega (arith, few_places rules (jobs ++ j ∷ []) items)
 few_places rules jobs (RefusedItem r ∷ items) = omega (arith, few_places rules jobs items)
@@ -75,7 +80,8 @@ few_lines [] passes = omega arith
 few_lines (l ∷ ls) passes =
     let it : Starts (l ∷ ls) = begun l ls passes in
     let S : Session = it.session in
-    let steps : length (printed (instance_of S)) ≤ 5 * length (admitted_jobs S.items) + 1 = few_printed (instance_of S) it.valid.jobs in
+    let steps : length (printed (instance_of S)) ≤ 5 * length (admitted_jobs S.items) + 1 =
+    few_printed (instance_of S) it.valid.jobs in
     let whole : length (trace_lines S) ≡ suc (length (lines_among S (printed (instance_of S)))) =
     ap suc (length-map (lines_among S (printed (instance_of S))) text_of_line) in
     omega (
@@ -149,7 +155,8 @@ module _ (r : Reading) (text : List ℕ) (reads : Reads r (whole_lines text)) wh
   pub rest_behind : is_ended r.stage ≡ true → 0 < length (rest_of text)
       → model.verdict text ≡ model.Wrong (suc (length (whole_lines text))) (model.expected_after (whole_lines text))
   rest_behind ended some = wrong_rest text
-      (ap (λ b. is_too_long (rest_of text) || (b && model.ends_with_end (whole_lines text))) (lt-ltb 0 (length (rest_of text)) some)
+      (ap (λ b. is_too_long (rest_of text) || (b && model.ends_with_end (whole_lines text)))
+      (lt-ltb 0 (length (rest_of text)) some)
       ∙ ap (λ b. is_too_long (rest_of text) || b) (reads_ends r (whole_lines text) reads ∙ ended)
       ∙ or_true (is_too_long (rest_of text)))
       (reads_begins r (whole_lines text) reads)
@@ -157,11 +164,13 @@ module _ (r : Reading) (text : List ℕ) (reads : Reads r (whole_lines text)) wh
   -- and a rest that is too long is wrong
   pub rest_long : is_too_long (rest_of text) ≡ true
       → model.verdict text ≡ model.Wrong (suc (length (whole_lines text))) (model.expected_after (whole_lines text))
-  rest_long long = wrong_rest text (ap (λ b. b || (nat_lt 0 (length (rest_of text)) && model.ends_with_end (whole_lines text))) long)
+  rest_long long = wrong_rest text
+      (ap (λ b. b || (nat_lt 0 (length (rest_of text)) && model.ends_with_end (whole_lines text))) long)
       (reads_begins r (whole_lines text) reads)
 
   -- a text that hasn't ended is short
-  pub reads_short : is_ended r.stage ≡ false → model.rest_counts text ≡ false → model.verdict text ≡ model.Short (length (whole_lines text))
+  pub reads_short : is_ended r.stage ≡ false → model.rest_counts text ≡ false
+      → model.verdict text ≡ model.Short (length (whole_lines text))
   reads_short on none = good_text text (reads_begins r (whole_lines text) reads) none
       ∙ short_text text (reads_ends r (whole_lines text) reads ∙ on)
 
@@ -170,13 +179,15 @@ module _ (r : Reading) (text : List ℕ) (reads : Reads r (whole_lines text)) wh
   rest_none ended none = by_rest (rest_of text) refl where
     by_rest : (rest : List ℕ) → rest_of text ≡ rest → rest ≡ []
     by_rest [] is = refl
-    by_rest (b ∷ bs) is = never (sym none ∙ ap (λ t. is_too_long (rest_of text) || (t && model.ends_with_end (whole_lines text)))
+    by_rest (b ∷ bs) is = never
+        (sym none ∙ ap (λ t. is_too_long (rest_of text) || (t && model.ends_with_end (whole_lines text)))
         (lt-ltb 0 (length (rest_of text)) (omega (arith, ap length is)))
         ∙ ap (λ t. is_too_long (rest_of text) || t) (reads_ends r (whole_lines text) reads ∙ ended)
         ∙ or_true (is_too_long (rest_of text)))
 
   -- it is accepted
-  pub reads_accepted : is_ended r.stage ≡ true → model.rest_counts text ≡ false → (S : Session) → Ends r (whole_lines text) S
+  pub reads_accepted : is_ended r.stage ≡ true → model.rest_counts text ≡ false → (S : Session)
+      → Ends r (whole_lines text) S
       → model.verdict text ≡ model.Accepted S
   reads_accepted ended none S ends = good_text text (reads_begins r (whole_lines text) reads) none
       ∙ accepted_text text S ends.valid ends.lines (rest_none ended none)
@@ -187,7 +198,8 @@ module _ (r : Reading) (text : List ℕ) (reads : Reads r (whole_lines text)) wh
 pub named_more : (text piece : List ℕ) → jobs_named text ≤ jobs_named (text ++ piece)
 named_more text piece =
     let more : List (List ℕ) = (onto (rest_of text) (cut piece)).0 in
-    let whole : whole_lines (text ++ piece) ≡ whole_lines text ++ more = ap (λ (c : List (List ℕ) × List ℕ). c.0) (cut_append text piece) in
+    let whole : whole_lines (text ++ piece) ≡ whole_lines text ++ more =
+    ap (λ (c : List (List ℕ) × List ℕ). c.0) (cut_append text piece) in
     omega (
       arith,
       ap (λ ls. length (filter is_job_line ls)) whole ∙ ap length (filter-append is_job_line (whole_lines text) more)
@@ -195,8 +207,10 @@ named_more text piece =
     )
 
 -- one line more
-pub named_line : (ls : List (List ℕ)) (l : List ℕ) → length (filter is_job_line (ls ++ l ∷ [])) ≡ length (filter is_job_line ls) + job_lines_in l
-named_line ls l = ap length (filter-append is_job_line ls (l ∷ [])) ∙ length-append (filter is_job_line ls) (filter is_job_line (l ∷ []))
+pub named_line : (ls : List (List ℕ)) (l : List ℕ)
+    → length (filter is_job_line (ls ++ l ∷ [])) ≡ length (filter is_job_line ls) + job_lines_in l
+named_line ls l = ap length (filter-append is_job_line ls (l ∷ []))
+    ∙ length-append (filter is_job_line ls) (filter is_job_line (l ∷ []))
     ∙ ap (λ n. length (filter is_job_line ls) + n) (by_test (is_job_line l)) where
       by_test : (b : Bool) → length (cond b (l ∷ []) []) ≡ cond b 1 0
       by_test true = refl
@@ -221,7 +235,8 @@ stands_good j text is stands = let there : StandsBy Good j text = subst (λ f. S
 
 -- no rest counts behind a line feed
 pub rest_empty : (text : List ℕ) → rest_of text ≡ [] → model.rest_counts text ≡ false
-rest_empty text empty = ap (λ rest. is_too_long rest || (nat_lt 0 (length rest) && model.ends_with_end (whole_lines text))) empty
+rest_empty text empty = ap
+    (λ rest. is_too_long rest || (nat_lt 0 (length rest) && model.ends_with_end (whole_lines text))) empty
 
 -- ---- a byte more
 
@@ -233,11 +248,13 @@ left_false true b none = never (sym none)
 -- the byte is cut from a text of which no line is wrong
 pub is_cut : (j : Judge) (l : Cutting) (s : Step) (byte : ℕ) (text : List ℕ) → IsGood j text
     → ((bytes : List ℕ) → cutting.StandsFor j.lines bytes → cutting.StandsFor l (with_byte bytes byte)) → s ≡ l.last
-    → ((bytes : List ℕ) → cutting.StandsFor j.lines bytes → is_too_long (rest_of bytes) ≡ false → HasCut s l.line bytes (bytes ++ byte ∷ []))
+    → ((bytes : List ℕ) → cutting.StandsFor j.lines bytes → is_too_long (rest_of bytes) ≡ false
+    → HasCut s l.line bytes (bytes ++ byte ∷ []))
     → IsCut (record j { lines = l }) s text (text ++ byte ∷ [])
 is_cut j l s byte text good stands last parts =
     let short : is_too_long (rest_of text) ≡ false =
-    left_false (is_too_long (rest_of text)) (nat_lt 0 (length (rest_of text)) && model.ends_with_end (whole_lines text)) good.counts in
+    left_false (is_too_long (rest_of text))
+    (nat_lt 0 (length (rest_of text)) && model.ends_with_end (whole_lines text)) good.counts in
     record {
       cut = subst (cutting.StandsFor l) (ap (λ b. cond b text (text ++ byte ∷ [])) short) (stands text good.cut);
       last = sym last;
@@ -246,8 +263,10 @@ is_cut j l s byte text good stands last parts =
     }
 
 -- where a line has ended, it may name a job more
-pub named_ended : (j : Judge) (before text : List ℕ) → IsCut j Line before text → jobs_named text ≡ jobs_named before + job_lines_in j.lines.line
-named_ended j before text it = ap (λ ls. length (filter is_job_line ls)) it.parts.0 ∙ named_line (whole_lines before) j.lines.line
+pub named_ended : (j : Judge) (before text : List ℕ) → IsCut j Line before text
+    → jobs_named text ≡ jobs_named before + job_lines_in j.lines.line
+named_ended j before text it = ap (λ ls. length (filter is_job_line ls)) it.parts.0
+    ∙ named_line (whole_lines before) j.lines.line
 
 -- what is kept after the byte, by whether it is a line feed
 abbrev byte_keeps : ℕ → ℕ → List ℕ → Bool → Cutting
@@ -261,7 +280,8 @@ keeps_by c byte last = elim last [ More ↦ goes_on c.count c.line byte | Line �
 -- the byte goes on with the line
 pub some_line : (c : Cutting) (byte : ℕ) → More ≡ (after_byte c byte).last → 0 < length (after_byte c byte).line
 some_line c byte more = by_last c.last refl more where
-  by_byte : (count : ℕ) (line : List ℕ) (b : Bool) → More ≡ (byte_keeps byte count line b).last → 0 < length (byte_keeps byte count line b).line
+  by_byte : (count : ℕ) (line : List ℕ) (b : Bool) → More ≡ (byte_keeps byte count line b).last
+      → 0 < length (byte_keeps byte count line b).line
   by_byte count line true ended = absurd (let clash : More ≡ Line = ended in cc)
   by_byte count line false on = omega (arith, length-append line (byte ∷ []))
 
@@ -300,7 +320,8 @@ wrong_fed j line due piece is = record {
 -- one piece and another
 pub fed_on : (a b c : Judge) (piece more : List ℕ) → Fed a b piece → Fed b c more → Fed a c (piece ++ more)
 fed_on a b c piece more first next = record {
-  stands = λ text stands. subst (StandsFor c) (append_assoc text piece more) (next.stands (text ++ piece) (first.stands text stands));
+  stands = λ text stands. subst (StandsFor c) (append_assoc text piece more)
+      (next.stands (text ++ piece) (first.stands text stands));
   spare = λ text stands. omega (
     arith,
     first.spare text stands,
@@ -311,7 +332,8 @@ fed_on a b c piece more first next = record {
 }
 
 -- too much behind a piece
-pub overfed_on : (a b : Judge) (piece more rest : List ℕ) → Fed a b piece → IsOverfed b more → IsOverfed a ((piece ++ more) ++ rest)
+pub overfed_on : (a b : Judge) (piece more rest : List ℕ) → Fed a b piece → IsOverfed b more
+    → IsOverfed a ((piece ++ more) ++ rest)
 overfed_on a b piece more rest first over text stands = omega (
   arith,
   first.spare text stands,
@@ -323,7 +345,8 @@ overfed_on a b piece more rest first over text stands = omega (
 -- ---- what is accepted
 
 -- the verdict of a session
-pub same_verdict : (S : Session) (k : Fraction) (v : Version) (value most jobs : ℕ) → k ≡ S.rules.ratio → v ≡ S.rules.version
+pub same_verdict : (S : Session) (k : Fraction) (v : Version) (value most jobs : ℕ) → k ≡ S.rules.ratio
+    → v ≡ S.rules.version
     → value ≡ completed_value (instance_of S) → most ≡ bound k value → jobs ≡ length (admitted_jobs S.items)
     → Accepted k v value most jobs ≡ Accepted S.rules.ratio S.rules.version (completed_value (instance_of S))
     (bound S.rules.ratio (completed_value (instance_of S))) (length (admitted_jobs S.items))
@@ -332,7 +355,8 @@ same_verdict S k v value most jobs ratio version worth within count =
     ∙ ap (λ x. Accepted S.rules.ratio S.rules.version x most jobs) worth
     ∙ ap (λ x. Accepted S.rules.ratio S.rules.version (completed_value (instance_of S)) x jobs)
     (within ∙ ap (λ x. bound x value) ratio ∙ ap (bound S.rules.ratio) worth)
-    ∙ ap (Accepted S.rules.ratio S.rules.version (completed_value (instance_of S)) (bound S.rules.ratio (completed_value (instance_of S)))) count
+    ∙ ap (Accepted S.rules.ratio S.rules.version (completed_value (instance_of S))
+    (bound S.rules.ratio (completed_value (instance_of S)))) count
 
 -- ---- the verdict
 
@@ -347,7 +371,8 @@ good_not_wrong j text good = by_stage j.reader.stage refl where
       ap is_wrong (reads_accepted j.reader text good.reads (ap is_ended is) good.counts end.0 end.1)
 
 -- nor of one that the judge stands for, where it found no wrong line
-pub stands_not_wrong : (j : Judge) (text : List ℕ) → StandsFor j text → ((line : ℕ) (due : Expected) → j.found ≡ Bad line due → ⊥)
+pub stands_not_wrong : (j : Judge) (text : List ℕ) → StandsFor j text
+    → ((line : ℕ) (due : Expected) → j.found ≡ Bad line due → ⊥)
     → is_wrong (model.verdict text) ≡ false
 stands_not_wrong j text stands none = by_found j.found refl stands where
   by_found : (f : Found) → j.found ≡ f → StandsBy f j text → is_wrong (model.verdict text) ≡ false
@@ -356,10 +381,12 @@ stands_not_wrong j text stands none = by_found j.found refl stands where
   by_found NoMemory is there = absurd there
 
 -- the steps of an accepted run were kept
-pub steps_accepted : (j : Judge) (text : List ℕ) → StandsFor j text → (S : Session) → model.verdict text ≡ model.Accepted S
+pub steps_accepted : (j : Judge) (text : List ℕ) → StandsFor j text → (S : Session)
+    → model.verdict text ≡ model.Accepted S
     → j.reader.steps ≡ kept_steps j.reader.keep (printed (instance_of S))
 steps_accepted j text stands S told = by_found j.found refl stands where
-  by_stage : IsGood j text → (s : Stage) → j.reader.stage ≡ s → j.reader.steps ≡ kept_steps j.reader.keep (printed (instance_of S))
+  by_stage : IsGood j text → (s : Stage) → j.reader.stage ≡ s
+      → j.reader.steps ≡ kept_steps j.reader.keep (printed (instance_of S))
   by_stage good Opening is = absurd (let clash : model.Short (length (whole_lines text)) ≡ model.Accepted S =
       sym (reads_short j.reader text good.reads (ap is_ended is) good.counts) ∙ told in cc)
   by_stage good Going is = absurd (let clash : model.Short (length (whole_lines text)) ≡ model.Accepted S =
@@ -371,27 +398,34 @@ steps_accepted j text stands S told = by_found j.found refl stands where
       let one : end.0 ≡ S = cc in
       end.1.steps ∙ ap (λ (T : Session). kept_steps j.reader.keep (printed (instance_of T))) one
 
-  by_found : (f : Found) → j.found ≡ f → StandsBy f j text → j.reader.steps ≡ kept_steps j.reader.keep (printed (instance_of S))
+  by_found : (f : Found) → j.found ≡ f → StandsBy f j text
+      → j.reader.steps ≡ kept_steps j.reader.keep (printed (instance_of S))
   by_found Good is good = by_stage good j.reader.stage refl
-  by_found (Bad line due) is wrong = absurd (let clash : model.Wrong line (expected_of due) ≡ model.Accepted S = sym wrong ∙ told in cc)
+  by_found (Bad line due) is wrong =
+      absurd (let clash : model.Wrong line (expected_of due) ≡ model.Accepted S = sym wrong ∙ told in cc)
   by_found NoMemory is there = absurd there
 
 -- what is left of the steps
 pub steps_left : (j : Judge) (text : List ℕ) → StandsFor j text → (v : Verdict) → Tells v text
-    → ((k : Fraction) (version : Version) (value most jobs : ℕ) → v ≡ Accepted k version value most jobs → ⊥) → [] ≡ steps_told j.reader.keep (model.verdict text)
-steps_left j text stands (Accepted k version value most jobs) tells other = absurd (other k version value most jobs refl)
+    → ((k : Fraction) (version : Version) (value most jobs : ℕ) → v ≡ Accepted k version value most jobs → ⊥)
+    → [] ≡ steps_told j.reader.keep (model.verdict text)
+steps_left j text stands (Accepted k version value most jobs) tells other =
+    absurd (other k version value most jobs refl)
 steps_left j text stands (Wrong line due) tells other = ap (steps_told j.reader.keep) (sym tells)
 steps_left j text stands (Short lines) tells other = ap (steps_told j.reader.keep) (sym tells)
 
 -- room for more jobs changes nothing
-pub room_stands : (j : Judge) (ready spare room : ℕ) (text : List ℕ) → StandsFor j text → StandsFor (record j { reader = with_room j.reader ready spare room }) text
+pub room_stands : (j : Judge) (ready spare room : ℕ) (text : List ℕ) → StandsFor j text
+    → StandsFor (record j { reader = with_room j.reader ready spare room }) text
 room_stands j ready spare room text stands = by_found j.found stands where
-  by_stage : (s : Stage) → HereBy s j.reader (whole_lines text) → HereBy s (with_room j.reader ready spare room) (whole_lines text)
+  by_stage : (s : Stage) → HereBy s j.reader (whole_lines text)
+      → HereBy s (with_room j.reader ready spare room) (whole_lines text)
   by_stage Opening it = room_opens j.reader ready spare room (whole_lines text) it
   by_stage Going it = (it.0, it.1, room_goes j.reader ready spare room (whole_lines text) it.0 it.1 it.1 it.2)
   by_stage Ended it = (it.0, room_ends j.reader ready spare room (whole_lines text) it.0 it.1)
 
-  by_found : (f : Found) → StandsBy f j text → StandsBy f (record j { reader = with_room j.reader ready spare room }) text
+  by_found : (f : Found) → StandsBy f j text
+      → StandsBy f (record j { reader = with_room j.reader ready spare room }) text
   by_found Good good = record { cut = good.cut; counts = good.counts; reads = by_stage j.reader.stage good.reads }
   by_found (Bad line due) wrong = wrong
   by_found NoMemory there = there

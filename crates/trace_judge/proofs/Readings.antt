@@ -1,5 +1,6 @@
 -- What the judge keeps of the lines of a trace, line by line.
-use Rattle.std.proofs.Common.{◌≡◌, ℕ, ◌+◌, ◌*◌, ◌≤◌, List, [], ◌∷◌, ◌++◌, length, sym, ap, ◌∙◌, subst, true, cond, arith}
+use Rattle.std.proofs.Common.{◌≡◌, ℕ, ◌+◌, ◌*◌, ◌≤◌, List, [], ◌∷◌, ◌++◌, length, sym, ap, ◌∙◌, subst, true, cond}
+use Rattle.std.proofs.Common.{arith}
 use Rattle.std.specs.Option.{option_map_or, option_and_then}
 use Rattle.dover_model.specs.declared.events.Event.{Event}
 use Rattle.dover_model.specs.Instance.{Instance}
@@ -117,19 +118,22 @@ module _ (r : Reading) (ready spare room : ℕ) (ls : List (List ℕ)) where
 -- behind the end nothing is
 pub ended_due : (r : Reading) (ls : List (List ℕ)) (S : Session) → Ends r ls S → model.expected_after ls ≡ model.Nothing
 ended_due r ls S ends = ap model.expected_after ends.lines
-    ∙ ap (λ b. cond b model.Nothing (option_map_or model.Step (option_and_then (model.step_after (length (tail (trace_lines S))))
+    ∙ ap (λ b. cond b model.Nothing
+    (option_map_or model.Step (option_and_then (model.step_after (length (tail (trace_lines S))))
     (model.named_session (trace_lines S))) model.Nothing)) (trace_ends S ends.valid) where
       tail : {X : Type 0} → List X → List X
       tail [] = []
       tail (x ∷ xs) = xs
 
 module _ (r : Reading) (d : Course) (e : Event) (going : r.stage ≡ Going)
-    (next : (J : Instance) (z : State) → Follows r.course J z → (y : State) × Follows d J y × PrintsNext J.rules z e y) where
+    (next : (J : Instance) (z : State) → Follows r.course J z → (y : State) × Follows d J y
+    × PrintsNext J.rules z e y) where
   -- the step that is printed next, and the run that has gone on to it
   pub next_goes : (ls : List (List ℕ)) (S : Session) (z y : State) → Goes r ls S z y
       → (x : State) × Goes (record r { course = d }) ls S z x × PrintsNext S.rules z e x
   next_goes ls S z y goes =
-      let it : (x : State) × Follows d (instance_of S) x × PrintsNext S.rules y e x = next (instance_of S) y goes.follows in (
+      let it : (x : State) × Follows d (instance_of S) x × PrintsNext S.rules y e x =
+      next (instance_of S) y goes.follows in (
         it.0,
         record {
           sees = goes.sees;
@@ -168,7 +172,8 @@ module _ (r : Reading) (d : Course) (e : Event) (going : r.stage ≡ Going)
 
 -- the same of a reading under another name
 module _ (r w : Reading) (same : r ≡ w) (d : Course) (e : Event) (going : r.stage ≡ Going)
-    (next : (J : Instance) (z : State) → Follows r.course J z → (y : State) × Follows d J y × PrintsNext J.rules z e y) where
+    (next : (J : Instance) (z : State) → Follows r.course J z → (y : State) × Follows d J y
+    × PrintsNext J.rules z e y) where
   pub named_ahead : StaysAhead w (record r { course = d })
   named_ahead ls reads = next_ahead r d e going next ls (subst (λ v. ReadsAhead v ls) (sym same) reads)
 
@@ -176,7 +181,8 @@ module _ (r w : Reading) (same : r ≡ w) (d : Course) (e : Event) (going : r.st
   named_due ls reads = next_due r d e going next ls (subst (λ v. ReadsAhead v ls) (sym same) reads)
 
 -- room stays where the ready jobs grow no more
-pub spare_stays : (r : Reading) (d : Course) → HasSpare r → length d.ready ≤ length r.course.ready → d.jobs ≡ r.course.jobs → d.room ≡ r.course.room
+pub spare_stays : (r : Reading) (d : Course) → HasSpare r → length d.ready ≤ length r.course.ready
+    → d.jobs ≡ r.course.jobs → d.room ≡ r.course.room
     → HasSpare (record r { course = d })
 spare_stays r d spare fewer jobs room = record {
   ready = let old : length r.course.ready + r.spare ≤ r.course.room = spare.ready in omega (arith, fewer, room);
@@ -185,7 +191,8 @@ spare_stays r d spare fewer jobs room = record {
 
 -- what is kept, with the run gone on
 pub next_reader : (r : Reading) → IsReader r → (d : Course) (e : Event) → r.stage ≡ Going
-    → ((J : Instance) (z : State) → Follows r.course J z → (y : State) × Follows d J y × PrintsNext J.rules z e y) → GoesOnFrom r.course d
+    → ((J : Instance) (z : State) → Follows r.course J z → (y : State) × Follows d J y × PrintsNext J.rules z e y)
+    → GoesOnFrom r.course d
     → IsReader (record r { course = d })
 next_reader r old d e going next on = record {
   spare = spare_stays r d old.spare on.fewer on.jobs on.room;
@@ -194,12 +201,22 @@ next_reader r old d e going next on = record {
 }
 
 -- a course that is the other, but for its clock and its ready jobs
-pub kept_on : (c d : Course) → d ≡ record c { clock = d.clock; ready = d.ready } → length d.ready ≡ length c.ready → GoesOnFrom c d
-kept_on c d kept fewer = record { rules = ap (λ (b : Course). b.rules) kept; fewer = omega (arith, fewer); jobs = ap (λ (b : Course). b.jobs) kept; room = ap (λ (b : Course). b.room) kept }
+pub kept_on : (c d : Course) → d ≡ record c { clock = d.clock; ready = d.ready } → length d.ready ≡ length c.ready
+    → GoesOnFrom c d
+kept_on c d kept fewer =
+    record {
+      rules = ap (λ (b : Course). b.rules) kept;
+      fewer = omega (arith, fewer);
+      jobs =
+          ap (λ (b : Course). b.jobs) kept;
+      room = ap (λ (b : Course). b.room) kept;
+    }
 
 -- what is kept, with other room
-pub reserve_reader : (r : Reading) → IsReader r → (d : Course) (steps : List Event) (spare room : ℕ) → d ≡ record r.course { room = d.room }
-    → steps ≡ r.steps → length r.course.ready + spare ≤ d.room → (r.keep ≡ true → 5 * (r.course.jobs + spare) + 1 ≤ room)
+pub reserve_reader : (r : Reading) → IsReader r → (d : Course) (steps : List Event) (spare room : ℕ)
+    → d ≡ record r.course { room = d.room }
+    → steps ≡ r.steps → length r.course.ready + spare ≤ d.room
+    → (r.keep ≡ true → 5 * (r.course.jobs + spare) + 1 ≤ room)
     → IsReader (record r { course = d; steps = steps; spare = spare; room = room })
 reserve_reader r old d steps spare room same unchanged ready all =
     subst (λ es. IsReader (record r { course = d; steps = es; spare = spare; room = room })) (sym unchanged)
@@ -210,7 +227,8 @@ reserve_reader r old d steps spare room same unchanged ready all =
     }))
 
 -- so is one that goes on by a printed step
-pub taken_on : (c d e : Course) → GoesOnFrom c d → e ≡ record d { ready = e.ready; done = e.done } → length e.ready ≤ length d.ready → GoesOnFrom c e
+pub taken_on : (c d e : Course) → GoesOnFrom c d → e ≡ record d { ready = e.ready; done = e.done }
+    → length e.ready ≤ length d.ready → GoesOnFrom c e
 taken_on c d e on kept fewer = record {
   rules = ap (λ (b : Course). b.rules) kept ∙ on.rules;
   fewer = omega (arith, fewer, on.fewer);

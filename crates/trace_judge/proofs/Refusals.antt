@@ -1,5 +1,6 @@
 -- How the judge takes the line of a job line that was refused.
-use Rattle.std.proofs.Common.{◌≡◌, ℕ, ◌+◌, ◌≤◌, ◌<◌, List, [], ◌∷◌, ◌++◌, length, length-append, refl, sym, ap, ◌∙◌, subst, true, false, arith, Some}
+use Rattle.std.proofs.Common.{◌≡◌, ℕ, ◌+◌, ◌≤◌, ◌<◌, List, [], ◌∷◌, ◌++◌, length, length-append, refl, sym, ap, ◌∙◌}
+use Rattle.std.proofs.Common.{subst, true, false, arith, Some}
 use Rattle.std.proofs.lemmas.Bool.{false_from_ne_true}
 use Rattle.admission.specs.Kept as admission
 use Rattle.dover_model.specs.Limits.{last_tick, most_items}
@@ -35,14 +36,16 @@ module _ (at r c d v : ℕ) (cause : Refusal) (form : HasForm (Refused at r c d 
   names = (read_IsRead (refused_text line) (Refused at r c d v cause) (text_read (Refused at r c d v cause) form)).item
 
   -- where its text continues a trace, it may come next
-  refused_only : (w : Reading) (ls : List (List ℕ)) (S : Session) (z : State) → Goes w ls S z z → begins_trace (ls ++ refused_text line ∷ []) ≡ true
+  refused_only : (w : Reading) (ls : List (List ℕ)) (S : Session) (z : State) → Goes w ls S z z
+      → begins_trace (ls ++ refused_text line ∷ []) ≡ true
       → (y : State) × MayRefuse S w.floor z line y
   refused_only w ls S z goes passes =
       let it = only_refused ls S w.floor z goes.sees (refused_text line) passes line names in (it.1, it.2)
 
   module _ (w : Reading) (going : w.stage ≡ Going) where
     -- the jobs and the limits don't refuse it so
-    pub not_refusable : (w.course.rules.version ≡ Two → at ≤ last_tick → at ≤ r → w.items < most_items → (jobs : List JobFacts)
+    pub not_refusable : (w.course.rules.version ≡ Two → at ≤ last_tick → at ≤ r → w.items < most_items
+        → (jobs : List JobFacts)
         → admission.StandsFor w.kept jobs → refusal_of w.kept.ratio jobs (job_of_numbers r c d v) ≡ Some cause → ⊥)
         → Took w w (refused_text line) false
     not_refusable none = record {
@@ -50,24 +53,29 @@ module _ (at r c d v : ℕ) (cause : Refusal) (form : HasForm (Refused at r c d 
       no = λ _ ls reads.
           let here : (S : Session) × (z : State) × Goes w ls S z z = here_of w ls going reads in (
             false_from_ne_true _ (λ passes.
-                let it : (y : State) × MayRefuse here.0 w.floor here.1 line y = refused_only w ls here.0 here.1 here.2 passes in
+                let it : (y : State) × MayRefuse here.0 w.floor here.1 line y =
+                refused_only w ls here.0 here.1 here.2 passes in
                 let room : length here.0.items < 3_999_998 = it.1.room in
-                none (ap (λ (k : Rules). k.version) (sym here.2.follows.rules) ∙ it.1.refused.version) it.1.refused.known it.1.refused.not_late
+                none (ap (λ (k : Rules). k.version) (sym here.2.follows.rules) ∙ it.1.refused.version)
+                it.1.refused.known it.1.refused.not_late
                 (omega (arith, here.2.items)) (admitted_jobs here.0.items) here.2.kept
-                (subst (λ k. refusal_of k (admitted_jobs here.0.items) (job_of_numbers r c d v) ≡ Some cause) (sym here.2.ratio) it.1.refused.cause)),
+                (subst (λ k. refusal_of k (admitted_jobs here.0.items) (job_of_numbers r c d v) ≡ Some cause)
+                (sym here.2.ratio) it.1.refused.cause)),
             reads_ahead w ls reads,
           );
     }
 
     -- something comes before its tick
-    pub not_waited : (v2 : Reading) → (w.floor ≤ at → (ls : List (List ℕ)) (S : Session) (z : State) → Goes w ls S z z → (x : State)
+    pub not_waited : (v2 : Reading)
+        → (w.floor ≤ at → (ls : List (List ℕ)) (S : Session) (z : State) → Goes w ls S z z → (x : State)
         → WaitsUntil S.rules at z x → ⊥) → StaysAhead w v2 → Took w v2 (refused_text line) false
     not_waited v2 none ahead = record {
       yes = λ e. absurd (let clash : false ≡ true = e in cc);
       no = λ _ ls reads.
           let here : (S : Session) × (z : State) × Goes w ls S z z = here_of w ls going reads in (
             false_from_ne_true _ (λ passes.
-                let it : (y : State) × MayRefuse here.0 w.floor here.1 line y = refused_only w ls here.0 here.1 here.2 passes in
+                let it : (y : State) × MayRefuse here.0 w.floor here.1 line y =
+                refused_only w ls here.0 here.1 here.2 passes in
                 none it.1.refused.no_fall ls here.0 here.1 here.2 it.0 it.1.waits),
             ahead ls (reads_ahead w ls reads),
           );
@@ -77,8 +85,10 @@ module _ (at r c d v : ℕ) (cause : Refusal) (form : HasForm (Refused at r c d 
     module _ (u v2 : Reading) (same : u ≡ v2) (kept : v2 ≡ record w { course = v2.course })
         (rules_kept : v2.course.rules ≡ w.course.rules)
         (yes : (w.course.rules.version ≡ Two) × (at ≤ last_tick) × (at ≤ r) × (w.items < most_items))
-        (refuses : (jobs : List JobFacts) → admission.StandsFor w.kept jobs → refusal_of w.kept.ratio jobs (job_of_numbers r c d v) ≡ Some cause)
-        (waits : (ls : List (List ℕ)) (S : Session) (z y : State) → Goes w ls S z y → (x : State) × Waited v2 at ls S z x) where
+        (refuses : (jobs : List JobFacts) → admission.StandsFor w.kept jobs
+        → refusal_of w.kept.ratio jobs (job_of_numbers r c d v) ≡ Some cause)
+        (waits : (ls : List (List ℕ)) (S : Session) (z y : State) → Goes w ls S z y → (x : State)
+        × Waited v2 at ls S z x) where
       -- the reading with it
       abbrev refused : Reading
       refused = record u { items = u.items + 1; floor = at }
@@ -98,7 +108,8 @@ module _ (at r c d v : ℕ) (cause : Refusal) (form : HasForm (Refused at r c d 
           let may : MayRefuse S u.floor z line (at_tick at x.tasks) = record {
             room = omega (arith, here.items);
             refused = record {
-              version = ap (λ (k : Rules). k.version) (here.follows.rules ∙ ap (λ (t : Reading). t.course.rules) same ∙ rules_kept) ∙ yes.0;
+              version = ap (λ (k : Rules). k.version)
+                  (here.follows.rules ∙ ap (λ (t : Reading). t.course.rules) same ∙ rules_kept) ∙ yes.0;
               numerals = form.1;
               no_fall = waited.1.no_fall;
               known = yes.1;
@@ -110,7 +121,8 @@ module _ (at r c d v : ℕ) (cause : Refusal) (form : HasForm (Refused at r c d 
           } in
           let S_more : Session = with_item S (RefusedItem line) in
           let J_same : instance_of S_more ≡ instance_of S = refused_instance S line in
-          let sees : Sees (ls ++ refused_text line ∷ []) S_more at z = sees_refused ls S u.floor z here.sees line (at_tick at x.tasks) may in
+          let sees : Sees (ls ++ refused_text line ∷ []) S_more at z =
+          sees_refused ls S u.floor z here.sees line (at_tick at x.tasks) may in
           let low : x.clock ≤ at = omega (arith, here.follows.clock, waited.1.low) in (
             x,
             record {
@@ -120,7 +132,8 @@ module _ (at r c d v : ℕ) (cause : Refusal) (form : HasForm (Refused at r c d 
               kept = subst (λ (J : Instance). admission.StandsFor u.kept J.jobs) (sym J_same) here.kept;
               ratio = here.ratio;
               items = omega (arith, here.items, length-append S.items (RefusedItem line ∷ []));
-              steps = here.steps ∙ ap (kept_steps u.keep) (sym (sees_idles_prints (ls ++ refused_text line ∷ []) S_more at z sees here.idles.0 x
+              steps = here.steps ∙ ap (kept_steps u.keep)
+                  (sym (sees_idles_prints (ls ++ refused_text line ∷ []) S_more at z sees here.idles.0 x
                   here.idles.1 low ∙ sees_refused_prints ls S u.floor z here.sees line (at_tick at x.tasks) may));
             },
           )
@@ -148,5 +161,6 @@ module _ (at r c d v : ℕ) (cause : Refusal) (form : HasForm (Refused at r c d 
           record {
             spare = record { ready = old.spare.ready; steps = old.spare.steps };
             lines = before.lines ++ refused_text line ∷ [];
-            reads = ahead_of refused (before.lines ++ refused_text line ∷ []) going_u (with_item it.0 (RefusedItem line)) new.0 new.0 new.1;
+            reads = ahead_of refused (before.lines ++ refused_text line ∷ []) going_u
+                (with_item it.0 (RefusedItem line)) new.0 new.0 new.1;
           }

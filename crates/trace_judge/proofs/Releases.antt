@@ -1,5 +1,6 @@
 -- How the judge takes the line of a release.
-use Rattle.std.proofs.Common.{◌≡◌, ℕ, ◌+◌, ◌*◌, ◌≤◌, ◌<◌, List, [], ◌∷◌, ◌++◌, length, length-append, refl, sym, ap, ◌∙◌, subst, true, false, cond, arith}
+use Rattle.std.proofs.Common.{◌≡◌, ℕ, ◌+◌, ◌*◌, ◌≤◌, ◌<◌, List, [], ◌∷◌, ◌++◌, length, length-append, refl, sym, ap}
+use Rattle.std.proofs.Common.{◌∙◌, subst, true, false, cond, arith}
 use Rattle.std.specs.Prelude.{Some, None}
 use Rattle.std.specs.List.{filter}
 use Rattle.std.proofs.lemmas.Bool.{false_from_ne_true}
@@ -31,7 +32,8 @@ use Rattle.trace_reading.proofs.Seeing.{sees_keeps, sees_rest}
 use Rattle.trace_reading.proofs.Only.{only_release}
 use Rattle.trace_judge.specs.declared.stage.Stage.TheVariants.{Going}
 use Rattle.trace_judge.specs.Course.{Course, Follows, IsCourse, with_release}
-use Rattle.trace_judge.specs.Reads.{Reading, Goes, Reads, StaysAhead, HasSpare, IsReader, kept_steps, Took, Waited, CanRelease, at_tick}
+use Rattle.trace_judge.specs.Reads.{Reading, Goes, Reads, StaysAhead, HasSpare, IsReader, kept_steps, Took, Waited}
+use Rattle.trace_judge.specs.Reads.{CanRelease, at_tick}
 use Rattle.trace_judge.proofs.Courses.{follows_count, follows_room}
 use Rattle.trace_judge.proofs.Forms.{one_form}
 use Rattle.trace_judge.proofs.Readings.{ahead_of, here_of, reads_of, reads_ahead, with_room}
@@ -40,27 +42,34 @@ use Rattle.trace_judge.proofs.Taking.{kept_more, kept_length}
 -- ---- the line alone
 
 -- the text of a release names its job
-release_item : (n : ℕ) (j : JobFacts) → HasForm (StepLine (Release n j)) → item_of (text_of (Release n j)) ≡ Some (JobItem j)
-release_item n j form = (read_IsRead (text_of (Release n j)) (StepLine (Release n j)) (text_read (StepLine (Release n j)) form)).item
+release_item : (n : ℕ) (j : JobFacts) → HasForm (StepLine (Release n j))
+    → item_of (text_of (Release n j)) ≡ Some (JobItem j)
+release_item n j form = (read_IsRead (text_of (Release n j)) (StepLine (Release n j))
+    (text_read (StepLine (Release n j)) form)).item
 
 -- where the text of a release continues a trace, the job may be released, under the next number
-pub release_only : (r : Reading) (ls : List (List ℕ)) (S : Session) (z : State) → Goes r ls S z z → (n : ℕ) (j : JobFacts)
+pub release_only : (r : Reading) (ls : List (List ℕ)) (S : Session) (z : State) → Goes r ls S z z
+    → (n : ℕ) (j : JobFacts)
     → HasForm (StepLine (Release n j)) → begins_trace (ls ++ text_of (Release n j) ∷ []) ≡ true
     → (n ≡ r.course.jobs) × (y : State) × MayRelease S r.floor z j y
 release_only r ls S z goes n j form passes =
     let it : (text_of (Release n j) ≡ release_text S j) × (y : State) × MayRelease S r.floor z j y =
     only_release ls S r.floor z goes.sees (text_of (Release n j)) passes j (release_item n j form) in
-    let admitted : Admitted S.rules.ratio (admitted_jobs S.items) j = not_refused S.rules.ratio (admitted_jobs S.items) j it.2.admitted in
+    let admitted : Admitted S.rules.ratio (admitted_jobs S.items) j =
+    not_refused S.rules.ratio (admitted_jobs S.items) j it.2.admitted in
     let few : length (admitted_jobs S.items) < 1_000_000 = admitted.count in
-    let next : HasForm (StepLine (Release (length (admitted_jobs S.items)) j)) = ((omega arith, form.0.1), (omega arith, admitted.job)) in
-    let same : StepLine (Release n j) ≡ StepLine (Release (length (admitted_jobs S.items)) j) = one_form _ _ form next it.0 in
+    let next : HasForm (StepLine (Release (length (admitted_jobs S.items)) j)) =
+    ((omega arith, form.0.1), (omega arith, admitted.job)) in
+    let same : StepLine (Release n j) ≡ StepLine (Release (length (admitted_jobs S.items)) j) =
+    one_form _ _ form next it.0 in
     let number : n ≡ length (admitted_jobs S.items) = cc in
     (number ∙ sym (follows_count r.course (instance_of S) z goes.follows), it.1, it.2)
 
 -- ---- the job
 
 -- the job may be released, once the run has gone on to its release
-pub can_release : (r : Reading) (j : JobFacts) (ls : List (List ℕ)) (S : Session) (z y : State) → Waited r j.release ls S z y → r.items < most_items
+pub can_release : (r : Reading) (j : JobFacts) (ls : List (List ℕ)) (S : Session) (z y : State)
+    → Waited r j.release ls S z y → r.items < most_items
     → refusal_of r.kept.ratio (admitted_jobs S.items) j ≡ None → CanRelease r j ls
 can_release r j ls S z y waited few admitted = record {
   session = S;
@@ -76,7 +85,8 @@ can_release r j ls S z y waited few admitted = record {
 }
 
 -- it may with other room as well
-pub room_release : (r : Reading) (j : JobFacts) (ls : List (List ℕ)) (ready spare room : ℕ) → CanRelease r j ls → CanRelease (with_room r ready spare room) j ls
+pub room_release : (r : Reading) (j : JobFacts) (ls : List (List ℕ)) (ready spare room : ℕ) → CanRelease r j ls
+    → CanRelease (with_room r ready spare room) j ls
 room_release r j ls ready spare room can = record {
   session = can.session;
   from = can.from;
@@ -128,7 +138,8 @@ module _ (r : Reading) (j : JobFacts) (room : ℕ) (ls : List (List ℕ)) (can :
   release_follows =
       let goes : Goes r ls S can.from can.state = can.waited.goes in
       let fresh : ℕ → Task = λ m. record { number = m; job = j; role = Fresh; had = 0 } in
-      let admitted : Admitted S.rules.ratio (admitted_jobs S.items) j = not_refused S.rules.ratio (admitted_jobs S.items) j can.may.admitted in
+      let admitted : Admitted S.rules.ratio (admitted_jobs S.items) j =
+      not_refused S.rules.ratio (admitted_jobs S.items) j can.may.admitted in
       let window : j.release + j.work ≤ j.deadline = admitted.job.window in
       let due : j.deadline ≤ 1_000_000_000_000 = admitted.job.due in
       record {
@@ -139,7 +150,8 @@ module _ (r : Reading) (j : JobFacts) (room : ℕ) (ls : List (List ℕ)) (can :
         ready = filter-append is_ready can.state.tasks (fresh n ∷ []) ∙ ap (λ ts. ts ++ fresh n ∷ []) goes.follows.ready
             ∙ ap (λ m. r.course.ready ++ fresh m ∷ []) (sym next_number);
         jobs = omega (arith, length-append can.state.tasks (fresh n ∷ []), goes.follows.jobs);
-        done = ap value_sum (filter-append is_done can.state.tasks (fresh n ∷ []) ∙ append-nil (filter is_done can.state.tasks)) ∙ goes.follows.done;
+        done = ap value_sum (filter-append is_done can.state.tasks (fresh n ∷ [])
+            ∙ append-nil (filter is_done can.state.tasks)) ∙ goes.follows.done;
         known = omega arith;
       }
 
@@ -152,7 +164,8 @@ module _ (r : Reading) (j : JobFacts) (room : ℕ) (ls : List (List ℕ)) (can :
   release_room spare some keep =
       let all : 5 * (r.course.jobs + r.spare) + 1 ≤ r.room = spare.steps keep in
       let rest = sees_rest (ls ++ release_text S j ∷ []) S_more j.release (with_fresh y n j) sees in
-      let jobs : admitted_jobs S_more.items ≡ admitted_jobs S.items ++ j ∷ [] = filter_map-append job_of_item S.items (JobItem j ∷ []) in
+      let jobs : admitted_jobs S_more.items ≡ admitted_jobs S.items ++ j ∷ [] =
+      filter_map-append job_of_item S.items (JobItem j ∷ []) in
       omega (
         arith,
         next_number,
@@ -173,12 +186,23 @@ module _ (r : Reading) (j : JobFacts) (room : ℕ) (ls : List (List ℕ)) (can :
       (more : steps ≡ cond r.keep (r.steps ++ Release r.course.jobs j ∷ []) r.steps) where
     -- the reading with it
     abbrev released : Reading
-    released = record r { course = with_release r.course j room; kept = kept; items = items; floor = j.release; steps = steps; spare = spare; room = steps_room }
+    released = record r {
+      course = with_release r.course j room;
+      kept = kept;
+      items = items;
+      floor = j.release;
+      steps =
+          steps;
+      spare = spare;
+      room = steps_room;
+    }
 
     -- it is kept of the lines with its text
-    pub released_goes : Goes released (ls ++ text_of (Release r.course.jobs j) ∷ []) S_more (with_fresh y n j) (with_fresh y n j)
+    pub released_goes : Goes released (ls ++ text_of (Release r.course.jobs j) ∷ []) S_more (with_fresh y n j)
+        (with_fresh y n j)
     released_goes =
-        let jobs : admitted_jobs S_more.items ≡ admitted_jobs S.items ++ j ∷ [] = filter_map-append job_of_item S.items (JobItem j ∷ []) in
+        let jobs : admitted_jobs S_more.items ≡ admitted_jobs S.items ++ j ∷ [] =
+        filter_map-append job_of_item S.items (JobItem j ∷ []) in
         let text : (s : Sees (ls ++ text_of (Release r.course.jobs j) ∷ []) S_more j.release (with_fresh y n j)) ×
         (printed_of s.steps ≡ printed_of can.waited.goes.sees.steps ++ Release n j ∷ []) =
         subst (λ m. (s : Sees (ls ++ text_of (Release m j) ∷ []) S_more j.release (with_fresh y n j)) ×
@@ -191,64 +215,94 @@ module _ (r : Reading) (j : JobFacts) (room : ℕ) (ls : List (List ℕ)) (can :
           kept = subst (admission.StandsFor kept) (sym jobs) (stands (admitted_jobs S.items) can.waited.goes.kept);
           ratio = ratio ∙ can.waited.goes.ratio;
           items = omega (arith, counted, can.waited.goes.items, length-append S.items (JobItem j ∷ []));
-          steps = more ∙ kept_more r.keep (printed_of can.waited.goes.sees.steps) r.steps (Release r.course.jobs j) can.waited.goes.steps
+          steps = more ∙ kept_more r.keep (printed_of can.waited.goes.sees.steps) r.steps
+              (Release r.course.jobs j) can.waited.goes.steps
               ∙ ap (λ m. kept_steps r.keep (printed_of can.waited.goes.sees.steps ++ Release m j ∷ [])) next_number
               ∙ ap (kept_steps r.keep) (sym text.1);
         }
 
     -- so the trace goes on
     pub released_reads : r.stage ≡ Going → Reads released (ls ++ text_of (Release r.course.jobs j) ∷ [])
-    released_reads going = reads_of released (ls ++ text_of (Release r.course.jobs j) ∷ []) going S_more (with_fresh y n j) released_goes
+    released_reads going = reads_of released (ls ++ text_of (Release r.course.jobs j) ∷ []) going S_more
+        (with_fresh y n j) released_goes
 
     -- and what is kept is kept of some lines
-    pub released_reader : r.stage ≡ Going → HasSpare r → spare + 1 ≡ r.spare → room ≡ r.course.room → steps_room ≡ r.room → IsReader released
+    pub released_reader : r.stage ≡ Going → HasSpare r → spare + 1 ≡ r.spare → room ≡ r.course.room
+        → steps_room ≡ r.room → IsReader released
     released_reader going old less same_ready same_steps = record {
       spare = record {
         ready = let before : length r.course.ready + r.spare ≤ r.course.room = old.ready in
-            omega (arith, less, same_ready, length-append r.course.ready (record { number = r.course.jobs; job = j; role = Fresh; had = 0 } ∷ []));
-        steps = λ keep. let before : 5 * (r.course.jobs + r.spare) + 1 ≤ r.room = old.steps keep in omega (arith, less, same_steps);
+            omega (
+              arith,
+              less,
+              same_ready,
+              length-append r.course.ready (record { number = r.course.jobs; job = j; role = Fresh; had = 0 } ∷ []),
+            );
+        steps = λ keep. let before : 5 * (r.course.jobs + r.spare) + 1 ≤ r.room = old.steps keep in
+            omega (arith, less, same_steps);
       };
       lines = ls ++ text_of (Release r.course.jobs j) ∷ [];
-      reads = ahead_of released (ls ++ text_of (Release r.course.jobs j) ∷ []) going S_more (with_fresh y n j) (with_fresh y n j) released_goes;
+      reads = ahead_of released (ls ++ text_of (Release r.course.jobs j) ∷ []) going S_more (with_fresh y n j)
+          (with_fresh y n j) released_goes;
     }
 
 -- a reading under another name, and a release that was taken in it
-module _ (r w : Reading) (same : r ≡ w) (old : IsReader r) (going_w : w.stage ≡ Going) (j : JobFacts) (d : Course) (number floor : ℕ)
+module _ (r w : Reading) (same : r ≡ w) (old : IsReader r) (going_w : w.stage ≡ Going) (j : JobFacts) (d : Course)
+    (number floor : ℕ)
     (kept : admission.Kept) (items : ℕ) (steps : List Event) (spare steps_room : ℕ)
-    (is_d : d ≡ with_release r.course j r.course.room) (is_number : number ≡ r.course.jobs) (is_floor : floor ≡ j.release)
+    (is_d : d ≡ with_release r.course j r.course.room) (is_number : number ≡ r.course.jobs)
+    (is_floor : floor ≡ j.release)
     (stands : (jobs : List JobFacts) → admission.StandsFor r.kept jobs → admission.StandsFor kept (jobs ++ j ∷ []))
     (ratio : kept.ratio ≡ r.kept.ratio) (counted : items ≡ r.items + 1)
     (more : steps ≡ cond r.keep (r.steps ++ Release number j ∷ []) r.steps) where
   -- the reading with it
   abbrev taken : Course → ℕ → Reading
-  taken c f = record r { course = c; kept = kept; items = items; floor = f; steps = steps; spare = spare; room = steps_room }
+  taken c f = record r {
+    course = c;
+    kept = kept;
+    items = items;
+    floor = f;
+    steps = steps;
+    spare = spare;
+    room =
+        steps_room;
+  }
 
   -- the steps, by the next number
   steps_are : steps ≡ cond r.keep (r.steps ++ Release r.course.jobs j ∷ []) r.steps
   steps_are = more ∙ ap (λ m. cond r.keep (r.steps ++ Release m j ∷ []) r.steps) is_number
 
   -- the trace goes on
-  pub taken_reads : (ls : List (List ℕ)) → CanRelease w j ls → Reads (taken d floor) (ls ++ text_of (Release w.course.jobs j) ∷ [])
+  pub taken_reads : (ls : List (List ℕ)) → CanRelease w j ls
+      → Reads (taken d floor) (ls ++ text_of (Release w.course.jobs j) ∷ [])
   taken_reads ls can =
       subst (λ c. Reads (taken c floor) (ls ++ text_of (Release w.course.jobs j) ∷ [])) (sym is_d)
-      (subst (λ f. Reads (taken (with_release r.course j r.course.room) f) (ls ++ text_of (Release w.course.jobs j) ∷ [])) (sym is_floor)
-      (subst (λ (v : Reading). Reads (taken (with_release r.course j r.course.room) j.release) (ls ++ text_of (Release v.course.jobs j) ∷ [])) same
-      (released_reads r j r.course.room ls (subst (λ v. CanRelease v j ls) (sym same) can) kept items steps spare steps_room stands ratio counted steps_are
+      (subst (λ f. Reads (taken (with_release r.course j r.course.room) f)
+      (ls ++ text_of (Release w.course.jobs j) ∷ [])) (sym is_floor)
+      (subst (λ (v : Reading). Reads (taken (with_release r.course j r.course.room) j.release)
+      (ls ++ text_of (Release v.course.jobs j) ∷ [])) same
+      (released_reads r j r.course.room ls
+      (subst (λ v. CanRelease v j ls) (sym same) can) kept items steps spare steps_room stands ratio counted
+      steps_are
       (ap (λ (v : Reading). v.stage) same ∙ going_w))))
 
   -- and it is kept of some lines
-  pub taken_reader : (ls : List (List ℕ)) → CanRelease w j ls → spare + 1 ≡ r.spare → steps_room ≡ r.room → IsReader (taken d floor)
+  pub taken_reader : (ls : List (List ℕ)) → CanRelease w j ls → spare + 1 ≡ r.spare → steps_room ≡ r.room
+      → IsReader (taken d floor)
   taken_reader ls can less same_steps =
       subst (λ c. IsReader (taken c floor)) (sym is_d)
       (subst (λ f. IsReader (taken (with_release r.course j r.course.room) f)) (sym is_floor)
-      (released_reader r j r.course.room ls (subst (λ v. CanRelease v j ls) (sym same) can) kept items steps spare steps_room stands ratio counted steps_are
+      (released_reader r j r.course.room ls
+      (subst (λ v. CanRelease v j ls) (sym same) can) kept items steps spare steps_room stands ratio counted
+      steps_are
       (ap (λ (v : Reading). v.stage) same ∙ going_w) old.spare less refl same_steps))
 
 -- ---- whether it goes on
 
 module _ (w : Reading) (going : w.stage ≡ Going) (n : ℕ) (j : JobFacts) (form : HasForm (StepLine (Release n j))) where
   -- the job isn't admitted
-  pub not_admitted : (n ≡ w.course.jobs → w.items < most_items → (jobs : List JobFacts) → admission.StandsFor w.kept jobs
+  pub not_admitted : (n ≡ w.course.jobs → w.items < most_items → (jobs : List JobFacts)
+      → admission.StandsFor w.kept jobs
       → refusal_of w.kept.ratio jobs j ≡ None → ⊥) → Took w w (text_of (Release n j)) false
   not_admitted none = record {
     yes = λ e. absurd (let clash : false ≡ true = e in cc);
@@ -265,7 +319,8 @@ module _ (w : Reading) (going : w.stage ≡ Going) (n : ℕ) (j : JobFacts) (for
   }
 
   -- something comes before its release
-  pub not_waited : (v : Reading) → (w.floor ≤ j.release → (ls : List (List ℕ)) (S : Session) (z : State) → Goes w ls S z z → (x : State)
+  pub not_waited : (v : Reading)
+      → (w.floor ≤ j.release → (ls : List (List ℕ)) (S : Session) (z : State) → Goes w ls S z z → (x : State)
       → WaitsUntil S.rules j.release z x → ⊥) → StaysAhead w v → Took w v (text_of (Release n j)) false
   not_waited v none ahead = record {
     yes = λ e. absurd (let clash : false ≡ true = e in cc);
@@ -283,21 +338,25 @@ module _ (w : Reading) (going : w.stage ≡ Going) (n : ℕ) (j : JobFacts) (for
 pub reserved_can : (w v u : Reading) (j : JobFacts) → v ≡ record w { course = v.course }
     → u ≡ with_room v u.course.room u.spare u.room
     → ((ls : List (List ℕ)) (S : Session) (z y : State) → Goes w ls S z y → (x : State) × Waited v j.release ls S z x)
-    → w.items < most_items → ((jobs : List JobFacts) → admission.StandsFor w.kept jobs → refusal_of w.kept.ratio jobs j ≡ None)
+    → w.items < most_items → ((jobs : List JobFacts) → admission.StandsFor w.kept jobs
+    → refusal_of w.kept.ratio jobs j ≡ None)
     → (ls : List (List ℕ)) (S : Session) (z y : State) → Goes w ls S z y → CanRelease u j ls
 reserved_can w v u j kept same waits few admits ls S z y goes =
     let waited : (x : State) × Waited v j.release ls S z x = waits ls S z y goes in
     subst (λ t. CanRelease t j ls) (sym same) (room_release v j ls u.course.room u.spare u.room
     (can_release v j ls S z waited.0 waited.1 (subst (λ (t : Reading). t.items < most_items) (sym kept) few)
-    (subst (λ (t : Reading). refusal_of t.kept.ratio (admitted_jobs S.items) j ≡ None) (sym kept) (admits (admitted_jobs S.items) goes.kept))))
+    (subst (λ (t : Reading). refusal_of t.kept.ratio (admitted_jobs S.items) j ≡ None) (sym kept)
+    (admits (admitted_jobs S.items) goes.kept))))
 
 -- so the trace goes on
 pub reserved_took : (w u t : Reading) (n : ℕ) (j : JobFacts) → w.stage ≡ Going → n ≡ u.course.jobs
     → ((ls : List (List ℕ)) (S : Session) (z y : State) → Goes w ls S z y → CanRelease u j ls)
-    → ((ls : List (List ℕ)) → CanRelease u j ls → Reads t (ls ++ text_of (Release u.course.jobs j) ∷ [])) → Took w t (text_of (Release n j)) true
+    → ((ls : List (List ℕ)) → CanRelease u j ls → Reads t (ls ++ text_of (Release u.course.jobs j) ∷ []))
+    → Took w t (text_of (Release n j)) true
 reserved_took w u t n j going number can reads_more = record {
   yes = λ _ ls reads.
       let here : (S : Session) × (z : State) × Goes w ls S z z = here_of w ls going reads in
-      subst (λ m. Reads t (ls ++ text_of (Release m j) ∷ [])) (sym number) (reads_more ls (can ls here.0 here.1 here.1 here.2));
+      subst (λ m. Reads t (ls ++ text_of (Release m j) ∷ [])) (sym number)
+      (reads_more ls (can ls here.0 here.1 here.1 here.2));
   no = λ e. absurd (let clash : true ≡ false = e in cc);
 }

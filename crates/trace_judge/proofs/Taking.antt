@@ -1,5 +1,6 @@
 -- How the judge takes the lines of a trace.
-use Rattle.std.proofs.Common.{◌≡◌, ℕ, suc, ◌+◌, ◌*◌, ◌≤◌, ◌<◌, max, List, [], ◌∷◌, ◌++◌, length, length-append, refl, sym, ap, ◌∙◌, subst, Bool, true, false, cond, arith}
+use Rattle.std.proofs.Common.{◌≡◌, ℕ, suc, ◌+◌, ◌*◌, ◌≤◌, ◌<◌, max, List, [], ◌∷◌, ◌++◌, length, length-append, refl}
+use Rattle.std.proofs.Common.{sym, ap, ◌∙◌, subst, Bool, true, false, cond, arith}
 use Rattle.std.specs.Prelude.{Option, Some, None, ◌==◌, is_some, not}
 use Rattle.std.specs.List.{filter}
 use Rattle.std.proofs.lemmas.Bool.{false_from_ne_true, eqb-true}
@@ -34,15 +35,18 @@ use Rattle.trace_reading.proofs.Finishing.{ended_run, ended_trace, ended_value}
 use Rattle.trace_reading.proofs.Only.{only_headers, only_step}
 use Rattle.trace_judge.specs.declared.stage.Stage.TheVariants.{Opening, Going, Ended}
 use Rattle.trace_judge.specs.Course.{Course, Follows, Settled, GoesOnFrom}
-use Rattle.trace_judge.specs.Reads.{Reading, Opens, Goes, Ends, ReadsAhead, Reads, StaysAhead, HasSpare, IsReader, kept_steps, Took, Waited, at_tick}
+use Rattle.trace_judge.specs.Reads.{Reading, Opens, Goes, Ends, ReadsAhead, Reads, StaysAhead, HasSpare, IsReader}
+use Rattle.trace_judge.specs.Reads.{kept_steps, Took, Waited, at_tick}
 use Rattle.trace_judge.proofs.Courses.{new_follows, follows_count}
 use Rattle.trace_judge.proofs.Forms.{one_form, next_form}
-use Rattle.trace_judge.proofs.Readings.{goes_of, ahead_of, here_of, reads_of, opens_of, reads_ahead, next_goes, spare_stays}
+use Rattle.trace_judge.proofs.Readings.{goes_of, ahead_of, here_of, reads_of, opens_of, reads_ahead, next_goes}
+use Rattle.trace_judge.proofs.Readings.{spare_stays}
 
 -- ---- silent steps up to a tick
 
 -- silent steps before a wait
-wait_behind : (rules : Rules) (tick : ℕ) (xs : List Step) (z y x : State) → Idles rules z xs y → y.clock ≤ tick → WaitsUntil rules tick y x
+wait_behind : (rules : Rules) (tick : ℕ) (xs : List Step) (z y x : State) → Idles rules z xs y → y.clock ≤ tick
+    → WaitsUntil rules tick y x
     → WaitsUntil rules tick z x
 wait_behind rules tick xs z y x idles low waits = record {
   steps = xs ++ waits.steps;
@@ -59,7 +63,10 @@ module _ (r w : Reading) (same : r ≡ w) (d : Course) (tick : ℕ) (o : Option 
       let it : Settled d (instance_of S) y tick o = settled (instance_of S) y goes.follows in
       record {
         sees = goes.sees;
-        idles = (goes.idles.0 ++ it.idles.0, idles_append S.rules goes.idles.0 it.idles.0 z y it.state goes.idles.1 it.idles.1);
+        idles = (
+          goes.idles.0 ++ it.idles.0,
+          idles_append S.rules goes.idles.0 it.idles.0 z y it.state goes.idles.1 it.idles.1,
+        );
         follows = it.follows;
         kept = goes.kept;
         ratio = goes.ratio;
@@ -70,22 +77,28 @@ module _ (r w : Reading) (same : r ≡ w) (d : Course) (tick : ℕ) (o : Option 
   -- they stay kept
   pub settled_ahead : r.stage ≡ Going → StaysAhead w (record r { course = d })
   settled_ahead going ls reads =
-      let old : (S : Session) × (z : State) × (y : State) × Goes r ls S z y = goes_of r ls going (subst (λ v. ReadsAhead v ls) (sym same) reads) in
+      let old : (S : Session) × (z : State) × (y : State) × Goes r ls S z y =
+      goes_of r ls going (subst (λ v. ReadsAhead v ls) (sym same) reads) in
       ahead_of (record r { course = d }) ls going old.0 old.1 (settled (instance_of old.0) old.2 old.3.follows).state
       (settled_goes ls old.0 old.1 old.2 old.3)
 
   -- nothing was printed
-  pub settled_yes : o ≡ None → r.floor ≤ tick → r.course.clock ≤ tick → (ls : List (List ℕ)) (S : Session) (z y : State) → Goes w ls S z y
+  pub settled_yes : o ≡ None → r.floor ≤ tick → r.course.clock ≤ tick → (ls : List (List ℕ)) (S : Session) (z y : State)
+      → Goes w ls S z y
       → (x : State) × Waited (record r { course = d }) tick ls S z x
   settled_yes none floor clock ls S z y goes_w =
       let goes : Goes r ls S z y = subst (λ v. Goes v ls S z y) (sym same) goes_w in
-      let it : Settled d (instance_of S) y tick None = subst (Settled d (instance_of S) y tick) none (settled (instance_of S) y goes.follows) in
+      let it : Settled d (instance_of S) y tick None =
+      subst (Settled d (instance_of S) y tick) none (settled (instance_of S) y goes.follows) in
       let at : y.clock ≤ tick = omega (arith, goes.follows.clock) in (
         it.state,
         record {
           goes = record {
             sees = goes.sees;
-            idles = (goes.idles.0 ++ it.idles.0, idles_append S.rules goes.idles.0 it.idles.0 z y it.state goes.idles.1 it.idles.1);
+            idles = (
+              goes.idles.0 ++ it.idles.0,
+              idles_append S.rules goes.idles.0 it.idles.0 z y it.state goes.idles.1 it.idles.1,
+            );
             follows = it.follows;
             kept = goes.kept;
             ratio = goes.ratio;
@@ -99,18 +112,22 @@ module _ (r w : Reading) (same : r ≡ w) (d : Course) (tick : ℕ) (o : Option 
       )
 
   -- something was
-  pub settled_no : (e : Event) → o ≡ Some e → (ls : List (List ℕ)) (S : Session) (z : State) → Goes w ls S z z → (x : State)
+  pub settled_no : (e : Event) → o ≡ Some e → (ls : List (List ℕ)) (S : Session) (z : State) → Goes w ls S z z
+      → (x : State)
       → WaitsUntil S.rules tick z x → ⊥
   settled_no e some ls S z goes_w x waits =
       let goes : Goes r ls S z z = subst (λ v. Goes v ls S z z) (sym same) goes_w in
-      let it : Settled d (instance_of S) z tick (Some e) = subst (Settled d (instance_of S) z tick) some (settled (instance_of S) z goes.follows) in
+      let it : Settled d (instance_of S) z tick (Some e) =
+      subst (Settled d (instance_of S) z tick) some (settled (instance_of S) z goes.follows) in
       let at : it.state.clock ≤ tick = omega (arith, it.follows.clock) in
-      settles_or_prints S.rules tick it.idles.0 waits.steps z it.state x e (idles_settles S.rules tick it.idles.0 z it.state it.idles.1 at)
+      settles_or_prints S.rules tick it.idles.0 waits.steps z it.state x e
+      (idles_settles S.rules tick it.idles.0 z it.state it.idles.1 at)
       it.comes.1 it.comes.0 waits.settles waits.barrier
 
 -- what is kept, with the run gone on
 pub settled_reader : (r : Reading) → IsReader r → (d : Course) (tick : ℕ) (o : Option Event) → r.stage ≡ Going
-    → ((J : Instance) (z : State) → Follows r.course J z → Settled d J z tick o) → d.clock ≤ tick → GoesOnFrom r.course d
+    → ((J : Instance) (z : State) → Follows r.course J z → Settled d J z tick o) → d.clock ≤ tick
+    → GoesOnFrom r.course d
     → IsReader (record r { course = d })
 settled_reader r old d tick o going settled low on = record {
   spare = spare_stays r d old.spare on.fewer on.jobs on.room;
@@ -147,21 +164,29 @@ number_back Two = refl
 
 -- a header that begins a trace
 header_only : (v p q : ℕ) → HasForm (Header v p q) → begins_trace (trace_text (Header v p q) ∷ []) ≡ true
-    → (rules : Rules) × IsRatio rules.ratio × (Header v p q ≡ Header (version_number rules.version) rules.ratio.p rules.ratio.q)
+    → (rules : Rules) × IsRatio rules.ratio
+    × (Header v p q ≡ Header (version_number rules.version) rules.ratio.p rules.ratio.q)
 header_only v p q form passes =
-    let it : (rules : Rules) × IsRatio rules.ratio × (trace_text (Header v p q) ≡ header rules) = only_headers (trace_text (Header v p q)) passes in
-    (it.0, it.1, one_form (Header v p q) (Header (version_number it.0.version) it.0.ratio.p it.0.ratio.q) form (header_short it.0 it.1) it.2)
+    let it : (rules : Rules) × IsRatio rules.ratio × (trace_text (Header v p q) ≡ header rules) =
+    only_headers (trace_text (Header v p q)) passes in (
+      it.0,
+      it.1,
+      one_form (Header v p q) (Header (version_number it.0.version) it.0.ratio.p it.0.ratio.q) form
+          (header_short it.0 it.1) it.2,
+    )
 
 module _ (r : Reading) (opening_stage : r.stage ≡ Opening) (v p q : ℕ) (form : HasForm (Header v p q)) where
   -- a header that isn't one of a trace
-  not_header : ((rules : Rules) → IsRatio rules.ratio → Header v p q ≡ Header (version_number rules.version) rules.ratio.p rules.ratio.q → ⊥)
+  not_header : ((rules : Rules) → IsRatio rules.ratio
+      → Header v p q ≡ Header (version_number rules.version) rules.ratio.p rules.ratio.q → ⊥)
       → Took r r (trace_text (Header v p q)) false
   not_header none = record {
     yes = λ e. absurd (let clash : false ≡ true = e in cc);
     no = λ _ ls reads. (
       false_from_ne_true _ (λ passes.
           let opens : Opens r ls = opens_of r ls opening_stage (reads_ahead r ls reads) in
-          let it = header_only v p q form (subst (λ xs. begins_trace (xs ++ trace_text (Header v p q) ∷ []) ≡ true) opens.lines passes) in
+          let it = header_only v p q form
+          (subst (λ xs. begins_trace (xs ++ trace_text (Header v p q) ∷ []) ≡ true) opens.lines passes) in
           none it.0 it.1 it.2),
       reads_ahead r ls reads,
     );
@@ -171,21 +196,24 @@ module _ (r : Reading) (opening_stage : r.stage ≡ Opening) (v p q : ℕ) (form
   pub no_version : version_of_number v ≡ None → Took r r (trace_text (Header v p q)) false
   no_version none = not_header (λ rules ratio same.
       let number : v ≡ version_number rules.version = numbers same in
-      let clash : None ≡ Some rules.version = sym none ∙ ap version_of_number number ∙ number_back rules.version in cc) where
+      let clash : None ≡ Some rules.version = sym none ∙ ap version_of_number number ∙ number_back rules.version in
+      cc) where
         numbers : {a b c d e f : ℕ} → Header a b c ≡ Header d e f → a ≡ d
         numbers e = cc
 
   -- its ratio is none
   pub no_ratio : (IsRatio (record { p = p; q = q }) → ⊥) → Took r r (trace_text (Header v p q)) false
   no_ratio none = not_header (λ rules ratio same. none (subst IsRatio (sym (fraction same)) ratio)) where
-    fraction : {a b c d e f : ℕ} → Header a b c ≡ Header d e f → ◌≡◌ {A = Fraction} (record { p = b; q = c }) (record { p = e; q = f })
+    fraction : {a b c d e f : ℕ} → Header a b c ≡ Header d e f
+        → ◌≡◌ {A = Fraction} (record { p = b; q = c }) (record { p = e; q = f })
     fraction {b} {c} {e} {f} same = let one : b ≡ e = cc in let two : c ≡ f = cc in
         let part : ℕ → ℕ → Fraction = λ m n. record { p = m; q = n } in ap (λ m. part m c) one ∙ ap (part e) two
 
   -- it is one
   module _ (version : Version) (ratio : Fraction) (is_version : version_of_number v ≡ Some version)
       (is_ratio : (ratio ≡ record { p = p; q = q }) × IsRatio ratio) (d : Course) (kept : admission.Kept)
-      (declared : d ≡ record r.course { rules = record { ratio = ratio; version = version } }) (kept_ratio : kept.ratio ≡ ratio)
+      (declared : d ≡ record r.course { rules = record { ratio = ratio; version = version } })
+      (kept_ratio : kept.ratio ≡ ratio)
       (stands : admission.StandsFor kept []) where
     -- the rules
     abbrev rules : Rules
@@ -201,20 +229,24 @@ module _ (r : Reading) (opening_stage : r.stage ≡ Opening) (v p q : ℕ) (form
         ∙ ap (λ (k : Fraction). trace_text (Header (version_number version) k.p k.q)) (sym is_ratio.0)
 
     -- the header is kept
-    pub opened_goes : (ls : List (List ℕ)) → Opens r ls → Goes opened (ls ++ trace_text (Header v p q) ∷ []) (new_session rules) (opening []) (opening [])
+    pub opened_goes : (ls : List (List ℕ)) → Opens r ls
+        → Goes opened (ls ++ trace_text (Header v p q) ∷ []) (new_session rules) (opening []) (opening [])
     opened_goes ls opens =
         let floor : 0 ≡ r.floor = sym opens.floor in
         let lines : header rules ∷ [] ≡ ls ++ trace_text (Header v p q) ∷ [] =
         ap (λ l. l ∷ []) (sym text_is) ∙ ap (λ xs. xs ++ trace_text (Header v p q) ∷ []) (sym opens.lines) in
-        let sees : (s : Sees (ls ++ trace_text (Header v p q) ∷ []) (new_session rules) r.floor (opening [])) × (printed_of s.steps ≡ []) =
+        let sees : (s : Sees (ls ++ trace_text (Header v p q) ∷ []) (new_session rules) r.floor (opening []))
+        × (printed_of s.steps ≡ []) =
         subst (λ xs. (s : Sees xs (new_session rules) r.floor (opening [])) × (printed_of s.steps ≡ [])) lines
-        (subst (λ n. (s : Sees (header rules ∷ []) (new_session rules) n (opening [])) × (printed_of s.steps ≡ [])) floor
+        (subst (λ n. (s : Sees (header rules ∷ []) (new_session rules) n (opening [])) × (printed_of s.steps ≡ []))
+        floor
         (sees_header rules is_ratio.1, sees_header_prints rules is_ratio.1)) in
         record {
           sees = sees.0;
           idles = ([], refl);
           follows = subst (λ c. Follows c (instance_of (new_session rules)) (opening []))
-              (sym (declared ∙ ap (λ (c : Course). record c { rules = rules }) opens.course)) (new_follows rules r.course.room is_ratio.1);
+              (sym (declared ∙ ap (λ (c : Course). record c { rules = rules }) opens.course))
+              (new_follows rules r.course.room is_ratio.1);
           kept = stands;
           ratio = kept_ratio;
           items = opens.items;
@@ -245,7 +277,12 @@ module _ (r : Reading) (opening_stage : r.stage ≡ Opening) (v p q : ℕ) (form
             omega (arith, ap (λ (c : Course). c.jobs) declared);
       };
       lines = old.lines ++ trace_text (Header v p q) ∷ [];
-      reads = (new_session rules, opening [], opening [], opened_goes old.lines (opens_of r old.lines opening_stage old.reads));
+      reads = (
+        new_session rules,
+        opening [],
+        opening [],
+        opened_goes old.lines (opens_of r old.lines opening_stage old.reads),
+      );
     }
 
 -- ---- a printed step
@@ -255,7 +292,8 @@ pub text_item : (x : TraceLine) → HasForm x → item_in x ≡ None → item_of
 text_item x form none = (read_IsRead (trace_text x) x (text_read x form)).item ∙ none
 
 -- the steps that are kept, with one more
-pub kept_more : (b : Bool) (es kept : List Event) (e : Event) → kept ≡ kept_steps b es → cond b (kept ++ e ∷ []) kept ≡ kept_steps b (es ++ e ∷ [])
+pub kept_more : (b : Bool) (es kept : List Event) (e : Event) → kept ≡ kept_steps b es
+    → cond b (kept ++ e ∷ []) kept ≡ kept_steps b (es ++ e ∷ [])
 kept_more true es kept e is = ap (λ xs. xs ++ e ∷ []) is
 kept_more false es kept e is = is
 
@@ -275,14 +313,16 @@ end_is (Complete at n) is = never is
 end_is (Abandon at n) is = never is
 
 -- the floor after an event, as it is computed
-floor_is : (z : State) (e : Event) (clock : ℕ) → clock ≡ z.clock → cond (is_late (Prints e)) (clock + 1) clock ≡ floor_after z e
+floor_is : (z : State) (e : Event) (clock : ℕ) → clock ≡ z.clock
+    → cond (is_late (Prints e)) (clock + 1) clock ≡ floor_after z e
 floor_is z e clock at = by_late (is_late (Prints e)) where
   by_late : (b : Bool) → cond b (clock + 1) clock ≡ cond b (suc z.clock) z.clock
   by_late true = omega arith
   by_late false = at
 
 module _ (r w : Reading) (same : r ≡ w) (going_w : w.stage ≡ Going) (d : Course) (due : Event)
-    (next : (J : Instance) (z : State) → Follows r.course J z → (y : State) × Follows d J y × PrintsNext J.rules z due y) where
+    (next : (J : Instance) (z : State) → Follows r.course J z → (y : State) × Follows d J y
+    × PrintsNext J.rules z due y) where
   -- the stage
   going : r.stage ≡ Going
   going = ap (λ (u : Reading). u.stage) same ∙ going_w
@@ -290,7 +330,8 @@ module _ (r w : Reading) (same : r ≡ w) (going_w : w.stage ≡ Going) (d : Cou
   -- there is room for it
   pub step_room : IsReader r → r.keep ≡ true → length r.steps < r.room
   step_room old keep =
-      let it : (S : Session) × (z : State) × (y : State) × Goes r old.lines S z y = goes_of r old.lines going old.reads in
+      let it : (S : Session) × (z : State) × (y : State) × Goes r old.lines S z y =
+      goes_of r old.lines going old.reads in
       let new = next_goes r d due going next old.lines it.0 it.1 it.2 it.3 in
       let all : (more : List Event) × (printed (instance_of it.0) ≡ printed_of it.3.sees.steps ++ due ∷ more) =
       sees_next old.lines it.0 r.floor it.1 it.3.sees due new.0 new.2 in
@@ -307,14 +348,17 @@ module _ (r w : Reading) (same : r ≡ w) (going_w : w.stage ≡ Going) (d : Cou
 
   module _ (event : Event) (form : HasForm (StepLine event)) where
     -- another step
-    pub not_due : item_in (StepLine event) ≡ None → (due ≡ event → ⊥) → Took w (record r { course = d }) (text_of event) false
+    pub not_due : item_in (StepLine event) ≡ None → (due ≡ event → ⊥)
+        → Took w (record r { course = d }) (text_of event) false
     not_due none differs = record {
       yes = λ e. absurd (let clash : false ≡ true = e in cc);
       no = λ _ ls reads.
-          let here : (S : Session) × (z : State) × Goes r ls S z z = here_of r ls going (subst (λ v. Reads v ls) (sym same) reads) in
+          let here : (S : Session) × (z : State) × Goes r ls S z z =
+          here_of r ls going (subst (λ v. Reads v ls) (sym same) reads) in
           let new = next_goes r d due going next ls here.0 here.1 here.1 here.2 in (
             false_from_ne_true _ (λ passes.
-                let text : text_of event ≡ text_of due = only_step ls here.0 r.floor here.1 here.2.sees (text_of event) passes due new.0 new.2
+                let text : text_of event ≡ text_of due =
+                only_step ls here.0 r.floor here.1 here.2.sees (text_of event) passes due new.0 new.2
                 (text_item (StepLine event) form none) in
                 let lines : StepLine event ≡ StepLine due = one_form (StepLine event) (StepLine due) form
                 (next_form ls here.0 r.floor here.1 here.2.sees due new.0 new.2) text in
@@ -323,7 +367,8 @@ module _ (r w : Reading) (same : r ≡ w) (going_w : w.stage ≡ Going) (d : Cou
           );
     }
 
-    module _ (is_event : due ≡ event) (steps : List Event) (room : ℕ) (kept : steps ≡ cond r.keep (r.steps ++ due ∷ []) r.steps)
+    module _ (is_event : due ≡ event) (steps : List Event) (room : ℕ)
+        (kept : steps ≡ cond r.keep (r.steps ++ due ∷ []) r.steps)
         (same_room : room ≡ r.room) where
       -- the end
       module _ (last : is_end (Prints due) ≡ true) where
@@ -332,7 +377,8 @@ module _ (r w : Reading) (same : r ≡ w) (going_w : w.stage ≡ Going) (d : Cou
         ended = record r { stage = Ended; course = d; steps = steps; room = room }
 
         -- the trace is whole
-        ended_ends : (ls : List (List ℕ)) (S : Session) (z y : State) → Goes r ls S z y → Ends ended (ls ++ text_of event ∷ []) S
+        ended_ends : (ls : List (List ℕ)) (S : Session) (z y : State) → Goes r ls S z y
+            → Ends ended (ls ++ text_of event ∷ []) S
         ended_ends ls S z y goes =
             let new = next_goes r d due going next ls S z y goes in
             let J : Instance = instance_of S in
@@ -344,7 +390,8 @@ module _ (r w : Reading) (same : r ≡ w) (going_w : w.stage ≡ Going) (d : Cou
             ends_same v.0 (value_sum (filter is_done new.0.tasks)) (sym next_end.prints ∙ over) ∙ new.1.follows.done in
             record {
               valid = goes.sees.valid;
-              lines = ap (λ e. ls ++ text_of e ∷ []) (sym is_event ∙ v.1) ∙ ended_trace ls S r.floor z goes.sees v.0 new.0 next_end;
+              lines = ap (λ e. ls ++ text_of e ∷ []) (sym is_event ∙ v.1)
+                  ∙ ended_trace ls S r.floor z goes.sees v.0 new.0 next_end;
               rules = new.1.follows.rules;
               value = ended_value ls S r.floor z goes.sees v.0 new.0 next_end ∙ value;
               jobs = sym (follows_count d J new.0 new.1.follows);
@@ -359,7 +406,8 @@ module _ (r w : Reading) (same : r ≡ w) (going_w : w.stage ≡ Going) (d : Cou
         pub ended_took : Took w ended (text_of event) true
         ended_took = record {
           yes = λ _ ls reads.
-              let here : (S : Session) × (z : State) × Goes r ls S z z = here_of r ls going (subst (λ v. Reads v ls) (sym same) reads) in
+              let here : (S : Session) × (z : State) × Goes r ls S z z =
+              here_of r ls going (subst (λ v. Reads v ls) (sym same) reads) in
               (here.0, ended_ends ls here.0 here.1 here.1 here.2);
           no = λ e. absurd (let clash : true ≡ false = e in cc);
         }
@@ -367,7 +415,8 @@ module _ (r w : Reading) (same : r ≡ w) (going_w : w.stage ≡ Going) (d : Cou
         -- what is kept at the end
         pub ended_reader : IsReader r → GoesOnFrom r.course d → IsReader ended
         ended_reader old on =
-            let it : (S : Session) × (z : State) × (y : State) × Goes r old.lines S z y = goes_of r old.lines going old.reads in
+            let it : (S : Session) × (z : State) × (y : State) × Goes r old.lines S z y =
+            goes_of r old.lines going old.reads in
             record {
               spare = stepped_spare old on;
               lines = old.lines ++ text_of event ∷ [];
@@ -376,13 +425,15 @@ module _ (r w : Reading) (same : r ≡ w) (going_w : w.stage ≡ Going) (d : Cou
               stepped_spare : IsReader r → GoesOnFrom r.course d → HasSpare ended
               stepped_spare old on = record {
                 ready = (spare_stays r d old.spare on.fewer on.jobs on.room).ready;
-                steps = λ keep. let most : 5 * (d.jobs + r.spare) + 1 ≤ r.room = (spare_stays r d old.spare on.fewer on.jobs on.room).steps keep in
+                steps = λ keep. let most : 5 * (d.jobs + r.spare) + 1 ≤ r.room =
+                    (spare_stays r d old.spare on.fewer on.jobs on.room).steps keep in
                     omega (arith, same_room);
               }
 
       -- a step before the end
       module _ (more : is_end (Prints due) ≡ false) (d2 : Course)
-          (taken : (J : Instance) (z : State) → Follows d J z → Follows d2 J (after z (Prints due))) (clock floor : ℕ) (at : clock ≡ d.clock)
+          (taken : (J : Instance) (z : State) → Follows d J z → Follows d2 J (after z (Prints due))) (clock floor : ℕ)
+          (at : clock ≡ d.clock)
           (floor_at : floor ≡ max r.floor (cond (is_late (Prints due)) (clock + 1) clock)) where
         -- the reading behind it
         abbrev stepped : Reading
@@ -396,11 +447,15 @@ module _ (r w : Reading) (same : r ≡ w) (going_w : w.stage ≡ Going) (d : Cou
             let x : State = new.0 in
             let where_to : max r.floor (floor_after x due) ≡ floor =
             ap (max r.floor) (sym (floor_is x due clock (at ∙ sym new.1.follows.clock))) ∙ sym floor_at in
-            let sees : (s : Sees (ls ++ text_of event ∷ []) S floor (after x (Prints due))) × (printed_of s.steps ≡ printed_of goes.sees.steps ++ due ∷ []) =
-            subst (λ n. (s : Sees (ls ++ text_of event ∷ []) S n (after x (Prints due))) × (printed_of s.steps ≡ printed_of goes.sees.steps ++ due ∷ [])) where_to
+            let sees : (s : Sees (ls ++ text_of event ∷ []) S floor (after x (Prints due)))
+            × (printed_of s.steps ≡ printed_of goes.sees.steps ++ due ∷ []) =
+            subst (λ n. (s : Sees (ls ++ text_of event ∷ []) S n (after x (Prints due)))
+            × (printed_of s.steps ≡ printed_of goes.sees.steps ++ due ∷ [])) where_to
             (subst (λ e. (s : Sees (ls ++ text_of e ∷ []) S (max r.floor (floor_after x due)) (after x (Prints due))) ×
-            (printed_of s.steps ≡ printed_of goes.sees.steps ++ due ∷ [])) is_event
-            (sees_step ls S r.floor z goes.sees due x new.2 more, sees_step_prints ls S r.floor z goes.sees due x new.2 more)) in (
+            (printed_of s.steps ≡ printed_of goes.sees.steps ++ due ∷ [])) is_event (
+              sees_step ls S r.floor z goes.sees due x new.2 more,
+              sees_step_prints ls S r.floor z goes.sees due x new.2 more,
+            )) in (
               x,
               record {
                 sees = sees.0;
@@ -409,7 +464,8 @@ module _ (r w : Reading) (same : r ≡ w) (going_w : w.stage ≡ Going) (d : Cou
                 kept = goes.kept;
                 ratio = goes.ratio;
                 items = goes.items;
-                steps = kept ∙ kept_more r.keep (printed_of goes.sees.steps) r.steps due goes.steps ∙ ap (kept_steps r.keep) (sym sees.1);
+                steps = kept ∙ kept_more r.keep (printed_of goes.sees.steps) r.steps due goes.steps
+                    ∙ ap (kept_steps r.keep) (sym sees.1);
               },
             )
 
@@ -417,7 +473,8 @@ module _ (r w : Reading) (same : r ≡ w) (going_w : w.stage ≡ Going) (d : Cou
         pub stepped_took : Took w stepped (text_of event) true
         stepped_took = record {
           yes = λ _ ls reads.
-              let here : (S : Session) × (z : State) × Goes r ls S z z = here_of r ls going (subst (λ v. Reads v ls) (sym same) reads) in
+              let here : (S : Session) × (z : State) × Goes r ls S z z =
+              here_of r ls going (subst (λ v. Reads v ls) (sym same) reads) in
               let new = stepped_goes ls here.0 here.1 here.1 here.2 in
               reads_of stepped (ls ++ text_of event ∷ []) going here.0 (after new.0 (Prints due)) new.1;
           no = λ e. absurd (let clash : true ≡ false = e in cc);
@@ -426,14 +483,17 @@ module _ (r w : Reading) (same : r ≡ w) (going_w : w.stage ≡ Going) (d : Cou
         -- what is kept behind it
         pub stepped_reader : IsReader r → GoesOnFrom r.course d2 → IsReader stepped
         stepped_reader old on =
-            let it : (S : Session) × (z : State) × (y : State) × Goes r old.lines S z y = goes_of r old.lines going old.reads in
+            let it : (S : Session) × (z : State) × (y : State) × Goes r old.lines S z y =
+            goes_of r old.lines going old.reads in
             let new = stepped_goes old.lines it.0 it.1 it.2 it.3 in
             record {
               spare = record {
                 ready = (spare_stays r d2 old.spare on.fewer on.jobs on.room).ready;
-                steps = λ keep. let most : 5 * (d2.jobs + r.spare) + 1 ≤ r.room = (spare_stays r d2 old.spare on.fewer on.jobs on.room).steps keep in
+                steps = λ keep. let most : 5 * (d2.jobs + r.spare) + 1 ≤ r.room =
+                    (spare_stays r d2 old.spare on.fewer on.jobs on.room).steps keep in
                     omega (arith, same_room);
               };
               lines = old.lines ++ text_of event ∷ [];
-              reads = ahead_of stepped (old.lines ++ text_of event ∷ []) going it.0 (after new.0 (Prints due)) (after new.0 (Prints due)) new.1;
+              reads = ahead_of stepped (old.lines ++ text_of event ∷ []) going it.0 (after new.0 (Prints due))
+                  (after new.0 (Prints due)) new.1;
             }

@@ -1,5 +1,6 @@
 -- Lines that continue no trace, and lines that continue one have a form.
-use Rattle.std.proofs.Common.{◌≡◌, ℕ, ◌+◌, ◌≤◌, ◌<◌, ◌⊎◌, inl, inr, List, [], ◌∷◌, ◌++◌, length, refl, sym, ap, ◌∙◌, subst, true, false, cond, arith}
+use Rattle.std.proofs.Common.{◌≡◌, ℕ, ◌+◌, ◌≤◌, ◌<◌, ◌⊎◌, inl, inr, List, [], ◌∷◌, ◌++◌, length, refl, sym, ap, ◌∙◌}
+use Rattle.std.proofs.Common.{subst, true, false, cond, arith}
 use Rattle.std.proofs.lemmas.Bool.{false_from_ne_true}
 use Rattle.dover_model.specs.Fraction.{IsRatio}
 use Rattle.dover_model.specs.declared.events.Event.{Event}
@@ -28,7 +29,8 @@ use Rattle.trace_judge.proofs.Readings.{HereBy, here_of, ends_of, reads_ahead}
 use Rattle.trace_judge.proofs.Taking.{text_item}
 
 -- behind the end no line continues the trace
-ended_fails : (r : Reading) (ls : List (List ℕ)) (S : Session) → Ends r ls S → (l : List ℕ) → begins_trace (ls ++ l ∷ []) ≡ false
+ended_fails : (r : Reading) (ls : List (List ℕ)) (S : Session) → Ends r ls S → (l : List ℕ)
+    → begins_trace (ls ++ l ∷ []) ≡ false
 ended_fails r ls S ends l = after_end_fails ls l (ap ends_with_end ends.lines ∙ trace_ends S ends.valid)
 
 -- so each is wrong
@@ -41,13 +43,15 @@ ended_took_none w stage l = record {
 }
 
 -- a second header is wrong
-pub header_took_none : (w : Reading) → w.stage ≡ Going → (v p q : ℕ) → HasForm (Header v p q) → Took w w (trace_text (Header v p q)) false
+pub header_took_none : (w : Reading) → w.stage ≡ Going → (v p q : ℕ) → HasForm (Header v p q)
+    → Took w w (trace_text (Header v p q)) false
 header_took_none w going v p q form = record {
   yes = λ e. absurd (let clash : false ≡ true = e in cc);
   no = λ _ ls reads.
       let here : (S : Session) × (z : State) × Goes w ls S z z = here_of w ls going reads in (
         false_from_ne_true _ (λ passes.
-            let next : (e : Event) × (y : State) × PrintsNext here.0.rules here.1 e y = sees_some_next ls here.0 w.floor here.1 here.2.sees in
+            let next : (e : Event) × (y : State) × PrintsNext here.0.rules here.1 e y =
+            sees_some_next ls here.0 w.floor here.1 here.2.sees in
             let text : trace_text (Header v p q) ≡ text_of next.0 =
             only_step ls here.0 w.floor here.1 here.2.sees (trace_text (Header v p q)) passes next.0 next.1 next.2
             (text_item (Header v p q) form refl) in
@@ -58,9 +62,11 @@ header_took_none w going v p q form = record {
 }
 
 -- the line of a job that may be released has a form
-release_form : (S : Session) (floor : ℕ) (z : State) (l : List ℕ) → IsReleaseNext S floor z l → (x : TraceLine) × HasForm x × (trace_text x ≡ l)
+release_form : (S : Session) (floor : ℕ) (z : State) (l : List ℕ) → IsReleaseNext S floor z l → (x : TraceLine)
+    × HasForm x × (trace_text x ≡ l)
 release_form S floor z l it =
-    let admitted : Admitted S.rules.ratio (admitted_jobs S.items) it.0 = not_refused S.rules.ratio (admitted_jobs S.items) it.0 it.3.admitted in
+    let admitted : Admitted S.rules.ratio (admitted_jobs S.items) it.0 =
+    not_refused S.rules.ratio (admitted_jobs S.items) it.0 it.3.admitted in
     let few : length (admitted_jobs S.items) < 1_000_000 = admitted.count in
     let window : it.0.release + it.0.work ≤ it.0.deadline = admitted.job.window in
     let due : it.0.deadline ≤ 1_000_000_000_000 = admitted.job.due in
@@ -71,7 +77,8 @@ release_form S floor z l it =
     )
 
 -- so has a refused line that may come next
-refused_form : (S : Session) (floor : ℕ) (z : State) (l : List ℕ) → IsRefusedNext S floor z l → (x : TraceLine) × HasForm x × (trace_text x ≡ l)
+refused_form : (S : Session) (floor : ℕ) (z : State) (l : List ℕ) → IsRefusedNext S floor z l → (x : TraceLine)
+    × HasForm x × (trace_text x ≡ l)
 refused_form S floor z l it =
     let known : it.0.at ≤ 1_000_000_000_000 = it.3.refused.known in (
       Refused it.0.at it.0.job.release it.0.job.work it.0.job.deadline it.0.job.value it.0.refusal,
@@ -80,7 +87,8 @@ refused_form S floor z l it =
     )
 
 -- a line without a form continues no trace
-pub unread_fails : (w : Reading) (l : List ℕ) → ((x : TraceLine) → HasForm x → trace_text x ≡ l → ⊥) → (ls : List (List ℕ)) → Reads w ls
+pub unread_fails : (w : Reading) (l : List ℕ) → ((x : TraceLine) → HasForm x → trace_text x ≡ l → ⊥)
+    → (ls : List (List ℕ)) → Reads w ls
     → begins_trace (ls ++ l ∷ []) ≡ false
 unread_fails w l none ls reads = false_from_ne_true _ (by_stage w.stage reads) where
   by_line : (S : Session) (z : State) (goes : Goes w ls S z z) (e : Event) (y : State) → PrintsNext S.rules z e y
@@ -95,7 +103,8 @@ unread_fails w l none ls reads = false_from_ne_true _ (by_stage w.stage reads) w
       only_headers l (subst (λ xs. begins_trace (xs ++ l ∷ []) ≡ true) opens.lines passes) in
       none (Header (version_number it.0.version) it.0.ratio.p it.0.ratio.q) (header_short it.0 it.1) (sym it.2)
   by_stage Going here passes =
-      let next : (e : Event) × (y : State) × PrintsNext here.0.rules here.1 e y = sees_some_next ls here.0 w.floor here.1 here.2.sees in
+      let next : (e : Event) × (y : State) × PrintsNext here.0.rules here.1 e y =
+      sees_some_next ls here.0 w.floor here.1 here.2.sees in
       by_line here.0 here.1 here.2 next.0 next.1 next.2
       (continues_only ls here.0 w.floor here.1 here.2.sees next.0 next.1 next.2 l passes)
   by_stage Ended it passes = let clash : false ≡ true = sym (ended_fails w ls it.0 it.1 l) ∙ passes in cc

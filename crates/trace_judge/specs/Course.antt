@@ -16,7 +16,8 @@ use Rattle.dover_model.specs.WholeRun.{IsBefore}
 use Rattle.trace_reading.specs.Leading.{Idles, IsSilent, GoesOn, WaitsUntil}
 use Rattle.trace_reading.specs.Ready.{is_ready}
 
--- what is kept of a run: the clock, the jobs that aren't over, how many there are in all, what those done are worth, and the room for ready jobs
+-- what is kept of a run: the clock, the jobs that aren't over, how many there are in all, what those done are worth,
+-- and the room for ready jobs
 pub record Course : Type 0 where
   pub rules : Rules
   pub clock : ℕ
@@ -63,7 +64,8 @@ pub record Reached (c : Course) (J : Instance) (z : State) (mark : ℕ) (m : Mov
   pub goes_on : GoesOn state
   pub comes : open_step J.rules state ≡ m
   pub stops : IsSilent m → (is_late m && nat_le mark c.clock) ≡ true
-  pub waits : (is_late m && nat_le mark c.clock) ≡ true → WaitsUntil J.rules mark z (record { clock = mark; tasks = state.tasks })
+  pub waits : (is_late m && nat_le mark c.clock) ≡ true
+      → WaitsUntil J.rules mark z (record { clock = mark; tasks = state.tasks })
 
 -- what comes before the mark: this printed step, or nothing
 abbrev pub Comes : Instance → State → ℕ → State → Option Event → Type 0

@@ -38,10 +38,12 @@ StandsFor j text = elim j.found [
   | NoMemory ↦ ⊥
 ]
 
--- the judge stands for what it stood for with the piece behind it, and has spent room for no more than the jobs that the piece names
+-- the judge stands for what it stood for with the piece behind it, and has spent room for no more than the jobs that
+-- the piece names
 pub record Fed (old new : Judge) (piece : List ℕ) : Type 0 where
   pub stands : (text : List ℕ) → StandsFor old text → StandsFor new (text ++ piece)
-  pub spare : (text : List ℕ) → StandsFor old text → old.reader.spare + jobs_named text ≤ new.reader.spare + jobs_named (text ++ piece)
+  pub spare : (text : List ℕ) → StandsFor old text
+      → old.reader.spare + jobs_named text ≤ new.reader.spare + jobs_named (text ++ piece)
   pub keep : new.reader.keep ≡ old.reader.keep
 
 -- the piece names more jobs than there was room for
@@ -55,7 +57,8 @@ pub record IsCut (j : Judge) (step : Step) (before text : List ℕ) : Type 0 whe
   pub parts : cutting.HasCut step j.lines.line before text
   pub reads : Reads j.reader (whole_lines before)
 
--- the session is valid: no schedule of its jobs is worth more than the ratio allows for this value, which the run's own schedule is worth; and
+-- the session is valid: no schedule of its jobs is worth more than the ratio allows for this value, which the run's own
+-- schedule is worth; and
 -- where some schedule serves every job, none is taken late or abandoned, and the value is that of all jobs
 pub record IsEarned (S : Session) (k : Fraction) (value : ℕ) : Type 0 where
   pub valid : IsValidSession S

@@ -1,5 +1,6 @@
 -- What the judge keeps of the lines of a trace.
-use Rattle.std.specs.Prelude.{◌≡◌, ◌≤◌, ◌+◌, ◌*◌, ℕ, List, [], ◌∷◌, ◌++◌, length, Bool, true, false, if◌then◌else◌, Option, Some, None}
+use Rattle.std.specs.Prelude.{◌≡◌, ◌≤◌, ◌+◌, ◌*◌, ℕ, List, [], ◌∷◌, ◌++◌, length, Bool, true, false, if◌then◌else◌}
+use Rattle.std.specs.Prelude.{Option, Some, None}
 use Rattle.admission.specs.Kept as admission
 use Rattle.dover_model.specs.JobFacts.{JobFacts}
 use Rattle.dover_model.specs.declared.events.Event.{Event}
@@ -20,7 +21,8 @@ use Rattle.trace_judge.specs.declared.verdict.Expected.{Expected}
 use Rattle.trace_judge.specs.declared.verdict.Expected.TheVariants.{Header, Step as Due, Nothing}
 use Rattle.trace_judge.specs.Course.{Course, Follows, new_course}
 
--- what is kept of the lines: how far the trace has come, the run and the jobs admitted, how many items there are, the floor,
+-- what is kept of the lines: how far the trace has come, the run and the jobs admitted, how many items there are, the
+-- floor,
 -- the steps where they are asked for, and for how many jobs more there is room, and for how many steps in all
 pub record Reading : Type 0 where
   pub stage : Stage
@@ -102,7 +104,8 @@ expected_of Nothing = model.Nothing
 -- with the line the trace goes on, or it doesn't, and the lines before it are kept
 pub record Took (old new : Reading) (line : List ℕ) (good : Bool) : Type 0 where
   pub yes : good ≡ true → (ls : List (List ℕ)) → Reads old ls → Reads new (ls ++ line ∷ [])
-  pub no : good ≡ false → (ls : List (List ℕ)) → Reads old ls → (model.begins_trace (ls ++ line ∷ []) ≡ false) × ReadsAhead new ls
+  pub no : good ≡ false → (ls : List (List ℕ)) → Reads old ls → (model.begins_trace (ls ++ line ∷ []) ≡ false)
+      × ReadsAhead new ls
 
 -- with the line the trace goes on, or it doesn't, and this is due
 abbrev pub TookLine : Reading → Reading → List ℕ → Option Expected → Type 0

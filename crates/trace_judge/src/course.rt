@@ -14,7 +14,8 @@ use plain_step::{Move, apply};
 use std::alloc::Global;
 use std::marker::Model;
 
-/// A run of the jobs that were released so far, up to its last printed step or behind it: its clock, and the jobs that aren't over.
+/// A run of the jobs that were released so far, up to its last printed step or behind it: its clock, and the jobs that
+/// aren't over.
 #[derive(Drop)]
 pub struct Course {
     version: Version,
@@ -132,12 +133,14 @@ impl Course {
         self.ratio = ratio;
     }
 
-    // Takes the silent steps up to the next printed one, or up to the barrier of the mark, and gives the step that comes there.
+    // Takes the silent steps up to the next printed one, or up to the barrier of the mark, and gives the step that
+    // comes there.
     fn go_on(&mut self, mark: u64) -> Move
         requires some { 0 < length self.old.ready }
         requires low { self.old.clock ≤ mark }
         requires known { mark ≤ last_tick }
-        ensures reached { (J : Instance) (z : State) → Follows self.old J z → Reached self.new J z mark (step_of result) }
+        ensures reached { (J : Instance) (z : State) → Follows self.old J z
+            → Reached self.new J z mark (step_of result) }
         ensures step { step_of result ≡ open_step self.new.rules (state_at self.new.clock self.new.ready) }
         ensures kept { self.new ≡ record self.old { clock = self.new.clock; ready = self.new.ready } }
         ensures fewer { length self.new.ready ≡ length self.old.ready }
@@ -176,7 +179,8 @@ impl Course {
 
     /// The step that the run prints next, where no further job comes. The silent steps before it are taken.
     pub fn upcoming(&mut self) -> Event
-        ensures next { (J : Instance) (z : State) → Follows self.old J z → (y : State) × Follows self.new J y × PrintsNext J.rules z result y }
+        ensures next { (J : Instance) (z : State) → Follows self.old J z → (y : State) × Follows self.new J y
+            × PrintsNext J.rules z result y }
         ensures open { is_end (Prints result) ≡ false →
             open_step self.new.rules (state_at self.new.clock self.new.ready) ≡ Prints result }
         ensures kept { self.new ≡ record self.old { clock = self.new.clock; ready = self.new.ready } }
@@ -196,7 +200,8 @@ impl Course {
     /// Takes the printed step that comes now.
     pub fn take(&mut self, event: &Event)
         requires { open_step self.old.rules (state_at self.old.clock self.old.ready) ≡ Prints event.now }
-        ensures after { (J : Instance) (z : State) → Follows self.old J z → Follows self.new J (after z (Prints event.now)) }
+        ensures after { (J : Instance) (z : State) → Follows self.old J z
+            → Follows self.new J (after z (Prints event.now)) }
         ensures kept { self.new ≡ record self.old { ready = self.new.ready; done = self.new.done } }
         ensures fewer { length self.new.ready ≤ length self.old.ready }
     {

@@ -1,5 +1,6 @@
 //! The judge of a text.
-ghost use Rattle.std.specs.Prelude.{◌≡◌, ◌≤◌, ◌<◌, ◌+◌, ◌∷◌, [], ℕ, List, false, true, Bool, IfOk, OnOk, OnErr, IsOk, ◌≢◌, ◌↔◌, IsTrue, length};
+ghost use Rattle.std.specs.Prelude.{◌≡◌, ◌≤◌, ◌<◌, ◌+◌, ◌∷◌, [], ℕ, List, false, true, Bool, IfOk, OnOk, OnErr, IsOk};
+ghost use Rattle.std.specs.Prelude.{◌≢◌, ◌↔◌, IsTrue, length};
 ghost use Rattle.dover_model.specs.Verdict as model;
 ghost use Rattle.line_text.specs.declared.cutting.Step.TheVariants.{More, Line, TooLong};
 ghost use Rattle.trace_judge.specs.declared.judge.Found.TheVariants.{Good, NoMemory};
@@ -24,7 +25,8 @@ enum Found {
     NoMemory,
 }
 
-/// Judges a text that comes in pieces, as a trace. It keeps one line of it, the jobs that aren't over, and the steps of the run where they are
+/// Judges a text that comes in pieces, as a trace. It keeps one line of it, the jobs that aren't over, and the steps of
+/// the run where they are
 /// asked for.
 #[derive(Drop)]
 pub struct Judge {
@@ -125,7 +127,8 @@ impl Judge {
     fn take_line(&mut self) -> Result<(), Memory>
         requires good { self.old.found ≡ Good }
         requires line { self.old.lines.last ≢ More }
-        ensures stands { OnOk result ((before text : List ℕ) → IsCut self.old Line before text → StandsFor self.new text) }
+        ensures stands { OnOk result
+            ((before text : List ℕ) → IsCut self.old Line before text → StandsFor self.new text) }
         ensures spare { self.old.reader.spare ≤ self.new.reader.spare + job_lines_in self.old.lines.line }
         ensures keep { self.new.reader.keep ≡ self.old.reader.keep }
         ensures room { OnErr result (self.old.reader.spare < job_lines_in self.old.lines.line) }
@@ -193,7 +196,8 @@ impl Judge {
         ensures room { OnErr result (IsOverfed self.old piece.now) }
         ensures failed { OnErr result (self.new.found ≡ NoMemory) }
         ensures stays { OnOk result (self.old.found ≢ NoMemory) }
-        ensures decided { (text : List ℕ) → StandsFor self.old text → is_wrong (model.verdict text) ≡ true → IsOk result }
+        ensures decided { (text : List ℕ) → StandsFor self.old text → is_wrong (model.verdict text) ≡ true
+            → IsOk result }
     {
         match self.found {
             Found::NoMemory => return Err(Memory),

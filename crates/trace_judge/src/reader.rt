@@ -1,5 +1,7 @@
 //! What the judge keeps of the lines of a trace.
-ghost use Rattle.std.specs.Prelude.{◌≡◌, ◌≤◌, ◌<◌, ◌+◌, ◌∷◌, ◌++◌, ◌↔◌, ℕ, List, [], Bool, true, false, IsTrue, IfOk, OnOk, OnErr, IsOk, IfSome, IfNone, Some, None, vec_len, vec_capacity, length, if◌then◌else◌};
+ghost use Rattle.std.specs.Prelude.{◌≡◌, ◌≤◌, ◌<◌, ◌+◌, ◌∷◌, ◌++◌, ◌↔◌, ℕ, List, [], Bool, true, false, IsTrue, IfOk};
+ghost use Rattle.std.specs.Prelude.{OnOk, OnErr, IsOk, IfSome, IfNone, Some, None, vec_len, vec_capacity, length};
+ghost use Rattle.std.specs.Prelude.{if◌then◌else◌};
 ghost use Rattle.dover_model.specs.Limits.{last_tick, most_items};
 ghost use Rattle.dover_model.specs.declared.events.Version.TheVariants.{Two};
 ghost use Rattle.dover_model.specs.Fraction.{IsRatio};
@@ -85,7 +87,9 @@ impl Reader {
     ghost use Rattle.trace_judge.specs.declared.verdict.Verdict.TheVariants.{Accepted};
     ghost use Rattle.trace_reading.specs.Leading.{WaitsUntil};
     ghost use Rattle.trace_judge.specs.Course.{GoesOnFrom};
-    ghost use Rattle.trace_judge.specs.Reads.{Reads, ReadsAhead, StaysAhead, Goes, Ends, Waited, CanRelease, Took, TookLine, IsUnchangedFor, expected_of, releases_in, jobs_in, job_lines_in};
+    ghost use Rattle.trace_judge.specs.Reads.{Reads, ReadsAhead, StaysAhead, Goes, Ends, Waited, CanRelease, Took};
+    ghost use Rattle.trace_judge.specs.Reads.{TookLine, IsUnchangedFor, expected_of, releases_in, jobs_in};
+    ghost use Rattle.trace_judge.specs.Reads.{job_lines_in};
 
     /// No line. Where `keep` is true, the steps of the run are kept.
     pub fn new(alloc: Global, keep: bool) -> Result<Reader, Memory>
@@ -163,7 +167,8 @@ impl Reader {
 
     /// The verdict of a whole trace.
     pub fn accepted(&self) -> Verdict
-        ensures { (ls : List (List ℕ)) (S : Session) → Ends self.now ls S → result ≡ Accepted S.rules.ratio S.rules.version
+        ensures { (ls : List (List ℕ)) (S : Session) → Ends self.now ls S
+            → result ≡ Accepted S.rules.ratio S.rules.version
             (completed_value (instance_of S)) (bound S.rules.ratio (completed_value (instance_of S))) (length (admitted_jobs S.items)) }
     {
         let (ratio, value) = (self.course.ratio(), self.course.value());
@@ -232,7 +237,8 @@ impl Reader {
         requires known { tick ≤ last_tick }
         ensures yes { result ≡ true → (ls : List (List ℕ)) (S : Session) (z y : State) → Goes self.old ls S z y →
             (x : State) × Waited self.new tick ls S z x }
-        ensures no { result ≡ false → self.old.floor ≤ tick → (ls : List (List ℕ)) (S : Session) (z : State) → Goes self.old ls S z z →
+        ensures no { result ≡ false → self.old.floor ≤ tick → (ls : List (List ℕ)) (S : Session) (z : State)
+            → Goes self.old ls S z z →
             (x : State) → WaitsUntil S.rules tick z x → ⊥ }
         ensures ahead { StaysAhead self.old self.new }
         ensures kept { self.new ≡ record self.old { course = self.new.course } }
@@ -249,9 +255,12 @@ impl Reader {
 
     // The release of this job may come next, as far as the jobs before it go.
     fn may_admit(&self, number: u32, job: &Job) -> bool
-        ensures yes { result ≡ true → (number ≡ self.now.course.jobs) × (self.now.items < most_items) × HasRoom self.now.kept job.now }
-        ensures admits { result ≡ true → (jobs : List JobFacts) → StandsFor self.now.kept jobs → refusal_of self.now.kept.ratio jobs job.now ≡ None }
-        ensures no { result ≡ false → number ≡ self.now.course.jobs → self.now.items < most_items → (jobs : List JobFacts) →
+        ensures yes { result ≡ true → (number ≡ self.now.course.jobs) × (self.now.items < most_items)
+            × HasRoom self.now.kept job.now }
+        ensures admits { result ≡ true → (jobs : List JobFacts) → StandsFor self.now.kept jobs
+            → refusal_of self.now.kept.ratio jobs job.now ≡ None }
+        ensures no { result ≡ false → number ≡ self.now.course.jobs → self.now.items < most_items
+            → (jobs : List JobFacts) →
             StandsFor self.now.kept jobs → refusal_of self.now.kept.ratio jobs job.now ≡ None → ⊥ }
     {
         if number != self.course.jobs() {
@@ -272,7 +281,8 @@ impl Reader {
         requires can { (ls : List (List ℕ)) × CanRelease self.old job ls }
         requires room { HasRoom self.old.kept job }
         requires spare { 0 < self.old.spare }
-        ensures reads { (ls : List (List ℕ)) → CanRelease self.old job ls → Reads self.new (ls ++ text_of (Release self.old.course.jobs job) ∷ []) }
+        ensures reads { (ls : List (List ℕ)) → CanRelease self.old job ls
+            → Reads self.new (ls ++ text_of (Release self.old.course.jobs job) ∷ []) }
         ensures keep { self.new.keep ≡ self.old.keep }
         ensures spare { self.new.spare + 1 ≡ self.old.spare }
     {
@@ -316,10 +326,12 @@ impl Reader {
         value: u64,
         cause: Refusal,
     ) -> bool
-        ensures yes { result ≡ true → (self.now.course.rules.version ≡ Two) × (at ≤ last_tick) × (at ≤ release) × (self.now.items < most_items) }
+        ensures yes { result ≡ true → (self.now.course.rules.version ≡ Two) × (at ≤ last_tick) × (at ≤ release)
+            × (self.now.items < most_items) }
         ensures refuses { result ≡ true → (jobs : List JobFacts) → StandsFor self.now.kept jobs →
             refusal_of self.now.kept.ratio jobs (job_of_numbers release work deadline value) ≡ Some cause }
-        ensures no { result ≡ false → self.now.course.rules.version ≡ Two → at ≤ last_tick → at ≤ release → self.now.items < most_items →
+        ensures no { result ≡ false → self.now.course.rules.version ≡ Two → at ≤ last_tick → at ≤ release
+            → self.now.items < most_items →
             (jobs : List JobFacts) → StandsFor self.now.kept jobs →
             refusal_of self.now.kept.ratio jobs (job_of_numbers release work deadline value) ≡ Some cause → ⊥ }
     {
@@ -440,7 +452,8 @@ impl Reader {
         }
     }
 
-    /// The next line. Where it doesn't go on as a trace does, this gives what is due in its place, and further lines aren't to be taken.
+    /// The next line. Where it doesn't go on as a trace does, this gives what is due in its place, and further lines
+    /// aren't to be taken.
     pub fn take(&mut self, line: &[u8]) -> Result<Option<Expected>, Memory>
         ensures took { IfOk result (TookLine self.old self.new line.now) }
         ensures room { job_lines_in line.now ≤ self.old.spare → IsOk result }

@@ -23,9 +23,12 @@ fn tick_to(version: Version, k: Ratio, clock: u64, tasks: &mut [Task], mark: u64
     requires stale { NoneFresh tasks.old }
     requires low { clock ≤ mark }
     requires known { mark ≤ last_tick }
-    ensures settles { SettlesTo (record { ratio = k; version = version }) mark (state_at clock tasks.old) (state_at result.clock tasks.new) }
-    ensures step { step_of result.step ≡ open_step (record { ratio = k; version = version }) (state_at result.clock tasks.new) }
-    ensures stops { IsSilent (step_of result.step) → IsBarrier (record { ratio = k; version = version }) mark (state_at result.clock tasks.new) }
+    ensures settles { SettlesTo (record { ratio = k; version = version }) mark (state_at clock tasks.old)
+        (state_at result.clock tasks.new) }
+    ensures step { step_of result.step ≡ open_step (record { ratio = k; version = version })
+        (state_at result.clock tasks.new) }
+    ensures stops { IsSilent (step_of result.step)
+        → IsBarrier (record { ratio = k; version = version }) mark (state_at result.clock tasks.new) }
     ensures low { result.clock ≤ mark }
 {
     let step = open_step(version, k, clock, tasks);
@@ -48,9 +51,12 @@ pub fn settle(version: Version, k: Ratio, clock: u64, tasks: &mut [Task], mark: 
     requires part { IsPart (state_at clock tasks.old) }
     requires low { clock ≤ mark }
     requires known { mark ≤ last_tick }
-    ensures settles { SettlesTo (record { ratio = k; version = version }) mark (state_at clock tasks.old) (state_at result.clock tasks.new) }
-    ensures step { step_of result.step ≡ open_step (record { ratio = k; version = version }) (state_at result.clock tasks.new) }
-    ensures stops { IsSilent (step_of result.step) → IsBarrier (record { ratio = k; version = version }) mark (state_at result.clock tasks.new) }
+    ensures settles { SettlesTo (record { ratio = k; version = version }) mark (state_at clock tasks.old)
+        (state_at result.clock tasks.new) }
+    ensures step { step_of result.step ≡ open_step (record { ratio = k; version = version })
+        (state_at result.clock tasks.new) }
+    ensures stops { IsSilent (step_of result.step)
+        → IsBarrier (record { ratio = k; version = version }) mark (state_at result.clock tasks.new) }
     ensures low { result.clock ≤ mark }
 {
     let step = open_step(version, k, clock, tasks);

@@ -15,7 +15,8 @@ pub enum Expected {
 /// What a text is, as a trace.
 #[derive(Clone, Copy, Debug, PartialEq, Eq)]
 pub enum Verdict {
-    /// It is the trace of a valid session of so many jobs, under this ratio and version. The run completes jobs of this value, and no schedule
+    /// It is the trace of a valid session of so many jobs, under this ratio and version. The run completes jobs of this
+    /// value, and no schedule
     /// of its jobs is worth more than the bound.
     Accepted {
         ratio: Ratio,

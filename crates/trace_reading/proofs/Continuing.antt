@@ -1,5 +1,6 @@
 -- Lines that continue a trace, and what they come to.
-use Rattle.std.proofs.Common.{◌≡◌, ℕ, suc, ◌+◌, ◌≤◌, ◌<◌, max, List, [], ◌∷◌, ◌++◌, length, length-append, map, refl, sym, ap, ◌∙◌, subst, Bool, true}
+use Rattle.std.proofs.Common.{◌≡◌, ℕ, suc, ◌+◌, ◌≤◌, ◌<◌, max, List, [], ◌∷◌, ◌++◌, length, length-append, map, refl}
+use Rattle.std.proofs.Common.{sym, ap, ◌∙◌, subst, Bool, true}
 use Rattle.std.proofs.Common.{false, cond, arith, inl, inr, filter_map}
 use Rattle.std.specs.Prelude.{nat_le, nat_lt, ◌&&◌}
 use Rattle.std.specs.List.{AllByRecursion, cons_option}
@@ -19,9 +20,11 @@ use Rattle.dover_model.specs.Run.{Step, is_end, printed_of}
 use Rattle.dover_model.specs.Settled.{is_late, settled, settled_steps}
 use Rattle.dover_model.specs.Sound.{Each, Keeps}
 use Rattle.dover_model.specs.WholeRun.{open_at, IsSettledRun}
-use Rattle.dover_model.specs.Session.{JobItem, RefusedItem, RefusedJob, Session, instance_of, admitted_jobs, IsValidSession, with_item, new_session}
+use Rattle.dover_model.specs.Session.{JobItem, RefusedItem, RefusedJob, Session, instance_of, admitted_jobs}
+use Rattle.dover_model.specs.Session.{IsValidSession, with_item, new_session}
 use Rattle.dover_model.specs.Text.{header, text_of, refused_text}
-use Rattle.dover_model.specs.Trace.{TraceLine, Printed, Refuses, Placed, text_of_line, places_of, lines_among, texts_among, put_in}
+use Rattle.dover_model.specs.Trace.{TraceLine, Printed, Refuses, Placed, text_of_line, places_of, lines_among}
+use Rattle.dover_model.specs.Trace.{texts_among, put_in}
 use Rattle.dover_model.specs.Verdict.{named_session}
 use Rattle.dover_model.proofs.Kept.{opening_keeps, each_job}
 use Rattle.dover_model.proofs.Ending.{potential}
@@ -29,21 +32,26 @@ use Rattle.dover_model.proofs.Settling.{Settles as Reaches, settles, settled_is_
 use Rattle.dover_model.proofs.Valid.{all_from}
 use Rattle.dover_model.proofs.Prefixes.{step_open, come_from, opening_later, later_keeps}
 use Rattle.dover_model.proofs.Releasing.{coming_task, barrier_releases}
-use Rattle.dover_model.proofs.PutIn.{RefusesWithin, AllPlacedWithin, put_in-more_steps, put_in-more_refused, places_after-append}
+use Rattle.dover_model.proofs.PutIn.{RefusesWithin, AllPlacedWithin, put_in-more_steps, put_in-more_refused}
+use Rattle.dover_model.proofs.PutIn.{places_after-append}
 use Rattle.dover_model.proofs.Growing.{Reads, LinesName, job_instance, refused_instance, all_behind}
 use Rattle.dover_model.proofs.Admitting.{admits}
 use Rattle.dover_model.proofs.TraceLines.{item_of_line}
 use Rattle.trace_reading.specs.Leading.{GoesOn, Leads, Passes, Idles, PrintsNext}
 use Rattle.trace_reading.specs.Reading.{mark_after, Sees, floor_after, MayRelease, MayRefuse, with_fresh, release_text}
 use Rattle.trace_reading.proofs.Items.{follows_behind, mark_behind, reads_mark}
-use Rattle.trace_reading.proofs.Leading.{leads_later_mark, leads_append, leads_passes, settles_passes, passes_append, passes_settled, settled_once}
-use Rattle.trace_reading.proofs.Leading.{settles_silent, idles_silent, idles_leads, settles_clock, passes_keeps, prints_goes_on, stops_before}
+use Rattle.trace_reading.proofs.Leading.{leads_later_mark, leads_append, leads_passes, settles_passes, passes_append}
+use Rattle.trace_reading.proofs.Leading.{passes_settled, settled_once}
+use Rattle.trace_reading.proofs.Leading.{settles_silent, idles_silent, idles_leads, settles_clock, passes_keeps}
+use Rattle.trace_reading.proofs.Leading.{prints_goes_on, stops_before}
 use Rattle.trace_reading.proofs.Leading.{Later, passes_later, coming_goes_on}
-use Rattle.trace_reading.proofs.Released.{NoneComes, none_comes_passes, none_comes_after, printed_names_none, after_release}
+use Rattle.trace_reading.proofs.Released.{NoneComes, none_comes_passes, none_comes_after, printed_names_none}
+use Rattle.trace_reading.proofs.Released.{after_release}
 use Rattle.trace_reading.proofs.Seeing.{led_named, sees_keeps, sees_names}
 
 -- texts with further lines behind
-texts_behind : (rules : Rules) (front more : List TraceLine) → header rules ∷ map text_of_line (front ++ more) ≡ (header rules ∷ map text_of_line front) ++ map text_of_line more
+texts_behind : (rules : Rules) (front more : List TraceLine)
+    → header rules ∷ map text_of_line (front ++ more) ≡ (header rules ∷ map text_of_line front) ++ map text_of_line more
 texts_behind rules front more = ap (λ xs. header rules ∷ xs) (map-append text_of_line front more)
 
 -- the events of steps and of further steps
@@ -56,7 +64,8 @@ clock_below floor true clock = omega arith
 clock_below floor false clock = omega arith
 
 -- the event itself comes before it
-late_before : (floor : ℕ) (late : Bool) (clock : ℕ) → (late && nat_le (max floor (cond late (suc clock) clock)) clock) ≡ false
+late_before : (floor : ℕ) (late : Bool) (clock : ℕ)
+    → (late && nat_le (max floor (cond late (suc clock) clock)) clock) ≡ false
 late_before floor true clock = lt-leb (max floor (suc clock)) clock (omega arith)
 late_before floor false clock = refl
 
@@ -78,18 +87,23 @@ module _ (ls : List (List ℕ)) (S : Session) (floor : ℕ) (z : State) (sees : 
 
   -- so many more are within as well
   within_more : (es : List Event) → AllPlacedWithin 0 (so_far ++ es) (places_of S)
-  within_more es = all_from (λ (p : Placed). p.place ≤ 0 + length so_far) (λ p. p.place ≤ 0 + length (so_far ++ es)) (places_of S)
+  within_more es = all_from (λ (p : Placed). p.place ≤ 0 + length so_far) (λ p. p.place ≤ 0 + length (so_far ++ es))
+      (places_of S)
       (λ p low. omega (arith, length-append so_far es)) sees.within
 
   -- what is settled at a tick from the floor on
-  pub settled_from_floor : (t : ℕ) → floor ≤ t → (ys : List Step) × IsSettledRun S.rules t z ys × (settled_steps J t ≡ sees.steps ++ ys)
+  pub settled_from_floor : (t : ℕ) → floor ≤ t → (ys : List Step) × IsSettledRun S.rules t z ys
+      × (settled_steps J t ≡ sees.steps ++ ys)
   settled_from_floor t later =
-      let it : Reaches S.rules t z (potential t z) = settles J sees.valid.jobs S.rules t (potential t z) z (sees_keeps ls S floor z sees) (omega arith) in (
+      let it : Reaches S.rules t z (potential t z) =
+      settles J sees.valid.jobs S.rules t (potential t z) z (sees_keeps ls S floor z sees) (omega arith) in (
         it.0,
         it.1,
-        settled_once S.rules t (settled_steps J t) (sees.steps ++ it.0) (opening J.jobs) (settled_is_run J t sees.valid.jobs)
+        settled_once S.rules t (settled_steps J t) (sees.steps ++ it.0) (opening J.jobs)
+            (settled_is_run J t sees.valid.jobs)
             (passes_settled S.rules t sees.steps it.0 (opening J.jobs) z
-            (leads_passes S.rules t sees.steps (opening J.jobs) z (leads_later_mark S.rules floor t later sees.steps (opening J.jobs) z sees.leads)) it.1),
+            (leads_passes S.rules t sees.steps (opening J.jobs) z
+            (leads_later_mark S.rules floor t later sees.steps (opening J.jobs) z sees.leads)) it.1),
       )
 
   -- ---- a printed step
@@ -131,21 +145,25 @@ module _ (ls : List (List ℕ)) (S : Session) (floor : ℕ) (z : State) (sees : 
     -- they lead to the state after it
     lead_more : Leads S.rules new_floor (opening J.jobs) steps_more (after y (Prints e))
     lead_more =
-        leads_append S.rules new_floor sees.steps (next.steps ++ open_at S.rules y ∷ []) (opening J.jobs) z (after y (Prints e))
+        leads_append S.rules new_floor sees.steps (next.steps ++ open_at S.rules y ∷ []) (opening J.jobs) z
+        (after y (Prints e))
         (leads_later_mark S.rules floor new_floor (omega arith) sees.steps (opening J.jobs) z sees.leads)
         (leads_append S.rules new_floor next.steps (open_at S.rules y ∷ []) z y (after y (Prints e))
         (leads_later_mark S.rules y.clock new_floor (clock_below floor (is_late (Prints e)) y.clock) next.steps z y
         (idles_leads S.rules next.steps z y next.idles)) (
           refl,
-          subst (λ m. (is_late m && nat_le new_floor y.clock) ≡ false) (sym opens) (late_before floor (is_late (Prints e)) y.clock),
+          subst (λ m. (is_late m && nat_le new_floor y.clock) ≡ false) (sym opens)
+              (late_before floor (is_late (Prints e)) y.clock),
           goes_on,
           ap (after y) opens,
         ))
 
     -- the lines so far, and its text
     lines_more : ls ++ text_of e ∷ [] ≡ texts_among S (printed_of steps_more)
-    lines_more = ap (λ xs. xs ++ text_of e ∷ []) sees.lines ∙ sym (texts_behind S.rules (lines_among S so_far) (Printed e ∷ []))
-        ∙ ap (λ xs. header S.rules ∷ map text_of_line xs) (sym (put_in-more_steps (places_of S) 0 so_far (e ∷ []) sees.within))
+    lines_more = ap (λ xs. xs ++ text_of e ∷ []) sees.lines
+        ∙ sym (texts_behind S.rules (lines_among S so_far) (Printed e ∷ []))
+        ∙ ap (λ xs. header S.rules ∷ map text_of_line xs)
+        (sym (put_in-more_steps (places_of S) 0 so_far (e ∷ []) sees.within))
         ∙ ap (texts_among S) (sym print_more)
 
     -- no further item is named
@@ -162,17 +180,26 @@ module _ (ls : List (List ℕ)) (S : Session) (floor : ℕ) (z : State) (sees : 
     within_printed = subst (λ es. AllPlacedWithin 0 es (places_of S)) (sym print_more) (within_more (e ∷ []))
 
     -- at a tick below the floor less is settled
-    tight_more : (t : ℕ) → mark_after 0 S.items ≤ t → t < new_floor → length (settled J t) < length (printed_of steps_more)
-    tight_more t marked low = omega (arith, ap length print_more, length-append so_far (e ∷ []), by_floor (nat_lt t floor) refl) where
-      by_floor : (b : Bool) → nat_lt t floor ≡ b → length (settled J t) ≤ length so_far
-      by_floor true below = let less : length (settled J t) < length so_far = sees.tight t marked (ltb-true _ _ below) in omega arith
-      by_floor false above =
-          let from_floor : floor ≤ t = ltb-false _ _ above in
-          let early : t < floor_after y e = omega arith in
-          let it : (ys : List Step) × IsSettledRun S.rules t z ys × (settled_steps J t ≡ sees.steps ++ ys) = settled_from_floor t from_floor in
-          let none : printed_of it.0 ≡ [] = stops_before J sees.valid.jobs S.rules t next.steps it.0 z y e (sees_keeps ls S floor z sees)
-          (let low_z : z.clock ≤ floor = sees.clock in omega arith) next.idles opens early it.1 in
-          omega (arith, ap length (ap printed_of it.2 ∙ printed_append sees.steps it.0 ∙ ap (λ es. so_far ++ es) none ∙ append-nil so_far))
+    tight_more : (t : ℕ) → mark_after 0 S.items ≤ t → t < new_floor
+        → length (settled J t) < length (printed_of steps_more)
+    tight_more t marked low =
+        omega (arith, ap length print_more, length-append so_far (e ∷ []), by_floor (nat_lt t floor) refl) where
+          by_floor : (b : Bool) → nat_lt t floor ≡ b → length (settled J t) ≤ length so_far
+          by_floor true below = let less : length (settled J t) < length so_far =
+              sees.tight t marked (ltb-true _ _ below) in omega arith
+          by_floor false above =
+              let from_floor : floor ≤ t = ltb-false _ _ above in
+              let early : t < floor_after y e = omega arith in
+              let it : (ys : List Step) × IsSettledRun S.rules t z ys × (settled_steps J t ≡ sees.steps ++ ys) =
+              settled_from_floor t from_floor in
+              let none : printed_of it.0 ≡ [] =
+              stops_before J sees.valid.jobs S.rules t next.steps it.0 z y e (sees_keeps ls S floor z sees)
+              (let low_z : z.clock ≤ floor = sees.clock in omega arith) next.idles opens early it.1 in
+              omega (
+                arith,
+                ap length (ap printed_of it.2 ∙ printed_append sees.steps it.0 ∙ ap (λ es. so_far ++ es) none
+                    ∙ append-nil so_far),
+              )
 
     -- the text of the next printed step comes to the state after it
     pub sees_step : Sees (ls ++ text_of e ∷ []) S new_floor (after y (Prints e))
@@ -207,20 +234,24 @@ module _ (ls : List (List ℕ)) (S : Session) (floor : ℕ) (z : State) (sees : 
         valid = sees.valid;
         named = sees.named;
         steps = sees.steps ++ xs;
-        leads = leads_append S.rules floor sees.steps xs (opening J.jobs) z y sees.leads (leads_later_mark S.rules y.clock floor low xs z y leads_on);
+        leads = leads_append S.rules floor sees.steps xs (opening J.jobs) z y sees.leads
+            (leads_later_mark S.rules y.clock floor low xs z y leads_on);
         lines = sees.lines ∙ ap (texts_among S) (sym print_same);
         within = subst (λ es. AllPlacedWithin 0 es (places_of S)) (sym print_same) sees.within;
-        released = none_comes_passes S.rules y.clock xs z y (leads_passes S.rules y.clock xs z y leads_on) sees.released;
+        released = none_comes_passes S.rules y.clock xs z y
+            (leads_passes S.rules y.clock xs z y leads_on) sees.released;
         clock = low;
         mark = sees.mark;
-        tight = subst (λ es. (t : ℕ) → mark_after 0 S.items ≤ t → t < floor → length (settled J t) < length es) (sym print_same) sees.tight;
+        tight = subst (λ es. (t : ℕ) → mark_after 0 S.items ≤ t → t < floor → length (settled J t) < length es)
+            (sym print_same) sees.tight;
       }
 
   -- they print nothing
   pub sees_idles_prints : (xs : List Step) (y : State) (idles : Idles S.rules z xs y) (low : y.clock ≤ floor)
       → printed_of (sees_idles xs y idles low).steps ≡ so_far
   unfolding sees_idles
-  sees_idles_prints xs y idles low = printed_append sees.steps xs ∙ ap (λ es. so_far ++ es) (idles_silent S.rules xs z y idles) ∙ append-nil so_far
+  sees_idles_prints xs y idles low = printed_append sees.steps xs
+      ∙ ap (λ es. so_far ++ es) (idles_silent S.rules xs z y idles) ∙ append-nil so_far
 
   -- ---- a job
 
@@ -240,7 +271,8 @@ module _ (ls : List (List ℕ)) (S : Session) (floor : ℕ) (z : State) (sees : 
     -- the jobs are released by then
     known : AllByRecursion (λ i. i.release ≤ j.release) J.jobs
     known = let low : mark_after 0 S.items ≤ floor = sees.mark in let ordered : floor ≤ j.release = may.no_fall in
-        all_from (λ i. i.release ≤ mark_after 0 S.items) (λ i. i.release ≤ j.release) J.jobs (λ i here. omega arith) reads.known
+        all_from (λ i. i.release ≤ mark_after 0 S.items) (λ i. i.release ≤ j.release) J.jobs
+        (λ i here. omega arith) reads.known
 
     -- the jobs with the new one
     abbrev K : Instance
@@ -263,7 +295,8 @@ module _ (ls : List (List ℕ)) (S : Session) (floor : ℕ) (z : State) (sees : 
 
     -- the state before it
     keeps_before : Keeps J y
-    keeps_before = passes_keeps J sees.valid.jobs S.rules j.release (sees.steps ++ may.waits.steps) (opening J.jobs) y (opening_keeps J) passes_y
+    keeps_before = passes_keeps J sees.valid.jobs S.rules j.release (sees.steps ++ may.waits.steps) (opening J.jobs) y
+        (opening_keeps J) passes_y
 
     -- the job comes at its release
     late : Each (λ i. j.release ≤ i.release) (j ∷ [])
@@ -278,17 +311,21 @@ module _ (ls : List (List ℕ)) (S : Session) (floor : ℕ) (z : State) (sees : 
         let high : j.release ≤ y.clock = here.1 in
         let low_z : z.clock ≤ floor = sees.clock in
         let ordered : floor ≤ j.release = may.no_fall in
-        let low : y.clock ≤ j.release = settles_clock S.rules j.release may.waits.steps z y may.waits.settles (omega arith) in
+        let low : y.clock ≤ j.release =
+        settles_clock S.rules j.release may.waits.steps z y may.waits.settles (omega arith) in
         omega arith
 
     -- the steps before it, with the job behind
     behind : Later S.rules j.release (opening J.jobs) y coming (sees.steps ++ may.waits.steps)
-    behind = passes_later J sees.valid.jobs K valid_K S.rules j.release coming (come_from j.release n (j ∷ []) late) (coming_task n j) (inl refl)
-        (sees.steps ++ may.waits.steps) (opening J.jobs) y (opening_keeps J) (later_keeps J (j ∷ []) j.release valid_K late) passes_y
+    behind = passes_later J sees.valid.jobs K valid_K S.rules j.release coming (come_from j.release n (j ∷ []) late)
+        (coming_task n j) (inl refl)
+        (sees.steps ++ may.waits.steps) (opening J.jobs) y (opening_keeps J)
+        (later_keeps J (j ∷ []) j.release valid_K late) passes_y
 
     -- the release
     releases : open_step S.rules (with_later y coming) ≡ Prints (Release n j)
-    releases = barrier_releases J y keeps_before S.rules known_y (at_barrier (is_late (open_step S.rules y)) j.release y.clock may.waits.barrier).0
+    releases = barrier_releases J y keeps_before S.rules known_y
+        (at_barrier (is_late (open_step S.rules y)) j.release y.clock may.waits.barrier).0
         n j (sym at_release) where
           known_y : Each (λ (t : Task). t.job.release ≤ y.clock) y.tasks
           known_y t m =
@@ -310,8 +347,10 @@ module _ (ls : List (List ℕ)) (S : Session) (floor : ℕ) (z : State) (sees : 
 
     -- they lead to it
     lead_job : Leads S.rules j.release (opening K.jobs) steps_job fresh
-    lead_job = subst (λ u. Leads S.rules j.release u steps_job fresh) (sym (opening_later J (j ∷ []) j.release valid_K late))
-        (leads_append S.rules j.release behind.steps (open_at S.rules (with_later y coming) ∷ []) (with_later (opening J.jobs) coming)
+    lead_job = subst (λ u. Leads S.rules j.release u steps_job fresh)
+        (sym (opening_later J (j ∷ []) j.release valid_K late))
+        (leads_append S.rules j.release behind.steps (open_at S.rules (with_later y coming) ∷ [])
+        (with_later (opening J.jobs) coming)
         (with_later y coming) fresh behind.leads (
           refl,
           subst (λ m. (is_late m && nat_le j.release y.clock) ≡ false) (sym releases) refl,
@@ -322,8 +361,10 @@ module _ (ls : List (List ℕ)) (S : Session) (floor : ℕ) (z : State) (sees : 
     -- what they print
     print_job : printed_of steps_job ≡ so_far ++ Release n j ∷ []
     print_job = printed_append behind.steps (open_at S.rules (with_later y coming) ∷ [])
-        ∙ ap (λ es. es ++ printed_of (open_at S.rules (with_later y coming) ∷ [])) (behind.printed ∙ printed_append sees.steps may.waits.steps
-        ∙ ap (λ es. so_far ++ es) (settles_silent S.rules j.release may.waits.steps z y may.waits.settles) ∙ append-nil so_far)
+        ∙ ap (λ es. es ++ printed_of (open_at S.rules (with_later y coming) ∷ []))
+        (behind.printed ∙ printed_append sees.steps may.waits.steps
+        ∙ ap (λ es. so_far ++ es) (settles_silent S.rules j.release may.waits.steps z y may.waits.settles)
+        ∙ append-nil so_far)
         ∙ ap (λ m. so_far ++ printed_of (record { before = with_later y coming; move = m } ∷ [])) releases
 
     -- a job has no place
@@ -332,12 +373,14 @@ module _ (ls : List (List ℕ)) (S : Session) (floor : ℕ) (z : State) (sees : 
 
     -- the lines with the release
     among_job : lines_among S_more (printed_of steps_job) ≡ lines_among S so_far ++ Printed (Release n j) ∷ []
-    among_job = ap (λ es. put_in (places_of S_more) 0 es) print_job ∙ ap (λ ps. put_in ps 0 (so_far ++ Release n j ∷ [])) places_job
+    among_job = ap (λ es. put_in (places_of S_more) 0 es) print_job
+        ∙ ap (λ ps. put_in ps 0 (so_far ++ Release n j ∷ [])) places_job
         ∙ put_in-more_steps (places_of S) 0 so_far (Release n j ∷ []) sees.within
 
     -- as texts
     lines_job : ls ++ release_text S j ∷ [] ≡ texts_among S_more (printed_of steps_job)
-    lines_job = ap (λ xs. xs ++ release_text S j ∷ []) sees.lines ∙ sym (texts_behind S.rules (lines_among S so_far) (Printed (Release n j) ∷ []))
+    lines_job = ap (λ xs. xs ++ release_text S j ∷ []) sees.lines
+        ∙ sym (texts_behind S.rules (lines_among S so_far) (Printed (Release n j) ∷ []))
         ∙ ap (λ xs. header S.rules ∷ map text_of_line xs) (sym among_job)
 
     -- they are within
@@ -350,18 +393,23 @@ module _ (ls : List (List ℕ)) (S : Session) (floor : ℕ) (z : State) (sees : 
     valid_job = record {
       jobs = subst IsValid (sym jobs_more) valid_K;
       count = let room : length S.items < 3_999_998 = may.room in omega (arith, length-append S.items (JobItem j ∷ []));
-      items = follows_behind S.rules [] 0 S.items (JobItem j ∷ []) sees.valid.items
-          (let low : mark_after 0 S.items ≤ floor = sees.mark in let ordered : floor ≤ j.release = may.no_fall in omega arith, tt);
+      items = follows_behind S.rules [] 0 S.items (JobItem j ∷ []) sees.valid.items (
+        let low : mark_after 0 S.items ≤ floor = sees.mark in let ordered : floor ≤ j.release = may.no_fall in
+            omega arith,
+        tt,
+      );
     }
 
     -- the lines lead there
     leads_job : Leads S.rules j.release (opening (admitted_jobs S_more.items)) steps_job fresh
-    leads_job = subst (λ (I : Instance). Leads S.rules j.release (opening I.jobs) steps_job fresh) (sym jobs_more) lead_job
+    leads_job = subst (λ (I : Instance). Leads S.rules j.release (opening I.jobs) steps_job fresh)
+        (sym jobs_more) lead_job
 
     -- the mark is at the release
     mark_job : mark_after 0 S_more.items ≡ j.release
     mark_job = let low : mark_after 0 S.items ≤ floor = sees.mark in let ordered : floor ≤ j.release = may.no_fall in
-        let last : mark_after 0 S_more.items ≡ max (mark_after 0 S.items) j.release = mark_behind 0 S.items (JobItem j) in omega arith
+        let last : mark_after 0 S_more.items ≡ max (mark_after 0 S.items) j.release =
+        mark_behind 0 S.items (JobItem j) in omega arith
 
     -- the text of the job's release comes to the state after it
     pub sees_release : Sees (ls ++ release_text S j ∷ []) S_more j.release fresh
@@ -369,7 +417,8 @@ module _ (ls : List (List ℕ)) (S : Session) (floor : ℕ) (z : State) (sees : 
       valid = valid_job;
       named = ap named_session lines_job
           ∙ led_named S_more valid_job j.release fresh steps_job leads_job within_job
-          (ap (filter_map item_of_line) among_job ∙ filter_map-append item_of_line (lines_among S so_far) (Printed (Release n j) ∷ [])
+          (ap (filter_map item_of_line) among_job
+          ∙ filter_map-append item_of_line (lines_among S so_far) (Printed (Release n j) ∷ [])
           ∙ ap (λ xs. xs ++ JobItem j ∷ []) (sees_names ls S floor z sees));
       steps = steps_job;
       leads = leads_job;
@@ -405,9 +454,11 @@ module _ (ls : List (List ℕ)) (S : Session) (floor : ℕ) (z : State) (sees : 
         let it : (ys : List Step) × IsSettledRun S.rules r.at z ys × (settled_steps J r.at ≡ sees.steps ++ ys) =
         settled_from_floor r.at may.refused.no_fall in
         let none : printed_of it.0 ≡ [] = ap printed_of (settled_once S.rules r.at it.0 (may.waits.steps ++ []) z it.1
-        (passes_settled S.rules r.at may.waits.steps [] z y (settles_passes S.rules r.at may.waits.steps z y may.waits.settles) may.waits.barrier)
+        (passes_settled S.rules r.at may.waits.steps [] z y
+        (settles_passes S.rules r.at may.waits.steps z y may.waits.settles) may.waits.barrier)
         ∙ append-nil may.waits.steps) ∙ settles_silent S.rules r.at may.waits.steps z y may.waits.settles in
-        ap length (ap printed_of it.2 ∙ printed_append sees.steps it.0 ∙ ap (λ es. so_far ++ es) none ∙ append-nil so_far)
+        ap length (ap printed_of it.2 ∙ printed_append sees.steps it.0 ∙ ap (λ es. so_far ++ es) none
+        ∙ append-nil so_far)
 
     -- its place
     abbrev placed : Placed
@@ -424,23 +475,27 @@ module _ (ls : List (List ℕ)) (S : Session) (floor : ℕ) (z : State) (sees : 
 
     -- as texts
     lines_refused : ls ++ refused_text r ∷ [] ≡ texts_among S_refused so_far
-    lines_refused = ap (λ xs. xs ++ refused_text r ∷ []) sees.lines ∙ sym (texts_behind S.rules (lines_among S so_far) (Refuses r ∷ []))
+    lines_refused = ap (λ xs. xs ++ refused_text r ∷ []) sees.lines
+        ∙ sym (texts_behind S.rules (lines_among S so_far) (Refuses r ∷ []))
         ∙ ap (λ xs. header S.rules ∷ map text_of_line xs) (sym among_refused)
 
     -- they are within
     within_refused : RefusesWithin S_refused so_far
     within_refused = subst (AllPlacedWithin 0 so_far) (sym places_refused)
-        (all_behind (λ (p : Placed). p.place ≤ 0 + length so_far) (places_of S) placed sees.within (omega (arith, all_settled)))
+        (all_behind (λ (p : Placed). p.place ≤ 0 + length so_far) (places_of S) placed sees.within
+        (omega (arith, all_settled)))
 
     -- the mark before it
     mark_low : mark_after 0 S.items ≤ r.at
-    mark_low = let low : mark_after 0 S.items ≤ floor = sees.mark in let ordered : floor ≤ r.at = may.refused.no_fall in omega arith
+    mark_low = let low : mark_after 0 S.items ≤ floor = sees.mark in let ordered : floor ≤ r.at = may.refused.no_fall in
+        omega arith
 
     -- the session is valid
     valid_refused : IsValidSession S_refused
     valid_refused = record {
       jobs = subst IsValid (sym jobs_same) sees.valid.jobs;
-      count = let room : length S.items < 3_999_998 = may.room in omega (arith, length-append S.items (RefusedItem r ∷ []));
+      count = let room : length S.items < 3_999_998 = may.room in
+          omega (arith, length-append S.items (RefusedItem r ∷ []));
       items = follows_behind S.rules [] 0 S.items (RefusedItem r ∷ []) sees.valid.items (
         record {
           version = may.refused.version;
@@ -461,7 +516,8 @@ module _ (ls : List (List ℕ)) (S : Session) (floor : ℕ) (z : State) (sees : 
 
     -- the mark is at its tick
     mark_refused : mark_after 0 S_refused.items ≡ r.at
-    mark_refused = let last : mark_after 0 S_refused.items ≡ max (mark_after 0 S.items) r.at = mark_behind 0 S.items (RefusedItem r) in
+    mark_refused = let last : mark_after 0 S_refused.items ≡ max (mark_after 0 S.items) r.at =
+        mark_behind 0 S.items (RefusedItem r) in
         omega (arith, mark_low)
 
     -- the text of the refused line leaves the state as it is
@@ -470,7 +526,8 @@ module _ (ls : List (List ℕ)) (S : Session) (floor : ℕ) (z : State) (sees : 
       valid = valid_refused;
       named = ap named_session lines_refused
           ∙ led_named S_refused valid_refused r.at z sees.steps leads_refused within_refused
-          (ap (filter_map item_of_line) among_refused ∙ filter_map-append item_of_line (lines_among S so_far) (Refuses r ∷ [])
+          (ap (filter_map item_of_line) among_refused
+          ∙ filter_map-append item_of_line (lines_among S so_far) (Refuses r ∷ [])
           ∙ ap (λ xs. xs ++ RefusedItem r ∷ []) (sees_names ls S floor z sees));
       steps = sees.steps;
       leads = leads_refused;

@@ -1,5 +1,6 @@
 -- How many lines a trace has, and which of them are refused lines.
-use Rattle.std.proofs.Common.{◌≡◌, ℕ, suc, ◌+◌, ◌-◌, max, List, [], ◌∷◌, ◌++◌, length, length-append, map, take, drop, refl, ap, ◌∙◌, arith}
+use Rattle.std.proofs.Common.{◌≡◌, ℕ, suc, ◌+◌, ◌-◌, max, List, [], ◌∷◌, ◌++◌, length, length-append, map, take, drop}
+use Rattle.std.proofs.Common.{refl, ap, ◌∙◌, arith}
 use Rattle.std.specs.Prelude.{slice_get, Some, filter_map}
 use Rattle.std.proofs.lemmas.List.{length-map, length-take, length-drop}
 use Rattle.dover_model.specs.declared.events.Event.{Event}
@@ -10,7 +11,8 @@ use Rattle.dover_model.specs.Trace.{Printed, Refuses, Placed, put_in, places_aft
 use Rattle.dover_model.specs.Verdict.{refused_count}
 
 -- with refused lines put in, there are so many lines more
-length-put_in : (ps : List Placed) (before : ℕ) (steps : List Event) → length (put_in ps before steps) ≡ length steps + length ps
+length-put_in : (ps : List Placed) (before : ℕ) (steps : List Event)
+    → length (put_in ps before steps) ≡ length steps + length ps
 length-put_in [] before steps = omega (arith, length-map steps Printed)
 length-put_in (p ∷ ps) before steps =
     let front : List Event = take (p.place - before) steps in
@@ -33,7 +35,8 @@ length-places rules jobs (RefusedItem r ∷ items) = ap suc (length-places rules
 
 -- a line for each step and each refused line
 pub length-lines : (S : Session) (steps : List Event) → length (lines_among S steps) ≡ length steps + refused_count S
-length-lines S steps = length-put_in (places_of S) 0 steps ∙ ap (λ n. length steps + n) (length-places S.rules [] S.items)
+length-lines S steps = length-put_in (places_of S) 0 steps
+    ∙ ap (λ n. length steps + n) (length-places S.rules [] S.items)
 
 -- the element behind others
 pub get_behind : {X : Type 0} (xs : List X) (y : X) (ys : List X) → slice_get (xs ++ y ∷ ys) (length xs) ≡ Some y

@@ -24,19 +24,24 @@ use Rattle.trace_reading.proofs.Seeing.{sees_rest, sees_keeps}
 
 module _ (J : Instance) (valid : IsValid J) (rules : Rules) (value : ℕ) where
   -- where End is printed next, nothing else is
-  prints_last : (xs ys : List Step) (s z : State) → Keeps J s → Idles rules s xs z → step rules z ≡ Prints (End value) → IsWholeRun rules s ys
+  prints_last : (xs ys : List Step) (s z : State) → Keeps J s → Idles rules s xs z → step rules z ≡ Prints (End value)
+      → IsWholeRun rules s ys
       → printed_of ys ≡ End value ∷ []
   prints_last xs [] s z keeps idles prints whole = absurd whole
   prints_last [] (y ∷ ys) s z keeps idles prints whole =
       let here : step rules s ≡ Prints (End value) = ap (step rules) idles ∙ prints in
-      let none : ys ≡ [] = subst (λ b. MatchBool b (ys ≡ []) (IsWholeRun rules (after s (step rules s)) ys)) (ap is_end here) whole.1 in
-      ap (λ (v : Step). cons_option (event_of v.move) (printed_of ys)) whole.0 ∙ ap (λ m. cons_option (event_of m) (printed_of ys)) here
+      let none : ys ≡ [] = subst (λ b. MatchBool b (ys ≡ []) (IsWholeRun rules (after s (step rules s)) ys))
+      (ap is_end here) whole.1 in
+      ap (λ (v : Step). cons_option (event_of v.move) (printed_of ys)) whole.0
+      ∙ ap (λ m. cons_option (event_of m) (printed_of ys)) here
       ∙ ap (λ us. End value ∷ printed_of us) none
   prints_last (x ∷ xs) (y ∷ ys) s z keeps idles prints whole =
       let same : step rules s ≡ open_step rules s = step_open rules s idles.2 in
       let on : IsWholeRun rules (after s (step rules s)) ys =
-      subst (λ b. MatchBool b (ys ≡ []) (IsWholeRun rules (after s (step rules s)) ys)) (ap is_end same ∙ not_end J valid rules s keeps) whole.1 in
-      ap (λ (v : Step). cons_option (event_of v.move) (printed_of ys)) whole.0 ∙ ap (λ m. cons_option (event_of m) (printed_of ys)) same
+      subst (λ b. MatchBool b (ys ≡ []) (IsWholeRun rules (after s (step rules s)) ys))
+      (ap is_end same ∙ not_end J valid rules s keeps) whole.1 in
+      ap (λ (v : Step). cons_option (event_of v.move) (printed_of ys)) whole.0
+      ∙ ap (λ m. cons_option (event_of m) (printed_of ys)) same
       ∙ ap (λ o. cons_option o (printed_of ys)) idles.1
       ∙ prints_last xs ys (after s (open_step rules s)) z (open_kept J valid s keeps rules) idles.3 prints
       (subst (λ m. IsWholeRun rules (after s m) ys) same on)
@@ -45,16 +50,20 @@ module _ (ls : List (List ℕ)) (S : Session) (floor : ℕ) (z : State) (sees : 
     (next : PrintsNext S.rules z (End value) y) where
   -- the run prints what it has printed, and End
   pub ended_run : printed (instance_of S) ≡ printed_of sees.steps ++ End value ∷ []
-  ended_run = let it : (ys : List Step) × IsWholeRun S.rules z ys × (printed (instance_of S) ≡ printed_of sees.steps ++ printed_of ys) =
+  ended_run = let it : (ys : List Step) × IsWholeRun S.rules z ys
+      × (printed (instance_of S) ≡ printed_of sees.steps ++ printed_of ys) =
       sees_rest ls S floor z sees in
-      it.2 ∙ ap (λ es. printed_of sees.steps ++ es) (prints_last (instance_of S) sees.valid.jobs S.rules value next.steps it.0 z y
+      it.2 ∙ ap (λ es. printed_of sees.steps ++ es)
+      (prints_last (instance_of S) sees.valid.jobs S.rules value next.steps it.0 z y
       (sees_keeps ls S floor z sees) next.idles next.prints it.1)
 
   -- with its text the trace is whole
   pub ended_trace : ls ++ text_of (End value) ∷ [] ≡ trace_lines S
   ended_trace = ap (λ xs. xs ++ text_of (End value) ∷ []) sees.lines
-      ∙ sym (ap (λ xs. header S.rules ∷ xs) (map-append text_of_line (lines_among S (printed_of sees.steps)) (Printed (End value) ∷ [])))
-      ∙ ap (λ xs. header S.rules ∷ map text_of_line xs) (sym (put_in-more_steps (places_of S) 0 (printed_of sees.steps) (End value ∷ []) sees.within))
+      ∙ sym (ap (λ xs. header S.rules ∷ xs)
+      (map-append text_of_line (lines_among S (printed_of sees.steps)) (Printed (End value) ∷ [])))
+      ∙ ap (λ xs. header S.rules ∷ map text_of_line xs)
+      (sym (put_in-more_steps (places_of S) 0 (printed_of sees.steps) (End value ∷ []) sees.within))
       ∙ ap (texts_among S) (sym ended_run)
 
   -- the value is that of the run

@@ -3,15 +3,19 @@ use Rattle.std.proofs.Common.{◌≡◌, ℕ, ◌≤◌, max, List, [], ◌∷�
 use Rattle.std.proofs.lemmas.List.{append_assoc, append-nil}
 use Rattle.dover_model.specs.JobFacts.{JobFacts}
 use Rattle.dover_model.specs.Instance.{Rules, IsValid}
-use Rattle.dover_model.specs.Session.{Item, JobItem, RefusedItem, Session, instance_of, admitted_jobs, FollowsItems, IsValidSession}
+use Rattle.dover_model.specs.Session.{Item, JobItem, RefusedItem, Session, instance_of, admitted_jobs, FollowsItems}
+use Rattle.dover_model.specs.Session.{IsValidSession}
 use Rattle.dover_model.proofs.Growing.{Reads, reads_new}
 use Rattle.dover_model.proofs.Walks.{Takes, takes, session_with, tick_of_item, follows_next, jobs_append}
 use Rattle.trace_reading.specs.Reading.{mark_after}
 
 -- items that may stand behind others
-pub follows_behind : (rules : Rules) (jobs : List JobFacts) (mark : ℕ) (items more : List Item) → FollowsItems rules jobs mark items
-    → FollowsItems rules (jobs ++ admitted_jobs items) (mark_after mark items) more → FollowsItems rules jobs mark (items ++ more)
-follows_behind rules jobs mark [] more follows behind = subst (λ js. FollowsItems rules js mark more) (append-nil jobs) behind
+pub follows_behind : (rules : Rules) (jobs : List JobFacts) (mark : ℕ) (items more : List Item)
+    → FollowsItems rules jobs mark items
+    → FollowsItems rules (jobs ++ admitted_jobs items) (mark_after mark items) more
+    → FollowsItems rules jobs mark (items ++ more)
+follows_behind rules jobs mark [] more follows behind =
+    subst (λ js. FollowsItems rules js mark more) (append-nil jobs) behind
 follows_behind rules jobs mark (JobItem j ∷ items) more follows behind = (
   follows.0,
   follows_behind rules (jobs ++ j ∷ []) (max mark j.release) items more follows.1
@@ -22,37 +26,46 @@ follows_behind rules jobs mark (RefusedItem r ∷ items) more follows behind =
     (follows.0, follows_behind rules jobs (max mark r.at) items more follows.1 behind)
 
 -- and the other way round
-pub behind_follows : (rules : Rules) (jobs : List JobFacts) (mark : ℕ) (items more : List Item) → FollowsItems rules jobs mark (items ++ more)
+pub behind_follows : (rules : Rules) (jobs : List JobFacts) (mark : ℕ) (items more : List Item)
+    → FollowsItems rules jobs mark (items ++ more)
     → FollowsItems rules (jobs ++ admitted_jobs items) (mark_after mark items) more
-behind_follows rules jobs mark [] more follows = subst (λ js. FollowsItems rules js mark more) (sym (append-nil jobs)) follows
+behind_follows rules jobs mark [] more follows =
+    subst (λ js. FollowsItems rules js mark more) (sym (append-nil jobs)) follows
 behind_follows rules jobs mark (JobItem j ∷ items) more follows =
-    subst (λ js. FollowsItems rules js (mark_after (max mark j.release) items) more) (append_assoc jobs (j ∷ []) (admitted_jobs items))
+    subst (λ js. FollowsItems rules js (mark_after (max mark j.release) items) more)
+    (append_assoc jobs (j ∷ []) (admitted_jobs items))
     (behind_follows rules (jobs ++ j ∷ []) (max mark j.release) items more follows.1)
-behind_follows rules jobs mark (RefusedItem r ∷ items) more follows = behind_follows rules jobs (max mark r.at) items more follows.1
+behind_follows rules jobs mark (RefusedItem r ∷ items) more follows =
+    behind_follows rules jobs (max mark r.at) items more follows.1
 
 -- the mark after one item more
-pub mark_behind : (mark : ℕ) (items : List Item) (item : Item) → mark_after mark (items ++ item ∷ []) ≡ mark_after (mark_after mark items) (item ∷ [])
+pub mark_behind : (mark : ℕ) (items : List Item) (item : Item)
+    → mark_after mark (items ++ item ∷ []) ≡ mark_after (mark_after mark items) (item ∷ [])
 mark_behind mark [] item = refl
 mark_behind mark (JobItem j ∷ items) item = mark_behind (max mark j.release) items item
 mark_behind mark (RefusedItem r ∷ items) item = mark_behind (max mark r.at) items item
 
 -- the mark after a first item that may follow
-mark_next : (rules : Rules) (jobs : List JobFacts) (mark : ℕ) (x : Item) (more : List Item) → FollowsItems rules jobs mark (x ∷ more)
+mark_next : (rules : Rules) (jobs : List JobFacts) (mark : ℕ) (x : Item) (more : List Item)
+    → FollowsItems rules jobs mark (x ∷ more)
     → mark_after (tick_of_item x) more ≡ mark_after mark (x ∷ more)
 mark_next rules jobs mark (JobItem j) more follows = ap (λ m. mark_after m more) (sym (later j.release follows.0)) where
   later : (t : ℕ) → mark ≤ t → max mark t ≡ t
   later t ordered = omega arith
-mark_next rules jobs mark (RefusedItem r) more follows = ap (λ m. mark_after m more) (sym (later r.at follows.0.no_fall)) where
-  later : (t : ℕ) → mark ≤ t → max mark t ≡ t
-  later t ordered = omega arith
+mark_next rules jobs mark (RefusedItem r) more follows =
+    ap (λ m. mark_after m more) (sym (later r.at follows.0.no_fall)) where
+      later : (t : ℕ) → mark ≤ t → max mark t ≡ t
+      later t ordered = omega arith
 
 -- a valid session is read up to its mark, item by item
 reads_items : (rules : Rules) (more items : List Item) (mark : ℕ) → Reads (session_with rules items) mark
     → FollowsItems rules (admitted_jobs items) mark more → IsValid (instance_of (session_with rules (items ++ more)))
     → Reads (session_with rules (items ++ more)) (mark_after mark more)
-reads_items rules [] items mark reads follows valid = subst (λ xs. Reads (session_with rules xs) mark) (sym (append-nil items)) reads
+reads_items rules [] items mark reads follows valid =
+    subst (λ xs. Reads (session_with rules xs) mark) (sym (append-nil items)) reads
 reads_items rules (x ∷ more) items mark reads follows valid =
-    let one : Takes (session_with rules items) x = takes rules items mark reads x more follows (jobs_append rules items (x ∷ more) valid) in
+    let one : Takes (session_with rules items) x =
+    takes rules items mark reads x more follows (jobs_append rules items (x ∷ more) valid) in
     let same : (items ++ x ∷ []) ++ more ≡ items ++ (x ∷ more) = append_assoc items (x ∷ []) more in
     subst (Reads (session_with rules (items ++ (x ∷ more)))) (mark_next rules (admitted_jobs items) mark x more follows)
     (subst (λ xs. Reads (session_with rules xs) (mark_after (tick_of_item x) more)) same

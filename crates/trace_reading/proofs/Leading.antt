@@ -1,5 +1,6 @@
 -- Open steps that lead from one state to another.
-use Rattle.std.proofs.Common.{◌≡◌, ℕ, suc, ◌+◌, ◌≤◌, ◌<◌, ◌⊎◌, inl, inr, List, [], ◌∷◌, ◌++◌, refl, sym, ap, ◌∙◌, subst, Bool, true, false, cond, arith}
+use Rattle.std.proofs.Common.{◌≡◌, ℕ, suc, ◌+◌, ◌≤◌, ◌<◌, ◌⊎◌, inl, inr, List, [], ◌∷◌, ◌++◌, refl, sym, ap, ◌∙◌, subst}
+use Rattle.std.proofs.Common.{Bool, true, false, cond, arith}
 use Rattle.std.specs.Prelude.{nat_le, ◌&&◌, Option, None, Some}
 use Rattle.std.specs.Bool.{MatchBool, then_some}
 use Rattle.std.specs.List.{list_all, cons_option, filter}
@@ -32,13 +33,16 @@ none_printed None es none = (refl, none)
 none_printed (Some e) es none = absurd (let clash : e ∷ es ≡ [] = none in cc)
 
 -- what is before a mark is before a later one
-before_later : (late : Bool) (mark later clock : ℕ) → mark ≤ later → (late && nat_le mark clock) ≡ false → (late && nat_le later clock) ≡ false
-before_later true mark later clock onward before = let early : clock < mark = leb-false _ _ before in lt-leb later clock (omega arith)
+before_later : (late : Bool) (mark later clock : ℕ) → mark ≤ later → (late && nat_le mark clock) ≡ false
+    → (late && nat_le later clock) ≡ false
+before_later true mark later clock onward before = let early : clock < mark = leb-false _ _ before in
+    lt-leb later clock (omega arith)
 before_later false mark later clock onward before = refl
 
 module _ (rules : Rules) where
   -- at a later mark
-  pub leads_later_mark : (mark later : ℕ) → mark ≤ later → (xs : List Step) (s z : State) → Leads rules mark s xs z → Leads rules later s xs z
+  pub leads_later_mark : (mark later : ℕ) → mark ≤ later → (xs : List Step) (s z : State) → Leads rules mark s xs z
+      → Leads rules later s xs z
   leads_later_mark mark later onward [] s z leads = leads
   leads_later_mark mark later onward (x ∷ xs) s z leads = (
     leads.0,
@@ -57,41 +61,49 @@ module _ (rules : Rules) where
   -- steps that pass, also where all jobs are over
   pub leads_passes : (mark : ℕ) (xs : List Step) (s z : State) → Leads rules mark s xs z → Passes rules mark s xs z
   leads_passes mark [] s z leads = leads
-  leads_passes mark (x ∷ xs) s z leads = (leads.0, leads.1, leads_passes mark xs (after s (open_step rules s)) z leads.3)
+  leads_passes mark (x ∷ xs) s z leads =
+      (leads.0, leads.1, leads_passes mark xs (after s (open_step rules s)) z leads.3)
 
   -- silent steps pass
   pub settles_passes : (mark : ℕ) (xs : List Step) (s z : State) → Settles rules mark s xs z → Passes rules mark s xs z
   settles_passes mark [] s z leads = leads
-  settles_passes mark (x ∷ xs) s z leads = (leads.0, leads.1, settles_passes mark xs (after s (open_step rules s)) z leads.3)
+  settles_passes mark (x ∷ xs) s z leads =
+      (leads.0, leads.1, settles_passes mark xs (after s (open_step rules s)) z leads.3)
 
   -- steps that pass, and further ones
-  pub passes_append : (mark : ℕ) (xs ys : List Step) (s y z : State) → Passes rules mark s xs y → Passes rules mark y ys z
+  pub passes_append : (mark : ℕ) (xs ys : List Step) (s y z : State) → Passes rules mark s xs y
+      → Passes rules mark y ys z
       → Passes rules mark s (xs ++ ys) z
   passes_append mark [] ys s y z one next = subst (λ u. Passes rules mark u ys z) (sym one) next
-  passes_append mark (x ∷ xs) ys s y z one next = (one.0, one.1, passes_append mark xs ys (after s (open_step rules s)) y z one.2 next)
+  passes_append mark (x ∷ xs) ys s y z one next =
+      (one.0, one.1, passes_append mark xs ys (after s (open_step rules s)) y z one.2 next)
 
   -- idle steps, and further ones
-  pub idles_append : (xs ys : List Step) (s y z : State) → Idles rules s xs y → Idles rules y ys z → Idles rules s (xs ++ ys) z
+  pub idles_append : (xs ys : List Step) (s y z : State) → Idles rules s xs y → Idles rules y ys z
+      → Idles rules s (xs ++ ys) z
   idles_append [] ys s y z one next = subst (λ u. Idles rules u ys z) (sym one) next
   idles_append (x ∷ xs) ys s y z one next =
       (one.0, one.1, one.2, idles_append xs ys (after s (open_step rules s)) y z one.3 next)
 
   -- silent steps, and further ones
-  pub settles_append : (mark : ℕ) (xs ys : List Step) (s y z : State) → Settles rules mark s xs y → Settles rules mark y ys z
+  pub settles_append : (mark : ℕ) (xs ys : List Step) (s y z : State) → Settles rules mark s xs y
+      → Settles rules mark y ys z
       → Settles rules mark s (xs ++ ys) z
   settles_append mark [] ys s y z one next = subst (λ u. Settles rules mark u ys z) (sym one) next
   settles_append mark (x ∷ xs) ys s y z one next =
       (one.0, one.1, one.2, settles_append mark xs ys (after s (open_step rules s)) y z one.3 next)
 
   -- steps that pass and settled ones behind them are settled
-  pub passes_settled : (mark : ℕ) (xs ys : List Step) (s z : State) → Passes rules mark s xs z → IsSettledRun rules mark z ys
+  pub passes_settled : (mark : ℕ) (xs ys : List Step) (s z : State) → Passes rules mark s xs z
+      → IsSettledRun rules mark z ys
       → IsSettledRun rules mark s (xs ++ ys)
   passes_settled mark [] ys s z passes run = subst (λ u. IsSettledRun rules mark u ys) (sym passes) run
   passes_settled mark (x ∷ xs) ys s z passes run =
       (passes.0, passes.1, passes_settled mark xs ys (after s (open_step rules s)) z passes.2 run)
 
   -- a state has one settled run
-  pub settled_once : (mark : ℕ) (xs ys : List Step) (s : State) → IsSettledRun rules mark s xs → IsSettledRun rules mark s ys → xs ≡ ys
+  pub settled_once : (mark : ℕ) (xs ys : List Step) (s : State) → IsSettledRun rules mark s xs
+      → IsSettledRun rules mark s ys → xs ≡ ys
   settled_once mark [] [] s one other = refl
   settled_once mark [] (y ∷ ys) s one other = never (sym other.1 ∙ one)
   settled_once mark (x ∷ xs) [] s one other = never (sym one.1 ∙ other)
@@ -104,7 +116,8 @@ module _ (rules : Rules) where
       → (z : State) × Settles rules mark s xs z × IsBarrier rules mark z
   settled_settles mark [] s run silent = (s, refl, run)
   settled_settles mark (x ∷ xs) s run silent =
-      let both : (event_of x.move ≡ None) × (printed_of xs ≡ []) = none_printed (event_of x.move) (printed_of xs) silent in
+      let both : (event_of x.move ≡ None) × (printed_of xs ≡ []) =
+      none_printed (event_of x.move) (printed_of xs) silent in
       let here : event_of (open_step rules s) ≡ None = sym (ap (λ (y : Step). event_of y.move) run.0) ∙ both.0 in
       let rest : (z : State) × Settles rules mark (after s (open_step rules s)) xs z × IsBarrier rules mark z =
       settled_settles mark xs (after s (open_step rules s)) run.2 both.1 in
@@ -114,7 +127,8 @@ module _ (rules : Rules) where
   pub settles_silent : (mark : ℕ) (xs : List Step) (s z : State) → Settles rules mark s xs z → printed_of xs ≡ []
   settles_silent mark [] s z settles = refl
   settles_silent mark (x ∷ xs) s z settles = ap (λ (y : Step). cons_option (event_of y.move) (printed_of xs)) settles.0
-      ∙ ap (λ o. cons_option o (printed_of xs)) settles.2 ∙ settles_silent mark xs (after s (open_step rules s)) z settles.3
+      ∙ ap (λ o. cons_option o (printed_of xs)) settles.2
+      ∙ settles_silent mark xs (after s (open_step rules s)) z settles.3
 
   -- so do idle ones
   pub idles_silent : (xs : List Step) (s z : State) → Idles rules s xs z → printed_of xs ≡ []
@@ -123,15 +137,18 @@ module _ (rules : Rules) where
       ∙ ap (λ o. cons_option o (printed_of xs)) idles.1 ∙ idles_silent xs (after s (open_step rules s)) z idles.3
 
   -- the silent steps don't both reach the barrier and come to a printed step before it
-  pub settles_or_prints : (mark : ℕ) (xs ys : List Step) (s y z : State) (e : Event) → Settles rules mark s xs y → IsBefore rules mark y
+  pub settles_or_prints : (mark : ℕ) (xs ys : List Step) (s y z : State) (e : Event) → Settles rules mark s xs y
+      → IsBefore rules mark y
       → open_step rules y ≡ Prints e → Settles rules mark s ys z → IsBarrier rules mark z → ⊥
   settles_or_prints mark [] [] s y z e one before prints other here =
       never (sym (subst (IsBefore rules mark) (sym one ∙ other) before) ∙ here)
   settles_or_prints mark [] (v ∷ ys) s y z e one before prints other here =
       absurd (let silent : event_of (open_step rules s) ≡ None = other.2 in
-      let printed : event_of (open_step rules s) ≡ Some e = ap (λ u. event_of (open_step rules u)) one ∙ ap event_of prints in
+      let printed : event_of (open_step rules s) ≡ Some e = ap (λ u. event_of (open_step rules u)) one
+      ∙ ap event_of prints in
       let clash : None ≡ Some e = sym silent ∙ printed in cc)
-  settles_or_prints mark (x ∷ xs) [] s y z e one before prints other here = never (sym one.1 ∙ subst (IsBarrier rules mark) (sym other) here)
+  settles_or_prints mark (x ∷ xs) [] s y z e one before prints other here =
+      never (sym one.1 ∙ subst (IsBarrier rules mark) (sym other) here)
   settles_or_prints mark (x ∷ xs) (v ∷ ys) s y z e one before prints other here =
       settles_or_prints mark xs ys (after s (open_step rules s)) y z e one.3 before prints other.3 here
 
@@ -146,12 +163,14 @@ late_silent Ticks late silent = refl
 -- the clock doesn't fall
 clock_rises : (s : State) (m : Move) → s.clock ≤ (after s m).clock
 clock_rises s m = by_clock (clock_after s m) where
-  by_clock : ((after s m).clock ≡ s.clock) ⊎ ((m ≡ Ticks) × ((after s m).clock ≡ s.clock + 1)) → s.clock ≤ (after s m).clock
+  by_clock : ((after s m).clock ≡ s.clock) ⊎ ((m ≡ Ticks) × ((after s m).clock ≡ s.clock + 1))
+      → s.clock ≤ (after s m).clock
   by_clock (inl same) = omega arith
   by_clock (inr it) = let next : (after s m).clock ≡ s.clock + 1 = it.1 in omega arith
 
 -- a silent step that leaves the clock before a tick, or at it, is before that tick
-tick_before : (rules : Rules) (mark : ℕ) (s : State) → IsSilent (open_step rules s) → (after s (open_step rules s)).clock ≤ mark
+tick_before : (rules : Rules) (mark : ℕ) (s : State) → IsSilent (open_step rules s)
+    → (after s (open_step rules s)).clock ≤ mark
     → IsBefore rules mark s
 tick_before rules mark s silent low = by_late (is_late (open_step rules s)) refl where
   by_late : (b : Bool) → is_late (open_step rules s) ≡ b → (b && nat_le mark s.clock) ≡ false
@@ -161,13 +180,16 @@ tick_before rules mark s silent low = by_late (is_late (open_step rules s)) refl
   by_late false early = refl
 
 -- a silent step before a tick leaves the clock before it, or at it
-before_tick : (rules : Rules) (mark : ℕ) (s : State) → IsBefore rules mark s → s.clock ≤ mark → (after s (open_step rules s)).clock ≤ mark
+before_tick : (rules : Rules) (mark : ℕ) (s : State) → IsBefore rules mark s → s.clock ≤ mark
+    → (after s (open_step rules s)).clock ≤ mark
 before_tick rules mark s before low = by_clock (clock_after s (open_step rules s)) where
-  by_clock : ((after s (open_step rules s)).clock ≡ s.clock) ⊎ ((open_step rules s ≡ Ticks) × ((after s (open_step rules s)).clock ≡ s.clock + 1))
+  by_clock : ((after s (open_step rules s)).clock ≡ s.clock)
+      ⊎ ((open_step rules s ≡ Ticks) × ((after s (open_step rules s)).clock ≡ s.clock + 1))
       → (after s (open_step rules s)).clock ≤ mark
   by_clock (inl same) = omega arith
   by_clock (inr it) = let next : (after s (open_step rules s)).clock ≡ s.clock + 1 = it.1 in
-      let early : s.clock < mark = late_early (is_late (open_step rules s)) mark s.clock before (ap is_late it.0) in omega arith
+      let early : s.clock < mark = late_early (is_late (open_step rules s)) mark s.clock before (ap is_late it.0) in
+      omega arith
 
 module _ (rules : Rules) where
   -- idle steps don't turn the clock back
@@ -187,7 +209,8 @@ module _ (rules : Rules) where
   )
 
   -- idle steps up to a mark are silent steps before it
-  pub idles_settles : (mark : ℕ) (xs : List Step) (s z : State) → Idles rules s xs z → z.clock ≤ mark → Settles rules mark s xs z
+  pub idles_settles : (mark : ℕ) (xs : List Step) (s z : State) → Idles rules s xs z → z.clock ≤ mark
+      → Settles rules mark s xs z
   idles_settles mark [] s z idles low = idles
   idles_settles mark (x ∷ xs) s z idles low = (
     idles.0,
@@ -198,8 +221,10 @@ module _ (rules : Rules) where
   )
 
   -- silent steps up to a mark leave the clock before it, or at it
-  pub settles_clock : (mark : ℕ) (xs : List Step) (s z : State) → Settles rules mark s xs z → s.clock ≤ mark → z.clock ≤ mark
-  settles_clock mark [] s z settles low = let same : s.clock ≡ z.clock = ap (λ (u : State). u.clock) settles in omega arith
+  pub settles_clock : (mark : ℕ) (xs : List Step) (s z : State) → Settles rules mark s xs z → s.clock ≤ mark
+      → z.clock ≤ mark
+  settles_clock mark [] s z settles low = let same : s.clock ≡ z.clock = ap (λ (u : State). u.clock) settles in
+      omega arith
   settles_clock mark (x ∷ xs) s z settles low =
       settles_clock mark xs (after s (open_step rules s)) z settles.3 (before_tick rules mark s settles.1 low)
 
@@ -209,7 +234,8 @@ module _ (J : Instance) (valid : IsValid J) (rules : Rules) where
   -- steps that pass keep a sound state
   pub passes_keeps : (mark : ℕ) (xs : List Step) (s z : State) → Keeps J s → Passes rules mark s xs z → Keeps J z
   passes_keeps mark [] s z keeps passes = subst (Keeps J) passes keeps
-  passes_keeps mark (x ∷ xs) s z keeps passes = passes_keeps mark xs (after s (open_step rules s)) z (open_kept J valid s keeps rules) passes.2
+  passes_keeps mark (x ∷ xs) s z keeps passes =
+      passes_keeps mark xs (after s (open_step rules s)) z (open_kept J valid s keeps rules) passes.2
 
   -- an open step isn't End
   pub not_end : (s : State) → Keeps J s → is_end (open_step rules s) ≡ false
@@ -218,20 +244,24 @@ module _ (J : Instance) (valid : IsValid J) (rules : Rules) where
     none = (λ t m. absurd m, λ t m. absurd m)
 
   -- where all jobs are over, the run ends
-  pub over_ends : (s : State) → Keeps J s → list_all is_over s.tasks ≡ true → step rules s ≡ Prints (End (value_sum (filter is_done s.tasks)))
-  over_ends s keeps over = over_rests rules.ratio s (ending s or_else Ticks) (all_each is_over s.tasks over) (step rules s)
+  pub over_ends : (s : State) → Keeps J s → list_all is_over s.tasks ≡ true
+      → step rules s ≡ Prints (End (value_sum (filter is_done s.tasks)))
+  over_ends s keeps over =
+      over_rests rules.ratio s (ending s or_else Ticks) (all_each is_over s.tasks over) (step rules s)
       (step_deed J valid s keeps rules)
       ∙ ap (λ b. then_some b (Prints (End (value_sum (filter is_done s.tasks)))) or_else Ticks) over
 
   -- before a step that isn't End some job isn't over
-  pub prints_goes_on : (s : State) (e : Event) → Keeps J s → step rules s ≡ Prints e → is_end (Prints e) ≡ false → GoesOn s
+  pub prints_goes_on : (s : State) (e : Event) → Keeps J s → step rules s ≡ Prints e → is_end (Prints e) ≡ false
+      → GoesOn s
   prints_goes_on s e keeps prints more = by_over (list_all is_over s.tasks) refl where
     by_over : (b : Bool) → list_all is_over s.tasks ≡ b → list_all is_over s.tasks ≡ false
     by_over true over = never (sym more ∙ ap is_end (sym prints ∙ over_ends s keeps over))
     by_over false on = on
 
   -- a whole run behind steps that lead
-  pub leads_whole : (mark : ℕ) (xs ys : List Step) (s z : State) → Keeps J s → Leads rules mark s xs z → IsWholeRun rules z ys
+  pub leads_whole : (mark : ℕ) (xs ys : List Step) (s z : State) → Keeps J s → Leads rules mark s xs z
+      → IsWholeRun rules z ys
       → IsWholeRun rules s (xs ++ ys)
   leads_whole mark [] ys s z keeps leads whole = subst (λ u. IsWholeRun rules u ys) (sym leads) whole
   leads_whole mark (x ∷ xs) ys s z keeps leads whole =
@@ -240,34 +270,40 @@ module _ (J : Instance) (valid : IsValid J) (rules : Rules) where
       leads_whole mark xs ys (after s (open_step rules s)) z (open_kept J valid s keeps rules) leads.3 whole in (
         leads.0 ∙ ap (step_with s) (sym same),
         subst (λ b. MatchBool b ((xs ++ ys) ≡ []) (IsWholeRun rules (after s (step rules s)) (xs ++ ys)))
-            (sym (ap is_end same ∙ not_end s keeps)) (subst (λ m. IsWholeRun rules (after s m) (xs ++ ys)) (sym same) rest),
+            (sym (ap is_end same ∙ not_end s keeps))
+            (subst (λ m. IsWholeRun rules (after s m) (xs ++ ys)) (sym same) rest),
       ) where
         step_with : State → Move → Step
         step_with u m = record { before = u; move = m }
 
   -- what a run prints next
-  pub prints_first : (xs ys : List Step) (s z : State) (e : Event) → Keeps J s → Idles rules s xs z → step rules z ≡ Prints e
+  pub prints_first : (xs ys : List Step) (s z : State) (e : Event) → Keeps J s → Idles rules s xs z
+      → step rules z ≡ Prints e
       → IsWholeRun rules s ys → (more : List Event) × (printed_of ys ≡ e ∷ more)
   prints_first xs [] s z e keeps idles prints whole = absurd whole
   prints_first [] (y ∷ ys) s z e keeps idles prints whole = (
     printed_of ys,
     ap (λ (v : Step). cons_option (event_of v.move) (printed_of ys)) whole.0
-        ∙ ap (λ u. cons_option (event_of (step rules u)) (printed_of ys)) idles ∙ ap (λ m. cons_option (event_of m) (printed_of ys)) prints,
+        ∙ ap (λ u. cons_option (event_of (step rules u)) (printed_of ys)) idles
+        ∙ ap (λ m. cons_option (event_of m) (printed_of ys)) prints,
   )
   prints_first (x ∷ xs) (y ∷ ys) s z e keeps idles prints whole =
       let same : step rules s ≡ open_step rules s = step_open rules s idles.2 in
       let on : IsWholeRun rules (after s (step rules s)) ys =
-      subst (λ b. MatchBool b (ys ≡ []) (IsWholeRun rules (after s (step rules s)) ys)) (ap is_end same ∙ not_end s keeps) whole.1 in
+      subst (λ b. MatchBool b (ys ≡ []) (IsWholeRun rules (after s (step rules s)) ys))
+      (ap is_end same ∙ not_end s keeps) whole.1 in
       let rest : (more : List Event) × (printed_of ys ≡ e ∷ more) =
       prints_first xs ys (after s (open_step rules s)) z e (open_kept J valid s keeps rules) idles.3 prints
       (subst (λ m. IsWholeRun rules (after s m) ys) same on) in (
         rest.0,
-        ap (λ (v : Step). cons_option (event_of v.move) (printed_of ys)) whole.0 ∙ ap (λ m. cons_option (event_of m) (printed_of ys)) same
+        ap (λ (v : Step). cons_option (event_of v.move) (printed_of ys)) whole.0
+            ∙ ap (λ m. cons_option (event_of m) (printed_of ys)) same
             ∙ ap (λ o. cons_option o (printed_of ys)) idles.1 ∙ rest.1,
       )
 
   -- what is settled at a tick before the next printed step is settled prints nothing
-  pub stops_before : (mark : ℕ) (xs ys : List Step) (s z : State) (e : Event) → Keeps J s → s.clock ≤ mark → Idles rules s xs z
+  pub stops_before : (mark : ℕ) (xs ys : List Step) (s z : State) (e : Event) → Keeps J s → s.clock ≤ mark
+      → Idles rules s xs z
       → open_step rules z ≡ Prints e → mark < floor_after z e → IsSettledRun rules mark s ys → printed_of ys ≡ []
   stops_before mark xs [] s z e keeps low idles prints early run = refl
   stops_before mark [] (y ∷ ys) s z e keeps low idles prints early run =
@@ -280,11 +316,14 @@ module _ (J : Instance) (valid : IsValid J) (rules : Rules) where
 
         by_late : (b : Bool) → is_late (Prints e) ≡ b → mark < cond b (suc z.clock) z.clock → ⊥
         by_late true late less =
-            let first : s.clock < mark = late_early (is_late (open_step rules s)) mark s.clock run.1 (late_here ∙ late) in omega (arith, same)
+            let first : s.clock < mark =
+            late_early (is_late (open_step rules s)) mark s.clock run.1 (late_here ∙ late) in omega (arith, same)
         by_late false not_late less = omega (arith, same)
   stops_before mark (x ∷ xs) (y ∷ ys) s z e keeps low idles prints early run =
-      ap (λ (v : Step). cons_option (event_of v.move) (printed_of ys)) run.0 ∙ ap (λ o. cons_option o (printed_of ys)) idles.1
-      ∙ stops_before mark xs ys (after s (open_step rules s)) z e (open_kept J valid s keeps rules) (before_tick rules mark s run.1 low) idles.3
+      ap (λ (v : Step). cons_option (event_of v.move) (printed_of ys)) run.0
+      ∙ ap (λ o. cons_option o (printed_of ys)) idles.1
+      ∙ stops_before mark xs ys (after s (open_step rules s)) z e (open_kept J valid s keeps rules)
+      (before_tick rules mark s run.1 low) idles.3
       prints early run.2
 
 -- ---- with jobs behind
@@ -296,17 +335,21 @@ pub record Later (rules : Rules) (mark : ℕ) (s z : State) (more : List Task) (
   pub printed : printed_of steps ≡ printed_of xs
 
 -- where a job is to come, some job isn't over
-pub coming_goes_on : (s : State) (more : List Task) (u : Task) → IsMember u more → u.role ≡ Coming → GoesOn (with_later s more)
+pub coming_goes_on : (s : State) (more : List Task) (u : Task) → IsMember u more → u.role ≡ Coming
+    → GoesOn (with_later s more)
 coming_goes_on s more u member comes = false_from_ne_true _ clash where
   clash : list_all is_over (s.tasks ++ more) ≡ true → ⊥
-  clash all = never (sym (passes is_over u Coming false comes refl) ∙ all_each is_over (s.tasks ++ more) all u (member_behind s.tasks more u member))
+  clash all = never (sym (passes is_over u Coming false comes refl)
+      ∙ all_each is_over (s.tasks ++ more) all u (member_behind s.tasks more u member))
 
-module _ (J : Instance) (valid : IsValid J) (K : Instance) (valid_more : IsValid K) (rules : Rules) (mark : ℕ) (more : List Task)
+module _ (J : Instance) (valid : IsValid J) (K : Instance) (valid_more : IsValid K) (rules : Rules) (mark : ℕ)
+    (more : List Task)
     (come : AllComeFrom mark more) (u : Task) (member : IsMember u more) where
   -- steps that pass lead on with jobs behind, which come at the mark or later
   pub passes_later : (xs : List Step) (s z : State) → Keeps J s → Keeps K (with_later s more) → Passes rules mark s xs z
       → Later rules mark s z more xs
-  passes_later [] s z keeps keeps_more passes = record { steps = []; leads = ap (λ v. with_later v more) passes; printed = refl }
+  passes_later [] s z keeps keeps_more passes =
+      record { steps = []; leads = ap (λ v. with_later v more) passes; printed = refl }
   passes_later (x ∷ xs) s z keeps keeps_more passes =
       let step_same : open_step rules (with_later s more) ≡ open_step rules s =
       behind_step J valid K valid_more rules mark more come s keeps keeps_more passes.1 in

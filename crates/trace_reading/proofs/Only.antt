@@ -1,5 +1,6 @@
 -- No other lines continue a trace.
-use Rattle.std.proofs.Common.{◌≡◌, ℕ, suc, ◌+◌, ◌≤◌, ◌<◌, ◌⊎◌, inl, inr, List, [], ◌∷◌, ◌++◌, length, length-append, map, refl, sym, ap, ◌∙◌, subst}
+use Rattle.std.proofs.Common.{◌≡◌, ℕ, suc, ◌+◌, ◌≤◌, ◌<◌, ◌⊎◌, inl, inr, List, [], ◌∷◌, ◌++◌, length, length-append}
+use Rattle.std.proofs.Common.{map, refl, sym, ap, ◌∙◌, subst}
 use Rattle.std.proofs.Common.{Bool, true, false, cond, not, arith, Option, Some, None, filter_map}
 use Rattle.std.specs.Prelude.{bytes_eq, nat_lt}
 use Rattle.std.specs.List.{AllByRecursion, cons_option, starts_with}
@@ -16,7 +17,8 @@ use Rattle.dover_model.specs.declared.events.Event.TheVariants.{Release}
 use Rattle.dover_model.specs.declared.events.Refusal.TheVariants.{BadJob, Count, Total, Ratio}
 use Rattle.dover_model.specs.Instance.{Rules, Instance, IsValid, with_jobs, IsWithinRatio, total_value}
 use Rattle.dover_model.specs.Admission.{refusal_of, is_within_ratio_both_ways}
-use Rattle.dover_model.specs.Session.{Item, JobItem, RefusedItem, RefusedJob, Session, FollowsItems, IsValidSession, instance_of, admitted_jobs}
+use Rattle.dover_model.specs.Session.{Item, JobItem, RefusedItem, RefusedJob, Session, FollowsItems, IsValidSession}
+use Rattle.dover_model.specs.Session.{instance_of, admitted_jobs}
 use Rattle.dover_model.specs.Session.{with_item, is_valid_session}
 use Rattle.dover_model.specs.State.{State}
 use Rattle.dover_model.specs.Run.{Step, printed_of}
@@ -29,14 +31,16 @@ use Rattle.dover_model.proofs.Agreement.{is_valid_session-agrees, is_job-agrees,
 use Rattle.dover_model.proofs.Beginnings.{begins_either, begins_onward}
 use Rattle.dover_model.proofs.Members.{some_same}
 use Rattle.dover_model.proofs.Valid.{all_front}
-use Rattle.dover_model.proofs.Growing.{Reads, all_lines, lines_at, job_instance, reads_later, reads_job, lines_job, reads_refused, lines_refused, lines_of_trace}
+use Rattle.dover_model.proofs.Growing.{Reads, all_lines, lines_at, job_instance, reads_later, reads_job, lines_job}
+use Rattle.dover_model.proofs.Growing.{reads_refused, lines_refused, lines_of_trace}
 use Rattle.dover_model.proofs.TraceLines.{HasShortNumbers, item_of_line, item_of-text_of_line}
 use Rattle.dover_model.proofs.ShortNumbers.{lines_short}
 use Rattle.dover_model.proofs.Walks.{session_with}
 use Rattle.dover_model.proofs.Named.{header_names, texts_name, first_texts}
 use Rattle.dover_model.proofs.Tests.{never, each, both}
 use Rattle.trace_reading.specs.Leading.{Settles, WaitsUntil, PrintsNext}
-use Rattle.trace_reading.specs.Reading.{mark_after, Sees, HasRoom, MayRelease, MayRefuse, release_text, IsReleaseNext, IsRefusedNext}
+use Rattle.trace_reading.specs.Reading.{mark_after, Sees, HasRoom, MayRelease, MayRefuse, release_text, IsReleaseNext}
+use Rattle.trace_reading.specs.Reading.{IsRefusedNext}
 use Rattle.trace_reading.proofs.Items.{behind_follows, reads_mark}
 use Rattle.trace_reading.proofs.Seeing.{sees_next_text, sees_names, sees_short}
 use Rattle.trace_reading.proofs.Leading.{settled_settles}
@@ -54,8 +58,10 @@ module _ {X Y : Type 0} (f : X → Option Y) (y : Y) where
     by_either (inl it) = it
     by_either (inr it) = absurd (
         let all : filter_map f xs ≡ filter_map f ((ys ++ b ∷ []) ++ it.0) = ap (filter_map f) it.1 in
-        let parts : filter_map f ((ys ++ b ∷ []) ++ it.0) ≡ filter_map f (ys ++ b ∷ []) ++ filter_map f it.0 = filter_map-append f (ys ++ b ∷ []) it.0 in
-        let last : filter_map f (ys ++ b ∷ []) ≡ filter_map f ys ++ cons_option (f b) [] = filter_map-append f ys (b ∷ []) in
+        let parts : filter_map f ((ys ++ b ∷ []) ++ it.0) ≡ filter_map f (ys ++ b ∷ []) ++ filter_map f it.0 =
+        filter_map-append f (ys ++ b ∷ []) it.0 in
+        let last : filter_map f (ys ++ b ∷ []) ≡ filter_map f ys ++ cons_option (f b) [] =
+        filter_map-append f ys (b ∷ []) in
         let counted : length (cons_option (f b) []) ≡ 1 = ap (λ o. length (cons_option o [])) names in
         omega (
           arith,
@@ -72,7 +78,8 @@ begin_both : {X : Type 0} (xs ys : List X) → Begins xs ys → Begins ys xs →
 begin_both xs ys one other = by_rest one.0 one.1 where
   by_rest : (rest : List _) → ys ≡ xs ++ rest → xs ≡ ys
   by_rest [] e = sym (e ∙ append-nil xs)
-  by_rest (r ∷ rest) e = absurd (omega (arith, ap length e, length-append xs (r ∷ rest), ap length other.1, length-append ys other.0))
+  by_rest (r ∷ rest) e = absurd
+      (omega (arith, ap length e, length-append xs (r ∷ rest), ap length other.1, length-append ys other.0))
 
 module _ {X : Type 0} where
   -- the rest of equal lists
@@ -86,10 +93,12 @@ module _ {X : Type 0} where
   -- the elements at the end of two beginnings of one length
   same_end : (xs : List X) (a b : X) (zs : List X) → Begins (xs ++ a ∷ []) zs → Begins (xs ++ b ∷ []) zs → a ≡ b
   same_end [] a b [] one other = absurd (omega (arith, ap length one.1))
-  same_end [] a b (z ∷ zs) one other = let e : z ∷ zs ≡ a ∷ one.0 = one.1 in let f : z ∷ zs ≡ b ∷ other.0 = other.1 in cc
+  same_end [] a b (z ∷ zs) one other = let e : z ∷ zs ≡ a ∷ one.0 = one.1 in let f : z ∷ zs ≡ b ∷ other.0 = other.1 in
+      cc
   same_end (x ∷ xs) a b [] one other = absurd (omega (arith, ap length one.1))
   same_end (x ∷ xs) a b (z ∷ zs) one other =
-      same_end xs a b zs (one.0, tails z x zs ((xs ++ a ∷ []) ++ one.0) one.1) (other.0, tails z x zs ((xs ++ b ∷ []) ++ other.0) other.1)
+      same_end xs a b zs (one.0, tails z x zs ((xs ++ a ∷ []) ++ one.0) one.1)
+      (other.0, tails z x zs ((xs ++ b ∷ []) ++ other.0) other.1)
 
 -- a list of which the images are these and one behind them
 record Last {X Y : Type 0} (f : X → Y) (xs : List X) (ys : List Y) (y : Y) : Type 0 where
@@ -111,7 +120,8 @@ module _ {X Y : Type 0} (f : X → Y) where
         front = x ∷ rest.front;
         last = rest.last;
         whole = ap (λ us. x ∷ us) rest.whole;
-        texts = let here : f x ≡ v = heads (f x) v (map f xs) (ys ++ y ∷ []) e in let behind : map f rest.front ≡ ys = rest.texts in cc;
+        texts = let here : f x ≡ v = heads (f x) v (map f xs) (ys ++ y ∷ []) e in let behind : map f rest.front ≡ ys =
+            rest.texts in cc;
         text = rest.text;
       }
 
@@ -128,7 +138,8 @@ all_last P [] y all = all.0
 all_last P (x ∷ xs) y all = all_last P xs y all.1
 
 -- what holds of each with the last, and of the last with each
-all_pairs : {X : Type 0} (R : X → X → Type 0) (xs : List X) (y : X) → AllByRecursion (λ x. AllByRecursion (R x) (xs ++ y ∷ [])) (xs ++ y ∷ [])
+all_pairs : {X : Type 0} (R : X → X → Type 0) (xs : List X) (y : X)
+    → AllByRecursion (λ x. AllByRecursion (R x) (xs ++ y ∷ [])) (xs ++ y ∷ [])
     → AllByRecursion (λ x. R x y × R y x) xs
 all_pairs R xs y all = pairs xs (all_front (λ x. AllByRecursion (R x) (xs ++ y ∷ [])) xs (y ∷ []) all)
     (all_front (R y) xs (y ∷ []) (all_last (λ x. AllByRecursion (R x) (xs ++ y ∷ [])) xs y all)) where
@@ -140,18 +151,26 @@ all_pairs R xs y all = pairs xs (all_front (λ x. AllByRecursion (R x) (xs ++ y 
 -- no cause holds
 none_holds : (a b c d : Bool) → a ≡ false → b ≡ false → c ≡ false → d ≡ false
     → cond a (Some BadJob) (cond b (Some Count) (cond c (Some Total) (cond d (Some Ratio) None))) ≡ None
-none_holds a b c d ea eb ec ed = ap (λ x. cond x (Some BadJob) (cond b (Some Count) (cond c (Some Total) (cond d (Some Ratio) None)))) ea
+none_holds a b c d ea eb ec ed =
+    ap (λ x. cond x (Some BadJob) (cond b (Some Count) (cond c (Some Total) (cond d (Some Ratio) None)))) ea
     ∙ ap (λ x. cond x (Some Count) (cond c (Some Total) (cond d (Some Ratio) None))) eb
     ∙ ap (λ x. cond x (Some Total) (cond d (Some Ratio) None)) ec ∙ ap (λ x. cond x (Some Ratio) None) ed
 
 -- a job that is valid behind others is admitted
-pub valid_admitted : (J : Instance) (j : JobFacts) → IsValid (with_jobs J (j ∷ [])) → refusal_of J.rules.ratio J.jobs j ≡ None
+pub valid_admitted : (J : Instance) (j : JobFacts) → IsValid (with_jobs J (j ∷ []))
+    → refusal_of J.rules.ratio J.jobs j ≡ None
 valid_admitted J j valid = none_holds _ _ _ _ (ap not ((is_job-agrees j).1 (all_last IsJob J.jobs j valid.each)))
-    (let most : length (J.jobs ++ j ∷ []) ≤ 1_000_000 = valid.count in lt-leb 1_000_000 (length J.jobs) (omega (arith, length-append J.jobs (j ∷ []))))
+    (let most : length (J.jobs ++ j ∷ []) ≤ 1_000_000 = valid.count in
+    lt-leb 1_000_000 (length J.jobs) (omega (arith, length-append J.jobs (j ∷ []))))
     (let most : total_value (J.jobs ++ j ∷ []) ≤ 10_000_000_000_000 = valid.total in
     lt-leb (suc 10_000_000_000_000) (total_value J.jobs + j.value)
-    (omega (arith, sum_by-append (λ (i : JobFacts). i.value) J.jobs (j ∷ []), sum_by-cons (λ (i : JobFacts). i.value) j [])))
-    (ap not ((each (λ i. is_within_ratio_both_ways J.rules.ratio i j) (λ i. IsWithinRatio J.rules.ratio i j × IsWithinRatio J.rules.ratio j i)
+    (omega (
+      arith,
+      sum_by-append (λ (i : JobFacts). i.value) J.jobs (j ∷ []),
+      sum_by-cons (λ (i : JobFacts). i.value) j [],
+    )))
+    (ap not ((each (λ i. is_within_ratio_both_ways J.rules.ratio i j)
+    (λ i. IsWithinRatio J.rules.ratio i j × IsWithinRatio J.rules.ratio j i)
     (λ i. both _ _ (is_within_ratio-agrees J.rules.ratio i j) (is_within_ratio-agrees J.rules.ratio j i)) J.jobs).1
     (all_pairs (IsWithinRatio J.rules.ratio) J.jobs j valid.densities)))
 
@@ -167,7 +186,8 @@ pub record Starts (ls : List (List ℕ)) : Type 0 where
 -- lines that begin a trace
 pub starts : (l : List ℕ) (ls : List (List ℕ)) → begins_trace (l ∷ ls) ≡ true → Starts (l ∷ ls)
 starts l ls passes = by_named (named_session (l ∷ ls)) refl passes where
-  by_named : (o : Option Session) → named_session (l ∷ ls) ≡ o → option_map_or (begins_trace_of (l ∷ ls)) o false ≡ true → Starts (l ∷ ls)
+  by_named : (o : Option Session) → named_session (l ∷ ls) ≡ o → option_map_or (begins_trace_of (l ∷ ls)) o false ≡ true
+      → Starts (l ∷ ls)
   by_named None named h = never h
   by_named (Some S) named h =
       let both_hold = and_parts (is_valid_session S) (starts_with bytes_eq (trace_lines S) (l ∷ ls)) h in
@@ -175,13 +195,18 @@ starts l ls passes = by_named (named_session (l ∷ ls)) refl passes where
         session = S;
         named = named;
         valid = (is_valid_session-agrees S).0 both_hold.0;
-        begins =
-            (_, (starts_is bytes_eq-Decides (trace_lines S) (l ∷ ls) (starts_with bytes_eq (trace_lines S) (l ∷ ls)) refl).0 both_hold.1);
+        begins = (
+          _,
+          (starts_is bytes_eq-Decides (trace_lines S) (l ∷ ls)
+              (starts_with bytes_eq (trace_lines S) (l ∷ ls)) refl).0 both_hold.1,
+        );
       }
 
 -- the session that a header and lines name, with one line more
-named_more : (S T : Session) (l : List ℕ) (ls : List (List ℕ)) → IsRatio S.rules.ratio → named_session (header S.rules ∷ ls) ≡ Some S
-    → named_session (header S.rules ∷ (ls ++ l ∷ [])) ≡ Some T → T ≡ session_with S.rules (S.items ++ cons_option (item_of l) [])
+named_more : (S T : Session) (l : List ℕ) (ls : List (List ℕ)) → IsRatio S.rules.ratio
+    → named_session (header S.rules ∷ ls) ≡ Some S
+    → named_session (header S.rules ∷ (ls ++ l ∷ [])) ≡ Some T
+    → T ≡ session_with S.rules (S.items ++ cons_option (item_of l) [])
 named_more S T l ls ratio one other =
     let rules : rules_of (header S.rules) ≡ Some S.rules = header_names S.rules ratio in
     let here : session_with S.rules (filter_map item_of ls) ≡ S = some_same _ _
@@ -194,10 +219,14 @@ named_more S T l ls ratio one other =
 -- ---- the first line
 
 -- only headers begin a trace
-pub only_headers : (l : List ℕ) → begins_trace (l ∷ []) ≡ true → (rules : Rules) × IsRatio rules.ratio × (l ≡ header rules)
+pub only_headers : (l : List ℕ) → begins_trace (l ∷ []) ≡ true → (rules : Rules) × IsRatio rules.ratio
+    × (l ≡ header rules)
 only_headers l passes =
-    let it : Starts (l ∷ []) = starts l [] passes in
-    (it.session.rules, it.valid.jobs.ratio, sym (heads (header it.session.rules) l (map text_of_line (all_lines it.session)) it.begins.0 it.begins.1))
+    let it : Starts (l ∷ []) = starts l [] passes in (
+      it.session.rules,
+      it.valid.jobs.ratio,
+      sym (heads (header it.session.rules) l (map text_of_line (all_lines it.session)) it.begins.0 it.begins.1),
+    )
 
 -- ---- later lines
 
@@ -228,8 +257,10 @@ module _ (ls : List (List ℕ)) (S : Session) (floor : ℕ) (z : State) (sees : 
   only_step e y next none =
       let unchanged : it.session ≡ S = same ∙ ap (λ o. session_with S.rules (S.items ++ cons_option o [])) none
       ∙ ap (session_with S.rules) (append-nil S.items) in
-      let here : (more : List (List ℕ)) × (trace_lines S ≡ ls ++ text_of e ∷ more) = sees_next_text ls S floor z sees e y next in
-      let whole : trace_lines S ≡ (ls ++ l ∷ []) ++ it.begins.0 = ap trace_lines (sym unchanged) ∙ it.begins.1 ∙ ap (λ xs. xs ++ it.begins.0) (sym split) in
+      let here : (more : List (List ℕ)) × (trace_lines S ≡ ls ++ text_of e ∷ more) =
+      sees_next_text ls S floor z sees e y next in
+      let whole : trace_lines S ≡ (ls ++ l ∷ []) ++ it.begins.0 = ap trace_lines (sym unchanged) ∙ it.begins.1
+      ∙ ap (λ xs. xs ++ it.begins.0) (sym split) in
       same_end ls l (text_of e) (trace_lines S) (it.begins.0, whole)
       (here.0, here.1 ∙ sym (append_assoc ls (text_of e ∷ []) here.0))
 
@@ -252,7 +283,8 @@ module _ (ls : List (List ℕ)) (S : Session) (floor : ℕ) (z : State) (sees : 
 
     -- there is room for it
     room_more : HasRoom S
-    room_more = let most : length (S.items ++ x ∷ []) ≤ 3_999_998 = valid_more.count in omega (arith, length-append S.items (x ∷ []))
+    room_more = let most : length (S.items ++ x ∷ []) ≤ 3_999_998 = valid_more.count in
+        omega (arith, length-append S.items (x ∷ []))
 
     -- a line of the item behind what is settled at a tick, which begin the session's lines
     module _ (t : ℕ) (later : mark_after 0 S.items ≤ t) (line : TraceLine) (is : item_of_line line ≡ Some x)
@@ -281,18 +313,22 @@ module _ (ls : List (List ℕ)) (S : Session) (floor : ℕ) (z : State) (sees : 
       -- those before the last name the items so far
       front_names : filter_map item_of_line last.front ≡ S.items
       front_names = sym (texts_name last.front (all_front HasShortNumbers last.front (last.last ∷ []) last_short))
-          ∙ ap (filter_map item_of) last.texts ∙ texts_name (lines_among S so_far) (sees_short ls S floor z sees) ∙ sees_names ls S floor z sees
+          ∙ ap (filter_map item_of) last.texts ∙ texts_name (lines_among S so_far) (sees_short ls S floor z sees)
+          ∙ sees_names ls S floor z sees
 
       -- the last names the item
       last_names : item_of_line last.last ≡ Some x
-      last_names = sym (item_of-text_of_line last.last (all_last HasShortNumbers last.front last.last last_short)) ∙ ap item_of last.text ∙ names
+      last_names = sym (item_of-text_of_line last.last (all_last HasShortNumbers last.front last.last last_short))
+          ∙ ap item_of last.text ∙ names
 
       -- so the lines so far are all that is settled
       front_is : last.front ≡ lines_at S t
       front_is = begin_both last.front (lines_at S t)
-          (no_longer item_of_line x last.front (lines_at S t) last.last line (all_lines S_more) (front_names ∙ sym before.names) is
+          (no_longer item_of_line x last.front (lines_at S t) last.last line (all_lines S_more)
+          (front_names ∙ sym before.names) is
           (last.last ∷ last_begins.0, last_begins.1 ∙ append_assoc last.front (last.last ∷ []) last_begins.0) begins)
-          (no_longer item_of_line x (lines_at S t) last.front line last.last (all_lines S_more) (before.names ∙ sym front_names) last_names
+          (no_longer item_of_line x (lines_at S t) last.front line last.last (all_lines S_more)
+          (before.names ∙ sym front_names) last_names
           (line ∷ begins.0, begins.1 ∙ append_assoc (lines_at S t) (line ∷ []) begins.0) last_begins)
 
       -- and the last is the item's
@@ -320,32 +356,43 @@ module _ (ls : List (List ℕ)) (S : Session) (floor : ℕ) (z : State) (sees : 
       pub only_later : floor ≤ t
       only_later = by_floor (nat_lt t floor) refl where
         by_floor : (b : Bool) → nat_lt t floor ≡ b → floor ≤ t
-        by_floor true below = absurd (let less : length (settled (instance_of S) t) < length so_far = sees.tight t later (ltb-true _ _ below) in
+        by_floor true below = absurd
+            (let less : length (settled (instance_of S) t) < length so_far = sees.tight t later (ltb-true _ _ below) in
             omega (arith, all_printed))
         by_floor false above = ltb-false _ _ above
 
       -- no more is settled then
       pub only_waits : (y : State) × WaitsUntil S.rules t z y
       only_waits =
-          let rest : (ys : List Step) × IsSettledRun S.rules t z ys × (settled_steps (instance_of S) t ≡ sees.steps ++ ys) =
+          let rest : (ys : List Step) × IsSettledRun S.rules t z ys
+          × (settled_steps (instance_of S) t ≡ sees.steps ++ ys) =
           settled_from_floor ls S floor z sees t only_later in
           let counted : length (printed_of (sees.steps ++ rest.0)) ≡ length so_far + length (printed_of rest.0) =
           ap length (filter_map-append _ sees.steps rest.0) ∙ length-append so_far (printed_of rest.0) in
-          let silent : printed_of rest.0 ≡ [] = no_elements (printed_of rest.0) (omega (arith, all_printed, ap length (ap printed_of rest.2))) in
-          let found : (y : State) × Settles S.rules t z rest.0 y × IsBarrier S.rules t y = settled_settles S.rules t rest.0 z rest.1 silent in
+          let silent : printed_of rest.0 ≡ [] =
+          no_elements (printed_of rest.0) (omega (arith, all_printed, ap length (ap printed_of rest.2))) in
+          let found : (y : State) × Settles S.rules t z rest.0 y × IsBarrier S.rules t y =
+          settled_settles S.rules t rest.0 z rest.1 silent in
           (found.0, record { steps = rest.0; settles = found.1; barrier = found.2 })
 
   -- a line that names a job is the text of its release, which may come next
-  pub only_release : (j : JobFacts) → item_of l ≡ Some (JobItem j) → (l ≡ release_text S j) × (y : State) × MayRelease S floor z j y
+  pub only_release : (j : JobFacts) → item_of l ≡ Some (JobItem j) → (l ≡ release_text S j) × (y : State)
+      × MayRelease S floor z j y
   only_release j names =
-      let follows : FollowsItems S.rules (admitted_jobs S.items) (mark_after 0 S.items) (JobItem j ∷ []) = follows_more (JobItem j) names in
-      let valid_K : IsValid (with_jobs (instance_of S) (j ∷ [])) = subst IsValid (job_instance S j) (valid_more (JobItem j) names).jobs in
-      let before : Reads S j.release = reads_later S (mark_after 0 S.items) j.release (reads_mark S sees.valid) follows.0 in
+      let follows : FollowsItems S.rules (admitted_jobs S.items) (mark_after 0 S.items) (JobItem j ∷ []) =
+      follows_more (JobItem j) names in
+      let valid_K : IsValid (with_jobs (instance_of S) (j ∷ [])) =
+      subst IsValid (job_instance S j) (valid_more (JobItem j) names).jobs in
+      let before : Reads S j.release =
+      reads_later S (mark_after 0 S.items) j.release (reads_mark S sees.valid) follows.0 in
       let line : TraceLine = Printed (Release (length (admitted_jobs S.items)) j) in
       let begins : Begins (lines_at S j.release ++ line ∷ []) (all_lines (with_item S (JobItem j))) =
-      begins_onward (lines_at S j.release ++ line ∷ []) (lines_at (with_item S (JobItem j)) j.release) (all_lines (with_item S (JobItem j)))
-      (lines_job S j before valid_K) (lines_of_trace (with_item S (JobItem j)) j.release (reads_job S j before valid_K)) in
-      let waits : (y : State) × WaitsUntil S.rules j.release z y = only_waits (JobItem j) names j.release follows.0 line refl before begins in (
+      begins_onward (lines_at S j.release ++ line ∷ []) (lines_at (with_item S (JobItem j)) j.release)
+      (all_lines (with_item S (JobItem j)))
+      (lines_job S j before valid_K)
+      (lines_of_trace (with_item S (JobItem j)) j.release (reads_job S j before valid_K)) in
+      let waits : (y : State) × WaitsUntil S.rules j.release z y =
+      only_waits (JobItem j) names j.release follows.0 line refl before begins in (
         only_text (JobItem j) names j.release follows.0 line refl before begins,
         waits.0,
         record {
@@ -357,16 +404,19 @@ module _ (ls : List (List ℕ)) (S : Session) (floor : ℕ) (z : State) (sees : 
       )
 
   -- a line that names a refused line is its text, and it may come next
-  pub only_refused : (r : RefusedJob) → item_of l ≡ Some (RefusedItem r) → (l ≡ refused_text r) × (y : State) × MayRefuse S floor z r y
+  pub only_refused : (r : RefusedJob) → item_of l ≡ Some (RefusedItem r) → (l ≡ refused_text r) × (y : State)
+      × MayRefuse S floor z r y
   only_refused r names =
-      let follows : FollowsItems S.rules (admitted_jobs S.items) (mark_after 0 S.items) (RefusedItem r ∷ []) = follows_more (RefusedItem r) names in
+      let follows : FollowsItems S.rules (admitted_jobs S.items) (mark_after 0 S.items) (RefusedItem r ∷ []) =
+      follows_more (RefusedItem r) names in
       let ordered : mark_after 0 S.items ≤ r.at = follows.0.no_fall in
       let before : Reads S r.at = reads_later S (mark_after 0 S.items) r.at (reads_mark S sees.valid) ordered in
       let line : TraceLine = Refuses r in
       let begins : Begins (lines_at S r.at ++ line ∷ []) (all_lines (with_item S (RefusedItem r))) =
       subst (λ xs. Begins xs (all_lines (with_item S (RefusedItem r)))) (lines_refused S r before)
       (lines_of_trace (with_item S (RefusedItem r)) r.at (reads_refused S r before)) in
-      let waits : (y : State) × WaitsUntil S.rules r.at z y = only_waits (RefusedItem r) names r.at ordered line refl before begins in (
+      let waits : (y : State) × WaitsUntil S.rules r.at z y =
+      only_waits (RefusedItem r) names r.at ordered line refl before begins in (
         only_text (RefusedItem r) names r.at ordered line refl before begins,
         waits.0,
         record {
@@ -383,12 +433,17 @@ module _ (ls : List (List ℕ)) (S : Session) (floor : ℕ) (z : State) (sees : 
         },
       )
 
--- a line that continues a trace is the text of the next printed step, of a job that may be released, or of a refused line that may come
-pub continues_only : (ls : List (List ℕ)) (S : Session) (floor : ℕ) (z : State) → Sees ls S floor z → (e : Event) (y : State)
+-- a line that continues a trace is the text of the next printed step, of a job that may be released, or of a refused
+-- line that may come
+pub continues_only : (ls : List (List ℕ)) (S : Session) (floor : ℕ) (z : State) → Sees ls S floor z
+    → (e : Event) (y : State)
     → PrintsNext S.rules z e y → (l : List ℕ) → begins_trace (ls ++ l ∷ []) ≡ true
     → (l ≡ text_of e) ⊎ (IsReleaseNext S floor z l ⊎ IsRefusedNext S floor z l)
 continues_only ls S floor z sees e y next l passes = by_item (item_of l) refl where
-  by_item : (o : Option Item) → item_of l ≡ o → (l ≡ text_of e) ⊎ (IsReleaseNext S floor z l ⊎ IsRefusedNext S floor z l)
+  by_item : (o : Option Item) → item_of l ≡ o → (l ≡ text_of e)
+      ⊎ (IsReleaseNext S floor z l ⊎ IsRefusedNext S floor z l)
   by_item None none = inl (only_step ls S floor z sees l passes e y next none)
-  by_item (Some (JobItem j)) names = let it = only_release ls S floor z sees l passes j names in inr (inl (j, it.0, it.1, it.2))
-  by_item (Some (RefusedItem r)) names = let it = only_refused ls S floor z sees l passes r names in inr (inr (r, it.0, it.1, it.2))
+  by_item (Some (JobItem j)) names = let it = only_release ls S floor z sees l passes j names in
+      inr (inl (j, it.0, it.1, it.2))
+  by_item (Some (RefusedItem r)) names = let it = only_refused ls S floor z sees l passes r names in
+      inr (inr (r, it.0, it.1, it.2))

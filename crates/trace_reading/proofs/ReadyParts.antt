@@ -1,5 +1,6 @@
 -- The steps of a state are those of its jobs that aren't over.
-use Rattle.std.proofs.Common.{◌≡◌, ℕ, ◌+◌, ◌⊎◌, inl, inr, List, [], ◌∷◌, map, refl, sym, ap, ◌∙◌, subst, Bool, true, false, cond, not, arith, eqb}
+use Rattle.std.proofs.Common.{◌≡◌, ℕ, ◌+◌, ◌⊎◌, inl, inr, List, [], ◌∷◌, map, refl, sym, ap, ◌∙◌, subst, Bool, true}
+use Rattle.std.proofs.Common.{false, cond, not, arith, eqb}
 use Rattle.std.specs.Prelude.{Some, None, ◌&&◌, nat_le}
 use Rattle.std.specs.List.{filter, find, sum_by}
 use Rattle.std.proofs.lemmas.Bool.{ne_eqb}
@@ -10,15 +11,18 @@ use Rattle.dover_model.specs.declared.events.Role.TheVariants.{Coming, Fresh, Wa
 use Rattle.dover_model.specs.declared.events.Task.{Task}
 use Rattle.dover_model.specs.declared.events.Version.{Version}
 use Rattle.dover_model.specs.Instance.{Rules, Instance, IsValid}
-use Rattle.dover_model.specs.State.{State, is_coming, is_fresh, is_waiting, is_held, is_running, is_privileged, is_done, is_over, value_sum}
-use Rattle.dover_model.specs.Step.{Move, Prints, Waits, Ticks, view, open_step, after, urgent_or, with_role, role_after, displaced, ticked}
+use Rattle.dover_model.specs.State.{State, is_coming, is_fresh, is_waiting, is_held, is_running, is_privileged, is_done}
+use Rattle.dover_model.specs.State.{is_over, value_sum}
+use Rattle.dover_model.specs.Step.{Move, Prints, Waits, Ticks, view, open_step, after, urgent_or, with_role, role_after}
+use Rattle.dover_model.specs.Step.{displaced, ticked}
 use Rattle.dover_model.specs.Sound.{IsMember, Each, Keeps, IsSound}
 use Rattle.dover_model.specs.Run.{Step, event_of}
 use Rattle.dover_model.specs.Settled.{is_late}
 use Rattle.dover_model.specs.WholeRun.{open_at}
 use Rattle.dover_model.proofs.Members.{sum_filter, sum_zero, on_map, member_filter}
 use Rattle.dover_model.proofs.Roles.{by_role, one_number, is_over_role, passes}
-use Rattle.dover_model.proofs.Deeds.{Deed, Completed, Resumed, Started, Began, Preempted, Stayed, Arrived, Taken, Abandoned, Rested}
+use Rattle.dover_model.proofs.Deeds.{Deed, Completed, Resumed, Started, Began, Preempted, Stayed, Arrived, Taken}
+use Rattle.dover_model.proofs.Deeds.{Abandoned, Rested}
 use Rattle.dover_model.proofs.Kept.{open_deed, open_kept}
 use Rattle.dover_model.proofs.Tests.{never, not_true}
 use Rattle.trace_reading.specs.Leading.{IsSilent, Settles}
@@ -31,7 +35,8 @@ module _ {X : Type 0} (p q : X → Bool) (onward : (x : X) → q x ≡ false →
   find_part : (xs : List X) → find p (filter q xs) ≡ find p xs
   find_part [] = refl
   find_part (x ∷ xs) = by_test (q x) refl (find_part xs) where
-    by_test : (b : Bool) → q x ≡ b → find p (filter q xs) ≡ find p xs → find p (cond b (x ∷ filter q xs) (filter q xs)) ≡ cond (p x) (Some x) (find p xs)
+    by_test : (b : Bool) → q x ≡ b → find p (filter q xs) ≡ find p xs
+        → find p (cond b (x ∷ filter q xs) (filter q xs)) ≡ cond (p x) (Some x) (find p xs)
     by_test true is rest = ap (cond (p x) (Some x)) rest
     by_test false is rest = rest ∙ sym (ap (λ b. cond b (Some x) (find p xs)) (onward x is))
 
@@ -45,7 +50,8 @@ module _ {X : Type 0} (p q : X → Bool) (onward : (x : X) → q x ≡ false →
     by_test false is rest = rest ∙ sym (ap (λ b. cond b (x ∷ filter p xs) (filter p xs)) (onward x is))
 
 -- a job that is over passes no test of other roles
-over_fails : (p : Task → Bool) → ((t : Task) → p (with_role t Done) ≡ false) → ((t : Task) → p (with_role t Gone) ≡ false)
+over_fails : (p : Task → Bool) → ((t : Task) → p (with_role t Done) ≡ false)
+    → ((t : Task) → p (with_role t Gone) ≡ false)
     → (t : Task) → is_ready t ≡ false → p t ≡ false
 over_fails p done gone t over = by_roles (is_over_role t (denied (is_over t) over)) where
   denied : (b : Bool) → not b ≡ false → b ≡ true
@@ -86,13 +92,15 @@ after_change s (Waits n) = refl
 after_change s Ticks = refl
 
 -- a job that is over has another number than one that isn't
-apart : (s : State) → IsSound s → (t r : Task) (role : Role) → IsMember t s.tasks → IsMember r s.tasks → is_over t ≡ true → r.role ≡ role
+apart : (s : State) → IsSound s → (t r : Task) (role : Role) → IsMember t s.tasks → IsMember r s.tasks
+    → is_over t ≡ true → r.role ≡ role
     → is_over (with_role r role) ≡ false → t.number ≡ r.number → ⊥
 apart s sound t r role mt mr over is ready same =
     let one : t ≡ r = one_number 0 s.tasks sound.numbered t r mt mr same in
     never (sym (passes is_over r role false is ready) ∙ subst (λ u. is_over u ≡ true) one over)
 
-module _ (k : Fraction) (s : State) (sound : IsSound s) (t : Task) (mt : IsMember t s.tasks) (over : is_over t ≡ true) where
+module _ (k : Fraction) (s : State) (sound : IsSound s) (t : Task) (mt : IsMember t s.tasks)
+    (over : is_over t ≡ true) where
   -- a job that is over keeps its role where another is named
   unnamed : (r : Task) (role new : Role) → IsMember r s.tasks → r.role ≡ role → is_over (with_role r role) ≡ false
       → with_role t (cond (eqb t.number r.number) new t.role) ≡ t
@@ -126,9 +134,11 @@ module _ (k : Fraction) (s : State) (sound : IsSound s) (t : Task) (mt : IsMembe
   deed_over m (Stayed r f member runs some f_member fresh why) = unnamed f Fresh Waiting f_member fresh refl
   deed_over m (Arrived c member comes now first stale busy free) = unnamed c Coming Fresh member comes refl
   deed_over m (Taken r x member runs some x_member waiting now stale heavy) =
-      ap (λ b. with_role t (cond b Running (displaced t.role))) (ne_eqb t.number x.number (apart s sound t x Waiting mt x_member over waiting refl))
+      ap (λ b. with_role t (cond b Running (displaced t.role)))
+      (ne_eqb t.number x.number (apart s sound t x Waiting mt x_member over waiting refl))
       ∙ ap (with_role t) displaced_over
-  deed_over m (Abandoned r x member runs some x_member waiting now stale light) = unnamed x Waiting Gone x_member waiting refl
+  deed_over m (Abandoned r x member runs some x_member waiting now stale light) =
+      unnamed x Waiting Gone x_member waiting refl
   deed_over m (Rested quiet) = ticked_over
 
 -- a change that leaves the jobs that are over: those that aren't over afterwards are among those that weren't before
@@ -189,15 +199,19 @@ done_map f (x ∷ xs) stays = by_test (is_over x) refl (done_map f xs (λ t m. s
 module _ (J : Instance) (valid : IsValid J) (rules : Rules) (s : State) (keeps : Keeps J s) where
   -- an open step leaves the jobs that are over
   pub over_stays : Each (λ t. is_over t ≡ true → change (open_step rules s) t ≡ t) s.tasks
-  over_stays t m over = deed_over rules.ratio s keeps.sound t m over (open_step rules s) (open_deed J valid s keeps rules)
+  over_stays t m over = deed_over rules.ratio s keeps.sound t m over (open_step rules s)
+      (open_deed J valid s keeps rules)
 
   -- after an open step the jobs that aren't over are those of its part
-  pub ready_after : filter is_ready (after s (open_step rules s)).tasks ≡ filter is_ready (after (ready_part s) (open_step rules s)).tasks
-  ready_after = ap (filter is_ready) (after_change s (open_step rules s)) ∙ ready_map (change (open_step rules s)) s.tasks over_stays
+  pub ready_after : filter is_ready (after s (open_step rules s)).tasks ≡ filter is_ready
+      (after (ready_part s) (open_step rules s)).tasks
+  ready_after = ap (filter is_ready) (after_change s (open_step rules s))
+      ∙ ready_map (change (open_step rules s)) s.tasks over_stays
       ∙ ap (filter is_ready) (sym (after_change (ready_part s) (open_step rules s)))
 
   -- what the jobs done are worth after an open step: those done before, and those done by it
-  pub done_after : value_sum (filter is_done (after s (open_step rules s)).tasks) ≡ value_sum (filter is_done s.tasks) + value_sum
+  pub done_after : value_sum (filter is_done (after s (open_step rules s)).tasks) ≡ value_sum (filter is_done s.tasks)
+      + value_sum
       (filter is_done (after (ready_part s) (open_step rules s)).tasks)
   done_after =
       let part : List Task = (after (ready_part s) (open_step rules s)).tasks in
@@ -230,14 +244,16 @@ filter_all p (x ∷ xs) all = ap (λ b. cond b (x ∷ filter p xs) (filter p xs)
 
 -- a silent move doesn't do or lose a job
 silent_done : (m : Move) → IsSilent m → (t : Task) → is_over t ≡ false → is_done (change m t) ≡ false
-silent_done m silent t ready = ready_not_done (change m t) (denied_back (is_over (change m t)) (silent_ready m silent t (ap not ready))) where
-  denied_back : (b : Bool) → not b ≡ true → b ≡ false
-  denied_back true h = never h
-  denied_back false h = refl
+silent_done m silent t ready =
+    ready_not_done (change m t) (denied_back (is_over (change m t)) (silent_ready m silent t (ap not ready))) where
+      denied_back : (b : Bool) → not b ≡ true → b ≡ false
+      denied_back true h = never h
+      denied_back false h = refl
 
 module _ (J : Instance) (valid : IsValid J) (rules : Rules) where
   -- after a silent step the part is the part after it
-  pub part_after : (s : State) → Keeps J s → IsSilent (open_step rules s) → after (ready_part s) (open_step rules s) ≡ ready_part (after s (open_step rules s))
+  pub part_after : (s : State) → Keeps J s → IsSilent (open_step rules s)
+      → after (ready_part s) (open_step rules s) ≡ ready_part (after s (open_step rules s))
   part_after s keeps silent = parts (open_step rules s) (sym tasks) where
     part : List Task
     part = (after (ready_part s) (open_step rules s)).tasks
@@ -250,7 +266,8 @@ module _ (J : Instance) (valid : IsValid J) (rules : Rules) where
     tasks : filter is_ready (after s (open_step rules s)).tasks ≡ part
     tasks = ready_after J valid rules s keeps ∙ filter_all is_ready part all
 
-    parts : (m : Move) → (after (ready_part s) m).tasks ≡ filter is_ready (after s m).tasks → after (ready_part s) m ≡ ready_part (after s m)
+    parts : (m : Move) → (after (ready_part s) m).tasks ≡ filter is_ready (after s m).tasks
+        → after (ready_part s) m ≡ ready_part (after s m)
     parts (Prints e) same = ap (λ ts. record { clock = s.clock; tasks = ts }) same
     parts (Waits n) same = ap (λ ts. record { clock = s.clock; tasks = ts }) same
     parts Ticks same = ap (λ ts. record { clock = s.clock + 1; tasks = ts }) same

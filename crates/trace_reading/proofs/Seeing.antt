@@ -1,5 +1,6 @@
 -- What follows from what the lines of a trace so far have come to.
-use Rattle.std.proofs.Common.{◌≡◌, ℕ, ◌+◌, ◌-◌, List, [], ◌∷◌, ◌++◌, length, map, refl, sym, ap, ◌∙◌, subst, Bool, true, false, cond, arith}
+use Rattle.std.proofs.Common.{◌≡◌, ℕ, ◌+◌, ◌-◌, List, [], ◌∷◌, ◌++◌, length, map, refl, sym, ap, ◌∙◌, subst, Bool, true}
+use Rattle.std.proofs.Common.{false, cond, arith}
 use Rattle.std.specs.Prelude.{Some, slice_get, filter_map}
 use Rattle.std.specs.List.{AllByRecursion}
 use Rattle.std.specs.Option.{option_map, option_map_or, option_and_then}
@@ -15,7 +16,8 @@ use Rattle.dover_model.specs.WholeRun.{IsWholeRun, Begins}
 use Rattle.dover_model.specs.Session.{Session, instance_of, admitted_jobs, IsValidSession}
 use Rattle.dover_model.specs.Text.{header, text_of}
 use Rattle.dover_model.specs.Trace.{Printed, text_of_line, places_of, lines_among, texts_among, trace_lines}
-use Rattle.dover_model.specs.Verdict.{Step as Due, Nothing, item_of, named_session, begins_trace, ends_with_end, refused_count}
+use Rattle.dover_model.specs.Verdict.{Step as Due, Nothing, item_of, named_session, begins_trace, ends_with_end}
+use Rattle.dover_model.specs.Verdict.{refused_count}
 use Rattle.dover_model.specs.Verdict.{step_after, expected_after}
 use Rattle.dover_model.proofs.Members.{some_same}
 use Rattle.dover_model.proofs.Kept.{opening_keeps}
@@ -40,11 +42,13 @@ module _ (S : Session) (valid : IsValidSession S) (floor : ℕ) (z : State) (ste
     (leads : Leads S.rules floor (opening (admitted_jobs S.items)) steps z) where
   -- the state is a sound one of the jobs
   pub led_keeps : Keeps (instance_of S) z
-  led_keeps = passes_keeps (instance_of S) valid.jobs S.rules floor steps (opening (admitted_jobs S.items)) z (opening_keeps (instance_of S))
+  led_keeps = passes_keeps (instance_of S) valid.jobs S.rules floor steps (opening (admitted_jobs S.items)) z
+      (opening_keeps (instance_of S))
       (leads_passes S.rules floor steps (opening (admitted_jobs S.items)) z leads)
 
   -- the rest of the run
-  pub led_rest : (ys : List Step) × IsWholeRun S.rules z ys × (printed (instance_of S) ≡ printed_of steps ++ printed_of ys)
+  pub led_rest : (ys : List Step) × IsWholeRun S.rules z ys
+      × (printed (instance_of S) ≡ printed_of steps ++ printed_of ys)
   led_rest =
       let J : Instance = instance_of S in
       let it : Ends S.rules z (potential (last_deadline J.jobs) z + 1) =
@@ -52,7 +56,8 @@ module _ (S : Session) (valid : IsValidSession S) (floor : ℕ) (z : State) (ste
         it.0,
         it.1,
         ap printed_of (one_run S.rules (opening J.jobs) (run J) (steps ++ it.0) (run_is_whole J valid.jobs)
-            (leads_whole J valid.jobs S.rules floor steps it.0 (opening J.jobs) z (opening_keeps J) leads it.1)) ∙ filter_map-append _ steps it.0,
+            (leads_whole J valid.jobs S.rules floor steps it.0 (opening J.jobs) z (opening_keeps J) leads it.1))
+            ∙ filter_map-append _ steps it.0,
       )
 
   module _ (within : RefusesWithin S (printed_of steps)) where
@@ -66,7 +71,8 @@ module _ (S : Session) (valid : IsValidSession S) (floor : ℕ) (z : State) (ste
         (subst (AllByRecursion HasShortNumbers) led_lines.1 (lines_short S valid))
 
     -- where they name the items, their texts name the session
-    pub led_named : LinesName (lines_among S (printed_of steps)) S.items → named_session (texts_among S (printed_of steps)) ≡ Some S
+    pub led_named : LinesName (lines_among S (printed_of steps)) S.items
+        → named_session (texts_among S (printed_of steps)) ≡ Some S
     led_named names = lines_name S.rules (lines_among S (printed_of steps)) S.items valid.jobs.ratio led_short names
 
 module _ (ls : List (List ℕ)) (S : Session) (floor : ℕ) (z : State) (sees : Sees ls S floor z) where
@@ -104,7 +110,9 @@ module _ (ls : List (List ℕ)) (S : Session) (floor : ℕ) (z : State) (sees : 
   -- they name the items
   pub sees_names : LinesName (lines_among S so_far) S.items
   sees_names = sym (texts_name (lines_among S so_far) sees_short)
-      ∙ ap (λ (T : Session). T.items) (some_same _ _ (ap (option_map (λ r. session_with r (filter_map item_of (map text_of_line (lines_among S so_far)))))
+      ∙ ap (λ (T : Session). T.items)
+      (some_same _ _ (ap (option_map
+      (λ r. session_with r (filter_map item_of (map text_of_line (lines_among S so_far)))))
       (sym (header_names S.rules sees.valid.jobs.ratio)) ∙ ap named_session (sym sees.lines) ∙ sees.named))
 
   module _ (e : Event) (y : State) (next : PrintsNext S.rules z e y) where
@@ -112,7 +120,8 @@ module _ (ls : List (List ℕ)) (S : Session) (floor : ℕ) (z : State) (sees : 
     pub sees_next : (more : List Event) × (printed J ≡ so_far ++ e ∷ more)
     sees_next =
         let it : (more : List Event) × (printed_of sees_rest.0 ≡ e ∷ more) =
-        prints_first J sees.valid.jobs S.rules next.steps sees_rest.0 z y e sees_keeps next.idles next.prints sees_rest.1 in
+        prints_first J sees.valid.jobs S.rules next.steps sees_rest.0 z y e sees_keeps next.idles next.prints
+        sees_rest.1 in
         (it.0, sees_rest.2 ∙ ap (λ es. so_far ++ es) it.1)
 
     -- the line that comes next in the trace
@@ -120,8 +129,10 @@ module _ (ls : List (List ℕ)) (S : Session) (floor : ℕ) (z : State) (sees : 
     sees_next_text = (
       map text_of_line (map Printed sees_next.0),
       ap (texts_among S) sees_next.1
-          ∙ ap (λ xs. header S.rules ∷ map text_of_line xs) (put_in-more_steps (places_of S) 0 so_far (e ∷ sees_next.0) sees.within)
-          ∙ ap (λ xs. header S.rules ∷ xs) (map-append text_of_line (lines_among S so_far) (map Printed (e ∷ sees_next.0)))
+          ∙ ap (λ xs. header S.rules ∷ map text_of_line xs)
+          (put_in-more_steps (places_of S) 0 so_far (e ∷ sees_next.0) sees.within)
+          ∙ ap (λ xs. header S.rules ∷ xs)
+          (map-append text_of_line (lines_among S so_far) (map Printed (e ∷ sees_next.0)))
           ∙ ap (λ xs. xs ++ text_of e ∷ map text_of_line (map Printed sees_next.0)) (sym sees.lines),
     )
 
@@ -140,14 +151,17 @@ module _ (ls : List (List ℕ)) (S : Session) (floor : ℕ) (z : State) (sees : 
     -- the step that is due is that one
     pub sees_expects : expected_after ls ≡ Due e
     sees_expects = ap expected_after sees.lines
-        ∙ ap (λ b. cond b Nothing (option_map_or Due (option_and_then (step_after count) (named_session (texts_among S so_far))) Nothing))
+        ∙ ap (λ b. cond b Nothing
+        (option_map_or Due (option_and_then (step_after count) (named_session (texts_among S so_far))) Nothing))
         (ap ends_with_end (sym sees.lines) ∙ sees_goes_on)
-        ∙ ap (λ o. option_map_or Due (option_and_then (step_after count) o) Nothing) (ap named_session (sym sees.lines) ∙ sees.named)
+        ∙ ap (λ o. option_map_or Due (option_and_then (step_after count) o) Nothing)
+        (ap named_session (sym sees.lines) ∙ sees.named)
         ∙ ap (λ o. option_map_or Due o Nothing) at_count where
           count : ℕ
           count = length (map text_of_line (lines_among S so_far))
 
           at_count : step_after count S ≡ Some e
-          at_count = ap (λ n. slice_get (printed J) n) here ∙ ap (λ es. slice_get es (length so_far)) sees_next.1 ∙ get_behind so_far e sees_next.0 where
-            here : count - refused_count S ≡ length so_far
-            here = omega (arith, length-map (lines_among S so_far) text_of_line, length-lines S so_far)
+          at_count = ap (λ n. slice_get (printed J) n) here ∙ ap (λ es. slice_get es (length so_far)) sees_next.1
+              ∙ get_behind so_far e sees_next.0 where
+                here : count - refused_count S ≡ length so_far
+                here = omega (arith, length-map (lines_among S so_far) text_of_line, length-lines S so_far)

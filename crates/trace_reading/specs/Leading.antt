@@ -19,7 +19,8 @@ IsSilent m = event_of m ≡ None
 -- these open steps lead from s to z, each before any late one at the mark or after it
 abbrev pub Passes : Rules → ℕ → State → List Step → State → Type 0
 Passes rules mark s [] z = s ≡ z
-Passes rules mark s (x ∷ xs) z = (x ≡ open_at rules s) × IsBefore rules mark s × Passes rules mark (after s (open_step rules s)) xs z
+Passes rules mark s (x ∷ xs) z = (x ≡ open_at rules s) × IsBefore rules mark s
+    × Passes rules mark (after s (open_step rules s)) xs z
 
 -- the same, while some job isn't over
 abbrev pub Leads : Rules → ℕ → State → List Step → State → Type 0
@@ -31,7 +32,8 @@ Leads rules mark s (x ∷ xs) z =
 abbrev pub Settles : Rules → ℕ → State → List Step → State → Type 0
 Settles rules mark s [] z = s ≡ z
 Settles rules mark s (x ∷ xs) z =
-    (x ≡ open_at rules s) × IsBefore rules mark s × IsSilent (open_step rules s) × Settles rules mark (after s (open_step rules s)) xs z
+    (x ≡ open_at rules s) × IsBefore rules mark s × IsSilent (open_step rules s)
+    × Settles rules mark (after s (open_step rules s)) xs z
 
 -- these silent open steps lead from s to z, while some job isn't over
 abbrev pub Idles : Rules → State → List Step → State → Type 0

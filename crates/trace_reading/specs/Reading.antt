@@ -1,5 +1,6 @@
 -- What the lines of a trace so far have come to, and which line may come next.
-use Rattle.std.specs.Prelude.{◌≡◌, ◌≤◌, ◌<◌, ◌+◌, ℕ, suc, max, List, [], ◌∷◌, ◌++◌, length, false, if◌then◌else◌, None, Some}
+use Rattle.std.specs.Prelude.{◌≡◌, ◌≤◌, ◌<◌, ◌+◌, ℕ, suc, max, List, [], ◌∷◌, ◌++◌, length, false, if◌then◌else◌, None}
+use Rattle.std.specs.Prelude.{Some}
 use Rattle.std.specs.List.{AllByRecursion}
 use Rattle.dover_model.specs.Limits.{most_items}
 use Rattle.dover_model.specs.declared.events.Role.TheVariants.{Fresh}
@@ -12,7 +13,8 @@ use Rattle.dover_model.specs.Run.{Step, printed_of}
 use Rattle.dover_model.specs.Sound.{Each}
 use Rattle.dover_model.specs.Settled.{is_late, settled}
 use Rattle.dover_model.specs.Admission.{refusal_of}
-use Rattle.dover_model.specs.Session.{Item, JobItem, RefusedItem, RefusedJob, Session, instance_of, admitted_jobs, IsValidSession, IsRefused}
+use Rattle.dover_model.specs.Session.{Item, JobItem, RefusedItem, RefusedJob, Session, instance_of, admitted_jobs}
+use Rattle.dover_model.specs.Session.{IsValidSession, IsRefused}
 use Rattle.dover_model.specs.Text.{text_of, refused_text}
 use Rattle.dover_model.specs.Trace.{places_of, texts_among}
 use Rattle.dover_model.specs.Verdict.{named_session}
@@ -24,7 +26,8 @@ mark_after mark [] = mark
 mark_after mark (JobItem j ∷ items) = mark_after (max mark j.release) items
 mark_after mark (RefusedItem r ∷ items) = mark_after (max mark r.at) items
 
--- The lines begin the trace of the valid session that they name. The steps printed among them lead to the state z, in which no job is to come.
+-- The lines begin the trace of the valid session that they name. The steps printed among them lead to the state z, in
+-- which no job is to come.
 -- They are settled at each tick from the floor on, and at no tick below it at which an item could come.
 pub record Sees (ls : List (List ℕ)) (S : Session) (floor : ℕ) (z : State) : Type 0 where
   pub valid : IsValidSession S
@@ -36,7 +39,8 @@ pub record Sees (ls : List (List ℕ)) (S : Session) (floor : ℕ) (z : State) :
   pub released : Each (λ t. is_coming t ≡ false) z.tasks
   pub clock : z.clock ≤ floor
   pub mark : mark_after 0 S.items ≤ floor
-  pub tight : (t : ℕ) → mark_after 0 S.items ≤ t → t < floor → length (settled (instance_of S) t) < length (printed_of steps)
+  pub tight : (t : ℕ) → mark_after 0 S.items ≤ t → t < floor
+      → length (settled (instance_of S) t) < length (printed_of steps)
 
 -- the least tick at which the event is settled, right after it is printed
 abbrev pub floor_after : State → Event → ℕ
@@ -61,7 +65,8 @@ pub record MayRefuse (S : Session) (floor : ℕ) (s : State) (r : RefusedJob) (z
 
 -- the state with the job of this number, which was released last
 abbrev pub with_fresh : State → ℕ → JobFacts → State
-with_fresh z n j = record { clock = j.release; tasks = z.tasks ++ record { number = n; job = j; role = Fresh; had = 0 } ∷ [] }
+with_fresh z n j = record
+    { clock = j.release; tasks = z.tasks ++ record { number = n; job = j; role = Fresh; had = 0 } ∷ [] }
 
 -- the text of the release of the session's next job
 abbrev pub release_text : Session → JobFacts → List ℕ

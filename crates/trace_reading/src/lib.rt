@@ -1,4 +1,5 @@
-//! What a reader of a trace carries from line to line, and which line may come next. Each law is the contract of a function that does nothing.
+//! What a reader of a trace carries from line to line, and which line may come next. Each law is the contract of a
+//! function that does nothing.
 #![tactic(auto)]
 
 ghost use Rattle.std.specs.Prelude.{◌≡◌, ◌⊎◌, ◌∷◌, ◌++◌, [], ℕ, List, true};
@@ -12,7 +13,8 @@ ghost use Rattle.trace_reading.specs.Reading.{Sees, IsReleaseNext, IsRefusedNext
 
 /// Lines that are seen begin a trace, and some step is printed next.
 pub fn lines_seen_begin_a_trace()
-    ensures begins { (ls : List (List ℕ)) (S : Session) (floor : ℕ) (z : State) → Sees ls S floor z → begins_trace ls ≡ true }
+    ensures begins { (ls : List (List ℕ)) (S : Session) (floor : ℕ) (z : State) → Sees ls S floor z
+        → begins_trace ls ≡ true }
     ensures next { (ls : List (List ℕ)) (S : Session) (floor : ℕ) (z : State) → Sees ls S floor z →
         (e : Event) × (y : State) × PrintsNext S.rules z e y }
 {}

@@ -2,7 +2,8 @@ use Rattle.std.proofs.Common.{◌≡◌, ◌+◌, ◌-◌, ◌<◌, ◌∙◌, a
 use Rattle.std.specs.List.{sum}
 use Rattle.dover_model.specs.Limits.{most_jobs}
 use Rattle.dover_model.specs.Bait.{chain, last_link, most_light}
-use Rattle.adversary.proofs.Chains.{sum_step, last_step, all_to_come, last_to_come, from_nothing, first_low, nothing_few, no_more, one_fewer}
+use Rattle.adversary.proofs.Chains.{sum_step, last_step, all_to_come, last_to_come, from_nothing, first_low}
+use Rattle.adversary.proofs.Chains.{nothing_few, no_more, one_fewer}
 use Rattle.adversary.proofs.Chains.{low_step}
 use Rattle.adversary.proofs.Chains.{some_step, all_summed, last_summed, all_done, some_done, sum_part}
 use Rattle.adversary.proofs.feed.small_chain.Goals as goal
@@ -10,8 +11,10 @@ use Rattle.adversary.proofs.feed.small_chain.Goals as goal
 pub loop-init : goal.loop-init
 loop-init c = record {
   total = from_nothing _ _ (ap (λ ws. sum ws)
-      (all_to_come c.args.k c.args.rounds c.first_value-first.result c.first_value-first.ensures.some c.first_value-first.ensures.is));
-  end = last_to_come c.args.k c.args.rounds c.first_value-first.result c.first_value-first.ensures.some c.first_value-first.ensures.is;
+      (all_to_come c.args.k c.args.rounds c.first_value-first.result c.first_value-first.ensures.some
+      c.first_value-first.ensures.is));
+  end = last_to_come c.args.k c.args.rounds c.first_value-first.result c.first_value-first.ensures.some
+      c.first_value-first.ensures.is;
   few = nothing_few;
   low = first_low c.first_value-first.result c.first_value-first.ensures.small;
   lights = λ h. no_more h;
@@ -22,12 +25,16 @@ pub loop-preserved : goal.loop-preserved
 loop-preserved c = record {
   total = sum_step c.args.k (c.args.rounds - c.loop.counter) (c.args.rounds - (c.loop.counter + 1))
       (c.loop.light + 1) c.light_value-light.result c.loop.sum
-      (sum (chain c.args.k c.args.rounds)) (one_fewer c.args.rounds c.loop.counter c.loop-test.true) c.light_value-light.ensures.is
+      (sum (chain c.args.k c.args.rounds))
+      (one_fewer c.args.rounds c.loop.counter c.loop-test.true) c.light_value-light.ensures.is
       c.loop.invariant.total;
-  end = last_step c.args.k (c.args.rounds - c.loop.counter) (c.args.rounds - (c.loop.counter + 1)) c.loop.last (c.loop.light + 1)
-      c.light_value-light.result _ (one_fewer c.args.rounds c.loop.counter c.loop-test.true) c.light_value-light.ensures.is c.loop.invariant.end;
+  end = last_step c.args.k (c.args.rounds - c.loop.counter) (c.args.rounds - (c.loop.counter + 1)) c.loop.last
+      (c.loop.light + 1)
+      c.light_value-light.result _ (one_fewer c.args.rounds c.loop.counter c.loop-test.true)
+      c.light_value-light.ensures.is c.loop.invariant.end;
   few = c.if-sum-ge-MOST_JOBS.false;
-  low = low_step c.loop.sum c.loop.light c.light_value-light.result c.if-sum-ge-MOST_JOBS.false c.light_value-light.ensures.most;
+  low = low_step c.loop.sum c.loop.light c.light_value-light.result c.if-sum-ge-MOST_JOBS.false
+      c.light_value-light.ensures.most;
   lights = λ h. c.light_value-light.ensures.is;
   some = λ h. some_step c.loop.light c.light_value-light.result c.light_value-light.ensures.least;
 }
@@ -35,8 +42,10 @@ loop-preserved c = record {
 pub returns-then-sum-ge-MOST_JOBS-clause-small : goal.returns-then-sum-ge-MOST_JOBS-clause-small
 returns-then-sum-ge-MOST_JOBS-clause-small c = (
   λ h. absurd (cc),
-  sum_part c.args.k (c.args.rounds - c.loop.counter) (c.args.rounds - (c.loop.counter + 1)) (c.loop.light + 1) c.loop.sum
-      (sum (chain c.args.k c.args.rounds)) (one_fewer c.args.rounds c.loop.counter c.loop-test.true) c.loop.invariant.total
+  sum_part c.args.k (c.args.rounds - c.loop.counter) (c.args.rounds - (c.loop.counter + 1))
+      (c.loop.light + 1) c.loop.sum
+      (sum (chain c.args.k c.args.rounds))
+      (one_fewer c.args.rounds c.loop.counter c.loop-test.true) c.loop.invariant.total
       c.if-sum-ge-MOST_JOBS.true,
 )
 
@@ -44,21 +53,26 @@ pub returns-clause-small : goal.returns-clause-small
 returns-clause-small c = (
   λ h. subst (λ n. n < most_jobs) (all_summed c.args.k c.args.rounds c.loop.counter (c.loop.light + 1) c.loop.sum
       (sum (chain c.args.k c.args.rounds))
-      (all_done c.args.rounds c.loop.counter c.loop.auto.counter-end c.loop-test.false) c.loop.invariant.total) c.loop.invariant.few,
+      (all_done c.args.rounds c.loop.counter c.loop.auto.counter-end c.loop-test.false) c.loop.invariant.total)
+      c.loop.invariant.few,
   λ h. refl,
 )
 
 pub returns-clause-numbers : goal.returns-clause-numbers
 returns-clause-numbers c =
-    let over : c.loop.counter ≡ c.args.rounds = all_done c.args.rounds c.loop.counter c.loop.auto.counter-end c.loop-test.false in
+    let over : c.loop.counter ≡ c.args.rounds =
+    all_done c.args.rounds c.loop.counter c.loop.auto.counter-end c.loop-test.false in
     let last : c.loop.last ≡ last_link c.args.k c.args.rounds =
-    last_summed c.args.k c.args.rounds c.loop.counter (c.loop.light + 1) c.loop.last (last_link c.args.k c.args.rounds) over c.loop.invariant.end in
+    last_summed c.args.k c.args.rounds c.loop.counter (c.loop.light + 1) c.loop.last
+    (last_link c.args.k c.args.rounds) over c.loop.invariant.end in
     record {
       first = c.first_value-first.ensures.is;
       last = last;
-      sum = all_summed c.args.k c.args.rounds c.loop.counter (c.loop.light + 1) c.loop.sum (sum (chain c.args.k c.args.rounds)) over
+      sum = all_summed c.args.k c.args.rounds c.loop.counter (c.loop.light + 1) c.loop.sum
+          (sum (chain c.args.k c.args.rounds)) over
           c.loop.invariant.total;
-      light = c.loop.invariant.lights (some_done c.args.rounds c.loop.counter c.requires over) ∙ ap (λ w. most_light c.args.k w) last;
+      light = c.loop.invariant.lights (some_done c.args.rounds c.loop.counter c.requires over)
+          ∙ ap (λ w. most_light c.args.k w) last;
       few = c.loop.invariant.few;
       some = c.loop.invariant.some (some_done c.args.rounds c.loop.counter c.requires over);
     }

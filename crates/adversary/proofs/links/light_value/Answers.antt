@@ -6,10 +6,12 @@ use Rattle.adversary.proofs.Heavy.{is_light, light_is, root_is, root_small}
 use Rattle.adversary.proofs.links.light_value.Goals as goal
 
 -- what stands under the root
-under : (c : goal.After-isqrt) → c.from-p.result * c.from-square.result / c.from-q.result ≡ c.args.k.p * (c.args.work * c.args.work) / c.args.k.q
+under : (c : goal.After-isqrt)
+    → c.from-p.result * c.from-square.result / c.from-q.result ≡ c.args.k.p * (c.args.work * c.args.work) / c.args.k.q
 under c = cc
 
-within : (c : goal.After-isqrt) → c.isqrt.result * c.isqrt.result ≤ c.args.k.p * (c.args.work * c.args.work) / c.args.k.q
+within : (c : goal.After-isqrt)
+    → c.isqrt.result * c.isqrt.result ≤ c.args.k.p * (c.args.work * c.args.work) / c.args.k.q
 within c = subst (λ n. c.isqrt.result * c.isqrt.result ≤ n) (under c) c.isqrt.ensures.within
 
 found : (c : goal.After-isqrt) → IsGreatest (is_light c.args.k c.args.work) (c.args.work + c.isqrt.result)
@@ -17,7 +19,8 @@ found c = root_is c.args.k c.args.work c.isqrt.result c.q.ensures.ratio (within 
     (λ r less. c.isqrt.ensures.greatest r (subst (λ n. r * r ≤ n) (sym (under c)) less))
 
 pub returns-clause-is : goal.returns-clause-is
-returns-clause-is c = one_greatest (is_light c.args.k c.args.work) (c.args.work + c.isqrt.result) (most_light c.args.k c.args.work) (found c)
+returns-clause-is c = one_greatest (is_light c.args.k c.args.work) (c.args.work + c.isqrt.result)
+    (most_light c.args.k c.args.work) (found c)
     (light_is c.args.k c.args.work c.q.ensures.ratio c.requires)
 
 pub returns-clause-most : goal.returns-clause-most

@@ -1,6 +1,6 @@
 use Rattle.std.proofs.Common.{◌≡◌}
 use Rattle.clairvoyant.specs.BestSet.{renumbered}
-use Rattle.clairvoyant.proofs.InPlace.{map_front}
+use Rattle.dover_model.proofs.InPlace.{map_front}
 use Rattle.clairvoyant.proofs.optimum.renumber.Given as goal
 
 abbrev pub invariant-loop-piece : goal.invariant-loop-piece

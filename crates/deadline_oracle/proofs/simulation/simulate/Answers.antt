@@ -9,4 +9,5 @@ use Rattle.deadline_oracle.proofs.simulation.simulate.Goals as goal
 pub release-requires-clause-stands : goal.release-requires-clause-stands
 release-requires-clause-stands c =
     subst (λ (kept : List Kept). Stands c.args.jobs.now 0 0 kept c.new-2.result.items None 0) (sym c.new.ensures.empty)
-    (subst (λ (pieces : List Piece). Stands c.args.jobs.now 0 0 [] pieces None 0) (sym c.new-2.ensures.items) (stands_first c.args.jobs.now))
+    (subst (λ (pieces : List Piece). Stands c.args.jobs.now 0 0 [] pieces None 0) (sym c.new-2.ensures.items)
+    (stands_first c.args.jobs.now))

@@ -5,8 +5,10 @@ use Rattle.deadline_oracle.proofs.window.last_start.Goals as goal
 -- the window from the release of the job at hand
 starts : (c : goal.After-release-then-b-release) → StartsAt c.args.jobs.now c.args.b c.release-then-b-release.result
 starts c = subst (λ r. StartsAt c.args.jobs.now c.args.b r) (sym c.release-then-b-release.ensures.is)
-    (starts_at c.args.jobs.now c.requires.order c.args.b c.loop-i.work c.loop-i.i c.index-jobs-i.result c.loop-i.auto.i c.loop-i-test.true
-    c.index-jobs-i.is c.loop-i.invariant.passed c.work-work.ensures.job (omega (arith, c.if-deadline-b.true, c.deadline.ensures.is))
+    (starts_at c.args.jobs.now c.requires.order c.args.b c.loop-i.work c.loop-i.i c.index-jobs-i.result c.loop-i.auto.i
+    c.loop-i-test.true
+    c.index-jobs-i.is c.loop-i.invariant.passed c.work-work.ensures.job
+    (omega (arith, c.if-deadline-b.true, c.deadline.ensures.is))
     (omega (arith, c.if-b-release.true, c.release.ensures.is, c.work-work.ensures.is)))
 
 pub returns-then-b-release-clause-release : goal.returns-then-b-release-clause-release
@@ -20,9 +22,12 @@ returns-then-b-release-clause-last c = (starts c).last
 
 pub loop-i-preserved-else-b-release : goal.loop-i-preserved-else-b-release
 loop-i-preserved-else-b-release c = record {
-  passed = subst (λ w. Passed c.args.b (c.loop-i.work + w) (drop (c.loop-i.i - 1) c.args.jobs.now)) (sym c.work-work.ensures.is)
-      (passed_at c.args.jobs.now c.requires.order c.args.b c.loop-i.work c.loop-i.i c.index-jobs-i.result c.loop-i.auto.i c.loop-i-test.true
-      c.index-jobs-i.is c.loop-i.invariant.passed c.work-work.ensures.job (omega (arith, c.if-deadline-b.true, c.deadline.ensures.is))
+  passed = subst (λ w. Passed c.args.b (c.loop-i.work + w) (drop (c.loop-i.i - 1) c.args.jobs.now))
+      (sym c.work-work.ensures.is)
+      (passed_at c.args.jobs.now c.requires.order c.args.b c.loop-i.work c.loop-i.i c.index-jobs-i.result
+      c.loop-i.auto.i c.loop-i-test.true
+      c.index-jobs-i.is c.loop-i.invariant.passed c.work-work.ensures.job
+      (omega (arith, c.if-deadline-b.true, c.deadline.ensures.is))
       (omega (arith, c.if-b-release.false, c.release.ensures.is, c.work-work.ensures.is)));
   small = omega (
     arith,
@@ -37,6 +42,7 @@ loop-i-preserved-else-b-release c = record {
 pub unreachable-requires : goal.unreachable-requires
 unreachable-requires c =
     none_passed c.args.b c.loop-i.work c.args.jobs.now
-    (subst (λ n. Passed c.args.b c.loop-i.work (drop n c.args.jobs.now)) (let none : c.loop-i.i ≡ 0 = omega (arith, c.loop-i-test.false) in none)
+    (subst (λ n. Passed c.args.b c.loop-i.work (drop n c.args.jobs.now))
+    (let none : c.loop-i.i ≡ 0 = omega (arith, c.loop-i-test.false) in none)
     c.loop-i.invariant.passed)
     c.requires.some.0 c.requires.some.1 c.requires.some.2

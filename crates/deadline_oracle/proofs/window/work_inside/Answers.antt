@@ -7,5 +7,6 @@ use Rattle.deadline_oracle.proofs.window.work_inside.Goals as goal
 
 pub returns : goal.returns
 returns c = c.loop-job.invariant.sum
-    ∙ ap (sum_by (asked c.args.a c.args.b)) (take_all c.loop-job.job-index c.args.jobs.now (omega (arith, c.loop-job-test.false)))
+    ∙ ap (sum_by (asked c.args.a c.args.b))
+    (take_all c.loop-job.job-index c.args.jobs.now (omega (arith, c.loop-job-test.false)))
     ∙ sym (work_is c.args.jobs.now c.args.a c.args.b)

@@ -6,7 +6,8 @@ use Rattle.dover_core.proofs.machine.print_step.Goals as goal
 
 pub apply-requires : goal.apply-requires
 apply-requires g c =
-    next_in c.args.to c.args.queues.now c.requires.can (Prints c.args.e.now) c.requires.step (not_end c.args.e.now c.in_default.not-End)
+    next_in c.args.to c.args.queues.now c.requires.can (Prints c.args.e.now) c.requires.step
+    (not_end c.args.e.now c.in_default.not-End)
 
 pub returns-in-End-clause-prints : goal.returns-in-End-clause-prints
 returns-in-End-clause-prints g c =

@@ -11,5 +11,6 @@ pub returns-in-End : goal.returns-in-End
 returns-in-End c =
     let q = c.args.queues.now in
     c.step_or_end.ensures ∙ ap (step_or_end q.state.tasks) c.open_step-step.ensures
-    ∙ step_closed q.rules (jobs_in q.rules q.state) c.requires.valid q.state (own_keeps c.args.to q.rules q.state c.requires)
+    ∙ step_closed q.rules (jobs_in q.rules q.state) c.requires.valid q.state
+    (own_keeps c.args.to q.rules q.state c.requires)
     ∙ ap (λ to. step_to to q.rules q.state) (sym c.in-End.is)

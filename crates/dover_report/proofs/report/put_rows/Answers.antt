@@ -11,7 +11,8 @@ none = record { from = 0; until = 0; regular = 0; taken = 0; displaced = 0; aban
 
 pub loop-index-preserved : goal.loop-index-preserved
 loop-index-preserved c = c.in_ok-put_line.ensures
-    ∙ ap (λ x. x ++ in_lines (row_line (c.loop-index.index + 1, get_or c.args.rows.now c.loop-index.index none) ∷ [])) c.loop-index.invariant
+    ∙ ap (λ x. x ++ in_lines (row_line (c.loop-index.index + 1, get_or c.args.rows.now c.loop-index.index none) ∷ []))
+    c.loop-index.invariant
     ∙ append_assoc c.args.text.now.items (in_lines (row_lines (take c.loop-index.index c.args.rows.now)))
     (in_lines (row_line (c.loop-index.index + 1, get_or c.args.rows.now c.loop-index.index none) ∷ []))
     ∙ ap (λ x. c.args.text.now.items ++ x) (rows_more c.args.rows.now c.loop-index.index none c.loop-index-test.true)

@@ -18,7 +18,9 @@ count-requires-clause-total c =
     )
 
 pub returns : goal.returns
-returns c J of = c.in_ok-put_counts.ensures ∙ ap (λ x. x ++ in_lines (counts_lines c.count.result)) c.new-text.ensures.items
+returns c J of = c.in_ok-put_counts.ensures
+    ∙ ap (λ x. x ++ in_lines (counts_lines c.count.result)) c.new-text.ensures.items
     ∙ ap (λ n. in_lines (counts_lines n)) c.count.ensures
-    ∙ ap in_lines (summary_is c.args.k c.args.run.now J of c.deref.result.now c.value.result (c.deref.ensures.value ∙ c.in_ok-jobs.ensures)
+    ∙ ap in_lines (summary_is c.args.k c.args.run.now J of c.deref.result.now c.value.result
+    (c.deref.ensures.value ∙ c.in_ok-jobs.ensures)
     (c.value.ensures ∙ c.in_ok-charge.ensures.value J of))

@@ -16,12 +16,15 @@ loop-number-preserved c =
     (let count = c.in_ok-ends.ensures.count in omega (arith, count))
     ∙ c.in_ok-ends.ensures.each c.loop-number.number (omega arith) in
     c.in_ok-put_row.ensures
-    ∙ ap (λ x. x ++ in_lines (row_text c.loop-number.number c.job-item.result c.index.result.now ∷ [])) c.loop-number.invariant
+    ∙ ap (λ x. x ++ in_lines (row_text c.loop-number.number c.job-item.result c.index.result.now ∷ []))
+    c.loop-number.invariant
     ∙ row_more c.args.run.now c.deref-job-items.result.now c.loop-number.number c.job-item.result
-    (codes "job,release,work,deadline,value,fate,tick\n") c.index.result.now c.job-item.is c.loop-number-test.true ending
+    (codes "job,release,work,deadline,value,fate,tick\n") c.index.result.now c.job-item.is c.loop-number-test.true
+    ending
 
 pub returns : goal.returns
 returns c k J of = c.loop-number.invariant
     ∙ ap (λ js. codes "job,release,work,deadline,value,fate,tick\n" ++ in_lines (rows_from c.args.run.now 0 js))
     (take_all c.loop-number.number c.deref-job-items.result.now (omega arith))
-    ∙ table_is k c.args.run.now J of c.deref-job-items.result.now (c.deref-job-items.ensures.value ∙ c.in_ok-jobs.ensures)
+    ∙ table_is k c.args.run.now J of c.deref-job-items.result.now
+    (c.deref-job-items.ensures.value ∙ c.in_ok-jobs.ensures)

@@ -5,9 +5,11 @@ use Rattle.lane_server.proofs.Keeping.{one_quiet}
 use Rattle.lane_server.proofs.lanes.next_short.Goals as goal
 
 pub loop-lane-preserved : goal.loop-lane-preserved
-loop-lane-preserved c = λ handed all. c.loop-lane.invariant handed all ∙ shorts_skip handed c.loop-lane.lane c.loop-lane-test.true
+loop-lane-preserved c = λ handed all. c.loop-lane.invariant handed all
+    ∙ shorts_skip handed c.loop-lane.lane c.loop-lane-test.true
     (c.in_default.ensures (lane_lines handed c.loop-lane.lane)
-    (one_quiet c.args.lanes.now handed c.loop-lane.lane c.from.result c.index-lanes-from.result all c.requires c.loop-lane-test.true c.from.ensures
+    (one_quiet c.args.lanes.now handed c.loop-lane.lane c.from.result c.index-lanes-from.result all c.requires
+    c.loop-lane-test.true c.from.ensures
     c.index-lanes-from.is))
 
 pub returns-in-Some : goal.returns-in-Some
@@ -17,7 +19,8 @@ returns-in-Some c = record {
     c.loop-lane-test.true,
     c.loop-lane.invariant handed all ∙ shorts_first handed c.loop-lane.lane c.in-Some.line c.loop-lane-test.true
         (c.in-Some.ensures (lane_lines handed c.loop-lane.lane)
-        (one_quiet c.args.lanes.now handed c.loop-lane.lane c.from.result c.index-lanes-from.result all c.requires c.loop-lane-test.true
+        (one_quiet c.args.lanes.now handed c.loop-lane.lane c.from.result c.index-lanes-from.result all c.requires
+        c.loop-lane-test.true
         c.from.ensures c.index-lanes-from.is)),
   );
 }

@@ -16,5 +16,6 @@ with_rest number o rest is = ap (λ x. Some (pair number (fields_left x))) is
 
 pub returns-then-number-from : goal.returns-then-number-from
 returns-then-number-from c = sym (numbered_is (fields_of c.args.line.now) c.in_ok-number.number c.in_ok-rest.rest.now
-    (sym c.in_ok-number.ensures.read ∙ with_rest c.in_ok-number.number c.in_ok-number.rest c.in_ok-rest.rest c.in_ok-rest.was)
+    (sym c.in_ok-number.ensures.read
+    ∙ with_rest c.in_ok-number.number c.in_ok-number.rest c.in_ok-rest.rest c.in_ok-rest.was)
     (omega (arith, c.if-number-from.true, c.from.ensures)))

@@ -7,13 +7,16 @@ pub overflow_add-lines : goal.overflow_add-lines
 overflow_add-lines g c = omega (arith, c.lines.ensures, keeps_few c.args.session.now.lanes _ c.requires.1.keeps)
 
 pub returns-in-Err-clause-text : goal.returns-in-Err-clause-text
-returns-in-Err-clause-text g c = λ x stands. short_cut c.args.session.now x stands (c.lines.result + 1) (ap (λ n. n + 1) c.lines.ensures) _ _
+returns-in-Err-clause-text g c =
+    λ x stands. short_cut c.args.session.now x stands (c.lines.result + 1) (ap (λ n. n + 1) c.lines.ensures) _ _
     (rw c.new-out.ensures at c.in-Err.ensures.text.part)
 
 pub returns-in-Ok-flush-clause-text : goal.returns-in-Ok-flush-clause-text
-returns-in-Ok-flush-clause-text g c = λ x stands. short_put c.args.session.now x stands (c.lines.result + 1) (ap (λ n. n + 1) c.lines.ensures) _ _ _ _
+returns-in-Ok-flush-clause-text g c =
+    λ x stands. short_put c.args.session.now x stands (c.lines.result + 1) (ap (λ n. n + 1) c.lines.ensures) _ _ _ _
     (rw c.new-out.ensures at c.in-Ok.ensures.text.all) c.in-Ok-flush.ensures.text.all
 
 pub returns-in-Err-flush-clause-text : goal.returns-in-Err-flush-clause-text
 returns-in-Err-flush-clause-text g c = λ x stands. short_unflushed c.args.session.now x stands (c.lines.result + 1)
-    (ap (λ n. n + 1) c.lines.ensures) _ _ _ _ (rw c.new-out.ensures at c.in-Ok.ensures.text.all) c.in-Err-flush.ensures.text.part
+    (ap (λ n. n + 1) c.lines.ensures) _ _ _ _ (rw c.new-out.ensures at c.in-Ok.ensures.text.all)
+    c.in-Err-flush.ensures.text.part

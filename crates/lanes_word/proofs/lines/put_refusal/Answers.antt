@@ -4,7 +4,8 @@ use Rattle.lanes_word.proofs.Texts.{whole_line}
 use Rattle.lanes_word.proofs.lines.put_refusal.Goals as goal
 
 pub put_number-requires : goal.put_number-requires
-put_number-requires g c = rw (c.put_word.ensures, c.new-line.ensures) (omega (arith, word_and_number c.args.number (omega arith)))
+put_number-requires g c =
+    rw (c.put_word.ensures, c.new-line.ensures) (omega (arith, word_and_number c.args.number (omega arith)))
 
 pub put_word-requires-2 : goal.put_word-requires-2
 put_word-requires-2 g c = rw (c.put_number.ensures, c.put_word.ensures, c.new-line.ensures)

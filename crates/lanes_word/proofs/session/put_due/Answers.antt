@@ -3,11 +3,18 @@ use Rattle.lanes_word.proofs.Giving.{given_none, given_more, given_cut, given_al
 use Rattle.lanes_word.proofs.session.put_due.Goals as goal
 
 pub loop-init : goal.loop-init
-loop-init g c = record { given = λ ls rest it. given_none _ _ _ ls rest it; closed = refl; writes = refl; reads = refl; calls = λ well. well }
+loop-init g c = record {
+  given = λ ls rest it. given_none _ _ _ ls rest it;
+  closed = refl;
+  writes = refl;
+  reads = refl;
+  calls = λ well. well;
+}
 
 pub next_out-requires : goal.next_out-requires
 next_out-requires g c =
-    let given = c.loop.invariant.given c.requires.0 c.requires.1 c.requires.2 in record { stands = (c.requires.0, given.left, given.stands) }
+    let given = c.loop.invariant.given c.requires.0 c.requires.1 c.requires.2 in
+    record { stands = (c.requires.0, given.left, given.stands) }
 
 pub put_out-requires : goal.put_out-requires
 put_out-requires g c =
@@ -18,7 +25,8 @@ pub loop-preserved : goal.loop-preserved
 loop-preserved g c = record {
   given = λ ls rest it.
       let given = c.loop.invariant.given ls rest it in
-      given_more _ _ _ _ _ ls rest _ given c.in-Some.lane c.in-Some.line _ (c.in-Some.ensures.gives ls given.left given.stands) _ _
+      given_more _ _ _ _ _ ls rest _ given c.in-Some.lane
+      c.in-Some.line _ (c.in-Some.ensures.gives ls given.left given.stands) _ _
       c.in-Ok.ensures.text.all;
   closed = c.in-Some.ensures.closed ∙ c.loop.invariant.closed;
   writes = grind arith;
@@ -29,7 +37,8 @@ loop-preserved g c = record {
 pub returns-in-Err-clause-text : goal.returns-in-Err-clause-text
 returns-in-Err-clause-text g c = λ ls rest it.
     let given = c.loop.invariant.given ls rest it in
-    given_cut _ _ _ _ _ ls rest _ given c.in-Some.lane c.in-Some.line _ (c.in-Some.ensures.gives ls given.left given.stands) _ _ c.in-Err.failed
+    given_cut _ _ _ _ _ ls rest _ given c.in-Some.lane
+    c.in-Some.line _ (c.in-Some.ensures.gives ls given.left given.stands) _ _ c.in-Err.failed
     c.in-Err.ensures.text.part
 
 pub returns-in-None-clause-text : goal.returns-in-None-clause-text

@@ -26,7 +26,8 @@ returns-in-Err-clause-delivers g c = λ ls keeps.
 pub returns-in-Ok-put_due-clause-delivers : goal.returns-in-Ok-put_due-clause-delivers
 returns-in-Ok-put_due-clause-delivers g c = λ ls keeps.
     let closed = rw c.in-Ok-Closed.field-0-is at (c.in-Ok-Closed.ensures ls keeps.stands) in
-    closed_put ls c.args.line.now (keeps_open c.args.lanes.now ls keeps) _ _ _ _ c.line.new.self closed c.closed_status.result c.all_ended.result
+    closed_put ls c.args.line.now
+    (keeps_open c.args.lanes.now ls keeps) _ _ _ _ c.line.new.self closed c.closed_status.result c.all_ended.result
     (c.all_ended.ensures _ _ (c.in-Ok-put_due.ensures.stands _ _ closed.stands)) c.closed_status.ensures
     (c.in-Ok-put_due.ensures.text _ _ closed.stands).all
 
@@ -47,7 +48,8 @@ pub returns-in-Err-BadLane-clause-delivers : goal.returns-in-Err-BadLane-clause-
 returns-in-Err-BadLane-clause-delivers g c = λ ls keeps.
     let it = rw c.in-Err-BadLane.field-0-is at (c.in-Err-BadLane.ensures ls keeps.stands) in
     let stands = keeps_open c.args.lanes.now ls keeps in
-    c.refuse-in-Err-BadLane.ensures.delivers (input_of_lines ls) (input_of_lines (ls ++ c.args.line.now ∷ [])) BadLane stands
+    c.refuse-in-Err-BadLane.ensures.delivers (input_of_lines ls)
+    (input_of_lines (ls ++ c.args.line.now ∷ [])) BadLane stands
     (ap (λ (k : Kept). k.lines) it.2 ∙ keeps.stands.counted) refl (input_bad ls c.args.line.now stands it.0 it.1)
 
 pub returns-in-Err-Memory-clause-delivers : goal.returns-in-Err-Memory-clause-delivers

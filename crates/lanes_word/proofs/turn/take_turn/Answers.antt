@@ -1,6 +1,7 @@
 use Rattle.std.proofs.Common.{Ok, ap, ◌∙◌}
 use Rattle.dover_port.proofs.Rising.{rose_from}
-use Rattle.lanes_word.proofs.Turns.{plain_turn, turn_made, turn_unflushed, turn_unwritten, turn_no_memory, some_front, ends_well}
+use Rattle.lanes_word.proofs.Turns.{plain_turn, turn_made, turn_unflushed, turn_unwritten, turn_no_memory, some_front}
+use Rattle.lanes_word.proofs.Turns.{ends_well}
 use Rattle.lanes_word.proofs.turn.take_turn.Goals as goal
 
 pub returns-in-Ok-flush-clause-makes : goal.returns-in-Ok-flush-clause-makes
@@ -22,12 +23,14 @@ returns-in-Err-clause-makes g c = λ x stands.
 pub returns-in-Err-NoMemory-clause-makes : goal.returns-in-Err-NoMemory-clause-makes
 returns-in-Err-NoMemory-clause-makes g c = λ x stands.
     turn_no_memory _ _ _ x _ (some_front _ _ c.if-count-eq0.false c.in-Ok.ensures.bound) c.in-Ok.ensures.moved _
-    c.take_piece.new.session (rw (c.in-Err-NoMemory.field-0-is, c.requires.empty) at (c.in-Err-NoMemory.ensures.delivers x stands))
+    c.take_piece.new.session
+    (rw (c.in-Err-NoMemory.field-0-is, c.requires.empty) at (c.in-Err-NoMemory.ensures.delivers x stands))
 
 pub returns-in-Err-Unwritten-clause-makes : goal.returns-in-Err-Unwritten-clause-makes
 returns-in-Err-Unwritten-clause-makes g c = λ x stands.
     turn_unwritten _ _ _ x _ (some_front _ _ c.if-count-eq0.false c.in-Ok.ensures.bound) c.in-Ok.ensures.moved _
-    c.take_piece.new.session (rw (c.in-Err-Unwritten.field-0-is, c.requires.empty) at (c.in-Err-Unwritten.ensures.delivers x stands))
+    c.take_piece.new.session
+    (rw (c.in-Err-Unwritten.field-0-is, c.requires.empty) at (c.in-Err-Unwritten.ensures.delivers x stands))
 
 pub returns-in-Ok-flush-clause-causes : goal.returns-in-Ok-flush-clause-causes
 returns-in-Ok-flush-clause-causes g c = rw c.turn_of.ensures
@@ -41,9 +44,11 @@ returns-in-Err-clause-causes g c = (
 )
 
 pub returns-in-Err-NoMemory-clause-causes : goal.returns-in-Err-NoMemory-clause-causes
-returns-in-Err-NoMemory-clause-causes g c = let k = rw c.in-Err-NoMemory.field-0-is at c.in-Err-NoMemory.ensures.cause in
+returns-in-Err-NoMemory-clause-causes g c = let k =
+    rw c.in-Err-NoMemory.field-0-is at c.in-Err-NoMemory.ensures.cause in
     (k.1 ∙ c.in-Ok.ensures.cause.ok, k.0 ∙ c.in-Ok.ensures.cause.other)
 
 pub returns-in-Err-Unwritten-clause-causes : goal.returns-in-Err-Unwritten-clause-causes
-returns-in-Err-Unwritten-clause-causes g c = let k = rw c.in-Err-Unwritten.field-0-is at c.in-Err-Unwritten.ensures.cause in
+returns-in-Err-Unwritten-clause-causes g c = let k =
+    rw c.in-Err-Unwritten.field-0-is at c.in-Err-Unwritten.ensures.cause in
     (k.1 ∙ c.in-Ok.ensures.cause.ok, rose_from c.in-Ok.ensures.cause.other k.0)

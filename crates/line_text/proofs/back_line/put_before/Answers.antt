@@ -1,4 +1,5 @@
-use Rattle.std.proofs.Common.{◌≡◌, ℕ, ◌+◌, ◌-◌, ◌<◌, ◌≤◌, List, ◌∷◌, ◌++◌, length, get_or, drop, slice_set, sym, ap, ◌∙◌, subst, arith}
+use Rattle.std.proofs.Common.{◌≡◌, ℕ, ◌+◌, ◌-◌, ◌<◌, ◌≤◌, List, ◌∷◌, ◌++◌, length, get_or, drop, slice_set, sym, ap}
+use Rattle.std.proofs.Common.{◌∙◌, subst, arith}
 use Rattle.std.proofs.lemmas.List.{drop_more, length-set}
 use Rattle.line_text.specs.Writing.{numbers_behind}
 use Rattle.line_text.proofs.Written.{number_before, digits_at}
@@ -7,13 +8,15 @@ use Rattle.line_text.proofs.back_line.put_before.Goals as goal
 pub write_digits-start-requires : goal.write_digits-start-requires
 write_digits-start-requires c =
     let some : 0 < c.loop-left.left = c.loop-left-test.true in
-    let digits = digits_at c.args.numbers.now (c.loop-left.left - 1) c.requires.short (omega (arith, some, c.loop-left.invariant.few)) in
+    let digits = digits_at c.args.numbers.now (c.loop-left.left - 1) c.requires.short
+    (omega (arith, some, c.loop-left.invariant.few)) in
     (omega (arith, some, digits, c.loop-left.invariant.room), c.loop-left.invariant.inside)
 
 pub overflow_sub-start : goal.overflow_sub-start
 overflow_sub-start c =
     let some : 0 < c.loop-left.left = c.loop-left-test.true in
-    let digits = digits_at c.args.numbers.now (c.loop-left.left - 1) c.requires.short (omega (arith, some, c.loop-left.invariant.few)) in
+    let digits = digits_at c.args.numbers.now (c.loop-left.left - 1) c.requires.short
+    (omega (arith, some, c.loop-left.invariant.few)) in
     omega (arith, some, digits, c.loop-left.invariant.room, c.write_digits-start.ensures.start)
 
 pub loop-left-preserved : goal.loop-left-preserved
@@ -44,8 +47,10 @@ loop-left-preserved c =
       );
       room = omega (arith, some, digits, c.loop-left.invariant.room, c.write_digits-start.ensures.start);
       spent = omega (arith, some, digits, c.loop-left.invariant.spent, c.write_digits-start.ensures.start);
-      written = subst (λ ns. drop (at - 1) (slice_set written (at - 1) 32) ≡ numbers_behind ns ++ drop c.args.end c.args.bytes.now) (sym next)
-          (number_before written at (get_or numbers i 0) (drop c.loop-left.left numbers) (drop c.loop-left.start c.loop-left.bytes)
+      written = subst (λ ns. drop (at - 1) (slice_set written (at - 1) 32) ≡ numbers_behind ns
+          ++ drop c.args.end c.args.bytes.now) (sym next)
+          (number_before written at (get_or numbers i 0) (drop c.loop-left.left numbers)
+          (drop c.loop-left.start c.loop-left.bytes)
           (drop c.args.end c.args.bytes.now) low (omega (
             arith,
             size,

@@ -6,7 +6,8 @@ use Rattle.line_text.proofs.fields.read_numbers.Given as goal
 
 -- the numbers so far, and those of what is left
 abbrev pub invariant-loop-left : goal.invariant-loop-left
-invariant-loop-left l = option_map (λ ns. l.numbers ++ ns) (numerals (fields_left l.left)) ≡ numerals (fields_left l.fn.fields)
+invariant-loop-left l = option_map (λ ns. l.numbers ++ ns) (numerals (fields_left l.left)) ≡ numerals
+    (fields_left l.fn.fields)
 
 -- the bytes that are left
 abbrev pub decreases-loop-left : goal.decreases-loop-left

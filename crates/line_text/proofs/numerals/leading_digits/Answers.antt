@@ -4,19 +4,22 @@ use Rattle.line_text.proofs.FirstNumber.{at_most, small_more, digit_small, digit
 use Rattle.line_text.proofs.numerals.leading_digits.Goals as goal
 
 pub returns-then-not-is_ascii_digit-clause-short : goal.returns-then-not-is_ascii_digit-clause-short
-returns-then-not-is_ascii_digit-clause-short c = at_most c.loop-at.number c.loop-at.at 18 c.loop-at.invariant.small c.loop-at.invariant.few
+returns-then-not-is_ascii_digit-clause-short c =
+    at_most c.loop-at.number c.loop-at.at 18 c.loop-at.invariant.small c.loop-at.invariant.few
 
 pub returns-clause-short : goal.returns-clause-short
 returns-clause-short c = at_most c.loop-at.number c.loop-at.at 18 c.loop-at.invariant.small c.loop-at.invariant.few
 
 pub overflow_mul-number : goal.overflow_mul-number
 overflow_mul-number c =
-    let low : c.loop-at.number < 10 ^ 18 = at_most c.loop-at.number c.loop-at.at 18 c.loop-at.invariant.small c.loop-at.invariant.few in omega arith
+    let low : c.loop-at.number < 10 ^ 18 =
+    at_most c.loop-at.number c.loop-at.at 18 c.loop-at.invariant.small c.loop-at.invariant.few in omega arith
 
 pub overflow_add-number : goal.overflow_add-number
 overflow_add-number c =
     let byte : ℕ = get_or c.args.text.now c.loop-at.at 0 in
-    let low : c.loop-at.number < 10 ^ 18 = at_most c.loop-at.number c.loop-at.at 18 c.loop-at.invariant.small c.loop-at.invariant.few in
+    let low : c.loop-at.number < 10 ^ 18 =
+    at_most c.loop-at.number c.loop-at.at 18 c.loop-at.invariant.small c.loop-at.invariant.few in
     let digit : byte - 48 ≤ 9 = digit_small byte (sym c.is_ascii_digit.ensures.value ∙ c.if-not-is_ascii_digit.false) in
     omega (arith, c.from.ensures)
 
@@ -24,10 +27,12 @@ pub loop-at-preserved : goal.loop-at-preserved
 loop-at-preserved c =
     let byte : ℕ = get_or c.args.text.now c.loop-at.at 0 in
     let digit : is_ascii_digit byte ≡ true = sym c.is_ascii_digit.ensures.value ∙ c.if-not-is_ascii_digit.false in
-    let added : 10 * c.loop-at.number + c.from.result ≡ 10 * c.loop-at.number + (byte - 48) = ap (λ d. 10 * c.loop-at.number + d) c.from.ensures in
+    let added : 10 * c.loop-at.number + c.from.result ≡ 10 * c.loop-at.number + (byte - 48) =
+    ap (λ d. 10 * c.loop-at.number + d) c.from.ensures in
     record {
       digits = digits_more c.args.text.now c.loop-at.at c.loop-at-test.true c.loop-at.invariant.digits digit;
-      number = added ∙ ap (λ n. 10 * n + (byte - 48)) c.loop-at.invariant.number ∙ number_more c.args.text.now c.loop-at.at c.loop-at-test.true;
+      number = added ∙ ap (λ n. 10 * n + (byte - 48)) c.loop-at.invariant.number
+          ∙ number_more c.args.text.now c.loop-at.at c.loop-at-test.true;
       small = subst (λ n. n < 10 ^ (c.loop-at.at + 1)) (sym added)
           (small_more c.loop-at.number c.loop-at.at (byte - 48) c.loop-at.invariant.small (digit_small byte digit));
       few = omega arith;

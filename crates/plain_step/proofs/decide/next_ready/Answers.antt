@@ -7,4 +7,5 @@ use Rattle.plain_step.proofs.decide.next_ready.Goals as goal
 pub has_room-requires-clause-some : goal.has_room-requires-clause-some
 has_room-requires-clause-some c = λ none.
     let empty : Some c.in-Some.p ≡ None =
-    sym c.in-Some.is ∙ c.first_held.ensures ∙ ap (first (due_first c.args.version)) (none_filtered is_held c.args.tasks.now none) in cc
+    sym c.in-Some.is ∙ c.first_held.ensures
+    ∙ ap (first (due_first c.args.version)) (none_filtered is_held c.args.tasks.now none) in cc

@@ -6,4 +6,5 @@ use Rattle.plain_step.proofs.InPlace.{map_front}
 use Rattle.plain_step.proofs.effect.wait.Given as goal
 
 abbrev pub invariant-loop-t : goal.invariant-loop-t
-invariant-loop-t l = l.tasks ≡ map_front (λ t. with_role t (if t.number == l.number then Waiting else t.role)) l.t-index l.initial.tasks
+invariant-loop-t l = l.tasks ≡ map_front
+    (λ t. with_role t (if t.number == l.number then Waiting else t.role)) l.t-index l.initial.tasks

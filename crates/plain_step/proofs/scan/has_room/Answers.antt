@@ -4,4 +4,5 @@ use Rattle.plain_step.proofs.Scans.{room_all}
 use Rattle.plain_step.proofs.scan.has_room.Goals as goal
 
 pub returns : goal.returns
-returns c = c.fits.ensures ∙ room_all c.args.amount c.args.clock (is_member c.args.with_running) c.args.tasks.now c.requires.some
+returns c = c.fits.ensures
+    ∙ room_all c.args.amount c.args.clock (is_member c.args.with_running) c.args.tasks.now c.requires.some

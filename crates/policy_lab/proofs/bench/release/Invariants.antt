@@ -9,7 +9,9 @@ decreases-loop-released l = length l.jobs - l.released
 
 abbrev pub invariant-loop-released : goal.invariant-loop-released
 invariant-loop-released l = record {
-  ready : (tasks : List Task) → HasReady l.tick l.jobs l.before l.initial.ready.items tasks → Each (λ j. l.tick ≤ j.release) (drop l.before l.jobs)
+  ready : (tasks : List Task) → HasReady l.tick l.jobs l.before l.initial.ready.items tasks
+      → Each (λ j. l.tick ≤ j.release) (drop l.before l.jobs)
       → HasReady l.tick l.jobs l.released l.ready.items tasks;
-  later : Each (λ j. l.tick ≤ j.release) (drop l.before l.jobs) → Each (λ j. l.tick ≤ j.release) (drop l.released l.jobs);
+  later : Each (λ j. l.tick ≤ j.release) (drop l.before l.jobs)
+      → Each (λ j. l.tick ≤ j.release) (drop l.released l.jobs);
 }

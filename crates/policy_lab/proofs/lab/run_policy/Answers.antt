@@ -14,5 +14,6 @@ returns-in-Ok-clause-value g c = λ rules.
 pub returns-in-Ok-clause-pieces : goal.returns-in-Ok-clause-pieces
 returns-in-Ok-clause-pieces g c =
     let picks = g.P.Policy.picks c.args.policy.now in
-    c.in-Ok.ensures.pieces ∙ ap (λ m. stretches (schedule_before picks c.args.jobs.now m)) c.last_deadline-ticks.ensures.is
+    c.in-Ok.ensures.pieces ∙ ap
+    (λ m. stretches (schedule_before picks c.args.jobs.now m)) c.last_deadline-ticks.ensures.is
     ∙ ap stretches (sym (run_is picks c.args.jobs.now))

@@ -1,6 +1,6 @@
 use Rattle.std.proofs.Common.{◌≡◌}
 use Rattle.policy_lab.specs.Bench.{given_entry}
-use Rattle.policy_lab.proofs.InPlace.{map_front}
+use Rattle.dover_model.proofs.InPlace.{map_front}
 use Rattle.policy_lab.proofs.scan.give.Given as goal
 
 abbrev pub invariant-loop-e : goal.invariant-loop-e

@@ -40,7 +40,8 @@ loop-event-preserved g c = record {
   follows = rw c.in-Some.ensures.last tt;
   list = c.in-Some.ensures.list ∙ c.loop-event.invariant.list;
   sound = c.in-Some.ensures.stands.sound;
-  count = λ start spent. spent_next End c.loop-event.server c.step.new.self start _ _ c.loop-event.invariant.taken.valid c.loop-event.invariant.sound
+  count = λ start spent. spent_next End c.loop-event.server c.step.new.self start _ _ c.loop-event.invariant.taken.valid
+      c.loop-event.invariant.sound
       c.in-Some.ensures.list c.in-Some.ensures.count (c.loop-event.invariant.count start spent);
 }
 
@@ -52,5 +53,7 @@ pub returns-clause-list : goal.returns-clause-list
 returns-clause-list g c = c.in_default.ensures.list ∙ c.loop-event.invariant.list
 
 pub returns-clause-count : goal.returns-clause-count
-returns-clause-count g c = λ start spent. spent_next End c.loop-event.server c.step.new.self start _ _ c.loop-event.invariant.taken.valid
-    c.loop-event.invariant.sound c.in_default.ensures.list c.in_default.ensures.count (c.loop-event.invariant.count start spent)
+returns-clause-count g c =
+    λ start spent. spent_next End c.loop-event.server c.step.new.self start _ _ c.loop-event.invariant.taken.valid
+    c.loop-event.invariant.sound c.in_default.ensures.list c.in_default.ensures.count
+    (c.loop-event.invariant.count start spent)

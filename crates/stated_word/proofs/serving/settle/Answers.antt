@@ -18,28 +18,34 @@ pub add-requires-clause-counts : goal.add-requires-clause-counts
 add-requires-clause-counts g c = (
   c.loop-event.invariant.tallied.events,
   counts_still _ c.loop-event.server c.step.new.self _ c.loop-event.invariant.tallied c.in-Some.ensures.list,
-  room_next _ c.loop-event.server c.step.new.self _ c.loop-event.invariant.tallied c.in-Some.ensures.list _ c.in-Some.ensures.some,
+  room_next _ c.loop-event.server c.step.new.self _ c.loop-event.invariant.tallied
+      c.in-Some.ensures.list _ c.in-Some.ensures.some,
 )
 
 pub loop-event-preserved : goal.loop-event-preserved
 loop-event-preserved g c = record {
-  tallied = settled_next _ c.loop-event.server c.step.new.self _ c.loop-event.invariant.tallied c.in-Some.ensures.list _ c.in-Some.ensures.some _
+  tallied = settled_next _ c.loop-event.server c.step.new.self _ c.loop-event.invariant.tallied
+      c.in-Some.ensures.list _ c.in-Some.ensures.some _
       (c.add.ensures c.loop-event.invariant.tallied.events
-      (counts_still _ c.loop-event.server c.step.new.self _ c.loop-event.invariant.tallied c.in-Some.ensures.list)) c.in-Some.ensures.ended;
+      (counts_still _ c.loop-event.server c.step.new.self _ c.loop-event.invariant.tallied c.in-Some.ensures.list))
+      c.in-Some.ensures.ended;
   follows = again _ _ _ c.requires.follows c.in-Some.ensures.last;
   list = c.in-Some.ensures.list ∙ c.loop-event.invariant.list;
   spare = omega (arith, c.loop-event.invariant.spare, c.in-Some.ensures.spare);
-  count = λ start spent. spent_next (Mark c.args.mark) c.loop-event.server c.step.new.self start _ _ c.loop-event.invariant.tallied.valid
+  count = λ start spent. spent_next
+      (Mark c.args.mark) c.loop-event.server c.step.new.self start _ _ c.loop-event.invariant.tallied.valid
       (tallied_sound _ _ _ c.loop-event.invariant.tallied) c.in-Some.ensures.list c.in-Some.ensures.count
       (c.loop-event.invariant.count start spent);
 }
 
 pub returns-clause-tallied : goal.returns-clause-tallied
-returns-clause-tallied g c = settled_ends _ c.loop-event.server c.step.new.self _ c.loop-event.invariant.tallied c.in_default.ensures.list
+returns-clause-tallied g c =
+    settled_ends _ c.loop-event.server c.step.new.self _ c.loop-event.invariant.tallied c.in_default.ensures.list
     (c.in_default.ensures.none refl)
     c.in_default.ensures.ended
 
 pub returns-clause-count : goal.returns-clause-count
 returns-clause-count g c = λ start spent. spent_next (Mark c.args.mark) c.loop-event.server c.step.new.self start _ _
-    c.loop-event.invariant.tallied.valid (tallied_sound _ _ _ c.loop-event.invariant.tallied) c.in_default.ensures.list c.in_default.ensures.count
+    c.loop-event.invariant.tallied.valid
+    (tallied_sound _ _ _ c.loop-event.invariant.tallied) c.in_default.ensures.list c.in_default.ensures.count
     (c.loop-event.invariant.count start spent)

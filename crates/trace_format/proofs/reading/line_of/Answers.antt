@@ -8,4 +8,5 @@ pub returns-in_default : goal.returns-in_default
 returns-in_default c =
     let other : bytes_eq c.cut_field.result.0.now (codes "refuse") ≡ false =
     sym (ap (bytes_eq c.cut_field.result.0.now) c.as_slice.ensures) ∙ sym c.eq.ensures ∙ c.if-eq.false in
-    sym (ap line_of_fields c.cut_field.ensures.fields ∙ none_read c.cut_field.result.0.now _ other c.in_default.ensures.none)
+    sym (ap line_of_fields c.cut_field.ensures.fields
+    ∙ none_read c.cut_field.result.0.now _ other c.in_default.ensures.none)

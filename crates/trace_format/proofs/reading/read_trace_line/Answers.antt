@@ -17,7 +17,8 @@ pub returns-in-Some-clause-rules : goal.returns-in-Some-clause-rules
 returns-in-Some-clause-rules c = (read_IsRead c.args.line.now c.in-Some.read (sym c.in-Some.ensures)).rules
 
 pub returns-in-Some-clause-only : goal.returns-in-Some-clause-only
-returns-in-Some-clause-only c = λ x form same. ap Ok (some_same _ _ (c.in-Some.ensures ∙ only_read c.args.line.now x form same))
+returns-in-Some-clause-only c =
+    λ x form same. ap Ok (some_same _ _ (c.in-Some.ensures ∙ only_read c.args.line.now x form same))
 
 pub returns-in-None-clause-only : goal.returns-in-None-clause-only
 returns-in-None-clause-only c = λ x form same. none_is_some (c.in-None.ensures ∙ only_read c.args.line.now x form same)

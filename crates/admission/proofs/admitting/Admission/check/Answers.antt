@@ -11,4 +11,5 @@ returns-in-None-clause-refusal c jobs stands =
     let job : IsJob j = c.in-Some.ensures.allowed.0 refl in
     let keep : AllKeepRatio c.args.self.now.ratio jobs c.in-Some.job = c.in-None.ensures.none jobs stands refl in
     not_refused c.args.self.now.ratio jobs j job (omega (arith, ap (λ k. k.count) c.self.view_is, stands.count))
-    (omega (arith, ap (λ k. k.total) c.self.view_is, stands.total)) (subst (AllKeepRatio c.args.self.now.ratio jobs) c.in-Some.ensures.facts keep)
+    (omega (arith, ap (λ k. k.total) c.self.view_is, stands.total))
+    (subst (AllKeepRatio c.args.self.now.ratio jobs) c.in-Some.ensures.facts keep)

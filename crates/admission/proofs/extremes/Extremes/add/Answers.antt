@@ -4,6 +4,8 @@ use Rattle.admission.proofs.extremes.Extremes.add.Goals as goal
 pub returns : goal.returns
 returns c jobs it number = let e = c.args.self.now in let y = c.args.next.now in record {
   each = each_more jobs e it y c.requires number;
-  least = least_more jobs e it y c.requires number c.keep_less_dense.new.kept c.keep_less_dense.ensures.next c.keep_less_dense.ensures.kept;
-  densest = densest_more jobs e it y c.requires number c.keep_denser.new.kept c.keep_denser.ensures.next c.keep_denser.ensures.kept;
+  least = least_more jobs e it y c.requires number c.keep_less_dense.new.kept c.keep_less_dense.ensures.next
+      c.keep_less_dense.ensures.kept;
+  densest = densest_more jobs e it y c.requires number c.keep_denser.new.kept c.keep_denser.ensures.next
+      c.keep_denser.ensures.kept;
 }

@@ -6,9 +6,14 @@ pub returns-then-not-keeps_ratio-2-clause-other : goal.returns-then-not-keeps_ra
 returns-then-not-keeps_ratio-2-clause-other c jobs it = record {
   job = c.args.self.now.densest.job;
   breaks = sym c.keeps_ratio-2.ensures ∙ c.if-not-keeps_ratio-2.true;
-  which = inr (it.densest, least_keep c.args.ratio jobs c.args.self.now c.args.job.now it (sym c.keeps_ratio.ensures ∙ c.if-not-keeps_ratio.false));
+  which = inr (
+    it.densest,
+    least_keep c.args.ratio jobs c.args.self.now c.args.job.now it
+        (sym c.keeps_ratio.ensures ∙ c.if-not-keeps_ratio.false),
+  );
 }
 
 pub returns-clause-none : goal.returns-clause-none
 returns-clause-none c jobs it none = all_keep c.args.ratio jobs c.args.self.now c.args.job.now it
-    (sym c.keeps_ratio.ensures ∙ c.if-not-keeps_ratio.false) (sym c.keeps_ratio-2.ensures ∙ c.if-not-keeps_ratio-2.false)
+    (sym c.keeps_ratio.ensures ∙ c.if-not-keeps_ratio.false)
+    (sym c.keeps_ratio-2.ensures ∙ c.if-not-keeps_ratio-2.false)

@@ -1,7 +1,8 @@
 use Rattle.std.proofs.Common.{◌<◌, ◌≤◌, ap, subst, refl}
 use Rattle.dover_model.specs.Limits.{most_jobs, most_value}
 use Rattle.adversary.proofs.Feeds.{small, modest, fits}
-use Rattle.adversary.proofs.Giving.{baiting, too_heavy, rounds_low, first_some, tick_and_rounds, new_left, new_jobs, at_once}
+use Rattle.adversary.proofs.Giving.{baiting, too_heavy, rounds_low, first_some, tick_and_rounds, new_left, new_jobs}
+use Rattle.adversary.proofs.Giving.{at_once}
 use Rattle.adversary.proofs.feed.Bait.new.Goals as goal
 
 pub returns-in_err-chain-clause-fits : goal.returns-in_err-chain-clause-fits
@@ -16,7 +17,8 @@ returns-then-chain-gt-MOST_VALUE-clause-fits c = (
 )
 
 pub overflow_sub-result : goal.overflow_sub-result
-overflow_sub-result c = rounds_low c.args.k c.args.rounds c.from.result c.in_ok-chain.chain.sum c.from.ensures c.in_ok-chain.ensures.numbers.sum
+overflow_sub-result c = rounds_low c.args.k c.args.rounds c.from.result c.in_ok-chain.chain.sum c.from.ensures
+    c.in_ok-chain.ensures.numbers.sum
 
 pub invariant_of-result : goal.invariant_of-result
 invariant_of-result c = record {
@@ -25,17 +27,21 @@ invariant_of-result c = record {
   numbers = c.in_ok-chain.ensures.numbers;
   modest = c.if-chain-gt-MOST_VALUE.false;
   bait_tick = tick_and_rounds c.in_ok-chain.chain.sum c.from.result c.args.rounds c.from.ensures
-      (rounds_low c.args.k c.args.rounds c.from.result c.in_ok-chain.chain.sum c.from.ensures c.in_ok-chain.ensures.numbers.sum);
+      (rounds_low c.args.k c.args.rounds c.from.result c.in_ok-chain.chain.sum c.from.ensures
+      c.in_ok-chain.ensures.numbers.sum);
   early = at_once;
   work = first_some c.args.k c.in_ok-chain.chain.first c.in_ok-chain.ensures.numbers.first;
-  left = new_left c.args.k c.args.rounds c.in_ok-chain.chain.first c.in_ok-chain.chain.sum c.from.result c.in_ok-chain.ensures.numbers.first
+  left = new_left c.args.k c.args.rounds c.in_ok-chain.chain.first c.in_ok-chain.chain.sum c.from.result
+      c.in_ok-chain.ensures.numbers.first
       c.in_ok-chain.ensures.numbers.sum c.from.ensures
-      (rounds_low c.args.k c.args.rounds c.from.result c.in_ok-chain.chain.sum c.from.ensures c.in_ok-chain.ensures.numbers.sum);
+      (rounds_low c.args.k c.args.rounds c.from.result c.in_ok-chain.chain.sum c.from.ensures
+      c.in_ok-chain.ensures.numbers.sum);
 }
 
 pub returns-clause-fits : goal.returns-clause-fits
 returns-clause-fits c = (
-  λ h. fits c.args.k c.args.rounds c.in_ok-chain.ensures.ratio (subst (λ n. n < most_jobs) c.in_ok-chain.ensures.numbers.sum
+  λ h. fits c.args.k c.args.rounds c.in_ok-chain.ensures.ratio
+      (subst (λ n. n < most_jobs) c.in_ok-chain.ensures.numbers.sum
       c.in_ok-chain.ensures.numbers.few)
       (subst (λ v. v ≤ most_value) c.in_ok-chain.ensures.numbers.light c.if-chain-gt-MOST_VALUE.false),
   λ h. refl,
@@ -43,5 +49,7 @@ returns-clause-fits c = (
 
 pub returns-clause-feed : goal.returns-clause-feed
 returns-clause-feed c = ap (baiting c.args.k c.args.rounds)
-    (new_jobs c.args.k c.args.rounds c.in_ok-chain.chain.light c.in_ok-chain.chain.first c.in_ok-chain.chain.sum c.from.result
-    c.in_ok-chain.ensures.numbers.light c.in_ok-chain.ensures.numbers.first c.in_ok-chain.ensures.numbers.sum c.from.ensures)
+    (new_jobs c.args.k c.args.rounds c.in_ok-chain.chain.light c.in_ok-chain.chain.first c.in_ok-chain.chain.sum
+    c.from.result
+    c.in_ok-chain.ensures.numbers.light c.in_ok-chain.ensures.numbers.first c.in_ok-chain.ensures.numbers.sum
+    c.from.ensures)

@@ -1,27 +1,33 @@
 use Rattle.std.proofs.Common.{◌∙◌, ap, refl, inl, inr}
 use Rattle.dover_model.specs.Bait.{unit_value, tight_job}
 use Rattle.adversary.specs.Baiting.{Baiting}
-use Rattle.adversary.proofs.Giving.{tick_low, link_within, release_within, link_left, link_given, link_due, link_modest, link_small, still_early}
-use Rattle.adversary.proofs.Giving.{some_work, bait_worth, at_end, within_end, NoneNow, unit_given, unit_early, bait_given, turn, last_turn}
+use Rattle.adversary.proofs.Giving.{tick_low, link_within, release_within, link_left, link_given, link_due, link_modest}
+use Rattle.adversary.proofs.Giving.{link_small, still_early}
+use Rattle.adversary.proofs.Giving.{some_work, bait_worth, at_end, within_end, NoneNow, unit_given, unit_early}
+use Rattle.adversary.proofs.Giving.{bait_given, turn, last_turn}
 use Rattle.adversary.proofs.Giving.{some_given}
 use Rattle.adversary.proofs.feed.Bait.next_job.Goals as goal
-use Rattle.adversary.proofs.feed.Bait.next_job.Goals.{else-self-gt0-via-then-self-gt0+else-self-2, else-self-gt0-via-else-self-gt0}
+use Rattle.adversary.proofs.feed.Bait.next_job.Goals.{else-self-gt0-via-then-self-gt0+else-self-2}
+use Rattle.adversary.proofs.feed.Bait.next_job.Goals.{else-self-gt0-via-else-self-gt0}
 
 -- ---- a link is given
 
 pub tight_job-requires-clause-due : goal.tight_job-requires-clause-due
 tight_job-requires-clause-due c = link_due c.self.inside.release c.self.inside.work c.self.inside.bait_tick
-    (link_within c.self.inside.k c.self.inside.links c.self.inside.release c.self.inside.work c.self.inside.bait_tick c.if-self-gt0.true
+    (link_within c.self.inside.k c.self.inside.links c.self.inside.release c.self.inside.work c.self.inside.bait_tick
+    c.if-self-gt0.true
     c.self.invariant.work c.self.invariant.left) (tick_low c.self.inside c.self.invariant)
 
 pub tight_job-requires-clause-modest : goal.tight_job-requires-clause-modest
 tight_job-requires-clause-modest c = link_modest c.self.inside.release c.self.inside.work c.self.inside.bait_tick
-    (link_within c.self.inside.k c.self.inside.links c.self.inside.release c.self.inside.work c.self.inside.bait_tick c.if-self-gt0.true
+    (link_within c.self.inside.k c.self.inside.links c.self.inside.release c.self.inside.work c.self.inside.bait_tick
+    c.if-self-gt0.true
     c.self.invariant.work c.self.invariant.left) (tick_low c.self.inside c.self.invariant)
 
 pub light_value-requires : goal.light_value-requires
 light_value-requires c = link_small c.self.inside.release c.self.inside.work c.self.inside.bait_tick
-    (link_within c.self.inside.k c.self.inside.links c.self.inside.release c.self.inside.work c.self.inside.bait_tick c.if-self-gt0.true
+    (link_within c.self.inside.k c.self.inside.links c.self.inside.release c.self.inside.work c.self.inside.bait_tick
+    c.if-self-gt0.true
     c.self.invariant.work c.self.invariant.left) (tick_low c.self.inside c.self.invariant)
 
 pub invariant_of-self : goal.invariant_of-self
@@ -33,16 +39,19 @@ invariant_of-self c = record {
   bait_tick = c.self.invariant.bait_tick;
   early = still_early c.self.inside.tick c.self.inside.release c.self.inside.work c.self.invariant.early;
   work = some_work c.light_value.result;
-  left = link_left c.self.inside.k c.self.inside.links c.self.inside.release c.self.inside.work c.self.inside.bait_tick c.light_value.result
+  left = link_left c.self.inside.k c.self.inside.links c.self.inside.release c.self.inside.work c.self.inside.bait_tick
+      c.light_value.result
       c.if-self-gt0.true c.self.invariant.work c.light_value.ensures.is c.self.invariant.left;
 }
 
 -- the jobs before the call are the link and those after it
 pub returns-then-self-2-clause-jobs : goal.returns-then-self-2-clause-jobs
-returns-then-self-2-clause-jobs c = turn c.args.self.now.jobs _ c.self.inside.is_over _ _ (tight_job c.self.inside.release c.self.inside.work 1)
+returns-then-self-2-clause-jobs c =
+    turn c.args.self.now.jobs _ c.self.inside.is_over _ _ (tight_job c.self.inside.release c.self.inside.work 1)
     c.in_ok-job.job
     (ap (λ (b : Baiting). b.jobs) c.self.view_is) c.if-self.false c.in_ok-job.ensures.is
-    (link_given (unit_value c.self.inside.k) c.self.inside.chain.light c.self.inside.bait_tick c.self.inside.k c.self.inside.links
+    (link_given (unit_value c.self.inside.k) c.self.inside.chain.light c.self.inside.bait_tick c.self.inside.k
+    c.self.inside.links
     c.self.inside.release
     c.self.inside.work c.self.inside.tick c.light_value.result c.if-self-gt0.true c.self.invariant.work c.if-self-2.true
     (within_end c.self.inside.tick c.self.inside.release c.self.inside.bait_tick c.self.invariant.early
@@ -66,7 +75,8 @@ invariant_of-self-then-self-3 c =
       numbers = c.self.invariant.numbers;
       modest = c.self.invariant.modest;
       bait_tick = c.self.invariant.bait_tick;
-      early = unit_early c.self.inside.k c.self.inside.links c.self.inside.release c.self.inside.work c.self.inside.bait_tick c.self.inside.tick
+      early = unit_early c.self.inside.k c.self.inside.links c.self.inside.release c.self.inside.work
+          c.self.inside.bait_tick c.self.inside.tick
           c.self.invariant.early none c.self.invariant.left c.if-self-3.true;
       work = c.self.invariant.work;
       left = c.self.invariant.left;
@@ -79,10 +89,12 @@ returns-then-self-3-clause-jobs c =
       | else-self-gt0-via-then-self-gt0+else-self-2 w ↦ inr w.if-self-2.false
       | else-self-gt0-via-else-self-gt0 w ↦ inl w.if-self-gt0.false
     ] in
-    turn c.args.self.now.jobs _ c.self.inside.is_over _ _ (tight_job c.self.inside.tick 1 (unit_value c.self.inside.k)) c.in_ok-job-2.job
+    turn c.args.self.now.jobs _ c.self.inside.is_over _ _ (tight_job c.self.inside.tick 1 (unit_value c.self.inside.k))
+    c.in_ok-job-2.job
     (ap (λ (b : Baiting). b.jobs) c.self.view_is) c.if-self.false (c.in_ok-job-2.ensures.is
     ∙ ap (λ u. tight_job c.self.inside.tick 1 u) c.unit.ensures.is)
-    (unit_given (unit_value c.self.inside.k) c.self.inside.chain.light c.self.inside.bait_tick c.self.inside.k c.self.inside.links
+    (unit_given (unit_value c.self.inside.k) c.self.inside.chain.light c.self.inside.bait_tick c.self.inside.k
+    c.self.inside.links
     c.self.inside.release
     c.self.inside.work c.self.inside.tick c.self.invariant.work c.self.invariant.early none c.if-self-3.true) refl
 
@@ -104,13 +116,16 @@ returns-clause-jobs c =
       | else-self-gt0-via-then-self-gt0+else-self-2 w ↦ inr w.if-self-2.false
       | else-self-gt0-via-else-self-gt0 w ↦ inl w.if-self-gt0.false
     ] in
-    last_turn c.args.self.now.jobs c.self.inside.is_over _ (tight_job c.self.inside.tick c.self.inside.chain.light 1) c.in_ok-job-3.job
+    last_turn c.args.self.now.jobs c.self.inside.is_over _ (tight_job c.self.inside.tick c.self.inside.chain.light 1)
+    c.in_ok-job-3.job
     (ap (λ (b : Baiting). b.jobs) c.self.view_is) c.if-self.false c.in_ok-job-3.ensures.is
-    (bait_given (unit_value c.self.inside.k) c.self.inside.chain.light c.self.inside.bait_tick c.self.inside.k c.self.inside.links
+    (bait_given (unit_value c.self.inside.k) c.self.inside.chain.light c.self.inside.bait_tick c.self.inside.k
+    c.self.inside.links
     c.self.inside.release
     c.self.inside.work c.self.inside.tick c.self.invariant.work c.self.invariant.early none
     (at_end c.self.inside.tick c.self.inside.release c.self.inside.bait_tick c.self.invariant.early
-    (release_within c.self.inside.k c.self.inside.links c.self.inside.release c.self.inside.work c.self.inside.bait_tick c.self.invariant.work
+    (release_within c.self.inside.k c.self.inside.links c.self.inside.release c.self.inside.work c.self.inside.bait_tick
+    c.self.invariant.work
     c.self.invariant.left) c.if-self-3.false))
 
 pub returns-clause-none : goal.returns-clause-none

@@ -15,5 +15,6 @@ returns-clause-completed c = kept_completed c.self.inside c.self.invariant
     ∙ ap (λ (b : Baiting). completed_value (baiting b.ratio One b.rounds)) c.self.view_is
 
 pub returns-clause-alone : goal.returns-clause-alone
-returns-clause-alone c = subst (λ (b : Baiting). CompletesLastAlone b.ratio b.rounds (baiting b.ratio One b.rounds)) c.self.view_is
+returns-clause-alone c =
+    subst (λ (b : Baiting). CompletesLastAlone b.ratio b.rounds (baiting b.ratio One b.rounds)) c.self.view_is
     (kept_alone c.self.inside c.self.invariant)

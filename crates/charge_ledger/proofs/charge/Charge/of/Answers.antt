@@ -4,7 +4,8 @@ use Rattle.dover_model.specs.Run.{completed_value}
 use Rattle.charge_ledger.specs.Pages.{Page, blank}
 use Rattle.charge_ledger.specs.Rows.{IsRunOf, rows_of}
 use Rattle.charge_ledger.proofs.Reading.{Reads, reads_next, none_read}
-use Rattle.charge_ledger.proofs.Charges.{item_next, charged, rows_bound, rows_honest, rows_ordered, rows_displaced, rows_paid, rows_light}
+use Rattle.charge_ledger.proofs.Charges.{item_next, charged, rows_bound, rows_honest, rows_ordered, rows_displaced}
+use Rattle.charge_ledger.proofs.Charges.{rows_paid, rows_light}
 use Rattle.charge_ledger.proofs.Charges.{rows_completed, rows_abandoned}
 use Rattle.charge_ledger.proofs.charge.Charge.of.Goals as goal
 
@@ -20,7 +21,8 @@ read-requires c = (reads_next c.requires.0 c.requires.1.valid c.loop-event.ledge
     (c.loop-event.invariant c.requires.0 c.requires.1))).0
 
 pub loop-event-preserved : goal.loop-event-preserved
-loop-event-preserved c J of = subst (λ (l : Page). Reads J l (drop (c.loop-event.event-index + 1) c.args.run.now)) (sym c.in_ok-read.ensures)
+loop-event-preserved c J of =
+    subst (λ (l : Page). Reads J l (drop (c.loop-event.event-index + 1) c.args.run.now)) (sym c.in_ok-read.ensures)
     (reads_next J of.valid c.loop-event.ledger c.event-item.result (drop (c.loop-event.event-index + 1) c.args.run.now)
     (subst (Reads J c.loop-event.ledger)
     (item_next c.args.run.now c.loop-event.event-index c.event-item.result c.event-item.is c.loop-event-test.true)
@@ -31,31 +33,38 @@ done : (c : goal.After-into_parts-rows) (J : Instance) → IsRunOf c.args.k c.ar
     → (c.into_parts-rows.result.0.items ≡ rows_of J) × (c.into_parts-rows.result.1 ≡ completed_value J)
 done c J of =
     let it : (c.loop-event.ledger.rows ≡ rows_of J) × (c.loop-event.ledger.value ≡ completed_value J) =
-    charged c.args.k c.args.run.now J of c.loop-event.ledger c.loop-event.event-index (omega arith) (c.loop-event.invariant J of) in
+    charged c.args.k c.args.run.now J of c.loop-event.ledger c.loop-event.event-index (omega arith)
+    (c.loop-event.invariant J of) in
     (c.into_parts-rows.ensures.rows ∙ it.0, c.into_parts-rows.ensures.value ∙ it.1)
 
 pub returns-clause-rows : goal.returns-clause-rows
 returns-clause-rows c J of = (done c J of).0
 
 pub returns-clause-bound : goal.returns-clause-bound
-returns-clause-bound c J of = rows_bound c.args.k c.args.run.now J of c.into_parts-rows.result.0.items c.into_parts-rows.result.1 (done c J of).0
+returns-clause-bound c J of =
+    rows_bound c.args.k c.args.run.now J of c.into_parts-rows.result.0.items c.into_parts-rows.result.1 (done c J of).0
     (done c J of).1
 
 pub returns-clause-honest : goal.returns-clause-honest
-returns-clause-honest c J of = rows_honest c.args.k c.args.run.now J of c.into_parts-rows.result.0.items c.into_parts-rows.result.1 (done c J of).0
+returns-clause-honest c J of =
+    rows_honest c.args.k c.args.run.now J of c.into_parts-rows.result.0.items c.into_parts-rows.result.1 (done c J of).0
     (done c J of).1
 
 pub returns-clause-ordered : goal.returns-clause-ordered
-returns-clause-ordered c = rows_ordered c.args.k c.args.run.now c.requires.0 c.requires.1 c.into_parts-rows.result.0.items c.into_parts-rows.result.1
+returns-clause-ordered c =
+    rows_ordered c.args.k c.args.run.now c.requires.0 c.requires.1 c.into_parts-rows.result.0.items
+    c.into_parts-rows.result.1
     (done c c.requires.0 c.requires.1).0 (done c c.requires.0 c.requires.1).1
 
 pub returns-clause-displaced : goal.returns-clause-displaced
-returns-clause-displaced c = rows_displaced c.args.k c.args.run.now c.requires.0 c.requires.1 c.into_parts-rows.result.0.items
+returns-clause-displaced c =
+    rows_displaced c.args.k c.args.run.now c.requires.0 c.requires.1 c.into_parts-rows.result.0.items
     c.into_parts-rows.result.1
     (done c c.requires.0 c.requires.1).0 (done c c.requires.0 c.requires.1).1
 
 pub returns-clause-paid : goal.returns-clause-paid
-returns-clause-paid c J of = rows_paid c.args.k c.args.run.now J of c.into_parts-rows.result.0.items c.into_parts-rows.result.1 (done c J of).0
+returns-clause-paid c J of =
+    rows_paid c.args.k c.args.run.now J of c.into_parts-rows.result.0.items c.into_parts-rows.result.1 (done c J of).0
     (done c J of).1
 
 pub returns-clause-light : goal.returns-clause-light
@@ -66,10 +75,12 @@ returns-clause-light c J of = (
 )
 
 pub returns-clause-completed : goal.returns-clause-completed
-returns-clause-completed c = rows_completed c.args.k c.args.run.now c.requires.0 c.requires.1 c.into_parts-rows.result.0.items
+returns-clause-completed c =
+    rows_completed c.args.k c.args.run.now c.requires.0 c.requires.1 c.into_parts-rows.result.0.items
     c.into_parts-rows.result.1
     (done c c.requires.0 c.requires.1).0 (done c c.requires.0 c.requires.1).1
 
 pub returns-clause-abandoned : goal.returns-clause-abandoned
-returns-clause-abandoned c J of = rows_abandoned c.args.k c.args.run.now J of c.into_parts-rows.result.0.items c.into_parts-rows.result.1
+returns-clause-abandoned c J of =
+    rows_abandoned c.args.k c.args.run.now J of c.into_parts-rows.result.0.items c.into_parts-rows.result.1
     (done c J of).0 (done c J of).1

@@ -9,7 +9,8 @@ pub record HasReleased (jobs : List JobFacts) (old s : Simulation) : Type 0 wher
   pub stands : StandsAt jobs s s.clock
   pub clock : s.clock ≡ old.clock
   pub rises : old.released ≤ s.released
-  pub few : length s.pieces.items + length s.ready.entries + old.released ≤ length old.pieces.items + length old.ready.entries + s.released
+  pub few : length s.pieces.items + length s.ready.entries + old.released ≤ length old.pieces.items
+      + length old.ready.entries + s.released
 
 abbrev pub invariant-loop-job : goal.invariant-loop-job
 invariant-loop-job l = HasReleased l.jobs l.initial.self l.self

@@ -18,7 +18,8 @@ renew-requires c = all_each is_over c.self.inside.queues.state.tasks (sym c.all_
 pub returns-clause-gave : goal.returns-clause-gave
 returns-clause-gave c = λ mark events done ready printed_so.
     subst (λ v. events ≡ before_end (printed (list_of v))) c.self.view_is
-    (gave_all (service_of c.self.inside) c.self.invariant mark (subst (λ v. IsReadyFor v mark) (sym c.self.view_is) ready)
+    (gave_all (service_of c.self.inside) c.self.invariant mark
+    (subst (λ v. IsReadyFor v mark) (sym c.self.view_is) ready)
     (all_each is_over c.self.inside.queues.state.tasks (sym c.all_over.ensures ∙ c.if-not-all_over.false)) events
     (subst (λ v. HasPrinted (list_of v) mark v.state events) (sym c.self.view_is) printed_so))
 
@@ -32,11 +33,14 @@ returns-clause-rest c = λ mark events done ready printed_so.
 pub returns-clause-value : goal.returns-clause-value
 returns-clause-value c = λ mark events done ready printed_so.
     subst (λ v. value_sum (filter is_done v.state.tasks) ≡ completed_value (list_of v)) c.self.view_is
-    (done_all (service_of c.self.inside) c.self.invariant mark (subst (λ v. IsReadyFor v mark) (sym c.self.view_is) ready)
+    (done_all (service_of c.self.inside) c.self.invariant mark
+    (subst (λ v. IsReadyFor v mark) (sym c.self.view_is) ready)
     (all_each is_over c.self.inside.queues.state.tasks (sym c.all_over.ensures ∙ c.if-not-all_over.false)) events
     (subst (λ v. HasPrinted (list_of v) mark v.state events) (sym c.self.view_is) printed_so))
 
 pub returns-clause-anew : goal.returns-clause-anew
 returns-clause-anew c = λ mark done ready.
-    subst (λ (q : Queued). HasPrinted (record { rules = q.rules; jobs = jobs_of q.state.tasks }) mark q.state []) (sym c.renew.ensures)
-    (runs_anew (service_of c.self.inside) c.self.invariant mark (subst (λ v. IsReadyFor v mark) (sym c.self.view_is) ready))
+    subst (λ (q : Queued). HasPrinted (record { rules = q.rules; jobs = jobs_of q.state.tasks }) mark q.state [])
+    (sym c.renew.ensures)
+    (runs_anew (service_of c.self.inside) c.self.invariant mark
+    (subst (λ v. IsReadyFor v mark) (sym c.self.view_is) ready))

@@ -32,14 +32,17 @@ returns-clause-fewer g c =
     let q = c.self.inside.queues in
     let can : CanGo c.args.to q.rules q.state = can_from (service_of c.self.inside) c.args.to c.self.invariant
     (subst (λ v. MayFollow v.last c.args.to) (sym c.self.view_is) c.requires) in
-    subst (λ v. OnSome c.next_printed-printed.result (weights c.next_printed-printed.new.queues.state + cond c.is_end_given-self-inside.result 0 1
+    subst (λ v. OnSome c.next_printed-printed.result
+    (weights c.next_printed-printed.new.queues.state + cond c.is_end_given-self-inside.result 0 1
     < steps_left v)) c.self.view_is
-    (stepped_fewer c.args.to _ _ _ c.next_printed-printed.result can c.next_printed-printed.ensures.some _ _ c.is_end_given-self-inside.ensures
+    (stepped_fewer c.args.to _ _ _ c.next_printed-printed.result can
+    c.next_printed-printed.ensures.some _ _ c.is_end_given-self-inside.ensures
     c.if-self.false)
 
 pub returns-clause-count : goal.returns-clause-count
 returns-clause-count g c =
-    subst (λ v. (d : ℕ) → length v.state.tasks + 1 < 2 ^ d → IsCounted c.args.to v.rules v.state c.next_printed-printed.new.queues.state d
+    subst (λ v. (d : ℕ) → length v.state.tasks + 1 < 2 ^ d
+    → IsCounted c.args.to v.rules v.state c.next_printed-printed.new.queues.state d
     c.args.steps.now c.next_printed-printed.new.steps) c.self.view_is
     c.next_printed-printed.ensures.count
 
@@ -47,4 +50,5 @@ pub returns-then-self-clause-count : goal.returns-then-self-clause-count
 returns-then-self-clause-count g c d fits =
     let v = c.args.self.now in
     let n = c.args.steps.now in
-    subst (λ (w : Service). IsCounted c.args.to v.rules v.state w.state d n n) (sym c.self.view_is) (counted_none c.args.to v.rules v.state d n)
+    subst (λ (w : Service). IsCounted c.args.to v.rules v.state w.state d n n) (sym c.self.view_is)
+    (counted_none c.args.to v.rules v.state d n)

@@ -9,8 +9,10 @@ use Rattle.event_feed.proofs.intake.Intake.end.Goals as goal
 
 pub returns-in-Open-clause-answer : goal.returns-in-Open-clause-answer
 returns-in-Open-clause-answer c ls it =
-    let kept : StandsFor (record { lines = c.self.inside.lines; session = c.self.inside.session; standing = c.self.inside.standing }) ls =
+    let kept : StandsFor (record
+    { lines = c.self.inside.lines; session = c.self.inside.session; standing = c.self.inside.standing }) ls =
     subst (λ k. StandsFor k ls) (sym c.self.view_is) it in
     let opened : (account_of_lines ls).standing ≡ Open = sym kept.by_account.standing ∙ ap standing_of c.in-Open.is in
-    let counts : c.self.inside.lines + 1 ≡ suc (length ls) = omega (arith, kept.by_account.counted, lines_counted ls opened) in
+    let counts : c.self.inside.lines + 1 ≡ suc (length ls) =
+    omega (arith, kept.by_account.counted, lines_counted ls opened) in
     inl (opened, ap (λ n. let fault : FeedFault = record { line = n; cause = cause.Short } in fault) counts)

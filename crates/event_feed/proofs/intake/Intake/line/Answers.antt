@@ -11,34 +11,44 @@ use Rattle.event_feed.proofs.intake.Intake.line.Goals as goal
 
 pub returns-in-Err : goal.returns-in-Err
 returns-in-Err c = record {
-  stands = λ ls it. keeps_fault ls c.args.line.now c.read.new.session (c.self.inside.lines + 1) c.in-Err.cause (opened ls it) (counts ls it)
+  stands = λ ls it. keeps_fault ls c.args.line.now c.read.new.session (c.self.inside.lines + 1) c.in-Err.cause
+      (opened ls it) (counts ls it)
       (taken ls it);
-  answer = λ ls it. answers_fault ls c.args.line.now c.read.new.session (c.self.inside.lines + 1) c.in-Err.cause (opened ls it) (counts ls it)
+  answer = λ ls it. answers_fault ls c.args.line.now c.read.new.session (c.self.inside.lines + 1) c.in-Err.cause
+      (opened ls it) (counts ls it)
       (taken ls it);
   going = tt;
   ended = (λ e. cc, λ e. cc);
   fault = refl;
   counted = omega (arith, ap (λ k. k.lines) c.self.view_is);
   again = λ fault is. absurd (let e : None ≡ Some fault =
-      ap (λ s. fault_of (record { lines = c.self.inside.lines; session = c.self.inside.session; standing = s })) (sym still_open)
+      ap (λ s. fault_of (record { lines = c.self.inside.lines; session = c.self.inside.session; standing = s }))
+      (sym still_open)
       ∙ ap fault_of c.self.view_is ∙ is in cc);
 } where
   still_open : c.self.inside.standing ≡ standings.Open
   still_open = goes_on c.self.inside.standing (ap has_ended c.self.view_is ∙ c.requires) c.in_default.not-Faulty
 
   of_view : (ls : List (List ℕ)) → StandsFor c.args.self.now ls
-      → StandsFor (record { lines = c.self.inside.lines; session = c.self.inside.session; standing = c.self.inside.standing }) ls
+      → StandsFor (record {
+        lines = c.self.inside.lines;
+        session = c.self.inside.session;
+        standing =
+            c.self.inside.standing;
+      }) ls
   of_view ls it = subst (λ k. StandsFor k ls) (sym c.self.view_is) it
 
   opened : (ls : List (List ℕ)) → StandsFor c.args.self.now ls → (account_of_lines ls).standing ≡ Open
   opened ls it = sym (of_view ls it).by_account.standing ∙ ap standing_of still_open
 
-  counts : (ls : List (List ℕ)) → StandsFor c.args.self.now ls → c.self.inside.lines + 1 ≡ suc (account_of_lines ls).lines
+  counts : (ls : List (List ℕ)) → StandsFor c.args.self.now ls
+      → c.self.inside.lines + 1 ≡ suc (account_of_lines ls).lines
   counts ls it = omega (arith, (of_view ls it).by_account.counted)
 
   taken : (ls : List (List ℕ)) → StandsFor c.args.self.now ls → IsTaken c.read.new.session (feed_line c.args.line.now)
       (counted (account_of_lines ls)) (read_line (counted (account_of_lines ls)) c.args.line.now) (Err c.in-Err.cause)
-  taken ls it = c.in-Err.ensures.taken (counted (account_of_lines ls)) (opened ls it) (sym (counts ls it)) (of_view ls it).by_account.session
+  taken ls it = c.in-Err.ensures.taken (counted (account_of_lines ls)) (opened ls it) (sym (counts ls it))
+      (of_view ls it).by_account.session
 
 pub returns-in-Ok-clause-going : goal.returns-in-Ok-clause-going
 returns-in-Ok-clause-going c not_over =

@@ -15,6 +15,8 @@ returns-clause-stands c ls it =
 
 pub returns-clause-going : goal.returns-clause-going
 returns-clause-going c =
-    subst (λ k. IsGoing (record { lines = k.lines + c.args.lines; session = k.session; standing = k.standing })) (sym c.self.view_is)
-    (is_going (c.args.self.now.lines + c.args.lines) c.args.self.now.session c.args.self.now.standing c.requires.going.declared
+    subst (λ k. IsGoing (record { lines = k.lines + c.args.lines; session = k.session; standing = k.standing }))
+    (sym c.self.view_is)
+    (is_going (c.args.self.now.lines + c.args.lines) c.args.self.now.session c.args.self.now.standing
+    c.requires.going.declared
     (still_open c.args.self.now c.requires.going))

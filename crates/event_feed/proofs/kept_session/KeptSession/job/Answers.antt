@@ -19,9 +19,12 @@ returns-in-Ok c lines S mark it =
     let new : KeptSession = record { version = kept.version; admission = c.admit.new.self; mark = c.args.release } in
     let same : c.in-Ok.job ≡ j = c.in-Ok.ensures.job in
     subst (λ job. Takes (JobLine j) lines S mark new (Ok (fed.Job c.count-number.result job))) (sym same)
-    (takes_job lines S mark j (omega (arith, it.marked)) kept new c.count-number.result it refl c.admit.ensures.ratio refl
-    (λ jobs stands. subst (λ job. admission.StandsFor c.admit.new.self (jobs ++ job ∷ [])) same (c.admit.ensures.stands jobs stands))
-    (ap (λ rules. refusal_of rules.ratio (admitted_jobs S.items) j) it.rules ∙ c.in-Ok.ensures.refusal (admitted_jobs S.items) it.jobs)
+    (takes_job lines S mark j
+    (omega (arith, it.marked)) kept new c.count-number.result it refl c.admit.ensures.ratio refl
+    (λ jobs stands. subst (λ job. admission.StandsFor c.admit.new.self (jobs ++ job ∷ [])) same
+    (c.admit.ensures.stands jobs stands))
+    (ap (λ rules. refusal_of rules.ratio (admitted_jobs S.items) j) it.rules
+    ∙ c.in-Ok.ensures.refusal (admitted_jobs S.items) it.jobs)
     c.count-number.ensures)
 
 pub returns-in-Err : goal.returns-in-Err
@@ -33,6 +36,7 @@ returns-in-Err c lines S mark it =
       no_fall = omega (arith, it.marked);
       refusal = ap (λ rules. refusal_of rules.ratio (admitted_jobs S.items) j) it.rules
           ∙ c.in-Err.ensures.refusal (admitted_jobs S.items) it.jobs;
-      other = subst (λ k. answers.NamesOther k (admitted_jobs S.items) j c.in-Err.refused) (sym (ap (λ rules. rules.ratio) it.rules))
+      other = subst (λ k. answers.NamesOther k (admitted_jobs S.items) j c.in-Err.refused)
+          (sym (ap (λ rules. rules.ratio) it.rules))
           (c.in-Err.ensures.other (admitted_jobs S.items) it.jobs);
     })

@@ -7,5 +7,6 @@ use Rattle.event_feed.proofs.kept_session.KeptSession.refuse.Goals as goal
 pub returns-in-Two : goal.returns-in-Two
 returns-in-Two c lines S mark it =
     let j : JobFacts = job_of_numbers c.args.release c.args.work c.args.deadline c.args.value in
-    takes_refused lines S mark j it.no_fall c.args.self.now it.kept_of (ap (λ rules. rules.version) it.kept_of.rules ∙ c.in-Two.is) it.numerals
+    takes_refused lines S mark j it.no_fall c.args.self.now it.kept_of
+    (ap (λ rules. rules.version) it.kept_of.rules ∙ c.in-Two.is) it.numerals
     c.refusal.result (it.refusal ∙ ap (λ r. Some r) (sym c.refusal.ensures))

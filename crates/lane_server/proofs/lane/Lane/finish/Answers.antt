@@ -11,12 +11,15 @@ returns-in-Some-step g c = λ ls rest it.
     let owes : Finishing c.in-Some.server (account_of_lines ls) rest =
     lane_owes c.args.self.now Finish c.in-Some.server (account_of_lines ls) rest c.requires.work c.in-Some.is it.owes in
     let on = goes_on_while c.in-Some.server.ended c.in-Some-step.ensures.after_end in
-    let given = finish_gives c.in-Some.server c.step.new.self (account_of_lines ls) rest owes c.in-Some-step.event c.in-Some-step.ensures.some on
+    let given = finish_gives c.in-Some.server c.step.new.self
+    (account_of_lines ls) rest owes c.in-Some-step.event c.in-Some-step.ensures.some on
     c.in-Some-step.ensures.rules (ended_now _ _ _ c.in-Some-step.ensures.ended on) in (
       given.0,
       given.1,
       lane_stands c.args.self.now Finish c.step.new.self ls rest given.0 it c.requires.work given.2,
-      finish_short c.in-Some.server c.step.new.self (account_of_lines ls) rest owes c.in-Some-step.event c.in-Some-step.ensures.some on
-          c.in-Some-step.ensures.rules (ended_now _ _ _ c.in-Some-step.ensures.ended on) (clock_known c.step.new.self c.in-Some-step.ensures.stands),
+      finish_short c.in-Some.server c.step.new.self
+          (account_of_lines ls) rest owes c.in-Some-step.event c.in-Some-step.ensures.some on
+          c.in-Some-step.ensures.rules (ended_now _ _ _ c.in-Some-step.ensures.ended on)
+          (clock_known c.step.new.self c.in-Some-step.ensures.stands),
       tt,
     )

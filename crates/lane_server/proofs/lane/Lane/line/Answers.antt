@@ -21,16 +21,19 @@ returns-in-Ok c = λ ls it.
     open_at c.args.self.now c.line.new.self ls it c.if-not-self.false in
     let is = (c.in-Ok.ensures.answer ls it.stands.intake).1 in
     let over : feed.has_ended c.take.new.self.intake ≡ true → c.in-Ok.fed ≡ Over =
-    λ e. over_fed c.in-Ok.fed c.line.result c.in-Ok.is (c.line.ensures.ended.0 (sym (ap feed.has_ended c.take.ensures.intake) ∙ e)) in
+    λ e. over_fed c.in-Ok.fed c.line.result c.in-Ok.is
+    (c.line.ensures.ended.0 (sym (ap feed.has_ended c.take.ensures.intake) ∙ e)) in
     on_ok c.take.result (taken_stands c.take.new.self ls c.args.line.now c.in-Ok.fed
-    (subst (λ i. feed.StandsFor i (ls ++ c.args.line.now ∷ [])) (sym c.take.ensures.intake) (c.in-Ok.ensures.stands ls it.stands.intake)) is over)
+    (subst (λ i. feed.StandsFor i (ls ++ c.args.line.now ∷ [])) (sym c.take.ensures.intake)
+    (c.in-Ok.ensures.stands ls it.stands.intake)) is over)
     (c.take.ensures.adds (account_of_lines ls) (account_of_lines (ls ++ c.args.line.now ∷ [])) at is)
 
 pub returns-in-Err : goal.returns-in-Err
 returns-in-Err c = λ ls it. fault_stands c.args.self.now c.line.new.self ls c.args.line.now c.in-Err.fault
     (c.in-Err.ensures.stands ls it.stands.intake) it.stands.marked
     (new_fault c.args.line.now c.in-Err.fault (account_of_lines ls) (account_of_lines (ls ++ c.args.line.now ∷ []))
-    (open_at c.args.self.now c.line.new.self ls it c.if-not-self.false).stands (c.in-Err.ensures.answer ls it.stands.intake))
+    (open_at c.args.self.now c.line.new.self ls it c.if-not-self.false).stands
+    (c.in-Err.ensures.answer ls it.stands.intake))
 
 pub returns-then-not-self : goal.returns-then-not-self
 returns-then-not-self c = λ ls it. over_stands c.args.self.now ls c.args.line.now it c.if-not-self.true

@@ -8,11 +8,14 @@ returns-in_ok-declare-in-Ratio-clause-adds c =
     λ a b at it. c.in_ok-declare-in-Ratio.ensures.adds a b at (subst (λ x. IsFed (counted a) b x) c.in-Ratio.is it)
 
 pub returns-in-Tick-clause-adds : goal.returns-in-Tick-clause-adds
-returns-in-Tick-clause-adds c = λ a b at it. tick_adds c.args.self.now c.in-Tick.at a b at (subst (λ x. IsFed (counted a) b x) c.in-Tick.is it)
+returns-in-Tick-clause-adds c =
+    λ a b at it. tick_adds c.args.self.now c.in-Tick.at a b at (subst (λ x. IsFed (counted a) b x) c.in-Tick.is it)
 
 pub returns-in-Over-clause-adds : goal.returns-in-Over-clause-adds
-returns-in-Over-clause-adds c = λ a b at it. over_adds c.args.self.now a b at (subst (λ x. IsFed (counted a) b x) c.in-Over.is it)
+returns-in-Over-clause-adds c =
+    λ a b at it. over_adds c.args.self.now a b at (subst (λ x. IsFed (counted a) b x) c.in-Over.is it)
 
 pub returns-in-Refused-clause-adds : goal.returns-in-Refused-clause-adds
-returns-in-Refused-clause-adds c = λ a b at it. refused_adds c.args.self.now c.in-Refused.release c.in-Refused.work c.in-Refused.deadline
+returns-in-Refused-clause-adds c =
+    λ a b at it. refused_adds c.args.self.now c.in-Refused.release c.in-Refused.work c.in-Refused.deadline
     c.in-Refused.value c.in-Refused.cause a b at (subst (λ x. IsFed (counted a) b x) c.in-Refused.is it)

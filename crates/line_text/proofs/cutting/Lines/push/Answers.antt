@@ -5,7 +5,8 @@ use Rattle.line_text.proofs.Cut.{after_byte-Goes, after_byte-StandsFor}
 use Rattle.line_text.proofs.cutting.Lines.push.Goals as goal
 
 pub returns-clause-stands : goal.returns-clause-stands
-returns-clause-stands c = λ bytes stands. subst (λ (k : Cutting). StandsFor k (with_byte bytes c.args.byte)) (sym c.keep.ensures.is)
+returns-clause-stands c =
+    λ bytes stands. subst (λ (k : Cutting). StandsFor k (with_byte bytes c.args.byte)) (sym c.keep.ensures.is)
     (after_byte-StandsFor c.args.self.now bytes c.args.byte stands)
 
 pub returns-clause-cut : goal.returns-clause-cut

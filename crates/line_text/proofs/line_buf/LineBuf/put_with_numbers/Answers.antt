@@ -1,4 +1,5 @@
-use Rattle.std.proofs.Common.{◌≡◌, ℕ, ◌+◌, ◌*◌, ◌<◌, ◌≤◌, List, ◌++◌, ◌∷◌, length, length-append, get_or, drop, sym, ap, ◌∙◌, subst, arith}
+use Rattle.std.proofs.Common.{◌≡◌, ℕ, ◌+◌, ◌*◌, ◌<◌, ◌≤◌, List, ◌++◌, ◌∷◌, length, length-append, get_or, drop, sym, ap}
+use Rattle.std.proofs.Common.{◌∙◌, subst, arith}
 use Rattle.std.proofs.lemmas.List.{drop_more}
 use Rattle.dover_model.specs.Lines.{with_numbers}
 use Rattle.dover_model.proofs.Fields.{length-with_numbers}
@@ -11,7 +12,8 @@ loop-number-init c =
     let first : c.put_word.new.self ≡ c.args.word.now =
     c.put_word.ensures ∙ ap (λ line. with_field line c.args.word.now) c.requires.empty in
     record {
-      whole = ap (λ line. line ++ numbers_behind c.args.numbers.now) first ∙ with_numbers-behind c.args.word.now c.args.numbers.now;
+      whole = ap (λ line. line ++ numbers_behind c.args.numbers.now) first
+          ∙ with_numbers-behind c.args.word.now c.args.numbers.now;
       begun = subst (λ (line : List ℕ). 0 < length line) (sym first) c.requires.word;
     }
 
@@ -20,8 +22,10 @@ put_number-requires c =
     let i : ℕ = c.loop-number.number-index in
     let numbers : List ℕ = c.args.numbers.now in
     let whole : List ℕ = with_numbers c.args.word.now numbers in
-    let next : drop i numbers ≡ get_or numbers i 0 ∷ drop (i + 1) numbers = drop_more numbers i 0 c.loop-number-test.true in
-    let size : length whole ≤ length c.args.word.now + 19 * length numbers = length-with_numbers c.args.word.now numbers c.requires.short in
+    let next : drop i numbers ≡ get_or numbers i 0 ∷ drop (i + 1) numbers =
+    drop_more numbers i 0 c.loop-number-test.true in
+    let size : length whole ≤ length c.args.word.now + 19 * length numbers =
+    length-with_numbers c.args.word.now numbers c.requires.short in
     let fits : length whole ≤ 129 = omega (arith, c.requires.fits) in
     one_fits c.loop-number.self (get_or numbers i 0) (drop (i + 1) numbers) whole 129 c.loop-number.invariant.begun
     (subst (λ ns. c.loop-number.self ++ numbers_behind ns ≡ whole) next c.loop-number.invariant.whole) fits
@@ -31,4 +35,8 @@ returns-clause-size c =
     let left : List ℕ = numbers_behind (drop c.loop-number.number-index c.args.numbers.now) in
     let whole : length (c.loop-number.self ++ left) ≡ length (with_numbers c.args.word.now c.args.numbers.now) =
     ap length c.loop-number.invariant.whole in
-    omega (arith, length-append c.loop-number.self left, length-with_numbers c.args.word.now c.args.numbers.now c.requires.short)
+    omega (
+      arith,
+      length-append c.loop-number.self left,
+      length-with_numbers c.args.word.now c.args.numbers.now c.requires.short,
+    )

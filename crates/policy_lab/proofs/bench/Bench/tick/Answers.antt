@@ -13,59 +13,83 @@ pub pick-requires : goal.pick-requires
 pick-requires g c =
     let picks = g.P.Policy.picks c.args.policy.now in
     subst AreReady (sym c.deref.ensures.value)
-    (may_pick picks (g.met.P.Policy.law c.args.policy.now) c.args.jobs.now c.requires.each c.requires.count c.args.tick c.in_ok-self.field-0
-    c.release.new.ready.items (c.in_ok-self.ensures.ready (tasks_at picks c.args.jobs.now c.args.tick) c.requires.run.ready c.requires.run.later)
+    (may_pick picks (g.met.P.Policy.law c.args.policy.now) c.args.jobs.now c.requires.each c.requires.count c.args.tick
+    c.in_ok-self.field-0
+    c.release.new.ready.items
+    (c.in_ok-self.ensures.ready
+    (tasks_at picks c.args.jobs.now c.args.tick) c.requires.run.ready c.requires.run.later)
     (c.in_ok-self.ensures.later c.requires.run.later))
 
 pub returns-in_default : goal.returns-in_default
 returns-in_default g c =
     let picks = g.P.Policy.picks c.args.policy.now in
-    run_idles picks (g.met.P.Policy.law c.args.policy.now) c.args.jobs.now c.requires.each c.requires.count c.args.tick c.in_ok-self.field-0
-    c.release.new.ready.items (c.in_ok-self.ensures.ready (tasks_at picks c.args.jobs.now c.args.tick) c.requires.run.ready c.requires.run.later)
-    (c.in_ok-self.ensures.later c.requires.run.later) c.args.self.now.value c.args.self.now.pieces.items c.requires.run.served
+    run_idles picks (g.met.P.Policy.law c.args.policy.now) c.args.jobs.now c.requires.each c.requires.count c.args.tick
+    c.in_ok-self.field-0
+    c.release.new.ready.items
+    (c.in_ok-self.ensures.ready
+    (tasks_at picks c.args.jobs.now c.args.tick) c.requires.run.ready c.requires.run.later)
+    (c.in_ok-self.ensures.later c.requires.run.later) c.args.self.now.value c.args.self.now.pieces.items
+    c.requires.run.served
     c.requires.run.stretched
-    (c.in_default.ensures.by_the_list ∙ ap picks c.deref.ensures.value) (sym c.deref.ensures.value ∙ c.in_default.ensures.one_of_them)
+    (c.in_default.ensures.by_the_list ∙ ap picks c.deref.ensures.value)
+    (sym c.deref.ensures.value ∙ c.in_default.ensures.one_of_them)
 
 pub give-requires : goal.give-requires
 give-requires g c =
     let picks = g.P.Policy.picks c.args.policy.now in
-    may_give picks (g.met.P.Policy.law c.args.policy.now) c.args.jobs.now c.requires.each c.requires.count c.args.tick c.in_ok-self.field-0
-    c.release.new.ready.items (c.in_ok-self.ensures.ready (tasks_at picks c.args.jobs.now c.args.tick) c.requires.run.ready c.requires.run.later)
+    may_give picks (g.met.P.Policy.law c.args.policy.now) c.args.jobs.now c.requires.each c.requires.count c.args.tick
+    c.in_ok-self.field-0
+    c.release.new.ready.items
+    (c.in_ok-self.ensures.ready
+    (tasks_at picks c.args.jobs.now c.args.tick) c.requires.run.ready c.requires.run.later)
     (c.in_ok-self.ensures.later c.requires.run.later)
 
 pub spent_value-requires : goal.spent_value-requires
 spent_value-requires g c =
     let picks = g.P.Policy.picks c.args.policy.now in
     let law = g.met.P.Policy.law c.args.policy.now in
-    let has = c.in_ok-self.ensures.ready (tasks_at picks c.args.jobs.now c.args.tick) c.requires.run.ready c.requires.run.later in
+    let has = c.in_ok-self.ensures.ready
+    (tasks_at picks c.args.jobs.now c.args.tick) c.requires.run.ready c.requires.run.later in
     let late = c.in_ok-self.ensures.later c.requires.run.later in
-    let is_n = is_picked picks law c.args.jobs.now c.requires.each c.requires.count c.args.tick c.in_ok-self.field-0 c.release.new.ready.items
+    let is_n = is_picked picks law c.args.jobs.now c.requires.each c.requires.count c.args.tick c.in_ok-self.field-0
+    c.release.new.ready.items
     has late
     (Some c.in-Some.number) (c.in-Some.ensures.by_the_list ∙ ap picks c.deref.ensures.value) in
-    let most = most_after picks law c.args.jobs.now c.requires.each c.requires.count c.args.tick c.in_ok-self.field-0 c.release.new.ready.items
+    let most = most_after picks law c.args.jobs.now c.requires.each c.requires.count c.args.tick c.in_ok-self.field-0
+    c.release.new.ready.items
     has late in
-    let same = ap spent_value (c.deref-2.ensures.value ∙ c.give.ensures ∙ ap (λ (n : ℕ). map (given_entry n) c.release.new.ready.items) is_n) in
+    let same = ap spent_value
+    (c.deref-2.ensures.value ∙ c.give.ensures
+    ∙ ap (λ (n : ℕ). map (given_entry n) c.release.new.ready.items) is_n) in
     omega (arith, most, same, c.requires.total)
 
 pub overflow_add-self : goal.overflow_add-self
 overflow_add-self g c =
     let picks = g.P.Policy.picks c.args.policy.now in
     let law = g.met.P.Policy.law c.args.policy.now in
-    let has = c.in_ok-self.ensures.ready (tasks_at picks c.args.jobs.now c.args.tick) c.requires.run.ready c.requires.run.later in
+    let has = c.in_ok-self.ensures.ready
+    (tasks_at picks c.args.jobs.now c.args.tick) c.requires.run.ready c.requires.run.later in
     let late = c.in_ok-self.ensures.later c.requires.run.later in
-    let is_n = is_picked picks law c.args.jobs.now c.requires.each c.requires.count c.args.tick c.in_ok-self.field-0 c.release.new.ready.items
+    let is_n = is_picked picks law c.args.jobs.now c.requires.each c.requires.count c.args.tick c.in_ok-self.field-0
+    c.release.new.ready.items
     has late
     (Some c.in-Some.number) (c.in-Some.ensures.by_the_list ∙ ap picks c.deref.ensures.value) in
-    let most = most_after picks law c.args.jobs.now c.requires.each c.requires.count c.args.tick c.in_ok-self.field-0 c.release.new.ready.items
+    let most = most_after picks law c.args.jobs.now c.requires.each c.requires.count c.args.tick c.in_ok-self.field-0
+    c.release.new.ready.items
     has late in
-    let same = ap spent_value (c.deref-2.ensures.value ∙ c.give.ensures ∙ ap (λ (n : ℕ). map (given_entry n) c.release.new.ready.items) is_n) in
+    let same = ap spent_value
+    (c.deref-2.ensures.value ∙ c.give.ensures
+    ∙ ap (λ (n : ℕ). map (given_entry n) c.release.new.ready.items) is_n) in
     omega (arith, most, same, c.requires.total, c.requires.run.served, c.spent_value.ensures)
 
 pub extend-requires-clause-number : goal.extend-requires-clause-number
 extend-requires-clause-number g c = λ idle.
     let picks = g.P.Policy.picks c.args.policy.now in
-    let low = is_low picks (g.met.P.Policy.law c.args.policy.now) c.args.jobs.now c.requires.each c.requires.count c.args.tick c.in_ok-self.field-0
-    c.release.new.ready.items (c.in_ok-self.ensures.ready (tasks_at picks c.args.jobs.now c.args.tick) c.requires.run.ready c.requires.run.later)
+    let low = is_low picks (g.met.P.Policy.law c.args.policy.now) c.args.jobs.now c.requires.each c.requires.count
+    c.args.tick c.in_ok-self.field-0
+    c.release.new.ready.items
+    (c.in_ok-self.ensures.ready
+    (tasks_at picks c.args.jobs.now c.args.tick) c.requires.run.ready c.requires.run.later)
     (c.in_ok-self.ensures.later c.requires.run.later) c.in-Some.number
     (subst (λ es. IsMember c.in-Some.number (map number_of es)) c.deref.ensures.value c.in-Some.ensures.one_of_them) in
     omega (arith, low, idle)
@@ -74,18 +98,23 @@ pub returns : goal.returns
 returns g c =
     let picks = g.P.Policy.picks c.args.policy.now in
     let law = g.met.P.Policy.law c.args.policy.now in
-    let has = c.in_ok-self.ensures.ready (tasks_at picks c.args.jobs.now c.args.tick) c.requires.run.ready c.requires.run.later in
+    let has = c.in_ok-self.ensures.ready
+    (tasks_at picks c.args.jobs.now c.args.tick) c.requires.run.ready c.requires.run.later in
     let late = c.in_ok-self.ensures.later c.requires.run.later in
-    let is_n = is_picked picks law c.args.jobs.now c.requires.each c.requires.count c.args.tick c.in_ok-self.field-0 c.release.new.ready.items
+    let is_n = is_picked picks law c.args.jobs.now c.requires.each c.requires.count c.args.tick c.in_ok-self.field-0
+    c.release.new.ready.items
     has late
     (Some c.in-Some.number) (c.in-Some.ensures.by_the_list ∙ ap picks c.deref.ensures.value) in
     let past = schedule_before picks c.args.jobs.now c.args.tick in
     let given = c.give.ensures ∙ ap (λ (n : ℕ). map (given_entry n) c.release.new.ready.items) is_n in
     on_ok c.extend.result (λ pieces.
-    run_goes_on picks law c.args.jobs.now c.requires.each c.requires.count c.args.tick c.in_ok-self.field-0 c.release.new.ready.items has late
-    c.args.self.now.value (c.args.self.now.value + c.spent_value.result) c.keep_in_time.new.ready.items c.extend.new.pieces.items
+    run_goes_on picks law c.args.jobs.now c.requires.each c.requires.count c.args.tick c.in_ok-self.field-0
+    c.release.new.ready.items has late
+    c.args.self.now.value (c.args.self.now.value + c.spent_value.result) c.keep_in_time.new.ready.items
+    c.extend.new.pieces.items
     c.requires.run.served
     (c.keep_in_time.ensures ∙ ap (filter (is_in_time (c.args.tick + 1))) given)
-    (ap (λ (n : ℕ). c.args.self.now.value + n) (c.spent_value.ensures ∙ ap spent_value (c.deref-2.ensures.value ∙ given)))
+    (ap (λ (n : ℕ). c.args.self.now.value + n)
+    (c.spent_value.ensures ∙ ap spent_value (c.deref-2.ensures.value ∙ given)))
     (pieces ∙ ap (λ (n : ℕ). stretches (past ++ n ∷ [])) is_n))
     (c.extend.ensures past (schedule_length picks c.args.jobs.now c.args.tick) c.requires.run.stretched)

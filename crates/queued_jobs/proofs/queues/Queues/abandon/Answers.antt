@@ -25,10 +25,12 @@ invariant_of-self g c =
     let found = subst (λ q. slice_get q.state.tasks t.number ≡ Some t) (sym c.self.view_is) c.requires.found in
     let changed = c.set_role.new.tasks.items in
     let k = kept.agrees.0 in
-    let after_is = taken_out inside.waiting c.take_out.new.self tasks k t c.take_out.result kept.agrees.2.waiting found c.requires.role
+    let after_is = taken_out inside.waiting c.take_out.new.self tasks k t c.take_out.result kept.agrees.2.waiting found
+    c.requires.role
     c.take_out.ensures.was
     c.take_out.ensures.rest in
-    let agrees = abandon_step tasks changed t inside.waiting.table k inside.held.held inside.cpu.job inside.fresh inside.next inside.done
+    let agrees = abandon_step tasks changed t inside.waiting.table k inside.held.held inside.cpu.job inside.fresh
+    inside.next inside.done
     (splits t Gone tasks changed found c.set_role.ensures.changes) c.requires.role kept.agrees.2 in
     record {
       version = ap (λ w. w.version) after_is ∙ kept.version;
@@ -48,13 +50,17 @@ pub returns-clause-gone : goal.returns-clause-gone
 returns-clause-gone g c =
     let inside = c.self.inside in
     let t = c.args.t.now in
-    changed_view (queued_of inside).rules inside.spare inside.cpu.clock inside.cpu.clock t.number Gone inside.tasks.items c.set_role.new.tasks.items
+    changed_view (queued_of inside).rules inside.spare inside.cpu.clock inside.cpu.clock t.number Gone
+    inside.tasks.items c.set_role.new.tasks.items
     c.args.self.now c.self.view_is refl
-    (is_map t.number inside.tasks.items c.set_role.new.tasks.items Gone c.set_role.ensures.changes c.self.invariant.agrees.2.numbered)
+    (is_map t.number inside.tasks.items c.set_role.new.tasks.items Gone c.set_role.ensures.changes
+    c.self.invariant.agrees.2.numbered)
 
 pub returns-clause-count : goal.returns-clause-count
 returns-clause-count g c d fits =
     let inside = c.self.inside in
-    let few = few_wait inside.tasks.items inside.waiting.table c.self.invariant.agrees.0 c.self.invariant.agrees.2.waiting in
-    let all : length inside.tasks.items + 1 < 2 ^ d = subst (λ q. length q.state.tasks + 1 < 2 ^ d) (sym c.self.view_is) fits in
+    let few = few_wait inside.tasks.items inside.waiting.table c.self.invariant.agrees.0
+    c.self.invariant.agrees.2.waiting in
+    let all : length inside.tasks.items + 1 < 2 ^ d =
+    subst (λ q. length q.state.tasks + 1 < 2 ^ d) (sym c.self.view_is) fits in
     c.take_out.ensures.count d (omega (arith, few, all))

@@ -18,10 +18,13 @@ abandon-requires-clause-found g c =
     let tasks = q.state.tasks in
     let all = c.requires.sound.numbered in
     let keeps : Keeps (instance_of q) q.state = record { sound = c.requires.sound; jobs = refl } in
-    let it = abandons_says q.rules.version q.rules.ratio q.state c.requires.sound q.state.clock c.args.number (open_step q.rules q.state)
+    let it = abandons_says q.rules.version q.rules.ratio q.state c.requires.sound q.state.clock c.args.number
+    (open_step q.rules q.state)
     (open_deed (instance_of q) c.requires.valid q.state keeps q.rules) c.requires.step in
     let t = c.in-Some.t in
-    let same : t ≡ it.task = some_same t it.task (same_task tasks c.args.number (Some t) it.task all it.member it.number c.in-Some.ensures) in
+    let same : t ≡ it.task =
+    some_same t it.task (same_task tasks c.args.number
+    (Some t) it.task all it.member it.number c.in-Some.ensures) in
     subst (λ x. slice_get tasks x.number ≡ Some x) (sym same) (task_at tasks it.task all it.member)
 
 pub abandon-requires-clause-role : goal.abandon-requires-clause-role
@@ -30,10 +33,13 @@ abandon-requires-clause-role g c =
     let tasks = q.state.tasks in
     let all = c.requires.sound.numbered in
     let keeps : Keeps (instance_of q) q.state = record { sound = c.requires.sound; jobs = refl } in
-    let it = abandons_says q.rules.version q.rules.ratio q.state c.requires.sound q.state.clock c.args.number (open_step q.rules q.state)
+    let it = abandons_says q.rules.version q.rules.ratio q.state c.requires.sound q.state.clock c.args.number
+    (open_step q.rules q.state)
     (open_deed (instance_of q) c.requires.valid q.state keeps q.rules) c.requires.step in
     let t = c.in-Some.t in
-    let same : t ≡ it.task = some_same t it.task (same_task tasks c.args.number (Some t) it.task all it.member it.number c.in-Some.ensures) in
+    let same : t ≡ it.task =
+    some_same t it.task (same_task tasks c.args.number
+    (Some t) it.task all it.member it.number c.in-Some.ensures) in
     ap (λ (x : Task). x.role) same ∙ it.role
 
 pub returns-in-Some-clause-gone : goal.returns-in-Some-clause-gone
@@ -42,10 +48,13 @@ returns-in-Some-clause-gone g c =
     let tasks = q.state.tasks in
     let all = c.requires.sound.numbered in
     let keeps : Keeps (instance_of q) q.state = record { sound = c.requires.sound; jobs = refl } in
-    let it = abandons_says q.rules.version q.rules.ratio q.state c.requires.sound q.state.clock c.args.number (open_step q.rules q.state)
+    let it = abandons_says q.rules.version q.rules.ratio q.state c.requires.sound q.state.clock c.args.number
+    (open_step q.rules q.state)
     (open_deed (instance_of q) c.requires.valid q.state keeps q.rules) c.requires.step in
     let t = c.in-Some.t in
-    let same : t ≡ it.task = some_same t it.task (same_task tasks c.args.number (Some t) it.task all it.member it.number c.in-Some.ensures) in
+    let same : t ≡ it.task =
+    some_same t it.task (same_task tasks c.args.number
+    (Some t) it.task all it.member it.number c.in-Some.ensures) in
     c.abandon.ensures.gone ∙ ap (λ m. with_job_in q m Gone) (ap (λ (x : Task). x.number) same ∙ it.number)
 
 pub returns-in_default-clause-gone : goal.returns-in_default-clause-gone
@@ -54,9 +63,11 @@ returns-in_default-clause-gone g c =
     let tasks = q.state.tasks in
     let all = c.requires.sound.numbered in
     let keeps : Keeps (instance_of q) q.state = record { sound = c.requires.sound; jobs = refl } in
-    let it = abandons_says q.rules.version q.rules.ratio q.state c.requires.sound q.state.clock c.args.number (open_step q.rules q.state)
+    let it = abandons_says q.rules.version q.rules.ratio q.state c.requires.sound q.state.clock c.args.number
+    (open_step q.rules q.state)
     (open_deed (instance_of q) c.requires.valid q.state keeps q.rules) c.requires.step in
-    none_is_some (sym c.in_default.is ∙ same_task tasks c.args.number c.task.result it.task all it.member it.number c.task.ensures)
+    none_is_some (sym c.in_default.is
+    ∙ same_task tasks c.args.number c.task.result it.task all it.member it.number c.task.ensures)
 
 pub returns-in-Some-clause-count : goal.returns-in-Some-clause-count
 returns-in-Some-clause-count g c d fits =
@@ -64,6 +75,8 @@ returns-in-Some-clause-count g c d fits =
     let tasks = q.state.tasks in
     let all = c.requires.sound.numbered in
     let keeps : Keeps (instance_of q) q.state = record { sound = c.requires.sound; jobs = refl } in
-    let it = abandons_says q.rules.version q.rules.ratio q.state c.requires.sound q.state.clock c.args.number (open_step q.rules q.state)
+    let it = abandons_says q.rules.version q.rules.ratio q.state c.requires.sound q.state.clock c.args.number
+    (open_step q.rules q.state)
     (open_deed (instance_of q) c.requires.valid q.state keeps q.rules) c.requires.step in
-    one_leaves d _ _ _ _ (c.abandon.ensures.count d fits) (abandon_leaves q.state it.task it.member q.state.clock c.args.number it.role it.number)
+    one_leaves d _ _ _ _ (c.abandon.ensures.count d fits)
+    (abandon_leaves q.state it.task it.member q.state.clock c.args.number it.role it.number)

@@ -14,8 +14,11 @@ returns-then-is_none c =
     let keeps : Keeps (instance_of q) q.state = record { sound = c.requires.sound; jobs = refl } in
     let quiet = tick_quiet q.rules.ratio q.state Ticks (open_step q.rules q.state)
     (open_deed (instance_of q) c.requires.valid q.state keeps q.rules) c.requires.step in
-    sym (none_is c.coming.result c.is_none-then-is_none.result c.is_none-then-is_none.ensures) ∙ ap is_none c.coming.ensures
-    ∙ free_over q.state quiet (ap is_none (sym c.running.ensures) ∙ none_is c.running.result c.is_none.result c.is_none.ensures ∙ c.if-is_none.true)
+    sym (none_is c.coming.result c.is_none-then-is_none.result c.is_none-then-is_none.ensures)
+    ∙ ap is_none c.coming.ensures
+    ∙ free_over q.state quiet
+    (ap is_none (sym c.running.ensures) ∙ none_is c.running.result c.is_none.result c.is_none.ensures
+    ∙ c.if-is_none.true)
 
 pub returns-else-is_none : goal.returns-else-is_none
 returns-else-is_none c =

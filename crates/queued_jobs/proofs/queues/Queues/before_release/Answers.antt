@@ -28,4 +28,5 @@ returns-in-Some-clause-all c n most all =
 
 pub returns-in-None-clause-due : goal.returns-in-None-clause-due
 returns-in-None-clause-due c x m comes =
-    never (sym (not_found is_coming c.args.self.now.state.tasks (sym c.in-None.ensures) x m) ∙ passes is_coming x Coming true comes refl)
+    never (sym (not_found is_coming c.args.self.now.state.tasks (sym c.in-None.ensures) x m)
+    ∙ passes is_coming x Coming true comes refl)

@@ -15,7 +15,8 @@ start-requires-clause-free c =
     let kept = c.self.invariant in
     let tasks = inside.tasks.items in
     let t = c.args.t.now in
-    let free = free_job tasks inside.cpu.job kept.agrees.2.running (ap (λ q. running q.state) c.self.view_is ∙ c.requires.free) in
+    let free = free_job tasks inside.cpu.job kept.agrees.2.running
+    (ap (λ q. running q.state) c.self.view_is ∙ c.requires.free) in
     subst IsNone (sym free) refl
 
 pub set_role-requires : goal.set_role-requires
@@ -36,16 +37,20 @@ invariant_of-self c =
     let found = subst (λ q. slice_get q.state.tasks t.number ≡ Some t) (sym c.self.view_is) c.requires.found in
     let changed = c.set_role.new.tasks.items in
     let k = kept.agrees.0 in
-    let free = free_job tasks inside.cpu.job kept.agrees.2.running (ap (λ q. running q.state) c.self.view_is ∙ c.requires.free) in
-    let runs_is = c.start.ensures ∙ ap (λ (n : ℕ). record { clock = inside.cpu.clock; job = Some (t.number, n) }) c.left.ensures in
-    let agrees = begin_step tasks changed t inside.waiting.table k inside.held.held inside.cpu.job inside.fresh inside.next inside.done
+    let free = free_job tasks inside.cpu.job kept.agrees.2.running
+    (ap (λ q. running q.state) c.self.view_is ∙ c.requires.free) in
+    let runs_is = c.start.ensures
+    ∙ ap (λ (n : ℕ). record { clock = inside.cpu.clock; job = Some (t.number, n) }) c.left.ensures in
+    let agrees = begin_step tasks changed t inside.waiting.table k inside.held.held inside.cpu.job inside.fresh
+    inside.next inside.done
     (splits t Running tasks changed found c.set_role.ensures.changes) c.requires.role kept.agrees.2 free in
     record {
       version = kept.version;
       agrees = (
         k,
         kept.agrees.1,
-        (subst (λ p. Agrees changed inside.waiting.table k inside.held.held p.job None inside.next inside.done) (sym runs_is)
+        (subst (λ p. Agrees changed inside.waiting.table k inside.held.held p.job None inside.next inside.done)
+            (sym runs_is)
             agrees),
       );
       latest = subst (λ p. inside.held.latest ≤ p.clock) (sym runs_is) kept.latest;
@@ -58,7 +63,9 @@ pub returns : goal.returns
 returns c =
     let inside = c.self.inside in
     let t = c.args.t.now in
-    changed_view (queued_of inside).rules inside.spare inside.cpu.clock c.start.new.self.clock t.number Running inside.tasks.items
+    changed_view (queued_of inside).rules inside.spare inside.cpu.clock c.start.new.self.clock t.number Running
+    inside.tasks.items
     c.set_role.new.tasks.items
     c.args.self.now c.self.view_is (ap (λ p. p.clock) c.start.ensures)
-    (is_map t.number inside.tasks.items c.set_role.new.tasks.items Running c.set_role.ensures.changes c.self.invariant.agrees.2.numbered)
+    (is_map t.number inside.tasks.items c.set_role.new.tasks.items Running c.set_role.ensures.changes
+    c.self.invariant.agrees.2.numbered)

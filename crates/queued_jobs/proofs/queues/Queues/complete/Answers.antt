@@ -15,7 +15,8 @@ stop-requires c =
     let t = c.args.t.now in
     let tasks = c.self.inside.tasks.items in
     let found = subst (λ q. slice_get q.state.tasks t.number ≡ Some t) (sym c.self.view_is) c.requires.found in
-    let job = only_one turn_of is_running tasks c.self.inside.cpu.job t c.self.invariant.agrees.2.running (found_member tasks t.number t found)
+    let job = only_one turn_of is_running tasks c.self.inside.cpu.job t c.self.invariant.agrees.2.running
+    (found_member tasks t.number t found)
     (passes is_running t Running true c.requires.role refl) in
     subst IsSome (sym job) refl
 
@@ -26,7 +27,8 @@ overflow_add-self c =
     let found = subst (λ q. slice_get q.state.tasks t.number ≡ Some t) (sym c.self.view_is) c.requires.found in
     let total : value_sum tasks ≤ 10_000_000_000_000 = subst (λ q. value_sum q.state.tasks ≤ 10_000_000_000_000)
     (sym c.self.view_is) c.requires.total in
-    let room = value_room is_done tasks t (found_member tasks t.number t found) (passes is_done t Running false c.requires.role refl) in
+    let room = value_room is_done tasks t (found_member tasks t.number t found)
+    (passes is_done t Running false c.requires.role refl) in
     omega (arith, c.self.invariant.agrees.2.done, c.value.ensures.is, room, total)
 
 pub set_role-requires : goal.set_role-requires
@@ -44,15 +46,18 @@ invariant_of-self c =
     let t = c.args.t.now in
     let found = subst (λ q. slice_get q.state.tasks t.number ≡ Some t) (sym c.self.view_is) c.requires.found in
     let worth = ap (λ n. inside.done + n) c.value.ensures.is in
-    let agrees = complete_step tasks changed t inside.waiting.table kept.agrees.0 inside.held.held inside.cpu.job inside.fresh inside.next inside.done
+    let agrees = complete_step tasks changed t inside.waiting.table kept.agrees.0 inside.held.held inside.cpu.job
+    inside.fresh inside.next inside.done
     (splits t Done tasks changed found c.set_role.ensures.changes) c.requires.role kept.agrees.2 in
     record {
       version = kept.version;
       agrees = (
         kept.agrees.0,
         kept.agrees.1,
-        subst (λ n. Agrees changed inside.waiting.table kept.agrees.0 inside.held.held c.stop.new.self.job inside.fresh inside.next n) (sym worth)
-            (subst (λ p. Agrees changed inside.waiting.table kept.agrees.0 inside.held.held p.job inside.fresh inside.next
+        subst (λ n. Agrees changed inside.waiting.table kept.agrees.0 inside.held.held c.stop.new.self.job inside.fresh
+            inside.next n) (sym worth)
+            (subst (λ p. Agrees changed inside.waiting.table kept.agrees.0 inside.held.held p.job inside.fresh
+            inside.next
             (inside.done + t.job.value))
             (sym c.stop.ensures.free) agrees),
       );
@@ -66,7 +71,9 @@ pub returns : goal.returns
 returns c =
     let inside = c.self.inside in
     let t = c.args.t.now in
-    changed_view (queued_of inside).rules inside.spare inside.cpu.clock c.stop.new.self.clock t.number Done inside.tasks.items
+    changed_view (queued_of inside).rules inside.spare inside.cpu.clock c.stop.new.self.clock t.number Done
+    inside.tasks.items
     c.set_role.new.tasks.items
     c.args.self.now c.self.view_is (ap (λ p. p.clock) c.stop.ensures.free)
-    (is_map t.number inside.tasks.items c.set_role.new.tasks.items Done c.set_role.ensures.changes c.self.invariant.agrees.2.numbered)
+    (is_map t.number inside.tasks.items c.set_role.new.tasks.items Done c.set_role.ensures.changes
+    c.self.invariant.agrees.2.numbered)

@@ -17,10 +17,13 @@ complete-requires-clause-found c =
     let tasks = q.state.tasks in
     let all = c.requires.sound.numbered in
     let keeps : Keeps (instance_of q) q.state = record { sound = c.requires.sound; jobs = refl } in
-    let it = completes_says q.rules.version q.rules.ratio q.state c.requires.sound q.state.clock c.args.number (open_step q.rules q.state)
+    let it = completes_says q.rules.version q.rules.ratio q.state c.requires.sound q.state.clock c.args.number
+    (open_step q.rules q.state)
     (open_deed (instance_of q) c.requires.valid q.state keeps q.rules) c.requires.step in
     let t = c.in-Some.t in
-    let same : t ≡ it.task = some_same t it.task (same_task tasks c.args.number (Some t) it.task all it.member it.number c.in-Some.ensures) in
+    let same : t ≡ it.task =
+    some_same t it.task (same_task tasks c.args.number
+    (Some t) it.task all it.member it.number c.in-Some.ensures) in
     subst (λ x. slice_get tasks x.number ≡ Some x) (sym same) (task_at tasks it.task all it.member)
 
 pub complete-requires-clause-role : goal.complete-requires-clause-role
@@ -29,14 +32,18 @@ complete-requires-clause-role c =
     let tasks = q.state.tasks in
     let all = c.requires.sound.numbered in
     let keeps : Keeps (instance_of q) q.state = record { sound = c.requires.sound; jobs = refl } in
-    let it = completes_says q.rules.version q.rules.ratio q.state c.requires.sound q.state.clock c.args.number (open_step q.rules q.state)
+    let it = completes_says q.rules.version q.rules.ratio q.state c.requires.sound q.state.clock c.args.number
+    (open_step q.rules q.state)
     (open_deed (instance_of q) c.requires.valid q.state keeps q.rules) c.requires.step in
     let t = c.in-Some.t in
-    let same : t ≡ it.task = some_same t it.task (same_task tasks c.args.number (Some t) it.task all it.member it.number c.in-Some.ensures) in
+    let same : t ≡ it.task =
+    some_same t it.task (same_task tasks c.args.number
+    (Some t) it.task all it.member it.number c.in-Some.ensures) in
     ap (λ (x : Task). x.role) same ∙ it.role
 
 pub complete-requires-clause-total : goal.complete-requires-clause-total
-complete-requires-clause-total c = all_value (instance_of c.args.self.now) c.args.self.now.state.tasks c.requires.valid refl
+complete-requires-clause-total c =
+    all_value (instance_of c.args.self.now) c.args.self.now.state.tasks c.requires.valid refl
 
 pub returns-in-Some : goal.returns-in-Some
 returns-in-Some c =
@@ -44,10 +51,13 @@ returns-in-Some c =
     let tasks = q.state.tasks in
     let all = c.requires.sound.numbered in
     let keeps : Keeps (instance_of q) q.state = record { sound = c.requires.sound; jobs = refl } in
-    let it = completes_says q.rules.version q.rules.ratio q.state c.requires.sound q.state.clock c.args.number (open_step q.rules q.state)
+    let it = completes_says q.rules.version q.rules.ratio q.state c.requires.sound q.state.clock c.args.number
+    (open_step q.rules q.state)
     (open_deed (instance_of q) c.requires.valid q.state keeps q.rules) c.requires.step in
     let t = c.in-Some.t in
-    let same : t ≡ it.task = some_same t it.task (same_task tasks c.args.number (Some t) it.task all it.member it.number c.in-Some.ensures) in
+    let same : t ≡ it.task =
+    some_same t it.task (same_task tasks c.args.number
+    (Some t) it.task all it.member it.number c.in-Some.ensures) in
     c.complete.ensures ∙ ap (λ m. with_job_in q m Done) (ap (λ (x : Task). x.number) same ∙ it.number)
 
 pub returns-in_default : goal.returns-in_default
@@ -56,6 +66,8 @@ returns-in_default c =
     let tasks = q.state.tasks in
     let all = c.requires.sound.numbered in
     let keeps : Keeps (instance_of q) q.state = record { sound = c.requires.sound; jobs = refl } in
-    let it = completes_says q.rules.version q.rules.ratio q.state c.requires.sound q.state.clock c.args.number (open_step q.rules q.state)
+    let it = completes_says q.rules.version q.rules.ratio q.state c.requires.sound q.state.clock c.args.number
+    (open_step q.rules q.state)
     (open_deed (instance_of q) c.requires.valid q.state keeps q.rules) c.requires.step in
-    none_is_some (sym c.in_default.is ∙ same_task tasks c.args.number c.task.result it.task all it.member it.number c.task.ensures)
+    none_is_some (sym c.in_default.is
+    ∙ same_task tasks c.args.number c.task.result it.task all it.member it.number c.task.ensures)

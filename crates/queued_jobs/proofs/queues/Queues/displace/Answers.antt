@@ -19,10 +19,12 @@ add-requires-clause-number g c =
     let kept = c.self.invariant in
     let tasks = inside.tasks.items in
     let t = c.args.t.now in
-    let top = top_job inside.version tasks inside.held.held t kept.agrees.2.numbered kept.agrees.2.held c.release_one.ensures.order
+    let top = top_job inside.version tasks inside.held.held t kept.agrees.2.numbered kept.agrees.2.held
+    c.release_one.ensures.order
     (ap (λ q. first (due_first q.rules.version) (held q.state)) c.self.view_is ∙ c.requires.top) in
     let found = top.found in
-    number_ready tasks inside.waiting.table kept.agrees.0 t c.entry_of.result kept.agrees.2.waiting found c.entry_of.ensures
+    number_ready tasks inside.waiting.table kept.agrees.0 t c.entry_of.result kept.agrees.2.waiting found
+    c.entry_of.ensures
 
 pub add-requires-clause-fresh : goal.add-requires-clause-fresh
 add-requires-clause-fresh g c =
@@ -30,7 +32,8 @@ add-requires-clause-fresh g c =
     let kept = c.self.invariant in
     let tasks = inside.tasks.items in
     let t = c.args.t.now in
-    let top = top_job inside.version tasks inside.held.held t kept.agrees.2.numbered kept.agrees.2.held c.release_one.ensures.order
+    let top = top_job inside.version tasks inside.held.held t kept.agrees.2.numbered kept.agrees.2.held
+    c.release_one.ensures.order
     (ap (λ q. first (due_first q.rules.version) (held q.state)) c.self.view_is ∙ c.requires.top) in
     let found = top.found in
     number_free tasks inside.waiting.table kept.agrees.0 t c.entry_of.result kept.agrees.2.waiting found
@@ -42,7 +45,8 @@ set_role-requires g c =
     let kept = c.self.invariant in
     let tasks = inside.tasks.items in
     let t = c.args.t.now in
-    let top = top_job inside.version tasks inside.held.held t kept.agrees.2.numbered kept.agrees.2.held c.release_one.ensures.order
+    let top = top_job inside.version tasks inside.held.held t kept.agrees.2.numbered kept.agrees.2.held
+    c.release_one.ensures.order
     (ap (λ q. first (due_first q.rules.version) (held q.state)) c.self.view_is ∙ c.requires.top) in
     let found = top.found in
     slice_get_within tasks t.number t found
@@ -53,7 +57,8 @@ invariant_of-self g c =
     let kept = c.self.invariant in
     let tasks = inside.tasks.items in
     let t = c.args.t.now in
-    let top = top_job inside.version tasks inside.held.held t kept.agrees.2.numbered kept.agrees.2.held c.release_one.ensures.order
+    let top = top_job inside.version tasks inside.held.held t kept.agrees.2.numbered kept.agrees.2.held
+    c.release_one.ensures.order
     (ap (λ q. first (due_first q.rules.version) (held q.state)) c.self.view_is ∙ c.requires.top) in
     let found = top.found in
     let changed = c.set_role.new.tasks.items in
@@ -65,16 +70,20 @@ invariant_of-self g c =
     c.entry_of.ensures in
     let below_is = c.release_one.ensures.rest ∙ without_first inside.held top.entry top.rest top.is in
     let order = subst IsByDeadline top.is c.release_one.ensures.order in
-    let had = subst (λ h. Agrees tasks inside.waiting.table k h inside.cpu.job inside.fresh inside.next inside.done) top.is kept.agrees.2 in
-    let agrees = displace_step tasks changed t inside.waiting.table k top.entry top.rest inside.cpu.job inside.fresh inside.next inside.done
+    let had = subst (λ h. Agrees tasks inside.waiting.table k h inside.cpu.job inside.fresh inside.next inside.done)
+    top.is kept.agrees.2 in
+    let agrees = displace_step tasks changed t inside.waiting.table k top.entry top.rest inside.cpu.job inside.fresh
+    inside.next inside.done
     (splits t Waiting tasks changed found c.set_role.ensures.changes) top.role had order top.number in
     record {
       version = ap (λ w. w.version) after_is ∙ kept.version;
       agrees = (
         k,
         kept.agrees.1,
-        (subst (λ h. Agrees changed c.add.new.self.table k h.held inside.cpu.job inside.fresh inside.next inside.done) (sym below_is)
-            (subst (λ w. Agrees changed w.table k top.rest inside.cpu.job inside.fresh inside.next inside.done) (sym after_is) agrees)),
+        (subst (λ h. Agrees changed c.add.new.self.table k h.held inside.cpu.job inside.fresh inside.next inside.done)
+            (sym below_is)
+            (subst (λ w. Agrees changed w.table k top.rest inside.cpu.job inside.fresh inside.next inside.done)
+            (sym after_is) agrees)),
       );
       latest = subst (λ h. h.latest ≤ inside.cpu.clock) (sym below_is) kept.latest;
       fits = omega (arith, kept.fits, c.set_role.ensures.len, c.set_role.ensures.capacity);
@@ -87,14 +96,18 @@ pub returns-clause-waits : goal.returns-clause-waits
 returns-clause-waits g c =
     let inside = c.self.inside in
     let t = c.args.t.now in
-    changed_view (queued_of inside).rules inside.spare inside.cpu.clock inside.cpu.clock t.number Waiting inside.tasks.items
+    changed_view (queued_of inside).rules inside.spare inside.cpu.clock inside.cpu.clock t.number Waiting
+    inside.tasks.items
     c.set_role.new.tasks.items
     c.args.self.now c.self.view_is refl
-    (is_map t.number inside.tasks.items c.set_role.new.tasks.items Waiting c.set_role.ensures.changes c.self.invariant.agrees.2.numbered)
+    (is_map t.number inside.tasks.items c.set_role.new.tasks.items Waiting c.set_role.ensures.changes
+    c.self.invariant.agrees.2.numbered)
 
 pub returns-clause-count : goal.returns-clause-count
 returns-clause-count g c d fits =
     let inside = c.self.inside in
-    let few = few_wait inside.tasks.items inside.waiting.table c.self.invariant.agrees.0 c.self.invariant.agrees.2.waiting in
-    let all : length inside.tasks.items + 1 < 2 ^ d = subst (λ q. length q.state.tasks + 1 < 2 ^ d) (sym c.self.view_is) fits in
+    let few = few_wait inside.tasks.items inside.waiting.table c.self.invariant.agrees.0
+    c.self.invariant.agrees.2.waiting in
+    let all : length inside.tasks.items + 1 < 2 ^ d =
+    subst (λ q. length q.state.tasks + 1 < 2 ^ d) (sym c.self.view_is) fits in
     c.add.ensures.count d (omega (arith, few, all))

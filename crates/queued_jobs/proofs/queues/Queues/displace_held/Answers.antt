@@ -6,7 +6,8 @@ use Rattle.dover_model.specs.State.{is_held}
 use Rattle.dover_model.specs.Step.{with_role, displaced}
 use Rattle.dover_model.proofs.Roles.{numbered_map}
 use Rattle.queued_jobs.specs.Roles.{all_displaced}
-use Rattle.queued_jobs.proofs.Displacing.{Displaces, displaced_same, all_stay, none_running, first_held_is, none_held, still_none, fewer_held}
+use Rattle.queued_jobs.proofs.Displacing.{Displaces, displaced_same, all_stay, none_running, first_held_is, none_held}
+use Rattle.queued_jobs.proofs.Displacing.{still_none, fewer_held}
 use Rattle.queued_jobs.proofs.Displacing.{same_queued}
 use Rattle.queued_jobs.proofs.Costs.{one_displaced, same_length}
 use Rattle.queued_jobs.proofs.queues.Queues.displace_held.Goals as goal
@@ -29,7 +30,8 @@ loop-p-smaller g c =
     let q = c.loop-p.self in
     let p = c.in-Some.p in
     let it = first_held_is q.rules.version q.state p (sym c.in-Some.ensures) in
-    subst (λ r. length (filter is_held r.state.tasks) < length (filter is_held q.state.tasks)) (sym c.displace.ensures.waits)
+    subst (λ r. length (filter is_held r.state.tasks) < length (filter is_held q.state.tasks))
+    (sym c.displace.ensures.waits)
     (fewer_held q.state.tasks p it.0 it.1)
 
 pub loop-p-preserved : goal.loop-p-preserved
@@ -43,16 +45,19 @@ loop-p-preserved g c =
         rules = kept.rules;
         spare = kept.spare;
         clock = kept.clock;
-        numbered = numbered_map (λ t. with_role t (cond (t.number == p.number) Waiting t.role)) (λ t. refl) 0 q.state.tasks kept.numbered;
+        numbered = numbered_map (λ t. with_role t (cond (t.number == p.number) Waiting t.role))
+            (λ t. refl) 0 q.state.tasks kept.numbered;
         same = displaced_same q.state.tasks p kept.numbered it.0 (ap displaced it.1) ∙ kept.same;
         none = still_none q.state.tasks p.number kept.none;
       });
       count = λ d fits.
           let less : length (filter is_held c.displace.new.self.state.tasks) < length (filter is_held q.state.tasks) =
-          subst (λ r. length (filter is_held r.state.tasks) < length (filter is_held q.state.tasks)) (sym c.displace.ensures.waits)
+          subst (λ r. length (filter is_held r.state.tasks) < length (filter is_held q.state.tasks))
+          (sym c.displace.ensures.waits)
           (fewer_held q.state.tasks p it.0 it.1) in
           one_displaced d _ _ _ _ _ less (c.displace.ensures.count d (subst (λ n. n + 1 < 2 ^ d)
-          (sym (same_length q.state.tasks c.args.self.now.state.tasks kept.same)) fits)) (c.loop-p.invariant.count d fits);
+          (sym (same_length q.state.tasks c.args.self.now.state.tasks kept.same)) fits))
+          (c.loop-p.invariant.count d fits);
     }
 
 pub returns-clause-waits : goal.returns-clause-waits

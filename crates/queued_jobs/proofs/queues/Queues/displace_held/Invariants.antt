@@ -8,7 +8,8 @@ abbrev pub invariant-loop-p : goal.invariant-loop-p
 invariant-loop-p g l = record {
   kept : Displaces l.initial.self l.self;
   count : (d : ℕ) → length l.initial.self.state.tasks + 1 < 2 ^ d →
-      l.steps + 2 * d * length (filter is_held l.self.state.tasks) ≤ l.initial.steps + 2 * d * length (filter is_held l.initial.self.state.tasks);
+      l.steps + 2 * d * length (filter is_held l.self.state.tasks) ≤ l.initial.steps + 2 * d * length
+      (filter is_held l.initial.self.state.tasks);
 }
 
 abbrev pub decreases-loop-p : goal.decreases-loop-p

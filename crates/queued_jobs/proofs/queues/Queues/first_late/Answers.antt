@@ -15,21 +15,27 @@ returns-in_err-e c =
     let inside = c.self.inside in
     let table = inside.waiting.table in
     let sound = subst (λ q. IsSound q.state) (sym c.self.view_is) c.requires in
-    let members = waiting_members inside.tasks.items table c.self.invariant.agrees.0 c.self.invariant.agrees.2.waiting in
-    let at = sym c.in_err-e.was ∙ c.first_latest.ensures ∙ ap (λ v. first (is_latest_before v) (members_of table)) c.self.invariant.version in
+    let members = waiting_members inside.tasks.items table c.self.invariant.agrees.0
+    c.self.invariant.agrees.2.waiting in
+    let at = sym c.in_err-e.was ∙ c.first_latest.ensures
+    ∙ ap (λ v. first (is_latest_before v) (members_of table)) c.self.invariant.version in
     c.from_residual.ensures ∙ late_none inside.version (queued_of inside).state sound (members_of table) members at
-    ∙ ap (λ q. first (latest_first q.rules.version) (filter (is_at_latest_start q.state) (waiting q.state))) c.self.view_is
+    ∙ ap (λ q. first (latest_first q.rules.version) (filter (is_at_latest_start q.state) (waiting q.state)))
+    c.self.view_is
 
 pub returns-then-e-clock : goal.returns-then-e-clock
 returns-then-e-clock c =
     let inside = c.self.inside in
     let table = inside.waiting.table in
     let sound = subst (λ q. IsSound q.state) (sym c.self.view_is) c.requires in
-    let members = waiting_members inside.tasks.items table c.self.invariant.agrees.0 c.self.invariant.agrees.2.waiting in
-    let at = sym c.in_ok-e.was ∙ c.first_latest.ensures ∙ ap (λ v. first (is_latest_before v) (members_of table)) c.self.invariant.version in
+    let members = waiting_members inside.tasks.items table c.self.invariant.agrees.0
+    c.self.invariant.agrees.2.waiting in
+    let at = sym c.in_ok-e.was ∙ c.first_latest.ensures
+    ∙ ap (λ v. first (is_latest_before v) (members_of table)) c.self.invariant.version in
     late_later inside.version (queued_of inside).state sound (members_of table) members c.in_ok-e.e at
     (λ same. c.if-e-clock.true (same ∙ sym c.clock.ensures))
-    ∙ ap (λ q. first (latest_first q.rules.version) (filter (is_at_latest_start q.state) (waiting q.state))) c.self.view_is
+    ∙ ap (λ q. first (latest_first q.rules.version) (filter (is_at_latest_start q.state) (waiting q.state)))
+    c.self.view_is
 
 pub returns : goal.returns
 returns c =
@@ -37,9 +43,12 @@ returns c =
     let table = inside.waiting.table in
     let e = c.in_ok-e.e in
     let sound = subst (λ q. IsSound q.state) (sym c.self.view_is) c.requires in
-    let members = waiting_members inside.tasks.items table c.self.invariant.agrees.0 c.self.invariant.agrees.2.waiting in
-    let at = sym c.in_ok-e.was ∙ c.first_latest.ensures ∙ ap (λ v. first (is_latest_before v) (members_of table)) c.self.invariant.version in
+    let members = waiting_members inside.tasks.items table c.self.invariant.agrees.0
+    c.self.invariant.agrees.2.waiting in
+    let at = sym c.in_ok-e.was ∙ c.first_latest.ensures
+    ∙ ap (λ v. first (is_latest_before v) (members_of table)) c.self.invariant.version in
     let same : e.latest ≡ inside.cpu.clock = c.if-e-clock.false ∙ c.clock.ensures in
     c.task.ensures ∙ ap (λ q. slice_get q.state.tasks e.number) (sym c.self.view_is)
     ∙ late_found inside.version (queued_of inside).state sound (members_of table) members e at same
-    ∙ ap (λ q. first (latest_first q.rules.version) (filter (is_at_latest_start q.state) (waiting q.state))) c.self.view_is
+    ∙ ap (λ q. first (latest_first q.rules.version) (filter (is_at_latest_start q.state) (waiting q.state)))
+    c.self.view_is

@@ -16,9 +16,11 @@ invariant_of-self c =
     let items : c.push.new.self.items ≡ tasks ++ t ∷ [] =
     c.push.ensures.items ∙ ap (λ r. if is_ok r then tasks ++ t ∷ [] else tasks) c.unwrap.ensures in
     let longer : vec_len c.push.new.self ≡ vec_len inside.tasks + 1 =
-    c.push.ensures.len ∙ ap (λ r. if is_ok r then vec_len inside.tasks + 1 else vec_len inside.tasks) c.unwrap.ensures in
+    c.push.ensures.len ∙ ap (λ r. if is_ok r then vec_len inside.tasks + 1 else vec_len inside.tasks)
+    c.unwrap.ensures in
     let ready : 1 ≤ kept.agrees.0 = omega (arith, some, kept.agrees.1) in
-    let agrees = agrees_push tasks t inside.waiting.table kept.agrees.0 inside.held.held inside.cpu.job inside.fresh inside.next inside.done
+    let agrees = agrees_push tasks t inside.waiting.table kept.agrees.0 inside.held.held inside.cpu.job inside.fresh
+    inside.next inside.done
     kept.agrees.2 ready (c.len-number.ensures ∙ inside.tasks.ok.0) refl in
     record {
       version = kept.version;

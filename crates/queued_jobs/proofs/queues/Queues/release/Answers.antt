@@ -43,16 +43,20 @@ invariant_of-self c =
     let found : slice_get tasks t.number ≡ Some t = ap (slice_get tasks) here ∙ at in
     let changed = c.set_role.new.tasks.items in
     let k = kept.agrees.0 in
-    let role = is_coming_role t (found_passes is_coming tasks t (ap (λ q. find is_coming q.state.tasks) c.self.view_is ∙ c.requires.first)).1 in
-    let none = stale_number tasks inside.fresh kept.agrees.2.fresh (ap (λ q. find is_fresh q.state.tasks) c.self.view_is ∙ c.requires.stale) in
-    let agrees = release_step tasks changed t inside.waiting.table k inside.held.held inside.cpu.job inside.fresh inside.next inside.done
+    let role = is_coming_role t
+    (found_passes is_coming tasks t (ap (λ q. find is_coming q.state.tasks) c.self.view_is ∙ c.requires.first)).1 in
+    let none = stale_number tasks inside.fresh kept.agrees.2.fresh
+    (ap (λ q. find is_fresh q.state.tasks) c.self.view_is ∙ c.requires.stale) in
+    let agrees = release_step tasks changed t inside.waiting.table k inside.held.held inside.cpu.job inside.fresh
+    inside.next inside.done
     (splits t Fresh tasks changed found c.set_role.ensures.changes) role kept.agrees.2 none (sym here) in
     record {
       version = kept.version;
       agrees = (
         k,
         kept.agrees.1,
-        subst (λ m. Agrees changed inside.waiting.table k inside.held.held inside.cpu.job (Some t.number) (m + 1) inside.done) here agrees,
+        subst (λ m. Agrees changed inside.waiting.table k inside.held.held inside.cpu.job (Some t.number)
+            (m + 1) inside.done) here agrees,
       );
       latest = kept.latest;
       fits = omega (arith, kept.fits, c.set_role.ensures.len, c.set_role.ensures.capacity);
@@ -64,6 +68,8 @@ pub returns : goal.returns
 returns c =
     let inside = c.self.inside in
     let t = c.args.t.now in
-    changed_view (queued_of inside).rules inside.spare inside.cpu.clock inside.cpu.clock t.number Fresh inside.tasks.items c.set_role.new.tasks.items
+    changed_view (queued_of inside).rules inside.spare inside.cpu.clock inside.cpu.clock t.number Fresh
+    inside.tasks.items c.set_role.new.tasks.items
     c.args.self.now c.self.view_is refl
-    (is_map t.number inside.tasks.items c.set_role.new.tasks.items Fresh c.set_role.ensures.changes c.self.invariant.agrees.2.numbered)
+    (is_map t.number inside.tasks.items c.set_role.new.tasks.items Fresh c.set_role.ensures.changes
+    c.self.invariant.agrees.2.numbered)

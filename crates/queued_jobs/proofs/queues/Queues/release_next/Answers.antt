@@ -18,10 +18,13 @@ release-requires-clause-first c =
     let tasks = q.state.tasks in
     let all = c.requires.sound.numbered in
     let keeps : Keeps (instance_of q) q.state = record { sound = c.requires.sound; jobs = refl } in
-    let it = arrives_says q.rules.version q.rules.ratio q.state c.requires.sound c.args.number c.args.job.now (open_step q.rules q.state)
+    let it = arrives_says q.rules.version q.rules.ratio q.state c.requires.sound c.args.number c.args.job.now
+    (open_step q.rules q.state)
     (open_deed (instance_of q) c.requires.valid q.state keeps q.rules) c.requires.step in
     let t = c.in-Some.t in
-    let same : t ≡ it.task = some_same t it.task (same_task tasks c.args.number (Some t) it.task all it.member it.number c.in-Some.ensures) in
+    let same : t ≡ it.task =
+    some_same t it.task (same_task tasks c.args.number
+    (Some t) it.task all it.member it.number c.in-Some.ensures) in
     coming_first 0 tasks it.task all it.member it.role it.least ∙ ap Some (sym same)
 
 pub release-requires-clause-stale : goal.release-requires-clause-stale
@@ -30,7 +33,8 @@ release-requires-clause-stale c =
     let tasks = q.state.tasks in
     let all = c.requires.sound.numbered in
     let keeps : Keeps (instance_of q) q.state = record { sound = c.requires.sound; jobs = refl } in
-    let it = arrives_says q.rules.version q.rules.ratio q.state c.requires.sound c.args.number c.args.job.now (open_step q.rules q.state)
+    let it = arrives_says q.rules.version q.rules.ratio q.state c.requires.sound c.args.number c.args.job.now
+    (open_step q.rules q.state)
     (open_deed (instance_of q) c.requires.valid q.state keeps q.rules) c.requires.step in
     none_of is_fresh tasks (λ t m h. it.stale t m (is_fresh_role t h))
 
@@ -40,10 +44,13 @@ returns-in-Some c =
     let tasks = q.state.tasks in
     let all = c.requires.sound.numbered in
     let keeps : Keeps (instance_of q) q.state = record { sound = c.requires.sound; jobs = refl } in
-    let it = arrives_says q.rules.version q.rules.ratio q.state c.requires.sound c.args.number c.args.job.now (open_step q.rules q.state)
+    let it = arrives_says q.rules.version q.rules.ratio q.state c.requires.sound c.args.number c.args.job.now
+    (open_step q.rules q.state)
     (open_deed (instance_of q) c.requires.valid q.state keeps q.rules) c.requires.step in
     let t = c.in-Some.t in
-    let same : t ≡ it.task = some_same t it.task (same_task tasks c.args.number (Some t) it.task all it.member it.number c.in-Some.ensures) in
+    let same : t ≡ it.task =
+    some_same t it.task (same_task tasks c.args.number
+    (Some t) it.task all it.member it.number c.in-Some.ensures) in
     c.release.ensures ∙ ap (λ m. with_job_in q m Fresh) (ap (λ (x : Task). x.number) same ∙ it.number)
 
 pub returns-in_default : goal.returns-in_default
@@ -52,6 +59,8 @@ returns-in_default c =
     let tasks = q.state.tasks in
     let all = c.requires.sound.numbered in
     let keeps : Keeps (instance_of q) q.state = record { sound = c.requires.sound; jobs = refl } in
-    let it = arrives_says q.rules.version q.rules.ratio q.state c.requires.sound c.args.number c.args.job.now (open_step q.rules q.state)
+    let it = arrives_says q.rules.version q.rules.ratio q.state c.requires.sound c.args.number c.args.job.now
+    (open_step q.rules q.state)
     (open_deed (instance_of q) c.requires.valid q.state keeps q.rules) c.requires.step in
-    none_is_some (sym c.in_default.is ∙ same_task tasks c.args.number c.task.result it.task all it.member it.number c.task.ensures)
+    none_is_some (sym c.in_default.is
+    ∙ same_task tasks c.args.number c.task.result it.task all it.member it.number c.task.ensures)

@@ -11,7 +11,8 @@ invariant_of-self-in_err-reserve-2 c =
     let grown = c.in_ok-reserve.ensures.ok in
     let m : ℕ = c.len.result + c.args.more - length inside.waiting.table in
     let same = c.in_err-reserve-2.ensures.err in
-    let agrees = agrees_more inside.tasks.items inside.waiting.table c.reserve.new.self.table kept.agrees.0 m inside.held.held inside.cpu.job
+    let agrees = agrees_more inside.tasks.items inside.waiting.table c.reserve.new.self.table kept.agrees.0 m
+    inside.held.held inside.cpu.job
     inside.fresh
     inside.next inside.done kept.agrees.2 (ap (λ w. w.table) grown) in
     record {
@@ -19,7 +20,8 @@ invariant_of-self-in_err-reserve-2 c =
       agrees = (
         kept.agrees.0 + m,
         omega (arith, kept.agrees.1),
-        subst (λ h. Agrees inside.tasks.items c.reserve.new.self.table (kept.agrees.0 + m) h.held inside.cpu.job inside.fresh inside.next
+        subst (λ h. Agrees inside.tasks.items c.reserve.new.self.table
+            (kept.agrees.0 + m) h.held inside.cpu.job inside.fresh inside.next
             inside.done) (sym same) agrees,
       );
       latest = subst (λ h. h.latest ≤ inside.cpu.clock) (sym same) kept.latest;
@@ -36,7 +38,8 @@ invariant_of-self-in_err-reserve-3 c =
     let m : ℕ = c.len.result + c.args.more - length inside.waiting.table in
     let roomier = c.in_ok-reserve-2.ensures.ok in
     let tasks = c.reserve-3.new.self in
-    let agrees = agrees_more inside.tasks.items inside.waiting.table c.reserve.new.self.table kept.agrees.0 m inside.held.held inside.cpu.job
+    let agrees = agrees_more inside.tasks.items inside.waiting.table c.reserve.new.self.table kept.agrees.0 m
+    inside.held.held inside.cpu.job
     inside.fresh
     inside.next inside.done kept.agrees.2 (ap (λ w. w.table) grown) in
     record {
@@ -44,7 +47,8 @@ invariant_of-self-in_err-reserve-3 c =
       agrees = (
         kept.agrees.0 + m,
         omega (arith, kept.agrees.1),
-        subst (λ ts. Agrees ts c.reserve.new.self.table (kept.agrees.0 + m) c.reserve-2.new.self.held inside.cpu.job inside.fresh
+        subst (λ ts. Agrees ts c.reserve.new.self.table
+            (kept.agrees.0 + m) c.reserve-2.new.self.held inside.cpu.job inside.fresh
             inside.next inside.done) (sym c.reserve-3.ensures.items)
             (subst (λ h. Agrees inside.tasks.items c.reserve.new.self.table
             (kept.agrees.0 + m) h.held inside.cpu.job inside.fresh inside.next inside.done) (sym roomier) agrees),
@@ -64,7 +68,8 @@ invariant_of-self-2 c =
     let m : ℕ = c.len.result + c.args.more - length inside.waiting.table in
     let roomier = c.in_ok-reserve-2.ensures.ok in
     let tasks = c.reserve-3.new.self in
-    let agrees = agrees_more inside.tasks.items inside.waiting.table c.reserve.new.self.table kept.agrees.0 m inside.held.held inside.cpu.job
+    let agrees = agrees_more inside.tasks.items inside.waiting.table c.reserve.new.self.table kept.agrees.0 m
+    inside.held.held inside.cpu.job
     inside.fresh
     inside.next inside.done kept.agrees.2 (ap (λ w. w.table) grown) in
     let ready = table_len inside.tasks.items inside.waiting.table kept.agrees.0 kept.agrees.2.waiting in
@@ -75,7 +80,8 @@ invariant_of-self-2 c =
       agrees = (
         kept.agrees.0 + m,
         omega (arith, ready, c.len.ensures, inside.tasks.ok.0),
-        subst (λ ts. Agrees ts c.reserve.new.self.table (kept.agrees.0 + m) c.reserve-2.new.self.held inside.cpu.job inside.fresh
+        subst (λ ts. Agrees ts c.reserve.new.self.table
+            (kept.agrees.0 + m) c.reserve-2.new.self.held inside.cpu.job inside.fresh
             inside.next inside.done) (sym c.reserve-3.ensures.items)
             (subst (λ h. Agrees inside.tasks.items c.reserve.new.self.table
             (kept.agrees.0 + m) h.held inside.cpu.job inside.fresh inside.next inside.done) (sym roomier) agrees),
@@ -83,6 +89,14 @@ invariant_of-self-2 c =
       latest = subst (λ h. h.latest ≤ inside.cpu.clock) (sym roomier) kept.latest;
       fits = omega (arith, c.in_ok-reserve-3.ensures.ok, c.reserve-3.ensures.len);
       fits_held = subst (λ h. vec_len tasks + c.args.more ≤ length h.held + h.spare) (sym roomier)
-          (omega (arith, kept.fits_held, c.reserve-3.ensures.len, c.saturating_add-held.ensures, c.spare.ensures, few, inside.tasks.ok.0));
+          (omega (
+            arith,
+            kept.fits_held,
+            c.reserve-3.ensures.len,
+            c.saturating_add-held.ensures,
+            c.spare.ensures,
+            few,
+            inside.tasks.ok.0,
+          ));
       few = omega (arith, few, c.reserve-3.ensures.len, inside.tasks.ok.0);
     }

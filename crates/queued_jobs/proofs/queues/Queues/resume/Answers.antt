@@ -17,7 +17,8 @@ start-requires-clause-free c =
     let kept = c.self.invariant in
     let tasks = inside.tasks.items in
     let t = c.args.t.now in
-    let free = free_job tasks inside.cpu.job kept.agrees.2.running (ap (λ q. running q.state) c.self.view_is ∙ c.requires.free) in
+    let free = free_job tasks inside.cpu.job kept.agrees.2.running
+    (ap (λ q. running q.state) c.self.view_is ∙ c.requires.free) in
     subst IsNone (sym free) refl
 
 pub set_role-requires : goal.set_role-requires
@@ -26,7 +27,8 @@ set_role-requires c =
     let kept = c.self.invariant in
     let tasks = inside.tasks.items in
     let t = c.args.t.now in
-    let top = top_job inside.version tasks inside.held.held t kept.agrees.2.numbered kept.agrees.2.held c.release_one.ensures.order
+    let top = top_job inside.version tasks inside.held.held t kept.agrees.2.numbered kept.agrees.2.held
+    c.release_one.ensures.order
     (ap (λ q. first (due_first q.rules.version) (held q.state)) c.self.view_is ∙ c.requires.top) in
     let found = top.found in
     slice_get_within tasks t.number t found
@@ -37,28 +39,36 @@ invariant_of-self c =
     let kept = c.self.invariant in
     let tasks = inside.tasks.items in
     let t = c.args.t.now in
-    let top = top_job inside.version tasks inside.held.held t kept.agrees.2.numbered kept.agrees.2.held c.release_one.ensures.order
+    let top = top_job inside.version tasks inside.held.held t kept.agrees.2.numbered kept.agrees.2.held
+    c.release_one.ensures.order
     (ap (λ q. first (due_first q.rules.version) (held q.state)) c.self.view_is ∙ c.requires.top) in
     let found = top.found in
     let changed = c.set_role.new.tasks.items in
     let k = kept.agrees.0 in
-    let free = free_job tasks inside.cpu.job kept.agrees.2.running (ap (λ q. running q.state) c.self.view_is ∙ c.requires.free) in
-    let runs_is = c.start.ensures ∙ ap (λ (n : ℕ). record { clock = inside.cpu.clock; job = Some (t.number, n) }) c.left.ensures in
+    let free = free_job tasks inside.cpu.job kept.agrees.2.running
+    (ap (λ q. running q.state) c.self.view_is ∙ c.requires.free) in
+    let runs_is = c.start.ensures
+    ∙ ap (λ (n : ℕ). record { clock = inside.cpu.clock; job = Some (t.number, n) }) c.left.ensures in
     let below_is = c.release_one.ensures.rest ∙ without_first inside.held top.entry top.rest top.is in
     let order = subst IsByDeadline top.is c.release_one.ensures.order in
-    let had = subst (λ h. Agrees tasks inside.waiting.table k h inside.cpu.job inside.fresh inside.next inside.done) top.is kept.agrees.2 in
-    let agrees = resume_step tasks changed t inside.waiting.table k top.entry top.rest inside.cpu.job inside.fresh inside.next inside.done
+    let had = subst (λ h. Agrees tasks inside.waiting.table k h inside.cpu.job inside.fresh inside.next inside.done)
+    top.is kept.agrees.2 in
+    let agrees = resume_step tasks changed t inside.waiting.table k top.entry top.rest inside.cpu.job inside.fresh
+    inside.next inside.done
     (splits t Running tasks changed found c.set_role.ensures.changes) top.role had order top.number free in
     record {
       version = kept.version;
       agrees = (
         k,
         kept.agrees.1,
-        (subst (λ h. Agrees changed inside.waiting.table k h.held c.start.new.self.job inside.fresh inside.next inside.done) (sym below_is)
-            (subst (λ p. Agrees changed inside.waiting.table k top.rest p.job inside.fresh inside.next inside.done) (sym runs_is)
+        (subst (λ h. Agrees changed inside.waiting.table k h.held c.start.new.self.job inside.fresh inside.next
+            inside.done) (sym below_is)
+            (subst (λ p. Agrees changed inside.waiting.table k top.rest p.job inside.fresh inside.next inside.done)
+            (sym runs_is)
             agrees)),
       );
-      latest = subst (λ h. h.latest ≤ c.start.new.self.clock) (sym below_is) (subst (λ p. inside.held.latest ≤ p.clock) (sym runs_is) kept.latest);
+      latest = subst (λ h. h.latest ≤ c.start.new.self.clock) (sym below_is)
+          (subst (λ p. inside.held.latest ≤ p.clock) (sym runs_is) kept.latest);
       fits = omega (arith, kept.fits, c.set_role.ensures.len, c.set_role.ensures.capacity);
       fits_held = subst (λ h. vec_len c.set_role.new.tasks + inside.spare ≤ length h.held + h.spare) (sym below_is)
           (omega (arith, kept.fits_held, c.set_role.ensures.len, ap length top.is));
@@ -69,7 +79,9 @@ pub returns : goal.returns
 returns c =
     let inside = c.self.inside in
     let t = c.args.t.now in
-    changed_view (queued_of inside).rules inside.spare inside.cpu.clock c.start.new.self.clock t.number Running inside.tasks.items
+    changed_view (queued_of inside).rules inside.spare inside.cpu.clock c.start.new.self.clock t.number Running
+    inside.tasks.items
     c.set_role.new.tasks.items
     c.args.self.now c.self.view_is (ap (λ p. p.clock) c.start.ensures)
-    (is_map t.number inside.tasks.items c.set_role.new.tasks.items Running c.set_role.ensures.changes c.self.invariant.agrees.2.numbered)
+    (is_map t.number inside.tasks.items c.set_role.new.tasks.items Running c.set_role.ensures.changes
+    c.self.invariant.agrees.2.numbered)

@@ -15,7 +15,8 @@ room_with-requires-clause-first c =
     (ap (λ q. running q.state) c.self.view_is ∙ c.requires.running) in
     subst (λ d. Each (λ f. d < f.deadline) inside.held.held) (sym (ap (λ (e : Entry). e.deadline) c.entry_of.ensures))
     (subst (Each (λ f. c.args.r.now.job.deadline < f.deadline)) (sym c.self.invariant.agrees.2.held)
-    (entries_later c.args.r.now.job.deadline inside.tasks.items (running_before (queued_of inside).state sound c.args.r.now runs)))
+    (entries_later c.args.r.now.job.deadline inside.tasks.items
+    (running_before (queued_of inside).state sound c.args.r.now runs)))
 
 pub returns : goal.returns
 returns c =

@@ -20,14 +20,18 @@ resume-requires-clause-top g c =
     let tasks = q.state.tasks in
     let all = c.requires.sound.numbered in
     let keeps : Keeps (instance_of q) q.state = record { sound = c.requires.sound; jobs = refl } in
-    let it = runs_says q.rules.version q.rules.ratio q.state c.requires.sound q.state.clock c.args.number (open_step q.rules q.state)
+    let it = runs_says q.rules.version q.rules.ratio q.state c.requires.sound q.state.clock c.args.number
+    (open_step q.rules q.state)
     (open_deed (instance_of q) c.requires.valid q.state keeps q.rules) c.requires.step in
     let t = c.in-Some.t in
-    let same : t ≡ it.task = some_same t it.task (same_task tasks c.args.number (Some t) it.task all it.member it.number c.in-Some.ensures) in
+    let same : t ≡ it.task =
+    some_same t it.task (same_task tasks c.args.number
+    (Some t) it.task all it.member it.number c.in-Some.ensures) in
     let role : it.task.role ≡ Held = sym (ap (λ (x : Task). x.role) same) ∙ c.in-Held.is in
     elim it.role [
       | inl holds ↦ holds.1 ∙ ap Some (sym same)
-      | inr other ↦ elim other [ inl waits ↦ absurd (apart (sym role ∙ waits)) | inr fresh ↦ absurd (apart_too (sym role ∙ fresh)) ]
+      | inr other ↦ elim other
+          [ inl waits ↦ absurd (apart (sym role ∙ waits)) | inr fresh ↦ absurd (apart_too (sym role ∙ fresh)) ]
     ] where
       apart : Held ≡ Waiting → ⊥
       apart e = cc
@@ -41,7 +45,8 @@ resume-requires-clause-free g c =
     let tasks = q.state.tasks in
     let all = c.requires.sound.numbered in
     let keeps : Keeps (instance_of q) q.state = record { sound = c.requires.sound; jobs = refl } in
-    let it = runs_says q.rules.version q.rules.ratio q.state c.requires.sound q.state.clock c.args.number (open_step q.rules q.state)
+    let it = runs_says q.rules.version q.rules.ratio q.state c.requires.sound q.state.clock c.args.number
+    (open_step q.rules q.state)
     (open_deed (instance_of q) c.requires.valid q.state keeps q.rules) c.requires.step in
     it.free
 
@@ -51,12 +56,16 @@ resume-requires-clause-in_time g c =
     let tasks = q.state.tasks in
     let all = c.requires.sound.numbered in
     let keeps : Keeps (instance_of q) q.state = record { sound = c.requires.sound; jobs = refl } in
-    let it = runs_says q.rules.version q.rules.ratio q.state c.requires.sound q.state.clock c.args.number (open_step q.rules q.state)
+    let it = runs_says q.rules.version q.rules.ratio q.state c.requires.sound q.state.clock c.args.number
+    (open_step q.rules q.state)
     (open_deed (instance_of q) c.requires.valid q.state keeps q.rules) c.requires.step in
     let t = c.in-Some.t in
-    let same : t ≡ it.task = some_same t it.task (same_task tasks c.args.number (Some t) it.task all it.member it.number c.in-Some.ensures) in
+    let same : t ≡ it.task =
+    some_same t it.task (same_task tasks c.args.number
+    (Some t) it.task all it.member it.number c.in-Some.ensures) in
     let ready : (t.role ≡ Held) ⊎ ((t.role ≡ Waiting) ⊎ (t.role ≡ Fresh)) = inl c.in-Held.is in
-    subst (λ x. q.state.clock + left x ≤ last_tick) (sym same) (in_time (instance_of q) c.requires.valid q.state keeps it.task it.member
+    subst (λ x. q.state.clock + left x ≤ last_tick) (sym same)
+    (in_time (instance_of q) c.requires.valid q.state keeps it.task it.member
     (subst (λ (x : Task). (x.role ≡ Held) ⊎ ((x.role ≡ Waiting) ⊎ (x.role ≡ Fresh))) same ready))
 
 pub start-requires-clause-found : goal.start-requires-clause-found
@@ -65,10 +74,13 @@ start-requires-clause-found g c =
     let tasks = q.state.tasks in
     let all = c.requires.sound.numbered in
     let keeps : Keeps (instance_of q) q.state = record { sound = c.requires.sound; jobs = refl } in
-    let it = runs_says q.rules.version q.rules.ratio q.state c.requires.sound q.state.clock c.args.number (open_step q.rules q.state)
+    let it = runs_says q.rules.version q.rules.ratio q.state c.requires.sound q.state.clock c.args.number
+    (open_step q.rules q.state)
     (open_deed (instance_of q) c.requires.valid q.state keeps q.rules) c.requires.step in
     let t = c.in-Some.t in
-    let same : t ≡ it.task = some_same t it.task (same_task tasks c.args.number (Some t) it.task all it.member it.number c.in-Some.ensures) in
+    let same : t ≡ it.task =
+    some_same t it.task (same_task tasks c.args.number
+    (Some t) it.task all it.member it.number c.in-Some.ensures) in
     subst (λ x. slice_get tasks x.number ≡ Some x) (sym same) (task_at tasks it.task all it.member)
 
 pub start-requires-clause-free : goal.start-requires-clause-free
@@ -77,7 +89,8 @@ start-requires-clause-free g c =
     let tasks = q.state.tasks in
     let all = c.requires.sound.numbered in
     let keeps : Keeps (instance_of q) q.state = record { sound = c.requires.sound; jobs = refl } in
-    let it = runs_says q.rules.version q.rules.ratio q.state c.requires.sound q.state.clock c.args.number (open_step q.rules q.state)
+    let it = runs_says q.rules.version q.rules.ratio q.state c.requires.sound q.state.clock c.args.number
+    (open_step q.rules q.state)
     (open_deed (instance_of q) c.requires.valid q.state keeps q.rules) c.requires.step in
     it.free
 
@@ -87,12 +100,16 @@ start-requires-clause-in_time g c =
     let tasks = q.state.tasks in
     let all = c.requires.sound.numbered in
     let keeps : Keeps (instance_of q) q.state = record { sound = c.requires.sound; jobs = refl } in
-    let it = runs_says q.rules.version q.rules.ratio q.state c.requires.sound q.state.clock c.args.number (open_step q.rules q.state)
+    let it = runs_says q.rules.version q.rules.ratio q.state c.requires.sound q.state.clock c.args.number
+    (open_step q.rules q.state)
     (open_deed (instance_of q) c.requires.valid q.state keeps q.rules) c.requires.step in
     let t = c.in-Some.t in
-    let same : t ≡ it.task = some_same t it.task (same_task tasks c.args.number (Some t) it.task all it.member it.number c.in-Some.ensures) in
+    let same : t ≡ it.task =
+    some_same t it.task (same_task tasks c.args.number
+    (Some t) it.task all it.member it.number c.in-Some.ensures) in
     let ready : (t.role ≡ Held) ⊎ ((t.role ≡ Waiting) ⊎ (t.role ≡ Fresh)) = inr (inl c.in-Waiting.is) in
-    subst (λ x. q.state.clock + left x ≤ last_tick) (sym same) (in_time (instance_of q) c.requires.valid q.state keeps it.task it.member
+    subst (λ x. q.state.clock + left x ≤ last_tick) (sym same)
+    (in_time (instance_of q) c.requires.valid q.state keeps it.task it.member
     (subst (λ (x : Task). (x.role ≡ Held) ⊎ ((x.role ≡ Waiting) ⊎ (x.role ≡ Fresh))) same ready))
 
 pub begin-requires : goal.begin-requires
@@ -101,10 +118,13 @@ begin-requires g c =
     let tasks = q.state.tasks in
     let all = c.requires.sound.numbered in
     let keeps : Keeps (instance_of q) q.state = record { sound = c.requires.sound; jobs = refl } in
-    let it = runs_says q.rules.version q.rules.ratio q.state c.requires.sound q.state.clock c.args.number (open_step q.rules q.state)
+    let it = runs_says q.rules.version q.rules.ratio q.state c.requires.sound q.state.clock c.args.number
+    (open_step q.rules q.state)
     (open_deed (instance_of q) c.requires.valid q.state keeps q.rules) c.requires.step in
     let t = c.in-Some.t in
-    let same : t ≡ it.task = some_same t it.task (same_task tasks c.args.number (Some t) it.task all it.member it.number c.in-Some.ensures) in
+    let same : t ≡ it.task =
+    some_same t it.task (same_task tasks c.args.number
+    (Some t) it.task all it.member it.number c.in-Some.ensures) in
     let role : t.role ≡ Fresh = elim it.role [
       | inl holds ↦ absurd (c.in_default-role.not-Held (ap (λ (x : Task). x.role) same ∙ holds.0))
       | inr other ↦ elim other [
@@ -116,7 +136,8 @@ begin-requires g c =
       found = subst (λ x. slice_get tasks x.number ≡ Some x) (sym same) (task_at tasks it.task all it.member);
       role = role;
       free = it.free;
-      in_time = subst (λ x. q.state.clock + left x ≤ last_tick) (sym same) (in_time (instance_of q) c.requires.valid q.state keeps it.task it.member
+      in_time = subst (λ x. q.state.clock + left x ≤ last_tick) (sym same)
+          (in_time (instance_of q) c.requires.valid q.state keeps it.task it.member
           (inr (inr (sym (ap (λ (x : Task). x.role) same) ∙ role))));
     }
 
@@ -126,10 +147,13 @@ returns-in-Held-clause-runs g c =
     let tasks = q.state.tasks in
     let all = c.requires.sound.numbered in
     let keeps : Keeps (instance_of q) q.state = record { sound = c.requires.sound; jobs = refl } in
-    let it = runs_says q.rules.version q.rules.ratio q.state c.requires.sound q.state.clock c.args.number (open_step q.rules q.state)
+    let it = runs_says q.rules.version q.rules.ratio q.state c.requires.sound q.state.clock c.args.number
+    (open_step q.rules q.state)
     (open_deed (instance_of q) c.requires.valid q.state keeps q.rules) c.requires.step in
     let t = c.in-Some.t in
-    let same : t ≡ it.task = some_same t it.task (same_task tasks c.args.number (Some t) it.task all it.member it.number c.in-Some.ensures) in
+    let same : t ≡ it.task =
+    some_same t it.task (same_task tasks c.args.number
+    (Some t) it.task all it.member it.number c.in-Some.ensures) in
     c.resume.ensures ∙ ap (λ m. with_job_in q m Running) (ap (λ (x : Task). x.number) same ∙ it.number)
 
 pub returns-in-Waiting-clause-runs : goal.returns-in-Waiting-clause-runs
@@ -138,10 +162,13 @@ returns-in-Waiting-clause-runs g c =
     let tasks = q.state.tasks in
     let all = c.requires.sound.numbered in
     let keeps : Keeps (instance_of q) q.state = record { sound = c.requires.sound; jobs = refl } in
-    let it = runs_says q.rules.version q.rules.ratio q.state c.requires.sound q.state.clock c.args.number (open_step q.rules q.state)
+    let it = runs_says q.rules.version q.rules.ratio q.state c.requires.sound q.state.clock c.args.number
+    (open_step q.rules q.state)
     (open_deed (instance_of q) c.requires.valid q.state keeps q.rules) c.requires.step in
     let t = c.in-Some.t in
-    let same : t ≡ it.task = some_same t it.task (same_task tasks c.args.number (Some t) it.task all it.member it.number c.in-Some.ensures) in
+    let same : t ≡ it.task =
+    some_same t it.task (same_task tasks c.args.number
+    (Some t) it.task all it.member it.number c.in-Some.ensures) in
     c.start.ensures.runs ∙ ap (λ m. with_job_in q m Running) (ap (λ (x : Task). x.number) same ∙ it.number)
 
 pub returns-in_default-role : goal.returns-in_default-role
@@ -150,10 +177,13 @@ returns-in_default-role g c =
     let tasks = q.state.tasks in
     let all = c.requires.sound.numbered in
     let keeps : Keeps (instance_of q) q.state = record { sound = c.requires.sound; jobs = refl } in
-    let it = runs_says q.rules.version q.rules.ratio q.state c.requires.sound q.state.clock c.args.number (open_step q.rules q.state)
+    let it = runs_says q.rules.version q.rules.ratio q.state c.requires.sound q.state.clock c.args.number
+    (open_step q.rules q.state)
     (open_deed (instance_of q) c.requires.valid q.state keeps q.rules) c.requires.step in
     let t = c.in-Some.t in
-    let same : t ≡ it.task = some_same t it.task (same_task tasks c.args.number (Some t) it.task all it.member it.number c.in-Some.ensures) in
+    let same : t ≡ it.task =
+    some_same t it.task (same_task tasks c.args.number
+    (Some t) it.task all it.member it.number c.in-Some.ensures) in
     record {
       runs = c.begin.ensures ∙ ap (λ m. with_job_in q m Running) (ap (λ (x : Task). x.number) same ∙ it.number);
       count = λ d fits. omega arith;
@@ -165,9 +195,11 @@ returns-in_default-clause-runs g c =
     let tasks = q.state.tasks in
     let all = c.requires.sound.numbered in
     let keeps : Keeps (instance_of q) q.state = record { sound = c.requires.sound; jobs = refl } in
-    let it = runs_says q.rules.version q.rules.ratio q.state c.requires.sound q.state.clock c.args.number (open_step q.rules q.state)
+    let it = runs_says q.rules.version q.rules.ratio q.state c.requires.sound q.state.clock c.args.number
+    (open_step q.rules q.state)
     (open_deed (instance_of q) c.requires.valid q.state keeps q.rules) c.requires.step in
-    none_is_some (sym c.in_default.is ∙ same_task tasks c.args.number c.task.result it.task all it.member it.number c.task.ensures)
+    none_is_some (sym c.in_default.is
+    ∙ same_task tasks c.args.number c.task.result it.task all it.member it.number c.task.ensures)
 
 pub returns-in-Waiting-clause-count : goal.returns-in-Waiting-clause-count
 returns-in-Waiting-clause-count g c d fits =
@@ -175,9 +207,13 @@ returns-in-Waiting-clause-count g c d fits =
     let tasks = q.state.tasks in
     let all = c.requires.sound.numbered in
     let keeps : Keeps (instance_of q) q.state = record { sound = c.requires.sound; jobs = refl } in
-    let it = runs_says q.rules.version q.rules.ratio q.state c.requires.sound q.state.clock c.args.number (open_step q.rules q.state)
+    let it = runs_says q.rules.version q.rules.ratio q.state c.requires.sound q.state.clock c.args.number
+    (open_step q.rules q.state)
     (open_deed (instance_of q) c.requires.valid q.state keeps q.rules) c.requires.step in
     let t = c.in-Some.t in
-    let same : t ≡ it.task = some_same t it.task (same_task tasks c.args.number (Some t) it.task all it.member it.number c.in-Some.ensures) in
+    let same : t ≡ it.task =
+    some_same t it.task (same_task tasks c.args.number
+    (Some t) it.task all it.member it.number c.in-Some.ensures) in
     one_leaves d _ _ _ _ (c.start.ensures.count d fits)
-    (run_leaves q.state it.task it.member q.state.clock c.args.number (sym (ap (λ (x : Task). x.role) same) ∙ c.in-Waiting.is) it.number)
+    (run_leaves q.state it.task it.member q.state.clock c.args.number
+    (sym (ap (λ (x : Task). x.role) same) ∙ c.in-Waiting.is) it.number)

@@ -15,7 +15,8 @@ returns-clause-due c =
     (open_deed (instance_of q) c.requires.valid q.state keeps q.rules) c.requires.step in
     record {
       none_fresh = quiet.stale;
-      running = λ t m runs. omega (arith, c.before_done.ensures.due t m runs, c.before_latest.ensures.most, c.before_release.ensures.most);
+      running = λ t m runs. omega
+          (arith, c.before_done.ensures.due t m runs, c.before_latest.ensures.most, c.before_release.ensures.most);
       waiting = λ t m waits. omega (arith, c.before_latest.ensures.due t m waits, c.before_release.ensures.most);
       coming = c.before_release.ensures.due;
       busy = quiet.free;
@@ -34,4 +35,5 @@ returns-clause-some c some =
 
 pub returns-clause-all : goal.returns-clause-all
 returns-clause-all c n most due =
-    c.before_release.ensures.all n (c.before_latest.ensures.all n (c.before_done.ensures.all n most due.running) due.waiting) due.coming
+    c.before_release.ensures.all n
+    (c.before_latest.ensures.all n (c.before_done.ensures.all n most due.running) due.waiting) due.coming

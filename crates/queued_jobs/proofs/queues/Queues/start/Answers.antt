@@ -15,7 +15,8 @@ start-requires-clause-free g c =
     let kept = c.self.invariant in
     let tasks = inside.tasks.items in
     let t = c.args.t.now in
-    let free = free_job tasks inside.cpu.job kept.agrees.2.running (ap (λ q. running q.state) c.self.view_is ∙ c.requires.free) in
+    let free = free_job tasks inside.cpu.job kept.agrees.2.running
+    (ap (λ q. running q.state) c.self.view_is ∙ c.requires.free) in
     subst IsNone (sym free) refl
 
 pub set_role-requires : goal.set_role-requires
@@ -36,20 +37,26 @@ invariant_of-self g c =
     let found = subst (λ q. slice_get q.state.tasks t.number ≡ Some t) (sym c.self.view_is) c.requires.found in
     let changed = c.set_role.new.tasks.items in
     let k = kept.agrees.0 in
-    let after_is = taken_out inside.waiting c.take_out.new.self tasks k t c.take_out.result kept.agrees.2.waiting found c.requires.role
+    let after_is = taken_out inside.waiting c.take_out.new.self tasks k t c.take_out.result kept.agrees.2.waiting found
+    c.requires.role
     c.take_out.ensures.was
     c.take_out.ensures.rest in
-    let free = free_job tasks inside.cpu.job kept.agrees.2.running (ap (λ q. running q.state) c.self.view_is ∙ c.requires.free) in
-    let runs_is = c.start.ensures ∙ ap (λ (n : ℕ). record { clock = inside.cpu.clock; job = Some (t.number, n) }) c.left.ensures in
-    let agrees = start_step tasks changed t inside.waiting.table k inside.held.held inside.cpu.job inside.fresh inside.next inside.done
+    let free = free_job tasks inside.cpu.job kept.agrees.2.running
+    (ap (λ q. running q.state) c.self.view_is ∙ c.requires.free) in
+    let runs_is = c.start.ensures
+    ∙ ap (λ (n : ℕ). record { clock = inside.cpu.clock; job = Some (t.number, n) }) c.left.ensures in
+    let agrees = start_step tasks changed t inside.waiting.table k inside.held.held inside.cpu.job inside.fresh
+    inside.next inside.done
     (splits t Running tasks changed found c.set_role.ensures.changes) c.requires.role kept.agrees.2 free in
     record {
       version = ap (λ w. w.version) after_is ∙ kept.version;
       agrees = (
         k,
         kept.agrees.1,
-        (subst (λ p. Agrees changed c.take_out.new.self.table k inside.held.held p.job inside.fresh inside.next inside.done) (sym runs_is)
-            (subst (λ w. Agrees changed w.table k inside.held.held (Some (turn_of t)) inside.fresh inside.next inside.done) (sym after_is) agrees)),
+        (subst (λ p. Agrees changed c.take_out.new.self.table k inside.held.held p.job inside.fresh inside.next
+            inside.done) (sym runs_is)
+            (subst (λ w. Agrees changed w.table k inside.held.held
+            (Some (turn_of t)) inside.fresh inside.next inside.done) (sym after_is) agrees)),
       );
       latest = subst (λ p. inside.held.latest ≤ p.clock) (sym runs_is) kept.latest;
       fits = omega (arith, kept.fits, c.set_role.ensures.len, c.set_role.ensures.capacity);
@@ -61,14 +68,18 @@ pub returns-clause-runs : goal.returns-clause-runs
 returns-clause-runs g c =
     let inside = c.self.inside in
     let t = c.args.t.now in
-    changed_view (queued_of inside).rules inside.spare inside.cpu.clock c.start.new.self.clock t.number Running inside.tasks.items
+    changed_view (queued_of inside).rules inside.spare inside.cpu.clock c.start.new.self.clock t.number Running
+    inside.tasks.items
     c.set_role.new.tasks.items
     c.args.self.now c.self.view_is (ap (λ p. p.clock) c.start.ensures)
-    (is_map t.number inside.tasks.items c.set_role.new.tasks.items Running c.set_role.ensures.changes c.self.invariant.agrees.2.numbered)
+    (is_map t.number inside.tasks.items c.set_role.new.tasks.items Running c.set_role.ensures.changes
+    c.self.invariant.agrees.2.numbered)
 
 pub returns-clause-count : goal.returns-clause-count
 returns-clause-count g c d fits =
     let inside = c.self.inside in
-    let few = few_wait inside.tasks.items inside.waiting.table c.self.invariant.agrees.0 c.self.invariant.agrees.2.waiting in
-    let all : length inside.tasks.items + 1 < 2 ^ d = subst (λ q. length q.state.tasks + 1 < 2 ^ d) (sym c.self.view_is) fits in
+    let few = few_wait inside.tasks.items inside.waiting.table c.self.invariant.agrees.0
+    c.self.invariant.agrees.2.waiting in
+    let all : length inside.tasks.items + 1 < 2 ^ d =
+    subst (λ q. length q.state.tasks + 1 < 2 ^ d) (sym c.self.view_is) fits in
     c.take_out.ensures.count d (omega (arith, few, all))

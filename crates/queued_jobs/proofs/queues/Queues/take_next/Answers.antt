@@ -29,7 +29,8 @@ stop-requires-clause-found g c =
     (open_deed (instance_of q) c.requires.valid q.state keeps q.rules) c.requires.step in
     let r = c.in-Some.r in
     let same_r : r ≡ it.stopped =
-    some_same r it.stopped (same_task tasks c.args.stops (Some r) it.stopped all it.stopped_in it.stopped_number c.in-Some.ensures) in
+    some_same r it.stopped (same_task tasks c.args.stops
+    (Some r) it.stopped all it.stopped_in it.stopped_number c.in-Some.ensures) in
     subst (λ y. slice_get tasks y.number ≡ Some y) (sym same_r) (task_at tasks it.stopped all it.stopped_in)
 
 pub stop-requires-clause-role : goal.stop-requires-clause-role
@@ -42,14 +43,16 @@ stop-requires-clause-role g c =
     (open_deed (instance_of q) c.requires.valid q.state keeps q.rules) c.requires.step in
     let r = c.in-Some.r in
     let same_r : r ≡ it.stopped =
-    some_same r it.stopped (same_task tasks c.args.stops (Some r) it.stopped all it.stopped_in it.stopped_number c.in-Some.ensures) in
+    some_same r it.stopped (same_task tasks c.args.stops
+    (Some r) it.stopped all it.stopped_in it.stopped_number c.in-Some.ensures) in
     ap (λ (y : Task). y.role) same_r ∙ it.stopped_role
 
 pub displace_held-requires-clause-numbered : goal.displace_held-requires-clause-numbered
 displace_held-requires-clause-numbered g c =
     let tasks = c.args.self.now.state.tasks in
     subst (λ p. IsNumberedFrom 0 p.state.tasks) (sym c.stop.ensures.waits)
-    (numbered_map (λ t. with_role t (cond (t.number == c.in-Some.r.number) Waiting t.role)) (λ t. refl) 0 tasks c.requires.sound.numbered)
+    (numbered_map (λ t. with_role t (cond (t.number == c.in-Some.r.number) Waiting t.role))
+    (λ t. refl) 0 tasks c.requires.sound.numbered)
 
 pub displace_held-requires-clause-free : goal.displace_held-requires-clause-free
 displace_held-requires-clause-free g c =
@@ -61,7 +64,8 @@ displace_held-requires-clause-free g c =
     (open_deed (instance_of q) c.requires.valid q.state keeps q.rules) c.requires.step in
     let r = c.in-Some.r in
     let same_r : r ≡ it.stopped =
-    some_same r it.stopped (same_task tasks c.args.stops (Some r) it.stopped all it.stopped_in it.stopped_number c.in-Some.ensures) in
+    some_same r it.stopped (same_task tasks c.args.stops
+    (Some r) it.stopped all it.stopped_in it.stopped_number c.in-Some.ensures) in
     ap (λ p. running p.state) c.stop.ensures.waits
     ∙ ap (λ n. running (with_job_in q n Waiting).state) (ap (λ (y : Task). y.number) same_r)
     ∙ none_after q.state c.requires.sound it.stopped it.stopped_in it.stopped_role Waiting apart where
@@ -78,17 +82,22 @@ start-requires-clause-found g c =
     (open_deed (instance_of q) c.requires.valid q.state keeps q.rules) c.requires.step in
     let r = c.in-Some.r in
     let same_r : r ≡ it.stopped =
-    some_same r it.stopped (same_task tasks c.args.stops (Some r) it.stopped all it.stopped_in it.stopped_number c.in-Some.ensures) in
+    some_same r it.stopped (same_task tasks c.args.stops
+    (Some r) it.stopped all it.stopped_in it.stopped_number c.in-Some.ensures) in
     let x = c.in-Some-task.x in
     let same_x : x ≡ it.started =
-    some_same x it.started (same_task tasks c.args.starts (Some x) it.started all it.started_in it.started_number c.in-Some-task.ensures) in
-    let found = subst (λ y. slice_get tasks y.number ≡ Some y) (sym same_x) (task_at tasks it.started all it.started_in) in
-    let differs : x.number ≡ r.number → ⊥ = λ e. two_numbers tasks it.stopped it.started all it.stopped_in it.started_in it.stopped_role
+    some_same x it.started (same_task tasks c.args.starts
+    (Some x) it.started all it.started_in it.started_number c.in-Some-task.ensures) in
+    let found = subst (λ y. slice_get tasks y.number ≡ Some y) (sym same_x)
+    (task_at tasks it.started all it.started_in) in
+    let differs : x.number ≡ r.number → ⊥ =
+    λ e. two_numbers tasks it.stopped it.started all it.stopped_in it.started_in it.stopped_role
     it.started_role
     (sym (ap (λ (y : Task). y.number) same_r) ∙ sym e ∙ ap (λ (y : Task). y.number) same_x) in
     ap (λ p. slice_get p.state.tasks x.number) c.displace_held.ensures.waits
     ∙ ap (λ p. slice_get (all_displaced p.state.tasks) x.number) c.stop.ensures.waits
-    ∙ waiting_stays (with_role_at r.number Waiting tasks) x.number x (other_stays tasks x.number r.number Waiting x found differs)
+    ∙ waiting_stays (with_role_at r.number Waiting tasks) x.number x
+    (other_stays tasks x.number r.number Waiting x found differs)
     (ap (λ (y : Task). y.role) same_x ∙ it.started_role)
 
 pub start-requires-clause-role : goal.start-requires-clause-role
@@ -101,12 +110,14 @@ start-requires-clause-role g c =
     (open_deed (instance_of q) c.requires.valid q.state keeps q.rules) c.requires.step in
     let x = c.in-Some-task.x in
     let same_x : x ≡ it.started =
-    some_same x it.started (same_task tasks c.args.starts (Some x) it.started all it.started_in it.started_number c.in-Some-task.ensures) in
+    some_same x it.started (same_task tasks c.args.starts
+    (Some x) it.started all it.started_in it.started_number c.in-Some-task.ensures) in
     ap (λ (y : Task). y.role) same_x ∙ it.started_role
 
 pub start-requires-clause-free : goal.start-requires-clause-free
 start-requires-clause-free g c =
-    ap (λ p. running p.state) c.displace_held.ensures.waits ∙ none_displaced c.stop.new.self.state.clock c.stop.new.self.state.tasks
+    ap (λ p. running p.state) c.displace_held.ensures.waits
+    ∙ none_displaced c.stop.new.self.state.clock c.stop.new.self.state.tasks
 
 pub start-requires-clause-in_time : goal.start-requires-clause-in_time
 start-requires-clause-in_time g c =
@@ -118,7 +129,8 @@ start-requires-clause-in_time g c =
     (open_deed (instance_of q) c.requires.valid q.state keeps q.rules) c.requires.step in
     let x = c.in-Some-task.x in
     let same_x : x ≡ it.started =
-    some_same x it.started (same_task tasks c.args.starts (Some x) it.started all it.started_in it.started_number c.in-Some-task.ensures) in
+    some_same x it.started (same_task tasks c.args.starts
+    (Some x) it.started all it.started_in it.started_number c.in-Some-task.ensures) in
     subst (λ p. p.state.clock + left x ≤ last_tick) (sym c.displace_held.ensures.waits)
     (subst (λ p. p.state.clock + left x ≤ last_tick) (sym c.stop.ensures.waits)
     (subst (λ y. q.state.clock + left y ≤ last_tick) (sym same_x)
@@ -134,19 +146,25 @@ returns-in-Some-task-clause-takes g c =
     (open_deed (instance_of q) c.requires.valid q.state keeps q.rules) c.requires.step in
     let r = c.in-Some.r in
     let same_r : r ≡ it.stopped =
-    some_same r it.stopped (same_task tasks c.args.stops (Some r) it.stopped all it.stopped_in it.stopped_number c.in-Some.ensures) in
+    some_same r it.stopped (same_task tasks c.args.stops
+    (Some r) it.stopped all it.stopped_in it.stopped_number c.in-Some.ensures) in
     let x = c.in-Some-task.x in
     let same_x : x ≡ it.started =
-    some_same x it.started (same_task tasks c.args.starts (Some x) it.started all it.started_in it.started_number c.in-Some-task.ensures) in
+    some_same x it.started (same_task tasks c.args.starts
+    (Some x) it.started all it.started_in it.started_number c.in-Some-task.ensures) in
     let starts = ap (λ (y : Task). y.number) same_x ∙ it.started_number in
     let member = subst (λ y. IsMember y tasks) (sym same_r) it.stopped_in in
     let waits = ap (λ (y : Task). displaced y.role) same_r ∙ ap displaced it.stopped_role in
     c.start.ensures.runs ∙ ap (λ p. with_job_in p x.number Running) c.displace_held.ensures.waits
-    ∙ ap (λ p. with_job_in (in_state p (record { clock = p.state.clock; tasks = all_displaced p.state.tasks })) x.number Running) c.stop.ensures.waits
-    ∙ ap (λ ts. with_job_in (in_state q (record { clock = q.state.clock; tasks = ts })) x.number Running) (displaced_same tasks r all member waits)
-    ∙ ap (λ n. with_job_in (in_state q (record { clock = q.state.clock; tasks = all_displaced tasks })) n Running) starts
+    ∙ ap (λ p. with_job_in (in_state p (record { clock = p.state.clock; tasks = all_displaced p.state.tasks })) x.number
+    Running) c.stop.ensures.waits
+    ∙ ap (λ ts. with_job_in (in_state q (record { clock = q.state.clock; tasks = ts })) x.number Running)
+    (displaced_same tasks r all member waits)
+    ∙ ap (λ n. with_job_in (in_state q (record { clock = q.state.clock; tasks = all_displaced tasks })) n Running)
+    starts
     ∙ ap (λ ts. in_state q (record { clock = q.state.clock; tasks = ts }))
-    (map_map (λ t. with_role t (if t.number == c.args.starts then Running else t.role)) (λ t. with_role t (displaced t.role)) tasks)
+    (map_map (λ t. with_role t (if t.number == c.args.starts then Running else t.role))
+    (λ t. with_role t (displaced t.role)) tasks)
 
 pub returns-in_default-task-clause-takes : goal.returns-in_default-task-clause-takes
 returns-in_default-task-clause-takes g c =
@@ -156,7 +174,8 @@ returns-in_default-task-clause-takes g c =
     let keeps : Keeps (instance_of q) q.state = record { sound = c.requires.sound; jobs = refl } in
     let it = takes_says q.rules.ratio q.state q.state.clock c.args.stops c.args.starts (open_step q.rules q.state)
     (open_deed (instance_of q) c.requires.valid q.state keeps q.rules) c.requires.step in
-    none_is_some (sym c.in_default-task.is ∙ same_task tasks c.args.starts c.task-in-Some.result it.started all it.started_in it.started_number
+    none_is_some (sym c.in_default-task.is
+    ∙ same_task tasks c.args.starts c.task-in-Some.result it.started all it.started_in it.started_number
     c.task-in-Some.ensures)
 
 pub returns-in_default-clause-takes : goal.returns-in_default-clause-takes
@@ -167,7 +186,8 @@ returns-in_default-clause-takes g c =
     let keeps : Keeps (instance_of q) q.state = record { sound = c.requires.sound; jobs = refl } in
     let it = takes_says q.rules.ratio q.state q.state.clock c.args.stops c.args.starts (open_step q.rules q.state)
     (open_deed (instance_of q) c.requires.valid q.state keeps q.rules) c.requires.step in
-    none_is_some (sym c.in_default.is ∙ same_task tasks c.args.stops c.task.result it.stopped all it.stopped_in it.stopped_number c.task.ensures)
+    none_is_some (sym c.in_default.is
+    ∙ same_task tasks c.args.stops c.task.result it.stopped all it.stopped_in it.stopped_number c.task.ensures)
 
 pub returns-in-Some-task-clause-count : goal.returns-in-Some-task-clause-count
 returns-in-Some-task-clause-count g c d fits =
@@ -179,15 +199,21 @@ returns-in-Some-task-clause-count g c d fits =
     (open_deed (instance_of q) c.requires.valid q.state keeps q.rules) c.requires.step in
     let stopped = c.stop.new.self in
     let displaced_all = c.displace_held.new.self in
-    let fits_then : length stopped.state.tasks + 1 < 2 ^ d = subst (λ p. length p.state.tasks + 1 < 2 ^ d) (sym c.stop.ensures.waits)
-    (subst (λ n. n + 1 < 2 ^ d) (sym (length-map tasks (λ t. with_role t (cond (t.number == c.in-Some.r.number) Waiting t.role)))) fits) in
-    let fits_last : length displaced_all.state.tasks + 1 < 2 ^ d = subst (λ p. length p.state.tasks + 1 < 2 ^ d) (sym c.displace_held.ensures.waits)
-    (subst (λ n. n + 1 < 2 ^ d) (sym (length-map stopped.state.tasks (λ t. with_role t (displaced t.role)))) fits_then) in
+    let fits_then : length stopped.state.tasks + 1 < 2 ^ d =
+    subst (λ p. length p.state.tasks + 1 < 2 ^ d) (sym c.stop.ensures.waits)
+    (subst (λ n. n + 1 < 2 ^ d)
+    (sym (length-map tasks (λ t. with_role t (cond (t.number == c.in-Some.r.number) Waiting t.role)))) fits) in
+    let fits_last : length displaced_all.state.tasks + 1 < 2 ^ d =
+    subst (λ p. length p.state.tasks + 1 < 2 ^ d) (sym c.displace_held.ensures.waits)
+    (subst (λ n. n + 1 < 2 ^ d)
+    (sym (length-map stopped.state.tasks (λ t. with_role t (displaced t.role)))) fits_then) in
     let few : length (filter is_held stopped.state.tasks) ≤ length (filter is_held tasks) =
     subst (λ p. length (filter is_held p.state.tasks) ≤ length (filter is_held tasks)) (sym c.stop.ensures.waits)
     (no_more_held c.in-Some.r.number tasks) in
     take_costs d _ _ _ _ _ _ _ _ few
-    (take_enters q.state all it.stopped it.started it.stopped_in it.stopped_role it.started_in it.started_role q.state.clock c.args.stops
+    (take_enters q.state all it.stopped it.started it.stopped_in it.stopped_role it.started_in it.started_role
+    q.state.clock c.args.stops
     c.args.starts it.started_number)
-    (take_leaves q.state it.started it.started_in q.state.clock c.args.stops c.args.starts it.started_role it.started_number)
+    (take_leaves q.state it.started it.started_in q.state.clock c.args.stops c.args.starts it.started_role
+    it.started_number)
     (c.stop.ensures.count d fits) (c.displace_held.ensures.count d fits_then) (c.start.ensures.count d fits_last)

@@ -11,7 +11,8 @@ use Rattle.queued_jobs.proofs.queues.Queues.tick.Goals as goal
 
 pub serve-requires-clause-runner : goal.serve-requires-clause-runner
 serve-requires-clause-runner c =
-    runner_numbers c.self.inside.tasks.items c.self.inside.cpu.job c.running.result c.self.invariant.agrees.2.running c.running.ensures
+    runner_numbers c.self.inside.tasks.items c.self.inside.cpu.job c.running.result c.self.invariant.agrees.2.running
+    c.running.ensures
 
 pub serve-requires-clause-had : goal.serve-requires-clause-had
 serve-requires-clause-had c x m =
@@ -26,7 +27,8 @@ pub run_to-requires-clause-not_done : goal.run_to-requires-clause-not_done
 run_to-requires-clause-not_done c x at =
     let inside = c.self.inside in
     let due = subst (λ p. NothingDue c.args.ticks p.state) (sym c.self.view_is) c.requires.due in
-    let low = not_done inside.tasks.items inside.cpu.job inside.cpu.clock c.args.ticks x c.self.invariant.agrees.2.running due.running at in
+    let low = not_done inside.tasks.items inside.cpu.job inside.cpu.clock c.args.ticks x
+    c.self.invariant.agrees.2.running due.running at in
     omega (arith, low, c.clock.ensures)
 
 pub invariant_of-self : goal.invariant_of-self
@@ -36,10 +38,14 @@ invariant_of-self c =
     let n = c.args.ticks in
     let ahead : inside.cpu.clock ≤ inside.cpu.clock + n = omega arith in
     let passed : inside.cpu.clock + n - inside.cpu.clock ≡ n = omega arith in
-    let run : c.run_to.new.self ≡ record { clock = inside.cpu.clock + n; job = option_map (λ (j : ℕ × ℕ). (j.0, j.1 - n)) inside.cpu.job } =
-    c.run_to.ensures ∙ ap (λ m. after_ticks (m + n - inside.cpu.clock) inside.cpu) c.clock.ensures ∙ run_is inside.cpu (inside.cpu.clock + n) ahead
-    ∙ ap (λ m. record { clock = inside.cpu.clock + n; job = option_map (λ (j : ℕ × ℕ). (j.0, j.1 - m)) inside.cpu.job }) passed in
-    let agrees = agrees_ticked n inside.tasks.items inside.waiting.table kept.agrees.0 inside.held.held inside.cpu.job inside.fresh inside.next
+    let run : c.run_to.new.self ≡ record
+    { clock = inside.cpu.clock + n; job = option_map (λ (j : ℕ × ℕ). (j.0, j.1 - n)) inside.cpu.job } =
+    c.run_to.ensures ∙ ap (λ m. after_ticks (m + n - inside.cpu.clock) inside.cpu) c.clock.ensures
+    ∙ run_is inside.cpu (inside.cpu.clock + n) ahead
+    ∙ ap (λ m. record { clock = inside.cpu.clock + n; job = option_map (λ (j : ℕ × ℕ). (j.0, j.1 - m)) inside.cpu.job })
+    passed in
+    let agrees = agrees_ticked n inside.tasks.items inside.waiting.table kept.agrees.0 inside.held.held inside.cpu.job
+    inside.fresh inside.next
     inside.done
     kept.agrees.2 in
     record {
@@ -47,9 +53,11 @@ invariant_of-self c =
       agrees = (
         kept.agrees.0,
         kept.agrees.1,
-        subst (λ ts. Agrees ts inside.waiting.table kept.agrees.0 inside.held.held c.run_to.new.self.job inside.fresh inside.next inside.done)
+        subst (λ ts. Agrees ts inside.waiting.table kept.agrees.0 inside.held.held c.run_to.new.self.job inside.fresh
+            inside.next inside.done)
             (sym c.serve.ensures.served)
-            (subst (λ p. Agrees (map (ticked_by n) inside.tasks.items) inside.waiting.table kept.agrees.0 inside.held.held p.job inside.fresh
+            (subst (λ p. Agrees (map (ticked_by n) inside.tasks.items) inside.waiting.table kept.agrees.0
+            inside.held.held p.job inside.fresh
             inside.next inside.done)
             (sym run) agrees),
       );
@@ -66,7 +74,8 @@ returns c =
     let n = c.args.ticks in
     let ahead : inside.cpu.clock ≤ inside.cpu.clock + n = omega arith in
     let clock : c.run_to.new.self.clock ≡ inside.cpu.clock + n =
-    ap (λ (p : Processor). p.clock) (c.run_to.ensures ∙ ap (λ m. after_ticks (m + n - inside.cpu.clock) inside.cpu) c.clock.ensures
+    ap (λ (p : Processor). p.clock)
+    (c.run_to.ensures ∙ ap (λ m. after_ticks (m + n - inside.cpu.clock) inside.cpu) c.clock.ensures
     ∙ run_is inside.cpu (inside.cpu.clock + n) ahead) in
     ap (λ m. in_state q (record { clock = m; tasks = c.serve.new.tasks.items })) clock
     ∙ ap (λ ts. in_state q (record { clock = inside.cpu.clock + n; tasks = ts })) c.serve.ensures.served

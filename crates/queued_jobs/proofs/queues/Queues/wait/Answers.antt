@@ -17,7 +17,8 @@ add-requires-clause-number g c =
     let tasks = inside.tasks.items in
     let t = c.args.t.now in
     let found = subst (λ q. slice_get q.state.tasks t.number ≡ Some t) (sym c.self.view_is) c.requires.found in
-    number_ready tasks inside.waiting.table kept.agrees.0 t c.entry_of.result kept.agrees.2.waiting found c.entry_of.ensures
+    number_ready tasks inside.waiting.table kept.agrees.0 t c.entry_of.result kept.agrees.2.waiting found
+    c.entry_of.ensures
 
 pub add-requires-clause-fresh : goal.add-requires-clause-fresh
 add-requires-clause-fresh g c =
@@ -52,7 +53,8 @@ invariant_of-self g c =
       table = set inside.waiting.table e.number (Some e);
     })
     c.entry_of.ensures in
-    let agrees = wait_step tasks changed t inside.waiting.table k inside.held.held inside.cpu.job inside.fresh inside.next inside.done
+    let agrees = wait_step tasks changed t inside.waiting.table k inside.held.held inside.cpu.job inside.fresh
+    inside.next inside.done
     (splits t Waiting tasks changed found c.set_role.ensures.changes) c.requires.role kept.agrees.2 in
     record {
       version = ap (λ w. w.version) after_is ∙ kept.version;
@@ -72,14 +74,18 @@ pub returns-clause-waits : goal.returns-clause-waits
 returns-clause-waits g c =
     let inside = c.self.inside in
     let t = c.args.t.now in
-    changed_view (queued_of inside).rules inside.spare inside.cpu.clock inside.cpu.clock t.number Waiting inside.tasks.items
+    changed_view (queued_of inside).rules inside.spare inside.cpu.clock inside.cpu.clock t.number Waiting
+    inside.tasks.items
     c.set_role.new.tasks.items
     c.args.self.now c.self.view_is refl
-    (is_map t.number inside.tasks.items c.set_role.new.tasks.items Waiting c.set_role.ensures.changes c.self.invariant.agrees.2.numbered)
+    (is_map t.number inside.tasks.items c.set_role.new.tasks.items Waiting c.set_role.ensures.changes
+    c.self.invariant.agrees.2.numbered)
 
 pub returns-clause-count : goal.returns-clause-count
 returns-clause-count g c d fits =
     let inside = c.self.inside in
-    let few = few_wait inside.tasks.items inside.waiting.table c.self.invariant.agrees.0 c.self.invariant.agrees.2.waiting in
-    let all : length inside.tasks.items + 1 < 2 ^ d = subst (λ q. length q.state.tasks + 1 < 2 ^ d) (sym c.self.view_is) fits in
+    let few = few_wait inside.tasks.items inside.waiting.table c.self.invariant.agrees.0
+    c.self.invariant.agrees.2.waiting in
+    let all : length inside.tasks.items + 1 < 2 ^ d =
+    subst (λ q. length q.state.tasks + 1 < 2 ^ d) (sym c.self.view_is) fits in
     c.add.ensures.count d (omega (arith, few, all))

@@ -21,7 +21,9 @@ wait-requires-clause-found g c =
     let it = stays_says q.rules.version q.rules.ratio q.state c.requires.sound c.args.number (open_step q.rules q.state)
     (open_deed (instance_of q) c.requires.valid q.state keeps q.rules) c.requires.step in
     let t = c.in-Some.t in
-    let same : t ≡ it.task = some_same t it.task (same_task tasks c.args.number (Some t) it.task all it.member it.number c.in-Some.ensures) in
+    let same : t ≡ it.task =
+    some_same t it.task (same_task tasks c.args.number
+    (Some t) it.task all it.member it.number c.in-Some.ensures) in
     subst (λ x. slice_get tasks x.number ≡ Some x) (sym same) (task_at tasks it.task all it.member)
 
 pub wait-requires-clause-role : goal.wait-requires-clause-role
@@ -33,7 +35,9 @@ wait-requires-clause-role g c =
     let it = stays_says q.rules.version q.rules.ratio q.state c.requires.sound c.args.number (open_step q.rules q.state)
     (open_deed (instance_of q) c.requires.valid q.state keeps q.rules) c.requires.step in
     let t = c.in-Some.t in
-    let same : t ≡ it.task = some_same t it.task (same_task tasks c.args.number (Some t) it.task all it.member it.number c.in-Some.ensures) in
+    let same : t ≡ it.task =
+    some_same t it.task (same_task tasks c.args.number
+    (Some t) it.task all it.member it.number c.in-Some.ensures) in
     ap (λ (x : Task). x.role) same ∙ it.role
 
 pub returns-in-Some-clause-waits : goal.returns-in-Some-clause-waits
@@ -45,7 +49,9 @@ returns-in-Some-clause-waits g c =
     let it = stays_says q.rules.version q.rules.ratio q.state c.requires.sound c.args.number (open_step q.rules q.state)
     (open_deed (instance_of q) c.requires.valid q.state keeps q.rules) c.requires.step in
     let t = c.in-Some.t in
-    let same : t ≡ it.task = some_same t it.task (same_task tasks c.args.number (Some t) it.task all it.member it.number c.in-Some.ensures) in
+    let same : t ≡ it.task =
+    some_same t it.task (same_task tasks c.args.number
+    (Some t) it.task all it.member it.number c.in-Some.ensures) in
     c.wait.ensures.waits ∙ ap (λ m. with_job_in q m Waiting) (ap (λ (x : Task). x.number) same ∙ it.number)
 
 pub returns-in_default-clause-waits : goal.returns-in_default-clause-waits
@@ -56,7 +62,8 @@ returns-in_default-clause-waits g c =
     let keeps : Keeps (instance_of q) q.state = record { sound = c.requires.sound; jobs = refl } in
     let it = stays_says q.rules.version q.rules.ratio q.state c.requires.sound c.args.number (open_step q.rules q.state)
     (open_deed (instance_of q) c.requires.valid q.state keeps q.rules) c.requires.step in
-    none_is_some (sym c.in_default.is ∙ same_task tasks c.args.number c.task.result it.task all it.member it.number c.task.ensures)
+    none_is_some (sym c.in_default.is
+    ∙ same_task tasks c.args.number c.task.result it.task all it.member it.number c.task.ensures)
 
 pub returns-in-Some-clause-cost : goal.returns-in-Some-clause-cost
 returns-in-Some-clause-cost g c d fits =
@@ -66,4 +73,5 @@ returns-in-Some-clause-cost g c d fits =
     let keeps : Keeps (instance_of q) q.state = record { sound = c.requires.sound; jobs = refl } in
     let it = stays_says q.rules.version q.rules.ratio q.state c.requires.sound c.args.number (open_step q.rules q.state)
     (open_deed (instance_of q) c.requires.valid q.state keeps q.rules) c.requires.step in
-    one_enters d _ _ _ _ (c.wait.ensures.count d fits) (wait_enters q.state it.task it.member c.args.number it.role it.number)
+    one_enters d _ _ _ _ (c.wait.ensures.count d fits)
+    (wait_enters q.state it.task it.member c.args.number it.role it.number)

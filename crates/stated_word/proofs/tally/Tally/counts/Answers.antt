@@ -9,12 +9,23 @@ use Rattle.stated_word.specs.declared.tally.Tally.{Tally}
 use Rattle.stated_word.proofs.tally.Tally.counts.Goals as goal
 
 -- the counts of a tally
-counts_are : (k : Fraction) (jobs : ℕ) (t : Tally) (most : ℕ) (all : List JobFacts) (events : List Event) → most ≡ bound k t.value → jobs ≡ length all
+counts_are : (k : Fraction) (jobs : ℕ) (t : Tally) (most : ℕ) (all : List JobFacts) (events : List Event)
+    → most ≡ bound k t.value → jobs ≡ length all
     → t ≡ tally_of all events
-    → record { jobs = jobs; completed = t.completed; value = t.value; abandoned = t.abandoned; lost = t.lost; taken = t.taken; bound = most }
+    → record {
+      jobs = jobs;
+      completed = t.completed;
+      value = t.value;
+      abandoned = t.abandoned;
+      lost = t.lost;
+      taken =
+          t.taken;
+      bound = most;
+    }
     ≡ counts_of k events all (value_of events)
 counts_are k jobs t most all events bounds count is = cc
 
 pub returns : goal.returns
-returns c all events count is = counts_are c.args.k c.from.result c.args.self.now c.bound.result all events c.bound.ensures.is
+returns c all events count is =
+    counts_are c.args.k c.from.result c.args.self.now c.bound.result all events c.bound.ensures.is
     (c.from.ensures ∙ count) is

@@ -14,10 +14,12 @@ invariant_of-self c = lent_course (record {
   done = c.self.inside.done;
   room = vec_capacity c.self.inside.ready;
 }) c.args.self.now c.settle-stop.result.clock c.deref_mut.result.now c.settle-stop.new.tasks
-    (with_items c.self.inside.ready c.settle-stop.new.tasks).items c.args.mark (step_of c.settle-stop.result.step) c.self.view_is
+    (with_items c.self.inside.ready c.settle-stop.new.tasks).items c.args.mark
+    (step_of c.settle-stop.result.step) c.self.view_is
     c.deref_mut.ensures.value
     (with_items_is c.self.inside.ready c.settle-stop.new.tasks (c.settle-stop.auto.tasks ∙ c.deref_mut.ensures.len))
-    c.requires.some c.settle-stop.ensures.settles c.settle-stop.ensures.step c.settle-stop.ensures.stops c.settle-stop.ensures.low c.requires.known c.self.invariant
+    c.requires.some c.settle-stop.ensures.settles c.settle-stop.ensures.step c.settle-stop.ensures.stops
+    c.settle-stop.ensures.low c.requires.known c.self.invariant
 
 pub returns-clause-reached : goal.returns-clause-reached
 returns-clause-reached c = lent_reaches (record {
@@ -28,10 +30,12 @@ returns-clause-reached c = lent_reaches (record {
   done = c.self.inside.done;
   room = vec_capacity c.self.inside.ready;
 }) c.args.self.now c.settle-stop.result.clock c.deref_mut.result.now c.settle-stop.new.tasks
-    (with_items c.self.inside.ready c.settle-stop.new.tasks).items c.args.mark (step_of c.settle-stop.result.step) c.self.view_is
+    (with_items c.self.inside.ready c.settle-stop.new.tasks).items c.args.mark
+    (step_of c.settle-stop.result.step) c.self.view_is
     c.deref_mut.ensures.value
     (with_items_is c.self.inside.ready c.settle-stop.new.tasks (c.settle-stop.auto.tasks ∙ c.deref_mut.ensures.len))
-    c.requires.some c.settle-stop.ensures.settles c.settle-stop.ensures.step c.settle-stop.ensures.stops c.settle-stop.ensures.low c.requires.known
+    c.requires.some c.settle-stop.ensures.settles c.settle-stop.ensures.step c.settle-stop.ensures.stops
+    c.settle-stop.ensures.low c.requires.known
 
 pub returns-clause-step : goal.returns-clause-step
 returns-clause-step c = lent_step (record {
@@ -42,7 +46,9 @@ returns-clause-step c = lent_step (record {
   done = c.self.inside.done;
   room = vec_capacity c.self.inside.ready;
 }) c.args.self.now c.settle-stop.result.clock c.deref_mut.result.now c.settle-stop.new.tasks
-    (with_items c.self.inside.ready c.settle-stop.new.tasks).items c.args.mark (step_of c.settle-stop.result.step) c.self.view_is
+    (with_items c.self.inside.ready c.settle-stop.new.tasks).items c.args.mark
+    (step_of c.settle-stop.result.step) c.self.view_is
     c.deref_mut.ensures.value
     (with_items_is c.self.inside.ready c.settle-stop.new.tasks (c.settle-stop.auto.tasks ∙ c.deref_mut.ensures.len))
-    c.requires.some c.settle-stop.ensures.settles c.settle-stop.ensures.step c.settle-stop.ensures.stops c.settle-stop.ensures.low c.requires.known
+    c.requires.some c.settle-stop.ensures.settles c.settle-stop.ensures.step c.settle-stop.ensures.stops
+    c.settle-stop.ensures.low c.requires.known

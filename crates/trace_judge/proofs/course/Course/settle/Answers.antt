@@ -5,25 +5,33 @@ use Rattle.dover_model.specs.Step.{Ticks}
 use Rattle.trace_judge.specs.Course.{Course, Settled}
 use Rattle.trace_judge.proofs.Courses.{no_items, over_settled, tested_late, tested_early, silent_settled}
 use Rattle.trace_judge.proofs.course.Course.settle.Goals as goal
-use Rattle.trace_judge.proofs.course.Course.settle.Goals.{in-Prints+then-is_late_at, in-Prints+else-is_late_at, in-Waits, in-Ticks}
+use Rattle.trace_judge.proofs.course.Course.settle.Goals.{in-Prints+then-is_late_at, in-Prints+else-is_late_at}
+use Rattle.trace_judge.proofs.course.Course.settle.Goals.{in-Waits, in-Ticks}
 
 pub returns-then-is_empty-clause-settled : goal.returns-then-is_empty-clause-settled
 returns-then-is_empty-clause-settled c J z follows = over_settled c.args.self.now J z c.args.mark follows
     (sym (ap (λ (d : Course). d.ready) c.self.view_is) ∙ no_items c.self.inside.ready.items
-    (omega (arith, c.self.inside.ready.ok.0, eqb-true _ _ (sym c.is_empty.ensures ∙ c.if-is_empty.true)))) c.requires.low
+    (omega (arith, c.self.inside.ready.ok.0, eqb-true _ _ (sym c.is_empty.ensures ∙ c.if-is_empty.true))))
+    c.requires.low
 
 pub returns-clause-settled : goal.returns-clause-settled
 returns-clause-settled c J z follows =
     let reached = c.go_on-step.ensures.reached J z follows in
     elim c.match-step.branch [
       | in-Prints+then-is_late_at w ↦ subst (Settled c.go_on-step.new.self J z c.args.mark) (sym w.result-is)
-          (tested_late c.go_on-step.new.self J z c.args.mark (step_of c.go_on-step.result) w.in-Prints.event c.self-2.inside.clock w.is_late_at.result
-          reached (ap step_of w.in-Prints.is) (ap (λ (d : Course). d.clock) c.self-2.view_is) w.is_late_at.ensures w.if-is_late_at.true)
+          (tested_late c.go_on-step.new.self J z c.args.mark
+          (step_of c.go_on-step.result) w.in-Prints.event c.self-2.inside.clock w.is_late_at.result
+          reached (ap step_of w.in-Prints.is)
+          (ap (λ (d : Course). d.clock) c.self-2.view_is) w.is_late_at.ensures w.if-is_late_at.true)
       | in-Prints+else-is_late_at w ↦ subst (Settled c.go_on-step.new.self J z c.args.mark) (sym w.result-is)
-          (tested_early c.go_on-step.new.self J z c.args.mark (step_of c.go_on-step.result) w.in-Prints.event c.self-2.inside.clock w.is_late_at.result
-          reached (ap step_of w.in-Prints.is) (ap (λ (d : Course). d.clock) c.self-2.view_is) w.is_late_at.ensures w.if-is_late_at.false)
+          (tested_early c.go_on-step.new.self J z c.args.mark
+          (step_of c.go_on-step.result) w.in-Prints.event c.self-2.inside.clock w.is_late_at.result
+          reached (ap step_of w.in-Prints.is)
+          (ap (λ (d : Course). d.clock) c.self-2.view_is) w.is_late_at.ensures w.if-is_late_at.false)
       | in-Waits w ↦ subst (Settled c.go_on-step.new.self J z c.args.mark) (sym w.result-is)
-          (silent_settled c.go_on-step.new.self J z c.args.mark (step_of c.go_on-step.result) _ reached (ap step_of w.in-Waits.is) refl)
+          (silent_settled c.go_on-step.new.self J z c.args.mark (step_of c.go_on-step.result) _ reached
+          (ap step_of w.in-Waits.is) refl)
       | in-Ticks w ↦ subst (Settled c.go_on-step.new.self J z c.args.mark) (sym w.result-is)
-          (silent_settled c.go_on-step.new.self J z c.args.mark (step_of c.go_on-step.result) Ticks reached (ap step_of w.in-Ticks.is) refl)
+          (silent_settled c.go_on-step.new.self J z c.args.mark (step_of c.go_on-step.result) Ticks reached
+          (ap step_of w.in-Ticks.is) refl)
     ]

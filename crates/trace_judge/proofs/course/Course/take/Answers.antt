@@ -16,7 +16,8 @@ done_value-requires c = taken_total (record {
   room = vec_capacity c.self.inside.ready;
 }) c.args.self.now c.args.event.now c.deref_mut.result.now c.apply.new.tasks c.deref.result.now c.self.view_is
     c.deref_mut.ensures.value c.apply.ensures
-    (c.deref.ensures.value ∙ with_items_is c.self.inside.ready c.apply.new.tasks (c.apply.auto.tasks ∙ c.deref_mut.ensures.len)) c.self.invariant
+    (c.deref.ensures.value ∙ with_items_is c.self.inside.ready c.apply.new.tasks
+    (c.apply.auto.tasks ∙ c.deref_mut.ensures.len)) c.self.invariant
 
 pub overflow_add-self : goal.overflow_add-self
 overflow_add-self c = omega (
@@ -30,7 +31,8 @@ overflow_add-self c = omega (
     room = vec_capacity c.self.inside.ready;
   }) c.args.self.now c.args.event.now c.deref_mut.result.now c.apply.new.tasks c.deref.result.now c.self.view_is
       c.deref_mut.ensures.value c.apply.ensures
-      (c.deref.ensures.value ∙ with_items_is c.self.inside.ready c.apply.new.tasks (c.apply.auto.tasks ∙ c.deref_mut.ensures.len)) c.self.invariant
+      (c.deref.ensures.value ∙ with_items_is c.self.inside.ready c.apply.new.tasks
+      (c.apply.auto.tasks ∙ c.deref_mut.ensures.len)) c.self.invariant
       c.done_value.result c.done_value.ensures,
 )
 
@@ -44,9 +46,11 @@ invariant_of-self c = taken_course (record {
   room = vec_capacity c.self.inside.ready;
 }) c.args.self.now c.args.event.now c.deref_mut.result.now c.apply.new.tasks c.deref.result.now c.self.view_is
     c.deref_mut.ensures.value c.apply.ensures
-    (c.deref.ensures.value ∙ with_items_is c.self.inside.ready c.apply.new.tasks (c.apply.auto.tasks ∙ c.deref_mut.ensures.len)) c.requires c.retain.new.self.items
+    (c.deref.ensures.value ∙ with_items_is c.self.inside.ready c.apply.new.tasks
+    (c.apply.auto.tasks ∙ c.deref_mut.ensures.len)) c.requires c.retain.new.self.items
     c.done_value.result (vec_capacity c.retain.new.self)
-    (filter_same _ is_ready _ (λ t b f post. search rules) _ _ c.retain.ensures.filtered ∙ ap (filter is_ready) (sym c.deref.ensures.value))
+    (filter_same _ is_ready _ (λ t b f post. search rules) _ _ c.retain.ensures.filtered
+    ∙ ap (filter is_ready) (sym c.deref.ensures.value))
     c.done_value.ensures c.self.invariant
 
 pub returns-clause-after : goal.returns-clause-after
@@ -59,7 +63,9 @@ returns-clause-after c = taken_after (record {
   room = vec_capacity c.self.inside.ready;
 }) c.args.self.now c.args.event.now c.deref_mut.result.now c.apply.new.tasks c.deref.result.now c.self.view_is
     c.deref_mut.ensures.value c.apply.ensures
-    (c.deref.ensures.value ∙ with_items_is c.self.inside.ready c.apply.new.tasks (c.apply.auto.tasks ∙ c.deref_mut.ensures.len)) c.requires c.retain.new.self.items
+    (c.deref.ensures.value ∙ with_items_is c.self.inside.ready c.apply.new.tasks
+    (c.apply.auto.tasks ∙ c.deref_mut.ensures.len)) c.requires c.retain.new.self.items
     c.done_value.result (vec_capacity c.retain.new.self)
-    (filter_same _ is_ready _ (λ t b f post. search rules) _ _ c.retain.ensures.filtered ∙ ap (filter is_ready) (sym c.deref.ensures.value))
+    (filter_same _ is_ready _ (λ t b f post. search rules) _ _ c.retain.ensures.filtered
+    ∙ ap (filter is_ready) (sym c.deref.ensures.value))
     c.done_value.ensures

@@ -13,18 +13,22 @@ pub returns-then-is_empty-clause-next : goal.returns-then-is_empty-clause-next
 returns-then-is_empty-clause-next c J z follows = (
   z,
   follows,
-  subst (λ n. PrintsNext J.rules z (End n) z) (sym (ap (λ (d : Course). d.done) c.self.view_is)) (over_next c.args.self.now J z follows
+  subst (λ n. PrintsNext J.rules z (End n) z) (sym (ap (λ (d : Course). d.done) c.self.view_is))
+      (over_next c.args.self.now J z follows
       (sym (ap (λ (d : Course). d.ready) c.self.view_is) ∙ no_items c.self.inside.ready.items
       (omega (arith, c.self.inside.ready.ok.0, eqb-true _ _ (sym c.is_empty.ensures ∙ c.if-is_empty.true))))),
 )
 
 pub unreachable-requires-in-Ticks : goal.unreachable-requires-in-Ticks
-unreachable-requires-in-Ticks c = reached_last c.go_on-step.new.self c.self.invariant.0 c.self.invariant.1 (step_of c.go_on-step.result)
+unreachable-requires-in-Ticks c =
+    reached_last c.go_on-step.new.self c.self.invariant.0 c.self.invariant.1 (step_of c.go_on-step.result)
     (c.go_on-step.ensures.reached c.self.invariant.0 c.self.invariant.1
-    (subst (λ d. Follows d c.self.invariant.0 c.self.invariant.1) c.self.view_is c.self.invariant.2)) (ap event_of (ap step_of c.in-Ticks.is))
+    (subst (λ d. Follows d c.self.invariant.0 c.self.invariant.1) c.self.view_is c.self.invariant.2))
+    (ap event_of (ap step_of c.in-Ticks.is))
 
 pub returns-clause-next : goal.returns-clause-next
 returns-clause-next c J z follows =
     let reached : Reached c.go_on-step.new.self J z 1_000_000_000_000 (Prints c.in-Prints.event) =
-    subst (Reached c.go_on-step.new.self J z 1_000_000_000_000) (ap step_of c.in-Prints.is) (c.go_on-step.ensures.reached J z follows) in
+    subst (Reached c.go_on-step.new.self J z 1_000_000_000_000) (ap step_of c.in-Prints.is)
+    (c.go_on-step.ensures.reached J z follows) in
     (reached.state, reached.follows, reached_next c.go_on-step.new.self J z 1_000_000_000_000 c.in-Prints.event reached)

@@ -14,7 +14,8 @@ returns-clause-steps c text stands = elim c.if-not-matches.branch [
   | then-not-matches w ↦ elim c.match-matches.branch [
     | in-Accepted x ↦ never (sym w.if-not-matches.true ∙ x.matches-is)
     | in_default x ↦ ap (λ (v : Vec Event Global). v.items) w.steps-is ∙ w.clear.ensures.items
-        ∙ steps_left c.args.self text stands c.in_ok-verdict.verdict (c.in_ok-verdict.ensures.tells text stands) x.in_default.not-Accepted
+        ∙ steps_left c.args.self text stands c.in_ok-verdict.verdict
+        (c.in_ok-verdict.ensures.tells text stands) x.in_default.not-Accepted
   ]
   | else-not-matches w ↦ elim c.match-matches.branch [
     | in-Accepted x ↦

@@ -12,19 +12,32 @@ use Rattle.trace_judge.proofs.judge.Judge.go_on.Goals.{in-Ended, in_default, Els
 
 pub returns-then-matches-clause-stands : goal.returns-then-matches-clause-stands
 returns-then-matches-clause-stands c before text it =
-    let reads : Reads c.args.self.now.reader (whole_lines text) = subst (Reads c.args.self.now.reader) (sym it.parts.0) it.reads in
+    let reads : Reads c.args.self.now.reader (whole_lines text) =
+    subst (Reads c.args.self.now.reader) (sym it.parts.0) it.reads in
     let ended : c.args.self.now.reader.stage ≡ Ended =
-    elim c.match-matches.branch [ in-Ended w ↦ sym c.stage.ensures ∙ w.in-Ended.is | in_default w ↦ never (sym w.matches-is ∙ c.if-matches.true) ] in
-    let end = ends_of c.args.self.now.reader (whole_lines text) ended (reads_ahead c.args.self.now.reader (whole_lines text) reads) in
+    elim c.match-matches.branch [
+      | in-Ended w ↦ sym c.stage.ensures
+          ∙ w.in-Ended.is
+      | in_default w ↦ never (sym w.matches-is ∙ c.if-matches.true)
+    ] in
+    let end = ends_of c.args.self.now.reader (whole_lines text) ended
+    (reads_ahead c.args.self.now.reader (whole_lines text) reads) in
     rest_behind c.args.self.now.reader text reads (ap is_ended ended)
     (subst (λ l. 0 < length l) (sym it.parts.1) c.requires.some)
     ∙ ap (λ n. model.Wrong n (model.expected_after (whole_lines text)))
-    (omega (arith, reads_few c.args.self.now.reader (whole_lines text) reads, it.cut.count, c.count.ensures, c.saturating_add.ensures))
+    (omega (
+      arith,
+      reads_few c.args.self.now.reader (whole_lines text) reads,
+      it.cut.count,
+      c.count.ensures,
+      c.saturating_add.ensures,
+    ))
     ∙ ap (model.Wrong c.saturating_add.result) (ended_due c.args.self.now.reader (whole_lines text) end.0 end.1)
 
 pub returns-else-matches-clause-stands : goal.returns-else-matches-clause-stands
 returns-else-matches-clause-stands c before text it =
-    let reads : Reads c.args.self.now.reader (whole_lines text) = subst (Reads c.args.self.now.reader) (sym it.parts.0) it.reads in
+    let reads : Reads c.args.self.now.reader (whole_lines text) =
+    subst (Reads c.args.self.now.reader) (sym it.parts.0) it.reads in
     good_stands c.args.self.now text c.requires.good record {
       cut = it.cut;
       counts = rest_open c.args.self.now.reader text reads (goes_on c) (sym it.cut.over ∙ ap is_over it.last);

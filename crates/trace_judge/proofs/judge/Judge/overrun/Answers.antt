@@ -9,8 +9,16 @@ use Rattle.trace_judge.proofs.judge.Judge.overrun.Goals as goal
 
 pub returns-clause-stands : goal.returns-clause-stands
 returns-clause-stands c before text it =
-    let reads : Reads c.args.self.now.reader (whole_lines text) = subst (Reads c.args.self.now.reader) (sym it.parts.0) it.reads in
+    let reads : Reads c.args.self.now.reader (whole_lines text) =
+    subst (Reads c.args.self.now.reader) (sym it.parts.0) it.reads in
     rest_long c.args.self.now.reader text reads (sym it.cut.over ∙ ap is_over it.last)
     ∙ ap (λ n. model.Wrong n (model.expected_after (whole_lines text)))
-    (omega (arith, reads_few c.args.self.now.reader (whole_lines text) reads, it.cut.count, c.count.ensures, c.saturating_add.ensures))
-    ∙ ap (model.Wrong c.saturating_add.result) (c.due-expected.ensures.due (whole_lines text) (reads_ahead c.args.self.now.reader (whole_lines text) reads))
+    (omega (
+      arith,
+      reads_few c.args.self.now.reader (whole_lines text) reads,
+      it.cut.count,
+      c.count.ensures,
+      c.saturating_add.ensures,
+    ))
+    ∙ ap (model.Wrong c.saturating_add.result)
+    (c.due-expected.ensures.due (whole_lines text) (reads_ahead c.args.self.now.reader (whole_lines text) reads))

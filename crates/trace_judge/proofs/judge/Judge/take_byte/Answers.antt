@@ -7,19 +7,24 @@ use Rattle.trace_judge.proofs.Judging.{stands_good, ok_onto, err_onto, some_line
 use Rattle.trace_judge.proofs.judge.Judge.take_byte.Goals as goal
 
 pub returns-in-Line-clause-fed : goal.returns-in-Line-clause-fed
-returns-in-Line-clause-fed c = ok_onto c.take_line.result c.take_line.ensures.stands (λ (meets : (before text : List ℕ) → IsCut (record c.args.self.now { lines = c.push.new.self }) Line before text → StandsFor c.take_line.new.self text). record {
-  stands = λ text stands. meets text (text ++ c.args.byte ∷ [])
-      (is_cut c.args.self.now c.push.new.self Line c.args.byte text (stands_good c.args.self.now text c.requires.good stands)
-      c.push.ensures.stands (sym c.in-Line.is ∙ c.push.ensures.last) c.in-Line.ensures.cut);
-  spare = λ text stands. omega (
-    arith,
-    c.take_line.ensures.spare,
-    named_ended (record c.args.self.now { lines = c.push.new.self }) text (text ++ c.args.byte ∷ [])
-        (is_cut c.args.self.now c.push.new.self Line c.args.byte text (stands_good c.args.self.now text c.requires.good stands)
-        c.push.ensures.stands (sym c.in-Line.is ∙ c.push.ensures.last) c.in-Line.ensures.cut),
-  );
-  keep = c.take_line.ensures.keep;
-})
+returns-in-Line-clause-fed c =
+    ok_onto c.take_line.result c.take_line.ensures.stands
+    (λ (meets : (before text : List ℕ) → IsCut (record c.args.self.now { lines = c.push.new.self }) Line before text
+    → StandsFor c.take_line.new.self text). record {
+      stands = λ text stands. meets text (text ++ c.args.byte ∷ [])
+          (is_cut c.args.self.now c.push.new.self Line c.args.byte text
+          (stands_good c.args.self.now text c.requires.good stands)
+          c.push.ensures.stands (sym c.in-Line.is ∙ c.push.ensures.last) c.in-Line.ensures.cut);
+      spare = λ text stands. omega (
+        arith,
+        c.take_line.ensures.spare,
+        named_ended (record c.args.self.now { lines = c.push.new.self }) text (text ++ c.args.byte ∷ [])
+            (is_cut c.args.self.now c.push.new.self Line c.args.byte text
+            (stands_good c.args.self.now text c.requires.good stands)
+            c.push.ensures.stands (sym c.in-Line.is ∙ c.push.ensures.last) c.in-Line.ensures.cut),
+      );
+      keep = c.take_line.ensures.keep;
+    })
 
 pub returns-in-Line-clause-room : goal.returns-in-Line-clause-room
 returns-in-Line-clause-room c = err_onto c.take_line.result c.take_line.ensures.room
@@ -27,27 +32,32 @@ returns-in-Line-clause-room c = err_onto c.take_line.result c.take_line.ensures.
       arith,
       low,
       named_ended (record c.args.self.now { lines = c.push.new.self }) text (text ++ c.args.byte ∷ [])
-          (is_cut c.args.self.now c.push.new.self Line c.args.byte text (stands_good c.args.self.now text c.requires.good stands)
+          (is_cut c.args.self.now c.push.new.self Line c.args.byte text
+          (stands_good c.args.self.now text c.requires.good stands)
           c.push.ensures.stands (sym c.in-Line.is ∙ c.push.ensures.last) c.in-Line.ensures.cut),
     ))
 
 pub go_on-requires-clause-some : goal.go_on-requires-clause-some
 go_on-requires-clause-some c = subst (λ l. 0 < length l) (sym (ap (λ (l : Cutting). l.line) c.push.ensures.is))
-    (some_line c.args.self.now.lines c.args.byte (sym c.in-More.is ∙ c.push.ensures.last ∙ ap (λ (l : Cutting). l.last) c.push.ensures.is))
+    (some_line c.args.self.now.lines c.args.byte
+    (sym c.in-More.is ∙ c.push.ensures.last ∙ ap (λ (l : Cutting). l.last) c.push.ensures.is))
 
 pub returns-in-More-clause-fed : goal.returns-in-More-clause-fed
 returns-in-More-clause-fed c = record {
   stands = λ text stands. c.go_on.ensures.stands text (text ++ c.args.byte ∷ [])
-      (is_cut c.args.self.now c.push.new.self More c.args.byte text (stands_good c.args.self.now text c.requires.good stands)
+      (is_cut c.args.self.now c.push.new.self More c.args.byte text
+      (stands_good c.args.self.now text c.requires.good stands)
       c.push.ensures.stands (sym c.in-More.is ∙ c.push.ensures.last) c.in-More.ensures.cut);
-  spare = λ text stands. omega (arith, ap (λ (r : Reading). r.spare) c.go_on.ensures.reader, named_more text (c.args.byte ∷ []));
+  spare = λ text stands. omega
+      (arith, ap (λ (r : Reading). r.spare) c.go_on.ensures.reader, named_more text (c.args.byte ∷ []));
   keep = ap (λ (r : Reading). r.keep) c.go_on.ensures.reader;
 }
 
 pub returns-in-TooLong-clause-fed : goal.returns-in-TooLong-clause-fed
 returns-in-TooLong-clause-fed c = record {
   stands = λ text stands. c.overrun.ensures.stands text (text ++ c.args.byte ∷ [])
-      (is_cut c.args.self.now c.push.new.self TooLong c.args.byte text (stands_good c.args.self.now text c.requires.good stands)
+      (is_cut c.args.self.now c.push.new.self TooLong c.args.byte text
+      (stands_good c.args.self.now text c.requires.good stands)
       c.push.ensures.stands (sym c.in-TooLong.is ∙ c.push.ensures.last) c.in-TooLong.ensures.cut);
   spare = λ text stands. omega (arith, c.overrun.ensures.spare, named_more text (c.args.byte ∷ []));
   keep = c.overrun.ensures.keep;

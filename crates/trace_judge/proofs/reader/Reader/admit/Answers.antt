@@ -11,18 +11,22 @@ pub keep_step-requires : goal.keep_step-requires
 keep_step-requires c keep = omega (
   arith,
   release_room _ c.args.job 0 c.requires.can.0
-      (subst (λ r. CanRelease r c.args.job c.requires.can.0) (sym c.self.view_is) c.requires.can.1) c.self.invariant.spare
+      (subst (λ r. CanRelease r c.args.job c.requires.can.0) (sym c.self.view_is) c.requires.can.1)
+      c.self.invariant.spare
       (omega (arith, c.requires.spare, ap (λ (r : Reading). r.spare) c.self.view_is)) keep,
   c.self.inside.steps.ok.0,
 )
 
 pub invariant_of-self : goal.invariant_of-self
 invariant_of-self c = taken_reader _ _ c.self.view_is c.self.invariant c.requires.going c.args.job c.release.new.self
-    c.jobs-number.result c.release-self-inside.result c.admit.new.self _ c.keep_step.new.steps.items _ _ c.release.ensures c.jobs-number.ensures
+    c.jobs-number.result c.release-self-inside.result
+    c.admit.new.self _ c.keep_step.new.steps.items _ _ c.release.ensures c.jobs-number.ensures
     c.release-self-inside.ensures.is c.admit.ensures.stands c.admit.ensures.ratio refl c.keep_step.ensures.items
-    c.requires.can.0 c.requires.can.1 (omega (arith, c.requires.spare, ap (λ (r : Reading). r.spare) c.self.view_is)) c.keep_step.ensures.room
+    c.requires.can.0 c.requires.can.1
+    (omega (arith, c.requires.spare, ap (λ (r : Reading). r.spare) c.self.view_is)) c.keep_step.ensures.room
 
 pub returns-clause-reads : goal.returns-clause-reads
 returns-clause-reads c = taken_reads _ _ c.self.view_is c.self.invariant c.requires.going c.args.job c.release.new.self
-    c.jobs-number.result c.release-self-inside.result c.admit.new.self _ c.keep_step.new.steps.items _ _ c.release.ensures c.jobs-number.ensures
+    c.jobs-number.result c.release-self-inside.result
+    c.admit.new.self _ c.keep_step.new.steps.items _ _ c.release.ensures c.jobs-number.ensures
     c.release-self-inside.ensures.is c.admit.ensures.stands c.admit.ensures.ratio refl c.keep_step.ensures.items

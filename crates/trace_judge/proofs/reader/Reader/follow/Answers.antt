@@ -10,27 +10,51 @@ invariant_of-self c = next_reader _ c.self.invariant c.upcoming-due.new.self c.u
     (kept_on c.self.inside.course c.upcoming-due.new.self c.upcoming-due.ensures.kept c.upcoming-due.ensures.fewer)
 
 pub returns-then-not-is_same-clause-took : goal.returns-then-not-is_same-clause-took
-returns-then-not-is_same-clause-took c = not_due _ _ c.self.view_is c.requires.going c.upcoming-due.new.self c.upcoming-due.result c.upcoming-due.ensures.next c.args.event.now
-    c.requires.form c.requires.none (λ e. let clash : false ≡ true = sym c.if-not-is_same.true ∙ c.is_same.ensures.1 e in cc)
+returns-then-not-is_same-clause-took c =
+    not_due _ _ c.self.view_is c.requires.going c.upcoming-due.new.self c.upcoming-due.result
+    c.upcoming-due.ensures.next c.args.event.now
+    c.requires.form c.requires.none
+    (λ e. let clash : false ≡ true = sym c.if-not-is_same.true ∙ c.is_same.ensures.1 e in cc)
 
 pub keep_step-requires : goal.keep_step-requires
-keep_step-requires c keep = omega (arith, step_room _ _ c.self.view_is c.requires.going c.upcoming-due.new.self c.upcoming-due.result c.upcoming-due.ensures.next c.self.invariant keep, c.self.inside.steps.ok.0)
+keep_step-requires c keep =
+    omega (
+      arith,
+      step_room _ _ c.self.view_is c.requires.going c.upcoming-due.new.self c.upcoming-due.result
+          c.upcoming-due.ensures.next c.self.invariant keep,
+      c.self.inside.steps.ok.0,
+    )
 
 pub invariant_of-self-then-is_end : goal.invariant_of-self-then-is_end
-invariant_of-self-then-is_end c = ended_reader _ _ c.self.view_is c.requires.going c.upcoming-due.new.self c.upcoming-due.result c.upcoming-due.ensures.next c.args.event.now c.requires.form (c.is_same.ensures.0 c.if-not-is_same.false) c.keep_step.new.steps.items _
+invariant_of-self-then-is_end c =
+    ended_reader _ _ c.self.view_is c.requires.going c.upcoming-due.new.self c.upcoming-due.result
+    c.upcoming-due.ensures.next c.args.event.now c.requires.form
+    (c.is_same.ensures.0 c.if-not-is_same.false) c.keep_step.new.steps.items _
     c.keep_step.ensures.items c.keep_step.ensures.room (sym c.is_end.ensures ∙ c.if-is_end.true) c.self.invariant
     (kept_on c.self.inside.course c.upcoming-due.new.self c.upcoming-due.ensures.kept c.upcoming-due.ensures.fewer)
 
 pub returns-then-is_end-clause-took : goal.returns-then-is_end-clause-took
-returns-then-is_end-clause-took c = ended_took _ _ c.self.view_is c.requires.going c.upcoming-due.new.self c.upcoming-due.result c.upcoming-due.ensures.next c.args.event.now c.requires.form (c.is_same.ensures.0 c.if-not-is_same.false) c.keep_step.new.steps.items _
+returns-then-is_end-clause-took c =
+    ended_took _ _ c.self.view_is c.requires.going c.upcoming-due.new.self c.upcoming-due.result
+    c.upcoming-due.ensures.next c.args.event.now c.requires.form
+    (c.is_same.ensures.0 c.if-not-is_same.false) c.keep_step.new.steps.items _
     c.keep_step.ensures.items c.keep_step.ensures.room (sym c.is_end.ensures ∙ c.if-is_end.true)
 
 pub keep_step-requires-2 : goal.keep_step-requires-2
-keep_step-requires-2 c keep = omega (arith, step_room _ _ c.self.view_is c.requires.going c.upcoming-due.new.self c.upcoming-due.result c.upcoming-due.ensures.next c.self.invariant keep, c.self.inside.steps.ok.0)
+keep_step-requires-2 c keep =
+    omega (
+      arith,
+      step_room _ _ c.self.view_is c.requires.going c.upcoming-due.new.self c.upcoming-due.result
+          c.upcoming-due.ensures.next c.self.invariant keep,
+      c.self.inside.steps.ok.0,
+    )
 
 pub invariant_of-self-2 : goal.invariant_of-self-2
-invariant_of-self-2 c = stepped_reader _ _ c.self.view_is c.requires.going c.upcoming-due.new.self c.upcoming-due.result c.upcoming-due.ensures.next c.args.event.now c.requires.form (c.is_same.ensures.0 c.if-not-is_same.false) c.keep_step-2.new.steps.items _
-    c.keep_step-2.ensures.items c.keep_step-2.ensures.room (sym c.is_end.ensures ∙ c.if-is_end.false) c.take.new.self c.take.ensures.after
+invariant_of-self-2 c = stepped_reader _ _ c.self.view_is c.requires.going c.upcoming-due.new.self c.upcoming-due.result
+    c.upcoming-due.ensures.next c.args.event.now c.requires.form
+    (c.is_same.ensures.0 c.if-not-is_same.false) c.keep_step-2.new.steps.items _
+    c.keep_step-2.ensures.items c.keep_step-2.ensures.room
+    (sym c.is_end.ensures ∙ c.if-is_end.false) c.take.new.self c.take.ensures.after
     c.clock.result c.max-self-inside.result c.clock.ensures.is
     (c.max-self-inside.ensures ∙ ap (max c.self.inside.floor) c.floor_after-floor.ensures) c.self.invariant
     (taken_on c.self.inside.course c.upcoming-due.new.self c.take.new.self
@@ -38,7 +62,10 @@ invariant_of-self-2 c = stepped_reader _ _ c.self.view_is c.requires.going c.upc
     c.take.ensures.kept c.take.ensures.fewer)
 
 pub returns-clause-took : goal.returns-clause-took
-returns-clause-took c = stepped_took _ _ c.self.view_is c.requires.going c.upcoming-due.new.self c.upcoming-due.result c.upcoming-due.ensures.next c.args.event.now c.requires.form (c.is_same.ensures.0 c.if-not-is_same.false) c.keep_step-2.new.steps.items _
-    c.keep_step-2.ensures.items c.keep_step-2.ensures.room (sym c.is_end.ensures ∙ c.if-is_end.false) c.take.new.self c.take.ensures.after
+returns-clause-took c = stepped_took _ _ c.self.view_is c.requires.going c.upcoming-due.new.self c.upcoming-due.result
+    c.upcoming-due.ensures.next c.args.event.now c.requires.form
+    (c.is_same.ensures.0 c.if-not-is_same.false) c.keep_step-2.new.steps.items _
+    c.keep_step-2.ensures.items c.keep_step-2.ensures.room
+    (sym c.is_end.ensures ∙ c.if-is_end.false) c.take.new.self c.take.ensures.after
     c.clock.result c.max-self-inside.result c.clock.ensures.is
     (c.max-self-inside.ensures ∙ ap (max c.self.inside.floor) c.floor_after-floor.ensures)

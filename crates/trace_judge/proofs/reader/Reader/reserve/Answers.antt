@@ -32,9 +32,15 @@ KeptIn spare i = IsReader (record {
 pub invariant_of-self-2 : goal.invariant_of-self-2
 invariant_of-self-2 c = elim c.if-self.branch [
   | then-self+in_ok-reserve-2 w ↦ subst (KeptIn c.args.more) (sym w.self-inside-is)
-      (reserve_reader _ c.self.invariant c.reserve.new.self _ c.args.more _ c.reserve.ensures.same w.reserve-then-self.ensures.items
+      (reserve_reader _ c.self.invariant c.reserve.new.self _ c.args.more _ c.reserve.ensures.same
+      w.reserve-then-self.ensures.items
       c.in_ok-reserve.ensures.room
-      (λ keep. omega (arith, w.in_ok-reserve-2.ensures.ok, w.jobs.ensures, ap (λ (d : Course). d.jobs) c.reserve.ensures.same)))
+      (λ keep. omega (
+        arith,
+        w.in_ok-reserve-2.ensures.ok,
+        w.jobs.ensures,
+        ap (λ (d : Course). d.jobs) c.reserve.ensures.same,
+      )))
   | else-self w ↦ subst (KeptIn c.args.more) (sym w.self-inside-is)
       (reserve_reader _ c.self.invariant c.reserve.new.self _ c.args.more _ c.reserve.ensures.same refl
       c.in_ok-reserve.ensures.room

@@ -9,19 +9,23 @@ use Rattle.trace_judge.proofs.reader.Reader.take.Goals as goal
 pub returns-in_default-clause-took : goal.returns-in_default-clause-took
 returns-in_default-clause-took c ls reads = (
   unread_fails c.args.self.now c.args.line.now
-      (λ x form text. let one = c.read_trace_line.ensures.only x form text in let other = c.in_default.is in cc) ls reads,
+      (λ x form text. let one = c.read_trace_line.ensures.only x form text in let other = c.in_default.is in cc) ls
+      reads,
   c.due.ensures.due ls (reads_ahead c.args.self.now ls reads),
 )
 
 pub returns-in_err-take_read-clause-room : goal.returns-in_err-take_read-clause-room
-returns-in_err-take_read-clause-room c room = never (c.in_err-take_read.ensures.room (omega (arith, jobs_counted c.in-Ok.read c.args.line.now c.in-Ok.ensures.item, room)))
+returns-in_err-take_read-clause-room c room =
+    never (c.in_err-take_read.ensures.room
+    (omega (arith, jobs_counted c.in-Ok.read c.args.line.now c.in-Ok.ensures.item, room)))
 
 pub returns-then-branch-clause-took : goal.returns-then-branch-clause-took
 returns-then-branch-clause-took c ls reads = subst (λ l. Reads c.take_read.new.self (ls ++ l ∷ [])) c.in-Ok.ensures.text
     (c.in_ok-take_read.ensures.took.yes c.if-branch.true ls reads)
 
 pub returns-then-branch-clause-spare : goal.returns-then-branch-clause-spare
-returns-then-branch-clause-spare c = omega (arith, c.take_read.ensures.spare, jobs_counted c.in-Ok.read c.args.line.now c.in-Ok.ensures.item)
+returns-then-branch-clause-spare c =
+    omega (arith, c.take_read.ensures.spare, jobs_counted c.in-Ok.read c.args.line.now c.in-Ok.ensures.item)
 
 pub returns-clause-took : goal.returns-clause-took
 returns-clause-took c ls reads =

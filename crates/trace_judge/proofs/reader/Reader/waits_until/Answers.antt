@@ -10,14 +10,20 @@ invariant_of-self c = settled_reader _ c.self.invariant c.settle.new.self c.args
     (kept_on c.self.inside.course c.settle.new.self c.settle.ensures.kept c.settle.ensures.fewer)
 
 pub returns-clause-yes : goal.returns-clause-yes
-returns-clause-yes c quiet = settled_yes _ _ c.self.view_is c.settle.new.self c.args.tick c.settle.result c.settle.ensures.settled c.settle.ensures.low
-    (is_nothing c.settle.result c.is_none.result c.is_none.ensures quiet) (omega (arith, c.if-self-tick.false)) (omega (arith, c.if-clock-tick.false, c.clock.ensures.is))
+returns-clause-yes c quiet =
+    settled_yes _ _ c.self.view_is c.settle.new.self c.args.tick c.settle.result c.settle.ensures.settled
+    c.settle.ensures.low
+    (is_nothing c.settle.result c.is_none.result c.is_none.ensures quiet) (omega (arith, c.if-self-tick.false))
+    (omega (arith, c.if-clock-tick.false, c.clock.ensures.is))
 
 pub returns-clause-no : goal.returns-clause-no
 returns-clause-no c loud floor =
     let some = is_something c.settle.result c.is_none.result c.is_none.ensures loud in
-    settled_no _ _ c.self.view_is c.settle.new.self c.args.tick c.settle.result c.settle.ensures.settled c.settle.ensures.low some.0 some.1
+    settled_no _ _ c.self.view_is c.settle.new.self c.args.tick c.settle.result c.settle.ensures.settled
+    c.settle.ensures.low some.0 some.1
 
 pub returns-clause-ahead : goal.returns-clause-ahead
-returns-clause-ahead c = settled_ahead _ _ c.self.view_is c.settle.new.self c.args.tick c.settle.result c.settle.ensures.settled c.settle.ensures.low
+returns-clause-ahead c =
+    settled_ahead _ _ c.self.view_is c.settle.new.self c.args.tick c.settle.result c.settle.ensures.settled
+    c.settle.ensures.low
     (ap (λ (r : Reading). r.stage) c.self.view_is ∙ c.requires.going)
