@@ -1,4 +1,5 @@
-//! Tests of the crates below the server: `root_compare`, `tick_cpu`, `privileged_queue`, `rank_heap`, `waiting_queue` and `plain_step`.
+//! Tests of the crates below the server: `root_compare`, `tick_cpu`, `privileged_queue`, `rank_heap`, `waiting_queue`,
+//! `place_heap` and `plain_step`.
 #![tactic(auto)]
 
 #[cfg(test)]
@@ -7,6 +8,8 @@ mod entries;
 mod heap_orders;
 #[cfg(test)]
 mod held_jobs;
+#[cfg(test)]
+mod items_at_places;
 #[cfg(test)]
 mod jumps;
 #[cfg(test)]

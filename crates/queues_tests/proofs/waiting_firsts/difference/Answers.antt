@@ -1,12 +1,14 @@
 use Rattle.std.proofs.Common.{◌∙◌, Some, length, ap}
 use Rattle.std.proofs.lemmas.List.{length-set}
 use Rattle.waiting_queue.proofs.Twins.{taken_len}
-use Rattle.queues_tests.proofs.waiting_firsts.difference.Goals.{then-draw-ne0+in_ok-put_by_deadline+in_ok-put_by_latest, else-draw-ne0}
+use Rattle.queues_tests.proofs.waiting_firsts.difference.Goals.{then-draw-ne0+in_ok-put_by_deadline+in_ok-put_by_latest}
+use Rattle.queues_tests.proofs.waiting_firsts.difference.Goals.{else-draw-ne0}
 use Rattle.queues_tests.proofs.waiting_firsts.difference.Goals as goal
 
 pub loop-round-preserved : goal.loop-round-preserved
 loop-round-preserved g c =
-    let rest = ap (λ q. length q.table) c.take_out.ensures.rest ∙ taken_len c.loop-round.queue c.take_out.result ∙ c.loop-round.invariant in
+    let rest = ap (λ q. length q.table) c.take_out.ensures.rest ∙ taken_len c.loop-round.queue c.take_out.result
+    ∙ c.loop-round.invariant in
     elim c.if-draw-ne0.branch [
       | then-draw-ne0+in_ok-put_by_deadline+in_ok-put_by_latest w ↦
           ap (λ q. length q.table) w.queue-is ∙ ap (λ q. length q.table) w.add.ensures.in_it

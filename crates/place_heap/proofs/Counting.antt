@@ -1,0 +1,102 @@
+-- How many comparisons the loops of a heap take, by the binary digits of its length.
+use Rattle.std.proofs.Common.{◌≡◌, ℕ, zero, suc, ◌+◌, ◌-◌, ◌*◌, ◌/◌, ◌^◌, ◌<◌, ◌≤◌, ap, ◌∙◌, ◌⊎◌, arith}
+use Rattle.std.proofs.Common.{inl, inr}
+use Rattle.std.proofs.lemmas.Bool.{cases_lt}
+use Rattle.std.proofs.lemmas.Nat.{pow-add}
+use Rattle.std.proofs.Math.Pow.{pow_mono}
+
+double : (e : ℕ) → 2 ^ suc e ≡ 2 * 2 ^ e
+double e = let one : suc e ≡ 1 + e = omega arith in ap (λ n. 2 ^ n) one ∙ pow-add 2 1 e
+
+pub double_twice : (e : ℕ) → 2 ^ suc (suc e) ≡ 4 * 2 ^ e
+double_twice e = omega (arith, double e, double (suc e))
+
+pub pow_less : (m d : ℕ) → 2 ^ m < 2 ^ d → m < d
+pow_less m d h = elim (cases_lt m d)
+    [ inl less ↦ less | inr more ↦ let high : 2 ^ d ≤ 2 ^ m = pow_mono more in omega arith ]
+
+-- ---- up: a step to a parent takes a comparison and two digits
+
+-- d digits for three times the start are enough for the steps so far and for what is above at
+abbrev pub CountsUp : (from start at now : ℕ) → Type 0
+CountsUp from start at now = (d : ℕ) → from * 3 + 1 < 2 ^ d
+    → (e : ℕ) × (at * 3 + 1 < 2 ^ e) × (2 * now + e ≤ 2 * start + d)
+
+pub up_start : (from start : ℕ) → CountsUp from start from start
+up_start from start d fits = (d, fits, omega arith)
+
+pub up_more : (from start at p now next : ℕ) → CountsUp from start at now → p * 4 + 1 ≤ at → next ≡ now + 1
+    → CountsUp from start p next
+up_more from start at p now next count above step d fits = by_cases (count d fits) where
+  by_cases : ((e : ℕ) × (at * 3 + 1 < 2 ^ e) × (2 * now + e ≤ 2 * start + d))
+      → (e : ℕ) × (p * 3 + 1 < 2 ^ e) × (2 * next + e ≤ 2 * start + d)
+  by_cases (zero, low, high) = absurd (omega arith)
+  by_cases (suc zero, low, high) = absurd (omega arith)
+  by_cases (suc (suc e), low, high) = (e, omega (arith, double_twice e), omega arith)
+
+-- where no step is left
+pub up_end : (from start at now d : ℕ) → CountsUp from start at now → from < 2 ^ d → 2 * now ≤ 2 * start + d + 1
+up_end from start at now d count fits = by_cases (count (suc (suc d)) (omega (arith, double_twice d))) where
+  by_cases : ((e : ℕ) × (at * 3 + 1 < 2 ^ e) × (2 * now + e ≤ 2 * start + suc (suc d))) → 2 * now ≤ 2 * start + d + 1
+  by_cases (zero, low, high) = absurd (omega arith)
+  by_cases (suc e, low, high) = omega arith
+
+-- after one comparison more, with a parent that stays
+pub up_last : (from start at now next d : ℕ) → CountsUp from start at now → 0 < at → next ≡ now + 1 → from < 2 ^ d
+    → 2 * next ≤ 2 * start + d + 1
+up_last from start at now next d count some step fits =
+    let above : (at - 1) / 4 * 4 + 1 ≤ at = omega arith in
+    up_end from start ((at - 1) / 4) next d (up_more from start at ((at - 1) / 4) now next count above step) fits
+
+-- ---- down: a step to a child takes four comparisons and two digits
+
+abbrev pub CountsDown : (start at now : ℕ) → Type 0
+CountsDown start at now = (m : ℕ) × (2 ^ m ≤ at * 3 + 1) × (now ≤ start + 2 * m)
+
+pub down_start : (start at : ℕ) → CountsDown start at start
+down_start start at = (0, omega arith, omega arith)
+
+pub down_more : (start at c now next : ℕ) → CountsDown start at now → at * 4 + 1 ≤ c → next ≤ now + 4
+    → CountsDown start c next
+down_more start at c now next count below step =
+    (suc (suc count.0), omega (arith, double_twice count.0, count.1), omega (arith, count.2))
+
+-- after four comparisons more, with children that stay
+pub down_last : (len start at now next d : ℕ) → CountsDown start at now → at * 4 + 1 < len → next ≤ now + 4
+    → len + 2 < 2 ^ d
+    → next + 1 ≤ start + 3 * d
+down_last len start at now next d count inside step fits =
+    let less : count.0 < d = pow_less count.0 d (omega (arith, count.1)) in
+    let three : 2 < d = pow_less 2 d (omega arith) in
+    omega (arith, count.2)
+
+-- where there are no children
+pub down_end : (len start at now d : ℕ) → CountsDown start at now → at < len → len + 2 < 2 ^ d → now + 1 ≤ start + 3 * d
+down_end len start at now d count inside fits = by_cases (cases_lt count.0 2) where
+  some : 1 < d
+  some = pow_less 1 d (omega arith)
+
+  by_cases : (count.0 < 2) ⊎ (2 ≤ count.0) → now + 1 ≤ start + 3 * d
+  by_cases (inl few) = omega (arith, count.2, some)
+  by_cases (inr many) =
+      let two : 2 ^ 2 ≤ 2 ^ count.0 = pow_mono many in
+      let three : 2 < d = pow_less 2 d (omega (arith, count.1)) in
+      let less : count.0 < suc (suc d) = pow_less count.0 (suc (suc d)) (omega (arith, count.1, double_twice d)) in
+      omega (arith, count.2)
+
+-- ---- both
+
+-- one comparison with the parent, and then up
+pub settle_up : (len start mid next d : ℕ) → 0 < len → len + 2 < 2 ^ d → mid ≡ start + 1
+    → ((d : ℕ) → len < 2 ^ d → 2 * next ≤ 2 * mid + d + 1) → next ≤ start + 3 * d
+settle_up len start mid next d some fits step count =
+    let one : 1 < d = pow_less 1 d (omega arith) in
+    let most = count d (omega arith) in
+    omega (arith, most)
+
+pub put_count : (len start next d : ℕ) → len + 1 < 2 ^ d → ((d : ℕ) → len + 1 < 2 ^ d → 2 * next ≤ 2 * start + d + 1)
+    → next ≤ start + d
+put_count len start next d fits count =
+    let one : 0 < d = pow_less 0 d (omega arith) in
+    let most = count d fits in
+    omega (arith, most)

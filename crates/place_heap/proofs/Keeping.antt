@@ -1,0 +1,125 @@
+-- What a heap keeps, with one item more, with one less, and with more places.
+use Rattle.std.proofs.Common.{◌≡◌, ◌≢◌, ℕ, ◌+◌, ◌-◌, ◌^◌, ◌<◌, ◌≤◌, true, false, List, ◌++◌}
+use Rattle.std.proofs.Common.{Option, Some, None}
+use Rattle.std.proofs.Common.{length, replicate, set, get_or, refl, ap, ◌∙◌, sym, arith}
+use Rattle.std.specs.Prelude.{is_some, slice_get}
+use Rattle.std.specs.List.{count_by}
+use Rattle.std.proofs.lemmas.Option.{slice_get-get_or, slice_get_past}
+use Rattle.std.proofs.lemmas.List.{length-map, length-set, set-get_or}
+use Rattle.std.proofs.lemmas.List.Sums.{count_by-le-length}
+use Rattle.place_heap.specs.Items.{ItemFacts}
+use Rattle.place_heap.specs.Table.{IsIndexed, position, nowhere, table_of, blank}
+use Rattle.place_heap.specs.HeapOrder.{IsHeap}
+use Rattle.place_heap.specs.Kept.{IsKept}
+use Rattle.place_heap.proofs.Indexing.{table_at, place_in}
+use Rattle.place_heap.proofs.Tables.{count_put, count_taken, count_free, grown_at, grown_count, table_grown}
+
+pub table_len : (es : List ItemFacts) (ps : List ℕ) → length (table_of es ps) ≡ length ps
+table_len es ps = length-map ps (slice_get es)
+
+-- there are no more items than places
+pub few_items : (es : List ItemFacts) (ps : List ℕ) (cap : ℕ) → IsKept es ps cap → length es ≤ length ps
+few_items es ps cap kept = omega (arith, kept.count, count_by-le-length is_some (table_of es ps), table_len es ps)
+
+pub few_kept : (es : List ItemFacts) (ps : List ℕ) (cap : ℕ) → IsKept es ps cap → length es ≤ nowhere
+few_kept es ps cap kept = omega (arith, few_items es ps cap kept, kept.places)
+
+-- where a place is free there is room for an item
+pub room_kept : (es : List ItemFacts) (ps : List ℕ) (cap n : ℕ) → IsKept es ps cap → n < length (table_of es ps)
+    → get_or (table_of es ps) n None ≡ None → length es < length ps
+room_kept es ps cap n kept ready free =
+    omega (arith, kept.count, count_free (table_of es ps) n ready free, table_len es ps)
+
+same_places : (es new : List ItemFacts) (ps qs : List ℕ) (n : ℕ) (o : Option ItemFacts)
+    → table_of new qs ≡ set (table_of es ps) n o
+    → length qs ≡ length ps
+same_places es new ps qs n o is = sym (table_len new qs) ∙ ap length is ∙ length-set (table_of es ps) n o
+    ∙ table_len es ps
+
+pub kept_put : (es new : List ItemFacts) (ps qs : List ℕ) (cap cap' : ℕ) (x : ItemFacts) → IsKept es ps cap
+    → x.place < length (table_of es ps) → get_or (table_of es ps) x.place None ≡ None → length new ≡ length es + 1
+    → cap ≤ cap'
+    → IsIndexed new qs → table_of new qs ≡ set (table_of es ps) x.place (Some x) → IsHeap new → IsKept new qs cap'
+kept_put es new ps qs cap cap' x kept ready free more larger indexed table heap = record {
+  indexed = indexed;
+  heap = heap;
+  count = ap (λ t. count_by is_some t) table ∙ count_put (table_of es ps) x.place x ready free
+      ∙ ap (λ n. n + 1) kept.count ∙ sym more;
+  fits = omega (arith, kept.fits, larger, same_places es new ps qs x.place (Some x) table);
+  places = omega (arith, kept.places, same_places es new ps qs x.place (Some x) table);
+}
+
+-- the item of a place whose position is kept
+pub item_there : (es : List ItemFacts) (ps : List ℕ) (cap n at : ℕ) → IsKept es ps cap → position ps n ≡ at
+    → at ≢ nowhere
+    → get_or (table_of es ps) n None ≡ Some (get_or es at blank)
+item_there es ps cap n at kept is some = table_at es ps n (few_kept es ps cap kept) ∙ ap (slice_get es) is
+    ∙ slice_get-get_or es at blank (kept.indexed.inside n at is some)
+
+pub kept_taken : (es new : List ItemFacts) (ps qs : List ℕ) (cap cap' n at : ℕ) → IsKept es ps cap
+    → position ps n ≡ at → at ≢ nowhere
+    → length new + 1 ≡ length es → cap' ≡ cap → IsIndexed new qs → table_of new qs ≡ set (table_of es ps) n None
+    → IsHeap new
+    → IsKept new qs cap'
+kept_taken es new ps qs cap cap' n at kept is some fewer same indexed table heap = record {
+  indexed = indexed;
+  heap = heap;
+  count = let ready : n < length (table_of es ps) = omega (arith, place_in ps n at is some, table_len es ps) in
+      let counted = count_taken (table_of es ps) n (get_or es at blank) ready
+      (item_there es ps cap n at kept is some) in
+      let now : count_by is_some (table_of new qs) ≡ count_by is_some (set (table_of es ps) n None) =
+      ap (λ t. count_by is_some t) table in
+      omega (arith, counted, now, kept.count, fewer);
+  fits = omega (arith, kept.fits, same, same_places es new ps qs n None table);
+  places = omega (arith, kept.places, same_places es new ps qs n None table);
+}
+
+-- what is kept at the position is out of the table at its place
+pub taken_table : (es new : List ItemFacts) (ps qs : List ℕ) (n at : ℕ) → IsIndexed es ps → position ps n ≡ at
+    → at ≢ nowhere
+    → ((d : ItemFacts) → table_of new qs ≡ set (table_of es ps) (get_or es at d).place None)
+    → table_of new qs ≡ set (table_of es ps) n None
+taken_table es new ps qs n at kept is some table = table blank
+    ∙ ap (λ p. set (table_of es ps) p None) (kept.placed n at blank is some)
+
+-- where no position is kept there is nothing to take
+pub none_to_take : (es : List ItemFacts) (ps : List ℕ) (cap n : ℕ) → IsKept es ps cap → position ps n ≡ nowhere
+    → table_of es ps ≡ set (table_of es ps) n None
+none_to_take es ps cap n kept is = sym (set-get_or (table_of es ps) n None)
+    ∙ ap (set (table_of es ps) n) (table_at es ps n (few_kept es ps cap kept) ∙ ap (slice_get es) is
+    ∙ slice_get_past es nowhere (few_kept es ps cap kept))
+
+pub kept_grown : (es : List ItemFacts) (ps qs : List ℕ) (cap cap' m : ℕ) → IsKept es ps cap
+    → qs ≡ ps ++ replicate m nowhere
+    → length qs ≤ cap' → length qs < 2 ^ 32 → IsKept es qs cap'
+kept_grown es ps qs cap cap' m kept is fits few = record {
+  indexed = record {
+    kept = λ i d inside. at_all (get_or es i d).place ∙ kept.indexed.kept i d inside;
+    inside = λ p i e some. kept.indexed.inside p i (sym (at_all p) ∙ e) some;
+    placed = λ p i d e some. kept.indexed.placed p i d (sym (at_all p) ∙ e) some;
+  };
+  heap = kept.heap;
+  count = ap (λ l. count_by is_some (table_of es l)) is
+      ∙ ap (λ t. count_by is_some t) (table_grown es ps m (few_kept es ps cap kept))
+      ∙ grown_count (table_of es ps) m ∙ kept.count;
+  fits = fits;
+  places = few;
+} where
+  at_all : (n : ℕ) → position qs n ≡ position ps n
+  at_all n = ap (λ l. position l n) is ∙ grown_at nowhere ps m n
+
+pub grown_table : (es : List ItemFacts) (ps qs : List ℕ) (cap n : ℕ) → IsKept es ps cap
+    → qs ≡ ps ++ replicate (n - length ps) nowhere
+    → table_of es qs ≡ table_of es ps ++ replicate (n - length (table_of es ps)) None
+grown_table es ps qs cap n kept is = ap (table_of es) is ∙ table_grown es ps (n - length ps) (few_kept es ps cap kept)
+    ∙ ap (λ k. table_of es ps ++ replicate (n - k) None) (sym (table_len es ps))
+
+-- whether an item is there, by its position
+pub held : (es : List ItemFacts) (ps : List ℕ) (cap n : ℕ) → IsKept es ps cap → position ps n ≢ nowhere
+    → is_some (get_or (table_of es ps) n None) ≡ true
+held es ps cap n kept some = ap is_some (item_there es ps cap n (position ps n) kept refl some)
+
+pub not_held : (es : List ItemFacts) (ps : List ℕ) (cap n : ℕ) → IsKept es ps cap → position ps n ≡ nowhere
+    → is_some (get_or (table_of es ps) n None) ≡ false
+not_held es ps cap n kept is = ap is_some (table_at es ps n (few_kept es ps cap kept) ∙ ap (slice_get es) is
+    ∙ slice_get_past es nowhere (few_kept es ps cap kept))

@@ -1,0 +1,11 @@
+pub mod Swaps
+pub mod Ranking
+pub mod Order
+pub mod Indexing
+pub mod Counting
+pub mod Covered
+pub mod Loops
+pub mod Tables
+pub mod Keeping
+pub mod First
+pub mod Tying

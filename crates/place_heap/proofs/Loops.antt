@@ -1,0 +1,292 @@
+-- What the loops of a heap keep: an item x that moves, the hole at, and the others.
+use Rattle.std.proofs.Common.{◌≡◌, ◌≢◌, ℕ, ◌+◌, ◌-◌, ◌*◌, ◌/◌, ◌<◌, ◌≤◌, Bool, true, false, List, length}
+use Rattle.std.proofs.Common.{get_or, set}
+use Rattle.std.proofs.Common.{refl, ap, ◌∙◌, sym, subst, arith, inl, inr}
+use Rattle.std.proofs.lemmas.Bool.{cases_eq}
+use Rattle.std.proofs.lemmas.List.{get_or-set_same, get_or-set_other, set-get_or, length-set, get_or_default}
+use Rattle.place_heap.specs.Items.{ItemFacts, is_before}
+use Rattle.place_heap.specs.Table.{IsIndexed, nowhere, table_of, blank}
+use Rattle.place_heap.specs.HeapOrder.{IsAhead, IsChild, IsHeap, IsHeapUp, IsHeapDown}
+use Rattle.place_heap.proofs.Swaps.{AreSwapped}
+use Rattle.place_heap.proofs.Ranking.{one_way}
+use Rattle.place_heap.proofs.Order.{ahead_from, ahead_if_before, IsFirstChild}
+use Rattle.place_heap.proofs.Order as order
+use Rattle.place_heap.proofs.Indexing.{place_in, hole_swapped, hole_indexed, hole_table, hole_len, y_ready}
+use Rattle.place_heap.proofs.Counting.{CountsUp, CountsDown, up_start, up_more, down_start, down_more}
+
+-- with x in the hole the items are indexed, and their table is that at the start
+pub record HasHole (es₀ : List ItemFacts) (ps₀ : List ℕ) (x : ItemFacts) (items : List ItemFacts)
+    (positions : List ℕ) (at : ℕ)
+    : Type 0 where
+  pub indexed : IsIndexed (set items at x) (set positions x.place at)
+  pub table : table_of (set items at x) (set positions x.place at) ≡ table_of es₀ ps₀
+  pub same_len : length items ≡ length es₀
+  pub at_in : at < length items
+  pub ready : x.place < length positions
+
+pub record UpLoop (es₀ : List ItemFacts) (ps₀ : List ℕ) (x : ItemFacts) (from start : ℕ) (items : List ItemFacts)
+    (positions : List ℕ) (at now : ℕ) : Type 0 where
+  pub hole : HasHole es₀ ps₀ x items positions at
+  pub heap : IsHeapUp (set items at x) at
+  pub count : CountsUp from start at now
+
+pub record DownLoop (es₀ : List ItemFacts) (ps₀ : List ℕ) (x : ItemFacts) (start : ℕ) (items : List ItemFacts)
+    (positions : List ℕ) (at now : ℕ) : Type 0 where
+  pub hole : HasHole es₀ ps₀ x items positions at
+  pub heap : IsHeapDown (set items at x) at
+  pub count : CountsDown start at now
+
+-- where a parent is
+pub parent_low : (at : ℕ) → 0 < at → (at - 1) / 4 * 4 + 1 ≤ at
+parent_low at some = omega arith
+
+pub parent_high : (at : ℕ) → at ≤ (at - 1) / 4 * 4 + 4
+parent_high at = omega arith
+
+-- ---- at the start
+
+pub place_ready : (es : List ItemFacts) (ps : List ℕ) (at : ℕ) (d : ItemFacts) → IsIndexed es ps
+    → length es ≤ nowhere → at < length es
+    → (get_or es at d).place < length ps
+place_ready es ps at d kept few at_in =
+    place_in ps (get_or es at d).place at (kept.kept at d at_in) (λ e. omega (arith, few, at_in, e))
+
+same_positions : (es : List ItemFacts) (ps : List ℕ) (at : ℕ) (d : ItemFacts) → IsIndexed es ps → at < length es
+    → set ps (get_or es at d).place at ≡ ps
+same_positions es ps at d kept at_in = ap (set ps (get_or es at d).place) (sym (kept.kept at d at_in))
+    ∙ set-get_or ps (get_or es at d).place nowhere
+
+pub hole_start : (es : List ItemFacts) (ps : List ℕ) (at : ℕ) (d : ItemFacts) → IsIndexed es ps
+    → length es ≤ nowhere → at < length es
+    → HasHole es ps (get_or es at d) es ps at
+hole_start es ps at d kept few at_in = record {
+  indexed = subst (λ l. IsIndexed l (set ps (get_or es at d).place at)) (sym (set-get_or es at d))
+      (subst (IsIndexed es) (sym (same_positions es ps at d kept at_in)) kept);
+  table = ap (λ l. table_of l (set ps (get_or es at d).place at)) (set-get_or es at d)
+      ∙ ap (table_of es) (same_positions es ps at d kept at_in);
+  same_len = refl;
+  at_in = at_in;
+  ready = place_ready es ps at d kept few at_in;
+}
+
+pub up_loop_start : (es : List ItemFacts) (ps : List ℕ) (from start : ℕ) (d : ItemFacts) → IsIndexed es ps
+    → length es ≤ nowhere
+    → from < length es → IsHeapUp es from → UpLoop es ps (get_or es from d) from start es ps from start
+up_loop_start es ps from start d kept few inside heap = record {
+  hole = hole_start es ps from d kept few inside;
+  heap = subst (λ l. IsHeapUp l from) (sym (set-get_or es from d)) heap;
+  count = up_start from start;
+}
+
+pub down_loop_start : (es : List ItemFacts) (ps : List ℕ) (from start : ℕ) (d : ItemFacts) → IsIndexed es ps
+    → length es ≤ nowhere
+    → from < length es → IsHeapDown es from → DownLoop es ps (get_or es from d) start es ps from start
+down_loop_start es ps from start d kept few inside heap = record {
+  hole = hole_start es ps from d kept few inside;
+  heap = subst (λ l. IsHeapDown l from) (sym (set-get_or es from d)) heap;
+  count = down_start start from;
+}
+
+-- ---- a step: the item at p moves into the hole, and the hole to p
+
+module _ (es₀ : List ItemFacts) (ps₀ : List ℕ) (x : ItemFacts) (items : List ItemFacts) (positions : List ℕ) (at p : ℕ)
+    (few : length items ≤ nowhere) (hole : HasHole es₀ ps₀ x items positions at) (p_in : p < length items)
+    (apart : p ≢ at) where
+  abbrev y : ItemFacts
+  y = get_or items p blank
+
+  abbrev es : List ItemFacts
+  es = set items at x
+
+  es_len : length es ≡ length items
+  es_len = length-set items at x
+
+  at_es : (d : ItemFacts) → get_or es at d ≡ x
+  at_es d = get_or-set_same items at x d hole.at_in
+
+  other_es : (k : ℕ) (d : ItemFacts) → k ≢ at → get_or es k d ≡ get_or items k d
+  other_es k d not = get_or-set_other items at k x d not
+
+  pub moved_hole : HasHole es₀ ps₀ x (set items at y) (set positions y.place at) p
+  moved_hole = record {
+    indexed = hole_indexed items positions x at p few hole.ready hole.at_in p_in apart hole.indexed;
+    table = hole_table items positions x at p few hole.ready hole.at_in p_in apart hole.indexed ∙ hole.table;
+    same_len = length-set items at y ∙ hole.same_len;
+    at_in = omega (arith, length-set items at y, p_in);
+    ready = omega (arith, length-set positions y.place at, hole.ready);
+  }
+
+  pub moved_swap : AreSwapped es (set (set items at y) p x) at p
+  moved_swap = hole_swapped items positions x at p few hole.ready hole.at_in p_in apart hole.indexed
+
+  pub moved_len : length (set (set items at y) p x) ≡ length es
+  moved_len = hole_len items positions x at p few hole.ready hole.at_in p_in apart hole.indexed
+
+  -- a comparison of x with the item at p, over the list with x in the hole
+  pub x_is_ahead : is_before (get_or items p blank) x ≡ false → IsAhead es at p
+  x_is_ahead h = ahead_from es at p (omega (arith, hole.at_in, es_len)) (omega (arith, p_in, es_len))
+      (ap (λ z. is_before z (get_or es at blank)) (other_es p blank apart) ∙ ap (is_before y) (at_es blank) ∙ h)
+
+  pub p_is_ahead : is_before x (get_or items p blank) ≡ false → IsAhead es p at
+  p_is_ahead h = ahead_from es p at (omega (arith, p_in, es_len)) (omega (arith, hole.at_in, es_len))
+      (ap (λ z. is_before z (get_or es p blank)) (at_es blank) ∙ ap (is_before x) (other_es p blank apart) ∙ h)
+
+-- ---- the child that comes first
+
+-- the child so far, before which none of those below k comes
+pub record ChildLoop (es : List ItemFacts) (low end start child k now : ℕ) : Type 0 where
+  pub from : low ≤ child
+  pub inside : child < end
+  pub first : (j : ℕ) → low ≤ j → j < k → IsAhead es child j
+  pub count : now + low + 1 ≤ start + k
+
+not_itself : (a : ItemFacts) (b : Bool) → is_before a a ≡ b → b ≡ false
+not_itself a false h = refl
+not_itself a true h = sym h ∙ one_way a a h
+
+pub child_start : (es : List ItemFacts) (low end start : ℕ) → low < end → ChildLoop es low end start low (low + 1) start
+child_start es low end start some = record {
+  from = omega arith;
+  inside = some;
+  first = λ j low_in high. let is : j ≡ low = omega arith in
+      subst (IsAhead es low) (sym is)
+      (λ d. not_itself (get_or es low d) (is_before (get_or es low d) (get_or es low d)) refl);
+  count = omega arith;
+}
+
+pub child_stays : (es : List ItemFacts) (low end start child k now next : ℕ) → ChildLoop es low end start child k now
+    → IsAhead es child k → next ≡ now + 1 → ChildLoop es low end start child (k + 1) next
+child_stays es low end start child k now next kept ahead step = record {
+  from = kept.from;
+  inside = kept.inside;
+  first = λ j low_in high. elim (cases_eq j k) [
+    | inl is ↦ subst (IsAhead es child) (sym is) ahead
+    | inr not ↦ kept.first j low_in (omega (arith, high, not))
+  ];
+  count = omega (arith, kept.count);
+}
+
+pub child_changes : (es : List ItemFacts) (low end start child k now next : ℕ) → ChildLoop es low end start child k now
+    → k < end → low ≤ k → IsAhead es k child → next ≡ now + 1 → ChildLoop es low end start k (k + 1) next
+child_changes es low end start child k now next kept inside from ahead step = record {
+  from = from;
+  inside = inside;
+  first = λ j low_in high. elim (cases_eq j k) [
+    | inl is ↦ subst (IsAhead es k) (sym is)
+        (λ d. not_itself (get_or es k d) (is_before (get_or es k d) (get_or es k d)) refl)
+    | inr not ↦ order.ahead_through es k child j ahead (kept.first j low_in (omega (arith, high, not)))
+  ];
+  count = omega (arith, kept.count);
+}
+
+-- of the items with x in the hole, where the children are those of the items
+pub first_of_all : (items : List ItemFacts) (x : ItemFacts) (at c : ℕ) → at * 4 + 1 ≤ c → c ≤ at * 4 + 4
+    → c < length items
+    → ((k : ℕ) → at * 4 + 1 ≤ k → k ≤ at * 4 + 4 → k < length items → IsAhead items c k)
+    → IsFirstChild (set items at x) at c
+first_of_all items x at c low high inside first = (
+  (low, high, omega (arith, inside, length-set items at x)),
+  λ k child d.
+      ap (λ z. is_before z (get_or (set items at x) c d)) (stays k d (λ e. omega (arith, child.0, e)))
+      ∙ ap (is_before (get_or items k d)) (stays c d (λ e. omega (arith, low, e)))
+      ∙ first k child.0 child.1 (omega (arith, child.2, length-set items at x)) d,
+) where
+  stays : (k : ℕ) (d : ItemFacts) → k ≢ at → get_or (set items at x) k d ≡ get_or items k d
+  stays k d not = get_or-set_other items at k x d not
+
+-- ---- a step up, and where the item stays
+
+module _ (es₀ : List ItemFacts) (ps₀ : List ℕ) (x : ItemFacts) (from start : ℕ) (items : List ItemFacts)
+    (positions : List ℕ)
+    (at now : ℕ) (kept : UpLoop es₀ ps₀ x from start items positions at now) (few : length items ≤ nowhere)
+    (some : 0 < at)
+    (above : ItemFacts) (above_is : above ≡ get_or items ((at - 1) / 4) above) where
+  abbrev p : ℕ
+  p = (at - 1) / 4
+
+  low : (at - 1) / 4 * 4 + 1 ≤ at
+  low = parent_low at some
+
+  p_in : (at - 1) / 4 < length items
+  p_in = omega (arith, low, kept.hole.at_in)
+
+  p_apart : (at - 1) / 4 ≢ at
+  p_apart e = omega (arith, low, e)
+
+  above_at : above ≡ get_or items ((at - 1) / 4) blank
+  above_at = above_is ∙ get_or_default items p above blank p_in
+
+  p_parent : IsChild (set items at x) ((at - 1) / 4) at
+  p_parent = (low, parent_high at, omega (arith, length-set items at x, kept.hole.at_in))
+
+  pub up_goes_on : (items' : List ItemFacts) (positions' : List ℕ) (next : ℕ) → is_before x above ≡ true
+      → items' ≡ set items at above
+      → positions' ≡ set positions above.place at → next ≡ now + 1
+      → UpLoop es₀ ps₀ x from start items' positions' ((at - 1) / 4) next
+  up_goes_on items' positions' next before items_is positions_is step =
+      let y : ItemFacts = get_or items p blank in
+      let ahead : IsAhead (set items at x) at p = x_is_ahead es₀ ps₀ x items positions at p few kept.hole p_in p_apart
+      (one_way x y (ap (is_before x) (sym above_at) ∙ before)) in
+      let moved : UpLoop es₀ ps₀ x from start (set items at y) (set positions y.place at) p next = record {
+        hole = moved_hole es₀ ps₀ x items positions at p few kept.hole p_in p_apart;
+        heap = order.up_step (set items at x) (set (set items at y) p x)
+            (moved_len es₀ ps₀ x items positions at p few kept.hole p_in p_apart) at p kept.heap p_parent ahead
+            (moved_swap es₀ ps₀ x items positions at p few kept.hole p_in p_apart);
+        count = up_more from start at p now next kept.count low step;
+      } in
+      subst (λ l. UpLoop es₀ ps₀ x from start l positions' p next) (sym (items_is ∙ ap (set items at) above_at))
+      (subst (λ q. UpLoop es₀ ps₀ x from start (set items at y) q p next)
+      (sym (positions_is ∙ ap (λ z. set positions z.place at) above_at)) moved)
+
+  pub up_stays : is_before x above ≡ false → IsHeap (set items at x)
+  up_stays before = order.up_done (set items at x) at p kept.heap p_parent
+      (p_is_ahead es₀ ps₀ x items positions at p few kept.hole p_in p_apart (ap (is_before x) (sym above_at) ∙ before))
+
+-- ---- a step down, and where the item stays
+
+module _ (es₀ : List ItemFacts) (ps₀ : List ℕ) (x : ItemFacts) (start : ℕ) (items : List ItemFacts) (positions : List ℕ)
+    (at now : ℕ) (kept : DownLoop es₀ ps₀ x start items positions at now) (few : length items ≤ nowhere) (c : ℕ)
+    (from : at * 4 + 1 ≤ c) (to : c ≤ at * 4 + 4) (inside : c < length items)
+    (all : (k : ℕ) → at * 4 + 1 ≤ k → k ≤ at * 4 + 4 → k < length items → IsAhead items c k)
+    (below : ItemFacts) (below_is : below ≡ get_or items c below) where
+  c_apart : c ≢ at
+  c_apart e = omega (arith, from, e)
+
+  below_at : below ≡ get_or items c blank
+  below_at = below_is ∙ get_or_default items c below blank inside
+
+  child_first : IsFirstChild (set items at x) at c
+  child_first = first_of_all items x at c from to inside all
+
+  pub down_goes_on : (items' : List ItemFacts) (positions' : List ℕ) (next : ℕ) → is_before below x ≡ true
+      → items' ≡ set items at below → positions' ≡ set positions below.place at → next ≤ now + 4
+      → DownLoop es₀ ps₀ x start items' positions' c next
+  down_goes_on items' positions' next before items_is positions_is step =
+      let y : ItemFacts = get_or items c blank in
+      let ahead : IsAhead (set items at x) c at = p_is_ahead es₀ ps₀ x items positions at c few kept.hole inside c_apart
+      (one_way y x (ap (λ z. is_before z x) (sym below_at) ∙ before)) in
+      let moved : DownLoop es₀ ps₀ x start (set items at y) (set positions y.place at) c next = record {
+        hole = moved_hole es₀ ps₀ x items positions at c few kept.hole inside c_apart;
+        heap = order.down_step (set items at x) (set (set items at y) c x)
+            (moved_len es₀ ps₀ x items positions at c few kept.hole inside c_apart) at c kept.heap child_first ahead
+            (moved_swap es₀ ps₀ x items positions at c few kept.hole inside c_apart);
+        count = down_more start at c now next kept.count from step;
+      } in
+      subst (λ l. DownLoop es₀ ps₀ x start l positions' c next) (sym (items_is ∙ ap (set items at) below_at))
+      (subst (λ q. DownLoop es₀ ps₀ x start (set items at y) q c next)
+      (sym (positions_is ∙ ap (λ z. set positions z.place at) below_at)) moved)
+
+  pub down_stays : is_before below x ≡ false → IsHeap (set items at x)
+  down_stays before = order.down_done (set items at x) at c kept.heap child_first
+      (x_is_ahead es₀ ps₀ x items positions at c few kept.hole inside c_apart
+      (ap (λ z. is_before z x) (sym below_at) ∙ before))
+
+-- the item that moves in has a place that is ready
+pub moved_ready : (es₀ : List ItemFacts) (ps₀ : List ℕ) (x : ItemFacts) (items : List ItemFacts)
+    (positions : List ℕ) (at p : ℕ)
+    (y : ItemFacts) → length items ≤ nowhere → HasHole es₀ ps₀ x items positions at → p < length items → p ≢ at
+    → y ≡ get_or items p y
+    → y.place < length positions
+moved_ready es₀ ps₀ x items positions at p y few hole p_in apart is =
+    let ready = y_ready items positions x at p few hole.ready hole.at_in p_in apart hole.indexed in
+    subst (λ z. z.place < length positions) (sym (is ∙ get_or_default items p y blank p_in)) ready

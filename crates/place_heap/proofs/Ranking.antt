@@ -1,0 +1,66 @@
+-- The order of items, as one by which they can be sorted.
+use Rattle.std.proofs.Common.{◌≡◌, ◌≢◌, ℕ, Bool, true, false, nat_lt, arith}
+use Rattle.place_heap.specs.Items.{ItemFacts, less_or, is_before}
+
+-- ---- by one number, and where two are equal by something else
+
+one_way_or : (k l : ℕ) (t u : Bool) → (t ≡ true → u ≡ false) → less_or k l t ≡ true → less_or l k u ≡ false
+one_way_or k l t u ties h = grind arith
+
+-- t, u and w say that b is before a, c before b, and c before a
+behind_or : (k l m : ℕ) (t u w : Bool) → (t ≡ false → u ≡ false → w ≡ false) → less_or l k t ≡ false
+    → less_or m l u ≡ false
+    → less_or m k w ≡ false
+behind_or k l m t u w ties h i = grind arith
+
+total_or : (k l : ℕ) (t u : Bool) → (t ≡ false → u ≡ true) → less_or k l t ≡ false → less_or l k u ≡ true
+total_or k l t u ties h = grind arith
+
+onward_or : (k l m : ℕ) (t u w : Bool) → (t ≡ true → u ≡ true → w ≡ true) → less_or k l t ≡ true
+    → less_or l m u ≡ true → less_or k m w ≡ true
+onward_or k l m t u w ties h i = grind arith
+
+less_one_way : (m n : ℕ) → nat_lt m n ≡ true → nat_lt n m ≡ false
+less_one_way m n h = grind arith
+
+less_behind : (k l m : ℕ) → nat_lt l k ≡ false → nat_lt m l ≡ false → nat_lt m k ≡ false
+less_behind k l m h i = grind arith
+
+less_onward : (k l m : ℕ) → nat_lt k l ≡ true → nat_lt l m ≡ true → nat_lt k m ≡ true
+less_onward k l m h i = grind arith
+
+less_total : (m n : ℕ) → m ≢ n → nat_lt m n ≡ false → nat_lt n m ≡ true
+less_total m n apart h = grind arith
+
+-- ---- items
+
+abbrev by_number : ItemFacts → ItemFacts → Bool
+by_number a b = less_or a.number b.number (nat_lt a.place b.place)
+
+abbrev by_tie : ItemFacts → ItemFacts → Bool
+by_tie a b = less_or a.tie b.tie (by_number a b)
+
+-- no two come before each other
+pub one_way : (a b : ItemFacts) → is_before a b ≡ true → is_before b a ≡ false
+one_way a b = one_way_or a.key b.key (by_tie a b) (by_tie b a)
+    (one_way_or a.tie b.tie (by_number a b) (by_number b a)
+    (one_way_or a.number b.number (nat_lt a.place b.place) (nat_lt b.place a.place) (less_one_way a.place b.place)))
+
+pub onward : (a b c : ItemFacts) → is_before a b ≡ true → is_before b c ≡ true → is_before a c ≡ true
+onward a b c = onward_or a.key b.key c.key (by_tie a b) (by_tie b c) (by_tie a c)
+    (onward_or a.tie b.tie c.tie (by_number a b) (by_number b c) (by_number a c)
+    (onward_or a.number b.number c.number (nat_lt a.place b.place) (nat_lt b.place c.place) (nat_lt a.place c.place)
+    (less_onward a.place b.place c.place)))
+
+-- what isn't before b, which isn't before a, isn't before a
+pub behind : (a b c : ItemFacts) → is_before b a ≡ false → is_before c b ≡ false → is_before c a ≡ false
+behind a b c = behind_or a.key b.key c.key (by_tie b a) (by_tie c b) (by_tie c a)
+    (behind_or a.tie b.tie c.tie (by_number b a) (by_number c b) (by_number c a)
+    (behind_or a.number b.number c.number (nat_lt b.place a.place) (nat_lt c.place b.place) (nat_lt c.place a.place)
+    (less_behind a.place b.place c.place)))
+
+-- of two at different places one comes before the other
+pub total : (a b : ItemFacts) → a.place ≢ b.place → is_before a b ≡ false → is_before b a ≡ true
+total a b apart = total_or a.key b.key (by_tie a b) (by_tie b a)
+    (total_or a.tie b.tie (by_number a b) (by_number b a)
+    (total_or a.number b.number (nat_lt a.place b.place) (nat_lt b.place a.place) (less_total a.place b.place apart)))

@@ -1,0 +1,29 @@
+-- The items of entries come in the model's orders.
+use Rattle.std.proofs.Common.{◌≡◌, ◌≢◌, ℕ, ◌-◌, ◌≤◌, Bool, nat_lt, ap, arith}
+use Rattle.std.specs.Prelude.{◌||◌, ◌&&◌, ◌==◌}
+use Rattle.dover_model.specs.Limits.{most_value}
+use Rattle.dover_model.specs.declared.events.Entry.{Entry}
+use Rattle.dover_model.specs.declared.events.Version.{Version}
+use Rattle.dover_model.specs.declared.events.Version.TheVariants.{One, Two}
+use Rattle.dover_model.specs.Entries.{wins_tie}
+use Rattle.place_heap.specs.Items.{less_or}
+use Rattle.place_heap.specs.Orders.{tie_of, AreOrderedAs}
+
+tie_one : (m n : ℕ) (t : Bool) → m ≢ n → less_or 0 0 (less_or m n t) ≡ nat_lt m n
+tie_one m n t apart = grind arith
+
+tie_two : (most v w m n : ℕ) (t : Bool) → v ≤ most → w ≤ most → m ≢ n
+    → less_or (most - v) (most - w) (less_or m n t) ≡ (nat_lt w v || ((v == w) && nat_lt m n))
+tie_two most v w m n t v_fits w_fits apart = grind arith
+
+ties_agree : (v : Version) (a b : Entry) (t : Bool) → a.number ≢ b.number → a.value ≤ most_value → b.value ≤ most_value
+    → less_or (tie_of v a.value) (tie_of v b.value) (less_or a.number b.number t) ≡ wins_tie v a b
+ties_agree One a b t apart a_fits b_fits = tie_one a.number b.number t apart
+ties_agree Two a b t apart a_fits b_fits = tie_two most_value a.value b.value a.number b.number t a_fits b_fits apart
+
+pub ordered_as : (v : Version) (a b : Entry) (p q : ℕ) → a.number ≢ b.number → a.value ≤ most_value
+    → b.value ≤ most_value
+    → AreOrderedAs v a b p q
+ordered_as v a b p q apart a_fits b_fits =
+    let ties = ties_agree v a b (nat_lt p q) apart a_fits b_fits in
+    record { due = ap (less_or a.deadline b.deadline) ties; latest = ap (less_or a.latest b.latest) ties }

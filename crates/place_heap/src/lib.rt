@@ -1,0 +1,11 @@
+//! A heap of items in one order, from which each can be taken out by its place.
+#![tactic(auto)]
+
+pub mod heap;
+pub mod item;
+pub mod orders;
+mod sift;
+
+pub use heap::Heap;
+pub use item::Item;
+pub use orders::{items_come_as_entries, tie_of};

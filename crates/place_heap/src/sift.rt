@@ -1,0 +1,192 @@
+//! Items in the order of a heap, beside the position of each place. An item that moves leaves a hole into which others
+//! move, until it is put where it belongs.
+ghost use Rattle.std.specs.Prelude.{◌≡◌, ◌≢◌, ℕ, ◌+◌, ◌*◌, ◌^◌, ◌<◌, ◌≤◌, [], ◌∷◌, ◌++◌, false};
+ghost use Rattle.std.specs.Prelude.{length, slice_set, slice_index_or, vec_len, vec_capacity};
+ghost use Rattle.place_heap.specs.Items.{ItemFacts, is_before};
+ghost use Rattle.place_heap.specs.Table.{IsIndexed, table_of};
+ghost use Rattle.place_heap.specs.HeapOrder.{IsAhead, IsHeap, IsHeapUp, IsHeapDown, IsHeapSave};
+
+use crate::item::Item;
+use std::sync::ledger::Ledger;
+use step_count::Steps;
+
+/// The position of a place that has no item.
+pub(crate) const NOWHERE: u32 = u32::MAX;
+
+// Writes an item at a position, and the position at its place.
+#[inline(always)]
+fn set_at(items: &mut [Item], positions: &mut [u32], at: usize, item: Item)
+    requires at { at < length items.old }
+    requires few { length items.old < 2 ^ 32 }
+    requires ready { item.place < length positions.old }
+    ensures items { items.new ≡ slice_set items.old at item }
+    ensures positions { positions.new ≡ slice_set positions.old item.place at }
+{
+    positions[item.place() as usize] = at as u32;
+    items[at] = item;
+}
+
+/// Moves an item up to where its parent comes before it.
+pub(crate) fn sift_up<L: Ledger>(
+    items: &mut [Item],
+    positions: &mut [u32],
+    from: usize,
+    steps: &mut Steps<L>,
+)
+    requires indexed { IsIndexed items.old positions.old }
+    requires few { length items.old < 2 ^ 32 }
+    requires from { from < length items.old }
+    requires heap { IsHeapUp items.old from }
+    ensures indexed { IsIndexed items.new positions.new }
+    ensures table { table_of items.new positions.new ≡ table_of items.old positions.old }
+    ensures heap { IsHeap items.new }
+    ensures count { (d : ℕ) → length items.old < 2 ^ d → 2 * steps.new ≤ 2 * steps.old + d + 1 }
+{
+    let item = items[from];
+    let mut at = from;
+    while at > 0 {
+        let parent = (at - 1) / 4;
+        let above = items[parent];
+        if !item.is_before(&above, steps) {
+            set_at(items, positions, at, item);
+            return;
+        }
+        set_at(items, positions, at, above);
+        at = parent;
+    }
+    set_at(items, positions, at, item);
+}
+
+// The child that comes first.
+#[inline(always)]
+fn first_child<L: Ledger>(items: &[Item], at: usize, steps: &mut Steps<L>) -> usize
+    requires child { at * 4 + 1 < length items.now }
+    requires few { length items.now < 2 ^ 32 }
+    ensures low { at * 4 + 1 ≤ result }
+    ensures high { result ≤ at * 4 + 4 }
+    ensures inside { result < length items.now }
+    ensures first { (k : ℕ) → at * 4 + 1 ≤ k → k ≤ at * 4 + 4 → k < length items.now → IsAhead items.now result k }
+    ensures count { steps.new ≤ steps.old + 3 }
+{
+    let low = at * 4 + 1;
+    let end = items.len().min(low + 4);
+    let mut child = low;
+    for k in low + 1..end {
+        if items[k].is_before(&items[child], steps) {
+            child = k;
+        }
+    }
+    child
+}
+
+/// Moves an item down to where it comes before its children.
+pub(crate) fn sift_down<L: Ledger>(
+    items: &mut [Item],
+    positions: &mut [u32],
+    from: usize,
+    steps: &mut Steps<L>,
+)
+    requires indexed { IsIndexed items.old positions.old }
+    requires few { length items.old < 2 ^ 32 }
+    requires from { from < length items.old }
+    requires heap { IsHeapDown items.old from }
+    ensures indexed { IsIndexed items.new positions.new }
+    ensures table { table_of items.new positions.new ≡ table_of items.old positions.old }
+    ensures heap { IsHeap items.new }
+    ensures count { (d : ℕ) → length items.old + 2 < 2 ^ d → steps.new + 1 ≤ steps.old + 3 * d }
+{
+    let item = items[from];
+    let mut at = from;
+    while at * 4 + 1 < items.len() {
+        let child = first_child(items, at, steps);
+        let below = items[child];
+        if !below.is_before(&item, steps) {
+            set_at(items, positions, at, item);
+            return;
+        }
+        set_at(items, positions, at, below);
+        at = child;
+    }
+    set_at(items, positions, at, item);
+}
+
+/// Moves an item up or down to where it belongs.
+pub(crate) fn settle<L: Ledger>(
+    items: &mut [Item],
+    positions: &mut [u32],
+    at: usize,
+    steps: &mut Steps<L>,
+)
+    requires indexed { IsIndexed items.old positions.old }
+    requires few { length items.old < 2 ^ 32 }
+    requires at { at < length items.old }
+    requires heap { IsHeapSave items.old at }
+    ensures indexed { IsIndexed items.new positions.new }
+    ensures table { table_of items.new positions.new ≡ table_of items.old positions.old }
+    ensures heap { IsHeap items.new }
+    ensures count { (d : ℕ) → length items.old + 2 < 2 ^ d → steps.new ≤ steps.old + 3 * d }
+{
+    if at == 0 {
+        sift_down(items, positions, at, steps);
+        return;
+    }
+    let parent = (at - 1) / 4;
+    if items[at].is_before(&items[parent], steps) {
+        sift_up(items, positions, at, steps);
+        return;
+    }
+    sift_down(items, positions, at, steps);
+}
+
+/// Puts an item last.
+pub(crate) fn put_last(items: &mut Vec<Item>, positions: &mut [u32], item: Item)
+    requires room { vec_len items.old < vec_capacity items.old }
+    requires few { length items.old.items + 1 < 2 ^ 32 }
+    requires ready { item.place < length positions.old }
+    requires free { slice_index_or (table_of items.old.items positions.old) item.place None ≡ None }
+    requires indexed { IsIndexed items.old.items positions.old }
+    ensures last { items.new.items ≡ items.old.items ++ item ∷ [] }
+    ensures capacity { vec_capacity items.old ≤ vec_capacity items.new }
+    ensures indexed { IsIndexed items.new.items positions.new }
+    ensures table { table_of items.new.items positions.new
+        ≡ slice_set (table_of items.old.items positions.old) item.place (Some item) }
+{
+    let at = items.len();
+    items.push(item).unwrap();
+    positions[item.place() as usize] = at as u32;
+}
+
+/// Takes the last item off.
+pub(crate) fn take_last(items: &mut Vec<Item>, positions: &mut [u32])
+    requires some { 0 < length items.old.items }
+    requires few { length items.old.items < 2 ^ 32 }
+    requires indexed { IsIndexed items.old.items positions.old }
+    ensures last { (d : ItemFacts) → items.old.items
+        ≡ items.new.items ++ slice_index_or items.old.items (length items.new.items) d ∷ [] }
+    ensures capacity { vec_capacity items.new ≡ vec_capacity items.old }
+    ensures indexed { IsIndexed items.new.items positions.new }
+    ensures table { (d : ItemFacts) → table_of items.new.items positions.new
+        ≡ slice_set (table_of items.old.items positions.old)
+        (slice_index_or items.old.items (length items.new.items) d).place None }
+{
+    let last = items.pop().unwrap();
+    positions[last.place() as usize] = NOWHERE;
+}
+
+/// Takes the item at a position out, and puts the last one there.
+pub(crate) fn put_last_at(items: &mut Vec<Item>, positions: &mut [u32], at: usize)
+    requires at { at + 1 < length items.old.items }
+    requires few { length items.old.items < 2 ^ 32 }
+    requires indexed { IsIndexed items.old.items positions.old }
+    requires heap { IsHeap items.old.items }
+    ensures fewer { length items.new.items + 1 ≡ length items.old.items }
+    ensures capacity { vec_capacity items.new ≡ vec_capacity items.old }
+    ensures indexed { IsIndexed items.new.items positions.new }
+    ensures table { (d : ItemFacts) → table_of items.new.items positions.new
+        ≡ slice_set (table_of items.old.items positions.old) (slice_index_or items.old.items at d).place None }
+    ensures heap { IsHeapSave items.new.items at }
+{
+    let last = items.pop().unwrap();
+    positions[items[at].place() as usize] = NOWHERE;
+    set_at(items, positions, at, last);
+}
