@@ -1,0 +1,471 @@
+-- The ready jobs of a whole run, step by step.
+use Rattle.std.proofs.Common.{◌≡◌, ℕ, zero, suc, ◌+◌, ◌-◌, ◌≤◌, ◌<◌, ◌⊎◌, inl, inr, List, [], ◌∷◌, ◌++◌, length, map}
+use Rattle.std.proofs.Common.{refl, sym, ap, ◌∙◌, subst, Bool, true, false, cond, not, arith, eqb}
+use Rattle.std.specs.Prelude.{Option, Some, None, ◌&&◌, nat_le, nat_lt}
+use Rattle.std.specs.Option.{option_to_list, option_map}
+use Rattle.std.specs.List.{AllByRecursion, filter, sum_by}
+use Rattle.std.proofs.lemmas.Bool.{lt-leb, ltb-true, ltb-false}
+use Rattle.std.proofs.lemmas.List.{map-append}
+use Rattle.dover_model.specs.JobFacts.{IsJob}
+use Rattle.dover_model.specs.declared.events.Event.{Event}
+use Rattle.dover_model.specs.declared.events.Role.{Role}
+use Rattle.dover_model.specs.declared.events.Role.TheVariants.{Coming, Fresh, Waiting, Held, Running, Done, Gone}
+use Rattle.dover_model.specs.declared.events.Event.TheVariants.{Release, Run, Preempt, Take, Complete, Abandon, End}
+use Rattle.dover_model.specs.declared.events.Task.{Task}
+use Rattle.dover_model.specs.Instance.{Rules, Instance, IsValid, total_value}
+use Rattle.dover_model.specs.Jumps.{ticked_by, later_by}
+use Rattle.dover_model.specs.Limits.{most_value, most_total}
+use Rattle.dover_model.specs.Run.{Step, event_of}
+use Rattle.dover_model.specs.Settled.{is_late}
+use Rattle.dover_model.specs.Sound.{IsMember, Each, EachTwo, Keeps, IsSound}
+use Rattle.dover_model.specs.State.{State, is_coming, is_fresh, is_waiting, is_held, is_running, is_privileged, is_done}
+use Rattle.dover_model.specs.State.{is_over, left, latest_start, value_sum}
+use Rattle.dover_model.specs.Step.{Move, Prints, Waits, Ticks, view, open_step, after, with_role, role_after, displaced}
+use Rattle.dover_model.specs.Step.{ticked}
+use Rattle.dover_model.specs.WholeRun.{open_at}
+use Rattle.dover_model.proofs.Jumping.{later_by-zero, after-later_by}
+use Rattle.dover_model.proofs.Deeds.{tick_quiet}
+use Rattle.dover_model.proofs.Ticking.{Quiet}
+use Rattle.dover_model.proofs.Kept.{open_deed, open_kept, each_job}
+use Rattle.queued_jobs.proofs.Silent.{early_waits}
+use Rattle.dover_model.proofs.Members.{member_filter, filter_member, on_map, map_map, map_same, sum_filter, sum_le}
+use Rattle.dover_model.proofs.Members.{sum_map, sum_zero}
+use Rattle.dover_model.proofs.Moves.{says}
+use Rattle.dover_model.proofs.Roles.{passes, is_running_role, is_fresh_role}
+use Rattle.dover_model.proofs.Tests.{never, none_is_some}
+use Rattle.plain_step.specs.Dues.{still_ticks}
+use Rattle.plain_step.proofs.Jumping.{silent as still_silent, due as still_due, within as still_within}
+use Rattle.trace_reading.specs.Leading.{IsSilent, Settles}
+use Rattle.trace_reading.specs.Ready.{is_ready, ready_part}
+use Rattle.trace_reading.proofs.Leading.{settles_append}
+use Rattle.trace_reading.proofs.ReadyParts.{change, after_change, step_ready, ready_after, done_after}
+use Rattle.ready_jobs.specs.Reordered.{IsReordered}
+use Rattle.ready_jobs.specs.Parts.{Parted, HaveRole, HaveRoles, HaveOwnNumbers, AreModest, AreSound, ready_of, state_of}
+use Rattle.ready_jobs.specs.Following.{PartOf, SettlesTo}
+use Rattle.ready_jobs.proofs.Reordering.{filtered, mapped, further, in_left, in_right}
+use Rattle.ready_jobs.proofs.Views.{AreApart, step_still}
+use Rattle.ready_jobs.proofs.Naming.{waits_says}
+use Rattle.ready_jobs.proofs.Seeing.{seen_fresh, fresh_list, waiting_list, privileged_list}
+use Rattle.ready_jobs.proofs.Changes.{AreOnce, once_numbered, once_some, once_still, once_own, Leaves, map_each}
+use Rattle.ready_jobs.proofs.Changes.{all_ready}
+
+-- ---- a job that isn't to come stays so
+
+pub not_coming : (m : Move) (t : Task) → is_coming t ≡ false → is_coming (change m t) ≡ false
+not_coming (Prints e) t h = by_event e where
+  by_bool : (b : Bool) (role : Role) → is_coming (with_role t role) ≡ false → is_coming (with_role t t.role) ≡ false
+      → is_coming (with_role t (cond b role t.role)) ≡ false
+  by_bool true role passed other = passed
+  by_bool false role passed other = other
+
+  still_displaced : (role : Role) → is_coming (with_role t role) ≡ false
+      → is_coming (with_role t (displaced role)) ≡ false
+  still_displaced Coming g = never (sym g)
+  still_displaced Fresh g = refl
+  still_displaced Waiting g = refl
+  still_displaced Held g = refl
+  still_displaced Running g = refl
+  still_displaced Done g = refl
+  still_displaced Gone g = refl
+
+  two : (b c : Bool) → is_coming (with_role t (cond b Running (cond c Held t.role))) ≡ false
+  two true c = refl
+  two false true = refl
+  two false false = h
+
+  taken : (b : Bool) → is_coming (with_role t (cond b Running (displaced t.role))) ≡ false
+  taken true = refl
+  taken false = still_displaced t.role h
+
+  by_event : (e : Event) → is_coming (with_role t (role_after e t.number t.role)) ≡ false
+  by_event (Release n job) = by_bool (eqb t.number n) Fresh refl h
+  by_event (Run at n) = by_bool (eqb t.number n) Running refl h
+  by_event (Preempt at stops starts) = two (eqb t.number starts) (eqb t.number stops)
+  by_event (Take at stops starts) = taken (eqb t.number starts)
+  by_event (Complete at n) = by_bool (eqb t.number n) Done refl h
+  by_event (Abandon at n) = by_bool (eqb t.number n) Gone refl h
+  by_event (End value) = h
+not_coming (Waits n) t h = by_bool (eqb t.number n) where
+  by_bool : (b : Bool) → is_coming (with_role t (cond b Waiting t.role)) ≡ false
+  by_bool true = refl
+  by_bool false = h
+not_coming Ticks t h = h
+
+-- ---- what is known of the jobs
+
+module _ (p : Parted) (J : Instance) (z : State) (part : PartOf p J z) where
+  -- the jobs of the whole that aren't over
+  abbrev whole : List Task
+  whole = filter is_ready z.tasks
+
+  -- a ready job is one of the whole
+  pub there : (t : Task) → IsMember t (ready_of p) → IsMember t z.tasks
+  there t m = (member_filter is_ready z.tasks t (part.ready.back t m)).0
+
+  pub whole_once : AreOnce whole
+  whole_once = once_some is_ready z.tasks (once_numbered 0 z.tasks part.keeps.sound.numbered)
+
+  pub ready_once : AreOnce (ready_of p)
+  ready_once = once_still whole (ready_of p) part.ready whole_once
+
+  whole_apart : AreApart whole
+  whole_apart = record {
+    own = once_own whole whole_once;
+    one_runs = λ t u mt mu runs other. once_own whole whole_once t u mt mu
+        (part.keeps.sound.one_runs t u (member_filter is_ready z.tasks t mt).0 (member_filter is_ready z.tasks u mu).0
+        (is_running_role t runs) (is_running_role u other));
+    one_fresh = λ t u mt mu fresh other. once_own whole whole_once t u mt mu
+        (part.keeps.sound.one_fresh t u (member_filter is_ready z.tasks t mt).0 (member_filter is_ready z.tasks u mu).0
+        (is_fresh_role t fresh) (is_fresh_role u other));
+    none_comes = λ t m. part.released t (member_filter is_ready z.tasks t m).0;
+  }
+
+  -- the open step is that of the ready jobs
+  pub part_step : open_step J.rules (state_of p) ≡ open_step J.rules z
+  part_step =
+      step_still J.rules p.clock whole (ready_of p) part.ready whole_apart
+      ∙ ap (λ n. open_step J.rules (record { clock = n; tasks = whole })) (sym part.clock) ∙ step_ready J.rules z
+
+  -- each is a job within the limits
+  pub part_job : Each (λ t. IsJob t.job) (ready_of p)
+  part_job t m = each_job IsJob z.tasks (subst (AllByRecursion IsJob) (sym part.keeps.jobs) part.valid.each) t
+      (there t m)
+
+  -- they aren't worth too much
+  part_total : (test : Task → Bool) → value_sum (filter test (ready_of p)) ≤ 10_000_000_000_000
+  part_total test = let modest : total_value J.jobs ≤ 10_000_000_000_000 = part.valid.total in
+      let all : value_sum z.tasks ≡ total_value J.jobs = sym (sum_map (λ (t : Task). t.job) (λ j. j.value) z.tasks)
+      ∙ ap total_value part.keeps.jobs in
+      omega (
+        arith,
+        part.ready.weighs (λ t. t.job.value),
+        sum_filter test (λ t. t.job.value) (ready_of p),
+        sum_le (λ t. cond (test t) t.job.value 0) (λ t. t.job.value) (ready_of p) (λ t m. at_most (test t) t.job.value),
+        sum_filter is_ready (λ t. t.job.value) z.tasks,
+        sum_le (λ t. cond (is_ready t) t.job.value 0) (λ t. t.job.value) z.tasks
+            (λ t m. at_most (is_ready t) t.job.value),
+      ) where
+        at_most : (b : Bool) (n : ℕ) → cond b n 0 ≤ n
+        at_most true n = omega arith
+        at_most false n = omega arith
+
+  module _ (roles : HaveRoles p) where
+    pub waits_there : (t : Task) → IsMember t p.waiting → IsMember t (ready_of p)
+    waits_there t m = (member_filter is_waiting (ready_of p) t (subst (IsMember t) (sym (waiting_list p roles)) m)).0
+
+    busy_there : (t : Task) → IsMember t (option_to_list p.running ++ p.held) → IsMember t (ready_of p)
+    busy_there t m = (member_filter is_privileged (ready_of p) t
+        (subst (IsMember t) (sym (privileged_list p roles)) m)).0
+
+    -- what the machine has to know of them
+    pub part_sound : AreSound p
+    part_sound = record {
+      own = once_own p.waiting (subst AreOnce (waiting_list p roles) (once_some is_waiting (ready_of p) ready_once));
+      modest = λ t m. (part_job t (waits_there t m)).modest;
+      total = subst (λ l. value_sum l ≤ 10_000_000_000_000) (privileged_list p roles) (part_total is_privileged);
+      first = λ r mr h mh. part.keeps.sound.running_first r h (there r (busy_there r (left_one r mr)))
+          (there h (busy_there h (right_one h mh)))
+          (roles.running r mr) (roles.held h mh);
+      early = λ t m.
+          let fits = says z part.keeps.sound t (there t (waits_there t m)) Waiting (roles.waiting t m) in
+          omega (arith, fits.2, part.clock);
+    } where
+      left_one : (t : Task) → IsMember t (option_to_list p.running) → IsMember t (option_to_list p.running ++ p.held)
+      left_one t m = in_left_list (option_to_list p.running) p.held t m where
+        in_left_list : (xs ys : List Task) (x : Task) → IsMember x xs → IsMember x (xs ++ ys)
+        in_left_list [] ys x k = absurd k
+        in_left_list (y ∷ xs) ys x (inl e) = inl e
+        in_left_list (y ∷ xs) ys x (inr k) = inr (in_left_list xs ys x k)
+
+      right_one : (t : Task) → IsMember t p.held → IsMember t (option_to_list p.running ++ p.held)
+      right_one t m = in_right_list (option_to_list p.running) p.held t m where
+        in_right_list : (xs ys : List Task) (x : Task) → IsMember x ys → IsMember x (xs ++ ys)
+        in_right_list [] ys x k = k
+        in_right_list (y ∷ xs) ys x k = inr (in_right_list xs ys x k)
+
+  -- ---- a step that isn't a tick
+
+  -- the ready jobs after it
+  pub part_moves : (q : Parted) (m : Move) (worth : ℕ) → open_step J.rules z ≡ m → q.version ≡ p.version
+      → (after z m).clock ≡ q.clock
+      → Leaves (change m) (ready_of p) (ready_of q) worth
+      → PartOf q J (after z m)
+      × (value_sum (filter is_done (after z m).tasks) ≡ value_sum (filter is_done z.tasks) + worth)
+  part_moves q m worth is version clock leaves = (
+    record {
+      valid = part.valid;
+      keeps = subst (λ n. Keeps J (after z n)) is (open_kept J part.valid z part.keeps J.rules);
+      version = part.version ∙ sym version;
+      clock = clock;
+      ready = subst (λ l. IsReordered l (ready_of q)) (sym ready_is)
+          (further (filter is_ready (map (change m) whole)) (filter is_ready (map (change m) (ready_of p))) (ready_of q)
+          (filtered (map (change m) whole) (map (change m) (ready_of p)) moved is_ready) leaves.ready);
+      released = subst (Each (λ t. is_coming t ≡ false)) (sym (after_change z m))
+          (on_map (change m) (λ t. is_coming t ≡ false) z.tasks (λ t k. not_coming m t (part.released t k)));
+    },
+    done_is ∙ ap (λ n. value_sum (filter is_done z.tasks) + n)
+        (sym ((filtered (map (change m) whole) (map (change m) (ready_of p)) moved is_done).weighs (λ t. t.job.value))
+        ∙ leaves.done),
+  ) where
+    moved : IsReordered (map (change m) whole) (map (change m) (ready_of p))
+    moved = mapped whole (ready_of p) part.ready (change m)
+
+    ready_is : filter is_ready (after z m).tasks ≡ filter is_ready (map (change m) whole)
+    ready_is = subst (λ n. filter is_ready (after z n).tasks ≡ filter is_ready (after (ready_part z) n).tasks) is
+        (ready_after J part.valid J.rules z part.keeps) ∙ ap (filter is_ready) (after_change (ready_part z) m)
+
+    done_is : value_sum (filter is_done (after z m).tasks) ≡ value_sum (filter is_done z.tasks) + value_sum
+        (filter is_done (map (change m) whole))
+    done_is = subst (λ n. value_sum (filter is_done (after z n).tasks) ≡ value_sum (filter is_done z.tasks) + value_sum
+        (filter is_done (after (ready_part z) n).tasks)) is (done_after J part.valid J.rules z part.keeps)
+        ∙ ap (λ l. value_sum (filter is_done z.tasks) + value_sum (filter is_done l)) (after_change (ready_part z) m)
+
+-- ---- silent ticks
+
+-- the parts after ticks
+abbrev pub parts_later : ℕ → Parted → Parted
+parts_later n p = record p { clock = p.clock + n; running = option_map (ticked_by n) p.running }
+
+-- a job that doesn't run has none
+ticked_idle : (n : ℕ) (t : Task) → is_running t ≡ false → ticked_by n t ≡ t
+ticked_idle n t idle = ap
+    (λ b. record { number = t.number; job = t.job; role = t.role; had = cond b (t.had + n) t.had }) idle
+
+-- they are those of the state after ticks
+pub later_parts : (n : ℕ) (p : Parted) → HaveRoles p → state_of (parts_later n p) ≡ later_by n (state_of p)
+later_parts n p roles = ap (λ l. record { clock = p.clock + n; tasks = l }) (sym lists) where
+  idle : (role : Role) (ts : List Task) → Each (λ t. t.role ≡ role) ts
+      → ((t : Task) → is_running (with_role t role) ≡ false) → map (ticked_by n) ts ≡ ts
+  idle role ts have test =
+      map_each (ticked_by n) ts (λ t m. ticked_idle n t (passes is_running t role false (have t m) (test t)))
+
+  one : (o : Option Task) → map (ticked_by n) (option_to_list o) ≡ option_to_list (option_map (ticked_by n) o)
+  one None = refl
+  one (Some t) = refl
+
+  lists : map (ticked_by n) (ready_of p) ≡ ready_of (parts_later n p)
+  lists =
+      map-append (ticked_by n) (option_to_list p.running) (option_to_list p.fresh ++ (p.held ++ p.waiting))
+      ∙ ap (λ l. l ++ map (ticked_by n) (option_to_list p.fresh ++ (p.held ++ p.waiting))) (one p.running)
+      ∙ ap (λ l. option_to_list (option_map (ticked_by n) p.running) ++ l)
+      (map-append (ticked_by n) (option_to_list p.fresh) (p.held ++ p.waiting)
+      ∙ ap (λ l. l ++ map (ticked_by n) (p.held ++ p.waiting))
+      (idle Fresh (option_to_list p.fresh) roles.fresh (λ t. refl))
+      ∙ ap (λ l. option_to_list p.fresh ++ l) (map-append (ticked_by n) p.held p.waiting
+      ∙ ap (λ l. l ++ map (ticked_by n) p.waiting) (idle Held p.held roles.held (λ t. refl))
+      ∙ ap (λ l. p.held ++ l) (idle Waiting p.waiting roles.waiting (λ t. refl))))
+
+-- ticks leave a test of roles
+filter_later : (test : Task → Bool) (n : ℕ) → ((t : Task) → test (ticked_by n t) ≡ test t) → (ts : List Task)
+    → filter test (map (ticked_by n) ts) ≡ map (ticked_by n) (filter test ts)
+filter_later test n same [] = refl
+filter_later test n same (t ∷ ts) =
+    ap (λ b. cond b (ticked_by n t ∷ filter test (map (ticked_by n) ts)) (filter test (map (ticked_by n) ts))) (same t)
+    ∙ by_test (test t) (filter_later test n same ts) where
+      by_test : (b : Bool) → filter test (map (ticked_by n) ts) ≡ map (ticked_by n) (filter test ts)
+          → cond b (ticked_by n t ∷ filter test (map (ticked_by n) ts)) (filter test (map (ticked_by n) ts))
+          ≡ map (ticked_by n) (cond b (t ∷ filter test ts) (filter test ts))
+      by_test true rest = ap (λ l. ticked_by n t ∷ l) rest
+      by_test false rest = rest
+
+module _ (p : Parted) (roles : HaveRoles p) (J : Instance) (z : State) (part : PartOf p J z) where
+  -- the ready jobs after ticks that keep the whole sound
+  part_later : (n : ℕ) → Keeps J (later_by n z) → PartOf (parts_later n p) J (later_by n z)
+  part_later n keeps = record {
+    valid = part.valid;
+    keeps = keeps;
+    version = part.version;
+    clock = ap (λ k. k + n) part.clock;
+    ready = subst (λ l. IsReordered l (ready_of (parts_later n p))) (sym (filter_later is_ready n (λ t. refl) z.tasks))
+        (subst (IsReordered (map (ticked_by n) (filter is_ready z.tasks)))
+        (sym (ap (λ (s : State). s.tasks) (later_parts n p roles)))
+        (mapped (filter is_ready z.tasks) (ready_of p) part.ready (ticked_by n)));
+    released = on_map (ticked_by n) (λ t. is_coming t ≡ false) z.tasks part.released;
+  }
+
+  -- no job is done by them
+  done_later : (n : ℕ) → value_sum (filter is_done (later_by n z).tasks) ≡ value_sum (filter is_done z.tasks)
+  done_later n = ap value_sum (filter_later is_done n (λ t. refl) z.tasks)
+      ∙ sum_map (ticked_by n) (λ t. t.job.value) (filter is_done z.tasks)
+
+  module _ (n mark : ℕ) (silent : (k : ℕ) → k < n → open_step J.rules (later_by k (state_of p)) ≡ Ticks)
+      (low : p.clock + n ≤ mark) where
+    -- the step after some of them
+    step_later : (k : ℕ) → k < n → Keeps J (later_by k z) → open_step J.rules (later_by k z) ≡ Ticks
+    step_later k less keeps =
+        sym (part_step (parts_later k p) J (later_by k z) (part_later k keeps))
+        ∙ ap (open_step J.rules) (later_parts k p roles) ∙ silent k less
+
+    keeps_later : (k : ℕ) → k ≤ n → Keeps J (later_by k z)
+    keeps_later zero few = subst (Keeps J) (sym (later_by-zero z)) part.keeps
+    keeps_later (suc k) few =
+        let before : Keeps J (later_by k z) = keeps_later k (omega arith) in
+        let one : k + 1 ≡ suc k = omega arith in
+        subst (λ i. Keeps J (later_by i z)) one
+        (subst (Keeps J) (ap (after (later_by k z)) (step_later k (omega arith) before) ∙ after-later_by k z)
+        (open_kept J part.valid (later_by k z) before J.rules))
+
+    -- the silent ticks from one of them on
+    ticks_from : (d k : ℕ) → k + d ≡ n → (xs : List Step) × Settles J.rules mark (later_by k z) xs (later_by n z)
+    ticks_from zero k all = ([], ap (λ i. later_by i z) (omega arith))
+    ticks_from (suc d) k all =
+        let ticks : open_step J.rules (later_by k z) ≡ Ticks =
+        step_later k (omega arith) (keeps_later k (omega arith)) in
+        let rest : (xs : List Step) × Settles J.rules mark (later_by (suc k) z) xs (later_by n z) =
+        ticks_from d (suc k) (omega arith) in
+        let more : after (later_by k z) Ticks ≡ later_by (suc k) z = after-later_by k z
+        ∙ ap (λ i. later_by i z) (omega arith) in
+        let clock : z.clock ≡ p.clock = part.clock in (
+          open_at J.rules (later_by k z) ∷ rest.0,
+          (
+            refl,
+            ap (λ m. is_late m && nat_le mark (z.clock + k)) ticks ∙ lt-leb mark (z.clock + k) (omega arith),
+            ap event_of ticks,
+            subst (λ u. Settles J.rules mark u rest.0 (later_by n z))
+                (sym (ap (after (later_by k z)) ticks ∙ more)) rest.1,
+          ),
+        )
+
+    -- a jump
+    pub jumps : SettlesTo (parts_later n p) J z mark
+    jumps =
+        let it = ticks_from n 0 (omega arith) in
+        record {
+          state = later_by n z;
+          steps = it.0;
+          settles = subst (λ u. Settles J.rules mark u it.0 (later_by n z)) (later_by-zero z) it.1;
+          part = part_later n (keeps_later n (omega arith));
+          done = done_later n;
+        }
+
+-- ---- steps one after another
+
+pub settles_none : (p : Parted) (J : Instance) (z : State) (mark : ℕ) → PartOf p J z → SettlesTo p J z mark
+settles_none p J z mark part = record { state = z; steps = []; settles = refl; part = part; done = refl }
+
+-- a silent step that isn't a tick
+pub settles_one : (p q : Parted) (J : Instance) (z : State) (mark : ℕ) (m : Move) → PartOf p J z
+    → open_step J.rules z ≡ m → is_late m ≡ false → IsSilent m
+    → q.version ≡ p.version → (after z m).clock ≡ q.clock → Leaves (change m) (ready_of p) (ready_of q) 0
+    → SettlesTo q J z mark
+settles_one p q J z mark m part is early silent version clock leaves =
+    let it = part_moves p J z part q m 0 is version clock leaves in
+    record {
+      state = after z m;
+      steps = open_at J.rules z ∷ [];
+      settles = (
+        refl,
+        ap (λ n. is_late n && nat_le mark z.clock) is ∙ ap (λ b. b && nat_le mark z.clock) early,
+        ap event_of is ∙ silent,
+        ap (after z) is,
+      );
+      part = it.0;
+      done = omega (arith, it.1);
+    }
+
+-- and further ones
+pub settles_on : (p q : Parted) (J : Instance) (z : State) (mark : ℕ) (one : SettlesTo p J z mark)
+    → SettlesTo q J one.state mark → SettlesTo q J z mark
+settles_on p q J z mark one next = record {
+  state = next.state;
+  steps = one.steps ++ next.steps;
+  settles = settles_append J.rules mark one.steps next.steps z one.state next.state one.settles next.settles;
+  part = next.part;
+  done = next.done ∙ one.done;
+}
+
+-- ---- where a silent tick is next, and where the fresh job waits
+
+module _ (p : Parted) (roles : HaveRoles p) (J : Instance) (z : State) (part : PartOf p J z) where
+  -- a job of the whole that is fresh is the fresh one
+  fresh_there : (t : Task) → IsMember t z.tasks → t.role ≡ Fresh → IsMember t (option_to_list p.fresh)
+  fresh_there t m fresh =
+      subst (IsMember t) (fresh_list p roles) (filter_member is_fresh (ready_of p) t
+      (part.ready.there t (filter_member is_ready z.tasks t m (passes is_ready t Fresh true fresh refl)))
+      (passes is_fresh t Fresh true fresh refl))
+
+  none_fresh : (o : Option Task) → p.fresh ≡ o → ((t : Task) → IsMember t (option_to_list p.fresh) → ⊥) → p.fresh ≡ None
+  none_fresh None is none = is
+  none_fresh (Some f) is none = absurd (none f (subst (λ o. IsMember f (option_to_list o)) (sym is) (inl refl)))
+
+  -- where a silent tick is next, no job is fresh, and none that waits is at its latest start
+  module _ (ticks : open_step J.rules (state_of p) ≡ Ticks) where
+    quiet : Quiet z
+    quiet = tick_quiet J.rules.ratio z Ticks (open_step J.rules z) (open_deed J part.valid z part.keeps J.rules)
+        (sym (part_step p J z part) ∙ ticks)
+
+    pub ticks_stale : p.fresh ≡ None
+    ticks_stale = none_fresh p.fresh refl (λ t m. quiet.stale t
+        (there p J z part t (in_right (option_to_list p.running) (option_to_list p.fresh ++ (p.held ++ p.waiting)) t
+        (in_left (option_to_list p.fresh) (p.held ++ p.waiting) t m))) (roles.fresh t m))
+
+    pub ticks_early : Each (λ t. p.clock < latest_start t) p.waiting
+    ticks_early t m =
+        let here : IsMember t z.tasks = there p J z part t (waits_there p J z part roles t m) in
+        let later : z.clock < latest_start t = early_waits z part.keeps.sound quiet.early t here (roles.waiting t m) in
+        omega (arith, later, part.clock)
+
+  -- the running job can have so many ticks more
+  pub had_fits : (n : ℕ) → n ≤ 1_000_000_000_000
+      → Each (λ t. t.had + n < 18_446_744_073_709_551_616) (option_to_list p.running)
+  had_fits n fits t m =
+      let here : IsMember t z.tasks =
+      there p J z part t (in_left (option_to_list p.running)
+      (option_to_list p.fresh ++ (p.held ++ p.waiting)) t m) in
+      let job : IsJob t.job = part_job p J z part t
+      (in_left (option_to_list p.running) (option_to_list p.fresh ++ (p.held ++ p.waiting)) t m) in
+      let window : t.job.release + t.job.work ≤ t.job.deadline = job.window in
+      let due : t.job.deadline ≤ 1_000_000_000_000 = job.due in
+      let had : t.had ≤ t.job.work = part.keeps.sound.at_most_work t here in
+      omega (arith, fits)
+
+-- the roles after ticks
+pub roles_later : (n : ℕ) (p : Parted) → HaveRoles p → HaveRoles (parts_later n p)
+roles_later n p roles = record {
+  running = by_running p.running roles.running;
+  fresh = roles.fresh;
+  held = roles.held;
+  waiting =
+      roles.waiting;
+} where
+  by_running : (o : Option Task) → HaveRole Running (option_to_list o)
+      → HaveRole Running (option_to_list (option_map (ticked_by n) o))
+  by_running None have t m = absurd m
+  by_running (Some u) have t (inl e) = ap (λ (x : Task). x.role) e ∙ have u (inl refl)
+  by_running (Some u) have t (inr m) = absurd m
+
+-- ---- where silent ticks stop
+
+module _ (p : Parted) (roles : HaveRoles p) where
+  -- where no job is fresh, no step is a wait
+  pub stale_no_wait : (rules : Rules) → p.fresh ≡ None → (n : ℕ) → open_step rules (state_of p) ≡ Waits n → ⊥
+  stale_no_wait rules stale n is =
+      let it = waits_says rules.ratio (view rules.version (state_of p)) n is in
+      none_is_some (sym (seen_fresh p roles ∙ stale) ∙ it.1)
+
+  -- so a silent step is a tick
+  pub stale_ticks : (rules : Rules) → p.fresh ≡ None → (m : Move) → open_step rules (state_of p) ≡ m → IsSilent m
+      → m ≡ Ticks
+  stale_ticks rules stale (Prints e) is silent = absurd (let clash : Some e ≡ None = silent in cc)
+  stale_ticks rules stale (Waits n) is silent = absurd (stale_no_wait rules stale n is)
+  stale_ticks rules stale Ticks is silent = refl
+
+-- a jump that ends where a tick is next again has reached the mark
+module _ (p : Parted) (roles : HaveRoles p) (rules : Rules) (mark n : ℕ) (low : p.clock ≤ mark)
+    (is : n ≡ still_ticks (mark - p.clock) (state_of p)) where
+  pub jump_low : p.clock + n ≤ mark
+  jump_low = let most : still_ticks (mark - p.clock) (state_of p) ≤ mark - p.clock =
+      still_within (state_of p) (mark - p.clock) in omega (arith, low, is, most)
+
+  pub jump_silent : open_step rules (state_of p) ≡ Ticks → (k : ℕ) → k < n
+      → open_step rules (later_by k (state_of p)) ≡ Ticks
+  jump_silent ticks k less = still_silent rules (state_of p) (mark - p.clock) ticks k (omega (arith, less, is))
+
+  pub jump_reaches : open_step rules (state_of (parts_later n p)) ≡ Ticks → mark ≤ p.clock + n
+  jump_reaches again = by_test (nat_lt n (mark - p.clock)) refl where
+    by_test : (b : Bool) → nat_lt n (mark - p.clock) ≡ b → mark ≤ p.clock + n
+    by_test true below = absurd
+        (still_due rules (state_of p) (mark - p.clock) (subst (λ m. m < mark - p.clock) is (ltb-true _ _ below))
+        (subst (λ m. open_step rules (later_by m (state_of p)) ≡ Ticks) is
+        (ap (open_step rules) (sym (later_parts n p roles)) ∙ again)))
+    by_test false above = let far : mark - p.clock ≤ n = ltb-false _ _ above in omega arith

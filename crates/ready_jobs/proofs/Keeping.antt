@@ -1,0 +1,465 @@
+-- The parts are kept where jobs go from one to another.
+use Rattle.std.proofs.Common.{max, ◌-◌, ◌≡◌, ℕ, suc, ◌+◌, ◌≤◌, ◌<◌, ◌⊎◌, inl, inr, List, [], ◌∷◌, ◌++◌, length, map}
+use Rattle.std.proofs.Common.{reverse, refl, sym, ap, ◌∙◌, subst, arith}
+use Rattle.std.specs.Prelude.{Option, Some, None}
+use Rattle.std.specs.Option.{option_to_list, option_map}
+use Rattle.std.proofs.lemmas.List.{length-append, length-map}
+use Rattle.dover_model.specs.JobFacts.{JobFacts}
+use Rattle.dover_model.specs.declared.events.Role.TheVariants.{Fresh, Waiting, Held, Running}
+use Rattle.dover_model.specs.declared.events.Task.{Task}
+use Rattle.dover_model.specs.declared.events.Version.{Version}
+use Rattle.dover_model.specs.Entries.{entry_of}
+use Rattle.dover_model.specs.Jumps.{ticked_by}
+use Rattle.dover_model.specs.Step.{with_role}
+use Rattle.dover_model.specs.Sound.{IsMember, Each}
+use Rattle.privileged_queue.specs.Stack.{Stack}
+use Rattle.ready_jobs.specs.Pools.{Pooled}
+use Rattle.ready_jobs.specs.Parts.{Parted, AreParts, HaveRole, HaveRoles, ready_of, head_of, tail_of}
+use Rattle.ready_jobs.specs.Reordered.{IsReordered}
+use Rattle.ready_jobs.proofs.Reordering.{in_left, in_right, each_both, as_many}
+
+-- each of at most one
+each_option : (P : Task → Type 0) (o : Option Task) → ((t : Task) → o ≡ Some t → P t) → Each P (option_to_list o)
+each_option P None all t m = absurd m
+each_option P (Some u) all t (inl e) = subst P (sym e) (all u refl)
+each_option P (Some u) all t (inr m) = absurd m
+
+module _ (p : Parted) (rooms : Stack) (pool : Pooled) (capacity : ℕ) (kept : AreParts p rooms pool capacity) where
+  abbrev small : Task → Type 0
+  small t = t.number < 1_048_576
+
+  abbrev A : List Task
+  A = option_to_list p.running
+
+  abbrev B : List Task
+  B = option_to_list p.fresh
+
+  small_running : Each small A
+  small_running t m = kept.small t (in_left A (B ++ (p.held ++ p.waiting)) t m)
+
+  small_fresh : Each small B
+  small_fresh t m = kept.small t (in_right A (B ++ (p.held ++ p.waiting)) t (in_left B (p.held ++ p.waiting) t m))
+
+  small_held : Each small p.held
+  small_held t m = kept.small t
+      (in_right A (B ++ (p.held ++ p.waiting)) t (in_right B (p.held ++ p.waiting) t (in_left p.held p.waiting t m)))
+
+  small_waiting : Each small p.waiting
+  small_waiting t m = kept.small t
+      (in_right A (B ++ (p.held ++ p.waiting)) t (in_right B (p.held ++ p.waiting) t (in_right p.held p.waiting t m)))
+
+  small_parts : (a b c d : List Task) → Each small a → Each small b → Each small c → Each small d
+      → Each small (a ++ (b ++ (c ++ d)))
+  small_parts a b c d ia ib ic id =
+      each_both small a (b ++ (c ++ d)) ia (each_both small b (c ++ d) ib (each_both small c d ic id))
+
+  -- how many there are
+  four_length : (a b c d : List Task) → length (a ++ (b ++ (c ++ d))) ≡ length a + (length b + (length c + length d))
+  four_length a b c d = omega (arith, length-append a (b ++ (c ++ d)), length-append b (c ++ d), length-append c d)
+
+  -- the running job goes
+  pub completed_kept : AreParts (record p { running = None }) rooms pool capacity
+  completed_kept = record {
+    roles = record {
+      running = λ t m. absurd m;
+      fresh = kept.roles.fresh;
+      held = kept.roles.held;
+      waiting =
+          kept.roles.waiting;
+    };
+    held = kept.held;
+    latest = kept.latest;
+    few = omega (arith, kept.few, four_length A B p.held p.waiting, four_length [] B p.held p.waiting);
+    small = small_parts [] B p.held p.waiting (λ t m. absurd m) small_fresh small_held small_waiting;
+    most = kept.most;
+    pool_room = kept.pool_room;
+    held_room = kept.held_room;
+    stack_room = kept.stack_room;
+  }
+
+  -- the fresh job runs
+  pub begun_kept : (f : Task) → p.running ≡ None → p.fresh ≡ Some f
+      → AreParts (record p { running = Some (with_role f Running); fresh = None }) rooms pool capacity
+  begun_kept f free is = record {
+    roles = record {
+      running = λ t m. one t m;
+      fresh = λ t m. absurd m;
+      held = kept.roles.held;
+      waiting =
+          kept.roles.waiting;
+    };
+    held = kept.held;
+    latest = kept.latest;
+    few = omega (
+      arith,
+      kept.few,
+      four_length A B p.held p.waiting,
+      four_length (with_role f Running ∷ []) [] p.held p.waiting,
+      ap (λ o. length (option_to_list o)) is,
+    );
+    small = small_parts (with_role f Running ∷ []) [] p.held p.waiting one_small
+        (λ t m. absurd m) small_held small_waiting;
+    most = kept.most;
+    pool_room = kept.pool_room;
+    held_room = kept.held_room;
+    stack_room = kept.stack_room;
+  } where
+    one : HaveRole Running (with_role f Running ∷ [])
+    one t (inl e) = ap (λ (u : Task). u.role) e
+    one t (inr m) = absurd m
+
+    one_small : Each small (with_role f Running ∷ [])
+    one_small t (inl e) = subst small (sym e)
+        (small_fresh f (subst (λ o. IsMember f (option_to_list o)) (sym is) (inl refl)))
+    one_small t (inr m) = absurd m
+
+  -- the first held job runs
+  pub resumed_kept : (h : Task) (rest : List Task) (left : Stack) (room : ℕ) → p.running ≡ None → p.held ≡ h ∷ rest
+      → left.held ≡ map entry_of rest → left.latest ≡ rooms.latest → left.spare ≡ rooms.spare + 1 → p.room ≤ room
+      → AreParts (record p { running = Some (with_role h Running); held = rest }) left pool room
+  resumed_kept h rest left room free is rooms_are latest spare fits = record {
+    roles = record {
+      running = one;
+      fresh = kept.roles.fresh;
+      held = λ t m. kept.roles.held t (subst (IsMember t) (sym is) (inr m));
+      waiting = kept.roles.waiting;
+    };
+    held = rooms_are;
+    latest = omega (arith, kept.latest, latest);
+    few = omega (
+      arith,
+      kept.few,
+      four_length A B p.held p.waiting,
+      four_length (with_role h Running ∷ []) B rest p.waiting,
+      ap (λ l. length l) is,
+      ap (λ o. length (option_to_list o)) free,
+    );
+    small = small_parts (with_role h Running ∷ []) B rest p.waiting one_small small_fresh
+        (λ t m. small_held t (subst (IsMember t) (sym is) (inr m))) small_waiting;
+    most = kept.most;
+    pool_room = kept.pool_room;
+    held_room = omega (
+      arith,
+      kept.held_room,
+      spare,
+      ap (λ l. length l) rooms_are,
+      ap (λ l. length l) kept.held,
+      ap (λ l. length (map entry_of l)) is,
+    );
+    stack_room = fits;
+  } where
+    one : HaveRole Running (with_role h Running ∷ [])
+    one t (inl e) = ap (λ (u : Task). u.role) e
+    one t (inr m) = absurd m
+
+    one_small : Each small (with_role h Running ∷ [])
+    one_small t (inl e) = subst small (sym e) (small_held h (subst (IsMember h) (sym is) (inl refl)))
+    one_small t (inr m) = absurd m
+
+  -- a job comes
+  pub come_kept : (n clock : ℕ) (j : JobFacts) → p.fresh ≡ None → length (ready_of p) < p.room → n < 1_048_576
+      → p.clock ≤ clock
+      → AreParts (record p { clock = clock; fresh = Some (record { number = n; job = j; role = Fresh; had = 0 }) })
+      rooms pool capacity
+  come_kept n clock j stale some less ahead = record {
+    roles = record { running = kept.roles.running; fresh = one; held = kept.roles.held; waiting = kept.roles.waiting };
+    held = kept.held;
+    latest = omega (arith, kept.latest, ahead);
+    few = omega (
+      arith,
+      some,
+      four_length A B p.held p.waiting,
+      four_length A (job ∷ []) p.held p.waiting,
+      ap (λ o. length (option_to_list o)) stale,
+    );
+    small = small_parts A (job ∷ []) p.held p.waiting small_running one_small small_held small_waiting;
+    most = kept.most;
+    pool_room = kept.pool_room;
+    held_room = kept.held_room;
+    stack_room = kept.stack_room;
+  } where
+    job : Task
+    job = record { number = n; job = j; role = Fresh; had = 0 }
+
+    one : HaveRole Fresh (job ∷ [])
+    one t (inl e) = ap (λ (u : Task). u.role) e
+    one t (inr m) = absurd m
+
+    one_small : Each small (job ∷ [])
+    one_small t (inl e) = subst small (sym e) less
+    one_small t (inr m) = absurd m
+
+  -- ticks pass
+  pub ticked_kept : (n : ℕ)
+      → AreParts (record p { clock = p.clock + n; running = option_map (ticked_by n) p.running }) rooms pool capacity
+  ticked_kept n = record {
+    roles = record {
+      running = roles_later p.running kept.roles.running;
+      fresh = kept.roles.fresh;
+      held =
+          kept.roles.held;
+      waiting = kept.roles.waiting;
+    };
+    held = kept.held;
+    latest = omega (arith, kept.latest);
+    few = omega (
+      arith,
+      kept.few,
+      four_length A B p.held p.waiting,
+      four_length (option_to_list (option_map (ticked_by n) p.running)) B p.held p.waiting,
+      as_long p.running,
+    );
+    small = small_parts (option_to_list (option_map (ticked_by n) p.running)) B p.held p.waiting
+        (small_later p.running small_running) small_fresh small_held small_waiting;
+    most = kept.most;
+    pool_room = kept.pool_room;
+    held_room = kept.held_room;
+    stack_room = kept.stack_room;
+  } where
+    as_long : (o : Option Task) → length (option_to_list (option_map (ticked_by n) o)) ≡ length (option_to_list o)
+    as_long None = refl
+    as_long (Some t) = refl
+
+    roles_later : (o : Option Task) → HaveRole Running (option_to_list o)
+        → HaveRole Running (option_to_list (option_map (ticked_by n) o))
+    roles_later None have t m = absurd m
+    roles_later (Some u) have t (inl e) = ap (λ (x : Task). x.role) e ∙ have u (inl refl)
+    roles_later (Some u) have t (inr m) = absurd m
+
+    small_later : (o : Option Task) → Each small (option_to_list o)
+        → Each small (option_to_list (option_map (ticked_by n) o))
+    small_later None have t m = absurd m
+    small_later (Some u) have t (inl e) = subst small (sym e) (have u (inl refl))
+    small_later (Some u) have t (inr m) = absurd m
+
+  -- another version
+  pub versioned_kept : (v : Version) → AreParts (record p { version = v }) rooms (record pool { version = v }) capacity
+  versioned_kept v = record {
+    roles = record {
+      running = kept.roles.running;
+      fresh = kept.roles.fresh;
+      held = kept.roles.held;
+      waiting =
+          kept.roles.waiting;
+    };
+    held = kept.held;
+    latest = kept.latest;
+    few = kept.few;
+    small = kept.small;
+    most = kept.most;
+    pool_room = kept.pool_room;
+    held_room = kept.held_room;
+    stack_room = kept.stack_room;
+  }
+
+  -- more room
+  pub reserved_kept : (room more : ℕ) (left : Stack) (pool' : Pooled) → left.held ≡ rooms.held
+      → left.latest ≡ rooms.latest → p.room ≤ room → room ≤ 1_000_000
+      → room ≤ pool'.room → room ≤ length rooms.held + left.spare → room ≤ more
+      → AreParts (record p { room = room }) left pool' more
+  reserved_kept room more left pool' same latest low most fits fits_held fits_stack = record {
+    roles = record {
+      running = kept.roles.running;
+      fresh = kept.roles.fresh;
+      held = kept.roles.held;
+      waiting =
+          kept.roles.waiting;
+    };
+    held = same ∙ kept.held;
+    latest = omega (arith, kept.latest, latest);
+    few = omega (arith, kept.few, low);
+    small = kept.small;
+    most = most;
+    pool_room = fits;
+    held_room = omega (arith, fits_held, ap (λ l. length l) same);
+    stack_room = fits_stack;
+  }
+
+  -- the fresh job waits
+  pub fresh_small : (f : Task) → p.fresh ≡ Some f → f.number < 1_048_576
+  fresh_small f is = small_fresh f (subst (λ o. IsMember f (option_to_list o)) (sym is) (inl refl))
+
+  pub stayed_kept : (f : Task) (pool' : Pooled) → p.fresh ≡ Some f
+      → IsReordered (with_role f Waiting ∷ p.waiting) pool'.tasks → pool'.room ≡ pool.room
+      → AreParts (record p { fresh = None; waiting = pool'.tasks }) rooms pool' capacity
+  stayed_kept f pool' is more room = record {
+    roles = record {
+      running = kept.roles.running;
+      fresh = λ t m. absurd m;
+      held = kept.roles.held;
+      waiting = λ t m. waits t (more.back t m);
+    };
+    held = kept.held;
+    latest = kept.latest;
+    few = omega (
+      arith,
+      kept.few,
+      four_length A B p.held p.waiting,
+      four_length A [] p.held pool'.tasks,
+      as_many (with_role f Waiting ∷ p.waiting) pool'.tasks more,
+      ap (λ o. length (option_to_list o)) is,
+    );
+    small = small_parts A [] p.held pool'.tasks small_running (λ t m. absurd m) small_held
+        (λ t m. few_one t (more.back t m));
+    most = kept.most;
+    pool_room = omega (arith, kept.pool_room, room);
+    held_room = kept.held_room;
+    stack_room = kept.stack_room;
+  } where
+    waits : (t : Task) → IsMember t (with_role f Waiting ∷ p.waiting) → t.role ≡ Waiting
+    waits t (inl e) = ap (λ (u : Task). u.role) e
+    waits t (inr m) = kept.roles.waiting t m
+
+    few_one : (t : Task) → IsMember t (with_role f Waiting ∷ p.waiting) → small t
+    few_one t (inl e) = subst small (sym e) (fresh_small f is)
+    few_one t (inr m) = small_waiting t m
+
+  -- a waiting job runs
+  pub started_kept : (o : Task) (pool' : Pooled) → p.running ≡ None → IsReordered p.waiting (o ∷ pool'.tasks)
+      → pool'.room ≡ pool.room
+      → AreParts (record p { running = Some (with_role o Running); waiting = pool'.tasks }) rooms pool' capacity
+  started_kept o pool' free less room = record {
+    roles = record {
+      running = one;
+      fresh = kept.roles.fresh;
+      held = kept.roles.held;
+      waiting = λ t m. kept.roles.waiting t (less.back t (inr m));
+    };
+    held = kept.held;
+    latest = kept.latest;
+    few = omega (
+      arith,
+      kept.few,
+      four_length A B p.held p.waiting,
+      four_length (with_role o Running ∷ []) B p.held pool'.tasks,
+      as_many p.waiting (o ∷ pool'.tasks) less,
+      ap (λ q. length (option_to_list q)) free,
+    );
+    small = small_parts (with_role o Running ∷ []) B p.held pool'.tasks one_small small_fresh small_held
+        (λ t m. small_waiting t (less.back t (inr m)));
+    most = kept.most;
+    pool_room = omega (arith, kept.pool_room, room);
+    held_room = kept.held_room;
+    stack_room = kept.stack_room;
+  } where
+    one : HaveRole Running (with_role o Running ∷ [])
+    one t (inl e) = ap (λ (u : Task). u.role) e
+    one t (inr m) = absurd m
+
+    one_small : Each small (with_role o Running ∷ [])
+    one_small t (inl e) = subst small (sym e) (small_waiting o (less.back o (inl refl)))
+    one_small t (inr m) = absurd m
+
+  -- the pool is another one with the same jobs
+  pub same_kept : (pool' : Pooled) → pool'.tasks ≡ p.waiting → pool'.room ≡ pool.room
+      → AreParts (record p { waiting = pool'.tasks }) rooms pool' capacity
+  same_kept pool' same room = subst (λ l. AreParts (record p { waiting = l }) rooms pool' capacity) (sym same) (record {
+    roles = record {
+      running = kept.roles.running;
+      fresh = kept.roles.fresh;
+      held = kept.roles.held;
+      waiting =
+          kept.roles.waiting;
+    };
+    held = kept.held;
+    latest = kept.latest;
+    few = kept.few;
+    small = kept.small;
+    most = kept.most;
+    pool_room = omega (arith, kept.pool_room, room);
+    held_room = kept.held_room;
+    stack_room = kept.stack_room;
+  })
+
+  -- a waiting job goes
+  pub less_kept : (o : Task) (pool' : Pooled) → IsReordered p.waiting (o ∷ pool'.tasks) → pool'.room ≡ pool.room
+      → AreParts (record p { waiting = pool'.tasks }) rooms pool' capacity
+  less_kept o pool' less room = record {
+    roles = record {
+      running = kept.roles.running;
+      fresh = kept.roles.fresh;
+      held = kept.roles.held;
+      waiting = λ t m. kept.roles.waiting t (less.back t (inr m));
+    };
+    held = kept.held;
+    latest = kept.latest;
+    few = omega (
+      arith,
+      kept.few,
+      four_length A B p.held p.waiting,
+      four_length A B p.held pool'.tasks,
+      as_many p.waiting (o ∷ pool'.tasks) less,
+    );
+    small = small_parts A B p.held pool'.tasks small_running small_fresh small_held
+        (λ t m. small_waiting t (less.back t (inr m)));
+    most = kept.most;
+    pool_room = omega (arith, kept.pool_room, room);
+    held_room = kept.held_room;
+    stack_room = kept.stack_room;
+  }
+
+  pub abandoned_kept : (o : Option Task) (pool' : Pooled)
+      → ((t : Task) → o ≡ Some t → IsReordered p.waiting (t ∷ pool'.tasks))
+      → (o ≡ None → pool'.tasks ≡ p.waiting) → pool'.room ≡ pool.room
+      → AreParts (record p { waiting = pool'.tasks }) rooms pool' capacity
+  abandoned_kept None pool' less none room = same_kept pool' (none refl) room
+  abandoned_kept (Some t) pool' less none room = less_kept t pool' (less t refl) room
+
+  -- the running job is held, and the fresh one runs
+  pub busy_two : (r f : Task) → p.running ≡ Some r → p.fresh ≡ Some f → length p.held + 2 ≤ p.room
+  busy_two r f runs is = omega (
+    arith,
+    kept.few,
+    four_length A B p.held p.waiting,
+    ap (λ o. length (option_to_list o)) runs,
+    ap (λ o. length (option_to_list o)) is,
+  )
+
+  pub preempted_kept : (r f : Task) (more : Stack) (room : ℕ) → p.running ≡ Some r → p.fresh ≡ Some f
+      → more ≡ record { held = entry_of r ∷ rooms.held; latest = max rooms.latest p.clock; spare = rooms.spare - 1 }
+      → p.room ≤ room
+      → AreParts (record p { running = Some (with_role f Running); fresh = None; held = with_role r Held ∷ p.held })
+      more pool room
+  preempted_kept r f more room runs is more_is fits = record {
+    roles = record { running = one; fresh = λ t m. absurd m; held = holds; waiting = kept.roles.waiting };
+    held = ap (λ (s : Stack). s.held) more_is ∙ ap (λ l. entry_of r ∷ l) kept.held;
+    latest = omega (arith, kept.latest, ap (λ (s : Stack). s.latest) more_is);
+    few = omega (
+      arith,
+      kept.few,
+      four_length A B p.held p.waiting,
+      four_length (with_role f Running ∷ []) [] (with_role r Held ∷ p.held) p.waiting,
+      ap (λ o. length (option_to_list o)) runs,
+      ap (λ o. length (option_to_list o)) is,
+    );
+    small = small_parts (with_role f Running ∷ []) [] (with_role r Held ∷ p.held) p.waiting one_small
+        (λ t m. absurd m) held_small small_waiting;
+    most = kept.most;
+    pool_room = kept.pool_room;
+    held_room = omega (
+      arith,
+      kept.held_room,
+      busy_two r f runs is,
+      ap (λ (s : Stack). s.spare) more_is,
+      ap (λ (s : Stack). length s.held) more_is,
+      ap (λ l. length l) kept.held,
+      length-map p.held entry_of,
+    );
+    stack_room = fits;
+  } where
+    one : HaveRole Running (with_role f Running ∷ [])
+    one t (inl e) = ap (λ (u : Task). u.role) e
+    one t (inr m) = absurd m
+
+    holds : HaveRole Held (with_role r Held ∷ p.held)
+    holds t (inl e) = ap (λ (u : Task). u.role) e
+    holds t (inr m) = kept.roles.held t m
+
+    one_small : Each small (with_role f Running ∷ [])
+    one_small t (inl e) = subst small (sym e) (fresh_small f is)
+    one_small t (inr m) = absurd m
+
+    held_small : Each small (with_role r Held ∷ p.held)
+    held_small t (inl e) = subst small (sym e)
+        (small_running r (subst (λ o. IsMember r (option_to_list o)) (sym runs) (inl refl)))
+    held_small t (inr m) = small_held t m

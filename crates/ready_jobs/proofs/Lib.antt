@@ -1,0 +1,9 @@
+pub mod Reordering
+pub mod Views
+pub mod Pooling
+pub mod Seeing
+pub mod Changes
+pub mod Naming
+pub mod Following
+pub mod Courses
+pub mod Keeping

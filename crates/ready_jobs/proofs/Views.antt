@@ -1,0 +1,99 @@
+-- The view of jobs in another order.
+use Rattle.std.proofs.Common.{◌≡◌, ℕ, ◌+◌, ◌-◌, inl, inr, List, map, refl, sym, ap, ◌∙◌, subst, Bool, true, false, cond}
+use Rattle.std.proofs.Common.{arith, nat_lt}
+use Rattle.std.specs.List.{filter, sum_by}
+use Rattle.std.proofs.lemmas.Bool.{cases_eq}
+use Rattle.dover_model.specs.declared.events.Version.{Version}
+use Rattle.dover_model.specs.declared.events.Entry.{Entry}
+use Rattle.dover_model.specs.declared.events.Task.{Task}
+use Rattle.dover_model.specs.declared.events.Role.TheVariants.{Fresh, Running}
+use Rattle.dover_model.specs.Entries.{IsStrictOrder, entry_of, is_due_before, is_latest_before}
+use Rattle.dover_model.specs.Instance.{Rules}
+use Rattle.dover_model.specs.State.{State, is_coming, is_fresh, is_waiting, is_held, is_running, is_privileged, left}
+use Rattle.dover_model.specs.State.{least, demand_up_to, room}
+use Rattle.dover_model.specs.Orders.{due_first, latest_first, first}
+use Rattle.dover_model.specs.Step.{view, open_step, urgent_or, Ticks, is_at_latest_start}
+use Rattle.dover_model.specs.Sound.{IsMember, Each, EachTwo}
+use Rattle.dover_model.proofs.EntryOrders.{strict_by}
+use Rattle.dover_model.proofs.Members.{map_same, sum_filter, member_filter}
+use Rattle.dover_model.proofs.Tests.{never}
+use Rattle.ready_jobs.specs.Reordered.{IsReordered}
+use Rattle.ready_jobs.specs.Parts.{HaveOwnNumbers}
+use Rattle.ready_jobs.proofs.Reordering.{filtered, mapped, found_same, first_same, least_same, two_still}
+
+-- of two jobs one comes before the other, or they are one
+pub apart_or_one : (before : Entry → Entry → Bool) → IsStrictOrder before → (tasks : List Task) → HaveOwnNumbers tasks
+    → EachTwo (λ t u. before (entry_of t) (entry_of u) ≡ false → before (entry_of u) (entry_of t) ≡ false → t ≡ u) tasks
+apart_or_one before strict tasks own t u mt mu ahead back = elim (cases_eq t.number u.number) [
+  | inl same ↦ own t u mt mu same
+  | inr other ↦ never (sym back ∙ strict.total (entry_of t) (entry_of u) other ahead)
+]
+
+-- of some of them
+pub own_some : (p : Task → Bool) (tasks : List Task) → HaveOwnNumbers tasks → HaveOwnNumbers (filter p tasks)
+own_some p tasks own t u mt mu = own t u (member_filter p tasks t mt).0 (member_filter p tasks u mu).0
+
+-- the first by an order of entries
+pub first_still : (before : Entry → Entry → Bool) → IsStrictOrder before → (xs ys : List Task) → IsReordered xs ys
+    → HaveOwnNumbers xs
+    → first (λ a b. before (entry_of a) (entry_of b)) ys ≡ first (λ a b. before (entry_of a) (entry_of b)) xs
+first_still before strict xs ys same own = first_same (λ a b. before (entry_of a) (entry_of b))
+    (λ a b. strict.one_way (entry_of a) (entry_of b))
+    (λ a b c. strict.onward (entry_of a) (entry_of b) (entry_of c)) xs ys same
+    (apart_or_one before strict xs own)
+
+-- the room
+pub room_still : (clock : ℕ) (xs ys : List Task) → IsReordered xs ys → room clock ys ≡ room clock xs
+room_still clock xs ys same =
+    ap least (map_same (λ t. t.job.deadline - (clock + demand_up_to ys t))
+    (λ t. t.job.deadline - (clock + demand_up_to xs t)) ys
+    (λ t m. ap (λ n. t.job.deadline - (clock + (left t + n))) (demands t)))
+    ∙ least_same (map (λ t. t.job.deadline - (clock + demand_up_to xs t)) xs)
+    (map (λ t. t.job.deadline - (clock + demand_up_to xs t)) ys)
+    (mapped xs ys same (λ t. t.job.deadline - (clock + demand_up_to xs t))) where
+      demands : (t : Task) → sum_by left (filter (λ u. nat_lt u.job.deadline t.job.deadline) ys)
+          ≡ sum_by left (filter (λ u. nat_lt u.job.deadline t.job.deadline) xs)
+      demands t = (filtered xs ys same (λ u. nat_lt u.job.deadline t.job.deadline)).weighs left
+
+-- what is known of the jobs
+pub record AreApart (tasks : List Task) : Type 0 where
+  pub own : HaveOwnNumbers tasks
+  pub one_runs : EachTwo (λ t u. is_running t ≡ true → is_running u ≡ true → t ≡ u) tasks
+  pub one_fresh : EachTwo (λ t u. is_fresh t ≡ true → is_fresh u ≡ true → t ≡ u) tasks
+  pub none_comes : Each (λ t. is_coming t ≡ false) tasks
+
+module _ (version : Version) (clock : ℕ) (xs ys : List Task) (same : IsReordered xs ys) (known : AreApart xs) where
+  abbrev here : State
+  here = record { clock = clock; tasks = xs }
+
+  abbrev there : State
+  there = record { clock = clock; tasks = ys }
+
+  -- the view is the same
+  pub view_still : view version there ≡ view version here
+  view_still = rw (
+    found_same xs ys same is_running known.one_runs,
+    found_same xs ys same is_fresh known.one_fresh,
+    found_same xs ys same is_coming (λ t u mt mu comes other. never (sym (known.none_comes t mt) ∙ comes)),
+    first_still (is_due_before version) (strict_by (λ e. e.deadline) version) (filter is_held xs) (filter is_held ys)
+        (filtered xs ys same is_held)
+        (own_some is_held xs known.own),
+    first_still (is_due_before version) (strict_by (λ e. e.deadline) version) (filter is_waiting xs)
+        (filter is_waiting ys)
+        (filtered xs ys same is_waiting) (own_some is_waiting xs known.own),
+    first_still (is_latest_before version) (strict_by (λ e. e.latest) version)
+        (filter (is_at_latest_start here) (filter is_waiting xs))
+        (filter (is_at_latest_start here) (filter is_waiting ys))
+        (filtered (filter is_waiting xs) (filter is_waiting ys) (filtered xs ys same is_waiting)
+        (is_at_latest_start here))
+        (own_some (is_at_latest_start here) (filter is_waiting xs) (own_some is_waiting xs known.own)),
+    room_still clock (filter is_held xs) (filter is_held ys) (filtered xs ys same is_held),
+    room_still clock (filter is_privileged xs) (filter is_privileged ys) (filtered xs ys same is_privileged),
+    (filtered xs ys same is_privileged).weighs (λ t. t.job.value),
+  )
+
+-- so is the open step
+pub step_still : (rules : Rules) (clock : ℕ) (xs ys : List Task) → IsReordered xs ys → AreApart xs
+    → open_step rules (record { clock = clock; tasks = ys }) ≡ open_step rules (record { clock = clock; tasks = xs })
+step_still rules clock xs ys same known =
+    ap (λ v. urgent_or rules.ratio v Ticks) (view_still rules.version clock xs ys same known)

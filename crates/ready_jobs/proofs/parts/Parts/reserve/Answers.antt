@@ -1,0 +1,76 @@
+use Rattle.std.proofs.Common.{◌≡◌, ◌≤◌, ◌+◌, ◌-◌, ◌<◌, max, reverse, length, map, refl, sym, ap, ◌∙◌, subst, arith}
+use Rattle.std.specs.Prelude.{vec_capacity}
+use Rattle.std.proofs.lemmas.List.{length-map, length-reverse}
+use Rattle.dover_model.specs.Entries.{entry_of}
+use Rattle.privileged_queue.specs.Stack.{Stack}
+use Rattle.ready_jobs.specs.Pools.{Pooled}
+use Rattle.ready_jobs.specs.Parts.{Parted, AreParts}
+use Rattle.ready_jobs.specs.Kept.{parted_of}
+use Rattle.ready_jobs.proofs.Keeping.{reserved_kept}
+use Rattle.ready_jobs.proofs.parts.Parts.reserve.Goals as goal
+
+pub invariant_of-self-in_err-reserve-2 : goal.invariant_of-self-in_err-reserve-2
+invariant_of-self-in_err-reserve-2 c =
+    let inside = c.self.inside in
+    let p = parted_of inside in
+    let kept = c.self.invariant in
+    subst (λ h. AreParts (record p { held = reverse h }) c.reserve-2.new.self inside.pool
+    (vec_capacity c.reserve.new.self)) (sym c.reserve.ensures.items)
+    (subst (λ r. AreParts p r inside.pool (vec_capacity c.reserve.new.self)) (sym c.in_err-reserve-2.ensures.err)
+    (reserved_kept p inside.rooms inside.pool (vec_capacity inside.held) kept inside.room
+    (vec_capacity c.reserve.new.self) inside.rooms inside.pool refl refl
+    (omega arith) kept.most kept.pool_room kept.held_room (omega (arith, kept.stack_room, c.reserve.ensures.capacity))))
+
+pub invariant_of-self-in_err-reserve-3 : goal.invariant_of-self-in_err-reserve-3
+invariant_of-self-in_err-reserve-3 c =
+    let inside = c.self.inside in
+    let p = parted_of inside in
+    let kept = c.self.invariant in
+    let rooms = c.reserve-2.new.self in
+    let pool = c.reserve-3.new.self in
+    subst (λ h. AreParts (record p { version = pool.version; held = reverse h; waiting = pool.tasks }) rooms pool
+    (vec_capacity c.reserve.new.self))
+    (sym c.reserve.ensures.items)
+    (subst (λ v. AreParts (record p { version = v; waiting = pool.tasks }) rooms pool (vec_capacity c.reserve.new.self))
+    (sym (ap (λ (q : Pooled). q.version) c.reserve-3.ensures.kept))
+    (subst (λ ts. AreParts (record p { waiting = ts }) rooms pool (vec_capacity c.reserve.new.self))
+    (sym c.reserve-3.ensures.same)
+    (reserved_kept p inside.rooms inside.pool (vec_capacity inside.held) kept inside.room
+    (vec_capacity c.reserve.new.self) rooms pool
+    (ap (λ (s : Stack). s.held) c.in_ok-reserve-2.ensures.ok)
+    (ap (λ (s : Stack). s.latest) c.in_ok-reserve-2.ensures.ok)
+    (omega arith) kept.most (omega (arith, kept.pool_room, c.in_err-reserve-3.ensures.err))
+    (omega (arith, kept.held_room, ap (λ (s : Stack). s.spare) c.in_ok-reserve-2.ensures.ok))
+    (omega (arith, kept.stack_room, c.reserve.ensures.capacity)))))
+
+pub invariant_of-self-2 : goal.invariant_of-self-2
+invariant_of-self-2 c =
+    let inside = c.self.inside in
+    let p = parted_of inside in
+    let kept = c.self.invariant in
+    let rooms = c.reserve-2.new.self in
+    let pool = c.reserve-3.new.self in
+    subst (λ h. AreParts (record p
+    { version = pool.version; held = reverse h; waiting = pool.tasks; room = c.args.room }) rooms pool
+    (vec_capacity c.reserve.new.self))
+    (sym c.reserve.ensures.items)
+    (subst (λ v. AreParts (record p { version = v; waiting = pool.tasks; room = c.args.room }) rooms pool
+    (vec_capacity c.reserve.new.self))
+    (sym (ap (λ (q : Pooled). q.version) c.reserve-3.ensures.kept))
+    (subst (λ ts. AreParts (record p { waiting = ts; room = c.args.room }) rooms pool (vec_capacity c.reserve.new.self))
+    (sym c.reserve-3.ensures.same)
+    (reserved_kept p inside.rooms inside.pool (vec_capacity inside.held) kept c.args.room
+    (vec_capacity c.reserve.new.self) rooms pool
+    (ap (λ (s : Stack). s.held) c.in_ok-reserve-2.ensures.ok)
+    (ap (λ (s : Stack). s.latest) c.in_ok-reserve-2.ensures.ok)
+    (omega (arith, c.if-room-self.false)) c.requires (omega (arith, c.in_ok-reserve-3.ensures.ok))
+    (omega (
+      arith,
+      ap (λ (s : Stack). s.spare) c.in_ok-reserve-2.ensures.ok,
+      ap (λ l. length l) kept.held,
+      length-map p.held entry_of,
+      length-reverse inside.held.items,
+      inside.held.ok.0,
+      c.len-held.ensures,
+    ))
+    (omega (arith, c.in_ok-reserve.ensures.ok, inside.held.ok.0)))))

@@ -1,0 +1,49 @@
+use Rattle.std.proofs.Common.{inl, ◌≡◌, ◌≤◌, ◌+◌, ◌<◌, ◌∷◌, [], ◌++◌, map, min, Some, None, refl, sym, ap, ◌∙◌, subst}
+use Rattle.std.proofs.Common.{length, arith}
+use Rattle.std.specs.Prelude.{unwrap_or}
+use Rattle.std.specs.Option.{option_to_list}
+use Rattle.std.specs.List.{filter, find, fold}
+use Rattle.dover_model.specs.declared.events.Entry.{Entry}
+use Rattle.dover_model.specs.declared.events.Task.{Task}
+use Rattle.dover_model.specs.Entries.{entry_of, room_of}
+use Rattle.dover_model.specs.State.{is_fresh, running, held, waiting, privileged, room, left, latest_start, value_sum}
+use Rattle.dover_model.specs.Orders.{due_first, latest_first, first}
+use Rattle.dover_model.specs.Sound.{Each, IsMember}
+use Rattle.dover_model.specs.Step.{view, arrival, is_at_latest_start}
+use Rattle.dover_model.proofs.Members.{on_map, sum_map}
+use Rattle.plain_step.specs.Cases.{arrival_of}
+use Rattle.plain_step.specs.Dues.{still_ticks, until_latest, until_done}
+use Rattle.privileged_queue.specs.Stack.{IsByDeadline, room_at, value_of}
+use Rattle.queued_jobs.proofs.Deadlines.{room_map}
+use Rattle.queued_jobs.proofs.Looking.{room_or_none}
+use Rattle.std.proofs.lemmas.List.Sums.{sum_by-cons}
+use Rattle.ready_jobs.specs.Parts.{Parted, AreSound, HaveOwnNumbers, AreModest, ready_of, state_of, head_of}
+use Rattle.ready_jobs.specs.Kept.{parted_of}
+use Rattle.ready_jobs.proofs.Seeing.{seen_running, seen_fresh, seen_coming, held_list, waiting_list, privileged_list}
+use Rattle.ready_jobs.proofs.Seeing.{held_top, late_none, late_later, late_found}
+use Rattle.ready_jobs.proofs.Seeing.{before_latest, before_none}
+use Rattle.ready_jobs.proofs.parts.Parts.room_busy.Goals as goal
+
+pub room_with-requires-clause-first : goal.room_with-requires-clause-first
+room_with-requires-clause-first c =
+    let inside = c.self.inside in
+    let p = parted_of inside in
+    let sound : AreSound p = subst AreSound (sym c.self.view_is) c.requires.sound in
+    let runs = ap (λ (q : Parted). q.running) c.self.view_is ∙ c.requires.running in
+    let later = sound.first c.args.r.now
+    (subst (λ o. IsMember c.args.r.now (option_to_list o)) (sym runs) (inl refl)) in
+    subst (λ d. Each (λ f. d < f.deadline) inside.rooms.held) (sym (ap (λ (e : Entry). e.deadline) c.entry_of.ensures))
+    (subst (Each (λ f. c.args.r.now.job.deadline < f.deadline)) (sym c.self.invariant.held)
+    (on_map entry_of (λ f. c.args.r.now.job.deadline < f.deadline) p.held later))
+
+pub returns : goal.returns
+returns c =
+    let inside = c.self.inside in
+    let p = parted_of inside in
+    let runs = ap (λ (q : Parted). q.running) c.self.view_is ∙ c.requires.running in
+    c.room_with.ensures ∙ ap (λ e. room_of inside.clock (e ∷ inside.rooms.held)) c.entry_of.ensures
+    ∙ ap (λ l. room_of inside.clock (entry_of c.args.r.now ∷ l)) c.self.invariant.held
+    ∙ room_map inside.clock (c.args.r.now ∷ p.held)
+    ∙ sym (ap (room inside.clock)
+    (privileged_list p c.self.invariant.roles ∙ ap (λ o. option_to_list o ++ p.held) runs))
+    ∙ ap (λ (q : Parted). room q.clock (privileged (state_of q))) c.self.view_is

@@ -1,0 +1,51 @@
+use Rattle.std.proofs.Common.{inl, inr, ◌≡◌, ◌≤◌, ◌-◌, ◌+◌, ◌<◌, ◌∷◌, [], ◌++◌, map, min, Some, None, refl, sym, ap}
+use Rattle.std.proofs.Common.{◌∙◌, subst, length, arith}
+use Rattle.std.specs.Prelude.{vec_capacity}
+use Rattle.std.specs.Option.{option_to_list}
+use Rattle.std.specs.List.{filter, find, fold}
+use Rattle.dover_model.specs.declared.events.Task.{Task}
+use Rattle.dover_model.specs.declared.events.Role.TheVariants.{Running, Waiting}
+use Rattle.dover_model.specs.State.{running, waiting, latest_start}
+use Rattle.dover_model.specs.Step.{with_role, is_at_latest_start}
+use Rattle.dover_model.specs.Orders.{due_first, latest_first, first}
+use Rattle.dover_model.specs.Sound.{Each}
+use Rattle.plain_step.specs.Dues.{still_ticks, until_latest, until_done}
+use Rattle.privileged_queue.specs.Stack.{Stack}
+use Rattle.queued_jobs.proofs.Firsts.{first_member}
+use Rattle.ready_jobs.specs.Reordered.{IsReordered}
+use Rattle.ready_jobs.specs.Pools.{Pooled}
+use Rattle.ready_jobs.specs.Parts.{Parted, AreParts, AreSound, ready_of, state_of}
+use Rattle.ready_jobs.specs.Kept.{parted_of}
+use Rattle.ready_jobs.proofs.Seeing.{waiting_list, late_none, late_later, late_found, before_latest, before_none}
+use Rattle.ready_jobs.proofs.Seeing.{still_is}
+use Rattle.ready_jobs.proofs.Keeping.{versioned_kept, reserved_kept, fresh_small, stayed_kept, started_kept, same_kept}
+use Rattle.ready_jobs.proofs.Keeping.{abandoned_kept}
+use Rattle.ready_jobs.proofs.parts.Parts.silent_ticks.Goals as goal
+
+pub first_latest-requires-clause-modest : goal.first_latest-requires-clause-modest
+first_latest-requires-clause-modest c = (subst AreSound (sym c.self.view_is) c.requires.sound).modest
+
+pub returns-in-Some : goal.returns-in-Some
+returns-in-Some c =
+    let p = parted_of c.self.inside in
+    let early = subst (λ (q : Parted). Each (λ t. q.clock < latest_start t) q.waiting)
+    (sym c.self.view_is) c.requires.early in
+    let before = c.until_done-before.ensures
+    ∙ ap (λ (q : Parted). until_done (running (state_of q)) c.args.most) (sym c.self.view_is) in
+    c.min.ensures ∙ ap (λ n. min n c.saturating_sub.result) before
+    ∙ ap (min (until_done (running (state_of p)) c.args.most))
+    (c.saturating_sub.ensures ∙ ap (λ n. n - p.clock) c.latest_start.ensures)
+    ∙ before_latest p.version p.clock (until_done (running (state_of p)) c.args.most) p.waiting c.in-Some.x
+    (sym c.first_latest.ensures ∙ c.in-Some.is) early
+    ∙ still_is p c.self.invariant.roles c.args.most
+    ∙ ap (λ (q : Parted). still_ticks c.args.most (state_of q)) c.self.view_is
+
+pub returns-in-None : goal.returns-in-None
+returns-in-None c =
+    let p = parted_of c.self.inside in
+    let before = c.until_done-before.ensures
+    ∙ ap (λ (q : Parted). until_done (running (state_of q)) c.args.most) (sym c.self.view_is) in
+    before ∙ before_none p.version p.clock (until_done (running (state_of p)) c.args.most) p.waiting
+    (sym c.first_latest.ensures ∙ c.in-None.is)
+    ∙ still_is p c.self.invariant.roles c.args.most
+    ∙ ap (λ (q : Parted). still_ticks c.args.most (state_of q)) c.self.view_is

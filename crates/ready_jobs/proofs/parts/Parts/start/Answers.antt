@@ -1,0 +1,54 @@
+use Rattle.std.proofs.Common.{inl, inr, ◌≡◌, ◌≤◌, ◌-◌, ◌+◌, ◌<◌, ◌∷◌, [], ◌++◌, map, min, Some, None, refl, sym, ap}
+use Rattle.std.proofs.Common.{◌∙◌, subst, length, arith}
+use Rattle.std.specs.Prelude.{vec_capacity}
+use Rattle.std.specs.Option.{option_to_list}
+use Rattle.std.specs.List.{filter, find, fold}
+use Rattle.dover_model.specs.declared.events.Task.{Task}
+use Rattle.dover_model.specs.declared.events.Role.TheVariants.{Running, Waiting}
+use Rattle.dover_model.specs.State.{running, waiting, latest_start}
+use Rattle.dover_model.specs.Step.{with_role, is_at_latest_start}
+use Rattle.dover_model.specs.Orders.{due_first, latest_first, first}
+use Rattle.dover_model.specs.Sound.{Each}
+use Rattle.plain_step.specs.Dues.{still_ticks, until_latest, until_done}
+use Rattle.privileged_queue.specs.Stack.{Stack}
+use Rattle.queued_jobs.proofs.Firsts.{first_member}
+use Rattle.ready_jobs.specs.Reordered.{IsReordered}
+use Rattle.ready_jobs.specs.Pools.{Pooled}
+use Rattle.ready_jobs.specs.Parts.{Parted, AreParts, AreSound, ready_of, state_of}
+use Rattle.ready_jobs.specs.Kept.{parted_of}
+use Rattle.ready_jobs.proofs.Seeing.{waiting_list, late_none, late_later, late_found, before_latest, before_none}
+use Rattle.ready_jobs.proofs.Seeing.{still_is}
+use Rattle.ready_jobs.proofs.Keeping.{versioned_kept, reserved_kept, fresh_small, stayed_kept, started_kept, same_kept}
+use Rattle.ready_jobs.proofs.Keeping.{abandoned_kept}
+use Rattle.ready_jobs.proofs.parts.Parts.start.Goals as goal
+
+pub take_deadline-requires-clause-modest : goal.take_deadline-requires-clause-modest
+take_deadline-requires-clause-modest g c = (subst AreSound (sym c.self.view_is) c.requires.sound).modest
+
+pub invariant_of-self : goal.invariant_of-self
+invariant_of-self g c =
+    let inside = c.self.inside in
+    let after = c.take_deadline.new.self in
+    subst (λ t. AreParts (record (parted_of inside)
+    { version = after.version; running = Some t; waiting = after.tasks }) inside.rooms after
+    (vec_capacity inside.held))
+    (sym c.in_role.ensures)
+    (subst (λ v. AreParts (record (parted_of inside)
+    { version = v; running = Some (with_role c.in-Some.o Running); waiting = after.tasks }) inside.rooms after
+    (vec_capacity inside.held)) (sym (ap (λ (q : Pooled). q.version) c.take_deadline.ensures.kept))
+    (started_kept (parted_of inside) inside.rooms inside.pool
+    (vec_capacity inside.held) c.self.invariant c.in-Some.o after
+    (ap (λ (q : Parted). q.running) c.self.view_is ∙ c.requires.free)
+    (c.take_deadline.ensures.rest c.in-Some.o c.in-Some.is)
+    (ap (λ (q : Pooled). q.room) c.take_deadline.ensures.kept)))
+
+pub invariant_of-self-in_default : goal.invariant_of-self-in_default
+invariant_of-self-in_default g c =
+    let inside = c.self.inside in
+    let after = c.take_deadline.new.self in
+    subst (λ v. AreParts (record (parted_of inside) { version = v; waiting = after.tasks }) inside.rooms after
+    (vec_capacity inside.held))
+    (sym (ap (λ (q : Pooled). q.version) c.take_deadline.ensures.kept))
+    (same_kept (parted_of inside) inside.rooms inside.pool (vec_capacity inside.held) c.self.invariant after
+    (c.take_deadline.ensures.none c.in_default.is)
+    (ap (λ (q : Pooled). q.room) c.take_deadline.ensures.kept))

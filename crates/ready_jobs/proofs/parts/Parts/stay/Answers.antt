@@ -1,0 +1,43 @@
+use Rattle.std.proofs.Common.{inl, inr, ◌≡◌, ◌≤◌, ◌-◌, ◌+◌, ◌<◌, ◌∷◌, [], ◌++◌, map, min, Some, None, refl, sym, ap}
+use Rattle.std.proofs.Common.{◌∙◌, subst, length, arith}
+use Rattle.std.specs.Prelude.{vec_capacity}
+use Rattle.std.specs.Option.{option_to_list}
+use Rattle.std.specs.List.{filter, find, fold}
+use Rattle.dover_model.specs.declared.events.Task.{Task}
+use Rattle.dover_model.specs.declared.events.Role.TheVariants.{Running, Waiting}
+use Rattle.dover_model.specs.State.{running, waiting, latest_start}
+use Rattle.dover_model.specs.Step.{with_role, is_at_latest_start}
+use Rattle.dover_model.specs.Orders.{due_first, latest_first, first}
+use Rattle.dover_model.specs.Sound.{Each}
+use Rattle.plain_step.specs.Dues.{still_ticks, until_latest, until_done}
+use Rattle.privileged_queue.specs.Stack.{Stack}
+use Rattle.queued_jobs.proofs.Firsts.{first_member}
+use Rattle.ready_jobs.specs.Reordered.{IsReordered}
+use Rattle.ready_jobs.specs.Pools.{Pooled}
+use Rattle.ready_jobs.specs.Parts.{Parted, AreParts, AreSound, ready_of, state_of}
+use Rattle.ready_jobs.specs.Kept.{parted_of}
+use Rattle.ready_jobs.proofs.Seeing.{waiting_list, late_none, late_later, late_found, before_latest, before_none}
+use Rattle.ready_jobs.proofs.Seeing.{still_is}
+use Rattle.ready_jobs.proofs.Keeping.{versioned_kept, reserved_kept, fresh_small, stayed_kept, started_kept, same_kept}
+use Rattle.ready_jobs.proofs.Keeping.{abandoned_kept}
+use Rattle.ready_jobs.proofs.parts.Parts.stay.Goals as goal
+
+pub add-requires-clause-number : goal.add-requires-clause-number
+add-requires-clause-number g c =
+    let inside = c.self.inside in
+    subst (λ (t : Task). t.number < 1_048_576) (sym c.in_role.ensures)
+    (fresh_small (parted_of inside) inside.rooms inside.pool (vec_capacity inside.held) c.self.invariant c.args.f.now
+    (ap (λ (q : Parted). q.fresh) c.self.view_is ∙ c.requires.fresh))
+
+pub invariant_of-self : goal.invariant_of-self
+invariant_of-self g c =
+    let inside = c.self.inside in
+    let after = c.add.new.self in
+    subst (λ v. AreParts (record (parted_of inside) { version = v; fresh = None; waiting = after.tasks }) inside.rooms
+    after (vec_capacity inside.held))
+    (sym (ap (λ (q : Pooled). q.version) c.add.ensures.kept))
+    (stayed_kept (parted_of inside) inside.rooms inside.pool
+    (vec_capacity inside.held) c.self.invariant c.args.f.now after
+    (ap (λ (q : Parted). q.fresh) c.self.view_is ∙ c.requires.fresh)
+    (subst (λ t. IsReordered (t ∷ inside.pool.tasks) after.tasks) c.in_role.ensures c.add.ensures.more)
+    (ap (λ (q : Pooled). q.room) c.add.ensures.kept))

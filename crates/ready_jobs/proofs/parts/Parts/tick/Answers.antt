@@ -1,0 +1,22 @@
+use Rattle.std.proofs.Common.{◌≡◌, ◌≤◌, ◌+◌, ◌<◌, ◌^◌, Some, None, sym, ap, ◌∙◌, subst, arith}
+use Rattle.std.specs.Prelude.{vec_capacity}
+use Rattle.std.specs.Option.{option_to_list, option_map}
+use Rattle.dover_model.specs.Jumps.{ticked_by}
+use Rattle.dover_model.specs.Sound.{Each}
+use Rattle.ready_jobs.specs.Parts.{Parted, AreParts}
+use Rattle.ready_jobs.specs.Kept.{parted_of}
+use Rattle.ready_jobs.proofs.Keeping.{ticked_kept}
+use Rattle.ready_jobs.proofs.parts.Parts.tick.Goals as goal
+
+pub invariant_of-self : goal.invariant_of-self
+invariant_of-self c =
+    let inside = c.self.inside in
+    subst (λ o. AreParts (record (parted_of inside) { clock = inside.clock + c.args.ticks; running = o }) inside.rooms
+    inside.pool (vec_capacity inside.held))
+    (sym c.later_running-self-inside.ensures)
+    (ticked_kept (parted_of inside) inside.rooms inside.pool (vec_capacity inside.held) c.self.invariant c.args.ticks)
+
+pub later_running-self-inside-requires : goal.later_running-self-inside-requires
+later_running-self-inside-requires c =
+    subst (λ (q : Parted). Each (λ t. t.had + c.args.ticks < 18_446_744_073_709_551_616) (option_to_list q.running))
+    (sym c.self.view_is) c.requires.had

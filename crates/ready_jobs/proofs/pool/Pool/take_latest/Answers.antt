@@ -1,0 +1,69 @@
+use Rattle.std.proofs.Common.{◌≡◌, ◌∷◌, ◌+◌, ◌<◌, ◌^◌, Some, sym, ap, ◌∙◌, subst, length, arith}
+use Rattle.std.specs.Prelude.{vec_len, vec_capacity}
+use Rattle.std.specs.List.{slice_get}
+use Rattle.dover_model.specs.Orders.{latest_first, first}
+use Rattle.dover_model.proofs.Members.{some_same}
+use Rattle.dover_model.proofs.Tests.{none_is_some}
+use Rattle.ready_jobs.specs.Reordered.{IsReordered}
+use Rattle.ready_jobs.specs.Parts.{HaveOwnNumbers, AreModest}
+use Rattle.ready_jobs.specs.Pools.{Pooled, jobs_at}
+use Rattle.ready_jobs.proofs.Pooling.{latest_none, latest_found, within}
+use Rattle.ready_jobs.proofs.pool.Pool.take_latest.Goals as goal
+
+pub take_at-requires-clause-some : goal.take_at-requires-clause-some
+take_at-requires-clause-some g c =
+    let inside = c.self.inside in
+    let own = subst (λ (q : Pooled). HaveOwnNumbers q.tasks) (sym c.self.view_is) c.requires.own in
+    let modest = subst (λ (q : Pooled). AreModest q.tasks) (sym c.self.view_is) c.requires.modest in
+    let it = latest_found inside.version inside.slots.items inside.by_latest c.in_ok-item.item
+    (sym c.in_ok-item.was ∙ c.first.ensures) own modest
+    c.self.invariant.0.latest in
+    (it.0, ap (slice_get inside.slots.items) c.place.ensures.is ∙ it.1)
+
+pub take_at-requires-clause-pool : goal.take_at-requires-clause-pool
+take_at-requires-clause-pool g c = (c.self.inside.version, c.self.invariant.0)
+
+pub invariant_of-self : goal.invariant_of-self
+invariant_of-self g c = (
+  c.take_at.ensures.pool c.self.inside.version c.self.invariant.0,
+  omega (arith, c.self.invariant.1, c.take_at.ensures.places, c.take_at.ensures.capacity),
+)
+
+pub returns-in_err-item-clause-was : goal.returns-in_err-item-clause-was
+returns-in_err-item-clause-was g c =
+    let inside = c.self.inside in
+    c.from_residual.ensures
+    ∙ latest_none inside.version inside.slots.items inside.by_latest c.self.invariant.0.latest
+    (sym c.in_err-item.was ∙ c.first.ensures)
+    ∙ ap (λ (q : Pooled). first (latest_first q.version) q.tasks) c.self.view_is
+
+pub returns-clause-was : goal.returns-clause-was
+returns-clause-was g c =
+    let inside = c.self.inside in
+    let own = subst (λ (q : Pooled). HaveOwnNumbers q.tasks) (sym c.self.view_is) c.requires.own in
+    let modest = subst (λ (q : Pooled). AreModest q.tasks) (sym c.self.view_is) c.requires.modest in
+    let it = latest_found inside.version inside.slots.items inside.by_latest c.in_ok-item.item
+    (sym c.in_ok-item.was ∙ c.first.ensures) own modest
+    c.self.invariant.0.latest in
+    some_same _ _ (sym c.take_at.ensures.was ∙ ap (slice_get inside.slots.items) c.place.ensures.is ∙ it.1) ∙ sym it.2
+    ∙ ap (λ (q : Pooled). first (latest_first q.version) q.tasks) c.self.view_is
+
+pub returns-clause-rest : goal.returns-clause-rest
+returns-clause-rest g c t is =
+    subst (λ (q : Pooled). IsReordered q.tasks (t ∷ jobs_at c.take_at.new.slots.items)) c.self.view_is
+    (c.take_at.ensures.rest t is)
+
+pub returns-clause-count : goal.returns-clause-count
+returns-clause-count g c d fits =
+    c.take_at.ensures.count d (subst (λ (q : Pooled). length q.tasks + 1 < 2 ^ d) (sym c.self.view_is) fits)
+
+pub returns-clause-none : goal.returns-clause-none
+returns-clause-none g c none =
+    let inside = c.self.inside in
+    let own = subst (λ (q : Pooled). HaveOwnNumbers q.tasks) (sym c.self.view_is) c.requires.own in
+    let modest = subst (λ (q : Pooled). AreModest q.tasks) (sym c.self.view_is) c.requires.modest in
+    let it = latest_found inside.version inside.slots.items inside.by_latest c.in_ok-item.item
+    (sym c.in_ok-item.was ∙ c.first.ensures) own modest
+    c.self.invariant.0.latest in
+    none_is_some (sym none ∙ some_same _ _ (sym c.take_at.ensures.was
+    ∙ ap (slice_get inside.slots.items) c.place.ensures.is ∙ it.1))

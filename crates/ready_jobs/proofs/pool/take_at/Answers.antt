@@ -1,0 +1,59 @@
+use Rattle.std.proofs.Common.{◌≡◌, ◌≤◌, ◌+◌, ◌<◌, ◌^◌, ◌∷◌, [], ◌++◌, Some, None, sym, ap, ◌∙◌, subst, length, set}
+use Rattle.std.proofs.Common.{arith}
+use Rattle.std.specs.Prelude.{vec_len, vec_capacity, is_some}
+use Rattle.std.specs.List.{slice_get, count_by}
+use Rattle.dover_model.proofs.Members.{some_same}
+use Rattle.ready_jobs.specs.Reordered.{IsReordered}
+use Rattle.ready_jobs.specs.Pools.{IsPool, jobs_at}
+use Rattle.ready_jobs.proofs.Pooling.{within, jobs_out, left_room, left_kept, left_due_count, left_latest_count}
+use Rattle.ready_jobs.proofs.pool.take_at.Goals as goal
+
+pub job_at-task-requires : goal.job_at-task-requires
+job_at-task-requires g c = within c.args.slots.now.items c.args.place (Some c.requires.some.0) c.requires.some.1
+
+pub put_at-requires : goal.put_at-requires
+put_at-requires g c = within c.args.slots.now.items c.args.place (Some c.requires.some.0) c.requires.some.1
+
+pub push_reserved-requires : goal.push_reserved-requires
+push_reserved-requires g c =
+    let it = c.requires.pool in
+    let room = left_room it.0 c.args.slots.now.items c.args.free.now.items c.args.by_deadline.now c.args.by_latest.now
+    c.args.place it.1
+    c.requires.some.0 c.requires.some.1 in
+    omega (arith, room, c.requires.room, c.args.slots.now.ok.0, c.args.free.now.ok.0)
+
+pub returns-clause-rest : goal.returns-clause-rest
+returns-clause-rest g c t is =
+    subst (λ l. IsReordered (jobs_at c.args.slots.now.items) (t ∷ jobs_at l)) (sym c.put_at.ensures.items)
+    (jobs_out c.args.slots.now.items c.args.place t (c.job_at-task.ensures ∙ ap Some is))
+
+pub returns-clause-pool : goal.returns-clause-pool
+returns-clause-pool g c version pool =
+    subst (λ s. IsPool version s c.push_reserved.new.self.items c.remove.new.self c.remove-2.new.self)
+    (sym c.put_at.ensures.items)
+    (subst (λ f. IsPool version (set c.args.slots.now.items c.args.place None) f c.remove.new.self c.remove-2.new.self)
+    (sym c.push_reserved.ensures.items)
+    (subst (λ d. IsPool version (set c.args.slots.now.items c.args.place None)
+    (c.args.free.now.items ++ c.args.place ∷ []) d c.remove-2.new.self)
+    (sym c.remove.ensures.out)
+    (subst (λ l. IsPool version (set c.args.slots.now.items c.args.place None)
+    (c.args.free.now.items ++ c.args.place ∷ [])
+    (set c.args.by_deadline.now c.args.place None) l) (sym c.remove-2.ensures.out)
+    (left_kept version c.args.slots.now.items c.args.free.now.items c.args.by_deadline.now c.args.by_latest.now
+    c.args.place pool
+    c.requires.some.0 c.requires.some.1))))
+
+pub returns-clause-count : goal.returns-clause-count
+returns-clause-count g c d fits =
+    let it = c.requires.pool in
+    let due = left_due_count it.0 c.args.slots.now.items c.args.free.now.items c.args.by_deadline.now
+    c.args.by_latest.now c.args.place it.1
+    c.requires.some.0 c.requires.some.1 in
+    let latest = left_latest_count it.0 c.args.slots.now.items c.args.free.now.items c.args.by_deadline.now
+    c.args.by_latest.now c.args.place it.1
+    c.requires.some.0 c.requires.some.1 in
+    omega (
+      arith,
+      c.remove.ensures.count d (omega (arith, due, fits)),
+      c.remove-2.ensures.count d (omega (arith, latest, fits)),
+    )

@@ -1,0 +1,110 @@
+-- A run of the jobs that were released so far: what is kept of it, and what that says.
+use Rattle.std.specs.Prelude.{◌≡◌, ◌≤◌, ◌+◌, ℕ, List, [], ◌∷◌, ◌++◌, length, ◌&&◌, nat_le, false, true, Option, Some}
+use Rattle.std.specs.Prelude.{None}
+use Rattle.std.specs.List.{filter}
+use Rattle.dover_model.specs.Limits.{last_tick}
+use Rattle.dover_model.specs.declared.events.Event.{Event}
+use Rattle.dover_model.specs.declared.events.Role.TheVariants.{Fresh}
+use Rattle.dover_model.specs.declared.events.Task.{Task}
+use Rattle.dover_model.specs.Fraction.{Fraction}
+use Rattle.dover_model.specs.JobFacts.{JobFacts}
+use Rattle.dover_model.specs.Instance.{Rules, Instance, IsValid}
+use Rattle.dover_model.specs.State.{State, is_coming, is_done, value_sum}
+use Rattle.dover_model.specs.Step.{Move, Prints, open_step}
+use Rattle.dover_model.specs.Run.{Step}
+use Rattle.dover_model.specs.Settled.{is_late}
+use Rattle.dover_model.specs.Sound.{Each, Keeps}
+use Rattle.dover_model.specs.WholeRun.{IsBefore}
+use Rattle.trace_reading.specs.Leading.{Idles, IsSilent, GoesOn, WaitsUntil}
+use Rattle.trace_reading.specs.Ready.{is_ready}
+use Rattle.ready_jobs.specs.Reordered.{IsReordered}
+use Rattle.ready_jobs.specs.Parts.{Parted, ready_of}
+
+-- what is kept of a run: the clock, the jobs that aren't over, in no told order, how many there are in all, what those
+-- done are worth, and how
+-- many ready jobs there is room for
+pub record Course : Type 0 where
+  pub rules : Rules
+  pub clock : ℕ
+  pub ready : List Task
+  pub jobs : ℕ
+  pub done : ℕ
+  pub room : ℕ
+
+-- what is kept where these are the ready jobs by their roles
+abbrev pub course_of : Fraction → Parted → (jobs done : ℕ) → Course
+course_of ratio p jobs done = record {
+  rules = record { ratio = ratio; version = p.version };
+  clock = p.clock;
+  ready = ready_of p;
+  jobs = jobs;
+  done = done;
+  room = p.room;
+}
+
+-- it is kept of these jobs in this state, in which none is to come
+pub record Follows (c : Course) (J : Instance) (z : State) : Type 0 where
+  pub valid : IsValid J
+  pub keeps : Keeps J z
+  pub rules : J.rules ≡ c.rules
+  pub clock : z.clock ≡ c.clock
+  pub ready : IsReordered (filter is_ready z.tasks) c.ready
+  pub jobs : length z.tasks ≡ c.jobs
+  pub done : value_sum (filter is_done z.tasks) ≡ c.done
+  pub known : z.clock ≤ last_tick
+  pub released : Each (λ t. is_coming t ≡ false) z.tasks
+
+-- it is kept of some jobs in some state
+abbrev pub IsCourse : Course → Type 0
+IsCourse c = (J : Instance) × (z : State) × Follows c J z
+
+-- the course of no jobs
+abbrev pub new_course : Rules → ℕ → Course
+new_course rules room = record { rules = rules; clock = 0; ready = []; jobs = 0; done = 0; room = room }
+
+-- the job that was released last
+abbrev pub fresh_job : Course → JobFacts → Task
+fresh_job c j = record { number = c.jobs; job = j; role = Fresh; had = 0 }
+
+-- the course with it
+abbrev pub with_release : Course → JobFacts → ℕ → Course
+with_release c j room =
+    record {
+      rules = c.rules;
+      clock = j.release;
+      ready = c.ready ++ fresh_job c j ∷ [];
+      jobs = c.jobs + 1;
+      done =
+          c.done;
+      room = room;
+    }
+
+-- the state that silent steps reach, and the step that comes there: it is a barrier at the mark, or printed
+pub record Reached (c : Course) (J : Instance) (z : State) (mark : ℕ) (m : Move) : Type 0 where
+  pub state : State
+  pub follows : Follows c J state
+  pub idles : (xs : List Step) × Idles J.rules z xs state
+  pub goes_on : GoesOn state
+  pub comes : open_step J.rules state ≡ m
+  pub stops : IsSilent m → (is_late m && nat_le mark c.clock) ≡ true
+  pub waits : (is_late m && nat_le mark c.clock) ≡ true
+      → WaitsUntil J.rules mark z (record { clock = mark; tasks = state.tasks })
+
+-- what comes before the mark: this printed step, or nothing
+abbrev pub Comes : Instance → State → ℕ → State → Option Event → Type 0
+Comes J z mark y (Some e) = (open_step J.rules y ≡ Prints e) × IsBefore J.rules mark y × GoesOn y
+Comes J z mark y None = WaitsUntil J.rules mark z (record { clock = mark; tasks = y.tasks })
+
+-- the state to which silent steps have led, and what comes there before the mark
+pub record Settled (c : Course) (J : Instance) (z : State) (mark : ℕ) (next : Option Event) : Type 0 where
+  pub state : State
+  pub follows : Follows c J state
+  pub idles : (xs : List Step) × Idles J.rules z xs state
+  pub comes : Comes J z mark state next
+
+-- the course is one that goes on from the other: it has the same rules, jobs and room, and no more ready jobs
+pub record GoesOnFrom (c d : Course) : Type 0 where
+  pub rules : d.rules ≡ c.rules
+  pub fewer : length d.ready ≤ length c.ready
+  pub jobs : d.jobs ≡ c.jobs
+  pub room : d.room ≡ c.room

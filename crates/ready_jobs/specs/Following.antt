@@ -1,0 +1,34 @@
+-- The ready jobs of a whole run.
+use Rattle.std.specs.Prelude.{◌≡◌, ◌≤◌, ◌+◌, ℕ, List, false}
+use Rattle.std.specs.List.{filter}
+use Rattle.dover_model.specs.Limits.{last_tick}
+use Rattle.dover_model.specs.Instance.{Rules, Instance, IsValid}
+use Rattle.dover_model.specs.State.{State, is_coming, is_done, value_sum}
+use Rattle.dover_model.specs.Run.{Step}
+use Rattle.dover_model.specs.Sound.{Each, Keeps}
+use Rattle.trace_reading.specs.Leading.{Settles}
+use Rattle.trace_reading.specs.Ready.{is_ready}
+use Rattle.ready_jobs.specs.Reordered.{IsReordered}
+use Rattle.ready_jobs.specs.Parts.{Parted, ready_of}
+
+-- these are the jobs that aren't over, of these jobs in this state
+pub record PartOf (p : Parted) (J : Instance) (z : State) : Type 0 where
+  pub valid : IsValid J
+  pub keeps : Keeps J z
+  pub version : J.rules.version ≡ p.version
+  pub clock : z.clock ≡ p.clock
+  pub ready : IsReordered (filter is_ready z.tasks) (ready_of p)
+  pub released : Each (λ t. is_coming t ≡ false) z.tasks
+
+-- they are those of some jobs in some state
+abbrev pub IsPart : Rules → Parted → Type 0
+IsPart rules p = (J : Instance) × (z : State) × PartOf p J z × (J.rules ≡ rules)
+
+-- silent steps, each before any late one at the mark or after it, lead from z to where these are its jobs; no job is
+-- done by them
+pub record SettlesTo (p : Parted) (J : Instance) (z : State) (mark : ℕ) : Type 0 where
+  pub state : State
+  pub steps : List Step
+  pub settles : Settles J.rules mark z steps state
+  pub part : PartOf p J state
+  pub done : value_sum (filter is_done state.tasks) ≡ value_sum (filter is_done z.tasks)

@@ -1,0 +1,6 @@
+pub mod Reordered
+pub mod Pools
+pub mod Parts
+pub mod Kept
+pub mod Following
+pub mod Course

@@ -1,0 +1,84 @@
+-- The jobs that are ready, by their roles.
+use Rattle.std.specs.Prelude.{◌≡◌, ◌≤◌, ◌<◌, ◌+◌, ◌^◌, ℕ, List, [], ◌∷◌, ◌++◌, length, map, Option, Some, None, reverse}
+use Rattle.std.specs.Option.{option_to_list}
+use Rattle.dover_model.specs.declared.events.Version.{Version}
+use Rattle.dover_model.specs.declared.events.Task.{Task}
+use Rattle.dover_model.specs.declared.events.Role.{Role}
+use Rattle.dover_model.specs.declared.events.Role.TheVariants.{Fresh, Waiting, Held, Running}
+use Rattle.dover_model.specs.declared.events.Entry.{Entry}
+use Rattle.dover_model.specs.Limits.{most_value, most_total, most_jobs, last_tick}
+use Rattle.dover_model.specs.Entries.{entry_of}
+use Rattle.dover_model.specs.State.{State, latest_start, value_sum}
+use Rattle.dover_model.specs.Sound.{Each, EachTwo}
+use Rattle.privileged_queue.specs.Stack.{Stack}
+use Rattle.ready_jobs.specs.Pools.{Pooled}
+
+-- no two jobs have one number
+abbrev pub HaveOwnNumbers : List Task → Type 0
+HaveOwnNumbers tasks = EachTwo (λ t u. t.number ≡ u.number → t ≡ u) tasks
+
+-- no job is worth too much
+abbrev pub AreModest : List Task → Type 0
+AreModest tasks = Each (λ t. t.job.value ≤ most_value) tasks
+
+-- the version that breaks ties, the clock, the running and the fresh job, the held jobs, the one due first before the
+-- others, those that wait,
+-- and how many ready jobs there is room for
+pub record Parted : Type 0 where
+  pub version : Version
+  pub clock : ℕ
+  pub running : Option Task
+  pub fresh : Option Task
+  pub held : List Task
+  pub waiting : List Task
+  pub room : ℕ
+
+-- the ready jobs
+abbrev pub ready_of : Parted → List Task
+ready_of p = option_to_list p.running ++ (option_to_list p.fresh ++ (p.held ++ p.waiting))
+
+-- as a state
+abbrev pub state_of : Parted → State
+state_of p = record { clock = p.clock; tasks = ready_of p }
+
+-- each has this role
+abbrev pub HaveRole : Role → List Task → Type 0
+HaveRole role tasks = Each (λ t. t.role ≡ role) tasks
+
+-- each part has its role
+pub record HaveRoles (p : Parted) : Type 0 where
+  pub running : HaveRole Running (option_to_list p.running)
+  pub fresh : HaveRole Fresh (option_to_list p.fresh)
+  pub held : HaveRole Held p.held
+  pub waiting : HaveRole Waiting p.waiting
+
+-- what is kept: the parts have their roles, the rooms are those of the held jobs, and there is room for all jobs in
+-- each part
+pub record AreParts (p : Parted) (rooms : Stack) (pool : Pooled) (capacity : ℕ) : Type 0 where
+  pub roles : HaveRoles p
+  pub held : rooms.held ≡ map entry_of p.held
+  pub latest : rooms.latest ≤ p.clock
+  pub few : length (ready_of p) ≤ p.room
+  pub small : Each (λ t. t.number < 2 ^ 20) (ready_of p)
+  pub most : p.room ≤ most_jobs
+  pub pool_room : p.room ≤ pool.room
+  pub held_room : p.room ≤ length rooms.held + rooms.spare
+  pub stack_room : p.room ≤ capacity
+
+-- what the machine knows of the jobs in a state that it reaches
+pub record AreSound (p : Parted) : Type 0 where
+  pub own : HaveOwnNumbers p.waiting
+  pub modest : AreModest p.waiting
+  pub total : value_sum (option_to_list p.running ++ p.held) ≤ most_total
+  pub first : Each (λ r. Each (λ h. r.job.deadline < h.job.deadline) p.held) (option_to_list p.running)
+  pub early : Each (λ t. p.clock ≤ latest_start t) p.waiting
+
+-- the first of a list
+abbrev pub head_of : List Task → Option Task
+head_of [] = None
+head_of (t ∷ ts) = Some t
+
+-- the others
+abbrev pub tail_of : List Task → List Task
+tail_of [] = []
+tail_of (t ∷ ts) = ts

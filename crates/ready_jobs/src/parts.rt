@@ -1,0 +1,551 @@
+//! The ready jobs by their roles, what is seen of them, and how they change.
+ghost use Rattle.std.specs.Prelude.{◌≡◌, ℕ, ◌+◌, ◌-◌, ◌*◌, ◌^◌, ◌<◌, ◌≤◌, [], ◌∷◌, ◌++◌, length, map, max, Some, None};
+ghost use Rattle.std.specs.Prelude.{reverse, vec_capacity, option_map, IfOk, IsOk, OnOk, OnErr};
+ghost use Rattle.std.specs.List.{filter, find};
+ghost use Rattle.std.specs.Option.{option_to_list, ForSome};
+ghost use Rattle.dover_model.specs.declared.events.Role.TheVariants.{Fresh, Waiting, Held, Running};
+ghost use Rattle.dover_model.specs.declared.events.Task.{Task};
+ghost use Rattle.dover_model.specs.Limits.{most_jobs, most_total, last_tick};
+ghost use Rattle.dover_model.specs.Entries.{entry_of, room_of};
+ghost use Rattle.dover_model.specs.Fraction.{IsRatio};
+ghost use Rattle.dover_model.specs.State.{is_fresh, is_coming, is_waiting, running, held, waiting, privileged, room};
+ghost use Rattle.dover_model.specs.State.{left, latest_start, value_sum};
+ghost use Rattle.dover_model.specs.Orders.{due_first, latest_first, first};
+ghost use Rattle.dover_model.specs.Step.{open_step, view, with_role, is_at_latest_start, resumed, runs, displaced};
+ghost use Rattle.dover_model.specs.Jumps.{ticked_by};
+ghost use Rattle.dover_model.specs.Sound.{Each};
+ghost use Rattle.plain_step.specs.Moves.{step_of};
+ghost use Rattle.plain_step.specs.Cases.{decision_of, arrival_of, alarm_of};
+ghost use Rattle.plain_step.specs.Dues.{still_ticks, until_done};
+ghost use Rattle.ready_jobs.specs.Reordered.{IsReordered};
+ghost use Rattle.ready_jobs.specs.Parts.{Parted, AreSound, HaveRoles, ready_of, state_of, head_of, tail_of};
+
+use crate::pool::Pool;
+use dover_model::{Entry, Event, Job, Memory, Ratio, Role, Task, Version};
+use plain_step::Move;
+use privileged_queue::Privileged;
+use root_compare::heavy;
+use std::alloc::Global;
+use std::marker::Model;
+use std::sync::ledger::Ledger;
+use step_count::Steps;
+
+/// The ready jobs by their roles. Those that wait are in a pool, the held ones on a stack with their rooms.
+#[derive(Drop)]
+pub struct Parts {
+    clock: u64,
+    running: Option<Task>,
+    fresh: Option<Task>,
+    held: Vec<Task>,
+    rooms: Privileged,
+    pool: Pool,
+    room: u32,
+}
+
+impl Model for Parts {
+    ghost use Rattle.ready_jobs.specs.Parts.{Parted};
+    ghost use Rattle.ready_jobs.specs.Kept.{parted_of, IsKept};
+
+    ghost Value = { Parted };
+
+    ghost view = { parted_of };
+
+    ghost invariant = { IsKept };
+}
+
+// The ticks that the job is still to have.
+fn left(t: &Task) -> u64
+    ensures { result ≡ left t.now }
+{
+    t.job.work().saturating_sub(t.had)
+}
+
+// The last tick at which the job can start and still be done in time.
+fn latest_start(t: &Task) -> u64
+    ensures { result ≡ latest_start t.now }
+{
+    t.job.deadline().saturating_sub(left(t))
+}
+
+// The job as one that doesn't run.
+fn entry_of(t: &Task) -> Entry
+    ensures { result ≡ entry_of t.now }
+{
+    let left = left(t);
+    Entry {
+        number: t.number,
+        deadline: t.job.deadline(),
+        latest: t.job.deadline().saturating_sub(left),
+        left,
+        value: t.job.value(),
+    }
+}
+
+// The job in another role.
+fn in_role(t: &Task, role: Role) -> Task
+    ensures { result ≡ with_role t.now role }
+{
+    Task {
+        number: t.number,
+        job: t.job,
+        role,
+        had: t.had,
+    }
+}
+
+// The job with so many ticks more, if it runs.
+fn later(t: &Task, ticks: u64) -> Task
+    requires { t.now.had + ticks < 2 ^ 64 }
+    ensures { result ≡ ticked_by ticks t.now }
+{
+    Task {
+        number: t.number,
+        job: t.job,
+        role: t.role,
+        had: if matches!(t.role, Role::Running) {
+            t.had + ticks
+        } else {
+            t.had
+        },
+    }
+}
+
+// The same of the running job, if one does.
+fn later_running(running: Option<Task>, ticks: u64) -> Option<Task>
+    requires { Each (λ t. t.had + ticks < 2 ^ 64) (option_to_list running) }
+    ensures { result ≡ option_map (ticked_by ticks) running }
+{
+    match running {
+        Some(t) => Some(later(&t, ticks)),
+        None => None,
+    }
+}
+
+// The job on top, which is the last one.
+fn peek(held: &Vec<Task>) -> Option<Task>
+    ensures { result ≡ head_of (reverse held.now.items) }
+{
+    held.last().copied()
+}
+
+// The room of the held jobs with e, which is due before them.
+fn room_with(held: &Privileged, e: &Entry, clock: u64) -> u64
+    requires clock { held.now.latest ≤ clock }
+    requires first { Each (λ f. e.now.deadline < f.deadline) held.now.held }
+    ensures { result ≡ room_of clock (e.now ∷ held.now.held) }
+{
+    let alone = e.deadline.saturating_sub(e.left).saturating_sub(clock);
+    match held.room(clock) {
+        Some(room) => alone.min(room.saturating_sub(e.left)),
+        None => alone,
+    }
+}
+
+impl Parts {
+    /// No jobs, and no room.
+    pub fn new(alloc: Global, version: Version) -> Result<Parts, Memory>
+        ensures { IfOk result (λ p. p ≡ record
+            { version = version; clock = 0; running = None; fresh = None; held = []; waiting = []; room = 0 }) }
+    {
+        Ok(Parts {
+            clock: 0,
+            running: None,
+            fresh: None,
+            held: Vec::new(alloc),
+            rooms: Privileged::new(alloc)?,
+            pool: Pool::new(alloc, version),
+            room: 0,
+        })
+    }
+
+    /// The clock.
+    pub fn clock(&self) -> u64
+        ensures is { result ≡ self.now.clock }
+        ensures roles { HaveRoles self.now }
+        ensures few { length (ready_of self.now) ≤ self.now.room }
+        ensures most { self.now.room ≤ most_jobs }
+    {
+        self.clock
+    }
+
+    /// The version.
+    pub fn version(&self) -> Version
+        ensures { result ≡ self.now.version }
+    {
+        self.pool.version()
+    }
+
+    /// The job that runs.
+    pub fn running(&self) -> Option<Task>
+        ensures is { result ≡ self.now.running }
+        ensures seen { result ≡ running (state_of self.now) }
+    {
+        self.running
+    }
+
+    /// The fresh job.
+    pub fn fresh(&self) -> Option<Task>
+        ensures is { result ≡ self.now.fresh }
+        ensures seen { result ≡ find is_fresh (state_of self.now).tasks }
+    {
+        self.fresh
+    }
+
+    // No job is to come.
+    fn arrival(&self) -> Option<Move>
+        ensures { option_map step_of result ≡ arrival_of (view self.now.version (state_of self.now)) }
+    {
+        let _ = &self.clock;
+        None
+    }
+
+    /// The first held job.
+    pub fn first_held(&self) -> Option<Task>
+        ensures is { result ≡ head_of self.now.held }
+        ensures seen { result ≡ first (due_first self.now.version) (held (state_of self.now)) }
+    {
+        let _ = self.rooms.top();
+        peek(&self.held)
+    }
+
+    /// The first waiting job by deadline.
+    pub fn first_waiting(&self) -> Option<Task>
+        requires { AreSound self.now }
+        ensures is { result ≡ first (due_first self.now.version) self.now.waiting }
+        ensures seen { result ≡ first (due_first self.now.version) (waiting (state_of self.now)) }
+    {
+        self.pool.first_deadline()
+    }
+
+    /// Of the waiting jobs at their latest start, the first in that order.
+    pub fn first_late(&self) -> Option<Task>
+        requires { AreSound self.now }
+        ensures is { (x : Task) → result ≡ Some x → first (latest_first self.now.version) self.now.waiting ≡ Some x }
+        ensures seen { result ≡ first (latest_first self.now.version)
+            (filter (is_at_latest_start (state_of self.now)) (waiting (state_of self.now))) }
+    {
+        let x = self.pool.first_latest()?;
+        if latest_start(&x) != self.clock {
+            return None;
+        }
+        Some(x)
+    }
+
+    // The room of the held jobs.
+    fn room_held(&self) -> u64
+        ensures { result ≡ room self.now.clock (held (state_of self.now)) }
+    {
+        self.rooms.room(self.clock).unwrap_or(0)
+    }
+
+    // The room of the running job r and the held jobs.
+    fn room_busy(&self, r: &Task) -> u64
+        requires sound { AreSound self.now }
+        requires running { self.now.running ≡ Some r.now }
+        ensures { result ≡ room self.now.clock (privileged (state_of self.now)) }
+    {
+        room_with(&self.rooms, &entry_of(r), self.clock)
+    }
+
+    // The value of the running job r and the held jobs.
+    fn value_busy(&self, r: &Task) -> u64
+        requires sound { AreSound self.now }
+        requires running { self.now.running ≡ Some r.now }
+        ensures is { result ≡ value_sum (privileged (state_of self.now)) }
+        ensures most { result ≤ most_total }
+    {
+        r.job.value() + self.rooms.value_sum()
+    }
+
+    // The fresh job f preempts the running job r, or waits.
+    fn decision(&self, r: &Task, f: &Task) -> Move
+        requires sound { AreSound self.now }
+        requires running { self.now.running ≡ Some r.now }
+        ensures { step_of result ≡ decision_of (view self.now.version (state_of self.now)) r.now f.now }
+    {
+        if f.job.deadline() < r.job.deadline() && f.job.work() <= self.room_busy(r) {
+            Move::Prints(Event::Preempt {
+                at: self.clock,
+                stops: r.number,
+                starts: f.number,
+            })
+        } else {
+            Move::Waits(f.number)
+        }
+    }
+
+    // The job x takes the processor from the running job r, or is abandoned.
+    fn alarm(&self, k: Ratio, r: &Task, x: &Task) -> Move
+        requires sound { AreSound self.now }
+        requires running { self.now.running ≡ Some r.now }
+        ensures { step_of result ≡ alarm_of k (view self.now.version (state_of self.now)) r.now x.now }
+    {
+        if heavy(x.job.value(), self.value_busy(r), k) {
+            Move::Prints(Event::Take {
+                at: self.clock,
+                stops: r.number,
+                starts: x.number,
+            })
+        } else {
+            Move::Prints(Event::Abandon {
+                at: self.clock,
+                number: x.number,
+            })
+        }
+    }
+
+    // The next step while r runs.
+    fn busy_step(&self, k: Ratio, r: &Task) -> Move
+        requires sound { AreSound self.now }
+        requires running { self.now.running ≡ Some r.now }
+        requires runs { running (state_of self.now) ≡ Some r.now }
+        ensures { step_of result ≡ open_step (record { ratio = k; version = self.now.version }) (state_of self.now) }
+    {
+        if left(r) == 0 {
+            return Move::Prints(Event::Complete {
+                at: self.clock,
+                number: r.number,
+            });
+        }
+        if let Some(f) = self.fresh() {
+            return self.decision(r, &f);
+        }
+        if let Some(release) = self.arrival() {
+            return release;
+        }
+        match self.first_late() {
+            Some(x) => self.alarm(k, r, &x),
+            None => Move::Ticks,
+        }
+    }
+
+    // The job gets the processor.
+    fn run(&self, t: &Task) -> Move
+        ensures { step_of result ≡ runs (view self.now.version (state_of self.now)) t.now }
+    {
+        Move::Prints(Event::Run {
+            at: self.clock,
+            number: t.number,
+        })
+    }
+
+    // While p is held: the first waiting job, if it is due before p and fits the room of the held jobs, otherwise p.
+    fn resumed(&self, p: &Task) -> Task
+        requires { AreSound self.now }
+        ensures { let v = view self.now.version (state_of self.now) in result ≡ resumed v p.now v.waiting }
+    {
+        match self.first_waiting() {
+            Some(o) if o.job.deadline() < p.job.deadline() && left(&o) <= self.room_held() => o,
+            _ => *p,
+        }
+    }
+
+    // The next step while no job runs.
+    fn free_step(&self, k: Ratio) -> Move
+        requires sound { AreSound self.now }
+        requires free { running (state_of self.now) ≡ None }
+        ensures { step_of result ≡ open_step (record { ratio = k; version = self.now.version }) (state_of self.now) }
+    {
+        let _ = k.p();
+        if let Some(p) = self.first_held() {
+            return self.run(&self.resumed(&p));
+        }
+        if let Some(o) = self.first_waiting() {
+            return self.run(&o);
+        }
+        if let Some(f) = self.fresh() {
+            return self.run(&f);
+        }
+        match self.arrival() {
+            Some(release) => release,
+            None => Move::Ticks,
+        }
+    }
+
+    /// The next step where further jobs may come.
+    pub fn open_step(&self, k: Ratio) -> Move
+        requires { AreSound self.now }
+        ensures { step_of result ≡ open_step (record { ratio = k; version = self.now.version }) (state_of self.now) }
+    {
+        match self.running() {
+            Some(r) => self.busy_step(k, &r),
+            None => self.free_step(k),
+        }
+    }
+
+    // At most so many ticks, and what the running job has left.
+    fn until_done(&self, most: u64) -> u64
+        ensures { result ≡ until_done (running (state_of self.now)) most }
+    {
+        match self.running() {
+            Some(r) => most.min(left(&r)),
+            None => most,
+        }
+    }
+
+    /// How many silent ticks come before anything is due, at most `most`, where no waiting job is at its latest start.
+    pub fn silent_ticks(&self, most: u64) -> u64
+        requires sound { AreSound self.now }
+        requires early { Each (λ t. self.now.clock < latest_start t) self.now.waiting }
+        ensures { result ≡ still_ticks most (state_of self.now) }
+    {
+        let before = self.until_done(most);
+        match self.pool.first_latest() {
+            Some(x) => before.min(latest_start(&x).saturating_sub(self.clock)),
+            None => before,
+        }
+    }
+
+    /// Another version, where no job waits.
+    pub fn declare(&mut self, version: Version)
+        requires { self.old.waiting ≡ [] }
+        ensures { self.new ≡ record self.old { version = version } }
+    {
+        self.pool.declare(version);
+    }
+
+    /// Room for so many ready jobs in all. Where there is, it takes no memory; want of it leaves all as before.
+    pub fn reserve(&mut self, room: u32) -> Result<(), Memory>
+        requires { room ≤ most_jobs }
+        ensures kept { self.new ≡ record self.old { waiting = self.new.waiting; room = self.new.room } }
+        ensures same { self.new.waiting ≡ self.old.waiting }
+        ensures ok { OnOk result (self.new.room ≡ max self.old.room room) }
+        ensures err { OnErr result (self.new.room ≡ self.old.room) }
+        ensures enough { room ≤ self.old.room → IsOk result }
+    {
+        if room <= self.room {
+            return Ok(());
+        }
+        let held = self.held.len();
+        self.held.reserve(room as usize - held)?;
+        self.rooms.reserve(room - held as u32)?;
+        self.pool.reserve(room)?;
+        self.room = room;
+        Ok(())
+    }
+
+    /// The running job is done, or goes.
+    pub fn complete(&mut self)
+        ensures { self.new ≡ record self.old { running = None } }
+    {
+        self.running = None;
+    }
+
+    /// The first held job runs on.
+    pub fn resume(&mut self)
+        requires { self.old.running ≡ None }
+        ensures { self.new ≡ record self.old {
+          running = option_map (λ p. with_role p Running) (head_of self.old.held);
+          held = tail_of self.old.held;
+        } }
+    {
+        if let Some(p) = self.held.pop() {
+            let _ = self.rooms.release_one();
+            self.running = Some(in_role(&p, Role::Running));
+        }
+    }
+
+    /// The first waiting job by deadline runs.
+    pub fn start<L: Ledger>(&mut self, steps: &mut Steps<L>)
+        requires sound { AreSound self.old }
+        requires free { self.old.running ≡ None }
+        ensures runs { self.new.running
+            ≡ option_map (λ o. with_role o Running) (first (due_first self.old.version) self.old.waiting) }
+        ensures rest { (o : Task) → first (due_first self.old.version) self.old.waiting ≡ Some o →
+            IsReordered self.old.waiting (o ∷ self.new.waiting) }
+        ensures kept { self.new ≡ record self.old { running = self.new.running; waiting = self.new.waiting } }
+        ensures count { (d : ℕ) → length self.old.waiting + 1 < 2 ^ d → steps.new ≤ steps.old + 6 * d }
+    {
+        if let Some(o) = self.pool.take_deadline(steps) {
+            self.running = Some(in_role(&o, Role::Running));
+        }
+    }
+
+    /// The fresh job runs.
+    pub fn begin(&mut self)
+        requires { self.old.running ≡ None }
+        ensures { self.new ≡ record self.old {
+          running = option_map (λ f. with_role f Running) self.old.fresh;
+          fresh = None;
+        } }
+    {
+        if let Some(f) = self.fresh {
+            self.fresh = None;
+            self.running = Some(in_role(&f, Role::Running));
+        }
+    }
+
+    /// The fresh job f waits.
+    pub fn stay<L: Ledger>(&mut self, f: &Task, steps: &mut Steps<L>)
+        requires fresh { self.old.fresh ≡ Some f.now }
+        ensures waits { IsReordered (with_role f.now Waiting ∷ self.old.waiting) self.new.waiting }
+        ensures kept { self.new ≡ record self.old { fresh = None; waiting = self.new.waiting } }
+        ensures count { (d : ℕ) → length self.old.waiting + 1 < 2 ^ d → steps.new ≤ steps.old + 2 * d }
+    {
+        self.fresh = None;
+        self.pool.add(in_role(f, Role::Waiting), steps);
+    }
+
+    /// The first waiting job by latest start is taken out, and gone.
+    pub fn abandon<L: Ledger>(&mut self, steps: &mut Steps<L>)
+        requires sound { AreSound self.old }
+        ensures rest { (x : Task) → first (latest_first self.old.version) self.old.waiting ≡ Some x →
+            IsReordered self.old.waiting (x ∷ self.new.waiting) }
+        ensures kept { self.new ≡ record self.old { waiting = self.new.waiting } }
+        ensures count { (d : ℕ) → length self.old.waiting + 1 < 2 ^ d → steps.new ≤ steps.old + 6 * d }
+    {
+        let _ = self.pool.take_latest(steps);
+    }
+
+    /// A job comes, and is fresh.
+    pub fn come(&mut self, number: u32, job: Job)
+        requires stale { self.old.fresh ≡ None }
+        requires room { length (ready_of self.old) < self.old.room }
+        requires number { number < 2 ^ 20 }
+        requires ahead { self.old.clock ≤ job.release }
+        ensures { self.new ≡ record self.old {
+          clock = job.release;
+          fresh = Some (record { number = number; job = job; role = Fresh; had = 0 });
+        } }
+    {
+        self.clock = job.release();
+        self.fresh = Some(Task {
+            number,
+            job,
+            role: Role::Fresh,
+            had: 0,
+        });
+    }
+
+    /// The running job r is held, and the fresh job f runs.
+    pub fn preempt(&mut self, r: &Task, f: &Task)
+        requires sound { AreSound self.old }
+        requires running { self.old.running ≡ Some r.now }
+        requires fresh { self.old.fresh ≡ Some f.now }
+        ensures { self.new ≡ record self.old {
+          running = Some (with_role f.now Running);
+          fresh = None;
+          held = with_role r.now Held ∷ self.old.held;
+        } }
+    {
+        let entry = entry_of(r);
+        let avail = room_with(&self.rooms, &entry, self.clock);
+        self.rooms.hold(entry, self.clock, avail);
+        self.held.push_reserved(in_role(r, Role::Held));
+        self.fresh = None;
+        self.running = Some(in_role(f, Role::Running));
+    }
+
+    /// The running job has so many ticks more, and the clock goes on.
+    pub fn tick(&mut self, ticks: u64)
+        requires had { Each (λ t. t.had + ticks < 2 ^ 64) (option_to_list self.old.running) }
+        requires known { self.old.clock + ticks < 2 ^ 64 }
+        ensures { self.new ≡ record self.old {
+          clock = self.old.clock + ticks;
+          running = option_map (ticked_by ticks) self.old.running;
+        } }
+    {
+        self.running = later_running(self.running, ticks);
+        self.clock += ticks;
+    }
+}

@@ -1,0 +1,284 @@
+//! The jobs that wait.
+ghost use Rattle.std.specs.Prelude.{◌≡◌, ℕ, ◌+◌, ◌*◌, ◌^◌, ◌<◌, ◌≤◌, [], ◌∷◌, ◌++◌, slice_set, length, replicate, ◌-◌};
+ghost use Rattle.std.specs.Prelude.{Some, None, max, vec_len, vec_capacity, IsOk, IsNone, IfSome, OnOk, OnErr};
+ghost use Rattle.std.specs.List.{slice_get};
+ghost use Rattle.dover_model.specs.declared.events.Version.{Version};
+ghost use Rattle.dover_model.specs.declared.events.Task.{Task};
+ghost use Rattle.dover_model.specs.Entries.{entry_of};
+ghost use Rattle.dover_model.specs.Orders.{due_first, latest_first, first};
+ghost use Rattle.dover_model.specs.Sound.{Each};
+ghost use Rattle.place_heap.specs.Orders.{due_item, latest_item};
+ghost use Rattle.ready_jobs.specs.Reordered.{IsReordered};
+ghost use Rattle.ready_jobs.specs.Parts.{HaveOwnNumbers, AreModest};
+ghost use Rattle.ready_jobs.specs.Pools.{Pooled, IsPool, AreFree, jobs_at, most_places};
+
+use dover_model::{Memory, Task, Version};
+use place_heap::{Heap, Item, tie_of};
+use std::alloc::Global;
+use std::marker::Model;
+use std::sync::ledger::Ledger;
+use step_count::Steps;
+
+/// A set of jobs that wait, with the first by deadline and the first by latest start at hand. Each has a place, which
+/// another takes once it is gone.
+#[derive(Drop)]
+pub struct Pool {
+    version: Version,
+    slots: Vec<Option<Task>>,
+    free: Vec<u32>,
+    by_deadline: Heap,
+    by_latest: Heap,
+}
+
+impl Model for Pool {
+    ghost use Rattle.std.specs.Prelude.{vec_len, vec_capacity, length, ◌≤◌};
+    ghost use Rattle.ready_jobs.specs.Pools.{Pooled, IsPool, jobs_at};
+
+    ghost Value = { Pooled };
+
+    ghost view = { λ p. record { version = p.version; tasks = jobs_at p.slots.items; room = vec_len p.slots } };
+
+    ghost invariant = { λ p. IsPool p.version p.slots.items p.free.items p.by_deadline p.by_latest
+        × (vec_len p.slots ≤ vec_capacity p.free) };
+}
+
+// The ticks that the job is still to have.
+fn left(t: &Task) -> u64
+    ensures { result ≡ (entry_of t.now).left }
+{
+    t.job.work().saturating_sub(t.had)
+}
+
+// The item of the job by its deadline.
+fn due_item(version: Version, place: u32, t: &Task) -> Item
+    requires place { place < 2 ^ 20 }
+    requires number { t.now.number < 2 ^ 20 }
+    ensures { result ≡ due_item version place (entry_of t.now) }
+{
+    Item::new(
+        t.job.deadline(),
+        tie_of(version, t.job.value()),
+        t.number,
+        place,
+    )
+}
+
+// The item of the job by its latest start.
+fn latest_item(version: Version, place: u32, t: &Task) -> Item
+    requires place { place < 2 ^ 20 }
+    requires number { t.now.number < 2 ^ 20 }
+    ensures { result ≡ latest_item version place (entry_of t.now) }
+{
+    Item::new(
+        t.job.deadline().saturating_sub(left(t)),
+        tie_of(version, t.job.value()),
+        t.number,
+        place,
+    )
+}
+
+// What is at a place.
+fn job_at(slots: &Vec<Option<Task>>, place: u32) -> Option<Task>
+    requires { place < length slots.now.items }
+    ensures { slice_get slots.now.items place ≡ Some result }
+{
+    slots[place as usize]
+}
+
+// Puts something at a place.
+fn put_at(slots: &mut Vec<Option<Task>>, place: u32, job: Option<Task>)
+    requires { place < length slots.old.items }
+    ensures items { slots.new.items ≡ slice_set slots.old.items place job }
+    ensures len { vec_len slots.new ≡ vec_len slots.old }
+    ensures capacity { vec_capacity slots.new ≡ vec_capacity slots.old }
+{
+    slots[place as usize] = job;
+}
+
+// The last free place, which is free no more.
+fn next_place(free: &mut Vec<u32>) -> u32
+    requires { 0 < length free.old.items }
+    ensures last { free.old.items ≡ free.new.items ++ result ∷ [] }
+    ensures capacity { vec_capacity free.new ≡ vec_capacity free.old }
+{
+    free.pop().unwrap()
+}
+
+// Opens places up to so many, which are free.
+fn open_places(slots: &mut Vec<Option<Task>>, free: &mut Vec<u32>, places: u32)
+    requires fewer { length slots.old.items ≤ places }
+    requires room { places ≤ vec_capacity slots.old }
+    requires free { places ≤ vec_capacity free.old }
+    requires are { AreFree slots.old.items free.old.items }
+    requires count { length free.old.items + length (jobs_at slots.old.items) ≡ length slots.old.items }
+    ensures are { AreFree slots.new.items free.new.items }
+    ensures count { length free.new.items + length (jobs_at slots.new.items) ≡ length slots.new.items }
+    ensures jobs { jobs_at slots.new.items ≡ jobs_at slots.old.items }
+    ensures slots { slots.new.items ≡ slots.old.items ++ replicate (places - length slots.old.items) None }
+    ensures places { length slots.new.items ≡ places }
+    ensures capacity { vec_capacity free.new ≡ vec_capacity free.old }
+{
+    let mut place = slots.len() as u32;
+    while place < places {
+        free.push_reserved(place);
+        slots.push_reserved(None);
+        place += 1;
+    }
+}
+
+// Takes the job at a place out, which is then free.
+fn take_at<L: Ledger>(
+    slots: &mut Vec<Option<Task>>,
+    free: &mut Vec<u32>,
+    by_deadline: &mut Heap,
+    by_latest: &mut Heap,
+    place: u32,
+    steps: &mut Steps<L>,
+) -> Option<Task>
+    requires some { (t : Task) × (slice_get slots.old.items place ≡ Some (Some t)) }
+    requires pool { (version : Version) × IsPool version slots.old.items free.old.items by_deadline.old by_latest.old }
+    requires room { vec_len slots.old ≤ vec_capacity free.old }
+    ensures was { slice_get slots.old.items place ≡ Some result }
+    ensures rest { (t : Task) → result ≡ Some t → IsReordered (jobs_at slots.old.items) (t ∷ jobs_at slots.new.items) }
+    ensures pool { (version : Version) → IsPool version slots.old.items free.old.items by_deadline.old by_latest.old →
+        IsPool version slots.new.items free.new.items by_deadline.new by_latest.new }
+    ensures places { vec_len slots.new ≡ vec_len slots.old }
+    ensures capacity { vec_capacity free.new ≡ vec_capacity free.old }
+    ensures count { (d : ℕ) → length (jobs_at slots.old.items) + 1 < 2 ^ d → steps.new ≤ steps.old + 6 * d }
+{
+    let task = job_at(slots, place);
+    put_at(slots, place, None);
+    free.push_reserved(place);
+    by_deadline.remove(place, steps);
+    by_latest.remove(place, steps);
+    task
+}
+
+impl Pool {
+    /// No jobs, and no room.
+    pub fn new(alloc: Global, version: Version) -> Pool
+        ensures { result ≡ record { version = version; tasks = []; room = 0 } }
+    {
+        Pool {
+            version,
+            slots: Vec::new(alloc),
+            free: Vec::new(alloc),
+            by_deadline: Heap::new(alloc),
+            by_latest: Heap::new(alloc),
+        }
+    }
+
+    /// The version that breaks ties.
+    pub fn version(&self) -> Version
+        ensures { result ≡ self.now.version }
+    {
+        self.version
+    }
+
+    /// Another version, where no job waits.
+    pub fn declare(&mut self, version: Version)
+        requires { self.old.tasks ≡ [] }
+        ensures { self.new ≡ record self.old { version = version } }
+    {
+        self.version = version;
+    }
+
+    /// Room for so many jobs in all. Where there is, it takes no memory; want of it leaves all as before.
+    pub fn reserve(&mut self, places: u32) -> Result<(), Memory>
+        requires { places ≤ most_places }
+        ensures kept { self.new ≡ record self.old { tasks = self.new.tasks; room = self.new.room } }
+        ensures same { self.new.tasks ≡ self.old.tasks }
+        ensures ok { OnOk result (self.new.room ≡ max self.old.room places) }
+        ensures err { OnErr result (self.new.room ≡ self.old.room) }
+        ensures enough { places ≤ self.old.room → IsOk result }
+    {
+        let have = self.slots.len();
+        if places as usize <= have {
+            return Ok(());
+        }
+        self.slots.reserve(places as usize - have)?;
+        self.free.reserve(places as usize - self.free.len())?;
+        self.by_deadline.reserve(places)?;
+        self.by_latest.reserve(places)?;
+        open_places(&mut self.slots, &mut self.free, places);
+        Ok(())
+    }
+
+    /// A job begins to wait, for which there is room.
+    pub fn add<L: Ledger>(&mut self, t: Task, steps: &mut Steps<L>)
+        requires room { length self.old.tasks < self.old.room }
+        requires number { t.number < 2 ^ 20 }
+        ensures kept { self.new ≡ record self.old { tasks = self.new.tasks } }
+        ensures more { IsReordered (t ∷ self.old.tasks) self.new.tasks }
+        ensures count { (d : ℕ) → length self.old.tasks + 1 < 2 ^ d → steps.new ≤ steps.old + 2 * d }
+    {
+        let place = next_place(&mut self.free);
+        let due = due_item(self.version, place, &t);
+        let latest = latest_item(self.version, place, &t);
+        put_at(&mut self.slots, place, Some(t));
+        self.by_deadline.insert(due, steps);
+        self.by_latest.insert(latest, steps);
+    }
+
+    /// The first by deadline, if one waits. Ties go by the version.
+    pub fn first_deadline(&self) -> Option<Task>
+        requires own { HaveOwnNumbers self.now.tasks }
+        requires modest { AreModest self.now.tasks }
+        ensures { result ≡ first (due_first self.now.version) self.now.tasks }
+    {
+        let item = self.by_deadline.first()?;
+        job_at(&self.slots, item.place())
+    }
+
+    /// The first by latest start, if one waits. Ties go by the version.
+    pub fn first_latest(&self) -> Option<Task>
+        requires own { HaveOwnNumbers self.now.tasks }
+        requires modest { AreModest self.now.tasks }
+        ensures { result ≡ first (latest_first self.now.version) self.now.tasks }
+    {
+        let item = self.by_latest.first()?;
+        job_at(&self.slots, item.place())
+    }
+
+    /// Takes the first by deadline out, if one waits.
+    pub fn take_deadline<L: Ledger>(&mut self, steps: &mut Steps<L>) -> Option<Task>
+        requires own { HaveOwnNumbers self.old.tasks }
+        requires modest { AreModest self.old.tasks }
+        ensures was { result ≡ first (due_first self.old.version) self.old.tasks }
+        ensures rest { (t : Task) → result ≡ Some t → IsReordered self.old.tasks (t ∷ self.new.tasks) }
+        ensures none { result ≡ None → self.new.tasks ≡ self.old.tasks }
+        ensures kept { self.new ≡ record self.old { tasks = self.new.tasks } }
+        ensures count { (d : ℕ) → length self.old.tasks + 1 < 2 ^ d → steps.new ≤ steps.old + 6 * d }
+    {
+        let item = self.by_deadline.first()?;
+        take_at(
+            &mut self.slots,
+            &mut self.free,
+            &mut self.by_deadline,
+            &mut self.by_latest,
+            item.place(),
+            steps,
+        )
+    }
+
+    /// Takes the first by latest start out, if one waits.
+    pub fn take_latest<L: Ledger>(&mut self, steps: &mut Steps<L>) -> Option<Task>
+        requires own { HaveOwnNumbers self.old.tasks }
+        requires modest { AreModest self.old.tasks }
+        ensures was { result ≡ first (latest_first self.old.version) self.old.tasks }
+        ensures rest { (t : Task) → result ≡ Some t → IsReordered self.old.tasks (t ∷ self.new.tasks) }
+        ensures none { result ≡ None → self.new.tasks ≡ self.old.tasks }
+        ensures kept { self.new ≡ record self.old { tasks = self.new.tasks } }
+        ensures count { (d : ℕ) → length self.old.tasks + 1 < 2 ^ d → steps.new ≤ steps.old + 6 * d }
+    {
+        let item = self.by_latest.first()?;
+        take_at(
+            &mut self.slots,
+            &mut self.free,
+            &mut self.by_deadline,
+            &mut self.by_latest,
+            item.place(),
+            steps,
+        )
+    }
+}
