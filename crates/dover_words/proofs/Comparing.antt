@@ -1,5 +1,5 @@
 -- What the word `compare` says is what was computed.
-use Rattle.std.proofs.Common.{◌≡◌, ◌≤◌, ℕ, List, refl, sym, ap, ◌∙◌, subst, Option, Some, inl, inr, arith, length}
+use Rattle.std.proofs.Common.{◌≡◌, ◌≤◌, ℕ, List, [], refl, sym, ap, ◌∙◌, subst, Option, Result, Ok, Err, arith}
 use Rattle.dover_model.specs.Bound.{bound}
 use Rattle.dover_model.specs.Instance.{Instance, IsValid}
 use Rattle.dover_model.specs.JobFacts.{JobFacts}
@@ -10,25 +10,21 @@ use Rattle.dover_model.specs.Schedules.{worth}
 use Rattle.dover_model.proofs.Agreement.{is_within-agrees}
 use Rattle.dover_model.proofs.BoundLaws as laws
 use Rattle.dover_model.proofs.GreatestLaws.{bound-is}
-use Rattle.dover_port.specs.Moves.{Move, Since, ArePuts, ins, outs, IsProperPrefix}
+use Rattle.dover_port.specs.Moves.{Move, Passes, CutsShort}
 use Rattle.dover_port.specs.declared.status.Status.{Status}
 use Rattle.dover_port.specs.declared.status.Status.TheVariants.{Done, No, Refused, ReadFault, WriteFault, Memory, Usage}
-use Rattle.dover_port.proofs.Made.{since_weaker}
+use Rattle.dialogue.specs.Talk.{IsFinal}
+use Rattle.dialogue.specs.declared.talker.Stop.{Stop}
+use Rattle.dialogue.specs.declared.talker.Stop.TheVariants.{NoMemory, Unwritten}
 use Rattle.policy_lab.specs.PolicyRun.{policy_run, AreTooLarge}
 use Rattle.policy_lab.specs.Standard.{earliest_deadline, greatest_density}
-use Rattle.dover_words.specs.Compare.{SaysCompare, AreWithin, worth_of, compared_of, compared_lines, IsFrugal}
-use Rattle.dover_model.specs.Feed.{account}
-use Rattle.dover_model.specs.Session.{Session, instance_of}
-use Rattle.feed_reading.specs.Listing.{listed_instance}
-use Rattle.feed_reading.specs.declared.listed.Listed.{Listed}
-use Rattle.dover_core.specs.Spending.{AreFew}
-use Rattle.dover_words.specs.Record.{Finishes, IsRefusal, Puts}
+use Rattle.dover_words.specs.Asking.{PutsBy, SaysBy}
+use Rattle.dover_words.specs.Compare.{SaysCompare, AreWithin, worth_of, compared_of, compared_lines}
 use Rattle.dover_words.specs.Texts.{size_text}
 use Rattle.dover_words.specs.declared.compare.Compared.{Compared}
-use Rattle.dover_words.proofs.Records.{IsSaying}
 
 -- what is said comes with Done or Refused
-pub compare_saying : (J : Instance) (status : Status) (text : List ℕ) → SaysCompare J status text → IsSaying status
+pub compare_saying : (J : Instance) (status : Status) (text : List ℕ) → SaysCompare J status text → IsFinal status
 compare_saying J Done text it = tt
 compare_saying J Refused text it = tt
 compare_saying J No text it = absurd it
@@ -63,12 +59,17 @@ module _ (J : Instance) (valid : IsValid J) where
 
   -- the two schedules are within it
   pub both_within : AreWithin (compared_of J)
-  both_within = record { edf = worth_low (policy_run earliest_deadline J.jobs); dense = worth_low (policy_run greatest_density J.jobs) }
+  both_within = record {
+    edf = worth_low (policy_run earliest_deadline J.jobs);
+    dense =
+        worth_low (policy_run greatest_density J.jobs);
+  }
 
   -- the numbers are those of the jobs
   pub compared_is : (jobs : List JobFacts) → jobs ≡ J.jobs → (dover edf dense most : ℕ) → dover ≡ completed_value J
       → edf ≡ worth (record { rules = J.rules; jobs = jobs }) (policy_run earliest_deadline jobs)
-      → dense ≡ worth (record { rules = J.rules; jobs = jobs }) (policy_run greatest_density jobs) → most ≡ bound J.rules.ratio dover
+      → dense ≡ worth (record { rules = J.rules; jobs = jobs }) (policy_run greatest_density jobs)
+      → most ≡ bound J.rules.ratio dover
       → numbers dover edf dense most ≡ compared_of J
   compared_is jobs same dover edf dense most run first second is =
       same_numbers dover edf dense most (completed_value J) (worth_of earliest_deadline J) (worth_of greatest_density J)
@@ -79,39 +80,24 @@ module _ (J : Instance) (valid : IsValid J) where
 
   -- ---- the lines
 
-  module _ (a b : Option (List Move)) (c : Compared) (is : c ≡ compared_of J) (small : AreTooLarge J.jobs → ⊥) where
+  module _ (a b : Option (List Move)) (q : List ℕ) (c : Compared) (is : c ≡ compared_of J)
+      (small : AreTooLarge J.jobs → ⊥) where
     -- this is what is said
     said : SaysCompare J Done (in_lines (compared_lines c))
     said = (small, both_within, ap (λ x. in_lines (compared_lines x)) is)
 
     -- it was put
-    pub compared_put : Since a b (λ made. ArePuts made × (outs made ≡ in_lines (compared_lines c))) → Since a b (Finishes SaysCompare J Done)
-    compared_put put = since_weaker a b _ _ put (λ made p. inr (Done, in_lines (compared_lines c), said, inl (refl, p.0, p.1)))
+    pub compared_put : Passes a b [] q (in_lines (compared_lines c)) → SaysBy SaysCompare J a b q (Ok Done)
+    compared_put put = (in_lines (compared_lines c), said, put)
 
     -- it couldn't be put
-    pub compared_cut : Since a b (λ made. ArePuts made × IsProperPrefix (outs made) (in_lines (compared_lines c)))
-        → Since a b (Finishes SaysCompare J WriteFault)
-    compared_cut put = since_weaker a b _ _ put (λ made p. inr (Done, in_lines (compared_lines c), said, inr (refl, p.0, p.1)))
+    pub compared_cut : CutsShort a b [] (in_lines (compared_lines c)) → SaysBy SaysCompare J a b q (Err Unwritten)
+    compared_cut cut = (Done, in_lines (compared_lines c), said, cut)
 
 -- a feed that is too large is refused
-pub size_put : (J : Instance) (a b : Option (List Move)) (status : Status) → AreTooLarge J.jobs → Since a b (Puts Refused status size_text)
-    → Since a b (Finishes SaysCompare J status)
-size_put J a b status large put = since_weaker a b _ _ put (λ made p. inr (Refused, size_text, (large, refl), p))
-
--- ---- the comparisons
-
--- a refusal isn't Done
-pub refusal_not_done : (status : Status) {X : Type 0} → IsRefusal status → status ≡ Done → X
-refusal_not_done status it is = absurd (subst IsRefusal is it)
-
--- those for an ended feed are few
-pub ended_frugal : (a c : Option (List Move)) (listed : Listed) (status : Status) (before after : ℕ)
-    → Since a c (λ moves. (S : Session) → (account (ins moves)).session ≡ Some S → instance_of S ≡ listed_instance listed)
-    → (status ≡ Done → AreFew (length listed.jobs.items) before after) → Since a c (λ moves. status ≡ Done → IsFrugal before after moves)
-ended_frugal a c listed status before after lists few = since_weaker a c _ _ lists
-    (λ moves same done S is. subst (λ (J : Instance). AreFew (length J.jobs) before after) (sym (same S is)) (few done))
-
--- nothing is said of a call that isn't Done
-pub none_frugal : (a c : Option (List Move)) (T : List Move → Type 0) (status : Status) (before after : ℕ) → (status ≡ Done → ⊥) → Since a c T
-    → Since a c (λ moves. status ≡ Done → IsFrugal before after moves)
-none_frugal a c T status before after not it = since_weaker a c _ _ it (λ moves t done. absurd (not done))
+pub size_put : (J : Instance) (a b : Option (List Move)) (q : List ℕ) (r : Result Status Stop) → AreTooLarge J.jobs
+    → PutsBy Refused size_text a b q r → SaysBy SaysCompare J a b q r
+size_put J a b q (Ok status) large put =
+    (size_text, subst (λ s. SaysCompare J s size_text) (sym put.0) (large, refl), put.1)
+size_put J a b q (Err Unwritten) large cut = (Refused, size_text, (large, refl), cut)
+size_put J a b q (Err NoMemory) large none = absurd none

@@ -1,5 +1,6 @@
 -- What the word `best` says is what was found.
-use Rattle.std.proofs.Common.{◌≡◌, ◌≤◌, ◌<◌, ◌++◌, ℕ, List, length, refl, sym, ap, ◌∙◌, subst, Option, inl, inr}
+use Rattle.std.proofs.Common.{◌≡◌, ◌≤◌, ◌<◌, ◌++◌, ℕ, List, [], length, refl, sym, ap, ◌∙◌, subst, Option, Result, Ok}
+use Rattle.std.proofs.Common.{Err}
 use Rattle.clairvoyant.specs.BestSet.{IsBestSet, value_of, pieces_of}
 use Rattle.dover_model.specs.Bound.{bound}
 use Rattle.dover_model.specs.Instance.{Rules, Instance, IsValid}
@@ -10,19 +11,20 @@ use Rattle.dover_model.specs.Run.{completed_value, ran}
 use Rattle.dover_model.specs.Schedules.{worth}
 use Rattle.dover_model.specs.declared.pieces.Piece.{Piece}
 use Rattle.dover_model.proofs.Honest.{honest}
-use Rattle.dover_port.specs.Moves.{Move, Since, ArePuts, outs, IsProperPrefix}
+use Rattle.dover_port.specs.Moves.{Move, Passes, CutsShort}
 use Rattle.dover_port.specs.declared.status.Status.{Status}
 use Rattle.dover_port.specs.declared.status.Status.TheVariants.{Done, No, Refused, ReadFault, WriteFault, Memory, Usage}
-use Rattle.dover_port.proofs.Made.{since_weaker}
+use Rattle.dialogue.specs.Talk.{IsFinal}
+use Rattle.dialogue.specs.declared.talker.Stop.{Stop}
+use Rattle.dialogue.specs.declared.talker.Stop.TheVariants.{NoMemory, Unwritten}
+use Rattle.dover_words.specs.Asking.{PutsBy, SaysBy}
 use Rattle.dover_words.specs.Best.{SaysBest, IsOptimum, IsFinding, found_of, found_lines}
-use Rattle.dover_words.specs.Record.{Finishes, Puts}
 use Rattle.dover_words.specs.Texts.{piece_lines, size_text}
 use Rattle.dover_words.specs.declared.best.Found.{Found}
 use Rattle.dover_words.proofs.Comparing.{worth_low}
-use Rattle.dover_words.proofs.Records.{IsSaying}
 
 -- what is said comes with Done or Refused
-pub best_saying : (J : Instance) (status : Status) (text : List ℕ) → SaysBest J status text → IsSaying status
+pub best_saying : (J : Instance) (status : Status) (text : List ℕ) → SaysBest J status text → IsFinal status
 best_saying J Done text it = tt
 best_saying J Refused text it = tt
 best_saying J No text it = absurd it
@@ -33,7 +35,8 @@ best_saying J Usage text it = absurd it
 
 -- ---- the best set
 
--- these are the numbers of a best set of the jobs, its value, and the pieces of a schedule that no other is worth more than
+-- these are the numbers of a best set of the jobs, its value, and the pieces of a schedule that no other is worth more
+-- than
 pub record Finds (jobs : List JobFacts) (chosen : List ℕ) (optimum : ℕ) (pieces : List Piece) : Type 0 where
   pub best : IsBestSet jobs chosen
   pub value : optimum ≡ value_of jobs chosen
@@ -66,12 +69,15 @@ module _ (J : Instance) (valid : IsValid J) where
       earned = worth_is;
       most = most_is;
       above = subst (λ v. v ≤ value_of J.jobs chosen) (honest J valid) (most_is (ran J));
-      within = subst (λ v. v ≤ bound J.rules.ratio (completed_value J)) worth_is (worth_low J valid (spread (pieces_of J.jobs chosen)));
+      within = subst (λ v. v ≤ bound J.rules.ratio (completed_value J)) worth_is
+          (worth_low J valid (spread (pieces_of J.jobs chosen)));
     }
 
   -- these are the numbers and the pieces of a best set
-  pub finds_are : (jobs : List JobFacts) → jobs ≡ J.jobs → (chosen : List ℕ) (count optimum value most : ℕ) (pieces : List Piece)
-      → Finds jobs chosen optimum pieces → count ≡ length J.jobs → value ≡ completed_value J → most ≡ bound J.rules.ratio value
+  pub finds_are : (jobs : List JobFacts) → jobs ≡ J.jobs
+      → (chosen : List ℕ) (count optimum value most : ℕ) (pieces : List Piece)
+      → Finds jobs chosen optimum pieces → count ≡ length J.jobs → value ≡ completed_value J
+      → most ≡ bound J.rules.ratio value
       → IsFinding J (numbers count optimum value most) pieces
   finds_are jobs same chosen count optimum value most pieces finds counted run is =
       let it : Finds J.jobs chosen optimum pieces = subst (λ js. Finds js chosen optimum pieces) same finds in (
@@ -84,8 +90,8 @@ module _ (J : Instance) (valid : IsValid J) where
 
 -- ---- the lines
 
-module _ (J : Instance) (a b : Option (List Move)) (found : Found) (pieces : List Piece) (it : IsFinding J found pieces)
-    (few : 20 < length J.jobs → ⊥) where
+module _ (J : Instance) (a b : Option (List Move)) (q : List ℕ) (found : Found) (pieces : List Piece)
+    (it : IsFinding J found pieces) (few : 20 < length J.jobs → ⊥) where
   -- the lines of what was found
   abbrev text : List ℕ
   text = in_lines (found_lines found) ++ in_lines (piece_lines pieces)
@@ -103,14 +109,17 @@ module _ (J : Instance) (a b : Option (List Move)) (found : Found) (pieces : Lis
   )
 
   -- it was put
-  pub found_put : Since a b (λ made. ArePuts made × (outs made ≡ text)) → Since a b (Finishes SaysBest J Done)
-  found_put put = since_weaker a b _ _ put (λ made p. inr (Done, text, said, inl (refl, p.0, p.1)))
+  pub found_put : Passes a b [] q text → SaysBy SaysBest J a b q (Ok Done)
+  found_put put = (text, said, put)
 
   -- it couldn't be put
-  pub found_cut : Since a b (λ made. ArePuts made × IsProperPrefix (outs made) text) → Since a b (Finishes SaysBest J WriteFault)
-  found_cut put = since_weaker a b _ _ put (λ made p. inr (Done, text, said, inr (refl, p.0, p.1)))
+  pub found_cut : CutsShort a b [] text → SaysBy SaysBest J a b q (Err Unwritten)
+  found_cut cut = (Done, text, said, cut)
 
 -- a feed of too many jobs is refused
-pub many_put : (J : Instance) (a b : Option (List Move)) (status : Status) → 20 < length J.jobs → Since a b (Puts Refused status size_text)
-    → Since a b (Finishes SaysBest J status)
-many_put J a b status many put = since_weaker a b _ _ put (λ made p. inr (Refused, size_text, (many, refl), p))
+pub many_put : (J : Instance) (a b : Option (List Move)) (q : List ℕ) (r : Result Status Stop) → 20 < length J.jobs
+    → PutsBy Refused size_text a b q r → SaysBy SaysBest J a b q r
+many_put J a b q (Ok status) many put =
+    (size_text, subst (λ s. SaysBest J s size_text) (sym put.0) (many, refl), put.1)
+many_put J a b q (Err Unwritten) many cut = (Refused, size_text, (many, refl), cut)
+many_put J a b q (Err NoMemory) many none = absurd none

@@ -22,7 +22,8 @@ found_lines f =
     ∷ with_numbers (codes "bound") (f.bound ∷ [])
     ∷ []
 
--- how many jobs there are, what the chosen ones are worth, what the run completes, and the bound on what any schedule is worth
+-- how many jobs there are, what the chosen ones are worth, what the run completes, and the bound on what any schedule
+-- is worth
 abbrev pub found_of : Instance → (chosen : List ℕ) → Found
 found_of J chosen = let value : ℕ = completed_value J in record {
   jobs = length J.jobs;
@@ -35,7 +36,8 @@ found_of J chosen = let value : ℕ = completed_value J in record {
 abbrev pub best_text : Instance → (chosen : List ℕ) → List ℕ
 best_text J chosen = in_lines (found_lines (found_of J chosen)) ++ in_lines (piece_lines (pieces_of J.jobs chosen))
 
--- The chosen jobs are the best that one schedule can serve, and theirs does. The run completes no more, and no schedule is worth more.
+-- The chosen jobs are the best that one schedule can serve, and theirs does. The run completes no more, and no schedule
+-- is worth more.
 pub record IsOptimum (J : Instance) (chosen : List ℕ) : Type 0 where
   pub best : IsBestSet J.jobs chosen
   pub earned : worth J (spread (pieces_of J.jobs chosen)) ≡ value_of J.jobs chosen
@@ -51,4 +53,5 @@ SaysBest J _ text = ⊥
 
 -- these are the numbers and the pieces of a best set
 abbrev pub IsFinding : Instance → Found → List Piece → Type 0
-IsFinding J found pieces = (chosen : List ℕ) × IsOptimum J chosen × (found ≡ found_of J chosen) × (pieces ≡ pieces_of J.jobs chosen)
+IsFinding J found pieces = (chosen : List ℕ) × IsOptimum J chosen × (found ≡ found_of J chosen)
+    × (pieces ≡ pieces_of J.jobs chosen)

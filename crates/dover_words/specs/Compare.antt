@@ -21,7 +21,8 @@ use Rattle.dover_words.specs.declared.compare.Compared.{Compared}
 abbrev pub worth_of : Picks → Instance → ℕ
 worth_of picks J = worth J (policy_run picks J.jobs)
 
--- the value that the run of these jobs completes, what the two policies' schedules are worth, and the bound on what any is worth
+-- the value that the run of these jobs completes, what the two policies' schedules are worth, and the bound on what any
+-- is worth
 abbrev pub compared_of : Instance → Compared
 compared_of J = let value : ℕ = completed_value J in record {
   dover = value;
@@ -54,6 +55,8 @@ SaysCompare J Done text = (AreTooLarge J.jobs → ⊥) × AreWithin (compared_of
 SaysCompare J Refused text = AreTooLarge J.jobs × (text ≡ size_text)
 SaysCompare J _ text = ⊥
 
--- the comparisons of a call whose feed admits n jobs are few: at most 80 * (n + 1) * d, where n + 1 has at most d binary digits
+-- the comparisons of a call whose feed admits n jobs are few: at most 80 * (n + 1) * d, where n + 1 has at most d
+-- binary digits
 abbrev pub IsFrugal : (before after : ℕ) → List Move → Type 0
-IsFrugal before after moves = (S : Session) → (account (ins moves)).session ≡ Some S → AreFew (length (instance_of S).jobs) before after
+IsFrugal before after moves = (S : Session) → (account (ins moves)).session ≡ Some S
+    → AreFew (length (instance_of S).jobs) before after

@@ -19,10 +19,12 @@ pieces_text pieces = in_lines (with_numbers (codes "feasible") (length pieces �
 abbrev pub window_text : (a b work : ℕ) → List ℕ
 window_text a b work = in_lines (with_numbers (codes "window") (a ∷ b ∷ work ∷ []) ∷ [])
 
--- Done where some schedule serves every job, with the pieces of one that does, and else No, with the window that shows it
+-- Done where some schedule serves every job, with the pieces of one that does, and else No, with the window that shows
+-- it
 abbrev pub SaysFeasible : Instance → Status → List ℕ → Type 0
 SaysFeasible J Done text = Meets J × ((pieces : List Piece) × ShowsAll J.jobs pieces × (text ≡ pieces_text pieces))
-SaysFeasible J No text = (Meets J → ⊥) × ((a : ℕ) × (b : ℕ) × (work : ℕ) × ShowsWindow J.jobs a b work × (text ≡ window_text a b work))
+SaysFeasible J No text = (Meets J → ⊥)
+    × ((a : ℕ) × (b : ℕ) × (work : ℕ) × ShowsWindow J.jobs a b work × (text ≡ window_text a b work))
 SaysFeasible J _ text = ⊥
 
 -- the statuses that the word ends with

@@ -5,3 +5,5 @@ pub mod Serving
 pub mod Compare
 pub mod Best
 pub mod Questions
+pub mod Asking
+pub mod Talking

@@ -1,9 +1,9 @@
 -- What the moves of a call that answers on the jobs of a feed come to, by how it ended.
-use Rattle.std.specs.Prelude.{◌≡◌, ◌⊎◌, ℕ, List, [], true, false, Some}
+use Rattle.std.specs.Prelude.{◌≡◌, ◌⊎◌, ℕ, List, [], Bool, true, false, Some}
 use Rattle.dover_model.specs.Feed.{is_open, is_ended, account, Cause, Faulty}
 use Rattle.dover_model.specs.Instance.{Instance}
 use Rattle.dover_model.specs.Session.{Session, IsValidSession, instance_of}
-use Rattle.dover_port.specs.Moves.{Move, ArePuts, ins, outs, has_ended, EachRead, IsProperPrefix}
+use Rattle.dover_port.specs.Moves.{Move, ins, outs, has_ended, EachRead, IsProperPrefix}
 use Rattle.dover_port.specs.declared.status.Status.{Status}
 use Rattle.dover_port.specs.declared.status.Status.TheVariants.{Done, No, Refused, ReadFault, WriteFault, Memory, Usage}
 use Rattle.feed_reading.specs.Record.{MayRead}
@@ -13,22 +13,26 @@ use Rattle.dover_words.specs.Texts.{refusal_text}
 abbrev pub Says : Type 1
 Says = Instance → Status → List ℕ → Type 0
 
+-- a line of the feed of these bytes is at fault, or the input ended behind them before the feed did
+abbrev pub IsRefusedAt : List ℕ → Bool → Type 0
+IsRefusedAt bytes ended = ((line : ℕ) × (cause : Cause) × ((account bytes).standing ≡ Faulty line cause))
+    ⊎ ((ended ≡ true) × (is_open (account bytes) ≡ true))
+
 -- a line of the feed is at fault, or the input ended before the feed did
 abbrev pub IsRefusedFeed : List Move → Type 0
-IsRefusedFeed moves = ((line : ℕ) × (cause : Cause) × ((account (ins moves)).standing ≡ Faulty line cause))
-    ⊎ ((has_ended moves ≡ true) × (is_open (account (ins moves)) ≡ true))
+IsRefusedFeed moves = IsRefusedAt (ins moves) (has_ended moves)
 
--- the feed ended without a fault, and this is said of its jobs
-pub record IsSaid (says : Says) (status : Status) (text : List ℕ) (moves : List Move) : Type 0 where
-  pub ended : is_ended (account (ins moves)) ≡ true
+-- the feed of these bytes ended without a fault, and this is said of its jobs
+pub record IsSaid (says : Says) (status : Status) (text bytes : List ℕ) : Type 0 where
+  pub ended : is_ended (account bytes) ≡ true
   pub session : Session
-  pub session_is : (account (ins moves)).session ≡ Some session
+  pub session_is : (account bytes).session ≡ Some session
   pub valid : IsValidSession session
   pub said : says (instance_of session) status text
 
 -- what is said of the feed's jobs was put
 abbrev pub IsAnswered : Says → Status → List Move → Type 0
-IsAnswered says status moves = IsSaid says status (outs moves) moves
+IsAnswered says status moves = IsSaid says status (outs moves) (ins moves)
 
 -- the feed was refused, and its line was put
 abbrev pub IsRefused : List Move → Type 0
@@ -43,7 +47,7 @@ pub record IsUnread (moves : List Move) : Type 0 where
 -- a write failed: a front of what refuses the feed was put, or of what is said of its jobs, and not all of it
 abbrev pub IsUnwritten : Says → List Move → Type 0
 IsUnwritten says moves = (IsRefusedFeed moves × IsProperPrefix (outs moves) (refusal_text (ins moves)))
-    ⊎ ((status : Status) × (text : List ℕ) × IsSaid says status text moves × IsProperPrefix (outs moves) text)
+    ⊎ ((status : Status) × (text : List ℕ) × IsSaid says status text (ins moves) × IsProperPrefix (outs moves) text)
 
 -- there was no memory: nothing was put, and the input goes on
 pub record IsOutOfMemory (moves : List Move) : Type 0 where
@@ -64,21 +68,3 @@ Ends says Usage moves = ⊥
 pub record Tells (says : Says) (status : Status) (moves : List Move) : Type 0 where
   pub reads : EachRead MayRead moves
   pub ends : Ends says status moves
-
--- the statuses of a call that refuses a feed
-abbrev pub IsRefusal : Status → Type 0
-IsRefusal Refused = Unit {0}
-IsRefusal WriteFault = Unit {0}
-IsRefusal _ = ⊥
-
--- ---- the last moves of a call
-
--- the text was put, which comes with this status, or a front of it where a write failed
-abbrev pub Puts : (due : Status) → Status → List ℕ → List Move → Type 0
-Puts due status text moves = ((status ≡ due) × ArePuts moves × (outs moves ≡ text))
-    ⊎ ((status ≡ WriteFault) × ArePuts moves × IsProperPrefix (outs moves) text)
-
--- what is said of these jobs was put, or there was no memory
-abbrev pub Finishes : Says → Instance → Status → List Move → Type 0
-Finishes says J status moves = ((status ≡ Memory) × (moves ≡ []))
-    ⊎ ((due : Status) × (text : List ℕ) × says J due text × Puts due status text moves)

@@ -16,7 +16,8 @@ pub record HasTaken (v : Service) (mark : ℕ) : Type 0 where
   pub events : List Event
   pub printed : HasPrinted (list_of v) mark v.state events
 
--- The server has taken the run of its jobs further, to its End where that was given, and then this is the value that the run completes.
+-- The server has taken the run of its jobs further, to its End where that was given, and then this is the value that
+-- the run completes.
 pub record IsCompleting (v : Service) (value : ℕ) : Type 0 where
   pub valid : IsValid (list_of v)
   pub mark : ℕ

@@ -7,7 +7,8 @@ use Rattle.dover_model.specs.declared.pieces.Piece.{Piece}
 
 -- what refuses the feed of these bytes where the input ends behind them: the line of its fault, or that it is short
 abbrev pub refusal_text : List ℕ → List ℕ
-refusal_text bytes = in_lines (fault_lines (account bytes).standing ++ short_lines (length (whole_lines bytes)) (account bytes))
+refusal_text bytes = in_lines
+    (fault_lines (account bytes).standing ++ short_lines (length (whole_lines bytes)) (account bytes))
 
 -- the line of a piece
 abbrev pub piece_line : Piece → List ℕ

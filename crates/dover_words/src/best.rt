@@ -1,23 +1,24 @@
 //! The word `best`.
-ghost use Rattle.std.specs.Prelude.{◌≡◌, ◌↔◌, ◌<◌, ◌++◌, IfOk, OnOk, Err, length};
+ghost use Rattle.std.specs.Prelude.{◌≡◌, ◌↔◌, ◌<◌, ◌++◌, [], IfOk, Err, length};
 ghost use Rattle.dover_model.specs.Instance.{IsValid};
 ghost use Rattle.dover_model.specs.Lines.{in_lines};
-ghost use Rattle.dover_port.specs.Causes.{Causes, HasCause, IsAnswer, StopsAtFailure, StopsWith};
-ghost use Rattle.dover_port.specs.Moves.{Since, PutsText, PutsThrough};
+ghost use Rattle.dover_port.specs.Causes.{HasCause, StopsAtFailure};
+ghost use Rattle.dover_port.specs.Moves.{PutsThrough};
+ghost use Rattle.dialogue.specs.Turns.{StopCause, StopsOn};
 ghost use Rattle.feed_reading.specs.Listing.{listed_instance};
 ghost use Rattle.dover_core.specs.Spending.{AreFew};
 ghost use Rattle.dover_words.specs.Best.{SaysBest, found_lines, IsFinding};
-ghost use Rattle.dover_words.specs.Compare.{IsFrugal};
-ghost use Rattle.dover_words.specs.Record.{Finishes, Tells};
+ghost use Rattle.dover_words.specs.Asking.{SaysBy};
 ghost use Rattle.dover_words.specs.Texts.{piece_lines};
 
 use crate::lines::put_pieces;
-use crate::refusing::{refuse, refuse_size};
+use crate::refusing::refuse_size;
 use crate::serving::completed;
 use clairvoyant::{BestFault, best};
+use dialogue::Stop;
 use dover_model::Piece;
 use dover_port::{Failed, Output, Port, Status};
-use feed_reading::{Listed, Reading, read_feed};
+use feed_reading::Listed;
 use line_output::put_numbers;
 use root_compare::bound;
 use std::alloc::Global;
@@ -42,7 +43,7 @@ fn find<L: Ledger>(
     requires { IsValid (listed_instance listed.now) }
     ensures finds { IfOk result (λ found. IsFinding (listed_instance listed.now) found.0 found.1.items) }
     ensures too_many { (result ≡ Err BestFault.TooMany) ↔ (20 < length listed.now.jobs.items) }
-    ensures count { OnOk result (AreFew (length listed.now.jobs.items) steps.old steps.new) }
+    ensures count { AreFew (length listed.now.jobs.items) steps.old steps.new }
 {
     let best = best(alloc, &listed.jobs)?;
     let Ok(value) = completed(alloc, listed.version, listed.ratio, &listed.jobs, steps) else {
@@ -59,8 +60,10 @@ fn find<L: Ledger>(
 
 /// Puts the lines of these numbers.
 fn put_found<P: Port>(port: &mut P, out: &mut Output, found: &Found) -> Result<(), Failed>
-    ensures text { PutsThrough (P.moves port.old) (P.moves port.new) result out.old out.new (in_lines (found_lines found.now)) }
-    ensures cause { HasCause (P.write_faults port.old) (P.write_faults port.new) (P.read_faults port.old) (P.read_faults port.new) result }
+    ensures text { PutsThrough (P.moves port.old) (P.moves port.new) result out.old out.new
+        (in_lines (found_lines found.now)) }
+    ensures cause { HasCause
+        (P.write_faults port.old) (P.write_faults port.new) (P.read_faults port.old) (P.read_faults port.new) result }
     ensures stops { StopsAtFailure (P.calls port.old) (P.calls port.new) result }
 {
     match put_numbers(port, out, b"jobs", &[found.jobs]) {
@@ -87,7 +90,8 @@ fn put_all_found<P: Port>(
 ) -> Result<(), Failed>
     ensures text { PutsThrough (P.moves port.old) (P.moves port.new) result out.old out.new
         (in_lines (found_lines found.now) ++ in_lines (piece_lines pieces.now)) }
-    ensures cause { HasCause (P.write_faults port.old) (P.write_faults port.new) (P.read_faults port.old) (P.read_faults port.new) result }
+    ensures cause { HasCause
+        (P.write_faults port.old) (P.write_faults port.new) (P.read_faults port.old) (P.read_faults port.new) result }
     ensures stops { StopsAtFailure (P.calls port.old) (P.calls port.new) result }
 {
     match put_found(port, out, found) {
@@ -97,59 +101,32 @@ fn put_all_found<P: Port>(
     put_pieces(port, out, pieces)
 }
 
-/// Writes the lines of these numbers, and of each piece.
-fn write_found<P: Port>(port: &mut P, found: &Found, pieces: &[Piece]) -> Result<(), Failed>
-    ensures text { PutsText (P.moves port.old) (P.moves port.new) result (in_lines (found_lines found.now) ++ in_lines (piece_lines pieces.now)) }
-    ensures cause { HasCause (P.write_faults port.old) (P.write_faults port.new) (P.read_faults port.old) (P.read_faults port.new) result }
-    ensures stops { StopsAtFailure (P.calls port.old) (P.calls port.new) result }
-{
-    let mut out = Output::new();
-    match put_all_found(port, &mut out, found, pieces) {
-        Ok(()) => {}
-        Err(failed) => return Err(failed),
-    }
-    out.flush(port)
-}
-
-/// Finds the best set of the jobs, and writes what came of it.
-fn answer<P: Port, L: Ledger>(
+/// Finds the best set of the jobs, and puts what came of it: how many jobs there are, what the best set of them that
+/// one schedule serves is worth, the value that the run completes, the bound on what any schedule is worth, and the
+/// schedule of the best set, in stretches of one job. More than 20 jobs are refused. Memory is taken for the search and
+/// for the
+/// run, and what is put stands in memory before its first byte.
+pub(crate) fn answer<P: Port, L: Ledger>(
     alloc: Global,
     port: &mut P,
+    out: &mut Output,
     listed: &Listed,
     steps: &mut Steps<L>,
-) -> Status
-    requires { IsValid (listed_instance listed.now) }
-    ensures finishes { Since (P.moves port.old) (P.moves port.new) (Finishes SaysBest (listed_instance listed.now) result) }
-    ensures answer { IsAnswer result }
-    ensures count { result ≡ Status.Done → AreFew (length listed.now.jobs.items) steps.old steps.new }
-    ensures causes { Causes result (P.read_faults port.old) (P.read_faults port.new) (P.write_faults port.old) (P.write_faults port.new) }
-    ensures stops { StopsWith result (P.calls port.old) (P.calls port.new) }
+) -> Result<Status, Stop>
+    requires empty { out.old ≡ [] }
+    requires valid { IsValid (listed_instance listed.now) }
+    ensures says { SaysBy SaysBest (listed_instance listed.now) (P.moves port.old) (P.moves port.new) out.new result }
+    ensures count { AreFew (length listed.now.jobs.items) steps.old steps.new }
+    ensures cause { StopCause result
+        (P.write_faults port.old) (P.write_faults port.new) (P.read_faults port.old) (P.read_faults port.new) }
+    ensures stops { StopsOn result (P.calls port.old) (P.calls port.new) }
 {
     match find(alloc, listed, steps) {
-        Ok(found) => match write_found(port, &found.0, &found.1) {
-            Ok(()) => Status::Done,
-            Err(_) => Status::WriteFault,
+        Ok(found) => match put_all_found(port, out, &found.0, &found.1) {
+            Ok(()) => Ok(Status::Done),
+            Err(_) => Err(Stop::Unwritten),
         },
-        Err(BestFault::TooMany) => refuse_size(port),
-        Err(BestFault::Memory) => Status::Memory,
-    }
-}
-
-/// Says what the best schedule of a feed's jobs is worth: reads the feed to its end, and then writes how many jobs it has, what the best set
-/// of them that one schedule serves is worth, the value that the feed's run completes, the bound on what any schedule is worth, and the
-/// schedule of the best set, in stretches of one job. A feed with a fault, or that ends too early, is refused, and so is one of more than 20
-/// jobs. Refused job lines of version Two are passed over. Memory is taken for each admitted job, for the search and for the run.
-pub fn best_word<P: Port, L: Ledger>(alloc: Global, port: &mut P, steps: &mut Steps<L>) -> Status
-    ensures tells { Since (P.moves port.old) (P.moves port.new) (Tells SaysBest result) }
-    ensures answer { IsAnswer result }
-    ensures count { Since (P.moves port.old) (P.moves port.new) (λ moves. result ≡ Status.Done → IsFrugal steps.old steps.new moves) }
-    ensures causes { Causes result (P.read_faults port.old) (P.read_faults port.new) (P.write_faults port.old) (P.write_faults port.new) }
-    ensures stops { StopsWith result (P.calls port.old) (P.calls port.new) }
-{
-    match read_feed(alloc, port) {
-        Reading::Ended(listed) => answer(alloc, port, &listed, steps),
-        Reading::Refused(fault) => refuse(port, fault),
-        Reading::Unread => Status::ReadFault,
-        Reading::NoMemory => Status::Memory,
+        Err(BestFault::TooMany) => refuse_size(port, out),
+        Err(BestFault::Memory) => Err(Stop::NoMemory),
     }
 }

@@ -11,8 +11,10 @@ use line_output::put_numbers;
 
 /// Puts the line of a piece.
 fn put_piece<P: Port>(port: &mut P, out: &mut Output, piece: &Piece) -> Result<(), Failed>
-    ensures text { PutsThrough (P.moves port.old) (P.moves port.new) result out.old out.new (piece_line piece.now ++ 10 ∷ []) }
-    ensures cause { HasCause (P.write_faults port.old) (P.write_faults port.new) (P.read_faults port.old) (P.read_faults port.new) result }
+    ensures text { PutsThrough (P.moves port.old) (P.moves port.new) result out.old out.new
+        (piece_line piece.now ++ 10 ∷ []) }
+    ensures cause { HasCause
+        (P.write_faults port.old) (P.write_faults port.new) (P.read_faults port.old) (P.read_faults port.new) result }
     ensures stops { StopsAtFailure (P.calls port.old) (P.calls port.new) result }
 {
     put_numbers(
@@ -29,8 +31,10 @@ pub(crate) fn put_pieces<P: Port>(
     out: &mut Output,
     pieces: &[Piece],
 ) -> Result<(), Failed>
-    ensures text { PutsThrough (P.moves port.old) (P.moves port.new) result out.old out.new (in_lines (piece_lines pieces.now)) }
-    ensures cause { HasCause (P.write_faults port.old) (P.write_faults port.new) (P.read_faults port.old) (P.read_faults port.new) result }
+    ensures text { PutsThrough (P.moves port.old) (P.moves port.new) result out.old out.new
+        (in_lines (piece_lines pieces.now)) }
+    ensures cause { HasCause
+        (P.write_faults port.old) (P.write_faults port.new) (P.read_faults port.old) (P.read_faults port.new) result }
     ensures stops { StopsAtFailure (P.calls port.old) (P.calls port.new) result }
 {
     for piece in pieces {

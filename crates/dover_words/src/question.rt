@@ -6,11 +6,12 @@ ghost use Rattle.dover_words.specs.Compare.{IsFrugal};
 ghost use Rattle.dover_words.specs.Questions.{says, IsAnswerTo};
 ghost use Rattle.dover_words.specs.Record.{Tells};
 
-use crate::best::best_word;
-use crate::compare::compare_word;
-use crate::feasible::feasible_word;
+use crate::asking::Asking;
+use dialogue::converse;
 use dover_port::{Port, Status};
+use feed_reading::FeedReader;
 use std::alloc::Global;
+use std::marker::PhantomData;
 use std::sync::ledger::Ledger;
 use step_count::Steps;
 
@@ -25,7 +26,9 @@ pub enum Question {
     Compare,
 }
 
-/// Reads a feed to its end, and then answers the question on its jobs, as the word for it does.
+/// Reads a feed to its end, and then answers the question on its jobs. A feed with a fault, or that ends too early, is
+/// refused. Refused job lines of version Two are passed over. Memory is taken for each admitted job, and for the
+/// answer.
 pub fn question_word<P: Port, L: Ledger>(
     alloc: Global,
     port: &mut P,
@@ -34,13 +37,17 @@ pub fn question_word<P: Port, L: Ledger>(
 ) -> Status
     ensures tells { Since (P.moves port.old) (P.moves port.new) (Tells (says question) result) }
     ensures answer { IsAnswerTo question result }
-    ensures count { Since (P.moves port.old) (P.moves port.new) (λ moves. result ≡ Status.Done → IsFrugal steps.old steps.new moves) }
-    ensures causes { Causes result (P.read_faults port.old) (P.read_faults port.new) (P.write_faults port.old) (P.write_faults port.new) }
+    ensures count { Since (P.moves port.old) (P.moves port.new)
+        (λ moves. result ≡ Status.Done → IsFrugal steps.old steps.new moves) }
+    ensures causes { Causes result
+        (P.read_faults port.old) (P.read_faults port.new) (P.write_faults port.old) (P.write_faults port.new) }
     ensures stops { StopsWith result (P.calls port.old) (P.calls port.new) }
 {
-    match question {
-        Question::Feasible => feasible_word(alloc, port),
-        Question::Best => best_word(alloc, port, steps),
-        Question::Compare => compare_word(alloc, port, steps),
-    }
+    let asking = Asking {
+        alloc,
+        question,
+        reader: FeedReader::new(alloc),
+        counts: PhantomData,
+    };
+    converse(port, asking, steps)
 }

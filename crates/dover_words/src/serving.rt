@@ -1,5 +1,5 @@
 //! A server over the jobs of a feed.
-ghost use Rattle.std.specs.Prelude.{◌≡◌, ◌≤◌, ℕ, true, IfOk, OnOk, length};
+ghost use Rattle.std.specs.Prelude.{◌≡◌, ◌≤◌, ℕ, true, IfOk, length};
 ghost use Rattle.dover_model.specs.Instance.{IsValid};
 ghost use Rattle.dover_model.specs.Run.{completed_value, value_of_end};
 ghost use Rattle.dover_core.specs.declared.horizon.Horizon.TheVariants.{Mark, End};
@@ -23,7 +23,8 @@ fn settle<L: Ledger>(server: &mut Server, mark: u64, steps: &mut Steps<L>)
     ensures last { server.new.last ≡ Mark mark }
     ensures ready { server.new.ready ≡ true }
     ensures spare { server.old.spare ≤ server.new.spare }
-    ensures count { (start : ℕ) → HasSpent server.old.state start steps.old → HasSpent server.new.state start steps.new }
+    ensures count { (start : ℕ) → HasSpent server.old.state start steps.old
+        → HasSpent server.new.state start steps.new }
 {
     while let Some(_) = server.step(Horizon::Mark(mark), steps) {}
 }
@@ -44,7 +45,8 @@ fn finish<L: Ledger>(server: &mut Server, steps: &mut Steps<L>) -> u64
     requires follows { MayFollow server.old.last End }
     ensures value { result ≡ completed_value (list_of server.old) }
     ensures list { list_of server.new ≡ list_of server.old }
-    ensures count { (start : ℕ) → HasSpent server.old.state start steps.old → HasSpent server.new.state start steps.new }
+    ensures count { (start : ℕ) → HasSpent server.old.state start steps.old
+        → HasSpent server.new.state start steps.new }
 {
     let mut value = 0;
     while let Some(event) = server.step(Horizon::End, steps) {
@@ -53,7 +55,8 @@ fn finish<L: Ledger>(server: &mut Server, steps: &mut Steps<L>) -> u64
     value
 }
 
-/// The value that the run of these jobs completes. Memory is taken for all jobs before the first is served, and nowhere else.
+/// The value that the run of these jobs completes. Memory is taken for all jobs before the first is served, and nowhere
+/// else.
 pub(crate) fn completed<L: Ledger>(
     alloc: Global,
     version: Version,
@@ -63,7 +66,7 @@ pub(crate) fn completed<L: Ledger>(
 ) -> Result<u64, Memory>
     requires { IsValid (instance_with (ratio, version) jobs.now) }
     ensures value { IfOk result (λ value. value ≡ completed_value (instance_with (ratio, version) jobs.now)) }
-    ensures count { OnOk result (AreFew (length jobs.now) steps.old steps.new) }
+    ensures count { AreFew (length jobs.now) steps.old steps.new }
 {
     let mut server = Server::new(alloc, version, ratio)?;
     server.reserve(jobs.len() as u32)?;

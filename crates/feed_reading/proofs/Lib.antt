@@ -1,3 +1,3 @@
+pub mod Ending
 pub mod Listing
 pub mod Pieces
-pub mod Records

@@ -1,5 +1,6 @@
 -- What is listed after a line.
-use Rattle.std.proofs.Common.{◌≡◌, ◌<◌, ◌+◌, ◌⊎◌, inl, inr, ℕ, List, ◌∷◌, ◌++◌, [], length, refl, sym, ap, ◌∙◌, Option, Some, None, arith}
+use Rattle.std.proofs.Common.{◌≡◌, ◌<◌, ◌+◌, ◌⊎◌, inl, inr, ℕ, List, ◌∷◌, ◌++◌, [], length, refl, sym, ap, ◌∙◌, Option}
+use Rattle.std.proofs.Common.{Some, None, arith}
 use Rattle.std.proofs.Common.{length-append, Bool, true, false}
 use Rattle.dover_model.specs.declared.events.Version.{Version}
 use Rattle.dover_model.specs.declared.events.Refusal.{Refusal}
@@ -7,7 +8,8 @@ use Rattle.dover_model.specs.JobFacts.{JobFacts}
 use Rattle.dover_model.specs.Fraction.{Fraction}
 use Rattle.dover_model.specs.Instance.{Rules, Instance}
 use Rattle.dover_model.specs.Feed.{Account, Open, Faulty, rules_with, account_of_lines}
-use Rattle.dover_model.specs.Session.{Session, Item, JobItem, RefusedItem, RefusedJob, refused_at, admitted_jobs, instance_of, with_item, new_session}
+use Rattle.dover_model.specs.Session.{Session, Item, JobItem, RefusedItem, RefusedJob, refused_at, admitted_jobs}
+use Rattle.dover_model.specs.Session.{instance_of, with_item, new_session}
 use Rattle.event_feed.specs.Answers.{AddsJob, AddsRefused, DeclaresRatio, NewFault, OldFault, counted, admitted_in}
 use Rattle.event_feed.specs.Faults.{IsFirstFault}
 use Rattle.event_feed.specs.Kept.{cause_of_fault}
@@ -15,13 +17,15 @@ use Rattle.event_feed.specs.declared.faults.FeedFault.{FeedFault}
 use Rattle.feed_reading.specs.Listing.{Lists, instance_with}
 
 -- a job more
-pub job_more : (items : List Item) (j : JobFacts) → admitted_jobs (items ++ JobItem j ∷ []) ≡ admitted_jobs items ++ j ∷ []
+pub job_more : (items : List Item) (j : JobFacts)
+    → admitted_jobs (items ++ JobItem j ∷ []) ≡ admitted_jobs items ++ j ∷ []
 job_more [] j = refl
 job_more (JobItem i ∷ items) j = ap (λ js. i ∷ js) (job_more items j)
 job_more (RefusedItem r ∷ items) j = job_more items j
 
 -- a refused line more
-pub refused_more : (items : List Item) (r : RefusedJob) → admitted_jobs (items ++ RefusedItem r ∷ []) ≡ admitted_jobs items
+pub refused_more : (items : List Item) (r : RefusedJob)
+    → admitted_jobs (items ++ RefusedItem r ∷ []) ≡ admitted_jobs items
 refused_more [] r = refl
 refused_more (JobItem i ∷ items) r = ap (λ js. i ∷ js) (refused_more items r)
 refused_more (RefusedItem s ∷ items) r = refused_more items r
@@ -44,11 +48,16 @@ one_session S T a e f = cc
 
 module _ (a b : Account) (stands : a.standing ≡ Open) where
   -- the ratio line
-  pub ratio_listed : (k : Fraction) (version : Version) → DeclaresRatio k version (counted a) b → (o : Option (Fraction × Version))
+  pub ratio_listed : (k : Fraction) (version : Version) → DeclaresRatio k version (counted a) b
+      → (o : Option (Fraction × Version))
       (jobs : List JobFacts) → Lists o jobs a.session → (b.standing ≡ Open) × Lists (Some (k, version)) jobs b.session
   ratio_listed k version it None jobs lists = (
     ap (λ (x : Account). x.standing) it.after_is ∙ stands,
-    (new_session (rules_with k version), ap (λ (x : Account). x.session) it.after_is, same_instance (k, version) jobs [] lists.0),
+    (
+      new_session (rules_with k version),
+      ap (λ (x : Account). x.session) it.after_is,
+      same_instance (k, version) jobs [] lists.0,
+    ),
   )
   ratio_listed k version it (Some declared) jobs lists = no_session a lists.0 it.first lists.1
 
@@ -81,12 +90,15 @@ module _ (a b : Account) (stands : a.standing ≡ Open) where
     job_admitted =
         let is : admitted_in b ≡ length (admitted_jobs (adds.session.items ++ JobItem job ∷ [])) =
         ap (λ (o : Option Session). elim o [ None ↦ 0 | Some S ↦ length (admitted_jobs S.items) ]) job_session in
-        let more : length (admitted_jobs (adds.session.items ++ JobItem job ∷ [])) ≡ length (admitted_jobs adds.session.items) + 1 =
-        ap (λ (js : List JobFacts). length js) (job_more adds.session.items job) ∙ length-append (admitted_jobs adds.session.items) (job ∷ []) in
+        let more : length (admitted_jobs (adds.session.items ++ JobItem job ∷ [])) ≡ length
+        (admitted_jobs adds.session.items) + 1 =
+        ap (λ (js : List JobFacts). length js) (job_more adds.session.items job)
+        ∙ length-append (admitted_jobs adds.session.items) (job ∷ []) in
         omega arith
 
   -- a refused line
-  pub refused_listed : (job : JobFacts) (cause : Refusal) → AddsRefused job cause (counted a) b → (o : Option (Fraction × Version))
+  pub refused_listed : (job : JobFacts) (cause : Refusal) → AddsRefused job cause (counted a) b
+      → (o : Option (Fraction × Version))
       (jobs : List JobFacts) → Lists o jobs a.session → (b.standing ≡ Open) × Lists o jobs b.session
   refused_listed job cause adds None jobs lists = no_session a adds.session lists.1 adds.before_is
   refused_listed job cause adds (Some declared) jobs lists =

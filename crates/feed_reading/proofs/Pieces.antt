@@ -26,12 +26,14 @@ module _ (x bytes : List ℕ) (i : ℕ) (before : i < length bytes) where
   over_is closed = sym (closed_account read (drop (i + 1) bytes) closed) ∙ ap account (rest_bytes x bytes i before)
 
   -- the byte ends the feed
-  pub piece_ended : (o : Option (Fraction × Version)) (jobs : List JobFacts) → StandsAt progress.Ended o jobs (account read)
+  pub piece_ended : (o : Option (Fraction × Version)) (jobs : List JobFacts)
+      → StandsAt progress.Ended o jobs (account read)
       → StandsAt progress.Ended o jobs (account (x ++ bytes))
   piece_ended o jobs it = subst (StandsAt progress.Ended o jobs) (over_is (ap goes_on it.0)) it
 
   -- it makes the feed faulty
-  pub piece_refused : (line : ℕ) (cause : Cause) → (account read).standing ≡ Faulty line cause → (account (x ++ bytes)).standing ≡ Faulty line cause
+  pub piece_refused : (line : ℕ) (cause : Cause) → (account read).standing ≡ Faulty line cause
+      → (account (x ++ bytes)).standing ≡ Faulty line cause
   piece_refused line cause it = subst (λ (a : Account). a.standing ≡ Faulty line cause) (over_is (ap goes_on it)) it
 
   -- its job finds no memory

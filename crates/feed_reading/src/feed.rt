@@ -57,7 +57,8 @@ impl Feed {
         ensures at { (x : List ℕ) → FeedStands self.old x →
             StandsAt result self.new.gathering.declared self.new.gathering.jobs.items (account (x ++ bytes.now)) }
         ensures stands { (x : List ℕ) → FeedStands self.old x → result ≡ Open → FeedStands self.new (x ++ bytes.now) }
-        ensures names { (x : List ℕ) (fault : FeedFault) → FeedStands self.old x → result ≡ Refused fault → IsFaultIn fault (x ++ bytes.now) }
+        ensures names { (x : List ℕ) (fault : FeedFault) → FeedStands self.old x → result ≡ Refused fault
+            → IsFaultIn fault (x ++ bytes.now) }
     {
         for byte in bytes {
             match self.take_byte(*byte) {

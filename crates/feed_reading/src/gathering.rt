@@ -35,7 +35,8 @@ pub(crate) struct Gathering {
 impl Gathering {
     /// Takes what a line says.
     fn take_fed(&mut self, fed: Fed) -> Progress
-        ensures stands { (a b : Account) → a.standing ≡ feeds.Open → Lists self.old.declared self.old.jobs.items a.session →
+        ensures stands { (a b : Account) → a.standing ≡ feeds.Open
+            → Lists self.old.declared self.old.jobs.items a.session →
             IsFed (counted a) b fed → StandsAt result self.new.declared self.new.jobs.items b }
         ensures goes_on { result ≡ Open → fed ≡ Fed.Over → ⊥ }
         ensures fine { (fault : FeedFault) → result ≡ Refused fault → ⊥ }
@@ -59,7 +60,8 @@ impl Gathering {
         requires { (ls : List (List ℕ)) × Keeps self.old ls }
         ensures stands { (ls : List (List ℕ)) → Keeps self.old ls →
             StandsAt result self.new.declared self.new.jobs.items (account_of_lines (ls ++ line.now ∷ [])) }
-        ensures keeps { (ls : List (List ℕ)) → Keeps self.old ls → result ≡ Open → Keeps self.new (ls ++ line.now ∷ []) }
+        ensures keeps { (ls : List (List ℕ)) → Keeps self.old ls → result ≡ Open
+            → Keeps self.new (ls ++ line.now ∷ []) }
         ensures names { (ls : List (List ℕ)) (fault : FeedFault) → Keeps self.old ls → result ≡ Refused fault →
             IsFirstFault fault (ls ++ line.now ∷ []) }
     {

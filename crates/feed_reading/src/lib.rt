@@ -1,10 +1,10 @@
-//! A feed is read up to its end, and the jobs that it admits are listed.
+//! A feed that comes in pieces is read up to its end, and the jobs that it admits are listed.
 #![tactic(auto)]
 
 mod feed;
 mod gathering;
 mod listed;
-mod reading;
+mod reader;
 
 pub use listed::Listed;
-pub use reading::{Reading, read_feed};
+pub use reader::FeedReader;

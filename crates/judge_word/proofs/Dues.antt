@@ -12,7 +12,8 @@ use Rattle.dover_model.specs.Numerals.{AreShort}
 use Rattle.dover_model.specs.Lines.{whole_lines, rest_of}
 use Rattle.dover_model.specs.Run.{printed}
 use Rattle.dover_model.specs.Session.{Session, instance_of}
-use Rattle.dover_model.specs.Verdict.{Expected, Step, Nothing, Verdict, Accepted, Wrong, Short, named_session, begins_trace, begins_trace_of}
+use Rattle.dover_model.specs.Verdict.{Expected, Step, Nothing, Verdict, Accepted, Wrong, Short, named_session}
+use Rattle.dover_model.specs.Verdict.{begins_trace, begins_trace_of}
 use Rattle.dover_model.specs.Verdict.{ends_with_end, is_empty, text_lines, first_wrong, step_after, expected_after}
 use Rattle.dover_model.specs.Verdict.{good_verdict, wrong_verdict, verdict}
 use Rattle.dover_model.proofs.Agreement.{is_valid_session-agrees}
@@ -40,11 +41,13 @@ nth_short (e ∷ es) zero all = same_numbers e all.0
 nth_short (e ∷ es) (suc n) all = nth_short es n all.1
 
 -- the session that these lines name is valid
-named_valid : (l : List ℕ) (ls : List (List ℕ)) (o : Option Session) → option_map_or (begins_trace_of (l ∷ ls)) o false ≡ true
+named_valid : (l : List ℕ) (ls : List (List ℕ)) (o : Option Session)
+    → option_map_or (begins_trace_of (l ∷ ls)) o false ≡ true
     → (n : ℕ) → IsShortDue (option_map_or Step (option_and_then (step_after n) o) Nothing)
 named_valid l ls None passes n = tt
 named_valid l ls (Some S) passes n =
-    nth_short (printed (instance_of S)) _ (printed_short (instance_of S) ((is_valid_session-agrees S).0 (and_parts _ _ passes).0).jobs)
+    nth_short (printed (instance_of S)) _ (printed_short (instance_of S)
+    ((is_valid_session-agrees S).0 (and_parts _ _ passes).0).jobs)
 
 -- what is due after lines that begin a trace
 begun_due : (ls : List (List ℕ)) → begins_trace ls ≡ true → IsShortDue (expected_after ls)
@@ -65,10 +68,12 @@ before_wrong before (l ∷ ls) n passes wrong = by_test (begins_trace (before ++
           → (begins_trace (before ++ l ∷ []) ≡ true → first_wrong (before ++ l ∷ []) ls ≡ Some n
           → begins_trace (take (n - 1) ((before ++ l ∷ []) ++ ls)) ≡ true)
           → begins_trace (take (n - 1) (before ++ l ∷ ls)) ≡ true
-      by_test true more h onward = subst (λ xs. begins_trace (take (n - 1) xs) ≡ true) (append_assoc before (l ∷ []) ls) (onward more h)
+      by_test true more h onward =
+          subst (λ xs. begins_trace (take (n - 1) xs) ≡ true) (append_assoc before (l ∷ []) ls) (onward more h)
       by_test false fails h onward =
           let at : suc (length before) ≡ n = some_same _ _ h in
-          let here : take (n - 1) (before ++ l ∷ ls) ≡ before = ap (λ k. take k (before ++ l ∷ ls)) (let e : n - 1 ≡ length before = omega arith in e)
+          let here : take (n - 1) (before ++ l ∷ ls) ≡ before =
+          ap (λ k. take k (before ++ l ∷ ls)) (let e : n - 1 ≡ length before = omega arith in e)
           ∙ take-append-le (length before) before (l ∷ ls) (omega arith) ∙ take-length before in
           ap begins_trace here ∙ passes
 
@@ -79,7 +84,8 @@ due_of (Wrong line due) = due
 due_of (Short lines) = Nothing
 
 -- a good verdict tells of nothing that is due
-good_due : (a : Bool) (o : Option Session) (k : ℕ) → IsShortDue (due_of (cond a (option_map_or Accepted o (Short k)) (Short k)))
+good_due : (a : Bool) (o : Option Session) (k : ℕ)
+    → IsShortDue (due_of (cond a (option_map_or Accepted o (Short k)) (Short k)))
 good_due true None k = tt
 good_due true (Some S) k = tt
 good_due false o k = tt
@@ -87,9 +93,11 @@ good_due false o k = tt
 -- what is due in place of a wrong line
 verdict_due : (T : List ℕ) → IsShortDue (due_of (verdict T))
 verdict_due T = by_first (first_wrong [] (text_lines T)) refl where
-  by_first : (o : Option ℕ) → first_wrong [] (text_lines T) ≡ o → IsShortDue (due_of (option_map_or (wrong_verdict T) o (good_verdict T)))
+  by_first : (o : Option ℕ) → first_wrong [] (text_lines T) ≡ o
+      → IsShortDue (due_of (option_map_or (wrong_verdict T) o (good_verdict T)))
   by_first (Some n) wrong = begun_due (take (n - 1) (text_lines T)) (before_wrong [] (text_lines T) n refl wrong)
-  by_first None none = good_due (ends_with_end (whole_lines T) && is_empty (rest_of T)) (named_session (whole_lines T)) (length (whole_lines T))
+  by_first None none = good_due (ends_with_end (whole_lines T) && is_empty (rest_of T)) (named_session (whole_lines T))
+      (length (whole_lines T))
 
 -- the same of a wrong text
 pub wrong_due : (T : List ℕ) (line : ℕ) (due : Expected) → verdict T ≡ Wrong line due → IsShortDue due

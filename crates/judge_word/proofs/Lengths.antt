@@ -22,23 +22,27 @@ use Rattle.trace_judge.proofs.Judging.{few_lines, reads_begins}
 -- ---- the lines of a text that begins a trace
 
 -- what lines that begin a trace begin with begins one too
-fronts_pass : (ls : List (List ℕ)) → begins_trace ls ≡ true → (l : List ℕ) (front : List (List ℕ)) → Begins (front ++ l ∷ []) ls
+fronts_pass : (ls : List (List ℕ)) → begins_trace ls ≡ true → (l : List ℕ) (front : List (List ℕ))
+    → Begins (front ++ l ∷ []) ls
     → begins_trace (front ++ l ∷ []) ≡ true
 fronts_pass [] passes l [] begins = absurd (let e : [] ≡ l ∷ begins.0 = begins.1 in cc)
 fronts_pass [] passes l (x ∷ front) begins = absurd (let e : [] ≡ x ∷ ((front ++ l ∷ []) ++ begins.0) = begins.1 in cc)
 fronts_pass (x ∷ ls) passes l front begins =
     let it : Starts (x ∷ ls) = begun x ls passes in
-    beginnings_pass it.session (front ++ l ∷ []) it.valid (begins_onward (front ++ l ∷ []) (x ∷ ls) (trace_lines it.session) begins it.begins)
+    beginnings_pass it.session (front ++ l ∷ []) it.valid
+    (begins_onward (front ++ l ∷ []) (x ∷ ls) (trace_lines it.session) begins it.begins)
 
 -- no line of them is too long
 lines_short : (before ls : List (List ℕ)) → begins_trace (before ++ ls) ≡ true → AreNotTooLong ls
 lines_short before [] passes = tt
-lines_short before (l ∷ ls) passes =
-    (by_length (is_too_long l) refl, lines_short (before ++ l ∷ []) ls (ap begins_trace (append_assoc before (l ∷ []) ls) ∙ passes)) where
-      by_length : (b : Bool) → is_too_long l ≡ b → length l ≤ 128
-      by_length true long = never (sym (too_long_fails before l long)
-          ∙ fronts_pass (before ++ l ∷ ls) passes l before (ls, sym (append_assoc before (l ∷ []) ls)))
-      by_length false fits = ltb-false _ _ fits
+lines_short before (l ∷ ls) passes = (
+  by_length (is_too_long l) refl,
+  lines_short (before ++ l ∷ []) ls (ap begins_trace (append_assoc before (l ∷ []) ls) ∙ passes),
+) where
+  by_length : (b : Bool) → is_too_long l ≡ b → length l ≤ 128
+  by_length true long = never (sym (too_long_fails before l long)
+      ∙ fronts_pass (before ++ l ∷ ls) passes l before (ls, sym (append_assoc before (l ∷ []) ls)))
+  by_length false fits = ltb-false _ _ fits
 
 -- ---- the text
 

@@ -1,5 +1,5 @@
 pub mod Sizes
 pub mod Dues
 pub mod Lengths
-pub mod Records
 pub mod Answering
+pub mod Talking

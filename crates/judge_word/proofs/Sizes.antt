@@ -12,7 +12,8 @@ pub accepted_value : (a : ℕ) → a < 2 ^ 64 → length (with_field (codes "acc
 accepted_value a small = omega (arith, digits a small, length-append (codes "accepted") (32 ∷ decimal a))
 
 -- with the bound
-pub accepted_bound : (a b : ℕ) → a < 2 ^ 64 → b < 2 ^ 64 → length (with_field (with_field (codes "accepted") (decimal a)) (decimal b)) ≤ 50
+pub accepted_bound : (a b : ℕ) → a < 2 ^ 64 → b < 2 ^ 64
+    → length (with_field (with_field (codes "accepted") (decimal a)) (decimal b)) ≤ 50
 accepted_bound a b small low = omega (
   arith,
   accepted_value a small,
@@ -29,7 +30,8 @@ pub wrong_number : (n : ℕ) → n < 2 ^ 64 → length (with_field (codes "wrong
 wrong_number n small = omega (arith, digits n small, length-append (codes "wrong") (32 ∷ decimal n))
 
 -- with the word behind it
-pub wrong_expected : (n : ℕ) → n < 2 ^ 64 → length (with_field (with_field (codes "wrong") (decimal n)) (codes "expected")) ≤ 35
+pub wrong_expected : (n : ℕ) → n < 2 ^ 64
+    → length (with_field (with_field (codes "wrong") (decimal n)) (codes "expected")) ≤ 35
 wrong_expected n small =
     omega (arith, wrong_number n small, length-append (with_field (codes "wrong") (decimal n)) (32 ∷ codes "expected"))
 

@@ -33,7 +33,8 @@ short_line lines = with_numbers (codes "short") (lines ∷ [])
 
 -- by the verdict
 abbrev pub verdict_line : Verdict → List ℕ
-verdict_line (Accepted S) = let value : ℕ = completed_value (instance_of S) in accepted_line value (bound S.rules.ratio value)
+verdict_line (Accepted S) = let value : ℕ = completed_value (instance_of S) in
+    accepted_line value (bound S.rules.ratio value)
 verdict_line (Wrong line due) = wrong_line line due
 verdict_line (Short lines) = short_line lines
 

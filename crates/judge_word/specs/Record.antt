@@ -4,27 +4,24 @@ use Rattle.dover_model.specs.Run.{completed_value}
 use Rattle.dover_model.specs.Session.{Session, instance_of}
 use Rattle.dover_model.specs.Verdict as model
 use Rattle.dover_model.specs.Verdict.{verdict}
-use Rattle.dover_port.specs.Causes.{Rose, StaysWell, FailsLast}
-use Rattle.dover_port.specs.declared.calls.Calls.{Calls}
-use Rattle.dover_port.specs.Moves.{Move, ArePuts, ins, outs, has_ended, EachRead, IsProperPrefix}
+use Rattle.dover_port.specs.Moves.{Move, ins, outs, has_ended, EachRead, IsProperPrefix}
 use Rattle.dover_port.specs.declared.status.Status.{Status}
 use Rattle.dover_port.specs.declared.status.Status.TheVariants.{Done, No, ReadFault, WriteFault, Memory}
-use Rattle.trace_judge.specs.Judging.{StandsFor, IsEarned, is_wrong}
-use Rattle.trace_judge.specs.declared.judge.Judge.{Judge}
+use Rattle.trace_judge.specs.Judging.{IsEarned, is_wrong}
 use Rattle.trace_judge.specs.declared.verdict.Verdict.{Verdict}
 use Rattle.trace_judge.specs.declared.verdict.Verdict.TheVariants.{Accepted, Wrong, Short}
 use Rattle.judge_word.specs.Line.{verdict_text}
-use Rattle.judge_word.specs.declared.reading.Reading.{Reading}
-use Rattle.judge_word.specs.declared.reading.Reading.TheVariants.{Over, Unread, NoMemory}
 
 -- Before a read: nothing was put, and no line of the bytes got is wrong.
 abbrev pub MayRead : List ℕ → List ℕ → Type 0
 MayRead got put = (put ≡ []) × (is_wrong (verdict got) ≡ false)
 
--- The bytes are the trace of a valid session. Its run completes a value that no schedule of its jobs beats by more than the ratio allows, and
+-- The bytes are the trace of a valid session. Its run completes a value that no schedule of its jobs beats by more than
+-- the ratio allows, and
 -- which the run's own schedule is worth.
 abbrev pub IsTrace : List ℕ → Type 0
-IsTrace bytes = (S : Session) × (verdict bytes ≡ model.Accepted S) × IsEarned S S.rules.ratio (completed_value (instance_of S))
+IsTrace bytes = (S : Session) × (verdict bytes ≡ model.Accepted S)
+    × IsEarned S S.rules.ratio (completed_value (instance_of S))
 
 -- the bytes aren't a trace, whatever follows, or stop before its end
 abbrev pub IsNoTrace : List ℕ → Type 0
@@ -42,7 +39,8 @@ pub record IsDone (moves : List Move) : Type 0 where
 
 -- a line is wrong, or the input ended too early, and the line of the verdict was put
 pub record IsRefused (moves : List Move) : Type 0 where
-  pub cause : (is_wrong (verdict (ins moves)) ≡ true) ⊎ ((has_ended moves ≡ true) × ((lines : ℕ) × (verdict (ins moves) ≡ model.Short lines)))
+  pub cause : (is_wrong (verdict (ins moves)) ≡ true)
+      ⊎ ((has_ended moves ≡ true) × ((lines : ℕ) × (verdict (ins moves) ≡ model.Short lines)))
   pub text : outs moves ≡ verdict_text (verdict (ins moves))
 
 -- a read failed: nothing was put, and no line is wrong
@@ -75,39 +73,6 @@ pub record Judges (status : Status) (moves : List Move) : Type 0 where
   pub reads : EachRead MayRead moves
   pub ends : Ends status moves
 
--- ---- the reading
-
--- the judge stands for what was got, no line of it is wrong, and nothing was put
-pub record GoesOn (judge : Judge) (moves : List Move) : Type 0 where
-  pub reads : EachRead MayRead moves
-  pub text : outs moves ≡ []
-  pub unended : has_ended moves ≡ false
-  pub right : is_wrong (verdict (ins moves)) ≡ false
-  pub stands : StandsFor judge (ins moves)
-
--- the judge stands for what was got, and nothing more is to be read
-pub record IsRead (judge : Judge) (moves : List Move) : Type 0 where
-  pub reads : EachRead MayRead moves
-  pub text : outs moves ≡ []
-  pub over : IsOver moves
-  pub stands : StandsFor judge (ins moves)
-
--- by how the reading ended
-abbrev pub ReadsBy : Reading → Judge → List Move → Type 0
-ReadsBy Over judge moves = IsRead judge moves
-ReadsBy Unread judge moves = Judges ReadFault moves
-ReadsBy NoMemory judge moves = Judges Memory moves
-
--- a read failed only where its count rose, and else both counts stay
-abbrev pub ReadCauses : Reading → (reads reads' writes writes' : ℕ) → Type 0
-ReadCauses Unread reads reads' writes writes' = Rose reads reads' × (writes' ≡ writes)
-ReadCauses _ reads reads' writes writes' = (reads' ≡ reads) × (writes' ≡ writes)
-
--- no call follows one that failed: the last one alone has failed where a read did, and else none has
-abbrev pub ReadStops : Reading → (old new : Calls) → Type 0
-ReadStops Unread old new = FailsLast old new
-ReadStops _ old new = StaysWell old new
-
 -- ---- the answer
 
 -- the status of a verdict
@@ -115,13 +80,6 @@ abbrev pub status_of : Verdict → Status
 status_of (Accepted k version value most jobs) = Done
 status_of (Wrong line due) = No
 status_of (Short lines) = No
-
--- the last moves of a call that judges these bytes
-abbrev pub Finishes : Status → List ℕ → List Move → Type 0
-Finishes Done bytes moves = ArePuts moves × (outs moves ≡ verdict_text (verdict bytes)) × IsTrace bytes
-Finishes No bytes moves = ArePuts moves × (outs moves ≡ verdict_text (verdict bytes)) × IsNoTrace bytes
-Finishes WriteFault bytes moves = ArePuts moves × IsProperPrefix (outs moves) (verdict_text (verdict bytes))
-Finishes _ bytes moves = ⊥
 
 -- the statuses that the word ends with
 abbrev pub IsAnswer : Status → Type 0

@@ -1,9 +1,9 @@
 //! The word `judge`: a text is read, judged as a trace, and the verdict is written as one line.
 #![tactic(auto)]
 
+mod judging;
 mod lines;
-mod reading;
 mod word;
 
-pub use reading::{Reading, read_text};
-pub use word::{answer, judge_word};
+pub use lines::{put_verdict, status_of};
+pub use word::judge_word;

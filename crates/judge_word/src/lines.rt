@@ -5,9 +5,11 @@ ghost use Rattle.dover_port.specs.Causes.{HasCause, StopsAtFailure};
 ghost use Rattle.dover_port.specs.Moves.{PutsThrough};
 ghost use Rattle.trace_judge.specs.Judging.{Tells};
 ghost use Rattle.trace_judge.specs.Reads.{expected_of};
-ghost use Rattle.judge_word.specs.Line.{IsShortDue, accepted_line, wrong_front, expected_text, short_line, verdict_text};
+ghost use Rattle.judge_word.specs.Record.{status_of};
+ghost use Rattle.judge_word.specs.Line.{IsShortDue, accepted_line, wrong_front, expected_text, short_line};
+ghost use Rattle.judge_word.specs.Line.{verdict_text};
 
-use dover_port::{Failed, Output, Port};
+use dover_port::{Failed, Output, Port, Status};
 use line_text::{BackLine, LineBuf};
 use trace_format::write_event;
 use trace_judge::{Expected, Verdict};
@@ -74,7 +76,8 @@ fn put_wrong<P: Port>(
     requires { IsShortDue (expected_of expected) }
     ensures text { PutsThrough (P.moves port.old) (P.moves port.new) result out.old out.new
         (verdict_text (model.Wrong number (expected_of expected))) }
-    ensures cause { HasCause (P.write_faults port.old) (P.write_faults port.new) (P.read_faults port.old) (P.read_faults port.new) result }
+    ensures cause { HasCause
+        (P.write_faults port.old) (P.write_faults port.new) (P.read_faults port.old) (P.read_faults port.new) result }
     ensures stops { StopsAtFailure (P.calls port.old) (P.calls port.new) result }
 {
     match out.put(port, wrong_front(number).bytes()) {
@@ -84,16 +87,25 @@ fn put_wrong<P: Port>(
     out.put(port, due_line(expected).bytes())
 }
 
-/// Puts the line of a verdict.
-pub(crate) fn put_verdict<P: Port>(
-    port: &mut P,
-    out: &mut Output,
-    verdict: &Verdict,
-) -> Result<(), Failed>
+/// The status of a verdict: `Done` where the text is accepted, and else `No`.
+pub fn status_of(verdict: &Verdict) -> Status
+    ensures { result ≡ status_of verdict.now }
+{
+    match verdict {
+        Verdict::Accepted { .. } => Status::Done,
+        Verdict::Wrong { .. } => Status::No,
+        Verdict::Short { .. } => Status::No,
+    }
+}
+
+/// Puts the line of a verdict, or keeps it back in `out`. An `Err`: a write failed, and a front of what was kept back
+/// and of the line was put, but not all of it.
+pub fn put_verdict<P: Port>(port: &mut P, out: &mut Output, verdict: &Verdict) -> Result<(), Failed>
     requires { (text : List ℕ) × Tells verdict.now text }
     ensures text { (text : List ℕ) → Tells verdict.now text →
         PutsThrough (P.moves port.old) (P.moves port.new) result out.old out.new (verdict_text (model.verdict text)) }
-    ensures cause { HasCause (P.write_faults port.old) (P.write_faults port.new) (P.read_faults port.old) (P.read_faults port.new) result }
+    ensures cause { HasCause
+        (P.write_faults port.old) (P.write_faults port.new) (P.read_faults port.old) (P.read_faults port.new) result }
     ensures stops { StopsAtFailure (P.calls port.old) (P.calls port.new) result }
 {
     match verdict {

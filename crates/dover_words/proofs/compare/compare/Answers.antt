@@ -12,16 +12,20 @@ use Rattle.dover_words.proofs.compare.compare.Goals as goal
 pub bound-requires : goal.bound-requires
 bound-requires g c = record {
   completed = value_low (listed_instance c.args.listed.now) c.requires _ (c.in-Ok.ensures.value
-      ∙ ap (λ js. completed_value (instance_with (c.args.listed.now.ratio, c.args.listed.now.version) js)) c.deref-3.ensures.value);
+      ∙ ap (λ js. completed_value (instance_with (c.args.listed.now.ratio, c.args.listed.now.version) js))
+      c.deref-3.ensures.value);
 }
 
 pub returns-clause-compared : goal.returns-clause-compared
-returns-clause-compared g c = compared_is (listed_instance c.args.listed.now) c.requires c.deref.result.now c.deref.ensures.value _ _ _ _
+returns-clause-compared g c =
+    compared_is (listed_instance c.args.listed.now) c.requires c.deref.result.now c.deref.ensures.value _ _ _ _
     (c.in-Ok.ensures.value
-    ∙ ap (λ js. completed_value (instance_with (c.args.listed.now.ratio, c.args.listed.now.version) js)) c.deref-3.ensures.value)
+    ∙ ap (λ js. completed_value (instance_with (c.args.listed.now.ratio, c.args.listed.now.version) js))
+    c.deref-3.ensures.value)
     (c.in_ok-edf.ensures.value (listed_instance c.args.listed.now).rules)
     (c.in_ok-dense.ensures.value (listed_instance c.args.listed.now).rules
-    ∙ ap (λ js. worth (record { rules = (listed_instance c.args.listed.now).rules; jobs = js }) (policy_run greatest_density js))
+    ∙ ap (λ js. worth (record { rules = (listed_instance c.args.listed.now).rules; jobs = js })
+    (policy_run greatest_density js))
     (c.deref-2.ensures.value ∙ sym c.deref.ensures.value)) c.bound.ensures.is
 
 pub returns-clause-too_large : goal.returns-clause-too_large
@@ -31,5 +35,11 @@ returns-clause-too_large g c = (
 )
 
 pub returns-clause-count : goal.returns-clause-count
-returns-clause-count g c = subst (λ (js : List JobFacts). AreFew (length js) c.args.steps.now c.completed.new.steps) c.deref-3.ensures.value
+returns-clause-count g c =
+    subst (λ (js : List JobFacts). AreFew (length js) c.args.steps.now c.completed.new.steps) c.deref-3.ensures.value
     c.in-Ok.ensures.count
+
+pub returns-in_default-clause-count : goal.returns-in_default-clause-count
+returns-in_default-clause-count g c =
+    subst (λ (js : List JobFacts). AreFew (length js) c.args.steps.now c.completed.new.steps) c.deref-3.ensures.value
+    c.in_default.ensures.count

@@ -3,11 +3,12 @@ use Rattle.deadline_oracle.specs.Feasibility.{IsAnswer}
 use Rattle.dover_words.proofs.SaidFeasible.{answer_put, answer_cut}
 use Rattle.dover_words.proofs.feasible.answer.Goals as goal
 
-pub returns-in-Ok-write_answer-clause-finishes : goal.returns-in-Ok-write_answer-clause-finishes
-returns-in-Ok-write_answer-clause-finishes g c = λ J same. rw c.status_of.ensures
-    (answer_put _ _ J c.in-Ok.feasible (subst (λ jobs. IsAnswer jobs c.in-Ok.feasible) (sym same) c.in-Ok.ensures)
-    c.in-Ok-write_answer.ensures.text.all)
+pub returns-in-Ok-put_answer-clause-says : goal.returns-in-Ok-put_answer-clause-says
+returns-in-Ok-put_answer-clause-says g c = λ J same. rw c.status_of.ensures
+    (answer_put _ _ _ J c.in-Ok.feasible (subst (λ jobs. IsAnswer jobs c.in-Ok.feasible) (sym same) c.in-Ok.ensures)
+    (rw c.requires.empty at c.in-Ok-put_answer.ensures.text.all))
 
-pub returns-clause-finishes : goal.returns-clause-finishes
-returns-clause-finishes g c = λ J same. answer_cut _ _ J c.in-Ok.feasible
-    (subst (λ jobs. IsAnswer jobs c.in-Ok.feasible) (sym same) c.in-Ok.ensures) c.in-Err.ensures.text.part
+pub returns-clause-says : goal.returns-clause-says
+returns-clause-says g c = λ J same. answer_cut _ _ c.put_answer.new.out J c.in-Ok.feasible
+    (subst (λ jobs. IsAnswer jobs c.in-Ok.feasible) (sym same) c.in-Ok.ensures)
+    (rw c.requires.empty at c.in-Err.ensures.text.part)

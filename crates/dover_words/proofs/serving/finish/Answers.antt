@@ -19,11 +19,13 @@ pub loop-event-preserved : goal.loop-event-preserved
 loop-event-preserved g c = record {
   taken = completing_next c.loop-event.server c.step.new.self _ c.loop-event.invariant.taken c.in-Some.ensures.list
       (goes_on_while _ c.in-Some.ensures.after_end) _ c.in-Some.ensures.some _ c.in-Some.ensures.rules
-      (ended_now _ _ _ c.in-Some.ensures.ended (goes_on_while _ c.in-Some.ensures.after_end)) c.value_after-value.ensures;
+      (ended_now _ _ _ c.in-Some.ensures.ended (goes_on_while _ c.in-Some.ensures.after_end))
+      c.value_after-value.ensures;
   follows = rw c.in-Some.ensures.last tt;
   list = c.in-Some.ensures.list ∙ c.loop-event.invariant.list;
   sound = c.in-Some.ensures.stands.sound;
-  count = λ start spent. spent_next End c.loop-event.server c.step.new.self start _ _ c.loop-event.invariant.taken.valid c.loop-event.invariant.sound
+  count = λ start spent. spent_next End c.loop-event.server c.step.new.self start _ _ c.loop-event.invariant.taken.valid
+      c.loop-event.invariant.sound
       c.in-Some.ensures.list c.in-Some.ensures.count (c.loop-event.invariant.count start spent);
 }
 
@@ -35,5 +37,7 @@ pub returns-clause-list : goal.returns-clause-list
 returns-clause-list g c = c.in_default.ensures.list ∙ c.loop-event.invariant.list
 
 pub returns-clause-count : goal.returns-clause-count
-returns-clause-count g c = λ start spent. spent_next End c.loop-event.server c.step.new.self start _ _ c.loop-event.invariant.taken.valid
-    c.loop-event.invariant.sound c.in_default.ensures.list c.in_default.ensures.count (c.loop-event.invariant.count start spent)
+returns-clause-count g c =
+    λ start spent. spent_next End c.loop-event.server c.step.new.self start _ _ c.loop-event.invariant.taken.valid
+    c.loop-event.invariant.sound c.in_default.ensures.list c.in_default.ensures.count
+    (c.loop-event.invariant.count start spent)

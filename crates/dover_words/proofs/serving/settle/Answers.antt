@@ -16,12 +16,15 @@ loop-init g c = record {
 
 pub loop-preserved : goal.loop-preserved
 loop-preserved g c = record {
-  taken = taken_next _ c.loop.server c.step.new.self c.loop.invariant.taken c.in-Some.ensures.list _ c.in-Some.ensures.some c.in-Some.ensures.ended;
+  taken = taken_next _ c.loop.server c.step.new.self c.loop.invariant.taken
+      c.in-Some.ensures.list _ c.in-Some.ensures.some c.in-Some.ensures.ended;
   follows = again _ _ _ c.requires.follows c.in-Some.ensures.last;
   list = c.in-Some.ensures.list ∙ c.loop.invariant.list;
   spare = omega (arith, c.loop.invariant.spare, c.in-Some.ensures.spare);
-  count = λ start spent. spent_next (Mark c.args.mark) c.loop.server c.step.new.self start _ _ c.loop.invariant.taken.valid
-      (taken_sound _ _ c.loop.invariant.taken) c.in-Some.ensures.list c.in-Some.ensures.count (c.loop.invariant.count start spent);
+  count = λ start spent. spent_next
+      (Mark c.args.mark) c.loop.server c.step.new.self start _ _ c.loop.invariant.taken.valid
+      (taken_sound _ _ c.loop.invariant.taken) c.in-Some.ensures.list c.in-Some.ensures.count
+      (c.loop.invariant.count start spent);
 }
 
 pub returns-clause-taken : goal.returns-clause-taken
@@ -30,5 +33,6 @@ returns-clause-taken g c = taken_ends _ c.loop.server c.step.new.self c.loop.inv
 
 pub returns-clause-count : goal.returns-clause-count
 returns-clause-count g c = λ start spent. spent_next (Mark c.args.mark) c.loop.server c.step.new.self start _ _
-    c.loop.invariant.taken.valid (taken_sound _ _ c.loop.invariant.taken) c.in_default.ensures.list c.in_default.ensures.count
+    c.loop.invariant.taken.valid
+    (taken_sound _ _ c.loop.invariant.taken) c.in_default.ensures.list c.in_default.ensures.count
     (c.loop.invariant.count start spent)

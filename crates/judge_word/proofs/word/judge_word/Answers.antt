@@ -1,14 +1,13 @@
-use Rattle.std.proofs.Common.{refl}
-use Rattle.dover_model.proofs.Tests.{never}
-use Rattle.judge_word.proofs.Records.{ends}
+use Rattle.dover_port.proofs.Made.{since_weaker}
+use Rattle.judge_word.proofs.Talking.{judged_by, answers}
 use Rattle.judge_word.proofs.word.judge_word.Goals as goal
 
-pub answer-requires : goal.answer-requires
-answer-requires g c = let was = c.in-Over.ensures.stands refl in (was.0, c.in-Ok-close.ensures.tells was.0 was.1)
+pub converse-requires : goal.converse-requires
+converse-requires g c = (tt, c.in-Ok.ensures.stands)
 
-pub returns-in-Ok-close-clause-judges : goal.returns-in-Ok-close-clause-judges
-returns-in-Ok-close-clause-judges g c = ends _ _ _ _ c.in-Over.ensures.reads c.answer.result
-    (λ x stands. c.answer.ensures.finishes x (c.in-Ok-close.ensures.tells x stands))
+pub returns-clause-judges : goal.returns-clause-judges
+returns-clause-judges g c = since_weaker _ _ _ _ (c.converse.ensures.talks tt c.in-Ok.ensures.stands)
+    (λ moves it. judged_by c.converse.result moves it.0)
 
-pub returns-in-Err-clause-judges : goal.returns-in-Err-clause-judges
-returns-in-Err-clause-judges g c = let was = c.in-Over.ensures.stands refl in never (c.in-Err.ensures.ok was.0 was.1)
+pub returns-clause-answer : goal.returns-clause-answer
+returns-clause-answer g c = answers c.converse.result (c.converse.ensures.answer tt c.in-Ok.ensures.stands)

@@ -13,15 +13,18 @@ loop-byte-preserved c = λ x stands. subst (FeedStands c.take_byte.new.self)
     (c.in-Open.ensures.stands _ (c.loop-byte.invariant x stands) refl)
 
 pub returns-in-Ended-clause-at : goal.returns-in-Ended-clause-at
-returns-in-Ended-clause-at c = λ x stands. piece_ended x c.args.bytes.now c.loop-byte.byte-index c.loop-byte-test.true _ _
+returns-in-Ended-clause-at c =
+    λ x stands. piece_ended x c.args.bytes.now c.loop-byte.byte-index c.loop-byte-test.true _ _
     (c.in-Ended.ensures.at _ (c.loop-byte.invariant x stands))
 
 pub returns-in-Refused-clause-at : goal.returns-in-Refused-clause-at
-returns-in-Refused-clause-at c = λ x stands. piece_refused x c.args.bytes.now c.loop-byte.byte-index c.loop-byte-test.true _ _
+returns-in-Refused-clause-at c =
+    λ x stands. piece_refused x c.args.bytes.now c.loop-byte.byte-index c.loop-byte-test.true _ _
     (c.in-Refused.ensures.at _ (c.loop-byte.invariant x stands))
 
 pub returns-in-NoMemory-clause-at : goal.returns-in-NoMemory-clause-at
-returns-in-NoMemory-clause-at c = λ x stands. piece_no_memory x c.args.bytes.now c.loop-byte.byte-index c.loop-byte-test.true
+returns-in-NoMemory-clause-at c =
+    λ x stands. piece_no_memory x c.args.bytes.now c.loop-byte.byte-index c.loop-byte-test.true
     (c.in-NoMemory.ensures.at _ (c.loop-byte.invariant x stands))
 
 pub returns-in-Refused-clause-names : goal.returns-in-Refused-clause-names

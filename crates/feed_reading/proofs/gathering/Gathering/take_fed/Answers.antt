@@ -12,7 +12,8 @@ returns-in-Ok-clause-stands c = λ a b stands lists fed. rw c.in-Ok.ensures.item
     (job_listed a b stands _ _ (subst (IsFed (counted a) b) c.in-Job.is fed) _ _ lists)
 
 pub returns-in-Err-clause-stands : goal.returns-in-Err-clause-stands
-returns-in-Err-clause-stands c = λ a b stands lists fed. job_admitted a b stands _ _ (subst (IsFed (counted a) b) c.in-Job.is fed)
+returns-in-Err-clause-stands c =
+    λ a b stands lists fed. job_admitted a b stands _ _ (subst (IsFed (counted a) b) c.in-Job.is fed)
 
 pub returns-in-Refused-clause-stands : goal.returns-in-Refused-clause-stands
 returns-in-Refused-clause-stands c = λ a b stands lists fed.

@@ -1,0 +1,5 @@
+pub mod Answering
+pub mod Giving
+pub mod Hearing
+pub mod Quiet
+pub mod Records

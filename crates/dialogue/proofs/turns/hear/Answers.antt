@@ -1,0 +1,55 @@
+use Rattle.std.proofs.Common.{refl, ◌∙◌, sym}
+use Rattle.dialogue.proofs.Hearing.{heard_none, heard_no_memory, heard_cut, heard_more, heard_over}
+use Rattle.dialogue.proofs.turns.hear.Goals as goal
+
+pub loop-rest-init : goal.loop-rest-init
+loop-rest-init g c = record {
+  heard = λ a x s o. heard_none _ _ x _ _ _ s o;
+  writes = refl;
+  reads = refl;
+  calls = λ well. well;
+}
+
+pub returns-in_default-clause-hears : goal.returns-in_default-clause-hears
+returns-in_default-clause-hears g c = λ a x s o.
+    let heard = c.loop-rest.invariant.heard a x s o in
+    heard_no_memory _ (c.laws.ensures.steady a) _ x _ _ _ _ _ _ heard (g.T.Talker.costs a c.take.new.meter)
+    (c.in_default.ensures.takes a _ heard.stands heard.goes_on)
+
+pub returns-in-Err-clause-hears : goal.returns-in-Err-clause-hears
+returns-in-Err-clause-hears g c = λ a x s o.
+    let heard = c.loop-rest.invariant.heard a x s o in
+    let takes = c.in-Ok.ensures.takes a _ heard.stands heard.goes_on in
+    let left = c.in-Err.ensures.left a _ _ takes.2.2 in
+    heard_cut _ (c.laws.ensures.steady a) _ x _ _ _ _ _ _ heard
+    (g.T.Talker.stands a c.take.new.self c.take.new.meter) c.in-Ok.count takes _
+    c.give.new.out (g.T.Talker.costs a c.give.new.meter) (c.laws.ensures.behind a c.give.new.meter)
+    (c.laws.ensures.spent a c.give.new.talker c.give.new.meter _ left.0 left.1)
+    (c.in-Err.ensures.text a _ _ takes.2.2).part
+
+pub returns-then-not-goes_on-clause-hears : goal.returns-then-not-goes_on-clause-hears
+returns-then-not-goes_on-clause-hears g c = λ a x s o.
+    let heard = c.loop-rest.invariant.heard a x s o in
+    let takes = c.in-Ok.ensures.takes a _ heard.stands heard.goes_on in
+    let stands = c.in-Ok-give.ensures.ready a _ _ takes.2.2 in
+    heard_over _ (c.laws.ensures.steady a) _ x _ _ _ _ _ _ heard
+    (g.T.Talker.stands a c.take.new.self c.take.new.meter) c.in-Ok.count takes _
+    c.give.new.out (g.T.Talker.ready a c.give.new.talker c.give.new.meter)
+    (c.in-Ok-give.ensures.text a _ _ takes.2.2).all stands
+    (sym (c.goes_on.ensures a _ stands) ∙ c.if-not-goes_on.true)
+
+pub loop-rest-preserved : goal.loop-rest-preserved
+loop-rest-preserved g c = record {
+  heard = λ a x s o.
+      let heard = c.loop-rest.invariant.heard a x s o in
+      let takes = c.in-Ok.ensures.takes a _ heard.stands heard.goes_on in
+      let stands = c.in-Ok-give.ensures.ready a _ _ takes.2.2 in
+      heard_more _ (c.laws.ensures.steady a) _ x _ _ _ _ _ _ heard
+      (g.T.Talker.stands a c.take.new.self c.take.new.meter) c.in-Ok.count takes _
+      c.give.new.out (g.T.Talker.ready a c.give.new.talker c.give.new.meter)
+      (c.in-Ok-give.ensures.text a _ _ takes.2.2).all stands
+      (sym (c.goes_on.ensures a _ stands) ∙ c.if-not-goes_on.false);
+  writes = c.in-Ok-give.ensures.cause.ok ∙ c.loop-rest.invariant.writes;
+  reads = c.in-Ok-give.ensures.cause.other ∙ c.loop-rest.invariant.reads;
+  calls = λ well. c.in-Ok-give.ensures.stops.well (c.loop-rest.invariant.calls well);
+}

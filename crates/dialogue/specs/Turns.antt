@@ -1,0 +1,150 @@
+-- What the calls of a talker come to, and those of the reading loop.
+use Rattle.std.specs.Prelude.{◌≡◌, ◌<◌, ◌≤◌, ℕ, List, [], ◌∷◌, ◌++◌, length, take, Bool, true, false, Option, Some}
+use Rattle.std.specs.Prelude.{None, Result, Ok, Err}
+use Rattle.std.specs.List.{flat_map}
+use Rattle.dover_model.specs.WholeRun.{Begins}
+use Rattle.dover_port.specs.Causes.{Rose, StaysWell, FailsLast}
+use Rattle.dover_port.specs.declared.calls.Calls.{Calls}
+use Rattle.dover_port.specs.Moves.{Move, ins, outs, has_ended, EachRead, Passes, CutsShort}
+use Rattle.dover_port.specs.declared.status.Status.{Status}
+use Rattle.dover_port.specs.declared.status.Status.TheVariants.{ReadFault, WriteFault, Memory}
+use Rattle.dialogue.specs.Talk.{Talk, IsOver, IsFinal, MayRead, Talks, CanLack}
+use Rattle.dialogue.specs.declared.talker.Stop.{Stop}
+use Rattle.dialogue.specs.declared.talker.Stop.TheVariants.{NoMemory, Unwritten}
+use Rattle.dialogue.specs.declared.turns.Reading.{Reading}
+use Rattle.dialogue.specs.declared.turns.Reading.TheVariants as reading
+
+-- ---- a talker
+
+-- what a talker stands for: the bytes that it took, and the parts that are due for them and not yet given
+abbrev pub Standing : Type 1
+Standing = List ℕ → List (List ℕ) → Type 0
+
+-- the text of parts
+abbrev pub joined : List (List ℕ) → List ℕ
+joined parts = flat_map (λ part. part) parts
+
+-- what a talker stands for of which all that is due was given: the bytes that it took
+abbrev pub Ready : Type 1
+Ready = List ℕ → Type 0
+
+-- what a meter may show, by the bytes got
+abbrev pub Costs : Type 1
+Costs = List ℕ → Type 0
+
+-- behind x so many bytes of the piece were taken, and what is due for them is to be given
+abbrev pub Takes : Talk → Standing → List ℕ → List ℕ → ℕ → Type 0
+Takes t standing x piece n =
+    (0 < n) × (n ≤ length piece)
+    × ((rest : List (List ℕ)) × (t.due (x ++ take n piece) ≡ t.due x ++ joined rest)
+    × standing (x ++ take n piece) rest)
+
+-- some bytes were taken, or there was no memory
+abbrev pub TakesBy : {E : Type 0} → Talk → Standing → Costs → List ℕ → List ℕ → Result ℕ E → Type 0
+TakesBy t standing costs x piece (Ok n) = Takes t standing x piece n
+TakesBy t standing costs x piece (Err e) = t.lacks (x ++ piece) false × costs (x ++ piece)
+
+-- the first of the parts was given, or there is none
+abbrev pub GivesBy : Standing → Ready → List ℕ → List (List ℕ) → Option (List ℕ) → Type 0
+GivesBy stands ready x rest (Some part) = (more : List (List ℕ)) × (rest ≡ part ∷ more) × stands x more
+GivesBy stands ready x rest None = (rest ≡ []) × ready x
+
+-- what is put of the answer, behind what is due, but for what is kept back after
+abbrev pub AnswersBy : Talk → List ℕ → Bool → (old new : Option (List Move)) → (after : List ℕ)
+    → Result Status Stop → Type 0
+AnswersBy t x ended old new after (Ok status) =
+    IsFinal status × ((text : List ℕ) × t.answer x ended status (t.due x ++ text) × Passes old new [] after text)
+AnswersBy t x ended old new after (Err NoMemory) = t.lacks x ended × Passes old new [] after []
+AnswersBy t x ended old new after (Err Unwritten) =
+    (status : Status) × (text : List ℕ) × t.answer x ended status (t.due x ++ text) × CutsShort old new [] text
+
+-- a count of faults rises where a write failed, and nowhere else
+abbrev pub StopCause : {T : Type 0} → Result T Stop → (writes writes' reads reads' : ℕ) → Type 0
+StopCause (Ok x) writes writes' reads reads' = (writes' ≡ writes) × (reads' ≡ reads)
+StopCause (Err NoMemory) writes writes' reads reads' = (writes' ≡ writes) × (reads' ≡ reads)
+StopCause (Err Unwritten) writes writes' reads reads' = Rose writes writes' × (reads' ≡ reads)
+
+-- no call follows one that failed: the last one alone has failed where a write did, and else none has
+abbrev pub StopsOn : {T : Type 0} → Result T Stop → (old new : Calls) → Type 0
+StopsOn (Ok x) old new = StaysWell old new
+StopsOn (Err NoMemory) old new = StaysWell old new
+StopsOn (Err Unwritten) old new = FailsLast old new
+
+-- ---- a piece
+
+-- behind x the piece, or a front of it that ends the talk, was taken, and what is due for it was put
+pub record Hears (t : Talk) (ready : Ready) (x piece : List ℕ) (old new : Option (List Move)) (before after : List ℕ)
+    (more : Bool) : Type 0 where
+  pub front : List ℕ
+  pub behind : List ℕ
+  pub cut : piece ≡ front ++ behind
+  pub text : List ℕ
+  pub due : t.due (x ++ front) ≡ t.due x ++ text
+  pub puts : Passes old new before after text
+  pub stands : ready (x ++ front)
+  pub goes_on : t.goes_on (x ++ front) ≡ more
+  pub all : more ≡ true → behind ≡ []
+
+-- a front of what is due for the piece behind x
+pub record IsFrontOfDue (t : Talk) (x piece text : List ℕ) : Type 0 where
+  pub begins : Begins (t.due x ++ text) (t.due (x ++ piece))
+
+-- by the result
+abbrev pub HearsBy : Talk → Ready → Costs → (x piece : List ℕ) → (old new : Option (List Move))
+    → (before after : List ℕ)
+    → Result Bool Stop → Type 0
+HearsBy t ready costs x piece old new before after (Ok more) = Hears t ready x piece old new before after more
+HearsBy t ready costs x piece old new before after (Err NoMemory) =
+    t.lacks (x ++ piece) false × costs (x ++ piece)
+    × ((text : List ℕ) × IsFrontOfDue t x piece text × Passes old new before after text)
+HearsBy t ready costs x piece old new before after (Err Unwritten) =
+    costs (x ++ piece) × ((text : List ℕ) × IsFrontOfDue t x piece text × CutsShort old new before text)
+
+-- ---- the reading
+
+-- the talker stands for what was got, the talk goes on, and what is due was put
+pub record GoesOn (t : Talk) (ready : Ready) (moves : List Move) : Type 0 where
+  pub reads : EachRead (MayRead t) moves
+  pub unended : has_ended moves ≡ false
+  pub goes_on : t.goes_on (ins moves) ≡ true
+  pub text : outs moves ≡ t.due (ins moves)
+  pub stands : ready (ins moves)
+
+-- no more is to be read: the talker stands for what was got, or for a front of it that ends the talk, and what is due
+-- was put
+pub record IsRead (t : Talk) (ready : Ready) (ended : Bool) (moves : List Move) : Type 0 where
+  pub reads : EachRead (MayRead t) moves
+  pub end : has_ended moves ≡ ended
+  pub front : List ℕ
+  pub behind : List ℕ
+  pub cut : ins moves ≡ front ++ behind
+  pub over : IsOver t front ended
+  pub all : ended ≡ true → behind ≡ []
+  pub text : outs moves ≡ t.due front
+  pub stands : ready front
+
+-- by how the reading ended
+abbrev pub ReadsBy : Reading → Talk → Ready → Costs → List Move → Type 0
+ReadsBy (reading.Over ended) t ready costs moves = IsRead t ready ended moves
+ReadsBy reading.Unread t ready costs moves = Talks t ReadFault moves × costs (ins moves)
+ReadsBy reading.Unwritten t ready costs moves = Talks t WriteFault moves × costs (ins moves)
+ReadsBy reading.NoMemory t ready costs moves = Talks t Memory moves × costs (ins moves)
+
+-- Where no more is to be read, nothing is kept back of what is due, and the talker stands for some bytes; where there
+-- was no memory, some bytes may lack it.
+abbrev pub StandsBy : Reading → Talk → Ready → (kept : List ℕ) → Type 0
+StandsBy (reading.Over ended) t ready kept = (x : List ℕ) × ready x × IsOver t x ended × (kept ≡ [])
+StandsBy reading.NoMemory t ready kept = CanLack t
+StandsBy _ t ready kept = Unit {0}
+
+-- a fault comes only where its count rose
+abbrev pub ReadCauses : Reading → (reads reads' writes writes' : ℕ) → Type 0
+ReadCauses reading.Unread reads reads' writes writes' = Rose reads reads' × (writes' ≡ writes)
+ReadCauses reading.Unwritten reads reads' writes writes' = (reads' ≡ reads) × Rose writes writes'
+ReadCauses _ reads reads' writes writes' = (reads' ≡ reads) × (writes' ≡ writes)
+
+-- no call follows one that failed: the last one alone has failed where a read or a write did, and else none has
+abbrev pub ReadStops : Reading → (old new : Calls) → Type 0
+ReadStops reading.Unread old new = FailsLast old new
+ReadStops reading.Unwritten old new = FailsLast old new
+ReadStops _ old new = StaysWell old new

@@ -1,0 +1,52 @@
+-- Comparisons that are few.
+use Rattle.std.proofs.Common.{◌≡◌, ◌≤◌, ◌<◌, ◌+◌, ◌*◌, ◌^◌, ℕ, List, length, sym, ap, ◌∙◌, subst}
+use Rattle.std.proofs.Common.{arith, length-append, Some, None}
+use Rattle.std.proofs.lemmas.Nat.{mul-le}
+use Rattle.dover_model.specs.Feed.{account}
+use Rattle.dover_model.specs.Instance.{Instance, with_jobs}
+use Rattle.dover_model.specs.JobFacts.{JobFacts}
+use Rattle.dover_model.specs.Session.{Session, instance_of, admitted_jobs}
+use Rattle.dover_core.specs.Service.{Service, list_of}
+use Rattle.dover_core.specs.Spending.{HasSpent, AreFew}
+use Rattle.dover_core.proofs.Spending.{spent_all}
+use Rattle.event_feed.specs.Answers.{admitted_in}
+use Rattle.feed_reading.specs.Record.{IsEnded}
+use Rattle.feed_reading.specs.declared.listed.Listed.{Listed}
+
+-- none are few
+pub none_few : (n count : ℕ) → AreFew n count count
+none_few n count = λ d enough. omega arith
+
+-- those that are few for some jobs are few for more
+pub few_more : (n m before after : ℕ) → n ≤ m → AreFew n before after → AreFew m before after
+few_more n m before after most few = λ d enough.
+    let less : n + 1 < 2 ^ d = omega (arith, enough, most) in
+    let product : 80 * (n + 1) * d ≤ 80 * (m + 1) * d =
+    mul-le (80 * (n + 1)) d (80 * (m + 1)) d (omega (arith, most)) (omega arith) in
+    omega (arith, few d less, product)
+
+-- those of a server that has some of the jobs are few for all
+pub some_few : (J : Instance) (v w : Service) (rest : List JobFacts) → with_jobs (list_of v) rest ≡ J
+    → list_of w ≡ list_of v
+    → (start now : ℕ) → HasSpent w.state start now → AreFew (length J.jobs) start now
+some_few J v w rest all same start now spent =
+    few_more (length (list_of v).jobs) (length J.jobs) start now
+    (omega (
+      arith,
+      length-append (list_of v).jobs rest,
+      ap (λ (K : Instance). length K.jobs) all,
+    ))
+    (spent_all (list_of v) w start now same spent)
+
+-- as many jobs are admitted as are listed
+pub listed_count : (x : List ℕ) (listed : Listed) → IsEnded listed x
+    → length listed.jobs.items ≡ admitted_in (account x)
+listed_count x listed it =
+    ap (λ (J : Instance). length J.jobs) it.jobs
+    ∙ sym (ap (λ s. elim s [ None ↦ 0 | Some S ↦ length (admitted_jobs S.items) ]) it.session_is)
+
+-- what is few for all bytes got is few for the jobs of their session
+pub frugal : (x : List ℕ) (before after : ℕ) → AreFew (admitted_in (account x)) before after → (S : Session)
+    → (account x).session ≡ Some S → AreFew (length (instance_of S).jobs) before after
+frugal x before after few S is = subst (λ n. AreFew n before after)
+    (ap (λ s. elim s [ None ↦ 0 | Some S ↦ length (admitted_jobs S.items) ]) is) few

@@ -1,0 +1,64 @@
+//! What the reading loop calls: a judge, which takes the text whole and answers at its end.
+ghost use Rattle.std.specs.Prelude.{◌≡◌, ℕ, List};
+ghost use Rattle.trace_judge.specs.Judging.{StandsFor};
+ghost use Rattle.judge_word.specs.Talking.{judge_talk, IsAt};
+
+use crate::lines::{put_verdict, status_of};
+use dialogue::{Stop, Talker};
+use dover_model::Memory;
+use dover_port::{Output, Port, Status};
+use line_text::BackLine;
+use trace_judge::Judge;
+
+/// A judge of the text. Nothing is due before the answer.
+#[derive(Drop)]
+pub(crate) struct Judging {
+    pub(crate) judge: Judge,
+}
+
+impl Talker for Judging {
+    type Meter = ();
+
+    ghost about = { Unit {0} };
+
+    ghost talk = { λ about. judge_talk };
+
+    ghost stands = { λ about j meter. IsAt j.judge };
+
+    ghost ready = { λ about j meter. StandsFor j.judge };
+
+    ghost costs = { λ about meter bytes. Unit {0} };
+
+    fn laws() {}
+
+    fn take(&mut self, _meter: &mut (), piece: &[u8]) -> Result<usize, Memory> {
+        match self.judge.feed(piece) {
+            Ok(()) => Ok(piece.len()),
+            Err(error) => Err(error),
+        }
+    }
+
+    fn next_part(&mut self, _meter: &mut ()) -> Option<BackLine> {
+        None
+    }
+
+    fn goes_on(&self, _meter: &()) -> bool {
+        !self.judge.decided()
+    }
+
+    fn answer<P: Port>(
+        self,
+        _meter: &mut (),
+        port: &mut P,
+        out: &mut Output,
+        _ended: bool,
+    ) -> Result<Status, Stop> {
+        let Ok(closed) = self.judge.close() else {
+            return Err(Stop::NoMemory);
+        };
+        match put_verdict(port, out, &closed.verdict) {
+            Ok(()) => Ok(status_of(&closed.verdict)),
+            Err(_) => Err(Stop::Unwritten),
+        }
+    }
+}
