@@ -1,6 +1,7 @@
-//! The reports for a viewer and on one job, over ports in memory.
+//! The reports for a viewer, on one job, and for a terminal, over ports in memory.
 use dover_port::{MemoryPort, Status};
 use report_word::{Form, report_word};
+use run_view::Window;
 use std::alloc::Global;
 use std::test::Fail;
 
@@ -34,7 +35,7 @@ const MINUTE: &str = "dover 1 5 1\njob 0 0 60 90 60\nrun 0 0\njob 1 10 5 30 25\n
     run 575 22\ncomplete 595 22\nend 995\n";
 
 /// Texts, the form that is asked for, how each ends, and what is written for it.
-const TEXTS: [(&str, Form, Status, &str); 17] = [
+const TEXTS: [(&str, Form, Status, &str); 30] = [
     (
         ONE,
         Form::Chrome,
@@ -168,6 +169,169 @@ const TEXTS: [(&str, Form, Status, &str); 17] = [
         "short 2\n",
     ),
     ("x\n", Form::Why(0), Status::No, "wrong 1 expected header\n"),
+    (
+        EMPTY,
+        Form::Timeline(None),
+        Status::Done,
+        r#"jobs 0, completed 0 0, abandoned 0 0, taken 0, bound 0
+       ticks of a column: 1
+       0
+"#,
+    ),
+    (
+        ONE,
+        Form::Timeline(None),
+        Status::Done,
+        r#"jobs 1, completed 1 2, abandoned 0 0, taken 0, bound 8
+       ticks of a column: 1
+       0
+     0 ## 2
+"#,
+    ),
+    (
+        TAKEN,
+        Form::Timeline(None),
+        Status::Done,
+        r#"jobs 3, completed 2 15, abandoned 1 2, taken 1, bound 60
+       ticks of a column: 1
+       0                   20
+     0 ------------###............... 3
+     1 --X. -2
+     2 !########### 12
+"#,
+    ),
+    (
+        TAKEN,
+        Form::Timeline(Some(Window { from: 1, until: 11 })),
+        Status::Done,
+        r#"jobs 3, completed 2 15, abandoned 1 2, taken 1, bound 60
+       ticks of a column: 1
+       1
+     0 ---------- 3
+     1 -X. -2
+     2 ########## 12
+"#,
+    ),
+    (
+        TAKEN,
+        Form::Timeline(Some(Window {
+            from: 5,
+            until: 1000,
+        })),
+        Status::Done,
+        r#"jobs 3, completed 2 15, abandoned 1 2, taken 1, bound 60
+       ticks of a column: 13
+       5                   265                 525                 785
+     0 #. 3
+     2 # 12
+"#,
+    ),
+    (
+        TAKEN,
+        Form::Timeline(Some(Window {
+            from: 40,
+            until: 50,
+        })),
+        Status::Done,
+        r#"jobs 3, completed 2 15, abandoned 1 2, taken 1, bound 60
+       ticks of a column: 1
+       40
+"#,
+    ),
+    (
+        TAKEN,
+        Form::Timeline(Some(Window {
+            from: 0,
+            until: u64::MAX,
+        })),
+        Status::Done,
+        r#"jobs 3, completed 2 15, abandoned 1 2, taken 1, bound 60
+       ticks of a column: 230584300921369396
+       0                   4611686018427387920 9223372036854775840 13835058055282163760
+     0 # 3
+     1 X -2
+     2 ! 12
+"#,
+    ),
+    (
+        TAKEN,
+        Form::Timeline(Some(Window { from: 5, until: 5 })),
+        Status::Done,
+        r#"jobs 3, completed 2 15, abandoned 1 2, taken 1, bound 60
+       ticks of a column: 1
+       5
+"#,
+    ),
+    (
+        TAKEN,
+        Form::Timeline(Some(Window { from: 9, until: 3 })),
+        Status::Done,
+        r#"jobs 3, completed 2 15, abandoned 1 2, taken 1, bound 60
+       ticks of a column: 1
+       9
+"#,
+    ),
+    (
+        MINUTE,
+        Form::Timeline(None),
+        Status::Done,
+        r#"jobs 24, completed 19 995, abandoned 5 275, taken 1, bound 10419
+       ticks of a column: 8
+       0                   160                 320                 480
+     0 ##########.. 60
+     1  #.. 25
+     2       #.. 25
+     3         ## 50
+     4             #######-###. 60
+     5              ##.. 25
+     6                .X..... -40
+     7                ##.. 25
+     8                   ## 50
+     9                          ###########. 80
+    10                           X.. -100
+    11                           ##.. 25
+    12                                      -#########.. 60
+    13                                      ##. 25
+    14                                      .#. 25
+    15                                              .######. 30
+    16                                                ## 50
+    17                                                   .######-X... -60
+    18                                                     ##. 25
+    19                                                         !############ 300
+    20                                                         ..X. -25
+    21                                                          X. -50
+    22                                                                       ##### 30
+    23                                                                        #.. 25
+"#,
+    ),
+    (
+        MINUTE,
+        Form::Timeline(Some(Window {
+            from: 440,
+            until: 480,
+        })),
+        Status::Done,
+        r#"jobs 24, completed 19 995, abandoned 5 275, taken 1, bound 10419
+       ticks of a column: 1
+       440                 460
+    17 ##########---------------X.............. -60
+    19           !############################# 300
+    20                ...............X.... -25
+    21                     X......... -50
+"#,
+    ),
+    (
+        "dover 1 1 1\njob 0 0 2 2 2\nrun 0",
+        Form::Timeline(None),
+        Status::No,
+        "short 2\n",
+    ),
+    (
+        "dover 1 1 1\njob 0 0 2 2 2\nrun 1 0\n",
+        Form::Timeline(Some(Window { from: 0, until: 2 })),
+        Status::No,
+        "wrong 3 expected run 0 0\n",
+    ),
 ];
 
 /// A port over the text in one piece.

@@ -1,36 +1,42 @@
 -- What is told of a text, and what is put of it.
-use Rattle.std.proofs.Common.{◌≡◌, ℕ, List, sym, ap, ◌∙◌, subst, Option, Bool, true}
+use Rattle.std.proofs.Common.{◌≡◌, ℕ, List, [], refl, sym, ap, ◌∙◌, subst, Option, Bool, true}
+use Rattle.std.proofs.Common.{Ok, Err, inl, inr, ◌⊎◌, false}
 use Rattle.charge_ledger.specs.Rows.{IsRunOf}
 use Rattle.dover_model.specs.Fraction.{Fraction}
 use Rattle.dover_model.specs.Session.{instance_of}
 use Rattle.dover_model.specs.Verdict as model
 use Rattle.dover_model.specs.declared.events.Event.{Event}
 use Rattle.dover_model.specs.declared.events.Version.{Version}
-use Rattle.dover_port.specs.Moves.{Move, Since, IsProperPrefix, outs}
-use Rattle.dover_port.specs.declared.status.Status.{Status}
-use Rattle.dover_port.specs.declared.status.Status.TheVariants.{Done, No, Refused, ReadFault, WriteFault, Memory, Usage}
-use Rattle.dover_port.proofs.Made.{since_weaker}
+use Rattle.dover_port.specs.Moves.{Move, Passes, CutsShort}
+use Rattle.dover_port.specs.declared.status.Status.TheVariants.{Done}
+use Rattle.dialogue.specs.Turns.{AnswersBy}
+use Rattle.dialogue.specs.declared.talker.Stop.{Stop}
+use Rattle.dialogue.specs.declared.talker.Stop.TheVariants.{NoMemory, Unwritten}
 use Rattle.judge_word.specs.Line.{verdict_text}
-use Rattle.judge_word.specs.Record.{IsTrace}
-use Rattle.judge_word.specs.Record as judged
-use Rattle.trace_judge.specs.Judging.{Tells, steps_told, IsEarned}
-use Rattle.trace_judge.specs.Reads.{expected_of}
+use Rattle.judge_word.specs.Record.{IsTrace, IsNoTrace, status_of}
+use Rattle.judge_word.proofs.Talking.{by_verdict}
+use Rattle.trace_judge.specs.Judging.{Tells, steps_told, is_wrong}
 use Rattle.trace_judge.specs.declared.judge.Closed.{Closed}
 use Rattle.trace_judge.specs.declared.verdict.Expected.{Expected}
+use Rattle.trace_judge.specs.declared.verdict.Verdict.{Verdict}
 use Rattle.trace_judge.specs.declared.verdict.Verdict.TheVariants.{Accepted, Wrong, Short}
 use Rattle.report_word.specs.declared.form.Form.{Form}
-use Rattle.report_word.specs.Record.{report_text, told, IsClosed, Puts, Finishes}
+use Rattle.report_word.specs.Record.{report_text, told}
+use Rattle.report_word.specs.Talking.{report_talk, IsClosed, TellsNoTrace, Puts}
 
 -- the judge kept the steps of the run
 pub closed_with : (closed : Closed) (keep : Bool) (text : List ℕ) → keep ≡ true → Tells closed.verdict text
     → closed.steps.items ≡ steps_told keep (model.verdict text) → IsClosed closed text
-closed_with closed keep text kept tells steps = record { tells = tells; steps = steps ∙ ap (λ k. steps_told k (model.verdict text)) kept }
+closed_with closed keep text kept tells steps =
+    record { tells = tells; steps = steps ∙ ap (λ k. steps_told k (model.verdict text)) kept }
 
 -- ---- the report
 
-module _ (k : Fraction) (version : Version) (value most jobs : ℕ) (text : List ℕ) (tells : Tells (Accepted k version value most jobs) text) where
+module _ (k : Fraction) (version : Version) (value most jobs : ℕ) (text : List ℕ)
+    (tells : Tells (Accepted k version value most jobs) text) where
   -- the steps that were kept are those of the run
-  pub run_of : (steps : List Event) → steps ≡ steps_told true (model.verdict text) → IsRunOf k steps (instance_of tells.0)
+  pub run_of : (steps : List Event) → steps ≡ steps_told true (model.verdict text)
+      → IsRunOf k steps (instance_of tells.0)
   run_of steps are = record {
     valid = tells.7.valid.jobs;
     ratio = sym tells.2;
@@ -39,51 +45,60 @@ module _ (k : Fraction) (version : Version) (value most jobs : ℕ) (text : List
 
   -- the text is a trace
   is_trace : IsTrace text
-  is_trace = (tells.0, tells.1, subst (IsEarned tells.0 tells.0.rules.ratio) tells.4 (subst (λ r. IsEarned tells.0 r value) tells.2 tells.7))
+  is_trace = (by_verdict (Accepted k version value most jobs) text tells).1
 
-  module _ (form : Form) where
+  module _ (form : Form) (ended : Bool) (a b : Option (List Move)) (q : List ℕ) (none : q ≡ []) where
     -- what is told of it is the report
     told_report : report_text form (instance_of tells.0) ≡ told form (model.verdict text)
     told_report = sym (ap (told form) tells.1)
 
-    by_status : (status : Status) (made : List Move) → Puts status (report_text form (instance_of tells.0)) made → Finishes form status text made
-    by_status Done made it = (it.0, it.1 ∙ told_report, is_trace)
-    by_status No made it = absurd it
-    by_status Refused made it = absurd it
-    by_status ReadFault made it = absurd it
-    by_status WriteFault made it = (it.0, subst (IsProperPrefix (outs made)) told_report it.1)
-    by_status Memory made it = (it, is_trace)
-    by_status Usage made it = absurd it
+    -- the report was put
+    pub reported : (x : Unit {0}) → Puts (Ok x) a b (report_text form (instance_of tells.0))
+        → AnswersBy (report_talk form) text ended a b q (Ok Done)
+    reported x put = (
+      tt,
+      (told form (model.verdict text), (is_trace, refl), subst (Passes a b [] q) told_report (rw none put)),
+    )
 
-    -- the report is the last that is put
-    pub reported : (a b : Option (List Move)) (status : Status) → Since a b (Puts status (report_text form (instance_of tells.0)))
-        → Since a b (Finishes form status text)
-    reported a b status put = since_weaker a b _ _ put (by_status status)
+    -- it wasn't
+    pub unreported : (stop : Stop) → Puts {T = Unit {0}} (Err stop) a b (report_text form (instance_of tells.0))
+        → AnswersBy (report_talk form) text ended a b q (Err stop)
+    unreported NoMemory none_put = ((λ _. is_trace), rw none none_put)
+    unreported Unwritten cut =
+        (Done, told form (model.verdict text), (is_trace, refl), subst (CutsShort a b []) told_report cut)
 
 -- ---- the line of a verdict
 
-module _ (form : Form) (text : List ℕ) (line : told form (model.verdict text) ≡ verdict_text (model.verdict text)) (none : IsTrace text → ⊥) where
-  as_judged : (status : Status) (made : List Move) → judged.Finishes status text made → Finishes form status text made
-  as_judged Done made it = absurd (none it.2)
-  as_judged No made it = it
-  as_judged Refused made it = absurd it
-  as_judged ReadFault made it = absurd it
-  as_judged WriteFault made it = (it.0, subst (IsProperPrefix (outs made)) (sym line) it.1)
-  as_judged Memory made it = absurd it
-  as_judged Usage made it = absurd it
+-- what is told of a text that is no trace is the line of its verdict
+pub line_told : (form : Form) (text : List ℕ) → IsNoTrace text
+    → told form (model.verdict text) ≡ verdict_text (model.verdict text)
+line_told form text none = by_case (model.verdict text) none where
+  by_case : (v : model.Verdict) → (is_wrong v ≡ true) ⊎ ((lines : ℕ) × (v ≡ model.Short lines))
+      → told form v ≡ verdict_text v
+  by_case (model.Accepted S) (inl wrong) = absurd (let e : false ≡ true = wrong in cc)
+  by_case (model.Accepted S) (inr short) = absurd (let e : model.Accepted S ≡ model.Short short.0 = short.1 in cc)
+  by_case (model.Wrong line due) none = refl
+  by_case (model.Short lines) none = refl
 
-  -- the line of the verdict is the last that is put
-  answered : (a b : Option (List Move)) (status : Status) → Since a b (judged.Finishes status text) → Since a b (Finishes form status text)
-  answered a b status put = since_weaker a b _ _ put (as_judged status)
+-- the verdict on a text that is wrong or short
+pub wrong_told : (line : ℕ) (due : Expected) (text : List ℕ) → Tells (Wrong line due) text
+    → TellsNoTrace (Wrong line due) text
+wrong_told line due text tells = (tells, inl (ap is_wrong tells))
 
-module _ (form : Form) (text : List ℕ) (a b : Option (List Move)) (status : Status) where
-  -- of a wrong text
-  pub answered_wrong : (line : ℕ) (due : Expected) → Tells (Wrong line due) text → Since a b (judged.Finishes status text)
-      → Since a b (Finishes form status text)
-  answered_wrong line due tells put = answered form text (ap (told form) tells ∙ sym (ap verdict_text tells))
-      (λ it. let e : model.Wrong line (expected_of due) ≡ model.Accepted it.0 = sym tells ∙ it.1 in cc) a b status put
+pub short_told : (lines : ℕ) (text : List ℕ) → Tells (Short lines) text → TellsNoTrace (Short lines) text
+short_told lines text tells = (tells, inr (lines, tells))
 
-  -- of a short text
-  pub answered_short : (lines : ℕ) → Tells (Short lines) text → Since a b (judged.Finishes status text) → Since a b (Finishes form status text)
-  answered_short lines tells put = answered form text (ap (told form) tells ∙ sym (ap verdict_text tells))
-      (λ it. let e : model.Short lines ≡ model.Accepted it.0 = sym tells ∙ it.1 in cc) a b status put
+module _ (form : Form) (v : Verdict) (text : List ℕ) (ended : Bool) (tells : TellsNoTrace v text)
+    (a b : Option (List Move))
+    (q : List ℕ) where
+  -- the line was put
+  pub refused : Passes a b [] q (verdict_text (model.verdict text))
+      → AnswersBy (report_talk form) text ended a b q (Ok (status_of v))
+  refused put = let it = by_verdict v text tells.0 in
+      (it.0, (verdict_text (model.verdict text), (it.1, sym (line_told form text tells.1)), put))
+
+  -- it couldn't be put
+  pub unrefused : CutsShort a b [] (verdict_text (model.verdict text))
+      → AnswersBy (report_talk form) text ended a b q (Err Unwritten)
+  unrefused cut = let it = by_verdict v text tells.0 in
+      (status_of v, verdict_text (model.verdict text), (it.1, sym (line_told form text tells.1)), cut)

@@ -5,24 +5,27 @@ use Rattle.dover_model.specs.Reports.{report, table}
 use Rattle.dover_model.specs.Session.{instance_of}
 use Rattle.dover_model.specs.Verdict as model
 use Rattle.dover_model.specs.Verdict.{verdict}
-use Rattle.dover_port.specs.Moves.{Move, ArePuts, ins, outs, has_ended, EachRead, IsProperPrefix}
+use Rattle.dover_port.specs.Moves.{Move, ins, outs, has_ended, EachRead, IsProperPrefix}
 use Rattle.dover_port.specs.declared.status.Status.{Status}
 use Rattle.dover_port.specs.declared.status.Status.TheVariants.{Done, No, ReadFault, WriteFault, Memory}
 use Rattle.judge_word.specs.Line.{verdict_text}
-use Rattle.judge_word.specs.Record.{MayRead, IsTrace, IsNoTrace, IsOver, IsRefused, IsUnread}
-use Rattle.trace_judge.specs.Judging.{Tells, steps_told}
-use Rattle.trace_judge.specs.declared.judge.Closed.{Closed}
+use Rattle.judge_word.specs.Record.{MayRead, IsTrace, IsOver, IsRefused, IsUnread}
 use Rattle.run_view.specs.Chrome.{chrome}
 use Rattle.run_view.specs.Why.{why}
+use Rattle.run_view.specs.Timeline.{timeline}
+use Rattle.run_picture.specs.Pictures.{picture}
 use Rattle.report_word.specs.declared.form.Form.{Form}
-use Rattle.report_word.specs.declared.form.Form.TheVariants.{Text, Table, Chrome, Why}
+use Rattle.report_word.specs.declared.form.Form.TheVariants.{Text, Table, Chrome, Why, Timeline, Svg}
 
--- the report on the run of these jobs, the table of it, its events for a viewer, or the story of one job
+-- the report on the run of these jobs, the table of it, its events for a viewer, the story of one job, or a picture
+-- for a terminal or as SVG
 abbrev pub report_text : Form → Instance → List ℕ
 report_text Text J = report J
 report_text Table J = table J
 report_text Chrome J = chrome J
 report_text (Why n) J = why n J
+report_text (Timeline window) J = timeline window J
+report_text (Svg window) J = picture window J
 
 -- what is told of a text by its verdict: the report on the run of an accepted trace, and else the line of the verdict
 abbrev pub told : Form → model.Verdict → List ℕ
@@ -59,25 +62,3 @@ Ends form _ moves = ⊥
 pub record Reports (form : Form) (status : Status) (moves : List Move) : Type 0 where
   pub reads : EachRead MayRead moves
   pub ends : Ends form status moves
-
--- ---- the answer
-
--- the judge's last word on the text: its verdict, and the steps of its run
-pub record IsClosed (closed : Closed) (text : List ℕ) : Type 0 where
-  pub tells : Tells closed.verdict text
-  pub steps : closed.steps.items ≡ steps_told true (verdict text)
-
--- the last moves of a call that puts this report
-abbrev pub Puts : Status → List ℕ → List Move → Type 0
-Puts Done text moves = ArePuts moves × (outs moves ≡ text)
-Puts WriteFault text moves = ArePuts moves × IsProperPrefix (outs moves) text
-Puts Memory text moves = moves ≡ []
-Puts _ text moves = ⊥
-
--- the last moves of a call that reports on these bytes
-abbrev pub Finishes : Form → Status → List ℕ → List Move → Type 0
-Finishes form Done bytes moves = ArePuts moves × (outs moves ≡ told form (verdict bytes)) × IsTrace bytes
-Finishes form No bytes moves = ArePuts moves × (outs moves ≡ verdict_text (verdict bytes)) × IsNoTrace bytes
-Finishes form WriteFault bytes moves = ArePuts moves × IsProperPrefix (outs moves) (told form (verdict bytes))
-Finishes form Memory bytes moves = (moves ≡ []) × IsTrace bytes
-Finishes form _ bytes moves = ⊥

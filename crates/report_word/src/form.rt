@@ -1,3 +1,5 @@
+use run_view::Window;
+
 /// The form of a report on a run.
 #[derive(Clone, Copy, Debug, PartialEq, Eq)]
 pub enum Form {
@@ -9,4 +11,8 @@ pub enum Form {
     Chrome,
     /// What happened to the job of this number, and by which test.
     Why(u32),
+    /// A picture of the run for a terminal: of this window, or of all its ticks.
+    Timeline(Option<Window>),
+    /// A picture of the run as SVG: of this window, or of all its ticks.
+    Svg(Option<Window>),
 }

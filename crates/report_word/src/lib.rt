@@ -1,7 +1,9 @@
-//! The words that report on a trace: a text is read and judged, and where it is accepted the report on its run is written.
+//! The words that report on a trace: a text is read and judged, and where it is accepted the report on its run is
+//! written.
 #![tactic(auto)]
 
 mod form;
+mod reporting;
 mod word;
 
 pub use form::Form;

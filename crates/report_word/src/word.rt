@@ -1,18 +1,24 @@
 //! The word as a whole.
-ghost use Rattle.std.specs.Prelude.{◌≡◌, List, ℕ, IfOk};
+ghost use Rattle.std.specs.Prelude.{◌≡◌, [], List, ℕ, Bool, IfOk};
 ghost use Rattle.charge_ledger.specs.Rows.{IsRunOf};
 ghost use Rattle.dover_model.specs.Instance.{Instance};
 ghost use Rattle.dover_port.specs.Causes.{Causes, StopsWith};
 ghost use Rattle.dover_port.specs.Moves.{Since};
+ghost use Rattle.dialogue.specs.Turns.{AnswersBy, StopCause, StopsOn};
 ghost use Rattle.judge_word.specs.Record.{IsAnswer};
-ghost use Rattle.report_word.specs.Record.{IsClosed, Finishes, Puts, Reports, report_text};
+ghost use Rattle.report_word.specs.Record.{Reports, report_text};
+ghost use Rattle.report_word.specs.Talking.{IsClosed, TellsNoTrace, Puts, report_talk};
+ghost use Rattle.report_word.specs.declared.form.Form as forms;
 
 use crate::Form;
+use crate::reporting::Reporting;
+use dialogue::{Stop, converse};
 use dover_model::{Event, Memory, Ratio};
-use dover_port::{Port, Status, put_all};
+use dover_port::{Output, Port, Status, put_all};
 use dover_report::{table, text};
-use judge_word::{Reading, answer, read_text};
-use run_view::{chrome, why};
+use judge_word::{put_verdict, status_of};
+use run_picture::picture;
+use run_view::{chrome, timeline, why};
 use std::alloc::Global;
 use trace_judge::{Closed, Judge, Verdict};
 
@@ -26,66 +32,92 @@ fn report(alloc: Global, form: Form, ratio: Ratio, steps: &[Event]) -> Result<Ve
         Form::Table => table(alloc, steps),
         Form::Chrome => chrome(alloc, ratio, steps),
         Form::Why(number) => why(alloc, ratio, steps, number),
+        Form::Timeline(window) => timeline(alloc, ratio, steps, window),
+        Form::Svg(window) => picture(alloc, ratio, steps, window),
     }
 }
 
-/// Writes the report on the run that prints these steps, once it stands in memory as a whole.
+/// Puts the report on the run that prints these steps, once it stands in memory as a whole.
 fn put_report<P: Port>(
     alloc: Global,
     port: &mut P,
     form: Form,
     ratio: Ratio,
     steps: &[Event],
-) -> Status
+) -> Result<(), Stop>
     requires { (J : Instance) × IsRunOf ratio steps.now J }
-    ensures puts { (J : Instance) → IsRunOf ratio steps.now J → Since (P.moves port.old) (P.moves port.new) (Puts result (report_text form J)) }
-    ensures answer { IsAnswer result }
-    ensures causes { Causes result (P.read_faults port.old) (P.read_faults port.new) (P.write_faults port.old) (P.write_faults port.new) }
-    ensures stops { StopsWith result (P.calls port.old) (P.calls port.new) }
+    ensures puts { (J : Instance) → IsRunOf ratio steps.now J →
+        Puts result (P.moves port.old) (P.moves port.new) (report_text form J) }
+    ensures cause { StopCause result
+        (P.write_faults port.old) (P.write_faults port.new) (P.read_faults port.old) (P.read_faults port.new) }
+    ensures stops { StopsOn result (P.calls port.old) (P.calls port.new) }
 {
     let Ok(text) = report(alloc, form, ratio, steps) else {
-        return Status::Memory;
+        return Err(Stop::NoMemory);
     };
     match put_all(port, &text) {
-        Ok(()) => Status::Done,
-        Err(_) => Status::WriteFault,
+        Ok(()) => Ok(()),
+        Err(_) => Err(Stop::Unwritten),
     }
 }
 
-/// Writes the report where the text is accepted, and else the line of its verdict.
-fn tell<P: Port>(alloc: Global, port: &mut P, form: Form, closed: &Closed) -> Status
-    requires { (text : List ℕ) × IsClosed closed.now text }
-    ensures finishes { (text : List ℕ) → IsClosed closed.now text → Since (P.moves port.old) (P.moves port.new) (Finishes form result text) }
-    ensures answer { IsAnswer result }
-    ensures causes { Causes result (P.read_faults port.old) (P.read_faults port.new) (P.write_faults port.old) (P.write_faults port.new) }
-    ensures stops { StopsWith result (P.calls port.old) (P.calls port.new) }
+/// Puts the line of the verdict of a text that isn't accepted.
+fn put_refusal<P: Port>(port: &mut P, out: &mut Output, verdict: &Verdict) -> Result<Status, Stop>
+    requires empty { out.old ≡ [] }
+    requires no_trace { (text : List ℕ) × TellsNoTrace verdict.now text }
+    ensures answers { (text : List ℕ) (ended : Bool) (form : forms.Form) → TellsNoTrace verdict.now text →
+        AnswersBy (report_talk form) text ended (P.moves port.old) (P.moves port.new) out.new result }
+    ensures cause { StopCause result
+        (P.write_faults port.old) (P.write_faults port.new) (P.read_faults port.old) (P.read_faults port.new) }
+    ensures stops { StopsOn result (P.calls port.old) (P.calls port.new) }
+{
+    match put_verdict(port, out, verdict) {
+        Ok(()) => Ok(status_of(verdict)),
+        Err(_) => Err(Stop::Unwritten),
+    }
+}
+
+/// Puts the report where the text is accepted, and else the line of its verdict.
+pub(crate) fn tell<P: Port>(
+    alloc: Global,
+    port: &mut P,
+    out: &mut Output,
+    form: Form,
+    closed: &Closed,
+) -> Result<Status, Stop>
+    requires empty { out.old ≡ [] }
+    requires closed { (text : List ℕ) × IsClosed closed.now text }
+    ensures answers { (text : List ℕ) (ended : Bool) → IsClosed closed.now text →
+        AnswersBy (report_talk form) text ended (P.moves port.old) (P.moves port.new) out.new result }
+    ensures cause { StopCause result
+        (P.write_faults port.old) (P.write_faults port.new) (P.read_faults port.old) (P.read_faults port.new) }
+    ensures stops { StopsOn result (P.calls port.old) (P.calls port.new) }
 {
     match closed.verdict {
-        Verdict::Accepted { ratio, .. } => put_report(alloc, port, form, ratio, &closed.steps),
-        Verdict::Wrong { .. } => answer(port, &closed.verdict),
-        Verdict::Short { .. } => answer(port, &closed.verdict),
+        Verdict::Accepted { ratio, .. } => {
+            match put_report(alloc, port, form, ratio, &closed.steps) {
+                Ok(()) => Ok(Status::Done),
+                Err(stop) => Err(stop),
+            }
+        }
+        Verdict::Wrong { .. } => put_refusal(port, out, &closed.verdict),
+        Verdict::Short { .. } => put_refusal(port, out, &closed.verdict),
     }
 }
 
-/// Reports on a trace: reads a text to its first wrong line or the end of the input, and then writes the report on the run of an accepted
-/// trace, or else the line of the verdict. Memory is taken for the jobs and the steps that the text names, and for the report, which stands
-/// in memory as a whole before its first byte is written.
+/// Reports on a trace: reads a text to its first wrong line or the end of the input, and then writes the report on the
+/// run of an accepted trace, or else the line of the verdict. Memory is taken for the jobs and the steps that the text
+/// names, and for the report, which stands in memory as a whole before its first byte is written.
 pub fn report_word<P: Port>(alloc: Global, port: &mut P, form: Form) -> Status
     ensures reports { Since (P.moves port.old) (P.moves port.new) (Reports form result) }
     ensures answer { IsAnswer result }
-    ensures causes { Causes result (P.read_faults port.old) (P.read_faults port.new) (P.write_faults port.old) (P.write_faults port.new) }
+    ensures causes { Causes result
+        (P.read_faults port.old) (P.read_faults port.new) (P.write_faults port.old) (P.write_faults port.new) }
     ensures stops { StopsWith result (P.calls port.old) (P.calls port.new) }
 {
-    let Ok(mut judge) = Judge::new(alloc, true) else {
+    let Ok(judge) = Judge::new(alloc, true) else {
         return Status::Memory;
     };
-    match read_text(port, &mut judge) {
-        Reading::Over => {}
-        Reading::Unread => return Status::ReadFault,
-        Reading::NoMemory => return Status::Memory,
-    }
-    match judge.close() {
-        Ok(closed) => tell(alloc, port, form, &closed),
-        Err(_) => Status::Memory,
-    }
+    let reporting = Reporting { alloc, form, judge };
+    converse(port, reporting, &mut ())
 }

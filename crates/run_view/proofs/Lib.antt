@@ -4,3 +4,5 @@ pub mod Viewed
 pub mod Heavies
 pub mod Telling
 pub mod WorkedRows
+pub mod Threading
+pub mod Drawing

@@ -1,11 +1,12 @@
 -- Reports for a viewer and on one job, by computation.
 use Rattle.std.proofs.Common.{◌≡◌, [], ◌∷◌, ◌++◌, refl}
-use Rattle.std.specs.Prelude.{codes}
+use Rattle.std.specs.Prelude.{codes, Some, None}
 use Rattle.std.specs.Fmt.{digits}
 use Rattle.dover_model.specs.Instance.{Instance}
 use Rattle.dover_model.proofs.Written.{job, one}
 use Rattle.run_view.specs.Chrome.{chrome}
 use Rattle.run_view.specs.Why.{why}
+use Rattle.run_view.specs.Timeline.{timeline}
 
 -- a take over a running and a held job
 abbrev take_over : Instance
@@ -66,3 +67,32 @@ viewed_run : chrome take_over ≡
     ++ codes "]}\n"
 unfolding digits
 viewed_run = refl
+
+-- the whole run
+drawn_run : timeline None take_over ≡
+    codes "jobs 3, completed 2 15, abandoned 1 2, taken 1, bound 60\n"
+    ++ codes "       ticks of a column: 1\n"
+    ++ codes "       0                   20\n"
+    ++ codes "     0 ------------###............... 3\n"
+    ++ codes "     1 --X. -2\n"
+    ++ codes "     2 !########### 12\n"
+unfolding digits
+drawn_run = refl
+
+-- in a window, of which a column has many ticks
+drawn_window : timeline (Some (record { from = 5; until = 1_000 })) take_over ≡
+    codes "jobs 3, completed 2 15, abandoned 1 2, taken 1, bound 60\n"
+    ++ codes "       ticks of a column: 13\n"
+    ++ codes "       5                   265                 525                 785\n"
+    ++ codes "     0 #. 3\n"
+    ++ codes "     2 # 12\n"
+unfolding digits
+drawn_window = refl
+
+-- no job has a tick there
+drawn_nothing : timeline (Some (record { from = 40; until = 50 })) take_over ≡
+    codes "jobs 3, completed 2 15, abandoned 1 2, taken 1, bound 60\n"
+    ++ codes "       ticks of a column: 1\n"
+    ++ codes "       40\n"
+unfolding digits
+drawn_nothing = refl

@@ -2,3 +2,6 @@ pub mod Pieces
 pub mod Moments
 pub mod Chrome
 pub mod Why
+pub mod Stays
+pub mod Book
+pub mod Timeline

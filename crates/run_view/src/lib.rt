@@ -2,10 +2,16 @@
 #![tactic(auto)]
 
 mod pieces;
+mod signs;
+mod stays;
 mod story;
+mod terminal;
 mod threshold;
 mod viewer;
+mod window;
 
 pub use story::{Asked, why};
+pub use terminal::timeline;
 pub use threshold::least_heavy;
 pub use viewer::chrome;
+pub use window::Window;

@@ -8,3 +8,9 @@ returns-in-Chrome c = λ J is. rw c.in-Chrome.is (c.chrome.ensures J is)
 
 pub returns-in-Why : goal.returns-in-Why
 returns-in-Why c = λ J is. rw c.in-Why.is (c.why.ensures J is)
+
+pub returns-in-Timeline : goal.returns-in-Timeline
+returns-in-Timeline c = λ J is. rw c.in-Timeline.is (c.timeline.ensures J is)
+
+pub returns-in-Svg : goal.returns-in-Svg
+returns-in-Svg c = λ J is. rw c.in-Svg.is (c.picture.ensures J is)

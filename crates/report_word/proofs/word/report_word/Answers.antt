@@ -1,13 +1,17 @@
-use Rattle.std.proofs.Common.{refl, ◌∙◌}
-use Rattle.dover_model.proofs.Tests.{never}
-use Rattle.report_word.proofs.Answering.{closed_with}
-use Rattle.report_word.proofs.Records.{ends}
+use Rattle.std.proofs.Common.{refl}
+use Rattle.dover_port.proofs.Made.{since_weaker}
+use Rattle.report_word.proofs.Talking.{reported_by, answers}
 use Rattle.report_word.proofs.word.report_word.Goals as goal
 
-pub returns-in-Ok-close-clause-reports : goal.returns-in-Ok-close-clause-reports
-returns-in-Ok-close-clause-reports g c = ends c.args.form _ _ _ _ c.in-Over.ensures.reads c.tell.result
-    (λ x stands. c.tell.ensures.finishes x (closed_with c.in-Ok-close.closed _ x (c.in-Over.ensures.keep refl ∙ c.in-Ok.ensures.keep)
-    (c.in-Ok-close.ensures.tells x stands) (c.in-Ok-close.ensures.steps x stands)))
+pub converse-requires : goal.converse-requires
+converse-requires g c =
+    (c.args.form, record { judge = c.in-Ok.ensures.stands; keep = c.in-Ok.ensures.keep; form = refl })
 
-pub returns-in-Err-clause-reports : goal.returns-in-Err-clause-reports
-returns-in-Err-clause-reports g c = let was = c.in-Over.ensures.stands refl in never (c.in-Err.ensures.ok was.0 was.1)
+pub returns-clause-reports : goal.returns-clause-reports
+returns-clause-reports g c = since_weaker _ _ _ _ (c.converse.ensures.talks c.args.form
+    (record { judge = c.in-Ok.ensures.stands; keep = c.in-Ok.ensures.keep; form = refl }))
+    (λ moves it. reported_by c.args.form c.converse.result moves it.0)
+
+pub returns-clause-answer : goal.returns-clause-answer
+returns-clause-answer g c = answers c.args.form c.converse.result (c.converse.ensures.answer c.args.form
+    (record { judge = c.in-Ok.ensures.stands; keep = c.in-Ok.ensures.keep; form = refl }))

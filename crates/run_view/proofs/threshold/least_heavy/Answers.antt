@@ -1,6 +1,5 @@
-use Rattle.std.proofs.Common.{◌≡◌, ℕ, ◌+◌, ◌*◌, ◌/◌, ◌≤◌, ap, sym, ◌∙◌, subst}
-use Rattle.dover_model.specs.Greatest.{greatest}
-use Rattle.run_view.proofs.Heavies.{light, found, next_heavy, least_of}
+use Rattle.std.proofs.Common.{◌≡◌, ℕ, ◌+◌, ◌*◌, ◌/◌, ◌≤◌, ap, sym, subst}
+use Rattle.run_view.proofs.Heavies.{found, next_heavy, least_of}
 use Rattle.run_view.proofs.threshold.least_heavy.Goals as goal
 
 -- what stands under the root

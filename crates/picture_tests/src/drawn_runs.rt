@@ -1,0 +1,304 @@
+//! The report as SVG, over ports in memory.
+use dover_port::{MemoryPort, Status};
+use report_word::{Form, report_word};
+use run_view::Window;
+use std::alloc::Global;
+use std::test::Fail;
+
+/// How texts and bars look, the same in each picture.
+const STYLE: &str =
+    "<style>text{font:12px sans-serif;fill:#222}.s{font-size:10px}.r{text-anchor:end}\n\
+         .m{text-anchor:middle}.b{font-weight:bold;font-size:14px}\n\
+         .i text{font-size:9px;fill:#fff;text-anchor:middle}\n\
+         .j{font-size:10px;paint-order:stroke;stroke:#fff;stroke-width:3px;stroke-linejoin:round}\n\
+         .v{font-size:9px;fill:#a33c00;paint-order:stroke;stroke:#fff;stroke-width:2px}\n\
+         path{fill:none;pointer-events:none}text{pointer-events:none}.w,.g{pointer-events:stroke}\n\
+         .w{stroke:#dfe5ec}.g{stroke:#f4d5c4}.h{stroke:#9db8cc}.c{stroke:#0072b2}.t{stroke:#e69f00}\n\
+         .l{stroke:#d55e00}\n\
+         .o{stroke:#d55e00;stroke-opacity:.08}.f{fill:none;stroke:#bbb}.a{stroke:#e2e2e2}.p{stroke:#444}\n\
+         .k{stroke:#b87a00;stroke-width:2}.x{stroke:#a33c00;stroke-width:2}\n\
+         .C{fill:#0072b2}.L{fill:#d55e00}.Q{fill:#8a949e}</style>\n";
+
+/// Traces, the window that is asked for, and what stands in the picture before and behind its styles.
+const PICTURES: [(&str, Option<Window>, &str, &str); 4] = [
+    // no job
+    (
+        "dover 1 1 1\n\
+         end 0\n",
+        None,
+        "<svg xmlns='http://www.w3.org/2000/svg' width='1400' height='290' viewBox='0 0 1400 290'>\n",
+        "<rect width='1400' height='290' fill='#fff'/>\n\
+         <text class='b' x='90' y='22'>jobs 0, completed 0 worth 0, abandoned 0 worth 0, taken 0, bound 0</text>\n\
+         <g stroke-width='12'><path class='c' d='M90 40h14'/><path class='t' d='M205 40h14'/>\n\
+         <path class='l' d='M385 40h14'/></g><text class='s' x='109' y='44'>ran, completed</text>\n\
+         <text class='s' x='224' y='44'>ran, completed, after a take</text>\n\
+         <text class='s' x='404' y='44'>ran, then abandoned: lost work</text>\n\
+         <path class='a' d='M90 76V254'/><text class='s m' x='90' y='268'>0</text>\n\
+         <path class='a' d='M1290 76V254'/><text class='s m' x='1290' y='268'>1</text>\n\
+         <text class='s r' x='1290' y='282'>tick</text>\n\
+         <g stroke-width='12'><path class='w' d='M580 40h14'/><path class='g' d='M715 40h14'/>\n\
+         <path class='h' d='M855 40h14'/><path class='o' d='M990 40h14'/></g>\n\
+         <text class='s' x='599' y='44'>release to deadline</text>\n\
+         <text class='s' x='734' y='44'>the same, abandoned</text>\n\
+         <text class='s' x='874' y='44'>started, not running</text>\n\
+         <text class='s' x='1009' y='44'>interval with lost value</text>\n\
+         <text class='s' x='1139' y='44'>X abandoned: -value against that under way</text>\n\
+         <path class='o' stroke-width='194' d=''/>\n\
+         <text class='r' x='82' y='91'>processor</text>\n\
+         <rect class='f' x='90' y='76' width='1200' height='22'/>\n\
+         <path class='c' stroke-width='22' d=''/>\n\
+         <path class='t' stroke-width='22' d=''/>\n\
+         <path class='l' stroke-width='22' d=''/>\n\
+         <g class='i'>\n\
+         </g>\n\
+         <text class='r' x='82' y='124'>jobs</text>\n\
+         <g stroke-width='15'>\n\
+         </g>\n\
+         <path class='h' stroke-width='6' d=''/>\n\
+         <path class='c' stroke-width='15' d=''/>\n\
+         <path class='t' stroke-width='15' d=''/>\n\
+         <path class='l' stroke-width='15' d=''/>\n\
+         <path class='p' d=''/>\n\
+         <path class='k' d=''/>\n\
+         <path class='x' d=''/>\n\
+         <path class='L' d='M90 254V254H1290V254Z'/>\n\
+         <path class='C' d='M90 254V254H1290V254Z'/>\n\
+         <text class='r' x='82' y='157'>value so far</text>\n\
+         <rect class='f' x='90' y='144' width='1200' height='110'/>\n\
+         <text class='s' x='1296' y='154'>lost</text><text class='s' x='1296' y='166'>0</text>\n\
+         <text class='s' x='1296' y='240'>completed</text><text class='s' x='1296' y='252'>0</text>\n\
+         </svg>\n",
+    ),
+    // one job
+    (
+        "dover 1 1 1\n\
+         job 0 0 2 2 2\n\
+         run 0 0\n\
+         complete 2 0\n\
+         end 2\n",
+        None,
+        "<svg xmlns='http://www.w3.org/2000/svg' width='1400' height='290' viewBox='0 0 1400 290'>\n",
+        "<rect width='1400' height='290' fill='#fff'/>\n\
+         <text class='b' x='90' y='22'>jobs 1, completed 1 worth 2, abandoned 0 worth 0, taken 0, bound 8</text>\n\
+         <g stroke-width='12'><path class='c' d='M90 40h14'/><path class='t' d='M205 40h14'/>\n\
+         <path class='l' d='M385 40h14'/></g><text class='s' x='109' y='44'>ran, completed</text>\n\
+         <text class='s' x='224' y='44'>ran, completed, after a take</text>\n\
+         <text class='s' x='404' y='44'>ran, then abandoned: lost work</text>\n\
+         <path class='a' d='M90 76V254'/><text class='s m' x='90' y='268'>0</text>\n\
+         <path class='a' d='M690 76V254'/><text class='s m' x='690' y='268'>1</text>\n\
+         <path class='a' d='M1290 76V254'/><text class='s m' x='1290' y='268'>2</text>\n\
+         <text class='s r' x='1290' y='282'>tick</text>\n\
+         <g stroke-width='12'><path class='w' d='M580 40h14'/><path class='g' d='M715 40h14'/>\n\
+         <path class='h' d='M855 40h14'/><path class='o' d='M990 40h14'/></g>\n\
+         <text class='s' x='599' y='44'>release to deadline</text>\n\
+         <text class='s' x='734' y='44'>the same, abandoned</text>\n\
+         <text class='s' x='874' y='44'>started, not running</text>\n\
+         <text class='s' x='1009' y='44'>interval with lost value</text>\n\
+         <text class='s' x='1139' y='44'>X abandoned: -value against that under way</text>\n\
+         <path class='o' stroke-width='194' d=''/>\n\
+         <text class='r' x='82' y='91'>processor</text>\n\
+         <rect class='f' x='90' y='76' width='1200' height='22'/>\n\
+         <path class='c' stroke-width='22' d='M90 87h1200'/>\n\
+         <path class='t' stroke-width='22' d=''/>\n\
+         <path class='l' stroke-width='22' d=''/>\n\
+         <g class='i'>\n\
+         <text x='690' y='91'>0</text>\n\
+         </g>\n\
+         <text class='r' x='82' y='124'>jobs</text>\n\
+         <g stroke-width='15'>\n\
+         <path class='w' d='M90 121h1200'><title>job 0: release 0, work 2, deadline 2, value 2, complete 2</title></p\
+         ath>\n\
+         </g>\n\
+         <path class='h' stroke-width='6' d=''/>\n\
+         <path class='c' stroke-width='15' d='M90 121h1200'/>\n\
+         <path class='t' stroke-width='15' d=''/>\n\
+         <path class='l' stroke-width='15' d=''/>\n\
+         <path class='p' d=''/>\n\
+         <path class='k' d=''/>\n\
+         <path class='x' d=''/>\n\
+         <text class='j' x='92' y='125'>0</text>\n\
+         <path class='L' d='M90 254V254H1290V144H1290V254Z'/>\n\
+         <path class='C' d='M90 254V254H1290V144H1290V254Z'/>\n\
+         <text class='r' x='82' y='157'>value so far</text>\n\
+         <rect class='f' x='90' y='144' width='1200' height='110'/>\n\
+         <text class='s' x='1296' y='154'>lost</text><text class='s' x='1296' y='166'>0</text>\n\
+         <text class='s' x='1296' y='240'>completed</text><text class='s' x='1296' y='252'>2</text>\n\
+         </svg>\n",
+    ),
+    // a take
+    (
+        "dover 1 1 1\n\
+         job 0 0 3 30 3\n\
+         run 0 0\n\
+         job 1 0 2 4 2\n\
+         preempt 0 0 1\n\
+         job 2 0 12 12 12\n\
+         take 0 1 2\n\
+         abandon 2 1\n\
+         complete 12 2\n\
+         run 12 0\n\
+         complete 15 0\n\
+         end 15\n",
+        None,
+        "<svg xmlns='http://www.w3.org/2000/svg' width='1400' height='326' viewBox='0 0 1400 326'>\n",
+        "<rect width='1400' height='326' fill='#fff'/>\n\
+         <text class='b' x='90' y='22'>jobs 3, completed 2 worth 15, abandoned 1 worth 2, taken 1, bound 60</text>\n\
+         <g stroke-width='12'><path class='c' d='M90 40h14'/><path class='t' d='M205 40h14'/>\n\
+         <path class='l' d='M385 40h14'/></g><text class='s' x='109' y='44'>ran, completed</text>\n\
+         <text class='s' x='224' y='44'>ran, completed, after a take</text>\n\
+         <text class='s' x='404' y='44'>ran, then abandoned: lost work</text>\n\
+         <path class='a' d='M90 76V290'/><text class='s m' x='90' y='304'>0</text>\n\
+         <path class='a' d='M290 76V290'/><text class='s m' x='290' y='304'>5</text>\n\
+         <path class='a' d='M490 76V290'/><text class='s m' x='490' y='304'>10</text>\n\
+         <path class='a' d='M690 76V290'/><text class='s m' x='690' y='304'>15</text>\n\
+         <path class='a' d='M890 76V290'/><text class='s m' x='890' y='304'>20</text>\n\
+         <path class='a' d='M1090 76V290'/><text class='s m' x='1090' y='304'>25</text>\n\
+         <path class='a' d='M1290 76V290'/><text class='s m' x='1290' y='304'>30</text>\n\
+         <text class='s r' x='1290' y='318'>tick</text>\n\
+         <g stroke-width='12'><path class='w' d='M580 40h14'/><path class='g' d='M715 40h14'/>\n\
+         <path class='h' d='M855 40h14'/><path class='o' d='M990 40h14'/></g>\n\
+         <text class='s' x='599' y='44'>release to deadline</text>\n\
+         <text class='s' x='734' y='44'>the same, abandoned</text>\n\
+         <text class='s' x='874' y='44'>started, not running</text>\n\
+         <text class='s' x='1009' y='44'>interval with lost value</text>\n\
+         <text class='s' x='1139' y='44'>X abandoned: -value against that under way</text>\n\
+         <path class='o' stroke-width='230' d='M90 175h480'/>\n\
+         <text class='v' x='93' y='70'>lost 2</text>\n\
+         <text class='r' x='82' y='91'>processor</text>\n\
+         <rect class='f' x='90' y='76' width='1200' height='22'/>\n\
+         <path class='c' stroke-width='22' d='M570 87h120'/>\n\
+         <path class='t' stroke-width='22' d='M90 87h480'/>\n\
+         <path class='l' stroke-width='22' d=''/>\n\
+         <g class='i'>\n\
+         <text x='330' y='91'>2</text>\n\
+         <text x='630' y='91'>0</text>\n\
+         </g>\n\
+         <text class='r' x='82' y='124'>jobs</text>\n\
+         <g stroke-width='15'>\n\
+         <path class='w' d='M90 121h1200'><title>job 0: release 0, work 3, deadline 30, value 3, complete 15</title><\
+         /path>\n\
+         <path class='g' d='M90 139h160'><title>job 1: release 0, work 2, deadline 4, value 2 against 12 under way, a\
+         bandon 2</title></path>\n\
+         <path class='w' d='M90 157h480'><title>job 2: release 0, work 12, deadline 12, value 12 against 5 under way,\
+         \x20taken, complete 12</title></path>\n\
+         </g>\n\
+         <path class='h' stroke-width='6' d='M90 121h600M90 139h80'/>\n\
+         <path class='c' stroke-width='15' d='M570 121h120'/>\n\
+         <path class='t' stroke-width='15' d='M90 157h480'/>\n\
+         <path class='l' stroke-width='15' d=''/>\n\
+         <path class='p' d='M90 121V139m-2 -4h4l-2 4'/>\n\
+         <path class='k' d='M90 139V157m-2 -4h4l-2 4'/>\n\
+         <path class='x' d='M167 135l6 9m0 -9l-6 9'/>\n\
+         <text class='j' x='92' y='125'>0</text>\n\
+         <text class='j' x='92' y='143'>1</text>\n\
+         <text class='v' x='176' y='143'>-2</text>\n\
+         <text class='j' x='92' y='161'>2</text>\n\
+         <path class='L' d='M90 290V290H170V278H570V200H690V180H1290V290Z'/>\n\
+         <path class='C' d='M90 290V290H170V290H570V213H690V193H1290V290Z'/>\n\
+         <text class='r' x='82' y='193'>value so far</text>\n\
+         <rect class='f' x='90' y='180' width='1200' height='110'/>\n\
+         <text class='s' x='1296' y='190'>lost</text><text class='s' x='1296' y='202'>2</text>\n\
+         <text class='s' x='1296' y='276'>completed</text><text class='s' x='1296' y='288'>15</text>\n\
+         </svg>\n",
+    ),
+    // a part of it
+    (
+        "dover 1 1 1\n\
+         job 0 0 3 30 3\n\
+         run 0 0\n\
+         job 1 0 2 4 2\n\
+         preempt 0 0 1\n\
+         job 2 0 12 12 12\n\
+         take 0 1 2\n\
+         abandon 2 1\n\
+         complete 12 2\n\
+         run 12 0\n\
+         complete 15 0\n\
+         end 15\n",
+        Some(Window { from: 1, until: 11 }),
+        "<svg xmlns='http://www.w3.org/2000/svg' width='1400' height='326' viewBox='0 0 1400 326'>\n",
+        "<rect width='1400' height='326' fill='#fff'/>\n\
+         <text class='b' x='90' y='22'>jobs 3, completed 2 worth 15, abandoned 1 worth 2, taken 1, bound 60</text>\n\
+         <g stroke-width='12'><path class='c' d='M90 40h14'/><path class='t' d='M205 40h14'/>\n\
+         <path class='l' d='M385 40h14'/></g><text class='s' x='109' y='44'>ran, completed</text>\n\
+         <text class='s' x='224' y='44'>ran, completed, after a take</text>\n\
+         <text class='s' x='404' y='44'>ran, then abandoned: lost work</text>\n\
+         <path class='a' d='M90 76V290'/><text class='s m' x='90' y='304'>1</text>\n\
+         <path class='a' d='M210 76V290'/><text class='s m' x='210' y='304'>2</text>\n\
+         <path class='a' d='M330 76V290'/><text class='s m' x='330' y='304'>3</text>\n\
+         <path class='a' d='M450 76V290'/><text class='s m' x='450' y='304'>4</text>\n\
+         <path class='a' d='M570 76V290'/><text class='s m' x='570' y='304'>5</text>\n\
+         <path class='a' d='M690 76V290'/><text class='s m' x='690' y='304'>6</text>\n\
+         <path class='a' d='M810 76V290'/><text class='s m' x='810' y='304'>7</text>\n\
+         <path class='a' d='M930 76V290'/><text class='s m' x='930' y='304'>8</text>\n\
+         <path class='a' d='M1050 76V290'/><text class='s m' x='1050' y='304'>9</text>\n\
+         <path class='a' d='M1170 76V290'/><text class='s m' x='1170' y='304'>10</text>\n\
+         <path class='a' d='M1290 76V290'/><text class='s m' x='1290' y='304'>11</text>\n\
+         <text class='s r' x='1290' y='318'>tick</text>\n\
+         <g stroke-width='12'><path class='w' d='M580 40h14'/><path class='g' d='M715 40h14'/>\n\
+         <path class='h' d='M855 40h14'/><path class='o' d='M990 40h14'/></g>\n\
+         <text class='s' x='599' y='44'>release to deadline</text>\n\
+         <text class='s' x='734' y='44'>the same, abandoned</text>\n\
+         <text class='s' x='874' y='44'>started, not running</text>\n\
+         <text class='s' x='1009' y='44'>interval with lost value</text>\n\
+         <text class='s' x='1139' y='44'>X abandoned: -value against that under way</text>\n\
+         <path class='o' stroke-width='230' d='M90 175h1200'/>\n\
+         <text class='v' x='93' y='70'>lost 2</text>\n\
+         <text class='r' x='82' y='91'>processor</text>\n\
+         <rect class='f' x='90' y='76' width='1200' height='22'/>\n\
+         <path class='c' stroke-width='22' d=''/>\n\
+         <path class='t' stroke-width='22' d='M90 87h1200'/>\n\
+         <path class='l' stroke-width='22' d=''/>\n\
+         <g class='i'>\n\
+         <text x='690' y='91'>2</text>\n\
+         </g>\n\
+         <text class='r' x='82' y='124'>jobs</text>\n\
+         <g stroke-width='15'>\n\
+         <path class='w' d='M90 121h1200'><title>job 0: release 0, work 3, deadline 30, value 3, complete 15</title><\
+         /path>\n\
+         <path class='g' d='M90 139h360'><title>job 1: release 0, work 2, deadline 4, value 2 against 12 under way, a\
+         bandon 2</title></path>\n\
+         <path class='w' d='M90 157h1200'><title>job 2: release 0, work 12, deadline 12, value 12 against 5 under way\
+         , taken, complete 12</title></path>\n\
+         </g>\n\
+         <path class='h' stroke-width='6' d='M90 121h1200M90 139h120'/>\n\
+         <path class='c' stroke-width='15' d=''/>\n\
+         <path class='t' stroke-width='15' d='M90 157h1200'/>\n\
+         <path class='l' stroke-width='15' d=''/>\n\
+         <path class='p' d=''/>\n\
+         <path class='k' d=''/>\n\
+         <path class='x' d='M207 135l6 9m0 -9l-6 9'/>\n\
+         <text class='v' x='216' y='143'>-2 against 12</text>\n\
+         <path class='L' d='M90 290V290H210V180H1290V180H1290V290Z'/>\n\
+         <path class='C' d='M90 290V290H210V290H1290V290H1290V290Z'/>\n\
+         <text class='r' x='82' y='193'>value so far</text>\n\
+         <rect class='f' x='90' y='180' width='1200' height='110'/>\n\
+         <text class='s' x='1296' y='190'>lost</text><text class='s' x='1296' y='202'>2</text>\n\
+         <text class='s' x='1296' y='276'>completed</text><text class='s' x='1296' y='288'>0</text>\n\
+         </svg>\n",
+    ),
+];
+
+/// A port over the text in one piece.
+fn port(alloc: Global, text: &str) -> Result<MemoryPort, Fail> {
+    let piece = Vec::from_slice(alloc, text.as_bytes())?;
+    let mut script = Vec::new(alloc);
+    script.push(piece)?;
+    let none = Vec::new(alloc);
+    let never = Vec::new(alloc);
+    Ok(MemoryPort::new(alloc, script, none, never, 4096, 65_536)?)
+}
+
+#[test]
+fn traces_and_their_pictures(rt: HostRuntime) -> Result<(), Fail> {
+    let alloc = rt.alloc();
+    for (text, window, front, rest) in PICTURES {
+        let mut port = port(alloc, text)?;
+        assert!(rt; report_word(alloc, &mut port, Form::Svg(window)) == Status::Done);
+        let mut whole = Vec::from_slice(alloc, front.as_bytes())?;
+        whole.extend_from_slice(STYLE.as_bytes())?;
+        whole.extend_from_slice(rest.as_bytes())?;
+        assert!(rt; port.written() == whole.as_slice());
+    }
+    Ok(())
+}

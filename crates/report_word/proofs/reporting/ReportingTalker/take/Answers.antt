@@ -1,0 +1,25 @@
+use Rattle.std.proofs.Common.{refl, arith, [], ◌++◌, ℕ, List, sym, subst, ◌∙◌}
+use Rattle.std.proofs.Math.Seq.{take-length}
+use Rattle.trace_judge.specs.Judging.{StandsFor}
+use Rattle.report_word.proofs.reporting.ReportingTalker.take.Goals as goal
+
+pub returns-in-Ok : goal.returns-in-Ok
+returns-in-Ok c = record {
+  takes = λ form x at goes. (
+    c.requires.some,
+    omega arith,
+    (
+      [],
+      refl,
+      (
+        record {
+          judge = subst (λ (l : List ℕ). StandsFor c.feed.new.self (x ++ l)) (sym (take-length c.args.piece.now))
+              (c.in-Ok.ensures.fed.stands x at.judge);
+          keep = c.in-Ok.ensures.fed.keep ∙ at.keep;
+          form = at.form;
+        },
+        refl,
+      ),
+    ),
+  );
+}

@@ -1,0 +1,45 @@
+-- What the word says, by the bytes got so far, and what it keeps of them.
+use Rattle.std.specs.Prelude.{◌≡◌, ℕ, List, [], true, Option, Result, Ok, Err}
+use Rattle.dover_model.specs.Verdict.{verdict}
+use Rattle.dover_port.specs.Moves.{Move, Passes, CutsShort}
+use Rattle.dialogue.specs.Talk.{Talk}
+use Rattle.dialogue.specs.declared.talker.Stop.{Stop}
+use Rattle.dialogue.specs.declared.talker.Stop.TheVariants.{NoMemory, Unwritten}
+use Rattle.judge_word.specs.Record.{IsTrace, IsNoTrace}
+use Rattle.judge_word.specs.Talking.{judging_talk}
+use Rattle.trace_judge.specs.Judging.{StandsFor, Tells, steps_told}
+use Rattle.trace_judge.specs.declared.judge.Closed.{Closed}
+use Rattle.trace_judge.specs.declared.verdict.Verdict.{Verdict}
+use Rattle.report_word.specs.Record.{told}
+use Rattle.report_word.specs.declared.form.Form.{Form}
+use Rattle.report_word.specs.declared.reporting.Reporting.{Reporting}
+
+-- The report on the run of an accepted trace is told, and else the line of the verdict. Where the input has ended,
+-- memory may be lacking for a report alone.
+abbrev pub report_talk : Form → Talk
+report_talk form = judging_talk (told form) (λ bytes ended. ended ≡ true → IsTrace bytes)
+
+-- the judge stands for the bytes and keeps the steps, for a report of this form
+pub record Stands (asked : Form) (r : Reporting) (bytes : List ℕ) : Type 0 where
+  pub judge : StandsFor r.judge bytes
+  pub keep : r.judge.reader.keep ≡ true
+  pub form : r.form ≡ asked
+
+-- and nothing is left to give
+abbrev pub IsAt : Form → Reporting → List ℕ → List (List ℕ) → Type 0
+IsAt form r bytes rest = Stands form r bytes × (rest ≡ [])
+
+-- the judge's last word on the text: its verdict, and the steps of its run
+pub record IsClosed (closed : Closed) (text : List ℕ) : Type 0 where
+  pub tells : Tells closed.verdict text
+  pub steps : closed.steps.items ≡ steps_told true (verdict text)
+
+-- the judge's verdict on the text, which is no trace
+abbrev pub TellsNoTrace : Verdict → List ℕ → Type 0
+TellsNoTrace v text = Tells v text × IsNoTrace text
+
+-- the text was put, or a front of it that isn't all, or there was no memory for it
+abbrev pub Puts : {T : Type 0} → Result T Stop → (old new : Option (List Move)) → List ℕ → Type 0
+Puts (Ok x) old new text = Passes old new [] [] text
+Puts (Err NoMemory) old new text = Passes old new [] [] []
+Puts (Err Unwritten) old new text = CutsShort old new [] text

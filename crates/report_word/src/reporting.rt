@@ -1,0 +1,65 @@
+//! What the reading loop calls: a judge that keeps the steps of the run, and tells the report at the end.
+ghost use Rattle.std.specs.Prelude.{ℕ, List};
+ghost use Rattle.report_word.specs.Talking.{report_talk, Stands, IsAt};
+ghost use Rattle.report_word.specs.declared.form.Form as forms;
+
+use crate::Form;
+use crate::word::tell;
+use dialogue::{Stop, Talker};
+use dover_model::Memory;
+use dover_port::{Output, Port, Status};
+use line_text::BackLine;
+use std::alloc::Global;
+use trace_judge::Judge;
+
+/// A judge of the text, which keeps the steps, and the form of the report. Nothing is due before the answer.
+#[derive(Drop)]
+pub(crate) struct Reporting {
+    pub(crate) alloc: Global,
+    pub(crate) form: Form,
+    pub(crate) judge: Judge,
+}
+
+impl Talker for Reporting {
+    type Meter = ();
+
+    ghost about = { forms.Form };
+
+    ghost talk = { report_talk };
+
+    ghost stands = { λ form r meter. IsAt form r };
+
+    ghost ready = { λ form r meter. Stands form r };
+
+    ghost costs = { λ form meter bytes. Unit {0} };
+
+    fn laws() {}
+
+    fn take(&mut self, _meter: &mut (), piece: &[u8]) -> Result<usize, Memory> {
+        match self.judge.feed(piece) {
+            Ok(()) => Ok(piece.len()),
+            Err(error) => Err(error),
+        }
+    }
+
+    fn next_part(&mut self, _meter: &mut ()) -> Option<BackLine> {
+        None
+    }
+
+    fn goes_on(&self, _meter: &()) -> bool {
+        !self.judge.decided()
+    }
+
+    fn answer<P: Port>(
+        self,
+        _meter: &mut (),
+        port: &mut P,
+        out: &mut Output,
+        _ended: bool,
+    ) -> Result<Status, Stop> {
+        match self.judge.close() {
+            Ok(closed) => tell(self.alloc, port, out, self.form, &closed),
+            Err(_) => Err(Stop::NoMemory),
+        }
+    }
+}

@@ -1,0 +1,6 @@
+pub mod Around
+pub mod Filling
+pub mod Knowing
+pub mod Layers
+pub mod Whole
+pub mod WorkedRows

@@ -1,0 +1,94 @@
+-- The picture as a whole.
+use Rattle.std.proofs.Common.{◌≡◌, ℕ, ◌+◌, ◌≤◌, List, [], ◌∷◌, ◌++◌, length, set, refl, sym, ap, ◌∙◌, arith}
+use Rattle.std.proofs.Common.{length-append}
+use Rattle.std.proofs.lemmas.List.{length-set}
+use Rattle.std.specs.Prelude.{Bool, true, false, nat_lt, if◌then◌else◌, Option, None}
+use Rattle.std.specs.List.{zip}
+use Rattle.std.proofs.lemmas.Slice.Zip.{length-zip}
+use Rattle.dover_model.specs.declared.events.Event.{Event}
+use Rattle.dover_model.specs.declared.events.Event.TheVariants.{Release, Run, Preempt, Take, Complete, Abandon, End}
+use Rattle.dover_model.specs.declared.pieces.Piece.{Piece}
+use Rattle.dover_model.specs.Fraction.{Fraction}
+use Rattle.dover_model.specs.JobFacts.{JobFacts}
+use Rattle.dover_model.specs.Instance.{Instance}
+use Rattle.dover_model.specs.Run.{completed_value}
+use Rattle.charge_ledger.specs.Rows.{IsRunOf, rows_of, weights}
+use Rattle.charge_ledger.specs.declared.interval.Interval.{Interval}
+use Rattle.dover_report.specs.Counts.{counts_of, jobs_released}
+use Rattle.dover_report.specs.declared.counts.Counts.{Counts}
+use Rattle.dover_report.proofs.Counting.{jobs_are}
+use Rattle.run_picture.specs.Templates.{Text}
+use Rattle.run_picture.specs.Seen.{fresh, taking, done, gone, seen_at, told_of, with_step, told_by}
+use Rattle.run_picture.specs.Processor.{pieces_from}
+use Rattle.run_picture.specs.Pictures.{window_of, drawn, picture}
+use Rattle.run_view.specs.declared.window.Window.{Window}
+use Rattle.run_picture.specs.declared.seen.Seen.{Seen}
+
+-- ---- no more jobs than steps
+
+-- what is told of a job adds none
+told_length : (f : Seen → Seen) (seen : List Seen) (n : ℕ) → length (told_of f seen n) ≡ length seen
+told_length f seen n = by_test (nat_lt n (length seen)) where
+  by_test : (b : Bool) → length (if b then set seen n (f (seen_at seen n)) else seen) ≡ length seen
+  by_test true = length-set seen n (f (seen_at seen n))
+  by_test false = refl
+
+-- a step adds one at most
+step_length : (seen : List Seen) (e : Event) (w : ℕ) → length (with_step seen e w) ≤ length seen + 1
+step_length seen (Release n job) w = omega (arith, length-append seen (fresh n job ∷ []))
+step_length seen (Run at n) w = omega arith
+step_length seen (Preempt at stops starts) w = omega arith
+step_length seen (Take at stops starts) w = omega (arith, told_length (taking w) seen starts)
+step_length seen (Complete at n) w = omega (arith, told_length (done at) seen n)
+step_length seen (Abandon at n) w = omega (arith, told_length (gone at w) seen n)
+step_length seen (End value) w = omega arith
+
+-- so all steps add as many at most as they are
+steps_length : (seen : List Seen) (more : List (Event × ℕ)) → length (told_by seen more) ≤ length seen + length more
+steps_length seen [] = omega arith
+steps_length seen (e_w ∷ more) = omega (
+  arith,
+  steps_length (with_step seen e_w.0 e_w.1) more,
+  step_length seen e_w.0 e_w.1,
+)
+
+pub few_seen : (run : List Event) (worths : List ℕ) (seen : List Seen) → length worths ≡ length run
+    → seen ≡ told_by [] (zip run worths) → length run ≤ 5_000_001 → length seen ≤ 5_000_001
+few_seen run worths seen same are few = omega (
+  arith,
+  ap length are,
+  steps_length [] (zip run worths),
+  length-zip run worths,
+  same,
+  few,
+)
+
+-- ---- the picture
+
+-- what is drawn is the picture, where all that it is drawn from is that of the run
+pub pictured : (k : Fraction) (run : List Event) (J : Instance) → IsRunOf k run J → (asked : Option Window)
+    (jobs : List JobFacts) (worths : List ℕ) (rows : List Interval) (value : ℕ) (c : Counts) (seen : List Seen)
+    (pieces : List Piece) (w : Window) (a b : Text)
+    → jobs ≡ jobs_released run → worths ≡ weights J → rows ≡ rows_of J → value ≡ completed_value J
+    → c ≡ counts_of k run jobs value → seen ≡ told_by [] (zip run worths) → pieces ≡ pieces_from None run
+    → w ≡ window_of asked jobs → a ≡ [] → b ≡ a ++ drawn 400 w c seen jobs run pieces rows → b ≡ picture asked J
+pictured k run J of asked jobs worths rows value c seen pieces w a b released weighed charged adds counts tells runs
+    views first last =
+    last ∙ ap (λ t. t ++ drawn 400 w c seen jobs run pieces rows) first
+    ∙ ap (λ x. drawn 400 x c seen jobs run pieces rows) views
+    ∙ ap (λ x. drawn 400 (window_of asked jobs) x seen jobs run pieces rows) counts
+    ∙ ap (λ x. drawn 400 (window_of asked jobs) (counts_of k run jobs value) x jobs run pieces rows) tells
+    ∙ ap (λ x. drawn 400 (window_of asked jobs) (counts_of k run jobs value) (told_by [] (zip run worths)) jobs run x
+    rows) runs
+    ∙ ap (λ x. drawn 400 (window_of asked jobs) (counts_of k run jobs value) (told_by [] (zip run worths)) jobs run
+    (pieces_from None run) x) charged
+    ∙ ap (λ x. drawn 400 (window_of asked jobs) (counts_of k run jobs x) (told_by [] (zip run worths)) jobs run
+    (pieces_from None run) (rows_of J)) adds
+    ∙ ap (λ x. drawn 400 (window_of asked jobs) (counts_of k run jobs (completed_value J)) (told_by [] (zip run x))
+    jobs run (pieces_from None run) (rows_of J)) weighed
+    ∙ ap (λ x. drawn 400 (window_of asked x) (counts_of k run x (completed_value J)) (told_by [] (zip run (weights J)))
+    x run (pieces_from None run) (rows_of J)) (released ∙ jobs_are k run J of)
+    ∙ ap (λ x. drawn 400 (window_of asked J.jobs) (counts_of x run J.jobs (completed_value J))
+    (told_by [] (zip run (weights J))) J.jobs run (pieces_from None run) (rows_of J)) (sym of.ratio)
+    ∙ ap (λ x. drawn 400 (window_of asked J.jobs) (counts_of J.rules.ratio x J.jobs (completed_value J))
+    (told_by [] (zip x (weights J))) J.jobs x (pieces_from None x) (rows_of J)) (sym of.prints)

@@ -1,0 +1,122 @@
+-- What stands around a picture: the page, its title, the axis of ticks, the bands of intervals that lost value.
+use Rattle.std.specs.Prelude.{ℕ, zero, suc, ◌+◌, ◌-◌, ◌*◌, ◌/◌, List, [], ◌∷◌, ◌++◌, Bool, not, ◌&&◌, ◌||◌, ◌==◌}
+use Rattle.std.specs.Prelude.{nat_le, nat_lt, if◌then◌else◌, codes}
+use Rattle.std.specs.List.{flat_map}
+use Rattle.dover_report.specs.declared.counts.Counts.{Counts}
+use Rattle.charge_ledger.specs.declared.interval.Interval.{Interval}
+use Rattle.run_picture.specs.Templates.{Text, filled, room}
+use Rattle.run_picture.specs.Plot.{x_at, meets, has, pixels, bar}
+use Rattle.run_picture.specs.Legends.{styles, legend}
+use Rattle.run_view.specs.declared.window.Window.{Window}
+
+-- ---- the page
+
+-- the front of a page so high
+abbrev pub front : (high : ℕ) → Text
+front high = filled (codes "<svg xmlns='http://www.w3.org/2000/svg' width='1400' height='@' viewBox='0 0 1400 @'>\n")
+    (high ∷ high ∷ [])
+
+-- its white ground
+abbrev pub ground : (high : ℕ) → Text
+ground high = filled (codes "<rect width='1400' height='@' fill='#fff'/>\n") (high ∷ [])
+
+-- the numbers of the summary
+abbrev pub title : Counts → Text
+title c = filled (codes
+    "<text class='b' x='90' y='22'>jobs @, completed @ worth @, abandoned @ worth @, taken @, bound @</text>\n")
+    (c.jobs ∷ c.completed ∷ c.value ∷ c.abandoned ∷ c.lost ∷ c.taken ∷ c.bound ∷ [])
+
+-- a page so high that has nothing on it
+unfoldable pub blank : (high : ℕ) → Text
+blank high = front high ++ styles ++ ground high
+
+-- a page with its title, and the legend of the processor
+unfoldable pub page : (high : ℕ) → Counts → Text
+page high c = blank high ++ title c ++ legend
+
+-- ---- the axis
+
+-- ten times as much, where sixty of them are less than the span
+abbrev pub next_ten : (span ten : ℕ) → ℕ
+next_ten span ten = if nat_le span (60 * ten) || nat_lt 100_000_000_000 ten then ten else 10 * ten
+
+-- the same so many times
+unfoldable pub tens : (times span ten : ℕ) → ℕ
+tens zero span ten = ten
+tens (suc times) span ten = tens times span (next_ten span ten)
+
+-- ten, its double or its five-fold: the least of which twelve are as much as the span
+abbrev pub step_by : (span ten : ℕ) → ℕ
+step_by span ten = if nat_le span (12 * ten) then ten else (if nat_le span (24 * ten) then 2 * ten else 5 * ten)
+
+-- how many ticks there are from mark to mark
+abbrev pub step_of : (span : ℕ) → ℕ
+step_of span = step_by span (tens 12 span 1)
+
+-- a line at pixel x down to the bottom, and its tick below
+abbrev pub mark_at : (x bottom tick : ℕ) → Text
+mark_at x bottom tick = filled (codes "<path class='a' d='M@ 76V@'/><text class='s m' x='@' y='@'>@</text>\n")
+    (x ∷ bottom ∷ x ∷ (bottom + 14) ∷ tick ∷ [])
+
+-- the mark of a tick that the window has
+abbrev pub mark : Window → (bottom tick : ℕ) → Text
+mark w bottom tick = if has w tick then mark_at (x_at w tick) bottom tick else []
+
+-- so many marks, from this tick on
+unfoldable pub marks_from : Window → (bottom step tick count : ℕ) → Text
+marks_from w bottom step tick zero = []
+marks_from w bottom step tick (suc count) = mark w bottom tick ++ marks_from w bottom step (tick + step) count
+
+-- the word below them
+abbrev pub ticks_word : (bottom : ℕ) → Text
+ticks_word bottom = filled (codes "<text class='s r' x='1290' y='@'>tick</text>\n") ((bottom + 28) ∷ [])
+
+-- the axis, with marks so far apart
+unfoldable pub axis_by : Window → (bottom step : ℕ) → Text
+axis_by w bottom step = marks_from w bottom step (w.from / step * step) 14 ++ ticks_word bottom
+
+-- the axis
+unfoldable pub axis : Window → (bottom : ℕ) → Text
+axis w bottom = axis_by w bottom (step_of (w.until - w.from))
+
+-- ---- the bands
+
+-- the window shows an interval that lost value
+abbrev pub is_loss : Window → Interval → Bool
+is_loss w i = (not (i.displaced == 0) || not (i.abandoned == 0)) && meets w i.from i.until
+
+-- its band, around this height
+abbrev pub band : Window → (y : ℕ) → Interval → Text
+band w y i = if is_loss w i then bar w 1 i.from i.until y else []
+
+-- a lost value at pixel x
+abbrev pub lost_at : (x value : ℕ) → Text
+lost_at x value = filled (codes "<text class='v' x='@' y='70'>lost @</text>\n") ((x + 3) ∷ value ∷ [])
+
+-- the same where there is room
+abbrev pub lost_in : (x long value : ℕ) → Text
+lost_in x long value = if nat_le (room 5 value) long then lost_at x value else []
+
+-- what an interval abandoned
+abbrev pub band_word : Window → Interval → Text
+band_word w i = if is_loss w i then lost_in (x_at w i.from) (pixels w 0 i.from i.until) i.abandoned else []
+
+-- the front of bars of this class, so high
+abbrev pub bars_front : (class high : ℕ) → Text
+bars_front class high = (codes "<path class='" ++ (class ∷ [])) ++ filled (codes "' stroke-width='@' d='") (high ∷ [])
+
+-- the end of bars
+abbrev pub bars_end : Text
+bars_end = codes "'/>\n"
+
+-- the bands, around this height
+abbrev pub bands_at : Window → (y : ℕ) → List Interval → Text
+bands_at w y rows = flat_map (band w y) rows
+
+-- all bands, from pixel 60 down to the bottom
+unfoldable pub bands : Window → (bottom : ℕ) → List Interval → Text
+bands w bottom rows = bars_front 111 (bottom - 60) ++ bands_at w ((bottom + 60) / 2) rows ++ bars_end
+
+-- and what they lost
+abbrev pub band_words : Window → List Interval → Text
+band_words w rows = flat_map (band_word w) rows

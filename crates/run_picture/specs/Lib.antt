@@ -1,0 +1,14 @@
+pub mod Templates
+pub mod Plot
+pub mod Seen
+pub mod Processor
+pub mod Lanes
+pub mod Strip
+pub mod Windows
+pub mod Labels
+pub mod Marks
+pub mod Outlines
+pub mod Panels
+pub mod Legends
+pub mod Frame
+pub mod Pictures

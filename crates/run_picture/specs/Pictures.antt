@@ -1,0 +1,169 @@
+-- The picture of a run, as SVG in whole pixels: what a window of ticks shows of the processor, the jobs and the values.
+use Rattle.std.specs.Prelude.{ℕ, ◌+◌, ◌-◌, ◌*◌, ◌/◌, min, max, List, [], ◌∷◌, ◌++◌, Bool, true, false, nat_le, codes}
+use Rattle.std.specs.Prelude.{if◌then◌else◌}
+use Rattle.std.specs.Prelude.{Option, Some, None}
+use Rattle.dover_model.specs.declared.events.Event.{Event}
+use Rattle.dover_model.specs.declared.pieces.Piece.{Piece}
+use Rattle.dover_model.specs.JobFacts.{JobFacts}
+use Rattle.dover_model.specs.Instance.{Instance}
+use Rattle.dover_model.specs.Limits.{last_tick}
+use Rattle.dover_model.specs.Run.{printed, completed_value, last_deadline}
+use Rattle.charge_ledger.specs.Rows.{rows_of}
+use Rattle.charge_ledger.specs.declared.interval.Interval.{Interval}
+use Rattle.dover_report.specs.Counts.{counts_of}
+use Rattle.dover_report.specs.declared.counts.Counts.{Counts}
+use Rattle.run_view.specs.Moments.{moments}
+use Rattle.run_picture.specs.Templates.{Text, filled}
+use Rattle.run_picture.specs.Seen.{told_by}
+use Rattle.run_picture.specs.Processor.{pieces_from}
+use Rattle.run_picture.specs.Lanes.{shown, lanes_from, height, unit_of}
+use Rattle.run_picture.specs.Strip.{piece_bars, piece_numbers}
+use Rattle.run_picture.specs.Windows.{job_windows}
+use Rattle.run_picture.specs.Labels.{labels}
+use Rattle.run_picture.specs.Marks.{holds, crosses, arrows}
+use Rattle.run_picture.specs.Panels.{values, ready}
+use Rattle.run_picture.specs.Legends.{lanes_legend}
+use Rattle.run_picture.specs.Frame.{page, axis, bands, band_words, bars_front, bars_end}
+use Rattle.run_view.specs.declared.window.Window.{Window}
+use Rattle.run_picture.specs.declared.seen.Seen.{Seen}
+use Rattle.run_picture.specs.declared.lanes.Lane.{Lane}
+use Rattle.run_picture.specs.declared.strip.Bars.{Bars}
+
+-- ---- the processor
+
+-- the bars of pieces of one color, so high
+unfoldable pub bars_of : Bars → List Lane → (color high : ℕ) → List Piece → Text
+bars_of b lanes color high pieces = bars_front color high ++ piece_bars b lanes color pieces ++ bars_end
+
+-- the bars of pieces of all three
+unfoldable pub all_bars : Bars → List Lane → (high : ℕ) → List Piece → Text
+all_bars b lanes high pieces = bars_of b lanes 99 high pieces ++ bars_of b lanes 116 high pieces
+    ++ bars_of b lanes 108 high pieces
+
+-- the word beside the strip, and its border
+abbrev pub strip_border : Text
+strip_border = codes "<text class='r' x='82' y='91'>processor</text>\n"
+    ++ codes "<rect class='f' x='90' y='76' width='1200' height='22'/>\n"
+
+-- the numbers in the strip
+abbrev pub strip_numbers : Window → List Piece → Text
+strip_numbers w pieces = codes "<g class='i'>\n" ++ piece_numbers w pieces ++ codes "</g>\n"
+
+-- the strip, with bars so long at least
+unfoldable pub strip : Window → (least : ℕ) → List Lane → List Piece → Text
+strip w least lanes pieces = strip_border ++ all_bars (record { window = w; unit = 0; least = least }) lanes 22 pieces
+    ++ strip_numbers w pieces
+
+-- ---- the lanes
+
+-- the word beside the lanes, and the front of bars so high
+abbrev pub lanes_front : (high : ℕ) → Text
+lanes_front high = codes "<text class='r' x='82' y='124'>jobs</text>\n"
+    ++ filled (codes "<g stroke-width='@'>\n") (high ∷ [])
+
+-- the jobs' windows
+unfoldable pub windows : Window → (unit : ℕ) → List Lane → Text
+windows w unit lanes = lanes_front (unit - 3) ++ job_windows w unit lanes ++ codes "</g>\n"
+
+-- where jobs are held
+unfoldable pub holds_bars : Window → (unit : ℕ) → List Lane → List Event → Text
+holds_bars w unit lanes run = bars_front 104 (unit / 3) ++ holds w unit lanes run ++ bars_end
+
+-- the bars in the lanes
+unfoldable pub lanes_bars : Window → (unit : ℕ) → List Lane → List Event → List Piece → Text
+lanes_bars w unit lanes run pieces = windows w unit lanes ++ holds_bars w unit lanes run
+    ++ all_bars (record { window = w; unit = unit; least = 1 }) lanes (unit - 3) pieces
+
+-- the front of lines of this class
+abbrev pub lines_front : (class : ℕ) → Text
+lines_front class = codes "<path class='" ++ (class ∷ []) ++ codes "' d='"
+
+-- crosses
+unfoldable pub crosses_lines : Window → (unit : ℕ) → List Lane → List Event → Text
+crosses_lines w unit lanes run = lines_front 120 ++ crosses w unit lanes run ++ bars_end
+
+-- arrows of this class
+unfoldable pub arrows_lines : Window → (unit class : ℕ) → (takes : Bool) → List Lane → List Event → Text
+arrows_lines w unit class takes lanes run = lines_front class ++ arrows w unit takes lanes run ++ bars_end
+
+-- the lines in the lanes
+unfoldable pub lanes_lines : Window → (unit : ℕ) → List Lane → List Event → Text
+lanes_lines w unit lanes run = arrows_lines w unit 112 false lanes run ++ arrows_lines w unit 107 true lanes run
+    ++ crosses_lines w unit lanes run
+
+-- all that stands in the lanes
+unfoldable pub lanes_of : Window → (unit : ℕ) → List Lane → List Event → List Piece → Text
+lanes_of w unit lanes run pieces = lanes_bars w unit lanes run pieces ++ lanes_lines w unit lanes run
+    ++ labels w unit lanes
+
+-- ---- the whole
+
+-- a page up to its axis
+unfoldable pub ground_of : Window → Counts → (bottom : ℕ) → Text
+ground_of w c bottom = page (bottom + 36) c ++ axis w bottom
+
+-- the bands and their words
+unfoldable pub all_bands : Window → (bottom : ℕ) → List Interval → Text
+all_bands w bottom rows = bands w bottom rows ++ band_words w rows
+
+-- what stands under the lanes
+unfoldable pub under : Window → Counts → (bottom : ℕ) → List Interval → Text
+under w c bottom rows = ground_of w c bottom ++ lanes_legend ++ all_bands w bottom rows
+
+-- the processor and the lanes
+unfoldable pub middle_of : Window → (unit : ℕ) → List Lane → List Event → List Piece → Text
+middle_of w unit lanes run pieces = strip w 1 lanes pieces ++ lanes_of w unit lanes run pieces
+
+-- the values, and the end
+unfoldable pub over : Window → (coarse : Bool) → (bottom : ℕ) → List JobFacts → List Event → Text
+over w coarse bottom jobs run = values w coarse bottom jobs run ++ codes "</svg>\n"
+
+-- lanes, where rows are so high and the panel of values ends at this pixel
+unfoldable pub lanes_to : Window → Counts → (unit bottom : ℕ) → List Lane → List JobFacts → List Event → List Piece
+    → List Interval → Text
+lanes_to w c unit bottom lanes jobs run pieces rows = under w c bottom rows ++ middle_of w unit lanes run pieces
+    ++ over w false bottom jobs run
+
+-- a lane for each job that the window shows
+unfoldable pub by_lanes : Window → Counts → List Lane → List JobFacts → List Event → List Piece → List Interval → Text
+by_lanes w c lanes jobs run pieces rows =
+    let unit = unit_of (height lanes) in
+    lanes_to w c unit (236 + unit * height lanes) lanes jobs run pieces rows
+
+-- the processor and the ready jobs
+unfoldable pub load : Window → List Lane → List JobFacts → List Event → List Piece → Text
+load w lanes jobs run pieces = strip w 0 lanes pieces ++ ready w jobs run
+
+-- the load in columns
+unfoldable pub by_load : Window → Counts → List Lane → List JobFacts → List Event → List Piece → Text
+by_load w c lanes jobs run pieces = ground_of w c 348 ++ load w lanes jobs run pieces ++ over w true 348 jobs run
+
+-- a window that shows no job
+abbrev pub nothing : Window
+nothing = record { from = 0; until = 0 }
+
+-- lanes where the window shows so many jobs at most, and else the load
+unfoldable pub drawn : (most : ℕ) → Window → Counts → List Seen → List JobFacts → List Event → List Piece
+    → List Interval → Text
+drawn most w c seen jobs run pieces rows = if nat_le (shown w seen) most
+    then by_lanes w c (lanes_from w [] seen) jobs run pieces rows
+    else by_load w c (lanes_from nothing [] seen) jobs run pieces
+
+-- all of the run
+abbrev pub whole : List JobFacts → Window
+whole jobs = record { from = 0; until = max 1 (last_deadline jobs) }
+
+-- the window that is asked for, up to the last tick that a job may name, or all of the run
+abbrev pub window_of : Option Window → List JobFacts → Window
+window_of None jobs = whole jobs
+window_of (Some w) jobs = record { from = min w.from last_tick; until = min w.until last_tick }
+
+-- the picture, with lanes for so many jobs at most
+abbrev pub picture_by : (most : ℕ) → Option Window → Instance → Text
+picture_by most asked J = drawn most (window_of asked J.jobs)
+    (counts_of J.rules.ratio (printed J) J.jobs (completed_value J))
+    (told_by [] (moments J)) J.jobs (printed J) (pieces_from None (printed J)) (rows_of J)
+
+-- the picture
+abbrev pub picture : Option Window → Instance → Text
+picture asked J = picture_by 400 asked J

@@ -1,0 +1,60 @@
+-- The jobs' windows in their lanes: a bar from release to deadline, whose tooltip has the job's numbers and its fate.
+use Rattle.std.specs.Prelude.{ℕ, ◌+◌, ◌-◌, ◌*◌, List, [], ◌∷◌, ◌++◌, Bool, ◌&&◌, nat_le, if◌then◌else◌, codes}
+use Rattle.std.specs.List.{flat_map}
+use Rattle.run_picture.specs.Templates.{Text, filled, digits_of, room}
+use Rattle.run_picture.specs.Plot.{x_at, has, pixels, bar}
+use Rattle.run_picture.specs.Seen.{fate_tick, is_gone}
+use Rattle.run_picture.specs.Lanes.{shows, middle}
+use Rattle.run_view.specs.declared.window.Window.{Window}
+use Rattle.run_picture.specs.declared.seen.Fate.{Fate}
+use Rattle.run_picture.specs.declared.seen.Fate.TheVariants.{Open, Completed, Abandoned}
+use Rattle.run_picture.specs.declared.seen.Seen.{Seen}
+use Rattle.run_picture.specs.declared.lanes.Lane.{Lane}
+
+-- ---- the tooltip
+
+-- what stood against the job's value, where it was weighed
+abbrev pub weighed : Seen → Text
+weighed s = if is_gone s then filled (codes " against @ under way") (s.against ∷ [])
+    else (if s.took then filled (codes " against @ under way, taken") (s.against ∷ []) else [])
+
+-- how it ended
+abbrev pub ended : Fate → Text
+ended Open = []
+ended (Completed at) = filled (codes ", complete @") (at ∷ [])
+ended (Abandoned at) = filled (codes ", abandon @") (at ∷ [])
+
+-- its numbers
+abbrev pub numbers : (n release work deadline value : ℕ) → Text
+numbers n release work deadline value =
+    filled (codes "job @: release @, work @, deadline @, value @") (n ∷ release ∷ work ∷ deadline ∷ value ∷ [])
+
+-- all that is told of it
+abbrev pub note : Seen → Text
+note s = numbers s.number s.release s.work s.deadline s.value ++ weighed s ++ ended s.fate
+
+-- ---- the bar
+
+-- its front, by whether the job is abandoned
+abbrev pub front : Bool → Text
+front gone = if gone then codes "<path class='g' d='" else codes "<path class='w' d='"
+
+-- the bar of a job at this height, up to its tooltip
+abbrev pub shape : Window → (y : ℕ) → Seen → Text
+shape w y s = front (is_gone s) ++ bar w 1 s.release s.deadline y ++ codes "'><title>"
+
+-- its tooltip, and its end
+abbrev pub titled : Seen → Text
+titled s = note s ++ codes "</title></path>\n"
+
+-- the bar with its tooltip
+abbrev pub window_of : Window → (y : ℕ) → Seen → Text
+window_of w y s = shape w y s ++ titled s
+
+-- of a job that the window shows
+abbrev pub job_window : Window → (unit : ℕ) → Lane → Text
+job_window w unit lane = if shows w lane.seen then window_of w (middle unit lane) lane.seen else []
+
+-- of all jobs
+abbrev pub job_windows : Window → (unit : ℕ) → List Lane → Text
+job_windows w unit lanes = flat_map (job_window w unit) lanes

@@ -1,0 +1,563 @@
+//! The picture as a whole.
+ghost use Rattle.std.specs.Prelude.{◌≡◌, ◌≤◌, ◌++◌, ◌^◌, length, OnOk, IfOk, Option};
+ghost use Rattle.charge_ledger.specs.Rows.{IsRunOf};
+ghost use Rattle.dover_model.specs.Instance.{Instance};
+ghost use Rattle.dover_model.specs.Limits.{last_tick};
+ghost use Rattle.dover_model.specs.Run as runs;
+ghost use Rattle.run_picture.specs.Pictures as pictures;
+
+use crate::frame::{put_axis, put_band_words, put_bands, put_bars_end, put_bars_front, put_page};
+use crate::labels::put_labels;
+use crate::lanes::{Lane, height, lanes, shown, unit_of};
+use crate::legends::put_lanes_legend;
+use crate::marks::{put_arrows, put_crosses, put_holds};
+use crate::panels::{put_ready, put_values};
+use crate::plot::Window;
+use crate::processor::pieces;
+use crate::seen::{Seen, told_by};
+use crate::strip::{Bars, put_numbers, put_pieces};
+use crate::template::put;
+use crate::windows::put_windows;
+use charge_ledger::{Charge, Interval, weights};
+use dover_model::jobs::LAST_TICK;
+use dover_model::{Event, Job, Memory, Piece, Ratio};
+use dover_report::{Counts, count, released};
+use std::alloc::Global;
+
+/// The run that prints these steps as SVG: the processor, a lane for each job that the window shows, or above 400 of
+/// them the load in columns, and the values so far. Without a window all of the run is shown. The jobs of the run are
+/// valid for the ratio `k`. Want of memory is the only error.
+pub fn picture(
+    alloc: Global,
+    k: Ratio,
+    run: &[Event],
+    asked: Option<Window>,
+) -> Result<Vec<u8>, Memory>
+    requires { (J : Instance) × IsRunOf k run.now J }
+    ensures { (J : Instance) → IsRunOf k run.now J → IfOk result (λ written. written.items ≡ pictures.picture asked J) }
+{
+    let jobs = released(alloc, run)?;
+    let worths = weights(alloc, k, run)?;
+    let charge = Charge::of(alloc, k, run)?;
+    let counts = count(k, run, &jobs, charge.value());
+    let seen = told_by(alloc, run, &worths)?;
+    let pieces = pieces(alloc, run)?;
+    let window = window_of(asked, &jobs);
+    let mut text = Vec::new(alloc);
+    put_drawn(
+        alloc,
+        &mut text,
+        window,
+        &counts,
+        &seen,
+        &jobs,
+        run,
+        &pieces,
+        charge.rows(),
+    )?;
+    Ok(text)
+}
+
+/// The window that is asked for, or all of the run.
+fn window_of(asked: Option<Window>, jobs: &[Job]) -> Window
+    ensures is { result ≡ pictures.window_of asked jobs.now }
+    ensures from { result.from ≤ last_tick }
+{
+    match asked {
+        None => Window {
+            from: 0,
+            until: last_deadline(jobs).max(1),
+        },
+        Some(window) => Window {
+            from: window.from.min(LAST_TICK),
+            until: window.until.min(LAST_TICK),
+        },
+    }
+}
+
+/// The greatest deadline.
+fn last_deadline(jobs: &[Job]) -> u64
+    ensures { result ≡ runs.last_deadline jobs.now }
+{
+    let mut last = 0;
+    for job in jobs {
+        let due = job.deadline();
+        if last <= due {
+            last = due;
+        }
+    }
+    last
+}
+
+/// Appends lanes where the window shows at most 400 jobs, and else the load.
+#[tactic(auto, unfolding(crate::specs::Pictures::drawn))]
+fn put_drawn(
+    alloc: Global,
+    text: &mut Vec<u8>,
+    window: Window,
+    counts: &Counts,
+    seen: &[Seen],
+    jobs: &[Job],
+    run: &[Event],
+    pieces: &[Piece],
+    rows: &[Interval],
+) -> Result<(), Memory>
+    requires steps { length run.now ≤ 5_000_001 }
+    requires jobs { length seen.now ≤ 5_000_001 }
+    requires from { window.from ≤ last_tick }
+    ensures { OnOk result (text.new.items
+        ≡ text.old.items ++ pictures.drawn 400 window counts.now seen.now jobs.now run.now pieces.now rows.now) }
+{
+    if shown(window, seen) <= 400 {
+        let lanes = lanes(alloc, window, seen)?;
+        return put_by_lanes(text, window, counts, &lanes, jobs, run, pieces, rows);
+    }
+    let lanes = lanes(alloc, nothing(), seen)?;
+    put_by_load(text, window, counts, &lanes, jobs, run, pieces)
+}
+
+/// A window that shows no job.
+fn nothing() -> Window
+    ensures { result ≡ pictures.nothing }
+{
+    Window { from: 0, until: 0 }
+}
+
+/// Appends a picture with a lane for each job that the window shows.
+#[tactic(auto, unfolding(crate::specs::Pictures::by_lanes))]
+fn put_by_lanes(
+    text: &mut Vec<u8>,
+    window: Window,
+    counts: &Counts,
+    lanes: &[Lane],
+    jobs: &[Job],
+    run: &[Event],
+    pieces: &[Piece],
+    rows: &[Interval],
+) -> Result<(), Memory>
+    requires steps { length run.now ≤ 5_000_001 }
+    requires from { window.from ≤ last_tick }
+    ensures { OnOk result (text.new.items
+        ≡ text.old.items ++ pictures.by_lanes window counts.now lanes.now jobs.now run.now pieces.now rows.now) }
+{
+    let high = height(lanes);
+    let unit = unit_of(high);
+    put_lanes_to(
+        text,
+        window,
+        counts,
+        unit,
+        236 + unit * high,
+        lanes,
+        jobs,
+        run,
+        pieces,
+        rows,
+    )
+}
+
+/// Appends this picture, where rows are so high and the panel of values ends at this pixel.
+#[tactic(auto, unfolding(crate::specs::Pictures::lanes_to))]
+fn put_lanes_to(
+    text: &mut Vec<u8>,
+    window: Window,
+    counts: &Counts,
+    unit: u64,
+    bottom: u64,
+    lanes: &[Lane],
+    jobs: &[Job],
+    run: &[Event],
+    pieces: &[Piece],
+    rows: &[Interval],
+) -> Result<(), Memory>
+    requires steps { length run.now ≤ 5_000_001 }
+    requires from { window.from ≤ last_tick }
+    requires unit { unit ≤ 18 }
+    requires bottom { bottom ≤ 2 ^ 39 }
+    ensures { OnOk result (text.new.items ≡ text.old.items
+        ++ pictures.lanes_to window counts.now unit bottom lanes.now jobs.now run.now pieces.now rows.now) }
+{
+    put_under(text, window, counts, bottom, rows)?;
+    put_middle(text, window, unit, lanes, run, pieces)?;
+    put_over(text, window, false, bottom, jobs, run)?;
+    Ok(())
+}
+
+/// Appends what stands under the lanes.
+#[tactic(auto, unfolding(crate::specs::Pictures::under))]
+fn put_under(
+    text: &mut Vec<u8>,
+    window: Window,
+    counts: &Counts,
+    bottom: u64,
+    rows: &[Interval],
+) -> Result<(), Memory>
+    requires from { window.from ≤ last_tick }
+    requires bottom { bottom ≤ 2 ^ 39 }
+    ensures { OnOk result (text.new.items ≡ text.old.items ++ pictures.under window counts.now bottom rows.now) }
+{
+    put_ground(text, window, counts, bottom)?;
+    put_lanes_legend(text)?;
+    put_all_bands(text, window, bottom, rows)?;
+    Ok(())
+}
+
+/// Appends the bands and their words.
+#[tactic(auto, unfolding(crate::specs::Pictures::all_bands))]
+fn put_all_bands(
+    text: &mut Vec<u8>,
+    window: Window,
+    bottom: u64,
+    rows: &[Interval],
+) -> Result<(), Memory>
+    requires { bottom ≤ 2 ^ 39 }
+    ensures { OnOk result (text.new.items ≡ text.old.items ++ pictures.all_bands window bottom rows.now) }
+{
+    put_bands(text, window, bottom, rows)?;
+    put_band_words(text, window, rows)?;
+    Ok(())
+}
+
+/// Appends a page up to its axis.
+#[tactic(auto, unfolding(crate::specs::Pictures::ground_of))]
+fn put_ground(
+    text: &mut Vec<u8>,
+    window: Window,
+    counts: &Counts,
+    bottom: u64,
+) -> Result<(), Memory>
+    requires from { window.from ≤ last_tick }
+    requires bottom { bottom ≤ 2 ^ 39 }
+    ensures { OnOk result (text.new.items ≡ text.old.items ++ pictures.ground_of window counts.now bottom) }
+{
+    put_page(text, bottom + 36, counts)?;
+    put_axis(text, window, bottom)?;
+    Ok(())
+}
+
+/// Appends the panel of values, and the end of the picture.
+#[tactic(auto, unfolding(crate::specs::Pictures::over))]
+fn put_over(
+    text: &mut Vec<u8>,
+    window: Window,
+    coarse: bool,
+    bottom: u64,
+    jobs: &[Job],
+    run: &[Event],
+) -> Result<(), Memory>
+    requires steps { length run.now ≤ 5_000_001 }
+    requires bottom { bottom ≤ 2 ^ 39 }
+    ensures { OnOk result (text.new.items ≡ text.old.items ++ pictures.over window coarse bottom jobs.now run.now) }
+{
+    put_values(text, window, coarse, bottom, jobs, run)?;
+    text.extend_from_slice(b"</svg>\n")?;
+    Ok(())
+}
+
+/// Appends a picture of the load.
+#[tactic(auto, unfolding(crate::specs::Pictures::by_load))]
+fn put_by_load(
+    text: &mut Vec<u8>,
+    window: Window,
+    counts: &Counts,
+    lanes: &[Lane],
+    jobs: &[Job],
+    run: &[Event],
+    pieces: &[Piece],
+) -> Result<(), Memory>
+    requires steps { length run.now ≤ 5_000_001 }
+    requires from { window.from ≤ last_tick }
+    ensures { OnOk result (text.new.items
+        ≡ text.old.items ++ pictures.by_load window counts.now lanes.now jobs.now run.now pieces.now) }
+{
+    put_ground(text, window, counts, 348)?;
+    put_load(text, window, lanes, jobs, run, pieces)?;
+    put_over(text, window, true, 348, jobs, run)?;
+    Ok(())
+}
+
+/// Appends the processor and the ready jobs.
+#[tactic(auto, unfolding(crate::specs::Pictures::load))]
+fn put_load(
+    text: &mut Vec<u8>,
+    window: Window,
+    lanes: &[Lane],
+    jobs: &[Job],
+    run: &[Event],
+    pieces: &[Piece],
+) -> Result<(), Memory>
+    requires { length run.now ≤ 5_000_001 }
+    ensures { OnOk result (text.new.items
+        ≡ text.old.items ++ pictures.load window lanes.now jobs.now run.now pieces.now) }
+{
+    put_strip(text, window, 0, lanes, pieces)?;
+    put_ready(text, window, jobs, run)?;
+    Ok(())
+}
+
+/// Appends the processor and the lanes.
+#[tactic(auto, unfolding(crate::specs::Pictures::middle_of))]
+fn put_middle(
+    text: &mut Vec<u8>,
+    window: Window,
+    unit: u64,
+    lanes: &[Lane],
+    run: &[Event],
+    pieces: &[Piece],
+) -> Result<(), Memory>
+    requires { unit ≤ 18 }
+    ensures { OnOk result (text.new.items
+        ≡ text.old.items ++ pictures.middle_of window unit lanes.now run.now pieces.now) }
+{
+    put_strip(text, window, 1, lanes, pieces)?;
+    put_lanes(text, window, unit, lanes, run, pieces)?;
+    Ok(())
+}
+
+/// Appends the processor, with bars so long at least.
+#[tactic(auto, unfolding(crate::specs::Pictures::strip))]
+fn put_strip(
+    text: &mut Vec<u8>,
+    window: Window,
+    least: u64,
+    lanes: &[Lane],
+    pieces: &[Piece],
+) -> Result<(), Memory>
+    requires { least ≤ 1_290 }
+    ensures { OnOk result (text.new.items ≡ text.old.items ++ pictures.strip window least lanes.now pieces.now) }
+{
+    put_strip_border(text)?;
+    put_all_bars(
+        text,
+        &Bars {
+            window,
+            unit: 0,
+            least,
+        },
+        lanes,
+        22,
+        pieces,
+    )?;
+    put_strip_numbers(text, window, pieces)?;
+    Ok(())
+}
+
+/// Appends the word beside the strip, and its border.
+fn put_strip_border(text: &mut Vec<u8>) -> Result<(), Memory>
+    ensures { OnOk result (text.new.items ≡ text.old.items ++ pictures.strip_border) }
+{
+    text.extend_from_slice(b"<text class='r' x='82' y='91'>processor</text>\n")?;
+    text.extend_from_slice(b"<rect class='f' x='90' y='76' width='1200' height='22'/>\n")?;
+    Ok(())
+}
+
+/// Appends the numbers in the strip.
+fn put_strip_numbers(text: &mut Vec<u8>, window: Window, pieces: &[Piece]) -> Result<(), Memory>
+    ensures { OnOk result (text.new.items ≡ text.old.items ++ pictures.strip_numbers window pieces.now) }
+{
+    text.extend_from_slice(b"<g class='i'>\n")?;
+    put_numbers(text, window, pieces)?;
+    text.extend_from_slice(b"</g>\n")?;
+    Ok(())
+}
+
+/// Appends the bars of pieces of all three colors, so high.
+#[tactic(auto, unfolding(crate::specs::Pictures::all_bars))]
+fn put_all_bars(
+    text: &mut Vec<u8>,
+    bars: &Bars,
+    lanes: &[Lane],
+    high: u64,
+    pieces: &[Piece],
+) -> Result<(), Memory>
+    requires unit { bars.now.unit ≤ 18 }
+    requires least { bars.now.least ≤ 1_290 }
+    ensures { OnOk result (text.new.items ≡ text.old.items ++ pictures.all_bars bars.now lanes.now high pieces.now) }
+{
+    put_bars_of(text, bars, lanes, b'c', high, pieces)?;
+    put_bars_of(text, bars, lanes, b't', high, pieces)?;
+    put_bars_of(text, bars, lanes, b'l', high, pieces)?;
+    Ok(())
+}
+
+/// Appends the bars of pieces of one color, so high.
+#[tactic(auto, unfolding(crate::specs::Pictures::bars_of))]
+fn put_bars_of(
+    text: &mut Vec<u8>,
+    bars: &Bars,
+    lanes: &[Lane],
+    color: u8,
+    high: u64,
+    pieces: &[Piece],
+) -> Result<(), Memory>
+    requires unit { bars.now.unit ≤ 18 }
+    requires least { bars.now.least ≤ 1_290 }
+    ensures { OnOk result (text.new.items
+        ≡ text.old.items ++ pictures.bars_of bars.now lanes.now color high pieces.now) }
+{
+    put_bars_front(text, color, high)?;
+    put_pieces(text, bars, lanes, color, pieces)?;
+    put_bars_end(text)?;
+    Ok(())
+}
+
+/// Appends all that stands in the lanes.
+#[tactic(auto, unfolding(crate::specs::Pictures::lanes_of))]
+fn put_lanes(
+    text: &mut Vec<u8>,
+    window: Window,
+    unit: u64,
+    lanes: &[Lane],
+    run: &[Event],
+    pieces: &[Piece],
+) -> Result<(), Memory>
+    requires { unit ≤ 18 }
+    ensures { OnOk result (text.new.items
+        ≡ text.old.items ++ pictures.lanes_of window unit lanes.now run.now pieces.now) }
+{
+    put_lanes_bars(text, window, unit, lanes, run, pieces)?;
+    put_lanes_lines(text, window, unit, lanes, run)?;
+    put_labels(text, window, unit, lanes)?;
+    Ok(())
+}
+
+/// Appends the bars in the lanes.
+#[tactic(auto, unfolding(crate::specs::Pictures::lanes_bars))]
+fn put_lanes_bars(
+    text: &mut Vec<u8>,
+    window: Window,
+    unit: u64,
+    lanes: &[Lane],
+    run: &[Event],
+    pieces: &[Piece],
+) -> Result<(), Memory>
+    requires { unit ≤ 18 }
+    ensures { OnOk result (text.new.items
+        ≡ text.old.items ++ pictures.lanes_bars window unit lanes.now run.now pieces.now) }
+{
+    put_all_windows(text, window, unit, lanes)?;
+    put_all_holds(text, window, unit, lanes, run)?;
+    put_all_bars(
+        text,
+        &Bars {
+            window,
+            unit,
+            least: 1,
+        },
+        lanes,
+        unit.saturating_sub(3),
+        pieces,
+    )?;
+    Ok(())
+}
+
+/// Appends the jobs' windows.
+#[tactic(auto, unfolding(crate::specs::Pictures::windows))]
+fn put_all_windows(
+    text: &mut Vec<u8>,
+    window: Window,
+    unit: u64,
+    lanes: &[Lane],
+) -> Result<(), Memory>
+    requires { unit ≤ 18 }
+    ensures { OnOk result (text.new.items ≡ text.old.items ++ pictures.windows window unit lanes.now) }
+{
+    put_lanes_front(text, unit.saturating_sub(3))?;
+    put_windows(text, window, unit, lanes)?;
+    text.extend_from_slice(b"</g>\n")?;
+    Ok(())
+}
+
+/// Appends the word beside the lanes, and the front of bars so high.
+fn put_lanes_front(text: &mut Vec<u8>, high: u64) -> Result<(), Memory>
+    ensures { OnOk result (text.new.items ≡ text.old.items ++ pictures.lanes_front high) }
+{
+    text.extend_from_slice(b"<text class='r' x='82' y='124'>jobs</text>\n")?;
+    put(text, b"<g stroke-width='@'>\n", &[high])?;
+    Ok(())
+}
+
+/// Appends where jobs are held.
+#[tactic(auto, unfolding(crate::specs::Pictures::holds_bars))]
+fn put_all_holds(
+    text: &mut Vec<u8>,
+    window: Window,
+    unit: u64,
+    lanes: &[Lane],
+    run: &[Event],
+) -> Result<(), Memory>
+    requires { unit ≤ 18 }
+    ensures { OnOk result (text.new.items ≡ text.old.items ++ pictures.holds_bars window unit lanes.now run.now) }
+{
+    put_bars_front(text, b'h', unit / 3)?;
+    put_holds(text, window, unit, lanes, run)?;
+    put_bars_end(text)?;
+    Ok(())
+}
+
+/// Appends the lines in the lanes.
+#[tactic(auto, unfolding(crate::specs::Pictures::lanes_lines))]
+fn put_lanes_lines(
+    text: &mut Vec<u8>,
+    window: Window,
+    unit: u64,
+    lanes: &[Lane],
+    run: &[Event],
+) -> Result<(), Memory>
+    requires { unit ≤ 18 }
+    ensures { OnOk result (text.new.items ≡ text.old.items ++ pictures.lanes_lines window unit lanes.now run.now) }
+{
+    put_all_arrows(text, window, unit, b'p', false, lanes, run)?;
+    put_all_arrows(text, window, unit, b'k', true, lanes, run)?;
+    put_all_crosses(text, window, unit, lanes, run)?;
+    Ok(())
+}
+
+/// Appends arrows of this class.
+#[tactic(auto, unfolding(crate::specs::Pictures::arrows_lines))]
+fn put_all_arrows(
+    text: &mut Vec<u8>,
+    window: Window,
+    unit: u64,
+    class: u8,
+    takes: bool,
+    lanes: &[Lane],
+    run: &[Event],
+) -> Result<(), Memory>
+    requires { unit ≤ 18 }
+    ensures { OnOk result (text.new.items
+        ≡ text.old.items ++ pictures.arrows_lines window unit class takes lanes.now run.now) }
+{
+    put_lines_front(text, class)?;
+    put_arrows(text, window, unit, takes, lanes, run)?;
+    put_bars_end(text)?;
+    Ok(())
+}
+
+/// Appends crosses.
+#[tactic(auto, unfolding(crate::specs::Pictures::crosses_lines))]
+fn put_all_crosses(
+    text: &mut Vec<u8>,
+    window: Window,
+    unit: u64,
+    lanes: &[Lane],
+    run: &[Event],
+) -> Result<(), Memory>
+    requires { unit ≤ 18 }
+    ensures { OnOk result (text.new.items ≡ text.old.items ++ pictures.crosses_lines window unit lanes.now run.now) }
+{
+    put_lines_front(text, b'x')?;
+    put_crosses(text, window, unit, lanes, run)?;
+    put_bars_end(text)?;
+    Ok(())
+}
+
+/// Appends the front of lines of this class.
+fn put_lines_front(text: &mut Vec<u8>, class: u8) -> Result<(), Memory>
+    ensures { OnOk result (text.new.items ≡ text.old.items ++ pictures.lines_front class) }
+{
+    text.extend_from_slice(b"<path class='")?;
+    text.push(class)?;
+    text.extend_from_slice(b"' d='")?;
+    Ok(())
+}

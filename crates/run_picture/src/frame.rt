@@ -1,0 +1,332 @@
+//! What stands around a picture.
+ghost use Rattle.std.specs.Prelude.{◌≡◌, ◌≤◌, ◌<◌, ◌+◌, ◌*◌, ◌/◌, ◌^◌, ◌++◌, OnOk};
+ghost use Rattle.dover_model.specs.Limits.{last_tick};
+ghost use Rattle.run_picture.specs.Frame as frame;
+
+use crate::legends::{put_legend, put_styles};
+use crate::plot::{Window, has, meets, pixels, put_bar, x_at};
+use crate::template::{put, room};
+use charge_ledger::Interval;
+use dover_model::Memory;
+use dover_report::Counts;
+
+/// Appends a page with its title, and the legend of the processor.
+#[tactic(auto, unfolding(crate::specs::Frame::page))]
+pub fn put_page(text: &mut Vec<u8>, high: u64, counts: &Counts) -> Result<(), Memory>
+    ensures { OnOk result (text.new.items ≡ text.old.items ++ frame.page high counts.now) }
+{
+    put_blank(text, high)?;
+    put_title(text, counts)?;
+    put_legend(text)?;
+    Ok(())
+}
+
+/// Appends a page that has nothing on it.
+#[tactic(auto, unfolding(crate::specs::Frame::blank))]
+fn put_blank(text: &mut Vec<u8>, high: u64) -> Result<(), Memory>
+    ensures { OnOk result (text.new.items ≡ text.old.items ++ frame.blank high) }
+{
+    put_front(text, high)?;
+    put_styles(text)?;
+    put_ground(text, high)?;
+    Ok(())
+}
+
+/// Appends the front of a page.
+fn put_front(text: &mut Vec<u8>, high: u64) -> Result<(), Memory>
+    ensures { OnOk result (text.new.items ≡ text.old.items ++ frame.front high) }
+{
+    put(
+        text,
+        b"<svg xmlns='http://www.w3.org/2000/svg' width='1400' height='@' viewBox='0 0 1400 @'>\n",
+        &[high, high],
+    )
+}
+
+/// Appends its white ground.
+fn put_ground(text: &mut Vec<u8>, high: u64) -> Result<(), Memory>
+    ensures { OnOk result (text.new.items ≡ text.old.items ++ frame.ground high) }
+{
+    put(
+        text,
+        b"<rect width='1400' height='@' fill='#fff'/>\n",
+        &[high],
+    )
+}
+
+/// Appends the numbers of the summary.
+fn put_title(text: &mut Vec<u8>, counts: &Counts) -> Result<(), Memory>
+    ensures { OnOk result (text.new.items ≡ text.old.items ++ frame.title counts.now) }
+{
+    put(
+        text,
+        b"<text class='b' x='90' y='22'>jobs @, completed @ worth @, abandoned @ worth @, taken @, bound @</text>\n",
+        &[
+            counts.jobs,
+            counts.completed,
+            counts.value,
+            counts.abandoned,
+            counts.lost,
+            counts.taken,
+            counts.bound,
+        ],
+    )
+}
+
+/// Ten times as much, where sixty of them are less than the span.
+fn next_ten(span: u64, ten: u64) -> u64
+    requires least { 1 ≤ ten }
+    requires modest { ten ≤ 1_000_000_000_000 }
+    ensures is { result ≡ frame.next_ten span ten }
+    ensures least { 1 ≤ result }
+    ensures modest { result ≤ 1_000_000_000_000 }
+{
+    if span <= 60 * ten || 100_000_000_000 < ten {
+        ten
+    } else {
+        10 * ten
+    }
+}
+
+/// The same so many times, from 1 on.
+fn tens(times: u64, span: u64) -> u64
+    ensures is { result ≡ frame.tens times span 1 }
+    ensures least { 1 ≤ result }
+    ensures modest { result ≤ 1_000_000_000_000 }
+{
+    let mut ten = 1;
+    let mut left = times;
+    while left > 0 {
+        ten = next_ten(span, ten);
+        left -= 1;
+    }
+    ten
+}
+
+/// Ten, its double or its five-fold.
+fn step_by(span: u64, ten: u64) -> u64
+    requires least { 1 ≤ ten }
+    requires modest { ten ≤ 1_000_000_000_000 }
+    ensures is { result ≡ frame.step_by span ten }
+    ensures least { 1 ≤ result }
+    ensures modest { result ≤ 5_000_000_000_000 }
+{
+    if span <= 12 * ten {
+        ten
+    } else if span <= 24 * ten {
+        2 * ten
+    } else {
+        5 * ten
+    }
+}
+
+/// How many ticks there are from mark to mark.
+fn step_of(span: u64) -> u64
+    ensures is { result ≡ frame.step_of span }
+    ensures least { 1 ≤ result }
+    ensures modest { result ≤ 5_000_000_000_000 }
+{
+    step_by(span, tens(12, span))
+}
+
+/// Appends the axis.
+#[tactic(auto, unfolding(crate::specs::Frame::axis))]
+pub fn put_axis(text: &mut Vec<u8>, window: Window, bottom: u64) -> Result<(), Memory>
+    requires bottom { bottom ≤ 2 ^ 40 }
+    requires from { window.from ≤ last_tick }
+    ensures { OnOk result (text.new.items ≡ text.old.items ++ frame.axis window bottom) }
+{
+    put_axis_by(
+        text,
+        window,
+        bottom,
+        step_of(window.until.saturating_sub(window.from)),
+    )
+}
+
+/// Appends the axis, with marks so far apart.
+#[tactic(auto, unfolding(crate::specs::Frame::axis_by))]
+fn put_axis_by(text: &mut Vec<u8>, window: Window, bottom: u64, step: u64) -> Result<(), Memory>
+    requires bottom { bottom ≤ 2 ^ 40 }
+    requires from { window.from ≤ last_tick }
+    requires least { 1 ≤ step }
+    requires modest { step ≤ 5_000_000_000_000 }
+    ensures { OnOk result (text.new.items ≡ text.old.items ++ frame.axis_by window bottom step) }
+{
+    put_marks(text, window, bottom, step, round_down(window.from, step))?;
+    put_ticks_word(text, bottom)?;
+    Ok(())
+}
+
+/// The last multiple of a step up to a tick.
+fn round_down(tick: u64, step: u64) -> u64
+    requires { 1 ≤ step }
+    ensures is { result ≡ tick / step * step }
+    ensures below { result ≤ tick }
+{
+    tick / step * step
+}
+
+/// Appends 14 marks, from this tick on.
+fn put_marks(
+    text: &mut Vec<u8>,
+    window: Window,
+    bottom: u64,
+    step: u64,
+    first: u64,
+) -> Result<(), Memory>
+    requires bottom { bottom ≤ 2 ^ 40 }
+    requires modest { step ≤ 5_000_000_000_000 }
+    requires first { first ≤ last_tick }
+    ensures { OnOk result (text.new.items ≡ text.old.items ++ frame.marks_from window bottom step first 14) }
+{
+    let mut tick = first;
+    let mut left = 14u64;
+    while left > 0 {
+        put_mark(text, window, bottom, tick)?;
+        tick += step;
+        left -= 1;
+    }
+    Ok(())
+}
+
+/// Appends the mark of a tick that the window has.
+fn put_mark(text: &mut Vec<u8>, window: Window, bottom: u64, tick: u64) -> Result<(), Memory>
+    requires { bottom ≤ 2 ^ 40 }
+    ensures { OnOk result (text.new.items ≡ text.old.items ++ frame.mark window bottom tick) }
+{
+    if has(window, tick) {
+        put_mark_at(text, x_at(window, tick), bottom, tick)?;
+    }
+    Ok(())
+}
+
+/// Appends a line at pixel x down to the bottom, and its tick below.
+fn put_mark_at(text: &mut Vec<u8>, x: u64, bottom: u64, tick: u64) -> Result<(), Memory>
+    requires { bottom ≤ 2 ^ 40 }
+    ensures { OnOk result (text.new.items ≡ text.old.items ++ frame.mark_at x bottom tick) }
+{
+    put(
+        text,
+        b"<path class='a' d='M@ 76V@'/><text class='s m' x='@' y='@'>@</text>\n",
+        &[x, bottom, x, bottom + 14, tick],
+    )
+}
+
+/// Appends the word below the marks.
+fn put_ticks_word(text: &mut Vec<u8>, bottom: u64) -> Result<(), Memory>
+    requires { bottom ≤ 2 ^ 40 }
+    ensures { OnOk result (text.new.items ≡ text.old.items ++ frame.ticks_word bottom) }
+{
+    put(
+        text,
+        b"<text class='s r' x='1290' y='@'>tick</text>\n",
+        &[bottom + 28],
+    )
+}
+
+/// The window shows an interval that lost value.
+fn is_loss(window: Window, row: &Interval) -> bool
+    ensures { result ≡ frame.is_loss window row.now }
+{
+    (row.displaced != 0 || row.abandoned != 0) && meets(window, row.from, row.until)
+}
+
+/// Appends the front of bars of this class, so high.
+pub fn put_bars_front(text: &mut Vec<u8>, class: u8, high: u64) -> Result<(), Memory>
+    ensures { OnOk result (text.new.items ≡ text.old.items ++ frame.bars_front class high) }
+{
+    text.extend_from_slice(b"<path class='")?;
+    text.push(class)?;
+    put(text, b"' stroke-width='@' d='", &[high])?;
+    Ok(())
+}
+
+/// Appends the end of bars.
+pub fn put_bars_end(text: &mut Vec<u8>) -> Result<(), Memory>
+    ensures { OnOk result (text.new.items ≡ text.old.items ++ frame.bars_end) }
+{
+    text.extend_from_slice(b"'/>\n")?;
+    Ok(())
+}
+
+/// Appends the bands of the intervals that lost value.
+#[tactic(auto, unfolding(crate::specs::Frame::bands))]
+pub fn put_bands(
+    text: &mut Vec<u8>,
+    window: Window,
+    bottom: u64,
+    rows: &[Interval],
+) -> Result<(), Memory>
+    requires { bottom ≤ 2 ^ 40 }
+    ensures { OnOk result (text.new.items ≡ text.old.items ++ frame.bands window bottom rows.now) }
+{
+    put_bars_front(text, b'o', bottom.saturating_sub(60))?;
+    put_bands_at(text, window, (bottom + 60) / 2, rows)?;
+    put_bars_end(text)?;
+    Ok(())
+}
+
+/// Appends the bands, around this height.
+fn put_bands_at(text: &mut Vec<u8>, window: Window, y: u64, rows: &[Interval]) -> Result<(), Memory>
+    ensures { OnOk result (text.new.items ≡ text.old.items ++ frame.bands_at window y rows.now) }
+{
+    for row in rows {
+        put_band(text, window, y, row)?;
+    }
+    Ok(())
+}
+
+/// Appends the band of an interval, if it lost value.
+fn put_band(text: &mut Vec<u8>, window: Window, y: u64, row: &Interval) -> Result<(), Memory>
+    ensures { OnOk result (text.new.items ≡ text.old.items ++ frame.band window y row.now) }
+{
+    if is_loss(window, row) {
+        put_bar(text, window, 1, row.from, row.until, y)?;
+    }
+    Ok(())
+}
+
+/// Appends what the intervals lost, where there is room.
+pub fn put_band_words(text: &mut Vec<u8>, window: Window, rows: &[Interval]) -> Result<(), Memory>
+    ensures { OnOk result (text.new.items ≡ text.old.items ++ frame.band_words window rows.now) }
+{
+    for row in rows {
+        put_band_word(text, window, row)?;
+    }
+    Ok(())
+}
+
+/// Appends what an interval lost, where there is room.
+fn put_band_word(text: &mut Vec<u8>, window: Window, row: &Interval) -> Result<(), Memory>
+    ensures { OnOk result (text.new.items ≡ text.old.items ++ frame.band_word window row.now) }
+{
+    if is_loss(window, row) {
+        let long = pixels(window, 0, row.from, row.until);
+        put_lost_in(text, x_at(window, row.from), long, row.abandoned)?;
+    }
+    Ok(())
+}
+
+/// Appends a lost value, in so many pixels behind x.
+fn put_lost_in(text: &mut Vec<u8>, x: u64, long: u64, value: u64) -> Result<(), Memory>
+    requires { x ≤ 1_290 }
+    ensures { OnOk result (text.new.items ≡ text.old.items ++ frame.lost_in x long value) }
+{
+    if room(5, value) <= long {
+        put_lost_at(text, x, value)?;
+    }
+    Ok(())
+}
+
+/// Appends a lost value at pixel x.
+fn put_lost_at(text: &mut Vec<u8>, x: u64, value: u64) -> Result<(), Memory>
+    requires { x ≤ 1_290 }
+    ensures { OnOk result (text.new.items ≡ text.old.items ++ frame.lost_at x value) }
+{
+    put(
+        text,
+        b"<text class='v' x='@' y='70'>lost @</text>\n",
+        &[x + 3, value],
+    )
+}

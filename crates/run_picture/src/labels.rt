@@ -1,0 +1,151 @@
+//! What is written in the lanes.
+ghost use Rattle.std.specs.Prelude.{◌≡◌, ◌≤◌, ◌++◌, ◌^◌, OnOk};
+ghost use Rattle.run_picture.specs.Labels as labels;
+
+use crate::lanes::{Lane, middle, shows};
+use crate::plot::{Window, has, pixels, x_at};
+use crate::seen::Seen;
+use crate::template::{digits_of, put, room};
+use dover_model::Memory;
+
+/// Appends what is written in all lanes, where rows are high enough.
+pub fn put_labels(
+    text: &mut Vec<u8>,
+    window: Window,
+    unit: u64,
+    lanes: &[Lane],
+) -> Result<(), Memory>
+    requires { unit ≤ 18 }
+    ensures { OnOk result (text.new.items ≡ text.old.items ++ labels.labels window unit lanes.now) }
+{
+    if unit < 12 {
+        return Ok(());
+    }
+    for lane in lanes {
+        put_label(text, window, unit, lane)?;
+    }
+    Ok(())
+}
+
+/// Appends what is written in a lane.
+fn put_label(text: &mut Vec<u8>, window: Window, unit: u64, lane: &Lane) -> Result<(), Memory>
+    requires { unit ≤ 18 }
+    ensures { OnOk result (text.new.items ≡ text.old.items ++ labels.label window unit lane.now) }
+{
+    if shows(window, &lane.seen) {
+        let y = middle(unit, lane);
+        put_number(text, window, y, &lane.seen)?;
+        put_loss(text, window, y, &lane.seen)?;
+    }
+    Ok(())
+}
+
+/// The pixel up to which there is room for the job's number.
+fn number_end(seen: &Seen) -> u64
+    ensures { result ≡ labels.number_end seen.now }
+{
+    if seen.is_gone() {
+        seen.fate_tick()
+    } else {
+        seen.deadline
+    }
+}
+
+/// There is room for the job's number.
+fn has_number(window: Window, seen: &Seen) -> bool
+    ensures { result ≡ labels.has_number window seen.now }
+{
+    let long = pixels(window, 0, seen.release, number_end(seen));
+    has(window, seen.release) && room(1, u64::from(seen.number)) <= long
+}
+
+/// Appends the job's number, where there is room.
+fn put_number(text: &mut Vec<u8>, window: Window, y: u64, seen: &Seen) -> Result<(), Memory>
+    requires { y ≤ 2 ^ 40 }
+    ensures { OnOk result (text.new.items ≡ text.old.items ++ labels.number_of window y seen.now) }
+{
+    if has_number(window, seen) {
+        put_number_at(text, x_at(window, seen.release), y, u64::from(seen.number))?;
+    }
+    Ok(())
+}
+
+/// Appends what the job's loss weighed, if it is abandoned in the window.
+fn put_loss(text: &mut Vec<u8>, window: Window, y: u64, seen: &Seen) -> Result<(), Memory>
+    requires { y ≤ 2 ^ 40 }
+    ensures { OnOk result (text.new.items ≡ text.old.items ++ labels.loss_of window y seen.now) }
+{
+    let tick = seen.fate_tick();
+    if seen.is_gone() && has(window, tick) {
+        let long = pixels(window, 0, tick, seen.deadline);
+        put_loss_in(text, x_at(window, tick), y, long, seen.value, seen.against)?;
+    }
+    Ok(())
+}
+
+/// Appends what a loss weighed, in so many pixels behind x.
+fn put_loss_in(
+    text: &mut Vec<u8>,
+    x: u64,
+    y: u64,
+    long: u64,
+    value: u64,
+    against: u64,
+) -> Result<(), Memory>
+    requires x { x ≤ 1_290 }
+    requires y { y ≤ 2 ^ 40 }
+    ensures { OnOk result (text.new.items ≡ text.old.items ++ labels.loss_in x y long value against) }
+{
+    if room(12, value) + 6 * digits_of(against) <= long {
+        return put_weighed_at(text, x, y, value, against);
+    }
+    if room(2, value) <= long {
+        return put_lost_at(text, x, y, value);
+    }
+    Ok(())
+}
+
+/// Appends a number behind pixel x, around the height y.
+fn put_number_at(text: &mut Vec<u8>, x: u64, y: u64, number: u64) -> Result<(), Memory>
+    requires x { x ≤ 1_290 }
+    requires y { y ≤ 2 ^ 40 }
+    ensures { OnOk result (text.new.items ≡ text.old.items ++ labels.number_at x y number) }
+{
+    put(
+        text,
+        b"<text class='j' x='@' y='@'>@</text>\n",
+        &[x + 2, y + 4, number],
+    )
+}
+
+/// Appends a lost value behind pixel x.
+fn put_lost_at(text: &mut Vec<u8>, x: u64, y: u64, value: u64) -> Result<(), Memory>
+    requires x { x ≤ 1_290 }
+    requires y { y ≤ 2 ^ 40 }
+    ensures { OnOk result (text.new.items ≡ text.old.items ++ labels.lost_at x y value) }
+{
+    put(
+        text,
+        b"<text class='v' x='@' y='@'>-@</text>\n",
+        &[x + 6, y + 4, value],
+    )
+}
+
+/// Appends a lost value behind pixel x, and what it was weighed against.
+fn put_weighed_at(
+    text: &mut Vec<u8>,
+    x: u64,
+    y: u64,
+    value: u64,
+    against: u64,
+) -> Result<(), Memory>
+    requires x { x ≤ 1_290 }
+    requires y { y ≤ 2 ^ 40 }
+    ensures { OnOk result (text.new.items ≡ text.old.items ++ labels.weighed_at x y value against) }
+{
+    put(
+        text,
+        b"<text class='v' x='@' y='@'>-@ against @</text>\n",
+        &[x + 6, y + 4, value, against],
+    )
+}

@@ -1,0 +1,144 @@
+//! The lanes of the jobs that the window shows.
+ghost use Rattle.std.specs.Prelude.{◌≡◌, ◌≤◌, ◌<◌, ◌++◌, ◌^◌, length, OnOk, IfOk, []};
+ghost use Rattle.run_picture.specs.Lanes as places;
+
+use crate::plot::{Window, meets};
+use crate::seen::{Fate, Seen};
+use dover_model::Memory;
+use std::alloc::Global;
+
+/// What is told of a job, and its row.
+#[derive(Clone, Copy, Debug, PartialEq, Eq)]
+pub struct Lane {
+    pub seen: Seen,
+    pub row: u32,
+}
+
+/// How many jobs the window shows.
+pub fn shown(window: Window, seen: &[Seen]) -> usize
+    ensures { result ≡ places.shown window seen.now }
+{
+    let mut count = 0;
+    for one in seen {
+        if shows(window, one) {
+            count += 1;
+        }
+    }
+    count
+}
+
+/// The window shows the job.
+pub fn shows(window: Window, seen: &Seen) -> bool
+    ensures { result ≡ places.shows window seen.now }
+{
+    meets(window, seen.release, seen.deadline)
+}
+
+/// These jobs with their rows.
+pub fn lanes(alloc: Global, window: Window, seen: &[Seen]) -> Result<Vec<Lane>, Memory>
+    requires { length seen.now ≤ 5_000_001 }
+    ensures { IfOk result (λ lanes. lanes.items ≡ places.lanes_from window [] seen.now) }
+{
+    let mut lanes = Vec::new(alloc);
+    let mut dues = Vec::new(alloc);
+    for one in seen {
+        let mut row = 0;
+        if shows(window, one) {
+            row = take_row(&mut dues, one.release, one.deadline)?;
+        }
+        lanes.push(Lane { seen: *one, row })?;
+    }
+    Ok(lanes)
+}
+
+/// Puts a job into the first row that is free at its release, or into one more.
+fn take_row(dues: &mut Vec<u64>, release: u64, deadline: u64) -> Result<u32, Memory>
+    requires { length dues.old.items < 2 ^ 32 }
+    ensures row { IfOk result (λ row. row ≡ places.free_row dues.old.items release) }
+    ensures dues { OnOk result (dues.new.items
+        ≡ places.with_due dues.old.items (places.free_row dues.old.items release) deadline) }
+{
+    let row = free_row(dues, release);
+    if row < dues.len() {
+        dues[row] = deadline;
+    } else {
+        dues.push(deadline)?;
+    }
+    Ok(row as u32)
+}
+
+/// The first row that is free at this tick, or one more.
+fn free_row(dues: &[u64], release: u64) -> usize
+    ensures is { result ≡ places.free_row dues.now release }
+    ensures within { result ≤ length dues.now }
+{
+    let mut row = 0;
+    while row < dues.len() && dues[row] > release {
+        row += 1;
+    }
+    row
+}
+
+/// The lane of the job of this number.
+pub fn lane_at(lanes: &[Lane], number: u32) -> Lane
+    ensures { result ≡ places.lane_at lanes.now number }
+{
+    match lanes.get(number as usize) {
+        Some(lane) => *lane,
+        None => nowhere(),
+    }
+}
+
+/// No lane.
+fn nowhere() -> Lane
+    ensures { result ≡ places.nowhere }
+{
+    Lane {
+        seen: Seen {
+            number: 0,
+            release: 0,
+            work: 0,
+            deadline: 0,
+            value: 0,
+            took: false,
+            against: 0,
+            fate: Fate::Open,
+        },
+        row: 0,
+    }
+}
+
+/// How many rows there are.
+pub fn height(lanes: &[Lane]) -> u64
+    ensures is { result ≡ places.height lanes.now }
+    ensures modest { result ≤ 4_294_967_296 }
+{
+    let mut high = 1;
+    for lane in lanes {
+        high = high.max(u64::from(lane.row) + 1);
+    }
+    high
+}
+
+/// How many pixels a row is high, where there are so many.
+pub fn unit_of(high: u64) -> u64
+    ensures is { result ≡ places.unit_of high }
+    ensures modest { result ≤ 18 }
+{
+    if high <= 24 {
+        18
+    } else if high <= 48 {
+        12
+    } else {
+        6
+    }
+}
+
+/// The middle of the lane, where rows are so high.
+pub fn middle(unit: u64, lane: &Lane) -> u64
+    requires { unit ≤ 18 }
+    ensures is { result ≡ places.middle unit lane.now }
+    ensures modest { result ≤ 2 ^ 40 }
+{
+    112 + unit * u64::from(lane.row) + unit / 2
+}

@@ -1,0 +1,19 @@
+//! The picture of a run, as SVG.
+#![tactic(auto)]
+
+mod drawing;
+mod frame;
+mod labels;
+mod lanes;
+mod legends;
+mod marks;
+mod outline;
+mod panels;
+mod plot;
+mod processor;
+mod seen;
+mod strip;
+mod template;
+mod windows;
+
+pub use drawing::picture;

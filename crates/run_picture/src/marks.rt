@@ -1,0 +1,219 @@
+//! Marks in the lanes, step by step.
+ghost use Rattle.std.specs.Prelude.{◌≡◌, ◌≤◌, ◌++◌, ◌^◌, OnOk};
+ghost use Rattle.run_picture.specs.Marks as marks;
+
+use crate::lanes::{Lane, lane_at, middle};
+use crate::plot::{Window, has, meets, put_bar, x_at};
+use crate::template::put;
+use dover_model::{Event, Memory};
+
+/// Appends bars where jobs are started and not over.
+pub fn put_holds(
+    text: &mut Vec<u8>,
+    window: Window,
+    unit: u64,
+    lanes: &[Lane],
+    run: &[Event],
+) -> Result<(), Memory>
+    requires { unit ≤ 18 }
+    ensures { OnOk result (text.new.items ≡ text.old.items ++ marks.holds window unit lanes.now run.now) }
+{
+    for event in run {
+        put_hold_of(text, window, unit, lanes, event)?;
+    }
+    Ok(())
+}
+
+/// Appends the bar of the job that loses the processor at a step.
+fn put_hold_of(
+    text: &mut Vec<u8>,
+    window: Window,
+    unit: u64,
+    lanes: &[Lane],
+    event: &Event,
+) -> Result<(), Memory>
+    requires { unit ≤ 18 }
+    ensures { OnOk result (text.new.items ≡ text.old.items ++ marks.hold_of window unit lanes.now event.now) }
+{
+    match *event {
+        Event::Preempt { at, stops, .. } => put_hold(
+            text,
+            window,
+            unit,
+            at,
+            &lane_at(lanes, stops),
+        ),
+        Event::Take { at, stops, .. } => put_hold(text, window, unit, at, &lane_at(lanes, stops)),
+        _ => Ok(()),
+    }
+}
+
+/// Appends the bar of a job that loses the processor at this tick.
+fn put_hold(
+    text: &mut Vec<u8>,
+    window: Window,
+    unit: u64,
+    at: u64,
+    lane: &Lane,
+) -> Result<(), Memory>
+    requires { unit ≤ 18 }
+    ensures { OnOk result (text.new.items ≡ text.old.items ++ marks.hold window unit at lane.now) }
+{
+    let until = lane.seen.fate_tick();
+    if meets(window, at, until) {
+        put_bar(text, window, 1, at, until, middle(unit, lane))?;
+    }
+    Ok(())
+}
+
+/// Appends crosses where jobs are abandoned.
+pub fn put_crosses(
+    text: &mut Vec<u8>,
+    window: Window,
+    unit: u64,
+    lanes: &[Lane],
+    run: &[Event],
+) -> Result<(), Memory>
+    requires { unit ≤ 18 }
+    ensures { OnOk result (text.new.items ≡ text.old.items ++ marks.crosses window unit lanes.now run.now) }
+{
+    for event in run {
+        put_cross_of(text, window, unit, lanes, event)?;
+    }
+    Ok(())
+}
+
+/// Appends the cross of a step.
+fn put_cross_of(
+    text: &mut Vec<u8>,
+    window: Window,
+    unit: u64,
+    lanes: &[Lane],
+    event: &Event,
+) -> Result<(), Memory>
+    requires { unit ≤ 18 }
+    ensures { OnOk result (text.new.items ≡ text.old.items ++ marks.cross_of window unit lanes.now event.now) }
+{
+    match *event {
+        Event::Abandon { at, number } => put_cross_in(
+            text,
+            window,
+            unit,
+            at,
+            &lane_at(lanes, number),
+        ),
+        _ => Ok(()),
+    }
+}
+
+/// Appends the cross of a job that is abandoned at this tick, if the window has it.
+fn put_cross_in(
+    text: &mut Vec<u8>,
+    window: Window,
+    unit: u64,
+    at: u64,
+    lane: &Lane,
+) -> Result<(), Memory>
+    requires { unit ≤ 18 }
+    ensures { OnOk result (text.new.items ≡ text.old.items ++ marks.cross_in window unit at lane.now) }
+{
+    if has(window, at) {
+        put_cross(text, x_at(window, at), middle(unit, lane), unit / 2)?;
+    }
+    Ok(())
+}
+
+/// Appends a cross of this height, around a point.
+fn put_cross(text: &mut Vec<u8>, x: u64, y: u64, high: u64) -> Result<(), Memory>
+    ensures { OnOk result (text.new.items ≡ text.old.items ++ marks.cross x y high) }
+{
+    put_cross_from(text, x.saturating_sub(3), y.saturating_sub(high / 2), high)
+}
+
+/// Appends a cross of this height, from its upper left on.
+fn put_cross_from(text: &mut Vec<u8>, x: u64, y: u64, high: u64) -> Result<(), Memory>
+    ensures { OnOk result (text.new.items ≡ text.old.items ++ marks.cross_from x y high) }
+{
+    put(text, b"M@ @l6 @m0 -@l-6 @", &[x, y, high, high, high])
+}
+
+/// Appends arrows from job to job, where one preempts or else where one takes the processor.
+pub fn put_arrows(
+    text: &mut Vec<u8>,
+    window: Window,
+    unit: u64,
+    takes: bool,
+    lanes: &[Lane],
+    run: &[Event],
+) -> Result<(), Memory>
+    requires { unit ≤ 18 }
+    ensures { OnOk result (text.new.items ≡ text.old.items ++ marks.arrows window unit takes lanes.now run.now) }
+{
+    for event in run {
+        put_arrow_of(text, window, unit, takes, lanes, event)?;
+    }
+    Ok(())
+}
+
+/// Appends the arrow of a step.
+fn put_arrow_of(
+    text: &mut Vec<u8>,
+    window: Window,
+    unit: u64,
+    takes: bool,
+    lanes: &[Lane],
+    event: &Event,
+) -> Result<(), Memory>
+    requires { unit ≤ 18 }
+    ensures { OnOk result (text.new.items ≡ text.old.items ++ marks.arrow_of window unit takes lanes.now event.now) }
+{
+    match *event {
+        Event::Preempt { at, stops, starts } => {
+            if takes {
+                return Ok(());
+            }
+            put_arrow_at(text, window, unit, lanes, at, stops, starts)
+        }
+        Event::Take { at, stops, starts } => {
+            if !takes {
+                return Ok(());
+            }
+            put_arrow_at(text, window, unit, lanes, at, stops, starts)
+        }
+        _ => Ok(()),
+    }
+}
+
+/// Appends the arrow from one job to another, if the tick is in the window.
+fn put_arrow_at(
+    text: &mut Vec<u8>,
+    window: Window,
+    unit: u64,
+    lanes: &[Lane],
+    at: u64,
+    stops: u32,
+    starts: u32,
+) -> Result<(), Memory>
+    requires { unit ≤ 18 }
+    ensures { OnOk result (text.new.items ≡ text.old.items ++ marks.arrow_at window unit lanes.now at stops starts) }
+{
+    if has(window, at) {
+        let from = middle(unit, &lane_at(lanes, stops));
+        let until = middle(unit, &lane_at(lanes, starts));
+        put_arrow(text, x_at(window, at), from, until)?;
+    }
+    Ok(())
+}
+
+/// Appends an arrow at pixel x from one height to another.
+fn put_arrow(text: &mut Vec<u8>, x: u64, from: u64, until: u64) -> Result<(), Memory>
+    ensures { OnOk result (text.new.items ≡ text.old.items ++ marks.arrow x from until) }
+{
+    put(text, b"M@ @V@", &[x, from, until])?;
+    if from < until {
+        text.extend_from_slice(b"m-2 -4h4l-2 4")?;
+    } else {
+        text.extend_from_slice(b"m-2 4h4l-2 -4")?;
+    }
+    Ok(())
+}

@@ -1,0 +1,211 @@
+//! Outlines of numbers that grow and fall with the steps.
+ghost use Rattle.std.specs.Prelude.{◌≡◌, ◌≤◌, ◌+◌, ◌++◌, length, OnOk};
+ghost use Rattle.dover_model.specs.Limits.{most_value};
+ghost use Rattle.run_picture.specs.Outlines as outlines;
+
+use crate::plot::{Window, column_at, has, scaled, x_at};
+use crate::template::put;
+use dover_model::{Event, Job, Memory};
+use dover_report::value_of;
+
+/// What is measured.
+#[derive(Clone, Copy, Debug, PartialEq, Eq)]
+pub enum Measure {
+    Ready,
+    Completed,
+    Decided,
+}
+
+/// How an outline is drawn.
+#[derive(Clone, Copy, Debug, PartialEq, Eq)]
+pub struct Outline {
+    pub window: Window,
+    pub measure: Measure,
+    /// In 200 columns, and not by pixels.
+    pub coarse: bool,
+    /// The number that is 110 pixels high.
+    pub most: u64,
+    /// The pixel of 0.
+    pub base: u64,
+}
+
+/// The jobs that are released and neither done nor gone, after a step.
+fn ready_after(event: &Event, count: u64) -> u64
+    requires { count ≤ 6_000_000_000_000_000 }
+    ensures is { result ≡ outlines.ready_after event.now count }
+    ensures modest { result ≤ count + 1 }
+{
+    match event {
+        Event::Release { .. } => count + 1,
+        Event::Complete { .. } => count.saturating_sub(1),
+        Event::Abandon { .. } => count.saturating_sub(1),
+        _ => count,
+    }
+}
+
+/// The value of a job that is decided at this tick, if the window has it.
+fn worth_at(window: Window, jobs: &[Job], at: u64, number: u32) -> u64
+    ensures is { result ≡ outlines.worth_at window jobs.now at number }
+    ensures modest { result ≤ most_value }
+{
+    if has(window, at) {
+        value_of(jobs, number)
+    } else {
+        0
+    }
+}
+
+/// The value completed after a step.
+fn completed_after(window: Window, jobs: &[Job], event: &Event, value: u64) -> u64
+    requires { value ≤ 6_000_000_000_000_000 }
+    ensures is { result ≡ outlines.completed_after window jobs.now event.now value }
+    ensures modest { result ≤ value + most_value }
+{
+    match *event {
+        Event::Complete { at, number } => value + worth_at(window, jobs, at, number),
+        _ => value,
+    }
+}
+
+/// The value completed or lost after a step.
+fn decided_after(window: Window, jobs: &[Job], event: &Event, value: u64) -> u64
+    requires { value ≤ 6_000_000_000_000_000 }
+    ensures is { result ≡ outlines.decided_after window jobs.now event.now value }
+    ensures modest { result ≤ value + most_value }
+{
+    match *event {
+        Event::Complete { at, number } => value + worth_at(window, jobs, at, number),
+        Event::Abandon { at, number } => value + worth_at(window, jobs, at, number),
+        _ => value,
+    }
+}
+
+/// The number after a step.
+fn after(measure: Measure, window: Window, jobs: &[Job], event: &Event, number: u64) -> u64
+    requires { number ≤ 6_000_000_000_000_000 }
+    ensures is { result ≡ outlines.after measure window jobs.now event.now number }
+    ensures modest { result ≤ number + most_value }
+{
+    match measure {
+        Measure::Ready => ready_after(event, number),
+        Measure::Completed => completed_after(window, jobs, event, number),
+        Measure::Decided => decided_after(window, jobs, event, number),
+    }
+}
+
+/// The greatest number after any of these steps.
+pub fn greatest(measure: Measure, window: Window, jobs: &[Job], run: &[Event]) -> u64
+    requires { length run.now ≤ 5_000_001 }
+    ensures { result ≡ outlines.greatest measure window jobs.now run.now }
+{
+    let mut number = 0;
+    let mut most = 0;
+    for event in run {
+        number = after(measure, window, jobs, event, number);
+        most = most.max(number);
+    }
+    most
+}
+
+/// The tick of a step.
+fn tick_of(event: &Event) -> u64
+    ensures { result ≡ outlines.tick_of event.now }
+{
+    match *event {
+        Event::Release { job, .. } => job.release(),
+        Event::Run { at, .. } => at,
+        Event::Preempt { at, .. } => at,
+        Event::Take { at, .. } => at,
+        Event::Complete { at, .. } => at,
+        Event::Abandon { at, .. } => at,
+        Event::End { .. } => 0,
+    }
+}
+
+/// The pixel of a step, never before pixel x.
+fn pixel_of(outline: &Outline, x: u64, event: &Event) -> u64
+    ensures { result ≡ outlines.pixel_of outline.now x event.now }
+{
+    let tick = tick_of(event);
+    let pixel = if outline.coarse {
+        column_at(outline.window, tick)
+    } else {
+        x_at(outline.window, tick)
+    };
+    x.max(pixel)
+}
+
+/// The height of a number.
+fn rise(outline: &Outline, number: u64) -> u64
+    ensures { result ≡ outlines.rise outline.now number }
+{
+    outline
+        .base
+        .saturating_sub(scaled(number, outline.most, 110))
+}
+
+/// Appends the whole outline.
+pub fn put_outline(
+    text: &mut Vec<u8>,
+    outline: &Outline,
+    jobs: &[Job],
+    run: &[Event],
+) -> Result<(), Memory>
+    requires { length run.now ≤ 5_000_001 }
+    ensures { OnOk result (text.new.items ≡ text.old.items ++ outlines.outline outline.now jobs.now run.now) }
+{
+    put(text, b"M90 @", &[outline.base])?;
+    put_stairs(text, outline, jobs, run)?;
+    Ok(())
+}
+
+/// Appends the outline from the left on.
+fn put_stairs(
+    text: &mut Vec<u8>,
+    outline: &Outline,
+    jobs: &[Job],
+    run: &[Event],
+) -> Result<(), Memory>
+    requires { length run.now ≤ 5_000_001 }
+    ensures { OnOk result (text.new.items ≡ text.old.items ++ outlines.stairs_from outline.now jobs.now 90 0 run.now) }
+{
+    let mut x = 90;
+    let mut number = 0;
+    for event in run {
+        let next = pixel_of(outline, x, event);
+        put_stair_to(text, outline, x, number, next)?;
+        number = after(outline.measure, outline.window, jobs, event, number);
+        x = next;
+    }
+    put_last(text, rise(outline, number), outline.base)
+}
+
+/// Appends a stair, where the pixel is another one.
+fn put_stair_to(
+    text: &mut Vec<u8>,
+    outline: &Outline,
+    x: u64,
+    number: u64,
+    next: u64,
+) -> Result<(), Memory>
+    ensures { OnOk result (text.new.items ≡ text.old.items ++ outlines.stair_to outline.now x number next) }
+{
+    if x == next {
+        return Ok(());
+    }
+    put_stair(text, rise(outline, number), next)
+}
+
+/// Appends a stair up to a height and right to a pixel.
+fn put_stair(text: &mut Vec<u8>, y: u64, next: u64) -> Result<(), Memory>
+    ensures { OnOk result (text.new.items ≡ text.old.items ++ outlines.stair y next) }
+{
+    put(text, b"V@H@", &[y, next])
+}
+
+/// Appends the last stair, up to a height, right to the end and down.
+fn put_last(text: &mut Vec<u8>, y: u64, base: u64) -> Result<(), Memory>
+    ensures { OnOk result (text.new.items ≡ text.old.items ++ outlines.last_stair y base) }
+{
+    put(text, b"V@H1290V@Z", &[y, base])
+}

@@ -1,0 +1,102 @@
+//! Pieces as bars.
+ghost use Rattle.std.specs.Prelude.{◌≡◌, ◌≤◌, ◌++◌, OnOk};
+ghost use Rattle.run_picture.specs.Strip as strip;
+
+use crate::lanes::{Lane, lane_at, middle};
+use crate::plot::{Window, meets, pixels, put_bar, x_at};
+use crate::template::{put, room};
+use dover_model::{Memory, Piece};
+
+/// Where bars are drawn.
+#[derive(Clone, Copy, Debug, PartialEq, Eq)]
+pub struct Bars {
+    pub window: Window,
+    /// How many pixels a row is high; 0 for the strip.
+    pub unit: u64,
+    /// How many pixels a bar is long at least.
+    pub least: u64,
+}
+
+/// The height of a bar.
+fn level(unit: u64, lane: &Lane) -> u64
+    requires { unit ≤ 18 }
+    ensures { result ≡ strip.level unit lane.now }
+{
+    if unit == 0 { 87 } else { middle(unit, lane) }
+}
+
+/// Appends the bars of the pieces of jobs of this color.
+pub fn put_pieces(
+    text: &mut Vec<u8>,
+    bars: &Bars,
+    lanes: &[Lane],
+    color: u8,
+    pieces: &[Piece],
+) -> Result<(), Memory>
+    requires unit { bars.now.unit ≤ 18 }
+    requires least { bars.now.least ≤ 1_290 }
+    ensures { OnOk result (text.new.items ≡ text.old.items ++ strip.piece_bars bars.now lanes.now color pieces.now) }
+{
+    for piece in pieces {
+        put_piece(text, bars, lanes, color, piece)?;
+    }
+    Ok(())
+}
+
+/// Appends the bar of a piece, if its job has this color.
+fn put_piece(
+    text: &mut Vec<u8>,
+    bars: &Bars,
+    lanes: &[Lane],
+    color: u8,
+    piece: &Piece,
+) -> Result<(), Memory>
+    requires unit { bars.now.unit ≤ 18 }
+    requires least { bars.now.least ≤ 1_290 }
+    ensures { OnOk result (text.new.items ≡ text.old.items ++ strip.piece_bar bars.now lanes.now color piece.now) }
+{
+    let lane = lane_at(lanes, piece.number);
+    if meets(bars.window, piece.from, piece.until) && lane.seen.tint() == color {
+        let y = level(bars.unit, &lane);
+        put_bar(text, bars.window, bars.least, piece.from, piece.until, y)?;
+    }
+    Ok(())
+}
+
+/// Appends the numbers of the jobs of pieces, where there is room.
+pub fn put_numbers(text: &mut Vec<u8>, window: Window, pieces: &[Piece]) -> Result<(), Memory>
+    ensures { OnOk result (text.new.items ≡ text.old.items ++ strip.piece_numbers window pieces.now) }
+{
+    for piece in pieces {
+        put_number(text, window, piece)?;
+    }
+    Ok(())
+}
+
+/// Appends the number of a piece's job, where there is room.
+fn put_number(text: &mut Vec<u8>, window: Window, piece: &Piece) -> Result<(), Memory>
+    ensures { OnOk result (text.new.items ≡ text.old.items ++ strip.piece_number window piece.now) }
+{
+    let left = x_at(window, piece.from);
+    let long = pixels(window, 0, piece.from, piece.until);
+    put_number_in(text, left, long, u64::from(piece.number))
+}
+
+/// Appends the number of the job of a piece so long, where there is room.
+fn put_number_in(text: &mut Vec<u8>, left: u64, long: u64, number: u64) -> Result<(), Memory>
+    requires left { left ≤ 1_290 }
+    requires long { long ≤ 1_290 }
+    ensures { OnOk result (text.new.items ≡ text.old.items ++ strip.number_in left long number) }
+{
+    if room(0, number) <= long {
+        put_number_at(text, left + long / 2, number)?;
+    }
+    Ok(())
+}
+
+/// Appends a number, around pixel x.
+fn put_number_at(text: &mut Vec<u8>, x: u64, number: u64) -> Result<(), Memory>
+    ensures { OnOk result (text.new.items ≡ text.old.items ++ strip.number_at x number) }
+{
+    put(text, b"<text x='@' y='91'>@</text>\n", &[x, number])
+}

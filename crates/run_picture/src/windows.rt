@@ -1,0 +1,134 @@
+//! The jobs' windows, with their tooltips.
+ghost use Rattle.std.specs.Prelude.{◌≡◌, ◌≤◌, ◌++◌, OnOk};
+ghost use Rattle.run_picture.specs.Windows as windows;
+
+use crate::lanes::{Lane, middle, shows};
+use crate::plot::{Window, put_bar};
+use crate::seen::{Fate, Seen};
+use crate::template::put;
+use dover_model::Memory;
+
+/// Appends the windows of the jobs that the window of the picture shows.
+pub fn put_windows(
+    text: &mut Vec<u8>,
+    window: Window,
+    unit: u64,
+    lanes: &[Lane],
+) -> Result<(), Memory>
+    requires { unit ≤ 18 }
+    ensures { OnOk result (text.new.items ≡ text.old.items ++ windows.job_windows window unit lanes.now) }
+{
+    for lane in lanes {
+        put_job(text, window, unit, lane)?;
+    }
+    Ok(())
+}
+
+/// Appends the window of a job, if it is shown.
+fn put_job(text: &mut Vec<u8>, window: Window, unit: u64, lane: &Lane) -> Result<(), Memory>
+    requires { unit ≤ 18 }
+    ensures { OnOk result (text.new.items ≡ text.old.items ++ windows.job_window window unit lane.now) }
+{
+    if shows(window, &lane.seen) {
+        put_window(text, window, middle(unit, lane), &lane.seen)?;
+    }
+    Ok(())
+}
+
+/// Appends the bar of a job at this height, with its tooltip.
+fn put_window(text: &mut Vec<u8>, window: Window, y: u64, seen: &Seen) -> Result<(), Memory>
+    ensures { OnOk result (text.new.items ≡ text.old.items ++ windows.window_of window y seen.now) }
+{
+    put_shape(text, window, y, seen)?;
+    put_title(text, seen)?;
+    Ok(())
+}
+
+/// Appends the bar, up to its tooltip.
+fn put_shape(text: &mut Vec<u8>, window: Window, y: u64, seen: &Seen) -> Result<(), Memory>
+    ensures { OnOk result (text.new.items ≡ text.old.items ++ windows.shape window y seen.now) }
+{
+    put_front(text, seen.is_gone())?;
+    put_bar(text, window, 1, seen.release, seen.deadline, y)?;
+    text.extend_from_slice(b"'><title>")?;
+    Ok(())
+}
+
+/// Appends the front of the bar, by whether the job is abandoned.
+fn put_front(text: &mut Vec<u8>, gone: bool) -> Result<(), Memory>
+    ensures { OnOk result (text.new.items ≡ text.old.items ++ windows.front gone) }
+{
+    if gone {
+        text.extend_from_slice(b"<path class='g' d='")?;
+    } else {
+        text.extend_from_slice(b"<path class='w' d='")?;
+    }
+    Ok(())
+}
+
+/// Appends the tooltip, and the end of the bar.
+fn put_title(text: &mut Vec<u8>, seen: &Seen) -> Result<(), Memory>
+    ensures { OnOk result (text.new.items ≡ text.old.items ++ windows.titled seen.now) }
+{
+    put_note(text, seen)?;
+    text.extend_from_slice(b"</title></path>\n")?;
+    Ok(())
+}
+
+/// Appends all that is told of a job.
+fn put_note(text: &mut Vec<u8>, seen: &Seen) -> Result<(), Memory>
+    ensures { OnOk result (text.new.items ≡ text.old.items ++ windows.note seen.now) }
+{
+    put_job_numbers(
+        text,
+        u64::from(seen.number),
+        seen.release,
+        seen.work,
+        seen.deadline,
+        seen.value,
+    )?;
+    put_weighed(text, seen)?;
+    put_ended(text, seen.fate)?;
+    Ok(())
+}
+
+/// Appends the numbers of a job.
+fn put_job_numbers(
+    text: &mut Vec<u8>,
+    number: u64,
+    release: u64,
+    work: u64,
+    deadline: u64,
+    value: u64,
+) -> Result<(), Memory>
+    ensures { OnOk result (text.new.items ≡ text.old.items ++ windows.numbers number release work deadline value) }
+{
+    put(
+        text,
+        b"job @: release @, work @, deadline @, value @",
+        &[number, release, work, deadline, value],
+    )
+}
+
+/// Appends what stood against the job's value, where it was weighed.
+fn put_weighed(text: &mut Vec<u8>, seen: &Seen) -> Result<(), Memory>
+    ensures { OnOk result (text.new.items ≡ text.old.items ++ windows.weighed seen.now) }
+{
+    if seen.is_gone() {
+        put(text, b" against @ under way", &[seen.against])?;
+    } else if seen.took {
+        put(text, b" against @ under way, taken", &[seen.against])?;
+    }
+    Ok(())
+}
+
+/// Appends how a job ended.
+fn put_ended(text: &mut Vec<u8>, fate: Fate) -> Result<(), Memory>
+    ensures { OnOk result (text.new.items ≡ text.old.items ++ windows.ended fate) }
+{
+    match fate {
+        Fate::Open => Ok(()),
+        Fate::Completed(at) => put(text, b", complete @", &[at]),
+        Fate::Abandoned(at) => put(text, b", abandon @", &[at]),
+    }
+}
