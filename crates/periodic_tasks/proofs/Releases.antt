@@ -1,0 +1,102 @@
+-- When a task releases, and when it doesn't.
+use Rattle.std.proofs.Common.{◌≡◌, ℕ, zero, suc, ◌+◌, ◌-◌, ◌*◌, ◌/◌, ◌%◌, ◌^◌, ◌<◌, ◌≤◌, refl, sym, ap, ◌∙◌, Bool, true}
+use Rattle.std.proofs.Common.{false, cond, min, arith}
+use Rattle.std.proofs.Common.{Option, Some, None}
+use Rattle.std.specs.Prelude.{◌&&◌, ◌==◌, nat_le, nat_lt}
+use Rattle.std.proofs.Math.Nat.{zero-mod}
+use Rattle.std.proofs.lemmas.Nat.{div-add-mod', mod-mul-add}
+use Rattle.std.proofs.lemmas.Bool.{leb-true, le-leb, lt-leb, ltb-true, ltb-false, lt-ltb, le-ltb, eqb-true, eq-eqb}
+use Rattle.std.proofs.lemmas.Bool.{ne_eqb, and_parts}
+use Rattle.dover_model.specs.declared.events.Entry.{Entry}
+use Rattle.periodic_tasks.specs.Tasks.{releases}
+use Rattle.periodic_tasks.specs.Merging.{IsQuiet, IsNextRelease, IsNext, kept_release}
+use Rattle.periodic_tasks.specs.declared.task.PeriodicTask.{PeriodicTask}
+
+-- the release of the task of this number
+abbrev entry : (number release : ℕ) → Entry
+entry number release = record { number = number; deadline = release; latest = 0; left = 0; value = 0 }
+
+-- whether one is kept
+abbrev kept_by : Bool → (number release : ℕ) → Option Entry
+kept_by b number release = cond b (Some (entry number release)) None
+
+-- ---- the first release
+
+-- before the offset
+not_begun : (task : PeriodicTask) (tick : ℕ) → tick < task.offset → releases task tick ≡ false
+not_begun task tick early = ap (λ b. b && ((tick - task.offset) % task.period == 0)) (lt-leb task.offset tick early)
+
+-- at the offset
+begins : (task : PeriodicTask) → releases task task.offset ≡ true
+begins task =
+    let none : task.offset - task.offset ≡ 0 = omega arith in
+    ap (λ b. b && ((task.offset - task.offset) % task.period == 0)) (le-leb task.offset task.offset (omega arith))
+    ∙ eq-eqb _ _ (ap (λ n. n % task.period) none ∙ zero-mod task.period)
+
+-- the first release is kept
+pub first_kept : (until number : ℕ) (task : PeriodicTask)
+    → IsNext until number task 0 (kept_release until number task.offset)
+first_kept until number task = by (nat_lt task.offset until) refl where
+  by : (b : Bool) → nat_lt task.offset until ≡ b → IsNext until number task 0 (kept_by b number task.offset)
+  by true early = record {
+    number_is = refl;
+    early = omega arith;
+    late = ltb-true _ _ early;
+    released = begins task;
+    quiet = λ tick low high. not_begun task tick high;
+  }
+  by false late = λ tick low high. let after : until ≤ task.offset = ltb-false _ _ late in
+      not_begun task tick (omega (arith, high, after))
+
+-- ---- the next release
+
+module _ (task : PeriodicTask) (at : ℕ) (period : 1 ≤ task.period) (is : releases task at ≡ true) where
+  -- the offset and whole periods
+  abbrev m : ℕ
+  m = (at - task.offset) / task.period
+
+  begun : task.offset ≤ at
+  begun = leb-true _ _ (and_parts (nat_le task.offset at) ((at - task.offset) % task.period == 0) is).0
+
+  whole : at - task.offset ≡ m * task.period
+  whole =
+      let none : (at - task.offset) % task.period ≡ 0 =
+      eqb-true _ _ (and_parts (nat_le task.offset at) ((at - task.offset) % task.period == 0) is).1 in
+      omega (arith, none, div-add-mod' (at - task.offset) task.period)
+
+  -- none within a period
+  gap : (tick : ℕ) → suc at ≤ tick → tick < at + task.period → releases task tick ≡ false
+  gap tick low high =
+      let d : ℕ = tick - at in
+      let n_is : tick - task.offset ≡ m * task.period + d = omega (arith, whole, begun, low) in
+      let rest : (m * task.period + d) % task.period ≡ d = mod-mul-add m task.period d (omega (arith, low, high)) in
+      ap (λ c. c && ((tick - task.offset) % task.period == 0)) (le-leb task.offset tick (omega (arith, begun, low)))
+      ∙ ap (λ k. k % task.period == 0) n_is ∙ ap (λ k. k == 0) rest
+      ∙ ne_eqb d 0 (λ none. absurd (omega (arith, none, low)))
+
+  -- one after a period
+  again : releases task (at + task.period) ≡ true
+  again =
+      let n_is : (at + task.period) - task.offset ≡ (m + 1) * task.period + 0 = omega (arith, whole, begun) in
+      let rest : ((m + 1) * task.period + 0) % task.period ≡ 0 =
+      mod-mul-add (m + 1) task.period 0 (omega (arith, period)) in
+      ap (λ c. c && (((at + task.period) - task.offset) % task.period == 0))
+      (le-leb task.offset (at + task.period) (omega (arith, begun)))
+      ∙ ap (λ k. k % task.period == 0) n_is ∙ ap (λ k. k == 0) rest
+
+  -- the release that follows is kept, where the sum stops at the greatest number
+  pub follows_short : (until number release : ℕ) → until < 2 ^ 64 → release ≡ min (at + task.period) (2 ^ 64 - 1)
+      → IsNext until number task (suc at) (kept_release until number release)
+  follows_short until number release fits is_min = by (nat_lt release until) refl where
+    by : (b : Bool) → nat_lt release until ≡ b → IsNext until number task (suc at) (kept_by b number release)
+    by true early =
+        let low : release < until = ltb-true _ _ early in
+        let same : release ≡ at + task.period = omega (arith, low, fits, is_min) in record {
+          number_is = refl;
+          early = omega (arith, same, period);
+          late = low;
+          released = ap (releases task) same ∙ again;
+          quiet = λ tick from before. gap tick from (omega (arith, same, before));
+        }
+    by false late = λ tick low high. let after : until ≤ release = ltb-false _ _ late in
+        gap tick low (omega (arith, high, after, is_min, fits))

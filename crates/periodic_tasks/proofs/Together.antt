@@ -1,0 +1,59 @@
+-- Tasks that may stand together, with one more.
+use Rattle.std.proofs.Common.{◌≡◌, ◌+◌, ◌*◌, ◌≤◌, ◌<◌, ℕ, List, [], ◌∷◌, ◌++◌, length, length-append, map, refl, Option}
+use Rattle.std.proofs.Common.{None, arith}
+use Rattle.std.specs.List.{AllByRecursion}
+use Rattle.std.proofs.Math.Nat.{mul-le-mul_right}
+use Rattle.std.proofs.lemmas.List.{length-map}
+use Rattle.dover_model.specs.Fraction.{Fraction}
+use Rattle.dover_model.specs.JobFacts.{JobFacts}
+use Rattle.dover_model.specs.Instance.{IsWithinRatio}
+use Rattle.dover_model.specs.Admission.{refusal_of}
+use Rattle.dover_model.proofs.Admitting.{Admitted, not_refused}
+use Rattle.dover_model.proofs.Growing.{all_behind}
+use Rattle.dover_model.proofs.Valid.{all_from}
+use Rattle.periodic_tasks.specs.Tasks.{tested_job}
+use Rattle.periodic_tasks.specs.Limits.{IsTask, AreWithin, AreTasks}
+use Rattle.periodic_tasks.specs.declared.task.PeriodicTask.{PeriodicTask}
+
+-- no tasks
+pub no_tasks : (until : ℕ) (k : Fraction) → AreTasks until k []
+no_tasks until k = record { each = tt; few = omega arith; densities = tt }
+
+-- what each keeps, and what holds of both, holds of each
+all_and : {X : Type 0} (P Q R : X → Type 0) (xs : List X) → ((x : X) → P x → Q x → R x) → AllByRecursion P xs
+    → AllByRecursion Q xs
+    → AllByRecursion R xs
+all_and P Q R [] h all other = tt
+all_and P Q R (x ∷ xs) h all other = (h x all.0 other.0, all_and P Q R xs h all.1 other.1)
+
+-- what holds of each tested job holds of each task
+unmapped : (P : JobFacts → Type 0) (until : ℕ) (tasks : List PeriodicTask)
+    → AllByRecursion P (map (tested_job until) tasks)
+    → AllByRecursion (λ task. P (tested_job until task)) tasks
+unmapped P until [] all = tt
+unmapped P until (task ∷ tasks) all = (all.0, unmapped P until tasks all.1)
+
+-- a task whose tested job is admitted
+pub tasks_more : (until : ℕ) (k : Fraction) (tasks : List PeriodicTask) (task : PeriodicTask) → k.q ≤ k.p
+    → AreTasks until k tasks
+    → 1 ≤ task.period → refusal_of k (map (tested_job until) tasks) (tested_job until task) ≡ None
+    → AreTasks until k (tasks ++ task ∷ [])
+tasks_more until k tasks task above are period none =
+    let it : Admitted k (map (tested_job until) tasks) (tested_job until task) =
+    not_refused k (map (tested_job until) tasks) (tested_job until task) none in
+    let fewer : length (map (tested_job until) tasks) < 1_000_000 = it.count in
+    let Both : PeriodicTask → Type 0 = λ a. AreWithin until k a task × AreWithin until k task a in
+    let both : AllByRecursion Both tasks =
+    unmapped (λ i. IsWithinRatio k i (tested_job until task) × IsWithinRatio k (tested_job until task) i) until tasks
+    it.densities in
+    let itself : AreWithin until k task task = mul-le-mul_right task.work (mul-le-mul_right task.value above) in
+    record {
+      each = all_behind (IsTask until) tasks task are.each (record { period = period; job = it.job });
+      few = omega (arith, fewer, length-map tasks (tested_job until), length-append tasks (task ∷ []));
+      densities = all_behind (λ a. AllByRecursion (AreWithin until k a) (tasks ++ task ∷ [])) tasks task
+          (all_and (λ a. AllByRecursion (AreWithin until k a) tasks) Both
+          (λ a. AllByRecursion (AreWithin until k a) (tasks ++ task ∷ [])) tasks
+          (λ a row with_task. all_behind (AreWithin until k a) tasks task row with_task.0) are.densities both)
+          (all_behind (AreWithin until k task) tasks task
+          (all_from Both (AreWithin until k task) tasks (λ a with_task. with_task.1) both) itself);
+    }

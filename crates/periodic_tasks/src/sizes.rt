@@ -1,0 +1,35 @@
+//! Whether the jobs of tasks are no more, and worth no more, than a feed may have.
+ghost use Rattle.std.specs.Prelude.{◌≡◌, ◌↔◌, ◌≤◌, IsTrue};
+ghost use Rattle.std.specs.List.{AllByRecursion};
+ghost use Rattle.periodic_tasks.specs.Limits.{Fits, IsTask};
+
+use crate::task::PeriodicTask;
+
+/// How many jobs a feed may have.
+const MOST_JOBS: u64 = 1_000_000;
+
+/// The greatest sum of the values of all jobs.
+const MOST_TOTAL: u64 = 10_000_000_000_000;
+
+/// Whether the jobs that the tasks release before a tick are at most 1,000,000, and worth at most 10^13. It takes a
+/// step for each task, and none
+/// for a job.
+pub fn fits(tasks: &[PeriodicTask], until: u64) -> bool
+    requires { AllByRecursion (IsTask until) tasks.now }
+    ensures { IsTrue result ↔ Fits until tasks.now }
+{
+    let mut count = 0u64;
+    let mut total = 0u64;
+    for task in tasks {
+        let more = task.count_before(until);
+        if more > MOST_JOBS - count {
+            return false;
+        }
+        count += more;
+        total += more * task.value;
+        if total > MOST_TOTAL {
+            return false;
+        }
+    }
+    true
+}

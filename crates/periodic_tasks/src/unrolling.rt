@@ -1,0 +1,153 @@
+//! The jobs of tasks, one by one in order of release.
+ghost use Rattle.std.specs.Prelude.{◌≡◌, ◌≤◌, ◌<◌, ◌+◌, ◌∷◌, ◌++◌, List, [], None, length, slice_index_or, slice_set};
+ghost use Rattle.std.specs.Prelude.{IfOk, IfSome, IsNone};
+ghost use Rattle.std.specs.List.{AllByRecursion};
+ghost use Rattle.dover_model.specs.JobFacts.{JobFacts};
+ghost use Rattle.dover_model.specs.Limits.{most_jobs};
+ghost use Rattle.periodic_tasks.specs.Limits.{IsTask};
+ghost use Rattle.periodic_tasks.specs.Merging.{StandsBehind, kept_release, merge};
+ghost use Rattle.periodic_tasks.specs.Tasks.{jobs_before};
+
+use crate::task::PeriodicTask;
+use dover_model::{Entry, Job, Memory, Version};
+use rank_heap::{ByDeadline, Heap};
+use std::alloc::Global;
+use std::marker::Model;
+use std::sync::ledger::Ledger;
+use step_count::Steps;
+
+/// Gives the jobs that tasks release before a tick, one by one in order of release, and those of one tick in the order
+/// of the tasks. It keeps the
+/// next release of each task, and takes memory when it is made alone.
+#[derive(Drop)]
+pub struct Unrolling {
+    tasks: Vec<PeriodicTask>,
+    until: u64,
+    next: Heap<ByDeadline>,
+}
+
+impl Model for Unrolling {
+    ghost use Rattle.periodic_tasks.specs.Merging.{Merge};
+
+    ghost Value = { Merge };
+
+    ghost view = { λ u. record { tasks = u.tasks.items; until = u.until; next = u.next } };
+}
+
+// Keeps a release of the task of this number, if it is before a tick.
+fn keep_release<L: Ledger>(
+    next: &mut Heap<ByDeadline>,
+    number: u32,
+    release: u64,
+    until: u64,
+    steps: &mut Steps<L>,
+)
+    requires room { 1 ≤ next.old.spare }
+    requires number { number < length next.old.table }
+    requires none { slice_index_or next.old.table number None ≡ None }
+    ensures table { next.new.table ≡ slice_set next.old.table number (kept_release until number release) }
+    ensures order { next.new.order ≡ next.old.order }
+    ensures room { next.old.spare ≤ next.new.spare + 1 }
+{
+    if release < until {
+        let entry = Entry {
+            number,
+            deadline: release,
+            latest: 0,
+            left: 0,
+            value: 0,
+        };
+        next.insert(entry, steps);
+    }
+}
+
+// Keeps the first release of each task that is before a tick.
+fn first_releases<L: Ledger>(
+    alloc: Global,
+    tasks: &[PeriodicTask],
+    until: u64,
+    steps: &mut Steps<L>,
+) -> Result<Heap<ByDeadline>, Memory>
+    requires { length tasks.now ≤ most_jobs }
+    ensures { IfOk result (λ next. StandsBehind (merge tasks.now until next) []) }
+{
+    let version = Version::One;
+    let count = tasks.len() as u32;
+    let mut next = Heap::new(alloc, ByDeadline { version })?;
+    next.reserve(count)?;
+    next.reserve_numbers(count)?;
+    let mut number = 0u32;
+    for task in tasks {
+        keep_release(&mut next, number, task.offset, until, steps);
+        number += 1;
+    }
+    Ok(next)
+}
+
+// Takes the first of the next releases, keeps the one that follows it, and answers its job.
+fn take_job<L: Ledger>(
+    next: &mut Heap<ByDeadline>,
+    tasks: &[PeriodicTask],
+    until: u64,
+    steps: &mut Steps<L>,
+) -> Option<Job>
+    requires stands { (done : List JobFacts) × StandsBehind (merge tasks.now until next.old) done }
+    requires each { AllByRecursion (IsTask until) tasks.now }
+    ensures next { (done : List JobFacts) → StandsBehind (merge tasks.now until next.old) done →
+        IfSome result (λ job. StandsBehind (merge tasks.now until next.new) (done ++ job ∷ [])) }
+    ensures end { (done : List JobFacts) → StandsBehind (merge tasks.now until next.old) done → IsNone result →
+        jobs_before until tasks.now ≡ done }
+{
+    let Some(first) = next.pop(steps) else {
+        return None;
+    };
+    let task = tasks[first.number as usize];
+    let again = first.deadline.saturating_add(task.period);
+    keep_release(next, first.number, again, until, steps);
+    Job::new(
+        first.deadline,
+        task.work,
+        first.deadline + task.deadline,
+        task.value,
+    )
+}
+
+impl Unrolling {
+    ghost use Rattle.std.specs.Prelude.{◌≡◌, ◌≤◌, ◌∷◌, ◌++◌, List, [], length, IfOk, IfSome, IsNone};
+    ghost use Rattle.std.specs.List.{AllByRecursion};
+    ghost use Rattle.dover_model.specs.JobFacts.{JobFacts};
+    ghost use Rattle.dover_model.specs.Limits.{most_jobs};
+    ghost use Rattle.periodic_tasks.specs.Limits.{IsTask};
+    ghost use Rattle.periodic_tasks.specs.Merging.{StandsBehind};
+    ghost use Rattle.periodic_tasks.specs.Tasks.{jobs_before};
+
+    /// No job was given yet.
+    pub fn new<L: Ledger>(
+        alloc: Global,
+        tasks: Vec<PeriodicTask>,
+        until: u64,
+        steps: &mut Steps<L>,
+    ) -> Result<Unrolling, Memory>
+        requires few { length tasks.items ≤ most_jobs }
+        ensures stands { IfOk result (λ u. StandsBehind u []) }
+        ensures tasks { IfOk result (λ u. u.tasks ≡ tasks.items) }
+        ensures until { IfOk result (λ u. u.until ≡ until) }
+    {
+        let next = first_releases(alloc, &tasks, until, steps)?;
+        Ok(Unrolling { tasks, until, next })
+    }
+
+    /// The next job, if there is one.
+    pub fn next_job<L: Ledger>(&mut self, steps: &mut Steps<L>) -> Option<Job>
+        requires stands { (done : List JobFacts) × StandsBehind self.old done }
+        requires each { AllByRecursion (IsTask self.old.until) self.old.tasks }
+        ensures next { (done : List JobFacts) → StandsBehind self.old done
+            → IfSome result (λ job. StandsBehind self.new (done ++ job ∷ [])) }
+        ensures end { (done : List JobFacts) → StandsBehind self.old done → IsNone result
+            → jobs_before self.old.until self.old.tasks ≡ done }
+        ensures tasks { self.new.tasks ≡ self.old.tasks }
+        ensures until { self.new.until ≡ self.old.until }
+    {
+        take_job(&mut self.next, &self.tasks, self.until, steps)
+    }
+}

@@ -1,0 +1,5 @@
+pub mod Read
+pub mod Accounts
+pub mod Taking
+pub mod Pieces
+pub mod Records

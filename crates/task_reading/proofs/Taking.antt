@@ -1,0 +1,328 @@
+-- What a line makes of what is kept.
+use Rattle.std.proofs.Common.{◌≡◌, ◌≤◌, ◌<◌, ◌+◌, ◌-◌, ◌*◌, ℕ, suc, List, ◌∷◌, ◌++◌, [], map, refl, sym, ap, ◌∙◌, subst}
+use Rattle.std.proofs.Common.{Bool, true, false, cond}
+use Rattle.std.proofs.Common.{Option, Some, None, is_some, arith}
+use Rattle.std.specs.Prelude.{◌==◌}
+use Rattle.std.specs.Option.{option_map}
+use Rattle.std.proofs.lemmas.Bool.{eq-eqb, ne_eqb}
+use Rattle.std.proofs.lemmas.List.{map-append}
+use Rattle.dover_model.specs.declared.events.Refusal.{Refusal}
+use Rattle.dover_model.specs.declared.events.Refusal.TheVariants as refusal
+use Rattle.dover_model.specs.declared.events.Version.{Version}
+use Rattle.dover_model.specs.Limits.{most_lines}
+use Rattle.dover_model.specs.Fraction.{Fraction, IsRatio, is_ratio}
+use Rattle.dover_model.specs.JobFacts.{JobFacts, job_of_numbers}
+use Rattle.dover_model.specs.Instance.{Rules}
+use Rattle.dover_model.specs.Admission.{refusal_of}
+use Rattle.dover_model.specs.Feed as feed
+use Rattle.dover_model.specs.Feed.{Open, Faulty, NotAdmitted, declared_version, declared_rules, rules_with}
+use Rattle.dover_model.proofs.Agreement.{is_ratio-agrees}
+use Rattle.dover_model.proofs.Members.{some_same}
+use Rattle.dover_model.proofs.Tests.{none_is_some}
+use Rattle.admission.specs.Kept as admission
+use Rattle.admission.specs.Answers.{refusal_of_refused}
+use Rattle.admission.specs.declared.refused.Refused.{Refused}
+use Rattle.admission.specs.declared.refused.Refused.TheVariants as refused
+use Rattle.event_feed.specs.Kept.{cause_of_fault, cause_of_refused}
+use Rattle.event_feed.specs.declared.faults.Cause.{Cause as Fault}
+use Rattle.event_feed.specs.declared.faults.Cause.TheVariants as cause
+use Rattle.periodic_tasks.specs.Tasks.{tested_job, count_before}
+use Rattle.periodic_tasks.specs.Limits.{AreTasks, task_refusal}
+use Rattle.periodic_tasks.specs.declared.task.PeriodicTask.{PeriodicTask}
+use Rattle.periodic_tasks.proofs.Together.{no_tasks, tasks_more}
+use Rattle.task_reading.specs.Account.{TaskAccount, fraction, with_line, cause_of, cause_under, account_of_lines}
+use Rattle.task_reading.specs.Account.{account}
+use Rattle.task_reading.specs.Lines.{task_line}
+use Rattle.task_reading.specs.Keeping.{IsKnown, Keeps, KeepsDeclared, KeepsRules, KeepsAccount, StandsAt}
+use Rattle.task_reading.specs.declared.intake.Declaration.{Declaration}
+use Rattle.task_reading.specs.declared.intake.TaskIntake.{TaskIntake}
+use Rattle.task_reading.specs.declared.intake.Progress.{Progress}
+use Rattle.task_reading.specs.declared.intake.Progress.TheVariants as progress
+use Rattle.task_reading.specs.declared.lines.TaskLine.{TaskLine}
+use Rattle.task_reading.specs.declared.lines.TaskLine.TheVariants.{Declared, Task, End}
+use Rattle.task_reading.proofs.Accounts.{counted, next_of, line_as, many_lines}
+
+-- ---- a task behind others
+
+-- a refusal as a cause
+pub refused_cause : (r : Refused) → cause_of_fault (cause_of_refused r) ≡ NotAdmitted (refusal_of_refused r)
+refused_cause refused.BadJob = refl
+refused_cause refused.Count = refl
+refused_cause refused.Total = refl
+refused_cause (refused.Ratio other) = refl
+
+module _ (until : ℕ) (task : PeriodicTask) (k : Fraction) (tasks : List PeriodicTask) where
+  -- by whether it has a period
+  abbrev by_period : Bool → Option Refusal
+  by_period none = cond none (Some refusal.BadJob) (refusal_of k (map (tested_job until) tasks) (tested_job until task))
+
+  pub no_period : task.period ≡ 0 → task_refusal until k tasks task ≡ Some refusal.BadJob
+  no_period none = ap by_period (eq-eqb _ _ none)
+
+  pub with_period : (task.period ≡ 0 → ⊥) → task_refusal until k tasks task
+      ≡ refusal_of k (map (tested_job until) tasks) (tested_job until task)
+  with_period some = ap by_period (ne_eqb _ _ some)
+
+module _ (until : ℕ) (task : PeriodicTask) (rules : Rules) (tasks : List PeriodicTask) (old new : Declaration)
+    (keeps : KeepsDeclared until old rules tasks) (some : task.period ≡ 0 → ⊥) where
+  -- the ratio
+  ratio_is : rules.ratio ≡ old.admission.ratio
+  ratio_is = ap (λ (r : Rules). r.ratio) keeps.rules_are
+
+  -- what the tested job is answered
+  pub answered : (o : Option Refusal)
+      → refusal_of old.admission.ratio (map (tested_job until) tasks) (tested_job until task) ≡ o
+      → task_refusal until rules.ratio tasks task ≡ o
+  answered o is = with_period until task rules.ratio tasks some
+      ∙ ap (λ k. refusal_of k (map (tested_job until) tasks) (tested_job until task)) ratio_is ∙ is
+
+  -- the task is taken in
+  pub taken : refusal_of old.admission.ratio (map (tested_job until) tasks) (tested_job until task) ≡ None
+      → admission.StandsFor new.admission (map (tested_job until) tasks ++ tested_job until task ∷ [])
+      → new.admission.ratio ≡ old.admission.ratio → new.version ≡ old.version
+      → KeepsDeclared until new rules (tasks ++ task ∷ [])
+  taken none stands same version =
+      let above : rules.ratio.q ≤ rules.ratio.p = keeps.ratio.above_one in record {
+        rules_are = keeps.rules_are ∙ ap (λ k. rules_with k old.version) (sym same)
+            ∙ ap (rules_with new.admission.ratio) (sym version);
+        ratio = keeps.ratio;
+        tested = subst (admission.StandsFor new.admission)
+            (sym (map-append (tested_job until) tasks (task ∷ []))) stands;
+        are = tasks_more until rules.ratio tasks task above keeps.are (positive task.period some)
+            (ap (λ k. refusal_of k (map (tested_job until) tasks) (tested_job until task)) ratio_is ∙ none);
+      } where
+        positive : (n : ℕ) → (n ≡ 0 → ⊥) → 1 ≤ n
+        positive n more = omega arith
+
+  -- the tested job is answered by its numbers
+  pub took : (release : ℕ) (job : JobFacts) → release ≡ task.offset + (count_before until task - 1) * task.period
+      → refusal_of old.admission.ratio (map (tested_job until) tasks)
+      (job_of_numbers release task.work (release + task.deadline) task.value) ≡ None
+      → job ≡ job_of_numbers release task.work (release + task.deadline) task.value
+      → admission.StandsFor new.admission (map (tested_job until) tasks ++ job ∷ [])
+      → new.admission.ratio ≡ old.admission.ratio → new.version ≡ old.version
+      → (cause_under until (Some rules) tasks (Task task) ≡ None) × KeepsDeclared until new rules (tasks ++ task ∷ [])
+  took release job is none job_is stands same version =
+      let tested : job_of_numbers release task.work (release + task.deadline) task.value ≡ tested_job until task =
+      ap (λ r. job_of_numbers r task.work (r + task.deadline) task.value) is in
+      let free : refusal_of old.admission.ratio (map (tested_job until) tasks) (tested_job until task) ≡ None =
+      ap (λ j. refusal_of old.admission.ratio (map (tested_job until) tasks) j) (sym tested) ∙ none in (
+        ap (option_map NotAdmitted) (answered None free),
+        taken free (subst (λ j. admission.StandsFor new.admission (map (tested_job until) tasks ++ j ∷ []))
+            (job_is ∙ tested) stands)
+            same version,
+      )
+
+-- ---- the end line
+
+-- a text that has ended has a ratio
+pub none_ended : (intake : TaskIntake) → intake.declared ≡ None → (until : ℕ) (x : List ℕ)
+    → StandsAt until progress.Ended intake (account until x) → ⊥
+none_ended intake none until x it = let clash : true ≡ false = sym it.2
+    ∙ ap (λ (o : Option Declaration). is_some o) none in cc
+
+-- ---- the line of the ratio
+
+-- a ratio that is declared is within the limits
+declared_ratio : (k : Fraction) (version : Option ℕ) (rules : Rules) → declared_rules k version ≡ Some rules
+    → IsRatio rules.ratio
+declared_ratio k version rules is = by (is_ratio k) (declared_version version) refl is where
+  by : (b : Bool) (o : Option Version) → is_ratio k ≡ b → cond b (option_map (rules_with k) o) None ≡ Some rules
+      → IsRatio rules.ratio
+  by false o test none = none_is_some none
+  by true None test none = none_is_some none
+  by true (Some v) test some =
+      subst (λ (r : Rules). IsRatio r.ratio) (some_same (rules_with k v) rules some) ((is_ratio-agrees k).0 test)
+
+module _ (until : ℕ) (intake : TaskIntake) (a : TaskAccount) (p q : ℕ) (version : Option ℕ)
+    (keeps : KeepsAccount until intake a) where
+  -- the line
+  abbrev line : TaskLine
+  line = Declared p q version
+
+  -- it is declared already
+  pub declared_again : is_some intake.declared ≡ true
+      → StandsAt until (progress.Refused cause.Declared) intake
+      (with_line a line (cause_under until a.rules a.tasks line))
+  declared_again there = by intake.declared a.rules there keeps.rules where
+    by : (o : Option Declaration) (r : Option Rules) → is_some o ≡ true → KeepsRules until o r a.tasks
+        → (with_line a line (cause_under until r a.tasks line)).standing ≡ Faulty intake.lines feed.Declared
+    by None r there kept = absurd (let e : false ≡ true = there in cc)
+    by (Some d) None there kept = absurd kept
+    by (Some d) (Some rules) there kept = ap (λ n. Faulty n feed.Declared) (sym keeps.counted)
+
+  -- it may not be declared
+  pub not_declared : is_some intake.declared ≡ false → declared_rules (fraction p q) version ≡ None
+      → StandsAt until (progress.Refused cause.Declared) intake
+      (with_line a line (cause_under until a.rules a.tasks line))
+  not_declared first none = by intake.declared a.rules first keeps.rules where
+    by : (o : Option Declaration) (r : Option Rules) → is_some o ≡ false → KeepsRules until o r a.tasks
+        → (with_line a line (cause_under until r a.tasks line)).standing ≡ Faulty intake.lines feed.Declared
+    by (Some d) r there kept = absurd (let e : true ≡ false = there in cc)
+    by None (Some rules) there kept = absurd kept
+    by None None there kept = ap (λ o. (with_line a line (cond (is_some o) None (Some feed.Declared))).standing) none
+        ∙ ap (λ n. Faulty n feed.Declared) (sym keeps.counted)
+
+  -- it is declared
+  module _ (new : TaskIntake) (d : Declaration) (new_is : new.declared ≡ Some d) (until_is : new.until ≡ intake.until)
+      (lines_are : new.lines ≡ intake.lines) (tasks_are : new.tasks.items ≡ intake.tasks.items) where
+    pub now_declared : a.standing ≡ Open → is_some intake.declared ≡ false
+        → declared_rules (fraction p q) version ≡ Some (rules_with d.admission.ratio d.version)
+        → admission.StandsFor d.admission []
+        → StandsAt until progress.Open new (with_line a line (cause_under until a.rules a.tasks line))
+    now_declared opened first some stands = by intake.declared a.rules first keeps.rules where
+      rules : Rules
+      rules = rules_with d.admission.ratio d.version
+
+      kept_now : a.tasks ≡ [] → KeepsAccount until new (record a { rules = Some rules })
+      kept_now none = record {
+        until_is = until_is ∙ keeps.until_is;
+        known = keeps.known;
+        counted = lines_are ∙ keeps.counted;
+        tasks_are = tasks_are ∙ keeps.tasks_are;
+        rules = subst (λ o. KeepsRules until o (Some rules) a.tasks) (sym new_is) (record {
+          rules_are = refl;
+          ratio = declared_ratio (fraction p q) version rules some;
+          tested = subst (λ ts. admission.StandsFor d.admission (map (tested_job until) ts)) (sym none) stands;
+          are = subst (AreTasks until rules.ratio) (sym none) (no_tasks until rules.ratio);
+        });
+      }
+
+      by : (o : Option Declaration) (r : Option Rules) → is_some o ≡ false → KeepsRules until o r a.tasks
+          → StandsAt until progress.Open new (with_line a line (cause_under until r a.tasks line))
+      by (Some d) r there kept = absurd (let e : true ≡ false = there in cc)
+      by None (Some rules) there kept = absurd kept
+      by None None there kept =
+          subst (λ o. StandsAt until progress.Open new (with_line a line (cond (is_some o) None (Some feed.Declared))))
+          (sym some) (opened, subst (λ o. KeepsAccount until new (record a { rules = o })) (sym some) (kept_now kept))
+
+-- ---- the line of a task
+
+module _ (until : ℕ) (old new : TaskIntake) (a : TaskAccount) (task : PeriodicTask)
+    (keeps : KeepsAccount until old a) where
+  -- it is at fault
+  pub task_refused : (c : Fault) → new.lines ≡ old.lines
+      → cause_under until a.rules a.tasks (Task task) ≡ Some (cause_of_fault c)
+      → StandsAt until (progress.Refused c) new
+      (with_line a (Task task) (cause_under until a.rules a.tasks (Task task)))
+  task_refused c lines_are is = ap (λ o. (with_line a (Task task) o).standing) is
+      ∙ ap (λ n. Faulty n (cause_of_fault c)) (sym (lines_are ∙ keeps.counted))
+
+  -- it is taken in
+  pub task_added : a.standing ≡ Open → new.until ≡ old.until → new.lines ≡ old.lines
+      → new.tasks.items ≡ old.tasks.items ++ task ∷ []
+      → cause_under until a.rules a.tasks (Task task) ≡ None
+      → KeepsRules until new.declared a.rules (a.tasks ++ task ∷ [])
+      → StandsAt until progress.Open new (with_line a (Task task) (cause_under until a.rules a.tasks (Task task)))
+  task_added opened until_is lines_are tasks_are none rules =
+      subst (λ o. StandsAt until progress.Open new (with_line a (Task task) o)) (sym none) (
+        opened,
+        record {
+          until_is = until_is ∙ keeps.until_is;
+          known = keeps.known;
+          counted = lines_are ∙ keeps.counted;
+          tasks_are = tasks_are ∙ ap (λ ts. ts ++ task ∷ []) keeps.tasks_are;
+          rules = rules;
+        },
+      )
+
+-- ---- the line of the end
+
+module _ (until : ℕ) (intake : TaskIntake) (a : TaskAccount) (keeps : KeepsAccount until intake a) where
+  -- it ends the text
+  pub ended : is_some intake.declared ≡ true
+      → StandsAt until progress.Ended intake (with_line a End (cause_under until a.rules a.tasks End))
+  ended declared = by intake.declared a.rules declared keeps.rules where
+    by : (o : Option Declaration) (r : Option Rules) → is_some o ≡ true → KeepsRules until o r a.tasks
+        → StandsAt until progress.Ended intake (with_line a End (cause_under until r a.tasks End))
+    by None r there kept = absurd (let e : false ≡ true = there in cc)
+    by (Some d) None there kept = absurd kept
+    by (Some d) (Some rules) there kept = (
+      refl,
+      record {
+        until_is = keeps.until_is;
+        known = keeps.known;
+        counted = keeps.counted;
+        tasks_are = keeps.tasks_are;
+        rules = keeps.rules;
+      },
+      declared,
+    )
+
+  -- no ratio was declared before it
+  pub not_ended : is_some intake.declared ≡ false
+      → StandsAt until (progress.Refused cause.Declared) intake
+      (with_line a End (cause_under until a.rules a.tasks End))
+  not_ended first = by intake.declared a.rules first keeps.rules where
+    by : (o : Option Declaration) (r : Option Rules) → is_some o ≡ false → KeepsRules until o r a.tasks
+        → (with_line a End (cause_under until r a.tasks End)).standing ≡ Faulty intake.lines feed.Declared
+    by (Some d) r there kept = absurd (let e : true ≡ false = there in cc)
+    by None (Some rules) there kept = absurd kept
+    by None None there kept = ap (λ n. Faulty n feed.Declared) (sym keeps.counted)
+
+-- ---- a line
+
+-- nothing was read
+pub keeps_none : (until : ℕ) (intake : TaskIntake) → intake.until ≡ until → IsKnown until → intake.lines ≡ 0
+    → intake.declared ≡ None
+    → intake.tasks.items ≡ [] → Keeps until intake []
+keeps_none until intake until_is known lines none tasks = record {
+  few = omega (arith, lines);
+  stands = refl;
+  keeps = record {
+    until_is = until_is;
+    known = known;
+    counted = lines;
+    tasks_are = tasks;
+    rules = subst (λ o. KeepsRules until o None []) (sym none) refl;
+  };
+}
+
+module _ (until : ℕ) (old mid : TaskIntake) (ls : List (List ℕ)) (l : List ℕ) (keeps : Keeps until old ls)
+    (lines_are : mid.lines ≡ old.lines + 1)
+  where
+    -- the account in which it is counted
+    abbrev pub a : TaskAccount
+    a = counted (account_of_lines until ls)
+
+    -- what is kept of that
+    pub keeps_counted : mid.until ≡ old.until → mid.tasks.items ≡ old.tasks.items → mid.declared ≡ old.declared
+        → KeepsAccount until mid a
+    keeps_counted until_is tasks_are declared_is = record {
+      until_is = until_is ∙ keeps.keeps.until_is;
+      known = keeps.keeps.known;
+      counted = omega (arith, lines_are, keeps.keeps.counted);
+      tasks_are = tasks_are ∙ keeps.keeps.tasks_are;
+      rules = subst (λ o. KeepsRules until o (account_of_lines until ls).rules (account_of_lines until ls).tasks)
+          (sym declared_is)
+          keeps.keeps.rules;
+    }
+
+    -- with one of the forms
+    pub line_taken : (read : TaskLine) (p : Progress) (new : TaskIntake) → mid.lines ≤ most_lines
+        → task_line l ≡ Some read
+        → StandsAt until p new (with_line a read (cause_of until a read))
+        → StandsAt until p new (account_of_lines until (ls ++ l ∷ []))
+    line_taken read p new few is stands = subst (StandsAt until p new) (sym (next_of until ls l keeps.stands
+        ∙ line_as until a l (Some read) (omega (arith, few, lines_are, keeps.keeps.counted)) is)) stands
+
+    -- with none
+    pub line_bad : mid.lines ≤ most_lines → task_line l ≡ None
+        → StandsAt until (progress.Refused cause.Line) mid (account_of_lines until (ls ++ l ∷ []))
+    line_bad few is = ap (λ (b : TaskAccount). b.standing) (next_of until ls l keeps.stands
+        ∙ line_as until a l None (omega (arith, few, lines_are, keeps.keeps.counted)) is)
+        ∙ ap (λ n. Faulty n feed.Line)
+        (let e : a.lines ≡ mid.lines = omega (arith, lines_are, keeps.keeps.counted) in e)
+
+    -- one too many
+    pub line_many : most_lines < mid.lines
+        → StandsAt until (progress.Refused cause.Lines) mid (account_of_lines until (ls ++ l ∷ []))
+    line_many many = ap (λ (b : TaskAccount). b.standing) (next_of until ls l keeps.stands
+        ∙ many_lines until a l (omega (arith, many, lines_are, keeps.keeps.counted)))
+        ∙ ap (λ n. Faulty n feed.Lines)
+        (let e : a.lines ≡ mid.lines = omega (arith, lines_are, keeps.keeps.counted) in e)
+
+-- a text that goes on behind a line
+pub keeps_more : (until : ℕ) (new : TaskIntake) (ls : List (List ℕ)) → new.lines ≤ most_lines
+    → StandsAt until progress.Open new (account_of_lines until ls) → Keeps until new ls
+keeps_more until new ls few stands = record { few = few; stands = stands.0; keeps = stands.1 }

@@ -1,0 +1,4 @@
+pub mod Lines
+pub mod Account
+pub mod Keeping
+pub mod Record

@@ -1,0 +1,221 @@
+//! What is kept of a task text between its lines.
+ghost use Rattle.std.specs.Prelude.{◌≡◌, ℕ, List, ◌∷◌, ◌++◌, [], Option, Some, option_map};
+ghost use Rattle.std.specs.Bool.{then_some};
+ghost use Rattle.dover_model.specs.Fraction.{is_ratio};
+ghost use Rattle.dover_model.specs.Instance.{Rules};
+ghost use Rattle.dover_model.specs.Feed as feed;
+ghost use Rattle.dover_model.specs.Feed.{declared_rules, declared_version, rules_with};
+ghost use Rattle.periodic_tasks.specs.declared.task.PeriodicTask.{PeriodicTask};
+ghost use Rattle.task_reading.specs.Account.{TaskAccount, account_of_lines, cause_of, fraction, with_line};
+ghost use Rattle.task_reading.specs.Keeping.{IsKnown, Keeps, KeepsAccount, KeepsDeclared, KeepsRules, StandsAt, Takes};
+ghost use Rattle.task_reading.specs.Lines.{HasNumerals};
+ghost use Rattle.task_reading.specs.declared.lines.TaskLine.{TaskLine};
+ghost use Rattle.task_reading.specs.declared.intake.Progress.TheVariants as progress;
+ghost use Rattle.task_reading.specs.declared.lines.TaskLine.TheVariants as line;
+
+use crate::line_reading::read_task_line;
+use crate::lines::TaskLine;
+use admission::Admission;
+use dover_model::{Ratio, Version};
+use event_feed::Cause;
+use periodic_tasks::PeriodicTask;
+use std::alloc::Global;
+
+/// How many lines a task text may have, as many as a feed.
+const MOST_LINES: u64 = 4_000_000;
+
+/// How a task text stands after a line.
+#[derive(Clone, Copy, Debug, PartialEq, Eq)]
+pub(crate) enum Progress {
+    /// It goes on.
+    Open,
+    /// Its `end` line was read.
+    Ended,
+    /// The line is faulty.
+    Refused(Cause),
+    /// There was no memory for a task.
+    NoMemory,
+}
+
+/// The ratio of these numbers, if they are within its limits.
+fn ratio_of(p: u64, q: u64) -> Option<Ratio>
+    ensures { result ≡ then_some (is_ratio (fraction p q)) (fraction p q) }
+{
+    match (u32::try_from(p), u32::try_from(q)) {
+        (Ok(p), Ok(q)) => Ratio::new(p, q),
+        _ => None,
+    }
+}
+
+/// The version of this number: none stands for One.
+fn version_of(number: Option<u64>) -> Option<Version>
+    ensures { result ≡ declared_version number }
+{
+    match number {
+        None => Some(Version::One),
+        Some(2) => Some(Version::Two),
+        Some(_) => None,
+    }
+}
+
+/// The ratio and the version that these numbers declare.
+fn declared(p: u64, q: u64, version: Option<u64>) -> Option<(Ratio, Version)>
+    ensures { option_map (λ declared. rules_with declared.0 declared.1) result ≡ declared_rules (fraction p q) version }
+{
+    let ratio = ratio_of(p, q)?;
+    let version = version_of(version)?;
+    Some((ratio, version))
+}
+
+/// The ratio and the version, and of the tasks so far what the next one needs.
+#[derive(Drop)]
+pub(crate) struct Declaration {
+    pub(crate) version: Version,
+    pub(crate) admission: Admission,
+}
+
+impl Declaration {
+    /// Takes a task in behind the others, or says why it can't be: the first cause that holds.
+    fn take(&mut self, task: &PeriodicTask, until: u64) -> Result<(), Cause>
+        requires known { IsKnown until }
+        requires short { HasNumerals (line.Task task.now) }
+        ensures { (rules : Rules) (tasks : List PeriodicTask) → KeepsDeclared until self.old rules tasks →
+            Takes until task.now (Some rules) tasks (Some self.new) result }
+    {
+        if task.period == 0 {
+            return Err(Cause::BadJob);
+        }
+        let release = task.last_release(until);
+        match self
+            .admission
+            .check(release, task.work, release + task.deadline, task.value)
+        {
+            Ok(job) => {
+                self.admission.admit(job);
+                Ok(())
+            }
+            Err(refused) => Err(Cause::of(refused)),
+        }
+    }
+}
+
+/// Takes a task in behind the others, or says why it can't be: before the ratio is declared no task can.
+fn take_in(declared: &mut Option<Declaration>, task: &PeriodicTask, until: u64) -> Result<(), Cause>
+    requires known { IsKnown until }
+    requires short { HasNumerals (line.Task task.now) }
+    ensures { (rules : Option Rules) (tasks : List PeriodicTask) → KeepsRules until declared.old rules tasks →
+        Takes until task.now rules tasks declared.new result }
+{
+    match declared {
+        Some(declared) => declared.take(task, until),
+        None => Err(Cause::Declared),
+    }
+}
+
+/// What is kept of a task text: up to which tick jobs are released, how many lines came, what the first one declared,
+/// and the tasks.
+#[derive(Drop)]
+pub(crate) struct TaskIntake {
+    pub(crate) until: u64,
+    pub(crate) lines: u64,
+    pub(crate) declared: Option<Declaration>,
+    pub(crate) tasks: Vec<PeriodicTask>,
+}
+
+impl TaskIntake {
+    /// No line came yet.
+    pub(crate) fn new(alloc: Global, until: u64) -> TaskIntake
+        requires { IsKnown until }
+        ensures { Keeps until result [] }
+    {
+        TaskIntake {
+            until,
+            lines: 0,
+            declared: None,
+            tasks: Vec::new(alloc),
+        }
+    }
+
+    /// The line of a ratio, which is counted.
+    fn declare(&mut self, p: u64, q: u64, version: Option<u64>) -> Progress
+        ensures stands { (until : ℕ) (a : TaskAccount) → a.standing ≡ feed.Open → KeepsAccount until self.old a →
+            StandsAt until result self.new (with_line a (line.Declared p q version) (cause_of until a (line.Declared p q version))) }
+        ensures lines { self.new.lines ≡ self.old.lines }
+    {
+        if self.declared.is_some() {
+            return Progress::Refused(Cause::Declared);
+        }
+        match declared(p, q, version) {
+            Some((ratio, version)) => {
+                self.declared = Some(Declaration {
+                    version,
+                    admission: Admission::new(ratio),
+                });
+                Progress::Open
+            }
+            None => Progress::Refused(Cause::Declared),
+        }
+    }
+
+    /// The line of a task, which is counted.
+    fn add(&mut self, task: PeriodicTask) -> Progress
+        requires known { IsKnown self.old.until }
+        requires short { HasNumerals (line.Task task) }
+        ensures stands { (until : ℕ) (a : TaskAccount) → a.standing ≡ feed.Open → KeepsAccount until self.old a →
+            StandsAt until result self.new (with_line a (line.Task task) (cause_of until a (line.Task task))) }
+        ensures lines { self.new.lines ≡ self.old.lines }
+    {
+        match take_in(&mut self.declared, &task, self.until) {
+            Ok(()) => {}
+            Err(cause) => return Progress::Refused(cause),
+        }
+        match self.tasks.push(task) {
+            Ok(()) => Progress::Open,
+            Err(_) => Progress::NoMemory,
+        }
+    }
+
+    /// The line of the end, which is counted.
+    fn end(&self) -> Progress
+        ensures { (until : ℕ) (a : TaskAccount) → a.standing ≡ feed.Open → KeepsAccount until self.now a →
+            StandsAt until result self.now (with_line a line.End (cause_of until a line.End)) }
+    {
+        if self.declared.is_none() {
+            return Progress::Refused(Cause::Declared);
+        }
+        Progress::Ended
+    }
+
+    /// A line that has one of the forms, which is counted.
+    fn take(&mut self, read: TaskLine) -> Progress
+        requires known { IsKnown self.old.until }
+        requires short { HasNumerals read }
+        ensures stands { (until : ℕ) (a : TaskAccount) → a.standing ≡ feed.Open → KeepsAccount until self.old a →
+            StandsAt until result self.new (with_line a read (cause_of until a read)) }
+        ensures lines { self.new.lines ≡ self.old.lines }
+    {
+        match read {
+            TaskLine::Declared { p, q, version } => self.declare(p, q, version),
+            TaskLine::Task(task) => self.add(task),
+            TaskLine::End => self.end(),
+        }
+    }
+
+    /// Takes a line of the text.
+    pub(crate) fn take_line(&mut self, line: &[u8]) -> Progress
+        requires { (until : ℕ) × (ls : List (List ℕ)) × Keeps until self.old ls }
+        ensures stands { (until : ℕ) (ls : List (List ℕ)) → Keeps until self.old ls →
+            StandsAt until result self.new (account_of_lines until (ls ++ line.now ∷ [])) }
+        ensures keeps { (until : ℕ) (ls : List (List ℕ)) → Keeps until self.old ls → result ≡ progress.Open →
+            Keeps until self.new (ls ++ line.now ∷ []) }
+    {
+        self.lines += 1;
+        if self.lines > MOST_LINES {
+            return Progress::Refused(Cause::Lines);
+        }
+        match read_task_line(line) {
+            Ok(read) => self.take(read),
+            Err(_) => Progress::Refused(Cause::Line),
+        }
+    }
+}

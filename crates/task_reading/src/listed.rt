@@ -1,0 +1,11 @@
+//! The tasks of a text.
+use dover_model::{Ratio, Version};
+use periodic_tasks::PeriodicTask;
+
+/// The ratio and the version that the first line of a task text declared, and the tasks since, in order.
+#[derive(Drop)]
+pub struct ListedTasks {
+    pub ratio: Ratio,
+    pub version: Version,
+    pub tasks: Vec<PeriodicTask>,
+}

@@ -1,0 +1,63 @@
+//! What is kept of a task text between its bytes.
+ghost use Rattle.std.specs.Prelude.{◌≡◌, ◌∷◌, ◌++◌, ℕ, List, []};
+ghost use Rattle.task_reading.specs.Account.{account};
+ghost use Rattle.task_reading.specs.Keeping.{IsKnown, StandsAt, TextStands};
+ghost use Rattle.task_reading.specs.declared.intake.Progress.TheVariants.{Open};
+
+use crate::intake::{Progress, TaskIntake};
+use line_text::{Lines, Step};
+use std::alloc::Global;
+
+/// What is kept of a task text: the line that has begun, and what the lines before it said.
+#[derive(Drop)]
+pub(crate) struct TaskText {
+    pub(crate) lines: Lines,
+    pub(crate) intake: TaskIntake,
+}
+
+impl TaskText {
+    /// Nothing was read yet.
+    pub(crate) fn new(alloc: Global, until: u64) -> TaskText
+        requires { IsKnown until }
+        ensures { TextStands until result [] }
+    {
+        TaskText {
+            lines: Lines::new(),
+            intake: TaskIntake::new(alloc, until),
+        }
+    }
+
+    /// Takes a byte of the text.
+    fn take_byte(&mut self, byte: u8) -> Progress
+        requires { (until : ℕ) × (x : List ℕ) × TextStands until self.old x }
+        ensures at { (until : ℕ) (x : List ℕ) → TextStands until self.old x →
+            StandsAt until result self.new.intake (account until (x ++ byte ∷ [])) }
+        ensures stands { (until : ℕ) (x : List ℕ) → TextStands until self.old x → result ≡ Open
+            → TextStands until self.new (x ++ byte ∷ []) }
+    {
+        match self.lines.push(byte) {
+            Step::More => Progress::Open,
+            Step::Line => self.intake.take_line(self.lines.line()),
+            Step::TooLong => self.intake.take_line(self.lines.line()),
+        }
+    }
+
+    /// Takes a piece of the text, up to a line that ends it or is faulty.
+    pub(crate) fn take_piece(&mut self, bytes: &[u8]) -> Progress
+        requires { (until : ℕ) × (x : List ℕ) × TextStands until self.old x }
+        ensures at { (until : ℕ) (x : List ℕ) → TextStands until self.old x →
+            StandsAt until result self.new.intake (account until (x ++ bytes.now)) }
+        ensures stands { (until : ℕ) (x : List ℕ) → TextStands until self.old x → result ≡ Open
+            → TextStands until self.new (x ++ bytes.now) }
+    {
+        for byte in bytes {
+            match self.take_byte(*byte) {
+                Progress::Open => {}
+                Progress::Ended => return Progress::Ended,
+                Progress::Refused(cause) => return Progress::Refused(cause),
+                Progress::NoMemory => return Progress::NoMemory,
+            }
+        }
+        Progress::Open
+    }
+}

@@ -1,0 +1,272 @@
+ghost use Rattle.std.specs.Prelude.{◌≡◌, ◌<◌};
+
+use dover_port::{Calls, MemoryPort, Status};
+use dover_top::dover;
+use std::alloc::{AllocError, Global};
+use std::marker::Brand;
+use std::sync::ledger::{Blank, Ledger};
+use std::test::Fail;
+use step_count::Steps;
+
+/// The tick up to which jobs are released, a task text, how `unroll` ends, and what it writes.
+const ROWS: [(&str, &str, Status, &str); 27] = [
+    // The prototype's tasks.
+    ("130", CAMERA, Status::Done, CAMERA_FEED),
+    ("0", CAMERA, Status::Done, "k 100 1\nend\n"),
+    ("1", CAMERA, Status::Done, "k 100 1\njob 0 60 90 60\nend\n"),
+    // No task; what follows `end` is disregarded; version Two.
+    ("9", "k 3 2\nend\n", Status::Done, "k 3 2\nend\n"),
+    ("9", "k 3 2 2\nend\njunk", Status::Done, "k 3 2 2\nend\n"),
+    // Ties go by the order of the tasks, and not by number or deadline.
+    (
+        "7",
+        "k 9 1\ntask 4 2 1 9 1\ntask 0 4 1 3 1\ntask 6 9 1 1 1\nend\n",
+        Status::Done,
+        "k 9 1\njob 0 1 3 1\njob 4 1 13 1\njob 4 1 7 1\njob 6 1 15 1\njob 6 1 7 1\nend\n",
+    ),
+    // A period of 0, a deadline below the work, no work, no value, too much value.
+    (
+        "9",
+        "k 1 1\ntask 0 0 1 1 1\nend\n",
+        Status::Refused,
+        "refused 2 job\n",
+    ),
+    (
+        "9",
+        "k 1 1\ntask 0 5 2 1 2\nend\n",
+        Status::Refused,
+        "refused 2 job\n",
+    ),
+    (
+        "9",
+        "k 1 1\ntask 0 5 0 1 1\nend\n",
+        Status::Refused,
+        "refused 2 job\n",
+    ),
+    (
+        "9",
+        "k 1 1\ntask 0 5 1 1 0\nend\n",
+        Status::Refused,
+        "refused 2 job\n",
+    ),
+    (
+        "9",
+        "k 1 1\ntask 0 5 1 1 1000000001\nend\n",
+        Status::Refused,
+        "refused 2 job\n",
+    ),
+    // The last job before the tick has its deadline at the last tick, or past it.
+    (
+        "1000000000000",
+        "k 1 1\ntask 5 999999999989 1 6 1\nend\n",
+        Status::Done,
+        "k 1 1\njob 5 1 11 1\njob 999999999994 1 1000000000000 1\nend\n",
+    ),
+    (
+        "1000000000000",
+        "k 1 1\ntask 5 999999999989 1 7 1\nend\n",
+        Status::Refused,
+        "refused 2 job\n",
+    ),
+    // A task that releases no job before the tick is tested by its first.
+    (
+        "5",
+        "k 1 1\ntask 5 999999999999999999 1 999999999996 1\nend\n",
+        Status::Refused,
+        "refused 2 job\n",
+    ),
+    // The first task that breaks the ratio with one before it.
+    (
+        "9",
+        "k 2 1\ntask 0 5 1 9 1\ntask 0 5 1 9 2\ntask 0 5 1 9 3\nend\n",
+        Status::Refused,
+        "refused 4 ratio\n",
+    ),
+    // Sizes, by arithmetics: 1,000,000 jobs are few enough to be counted, and 10,000 jobs of the greatest value are
+    // worth the most.
+    (
+        "1000001",
+        "k 1 1\ntask 0 1 1 1 1\nend\n",
+        Status::Refused,
+        "refused size\n",
+    ),
+    (
+        "1000000000000",
+        "k 1 1\ntask 0 1 1 1 1\nend\n",
+        Status::Refused,
+        "refused size\n",
+    ),
+    (
+        "10001",
+        "k 1 1\ntask 0 1 1 1 1000000000\nend\n",
+        Status::Refused,
+        "refused size\n",
+    ),
+    // Forms.
+    ("9", "", Status::Refused, "refused 1 short\n"),
+    ("9", "end\n", Status::Refused, "refused 1 declared\n"),
+    ("9", "k 1 2\nend\n", Status::Refused, "refused 1 declared\n"),
+    (
+        "9",
+        "k 1 1\nk 1 1\n",
+        Status::Refused,
+        "refused 2 declared\n",
+    ),
+    (
+        "9",
+        "k 1 1\njob 0 1 1 1\n",
+        Status::Refused,
+        "refused 2 line\n",
+    ),
+    (
+        "9",
+        "k 1 1\ntask 0 01 1 1 1\n",
+        Status::Refused,
+        "refused 2 line\n",
+    ),
+    (
+        "9",
+        "k 1 1\ntask 0 1 1 1\n",
+        Status::Refused,
+        "refused 2 line\n",
+    ),
+    (
+        "9",
+        "k 1 1\ntask 0 1 1 1 1\nend",
+        Status::Refused,
+        "refused 3 short\n",
+    ),
+    ("9", LONG, Status::Refused, "refused 2 line\n"),
+];
+
+/// Four tasks of a camera.
+const CAMERA: &str = "k 100 1
+task 0 100 60 90 60\ntask 10 40 5 20 25\ntask 65 150 10 10 1000\ntask 120 200 40 50 40
+end
+";
+
+/// Their feed up to tick 130.
+const CAMERA_FEED: &str = "k 100 1
+job 0 60 90 60\njob 10 5 30 25\njob 50 5 70 25\njob 65 10 75 1000\njob 90 5 110 25\njob 100 60 190 60\njob 120 40 170 40
+end
+";
+
+/// A line that is too long, and doesn't end.
+const LONG: &str = "k 1 1
+000000000000000000000000000000000000000000000000000000000000000000000000000000000000000000000000000000000000000000000000000000000";
+
+/// Words that ask for nothing.
+const WRONG: [&str; 6] = ["01", "1000000000001", "-1", "", "x", "1 "];
+
+fn answer_in<L: Ledger>(
+    rt: &HostRuntime,
+    words: &[String],
+    port: &mut MemoryPort,
+    blank: Blank,
+) -> Status
+    requires name { blank.name ≡ L.name }
+    requires parts { blank.parts ≡ L.parts }
+    requires some { 0 < blank.parts }
+{
+    let mut steps = Steps::<L>::new(rt.memory(), blank);
+    dover(rt.alloc(), words, port, &mut steps)
+}
+
+/// What the words answer over a port.
+fn answer(rt: &HostRuntime, texts: &[&'static str], port: &mut MemoryPort) -> Result<Status, Fail> {
+    let mut words = Vec::new(rt.alloc());
+    for text in texts {
+        words.push(String::from_str(rt.alloc(), text)?)?;
+    }
+    Ok(answer_in::<Brand>(rt, &words, port, Blank::new(1)))
+}
+
+/// The bytes in pieces of so many.
+fn pieces(alloc: Global, bytes: &[u8], size: usize) -> Result<Vec<Vec<u8>>, AllocError> {
+    let mut pieces = Vec::new(alloc);
+    let mut piece = Vec::new(alloc);
+    for byte in bytes {
+        piece.push(*byte)?;
+        if piece.len() >= size {
+            pieces.push(piece)?;
+            piece = Vec::new(alloc);
+        }
+    }
+    pieces.push(piece)?;
+    Ok(pieces)
+}
+
+/// A port over the bytes in pieces of so many. The read and the write of these numbers fail, from 1 on.
+fn port(
+    alloc: Global,
+    bytes: &[u8],
+    size: usize,
+    read: u32,
+    write: u32,
+) -> Result<MemoryPort, Fail> {
+    Ok(MemoryPort::new(
+        alloc,
+        pieces(alloc, bytes, size)?,
+        vec![in alloc; read]?,
+        vec![in alloc; write]?,
+        4096,
+        4096,
+    )?)
+}
+
+#[test]
+fn tasks_and_their_feeds(rt: HostRuntime) -> Result<(), Fail> {
+    let alloc = rt.alloc();
+    for (until, text, status, written) in ROWS {
+        for size in [4096, 1, 7] {
+            let mut port = port(alloc, text.as_bytes(), size, 0, 0)?;
+            let ended = answer(&rt, &["unroll", until], &mut port)?;
+            assert!(rt; ended == status && port.written() == written.as_bytes());
+        }
+    }
+    Ok(())
+}
+
+#[test]
+fn what_is_unrolled_is_served(rt: HostRuntime) -> Result<(), Fail> {
+    let alloc = rt.alloc();
+    for (until, text, status, _) in ROWS {
+        let mut tasks = port(alloc, text.as_bytes(), 4096, 0, 0)?;
+        let ended = answer(&rt, &["unroll", until], &mut tasks)?;
+        let mut feed = port(alloc, tasks.written(), 4096, 0, 0)?;
+        let served = answer(&rt, &["serve"], &mut feed)?;
+        assert!(rt; ended == status && (served == Status::Done) == (status == Status::Done));
+    }
+    Ok(())
+}
+
+#[test]
+fn calls_that_fail(rt: HostRuntime) -> Result<(), Fail> {
+    let alloc = rt.alloc();
+    let mut unread = port(alloc, CAMERA.as_bytes(), 16, 3, 0)?;
+    let ended = answer(&rt, &["unroll", "130"], &mut unread)?;
+    assert!(rt;
+        ended == Status::ReadFault
+            && unread.written().is_empty()
+            && unread.calls() == Calls::LastFailed
+    );
+    let mut unwritten = port(alloc, CAMERA.as_bytes(), 16, 0, 1)?;
+    let ended = answer(&rt, &["unroll", "130"], &mut unwritten)?;
+    assert!(rt;
+        ended == Status::WriteFault
+            && unwritten.written().is_empty()
+            && unwritten.calls() == Calls::LastFailed
+    );
+    Ok(())
+}
+
+#[test]
+fn wrong_words(rt: HostRuntime) -> Result<(), Fail> {
+    let alloc = rt.alloc();
+    for until in WRONG {
+        let mut port = port(alloc, CAMERA.as_bytes(), 4096, 0, 0)?;
+        let ended = answer(&rt, &["unroll", until], &mut port)?;
+        assert!(rt; ended == Status::Usage && port.taken().is_empty());
+    }
+    Ok(())
+}

@@ -1,0 +1,10 @@
+//! The word `unroll`: periodic tasks are read, and the feed of their jobs is written.
+#![tactic(auto)]
+
+mod answering;
+mod feeds;
+mod refusing;
+mod word;
+
+pub use feeds::feeds_of_jobs_are_read;
+pub use word::unroll_word;

@@ -1,0 +1,41 @@
+//! The word.
+ghost use Rattle.dover_port.specs.Causes.{Causes, IsAnswer, StopsWith};
+ghost use Rattle.dover_port.specs.Moves.{Since};
+ghost use Rattle.task_reading.specs.Keeping.{IsKnown};
+ghost use Rattle.unroll_word.specs.Record.{Tells};
+
+use crate::answering::answer;
+use crate::refusing::refuse;
+use dover_port::{Port, Status};
+use std::alloc::Global;
+use std::sync::ledger::Ledger;
+use step_count::Steps;
+use task_reading::{Reading, read_tasks};
+
+/// Unrolls periodic tasks: reads a task text to its end, and then writes the feed of all jobs that its tasks release
+/// before the tick `until`, at most
+/// 10^12, in order of release, and those of one tick in the order of the tasks. The feed has no fault. A text with a
+/// fault, or that ends too
+/// early, is refused, and so are tasks with more than 1,000,000 jobs, or whose jobs are worth more than 10^13. Memory
+/// is taken for each task
+/// alone, and none once the first byte is written.
+pub fn unroll_word<P: Port, L: Ledger>(
+    alloc: Global,
+    port: &mut P,
+    until: u64,
+    steps: &mut Steps<L>,
+) -> Status
+    requires { IsKnown until }
+    ensures tells { Since (P.moves port.old) (P.moves port.new) (Tells until result) }
+    ensures answer { IsAnswer result }
+    ensures causes { Causes result (P.read_faults port.old) (P.read_faults port.new) (P.write_faults port.old)
+        (P.write_faults port.new) }
+    ensures stops { StopsWith result (P.calls port.old) (P.calls port.new) }
+{
+    match read_tasks(alloc, port, until) {
+        Reading::Ended(listed) => answer(alloc, port, listed, until, steps),
+        Reading::Refused(fault) => refuse(port, fault),
+        Reading::Unread => Status::ReadFault,
+        Reading::NoMemory => Status::Memory,
+    }
+}
