@@ -1,5 +1,6 @@
 -- A snapshot whose last line is still to come has few lines, and few bytes.
-use Rattle.std.proofs.Common.{◌≡◌, ◌<◌, ◌≤◌, ℕ, List, [], ◌∷◌, ◌++◌, length, refl, sym, ap, ◌∙◌, subst, Bool, true, false, cond, arith, Option, Some, None}
+use Rattle.std.proofs.Common.{◌≡◌, ◌<◌, ◌≤◌, ℕ, List, [], ◌∷◌, ◌++◌, length, refl, sym, ap, ◌∙◌, subst, Bool, true}
+use Rattle.std.proofs.Common.{false, cond, arith, Option, Some, None}
 use Rattle.std.specs.List.{fold}
 use Rattle.std.proofs.lemmas.Bool.{ltb-false}
 use Rattle.std.proofs.lemmas.List.{append-nil, length-map}
@@ -20,12 +21,14 @@ refused_stays : (at : ℕ) (ls : List (List ℕ)) → fold next_line (Refused at
 refused_stays at [] = refl
 refused_stays at (l ∷ ls) = refused_stays at ls
 
-pub taken_stays : (h : Head) (tasks : List Task) (ls : List (List ℕ)) → fold next_line (Taken h tasks) ls ≡ Taken h tasks
+pub taken_stays : (h : Head) (tasks : List Task) (ls : List (List ℕ))
+    → fold next_line (Taken h tasks) ls ≡ Taken h tasks
 taken_stays h tasks [] = refl
 taken_stays h tasks (l ∷ ls) = taken_stays h tasks ls
 
 -- where the reading goes on, no line was too long
-short_lines : (ls : List (List ℕ)) (r : Reading) (h : Head) (tasks : List Task) → fold next_line r ls ≡ Going h tasks → AreNotTooLong ls
+short_lines : (ls : List (List ℕ)) (r : Reading) (h : Head) (tasks : List Task) → fold next_line r ls ≡ Going h tasks
+    → AreNotTooLong ls
 short_lines [] r h tasks goes = tt
 short_lines (l ∷ ls) r h tasks goes = (by (is_too_long l) refl, short_lines ls (next_line r l) h tasks goes) where
   never_taken : (g : Head) (ts : List Task) → r ≡ Taken g ts → ⊥
@@ -36,26 +39,39 @@ short_lines (l ∷ ls) r h tasks goes = (by (is_too_long l) refl, short_lines ls
   by false fits = ltb-false _ _ fits
   by true long =
       let it : IsRefused (next_line r l) = long_refused r l long never_taken in
-      absurd (let clash : Refused it.0 ≡ Going h tasks = sym (ap (λ q. fold next_line q ls) it.1 ∙ refused_stays it.0 ls) ∙ goes in cc)
+      absurd (let clash : Refused it.0 ≡ Going h tasks =
+      sym (ap (λ q. fold next_line q ls) it.1 ∙ refused_stays it.0 ls) ∙ goes in cc)
 
 -- it has few lines
-pub reading_few : (o : Option Resuming) (ls : List (List ℕ)) → IsReading o ls → AreNotTooLong ls × (length ls ≤ 1_000_001)
+pub reading_few : (o : Option Resuming) (ls : List (List ℕ)) → IsReading o ls → AreNotTooLong ls
+    × (length ls ≤ 1_000_001)
 reading_few None ls none = (subst AreNotTooLong (sym none) tt, omega (arith, ap length none))
 reading_few (Some r) ls it =
     let limits : Within it.0 = within it.0 it.2.limits in
-    let jobs : it.0.jobs ≤ 1_000_000 = limits.jobs in
-    (short_lines ls Begun it.0 it.1 it.2.reads, omega (arith, ap length it.2.text, length-map it.1 (λ (t : Task). state_line t), it.2.count, jobs))
+    let jobs : it.0.jobs ≤ 1_000_000 = limits.jobs in (
+      short_lines ls Begun it.0 it.1 it.2.reads,
+      omega (arith, ap length it.2.text, length-map it.1 (λ (t : Task). state_line t), it.2.count, jobs),
+    )
 
 -- and few bytes
-pub reading_bytes : (o : Option Resuming) (x : List ℕ) → IsReading o (lines_of x) → is_too_long (rest_of x) ≡ false → length x < 129_000_258
+pub reading_bytes : (o : Option Resuming) (x : List ℕ) → IsReading o (lines_of x) → is_too_long (rest_of x) ≡ false
+    → length x < 129_000_258
 reading_bytes o x it short =
-    let whole : lines_of x ≡ whole_lines x = ap (λ b. whole_lines x ++ cond b (rest_of x ∷ []) []) short ∙ append-nil (whole_lines x) in
+    let whole : lines_of x ≡ whole_lines x = ap (λ b. whole_lines x ++ cond b (rest_of x ∷ []) []) short
+    ∙ append-nil (whole_lines x) in
     let few = reading_few o (lines_of x) it in
-    omega (arith, text_few x 1_000_001 (subst AreNotTooLong whole few.0) (omega (arith, few.1, ap length whole)) (ltb-false _ _ short))
+    omega (
+      arith,
+      text_few x 1_000_001 (subst AreNotTooLong whole few.0) (omega (arith, few.1, ap length whole))
+          (ltb-false _ _ short),
+    )
 
 -- so what follows its whole lines has a small number, the one behind the cutter's count
-pub next_number : (o : Opening) (x : List ℕ) → OpeningStands o x → (length (whole_lines x) ≤ 1_000_001) × (o.lines.count ≡ length (whole_lines x))
+pub next_number : (o : Opening) (x : List ℕ) → OpeningStands o x → (length (whole_lines x) ≤ 1_000_001)
+    × (o.lines.count ≡ length (whole_lines x))
 next_number o x it =
-    let lines : lines_of x ≡ whole_lines x = ap (λ b. whole_lines x ++ cond b (rest_of x ∷ []) []) it.short ∙ append-nil (whole_lines x) in
-    let few : length (whole_lines x) ≤ 1_000_001 = omega (arith, (reading_few o.reader (lines_of x) it.reads).1, ap length lines) in
+    let lines : lines_of x ≡ whole_lines x = ap (λ b. whole_lines x ++ cond b (rest_of x ∷ []) []) it.short
+    ∙ append-nil (whole_lines x) in
+    let few : length (whole_lines x) ≤ 1_000_001 =
+    omega (arith, (reading_few o.reader (lines_of x) it.reads).1, ap length lines) in
     (few, omega (arith, it.cut.count, few))

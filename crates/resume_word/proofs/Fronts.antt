@@ -1,5 +1,7 @@
--- The bytes of a snapshot and of what follows it: no front of them is refused, and all of them are no part of a snapshot.
-use Rattle.std.proofs.Common.{◌≡◌, ◌⊎◌, ◌<◌, ℕ, List, [], ◌∷◌, ◌++◌, append_assoc, append-nil, length, refl, sym, ap, ◌∙◌, Bool, true, false, cond, inl, inr, arith}
+-- The bytes of a snapshot and of what follows it: no front of them is refused, and all of them are no part of a
+-- snapshot.
+use Rattle.std.proofs.Common.{◌≡◌, ◌⊎◌, ◌<◌, ℕ, List, [], ◌∷◌, ◌++◌, append_assoc, append-nil, length, refl, sym, ap}
+use Rattle.std.proofs.Common.{◌∙◌, Bool, true, false, cond, inl, inr, arith}
 use Rattle.std.specs.List.{fold}
 use Rattle.std.proofs.lemmas.Bool.{ltb-true, lt-ltb}
 use Rattle.std.proofs.lemmas.List.{length-append}
@@ -48,14 +50,16 @@ module _ (F : List ℕ) (may : MayPause F) where
   -- a snapshot has no rest
   no_rest : rest_of (snapshot F) ≡ []
   no_rest = let S = named F may in
-      ap rest_of (snapshot_is F may S.0 S.1) ∙ rest_joined (snapshot_lines (account F) S.0) (lines_feedless F may S.0 S.1)
+      ap rest_of (snapshot_is F may S.0 S.1)
+      ∙ rest_joined (snapshot_lines (account F) S.0) (lines_feedless F may S.0 S.1)
 
   -- with what follows it, it is taken
   taken : (H : List ℕ) → (h : Head) × (ts : List Task) × (reading_of (lines_of (snapshot F ++ H)) ≡ Taken h ts)
   taken H = let it = snapshot_whole F may in (
     it.0,
     it.1,
-    ap reading_of (lines_behind (snapshot F) no_rest H) ∙ fold-append next_line Begun (lines_of (snapshot F)) (lines_of H)
+    ap reading_of (lines_behind (snapshot F) no_rest H)
+        ∙ fold-append next_line Begun (lines_of (snapshot F)) (lines_of H)
         ∙ ap (λ r. fold next_line r (lines_of H)) (ap reading_of (lines_whole (snapshot F) no_rest []) ∙ it.2.reads)
         ∙ taken_stays it.0 it.1 (lines_of H),
   )
@@ -66,33 +70,43 @@ module _ (F : List ℕ) (may : MayPause F) where
       absurd (let clash : false ≡ true = sym (ap is_part (ap (λ y. reading_of (lines_of y)) is ∙ it.2)) ∙ part in cc)
 
   -- a front of the snapshot
-  module _ (front e : List ℕ) (at : ℕ) (is : snapshot F ≡ front ++ e) (refused : reading_of (lines_of front) ≡ Refused at) where
+  module _ (front e : List ℕ) (at : ℕ) (is : snapshot F ≡ front ++ e)
+      (refused : reading_of (lines_of front) ≡ Refused at) where
     all : whole_lines (snapshot F) ≡ whole_lines front ++ (onto (rest_of front) (cut e)).0
     all = ap whole_lines is ∙ ap (λ (c : CutText). c.0) (cut_append front e)
 
     none_left : (onto (rest_of front) (cut e)).1 ≡ []
     none_left = sym (ap rest_of is ∙ ap (λ (c : CutText). c.1) (cut_append front e)) ∙ no_rest
 
-    lines_are : (b : Bool) → is_too_long (rest_of front) ≡ b → lines_of front ≡ whole_lines front ++ cond b (rest_of front ∷ []) []
+    lines_are : (b : Bool) → is_too_long (rest_of front) ≡ b
+        → lines_of front ≡ whole_lines front ++ cond b (rest_of front ∷ []) []
     lines_are b e = ap (λ b. whole_lines front ++ cond b (rest_of front ∷ []) []) e
 
     -- its whole lines aren't the whole snapshot, where a line too long has begun
-    never_taken : is_too_long (rest_of front) ≡ true → (h : Head) (ts : List Task) → reading_of (whole_lines front) ≡ Taken h ts → ⊥
+    never_taken : is_too_long (rest_of front) ≡ true → (h : Head) (ts : List Task)
+        → reading_of (whole_lines front) ≡ Taken h ts → ⊥
     never_taken long h ts it = absurd (let clash : Taken h ts ≡ Refused at =
         sym (ap reading_of (lines_are true long) ∙ fold-append next_line Begun (whole_lines front) (rest_of front ∷ [])
         ∙ ap (λ r. next_line r (rest_of front)) it) ∙ refused in cc)
 
     -- the line that goes on from one that is too long is too long
     longer : is_too_long (rest_of front) ≡ true → (l : List ℕ) → is_too_long (rest_of front ++ l) ≡ true
-    longer long l = let above : 128 < length (rest_of front) = ltb-true _ _ long in lt-ltb 128 (length (rest_of front ++ l)) (omega (arith, above, length-append (rest_of front) l))
+    longer long l = let above : 128 < length (rest_of front) = ltb-true _ _ long in
+        lt-ltb 128 (length (rest_of front ++ l)) (omega (arith, above, length-append (rest_of front) l))
 
     front_never : ⊥
     front_never = by (is_too_long (rest_of front)) refl where
-      by_cut : is_too_long (rest_of front) ≡ true → (c : CutText) → whole_lines (snapshot F) ≡ whole_lines front ++ (onto (rest_of front) c).0
+      by_cut : is_too_long (rest_of front) ≡ true → (c : CutText)
+          → whole_lines (snapshot F) ≡ whole_lines front ++ (onto (rest_of front) c).0
           → (onto (rest_of front) c).1 ≡ [] → ⊥
       by_cut long ([], r) whole left =
           let above : 128 < length (rest_of front) = ltb-true _ _ long in
-          absurd (omega (arith, above, length-append (rest_of front) r, ap length (sym (ap (λ (c : CutText). c.1) (onto_none (rest_of front) r)) ∙ left)))
+          absurd (omega (
+            arith,
+            above,
+            length-append (rest_of front) r,
+            ap length (sym (ap (λ (c : CutText). c.1) (onto_none (rest_of front) r)) ∙ left),
+          ))
       by_cut long (l ∷ ls, r) whole left =
           let it : IsRefused (next_line (reading_of (whole_lines front)) (rest_of front ++ l)) =
           long_refused (reading_of (whole_lines front)) (rest_of front ++ l) (longer long l) (never_taken long) in
@@ -109,14 +123,18 @@ module _ (F : List ℕ) (may : MayPause F) where
       by true long = by_cut long (cut e) all none_left
 
   -- no front of the snapshot and of what follows it is refused
-  pub never_front : (H front r : List ℕ) (at : ℕ) → snapshot F ++ H ≡ front ++ r → reading_of (lines_of front) ≡ Refused at → ⊥
+  pub never_front : (H front r : List ℕ) (at : ℕ) → snapshot F ++ H ≡ front ++ r
+      → reading_of (lines_of front) ≡ Refused at → ⊥
   never_front H front r at same refused = by (two_cuts front r (snapshot F) H (sym same)) where
     by : ((e : List ℕ) × (front ≡ snapshot F ++ e)) ⊎ ((e : List ℕ) × (snapshot F ≡ front ++ e)) → ⊥
     by (inl (e, is)) = let it = taken e in
-        absurd (let clash : Taken it.0 it.1 ≡ Refused at = sym (ap (λ y. reading_of (lines_of y)) is ∙ it.2) ∙ refused in cc)
+        absurd (let clash : Taken it.0 it.1 ≡ Refused at = sym (ap (λ y. reading_of (lines_of y)) is ∙ it.2)
+        ∙ refused in cc)
     by (inr (e, is)) = front_never front e at is refused
 
 -- what is behind a snapshot isn't refused as one
-pub never_both : (at : ℕ) (moves : List Move) (F H : List ℕ) → MayPause F → ins moves ≡ snapshot F ++ H → IsRefusedFor at moves → ⊥
-never_both at moves F H may read (inl (front, begins, refused)) = never_front F may H front begins.0 at (sym read ∙ begins.1) refused
+pub never_both : (at : ℕ) (moves : List Move) (F H : List ℕ) → MayPause F → ins moves ≡ snapshot F ++ H
+    → IsRefusedFor at moves → ⊥
+never_both at moves F H may read (inl (front, begins, refused)) =
+    never_front F may H front begins.0 at (sym read ∙ begins.1) refused
 never_both at moves F H may read (inr (ended, part, is)) = never_part F may (ins moves) H read part

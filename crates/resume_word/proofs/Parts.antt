@@ -1,5 +1,6 @@
 -- What a part of a snapshot, and what a whole one and the bytes behind it, are.
-use Rattle.std.proofs.Common.{◌≡◌, ℕ, List, [], ◌∷◌, ◌++◌, append_assoc, refl, sym, ap, ◌∙◌, subst, Option, Some, None, true, inl, inr}
+use Rattle.std.proofs.Common.{◌≡◌, ℕ, List, [], ◌∷◌, ◌++◌, append_assoc, refl, sym, ap, ◌∙◌, subst, Option, Some, None}
+use Rattle.std.proofs.Common.{true, inl, inr}
 use Rattle.dover_model.specs.Lines.{lines_of, rest_of}
 use Rattle.dover_port.specs.Moves.{Move, EachReadFrom}
 use Rattle.dover_port.specs.Moves.Move.{Got, Ended, Put}
@@ -40,7 +41,8 @@ module _ (y G : List ℕ) (may : MayPause G) (text : snapshot G ≡ y) where
       let both = ends_by_itself G F more H may other (ap (λ t. t ++ more) text ∙ read) in (sym both.0 ∙ text, both.1)
 
   -- what holds of each feed with this snapshot, and the bytes behind it
-  pub behind : (x more : List ℕ) (T : List ℕ → List ℕ → Type 0) → x ≡ y ++ more → ((F : List ℕ) → MayPause F → snapshot F ≡ y → T F more)
+  pub behind : (x more : List ℕ) (T : List ℕ → List ℕ → Type 0) → x ≡ y ++ more
+      → ((F : List ℕ) → MayPause F → snapshot F ≡ y → T F more)
       → Behind x T
   behind x more T is each = record {
     feed = G;
@@ -52,13 +54,16 @@ module _ (y G : List ℕ) (may : MayPause G) (text : snapshot G ≡ y) where
 
   -- reads that are allowed behind each feed with this snapshot
   pub reads_behind : (moves : List Move) (got put : List ℕ)
-      → ((F : List ℕ) → MayPause F → snapshot F ≡ y → EachReadFrom (MayReadFrom F) got put moves) → EachReadFrom MayRead (y ++ got) put moves
+      → ((F : List ℕ) → MayPause F → snapshot F ≡ y → EachReadFrom (MayReadFrom F) got put moves)
+      → EachReadFrom MayRead (y ++ got) put moves
   reads_behind [] got put each = tt
   reads_behind (Got more ∷ moves) got put each = (
     inr (behind (y ++ got) got (λ F H. MayReadFrom F H put) refl (λ F other is. (each F other is).0)),
     subst (λ g. EachReadFrom MayRead g put moves) (sym (append_assoc y got more))
         (reads_behind moves (got ++ more) put (λ F other is. (each F other is).1)),
   )
-  reads_behind (Ended ∷ moves) got put each =
-      (inr (behind (y ++ got) got (λ F H. MayReadFrom F H put) refl (λ F other is. (each F other is).0)), (each G may text).1)
+  reads_behind (Ended ∷ moves) got put each = (
+    inr (behind (y ++ got) got (λ F H. MayReadFrom F H put) refl (λ F other is. (each F other is).0)),
+    (each G may text).1,
+  )
   reads_behind (Put more ∷ moves) got put each = reads_behind moves got (put ++ more) each

@@ -3,6 +3,8 @@ use Rattle.std.specs.Prelude.{◌≡◌, ◌≤◌, ℕ, List, [], ◌++◌, len
 use Rattle.dover_model.specs.Lines.{lines_of, rest_of, is_too_long}
 use Rattle.snapshot.specs.Reading.{Refused, reading_of}
 use Rattle.snapshot.specs.Kept.{IsReading, IsReady, IsGoing}
+use Rattle.snapshot.specs.Spending.{jobs_read, jobs_kept}
+use Rattle.snapshot.specs.declared.resuming.Resuming.{Resuming}
 use Rattle.snapshot.specs.declared.reader.Got.{Got}
 use Rattle.snapshot.specs.declared.reader.Got.TheVariants.{More, Ready}
 use Rattle.snapshot.specs.declared.reader.SnapFault.{SnapFault}
@@ -31,5 +33,11 @@ Takes (Err Memory) o x = IsGoing (lines_of x)
 abbrev pub TakesFront : Result (Option ℕ) SnapFault → Opening → List ℕ → List ℕ → Type 0
 TakesFront (Ok None) o x bytes = OpeningStands o (x ++ bytes)
 TakesFront (Ok (Some n)) o x bytes = (n ≤ length bytes) × IsWholeAt o (x ++ take n bytes)
-TakesFront (Err (BadSnapshot at)) o x bytes = (n : ℕ) × (n ≤ length bytes) × (reading_of (lines_of (x ++ take n bytes)) ≡ Refused at)
+TakesFront (Err (BadSnapshot at)) o x bytes = (n : ℕ) × (n ≤ length bytes)
+    × (reading_of (lines_of (x ++ take n bytes)) ≡ Refused at)
 TakesFront (Err Memory) o x bytes = (n : ℕ) × (n ≤ length bytes) × IsGoing (lines_of (x ++ take n bytes))
+
+-- no more jobs are served again than a front of these bytes behind x has
+abbrev pub HasFewOf : Option Resuming → List ℕ → List ℕ → Type 0
+HasFewOf kept x bytes =
+    (n : ℕ) × (n ≤ length bytes) × (jobs_kept kept ≤ jobs_read (reading_of (lines_of (x ++ take n bytes))))

@@ -2,6 +2,9 @@
 use Rattle.std.specs.Prelude.{◌≡◌, Bool, ℕ, suc, List, [], ◌∷◌, ◌++◌, length, true, false, ◌⊎◌, Option, codes, decimal}
 use Rattle.dover_model.specs.Lines.{in_lines, lines_of, whole_lines, line_of}
 use Rattle.dover_model.specs.WholeRun.{Begins}
+use Rattle.dover_model.specs.Feed.{account}
+use Rattle.dover_core.specs.Spending.{AreFew}
+use Rattle.event_feed.specs.Answers.{admitted_in}
 use Rattle.dover_port.specs.Moves.{Move, Since, ArePuts, ins, outs, has_ended, EachRead, IsProperPrefix}
 use Rattle.dover_port.specs.declared.status.Status.{Status}
 use Rattle.dover_port.specs.declared.status.Status.TheVariants.{Done, Refused, ReadFault, WriteFault, Memory}
@@ -9,6 +12,7 @@ use Rattle.snapshot.specs.Snapshot.{MayPause, snapshot}
 use Rattle.snapshot.specs.Reading as reading
 use Rattle.snapshot.specs.Reading.{Reading, Begun, Going, Taken, reading_of}
 use Rattle.snapshot.specs.Kept.{IsGoing}
+use Rattle.snapshot.specs.Spending.{jobs_read}
 use Rattle.serve_word.specs.From.{MayReadFrom, EndsAt, IsRefusedAt, IsUnreadAt, IsUnwrittenAt, IsOutOfMemoryAt}
 use Rattle.serve_word.specs.declared.from.AtEnd.{AtEnd}
 use Rattle.resume_word.specs.Opening.{OpeningStands}
@@ -27,7 +31,8 @@ is_part (reading.Refused line) = false
 abbrev pub IsPart : List ℕ → Type 0
 IsPart x = is_part (reading_of (lines_of x)) ≡ true
 
--- The bytes are the snapshot of a feed and what follows it, and of each feed with this snapshot, and what follows, T holds.
+-- The bytes are the snapshot of a feed and what follows it, and of each feed with this snapshot, and what follows, T
+-- holds.
 pub record Behind (x : List ℕ) (T : List ℕ → List ℕ → Type 0) : Type 0 where
   pub feed : List ℕ
   pub more : List ℕ
@@ -35,7 +40,8 @@ pub record Behind (x : List ℕ) (T : List ℕ → List ℕ → Type 0) : Type 0
   pub read : x ≡ snapshot feed ++ more
   pub each : (F H : List ℕ) → MayPause F → x ≡ snapshot F ++ H → T F H
 
--- Before a read: the snapshot is still to be read on, and nothing was put; or of its feed and what follows what is due was put beyond what
+-- Before a read: the snapshot is still to be read on, and nothing was put; or of its feed and what follows what is due
+-- was put beyond what
 -- was due for the feed alone, and the feed goes on.
 abbrev pub MayRead : List ℕ → List ℕ → Type 0
 MayRead got put = (IsPart got × (put ≡ [])) ⊎ Behind got (λ F H. MayReadFrom F H put)
@@ -46,7 +52,8 @@ refused_text at = in_lines (line_of (codes "refused" ∷ decimal at ∷ codes "s
 
 -- This line is the first that no snapshot has there, or it is missing where the input ended.
 abbrev pub IsRefusedFor : ℕ → List Move → Type 0
-IsRefusedFor at moves = ((front : List ℕ) × Begins front (ins moves) × (reading_of (lines_of front) ≡ reading.Refused at))
+IsRefusedFor at moves = ((front : List ℕ) × Begins front (ins moves)
+    × (reading_of (lines_of front) ≡ reading.Refused at))
     ⊎ ((has_ended moves ≡ true) × IsPart (ins moves) × (at ≡ suc (length (whole_lines (ins moves)))))
 
 -- ---- by the status, before the snapshot is whole
@@ -93,15 +100,18 @@ Ends at_end status moves = EndsBefore status moves
 
 -- a line of the snapshot is refused; or the feed has a fault or is cut off, and it is refused
 abbrev pub IsRefused : AtEnd → List Move → Type 0
-IsRefused at_end moves = IsRefusedSnapshot moves ⊎ Behind (ins moves) (λ F H. IsRefusedAt F at_end H (outs moves) (has_ended moves))
+IsRefused at_end moves = IsRefusedSnapshot moves
+    ⊎ Behind (ins moves) (λ F H. IsRefusedAt F at_end H (outs moves) (has_ended moves))
 
 -- a read failed, where the snapshot was still to be read on or the feed goes on
 abbrev pub IsUnread : AtEnd → List Move → Type 0
-IsUnread at_end moves = IsUnreadSnapshot moves ⊎ Behind (ins moves) (λ F H. IsUnreadAt F at_end H (outs moves) (has_ended moves))
+IsUnread at_end moves = IsUnreadSnapshot moves
+    ⊎ Behind (ins moves) (λ F H. IsUnreadAt F at_end H (outs moves) (has_ended moves))
 
 -- a write failed: not all of what is due was put
 abbrev pub IsUnwritten : AtEnd → List Move → Type 0
-IsUnwritten at_end moves = IsUnwrittenRefusal moves ⊎ Behind (ins moves) (λ F H. IsUnwrittenAt F at_end H (outs moves) (has_ended moves))
+IsUnwritten at_end moves = IsUnwrittenRefusal moves
+    ⊎ Behind (ins moves) (λ F H. IsUnwrittenAt F at_end H (outs moves) (has_ended moves))
 
 -- there was no memory, for the snapshot or for what follows it
 abbrev pub IsOutOfMemory : AtEnd → List Move → Type 0
@@ -112,6 +122,14 @@ IsOutOfMemory at_end moves = IsOutOfMemoryBefore moves
 pub record Resumes (at_end : AtEnd) (status : Status) (moves : List Move) : Type 0 where
   pub reads : EachRead MayRead moves
   pub ends : Ends at_end status moves
+
+-- The comparisons of a call are few for n jobs: before the snapshot is whole, for those of its lines that were read, or
+-- of
+-- a front of them; behind it, for those that were admitted in the feed and what follows.
+abbrev pub IsFrugal : (before after : ℕ) → List Move → Type 0
+IsFrugal before after moves =
+    ((front : List ℕ) × Begins front (ins moves) × AreFew (jobs_read (reading_of (lines_of front))) before after)
+    ⊎ Behind (ins moves) (λ F H. AreFew (admitted_in (account (F ++ H))) before after)
 
 -- The record of a call that is still to read the snapshot on.
 pub record GoesOn (opening : Opening) (moves : List Move) : Type 0 where

@@ -1,11 +1,15 @@
 //! Reading a snapshot, and what follows it.
-ghost use Rattle.std.specs.Prelude.{◌≡◌, ℕ, List};
+ghost use Rattle.std.specs.Prelude.{◌≡◌, ◌++◌, ℕ, List};
+ghost use Rattle.dover_model.specs.Feed.{account};
+ghost use Rattle.dover_core.specs.Spending.{AreFew};
 ghost use Rattle.dover_port.specs.Causes.{Causes, IsAnswer, StopsWith};
-ghost use Rattle.dover_port.specs.Moves.{Since};
+ghost use Rattle.dover_port.specs.Moves.{Since, ins};
+ghost use Rattle.event_feed.specs.Answers.{admitted_in};
 ghost use Rattle.snapshot.specs.Snapshot.{MayPause, snapshot};
+ghost use Rattle.snapshot.specs.Spending.{HasSpentOn};
 ghost use Rattle.serve_word.specs.Rest.{ServesRest};
 ghost use Rattle.resume_word.specs.Opening.{IsWholeAt};
-ghost use Rattle.resume_word.specs.Record.{Resumes, Refuses};
+ghost use Rattle.resume_word.specs.Record.{Resumes, Refuses, IsFrugal};
 
 use crate::opening::{Opening, open_piece};
 use dover_port::{Output, Port, Status};
@@ -18,9 +22,10 @@ use std::sync::ledger::Ledger;
 use step_count::Steps;
 
 /// How many bytes a read asks for.
-const READ_BYTES: usize = 4096;
+const READ_BYTES: usize = 65_536;
 
-/// More reads than a snapshot has bytes whose last line is still to come: its 1,000,001 lines have at most 129 bytes each, and the line that
+/// More reads than a snapshot has bytes whose last line is still to come: its 1,000,001 lines have at most 129 bytes
+/// each, and the line that
 /// has begun at most 128.
 const MOST_READS: u64 = 129_000_258;
 
@@ -28,7 +33,8 @@ const MOST_READS: u64 = 129_000_258;
 fn refuse_snapshot<P: Port>(port: &mut P, line: u64) -> Status
     ensures text { Refuses result (P.moves port.old) (P.moves port.new) line }
     ensures answer { IsAnswer result }
-    ensures causes { Causes result (P.read_faults port.old) (P.read_faults port.new) (P.write_faults port.old) (P.write_faults port.new) }
+    ensures causes { Causes result (P.read_faults port.old) (P.read_faults port.new) (P.write_faults port.old)
+        (P.write_faults port.new) }
     ensures stops { StopsWith result (P.calls port.old) (P.calls port.new) }
 {
     let mut text = LineBuf::new();
@@ -58,16 +64,22 @@ fn serve_rest<P: Port, L: Ledger>(
     requires { (y : List ℕ) × IsWholeAt opening y }
     ensures serves { (y F : List ℕ) → IsWholeAt opening y → MayPause F → snapshot F ≡ y →
         Since (P.moves port.old) (P.moves port.new) (ServesRest F rest.now at_end result) }
+    ensures count { (start : ℕ) (y F : List ℕ) → HasSpentOn opening.reader start steps.old →
+        IsWholeAt opening y → MayPause F → snapshot F ≡ y → Since (P.moves port.old) (P.moves port.new)
+        (λ moves. AreFew (admitted_in (account (F ++ (rest.now ++ ins moves)))) start steps.new) }
     ensures answer { IsAnswer result }
-    ensures causes { Causes result (P.read_faults port.old) (P.read_faults port.new) (P.write_faults port.old) (P.write_faults port.new) }
+    ensures causes { Causes result (P.read_faults port.old) (P.read_faults port.new) (P.write_faults port.old)
+        (P.write_faults port.new) }
     ensures stops { StopsWith result (P.calls port.old) (P.calls port.new) }
 {
     let (server, intake) = opening.reader.take();
     serve_on(alloc, port, rest, server, intake, at_end, steps)
 }
 
-/// Reads a snapshot and what follows it, and writes what `serve` writes for the whole feed beyond what was due where the feed was paused.
-/// Nothing is put before the snapshot is whole. `Refused` at its first line that no snapshot has there, with the number of that line, and then
+/// Reads a snapshot and what follows it, and writes what `serve` writes for the whole feed beyond what was due where
+/// the feed was paused.
+/// Nothing is put before the snapshot is whole. `Refused` at its first line that no snapshot has there, with the number
+/// of that line, and then
 /// as for a feed that is served from its start, with its lines counted from there.
 pub fn resume_word<P: Port, L: Ledger>(
     alloc: Global,
@@ -76,8 +88,10 @@ pub fn resume_word<P: Port, L: Ledger>(
     steps: &mut Steps<L>,
 ) -> Status
     ensures resumes { Since (P.moves port.old) (P.moves port.new) (Resumes at_end result) }
+    ensures count { Since (P.moves port.old) (P.moves port.new) (IsFrugal steps.old steps.new) }
     ensures answer { IsAnswer result }
-    ensures causes { Causes result (P.read_faults port.old) (P.read_faults port.new) (P.write_faults port.old) (P.write_faults port.new) }
+    ensures causes { Causes result (P.read_faults port.old) (P.read_faults port.new) (P.write_faults port.old)
+        (P.write_faults port.new) }
     ensures stops { StopsWith result (P.calls port.old) (P.calls port.new) }
 {
     let mut buf = [0u8; READ_BYTES];

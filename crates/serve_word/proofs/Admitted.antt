@@ -34,7 +34,11 @@ fed_admits a b (fed.Refused release work deadline value refusal) it =
     let is : admitted_in b ≡ length (admitted_jobs
     (it.session.items ++ refused_at a.mark (job_of_numbers release work deadline value) refusal ∷ [])) =
     ap (λ (x : Account). admitted_by x.session) it.after_is in
-    omega (arith, refused_more it.session.items (record { at = a.mark; job = job_of_numbers release work deadline value; refusal = refusal }))
+    omega (
+      arith,
+      refused_more it.session.items
+          (record { at = a.mark; job = job_of_numbers release work deadline value; refusal = refusal }),
+    )
 
 -- ---- the jobs of a server
 
@@ -53,10 +57,13 @@ none_yet a (Some v) fits none = absurd (let e : None ≡ Some fits.0 = sym none 
 -- ---- lines and pieces
 
 -- the jobs after a good line
-pub line_jobs : (a b : Account) (o p : Option Service) (x : Fed) → Fits a o → IsFed (counted a) b x → jobs_in p ≤ jobs_in o + jobs_fed x
+pub line_jobs : (a b : Account) (o p : Option Service) (x : Fed) → Fits a o → IsFed (counted a) b x
+    → jobs_in p ≤ jobs_in o + jobs_fed x
     → jobs_in p ≤ admitted_in b
 line_jobs a b o p x fits is few = omega (arith, few, fits_jobs a o fits, fed_admits a b x is)
 
 -- the jobs of a piece that is left at a front
-pub piece_jobs : (y behind z : List ℕ) → y ++ behind ≡ z → (n : ℕ) → n ≤ admitted_in (account y) → n ≤ admitted_in (account z)
-piece_jobs y behind z all n few = subst (λ w. n ≤ admitted_in (account w)) all (omega (arith, few, admitted_front y behind))
+pub piece_jobs : (y behind z : List ℕ) → y ++ behind ≡ z → (n : ℕ) → n ≤ admitted_in (account y)
+    → n ≤ admitted_in (account z)
+piece_jobs y behind z all n few =
+    subst (λ w. n ≤ admitted_in (account w)) all (omega (arith, few, admitted_front y behind))

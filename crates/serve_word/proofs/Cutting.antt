@@ -1,11 +1,13 @@
 -- What a byte cuts depends on the line that has begun alone, and not on how many lines came.
-use Rattle.std.proofs.Common.{◌≡◌, ℕ, ◌+◌, min, List, [], ◌∷◌, ◌++◌, length, refl, sym, ap, ◌∙◌, subst, suc, Bool, true, false, cond, Option, Some, None}
+use Rattle.std.proofs.Common.{◌≡◌, ℕ, ◌+◌, min, List, [], ◌∷◌, ◌++◌, length, refl, sym, ap, ◌∙◌, subst, suc, Bool, true}
+use Rattle.std.proofs.Common.{false, cond, Option, Some, None}
 use Rattle.std.specs.Prelude.{◌==◌, nat_lt}
 use Rattle.std.proofs.lemmas.List.Sums.{fold-append}
 use Rattle.dover_model.specs.Limits.{most_lines}
 use Rattle.dover_model.specs.Session.{Session}
 use Rattle.dover_model.specs.FeedLine.{FeedLine, feed_line, line_of_fields}
-use Rattle.dover_model.specs.Feed.{Account, Open, Faulty, Lines as TooMany, Line as NoLine, no_lines, next_line, with_fault, account_of_lines}
+use Rattle.dover_model.specs.Feed.{Account, Open, Faulty, Lines as TooMany, Line as NoLine, no_lines, next_line}
+use Rattle.dover_model.specs.Feed.{with_fault, account_of_lines}
 use Rattle.event_feed.proofs.Counting.{after_form}
 use Rattle.dover_model.specs.Lines.{whole_lines, rest_of, is_too_long, fields_of}
 use Rattle.line_text.specs.declared.cutting.Step.{Step}
@@ -20,7 +22,8 @@ uncounted c = record { line = c.line; count = 0; last = c.last }
 
 -- the count doesn't matter
 same_cut : (last : Step) (line : List ℕ) (n m byte : ℕ)
-    → uncounted (after_byte (record { line = line; count = n; last = last }) byte) ≡ uncounted (after_byte (record { line = line; count = m; last = last }) byte)
+    → uncounted (after_byte (record { line = line; count = n; last = last }) byte) ≡ uncounted
+    (after_byte (record { line = line; count = m; last = last }) byte)
 same_cut More line n m byte = by (byte == 10) where
   by : (b : Bool) → uncounted (cond b (record { line = line; count = min (n + 1) most_count; last = Line })
       (record { line = line ++ byte ∷ []; count = n; last = cond (is_too_long (line ++ byte ∷ [])) TooLong More }))
@@ -37,7 +40,8 @@ same_cut Line line n m byte = by (byte == 10) where
   by false = refl
 same_cut TooLong line n m byte = refl
 
-module _ (c : Cutting) (bytes : List ℕ) (byte : ℕ) (it : Cuts c bytes) (short : is_too_long (rest_of bytes) ≡ false) where
+module _ (c : Cutting) (bytes : List ℕ) (byte : ℕ) (it : Cuts c bytes)
+    (short : is_too_long (rest_of bytes) ≡ false) where
   -- with the count put right
   abbrev counted : Cutting
   counted = record { line = c.line; count = min (length (whole_lines bytes)) most_count; last = c.last }
@@ -50,7 +54,11 @@ module _ (c : Cutting) (bytes : List ℕ) (byte : ℕ) (it : Cuts c bytes) (shor
 
   -- what is kept
   pub cuts_more : Cuts (after_byte c byte) (bytes ++ byte ∷ [])
-  cuts_more = record { rest = sym (ap begun_line same) ∙ goes.stands.rest; over = sym (ap (λ (k : Cutting). is_over k.last) same) ∙ goes.stands.over }
+  cuts_more = record {
+    rest = sym (ap begun_line same) ∙ goes.stands.rest;
+    over =
+        sym (ap (λ (k : Cutting). is_over k.last) same) ∙ goes.stands.over;
+  }
 
   -- what is cut
   pub cut_more : HasCut (after_byte c byte).last (after_byte c byte).line bytes (bytes ++ byte ∷ [])
@@ -60,7 +68,8 @@ module _ (c : Cutting) (bytes : List ℕ) (byte : ℕ) (it : Cuts c bytes) (shor
   pub cuts_on : (new : Cutting) → new ≡ after_byte c byte → Cuts new (bytes ++ byte ∷ [])
   cuts_on new is = subst (λ k. Cuts k (bytes ++ byte ∷ [])) (sym is) cuts_more
 
-  pub cut_on : (new : Cutting) (step : Step) → new ≡ after_byte c byte → step ≡ new.last → HasCut step new.line bytes (bytes ++ byte ∷ [])
+  pub cut_on : (new : Cutting) (step : Step) → new ≡ after_byte c byte → step ≡ new.last
+      → HasCut step new.line bytes (bytes ++ byte ∷ [])
   cut_on new step is last = subst (λ s. HasCut s new.line bytes (bytes ++ byte ∷ [])) (sym last)
       (subst (λ (k : Cutting). HasCut k.last k.line bytes (bytes ++ byte ∷ [])) (sym is) cut_more)
 
@@ -74,7 +83,8 @@ long_never lines session mark l long = by_count (nat_lt most_lines (suc lines)) 
       a : Account
       a = record { lines = suc lines; session = session; mark = mark; standing = Open }
 
-      by_count : (b : Bool) (o : Option FeedLine) → o ≡ None → (cond b (with_fault a TooMany) (after_form a o)).standing ≡ Open → ⊥
+      by_count : (b : Bool) (o : Option FeedLine) → o ≡ None
+          → (cond b (with_fault a TooMany) (after_form a o)).standing ≡ Open → ⊥
       by_count true o none on = absurd (let e : Faulty (suc lines) TooMany ≡ Open = on in cc)
       by_count false None none on = absurd (let e : Faulty (suc lines) NoLine ≡ Open = on in cc)
       by_count false (Some line) none on = absurd (let e : Some line ≡ None = none in cc)
@@ -84,5 +94,6 @@ pub long_closes : (ls : List (List ℕ)) (l : List ℕ) → (account_of_lines ls
 long_closes ls l opened long on =
     let b : Account = account_of_lines ls in
     long_never b.lines b.session b.mark l long
-    (subst (λ s. (next_line (record { lines = b.lines; session = b.session; mark = b.mark; standing = s }) l).standing ≡ Open) opened
+    (subst (λ s. (next_line (record { lines = b.lines; session = b.session; mark = b.mark; standing = s }) l).standing
+    ≡ Open) opened
     (sym (ap (λ (k : Account). k.standing) (fold-append next_line no_lines ls (l ∷ []))) ∙ on))

@@ -1,5 +1,6 @@
 -- How each kind of line is delivered.
-use Rattle.std.proofs.Common.{◌≡◌, ◌≤◌, ℕ, suc, List, [], ◌∷◌, ◌++◌, map, refl, sym, ap, ◌∙◌, subst, Option, Some, None, Ok, Err}
+use Rattle.std.proofs.Common.{◌≡◌, ◌≤◌, ℕ, suc, List, [], ◌∷◌, ◌++◌, map, refl, sym, ap, ◌∙◌, subst, Option, Some, None}
+use Rattle.std.proofs.Common.{Ok, Err}
 use Rattle.std.proofs.Common.{append_assoc, arith, inl, inr}
 use Rattle.std.proofs.lemmas.List.{append-nil}
 use Rattle.dover_model.specs.declared.events.Event.{Event}
@@ -42,7 +43,8 @@ use Rattle.serve_word.proofs.Adding.{due_open, due_ended, event_lines-append, te
 
 -- an account that goes on keeps what open accounts keep of their session
 pub holds_of : (a : Account) (S : Session) → IsKept a → a.standing ≡ Open → a.session ≡ Some S → Holds S a.mark a.lines
-holds_of a S kept stands there = subst (λ o. HoldsBy Open o a.mark a.lines) there (subst (λ x. HoldsBy x a.session a.mark a.lines) stands kept)
+holds_of a S kept stands there =
+    subst (λ o. HoldsBy Open o a.mark a.lines) there (subst (λ x. HoldsBy x a.session a.mark a.lines) stands kept)
 
 -- ---- steps of the session's run
 
@@ -55,14 +57,18 @@ module _ (a b : Account) (S : Session) (kept : IsKept a) (stands : a.standing �
   within : RefusesWithin S from
   within = (holds_of a S kept stands there).reads.within
 
-  module _ (old new : Option (List Move)) (p q : List ℕ) (events target : List Event) (due_b : due_lines b ≡ texts_among S target) where
+  module _ (old new : Option (List Move)) (p q : List ℕ) (events target : List Event)
+      (due_b : due_lines b ≡ texts_among S target) where
     -- what is due for b is what is due for a, and further lines
-    due_on : (rest : List Event) → target ≡ (from ++ events) ++ rest → due_lines b ≡ due_lines a ++ map text_of (events ++ rest)
+    due_on : (rest : List Event) → target ≡ (from ++ events) ++ rest
+        → due_lines b ≡ due_lines a ++ map text_of (events ++ rest)
     due_on rest is =
-        due_b ∙ texts_on S from events target rest within is ∙ ap (λ ls. ls ++ map text_of (events ++ rest)) (sym (due_open a S there stands))
+        due_b ∙ texts_on S from events target rest within is
+        ∙ ap (λ ls. ls ++ map text_of (events ++ rest)) (sym (due_open a S there stands))
 
     -- all of them were put
-    pub delivers_all : (x : Progress) (server : Option Service) → from ++ events ≡ target → Passes old new p q (event_lines events)
+    pub delivers_all : (x : Progress) (server : Option Service) → from ++ events ≡ target
+        → Passes old new p q (event_lines events)
         → StandsAt x b server → Delivers (Ok x) old new p q a b server
     delivers_all x server all puts leaves = record {
       text = map text_of (events ++ []);
@@ -72,7 +78,8 @@ module _ (a b : Account) (S : Session) (kept : IsKept a) (stands : a.standing �
     }
 
     -- a front of them was put
-    pub delivers_part : (server : Option Service) → Begins (from ++ events) target → CutsShort old new p (event_lines events)
+    pub delivers_part : (server : Option Service) → Begins (from ++ events) target
+        → CutsShort old new p (event_lines events)
         → Delivers (Err Unwritten) old new p q a b server
     delivers_part server begins puts = record {
       text = map text_of (events ++ begins.0);
@@ -95,8 +102,10 @@ module _ (a b : Account) (S : Session) (kept : IsKept a) (stands : a.standing �
 
 -- ---- a tick
 
-module _ (a b : Account) (S : Session) (kept : IsKept a) (stands : a.standing ≡ Open) (there : a.session ≡ Some S) (t : ℕ)
-    (is : b ≡ record a { lines = suc a.lines; mark = t }) (ordered : a.mark ≤ t) (v u : Service) (served : IsServed S a.mark v)
+module _ (a b : Account) (S : Session) (kept : IsKept a) (stands : a.standing ≡ Open) (there : a.session ≡ Some S)
+    (t : ℕ)
+    (is : b ≡ record a { lines = suc a.lines; mark = t }) (ordered : a.mark ≤ t) (v u : Service)
+    (served : IsServed S a.mark v)
     (old new : Option (List Move)) (p q : List ℕ) where
   -- the session's jobs are valid
   tick_valid : IsValid (instance_of S)
@@ -119,15 +128,19 @@ module _ (a b : Account) (S : Session) (kept : IsKept a) (stands : a.standing �
   tick_due = due_open b S tick_session tick_stands ∙ ap (λ m. texts_among S (settled (instance_of S) m)) tick_mark
 
   -- all that is settled was put
-  pub tick_all : {T E : Type 0} (x : T) → Settles {E = E} old new (Ok x) p q t v u → Delivers (Ok progress.Open) old new p q a b (Some u)
-  tick_all x s = delivers_all a b S kept stands there old new p q (printed_of s.steps) (settled (instance_of S) t) tick_due progress.Open (Some u)
-      (all_settled S tick_valid a.mark t ordered v u (settled (instance_of S) a.mark) served s.steps s.path s.barrier) s.puts.all (
+  pub tick_all : {T E : Type 0} (x : T) → Settles {E = E} old new (Ok x) p q t v u
+      → Delivers (Ok progress.Open) old new p q a b (Some u)
+  tick_all x s = delivers_all a b S kept stands there old new p q (printed_of s.steps)
+      (settled (instance_of S) t) tick_due progress.Open (Some u)
+      (all_settled S tick_valid a.mark t ordered v u (settled (instance_of S) a.mark) served s.steps s.path s.barrier)
+      s.puts.all (
         tick_stands,
         (
           S,
           tick_session,
           subst (λ m. IsServed S m u) (sym tick_mark)
-              (served_all S tick_valid a.mark t ordered v u (settled (instance_of S) a.mark) served s.steps s.path s.rules s.last s.goes_on
+              (served_all S tick_valid a.mark t ordered v u
+              (settled (instance_of S) a.mark) served s.steps s.path s.rules s.last s.goes_on
               s.barrier),
         ),
       )
@@ -135,14 +148,19 @@ module _ (a b : Account) (S : Session) (kept : IsKept a) (stands : a.standing �
   -- a front of it was put
   pub tick_part : {T E : Type 0} (d : E) (server : Option Service) → Settles {T = T} old new (Err d) p q t v u
       → Delivers (Err Unwritten) old new p q a b server
-  tick_part d server s = delivers_part a b S kept stands there old new p q (printed_of s.steps) (settled (instance_of S) t) tick_due server
-      (begins_settled S tick_valid a.mark t ordered v u (settled (instance_of S) a.mark) served s.steps s.path) s.puts.part
+  tick_part d server s = delivers_part a b S kept stands there old new p q (printed_of s.steps)
+      (settled (instance_of S) t) tick_due server
+      (begins_settled S tick_valid a.mark t ordered v u (settled (instance_of S) a.mark) served s.steps s.path)
+      s.puts.part
 
 -- ---- a job
 
-module _ (a b : Account) (S : Session) (kept : IsKept a) (stands : a.standing ≡ Open) (there : a.session ≡ Some S) (j : JobFacts)
-    (is : b ≡ record a { lines = suc a.lines; session = Some (with_item S (JobItem j)); mark = j.release }) (ordered : a.mark ≤ j.release)
-    (none : refusal_of S.rules.ratio (admitted_jobs S.items) j ≡ None) (v : Service) (served : IsServed S a.mark v) where
+module _ (a b : Account) (S : Session) (kept : IsKept a) (stands : a.standing ≡ Open) (there : a.session ≡ Some S)
+    (j : JobFacts)
+    (is : b ≡ record a { lines = suc a.lines; session = Some (with_item S (JobItem j)); mark = j.release })
+    (ordered : a.mark ≤ j.release)
+    (none : refusal_of S.rules.ratio (admitted_jobs S.items) j ≡ None) (v : Service)
+    (served : IsServed S a.mark v) where
   -- the session with the job
   abbrev with_job_item : Session
   with_job_item = with_item S (JobItem j)
@@ -161,7 +179,8 @@ module _ (a b : Account) (S : Session) (kept : IsKept a) (stands : a.standing �
 
   -- its release is a tick
   pub job_known : j.release ≤ last_tick
-  job_known = let it = (not_refused S.rules.ratio (admitted_jobs S.items) j none).job in omega (arith, it.window, it.due)
+  job_known = let it = (not_refused S.rules.ratio (admitted_jobs S.items) j none).job in
+      omega (arith, it.window, it.due)
 
   -- the session is there
   job_session : b.session ≡ Some with_job_item
@@ -186,7 +205,8 @@ module _ (a b : Account) (S : Session) (kept : IsKept a) (stands : a.standing �
 
   -- what is settled without the job begins it
   settled_before : Begins (settled (instance_of S) j.release) target
-  settled_before = subst (λ J. Begins (settled (instance_of S) j.release) (settled J j.release)) (sym (job_instance S j))
+  settled_before = subst (λ J. Begins (settled (instance_of S) j.release) (settled J j.release))
+      (sym (job_instance S j))
       (settled_prefix (instance_of S) (j ∷ []) j.release job_valid is_last j.release (omega arith)) where
         is_last : (i : JobFacts) → IsMember i (j ∷ []) → j.release ≤ i.release
         is_last i (inl e) = subst (λ (x : JobFacts). j.release ≤ x.release) (sym e) (omega arith)
@@ -204,49 +224,64 @@ module _ (a b : Account) (S : Session) (kept : IsKept a) (stands : a.standing �
   module _ (old mid : Option (List Move)) (p m : List ℕ) (w : Service) where
     -- the server came up to the release
     pub job_first : {T E : Type 0} (x : T) → Settles {E = E} old mid (Ok x) p m j.release v w → IsServed S j.release w
-    job_first x s = served_all S job_reads.valid a.mark j.release ordered v w (settled (instance_of S) a.mark) served s.steps s.path s.rules s.last
+    job_first x s = served_all S job_reads.valid a.mark j.release ordered v w
+        (settled (instance_of S) a.mark) served s.steps s.path s.rules s.last
         s.goes_on s.barrier
 
     -- a front of what is settled without the job was put
-    pub job_first_part : {T E : Type 0} (d : E) (server : Option Service) → Settles {T = T} old mid (Err d) p m j.release v w
+    pub job_first_part : {T E : Type 0} (d : E) (server : Option Service)
+        → Settles {T = T} old mid (Err d) p m j.release v w
         → Delivers (Err Unwritten) old mid p m a b server
-    job_first_part d server s = delivers_part a b S kept stands there old mid p m (printed_of s.steps) target job_due server
+    job_first_part d server s =
+        delivers_part a b S kept stands there old mid p m (printed_of s.steps) target job_due server
         (begins_onward _ (settled (instance_of S) j.release) target
-        (begins_settled S job_reads.valid a.mark j.release ordered v w (settled (instance_of S) a.mark) served s.steps s.path) settled_before)
+        (begins_settled S job_reads.valid a.mark j.release ordered v w
+        (settled (instance_of S) a.mark) served s.steps s.path) settled_before)
         s.puts.part
 
-    module _ {T E : Type 0} (x : T) (first : Settles {E = E} old mid (Ok x) p m j.release v w) (new : Option (List Move)) (q : List ℕ)
+    module _ {T E : Type 0} (x : T) (first : Settles {E = E} old mid (Ok x) p m j.release v w)
+        (new : Option (List Move)) (q : List ℕ)
         (y u : Service) (spare : ℕ) (admitted : y ≡ with_job w j spare) where
       -- the server with the job
       served_with : HasServed with_job_item j.release y (settled (instance_of S) j.release)
       served_with = subst (λ z. HasServed with_job_item j.release z (settled (instance_of S) j.release)) (sym admitted)
-          (served_job S j.release w (settled (instance_of S) j.release) j spare (job_first x first) (omega arith) job_valid)
+          (served_job S j.release w (settled (instance_of S) j.release) j spare (job_first x first)
+          (omega arith) job_valid)
 
       -- it can go on
       pub job_can : CanGoOn y
       job_can = record {
         valid = subst IsValid (sym served_with.jobs) job_valid_after;
         sound = (path_keeps (instance_of with_job_item) job_valid_after j.release served_with.printed.steps
-            (opening (instance_of with_job_item).jobs) y.state (opening_keeps (instance_of with_job_item)) served_with.printed.path).sound;
-        clock = let low : y.state.clock ≤ j.release = path_low (instance_of with_job_item) job_valid_after j.release served_with.printed.steps
-            (opening (instance_of with_job_item).jobs) y.state (omega arith) served_with.printed.path in omega (arith, job_known);
+            (opening (instance_of with_job_item).jobs) y.state
+            (opening_keeps (instance_of with_job_item)) served_with.printed.path).sound;
+        clock = let low : y.state.clock ≤ j.release =
+            path_low (instance_of with_job_item) job_valid_after j.release served_with.printed.steps
+            (opening (instance_of with_job_item).jobs) y.state (omega arith) served_with.printed.path in
+            omega (arith, job_known);
       }
 
       -- what was printed before the job is what is settled without it
       first_all : settled (instance_of S) a.mark ++ printed_of first.steps ≡ settled (instance_of S) j.release
-      first_all = all_settled S job_reads.valid a.mark j.release ordered v w (settled (instance_of S) a.mark) served first.steps first.path
+      first_all = all_settled S job_reads.valid a.mark j.release ordered v w
+          (settled (instance_of S) a.mark) served first.steps first.path
           first.barrier
 
       -- and what was printed behind it comes behind that
-      both_events : (es : List Event) → settled (instance_of S) a.mark ++ (printed_of first.steps ++ es) ≡ settled (instance_of S) j.release ++ es
-      both_events es = sym (append_assoc (settled (instance_of S) a.mark) (printed_of first.steps) es) ∙ ap (λ l. l ++ es) first_all
+      both_events : (es : List Event)
+          → settled (instance_of S) a.mark ++ (printed_of first.steps ++ es) ≡ settled (instance_of S) j.release ++ es
+      both_events es = sym (append_assoc (settled (instance_of S) a.mark) (printed_of first.steps) es)
+          ∙ ap (λ l. l ++ es) first_all
 
       -- all that is settled with the job was put
-      pub job_all : {U F : Type 0} (z : U) → Settles {E = F} mid new (Ok z) m q j.release y u → Delivers (Ok progress.Open) old new p q a b (Some u)
-      job_all z s = delivers_all a b S kept stands there old new p q (printed_of first.steps ++ printed_of s.steps) target job_due progress.Open
+      pub job_all : {U F : Type 0} (z : U) → Settles {E = F} mid new (Ok z) m q j.release y u
+          → Delivers (Ok progress.Open) old new p q a b (Some u)
+      job_all z s = delivers_all a b S kept stands there old new p q
+          (printed_of first.steps ++ printed_of s.steps) target job_due progress.Open
           (Some u)
           (both_events (printed_of s.steps)
-          ∙ all_settled with_job_item job_valid_after j.release j.release (omega arith) y u (settled (instance_of S) j.release) served_with s.steps
+          ∙ all_settled with_job_item job_valid_after j.release j.release (omega arith) y u
+          (settled (instance_of S) j.release) served_with s.steps
           s.path s.barrier)
           (subst (Passes old new p q) (sym (event_lines-append (printed_of first.steps) (printed_of s.steps)))
           (passes_then old mid new p m q _ _ first.puts.all s.puts.all)) (
@@ -255,17 +290,21 @@ module _ (a b : Account) (S : Session) (kept : IsKept a) (stands : a.standing �
               with_job_item,
               job_session,
               subst (λ k. IsServed with_job_item k u) (sym job_mark)
-                  (served_all with_job_item job_valid_after j.release j.release (omega arith) y u (settled (instance_of S) j.release) served_with
+                  (served_all with_job_item job_valid_after j.release j.release (omega arith) y u
+                  (settled (instance_of S) j.release) served_with
                   s.steps s.path s.rules s.last s.goes_on s.barrier),
             ),
           )
 
       -- a front of it was put
-      pub job_part : {U F : Type 0} (d : F) (server : Option Service) → Settles {T = U} mid new (Err d) m q j.release y u
+      pub job_part : {U F : Type 0} (d : F) (server : Option Service)
+          → Settles {T = U} mid new (Err d) m q j.release y u
           → Delivers (Err Unwritten) old new p q a b server
-      job_part d server s = delivers_part a b S kept stands there old new p q (printed_of first.steps ++ printed_of s.steps) target job_due server
+      job_part d server s = delivers_part a b S kept stands there old new p q
+          (printed_of first.steps ++ printed_of s.steps) target job_due server
           (subst (λ es. Begins es target) (sym (both_events (printed_of s.steps)))
-          (begins_settled with_job_item job_valid_after j.release j.release (omega arith) y u (settled (instance_of S) j.release) served_with s.steps
+          (begins_settled with_job_item job_valid_after j.release j.release (omega arith) y u
+          (settled (instance_of S) j.release) served_with s.steps
           s.path))
           (subst (CutsShort old new p) (sym (event_lines-append (printed_of first.steps) (printed_of s.steps)))
           (passes_then_cut old mid new p m q _ _ first.puts.all s.puts.part))
@@ -284,12 +323,16 @@ module _ (a b : Account) (S : Session) (kept : IsKept a) (stands : a.standing �
   end_valid = (holds_of a S kept stands there).reads.valid
 
   -- all of it was put
-  pub end_all : {T E : Type 0} (x : T) → Finishes {E = E} old new (Ok x) p q v → Delivers (Ok progress.Ended) old new p q a b server
-  end_all x s = delivers_all a b S kept stands there old new p q (printed_of s.steps) (printed (instance_of S)) end_due progress.Ended server
+  pub end_all : {T E : Type 0} (x : T) → Finishes {E = E} old new (Ok x) p q v
+      → Delivers (Ok progress.Ended) old new p q a b server
+  end_all x s = delivers_all a b S kept stands there old new p q (printed_of s.steps)
+      (printed (instance_of S)) end_due progress.Ended server
       (sym (finishes_all S end_valid a.mark v (settled (instance_of S) a.mark) served s.steps s.whole)) s.puts.all
       (ap (λ (x : Account). x.standing) is)
 
   -- a front of it was put
-  pub end_part : {T E : Type 0} (d : E) → Finishes {T = T} old new (Err d) p q v → Delivers (Err Unwritten) old new p q a b server
-  end_part d s = delivers_part a b S kept stands there old new p q (printed_of s.steps) (printed (instance_of S)) end_due server
+  pub end_part : {T E : Type 0} (d : E) → Finishes {T = T} old new (Err d) p q v
+      → Delivers (Err Unwritten) old new p q a b server
+  end_part d s = delivers_part a b S kept stands there old new p q (printed_of s.steps)
+      (printed (instance_of S)) end_due server
       (finishes_part S end_valid a.mark v (settled (instance_of S) a.mark) served s.steps s.run) s.puts.part

@@ -13,12 +13,15 @@ use Rattle.serve_word.specs.Session.{IsOpenAt}
 use Rattle.serve_word.proofs.Delivering.{holds_of}
 
 -- a server of valid jobs
-pub served_can : (S : Session) (mark : ℕ) (v : Service) → IsValid (instance_of S) → mark ≤ last_tick → IsServed S mark v → CanGoOn v
+pub served_can : (S : Session) (mark : ℕ) (v : Service) → IsValid (instance_of S) → mark ≤ last_tick → IsServed S mark v
+    → CanGoOn v
 served_can S mark v valid known served = record {
   valid = subst IsValid (sym served.jobs) valid;
-  sound = (path_keeps (instance_of S) valid mark served.printed.steps (opening (instance_of S).jobs) v.state (opening_keeps (instance_of S))
+  sound = (path_keeps (instance_of S) valid mark served.printed.steps (opening (instance_of S).jobs) v.state
+      (opening_keeps (instance_of S))
       served.printed.path).sound;
-  clock = let low : v.state.clock ≤ mark = path_low (instance_of S) valid mark served.printed.steps (opening (instance_of S).jobs) v.state
+  clock = let low : v.state.clock ≤ mark =
+      path_low (instance_of S) valid mark served.printed.steps (opening (instance_of S).jobs) v.state
       (omega arith) served.printed.path in omega (arith, known);
 }
 

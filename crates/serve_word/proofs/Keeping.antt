@@ -19,15 +19,18 @@ lines_kept ls = (lines_goes ls no_lines zero_mark).0 where
   zero_mark = refl
 
 -- where the feed goes on, the account is open and the server fits
-pub open_next : (result : Result Progress Stop) (old new : Option (List Move)) (p q : List ℕ) (a : Account) (ls : List (List ℕ))
-    (server : Option Service) (mark : ℕ) → Delivers result old new p q a (account_of_lines ls) server → result ≡ Ok progress.Open
+pub open_next : (result : Result Progress Stop) (old new : Option (List Move)) (p q : List ℕ) (a : Account)
+    (ls : List (List ℕ))
+    (server : Option Service) (mark : ℕ) → Delivers result old new p q a (account_of_lines ls) server
+    → result ≡ Ok progress.Open
     → mark ≡ (account_of_lines ls).mark → IsOpenAt (account_of_lines ls) server mark
 open_next result old new p q a ls server mark it is marks =
     let leaves = subst (λ r. LeavesBy r (account_of_lines ls) server) is it.leaves in
     record { kept = lines_kept ls; stands = leaves.0; fits = leaves.1; marks = marks }
 
 -- an account that goes on has no fault yet
-pub new_fault : (bytes : List ℕ) (fault : FeedFault) (a b : Account) → a.standing ≡ Open → NewFault bytes fault a b ⊎ OldFault fault a b
+pub new_fault : (bytes : List ℕ) (fault : FeedFault) (a b : Account) → a.standing ≡ Open → NewFault bytes fault a b
+    ⊎ OldFault fault a b
     → NewFault bytes fault a b
 new_fault bytes fault a b stands (inl is) = is
 new_fault bytes fault a b stands (inr was) = absurd (let e = sym stands ∙ was.faulty in cc)

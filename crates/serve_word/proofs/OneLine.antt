@@ -1,5 +1,6 @@
 -- Lines that add one line to what is due: the header, a refused job line, a fault.
-use Rattle.std.proofs.Common.{◌≡◌, ℕ, suc, List, [], ◌∷◌, ◌++◌, map, refl, sym, ap, ◌∙◌, subst, Option, Some, None, Ok, Err}
+use Rattle.std.proofs.Common.{◌≡◌, ℕ, suc, List, [], ◌∷◌, ◌++◌, map, refl, sym, ap, ◌∙◌, subst, Option, Some, None, Ok}
+use Rattle.std.proofs.Common.{Err}
 use Rattle.std.proofs.lemmas.List.{append-nil}
 use Rattle.dover_model.specs.declared.events.Version.{Version}
 use Rattle.dover_model.specs.declared.events.Refusal.{Refusal}
@@ -31,27 +32,35 @@ use Rattle.serve_word.proofs.Delivering.{holds_of}
 
 -- ---- any one line
 
-module _ (a b : Account) (line : List ℕ) (due : due_lines b ≡ due_lines a ++ line ∷ []) (old new : Option (List Move)) (p q : List ℕ)
+module _ (a b : Account) (line : List ℕ) (due : due_lines b ≡ due_lines a ++ line ∷ []) (old new : Option (List Move))
+    (p q : List ℕ)
     (server : Option Service) where
   -- the line with its line feed is the text
   one_text : in_lines (line ∷ []) ≡ line ++ 10 ∷ []
   one_text = append-nil (line ++ 10 ∷ [])
 
   -- it was put
-  pub line_all : (x : Progress) → Passes old new p q (line ++ 10 ∷ []) → StandsAt x b server → Delivers (Ok x) old new p q a b server
+  pub line_all : (x : Progress) → Passes old new p q (line ++ 10 ∷ []) → StandsAt x b server
+      → Delivers (Ok x) old new p q a b server
   line_all x puts leaves =
       record { text = line ∷ []; due = due; puts = subst (Passes old new p q) (sym one_text) puts; leaves = leaves }
 
   -- a front of it was put
   pub line_part : CutsShort old new p (line ++ 10 ∷ []) → Delivers (Err Unwritten) old new p q a b server
-  line_part puts = record { text = line ∷ []; due = due; puts = subst (CutsShort old new p) (sym one_text) puts; leaves = tt }
+  line_part puts = record {
+    text = line ∷ [];
+    due = due;
+    puts = subst (CutsShort old new p) (sym one_text) puts;
+    leaves = tt;
+  }
 
   -- none of it was put, for want of memory
   pub line_none : old ≡ new → IsDeclared b → Delivers (Err NoMemory) old new p q a b server
   line_none same declared = record {
     text = line ∷ [];
     due = due;
-    puts = subst (λ z. Begun old z p (in_lines (line ∷ []))) same (since_none old _ (tt, (p ++ in_lines (line ∷ []), refl)));
+    puts = subst (λ z. Begun old z p (in_lines (line ∷ []))) same
+        (since_none old _ (tt, (p ++ in_lines (line ∷ []), refl)));
     leaves = declared;
   }
 
@@ -62,7 +71,8 @@ nothing_settled : (rules : Rules) → settled (instance_of (new_session rules)) 
 nothing_settled rules = refl
 
 module _ (a b : Account) (k : Fraction) (version : Version) (first : a.session ≡ None) (stands : a.standing ≡ Open)
-    (is : b ≡ record a { lines = suc a.lines; session = Some (new_session (rules_with k version)) }) (no_mark : b.mark ≡ 0) where
+    (is : b ≡ record a { lines = suc a.lines; session = Some (new_session (rules_with k version)) })
+    (no_mark : b.mark ≡ 0) where
   -- the session is there
   header_session : b.session ≡ Some (new_session (rules_with k version))
   header_session = ap (λ (x : Account). x.session) is
@@ -74,8 +84,10 @@ module _ (a b : Account) (k : Fraction) (version : Version) (first : a.session �
   -- the header is due
   pub header_due : due_lines b ≡ due_lines a ++ header (rules_with k version) ∷ []
   header_due = due_open b (new_session (rules_with k version)) header_session header_stands
-      ∙ ap (λ m. texts_among (new_session (rules_with k version)) (settled (instance_of (new_session (rules_with k version))) m)) no_mark
-      ∙ ap (λ es. header (rules_with k version) ∷ map text_of_line (map Printed es)) (nothing_settled (rules_with k version))
+      ∙ ap (λ m. texts_among (new_session (rules_with k version))
+      (settled (instance_of (new_session (rules_with k version))) m)) no_mark
+      ∙ ap (λ es. header (rules_with k version) ∷ map text_of_line (map Printed es))
+      (nothing_settled (rules_with k version))
       ∙ ap (λ ls. ls ++ header (rules_with k version) ∷ []) (sym (due_nothing a first stands))
 
   -- the session is declared
@@ -89,11 +101,14 @@ module _ (a b : Account) (k : Fraction) (version : Version) (first : a.session �
     (
       new_session (rules_with k version),
       header_session,
-      subst (λ m. IsServed (new_session (rules_with k version)) m v) (sym no_mark) (subst (IsServed (new_session (rules_with k version)) 0) (sym new)
+      subst (λ m. IsServed (new_session (rules_with k version)) m v) (sym no_mark)
+          (subst (IsServed (new_session (rules_with k version)) 0) (sym new)
           (record {
             jobs = refl;
-            printed = subst (HasPrinted (instance_of (new_session (rules_with k version))) 0 (fresh_service version k spare).state)
-                (sym (nothing_settled (rules_with k version))) (printed_nothing (instance_of (new_session (rules_with k version))) 0);
+            printed = subst (HasPrinted (instance_of (new_session (rules_with k version))) 0
+                (fresh_service version k spare).state)
+                (sym (nothing_settled (rules_with k version)))
+                (printed_nothing (instance_of (new_session (rules_with k version))) 0);
             last = refl;
             goes_on = refl;
           })),
@@ -102,7 +117,8 @@ module _ (a b : Account) (k : Fraction) (version : Version) (first : a.session �
 
 -- ---- a refused job line
 
-module _ (a b : Account) (S : Session) (kept : IsKept a) (stands : a.standing ≡ Open) (there : a.session ≡ Some S) (j : JobFacts) (cause : Refusal)
+module _ (a b : Account) (S : Session) (kept : IsKept a) (stands : a.standing ≡ Open) (there : a.session ≡ Some S)
+    (j : JobFacts) (cause : Refusal)
     (is : b ≡ record a { lines = suc a.lines; session = Some (with_item S (refused_at a.mark j cause)) }) where
   -- the refused line
   abbrev refused : RefusedJob
@@ -123,7 +139,8 @@ module _ (a b : Account) (S : Session) (kept : IsKept a) (stands : a.standing �
   -- its line is due
   pub refused_due : due_lines b ≡ due_lines a ++ refused_text refused ∷ []
   refused_due = due_open b (with_item S (RefusedItem refused)) refused_session refused_stands
-      ∙ ap (λ m. texts_among (with_item S (RefusedItem refused)) (settled (instance_of (with_item S (RefusedItem refused))) m)) refused_mark
+      ∙ ap (λ m. texts_among (with_item S (RefusedItem refused))
+      (settled (instance_of (with_item S (RefusedItem refused))) m)) refused_mark
       ∙ texts_refused S refused (holds_of a S kept stands there).reads
       ∙ ap (λ ls. ls ++ refused_text refused ∷ []) (sym (due_open a S there stands))
 
@@ -136,7 +153,8 @@ module _ (a b : Account) (S : Session) (kept : IsKept a) (stands : a.standing �
       refused_session,
       subst (λ m. IsServed (with_item S (RefusedItem refused)) m v) (sym refused_mark) (record {
         jobs = served.jobs ∙ sym (refused_instance S refused);
-        printed = subst (λ J. HasPrinted J a.mark v.state (settled J a.mark)) (sym (refused_instance S refused)) served.printed;
+        printed = subst (λ J. HasPrinted J a.mark v.state (settled J a.mark))
+            (sym (refused_instance S refused)) served.printed;
         last = served.last;
         goes_on = served.goes_on;
       }),

@@ -3,7 +3,7 @@ use Rattle.std.proofs.Common.{◌≡◌, ℕ, suc, List, ◌∷◌, ◌++◌, []
 use Rattle.std.proofs.Common.{Option, Some, None, Result, Ok, Err, Bool, true, false, cond, append_assoc}
 use Rattle.std.specs.List.{fold}
 use Rattle.std.proofs.lemmas.List.{append-nil}
-use Rattle.std.proofs.lemmas.Grind.{flat_map-append}
+use Rattle.dover_model.proofs.Beginnings.{in_lines-append}
 use Rattle.std.specs.Prelude.{nat_lt, ◌||◌}
 use Rattle.std.specs.Option.{option_map}
 use Rattle.dover_model.specs.Limits.{most_lines, last_tick}
@@ -13,8 +13,10 @@ use Rattle.dover_model.specs.declared.events.Refusal.{Refusal}
 use Rattle.dover_model.specs.JobFacts.{JobFacts}
 use Rattle.dover_model.specs.Admission.{refusal_of}
 use Rattle.dover_model.specs.Session.{Session, JobItem, with_item, refused_at, admitted_jobs, is_two}
-use Rattle.dover_model.specs.Feed.{Account, Standing, Open, Ended, Faulty, Lines, Line, is_open, next_line, read_line, with_line}
-use Rattle.dover_model.specs.Feed.{with_fault, with_item_in, later_line_cause, Order, NotAdmitted, account, account_of_lines}
+use Rattle.dover_model.specs.Feed.{Account, Standing, Open, Ended, Faulty, Lines, Line, is_open, next_line, read_line}
+use Rattle.dover_model.specs.Feed.{with_line}
+use Rattle.dover_model.specs.Feed.{with_fault, with_item_in, later_line_cause, Order, NotAdmitted, account}
+use Rattle.dover_model.specs.Feed.{account_of_lines}
 use Rattle.dover_model.specs.Due.{due_lines}
 use Rattle.dover_model.specs.WholeRun.{Begins}
 use Rattle.dover_model.proofs.Accounts.{account_append, account_kept, lines_goes}
@@ -31,10 +33,6 @@ use Rattle.serve_word.specs.declared.progress.Stop.TheVariants.{NoMemory, Unwrit
 
 -- ---- one text behind another
 
--- lines behind lines
-in_lines-append : (ls ms : List (List ℕ)) → in_lines (ls ++ ms) ≡ in_lines ls ++ in_lines ms
-in_lines-append ls ms = flat_map-append (λ (l : List ℕ). l ++ 10 ∷ []) ls ms
-
 module _ (a b c : Option (List Move)) (p q r t u : List ℕ) where
   -- A text passes, and then a front of another is put.
   passes_then_begun : Passes a b p q t → Begun b c q u → Begun a c p (t ++ u)
@@ -48,7 +46,8 @@ module _ (a b c : Option (List Move)) (p q r t u : List ℕ) where
   ))
 
   -- by the result of the second
-  puts_then : {T : Type 0} (result : Result T Stop) → Passes a b p q t → PutsBy result b c q r u → PutsBy result a c p r (t ++ u)
+  puts_then : {T : Type 0} (result : Result T Stop) → Passes a b p q t → PutsBy result b c q r u
+      → PutsBy result a c p r (t ++ u)
   puts_then (Ok x) first second = passes_then a b c p q r t u first second
   puts_then (Err NoMemory) first second = passes_then_begun first second
   puts_then (Err Unwritten) first second = passes_then_cut a b c p q r t u first second
@@ -56,11 +55,20 @@ module _ (a b c : Option (List Move)) (p q r t u : List ℕ) where
 -- A front of a text is a front of a longer one.
 begun_longer : (a b : Option (List Move)) (p t u : List ℕ) → Begun a b p t → Begun a b p (t ++ u)
 begun_longer a b p t u first = since_weaker a b _ _ first
-    (λ xs it. (it.0, (it.1.0 ++ u, sym (append_assoc p t u) ∙ ap (λ l. l ++ u) it.1.1 ∙ append_assoc (outs xs) it.1.0 u)))
+    (λ xs it. (
+      it.0,
+      (
+        it.1.0 ++ u,
+        sym (append_assoc p t u) ∙ ap (λ l. l ++ u) it.1.1
+            ∙ append_assoc (outs xs) it.1.0 u,
+      ),
+    ))
 
 -- what one line delivers, and then another
-pub delivers_then : (result : Result Progress Stop) (old mid new : Option (List Move)) (p q r : List ℕ) (a b c : Account)
-    (server server2 : Option Service) → Delivers (Ok progress.Open) old mid p q a b server → Delivers result mid new q r b c server2
+pub delivers_then : (result : Result Progress Stop) (old mid new : Option (List Move)) (p q r : List ℕ)
+    (a b c : Account)
+    (server server2 : Option Service) → Delivers (Ok progress.Open) old mid p q a b server
+    → Delivers result mid new q r b c server2
     → Delivers result old new p r a c server2
 delivers_then result old mid new p q r a b c server server2 first second = record {
   text = first.text ++ second.text;
@@ -71,24 +79,28 @@ delivers_then result old mid new p q r a b c server server2 first second = recor
 }
 
 -- a front of what is due is a front of what is due for more
-pub stopped_longer : (stop : Stop) (old new : Option (List Move)) (p r : List ℕ) (a b c : Account) (server : Option Service)
+pub stopped_longer : (stop : Stop) (old new : Option (List Move)) (p r : List ℕ) (a b c : Account)
+    (server : Option Service)
     → Begins (due_lines b) (due_lines c) → (IsDeclared b → IsDeclared c) → Delivers (Err stop) old new p r a b server
     → Delivers (Err stop) old new p r a c server
 stopped_longer NoMemory old new p r a b c server more declared it = record {
   text = it.text ++ more.0;
   due = more.1 ∙ ap (λ ls. ls ++ more.0) it.due ∙ append_assoc (due_lines a) it.text more.0;
-  puts = subst (Begun old new p) (sym (in_lines-append it.text more.0)) (begun_longer old new p (in_lines it.text) (in_lines more.0) it.puts);
+  puts = subst (Begun old new p) (sym (in_lines-append it.text more.0))
+      (begun_longer old new p (in_lines it.text) (in_lines more.0) it.puts);
   leaves = declared it.leaves;
 }
 stopped_longer Unwritten old new p r a b c server more declared it = record {
   text = it.text ++ more.0;
   due = more.1 ∙ ap (λ ls. ls ++ more.0) it.due ∙ append_assoc (due_lines a) it.text more.0;
-  puts = subst (CutsShort old new p) (sym (in_lines-append it.text more.0)) (cut_longer old new p (in_lines it.text) (in_lines more.0) it.puts);
+  puts = subst (CutsShort old new p) (sym (in_lines-append it.text more.0))
+      (cut_longer old new p (in_lines it.text) (in_lines more.0) it.puts);
   leaves = tt;
 }
 
 -- nothing is delivered where nothing is done
-pub delivers_nothing : (a : Option (List Move)) (p : List ℕ) (b : Account) (server : Option Service) → StandsAt progress.Open b server
+pub delivers_nothing : (a : Option (List Move)) (p : List ℕ) (b : Account) (server : Option Service)
+    → StandsAt progress.Open b server
     → Delivers (Ok progress.Open) a a p p b b server
 delivers_nothing a p b server stands =
     record { text = []; due = sym (append-nil (due_lines b)); puts = passes_nothing a p; leaves = stands }
@@ -106,7 +118,8 @@ faulty_closed a it = ap (λ s. elim s [ Open ↦ true | Ended ↦ false | Faulty
 -- what is due for a front begins what is due
 pub due_front : (F G : List ℕ) → Begins (due_lines (account F)) (due_lines (account (F ++ G)))
 due_front F G = let it = account_append F G in
-    subst (λ a. Begins (due_lines (account F)) (due_lines a)) (sym it.1) (lines_goes it.0 (account F) (account_kept F)).1
+    subst (λ a. Begins (due_lines (account F)) (due_lines a)) (sym it.1)
+    (lines_goes it.0 (account F) (account_kept F)).1
 
 -- ---- a session stays
 
@@ -132,7 +145,8 @@ module _ (lines : ℕ) (S : Session) (mark : ℕ) (standing : Standing) where
     by_refusal (Some refusal) = by_two refusal (is_two S.rules.version)
 
     by_order : (b : Bool) → IsDeclared
-        (with_line at (JobLine j) (cond b (Some Order) (option_map NotAdmitted (refusal_of S.rules.ratio (admitted_jobs S.items) j))))
+        (with_line at (JobLine j)
+        (cond b (Some Order) (option_map NotAdmitted (refusal_of S.rules.ratio (admitted_jobs S.items) j))))
     by_order true = (S, refl)
     by_order false = by_refusal (refusal_of S.rules.ratio (admitted_jobs S.items) j)
 
@@ -157,11 +171,12 @@ module _ (lines : ℕ) (S : Session) (mark : ℕ) (standing : Standing) where
 
 -- a session that is there stays
 declared_next : (a : Account) (l : List ℕ) → IsDeclared a → IsDeclared (next_line a l)
-declared_next a l it = subst (λ o. IsDeclared (next_line (record a { session = o }) l)) (sym it.1) (by_open (is_open a)) where
-  by_open : (b : Bool) → IsDeclared (cond b (read_line (account_with (suc a.lines) it.0 a.mark a.standing) l)
-      (account_with a.lines it.0 a.mark a.standing))
-  by_open true = read_stays (suc a.lines) it.0 a.mark a.standing l
-  by_open false = (it.0, refl)
+declared_next a l it = subst (λ o. IsDeclared (next_line (record a { session = o }) l)) (sym it.1)
+    (by_open (is_open a)) where
+      by_open : (b : Bool) → IsDeclared (cond b (read_line (account_with (suc a.lines) it.0 a.mark a.standing) l)
+          (account_with a.lines it.0 a.mark a.standing))
+      by_open true = read_stays (suc a.lines) it.0 a.mark a.standing l
+      by_open false = (it.0, refl)
 
 -- over many lines
 declared_lines : (ls : List (List ℕ)) (a : Account) → IsDeclared a → IsDeclared (fold next_line a ls)
@@ -170,7 +185,8 @@ declared_lines (l ∷ ls) a it = declared_lines ls (next_line a l) (declared_nex
 
 -- so does that of more bytes
 pub declared_front : (F G : List ℕ) → IsDeclared (account F) → IsDeclared (account (F ++ G))
-declared_front F G it = let more = account_append F G in subst IsDeclared (sym more.1) (declared_lines more.0 (account F) it)
+declared_front F G it = let more = account_append F G in
+    subst IsDeclared (sym more.1) (declared_lines more.0 (account F) it)
 
 -- ---- a piece, front by front
 
@@ -180,7 +196,8 @@ module _ (x done front behind : List ℕ) where
   next_front = append_assoc x done front
 
   -- and those behind them
-  pub rest_behind : (bytes rest : List ℕ) → bytes ≡ done ++ rest → rest ≡ front ++ behind → ((x ++ done) ++ front) ++ behind ≡ x ++ bytes
+  pub rest_behind : (bytes rest : List ℕ) → bytes ≡ done ++ rest → rest ≡ front ++ behind
+      → ((x ++ done) ++ front) ++ behind ≡ x ++ bytes
   rest_behind bytes rest all parts =
       append_assoc (x ++ done) front behind ∙ append_assoc x done (front ++ behind)
       ∙ ap (λ l. x ++ (done ++ l)) (sym parts) ∙ ap (λ l. x ++ l) (sym all)
@@ -188,9 +205,11 @@ module _ (x done front behind : List ℕ) where
 module _ (x done front : List ℕ) (old mid new : Option (List Move)) (p q r : List ℕ) (server server2 : Option Service)
     (first : Delivers (Ok progress.Open) old mid p q (account x) (account (x ++ done)) server) where
   -- a front more
-  pub piece_next : Delivers (Ok progress.Open) mid new q r (account (x ++ done)) (account ((x ++ done) ++ front)) server2
+  pub piece_next : Delivers (Ok progress.Open) mid new q r (account (x ++ done))
+      (account ((x ++ done) ++ front)) server2
       → Delivers (Ok progress.Open) old new p r (account x) (account (x ++ (done ++ front))) server2
-  piece_next second = subst (λ y. Delivers (Ok progress.Open) old new p r (account x) (account y) server2) (append_assoc x done front)
+  piece_next second = subst (λ y. Delivers (Ok progress.Open) old new p r (account x) (account y) server2)
+      (append_assoc x done front)
       (delivers_then (Ok progress.Open) old mid new p q r _ _ _ server server2 first second)
 
   module _ (behind bytes : List ℕ) (all : ((x ++ done) ++ front) ++ behind ≡ x ++ bytes) where
@@ -204,25 +223,32 @@ module _ (x done front : List ℕ) (old mid new : Option (List Move)) (p q r : L
         (delivers_then (Ok over) old mid new p q r _ _ _ server server2 first second)
 
     -- it ends the feed
-    pub piece_ended : Delivers (Ok progress.Ended) mid new q r (account (x ++ done)) (account ((x ++ done) ++ front)) server2
+    pub piece_ended : Delivers (Ok progress.Ended) mid new q r (account (x ++ done))
+        (account ((x ++ done) ++ front)) server2
         → Delivers (Ok progress.Ended) old new p r (account x) (account (x ++ bytes)) server2
     piece_ended second = piece_over progress.Ended second (ended_closed (account ((x ++ done) ++ front)) second.leaves)
 
     -- it makes the feed faulty
-    pub piece_refused : Delivers (Ok progress.Refused) mid new q r (account (x ++ done)) (account ((x ++ done) ++ front)) server2
+    pub piece_refused : Delivers (Ok progress.Refused) mid new q r (account (x ++ done))
+        (account ((x ++ done) ++ front)) server2
         → Delivers (Ok progress.Refused) old new p r (account x) (account (x ++ bytes)) server2
-    piece_refused second = piece_over progress.Refused second (faulty_closed (account ((x ++ done) ++ front)) second.leaves)
+    piece_refused second = piece_over progress.Refused second
+        (faulty_closed (account ((x ++ done) ++ front)) second.leaves)
 
     -- what is due for this front wasn't put whole
     pub piece_stopped : (stop : Stop)
         → Delivers (Err stop) mid new q r (account (x ++ done)) (account ((x ++ done) ++ front)) server2
         → Delivers (Err stop) old new p r (account x) (account (x ++ bytes)) server2
     piece_stopped stop second = subst (λ y. Delivers (Err stop) old new p r (account x) (account y) server2) all
-        (stopped_longer stop old new p r _ _ _ server2 (due_front ((x ++ done) ++ front) behind) (declared_front ((x ++ done) ++ front) behind)
+        (stopped_longer stop old new p r _ _ _ server2 (due_front ((x ++ done) ++ front) behind)
+        (declared_front ((x ++ done) ++ front) behind)
         (delivers_then (Err stop) old mid new p q r _ _ _ server server2 first second))
 
 -- a byte that goes on with its line delivers nothing
-pub byte_nothing : (x : List ℕ) (byte : ℕ) (a : Option (List Move)) (p : List ℕ) (server : Option Service) → lines_of (x ++ byte ∷ []) ≡ lines_of x
-    → StandsAt progress.Open (account x) server → Delivers (Ok progress.Open) a a p p (account x) (account (x ++ byte ∷ [])) server
-byte_nothing x byte a p server same stands = subst (λ ls. Delivers (Ok progress.Open) a a p p (account x) (account_of_lines ls) server) (sym same)
+pub byte_nothing : (x : List ℕ) (byte : ℕ) (a : Option (List Move)) (p : List ℕ) (server : Option Service)
+    → lines_of (x ++ byte ∷ []) ≡ lines_of x
+    → StandsAt progress.Open (account x) server
+    → Delivers (Ok progress.Open) a a p p (account x) (account (x ++ byte ∷ [])) server
+byte_nothing x byte a p server same stands =
+    subst (λ ls. Delivers (Ok progress.Open) a a p p (account x) (account_of_lines ls) server) (sym same)
     (delivers_nothing a p (account x) server stands)

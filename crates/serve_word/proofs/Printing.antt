@@ -22,7 +22,8 @@ use Rattle.serve_word.specs.Served.{HasServed, IsServed}
 
 -- ---- to a mark
 
-module _ (S : Session) (valid : IsValid (instance_of S)) (mark later : ℕ) (ordered : mark ≤ later) (v u : Service) (events : List Event)
+module _ (S : Session) (valid : IsValid (instance_of S)) (mark later : ℕ) (ordered : mark ≤ later) (v u : Service)
+    (events : List Event)
     (served : HasServed S mark v events) (xs : List Step) (path : IsOpenPath v.rules later v.state xs u.state) where
   -- the rules are the session's
   rules_are : v.rules ≡ S.rules
@@ -44,11 +45,13 @@ module _ (S : Session) (valid : IsValid (instance_of S)) (mark later : ℕ) (ord
 
   -- the state is one of the session's jobs
   keeps_later : Keeps (instance_of S) u.state
-  keeps_later = path_keeps (instance_of S) valid later printed_later.steps (opening (instance_of S).jobs) u.state (opening_keeps (instance_of S))
+  keeps_later = path_keeps (instance_of S) valid later printed_later.steps (opening (instance_of S).jobs) u.state
+      (opening_keeps (instance_of S))
       printed_later.path
 
   -- the server has served the session up to the later mark
-  pub served_later : u.rules ≡ v.rules → u.last ≡ Mark later → u.ended ≡ v.ended → HasServed S later u (events ++ printed_of xs)
+  pub served_later : u.rules ≡ v.rules → u.last ≡ Mark later → u.ended ≡ v.ended
+      → HasServed S later u (events ++ printed_of xs)
   served_later rules last goes_on = record {
     jobs = ap (λ k. record { rules = k; jobs = jobs_of u.state.tasks }) (rules ∙ rules_are)
         ∙ ap (λ js. record { rules = S.rules; jobs = js }) keeps_later.jobs;
@@ -58,24 +61,30 @@ module _ (S : Session) (valid : IsValid (instance_of S)) (mark later : ℕ) (ord
   }
 
   -- at the barrier it has served all
-  pub served_all : u.rules ≡ v.rules → u.last ≡ Mark later → u.ended ≡ v.ended → IsBarrier v.rules later u.state → IsServed S later u
-  served_all rules last goes_on barrier = subst (HasServed S later u) (all_settled barrier) (served_later rules last goes_on)
+  pub served_all : u.rules ≡ v.rules → u.last ≡ Mark later → u.ended ≡ v.ended → IsBarrier v.rules later u.state
+      → IsServed S later u
+  served_all rules last goes_on barrier =
+      subst (HasServed S later u) (all_settled barrier) (served_later rules last goes_on)
 
 -- ---- with a job more
 
 -- there are as many tasks as jobs
-pub tasks_count : (S : Session) (v : Service) → list_of v ≡ instance_of S → length v.state.tasks ≡ length (instance_of S).jobs
+pub tasks_count : (S : Session) (v : Service) → list_of v ≡ instance_of S
+    → length v.state.tasks ≡ length (instance_of S).jobs
 tasks_count S v jobs = sym (length-map v.state.tasks (λ (t : Task). t.job)) ∙ ap (λ (J : Instance). length J.jobs) jobs
 
 -- a job that is admitted is to come, and nothing more was printed
-pub served_job : (S : Session) (mark : ℕ) (v : Service) (events : List Event) (j : JobFacts) (spare : ℕ) → HasServed S mark v events
-    → mark ≤ j.release → IsValid (with_jobs (instance_of S) (j ∷ [])) → HasServed (with_item S (JobItem j)) mark (with_job v j spare) events
+pub served_job : (S : Session) (mark : ℕ) (v : Service) (events : List Event) (j : JobFacts) (spare : ℕ)
+    → HasServed S mark v events
+    → mark ≤ j.release → IsValid (with_jobs (instance_of S) (j ∷ []))
+    → HasServed (with_item S (JobItem j)) mark (with_job v j spare) events
 served_job S mark v events j spare served ordered valid = record {
   jobs = ap (λ js. record { rules = v.rules; jobs = js })
       (map-append (λ (t : Task). t.job) v.state.tasks (admitted_task (length v.state.tasks) j ∷ []))
       ∙ ap (λ J. with_jobs J (j ∷ [])) served.jobs ∙ sym (job_instance S j);
   printed = subst (λ J. HasPrinted J mark (with_job v j spare).state events) (sym (job_instance S j))
-      (subst (λ n. HasPrinted (with_jobs (instance_of S) (j ∷ [])) mark (with_later v.state (admitted_task n j ∷ [])) events)
+      (subst (λ n. HasPrinted (with_jobs (instance_of S) (j ∷ [])) mark
+      (with_later v.state (admitted_task n j ∷ [])) events)
       (sym (tasks_count S v served.jobs))
       (printed_behind (instance_of S) (j ∷ []) mark v.state events valid (λ i m. is_last i m) served.printed));
   last = served.last;

@@ -20,13 +20,15 @@ module _ (F : List ℕ) (may : MayPause F) (v : Service) (i : feed.Kept) (it : R
   -- the clock of the server is the mark
   clock_is : v.state.clock ≡ (account F).mark
   clock_is = ap (λ (s : State). s.clock) it.state
-      ∙ (settled_at_barrier (instance_of it.session) (holds F may it.session it.named).reads.valid (account F).mark).clock
+      ∙ (settled_at_barrier (instance_of it.session) (holds F may it.session it.named).reads.valid
+      (account F).mark).clock
 
   -- of a cutter to which no byte was given, the lines of the feed stand
   cuts_none : (c : Cutting) → begun_line c ≡ [] → is_over c.last ≡ false → Cuts c F
   cuts_none c none over = record { rest = none ∙ sym may.whole; over = over ∙ sym (ap is_too_long may.whole) }
 
-  pub resumed_stands : (f : Feed) → begun_line f.lines ≡ [] → is_over f.lines.last ≡ false → f.session.intake ≡ i → f.session.server ≡ Some v
+  pub resumed_stands : (f : Feed) → begun_line f.lines ≡ [] → is_over f.lines.last ≡ false → f.session.intake ≡ i
+      → f.session.server ≡ Some v
       → f.session.mark ≡ v.state.clock → FeedStands f F
   resumed_stands f none over intake server mark = record {
     cut = cuts_none f.lines none over;

@@ -18,7 +18,8 @@ use Rattle.serve_word.specs.Served.{Settles, IsSettling, event_lines}
 use Rattle.dover_core.proofs.Passing.{leads_open, printed_next}
 use Rattle.serve_word.proofs.Finishing.{lines_next}
 
-module _ (a b c : Option (List Move)) (p q r : List ℕ) (mark : ℕ) (v w u : Service) (e : Event) (rules : w.rules ≡ v.rules)
+module _ (a b c : Option (List Move)) (p q r : List ℕ) (mark : ℕ) (v w u : Service) (e : Event)
+    (rules : w.rules ≡ v.rules)
     (so_far : IsSettling a b p q mark v w) (gives : GivesNext (Mark mark) w.rules w.state u.state e) where
   -- the silent steps up to the next printed one
   silent : IsOpenPath v.rules mark w.state gives.waits.steps gives.before
@@ -35,7 +36,8 @@ module _ (a b c : Option (List Move)) (p q r : List ℕ) (mark : ℕ) (v w u : S
 
   -- they print one event more
   prints_next : printed_of steps_next ≡ printed_of so_far.steps ++ e ∷ []
-  prints_next = printed_next so_far.steps gives.waits.steps gives.before (open_step v.rules gives.before) e gives.waits.silent prints
+  prints_next = printed_next so_far.steps gives.waits.steps gives.before
+      (open_step v.rules gives.before) e gives.waits.silent prints
 
   -- the lines with this event
   lines_are : event_lines (printed_of so_far.steps) ++ (text_of e ++ 10 ∷ []) ≡ event_lines (printed_of steps_next)
@@ -43,9 +45,15 @@ module _ (a b c : Option (List Move)) (p q r : List ℕ) (mark : ℕ) (v w u : S
 
   -- they lead to the state after it
   path_next : IsOpenPath v.rules mark v.state steps_next u.state
-  path_next = path_append v.rules mark so_far.steps (gives.waits.steps ++ open_at v.rules gives.before ∷ []) v.state w.state u.state so_far.path
-      (path_append v.rules mark gives.waits.steps (open_at v.rules gives.before ∷ []) w.state gives.before u.state silent
-      (refl, subst (λ k. IsBefore k mark gives.before) rules gives.goes, gives.state ∙ ap (after gives.before) (sym prints)))
+  path_next = path_append v.rules mark so_far.steps
+      (gives.waits.steps ++ open_at v.rules gives.before ∷ []) v.state w.state u.state so_far.path
+      (path_append v.rules mark gives.waits.steps
+      (open_at v.rules gives.before ∷ []) w.state gives.before u.state silent (
+        refl,
+        subst (λ k. IsBefore k mark gives.before) rules gives.goes,
+        gives.state
+            ∙ ap (after gives.before) (sym prints),
+      ))
 
   -- the run is taken one printed step further
   pub settling_next : Passes b c q r (text_of e ++ 10 ∷ []) → IsSettling a c p r mark v u
@@ -56,12 +64,17 @@ module _ (a b c : Option (List Move)) (p q r : List ℕ) (mark : ℕ) (v w u : S
   }
 
   -- its line is cut short
-  pub settling_cut : {T E : Type 0} (d : E) → CutsShort b c q (text_of e ++ 10 ∷ []) → u.rules ≡ v.rules → u.last ≡ Mark mark → u.ended ≡ v.ended
+  pub settling_cut : {T E : Type 0} (d : E) → CutsShort b c q (text_of e ++ 10 ∷ []) → u.rules ≡ v.rules
+      → u.last ≡ Mark mark → u.ended ≡ v.ended
       → v.spare ≤ u.spare → Settles {T = T} a c (Err d) p r mark v u
   settling_cut d puts kept last goes_on spare = record {
     steps = steps_next;
     path = path_next;
-    puts = record { all = tt; part = subst (CutsShort a c p) lines_are (passes_then_cut a b c p q r _ _ so_far.puts puts) };
+    puts = record {
+      all = tt;
+      part =
+          subst (CutsShort a c p) lines_are (passes_then_cut a b c p q r _ _ so_far.puts puts);
+    };
     barrier = tt;
     rules = kept;
     last = last;
@@ -71,8 +84,10 @@ module _ (a b c : Option (List Move)) (p q r : List ℕ) (mark : ℕ) (v w u : S
   }
 
 -- at the barrier
-pub settling_ends : {T E : Type 0} (a b : Option (List Move)) (p q : List ℕ) (mark : ℕ) (v w u : Service) (x : T) → w.rules ≡ v.rules
-    → IsSettling a b p q mark v w → ReachesBarrier mark w.rules w.state u.state → u.rules ≡ v.rules → u.last ≡ Mark mark → u.ended ≡ v.ended
+pub settling_ends : {T E : Type 0} (a b : Option (List Move)) (p q : List ℕ) (mark : ℕ) (v w u : Service) (x : T)
+    → w.rules ≡ v.rules
+    → IsSettling a b p q mark v w → ReachesBarrier mark w.rules w.state u.state → u.rules ≡ v.rules → u.last ≡ Mark mark
+    → u.ended ≡ v.ended
     → u.ready ≡ true → v.spare ≤ u.spare → Settles {E = E} a b (Ok x) p q mark v u
 settling_ends a b p q mark v w u x rules it reaches kept last goes_on ready spare = record {
   steps = it.steps ++ reaches.waits.steps;

@@ -32,14 +32,17 @@ module _ (x bytes p : List ℕ) (put_so_far : due x ++ p ≡ due (x ++ bytes)) w
   reads_shift [] got put it = tt
   reads_shift (Got more ∷ moves) got put it = (
     may_shift got put it.0,
-    subst (λ g. EachReadFrom (MayReadFrom x) g (p ++ put) moves) (sym (append_assoc bytes got more)) (reads_shift moves (got ++ more) put it.1),
+    subst (λ g. EachReadFrom (MayReadFrom x) g (p ++ put) moves) (sym (append_assoc bytes got more))
+        (reads_shift moves (got ++ more) put it.1),
   )
   reads_shift (Ended ∷ moves) got put it = (may_shift got put it.0, it.1)
   reads_shift (Put more ∷ moves) got put it =
-      subst (λ q. EachReadFrom (MayReadFrom x) (bytes ++ got) q moves) (sym (append_assoc p put more)) (reads_shift moves got (put ++ more) it)
+      subst (λ q. EachReadFrom (MayReadFrom x) (bytes ++ got) q moves) (sym (append_assoc p put more))
+      (reads_shift moves got (put ++ more) it)
 
   -- a front of a text
-  part_shift : (whole : List ℕ → List ℕ) (got put : List ℕ) → IsProperPrefix (due (x ++ bytes) ++ put) (whole ((x ++ bytes) ++ got))
+  part_shift : (whole : List ℕ → List ℕ) (got put : List ℕ)
+      → IsProperPrefix (due (x ++ bytes) ++ put) (whole ((x ++ bytes) ++ got))
       → IsProperPrefix (due x ++ (p ++ put)) (whole (x ++ (bytes ++ got)))
   part_shift whole got put it = (it.0, it.1, ap whole (sym (all_got got)) ∙ it.2 ∙ ap (λ l. l ++ it.0) (all_put put))
 
@@ -53,7 +56,8 @@ module _ (x bytes p : List ℕ) (put_so_far : due x ++ p ≡ due (x ++ bytes)) w
   )
 
   -- how it ends
-  pub ends_shift : (at_end : AtEnd) (status : Status) (got put : List ℕ) (ended : Bool) → EndsAt (x ++ bytes) at_end status got put ended
+  pub ends_shift : (at_end : AtEnd) (status : Status) (got put : List ℕ) (ended : Bool)
+      → EndsAt (x ++ bytes) at_end status got put ended
       → EndsAt x at_end status (bytes ++ got) (p ++ put) ended
   ends_shift at_end Done got put ended (inl it) =
       inl (subst (λ y. is_ended (account y) ≡ true) (all_got got) it.0, sym (all_put put) ∙ it.1 ∙ ap due (all_got got))
@@ -67,11 +71,16 @@ module _ (x bytes p : List ℕ) (put_so_far : due x ++ p ≡ due (x ++ bytes)) w
         → IsFaulty (account (x ++ (bytes ++ got))) ⊎ IsCutOffAt x at_end (bytes ++ got) (p ++ put) ended
     by (inl faulty) = inl (subst (λ y. IsFaulty (account y)) (all_got got) faulty)
     by (inr cut) = inr (cut_shift at_end got put ended cut)
-  ends_shift at_end ReadFault got put ended it =
-      (it.0, subst (λ y. is_open (account y) ≡ true) (all_got got) it.1, sym (all_put put) ∙ it.2 ∙ ap due (all_got got))
+  ends_shift at_end ReadFault got put ended it = (
+    it.0,
+    subst (λ y. is_open (account y) ≡ true) (all_got got) it.1,
+    sym (all_put put) ∙ it.2
+        ∙ ap due (all_got got),
+  )
   ends_shift at_end WriteFault got put ended (inl it) =
       inl (it.0, subst (PausesAt at_end) (all_got got) it.1, part_shift (λ y. due y ++ snapshot y) got put it.2)
-  ends_shift at_end WriteFault got put ended (inr (inl it)) = inr (inl (cut_shift at_end got put ended it.0, part_shift closed got put it.1))
+  ends_shift at_end WriteFault got put ended (inr (inl it)) =
+      inr (inl (cut_shift at_end got put ended it.0, part_shift closed got put it.1))
   ends_shift at_end WriteFault got put ended (inr (inr it)) = inr (inr (it.0, part_shift due got put it.1))
   ends_shift at_end Memory got put ended it = (
     it.0,

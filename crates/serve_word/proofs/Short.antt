@@ -48,12 +48,14 @@ module _ (w u : Service) (can : CanGoOn w) (then : CanGoOn u) (e : Event) where
 
   -- the clock stays at a printed step
   clock_low : (before : State) → u.state ≡ after before (Prints e) → before.clock < 10 ^ 18
-  clock_low before is = let same : u.state.clock ≡ before.clock = ap (λ (s : State). s.clock) is in omega (arith, then.clock)
+  clock_low before is = let same : u.state.clock ≡ before.clock = ap (λ (s : State). s.clock) is in
+      omega (arith, then.clock)
 
   -- of a step to a mark
   pub short_at_mark : (mark : ℕ) → GivesNext (Mark mark) w.rules w.state u.state e → AreShort (step_numbers e)
   short_at_mark mark gives =
-      let there : Keeps (list_of w) gives.before = path_keeps (list_of w) can.valid mark gives.waits.steps w.state gives.before keeps
+      let there : Keeps (list_of w) gives.before =
+      path_keeps (list_of w) can.valid mark gives.waits.steps w.state gives.before keeps
       (leads_open mark w.rules gives.waits.steps w.state gives.before gives.waits.lead) in
       same_numbers e (subst IsShortMove gives.prints
       (open_short (list_of w) can.valid gives.before there (clock_low gives.before gives.state) w.rules))
@@ -61,18 +63,24 @@ module _ (w u : Service) (can : CanGoOn w) (then : CanGoOn u) (e : Event) where
   -- of a step to the end
   pub short_at_end : GivesNext End w.rules w.state u.state e → AreShort (step_numbers e)
   short_at_end gives =
-      let there : Keeps (list_of w) gives.before = closed_keeps (list_of w) can.valid gives.waits.steps w.state gives.before keeps
+      let there : Keeps (list_of w) gives.before =
+      closed_keeps (list_of w) can.valid gives.waits.steps w.state gives.before keeps
       (leads_closed w.rules gives.waits.steps w.state gives.before gives.waits.lead gives.waits.silent) in
       same_numbers e (subst IsShortMove gives.prints
       (step_short (list_of w) can.valid gives.before there (clock_low gives.before gives.state) w.rules))
 
 -- no step to a mark is End
-pub mark_not_end : (w : Service) → CanGoOn w → (u : Service) (e : Event) (mark : ℕ) → GivesNext (Mark mark) w.rules w.state u.state e
+pub mark_not_end : (w : Service) → CanGoOn w → (u : Service) (e : Event) (mark : ℕ)
+    → GivesNext (Mark mark) w.rules w.state u.state e
     → is_end (Prints e) ≡ false
 mark_not_end w can u e mark gives =
-    let there : Keeps (list_of w) gives.before = path_keeps (list_of w) can.valid mark gives.waits.steps w.state gives.before
-    (record { sound = can.sound; jobs = refl }) (leads_open mark w.rules gives.waits.steps w.state gives.before gives.waits.lead) in
-    ap is_end (sym gives.prints) ∙ open_not_end (list_of w) can.valid (list_of w) can.valid w.rules mark no_tasks none_comes gives.before there where
+    let there : Keeps (list_of w) gives.before =
+    path_keeps (list_of w) can.valid mark gives.waits.steps w.state gives.before
+    (record { sound = can.sound; jobs = refl })
+    (leads_open mark w.rules gives.waits.steps w.state gives.before gives.waits.lead) in
+    ap is_end (sym gives.prints)
+    ∙ open_not_end (list_of w) can.valid
+    (list_of w) can.valid w.rules mark no_tasks none_comes gives.before there where
       no_tasks : List Task
       no_tasks = []
 

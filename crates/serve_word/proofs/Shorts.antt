@@ -1,5 +1,6 @@
 -- What is written where the input ends before the feed.
-use Rattle.std.proofs.Common.{◌≡◌, ℕ, suc, List, ◌∷◌, ◌++◌, [], length, sym, ap, ◌∙◌, subst, Option, Err, cond, true, false, inl}
+use Rattle.std.proofs.Common.{◌≡◌, ℕ, suc, List, ◌∷◌, ◌++◌, [], length, sym, ap, ◌∙◌, subst, Option, Err, cond, true}
+use Rattle.std.proofs.Common.{false, inl}
 use Rattle.std.proofs.Common.{inr}
 use Rattle.std.proofs.lemmas.List.{append-nil}
 use Rattle.dover_model.specs.Feed as feeds
@@ -25,7 +26,8 @@ module _ (feed : Feed) (x : List ℕ) (stands : FeedStands feed x) (fault : Feed
 
   -- the account goes on
   goes_on : is_open (account x) ≡ true
-  goes_on = ap (λ s. elim s [ feeds.Open ↦ true | feeds.Ended ↦ false | feeds.Faulty n cause ↦ false ]) stands.keeps.at.stands
+  goes_on = ap (λ s. elim s [ feeds.Open ↦ true | feeds.Ended ↦ false | feeds.Faulty n cause ↦ false ])
+      stands.keeps.at.stands
 
   -- the lines are the whole ones
   lines_are : lines_of x ≡ whole_lines x
@@ -34,14 +36,16 @@ module _ (feed : Feed) (x : List ℕ) (stands : FeedStands feed x) (fault : Feed
   -- the fault is that the feed is short
   fault_is : line ≡ fault_text (suc (length (whole_lines x))) feeds.Short
   fault_is = by_answer answers where
-    by_answer : EndAnswers {X = Unit {0}} (lines_of x) (Err fault) → line ≡ fault_text (suc (length (whole_lines x))) feeds.Short
+    by_answer : EndAnswers {X = Unit {0}} (lines_of x) (Err fault)
+        → line ≡ fault_text (suc (length (whole_lines x))) feeds.Short
     by_answer (inl it) = ap (λ (f : FeedFault). fault_text f.line (cause_of_fault f.cause)) it.1
         ∙ ap (λ ls. fault_text (suc (length ls)) feeds.Short) lines_are
     by_answer (inr was) = absurd (let e = sym stands.keeps.at.stands ∙ was in cc)
 
   -- its line is what is due
   pub short_is : line ++ 10 ∷ [] ≡ short_text x
-  short_is = ap (λ l. l ++ 10 ∷ []) fault_is ∙ sym (append-nil (fault_text (suc (length (whole_lines x))) feeds.Short ++ 10 ∷ []))
+  short_is = ap (λ l. l ++ 10 ∷ []) fault_is
+      ∙ sym (append-nil (fault_text (suc (length (whole_lines x))) feeds.Short ++ 10 ∷ []))
       ∙ sym (ap (λ b. in_lines (cond b (fault_text (suc (length (whole_lines x))) feeds.Short ∷ []) [])) goes_on)
 
   module _ (a b c : Option (List Move)) (q : List ℕ) (first : Passes a b [] q (line ++ 10 ∷ [])) where
@@ -56,5 +60,6 @@ module _ (feed : Feed) (x : List ℕ) (stands : FeedStands feed x) (fault : Feed
         (λ made it. (it.0, subst (IsProperPrefix (outs made)) (append-nil (line ++ 10 ∷ []) ∙ short_is) it.1))
 
   -- the line couldn't be put
-  pub short_cut : (a b : Option (List Move)) → CutsShort a b [] (line ++ 10 ∷ []) → Finishes WriteFault a b (short_text x)
+  pub short_cut : (a b : Option (List Move)) → CutsShort a b [] (line ++ 10 ∷ [])
+      → Finishes WriteFault a b (short_text x)
   short_cut a b cut = since_weaker a b _ _ cut (λ made it. (it.0, subst (IsProperPrefix (outs made)) short_is it.1))

@@ -34,33 +34,43 @@ spends_none o steps = record { grows = omega arith; few = λ d enough. omega ari
 pub spends_then : (o p q : Option Service) (a b c : ℕ) → Spends o p a b → Spends p q b c → Spends o q a c
 spends_then o p q a b c first second = record {
   grows = omega (arith, first.grows, second.grows);
-  few = λ d enough. let before = first.few d (omega (arith, second.grows, enough)) in omega (arith, before, second.few d enough);
+  few = λ d enough. let before = first.few d (omega (arith, second.grows, enough)) in
+      omega (arith, before, second.few d enough);
 }
 
 -- room that is made costs nothing
-pub room_spends : (v w : Service) (k : ℕ) → w ≡ record v { spare = k } → (steps : ℕ) → Spends (Some v) (Some w) steps steps
+pub room_spends : (v w : Service) (k : ℕ) → w ≡ record v { spare = k } → (steps : ℕ)
+    → Spends (Some v) (Some w) steps steps
 room_spends v w k is steps = subst (λ u. Spends (Some v) (Some u) steps steps) (sym is)
     (record { grows = omega arith; few = λ d enough. omega arith })
 
 -- ---- a job more
 
 -- a job that is admitted is one more
-pub job_count : (v w : Service) (job : JobFacts) (spare : ℕ) → w ≡ with_job v job spare → length w.state.tasks ≡ length v.state.tasks + 1
-job_count v w job spare is = ap (λ (u : Service). length u.state.tasks) is ∙ more_count v.state (length v.state.tasks) job
+pub job_count : (v w : Service) (job : JobFacts) (spare : ℕ) → w ≡ with_job v job spare
+    → length w.state.tasks ≡ length v.state.tasks + 1
+job_count v w job spare is = ap (λ (u : Service). length u.state.tasks) is
+    ∙ more_count v.state (length v.state.tasks) job
 
 -- its admission costs nothing
-pub job_spends : (v w : Service) (job : JobFacts) (spare : ℕ) → w ≡ with_job v job spare → (steps : ℕ) → Spends (Some v) (Some w) steps steps
+pub job_spends : (v w : Service) (job : JobFacts) (spare : ℕ) → w ≡ with_job v job spare → (steps : ℕ)
+    → Spends (Some v) (Some w) steps steps
 job_spends v w job spare is steps = record {
   grows = omega (arith, job_count v w job spare is);
   few = λ d enough. subst (λ m. steps + 20 * d * waits_so_far v.state ≤ steps + 20 * d * m)
-      (sym (more_so_far v.state (length v.state.tasks) job) ∙ ap (λ (u : Service). waits_so_far u.state) (sym is)) (omega arith);
+      (sym (more_so_far v.state (length v.state.tasks) job) ∙ ap (λ (u : Service). waits_so_far u.state) (sym is))
+      (omega arith);
 }
 
--- a job that arrives: room is made, what is settled without it is taken, it is admitted, and what is settled with it is taken
-pub arrival_spends : (o : Option Service) (v v1 w y u : Service) (room spare : ℕ) (job : JobFacts) (a b c : ℕ) → o ≡ Some v
-    → v1 ≡ record v { spare = room } → Spends (Some v1) (Some w) a b → y ≡ with_job w job spare → Spends (Some y) (Some u) b c
+-- a job that arrives: room is made, what is settled without it is taken, it is admitted, and what is settled with it is
+-- taken
+pub arrival_spends : (o : Option Service) (v v1 w y u : Service) (room spare : ℕ) (job : JobFacts) (a b c : ℕ)
+    → o ≡ Some v
+    → v1 ≡ record v { spare = room } → Spends (Some v1) (Some w) a b → y ≡ with_job w job spare
+    → Spends (Some y) (Some u) b c
     → Spends o (Some u) a c
-arrival_spends o v v1 w y u room spare job a b c there made first admitted second = subst (λ p. Spends p (Some u) a c) (sym there)
+arrival_spends o v v1 w y u room spare job a b c there made first admitted second =
+    subst (λ p. Spends p (Some u) a c) (sym there)
     (spends_then (Some v) (Some v1) (Some u) a a c (room_spends v v1 room made a)
     (spends_then (Some v1) (Some w) (Some u) a b c first
     (spends_then (Some w) (Some y) (Some u) b b c (job_spends w y job spare admitted b) second)))

@@ -1,5 +1,6 @@
 -- What a whole line adds, where no line has begun.
-use Rattle.std.proofs.Common.{◌≡◌, ℕ, ◌<◌, ◌≤◌, ◌+◌, ◌-◌, List, [], ◌∷◌, ◌++◌, length, take, get_or, refl, sym, ap, ◌∙◌, suc, zero, arith}
+use Rattle.std.proofs.Common.{◌≡◌, ℕ, ◌<◌, ◌≤◌, ◌+◌, ◌-◌, List, [], ◌∷◌, ◌++◌, length, take, get_or, refl, sym, ap, ◌∙◌}
+use Rattle.std.proofs.Common.{suc, zero, arith}
 use Rattle.std.proofs.Common.{Bool, true, false, cond, not, length-append}
 use Rattle.std.specs.Prelude.{◌==◌}
 use Rattle.std.specs.List.{list_all}
@@ -13,17 +14,20 @@ use Rattle.serve_word.specs.Feeding.{IsWholeLine}
 
 -- where no line has begun, the lines are the whole ones
 lines_whole : (bytes : List ℕ) → rest_of bytes ≡ [] → lines_of bytes ≡ whole_lines bytes
-lines_whole bytes none = ap (λ r. whole_lines bytes ++ cond (is_too_long r) (r ∷ []) []) none ∙ append-nil (whole_lines bytes)
+lines_whole bytes none = ap (λ r. whole_lines bytes ++ cond (is_too_long r) (r ∷ []) []) none
+    ∙ append-nil (whole_lines bytes)
 
 -- a line with its line feed
 one_line : (line : List ℕ) → HasNoFeed line → cut (line ++ 10 ∷ []) ≡ (line ∷ [], [])
 one_line line one =
-    ap cut (sym (flat_map-cons (λ (l : List ℕ). l ++ 10 ∷ []) line [] ∙ append-nil (line ++ 10 ∷ []))) ∙ cut_in_lines (line ∷ []) (one, tt)
+    ap cut (sym (flat_map-cons (λ (l : List ℕ). l ++ 10 ∷ []) line [] ∙ append-nil (line ++ 10 ∷ [])))
+    ∙ cut_in_lines (line ∷ []) (one, tt)
 
 module _ (x line : List ℕ) (one : HasNoFeed line) (none : rest_of x ≡ []) where
   cut_whole : cut (x ++ (line ++ 10 ∷ [])) ≡ (whole_lines x ++ line ∷ [], [])
   cut_whole = cut_append x (line ++ 10 ∷ [])
-      ∙ ap (λ (r : List ℕ). let c : CutText = onto r (cut (line ++ 10 ∷ [])) in let all : CutText = (whole_lines x ++ c.0, c.1) in all) none
+      ∙ ap (λ (r : List ℕ). let c : CutText = onto r (cut (line ++ 10 ∷ [])) in let all : CutText =
+      (whole_lines x ++ c.0, c.1) in all) none
       ∙ ap (λ (c : CutText). let all : CutText = (whole_lines x ++ c.0, c.1) in all) (one_line line one)
 
   -- no line has begun behind it
@@ -45,7 +49,8 @@ module _ (c : Cutting) (x bytes : List ℕ) (it : IsWholeLine c bytes) (cut_so :
   without_feed =
       let size : length bytes ≡ length it.line + 1 = ap length it.ended ∙ length-append it.line (10 ∷ []) in
       let less : length bytes - 1 ≡ length it.line = omega (arith, size) in
-      ap (λ n. take n bytes) less ∙ ap (take (length it.line)) it.ended ∙ take_at it.line (10 ∷ []) (length it.line) refl
+      ap (λ n. take n bytes) less ∙ ap (take (length it.line)) it.ended
+      ∙ take_at it.line (10 ∷ []) (length it.line) refl
 
   -- which is a line more
   pub whole_more : lines_of (x ++ bytes) ≡ lines_of x ++ take (length bytes - 1) bytes ∷ []
@@ -55,7 +60,8 @@ module _ (c : Cutting) (x bytes : List ℕ) (it : IsWholeLine c bytes) (cut_so :
 -- ---- the first line feed
 
 -- bytes of which none is a line feed
-none_feed : (bytes : List ℕ) (n : ℕ) → n ≤ length bytes → ((k : ℕ) → k < n → (get_or bytes k 0 == 10) ≡ true → ⊥) → HasNoFeed (take n bytes)
+none_feed : (bytes : List ℕ) (n : ℕ) → n ≤ length bytes → ((k : ℕ) → k < n → (get_or bytes k 0 == 10) ≡ true → ⊥)
+    → HasNoFeed (take n bytes)
 none_feed bytes zero within none = refl
 none_feed [] (suc n) within none = absurd (omega arith)
 none_feed (b ∷ bytes) (suc n) within none =
@@ -66,7 +72,8 @@ none_feed (b ∷ bytes) (suc n) within none =
       by false is = refl
 
 -- the bytes up to the first line feed, with it, are a whole line
-pub first_whole : (c : Cutting) (bytes : List ℕ) (at : ℕ) → at < length bytes → ((k : ℕ) → k < at → (get_or bytes k 0 == 10) ≡ true → ⊥)
+pub first_whole : (c : Cutting) (bytes : List ℕ) (at : ℕ) → at < length bytes
+    → ((k : ℕ) → k < at → (get_or bytes k 0 == 10) ≡ true → ⊥)
     → (get_or bytes at 0 == 10) ≡ true → begun_line c ≡ [] → IsWholeLine c (take (at + 1) bytes)
 first_whole c bytes at within none feed fresh = record {
   line = take at bytes;

@@ -16,7 +16,9 @@ PausesAt Pause x = MayPause x
 -- the last text of a call whose input has ended, behind these bytes: the snapshot, or the line that refuses the feed
 abbrev pub Closes : AtEnd → Status → Option (List Move) → Option (List Move) → List ℕ → Type 0
 Closes at_end Done old new x = PausesAt at_end x × Since old new (λ made. ArePuts made × (outs made ≡ snapshot x))
-Closes at_end Refused old new x = (PausesAt at_end x → ⊥) × Since old new (λ made. ArePuts made × (outs made ≡ short_text x))
-Closes at_end WriteFault old new x = (PausesAt at_end x × Since old new (λ made. ArePuts made × IsProperPrefix (outs made) (snapshot x)))
+Closes at_end Refused old new x = (PausesAt at_end x → ⊥)
+    × Since old new (λ made. ArePuts made × (outs made ≡ short_text x))
+Closes at_end WriteFault old new x =
+    (PausesAt at_end x × Since old new (λ made. ArePuts made × IsProperPrefix (outs made) (snapshot x)))
     ⊎ ((PausesAt at_end x → ⊥) × Since old new (λ made. ArePuts made × IsProperPrefix (outs made) (short_text x)))
 Closes at_end _ old new x = ⊥

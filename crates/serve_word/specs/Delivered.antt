@@ -22,7 +22,8 @@ abbrev pub Begun : (old new : Option (List Move)) → (before text : List ℕ) �
 Begun old new before text = Since old new (λ made. ArePuts made × Begins (outs made) (before ++ text))
 
 -- how the text was put, by the result
-abbrev pub PutsBy : {T : Type 0} → Result T Stop → (old new : Option (List Move)) → (before after text : List ℕ) → Type 0
+abbrev pub PutsBy : {T : Type 0} → Result T Stop → (old new : Option (List Move)) → (before after text : List ℕ)
+    → Type 0
 PutsBy (Ok x) old new before after text = Passes old new before after text
 PutsBy (Err NoMemory) old new before after text = Begun old new before text
 PutsBy (Err Unwritten) old new before after text = CutsShort old new before text
@@ -49,7 +50,8 @@ LeavesBy (Err NoMemory) b server = IsDeclared b
 LeavesBy (Err Unwritten) b server = Unit {0}
 
 -- the lines that make what is due for b of what is due for a
-pub record Delivers (result : Result Progress Stop) (old new : Option (List Move)) (before after : List ℕ) (a b : Account) (server : Option Service)
+pub record Delivers (result : Result Progress Stop) (old new : Option (List Move)) (before after : List ℕ)
+    (a b : Account) (server : Option Service)
     : Type 0 where
   pub text : List (List ℕ)
   pub due : due_lines b ≡ due_lines a ++ text

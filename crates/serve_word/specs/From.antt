@@ -41,7 +41,8 @@ module _ (x : List ℕ) (at_end : AtEnd) (got put : List ℕ) (ended : Bool) whe
 
   -- a write failed: a front of what is due was put, and not all of it
   abbrev pub IsUnwrittenAt : Type 0
-  IsUnwrittenAt = ((ended ≡ true) × PausesAt at_end (x ++ got) × IsProperPrefix (due x ++ put) (due (x ++ got) ++ snapshot (x ++ got)))
+  IsUnwrittenAt = ((ended ≡ true) × PausesAt at_end (x ++ got)
+      × IsProperPrefix (due x ++ put) (due (x ++ got) ++ snapshot (x ++ got)))
       ⊎ (IsCutOffAt × IsProperPrefix (due x ++ put) (closed (x ++ got)))
       ⊎ ((ended ≡ false) × IsProperPrefix (due x ++ put) (due (x ++ got)))
 

@@ -29,7 +29,8 @@ pub record IsRefused (moves : List Move) : Type 0 where
 
 -- a write failed: a front of what is due was put, and not all of it
 abbrev pub IsUnwritten : List Move → Type 0
-IsUnwritten moves = ((has_ended moves ≡ true) × MayPause (ins moves) × IsProperPrefix (outs moves) (due (ins moves) ++ snapshot (ins moves)))
+IsUnwritten moves = ((has_ended moves ≡ true) × MayPause (ins moves)
+    × IsProperPrefix (outs moves) (due (ins moves) ++ snapshot (ins moves)))
     ⊎ (IsCutOff moves × IsProperPrefix (outs moves) (closed (ins moves)))
     ⊎ ((has_ended moves ≡ false) × IsProperPrefix (outs moves) (due (ins moves)))
 

@@ -82,11 +82,13 @@ TurnMakes turn.More feed x moves =
     Gets x moves (λ bytes put. (due x ++ put ≡ due (x ++ bytes)) × FeedStands feed (x ++ bytes))
 TurnMakes turn.Ended feed x moves =
     Gets x moves (λ bytes put. (due x ++ put ≡ due (x ++ bytes)) × ((account (x ++ bytes)).standing ≡ feeds.Ended))
-TurnMakes turn.Refused feed x moves = Gets x moves (λ bytes put. (due x ++ put ≡ due (x ++ bytes)) × IsFaulty (account (x ++ bytes)))
+TurnMakes turn.Refused feed x moves =
+    Gets x moves (λ bytes put. (due x ++ put ≡ due (x ++ bytes)) × IsFaulty (account (x ++ bytes)))
 TurnMakes turn.NoInput feed x moves = moves ≡ Ended ∷ []
 TurnMakes turn.Unread feed x moves = moves ≡ []
 TurnMakes turn.Unwritten feed x moves = Gets x moves (λ bytes put. IsProperPrefix (due x ++ put) (due (x ++ bytes)))
-TurnMakes turn.NoMemory feed x moves = Gets x moves (λ bytes put. Begins (due x ++ put) (due (x ++ bytes)) × IsDeclared (account (x ++ bytes)))
+TurnMakes turn.NoMemory feed x moves =
+    Gets x moves (λ bytes put. Begins (due x ++ put) (due (x ++ bytes)) × IsDeclared (account (x ++ bytes)))
 
 -- a fault comes only where its count rose, and every other turn leaves both counts
 abbrev pub TurnCauses : Turn → (reads reads' writes writes' : ℕ) → Type 0
@@ -116,6 +118,7 @@ Finishes _ old new text = ⊥
 abbrev pub short_text : List ℕ → List ℕ
 short_text bytes = in_lines (short_lines (length (whole_lines bytes)) (account bytes))
 
--- The n jobs that were admitted, none before a ratio line, cost at most 80 * (n + 1) * d comparisons, where n + 1 has at most d binary digits.
+-- The n jobs that were admitted, none before a ratio line, cost at most 80 * (n + 1) * d comparisons, where n + 1 has
+-- at most d binary digits.
 abbrev pub IsFrugal : (before after : ℕ) → List Move → Type 0
 IsFrugal before after moves = AreFew (admitted_in (account (ins moves))) before after

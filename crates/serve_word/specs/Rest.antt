@@ -22,7 +22,8 @@ use Rattle.serve_word.specs.declared.progress.Stop.TheVariants.{NoMemory, Unwrit
 -- what was put for these bytes behind x
 abbrev pub PutsRest : Result Progress Stop → Feed → List ℕ → List ℕ → List ℕ → Type 0
 PutsRest (Ok progress.Open) feed x bytes put = (due x ++ put ≡ due (x ++ bytes)) × FeedStands feed (x ++ bytes)
-PutsRest (Ok progress.Ended) feed x bytes put = (due x ++ put ≡ due (x ++ bytes)) × ((account (x ++ bytes)).standing ≡ feeds.Ended)
+PutsRest (Ok progress.Ended) feed x bytes put = (due x ++ put ≡ due (x ++ bytes))
+    × ((account (x ++ bytes)).standing ≡ feeds.Ended)
 PutsRest (Ok progress.Refused) feed x bytes put = (due x ++ put ≡ due (x ++ bytes)) × IsFaulty (account (x ++ bytes))
 PutsRest (Err NoMemory) feed x bytes put = Begins (due x ++ put) (due (x ++ bytes)) × IsDeclared (account (x ++ bytes))
 PutsRest (Err Unwritten) feed x bytes put = IsProperPrefix (due x ++ put) (due (x ++ bytes))

@@ -18,7 +18,8 @@ use Rattle.dover_port.specs.Moves.{Move, Passes, PutsThrough}
 use Rattle.dover_core.specs.declared.horizon.Horizon.TheVariants.{Mark}
 use Rattle.dover_core.specs.Service.{Service, list_of}
 
--- The server has taken open steps of the run of the session's jobs, before the barrier of the mark, which printed these events.
+-- The server has taken open steps of the run of the session's jobs, before the barrier of the mark, which printed these
+-- events.
 pub record HasServed (S : Session) (mark : ℕ) (v : Service) (events : List Event) : Type 0 where
   pub jobs : list_of v ≡ instance_of S
   pub printed : HasPrinted (instance_of S) mark v.state events
@@ -33,8 +34,10 @@ IsServed S mark v = HasServed S mark v (settled (instance_of S) mark)
 abbrev pub event_lines : List Event → List ℕ
 event_lines events = in_lines (map text_of events)
 
--- Open steps before the mark's barrier lead from v to u, and their lines are put through the buffer; at Ok the barrier is reached.
-pub record Settles {T E : Type 0} (old new : Option (List Move)) (result : Result T E) (before after : List ℕ) (mark : ℕ) (v u : Service)
+-- Open steps before the mark's barrier lead from v to u, and their lines are put through the buffer; at Ok the barrier
+-- is reached.
+pub record Settles {T E : Type 0} (old new : Option (List Move)) (result : Result T E) (before after : List ℕ)
+    (mark : ℕ) (v u : Service)
     : Type 0 where
   pub steps : List Step
   pub path : IsOpenPath v.rules mark v.state steps u.state
@@ -55,16 +58,19 @@ pub record IsSettling (old new : Option (List Move)) (before after : List ℕ) (
 -- these are the first steps of the run from s
 abbrev pub BeginRun : Rules → State → List Step → Type 0
 BeginRun rules s [] = Unit {0}
-BeginRun rules s (x ∷ xs) = (x ≡ step_at rules s) × MatchBool (is_end (step rules s)) (xs ≡ []) (BeginRun rules (after s (step rules s)) xs)
+BeginRun rules s (x ∷ xs) = (x ≡ step_at rules s)
+    × MatchBool (is_end (step rules s)) (xs ≡ []) (BeginRun rules (after s (step rules s)) xs)
 
 -- The first steps of the run from v are taken, and their lines are put through the buffer; at Ok these are all steps.
-pub record Finishes {T E : Type 0} (old new : Option (List Move)) (result : Result T E) (before after : List ℕ) (v : Service) : Type 0 where
+pub record Finishes {T E : Type 0} (old new : Option (List Move)) (result : Result T E) (before after : List ℕ)
+    (v : Service) : Type 0 where
   pub steps : List Step
   pub run : BeginRun v.rules v.state steps
   pub puts : PutsThrough old new result before after (event_lines (printed_of steps))
   pub whole : OnOk result (IsWholeRun v.rules v.state steps)
 
--- The run from v is taken as far as w: to its End where that was given, else up to w's state; the lines pass through the buffer.
+-- The run from v is taken as far as w: to its End where that was given, else up to w's state; the lines pass through
+-- the buffer.
 pub record IsFinishing (old new : Option (List Move)) (before after : List ℕ) (v w : Service) : Type 0 where
   pub steps : List Step
   pub so_far : MatchBool w.ended (IsWholeRun v.rules v.state steps) (IsPath v.rules v.state steps w.state)

@@ -15,7 +15,8 @@ abbrev pub jobs_in : Option Service → ℕ
 jobs_in None = 0
 jobs_in (Some v) = length v.state.tasks
 
--- From the one server to the other no job is lost, and each time that a job begins or ceases to wait costs 20 * d comparisons at most.
+-- From the one server to the other no job is lost, and each time that a job begins or ceases to wait costs 20 * d
+-- comparisons at most.
 pub record Spends (old new : Option Service) (before after : ℕ) : Type 0 where
   pub grows : jobs_in old ≤ jobs_in new
   pub few : (d : ℕ) → jobs_in new + 1 < 2 ^ d → after + 20 * d * waits_of old ≤ before + 20 * d * waits_of new

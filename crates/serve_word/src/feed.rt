@@ -73,9 +73,11 @@ fn take_byte<P: Port, L: Ledger>(
     ensures delivers { (x : List ℕ) → FeedStands feed.old x →
         Delivers result (P.moves port.old) (P.moves port.new) out.old out.new (account x) (account (x ++ byte ∷ [])) feed.new.session.server }
     ensures stands { (x : List ℕ) → FeedStands feed.old x → result ≡ Ok Open → FeedStands feed.new (x ++ byte ∷ []) }
-    ensures jobs { (x : List ℕ) → FeedStands feed.old x → jobs_in feed.new.session.server ≤ admitted_in (account (x ++ byte ∷ [])) }
+    ensures jobs { (x : List ℕ) → FeedStands feed.old x
+        → jobs_in feed.new.session.server ≤ admitted_in (account (x ++ byte ∷ [])) }
     ensures count { Spends feed.old.session.server feed.new.session.server steps.old steps.new }
-    ensures cause { StopCause result (P.write_faults port.old) (P.write_faults port.new) (P.read_faults port.old) (P.read_faults port.new) }
+    ensures cause { StopCause result (P.write_faults port.old) (P.write_faults port.new) (P.read_faults port.old)
+        (P.read_faults port.new) }
     ensures stops { StopsOn result (P.calls port.old) (P.calls port.new) }
 {
     match feed.lines.push(byte) {
@@ -115,9 +117,11 @@ fn take_front<P: Port, L: Ledger>(
     ensures delivers { (x : List ℕ) → FeedStands feed.old x →
         Delivers result (P.moves port.old) (P.moves port.new) out.old out.new (account x) (account (x ++ bytes.now)) feed.new.session.server }
     ensures stands { (x : List ℕ) → FeedStands feed.old x → result ≡ Ok Open → FeedStands feed.new (x ++ bytes.now) }
-    ensures jobs { (x : List ℕ) → FeedStands feed.old x → jobs_in feed.new.session.server ≤ admitted_in (account (x ++ bytes.now)) }
+    ensures jobs { (x : List ℕ) → FeedStands feed.old x
+        → jobs_in feed.new.session.server ≤ admitted_in (account (x ++ bytes.now)) }
     ensures count { Spends feed.old.session.server feed.new.session.server steps.old steps.new }
-    ensures cause { StopCause result (P.write_faults port.old) (P.write_faults port.new) (P.read_faults port.old) (P.read_faults port.new) }
+    ensures cause { StopCause result (P.write_faults port.old) (P.write_faults port.new) (P.read_faults port.old)
+        (P.read_faults port.new) }
     ensures stops { StopsOn result (P.calls port.old) (P.calls port.new) }
 {
     if bytes.len() > 1 {
@@ -139,9 +143,11 @@ pub(crate) fn take_piece<P: Port, L: Ledger>(
     ensures delivers { (x : List ℕ) → FeedStands feed.old x →
         Delivers result (P.moves port.old) (P.moves port.new) out.old out.new (account x) (account (x ++ bytes.now)) feed.new.session.server }
     ensures stands { (x : List ℕ) → FeedStands feed.old x → result ≡ Ok Open → FeedStands feed.new (x ++ bytes.now) }
-    ensures jobs { (x : List ℕ) → FeedStands feed.old x → jobs_in feed.new.session.server ≤ admitted_in (account (x ++ bytes.now)) }
+    ensures jobs { (x : List ℕ) → FeedStands feed.old x
+        → jobs_in feed.new.session.server ≤ admitted_in (account (x ++ bytes.now)) }
     ensures count { Spends feed.old.session.server feed.new.session.server steps.old steps.new }
-    ensures cause { StopCause result (P.write_faults port.old) (P.write_faults port.new) (P.read_faults port.old) (P.read_faults port.new) }
+    ensures cause { StopCause result (P.write_faults port.old) (P.write_faults port.new) (P.read_faults port.old)
+        (P.read_faults port.new) }
     ensures stops { StopsOn result (P.calls port.old) (P.calls port.new) }
 {
     let mut rest = bytes;

@@ -34,11 +34,13 @@ fn close<P: Port, L: Ledger>(
     steps: &mut Steps<L>,
 ) -> Status
     requires { (x : List ℕ) × FeedStands feed.old x }
-    ensures closes { (x : List ℕ) → FeedStands feed.old x → Closes at_end result (P.moves port.old) (P.moves port.new) x }
+    ensures closes { (x : List ℕ) → FeedStands feed.old x
+        → Closes at_end result (P.moves port.old) (P.moves port.new) x }
     ensures jobs { jobs_in feed.new.session.server ≤ jobs_in feed.old.session.server }
     ensures count { Spends feed.old.session.server feed.new.session.server steps.old steps.new }
     ensures answer { IsAnswer result }
-    ensures causes { Causes result (P.read_faults port.old) (P.read_faults port.new) (P.write_faults port.old) (P.write_faults port.new) }
+    ensures causes { Causes result (P.read_faults port.old) (P.read_faults port.new) (P.write_faults port.old)
+        (P.write_faults port.new) }
     ensures stops { StopsWith result (P.calls port.old) (P.calls port.new) }
 {
     match at_end {
@@ -55,12 +57,15 @@ pub(crate) fn serve_from<P: Port, L: Ledger>(
     steps: &mut Steps<L>,
 ) -> Status
     requires { (x : List ℕ) × FeedStands feed.old x }
-    ensures serves { (x : List ℕ) → FeedStands feed.old x → Since (P.moves port.old) (P.moves port.new) (ServesFrom x at_end result) }
+    ensures serves { (x : List ℕ) → FeedStands feed.old x
+        → Since (P.moves port.old) (P.moves port.new) (ServesFrom x at_end result) }
     ensures jobs { (x : List ℕ) → FeedStands feed.old x →
-        Since (P.moves port.old) (P.moves port.new) (λ moves. jobs_in feed.new.session.server ≤ admitted_in (account (x ++ ins moves))) }
+        Since (P.moves port.old) (P.moves port.new)
+        (λ moves. jobs_in feed.new.session.server ≤ admitted_in (account (x ++ ins moves))) }
     ensures count { Spends feed.old.session.server feed.new.session.server steps.old steps.new }
     ensures answer { IsAnswer result }
-    ensures causes { Causes result (P.read_faults port.old) (P.read_faults port.new) (P.write_faults port.old) (P.write_faults port.new) }
+    ensures causes { Causes result (P.read_faults port.old) (P.read_faults port.new) (P.write_faults port.old)
+        (P.write_faults port.new) }
     ensures stops { StopsWith result (P.calls port.old) (P.calls port.new) }
 {
     let mut buf = [0u8; READ_BYTES];

@@ -9,8 +9,6 @@ mod rest;
 mod serve;
 mod session;
 mod steps;
-#[cfg(test)]
-mod tests;
 mod turn;
 
 pub use from::AtEnd;

@@ -27,8 +27,10 @@ use step_count::Steps;
 
 /// Puts the line of each job.
 fn put_states<P: Port>(port: &mut P, out: &mut Output, server: &Server) -> Result<(), Failed>
-    ensures text { PutsThrough (P.moves port.old) (P.moves port.new) result out.old out.new (in_lines (map state_line server.now.state.tasks)) }
-    ensures cause { HasCause (P.write_faults port.old) (P.write_faults port.new) (P.read_faults port.old) (P.read_faults port.new) result }
+    ensures text { PutsThrough (P.moves port.old) (P.moves port.new) result out.old out.new
+        (in_lines (map state_line server.now.state.tasks)) }
+    ensures cause { HasCause (P.write_faults port.old) (P.write_faults port.new) (P.read_faults port.old)
+        (P.read_faults port.new) result }
     ensures stops { StopsAtFailure (P.calls port.old) (P.calls port.new) result }
 {
     let _clock = server.clock();
@@ -46,7 +48,8 @@ fn put_states<P: Port>(port: &mut P, out: &mut Output, server: &Server) -> Resul
 /// Puts the last line.
 fn put_last<P: Port>(port: &mut P, out: &mut Output) -> Result<(), Failed>
     ensures text { PutsThrough (P.moves port.old) (P.moves port.new) result out.old out.new (codes "resume" ++ 10 ∷ []) }
-    ensures cause { HasCause (P.write_faults port.old) (P.write_faults port.new) (P.read_faults port.old) (P.read_faults port.new) result }
+    ensures cause { HasCause (P.write_faults port.old) (P.write_faults port.new) (P.read_faults port.old)
+        (P.read_faults port.new) result }
     ensures stops { StopsAtFailure (P.calls port.old) (P.calls port.new) result }
 {
     let mut line = LineBuf::new();
@@ -64,8 +67,10 @@ fn put_snapshot<P: Port>(
 ) -> Result<(), Failed>
     requires lines { lines ≤ most_lines }
     requires mark { mark ≤ last_tick }
-    ensures text { PutsThrough (P.moves port.old) (P.moves port.new) result out.old out.new (in_lines (lines_in server.now lines mark)) }
-    ensures cause { HasCause (P.write_faults port.old) (P.write_faults port.new) (P.read_faults port.old) (P.read_faults port.new) result }
+    ensures text { PutsThrough (P.moves port.old) (P.moves port.new) result out.old out.new
+        (in_lines (lines_in server.now lines mark)) }
+    ensures cause { HasCause (P.write_faults port.old) (P.write_faults port.new) (P.read_faults port.old)
+        (P.read_faults port.new) result }
     ensures stops { StopsAtFailure (P.calls port.old) (P.calls port.new) result }
 {
     let mut line = LineBuf::new();
@@ -102,11 +107,13 @@ pub(crate) fn pause<P: Port, L: Ledger>(
     steps: &mut Steps<L>,
 ) -> Status
     requires { (x : List ℕ) × FeedStands feed.old x }
-    ensures closes { (x : List ℕ) → FeedStands feed.old x → Closes Pause result (P.moves port.old) (P.moves port.new) x }
+    ensures closes { (x : List ℕ) → FeedStands feed.old x
+        → Closes Pause result (P.moves port.old) (P.moves port.new) x }
     ensures jobs { jobs_in feed.new.session.server ≤ jobs_in feed.old.session.server }
     ensures count { Spends feed.old.session.server feed.new.session.server steps.old steps.new }
     ensures answer { IsAnswer result }
-    ensures causes { Causes result (P.read_faults port.old) (P.read_faults port.new) (P.write_faults port.old) (P.write_faults port.new) }
+    ensures causes { Causes result (P.read_faults port.old) (P.read_faults port.new) (P.write_faults port.old)
+        (P.write_faults port.new) }
     ensures stops { StopsWith result (P.calls port.old) (P.calls port.new) }
 {
     if !may_pause(feed) {
@@ -134,12 +141,14 @@ pub(crate) fn pause<P: Port, L: Ledger>(
     }
 }
 
-/// Serves a feed, as `serve_word` does, but for the end of an input behind whole lines: there the feed's snapshot is put behind what is due.
+/// Serves a feed, as `serve_word` does, but for the end of an input behind whole lines: there the feed's snapshot is
+/// put behind what is due.
 pub fn pause_word<P: Port, L: Ledger>(alloc: Global, port: &mut P, steps: &mut Steps<L>) -> Status
     ensures pauses { Since (P.moves port.old) (P.moves port.new) (Pauses result) }
     ensures count { Since (P.moves port.old) (P.moves port.new) (IsFrugal steps.old steps.new) }
     ensures answer { IsAnswer result }
-    ensures causes { Causes result (P.read_faults port.old) (P.read_faults port.new) (P.write_faults port.old) (P.write_faults port.new) }
+    ensures causes { Causes result (P.read_faults port.old) (P.read_faults port.new) (P.write_faults port.old)
+        (P.write_faults port.new) }
     ensures stops { StopsWith result (P.calls port.old) (P.calls port.new) }
 {
     let mut feed = Feed::new(alloc);

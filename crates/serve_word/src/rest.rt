@@ -33,9 +33,11 @@ fn put_rest<P: Port, L: Ledger>(
     ensures puts { (x : List ℕ) → FeedStands feed.old x → Since (P.moves port.old) (P.moves port.new)
         (λ made. ArePuts made × PutsRest result feed.new x bytes.now (outs made)) }
     ensures stands { (x : List ℕ) → FeedStands feed.old x → result ≡ Ok Open → FeedStands feed.new (x ++ bytes.now) }
-    ensures jobs { (x : List ℕ) → FeedStands feed.old x → jobs_in feed.new.session.server ≤ admitted_in (account (x ++ bytes.now)) }
+    ensures jobs { (x : List ℕ) → FeedStands feed.old x
+        → jobs_in feed.new.session.server ≤ admitted_in (account (x ++ bytes.now)) }
     ensures count { Spends feed.old.session.server feed.new.session.server steps.old steps.new }
-    ensures cause { StopCause result (P.write_faults port.old) (P.write_faults port.new) (P.read_faults port.old) (P.read_faults port.new) }
+    ensures cause { StopCause result (P.write_faults port.old) (P.write_faults port.new) (P.read_faults port.old)
+        (P.read_faults port.new) }
     ensures stops { StopsOn result (P.calls port.old) (P.calls port.new) }
 {
     let mut out = Output::new();
@@ -48,8 +50,10 @@ fn put_rest<P: Port, L: Ledger>(
     }
 }
 
-/// Serves a feed on from where it was paused, with the server and the intake that its snapshot gave. Of the feed's further bytes, `rest` was
-/// read already; the others are read. Nothing is put that was due before the pause. `Done` where the feed ended without a fault, or was paused
+/// Serves a feed on from where it was paused, with the server and the intake that its snapshot gave. Of the feed's
+/// further bytes, `rest` was
+/// read already; the others are read. Nothing is put that was due before the pause. `Done` where the feed ended without
+/// a fault, or was paused
 /// where its input ended; the other statuses as for a feed that is served from its start.
 pub fn serve_on<P: Port, L: Ledger>(
     alloc: Global,
@@ -66,7 +70,8 @@ pub fn serve_on<P: Port, L: Ledger>(
     ensures count { (F : List ℕ) → MayPause F → ResumesFeed server intake F →
         Since (P.moves port.old) (P.moves port.new) (SpendsRest F rest.now (Some server) steps.old steps.new) }
     ensures answer { IsAnswer result }
-    ensures causes { Causes result (P.read_faults port.old) (P.read_faults port.new) (P.write_faults port.old) (P.write_faults port.new) }
+    ensures causes { Causes result (P.read_faults port.old) (P.read_faults port.new) (P.write_faults port.old)
+        (P.write_faults port.new) }
     ensures stops { StopsWith result (P.calls port.old) (P.calls port.new) }
 {
     let mut feed = Feed::resumed(alloc, server, intake);

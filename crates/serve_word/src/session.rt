@@ -7,7 +7,8 @@ ghost use Rattle.dover_model.specs.Due.{fault_text, cause_word};
 ghost use Rattle.dover_port.specs.Causes.{HasCause};
 ghost use Rattle.dover_port.specs.Moves.{PutsThrough};
 ghost use Rattle.event_feed.specs.Kept.{cause_of_fault};
-ghost use Rattle.event_feed.specs.Answers.{DeclaresRatio, AddsJob, MovesMark, EndsFeed, AddsRefused, IsFed, NewFault, admitted_in, counted};
+ghost use Rattle.event_feed.specs.Answers.{DeclaresRatio, AddsJob, MovesMark, EndsFeed, AddsRefused, IsFed, NewFault};
+ghost use Rattle.event_feed.specs.Answers.{admitted_in, counted};
 ghost use Rattle.trace_format.specs.Form.{IsRefusedLine};
 ghost use Rattle.trace_format.specs.declared.lines.TraceLine.TheVariants.{Refused};
 ghost use Rattle.dover_model.specs.declared.events.Refusal.{Refusal};
@@ -45,14 +46,17 @@ fn declare<P: Port>(
     k: Ratio,
     version: Version,
 ) -> Result<Progress, Stop>
-    ensures delivers { (a b : Account) → IsOpenAt a session.old.server session.old.mark → DeclaresRatio k version (counted a) b →
+    ensures delivers { (a b : Account) → IsOpenAt a session.old.server session.old.mark
+        → DeclaresRatio k version (counted a) b →
         Delivers result (P.moves port.old) (P.moves port.new) out.old out.new a b session.new.server }
     ensures mark { session.new.mark ≡ session.old.mark }
     ensures intake { session.new.intake ≡ session.old.intake }
     ensures jobs { jobs_in session.new.server ≤ jobs_in session.old.server }
-    ensures count { (a b : Account) → IsOpenAt a session.old.server session.old.mark → DeclaresRatio k version (counted a) b → (steps : ℕ) →
+    ensures count { (a b : Account) → IsOpenAt a session.old.server session.old.mark
+        → DeclaresRatio k version (counted a) b → (steps : ℕ) →
         Spends session.old.server session.new.server steps steps }
-    ensures cause { StopCause result (P.write_faults port.old) (P.write_faults port.new) (P.read_faults port.old) (P.read_faults port.new) }
+    ensures cause { StopCause result (P.write_faults port.old) (P.write_faults port.new) (P.read_faults port.old)
+        (P.read_faults port.new) }
     ensures stops { StopsOn result (P.calls port.old) (P.calls port.new) }
 {
     let Ok(server) = Server::new(session.alloc, version, k) else {
@@ -74,11 +78,14 @@ fn reject<P: Port>(
     refused: &TraceLine,
 ) -> Result<Progress, Stop>
     requires { IsRefusedLine refused.now }
-    ensures delivers { (a b : Account) (job : JobFacts) (cause : Refusal) → IsOpenAt a session.old.server session.old.mark →
-        AddsRefused job cause (counted a) b → refused.now ≡ Refused a.mark job.release job.work job.deadline job.value cause →
+    ensures delivers { (a b : Account) (job : JobFacts) (cause : Refusal)
+        → IsOpenAt a session.old.server session.old.mark →
+        AddsRefused job cause (counted a) b
+        → refused.now ≡ Refused a.mark job.release job.work job.deadline job.value cause →
         Delivers result (P.moves port.old) (P.moves port.new) out.old out.new a b session.new.server }
     ensures session { session.new ≡ session.old }
-    ensures cause { StopCause result (P.write_faults port.old) (P.write_faults port.new) (P.read_faults port.old) (P.read_faults port.new) }
+    ensures cause { StopCause result (P.write_faults port.old) (P.write_faults port.new) (P.read_faults port.old)
+        (P.read_faults port.new) }
     ensures stops { StopsOn result (P.calls port.old) (P.calls port.new) }
 {
     match put_refused(port, out, refused) {
@@ -96,7 +103,8 @@ fn refuse<P: Port>(
     ensures delivers { (bytes : List ℕ) (a b : Account) → NewFault bytes fault a b →
         Delivers result (P.moves port.old) (P.moves port.new) out.old out.new a b session.now.server }
     ensures refused { result ≡ Ok Open → ⊥ }
-    ensures cause { StopCause result (P.write_faults port.old) (P.write_faults port.new) (P.read_faults port.old) (P.read_faults port.new) }
+    ensures cause { StopCause result (P.write_faults port.old) (P.write_faults port.new) (P.read_faults port.old)
+        (P.read_faults port.new) }
     ensures stops { StopsOn result (P.calls port.old) (P.calls port.new) }
 {
     match put_fault(port, out, fault) {
@@ -112,14 +120,16 @@ fn advance<P: Port, L: Ledger>(
     mark: u64,
     steps: &mut Steps<L>,
 ) -> Result<Progress, Stop>
-    requires { (a : Account) × (b : Account) × IsOpenAt a session.old.server session.old.mark × MovesMark mark (counted a) b }
+    requires { (a : Account) × (b : Account) × IsOpenAt a session.old.server session.old.mark
+        × MovesMark mark (counted a) b }
     ensures delivers { (a b : Account) → IsOpenAt a session.old.server session.old.mark → MovesMark mark (counted a) b →
         Delivers result (P.moves port.old) (P.moves port.new) out.old out.new a b session.new.server }
     ensures mark { session.new.mark ≡ mark }
     ensures intake { session.new.intake ≡ session.old.intake }
     ensures jobs { jobs_in session.new.server ≤ jobs_in session.old.server }
     ensures count { Spends session.old.server session.new.server steps.old steps.new }
-    ensures cause { StopCause result (P.write_faults port.old) (P.write_faults port.new) (P.read_faults port.old) (P.read_faults port.new) }
+    ensures cause { StopCause result (P.write_faults port.old) (P.write_faults port.new) (P.read_faults port.old)
+        (P.read_faults port.new) }
     ensures stops { StopsOn result (P.calls port.old) (P.calls port.new) }
 {
     session.mark = mark;
@@ -145,7 +155,8 @@ fn end<P: Port, L: Ledger>(
     ensures intake { session.new.intake ≡ session.old.intake }
     ensures jobs { jobs_in session.new.server ≤ jobs_in session.old.server }
     ensures count { Spends session.old.server session.new.server steps.old steps.new }
-    ensures cause { StopCause result (P.write_faults port.old) (P.write_faults port.new) (P.read_faults port.old) (P.read_faults port.new) }
+    ensures cause { StopCause result (P.write_faults port.old) (P.write_faults port.new) (P.read_faults port.old)
+        (P.read_faults port.new) }
     ensures stops { StopsOn result (P.calls port.old) (P.calls port.new) }
 {
     let Some(server) = &mut session.server else {
@@ -164,14 +175,17 @@ fn arrive<P: Port, L: Ledger>(
     job: Job,
     steps: &mut Steps<L>,
 ) -> Result<Progress, Stop>
-    requires { (n : ℕ) × (a : Account) × (b : Account) × IsOpenAt a session.old.server session.old.mark × AddsJob n job (counted a) b }
-    ensures delivers { (n : ℕ) (a b : Account) → IsOpenAt a session.old.server session.old.mark → AddsJob n job (counted a) b →
+    requires { (n : ℕ) × (a : Account) × (b : Account) × IsOpenAt a session.old.server session.old.mark
+        × AddsJob n job (counted a) b }
+    ensures delivers { (n : ℕ) (a b : Account) → IsOpenAt a session.old.server session.old.mark
+        → AddsJob n job (counted a) b →
         Delivers result (P.moves port.old) (P.moves port.new) out.old out.new a b session.new.server }
     ensures mark { session.new.mark ≡ job.release }
     ensures intake { session.new.intake ≡ session.old.intake }
     ensures jobs { jobs_in session.new.server ≤ jobs_in session.old.server + 1 }
     ensures count { Spends session.old.server session.new.server steps.old steps.new }
-    ensures cause { StopCause result (P.write_faults port.old) (P.write_faults port.new) (P.read_faults port.old) (P.read_faults port.new) }
+    ensures cause { StopCause result (P.write_faults port.old) (P.write_faults port.new) (P.read_faults port.old)
+        (P.read_faults port.new) }
     ensures stops { StopsOn result (P.calls port.old) (P.calls port.new) }
 {
     let release = job.release();
@@ -204,16 +218,19 @@ fn take_fed<P: Port, L: Ledger>(
     fed: Fed,
     steps: &mut Steps<L>,
 ) -> Result<Progress, Stop>
-    requires { (a : Account) × (b : Account) × IsOpenAt a session.old.server session.old.mark × IsFed (counted a) b fed }
+    requires { (a : Account) × (b : Account) × IsOpenAt a session.old.server session.old.mark
+        × IsFed (counted a) b fed }
     ensures delivers { (a b : Account) → IsOpenAt a session.old.server session.old.mark → IsFed (counted a) b fed →
         Delivers result (P.moves port.old) (P.moves port.new) out.old out.new a b session.new.server }
-    ensures mark { (a b : Account) → IsOpenAt a session.old.server session.old.mark → IsFed (counted a) b fed → result ≡ Ok Open →
+    ensures mark { (a b : Account) → IsOpenAt a session.old.server session.old.mark → IsFed (counted a) b fed
+        → result ≡ Ok Open →
         session.new.mark ≡ b.mark }
     ensures goes_on { result ≡ Ok Open → fed ≡ Over → ⊥ }
     ensures intake { session.new.intake ≡ session.old.intake }
     ensures jobs { jobs_in session.new.server ≤ jobs_in session.old.server + jobs_fed fed }
     ensures count { Spends session.old.server session.new.server steps.old steps.new }
-    ensures cause { StopCause result (P.write_faults port.old) (P.write_faults port.new) (P.read_faults port.old) (P.read_faults port.new) }
+    ensures cause { StopCause result (P.write_faults port.old) (P.write_faults port.new) (P.read_faults port.old)
+        (P.read_faults port.new) }
     ensures stops { StopsOn result (P.calls port.old) (P.calls port.new) }
 {
     match fed {
@@ -253,11 +270,13 @@ pub(crate) fn take_line<P: Port, L: Ledger>(
     ensures delivers { (ls : List (List ℕ)) → Keeps session.old ls →
         Delivers result (P.moves port.old) (P.moves port.new) out.old out.new (account_of_lines ls) (account_of_lines (ls ++ line.now ∷ []))
         session.new.server }
-    ensures keeps { (ls : List (List ℕ)) → Keeps session.old ls → result ≡ Ok Open → Keeps session.new (ls ++ line.now ∷ []) }
+    ensures keeps { (ls : List (List ℕ)) → Keeps session.old ls → result ≡ Ok Open
+        → Keeps session.new (ls ++ line.now ∷ []) }
     ensures jobs { (ls : List (List ℕ)) → Keeps session.old ls →
         jobs_in session.new.server ≤ admitted_in (account_of_lines (ls ++ line.now ∷ [])) }
     ensures count { Spends session.old.server session.new.server steps.old steps.new }
-    ensures cause { StopCause result (P.write_faults port.old) (P.write_faults port.new) (P.read_faults port.old) (P.read_faults port.new) }
+    ensures cause { StopCause result (P.write_faults port.old) (P.write_faults port.new) (P.read_faults port.old)
+        (P.read_faults port.new) }
     ensures stops { StopsOn result (P.calls port.old) (P.calls port.new) }
 {
     match session.intake.line(line) {

@@ -25,7 +25,8 @@ pub(crate) fn settle<P: Port, L: Ledger>(
     ensures settles { Settles (P.moves port.old) (P.moves port.new) result out.old out.new mark server.old server.new }
     ensures jobs { list_of server.new ≡ list_of server.old }
     ensures count { Spends (Some server.old) (Some server.new) steps.old steps.new }
-    ensures cause { HasCause (P.write_faults port.old) (P.write_faults port.new) (P.read_faults port.old) (P.read_faults port.new) result }
+    ensures cause { HasCause (P.write_faults port.old) (P.write_faults port.new) (P.read_faults port.old)
+        (P.read_faults port.new) result }
     ensures stops { StopsAtFailure (P.calls port.old) (P.calls port.new) result }
 {
     while let Some(event) = server.step(Horizon::Mark(mark), steps) {
@@ -50,7 +51,8 @@ pub(crate) fn finish<P: Port, L: Ledger>(
     ensures finishes { Finishes (P.moves port.old) (P.moves port.new) result out.old out.new server.old }
     ensures jobs { list_of server.new ≡ list_of server.old }
     ensures count { Spends (Some server.old) (Some server.new) steps.old steps.new }
-    ensures cause { HasCause (P.write_faults port.old) (P.write_faults port.new) (P.read_faults port.old) (P.read_faults port.new) result }
+    ensures cause { HasCause (P.write_faults port.old) (P.write_faults port.new) (P.read_faults port.old)
+        (P.read_faults port.new) result }
     ensures stops { StopsAtFailure (P.calls port.old) (P.calls port.new) result }
 {
     while let Some(event) = server.step(Horizon::End, steps) {

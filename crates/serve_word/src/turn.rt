@@ -54,15 +54,18 @@ pub(crate) fn take_turn<P: Port, L: Ledger>(
     requires some { 0 < length buf.old }
     requires empty { out.old ≡ [] }
     requires stands { (x : List ℕ) × FeedStands feed.old x }
-    ensures makes { (x : List ℕ) → FeedStands feed.old x → Since (P.moves port.old) (P.moves port.new) (TurnMakes result feed.new x) }
+    ensures makes { (x : List ℕ) → FeedStands feed.old x
+        → Since (P.moves port.old) (P.moves port.new) (TurnMakes result feed.new x) }
     ensures goes_on { result ≡ More → out.new ≡ [] }
     ensures stands { (x : List ℕ) → FeedStands feed.old x → result ≡ More →
         (bytes : List ℕ) × (0 < length bytes) × FeedStands feed.new (x ++ bytes) }
     ensures input { result ≡ NoInput → feed.new ≡ feed.old }
     ensures jobs { (x : List ℕ) → FeedStands feed.old x →
-        Since (P.moves port.old) (P.moves port.new) (λ moves. jobs_in feed.new.session.server ≤ admitted_in (account (x ++ ins moves))) }
+        Since (P.moves port.old) (P.moves port.new)
+        (λ moves. jobs_in feed.new.session.server ≤ admitted_in (account (x ++ ins moves))) }
     ensures count { Spends feed.old.session.server feed.new.session.server steps.old steps.new }
-    ensures causes { TurnCauses result (P.read_faults port.old) (P.read_faults port.new) (P.write_faults port.old) (P.write_faults port.new) }
+    ensures causes { TurnCauses result (P.read_faults port.old) (P.read_faults port.new) (P.write_faults port.old)
+        (P.write_faults port.new) }
     ensures stops { TurnStops result (P.calls port.old) (P.calls port.new) }
 {
     let Ok(count) = port.read(buf) else {

@@ -33,7 +33,8 @@ all_last P [] y all = all.0
 all_last P (x ∷ xs) y all = all_last P xs y all.1
 
 -- what holds of each with the last, and of the last with each
-all_pairs : {X : Type 0} (R : X → X → Type 0) (xs : List X) (y : X) → AllByRecursion (λ x. AllByRecursion (R x) (xs ++ y ∷ [])) (xs ++ y ∷ [])
+all_pairs : {X : Type 0} (R : X → X → Type 0) (xs : List X) (y : X)
+    → AllByRecursion (λ x. AllByRecursion (R x) (xs ++ y ∷ [])) (xs ++ y ∷ [])
     → AllByRecursion (λ x. R x y × R y x) xs
 all_pairs R xs y all = pairs xs (all_front (λ x. AllByRecursion (R x) (xs ++ y ∷ [])) xs (y ∷ []) all)
     (all_front (R y) xs (y ∷ []) (all_last (λ x. AllByRecursion (R x) (xs ++ y ∷ [])) xs y all)) where
@@ -43,13 +44,19 @@ all_pairs R xs y all = pairs xs (all_front (λ x. AllByRecursion (R x) (xs ++ y 
       pairs (u ∷ us) one other = ((all_last (R u) xs y one.0, other.0), pairs us one.1 other.1)
 
 -- a job that is valid behind others isn't refused
-valid_admitted : (J : Instance) (j : JobFacts) → IsValid (with_jobs J (j ∷ [])) → refusal_of J.rules.ratio J.jobs j ≡ None
+valid_admitted : (J : Instance) (j : JobFacts) → IsValid (with_jobs J (j ∷ []))
+    → refusal_of J.rules.ratio J.jobs j ≡ None
 valid_admitted J j valid = not_refused J.rules.ratio J.jobs j (all_last IsJob J.jobs j valid.each)
     (let most : length (J.jobs ++ j ∷ []) ≤ 1_000_000 = valid.count in omega (arith, length-append J.jobs (j ∷ [])))
     (let most : total_value (J.jobs ++ j ∷ []) ≤ 10_000_000_000_000 = valid.total in
-    omega (arith, sum_by-append (λ (i : JobFacts). i.value) J.jobs (j ∷ []), sum_by-cons (λ (i : JobFacts). i.value) j []))
+    omega (
+      arith,
+      sum_by-append (λ (i : JobFacts). i.value) J.jobs (j ∷ []),
+      sum_by-cons (λ (i : JobFacts). i.value) j [],
+    ))
     (keeps J.jobs (all_pairs (IsWithinRatio J.rules.ratio) J.jobs j valid.densities)) where
-      keeps : (jobs : List JobFacts) → AllByRecursion (λ i. IsWithinRatio J.rules.ratio i j × IsWithinRatio J.rules.ratio j i) jobs
+      keeps : (jobs : List JobFacts)
+          → AllByRecursion (λ i. IsWithinRatio J.rules.ratio i j × IsWithinRatio J.rules.ratio j i) jobs
           → AllByRecursion (λ i. is_within_ratio_both_ways J.rules.ratio i j ≡ true) jobs
       keeps [] all = tt
       keeps (i ∷ jobs) all = (
@@ -77,22 +84,27 @@ itself : (n : ℕ) → n ≤ n
 itself n = omega arith
 
 -- each release is at most the last
-up_to_last : (from : ℕ) (tasks : List Task) → AllByRecursion (λ (j : JobFacts). from ≤ j.release) (jobs_of tasks) → IsInOrder (jobs_of tasks)
-    → (from ≤ last_from from tasks) × AllByRecursion (λ (j : JobFacts). j.release ≤ last_from from tasks) (jobs_of tasks)
+up_to_last : (from : ℕ) (tasks : List Task) → AllByRecursion (λ (j : JobFacts). from ≤ j.release) (jobs_of tasks)
+    → IsInOrder (jobs_of tasks)
+    → (from ≤ last_from from tasks)
+    × AllByRecursion (λ (j : JobFacts). j.release ≤ last_from from tasks) (jobs_of tasks)
 up_to_last from [] above order = (itself from, tt)
 up_to_last from (t ∷ tasks) above order =
     let more = up_to_last t.job.release tasks order.0 order.1 in (omega (arith, above.0, more.0), (more.0, more.1))
 
 -- the last is no more than what all are
-last_below : (most from : ℕ) (tasks : List Task) → AllByRecursion (λ (j : JobFacts). j.release ≤ most) (jobs_of tasks) → from ≤ most
+last_below : (most from : ℕ) (tasks : List Task) → AllByRecursion (λ (j : JobFacts). j.release ≤ most) (jobs_of tasks)
+    → from ≤ most
     → last_from from tasks ≤ most
 last_below most from [] all low = low
 last_below most from (t ∷ tasks) all low = last_below most t.job.release tasks all.1 all.0
 
 -- before a last job in order, no release is above its own
-before_last : (jobs : List JobFacts) (j : JobFacts) → IsInOrder (jobs ++ j ∷ []) → AllByRecursion (λ i. i.release ≤ j.release) jobs
+before_last : (jobs : List JobFacts) (j : JobFacts) → IsInOrder (jobs ++ j ∷ [])
+    → AllByRecursion (λ i. i.release ≤ j.release) jobs
 before_last [] j order = tt
-before_last (i ∷ jobs) j order = (all_last (λ later. i.release ≤ later.release) jobs j order.0, before_last jobs j order.1)
+before_last (i ∷ jobs) j order =
+    (all_last (λ later. i.release ≤ later.release) jobs j order.0, before_last jobs j order.1)
 
 -- ---- the cause of a job's line
 
@@ -105,7 +117,8 @@ module _ (h : Head) (tasks : List Task) (t : Task) where
   cause_in_order : last_release tasks ≤ t.job.release
       → job_cause ≡ option_map NotAdmitted (refusal_of h.rules.ratio (jobs_of tasks) t.job)
   cause_in_order ordered =
-      ap (λ b. cond b (Some Order) (option_map NotAdmitted (refusal_of h.rules.ratio (admitted_jobs (stored_session h tasks).items) t.job)))
+      ap (λ b. cond b (Some Order)
+      (option_map NotAdmitted (refusal_of h.rules.ratio (admitted_jobs (stored_session h tasks).items) t.job)))
       (le-ltb t.job.release (last_release tasks) ordered)
       ∙ ap (λ jobs. option_map NotAdmitted (refusal_of h.rules.ratio jobs t.job)) (jobs_back (jobs_of tasks))
 
@@ -115,7 +128,8 @@ module _ (h : Head) (tasks : List Task) (t : Task) where
 
   -- where they are valid, the last release isn't above its own
   pub valid_ordered : IsValid (stored h (tasks ++ t ∷ [])) → last_release tasks ≤ t.job.release
-  valid_ordered valid = last_below t.job.release 0 tasks (before_last (jobs_of tasks) t.job (subst IsValid with_this valid).in_order) (omega arith)
+  valid_ordered valid = last_below t.job.release 0 tasks
+      (before_last (jobs_of tasks) t.job (subst IsValid with_this valid).in_order) (omega arith)
 
   -- and there is no cause
   pub valid_no_cause : IsValid (stored h (tasks ++ t ∷ [])) → job_cause ≡ None
@@ -132,7 +146,8 @@ module _ (h : Head) (tasks : List Task) (t : Task) where
     not_any None e = refl
     not_any (Some r) e = absurd (let clash : Some (NotAdmitted r) ≡ None = e in cc)
 
-    by_order : (b : Bool) → nat_lt t.job.release (last_release tasks) ≡ b → cond b (Some Order) (option_map NotAdmitted refusal) ≡ None
+    by_order : (b : Bool) → nat_lt t.job.release (last_release tasks) ≡ b
+        → cond b (Some Order) (option_map NotAdmitted refusal) ≡ None
         → IsValid (stored h (tasks ++ t ∷ []))
     by_order true falls e = absurd (let clash : Some Order ≡ None = e in cc)
     by_order false ordered e =
@@ -140,7 +155,8 @@ module _ (h : Head) (tasks : List Task) (t : Task) where
         let all : AllByRecursion (λ (j : JobFacts). j.release ≤ last_release tasks) (jobs_of tasks) =
         (up_to_last 0 tasks (from_zero (jobs_of tasks)) valid.in_order).1 in
         subst IsValid (sym with_this) (admits h.rules (jobs_of tasks) t.job valid
-        (all_from (λ (j : JobFacts). j.release ≤ last_release tasks) (λ j. j.release ≤ t.job.release) (jobs_of tasks) (λ j low. omega arith) all)
+        (all_from (λ (j : JobFacts). j.release ≤ last_release tasks) (λ j. j.release ≤ t.job.release) (jobs_of tasks)
+        (λ j low. omega arith) all)
         (ap (λ jobs. refusal_of h.rules.ratio jobs t.job) (sym (jobs_back (jobs_of tasks))) ∙ not_any refusal e)) where
           from_zero : (jobs : List JobFacts) → AllByRecursion (λ (j : JobFacts). 0 ≤ j.release) jobs
           from_zero [] = tt

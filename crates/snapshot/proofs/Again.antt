@@ -17,9 +17,12 @@ before_joined b (l ∷ ls) rest = refl
 pub joined_again : (bytes : List ℕ) → in_lines (whole_lines bytes) ++ rest_of bytes ≡ bytes
 joined_again [] = refl
 joined_again (b ∷ bytes) = by (is_feed b) refl (joined_again bytes) where
-  by : (c : Bool) → is_feed b ≡ c → in_lines (whole_lines bytes) ++ rest_of bytes ≡ bytes → in_lines (whole_lines (b ∷ bytes)) ++ rest_of (b ∷ bytes) ≡ b ∷ bytes
-  by true feed behind = ap joined (cut_feed b bytes feed) ∙ ap (λ l. 10 ∷ l) behind ∙ ap (λ n. n ∷ bytes) (sym (eqb-true b 10 feed))
-  by false other behind = ap joined (cut_other b bytes other) ∙ before_joined b (whole_lines bytes) (rest_of bytes) ∙ ap (λ l. b ∷ l) behind
+  by : (c : Bool) → is_feed b ≡ c → in_lines (whole_lines bytes) ++ rest_of bytes ≡ bytes
+      → in_lines (whole_lines (b ∷ bytes)) ++ rest_of (b ∷ bytes) ≡ b ∷ bytes
+  by true feed behind = ap joined (cut_feed b bytes feed) ∙ ap (λ l. 10 ∷ l) behind
+      ∙ ap (λ n. n ∷ bytes) (sym (eqb-true b 10 feed))
+  by false other behind = ap joined (cut_other b bytes other) ∙ before_joined b (whole_lines bytes) (rest_of bytes)
+      ∙ ap (λ l. b ∷ l) behind
 
 -- whole lines are what their lines are joined to
 pub lines_again : (bytes : List ℕ) → rest_of bytes ≡ [] → in_lines (lines_of bytes) ≡ bytes

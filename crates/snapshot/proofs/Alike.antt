@@ -1,4 +1,5 @@
--- Feeds that have declared the same rules and admitted the same jobs, and are as long and at the same mark, go on alike, line by line.
+-- Feeds that have declared the same rules and admitted the same jobs, and are as long and at the same mark, go on
+-- alike, line by line.
 use Rattle.std.proofs.Common.{◌≡◌, ℕ, suc, ◌≤◌, List, [], ◌∷◌, ◌++◌, map, refl, sym, ap, ◌∙◌, subst, append_assoc}
 use Rattle.std.proofs.Common.{Bool, true, false, cond, ◌||◌, Option, Some, None, inl, inr}
 use Rattle.std.specs.Prelude.{nat_lt}
@@ -12,13 +13,15 @@ use Rattle.dover_model.specs.declared.events.Refusal.{Refusal}
 use Rattle.dover_model.specs.JobFacts.{JobFacts}
 use Rattle.dover_model.specs.Instance.{Instance, IsValid, with_jobs}
 use Rattle.dover_model.specs.Admission.{refusal_of}
-use Rattle.dover_model.specs.Session.{Session, JobItem, RefusedItem, RefusedJob, refused_at, with_item, instance_of, admitted_jobs, is_two}
+use Rattle.dover_model.specs.Session.{Session, JobItem, RefusedItem, RefusedJob, refused_at, with_item, instance_of}
+use Rattle.dover_model.specs.Session.{admitted_jobs, is_two}
 use Rattle.dover_model.specs.Run.{printed}
 use Rattle.dover_model.specs.Settled.{settled}
 use Rattle.dover_model.specs.Text.{text_of, refused_text}
 use Rattle.dover_model.specs.Trace.{texts_among}
 use Rattle.dover_model.specs.FeedLine.{FeedLine, RatioLine, JobLine, TickLine, EndLine, feed_line}
-use Rattle.dover_model.specs.Feed.{Cause, Lines, Line, Declared, Order, NotAdmitted, Standing, Open, Ended, Faulty, Account}
+use Rattle.dover_model.specs.Feed.{Cause, Lines, Line, Declared, Order, NotAdmitted, Standing, Open, Ended, Faulty}
+use Rattle.dover_model.specs.Feed.{Account}
 use Rattle.dover_model.specs.Feed.{later_line_cause, with_fault, with_item_in, with_line, next_line}
 use Rattle.dover_model.specs.Due.{due_lines, fault_text}
 use Rattle.dover_model.specs.WholeRun.{Begins}
@@ -26,7 +29,8 @@ use Rattle.dover_model.specs.Sound.{IsMember}
 use Rattle.dover_model.proofs.Accounts.{Holds, IsKept, lines_goes}
 use Rattle.dover_model.proofs.Admitting.{admits}
 use Rattle.dover_model.proofs.Emitting.{texts_more, texts_job, texts_refused}
-use Rattle.dover_model.proofs.Growing.{Reads, reads_later, job_instance, refused_instance, settled_later, settled_of_run}
+use Rattle.dover_model.proofs.Growing.{Reads, reads_later, job_instance, refused_instance, settled_later}
+use Rattle.dover_model.proofs.Growing.{settled_of_run}
 use Rattle.dover_model.proofs.Prefixes.{settled_prefix}
 use Rattle.event_feed.proofs.Counting.{after_form}
 
@@ -63,8 +67,10 @@ module _ (X : Session) (mark lines : ℕ) (holds : Holds X mark lines) where
   counted = account_with (suc lines) (Some X) mark Open
 
   -- a fault
-  fault_adds : (cause : Cause) → due_lines (with_fault counted cause) ≡ due_lines before ++ fault_text (suc lines) cause ∷ []
-  fault_adds cause = ap (λ ls. ls ++ fault_text (suc lines) cause ∷ []) (sym (append-nil (texts_among X (settled (instance_of X) mark))))
+  fault_adds : (cause : Cause)
+      → due_lines (with_fault counted cause) ≡ due_lines before ++ fault_text (suc lines) cause ∷ []
+  fault_adds cause = ap (λ ls. ls ++ fault_text (suc lines) cause ∷ [])
+      (sym (append-nil (texts_among X (settled (instance_of X) mark))))
 
   -- further steps
   steps_add : (target more : List Event) → target ≡ settled (instance_of X) mark ++ more
@@ -75,18 +81,24 @@ module _ (X : Session) (mark lines : ℕ) (holds : Holds X mark lines) where
 
   module _ (J : Instance) (same : instance_of X ≡ J) (more : List Event) where
     -- a tick
-    tick_adds : (t : ℕ) → settled J t ≡ settled J mark ++ more → due_lines (account_with (suc lines) (Some X) t Open) ≡ due_lines before ++ map text_of more
-    tick_adds t is = steps_add (settled (instance_of X) t) more (subst (λ K. settled K t ≡ settled K mark ++ more) (sym same) is)
+    tick_adds : (t : ℕ) → settled J t ≡ settled J mark ++ more
+        → due_lines (account_with (suc lines) (Some X) t Open) ≡ due_lines before ++ map text_of more
+    tick_adds t is = steps_add (settled (instance_of X) t) more
+        (subst (λ K. settled K t ≡ settled K mark ++ more) (sym same) is)
 
     -- the end
-    end_adds : printed J ≡ settled J mark ++ more → due_lines (account_with (suc lines) (Some X) mark Ended) ≡ due_lines before ++ map text_of more
-    end_adds is = steps_add (printed (instance_of X)) more (subst (λ K. printed K ≡ settled K mark ++ more) (sym same) is)
+    end_adds : printed J ≡ settled J mark ++ more
+        → due_lines (account_with (suc lines) (Some X) mark Ended) ≡ due_lines before ++ map text_of more
+    end_adds is = steps_add (printed (instance_of X)) more
+        (subst (λ K. printed K ≡ settled K mark ++ more) (sym same) is)
 
     -- a job
     job_adds : (j : JobFacts) → settled (with_jobs J (j ∷ [])) j.release ≡ settled J mark ++ more
-        → due_lines (account_with (suc lines) (Some (with_item X (JobItem j))) j.release Open) ≡ due_lines before ++ map text_of more
+        → due_lines (account_with (suc lines) (Some (with_item X (JobItem j))) j.release Open) ≡ due_lines before
+        ++ map text_of more
     job_adds j is = ap (λ ls. ls ++ []) (texts_job X j (settled (instance_of (with_item X (JobItem j))) j.release))
-        ∙ steps_add (settled (instance_of (with_item X (JobItem j))) j.release) more (ap (λ K. settled K j.release) (job_instance X j)
+        ∙ steps_add (settled (instance_of (with_item X (JobItem j))) j.release) more
+        (ap (λ K. settled K j.release) (job_instance X j)
         ∙ subst (λ K. settled (with_jobs K (j ∷ [])) j.release ≡ settled K mark ++ more) (sym same) is)
 
   -- a refused line
@@ -101,7 +113,8 @@ module _ (X : Session) (mark lines : ℕ) (holds : Holds X mark lines) where
 
 -- ---- a line behind two feeds that are alike
 
-module _ (S T : Session) (mark lines : ℕ) (holds : Holds S mark lines) (holds_other : Holds T mark lines) (same : instance_of T ≡ instance_of S) where
+module _ (S T : Session) (mark lines : ℕ) (holds : Holds S mark lines) (holds_other : Holds T mark lines)
+    (same : instance_of T ≡ instance_of S) where
   abbrev a : Account
   a = account_with lines (Some S) mark Open
 
@@ -125,7 +138,8 @@ module _ (S T : Session) (mark lines : ℕ) (holds : Holds S mark lines) (holds_
     other = fault_adds T mark lines holds_other cause;
   }
 
-  ticks_alike : (t : ℕ) → mark ≤ t → GoAlike a b (account_with (suc lines) (Some S) t Open) (account_with (suc lines) (Some T) t Open)
+  ticks_alike : (t : ℕ) → mark ≤ t
+      → GoAlike a b (account_with (suc lines) (Some S) t Open) (account_with (suc lines) (Some T) t Open)
   ticks_alike t ordered =
       let it : Begins (settled J mark) (settled J t) = settled_later J mark t holds.reads.valid ordered in
       record {
@@ -150,7 +164,8 @@ module _ (S T : Session) (mark lines : ℕ) (holds : Holds S mark lines) (holds_
       (account_with (suc lines) (Some (with_item T (JobItem j))) j.release Open)
   jobs_alike j ordered none =
       let later : Reads S j.release = reads_later S mark j.release holds.reads ordered in
-      let valid : IsValid (with_jobs J (j ∷ [])) = admits S.rules (admitted_jobs S.items) j later.valid later.known none in
+      let valid : IsValid (with_jobs J (j ∷ [])) =
+      admits S.rules (admitted_jobs S.items) j later.valid later.known none in
       let it : Begins (settled J mark) (settled (with_jobs J (j ∷ [])) j.release) =
       settled_prefix J (j ∷ []) mark valid (λ i m. only i m) j.release ordered in
       record {
@@ -164,7 +179,8 @@ module _ (S T : Session) (mark lines : ℕ) (holds : Holds S mark lines) (holds_
         only i (inr m) = absurd m
 
   refusals_alike : (j : JobFacts) (refusal : Refusal)
-      → GoAlike a b (with_item_in counted_a (refused_at mark j refusal)) (with_item_in counted_b (refused_at mark j refusal))
+      → GoAlike a b (with_item_in counted_a (refused_at mark j refusal))
+      (with_item_in counted_b (refused_at mark j refusal))
   refusals_alike j refusal =
       let r : RefusedJob = record { at = mark; job = j; refusal = refusal } in
       record {
@@ -179,44 +195,55 @@ module _ (S T : Session) (mark lines : ℕ) (holds : Holds S mark lines) (holds_
       → GoAlike a b (with_line counted_a (JobLine j) (later_line_cause S mark (JobLine j)))
       (with_line counted_b (JobLine j) (later_line_cause T mark (JobLine j)))
   job_lines_alike j = by_order (nat_lt j.release mark) refl where
-    refusal_of_both : refusal_of T.rules.ratio (admitted_jobs T.items) j ≡ refusal_of S.rules.ratio (admitted_jobs S.items) j
+    refusal_of_both : refusal_of T.rules.ratio (admitted_jobs T.items) j ≡ refusal_of S.rules.ratio
+        (admitted_jobs S.items) j
     refusal_of_both = ap (λ (K : Instance). refusal_of K.rules.ratio K.jobs j) same
 
     version_of_both : is_two T.rules.version ≡ is_two S.rules.version
     version_of_both = ap (λ (K : Instance). is_two K.rules.version) same
 
     by_version : (refusal : Refusal) (two : Bool)
-        → GoAlike a b (cond two (with_item_in counted_a (refused_at mark j refusal)) (with_fault counted_a (NotAdmitted refusal)))
+        → GoAlike a b (cond two (with_item_in counted_a (refused_at mark j refusal))
+        (with_fault counted_a (NotAdmitted refusal)))
         (cond two (with_item_in counted_b (refused_at mark j refusal)) (with_fault counted_b (NotAdmitted refusal)))
     by_version refusal true = refusals_alike j refusal
     by_version refusal false = faults_alike (NotAdmitted refusal)
 
     by_refusal : (o : Option Refusal) → mark ≤ j.release → refusal_of S.rules.ratio (admitted_jobs S.items) j ≡ o
-        → GoAlike a b (with_line counted_a (JobLine j) (option_map NotAdmitted o)) (with_line counted_b (JobLine j) (option_map NotAdmitted o))
+        → GoAlike a b (with_line counted_a (JobLine j) (option_map NotAdmitted o))
+        (with_line counted_b (JobLine j) (option_map NotAdmitted o))
     by_refusal None ordered none = jobs_alike j ordered none
     by_refusal (Some refusal) ordered cause =
-        subst (λ two. GoAlike a b (cond (is_two S.rules.version) (with_item_in counted_a (refused_at mark j refusal)) (with_fault counted_a (NotAdmitted refusal)))
-        (cond two (with_item_in counted_b (refused_at mark j refusal)) (with_fault counted_b (NotAdmitted refusal)))) (sym version_of_both)
+        subst (λ two. GoAlike a b
+        (cond (is_two S.rules.version) (with_item_in counted_a (refused_at mark j refusal))
+        (with_fault counted_a (NotAdmitted refusal)))
+        (cond two (with_item_in counted_b (refused_at mark j refusal)) (with_fault counted_b (NotAdmitted refusal))))
+        (sym version_of_both)
         (by_version refusal (is_two S.rules.version))
 
     by_order : (c : Bool) → nat_lt j.release mark ≡ c
         → GoAlike a b
-        (with_line counted_a (JobLine j) (cond c (Some Order) (option_map NotAdmitted (refusal_of S.rules.ratio (admitted_jobs S.items) j))))
-        (with_line counted_b (JobLine j) (cond c (Some Order) (option_map NotAdmitted (refusal_of T.rules.ratio (admitted_jobs T.items) j))))
+        (with_line counted_a (JobLine j)
+        (cond c (Some Order) (option_map NotAdmitted (refusal_of S.rules.ratio (admitted_jobs S.items) j))))
+        (with_line counted_b (JobLine j)
+        (cond c (Some Order) (option_map NotAdmitted (refusal_of T.rules.ratio (admitted_jobs T.items) j))))
     by_order true falls = faults_alike Order
     by_order false ordered =
-        subst (λ o. GoAlike a b (with_line counted_a (JobLine j) (option_map NotAdmitted (refusal_of S.rules.ratio (admitted_jobs S.items) j)))
+        subst (λ o. GoAlike a b (with_line counted_a (JobLine j)
+        (option_map NotAdmitted (refusal_of S.rules.ratio (admitted_jobs S.items) j)))
         (with_line counted_b (JobLine j) (option_map NotAdmitted o))) (sym refusal_of_both)
         (by_refusal (refusal_of S.rules.ratio (admitted_jobs S.items) j) (ltb-false _ _ ordered) refl)
 
   -- a line of any form
   formed_alike : (line : FeedLine)
-      → GoAlike a b (with_line counted_a line (later_line_cause S mark line)) (with_line counted_b line (later_line_cause T mark line))
+      → GoAlike a b (with_line counted_a line (later_line_cause S mark line))
+      (with_line counted_b line (later_line_cause T mark line))
   formed_alike (RatioLine p q version) = faults_alike Declared
   formed_alike (JobLine j) = job_lines_alike j
   formed_alike (TickLine t) = by_tests (nat_lt t mark) (nat_lt last_tick t) refl where
     by_tests : (c d : Bool) → nat_lt t mark ≡ c
-        → GoAlike a b (with_line counted_a (TickLine t) (cond (c || d) (Some Order) None)) (with_line counted_b (TickLine t) (cond (c || d) (Some Order) None))
+        → GoAlike a b (with_line counted_a (TickLine t) (cond (c || d) (Some Order) None))
+        (with_line counted_b (TickLine t) (cond (c || d) (Some Order) None))
     by_tests true d falls = faults_alike Order
     by_tests false true ordered = faults_alike Order
     by_tests false false ordered = ticks_alike t (ltb-false _ _ ordered)
@@ -226,7 +253,8 @@ module _ (S T : Session) (mark lines : ℕ) (holds : Holds S mark lines) (holds_
   open_alike : (bytes : List ℕ) → GoAlike a b (next_line a bytes) (next_line b bytes)
   open_alike bytes = by_count (nat_lt most_lines (suc lines)) (feed_line bytes) where
     by_count : (c : Bool) (o : Option FeedLine)
-        → GoAlike a b (cond c (with_fault counted_a Lines) (after_form counted_a o)) (cond c (with_fault counted_b Lines) (after_form counted_b o))
+        → GoAlike a b (cond c (with_fault counted_a Lines) (after_form counted_a o))
+        (cond c (with_fault counted_b Lines) (after_form counted_b o))
     by_count true o = faults_alike Lines
     by_count false None = faults_alike Line
     by_count false (Some line) = formed_alike line
@@ -235,11 +263,14 @@ module _ (S T : Session) (mark lines : ℕ) (holds : Holds S mark lines) (holds_
 
 -- nothing more is due where nothing changes
 stay_alike : (a b : Account) → Alike a b → GoAlike a b a b
-stay_alike a b alike = record { alike = alike; text = []; first = sym (append-nil (due_lines a)); other = sym (append-nil (due_lines b)) }
+stay_alike a b alike = record
+    { alike = alike; text = []; first = sym (append-nil (due_lines a)); other = sym (append-nil (due_lines b)) }
 
-step_alike : (lines mark : ℕ) (standing : Standing) (s t : Option Session) → SameRun s t → IsKept (account_with lines s mark standing)
+step_alike : (lines mark : ℕ) (standing : Standing) (s t : Option Session) → SameRun s t
+    → IsKept (account_with lines s mark standing)
     → IsKept (account_with lines t mark standing) → (bytes : List ℕ)
-    → GoAlike (account_with lines s mark standing) (account_with lines t mark standing) (next_line (account_with lines s mark standing) bytes)
+    → GoAlike (account_with lines s mark standing) (account_with lines t mark standing)
+    (next_line (account_with lines s mark standing) bytes)
     (next_line (account_with lines t mark standing) bytes)
 step_alike lines mark Open None t same kept other bytes = absurd same
 step_alike lines mark Open (Some S) None same kept other bytes = absurd same
@@ -247,7 +278,8 @@ step_alike lines mark Open (Some S) (Some T) same kept other bytes = open_alike 
 step_alike lines mark Ended s t same kept other bytes =
     stay_alike (account_with lines s mark Ended) (account_with lines t mark Ended) (refl, refl, refl, same)
 step_alike lines mark (Faulty line cause) s t same kept other bytes =
-    stay_alike (account_with lines s mark (Faulty line cause)) (account_with lines t mark (Faulty line cause)) (refl, refl, refl, same)
+    stay_alike (account_with lines s mark (Faulty line cause)) (account_with lines t mark (Faulty line cause))
+    (refl, refl, refl, same)
 
 module _ (a b : Account) (alike : Alike a b) where
   -- the other account, of what both have and its own session
@@ -257,16 +289,20 @@ module _ (a b : Account) (alike : Alike a b) where
       ∙ ap (λ s. account_with a.lines b.session a.mark s) alike.2
 
   next_alike : IsKept a → IsKept b → (bytes : List ℕ) → GoAlike a b (next_line a bytes) (next_line b bytes)
-  next_alike kept other bytes = subst (λ (c : Account). GoAlike a c (next_line a bytes) (next_line c bytes)) (sym other_is)
+  next_alike kept other bytes =
+      subst (λ (c : Account). GoAlike a c (next_line a bytes) (next_line c bytes)) (sym other_is)
       (step_alike a.lines a.mark a.standing a.session b.session alike.3 kept (subst IsKept other_is other) bytes)
 
 -- lines behind two feeds that are alike
-pub lines_alike : (ls : List (List ℕ)) (a b : Account) → Alike a b → IsKept a → IsKept b → GoAlike a b (fold next_line a ls) (fold next_line b ls)
+pub lines_alike : (ls : List (List ℕ)) (a b : Account) → Alike a b → IsKept a → IsKept b
+    → GoAlike a b (fold next_line a ls) (fold next_line b ls)
 lines_alike [] a b alike kept other = stay_alike a b alike
 lines_alike (l ∷ ls) a b alike kept other =
     let one : GoAlike a b (next_line a l) (next_line b l) = next_alike a b alike kept other l in
-    let rest : GoAlike (next_line a l) (next_line b l) (fold next_line (next_line a l) ls) (fold next_line (next_line b l) ls) =
-    lines_alike ls (next_line a l) (next_line b l) one.alike (lines_goes (l ∷ []) a kept).0 (lines_goes (l ∷ []) b other).0 in
+    let rest : GoAlike (next_line a l) (next_line b l) (fold next_line (next_line a l) ls)
+    (fold next_line (next_line b l) ls) =
+    lines_alike ls (next_line a l) (next_line b l) one.alike (lines_goes (l ∷ []) a kept).0
+    (lines_goes (l ∷ []) b other).0 in
     record {
       alike = rest.alike;
       text = one.text ++ rest.text;

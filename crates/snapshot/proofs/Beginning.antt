@@ -36,7 +36,8 @@ module _ (h : Head) (ratio : IsRatio h.rules.ratio) where
   begin_fed i it = record {
     stands = it;
     account = begun;
-    going = goes_on i (ratio_text h ∷ []) (stored_session h []) it (ap (λ (a : Account). a.standing) begun) (ap (λ (a : Account). a.session) begun);
+    going = goes_on i (ratio_text h ∷ []) (stored_session h []) it (ap (λ (a : Account). a.standing) begun)
+        (ap (λ (a : Account). a.session) begun);
   }
 
 -- ---- the ticks
@@ -72,14 +73,16 @@ module _ (h : Head) (tasks : List Task) (can : CanPause h tasks) where
   -- no line is left: the mark is the last release
   module _ (account : account_of_lines (job_lines h tasks) ≡ stored_account h tasks) (none : h.lines ≤ h.jobs + 1) where
     no_ticks : tick_lines h ≡ []
-    no_ticks = ap (λ n. replicate n (feed_text (TickLine h.mark))) (let e : h.lines - (h.jobs + 1) ≡ 0 = omega arith in e)
+    no_ticks = ap (λ n. replicate n (feed_text (TickLine h.mark)))
+        (let e : h.lines - (h.jobs + 1) ≡ 0 = omega arith in e)
 
     pub none_lines : feed_lines h tasks ≡ job_lines h tasks
     none_lines = ap (λ ls. job_lines h tasks ++ ls) no_ticks ∙ append-nil (job_lines h tasks)
 
     last_is : last_release tasks ≡ h.mark
     last_is = by (nat_le h.mark (last_release tasks)) (nat_lt (h.jobs + 1) h.lines) refl refl can.reached where
-      by : (a b : Bool) → nat_le h.mark (last_release tasks) ≡ a → nat_lt (h.jobs + 1) h.lines ≡ b → a || b ≡ true → last_release tasks ≡ h.mark
+      by : (a b : Bool) → nat_le h.mark (last_release tasks) ≡ a → nat_lt (h.jobs + 1) h.lines ≡ b → a || b ≡ true
+          → last_release tasks ≡ h.mark
       by true b low x e = omega (arith, leb-true h.mark (last_release tasks) low, can.known)
       by false true x more e = absurd (omega (arith, ltb-true (h.jobs + 1) h.lines more))
       by false false x y e = absurd (let clash : false ≡ true = e in cc)
@@ -87,7 +90,8 @@ module _ (h : Head) (tasks : List Task) (can : CanPause h tasks) where
     pub none_account : account_of_lines (feed_lines h tasks) ≡ paused_account h tasks
     none_account = ap account_of_lines none_lines ∙ account ∙ jobs_account
         ∙ ap (λ mark. open_account (h.jobs + 1) (Some (stored_session h tasks)) mark) last_is
-        ∙ ap (λ n. open_account n (Some (stored_session h tasks)) h.mark) (let e : h.jobs + 1 ≡ h.lines = omega (arith, limits.enough) in e)
+        ∙ ap (λ n. open_account n (Some (stored_session h tasks)) h.mark)
+        (let e : h.jobs + 1 ≡ h.lines = omega (arith, limits.enough) in e)
 
   -- some lines are left
   module _ (account : account_of_lines (job_lines h tasks) ≡ stored_account h tasks) (some : h.jobs + 1 < h.lines) where
@@ -95,10 +99,14 @@ module _ (h : Head) (tasks : List Task) (can : CanPause h tasks) where
     tick = feed_text (TickLine h.mark)
 
     -- the first of them
-    first_account : account_of_lines (job_lines h tasks ++ tick ∷ []) ≡ open_account (h.jobs + 2) (Some (stored_session h tasks)) h.mark
-    first_account = fold-append next_line no_lines (job_lines h tasks) (tick ∷ []) ∙ ap (λ a. next_line a tick) (account ∙ jobs_account)
-        ∙ tick_account (h.jobs + 1) (stored_session h tasks) (last_release tasks) h.mark can.known limits.mark (omega (arith, limits.lines))
-        ∙ ap (λ n. open_account n (Some (stored_session h tasks)) h.mark) (let e : suc (h.jobs + 1) ≡ h.jobs + 2 = omega arith in e)
+    first_account : account_of_lines (job_lines h tasks ++ tick ∷ []) ≡ open_account (h.jobs + 2)
+        (Some (stored_session h tasks)) h.mark
+    first_account = fold-append next_line no_lines (job_lines h tasks) (tick ∷ [])
+        ∙ ap (λ a. next_line a tick) (account ∙ jobs_account)
+        ∙ tick_account (h.jobs + 1) (stored_session h tasks) (last_release tasks) h.mark can.known limits.mark
+        (omega (arith, limits.lines))
+        ∙ ap (λ n. open_account n (Some (stored_session h tasks)) h.mark)
+        (let e : suc (h.jobs + 1) ≡ h.jobs + 2 = omega arith in e)
 
     -- it is good
     pub tick_good : (i : feed.Kept) → feed.StandsFor i (job_lines h tasks) → IsGoodNext i (job_lines h tasks) tick
@@ -106,16 +114,19 @@ module _ (h : Head) (tasks : List Task) (can : CanPause h tasks) where
 
     -- then the feed goes on
     pub tick_going : (i : feed.Kept) → feed.StandsFor i (job_lines h tasks ++ tick ∷ []) → feed.IsGoing i
-    tick_going i it = goes_on i (job_lines h tasks ++ tick ∷ []) (stored_session h tasks) it (ap (λ (a : Account). a.standing) first_account)
+    tick_going i it = goes_on i (job_lines h tasks ++ tick ∷ []) (stored_session h tasks) it
+        (ap (λ (a : Account). a.standing) first_account)
         (ap (λ (a : Account). a.session) first_account)
 
     -- and there is room for the others
-    pub tick_room : (i : feed.Kept) → feed.StandsFor i (job_lines h tasks ++ tick ∷ []) → feed.HasLines i (h.lines - h.jobs - 2)
+    pub tick_room : (i : feed.Kept) → feed.StandsFor i (job_lines h tasks ++ tick ∷ [])
+        → feed.HasLines i (h.lines - h.jobs - 2)
     tick_room i it = omega (arith, it.by_account.counted, ap (λ (a : Account). a.lines) first_account, limits.lines)
 
     -- all lines are the first, and the others
     all_ticks : tick_lines h ≡ tick ∷ replicate (h.lines - h.jobs - 2) tick
-    all_ticks = ap (λ n. replicate n tick) (let e : h.lines - (h.jobs + 1) ≡ suc (h.lines - h.jobs - 2) = omega arith in e)
+    all_ticks = ap (λ n. replicate n tick)
+        (let e : h.lines - (h.jobs + 1) ≡ suc (h.lines - h.jobs - 2) = omega arith in e)
 
     pub some_lines : (job_lines h tasks ++ tick ∷ []) ++ replicate (h.lines - h.jobs - 2) tick ≡ feed_lines h tasks
     some_lines = append_assoc (job_lines h tasks) (tick ∷ []) (replicate (h.lines - h.jobs - 2) tick)
@@ -128,12 +139,14 @@ module _ (h : Head) (tasks : List Task) (can : CanPause h tasks) where
     some_account = ap account_of_lines (sym some_lines)
         ∙ fold-append next_line no_lines (job_lines h tasks ++ tick ∷ []) (replicate (h.lines - h.jobs - 2) tick)
         ∙ ap (λ a. fold next_line a (replicate (h.lines - h.jobs - 2) tick)) first_account
-        ∙ ticks (h.lines - h.jobs - 2) (h.jobs + 2) (stored_session h tasks) h.mark limits.mark (omega (arith, limits.lines))
+        ∙ ticks (h.lines - h.jobs - 2) (h.jobs + 2) (stored_session h tasks) h.mark limits.mark
+        (omega (arith, limits.lines))
         ∙ ap (λ n. open_account n (Some (stored_session h tasks)) h.mark)
         (let e : h.jobs + 2 + (h.lines - h.jobs - 2) ≡ h.lines = omega arith in e)
 
   -- the account of all lines
-  pub all_account : account_of_lines (job_lines h tasks) ≡ stored_account h tasks → account_of_lines (feed_lines h tasks) ≡ paused_account h tasks
+  pub all_account : account_of_lines (job_lines h tasks) ≡ stored_account h tasks
+      → account_of_lines (feed_lines h tasks) ≡ paused_account h tasks
   all_account account = by (nat_lt (h.jobs + 1) h.lines) refl where
     by : (b : Bool) → nat_lt (h.jobs + 1) h.lines ≡ b → account_of_lines (feed_lines h tasks) ≡ paused_account h tasks
     by true more = some_account account (ltb-true (h.jobs + 1) h.lines more)

@@ -1,5 +1,6 @@
 -- Lines of snapshots and feeds have no line feed, and a text behind whole lines is cut on its own.
-use Rattle.std.proofs.Common.{◌≡◌, ℕ, ◌≤◌, List, [], ◌∷◌, ◌++◌, append_assoc, append-nil, map, refl, sym, ap, ◌∙◌, true, not, cond, ◌&&◌, arith, decimal, codes, Some, None, inl, inr}
+use Rattle.std.proofs.Common.{◌≡◌, ℕ, ◌≤◌, List, [], ◌∷◌, ◌++◌, append_assoc, append-nil, map, refl, sym, ap, ◌∙◌, true}
+use Rattle.std.proofs.Common.{not, cond, ◌&&◌, arith, decimal, codes, Some, None, inl, inr}
 use Rattle.std.specs.List.{AllByRecursion, list_all, fold}
 use Rattle.std.specs.Str.{all_ascii_digits}
 use Rattle.std.specs.Char.{is_ascii_digit}
@@ -25,20 +26,24 @@ use Rattle.snapshot.specs.Snapshot.{Head, IsHead, head_line, head_numbers, role_
 feedless_append : (a b : List ℕ) → HasNoFeed a → HasNoFeed b → HasNoFeed (a ++ b)
 feedless_append a b one other = list_all-append (λ c. not (is_feed c)) a b ∙ and_from _ _ one other
 
-feedless_line : (field : List ℕ) (fields : List (List ℕ)) → HasNoFeed field → AllByRecursion HasNoFeed fields → HasNoFeed (line_of (field ∷ fields))
+feedless_line : (field : List ℕ) (fields : List (List ℕ)) → HasNoFeed field → AllByRecursion HasNoFeed fields
+    → HasNoFeed (line_of (field ∷ fields))
 feedless_line field [] none all = none
-feedless_line field (next ∷ fields) none all = feedless_append field (32 ∷ line_of (next ∷ fields)) none (feedless_line next fields all.0 all.1)
+feedless_line field (next ∷ fields) none all =
+    feedless_append field (32 ∷ line_of (next ∷ fields)) none (feedless_line next fields all.0 all.1)
 
 feedless_digits : (ds : List ℕ) → all_ascii_digits ds ≡ true → HasNoFeed ds
 feedless_digits [] digits = refl
 feedless_digits (d ∷ ds) digits =
     let both = and_parts (is_ascii_digit d) (all_ascii_digits ds) digits in
     let least : 48 ≤ d = leb-true 48 d (and_parts _ _ both.0).0 in
-    ap (λ b. not b && list_all (λ c. not (is_feed c)) ds) (ne_eqb d 10 (λ same. absurd (omega arith))) ∙ feedless_digits ds both.1
+    ap (λ b. not b && list_all (λ c. not (is_feed c)) ds) (ne_eqb d 10 (λ same. absurd (omega arith)))
+    ∙ feedless_digits ds both.1
 
 feedless_numerals : (ns : List ℕ) → AreShort ns → AllByRecursion HasNoFeed (map decimal ns)
 feedless_numerals [] short = tt
-feedless_numerals (n ∷ ns) short = (feedless_digits (decimal n) (digits_decimal own n (omega (arith, short.0))), feedless_numerals ns short.1)
+feedless_numerals (n ∷ ns) short =
+    (feedless_digits (decimal n) (digits_decimal own n (omega (arith, short.0))), feedless_numerals ns short.1)
 
 feedless_numbers : (word ns : List ℕ) → HasNoFeed word → AreShort ns → HasNoFeed (with_numbers word ns)
 feedless_numbers word ns none short = feedless_line word (map decimal ns) none (feedless_numerals ns short)
@@ -64,7 +69,8 @@ feedless_state t it =
     (numbers.0, (feedless_role t.role, numbers.1))
 
 -- the lines of jobs, and the last line
-pub feedless_states : (tasks : List Task) → Each IsState tasks → AllByRecursion HasNoFeed (map state_line tasks ++ codes "resume" ∷ [])
+pub feedless_states : (tasks : List Task) → Each IsState tasks
+    → AllByRecursion HasNoFeed (map state_line tasks ++ codes "resume" ∷ [])
 feedless_states [] all = (refl, tt)
 feedless_states (t ∷ tasks) all = (feedless_state t (all t (inl refl)), feedless_states tasks (λ u m. all u (inr m)))
 
@@ -79,14 +85,16 @@ feedless_feed EndLine short = refl
 -- ---- lines that were joined
 
 -- joined lines that are the same were the same
-pub same_lines : (ls ms : List (List ℕ)) → AllByRecursion HasNoFeed ls → AllByRecursion HasNoFeed ms → in_lines ls ≡ in_lines ms → ls ≡ ms
+pub same_lines : (ls ms : List (List ℕ)) → AllByRecursion HasNoFeed ls → AllByRecursion HasNoFeed ms
+    → in_lines ls ≡ in_lines ms → ls ≡ ms
 same_lines ls ms one other same =
     ap (λ (c : CutText). c.0) (sym (cut_in_lines ls one) ∙ ap cut same ∙ cut_in_lines ms other)
 
 module _ (F : List ℕ) (whole : rest_of F ≡ []) (H : List ℕ) where
   -- what follows whole lines is cut on its own
   cut_behind : cut (F ++ H) ≡ (whole_lines F ++ whole_lines H, rest_of H)
-  cut_behind = cut_append F H ∙ ap (λ rest. let c : CutText = (whole_lines F ++ (onto rest (cut H)).0, (onto rest (cut H)).1) in c) whole
+  cut_behind = cut_append F H
+      ∙ ap (λ rest. let c : CutText = (whole_lines F ++ (onto rest (cut H)).0, (onto rest (cut H)).1) in c) whole
 
   pub whole_behind : whole_lines (F ++ H) ≡ whole_lines F ++ whole_lines H
   whole_behind = ap (λ (c : CutText). c.0) cut_behind

@@ -1,5 +1,6 @@
 -- Two lists that agree at each place, and two lists of jobs that are alike.
-use Rattle.std.proofs.Common.{◌≡◌, ℕ, zero, suc, ◌+◌, ◌≤◌, ◌<◌, List, [], ◌∷◌, length, map, refl, sym, ap, ◌∙◌, subst, true, false, ◌&&◌}
+use Rattle.std.proofs.Common.{◌≡◌, ℕ, zero, suc, ◌+◌, ◌≤◌, ◌<◌, List, [], ◌∷◌, length, map, refl, sym, ap, ◌∙◌, subst}
+use Rattle.std.proofs.Common.{true, false, ◌&&◌}
 use Rattle.std.proofs.Common.{arith, Some, inl, inr, ◌⊎◌}
 use Rattle.std.specs.Prelude.{bytes_eq, ◌==◌, if◌then◌else◌}
 use Rattle.std.specs.List.{slice_get}
@@ -20,7 +21,8 @@ use Rattle.snapshot.specs.declared.resuming.Stance.{Stance}
 -- ---- place by place
 
 -- lists of a length that agree at each place are the same
-same_places : {X : Type 0} (xs ys : List X) → length xs ≡ length ys → ((j : ℕ) → j < length xs → slice_get xs j ≡ slice_get ys j) → xs ≡ ys
+same_places : {X : Type 0} (xs ys : List X) → length xs ≡ length ys
+    → ((j : ℕ) → j < length xs → slice_get xs j ≡ slice_get ys j) → xs ≡ ys
 same_places [] [] long at = refl
 same_places [] (y ∷ ys) long at = absurd (omega (arith, long))
 same_places (x ∷ xs) [] long at = absurd (omega (arith, long))
@@ -32,7 +34,8 @@ same_places (x ∷ xs) (y ∷ ys) long at =
 abbrev pub AreAtUpTo : Service → List Stance → ℕ → Type 0
 AreAtUpTo v stances n = (j : ℕ) → j < n → slice_get (map stance_of v.state.tasks) j ≡ slice_get stances j
 
-module _ (v : Service) (stances : List Stance) (n : ℕ) (stance : Stance) (there : slice_get stances n ≡ Some stance) where
+module _ (v : Service) (stances : List Stance) (n : ℕ) (stance : Stance)
+    (there : slice_get stances n ≡ Some stance) where
   -- so is this one
   pub up_to_next : AreAtUpTo v stances n → IsAt v n stance → AreAtUpTo v stances (n + 1)
   up_to_next so_far at j low = by_place (nat_cases j n (omega (arith, low))) where
@@ -55,9 +58,11 @@ module _ (v : Service) (stances : List Stance) (n : ℕ) (stance : Stance) (ther
   not_all other all = other (sym (slice_get-map stance_of v.state.tasks n) ∙ ap (λ xs. slice_get xs n) all ∙ there)
 
 -- where each is, all are
-pub all_at : (v : Service) (stances : List Stance) → length stances ≡ length v.state.tasks → (n : ℕ) → length v.state.tasks ≤ n
+pub all_at : (v : Service) (stances : List Stance) → length stances ≡ length v.state.tasks → (n : ℕ)
+    → length v.state.tasks ≤ n
     → AreAtUpTo v stances n → AreAt v stances
-all_at v stances long n most at = same_places (map stance_of v.state.tasks) stances (omega (arith, long, length_map v.state.tasks))
+all_at v stances long n most at =
+    same_places (map stance_of v.state.tasks) stances (omega (arith, long, length_map v.state.tasks))
     (λ j low. at j (omega (arith, low, length_map v.state.tasks))) where
       length_map : (tasks : List Task) → length (map stance_of tasks) ≡ length tasks
       length_map [] = refl
@@ -67,7 +72,8 @@ all_at v stances long n most at = same_places (map stance_of v.state.tasks) stan
 
 -- the role of a word's first letter
 abbrev letter_role : ℕ → Role
-letter_role n = if n == 99 then Coming else (if n == 102 then Fresh else (if n == 119 then Waiting else (if n == 104 then Held else
+letter_role n = if n == 99 then Coming else
+    (if n == 102 then Fresh else (if n == 119 then Waiting else (if n == 104 then Held else
     (if n == 114 then Running else (if n == 100 then Done else Gone)))))
 
 -- the first letter of a word
@@ -93,14 +99,17 @@ one_role a b e = sym (role_again a) ∙ ap (λ w. letter_role (first_letter w)) 
 alike_same : (t u : Task) → is_alike t u ≡ true → stance_of t ≡ stance_of u
 alike_same t u alike =
     let both = and_parts (bytes_eq (role_word t.role) (role_word u.role)) (t.had == u.had) alike in
-    let role : t.role ≡ u.role = one_role t.role u.role ((bytes_eq-Decides (role_word t.role) (role_word u.role)).0 both.0) in
+    let role : t.role ≡ u.role =
+    one_role t.role u.role ((bytes_eq-Decides (role_word t.role) (role_word u.role)).0 both.0) in
     let had : t.had ≡ u.had = eqb-true t.had u.had both.1 in
-    ap (λ r. let s : Stance = record { role = r; had = t.had } in s) role ∙ ap (λ n. let s : Stance = record { role = u.role; had = n } in s) had
+    ap (λ r. let s : Stance = record { role = r; had = t.had } in s) role
+    ∙ ap (λ n. let s : Stance = record { role = u.role; had = n } in s) had
 
 -- jobs of the same state are alike
 same_alike : (t u : Task) → stance_of t ≡ stance_of u → is_alike t u ≡ true
 same_alike t u same =
-    ap (λ b. b && (t.had == u.had)) ((bytes_eq-Decides (role_word t.role) (role_word u.role)).1 (ap (λ (s : Stance). role_word s.role) same))
+    ap (λ b. b && (t.had == u.had))
+    ((bytes_eq-Decides (role_word t.role) (role_word u.role)).1 (ap (λ (s : Stance). role_word s.role) same))
     ∙ eq-eqb t.had u.had (ap (λ (s : Stance). s.had) same)
 
 -- the same of lists
@@ -124,11 +133,14 @@ alike_all (t ∷ tasks) (u ∷ others) alike =
     let rest : map stance_of tasks ≡ map stance_of others = alike_all tasks others both.1 in cc
 
 -- numbered jobs with the same states and the same jobs are the same
-pub same_tasks : (n : ℕ) (tasks others : List Task) → IsNumberedFrom n tasks → IsNumberedFrom n others → jobs_of tasks ≡ jobs_of others
+pub same_tasks : (n : ℕ) (tasks others : List Task) → IsNumberedFrom n tasks → IsNumberedFrom n others
+    → jobs_of tasks ≡ jobs_of others
     → map stance_of tasks ≡ map stance_of others → tasks ≡ others
 same_tasks n [] [] numbered other jobs stances = refl
-same_tasks n [] (u ∷ others) numbered other jobs stances = absurd (let clash : [] ≡ stance_of u ∷ map stance_of others = stances in cc)
-same_tasks n (t ∷ tasks) [] numbered other jobs stances = absurd (let clash : stance_of t ∷ map stance_of tasks ≡ [] = stances in cc)
+same_tasks n [] (u ∷ others) numbered other jobs stances =
+    absurd (let clash : [] ≡ stance_of u ∷ map stance_of others = stances in cc)
+same_tasks n (t ∷ tasks) [] numbered other jobs stances =
+    absurd (let clash : stance_of t ∷ map stance_of tasks ≡ [] = stances in cc)
 same_tasks n (t ∷ tasks) (u ∷ others) numbered other jobs stances =
     let whole : stance_of t ∷ map stance_of tasks ≡ stance_of u ∷ map stance_of others = stances in
     let stance : stance_of t ≡ stance_of u = cc in
@@ -137,7 +149,9 @@ same_tasks n (t ∷ tasks) (u ∷ others) numbered other jobs stances =
     let job : t.job ≡ u.job = cc in
     let rest : jobs_of tasks ≡ jobs_of others = cc in
     let number : t.number ≡ u.number = numbered.0 ∙ sym other.0 in
-    let first : t ≡ u = ap (λ m. let x : Task = record { number = m; job = t.job; role = t.role; had = t.had } in x) number
+    let first : t ≡ u = ap (λ m. let x : Task = record { number = m; job = t.job; role = t.role; had = t.had } in x)
+    number
     ∙ ap (λ j. let x : Task = record { number = u.number; job = j; role = t.role; had = t.had } in x) job
-    ∙ ap (λ (s : Stance). let x : Task = record { number = u.number; job = u.job; role = s.role; had = s.had } in x) stance in
+    ∙ ap (λ (s : Stance). let x : Task = record { number = u.number; job = u.job; role = s.role; had = s.had } in x)
+    stance in
     let later : tasks ≡ others = same_tasks (suc n) tasks others numbered.1 other.1 rest more in cc

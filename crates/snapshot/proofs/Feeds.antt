@@ -1,4 +1,5 @@
--- Each feed that may pause has a snapshot that is taken, each that is taken is that of a feed, and feeds with the same snapshot go on alike.
+-- Each feed that may pause has a snapshot that is taken, each that is taken is that of a feed, and feeds with the same
+-- snapshot go on alike.
 use Rattle.std.proofs.Common.{◌≡◌, ℕ, suc, ◌+◌, ◌≤◌, List, [], ◌∷◌, ◌++◌, length, length-append, append_assoc, map}
 use Rattle.std.proofs.Common.{refl, sym, ap, ◌∙◌, subst, true, false, cond, arith, Option, Some, None, codes}
 use Rattle.std.specs.Prelude.{IsSome}
@@ -15,11 +16,13 @@ use Rattle.dover_model.specs.Due.{due_lines, due, short_lines, fault_text}
 use Rattle.dover_model.proofs.Accounts.{Holds, account_kept}
 use Rattle.dover_model.proofs.Cuts.{HasNoFeed}
 use Rattle.event_feed.proofs.Counting.{lines_counted}
-use Rattle.snapshot.specs.Snapshot.{MayPause, Head, IsHead, head_line, state_line, head_of_feed, snapshot_lines, snapshot}
+use Rattle.snapshot.specs.Snapshot.{MayPause, Head, IsHead, head_line, state_line, head_of_feed, snapshot_lines}
+use Rattle.snapshot.specs.Snapshot.{snapshot}
 use Rattle.snapshot.specs.Reading.{Taken, stored, reading_of}
 use Rattle.snapshot.specs.Feeds.{GoOnEqually}
 use Rattle.snapshot.proofs.Alike.{Alike, SameRun, GoAlike, lines_alike}
-use Rattle.snapshot.proofs.Behind.{feedless_head, feedless_states, same_lines, whole_behind, rest_behind, lines_whole, account_behind}
+use Rattle.snapshot.proofs.Behind.{feedless_head, feedless_states, same_lines, whole_behind, rest_behind, lines_whole}
+use Rattle.snapshot.proofs.Behind.{account_behind}
 use Rattle.snapshot.proofs.Reached.{Reached, lines_reach, lines_few}
 use Rattle.snapshot.proofs.Takeable.{is_head, is_state, taken, stored_is, holds_open, reaches_open}
 
@@ -90,18 +93,23 @@ module _ (F G : List ℕ) (may : MayPause F) (may_other : MayPause G) (same : sn
   there_other : (account G).session ≡ Some T
   there_other = (named G may_other).1
 
-  reads_same : Taken (head_of_feed (account F) S) (tasks F may S there) ≡ Taken (head_of_feed (account G) T) (tasks G may_other T there_other)
+  reads_same : Taken (head_of_feed (account F) S) (tasks F may S there) ≡ Taken (head_of_feed (account G) T)
+      (tasks G may_other T there_other)
   reads_same = sym (lines_taken F may S there)
-      ∙ ap reading_of (same_lines (snapshot_lines (account F) S) (snapshot_lines (account G) T) (lines_feedless F may S there)
-      (lines_feedless G may_other T there_other) (sym (snapshot_is F may S there) ∙ same ∙ snapshot_is G may_other T there_other))
+      ∙ ap reading_of (same_lines (snapshot_lines (account F) S) (snapshot_lines (account G) T)
+      (lines_feedless F may S there)
+      (lines_feedless G may_other T there_other)
+      (sym (snapshot_is F may S there) ∙ same ∙ snapshot_is G may_other T there_other))
       ∙ lines_taken G may_other T there_other
 
   head_same : head_of_feed (account F) S ≡ head_of_feed (account G) T
-  head_same = let e : Taken (head_of_feed (account F) S) (tasks F may S there) ≡ Taken (head_of_feed (account G) T) (tasks G may_other T there_other) =
+  head_same = let e : Taken (head_of_feed (account F) S) (tasks F may S there) ≡ Taken (head_of_feed (account G) T)
+      (tasks G may_other T there_other) =
       reads_same in cc
 
   tasks_same : tasks F may S there ≡ tasks G may_other T there_other
-  tasks_same = let e : Taken (head_of_feed (account F) S) (tasks F may S there) ≡ Taken (head_of_feed (account G) T) (tasks G may_other T there_other) =
+  tasks_same = let e : Taken (head_of_feed (account F) S) (tasks F may S there) ≡ Taken (head_of_feed (account G) T)
+      (tasks G may_other T there_other) =
       reads_same in cc
 
   -- they are alike
@@ -111,7 +119,8 @@ module _ (F G : List ℕ) (may : MayPause F) (may_other : MayPause G) (same : sn
     sym (ap (λ (h : Head). h.mark) head_same),
     opened G may_other ∙ sym (opened F may),
     subst (λ o. SameRun o (account G).session) (sym there) (subst (λ o. SameRun (Some S) o) (sym there_other)
-        (sym (jobs_are G may_other T there_other) ∙ sym (ap (λ (h : Head). stored h (tasks G may_other T there_other)) head_same)
+        (sym (jobs_are G may_other T there_other)
+        ∙ sym (ap (λ (h : Head). stored h (tasks G may_other T there_other)) head_same)
         ∙ sym (ap (λ ts. stored (head_of_feed (account F) S) ts) tasks_same) ∙ jobs_are F may S there)),
   )
 
@@ -124,10 +133,12 @@ lines_from J lines mark = head_line (record { rules = J.rules; lines = lines; ma
 
 -- the line that refuses a feed that is too short
 abbrev short_from : ℕ → Standing → List (List ℕ)
-short_from n s = cond (elim s [ Open ↦ true | Ended ↦ false | Faulty line cause ↦ false ]) (fault_text (suc n) Short ∷ []) []
+short_from n s = cond (elim s [ Open ↦ true | Ended ↦ false | Faulty line cause ↦ false ])
+    (fault_text (suc n) Short ∷ []) []
 
 -- sessions that both are there
-pub both_there : (s t : Option Session) → SameRun s t → (S : Session) × (T : Session) × (s ≡ Some S) × (t ≡ Some T) × (instance_of T ≡ instance_of S)
+pub both_there : (s t : Option Session) → SameRun s t → (S : Session) × (T : Session) × (s ≡ Some S) × (t ≡ Some T)
+    × (instance_of T ≡ instance_of S)
 both_there None t same = absurd same
 both_there (Some S) None same = absurd same
 both_there (Some S) (Some T) same = (S, T, refl, refl, same)
@@ -155,12 +166,15 @@ module _ (F G : List ℕ) (alike : Alike (account F) (account G)) (whole : rest_
 
 module _ (F G H : List ℕ) (may : MayPause F) (may_other : MayPause G) (same : snapshot F ≡ snapshot G) where
   -- line by line
-  step : GoAlike (account F) (account G) (fold next_line (account F) (lines_of H)) (fold next_line (account G) (lines_of H))
-  step = lines_alike (lines_of H) (account F) (account G) (same_alike F G may may_other same) (account_kept F) (account_kept G)
+  step : GoAlike (account F) (account G) (fold next_line (account F) (lines_of H))
+      (fold next_line (account G) (lines_of H))
+  step = lines_alike (lines_of H) (account F) (account G) (same_alike F G may may_other same) (account_kept F)
+      (account_kept G)
 
   alike_behind : Alike (account (F ++ H)) (account (G ++ H))
   alike_behind = subst (λ a. Alike a (account (G ++ H))) (sym (account_behind F may.whole H))
-      (subst (λ b. Alike (fold next_line (account F) (lines_of H)) b) (sym (account_behind G may_other.whole H)) step.alike)
+      (subst (λ b. Alike (fold next_line (account F) (lines_of H)) b)
+      (sym (account_behind G may_other.whole H)) step.alike)
 
   due_first : due (F ++ H) ≡ due F ++ in_lines step.text
   due_first = ap (λ a. in_lines (due_lines a)) (account_behind F may.whole H) ∙ ap in_lines step.first
@@ -197,12 +211,14 @@ module _ (F G H : List ℕ) (may : MayPause F) (may_other : MayPause G) (same : 
     first = due_first;
     other = due_other;
     closing = in_lines step.text ++ in_lines short_more;
-    first_closed = ap (λ t. t ++ in_lines short_more) due_first ∙ append_assoc (due F) (in_lines step.text) (in_lines short_more);
+    first_closed = ap (λ t. t ++ in_lines short_more) due_first
+        ∙ append_assoc (due F) (in_lines step.text) (in_lines short_more);
     other_closed = ap (λ ls. due (G ++ H) ++ in_lines ls) short_same ∙ ap (λ t. t ++ in_lines short_more) due_other
         ∙ append_assoc (due G) (in_lines step.text) (in_lines short_more);
     standing = alike_behind.2;
     again = λ m. (
       may_pause (F ++ H) (G ++ H) alike_behind (rest_behind F may.whole H ∙ sym (rest_behind G may_other.whole H)) m,
-      snapshot_same (F ++ H) (G ++ H) alike_behind (rest_behind F may.whole H ∙ sym (rest_behind G may_other.whole H)) m,
+      snapshot_same (F ++ H) (G ++ H) alike_behind
+          (rest_behind F may.whole H ∙ sym (rest_behind G may_other.whole H)) m,
     );
   }

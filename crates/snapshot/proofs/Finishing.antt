@@ -1,5 +1,6 @@
 -- What a reader keeps at the last line, and when that is refused.
-use Rattle.std.proofs.Common.{◌≡◌, ℕ, ◌+◌, ◌≤◌, List, [], ◌∷◌, ◌++◌, length, map, refl, sym, ap, ◌∙◌, subst, Bool, true, false, not, ◌||◌, arith, codes}
+use Rattle.std.proofs.Common.{◌≡◌, ℕ, ◌+◌, ◌≤◌, List, [], ◌∷◌, ◌++◌, length, map, refl, sym, ap, ◌∙◌, subst, Bool, true}
+use Rattle.std.proofs.Common.{false, not, ◌||◌, arith, codes}
 use Rattle.std.specs.Prelude.{nat_le, nat_lt, bytes_eq}
 use Rattle.std.specs.List.{AllByRecursion, fold}
 use Rattle.std.proofs.lemmas.Slice.Eq.{bytes_eq-Decides}
@@ -33,7 +34,8 @@ last_low : (most from : ℕ) (tasks : List Task) → AllByRecursion (λ (t : Tas
 last_low most from [] all low = low
 last_low most from (t ∷ tasks) all low = last_low most t.job.release tasks all.1 all.0
 
-module _ (h : Head) (tasks : List Task) (ls : List (List ℕ)) (read : HasRead h tasks ls) (r : Resuming) (it : Holds r h tasks) where
+module _ (h : Head) (tasks : List Task) (ls : List (List ℕ)) (read : HasRead h tasks ls) (r : Resuming)
+    (it : Holds r h tasks) where
   -- the mark is not before the last release
   known : last_release tasks ≤ h.mark
   known = last_low h.mark 0 tasks read.known (omega arith)
@@ -44,11 +46,13 @@ module _ (h : Head) (tasks : List Task) (ls : List (List ℕ)) (read : HasRead h
 
   -- the run may be taken to the mark
   pub finish_taken : HasTaken r.server r.head.mark
-  finish_taken = subst (HasTaken r.server) (sym mark_is) (taken_later r.server (last_release tasks) h.mark known it.served.taken)
+  finish_taken = subst (HasTaken r.server) (sym mark_is)
+      (taken_later r.server (last_release tasks) h.mark known it.served.taken)
 
   pub finish_follows : MayFollow r.server.last (Mark r.head.mark)
   finish_follows = subst (λ last. MayFollow last (Mark r.head.mark)) (sym it.served.last)
-      (subst (λ mark. (last_release tasks ≤ mark) × (mark ≤ last_tick)) (sym mark_is) (known, (within h read.limits).mark))
+      (subst (λ mark. (last_release tasks ≤ mark) × (mark ≤ last_tick)) (sym mark_is)
+      (known, (within h read.limits).mark))
 
   -- what is tested of the mark
   pub reached_is : nat_le r.head.mark r.last || nat_lt (r.head.jobs + 1) r.head.lines ≡ has_reached_mark h tasks
@@ -61,30 +65,37 @@ module _ (h : Head) (tasks : List Task) (ls : List (List ℕ)) (read : HasRead h
     all_read = omega (arith, most, served_count h tasks ls read r it, ap (λ (g : Head). g.jobs) it.head)
 
     -- another line
-    pub other_refused : (n : ℕ) → n ≡ length r.server.state.tasks → bytes_eq line (codes "resume") ≡ false → reading_of (ls ++ line ∷ []) ≡ Refused (n + 2)
-    other_refused n is other = refused_here h tasks ls read r it (ls ++ line ∷ []) n is (no_last h tasks ls read line all_read other)
+    pub other_refused : (n : ℕ) → n ≡ length r.server.state.tasks → bytes_eq line (codes "resume") ≡ false
+        → reading_of (ls ++ line ∷ []) ≡ Refused (n + 2)
+    other_refused n is other =
+        refused_here h tasks ls read r it (ls ++ line ∷ []) n is (no_last h tasks ls read line all_read other)
 
     -- the mark wasn't reached
-    pub mark_refused : (n : ℕ) → n ≡ length r.server.state.tasks → nat_le r.head.mark r.last || nat_lt (r.head.jobs + 1) r.head.lines ≡ false
+    pub mark_refused : (n : ℕ) → n ≡ length r.server.state.tasks
+        → nat_le r.head.mark r.last || nat_lt (r.head.jobs + 1) r.head.lines ≡ false
         → reading_of (ls ++ line ∷ []) ≡ Refused (n + 2)
     mark_refused n is beyond = refused_here h tasks ls read r it (ls ++ line ∷ []) n is
         (mark_beyond h tasks ls read line all_read (sym reached_is ∙ beyond))
 
-    module _ (v : Service) (taken : HasTaken v r.head.mark) (barrier : IsBarrier v.rules r.head.mark v.state) (list : list_of v ≡ list_of r.server)
+    module _ (v : Service) (taken : HasTaken v r.head.mark) (barrier : IsBarrier v.rules r.head.mark v.state)
+        (list : list_of v ≡ list_of r.server)
       where
         -- the state that was reached
         state_is : v.state ≡ settled_state (stored h tasks) h.mark
-        state_is = settled_there v (stored h tasks) r.head.mark taken (list ∙ it.served.list) barrier ∙ ap (settled_state (stored h tasks)) mark_is
+        state_is = settled_there v (stored h tasks) r.head.mark taken (list ∙ it.served.list) barrier
+            ∙ ap (settled_state (stored h tasks)) mark_is
 
         -- where the jobs aren't as stored, the line is refused
-        pub state_refused : (n : ℕ) (stances : List Stance) → n ≡ length r.server.state.tasks → stances ≡ r.stances.items → (AreAt v stances → ⊥)
+        pub state_refused : (n : ℕ) (stances : List Stance) → n ≡ length r.server.state.tasks
+            → stances ≡ r.stances.items → (AreAt v stances → ⊥)
             → reading_of (ls ++ line ∷ []) ≡ Refused (n + 2)
         state_refused n stances is kept other = refused_here h tasks ls read r it (ls ++ line ∷ []) n is
             (other_state h tasks ls read line all_read (by (is_settled h tasks) refl)) where
               by : (b : Bool) → is_settled h tasks ≡ b → is_settled h tasks ≡ false
               by false fails = fails
               by true passes = absurd (other (ap (λ (s : State). map stance_of s.tasks) state_is
-                  ∙ sym (alike_all tasks (settled_state (stored h tasks) h.mark).tasks passes) ∙ sym it.stances ∙ sym kept))
+                  ∙ sym (alike_all tasks (settled_state (stored h tasks) h.mark).tasks passes) ∙ sym it.stances
+                  ∙ sym kept))
 
         module _ (stances : List Stance) (kept : stances ≡ r.stances.items) (at : AreAt v stances) where
           -- they are
@@ -114,7 +125,8 @@ module _ (h : Head) (tasks : List Task) (ls : List (List ℕ)) (read : HasRead h
           }
 
           -- its run goes on
-          pub resumes : (i : feed.Kept) → has_reached_mark h tasks ≡ true → feed.StandsFor i (feed_lines h tasks) → v.ready ≡ true
+          pub resumes : (i : feed.Kept) → has_reached_mark h tasks ≡ true → feed.StandsFor i (feed_lines h tasks)
+              → v.ready ≡ true
               → v.last ≡ Mark r.head.mark → Resumes v i h tasks
           resumes i reached stands ready last =
               let account : account_of_lines (feed_lines h tasks) ≡ paused_account h tasks =
@@ -122,7 +134,8 @@ module _ (h : Head) (tasks : List Task) (ls : List (List ℕ)) (read : HasRead h
               record {
                 stands = stands;
                 account = account;
-                going = goes_on i (feed_lines h tasks) (stored_session h tasks) stands (ap (λ (a : Account). a.standing) account)
+                going = goes_on i (feed_lines h tasks) (stored_session h tasks) stands
+                    (ap (λ (a : Account). a.standing) account)
                     (ap (λ (a : Account). a.session) account);
                 list = list ∙ it.served.list;
                 state = state_is;
@@ -134,5 +147,6 @@ module _ (h : Head) (tasks : List Task) (ls : List (List ℕ)) (read : HasRead h
 pub last_same : (line other : List ℕ) → other ≡ codes "resume" → not (bytes_eq line other) ≡ false
     → (bytes_eq line (codes "resume") ≡ true) × (line ≡ codes "resume")
 last_same line other is test =
-    let same : bytes_eq line (codes "resume") ≡ true = ap (bytes_eq line) (sym is) ∙ denied (bytes_eq line other) test in
+    let same : bytes_eq line (codes "resume") ≡ true = ap (bytes_eq line) (sym is)
+    ∙ denied (bytes_eq line other) test in
     (same, (bytes_eq-Decides line (codes "resume")).0 same)

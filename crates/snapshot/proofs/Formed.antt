@@ -1,5 +1,6 @@
 -- What is read field by field is what the line spells.
-use Rattle.std.proofs.Common.{◌≡◌, ℕ, ◌≤◌, ◌<◌, List, [], ◌∷◌, length, refl, sym, ap, ◌∙◌, Bool, true, false, cond, not, arith, Option, Some, None, codes}
+use Rattle.std.proofs.Common.{◌≡◌, ℕ, ◌≤◌, ◌<◌, List, [], ◌∷◌, length, refl, sym, ap, ◌∙◌, Bool, true, false, cond, not}
+use Rattle.std.proofs.Common.{arith, Option, Some, None, codes}
 use Rattle.std.specs.Prelude.{bytes_eq}
 use Rattle.std.specs.Option.{option_and_then, option_map}
 use Rattle.std.proofs.lemmas.Bool.{le-ltb}
@@ -27,10 +28,12 @@ six_numbers (a ∷ b ∷ c ∷ d ∷ e ∷ f ∷ g ∷ ns) other = refl
 pub none_head : (line word : List ℕ) (fields : List (List ℕ)) → length line ≤ 128 → fields_of line ≡ word ∷ fields
     → ((ns : List ℕ) → numerals fields ≡ Some ns → length ns ≡ 6 → ⊥) → read_head line ≡ None
 none_head line word fields fits cut other =
-    ap (λ b. cond b None (option_and_then head_from (numbers_of (codes "snapshot") line))) (le-ltb 128 (length line) fits)
+    ap (λ b. cond b None (option_and_then head_from (numbers_of (codes "snapshot") line)))
+    (le-ltb 128 (length line) fits)
     ∙ ap (λ fs. option_and_then head_from (numbers_after (codes "snapshot") fs)) cut
     ∙ by (bytes_eq word (codes "snapshot")) (numerals fields) other where
-      by : (b : Bool) (o : Option (List ℕ)) → ((ns : List ℕ) → o ≡ Some ns → length ns ≡ 6 → ⊥) → option_and_then head_from (cond b o None) ≡ None
+      by : (b : Bool) (o : Option (List ℕ)) → ((ns : List ℕ) → o ≡ Some ns → length ns ≡ 6 → ⊥)
+          → option_and_then head_from (cond b o None) ≡ None
       by true None other = refl
       by true (Some ns) other = six_numbers ns (other ns refl)
       by false o other = refl
@@ -51,8 +54,10 @@ many_numbers r n (a ∷ b ∷ c ∷ d ∷ e ∷ f ∷ ns) many = refl
 pub none_behind : (n : ℕ) (role : List ℕ) (fields : List (List ℕ)) (r : Role) → role_of_word role ≡ Some r
     → ((ns : List ℕ) → numerals fields ≡ Some ns → 5 < length ns) → behind_number n (role ∷ fields) ≡ None
 none_behind n role fields r named many =
-    ap (option_and_then (λ q. option_and_then (λ ns. task_from q (n ∷ ns)) (numerals fields))) named ∙ by (numerals fields) many where
-      by : (o : Option (List ℕ)) → ((ns : List ℕ) → o ≡ Some ns → 5 < length ns) → option_and_then (λ ns. task_from r (n ∷ ns)) o ≡ None
+    ap (option_and_then (λ q. option_and_then (λ ns. task_from q (n ∷ ns)) (numerals fields))) named
+    ∙ by (numerals fields) many where
+      by : (o : Option (List ℕ)) → ((ns : List ℕ) → o ≡ Some ns → 5 < length ns)
+          → option_and_then (λ ns. task_from r (n ∷ ns)) o ≡ None
       by None many = refl
       by (Some ns) many = many_numbers r n ns (many ns refl)
 
@@ -64,17 +69,22 @@ first_then fields None = refl
 first_then fields (Some n) = refl
 
 -- fields are read one by one
-by_fields : (word : List ℕ) (fields : List (List ℕ)) → bytes_eq word (codes "state") ≡ true → task_of_fields (word ∷ fields) ≡ behind_word fields
+by_fields : (word : List ℕ) (fields : List (List ℕ)) → bytes_eq word (codes "state") ≡ true
+    → task_of_fields (word ∷ fields) ≡ behind_word fields
 by_fields word [] is = refl
 by_fields word (number ∷ []) is = by (numeral number) where
-  by : (o : Option ℕ) → None ≡ option_and_then (λ (first : ℕ × List (List ℕ)). behind_number first.0 first.1) (option_map (λ n. (n, [])) o)
+  by : (o : Option ℕ) → None ≡ option_and_then (λ (first : ℕ × List (List ℕ)). behind_number first.0 first.1)
+      (option_map (λ n. (n, [])) o)
   by None = refl
   by (Some n) = refl
 by_fields word (number ∷ role ∷ fields) is =
-    ap (λ b. cond b (option_and_then (λ r. option_and_then (task_from r) (numerals (number ∷ fields))) (role_of_word role)) None) is
-    ∙ by (numeral number) (role_of_word role) (numerals fields) ∙ sym (first_then (role ∷ fields) (numeral number)) where
+    ap (λ b. cond b (option_and_then (λ r. option_and_then (task_from r) (numerals (number ∷ fields)))
+    (role_of_word role)) None) is
+    ∙ by (numeral number) (role_of_word role) (numerals fields)
+    ∙ sym (first_then (role ∷ fields) (numeral number)) where
       by : (o : Option ℕ) (r : Option Role) (rest : Option (List ℕ))
-          → option_and_then (λ q. option_and_then (task_from q) (option_and_then (λ n. option_map (λ ns. n ∷ ns) rest) o)) r
+          → option_and_then (λ q. option_and_then (task_from q)
+          (option_and_then (λ n. option_map (λ ns. n ∷ ns) rest) o)) r
           ≡ option_and_then (λ n. option_and_then (λ q. option_and_then (λ ns. task_from q (n ∷ ns)) rest) r) o
       by None None rest = refl
       by None (Some q) rest = refl
@@ -86,7 +96,8 @@ by_fields word (number ∷ role ∷ fields) is =
 pub task_behind : (line word : List ℕ) (fields : List (List ℕ)) → length line ≤ 128 → fields_of line ≡ word ∷ fields
     → bytes_eq word (codes "state") ≡ true → read_task line ≡ behind_word fields
 task_behind line word fields fits cut is =
-    ap (λ b. cond b None (task_of_fields (fields_of line))) (le-ltb 128 (length line) fits) ∙ ap task_of_fields cut ∙ by_fields word fields is
+    ap (λ b. cond b None (task_of_fields (fields_of line))) (le-ltb 128 (length line) fits) ∙ ap task_of_fields cut
+    ∙ by_fields word fields is
 
 -- a test whose denial fails
 pub denied : (b : Bool) → not b ≡ false → b ≡ true

@@ -1,5 +1,6 @@
 -- What the answer to the line of a job says of the job.
-use Rattle.std.proofs.Common.{◌≡◌, ℕ, ◌+◌, List, [], ◌∷◌, ◌++◌, length, length-append, refl, sym, ap, ◌∙◌, subst, inl, inr}
+use Rattle.std.proofs.Common.{◌≡◌, ℕ, ◌+◌, List, [], ◌∷◌, ◌++◌, length, length-append, refl, sym, ap, ◌∙◌, subst, inl}
+use Rattle.std.proofs.Common.{inr}
 use Rattle.std.proofs.Common.{Bool, true, false, cond, arith, Option, Some, None}
 use Rattle.std.specs.Prelude.{Ok, Err, IsSome, IfSome, IsNone}
 use Rattle.std.specs.List.{fold}
@@ -13,7 +14,8 @@ use Rattle.dover_model.specs.Session.{Session, JobItem, with_item, admitted_jobs
 use Rattle.dover_model.specs.Sound.{jobs_of}
 use Rattle.dover_model.specs.FeedLine.{JobLine, feed_text}
 use Rattle.dover_model.specs.Feed as model
-use Rattle.dover_model.specs.Feed.{Account, Standing, Open, Faulty, NotAdmitted, next_line, no_lines, account_of_lines, with_line, with_fault, with_item_in}
+use Rattle.dover_model.specs.Feed.{Account, Standing, Open, Faulty, NotAdmitted, next_line, no_lines, account_of_lines}
+use Rattle.dover_model.specs.Feed.{with_line, with_fault, with_item_in}
 use Rattle.dover_model.proofs.Growing.{job_instance, refused_instance}
 use Rattle.dover_model.proofs.JobSessions.{jobs_back}
 use Rattle.event_feed.specs.declared.fed.Fed.{Fed}
@@ -35,10 +37,12 @@ use Rattle.snapshot.proofs.Handing.{counted_account, job_read, job_adds}
 -- ---- an intake that goes on
 
 -- where the account of its lines is open and has a session, it goes on
-pub goes_on : (i : feed.Kept) (ls : List (List ℕ)) (S : Session) → feed.StandsFor i ls → (account_of_lines ls).standing ≡ Open
+pub goes_on : (i : feed.Kept) (ls : List (List ℕ)) (S : Session) → feed.StandsFor i ls
+    → (account_of_lines ls).standing ≡ Open
     → (account_of_lines ls).session ≡ Some S → feed.IsGoing i
 goes_on i ls S it opened there = is_going i.lines i.session i.standing
-    (by_session i.session (subst (λ o. feed.KeepsSession i.session o (account_of_lines ls).mark) there it.by_account.session))
+    (by_session i.session (subst
+    (λ o. feed.KeepsSession i.session o (account_of_lines ls).mark) there it.by_account.session))
     (by_standing i.standing (it.by_account.standing ∙ opened)) where
       by_session : (o : Option KeptSession) → feed.KeepsSession o (Some S) (account_of_lines ls).mark → IsSome o
       by_session None it = absurd it
@@ -47,7 +51,8 @@ goes_on i ls S it opened there = is_going i.lines i.session i.standing
       by_standing : (s : standing.Standing) → feed.standing_of s ≡ Open → s ≡ standings.Open
       by_standing standings.Open e = refl
       by_standing standings.Over e = absurd (let clash : model.Ended ≡ Open = e in cc)
-      by_standing (standings.Faulty f) e = absurd (let clash : Faulty f.line (feed.cause_of_fault f.cause) ≡ Open = e in cc)
+      by_standing (standings.Faulty f) e =
+          absurd (let clash : Faulty f.line (feed.cause_of_fault f.cause) ≡ Open = e in cc)
 
 -- ---- the jobs of an account
 
@@ -61,8 +66,13 @@ abbrev count : Account → ℕ
 count a = length (jobs_in_session a.session)
 
 -- one more with a job
-count_job : (S : Session) (j : JobFacts) → length (admitted_jobs (with_item S (JobItem j)).items) ≡ length (admitted_jobs S.items) + 1
-count_job S j = omega (arith, ap (λ J. length J.jobs) (job_instance S j), length-append (admitted_jobs S.items) (j ∷ []))
+count_job : (S : Session) (j : JobFacts)
+    → length (admitted_jobs (with_item S (JobItem j)).items) ≡ length (admitted_jobs S.items) + 1
+count_job S j = omega (
+  arith,
+  ap (λ J. length J.jobs) (job_instance S j),
+  length-append (admitted_jobs S.items) (j ∷ []),
+)
 
 -- the last of a list
 last_of : JobFacts → List JobFacts → JobFacts
@@ -70,17 +80,20 @@ last_of d xs = fold (λ x y. y) d xs
 
 -- lists with equal last elements
 same_last : (xs ys : List JobFacts) (x y : JobFacts) → xs ++ x ∷ [] ≡ ys ++ y ∷ [] → x ≡ y
-same_last xs ys x y e = sym (fold-append (λ p q. q) x xs (x ∷ [])) ∙ ap (λ zs. fold (λ p q. q) x zs) e ∙ fold-append (λ p q. q) x ys (y ∷ [])
+same_last xs ys x y e = sym (fold-append (λ p q. q) x xs (x ∷ [])) ∙ ap (λ zs. fold (λ p q. q) x zs) e
+    ∙ fold-append (λ p q. q) x ys (y ∷ [])
 
 -- an answer with no job adds none
 none_added : (bytes : List ℕ) (a b : Account) (S : Session) (answer : Fed) → a.session ≡ Some S → job_in answer ≡ None
     → Feeds (counted a) b answer → count b ≡ count a
-none_added bytes a b S (fed.Ratio k version) there none it = absurd (let clash : Some S ≡ None = sym there ∙ it.first in cc)
+none_added bytes a b S (fed.Ratio k version) there none it =
+    absurd (let clash : Some S ≡ None = sym there ∙ it.first in cc)
 none_added bytes a b S (fed.Job n j) there none it = absurd (let clash : Some j ≡ None = none in cc)
 none_added bytes a b S (fed.Tick t) there none it = ap count it.after_is
 none_added bytes a b S fed.Over there none it = ap count it.after_is
 none_added bytes a b S (fed.Refused r c d v refusal) there none it = ap count it.after_is
-    ∙ ap (λ J. length J.jobs) (refused_instance it.session (record { at = a.mark; job = job_of_numbers r c d v; refusal = refusal }))
+    ∙ ap (λ J. length J.jobs)
+    (refused_instance it.session (record { at = a.mark; job = job_of_numbers r c d v; refusal = refusal }))
     ∙ ap (λ o. length (jobs_in_session o)) (sym it.before_is)
 
 -- nor does a fault
@@ -93,15 +106,18 @@ abbrev account_in : Account → Option Session → Account
 account_in a o = record { lines = a.lines; session = o; mark = a.mark; standing = a.standing }
 
 -- a line with a cause adds none
-cause_adds_none : (a : Account) (j : JobFacts) (cause : model.Cause) → count (with_line a (JobLine j) (Some cause)) ≡ count a
+cause_adds_none : (a : Account) (j : JobFacts) (cause : model.Cause)
+    → count (with_line a (JobLine j) (Some cause)) ≡ count a
 cause_adds_none a j (NotAdmitted refusal) = by_session a.session where
   by_version : (S : Session) (two : Bool)
-      → count (cond two (with_item_in (account_in a (Some S)) (refused_at a.mark j refusal)) (with_fault (account_in a (Some S)) (NotAdmitted refusal)))
+      → count (cond two (with_item_in (account_in a (Some S)) (refused_at a.mark j refusal))
+      (with_fault (account_in a (Some S)) (NotAdmitted refusal)))
       ≡ length (admitted_jobs S.items)
   by_version S true = ap (λ J. length J.jobs) (refused_instance S (record { at = a.mark; job = j; refusal = refusal }))
   by_version S false = refl
 
-  by_session : (o : Option Session) → count (with_line (account_in a o) (JobLine j) (Some (NotAdmitted refusal))) ≡ count (account_in a o)
+  by_session : (o : Option Session)
+      → count (with_line (account_in a o) (JobLine j) (Some (NotAdmitted refusal))) ≡ count (account_in a o)
   by_session None = refl
   by_session (Some S) = by_version S (is_two S.rules.version)
 cause_adds_none a j model.Lines = refl
@@ -139,29 +155,36 @@ module _ (h : Head) (tasks : List Task) (t : Task) (i new : feed.Kept) (it : IsF
       ∙ cause_adds_none (counted_account h tasks t) t.job cause ∙ ap length (jobs_back (jobs_of tasks))
 
   -- without one it is added
-  none_account : job_cause h tasks t ≡ None → account_of_lines (job_lines h tasks ++ line ∷ []) ≡ stored_account h (tasks ++ t ∷ [])
+  none_account : job_cause h tasks t ≡ None
+      → account_of_lines (job_lines h tasks ++ line ∷ []) ≡ stored_account h (tasks ++ t ∷ [])
   none_account none = with_cause ∙ ap (with_line (counted_account h tasks t) (JobLine t.job)) none ∙ job_adds h tasks t
 
   -- then they are one more
-  none_counts : job_cause h tasks t ≡ None → count (account_of_lines (job_lines h tasks ++ line ∷ [])) ≡ length (jobs_of tasks) + 1
-  none_counts none = ap count (none_account none) ∙ ap length (jobs_back (jobs_of (tasks ++ t ∷ []))) ∙ ap length (jobs_more tasks t)
+  none_counts : job_cause h tasks t ≡ None
+      → count (account_of_lines (job_lines h tasks ++ line ∷ [])) ≡ length (jobs_of tasks) + 1
+  none_counts none = ap count (none_account none) ∙ ap length (jobs_back (jobs_of (tasks ++ t ∷ [])))
+      ∙ ap length (jobs_more tasks t)
       ∙ length-append (jobs_of tasks) (t.job ∷ [])
 
   -- where none is added, it isn't valid
-  pub not_valid : count (account_of_lines (job_lines h tasks ++ line ∷ [])) ≡ count (account_of_lines (job_lines h tasks))
+  pub not_valid : count (account_of_lines (job_lines h tasks ++ line ∷ [])) ≡ count
+      (account_of_lines (job_lines h tasks))
       → IsValid (stored h (tasks ++ t ∷ [])) → ⊥
   not_valid same valid = absurd (omega (arith, same, counts, none_counts (valid_no_cause h tasks t valid)))
 
   -- an answer with no job says that it isn't valid
   pub no_job : (answer : Fed) → job_in answer ≡ None
-      → Answers line (account_of_lines (job_lines h tasks)) (account_of_lines (job_lines h tasks ++ line ∷ [])) (Ok answer)
+      → Answers line (account_of_lines (job_lines h tasks)) (account_of_lines (job_lines h tasks ++ line ∷ []))
+      (Ok answer)
       → IsValid (stored h (tasks ++ t ∷ [])) → ⊥
-  no_job answer none said = not_valid (none_added line (account_of_lines (job_lines h tasks)) _ (stored_session h tasks) answer
+  no_job answer none said =
+      not_valid (none_added line (account_of_lines (job_lines h tasks)) _ (stored_session h tasks) answer
       (ap (λ a. a.session) it.account) none said.1)
 
   -- so does a fault
   pub no_fault : (fault : FeedFault)
-      → Answers line (account_of_lines (job_lines h tasks)) (account_of_lines (job_lines h tasks ++ line ∷ [])) (Err fault)
+      → Answers line (account_of_lines (job_lines h tasks)) (account_of_lines (job_lines h tasks ++ line ∷ []))
+      (Err fault)
       → IsValid (stored h (tasks ++ t ∷ [])) → ⊥
   no_fault fault said = not_valid (none_at_fault line (account_of_lines (job_lines h tasks)) _ fault said)
 
@@ -173,11 +196,14 @@ module _ (h : Head) (tasks : List Task) (t : Task) (i new : feed.Kept) (it : IsF
 
   -- an answer with a job
   pub added : (n : ℕ) (job : JobFacts) → feed.StandsFor new (job_lines h tasks ++ line ∷ [])
-      → Answers line (account_of_lines (job_lines h tasks)) (account_of_lines (job_lines h tasks ++ line ∷ [])) (Ok (fed.Job n job))
+      → Answers line (account_of_lines (job_lines h tasks)) (account_of_lines (job_lines h tasks ++ line ∷ []))
+      (Ok (fed.Job n job))
       → IsAdded job
   added n job stands said = by_cause (job_cause h tasks t) refl where
-    jobs_after : jobs_in_session (account_of_lines (job_lines h tasks ++ line ∷ [])).session ≡ admitted_jobs said.1.session.items ++ job ∷ []
-    jobs_after = ap (λ (x : Account). jobs_in_session x.session) said.1.after_is ∙ ap (λ J. J.jobs) (job_instance said.1.session job)
+    jobs_after : jobs_in_session (account_of_lines (job_lines h tasks ++ line ∷ [])).session
+        ≡ admitted_jobs said.1.session.items ++ job ∷ []
+    jobs_after = ap (λ (x : Account). jobs_in_session x.session) said.1.after_is
+        ∙ ap (λ J. J.jobs) (job_instance said.1.session job)
 
     by_cause : (o : Option model.Cause) → job_cause h tasks t ≡ o → IsAdded job
     by_cause (Some cause) is = absurd (omega (
@@ -197,7 +223,8 @@ module _ (h : Head) (tasks : List Task) (t : Task) (i new : feed.Kept) (it : IsF
         stands = subst (feed.StandsFor new) lines_more stands;
         account = ap account_of_lines (sym lines_more) ∙ none_account none;
         going = goes_on new (job_lines h tasks ++ line ∷ []) (stored_session h (tasks ++ t ∷ [])) stands
-            (ap (λ (x : Account). x.standing) (none_account none)) (ap (λ (x : Account). x.session) (none_account none));
+            (ap (λ (x : Account). x.standing) (none_account none))
+            (ap (λ (x : Account). x.session) (none_account none));
       };
     }
 
@@ -208,26 +235,33 @@ module _ (h : Head) (tasks : List Task) (t : Task) (i new : feed.Kept) (it : IsF
   -- it is the line's, and valid
   pub handed_on : (bytes : List ℕ) (answer : Fed) (result : Option JobFacts) → bytes ≡ line → result ≡ job_in answer
       → feed.StandsFor new (job_lines h tasks ++ bytes ∷ [])
-      → Answers bytes (account_of_lines (job_lines h tasks)) (account_of_lines (job_lines h tasks ++ bytes ∷ [])) (Ok answer)
+      → Answers bytes (account_of_lines (job_lines h tasks)) (account_of_lines (job_lines h tasks ++ bytes ∷ []))
+      (Ok answer)
       → IfSome result IsHandedOn
   handed_on bytes answer result spelled is stands said = subst (λ o. IfSome o IsHandedOn) (sym is) (by answer
-      (subst (λ bs. Answers bs (account_of_lines (job_lines h tasks)) (account_of_lines (job_lines h tasks ++ bs ∷ [])) (Ok answer)) spelled said))
+      (subst (λ bs. Answers bs (account_of_lines (job_lines h tasks)) (account_of_lines (job_lines h tasks ++ bs ∷ []))
+      (Ok answer)) spelled said))
     where
-      by : (x : Fed) → Answers line (account_of_lines (job_lines h tasks)) (account_of_lines (job_lines h tasks ++ line ∷ [])) (Ok x)
+      by : (x : Fed) → Answers line (account_of_lines (job_lines h tasks))
+          (account_of_lines (job_lines h tasks ++ line ∷ [])) (Ok x)
           → IfSome (job_in x) IsHandedOn
       by (fed.Ratio k version) s = tt
       by (fed.Job n job) s =
-          let it = added n job (subst (λ bs. feed.StandsFor new (job_lines h tasks ++ bs ∷ [])) spelled stands) s in (it.same, it.valid, it.fed)
+          let it = added n job (subst (λ bs. feed.StandsFor new (job_lines h tasks ++ bs ∷ [])) spelled stands) s in
+          (it.same, it.valid, it.fed)
       by (fed.Tick tick) s = tt
       by fed.Over s = tt
       by (fed.Refused r c d v refusal) s = tt
 
   -- none is handed on where it isn't valid
-  pub none_handed_on : (bytes : List ℕ) (answer : Fed) (result : Option JobFacts) → bytes ≡ line → result ≡ job_in answer → IsNone result
-      → Answers bytes (account_of_lines (job_lines h tasks)) (account_of_lines (job_lines h tasks ++ bytes ∷ [])) (Ok answer)
+  pub none_handed_on : (bytes : List ℕ) (answer : Fed) (result : Option JobFacts) → bytes ≡ line
+      → result ≡ job_in answer → IsNone result
+      → Answers bytes (account_of_lines (job_lines h tasks)) (account_of_lines (job_lines h tasks ++ bytes ∷ []))
+      (Ok answer)
       → IsValid (stored h (tasks ++ t ∷ [])) → ⊥
   none_handed_on bytes answer result spelled is none said = no_job answer (sym is ∙ by result none)
-      (subst (λ bs. Answers bs (account_of_lines (job_lines h tasks)) (account_of_lines (job_lines h tasks ++ bs ∷ [])) (Ok answer)) spelled said)
+      (subst (λ bs. Answers bs (account_of_lines (job_lines h tasks)) (account_of_lines (job_lines h tasks ++ bs ∷ []))
+      (Ok answer)) spelled said)
     where
       by : (o : Option JobFacts) → IsNone o → o ≡ None
       by None n = refl
@@ -235,7 +269,9 @@ module _ (h : Head) (tasks : List Task) (t : Task) (i new : feed.Kept) (it : IsF
 
   -- nor at a fault
   pub none_at_fault_on : (bytes : List ℕ) (fault : FeedFault) → bytes ≡ line
-      → Answers bytes (account_of_lines (job_lines h tasks)) (account_of_lines (job_lines h tasks ++ bytes ∷ [])) (Err fault)
+      → Answers bytes (account_of_lines (job_lines h tasks)) (account_of_lines (job_lines h tasks ++ bytes ∷ []))
+      (Err fault)
       → IsValid (stored h (tasks ++ t ∷ [])) → ⊥
   none_at_fault_on bytes fault spelled said = no_fault fault
-      (subst (λ bs. Answers bs (account_of_lines (job_lines h tasks)) (account_of_lines (job_lines h tasks ++ bs ∷ [])) (Err fault)) spelled said)
+      (subst (λ bs. Answers bs (account_of_lines (job_lines h tasks)) (account_of_lines (job_lines h tasks ++ bs ∷ []))
+      (Err fault)) spelled said)

@@ -1,5 +1,6 @@
 -- What the shortest feed with a snapshot says: a line of the ratio, and a line for each job.
-use Rattle.std.proofs.Common.{◌≡◌, ℕ, suc, ◌+◌, ◌≤◌, ◌<◌, ◌^◌, List, [], ◌∷◌, ◌++◌, length, length-append, map, sym, ap, ◌∙◌, subst}
+use Rattle.std.proofs.Common.{◌≡◌, ℕ, suc, ◌+◌, ◌≤◌, ◌<◌, ◌^◌, List, [], ◌∷◌, ◌++◌, length, length-append, map, sym, ap}
+use Rattle.std.proofs.Common.{◌∙◌, subst}
 use Rattle.std.proofs.Common.{cond, arith, Some, None, is_some, ◌||◌}
 use Rattle.std.specs.Prelude.{nat_lt}
 use Rattle.std.specs.List.{AllByRecursion}
@@ -17,7 +18,8 @@ use Rattle.dover_model.specs.Numerals.{AreShort}
 use Rattle.dover_model.specs.Session.{Session, JobItem, new_session}
 use Rattle.dover_model.specs.Sound.{jobs_of}
 use Rattle.dover_model.specs.FeedLine.{FeedLine, RatioLine, JobLine, TickLine, HasNumerals, feed_line, feed_text}
-use Rattle.dover_model.specs.Feed.{Account, Lines, Declared, Order, rules_with, declared_rules, cause_of, with_line, with_fault, next_line, no_lines}
+use Rattle.dover_model.specs.Feed.{Account, Lines, Declared, Order, rules_with, declared_rules, cause_of, with_line}
+use Rattle.dover_model.specs.Feed.{with_fault, next_line, no_lines}
 use Rattle.dover_model.proofs.Agreement.{is_ratio-agrees}
 use Rattle.dover_model.proofs.FeedLines.{feed_line-feed_text}
 use Rattle.event_feed.specs.Reading.{open_account}
@@ -36,10 +38,11 @@ module _ (p q : ℕ) (ratio : IsRatio (record { p = p; q = q })) where
 
   -- its numbers have numerals
   pub ratio_numerals : (v : Version) → HasNumerals (RatioLine p q (declared_number v))
-  ratio_numerals v = by_version v (let low : p ≤ 1_000_000 = ratio.small_p in omega arith) (let low : q ≤ 1_000 = ratio.small_q in omega arith) where
-    by_version : (v : Version) → p < 10 ^ 18 → q < 10 ^ 18 → HasNumerals (RatioLine p q (declared_number v))
-    by_version One p_short q_short = (p_short, (q_short, tt))
-    by_version Two p_short q_short = (p_short, (q_short, (omega arith, tt)))
+  ratio_numerals v = by_version v (let low : p ≤ 1_000_000 = ratio.small_p in omega arith)
+      (let low : q ≤ 1_000 = ratio.small_q in omega arith) where
+        by_version : (v : Version) → p < 10 ^ 18 → q < 10 ^ 18 → HasNumerals (RatioLine p q (declared_number v))
+        by_version One p_short q_short = (p_short, (q_short, tt))
+        by_version Two p_short q_short = (p_short, (q_short, (omega arith, tt)))
 
   -- it declares the rules
   declares : (v : Version) → declared_rules k (declared_number v) ≡ Some (rules_with k v)
@@ -48,7 +51,8 @@ module _ (p q : ℕ) (ratio : IsRatio (record { p = p; q = q })) where
 
   -- what it says as the first line
   pub ratio_account : (v : Version)
-      → next_line no_lines (feed_text (RatioLine p q (declared_number v))) ≡ open_account 1 (Some (new_session (rules_with k v))) 0
+      → next_line no_lines (feed_text (RatioLine p q (declared_number v))) ≡ open_account 1
+      (Some (new_session (rules_with k v))) 0
   ratio_account v =
       let line : FeedLine = RatioLine p q (declared_number v) in
       let a : Account = open_account 1 None 0 in
@@ -76,7 +80,8 @@ module _ (h : Head) (tasks : List Task) (t : Task) where
       → next_line (stored_account h tasks) (feed_text (JobLine t.job))
       ≡ with_line counted_account (JobLine t.job) (cause_of counted_account (JobLine t.job))
   job_read short few =
-      ap (λ b. cond b (with_fault counted_account Lines) (after_form counted_account (feed_line (feed_text (JobLine t.job)))))
+      ap (λ b. cond b (with_fault counted_account Lines)
+      (after_form counted_account (feed_line (feed_text (JobLine t.job)))))
       (le-ltb most_lines (suc (length tasks + 1)) (omega arith))
       ∙ ap (after_form counted_account) (feed_line-feed_text (JobLine t.job) short)
 
@@ -88,7 +93,8 @@ module _ (h : Head) (tasks : List Task) (t : Task) where
         items = map JobItem jobs;
       })) mark in
       let lines : suc (length tasks + 1) ≡ length (tasks ++ t ∷ []) + 1 = omega (arith, length-append tasks (t ∷ [])) in
-      ap (λ items. open_account (suc (length tasks + 1)) (Some (record { rules = h.rules; items = items })) t.job.release)
+      ap (λ items. open_account (suc (length tasks + 1))
+      (Some (record { rules = h.rules; items = items })) t.job.release)
       (sym (map-append JobItem (jobs_of tasks) (t.job ∷ [])))
       ∙ ap (λ jobs. with_jobs (suc (length tasks + 1)) jobs t.job.release) (sym (jobs_more tasks t))
       ∙ ap (λ n. with_jobs n (jobs_of (tasks ++ t ∷ [])) t.job.release) lines
@@ -98,8 +104,10 @@ module _ (h : Head) (tasks : List Task) (t : Task) where
   pub job_account : IsValid (stored h (tasks ++ t ∷ [])) → length tasks + 2 ≤ most_lines
       → next_line (stored_account h tasks) (feed_text (JobLine t.job)) ≡ stored_account h (tasks ++ t ∷ [])
   job_account valid few =
-      let job : IsJob t.job = all_last IsJob (jobs_of tasks) t.job (subst (AllByRecursion IsJob) (jobs_more tasks t) valid.each) in
-      job_read (job_numerals t.job job) few ∙ ap (with_line counted_account (JobLine t.job)) (valid_no_cause h tasks t valid) ∙ job_adds
+      let job : IsJob t.job = all_last IsJob (jobs_of tasks) t.job
+      (subst (AllByRecursion IsJob) (jobs_more tasks t) valid.each) in
+      job_read (job_numerals t.job job) few
+      ∙ ap (with_line counted_account (JobLine t.job)) (valid_no_cause h tasks t valid) ∙ job_adds
 
 -- ---- a tick
 
@@ -108,8 +116,10 @@ pub tick_account : (lines : ℕ) (S : Session) (mark tick : ℕ) → mark ≤ ti
     → next_line (open_account lines (Some S) mark) (feed_text (TickLine tick)) ≡ open_account (suc lines) (Some S) tick
 tick_account lines S mark tick ordered known few =
     let a : Account = open_account (suc lines) (Some S) mark in
-    let read : feed_line (feed_text (TickLine tick)) ≡ Some (TickLine tick) = feed_line-feed_text (TickLine tick) (omega arith, tt) in
+    let read : feed_line (feed_text (TickLine tick)) ≡ Some (TickLine tick) =
+    feed_line-feed_text (TickLine tick) (omega arith, tt) in
     ap (λ b. cond b (with_fault a Lines) (after_form a (feed_line (feed_text (TickLine tick))))) (le-ltb _ _ few)
     ∙ ap (after_form a) read
-    ∙ ap (λ b. with_line a (TickLine tick) (cond (b || nat_lt last_tick tick) (Some Order) None)) (le-ltb tick mark ordered)
+    ∙ ap (λ b. with_line a (TickLine tick) (cond (b || nat_lt last_tick tick) (Some Order) None))
+    (le-ltb tick mark ordered)
     ∙ ap (λ b. with_line a (TickLine tick) (cond b (Some Order) None)) (le-ltb last_tick tick known)

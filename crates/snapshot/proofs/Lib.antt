@@ -11,6 +11,7 @@ pub mod Handed
 pub mod Beginning
 pub mod Comparing
 pub mod Stepping
+pub mod Spending
 pub mod Finishing
 pub mod Present
 pub mod Reached

@@ -10,7 +10,8 @@ use Rattle.dover_model.specs.Step.{Move, Ticks, View, view, open_step}
 use Rattle.dover_model.specs.Settled.{is_late, settled_state}
 use Rattle.dover_model.specs.Sound.{IsMember, Each}
 use Rattle.dover_model.proofs.Barriers.{AtBarrier, settled_at_barrier}
-use Rattle.dover_model.proofs.Cases.{Case, Completes, Resumes, Starts, Begins, Preempts, Stays, Arrives, Takes, Abandons, Rests, NoneArrives, step_case}
+use Rattle.dover_model.proofs.Cases.{Case, Completes, Resumes, Starts, Begins, Preempts, Stays, Arrives, Takes}
+use Rattle.dover_model.proofs.Cases.{Abandons, Rests, NoneArrives, step_case}
 use Rattle.dover_model.proofs.Kept.{each_job}
 use Rattle.dover_model.proofs.Members.{found, not_found}
 use Rattle.dover_model.proofs.Moves.{says}
@@ -35,7 +36,8 @@ module _ (J : Instance) (valid : IsValid J) (mark : ℕ) (known : AllByRecursion
   due_now : (t : Task) → IsMember t s.tasks → t.role ≡ Coming → t.job.release ≡ s.clock
   due_now t m comes =
       let low : t.job.release ≤ mark =
-      each_job (λ j. j.release ≤ mark) s.tasks (subst (AllByRecursion (λ j. j.release ≤ mark)) (sym bar.keeps.jobs) known) t m in
+      each_job (λ j. j.release ≤ mark) s.tasks
+      (subst (AllByRecursion (λ j. j.release ≤ mark)) (sym bar.keeps.jobs) known) t m in
       let high : s.clock ≤ t.job.release = (says s bar.keeps.sound t m Coming comes).1 in
       omega (arith, bar.clock)
 

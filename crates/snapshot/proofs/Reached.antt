@@ -1,5 +1,6 @@
 -- The mark of a feed that goes on is the last release, or there is a line that is no job's; and its lines are few.
-use Rattle.std.proofs.Common.{◌≡◌, ◌⊎◌, inl, inr, ℕ, suc, ◌+◌, ◌≤◌, ◌<◌, List, [], ◌∷◌, ◌++◌, length, length-append, refl, sym, ap, subst}
+use Rattle.std.proofs.Common.{◌≡◌, ◌⊎◌, inl, inr, ℕ, suc, ◌+◌, ◌≤◌, ◌<◌, List, [], ◌∷◌, ◌++◌, length, length-append}
+use Rattle.std.proofs.Common.{refl, sym, ap, subst}
 use Rattle.std.proofs.Common.{Bool, true, false, cond, ◌||◌, arith, Option, Some, None, is_some}
 use Rattle.std.specs.Prelude.{nat_lt}
 use Rattle.std.specs.List.{fold}
@@ -11,10 +12,12 @@ use Rattle.dover_model.specs.JobFacts.{JobFacts}
 use Rattle.dover_model.specs.declared.events.Refusal.{Refusal}
 use Rattle.dover_model.specs.Instance.{Instance, Rules}
 use Rattle.dover_model.specs.Admission.{refusal_of}
-use Rattle.dover_model.specs.Session.{Session, JobItem, RefusedItem, RefusedJob, refused_at, with_item, new_session, admitted_jobs, is_two}
+use Rattle.dover_model.specs.Session.{Session, JobItem, RefusedItem, RefusedJob, refused_at, with_item, new_session}
+use Rattle.dover_model.specs.Session.{admitted_jobs, is_two}
 use Rattle.dover_model.specs.FeedLine.{FeedLine, RatioLine, JobLine, TickLine, EndLine, feed_line}
 use Rattle.dover_model.specs.Feed.{Lines, Declared, Order, NotAdmitted, Standing, Open, Ended, Faulty, Account}
-use Rattle.dover_model.specs.Feed.{declared_rules, first_line_cause, later_line_cause, with_fault, with_item_in, with_line, next_line}
+use Rattle.dover_model.specs.Feed.{declared_rules, first_line_cause, later_line_cause, with_fault, with_item_in}
+use Rattle.dover_model.specs.Feed.{with_line, next_line}
 use Rattle.dover_model.proofs.Growing.{job_instance, refused_instance}
 use Rattle.event_feed.proofs.Counting.{after_form, next_counted}
 
@@ -45,12 +48,15 @@ account_with lines session mark standing = record { lines = lines; session = ses
 
 first_reaches : (lines mark : ℕ) → mark ≡ 0 → (line : FeedLine)
     → Reaches (with_line (account_with (suc lines) None mark Open) line (first_line_cause line))
-first_reaches lines mark zero_mark (RatioLine p q version) = by_rules (declared_rules (record { p = p; q = q }) version) refl where
-  by_rules : (o : Option Rules) → declared_rules (record { p = p; q = q }) version ≡ o
-      → Reaches (with_line (account_with (suc lines) None mark Open) (RatioLine p q version) (cond (is_some o) None (Some Declared)))
-  by_rules None e = tt
-  by_rules (Some rules) e = subst (λ o. Reaches (account_with (suc lines) (option_map new_session o) mark Open)) (sym e)
-      (record { enough = omega arith; by = inl (omega (arith, zero_mark)) })
+first_reaches lines mark zero_mark (RatioLine p q version) =
+    by_rules (declared_rules (record { p = p; q = q }) version) refl where
+      by_rules : (o : Option Rules) → declared_rules (record { p = p; q = q }) version ≡ o
+          → Reaches (with_line (account_with (suc lines) None mark Open) (RatioLine p q version)
+          (cond (is_some o) None (Some Declared)))
+      by_rules None e = tt
+      by_rules (Some rules) e =
+          subst (λ o. Reaches (account_with (suc lines) (option_map new_session o) mark Open)) (sym e)
+          (record { enough = omega arith; by = inl (omega (arith, zero_mark)) })
 first_reaches lines mark zero_mark (JobLine j) = tt
 first_reaches lines mark zero_mark (TickLine t) = tt
 first_reaches lines mark zero_mark EndLine = tt
@@ -65,8 +71,10 @@ module _ (S : Session) (mark lines : ℕ) (it : Reached (admitted_jobs S.items) 
   -- a job moves the mark to its release
   job_reaches : (j : JobFacts) → Reaches (account_with (suc lines) (Some (with_item S (JobItem j))) j.release Open)
   job_reaches j =
-      let jobs : admitted_jobs (S.items ++ JobItem j ∷ []) ≡ admitted_jobs S.items ++ j ∷ [] = ap (λ (J : Instance). J.jobs) (job_instance S j) in
-      let last : last_of (admitted_jobs S.items ++ j ∷ []) ≡ j.release = fold-append (λ (n : ℕ) (i : JobFacts). i.release) 0 (admitted_jobs S.items) (j ∷ []) in
+      let jobs : admitted_jobs (S.items ++ JobItem j ∷ []) ≡ admitted_jobs S.items ++ j ∷ [] =
+      ap (λ (J : Instance). J.jobs) (job_instance S j) in
+      let last : last_of (admitted_jobs S.items ++ j ∷ []) ≡ j.release =
+      fold-append (λ (n : ℕ) (i : JobFacts). i.release) 0 (admitted_jobs S.items) (j ∷ []) in
       subst (λ js. Reached js j.release (suc lines)) (sym jobs) (record {
         enough = omega (arith, length-append (admitted_jobs S.items) (j ∷ []), it.enough);
         by = inl (omega (arith, last));
@@ -85,7 +93,8 @@ module _ (S : Session) (mark lines : ℕ) (it : Reached (admitted_jobs S.items) 
   job_line_reaches : (j : JobFacts) → Reaches (with_line counted (JobLine j) (later_line_cause S mark (JobLine j)))
   job_line_reaches j = by_order (nat_lt j.release mark) where
     by_version : (refusal : Refusal) (two : Bool)
-        → Reaches (cond two (with_item_in counted (refused_at mark j refusal)) (with_fault counted (NotAdmitted refusal)))
+        → Reaches (cond two (with_item_in counted (refused_at mark j refusal))
+        (with_fault counted (NotAdmitted refusal)))
     by_version refusal true = refused_reaches (record { at = mark; job = j; refusal = refusal })
     by_version refusal false = tt
 
@@ -94,7 +103,8 @@ module _ (S : Session) (mark lines : ℕ) (it : Reached (admitted_jobs S.items) 
     by_refusal (Some refusal) = by_version refusal (is_two S.rules.version)
 
     by_order : (b : Bool)
-        → Reaches (with_line counted (JobLine j) (cond b (Some Order) (option_map NotAdmitted (refusal_of S.rules.ratio (admitted_jobs S.items) j))))
+        → Reaches (with_line counted (JobLine j)
+        (cond b (Some Order) (option_map NotAdmitted (refusal_of S.rules.ratio (admitted_jobs S.items) j))))
     by_order true = tt
     by_order false = by_refusal (refusal_of S.rules.ratio (admitted_jobs S.items) j)
 
@@ -113,19 +123,22 @@ module _ (S : Session) (mark lines : ℕ) (it : Reached (admitted_jobs S.items) 
 open_reaches : (lines : ℕ) (session : Option Session) (mark : ℕ) → ReachesBy Open session mark lines → (bytes : List ℕ)
     → Reaches (next_line (account_with lines session mark Open) bytes)
 open_reaches lines None mark zero_mark bytes = by_count (nat_lt most_lines (suc lines)) (feed_line bytes) where
-  by_count : (b : Bool) (o : Option FeedLine) → Reaches (cond b (with_fault (account_with (suc lines) None mark Open) Lines)
+  by_count : (b : Bool) (o : Option FeedLine)
+      → Reaches (cond b (with_fault (account_with (suc lines) None mark Open) Lines)
       (after_form (account_with (suc lines) None mark Open) o))
   by_count true o = tt
   by_count false None = tt
   by_count false (Some line) = first_reaches lines mark zero_mark line
 open_reaches lines (Some S) mark it bytes = by_count (nat_lt most_lines (suc lines)) (feed_line bytes) where
-  by_count : (b : Bool) (o : Option FeedLine) → Reaches (cond b (with_fault (account_with (suc lines) (Some S) mark Open) Lines)
+  by_count : (b : Bool) (o : Option FeedLine)
+      → Reaches (cond b (with_fault (account_with (suc lines) (Some S) mark Open) Lines)
       (after_form (account_with (suc lines) (Some S) mark Open) o))
   by_count true o = tt
   by_count false None = tt
   by_count false (Some line) = later_reaches S mark lines it line
 
-line_reaches : (lines : ℕ) (session : Option Session) (mark : ℕ) (standing : Standing) → ReachesBy standing session mark lines → (bytes : List ℕ)
+line_reaches : (lines : ℕ) (session : Option Session) (mark : ℕ) (standing : Standing)
+    → ReachesBy standing session mark lines → (bytes : List ℕ)
     → Reaches (next_line (account_with lines session mark standing) bytes)
 line_reaches lines session mark Open it bytes = open_reaches lines session mark it bytes
 line_reaches lines session mark Ended it bytes = tt
@@ -138,24 +151,29 @@ lines_reach (l ∷ ls) a it = lines_reach ls (next_line a l) (line_reaches a.lin
 -- ---- few lines
 
 -- where an account goes on after a line, the line was one that a feed may have
-few_open : (lines : ℕ) (session : Option Session) (mark : ℕ) (l : List ℕ) → (next_line (account_with lines session mark Open) l).standing ≡ Open
+few_open : (lines : ℕ) (session : Option Session) (mark : ℕ) (l : List ℕ)
+    → (next_line (account_with lines session mark Open) l).standing ≡ Open
     → suc lines ≤ most_lines
 few_open lines session mark l = by_count (nat_lt most_lines (suc lines)) (feed_line l) refl where
   by_count : (b : Bool) (o : Option FeedLine) → nat_lt most_lines (suc lines) ≡ b
-      → (cond b (with_fault (account_with (suc lines) session mark Open) Lines) (after_form (account_with (suc lines) session mark Open) o)).standing ≡ Open
+      → (cond b (with_fault (account_with (suc lines) session mark Open) Lines)
+      (after_form (account_with (suc lines) session mark Open) o)).standing ≡ Open
       → suc lines ≤ most_lines
   by_count true o many on = absurd (let e : Faulty (suc lines) Lines ≡ Open = on in cc)
   by_count false o few on = ltb-false _ _ few
 
 few_line : (lines : ℕ) (session : Option Session) (mark : ℕ) (standing : Standing) (l : List ℕ)
-    → (next_line (account_with lines session mark standing) l).standing ≡ Open → (next_line (account_with lines session mark standing) l).lines ≤ most_lines
+    → (next_line (account_with lines session mark standing) l).standing ≡ Open
+    → (next_line (account_with lines session mark standing) l).lines ≤ most_lines
 few_line lines session mark Open l on =
-    let few : suc lines ≤ most_lines = few_open lines session mark l on in omega (arith, few, (next_counted lines session mark Open l on).1)
+    let few : suc lines ≤ most_lines = few_open lines session mark l on in
+    omega (arith, few, (next_counted lines session mark Open l on).1)
 few_line lines session mark Ended l on = absurd (let e : Ended ≡ Open = on in cc)
 few_line lines session mark (Faulty line cause) l on = absurd (let e : Faulty line cause ≡ Open = on in cc)
 
 -- an account that goes on has few lines
-pub lines_few : (ls : List (List ℕ)) (a : Account) → (a.standing ≡ Open → a.lines ≤ most_lines) → (fold next_line a ls).standing ≡ Open
+pub lines_few : (ls : List (List ℕ)) (a : Account) → (a.standing ≡ Open → a.lines ≤ most_lines)
+    → (fold next_line a ls).standing ≡ Open
     → (fold next_line a ls).lines ≤ most_lines
 lines_few [] a few on = few on
 lines_few (l ∷ ls) a few on = lines_few ls (next_line a l) (few_line a.lines a.session a.mark a.standing l) on

@@ -81,6 +81,7 @@ every_role : outcome (reading_of (whole_lines (snapshot (bytes
 unfolding digits
 every_role = refl
 
-refused_lines : outcome (reading_of (whole_lines (snapshot (bytes (codes "k 1 1 2/job 0 4 10 4/job 1 1 1 1/"))))) ≡ Some 0
+refused_lines : outcome (reading_of (whole_lines (snapshot (bytes (codes "k 1 1 2/job 0 4 10 4/job 1 1 1 1/")))))
+    ≡ Some 0
 unfolding digits
 refused_lines = refl

@@ -15,7 +15,8 @@ use Rattle.dover_model.specs.Sound.{IsMember, Keeps, jobs_of}
 use Rattle.dover_model.specs.WholeRun.{open_at, IsBarrier}
 use Rattle.dover_model.specs.Paths.{HasPrinted, IsOpenPath}
 use Rattle.dover_model.proofs.Kept.{opening_keeps}
-use Rattle.dover_model.proofs.Paths.{path_append, path_keeps, path_settles, one_settled_run, printed_behind, printed_more, printed_nothing}
+use Rattle.dover_model.proofs.Paths.{path_append, path_keeps, path_settles, one_settled_run, printed_behind}
+use Rattle.dover_model.proofs.Paths.{printed_more, printed_nothing}
 use Rattle.dover_model.proofs.Prefixes.{open_not_end}
 use Rattle.dover_model.proofs.Settling.{settled_is_run}
 use Rattle.dover_model.proofs.Runs.{printed_append}
@@ -32,8 +33,9 @@ use Rattle.snapshot.specs.Kept.{IsServed}
 -- ---- to a mark
 
 -- the state that was reached is one of the jobs
-taken_keeps : (mark : ℕ) (v : Service) → HasTaken v mark → Keeps (list_of v) v.state
-taken_keeps mark v it = path_keeps (list_of v) it.valid mark it.printed.steps (opening (list_of v).jobs) v.state (opening_keeps (list_of v))
+pub taken_keeps : (mark : ℕ) (v : Service) → HasTaken v mark → Keeps (list_of v) v.state
+taken_keeps mark v it = path_keeps (list_of v) it.valid mark it.printed.steps (opening (list_of v).jobs) v.state
+    (opening_keeps (list_of v))
     it.printed.path
 
 module _ (mark : ℕ) (v u : Service) (it : HasTaken v mark) (same : list_of u ≡ list_of v) where
@@ -46,18 +48,23 @@ module _ (mark : ℕ) (v u : Service) (it : HasTaken v mark) (same : list_of u �
     printed_one : HasPrinted (list_of u) mark u.state (it.events ++ e ∷ [])
     printed_one = subst (λ J. HasPrinted J mark u.state (it.events ++ e ∷ [])) (sym same) (record {
       steps = it.printed.steps ++ (gives.waits.steps ++ open_at v.rules gives.before ∷ []);
-      path = path_append v.rules mark it.printed.steps (gives.waits.steps ++ open_at v.rules gives.before ∷ []) (opening (list_of v).jobs) v.state
+      path = path_append v.rules mark it.printed.steps (gives.waits.steps ++ open_at v.rules gives.before ∷ [])
+          (opening (list_of v).jobs) v.state
           u.state it.printed.path
-          (path_append v.rules mark gives.waits.steps (open_at v.rules gives.before ∷ []) v.state gives.before u.state silent
+          (path_append v.rules mark gives.waits.steps
+          (open_at v.rules gives.before ∷ []) v.state gives.before u.state silent
           (refl, gives.goes, gives.state ∙ ap (after gives.before) (sym gives.prints)));
-      prints = printed_next it.printed.steps gives.waits.steps gives.before (open_step v.rules gives.before) e gives.waits.silent gives.prints
+      prints = printed_next it.printed.steps gives.waits.steps gives.before
+          (open_step v.rules gives.before) e gives.waits.silent gives.prints
           ∙ ap (λ es. es ++ e ∷ []) it.printed.prints;
     })
 
     -- it isn't End
     goes_on_still : is_end (Prints e) ≡ false
-    goes_on_still = ap is_end (sym gives.prints) ∙ open_not_end (list_of v) it.valid (list_of v) it.valid v.rules mark no_tasks none_comes
-        gives.before (path_keeps (list_of v) it.valid mark gives.waits.steps v.state gives.before (taken_keeps mark v it) silent) where
+    goes_on_still = ap is_end (sym gives.prints)
+        ∙ open_not_end (list_of v) it.valid (list_of v) it.valid v.rules mark no_tasks none_comes
+        gives.before (path_keeps (list_of v) it.valid mark gives.waits.steps v.state gives.before
+        (taken_keeps mark v it) silent) where
           no_tasks : List Task
           no_tasks = []
 
@@ -81,9 +88,11 @@ module _ (mark : ℕ) (v u : Service) (it : HasTaken v mark) (same : list_of u �
     events = it.events;
     printed = subst (λ J. HasPrinted J mark u.state it.events) (sym same) (record {
       steps = it.printed.steps ++ reaches.waits.steps;
-      path = path_append v.rules mark it.printed.steps reaches.waits.steps (opening (list_of v).jobs) v.state u.state it.printed.path
+      path = path_append v.rules mark it.printed.steps reaches.waits.steps
+          (opening (list_of v).jobs) v.state u.state it.printed.path
           (leads_open mark v.rules reaches.waits.steps v.state u.state reaches.waits.lead);
-      prints = printed_append it.printed.steps reaches.waits.steps ∙ ap (λ es. printed_of it.printed.steps ++ es) reaches.waits.silent
+      prints = printed_append it.printed.steps reaches.waits.steps
+          ∙ ap (λ es. printed_of it.printed.steps ++ es) reaches.waits.silent
           ∙ append-nil (printed_of it.printed.steps) ∙ it.printed.prints;
     });
   }
@@ -107,8 +116,10 @@ taken_job v mark j spare it ordered valid = record {
   valid = subst (λ jobs. IsValid (record { rules = v.rules; jobs = jobs })) (sym jobs) valid;
   goes_on = it.goes_on;
   events = it.events;
-  printed = subst (λ js. HasPrinted (record { rules = v.rules; jobs = js }) mark (with_job v j spare).state it.events) (sym jobs)
-      (subst (λ n. HasPrinted (with_jobs (list_of v) (j ∷ [])) mark (with_later v.state (admitted_task n j ∷ [])) it.events)
+  printed = subst (λ js. HasPrinted (record { rules = v.rules; jobs = js }) mark (with_job v j spare).state it.events)
+      (sym jobs)
+      (subst (λ n. HasPrinted (with_jobs (list_of v) (j ∷ [])) mark
+      (with_later v.state (admitted_task n j ∷ [])) it.events)
       (length-map v.state.tasks (λ (t : Task). t.job))
       (printed_behind (list_of v) (j ∷ []) mark v.state it.events valid (λ i m. is_last i m) it.printed));
 } where
@@ -122,7 +133,8 @@ taken_job v mark j spare it ordered valid = record {
 -- ---- the jobs of a snapshot
 
 -- a fresh server serves no jobs
-pub served_none : (h : Head) (v : Service) (spare : ℕ) → IsValid (stored h []) → v ≡ fresh_service h.rules.version h.rules.ratio spare
+pub served_none : (h : Head) (v : Service) (spare : ℕ) → IsValid (stored h [])
+    → v ≡ fresh_service h.rules.version h.rules.ratio spare
     → IsServed v h [] 0
 served_none h v spare valid fresh = subst (λ w. IsServed w h [] 0) (sym fresh) (record {
   taken = record { valid = valid; goes_on = refl; events = []; printed = printed_nothing (stored h []) 0 };
@@ -131,16 +143,21 @@ served_none h v spare valid fresh = subst (λ w. IsServed w h [] 0) (sym fresh) 
 })
 
 -- with one job more
-pub served_job : (v w u : Service) (h : Head) (tasks : List Task) (t : Task) (spare : ℕ) → list_of v ≡ stored h tasks → HasTaken w t.job.release
-    → list_of w ≡ list_of v → w.last ≡ Mark t.job.release → IsValid (with_jobs (stored h tasks) (t.job ∷ [])) → u ≡ with_job w t.job spare
+pub served_job : (v w u : Service) (h : Head) (tasks : List Task) (t : Task) (spare : ℕ) → list_of v ≡ stored h tasks
+    → HasTaken w t.job.release
+    → list_of w ≡ list_of v → w.last ≡ Mark t.job.release → IsValid (with_jobs (stored h tasks) (t.job ∷ []))
+    → u ≡ with_job w t.job spare
     → IsServed u h (tasks ++ t ∷ []) t.job.release
-served_job v w u h tasks t spare here taken same last valid is = subst (λ x. IsServed x h (tasks ++ t ∷ []) t.job.release) (sym is) (record {
-  taken = taken_job w t.job.release t.job spare taken (omega arith) (subst (λ J. IsValid (with_jobs J (t.job ∷ []))) (sym (same ∙ here)) valid);
-  list = ap (λ jobs. record { rules = w.rules; jobs = jobs }) (jobs_more w.state.tasks (admitted_task (length w.state.tasks) t.job))
-      ∙ ap (λ J. with_jobs J (t.job ∷ [])) (same ∙ here)
-      ∙ ap (λ jobs. record { rules = h.rules; jobs = jobs }) (sym (jobs_more tasks t));
-  last = last;
-})
+served_job v w u h tasks t spare here taken same last valid is =
+    subst (λ x. IsServed x h (tasks ++ t ∷ []) t.job.release) (sym is) (record {
+      taken = taken_job w t.job.release t.job spare taken (omega arith)
+          (subst (λ J. IsValid (with_jobs J (t.job ∷ []))) (sym (same ∙ here)) valid);
+      list = ap (λ jobs. record { rules = w.rules; jobs = jobs })
+          (jobs_more w.state.tasks (admitted_task (length w.state.tasks) t.job))
+          ∙ ap (λ J. with_jobs J (t.job ∷ [])) (same ∙ here)
+          ∙ ap (λ jobs. record { rules = h.rules; jobs = jobs }) (sym (jobs_more tasks t));
+      last = last;
+    })
 
 -- a path ends in the state that its steps lead to
 path_state : (rules : Rules) (mark : ℕ) (xs : List Step) (s t : State) → IsOpenPath rules mark s xs t
@@ -151,7 +168,8 @@ path_state rules mark (x ∷ xs) s t path =
     ∙ path_state rules mark xs (after s (open_step rules s)) t path.2
 
 -- at the barrier the server is in the state that the settled steps lead to
-pub settled_there : (v : Service) (J : Instance) (mark : ℕ) → HasTaken v mark → list_of v ≡ J → IsBarrier v.rules mark v.state
+pub settled_there : (v : Service) (J : Instance) (mark : ℕ) → HasTaken v mark → list_of v ≡ J
+    → IsBarrier v.rules mark v.state
     → v.state ≡ settled_state J mark
 settled_there v J mark it same barrier = subst (λ K. v.state ≡ settled_state K mark) same
     (sym (path_state v.rules mark it.printed.steps (opening (list_of v).jobs) v.state it.printed.path)

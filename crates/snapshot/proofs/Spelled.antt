@@ -1,5 +1,6 @@
 -- The lines of a snapshot have one spelling: what is written is read as the same, and what is read was written so.
-use Rattle.std.proofs.Common.{◌≡◌, ℕ, ◌+◌, ◌*◌, ◌≤◌, List, [], ◌∷◌, ◌++◌, length, length-append, map, refl, sym, ap, ◌∙◌, subst}
+use Rattle.std.proofs.Common.{◌≡◌, ℕ, ◌+◌, ◌*◌, ◌≤◌, List, [], ◌∷◌, ◌++◌, length, length-append, map, refl, sym, ap}
+use Rattle.std.proofs.Common.{◌∙◌, subst}
 use Rattle.std.proofs.Common.{Bool, true, false, cond, arith, decimal, Option, Some, None, codes}
 use Rattle.std.specs.Prelude.{bytes_eq, ◌==◌}
 use Rattle.std.specs.Bool.{then_some}
@@ -24,30 +25,37 @@ use Rattle.dover_model.proofs.Tests.{none_is_some}
 use Rattle.dover_model.proofs.Members.{some_same}
 use Rattle.dover_model.proofs.Agreement.{is_ratio-agrees}
 use Rattle.dover_model.proofs.ReadShort.{numerals_short}
-use Rattle.dover_model.proofs.Fields.{HasNoSpace, fields_of-line_of, line_of-fields_of, decimals-HasNoSpace, numerals-decimals, decimals-numerals}
+use Rattle.dover_model.proofs.Fields.{HasNoSpace, fields_of-line_of, line_of-fields_of, decimals-HasNoSpace}
+use Rattle.dover_model.proofs.Fields.{numerals-decimals, decimals-numerals}
 use Rattle.dover_model.proofs.Fields.{length-with_numbers}
-use Rattle.snapshot.specs.Snapshot.{Head, head_numbers, head_line, IsHead, role_word, state_line, IsStored, state_numbers, IsState}
+use Rattle.snapshot.specs.Snapshot.{Head, head_numbers, head_line, IsHead, role_word, state_line, IsStored}
+use Rattle.snapshot.specs.Snapshot.{state_numbers, IsState}
 use Rattle.snapshot.specs.Reading.{rules_from, head_from, read_head, role_of_word, task_from, task_of_fields, read_task}
 
 -- ---- a word and numbers
 
 -- they are read as they were written
 numbers_back : (word ns : List ℕ) → HasNoSpace word → AreShort ns → numbers_of word (with_numbers word ns) ≡ Some ns
-numbers_back word ns none short = ap (numbers_after word) (fields_of-line_of word (map decimal ns) none (decimals-HasNoSpace ns short))
-    ∙ ap (λ b. cond b (numerals (map decimal ns)) None) ((bytes_eq-Decides word word).1 refl) ∙ numerals-decimals ns short
+numbers_back word ns none short =
+    ap (numbers_after word) (fields_of-line_of word (map decimal ns) none (decimals-HasNoSpace ns short))
+    ∙ ap (λ b. cond b (numerals (map decimal ns)) None) ((bytes_eq-Decides word word).1 refl)
+    ∙ numerals-decimals ns short
 
 -- the fields of numbers that are read
-after_from : (word field : List ℕ) (fields : List (List ℕ)) (ns : List ℕ) → numbers_after word (field ∷ fields) ≡ Some ns
+after_from : (word field : List ℕ) (fields : List (List ℕ)) (ns : List ℕ)
+    → numbers_after word (field ∷ fields) ≡ Some ns
     → (field ≡ word) × (numerals fields ≡ Some ns)
 after_from word field fields ns = by (bytes_eq field word) refl where
-  by : (b : Bool) → bytes_eq field word ≡ b → cond b (numerals fields) None ≡ Some ns → (field ≡ word) × (numerals fields ≡ Some ns)
+  by : (b : Bool) → bytes_eq field word ≡ b → cond b (numerals fields) None ≡ Some ns → (field ≡ word)
+      × (numerals fields ≡ Some ns)
   by true same read = ((bytes_eq-Decides field word).0 same, read)
   by false differs read = none_is_some read
 
 -- they were written as they are read
 numbers_from : (word line ns : List ℕ) → numbers_of word line ≡ Some ns → (with_numbers word ns ≡ line) × AreShort ns
 numbers_from word line ns = by (fields_of line) refl where
-  by : (fields : List (List ℕ)) → fields_of line ≡ fields → numbers_after word fields ≡ Some ns → (with_numbers word ns ≡ line) × AreShort ns
+  by : (fields : List (List ℕ)) → fields_of line ≡ fields → numbers_after word fields ≡ Some ns
+      → (with_numbers word ns ≡ line) × AreShort ns
   by [] cut read = none_is_some read
   by (field ∷ fields) cut read =
       let it = after_from word field fields ns read in (
@@ -66,7 +74,8 @@ version_back Two = refl
 -- and its number from it
 version_from : (n : ℕ) (v : Version) → version_of_number n ≡ Some v → version_number v ≡ n
 version_from n v = by (n == 1) (n == 2) refl refl where
-  by : (a b : Bool) → (n == 1) ≡ a → (n == 2) ≡ b → cond a (Some One) (cond b (Some Two) None) ≡ Some v → version_number v ≡ n
+  by : (a b : Bool) → (n == 1) ≡ a → (n == 2) ≡ b → cond a (Some One) (cond b (Some Two) None) ≡ Some v
+      → version_number v ≡ n
   by true b one x read = ap version_number (sym (some_same One v read)) ∙ sym (eqb-true n 1 one)
   by false true x two read = ap version_number (sym (some_same Two v read)) ∙ sym (eqb-true n 2 two)
   by false false x y read = none_is_some read
@@ -90,7 +99,8 @@ pub read_head-head_line : (h : Head) → IsHead h → read_head (head_line h) �
 read_head-head_line h it =
     ap (λ b. cond b None (option_and_then head_from (numbers_of (codes "snapshot") (head_line h))))
     (le-ltb 128 (length (head_line h)) (omega (arith, head_fits h it.short)))
-    ∙ ap (option_and_then head_from) (numbers_back (codes "snapshot") (head_numbers h) refl it.short) ∙ numbers_head h it.ratio
+    ∙ ap (option_and_then head_from) (numbers_back (codes "snapshot") (head_numbers h) refl it.short)
+    ∙ numbers_head h it.ratio
 
 -- what rules are read from
 rules_read : (n p q : ℕ) (rules : Rules) → rules_from n p q ≡ Some rules
@@ -126,7 +136,8 @@ head_read (n ∷ p ∷ q ∷ lines ∷ mark ∷ jobs ∷ []) h = by (rules_from 
       → option_map head_in o ≡ Some h → (head_numbers h ≡ n ∷ p ∷ q ∷ lines ∷ mark ∷ jobs ∷ []) × IsRatio h.rules.ratio
   by None it read = none_is_some read
   by (Some rules) it read =
-      subst (λ (g : Head). (head_numbers g ≡ n ∷ p ∷ q ∷ lines ∷ mark ∷ jobs ∷ []) × IsRatio g.rules.ratio) (some_same (head_in rules) h read)
+      subst (λ (g : Head). (head_numbers g ≡ n ∷ p ∷ q ∷ lines ∷ mark ∷ jobs ∷ []) × IsRatio g.rules.ratio)
+      (some_same (head_in rules) h read)
       (ap (λ ns. ns ++ lines ∷ mark ∷ jobs ∷ []) (it rules refl).0, (it rules refl).1)
 head_read [] h = λ read. none_is_some read
 head_read (a ∷ []) h = λ read. none_is_some read
@@ -139,14 +150,17 @@ head_read (a ∷ b ∷ c ∷ d ∷ e ∷ f ∷ g ∷ ns) h = λ read. none_is_so
 -- it was written as it is read
 pub head_line-read_head : (line : List ℕ) (h : Head) → read_head line ≡ Some h → (head_line h ≡ line) × IsHead h
 head_line-read_head line h = by (is_too_long line) (numbers_of (codes "snapshot") line) refl where
-  by : (long : Bool) (o : Option (List ℕ)) → numbers_of (codes "snapshot") line ≡ o → cond long None (option_and_then head_from o) ≡ Some h
+  by : (long : Bool) (o : Option (List ℕ)) → numbers_of (codes "snapshot") line ≡ o
+      → cond long None (option_and_then head_from o) ≡ Some h
       → (head_line h ≡ line) × IsHead h
   by true o cut read = none_is_some read
   by false None cut read = none_is_some read
   by false (Some ns) cut read =
       let numbers = numbers_from (codes "snapshot") line ns cut in
-      let it = head_read ns h read in
-      (ap (with_numbers (codes "snapshot")) it.0 ∙ numbers.0, record { ratio = it.1; short = subst AreShort (sym it.0) numbers.1 })
+      let it = head_read ns h read in (
+        ap (with_numbers (codes "snapshot")) it.0 ∙ numbers.0,
+        record { ratio = it.1; short = subst AreShort (sym it.0) numbers.1 },
+      )
 
 -- ---- the line of a job
 
@@ -186,12 +200,14 @@ role_from word role = by (is Waiting) (is Held) (is Running) (is Done) (is Gone)
   is : Role → Bool
   is other = bytes_eq word (role_word other)
 
-  here : (other : Role) → IsStored other → is other ≡ true → Some other ≡ Some role → (role_word role ≡ word) × IsStored role
+  here : (other : Role) → IsStored other → is other ≡ true → Some other ≡ Some role → (role_word role ≡ word)
+      × IsStored role
   here other stored same read = subst (λ r. (role_word r ≡ word) × IsStored r) (some_same other role read)
       (sym ((bytes_eq-Decides word (role_word other)).0 same), stored)
 
   by : (a b c d e : Bool) → is Waiting ≡ a → is Held ≡ b → is Running ≡ c → is Done ≡ d → is Gone ≡ e
-      → cond a (Some Waiting) (cond b (Some Held) (cond c (Some Running) (cond d (Some Done) (cond e (Some Gone) None)))) ≡ Some role
+      → cond a (Some Waiting) (cond b (Some Held)
+      (cond c (Some Running) (cond d (Some Done) (cond e (Some Gone) None)))) ≡ Some role
       → (role_word role ≡ word) × IsStored role
   by true b c d e p q r s t read = here Waiting tt p read
   by false true c d e p q r s t read = here Held tt q read
@@ -205,21 +221,26 @@ pub state_fits : (t : Task) → AreShort (state_numbers t) → length (state_lin
 state_fits t short =
     let number : length (decimal t.number) ≤ 18 = length-decimal-le 18 t.number (omega arith) short.0 (omega arith) in
     let behind : List ℕ = with_numbers (role_word t.role) (t.had ∷ job_numbers t.job) in
-    let numbers : length behind ≤ length (role_word t.role) + 19 * 5 = length-with_numbers (role_word t.role) (t.had ∷ job_numbers t.job) short.1 in
+    let numbers : length behind ≤ length (role_word t.role) + 19 * 5 =
+    length-with_numbers (role_word t.role) (t.had ∷ job_numbers t.job) short.1 in
     omega (arith, role_fits t.role, length-append (decimal t.number) (32 ∷ behind))
 
 -- it is read as it was written
 pub read_task-state_line : (t : Task) → IsState t → read_task (state_line t) ≡ Some t
 read_task-state_line t it =
     let fields : List (List ℕ) = decimal t.number ∷ role_word t.role ∷ map decimal (t.had ∷ job_numbers t.job) in
-    let numbers : AllByRecursion HasNoSpace (map decimal (state_numbers t)) = decimals-HasNoSpace (state_numbers t) it.short in
-    ap (λ b. cond b None (task_of_fields (fields_of (state_line t)))) (le-ltb 128 (length (state_line t)) (omega (arith, state_fits t it.short)))
+    let numbers : AllByRecursion HasNoSpace (map decimal (state_numbers t)) =
+    decimals-HasNoSpace (state_numbers t) it.short in
+    ap (λ b. cond b None (task_of_fields (fields_of (state_line t))))
+    (le-ltb 128 (length (state_line t)) (omega (arith, state_fits t it.short)))
     ∙ ap task_of_fields (fields_of-line_of (codes "state") fields refl (numbers.0, (role_HasNoSpace t.role, numbers.1)))
-    ∙ ap (option_and_then (λ role. option_and_then (task_from role) (numerals (map decimal (state_numbers t))))) (role_back t.role it.role)
+    ∙ ap (option_and_then (λ role. option_and_then (task_from role) (numerals (map decimal (state_numbers t)))))
+    (role_back t.role it.role)
     ∙ ap (option_and_then (task_from t.role)) (numerals-decimals (state_numbers t) it.short)
 
 -- what a job is read from
-task_read : (role : Role) (ns : List ℕ) (t : Task) → task_from role ns ≡ Some t → (state_numbers t ≡ ns) × (t.role ≡ role)
+task_read : (role : Role) (ns : List ℕ) (t : Task) → task_from role ns ≡ Some t → (state_numbers t ≡ ns)
+    × (t.role ≡ role)
 task_read role (n ∷ had ∷ r ∷ c ∷ d ∷ v ∷ []) t read =
     subst (λ (u : Task). (state_numbers u ≡ n ∷ had ∷ r ∷ c ∷ d ∷ v ∷ []) × (u.role ≡ role))
     (some_same (record { number = n; job = job_of_numbers r c d v; role = role; had = had }) t read) (refl, refl)
@@ -237,11 +258,13 @@ weave [] role = []
 weave (number ∷ fields) role = line_of (codes "state" ∷ number ∷ role ∷ fields)
 
 -- what fields name
-fields_read : (word number role : List ℕ) (fields : List (List ℕ)) (t : Task) → task_of_fields (word ∷ number ∷ role ∷ fields) ≡ Some t
+fields_read : (word number role : List ℕ) (fields : List (List ℕ)) (t : Task)
+    → task_of_fields (word ∷ number ∷ role ∷ fields) ≡ Some t
     → (state_line t ≡ line_of (word ∷ number ∷ role ∷ fields)) × IsState t
 fields_read word number role fields t =
     by (bytes_eq word (codes "state")) (role_of_word role) (numerals (number ∷ fields)) refl refl refl where
-      by : (b : Bool) (o : Option Role) (ns : Option (List ℕ)) → bytes_eq word (codes "state") ≡ b → role_of_word role ≡ o
+      by : (b : Bool) (o : Option Role) (ns : Option (List ℕ)) → bytes_eq word (codes "state") ≡ b
+          → role_of_word role ≡ o
           → numerals (number ∷ fields) ≡ ns
           → cond b (option_and_then (λ r. option_and_then (task_from r) ns) o) None ≡ Some t
           → (state_line t ≡ line_of (word ∷ number ∷ role ∷ fields)) × IsState t
@@ -264,7 +287,8 @@ fields_read word number role fields t =
 -- it was written as it is read
 pub state_line-read_task : (line : List ℕ) (t : Task) → read_task line ≡ Some t → (state_line t ≡ line) × IsState t
 state_line-read_task line t = by (is_too_long line) (fields_of line) refl where
-  by : (long : Bool) (fields : List (List ℕ)) → fields_of line ≡ fields → cond long None (task_of_fields fields) ≡ Some t
+  by : (long : Bool) (fields : List (List ℕ)) → fields_of line ≡ fields
+      → cond long None (task_of_fields fields) ≡ Some t
       → (state_line t ≡ line) × IsState t
   by true fields cut read = none_is_some read
   by false [] cut read = none_is_some read

@@ -1,5 +1,6 @@
 -- What a reader keeps with one line more, and when the line is refused.
-use Rattle.std.proofs.Common.{◌≡◌, ℕ, ◌+◌, ◌≤◌, ◌<◌, List, [], ◌∷◌, ◌++◌, length, refl, sym, ap, ◌∙◌, subst, Bool, true, false, ◌&&◌, arith}
+use Rattle.std.proofs.Common.{◌≡◌, ℕ, ◌+◌, ◌≤◌, ◌<◌, List, [], ◌∷◌, ◌++◌, length, refl, sym, ap, ◌∙◌, subst, Bool, true}
+use Rattle.std.proofs.Common.{false, ◌&&◌, arith}
 use Rattle.std.proofs.Common.{Some, None}
 use Rattle.std.specs.Prelude.{nat_le, ◌==◌}
 use Rattle.std.proofs.lemmas.Bool.{eq-eqb, eqb-true, le-leb, leb-true, and_parts}
@@ -21,17 +22,24 @@ use Rattle.snapshot.proofs.Beginning.{Within, within}
 use Rattle.snapshot.proofs.Spelled.{state_line-read_task}
 use Rattle.snapshot.proofs.Storing.{no_task, task_beyond, task_stands}
 
-module _ (h : Head) (tasks : List Task) (ls : List (List ℕ)) (read : HasRead h tasks ls) (r : Resuming) (it : Holds r h tasks) where
+module _ (h : Head) (tasks : List Task) (ls : List (List ℕ)) (read : HasRead h tasks ls) (r : Resuming)
+    (it : Holds r h tasks) where
   -- as many jobs are served as were read
   pub served_count : length r.server.state.tasks ≡ length tasks
-  served_count = omega (arith, ap (λ J. length J.jobs) it.served.list, count_jobs r.server.state.tasks, count_jobs tasks)
+  served_count = omega (
+    arith,
+    ap (λ J. length J.jobs) it.served.list,
+    count_jobs r.server.state.tasks,
+    count_jobs tasks,
+  )
 
   -- how many there are to be
   pub jobs_count : r.head.jobs ≡ h.jobs
   jobs_count = ap (λ (g : Head). g.jobs) it.head
 
   -- the number of a refused line
-  pub refused_here : (l : List (List ℕ)) (n : ℕ) → n ≡ length r.server.state.tasks → reading_of l ≡ refused_behind tasks → reading_of l ≡ Refused (n + 2)
+  pub refused_here : (l : List (List ℕ)) (n : ℕ) → n ≡ length r.server.state.tasks → reading_of l ≡ refused_behind tasks
+      → reading_of l ≡ Refused (n + 2)
   refused_here l n is refused = refused ∙ ap (λ m. Refused (m + 2)) (sym (is ∙ served_count))
 
   -- there is a line for a job that is due
@@ -41,7 +49,8 @@ module _ (h : Head) (tasks : List Task) (ls : List (List ℕ)) (read : HasRead h
 
   module _ (line : List ℕ) (more : length tasks < h.jobs) where
     -- a line that is no job's
-    pub none_refused : (n : ℕ) → n ≡ length r.server.state.tasks → read_task line ≡ None → reading_of (ls ++ line ∷ []) ≡ Refused (n + 2)
+    pub none_refused : (n : ℕ) → n ≡ length r.server.state.tasks → read_task line ≡ None
+        → reading_of (ls ++ line ∷ []) ≡ Refused (n + 2)
     none_refused n is none = refused_here (ls ++ line ∷ []) n is (no_task h tasks ls read line more none)
 
     module _ (t : Task) (spelled : read_task line ≡ Some t) where
@@ -60,7 +69,8 @@ module _ (h : Head) (tasks : List Task) (ls : List (List ℕ)) (read : HasRead h
             by true passes =
                 let all = and_parts ((t.number == length tasks) && is_valid (stored h (tasks ++ t ∷ []))) _ passes in
                 let both = and_parts (t.number == length tasks) (is_valid (stored h (tasks ++ t ∷ []))) all.0 in
-                absurd (never (eqb-true t.number (length tasks) both.0) ((is_valid-agrees (stored h (tasks ++ t ∷ []))).0 both.1)
+                absurd (never (eqb-true t.number (length tasks) both.0)
+                ((is_valid-agrees (stored h (tasks ++ t ∷ []))).0 both.1)
                 (leb-true t.job.release h.mark all.1))
 
       module _ (valid : IsValid (stored h (tasks ++ t ∷ []))) where
@@ -78,7 +88,8 @@ module _ (h : Head) (tasks : List Task) (ls : List (List ℕ)) (read : HasRead h
         -- the lines with it
         pub read_more : t.number ≡ length tasks → t.job.release ≤ h.mark → HasRead h (tasks ++ t ∷ []) (ls ++ line ∷ [])
         read_more number low = task_stands h tasks ls read line more t spelled (by (t.number == length tasks)
-            (is_valid (stored h (tasks ++ t ∷ []))) (nat_le t.job.release h.mark) (eq-eqb t.number (length tasks) number)
+            (is_valid (stored h (tasks ++ t ∷ []))) (nat_le t.job.release h.mark)
+            (eq-eqb t.number (length tasks) number)
             ((is_valid-agrees (stored h (tasks ++ t ∷ []))).1 valid) (le-leb t.job.release h.mark low)) where
               by : (a b c : Bool) → a ≡ true → b ≡ true → c ≡ true → (a && b && c) ≡ true
               by true true true p q s = refl
@@ -87,8 +98,10 @@ module _ (h : Head) (tasks : List Task) (ls : List (List ℕ)) (read : HasRead h
               by false b c p q s = absurd (let clash : false ≡ true = p in cc)
 
         -- what is kept with it
-        pub holds_more : (new : Resuming) → new.head ≡ r.head → new.last ≡ t.job.release → new.stances.items ≡ r.stances.items ++ stance_of t ∷ []
-            → IsFed new.intake h (tasks ++ t ∷ []) → IsServed new.server h (tasks ++ t ∷ []) t.job.release → Holds new h (tasks ++ t ∷ [])
+        pub holds_more : (new : Resuming) → new.head ≡ r.head → new.last ≡ t.job.release
+            → new.stances.items ≡ r.stances.items ++ stance_of t ∷ []
+            → IsFed new.intake h (tasks ++ t ∷ []) → IsServed new.server h (tasks ++ t ∷ []) t.job.release
+            → Holds new h (tasks ++ t ∷ [])
         holds_more new head last stances fed served = record {
           head = ap head_in head ∙ it.head;
           released = last ∙ sym (last_more tasks t);

@@ -1,5 +1,6 @@
 -- What is read of a snapshot, line by line.
-use Rattle.std.proofs.Common.{◌≡◌, ℕ, suc, ◌+◌, ◌≤◌, ◌<◌, List, [], ◌∷◌, ◌++◌, length, length-append, refl, sym, ap, ◌∙◌}
+use Rattle.std.proofs.Common.{◌≡◌, ℕ, suc, ◌+◌, ◌≤◌, ◌<◌, List, [], ◌∷◌, ◌++◌, length, length-append, refl, sym, ap}
+use Rattle.std.proofs.Common.{◌∙◌}
 use Rattle.std.proofs.Common.{Bool, true, false, cond, ◌&&◌, arith, Some, None, codes}
 use Rattle.std.specs.Prelude.{bytes_eq, ◌==◌}
 use Rattle.std.proofs.lemmas.Bool.{lt-ltb, le-ltb, leb-true, eqb-true, and_parts}
@@ -12,8 +13,10 @@ use Rattle.dover_model.specs.Sound.{IsNumberedFrom}
 use Rattle.dover_model.proofs.Agreement.{is_valid-agrees}
 use Rattle.dover_model.proofs.Growing.{all_behind, reads_new}
 use Rattle.snapshot.specs.Snapshot.{Head, head_line, state_line}
-use Rattle.snapshot.specs.Reading.{Begun, Going, Taken, Refused, is_within_limits, stored, may_follow, has_reached_mark, is_settled}
-use Rattle.snapshot.specs.Reading.{with_head, refused_behind, with_task, with_last, next_line, reading_of, read_head, read_task}
+use Rattle.snapshot.specs.Reading.{Begun, Going, Taken, Refused, is_within_limits, stored, may_follow, has_reached_mark}
+use Rattle.snapshot.specs.Reading.{is_settled}
+use Rattle.snapshot.specs.Reading.{with_head, refused_behind, with_task, with_last, next_line, reading_of, read_head}
+use Rattle.snapshot.specs.Reading.{read_task}
 use Rattle.snapshot.specs.Stored.{HasRead}
 use Rattle.snapshot.proofs.Spelled.{head_line-read_head, state_line-read_task}
 
@@ -24,7 +27,8 @@ pub no_head : (line : List ℕ) → read_head line ≡ None → reading_of (line
 no_head line none = ap with_head none
 
 -- it isn't within the limits
-pub head_beyond : (line : List ℕ) (h : Head) → read_head line ≡ Some h → is_within_limits h ≡ false → reading_of (line ∷ []) ≡ Refused 1
+pub head_beyond : (line : List ℕ) (h : Head) → read_head line ≡ Some h → is_within_limits h ≡ false
+    → reading_of (line ∷ []) ≡ Refused 1
 head_beyond line h read beyond = ap with_head read ∙ ap (λ b. cond b (Going h []) (Refused 1)) beyond
 
 -- no job is valid under rules with a ratio
@@ -32,7 +36,8 @@ none_valid : (rules : Rules) → IsRatio rules.ratio → IsValid (record { rules
 none_valid rules ratio = (reads_new rules ratio).valid
 
 -- it is one within the limits
-pub head_stands : (line : List ℕ) (h : Head) → read_head line ≡ Some h → is_within_limits h ≡ true → HasRead h [] (line ∷ [])
+pub head_stands : (line : List ℕ) (h : Head) → read_head line ≡ Some h → is_within_limits h ≡ true
+    → HasRead h [] (line ∷ [])
 head_stands line h read within =
     let it = head_line-read_head line h read in
     record {
@@ -48,7 +53,8 @@ head_stands line h read within =
 -- ---- a further line
 
 -- numbered in a row, with one more
-numbered_more : (n : ℕ) (tasks : List Task) (t : Task) → IsNumberedFrom n tasks → t.number ≡ n + length tasks → IsNumberedFrom n (tasks ++ t ∷ [])
+numbered_more : (n : ℕ) (tasks : List Task) (t : Task) → IsNumberedFrom n tasks → t.number ≡ n + length tasks
+    → IsNumberedFrom n (tasks ++ t ∷ [])
 numbered_more n [] t numbered next = (omega arith, tt)
 numbered_more n (u ∷ tasks) t numbered next = (numbered.0, numbered_more (suc n) tasks t numbered.1 (omega arith))
 
@@ -59,12 +65,14 @@ module _ (h : Head) (tasks : List Task) (ls : List (List ℕ)) (it : HasRead h t
 
   -- where a job is due
   next_job : length tasks < h.jobs → reading_of (ls ++ line ∷ []) ≡ with_task h tasks (read_task line)
-  next_job more = next ∙ ap (λ b. cond b (with_task h tasks (read_task line)) (with_last h tasks (bytes_eq line (codes "resume"))))
+  next_job more = next ∙ ap
+      (λ b. cond b (with_task h tasks (read_task line)) (with_last h tasks (bytes_eq line (codes "resume"))))
       (lt-ltb (length tasks) h.jobs more)
 
   -- where no job is due
   next_last : h.jobs ≤ length tasks → reading_of (ls ++ line ∷ []) ≡ with_last h tasks (bytes_eq line (codes "resume"))
-  next_last most = next ∙ ap (λ b. cond b (with_task h tasks (read_task line)) (with_last h tasks (bytes_eq line (codes "resume"))))
+  next_last most = next ∙ ap
+      (λ b. cond b (with_task h tasks (read_task line)) (with_last h tasks (bytes_eq line (codes "resume"))))
       (le-ltb (length tasks) h.jobs most)
 
   -- it is no line of a job
@@ -86,7 +94,8 @@ module _ (h : Head) (tasks : List Task) (ls : List (List ℕ)) (it : HasRead h t
       record {
         reads = next_job more ∙ ap (with_task h tasks) read
             ∙ ap (λ b. cond b (Going h (tasks ++ t ∷ [])) (refused_behind tasks)) follows;
-        text = ap (λ l. ls ++ l ∷ []) (sym (state_line-read_task line t read).0) ∙ ap (λ (xs : List (List ℕ)). xs ++ state_line t ∷ []) it.text
+        text = ap (λ l. ls ++ l ∷ []) (sym (state_line-read_task line t read).0)
+            ∙ ap (λ (xs : List (List ℕ)). xs ++ state_line t ∷ []) it.text
             ∙ ap (λ xs. head_line h ∷ xs) (sym (map-append state_line tasks (t ∷ [])));
         limits = it.limits;
         valid = (is_valid-agrees (stored h (tasks ++ t ∷ []))).0 both.1;
@@ -96,32 +105,42 @@ module _ (h : Head) (tasks : List Task) (ls : List (List ℕ)) (it : HasRead h t
       }
 
   -- the last line is another
-  pub no_last : h.jobs ≤ length tasks → bytes_eq line (codes "resume") ≡ false → reading_of (ls ++ line ∷ []) ≡ refused_behind tasks
+  pub no_last : h.jobs ≤ length tasks → bytes_eq line (codes "resume") ≡ false
+      → reading_of (ls ++ line ∷ []) ≡ refused_behind tasks
   no_last most other = next_last most ∙ ap (with_last h tasks) other
 
   -- the mark wasn't reached
-  pub mark_beyond : h.jobs ≤ length tasks → has_reached_mark h tasks ≡ false → reading_of (ls ++ line ∷ []) ≡ refused_behind tasks
-  mark_beyond most beyond = next_last most ∙ fails (bytes_eq line (codes "resume")) (has_reached_mark h tasks) beyond where
-    fails : (a b : Bool) → b ≡ false → cond (a && b && is_settled h tasks) (Taken h tasks) (refused_behind tasks) ≡ refused_behind tasks
-    fails true true e = absurd (let clash : true ≡ false = e in cc)
-    fails true false e = refl
-    fails false b e = refl
+  pub mark_beyond : h.jobs ≤ length tasks → has_reached_mark h tasks ≡ false
+      → reading_of (ls ++ line ∷ []) ≡ refused_behind tasks
+  mark_beyond most beyond = next_last most
+      ∙ fails (bytes_eq line (codes "resume")) (has_reached_mark h tasks) beyond where
+        fails : (a b : Bool) → b ≡ false
+            → cond (a && b && is_settled h tasks) (Taken h tasks) (refused_behind tasks) ≡ refused_behind tasks
+        fails true true e = absurd (let clash : true ≡ false = e in cc)
+        fails true false e = refl
+        fails false b e = refl
 
   -- some job is in another state
-  pub other_state : h.jobs ≤ length tasks → is_settled h tasks ≡ false → reading_of (ls ++ line ∷ []) ≡ refused_behind tasks
-  other_state most other = next_last most ∙ fails (bytes_eq line (codes "resume")) (has_reached_mark h tasks) (is_settled h tasks) other where
-    fails : (a b c : Bool) → c ≡ false → cond (a && b && c) (Taken h tasks) (refused_behind tasks) ≡ refused_behind tasks
-    fails true true true e = absurd (let clash : true ≡ false = e in cc)
-    fails true true false e = refl
-    fails true false c e = refl
-    fails false b c e = refl
+  pub other_state : h.jobs ≤ length tasks → is_settled h tasks ≡ false
+      → reading_of (ls ++ line ∷ []) ≡ refused_behind tasks
+  other_state most other = next_last most
+      ∙ fails (bytes_eq line (codes "resume")) (has_reached_mark h tasks) (is_settled h tasks) other where
+        fails : (a b c : Bool) → c ≡ false
+            → cond (a && b && c) (Taken h tasks) (refused_behind tasks) ≡ refused_behind tasks
+        fails true true true e = absurd (let clash : true ≡ false = e in cc)
+        fails true true false e = refl
+        fails true false c e = refl
+        fails false b c e = refl
 
   -- all is as it has to be
-  pub last_stands : h.jobs ≤ length tasks → bytes_eq line (codes "resume") ≡ true → has_reached_mark h tasks ≡ true → is_settled h tasks ≡ true
+  pub last_stands : h.jobs ≤ length tasks → bytes_eq line (codes "resume") ≡ true → has_reached_mark h tasks ≡ true
+      → is_settled h tasks ≡ true
       → reading_of (ls ++ line ∷ []) ≡ Taken h tasks
-  last_stands most last reached settled = next_last most ∙ all (bytes_eq line (codes "resume")) (has_reached_mark h tasks) (is_settled h tasks)
+  last_stands most last reached settled = next_last most
+      ∙ all (bytes_eq line (codes "resume")) (has_reached_mark h tasks) (is_settled h tasks)
       last reached settled where
-        all : (a b c : Bool) → a ≡ true → b ≡ true → c ≡ true → cond (a && b && c) (Taken h tasks) (refused_behind tasks) ≡ Taken h tasks
+        all : (a b c : Bool) → a ≡ true → b ≡ true → c ≡ true
+            → cond (a && b && c) (Taken h tasks) (refused_behind tasks) ≡ Taken h tasks
         all true true true p q r = refl
         all true true false p q r = absurd (let clash : false ≡ true = r in cc)
         all true false c p q r = absurd (let clash : false ≡ true = q in cc)

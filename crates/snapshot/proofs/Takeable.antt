@@ -1,5 +1,6 @@
 -- A feed that may pause has a snapshot that is read to its end, with its head and its jobs.
-use Rattle.std.proofs.Common.{◌≡◌, ◌⊎◌, inl, inr, ℕ, suc, ◌+◌, ◌≤◌, ◌<◌, List, [], ◌∷◌, ◌++◌, length, length-append, append_assoc, append-nil, map}
+use Rattle.std.proofs.Common.{◌≡◌, ◌⊎◌, inl, inr, ℕ, suc, ◌+◌, ◌≤◌, ◌<◌, List, [], ◌∷◌, ◌++◌, length, length-append}
+use Rattle.std.proofs.Common.{append_assoc, append-nil, map}
 use Rattle.std.proofs.Common.{refl, sym, ap, ◌∙◌, subst, Bool, true, false, ◌&&◌, ◌||◌, arith, Some, codes}
 use Rattle.std.specs.Prelude.{nat_le, nat_lt, ◌==◌}
 use Rattle.std.specs.List.{AllByRecursion, fold}
@@ -23,7 +24,8 @@ use Rattle.dover_model.proofs.Kept.{each_job}
 use Rattle.dover_model.proofs.NoFeeds.{header_short}
 use Rattle.dover_model.proofs.Valid.{valid_front}
 use Rattle.snapshot.specs.Snapshot.{Head, IsHead, IsStored, IsState, head_line, state_line}
-use Rattle.snapshot.specs.Reading.{Taken, is_within_limits, stored, may_follow, last_release, has_reached_mark, is_settled, reading_of}
+use Rattle.snapshot.specs.Reading.{Taken, is_within_limits, stored, may_follow, last_release, has_reached_mark}
+use Rattle.snapshot.specs.Reading.{is_settled, reading_of}
 use Rattle.snapshot.specs.Stored.{HasRead}
 use Rattle.snapshot.specs.Kept.{IsWhole, stance_of}
 use Rattle.snapshot.proofs.Comparing.{all_alike}
@@ -34,12 +36,14 @@ use Rattle.snapshot.proofs.Storing.{head_stands, task_stands, last_stands}
 
 -- the last release of the jobs of tasks
 last_jobs : (from : ℕ) (tasks : List Task)
-    → fold (λ (last : ℕ) (t : Task). t.job.release) from tasks ≡ fold (λ (last : ℕ) (j : JobFacts). j.release) from (jobs_of tasks)
+    → fold (λ (last : ℕ) (t : Task). t.job.release) from tasks ≡ fold (λ (last : ℕ) (j : JobFacts). j.release) from
+    (jobs_of tasks)
 last_jobs from [] = refl
 last_jobs from (t ∷ tasks) = last_jobs t.job.release tasks
 
 -- the number of a job is how many stand before it
-numbered_at : (n : ℕ) (front : List Task) (t : Task) (back : List Task) → IsNumberedFrom n (front ++ t ∷ back) → t.number ≡ n + length front
+numbered_at : (n : ℕ) (front : List Task) (t : Task) (back : List Task) → IsNumberedFrom n (front ++ t ∷ back)
+    → t.number ≡ n + length front
 numbered_at n [] t back numbered = omega (arith, numbered.0)
 numbered_at n (u ∷ front) t back numbered = omega (arith, numbered_at (suc n) front t back numbered.1)
 
@@ -48,7 +52,8 @@ in_middle : (front : List Task) (t : Task) (back : List Task) → IsMember t (fr
 in_middle [] t back = inl refl
 in_middle (u ∷ front) t back = inr (in_middle front t back)
 
-module _ (S : Session) (mark lines : ℕ) (holds : Holds S mark lines) (few : lines ≤ most_lines) (reached : Reached (admitted_jobs S.items) mark lines)
+module _ (S : Session) (mark lines : ℕ) (holds : Holds S mark lines) (few : lines ≤ most_lines)
+    (reached : Reached (admitted_jobs S.items) mark lines)
   where
     -- its jobs
     abbrev J : Instance
@@ -84,7 +89,11 @@ module _ (S : Session) (mark lines : ℕ) (holds : Holds S mark lines) (few : li
         let rules = header_short S.rules holds.reads.valid.ratio in
         let known : mark ≤ 1_000_000_000_000 = holds.known in
         let most : lines ≤ 4_000_000 = few in
-        record { ratio = holds.reads.valid.ratio; short = (rules.0, (rules.1.0, (rules.1.1.0, (omega arith, (omega arith, (omega (arith, jobs_few), tt)))))) }
+        record {
+          ratio = holds.reads.valid.ratio;
+          short =
+              (rules.0, (rules.1.0, (rules.1.1.0, (omega arith, (omega arith, (omega (arith, jobs_few), tt))))));
+        }
 
     module _ (t : Task) (m : IsMember t tasks) where
       -- it is in one of the roles that are stored
@@ -101,7 +110,8 @@ module _ (S : Session) (mark lines : ℕ) (holds : Holds S mark lines) (few : li
 
       pub is_state : IsState t
       is_state =
-          let job : IsJob t.job = each_job IsJob tasks (subst (AllByRecursion IsJob) (sym jobs_same) holds.reads.valid.each) t m in
+          let job : IsJob t.job = each_job IsJob tasks
+          (subst (AllByRecursion IsJob) (sym jobs_same) holds.reads.valid.each) t m in
           let window : t.job.release + t.job.work ≤ t.job.deadline = job.window in
           let due : t.job.deadline ≤ 1_000_000_000_000 = job.due in
           let modest : t.job.value ≤ 1_000_000_000 = job.modest in
@@ -109,15 +119,20 @@ module _ (S : Session) (mark lines : ℕ) (holds : Holds S mark lines) (few : li
           let low : t.number < 0 + length tasks = numbers_low 0 tasks bar.keeps.sound.numbered t m in
           record {
             role = stored_role;
-            short = (omega (arith, low, count, jobs_few), (omega arith, (omega arith, (omega arith, (omega arith, (omega arith, tt))))));
+            short = (
+              omega (arith, low, count, jobs_few),
+              (omega arith, (omega arith, (omega arith, (omega arith, (omega arith, tt))))),
+            );
           }
 
     -- ---- it is read line by line
 
     within : is_within_limits h ≡ true
-    within = and_from ((nat_le mark last_tick && nat_le (length J.jobs) most_jobs) && nat_le (length J.jobs + 1) lines) (nat_le lines most_lines)
+    within = and_from ((nat_le mark last_tick && nat_le (length J.jobs) most_jobs) && nat_le (length J.jobs + 1) lines)
+        (nat_le lines most_lines)
         (and_from (nat_le mark last_tick && nat_le (length J.jobs) most_jobs) (nat_le (length J.jobs + 1) lines)
-        (and_from (nat_le mark last_tick) (nat_le (length J.jobs) most_jobs) (le-leb mark last_tick holds.known) (le-leb (length J.jobs) most_jobs jobs_few))
+        (and_from (nat_le mark last_tick) (nat_le (length J.jobs) most_jobs) (le-leb mark last_tick holds.known)
+        (le-leb (length J.jobs) most_jobs jobs_few))
         (le-leb (length J.jobs + 1) lines reached.enough)) (le-leb lines most_lines few)
 
     module _ (front : List Task) (t : Task) (back : List Task) (split : front ++ t ∷ back ≡ tasks) where
@@ -126,7 +141,8 @@ module _ (S : Session) (mark lines : ℕ) (holds : Holds S mark lines) (few : li
       valid_up_to = valid_front (stored h (front ++ t ∷ [])) (jobs_of back)
           (subst (λ jobs. IsValid (record { rules = S.rules; jobs = jobs })) (sym jobs) holds.reads.valid) where
             jobs : jobs_of (front ++ t ∷ []) ++ jobs_of back ≡ J.jobs
-            jobs = sym (map-append (λ (u : Task). u.job) (front ++ t ∷ []) back) ∙ ap jobs_of (append_assoc front (t ∷ []) back) ∙ ap jobs_of split ∙ jobs_same
+            jobs = sym (map-append (λ (u : Task). u.job) (front ++ t ∷ []) back)
+                ∙ ap jobs_of (append_assoc front (t ∷ []) back) ∙ ap jobs_of split ∙ jobs_same
 
       member : IsMember t tasks
       member = subst (IsMember t) split (in_middle front t back)
@@ -135,23 +151,30 @@ module _ (S : Session) (mark lines : ℕ) (holds : Holds S mark lines) (few : li
       number = omega (arith, numbered_at 0 front t back (subst (IsNumberedFrom 0) (sym split) bar.keeps.sound.numbered))
 
       released : t.job.release ≤ mark
-      released = each_job (λ j. j.release ≤ mark) tasks (subst (AllByRecursion (λ j. j.release ≤ mark)) (sym jobs_same) holds.reads.known) t member
+      released = each_job (λ j. j.release ≤ mark) tasks
+          (subst (AllByRecursion (λ j. j.release ≤ mark)) (sym jobs_same) holds.reads.known) t member
 
       follows : may_follow h front t ≡ true
-      follows = and_from ((t.number == length front) && is_valid (stored h (front ++ t ∷ []))) (nat_le t.job.release mark)
-          (and_from (t.number == length front) (is_valid (stored h (front ++ t ∷ []))) (eq-eqb t.number (length front) number)
+      follows = and_from ((t.number == length front) && is_valid (stored h (front ++ t ∷ [])))
+          (nat_le t.job.release mark)
+          (and_from (t.number == length front) (is_valid (stored h (front ++ t ∷ [])))
+          (eq-eqb t.number (length front) number)
           ((is_valid-agrees (stored h (front ++ t ∷ []))).1 valid_up_to)) (le-leb t.job.release mark released)
 
       more : length front < length J.jobs
       more = omega (arith, count, ap length split, length-append front (t ∷ back))
 
-      one_more : HasRead h front (head_line h ∷ map state_line front) → HasRead h (front ++ t ∷ []) (head_line h ∷ map state_line (front ++ t ∷ []))
-      one_more it = subst (λ ls. HasRead h (front ++ t ∷ []) (head_line h ∷ ls)) (sym (map-append state_line front (t ∷ [])))
-          (task_stands h front (head_line h ∷ map state_line front) it (state_line t) more t (read_task-state_line t (is_state t member)) follows)
+      one_more : HasRead h front (head_line h ∷ map state_line front)
+          → HasRead h (front ++ t ∷ []) (head_line h ∷ map state_line (front ++ t ∷ []))
+      one_more it = subst (λ ls. HasRead h (front ++ t ∷ []) (head_line h ∷ ls))
+          (sym (map-append state_line front (t ∷ [])))
+          (task_stands h front (head_line h ∷ map state_line front) it (state_line t) more t
+          (read_task-state_line t (is_state t member)) follows)
 
     all_read : (front back : List Task) → front ++ back ≡ tasks → HasRead h front (head_line h ∷ map state_line front)
         → HasRead h tasks (head_line h ∷ map state_line tasks)
-    all_read front [] split it = subst (λ ts. HasRead h ts (head_line h ∷ map state_line ts)) (sym (append-nil front) ∙ split) it
+    all_read front [] split it =
+        subst (λ ts. HasRead h ts (head_line h ∷ map state_line ts)) (sym (append-nil front) ∙ split) it
     all_read front (t ∷ back) split it =
         all_read (front ++ t ∷ []) back (append_assoc front (t ∷ []) back ∙ split) (one_more front t back split it)
 
@@ -167,18 +190,21 @@ module _ (S : Session) (mark lines : ℕ) (holds : Holds S mark lines) (few : li
 
       by : (mark ≤ last_of (admitted_jobs S.items)) ⊎ (length (admitted_jobs S.items) + 1 < lines)
           → nat_le mark (last_release tasks) || nat_lt (length J.jobs + 1) lines ≡ true
-      by (inl low) = ap (λ b. b || nat_lt (length J.jobs + 1) lines) (le-leb mark (last_release tasks) (omega (arith, low, last_is)))
-      by (inr more) = either (nat_le mark (last_release tasks)) (nat_lt (length J.jobs + 1) lines) (lt-ltb (length J.jobs + 1) lines more) where
-        either : (a b : Bool) → b ≡ true → a || b ≡ true
-        either true b e = refl
-        either false b e = e
+      by (inl low) = ap (λ b. b || nat_lt (length J.jobs + 1) lines)
+          (le-leb mark (last_release tasks) (omega (arith, low, last_is)))
+      by (inr more) = either (nat_le mark (last_release tasks)) (nat_lt (length J.jobs + 1) lines)
+          (lt-ltb (length J.jobs + 1) lines more) where
+            either : (a b : Bool) → b ≡ true → a || b ≡ true
+            either true b e = refl
+            either false b e = e
 
     pub settled_here : is_settled h tasks ≡ true
     settled_here = all_alike tasks (settled_state (stored h tasks) mark).tasks
         (ap (λ K. map stance_of (settled_state K mark).tasks) (sym stored_is))
 
     pub taken : reading_of (head_line h ∷ map state_line tasks ++ codes "resume" ∷ []) ≡ Taken h tasks
-    taken = last_stands h tasks (head_line h ∷ map state_line tasks) has_read (codes "resume") (omega (arith, count)) refl reached_mark settled_here
+    taken = last_stands h tasks (head_line h ∷ map state_line tasks) has_read (codes "resume")
+        (omega (arith, count)) refl reached_mark settled_here
 
     pub whole : IsWhole h tasks (head_line h ∷ map state_line tasks ++ codes "resume" ∷ [])
     whole = record {
@@ -192,11 +218,13 @@ module _ (S : Session) (mark lines : ℕ) (holds : Holds S mark lines) (few : li
     }
 
 -- what an account keeps that goes on
-pub holds_open : (a : Account) (S : Session) → IsKept a → a.standing ≡ Open → a.session ≡ Some S → Holds S a.mark a.lines
+pub holds_open : (a : Account) (S : Session) → IsKept a → a.standing ≡ Open → a.session ≡ Some S
+    → Holds S a.mark a.lines
 holds_open a S kept opened there =
     subst (λ o. HoldsOpen o a.mark a.lines) there (subst (λ s. HoldsBy s a.session a.mark a.lines) opened kept)
 
 -- how its mark was reached
-pub reaches_open : (a : Account) (S : Session) → Reaches a → a.standing ≡ Open → a.session ≡ Some S → Reached (admitted_jobs S.items) a.mark a.lines
+pub reaches_open : (a : Account) (S : Session) → Reaches a → a.standing ≡ Open → a.session ≡ Some S
+    → Reached (admitted_jobs S.items) a.mark a.lines
 reaches_open a S it opened there =
     subst (λ o. ReachesBy Open o a.mark a.lines) there (subst (λ s. ReachesBy s a.session a.mark a.lines) opened it)

@@ -1,5 +1,6 @@
 -- A snapshot that is taken is that of a feed, and what is given for it stands for each feed of which it is.
-use Rattle.std.proofs.Common.{◌≡◌, ℕ, ◌+◌, ◌-◌, ◌≤◌, List, [], ◌∷◌, ◌++◌, length, length-append, append_assoc, append-nil, map, replicate, zero, suc}
+use Rattle.std.proofs.Common.{◌≡◌, ℕ, ◌+◌, ◌-◌, ◌≤◌, List, [], ◌∷◌, ◌++◌, length, length-append, append_assoc}
+use Rattle.std.proofs.Common.{append-nil, map, replicate, zero, suc}
 use Rattle.std.proofs.Common.{refl, sym, ap, ◌∙◌, subst, arith, Option, Some, None, codes}
 use Rattle.std.specs.Prelude.{IsSome}
 use Rattle.std.specs.List.{AllByRecursion, fold}
@@ -43,7 +44,8 @@ use Rattle.snapshot.proofs.Feeds.{both_there, same_alike}
 use Rattle.snapshot.proofs.Handing.{ratio_numerals, ratio_account, job_numerals, job_account}
 
 -- what holds of all of two lists
-all_both : {X : Type 0} (P : X → Type 0) (xs ys : List X) → AllByRecursion P xs → AllByRecursion P ys → AllByRecursion P (xs ++ ys)
+all_both : {X : Type 0} (P : X → Type 0) (xs ys : List X) → AllByRecursion P xs → AllByRecursion P ys
+    → AllByRecursion P (xs ++ ys)
 all_both P [] ys all more = more
 all_both P (x ∷ xs) ys all more = (all.0, all_both P xs ys all.1 more)
 
@@ -59,7 +61,8 @@ last_low most from [] all low = low
 last_low most from (t ∷ tasks) all low = last_low most t.job.release tasks all.1 all.0
 
 -- the lines of jobs have no line feed
-feedless_jobs : (tasks : List Task) → AllByRecursion IsJob (jobs_of tasks) → AllByRecursion HasNoFeed (map (λ (t : Task). feed_text (JobLine t.job)) tasks)
+feedless_jobs : (tasks : List Task) → AllByRecursion IsJob (jobs_of tasks)
+    → AllByRecursion HasNoFeed (map (λ (t : Task). feed_text (JobLine t.job)) tasks)
 feedless_jobs [] all = tt
 feedless_jobs (t ∷ tasks) all = (feedless_feed (JobLine t.job) (job_numerals t.job all.0), feedless_jobs tasks all.1)
 
@@ -70,8 +73,10 @@ settled_path rules mark [] s here = refl
 settled_path rules mark (x ∷ xs) s run = (
   run.0,
   run.1,
-  subst (λ u. IsOpenPath rules mark (after s (open_step rules s)) xs (fold (λ (z : State) (x : Step). after x.before x.move) u xs))
-      (sym (ap (λ (y : Step). after y.before y.move) run.0)) (settled_path rules mark xs (after s (open_step rules s)) run.2),
+  subst (λ u. IsOpenPath rules mark (after s (open_step rules s)) xs
+      (fold (λ (z : State) (x : Step). after x.before x.move) u xs))
+      (sym (ap (λ (y : Step). after y.before y.move) run.0))
+      (settled_path rules mark xs (after s (open_step rules s)) run.2),
 )
 
 -- at the barrier all that is settled was printed
@@ -89,21 +94,31 @@ module _ (h : Head) (tasks : List Task) (ls : List (List ℕ)) (it : IsWhole h t
   limits = within h it.read.limits
 
   can : CanPause h tasks
-  can = record { limits = it.read.limits; all = it.all; known = last_low h.mark 0 tasks it.read.known (omega arith); reached = it.reached }
+  can = record {
+    limits = it.read.limits;
+    all = it.all;
+    known = last_low h.mark 0 tasks it.read.known (omega arith);
+    reached = it.reached;
+  }
 
   -- the account of the lines of its jobs
-  jobs_account : (front back : List Task) → front ++ back ≡ tasks → account_of_lines (job_lines h front) ≡ stored_account h front
+  jobs_account : (front back : List Task) → front ++ back ≡ tasks
+      → account_of_lines (job_lines h front) ≡ stored_account h front
       → account_of_lines (job_lines h tasks) ≡ stored_account h tasks
-  jobs_account front [] split so_far = subst (λ ts. account_of_lines (job_lines h ts) ≡ stored_account h ts) (sym (append-nil front) ∙ split) so_far
+  jobs_account front [] split so_far =
+      subst (λ ts. account_of_lines (job_lines h ts) ≡ stored_account h ts) (sym (append-nil front) ∙ split) so_far
   jobs_account front (t ∷ back) split so_far =
       jobs_account (front ++ t ∷ []) back (append_assoc front (t ∷ []) back ∙ split)
-      (ap (λ more. account_of_lines (ratio_text h ∷ more)) (map-append (λ (u : Task). feed_text (JobLine u.job)) front (t ∷ []))
+      (ap (λ more. account_of_lines (ratio_text h ∷ more))
+      (map-append (λ (u : Task). feed_text (JobLine u.job)) front (t ∷ []))
       ∙ fold-append next_line no_lines (job_lines h front) (feed_text (JobLine t.job) ∷ [])
       ∙ ap (λ a. next_line a (feed_text (JobLine t.job))) so_far
-      ∙ job_account h front t valid_up_to (omega (arith, ap length split, length-append front (t ∷ back), it.all, limits.enough, limits.lines))) where
+      ∙ job_account h front t valid_up_to
+      (omega (arith, ap length split, length-append front (t ∷ back), it.all, limits.enough, limits.lines))) where
         valid_up_to : IsValid (stored h (front ++ t ∷ []))
         valid_up_to = valid_front (stored h (front ++ t ∷ [])) (jobs_of back)
-            (subst (λ jobs. IsValid (record { rules = h.rules; jobs = jobs })) (sym (sym (map-append (λ (u : Task). u.job) (front ++ t ∷ []) back)
+            (subst (λ jobs. IsValid (record { rules = h.rules; jobs = jobs }))
+            (sym (sym (map-append (λ (u : Task). u.job) (front ++ t ∷ []) back)
             ∙ ap jobs_of (append_assoc front (t ∷ []) back) ∙ ap jobs_of split)) it.read.valid)
 
   all_lines_account : account_of_lines (feed_lines h tasks) ≡ paused_account h tasks
@@ -113,7 +128,8 @@ module _ (h : Head) (tasks : List Task) (ls : List (List ℕ)) (it : IsWhole h t
   -- its lines have no line feed
   feedless : AllByRecursion HasNoFeed (feed_lines h tasks)
   feedless = all_both HasNoFeed (job_lines h tasks) (tick_lines h) (
-    feedless_feed (RatioLine h.rules.ratio.p h.rules.ratio.q _) (ratio_numerals h.rules.ratio.p h.rules.ratio.q it.read.valid.ratio h.rules.version),
+    feedless_feed (RatioLine h.rules.ratio.p h.rules.ratio.q _)
+        (ratio_numerals h.rules.ratio.p h.rules.ratio.q it.read.valid.ratio h.rules.version),
     feedless_jobs tasks it.read.valid.each,
   ) (all_copies HasNoFeed (h.lines - (h.jobs + 1)) (feed_text (TickLine h.mark))
       (feedless_feed (TickLine h.mark) (let low : h.mark ≤ 1_000_000_000_000 = limits.mark in omega arith, tt)))
@@ -139,7 +155,8 @@ module _ (h : Head) (tasks : List Task) (ls : List (List ℕ)) (it : IsWhole h t
 
   -- the jobs are in the state that its settled steps lead to
   pub tasks_are : tasks ≡ (settled_state (stored h tasks) h.mark).tasks
-  tasks_are = same_tasks 0 tasks (settled_state (stored h tasks) h.mark).tasks it.read.numbered bar.keeps.sound.numbered (sym bar.keeps.jobs)
+  tasks_are = same_tasks 0 tasks (settled_state (stored h tasks) h.mark).tasks it.read.numbered bar.keeps.sound.numbered
+      (sym bar.keeps.jobs)
       (alike_all tasks (settled_state (stored h tasks) h.mark).tasks it.settled)
 
   instance_is : instance_of (stored_session h tasks) ≡ stored h tasks
@@ -160,7 +177,8 @@ module _ (h : Head) (tasks : List Task) (ls : List (List ℕ)) (it : IsWhole h t
 
   pub shortest_text : snapshot shortest ≡ in_lines ls
   shortest_text =
-      ap (λ (a : Account). elim a.session [ None ↦ [] | Some S ↦ in_lines (snapshot_lines a S) ]) shortest_account ∙ ap in_lines lines_are
+      ap (λ (a : Account). elim a.session [ None ↦ [] | Some S ↦ in_lines (snapshot_lines a S) ]) shortest_account
+      ∙ ap in_lines lines_are
 
   pub is_snapshot : IsSnapshot ls
   is_snapshot = record { feed = shortest; may = shortest_may; text = shortest_text }
@@ -169,7 +187,8 @@ module _ (h : Head) (tasks : List Task) (ls : List (List ℕ)) (it : IsWhole h t
 
   module _ (F : List ℕ) (may : MayPause F) (text : snapshot F ≡ in_lines ls) where
     alike : Alike (paused_account h tasks) (account F)
-    alike = subst (λ a. Alike a (account F)) shortest_account (same_alike shortest F shortest_may may (shortest_text ∙ sym text))
+    alike = subst (λ a. Alike a (account F)) shortest_account
+        (same_alike shortest F shortest_may may (shortest_text ∙ sym text))
 
     -- what is kept of an account is kept of one that is alike
     keeps_alike : (i : feed.Kept) → feed.KeepsAccount i (paused_account h tasks) → feed.KeepsAccount i (account F)
@@ -202,8 +221,10 @@ module _ (h : Head) (tasks : List Task) (ls : List (List ℕ)) (it : IsWhole h t
           };
           going = resumes.going;
           list = resumes.list ∙ sym jobs;
-          state = resumes.state ∙ ap (λ J. settled_state J h.mark) (sym jobs) ∙ ap (settled_state (instance_of both.1)) (sym alike.1);
-          printed = subst (λ mark. HasPrinted (instance_of both.1) mark v.state (settled (instance_of both.1) mark)) (sym alike.1)
+          state = resumes.state ∙ ap (λ J. settled_state J h.mark) (sym jobs)
+              ∙ ap (settled_state (instance_of both.1)) (sym alike.1);
+          printed = subst (λ mark. HasPrinted (instance_of both.1) mark v.state (settled (instance_of both.1) mark))
+              (sym alike.1)
               (subst (λ J. HasPrinted J h.mark v.state (settled J h.mark)) (sym jobs) (subst
               (λ s. HasPrinted (stored h tasks) h.mark s (settled (stored h tasks) h.mark)) (sym resumes.state)
               (printed_at_barrier (stored h tasks) h.mark it.read.valid)));

@@ -1,5 +1,6 @@
 -- The line of a job, as it is written.
-use Rattle.std.proofs.Common.{◌≡◌, ℕ, zero, suc, ◌+◌, ◌≤◌, ◌<◌, ◌^◌, List, [], ◌∷◌, ◌++◌, length, length-append, append_assoc, append-nil, map}
+use Rattle.std.proofs.Common.{◌≡◌, ℕ, zero, suc, ◌+◌, ◌≤◌, ◌<◌, ◌^◌, List, [], ◌∷◌, ◌++◌, length, length-append}
+use Rattle.std.proofs.Common.{append_assoc, append-nil, map}
 use Rattle.std.proofs.Common.{inl, inr, refl, sym, ap, ◌∙◌, arith, decimal, Option, Some, None, codes}
 use Rattle.std.specs.List.{slice_get, fold}
 use Rattle.std.specs.Option.{option_map}
@@ -33,7 +34,8 @@ behind [] = []
 behind (field ∷ fields) = 32 ∷ field ++ behind fields
 
 -- they are written so
-written_behind : (b : ℕ) (line : List ℕ) (fields : List (List ℕ)) → fold with_field (b ∷ line) fields ≡ (b ∷ line) ++ behind fields
+written_behind : (b : ℕ) (line : List ℕ) (fields : List (List ℕ))
+    → fold with_field (b ∷ line) fields ≡ (b ∷ line) ++ behind fields
 written_behind b line [] = sym (append-nil (b ∷ line))
 written_behind b line (field ∷ fields) =
     written_behind b (line ++ 32 ∷ field) fields ∙ append_assoc (b ∷ line) (32 ∷ field) (behind fields)
@@ -52,7 +54,8 @@ at_member (y ∷ xs) zero x e = inl (sym (some_same y x e))
 at_member (y ∷ xs) (suc i) x e = inr (at_member xs i x e)
 
 -- it has the number of its place
-number_at : (from : ℕ) (tasks : List Task) (i : ℕ) (t : Task) → IsNumberedFrom from tasks → slice_get tasks i ≡ Some t → t.number ≡ from + i
+number_at : (from : ℕ) (tasks : List Task) (i : ℕ) (t : Task) → IsNumberedFrom from tasks → slice_get tasks i ≡ Some t
+    → t.number ≡ from + i
 number_at from [] i t numbered e = none_is_some e
 number_at from (u ∷ tasks) zero t numbered e = omega (arith, numbered.0, ap (λ (x : Task). x.number) (some_same u t e))
 number_at from (u ∷ tasks) (suc i) t numbered e = omega (arith, number_at (suc from) tasks i t numbered.1 e)
@@ -61,7 +64,8 @@ module _ (v : Service) (stands : Stands v) (n : ℕ) where
   -- the ticks that a job has had are short
   pub had_short : (had : ℕ) → Some had ≡ option_map (λ (t : Task). t.had) (slice_get v.state.tasks n) → had < 10 ^ 18
   had_short had is = by (slice_get v.state.tasks n) refl is where
-    by : (o : Option Task) → slice_get v.state.tasks n ≡ o → Some had ≡ option_map (λ (t : Task). t.had) o → had < 10 ^ 18
+    by : (o : Option Task) → slice_get v.state.tasks n ≡ o → Some had ≡ option_map (λ (t : Task). t.had) o
+        → had < 10 ^ 18
     by None at e = none_is_some (sym e)
     by (Some t) at e =
         let member : IsMember t v.state.tasks = at_member v.state.tasks n t at in
@@ -75,10 +79,12 @@ module _ (v : Service) (stands : Stands v) (n : ℕ) where
   state_fields role had job = decimal n ∷ role_word role ∷ map decimal (had ∷ job_numbers job)
 
   -- written behind the word, they are its line
-  pub state_written : (role : Role) (had : ℕ) (job : JobFacts) → Some role ≡ option_map (λ (t : Task). t.role) (slice_get v.state.tasks n)
+  pub state_written : (role : Role) (had : ℕ) (job : JobFacts)
+      → Some role ≡ option_map (λ (t : Task). t.role) (slice_get v.state.tasks n)
       → Some had ≡ option_map (λ (t : Task). t.had) (slice_get v.state.tasks n)
       → Some job ≡ option_map (λ (t : Task). t.job) (slice_get v.state.tasks n)
-      → option_map state_line (slice_get v.state.tasks n) ≡ Some (fold with_field (codes "state") (state_fields role had job))
+      → option_map state_line (slice_get v.state.tasks n) ≡ Some
+      (fold with_field (codes "state") (state_fields role had job))
   state_written role had job role_is had_is job_is = by (slice_get v.state.tasks n) refl role_is had_is job_is where
     by : (o : Option Task) → slice_get v.state.tasks n ≡ o → Some role ≡ option_map (λ (t : Task). t.role) o
         → Some had ≡ option_map (λ (t : Task). t.had) o → Some job ≡ option_map (λ (t : Task). t.job) o

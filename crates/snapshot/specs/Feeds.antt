@@ -16,7 +16,8 @@ pub record IsSnapshot (ls : List (List ℕ)) : Type 0 where
   pub may : MayPause feed
   pub text : snapshot feed ≡ in_lines ls
 
--- With these bytes behind them, the same is due for both feeds beyond what was, also where the input ends there; both stand alike, and
+-- With these bytes behind them, the same is due for both feeds beyond what was, also where the input ends there; both
+-- stand alike, and
 -- where the one may pause again, so may the other, with the same snapshot.
 pub record GoOnEqually (F G H : List ℕ) : Type 0 where
   pub more : List ℕ
@@ -36,11 +37,13 @@ pub record ResumesFeed (v : Service) (i : feed.Kept) (F : List ℕ) : Type 0 whe
   pub going : feed.IsGoing i
   pub list : list_of v ≡ instance_of session
   pub state : v.state ≡ settled_state (instance_of session) (account F).mark
-  pub printed : HasPrinted (instance_of session) (account F).mark v.state (settled (instance_of session) (account F).mark)
+  pub printed : HasPrinted (instance_of session) (account F).mark v.state
+      (settled (instance_of session) (account F).mark)
   pub ready : IsReadyFor v (account F).mark
   pub goes_on : v.ended ≡ false
 
--- What is given for a whole snapshot: its lines are those of some feed's, and for each feed with this snapshot the server and the intake
+-- What is given for a whole snapshot: its lines are those of some feed's, and for each feed with this snapshot the
+-- server and the intake
 -- go on from where it paused.
 pub record Gives (v : Service) (i : feed.Kept) (ls : List (List ℕ)) : Type 0 where
   pub is : IsSnapshot ls

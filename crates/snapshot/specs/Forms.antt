@@ -17,12 +17,19 @@ head_in h = record { rules = rules_with h.ratio h.version; lines = h.lines; mark
 
 -- the job that a line names
 abbrev pub task_in : StateLine → Task
-task_in s = record { number = s.number; job = job_of_numbers s.release s.work s.deadline s.value; role = s.role; had = s.had }
+task_in s = record {
+  number = s.number;
+  job = job_of_numbers s.release s.work s.deadline s.value;
+  role = s.role;
+  had =
+      s.had;
+}
 
 -- the job of this number, from the fields behind the number
 abbrev pub behind_number : ℕ → List (List ℕ) → Option Task
 behind_number n [] = None
-behind_number n (role ∷ fields) = option_and_then (λ r. option_and_then (λ ns. task_from r (n ∷ ns)) (numerals fields)) (role_of_word role)
+behind_number n (role ∷ fields) =
+    option_and_then (λ r. option_and_then (λ ns. task_from r (n ∷ ns)) (numerals fields)) (role_of_word role)
 
 -- the job, from the fields behind the word
 abbrev pub behind_word : List (List ℕ) → Option Task

@@ -1,5 +1,6 @@
 -- What a reader keeps of a snapshot, and for which lines it stands.
-use Rattle.std.specs.Prelude.{◌≡◌, ℕ, ◌+◌, ◌-◌, List, [], ◌∷◌, ◌++◌, length, map, replicate, ◌≤◌, true, false, Option, Some, None, Result, Ok, Err, codes}
+use Rattle.std.specs.Prelude.{◌≡◌, ℕ, ◌+◌, ◌-◌, List, [], ◌∷◌, ◌++◌, length, map, replicate, ◌≤◌, true, false, Option}
+use Rattle.std.specs.Prelude.{Some, None, Result, Ok, Err, codes}
 use Rattle.std.specs.List.{slice_get}
 use Rattle.std.specs.Option.{option_map}
 use Rattle.dover_model.specs.declared.events.Task.{Task}
@@ -15,7 +16,8 @@ use Rattle.event_feed.specs.declared.fed.Fed.{Fed}
 use Rattle.event_feed.specs.declared.fed.Fed.TheVariants as fed
 use Rattle.event_feed.specs.Kept as feed
 use Rattle.snapshot.specs.Snapshot.{Head}
-use Rattle.snapshot.specs.Reading.{Going, Taken, Refused, is_within_limits, stored, last_release, has_reached_mark, is_settled, reading_of}
+use Rattle.snapshot.specs.Reading.{Going, Taken, Refused, is_within_limits, stored, last_release, has_reached_mark}
+use Rattle.snapshot.specs.Reading.{is_settled, reading_of}
 use Rattle.snapshot.specs.Stored.{HasRead, job_lines, stored_session, stored_account}
 use Rattle.snapshot.specs.Forms.{head_in}
 use Rattle.snapshot.specs.Taken.{HasTaken}
@@ -120,7 +122,8 @@ pub record IsWhole (h : Head) (tasks : List Task) (ls : List (List ℕ)) : Type 
 
 -- the account of the shortest feed with this snapshot
 abbrev pub paused_account : Head → List Task → Account
-paused_account h tasks = record { lines = h.lines; session = Some (stored_session h tasks); mark = h.mark; standing = Open }
+paused_account h tasks =
+    record { lines = h.lines; session = Some (stored_session h tasks); mark = h.mark; standing = Open }
 
 -- The intake stands for the lines of that feed, and the server for its jobs in the state in which it paused.
 pub record Resumes (v : Service) (i : feed.Kept) (h : Head) (tasks : List Task) : Type 0 where

@@ -4,4 +4,5 @@ pub mod Stored
 pub mod Forms
 pub mod Taken
 pub mod Kept
+pub mod Spending
 pub mod Feeds

@@ -1,5 +1,6 @@
 -- The lines of a snapshot as they are read, and which of them is the first that is refused.
-use Rattle.std.specs.Prelude.{ℕ, ◌+◌, List, [], ◌∷◌, ◌++◌, length, Bool, true, false, ◌&&◌, ◌||◌, ◌==◌, nat_lt, nat_le, if◌then◌else◌}
+use Rattle.std.specs.Prelude.{ℕ, ◌+◌, List, [], ◌∷◌, ◌++◌, length, Bool, true, false, ◌&&◌, ◌||◌, ◌==◌, nat_lt, nat_le}
+use Rattle.std.specs.Prelude.{if◌then◌else◌}
 use Rattle.std.specs.Prelude.{Option, Some, None, codes, bytes_eq}
 use Rattle.std.specs.List.{fold, find}
 use Rattle.std.specs.Option.{option_and_then, option_map}
@@ -43,7 +44,8 @@ role_of_word word = find (λ role. bytes_eq word (role_word role)) (Waiting ∷ 
 
 -- the job in this role, of these numbers
 abbrev pub task_from : Role → List ℕ → Option Task
-task_from role (n ∷ had ∷ r ∷ c ∷ d ∷ v ∷ []) = Some (record { number = n; job = job_of_numbers r c d v; role = role; had = had })
+task_from role (n ∷ had ∷ r ∷ c ∷ d ∷ v ∷ []) =
+    Some (record { number = n; job = job_of_numbers r c d v; role = role; had = had })
 task_from role _ = None
 
 -- the job that fields name: `state`, its number, the word for its role, and five numbers
@@ -61,7 +63,8 @@ read_task line = if is_too_long line then None else task_of_fields (fields_of li
 
 -- mark and counts are within the limits, and there are lines for the ratio and for each job
 abbrev pub is_within_limits : Head → Bool
-is_within_limits h = nat_le h.mark last_tick && nat_le h.jobs most_jobs && nat_le (h.jobs + 1) h.lines && nat_le h.lines most_lines
+is_within_limits h = nat_le h.mark last_tick && nat_le h.jobs most_jobs && nat_le (h.jobs + 1) h.lines
+    && nat_le h.lines most_lines
 
 -- the jobs so far, under the rules of the first line
 abbrev pub stored : Head → List Task → Instance
@@ -69,7 +72,8 @@ stored h tasks = record { rules = h.rules; jobs = jobs_of tasks }
 
 -- the job has the next number, is valid with those before it, and isn't released after the mark
 abbrev pub may_follow : Head → List Task → Task → Bool
-may_follow h tasks t = (t.number == length tasks) && is_valid (stored h (tasks ++ t ∷ [])) && nat_le t.job.release h.mark
+may_follow h tasks t = (t.number == length tasks) && is_valid (stored h (tasks ++ t ∷ []))
+    && nat_le t.job.release h.mark
 
 -- the release of the last job, or 0
 abbrev pub last_release : List Task → ℕ
@@ -118,7 +122,8 @@ with_task h tasks (Some t) = if may_follow h tasks t then Going h (tasks ++ t �
 
 -- with the last line
 abbrev pub with_last : Head → List Task → Bool → Reading
-with_last h tasks good = if good && has_reached_mark h tasks && is_settled h tasks then Taken h tasks else refused_behind tasks
+with_last h tasks good =
+    if good && has_reached_mark h tasks && is_settled h tasks then Taken h tasks else refused_behind tasks
 
 -- the next line; behind a whole or a refused snapshot, lines are disregarded
 abbrev pub next_line : Reading → List ℕ → Reading

@@ -78,7 +78,8 @@ head_of_feed a S = record { rules = S.rules; lines = a.lines; mark = a.mark; job
 
 -- the first line, the line of each job in the state that the settled steps lead to, and the last line
 abbrev pub snapshot_lines : Account → Session → List (List ℕ)
-snapshot_lines a S = head_line (head_of_feed a S) ∷ map state_line (settled_state (instance_of S) a.mark).tasks ++ codes "resume" ∷ []
+snapshot_lines a S = head_line (head_of_feed a S) ∷ map state_line (settled_state (instance_of S) a.mark).tasks
+    ++ codes "resume" ∷ []
 
 -- the snapshot of a feed that may pause
 abbrev pub snapshot : List ℕ → List ℕ

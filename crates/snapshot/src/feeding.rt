@@ -25,7 +25,8 @@ fn hand(intake: &mut Intake, line: &FeedLine)
     requires numerals { HasNumerals (form_of line.now) }
     requires unended { has_ended intake.old ≡ false }
     requires good { (ls : List (List ℕ)) × IsGoodNext intake.old ls (feed_text (form_of line.now)) }
-    ensures stands { (ls : List (List ℕ)) → StandsFor intake.old ls → StandsFor intake.new (ls ++ feed_text (form_of line.now) ∷ []) }
+    ensures stands { (ls : List (List ℕ)) → StandsFor intake.old ls
+        → StandsFor intake.new (ls ++ feed_text (form_of line.now) ∷ []) }
 {
     let mut text = LineBuf::new();
     write_feed_line(line, &mut text);
@@ -74,8 +75,10 @@ fn job_in(fed: Fed) -> Option<Job>
 pub(crate) fn hand_job(intake: &mut Intake, state: &StateLine) -> Option<Job>
     requires numerals { AreShort (job_numbers (task_in state.now).job) }
     requires fed { (h : model.Head) × (tasks : List Task) × IsFed intake.old h tasks × HasRoom h tasks }
-    ensures some { (h : model.Head) (tasks : List Task) → IsFed intake.old h tasks → HasRoom h tasks → IfSome result (λ job.
-        (job ≡ (task_in state.now).job) × IsValid (stored h (tasks ++ task_in state.now ∷ [])) × IsFed intake.new h (tasks ++ task_in state.now ∷ [])) }
+    ensures some { (h : model.Head) (tasks : List Task) → IsFed intake.old h tasks → HasRoom h tasks
+        → IfSome result (λ job.
+        (job ≡ (task_in state.now).job) × IsValid (stored h (tasks ++ task_in state.now ∷ []))
+        × IsFed intake.new h (tasks ++ task_in state.now ∷ [])) }
     ensures none { (h : model.Head) (tasks : List Task) → IsFed intake.old h tasks → HasRoom h tasks → IsNone result →
         IsValid (stored h (tasks ++ task_in state.now ∷ [])) → ⊥ }
 {
@@ -96,7 +99,8 @@ pub(crate) fn hand_job(intake: &mut Intake, state: &StateLine) -> Option<Job>
 /// Hands in tick lines at the mark for the lines that are left of the feed.
 pub(crate) fn hand_ticks(intake: &mut Intake, head: &Head)
     requires { (tasks : List Task) × IsFed intake.old (head_in head.now) tasks × CanPause (head_in head.now) tasks }
-    ensures stands { (tasks : List Task) → IsFed intake.old (head_in head.now) tasks → CanPause (head_in head.now) tasks →
+    ensures stands { (tasks : List Task) → IsFed intake.old (head_in head.now) tasks → CanPause (head_in head.now) tasks
+        →
         StandsFor intake.new (feed_lines (head_in head.now) tasks) }
 {
     if head.lines > head.jobs + 1 {

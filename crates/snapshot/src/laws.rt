@@ -18,8 +18,10 @@ pub fn lines_have_one_spelling()
 
 /// Each feed that may pause has a snapshot that is taken: it is read to its last line, and no front of it is refused.
 pub fn each_snapshot_is_taken()
-    ensures whole { (F : List ℕ) → MayPause F → (h : Head) × (tasks : List Task) × IsWhole h tasks (whole_lines (snapshot F)) }
-    ensures never_refused { (F : List ℕ) (ls : List (List ℕ)) (at : ℕ) → MayPause F → Begins ls (whole_lines (snapshot F)) →
+    ensures whole { (F : List ℕ) → MayPause F → (h : Head) × (tasks : List Task)
+        × IsWhole h tasks (whole_lines (snapshot F)) }
+    ensures never_refused { (F : List ℕ) (ls : List (List ℕ)) (at : ℕ) → MayPause F
+        → Begins ls (whole_lines (snapshot F)) →
         reading_of ls ≡ Refused at → ⊥ }
 {}
 
@@ -35,5 +37,6 @@ pub fn equal_snapshots_go_on_equally()
 
 /// A snapshot ends by itself: what follows it is no part of it.
 pub fn snapshots_end_by_themselves()
-    ensures { (F G H I : List ℕ) → MayPause F → MayPause G → snapshot F ++ H ≡ snapshot G ++ I → (snapshot F ≡ snapshot G) × (H ≡ I) }
+    ensures { (F G H I : List ℕ) → MayPause F → MayPause G → snapshot F ++ H ≡ snapshot G ++ I
+        → (snapshot F ≡ snapshot G) × (H ≡ I) }
 {}

@@ -1,7 +1,10 @@
 //! A snapshot read line by line.
-ghost use Rattle.std.specs.Prelude.{◌≡◌, ℕ, List, [], ◌∷◌, ◌++◌};
+ghost use Rattle.std.specs.Prelude.{◌≡◌, ◌≤◌, ℕ, List, [], ◌∷◌, ◌++◌};
+ghost use Rattle.dover_core.specs.Spending.{HasSpent};
 ghost use Rattle.snapshot.specs.Kept.{IsReading, IsReady, Answers};
 ghost use Rattle.snapshot.specs.Feeds.{Gives};
+ghost use Rattle.snapshot.specs.Reading.{reading_of};
+ghost use Rattle.snapshot.specs.Spending.{jobs_read, jobs_kept, HasSpentOn};
 
 use crate::resuming::Resuming;
 use dover_core::Server;
@@ -51,7 +54,8 @@ impl Model for Reader {
 impl Reader {
     /// No line came yet. Takes no memory.
     pub fn new(alloc: Global) -> Reader
-        ensures { IsReading result [] }
+        ensures reading { IsReading result [] }
+        ensures count { (start : ℕ) → HasSpentOn result start start }
     {
         Reader {
             alloc,
@@ -59,11 +63,16 @@ impl Reader {
         }
     }
 
-    /// Takes the next line, without its line feed. Err `BadSnapshot` at the first line that doesn't stand where it is, `Memory` where there was none
-    /// for the run or for the line's job, and the line stands where it is. After `Ready` or a fault no further line may be handed in.
+    /// Takes the next line, without its line feed. Err `BadSnapshot` at the first line that doesn't stand where it is,
+    /// `Memory` where there was none
+    /// for the run or for the line's job, and the line stands where it is. After `Ready` or a fault no further line may
+    /// be handed in.
     pub fn line<L: Ledger>(&mut self, line: &[u8], steps: &mut Steps<L>) -> Result<Got, SnapFault>
         requires { (ls : List (List ℕ)) × IsReading self.old ls }
-        ensures { (ls : List (List ℕ)) → IsReading self.old ls → Answers result self.new (ls ++ line.now ∷ []) }
+        ensures answers { (ls : List (List ℕ)) → IsReading self.old ls → Answers result self.new (ls ++ line.now ∷ []) }
+        ensures jobs { (ls : List (List ℕ)) → IsReading self.old ls →
+            jobs_kept self.new ≤ jobs_read (reading_of (ls ++ line.now ∷ [])) }
+        ensures count { (start : ℕ) → HasSpentOn self.old start steps.old → HasSpentOn self.new start steps.new }
     {
         if let Some(resuming) = &mut self.resuming {
             return resuming.line(line, steps);
@@ -72,11 +81,13 @@ impl Reader {
         Ok(Got::More)
     }
 
-    /// The server in the state that was stored, ready to go on from its mark, and an intake that was handed as many lines as the paused feed had.
+    /// The server in the state that was stored, ready to go on from its mark, and an intake that was handed as many
+    /// lines as the paused feed had.
     /// `line` has answered `Ready`. Takes no memory.
     pub fn take(self) -> (Server, Intake)
         requires { (ls : List (List ℕ)) × IsReady self ls }
-        ensures { (ls : List (List ℕ)) → IsReady self ls → Gives result.0 result.1 ls }
+        ensures gives { (ls : List (List ℕ)) → IsReady self ls → Gives result.0 result.1 ls }
+        ensures count { (start now : ℕ) → HasSpentOn self start now → HasSpent result.0.state start now }
     {
         let Some(resuming) = self.resuming else {
             unreachable!();

@@ -1,11 +1,16 @@
 //! The jobs of a snapshot, as they are fed again.
-ghost use Rattle.std.specs.Prelude.{◌≡◌, ◌≤◌, ◌<◌, ◌+◌, ◌^◌, ◌||◌, ◌↔◌, nat_le, nat_lt, ℕ, List, [], ◌∷◌, ◌++◌, length, true, IsTrue, OnOk, Some};
+ghost use Rattle.std.specs.Prelude.{◌≡◌, ◌≤◌, ◌<◌, ◌+◌, ◌^◌, ◌||◌, ◌↔◌, nat_le, nat_lt, ℕ, List, [], ◌∷◌, ◌++◌, length};
+ghost use Rattle.std.specs.Prelude.{true, Some};
+ghost use Rattle.std.specs.Prelude.{IsTrue, OnOk, OnErr};
 ghost use Rattle.dover_model.specs.declared.events.Task.{Task};
 ghost use Rattle.dover_model.specs.WholeRun.{IsBarrier};
 ghost use Rattle.dover_core.specs.declared.horizon.Horizon.TheVariants.{Mark};
 ghost use Rattle.dover_core.specs.Service.{MayFollow, list_of};
+ghost use Rattle.dover_core.specs.Spending.{HasSpent};
 ghost use Rattle.snapshot.specs.Snapshot as model;
 ghost use Rattle.snapshot.specs.Kept.{IsServed, MayAdmit, IsAt, AreAt, IsReading, Begins, Answers};
+ghost use Rattle.snapshot.specs.Reading.{reading_of};
+ghost use Rattle.snapshot.specs.Spending.{jobs_read, jobs_kept, HasSpentOn};
 ghost use Rattle.snapshot.specs.Taken.{HasTaken};
 
 use crate::feeding::{begin, hand_job, hand_ticks};
@@ -34,6 +39,8 @@ fn settle<L: Ledger>(server: &mut Server, mark: u64, steps: &mut Steps<L>)
     ensures list { list_of server.new ≡ list_of server.old }
     ensures last { server.new.last ≡ Mark mark }
     ensures ready { server.new.ready ≡ true }
+    ensures count { (start : ℕ) → HasSpent server.old.state start steps.old →
+        HasSpent server.new.state start steps.new }
 {
     while let Some(_) = server.step(Horizon::Mark(mark), steps) {}
 }
@@ -94,10 +101,16 @@ impl Resuming {
 
     /// Admits a job at its release, as a feed would.
     fn admit<L: Ledger>(&mut self, job: Job, steps: &mut Steps<L>) -> Result<(), Memory>
-        requires { (h : model.Head) × (tasks : List Task) × IsServed self.old.server h tasks self.old.last × MayAdmit self.old.last h tasks job }
-        ensures served { (h : model.Head) (tasks : List Task) (t : Task) → IsServed self.old.server h tasks self.old.last →
-            MayAdmit self.old.last h tasks job → t.job ≡ job → OnOk result (IsServed self.new.server h (tasks ++ t ∷ []) job.release) }
+        requires { (h : model.Head) × (tasks : List Task) × IsServed self.old.server h tasks self.old.last
+            × MayAdmit self.old.last h tasks job }
+        ensures served { (h : model.Head) (tasks : List Task) (t : Task)
+            → IsServed self.old.server h tasks self.old.last →
+            MayAdmit self.old.last h tasks job → t.job ≡ job
+            → OnOk result (IsServed self.new.server h (tasks ++ t ∷ []) job.release) }
         ensures same { self.new ≡ record self.old { server = self.new.server; last = job.release } }
+        ensures err { OnErr result (list_of self.new.server ≡ list_of self.old.server) }
+        ensures count { (start : ℕ) → HasSpent self.old.server.state start steps.old →
+            HasSpent self.new.server.state start steps.new }
     {
         self.last = job.release();
         settle(&mut self.server, self.last, steps);
@@ -109,7 +122,12 @@ impl Resuming {
     fn job<L: Ledger>(&mut self, line: &[u8], steps: &mut Steps<L>) -> Result<Got, SnapFault>
         requires reading { (ls : List (List ℕ)) × IsReading (Some self.old) ls }
         requires more { length self.old.server.state.tasks < self.old.head.jobs }
-        ensures { (ls : List (List ℕ)) → IsReading (Some self.old) ls → Answers result (Some self.new) (ls ++ line.now ∷ []) }
+        ensures answers { (ls : List (List ℕ)) → IsReading (Some self.old) ls →
+            Answers result (Some self.new) (ls ++ line.now ∷ []) }
+        ensures jobs { (ls : List (List ℕ)) → IsReading (Some self.old) ls →
+            jobs_kept (Some self.new) ≤ jobs_read (reading_of (ls ++ line.now ∷ [])) }
+        ensures count { (start : ℕ) → HasSpentOn (Some self.old) start steps.old →
+            HasSpentOn (Some self.new) start steps.new }
     {
         let number = u64::from(self.server.admitted());
         let bad = SnapFault::BadSnapshot { line: number + 2 };
@@ -142,7 +160,8 @@ impl Resuming {
     /// The mark is the last release, or there is a line that may have moved it.
     fn has_reached_mark(&self) -> bool
         requires { self.now.head.jobs < 2 ^ 63 }
-        ensures { result ≡ (nat_le self.now.head.mark self.now.last || nat_lt (self.now.head.jobs + 1) self.now.head.lines) }
+        ensures { result ≡ (nat_le self.now.head.mark self.now.last || nat_lt
+            (self.now.head.jobs + 1) self.now.head.lines) }
     {
         self.head.mark <= self.last || self.head.jobs + 1 < self.head.lines
     }
@@ -151,7 +170,12 @@ impl Resuming {
     fn finish<L: Ledger>(&mut self, line: &[u8], steps: &mut Steps<L>) -> Result<Got, SnapFault>
         requires reading { (ls : List (List ℕ)) × IsReading (Some self.old) ls }
         requires all { self.old.head.jobs ≤ length self.old.server.state.tasks }
-        ensures { (ls : List (List ℕ)) → IsReading (Some self.old) ls → Answers result (Some self.new) (ls ++ line.now ∷ []) }
+        ensures answers { (ls : List (List ℕ)) → IsReading (Some self.old) ls →
+            Answers result (Some self.new) (ls ++ line.now ∷ []) }
+        ensures jobs { (ls : List (List ℕ)) → IsReading (Some self.old) ls →
+            jobs_kept (Some self.new) ≤ jobs_read (reading_of (ls ++ line.now ∷ [])) }
+        ensures count { (start : ℕ) → HasSpentOn (Some self.old) start steps.old →
+            HasSpentOn (Some self.new) start steps.new }
     {
         let bad = SnapFault::BadSnapshot {
             line: u64::from(self.server.admitted()) + 2,
@@ -173,7 +197,12 @@ impl Resuming {
     /// Takes the next line behind the first.
     pub fn line<L: Ledger>(&mut self, line: &[u8], steps: &mut Steps<L>) -> Result<Got, SnapFault>
         requires { (ls : List (List ℕ)) × IsReading (Some self.old) ls }
-        ensures { (ls : List (List ℕ)) → IsReading (Some self.old) ls → Answers result (Some self.new) (ls ++ line.now ∷ []) }
+        ensures answers { (ls : List (List ℕ)) → IsReading (Some self.old) ls →
+            Answers result (Some self.new) (ls ++ line.now ∷ []) }
+        ensures jobs { (ls : List (List ℕ)) → IsReading (Some self.old) ls →
+            jobs_kept (Some self.new) ≤ jobs_read (reading_of (ls ++ line.now ∷ [])) }
+        ensures count { (start : ℕ) → HasSpentOn (Some self.old) start steps.old →
+            HasSpentOn (Some self.new) start steps.new }
     {
         if u64::from(self.server.admitted()) < self.head.jobs {
             self.job(line, steps)

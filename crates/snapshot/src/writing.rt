@@ -12,7 +12,8 @@ use dover_core::Server;
 use dover_model::{Ratio, Role, Version};
 use line_text::LineBuf;
 
-/// Writes the first line, without its line feed, for a feed of so many lines (at most 4,000,000), at this mark (a tick) and with the jobs that are
+/// Writes the first line, without its line feed, for a feed of so many lines (at most 4,000,000), at this mark (a tick)
+/// and with the jobs that are
 /// admitted. The buffer is empty before, and has at most 128 bytes after.
 pub fn head(lines: u64, mark: u64, version: Version, k: Ratio, server: &Server, to: &mut LineBuf)
     requires lines { lines ≤ most_lines }
@@ -67,7 +68,8 @@ fn put_short(to: &mut LineBuf, number: u64)
     to.put_number(number);
 }
 
-/// Writes the line of the job of this number, which is below the count of admitted jobs, without its line feed. The buffer is empty before, and has at
+/// Writes the line of the job of this number, which is below the count of admitted jobs, without its line feed. The
+/// buffer is empty before, and has at
 /// most 128 bytes after.
 pub fn state(server: &Server, number: u32, to: &mut LineBuf)
     requires stands { Stands server.now }

@@ -1,6 +1,7 @@
 use Rattle.std.proofs.Common.{◌≡◌, ◌≤◌, ◌-◌, ℕ, List, length}
 use Rattle.dover_port.specs.Causes.{StaysWell}
 use Rattle.dover_port.specs.Moves.{Since}
+use Rattle.snapshot.specs.Spending.{HasSpentOn}
 use Rattle.resume_word.specs.Opening.{OpeningStands}
 use Rattle.resume_word.specs.Record.{GoesOn}
 use Rattle.resume_word.proofs.resume.resume_word.Given as goal
@@ -13,6 +14,7 @@ invariant-loop-reads g l = record {
   read_faults : g.P.Port.read_faults l.port ≡ g.P.Port.read_faults l.initial.port;
   write_faults : g.P.Port.write_faults l.port ≡ g.P.Port.write_faults l.initial.port;
   calls : StaysWell (g.P.Port.calls l.initial.port) (g.P.Port.calls l.port);
+  count : HasSpentOn l.opening.reader l.initial.steps l.steps;
 }
 
 abbrev pub decreases-loop-reads : goal.decreases-loop-reads

@@ -13,7 +13,8 @@ use Rattle.serve_word.proofs.feed.take_byte.Goals as goal
 
 pub returns-in-More-clause-delivers : goal.returns-in-More-clause-delivers
 returns-in-More-clause-delivers g c = λ x stands.
-    byte_nothing x _ _ _ _ (cut_on _ x c.args.byte stands.cut stands.short _ _ c.in-More.ensures.is c.in-More.ensures.last).2
+    byte_nothing x _ _ _ _ (cut_on _ x c.args.byte stands.cut stands.short _ _ c.in-More.ensures.is
+    c.in-More.ensures.last).2
     (stands.keeps.at.stands, stands.keeps.at.fits)
 
 pub returns-in-More-clause-stands : goal.returns-in-More-clause-stands
@@ -35,7 +36,8 @@ returns-in-More-clause-jobs g c = λ x stands.
 pub returns-in-Line-clause-delivers : goal.returns-in-Line-clause-delivers
 returns-in-Line-clause-delivers g c = λ x stands.
     let cut = cut_on _ x c.args.byte stands.cut stands.short _ _ c.in-Line.ensures.is c.in-Line.ensures.last in
-    subst (λ ls. Delivers c.take_line.result (g.P.Port.moves c.args.port.now) (g.P.Port.moves c.take_line.new.port) c.args.out.now
+    subst (λ ls. Delivers c.take_line.result (g.P.Port.moves c.args.port.now)
+    (g.P.Port.moves c.take_line.new.port) c.args.out.now
     c.take_line.new.out (account x) (account_of_lines ls) c.take_line.new.session.server) (sym cut.2)
     (rw c.line.ensures at (c.take_line.ensures.delivers _ stands.keeps))
 
@@ -46,7 +48,8 @@ returns-in-Line-clause-stands g c = λ x stands on.
     record {
       cut = cuts;
       short = sym cuts.over ∙ ap is_over (sym c.in-Line.ensures.last);
-      keeps = subst (Keeps c.take_line.new.session) (sym cut.2) (rw c.line.ensures at (c.take_line.ensures.keeps _ stands.keeps on));
+      keeps = subst (Keeps c.take_line.new.session) (sym cut.2)
+          (rw c.line.ensures at (c.take_line.ensures.keeps _ stands.keeps on));
     }
 
 pub returns-in-Line-clause-jobs : goal.returns-in-Line-clause-jobs
@@ -58,8 +61,10 @@ returns-in-Line-clause-jobs g c = λ x stands.
 pub returns-in-TooLong-clause-delivers : goal.returns-in-TooLong-clause-delivers
 returns-in-TooLong-clause-delivers g c = λ x stands.
     let cut = cut_on _ x c.args.byte stands.cut stands.short _ _ c.in-TooLong.ensures.is c.in-TooLong.ensures.last in
-    subst (λ ls. Delivers c.take_line-in-TooLong.result (g.P.Port.moves c.args.port.now) (g.P.Port.moves c.take_line-in-TooLong.new.port)
-    c.args.out.now c.take_line-in-TooLong.new.out (account x) (account_of_lines ls) c.take_line-in-TooLong.new.session.server) (sym cut.2)
+    subst (λ ls. Delivers c.take_line-in-TooLong.result (g.P.Port.moves c.args.port.now)
+    (g.P.Port.moves c.take_line-in-TooLong.new.port)
+    c.args.out.now c.take_line-in-TooLong.new.out (account x)
+    (account_of_lines ls) c.take_line-in-TooLong.new.session.server) (sym cut.2)
     (rw c.line-in-TooLong.ensures at (c.take_line-in-TooLong.ensures.delivers _ stands.keeps))
 
 pub returns-in-TooLong-clause-stands : goal.returns-in-TooLong-clause-stands

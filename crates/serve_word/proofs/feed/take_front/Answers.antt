@@ -11,7 +11,8 @@ use Rattle.serve_word.proofs.feed.take_front.Goals as goal
 pub returns-then-bytes-gt1-clause-delivers : goal.returns-then-bytes-gt1-clause-delivers
 returns-then-bytes-gt1-clause-delivers g c = λ x stands.
     let whole = c.requires.whole c.if-bytes-gt1.true in
-    subst (λ ls. Delivers c.take_line.result (g.P.Port.moves c.args.port.now) (g.P.Port.moves c.take_line.new.port) c.args.out.now
+    subst (λ ls. Delivers c.take_line.result (g.P.Port.moves c.args.port.now)
+    (g.P.Port.moves c.take_line.new.port) c.args.out.now
     c.take_line.new.out (account x) (account_of_lines ls) c.take_line.new.session.server)
     (sym (whole_more _ x c.args.bytes.now whole stands.cut.rest)) (c.take_line.ensures.delivers _ stands.keeps)
 

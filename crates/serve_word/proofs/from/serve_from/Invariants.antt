@@ -9,7 +9,8 @@ use Rattle.serve_word.proofs.from.serve_from.Given as goal
 -- The feed goes on from each that stood at first, what is due for it was put, and each read gave a byte.
 abbrev pub invariant-loop-reads : goal.invariant-loop-reads
 invariant-loop-reads g l = record {
-  moves : (x : List ℕ) → FeedStands l.initial.feed x → Since (g.P.Port.moves l.initial.port) (g.P.Port.moves l.port) (GoesOnFrom x l.feed);
+  moves : (x : List ℕ) → FeedStands l.initial.feed x
+      → Since (g.P.Port.moves l.initial.port) (g.P.Port.moves l.port) (GoesOnFrom x l.feed);
   empty : l.out ≡ [];
   stands : (x : List ℕ) × (l.reads ≤ length x) × FeedStands l.feed x;
   count : Spends l.initial.feed.session.server l.feed.session.server l.initial.steps l.steps;

@@ -13,7 +13,8 @@ settle-requires-clause-can g c = open_can (account c.requires.0) c.in-Some.serve
 pub returns-in-Err-settle-clause-closes : goal.returns-in-Err-settle-clause-closes
 returns-in-Err-settle-clause-closes g c = λ x stands. inl (
   (c.may_pause.ensures x stands).0 c.if-not-may_pause.false,
-  since_weaker _ _ _ _ (never_cut c.args.feed.now x stands c.in-Err.fault (c.in-Err.ensures.answer _ stands.keeps.intake)
+  since_weaker _ _ _ _ (never_cut c.args.feed.now x stands c.in-Err.fault
+      (c.in-Err.ensures.answer _ stands.keeps.intake)
       c.in-Some.server c.settle.new.server c.in-Some.is c.in-Err-settle.ensures.jobs c.in-Err-settle.field-0 _ _ _
       (rw c.new-out.ensures at c.in-Err-settle.ensures.settles)) (λ made it. absurd it),
 )
@@ -27,7 +28,8 @@ returns-in-Err-put_snapshot-clause-closes g c = λ x stands. inl (
   (c.may_pause.ensures x stands).0 c.if-not-may_pause.false,
   snapshot_cut c.args.feed.now x stands c.in-Err.fault (c.in-Err.ensures.answer _ stands.keeps.intake)
       c.in-Some.server c.settle.new.server c.in-Some.is c.in-Ok.ensures.jobs c.in-Ok.field-0 _ _ _
-      (rw c.new-out.ensures at c.in-Ok.ensures.settles) _ c.put_snapshot.new.out c.in-Err-put_snapshot.ensures.text.part,
+      (rw c.new-out.ensures at c.in-Ok.ensures.settles) _ c.put_snapshot.new.out
+      c.in-Err-put_snapshot.ensures.text.part,
 )
 
 pub returns-in-Ok-flush-clause-closes : goal.returns-in-Ok-flush-clause-closes
@@ -35,7 +37,8 @@ returns-in-Ok-flush-clause-closes g c = λ x stands. (
   (c.may_pause.ensures x stands).0 c.if-not-may_pause.false,
   snapshot_put c.args.feed.now x stands c.in-Err.fault (c.in-Err.ensures.answer _ stands.keeps.intake)
       c.in-Some.server c.settle.new.server c.in-Some.is c.in-Ok.ensures.jobs c.in-Ok.field-0 _ _ _
-      (rw c.new-out.ensures at c.in-Ok.ensures.settles) _ c.put_snapshot.new.out c.in-Ok-put_snapshot.ensures.text.all _ c.in-Ok-flush.ensures.text.all,
+      (rw c.new-out.ensures at c.in-Ok.ensures.settles) _ c.put_snapshot.new.out
+      c.in-Ok-put_snapshot.ensures.text.all _ c.in-Ok-flush.ensures.text.all,
 )
 
 pub returns-in-Err-flush-clause-closes : goal.returns-in-Err-flush-clause-closes
@@ -43,5 +46,6 @@ returns-in-Err-flush-clause-closes g c = λ x stands. inl (
   (c.may_pause.ensures x stands).0 c.if-not-may_pause.false,
   snapshot_unflushed c.args.feed.now x stands c.in-Err.fault (c.in-Err.ensures.answer _ stands.keeps.intake)
       c.in-Some.server c.settle.new.server c.in-Some.is c.in-Ok.ensures.jobs c.in-Ok.field-0 _ _ _
-      (rw c.new-out.ensures at c.in-Ok.ensures.settles) _ c.put_snapshot.new.out c.in-Ok-put_snapshot.ensures.text.all _ c.in-Err-flush.ensures.text.part,
+      (rw c.new-out.ensures at c.in-Ok.ensures.settles) _ c.put_snapshot.new.out
+      c.in-Ok-put_snapshot.ensures.text.all _ c.in-Err-flush.ensures.text.part,
 )

@@ -14,13 +14,15 @@ loop-number-preserved g c = record {
 pub returns-in-Err-clause-text : goal.returns-in-Err-clause-text
 returns-in-Err-clause-text g c = record {
   all = tt;
-  part = cuts_state c.args.server.now.state.tasks c.loop-number.number _ (sym c.state.ensures.text) _ _ _ _ _ c.put_line.new.out
+  part = cuts_state c.args.server.now.state.tasks
+      c.loop-number.number _ (sym c.state.ensures.text) _ _ _ _ _ c.put_line.new.out
       c.loop-number.invariant.passes c.in-Err.ensures.text.part;
 }
 
 pub returns-clause-text : goal.returns-clause-text
 returns-clause-text g c = record {
-  all = passes_all c.loop-number.number c.args.server.now.state.tasks (omega (arith, c.loop-number-test.false, c.admitted-number-end.ensures))
+  all = passes_all c.loop-number.number c.args.server.now.state.tasks
+      (omega (arith, c.loop-number-test.false, c.admitted-number-end.ensures))
       _ _ _ _ c.loop-number.invariant.passes;
   part = tt;
 }

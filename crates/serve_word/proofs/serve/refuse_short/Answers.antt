@@ -7,9 +7,11 @@ returns-in-Err-put_fault-clause-text g c =
     _ _ (rw c.new-out.ensures at c.in-Err-put_fault.ensures.text.part)
 
 pub returns-in-Ok-flush-clause-text : goal.returns-in-Ok-flush-clause-text
-returns-in-Ok-flush-clause-text g c = λ x stands. short_put c.args.feed.now x stands c.in-Err.fault (c.in-Err.ensures.answer _ stands.keeps.intake)
+returns-in-Ok-flush-clause-text g c =
+    λ x stands. short_put c.args.feed.now x stands c.in-Err.fault (c.in-Err.ensures.answer _ stands.keeps.intake)
     _ _ _ _ (rw c.new-out.ensures at c.in-Ok.ensures.text.all) c.in-Ok-flush.ensures.text.all
 
 pub returns-in-Err-flush-clause-text : goal.returns-in-Err-flush-clause-text
 returns-in-Err-flush-clause-text g c = λ x stands. short_unflushed c.args.feed.now x stands c.in-Err.fault
-    (c.in-Err.ensures.answer _ stands.keeps.intake) _ _ _ _ (rw c.new-out.ensures at c.in-Ok.ensures.text.all) c.in-Err-flush.ensures.text.part
+    (c.in-Err.ensures.answer _ stands.keeps.intake) _ _ _ _ (rw c.new-out.ensures at c.in-Ok.ensures.text.all)
+    c.in-Err-flush.ensures.text.part

@@ -17,7 +17,8 @@ settle-requires-clause-can g c =
 
 pub returns-in-Err-settle-clause-delivers : goal.returns-in-Err-settle-clause-delivers
 returns-in-Err-settle-clause-delivers g c = λ n a b at adds. arrival_cut a b n _ c.in-Some.server _
-    (subst (λ o. IsOpenAt a o c.args.session.now.mark) c.in-Some.is at) adds _ _ c.in-Ok.ensures.kept _ _ _ _ c.settle.new.server _ _
+    (subst (λ o. IsOpenAt a o c.args.session.now.mark) c.in-Some.is at)
+    adds _ _ c.in-Ok.ensures.kept _ _ _ _ c.settle.new.server _ _
     (settles_at _ _ _ _ _ _ _ _ _ c.release-release.ensures.is c.in-Err-settle.ensures.settles)
 
 pub admit-requires-clause-valid : goal.admit-requires-clause-valid
@@ -32,18 +33,21 @@ settle-requires-2-clause-can g c =
     let at : IsOpenAt c.requires.1 (Some c.in-Some.server) c.args.session.now.mark =
     subst (λ o. IsOpenAt c.requires.1 o c.args.session.now.mark) c.in-Some.is c.requires.3 in
     admitted_can _ _ _ _ _ _ at c.requires.4 _ _ c.in-Ok.ensures.kept _ _ _ _ _ tt
-    (settles_at _ _ _ _ _ _ _ _ _ c.release-release.ensures.is c.in-Ok-settle.ensures.settles) _ _ c.in-Ok-admit.ensures.ok
+    (settles_at _ _ _ _ _ _ _ _ _ c.release-release.ensures.is
+    c.in-Ok-settle.ensures.settles) _ _ c.in-Ok-admit.ensures.ok
 
 pub returns-in-Ok-settle-2-clause-delivers : goal.returns-in-Ok-settle-2-clause-delivers
 returns-in-Ok-settle-2-clause-delivers g c = λ n a b at adds. arrival_delivers a b n _ c.in-Some.server _
     (subst (λ o. IsOpenAt a o c.args.session.now.mark) c.in-Some.is at) adds _ _ c.in-Ok.ensures.kept _ _ _ _ _ tt
-    (settles_at _ _ _ _ _ _ _ _ _ c.release-release.ensures.is c.in-Ok-settle.ensures.settles) _ _ c.in-Ok-admit.ensures.ok _ _ _ tt
+    (settles_at _ _ _ _ _ _ _ _ _ c.release-release.ensures.is
+    c.in-Ok-settle.ensures.settles) _ _ c.in-Ok-admit.ensures.ok _ _ _ tt
     (settles_at _ _ _ _ _ _ _ _ _ c.release-release.ensures.is c.in-Ok-settle-2.ensures.settles)
 
 pub returns-in-Err-settle-2-clause-delivers : goal.returns-in-Err-settle-2-clause-delivers
 returns-in-Err-settle-2-clause-delivers g c = λ n a b at adds. arrival_part a b n _ c.in-Some.server _
     (subst (λ o. IsOpenAt a o c.args.session.now.mark) c.in-Some.is at) adds _ _ c.in-Ok.ensures.kept _ _ _ _ _ tt
-    (settles_at _ _ _ _ _ _ _ _ _ c.release-release.ensures.is c.in-Ok-settle.ensures.settles) _ _ c.in-Ok-admit.ensures.ok _ _ _ _ _
+    (settles_at _ _ _ _ _ _ _ _ _ c.release-release.ensures.is
+    c.in-Ok-settle.ensures.settles) _ _ c.in-Ok-admit.ensures.ok _ _ _ _ _
     (settles_at _ _ _ _ _ _ _ _ _ c.release-release.ensures.is c.in-Err-settle-2.ensures.settles)
 
 pub returns-in-Ok-settle-2-clause-count : goal.returns-in-Ok-settle-2-clause-count

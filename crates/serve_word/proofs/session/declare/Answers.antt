@@ -13,7 +13,8 @@ no_mark k version a b declares = ap (λ (x : Account). x.mark) declares.after_is
 
 pub returns-in_default-clause-delivers : goal.returns-in_default-clause-delivers
 returns-in_default-clause-delivers g c =
-    λ a b at declares. line_none a b _ (header_due a b _ _ declares.first at.stands declares.after_is (no_mark _ _ a b declares))
+    λ a b at declares. line_none a
+    b _ (header_due a b _ _ declares.first at.stands declares.after_is (no_mark _ _ a b declares))
     _ _ _ _ _ refl (header_declared a b _ _ declares.first at.stands declares.after_is (no_mark _ _ a b declares))
 
 pub returns-in-Ok-put_header-clause-delivers : goal.returns-in-Ok-put_header-clause-delivers
@@ -24,5 +25,6 @@ returns-in-Ok-put_header-clause-delivers g c = λ a b at declares. line_all a b 
 
 pub returns-in-Err-clause-delivers : goal.returns-in-Err-clause-delivers
 returns-in-Err-clause-delivers g c =
-    λ a b at declares. line_part a b _ (header_due a b _ _ declares.first at.stands declares.after_is (no_mark _ _ a b declares))
+    λ a b at declares. line_part a
+    b _ (header_due a b _ _ declares.first at.stands declares.after_is (no_mark _ _ a b declares))
     _ _ _ _ _ c.in-Err.ensures.text.part

@@ -15,7 +15,8 @@ take_fed-requires g c = let keeps = c.requires in (
 
 pub returns-in-Ok-clause-keeps : goal.returns-in-Ok-clause-keeps
 returns-in-Ok-clause-keeps g c = λ ls keeps is. record {
-  intake = subst (λ i. feed.StandsFor i (ls ++ c.args.line.now ∷ [])) (sym c.take_fed.ensures.intake) (c.in-Ok.ensures.stands ls keeps.intake);
+  intake = subst (λ i. feed.StandsFor i (ls ++ c.args.line.now ∷ [])) (sym c.take_fed.ensures.intake)
+      (c.in-Ok.ensures.stands ls keeps.intake);
   goes_on = ap feed.has_ended c.take_fed.ensures.intake
       ∙ not_then _ (λ ended. c.take_fed.ensures.goes_on is (let e = c.in-Ok.ensures.ended.0 ended in cc));
   at = open_next _ _ _ _ _ _ (ls ++ c.args.line.now ∷ []) _ _
@@ -28,4 +29,5 @@ returns-in-Err-clause-delivers g c = λ ls keeps. c.refuse.ensures.delivers _ _ 
     (new_fault _ _ _ _ keeps.at.stands (c.in-Err.ensures.answer ls keeps.intake))
 
 pub returns-in-Ok-clause-jobs : goal.returns-in-Ok-clause-jobs
-returns-in-Ok-clause-jobs g c = λ ls keeps. line_jobs _ _ _ _ _ keeps.at.fits (c.in-Ok.ensures.answer ls keeps.intake).1 c.take_fed.ensures.jobs
+returns-in-Ok-clause-jobs g c =
+    λ ls keeps. line_jobs _ _ _ _ _ keeps.at.fits (c.in-Ok.ensures.answer ls keeps.intake).1 c.take_fed.ensures.jobs

@@ -39,11 +39,13 @@ loop-event-preserved g c = record {
 }
 
 pub returns-in-Err-clause-finishes : goal.returns-in-Err-clause-finishes
-returns-in-Err-clause-finishes g c = finishing_cut _ _ _ _ _ _ _ _ c.step.new.self _ c.loop-event.invariant.rules c.loop-event.invariant.taken
+returns-in-Err-clause-finishes g c =
+    finishing_cut _ _ _ _ _ _ _ _ c.step.new.self _ c.loop-event.invariant.rules c.loop-event.invariant.taken
     (goes_on_while _ c.in-Some.ensures.after_end) c.in-Some.ensures.some c.in-Err.failed c.in-Err.ensures.text.part
 
 pub returns-clause-finishes : goal.returns-clause-finishes
-returns-clause-finishes g c = finishing_ends _ _ _ _ _ _ tt c.loop-event.invariant.taken (c.in_default.ensures.none refl).0
+returns-clause-finishes g c =
+    finishing_ends _ _ _ _ _ _ tt c.loop-event.invariant.taken (c.in_default.ensures.none refl).0
 
 pub returns-in-Err-clause-count : goal.returns-in-Err-clause-count
 returns-in-Err-clause-count g c = spends_then _ _ _ _ _ _ c.loop-event.invariant.count

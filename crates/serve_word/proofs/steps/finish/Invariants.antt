@@ -9,7 +9,8 @@ use Rattle.serve_word.proofs.steps.finish.Given as goal
 -- The run was taken some steps further and their lines put, and nothing else has changed.
 abbrev pub invariant-loop-event : goal.invariant-loop-event
 invariant-loop-event g l = record {
-  taken : IsFinishing (g.P.Port.moves l.initial.port) (g.P.Port.moves l.port) l.initial.out l.out l.initial.server l.server;
+  taken : IsFinishing (g.P.Port.moves l.initial.port)
+      (g.P.Port.moves l.port) l.initial.out l.out l.initial.server l.server;
   can : CanGoOn l.server;
   follows : MayFollow l.server.last End;
   rules : l.server.rules ≡ l.initial.server.rules;

@@ -26,12 +26,14 @@ put_event-requires g c =
 
 pub loop-event-preserved : goal.loop-event-preserved
 loop-event-preserved g c = record {
-  taken = settling_next _ _ _ _ _ _ _ _ _ _ _ c.loop-event.invariant.rules c.loop-event.invariant.taken c.in-Some.ensures.some
+  taken = settling_next _ _ _ _ _ _ _ _ _ _ _ c.loop-event.invariant.rules c.loop-event.invariant.taken
+      c.in-Some.ensures.some
       c.in-Ok.ensures.text.all;
   can = stands_can _ c.in-Some.ensures.stands;
   follows = again _ _ _ c.requires.follows c.in-Some.ensures.last;
   rules = c.in-Some.ensures.rules ∙ c.loop-event.invariant.rules;
-  goes_on = or_fails _ _ _ c.in-Some.ensures.ended (mark_not_end _ c.loop-event.invariant.can c.step.new.self _ _ c.in-Some.ensures.some)
+  goes_on = or_fails _ _ _ c.in-Some.ensures.ended
+      (mark_not_end _ c.loop-event.invariant.can c.step.new.self _ _ c.in-Some.ensures.some)
       ∙ c.loop-event.invariant.goes_on;
   spare = omega (arith, c.loop-event.invariant.spare, c.in-Some.ensures.spare);
   jobs = c.in-Some.ensures.list ∙ c.loop-event.invariant.jobs;
@@ -43,16 +45,20 @@ loop-event-preserved g c = record {
 }
 
 pub returns-in-Err-clause-settles : goal.returns-in-Err-clause-settles
-returns-in-Err-clause-settles g c = settling_cut _ _ _ _ _ _ _ _ _ c.step.new.self _ c.loop-event.invariant.rules c.loop-event.invariant.taken
-    c.in-Some.ensures.some c.in-Err.failed c.in-Err.ensures.text.part (c.in-Some.ensures.rules ∙ c.loop-event.invariant.rules)
+returns-in-Err-clause-settles g c =
+    settling_cut _ _ _ _ _ _ _ _ _ c.step.new.self _ c.loop-event.invariant.rules c.loop-event.invariant.taken
+    c.in-Some.ensures.some c.in-Err.failed c.in-Err.ensures.text.part
+    (c.in-Some.ensures.rules ∙ c.loop-event.invariant.rules)
     c.in-Some.ensures.last
-    (or_fails _ _ _ c.in-Some.ensures.ended (mark_not_end _ c.loop-event.invariant.can c.step.new.self _ _ c.in-Some.ensures.some)
+    (or_fails _ _ _ c.in-Some.ensures.ended
+    (mark_not_end _ c.loop-event.invariant.can c.step.new.self _ _ c.in-Some.ensures.some)
     ∙ c.loop-event.invariant.goes_on)
     (omega (arith, c.loop-event.invariant.spare, c.in-Some.ensures.spare))
 
 pub returns-clause-settles : goal.returns-clause-settles
 returns-clause-settles g c = settling_ends _ _ _ _ _ _ _ _ tt c.loop-event.invariant.rules c.loop-event.invariant.taken
-    (c.in_default.ensures.none refl) (c.in_default.ensures.rules ∙ c.loop-event.invariant.rules) c.in_default.ensures.last
+    (c.in_default.ensures.none refl)
+    (c.in_default.ensures.rules ∙ c.loop-event.invariant.rules) c.in_default.ensures.last
     (or_fails _ _ _ c.in_default.ensures.ended refl ∙ c.loop-event.invariant.goes_on) c.in_default.ensures.ready
     (omega (arith, c.loop-event.invariant.spare, c.in_default.ensures.spare))
 

@@ -9,7 +9,8 @@ use Rattle.serve_word.proofs.steps.settle.Given as goal
 -- Some steps were taken and their lines put, and nothing else has changed.
 abbrev pub invariant-loop-event : goal.invariant-loop-event
 invariant-loop-event g l = record {
-  taken : IsSettling (g.P.Port.moves l.initial.port) (g.P.Port.moves l.port) l.initial.out l.out l.mark l.initial.server l.server;
+  taken : IsSettling (g.P.Port.moves l.initial.port)
+      (g.P.Port.moves l.port) l.initial.out l.out l.mark l.initial.server l.server;
   can : CanGoOn l.server;
   follows : MayFollow l.server.last (Mark l.mark);
   rules : l.server.rules ≡ l.initial.server.rules;

@@ -19,30 +19,38 @@ returns-in-Err-clause-makes g c = λ x stands.
 pub returns-in-Err-NoMemory-clause-makes : goal.returns-in-Err-NoMemory-clause-makes
 returns-in-Err-NoMemory-clause-makes g c = λ x stands.
     turn_no_memory _ _ _ x _ (some_front _ _ c.if-count-eq0.false c.in-Ok.ensures.bound) c.in-Ok.ensures.moved _ _
-    c.take_piece.new.feed (rw (c.in-Err-NoMemory.field-0-is, c.requires.empty) at (c.in-Err-NoMemory.ensures.delivers x stands))
+    c.take_piece.new.feed (rw (c.in-Err-NoMemory.field-0-is, c.requires.empty) at
+    (c.in-Err-NoMemory.ensures.delivers x stands))
 
 pub returns-in-Err-Unwritten-clause-makes : goal.returns-in-Err-Unwritten-clause-makes
 returns-in-Err-Unwritten-clause-makes g c = λ x stands.
     turn_unwritten _ _ _ x _ (some_front _ _ c.if-count-eq0.false c.in-Ok.ensures.bound) c.in-Ok.ensures.moved _ _
-    c.take_piece.new.feed (rw (c.in-Err-Unwritten.field-0-is, c.requires.empty) at (c.in-Err-Unwritten.ensures.delivers x stands))
+    c.take_piece.new.feed (rw (c.in-Err-Unwritten.field-0-is, c.requires.empty) at
+    (c.in-Err-Unwritten.ensures.delivers x stands))
 
 pub returns-in-Ok-flush-clause-jobs : goal.returns-in-Ok-flush-clause-jobs
-returns-in-Ok-flush-clause-jobs g c = λ x stands. turn_jobs _ _ _ _ x _ (some_front _ _ c.if-count-eq0.false c.in-Ok.ensures.bound)
-    c.in-Ok.ensures.moved _ _ _ _ (c.in-Ok-take_piece.ensures.delivers x stands) (made_puts _ _ _ c.in-Ok-flush.ensures.text.all)
+returns-in-Ok-flush-clause-jobs g c =
+    λ x stands. turn_jobs _ _ _ _ x _ (some_front _ _ c.if-count-eq0.false c.in-Ok.ensures.bound)
+    c.in-Ok.ensures.moved _ _ _ _ (c.in-Ok-take_piece.ensures.delivers x stands)
+    (made_puts _ _ _ c.in-Ok-flush.ensures.text.all)
     (c.in-Ok-take_piece.ensures.jobs x stands)
 
 pub returns-in-Err-clause-jobs : goal.returns-in-Err-clause-jobs
-returns-in-Err-clause-jobs g c = λ x stands. turn_jobs _ _ _ _ x _ (some_front _ _ c.if-count-eq0.false c.in-Ok.ensures.bound)
-    c.in-Ok.ensures.moved _ _ _ _ (c.in-Ok-take_piece.ensures.delivers x stands) (made_puts _ _ _ c.in-Err.ensures.text.part)
+returns-in-Err-clause-jobs g c =
+    λ x stands. turn_jobs _ _ _ _ x _ (some_front _ _ c.if-count-eq0.false c.in-Ok.ensures.bound)
+    c.in-Ok.ensures.moved _ _ _ _ (c.in-Ok-take_piece.ensures.delivers x stands)
+    (made_puts _ _ _ c.in-Err.ensures.text.part)
     (c.in-Ok-take_piece.ensures.jobs x stands)
 
 pub returns-in-Err-NoMemory-clause-jobs : goal.returns-in-Err-NoMemory-clause-jobs
-returns-in-Err-NoMemory-clause-jobs g c = λ x stands. turn_jobs _ _ _ _ x _ (some_front _ _ c.if-count-eq0.false c.in-Ok.ensures.bound)
+returns-in-Err-NoMemory-clause-jobs g c =
+    λ x stands. turn_jobs _ _ _ _ x _ (some_front _ _ c.if-count-eq0.false c.in-Ok.ensures.bound)
     c.in-Ok.ensures.moved _ _ _ _ (c.in-Err-NoMemory.ensures.delivers x stands) (no_puts _)
     (c.in-Err-NoMemory.ensures.jobs x stands)
 
 pub returns-in-Err-Unwritten-clause-jobs : goal.returns-in-Err-Unwritten-clause-jobs
-returns-in-Err-Unwritten-clause-jobs g c = λ x stands. turn_jobs _ _ _ _ x _ (some_front _ _ c.if-count-eq0.false c.in-Ok.ensures.bound)
+returns-in-Err-Unwritten-clause-jobs g c =
+    λ x stands. turn_jobs _ _ _ _ x _ (some_front _ _ c.if-count-eq0.false c.in-Ok.ensures.bound)
     c.in-Ok.ensures.moved _ _ _ _ (c.in-Err-Unwritten.ensures.delivers x stands) (no_puts _)
     (c.in-Err-Unwritten.ensures.jobs x stands)
 
@@ -58,9 +66,11 @@ returns-in-Err-clause-causes g c = (
 )
 
 pub returns-in-Err-NoMemory-clause-causes : goal.returns-in-Err-NoMemory-clause-causes
-returns-in-Err-NoMemory-clause-causes g c = let k = rw c.in-Err-NoMemory.field-0-is at c.in-Err-NoMemory.ensures.cause in
+returns-in-Err-NoMemory-clause-causes g c = let k =
+    rw c.in-Err-NoMemory.field-0-is at c.in-Err-NoMemory.ensures.cause in
     (k.1 ∙ c.in-Ok.ensures.cause.ok, k.0 ∙ c.in-Ok.ensures.cause.other)
 
 pub returns-in-Err-Unwritten-clause-causes : goal.returns-in-Err-Unwritten-clause-causes
-returns-in-Err-Unwritten-clause-causes g c = let k = rw c.in-Err-Unwritten.field-0-is at c.in-Err-Unwritten.ensures.cause in
+returns-in-Err-Unwritten-clause-causes g c = let k =
+    rw c.in-Err-Unwritten.field-0-is at c.in-Err-Unwritten.ensures.cause in
     (k.1 ∙ c.in-Ok.ensures.cause.ok, rose_from c.in-Ok.ensures.cause.other k.0)

@@ -15,4 +15,5 @@ hand-requires-clause-good c = (
 
 pub returns : goal.returns
 returns c = begin_fed (head_in c.args.head.now) c.ratio_line.ensures.ratio c.hand.new.intake
-    (subst (λ line. StandsFor c.hand.new.intake (feed_text line ∷ [])) c.ratio_line.ensures.is (c.hand.ensures.stands [] c.new-intake.ensures.stands))
+    (subst (λ line. StandsFor c.hand.new.intake (feed_text line ∷ [])) c.ratio_line.ensures.is
+    (c.hand.ensures.stands [] c.new-intake.ensures.stands))

@@ -9,15 +9,18 @@ use Rattle.snapshot.proofs.feeding.hand_ticks.Goals as goal
 pub hand-requires-clause-good : goal.hand-requires-clause-good
 hand-requires-clause-good c = (
   job_lines (head_in c.args.head.now) c.requires.0,
-  tick_good (head_in c.args.head.now) c.requires.0 c.requires.2 c.requires.1.account c.if-head.true c.args.intake.now c.requires.1.stands,
+  tick_good (head_in c.args.head.now) c.requires.0 c.requires.2 c.requires.1.account c.if-head.true c.args.intake.now
+      c.requires.1.stands,
 )
 
 pub skip-requires-clause-going : goal.skip-requires-clause-going
-skip-requires-clause-going c = tick_going (head_in c.args.head.now) c.requires.0 c.requires.2 c.requires.1.account c.if-head.true c.hand.new.intake
+skip-requires-clause-going c =
+    tick_going (head_in c.args.head.now) c.requires.0 c.requires.2 c.requires.1.account c.if-head.true c.hand.new.intake
     (c.hand.ensures.stands (job_lines (head_in c.args.head.now) c.requires.0) c.requires.1.stands)
 
 pub skip-requires-clause-room : goal.skip-requires-clause-room
-skip-requires-clause-room c = tick_room (head_in c.args.head.now) c.requires.0 c.requires.2 c.requires.1.account c.if-head.true c.hand.new.intake
+skip-requires-clause-room c =
+    tick_room (head_in c.args.head.now) c.requires.0 c.requires.2 c.requires.1.account c.if-head.true c.hand.new.intake
     (c.hand.ensures.stands (job_lines (head_in c.args.head.now) c.requires.0) c.requires.1.stands)
 
 pub returns-then-head : goal.returns-then-head

@@ -1,4 +1,5 @@
-use Rattle.snapshot.proofs.Spelled.{read_head-head_line, head_line-read_head, read_task-state_line, state_line-read_task}
+use Rattle.snapshot.proofs.Spelled.{read_head-head_line, head_line-read_head, read_task-state_line}
+use Rattle.snapshot.proofs.Spelled.{state_line-read_task}
 use Rattle.snapshot.proofs.laws.lines_have_one_spelling.Goals as goal
 
 pub returns-clause-head_again : goal.returns-clause-head_again

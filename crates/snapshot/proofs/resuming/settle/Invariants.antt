@@ -1,6 +1,7 @@
-use Rattle.std.proofs.Common.{◌≡◌}
+use Rattle.std.proofs.Common.{◌≡◌, ℕ}
 use Rattle.dover_core.specs.declared.horizon.Horizon.TheVariants.{Mark}
 use Rattle.dover_core.specs.Service.{MayFollow, list_of, steps_left}
+use Rattle.dover_core.specs.Spending.{HasSpent}
 use Rattle.snapshot.specs.Taken.{HasTaken}
 use Rattle.snapshot.proofs.resuming.settle.Given as goal
 
@@ -10,6 +11,7 @@ invariant-loop g l = record {
   taken : HasTaken l.server l.mark;
   follows : MayFollow l.server.last (Mark l.mark);
   list : list_of l.server ≡ list_of l.initial.server;
+  count : (start : ℕ) → HasSpent l.initial.server.state start l.initial.steps → HasSpent l.server.state start l.steps;
 }
 
 abbrev pub decreases-loop : goal.decreases-loop

@@ -7,12 +7,15 @@ use Rattle.snapshot.specs.declared.resuming.Resuming.{Resuming}
 use Rattle.snapshot.proofs.Whole.{is_snapshot, resumes_feed}
 use Rattle.snapshot.proofs.reader.Reader.take.Goals as goal
 
-pub returns : goal.returns
-returns c = λ ls it.
-    let ready : IsReady (Some c.in-Some.resuming) ls = subst (λ o. IsReady o ls) (sym c.self.view_is ∙ c.in-Some.is) it in
+pub returns-clause-gives : goal.returns-clause-gives
+returns-clause-gives c = λ ls it.
+    let ready : IsReady (Some c.in-Some.resuming) ls =
+    subst (λ o. IsReady o ls) (sym c.self.view_is ∙ c.in-Some.is) it in
     subst (λ (p : Service × Kept). Gives p.0 p.1 ls)
-    (sym (c.into_parts.ensures ∙ ap (λ (r : Resuming). let p : Service × Kept = (r.server, r.intake) in p) c.in-Some.resuming-is))
+    (sym (c.into_parts.ensures
+    ∙ ap (λ (r : Resuming). let p : Service × Kept = (r.server, r.intake) in p) c.in-Some.resuming-is))
     (record {
       is = is_snapshot ready.0 ready.1 ls ready.2;
-      each = λ F may text. resumes_feed ready.0 ready.1 ls ready.2 F may text c.in-Some.resuming.server c.in-Some.resuming.intake ready.3;
+      each = λ F may text. resumes_feed ready.0 ready.1 ls ready.2 F may text c.in-Some.resuming.server
+          c.in-Some.resuming.intake ready.3;
     })

@@ -8,8 +8,10 @@ use Rattle.snapshot.proofs.resuming.Resuming.begin.Goals as goal
 
 pub returns : goal.returns
 returns c =
-    let read : HasRead (head_in c.in-Some.head) [] (c.args.line.now ∷ []) = head_stands c.args.line.now (head_in c.in-Some.head)
-    (sym c.read_head.ensures ∙ ap (option_map head_in) c.in-Some.is) (sym c.is_within_limits.ensures ∙ c.if-not-is_within_limits.false) in (
+    let read : HasRead (head_in c.in-Some.head) [] (c.args.line.now ∷ []) =
+    head_stands c.args.line.now (head_in c.in-Some.head)
+    (sym c.read_head.ensures ∙ ap (option_map head_in) c.in-Some.is)
+    (sym c.is_within_limits.ensures ∙ c.if-not-is_within_limits.false) in (
       head_in c.in-Some.head,
       [],
       read,
@@ -24,6 +26,8 @@ returns c =
 
 pub returns-in_default-new : goal.returns-in_default-new
 returns-in_default-new c =
-    let read : HasRead (head_in c.in-Some.head) [] (c.args.line.now ∷ []) = head_stands c.args.line.now (head_in c.in-Some.head)
-    (sym c.read_head.ensures ∙ ap (option_map head_in) c.in-Some.is) (sym c.is_within_limits.ensures ∙ c.if-not-is_within_limits.false) in
+    let read : HasRead (head_in c.in-Some.head) [] (c.args.line.now ∷ []) =
+    head_stands c.args.line.now (head_in c.in-Some.head)
+    (sym c.read_head.ensures ∙ ap (option_map head_in) c.in-Some.is)
+    (sym c.is_within_limits.ensures ∙ c.if-not-is_within_limits.false) in
     (head_in c.in-Some.head, [], read.reads)

@@ -5,7 +5,9 @@ use Rattle.snapshot.specs.Forms.{task_in}
 use Rattle.snapshot.specs.Snapshot.{Head}
 use Rattle.snapshot.specs.declared.resuming.Resuming.{Resuming}
 use Rattle.snapshot.specs.Kept.{IsFed, IsServed}
-use Rattle.snapshot.proofs.Stepping.{served_count, jobs_count, room, none_refused, job_short, beyond_refused, may_admit, served_at, read_more, holds_more}
+use Rattle.snapshot.proofs.Stepping.{served_count, jobs_count, room, none_refused, job_short, beyond_refused, may_admit}
+use Rattle.snapshot.proofs.Stepping.{served_at, read_more, holds_more}
+use Rattle.snapshot.proofs.Spending.{jobs_now}
 use Rattle.snapshot.proofs.resuming.Resuming.job.Goals as goal
 
 pub hand_job-requires-clause-numerals : goal.hand_job-requires-clause-numerals
@@ -35,71 +37,125 @@ hand_job-requires-clause-fed g c =
           )),
     )
 
-pub returns-in_default : goal.returns-in_default
-returns-in_default g c = λ ls it. none_refused it.0 it.1 ls it.2 c.args.self.now it.3 c.args.line.now
-    (omega (arith, c.requires.more, served_count it.0 it.1 ls it.2 c.args.self.now it.3, jobs_count it.0 it.1 ls it.2 c.args.self.now it.3))
-    c.from-number.result (c.from-number.ensures ∙ c.admitted.ensures) (sym c.read_state.ensures ∙ ap (option_map task_in) c.in_default.is)
+pub returns-in_default-clause-answers : goal.returns-in_default-clause-answers
+returns-in_default-clause-answers g c = λ ls it. none_refused it.0 it.1 ls it.2 c.args.self.now it.3 c.args.line.now
+    (omega (
+      arith,
+      c.requires.more,
+      served_count it.0 it.1 ls it.2 c.args.self.now it.3,
+      jobs_count it.0 it.1 ls it.2 c.args.self.now it.3,
+    ))
+    c.from-number.result (c.from-number.ensures ∙ c.admitted.ensures)
+    (sym c.read_state.ensures ∙ ap (option_map task_in) c.in_default.is)
 
-pub returns-in_default-hand_job : goal.returns-in_default-hand_job
-returns-in_default-hand_job g c = λ ls it.
-    let more : length it.1 < it.0.jobs = omega (arith, c.requires.more, served_count it.0 it.1 ls it.2 c.args.self.now it.3, jobs_count it.0 it.1 ls it.2 c.args.self.now it.3) in
+pub returns-in_default-hand_job-clause-answers : goal.returns-in_default-hand_job-clause-answers
+returns-in_default-hand_job-clause-answers g c = λ ls it.
+    let more : length it.1 < it.0.jobs =
+    omega (
+      arith,
+      c.requires.more,
+      served_count it.0 it.1 ls it.2 c.args.self.now it.3,
+      jobs_count it.0 it.1 ls it.2 c.args.self.now it.3,
+    ) in
     beyond_refused it.0 it.1 ls it.2 c.args.self.now it.3 c.args.line.now more (task_in c.in-Some.state)
-    (sym c.read_state.ensures ∙ ap (option_map task_in) c.in-Some.is) c.from-number.result (c.from-number.ensures ∙ c.admitted.ensures)
-    (λ number valid low. c.in_default-hand_job.ensures.none it.0 it.1 it.3.fed (room it.0 it.1 ls it.2 c.args.self.now it.3 more) refl valid)
+    (sym c.read_state.ensures ∙ ap (option_map task_in) c.in-Some.is) c.from-number.result
+    (c.from-number.ensures ∙ c.admitted.ensures)
+    (λ number valid low. c.in_default-hand_job.ensures.none it.0 it.1 it.3.fed
+    (room it.0 it.1 ls it.2 c.args.self.now it.3 more) refl valid)
 
 pub admit-requires : goal.admit-requires
 admit-requires g c =
     let ls = c.requires.reading.0 in let h = c.requires.reading.1.0 in let tasks = c.requires.reading.1.1 in
     let read = c.requires.reading.1.2 in let it = c.requires.reading.1.3 in
-    let more : length tasks < h.jobs = omega (arith, c.requires.more, served_count h tasks ls read c.args.self.now it, jobs_count h tasks ls read c.args.self.now it) in
+    let more : length tasks < h.jobs =
+    omega (
+      arith,
+      c.requires.more,
+      served_count h tasks ls read c.args.self.now it,
+      jobs_count h tasks ls read c.args.self.now it,
+    ) in
     let some = c.in-Some-hand_job.ensures.some h tasks it.fed (room h tasks ls read c.args.self.now it more) in
     let spelled = sym c.read_state.ensures ∙ ap (option_map task_in) c.in-Some.is in (
       h,
       tasks,
       served_at h tasks ls read c.args.self.now it c.args.line.now more (task_in c.in-Some.state) spelled some.1,
-      may_admit h tasks ls read c.args.self.now it c.args.line.now more (task_in c.in-Some.state) spelled some.1 c.in-Some-hand_job.job some.0,
+      may_admit h tasks ls read c.args.self.now it c.args.line.now more
+          (task_in c.in-Some.state) spelled some.1 c.in-Some-hand_job.job some.0,
     )
 
-pub returns-in-Ok-admit : goal.returns-in-Ok-admit
-returns-in-Ok-admit g c = λ ls it.
+pub returns-in-Ok-admit-clause-answers : goal.returns-in-Ok-admit-clause-answers
+returns-in-Ok-admit-clause-answers g c = λ ls it.
     let h = it.0 in let tasks = it.1 in
-    let more : length tasks < h.jobs = omega (arith, c.requires.more, served_count h tasks ls it.2 c.args.self.now it.3, jobs_count h tasks ls it.2 c.args.self.now it.3) in
+    let more : length tasks < h.jobs =
+    omega (
+      arith,
+      c.requires.more,
+      served_count h tasks ls it.2 c.args.self.now it.3,
+      jobs_count h tasks ls it.2 c.args.self.now it.3,
+    ) in
     let some = c.in-Some-hand_job.ensures.some h tasks it.3.fed (room h tasks ls it.2 c.args.self.now it.3 more) in
     let spelled = sym c.read_state.ensures ∙ ap (option_map task_in) c.in-Some.is in
-    let served = served_at h tasks ls it.2 c.args.self.now it.3 c.args.line.now more (task_in c.in-Some.state) spelled some.1 in
-    let may = may_admit h tasks ls it.2 c.args.self.now it.3 c.args.line.now more (task_in c.in-Some.state) spelled some.1 c.in-Some-hand_job.job some.0 in
+    let served = served_at h tasks ls it.2 c.args.self.now it.3 c.args.line.now more
+    (task_in c.in-Some.state) spelled some.1 in
+    let may = may_admit h tasks ls it.2 c.args.self.now it.3 c.args.line.now more
+    (task_in c.in-Some.state) spelled some.1 c.in-Some-hand_job.job some.0 in
     let same = c.in-Ok-admit.ensures.same in (
       h,
       tasks ++ task_in c.in-Some.state ∷ [],
       read_more h tasks ls it.2 c.args.self.now it.3 c.args.line.now more (task_in c.in-Some.state) spelled some.1
-          (c.if-state-number.false ∙ c.from-number.ensures ∙ c.admitted.ensures ∙ served_count h tasks ls it.2 c.args.self.now it.3)
+          (c.if-state-number.false ∙ c.from-number.ensures ∙ c.admitted.ensures
+          ∙ served_count h tasks ls it.2 c.args.self.now it.3)
           (omega (arith, c.if-state-self.false, ap (λ (x : Head). x.mark) it.3.head)),
-      holds_more h tasks ls it.2 c.args.self.now it.3 c.args.line.now more (task_in c.in-Some.state) spelled some.1 c.admit.new.self
-          (ap (λ (x : Resuming). x.head) same) (ap (λ (x : Resuming). x.last) same ∙ ap (λ (j : JobFacts). j.release) some.0)
+      holds_more h tasks ls it.2 c.args.self.now it.3 c.args.line.now more
+          (task_in c.in-Some.state) spelled some.1 c.admit.new.self
+          (ap (λ (x : Resuming). x.head) same)
+          (ap (λ (x : Resuming). x.last) same ∙ ap (λ (j : JobFacts). j.release) some.0)
           (ap (λ (x : Resuming). x.stances.items) same ∙ c.in-Ok.ensures.items)
-          (subst (λ i. IsFed i h (tasks ++ task_in c.in-Some.state ∷ [])) (sym (ap (λ (x : Resuming). x.intake) same)) some.2)
-          (subst (λ (j : JobFacts). IsServed c.admit.new.self.server h (tasks ++ task_in c.in-Some.state ∷ []) j.release) some.0
+          (subst (λ i. IsFed i h (tasks ++ task_in c.in-Some.state ∷ []))
+          (sym (ap (λ (x : Resuming). x.intake) same)) some.2)
+          (subst (λ (j : JobFacts). IsServed c.admit.new.self.server h
+          (tasks ++ task_in c.in-Some.state ∷ []) j.release) some.0
           (c.in-Ok-admit.ensures.served h tasks (task_in c.in-Some.state) served may (sym some.0))),
     )
 
-pub returns-in-Err : goal.returns-in-Err
-returns-in-Err g c = λ ls it.
+pub returns-in-Err-clause-answers : goal.returns-in-Err-clause-answers
+returns-in-Err-clause-answers g c = λ ls it.
     let h = it.0 in let tasks = it.1 in
-    let more : length tasks < h.jobs = omega (arith, c.requires.more, served_count h tasks ls it.2 c.args.self.now it.3, jobs_count h tasks ls it.2 c.args.self.now it.3) in
+    let more : length tasks < h.jobs =
+    omega (
+      arith,
+      c.requires.more,
+      served_count h tasks ls it.2 c.args.self.now it.3,
+      jobs_count h tasks ls it.2 c.args.self.now it.3,
+    ) in
     let some = c.in-Some-hand_job.ensures.some h tasks it.3.fed (room h tasks ls it.2 c.args.self.now it.3 more) in
     let spelled = sym c.read_state.ensures ∙ ap (option_map task_in) c.in-Some.is in
-    let read = read_more h tasks ls it.2 c.args.self.now it.3 c.args.line.now more (task_in c.in-Some.state) spelled some.1
-    (c.if-state-number.false ∙ c.from-number.ensures ∙ c.admitted.ensures ∙ served_count h tasks ls it.2 c.args.self.now it.3)
+    let read = read_more h tasks ls it.2 c.args.self.now it.3 c.args.line.now more
+    (task_in c.in-Some.state) spelled some.1
+    (c.if-state-number.false ∙ c.from-number.ensures ∙ c.admitted.ensures
+    ∙ served_count h tasks ls it.2 c.args.self.now it.3)
     (omega (arith, c.if-state-self.false, ap (λ (x : Head). x.mark) it.3.head)) in
     (h, tasks ++ task_in c.in-Some.state ∷ [], read.reads)
 
-pub returns-in-Err-admit : goal.returns-in-Err-admit
-returns-in-Err-admit g c = λ ls it.
+pub returns-in-Err-admit-clause-answers : goal.returns-in-Err-admit-clause-answers
+returns-in-Err-admit-clause-answers g c = λ ls it.
     let h = it.0 in let tasks = it.1 in
-    let more : length tasks < h.jobs = omega (arith, c.requires.more, served_count h tasks ls it.2 c.args.self.now it.3, jobs_count h tasks ls it.2 c.args.self.now it.3) in
+    let more : length tasks < h.jobs =
+    omega (
+      arith,
+      c.requires.more,
+      served_count h tasks ls it.2 c.args.self.now it.3,
+      jobs_count h tasks ls it.2 c.args.self.now it.3,
+    ) in
     let some = c.in-Some-hand_job.ensures.some h tasks it.3.fed (room h tasks ls it.2 c.args.self.now it.3 more) in
     let spelled = sym c.read_state.ensures ∙ ap (option_map task_in) c.in-Some.is in
-    let read = read_more h tasks ls it.2 c.args.self.now it.3 c.args.line.now more (task_in c.in-Some.state) spelled some.1
-    (c.if-state-number.false ∙ c.from-number.ensures ∙ c.admitted.ensures ∙ served_count h tasks ls it.2 c.args.self.now it.3)
+    let read = read_more h tasks ls it.2 c.args.self.now it.3 c.args.line.now more
+    (task_in c.in-Some.state) spelled some.1
+    (c.if-state-number.false ∙ c.from-number.ensures ∙ c.admitted.ensures
+    ∙ served_count h tasks ls it.2 c.args.self.now it.3)
     (omega (arith, c.if-state-self.false, ap (λ (x : Head). x.mark) it.3.head)) in
     (h, tasks ++ task_in c.in-Some.state ∷ [], read.reads)
+
+pub returns-in-Ok-admit-clause-jobs : goal.returns-in-Ok-admit-clause-jobs
+returns-in-Ok-admit-clause-jobs g c = λ ls it.
+    jobs_now c.admit.new.self (ls ++ c.args.line.now ∷ []) (returns-in-Ok-admit-clause-answers g c ls it)

@@ -1,0 +1,57 @@
+-- The jobs that a reader serves again, and what they have cost.
+use Rattle.std.proofs.Common.{◌≡◌, ℕ, ◌≤◌, ◌+◌, ◌-◌, List, [], ◌∷◌, ◌++◌, length, length-append, sym, ap, ◌∙◌, subst}
+use Rattle.std.proofs.Common.{Bool, true, false, cond, ◌&&◌, Option, Some, None, codes, arith}
+use Rattle.std.specs.Prelude.{nat_lt, bytes_eq}
+use Rattle.std.proofs.lemmas.List.Sums.{fold-append}
+use Rattle.dover_model.specs.declared.events.Task.{Task}
+use Rattle.dover_core.specs.Service.{Service}
+use Rattle.dover_core.specs.Spending.{HasSpent}
+use Rattle.snapshot.specs.Snapshot.{Head}
+use Rattle.snapshot.specs.Reading.{Begun, Going, Taken, read_task, with_task, with_last, may_follow, has_reached_mark}
+use Rattle.snapshot.specs.Reading.{is_settled, refused_behind, next_line, reading_of}
+use Rattle.snapshot.specs.Stored.{HasRead}
+use Rattle.snapshot.specs.Kept.{Holds, IsReading}
+use Rattle.snapshot.specs.Spending.{jobs_read, jobs_kept}
+use Rattle.snapshot.specs.declared.resuming.Resuming.{Resuming}
+use Rattle.snapshot.proofs.Stepping.{served_count}
+
+-- a line more takes no job away
+jobs_next : (h : Head) (tasks : List Task) (line : List ℕ) → length tasks ≤ jobs_read (next_line (Going h tasks) line)
+jobs_next h tasks line = by (nat_lt (length tasks) h.jobs) where
+  with_one : (t : Option Task) → length tasks ≤ jobs_read (with_task h tasks t)
+  with_one None = omega arith
+  with_one (Some t) = one (may_follow h tasks t) where
+    one : (b : Bool) → length tasks ≤ jobs_read (cond b (Going h (tasks ++ t ∷ [])) (refused_behind tasks))
+    one true = omega (arith, length-append tasks (t ∷ []))
+    one false = omega arith
+
+  at_last : (b : Bool) → length tasks ≤ jobs_read (cond b (Taken h tasks) (refused_behind tasks))
+  at_last true = omega arith
+  at_last false = omega arith
+
+  by : (b : Bool) → length tasks
+      ≤ jobs_read (cond b (with_task h tasks (read_task line)) (with_last h tasks (bytes_eq line (codes "resume"))))
+  by true = with_one (read_task line)
+  by false = at_last (bytes_eq line (codes "resume") && has_reached_mark h tasks && is_settled h tasks)
+
+-- so where no job is served that wasn't, there are as many in the lines
+pub jobs_stay : (r : Resuming) (ls : List (List ℕ)) → IsReading (Some r) ls → (line : List ℕ) (n : ℕ)
+    → n ≤ length r.server.state.tasks → n ≤ jobs_read (reading_of (ls ++ line ∷ []))
+jobs_stay r ls (h, tasks, read, it) line n few = subst (λ reading. n ≤ jobs_read reading)
+    (sym (fold-append next_line Begun ls (line ∷ []) ∙ ap (λ reading. next_line reading line) read.reads))
+    (omega (arith, few, served_count h tasks ls read r it, jobs_next h tasks line))
+
+-- while the lines are read, each of their jobs is served
+pub jobs_now : (r : Resuming) (ls : List (List ℕ)) → IsReading (Some r) ls
+    → length r.server.state.tasks ≤ jobs_read (reading_of ls)
+jobs_now r ls (h, tasks, read, it) =
+    subst (λ reading. length r.server.state.tasks ≤ jobs_read reading) (sym read.reads)
+    (omega (arith, served_count h tasks ls read r it))
+
+pub jobs_reading : (o : Option Resuming) (ls : List (List ℕ)) → IsReading o ls → jobs_kept o ≤ jobs_read (reading_of ls)
+jobs_reading None ls none = omega arith
+jobs_reading (Some r) ls it = jobs_now r ls it
+
+-- a server that was made just now has spent nothing
+pub spent_fresh : (v : Service) (start now : ℕ) → now ≤ start → HasSpent v.state start now
+spent_fresh v start now none = λ d enough. omega (arith, none)
