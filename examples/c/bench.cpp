@@ -1,5 +1,6 @@
 // Nanoseconds of dover_admit and dover_step with jobs waiting, and of a take over held jobs, beside a heap of the C++
-// library that does earliest deadline first on the same jobs. Prints the median, the 99.9% point and the greatest.
+// library that does earliest deadline first on the same jobs. Prints the median, the 99.9% point and the greatest, and
+// how many bytes of stack the calls take.
 #include <algorithm>
 #include <chrono>
 #include <cinttypes>
@@ -7,6 +8,7 @@
 #include <cstdlib>
 #include <queue>
 #include <random>
+#include <ucontext.h>
 #include <vector>
 #include "dover.h"
 
@@ -134,6 +136,61 @@ static void take(uint64_t held, int times) {
     forget();
 }
 
+static void plain_settle(uint64_t mark) {
+    dover_decision d;
+    do d = dover_step(&engine, mark);
+    while (d.kind != DOVER_NONE && d.kind <= DOVER_END);
+}
+
+// Preemptions, a take, an abandonment, renewals and the end, with no calls but the engine's.
+static void all_calls() {
+    uint64_t t = 0;
+    for (uint64_t round = 0; round < 10; round++) {
+        uint64_t held = 30, left = 3000000 + 20 * held - 500, due = t + left + 10 * held + 500;
+        plain_settle(t);
+        dover_admit(&engine, t, left, due, left);
+        for (uint64_t j = 1; j <= held; j++) {
+            plain_settle(t + j);
+            dover_admit(&engine, t + j, 10, due - j, 10);
+        }
+        t += held + 1;
+        plain_settle(t);
+        dover_admit(&engine, t, 1000000, t + 1000000, 1000000000);
+        plain_settle(t = due + 1);
+        if (dover_renew(&engine) != 1 || dover_value(&engine) == 0 || dover_room(&engine) == 0) fail("no renewal", 0);
+    }
+    while (dover_finish(&engine).kind != DOVER_NONE) {}
+}
+
+static void make() { dover_init(&engine, 1000, 1, 1, 1000); }
+
+#ifdef __SANITIZE_ADDRESS__ // the sanitizer keeps account of stacks of its own
+static const bool watched = true;
+#else
+static const bool watched = false;
+#endif
+
+static uint64_t place[16384]; // a stack that is filled with a pattern
+static ucontext_t here, there;
+
+// How many bytes of it the calls write.
+static size_t stack_of(void (*calls)()) {
+    const uint64_t pattern = UINT64_C(0x5a5a5a5a5a5a5a5a);
+    std::fill(std::begin(place), std::end(place), pattern);
+    getcontext(&there);
+    there.uc_stack.ss_sp = place, there.uc_stack.ss_size = sizeof place, there.uc_link = &here;
+    makecontext(&there, calls, 0);
+    swapcontext(&here, &there);
+    return sizeof place - 8 * static_cast<size_t>(std::find_if(std::begin(place), std::end(place),
+                                                               [](uint64_t word) { return word != pattern; }) - place);
+}
+
+static void show_stack() {
+    size_t made = stack_of(make), called = stack_of(all_calls);
+    dover_drop(&engine);
+    std::printf("bytes of stack: dover_init %zu, the calls after it %zu\n", made, called);
+}
+
 int main(int words, char **) {
     overhead = 1000;
     for (int i = 0; i < 10000; i++) {
@@ -146,5 +203,6 @@ int main(int words, char **) {
     take(10, words > 1 ? 3 : 1000);
     take(1000, words > 1 ? 3 : 200);
     if (words == 1) take(100000, 20);
+    if (!watched) show_stack();
     return 0;
 }

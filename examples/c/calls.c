@@ -5,12 +5,13 @@
 #include "dover.h"
 
 static unsigned long taken; /* calls for memory */
+static int none;            /* whether there is none */
 void *__real_malloc(size_t);
 void *__real_realloc(void *, size_t);
 void *__wrap_malloc(size_t n);
 void *__wrap_realloc(void *p, size_t n);
-void *__wrap_malloc(size_t n) { taken++; return __real_malloc(n); }
-void *__wrap_realloc(void *p, size_t n) { taken++; return __real_realloc(p, n); }
+void *__wrap_malloc(size_t n) { taken++; return none ? NULL : __real_malloc(n); }
+void *__wrap_realloc(void *p, size_t n) { taken++; return none ? NULL : __real_realloc(p, n); }
 
 static dover a, b;
 static int rows, failed;
@@ -43,6 +44,9 @@ static void making(void) {
     ROW(status_of(1, 1, 1, UINT32_MAX) == DOVER_BAD_CAPACITY);
     ROW(status_of(1, 1, 1, 0) == DOVER_MADE);
     ROW(status_of(1000000, 1, 2, 1000000) == DOVER_MADE);
+    none = 1;
+    ROW(status_of(1, 1, 1, 10) == DOVER_NO_MEMORY && status_of(1, 1, 1, 1000001) == DOVER_BAD_CAPACITY);
+    none = 0;
     dover_init(&b, 0, 0, 1, 10); /* no engine */
     ROW(admit(&b, 0, 1, 1, 1) == DOVER_NOT_MADE && dover_step(&b, 0).kind == DOVER_NO_ENGINE &&
         dover_finish(&b).kind == DOVER_NO_ENGINE);

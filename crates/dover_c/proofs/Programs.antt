@@ -1,5 +1,6 @@
 -- What a program in C does, as calls of an engine.
-use Rattle.std.proofs.Common.{◌≡◌, ℕ, ◌≤◌, List, [], ◌∷◌, ◌++◌, map, refl, sym, ap, ◌∙◌, subst, cond, append-nil, Bool, true, false}
+use Rattle.std.proofs.Common.{◌≡◌, ℕ, ◌≤◌, List, [], ◌∷◌, ◌++◌, map, refl, sym, ap, ◌∙◌, subst, cond, append-nil}
+use Rattle.std.proofs.Common.{Bool, true, false, inl, inr}
 use Rattle.std.specs.Prelude.{Option, Some, None, ◌==◌, ◌&&◌, ◌||◌, not, nat_lt, Result, Ok, Err}
 use Rattle.std.specs.List.{filter, enumerate_from}
 use Rattle.std.proofs.lemmas.Bool.{eqb-true, eq-eqb}
@@ -14,6 +15,9 @@ use Rattle.dover_model.specs.Limits.{most_jobs}
 use Rattle.dover_model.specs.Instance.{Instance, total_value}
 use Rattle.dover_model.specs.Run.{printed, completed_value}
 use Rattle.dover_model.specs.Settled.{settled}
+use Rattle.dover_model.specs.Sound.{Each}
+use Rattle.dover_model.specs.Step.{Prints}
+use Rattle.dover_model.specs.Underload.{loses}
 use Rattle.dover_model.specs.Schedules.{Meets, worth}
 use Rattle.dover_model.specs.Bound.{IsWithin}
 use Rattle.dover_model.proofs.Tests.{never}
@@ -24,18 +28,45 @@ use Rattle.dover_model.specs.Rest.{behind}
 use Rattle.std.specs.Option.{option_map}
 use Rattle.dover_core.specs.Service.{MayFollow}
 use Rattle.dover_engine.specs.declared.decision.Decision.{Decision}
-use Rattle.dover_engine.specs.declared.decision.Decision.TheVariants.{Release, Run, Preempt, Take, Complete, Abandon, End}
+use Rattle.dover_engine.specs.declared.decision.Decision.TheVariants.{Release, Run, Preempt, Take, Complete, Abandon}
+use Rattle.dover_engine.specs.declared.decision.Decision.TheVariants.{End}
 use Rattle.dover_engine.specs.declared.causes.NotStepped.{NotStepped}
 use Rattle.dover_engine.specs.declared.causes.NotStepped.TheVariants.{Finished, Falls, Late}
 use Rattle.dover_engine.specs.Decisions.{event_of, event_in, events_in}
 use Rattle.dover_engine.specs.Life.{Life, fresh_life, is_at_rest, is_countable}
 use Rattle.dover_engine.specs.Calls as engine
 use Rattle.dover_engine.proofs.LifeLaws as life
+use Rattle.dover_engine.proofs.Unlost.{none_lost_all}
 use Rattle.dover_c.specs.declared.Admitted.{Admitted}
 use Rattle.dover_c.specs.declared.Decided.{Decided}
 use Rattle.dover_c.specs.declared.slot.Slot.{Slot}
-use Rattle.dover_c.specs.Codes.{version_number, mark_code, numbers_of, IsStepOf, Stands, IsMade, IsFresh, CallsOn, Admits, Steps, Finishes, Renews}
-use Rattle.dover_c.specs.Program.{Act, Admit, Step, Finish, Renew, Ask, Does, DoesAll, IsProgram, told, jobs_told, all_told, is_decision, answers, given, shown}
+use Rattle.dover_c.specs.Codes.{version_number, mark_code, numbers_of, IsStepOf, Stands, IsMade, IsFresh, CallsOn}
+use Rattle.dover_c.specs.Codes.{Admits, Steps, Finishes, Renews}
+use Rattle.dover_c.specs.Program.{Act, Admit, Step, Finish, Renew, Ask, Does, DoesAll, IsProgram, told, jobs_told}
+use Rattle.dover_c.specs.Program.{all_told, is_decision, answers, given, shown}
+
+-- ---- decisions that lose no job
+
+-- it is no take and no abandonment
+abbrev IsKept : Decided → Type 0
+IsKept answer = (answer.kind ≡ 4 → ⊥) × (answer.kind ≡ 6 → ⊥)
+
+kept_kind : (e : Event) → loses (Prints e) ≡ false → IsKept (shown e)
+kept_kind (events.Release n job) none =
+    ((λ e. absurd (let f : 1 ≡ 4 = e in cc)), (λ e. absurd (let f : 1 ≡ 6 = e in cc)))
+kept_kind (events.Run at n) none = ((λ e. absurd (let f : 2 ≡ 4 = e in cc)), (λ e. absurd (let f : 2 ≡ 6 = e in cc)))
+kept_kind (events.Preempt at stops starts) none =
+    ((λ e. absurd (let f : 3 ≡ 4 = e in cc)), (λ e. absurd (let f : 3 ≡ 6 = e in cc)))
+kept_kind (events.Take at stops starts) none = absurd (let f : true ≡ false = none in cc)
+kept_kind (events.Complete at n) none =
+    ((λ e. absurd (let f : 5 ≡ 4 = e in cc)), (λ e. absurd (let f : 5 ≡ 6 = e in cc)))
+kept_kind (events.Abandon at n) none = absurd (let f : true ≡ false = none in cc)
+kept_kind (events.End value) none = ((λ e. absurd (let f : 7 ≡ 4 = e in cc)), (λ e. absurd (let f : 7 ≡ 6 = e in cc)))
+
+each_kept : (es : List Event) → Each (λ e. loses (Prints e) ≡ false) es → Each IsKept (map shown es)
+each_kept [] each answer member = absurd member
+each_kept (e ∷ es) each answer (inl same) = subst IsKept (sym same) (kept_kind e (each e (inl refl)))
+each_kept (e ∷ es) each answer (inr member) = each_kept es (λ f there. each f (inr there)) answer member
 
 -- ---- two lists of calls
 
@@ -48,16 +79,19 @@ answers_append (Renew answer ∷ acts) more = answers_append acts more
 answers_append (Ask ∷ acts) more = answers_append acts more
 
 -- a filter of two lists
-filter_append : (test : Decided → Bool) (xs ys : List Decided) → filter test (xs ++ ys) ≡ filter test xs ++ filter test ys
+filter_append : (test : Decided → Bool) (xs ys : List Decided)
+    → filter test (xs ++ ys) ≡ filter test xs ++ filter test ys
 filter_append test [] ys = refl
 filter_append test (x ∷ xs) ys = by_test (test x) (filter_append test xs ys) where
   by_test : (b : Bool) → filter test (xs ++ ys) ≡ filter test xs ++ filter test ys
-      → cond b (x ∷ filter test (xs ++ ys)) (filter test (xs ++ ys)) ≡ cond b (x ∷ filter test xs) (filter test xs) ++ filter test ys
+      → cond b (x ∷ filter test (xs ++ ys)) (filter test (xs ++ ys)) ≡ cond b (x ∷ filter test xs) (filter test xs)
+      ++ filter test ys
   by_test true same = ap (λ zs. x ∷ zs) same
   by_test false same = same
 
 pub given_append : (acts more : List Act) → given (acts ++ more) ≡ given acts ++ given more
-given_append acts more = ap (filter is_decision) (answers_append acts more) ∙ filter_append is_decision (answers acts) (answers more)
+given_append acts more = ap (filter is_decision) (answers_append acts more)
+    ∙ filter_append is_decision (answers acts) (answers more)
 
 -- ---- decisions
 
@@ -105,16 +139,21 @@ record Turned (v : Life) (acts : List Act) (t : Slot) : Type 0 where
   pub decisions : map shown (engine.decided calls) ≡ given acts
 
 -- nothing was done
-nothing : (v : Life) (act : Act) (t : Slot) → t.engine ≡ Some v → told (act ∷ []) ≡ [] → given (act ∷ []) ≡ [] → Turned v (act ∷ []) t
-nothing v act t there jobs none = record { calls = []; w = v; there = there; leads = refl; jobs = sym jobs; decisions = sym none }
+nothing : (v : Life) (act : Act) (t : Slot) → t.engine ≡ Some v → told (act ∷ []) ≡ [] → given (act ∷ []) ≡ []
+    → Turned v (act ∷ []) t
+nothing v act t there jobs none =
+    record { calls = []; w = v; there = there; leads = refl; jobs = sym jobs; decisions = sym none }
 
 -- one call was made
 one_call : (v w : Life) (act : Act) (call : engine.Call) (t : Slot) → t.engine ≡ Some w → engine.Leads call v w
-    → engine.admitted (call ∷ []) ≡ told (act ∷ []) → map shown (engine.decided (call ∷ [])) ≡ given (act ∷ []) → Turned v (act ∷ []) t
-one_call v w act call t there leads jobs decisions = record { calls = call ∷ []; w = w; there = there; leads = (w, leads, refl); jobs = jobs; decisions = decisions }
+    → engine.admitted (call ∷ []) ≡ told (act ∷ []) → map shown (engine.decided (call ∷ [])) ≡ given (act ∷ [])
+    → Turned v (act ∷ []) t
+one_call v w act call t there leads jobs decisions =
+    record { calls = call ∷ []; w = w; there = there; leads = (w, leads, refl); jobs = jobs; decisions = decisions }
 
 -- a cause is no decision
-no_decision : (cause : NotStepped) → filter is_decision (record { tick = 0; job = 0; other = 0; kind = mark_code cause } ∷ []) ≡ []
+no_decision : (cause : NotStepped)
+    → filter is_decision (record { tick = 0; job = 0; other = 0; kind = mark_code cause } ∷ []) ≡ []
 no_decision Finished = refl
 no_decision Falls = refl
 no_decision Late = refl
@@ -139,38 +178,48 @@ second true false e = never e
 second false b e = never e
 
 -- a job
-turn_admit : (v : Life) (job : JobFacts) (answer : Admitted) (s t : Slot) → CallsOn (Some v) s t (answer.status ≡ 7) (Admits job answer)
+turn_admit : (v : Life) (job : JobFacts) (answer : Admitted) (s t : Slot)
+    → CallsOn (Some v) s t (answer.status ≡ 7) (Admits job answer)
     → Turned v (Admit job answer ∷ []) t
 turn_admit v job answer s t it = by_status (answer.status == 0) refl where
   by_status : (b : Bool) → (answer.status == 0) ≡ b → Turned v (Admit job answer ∷ []) t
-  by_status true is = one_call v it.0 (Admit job answer) (engine.Admitted job answer.number) t (ap (λ (x : Slot). x.engine) it.1)
+  by_status true is = one_call v it.0 (Admit job answer) (engine.Admitted job answer.number) t
+      (ap (λ (x : Slot). x.engine) it.1)
       (it.2.ok (eqb-true answer.status 0 is)) (sym (ap (λ b. cond b ((answer.number, job) ∷ []) []) is)) refl
   by_status false is =
       let same : it.0 ≡ v = (it.2.refused (λ e. never (sym is ∙ eq-eqb answer.status 0 e))).same in
-      nothing v (Admit job answer) t (ap (λ (x : Slot). x.engine) it.1 ∙ ap Some same) (ap (λ b. cond b ((answer.number, job) ∷ []) []) is) refl
+      nothing v (Admit job answer) t (ap (λ (x : Slot). x.engine) it.1 ∙ ap Some same)
+      (ap (λ b. cond b ((answer.number, job) ∷ []) []) is) refl
 
 -- a step to a mark
-turn_step : (v : Life) (mark : ℕ) (answer : Decided) (s t : Slot) → CallsOn (Some v) s t (answer.kind ≡ 11) (Steps mark answer)
+turn_step : (v : Life) (mark : ℕ) (answer : Decided) (s t : Slot)
+    → CallsOn (Some v) s t (answer.kind ≡ 11) (Steps mark answer)
     → Turned v (Step mark answer ∷ []) t
 turn_step v mark answer s t (w, is, it) = by_says it.says it.step it.shown where
   by_says : (says : Result (Option Decision) NotStepped) → IsStepOf mark v w says → answer ≡ elim says [
     | Ok decision ↦ numbers_of decision
     | Err cause ↦ record { tick = 0; job = 0; other = 0; kind = mark_code cause }
   ] → Turned v (Step mark answer ∷ []) t
-  by_says (Ok decision) step so = one_call v w (Step mark answer) (engine.Stepped (horizon.Mark mark) decision) t (ap (λ (x : Slot). x.engine) is) step refl
-      (ap (map shown) (append-nil (events_in decision)) ∙ sym (given_of decision) ∙ ap (λ a. filter is_decision (a ∷ [])) (sym so))
+  by_says (Ok decision) step so =
+      one_call v w (Step mark answer) (engine.Stepped (horizon.Mark mark) decision) t
+      (ap (λ (x : Slot). x.engine) is) step refl
+      (ap (map shown) (append-nil (events_in decision)) ∙ sym (given_of decision)
+      ∙ ap (λ a. filter is_decision (a ∷ [])) (sym so))
   by_says (Err cause) step so = nothing v (Step mark answer) t (ap (λ (x : Slot). x.engine) is ∙ ap Some step.1) refl
       (ap (λ a. filter is_decision (a ∷ [])) so ∙ no_decision cause)
 
 -- a step to the end
 turn_finish : (v : Life) (answer : Decided) (s t : Slot) → CallsOn (Some v) s t (answer.kind ≡ 11) (Finishes answer)
     → Turned v (Finish answer ∷ []) t
-turn_finish v answer s t (w, is, it) = one_call v w (Finish answer) (engine.Stepped horizon.End it.says) t (ap (λ (x : Slot). x.engine) is)
+turn_finish v answer s t (w, is, it) =
+    one_call v w (Finish answer) (engine.Stepped horizon.End it.says) t (ap (λ (x : Slot). x.engine) is)
     (may_end v, it.step) refl
-    (ap (map shown) (append-nil (events_in it.says)) ∙ sym (given_of it.says) ∙ ap (λ a. filter is_decision (a ∷ [])) (sym it.shown))
+    (ap (map shown) (append-nil (events_in it.says)) ∙ sym (given_of it.says)
+    ∙ ap (λ a. filter is_decision (a ∷ [])) (sym it.shown))
 
 -- a renewal
-turn_renew : (v : Life) (answer : ℕ) (s t : Slot) → CallsOn (Some v) s t (answer ≡ 0) (Renews answer) → Turned v (Renew answer ∷ []) t
+turn_renew : (v : Life) (answer : ℕ) (s t : Slot) → CallsOn (Some v) s t (answer ≡ 0) (Renews answer)
+    → Turned v (Renew answer ∷ []) t
 turn_renew v answer s t (w, is, it) = by_test (is_countable v && is_at_rest v) refl where
   by_test : (b : Bool) → (is_countable v && is_at_rest v) ≡ b → Turned v (Renew answer ∷ []) t
   by_test true holds = one_call v w (Renew answer) engine.Renewed t (ap (λ (x : Slot). x.engine) is)
@@ -181,9 +230,12 @@ turn_renew v answer s t (w, is, it) = by_test (is_countable v && is_at_rest v) r
 turn_one : (v : Life) (act : Act) (s t : Slot) → s.engine ≡ Some v → Does act s t → Turned v (act ∷ []) t
 turn_one v (Admit job answer) s t there does = turn_admit v job answer s t
     (subst (λ o. CallsOn o s t (answer.status ≡ 7) (Admits job answer)) there does)
-turn_one v (Step mark answer) s t there does = turn_step v mark answer s t (subst (λ o. CallsOn o s t (answer.kind ≡ 11) (Steps mark answer)) there does)
-turn_one v (Finish answer) s t there does = turn_finish v answer s t (subst (λ o. CallsOn o s t (answer.kind ≡ 11) (Finishes answer)) there does)
-turn_one v (Renew answer) s t there does = turn_renew v answer s t (subst (λ o. CallsOn o s t (answer ≡ 0) (Renews answer)) there does)
+turn_one v (Step mark answer) s t there does =
+    turn_step v mark answer s t (subst (λ o. CallsOn o s t (answer.kind ≡ 11) (Steps mark answer)) there does)
+turn_one v (Finish answer) s t there does =
+    turn_finish v answer s t (subst (λ o. CallsOn o s t (answer.kind ≡ 11) (Finishes answer)) there does)
+turn_one v (Renew answer) s t there does =
+    turn_renew v answer s t (subst (λ o. CallsOn o s t (answer ≡ 0) (Renews answer)) there does)
 turn_one v Ask s t there does = nothing v Ask t (ap (λ (x : Slot). x.engine) does ∙ there) refl refl
 
 -- two lists
@@ -191,7 +243,8 @@ told_append : (acts more : List Act) → told (acts ++ more) ≡ told acts ++ to
 told_append [] more = refl
 told_append (Admit job answer ∷ acts) more = by_test (answer.status == 0) (told_append acts more) where
   by_test : (b : Bool) → told (acts ++ more) ≡ told acts ++ told more
-      → cond b ((answer.number, job) ∷ told (acts ++ more)) (told (acts ++ more)) ≡ cond b ((answer.number, job) ∷ told acts) (told acts) ++ told more
+      → cond b ((answer.number, job) ∷ told (acts ++ more)) (told (acts ++ more)) ≡ cond b
+      ((answer.number, job) ∷ told acts) (told acts) ++ told more
   by_test true same = ap (λ js. (answer.number, job) ∷ js) same
   by_test false same = same
 told_append (Step mark answer ∷ acts) more = told_append acts more
@@ -199,7 +252,8 @@ told_append (Finish answer ∷ acts) more = told_append acts more
 told_append (Renew answer ∷ acts) more = told_append acts more
 told_append (Ask ∷ acts) more = told_append acts more
 
-leads_append : (xs ys : List engine.Call) (v u w : Life) → engine.LeadsAll xs v u → engine.LeadsAll ys u w → engine.LeadsAll (xs ++ ys) v w
+leads_append : (xs ys : List engine.Call) (v u w : Life) → engine.LeadsAll xs v u → engine.LeadsAll ys u w
+    → engine.LeadsAll (xs ++ ys) v w
 leads_append [] ys v u w here more = subst (λ z. engine.LeadsAll ys z w) here more
 leads_append (x ∷ xs) ys v u w it more = (it.0, it.1, leads_append xs ys it.0 u w it.2 more)
 
@@ -222,8 +276,10 @@ turn_all (act ∷ acts) v s t there it =
       leads = leads_append one.calls rest.calls v one.w rest.w one.leads rest.leads;
       jobs = life.admitted_append one.calls rest.calls ∙ ap (λ js. js ++ engine.admitted rest.calls) one.jobs
           ∙ ap (λ js. told (act ∷ []) ++ js) rest.jobs ∙ sym (told_append (act ∷ []) acts);
-      decisions = ap (map shown) (life.decided_append one.calls rest.calls) ∙ map-append shown (engine.decided one.calls) (engine.decided rest.calls)
-          ∙ ap (λ es. es ++ map shown (engine.decided rest.calls)) one.decisions ∙ ap (λ es. given (act ∷ []) ++ es) rest.decisions
+      decisions = ap (map shown) (life.decided_append one.calls rest.calls)
+          ∙ map-append shown (engine.decided one.calls) (engine.decided rest.calls)
+          ∙ ap (λ es. es ++ map shown (engine.decided rest.calls)) one.decisions
+          ∙ ap (λ es. given (act ∷ []) ++ es) rest.decisions
           ∙ sym (given_append (act ∷ []) acts);
     }
 
@@ -247,8 +303,10 @@ same_version Two Two e = refl
 engine_made : (p q version capacity : ℕ) (made : Slot) → IsMade p q version capacity made → made.status ≡ 0
     → (v : Life) × (made.engine ≡ Some v) × IsFresh p q version capacity v
 engine_made p q version capacity made is_made none = by_engine made.engine refl is_made where
-  by_engine : (o : Option Life) → made.engine ≡ o → Stands p q version capacity made.status o → (v : Life) × (made.engine ≡ Some v) × IsFresh p q version capacity v
-  by_engine None e status = absurd (some_status (not ((version == 1) || (version == 2))) (not (is_ratio (record { p = p; q = q })))
+  by_engine : (o : Option Life) → made.engine ≡ o → Stands p q version capacity made.status o → (v : Life)
+      × (made.engine ≡ Some v) × IsFresh p q version capacity v
+  by_engine None e status =
+      absurd (some_status (not ((version == 1) || (version == 2))) (not (is_ratio (record { p = p; q = q })))
       (nat_lt most_jobs capacity) (sym status ∙ none))
   by_engine (Some v) e it = (v, e, it.1)
 
@@ -284,16 +342,19 @@ module _ (version : Version) (p q capacity : ℕ) where
       }
 
   -- calls before a call
-  part : (acts : List Act) (act : Act) (s t : Slot) → DoesAll (acts ++ (act ∷ [])) s t → (u : Slot) × DoesAll acts s u × Does act u t
+  part : (acts : List Act) (act : Act) (s t : Slot) → DoesAll (acts ++ (act ∷ [])) s t → (u : Slot) × DoesAll acts s u
+      × Does act u t
   part [] act s t it = (s, refl, subst (Does act s) (sym it.2) it.1)
   part (a ∷ acts) act s t it = let rest = part acts act it.0 t it.2 in (rest.0, (it.0, it.1, rest.1), rest.2)
 
-  module _ (acts : List Act) (act : Act) (t : Slot) (program : IsProgram version p q capacity (acts ++ (act ∷ [])) t) where
+  module _ (acts : List Act) (act : Act) (t : Slot)
+      (program : IsProgram version p q capacity (acts ++ (act ∷ [])) t) where
     parts : (u : Slot) × DoesAll acts program.made u × Does act u t
     parts = part acts act program.made t program.does
 
     front : Living acts parts.0
-    front = living acts parts.0 (record { made = program.made; is_made = program.is_made; status = program.status; does = parts.1 })
+    front = living acts parts.0
+        (record { made = program.made; is_made = program.is_made; status = program.status; does = parts.1 })
 
   -- their jobs
   all_are : (calls : List engine.Call) (acts : List Act) → engine.admitted calls ≡ told acts
@@ -303,39 +364,45 @@ module _ (version : Version) (p q capacity : ℕ) where
     jobs = map (λ (n_j : ℕ × JobFacts). n_j.1) js;
   } in J) jobs
 
-  pub numbers : (acts : List Act) (t : Slot) → IsProgram version p q capacity acts t → told acts ≡ enumerate_from 0 (jobs_told acts)
+  pub numbers : (acts : List Act) (t : Slot) → IsProgram version p q capacity acts t
+      → told acts ≡ enumerate_from 0 (jobs_told acts)
   numbers acts t program = let it = living acts t program in
-      subst (λ (js : List (ℕ × JobFacts)). js ≡ enumerate_from 0 (map (λ n_j. n_j.1) js)) it.jobs (life.numbers version k it.calls it.w it.lives)
+      subst (λ (js : List (ℕ × JobFacts)). js ≡ enumerate_from 0 (map (λ n_j. n_j.1) js)) it.jobs
+      (life.numbers version k it.calls it.w it.lives)
 
-  pub settled_given : (acts : List Act) (mark : ℕ) (answer : Decided) (t : Slot) → IsProgram version p q capacity (acts ++ (Step mark answer ∷ [])) t
+  pub settled_given : (acts : List Act) (mark : ℕ) (answer : Decided) (t : Slot)
+      → IsProgram version p q capacity (acts ++ (Step mark answer ∷ [])) t
       → answer.kind ≡ 0 → given acts ≡ map shown (settled (all_told version p q acts) mark)
-  settled_given acts mark answer t program none = by_step (subst (λ o. CallsOn o u t (answer.kind ≡ 11) (Steps mark answer)) it.there does) where
-    it : Living acts (parts acts (Step mark answer) t program).0
-    it = front acts (Step mark answer) t program
+  settled_given acts mark answer t program none =
+      by_step (subst (λ o. CallsOn o u t (answer.kind ≡ 11) (Steps mark answer)) it.there does) where
+        it : Living acts (parts acts (Step mark answer) t program).0
+        it = front acts (Step mark answer) t program
 
-    u : Slot
-    u = (parts acts (Step mark answer) t program).0
+        u : Slot
+        u = (parts acts (Step mark answer) t program).0
 
-    does : Does (Step mark answer) u t
-    does = (parts acts (Step mark answer) t program).2
+        does : Does (Step mark answer) u t
+        does = (parts acts (Step mark answer) t program).2
 
-    by_step : CallsOn (Some it.w) u t (answer.kind ≡ 11) (Steps mark answer) → given acts ≡ map shown (settled (all_told version p q acts) mark)
-    by_step (w, is, step) = by_says step.says step.step step.shown where
-      by_says : (says : Result (Option Decision) NotStepped) → IsStepOf mark it.w w says → answer ≡ elim says [
-        | Ok decision ↦ numbers_of decision
-        | Err cause ↦ record { tick = 0; job = 0; other = 0; kind = mark_code cause }
-      ] → given acts ≡ map shown (settled (all_told version p q acts) mark)
-      by_says (Err cause) leads so = absurd (not_none cause (sym (ap (λ (d : Decided). d.kind) so) ∙ none))
-      by_says (Ok decision) leads so =
-          let is_none : decision ≡ None = kind_none decision (sym (ap (λ (d : Decided). d.kind) so) ∙ none) in
-          let further : engine.Lives version k (it.calls ++ (engine.Stepped (horizon.Mark mark) None ∷ [])) w = record {
-            ratio = it.lives.ratio;
-            spare = it.lives.spare;
-            lives = leads_append it.calls (engine.Stepped (horizon.Mark mark) None ∷ []) (fresh_life version k it.lives.spare) it.w w it.lives.lives
-                (w, subst (λ d. engine.Leads (engine.Stepped (horizon.Mark mark) d) it.w w) is_none leads, refl);
-          } in
-          sym it.decisions ∙ ap (map shown) (life.settled_all version k it.calls mark w further
-          ∙ ap (λ J. settled J mark) (all_are it.calls acts it.jobs))
+        by_step : CallsOn (Some it.w) u t (answer.kind ≡ 11) (Steps mark answer)
+            → given acts ≡ map shown (settled (all_told version p q acts) mark)
+        by_step (w, is, step) = by_says step.says step.step step.shown where
+          by_says : (says : Result (Option Decision) NotStepped) → IsStepOf mark it.w w says → answer ≡ elim says [
+            | Ok decision ↦ numbers_of decision
+            | Err cause ↦ record { tick = 0; job = 0; other = 0; kind = mark_code cause }
+          ] → given acts ≡ map shown (settled (all_told version p q acts) mark)
+          by_says (Err cause) leads so = absurd (not_none cause (sym (ap (λ (d : Decided). d.kind) so) ∙ none))
+          by_says (Ok decision) leads so =
+              let is_none : decision ≡ None = kind_none decision (sym (ap (λ (d : Decided). d.kind) so) ∙ none) in
+              let further : engine.Lives version k (it.calls ++ (engine.Stepped (horizon.Mark mark) None ∷ [])) w = record {
+                ratio = it.lives.ratio;
+                spare = it.lives.spare;
+                lives = leads_append it.calls (engine.Stepped (horizon.Mark mark) None ∷ [])
+                    (fresh_life version k it.lives.spare) it.w w it.lives.lives
+                    (w, subst (λ d. engine.Leads (engine.Stepped (horizon.Mark mark) d) it.w w) is_none leads, refl);
+              } in
+              sym it.decisions ∙ ap (map shown) (life.settled_all version k it.calls mark w further
+              ∙ ap (λ J. settled J mark) (all_are it.calls acts it.jobs))
 
   pub within_given : (acts : List Act) (t : Slot) → IsProgram version p q capacity acts t → (s : List ℕ)
       → IsWithin k (worth (all_told version p q acts) s) (completed_value (all_told version p q acts))
@@ -349,14 +416,23 @@ module _ (version : Version) (p q capacity : ℕ) where
       subst (λ (J : Instance). (s : List ℕ) × (completed_value J ≤ worth J s)) (all_are it.calls acts it.jobs)
       (life.honest_all version k it.calls it.w it.lives)
 
-  pub underload_given : (acts : List Act) (t : Slot) → IsProgram version p q capacity acts t → Meets (all_told version p q acts)
+  pub underload_given : (acts : List Act) (t : Slot) → IsProgram version p q capacity acts t
+      → Meets (all_told version p q acts)
       → completed_value (all_told version p q acts) ≡ total_value (jobs_told acts)
   underload_given acts t program = let it = living acts t program in
       subst (λ (J : Instance). Meets J → completed_value J ≡ total_value J.jobs) (all_are it.calls acts it.jobs)
       (life.underload_all version k it.calls it.w it.lives)
 
+  -- no decision that was given loses a job then
+  pub unlost_given : (acts : List Act) (t : Slot) → IsProgram version p q capacity acts t
+      → Meets (all_told version p q acts) → Each (λ answer. (answer.kind ≡ 4 → ⊥) × (answer.kind ≡ 6 → ⊥)) (given acts)
+  unlost_given acts t program meets = let it = living acts t program in
+      subst (Each IsKept) it.decisions (each_kept (engine.decided it.calls)
+      (none_lost_all version k it.calls it.w it.lives (subst Meets (sym (all_are it.calls acts it.jobs)) meets)))
+
   -- an answer of kind 7 is an End
-  kind_end : (says : Option Decision) → (numbers_of says).kind ≡ 7 → (value : ℕ) × (event_in says ≡ Some (events.End value))
+  kind_end : (says : Option Decision) → (numbers_of says).kind ≡ 7 → (value : ℕ)
+      × (event_in says ≡ Some (events.End value))
   kind_end None e = absurd (let f : 0 ≡ 7 = e in cc)
   kind_end (Some (Release n job)) e = absurd (let f : 1 ≡ 7 = e in cc)
   kind_end (Some (Run at n)) e = absurd (let f : 2 ≡ 7 = e in cc)
@@ -367,7 +443,8 @@ module _ (version : Version) (p q capacity : ℕ) where
   kind_end (Some (End value)) e = (value, refl)
 
   -- so was the server's
-  was_end : (n value sum : ℕ) (event : Option Event) → Some (events.End value) ≡ option_map (behind n sum) event → is_end_given event ≡ true
+  was_end : (n value sum : ℕ) (event : Option Event) → Some (events.End value) ≡ option_map (behind n sum) event
+      → is_end_given event ≡ true
   was_end n value sum None e = absurd cc
   was_end n value sum (Some (events.Release m job)) e = absurd cc
   was_end n value sum (Some (events.Run at m)) e = absurd cc
@@ -382,36 +459,42 @@ module _ (version : Version) (p q capacity : ℕ) where
   or_holds true b e = refl
   or_holds false b e = e
 
-  pub ended_given : (acts : List Act) (answer : Decided) (t : Slot) → IsProgram version p q capacity (acts ++ (Finish answer ∷ [])) t
+  pub ended_given : (acts : List Act) (answer : Decided) (t : Slot)
+      → IsProgram version p q capacity (acts ++ (Finish answer ∷ [])) t
       → answer.kind ≡ 7 → given (acts ++ (Finish answer ∷ [])) ≡ map shown (printed (all_told version p q acts))
-  ended_given acts answer t program seven = by_finish (subst (λ o. CallsOn o u t (answer.kind ≡ 11) (Finishes answer)) it.there does) where
-    it : Living acts (parts acts (Finish answer) t program).0
-    it = front acts (Finish answer) t program
+  ended_given acts answer t program seven =
+      by_finish (subst (λ o. CallsOn o u t (answer.kind ≡ 11) (Finishes answer)) it.there does) where
+        it : Living acts (parts acts (Finish answer) t program).0
+        it = front acts (Finish answer) t program
 
-    u : Slot
-    u = (parts acts (Finish answer) t program).0
+        u : Slot
+        u = (parts acts (Finish answer) t program).0
 
-    does : Does (Finish answer) u t
-    does = (parts acts (Finish answer) t program).2
+        does : Does (Finish answer) u t
+        does = (parts acts (Finish answer) t program).2
 
-    by_finish : CallsOn (Some it.w) u t (answer.kind ≡ 11) (Finishes answer)
-        → given (acts ++ (Finish answer ∷ [])) ≡ map shown (printed (all_told version p q acts))
-    by_finish (w, is, fin) =
-        let last : engine.Call = engine.Stepped horizon.End fin.says in
-        let further : engine.Lives version k (it.calls ++ (last ∷ [])) w = record {
-          ratio = it.lives.ratio;
-          spare = it.lives.spare;
-          lives = leads_append it.calls (last ∷ []) (fresh_life version k it.lives.spare) it.w w it.lives.lives (w, (may_end it.w, fin.step), refl);
-        } in
-        let is_end = kind_end fin.says (sym (ap (λ (d : Decided). d.kind) fin.shown) ∙ seven) in
-        let ended : w.service.ended ≡ true = fin.step.step.ended ∙ or_holds it.w.service.ended (is_end_given fin.step.event)
-        (was_end it.w.forgotten is_end.0 it.w.earned fin.step.event (sym is_end.1 ∙ fin.step.shown)) in
-        let jobs : engine.admitted (it.calls ++ (last ∷ [])) ≡ told acts =
-        life.admitted_append it.calls (last ∷ []) ∙ append-nil (engine.admitted it.calls) ∙ it.jobs in
-        given_append acts (Finish answer ∷ [])
-        ∙ ap (λ es. es ++ given (Finish answer ∷ [])) (sym it.decisions)
-        ∙ ap (λ es. map shown (engine.decided it.calls) ++ es) (ap (λ a. filter is_decision (a ∷ [])) fin.shown ∙ given_of fin.says
-        ∙ ap (map shown) (sym (append-nil (events_in fin.says))))
-        ∙ sym (map-append shown (engine.decided it.calls) (engine.decided (last ∷ [])))
-        ∙ ap (map shown) (sym (life.decided_append it.calls (last ∷ [])) ∙ life.ended_all version k (it.calls ++ (last ∷ [])) w further ended
-        ∙ ap printed (all_are (it.calls ++ (last ∷ [])) acts jobs))
+        by_finish : CallsOn (Some it.w) u t (answer.kind ≡ 11) (Finishes answer)
+            → given (acts ++ (Finish answer ∷ [])) ≡ map shown (printed (all_told version p q acts))
+        by_finish (w, is, fin) =
+            let last : engine.Call = engine.Stepped horizon.End fin.says in
+            let further : engine.Lives version k (it.calls ++ (last ∷ [])) w = record {
+              ratio = it.lives.ratio;
+              spare = it.lives.spare;
+              lives = leads_append it.calls (last ∷ []) (fresh_life version k it.lives.spare) it.w w it.lives.lives
+                  (w, (may_end it.w, fin.step), refl);
+            } in
+            let is_end = kind_end fin.says (sym (ap (λ (d : Decided). d.kind) fin.shown) ∙ seven) in
+            let ended : w.service.ended ≡ true = fin.step.step.ended
+            ∙ or_holds it.w.service.ended (is_end_given fin.step.event)
+            (was_end it.w.forgotten is_end.0 it.w.earned fin.step.event (sym is_end.1 ∙ fin.step.shown)) in
+            let jobs : engine.admitted (it.calls ++ (last ∷ [])) ≡ told acts =
+            life.admitted_append it.calls (last ∷ []) ∙ append-nil (engine.admitted it.calls) ∙ it.jobs in
+            given_append acts (Finish answer ∷ [])
+            ∙ ap (λ es. es ++ given (Finish answer ∷ [])) (sym it.decisions)
+            ∙ ap (λ es. map shown (engine.decided it.calls) ++ es)
+            (ap (λ a. filter is_decision (a ∷ [])) fin.shown ∙ given_of fin.says
+            ∙ ap (map shown) (sym (append-nil (events_in fin.says))))
+            ∙ sym (map-append shown (engine.decided it.calls) (engine.decided (last ∷ [])))
+            ∙ ap (map shown) (sym (life.decided_append it.calls (last ∷ []))
+            ∙ life.ended_all version k (it.calls ++ (last ∷ [])) w further ended
+            ∙ ap printed (all_are (it.calls ++ (last ∷ [])) acts jobs))

@@ -1,5 +1,24 @@
 -- The names that walks cite.
-pub use Rattle.std.proofs.Common.{◌≡◌, ℕ, ◌≤◌, List, [], ◌∷◌, ◌++◌, refl, sym, ap, ◌∙◌, lit<, nltb→le, w8, w32, w64, MutBor, arith}
+pub use Rattle.std.proofs.Common.{
+  ◌≡◌,
+  ℕ,
+  ◌≤◌,
+  List,
+  [],
+  ◌∷◌,
+  ◌++◌,
+  refl,
+  sym,
+  ap,
+  ◌∙◌,
+  lit<,
+  nltb→le,
+  w8,
+  w32,
+  w64,
+  MutBor,
+  arith,
+}
 pub use Rattle.std.proofs.raw_atomic.Walks.{proved}
 pub use base.Fraction.{full_share}
 pub use base.Logic.{id⊢}
@@ -10,9 +29,69 @@ pub use prog.Wp.{WpFn}
 pub use contract.Monad.{fact}
 pub use contract.Running.{tables}
 pub use types.SemTy.{Body}
-pub use types.Kit.{‵, raw, ◌⊛◌, some, later, prop, at_ret, Sq, ◌$◌, ◌∵◌, !, qed, done, move, keep, drop, use1, use2, use3, split, join, fsplit, fsplit3, fjoin, fpack, feq_i, feq_l, pick, await, rewrite, regoal, suffices, frame, group}
+pub use types.Kit.{
+  ‵,
+  raw,
+  ◌⊛◌,
+  some,
+  later,
+  prop,
+  at_ret,
+  Sq,
+  ◌$◌,
+  ◌∵◌,
+  !,
+  qed,
+  done,
+  move,
+  keep,
+  drop,
+  use1,
+  use2,
+  use3,
+  split,
+  join,
+  fsplit,
+  fsplit3,
+  fjoin,
+  fpack,
+  feq_i,
+  feq_l,
+  pick,
+  await,
+  rewrite,
+  regoal,
+  suffices,
+  frame,
+  group,
+}
 pub use types.Tokens.{lft_new, lft_end}
-pub use types.Run.{enter, of_opd, lit, unit_lit, bin, addr, load, look, store, stop, fld, hop, no_more, and_then, assigns, assigns_last, first, blocks, branches, skips, exec, returns, returns_within, well_typed}
+pub use types.Run.{
+  enter,
+  of_opd,
+  lit,
+  unit_lit,
+  bin,
+  addr,
+  load,
+  look,
+  store,
+  stop,
+  fld,
+  hop,
+  no_more,
+  and_then,
+  assigns,
+  assigns_last,
+  first,
+  blocks,
+  branches,
+  skips,
+  exec,
+  returns,
+  returns_within,
+  well_typed,
+}
 pub use types.ByLocal.{alloc_all, pass_all, free_all, look_at, get, through, sets, lands_as, env}
 pub use denote.Builtin.{u8, u32, u64, bool, unit}
 pub use denote.Exit.{yes}

@@ -1,5 +1,6 @@
 -- What the numbers say that go to a caller in C.
-use Rattle.std.specs.Prelude.{◌≡◌, ℕ, ◌+◌, ◌≤◌, true, false, Option, Some, None, not, ◌||◌, ◌&&◌, ◌==◌, nat_lt, if◌then◌else◌, Result, Ok, Err}
+use Rattle.std.specs.Prelude.{◌≡◌, ℕ, ◌+◌, ◌≤◌, true, false, Option, Some, None, not, ◌||◌, ◌&&◌, ◌==◌, nat_lt}
+use Rattle.std.specs.Prelude.{if◌then◌else◌, Result, Ok, Err}
 use Rattle.dover_model.specs.Limits.{most_jobs}
 use Rattle.dover_model.specs.Fraction.{is_ratio, IsRatio}
 use Rattle.dover_model.specs.declared.events.Version.{Version}
@@ -15,7 +16,8 @@ use Rattle.dover_engine.specs.declared.causes.NotMade.TheVariants as not_made
 use Rattle.dover_engine.specs.declared.causes.NotStepped.{NotStepped}
 use Rattle.dover_engine.specs.declared.causes.NotStepped.TheVariants as not_stepped
 use Rattle.dover_engine.specs.declared.decision.Decision.{Decision}
-use Rattle.dover_engine.specs.declared.decision.Decision.TheVariants.{Release, Run, Preempt, Take, Complete, Abandon, End}
+use Rattle.dover_engine.specs.declared.decision.Decision.TheVariants.{Release, Run, Preempt, Take, Complete, Abandon}
+use Rattle.dover_engine.specs.declared.decision.Decision.TheVariants.{End}
 use Rattle.dover_engine.specs.Life.{Life, fresh_life, done_value, is_at_rest, is_countable, renewed_life}
 use Rattle.dover_engine.specs.Calls.{IsAdmitted, IsCause, Decides, mark_refusal}
 use Rattle.dover_c.specs.declared.Admitted.{Admitted}

@@ -53,7 +53,8 @@ abbrev pub jobs_told : List Act → List JobFacts
 jobs_told acts = map (λ n_j. n_j.1) (told acts)
 
 abbrev pub all_told : Version → (p q : ℕ) → List Act → Instance
-all_told version p q acts = record { rules = record { ratio = record { p = p; q = q }; version = version }; jobs = jobs_told acts }
+all_told version p q acts =
+    record { rules = record { ratio = record { p = p; q = q }; version = version }; jobs = jobs_told acts }
 
 -- an answer that is a decision
 abbrev pub is_decision : Decided → Bool

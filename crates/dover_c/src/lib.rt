@@ -1,5 +1,5 @@
-//! The engine for a program in C. A program hands in the address of a place of `dover_size` bytes, which holds an engine from
-//! `dover_init` to `dover_drop`, and is neither read nor written by it between the two.
+//! The engine for a program in C. A program hands in the address of a place of `dover_size` bytes, which holds an
+//! engine from `dover_init` to `dover_drop`, and is neither read nor written by it between the two.
 #![tactic(auto)]
 
 pub mod laws;
@@ -12,7 +12,8 @@ ghost use denote.RawPtr.{lies_at, room_at};
 ghost use Rattle.dover_model.specs.JobFacts.{job_of_numbers};
 ghost use Rattle.dover_c.specs.declared.slot.Slot.{Slot};
 ghost use Rattle.dover_c.specs.contracts.slot.Slot.{the_row};
-ghost use Rattle.dover_c.specs.Codes.{IsMade, AdmitAnswers, StepAnswers, FinishAnswers, RenewAnswers, StatusAnswers, ValueAnswers, RoomAnswers};
+ghost use Rattle.dover_c.specs.Codes.{IsMade, AdmitAnswers, StepAnswers, FinishAnswers, RenewAnswers, StatusAnswers};
+ghost use Rattle.dover_c.specs.Codes.{ValueAnswers, RoomAnswers};
 ghost use Rattle.dover_c.specs.Places.{after_at};
 
 use crate::slot::Slot;
@@ -34,7 +35,8 @@ pub struct Admitted {
     pub status: u32,
 }
 
-/// A decision: its tick, or the value at the end; its job; the job that it stops; and its kind, which also says why there is none.
+/// A decision: its tick, or the value at the end; its job; the job that it stops; and its kind, which also says why
+/// there is none.
 #[repr(C)]
 #[derive(Clone, Copy)]
 pub struct Decided {
@@ -44,7 +46,8 @@ pub struct Decided {
     pub kind: u32,
 }
 
-/// Makes an engine of this ratio and version with room for so many jobs, and puts it at the address. `dover_status` says whether there is one.
+/// Makes an engine of this ratio and version with room for so many jobs, and puts it at the address. `dover_status`
+/// says whether there is one.
 #[unsafe(no_mangle)]
 pub unsafe extern "C" fn dover_init(
     alloc: Global,
@@ -108,7 +111,8 @@ pub unsafe extern "C" fn dover_finish(place: *mut Place, memory: Memory) -> Deci
     slot::finish(&mut *(place as *mut Slot), memory)
 }
 
-/// Forgets all jobs, where they are over and the last step was to a mark and answered that none comes: then it is 1, and else 0. No memory is taken.
+/// Forgets all jobs, where they are over and the last step was to a mark and answered that none comes: then it is 1,
+/// and else 0. No memory is taken.
 #[unsafe(no_mangle)]
 pub unsafe extern "C" fn dover_renew(place: *mut Place) -> u32
     ghost v: { Slot }

@@ -3,7 +3,8 @@ ghost use Rattle.std.specs.Prelude.{◌≡◌, ◌<◌};
 ghost use Rattle.dover_model.specs.JobFacts.{job_of_numbers};
 ghost use Rattle.dover_core.specs.declared.horizon.Horizon.TheVariants.{End};
 ghost use Rattle.dover_engine.specs.Calls.{Decides};
-ghost use Rattle.dover_c.specs.Codes.{IsMade, AdmitAnswers, StepAnswers, FinishAnswers, RenewAnswers, StatusAnswers, ValueAnswers, RoomAnswers};
+ghost use Rattle.dover_c.specs.Codes.{IsMade, AdmitAnswers, StepAnswers, FinishAnswers, RenewAnswers, StatusAnswers};
+ghost use Rattle.dover_c.specs.Codes.{ValueAnswers, RoomAnswers};
 ghost use Rattle.dover_c.specs.Codes.{cause_code, made_code, mark_code, numbers_of, IsStepOf};
 
 use crate::{Admitted, Decided};

@@ -1,5 +1,6 @@
 -- What an engine gives of the jobs since the last renewal, call by call.
-use Rattle.std.proofs.Common.{◌≡◌, ℕ, ◌≤◌, List, [], ◌∷◌, ◌++◌, length, refl, sym, ap, ◌∙◌, subst, arith, inl, inr, Bool, true, false, ◌||◌, Option, Some, None}
+use Rattle.std.proofs.Common.{◌≡◌, ℕ, ◌≤◌, List, [], ◌∷◌, ◌++◌, length, refl, sym, ap, ◌∙◌, subst, arith, inl, inr}
+use Rattle.std.proofs.Common.{Bool, true, false, ◌||◌, Option, Some, None}
 use Rattle.std.specs.Prelude.{option_to_list}
 use Rattle.std.specs.Bool.{MatchBool}
 use Rattle.std.proofs.lemmas.List.{append-nil, append_assoc, length-map, map-append}
@@ -15,7 +16,8 @@ use Rattle.dover_model.specs.WholeRun.{IsBarrier, IsWholeRun, step_at, open_at}
 use Rattle.dover_model.specs.Paths.{IsOpenPath, IsPath, HasPrinted}
 use Rattle.dover_model.specs.Sound.{IsMember, jobs_of, Keeps}
 use Rattle.dover_model.proofs.Kept.{opening_keeps}
-use Rattle.dover_model.proofs.Paths.{path_append, path_keeps, printed_nothing, printed_more, printed_settled, printed_behind, printed_then_run, closed_then_run}
+use Rattle.dover_model.proofs.Paths.{path_append, path_keeps, printed_nothing, printed_more, printed_settled}
+use Rattle.dover_model.proofs.Paths.{printed_behind, printed_then_run, closed_then_run}
 use Rattle.dover_model.proofs.Prefixes.{open_goes_on}
 use Rattle.dover_core.specs.declared.horizon.Horizon.{Horizon}
 use Rattle.dover_core.specs.declared.horizon.Horizon.TheVariants.{Mark, End}
@@ -30,7 +32,8 @@ abbrev no_steps : List Step
 no_steps = []
 
 -- a fresh service gave nothing
-pub fresh_gave : (v : Service) → v.state ≡ opening [] → jobs_of v.state.tasks ≡ [] → v.last ≡ Mark 0 → v.ended ≡ false → GaveOfList v []
+pub fresh_gave : (v : Service) → v.state ≡ opening [] → jobs_of v.state.tasks ≡ [] → v.last ≡ Mark 0 → v.ended ≡ false
+    → GaveOfList v []
 fresh_gave v state jobs last goes_on = inl (
   0,
   record {
@@ -48,14 +51,17 @@ module _ (t : ℕ) (v w : Service) (stands : Stands v) (m : ℕ) (le : m ≤ t) 
   J = list_of v
 
   -- further open steps
-  on : (xs : List Step) → IsOpenPath v.rules t v.state xs w.state → w.ended ≡ false → GaveAtMark w t (es ++ printed_of xs)
+  on : (xs : List Step) → IsOpenPath v.rules t v.state xs w.state → w.ended ≡ false
+      → GaveAtMark w t (es ++ printed_of xs)
   on xs path goes_on = record {
-    printed = subst (λ K. HasPrinted K t w.state (es ++ printed_of xs)) (sym list) (printed_more J m t v.state w.state es xs gave.printed le path);
+    printed = subst (λ K. HasPrinted K t w.state (es ++ printed_of xs)) (sym list)
+        (printed_more J m t v.state w.state es xs gave.printed le path);
     last = last;
     goes_on = goes_on;
   }
 
-  module _ (e : Event) (gives : GivesNext (Mark t) v.rules v.state w.state e) (ended : w.ended ≡ (v.ended || is_end (Prints e))) where
+  module _ (e : Event) (gives : GivesNext (Mark t) v.rules v.state w.state e)
+      (ended : w.ended ≡ (v.ended || is_end (Prints e))) where
     silent : IsOpenPath v.rules t v.state gives.waits.steps gives.before
     silent = leads_open t v.rules gives.waits.steps v.state gives.before gives.waits.lead
 
@@ -63,10 +69,12 @@ module _ (t : ℕ) (v w : Service) (stands : Stands v) (m : ℕ) (le : m ≤ t) 
     steps_next = gives.waits.steps ++ open_at v.rules gives.before ∷ []
 
     prints_next : printed_of steps_next ≡ e ∷ []
-    prints_next = printed_next no_steps gives.waits.steps gives.before (open_step v.rules gives.before) e gives.waits.silent gives.prints
+    prints_next = printed_next no_steps gives.waits.steps gives.before
+        (open_step v.rules gives.before) e gives.waits.silent gives.prints
 
     path_next : IsOpenPath v.rules t v.state steps_next w.state
-    path_next = path_append v.rules t gives.waits.steps (open_at v.rules gives.before ∷ []) v.state gives.before w.state silent
+    path_next = path_append v.rules t gives.waits.steps
+        (open_at v.rules gives.before ∷ []) v.state gives.before w.state silent
         (refl, gives.goes, gives.state ∙ ap (after gives.before) (sym gives.prints))
 
     keeps : Keeps J gives.before
@@ -87,13 +95,16 @@ module _ (t : ℕ) (v w : Service) (stands : Stands v) (m : ℕ) (le : m ≤ t) 
         (or_fails v.ended false w.ended ended refl ∙ gave.goes_on))
 
     pub all_there : es ≡ settled (list_of w) t
-    all_there = sym (append-nil es) ∙ printed_settled (list_of w) t w.state (es ++ []) (subst IsValid (sym list) stands.valid) gave_there.printed
+    all_there = sym (append-nil es)
+        ∙ printed_settled (list_of w) t w.state (es ++ []) (subst IsValid (sym list) stands.valid) gave_there.printed
         (subst (λ k. IsBarrier k t w.state) (sym rules) reaches.barrier)
 
 -- ---- to the end
 
-module _ (v w : Service) (m : ℕ) (s : State) (before : List Event) (printed_so : HasPrinted (list_of v) m s before) (xs : List Step)
-    (path : IsPath v.rules s xs v.state) (rules : w.rules ≡ v.rules) (list : list_of w ≡ list_of v) (last : w.last ≡ End) (not_ready : w.ready ≡ false) (e : Event)
+module _ (v w : Service) (m : ℕ) (s : State) (before : List Event) (printed_so : HasPrinted (list_of v) m s before)
+    (xs : List Step)
+    (path : IsPath v.rules s xs v.state) (rules : w.rules ≡ v.rules) (list : list_of w ≡ list_of v)
+    (last : w.last ≡ End) (not_ready : w.ready ≡ false) (e : Event)
     (gives : GivesNext End v.rules v.state w.state e) where
   silent_on : IsPath v.rules v.state gives.waits.steps gives.before
   silent_on = leads_closed v.rules gives.waits.steps v.state gives.before gives.waits.lead gives.waits.silent
@@ -102,26 +113,31 @@ module _ (v w : Service) (m : ℕ) (s : State) (before : List Event) (printed_so
   steps_on = xs ++ (gives.waits.steps ++ step_at v.rules gives.before ∷ [])
 
   prints_on : printed_of steps_on ≡ printed_of xs ++ e ∷ []
-  prints_on = printed_next xs gives.waits.steps gives.before (step v.rules gives.before) e gives.waits.silent gives.prints
+  prints_on = printed_next xs gives.waits.steps gives.before
+      (step v.rules gives.before) e gives.waits.silent gives.prints
 
   whole : is_end (Prints e) ≡ true → IsWholeRun v.rules s steps_on
   whole end = closed_then_run v.rules xs (gives.waits.steps ++ step_at v.rules gives.before ∷ []) s v.state path
       (closed_then_run v.rules gives.waits.steps (step_at v.rules gives.before ∷ []) v.state gives.before silent_on (
         refl,
-        subst (λ x. MatchBool x (no_steps ≡ no_steps) (IsWholeRun v.rules (after gives.before (step v.rules gives.before)) no_steps))
+        subst (λ x. MatchBool x (no_steps ≡ no_steps)
+            (IsWholeRun v.rules (after gives.before (step v.rules gives.before)) no_steps))
             (sym (ap is_end gives.prints ∙ end)) refl,
       ))
 
   more : is_end (Prints e) ≡ false → IsPath v.rules s steps_on w.state
   more goes = closed_append v.rules xs (gives.waits.steps ++ step_at v.rules gives.before ∷ []) s v.state w.state path
-      (closed_append v.rules gives.waits.steps (step_at v.rules gives.before ∷ []) v.state gives.before w.state silent_on
+      (closed_append v.rules gives.waits.steps
+      (step_at v.rules gives.before ∷ []) v.state gives.before w.state silent_on
       (refl, ap is_end gives.prints ∙ goes, gives.state ∙ ap (after gives.before) (sym gives.prints)))
 
-  by_end : (b : Bool) → is_end (Prints e) ≡ b → MatchBool b (IsWholeRun v.rules s steps_on) (IsPath v.rules s steps_on w.state)
+  by_end : (b : Bool) → is_end (Prints e) ≡ b
+      → MatchBool b (IsWholeRun v.rules s steps_on) (IsPath v.rules s steps_on w.state)
   by_end true end = whole end
   by_end false goes = more goes
 
-  pub gave_on : w.ended ≡ is_end (Prints e) → (es : List Event) → es ≡ before ++ printed_of xs → GaveAtEnd w (es ++ e ∷ [])
+  pub gave_on : w.ended ≡ is_end (Prints e) → (es : List Event) → es ≡ before ++ printed_of xs
+      → GaveAtEnd w (es ++ e ∷ [])
   gave_on ended es so = record {
     last = last;
     not_ready = not_ready;
@@ -130,34 +146,50 @@ module _ (v w : Service) (m : ℕ) (s : State) (before : List Event) (printed_so
     before = before;
     printed = subst (λ K. HasPrinted K m s before) (sym list) printed_so;
     steps = steps_on;
-    so_far = subst (λ k. MatchBool w.ended (IsWholeRun k s steps_on) (IsPath k s steps_on w.state)) (sym rules) (by_end w.ended (sym ended));
-    gave = ap (λ ys. ys ++ e ∷ []) so ∙ append_assoc before (printed_of xs) (e ∷ []) ∙ ap (λ ys. before ++ ys) (sym prints_on);
+    so_far = subst (λ k. MatchBool w.ended (IsWholeRun k s steps_on) (IsPath k s steps_on w.state)) (sym rules)
+        (by_end w.ended (sym ended));
+    gave = ap (λ ys. ys ++ e ∷ []) so ∙ append_assoc before (printed_of xs) (e ∷ [])
+        ∙ ap (λ ys. before ++ ys) (sym prints_on);
   }
 
 -- an engine that gave End has given all
 pub gave_all : (v : Service) (es : List Event) → Stands v → GaveOfList v es → v.ended ≡ true → es ≡ printed (list_of v)
 gave_all v es stands (inl at) ended = absurd (let e : true ≡ false = sym ended ∙ at.1.goes_on in cc)
-gave_all v es stands (inr at) ended = at.gave ∙ sym (printed_then_run (list_of v) at.mark at.from at.before at.steps stands.valid at.printed
-    (subst (λ b. MatchBool b (IsWholeRun v.rules at.from at.steps) (IsPath v.rules at.from at.steps v.state)) ended at.so_far))
+gave_all v es stands (inr at) ended = at.gave
+    ∙ sym (printed_then_run (list_of v) at.mark at.from at.before at.steps stands.valid at.printed
+    (subst (λ b. MatchBool b (IsWholeRun v.rules at.from at.steps) (IsPath v.rules at.from at.steps v.state)) ended
+    at.so_far))
 
 -- ---- a step
 
 -- what is given with the answer
-pub step_gave : (to : Horizon) (v w : Service) (answer : Option Event) → MayFollow v.last to → Stands v → Answers to v w answer
+pub step_gave : (to : Horizon) (v w : Service) (answer : Option Event) → MayFollow v.last to → Stands v
+    → Answers to v w answer
     → (es : List Event) → GaveOfList v es → GaveOfList w (es ++ option_to_list answer)
 step_gave (Mark t) v w (Some e) may stands a es (inl at) =
-    inl (t, gave_next t v w stands at.0 (subst (λ h. MayFollow h (Mark t)) at.1.last may).0 es at.1 a.rules a.list a.last e a.some a.ended)
+    inl (
+      t,
+      gave_next t v w stands at.0
+          (subst (λ h. MayFollow h (Mark t)) at.1.last may).0 es at.1 a.rules a.list a.last e a.some a.ended,
+    )
 step_gave (Mark t) v w None may stands a es (inl at) =
-    inl (t, gave_there t v w stands at.0 (subst (λ h. MayFollow h (Mark t)) at.1.last may).0 es at.1 a.rules a.list a.last (a.none refl) a.ended)
+    inl (
+      t,
+      gave_there t v w stands at.0
+          (subst (λ h. MayFollow h (Mark t)) at.1.last may).0 es at.1 a.rules a.list a.last (a.none refl) a.ended,
+    )
 step_gave (Mark t) v w answer may stands a es (inr at) = absurd (subst (λ h. MayFollow h (Mark t)) at.last may)
-step_gave End v w (Some e) may stands a es (inl at) = inr (gave_on v w at.0 v.state es at.1.printed no_steps refl a.rules a.list a.last a.ready e a.some
+step_gave End v w (Some e) may stands a es (inl at) =
+    inr (gave_on v w at.0 v.state es at.1.printed no_steps refl a.rules a.list a.last a.ready e a.some
     (a.ended ∙ ap (λ b. b || is_end (Prints e)) at.1.goes_on) es (sym (append-nil es)))
-step_gave End v w None may stands a es (inl at) = absurd (let e : true ≡ false = sym (a.none refl).0 ∙ at.1.goes_on in cc)
+step_gave End v w None may stands a es (inl at) =
+    absurd (let e : true ≡ false = sym (a.none refl).0 ∙ at.1.goes_on in cc)
 step_gave End v w (Some e) may stands a es (inr at) = by_ended v.ended refl where
   by_ended : (b : Bool) → v.ended ≡ b → GaveOfList w (es ++ e ∷ [])
   by_ended true ended = absurd (let e : true ≡ false = a.after_end ended in cc)
   by_ended false goes = inr (gave_on v w at.mark at.from at.before at.printed at.steps
-      (subst (λ b. MatchBool b (IsWholeRun v.rules at.from at.steps) (IsPath v.rules at.from at.steps v.state)) goes at.so_far)
+      (subst (λ b. MatchBool b (IsWholeRun v.rules at.from at.steps) (IsPath v.rules at.from at.steps v.state)) goes
+      at.so_far)
       a.rules a.list a.last a.ready e a.some (a.ended ∙ ap (λ b. b || is_end (Prints e)) goes) es at.gave)
 step_gave End v w None may stands a es (inr at) = inr (record {
   last = a.last;
@@ -169,7 +201,8 @@ step_gave End v w None may stands a es (inr at) = inr (record {
   steps = at.steps;
   so_far = subst (λ b. MatchBool b (IsWholeRun w.rules at.from at.steps) (IsPath w.rules at.from at.steps w.state))
       (sym (a.ended ∙ ap (λ b. b || false) (a.none refl).0)) (subst (λ k. IsWholeRun k at.from at.steps) (sym a.rules)
-      (subst (λ b. MatchBool b (IsWholeRun v.rules at.from at.steps) (IsPath v.rules at.from at.steps v.state)) (a.none refl).0 at.so_far));
+      (subst (λ b. MatchBool b (IsWholeRun v.rules at.from at.steps) (IsPath v.rules at.from at.steps v.state))
+      (a.none refl).0 at.so_far));
   gave = append-nil es ∙ at.gave;
 })
 
@@ -177,13 +210,15 @@ step_gave End v w None may stands a es (inr at) = inr (record {
 pub step_settled : (t : ℕ) (v w : Service) → MayFollow v.last (Mark t) → Stands v → Answers (Mark t) v w None
     → (es : List Event) → GaveOfList v es → es ≡ settled (list_of w) t
 step_settled t v w may stands a es (inl at) =
-    all_there t v w stands at.0 (subst (λ h. MayFollow h (Mark t)) at.1.last may).0 es at.1 a.rules a.list a.last (a.none refl) a.ended
+    all_there t v w stands at.0 (subst (λ h. MayFollow h (Mark t)) at.1.last may).0 es at.1 a.rules a.list a.last
+    (a.none refl) a.ended
 step_settled t v w may stands a es (inr at) = absurd (subst (λ h. MayFollow h (Mark t)) at.last may)
 
 -- ---- a job
 
 -- a job that is admitted is to come, and what was given stays
-pub job_gave : (v : Service) (job : JobFacts) (spare : ℕ) → IsReadyFor v job.release → IsValid (with_jobs (list_of v) (job ∷ []))
+pub job_gave : (v : Service) (job : JobFacts) (spare : ℕ) → IsReadyFor v job.release
+    → IsValid (with_jobs (list_of v) (job ∷ []))
     → (es : List Event) → GaveOfList v es → GaveOfList (with_job v job spare) es
 job_gave v job spare ready valid es (inr at) = absurd (let e : Mark job.release ≡ End = sym ready.1 ∙ at.last in cc)
 job_gave v job spare ready valid es (inl at) = inl (
@@ -191,7 +226,8 @@ job_gave v job spare ready valid es (inl at) = inl (
   record {
     printed = subst (λ js. HasPrinted (record { rules = v.rules; jobs = js }) at.0 (with_job v job spare).state es)
         (sym (map-append (λ (t : Task). t.job) v.state.tasks (admitted_task (length v.state.tasks) job ∷ [])))
-        (subst (λ n. HasPrinted (with_jobs (list_of v) (job ∷ [])) at.0 (with_later v.state (admitted_task n job ∷ [])) es)
+        (subst (λ n. HasPrinted (with_jobs (list_of v) (job ∷ [])) at.0
+        (with_later v.state (admitted_task n job ∷ [])) es)
         (length-map v.state.tasks (λ (t : Task). t.job))
         (printed_behind (list_of v) (job ∷ []) at.0 v.state es valid (λ i m. is_last i m) at.1.printed));
     last = at.1.last;

@@ -13,7 +13,8 @@ use Rattle.dover_engine.specs.declared.engine.Engine.TheInside.{Inside}
 use Rattle.std.specs.Prelude.{None}
 
 -- known at a mark, known at a later one
-later_known : (m t : ℕ) (jobs : List JobFacts) → m ≤ t → AllByRecursion (λ j. j.release ≤ m) jobs → AllByRecursion (λ j. j.release ≤ t) jobs
+later_known : (m t : ℕ) (jobs : List JobFacts) → m ≤ t → AllByRecursion (λ j. j.release ≤ m) jobs
+    → AllByRecursion (λ j. j.release ≤ t) jobs
 later_known m t [] below known = tt
 later_known m t (j ∷ jobs) below known = (omega (arith, below, known.0), later_known m t jobs below known.1)
 
@@ -32,7 +33,9 @@ one_more t (i ∷ jobs) j released known = (known.0, one_more t jobs j released 
 
 -- a job that isn't refused may be admitted
 pub may_admit : (e : Inside) (job : JobFacts) → IsKept e → Stands e.server → IsReadyFor e.server job.release
-    → refusal_of e.admission.ratio (list_of e.server).jobs job ≡ None → IsValid (with_jobs (list_of e.server) (job ∷ []))
+    → refusal_of e.admission.ratio (list_of e.server).jobs job ≡ None
+    → IsValid (with_jobs (list_of e.server) (job ∷ []))
 may_admit e job keeps stands ready none =
-    admits e.server.rules (list_of e.server).jobs job stands.valid (subst (λ h. AllKnown h (list_of e.server).jobs) ready.1 keeps.known)
+    admits e.server.rules (list_of e.server).jobs job stands.valid
+    (subst (λ h. AllKnown h (list_of e.server).jobs) ready.1 keeps.known)
     (ap (λ k. refusal_of k (list_of e.server).jobs job) (sym keeps.ratio) ∙ none)

@@ -2,3 +2,4 @@ mod Keeping
 mod Giving
 pub mod Lives
 pub mod LifeLaws
+pub mod Unlost

@@ -1,5 +1,6 @@
 -- What an engine gives of all jobs that were ever admitted, call by call.
-use Rattle.std.proofs.Common.{◌≡◌, ℕ, ◌+◌, ◌≤◌, ◌<◌, ◌^◌, List, [], ◌∷◌, ◌++◌, length, map, refl, sym, ap, ◌∙◌, subst, arith, inl, inr}
+use Rattle.std.proofs.Common.{◌≡◌, ℕ, ◌+◌, ◌≤◌, ◌<◌, ◌^◌, List, [], ◌∷◌, ◌++◌, length, map, refl, sym, ap, ◌∙◌, subst}
+use Rattle.std.proofs.Common.{arith, inl, inr}
 use Rattle.std.proofs.Common.{Bool, true, false, append-nil, append_assoc, length-append, not}
 use Rattle.std.specs.Prelude.{Option, Some, None, IfSome, option_to_list, ◌&&◌}
 use Rattle.std.specs.Option.{option_map}
@@ -22,7 +23,8 @@ use Rattle.dover_model.proofs.Honest.{count_jobs}
 use Rattle.dover_model.proofs.Prefixes.{open_goes_on}
 use Rattle.dover_model.proofs.ShortNumbers.{value_short, step_short, IsShortMove}
 use Rattle.dover_model.proofs.Apart.{runs_in_turn, behind_last, end_at_rest}
-use Rattle.dover_model.proofs.Turns.{over_more, jobs_append, completed_append, settled_behind, printed_behind, before_end_behind}
+use Rattle.dover_model.proofs.Turns.{over_more, jobs_append, completed_append, settled_behind, printed_behind}
+use Rattle.dover_model.proofs.Turns.{before_end_behind}
 use Rattle.dover_model.proofs.Tests.{never}
 use Rattle.dover_core.specs.declared.horizon.Horizon.{Horizon}
 use Rattle.dover_core.specs.declared.horizon.Horizon.TheVariants.{Mark, End}
@@ -61,18 +63,24 @@ answer_short to v w (events.Preempt at stops starts) a = tt
 answer_short to v w (events.Take at stops starts) a = tt
 answer_short to v w (events.Complete at n) a = tt
 answer_short to v w (events.Abandon at n) a = tt
-answer_short (Mark t) v w (events.End value) a = absurd (let on : is_end (open_step v.rules a.some.before) ≡ false = subst
-    (λ s. is_end (open_step v.rules s) ≡ false) here (open_goes_on (list_of w) a.stands.valid v.rules w.state (keeps_own w a.stands)) in
+answer_short (Mark t) v w (events.End value) a =
+    absurd (let on : is_end (open_step v.rules a.some.before) ≡ false = subst
+    (λ s. is_end (open_step v.rules s) ≡ false) here
+    (open_goes_on (list_of w) a.stands.valid v.rules w.state (keeps_own w a.stands)) in
     let e : false ≡ true = sym on ∙ ap is_end a.some.prints in cc) where
       here : w.state ≡ a.some.before
-      here = a.some.state ∙ ap (λ ts. let s : State = record { clock = a.some.before.clock; tasks = ts } in s) (end_same a.some.before value)
-answer_short End v w (events.End value) a = (subst IsShortMove a.some.prints (subst (λ s. IsShortMove (step v.rules s)) here
+      here = a.some.state ∙ ap (λ ts. let s : State = record { clock = a.some.before.clock; tasks = ts } in s)
+          (end_same a.some.before value)
+answer_short End v w (events.End value) a =
+    (subst IsShortMove a.some.prints (subst (λ s. IsShortMove (step v.rules s)) here
     (step_short (list_of w) a.stands.valid w.state (keeps_own w a.stands) (clock_short w a.stands) v.rules))).0 where
       here : w.state ≡ a.some.before
-      here = a.some.state ∙ ap (λ ts. let s : State = record { clock = a.some.before.clock; tasks = ts } in s) (end_same a.some.before value)
+      here = a.some.state ∙ ap (λ ts. let s : State = record { clock = a.some.before.clock; tasks = ts } in s)
+          (end_same a.some.before value)
 
 -- the value that an answer names
-pub answers_short : (to : Horizon) (v w : Service) (answer : Option Event) → Answers to v w answer → IfSome answer HasShortValue
+pub answers_short : (to : Horizon) (v w : Service) (answer : Option Event) → Answers to v w answer
+    → IfSome answer HasShortValue
 answers_short to v w None a = tt
 answers_short to v w (Some e) a = answer_short to v w e a
 
@@ -83,7 +91,8 @@ abbrev no_lists : List (List JobFacts)
 no_lists = []
 
 -- a new engine gave nothing
-pub new_gave : (v : Life) → v.service.state ≡ opening [] → v.service.last ≡ Mark 0 → v.service.ended ≡ false → v.forgotten ≡ 0 → v.earned ≡ 0
+pub new_gave : (v : Life) → v.service.state ≡ opening [] → v.service.last ≡ Mark 0 → v.service.ended ≡ false
+    → v.forgotten ≡ 0 → v.earned ≡ 0
     → Gave v [] []
 new_gave v state last goes_on forgotten earned = record {
   lists = [];
@@ -101,7 +110,8 @@ new_gave v state last goes_on forgotten earned = record {
 
 -- ---- a job
 
-pub admit_gave : (v w : Life) (job : JobFacts) (number : ℕ) → IsAdmitted v w job number → (jobs : List JobFacts) (events : List Event)
+pub admit_gave : (v w : Life) (job : JobFacts) (number : ℕ) → IsAdmitted v w job number
+    → (jobs : List JobFacts) (events : List Event)
     → Gave v jobs events → Gave w (jobs ++ (job ∷ [])) events
 admit_gave v w job number it jobs events g = subst (λ u. Gave u (jobs ++ (job ∷ [])) events) (sym it.life) (record {
   lists = g.lists;
@@ -109,7 +119,8 @@ admit_gave v w job number it jobs events g = subst (λ u. Gave u (jobs ++ (job �
   over = g.over;
   later = subst (NoneBefore g.tick) (sym with_it) late;
   since = g.since;
-  all_jobs = ap (λ js. js ++ (job ∷ [])) g.all_jobs ∙ append_assoc (in_turn g.lists) (jobs_of v.service.state.tasks) (job ∷ [])
+  all_jobs = ap (λ js. js ++ (job ∷ [])) g.all_jobs
+      ∙ append_assoc (in_turn g.lists) (jobs_of v.service.state.tasks) (job ∷ [])
       ∙ ap (λ js. in_turn g.lists ++ js) (sym with_it);
   forgotten = g.forgotten;
   earned = g.earned;
@@ -133,7 +144,8 @@ admit_gave v w job number it jobs events g = subst (λ u. Gave u (jobs ++ (job �
 
 -- ---- a step
 
-module _ (to : Horizon) (v w : Life) (answer : Option Decision) (may : MayFollow v.service.last to) (stands : Stands v.service)
+module _ (to : Horizon) (v w : Life) (answer : Option Decision) (may : MayFollow v.service.last to)
+    (stands : Stands v.service)
     (it : Decides to v w answer) (jobs : List JobFacts) (events : List Event) (g : Gave v jobs events) where
   abbrev a : Answers to v.service w.service it.event
   a = it.step
@@ -150,7 +162,9 @@ module _ (to : Horizon) (v w : Life) (answer : Option Decision) (may : MayFollow
   -- the events of the answer are those of the server's, numbered behind
   shown : events_in answer ≡ map (behind v.forgotten v.earned) (option_to_list it.event)
   shown = ap option_to_list it.shown ∙ by_event it.event where
-    by_event : (o : Option Event) → option_to_list (option_map (behind v.forgotten v.earned) o) ≡ map (behind v.forgotten v.earned) (option_to_list o)
+    by_event : (o : Option Event)
+        → option_to_list (option_map (behind v.forgotten v.earned) o) ≡ map (behind v.forgotten v.earned)
+        (option_to_list o)
     by_event None = refl
     by_event (Some e) = refl
 
@@ -163,7 +177,8 @@ module _ (to : Horizon) (v w : Life) (answer : Option Decision) (may : MayFollow
   same_jobs = ap (λ (J : Instance). J.jobs) a.list
 
   -- for a life with the new service
-  gave_with : Gave (record { service = w.service; forgotten = v.forgotten; earned = v.earned }) jobs (events ++ events_in answer)
+  gave_with : Gave (record { service = w.service; forgotten = v.forgotten; earned = v.earned }) jobs
+      (events ++ events_in answer)
   gave_with = record {
     lists = g.lists;
     tick = g.tick;
@@ -175,8 +190,10 @@ module _ (to : Horizon) (v w : Life) (answer : Option Decision) (may : MayFollow
     earned = g.earned ∙ ap (λ rules. completed_in_turn rules g.lists) (sym a.rules);
     now = g.now ++ option_to_list it.event;
     gave = step_gave to v.service w.service it.event may stands a g.now g.gave;
-    all_events = ap (λ es. es ++ events_in answer) g.all_events ∙ ap (λ es. (before ++ map (behind v.forgotten v.earned) g.now) ++ es) shown
-        ∙ append_assoc before (map (behind v.forgotten v.earned) g.now) (map (behind v.forgotten v.earned) (option_to_list it.event))
+    all_events = ap (λ es. es ++ events_in answer) g.all_events
+        ∙ ap (λ es. (before ++ map (behind v.forgotten v.earned) g.now) ++ es) shown
+        ∙ append_assoc before (map (behind v.forgotten v.earned) g.now)
+        (map (behind v.forgotten v.earned) (option_to_list it.event))
         ∙ ap (λ es. before ++ es) (sym (map-append (behind v.forgotten v.earned) g.now (option_to_list it.event)))
         ∙ ap (λ rules. before_end (printed (record { rules = rules; jobs = in_turn g.lists }))
         ++ map (behind v.forgotten v.earned) (g.now ++ option_to_list it.event)) (sym a.rules);
@@ -187,42 +204,51 @@ module _ (to : Horizon) (v w : Life) (answer : Option Decision) (may : MayFollow
   decide_gave = subst (λ u. Gave u jobs (events ++ events_in answer)) (sym it.life) gave_with
 
 -- at a mark, the events of all jobs
-module _ (v : Life) (stands : Stands v.service) (jobs : List JobFacts) (events : List Event) (g : Gave v jobs events) where
+module _ (v : Life) (stands : Stands v.service) (jobs : List JobFacts) (events : List Event)
+    (g : Gave v jobs events) where
   -- are those of the lists, and those since
   abbrev all : Instance
   all = record { rules = v.service.rules; jobs = jobs }
 
   joins : (es : List Event) → before_end (printed (record { rules = v.service.rules; jobs = in_turn g.lists }))
       ++ map (behind (length (in_turn g.lists)) (completed_in_turn v.service.rules g.lists)) es
-      ≡ before_end (printed (record { rules = v.service.rules; jobs = in_turn g.lists })) ++ map (behind v.forgotten v.earned) es
+      ≡ before_end (printed (record { rules = v.service.rules; jobs = in_turn g.lists })) ++ map
+      (behind v.forgotten v.earned) es
   joins es = ap (λ n. before_end (printed (record { rules = v.service.rules; jobs = in_turn g.lists }))
       ++ map (behind n (completed_in_turn v.service.rules g.lists)) es) (sym g.forgotten)
-      ∙ ap (λ value. before_end (printed (record { rules = v.service.rules; jobs = in_turn g.lists })) ++ map (behind v.forgotten value) es)
+      ∙ ap (λ value. before_end (printed (record { rules = v.service.rules; jobs = in_turn g.lists })) ++ map
+      (behind v.forgotten value) es)
       (sym g.earned)
 
   -- all that is settled was given, where it was of the jobs since
   pub settled_given : (t : ℕ) → IsSince g.tick (Mark t) → g.now ≡ settled (list_of v.service) t → events ≡ settled all t
   settled_given t low given = g.all_events
-      ∙ ap (λ es. before_end (printed (record { rules = v.service.rules; jobs = in_turn g.lists })) ++ map (behind v.forgotten v.earned) es) given
+      ∙ ap (λ es. before_end (printed (record { rules = v.service.rules; jobs = in_turn g.lists })) ++ map
+      (behind v.forgotten v.earned) es) given
       ∙ sym (joins (settled (list_of v.service) t))
-      ∙ sym (settled_behind v.service.rules (jobs_of v.service.state.tasks) stands.valid g.tick g.later g.lists g.over t low)
+      ∙ sym (settled_behind v.service.rules
+      (jobs_of v.service.state.tasks) stands.valid g.tick g.later g.lists g.over t low)
       ∙ ap (λ js. settled (record { rules = v.service.rules; jobs = js }) t) (sym g.all_jobs)
 
   -- and all that is printed
   pub printed_given : v.service.ended ≡ true → events ≡ printed all
   printed_given ended = g.all_events
-      ∙ ap (λ es. before_end (printed (record { rules = v.service.rules; jobs = in_turn g.lists })) ++ map (behind v.forgotten v.earned) es)
+      ∙ ap (λ es. before_end (printed (record { rules = v.service.rules; jobs = in_turn g.lists })) ++ map
+      (behind v.forgotten v.earned) es)
       (gave_all v.service g.now stands g.gave ended)
       ∙ sym (joins (printed (list_of v.service)))
       ∙ sym (printed_behind v.service.rules (jobs_of v.service.state.tasks) stands.valid g.tick g.later g.lists g.over)
       ∙ ap (λ js. printed (record { rules = v.service.rules; jobs = js })) (sym g.all_jobs)
 
 -- none is withheld
-pub decide_prompt : (to : Horizon) (v w : Life) (answer : Option Decision) → MayFollow v.service.last to → Stands v.service → Decides to v w answer
-    → (jobs : List JobFacts) (events : List Event) → Gave v jobs events → IsPrompt to w.service.rules (w.service.ended ≡ true) jobs events answer
+pub decide_prompt : (to : Horizon) (v w : Life) (answer : Option Decision) → MayFollow v.service.last to
+    → Stands v.service → Decides to v w answer
+    → (jobs : List JobFacts) (events : List Event) → Gave v jobs events
+    → IsPrompt to w.service.rules (w.service.ended ≡ true) jobs events answer
 decide_prompt (Mark t) v w (Some decision) may stands it jobs events g = tt
 decide_prompt End v w answer may stands it jobs events g = λ ended.
-    printed_given w it.step.stands jobs (events ++ events_in answer) (decide_gave End v w answer may stands it jobs events g) ended
+    printed_given w it.step.stands jobs (events ++ events_in answer)
+    (decide_gave End v w answer may stands it jobs events g) ended
 decide_prompt (Mark t) v w None may stands it jobs events g =
     subst (λ rules. events ≡ settled (record { rules = rules; jobs = jobs }) t) (sym it.step.rules)
     (settled_given v stands jobs events g t low now) where
@@ -236,7 +262,8 @@ decide_prompt (Mark t) v w None may stands it jobs events g =
       low = since_to (Mark t) v w None may stands it jobs events g
 
       now : g.now ≡ settled (list_of v.service) t
-      now = step_settled t v.service w.service may stands (subst (Answers (Mark t) v.service w.service) none it.step) g.now g.gave
+      now = step_settled t v.service w.service may stands
+          (subst (Answers (Mark t) v.service w.service) none it.step) g.now g.gave
           ∙ ap (λ J. settled J t) it.step.list
 
 -- ---- a renewal
@@ -251,7 +278,8 @@ both true true e = (refl, refl)
 both true false e = never e
 both false b e = never e
 
-module _ (v : Life) (stands : Stands v.service) (rest : is_at_rest v ≡ true) (jobs : List JobFacts) (events : List Event) (g : Gave v jobs events) where
+module _ (v : Life) (stands : Stands v.service) (rest : is_at_rest v ≡ true) (jobs : List JobFacts)
+    (events : List Event) (g : Gave v jobs events) where
   abbrev s : Service
   s = v.service
 
@@ -267,7 +295,8 @@ module _ (v : Life) (stands : Stands v.service) (rest : is_at_rest v ≡ true) (
 
   -- their jobs are all
   all_of_them : in_turn lists ≡ in_turn g.lists ++ jobs_of s.state.tasks
-  all_of_them = jobs_append s.rules g.lists (jobs_of s.state.tasks ∷ []) ∙ ap (λ js. in_turn g.lists ++ js) (append-nil (jobs_of s.state.tasks))
+  all_of_them = jobs_append s.rules g.lists (jobs_of s.state.tasks ∷ [])
+      ∙ ap (λ js. in_turn g.lists ++ js) (append-nil (jobs_of s.state.tasks))
 
   module _ (mark : ℕ) (at : GaveAtMark s mark g.now) where
     here : IsReadyFor s mark
@@ -280,7 +309,8 @@ module _ (v : Life) (stands : Stands v.service) (rest : is_at_rest v ≡ true) (
     done = renewing.done_all s stands mark here over g.now at.printed
 
     one : completed_in_turn s.rules (jobs_of s.state.tasks ∷ []) ≡ completed_value (list_of s)
-    one = sum_by-cons (λ js. completed_value (record { rules = s.rules; jobs = js })) (jobs_of s.state.tasks) [] ∙ omega arith
+    one = sum_by-cons (λ js. completed_value (record { rules = s.rules; jobs = js })) (jobs_of s.state.tasks) []
+        ∙ omega arith
 
     -- what the lists before print
     abbrev before_them : List Event
@@ -292,12 +322,17 @@ module _ (v : Life) (stands : Stands v.service) (rest : is_at_rest v ≡ true) (
         (renewing.gave_all s stands mark here over g.now at.printed)
 
     -- so what was given in all is the whole run but for its End
-    printed_but_end : events ++ (ends (v.earned + done_value v) ∷ []) ≡ printed (record { rules = s.rules; jobs = jobs })
+    printed_but_end : events ++ (ends (v.earned + done_value v) ∷ []) ≡ printed
+        (record { rules = s.rules; jobs = jobs })
     printed_but_end = ap (λ es. es ++ (ends (v.earned + done_value v) ∷ [])) given_but_end
-        ∙ append_assoc before_them (map (behind v.forgotten v.earned) (before_end (printed (list_of s)))) (ends (v.earned + done_value v) ∷ [])
-        ∙ ap (λ es. before_them ++ es) (sym (behind_last v.forgotten v.earned (done_value v) (before_end (printed (list_of s)))))
-        ∙ ap (λ value. before_them ++ map (behind v.forgotten v.earned) (before_end (printed (list_of s)) ++ (ends value ∷ []))) done
-        ∙ ap (λ es. before_them ++ map (behind v.forgotten v.earned) es) (sym (end_at_rest (list_of s) mark stands.valid rests))
+        ∙ append_assoc before_them (map (behind v.forgotten v.earned) (before_end (printed (list_of s))))
+        (ends (v.earned + done_value v) ∷ [])
+        ∙ ap (λ es. before_them ++ es)
+        (sym (behind_last v.forgotten v.earned (done_value v) (before_end (printed (list_of s)))))
+        ∙ ap (λ value. before_them ++ map (behind v.forgotten v.earned)
+        (before_end (printed (list_of s)) ++ (ends value ∷ []))) done
+        ∙ ap (λ es. before_them ++ map (behind v.forgotten v.earned) es)
+        (sym (end_at_rest (list_of s) mark stands.valid rests))
         ∙ sym (joins v stands jobs events g (printed (list_of s)))
         ∙ sym (printed_behind s.rules (jobs_of s.state.tasks) stands.valid g.tick g.later g.lists g.over)
         ∙ ap (λ js. printed (record { rules = s.rules; jobs = js })) (sym g.all_jobs)
@@ -307,14 +342,25 @@ module _ (v : Life) (stands : Stands v.service) (rest : is_at_rest v ≡ true) (
     at_mark = record {
       lists = lists;
       tick = mark;
-      over = over_more s.rules g.lists (jobs_of s.state.tasks) 0 g.tick mark g.over stands.valid g.later (subst (IsSince g.tick) at.last g.since) rests;
+      over = over_more s.rules g.lists (jobs_of s.state.tasks) 0 g.tick mark g.over stands.valid g.later
+          (subst (IsSince g.tick) at.last g.since) rests;
       later = λ j member. absurd member;
       since = subst (IsSince mark) (sym at.last) (let e : mark ≤ mark = omega arith in e);
       all_jobs = g.all_jobs ∙ sym all_of_them ∙ sym (append-nil (in_turn lists));
-      forgotten = omega (arith, g.forgotten, ap length all_of_them, length-append (in_turn g.lists) (jobs_of s.state.tasks), count_jobs s.state.tasks);
+      forgotten = omega (
+        arith,
+        g.forgotten,
+        ap length all_of_them,
+        length-append (in_turn g.lists) (jobs_of s.state.tasks),
+        count_jobs s.state.tasks,
+      );
       earned = omega (arith, g.earned, done, completed_append s.rules g.lists (jobs_of s.state.tasks ∷ []), one);
       now = [];
-      gave = inl (mark, record { printed = renewing.runs_anew s stands mark here; last = at.last; goes_on = at.goes_on });
+      gave = inl (
+        mark,
+        record
+            { printed = renewing.runs_anew s stands mark here; last = at.last; goes_on = at.goes_on },
+      );
       all_events = given_but_end ∙ sym (joins v stands jobs events g (before_end (printed (list_of s))))
           ∙ sym (before_end_behind s.rules (jobs_of s.state.tasks) stands.valid g.tick g.later g.lists g.over)
           ∙ ap (λ js. before_end (printed (record { rules = s.rules; jobs = js }))) (sym all_of_them)
@@ -334,4 +380,5 @@ module _ (v : Life) (stands : Stands v.service) (rest : is_at_rest v ≡ true) (
 
   -- and with an End it is the whole run
   pub rest_gave : events ++ (ends (v.earned + done_value v) ∷ []) ≡ printed (record { rules = s.rules; jobs = jobs })
-  rest_gave = marked (events ++ (ends (v.earned + done_value v) ∷ []) ≡ printed (record { rules = s.rules; jobs = jobs })) printed_but_end
+  rest_gave = marked (events ++ (ends (v.earned + done_value v) ∷ []) ≡ printed
+      (record { rules = s.rules; jobs = jobs })) printed_but_end

@@ -1,5 +1,6 @@
 -- What the calls of an engine say.
-use Rattle.std.specs.Prelude.{◌≡◌, ℕ, ◌+◌, ◌≤◌, ◌<◌, ◌||◌, List, [], ◌∷◌, ◌++◌, true, length, map, Option, Some, None, IfSome, IsNone, OnSome, nat_lt, if◌then◌else◌}
+use Rattle.std.specs.Prelude.{◌≡◌, ℕ, ◌+◌, ◌≤◌, ◌<◌, ◌||◌, List, [], ◌∷◌, ◌++◌, true, length, map, Option, Some, None}
+use Rattle.std.specs.Prelude.{IfSome, IsNone, OnSome, nat_lt, if◌then◌else◌}
 use Rattle.std.specs.Option.{option_map}
 use Rattle.dover_model.specs.declared.events.Version.{Version}
 use Rattle.dover_model.specs.declared.events.Event.{Event}
@@ -52,7 +53,8 @@ IsCause v job Full = IsReadyFor v job.release × (refusal_of v.rules.ratio (list
 -- why no step is taken to a mark
 abbrev pub mark_refusal : Horizon → ℕ → Option NotStepped
 mark_refusal End mark = Some Finished
-mark_refusal (Mark last) mark = if nat_lt mark last then Some Falls else if nat_lt last_tick mark then Some Late else None
+mark_refusal (Mark last) mark =
+    if nat_lt mark last then Some Falls else if nat_lt last_tick mark then Some Late else None
 
 -- a step of the server to the horizon was taken from v to w, with this answer
 pub record Answers (to : Horizon) (v w : Service) (answer : Option Event) : Type 0 where

@@ -4,7 +4,8 @@ use Rattle.std.specs.Option.{option_map}
 use Rattle.dover_model.specs.declared.events.Event.{Event}
 use Rattle.dover_model.specs.declared.events.Event.TheVariants as events
 use Rattle.dover_engine.specs.declared.decision.Decision.{Decision}
-use Rattle.dover_engine.specs.declared.decision.Decision.TheVariants.{Release, Run, Preempt, Take, Complete, Abandon, End}
+use Rattle.dover_engine.specs.declared.decision.Decision.TheVariants.{Release, Run, Preempt, Take, Complete, Abandon}
+use Rattle.dover_engine.specs.declared.decision.Decision.TheVariants.{End}
 
 -- the event of a decision
 abbrev pub event_of : Decision → Event

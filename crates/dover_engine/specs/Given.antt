@@ -49,8 +49,8 @@ abbrev pub IsSince : ℕ → Horizon → Type 0
 IsSince tick (Mark mark) = tick ≤ mark
 IsSince tick End = Unit {0}
 
--- The jobs that were ever admitted are lists in turn that were forgotten, and those since the last renewal. The events are what the lists print but
--- for their Ends, and behind them what was given since.
+-- The jobs that were ever admitted are lists in turn that were forgotten, and those since the last renewal. The events
+-- are what the lists print but for their Ends, and behind them what was given since.
 pub record Gave (v : Life) (jobs : List JobFacts) (events : List Event) : Type 0 where
   pub lists : List (List JobFacts)
   pub tick : ℕ  -- of the last renewal
@@ -62,10 +62,12 @@ pub record Gave (v : Life) (jobs : List JobFacts) (events : List Event) : Type 0
   pub earned : v.earned ≡ completed_in_turn v.service.rules lists
   pub now : List Event
   pub gave : GaveOfList v.service now
-  pub all_events : events ≡ before_end (printed (record { rules = v.service.rules; jobs = in_turn lists })) ++ map (behind v.forgotten v.earned) now
+  pub all_events : events ≡ before_end (printed (record { rules = v.service.rules; jobs = in_turn lists })) ++ map
+      (behind v.forgotten v.earned) now
 
 -- None at a mark says that all that is settled there was given, and with End all that is printed was
 abbrev pub IsPrompt : Horizon → Rules → (ended : Type 0) → List JobFacts → List Event → Option Decision → Type 0
 IsPrompt (Mark t) rules ended jobs events None = events ≡ settled (record { rules = rules; jobs = jobs }) t
 IsPrompt (Mark t) rules ended jobs events (Some decision) = Unit {0}
-IsPrompt End rules ended jobs events answer = ended → events ++ events_in answer ≡ printed (record { rules = rules; jobs = jobs })
+IsPrompt End rules ended jobs events answer = ended
+    → events ++ events_in answer ≡ printed (record { rules = rules; jobs = jobs })

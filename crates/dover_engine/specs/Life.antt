@@ -30,7 +30,8 @@ most_forgotten = 1_000_000_000_000_000_000
 
 -- the numbers of all jobs, and their value, are within that
 abbrev pub is_countable : Life → Bool
-is_countable v = nat_le (v.forgotten + length v.service.state.tasks) most_forgotten && nat_le (v.earned + done_value v) most_forgotten
+is_countable v = nat_le (v.forgotten + length v.service.state.tasks) most_forgotten && nat_le
+    (v.earned + done_value v) most_forgotten
 
 -- all jobs are forgotten
 abbrev pub renewed_life : Life → Life

@@ -1,5 +1,6 @@
 //! The engine.
-ghost use Rattle.std.specs.Prelude.{◌≡◌, ◌≤◌, ◌<◌, ◌+◌, ◌^◌, ◌&&◌, ◌++◌, ℕ, IsTrue, IfOk, IfErr, OnErr, true, false, length, List, [], ◌∷◌};
+ghost use Rattle.std.specs.Prelude.{◌≡◌, ◌≤◌, ◌<◌, ◌+◌, ◌^◌, ◌&&◌, ◌++◌, ℕ, IsTrue, IfOk, IfErr, OnErr, true, false};
+ghost use Rattle.std.specs.Prelude.{length, List, [], ◌∷◌};
 ghost use Rattle.std.specs.Prelude.{OnOk, OnSome, IfSome, option_to_list};
 ghost use Rattle.dover_model.specs.Limits.{most_jobs, last_tick};
 ghost use Rattle.dover_model.specs.JobFacts.{JobFacts, job_of_numbers};
@@ -29,8 +30,8 @@ const MOST_JOBS: u32 = 1_000_000;
 // How many jobs may be forgotten, and what they may have earned.
 const MOST_FORGOTTEN: u64 = 1_000_000_000_000_000_000;
 
-/// A server with its admission, which takes all its memory when it is made. Where all its jobs are over, it can forget them
-/// and go on.
+/// A server with its admission, which takes all its memory when it is made. Where all its jobs are over, it can forget
+/// them and go on.
 #[derive(Drop)]
 pub struct Engine {
     server: Server,
@@ -100,8 +101,9 @@ impl Engine {
         })
     }
 
-    /// Admits the job of these numbers under the next number, which is the answer: jobs are numbered from 0 in the order in which they
-    /// are admitted, and no renewal begins the numbers again. The job is still to come. No memory is taken.
+    /// Admits the job of these numbers under the next number, which is the answer: jobs are numbered from 0 in the
+    /// order in which they are admitted, and no renewal begins the numbers again. The job is still to come. No memory
+    /// is taken.
     pub fn admit(
         &mut self,
         release: u64,
@@ -109,11 +111,13 @@ impl Engine {
         deadline: u64,
         value: u64,
     ) -> Result<u64, NotAdmitted>
-        ensures ok { IfOk result (λ number. IsAdmitted self.old self.new (job_of_numbers release work deadline value) number) }
+        ensures ok { IfOk result
+            (λ number. IsAdmitted self.old self.new (job_of_numbers release work deadline value) number) }
         ensures gave { (jobs : List JobFacts) (events : List Event) → Gave self.old jobs events →
             OnOk result (Gave self.new (jobs ++ (job_of_numbers release work deadline value ∷ [])) events) }
         ensures kept { OnErr result (self.new ≡ self.old) }
-        ensures cause { IfErr result (λ cause. IsCause self.old.service (job_of_numbers release work deadline value) cause) }
+        ensures cause { IfErr result
+            (λ cause. IsCause self.old.service (job_of_numbers release work deadline value) cause) }
     {
         if !self.server.ready_for(release) {
             return Err(NotAdmitted::Unsettled);
@@ -139,7 +143,8 @@ impl Engine {
     fn decide<L: Ledger>(&mut self, to: Horizon, steps: &mut Steps<L>) -> Option<Decision>
         requires { MayFollow self.old.service.last to }
         ensures decides { Decides to self.old self.new result }
-        ensures gave { (jobs : List JobFacts) (events : List Event) → Gave self.old jobs events → Gave self.new jobs (events ++ events_in result) }
+        ensures gave { (jobs : List JobFacts) (events : List Event) → Gave self.old jobs events →
+            Gave self.new jobs (events ++ events_in result) }
         ensures prompt { (jobs : List JobFacts) (events : List Event) → Gave self.old jobs events →
             IsPrompt to self.new.service.rules (self.new.service.ended ≡ true) jobs events result }
         ensures count { (d : ℕ) → length self.old.service.state.tasks + 1 < 2 ^ d →
@@ -151,8 +156,8 @@ impl Engine {
         decision_in(self.forgotten, self.earned, &event)
     }
 
-    /// The next decision that no job can change that is released at the mark or later. None where all that are settled at the mark were given:
-    /// then jobs of this release may be admitted. No memory is taken.
+    /// The next decision that no job can change that is released at the mark or later. None where all that are settled
+    /// at the mark were given: then jobs of this release may be admitted. No memory is taken.
     pub fn step<L: Ledger>(
         &mut self,
         mark: u64,
@@ -166,7 +171,8 @@ impl Engine {
         ensures gave { (jobs : List JobFacts) (events : List Event) → Gave self.old jobs events →
             IfOk result (λ answer. Gave self.new jobs (events ++ events_in answer)) }
         ensures prompt { (jobs : List JobFacts) (events : List Event) → Gave self.old jobs events →
-            IfOk result (λ answer. IsPrompt (Mark mark) self.new.service.rules (self.new.service.ended ≡ true) jobs events answer) }
+            IfOk result (λ answer. IsPrompt (Mark mark) self.new.service.rules
+            (self.new.service.ended ≡ true) jobs events answer) }
         ensures count { (d : ℕ) → length self.old.service.state.tasks + 1 < 2 ^ d →
             OnOk result (IsCounted (Mark mark) self.old.service.rules self.old.service.state self.new.service.state d steps.old steps.new) }
     {
@@ -176,11 +182,12 @@ impl Engine {
         Ok(self.decide(Horizon::Mark(mark), steps))
     }
 
-    /// The next decision, where no further job can come. None after the End. From the first of these calls on no job is admitted and no step is taken
-    /// to a mark. No memory is taken.
+    /// The next decision, where no further job can come. None after the End. From the first of these calls on no job is
+    /// admitted and no step is taken to a mark. No memory is taken.
     pub fn finish<L: Ledger>(&mut self, steps: &mut Steps<L>) -> Option<Decision>
         ensures decides { Decides End self.old self.new result }
-        ensures gave { (jobs : List JobFacts) (events : List Event) → Gave self.old jobs events → Gave self.new jobs (events ++ events_in result) }
+        ensures gave { (jobs : List JobFacts) (events : List Event) → Gave self.old jobs events →
+            Gave self.new jobs (events ++ events_in result) }
         ensures prompt { (jobs : List JobFacts) (events : List Event) → Gave self.old jobs events →
             IsPrompt End self.new.service.rules (self.new.service.ended ≡ true) jobs events result }
         ensures count { (d : ℕ) → length self.old.service.state.tasks + 1 < 2 ^ d →
@@ -189,14 +196,16 @@ impl Engine {
         self.decide(Horizon::End, steps)
     }
 
-    /// Forgets all jobs, where they are over and the last step was to a mark and answered None: the clock and the numbers go on, there is room
-    /// again for as many jobs, and the limits of count, total and ratio start anew. Answers whether it did. It does so too rarely only where
-    /// more than 10^18 jobs, or jobs of more than 10^18 in value, would be forgotten. No memory is taken.
+    /// Forgets all jobs, where they are over and the last step was to a mark and answered None: the clock and the
+    /// numbers go on, there is room again for as many jobs, and the limits of count, total and ratio start anew.
+    /// Answers whether it did. It does so too rarely only where more than 10^18 jobs, or jobs of more than 10^18 in
+    /// value, would be forgotten. No memory is taken.
     pub fn renew(&mut self) -> bool
         ensures when { result ≡ (is_countable self.old && is_at_rest self.old) }
         ensures renewed { IsTrue result → self.new ≡ renewed_life self.old }
         ensures kept { result ≡ false → self.new ≡ self.old }
-        ensures gave { (jobs : List JobFacts) (events : List Event) → Gave self.old jobs events → Gave self.new jobs events }
+        ensures gave { (jobs : List JobFacts) (events : List Event) → Gave self.old jobs events →
+            Gave self.new jobs events }
     {
         let jobs = u64::from(self.server.admitted());
         let value = self.server.value();

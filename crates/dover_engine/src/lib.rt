@@ -1,4 +1,5 @@
-//! The server for a program that calls it step by step: each call is total, and what may not be asked is refused with its cause.
+//! The server for a program that calls it step by step: each call is total, and what may not be asked is refused with
+//! its cause.
 #![tactic(auto)]
 
 pub mod causes;

@@ -1,4 +1,5 @@
-use Rattle.dover_c.proofs.Programs.{numbers, settled_given, ended_given, given_append, within_given, honest_given, underload_given}
+use Rattle.dover_c.proofs.Programs.{numbers, settled_given, ended_given, given_append, within_given, honest_given}
+use Rattle.dover_c.proofs.Programs.{underload_given, unlost_given}
 use Rattle.dover_c.proofs.laws.a_program_is_given_one_run.Goals as goal
 
 pub returns-clause-numbers : goal.returns-clause-numbers
@@ -21,3 +22,6 @@ returns-clause-honest c = honest_given
 
 pub returns-clause-underload : goal.returns-clause-underload
 returns-clause-underload c = underload_given
+
+pub returns-clause-none_lost : goal.returns-clause-none_lost
+returns-clause-none_lost c = unlost_given

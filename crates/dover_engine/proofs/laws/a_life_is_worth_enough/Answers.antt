@@ -1,4 +1,5 @@
 use Rattle.dover_engine.proofs.LifeLaws.{within_all, honest_all, underload_all, value_all}
+use Rattle.dover_engine.proofs.Unlost.{none_lost_all}
 use Rattle.dover_engine.proofs.laws.a_life_is_worth_enough.Goals as goal
 
 pub returns-clause-within : goal.returns-clause-within
@@ -9,6 +10,9 @@ returns-clause-honest c = honest_all
 
 pub returns-clause-underload : goal.returns-clause-underload
 returns-clause-underload c = underload_all
+
+pub returns-clause-none_lost : goal.returns-clause-none_lost
+returns-clause-none_lost c = none_lost_all
 
 pub returns-clause-value : goal.returns-clause-value
 returns-clause-value c = value_all

@@ -12,8 +12,10 @@ pub admit-requires-clause-valid : goal.admit-requires-clause-valid
 admit-requires-clause-valid c =
     let e = c.self.inside in
     subst (λ job. IsValid (with_jobs (list_of e.server) (job ∷ []))) (sym c.in-Ok.ensures.job)
-    (may_admit e (job_of_numbers c.args.release c.args.work c.args.deadline c.args.value) c.self.invariant c.clock-clock.ensures.stands
-    (c.ready_for.ensures.0 c.if-not-ready_for.false) (c.in-Ok.ensures.refusal (list_of e.server).jobs c.self.invariant.jobs))
+    (may_admit e (job_of_numbers c.args.release c.args.work c.args.deadline c.args.value) c.self.invariant
+    c.clock-clock.ensures.stands
+    (c.ready_for.ensures.0 c.if-not-ready_for.false)
+    (c.in-Ok.ensures.refusal (list_of e.server).jobs c.self.invariant.jobs))
 
 pub returns-clause-ok : goal.returns-clause-ok
 returns-clause-ok c =
@@ -27,7 +29,8 @@ returns-clause-ok c =
       ready = ready;
       valid = may_admit e job c.self.invariant c.clock-clock.ensures.stands ready
           (c.in-Ok.ensures.refusal (list_of e.server).jobs c.self.invariant.jobs);
-      life = ap after (c.in-Ok-admit.ensures.ok ∙ ap (λ (j : JobFacts). with_job e.server j w.spare) c.in-Ok.ensures.job);
+      life = ap after (c.in-Ok-admit.ensures.ok
+          ∙ ap (λ (j : JobFacts). with_job e.server j w.spare) c.in-Ok.ensures.job);
       spare = c.in-Ok-admit.ensures.spare;
     })
 

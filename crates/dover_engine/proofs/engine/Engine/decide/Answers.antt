@@ -14,7 +14,8 @@ invariant_of-self c = λ c'.
       ratio = c'.self.invariant.ratio ∙ ap (λ r. r.ratio) (sym a.rules);
       jobs = subst (λ J. StandsFor e.admission J.jobs) (sym a.list) c'.self.invariant.jobs;
       last_is = a.last;
-      known = subst (λ J. AllKnown w.last J.jobs) (sym a.list) (subst (λ h. AllKnown h (list_of e.server).jobs) (sym a.last)
+      known = subst (λ J. AllKnown w.last J.jobs) (sym a.list)
+          (subst (λ h. AllKnown h (list_of e.server).jobs) (sym a.last)
           (still_known e.server.last c'.args.to (list_of e.server).jobs may c'.self.invariant.known));
       forgotten_fits = c'.self.invariant.forgotten_fits;
       earned_fits = c'.self.invariant.earned_fits;
@@ -22,18 +23,27 @@ invariant_of-self c = λ c'.
 
 pub decision_in-requires-clause-value : goal.decision_in-requires-clause-value
 decision_in-requires-clause-value c = λ c'.
-    answers_short c'.args.to c'.self.inside.server c'.step_to-event.new.server c'.step_to-event.result c'.step_to-event.ensures.answers
+    answers_short c'.args.to c'.self.inside.server c'.step_to-event.new.server c'.step_to-event.result
+    c'.step_to-event.ensures.answers
 
 pub returns-clause-decides : goal.returns-clause-decides
 returns-clause-decides c = λ c'.
     let e = c'.self.inside in let w = c'.step_to-event.new.server in
-    subst (λ v. Decides c'.args.to v (record { service = w; forgotten = e.forgotten; earned = e.earned }) c'.decision_in.result) c'.self.view_is
-    (record { event = c'.step_to-event.result; shown = c'.decision_in.ensures; step = c'.step_to-event.ensures.answers; life = refl })
+    subst (λ v. Decides c'.args.to v
+    (record { service = w; forgotten = e.forgotten; earned = e.earned }) c'.decision_in.result) c'.self.view_is
+    (record {
+      event = c'.step_to-event.result;
+      shown = c'.decision_in.ensures;
+      step = c'.step_to-event.ensures.answers;
+      life = refl;
+    })
 
 pub returns-clause-gave : goal.returns-clause-gave
 returns-clause-gave c = λ c'. λ jobs events gave. decide_gave c'.args.to c'.args.self.now _ _ c'.requires
-    (subst (λ v. Stands v.service) c'.self.view_is c'.clock-clock.ensures.stands) (returns-clause-decides c c') jobs events gave
+    (subst (λ v. Stands v.service) c'.self.view_is c'.clock-clock.ensures.stands)
+    (returns-clause-decides c c') jobs events gave
 
 pub returns-clause-prompt : goal.returns-clause-prompt
 returns-clause-prompt c = λ c'. λ jobs events gave. decide_prompt c'.args.to c'.args.self.now _ _ c'.requires
-    (subst (λ v. Stands v.service) c'.self.view_is c'.clock-clock.ensures.stands) (returns-clause-decides c c') jobs events gave
+    (subst (λ v. Stands v.service) c'.self.view_is c'.clock-clock.ensures.stands)
+    (returns-clause-decides c c') jobs events gave

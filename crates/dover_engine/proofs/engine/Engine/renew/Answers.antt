@@ -14,8 +14,16 @@ returns-clause-gave c = λ jobs events gave.
       forgotten = e.forgotten + c.from-jobs.result;
       earned = e.earned + c.value-value.result;
     }) jobs events) (sym (c.renew.ensures.renewed c.if-not-renew.false))
-    (subst (λ n. Gave (record { service = renewed e.server; forgotten = e.forgotten + n; earned = e.earned + c.value-value.result }) jobs events)
+    (subst (λ n. Gave (record
+    { service = renewed e.server; forgotten = e.forgotten + n; earned = e.earned + c.value-value.result }) jobs
+    events)
     (sym (c.from-jobs.ensures ∙ c.admitted.ensures))
-    (subst (λ value. Gave (record { service = renewed e.server; forgotten = e.forgotten + length e.server.state.tasks; earned = e.earned + value }) jobs events)
+    (subst (λ value. Gave (record {
+      service = renewed e.server;
+      forgotten = e.forgotten + length e.server.state.tasks;
+      earned =
+          e.earned + value;
+    }) jobs events)
     (sym c.value-value.ensures)
-    (renew_gave (life_of e) c.clock-clock.ensures.stands rest jobs events (subst (λ v. Gave v jobs events) (sym c.self.view_is) gave))))
+    (renew_gave (life_of e) c.clock-clock.ensures.stands rest jobs events
+    (subst (λ v. Gave v jobs events) (sym c.self.view_is) gave))))
