@@ -1,16 +1,19 @@
 -- That words ask for one thing at most.
-use Rattle.std.proofs.Common.{◌≡◌, ℕ, ◌+◌, ◌<◌, ◌^◌, List, [], ◌∷◌, String, get_or, decimal, sym, ap, ◌∙◌, inl, inr, subst, arith}
+use Rattle.std.proofs.Common.{◌≡◌, ℕ, ◌+◌, ◌<◌, ◌^◌, List, [], ◌∷◌, String, get_or, decimal, sym, ap, ◌∙◌, inl, inr}
+use Rattle.std.proofs.Common.{subst, arith, drop, Option, Some, None}
 use Rattle.std.specs.Prelude.{codes, bytes_eq, unwrap_or, if◌then◌else◌}
 use Rattle.std.specs.declared.alloc.Global.{Global}
 use Rattle.report_word.specs.declared.form.Form.{Form}
-use Rattle.report_word.specs.declared.form.Form.TheVariants.{Text, Table, Chrome, Why}
+use Rattle.report_word.specs.declared.form.Form.TheVariants.{Text, Table, Chrome, Why, Timeline, Svg}
+use Rattle.run_view.specs.declared.window.Window.{Window}
 use Rattle.dover_model.specs.Fraction.{Fraction, IsRatio}
 use Rattle.dover_model.specs.Numerals.{numeral}
 use Rattle.dover_model.proofs.Numerals.{numeral-decimal}
 use Rattle.dover_top.specs.Requests.{Asks, MayCarry}
 use Rattle.dover_top.specs.Words.{spelled, AreRow}
 use Rattle.dover_top.specs.declared.request.Request.{Request}
-use Rattle.dover_top.specs.declared.request.Request.TheVariants.{Serve, Judge, Report, Trial, Bait, Ask, Lanes, Pause, Resume}
+use Rattle.dover_top.specs.declared.request.Request.TheVariants.{Serve, Judge, Report, Trial, Bait, Ask, Lanes, Pause}
+use Rattle.dover_top.specs.declared.request.Request.TheVariants.{Resume, Unroll}
 use Rattle.serve_word.specs.declared.from.AtEnd.{AtEnd}
 use Rattle.serve_word.specs.declared.from.AtEnd.TheVariants as ends
 use Rattle.dover_words.specs.declared.question.Question.TheVariants.{Feasible, Best, Compare}
@@ -29,11 +32,18 @@ number_of word = unwrap_or (numeral word) 0
 abbrev ratio_at : ℕ → List (List ℕ) → Fraction
 ratio_at n words = record { p = number_of (word_at n words); q = number_of (word_at (n + 1) words) }
 
+-- the window whose ticks words spell, if there are some
+abbrev window_of : List (List ℕ) → Option Window
+window_of [] = None
+window_of (from ∷ more) = Some (record { from = number_of from; until = number_of (word_at 0 more) })
+
 -- the form of report that words name
 abbrev form_of : List (List ℕ) → Form
 form_of words = let word = word_at 1 words in
     if bytes_eq word (codes "text") then Text else (if bytes_eq word (codes "csv") then Table else (
-    if bytes_eq word (codes "chrome") then Chrome else Why (number_of (word_at 2 words))))
+    if bytes_eq word (codes "chrome") then Chrome else (
+    if bytes_eq word (codes "why") then Why (number_of (word_at 2 words)) else (
+    if bytes_eq word (codes "timeline") then Timeline (window_of (drop 2 words)) else Svg (window_of (drop 2 words))))))
 
 -- what is done where the input ends that a word names
 abbrev end_of : List ℕ → AtEnd
@@ -52,7 +62,9 @@ request_of words =
     if bytes_eq (word_at 0 words) (codes "best") then Ask Best else (
     if bytes_eq (word_at 0 words) (codes "compare") then Ask Compare else (
     if bytes_eq (word_at 0 words) (codes "lanes") then Lanes else (
-    if bytes_eq (word_at 0 words) (codes "pause") then Pause else Resume (end_of (word_at 1 words)))))))))))
+    if bytes_eq (word_at 0 words) (codes "pause") then Pause else (
+    if bytes_eq (word_at 0 words) (codes "resume") then Resume (end_of (word_at 1 words)) else Unroll
+    (number_of (word_at 1 words))))))))))))
 
 -- a number is read back
 number_same : (n : ℕ) → n < 10 ^ 18 → number_of (decimal n) ≡ n
@@ -64,8 +76,20 @@ ratio_same k r = both (number_same k.p (omega (arith, r.small_p))) (number_same 
   make : ℕ → ℕ → Fraction
   make p q = record { p = p; q = q }
 
-  both : number_of (decimal k.p) ≡ k.p → number_of (decimal k.q) ≡ k.q → make (number_of (decimal k.p)) (number_of (decimal k.q)) ≡ k
+  both : number_of (decimal k.p) ≡ k.p → number_of (decimal k.q) ≡ k.q
+      → make (number_of (decimal k.p)) (number_of (decimal k.q)) ≡ k
   both e f = ap (λ p. make p (number_of (decimal k.q))) e ∙ ap (λ q. make k.p q) f
+
+-- so is a window
+window_same : (w : Window) → w.from < w.until → w.until < 10 ^ 18
+    → record { from = number_of (decimal w.from); until = number_of (decimal w.until) } ≡ w
+window_same w some short = both (number_same w.from (omega (arith, some, short))) (number_same w.until short) where
+  make : ℕ → ℕ → Window
+  make from until = record { from = from; until = until }
+
+  both : number_of (decimal w.from) ≡ w.from → number_of (decimal w.until) ≡ w.until
+      → make (number_of (decimal w.from)) (number_of (decimal w.until)) ≡ w
+  both e f = ap (λ from. make from (number_of (decimal w.until))) e ∙ ap (λ until. make w.from until) f
 
 -- words that ask for something are read as it
 is_read : (words : List (String Global)) (r : Request) → Asks words r → request_of (spelled words) ≡ r
@@ -74,9 +98,17 @@ is_read words Judge asks = ap request_of asks
 is_read words (Report Text) asks = ap request_of asks.row
 is_read words (Report Table) asks = ap request_of asks.row
 is_read words (Report Chrome) asks = ap request_of asks.row
-is_read words (Report (Why n)) asks = ap request_of asks.row ∙ ap (λ m. Report (Why m)) (number_same n (omega (arith, asks.formed)))
+is_read words (Report (Why n)) asks = ap request_of asks.row
+    ∙ ap (λ m. Report (Why m)) (number_same n (omega (arith, asks.formed)))
+is_read words (Report (Timeline None)) asks = ap request_of asks.row
+is_read words (Report (Timeline (Some w))) asks = ap request_of asks.row
+    ∙ ap (λ v. Report (Timeline (Some v))) (window_same w asks.formed.0 asks.formed.1)
+is_read words (Report (Svg None)) asks = ap request_of asks.row
+is_read words (Report (Svg (Some w))) asks = ap request_of asks.row
+    ∙ ap (λ v. Report (Svg (Some v))) (window_same w asks.formed.0 asks.formed.1)
 is_read words (Trial seed count k) asks = ap request_of asks.row
-    ∙ ap (λ n. Trial n (number_of (decimal count)) (ratio_at 0 (decimal k.p ∷ decimal k.q ∷ []))) (number_same seed (omega (arith, asks.small)))
+    ∙ ap (λ n. Trial n (number_of (decimal count)) (ratio_at 0 (decimal k.p ∷ decimal k.q ∷ [])))
+    (number_same seed (omega (arith, asks.small)))
     ∙ ap (λ n. Trial seed n (ratio_at 0 (decimal k.p ∷ decimal k.q ∷ []))) (number_same count (omega (arith, asks.few)))
     ∙ ap (λ l. Trial seed count l) (ratio_same k asks.allowed)
 is_read words (Bait k rounds) asks = ap request_of asks.row
@@ -89,6 +121,8 @@ is_read words Lanes asks = ap request_of asks
 is_read words Pause asks = ap request_of asks
 is_read words (Resume ends.Refuse) asks = ap request_of asks
 is_read words (Resume ends.Pause) asks = ap request_of asks
+is_read words (Unroll until) asks = ap request_of asks.row
+    ∙ ap (λ n. Unroll n) (number_same until (omega (arith, asks.known)))
 
 -- words that ask for two things ask for one
 pub asks_one : (words : List (String Global)) (r other : Request) → Asks words r → Asks words other → r ≡ other
@@ -104,7 +138,8 @@ no_row words none (inr (inr (inr (inr (inl (k, rounds, asks)))))) = none (Bait k
 no_row words none (inr (inr (inr (inr (inr (inl (question, asks))))))) = none (Ask question) asks
 no_row words none (inr (inr (inr (inr (inr (inr (inl asks))))))) = none Lanes asks
 no_row words none (inr (inr (inr (inr (inr (inr (inr (inl asks)))))))) = none Pause asks
-no_row words none (inr (inr (inr (inr (inr (inr (inr (inr (at_end, asks))))))))) = none (Resume at_end) asks
+no_row words none (inr (inr (inr (inr (inr (inr (inr (inr (inl (at_end, asks)))))))))) = none (Resume at_end) asks
+no_row words none (inr (inr (inr (inr (inr (inr (inr (inr (inr (until, asks)))))))))) = none (Unroll until) asks
 
 -- words that ask for something are a row
 pub are_row : (words : List (String Global)) (r : Request) → Asks words r → AreRow words
@@ -116,7 +151,8 @@ are_row words (Bait k rounds) asks = inr (inr (inr (inr (inl (k, rounds, asks)))
 are_row words (Ask question) asks = inr (inr (inr (inr (inr (inl (question, asks))))))
 are_row words Lanes asks = inr (inr (inr (inr (inr (inr (inl asks))))))
 are_row words Pause asks = inr (inr (inr (inr (inr (inr (inr (inl asks)))))))
-are_row words (Resume at_end) asks = inr (inr (inr (inr (inr (inr (inr (inr (at_end, asks))))))))
+are_row words (Resume at_end) asks = inr (inr (inr (inr (inr (inr (inr (inr (inl (at_end, asks)))))))))
+are_row words (Unroll until) asks = inr (inr (inr (inr (inr (inr (inr (inr (inr (until, asks)))))))))
 
 -- what words ask for is within the limits of its word
 pub may_carry : (words : List (String Global)) (r : Request) → Asks words r → MayCarry r
@@ -129,6 +165,7 @@ may_carry words (Ask question) asks = tt
 may_carry words Lanes asks = tt
 may_carry words Pause asks = tt
 may_carry words (Resume at_end) asks = tt
+may_carry words (Unroll until) asks = asks.known
 
 -- what holds of the numbers of a trial, as a fact on a request
 abbrev OfTrial : (ℕ → ℕ → Fraction → Type 0) → Request → Type 0
@@ -141,9 +178,11 @@ OfTrial P (Ask question) = Unit {0}
 OfTrial P Lanes = Unit {0}
 OfTrial P Pause = Unit {0}
 OfTrial P (Resume at_end) = Unit {0}
+OfTrial P (Unroll until) = Unit {0}
 
 -- equal trials have the same numbers
-pub trial_is : (P : ℕ → ℕ → Fraction → Type 0) (seed count seed' count' : ℕ) (k l : Fraction) → Trial seed count k ≡ Trial seed' count' l
+pub trial_is : (P : ℕ → ℕ → Fraction → Type 0) (seed count seed' count' : ℕ) (k l : Fraction)
+    → Trial seed count k ≡ Trial seed' count' l
     → P seed count k → P seed' count' l
 trial_is P seed count seed' count' k l e p = subst (OfTrial P) e p
 
@@ -158,7 +197,26 @@ OfBait P (Ask question) = Unit {0}
 OfBait P Lanes = Unit {0}
 OfBait P Pause = Unit {0}
 OfBait P (Resume at_end) = Unit {0}
+OfBait P (Unroll until) = Unit {0}
 
 -- equal baits have the same numbers
-pub bait_is : (P : Fraction → ℕ → Type 0) (k l : Fraction) (rounds rounds' : ℕ) → Bait k rounds ≡ Bait l rounds' → P k rounds → P l rounds'
+pub bait_is : (P : Fraction → ℕ → Type 0) (k l : Fraction) (rounds rounds' : ℕ) → Bait k rounds ≡ Bait l rounds'
+    → P k rounds → P l rounds'
 bait_is P k l rounds rounds' e p = subst (OfBait P) e p
+
+-- what holds of the tick of an unrolling, as a fact on a request
+abbrev OfUnroll : (ℕ → Type 0) → Request → Type 0
+OfUnroll P Serve = Unit {0}
+OfUnroll P Judge = Unit {0}
+OfUnroll P (Report form) = Unit {0}
+OfUnroll P (Trial seed count k) = Unit {0}
+OfUnroll P (Bait k rounds) = Unit {0}
+OfUnroll P (Ask question) = Unit {0}
+OfUnroll P Lanes = Unit {0}
+OfUnroll P Pause = Unit {0}
+OfUnroll P (Resume at_end) = Unit {0}
+OfUnroll P (Unroll until) = P until
+
+-- equal unrollings have the same tick
+pub unroll_is : (P : ℕ → Type 0) (until until' : ℕ) → Unroll until ≡ Unroll until' → P until → P until'
+unroll_is P until until' e p = subst (OfUnroll P) e p

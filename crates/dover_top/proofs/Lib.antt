@@ -5,3 +5,4 @@ pub mod LaneFeeds
 pub mod ServedLanes
 pub mod Asking
 pub mod Numbers
+pub mod UnrolledTasks

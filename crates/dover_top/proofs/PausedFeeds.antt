@@ -18,14 +18,17 @@ traced_or_paused moves (inl done) = inl (traced moves done)
 traced_or_paused moves (inr paused) = inr paused
 
 -- a feed that ended is neither faulty nor cut off
-not_refused : (moves : List Move) → is_ended (account (ins moves)) ≡ true → IsFaulty (account (ins moves)) ⊎ IsCutOff moves → ⊥
+not_refused : (moves : List Move) → is_ended (account (ins moves)) ≡ true → IsFaulty (account (ins moves))
+    ⊎ IsCutOff moves → ⊥
 not_refused moves ended (inl faulty) = ended_alone (account (ins moves)) (has_ended moves ≡ true) ended (inl faulty)
-not_refused moves ended (inr cut) = ended_alone (account (ins moves)) (has_ended moves ≡ true) ended (inr (cut.ended, cut.open_still))
+not_refused moves ended (inr cut) =
+    ended_alone (account (ins moves)) (has_ended moves ≡ true) ended (inr (cut.ended, cut.open_still))
 
 -- nor is one that may pause
 may_go_on : (moves : List Move) → MayPause (ins moves) → IsFaulty (account (ins moves)) ⊎ IsCutOff moves → ⊥
 may_go_on moves may (inl faulty) =
-    let shut : is_open (account (ins moves)) ≡ false = ap (λ s. elim s [ Open ↦ true | Ended ↦ false | Faulty line cause ↦ false ]) faulty.2 in
+    let shut : is_open (account (ins moves)) ≡ false =
+    ap (λ s. elim s [ Open ↦ true | Ended ↦ false | Faulty line cause ↦ false ]) faulty.2 in
     absurd (let clash : true ≡ false = sym may.going_on ∙ shut in cc)
 may_go_on moves may (inr cut) = cut.never may
 

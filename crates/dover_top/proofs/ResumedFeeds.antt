@@ -40,7 +40,8 @@ pauses_open Pause x may = may.going_on
 -- one with a fault doesn't
 faulty_shut : (a : Account) → IsFaulty a → is_open a ≡ true → ⊥
 faulty_shut a faulty goes_on =
-    let shut : is_open a ≡ false = ap (λ s. elim s [ Open ↦ true | Ended ↦ false | Faulty line cause ↦ false ]) faulty.2 in
+    let shut : is_open a ≡ false =
+    ap (λ s. elim s [ Open ↦ true | Ended ↦ false | Faulty line cause ↦ false ]) faulty.2 in
     absurd (let clash : true ≡ false = sym goes_on ∙ shut in cc)
 
 module _ (at_end : AtEnd) (moves : List Move) where
@@ -82,10 +83,12 @@ module _ (at_end : AtEnd) (moves : List Move) where
   -- want of memory never comes behind the end of the input
   memory_unended : Ends at_end Memory moves → has_ended moves ≡ true → ⊥
   memory_unended (inl it) over = absurd (let clash : false ≡ true = sym it.unended ∙ over in cc)
-  memory_unended (inr it) over = absurd (let clash : false ≡ true = sym (it.each it.feed it.more it.may it.read).0 ∙ over in cc)
+  memory_unended (inr it) over =
+      absurd (let clash : false ≡ true = sym (it.each it.feed it.more it.may it.read).0 ∙ over in cc)
 
 -- where neither count rose, the answer is the one that the snapshot and the feed call for
-pub settled_or_resumed : (at_end : AtEnd) (status : Status) (r r' w w' : ℕ) → Causes status r r' w w' → (Rose r r' → ⊥) → (Rose w w' → ⊥)
+pub settled_or_resumed : (at_end : AtEnd) (status : Status) (r r' w w' : ℕ) → Causes status r r' w w' → (Rose r r' → ⊥)
+    → (Rose w w' → ⊥)
     → (moves : List Move) → Resumes at_end status moves → IsSettledOrResumed at_end status moves
 settled_or_resumed at_end Done r r' w w' cause read write moves s = record {
   ended = λ F H may is ended. inl refl;
@@ -96,7 +99,8 @@ settled_or_resumed at_end Done r r' w w' cause read write moves s = record {
 settled_or_resumed at_end Refused r r' w w' cause read write moves s = record {
   ended = λ F H may is ended. absurd (not_ended at_end moves F H (why_behind at_end moves F H may is s.ends) ended);
   refused = λ F H may is why. inl refl;
-  paused = λ F H may is over pauses. absurd (not_paused at_end moves F H (why_behind at_end moves F H may is s.ends) pauses);
+  paused = λ F H may is over pauses. absurd
+      (not_paused at_end moves F H (why_behind at_end moves F H may is s.ends) pauses);
   no_snapshot = λ line why. inl refl;
 }
 settled_or_resumed at_end Memory r r' w w' cause read write moves s = record {

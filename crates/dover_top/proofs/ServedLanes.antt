@@ -44,8 +44,10 @@ all_served moves it = let closed = done_closed (input (ins moves)) it.answered i
 -- where neither count rose, the session is over and has its closing status, or there was no memory
 pub lanes_so : (status : Status) (r r' w w' : ℕ) → Causes status r r' w w' → (Rose r r' → ⊥) → (Rose w w' → ⊥)
     → (moves : List Move) → Serves status moves → AreSettled status moves
-lanes_so Done r r' w w' cause read write moves s = record { read = inl s.ends.over; answered = λ _. inl s.ends.answered }
-lanes_so Refused r r' w w' cause read write moves s = record { read = inl s.ends.over; answered = λ _. inl s.ends.answered }
+lanes_so Done r r' w w' cause read write moves s =
+    record { read = inl s.ends.over; answered = λ _. inl s.ends.answered }
+lanes_so Refused r r' w w' cause read write moves s =
+    record { read = inl s.ends.over; answered = λ _. inl s.ends.answered }
 lanes_so Memory r r' w w' cause read write moves s = record { read = inr refl; answered = λ _. inr refl }
 lanes_so ReadFault r r' w w' cause read write moves s = absurd (read cause.0)
 lanes_so WriteFault r r' w w' cause read write moves s = absurd (write cause.1)

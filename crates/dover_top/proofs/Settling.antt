@@ -135,7 +135,8 @@ writes_stay Memory r r' w w' cause other = cause.1
 writes_stay Usage r r' w w' cause other = cause.1
 
 -- where neither count rose, there is an answer or no memory
-pub complete : (status : Status) (r r' w w' : ℕ) → IsAnswer status → Causes status r r' w w' → (Rose r r' → ⊥) → (Rose w w' → ⊥)
+pub complete : (status : Status) (r r' w w' : ℕ) → IsAnswer status → Causes status r r' w w' → (Rose r r' → ⊥)
+    → (Rose w w' → ⊥)
     → (status ≡ Done) ⊎ (status ≡ Refused) ⊎ (status ≡ Memory)
 complete Done r r' w w' answer cause read write = inl refl
 complete Refused r r' w w' answer cause read write = inr (inl refl)
@@ -150,7 +151,8 @@ complete Usage r r' w w' answer cause read write = absurd answer
 -- an account that has ended neither goes on nor is faulty
 pub ended_alone : (a : Account) (X : Type 0) → is_ended a ≡ true → IsFaulty a ⊎ (X × (is_open a ≡ true)) → ⊥
 ended_alone a X ended (inl faulty) =
-    let e : is_ended a ≡ false = ap (λ s. elim s [ Open ↦ false | Ended ↦ true | Faulty line cause ↦ false ]) faulty.2 in
+    let e : is_ended a ≡ false =
+    ap (λ s. elim s [ Open ↦ false | Ended ↦ true | Faulty line cause ↦ false ]) faulty.2 in
     absurd (let clash : false ≡ true = sym e ∙ ended in cc)
 ended_alone a X ended (inr goes_on) = by_standing a.standing ended goes_on.1 where
   by_standing : (s : Standing) → elim s [ Open ↦ false | Ended ↦ true | Faulty line cause ↦ false ] ≡ true
@@ -160,7 +162,8 @@ ended_alone a X ended (inr goes_on) = by_standing a.standing ended goes_on.1 whe
   by_standing (Faulty line cause) over on = absurd (let clash : false ≡ true = over in cc)
 
 -- where neither count rose, the answer is the one that the feed calls for
-pub settled : (status : Status) (r r' w w' : ℕ) → IsAnswer status → Causes status r r' w w' → (Rose r r' → ⊥) → (Rose w w' → ⊥)
+pub settled : (status : Status) (r r' w w' : ℕ) → IsAnswer status → Causes status r r' w w' → (Rose r r' → ⊥)
+    → (Rose w w' → ⊥)
     → (moves : List Move) → Serves status moves → IsSettled status moves
 settled Done r r' w w' answer cause read write moves s =
     record { ended = λ e. inl refl; refused = λ why. absurd (ended_alone (account (ins moves)) _ s.ends.ended why) }
@@ -181,7 +184,8 @@ accepted_alone bytes S it (inr short) = absurd (let clash : Accepted S ≡ Short
 
 -- why a text has no report: a line is wrong, or it is short at the end of the input
 abbrev Why : List Move → Type 0
-Why moves = (is_wrong (verdict (ins moves)) ≡ true) ⊎ ((has_ended moves ≡ true) × ((lines : ℕ) × (verdict (ins moves) ≡ Short lines)))
+Why moves = (is_wrong (verdict (ins moves)) ≡ true)
+    ⊎ ((has_ended moves ≡ true) × ((lines : ℕ) × (verdict (ins moves) ≡ Short lines)))
 
 -- then nothing more is to be read
 over : (moves : List Move) → Why moves → judged.IsOver moves
@@ -225,7 +229,8 @@ judged_so Refused r r' w w' answer cause read write moves s = absurd answer
 judged_so Usage r r' w w' answer cause read write moves s = absurd answer
 
 -- the same where a report is asked for
-pub reported_so : (form : Form) (status : Status) (r r' w w' : ℕ) → judged.IsAnswer status → Causes status r r' w w' → (Rose r r' → ⊥)
+pub reported_so : (form : Form) (status : Status) (r r' w w' : ℕ) → judged.IsAnswer status → Causes status r r' w w'
+    → (Rose r r' → ⊥)
     → (Rose w w' → ⊥) → (moves : List Move) → told.Reports form status moves → IsJudged status moves
 reported_so form Done r r' w w' answer cause read write moves s = judged_done moves s.ends.ended s.ends.trace
 reported_so form No r r' w w' answer cause read write moves s = judged_no moves s.ends
@@ -238,7 +243,8 @@ reported_so form Usage r r' w w' answer cause read write moves s = absurd answer
 -- ---- the statuses that there are
 
 -- where neither count rose, a text has an answer or there was no memory
-pub answered : (status : Status) (r r' w w' : ℕ) → judged.IsAnswer status → Causes status r r' w w' → (Rose r r' → ⊥) → (Rose w w' → ⊥)
+pub answered : (status : Status) (r r' w w' : ℕ) → judged.IsAnswer status → Causes status r r' w w' → (Rose r r' → ⊥)
+    → (Rose w w' → ⊥)
     → (status ≡ Done) ⊎ (status ≡ No) ⊎ (status ≡ Memory)
 answered Done r r' w w' answer cause read write = inl refl
 answered No r r' w w' answer cause read write = inr (inl refl)
@@ -251,33 +257,38 @@ answered Usage r r' w w' answer cause read write = absurd answer
 -- ---- questions
 
 -- what is to be said of the jobs of a feed was written, and the run of these jobs keeps its promises
-pub told_so : (question : Question) (moves : List Move) → asked.IsAnswered (says question) Done moves → IsTold question moves
+pub told_so : (question : Question) (moves : List Move) → asked.IsAnswered (says question) Done moves
+    → IsTold question moves
 told_so question moves it = record { said = it; promises = promises_of (instance_of it.session) it.valid.jobs }
 
 -- a feed that is refused has not ended
 refused_alone : (moves : List Move) → asked.IsRefusedFeed moves → is_ended (account (ins moves)) ≡ true → ⊥
-refused_alone moves (inl (line, cause, is)) ended = ended_alone (account (ins moves)) (has_ended moves ≡ true) ended (inl (line, cause, is))
+refused_alone moves (inl (line, cause, is)) ended =
+    ended_alone (account (ins moves)) (has_ended moves ≡ true) ended (inl (line, cause, is))
 refused_alone moves (inr goes_on) ended = ended_alone (account (ins moves)) (has_ended moves ≡ true) ended (inr goes_on)
 
 -- where neither count rose, the answer is the one that the feed calls for
-pub asked_so : (question : Question) (status : Status) (r r' w w' : ℕ) → Causes status r r' w w' → (Rose r r' → ⊥) → (Rose w w' → ⊥)
+pub asked_so : (question : Question) (status : Status) (r r' w w' : ℕ) → Causes status r r' w w' → (Rose r r' → ⊥)
+    → (Rose w w' → ⊥)
     → (moves : List Move) → asked.Tells (says question) status moves → IsAsked question status moves
 asked_so question Done r r' w w' cause read write moves s =
     record { ended = λ _. inl s.ends; refused = λ why. absurd (refused_alone moves why s.ends.ended) }
 asked_so question No r r' w w' cause read write moves s =
     record { ended = λ _. inl s.ends; refused = λ why. absurd (refused_alone moves why s.ends.ended) }
-asked_so question Refused r r' w w' cause read write moves s = record { ended = by_ends s.ends; refused = λ _. inl refl } where
-  by_ends : asked.Ends (says question) Refused moves → is_ended (account (ins moves)) ≡ true
-      → asked.IsAnswered (says question) Refused moves ⊎ (Refused ≡ Memory)
-  by_ends (inl refused) ended = absurd (refused_alone moves refused.0 ended)
-  by_ends (inr answered) ended = inl answered
+asked_so question Refused r r' w w' cause read write moves s =
+    record { ended = by_ends s.ends; refused = λ _. inl refl } where
+      by_ends : asked.Ends (says question) Refused moves → is_ended (account (ins moves)) ≡ true
+          → asked.IsAnswered (says question) Refused moves ⊎ (Refused ≡ Memory)
+      by_ends (inl refused) ended = absurd (refused_alone moves refused.0 ended)
+      by_ends (inr answered) ended = inl answered
 asked_so question Memory r r' w w' cause read write moves s = record { ended = λ _. inr refl; refused = λ _. inr refl }
 asked_so question ReadFault r r' w w' cause read write moves s = absurd (read cause.0)
 asked_so question WriteFault r r' w w' cause read write moves s = absurd (write cause.1)
 asked_so question Usage r r' w w' cause read write moves s = absurd s.ends
 
 -- where neither count rose, a question has an answer or there was no memory
-pub asked_all : (question : Question) (status : Status) (r r' w w' : ℕ) → IsAnswerTo question status → Causes status r r' w w' → (Rose r r' → ⊥)
+pub asked_all : (question : Question) (status : Status) (r r' w w' : ℕ) → IsAnswerTo question status
+    → Causes status r r' w w' → (Rose r r' → ⊥)
     → (Rose w w' → ⊥) → (status ≡ Done) ⊎ (status ≡ No) ⊎ (status ≡ Refused) ⊎ (status ≡ Memory)
 asked_all question Done r r' w w' answer cause read write = inl refl
 asked_all question No r r' w w' answer cause read write = inr (inl refl)
@@ -297,7 +308,12 @@ asked_all question Usage r r' w w' answer cause read write = absurd (none questi
 pub summed : (k : Fraction) (seed count : ℕ) (moves : List Move) → IsRatio k → count ≤ most_jobs
     → stated.Writes Done (summary (trial_instance k seed count)) moves → IsSummed (trial_instance k seed count) moves
 summed k seed count moves allowed few writes =
-    record { only = writes.0; text = writes.1; promises = promises_of (trial_instance k seed count) (generated_valid k allowed seed count One few) }
+    record {
+      only = writes.0;
+      text = writes.1;
+      promises =
+          promises_of (trial_instance k seed count) (generated_valid k allowed seed count One few);
+    }
 
 -- what the run of baiting jobs comes to
 pub baited : (k : Fraction) (rounds : ℕ) (moves : List Move) → IsRatio k → 1 ≤ rounds → FitsLimits k rounds
@@ -317,7 +333,8 @@ pub cut_short : (text : List ℕ) (moves : List Move) → stated.Writes WriteFau
 cut_short text moves writes = record { only = writes.0; front = writes.1 }
 
 -- the same of a refusal
-pub refusal_cut_short : (text : List ℕ) (moves : List Move) → stated.Refuses WriteFault text moves → IsCutShort text moves
+pub refusal_cut_short : (text : List ℕ) (moves : List Move) → stated.Refuses WriteFault text moves
+    → IsCutShort text moves
 refusal_cut_short text moves writes = record { only = writes.0; front = writes.1 }
 
 -- baiting jobs that don't fit
@@ -336,7 +353,8 @@ tried ReadFault r r' w w' answer cause write = absurd answer
 tried Usage r r' w w' answer cause write = absurd answer
 
 -- and baiting jobs that don't fit are refused
-pub given : (status : Status) (r r' w w' : ℕ) (fits : Type 0) → stated.IsAnswerFor status fits → Causes status r r' w w' → (Rose w w' → ⊥)
+pub given : (status : Status) (r r' w w' : ℕ) (fits : Type 0) → stated.IsAnswerFor status fits → Causes status r r' w w'
+    → (Rose w w' → ⊥)
     → IsGiven status fits
 given Done r r' w w' fits answer cause write = record { told = λ _. inl refl; refused = λ not. absurd (not answer) }
 given Memory r r' w w' fits answer cause write = record { told = λ _. inr refl; refused = λ not. absurd (not answer) }
@@ -347,7 +365,8 @@ given ReadFault r r' w w' fits answer cause write = absurd answer
 given Usage r r' w w' fits answer cause write = absurd answer
 
 -- the causes of a call that reads nothing are those of one that reads
-pub causes_too : (status : Status) (r r' w w' : ℕ) → (status ≡ ReadFault → ⊥) → stated.Causes status r r' w w' → Causes status r r' w w'
+pub causes_too : (status : Status) (r r' w w' : ℕ) → (status ≡ ReadFault → ⊥) → stated.Causes status r r' w w'
+    → Causes status r r' w w'
 causes_too Done r r' w w' other cause = cause
 causes_too No r r' w w' other cause = cause
 causes_too Refused r r' w w' other cause = cause

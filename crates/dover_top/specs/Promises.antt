@@ -11,7 +11,7 @@ use Rattle.dover_model.specs.Sound.{Each}
 use Rattle.dover_model.specs.Underload.{loses}
 use Rattle.dover_model.specs.Trace.{trace_of_session}
 use Rattle.dover_model.specs.Verdict.{Accepted, verdict}
-use Rattle.dover_model.specs.Feed.{account, is_ended, is_open}
+use Rattle.dover_model.specs.Feed.{account, is_ended, is_open, Ended}
 use Rattle.dover_port.specs.Moves.{Move, ArePuts, ins, outs, has_ended, IsProperPrefix}
 use Rattle.dover_port.specs.declared.status.Status.{Status}
 use Rattle.dover_port.specs.declared.status.Status.TheVariants.{Done, No, Refused, Memory}
@@ -38,6 +38,8 @@ use Rattle.dover_words.specs.Record.{IsAnswered, IsRefusedFeed}
 use Rattle.lane_server.specs.Lanes.{Closed, lane_count, input}
 use Rattle.lanes_word.specs.Alone.{lane_feed, text_of_lane}
 use Rattle.lanes_word.specs.Record as lanes
+use Rattle.task_reading.specs.Account as tasks
+use Rattle.unroll_word.specs.Record as unrolled
 use Rattle.lanes_word.specs.Record.{IsClosed, closing_status}
 
 -- what stands of the run of a valid list of jobs
@@ -47,7 +49,8 @@ pub record KeepsPromises (J : Instance) : Type 0 where
   -- which is what the run's own schedule is worth.
   pub honest : worth J (ran J) ≡ completed_value J
   -- What is printed up to a tick is the same for every list that has the same jobs by then.
-  pub on_line : (t : ℕ) (K : Instance) → IsValid K → J.rules ≡ K.rules → known_at t J.jobs ≡ known_at t K.jobs → printed_up_to t J ≡ printed_up_to t K
+  pub on_line : (t : ℕ) (K : Instance) → IsValid K → J.rules ≡ K.rules → known_at t J.jobs ≡ known_at t K.jobs
+      → printed_up_to t J ≡ printed_up_to t K
   -- Where some schedule serves every job, none is taken late or abandoned,
   pub none_lost : Meets J → Each (λ x. loses x.move ≡ false) (run J)
   -- and the run completes all value.
@@ -73,31 +76,35 @@ pub record IsSettled (status : Status) (moves : List Move) : Type 0 where
   pub refused : IsFaulty (account (ins moves)) ⊎ ((has_ended moves ≡ true) × (is_open (account (ins moves)) ≡ true))
       → (status ≡ Refused) ⊎ (status ≡ Memory)
 
--- the feed that was read ended without a fault, and its trace was written; or its input ended, and what is due and its snapshot were written
+-- the feed that was read ended without a fault, and its trace was written; or its input ended, and what is due and its
+-- snapshot were written
 abbrev pub IsTracedOrPaused : List Move → Type 0
 IsTracedOrPaused moves = IsTraced moves ⊎ IsPaused moves
 
--- A feed that ended has its trace, one that has a fault or is cut off where it may not pause has its refusal, if there was memory, and one
--- that may pause where its input ends was paused.
+-- A feed that ended has its trace, one that has a fault or is cut off where it may not pause has its refusal, if there
+-- was memory, and one that may pause where its input ends was paused.
 pub record IsSettledOrPaused (status : Status) (moves : List Move) : Type 0 where
   pub ended : is_ended (account (ins moves)) ≡ true → (status ≡ Done) ⊎ (status ≡ Memory)
   pub refused : IsFaulty (account (ins moves)) ⊎ IsCutOff moves → (status ≡ Refused) ⊎ (status ≡ Memory)
   pub paused : has_ended moves ≡ true → MayPause (ins moves) → status ≡ Done
 
--- Of each feed whose snapshot was read, and what follows it: the whole feed ended without a fault, and what was due where it was paused and
--- what was written are the trace of its session; or the input ended, and it was paused again.
+-- Of each feed whose snapshot was read, and what follows it: the whole feed ended without a fault, and what was due
+-- where it was paused and what was written are the trace of its session; or the input ended, and it was paused again.
 abbrev pub IsResumed : AtEnd → List Move → Type 0
 IsResumed at_end moves = Behind (ins moves)
     (λ F H. IsTraceOf (F ++ H) (due F ++ outs moves) ⊎ IsPausedAt F at_end H (outs moves) (has_ended moves))
 
--- Of each feed whose snapshot was read, and what follows it: one that ended has its trace, one that has a fault or is cut off has its refusal, if
--- there was memory, and one that may pause where its input ends was paused. A snapshot with a line that no snapshot has there is refused.
+-- Of each feed whose snapshot was read, and what follows it: one that ended has its trace, one that has a fault or is
+-- cut off has its refusal, if there was memory, and one that may pause where its input ends was paused. A snapshot with
+-- a line that no snapshot has there is refused.
 pub record IsSettledOrResumed (at_end : AtEnd) (status : Status) (moves : List Move) : Type 0 where
   pub ended : (F H : List ℕ) → MayPause F → ins moves ≡ snapshot F ++ H → is_ended (account (F ++ H)) ≡ true
       → (status ≡ Done) ⊎ (status ≡ Memory)
   pub refused : (F H : List ℕ) → MayPause F → ins moves ≡ snapshot F ++ H
-      → IsFaulty (account (F ++ H)) ⊎ IsCutOffAt F at_end H (outs moves) (has_ended moves) → (status ≡ Refused) ⊎ (status ≡ Memory)
-  pub paused : (F H : List ℕ) → MayPause F → ins moves ≡ snapshot F ++ H → has_ended moves ≡ true → PausesAt at_end (F ++ H)
+      → IsFaulty (account (F ++ H)) ⊎ IsCutOffAt F at_end H (outs moves) (has_ended moves) → (status ≡ Refused)
+      ⊎ (status ≡ Memory)
+  pub paused : (F H : List ℕ) → MayPause F → ins moves ≡ snapshot F ++ H → has_ended moves ≡ true
+      → PausesAt at_end (F ++ H)
       → status ≡ Done
   pub no_snapshot : (line : ℕ) → IsRefusedFor line moves → (status ≡ Refused) ⊎ (status ≡ Memory)
 
@@ -119,7 +126,8 @@ pub record IsReported (form : Form) (moves : List Move) : Type 0 where
   pub text : outs moves ≡ report_text form (instance_of session)
   pub promises : KeepsPromises (instance_of session)
 
--- A text that is read to its end is accepted where it is a trace, and where it isn't, or a line of it is wrong, it has its verdict.
+-- A text that is read to its end is accepted where it is a trace, and where it isn't, or a line of it is wrong, it has
+-- its verdict.
 pub record IsJudged (status : Status) (moves : List Move) : Type 0 where
   pub read : IsOver moves ⊎ (status ≡ Memory)
   pub accepted : (session : Session) → verdict (ins moves) ≡ Accepted session → (status ≡ Done) ⊎ (status ≡ Memory)
@@ -156,10 +164,18 @@ pub record IsTold (question : Question) (moves : List Move) : Type 0 where
   pub said : IsAnswered (says question) Done moves
   pub promises : KeepsPromises (instance_of said.session)
 
--- A feed that ended has the answer to the question on its jobs, and one that has a fault or is short has its refusal, if there was memory.
+-- A feed that ended has the answer to the question on its jobs, and one that has a fault or is short has its refusal,
+-- if there was memory.
 pub record IsAsked (question : Question) (status : Status) (moves : List Move) : Type 0 where
   pub ended : is_ended (account (ins moves)) ≡ true → IsAnswered (says question) status moves ⊎ (status ≡ Memory)
   pub refused : IsRefusedFeed moves → (status ≡ Refused) ⊎ (status ≡ Memory)
+
+-- A task text that ended has its feed, or that this would be too large, and one that has a fault or is short has its
+-- refusal, if there was memory.
+pub record IsUnrolled (until : ℕ) (status : Status) (moves : List Move) : Type 0 where
+  pub ended : (tasks.account until (ins moves)).standing ≡ Ended → unrolled.IsAnswered until status moves
+      ⊎ (status ≡ Memory)
+  pub refused : unrolled.IsRefusedText until moves → (status ≡ Refused) ⊎ (status ≡ Memory)
 
 -- the feed of a lane in what was read
 abbrev pub feed_in : List Move → ℕ → List ℕ

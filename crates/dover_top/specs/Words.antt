@@ -1,10 +1,12 @@
 -- The command line: the rows of words.
 use Rattle.std.specs.Prelude.{◌≡◌, ℕ, ◌^◌, ◌<◌, ◌≤◌, ◌⊎◌, List, [], ◌∷◌, map, codes, decimal, String, string_bytes}
+use Rattle.std.specs.Prelude.{Option, Some, None}
 use Rattle.std.specs.declared.alloc.Global.{Global}
 use Rattle.dover_model.specs.Fraction.{Fraction, IsRatio}
-use Rattle.dover_model.specs.Limits.{most_jobs}
+use Rattle.dover_model.specs.Limits.{most_digits, most_jobs, last_tick}
 use Rattle.report_word.specs.declared.form.Form.{Form}
-use Rattle.report_word.specs.declared.form.Form.TheVariants.{Text, Table, Chrome, Why}
+use Rattle.report_word.specs.declared.form.Form.TheVariants.{Text, Table, Chrome, Why, Timeline, Svg}
+use Rattle.run_view.specs.declared.window.Window.{Window}
 use Rattle.serve_word.specs.declared.from.AtEnd.{AtEnd}
 use Rattle.serve_word.specs.declared.from.AtEnd.TheVariants.{Refuse, Pause}
 use Rattle.dover_words.specs.declared.question.Question.{Question}
@@ -22,16 +24,30 @@ AsksServe words = spelled words ≡ codes "serve" ∷ []
 abbrev pub AsksJudge : List (String Global) → Type 0
 AsksJudge words = spelled words ≡ codes "judge" ∷ []
 
+-- the words for a window of ticks, if there is one
+abbrev pub window_words : Option Window → List (List ℕ)
+window_words None = []
+window_words (Some w) = decimal w.from ∷ decimal w.until ∷ []
+
 -- the words for a form of report
 abbrev pub form_words : Form → List (List ℕ)
 form_words Text = codes "text" ∷ []
 form_words Table = codes "csv" ∷ []
 form_words Chrome = codes "chrome" ∷ []
 form_words (Why n) = codes "why" ∷ decimal n ∷ []
+form_words (Timeline window) = codes "timeline" ∷ window_words window
+form_words (Svg window) = codes "svg" ∷ window_words window
 
--- the number of a job that is asked about is small
+-- a window that is asked for has some tick, and its numbers have numerals
+abbrev pub IsWindow : Option Window → Type 0
+IsWindow None = Unit {0}
+IsWindow (Some w) = (w.from < w.until) × (w.until < 10 ^ most_digits)
+
+-- the number of a job that is asked about is small, and a window is one
 abbrev pub IsFormed : Form → Type 0
 IsFormed (Why n) = n ≤ most_jobs
+IsFormed (Timeline window) = IsWindow window
+IsFormed (Svg window) = IsWindow window
 IsFormed _ = Unit {0}
 
 -- the words that ask for a report on a text, in this form
@@ -80,6 +96,11 @@ end_words Pause = codes "pause" ∷ []
 abbrev pub AsksResume : List (String Global) → AtEnd → Type 0
 AsksResume words at_end = spelled words ≡ codes "resume" ∷ end_words at_end
 
+-- the words that ask for the feed of the jobs that tasks release before a tick
+pub record AsksUnroll (words : List (String Global)) (until : ℕ) : Type 0 where
+  pub row : spelled words ≡ codes "unroll" ∷ decimal until ∷ []
+  pub known : until ≤ last_tick
+
 -- the words are a row
 abbrev pub AreRow : List (String Global) → Type 0
 AreRow words = AsksServe words ⊎ AsksJudge words ⊎ ((form : Form) × AsksReport words form)
@@ -89,3 +110,4 @@ AreRow words = AsksServe words ⊎ AsksJudge words ⊎ ((form : Form) × AsksRep
     ⊎ AsksLanes words
     ⊎ AsksPause words
     ⊎ ((at_end : AtEnd) × AsksResume words at_end)
+    ⊎ ((until : ℕ) × AsksUnroll words until)

@@ -22,6 +22,7 @@ ghost use Rattle.dover_words.specs.Questions.{says, IsAnswerTo};
 ghost use Rattle.dover_words.specs.Record.{Tells};
 ghost use Rattle.dover_words.specs.declared.question.Question.{Question};
 ghost use Rattle.lanes_word.specs.Record as laned;
+ghost use Rattle.unroll_word.specs.Record as unrolled;
 ghost use Rattle.dover_top.specs.Requests.{MayCarry};
 
 use crate::request::Request;
@@ -36,6 +37,7 @@ use stated_word::{bait_word, trial_word};
 use std::alloc::Global;
 use std::sync::ledger::Ledger;
 use step_count::Steps;
+use unroll_word::unroll_word;
 
 /// Carries out a request.
 pub(crate) fn carry_out<P: Port, L: Ledger>(
@@ -54,13 +56,16 @@ pub(crate) fn carry_out<P: Port, L: Ledger>(
     ensures report_answers { (form : Form) → request ≡ Request.Report form → judged.IsAnswer result }
     ensures trials { (seed count : ℕ) (k : Fraction) → request ≡ Request.Trial seed count k →
         Since (P.moves port.old) (P.moves port.new) (stated.Writes result (summary (trial_instance k seed count))) }
-    ensures trial_answers { (seed count : ℕ) (k : Fraction) → request ≡ Request.Trial seed count k → stated.IsAnswer result }
+    ensures trial_answers { (seed count : ℕ) (k : Fraction) → request ≡ Request.Trial seed count k →
+        stated.IsAnswer result }
     ensures baits { (k : Fraction) (rounds : ℕ) → request ≡ Request.Bait k rounds → FitsLimits k rounds →
         Since (P.moves port.old) (P.moves port.new) (stated.Writes result (bait_text k rounds)) }
     ensures refuses { (k : Fraction) (rounds : ℕ) → request ≡ Request.Bait k rounds → (FitsLimits k rounds → ⊥) →
         Since (P.moves port.old) (P.moves port.new) (stated.Refuses result size_text) }
-    ensures bait_answers { (k : Fraction) (rounds : ℕ) → request ≡ Request.Bait k rounds → stated.IsAnswerFor result (FitsLimits k rounds) }
-    ensures tells { (question : Question) → request ≡ Request.Ask question → Since (P.moves port.old) (P.moves port.new) (Tells (says question) result) }
+    ensures bait_answers { (k : Fraction) (rounds : ℕ) → request ≡ Request.Bait k rounds →
+        stated.IsAnswerFor result (FitsLimits k rounds) }
+    ensures tells { (question : Question) → request ≡ Request.Ask question →
+        Since (P.moves port.old) (P.moves port.new) (Tells (says question) result) }
     ensures ask_answers { (question : Question) → request ≡ Request.Ask question → IsAnswerTo question result }
     ensures serves_lanes { request ≡ Request.Lanes → Since (P.moves port.old) (P.moves port.new) (laned.Serves result) }
     ensures lanes_answers { request ≡ Request.Lanes → IsAnswer result }
@@ -69,17 +74,25 @@ pub(crate) fn carry_out<P: Port, L: Ledger>(
     ensures resumes { (at_end : AtEnd) → request ≡ Request.Resume at_end →
         Since (P.moves port.old) (P.moves port.new) (resumed.Resumes at_end result) }
     ensures resume_answers { (at_end : AtEnd) → request ≡ Request.Resume at_end → IsAnswer result }
-    ensures comparisons { request ≡ Request.Serve → Since (P.moves port.old) (P.moves port.new) (served.IsFrugal steps.old steps.new) }
+    ensures unrolls { (until : ℕ) → request ≡ Request.Unroll until →
+        Since (P.moves port.old) (P.moves port.new) (unrolled.Tells until result) }
+    ensures unroll_answers { (until : ℕ) → request ≡ Request.Unroll until → IsAnswer result }
+    ensures comparisons { request ≡ Request.Serve →
+        Since (P.moves port.old) (P.moves port.new) (served.IsFrugal steps.old steps.new) }
     ensures pause_comparisons { request ≡ Request.Pause →
         Since (P.moves port.old) (P.moves port.new) (served.IsFrugal steps.old steps.new) }
+    ensures resume_comparisons { (at_end : AtEnd) → request ≡ Request.Resume at_end →
+        Since (P.moves port.old) (P.moves port.new) (resumed.IsFrugal steps.old steps.new) }
     ensures trial_comparisons { (seed count : ℕ) (k : Fraction) → request ≡ Request.Trial seed count k → result ≡ Status.Done →
         AreFew count steps.old steps.new }
     ensures bait_comparisons { (k : Fraction) (rounds : ℕ) → request ≡ Request.Bait k rounds → result ≡ Status.Done →
         AreFew (length (bait_jobs k rounds)) steps.old steps.new }
     ensures ask_comparisons { (question : Question) → request ≡ Request.Ask question →
-        Since (P.moves port.old) (P.moves port.new) (λ moves. result ≡ Status.Done → IsFrugal steps.old steps.new moves) }
+        Since (P.moves port.old) (P.moves port.new)
+        (λ moves. result ≡ Status.Done → IsFrugal steps.old steps.new moves) }
     ensures usage { result ≢ Status.Usage }
-    ensures causes { Causes result (P.read_faults port.old) (P.read_faults port.new) (P.write_faults port.old) (P.write_faults port.new) }
+    ensures causes { Causes result (P.read_faults port.old) (P.read_faults port.new) (P.write_faults port.old)
+        (P.write_faults port.new) }
     ensures stops { StopsWith result (P.calls port.old) (P.calls port.new) }
 {
     match request {
@@ -92,5 +105,6 @@ pub(crate) fn carry_out<P: Port, L: Ledger>(
         Request::Lanes => lanes_word(alloc, port, steps),
         Request::Pause => pause_word(alloc, port, steps),
         Request::Resume(at_end) => resume_word(alloc, port, at_end, steps),
+        Request::Unroll { until } => unroll_word(alloc, port, until, steps),
     }
 }

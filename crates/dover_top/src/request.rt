@@ -1,6 +1,11 @@
 //! What the words of the command line ask for.
-ghost use Rattle.std.specs.Prelude.{◌≡◌, ◌≤◌, ◌<◌, ◌∷◌, [], ◌^◌, ◌↔◌, ℕ, IsTrue, IfSome, IsNone, decimal, string_bytes};
+ghost use Rattle.std.specs.Prelude.{◌≡◌, ◌≤◌, ◌<◌, ◌∷◌, [], ◌^◌, ◌↔◌, ℕ, IsTrue, IfSome, IsNone, Some, decimal, map};
+ghost use Rattle.std.specs.Prelude.{string_bytes};
+ghost use Rattle.report_word.specs.declared.form.Form.{Form};
+ghost use Rattle.run_view.specs.declared.window.Window.{Window};
+ghost use Rattle.dover_top.specs.Words.{AsksBait, AsksReport, IsWindow, window_words};
 ghost use Rattle.dover_model.specs.Fraction.{Fraction, IsRatio};
+ghost use Rattle.dover_model.specs.Limits.{last_tick};
 ghost use Rattle.dover_top.specs.Requests.{Asks};
 ghost use Rattle.dover_top.specs.declared.request.Request.{Request};
 
@@ -8,6 +13,7 @@ use dover_model::Ratio;
 use dover_words::Question;
 use line_text::numeral;
 use report_word::Form;
+use run_view::Window;
 use serve_word::AtEnd;
 
 /// What the words ask for.
@@ -31,10 +37,15 @@ pub(crate) enum Request {
     Pause,
     /// A feed is served on from its snapshot, and where its input ends it is refused or paused again.
     Resume(AtEnd),
+    /// The feed of tasks is written, up to a tick.
+    Unroll { until: u64 },
 }
 
 /// The most jobs, and the most rounds.
 const MOST: u32 = 1_000_000;
+
+/// The last tick.
+const LAST_TICK: u64 = 1_000_000_000_000;
 
 /// The greatest seed.
 const MOST_SEED: u32 = 2_147_483_647;
@@ -57,14 +68,43 @@ fn number(word: &String, most: u32) -> Option<u32>
     Some(number as u32)
 }
 
+/// The tick that the word spells, if it does.
+fn tick(word: &String) -> Option<u64>
+    ensures some { IfSome result (λ n. (string_bytes word.now ≡ decimal n) × (n ≤ last_tick)) }
+    ensures none { IsNone result → (n : ℕ) → n ≤ last_tick → string_bytes word.now ≡ decimal n → ⊥ }
+{
+    let number = numeral(word.as_bytes())?;
+    if number > LAST_TICK {
+        return None;
+    }
+    Some(number)
+}
+
 /// The ratio whose numbers these words spell, if it is one.
 fn ratio(p: &String, q: &String) -> Option<Ratio>
-    ensures some { IfSome result (λ k. (string_bytes p.now ≡ decimal k.p) × (string_bytes q.now ≡ decimal k.q) × IsRatio k) }
-    ensures none { IsNone result → (k : Fraction) → IsRatio k → string_bytes p.now ≡ decimal k.p → string_bytes q.now ≡ decimal k.q → ⊥ }
+    ensures some { IfSome result
+        (λ k. (string_bytes p.now ≡ decimal k.p) × (string_bytes q.now ≡ decimal k.q) × IsRatio k) }
+    ensures none { IsNone result → (k : Fraction) → IsRatio k → string_bytes p.now ≡ decimal k.p →
+        string_bytes q.now ≡ decimal k.q → ⊥ }
 {
     let p = number(p, MOST)?;
     let q = number(q, MOST)?;
     Ratio::new(p, q)
+}
+
+/// The window that these words spell: two numerals, of which the first is below the second.
+fn spelled_window(from: &String, until: &String) -> Option<Window>
+    ensures some { IfSome result
+        (λ w. IsWindow (Some w) × (map string_bytes (from.now ∷ until.now ∷ []) ≡ window_words (Some w))) }
+    ensures none { IsNone result → (w : Window) → IsWindow (Some w) →
+        map string_bytes (from.now ∷ until.now ∷ []) ≡ window_words (Some w) → ⊥ }
+{
+    let from = numeral(from.as_bytes())?;
+    let until = numeral(until.as_bytes())?;
+    if until <= from {
+        return None;
+    }
+    Some(Window { from, until })
 }
 
 /// One word.
@@ -114,7 +154,7 @@ fn story(word: &String, form: &String, number_word: &String) -> Option<Request>
     Some(Request::Report(Form::Why(number)))
 }
 
-/// The words `resume pause`, or the word `report` and a form.
+/// The words `resume pause`, the word `unroll` and a tick, or the word `report` and a form.
 fn two_words(word: &String, last: &String) -> Option<Request>
     ensures some { IfSome result (λ r. Asks (word.now ∷ last.now ∷ []) r) }
     ensures none { IsNone result → (r : Request) → Asks (word.now ∷ last.now ∷ []) r → ⊥ }
@@ -124,6 +164,10 @@ fn two_words(word: &String, last: &String) -> Option<Request>
             return Some(Request::Resume(AtEnd::Pause));
         }
         return None;
+    }
+    if is_word(word, "unroll") {
+        let until = tick(last)?;
+        return Some(Request::Unroll { until });
     }
     if !is_word(word, "report") {
         return None;
@@ -137,14 +181,39 @@ fn two_words(word: &String, last: &String) -> Option<Request>
     if is_word(last, "chrome") {
         return Some(Request::Report(Form::Chrome));
     }
+    if is_word(last, "timeline") {
+        return Some(Request::Report(Form::Timeline(None)));
+    }
+    if is_word(last, "svg") {
+        return Some(Request::Report(Form::Svg(None)));
+    }
+    None
+}
+
+/// The word `report`, a form that has a window, and the window's ticks.
+fn windowed(word: &String, form: &String, from: &String, until: &String) -> Option<Request>
+    ensures some { IfSome result (λ r. Asks (word.now ∷ form.now ∷ from.now ∷ until.now ∷ []) r) }
+    ensures none { IsNone result → (form_asked : Form) →
+        AsksReport (word.now ∷ form.now ∷ from.now ∷ until.now ∷ []) form_asked → ⊥ }
+{
+    if !is_word(word, "report") {
+        return None;
+    }
+    let window = spelled_window(from, until)?;
+    if is_word(form, "timeline") {
+        return Some(Request::Report(Form::Timeline(Some(window))));
+    }
+    if is_word(form, "svg") {
+        return Some(Request::Report(Form::Svg(Some(window))));
+    }
     None
 }
 
 /// The word `bait` and its numbers.
 fn bait(word: &String, p: &String, q: &String, rounds: &String) -> Option<Request>
     ensures some { IfSome result (λ r. Asks (word.now ∷ p.now ∷ q.now ∷ rounds.now ∷ []) r) }
-    ensures none { IsNone result → (r : Request) →
-        Asks (word.now ∷ p.now ∷ q.now ∷ rounds.now ∷ []) r → ⊥ }
+    ensures none { IsNone result → (k : Fraction) (count : ℕ) →
+        AsksBait (word.now ∷ p.now ∷ q.now ∷ rounds.now ∷ []) k count → ⊥ }
 {
     if !is_word(word, "bait") {
         return None;
@@ -155,6 +224,18 @@ fn bait(word: &String, p: &String, q: &String, rounds: &String) -> Option<Reques
         return None;
     }
     Some(Request::Bait { k, rounds })
+}
+
+/// The words `bait P Q N`, or those of a report on a window.
+fn four_words(word: &String, second: &String, third: &String, last: &String) -> Option<Request>
+    ensures some { IfSome result (λ r. Asks (word.now ∷ second.now ∷ third.now ∷ last.now ∷ []) r) }
+    ensures none { IsNone result → (r : Request) →
+        Asks (word.now ∷ second.now ∷ third.now ∷ last.now ∷ []) r → ⊥ }
+{
+    match bait(word, second, third, last) {
+        Some(request) => Some(request),
+        None => windowed(word, second, third, last),
+    }
 }
 
 /// The word `trial` and its numbers.
@@ -182,7 +263,7 @@ pub(crate) fn asked(words: &[String]) -> Option<Request>
         [word] => one_word(word),
         [word, last] => two_words(word, last),
         [word, form, number] => story(word, form, number),
-        [word, p, q, rounds] => bait(word, p, q, rounds),
+        [word, second, third, last] => four_words(word, second, third, last),
         [word, seed, count, p, q] => trial(word, seed, count, p, q),
         _ => None,
     }

@@ -23,10 +23,16 @@ ghost use Rattle.dover_words.specs.Questions.{says, IsAnswerTo};
 ghost use Rattle.dover_words.specs.Record as asked;
 ghost use Rattle.dover_words.specs.declared.question.Question.{Question};
 ghost use Rattle.lanes_word.specs.Record as laned;
-ghost use Rattle.dover_top.specs.Promises.{IsTraced, IsSettled, IsAccepted, IsJudged, IsReported, IsSummed, IsBaited, IsTooLarge, IsCutShort};
+ghost use Rattle.task_reading.specs.Record as tasks;
+ghost use Rattle.unroll_word.specs.Record as unrolled;
+ghost use Rattle.dover_top.specs.Promises.{IsTraced, IsSettled, IsAccepted, IsJudged, IsReported, IsSummed, IsBaited};
+ghost use Rattle.dover_top.specs.Promises.{IsTooLarge, IsCutShort};
 ghost use Rattle.dover_top.specs.Promises.{IsTracedOrPaused, IsSettledOrPaused, IsResumed, IsSettledOrResumed};
+ghost use Rattle.dover_top.specs.Promises.{IsUnrolled};
 ghost use Rattle.dover_top.specs.Promises.{IsGiven, IsTold, IsAsked, AllServed, AreServed, AreSettled};
-ghost use Rattle.dover_top.specs.Words.{AsksServe, AsksJudge, AsksReport, AsksTrial, AsksBait, AsksQuestion, AsksLanes, AsksPause, AsksResume, AreRow};
+ghost use Rattle.dover_top.specs.Words.{AsksServe, AsksJudge, AsksReport, AsksTrial, AsksBait, AsksQuestion, AsksLanes};
+ghost use Rattle.dover_top.specs.Words.{AsksPause, AsksResume, AreRow};
+ghost use Rattle.dover_top.specs.Words.{AsksUnroll};
 
 use crate::carrying::carry_out;
 use crate::request::asked;
@@ -37,31 +43,44 @@ use step_count::Steps;
 
 /// Does what the words ask for. The rows of words:
 ///
-/// - `serve` reads a feed from the port and writes the feed's trace to it, each line that is settled before the next read.
-/// - `judge` reads a text and writes one line: whether it is the trace of a valid session, and if not where it is wrong or that it is short.
-/// - `report text` and `report csv` read a text, and write a report on its run where it is such a trace, else the line that `judge` writes.
-/// - `report chrome` does the same, with the run as events for a viewer of traces, and `report why N` with what happened to the job of number N
+/// - `serve` reads a feed from the port and writes the feed's trace to it, each line that is settled before the next
+/// read.
+/// - `judge` reads a text and writes one line: whether it is the trace of a valid session, and if not where it is wrong
+/// or that it is short.
+/// - `report text` and `report csv` read a text, and write a report on its run where it is such a trace, else the line
+/// that `judge` writes.
+/// - `report chrome` does the same, with the run as events for a viewer of traces, and `report why N` with what
+/// happened to the job of number N
 ///   and by which test.
-/// - `trial SEED COUNT P Q` reads nothing, and writes the summary of the run of so many stated jobs of a seed, within the ratio P/Q.
-/// - `bait P Q N` reads nothing, and writes what the run of the baiting jobs comes to, and what another schedule of them is worth.
-/// - `feasible` reads a feed, and writes a schedule that serves all its jobs, or a window in which they have more work than it has ticks.
-/// - `best` reads a feed of at most 20 jobs, and writes what the best schedule is worth, beside what the rules complete and guarantee, and such a
+/// - `trial SEED COUNT P Q` reads nothing, and writes the summary of the run of so many stated jobs of a seed, within
+/// the ratio P/Q.
+/// - `bait P Q N` reads nothing, and writes what the run of the baiting jobs comes to, and what another schedule of
+/// them is worth.
+/// - `feasible` reads a feed, and writes a schedule that serves all its jobs, or a window in which they have more work
+/// than it has ticks.
+/// - `best` reads a feed of at most 20 jobs, and writes what the best schedule is worth, beside what the rules complete
+/// and guarantee, and such a
 ///   schedule.
 /// - `compare` reads a feed, and writes what the rules complete, and what two other policies do.
-/// - `lanes` reads up to 64 feeds in one input, each line with its lane's number in front, and serves each on its own: each line that is settled
+/// - `lanes` reads up to 64 feeds in one input, each line with its lane's number in front, and serves each on its own:
+/// each line that is settled
 ///   for a lane is written with the number in front, before the next read.
-/// - `pause` does what `serve` does, but where the input ends behind whole lines, with the ratio declared and neither an `end` line nor a fault:
+/// - `pause` does what `serve` does, but where the input ends behind whole lines, with the ratio declared and neither
+/// an `end` line nor a fault:
 ///   there it writes a snapshot of the feed behind what is settled.
-/// - `resume` reads a snapshot and the further lines of its feed, and writes what `serve` writes for the whole feed beyond what was settled where it
+/// - `resume` reads a snapshot and the further lines of its feed, and writes what `serve` writes for the whole feed
+/// beyond what was settled where it
 ///   was paused. `resume pause` does the same, but where the input ends it does what `pause` does.
+/// - `unroll UNTIL` reads periodic tasks, and writes the feed of all jobs that they release before this tick.
 ///
-/// The statuses: `Done` where the feed ended without a fault and its whole trace was written, where the text was accepted, the run was told, or the
-/// question answered, for lanes where each that has a line ended without a fault before `close`, and for `pause` and
-/// `resume pause` also where the snapshot was written; `No` where the text is wrong or short, or not
-/// all deadlines can be met; `Refused` at the feed's first faulty line, where the input ends before the `end` line, or where the jobs don't fit the
-/// limits of the word, and for lanes where one that has a line is faulty or not ended at `close`, at a fault of the whole input, or where it ends
-/// before `close`; `ReadFault` and `WriteFault` where a call of the port failed, which is then the last; `Memory` where there was none, which with
-/// `serve` can't come before the ratio line; `Usage` exactly where the words are no row.
+/// The statuses: `Done` where the feed ended without a fault and its whole trace was written, where the text was
+/// accepted, the run was told, or the question answered, where the feed of tasks was written, for lanes where each that
+/// has a line ended without a fault before `close`, and for `pause` and `resume pause` also where the snapshot was
+/// written; `No` where the text is wrong or short, or not all deadlines can be met; `Refused` at the feed's first
+/// faulty line, where the input ends before the `end` line, or where the jobs don't fit the limits of the word, and for
+/// lanes where one that has a line is faulty or not ended at `close`, at a fault of the whole input, or where it ends
+/// before `close`; `ReadFault` and `WriteFault` where a call of the port failed, which is then the last; `Memory` where
+/// there was none, which with `serve` can't come before the ratio line; `Usage` exactly where the words are no row.
 pub fn dover<P: Port, L: Ledger>(
     alloc: Global,
     words: &[String],
@@ -73,24 +92,33 @@ pub fn dover<P: Port, L: Ledger>(
 
     // What was read and written, by the status.
     ensures done { AsksServe words.now → result ≡ Status.Done → Since (P.moves port.old) (P.moves port.new) IsTraced }
-    ensures refused { AsksServe words.now → result ≡ Status.Refused → Since (P.moves port.old) (P.moves port.new) served.IsRefused }
-    ensures unread { AsksServe words.now → result ≡ Status.ReadFault → Since (P.moves port.old) (P.moves port.new) served.IsUnread }
-    ensures unwritten { AsksServe words.now → result ≡ Status.WriteFault → Since (P.moves port.old) (P.moves port.new) served.IsUnwritten }
-    ensures memory { AsksServe words.now → result ≡ Status.Memory → Since (P.moves port.old) (P.moves port.new) served.IsOutOfMemory }
+    ensures refused { AsksServe words.now → result ≡ Status.Refused →
+        Since (P.moves port.old) (P.moves port.new) served.IsRefused }
+    ensures unread { AsksServe words.now → result ≡ Status.ReadFault →
+        Since (P.moves port.old) (P.moves port.new) served.IsUnread }
+    ensures unwritten { AsksServe words.now → result ≡ Status.WriteFault →
+        Since (P.moves port.old) (P.moves port.new) served.IsUnwritten }
+    ensures memory { AsksServe words.now → result ≡ Status.Memory →
+        Since (P.moves port.old) (P.moves port.new) served.IsOutOfMemory }
 
     // judge: nothing is put before a read, and none comes once a line is wrong.
     ensures judge_reads { AsksJudge words.now → Since (P.moves port.old) (P.moves port.new) (EachRead judged.MayRead) }
 
     // What was read and written, by the status.
-    ensures accepted { AsksJudge words.now → result ≡ Status.Done → Since (P.moves port.old) (P.moves port.new) IsAccepted }
-    ensures no { AsksJudge words.now → result ≡ Status.No → Since (P.moves port.old) (P.moves port.new) judged.IsRefused }
-    ensures judge_unread { AsksJudge words.now → result ≡ Status.ReadFault → Since (P.moves port.old) (P.moves port.new) judged.IsUnread }
-    ensures judge_memory { AsksJudge words.now → result ≡ Status.Memory → Since (P.moves port.old) (P.moves port.new) judged.IsOutOfMemory }
+    ensures accepted { AsksJudge words.now → result ≡ Status.Done →
+        Since (P.moves port.old) (P.moves port.new) IsAccepted }
+    ensures no { AsksJudge words.now → result ≡ Status.No →
+        Since (P.moves port.old) (P.moves port.new) judged.IsRefused }
+    ensures judge_unread { AsksJudge words.now → result ≡ Status.ReadFault →
+        Since (P.moves port.old) (P.moves port.new) judged.IsUnread }
+    ensures judge_memory { AsksJudge words.now → result ≡ Status.Memory →
+        Since (P.moves port.old) (P.moves port.new) judged.IsOutOfMemory }
     ensures judge_unwritten { AsksJudge words.now → result ≡ Status.WriteFault →
         Since (P.moves port.old) (P.moves port.new) judged.IsUnwritten }
 
     // report: nothing is put before a read, and none comes once a line is wrong.
-    ensures report_reads { (form : Form) → AsksReport words.now form → Since (P.moves port.old) (P.moves port.new) (EachRead judged.MayRead) }
+    ensures report_reads { (form : Form) → AsksReport words.now form →
+        Since (P.moves port.old) (P.moves port.new) (EachRead judged.MayRead) }
 
     // What was read and written, by the status.
     ensures reported { (form : Form) → AsksReport words.now form → result ≡ Status.Done →
@@ -107,7 +135,8 @@ pub fn dover<P: Port, L: Ledger>(
     // trial: nothing is read; what was written, by the status.
     ensures trial { (seed count : ℕ) (k : Fraction) → AsksTrial words.now seed count k → result ≡ Status.Done →
         Since (P.moves port.old) (P.moves port.new) (IsSummed (trial_instance k seed count)) }
-    ensures trial_unwritten { (seed count : ℕ) (k : Fraction) → AsksTrial words.now seed count k → result ≡ Status.WriteFault →
+    ensures trial_unwritten { (seed count : ℕ) (k : Fraction) → AsksTrial words.now seed count k →
+        result ≡ Status.WriteFault →
         Since (P.moves port.old) (P.moves port.new) (IsCutShort (summary (trial_instance k seed count))) }
     ensures trial_memory { (seed count : ℕ) (k : Fraction) → AsksTrial words.now seed count k → result ≡ Status.Memory →
         Since (P.moves port.old) (P.moves port.new) (λ moves. moves ≡ []) }
@@ -117,14 +146,16 @@ pub fn dover<P: Port, L: Ledger>(
         Since (P.moves port.old) (P.moves port.new) (IsBaited k rounds) }
     ensures bait_refused { (k : Fraction) (rounds : ℕ) → AsksBait words.now k rounds → result ≡ Status.Refused →
         Since (P.moves port.old) (P.moves port.new) IsTooLarge }
-    ensures bait_unwritten { (k : Fraction) (rounds : ℕ) → AsksBait words.now k rounds → FitsLimits k rounds → result ≡ Status.WriteFault →
+    ensures bait_unwritten { (k : Fraction) (rounds : ℕ) → AsksBait words.now k rounds → FitsLimits k rounds →
+        result ≡ Status.WriteFault →
         Since (P.moves port.old) (P.moves port.new) (IsCutShort (bait_text k rounds)) }
     ensures refusal_unwritten { (k : Fraction) (rounds : ℕ) → AsksBait words.now k rounds → (FitsLimits k rounds → ⊥) →
         result ≡ Status.WriteFault → Since (P.moves port.old) (P.moves port.new) (IsCutShort size_text) }
     ensures bait_memory { (k : Fraction) (rounds : ℕ) → AsksBait words.now k rounds → result ≡ Status.Memory →
         Since (P.moves port.old) (P.moves port.new) (λ moves. moves ≡ []) }
 
-    // feasible, best, compare: nothing is put before a read, and none comes once the feed has ended or a line of it is faulty.
+    // feasible, best, compare: nothing is put before a read, and none comes once the feed has ended or a line of it is
+    // faulty.
     ensures question_reads { (question : Question) → AsksQuestion words.now question →
         Since (P.moves port.old) (P.moves port.new) (EachRead listed.MayRead) }
 
@@ -134,7 +165,8 @@ pub fn dover<P: Port, L: Ledger>(
     ensures denied { (question : Question) → AsksQuestion words.now question → result ≡ Status.No →
         Since (P.moves port.old) (P.moves port.new) (asked.IsAnswered (says question) Status.No) }
     ensures question_refused { (question : Question) → AsksQuestion words.now question → result ≡ Status.Refused →
-        Since (P.moves port.old) (P.moves port.new) (λ moves. asked.IsRefused moves ⊎ asked.IsAnswered (says question) Status.Refused moves) }
+        Since (P.moves port.old) (P.moves port.new)
+        (λ moves. asked.IsRefused moves ⊎ asked.IsAnswered (says question) Status.Refused moves) }
     ensures question_unread { (question : Question) → AsksQuestion words.now question → result ≡ Status.ReadFault →
         Since (P.moves port.old) (P.moves port.new) asked.IsUnread }
     ensures question_unwritten { (question : Question) → AsksQuestion words.now question → result ≡ Status.WriteFault →
@@ -149,7 +181,8 @@ pub fn dover<P: Port, L: Ledger>(
     ensures lanes { AsksLanes words.now → result ≡ Status.Done → Since (P.moves port.old) (P.moves port.new) AllServed }
     ensures lanes_refused { AsksLanes words.now → result ≡ Status.Refused →
         Since (P.moves port.old) (P.moves port.new) (AreServed Status.Refused) }
-    ensures lanes_unread { AsksLanes words.now → result ≡ Status.ReadFault → Since (P.moves port.old) (P.moves port.new) laned.IsUnread }
+    ensures lanes_unread { AsksLanes words.now → result ≡ Status.ReadFault →
+        Since (P.moves port.old) (P.moves port.new) laned.IsUnread }
     ensures lanes_unwritten { AsksLanes words.now → result ≡ Status.WriteFault →
         Since (P.moves port.old) (P.moves port.new) laned.IsUnwritten }
     ensures lanes_memory { AsksLanes words.now → result ≡ Status.Memory →
@@ -159,7 +192,8 @@ pub fn dover<P: Port, L: Ledger>(
     ensures pause_reads { AsksPause words.now → Since (P.moves port.old) (P.moves port.new) (EachRead served.MayRead) }
 
     // What was read and written, by the status.
-    ensures paused { AsksPause words.now → result ≡ Status.Done → Since (P.moves port.old) (P.moves port.new) IsTracedOrPaused }
+    ensures paused { AsksPause words.now → result ≡ Status.Done →
+        Since (P.moves port.old) (P.moves port.new) IsTracedOrPaused }
     ensures pause_refused { AsksPause words.now → result ≡ Status.Refused →
         Since (P.moves port.old) (P.moves port.new) paused.IsRefused }
     ensures pause_unread { AsksPause words.now → result ≡ Status.ReadFault →
@@ -169,8 +203,9 @@ pub fn dover<P: Port, L: Ledger>(
     ensures pause_memory { AsksPause words.now → result ≡ Status.Memory →
         Since (P.moves port.old) (P.moves port.new) served.IsOutOfMemory }
 
-    // resume, resume pause: before each read the snapshot is still to be read on and nothing was put; or what stands on the output is what is due
-    // for the whole feed so far beyond what was due where it was paused, and the feed goes on.
+    // resume, resume pause: before each read the snapshot is still to be read on and nothing was put; or what stands on
+    // the output is what is due for the whole feed so far beyond what was due where it was paused, and the feed goes
+    // on.
     ensures resume_reads { (at_end : AtEnd) → AsksResume words.now at_end →
         Since (P.moves port.old) (P.moves port.new) (EachRead resumed.MayRead) }
 
@@ -186,11 +221,34 @@ pub fn dover<P: Port, L: Ledger>(
     ensures resume_memory { (at_end : AtEnd) → AsksResume words.now at_end → result ≡ Status.Memory →
         Since (P.moves port.old) (P.moves port.new) (resumed.IsOutOfMemory at_end) }
 
-    // How many comparisons a call makes: for n jobs at most 80 * (n + 1) * d, where n + 1 has at most d binary digits; serve and pause at every
-    // status, for the jobs that were admitted, none before a ratio line.
-    ensures comparisons { AsksServe words.now → Since (P.moves port.old) (P.moves port.new) (served.IsFrugal steps.old steps.new) }
+    // unroll: nothing is put before a read, and none comes once the tasks have ended or a line of them is faulty.
+    ensures unroll_reads { (until : ℕ) → AsksUnroll words.now until →
+        Since (P.moves port.old) (P.moves port.new) (EachRead (tasks.MayRead until)) }
+
+    // What was read and written, by the status: at Done the feed of all jobs that the tasks release before the tick. It
+    // has no fault, and hands in these jobs and no others.
+    ensures unrolled { (until : ℕ) → AsksUnroll words.now until → result ≡ Status.Done →
+        Since (P.moves port.old) (P.moves port.new) (unrolled.IsAnswered until Status.Done) }
+    ensures unroll_refused { (until : ℕ) → AsksUnroll words.now until → result ≡ Status.Refused →
+        Since (P.moves port.old) (P.moves port.new)
+        (λ moves. unrolled.IsRefused until moves ⊎ unrolled.IsAnswered until Status.Refused moves) }
+    ensures unroll_unread { (until : ℕ) → AsksUnroll words.now until → result ≡ Status.ReadFault →
+        Since (P.moves port.old) (P.moves port.new) (unrolled.IsUnread until) }
+    ensures unroll_unwritten { (until : ℕ) → AsksUnroll words.now until → result ≡ Status.WriteFault →
+        Since (P.moves port.old) (P.moves port.new) (unrolled.IsUnwritten until) }
+    ensures unroll_memory { (until : ℕ) → AsksUnroll words.now until → result ≡ Status.Memory →
+        Since (P.moves port.old) (P.moves port.new) unrolled.IsOutOfMemory }
+
+    // How many comparisons a call makes: for n jobs at most 80 * (n + 1) * d, where n + 1 has at most d binary digits;
+    // serve and pause at every status, for the jobs that were admitted, none before a ratio line; resume and resume
+    // pause at every status, for the jobs of the snapshot and those admitted behind it together, and before its last
+    // line for those of its lines so far.
+    ensures comparisons { AsksServe words.now →
+        Since (P.moves port.old) (P.moves port.new) (served.IsFrugal steps.old steps.new) }
     ensures pause_comparisons { AsksPause words.now →
         Since (P.moves port.old) (P.moves port.new) (served.IsFrugal steps.old steps.new) }
+    ensures resume_comparisons { (at_end : AtEnd) → AsksResume words.now at_end →
+        Since (P.moves port.old) (P.moves port.new) (resumed.IsFrugal steps.old steps.new) }
     ensures trial_comparisons { (seed count : ℕ) (k : Fraction) → AsksTrial words.now seed count k → result ≡ Status.Done →
         AreFew count steps.old steps.new }
     ensures bait_comparisons { (k : Fraction) (rounds : ℕ) → AsksBait words.now k rounds → result ≡ Status.Done →
@@ -212,13 +270,16 @@ pub fn dover<P: Port, L: Ledger>(
     ensures never { AsksServe words.now → result ≢ Status.No }
     ensures judge_never { AsksJudge words.now → result ≢ Status.Refused }
     ensures report_never { (form : Form) → AsksReport words.now form → result ≢ Status.Refused }
-    ensures trial_answers { (seed count : ℕ) (k : Fraction) → AsksTrial words.now seed count k → stated.IsAnswer result }
-    ensures bait_answers { (k : Fraction) (rounds : ℕ) → AsksBait words.now k rounds → stated.IsAnswerFor result (FitsLimits k rounds) }
+    ensures trial_answers { (seed count : ℕ) (k : Fraction) → AsksTrial words.now seed count k →
+        stated.IsAnswer result }
+    ensures bait_answers { (k : Fraction) (rounds : ℕ) → AsksBait words.now k rounds →
+        stated.IsAnswerFor result (FitsLimits k rounds) }
     ensures question_answers { (question : Question) → AsksQuestion words.now question → IsAnswerTo question result }
 
     ensures lanes_answers { AsksLanes words.now → IsAnswer result }
     ensures pause_answers { AsksPause words.now → IsAnswer result }
     ensures resume_answers { (at_end : AtEnd) → AsksResume words.now at_end → IsAnswer result }
+    ensures unroll_answers { (until : ℕ) → AsksUnroll words.now until → IsAnswer result }
 
     // Where no count rose there is an answer, the one that the input calls for, or no memory.
     ensures complete { AsksServe words.now → (Rose (P.read_faults port.old) (P.read_faults port.new) → ⊥)
@@ -233,21 +294,26 @@ pub fn dover<P: Port, L: Ledger>(
     ensures judge_settled { AsksJudge words.now → (Rose (P.read_faults port.old) (P.read_faults port.new) → ⊥)
         → (Rose (P.write_faults port.old) (P.write_faults port.new) → ⊥)
         → Since (P.moves port.old) (P.moves port.new) (IsJudged result) }
-    ensures report_complete { (form : Form) → AsksReport words.now form → (Rose (P.read_faults port.old) (P.read_faults port.new) → ⊥)
+    ensures report_complete { (form : Form) → AsksReport words.now form →
+        (Rose (P.read_faults port.old) (P.read_faults port.new) → ⊥)
         → (Rose (P.write_faults port.old) (P.write_faults port.new) → ⊥)
         → (result ≡ Status.Done) ⊎ (result ≡ Status.No) ⊎ (result ≡ Status.Memory) }
-    ensures report_settled { (form : Form) → AsksReport words.now form → (Rose (P.read_faults port.old) (P.read_faults port.new) → ⊥)
+    ensures report_settled { (form : Form) → AsksReport words.now form →
+        (Rose (P.read_faults port.old) (P.read_faults port.new) → ⊥)
         → (Rose (P.write_faults port.old) (P.write_faults port.new) → ⊥)
         → Since (P.moves port.old) (P.moves port.new) (IsJudged result) }
     ensures trial_complete { (seed count : ℕ) (k : Fraction) → AsksTrial words.now seed count k →
-        (Rose (P.write_faults port.old) (P.write_faults port.new) → ⊥) → (result ≡ Status.Done) ⊎ (result ≡ Status.Memory) }
+        (Rose (P.write_faults port.old) (P.write_faults port.new) → ⊥) → (result ≡ Status.Done)
+        ⊎ (result ≡ Status.Memory) }
     ensures bait_complete { (k : Fraction) (rounds : ℕ) → AsksBait words.now k rounds →
         (Rose (P.write_faults port.old) (P.write_faults port.new) → ⊥) → IsGiven result (FitsLimits k rounds) }
     ensures question_settled { (question : Question) → AsksQuestion words.now question →
-        (Rose (P.read_faults port.old) (P.read_faults port.new) → ⊥) → (Rose (P.write_faults port.old) (P.write_faults port.new) → ⊥) →
+        (Rose (P.read_faults port.old) (P.read_faults port.new) → ⊥) →
+        (Rose (P.write_faults port.old) (P.write_faults port.new) → ⊥) →
         Since (P.moves port.old) (P.moves port.new) (IsAsked question result) }
     ensures question_complete { (question : Question) → AsksQuestion words.now question →
-        (Rose (P.read_faults port.old) (P.read_faults port.new) → ⊥) → (Rose (P.write_faults port.old) (P.write_faults port.new) → ⊥) →
+        (Rose (P.read_faults port.old) (P.read_faults port.new) → ⊥) →
+        (Rose (P.write_faults port.old) (P.write_faults port.new) → ⊥) →
         (result ≡ Status.Done) ⊎ (result ≡ Status.No) ⊎ (result ≡ Status.Refused) ⊎ (result ≡ Status.Memory) }
     ensures lanes_settled { AsksLanes words.now → (Rose (P.read_faults port.old) (P.read_faults port.new) → ⊥)
         → (Rose (P.write_faults port.old) (P.write_faults port.new) → ⊥)
@@ -261,10 +327,20 @@ pub fn dover<P: Port, L: Ledger>(
     ensures pause_complete { AsksPause words.now → (Rose (P.read_faults port.old) (P.read_faults port.new) → ⊥)
         → (Rose (P.write_faults port.old) (P.write_faults port.new) → ⊥)
         → (result ≡ Status.Done) ⊎ (result ≡ Status.Refused) ⊎ (result ≡ Status.Memory) }
-    ensures resume_settled { (at_end : AtEnd) → AsksResume words.now at_end → (Rose (P.read_faults port.old) (P.read_faults port.new) → ⊥)
+    ensures resume_settled { (at_end : AtEnd) → AsksResume words.now at_end →
+        (Rose (P.read_faults port.old) (P.read_faults port.new) → ⊥)
         → (Rose (P.write_faults port.old) (P.write_faults port.new) → ⊥)
         → Since (P.moves port.old) (P.moves port.new) (IsSettledOrResumed at_end result) }
-    ensures resume_complete { (at_end : AtEnd) → AsksResume words.now at_end → (Rose (P.read_faults port.old) (P.read_faults port.new) → ⊥)
+    ensures unroll_settled { (until : ℕ) → AsksUnroll words.now until →
+        (Rose (P.read_faults port.old) (P.read_faults port.new) → ⊥)
+        → (Rose (P.write_faults port.old) (P.write_faults port.new) → ⊥)
+        → Since (P.moves port.old) (P.moves port.new) (IsUnrolled until result) }
+    ensures unroll_complete { (until : ℕ) → AsksUnroll words.now until →
+        (Rose (P.read_faults port.old) (P.read_faults port.new) → ⊥)
+        → (Rose (P.write_faults port.old) (P.write_faults port.new) → ⊥)
+        → (result ≡ Status.Done) ⊎ (result ≡ Status.Refused) ⊎ (result ≡ Status.Memory) }
+    ensures resume_complete { (at_end : AtEnd) → AsksResume words.now at_end →
+        (Rose (P.read_faults port.old) (P.read_faults port.new) → ⊥)
         → (Rose (P.write_faults port.old) (P.write_faults port.new) → ⊥)
         → (result ≡ Status.Done) ⊎ (result ≡ Status.Refused) ⊎ (result ≡ Status.Memory) }
 {

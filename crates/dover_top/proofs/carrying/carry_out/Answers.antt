@@ -7,7 +7,8 @@ use Rattle.stated_word.specs.Record as stated
 use Rattle.stated_word.specs.Lists.{trial_instance}
 use Rattle.stated_word.specs.Baited.{bait_text, size_text}
 use Rattle.dover_core.specs.Spending.{AreFew}
-use Rattle.dover_top.proofs.Asking.{trial_is, bait_is}
+use Rattle.unroll_word.specs.Record as unrolled
+use Rattle.dover_top.proofs.Asking.{trial_is, bait_is, unroll_is}
 use Rattle.dover_top.proofs.Settling.{causes_too, no_read, no_read_for}
 use Rattle.dover_top.proofs.carrying.carry_out.Goals as goal
 
@@ -23,7 +24,8 @@ returns-in-Trial-clause-trial_comparisons g c = λ seed count k e done. trial_is
     c.in-Trial.seed c.in-Trial.count seed count c.in-Trial.k k (sym c.in-Trial.is ∙ e) (c.trial_word.ensures.count done)
 
 pub returns-in-Trial-clause-causes : goal.returns-in-Trial-clause-causes
-returns-in-Trial-clause-causes g c = causes_too _ _ _ _ _ (no_read _ c.trial_word.ensures.answer) c.trial_word.ensures.causes
+returns-in-Trial-clause-causes g c =
+    causes_too _ _ _ _ _ (no_read _ c.trial_word.ensures.answer) c.trial_word.ensures.causes
 
 pub returns-in-Bait-clause-baits : goal.returns-in-Bait-clause-baits
 returns-in-Bait-clause-baits g c = λ k rounds e fits. bait_is
@@ -33,7 +35,8 @@ returns-in-Bait-clause-baits g c = λ k rounds e fits. bait_is
 
 pub returns-in-Bait-clause-refuses : goal.returns-in-Bait-clause-refuses
 returns-in-Bait-clause-refuses g c = λ k rounds e large. bait_is
-    (λ k rounds. (FitsLimits k rounds → ⊥) → Since (g.P.Port.moves c.args.port.now) (g.P.Port.moves c.bait_word.new.port)
+    (λ k rounds. (FitsLimits k rounds → ⊥)
+    → Since (g.P.Port.moves c.args.port.now) (g.P.Port.moves c.bait_word.new.port)
     (stated.Refuses c.bait_word.result size_text))
     c.in-Bait.k k c.in-Bait.rounds rounds (sym c.in-Bait.is ∙ e) c.bait_word.ensures.refuses large
 
@@ -43,7 +46,8 @@ returns-in-Bait-clause-bait_comparisons g c = λ k rounds e done. bait_is
     c.in-Bait.k k c.in-Bait.rounds rounds (sym c.in-Bait.is ∙ e) (c.bait_word.ensures.count done)
 
 pub returns-in-Bait-clause-causes : goal.returns-in-Bait-clause-causes
-returns-in-Bait-clause-causes g c = causes_too _ _ _ _ _ (no_read_for _ _ c.bait_word.ensures.answer) c.bait_word.ensures.causes
+returns-in-Bait-clause-causes g c =
+    causes_too _ _ _ _ _ (no_read_for _ _ c.bait_word.ensures.answer) c.bait_word.ensures.causes
 
 pub returns-in-Pause-clause-pauses : goal.returns-in-Pause-clause-pauses
 returns-in-Pause-clause-pauses g c = λ _. c.pause_word.ensures.pauses
@@ -120,8 +124,26 @@ returns-in-Pause-clause-stops g c = c.pause_word.ensures.stops
 pub returns-in-Resume-clause-resume_answers : goal.returns-in-Resume-clause-resume_answers
 returns-in-Resume-clause-resume_answers g c = λ at_end _. c.resume_word.ensures.answer
 
+pub returns-in-Resume-clause-resume_comparisons : goal.returns-in-Resume-clause-resume_comparisons
+returns-in-Resume-clause-resume_comparisons g c = λ at_end _. c.resume_word.ensures.count
+
 pub returns-in-Resume-clause-causes : goal.returns-in-Resume-clause-causes
 returns-in-Resume-clause-causes g c = c.resume_word.ensures.causes
 
 pub returns-in-Resume-clause-stops : goal.returns-in-Resume-clause-stops
 returns-in-Resume-clause-stops g c = c.resume_word.ensures.stops
+
+pub returns-in-Unroll-clause-unrolls : goal.returns-in-Unroll-clause-unrolls
+returns-in-Unroll-clause-unrolls g c = λ until e. unroll_is
+    (λ until. Since (g.P.Port.moves c.args.port.now) (g.P.Port.moves c.unroll_word.new.port)
+    (unrolled.Tells until c.unroll_word.result))
+    c.in-Unroll.until until (sym c.in-Unroll.is ∙ e) c.unroll_word.ensures.tells
+
+pub returns-in-Unroll-clause-unroll_answers : goal.returns-in-Unroll-clause-unroll_answers
+returns-in-Unroll-clause-unroll_answers g c = λ until _. c.unroll_word.ensures.answer
+
+pub returns-in-Unroll-clause-causes : goal.returns-in-Unroll-clause-causes
+returns-in-Unroll-clause-causes g c = c.unroll_word.ensures.causes
+
+pub returns-in-Unroll-clause-stops : goal.returns-in-Unroll-clause-stops
+returns-in-Unroll-clause-stops g c = c.unroll_word.ensures.stops
