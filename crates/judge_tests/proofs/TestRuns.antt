@@ -17,19 +17,27 @@ three n = record {
 pub taken_valid : IsValid (three 12)
 taken_valid = (is_valid-agrees (three 12)).0 refl
 
-pub taken_printed : (a b c : JobFacts) → a ≡ job_of_numbers 0 3 30 3 → b ≡ job_of_numbers 0 2 4 2 → c ≡ job_of_numbers 0 12 12 12
-    → printed (three 12) ≡ Release 0 a ∷ Run 0 0 ∷ Release 1 b ∷ Preempt 0 0 1 ∷ Release 2 c ∷ Take 0 1 2 ∷ Abandon 2 1 ∷ Complete 12 2
+pub taken_printed : (a b c : JobFacts) → a ≡ job_of_numbers 0 3 30 3 → b ≡ job_of_numbers 0 2 4 2
+    → c ≡ job_of_numbers 0 12 12 12
+    → printed (three 12) ≡ Release 0 a ∷ Run 0 0 ∷ Release 1 b ∷ Preempt 0 0 1 ∷ Release 2 c ∷ Take 0 1 2 ∷ Abandon 2 1
+    ∷ Complete 12 2
     ∷ Run 12 0 ∷ Complete 15 0 ∷ End 15 ∷ []
 taken_printed a b c e f g =
-    let it : printed (three 12) ≡ Release 0 (job_of_numbers 0 3 30 3) ∷ Run 0 0 ∷ Release 1 (job_of_numbers 0 2 4 2) ∷ Preempt 0 0 1
-    ∷ Release 2 (job_of_numbers 0 12 12 12) ∷ Take 0 1 2 ∷ Abandon 2 1 ∷ Complete 12 2 ∷ Run 12 0 ∷ Complete 15 0 ∷ End 15 ∷ [] = refl in cc
+    let it : printed (three 12) ≡ Release 0 (job_of_numbers 0 3 30 3) ∷ Run 0 0 ∷ Release 1 (job_of_numbers 0 2 4 2)
+    ∷ Preempt 0 0 1
+    ∷ Release 2 (job_of_numbers 0 12 12 12) ∷ Take 0 1 2 ∷ Abandon 2 1 ∷ Complete 12 2 ∷ Run 12 0 ∷ Complete 15 0
+    ∷ End 15 ∷ [] = refl in cc
 
 pub abandoned_valid : IsValid (three 10)
 abandoned_valid = (is_valid-agrees (three 10)).0 refl
 
-pub abandoned_printed : (a b c : JobFacts) → a ≡ job_of_numbers 0 3 30 3 → b ≡ job_of_numbers 0 2 4 2 → c ≡ job_of_numbers 0 10 10 10
-    → printed (three 10) ≡ Release 0 a ∷ Run 0 0 ∷ Release 1 b ∷ Preempt 0 0 1 ∷ Release 2 c ∷ Abandon 0 2 ∷ Complete 2 1
+pub abandoned_printed : (a b c : JobFacts) → a ≡ job_of_numbers 0 3 30 3 → b ≡ job_of_numbers 0 2 4 2
+    → c ≡ job_of_numbers 0 10 10 10
+    → printed (three 10) ≡ Release 0 a ∷ Run 0 0 ∷ Release 1 b ∷ Preempt 0 0 1 ∷ Release 2 c ∷ Abandon 0 2
+    ∷ Complete 2 1
     ∷ Run 2 0 ∷ Complete 5 0 ∷ End 5 ∷ []
 abandoned_printed a b c e f g =
-    let it : printed (three 10) ≡ Release 0 (job_of_numbers 0 3 30 3) ∷ Run 0 0 ∷ Release 1 (job_of_numbers 0 2 4 2) ∷ Preempt 0 0 1
-    ∷ Release 2 (job_of_numbers 0 10 10 10) ∷ Abandon 0 2 ∷ Complete 2 1 ∷ Run 2 0 ∷ Complete 5 0 ∷ End 5 ∷ [] = refl in cc
+    let it : printed (three 10) ≡ Release 0 (job_of_numbers 0 3 30 3) ∷ Run 0 0 ∷ Release 1 (job_of_numbers 0 2 4 2)
+    ∷ Preempt 0 0 1
+    ∷ Release 2 (job_of_numbers 0 10 10 10) ∷ Abandon 0 2 ∷ Complete 2 1 ∷ Run 2 0 ∷ Complete 5 0 ∷ End 5 ∷ [] = refl in
+    cc

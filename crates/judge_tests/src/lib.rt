@@ -1,4 +1,5 @@
-//! Tests of the judge, and of the crates that tell of runs and make lists of jobs: `trace_judge`, `charge_ledger`, `dover_report`, `job_gen`
+//! Tests of the judge, and of the crates that tell of runs and make lists of jobs: `trace_judge`, `charge_ledger`,
+//! `dover_report`, `job_gen`
 //! and `adversary`.
 #![tactic(auto)]
 

@@ -1,5 +1,6 @@
 ghost use Rattle.std.specs.Prelude.{◌≡◌, [], ◌∷◌};
-ghost use Rattle.dover_model.specs.declared.events.Event.TheVariants.{Release, Run, Preempt, Take, Complete, Abandon, End};
+ghost use Rattle.dover_model.specs.declared.events.Event.TheVariants.{Release, Run, Preempt, Take, Complete, Abandon};
+ghost use Rattle.dover_model.specs.declared.events.Event.TheVariants.{End};
 ghost use Rattle.dover_model.specs.JobFacts.{job_of_numbers};
 
 use dover_model::{Event, Job, Ratio};
@@ -22,7 +23,8 @@ fn job(rt: &impl Abort, release: u64, work: u64, deadline: u64, value: u64) -> J
 
 /// The printed steps of a run in which a job takes the processor.
 fn steps(rt: &impl Abort) -> [Event; 11]
-    ensures { result ≡ Release 0 (job_of_numbers 0 3 30 3) ∷ Run 0 0 ∷ Release 1 (job_of_numbers 0 2 4 2) ∷ Preempt 0 0 1
+    ensures { result ≡ Release 0 (job_of_numbers 0 3 30 3) ∷ Run 0 0 ∷ Release 1 (job_of_numbers 0 2 4 2)
+        ∷ Preempt 0 0 1
         ∷ Release 2 (job_of_numbers 0 12 12 12) ∷ Take 0 1 2 ∷ Abandon 2 1 ∷ Complete 12 2 ∷ Run 12 0 ∷ Complete 15 0 ∷ End 15 ∷ [] }
 {
     let first = job(rt, 0, 3, 30, 3);

@@ -25,6 +25,7 @@ fn jobs_are_tested_against_all(rt: HostRuntime) {
     let lines = [
         job_line(0, 5, 1, Err(Refused::BadJob)),
         job_line(6, 5, 9, Err(Refused::BadJob)),
+        job_line(1, 5, 0, Err(Refused::BadJob)),
         job_line(1, 5, 1, Ok(())),
         job_line(1, 5, 2, Ok(())),
         job_line(1, 5, 3, Err(Refused::Ratio { other: 0 })),

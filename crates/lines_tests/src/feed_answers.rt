@@ -29,73 +29,90 @@ fn fault(line: u64, cause: Cause) -> FeedFault {
     FeedFault { line, cause }
 }
 
+fn are_faulty(rows: &[(&[u8], u64, Cause)]) -> bool {
+    for (text, line, cause) in rows {
+        let outcome = answers(*text);
+        let fault = fault(*line, *cause);
+        if outcome.last != Some(Err(fault)) || outcome.end != Err(fault) {
+            return false;
+        }
+    }
+    true
+}
+
+fn are_refused(rows: &[(&[u8], u64, u64, u64, u64, Refusal)]) -> bool {
+    for (text, release, work, deadline, value, cause) in rows {
+        let refused = Fed::Refused {
+            release: *release,
+            work: *work,
+            deadline: *deadline,
+            value: *value,
+            cause: *cause,
+        };
+        if answers(*text).last != Some(Ok(refused)) {
+            return false;
+        }
+    }
+    true
+}
+
+/// Texts, and the line and the cause of their first fault.
+const FAULTS: [(&[u8], u64, Cause); 18] = [
+    (b"job 0 1 1 1", 1, Cause::Declared),
+    (b"tick 5", 1, Cause::Declared),
+    (b"junk", 1, Cause::Line),
+    (b"k 1 2", 1, Cause::Declared),
+    (b"k 1 1 1", 1, Cause::Declared),
+    (b"k 1 1 3", 1, Cause::Declared),
+    (b"k 1 1 02", 1, Cause::Line),
+    (b"k 4294967297 1", 1, Cause::Declared),
+    (b"k 1 2/k 1 1/end", 1, Cause::Declared),
+    (b"k 1 1/k 1 1", 2, Cause::Declared),
+    (b"k 1 1/job 0 01 5 1", 2, Cause::Line),
+    (b"k 1 1/job 0 1 1000000000001 1", 2, Cause::BadJob),
+    (b"k 1 1/tick 1000000000001", 2, Cause::Order),
+    (b"k 1 1/job 1000000000001 1 5 1", 2, Cause::BadJob),
+    (b"k 1 1/tick 5/tick 4", 3, Cause::Order),
+    (b"k 1 1/tick 5/tick 5/tick 4/tick 9", 4, Cause::Order),
+    (b"k 1 1 2/tick 5/job 4 1 9 1", 3, Cause::Order),
+    (
+        b"k 2 1/job 0 1 5 1/job 0 1 5 2/job 0 1 5 3",
+        4,
+        Cause::Ratio { other: 0 },
+    ),
+];
+
 // The first line that has a cause is at fault, and every later one is answered by that fault, as is the end.
 #[test]
 fn faults_stand_at_their_lines(rt: HostRuntime) {
-    let rows: [(&[u8], u64, Cause); 18] = [
-        (b"job 0 1 1 1", 1, Cause::Declared),
-        (b"tick 5", 1, Cause::Declared),
-        (b"junk", 1, Cause::Line),
-        (b"k 1 2", 1, Cause::Declared),
-        (b"k 1 1 1", 1, Cause::Declared),
-        (b"k 1 1 3", 1, Cause::Declared),
-        (b"k 1 1 02", 1, Cause::Line),
-        (b"k 4294967297 1", 1, Cause::Declared),
-        (b"k 1 2/k 1 1/end", 1, Cause::Declared),
-        (b"k 1 1/k 1 1", 2, Cause::Declared),
-        (b"k 1 1/job 0 01 5 1", 2, Cause::Line),
-        (b"k 1 1/job 0 1 1000000000001 1", 2, Cause::BadJob),
-        (b"k 1 1/tick 1000000000001", 2, Cause::Order),
-        (b"k 1 1/job 1000000000001 1 5 1", 2, Cause::BadJob),
-        (b"k 1 1/tick 5/tick 4", 3, Cause::Order),
-        (b"k 1 1/tick 5/tick 5/tick 4/tick 9", 4, Cause::Order),
-        (b"k 1 1 2/tick 5/job 4 1 9 1", 3, Cause::Order),
-        (
-            b"k 2 1/job 0 1 5 1/job 0 1 5 2/job 0 1 5 3",
-            4,
-            Cause::Ratio { other: 0 },
-        ),
-    ];
-    for (text, line, cause) in rows {
-        let outcome = answers(text);
-        let holds = outcome.last == Some(Err(fault(line, cause)))
-            && outcome.end == Err(fault(line, cause));
-        assert!(rt; holds);
-    }
+    assert!(rt; are_faulty(&FAULTS));
 }
+
+/// Texts, and the numbers and the cause of the job line that is refused last.
+const REFUSED: [(&[u8], u64, u64, u64, u64, Refusal); 3] = [
+    (
+        b"k 2 1 2/job 0 1 5 1/job 0 1 5 2/job 0 1 5 3",
+        0,
+        1,
+        5,
+        3,
+        Refusal::Ratio,
+    ),
+    (b"k 2 1 2/job 3 9 5 9", 3, 9, 5, 9, Refusal::BadJob),
+    (
+        b"k 1 1 2/job 9 9 9 9/job 2 5 6 5",
+        2,
+        5,
+        6,
+        5,
+        Refusal::BadJob,
+    ),
+];
 
 // A job line that isn't admitted is no fault in version Two, and the mark stays.
 #[test]
 fn refused_lines_go_on(rt: HostRuntime) {
-    let rows: [(&[u8], u64, u64, u64, u64, Refusal); 3] = [
-        (
-            b"k 2 1 2/job 0 1 5 1/job 0 1 5 2/job 0 1 5 3",
-            0,
-            1,
-            5,
-            3,
-            Refusal::Ratio,
-        ),
-        (b"k 2 1 2/job 3 9 5 9", 3, 9, 5, 9, Refusal::BadJob),
-        (
-            b"k 1 1 2/job 9 9 9 9/job 2 5 6 5",
-            2,
-            5,
-            6,
-            5,
-            Refusal::BadJob,
-        ),
-    ];
-    for (text, release, work, deadline, value, cause) in rows {
-        let refused = Fed::Refused {
-            release,
-            work,
-            deadline,
-            value,
-            cause,
-        };
-        assert!(rt; answers(text).last == Some(Ok(refused)));
-    }
+    assert!(rt; are_refused(&REFUSED));
 }
 
 // Good lines say what they say.

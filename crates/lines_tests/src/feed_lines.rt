@@ -10,23 +10,41 @@ fn is_written_again(line: &[u8]) -> bool {
     again.bytes() == line
 }
 
+fn are_written_again(lines: &[&[u8]]) -> bool {
+    for line in lines {
+        if !is_written_again(*line) {
+            return false;
+        }
+    }
+    true
+}
+
+fn are_refused(lines: &[&[u8]]) -> bool {
+    for line in lines {
+        if read_feed_line(*line).is_ok() {
+            return false;
+        }
+    }
+    true
+}
+
+/// Lines of feeds.
+const GOOD: [&[u8]; 9] = [
+    b"k 1 1",
+    b"k 1000000 1000",
+    b"k 1 1 2",
+    b"k 0 999999999999999999 3",
+    b"job 0 2 2 2",
+    b"job 999999999999 1 1000000000000 1",
+    b"tick 0",
+    b"tick 1000000000001",
+    b"end",
+];
+
 // Each line is read, and written again as the same bytes.
 #[test]
 fn lines_are_read_and_written(rt: HostRuntime) {
-    let good: [&[u8]; 9] = [
-        b"k 1 1",
-        b"k 1000000 1000",
-        b"k 1 1 2",
-        b"k 0 999999999999999999 3",
-        b"job 0 2 2 2",
-        b"job 999999999999 1 1000000000000 1",
-        b"tick 0",
-        b"tick 1000000000001",
-        b"end",
-    ];
-    for line in good {
-        assert!(rt; is_written_again(line));
-    }
+    assert!(rt; are_written_again(&GOOD));
 }
 
 #[test]
@@ -55,36 +73,35 @@ fn values_are_read(rt: HostRuntime) {
     assert!(rt; holds);
 }
 
+/// Lines that are none of a feed.
+const REFUSED: [&[u8]; 24] = [
+    b"",
+    b" ",
+    b"end ",
+    b" end",
+    b"End",
+    b"END",
+    b"end\r",
+    b"end 0",
+    b"k 1",
+    b"k 1 1 02",
+    b"k 1 1 2 3",
+    b"k  1 1",
+    b"k\t1 1",
+    b"K 1 1",
+    b"job 0 01 5 1",
+    b"job 0 1 5",
+    b"job 0 1 5 1 1",
+    b"job 0 1 5 1 ",
+    b"job 0 +1 5 1",
+    b"job 0 -1 5 1",
+    b"jobs 0 1 5 1",
+    b"tick",
+    b"tick 1000000000000000000",
+    b"junk",
+];
+
 #[test]
 fn other_lines_are_refused(rt: HostRuntime) {
-    let refused: [&[u8]; 24] = [
-        b"",
-        b" ",
-        b"end ",
-        b" end",
-        b"End",
-        b"END",
-        b"end\r",
-        b"end 0",
-        b"k 1",
-        b"k 1 1 02",
-        b"k 1 1 2 3",
-        b"k  1 1",
-        b"k\t1 1",
-        b"K 1 1",
-        b"job 0 01 5 1",
-        b"job 0 1 5",
-        b"job 0 1 5 1 1",
-        b"job 0 1 5 1 ",
-        b"job 0 +1 5 1",
-        b"job 0 -1 5 1",
-        b"jobs 0 1 5 1",
-        b"tick",
-        b"tick 1000000000000000000",
-        b"junk",
-    ];
-    for line in refused {
-        assert!(rt; read_feed_line(line).is_err());
-    }
-    assert!(rt; read_feed_line(&[b'0'; 129]).is_err());
+    assert!(rt; are_refused(&REFUSED) && read_feed_line(&[b'0'; 129]).is_err());
 }

@@ -1,11 +1,12 @@
 //! Lines over ports in memory.
 use dover_model::{Event, Ratio, Refusal, Version};
-use dover_port::{Failed, MemoryPort, Output, Port};
+use dover_port::{Failed, MemoryPort, Output, Port, Status};
 use event_feed::{Cause, FeedFault};
 use line_output::{
     fault_line, put_event, put_fault, put_header, put_line, put_numbers, put_refused,
 };
 use line_text::LineBuf;
+use std::alloc::Global;
 use std::test::Fail;
 use trace_format::TraceLine;
 
@@ -47,54 +48,100 @@ fn put_all_lines<P: Port>(port: &mut P, k: Ratio) -> Result<(), Failed> {
     out.flush(port)
 }
 
+/// What is put.
+const LINES: &str =
+    "dover 2 7 2\nrun 5 3\nrefuse 5 6 7 8 9 total\nwindow 0 18446744073709551615\njobs\nany line\n";
+
+/// The write that fails, the bytes that a write takes at most, and what is put.
+const WRITES: [(u32, usize, &str); 4] = [
+    (0, 4096, LINES),
+    (0, 5, LINES),
+    (1, 4096, ""),
+    (2, 5, "dover"),
+];
+
+/// A port without input, of which the write of this number fails, and a write takes at most so many bytes.
+fn port(alloc: Global, failing: u32, most: usize) -> Result<MemoryPort, Fail> {
+    let fails = vec![in alloc; failing]?;
+    Ok(MemoryPort::new(
+        alloc,
+        Vec::new(alloc),
+        Vec::new(alloc),
+        fails,
+        most.max(1),
+        4096,
+    )?)
+}
+
+fn is_put(alloc: Global, k: Ratio, failing: u32, most: usize, written: &str) -> Result<bool, Fail> {
+    let mut port = port(alloc, failing, most)?;
+    let is_all = put_all_lines(&mut port, k).is_ok();
+    Ok(is_all == (failing == 0) && port.written() == written.as_bytes())
+}
+
+fn are_put(alloc: Global, k: Ratio, rows: &[(u32, usize, &str)]) -> Result<bool, Fail> {
+    for (failing, most, written) in rows {
+        if !is_put(alloc, k, *failing, *most, *written)? {
+            return Ok(false);
+        }
+    }
+    Ok(true)
+}
+
 #[test]
 fn lines_are_put(rt: HostRuntime) -> Result<(), Fail> {
-    let alloc = rt.alloc();
-    let k = Ratio::new(7, 2).unwrap();
-    let lines =
-        "dover 2 7 2\nrun 5 3\nrefuse 5 6 7 8 9 total\nwindow 0 18446744073709551615\njobs\nany line\n";
-    // the write that fails, the bytes that a write takes at most, and what is put
-    for (failing, most, written) in [
-        (0, 4096, lines),
-        (0, 5, lines),
-        (1, 4096, ""),
-        (2, 5, "dover"),
-    ] {
-        let fails = vec![in alloc; failing]?;
-        let mut port = MemoryPort::new(
-            alloc,
-            Vec::new(alloc),
-            Vec::new(alloc),
-            fails,
-            most.max(1),
-            4096,
-        )?;
-        let holds = put_all_lines(&mut port, k).is_ok() == (failing == 0)
-            && port.written() == written.as_bytes();
-        assert!(rt; holds);
-    }
+    assert!(rt; are_put(rt.alloc(), Ratio::new(7, 2).unwrap(), &WRITES)?);
     Ok(())
+}
+
+fn is_worded(alloc: Global, fault: FeedFault, text: &str) -> Result<bool, Fail> {
+    let mut port = port(alloc, 0, 4096)?;
+    let mut out = Output::new();
+    let is_flushed = put_fault(&mut port, &mut out, fault).is_ok() && out.flush(&mut port).is_ok();
+    let is_put = port.written() == text.as_bytes();
+    Ok(is_flushed && is_put && fault_line(fault).bytes() == text.as_bytes())
+}
+
+fn are_worded(alloc: Global, rows: &[(u64, Cause, &str)]) -> Result<bool, Fail> {
+    for (line, cause, text) in rows {
+        let fault = FeedFault {
+            line: *line,
+            cause: *cause,
+        };
+        if !is_worded(alloc, fault, *text)? {
+            return Ok(false);
+        }
+    }
+    Ok(true)
 }
 
 #[test]
 fn faults_have_their_words(rt: HostRuntime) -> Result<(), Fail> {
-    let alloc = rt.alloc();
-    for (line, cause, text) in FAULTS {
-        let fault = FeedFault { line, cause };
-        let mut port = MemoryPort::new(
-            alloc,
-            Vec::new(alloc),
-            Vec::new(alloc),
-            Vec::new(alloc),
-            4096,
-            4096,
-        )?;
-        let mut out = Output::new();
-        let holds = put_fault(&mut port, &mut out, fault).is_ok()
-            && out.flush(&mut port).is_ok()
-            && port.written() == text.as_bytes()
-            && fault_line(fault).bytes() == text.as_bytes();
-        assert!(rt; holds);
-    }
+    assert!(rt; are_worded(rt.alloc(), &FAULTS)?);
     Ok(())
+}
+
+/// Statuses and their codes.
+const CODES: [(Status, u8); 7] = [
+    (Status::Done, 0),
+    (Status::No, 1),
+    (Status::Refused, 2),
+    (Status::ReadFault, 3),
+    (Status::WriteFault, 4),
+    (Status::Memory, 5),
+    (Status::Usage, 6),
+];
+
+fn are_coded(rows: &[(Status, u8)]) -> bool {
+    for (status, code) in rows {
+        if status.code() != *code {
+            return false;
+        }
+    }
+    true
+}
+
+#[test]
+fn statuses_have_their_codes(rt: HostRuntime) {
+    assert!(rt; are_coded(&CODES));
 }

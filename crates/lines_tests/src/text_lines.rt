@@ -41,28 +41,49 @@ fn long_lines_are_found(rt: HostRuntime) {
     assert!(rt; lines.count() == 1);
 }
 
+fn are_no_numerals(texts: &[&[u8]]) -> bool {
+    for text in texts {
+        if numeral(*text).is_some() {
+            return false;
+        }
+    }
+    true
+}
+
+fn are_no_numbers(texts: &[&[u8]]) -> bool {
+    for text in texts {
+        if read_numbers(Some(*text)).is_some() {
+            return false;
+        }
+    }
+    true
+}
+
+/// Texts that are no numerals.
+const NO_NUMERALS: [&[u8]; 10] = [
+    b"",
+    b"00",
+    b"01",
+    b"1000000000000000000",
+    b"+1",
+    b"-1",
+    b"1 ",
+    b" 1",
+    b"1\r",
+    b"a",
+];
+
 #[test]
 fn numerals_have_one_spelling(rt: HostRuntime) {
     let holds = numeral(b"0") == Some(0)
         && numeral(b"10") == Some(10)
         && numeral(b"999999999999999999") == Some(999_999_999_999_999_999);
     assert!(rt; holds);
-    let refused: [&[u8]; 10] = [
-        b"",
-        b"00",
-        b"01",
-        b"1000000000000000000",
-        b"+1",
-        b"-1",
-        b"1 ",
-        b" 1",
-        b"1\r",
-        b"a",
-    ];
-    for text in refused {
-        assert!(rt; numeral(text) == None);
-    }
+    assert!(rt; are_no_numerals(&NO_NUMERALS));
 }
+
+/// Texts that are no numbers with a space between each two.
+const NO_NUMBERS: [&[u8]; 6] = [b"", b"1  2", b" 1", b"1 ", b"1\t2", b"1 2 3 4 5 6"];
 
 #[test]
 fn fields_are_read(rt: HostRuntime) {
@@ -72,10 +93,7 @@ fn fields_are_read(rt: HostRuntime) {
         None => false,
     };
     assert!(rt; word == b"run".as_slice() && numbers_are_read && read_numbers(None).is_some());
-    let refused: [&[u8]; 6] = [b"", b"1  2", b" 1", b"1 ", b"1\t2", b"1 2 3 4 5 6"];
-    for text in refused {
-        assert!(rt; read_numbers(Some(text)).is_none());
-    }
+    assert!(rt; are_no_numbers(&NO_NUMBERS));
 }
 
 #[test]

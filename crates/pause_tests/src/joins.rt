@@ -27,7 +27,8 @@ fn joined(alloc: Global, front: &[u8], back: &[u8]) -> Result<Vec<u8>, Fail> {
     Ok(whole)
 }
 
-/// Whether what was written before a snapshot, and what the words write for the snapshot and these lines, are what was expected.
+/// Whether what was written before a snapshot, and what the words write for the snapshot and these lines, are what was
+/// expected.
 fn goes_on(
     rt: &HostRuntime,
     words: &[&'static str],

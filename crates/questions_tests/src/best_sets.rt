@@ -13,7 +13,8 @@ fn job(rt: &impl Abort, release: u64, work: u64, deadline: u64, value: u64) -> J
     Job::new(release, work, deadline, value).expect(rt, "a job")
 }
 
-/// The best set of these jobs has this value, these numbers and these stretches, each its first tick, the tick behind its last, and a number.
+/// The best set of these jobs has this value, these numbers and these stretches, each its first tick, the tick behind
+/// its last, and a number.
 fn comes_to(
     rt: &impl Abort,
     alloc: Global,

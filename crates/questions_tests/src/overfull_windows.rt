@@ -1,4 +1,5 @@
-//! The judge on worked examples. What is expected comes from a reading of the definitions tick by tick, written apart from the program.
+//! The judge on worked examples. What is expected comes from a reading of the definitions tick by tick, written apart
+//! from the program.
 ghost use Rattle.std.specs.Prelude.{◌≡◌, ◌≤◌, length};
 ghost use Rattle.std.specs.Bool.{OnTrue};
 ghost use Rattle.dover_model.specs.Instance.{IsInOrder};

@@ -14,7 +14,8 @@ fn job(rt: &impl Abort, release: u64, work: u64, deadline: u64, value: u64) -> J
     Job::new(release, work, deadline, value).expect(rt, "a job")
 }
 
-/// The run of the policy over these jobs has this value and these stretches, each its first tick, the tick behind its last, and a number.
+/// The run of the policy over these jobs has this value and these stretches, each its first tick, the tick behind its
+/// last, and a number.
 fn comes_to<P: Policy>(
     rt: &impl Abort,
     alloc: Global,
@@ -128,7 +129,8 @@ fn a_late_deadline_is_too_large(rt: HostRuntime) {
 
 /// The entry of a job of this number.
 fn entry(number: u32, deadline: u64, left: u64, value: u64) -> Entry
-    ensures { result ≡ record { number = number; deadline = deadline; latest = deadline - left; left = left; value = value } }
+    ensures { result ≡ record
+        { number = number; deadline = deadline; latest = deadline - left; left = left; value = value } }
 {
     Entry {
         number,

@@ -18,7 +18,8 @@ total_small (j ∷ jobs) all = let modest : j.value ≤ most_value = all.0.modes
     omega (arith, sum_by-cons (λ (i : JobFacts). i.value) j jobs, total_small jobs all.1)
 
 -- a short list that passes the tests is valid
-pub tested_valid : (k : Fraction) (version : Version) (jobs : List JobFacts) → IsRatio k → length jobs ≤ 100 → list_all is_job jobs ≡ true
+pub tested_valid : (k : Fraction) (version : Version) (jobs : List JobFacts) → IsRatio k → length jobs ≤ 100
+    → list_all is_job jobs ≡ true
     → is_in_order jobs ≡ true → list_all (λ i. list_all (is_within_ratio k i) jobs) jobs ≡ true
     → IsValid (record { rules = record { ratio = k; version = version }; jobs = jobs })
 tested_valid k version jobs ratio short are_jobs in_order dense = record {
@@ -51,11 +52,14 @@ equal_length j (suc n) = ap suc (equal_length j n)
 -- they sum up to at most the greatest total
 equal_total : (j : JobFacts) (n : ℕ) → j.value ≤ 10_000_000 → total_value (replicate n j) ≤ 10_000_000 * n
 equal_total j zero modest = omega arith
-equal_total j (suc n) modest = omega (arith, sum_by-cons (λ (i : JobFacts). i.value) j (replicate n j), equal_total j n modest)
+equal_total j (suc n) modest =
+    omega (arith, sum_by-cons (λ (i : JobFacts). i.value) j (replicate n j), equal_total j n modest)
 
 -- equal jobs that pass the tests are valid
-pub equal_valid : (k : Fraction) (version : Version) (j : JobFacts) (n : ℕ) → IsRatio k → n ≤ 1_000_000 → j.value ≤ 10_000_000 → is_job j ≡ true
-    → is_within_ratio k j j ≡ true → IsValid (record { rules = record { ratio = k; version = version }; jobs = replicate n j })
+pub equal_valid : (k : Fraction) (version : Version) (j : JobFacts) (n : ℕ) → IsRatio k → n ≤ 1_000_000
+    → j.value ≤ 10_000_000 → is_job j ≡ true
+    → is_within_ratio k j j ≡ true
+    → IsValid (record { rules = record { ratio = k; version = version }; jobs = replicate n j })
 equal_valid k version j n ratio few modest job dense = record {
   ratio = ratio;
   each = all_equal IsJob j n ((is_job-agrees j).0 job);

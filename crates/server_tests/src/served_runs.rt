@@ -80,7 +80,10 @@ fn are_jobs(jobs: &[Job]) -> bool
 }
 
 fn assert_valid(rt: &impl Abort, k: Ratio, jobs: &[Job])
-    ensures { (version : Version) → IsValid (record { rules = record { ratio = k; version = version }; jobs = jobs.now }) }
+    ensures { (version : Version) → IsValid (record {
+      rules = record { ratio = k; version = version };
+      jobs = jobs.now;
+    }) }
 {
     assert!(rt; k.p() > 0);
     assert!(rt; jobs.len() <= 100);
@@ -91,8 +94,18 @@ fn assert_valid(rt: &impl Abort, k: Ratio, jobs: &[Job])
 
 // ---- the run
 
+// A word and numbers, up to a slash.
+fn text(alloc: Global, word: &str, numbers: &[u64]) -> Result<String, Memory> {
+    let mut text = String::from_str(alloc, word)?;
+    for number in numbers {
+        text.push_str(format!(in alloc; " {number}")?.as_str())?;
+    }
+    text.push_str("/")?;
+    Ok(text)
+}
+
 fn line(alloc: Global, e: &Event) -> Result<String, Memory> {
-    let text = match *e {
+    match *e {
         Event::Release { number, job } => {
             let (release, work, deadline, value) = (
                 job.release(),
@@ -100,18 +113,23 @@ fn line(alloc: Global, e: &Event) -> Result<String, Memory> {
                 job.deadline(),
                 job.value(),
             );
-            format!(in alloc; "job {number} {release} {work} {deadline} {value}/")?
+            text(
+                alloc,
+                "job",
+                &[u64::from(number), release, work, deadline, value],
+            )
         }
-        Event::Run { at, number } => format!(in alloc; "run {at} {number}/")?,
-        Event::Preempt { at, stops, starts } => format!(in alloc;
-            "preempt {at} {stops} {starts}/"
-        )?,
-        Event::Take { at, stops, starts } => format!(in alloc; "take {at} {stops} {starts}/")?,
-        Event::Complete { at, number } => format!(in alloc; "complete {at} {number}/")?,
-        Event::Abandon { at, number } => format!(in alloc; "abandon {at} {number}/")?,
-        Event::End { value } => format!(in alloc; "end {value}/")?,
-    };
-    Ok(text)
+        Event::Run { at, number } => text(alloc, "run", &[at, u64::from(number)]),
+        Event::Preempt { at, stops, starts } => {
+            text(alloc, "preempt", &[at, u64::from(stops), u64::from(starts)])
+        }
+        Event::Take { at, stops, starts } => {
+            text(alloc, "take", &[at, u64::from(stops), u64::from(starts)])
+        }
+        Event::Complete { at, number } => text(alloc, "complete", &[at, u64::from(number)]),
+        Event::Abandon { at, number } => text(alloc, "abandon", &[at, u64::from(number)]),
+        Event::End { value } => text(alloc, "end", &[value]),
+    }
 }
 
 // What is printed up to the horizon.
@@ -201,170 +219,183 @@ fn assert_prints(
     Ok(())
 }
 
-#[test]
-fn prints_the_worked_examples(rt: HostRuntime) -> Result<(), Fail> {
-    let rows: [(Version, (u32, u32), &[[u64; 4]], &str); 19] = [
-        (
-            Version::One,
-            (1, 1),
-            &[[0, 4, 10, 4], [1, 2, 5, 2]],
-            "job 0 0 4 10 4/run 0 0/job 1 1 2 5 2/preempt 1 0 1/complete 3 1/run 3 0/complete 6 0/end 6/",
-        ),
-        (
-            Version::One,
-            (1, 1),
-            &[[0, 10, 10, 10], [0, 20, 20, 20]],
-            "job 0 0 10 10 10/run 0 0/job 1 0 20 20 20/abandon 0 1/complete 10 0/end 10/",
-        ),
-        (
-            Version::One,
-            (1, 1),
-            &[[0, 10, 10, 10], [0, 21, 21, 21]],
-            "job 0 0 10 10 10/run 0 0/job 1 0 21 21 21/take 0 0 1/abandon 0 0/complete 21 1/end 21/",
-        ),
-        (
-            Version::One,
-            (1, 1),
-            &[[0, 3, 30, 3], [0, 2, 4, 2], [0, 12, 12, 12]],
-            "job 0 0 3 30 3/run 0 0/job 1 0 2 4 2/preempt 0 0 1/job 2 0 12 12 12/take 0 1 2/abandon 2 1/complete 12 2/\
-             run 12 0/complete 15 0/end 15/",
-        ),
-        (
-            Version::One,
-            (1, 1),
-            &[[0, 3, 30, 3], [0, 2, 4, 2], [0, 10, 10, 10]],
-            "job 0 0 3 30 3/run 0 0/job 1 0 2 4 2/preempt 0 0 1/job 2 0 10 10 10/abandon 0 2/complete 2 1/run 2 0/complete 5 0/end 5/",
-        ),
-        (
-            Version::One,
-            (2, 1),
-            &[[0, 10, 10, 10], [0, 20, 20, 24]],
-            "job 0 0 10 10 10/run 0 0/job 1 0 20 20 24/abandon 0 1/complete 10 0/end 10/",
-        ),
-        (
-            Version::One,
-            (2, 1),
-            &[[0, 10, 10, 10], [0, 20, 20, 25]],
-            "job 0 0 10 10 10/run 0 0/job 1 0 20 20 25/take 0 0 1/abandon 0 0/complete 20 1/end 25/",
-        ),
-        (
-            Version::One,
-            (1, 1),
-            &[[0, 3, 10, 3], [1, 1, 10, 1]],
-            "job 0 0 3 10 3/run 0 0/job 1 1 1 10 1/complete 3 0/run 3 1/complete 4 1/end 4/",
-        ),
-        (
-            Version::One,
-            (1, 1),
-            &[[0, 10, 14, 10], [1, 2, 5, 2], [1, 3, 8, 3]],
-            "job 0 0 10 14 10/run 0 0/job 1 1 2 5 2/preempt 1 0 1/job 2 1 3 8 3/complete 3 1/run 3 0/abandon 5 2/\
-             complete 12 0/end 12/",
-        ),
-        (
-            Version::One,
-            (1, 1),
-            &[[0, 10, 14, 10], [1, 2, 5, 2], [1, 2, 8, 2]],
-            "job 0 0 10 14 10/run 0 0/job 1 1 2 5 2/preempt 1 0 1/job 2 1 2 8 2/complete 3 1/run 3 2/complete 5 2/run 5 0/\
-             complete 14 0/end 14/",
-        ),
-        (
-            Version::One,
-            (1, 1),
-            &[[0, 2, 2, 2], [2, 1, 3, 1]],
-            "job 0 0 2 2 2/run 0 0/complete 2 0/job 1 2 1 3 1/run 2 1/complete 3 1/end 3/",
-        ),
-        (
-            Version::One,
-            (1, 1),
-            &[[0, 5, 9, 5], [0, 4, 10, 4], [6, 1, 7, 1]],
-            "job 0 0 5 9 5/run 0 0/job 1 0 4 10 4/complete 5 0/run 5 1/job 2 6 1 7 1/preempt 6 1 2/complete 7 2/run 7 1/\
-             complete 10 1/end 10/",
-        ),
-        (
-            Version::One,
-            (1, 1),
-            &[[0, 9, 9, 9], [0, 3, 6, 3], [3, 30, 33, 30]],
-            "job 0 0 9 9 9/run 0 0/job 1 0 3 6 3/job 2 3 30 33 30/abandon 3 1/take 3 0 2/abandon 3 0/complete 33 2/end 30/",
-        ),
-        (
-            Version::Two,
-            (1, 1),
-            &[[0, 3, 3, 3], [0, 4, 10, 4], [0, 5, 10, 5]],
-            "job 0 0 3 3 3/run 0 0/job 1 0 4 10 4/job 2 0 5 10 5/complete 3 0/run 3 2/abandon 6 1/complete 8 2/end 8/",
-        ),
-        (
-            Version::One,
-            (1, 1),
-            &[[0, 3, 3, 3], [0, 4, 10, 4], [0, 5, 10, 5]],
-            "job 0 0 3 3 3/run 0 0/job 1 0 4 10 4/job 2 0 5 10 5/complete 3 0/run 3 1/abandon 5 2/complete 7 1/end 7/",
-        ),
-        (
-            Version::Two,
-            (1, 1),
-            &[[0, 10, 10, 10], [0, 20, 20, 20], [0, 21, 21, 21]],
-            "job 0 0 10 10 10/run 0 0/job 1 0 20 20 20/job 2 0 21 21 21/take 0 0 2/abandon 0 1/abandon 0 0/complete 21 2/end 21/",
-        ),
-        (
-            Version::One,
-            (1, 1),
-            &[[0, 10, 10, 10], [0, 20, 20, 20], [0, 21, 21, 21]],
-            "job 0 0 10 10 10/run 0 0/job 1 0 20 20 20/job 2 0 21 21 21/abandon 0 1/take 0 0 2/abandon 0 0/complete 21 2/end 21/",
-        ),
-        (
-            Version::One,
-            (1, 1),
-            &[[0, 1, 1, 1], [999999999999, 1, 1000000000000, 1]],
-            "job 0 0 1 1 1/run 0 0/complete 1 0/job 1 999999999999 1 1000000000000 1/run 999999999999 1/\
-             complete 1000000000000 1/end 2/",
-        ),
-        (
-            Version::One,
-            (100, 1),
-            &[
-                [0, 60, 90, 60],
-                [10, 5, 30, 25],
-                [50, 5, 70, 25],
-                [65, 10, 75, 1000],
-                [100, 60, 190, 60],
-                [110, 5, 130, 25],
-                [120, 40, 170, 40],
-                [125, 5, 145, 25],
-                [150, 10, 160, 1000],
-                [200, 80, 290, 80],
-                [210, 20, 230, 2000],
-                [215, 5, 235, 25],
-                [300, 60, 390, 60],
-                [300, 5, 320, 25],
-                [300, 5, 320, 25],
-                [360, 30, 420, 30],
-                [380, 10, 390, 1000],
-                [400, 60, 490, 60],
-                [420, 5, 440, 25],
-                [430, 20, 470, 100],
-                [440, 10, 450, 1000],
-                [500, 60, 590, 60],
-                [530, 5, 550, 25],
-                [560, 20, 580, 2000],
-            ],
-            "job 0 0 60 90 60/run 0 0/job 1 10 5 30 25/preempt 10 0 1/complete 15 1/run 15 0/job 2 50 5 70 25/\
-             preempt 50 0 2/complete 55 2/run 55 0/job 3 65 10 75 1000/preempt 65 0 3/complete 75 3/run 75 0/complete 80 0/\
-             job 4 100 60 190 60/run 100 4/job 5 110 5 130 25/preempt 110 4 5/complete 115 5/run 115 4/job 6 120 40 170 40/\
-             job 7 125 5 145 25/preempt 125 4 7/complete 130 7/run 130 4/abandon 130 6/job 8 150 10 160 1000/\
-             preempt 150 4 8/complete 160 8/run 160 4/complete 180 4/job 9 200 80 290 80/run 200 9/job 10 210 20 230 2000/\
-             take 210 9 10/job 11 215 5 235 25/abandon 220 9/complete 230 10/run 230 11/complete 235 11/\
-             job 12 300 60 390 60/run 300 12/job 13 300 5 320 25/preempt 300 12 13/job 14 300 5 320 25/complete 305 13/\
-             run 305 14/complete 310 14/run 310 12/job 15 360 30 420 30/complete 370 12/run 370 15/job 16 380 10 390 1000/\
-             preempt 380 15 16/complete 390 16/run 390 15/job 17 400 60 490 60/complete 410 15/run 410 17/\
-             job 18 420 5 440 25/preempt 420 17 18/complete 425 18/run 425 17/job 19 430 20 470 100/job 20 440 10 450 1000/\
-             preempt 440 17 20/complete 450 20/run 450 17/abandon 450 19/complete 485 17/job 21 500 60 590 60/run 500 21/\
-             job 22 530 5 550 25/preempt 530 21 22/complete 535 22/run 535 21/job 23 560 20 580 2000/preempt 560 21 23/\
-             complete 580 23/run 580 21/complete 585 21/end 8555/",
-        ),
-    ];
+/// Versions, ratios, the numbers of jobs, and what is printed of them.
+const WORKED: [(Version, (u32, u32), &[[u64; 4]], &str); 19] = [
+    (
+        Version::One,
+        (1, 1),
+        &[[0, 4, 10, 4], [1, 2, 5, 2]],
+        "job 0 0 4 10 4/run 0 0/job 1 1 2 5 2/preempt 1 0 1/complete 3 1/run 3 0/complete 6 0/end 6/",
+    ),
+    (
+        Version::One,
+        (1, 1),
+        &[[0, 10, 10, 10], [0, 20, 20, 20]],
+        "job 0 0 10 10 10/run 0 0/job 1 0 20 20 20/abandon 0 1/complete 10 0/end 10/",
+    ),
+    (
+        Version::One,
+        (1, 1),
+        &[[0, 10, 10, 10], [0, 21, 21, 21]],
+        "job 0 0 10 10 10/run 0 0/job 1 0 21 21 21/take 0 0 1/abandon 0 0/complete 21 1/end 21/",
+    ),
+    (
+        Version::One,
+        (1, 1),
+        &[[0, 3, 30, 3], [0, 2, 4, 2], [0, 12, 12, 12]],
+        "job 0 0 3 30 3/run 0 0/job 1 0 2 4 2/preempt 0 0 1/job 2 0 12 12 12/take 0 1 2/abandon 2 1/complete 12 2/\
+         run 12 0/complete 15 0/end 15/",
+    ),
+    (
+        Version::One,
+        (1, 1),
+        &[[0, 3, 30, 3], [0, 2, 4, 2], [0, 10, 10, 10]],
+        "job 0 0 3 30 3/run 0 0/job 1 0 2 4 2/preempt 0 0 1/job 2 0 10 10 10/abandon 0 2/complete 2 1/run 2 0/\
+         complete 5 0/end 5/",
+    ),
+    (
+        Version::One,
+        (2, 1),
+        &[[0, 10, 10, 10], [0, 20, 20, 24]],
+        "job 0 0 10 10 10/run 0 0/job 1 0 20 20 24/abandon 0 1/complete 10 0/end 10/",
+    ),
+    (
+        Version::One,
+        (2, 1),
+        &[[0, 10, 10, 10], [0, 20, 20, 25]],
+        "job 0 0 10 10 10/run 0 0/job 1 0 20 20 25/take 0 0 1/abandon 0 0/complete 20 1/end 25/",
+    ),
+    (
+        Version::One,
+        (1, 1),
+        &[[0, 3, 10, 3], [1, 1, 10, 1]],
+        "job 0 0 3 10 3/run 0 0/job 1 1 1 10 1/complete 3 0/run 3 1/complete 4 1/end 4/",
+    ),
+    (
+        Version::One,
+        (1, 1),
+        &[[0, 10, 14, 10], [1, 2, 5, 2], [1, 3, 8, 3]],
+        "job 0 0 10 14 10/run 0 0/job 1 1 2 5 2/preempt 1 0 1/job 2 1 3 8 3/complete 3 1/run 3 0/abandon 5 2/\
+         complete 12 0/end 12/",
+    ),
+    (
+        Version::One,
+        (1, 1),
+        &[[0, 10, 14, 10], [1, 2, 5, 2], [1, 2, 8, 2]],
+        "job 0 0 10 14 10/run 0 0/job 1 1 2 5 2/preempt 1 0 1/job 2 1 2 8 2/complete 3 1/run 3 2/complete 5 2/run 5 0/\
+         complete 14 0/end 14/",
+    ),
+    (
+        Version::One,
+        (1, 1),
+        &[[0, 2, 2, 2], [2, 1, 3, 1]],
+        "job 0 0 2 2 2/run 0 0/complete 2 0/job 1 2 1 3 1/run 2 1/complete 3 1/end 3/",
+    ),
+    (
+        Version::One,
+        (1, 1),
+        &[[0, 5, 9, 5], [0, 4, 10, 4], [6, 1, 7, 1]],
+        "job 0 0 5 9 5/run 0 0/job 1 0 4 10 4/complete 5 0/run 5 1/job 2 6 1 7 1/preempt 6 1 2/complete 7 2/run 7 1/\
+         complete 10 1/end 10/",
+    ),
+    (
+        Version::One,
+        (1, 1),
+        &[[0, 9, 9, 9], [0, 3, 6, 3], [3, 30, 33, 30]],
+        "job 0 0 9 9 9/run 0 0/job 1 0 3 6 3/job 2 3 30 33 30/abandon 3 1/take 3 0 2/abandon 3 0/complete 33 2/end 30/",
+    ),
+    (
+        Version::Two,
+        (1, 1),
+        &[[0, 3, 3, 3], [0, 4, 10, 4], [0, 5, 10, 5]],
+        "job 0 0 3 3 3/run 0 0/job 1 0 4 10 4/job 2 0 5 10 5/complete 3 0/run 3 2/abandon 6 1/complete 8 2/end 8/",
+    ),
+    (
+        Version::One,
+        (1, 1),
+        &[[0, 3, 3, 3], [0, 4, 10, 4], [0, 5, 10, 5]],
+        "job 0 0 3 3 3/run 0 0/job 1 0 4 10 4/job 2 0 5 10 5/complete 3 0/run 3 1/abandon 5 2/complete 7 1/end 7/",
+    ),
+    (
+        Version::Two,
+        (1, 1),
+        &[[0, 10, 10, 10], [0, 20, 20, 20], [0, 21, 21, 21]],
+        "job 0 0 10 10 10/run 0 0/job 1 0 20 20 20/job 2 0 21 21 21/take 0 0 2/abandon 0 1/abandon 0 0/\
+         complete 21 2/end 21/",
+    ),
+    (
+        Version::One,
+        (1, 1),
+        &[[0, 10, 10, 10], [0, 20, 20, 20], [0, 21, 21, 21]],
+        "job 0 0 10 10 10/run 0 0/job 1 0 20 20 20/job 2 0 21 21 21/abandon 0 1/take 0 0 2/abandon 0 0/\
+         complete 21 2/end 21/",
+    ),
+    (
+        Version::One,
+        (1, 1),
+        &[[0, 1, 1, 1], [999999999999, 1, 1000000000000, 1]],
+        "job 0 0 1 1 1/run 0 0/complete 1 0/job 1 999999999999 1 1000000000000 1/run 999999999999 1/\
+         complete 1000000000000 1/end 2/",
+    ),
+    (
+        Version::One,
+        (100, 1),
+        &[
+            [0, 60, 90, 60],
+            [10, 5, 30, 25],
+            [50, 5, 70, 25],
+            [65, 10, 75, 1000],
+            [100, 60, 190, 60],
+            [110, 5, 130, 25],
+            [120, 40, 170, 40],
+            [125, 5, 145, 25],
+            [150, 10, 160, 1000],
+            [200, 80, 290, 80],
+            [210, 20, 230, 2000],
+            [215, 5, 235, 25],
+            [300, 60, 390, 60],
+            [300, 5, 320, 25],
+            [300, 5, 320, 25],
+            [360, 30, 420, 30],
+            [380, 10, 390, 1000],
+            [400, 60, 490, 60],
+            [420, 5, 440, 25],
+            [430, 20, 470, 100],
+            [440, 10, 450, 1000],
+            [500, 60, 590, 60],
+            [530, 5, 550, 25],
+            [560, 20, 580, 2000],
+        ],
+        "job 0 0 60 90 60/run 0 0/job 1 10 5 30 25/preempt 10 0 1/complete 15 1/run 15 0/job 2 50 5 70 25/\
+         preempt 50 0 2/complete 55 2/run 55 0/job 3 65 10 75 1000/preempt 65 0 3/complete 75 3/run 75 0/complete 80 0/\
+         job 4 100 60 190 60/run 100 4/job 5 110 5 130 25/preempt 110 4 5/complete 115 5/run 115 4/job 6 120 40 170 40/\
+         job 7 125 5 145 25/preempt 125 4 7/complete 130 7/run 130 4/abandon 130 6/job 8 150 10 160 1000/\
+         preempt 150 4 8/complete 160 8/run 160 4/complete 180 4/job 9 200 80 290 80/run 200 9/job 10 210 20 230 2000/\
+         take 210 9 10/job 11 215 5 235 25/abandon 220 9/complete 230 10/run 230 11/complete 235 11/\
+         job 12 300 60 390 60/run 300 12/job 13 300 5 320 25/preempt 300 12 13/job 14 300 5 320 25/complete 305 13/\
+         run 305 14/complete 310 14/run 310 12/job 15 360 30 420 30/complete 370 12/run 370 15/job 16 380 10 390 1000/\
+         preempt 380 15 16/complete 390 16/run 390 15/job 17 400 60 490 60/complete 410 15/run 410 17/\
+         job 18 420 5 440 25/preempt 420 17 18/complete 425 18/run 425 17/job 19 430 20 470 100/job 20 440 10 450 1000/\
+         preempt 440 17 20/complete 450 20/run 450 17/abandon 450 19/complete 485 17/job 21 500 60 590 60/run 500 21/\
+         job 22 530 5 550 25/preempt 530 21 22/complete 535 22/run 535 21/job 23 560 20 580 2000/preempt 560 21 23/\
+         complete 580 23/run 580 21/complete 585 21/end 8555/",
+    ),
+];
+
+fn assert_all(
+    rt: &(impl Abort + AllocGlobal),
+    memory: HeapMemory,
+    rows: &[(Version, (u32, u32), &[[u64; 4]], &str)],
+) -> Result<(), Fail> {
     for (version, ratio, numbers, want) in rows {
-        assert_prints(&rt, rt.memory(), version, ratio, numbers, want)?;
+        assert_prints(rt, memory, *version, *ratio, *numbers, *want)?;
     }
     Ok(())
+}
+
+#[test]
+fn prints_the_worked_examples(rt: HostRuntime) -> Result<(), Fail> {
+    assert_all(&rt, rt.memory(), &WORKED)
 }
 
 // What is reserved for one job serves for one, and the job is what it was made of.

@@ -75,44 +75,56 @@ fn answer(rt: &HostRuntime, lines: &[&[u8]], last_job: &[u8]) -> Result<Outcome,
     outcome_in::<Brand>(rt, lines, last_job, Blank::new(1))
 }
 
-// The head, the line of a job and the last line, and what they come to.
+/// A head, the line of a job, and a last line.
+const HEAD: &[u8] = b"snapshot 1 1 1 3 2 1";
+
+const JOB: &[u8] = b"state 0 running 2 0 4 10 4";
+
+const LAST: &[u8] = b"resume";
+
+/// Three lines, and what they come to.
+const SNAPSHOTS: [([&[u8]; 3], Outcome); 9] = [
+    ([HEAD, JOB, LAST], Outcome::Written),
+    (
+        [HEAD, b"state 0 running 1 0 4 10 4", LAST],
+        Outcome::Refused(3),
+    ),
+    (
+        [HEAD, b"state 0 held 2 0 4 10 4", LAST],
+        Outcome::Refused(3),
+    ),
+    (
+        [HEAD, b"state 0 fresh 2 0 4 10 4", LAST],
+        Outcome::Refused(2),
+    ),
+    (
+        [HEAD, b"state 1 running 2 0 4 10 4", LAST],
+        Outcome::Refused(2),
+    ),
+    (
+        [HEAD, b"state 0 waiting 0 3 4 10 4", LAST],
+        Outcome::Refused(2),
+    ),
+    ([b"snapshot 1 1 1 2 2 1", JOB, LAST], Outcome::Refused(3)),
+    ([b"snapshot 1 1 1 1 2 1", JOB, LAST], Outcome::Refused(1)),
+    ([HEAD, JOB, b"end"], Outcome::Refused(3)),
+];
+
+/// Whether the lines of each row come to what is beside them.
+fn are_read(rt: &HostRuntime, rows: &[([&[u8]; 3], Outcome)]) -> Result<bool, Memory> {
+    for (lines, wanted) in rows {
+        if answer(rt, lines, JOB)? != *wanted {
+            return Ok(false);
+        }
+    }
+    Ok(true)
+}
+
 #[test]
 fn snapshots_are_read(rt: HostRuntime) -> Result<(), Fail> {
-    let head: &[u8] = b"snapshot 1 1 1 3 2 1";
-    let job: &[u8] = b"state 0 running 2 0 4 10 4";
-    let last: &[u8] = b"resume";
-    let rows: [(&[u8], &[u8], &[u8], Outcome); 9] = [
-        (head, job, last, Outcome::Written),
-        (
-            head,
-            b"state 0 running 1 0 4 10 4",
-            last,
-            Outcome::Refused(3),
-        ),
-        (head, b"state 0 held 2 0 4 10 4", last, Outcome::Refused(3)),
-        (head, b"state 0 fresh 2 0 4 10 4", last, Outcome::Refused(2)),
-        (
-            head,
-            b"state 1 running 2 0 4 10 4",
-            last,
-            Outcome::Refused(2),
-        ),
-        (
-            head,
-            b"state 0 waiting 0 3 4 10 4",
-            last,
-            Outcome::Refused(2),
-        ),
-        (b"snapshot 1 1 1 2 2 1", job, last, Outcome::Refused(3)),
-        (b"snapshot 1 1 1 1 2 1", job, last, Outcome::Refused(1)),
-        (head, job, b"end", Outcome::Refused(3)),
-    ];
-    for (first, second, third, wanted) in rows {
-        let lines = [first, second, third];
-        assert!(rt; answer(&rt, &lines, job)? == wanted);
-    }
-    let open = answer(&rt, &[head, job], job)?;
-    let taken = answer(&rt, &[b"snapshot 2 9 4 1 0 0", last], job)?;
-    assert!(rt; open == Outcome::Open && taken == Outcome::Taken);
+    let open = answer(&rt, &[HEAD, JOB], JOB)?;
+    let taken = answer(&rt, &[b"snapshot 2 9 4 1 0 0", LAST], JOB)?;
+    let are_others = open == Outcome::Open && taken == Outcome::Taken;
+    assert!(rt; are_others && are_read(&rt, &SNAPSHOTS)?);
     Ok(())
 }

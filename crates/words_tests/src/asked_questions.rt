@@ -1,15 +1,15 @@
 ghost use Rattle.std.specs.Prelude.{◌≡◌, ◌<◌};
 
-use crate::ports::port;
+use crate::ports::{Cut, SIZES, pieces_of, port};
 use dover_port::{Calls, MemoryPort, Status};
-use dover_words::{best_word, compare_word, feasible_word};
+use dover_words::{Question, question_word};
 use std::marker::Brand;
 use std::sync::ledger::{Blank, Ledger};
 use std::test::Fail;
 use step_count::Steps;
 
 /// Feeds, how `feasible` ends on each, and what it writes.
-const FEASIBLE: [(&str, Status, &str); 6] = [
+const FEASIBLE: [(&str, Status, &str); 14] = [
     (
         "k 1 1\njob 0 4 10 4\njob 1 2 5 2\nend\n",
         Status::Done,
@@ -32,6 +32,30 @@ const FEASIBLE: [(&str, Status, &str); 6] = [
         Status::Refused,
         "refused 2 job\n",
     ),
+    (
+        "k 4 1\njob 0 4 4 4\ntick 1\njob 1 3 5 12\nend\n",
+        Status::No,
+        "window 0 5 7\n",
+    ),
+    (
+        "k 1 1 2\njob 0 2 1 2\njob 3 1 4 1\nend\nx\n",
+        Status::Done,
+        "feasible 1\npiece 3 4 0\n",
+    ),
+    (
+        "k 1 1 2\njob 0 1 1 1\njob 0 1 1 2\njob 0 1 9 1\nend\n",
+        Status::Done,
+        "feasible 2\npiece 0 1 0\npiece 1 2 1\n",
+    ),
+    ("", Status::Refused, "refused 1 short\n"),
+    ("k 1 1\njob 0 1 1 1\n", Status::Refused, "refused 3 short\n"),
+    ("k 1 1\nend", Status::Refused, "refused 2 short\n"),
+    (
+        "k 1 1\njob 0 1 1 1\njob 0 1 1 2\nend\n",
+        Status::Refused,
+        "refused 3 ratio\n",
+    ),
+    ("k 1 1\nx\nend\n", Status::Refused, "refused 2 line\n"),
 ];
 
 /// The same of `compare`.
@@ -82,97 +106,170 @@ job 0 1 1 1\njob 0 1 1 1\njob 0 1 1 1\njob 0 1 1 1\njob 0 1 1 1\njob 0 1 1 1\njo
 end
 ";
 
-fn compare_in<L: Ledger>(rt: &HostRuntime, port: &mut MemoryPort, blank: Blank) -> Status
+fn asked_in<L: Ledger>(
+    rt: &HostRuntime,
+    port: &mut MemoryPort,
+    question: Question,
+    blank: Blank,
+) -> Status
     requires name { blank.name ≡ L.name }
     requires parts { blank.parts ≡ L.parts }
     requires some { 0 < blank.parts }
 {
     let mut steps = Steps::<L>::new(rt.memory(), blank);
-    compare_word(rt.alloc(), port, &mut steps)
+    question_word(rt.alloc(), port, question, &mut steps)
 }
 
-fn compare(rt: &HostRuntime, port: &mut MemoryPort) -> Status {
-    compare_in::<Brand>(rt, port, Blank::new(1))
+fn asked(rt: &HostRuntime, port: &mut MemoryPort, question: Question) -> Status {
+    asked_in::<Brand>(rt, port, question, Blank::new(1))
 }
 
-fn best_in<L: Ledger>(rt: &HostRuntime, port: &mut MemoryPort, blank: Blank) -> Status
-    requires name { blank.name ≡ L.name }
-    requires parts { blank.parts ≡ L.parts }
-    requires some { 0 < blank.parts }
-{
-    let mut steps = Steps::<L>::new(rt.memory(), blank);
-    best_word(rt.alloc(), port, &mut steps)
+/// How a port cuts and fails, how `compare` ends on the first of its feeds, and what is written.
+const FAILING: [(Cut, Status, &str); 5] = [
+    (
+        Cut {
+            piece: 4096,
+            read: 1,
+            write: 0,
+            most: 4096,
+        },
+        Status::ReadFault,
+        "",
+    ),
+    (
+        Cut {
+            piece: 1,
+            read: 13,
+            write: 0,
+            most: 4096,
+        },
+        Status::ReadFault,
+        "",
+    ),
+    (
+        Cut {
+            piece: 4096,
+            read: 2,
+            write: 0,
+            most: 4096,
+        },
+        Status::Done,
+        "dover 21\nedf 10\ndense 10\nbound 84\n",
+    ),
+    (
+        Cut {
+            piece: 4096,
+            read: 0,
+            write: 1,
+            most: 4096,
+        },
+        Status::WriteFault,
+        "",
+    ),
+    (
+        Cut {
+            piece: 4096,
+            read: 0,
+            write: 3,
+            most: 1,
+        },
+        Status::WriteFault,
+        "do",
+    ),
+];
+
+/// Whether the question ends so on the feed, and this is written.
+fn ends(
+    rt: &HostRuntime,
+    question: Question,
+    feed: &str,
+    cut: Cut,
+    status: Status,
+    written: &str,
+) -> Result<bool, Fail> {
+    let mut port = port(rt.alloc(), feed, cut)?;
+    let answer = asked(rt, &mut port, question);
+    Ok(answer == status && port.written() == written.as_bytes())
 }
 
-fn best(rt: &HostRuntime, port: &mut MemoryPort) -> Status {
-    best_in::<Brand>(rt, port, Blank::new(1))
+/// Whether the question ends so on each feed in pieces of each size, and this is written.
+fn agree_on_feeds(
+    rt: &HostRuntime,
+    question: Question,
+    rows: &[(&str, Status, &str)],
+    sizes: &[usize],
+) -> Result<bool, Fail> {
+    for (feed, status, written) in rows {
+        for size in sizes {
+            if !ends(rt, question, *feed, pieces_of(*size), *status, *written)? {
+                return Ok(false);
+            }
+        }
+    }
+    Ok(true)
+}
+
+/// Whether `compare` ends so on the feed over each of these ports, and this is written.
+fn agree_on_cuts(rt: &HostRuntime, feed: &str, rows: &[(Cut, Status, &str)]) -> Result<bool, Fail> {
+    for (cut, status, written) in rows {
+        if !ends(rt, Question::Compare, feed, *cut, *status, *written)? {
+            return Ok(false);
+        }
+    }
+    Ok(true)
 }
 
 #[test]
 fn feeds_and_their_best_sets(rt: HostRuntime) -> Result<(), Fail> {
-    let alloc = rt.alloc();
-    for (text, status, written) in BEST {
-        for size in [4096, 1, 7] {
-            let mut port = port(alloc, text, size, 0, 0, 4096)?;
-            let answer = best(&rt, &mut port);
-            assert!(rt; answer == status && port.written() == written.as_bytes());
-        }
-    }
+    assert!(rt; agree_on_feeds(&rt, Question::Best, &BEST, &SIZES)?);
     Ok(())
 }
 
 #[test]
 fn feeds_and_whether_they_can_be_met(rt: HostRuntime) -> Result<(), Fail> {
-    let alloc = rt.alloc();
-    for (text, status, written) in FEASIBLE {
-        for size in [4096, 1, 7] {
-            let mut port = port(alloc, text, size, 0, 0, 4096)?;
-            let answer = feasible_word(alloc, &mut port);
-            assert!(rt; answer == status && port.written() == written.as_bytes());
-        }
-    }
+    assert!(rt; agree_on_feeds(&rt, Question::Feasible, &FEASIBLE, &SIZES)?);
     Ok(())
 }
 
 #[test]
 fn feeds_and_what_policies_make_of_them(rt: HostRuntime) -> Result<(), Fail> {
-    let alloc = rt.alloc();
-    for (text, status, written) in COMPARED {
-        for size in [4096, 1, 7] {
-            let mut port = port(alloc, text, size, 0, 0, 4096)?;
-            let answer = compare(&rt, &mut port);
-            assert!(rt; answer == status && port.written() == written.as_bytes());
-        }
-    }
+    assert!(rt; agree_on_feeds(&rt, Question::Compare, &COMPARED, &SIZES)?);
     Ok(())
 }
 
 #[test]
 fn failing_calls(rt: HostRuntime) -> Result<(), Fail> {
-    let alloc = rt.alloc();
-    // the bytes of a piece, the read and the write that fail, the bytes that a write takes at most
-    for (piece, read, write, most, status, written) in [
-        (4096, 1, 0, 4096, Status::ReadFault, ""),
-        (1, 13, 0, 4096, Status::ReadFault, ""),
-        (4096, 2, 0, 4096, Status::Done, COMPARED[0].2),
-        (4096, 0, 1, 4096, Status::WriteFault, ""),
-        (4096, 0, 3, 1, Status::WriteFault, "do"),
-    ] {
-        let mut port = port(alloc, COMPARED[0].0, piece, read, write, most)?;
-        let answer = compare(&rt, &mut port);
-        assert!(rt; answer == status && port.written() == written.as_bytes());
-    }
-    let mut port = port(alloc, FEASIBLE[4].0, 4096, 0, 2, 3)?;
-    let answer = feasible_word(alloc, &mut port);
-    assert!(rt; answer == Status::WriteFault && port.written() == "ref".as_bytes());
+    assert!(rt; agree_on_cuts(&rt, COMPARED[0].0, &FAILING)?);
+    let cut = Cut {
+        piece: 4096,
+        read: 0,
+        write: 2,
+        most: 3,
+    };
+    assert!(rt;
+        ends(
+            &rt,
+            Question::Feasible,
+            FEASIBLE[4].0,
+            cut,
+            Status::WriteFault,
+            "ref"
+        )?
+    );
     Ok(())
 }
 
 #[test]
 fn a_failed_write_is_the_last_call(rt: HostRuntime) -> Result<(), Fail> {
-    let mut port = port(rt.alloc(), MANY, 4096, 0, 1, 4096)?;
-    let answer = best(&rt, &mut port);
-    assert!(rt; answer == Status::WriteFault && port.written().is_empty());
-    assert!(rt; port.calls() == Calls::LastFailed);
+    let cut = Cut {
+        piece: 4096,
+        read: 0,
+        write: 1,
+        most: 4096,
+    };
+    let mut port = port(rt.alloc(), MANY, cut)?;
+    let answer = asked(&rt, &mut port, Question::Best);
+    let is_last = port.written().is_empty() && port.calls() == Calls::LastFailed;
+    assert!(rt; answer == Status::WriteFault && is_last);
     Ok(())
 }

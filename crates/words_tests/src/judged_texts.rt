@@ -1,4 +1,4 @@
-use crate::ports::port;
+use crate::ports::{Cut, SIZES, pieces_of, port};
 use dover_port::Status;
 use judge_word::judge_word;
 use std::test::Fail;
@@ -25,32 +25,97 @@ const TEXTS: [(&str, Status, &str); 6] = [
     ),
 ];
 
-#[test]
-fn texts_and_their_verdicts(rt: HostRuntime) -> Result<(), Fail> {
-    let alloc = rt.alloc();
-    for (text, status, line) in TEXTS {
-        for size in [4096, 1, 7] {
-            let mut port = port(alloc, text, size, 0, 0, 4096)?;
-            let answer = judge_word(alloc, &mut port);
-            assert!(rt; answer == status && port.written() == line.as_bytes());
+/// How a port cuts and fails, how the call ends, and what is written.
+const FAILING: [(Cut, Status, &str); 4] = [
+    (
+        Cut {
+            piece: 4096,
+            read: 1,
+            write: 0,
+            most: 4096,
+        },
+        Status::ReadFault,
+        "",
+    ),
+    (
+        Cut {
+            piece: 1,
+            read: 13,
+            write: 0,
+            most: 4096,
+        },
+        Status::ReadFault,
+        "",
+    ),
+    (
+        Cut {
+            piece: 4096,
+            read: 0,
+            write: 1,
+            most: 4096,
+        },
+        Status::WriteFault,
+        "",
+    ),
+    (
+        Cut {
+            piece: 4096,
+            read: 0,
+            write: 3,
+            most: 1,
+        },
+        Status::WriteFault,
+        "ac",
+    ),
+];
+
+/// Whether the word ends so on the text, and writes this.
+fn ends(
+    rt: &HostRuntime,
+    text: &str,
+    cut: Cut,
+    status: Status,
+    written: &str,
+) -> Result<bool, Fail> {
+    let mut port = port(rt.alloc(), text, cut)?;
+    let answer = judge_word(rt.alloc(), &mut port);
+    Ok(answer == status && port.written() == written.as_bytes())
+}
+
+/// Whether each text ends so in pieces of each size, and this is written.
+fn agree_on_texts(
+    rt: &HostRuntime,
+    rows: &[(&str, Status, &str)],
+    sizes: &[usize],
+) -> Result<bool, Fail> {
+    for (text, status, written) in rows {
+        for size in sizes {
+            if !ends(rt, *text, pieces_of(*size), *status, *written)? {
+                return Ok(false);
+            }
         }
     }
+    Ok(true)
+}
+
+/// Whether the text ends so over each of these ports, and this is written.
+fn agree_on_cuts(rt: &HostRuntime, text: &str, rows: &[(Cut, Status, &str)]) -> Result<bool, Fail> {
+    for (cut, status, written) in rows {
+        if !ends(rt, text, *cut, *status, *written)? {
+            return Ok(false);
+        }
+    }
+    Ok(true)
+}
+
+#[test]
+fn texts_and_their_verdicts(rt: HostRuntime) -> Result<(), Fail> {
+    assert!(rt; agree_on_texts(&rt, &TEXTS, &SIZES)?);
     Ok(())
 }
 
 #[test]
 fn failing_calls(rt: HostRuntime) -> Result<(), Fail> {
-    let alloc = rt.alloc();
-    // the bytes of a piece, the read and the write that fail, the bytes that a write takes at most
-    for (piece, read, write, most, status, text) in [
-        (4096, 1, 0, 4096, Status::ReadFault, ""),
-        (1, 13, 0, 4096, Status::ReadFault, ""),
-        (4096, 0, 1, 4096, Status::WriteFault, ""),
-        (4096, 0, 3, 1, Status::WriteFault, "ac"),
-    ] {
-        let mut port = port(alloc, TEXTS[0].0, piece, read, write, most)?;
-        let answer = judge_word(alloc, &mut port);
-        assert!(rt; answer == status && port.written() == text.as_bytes());
-    }
+    assert!(rt; agree_on_cuts(&rt, TEXTS[0].0, &FAILING)?);
     Ok(())
 }

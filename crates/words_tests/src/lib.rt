@@ -1,4 +1,5 @@
-//! Tests of the words: `feed_reading`, `judge_word`, `report_word`, `stated_word`, `dover_words` and `lanes_word`.
+//! Tests of the words: `judge_word`, `report_word`, `serve_word`, `stated_word`, `dover_words` and
+//! `lanes_word`.
 #![tactic(auto)]
 
 #[cfg(test)]
@@ -8,9 +9,9 @@ mod judged_texts;
 #[cfg(test)]
 mod laned_feeds;
 #[cfg(test)]
-mod ports;
+mod paused_feeds;
 #[cfg(test)]
-mod read_feeds;
+mod ports;
 #[cfg(test)]
 mod stated_lists;
 #[cfg(test)]

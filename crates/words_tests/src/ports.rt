@@ -20,22 +20,39 @@ fn pieces(alloc: Global, text: &str, size: usize) -> Result<Vec<Vec<u8>>, AllocE
     Ok(script)
 }
 
-/// A port over the text in pieces of so many bytes. The read and the write of these numbers fail, from 1 on, and a write takes at most so
-/// many bytes.
-pub fn port(
-    alloc: Global,
-    text: &str,
-    size: usize,
-    read: u32,
-    write: u32,
-    most: usize,
-) -> Result<MemoryPort, Fail> {
+/// How many bytes a read gives: all, one, or a few.
+pub const SIZES: [usize; 3] = [4096, 1, 7];
+
+/// How a port cuts and fails.
+#[derive(Clone, Copy)]
+pub struct Cut {
+    /// The bytes of a piece.
+    pub piece: usize,
+    /// The read and the write that fail, from 1 on, and 0 for none.
+    pub read: u32,
+    pub write: u32,
+    /// The bytes that a write takes at most.
+    pub most: usize,
+}
+
+/// Pieces of so many bytes, of which no call fails.
+pub fn pieces_of(piece: usize) -> Cut {
+    Cut {
+        piece,
+        read: 0,
+        write: 0,
+        most: 4096,
+    }
+}
+
+/// A port over the text.
+pub fn port(alloc: Global, text: &str, cut: Cut) -> Result<MemoryPort, Fail> {
     Ok(MemoryPort::new(
         alloc,
-        pieces(alloc, text, size)?,
-        vec![in alloc; read]?,
-        vec![in alloc; write]?,
-        most.max(1),
+        pieces(alloc, text, cut.piece)?,
+        vec![in alloc; cut.read]?,
+        vec![in alloc; cut.write]?,
+        cut.most.max(1),
         4096,
     )?)
 }

@@ -2,7 +2,7 @@
 ghost use Rattle.std.specs.Prelude.{◌≡◌, ◌<◌, ◌≤◌, ◌^◌};
 ghost use Rattle.dover_model.specs.Limits.{most_jobs};
 
-use crate::ports::port;
+use crate::ports::{Cut, pieces_of, port};
 use dover_model::Ratio;
 use dover_port::{MemoryPort, Status};
 use stated_word::{bait_word, trial_word};
@@ -118,34 +118,88 @@ fn bait(rt: &HostRuntime, port: &mut MemoryPort, k: Ratio, rounds: u32) -> Statu
     bait_in::<Brand>(rt, port, k, rounds, Blank::new(1))
 }
 
+/// Whether a call of `bait` ends so, and writes this.
+fn bait_ends(
+    rt: &HostRuntime,
+    ratio: (u32, u32),
+    rounds: u32,
+    status: Status,
+    text: &str,
+) -> Result<bool, Fail> {
+    let Some(k) = Ratio::new(ratio.0, ratio.1) else {
+        return Ok(false);
+    };
+    if rounds < 1 {
+        return Ok(false);
+    }
+    let mut port = port(rt.alloc(), "", pieces_of(1))?;
+    let answer = bait(rt, &mut port, k, rounds);
+    Ok(answer == status && port.written() == text.as_bytes())
+}
+
+/// Whether each of these calls of `bait` ends so, and this is written.
+fn agree_on_baits(rt: &HostRuntime, rows: &[(u32, u32, u32, Status, &str)]) -> Result<bool, Fail> {
+    for (p, q, rounds, status, text) in rows {
+        if !bait_ends(rt, (*p, *q), *rounds, *status, *text)? {
+            return Ok(false);
+        }
+    }
+    Ok(true)
+}
+
+/// Whether a call of `trial` is done, and writes this.
+fn trial_ends(
+    rt: &HostRuntime,
+    seed: u32,
+    count: u32,
+    ratio: (u32, u32),
+    text: &str,
+) -> Result<bool, Fail> {
+    let Some(k) = Ratio::new(ratio.0, ratio.1) else {
+        return Ok(false);
+    };
+    if seed >= 2_147_483_648 {
+        return Ok(false);
+    }
+    if count > 1_000_000 {
+        return Ok(false);
+    }
+    let mut port = port(rt.alloc(), "", pieces_of(1))?;
+    let answer = trial(rt, &mut port, seed, count, k);
+    Ok(answer == Status::Done && port.written() == text.as_bytes())
+}
+
+/// Whether each of these calls of `trial` is done, and this is written.
+fn agree_on_trials(rt: &HostRuntime, rows: &[(u32, u32, u32, u32, &str)]) -> Result<bool, Fail> {
+    for (seed, count, p, q, text) in rows {
+        if !trial_ends(rt, *seed, *count, (*p, *q), *text)? {
+            return Ok(false);
+        }
+    }
+    Ok(true)
+}
+
 #[test]
 fn baits_and_their_lines(rt: HostRuntime) -> Result<(), Fail> {
-    for (p, q, rounds, status, text) in BAITS {
-        let k = Ratio::new(p, q).expect(&rt, "a ratio");
-        assert!(rt; rounds > 0);
-        let mut port = port(rt.alloc(), "", 1, 0, 0, 4096)?;
-        let answer = bait(&rt, &mut port, k, rounds);
-        assert!(rt; answer == status && port.written() == text.as_bytes());
-    }
+    assert!(rt; agree_on_baits(&rt, &BAITS)?);
     Ok(())
 }
 
 #[test]
 fn trials_and_their_summaries(rt: HostRuntime) -> Result<(), Fail> {
-    for (seed, count, p, q, text) in TRIALS {
-        let k = Ratio::new(p, q).expect(&rt, "a ratio");
-        assert!(rt; seed < 2_147_483_648);
-        assert!(rt; count <= 1_000_000);
-        let mut port = port(rt.alloc(), "", 1, 0, 0, 4096)?;
-        let answer = trial(&rt, &mut port, seed, count, k);
-        assert!(rt; answer == Status::Done && port.written() == text.as_bytes());
-    }
+    assert!(rt; agree_on_trials(&rt, &TRIALS)?);
     Ok(())
 }
 
 #[test]
 fn a_write_that_fails(rt: HostRuntime) -> Result<(), Fail> {
-    let mut port = port(rt.alloc(), "", 1, 0, 1, 4096)?;
+    let cut = Cut {
+        piece: 1,
+        read: 0,
+        write: 1,
+        most: 4096,
+    };
+    let mut port = port(rt.alloc(), "", cut)?;
     let answer = trial(&rt, &mut port, 1, 2, Ratio::new(1, 1).unwrap());
     assert!(rt; answer == Status::WriteFault && port.written().is_empty());
     Ok(())
@@ -154,20 +208,27 @@ fn a_write_that_fails(rt: HostRuntime) -> Result<(), Fail> {
 #[test]
 fn a_seed_has_one_summary(rt: HostRuntime) -> Result<(), Fail> {
     let k = Ratio::new(100, 1).unwrap();
-    let mut first = port(rt.alloc(), "", 1, 0, 0, 4096)?;
-    let mut second = port(rt.alloc(), "", 1, 0, 0, 7)?;
+    let bit_by_bit = Cut {
+        piece: 1,
+        read: 0,
+        write: 0,
+        most: 7,
+    };
+    let mut first = port(rt.alloc(), "", pieces_of(1))?;
+    let mut second = port(rt.alloc(), "", bit_by_bit)?;
     let answers = [
         trial(&rt, &mut first, 7, 2_000, k),
         trial(&rt, &mut second, 7, 2_000, k),
     ];
-    assert!(rt; answers == [Status::Done, Status::Done] && first.written() == second.written());
-    assert!(rt; first.written().starts_with(b"jobs 2000\n"));
+    let are_equal = first.written() == second.written();
+    let is_summary = first.written().starts_with(b"jobs 2000\n");
+    assert!(rt; answers == [Status::Done, Status::Done] && are_equal && is_summary);
     Ok(())
 }
 
 #[test]
 fn many_jobs_end_soon(rt: HostRuntime) -> Result<(), Fail> {
-    let mut port = port(rt.alloc(), "", 1, 0, 0, 4096)?;
+    let mut port = port(rt.alloc(), "", pieces_of(1))?;
     let answer = trial(&rt, &mut port, 7, 200_000, Ratio::new(100, 1).unwrap());
     assert!(rt; answer == Status::Done && port.written().starts_with(b"jobs 200000\n"));
     Ok(())

@@ -1,8 +1,9 @@
 //! The two reports over ports in memory, in one piece and byte by byte, failing calls, and tables that are read back.
-use crate::ports::port;
+use crate::ports::{Cut, pieces_of, port};
 use csv::{Reader, StringRecord};
 use dover_port::Status;
 use report_word::{Form, report_word};
+use std::alloc::Global;
 use std::test::Fail;
 
 /// The trace of a run in which a job takes the processor.
@@ -15,18 +16,27 @@ const ONE: &str = "dover 1 1 1\njob 0 0 2 2 2\nrun 0 0\ncomplete 2 0\nend 2\n";
 
 /// The trace of a minute of frames, telemetry and alarms, by tenths of a second.
 const MINUTE: &str =
-    "dover 1 100 1\njob 0 0 60 90 60\nrun 0 0\njob 1 10 5 30 25\npreempt 10 0 1\ncomplete 15 1\nrun 15 0\njob 2 50 5 70 25\n\
-        preempt 50 0 2\ncomplete 55 2\nrun 55 0\njob 3 65 10 75 1000\npreempt 65 0 3\ncomplete 75 3\nrun 75 0\ncomplete 80 0\n\
-        job 4 100 60 190 60\nrun 100 4\njob 5 110 5 130 25\npreempt 110 4 5\ncomplete 115 5\nrun 115 4\njob 6 120 40 170 40\n\
-        job 7 125 5 145 25\npreempt 125 4 7\ncomplete 130 7\nrun 130 4\nabandon 130 6\njob 8 150 10 160 1000\npreempt 150 4 8\n\
-        complete 160 8\nrun 160 4\ncomplete 180 4\njob 9 200 80 290 80\nrun 200 9\njob 10 210 20 230 2000\ntake 210 9 10\n\
-        job 11 215 5 235 25\nabandon 220 9\ncomplete 230 10\nrun 230 11\ncomplete 235 11\njob 12 300 60 390 60\nrun 300 12\n\
-        job 13 300 5 320 25\npreempt 300 12 13\njob 14 300 5 320 25\ncomplete 305 13\nrun 305 14\ncomplete 310 14\nrun 310 12\n\
+    "dover 1 100 1\njob 0 0 60 90 60\nrun 0 0\njob 1 10 5 30 25\npreempt 10 0 1\ncomplete 15 1\nrun 15 0\n\
+     job 2 50 5 70 25\n\
+        preempt 50 0 2\ncomplete 55 2\nrun 55 0\njob 3 65 10 75 1000\npreempt 65 0 3\ncomplete 75 3\nrun 75 0\n\
+         complete 80 0\n\
+        job 4 100 60 190 60\nrun 100 4\njob 5 110 5 130 25\npreempt 110 4 5\ncomplete 115 5\nrun 115 4\n\
+         job 6 120 40 170 40\n\
+        job 7 125 5 145 25\npreempt 125 4 7\ncomplete 130 7\nrun 130 4\nabandon 130 6\njob 8 150 10 160 1000\n\
+         preempt 150 4 8\n\
+        complete 160 8\nrun 160 4\ncomplete 180 4\njob 9 200 80 290 80\nrun 200 9\njob 10 210 20 230 2000\n\
+         take 210 9 10\n\
+        job 11 215 5 235 25\nabandon 220 9\ncomplete 230 10\nrun 230 11\ncomplete 235 11\njob 12 300 60 390 60\n\
+         run 300 12\n\
+        job 13 300 5 320 25\npreempt 300 12 13\njob 14 300 5 320 25\ncomplete 305 13\nrun 305 14\ncomplete 310 14\n\
+         run 310 12\n\
         job 15 360 30 420 30\ncomplete 370 12\nrun 370 15\njob 16 380 10 390 1000\npreempt 380 15 16\ncomplete 390 16\n\
-        run 390 15\njob 17 400 60 490 60\ncomplete 410 15\nrun 410 17\njob 18 420 5 440 25\npreempt 420 17 18\ncomplete 425 18\n\
+        run 390 15\njob 17 400 60 490 60\ncomplete 410 15\nrun 410 17\njob 18 420 5 440 25\npreempt 420 17 18\n\
+         complete 425 18\n\
         run 425 17\njob 19 430 20 470 100\njob 20 440 10 450 1000\npreempt 440 17 20\ncomplete 450 20\nrun 450 17\n\
         abandon 450 19\ncomplete 485 17\njob 21 500 60 590 60\nrun 500 21\njob 22 530 5 550 25\npreempt 530 21 22\n\
-        complete 535 22\nrun 535 21\njob 23 560 20 580 2000\npreempt 560 21 23\ncomplete 580 23\nrun 580 21\ncomplete 585 21\n\
+        complete 535 22\nrun 535 21\njob 23 560 20 580 2000\npreempt 560 21 23\ncomplete 580 23\nrun 580 21\n\
+         complete 585 21\n\
         end 8555\n";
 
 /// Texts, the form that is asked for, how each ends, and what is written for it.
@@ -35,13 +45,15 @@ const TEXTS: [(&str, Form, Status, &str); 7] = [
         TAKEN,
         Form::Text,
         Status::Done,
-        "ratio 1 1\njobs 3\ncompleted 2 15\nabandoned 1 2\ntaken 1\nbound 60\ninterval 1 0 12 0 12 5 2\ninterval 2 12 15 3 0 0 0\n",
+        "ratio 1 1\njobs 3\ncompleted 2 15\nabandoned 1 2\ntaken 1\nbound 60\ninterval 1 0 12 0 12 5 2\n\
+         interval 2 12 15 3 0 0 0\n",
     ),
     (
         TAKEN,
         Form::Table,
         Status::Done,
-        "job,release,work,deadline,value,fate,tick\n0,0,3,30,3,complete,15\n1,0,2,4,2,abandon,2\n2,0,12,12,12,complete,12\n",
+        "job,release,work,deadline,value,fate,tick\n0,0,3,30,3,complete,15\n1,0,2,4,2,abandon,2\n\
+         2,0,12,12,12,complete,12\n",
     ),
     (
         MINUTE,
@@ -57,7 +69,8 @@ const TEXTS: [(&str, Form, Status, &str); 7] = [
         Form::Table,
         Status::Done,
         "job,release,work,deadline,value,fate,tick\n0,0,60,90,60,complete,80\n1,10,5,30,25,complete,15\n\
-            2,50,5,70,25,complete,55\n3,65,10,75,1000,complete,75\n4,100,60,190,60,complete,180\n5,110,5,130,25,complete,115\n\
+            2,50,5,70,25,complete,55\n3,65,10,75,1000,complete,75\n4,100,60,190,60,complete,180\n\
+             5,110,5,130,25,complete,115\n\
             6,120,40,170,40,abandon,130\n7,125,5,145,25,complete,130\n8,150,10,160,1000,complete,160\n\
             9,200,80,290,80,abandon,220\n10,210,20,230,2000,complete,230\n11,215,5,235,25,complete,235\n\
             12,300,60,390,60,complete,370\n13,300,5,320,25,complete,305\n14,300,5,320,25,complete,310\n\
@@ -75,32 +88,86 @@ const TEXTS: [(&str, Form, Status, &str); 7] = [
     ("", Form::Table, Status::No, "short 0\n"),
 ];
 
-#[test]
-fn texts_and_their_reports(rt: HostRuntime) -> Result<(), Fail> {
-    let alloc = rt.alloc();
-    for (text, form, status, told) in TEXTS {
-        for size in [4096, 1] {
-            let mut port = port(alloc, text, size, 0, 0, 4096)?;
-            let answer = report_word(alloc, &mut port, form);
-            assert!(rt; answer == status && port.written() == told.as_bytes());
+/// How a port cuts and fails, and how the call ends.
+const FAILING: [(Cut, Status); 3] = [
+    (
+        Cut {
+            piece: 4096,
+            read: 1,
+            write: 0,
+            most: 4096,
+        },
+        Status::ReadFault,
+    ),
+    (
+        Cut {
+            piece: 1,
+            read: 13,
+            write: 0,
+            most: 4096,
+        },
+        Status::ReadFault,
+    ),
+    (
+        Cut {
+            piece: 4096,
+            read: 0,
+            write: 1,
+            most: 4096,
+        },
+        Status::WriteFault,
+    ),
+];
+
+/// Whether the word ends so on the text, and tells this.
+fn ends(
+    rt: &HostRuntime,
+    text: &str,
+    form: Form,
+    cut: Cut,
+    status: Status,
+    told: &str,
+) -> Result<bool, Fail> {
+    let mut port = port(rt.alloc(), text, cut)?;
+    let answer = report_word(rt.alloc(), &mut port, form);
+    Ok(answer == status && port.written() == told.as_bytes())
+}
+
+/// Whether each text ends so in pieces of each size, and this is told.
+fn agree_on_texts(
+    rt: &HostRuntime,
+    rows: &[(&str, Form, Status, &str)],
+    sizes: &[usize],
+) -> Result<bool, Fail> {
+    for (text, form, status, told) in rows {
+        for size in sizes {
+            if !ends(rt, *text, *form, pieces_of(*size), *status, *told)? {
+                return Ok(false);
+            }
         }
     }
+    Ok(true)
+}
+
+/// Whether the call ends so over each of these ports, and tells nothing.
+fn agree_on_cuts(rt: &HostRuntime, rows: &[(Cut, Status)]) -> Result<bool, Fail> {
+    for (cut, status) in rows {
+        if !ends(rt, ONE, Form::Table, *cut, *status, "")? {
+            return Ok(false);
+        }
+    }
+    Ok(true)
+}
+
+#[test]
+fn texts_and_their_reports(rt: HostRuntime) -> Result<(), Fail> {
+    assert!(rt; agree_on_texts(&rt, &TEXTS, &[4096, 1])?);
     Ok(())
 }
 
 #[test]
 fn failing_calls(rt: HostRuntime) -> Result<(), Fail> {
-    let alloc = rt.alloc();
-    // the bytes of a piece, and the read and the write that fail
-    for (size, read, write, status) in [
-        (4096, 1, 0, Status::ReadFault),
-        (1, 13, 0, Status::ReadFault),
-        (4096, 0, 1, Status::WriteFault),
-    ] {
-        let mut port = port(alloc, ONE, size, read, write, 4096)?;
-        let answer = report_word(alloc, &mut port, Form::Table);
-        assert!(rt; answer == status && port.written() == b"".as_slice());
-    }
+    assert!(rt; agree_on_cuts(&rt, &FAILING)?);
     Ok(())
 }
 
@@ -109,29 +176,42 @@ fn number(row: &StringRecord, field: usize) -> Option<u64> {
     row.get(field)?.parse().ok()
 }
 
+/// Whether the row is that of this job, and the trace has the job's numbers and how it ended.
+fn is_told(alloc: Global, trace: &str, job: u64, row: &StringRecord) -> Result<bool, Fail> {
+    let mut fields = [0u64; 5];
+    for (place, field) in fields.iter_mut().enumerate() {
+        *field = number(row, place).unwrap_or(u64::MAX);
+    }
+    let [named, release, work, deadline, value] = fields;
+    let tick = number(row, 6).unwrap_or(u64::MAX);
+    let fate = row.get(5).unwrap_or("none");
+    let released = format!(in alloc; "\njob {job} {release} {work} {deadline} {value}\n")?;
+    let ended = format!(in alloc; "\n{fate} {tick} {job}\n")?;
+    Ok(named == job && trace.contains(released.as_str()) && trace.contains(ended.as_str()))
+}
+
+/// Whether the table has a row for each of so many jobs of the trace, and no other.
+fn tells_each(alloc: Global, table: &[u8], trace: &str, jobs: u64) -> Result<bool, Fail> {
+    let mut rows = Reader::from_reader(alloc, table);
+    let mut row = StringRecord::new(alloc);
+    for job in 0..jobs {
+        if !rows.read_record(&mut row)? || row.len() != 7 || !is_told(alloc, trace, job, &row)? {
+            return Ok(false);
+        }
+    }
+    Ok(!rows.read_record(&mut row)?)
+}
+
+/// Whether the table of the trace is written, and reads back as so many jobs.
+fn reads_back(rt: &HostRuntime, trace: &str, jobs: u64) -> Result<bool, Fail> {
+    let mut port = port(rt.alloc(), trace, pieces_of(4096))?;
+    let answer = report_word(rt.alloc(), &mut port, Form::Table);
+    Ok(answer == Status::Done && tells_each(rt.alloc(), port.written(), trace, jobs)?)
+}
+
 #[test]
 fn tables_read_back(rt: HostRuntime) -> Result<(), Fail> {
-    let alloc = rt.alloc();
-    for (trace, jobs) in [(TAKEN, 3), (MINUTE, 24)] {
-        let mut port = port(alloc, trace, 4096, 0, 0, 4096)?;
-        assert!(rt; report_word(alloc, &mut port, Form::Table) == Status::Done);
-        let mut rows = Reader::from_reader(alloc, port.written());
-        let mut row = StringRecord::new(alloc);
-        for job in 0..jobs {
-            assert!(rt; rows.read_record(&mut row)? && row.len() == 7);
-            let mut fields = [0u64; 5];
-            for (place, field) in fields.iter_mut().enumerate() {
-                *field = number(&row, place).unwrap_or(u64::MAX);
-            }
-            let [named, release, work, deadline, value] = fields;
-            let tick = number(&row, 6).unwrap_or(u64::MAX);
-            let fate = row.get(5).unwrap_or("none");
-            let released = format!(in alloc; "\njob {job} {release} {work} {deadline} {value}\n")?;
-            let ended = format!(in alloc; "\n{fate} {tick} {job}\n")?;
-            let is_told = trace.contains(released.as_str()) && trace.contains(ended.as_str());
-            assert!(rt; named == job && is_told);
-        }
-        assert!(rt; !rows.read_record(&mut row)?);
-    }
+    assert!(rt; reads_back(&rt, TAKEN, 3)?);
+    assert!(rt; reads_back(&rt, MINUTE, 24)?);
     Ok(())
 }

@@ -7,4 +7,5 @@ pub put_number-requires : goal.put_number-requires
 put_number-requires g c =
     let size : length (decimal 18_446_744_073_709_551_615) ≤ 20 =
     length-decimal-le 20 18_446_744_073_709_551_615 (omega arith) (lit< tt) (omega arith) in
-    subst (λ (line : List ℕ). length (with_field line (decimal 18_446_744_073_709_551_615)) ≤ 129) (sym c.new-line-3.ensures) (omega arith)
+    subst (λ (line : List ℕ). length (with_field line (decimal 18_446_744_073_709_551_615)) ≤ 129)
+    (sym c.new-line-3.ensures) (omega arith)
