@@ -11,8 +11,7 @@ const MOST_JOBS: u32 = 1_000_000;
 const MOST_TOTAL: u64 = 10_000_000_000_000;
 
 /// What admitting the next job depends on: the ratio, how many jobs were admitted, the sum of their values, and the
-/// least
-/// dense and the densest one.
+/// least dense and the densest one.
 #[derive(Drop)]
 pub struct Admission {
     ratio: Ratio,
@@ -79,8 +78,7 @@ impl Admission {
     }
 
     /// The job of these numbers, release, work and deadline in ticks, where it may be admitted next, or why it may not.
-    /// The
-    /// numbers may be out of the limits of a job.
+    /// The numbers may be out of the limits of a job.
     #[inline(always)]
     pub fn check(&self, release: u64, work: u64, deadline: u64, value: u64) -> Result<Job, Refused>
         ensures job { IfOk result (λ job. job ≡ job_of_numbers release work deadline value) }

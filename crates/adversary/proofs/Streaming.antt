@@ -13,8 +13,7 @@ use Rattle.adversary.specs.Baiting.{jobs_from}
 use Rattle.adversary.proofs.Coming.{AreSome, AreAfter, are_after, link_first, unit_next}
 
 -- From the number n on, at the tick t with so many ticks before the bait, where the next of these links is released at
--- r: the jobs, and the
--- schedule.
+-- r: the jobs, and the schedule.
 pub data Streams (unit bait : ℕ) : (n t ticks r : ℕ) → List ℕ → List JobFacts → List ℕ → Type 0 where
   gives_link : {n t ticks r w : ℕ} {ws : List ℕ} {jobs : List JobFacts} {plan : List ℕ} → r ≡ t → 1 ≤ w
       → Streams unit bait (suc n) t ticks (r + w - 1) ws jobs plan

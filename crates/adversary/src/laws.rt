@@ -31,8 +31,7 @@ pub fn links_double_at_ratio_one()
 {}
 
 /// The first value of the chain is the least, at least 1, against which a unit job isn't heavy; each further one is the
-/// least that is heavy
-/// against the one before it; and the bait's is the greatest that isn't heavy against the last.
+/// least that is heavy against the one before it; and the bait's is the greatest that isn't heavy against the last.
 pub fn links_take_by_the_least_value()
     ensures first { (k : Fraction) (rounds w : ℕ) (rest : List ℕ) → IsRatio k → chain k rounds ≡ w ∷ rest
         → IsLeastUnmoved k (unit_value k) w }

@@ -77,7 +77,8 @@ impl Simulation {
         ensures later { OnOk result (self.old.clock < self.new.clock) }
         ensures released { self.new.released ≡ self.old.released }
         ensures few { OnOk result (
-            (length self.new.pieces.items + length self.new.ready.entries ≤ length self.old.pieces.items + length self.old.ready.entries + 1)
+            (length self.new.pieces.items + length self.new.ready.entries ≤ length self.old.pieces.items
+            + length self.old.ready.entries + 1)
             ⊎ ((length self.new.pieces.items + length self.new.ready.entries ≤ length self.old.pieces.items
             + length self.old.ready.entries + 2)
             × IsPending jobs.now self.new.clock self.new.released)) }

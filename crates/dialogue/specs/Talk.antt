@@ -6,8 +6,7 @@ use Rattle.dover_port.specs.declared.status.Status.{Status}
 use Rattle.dover_port.specs.declared.status.Status.TheVariants.{Done, No, Refused, ReadFault, WriteFault, Memory, Usage}
 
 -- Whether more may be read behind these bytes; what is due for them; with which status and which whole text they may be
--- answered, where the
--- input has ended and where it hasn't; and whether memory may be lacking.
+-- answered, where the input has ended and where it hasn't; and whether memory may be lacking.
 pub record Talk : Type 1 where
   pub goes_on : List ℕ → Bool
   pub due : List ℕ → List ℕ

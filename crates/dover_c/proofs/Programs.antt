@@ -394,7 +394,8 @@ module _ (version : Version) (p q capacity : ℕ) where
           by_says (Err cause) leads so = absurd (not_none cause (sym (ap (λ (d : Decided). d.kind) so) ∙ none))
           by_says (Ok decision) leads so =
               let is_none : decision ≡ None = kind_none decision (sym (ap (λ (d : Decided). d.kind) so) ∙ none) in
-              let further : engine.Lives version k (it.calls ++ (engine.Stepped (horizon.Mark mark) None ∷ [])) w = record {
+              let further : engine.Lives version k (it.calls ++ (engine.Stepped (horizon.Mark mark) None ∷ [])) w
+              = record {
                 ratio = it.lives.ratio;
                 spare = it.lives.spare;
                 lives = leads_append it.calls (engine.Stepped (horizon.Mark mark) None ∷ [])

@@ -34,7 +34,8 @@ pub fn a_program_is_given_one_run()
     ensures online { (acts more : List Act) → given (acts ++ more) ≡ given acts ++ given more }
     ensures within { (version : Version) (p q capacity : ℕ) (acts : List Act) (t : Slot) (s : List ℕ) →
         IsProgram version p q capacity acts t →
-        IsWithin (record { p = p; q = q }) (worth (all_told version p q acts) s) (completed_value (all_told version p q acts)) }
+        IsWithin (record { p = p; q = q }) (worth (all_told version p q acts) s)
+        (completed_value (all_told version p q acts)) }
     ensures honest { (version : Version) (p q capacity : ℕ) (acts : List Act) (t : Slot) →
         IsProgram version p q capacity acts t →
         (s : List ℕ) × (completed_value (all_told version p q acts) ≤ worth (all_told version p q acts) s) }

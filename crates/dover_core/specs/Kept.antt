@@ -14,7 +14,6 @@ service_of a = record {
 }
 
 -- It stands. That the waiting set holds the waiting jobs, the held stack the held ones in the order of deadlines, and
--- that the
--- available ticks on it are the rooms of those jobs, is what every Queues keeps.
+-- that the available ticks on it are the rooms of those jobs, is what every Queues keeps.
 abbrev pub IsKept : Inside → Type 0
 IsKept a = Stands (service_of a)

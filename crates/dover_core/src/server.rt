@@ -219,10 +219,8 @@ impl Server {
     }
 
     /// Forgets all jobs, where they are over and the last step was to a mark and answered None: the clock goes on, no
-    /// memory is taken, and there
-    /// is room for as many more jobs. What was given till then is their whole run but for its End, which is at rest,
-    /// and the run of no jobs leads to what is left.
-    /// Answers whether it did.
+    /// memory is taken, and there is room for as many more jobs. What was given till then is their whole run but for
+    /// its End, which is at rest, and the run of no jobs leads to what is left. Answers whether it did.
     pub fn renew(&mut self) -> bool
         ensures when { result ≡ (self.old.ready && not self.old.ended && list_all is_over self.old.state.tasks) }
         ensures renewed { IsTrue result → self.new ≡ renewed self.old }

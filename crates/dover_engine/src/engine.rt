@@ -174,7 +174,8 @@ impl Engine {
             IfOk result (λ answer. IsPrompt (Mark mark) self.new.service.rules
             (self.new.service.ended ≡ true) jobs events answer) }
         ensures count { (d : ℕ) → length self.old.service.state.tasks + 1 < 2 ^ d →
-            OnOk result (IsCounted (Mark mark) self.old.service.rules self.old.service.state self.new.service.state d steps.old steps.new) }
+            OnOk result (IsCounted (Mark mark) self.old.service.rules self.old.service.state self.new.service.state d
+            steps.old steps.new) }
     {
         if let Some(cause) = mark_refusal(self.last, mark) {
             return Err(cause);

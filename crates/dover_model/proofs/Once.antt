@@ -41,8 +41,7 @@ use Rattle.dover_model.proofs.Tests.{never}
 -- ---- jobs that are decided on, and those that can't take any more
 
 -- The job is decided on; where `late`, it is also at its latest start or past it, and if it waits, its value is at most
--- what stands
--- against a take, which is w.
+-- what stands against a take, which is w.
 abbrev Spent : Bool → Role → ℕ → ℕ → Task → Type 0
 Spent late Coming clock w t = ⊥
 Spent late Fresh clock w t = ⊥

@@ -48,7 +48,8 @@ pub fn runs_in_turn_are_one_run()
     ensures honest { (rules : Rules) (lists : List (List JobFacts)) → IsInTurn rules 0 lists →
         (s : List ℕ) × (completed_in_turn rules lists ≤ worth (record { rules = rules; jobs = in_turn lists }) s) }
     ensures within { (rules : Rules) (lists : List (List JobFacts)) (s : List ℕ) → IsInTurn rules 0 lists →
-        IsWithin rules.ratio (worth (record { rules = rules; jobs = in_turn lists }) s) (completed_value (record { rules = rules; jobs = in_turn lists })) }
+        IsWithin rules.ratio (worth (record { rules = rules; jobs = in_turn lists }) s)
+        (completed_value (record { rules = rules; jobs = in_turn lists })) }
 {}
 
 /// Behind lists in turn that are over, further jobs run as they do alone, numbered behind, and so does what is settled
@@ -59,13 +60,15 @@ pub fn runs_go_on_in_turn()
         IsValid (record { rules = rules; jobs = more }) → NoneBefore m more → m ≤ mark →
         settled (record { rules = rules; jobs = in_turn lists ++ more }) mark ≡ before_end
         (printed (record { rules = rules; jobs = in_turn lists }))
-        ++ map (behind (length (in_turn lists)) (completed_in_turn rules lists)) (settled (record { rules = rules; jobs = more }) mark) }
+        ++ map (behind (length (in_turn lists)) (completed_in_turn rules lists))
+        (settled (record { rules = rules; jobs = more }) mark) }
     ensures printed { (rules : Rules) (lists : List (List JobFacts)) (more : List JobFacts) (m : ℕ)
         → AreOverAt rules 0 lists m →
         IsValid (record { rules = rules; jobs = more }) → NoneBefore m more →
         printed (record { rules = rules; jobs = in_turn lists ++ more }) ≡ before_end
         (printed (record { rules = rules; jobs = in_turn lists }))
-        ++ map (behind (length (in_turn lists)) (completed_in_turn rules lists)) (printed (record { rules = rules; jobs = more })) }
+        ++ map (behind (length (in_turn lists)) (completed_in_turn rules lists))
+        (printed (record { rules = rules; jobs = more })) }
 {}
 
 /// A run of jobs moved in time is the run, moved in time.
@@ -99,7 +102,8 @@ pub fn bounds_add_up()
         → worth J s ≤ bounds_of_parts rules owner parts J.jobs }
     ensures in_turn { (rules : Rules) (lists : List (List JobFacts)) (s : List ℕ) →
         Each (λ jobs. IsValid (record { rules = rules; jobs = jobs })) lists →
-        IsWithin rules.ratio (worth (record { rules = rules; jobs = in_turn lists }) s) (completed_in_turn rules lists) }
+        IsWithin rules.ratio (worth (record { rules = rules; jobs = in_turn lists }) s)
+        (completed_in_turn rules lists) }
 {}
 
 /// Where one schedule serves all jobs, no part loses anything.

@@ -14,8 +14,7 @@ use dover_model::{Event, Memory, Ratio};
 use std::alloc::Global;
 
 /// The report on the run that prints these steps: its ratio, its summary and its intervals. The jobs of the run are
-/// valid for the
-/// ratio `k`. Want of memory is the only error.
+/// valid for the ratio `k`. Want of memory is the only error.
 pub fn text(alloc: Global, k: Ratio, run: &[Event]) -> Result<Vec<u8>, Memory>
     requires { (J : Instance) × IsRunOf k run.now J }
     ensures { (J : Instance) → IsRunOf k run.now J → IfOk result (λ text. text.items ≡ report J) }

@@ -14,8 +14,7 @@ use itoa::Buffer;
 use std::alloc::Global;
 
 /// The table of the run that prints these steps: a row of names, and a row for each job. The jobs of the run are valid
-/// for some
-/// ratio. Want of memory is the only error.
+/// for some ratio. Want of memory is the only error.
 pub fn table(alloc: Global, run: &[Event]) -> Result<Vec<u8>, Memory>
     requires { (k : Fraction) × ((J : Instance) × IsRunOf k run.now J) }
     ensures { (k : Fraction) (J : Instance) → IsRunOf k run.now J → IfOk result (λ text. text.items ≡ table J) }

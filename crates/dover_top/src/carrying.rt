@@ -83,8 +83,8 @@ pub(crate) fn carry_out<P: Port, L: Ledger>(
         Since (P.moves port.old) (P.moves port.new) (served.IsFrugal steps.old steps.new) }
     ensures resume_comparisons { (at_end : AtEnd) → request ≡ Request.Resume at_end →
         Since (P.moves port.old) (P.moves port.new) (resumed.IsFrugal steps.old steps.new) }
-    ensures trial_comparisons { (seed count : ℕ) (k : Fraction) → request ≡ Request.Trial seed count k → result ≡ Status.Done →
-        AreFew count steps.old steps.new }
+    ensures trial_comparisons { (seed count : ℕ) (k : Fraction) → request ≡ Request.Trial seed count k →
+        result ≡ Status.Done → AreFew count steps.old steps.new }
     ensures bait_comparisons { (k : Fraction) (rounds : ℕ) → request ≡ Request.Bait k rounds → result ≡ Status.Done →
         AreFew (length (bait_jobs k rounds)) steps.old steps.new }
     ensures ask_comparisons { (question : Question) → request ≡ Request.Ask question →

@@ -249,8 +249,8 @@ pub fn dover<P: Port, L: Ledger>(
         Since (P.moves port.old) (P.moves port.new) (served.IsFrugal steps.old steps.new) }
     ensures resume_comparisons { (at_end : AtEnd) → AsksResume words.now at_end →
         Since (P.moves port.old) (P.moves port.new) (resumed.IsFrugal steps.old steps.new) }
-    ensures trial_comparisons { (seed count : ℕ) (k : Fraction) → AsksTrial words.now seed count k → result ≡ Status.Done →
-        AreFew count steps.old steps.new }
+    ensures trial_comparisons { (seed count : ℕ) (k : Fraction) → AsksTrial words.now seed count k →
+        result ≡ Status.Done → AreFew count steps.old steps.new }
     ensures bait_comparisons { (k : Fraction) (rounds : ℕ) → AsksBait words.now k rounds → result ≡ Status.Done →
         AreFew (length (bait_jobs k rounds)) steps.old steps.new }
     ensures question_comparisons { (question : Question) → AsksQuestion words.now question → result ≡ Status.Done →

@@ -12,8 +12,7 @@ use Rattle.dover_words.specs.Texts.{refusal_text}
 use Rattle.dover_words.specs.declared.question.Question.{Question}
 
 -- Nothing is due before the end, which comes with the feed's, its first fault or the input's. Then the line that
--- refuses
--- the feed is, or what is to be said of its jobs. Memory is lacking before the input's end alone.
+-- refuses the feed is, or what is to be said of its jobs. Memory is lacking before the input's end alone.
 abbrev pub ask_talk : Says → Talk
 ask_talk says = record {
   goes_on = λ bytes. is_open (account bytes);

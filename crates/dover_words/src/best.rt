@@ -104,8 +104,7 @@ fn put_all_found<P: Port>(
 /// Finds the best set of the jobs, and puts what came of it: how many jobs there are, what the best set of them that
 /// one schedule serves is worth, the value that the run completes, the bound on what any schedule is worth, and the
 /// schedule of the best set, in stretches of one job. More than 20 jobs are refused. Memory is taken for the search and
-/// for the
-/// run, and what is put stands in memory before its first byte.
+/// for the run, and what is put stands in memory before its first byte.
 pub(crate) fn answer<P: Port, L: Ledger>(
     alloc: Global,
     port: &mut P,

@@ -2,16 +2,15 @@
 ghost use Rattle.std.specs.Prelude.{◌≡◌, ℕ, List, [], ◌∷◌, ◌++◌, ◌↔◌, true, false, Option, IsOk, IfOk, OnOk, IsSome};
 ghost use Rattle.std.specs.Prelude.{◌≤◌, ◌+◌, replicate};
 ghost use Rattle.std.specs.Option.{option_map};
-ghost use Rattle.std.specs.Bool.{then_some};
 ghost use Rattle.dover_model.specs.Limits.{most_lines};
-ghost use Rattle.dover_model.specs.Fraction.{is_ratio};
 ghost use Rattle.dover_model.specs.Session.{Session};
 ghost use Rattle.dover_model.specs.FeedLine as form;
-ghost use Rattle.dover_model.specs.Feed.{Account, Open, account_of_lines, read_line, rules_with, declared_version};
+ghost use Rattle.dover_model.specs.Feed.{Account, Open, account_of_lines, read_line, rules_with};
 ghost use Rattle.job_format.specs.Form.{form_of};
 ghost use Rattle.event_feed.specs.Kept.{KeepsSession};
 ghost use Rattle.event_feed.specs.Reading.{first_rules, open_account, TakesIn, IsTaken};
 
+use crate::declaring::declared;
 use crate::faults::{Cause, FeedFault};
 use crate::fed::Fed;
 use crate::kept_session::KeptSession;
@@ -30,37 +29,14 @@ enum Standing {
     Faulty(FeedFault),
 }
 
-/// The ratio of these numbers, if they are within its limits.
-fn ratio_of(p: u64, q: u64) -> Option<Ratio>
-    ensures { result ≡ then_some (is_ratio (record { p = p; q = q })) (record { p = p; q = q }) }
-{
-    match (u32::try_from(p), u32::try_from(q)) {
-        (Ok(p), Ok(q)) => Ratio::new(p, q),
-        _ => None,
-    }
-}
-
-/// The version of this number: none stands for One.
-fn version_of(number: Option<u64>) -> Option<Version>
-    ensures { result ≡ declared_version number }
-{
-    match number {
-        None => Some(Version::One),
-        Some(2) => Some(Version::Two),
-        Some(_) => None,
-    }
-}
-
 /// The ratio and the version that the first line declares.
-fn declared(line: FeedLine) -> Option<(Ratio, Version)>
+fn declared_in(line: FeedLine) -> Option<(Ratio, Version)>
     ensures { option_map (λ declared. rules_with declared.0 declared.1) result ≡ first_rules (form_of line) }
 {
     let FeedLine::Declared { p, q, version } = line else {
         return None;
     };
-    let ratio = ratio_of(p, q)?;
-    let version = version_of(version)?;
-    Some((ratio, version))
+    declared(p, q, version)
 }
 
 /// The first line, which has to declare the ratio.
@@ -69,7 +45,7 @@ fn first_line(session: &mut Option<KeptSession>, line: FeedLine) -> Result<Fed, 
     ensures declared { OnOk result (IsSome session.new) }
     ensures taken { (lines : ℕ) → TakesIn (open_account lines None 0) (form_of line) session.new result }
 {
-    match declared(line) {
+    match declared_in(line) {
         Some((ratio, version)) => {
             *session = Some(KeptSession::new(ratio, version));
             Ok(Fed::Ratio(ratio, version))
@@ -108,8 +84,7 @@ fn read(session: &mut Option<KeptSession>, lines: u64, line: &[u8]) -> Result<Fe
 }
 
 /// Takes in the lines of a feed, one by one. It keeps the number of lines, the session as far as the next line needs
-/// it, and
-/// whether the feed goes on.
+/// it, and whether the feed goes on.
 #[derive(Drop)]
 pub struct Intake {
     lines: u64,

@@ -92,8 +92,7 @@ fn read(line: &[u8]) -> Result<FeedLine, BadLine>
 }
 
 /// Reads a line without its line feed. `BadLine` comes exactly where the bytes have none of the forms, with one space
-/// between
-/// fields, or are more than 128.
+/// between fields, or are more than 128.
 pub fn read_feed_line(line: &[u8]) -> Result<FeedLine, BadLine>
     ensures ok { IfOk result (λ read. model.feed_line line.now ≡ Some (form_of read)) }
     ensures err { OnErr result (model.feed_line line.now ≡ None) }

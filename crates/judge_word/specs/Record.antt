@@ -17,8 +17,7 @@ abbrev pub MayRead : List ℕ → List ℕ → Type 0
 MayRead got put = (put ≡ []) × (is_wrong (verdict got) ≡ false)
 
 -- The bytes are the trace of a valid session. Its run completes a value that no schedule of its jobs beats by more than
--- the ratio allows, and
--- which the run's own schedule is worth.
+-- the ratio allows, and which the run's own schedule is worth.
 abbrev pub IsTrace : List ℕ → Type 0
 IsTrace bytes = (S : Session) × (verdict bytes ≡ model.Accepted S)
     × IsEarned S S.rules.ratio (completed_value (instance_of S))

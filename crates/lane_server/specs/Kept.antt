@@ -98,8 +98,7 @@ SaysShort (Refused line cause) = cause ≡ Short
 SaysShort _ = ⊥
 
 -- The next line is the first of those left, can be written, and names the fault for which it refuses a feed that isn't
--- short. There is none
--- exactly where none is left.
+-- short. There is none exactly where none is left.
 abbrev pub GivesNext : Option (ℕ × LaneOut) → Kept → List (List ℕ) → List (List ℕ) → Type 0
 GivesNext None kept ls rest = (rest ≡ []) × StandsFor kept ls []
 GivesNext (Some given) kept ls rest =

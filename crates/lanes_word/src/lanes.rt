@@ -45,9 +45,8 @@ fn refuse_short<P: Port>(port: &mut P, session: &Session) -> Status
 }
 
 /// Serves up to 64 feeds that come in one input: reads it to its `close` line, its first fault as a whole or its end,
-/// and writes each line
-/// that is due for a lane, with the lane's number in front, before the next read. Memory is taken at the start and at
-/// lines of lanes alone.
+/// and writes each line that is due for a lane, with the lane's number in front, before the next read. Memory is taken
+/// at the start and at lines of lanes alone.
 pub fn lanes_word<P: Port, L: Ledger>(alloc: Global, port: &mut P, steps: &mut Steps<L>) -> Status
     ensures serves { Since (P.moves port.old) (P.moves port.new) (Serves result) }
     ensures answer { IsAnswer result }

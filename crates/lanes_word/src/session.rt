@@ -101,7 +101,8 @@ fn take_line<P: Port, L: Ledger>(
 ) -> Result<Progress, Stop>
     requires { (ls : List (List ℕ)) × Keeps lanes.old ls }
     ensures delivers { (ls : List (List ℕ)) → Keeps lanes.old ls →
-        Delivers result (P.moves port.old) (P.moves port.new) out.old out.new (input_of_lines ls) (input_of_lines (ls ++ line.now ∷ [])) }
+        Delivers result (P.moves port.old) (P.moves port.new) out.old out.new (input_of_lines ls)
+        (input_of_lines (ls ++ line.now ∷ [])) }
     ensures keeps { (ls : List (List ℕ)) → Keeps lanes.old ls → result ≡ Ok Open
         → Keeps lanes.new (ls ++ line.now ∷ []) }
     ensures cause { StopCause result (P.write_faults port.old) (P.write_faults port.new) (P.read_faults port.old)

@@ -39,8 +39,7 @@ pub fn fault_line(fault: FeedFault) -> LineBuf
 }
 
 /// Puts the line that refuses a feed, or keeps it back in `out`. An `Err`: a write failed, and a front of what was kept
-/// back and of the line was
-/// put, but not all of it.
+/// back and of the line was put, but not all of it.
 pub fn put_fault<P: Port>(port: &mut P, out: &mut Output, fault: FeedFault) -> Result<(), Failed>
     ensures text { PutsThrough (P.moves port.old) (P.moves port.new) result out.old out.new
         (due.fault_text fault.line (cause_of_fault fault.cause) ++ 10 ∷ []) }

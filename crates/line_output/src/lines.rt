@@ -8,8 +8,7 @@ use dover_port::{Failed, Output, Port};
 use line_text::LineBuf;
 
 /// Puts a line with its line feed, or keeps it back in `out`. The line has at most 128 bytes. An `Err`: a write failed,
-/// and a front of what
-/// was kept back and of the line was put, but not all of it.
+/// and a front of what was kept back and of the line was put, but not all of it.
 pub fn put_line<P: Port>(port: &mut P, out: &mut Output, mut line: LineBuf) -> Result<(), Failed>
     requires { length line < 129 }
     ensures text { PutsThrough (P.moves port.old) (P.moves port.new) result out.old out.new (line ++ 10 ∷ []) }

@@ -12,8 +12,7 @@ const MOST_JOBS: u64 = 1_000_000;
 const MOST_TOTAL: u64 = 10_000_000_000_000;
 
 /// Whether the jobs that the tasks release before a tick are at most 1,000,000, and worth at most 10^13. It takes a
-/// step for each task, and none
-/// for a job.
+/// step for each task, and none for a job.
 pub fn fits(tasks: &[PeriodicTask], until: u64) -> bool
     requires { AllByRecursion (IsTask until) tasks.now }
     ensures { IsTrue result ↔ Fits until tasks.now }

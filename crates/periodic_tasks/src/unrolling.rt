@@ -17,8 +17,7 @@ use std::sync::ledger::Ledger;
 use step_count::Steps;
 
 /// Gives the jobs that tasks release before a tick, one by one in order of release, and those of one tick in the order
-/// of the tasks. It keeps the
-/// next release of each task, and takes memory when it is made alone.
+/// of the tasks. It keeps the next release of each task, and takes memory when it is made alone.
 #[derive(Drop)]
 pub struct Unrolling {
     tasks: Vec<PeriodicTask>,

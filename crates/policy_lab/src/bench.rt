@@ -106,7 +106,8 @@ impl Bench {
         requires run { HasRun (P.picks policy.now) jobs.now tick self.old.released self.old.value self.old.ready.items
             self.old.pieces.items }
         ensures { OnOk result
-            (HasRun (P.picks policy.now) jobs.now (tick + 1) self.new.released self.new.value self.new.ready.items self.new.pieces.items) }
+            (HasRun (P.picks policy.now) jobs.now (tick + 1) self.new.released self.new.value self.new.ready.items
+            self.new.pieces.items) }
     {
         self.released = release(jobs, self.released, tick, &mut self.ready)?;
         let Some(number) = policy.pick(&self.ready) else {

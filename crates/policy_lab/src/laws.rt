@@ -8,8 +8,7 @@ ghost use Rattle.policy_lab.specs.Picks.{Picks};
 ghost use Rattle.policy_lab.specs.PolicyRun.{policy_run};
 
 /// Where two lists of jobs have the same jobs of release at most `t`, the two schedules of a policy are the same in the
-/// ticks up to `t`.
-/// Behind its last tick a schedule idles.
+/// ticks up to `t`. Behind its last tick a schedule idles.
 pub fn policies_are_on_line()
     ensures { (picks : Picks) (t : ℕ) (jobs others : List JobFacts) → picks [] ≡ None → IsInOrder jobs
         → IsInOrder others →

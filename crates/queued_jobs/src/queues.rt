@@ -186,7 +186,8 @@ impl Queues {
         ensures number { result ≡ length self.old.state.tasks }
         ensures in_it { self.new ≡ record {
           rules = self.old.rules;
-          state = with_later self.old.state (record { number = length self.old.state.tasks; job = job; role = Coming; had = 0 } ∷ []);
+          state = with_later self.old.state
+              (record { number = length self.old.state.tasks; job = job; role = Coming; had = 0 } ∷ []);
           spare = self.old.spare - 1;
         } }
     {

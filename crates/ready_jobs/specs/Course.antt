@@ -21,8 +21,7 @@ use Rattle.ready_jobs.specs.Reordered.{IsReordered}
 use Rattle.ready_jobs.specs.Parts.{Parted, ready_of}
 
 -- what is kept of a run: the clock, the jobs that aren't over, in no told order, how many there are in all, what those
--- done are worth, and how
--- many ready jobs there is room for
+-- done are worth, and how many ready jobs there is room for
 pub record Course : Type 0 where
   pub rules : Rules
   pub clock : ℕ

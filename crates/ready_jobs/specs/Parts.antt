@@ -22,8 +22,7 @@ abbrev pub AreModest : List Task → Type 0
 AreModest tasks = Each (λ t. t.job.value ≤ most_value) tasks
 
 -- the version that breaks ties, the clock, the running and the fresh job, the held jobs, the one due first before the
--- others, those that wait,
--- and how many ready jobs there is room for
+-- others, those that wait, and how many ready jobs there is room for
 pub record Parted : Type 0 where
   pub version : Version
   pub clock : ℕ

@@ -41,8 +41,7 @@ pub record Behind (x : List ℕ) (T : List ℕ → List ℕ → Type 0) : Type 0
   pub each : (F H : List ℕ) → MayPause F → x ≡ snapshot F ++ H → T F H
 
 -- Before a read: the snapshot is still to be read on, and nothing was put; or of its feed and what follows what is due
--- was put beyond what
--- was due for the feed alone, and the feed goes on.
+-- was put beyond what was due for the feed alone, and the feed goes on.
 abbrev pub MayRead : List ℕ → List ℕ → Type 0
 MayRead got put = (IsPart got × (put ≡ [])) ⊎ Behind got (λ F H. MayReadFrom F H put)
 
@@ -124,8 +123,7 @@ pub record Resumes (at_end : AtEnd) (status : Status) (moves : List Move) : Type
   pub ends : Ends at_end status moves
 
 -- The comparisons of a call are few for n jobs: before the snapshot is whole, for those of its lines that were read, or
--- of
--- a front of them; behind it, for those that were admitted in the feed and what follows.
+-- of a front of them; behind it, for those that were admitted in the feed and what follows.
 abbrev pub IsFrugal : (before after : ℕ) → List Move → Type 0
 IsFrugal before after moves =
     ((front : List ℕ) × Begins front (ins moves) × AreFew (jobs_read (reading_of (lines_of front))) before after)

@@ -25,8 +25,7 @@ use step_count::Steps;
 const READ_BYTES: usize = 65_536;
 
 /// More reads than a snapshot has bytes whose last line is still to come: its 1,000,001 lines have at most 129 bytes
-/// each, and the line that
-/// has begun at most 128.
+/// each, and the line that has begun at most 128.
 const MOST_READS: u64 = 129_000_258;
 
 /// Refuses a snapshot at this line.
@@ -77,10 +76,9 @@ fn serve_rest<P: Port, L: Ledger>(
 }
 
 /// Reads a snapshot and what follows it, and writes what `serve` writes for the whole feed beyond what was due where
-/// the feed was paused.
-/// Nothing is put before the snapshot is whole. `Refused` at its first line that no snapshot has there, with the number
-/// of that line, and then
-/// as for a feed that is served from its start, with its lines counted from there.
+/// the feed was paused. Nothing is put before the snapshot is whole. `Refused` at its first line that no snapshot has
+/// there, with the number of that line, and then as for a feed that is served from its start, with its lines counted
+/// from there.
 pub fn resume_word<P: Port, L: Ledger>(
     alloc: Global,
     port: &mut P,

@@ -71,7 +71,8 @@ fn take_byte<P: Port, L: Ledger>(
 ) -> Result<Progress, Stop>
     requires { (x : List ℕ) × FeedStands feed.old x }
     ensures delivers { (x : List ℕ) → FeedStands feed.old x →
-        Delivers result (P.moves port.old) (P.moves port.new) out.old out.new (account x) (account (x ++ byte ∷ [])) feed.new.session.server }
+        Delivers result (P.moves port.old) (P.moves port.new) out.old out.new (account x)
+        (account (x ++ byte ∷ [])) feed.new.session.server }
     ensures stands { (x : List ℕ) → FeedStands feed.old x → result ≡ Ok Open → FeedStands feed.new (x ++ byte ∷ []) }
     ensures jobs { (x : List ℕ) → FeedStands feed.old x
         → jobs_in feed.new.session.server ≤ admitted_in (account (x ++ byte ∷ [])) }
@@ -115,7 +116,8 @@ fn take_front<P: Port, L: Ledger>(
     requires whole { 1 < length bytes.now → IsWholeLine feed.old.lines bytes.now }
     requires stands { (x : List ℕ) × FeedStands feed.old x }
     ensures delivers { (x : List ℕ) → FeedStands feed.old x →
-        Delivers result (P.moves port.old) (P.moves port.new) out.old out.new (account x) (account (x ++ bytes.now)) feed.new.session.server }
+        Delivers result (P.moves port.old) (P.moves port.new) out.old out.new (account x)
+        (account (x ++ bytes.now)) feed.new.session.server }
     ensures stands { (x : List ℕ) → FeedStands feed.old x → result ≡ Ok Open → FeedStands feed.new (x ++ bytes.now) }
     ensures jobs { (x : List ℕ) → FeedStands feed.old x
         → jobs_in feed.new.session.server ≤ admitted_in (account (x ++ bytes.now)) }
@@ -141,7 +143,8 @@ pub(crate) fn take_piece<P: Port, L: Ledger>(
 ) -> Result<Progress, Stop>
     requires { (x : List ℕ) × FeedStands feed.old x }
     ensures delivers { (x : List ℕ) → FeedStands feed.old x →
-        Delivers result (P.moves port.old) (P.moves port.new) out.old out.new (account x) (account (x ++ bytes.now)) feed.new.session.server }
+        Delivers result (P.moves port.old) (P.moves port.new) out.old out.new (account x)
+        (account (x ++ bytes.now)) feed.new.session.server }
     ensures stands { (x : List ℕ) → FeedStands feed.old x → result ≡ Ok Open → FeedStands feed.new (x ++ bytes.now) }
     ensures jobs { (x : List ℕ) → FeedStands feed.old x
         → jobs_in feed.new.session.server ≤ admitted_in (account (x ++ bytes.now)) }

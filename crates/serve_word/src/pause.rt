@@ -47,7 +47,8 @@ fn put_states<P: Port>(port: &mut P, out: &mut Output, server: &Server) -> Resul
 
 /// Puts the last line.
 fn put_last<P: Port>(port: &mut P, out: &mut Output) -> Result<(), Failed>
-    ensures text { PutsThrough (P.moves port.old) (P.moves port.new) result out.old out.new (codes "resume" ++ 10 ∷ []) }
+    ensures text { PutsThrough (P.moves port.old) (P.moves port.new) result out.old out.new
+        (codes "resume" ++ 10 ∷ []) }
     ensures cause { HasCause (P.write_faults port.old) (P.write_faults port.new) (P.read_faults port.old)
         (P.read_faults port.new) result }
     ensures stops { StopsAtFailure (P.calls port.old) (P.calls port.new) result }

@@ -51,10 +51,9 @@ fn put_rest<P: Port, L: Ledger>(
 }
 
 /// Serves a feed on from where it was paused, with the server and the intake that its snapshot gave. Of the feed's
-/// further bytes, `rest` was
-/// read already; the others are read. Nothing is put that was due before the pause. `Done` where the feed ended without
-/// a fault, or was paused
-/// where its input ended; the other statuses as for a feed that is served from its start.
+/// further bytes, `rest` was read already; the others are read. Nothing is put that was due before the pause. `Done`
+/// where the feed ended without a fault, or was paused where its input ended; the other statuses as for a feed that is
+/// served from its start.
 pub fn serve_on<P: Port, L: Ledger>(
     alloc: Global,
     port: &mut P,

@@ -45,8 +45,7 @@ pub(crate) fn refuse_short<P: Port>(port: &mut P, feed: &Feed) -> Status
 }
 
 /// Serves a feed: reads it to its `end` line, its first faulty line or the end of the input, and writes each line of
-/// its trace that is
-/// settled before the next read. Memory is taken at the ratio line and for each admitted job alone.
+/// its trace that is settled before the next read. Memory is taken at the ratio line and for each admitted job alone.
 pub fn serve_word<P: Port, L: Ledger>(alloc: Global, port: &mut P, steps: &mut Steps<L>) -> Status
     ensures serves { Since (P.moves port.old) (P.moves port.new) (Serves result) }
     ensures count { Since (P.moves port.old) (P.moves port.new) (IsFrugal steps.old steps.new) }

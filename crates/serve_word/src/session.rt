@@ -268,8 +268,8 @@ pub(crate) fn take_line<P: Port, L: Ledger>(
 ) -> Result<Progress, Stop>
     requires { (ls : List (List ℕ)) × Keeps session.old ls }
     ensures delivers { (ls : List (List ℕ)) → Keeps session.old ls →
-        Delivers result (P.moves port.old) (P.moves port.new) out.old out.new (account_of_lines ls) (account_of_lines (ls ++ line.now ∷ []))
-        session.new.server }
+        Delivers result (P.moves port.old) (P.moves port.new) out.old out.new (account_of_lines ls)
+        (account_of_lines (ls ++ line.now ∷ [])) session.new.server }
     ensures keeps { (ls : List (List ℕ)) → Keeps session.old ls → result ≡ Ok Open
         → Keeps session.new (ls ++ line.now ∷ []) }
     ensures jobs { (ls : List (List ℕ)) → Keeps session.old ls →

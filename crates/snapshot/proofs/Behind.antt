@@ -1,52 +1,20 @@
 -- Lines of snapshots and feeds have no line feed, and a text behind whole lines is cut on its own.
 use Rattle.std.proofs.Common.{◌≡◌, ℕ, ◌≤◌, List, [], ◌∷◌, ◌++◌, append_assoc, append-nil, map, refl, sym, ap, ◌∙◌, true}
 use Rattle.std.proofs.Common.{not, cond, ◌&&◌, arith, decimal, codes, Some, None, inl, inr}
-use Rattle.std.specs.List.{AllByRecursion, list_all, fold}
-use Rattle.std.specs.Str.{all_ascii_digits}
-use Rattle.std.specs.Char.{is_ascii_digit}
-use Rattle.std.proofs.lemmas.Bool.{ne_eqb, leb-true, and_parts, and_from}
-use Rattle.std.proofs.lemmas.Fmt.{digits_decimal}
-use Rattle.std.proofs.lemmas.List.Folds.{list_all-append}
+use Rattle.std.specs.List.{AllByRecursion, fold}
 use Rattle.std.proofs.lemmas.List.Sums.{fold-append}
 use Rattle.dover_model.specs.declared.events.Role.{Role}
 use Rattle.dover_model.specs.declared.events.Role.TheVariants.{Coming, Fresh, Waiting, Held, Running, Done, Gone}
 use Rattle.dover_model.specs.declared.events.Task.{Task}
 use Rattle.dover_model.specs.JobFacts.{job_numbers}
-use Rattle.dover_model.specs.Numerals.{AreShort}
 use Rattle.dover_model.specs.Lines.{line_of, with_numbers, in_lines, lines_of, whole_lines, rest_of, cut, is_too_long}
-use Rattle.dover_model.specs.FeedLine.{FeedLine, RatioLine, JobLine, TickLine, EndLine, HasNumerals, feed_text}
+use Rattle.dover_model.specs.FeedLine.{FeedLine, RatioLine, JobLine, TickLine, EndLine, feed_text}
 use Rattle.dover_model.specs.Feed.{next_line, no_lines, account}
-use Rattle.dover_model.specs.Sound.{Each}
-use Rattle.dover_model.proofs.Numerals.{own}
-use Rattle.dover_model.proofs.Cuts.{CutText, is_feed, HasNoFeed, onto, cut_append, cut_in_lines}
-use Rattle.snapshot.specs.Snapshot.{Head, IsHead, head_line, head_numbers, role_word, state_line, IsState}
+use Rattle.dover_model.proofs.NoFeeds.{feedless_line, feedless_decimal, feedless_decimals, feedless_numbers}
+use Rattle.dover_model.proofs.Cuts.{CutText, HasNoFeed, onto, cut_append, cut_in_lines}
+use Rattle.snapshot.specs.Snapshot.{Head, head_line, head_numbers, role_word, state_line}
 
 -- ---- lines with no line feed
-
-feedless_append : (a b : List ℕ) → HasNoFeed a → HasNoFeed b → HasNoFeed (a ++ b)
-feedless_append a b one other = list_all-append (λ c. not (is_feed c)) a b ∙ and_from _ _ one other
-
-feedless_line : (field : List ℕ) (fields : List (List ℕ)) → HasNoFeed field → AllByRecursion HasNoFeed fields
-    → HasNoFeed (line_of (field ∷ fields))
-feedless_line field [] none all = none
-feedless_line field (next ∷ fields) none all =
-    feedless_append field (32 ∷ line_of (next ∷ fields)) none (feedless_line next fields all.0 all.1)
-
-feedless_digits : (ds : List ℕ) → all_ascii_digits ds ≡ true → HasNoFeed ds
-feedless_digits [] digits = refl
-feedless_digits (d ∷ ds) digits =
-    let both = and_parts (is_ascii_digit d) (all_ascii_digits ds) digits in
-    let least : 48 ≤ d = leb-true 48 d (and_parts _ _ both.0).0 in
-    ap (λ b. not b && list_all (λ c. not (is_feed c)) ds) (ne_eqb d 10 (λ same. absurd (omega arith)))
-    ∙ feedless_digits ds both.1
-
-feedless_numerals : (ns : List ℕ) → AreShort ns → AllByRecursion HasNoFeed (map decimal ns)
-feedless_numerals [] short = tt
-feedless_numerals (n ∷ ns) short =
-    (feedless_digits (decimal n) (digits_decimal own n (omega (arith, short.0))), feedless_numerals ns short.1)
-
-feedless_numbers : (word ns : List ℕ) → HasNoFeed word → AreShort ns → HasNoFeed (with_numbers word ns)
-feedless_numbers word ns none short = feedless_line word (map decimal ns) none (feedless_numerals ns short)
 
 feedless_role : (role : Role) → HasNoFeed (role_word role)
 feedless_role Coming = refl
@@ -58,29 +26,28 @@ feedless_role Done = refl
 feedless_role Gone = refl
 
 -- the first line of a snapshot
-pub feedless_head : (h : Head) → IsHead h → HasNoFeed (head_line h)
-feedless_head h it = feedless_numbers (codes "snapshot") (head_numbers h) refl it.short
+pub feedless_head : (h : Head) → HasNoFeed (head_line h)
+feedless_head h = feedless_numbers (codes "snapshot") (head_numbers h) refl
 
 -- the line of a job
-feedless_state : (t : Task) → IsState t → HasNoFeed (state_line t)
-feedless_state t it =
-    let numbers = feedless_numerals (t.number ∷ t.had ∷ job_numbers t.job) it.short in
+feedless_state : (t : Task) → HasNoFeed (state_line t)
+feedless_state t =
+    let numbers = feedless_decimals (t.number ∷ t.had ∷ job_numbers t.job) in
     feedless_line (codes "state") (decimal t.number ∷ role_word t.role ∷ map decimal (t.had ∷ job_numbers t.job)) refl
     (numbers.0, (feedless_role t.role, numbers.1))
 
 -- the lines of jobs, and the last line
-pub feedless_states : (tasks : List Task) → Each IsState tasks
-    → AllByRecursion HasNoFeed (map state_line tasks ++ codes "resume" ∷ [])
-feedless_states [] all = (refl, tt)
-feedless_states (t ∷ tasks) all = (feedless_state t (all t (inl refl)), feedless_states tasks (λ u m. all u (inr m)))
+pub feedless_states : (tasks : List Task) → AllByRecursion HasNoFeed (map state_line tasks ++ codes "resume" ∷ [])
+feedless_states [] = (refl, tt)
+feedless_states (t ∷ tasks) = (feedless_state t, feedless_states tasks)
 
 -- a line of a feed
-pub feedless_feed : (line : FeedLine) → HasNumerals line → HasNoFeed (feed_text line)
-feedless_feed (RatioLine p q None) short = feedless_numbers (codes "k") (p ∷ q ∷ []) refl short
-feedless_feed (RatioLine p q (Some version)) short = feedless_numbers (codes "k") (p ∷ q ∷ version ∷ []) refl short
-feedless_feed (JobLine j) short = feedless_numbers (codes "job") (job_numbers j) refl short
-feedless_feed (TickLine t) short = feedless_numbers (codes "tick") (t ∷ []) refl short
-feedless_feed EndLine short = refl
+pub feedless_feed : (line : FeedLine) → HasNoFeed (feed_text line)
+feedless_feed (RatioLine p q None) = feedless_numbers (codes "k") (p ∷ q ∷ []) refl
+feedless_feed (RatioLine p q (Some version)) = feedless_numbers (codes "k") (p ∷ q ∷ version ∷ []) refl
+feedless_feed (JobLine j) = feedless_numbers (codes "job") (job_numbers j) refl
+feedless_feed (TickLine t) = feedless_numbers (codes "tick") (t ∷ []) refl
+feedless_feed EndLine = refl
 
 -- ---- lines that were joined
 

@@ -67,10 +67,7 @@ module _ (F : List ℕ) (may : MayPause F) where
     head_is = is_head S (account F).mark (account F).lines holds few reached
 
     pub lines_feedless : AllByRecursion HasNoFeed (snapshot_lines (account F) S)
-    lines_feedless = (
-      feedless_head (head_of_feed (account F) S) head_is,
-      feedless_states tasks (λ t m. is_state S (account F).mark (account F).lines holds few reached t m),
-    )
+    lines_feedless = (feedless_head (head_of_feed (account F) S), feedless_states tasks)
 
     pub snapshot_is : snapshot F ≡ in_lines (snapshot_lines (account F) S)
     snapshot_is = ap (λ o. elim o [ None ↦ [] | Some T ↦ in_lines (snapshot_lines (account F) T) ]) there

@@ -41,7 +41,7 @@ use Rattle.snapshot.proofs.Beginning.{Within, within, all_account}
 use Rattle.snapshot.proofs.Behind.{feedless_feed, rest_joined, lines_joined}
 use Rattle.snapshot.proofs.Comparing.{same_tasks, alike_all}
 use Rattle.snapshot.proofs.Feeds.{both_there, same_alike}
-use Rattle.snapshot.proofs.Handing.{ratio_numerals, ratio_account, job_numerals, job_account}
+use Rattle.snapshot.proofs.Handing.{ratio_account, job_account}
 
 -- what holds of all of two lists
 all_both : {X : Type 0} (P : X → Type 0) (xs ys : List X) → AllByRecursion P xs → AllByRecursion P ys
@@ -61,10 +61,9 @@ last_low most from [] all low = low
 last_low most from (t ∷ tasks) all low = last_low most t.job.release tasks all.1 all.0
 
 -- the lines of jobs have no line feed
-feedless_jobs : (tasks : List Task) → AllByRecursion IsJob (jobs_of tasks)
-    → AllByRecursion HasNoFeed (map (λ (t : Task). feed_text (JobLine t.job)) tasks)
-feedless_jobs [] all = tt
-feedless_jobs (t ∷ tasks) all = (feedless_feed (JobLine t.job) (job_numerals t.job all.0), feedless_jobs tasks all.1)
+feedless_jobs : (tasks : List Task) → AllByRecursion HasNoFeed (map (λ (t : Task). feed_text (JobLine t.job)) tasks)
+feedless_jobs [] = tt
+feedless_jobs (t ∷ tasks) = (feedless_feed (JobLine t.job), feedless_jobs tasks)
 
 -- a settled run leads to the state behind its steps
 settled_path : (rules : Rules) (mark : ℕ) (xs : List Step) (s : State) → IsSettledRun rules mark s xs
@@ -128,11 +127,9 @@ module _ (h : Head) (tasks : List Task) (ls : List (List ℕ)) (it : IsWhole h t
   -- its lines have no line feed
   feedless : AllByRecursion HasNoFeed (feed_lines h tasks)
   feedless = all_both HasNoFeed (job_lines h tasks) (tick_lines h) (
-    feedless_feed (RatioLine h.rules.ratio.p h.rules.ratio.q _)
-        (ratio_numerals h.rules.ratio.p h.rules.ratio.q it.read.valid.ratio h.rules.version),
-    feedless_jobs tasks it.read.valid.each,
-  ) (all_copies HasNoFeed (h.lines - (h.jobs + 1)) (feed_text (TickLine h.mark))
-      (feedless_feed (TickLine h.mark) (let low : h.mark ≤ 1_000_000_000_000 = limits.mark in omega arith, tt)))
+    feedless_feed (RatioLine h.rules.ratio.p h.rules.ratio.q _),
+    feedless_jobs tasks,
+  ) (all_copies HasNoFeed (h.lines - (h.jobs + 1)) (feed_text (TickLine h.mark)) (feedless_feed (TickLine h.mark)))
 
   -- its text
   abbrev shortest : List ℕ

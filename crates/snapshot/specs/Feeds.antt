@@ -17,8 +17,7 @@ pub record IsSnapshot (ls : List (List ℕ)) : Type 0 where
   pub text : snapshot feed ≡ in_lines ls
 
 -- With these bytes behind them, the same is due for both feeds beyond what was, also where the input ends there; both
--- stand alike, and
--- where the one may pause again, so may the other, with the same snapshot.
+-- stand alike, and where the one may pause again, so may the other, with the same snapshot.
 pub record GoOnEqually (F G H : List ℕ) : Type 0 where
   pub more : List ℕ
   pub first : due (F ++ H) ≡ due F ++ more
@@ -43,8 +42,7 @@ pub record ResumesFeed (v : Service) (i : feed.Kept) (F : List ℕ) : Type 0 whe
   pub goes_on : v.ended ≡ false
 
 -- What is given for a whole snapshot: its lines are those of some feed's, and for each feed with this snapshot the
--- server and the intake
--- go on from where it paused.
+-- server and the intake go on from where it paused.
 pub record Gives (v : Service) (i : feed.Kept) (ls : List (List ℕ)) : Type 0 where
   pub is : IsSnapshot ls
   pub each : (F : List ℕ) → MayPause F → snapshot F ≡ in_lines ls → ResumesFeed v i F

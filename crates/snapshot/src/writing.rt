@@ -13,8 +13,7 @@ use dover_model::{Ratio, Role, Version};
 use line_text::LineBuf;
 
 /// Writes the first line, without its line feed, for a feed of so many lines (at most 4,000,000), at this mark (a tick)
-/// and with the jobs that are
-/// admitted. The buffer is empty before, and has at most 128 bytes after.
+/// and with the jobs that are admitted. The buffer is empty before, and has at most 128 bytes after.
 pub fn head(lines: u64, mark: u64, version: Version, k: Ratio, server: &Server, to: &mut LineBuf)
     requires lines { lines ≤ most_lines }
     requires mark { mark ≤ last_tick }
@@ -69,8 +68,7 @@ fn put_short(to: &mut LineBuf, number: u64)
 }
 
 /// Writes the line of the job of this number, which is below the count of admitted jobs, without its line feed. The
-/// buffer is empty before, and has at
-/// most 128 bytes after.
+/// buffer is empty before, and has at most 128 bytes after.
 pub fn state(server: &Server, number: u32, to: &mut LineBuf)
     requires stands { Stands server.now }
     requires there { number < length server.now.state.tasks }

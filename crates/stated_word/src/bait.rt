@@ -83,10 +83,9 @@ fn refuse_size<P: Port>(port: &mut P) -> Status
 }
 
 /// Serves the baiting feed of so many rounds, at least one, and writes how many jobs it has, the value that its run
-/// completes, which is that of
-/// the chain's last job alone, the value of the schedule that runs the unit jobs and the bait, and the bound on the
-/// value of every schedule.
-/// Nothing is read. A feed of more than 1,000,000 jobs, or with a value above 10^9, is refused.
+/// completes, which is that of the chain's last job alone, the value of the schedule that runs the unit jobs and the
+/// bait, and the bound on the value of every schedule. Nothing is read. A feed of more than 1,000,000 jobs, or with a
+/// value above 10^9, is refused.
 pub fn bait_word<P: Port, L: Ledger>(
     alloc: Global,
     port: &mut P,

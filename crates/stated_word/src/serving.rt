@@ -49,8 +49,7 @@ fn finish<L: Ledger>(server: &mut Server, tally: &mut Tally, steps: &mut Steps<L
 }
 
 /// Serves the jobs, of which there are so many, and counts the printed steps of their run. Memory is taken for all jobs
-/// before the first is
-/// served, and nowhere else.
+/// before the first is served, and nowhere else.
 pub(crate) fn serve_all<S: Stated, L: Ledger>(
     alloc: Global,
     k: Ratio,

@@ -19,9 +19,8 @@ use std::sync::ledger::Ledger;
 use step_count::Steps;
 
 /// Serves the stated jobs of a seed, and writes the summary of their run: the jobs, those that were completed and
-/// abandoned with their
-/// values, the takes, and the bound on the value of every schedule. Nothing is read. The seed is below 2^31, the count
-/// at most 1,000,000.
+/// abandoned with their values, the takes, and the bound on the value of every schedule. Nothing is read. The seed is
+/// below 2^31, the count at most 1,000,000.
 pub fn trial_word<P: Port, L: Ledger>(
     alloc: Global,
     port: &mut P,

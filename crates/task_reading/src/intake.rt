@@ -1,12 +1,9 @@
 //! What is kept of a task text between its lines.
-ghost use Rattle.std.specs.Prelude.{◌≡◌, ℕ, List, ◌∷◌, ◌++◌, [], Option, Some, option_map};
-ghost use Rattle.std.specs.Bool.{then_some};
-ghost use Rattle.dover_model.specs.Fraction.{is_ratio};
+ghost use Rattle.std.specs.Prelude.{◌≡◌, ℕ, List, ◌∷◌, ◌++◌, [], Option, Some};
 ghost use Rattle.dover_model.specs.Instance.{Rules};
 ghost use Rattle.dover_model.specs.Feed as feed;
-ghost use Rattle.dover_model.specs.Feed.{declared_rules, declared_version, rules_with};
 ghost use Rattle.periodic_tasks.specs.declared.task.PeriodicTask.{PeriodicTask};
-ghost use Rattle.task_reading.specs.Account.{TaskAccount, account_of_lines, cause_of, fraction, with_line};
+ghost use Rattle.task_reading.specs.Account.{TaskAccount, account_of_lines, cause_of, with_line};
 ghost use Rattle.task_reading.specs.Keeping.{IsKnown, Keeps, KeepsAccount, KeepsDeclared, KeepsRules, StandsAt, Takes};
 ghost use Rattle.task_reading.specs.Lines.{HasNumerals};
 ghost use Rattle.task_reading.specs.declared.lines.TaskLine.{TaskLine};
@@ -17,7 +14,7 @@ use crate::line_reading::read_task_line;
 use crate::lines::TaskLine;
 use admission::Admission;
 use dover_model::{Ratio, Version};
-use event_feed::Cause;
+use event_feed::{Cause, declared};
 use periodic_tasks::PeriodicTask;
 use std::alloc::Global;
 
@@ -35,36 +32,6 @@ pub(crate) enum Progress {
     Refused(Cause),
     /// There was no memory for a task.
     NoMemory,
-}
-
-/// The ratio of these numbers, if they are within its limits.
-fn ratio_of(p: u64, q: u64) -> Option<Ratio>
-    ensures { result ≡ then_some (is_ratio (fraction p q)) (fraction p q) }
-{
-    match (u32::try_from(p), u32::try_from(q)) {
-        (Ok(p), Ok(q)) => Ratio::new(p, q),
-        _ => None,
-    }
-}
-
-/// The version of this number: none stands for One.
-fn version_of(number: Option<u64>) -> Option<Version>
-    ensures { result ≡ declared_version number }
-{
-    match number {
-        None => Some(Version::One),
-        Some(2) => Some(Version::Two),
-        Some(_) => None,
-    }
-}
-
-/// The ratio and the version that these numbers declare.
-fn declared(p: u64, q: u64, version: Option<u64>) -> Option<(Ratio, Version)>
-    ensures { option_map (λ declared. rules_with declared.0 declared.1) result ≡ declared_rules (fraction p q) version }
-{
-    let ratio = ratio_of(p, q)?;
-    let version = version_of(version)?;
-    Some((ratio, version))
 }
 
 /// The ratio and the version, and of the tasks so far what the next one needs.
@@ -139,7 +106,8 @@ impl TaskIntake {
     /// The line of a ratio, which is counted.
     fn declare(&mut self, p: u64, q: u64, version: Option<u64>) -> Progress
         ensures stands { (until : ℕ) (a : TaskAccount) → a.standing ≡ feed.Open → KeepsAccount until self.old a →
-            StandsAt until result self.new (with_line a (line.Declared p q version) (cause_of until a (line.Declared p q version))) }
+            StandsAt until result self.new
+            (with_line a (line.Declared p q version) (cause_of until a (line.Declared p q version))) }
         ensures lines { self.new.lines ≡ self.old.lines }
     {
         if self.declared.is_some() {

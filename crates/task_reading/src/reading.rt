@@ -68,8 +68,7 @@ fn listed(intake: TaskIntake) -> Reading
 }
 
 /// Reads a task text to its `end` line, its first faulty line or the end of the input, writes nothing, and lists its
-/// tasks, which release jobs
-/// before the tick `until`. Memory is taken for each task alone.
+/// tasks, which release jobs before the tick `until`. Memory is taken for each task alone.
 pub fn read_tasks<P: Port>(alloc: Global, port: &mut P, until: u64) -> Reading
     requires { IsKnown until }
     ensures reads { Since (P.moves port.old) (P.moves port.new) (Reads until result) }

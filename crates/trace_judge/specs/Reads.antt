@@ -22,8 +22,7 @@ use Rattle.trace_judge.specs.declared.verdict.Expected.TheVariants.{Header, Step
 use Rattle.trace_judge.specs.Course.{Course, Follows, new_course}
 
 -- what is kept of the lines: how far the trace has come, the run and the jobs admitted, how many items there are, the
--- floor,
--- the steps where they are asked for, and for how many jobs more there is room, and for how many steps in all
+-- floor, the steps where they are asked for, and for how many jobs more there is room, and for how many steps in all
 pub record Reading : Type 0 where
   pub stage : Stage
   pub course : Course

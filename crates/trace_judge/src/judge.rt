@@ -26,8 +26,7 @@ enum Found {
 }
 
 /// Judges a text that comes in pieces, as a trace. It keeps one line of it, the jobs that aren't over, and the steps of
-/// the run where they are
-/// asked for.
+/// the run where they are asked for.
 #[derive(Drop)]
 pub struct Judge {
     lines: Lines,

@@ -169,7 +169,8 @@ impl Reader {
     pub fn accepted(&self) -> Verdict
         ensures { (ls : List (List ℕ)) (S : Session) → Ends self.now ls S
             → result ≡ Accepted S.rules.ratio S.rules.version
-            (completed_value (instance_of S)) (bound S.rules.ratio (completed_value (instance_of S))) (length (admitted_jobs S.items)) }
+            (completed_value (instance_of S)) (bound S.rules.ratio (completed_value (instance_of S)))
+            (length (admitted_jobs S.items)) }
     {
         let (ratio, value) = (self.course.ratio(), self.course.value());
         Verdict::Accepted {

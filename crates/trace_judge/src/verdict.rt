@@ -16,8 +16,7 @@ pub enum Expected {
 #[derive(Clone, Copy, Debug, PartialEq, Eq)]
 pub enum Verdict {
     /// It is the trace of a valid session of so many jobs, under this ratio and version. The run completes jobs of this
-    /// value, and no schedule
-    /// of its jobs is worth more than the bound.
+    /// value, and no schedule of its jobs is worth more than the bound.
     Accepted {
         ratio: Ratio,
         version: Version,

@@ -293,7 +293,8 @@ module _ (J : Instance) (valid : IsValid J) (rules : Rules) where
       let same : open_step rules (ready_part s) ≡ open_step rules s = step_ready rules s in
       let silent : IsSilent (open_step rules s) = sym (ap event_of same) ∙ settles.2 in
       let rest = part_settles mark xs (after s (open_step rules s)) r (open_kept J valid s keeps rules)
-      (subst (λ u. Settles rules mark u xs r) (ap (after (ready_part s)) same ∙ part_after s keeps silent) settles.3) in (
+      (subst (λ u. Settles rules mark u xs r) (ap (after (ready_part s)) same ∙ part_after s keeps silent)
+      settles.3) in (
         open_at rules s ∷ rest.0,
         rest.1,
         (refl, subst (λ m. (is_late m && nat_le mark s.clock) ≡ false) same settles.1, silent, rest.2),

@@ -14,8 +14,7 @@ use Rattle.unroll_word.specs.Feeds.{IsFeedOf}
 use Rattle.unroll_word.specs.Texts.{refusal_text, size_text}
 
 -- what is said of tasks: Done with the feed of all jobs that they release before a tick, and Refused exactly where
--- these are too many for a feed, or
--- worth too much
+-- these are too many for a feed, or worth too much
 abbrev pub Says : (until : ℕ) → Rules → List PeriodicTask → Status → List ℕ → Type 0
 Says until rules tasks Done text = Fits until tasks × IsFeedOf (unrolled until rules tasks) text
 Says until rules tasks Refused text = (Fits until tasks → ⊥) × (text ≡ size_text)

@@ -54,7 +54,8 @@ returns-clause-answers g c = λ ls it.
     can_pause h tasks ls it.2 c.args.self.now it.3 c.args.line.now c.requires.all c.settle.new.server
     c.settle.ensures.taken c.settle.ensures.barrier c.settle.ensures.list c.as_slice-2.result.now
     c.as_slice-2.ensures.value at reached in
-    let last = last_same c.args.line.now c.as_slice.result.now c.as_slice.ensures (sym c.ne.ensures ∙ c.if-ne.false) in (
+    let last = last_same c.args.line.now c.as_slice.result.now c.as_slice.ensures
+    (sym c.ne.ensures ∙ c.if-ne.false) in (
       h,
       tasks,
       is_whole h tasks ls it.2 c.args.self.now it.3 c.args.line.now c.requires.all c.settle.new.server
