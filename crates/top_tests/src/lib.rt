@@ -2,6 +2,16 @@
 #![tactic(auto)]
 
 #[cfg(test)]
+mod calls;
+#[cfg(test)]
+mod drawn_feeds;
+#[cfg(test)]
+mod joined_feeds;
+#[cfg(test)]
+mod paused_feeds;
+#[cfg(test)]
+mod unrolled_tasks;
+#[cfg(test)]
 mod whole_words;
 #[cfg(test)]
 mod wrong_texts;

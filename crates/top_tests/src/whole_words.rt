@@ -1,14 +1,8 @@
 //! `dover` over ports in memory: worked feeds and texts in several cuts, failing calls, wrong words.
-ghost use Rattle.std.specs.Prelude.{◌≡◌, ◌<◌};
-
+use crate::calls::{answer, pieces, words_of};
 use crate::wrong_texts::{ENDS, HEADERS, JOBS, LINES, REFUSED, STARTS};
 use dover_port::{MemoryPort, Status};
-use dover_top::dover;
-use std::alloc::{AllocError, Global};
-use std::marker::Brand;
-use std::sync::ledger::{Blank, Ledger};
 use std::test::Fail;
-use step_count::Steps;
 
 /// Feeds, how each ends, and what is written for it.
 const FEEDS: [(&str, Status, &str); 37] = [
@@ -416,54 +410,8 @@ const CALLS: [(&[&str], &str, Status, &str); 26] = [
 const BAITING: &str =
     "k 1 1\njob 0 1 1 1\njob 0 3 3 3\njob 0 1 1 1\njob 1 1 2 1\njob 2 7 9 7\njob 2 1 3 1\njob 3 1 4 1\njob 4 1 5 1\njob 5 1 6 1\njob 6 1 7 1\njob 7 1 8 1\njob 8 15 23 15\njob 8 1 9 1\njob 9 1 10 1\njob 10 1 11 1\njob 11 1 12 1\njob 12 1 13 1\njob 13 1 14 1\njob 14 1 15 1\njob 15 1 16 1\njob 16 1 17 1\njob 17 1 18 1\njob 18 1 19 1\njob 19 1 20 1\njob 20 1 21 1\njob 21 1 22 1\njob 22 30 52 30\nend\n";
 
-/// The text in pieces of so many bytes, or with a seed above 0 in pieces of 1 to 23 bytes that it draws.
-fn pieces(alloc: Global, text: &str, size: usize, seed: usize) -> Result<Vec<Vec<u8>>, AllocError> {
-    let mut pieces = Vec::new(alloc);
-    let mut piece = Vec::new(alloc);
-    let mut size = size;
-    for byte in text.as_bytes() {
-        piece.push(*byte)?;
-        if piece.len() >= size {
-            pieces.push(piece)?;
-            piece = Vec::new(alloc);
-            if seed > 0 {
-                size = (size % 23 * 5 + seed % 23) % 23 + 1;
-            }
-        }
-    }
-    pieces.push(piece)?;
-    Ok(pieces)
-}
-
-/// One call over a port, with a ledger of its own.
-fn answer_in<L: Ledger>(
-    rt: &HostRuntime,
-    words: &[String],
-    port: &mut MemoryPort,
-    blank: Blank,
-) -> Status
-    requires name { blank.name ≡ L.name }
-    requires parts { blank.parts ≡ L.parts }
-    requires some { 0 < blank.parts }
-{
-    let mut steps = Steps::<L>::new(rt.memory(), blank);
-    dover(rt.alloc(), words, port, &mut steps)
-}
-
-fn answer(rt: &HostRuntime, words: &[String], port: &mut MemoryPort) -> Status {
-    answer_in::<Brand>(rt, words, port, Blank::new(1))
-}
-
 /// How a text is cut: pieces of so many bytes, or with a seed above 0 of as many as it draws.
 const CUTS: [(usize, usize); 4] = [(4096, 0), (1, 0), (7, 3), (13, 11)];
-
-fn words_of(alloc: Global, texts: &[&'static str]) -> Result<Vec<String>, AllocError> {
-    let mut words = Vec::new(alloc);
-    for text in texts {
-        words.push(String::from_str(alloc, text)?)?;
-    }
-    Ok(words)
-}
 
 /// Whether the words end so over an input in such pieces, and write this.
 fn tells(
@@ -475,7 +423,7 @@ fn tells(
     text: &str,
 ) -> Result<bool, Fail> {
     let alloc = rt.alloc();
-    let script = pieces(alloc, input, cut.0, cut.1)?;
+    let script = pieces(alloc, input.as_bytes(), cut.0, cut.1)?;
     let mut port = MemoryPort::new(alloc, script, Vec::new(alloc), Vec::new(alloc), 4096, 4096)?;
     Ok(answer(rt, words, &mut port) == status && port.written() == text.as_bytes())
 }
@@ -553,7 +501,7 @@ fn failing_calls(rt: HostRuntime) -> Result<(), Fail> {
         (feed, 4096, 0, 5, 1, Status::WriteFault, "dove"),
         (ticks, 25, 2, 0, 4096, Status::ReadFault, completed),
     ] {
-        let script = pieces(alloc, feed, piece, 0)?;
+        let script = pieces(alloc, feed.as_bytes(), piece, 0)?;
         let fail_reads = vec![in alloc; read]?;
         let fail_writes = vec![in alloc; write]?;
         let mut port = MemoryPort::new(alloc, script, fail_reads, fail_writes, most.max(1), 4096)?;
@@ -576,7 +524,7 @@ fn words_and_what_they_write(rt: HostRuntime) -> Result<(), Fail> {
 fn a_baiting_feed_is_served(rt: HostRuntime) -> Result<(), Fail> {
     let alloc = rt.alloc();
     let words = words_of(alloc, &["serve"])?;
-    let script = pieces(alloc, BAITING, 4096, 0)?;
+    let script = pieces(alloc, BAITING.as_bytes(), 4096, 0)?;
     let mut port = MemoryPort::new(alloc, script, Vec::new(alloc), Vec::new(alloc), 4096, 4096)?;
     let answer = answer(&rt, &words, &mut port);
     assert!(rt; answer == Status::Done && port.written().ends_with(b"complete 23 11\nend 15\n"));
@@ -603,7 +551,7 @@ fn wrong_words(rt: HostRuntime) -> Result<(), Fail> {
         &["lanes", "x"][..],
     ] {
         let words = words_of(alloc, texts)?;
-        let script = pieces(alloc, "k 1 1\nend\n", 4096, 0)?;
+        let script = pieces(alloc, b"k 1 1\nend\n", 4096, 0)?;
         let mut port = MemoryPort::new(
             alloc,
             script,
@@ -628,7 +576,7 @@ fn one_value_too_many(rt: HostRuntime) -> Result<(), Fail> {
         feed.push_str("job 0 1 1000000000000 1000000000\n")?;
     }
     feed.push_str("job 0 1 1000000000000 1\n")?;
-    let script = pieces(alloc, &feed, 4096, 0)?;
+    let script = pieces(alloc, feed.as_bytes(), 4096, 0)?;
     let mut port = MemoryPort::new(
         alloc,
         script,

@@ -2,7 +2,7 @@
 ghost use Rattle.std.specs.Prelude.{◌≤◌, length, IfSome};
 
 use crate::calls::{Called, call};
-use crate::drawn::{draw_feed, text_of};
+use crate::drawn_feeds::{draw_feed, text_of};
 use job_format::FeedLine;
 use std::alloc::Global;
 use std::test::Fail;

@@ -45,15 +45,24 @@ pub(crate) fn words_of(alloc: Global, texts: &[&'static str]) -> Result<Vec<Stri
     Ok(words)
 }
 
-/// The bytes in pieces of so many.
-pub(crate) fn pieces(alloc: Global, bytes: &[u8], size: usize) -> Result<Vec<Vec<u8>>, AllocError> {
+/// The bytes in pieces of so many, or with a seed above 0 in pieces of 1 to 23 bytes that it draws.
+pub(crate) fn pieces(
+    alloc: Global,
+    bytes: &[u8],
+    size: usize,
+    seed: usize,
+) -> Result<Vec<Vec<u8>>, AllocError> {
     let mut pieces = Vec::new(alloc);
     let mut piece = Vec::new(alloc);
+    let mut size = size;
     for byte in bytes {
         piece.push(*byte)?;
         if piece.len() >= size {
             pieces.push(piece)?;
             piece = Vec::new(alloc);
+            if seed > 0 {
+                size = (size % 23 * 5 + seed % 23) % 23 + 1;
+            }
         }
     }
     pieces.push(piece)?;
@@ -69,7 +78,7 @@ pub(crate) fn call(
 ) -> Result<Called, Fail> {
     let alloc = rt.alloc();
     let words = words_of(alloc, words)?;
-    let script = pieces(alloc, input, size)?;
+    let script = pieces(alloc, input, size, 0)?;
     let mut port = MemoryPort::new(alloc, script, Vec::new(alloc), Vec::new(alloc), 4096, 4096)?;
     let status = answer(rt, &words, &mut port);
     let mut written = Vec::new(alloc);

@@ -277,7 +277,7 @@ fn failing_calls(rt: HostRuntime) -> Result<(), Fail> {
         ("resume", "resume\n", 4096, 0, 1, Status::WriteFault, ""),
     ] {
         let words = words_of(alloc, &[word])?;
-        let script = pieces(alloc, input.as_bytes(), piece)?;
+        let script = pieces(alloc, input.as_bytes(), piece, 0)?;
         let fail_reads = vec![in alloc; read]?;
         let fail_writes = vec![in alloc; write]?;
         let mut port = MemoryPort::new(alloc, script, fail_reads, fail_writes, 4096, 4096)?;

@@ -1,12 +1,9 @@
-ghost use Rattle.std.specs.Prelude.{◌≡◌, ◌<◌};
-
+//! The word `unroll`: rows of task texts, and what is unrolled is served.
+use crate::calls;
+use crate::calls::{pieces, words_of};
 use dover_port::{Calls, MemoryPort, Status};
-use dover_top::dover;
-use std::alloc::{AllocError, Global};
-use std::marker::Brand;
-use std::sync::ledger::{Blank, Ledger};
+use std::alloc::Global;
 use std::test::Fail;
-use step_count::Steps;
 
 /// The tick up to which jobs are released, a task text, how `unroll` ends, and what it writes.
 const ROWS: [(&str, &str, Status, &str); 27] = [
@@ -158,42 +155,10 @@ const LONG: &str = "k 1 1
 /// Words that ask for nothing.
 const WRONG: [&str; 6] = ["01", "1000000000001", "-1", "", "x", "1 "];
 
-fn answer_in<L: Ledger>(
-    rt: &HostRuntime,
-    words: &[String],
-    port: &mut MemoryPort,
-    blank: Blank,
-) -> Status
-    requires name { blank.name ≡ L.name }
-    requires parts { blank.parts ≡ L.parts }
-    requires some { 0 < blank.parts }
-{
-    let mut steps = Steps::<L>::new(rt.memory(), blank);
-    dover(rt.alloc(), words, port, &mut steps)
-}
-
 /// What the words answer over a port.
 fn answer(rt: &HostRuntime, texts: &[&'static str], port: &mut MemoryPort) -> Result<Status, Fail> {
-    let mut words = Vec::new(rt.alloc());
-    for text in texts {
-        words.push(String::from_str(rt.alloc(), text)?)?;
-    }
-    Ok(answer_in::<Brand>(rt, &words, port, Blank::new(1)))
-}
-
-/// The bytes in pieces of so many.
-fn pieces(alloc: Global, bytes: &[u8], size: usize) -> Result<Vec<Vec<u8>>, AllocError> {
-    let mut pieces = Vec::new(alloc);
-    let mut piece = Vec::new(alloc);
-    for byte in bytes {
-        piece.push(*byte)?;
-        if piece.len() >= size {
-            pieces.push(piece)?;
-            piece = Vec::new(alloc);
-        }
-    }
-    pieces.push(piece)?;
-    Ok(pieces)
+    let words = words_of(rt.alloc(), texts)?;
+    Ok(calls::answer(rt, &words, port))
 }
 
 /// A port over the bytes in pieces of so many. The read and the write of these numbers fail, from 1 on.
@@ -206,7 +171,7 @@ fn port(
 ) -> Result<MemoryPort, Fail> {
     Ok(MemoryPort::new(
         alloc,
-        pieces(alloc, bytes, size)?,
+        pieces(alloc, bytes, size, 0)?,
         vec![in alloc; read]?,
         vec![in alloc; write]?,
         4096,
