@@ -1,41 +1,31 @@
 -- What a step does to the ready jobs, by their roles.
-use Rattle.std.proofs.Common.{◌≡◌, ℕ, suc, ◌+◌, ◌≤◌, ◌<◌, ◌⊎◌, inl, inr, List, [], ◌∷◌, ◌++◌, length, map, refl, sym}
-use Rattle.std.proofs.Common.{ap, ◌∙◌, subst, Bool, true, false, cond, not, arith, eqb}
-use Rattle.std.specs.Prelude.{Option, Some, None, ◌==◌}
+use Rattle.std.proofs.Common.{◌≡◌, ℕ, suc, ◌≤◌, inl, inr, List, [], ◌∷◌, ◌++◌, map, refl, sym}
+use Rattle.std.proofs.Common.{ap, ◌∙◌, subst, Bool, true, false, cond, arith}
+use Rattle.std.specs.Prelude.{Some, None, ◌==◌}
 use Rattle.std.specs.Option.{option_to_list}
 use Rattle.std.specs.List.{filter, sum_by}
 use Rattle.std.proofs.lemmas.Bool.{eq-eqb, ne_eqb}
-use Rattle.std.proofs.lemmas.List.{append_assoc, map-append}
-use Rattle.std.proofs.lemmas.List.Sums.{sum_by-cons, sum_by-append}
-use Rattle.dover_model.specs.declared.events.Event.{Event}
-use Rattle.dover_model.specs.declared.events.Event.TheVariants.{Run, Preempt, Take, Complete, Abandon}
+use Rattle.std.proofs.lemmas.List.{map-append}
+use Rattle.std.proofs.lemmas.List.Sums.{sum_by-cons}
 use Rattle.dover_model.specs.declared.events.Role.{Role}
 use Rattle.dover_model.specs.declared.events.Role.TheVariants.{Coming, Fresh, Waiting, Held, Running, Done, Gone}
 use Rattle.dover_model.specs.declared.events.Task.{Task}
-use Rattle.dover_model.specs.State.{is_done, is_over, value_sum}
-use Rattle.dover_model.specs.Step.{Prints, Waits, with_role, displaced}
-use Rattle.dover_model.specs.Sound.{IsMember, Each, EachTwo, IsNumberedFrom}
-use Rattle.dover_model.proofs.Members.{sum_filter, sum_zero, sum_le, term_le_sum, map_map, map_same, sum_same}
+use Rattle.dover_model.specs.State.{is_done, value_sum}
+use Rattle.dover_model.specs.Step.{with_role, displaced}
+use Rattle.dover_model.specs.Sound.{IsMember, Each, IsNumberedFrom}
+use Rattle.dover_model.proofs.Members.{sum_filter, sum_zero, sum_le, term_le_sum, map_map, map_same}
 use Rattle.dover_model.proofs.Roles.{passes, numbers_above}
 use Rattle.dover_model.proofs.Tests.{never}
-use Rattle.plain_step.specs.Moves.{tasks_after}
 use Rattle.trace_reading.specs.Ready.{is_ready}
 use Rattle.ready_jobs.specs.Reordered.{IsReordered}
 use Rattle.ready_jobs.specs.Parts.{Parted, HaveRole, HaveRoles, HaveOwnNumbers, ready_of}
-use Rattle.ready_jobs.proofs.Reordering.{same_order, exchanged, both_parts, turned, further, filtered, mapped, in_left}
-use Rattle.ready_jobs.proofs.Reordering.{in_right, each_both}
+use Rattle.ready_jobs.specs.Changed.{named, AreOnce, made_wait, Leaves}
+use Rattle.ready_jobs.proofs.Reordering.{same_order, both_parts, turned, further, filtered, mapped}
+use Rattle.ready_jobs.proofs.Reordering.{each_both}
 use Rattle.ready_jobs.proofs.Pooling.{between}
 use Rattle.ready_jobs.proofs.Seeing.{filter_each, filter_none}
 
 -- ---- numbers of their own, as often as they are there
-
--- one for the job of this number
-abbrev pub named : ℕ → Task → ℕ
-named n t = cond (t.number == n) 1 0
-
--- each number is there at most once
-abbrev pub AreOnce : List Task → Type 0
-AreOnce tasks = (n : ℕ) → sum_by (named n) tasks ≤ 1
 
 -- jobs numbered in a row are
 pub once_numbered : (m : ℕ) (tasks : List Task) → IsNumberedFrom m tasks → AreOnce tasks
@@ -149,11 +139,6 @@ all_ready q roles =
     (ready_role Fresh (option_to_list q.fresh) roles.fresh (λ t. refl))
     (each_both (λ t. is_ready t ≡ true) q.held q.waiting (ready_role Held q.held roles.held (λ t. refl))
     (ready_role Waiting q.waiting roles.waiting (λ t. refl))))
-
--- what a change leaves ready, and what it does: the jobs done are worth so much
-pub record Leaves (f : Task → Task) (xs ys : List Task) (worth : ℕ) : Type 0 where
-  pub ready : IsReordered (filter is_ready (map f xs)) ys
-  pub done : value_sum (filter is_done (map f xs)) ≡ worth
 
 -- of a list whose change has other jobs
 pub leaves_of : (f : Task → Task) (xs ys zs : List Task) (worth : ℕ) → IsReordered xs ys → map f ys ≡ zs
@@ -361,9 +346,6 @@ module _ (q : Parted) (roles : HaveRoles q) (once : AreOnce (ready_of q)) where
   -- the running and the held jobs wait, and a waiting one runs
   abbrev taken : ℕ → Task → Task
   taken n t = with_role t (cond (t.number == n) Running (displaced t.role))
-
-  abbrev made_wait : Task → Task
-  made_wait t = with_role t Waiting
 
   pub takes : (r x : Task) (rest : List Task) → q.running ≡ Some r
       → IsReordered (map made_wait (r ∷ q.held) ++ q.waiting) (x ∷ rest)

@@ -1,10 +1,16 @@
 -- What is kept of a run, step by step.
-use Rattle.std.proofs.Common.{◌≡◌, ℕ, zero, suc, ◌+◌, ◌≤◌, ◌<◌, inl, inr, List, [], ◌∷◌, ◌++◌, length, refl, sym, ap}
+use Rattle.std.proofs.Common.{◌≡◌, ℕ, suc, ◌+◌, ◌≤◌, ◌<◌, inl, List, [], ◌∷◌, ◌++◌, length, refl, sym, ap}
 use Rattle.std.proofs.Common.{◌∙◌, subst, Bool, true, false, cond, not, arith}
-use Rattle.std.specs.Prelude.{nat_le, ◌&&◌, Some, None}
-use Rattle.std.specs.List.{filter, list_all}
+use Rattle.std.specs.Prelude.{Option, nat_le, ◌&&◌, Some, None}
+use Rattle.std.specs.Option.{option_to_list}
+use Rattle.std.specs.List.{filter, list_all, sum_by}
+use Rattle.std.proofs.lemmas.Bool.{eq-eqb}
+use Rattle.std.proofs.lemmas.List.{length-append}
+use Rattle.std.proofs.lemmas.List.Sums.{sum_by-cons, sum_by-append}
 use Rattle.dover_model.specs.Limits.{last_tick}
 use Rattle.dover_model.specs.Fraction.{Fraction, IsRatio}
+use Rattle.dover_model.specs.JobFacts.{JobFacts}
+use Rattle.dover_model.specs.declared.events.Role.TheVariants.{Fresh}
 use Rattle.dover_model.specs.declared.events.Event.{Event}
 use Rattle.dover_model.specs.declared.events.Event.TheVariants.{End}
 use Rattle.dover_model.specs.declared.events.Task.{Task}
@@ -15,27 +21,36 @@ use Rattle.dover_model.specs.Run.{event_of, last_deadline}
 use Rattle.dover_model.specs.Settled.{is_late}
 use Rattle.dover_model.specs.Sound.{IsMember, Keeps}
 use Rattle.dover_model.specs.WholeRun.{IsBarrier}
-use Rattle.dover_model.proofs.Members.{sum_filter, sum_le, sum_map, member_filter, filter_member}
-use Rattle.dover_model.proofs.Kept.{opening_keeps, jobs_kept}
+use Rattle.dover_model.proofs.Members.{sum_filter, sum_le, sum_map, member_filter, term_le_sum}
+use Rattle.dover_model.proofs.Kept.{opening_keeps}
 use Rattle.dover_model.proofs.Honest.{count_jobs}
 use Rattle.dover_model.proofs.Prefixes.{step_open}
 use Rattle.dover_model.proofs.Settling.{at_barrier}
 use Rattle.dover_model.proofs.ShortNumbers.{deadline_known, ticks_early}
 use Rattle.dover_model.proofs.Tests.{not_true}
-use Rattle.trace_reading.specs.Leading.{GoesOn, IsSilent, Settles, Idles, WaitsUntil, PrintsNext}
+use Rattle.trace_reading.specs.Leading.{GoesOn, IsSilent, Idles, WaitsUntil, PrintsNext}
 use Rattle.trace_reading.specs.Ready.{is_ready}
 use Rattle.trace_reading.proofs.Leading.{late_silent, over_ends}
 use Rattle.trace_reading.proofs.ReadyParts.{change}
 use Rattle.trace_reading.proofs.Waiting.{some_goes_on, settles_idles, over_waits_until}
 use Rattle.ready_jobs.specs.Reordered.{IsReordered}
-use Rattle.ready_jobs.specs.Parts.{Parted, HaveRoles, AreSound, ready_of, state_of}
-use Rattle.ready_jobs.specs.Following.{PartOf, SettlesTo}
-use Rattle.ready_jobs.specs.Course.{Course, Follows, IsCourse, new_course, course_of, Reached, Settled}
-use Rattle.ready_jobs.proofs.Reordering.{same_order}
-use Rattle.ready_jobs.proofs.Changes.{Leaves}
+use Rattle.ready_jobs.specs.Parts.{Parted, HaveRoles, ready_of, state_of}
+use Rattle.ready_jobs.specs.Following.{PartOf, IsPart, SettlesTo}
+use Rattle.ready_jobs.specs.Course.{Course, Follows, IsCourse, new_course, course_of, fresh_job}
+use Rattle.ready_jobs.specs.Course.{with_release, Reached, Settled, waiting_count, held_count}
+use Rattle.ready_jobs.proofs.Reordering.{same_order, further, exchanged, as_many, in_left, in_right}
+use Rattle.ready_jobs.proofs.Pooling.{between}
+use Rattle.ready_jobs.specs.Changed.{Leaves, AreOnce, named}
+use Rattle.ready_jobs.proofs.Changes.{once_numbered, once_some, once_still}
 use Rattle.ready_jobs.proofs.Following.{part_step, part_moves}
+use Rattle.ready_jobs.proofs.Seeing.{waiting_list, held_list}
 
 -- ---- what is kept
+
+-- no elements
+pub no_items : {X : Type 0} (xs : List X) → length xs ≡ 0 → xs ≡ []
+no_items [] none = refl
+no_items (x ∷ xs) none = absurd (omega arith)
 
 -- the course of no jobs
 pub new_follows : (rules : Rules) (room : ℕ) → IsRatio rules.ratio
@@ -111,6 +126,86 @@ follows_room c room J z follows = record {
   released = follows.released;
 }
 
+-- and with its jobs in another order
+pub follows_order : (c : Course) (ready : List Task) (J : Instance) (z : State) → Follows c J z
+    → IsReordered c.ready ready → Follows (record c { ready = ready }) J z
+follows_order c ready J z follows same = record {
+  valid = follows.valid;
+  keeps = follows.keeps;
+  rules = follows.rules;
+  clock = follows.clock;
+  ready = further (filter is_ready z.tasks) c.ready ready follows.ready same;
+  jobs = follows.jobs;
+  done = follows.done;
+  known = follows.known;
+  released = follows.released;
+}
+
+-- with other rules, where no job was released
+pub declared_course : (c : Course) (rules : Rules) → IsCourse c → c.jobs ≡ 0 → IsRatio rules.ratio
+    → IsCourse (record c { rules = rules })
+declared_course c rules old none ratio =
+    let J : Instance = old.0 in
+    let z : State = old.1 in
+    let follows : Follows c J z = old.2 in
+    let empty : [] ≡ J.jobs = sym (no_items J.jobs (sym (follows_count c J z follows) ∙ none)) in (
+      record { rules = rules; jobs = J.jobs },
+      z,
+      record {
+        valid = subst (λ jobs. IsValid (record { rules = rules; jobs = jobs })) empty (new_follows rules 0 ratio).valid;
+        keeps = record { sound = follows.keeps.sound; jobs = follows.keeps.jobs };
+        rules = refl;
+        clock = follows.clock;
+        ready = follows.ready;
+        jobs = follows.jobs;
+        done = follows.done;
+        known = follows.known;
+        released = follows.released;
+      },
+    )
+
+-- where no job was released, none is ready
+pub none_ready : (c : Course) → IsCourse c → c.jobs ≡ 0 → c.ready ≡ []
+none_ready c old none = let z : State = old.1 in
+    let empty : z.tasks ≡ [] = no_items z.tasks (old.2.jobs ∙ none) in
+    no_items c.ready (as_many (filter is_ready z.tasks) c.ready old.2.ready
+    ∙ ap (λ ts. length (filter is_ready ts)) empty)
+
+-- the ready jobs have numbers of their own
+follows_once : (c : Course) (J : Instance) (z : State) → Follows c J z → AreOnce c.ready
+follows_once c J z follows = once_still (filter is_ready z.tasks) c.ready follows.ready
+    (once_some is_ready z.tasks (once_numbered 0 z.tasks follows.keeps.sound.numbered))
+
+-- the jobs are few
+pub few_jobs : (c : Course) → IsCourse c → c.jobs ≤ 1_000_000
+few_jobs c old = let few : length old.0.jobs ≤ 1_000_000 = old.2.valid.count in
+    omega (arith, follows_count c old.0 old.1 old.2)
+
+-- so are those that are ready
+pub few_ready : (c : Course) → IsCourse c → length c.ready ≤ 1_000_000
+few_ready c old = omega (
+  arith,
+  few_jobs c old,
+  old.2.jobs,
+  as_many (filter is_ready old.1.tasks) c.ready old.2.ready,
+  fewer old.1.tasks,
+) where
+  fewer : (ts : List Task) → length (filter is_ready ts) ≤ length ts
+  fewer [] = omega arith
+  fewer (t ∷ ts) = by_test (is_ready t) (fewer ts) where
+    by_test : (b : Bool) → length (filter is_ready ts) ≤ length ts
+        → length (cond b (t ∷ filter is_ready ts) (filter is_ready ts)) ≤ suc (length ts)
+    by_test true few = omega (arith, few)
+    by_test false few = omega (arith, few)
+
+-- and one more can be released
+pub more_ready : (c : Course) (j : JobFacts) → IsCourse (with_release c j c.room) → length c.ready < 1_000_000
+more_ready c j more = omega (
+  arith,
+  few_ready (with_release c j c.room) more,
+  length-append c.ready (fresh_job c j ∷ []),
+)
+
 -- ---- the ready jobs by their roles
 
 module _ (k : Fraction) (p : Parted) (jobs done : ℕ) (J : Instance) (z : State)
@@ -147,6 +242,21 @@ module _ (k : Fraction) (p : Parted) (jobs done : ℕ) (J : Instance) (z : State
       known = known;
       released = part.released;
     }
+
+-- they are a part of some whole
+pub course_part : (k : Fraction) (p : Parted) (jobs done : ℕ) → IsCourse (course_of k p jobs done)
+    → IsPart (record { ratio = k; version = p.version }) p
+course_part k p jobs done old =
+    (old.0, old.1, follows_part k p jobs done old.0 old.1 old.2, old.2.rules)
+
+-- how many wait, and how many are held
+pub waiting_is : (k : Fraction) (p : Parted) (jobs done : ℕ) → HaveRoles p
+    → waiting_count (course_of k p jobs done) ≡ length p.waiting
+waiting_is k p jobs done roles = ap length (waiting_list p roles)
+
+pub held_is : (k : Fraction) (p : Parted) (jobs done : ℕ) → HaveRoles p
+    → held_count (course_of k p jobs done) ≡ length p.held
+held_is k p jobs done roles = ap length (held_list p roles)
 
 -- a course that has done no more
 same_done : (k : Fraction) (q : Parted) (jobs done : ℕ) (J : Instance) (y : State)
@@ -235,11 +345,6 @@ reached_prints c J z mark e reached before = record {
   );
 }
 
--- no elements
-pub no_items : {X : Type 0} (xs : List X) → length xs ≡ 0 → xs ≡ []
-no_items [] none = refl
-no_items (x ∷ xs) none = absurd (omega arith)
-
 -- where no job is ready, nothing comes
 pub over_settled : (c : Course) (J : Instance) (z : State) (mark : ℕ) → Follows c J z → c.ready ≡ [] → c.clock ≤ mark
     → Settled c J z mark None
@@ -323,3 +428,78 @@ module _ (k : Fraction) (p q : Parted) (jobs done worth : ℕ) (e : Event)
   -- is a course again
   pub takes_course : IsCourse (course_of k p jobs done) → IsCourse (course_of k q jobs (done + worth))
   takes_course old = (old.0, after old.1 (Prints e), course_takes old.0 old.1 old.2)
+
+-- ---- a release
+
+module _ (c : Course) (j : JobFacts) (more : IsCourse (with_release c j c.room)) where
+  abbrev n : ℕ
+  n = c.jobs
+
+  -- no other job is fresh
+  pub release_stale : (f : Task) → IsMember f c.ready → f.role ≡ Fresh → ⊥
+  release_stale f m fresh =
+      let follows : Follows (with_release c j c.room) more.0 more.1 = more.2 in
+      let there : (t : Task) → IsMember t (c.ready ++ fresh_job c j ∷ []) → IsMember t more.1.tasks = λ t k.
+      (member_filter is_ready more.1.tasks t (follows.ready.back t k)).0 in
+      let same : f.number ≡ n = follows.keeps.sound.one_fresh f (fresh_job c j)
+      (there f (in_left c.ready (fresh_job c j ∷ []) f m))
+      (there (fresh_job c j) (in_right c.ready (fresh_job c j ∷ []) (fresh_job c j) (inl refl))) fresh refl in
+      let once : sum_by (named n) (c.ready ++ fresh_job c j ∷ []) ≤ 1 =
+      follows_once (with_release c j c.room) more.0 more.1 follows n in
+      let mine : named n f ≤ sum_by (named n) c.ready = term_le_sum (named n) c.ready f m in
+      omega (
+        arith,
+        once,
+        mine,
+        sum_by-append (named n) c.ready (fresh_job c j ∷ []),
+        sum_by-cons (named n) (fresh_job c j) [],
+        ap (λ (b : Bool). cond {A = ℕ} b 1 0) (eq-eqb n n refl),
+        ap (λ (b : Bool). cond {A = ℕ} b 1 0) (eq-eqb f.number n same),
+      )
+
+-- of the ready jobs by their roles
+module _ (k : Fraction) (p : Parted) (jobs done : ℕ) (j : JobFacts) (roles : HaveRoles p)
+    (more : IsCourse (with_release (course_of k p jobs done) j p.room)) where
+  -- none is fresh
+  pub come_stale : p.fresh ≡ None
+  come_stale = by_fresh p.fresh refl where
+    by_fresh : (o : Option Task) → p.fresh ≡ o → p.fresh ≡ None
+    by_fresh None is = is
+    by_fresh (Some f) is = let here : IsMember f (option_to_list p.fresh) =
+        subst (λ o. IsMember f (option_to_list o)) (sym is) (inl refl) in
+        absurd (release_stale (course_of k p jobs done) j more f
+        (in_right (option_to_list p.running) (option_to_list p.fresh ++ (p.held ++ p.waiting)) f
+        (in_left (option_to_list p.fresh) (p.held ++ p.waiting) f here)) (roles.fresh f here))
+
+  -- the number is small
+  pub come_number : jobs + 1 ≤ 1_000_000
+  come_number = few_jobs (with_release (course_of k p jobs done) j p.room) more
+
+  module _ (q : Parted) (is : q ≡ record p {
+    clock = j.release;
+    fresh = Some (fresh_job (course_of k p jobs done) j);
+  }) where
+    -- the new job is among the others
+    pub come_order : IsReordered (ready_of p ++ fresh_job (course_of k p jobs done) j ∷ []) (ready_of q)
+    come_order = subst (λ r. IsReordered (ready_of p ++ fresh_job (course_of k p jobs done) j ∷ []) (ready_of r))
+        (sym is)
+        (subst (λ o. IsReordered ((option_to_list p.running ++ (option_to_list o ++ (p.held ++ p.waiting)))
+        ++ fresh_job (course_of k p jobs done) j ∷ [])
+        (option_to_list p.running ++ fresh_job (course_of k p jobs done) j ∷ (p.held ++ p.waiting))) (sym come_stale)
+        (in_front (fresh_job (course_of k p jobs done) j) (option_to_list p.running) (p.held ++ p.waiting))) where
+          in_front : (x : Task) (xs ys : List Task) → IsReordered ((xs ++ ys) ++ x ∷ []) (xs ++ x ∷ ys)
+          in_front x xs ys = further ((xs ++ ys) ++ x ∷ []) (x ∷ (xs ++ ys)) (xs ++ x ∷ ys)
+              (exchanged (xs ++ ys) (x ∷ [])) (between x xs ys)
+
+    -- it is a course again
+    pub come_course : IsCourse (course_of k q (jobs + 1) done)
+    come_course = (
+      more.0,
+      more.1,
+      subst (λ r. Follows (course_of k r (jobs + 1) done) more.0 more.1) (sym is)
+          (follows_order (with_release (course_of k p jobs done) j p.room)
+          (ready_of (record p { clock = j.release; fresh = Some (fresh_job (course_of k p jobs done) j) }))
+          more.0 more.1 more.2
+          (subst (λ r. IsReordered (ready_of p ++ fresh_job (course_of k p jobs done) j ∷ []) (ready_of r)) is
+          come_order)),
+    )

@@ -42,11 +42,12 @@ use Rattle.trace_reading.proofs.ReadyParts.{change, after_change, step_ready, re
 use Rattle.ready_jobs.specs.Reordered.{IsReordered}
 use Rattle.ready_jobs.specs.Parts.{Parted, HaveRole, HaveRoles, HaveOwnNumbers, AreModest, AreSound, ready_of, state_of}
 use Rattle.ready_jobs.specs.Following.{PartOf, SettlesTo}
+use Rattle.ready_jobs.specs.Changed.{AreOnce, Leaves}
 use Rattle.ready_jobs.proofs.Reordering.{filtered, mapped, further, in_left, in_right}
 use Rattle.ready_jobs.proofs.Views.{AreApart, step_still}
 use Rattle.ready_jobs.proofs.Naming.{waits_says}
 use Rattle.ready_jobs.proofs.Seeing.{seen_fresh, fresh_list, waiting_list, privileged_list}
-use Rattle.ready_jobs.proofs.Changes.{AreOnce, once_numbered, once_some, once_still, once_own, Leaves, map_each}
+use Rattle.ready_jobs.proofs.Changes.{once_numbered, once_some, once_still, once_own, map_each}
 use Rattle.ready_jobs.proofs.Changes.{all_ready}
 
 -- ---- a job that isn't to come stays so

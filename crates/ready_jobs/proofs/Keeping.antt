@@ -1,6 +1,6 @@
 -- The parts are kept where jobs go from one to another.
-use Rattle.std.proofs.Common.{max, ◌-◌, ◌≡◌, ℕ, suc, ◌+◌, ◌≤◌, ◌<◌, ◌⊎◌, inl, inr, List, [], ◌∷◌, ◌++◌, length, map}
-use Rattle.std.proofs.Common.{reverse, refl, sym, ap, ◌∙◌, subst, arith}
+use Rattle.std.proofs.Common.{max, ◌-◌, ◌≡◌, ℕ, ◌+◌, ◌≤◌, ◌<◌, inl, inr, List, [], ◌∷◌, ◌++◌, length, map}
+use Rattle.std.proofs.Common.{refl, sym, ap, ◌∙◌, subst, arith}
 use Rattle.std.specs.Prelude.{Option, Some, None}
 use Rattle.std.specs.Option.{option_to_list, option_map}
 use Rattle.std.proofs.lemmas.List.{length-append, length-map}
@@ -12,9 +12,11 @@ use Rattle.dover_model.specs.Entries.{entry_of}
 use Rattle.dover_model.specs.Jumps.{ticked_by}
 use Rattle.dover_model.specs.Step.{with_role}
 use Rattle.dover_model.specs.Sound.{IsMember, Each}
+use Rattle.dover_model.proofs.Members.{on_map}
 use Rattle.privileged_queue.specs.Stack.{Stack}
 use Rattle.ready_jobs.specs.Pools.{Pooled}
-use Rattle.ready_jobs.specs.Parts.{Parted, AreParts, HaveRole, HaveRoles, ready_of, head_of, tail_of}
+use Rattle.ready_jobs.specs.Parts.{Parted, AreParts, HaveRole, ready_of}
+use Rattle.ready_jobs.specs.Changed.{made_wait}
 use Rattle.ready_jobs.specs.Reordered.{IsReordered}
 use Rattle.ready_jobs.proofs.Reordering.{in_left, in_right, each_both, as_many}
 
@@ -40,7 +42,7 @@ module _ (p : Parted) (rooms : Stack) (pool : Pooled) (capacity : ℕ) (kept : A
   small_fresh : Each small B
   small_fresh t m = kept.small t (in_right A (B ++ (p.held ++ p.waiting)) t (in_left B (p.held ++ p.waiting) t m))
 
-  small_held : Each small p.held
+  pub small_held : Each small p.held
   small_held t m = kept.small t
       (in_right A (B ++ (p.held ++ p.waiting)) t (in_right B (p.held ++ p.waiting) t (in_left p.held p.waiting t m)))
 
@@ -463,3 +465,65 @@ module _ (p : Parted) (rooms : Stack) (pool : Pooled) (capacity : ℕ) (kept : A
     held_small t (inl e) = subst small (sym e)
         (small_running r (subst (λ o. IsMember r (option_to_list o)) (sym runs) (inl refl)))
     held_small t (inr m) = small_held t m
+
+  pub running_small : (r : Task) → p.running ≡ Some r → r.number < 1_048_576
+  running_small r is = small_running r (subst (λ o. IsMember r (option_to_list o)) (sym is) (inl refl))
+
+  pub some_busy : (r : Task) → p.running ≡ Some r → 1 + (length p.held + length p.waiting) ≤ length (ready_of p)
+  some_busy r is = omega (arith, four_length A B p.held p.waiting, ap (λ o. length (option_to_list o)) is)
+
+  pub all_fit : (r : Task) → p.running ≡ Some r → 1 + (length p.held + length p.waiting) ≤ p.room
+  all_fit r is = omega (arith, kept.few, some_busy r is)
+
+  -- a waiting job runs, and the running and the held ones wait
+  module _ (r x : Task) (runs : p.running ≡ Some r) (pool' : Pooled)
+      (out : IsReordered (map made_wait (r ∷ p.held) ++ p.waiting) (x ∷ pool'.tasks)) where
+    all_small : Each small (x ∷ pool'.tasks)
+    all_small t m = each_both small (map made_wait (r ∷ p.held)) p.waiting
+        (on_map made_wait small (r ∷ p.held) both) small_waiting t (out.back t m) where
+          both : Each (λ u. u.number < 1_048_576) (r ∷ p.held)
+          both u (inl e) = subst small (sym e) (running_small r runs)
+          both u (inr k) = small_held u k
+
+    all_waits : HaveRole Waiting pool'.tasks
+    all_waits t m = each_both (λ u. u.role ≡ Waiting) (map made_wait (r ∷ p.held)) p.waiting
+        (on_map made_wait (λ u. u.role ≡ Waiting) (r ∷ p.held) (λ u k. refl)) kept.roles.waiting t (out.back t (inr m))
+
+    pub taken_kept : (left : Stack) (room : ℕ)
+        → left ≡ record { held = []; latest = rooms.latest; spare = rooms.spare + length p.held }
+        → pool'.room ≡ pool.room → p.room ≤ room
+        → AreParts (record p { running = Some (with_role x Running); held = []; waiting = pool'.tasks }) left pool' room
+    taken_kept left room left_is same fits = record {
+      roles = record { running = one; fresh = kept.roles.fresh; held = λ t m. absurd m; waiting = all_waits };
+      held = ap (λ (s : Stack). s.held) left_is;
+      latest = omega (arith, kept.latest, ap (λ (s : Stack). s.latest) left_is);
+      few = omega (
+        arith,
+        kept.few,
+        four_length A B p.held p.waiting,
+        four_length (with_role x Running ∷ []) B [] pool'.tasks,
+        as_many (map made_wait (r ∷ p.held) ++ p.waiting) (x ∷ pool'.tasks) out,
+        length-append (map made_wait (r ∷ p.held)) p.waiting,
+        length-map (r ∷ p.held) made_wait,
+        ap (λ o. length (option_to_list o)) runs,
+      );
+      small = small_parts (with_role x Running ∷ []) B [] pool'.tasks one_small small_fresh (λ t m. absurd m)
+          (λ t m. all_small t (inr m));
+      most = kept.most;
+      pool_room = omega (arith, kept.pool_room, same);
+      held_room = omega (
+        arith,
+        kept.held_room,
+        ap (λ (s : Stack). s.spare) left_is,
+        ap (λ l. length l) kept.held,
+        length-map p.held entry_of,
+      );
+      stack_room = fits;
+    } where
+      one : HaveRole Running (with_role x Running ∷ [])
+      one t (inl e) = ap (λ (u : Task). u.role) e
+      one t (inr m) = absurd m
+
+      one_small : Each small (with_role x Running ∷ [])
+      one_small t (inl e) = subst small (sym e) (all_small x (inl refl))
+      one_small t (inr m) = absurd m

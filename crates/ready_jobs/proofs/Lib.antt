@@ -3,7 +3,12 @@ pub mod Views
 pub mod Pooling
 pub mod Seeing
 pub mod Changes
+pub mod Displacing
 pub mod Naming
+pub mod Applied
+pub mod Costing
+mod ChangedRows
 pub mod Following
+pub mod Silences
 pub mod Courses
 pub mod Keeping

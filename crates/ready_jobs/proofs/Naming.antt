@@ -1,5 +1,5 @@
 -- What a printed step says of the jobs that are seen.
-use Rattle.std.proofs.Common.{◌≡◌, ℕ, ◌⊎◌, inl, inr, refl, sym, ap, ◌∙◌, subst, Bool, true, false, cond}
+use Rattle.std.proofs.Common.{◌≡◌, ℕ, ◌⊎◌, inl, inr, refl, ap, ◌∙◌, subst, Bool, true, false, cond}
 use Rattle.std.specs.Prelude.{Option, Some, None, ◌==◌}
 use Rattle.std.specs.Bool.{then_some}
 use Rattle.dover_model.specs.declared.events.Event.{Event}
@@ -9,7 +9,7 @@ use Rattle.dover_model.specs.Fraction.{Fraction}
 use Rattle.dover_model.specs.Orders.{is_heavy}
 use Rattle.dover_model.specs.State.{left}
 use Rattle.dover_model.specs.Step.{View, Move, Prints, Waits, Ticks, completion, dispatch, decision, arrival, alarm}
-use Rattle.dover_model.specs.Step.{◌or_else◌, runs, resumed, preempts, urgent_or}
+use Rattle.dover_model.specs.Step.{◌or_else◌, resumed, preempts, urgent_or}
 use Rattle.plain_step.specs.Cases.{next_of}
 
 -- the jobs that the step names, as they are seen

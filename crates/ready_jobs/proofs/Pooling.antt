@@ -1,9 +1,8 @@
 -- Jobs at places, and the heaps over them.
-use Rattle.std.proofs.Common.{◌≡◌, ◌≢◌, ℕ, zero, suc, ◌+◌, ◌-◌, ◌≤◌, ◌<◌, ◌⊎◌, inl, inr, List, [], ◌∷◌, ◌++◌, length}
-use Rattle.std.proofs.Common.{map, set, get_or, replicate, refl, sym, ap, ◌∙◌, subst, Bool, true, false, cond, arith}
-use Rattle.std.proofs.Common.{nat_lt}
-use Rattle.std.specs.Prelude.{Option, Some, None, option_map, ◌||◌, ◌&&◌, ◌==◌, is_some}
-use Rattle.std.specs.List.{filter_map, slice_get, sum_by, count_by}
+use Rattle.std.proofs.Common.{◌≡◌, ℕ, zero, suc, ◌+◌, ◌-◌, ◌≤◌, ◌<◌, ◌⊎◌, inl, inr, List, [], ◌∷◌, ◌++◌, length}
+use Rattle.std.proofs.Common.{set, get_or, replicate, refl, sym, ap, ◌∙◌, subst, Bool, true, cond, arith}
+use Rattle.std.specs.Prelude.{Option, Some, None, option_map, ◌==◌, is_some}
+use Rattle.std.specs.List.{slice_get, sum_by, count_by}
 use Rattle.std.proofs.lemmas.Bool.{cases_eq, eq-eqb, ne_eqb}
 use Rattle.std.proofs.lemmas.List.{append_assoc, append-nil, length-append, length-replicate}
 use Rattle.std.proofs.lemmas.List.{replicate-append-replicate}
@@ -14,7 +13,7 @@ use Rattle.dover_model.specs.declared.events.Task.{Task}
 use Rattle.dover_model.specs.declared.events.Entry.{Entry}
 use Rattle.dover_model.specs.Entries.{IsStrictOrder, entry_of, is_due_before, is_latest_before}
 use Rattle.dover_model.specs.Orders.{first, due_first, latest_first, earlier}
-use Rattle.dover_model.specs.Sound.{IsMember, Each, EachTwo}
+use Rattle.dover_model.specs.Sound.{IsMember, Each}
 use Rattle.dover_model.proofs.EntryOrders.{strict_by}
 use Rattle.dover_model.proofs.Members.{some_same, reduce_none}
 use Rattle.dover_model.proofs.Tests.{never, none_is_some}
@@ -25,7 +24,7 @@ use Rattle.place_heap.proofs.Ranking.{one_way, onward}
 use Rattle.place_heap.proofs.Tying.{ordered_as}
 use Rattle.ready_jobs.specs.Reordered.{IsReordered}
 use Rattle.ready_jobs.specs.Parts.{HaveOwnNumbers, AreModest}
-use Rattle.ready_jobs.specs.Pools.{jobs_at, items_from, times, is_free, AreFree, HasItems, IsPool, most_places}
+use Rattle.ready_jobs.specs.Pools.{jobs_at, items_from, times, is_free, AreFree, HasItems, IsPool}
 use Rattle.ready_jobs.proofs.Reordering.{same_order, exchanged, both_parts, turned, as_many, first_is, first_only}
 use Rattle.ready_jobs.proofs.Views.{apart_or_one}
 

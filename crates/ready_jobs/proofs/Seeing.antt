@@ -1,15 +1,15 @@
 -- What is seen of the ready jobs by their roles.
-use Rattle.std.proofs.Common.{◌≡◌, ◌≢◌, ℕ, ◌+◌, ◌-◌, ◌≤◌, ◌<◌, ◌⊎◌, inl, inr, List, [], ◌∷◌, ◌++◌, length, map, min}
-use Rattle.std.proofs.Common.{refl, sym, ap, ◌∙◌, subst, Bool, true, false, cond, arith, nat_lt, nat_le}
-use Rattle.std.specs.Prelude.{Option, Some, None, ◌==◌}
+use Rattle.std.proofs.Common.{◌≡◌, ℕ, ◌-◌, ◌≤◌, ◌<◌, inl, inr, List, [], ◌∷◌, ◌++◌, map, min}
+use Rattle.std.proofs.Common.{refl, sym, ap, ◌∙◌, subst, Bool, true, false, cond, arith, nat_le}
+use Rattle.std.specs.Prelude.{Option, Some, None}
 use Rattle.std.specs.Option.{option_to_list}
 use Rattle.std.specs.List.{filter, find, fold}
-use Rattle.std.proofs.lemmas.Bool.{cases_eq, cases_lt, eq-eqb, ne_eqb}
+use Rattle.std.proofs.lemmas.Bool.{cases_lt, eq-eqb, ne_eqb}
 use Rattle.std.proofs.lemmas.List.{append-nil}
 use Rattle.std.proofs.lemmas.List.Elements.{filter-append}
 use Rattle.dover_model.specs.declared.events.Version.{Version}
 use Rattle.dover_model.specs.declared.events.Role.{Role}
-use Rattle.dover_model.specs.declared.events.Role.TheVariants.{Coming, Fresh, Waiting, Held, Running, Done, Gone}
+use Rattle.dover_model.specs.declared.events.Role.TheVariants.{Fresh, Waiting, Held, Running}
 use Rattle.dover_model.specs.declared.events.Task.{Task}
 use Rattle.dover_model.specs.declared.events.Entry.{Entry}
 use Rattle.dover_model.specs.Entries.{entry_of, is_due_before, is_latest_before}
@@ -19,9 +19,9 @@ use Rattle.dover_model.specs.Orders.{due_first, latest_first, first, earlier}
 use Rattle.dover_model.specs.Step.{with_role, is_at_latest_start}
 use Rattle.dover_model.specs.Sound.{IsMember, Each}
 use Rattle.dover_model.proofs.EntryOrders.{strict_by}
-use Rattle.dover_model.proofs.Members.{some_same, reduce_none, filter_member, member_filter, all_member}
+use Rattle.dover_model.proofs.Members.{reduce_none, filter_member, member_filter}
 use Rattle.dover_model.proofs.Roles.{passes}
-use Rattle.dover_model.proofs.Tests.{never, none_is_some}
+use Rattle.dover_model.proofs.Tests.{none_is_some}
 use Rattle.plain_step.specs.Dues.{until_latest, until_done, until_release, still_ticks}
 use Rattle.privileged_queue.specs.Stack.{IsByDeadline, IsDueBeforeAll}
 use Rattle.queued_jobs.proofs.Firsts.{key_less}

@@ -1,25 +1,24 @@
 -- The view of jobs in another order.
-use Rattle.std.proofs.Common.{◌≡◌, ℕ, ◌+◌, ◌-◌, inl, inr, List, map, refl, sym, ap, ◌∙◌, subst, Bool, true, false, cond}
-use Rattle.std.proofs.Common.{arith, nat_lt}
+use Rattle.std.proofs.Common.{◌≡◌, ℕ, ◌+◌, ◌-◌, inl, inr, List, map, sym, ap, ◌∙◌, Bool, true, false}
+use Rattle.std.proofs.Common.{nat_lt}
 use Rattle.std.specs.List.{filter, sum_by}
 use Rattle.std.proofs.lemmas.Bool.{cases_eq}
 use Rattle.dover_model.specs.declared.events.Version.{Version}
 use Rattle.dover_model.specs.declared.events.Entry.{Entry}
 use Rattle.dover_model.specs.declared.events.Task.{Task}
-use Rattle.dover_model.specs.declared.events.Role.TheVariants.{Fresh, Running}
 use Rattle.dover_model.specs.Entries.{IsStrictOrder, entry_of, is_due_before, is_latest_before}
 use Rattle.dover_model.specs.Instance.{Rules}
 use Rattle.dover_model.specs.State.{State, is_coming, is_fresh, is_waiting, is_held, is_running, is_privileged, left}
 use Rattle.dover_model.specs.State.{least, demand_up_to, room}
-use Rattle.dover_model.specs.Orders.{due_first, latest_first, first}
+use Rattle.dover_model.specs.Orders.{first}
 use Rattle.dover_model.specs.Step.{view, open_step, urgent_or, Ticks, is_at_latest_start}
-use Rattle.dover_model.specs.Sound.{IsMember, Each, EachTwo}
+use Rattle.dover_model.specs.Sound.{Each, EachTwo}
 use Rattle.dover_model.proofs.EntryOrders.{strict_by}
-use Rattle.dover_model.proofs.Members.{map_same, sum_filter, member_filter}
+use Rattle.dover_model.proofs.Members.{map_same, member_filter}
 use Rattle.dover_model.proofs.Tests.{never}
 use Rattle.ready_jobs.specs.Reordered.{IsReordered}
 use Rattle.ready_jobs.specs.Parts.{HaveOwnNumbers}
-use Rattle.ready_jobs.proofs.Reordering.{filtered, mapped, found_same, first_same, least_same, two_still}
+use Rattle.ready_jobs.proofs.Reordering.{filtered, mapped, found_same, first_same, least_same}
 
 -- of two jobs one comes before the other, or they are one
 pub apart_or_one : (before : Entry → Entry → Bool) → IsStrictOrder before → (tasks : List Task) → HaveOwnNumbers tasks

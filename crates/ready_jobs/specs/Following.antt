@@ -1,7 +1,7 @@
 -- The ready jobs of a whole run.
-use Rattle.std.specs.Prelude.{◌≡◌, ◌≤◌, ◌+◌, ℕ, List, false}
+use Rattle.std.specs.Prelude.{◌≡◌, ℕ, List, false}
 use Rattle.std.specs.List.{filter}
-use Rattle.dover_model.specs.Limits.{last_tick}
+use Rattle.dover_model.specs.Fraction.{Fraction}
 use Rattle.dover_model.specs.Instance.{Rules, Instance, IsValid}
 use Rattle.dover_model.specs.State.{State, is_coming, is_done, value_sum}
 use Rattle.dover_model.specs.Run.{Step}
@@ -32,3 +32,8 @@ pub record SettlesTo (p : Parted) (J : Instance) (z : State) (mark : ℕ) : Type
   pub settles : Settles J.rules mark z steps state
   pub part : PartOf p J state
   pub done : value_sum (filter is_done state.tasks) ≡ value_sum (filter is_done z.tasks)
+
+-- they do from whatever state these are the jobs of, to where those are
+abbrev pub SettlesFrom : Fraction → ℕ → (p q : Parted) → Type 0
+SettlesFrom k mark p q = (J : Instance) (z : State) → J.rules ≡ record { ratio = k; version = p.version }
+    → PartOf p J z → SettlesTo q J z mark

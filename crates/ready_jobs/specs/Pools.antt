@@ -1,5 +1,5 @@
 -- The jobs that wait, at places.
-use Rattle.std.specs.Prelude.{◌≡◌, ◌≤◌, ◌<◌, ◌+◌, ◌^◌, ◌==◌, ℕ, zero, suc, List, [], ◌∷◌, ◌++◌, length, replicate}
+use Rattle.std.specs.Prelude.{◌≡◌, ◌≤◌, ◌+◌, ◌^◌, ◌==◌, ℕ, zero, suc, List, [], ◌∷◌, ◌++◌, length, replicate}
 use Rattle.std.specs.Prelude.{if◌then◌else◌, Option, Some, None, option_map}
 use Rattle.std.specs.List.{filter_map, sum_by}
 use Rattle.dover_model.specs.declared.events.Version.{Version}

@@ -1,8 +1,13 @@
 //! The machine over the jobs that are released and not over.
 #![tactic(auto)]
 
+mod applying;
 mod parts;
 mod pool;
+mod ready;
+mod settling;
+mod taking;
 
 pub use parts::Parts;
 pub use pool::Pool;
+pub use ready::Ready;

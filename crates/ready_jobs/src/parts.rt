@@ -17,10 +17,12 @@ ghost use Rattle.dover_model.specs.Sound.{Each};
 ghost use Rattle.plain_step.specs.Moves.{step_of};
 ghost use Rattle.plain_step.specs.Cases.{decision_of, arrival_of, alarm_of};
 ghost use Rattle.plain_step.specs.Dues.{still_ticks, until_done};
+ghost use Rattle.ready_jobs.specs.Changed.{made_wait};
 ghost use Rattle.ready_jobs.specs.Reordered.{IsReordered};
 ghost use Rattle.ready_jobs.specs.Parts.{Parted, AreSound, HaveRoles, ready_of, state_of, head_of, tail_of};
 
 use crate::pool::Pool;
+use crate::taking::{displace, in_role};
 use dover_model::{Entry, Event, Job, Memory, Ratio, Role, Task, Version};
 use plain_step::Move;
 use privileged_queue::Privileged;
@@ -81,18 +83,6 @@ fn entry_of(t: &Task) -> Entry
     }
 }
 
-// The job in another role.
-fn in_role(t: &Task, role: Role) -> Task
-    ensures { result ≡ with_role t.now role }
-{
-    Task {
-        number: t.number,
-        job: t.job,
-        role,
-        had: t.had,
-    }
-}
-
 // The job with so many ticks more, if it runs.
 fn later(t: &Task, ticks: u64) -> Task
     requires { t.now.had + ticks < 2 ^ 64 }
@@ -118,6 +108,17 @@ fn later_running(running: Option<Task>, ticks: u64) -> Option<Task>
     match running {
         Some(t) => Some(later(&t, ticks)),
         None => None,
+    }
+}
+
+// How many jobs it is.
+fn count_of(job: &Option<Task>) -> u32
+    ensures is { result ≡ length (option_to_list job.now) }
+    ensures most { result ≤ 1 }
+{
+    match job {
+        Some(_) => 1,
+        None => 0,
     }
 }
 
@@ -189,6 +190,14 @@ impl Parts {
         ensures seen { result ≡ find is_fresh (state_of self.now).tasks }
     {
         self.fresh
+    }
+
+    /// How many jobs are ready.
+    pub fn count(&self) -> u32
+        ensures { result ≡ length (ready_of self.now) }
+    {
+        let waiting = self.pool.count() + self.held.len() as u32;
+        count_of(&self.running) + count_of(&self.fresh) + waiting
     }
 
     // No job is to come.
@@ -534,6 +543,27 @@ impl Parts {
         self.held.push_reserved(in_role(r, Role::Held));
         self.fresh = None;
         self.running = Some(in_role(f, Role::Running));
+    }
+
+    /// The job x, of those that wait the first by latest start, runs. The running job r and all held ones wait.
+    pub fn take<L: Ledger>(&mut self, r: &Task, x: &Task, steps: &mut Steps<L>)
+        requires sound { AreSound self.old }
+        requires running { self.old.running ≡ Some r.now }
+        requires late { first (latest_first self.old.version) self.old.waiting ≡ Some x.now }
+        ensures rest { IsReordered (map made_wait (r.now ∷ self.old.held) ++ self.old.waiting)
+            (x.now ∷ self.new.waiting) }
+        ensures kept { self.new ≡ record self.old {
+          running = Some (with_role x.now Running);
+          held = [];
+          waiting = self.new.waiting;
+        } }
+        ensures count { (d : ℕ) → length (ready_of self.old) + 1 < 2 ^ d →
+            steps.new ≤ steps.old + 6 * d + 2 * d * (length self.old.held + 1) }
+    {
+        let _ = self.pool.take_latest(steps);
+        self.pool.add(in_role(r, Role::Waiting), steps);
+        displace(&mut self.held, &mut self.rooms, &mut self.pool, steps);
+        self.running = Some(in_role(x, Role::Running));
     }
 
     /// The running job has so many ticks more, and the clock goes on.

@@ -175,6 +175,13 @@ impl Pool {
         self.version
     }
 
+    /// How many jobs wait.
+    pub fn count(&self) -> u32
+        ensures { result ≡ length self.now.tasks }
+    {
+        (self.slots.len() - self.free.len()) as u32
+    }
+
     /// Another version, where no job waits.
     pub fn declare(&mut self, version: Version)
         requires { self.old.tasks ≡ [] }

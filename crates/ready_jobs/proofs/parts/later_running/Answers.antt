@@ -1,4 +1,4 @@
-use Rattle.std.proofs.Common.{◌+◌, ◌<◌, ◌^◌, inl, refl, sym, subst}
+use Rattle.std.proofs.Common.{◌+◌, ◌<◌, inl, refl, subst}
 use Rattle.std.specs.Option.{option_to_list}
 use Rattle.dover_model.specs.declared.events.Task.{Task}
 use Rattle.dover_model.specs.Sound.{Each}

@@ -1,5 +1,5 @@
-use Rattle.std.proofs.Common.{◌≡◌, ◌≤◌, ◌+◌, ◌-◌, ◌∷◌, [], ◌++◌, Some, None, refl, sym, ap, ◌∙◌, subst, length}
-use Rattle.std.proofs.Common.{replicate, arith}
+use Rattle.std.proofs.Common.{◌∷◌, [], ◌++◌, None, refl, sym, ap, ◌∙◌, subst, length}
+use Rattle.std.proofs.Common.{arith}
 use Rattle.ready_jobs.specs.Pools.{AreFree, jobs_at}
 use Rattle.ready_jobs.proofs.Pooling.{free_more, jobs_push, none_more, length_more, all_none}
 use Rattle.ready_jobs.proofs.pool.open_places.Goals as goal

@@ -1,8 +1,5 @@
-use Rattle.std.proofs.Common.{◌≡◌, ◌≤◌, ◌+◌, ◌<◌, ◌^◌, ◌∷◌, [], ◌++◌, Some, None, sym, ap, ◌∙◌, subst, length, set}
+use Rattle.std.proofs.Common.{◌∷◌, [], ◌++◌, Some, None, sym, ap, ◌∙◌, subst, set}
 use Rattle.std.proofs.Common.{arith}
-use Rattle.std.specs.Prelude.{vec_len, vec_capacity, is_some}
-use Rattle.std.specs.List.{slice_get, count_by}
-use Rattle.dover_model.proofs.Members.{some_same}
 use Rattle.ready_jobs.specs.Reordered.{IsReordered}
 use Rattle.ready_jobs.specs.Pools.{IsPool, jobs_at}
 use Rattle.ready_jobs.proofs.Pooling.{within, jobs_out, left_room, left_kept, left_due_count, left_latest_count}

@@ -1,10 +1,10 @@
-use Rattle.std.proofs.Common.{◌≡◌, ◌≤◌, ◌+◌, ◌-◌, ◌<◌, max, reverse, length, map, refl, sym, ap, ◌∙◌, subst, arith}
+use Rattle.std.proofs.Common.{reverse, length, refl, sym, ap, subst, arith}
 use Rattle.std.specs.Prelude.{vec_capacity}
 use Rattle.std.proofs.lemmas.List.{length-map, length-reverse}
 use Rattle.dover_model.specs.Entries.{entry_of}
 use Rattle.privileged_queue.specs.Stack.{Stack}
 use Rattle.ready_jobs.specs.Pools.{Pooled}
-use Rattle.ready_jobs.specs.Parts.{Parted, AreParts}
+use Rattle.ready_jobs.specs.Parts.{AreParts}
 use Rattle.ready_jobs.specs.Kept.{parted_of}
 use Rattle.ready_jobs.proofs.Keeping.{reserved_kept}
 use Rattle.ready_jobs.proofs.parts.Parts.reserve.Goals as goal

@@ -1,7 +1,6 @@
-use Rattle.std.proofs.Common.{◌≡◌, ◌≤◌, ◌+◌, ◌<◌, ◌^◌, Some, None, sym, ap, ◌∙◌, subst, arith}
+use Rattle.std.proofs.Common.{◌+◌, ◌<◌, sym, subst}
 use Rattle.std.specs.Prelude.{vec_capacity}
-use Rattle.std.specs.Option.{option_to_list, option_map}
-use Rattle.dover_model.specs.Jumps.{ticked_by}
+use Rattle.std.specs.Option.{option_to_list}
 use Rattle.dover_model.specs.Sound.{Each}
 use Rattle.ready_jobs.specs.Parts.{Parted, AreParts}
 use Rattle.ready_jobs.specs.Kept.{parted_of}

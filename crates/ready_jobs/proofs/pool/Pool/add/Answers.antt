@@ -1,9 +1,7 @@
-use Rattle.std.proofs.Common.{◌≡◌, ◌≤◌, ◌+◌, ◌<◌, ◌^◌, ◌∷◌, [], ◌++◌, Some, None, sym, ap, ◌∙◌, subst, length, set}
+use Rattle.std.proofs.Common.{◌≡◌, ◌+◌, ◌<◌, ◌^◌, ◌∷◌, Some, None, sym, ap, ◌∙◌, subst, length, set}
 use Rattle.std.proofs.Common.{get_or, arith}
-use Rattle.std.specs.Prelude.{vec_len, vec_capacity, is_some}
-use Rattle.std.specs.List.{slice_get, count_by}
 use Rattle.place_heap.specs.Items.{ItemFacts}
-use Rattle.place_heap.specs.Orders.{due_item, latest_item}
+use Rattle.place_heap.specs.Orders.{due_item}
 use Rattle.dover_model.specs.Entries.{entry_of}
 use Rattle.ready_jobs.specs.Reordered.{IsReordered}
 use Rattle.ready_jobs.specs.Pools.{Pooled, IsPool, jobs_at}

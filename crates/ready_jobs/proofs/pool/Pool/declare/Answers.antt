@@ -1,6 +1,6 @@
-use Rattle.std.proofs.Common.{[], sym, ap, ◌∙◌, subst}
+use Rattle.std.proofs.Common.{ap, ◌∙◌}
 use Rattle.place_heap.specs.Orders.{due_item, latest_item}
-use Rattle.ready_jobs.specs.Pools.{Pooled, HasItems, jobs_at}
+use Rattle.ready_jobs.specs.Pools.{Pooled}
 use Rattle.ready_jobs.proofs.Pooling.{items_none}
 use Rattle.ready_jobs.proofs.pool.Pool.declare.Goals as goal
 

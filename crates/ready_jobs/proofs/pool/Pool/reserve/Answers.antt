@@ -1,11 +1,11 @@
-use Rattle.std.proofs.Common.{◌≡◌, ◌≤◌, ◌+◌, ◌-◌, ◌∷◌, [], ◌++◌, Some, None, refl, sym, ap, ◌∙◌, subst, length}
+use Rattle.std.proofs.Common.{◌≡◌, ◌≤◌, ◌-◌, None, sym, ap, subst, length}
 use Rattle.std.proofs.Common.{length-append, replicate, arith}
 use Rattle.std.specs.Prelude.{Option}
 use Rattle.std.proofs.lemmas.List.{length-replicate}
 use Rattle.dover_model.specs.declared.events.Task.{Task}
 use Rattle.place_heap.specs.Items.{ItemFacts}
 use Rattle.place_heap.specs.Orders.{due_item, latest_item}
-use Rattle.ready_jobs.specs.Pools.{IsPool, HasItems, AreFree, jobs_at}
+use Rattle.ready_jobs.specs.Pools.{IsPool, HasItems}
 use Rattle.ready_jobs.proofs.Pooling.{table_grows, places_grow}
 use Rattle.ready_jobs.proofs.pool.Pool.reserve.Goals as goal
 

@@ -1,5 +1,4 @@
-use Rattle.std.proofs.Common.{◌≡◌, ◌∷◌, ◌+◌, ◌<◌, ◌^◌, Some, sym, ap, ◌∙◌, subst, length, arith}
-use Rattle.std.specs.Prelude.{vec_len, vec_capacity}
+use Rattle.std.proofs.Common.{◌∷◌, ◌+◌, ◌<◌, ◌^◌, sym, ap, ◌∙◌, subst, length, arith}
 use Rattle.std.specs.List.{slice_get}
 use Rattle.dover_model.specs.Orders.{latest_first, first}
 use Rattle.dover_model.proofs.Members.{some_same}
@@ -7,7 +6,7 @@ use Rattle.dover_model.proofs.Tests.{none_is_some}
 use Rattle.ready_jobs.specs.Reordered.{IsReordered}
 use Rattle.ready_jobs.specs.Parts.{HaveOwnNumbers, AreModest}
 use Rattle.ready_jobs.specs.Pools.{Pooled, jobs_at}
-use Rattle.ready_jobs.proofs.Pooling.{latest_none, latest_found, within}
+use Rattle.ready_jobs.proofs.Pooling.{latest_none, latest_found}
 use Rattle.ready_jobs.proofs.pool.Pool.take_latest.Goals as goal
 
 pub take_at-requires-clause-some : goal.take_at-requires-clause-some

@@ -1,0 +1,211 @@
+-- What printed steps cost, by the jobs that begin and cease to wait.
+use Rattle.std.proofs.Common.{◌≡◌, ℕ, ◌+◌, ◌*◌, ◌≤◌, inl, inr, List, [], ◌∷◌, ◌++◌, length, refl, sym, ap, ◌∙◌, subst}
+use Rattle.std.proofs.Common.{Bool, true, false, cond, not, arith}
+use Rattle.std.specs.Prelude.{Some, ◌&&◌}
+use Rattle.std.specs.Option.{option_to_list}
+use Rattle.std.specs.List.{filter, sum_by, count_by}
+use Rattle.std.proofs.lemmas.Bool.{eq-eqb, ne_eqb}
+use Rattle.std.proofs.lemmas.List.{length-append}
+use Rattle.std.proofs.lemmas.List.Sums.{sum_by-cons, sum_by-append}
+use Rattle.std.proofs.Math.Nat.{mul-le-mul_left}
+use Rattle.dover_model.specs.declared.events.Event.TheVariants.{Run, Take, Abandon}
+use Rattle.dover_model.specs.declared.events.Role.{Role}
+use Rattle.dover_model.specs.declared.events.Role.TheVariants.{Held, Running, Done, Gone}
+use Rattle.dover_model.specs.declared.events.Task.{Task}
+use Rattle.dover_model.specs.Instance.{Rules, Instance}
+use Rattle.dover_model.specs.Sound.{IsMember, Each}
+use Rattle.dover_model.specs.State.{State, is_waiting, is_over}
+use Rattle.dover_model.specs.Step.{Move, Prints, Waits, Ticks, open_step, with_role, displaced}
+use Rattle.dover_model.specs.WaitingMoves.{waits_then, enters, leaves}
+use Rattle.dover_model.proofs.Members.{term_le_sum}
+use Rattle.dover_model.proofs.Roles.{passes, is_over_role}
+use Rattle.queued_jobs.specs.Costs.{cost_of}
+use Rattle.queued_jobs.proofs.Costs.{one_leaves, one_enters, run_leaves, abandon_leaves, take_leaves, wait_enters}
+use Rattle.trace_reading.specs.Ready.{is_ready}
+use Rattle.trace_reading.proofs.ReadyParts.{change, over_stays}
+use Rattle.ready_jobs.specs.Following.{PartOf}
+use Rattle.ready_jobs.specs.Changed.{named, AreOnce}
+use Rattle.ready_jobs.specs.Parts.{Parted, HaveRoles, ready_of, state_of}
+use Rattle.ready_jobs.proofs.Reordering.{in_left, in_right}
+
+-- all of them count
+count_each : (p : Task → Bool) (ts : List Task) → Each (λ t. p t ≡ true) ts → length ts ≤ count_by p ts
+count_each p [] all = omega arith
+count_each p (t ∷ ts) all = omega (
+  arith,
+  count_each p ts (λ u m. all u (inr m)),
+  sum_by-cons (λ u. cond {A = ℕ} (p u) 1 0) t ts,
+  ap (λ (b : Bool). cond {A = ℕ} b 1 0) (all t (inl refl)),
+)
+
+-- one of two parts, and one of the other, have two numbers
+apart : (a b : List Task) → AreOnce (a ++ b) → (t x : Task) → IsMember t a → IsMember x b → t.number ≡ x.number → ⊥
+apart a b once t x mt mx same =
+    let most : sum_by (named x.number) (a ++ b) ≤ 1 = once x.number in
+    let here : named x.number t ≤ sum_by (named x.number) a = term_le_sum (named x.number) a t mt in
+    let there : named x.number x ≤ sum_by (named x.number) b = term_le_sum (named x.number) b x mx in
+    omega (
+      arith,
+      most,
+      here,
+      there,
+      sum_by-append (named x.number) a b,
+      ap (λ (b : Bool). cond {A = ℕ} b 1 0) (eq-eqb x.number x.number refl),
+      ap (λ (b : Bool). cond {A = ℕ} b 1 0) (eq-eqb t.number x.number same),
+    )
+
+-- a part behind others
+once_behind : (a b : List Task) → AreOnce (a ++ b) → AreOnce b
+once_behind a b once n =
+    let most : sum_by (named n) (a ++ b) ≤ 1 = once n in
+    omega (arith, most, sum_by-append (named n) a b)
+
+-- those that begin to wait and the one that ceases to
+take_sums : (d enters leaves before after held : ℕ) → held + 1 ≤ enters → 1 ≤ leaves
+    → after ≤ before + 6 * d + 2 * d * (held + 1)
+    → after ≤ before + (2 * d * enters + 6 * d * leaves)
+take_sums d enters leaves before after held more less cost =
+    let begun : 2 * d * (held + 1) ≤ 2 * d * enters = mul-le-mul_left (2 * d) more in
+    let ceased : 6 * d * 1 ≤ 6 * d * leaves = mul-le-mul_left (6 * d) less in
+    omega (arith, begun, ceased, cost)
+
+-- those that wait are some of those that are ready
+pub fewer_wait : (p : Parted) → length p.waiting ≤ length (ready_of p)
+fewer_wait p = omega (
+  arith,
+  length-append (option_to_list p.running) (option_to_list p.fresh ++ (p.held ++ p.waiting)),
+  length-append (option_to_list p.fresh) (p.held ++ p.waiting),
+  length-append p.held p.waiting,
+)
+
+module _ (p : Parted) (roles : HaveRoles p) (d before after at : ℕ) where
+  abbrev A : List Task
+  A = option_to_list p.running
+
+  abbrev B : List Task
+  B = option_to_list p.fresh
+
+  in_waiting : (t : Task) → IsMember t p.waiting → IsMember t (ready_of p)
+  in_waiting t m = in_right A (B ++ (p.held ++ p.waiting)) t (in_right B (p.held ++ p.waiting) t
+      (in_right p.held p.waiting t m))
+
+  pub run_costs : (n : ℕ) (o : Task) → IsMember o p.waiting → o.number ≡ n → after ≤ before + 6 * d
+      → after ≤ before + cost_of d (state_of p) (Prints (Run at n))
+  run_costs n o m number cost =
+      one_leaves d (enters (state_of p) (Prints (Run at n))) (leaves (state_of p) (Prints (Run at n))) before after cost
+      (run_leaves (state_of p) o (in_waiting o m) at n (roles.waiting o m) number)
+
+  pub abandon_costs : (n : ℕ) (o : Task) → IsMember o p.waiting → o.number ≡ n → after ≤ before + 6 * d
+      → after ≤ before + cost_of d (state_of p) (Prints (Abandon at n))
+  abandon_costs n o m number cost =
+      one_leaves d (enters (state_of p) (Prints (Abandon at n))) (leaves (state_of p) (Prints (Abandon at n))) before
+      after cost (abandon_leaves (state_of p) o (in_waiting o m) at n (roles.waiting o m) number)
+
+  pub wait_costs : (f : Task) → p.fresh ≡ Some f → after ≤ before + 2 * d
+      → after ≤ before + cost_of d (state_of p) (Waits f.number)
+  wait_costs f is cost =
+      one_enters d (enters (state_of p) (Waits f.number)) (leaves (state_of p) (Waits f.number)) before after cost
+      (wait_enters (state_of p) f (in_right A (B ++ (p.held ++ p.waiting)) f (in_left B (p.held ++ p.waiting) f here))
+      f.number (roles.fresh f here) refl) where
+        here : IsMember f B
+        here = subst (λ o. IsMember f (option_to_list o)) (sym is) (inl refl)
+
+  module _ (once : AreOnce (ready_of p)) (stops starts : ℕ) (r x : Task) (runs : p.running ≡ Some r)
+      (waits : IsMember x p.waiting) (number : x.number ≡ starts) where
+    abbrev begins : Task → Bool
+    begins t = waits_then (Prints (Take at stops starts)) t && not (is_waiting t)
+
+    -- one that isn't named and is displaced begins to wait
+    one_begins : (role : Role) (t : Task) → t.role ≡ role → is_waiting (with_role t (displaced role)) ≡ true
+        → is_waiting (with_role t role) ≡ false → (t.number ≡ x.number → ⊥) → begins t ≡ true
+    one_begins role t is then now other =
+        ap (λ b. is_waiting (with_role t (cond b Running (displaced t.role))) && not (is_waiting t))
+        (ne_eqb t.number starts (λ e. other (e ∙ sym number)))
+        ∙ ap (λ o. is_waiting (with_role t (displaced o)) && not (is_waiting (with_role t o))) is
+        ∙ ap (λ b. b && not (is_waiting (with_role t role))) then
+        ∙ ap not now
+
+    once_runs : AreOnce ((r ∷ []) ++ (B ++ (p.held ++ p.waiting)))
+    once_runs = subst (λ o. AreOnce (option_to_list o ++ (B ++ (p.held ++ p.waiting)))) runs once
+
+    runs_begin : begins r ≡ true
+    runs_begin = one_begins Running r
+        (roles.running r (subst (λ o. IsMember r (option_to_list o)) (sym runs) (inl refl))) refl refl
+        (apart (r ∷ []) (B ++ (p.held ++ p.waiting)) once_runs r x (inl refl)
+        (in_right B (p.held ++ p.waiting) x (in_right p.held p.waiting x waits)))
+
+    held_begin : Each (λ t. begins t ≡ true) p.held
+    held_begin t m = one_begins Held t (roles.held t m) refl refl
+        (apart p.held p.waiting
+        (once_behind B (p.held ++ p.waiting) (once_behind (r ∷ []) (B ++ (p.held ++ p.waiting)) once_runs)) t x m waits)
+
+    all_begin : length p.held + 1 ≤ enters (state_of p) (Prints (Take at stops starts))
+    all_begin = subst (λ o. length p.held + 1 ≤ count_by begins (option_to_list o ++ (B ++ (p.held ++ p.waiting))))
+        (sym runs) (omega (
+          arith,
+          sum_by-cons (λ t. cond {A = ℕ} (begins t) 1 0) r (B ++ (p.held ++ p.waiting)),
+          sum_by-append (λ t. cond {A = ℕ} (begins t) 1 0) B (p.held ++ p.waiting),
+          sum_by-append (λ t. cond {A = ℕ} (begins t) 1 0) p.held p.waiting,
+          ap (λ (b : Bool). cond {A = ℕ} b 1 0) runs_begin,
+          count_each begins p.held held_begin,
+        ))
+
+    pub take_costs : after ≤ before + 6 * d + 2 * d * (length p.held + 1)
+        → after ≤ before + cost_of d (state_of p) (Prints (Take at stops starts))
+    take_costs cost = take_sums d (enters (state_of p) (Prints (Take at stops starts)))
+        (leaves (state_of p) (Prints (Take at stops starts))) before after (length p.held) all_begin
+        (take_leaves (state_of p) x (in_waiting x waits) at stops starts (roles.waiting x waits) number) cost
+
+-- ---- of a whole run
+
+-- those that aren't ready don't count
+count_ready : (f : Task → Bool) (xs : List Task) → Each (λ t. is_over t ≡ true → f t ≡ false) xs
+    → count_by f (filter is_ready xs) ≡ count_by f xs
+count_ready f [] none = refl
+count_ready f (x ∷ xs) none = by_test (is_over x) refl (count_ready f xs (λ t m. none t (inr m))) where
+  by_test : (b : Bool) → is_over x ≡ b → count_by f (filter is_ready xs) ≡ count_by f xs
+      → count_by f (cond (not b) (x ∷ filter is_ready xs) (filter is_ready xs)) ≡ count_by f (x ∷ xs)
+  by_test true over rest = omega (
+    arith,
+    rest,
+    sum_by-cons (λ t. cond {A = ℕ} (f t) 1 0) x xs,
+    ap (λ (b : Bool). cond {A = ℕ} b 1 0) (none x (inl refl) over),
+  )
+  by_test false ready rest = omega (
+    arith,
+    rest,
+    sum_by-cons (λ t. cond {A = ℕ} (f t) 1 0) x xs,
+    sum_by-cons (λ t. cond {A = ℕ} (f t) 1 0) x (filter is_ready xs),
+  )
+
+-- a job that is over doesn't wait
+over_not_waiting : (t : Task) → is_over t ≡ true → is_waiting t ≡ false
+over_not_waiting t over = elim (is_over_role t over) [
+  | inl e ↦ passes is_waiting t Done false e refl
+  | inr e ↦ passes is_waiting t Gone false e refl
+]
+
+-- that it waits then is that it waits as changed
+waits_changed : (m : Move) (t : Task) → waits_then m t ≡ is_waiting (change m t)
+waits_changed (Prints e) t = refl
+waits_changed (Waits n) t = refl
+waits_changed Ticks t = refl
+
+module _ (p : Parted) (J : Instance) (z : State) (part : PartOf p J z) (rules : Rules) where
+  over_waits_not : Each (λ t. is_over t ≡ true → waits_then (open_step rules z) t ≡ false) z.tasks
+  over_waits_not t m over = waits_changed (open_step rules z) t
+      ∙ ap is_waiting (over_stays J part.valid rules z part.keeps t m over) ∙ over_not_waiting t over
+
+  count_part : (f : Task → Bool) → Each (λ t. is_over t ≡ true → f t ≡ false) z.tasks
+      → count_by f (ready_of p) ≡ count_by f z.tasks
+  count_part f none = part.ready.weighs (λ t. cond {A = ℕ} (f t) 1 0) ∙ count_ready f z.tasks none
+
+  -- an open step costs the ready jobs what it costs all
+  pub cost_whole : (d : ℕ) → cost_of d (state_of p) (open_step rules z) ≡ cost_of d z (open_step rules z)
+  cost_whole d =
+      ap (λ n. 2 * d * n + 6 * d * leaves (state_of p) (open_step rules z))
+      (count_part (λ t. waits_then (open_step rules z) t && not (is_waiting t))
+      (λ t m over. ap (λ b. b && not (is_waiting t)) (over_waits_not t m over)))
+      ∙ ap (λ n. 2 * d * enters z (open_step rules z) + 6 * d * n)
+      (count_part (λ t. is_waiting t && not (waits_then (open_step rules z) t))
+      (λ t m over. ap (λ b. b && not (waits_then (open_step rules z) t)) (over_not_waiting t over)))

@@ -1,0 +1,125 @@
+-- The held jobs wait, one by one.
+use Rattle.std.proofs.Common.{◌≡◌, ℕ, ◌+◌, ◌*◌, ◌≤◌, ◌<◌, inl, inr, List, [], ◌∷◌, ◌++◌, length, map, reverse, refl}
+use Rattle.std.proofs.Common.{sym, ap, ◌∙◌, subst, arith}
+use Rattle.std.proofs.lemmas.List.{reverse-append}
+use Rattle.dover_model.specs.declared.events.Task.{Task}
+use Rattle.dover_model.specs.Entries.{entry_of}
+use Rattle.dover_model.specs.Sound.{IsMember, Each}
+use Rattle.privileged_queue.specs.Stack.{Stack, without_top}
+use Rattle.queued_jobs.proofs.Steps.{without_first}
+use Rattle.ready_jobs.specs.Changed.{made_wait}
+use Rattle.ready_jobs.specs.Pools.{Pooled}
+use Rattle.ready_jobs.specs.Reordered.{IsReordered}
+use Rattle.ready_jobs.proofs.Pooling.{between, length_more}
+use Rattle.ready_jobs.proofs.Reordering.{same_order, both_parts, further, turned, as_many}
+
+-- of the jobs that were held some are still, and the others wait: those that will wait in the end are the same
+pub record Displaces (was is : List Task) (old now : Stack) (from to : Pooled) : Type 0 where
+  pub held : now.held ≡ map entry_of (reverse is)
+  pub latest : now.latest ≡ old.latest
+  pub spare : now.spare + length is ≡ old.spare + length was
+  pub kept : to ≡ record from { tasks = to.tasks }
+  pub same : IsReordered (map made_wait (reverse was) ++ from.tasks) (map made_wait (reverse is) ++ to.tasks)
+  pub numbers : Each (λ t. t.number < 1_048_576) (reverse is)
+  pub room : length is + length to.tasks ≤ to.room
+  pub sum : length is + length to.tasks ≡ length was + length from.tasks
+
+-- each that begins to wait costs 2d
+pub one_counted : (d before after held rest most : ℕ) → held ≡ rest + 1 → after ≤ before + 2 * d
+    → before + 2 * d * held ≤ most
+    → after + 2 * d * rest ≤ most
+one_counted d before after held rest most one cost low =
+    let split : 2 * d * held ≡ 2 * d * rest + 2 * d = ap (λ n. 2 * d * n) one ∙ omega arith in
+    omega (arith, split, cost, low)
+
+-- one ceases to wait, and those that were held and the one that ran begin to
+pub take_counted : (d before one two three held items : ℕ) → items ≡ held → one ≤ before + 6 * d → two ≤ one + 2 * d
+    → three ≤ two + 2 * d * items
+    → three ≤ before + 6 * d + 2 * d * (held + 1)
+take_counted d before one two three held items same first next last =
+    let split : 2 * d * (held + 1) ≡ 2 * d * items + 2 * d =
+    ap (λ n. 2 * d * (n + 1)) (sym same) ∙ omega arith in
+    omega (arith, split, first, next, last)
+
+-- the first of two parts goes into the second
+pub one_waits : (t : Task) (held waiting more : List Task) → IsReordered (made_wait t ∷ waiting) more
+    → IsReordered (map made_wait (t ∷ held) ++ waiting) (map made_wait held ++ more)
+one_waits t held waiting more add =
+    further (made_wait t ∷ (map made_wait held ++ waiting)) (map made_wait held ++ made_wait t ∷ waiting)
+    (map made_wait held ++ more)
+    (between (made_wait t) (map made_wait held) waiting)
+    (both_parts (map made_wait held) (map made_wait held) (made_wait t ∷ waiting) more
+    (same_order (map made_wait held)) add)
+
+-- one job leaves those that wait, one joins them, and then all held ones do
+pub taken_order : (r x : Task) (held waiting rest two three : List Task) → IsReordered waiting (x ∷ rest)
+    → IsReordered (made_wait r ∷ rest) two → IsReordered (map made_wait held ++ two) three
+    → IsReordered (map made_wait (r ∷ held) ++ waiting) (x ∷ three)
+taken_order r x held waiting rest two three out into all =
+    further (map made_wait (r ∷ held) ++ waiting) (map made_wait (r ∷ held) ++ x ∷ rest) (x ∷ three)
+    (both_parts (map made_wait (r ∷ held)) (map made_wait (r ∷ held)) waiting (x ∷ rest)
+    (same_order (map made_wait (r ∷ held))) out)
+    (further (map made_wait (r ∷ held) ++ x ∷ rest) (x ∷ (map made_wait (r ∷ held) ++ rest)) (x ∷ three)
+    (turned (x ∷ (map made_wait (r ∷ held) ++ rest)) (map made_wait (r ∷ held) ++ x ∷ rest)
+    (between x (map made_wait (r ∷ held)) rest))
+    (both_parts (x ∷ []) (x ∷ []) (map made_wait (r ∷ held) ++ rest) three (same_order (x ∷ []))
+    (further (map made_wait (r ∷ held) ++ rest) (map made_wait held ++ two) three
+    (one_waits r held rest two into) all)))
+
+module _ (was is rest : List Task) (t : Task) (old now next : Stack) (from to more : Pooled)
+    (it : Displaces was is old now from to) (top : is ≡ rest ++ t ∷ []) where
+  turned_is : reverse is ≡ t ∷ reverse rest
+  turned_is = ap reverse top ∙ reverse-append rest (t ∷ [])
+
+  pub one_less : length is ≡ length rest + 1
+  one_less = ap (λ l. length l) top ∙ length_more rest t
+
+  -- there is room for the job
+  pub one_fits : length to.tasks < to.room
+  one_fits = let room : length is + length to.tasks ≤ to.room = it.room in omega (arith, room, one_less)
+
+  pub one_small : t.number < 1_048_576
+  one_small = it.numbers t (subst (IsMember t) (sym turned_is) (inl refl))
+
+  module _ (pops : next ≡ without_top now) (kept : more ≡ record to { tasks = more.tasks })
+      (add : IsReordered (made_wait t ∷ to.tasks) more.tasks) where
+    next_is : next ≡ record { held = map entry_of (reverse rest); latest = now.latest; spare = now.spare + 1 }
+    next_is = pops ∙ without_first now (entry_of t) (map entry_of (reverse rest))
+        (it.held ∙ ap (map entry_of) turned_is)
+
+    longer : length more.tasks ≡ length to.tasks + 1
+    longer = omega (arith, as_many (made_wait t ∷ to.tasks) more.tasks add)
+
+    -- it waits
+    pub one_displaced : Displaces was rest old next from more
+    one_displaced = record {
+      held = ap (λ (s : Stack). s.held) next_is;
+      latest = ap (λ (s : Stack). s.latest) next_is ∙ it.latest;
+      spare = let same : now.spare + length is ≡ old.spare + length was = it.spare in
+          omega (arith, same, one_less, ap (λ (s : Stack). s.spare) next_is);
+      kept = kept ∙ ap (λ (q : Pooled). record q { tasks = more.tasks }) it.kept;
+      same = further (map made_wait (reverse was) ++ from.tasks) (map made_wait (reverse is) ++ to.tasks)
+          (map made_wait (reverse rest) ++ more.tasks) it.same
+          (subst (λ l. IsReordered (map made_wait l ++ to.tasks) (map made_wait (reverse rest) ++ more.tasks))
+          (sym turned_is) (one_waits t (reverse rest) to.tasks more.tasks add));
+      numbers = λ u k. it.numbers u (subst (IsMember u) (sym turned_is) (inr k));
+      room = let room : length is + length to.tasks ≤ to.room = it.room in
+          omega (arith, room, one_less, longer, ap (λ (q : Pooled). q.room) kept);
+      sum = let sum : length is + length to.tasks ≡ length was + length from.tasks = it.sum in
+          omega (arith, sum, one_less, longer);
+    }
+
+-- none is held any more
+module _ (was is : List Task) (old now : Stack) (from to : Pooled) (it : Displaces was is old now from to)
+    (none : is ≡ []) where
+  pub all_wait : IsReordered (map made_wait (reverse was) ++ from.tasks) to.tasks
+  all_wait = subst (λ l. IsReordered (map made_wait (reverse was) ++ from.tasks)
+      (map made_wait (reverse l) ++ to.tasks)) none it.same
+
+  pub none_held : now ≡ record old { held = []; spare = old.spare + length was }
+  none_held =
+      let same : now.spare + length is ≡ old.spare + length was = it.spare in
+      let spare : now.spare ≡ old.spare + length was = omega (arith, same, ap (λ l. length l) none) in
+      ap (λ h. record now { held = h }) (it.held ∙ ap (λ l. map entry_of (reverse l)) none)
+      ∙ ap (λ l. record { held = []; latest = l; spare = now.spare }) it.latest
+      ∙ ap (λ s. record { held = []; latest = old.latest; spare = s }) spare

@@ -1,0 +1,202 @@
+-- The silent steps of the ready jobs, as the program takes them.
+use Rattle.std.proofs.Common.{◌≡◌, ℕ, List, [], suc, ◌+◌, ◌-◌, ◌*◌, ◌≤◌, ◌<◌, ◌∷◌, ◌++◌, length, refl, sym}
+use Rattle.std.proofs.Common.{ap, ◌∙◌, subst, arith}
+use Rattle.std.specs.Prelude.{Option, Some, None}
+use Rattle.std.specs.Option.{option_to_list, option_map}
+use Rattle.std.proofs.lemmas.List.{length-append}
+use Rattle.dover_model.specs.Fraction.{Fraction}
+use Rattle.dover_model.specs.Instance.{Rules}
+use Rattle.dover_model.specs.declared.events.Role.TheVariants.{Waiting}
+use Rattle.dover_model.specs.declared.events.Task.{Task}
+use Rattle.dover_model.specs.Sound.{Each}
+use Rattle.dover_model.specs.State.{latest_start}
+use Rattle.trace_reading.specs.Leading.{IsSilent}
+use Rattle.dover_model.specs.Step.{Move, Waits, Ticks, view, open_step, with_role}
+use Rattle.dover_model.specs.Jumps.{ticked_by, later_by}
+use Rattle.plain_step.specs.Dues.{still_ticks}
+use Rattle.trace_reading.proofs.ReadyParts.{change}
+use Rattle.ready_jobs.specs.Reordered.{IsReordered}
+use Rattle.ready_jobs.specs.Parts.{Parted, HaveRoles, AreSound, ready_of, state_of}
+use Rattle.ready_jobs.specs.Following.{IsPart, SettlesTo, SettlesFrom}
+use Rattle.ready_jobs.proofs.Reordering.{as_many}
+use Rattle.ready_jobs.specs.Changed.{AreOnce, Leaves}
+use Rattle.ready_jobs.proofs.Changes.{stays}
+use Rattle.ready_jobs.proofs.Naming.{waits_says}
+use Rattle.ready_jobs.proofs.Seeing.{seen_fresh, waiting_list}
+use Rattle.ready_jobs.specs.Course.{course_of, waiting_count}
+use Rattle.ready_jobs.proofs.Following.{part_step, part_sound, ready_once, parts_later, jumps, settles_none}
+use Rattle.ready_jobs.proofs.Following.{settles_one, settles_on, jump_low, jump_silent, jump_reaches, ticks_stale}
+use Rattle.ready_jobs.proofs.Following.{ticks_early, had_fits, stale_ticks, roles_later}
+
+-- ---- from one part to another
+
+-- what holds in some state holds where silent steps lead
+pub part_after : (k : Fraction) (mark : ℕ) (p q : Parted) → q.version ≡ p.version → SettlesFrom k mark p q
+    → IsPart (record { ratio = k; version = p.version }) p → IsPart (record { ratio = k; version = q.version }) q
+part_after k mark p q version settles old =
+    let it : SettlesTo q old.0 old.1 mark = settles old.0 old.1 old.3 old.2 in
+    (old.0, it.state, it.part, old.3 ∙ ap (λ v. record { ratio = k; version = v }) (sym version))
+
+-- what the machine has to know of the jobs
+pub known_sound : (rules : Rules) (p : Parted) → HaveRoles p → IsPart rules p → AreSound p
+known_sound rules p roles old = part_sound p old.0 old.1 old.2 roles
+
+pub known_once : (rules : Rules) (p : Parted) → IsPart rules p → AreOnce (ready_of p)
+known_once rules p old = ready_once p old.0 old.1 old.2
+
+-- no steps
+pub from_none : (k : Fraction) (mark : ℕ) (p : Parted) → SettlesFrom k mark p p
+from_none k mark p J z rules part = settles_none p J z mark part
+
+-- steps, and further ones
+pub from_on : (k : Fraction) (mark : ℕ) (p q r : Parted) → q.version ≡ p.version → SettlesFrom k mark p q
+    → SettlesFrom k mark q r → SettlesFrom k mark p r
+from_on k mark p q r version one next J z rules part =
+    let it : SettlesTo q J z mark = one J z rules part in
+    settles_on q r J z mark it
+    (next J it.state (rules ∙ ap (λ v. record { ratio = k; version = v }) (sym version)) it.part)
+
+-- ---- the fresh job waits
+
+some_same : (f g : Task) → Some f ≡ Some g → f ≡ g
+some_same f g e = cc
+
+module _ (p : Parted) (roles : HaveRoles p) (rules : Rules) (n : ℕ)
+    (waits : open_step rules (state_of p) ≡ Waits n) where
+  -- one is fresh, of that number
+  pub waits_fresh : (g : Task) × (p.fresh ≡ Some g) × (g.number ≡ n)
+  waits_fresh = let it = waits_says rules.ratio (view rules.version (state_of p)) n waits in
+      (it.0, sym (seen_fresh p roles) ∙ it.1, it.2)
+
+  pub fresh_named : (f : Task) → p.fresh ≡ Some f → f.number ≡ n
+  fresh_named f is = let it = waits_fresh in
+      ap (λ (t : Task). t.number) (some_same f it.0 (sym is ∙ it.1)) ∙ it.2
+
+-- the jobs after it
+abbrev pub Stayed : Parted → Parted → Type 0
+Stayed p q = (f : Task) × (p.fresh ≡ Some f) × IsReordered (with_role f Waiting ∷ p.waiting) q.waiting
+
+pub waits_settles : (k : Fraction) (mark : ℕ) (p q : Parted) (n : ℕ) → HaveRoles p
+    → open_step (record { ratio = k; version = p.version }) (state_of p) ≡ Waits n → Stayed p q
+    → q ≡ record p { fresh = None; waiting = q.waiting } → SettlesFrom k mark p q
+waits_settles k mark p q n roles waits it kept J z rules part =
+    settles_one p q J z mark (Waits n) part
+    (sym (part_step p J z part) ∙ ap (λ r. open_step r (state_of p)) rules ∙ waits) refl refl
+    (ap (λ (r : Parted). r.version) kept) (part.clock ∙ sym (ap (λ (r : Parted). r.clock) kept))
+    (subst (λ m. Leaves (change (Waits m)) (ready_of p) (ready_of q) 0)
+    (fresh_named p roles (record { ratio = k; version = p.version }) n waits it.0 it.1)
+    (subst (λ r. Leaves (change (Waits it.0.number)) (ready_of p) (ready_of r) 0) (sym kept)
+    (stays p roles (ready_once p J z part) it.0 q.waiting it.1 it.2)))
+
+-- ---- silent ticks
+
+pub ticks_settle : (k : Fraction) (mark n : ℕ) (p q : Parted) → HaveRoles p
+    → open_step (record { ratio = k; version = p.version }) (state_of p) ≡ Ticks
+    → n ≡ still_ticks (mark - p.clock) (state_of p) → p.clock ≤ mark → q ≡ parts_later n p → SettlesFrom k mark p q
+ticks_settle k mark n p q roles ticks is low later J z rules part =
+    subst (λ r. SettlesTo r J z mark) (sym later)
+    (jumps p roles J z part n mark
+    (λ i less. ap (λ r. open_step r (later_by i (state_of p))) rules
+    ∙ jump_silent p roles (record { ratio = k; version = p.version }) mark n low is ticks i less)
+    (jump_low p roles (record { ratio = k; version = p.version }) mark n low is))
+
+-- what is known of the jobs where a silent tick is next
+module _ (k : Fraction) (p : Parted) (roles : HaveRoles p) (old : IsPart (record { ratio = k; version = p.version }) p)
+    (ticks : open_step (record { ratio = k; version = p.version }) (state_of p) ≡ Ticks) where
+  next_ticks : open_step old.0.rules (state_of p) ≡ Ticks
+  next_ticks = ap (λ r. open_step r (state_of p)) old.3 ∙ ticks
+
+  pub known_stale : p.fresh ≡ None
+  known_stale = ticks_stale p roles old.0 old.1 old.2 next_ticks
+
+  pub known_early : Each (λ t. p.clock < latest_start t) p.waiting
+  known_early = ticks_early p roles old.0 old.1 old.2 next_ticks
+
+pub known_fits : (rules : Rules) (p : Parted) → HaveRoles p → IsPart rules p → (n : ℕ) → n ≤ 1_000_000_000_000
+    → Each (λ t. t.had + n < 18_446_744_073_709_551_616) (option_to_list p.running)
+known_fits rules p roles old n few = had_fits p roles old.0 old.1 old.2 n few
+
+-- where the ticks stop
+pub ticks_stop : (k : Fraction) (mark n : ℕ) (p q : Parted) → HaveRoles p → p.fresh ≡ None
+    → n ≡ still_ticks (mark - p.clock) (state_of p) → p.clock ≤ mark → q ≡ parts_later n p
+    → (m : Move) → open_step (record { ratio = k; version = q.version }) (state_of q) ≡ m → IsSilent m
+    → (m ≡ Ticks) × (mark ≤ q.clock)
+ticks_stop k mark n p q roles stale is low later m next silent =
+    let rules : Rules = record { ratio = k; version = p.version } in
+    let there : open_step rules (state_of (parts_later n p)) ≡ m =
+    sym (ap (λ (r : Parted). open_step (record { ratio = k; version = r.version }) (state_of r)) later) ∙ next in
+    let ticks : m ≡ Ticks =
+    stale_ticks (parts_later n p) (roles_later n p roles) rules stale m there silent in (
+      ticks,
+      subst (λ (r : Parted). mark ≤ r.clock) (sym later)
+          (jump_reaches p roles rules mark n low is (there ∙ ticks)),
+    )
+
+-- ---- how many there are
+
+-- by their roles
+pub ready_count : (p : Parted) → length (ready_of p) ≡ length (option_to_list p.running)
+    + (length (option_to_list p.fresh) + (length p.held + length p.waiting))
+ready_count p = omega (
+  arith,
+  length-append (option_to_list p.running) (option_to_list p.fresh ++ (p.held ++ p.waiting)),
+  length-append (option_to_list p.fresh) (p.held ++ p.waiting),
+  length-append p.held p.waiting,
+)
+
+-- where none is ready, none waits
+pub none_waits : (p : Parted) → ready_of p ≡ [] → p.waiting ≡ []
+none_waits p none = by_length p.waiting (omega (arith, ready_count p, ap length none)) where
+  by_length : (ts : List Task) → length ts ≡ 0 → ts ≡ []
+  by_length [] e = refl
+  by_length (t ∷ ts) e = absurd (omega arith)
+
+one_job : (o : Option Task) (f : Task) → o ≡ Some f → length (option_to_list o) ≡ 1
+one_job o f is = ap (λ (x : Option Task). length (option_to_list x)) is
+
+-- one more waits
+pub one_more : (p q : Parted) → Stayed p q → length q.waiting ≡ length p.waiting + 1
+one_more p q it = let all : length q.waiting ≡ suc (length p.waiting) =
+    as_many (with_role it.0 Waiting ∷ p.waiting) q.waiting it.2 in omega arith
+
+-- as many are ready
+pub waits_count : (p q : Parted) → Stayed p q → q ≡ record p { fresh = None; waiting = q.waiting }
+    → length (ready_of q) ≡ length (ready_of p)
+waits_count p q it kept = omega (
+  arith,
+  one_more p q it,
+  one_job p.fresh it.0 it.1,
+  ready_count p,
+  ap (λ (r : Parted). length (ready_of r)) kept,
+  ready_count (record p { fresh = None; waiting = q.waiting }),
+)
+
+pub ticks_count : (n : ℕ) (p q : Parted) → q ≡ parts_later n p → length (ready_of q) ≡ length (ready_of p)
+ticks_count n p q later = omega (
+  arith,
+  ready_count p,
+  ap (λ (r : Parted). length (ready_of r)) later,
+  ready_count (parts_later n p),
+  as_many_run p.running,
+) where
+  as_many_run : (o : Option Task) → length (option_to_list (option_map (ticked_by n) o)) ≡ length (option_to_list o)
+  as_many_run None = refl
+  as_many_run (Some t) = refl
+
+-- what it costs that one more waits
+pub waits_cost : (p q r : Parted) (d old new : ℕ) → Stayed p q → r.waiting ≡ q.waiting → new ≤ old + 2 * d
+    → new ≤ old + 2 * d * (length r.waiting - length p.waiting)
+waits_cost p q r d old new it same spent =
+    let one : length r.waiting - length p.waiting ≡ 1 = omega (arith, one_more p q it, ap length same) in
+    let all : 2 * d * (length r.waiting - length p.waiting) ≡ 2 * d * 1 = ap (λ n. 2 * d * n) one in
+    omega (arith, all, spent)
+
+pub waits_more : (k : Fraction) (p q : Parted) (jobs done d old new : ℕ) → HaveRoles p → HaveRoles q
+    → new ≤ old + 2 * d * (length q.waiting - length p.waiting)
+    → new ≤ old + 2 * d * (waiting_count (course_of k q jobs done) - waiting_count (course_of k p jobs done))
+waits_more k p q jobs done d old new roles_p roles_q spent =
+    let one : waiting_count (course_of k q jobs done) - waiting_count (course_of k p jobs done)
+    ≡ length q.waiting - length p.waiting =
+    ap (λ n. n - waiting_count (course_of k p jobs done)) (ap length (waiting_list q roles_q))
+    ∙ ap (λ n. length q.waiting - n) (ap length (waiting_list p roles_p)) in
+    subst (λ n. new ≤ old + 2 * d * n) (sym one) spent

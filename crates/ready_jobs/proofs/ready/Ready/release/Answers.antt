@@ -1,0 +1,28 @@
+use Rattle.std.proofs.Common.{◌++◌, ◌∷◌, [], sym, subst}
+use Rattle.ready_jobs.specs.Reordered.{IsReordered}
+use Rattle.ready_jobs.specs.Parts.{ready_of}
+use Rattle.ready_jobs.specs.Course.{Course, IsCourse, with_release, fresh_job}
+use Rattle.ready_jobs.proofs.Courses.{come_stale, come_course, come_order}
+use Rattle.ready_jobs.proofs.ready.Ready.release.Goals as goal
+
+pub come-requires-clause-stale : goal.come-requires-clause-stale
+come-requires-clause-stale c =
+    let i = c.self.inside in
+    come_stale i.ratio i.parts i.jobs i.done c.args.job c.clock.ensures.roles
+    (subst (λ (d : Course). IsCourse (with_release d c.args.job d.room)) (sym c.self.view_is) c.requires.course)
+
+pub invariant_of-self : goal.invariant_of-self
+invariant_of-self c =
+    let i = c.self.inside in
+    come_course i.ratio i.parts i.jobs i.done c.args.job c.clock.ensures.roles
+    (subst (λ (d : Course). IsCourse (with_release d c.args.job d.room)) (sym c.self.view_is) c.requires.course)
+    c.come.new.self c.come.ensures
+
+pub returns-clause-ready : goal.returns-clause-ready
+returns-clause-ready c =
+    let i = c.self.inside in
+    subst (λ (d : Course). IsReordered (d.ready ++ fresh_job d c.args.job ∷ []) (ready_of c.come.new.self))
+    c.self.view_is
+    (come_order i.ratio i.parts i.jobs i.done c.args.job c.clock.ensures.roles
+    (subst (λ (d : Course). IsCourse (with_release d c.args.job d.room)) (sym c.self.view_is) c.requires.course)
+    c.come.new.self c.come.ensures)

@@ -1,0 +1,15 @@
+use Rattle.std.proofs.Common.{◌≡◌, ℕ, ◌+◌, ◌*◌, ◌^◌, ◌≤◌, ◌<◌, length}
+use Rattle.std.specs.Prelude.{vec_capacity}
+use Rattle.ready_jobs.proofs.Displacing.{Displaces}
+use Rattle.ready_jobs.proofs.taking.displace.Given as goal
+
+abbrev pub invariant-loop-t : goal.invariant-loop-t
+invariant-loop-t g l = record {
+  displaces : Displaces l.initial.held.items l.held.items l.initial.rooms l.rooms l.initial.pool l.pool;
+  capacity : vec_capacity l.held ≡ vec_capacity l.initial.held;
+  count : (d : ℕ) → length l.initial.held.items + length l.initial.pool.tasks + 1 < 2 ^ d →
+      l.steps + 2 * d * length l.held.items ≤ l.initial.steps + 2 * d * length l.initial.held.items;
+}
+
+abbrev pub decreases-loop-t : goal.decreases-loop-t
+decreases-loop-t g l = length l.held.items

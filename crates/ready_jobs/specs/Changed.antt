@@ -1,0 +1,49 @@
+-- What a step makes of the ready jobs.
+use Rattle.std.specs.Prelude.{◌≡◌, ◌≤◌, ◌+◌, ◌*◌, ◌==◌, ℕ, List, map, if◌then◌else◌}
+use Rattle.std.specs.List.{filter, sum_by}
+use Rattle.dover_model.specs.declared.events.Event.{Event}
+use Rattle.dover_model.specs.declared.events.Event.TheVariants.{Release, Run, Preempt, Take, Complete, Abandon, End}
+use Rattle.dover_model.specs.declared.events.Role.TheVariants.{Waiting}
+use Rattle.dover_model.specs.declared.events.Task.{Task}
+use Rattle.dover_model.specs.Fraction.{Fraction}
+use Rattle.dover_model.specs.State.{is_done, value_sum}
+use Rattle.dover_model.specs.Step.{Prints, open_step, with_role, role_after}
+use Rattle.trace_reading.specs.Ready.{is_ready}
+use Rattle.ready_jobs.specs.Reordered.{IsReordered}
+use Rattle.ready_jobs.specs.Parts.{Parted, state_of}
+
+-- one for the job of this number
+abbrev pub named : ℕ → Task → ℕ
+named n t = if t.number == n then 1 else 0
+
+-- each number is there at most once
+abbrev pub AreOnce : List Task → Type 0
+AreOnce tasks = (n : ℕ) → sum_by (named n) tasks ≤ 1
+
+-- the job as one that waits
+abbrev pub made_wait : Task → Task
+made_wait t = with_role t Waiting
+
+-- the job after a printed step
+abbrev pub printed : Event → Task → Task
+printed e t = with_role t (role_after e t.number t.role)
+
+-- what a change of each job leaves ready, and what it does: the jobs done are worth so much
+pub record Leaves (f : Task → Task) (xs ys : List Task) (worth : ℕ) : Type 0 where
+  pub ready : IsReordered (filter is_ready (map f xs)) ys
+  pub done : value_sum (filter is_done (map f xs)) ≡ worth
+
+-- the open step of these jobs, for some ratio, is printed
+abbrev pub IsNext : Parted → Event → Type 0
+IsNext p e = (k : Fraction) × (open_step (record { ratio = k; version = p.version }) (state_of p) ≡ Prints e)
+
+-- the comparisons of a printed step while so many are held: 2d for each job that begins to wait, 6d for one that may
+-- cease to
+abbrev pub cost_of : ℕ → ℕ → Event → ℕ
+cost_of d held (Release n job) = 0
+cost_of d held (Run at n) = 6 * d
+cost_of d held (Preempt at stops starts) = 0
+cost_of d held (Take at stops starts) = 6 * d + 2 * d * (held + 1)
+cost_of d held (Complete at n) = 0
+cost_of d held (Abandon at n) = 6 * d
+cost_of d held (End value) = 0

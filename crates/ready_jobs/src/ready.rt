@@ -1,0 +1,245 @@
+//! The run of the jobs that were released so far, over those that are ready.
+ghost use Rattle.std.specs.Prelude.{◌≡◌, ◌≤◌, ◌<◌, ◌+◌, ◌-◌, ◌*◌, ◌^◌, ◌∷◌, [], ◌++◌, ℕ, ◌&&◌, nat_le, min, length};
+ghost use Rattle.std.specs.Prelude.{false, IfOk, IsOk, OnOk, OnErr};
+ghost use Rattle.dover_model.specs.Limits.{last_tick, most_jobs, most_total};
+ghost use Rattle.dover_model.specs.Instance.{Instance};
+ghost use Rattle.dover_model.specs.State.{State};
+ghost use Rattle.dover_model.specs.Step.{Prints, open_step, after};
+ghost use Rattle.dover_model.specs.Run.{is_end};
+ghost use Rattle.dover_model.specs.Settled.{is_late};
+ghost use Rattle.plain_step.specs.Moves.{step_of, state_at};
+ghost use Rattle.trace_reading.specs.Leading.{PrintsNext};
+ghost use Rattle.ready_jobs.specs.Reordered.{IsReordered};
+ghost use Rattle.ready_jobs.specs.Course.{Course, Follows, IsCourse, Reached, Settled, new_course, fresh_job};
+ghost use Rattle.ready_jobs.specs.Changed.{cost_of};
+ghost use Rattle.ready_jobs.specs.Course.{with_release, waiting_count, held_count};
+
+use crate::parts::Parts;
+use dover_model::jobs::LAST_TICK;
+use dover_model::{Event, Job, Memory, Ratio, Version};
+use plain_step::Move;
+use std::alloc::Global;
+use std::marker::Model;
+use std::sync::ledger::Ledger;
+use step_count::Steps;
+
+/// The greatest number of jobs.
+const MOST_JOBS: u32 = 1_000_000;
+
+/// A run of the jobs that were released so far, up to its last printed step or behind it: its clock, and the jobs that
+/// aren't over. Of the others, it knows how many there are and what those done are worth.
+#[derive(Drop)]
+pub struct Ready {
+    parts: Parts,
+    ratio: Ratio,
+    jobs: u32,
+    done: u64,
+}
+
+impl Model for Ready {
+    ghost use Rattle.ready_jobs.specs.Course.{Course, IsCourse, course_of};
+
+    ghost Value = { Course };
+
+    ghost view = { λ r. course_of r.ratio r.parts r.jobs r.done };
+
+    ghost invariant = { λ r. IsCourse (course_of r.ratio r.parts r.jobs r.done) };
+}
+
+impl Ready {
+    /// No jobs, and no room.
+    ///
+    /// # Errors
+    ///
+    /// `Memory` where there is none.
+    pub fn new(alloc: Global, version: Version, ratio: Ratio) -> Result<Ready, Memory>
+        ensures { IfOk result (λ c. c ≡ new_course (record { ratio = ratio; version = version }) 0) }
+    {
+        let _ = ratio.p();
+        Ok(Ready {
+            parts: Parts::new(alloc, version)?,
+            ratio,
+            jobs: 0,
+            done: 0,
+        })
+    }
+
+    /// Room for so many ready jobs more, as far as there can be jobs. Want of it leaves all as before.
+    ///
+    /// # Errors
+    ///
+    /// `Memory` where there is none.
+    pub fn reserve(&mut self, more: u32) -> Result<(), Memory>
+        ensures same { self.new ≡ record self.old { room = self.new.room } }
+        ensures room { OnOk result (min (length self.old.ready + more) most_jobs ≤ self.new.room) }
+        ensures grows { self.old.room ≤ self.new.room }
+        ensures err { OnErr result (self.new.room ≡ self.old.room) }
+        ensures enough { length self.old.ready + more ≤ self.old.room → IsOk result }
+    {
+        let ready = self.parts.count();
+        self.parts
+            .reserve(MOST_JOBS.min(ready.saturating_add(more)))
+    }
+
+    /// The clock.
+    pub fn clock(&self) -> u64
+        ensures is { result ≡ self.now.clock }
+        ensures known { result ≤ last_tick }
+    {
+        self.parts.clock()
+    }
+
+    /// The version of the rules.
+    pub fn version(&self) -> Version
+        ensures { result ≡ self.now.rules.version }
+    {
+        self.parts.version()
+    }
+
+    /// The ratio of the rules.
+    pub fn ratio(&self) -> Ratio
+        ensures { result ≡ self.now.rules.ratio }
+    {
+        self.ratio
+    }
+
+    /// How many jobs were released.
+    pub fn jobs(&self) -> u32
+        ensures is { result ≡ self.now.jobs }
+        ensures few { result ≤ most_jobs }
+    {
+        self.jobs
+    }
+
+    /// The value of the jobs done.
+    pub fn value(&self) -> u64
+        ensures is { result ≡ self.now.done }
+        ensures modest { result ≤ most_total }
+    {
+        self.done
+    }
+
+    /// The rules, where no job was released yet.
+    pub fn declare(&mut self, version: Version, ratio: Ratio)
+        requires { self.old.jobs ≡ 0 }
+        ensures { self.new ≡ record self.old { rules = record { ratio = ratio; version = version } } }
+    {
+        let _ = ratio.p();
+        self.parts.declare(version);
+        self.ratio = ratio;
+    }
+
+    // Takes the silent steps up to the next printed one, or up to the barrier of the mark, and gives the step that
+    // comes there.
+    fn go_on<L: Ledger>(&mut self, mark: u64, steps: &mut Steps<L>) -> Move
+        requires some { 0 < length self.old.ready }
+        requires low { self.old.clock ≤ mark }
+        requires known { mark ≤ last_tick }
+        ensures reached { (J : Instance) (z : State) → Follows self.old J z
+            → Reached self.new J z mark (step_of result) }
+        ensures step { step_of result ≡ open_step self.new.rules (state_at self.new.clock self.new.ready) }
+        ensures kept { self.new ≡ record self.old { clock = self.new.clock; ready = self.new.ready } }
+        ensures fewer { length self.new.ready ≡ length self.old.ready }
+        ensures low { self.new.clock ≤ mark }
+        ensures count { (d : ℕ) → length self.old.ready + 1 < 2 ^ d →
+            steps.new ≤ steps.old + 2 * d * (waiting_count self.new - waiting_count self.old) }
+    {
+        let _ = self.parts.clock();
+        let step = self.parts.settle(self.ratio, mark, steps);
+        let _ = self.parts.clock();
+        step
+    }
+
+    /// Takes the silent steps up to the next printed one, which it gives, or up to the barrier of the mark.
+    pub fn settle<L: Ledger>(&mut self, mark: u64, steps: &mut Steps<L>) -> Option<Event>
+        requires low { self.old.clock ≤ mark }
+        requires known { mark ≤ last_tick }
+        ensures settled { (J : Instance) (z : State) → Follows self.old J z → Settled self.new J z mark result }
+        ensures kept { self.new ≡ record self.old { clock = self.new.clock; ready = self.new.ready } }
+        ensures fewer { length self.new.ready ≡ length self.old.ready }
+        ensures low { self.new.clock ≤ mark }
+        ensures count { (d : ℕ) → length self.old.ready + 1 < 2 ^ d →
+            steps.new ≤ steps.old + 2 * d * (waiting_count self.new - waiting_count self.old) }
+    {
+        if self.parts.count() == 0 {
+            return None;
+        }
+        let step = self.go_on(mark, steps);
+        match step {
+            Move::Prints(event) => {
+                if is_late_at(&event, mark, self.parts.clock()) {
+                    None
+                } else {
+                    Some(event)
+                }
+            }
+            Move::Waits(_) => None,
+            Move::Ticks => None,
+        }
+    }
+
+    /// The step that the run prints next, where no further job comes. The silent steps before it are taken.
+    pub fn upcoming<L: Ledger>(&mut self, steps: &mut Steps<L>) -> Event
+        ensures next { (J : Instance) (z : State) → Follows self.old J z → (y : State) × Follows self.new J y
+            × PrintsNext J.rules z result y }
+        ensures open { is_end (Prints result) ≡ false →
+            open_step self.new.rules (state_at self.new.clock self.new.ready) ≡ Prints result }
+        ensures kept { self.new ≡ record self.old { clock = self.new.clock; ready = self.new.ready } }
+        ensures fewer { length self.new.ready ≡ length self.old.ready }
+        ensures count { (d : ℕ) → length self.old.ready + 1 < 2 ^ d →
+            steps.new ≤ steps.old + 2 * d * (waiting_count self.new - waiting_count self.old) }
+    {
+        if self.parts.count() == 0 {
+            return Event::End { value: self.done };
+        }
+        let step = self.go_on(LAST_TICK, steps);
+        match step {
+            Move::Prints(event) => event,
+            Move::Waits(_) => unreachable!(),
+            Move::Ticks => unreachable!(),
+        }
+    }
+
+    /// Takes the printed step that comes now.
+    pub fn take<L: Ledger>(&mut self, event: &Event, steps: &mut Steps<L>)
+        requires { open_step self.old.rules (state_at self.old.clock self.old.ready) ≡ Prints event.now }
+        ensures after { (J : Instance) (z : State) → Follows self.old J z
+            → Follows self.new J (after z (Prints event.now)) }
+        ensures kept { self.new ≡ record self.old { ready = self.new.ready; done = self.new.done } }
+        ensures fewer { length self.new.ready ≤ length self.old.ready }
+        ensures count { (d : ℕ) → length self.old.ready + 1 < 2 ^ d →
+            steps.new ≤ steps.old + cost_of d (held_count self.old) event.now }
+    {
+        let _ = self.parts.clock();
+        let worth = self.parts.apply(event, steps);
+        self.done += worth;
+    }
+
+    /// Takes the release of the next job, to which the clock goes on.
+    pub fn release(&mut self, job: Job)
+        requires course { IsCourse (with_release self.old job self.old.room) }
+        requires ahead { self.old.clock ≤ job.release }
+        requires room { length self.old.ready < self.old.room }
+        ensures kept { self.new ≡ record (with_release self.old job self.old.room) { ready = self.new.ready } }
+        ensures ready { IsReordered (self.old.ready ++ fresh_job self.old job ∷ []) self.new.ready }
+    {
+        let _ = self.parts.clock();
+        self.parts.come(self.jobs, job);
+        self.jobs += 1;
+    }
+}
+
+// The event is a decision at a latest start, at the mark or after it.
+fn is_late_at(event: &Event, mark: u64, clock: u64) -> bool
+    ensures { result ≡ (is_late (Prints event.now) && nat_le mark clock) }
+{
+    match event {
+        Event::Take { .. } => mark <= clock,
+        Event::Abandon { .. } => mark <= clock,
+        Event::Release { .. } => false,
+        Event::Run { .. } => false,
+        Event::Preempt { .. } => false,
+        Event::Complete { .. } => false,
+        Event::End { .. } => false,
+    }
+}

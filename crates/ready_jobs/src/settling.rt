@@ -1,0 +1,93 @@
+//! The silent steps of the ready jobs: those that print nothing.
+ghost use Rattle.std.specs.Prelude.{◌≡◌, ◌≤◌, ◌<◌, ◌+◌, ◌-◌, ◌*◌, ◌^◌, ◌∷◌, ℕ, length, Some, None};
+ghost use Rattle.dover_model.specs.declared.events.Role.TheVariants.{Waiting};
+ghost use Rattle.dover_model.specs.declared.events.Task.{Task};
+ghost use Rattle.dover_model.specs.Instance.{Rules};
+ghost use Rattle.dover_model.specs.Limits.{last_tick};
+ghost use Rattle.dover_model.specs.Step.{open_step, with_role, Waits, Ticks};
+ghost use Rattle.plain_step.specs.Moves.{step_of};
+ghost use Rattle.trace_reading.specs.Leading.{IsSilent};
+ghost use Rattle.ready_jobs.specs.Reordered.{IsReordered};
+ghost use Rattle.ready_jobs.specs.Parts.{Parted, ready_of, state_of};
+ghost use Rattle.ready_jobs.specs.Following.{IsPart, SettlesFrom};
+
+use crate::parts::Parts;
+use dover_model::Ratio;
+use plain_step::Move;
+use std::sync::ledger::Ledger;
+use step_count::Steps;
+
+impl Parts {
+    // The fresh job waits.
+    fn wait<L: Ledger>(&mut self, steps: &mut Steps<L>)
+        requires { (rules : Rules) × (n : ℕ) × (open_step rules (state_of self.old) ≡ Waits n) }
+        ensures fresh { (f : Task) × (self.old.fresh ≡ Some f)
+            × IsReordered (with_role f Waiting ∷ self.old.waiting) self.new.waiting }
+        ensures kept { self.new ≡ record self.old { fresh = None; waiting = self.new.waiting } }
+        ensures count { (d : ℕ) → length self.old.waiting + 1 < 2 ^ d → steps.new ≤ steps.old + 2 * d }
+    {
+        match self.fresh() {
+            Some(f) => self.stay(&f, steps),
+            None => unreachable!(),
+        }
+    }
+
+    // Takes the silent ticks up to the next other step, or to the mark. No job is fresh.
+    fn tick_to(&mut self, k: Ratio, mark: u64) -> Move
+        requires part { IsPart (record { ratio = k; version = self.old.version }) self.old }
+        requires stale { self.old.fresh ≡ None }
+        requires low { self.old.clock ≤ mark }
+        requires known { mark ≤ last_tick }
+        ensures settles { SettlesFrom k mark self.old self.new }
+        ensures step { step_of result
+            ≡ open_step (record { ratio = k; version = self.new.version }) (state_of self.new) }
+        ensures stops { IsSilent (step_of result) → (step_of result ≡ Ticks) × (mark ≤ self.new.clock) }
+        ensures low { self.new.clock ≤ mark }
+        ensures kept { self.new ≡ record self.old { clock = self.new.clock; running = self.new.running } }
+        ensures fewer { length (ready_of self.new) ≡ length (ready_of self.old) }
+    {
+        let clock = self.clock();
+        let step = self.open_step(k);
+        match step {
+            Move::Prints(_) => step,
+            Move::Waits(_) => step,
+            Move::Ticks => {
+                let count = self.silent_ticks(mark - clock);
+                self.tick(count);
+                self.open_step(k)
+            }
+        }
+    }
+
+    /// Takes the silent steps up to the next printed one, which it gives, or up to the barrier of the mark.
+    pub fn settle<L: Ledger>(&mut self, k: Ratio, mark: u64, steps: &mut Steps<L>) -> Move
+        requires part { IsPart (record { ratio = k; version = self.old.version }) self.old }
+        requires low { self.old.clock ≤ mark }
+        requires known { mark ≤ last_tick }
+        ensures settles { SettlesFrom k mark self.old self.new }
+        ensures step { step_of result
+            ≡ open_step (record { ratio = k; version = self.new.version }) (state_of self.new) }
+        ensures stops { IsSilent (step_of result) → (step_of result ≡ Ticks) × (mark ≤ self.new.clock) }
+        ensures low { self.new.clock ≤ mark }
+        ensures kept { self.new ≡ record self.old {
+          clock = self.new.clock;
+          running = self.new.running;
+          fresh = self.new.fresh;
+          waiting = self.new.waiting;
+        } }
+        ensures fewer { length (ready_of self.new) ≡ length (ready_of self.old) }
+        ensures count { (d : ℕ) → length self.old.waiting + 1 < 2 ^ d →
+            steps.new ≤ steps.old + 2 * d * (length self.new.waiting - length self.old.waiting) }
+    {
+        let _ = self.clock();
+        let step = self.open_step(k);
+        match step {
+            Move::Prints(_) => step,
+            Move::Waits(_) => {
+                self.wait(steps);
+                self.tick_to(k, mark)
+            }
+            Move::Ticks => self.tick_to(k, mark),
+        }
+    }
+}

@@ -1,0 +1,49 @@
+//! All held jobs wait.
+ghost use Rattle.std.specs.Prelude.{◌≡◌, ℕ, ◌+◌, ◌*◌, ◌^◌, ◌<◌, ◌≤◌, [], ◌++◌, length, map, reverse, vec_capacity};
+ghost use Rattle.dover_model.specs.Entries.{entry_of};
+ghost use Rattle.dover_model.specs.Step.{with_role};
+ghost use Rattle.dover_model.specs.Sound.{Each};
+ghost use Rattle.ready_jobs.specs.Reordered.{IsReordered};
+ghost use Rattle.ready_jobs.specs.Changed.{made_wait};
+
+use crate::pool::Pool;
+use dover_model::{Role, Task};
+use privileged_queue::Privileged;
+use std::sync::ledger::Ledger;
+use step_count::Steps;
+
+// The job in another role.
+pub(crate) fn in_role(t: &Task, role: Role) -> Task
+    ensures { result ≡ with_role t.now role }
+{
+    Task {
+        number: t.number,
+        job: t.job,
+        role,
+        had: t.had,
+    }
+}
+
+// The held jobs, which are on the stack with their rooms, wait in the pool.
+pub(crate) fn displace<L: Ledger>(
+    held: &mut Vec<Task>,
+    rooms: &mut Privileged,
+    pool: &mut Pool,
+    steps: &mut Steps<L>,
+)
+    requires rooms { rooms.old.held ≡ map entry_of (reverse held.old.items) }
+    requires room { length held.old.items + length pool.old.tasks ≤ pool.old.room }
+    requires numbers { Each (λ t. t.number < 2 ^ 20) (reverse held.old.items) }
+    ensures none { held.new.items ≡ [] }
+    ensures capacity { vec_capacity held.new ≡ vec_capacity held.old }
+    ensures rooms { rooms.new ≡ record rooms.old { held = []; spare = rooms.old.spare + length held.old.items } }
+    ensures kept { pool.new ≡ record pool.old { tasks = pool.new.tasks } }
+    ensures more { IsReordered (map made_wait (reverse held.old.items) ++ pool.old.tasks) pool.new.tasks }
+    ensures count { (d : ℕ) → length held.old.items + length pool.old.tasks + 1 < 2 ^ d →
+        steps.new ≤ steps.old + 2 * d * length held.old.items }
+{
+    while let Some(t) = held.pop() {
+        let _ = rooms.release_one();
+        pool.add(in_role(&t, Role::Waiting), steps);
+    }
+}
