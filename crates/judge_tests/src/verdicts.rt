@@ -1,17 +1,46 @@
+ghost use Rattle.std.specs.Prelude.{◌≡◌, ◌<◌};
+
 use dover_model::{Event, Memory, Ratio, Version};
 use std::alloc::Global;
+use std::marker::Brand;
+use std::sync::ledger::{Blank, Ledger};
+use step_count::Steps;
 use trace_judge::{Expected, Judge, Verdict};
 
 const SHORTEST: &[u8] = b"dover 1 1 1\njob 0 0 2 2 2\nrun 0 0\ncomplete 2 0\nend 2\n";
 
 // The text, handed over byte by byte, has this verdict, and no steps are told.
-fn is_told(alloc: Global, text: &[u8], verdict: Verdict) -> Result<bool, Memory> {
+fn is_told<L: Ledger>(
+    alloc: Global,
+    text: &[u8],
+    verdict: Verdict,
+    steps: &mut Steps<L>,
+) -> Result<bool, Memory> {
     let mut judge = Judge::new(alloc, true)?;
     for byte in text {
-        judge.feed(&[*byte])?;
+        judge.feed(&[*byte], steps)?;
     }
     let closed = judge.close()?;
     Ok(closed.verdict == verdict && closed.steps.is_empty())
+}
+
+fn told_in<L: Ledger>(
+    rt: &HostRuntime,
+    text: &[u8],
+    verdict: Verdict,
+    blank: Blank,
+) -> Result<bool, Memory>
+    requires name { blank.name ≡ L.name }
+    requires parts { blank.parts ≡ L.parts }
+    requires some { 0 < blank.parts }
+{
+    let mut steps = Steps::<L>::new(rt.memory(), blank);
+    is_told(rt.alloc(), text, verdict, &mut steps)
+}
+
+// The same with a ledger of its own.
+fn told(rt: &HostRuntime, text: &[u8], verdict: Verdict) -> Result<bool, Memory> {
+    told_in::<Brand>(rt, text, verdict, Blank::new(1))
 }
 
 // A text is wrong at its first line that goes on with no trace, or with the first byte behind one.
@@ -50,8 +79,7 @@ fn wrong_texts(rt: HostRuntime) {
         ),
     ];
     for (text, line, expected) in rows {
-        let told = is_told(rt.alloc(), text, Verdict::Wrong { line, expected });
-        assert!(rt; matches!(told, Ok(true)));
+        assert!(rt; matches!(told(&rt, text, Verdict::Wrong { line, expected }), Ok(true)));
     }
 }
 
@@ -60,17 +88,16 @@ fn wrong_texts(rt: HostRuntime) {
 fn short_texts(rt: HostRuntime) {
     let rows: [(&[u8], u64); 2] = [(b"", 0), (b"dover 1 1 1\njob 0 0 2 2 2\nrun 0", 2)];
     for (text, lines) in rows {
-        let told = is_told(rt.alloc(), text, Verdict::Short { lines });
-        assert!(rt; matches!(told, Ok(true)));
+        assert!(rt; matches!(told(&rt, text, Verdict::Short { lines }), Ok(true)));
     }
 }
 
 // Whether a judge with room for a job accepts a trace of it, and keeps its steps.
-fn is_accepted(alloc: Global) -> Result<bool, Memory> {
+fn is_accepted<L: Ledger>(alloc: Global, steps: &mut Steps<L>) -> Result<bool, Memory> {
     let mut judge = Judge::new(alloc, true)?;
     judge.reserve(1)?;
     let has_room = judge.spare() == 1;
-    judge.feed(SHORTEST)?;
+    judge.feed(SHORTEST, steps)?;
     let is_open = judge.spare() == 0 && !judge.decided();
     let closed = judge.close()?;
     let accepted = Verdict::Accepted {
@@ -83,7 +110,21 @@ fn is_accepted(alloc: Global) -> Result<bool, Memory> {
     Ok(has_room && is_open && closed.steps.len() == 4 && closed.verdict == accepted)
 }
 
+fn accepted_in<L: Ledger>(rt: &HostRuntime, blank: Blank) -> Result<bool, Memory>
+    requires name { blank.name ≡ L.name }
+    requires parts { blank.parts ≡ L.parts }
+    requires some { 0 < blank.parts }
+{
+    let mut steps = Steps::<L>::new(rt.memory(), blank);
+    is_accepted(rt.alloc(), &mut steps)
+}
+
+// The same with a ledger of its own.
+fn accepted(rt: &HostRuntime) -> Result<bool, Memory> {
+    accepted_in::<Brand>(rt, Blank::new(1))
+}
+
 #[test]
 fn a_trace_is_accepted(rt: HostRuntime) {
-    assert!(rt; matches!(is_accepted(rt.alloc()), Ok(true)));
+    assert!(rt; matches!(accepted(&rt), Ok(true)));
 }

@@ -8,16 +8,20 @@ use dialogue::{Stop, Talker};
 use dover_model::Memory;
 use dover_port::{Output, Port, Status};
 use line_text::BackLine;
+use std::marker::PhantomData;
+use std::sync::ledger::Ledger;
+use step_count::Steps;
 use trace_judge::Judge;
 
 /// A judge of the text. Nothing is due before the answer.
 #[derive(Drop)]
-pub(crate) struct Judging {
+pub(crate) struct Judging<L: Ledger> {
     pub(crate) judge: Judge,
+    pub(crate) counts: PhantomData<L>,
 }
 
-impl Talker for Judging {
-    type Meter = ();
+impl<L: Ledger> Talker for Judging<L> {
+    type Meter = Steps<L>;
 
     ghost about = { Unit {0} };
 
@@ -31,24 +35,24 @@ impl Talker for Judging {
 
     fn laws() {}
 
-    fn take(&mut self, _meter: &mut (), piece: &[u8]) -> Result<usize, Memory> {
-        match self.judge.feed(piece) {
+    fn take(&mut self, meter: &mut Steps<L>, piece: &[u8]) -> Result<usize, Memory> {
+        match self.judge.feed(piece, meter) {
             Ok(()) => Ok(piece.len()),
             Err(error) => Err(error),
         }
     }
 
-    fn next_part(&mut self, _meter: &mut ()) -> Option<BackLine> {
+    fn next_part(&mut self, _meter: &mut Steps<L>) -> Option<BackLine> {
         None
     }
 
-    fn goes_on(&self, _meter: &()) -> bool {
+    fn goes_on(&self, _meter: &Steps<L>) -> bool {
         !self.judge.decided()
     }
 
     fn answer<P: Port>(
         self,
-        _meter: &mut (),
+        _meter: &mut Steps<L>,
         port: &mut P,
         out: &mut Output,
         _ended: bool,

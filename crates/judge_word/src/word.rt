@@ -8,11 +8,14 @@ use crate::judging::Judging;
 use dialogue::converse;
 use dover_port::{Port, Status};
 use std::alloc::Global;
+use std::marker::PhantomData;
+use std::sync::ledger::Ledger;
+use step_count::Steps;
 use trace_judge::Judge;
 
 /// Judges a text: reads it to its first wrong line or the end of the input, and then writes its verdict. Memory is
 /// taken at the start and for each job that the text names.
-pub fn judge_word<P: Port>(alloc: Global, port: &mut P) -> Status
+pub fn judge_word<P: Port, L: Ledger>(alloc: Global, port: &mut P, steps: &mut Steps<L>) -> Status
     ensures judges { Since (P.moves port.old) (P.moves port.new) (Judges result) }
     ensures answer { IsAnswer result }
     ensures causes { Causes result
@@ -22,5 +25,9 @@ pub fn judge_word<P: Port>(alloc: Global, port: &mut P) -> Status
     let Ok(judge) = Judge::new(alloc, false) else {
         return Status::Memory;
     };
-    converse(port, Judging { judge }, &mut ())
+    let judging = Judging {
+        judge,
+        counts: PhantomData,
+    };
+    converse(port, judging, steps)
 }

@@ -9,10 +9,10 @@ use Rattle.judge_word.specs.Record.{IsTrace, IsNoTrace}
 use Rattle.judge_word.specs.Talking.{judging_talk}
 use Rattle.trace_judge.specs.Judging.{StandsFor, Tells, steps_told}
 use Rattle.trace_judge.specs.declared.judge.Closed.{Closed}
+use Rattle.trace_judge.specs.declared.judge.Judge.{Judge}
 use Rattle.trace_judge.specs.declared.verdict.Verdict.{Verdict}
 use Rattle.report_word.specs.Record.{told}
 use Rattle.report_word.specs.declared.form.Form.{Form}
-use Rattle.report_word.specs.declared.reporting.Reporting.{Reporting}
 
 -- The report on the run of an accepted trace is told, and else the line of the verdict. Where the input has ended,
 -- memory may be lacking for a report alone.
@@ -20,14 +20,14 @@ abbrev pub report_talk : Form → Talk
 report_talk form = judging_talk (told form) (λ bytes ended. ended ≡ true → IsTrace bytes)
 
 -- the judge stands for the bytes and keeps the steps, for a report of this form
-pub record Stands (asked : Form) (r : Reporting) (bytes : List ℕ) : Type 0 where
-  pub judge : StandsFor r.judge bytes
-  pub keep : r.judge.reader.keep ≡ true
-  pub form : r.form ≡ asked
+pub record Stands (asked given : Form) (kept : Judge) (bytes : List ℕ) : Type 0 where
+  pub judge : StandsFor kept bytes
+  pub keep : kept.reader.keep ≡ true
+  pub form : given ≡ asked
 
 -- and nothing is left to give
-abbrev pub IsAt : Form → Reporting → List ℕ → List (List ℕ) → Type 0
-IsAt form r bytes rest = Stands form r bytes × (rest ≡ [])
+abbrev pub IsAt : (asked given : Form) → Judge → List ℕ → List (List ℕ) → Type 0
+IsAt asked given kept bytes rest = Stands asked given kept bytes × (rest ≡ [])
 
 -- the judge's last word on the text: its verdict, and the steps of its run
 pub record IsClosed (closed : Closed) (text : List ℕ) : Type 0 where

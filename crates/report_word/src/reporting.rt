@@ -10,49 +10,53 @@ use dover_model::Memory;
 use dover_port::{Output, Port, Status};
 use line_text::BackLine;
 use std::alloc::Global;
+use std::marker::PhantomData;
+use std::sync::ledger::Ledger;
+use step_count::Steps;
 use trace_judge::Judge;
 
 /// A judge of the text, which keeps the steps, and the form of the report. Nothing is due before the answer.
 #[derive(Drop)]
-pub(crate) struct Reporting {
+pub(crate) struct Reporting<L: Ledger> {
     pub(crate) alloc: Global,
     pub(crate) form: Form,
     pub(crate) judge: Judge,
+    pub(crate) counts: PhantomData<L>,
 }
 
-impl Talker for Reporting {
-    type Meter = ();
+impl<L: Ledger> Talker for Reporting<L> {
+    type Meter = Steps<L>;
 
     ghost about = { forms.Form };
 
     ghost talk = { report_talk };
 
-    ghost stands = { λ form r meter. IsAt form r };
+    ghost stands = { λ asked r meter. IsAt asked r.form r.judge };
 
-    ghost ready = { λ form r meter. Stands form r };
+    ghost ready = { λ asked r meter. Stands asked r.form r.judge };
 
     ghost costs = { λ form meter bytes. Unit {0} };
 
     fn laws() {}
 
-    fn take(&mut self, _meter: &mut (), piece: &[u8]) -> Result<usize, Memory> {
-        match self.judge.feed(piece) {
+    fn take(&mut self, meter: &mut Steps<L>, piece: &[u8]) -> Result<usize, Memory> {
+        match self.judge.feed(piece, meter) {
             Ok(()) => Ok(piece.len()),
             Err(error) => Err(error),
         }
     }
 
-    fn next_part(&mut self, _meter: &mut ()) -> Option<BackLine> {
+    fn next_part(&mut self, _meter: &mut Steps<L>) -> Option<BackLine> {
         None
     }
 
-    fn goes_on(&self, _meter: &()) -> bool {
+    fn goes_on(&self, _meter: &Steps<L>) -> bool {
         !self.judge.decided()
     }
 
     fn answer<P: Port>(
         self,
-        _meter: &mut (),
+        _meter: &mut Steps<L>,
         port: &mut P,
         out: &mut Output,
         _ended: bool,

@@ -20,6 +20,9 @@ use judge_word::{put_verdict, status_of};
 use run_picture::picture;
 use run_view::{chrome, timeline, why};
 use std::alloc::Global;
+use std::marker::PhantomData;
+use std::sync::ledger::Ledger;
+use step_count::Steps;
 use trace_judge::{Closed, Judge, Verdict};
 
 /// The report on the run that prints these steps.
@@ -108,7 +111,12 @@ pub(crate) fn tell<P: Port>(
 /// Reports on a trace: reads a text to its first wrong line or the end of the input, and then writes the report on the
 /// run of an accepted trace, or else the line of the verdict. Memory is taken for the jobs and the steps that the text
 /// names, and for the report, which stands in memory as a whole before its first byte is written.
-pub fn report_word<P: Port>(alloc: Global, port: &mut P, form: Form) -> Status
+pub fn report_word<P: Port, L: Ledger>(
+    alloc: Global,
+    port: &mut P,
+    form: Form,
+    steps: &mut Steps<L>,
+) -> Status
     ensures reports { Since (P.moves port.old) (P.moves port.new) (Reports form result) }
     ensures answer { IsAnswer result }
     ensures causes { Causes result
@@ -118,6 +126,11 @@ pub fn report_word<P: Port>(alloc: Global, port: &mut P, form: Form) -> Status
     let Ok(judge) = Judge::new(alloc, true) else {
         return Status::Memory;
     };
-    let reporting = Reporting { alloc, form, judge };
-    converse(port, reporting, &mut ())
+    let reporting = Reporting {
+        alloc,
+        form,
+        judge,
+        counts: PhantomData,
+    };
+    converse(port, reporting, steps)
 }

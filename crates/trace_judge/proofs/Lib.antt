@@ -1,5 +1,3 @@
-pub mod Parts
-pub mod Courses
 pub mod Forms
 pub mod Readings
 pub mod Taking

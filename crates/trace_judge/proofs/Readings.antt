@@ -1,6 +1,6 @@
 -- What the judge keeps of the lines of a trace, line by line.
-use Rattle.std.proofs.Common.{◌≡◌, ℕ, ◌+◌, ◌*◌, ◌≤◌, List, [], ◌∷◌, ◌++◌, length, sym, ap, ◌∙◌, subst, true, cond}
-use Rattle.std.proofs.Common.{arith}
+use Rattle.std.proofs.Common.{◌≡◌, ℕ, ◌+◌, ◌*◌, ◌≤◌, List, [], ◌∷◌, ◌++◌, length, min, sym, ap, ◌∙◌, subst, true}
+use Rattle.std.proofs.Common.{cond, arith}
 use Rattle.std.specs.Option.{option_map_or, option_and_then}
 use Rattle.dover_model.specs.declared.events.Event.{Event}
 use Rattle.dover_model.specs.Instance.{Instance}
@@ -14,9 +14,9 @@ use Rattle.trace_reading.proofs.Leading.{idles_append}
 use Rattle.trace_reading.proofs.Seeing.{sees_expects}
 use Rattle.trace_judge.specs.declared.stage.Stage.{Stage}
 use Rattle.trace_judge.specs.declared.stage.Stage.TheVariants.{Opening, Going, Ended}
-use Rattle.trace_judge.specs.Course.{Course, Follows, GoesOnFrom}
+use Rattle.ready_jobs.specs.Course.{Course, Follows, GoesOnFrom}
 use Rattle.trace_judge.specs.Reads.{Reading, Opens, Goes, Ends, ReadsAhead, Reads, StaysAhead, HasSpare, IsReader}
-use Rattle.trace_judge.proofs.Courses.{follows_room}
+use Rattle.ready_jobs.proofs.Courses.{follows_room}
 
 -- ---- by the stage
 
@@ -185,7 +185,8 @@ pub spare_stays : (r : Reading) (d : Course) → HasSpare r → length d.ready �
     → d.jobs ≡ r.course.jobs → d.room ≡ r.course.room
     → HasSpare (record r { course = d })
 spare_stays r d spare fewer jobs room = record {
-  ready = let old : length r.course.ready + r.spare ≤ r.course.room = spare.ready in omega (arith, fewer, room);
+  ready = let old : min (length r.course.ready + r.spare) 1_000_000 ≤ r.course.room = spare.ready in
+      omega (arith, fewer, room);
   steps = λ keep. let old : 5 * (r.course.jobs + r.spare) + 1 ≤ r.room = spare.steps keep in omega (arith, jobs);
 }
 
@@ -215,7 +216,7 @@ kept_on c d kept fewer =
 -- what is kept, with other room
 pub reserve_reader : (r : Reading) → IsReader r → (d : Course) (steps : List Event) (spare room : ℕ)
     → d ≡ record r.course { room = d.room }
-    → steps ≡ r.steps → length r.course.ready + spare ≤ d.room
+    → steps ≡ r.steps → min (length r.course.ready + spare) 1_000_000 ≤ d.room
     → (r.keep ≡ true → 5 * (r.course.jobs + spare) + 1 ≤ room)
     → IsReader (record r { course = d; steps = steps; spare = spare; room = room })
 reserve_reader r old d steps spare room same unchanged ready all =

@@ -22,7 +22,7 @@ use Rattle.trace_reading.specs.Reading.{Sees, MayRefuse}
 use Rattle.trace_reading.proofs.Continuing.{sees_refused, sees_refused_prints, sees_idles, sees_idles_prints}
 use Rattle.trace_reading.proofs.Only.{only_refused}
 use Rattle.trace_judge.specs.declared.stage.Stage.TheVariants.{Going}
-use Rattle.trace_judge.specs.Course.{Follows}
+use Rattle.ready_jobs.specs.Course.{Follows}
 use Rattle.trace_judge.specs.Reads.{Reading, Goes, ReadsAhead, StaysAhead, IsReader, kept_steps, Took, Waited, at_tick}
 use Rattle.trace_judge.proofs.Readings.{goes_of, ahead_of, here_of, reads_of, reads_ahead}
 

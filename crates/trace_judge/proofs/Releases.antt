@@ -1,6 +1,6 @@
 -- How the judge takes the line of a release.
 use Rattle.std.proofs.Common.{◌≡◌, ℕ, ◌+◌, ◌*◌, ◌≤◌, ◌<◌, List, [], ◌∷◌, ◌++◌, length, length-append, refl, sym, ap}
-use Rattle.std.proofs.Common.{◌∙◌, subst, true, false, cond, arith}
+use Rattle.std.proofs.Common.{◌∙◌, subst, true, false, cond, min, inl, inr, arith}
 use Rattle.std.specs.Prelude.{Some, None}
 use Rattle.std.specs.List.{filter}
 use Rattle.std.proofs.lemmas.Bool.{false_from_ne_true}
@@ -14,7 +14,8 @@ use Rattle.dover_model.specs.declared.events.Event.{Event}
 use Rattle.dover_model.specs.declared.events.Event.TheVariants.{Release}
 use Rattle.dover_model.specs.declared.events.Role.TheVariants.{Fresh}
 use Rattle.dover_model.specs.declared.events.Task.{Task}
-use Rattle.dover_model.specs.State.{State, is_done, value_sum}
+use Rattle.dover_model.specs.Sound.{Each}
+use Rattle.dover_model.specs.State.{State, is_coming, is_done, value_sum}
 use Rattle.dover_model.specs.Run.{printed_of}
 use Rattle.dover_model.specs.Session.{JobItem, Session, instance_of, admitted_jobs, with_item, job_of_item}
 use Rattle.dover_model.specs.Text.{text_of}
@@ -31,10 +32,12 @@ use Rattle.trace_reading.proofs.Continuing.{sees_release, sees_release_prints}
 use Rattle.trace_reading.proofs.Seeing.{sees_keeps, sees_rest}
 use Rattle.trace_reading.proofs.Only.{only_release}
 use Rattle.trace_judge.specs.declared.stage.Stage.TheVariants.{Going}
-use Rattle.trace_judge.specs.Course.{Course, Follows, IsCourse, with_release}
+use Rattle.ready_jobs.specs.Course.{Course, Follows, IsCourse, with_release, fresh_job}
+use Rattle.ready_jobs.specs.Reordered.{IsReordered}
+use Rattle.ready_jobs.proofs.Reordering.{both_parts, same_order, each_both, as_many}
 use Rattle.trace_judge.specs.Reads.{Reading, Goes, Reads, StaysAhead, HasSpare, IsReader, kept_steps, Took, Waited}
 use Rattle.trace_judge.specs.Reads.{CanRelease, at_tick}
-use Rattle.trace_judge.proofs.Courses.{follows_count, follows_room}
+use Rattle.ready_jobs.proofs.Courses.{follows_count, follows_room, follows_order}
 use Rattle.trace_judge.proofs.Forms.{one_form}
 use Rattle.trace_judge.proofs.Readings.{ahead_of, here_of, reads_of, reads_ahead, with_room}
 use Rattle.trace_judge.proofs.Taking.{kept_more, kept_length}
@@ -147,13 +150,22 @@ module _ (r : Reading) (j : JobFacts) (room : ℕ) (ls : List (List ℕ)) (can :
         keeps = sees_keeps (ls ++ release_text S j ∷ []) S_more j.release (with_fresh y n j) sees;
         rules = goes.follows.rules;
         clock = refl;
-        ready = filter-append is_ready can.state.tasks (fresh n ∷ []) ∙ ap (λ ts. ts ++ fresh n ∷ []) goes.follows.ready
-            ∙ ap (λ m. r.course.ready ++ fresh m ∷ []) (sym next_number);
+        ready = subst (λ m. IsReordered (filter is_ready (can.state.tasks ++ fresh n ∷ []))
+            (r.course.ready ++ fresh m ∷ []))
+            (sym next_number)
+            (subst (λ ts. IsReordered ts (r.course.ready ++ fresh n ∷ []))
+            (sym (filter-append is_ready can.state.tasks (fresh n ∷ [])))
+            (both_parts (filter is_ready can.state.tasks) r.course.ready (fresh n ∷ []) (fresh n ∷ [])
+            goes.follows.ready (same_order (fresh n ∷ []))));
         jobs = omega (arith, length-append can.state.tasks (fresh n ∷ []), goes.follows.jobs);
         done = ap value_sum (filter-append is_done can.state.tasks (fresh n ∷ [])
             ∙ append-nil (filter is_done can.state.tasks)) ∙ goes.follows.done;
         known = omega arith;
-      }
+        released = each_both (λ t. is_coming t ≡ false) can.state.tasks (fresh n ∷ []) goes.follows.released one_fresh;
+      } where
+        one_fresh : Each (λ t. is_coming t ≡ false) (record { number = n; job = j; role = Fresh; had = 0 } ∷ [])
+        one_fresh t (inl e) = subst (λ u. is_coming u ≡ false) (sym e) refl
+        one_fresh t (inr m) = absurd m
 
   -- the course with it
   pub release_course : IsCourse (with_release r.course j room)
@@ -183,11 +195,12 @@ module _ (r : Reading) (j : JobFacts) (room : ℕ) (ls : List (List ℕ)) (can :
   module _ (kept : admission.Kept) (items : ℕ) (steps : List Event) (spare steps_room : ℕ)
       (stands : (jobs : List JobFacts) → admission.StandsFor r.kept jobs → admission.StandsFor kept (jobs ++ j ∷ []))
       (ratio : kept.ratio ≡ r.kept.ratio) (counted : items ≡ r.items + 1)
-      (more : steps ≡ cond r.keep (r.steps ++ Release r.course.jobs j ∷ []) r.steps) where
+      (more : steps ≡ cond r.keep (r.steps ++ Release r.course.jobs j ∷ []) r.steps) (ready : List Task)
+      (order : IsReordered (r.course.ready ++ fresh_job r.course j ∷ []) ready) where
     -- the reading with it
     abbrev released : Reading
     released = record r {
-      course = with_release r.course j room;
+      course = record (with_release r.course j room) { ready = ready };
       kept = kept;
       items = items;
       floor = j.release;
@@ -211,7 +224,8 @@ module _ (r : Reading) (j : JobFacts) (room : ℕ) (ls : List (List ℕ)) (can :
         record {
           sees = text.0;
           idles = ([], refl);
-          follows = release_follows;
+          follows = follows_order (with_release r.course j room) ready (instance_of S_more) (with_fresh y n j)
+              release_follows order;
           kept = subst (admission.StandsFor kept) (sym jobs) (stands (admitted_jobs S.items) can.waited.goes.kept);
           ratio = ratio ∙ can.waited.goes.ratio;
           items = omega (arith, counted, can.waited.goes.items, length-append S.items (JobItem j ∷ []));
@@ -231,12 +245,13 @@ module _ (r : Reading) (j : JobFacts) (room : ℕ) (ls : List (List ℕ)) (can :
         → steps_room ≡ r.room → IsReader released
     released_reader going old less same_ready same_steps = record {
       spare = record {
-        ready = let before : length r.course.ready + r.spare ≤ r.course.room = old.ready in
+        ready = let before : min (length r.course.ready + r.spare) 1_000_000 ≤ r.course.room = old.ready in
             omega (
               arith,
               less,
               same_ready,
-              length-append r.course.ready (record { number = r.course.jobs; job = j; role = Fresh; had = 0 } ∷ []),
+              as_many (r.course.ready ++ fresh_job r.course j ∷ []) ready order,
+              length-append r.course.ready (fresh_job r.course j ∷ []),
             );
         steps = λ keep. let before : 5 * (r.course.jobs + r.spare) + 1 ≤ r.room = old.steps keep in
             omega (arith, less, same_steps);
@@ -250,7 +265,8 @@ module _ (r : Reading) (j : JobFacts) (room : ℕ) (ls : List (List ℕ)) (can :
 module _ (r w : Reading) (same : r ≡ w) (old : IsReader r) (going_w : w.stage ≡ Going) (j : JobFacts) (d : Course)
     (number floor : ℕ)
     (kept : admission.Kept) (items : ℕ) (steps : List Event) (spare steps_room : ℕ)
-    (is_d : d ≡ with_release r.course j r.course.room) (is_number : number ≡ r.course.jobs)
+    (is_d : d ≡ record (with_release r.course j r.course.room) { ready = d.ready })
+    (order : IsReordered (r.course.ready ++ fresh_job r.course j ∷ []) d.ready) (is_number : number ≡ r.course.jobs)
     (is_floor : floor ≡ j.release)
     (stands : (jobs : List JobFacts) → admission.StandsFor r.kept jobs → admission.StandsFor kept (jobs ++ j ∷ []))
     (ratio : kept.ratio ≡ r.kept.ratio) (counted : items ≡ r.items + 1)
@@ -277,13 +293,14 @@ module _ (r w : Reading) (same : r ≡ w) (old : IsReader r) (going_w : w.stage 
       → Reads (taken d floor) (ls ++ text_of (Release w.course.jobs j) ∷ [])
   taken_reads ls can =
       subst (λ c. Reads (taken c floor) (ls ++ text_of (Release w.course.jobs j) ∷ [])) (sym is_d)
-      (subst (λ f. Reads (taken (with_release r.course j r.course.room) f)
+      (subst (λ f. Reads (taken (record (with_release r.course j r.course.room) { ready = d.ready }) f)
       (ls ++ text_of (Release w.course.jobs j) ∷ [])) (sym is_floor)
-      (subst (λ (v : Reading). Reads (taken (with_release r.course j r.course.room) j.release)
+      (subst (λ (v : Reading). Reads
+      (taken (record (with_release r.course j r.course.room) { ready = d.ready }) j.release)
       (ls ++ text_of (Release v.course.jobs j) ∷ [])) same
       (released_reads r j r.course.room ls
       (subst (λ v. CanRelease v j ls) (sym same) can) kept items steps spare steps_room stands ratio counted
-      steps_are
+      steps_are d.ready order
       (ap (λ (v : Reading). v.stage) same ∙ going_w))))
 
   -- and it is kept of some lines
@@ -291,10 +308,11 @@ module _ (r w : Reading) (same : r ≡ w) (old : IsReader r) (going_w : w.stage 
       → IsReader (taken d floor)
   taken_reader ls can less same_steps =
       subst (λ c. IsReader (taken c floor)) (sym is_d)
-      (subst (λ f. IsReader (taken (with_release r.course j r.course.room) f)) (sym is_floor)
+      (subst (λ f. IsReader (taken (record (with_release r.course j r.course.room) { ready = d.ready }) f))
+      (sym is_floor)
       (released_reader r j r.course.room ls
       (subst (λ v. CanRelease v j ls) (sym same) can) kept items steps spare steps_room stands ratio counted
-      steps_are
+      steps_are d.ready order
       (ap (λ (v : Reading). v.stage) same ∙ going_w) old.spare less refl same_steps))
 
 -- ---- whether it goes on

@@ -1,6 +1,6 @@
 -- How the judge takes the lines of a trace.
-use Rattle.std.proofs.Common.{◌≡◌, ℕ, suc, ◌+◌, ◌*◌, ◌≤◌, ◌<◌, max, List, [], ◌∷◌, ◌++◌, length, length-append, refl}
-use Rattle.std.proofs.Common.{sym, ap, ◌∙◌, subst, Bool, true, false, cond, arith}
+use Rattle.std.proofs.Common.{◌≡◌, ℕ, suc, ◌+◌, ◌*◌, ◌≤◌, ◌<◌, min, max, List, [], ◌∷◌, ◌++◌, length, length-append}
+use Rattle.std.proofs.Common.{refl, sym, ap, ◌∙◌, subst, Bool, true, false, cond, arith}
 use Rattle.std.specs.Prelude.{Option, Some, None, ◌==◌, is_some, not}
 use Rattle.std.specs.List.{filter}
 use Rattle.std.proofs.lemmas.Bool.{false_from_ne_true, eqb-true}
@@ -34,10 +34,10 @@ use Rattle.trace_reading.proofs.Continuing.{sees_step, sees_step_prints, sees_he
 use Rattle.trace_reading.proofs.Finishing.{ended_run, ended_trace, ended_value}
 use Rattle.trace_reading.proofs.Only.{only_headers, only_step}
 use Rattle.trace_judge.specs.declared.stage.Stage.TheVariants.{Opening, Going, Ended}
-use Rattle.trace_judge.specs.Course.{Course, Follows, Settled, GoesOnFrom}
+use Rattle.ready_jobs.specs.Course.{Course, Follows, Settled, GoesOnFrom}
 use Rattle.trace_judge.specs.Reads.{Reading, Opens, Goes, Ends, ReadsAhead, Reads, StaysAhead, HasSpare, IsReader}
 use Rattle.trace_judge.specs.Reads.{kept_steps, Took, Waited, at_tick}
-use Rattle.trace_judge.proofs.Courses.{new_follows, follows_count}
+use Rattle.ready_jobs.proofs.Courses.{new_follows, follows_count}
 use Rattle.trace_judge.proofs.Forms.{one_form, next_form}
 use Rattle.trace_judge.proofs.Readings.{goes_of, ahead_of, here_of, reads_of, opens_of, reads_ahead, next_goes}
 use Rattle.trace_judge.proofs.Readings.{spare_stays}
@@ -271,7 +271,7 @@ module _ (r : Reading) (opening_stage : r.stage ≡ Opening) (v p q : ℕ) (form
     pub opened_reader : IsReader r → IsReader opened
     opened_reader old = record {
       spare = record {
-        ready = let before : length r.course.ready + r.spare ≤ r.course.room = old.spare.ready in
+        ready = let before : min (length r.course.ready + r.spare) 1_000_000 ≤ r.course.room = old.spare.ready in
             omega (arith, ap (λ (c : Course). length c.ready) declared, ap (λ (c : Course). c.room) declared);
         steps = λ keep. let before : 5 * (r.course.jobs + r.spare) + 1 ≤ r.room = old.spare.steps keep in
             omega (arith, ap (λ (c : Course). c.jobs) declared);

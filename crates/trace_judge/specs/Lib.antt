@@ -1,4 +1,2 @@
-pub mod Parts
-pub mod Course
 pub mod Reads
 pub mod Judging

@@ -1,7 +1,8 @@
 -- What the judge keeps of the lines of a trace.
-use Rattle.std.specs.Prelude.{◌≡◌, ◌≤◌, ◌+◌, ◌*◌, ℕ, List, [], ◌∷◌, ◌++◌, length, Bool, true, false, if◌then◌else◌}
+use Rattle.std.specs.Prelude.{◌≡◌, ◌≤◌, ◌+◌, ◌*◌, ℕ, List, [], ◌∷◌, ◌++◌, length, min, Bool, true, false, if◌then◌else◌}
 use Rattle.std.specs.Prelude.{Option, Some, None}
 use Rattle.admission.specs.Kept as admission
+use Rattle.dover_model.specs.Limits.{most_jobs}
 use Rattle.dover_model.specs.JobFacts.{JobFacts}
 use Rattle.dover_model.specs.declared.events.Event.{Event}
 use Rattle.dover_model.specs.State.{State}
@@ -19,7 +20,7 @@ use Rattle.trace_judge.specs.declared.stage.Stage.{Stage}
 use Rattle.trace_judge.specs.declared.stage.Stage.TheVariants.{Opening, Going, Ended}
 use Rattle.trace_judge.specs.declared.verdict.Expected.{Expected}
 use Rattle.trace_judge.specs.declared.verdict.Expected.TheVariants.{Header, Step as Due, Nothing}
-use Rattle.trace_judge.specs.Course.{Course, Follows, new_course}
+use Rattle.ready_jobs.specs.Course.{Course, Follows, new_course}
 
 -- what is kept of the lines: how far the trace has come, the run and the jobs admitted, how many items there are, the
 -- floor, the steps where they are asked for, and for how many jobs more there is room, and for how many steps in all
@@ -81,9 +82,9 @@ Reads r ls = elim r.stage [
   | Ended ↦ (S : Session) × Ends r ls S
 ]
 
--- there is room for so many jobs more, and for their steps where they are kept
+-- there is room for so many jobs more, as far as there can be jobs, and for their steps where they are kept
 pub record HasSpare (r : Reading) : Type 0 where
-  pub ready : length r.course.ready + r.spare ≤ r.course.room
+  pub ready : min (length r.course.ready + r.spare) most_jobs ≤ r.course.room
   pub steps : r.keep ≡ true → 5 * (r.course.jobs + r.spare) + 1 ≤ r.room
 
 -- it is kept of some lines

@@ -13,6 +13,8 @@ use crate::verdict::{Expected, Verdict};
 use dover_model::{Event, Memory};
 use line_text::{Lines, Step};
 use std::alloc::Global;
+use std::sync::ledger::Ledger;
+use step_count::Steps;
 
 /// What was found of the text so far.
 #[derive(Clone, Copy, Debug, PartialEq, Eq)]
@@ -109,13 +111,13 @@ impl Judge {
     }
 
     // The line is too long.
-    fn overrun(&mut self)
+    fn overrun<L: Ledger>(&mut self, steps: &mut Steps<L>)
         requires good { self.old.found ≡ Good }
         ensures stands { (before text : List ℕ) → IsCut self.old TooLong before text → StandsFor self.new text }
         ensures spare { self.new.reader.spare ≡ self.old.reader.spare }
         ensures keep { self.new.reader.keep ≡ self.old.reader.keep }
     {
-        let expected = self.reader.due();
+        let expected = self.reader.due(steps);
         self.found = Found::Wrong {
             line: self.lines.count().saturating_add(1),
             expected,
@@ -123,7 +125,7 @@ impl Judge {
     }
 
     // The line has ended.
-    fn take_line(&mut self) -> Result<(), Memory>
+    fn take_line<L: Ledger>(&mut self, steps: &mut Steps<L>) -> Result<(), Memory>
         requires good { self.old.found ≡ Good }
         requires line { self.old.lines.last ≢ More }
         ensures stands { OnOk result
@@ -133,7 +135,7 @@ impl Judge {
         ensures room { OnErr result (self.old.reader.spare < job_lines_in self.old.lines.line) }
         ensures failed { OnErr result (self.new.found ≡ NoMemory) }
     {
-        match self.reader.take(self.lines.line()) {
+        match self.reader.take(self.lines.line(), steps) {
             Ok(None) => Ok(()),
             Ok(Some(expected)) => {
                 self.found = Found::Wrong {
@@ -150,28 +152,28 @@ impl Judge {
     }
 
     // The next byte, where no line is wrong so far.
-    fn take_byte(&mut self, byte: u8) -> Result<(), Memory>
+    fn take_byte<L: Ledger>(&mut self, byte: u8, steps: &mut Steps<L>) -> Result<(), Memory>
         requires good { self.old.found ≡ Good }
         ensures fed { OnOk result (Fed self.old self.new (byte ∷ [])) }
         ensures room { OnErr result (IsOverfed self.old (byte ∷ [])) }
         ensures failed { OnErr result (self.new.found ≡ NoMemory) }
     {
         match self.lines.push(byte) {
-            Step::Line => return self.take_line(),
+            Step::Line => return self.take_line(steps),
             Step::More => self.go_on(),
-            Step::TooLong => self.overrun(),
+            Step::TooLong => self.overrun(steps),
         }
         Ok(())
     }
 
     // The next byte. Behind a wrong line it is disregarded.
-    fn take(&mut self, byte: u8) -> Result<(), Memory>
+    fn take<L: Ledger>(&mut self, byte: u8, steps: &mut Steps<L>) -> Result<(), Memory>
         ensures fed { OnOk result (Fed self.old self.new (byte ∷ [])) }
         ensures room { OnErr result (IsOverfed self.old (byte ∷ [])) }
         ensures failed { OnErr result (self.new.found ≡ NoMemory) }
     {
         match self.found {
-            Found::Good => self.take_byte(byte),
+            Found::Good => self.take_byte(byte, steps),
             Found::Wrong { .. } => Ok(()),
             Found::NoMemory => Err(Memory),
         }
@@ -187,10 +189,10 @@ impl Judge {
     ///
     /// ```
     /// let mut judge = Judge::new(alloc, false)?;
-    /// judge.feed(b"dover 1 1 1\njob 0 0 2 2 2\nru")?;
-    /// judge.feed(b"n 0 0\ncomplete 2 0\nend 2\n")?;
+    /// judge.feed(b"dover 1 1 1\njob 0 0 2 2 2\nru", steps)?;
+    /// judge.feed(b"n 0 0\ncomplete 2 0\nend 2\n", steps)?;
     /// ```
-    pub fn feed(&mut self, piece: &[u8]) -> Result<(), Memory>
+    pub fn feed<L: Ledger>(&mut self, piece: &[u8], steps: &mut Steps<L>) -> Result<(), Memory>
         ensures fed { OnOk result (Fed self.old self.new piece.now) }
         ensures room { OnErr result (IsOverfed self.old piece.now) }
         ensures failed { OnErr result (self.new.found ≡ NoMemory) }
@@ -204,7 +206,7 @@ impl Judge {
             Found::Good => {}
         }
         for byte in piece {
-            self.take(*byte)?;
+            self.take(*byte, steps)?;
         }
         Ok(())
     }

@@ -1,10 +1,8 @@
 //! A judge of recorded traces.
 #![tactic(auto)]
 
-mod course;
 mod judge;
 mod reader;
-mod settle;
 mod stage;
 mod verdict;
 

@@ -10,16 +10,18 @@ ghost use Rattle.dover_model.specs.Run.{is_end};
 ghost use Rattle.dover_model.specs.Settled.{is_late};
 ghost use Rattle.dover_model.specs.Verdict.{version_of_number};
 
-use crate::course::Course;
 use crate::stage::Stage;
 use crate::verdict::{Expected, Verdict};
 use admission::Admission;
 use dover_model::jobs::LAST_TICK;
 use dover_model::ratios::{MOST_P, MOST_Q};
 use dover_model::{Event, Job, Memory, Ratio, Refusal, Version};
+use ready_jobs::Ready;
 use root_compare::bound;
 use std::alloc::Global;
 use std::marker::Model;
+use std::sync::ledger::Ledger;
+use step_count::Steps;
 use trace_format::{TraceLine, read_trace_line};
 
 /// The greatest number of items of a session.
@@ -29,7 +31,7 @@ const MOST_ITEMS: u32 = 3_999_998;
 #[derive(Drop)]
 pub struct Reader {
     stage: Stage,
-    course: Course,
+    course: Ready,
     admission: Admission,
     items: u32,
     floor: u64,
@@ -86,7 +88,7 @@ impl Reader {
     ghost use Rattle.dover_model.specs.Session.{instance_of, admitted_jobs};
     ghost use Rattle.trace_judge.specs.declared.verdict.Verdict.TheVariants.{Accepted};
     ghost use Rattle.trace_reading.specs.Leading.{WaitsUntil};
-    ghost use Rattle.trace_judge.specs.Course.{GoesOnFrom};
+    ghost use Rattle.ready_jobs.specs.Course.{GoesOnFrom};
     ghost use Rattle.trace_judge.specs.Reads.{Reads, ReadsAhead, StaysAhead, Goes, Ends, Waited, CanRelease, Took};
     ghost use Rattle.trace_judge.specs.Reads.{TookLine, IsUnchangedFor, expected_of, releases_in, jobs_in};
     ghost use Rattle.trace_judge.specs.Reads.{job_lines_in};
@@ -104,7 +106,7 @@ impl Reader {
         }
         Ok(Reader {
             stage: Stage::Opening,
-            course: Course::new(alloc, Version::One, one),
+            course: Ready::new(alloc, Version::One, one)?,
             admission: Admission::new(one),
             items: 0,
             floor: 0,
@@ -129,7 +131,7 @@ impl Reader {
         if more <= self.spare {
             return Ok(());
         }
-        self.course.reserve(more as usize)?;
+        self.course.reserve(more)?;
         if self.keep {
             let most = 5 * (self.course.jobs() as usize + more as usize) + 1;
             self.steps.reserve(most)?;
@@ -153,14 +155,14 @@ impl Reader {
     }
 
     /// What is due after the lines.
-    pub fn due(&mut self) -> Expected
+    pub fn due<L: Ledger>(&mut self, steps: &mut Steps<L>) -> Expected
         ensures due { (ls : List (List ℕ)) → ReadsAhead self.old ls → expected_after ls ≡ expected_of result }
         ensures ahead { StaysAhead self.old self.new }
         ensures kept { self.new ≡ record self.old { course = self.new.course } }
     {
         match self.stage {
             Stage::Opening => Expected::Header,
-            Stage::Going => Expected::Step(self.course.upcoming()),
+            Stage::Going => Expected::Step(self.course.upcoming(steps)),
             Stage::Ended => Expected::Nothing,
         }
     }
@@ -209,14 +211,14 @@ impl Reader {
     }
 
     // The next line is that of the printed step that is due.
-    fn follow(&mut self, event: &Event) -> bool
+    fn follow<L: Ledger>(&mut self, event: &Event, steps: &mut Steps<L>) -> bool
         requires going { self.old.stage ≡ Going }
         requires form { HasForm (Step event.now) }
         requires none { item_in (Step event.now) ≡ None }
         ensures took { Took self.old self.new (trace_text (Step event.now)) result }
         ensures kept { IsUnchangedFor self.old self.new }
     {
-        let due = self.course.upcoming();
+        let due = self.course.upcoming(steps);
         if !is_same(&due, event) {
             return false;
         }
@@ -227,13 +229,13 @@ impl Reader {
         }
         let floor = floor_after(&due, self.course.clock());
         self.floor = self.floor.max(floor);
-        self.course.take(&due);
+        self.course.take(&due, steps);
         keep_step(self.keep, &mut self.steps, due);
         true
     }
 
     // Nothing is printed before the barrier of the tick, up to which the run goes on.
-    fn waits_until(&mut self, tick: u64) -> bool
+    fn waits_until<L: Ledger>(&mut self, tick: u64, steps: &mut Steps<L>) -> bool
         requires going { self.old.stage ≡ Going }
         requires known { tick ≤ last_tick }
         ensures yes { result ≡ true → (ls : List (List ℕ)) (S : Session) (z y : State) → Goes self.old ls S z y →
@@ -251,7 +253,7 @@ impl Reader {
         if self.course.clock() > tick {
             return false;
         }
-        self.course.settle(tick).is_none()
+        self.course.settle(tick, steps).is_none()
     }
 
     // The release of this job may come next, as far as the jobs before it go.
@@ -297,7 +299,12 @@ impl Reader {
     }
 
     // The next line is that of a release.
-    fn take_release(&mut self, number: u32, job: Job) -> Result<bool, Memory>
+    fn take_release<L: Ledger>(
+        &mut self,
+        number: u32,
+        job: Job,
+        steps: &mut Steps<L>,
+    ) -> Result<bool, Memory>
         requires going { self.old.stage ≡ Going }
         requires form { HasForm (Step (Release number job)) }
         ensures took { IfOk result (Took self.old self.new (text_of (Release number job))) }
@@ -309,7 +316,7 @@ impl Reader {
         if !self.may_admit(number, &job) {
             return Ok(false);
         }
-        if !self.waits_until(job.release()) {
+        if !self.waits_until(job.release(), steps) {
             return Ok(false);
         }
         self.reserve(1)?;
@@ -355,7 +362,7 @@ impl Reader {
     }
 
     // The next line is that of a refused job line.
-    fn refuse(
+    fn refuse<L: Ledger>(
         &mut self,
         at: u64,
         release: u64,
@@ -363,6 +370,7 @@ impl Reader {
         deadline: u64,
         value: u64,
         cause: Refusal,
+        steps: &mut Steps<L>,
     ) -> bool
         requires going { self.old.stage ≡ Going }
         requires form { HasForm (Refused at release work deadline value cause) }
@@ -373,7 +381,7 @@ impl Reader {
         if !self.may_refuse(at, release, work, deadline, value, cause) {
             return false;
         }
-        if !self.waits_until(at) {
+        if !self.waits_until(at, steps) {
             return false;
         }
         self.items += 1;
@@ -396,7 +404,7 @@ impl Reader {
     }
 
     // A line of a step.
-    fn take_step(&mut self, event: &Event) -> Result<bool, Memory>
+    fn take_step<L: Ledger>(&mut self, event: &Event, steps: &mut Steps<L>) -> Result<bool, Memory>
         requires going { self.old.stage ≡ Going }
         requires form { HasForm (Step event.now) }
         ensures took { IfOk result (Took self.old self.new (text_of event.now)) }
@@ -405,18 +413,22 @@ impl Reader {
         ensures keep { self.new.keep ≡ self.old.keep }
     {
         match event {
-            Event::Release { number, job } => self.take_release(*number, *job),
-            Event::Run { .. } => Ok(self.follow(event)),
-            Event::Preempt { .. } => Ok(self.follow(event)),
-            Event::Take { .. } => Ok(self.follow(event)),
-            Event::Complete { .. } => Ok(self.follow(event)),
-            Event::Abandon { .. } => Ok(self.follow(event)),
-            Event::End { .. } => Ok(self.follow(event)),
+            Event::Release { number, job } => self.take_release(*number, *job, steps),
+            Event::Run { .. } => Ok(self.follow(event, steps)),
+            Event::Preempt { .. } => Ok(self.follow(event, steps)),
+            Event::Take { .. } => Ok(self.follow(event, steps)),
+            Event::Complete { .. } => Ok(self.follow(event, steps)),
+            Event::Abandon { .. } => Ok(self.follow(event, steps)),
+            Event::End { .. } => Ok(self.follow(event, steps)),
         }
     }
 
     // A line behind the header.
-    fn take_next(&mut self, read: &TraceLine) -> Result<bool, Memory>
+    fn take_next<L: Ledger>(
+        &mut self,
+        read: &TraceLine,
+        steps: &mut Steps<L>,
+    ) -> Result<bool, Memory>
         requires going { self.old.stage ≡ Going }
         requires form { HasForm read.now }
         ensures took { IfOk result (Took self.old self.new (trace_text read.now)) }
@@ -426,7 +438,7 @@ impl Reader {
     {
         match read {
             TraceLine::Header { .. } => Ok(false),
-            TraceLine::Step(event) => self.take_step(event),
+            TraceLine::Step(event) => self.take_step(event, steps),
             TraceLine::Refused {
                 at,
                 release,
@@ -434,12 +446,16 @@ impl Reader {
                 deadline,
                 value,
                 cause,
-            } => { Ok(self.refuse(*at, *release, *work, *deadline, *value, *cause)) }
+            } => { Ok(self.refuse(*at, *release, *work, *deadline, *value, *cause, steps)) }
         }
     }
 
     // A line that was read.
-    fn take_read(&mut self, read: &TraceLine) -> Result<bool, Memory>
+    fn take_read<L: Ledger>(
+        &mut self,
+        read: &TraceLine,
+        steps: &mut Steps<L>,
+    ) -> Result<bool, Memory>
         requires { HasForm read.now }
         ensures took { IfOk result (Took self.old self.new (trace_text read.now)) }
         ensures room { jobs_in read.now ≤ self.old.spare → IsOk result }
@@ -448,26 +464,30 @@ impl Reader {
     {
         match self.stage {
             Stage::Opening => Ok(self.take_first(read)),
-            Stage::Going => self.take_next(read),
+            Stage::Going => self.take_next(read, steps),
             Stage::Ended => Ok(false),
         }
     }
 
     /// The next line. Where it doesn't go on as a trace does, this gives what is due in its place, and further lines
     /// aren't to be taken.
-    pub fn take(&mut self, line: &[u8]) -> Result<Option<Expected>, Memory>
+    pub fn take<L: Ledger>(
+        &mut self,
+        line: &[u8],
+        steps: &mut Steps<L>,
+    ) -> Result<Option<Expected>, Memory>
         ensures took { IfOk result (TookLine self.old self.new line.now) }
         ensures room { job_lines_in line.now ≤ self.old.spare → IsOk result }
         ensures spare { self.old.spare ≤ self.new.spare + job_lines_in line.now }
         ensures keep { self.new.keep ≡ self.old.keep }
     {
         let Ok(read) = read_trace_line(line) else {
-            return Ok(Some(self.due()));
+            return Ok(Some(self.due(steps)));
         };
-        if self.take_read(&read)? {
+        if self.take_read(&read, steps)? {
             return Ok(None);
         }
-        Ok(Some(self.due()))
+        Ok(Some(self.due(steps)))
     }
 }
 

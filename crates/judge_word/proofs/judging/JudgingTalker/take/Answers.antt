@@ -4,7 +4,7 @@ use Rattle.trace_judge.specs.Judging.{StandsFor}
 use Rattle.judge_word.proofs.judging.JudgingTalker.take.Goals as goal
 
 pub returns-in-Ok : goal.returns-in-Ok
-returns-in-Ok c = record {
+returns-in-Ok g c = record {
   takes = λ a x at goes. (
     c.requires.some,
     omega arith,

@@ -7,7 +7,7 @@ use Rattle.trace_judge.proofs.Judging.{err_of, fed_on, overfed_on, wrong_fed, go
 use Rattle.trace_judge.proofs.judge.Judge.feed.Goals as goal
 
 pub returns-in_err-take-clause-room : goal.returns-in_err-take-clause-room
-returns-in_err-take-clause-room c =
+returns-in_err-take-clause-room g c =
     let piece : List ℕ = c.args.piece.now in
     let i : ℕ = c.loop-byte.byte-index in
     err_of c.from_residual.result c.from_residual.ensures.0
@@ -18,7 +18,7 @@ returns-in_err-take-clause-room c =
     c.in_err-take.ensures.room))
 
 pub loop-byte-preserved : goal.loop-byte-preserved
-loop-byte-preserved c =
+loop-byte-preserved g c =
     let piece : List ℕ = c.args.piece.now in
     let i : ℕ = c.loop-byte.byte-index in
     subst (Fed c.args.self.now c.take.new.self) (sym (take_more piece i 0 (omega arith)))
@@ -27,9 +27,9 @@ loop-byte-preserved c =
     c.in_ok-take.ensures.fed)
 
 pub returns-in-Wrong-clause-fed : goal.returns-in-Wrong-clause-fed
-returns-in-Wrong-clause-fed c =
+returns-in-Wrong-clause-fed g c =
     wrong_fed c.args.self.now c.in-Wrong.line c.in-Wrong.expected c.args.piece.now c.in-Wrong.is
 
 pub returns-in_err-take-clause-decided : goal.returns-in_err-take-clause-decided
-returns-in_err-take-clause-decided c text stands wrong =
+returns-in_err-take-clause-decided g c text stands wrong =
     never (sym (good_not_wrong c.args.self.now text (stands_good c.args.self.now text c.in-Good.is stands)) ∙ wrong)

@@ -8,7 +8,7 @@ use Rattle.trace_judge.proofs.Judging.{reads_few, rest_long}
 use Rattle.trace_judge.proofs.judge.Judge.overrun.Goals as goal
 
 pub returns-clause-stands : goal.returns-clause-stands
-returns-clause-stands c before text it =
+returns-clause-stands g c before text it =
     let reads : Reads c.args.self.now.reader (whole_lines text) =
     subst (Reads c.args.self.now.reader) (sym it.parts.0) it.reads in
     rest_long c.args.self.now.reader text reads (sym it.cut.over ∙ ap is_over it.last)

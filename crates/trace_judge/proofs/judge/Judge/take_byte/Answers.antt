@@ -7,7 +7,7 @@ use Rattle.trace_judge.proofs.Judging.{stands_good, ok_onto, err_onto, some_line
 use Rattle.trace_judge.proofs.judge.Judge.take_byte.Goals as goal
 
 pub returns-in-Line-clause-fed : goal.returns-in-Line-clause-fed
-returns-in-Line-clause-fed c =
+returns-in-Line-clause-fed g c =
     ok_onto c.take_line.result c.take_line.ensures.stands
     (λ (meets : (before text : List ℕ) → IsCut (record c.args.self.now { lines = c.push.new.self }) Line before text
     → StandsFor c.take_line.new.self text). record {
@@ -27,7 +27,7 @@ returns-in-Line-clause-fed c =
     })
 
 pub returns-in-Line-clause-room : goal.returns-in-Line-clause-room
-returns-in-Line-clause-room c = err_onto c.take_line.result c.take_line.ensures.room
+returns-in-Line-clause-room g c = err_onto c.take_line.result c.take_line.ensures.room
     (λ (low : c.args.self.now.reader.spare < job_lines_in c.push.new.self.line) text stands. omega (
       arith,
       low,
@@ -38,12 +38,12 @@ returns-in-Line-clause-room c = err_onto c.take_line.result c.take_line.ensures.
     ))
 
 pub go_on-requires-clause-some : goal.go_on-requires-clause-some
-go_on-requires-clause-some c = subst (λ l. 0 < length l) (sym (ap (λ (l : Cutting). l.line) c.push.ensures.is))
+go_on-requires-clause-some g c = subst (λ l. 0 < length l) (sym (ap (λ (l : Cutting). l.line) c.push.ensures.is))
     (some_line c.args.self.now.lines c.args.byte
     (sym c.in-More.is ∙ c.push.ensures.last ∙ ap (λ (l : Cutting). l.last) c.push.ensures.is))
 
 pub returns-in-More-clause-fed : goal.returns-in-More-clause-fed
-returns-in-More-clause-fed c = record {
+returns-in-More-clause-fed g c = record {
   stands = λ text stands. c.go_on.ensures.stands text (text ++ c.args.byte ∷ [])
       (is_cut c.args.self.now c.push.new.self More c.args.byte text
       (stands_good c.args.self.now text c.requires.good stands)
@@ -54,7 +54,7 @@ returns-in-More-clause-fed c = record {
 }
 
 pub returns-in-TooLong-clause-fed : goal.returns-in-TooLong-clause-fed
-returns-in-TooLong-clause-fed c = record {
+returns-in-TooLong-clause-fed g c = record {
   stands = λ text stands. c.overrun.ensures.stands text (text ++ c.args.byte ∷ [])
       (is_cut c.args.self.now c.push.new.self TooLong c.args.byte text
       (stands_good c.args.self.now text c.requires.good stands)

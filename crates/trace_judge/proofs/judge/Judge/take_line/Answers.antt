@@ -7,7 +7,7 @@ use Rattle.trace_reading.proofs.Judging.{wrong_line}
 use Rattle.trace_judge.proofs.judge.Judge.take_line.Goals as goal
 
 pub returns-in-Ok-None-clause-stands : goal.returns-in-Ok-None-clause-stands
-returns-in-Ok-None-clause-stands c before text it =
+returns-in-Ok-None-clause-stands g c before text it =
     good_stands (record c.args.self.now { reader = c.take.new.self }) text c.requires.good record {
       cut = it.cut;
       counts = rest_empty text it.parts.1;
@@ -17,7 +17,7 @@ returns-in-Ok-None-clause-stands c before text it =
     }
 
 pub returns-in-Ok-Some-clause-stands : goal.returns-in-Ok-Some-clause-stands
-returns-in-Ok-Some-clause-stands c before text it =
+returns-in-Ok-Some-clause-stands g c before text it =
     let ls : List (List ℕ) = whole_lines before in
     let took = subst (TookLine c.args.self.now.reader c.take.new.self c.line.result.now) c.in-Ok-Some.field-0-is
     c.in-Ok-Some.ensures.took ls it.reads in

@@ -1,6 +1,6 @@
 use Rattle.std.proofs.Common.{◌≡◌, sym, ap, ◌∙◌}
 use Rattle.dover_model.specs.Instance.{Rules}
-use Rattle.trace_judge.specs.Course.{Course}
+use Rattle.ready_jobs.specs.Course.{Course}
 use Rattle.trace_judge.specs.Reads.{Reading}
 use Rattle.trace_judge.proofs.Judging.{same_verdict}
 use Rattle.trace_judge.proofs.reader.Reader.accepted.Goals as goal
@@ -14,4 +14,4 @@ returns c ls S ends =
     (c.version.ensures ∙ ap (λ (r : Rules). r.version) rules)
     (c.value-value.ensures.is ∙ ap (λ (d : Course). d.done) same ∙ sym ends.value)
     c.bound.ensures.is
-    (c.jobs.ensures ∙ ap (λ (d : Course). d.jobs) same ∙ sym ends.jobs)
+    (c.jobs.ensures.is ∙ ap (λ (d : Course). d.jobs) same ∙ sym ends.jobs)

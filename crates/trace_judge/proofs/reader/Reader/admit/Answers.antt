@@ -1,11 +1,27 @@
 use Rattle.std.proofs.Common.{refl, sym, ap, subst, arith}
 use Rattle.trace_judge.specs.Reads.{Reading, CanRelease}
+use Rattle.ready_jobs.proofs.Courses.{more_ready}
 use Rattle.trace_judge.proofs.Releases.{release_course, release_room, taken_reads, taken_reader}
 use Rattle.trace_judge.proofs.reader.Reader.admit.Goals as goal
 
 pub release-requires-clause-course : goal.release-requires-clause-course
 release-requires-clause-course c = release_course _ c.args.job _ c.requires.can.0
     (subst (λ r. CanRelease r c.args.job c.requires.can.0) (sym c.self.view_is) c.requires.can.1)
+
+pub release-requires-clause-ahead : goal.release-requires-clause-ahead
+release-requires-clause-ahead c =
+    (subst (λ r. CanRelease r c.args.job c.requires.can.0) (sym c.self.view_is) c.requires.can.1).waited.low
+
+pub release-requires-clause-room : goal.release-requires-clause-room
+release-requires-clause-room c = omega (
+  arith,
+  c.self.invariant.spare.ready,
+  c.requires.spare,
+  ap (λ (r : Reading). r.spare) c.self.view_is,
+  more_ready c.self.inside.course c.args.job
+      (release_course _ c.args.job _ c.requires.can.0
+      (subst (λ r. CanRelease r c.args.job c.requires.can.0) (sym c.self.view_is) c.requires.can.1)),
+)
 
 pub keep_step-requires : goal.keep_step-requires
 keep_step-requires c keep = omega (
@@ -20,7 +36,8 @@ keep_step-requires c keep = omega (
 pub invariant_of-self : goal.invariant_of-self
 invariant_of-self c = taken_reader _ _ c.self.view_is c.self.invariant c.requires.going c.args.job c.release.new.self
     c.jobs-number.result c.release-self-inside.result
-    c.admit.new.self _ c.keep_step.new.steps.items _ _ c.release.ensures c.jobs-number.ensures
+    c.admit.new.self _ c.keep_step.new.steps.items _ _ c.release.ensures.kept c.release.ensures.ready
+    c.jobs-number.ensures.is
     c.release-self-inside.ensures.is c.admit.ensures.stands c.admit.ensures.ratio refl c.keep_step.ensures.items
     c.requires.can.0 c.requires.can.1
     (omega (arith, c.requires.spare, ap (λ (r : Reading). r.spare) c.self.view_is)) c.keep_step.ensures.room
@@ -28,5 +45,6 @@ invariant_of-self c = taken_reader _ _ c.self.view_is c.self.invariant c.require
 pub returns-clause-reads : goal.returns-clause-reads
 returns-clause-reads c = taken_reads _ _ c.self.view_is c.self.invariant c.requires.going c.args.job c.release.new.self
     c.jobs-number.result c.release-self-inside.result
-    c.admit.new.self _ c.keep_step.new.steps.items _ _ c.release.ensures c.jobs-number.ensures
+    c.admit.new.self _ c.keep_step.new.steps.items _ _ c.release.ensures.kept c.release.ensures.ready
+    c.jobs-number.ensures.is
     c.release-self-inside.ensures.is c.admit.ensures.stands c.admit.ensures.ratio refl c.keep_step.ensures.items

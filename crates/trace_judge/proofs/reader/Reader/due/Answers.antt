@@ -4,19 +4,19 @@ use Rattle.trace_judge.proofs.Readings.{ends_of, ended_due, named_ahead, named_d
 use Rattle.trace_judge.proofs.reader.Reader.due.Goals as goal
 
 pub invariant_of-self : goal.invariant_of-self
-invariant_of-self c = next_reader _ c.self.invariant c.upcoming.new.self c.upcoming.result c.in-Going.is
+invariant_of-self g c = next_reader _ c.self.invariant c.upcoming.new.self c.upcoming.result c.in-Going.is
     c.upcoming.ensures.next
     (kept_on c.self.inside.course c.upcoming.new.self c.upcoming.ensures.kept c.upcoming.ensures.fewer)
 
 pub returns-in-Going-clause-due : goal.returns-in-Going-clause-due
-returns-in-Going-clause-due c =
+returns-in-Going-clause-due g c =
     named_due _ _ c.self.view_is c.upcoming.new.self c.upcoming.result c.in-Going.is c.upcoming.ensures.next
 
 pub returns-in-Going-clause-ahead : goal.returns-in-Going-clause-ahead
-returns-in-Going-clause-ahead c =
+returns-in-Going-clause-ahead g c =
     named_ahead _ _ c.self.view_is c.upcoming.new.self c.upcoming.result c.in-Going.is c.upcoming.ensures.next
 
 pub returns-in-Ended-clause-due : goal.returns-in-Ended-clause-due
-returns-in-Ended-clause-due c ls reads =
+returns-in-Ended-clause-due g c ls reads =
     let it = ends_of _ ls c.in-Ended.is (subst (λ v. ReadsAhead v ls) (sym c.self.view_is) reads) in
     ended_due _ ls it.0 it.1

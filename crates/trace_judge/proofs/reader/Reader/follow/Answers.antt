@@ -5,19 +5,19 @@ use Rattle.trace_judge.proofs.Taking.{step_room, not_due, ended_took, ended_read
 use Rattle.trace_judge.proofs.reader.Reader.follow.Goals as goal
 
 pub invariant_of-self : goal.invariant_of-self
-invariant_of-self c = next_reader _ c.self.invariant c.upcoming-due.new.self c.upcoming-due.result
+invariant_of-self g c = next_reader _ c.self.invariant c.upcoming-due.new.self c.upcoming-due.result
     (ap (λ (r : Reading). r.stage) c.self.view_is ∙ c.requires.going) c.upcoming-due.ensures.next
     (kept_on c.self.inside.course c.upcoming-due.new.self c.upcoming-due.ensures.kept c.upcoming-due.ensures.fewer)
 
 pub returns-then-not-is_same-clause-took : goal.returns-then-not-is_same-clause-took
-returns-then-not-is_same-clause-took c =
+returns-then-not-is_same-clause-took g c =
     not_due _ _ c.self.view_is c.requires.going c.upcoming-due.new.self c.upcoming-due.result
     c.upcoming-due.ensures.next c.args.event.now
     c.requires.form c.requires.none
     (λ e. let clash : false ≡ true = sym c.if-not-is_same.true ∙ c.is_same.ensures.1 e in cc)
 
 pub keep_step-requires : goal.keep_step-requires
-keep_step-requires c keep =
+keep_step-requires g c keep =
     omega (
       arith,
       step_room _ _ c.self.view_is c.requires.going c.upcoming-due.new.self c.upcoming-due.result
@@ -26,7 +26,7 @@ keep_step-requires c keep =
     )
 
 pub invariant_of-self-then-is_end : goal.invariant_of-self-then-is_end
-invariant_of-self-then-is_end c =
+invariant_of-self-then-is_end g c =
     ended_reader _ _ c.self.view_is c.requires.going c.upcoming-due.new.self c.upcoming-due.result
     c.upcoming-due.ensures.next c.args.event.now c.requires.form
     (c.is_same.ensures.0 c.if-not-is_same.false) c.keep_step.new.steps.items _
@@ -34,14 +34,14 @@ invariant_of-self-then-is_end c =
     (kept_on c.self.inside.course c.upcoming-due.new.self c.upcoming-due.ensures.kept c.upcoming-due.ensures.fewer)
 
 pub returns-then-is_end-clause-took : goal.returns-then-is_end-clause-took
-returns-then-is_end-clause-took c =
+returns-then-is_end-clause-took g c =
     ended_took _ _ c.self.view_is c.requires.going c.upcoming-due.new.self c.upcoming-due.result
     c.upcoming-due.ensures.next c.args.event.now c.requires.form
     (c.is_same.ensures.0 c.if-not-is_same.false) c.keep_step.new.steps.items _
     c.keep_step.ensures.items c.keep_step.ensures.room (sym c.is_end.ensures ∙ c.if-is_end.true)
 
 pub keep_step-requires-2 : goal.keep_step-requires-2
-keep_step-requires-2 c keep =
+keep_step-requires-2 g c keep =
     omega (
       arith,
       step_room _ _ c.self.view_is c.requires.going c.upcoming-due.new.self c.upcoming-due.result
@@ -50,7 +50,8 @@ keep_step-requires-2 c keep =
     )
 
 pub invariant_of-self-2 : goal.invariant_of-self-2
-invariant_of-self-2 c = stepped_reader _ _ c.self.view_is c.requires.going c.upcoming-due.new.self c.upcoming-due.result
+invariant_of-self-2 g c =
+    stepped_reader _ _ c.self.view_is c.requires.going c.upcoming-due.new.self c.upcoming-due.result
     c.upcoming-due.ensures.next c.args.event.now c.requires.form
     (c.is_same.ensures.0 c.if-not-is_same.false) c.keep_step-2.new.steps.items _
     c.keep_step-2.ensures.items c.keep_step-2.ensures.room
@@ -62,7 +63,7 @@ invariant_of-self-2 c = stepped_reader _ _ c.self.view_is c.requires.going c.upc
     c.take.ensures.kept c.take.ensures.fewer)
 
 pub returns-clause-took : goal.returns-clause-took
-returns-clause-took c = stepped_took _ _ c.self.view_is c.requires.going c.upcoming-due.new.self c.upcoming-due.result
+returns-clause-took g c = stepped_took _ _ c.self.view_is c.requires.going c.upcoming-due.new.self c.upcoming-due.result
     c.upcoming-due.ensures.next c.args.event.now c.requires.form
     (c.is_same.ensures.0 c.if-not-is_same.false) c.keep_step-2.new.steps.items _
     c.keep_step-2.ensures.items c.keep_step-2.ensures.room

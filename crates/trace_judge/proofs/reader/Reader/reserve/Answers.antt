@@ -1,5 +1,5 @@
 use Rattle.std.proofs.Common.{◌≡◌, ◌∙◌, sym, ap, subst, refl, vec_capacity, arith, ℕ, true, false}
-use Rattle.trace_judge.specs.Course.{Course}
+use Rattle.ready_jobs.specs.Course.{Course}
 use Rattle.trace_judge.specs.Reads.{IsReader}
 use Rattle.trace_judge.specs.declared.reader.Reader.TheInside.{Inside}
 use Rattle.trace_judge.proofs.Readings.{reserve_reader}
@@ -38,7 +38,7 @@ invariant_of-self-2 c = elim c.if-self.branch [
       (λ keep. omega (
         arith,
         w.in_ok-reserve-2.ensures.ok,
-        w.jobs.ensures,
+        w.jobs.ensures.is,
         ap (λ (d : Course). d.jobs) c.reserve.ensures.same,
       )))
   | else-self w ↦ subst (KeptIn c.args.more) (sym w.self-inside-is)

@@ -7,14 +7,15 @@ use Rattle.trace_judge.proofs.Readings.{goes_of}
 use Rattle.trace_judge.proofs.Releases.{not_admitted, not_waited, reserved_can, reserved_took}
 use Rattle.trace_judge.proofs.reader.Reader.take_release.Goals as goal
 use Rattle.trace_judge.proofs.reader.Reader.take_release.Goals.{After-admit-arg-1}
+use Rattle.trace_judge.proofs.reader.Reader.take_release.Given.{Over}
 
 pub returns-then-not-may_admit-clause-took : goal.returns-then-not-may_admit-clause-took
-returns-then-not-may_admit-clause-took c =
+returns-then-not-may_admit-clause-took g c =
     not_admitted c.args.self.now c.requires.going c.args.number c.args.job c.requires.form
     (c.may_admit.ensures.no c.if-not-may_admit.true)
 
 pub returns-then-not-waits_until-clause-took : goal.returns-then-not-waits_until-clause-took
-returns-then-not-waits_until-clause-took c =
+returns-then-not-waits_until-clause-took g c =
     not_waited c.args.self.now c.requires.going c.args.number c.args.job c.requires.form
     c.waits_until.new.self
     (subst (λ tick. c.args.self.now.floor ≤ tick → (ls : List (List ℕ)) (S : Session) (z : State)
@@ -23,9 +24,9 @@ returns-then-not-waits_until-clause-took c =
     c.waits_until.ensures.ahead
 
 -- the job may be released, with room
-can : (c : After-admit-arg-1) (ls : List (List ℕ)) (S : Session) (z y : State) → Goes c.args.self.now ls S z y
-    → CanRelease c.reserve.new.self c.args.job ls
-can c = reserved_can c.args.self.now c.waits_until.new.self c.reserve.new.self c.args.job c.waits_until.ensures.kept
+can : (g : Over) (c : After-admit-arg-1 g) (ls : List (List ℕ)) (S : Session) (z y : State)
+    → Goes c.args.self.now ls S z y → CanRelease c.reserve.new.self c.args.job ls
+can g c = reserved_can c.args.self.now c.waits_until.new.self c.reserve.new.self c.args.job c.waits_until.ensures.kept
     c.reserve.ensures.same
     (subst (λ tick. (ls : List (List ℕ)) (S : Session) (z y : State) → Goes c.args.self.now ls S z y → (x : State)
     × Waited c.waits_until.new.self tick ls S z x)
@@ -34,14 +35,14 @@ can c = reserved_can c.args.self.now c.waits_until.new.self c.reserve.new.self c
     (c.may_admit.ensures.admits c.if-not-may_admit.false)
 
 pub admit-requires-clause-can : goal.admit-requires-clause-can
-admit-requires-clause-can c =
+admit-requires-clause-can g c =
     let it = goes_of c.args.self.now c.self.invariant.lines c.requires.going
     (subst (λ r. ReadsAhead r c.self.invariant.lines) c.self.view_is c.self.invariant.reads) in
-    (c.self.invariant.lines, can c c.self.invariant.lines it.0 it.1 it.2 it.3)
+    (c.self.invariant.lines, can g c c.self.invariant.lines it.0 it.1 it.2 it.3)
 
 pub returns-clause-took : goal.returns-clause-took
-returns-clause-took c = reserved_took c.args.self.now c.reserve.new.self c.admit.new.self c.args.number c.args.job
+returns-clause-took g c = reserved_took c.args.self.now c.reserve.new.self c.admit.new.self c.args.number c.args.job
     c.requires.going
     ((c.may_admit.ensures.yes c.if-not-may_admit.false).0 ∙ sym c.waits_until.ensures.course.jobs
     ∙ sym (ap (λ (r : Reading). r.course.jobs) c.reserve.ensures.same))
-    (can (goal.at.returns-clause-took c).After-admit-arg-1) c.admit.ensures.reads
+    (can g (goal.at.returns-clause-took g c).After-admit-arg-1) c.admit.ensures.reads

@@ -5,25 +5,25 @@ use Rattle.trace_judge.proofs.Taking.{settled_ahead, settled_yes, settled_no, se
 use Rattle.trace_judge.proofs.reader.Reader.waits_until.Goals as goal
 
 pub invariant_of-self : goal.invariant_of-self
-invariant_of-self c = settled_reader _ c.self.invariant c.settle.new.self c.args.tick c.settle.result
+invariant_of-self g c = settled_reader _ c.self.invariant c.settle.new.self c.args.tick c.settle.result
     (ap (λ (r : Reading). r.stage) c.self.view_is ∙ c.requires.going) c.settle.ensures.settled c.settle.ensures.low
     (kept_on c.self.inside.course c.settle.new.self c.settle.ensures.kept c.settle.ensures.fewer)
 
 pub returns-clause-yes : goal.returns-clause-yes
-returns-clause-yes c quiet =
+returns-clause-yes g c quiet =
     settled_yes _ _ c.self.view_is c.settle.new.self c.args.tick c.settle.result c.settle.ensures.settled
     c.settle.ensures.low
     (is_nothing c.settle.result c.is_none.result c.is_none.ensures quiet) (omega (arith, c.if-self-tick.false))
     (omega (arith, c.if-clock-tick.false, c.clock.ensures.is))
 
 pub returns-clause-no : goal.returns-clause-no
-returns-clause-no c loud floor =
+returns-clause-no g c loud floor =
     let some = is_something c.settle.result c.is_none.result c.is_none.ensures loud in
     settled_no _ _ c.self.view_is c.settle.new.self c.args.tick c.settle.result c.settle.ensures.settled
     c.settle.ensures.low some.0 some.1
 
 pub returns-clause-ahead : goal.returns-clause-ahead
-returns-clause-ahead c =
+returns-clause-ahead g c =
     settled_ahead _ _ c.self.view_is c.settle.new.self c.args.tick c.settle.result c.settle.ensures.settled
     c.settle.ensures.low
     (ap (λ (r : Reading). r.stage) c.self.view_is ∙ c.requires.going)
