@@ -31,7 +31,9 @@ use Rattle.dover_model.proofs.Beginnings.{begins_onward}
 use Rattle.dover_model.proofs.Emitting.{texts_more, texts_job, texts_refused}
 use Rattle.dover_model.proofs.Growing.{Reads, reads_later, settled_later, settled_of_run, job_instance}
 use Rattle.dover_model.proofs.Growing.{refused_instance}
-use Rattle.dover_model.proofs.Paths.{printed_nothing}
+use Rattle.dover_model.specs.State.{opening}
+use Rattle.dover_model.proofs.Kept.{opening_keeps}
+use Rattle.dover_model.proofs.Paths.{path_keeps, printed_nothing}
 use Rattle.dover_model.proofs.Prefixes.{settled_prefix}
 use Rattle.dover_core.specs.Service.{Service, fresh_service}
 use Rattle.event_feed.specs.Kept.{cause_of_fault}
@@ -398,6 +400,8 @@ module _ (a b : Account) (kept : IsKept a) (stands : a.standing ≡ Open) (it : 
     stands = end_stands;
     valid = end_valid;
     rules = ap (λ (J : Instance). J.rules) served.jobs;
+    keeps = path_keeps (instance_of it.session) end_valid a.mark served.printed.steps
+        (opening (instance_of it.session).jobs) v.state (opening_keeps (instance_of it.session)) served.printed.path;
     mark = a.mark;
     start = v.state;
     before = settled (instance_of it.session) a.mark;

@@ -46,7 +46,7 @@ left_few : (J : Instance) (front left : List Event) → IsValid J → printed J 
 left_few J front left valid is = omega (arith, run_few J valid, ap length is, length-append front left)
 
 -- what the work under way still gives
-owes_few : (work : Work) (server : Option Service) (a : Account) (rest : List (List ℕ)) → Owes work server a rest
+pub owes_few : (work : Work) (server : Option Service) (a : Account) (rest : List (List ℕ)) → Owes work server a rest
     → length rest ≤ 5_000_001
 owes_few Nothing server a rest owes = omega (arith, ap length owes.0)
 owes_few (Give out) server a rest owes = omega (arith, ap length owes.0)

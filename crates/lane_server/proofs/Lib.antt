@@ -7,3 +7,5 @@ pub mod Handing
 pub mod Keeping
 pub mod Fine
 pub mod Few
+pub mod Admitted
+pub mod Paying

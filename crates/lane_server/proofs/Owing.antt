@@ -8,10 +8,10 @@ use Rattle.dover_model.specs.Limits.{last_tick}
 use Rattle.dover_model.specs.JobFacts.{JobFacts}
 use Rattle.dover_model.specs.Instance.{Instance, IsValid}
 use Rattle.dover_model.specs.Session.{JobItem, instance_of, with_item}
-use Rattle.dover_model.specs.Step.{Prints, step}
+use Rattle.dover_model.specs.Step.{Prints, step, after}
 use Rattle.dover_model.specs.Numerals.{AreShort}
-use Rattle.dover_model.specs.State.{State, opening}
-use Rattle.dover_model.proofs.Kept.{opening_keeps}
+use Rattle.dover_model.specs.State.{State}
+use Rattle.dover_model.proofs.Kept.{step_kept}
 use Rattle.dover_model.proofs.ShortNumbers.{IsShortMove, step_short}
 use Rattle.dover_model.proofs.TraceLines.{numbers_in}
 use Rattle.dover_model.specs.Run.{Step, is_end, printed, printed_of}
@@ -23,11 +23,11 @@ use Rattle.dover_model.specs.Feed.{Account, Open, Ended, account_of_lines}
 use Rattle.dover_model.specs.Sound.{IsMember, Keeps}
 use Rattle.dover_model.proofs.Beginnings.{begins_onward}
 use Rattle.dover_model.proofs.Growing.{job_instance}
-use Rattle.dover_model.proofs.Paths.{closed_keeps, closed_then_run, path_keeps, printed_then_run, printed_begins_run}
+use Rattle.dover_model.proofs.Paths.{closed_keeps, closed_then_run, printed_then_run, printed_begins_run}
 use Rattle.dover_model.proofs.Prefixes.{settled_prefix}
 use Rattle.dover_model.proofs.Runs.{printed_append}
 use Rattle.dover_core.specs.declared.horizon.Horizon.TheVariants.{Mark, End}
-use Rattle.dover_core.specs.Service.{Service, with_job}
+use Rattle.dover_core.specs.Service.{Service, list_of, with_job}
 use Rattle.dover_core.specs.Leading.{GivesNext, ReachesBarrier}
 use Rattle.lane_server.specs.Lane.{HasServed, IsServed, Settling, Admitting, Finishing, IsRunning, IsAtRest, Owes}
 use Rattle.lane_server.specs.Lane.{GivesFault, Stands, IsQuiet}
@@ -37,6 +37,10 @@ use Rattle.lane_server.specs.declared.lane.Work.TheVariants.{Nothing, Settle, Ad
 use Rattle.lane_server.proofs.Printing.{same_behind, short_next, way_next, begins_next, served_there, all_there}
 use Rattle.lane_server.proofs.Printing.{served_job, printed_last}
 use Rattle.dover_core.proofs.Passing.{closed_append}
+use Rattle.dover_core.proofs.Spending.{tasks_count}
+use Rattle.event_feed.specs.Answers.{admitted_in}
+use Rattle.lane_server.specs.Spending.{jobs_in}
+use Rattle.lane_server.proofs.Admitted.{settling_jobs}
 use Rattle.lane_server.proofs.Closing.{silent_on, steps_on, whole_on, path_on}
 
 -- what is left begins with the event
@@ -211,6 +215,11 @@ module _ (v u : Service) (a : Account) (rest : List (List ℕ)) (it : Finishing 
         → it.left ≡ e ∷ more
     left_with more is = first_left (it.before ++ printed_of so_far.steps) it.left (printed jobs) e so_far.due (more, is)
 
+    -- the state that the step is taken from is one of the session's jobs
+    keeps_before : Keeps jobs next.before
+    keeps_before = closed_keeps jobs it.valid next.waits.steps v.state next.before it.keeps
+        (silent_on jobs.rules v.state u.state e next)
+
     -- what is left then
     finishing : (left : List Event) → MatchBool u.ended (left ≡ []) (IsRunning jobs it.start it.before u left)
         → Finishing u a (map text_of left)
@@ -219,6 +228,8 @@ module _ (v u : Service) (a : Account) (rest : List (List ℕ)) (it : Finishing 
       stands = it.stands;
       valid = it.valid;
       rules = rules ∙ it.rules;
+      keeps = subst (Keeps jobs) (sym (next.state ∙ ap (after next.before) (sym next.prints)))
+          (step_kept jobs it.valid next.before keeps_before jobs.rules);
       mark = it.mark;
       start = it.start;
       before = it.before;
@@ -262,14 +273,8 @@ module _ (v u : Service) (a : Account) (rest : List (List ℕ)) (it : Finishing 
     pub finish_short : u.state.clock ≤ last_tick → AreShort (numbers_in e)
     finish_short low =
         let same : u.state.clock ≡ next.before.clock = ap (λ (s : State). s.clock) next.state in
-        let at_start : Keeps jobs it.start =
-        path_keeps jobs it.valid it.mark it.settled.steps (opening jobs.jobs) it.start (opening_keeps jobs)
-        it.settled.path in
-        let at_server : Keeps jobs v.state =
-        closed_keeps jobs it.valid so_far.steps it.start v.state at_start so_far.path in
-        let there : Keeps jobs next.before = closed_keeps jobs it.valid next.waits.steps v.state next.before at_server
-        (silent_on jobs.rules v.state u.state e next) in
-        subst IsShortMove next.prints (step_short jobs it.valid next.before there (omega (arith, low, same)) jobs.rules)
+        subst IsShortMove next.prints
+        (step_short jobs it.valid next.before keeps_before (omega (arith, low, same)) jobs.rules)
 
     -- the step gives the first line that is left
     pub finish_gives : (more : List (List ℕ)) × (rest ≡ text_of e ∷ more) × Finishing u a more
@@ -296,40 +301,48 @@ pub lane_owes : (lane : Lane) (w : Work) (v : Service) (a : Account) (rest : Lis
 lane_owes lane w v a rest is there owes =
     subst (λ o. Owes w o a rest) there (subst (λ x. Owes x lane.server a rest) is owes)
 
+-- a server that was taken further has the same jobs
+pub jobs_on : (lane : Lane) (v u : Service) (ls rest : List (List ℕ)) → Stands lane ls rest → lane.server ≡ Some v
+    → list_of u ≡ list_of v → jobs_in (Some u) ≤ admitted_in (account_of_lines ls)
+jobs_on lane v u ls rest it there same = omega (arith, it.jobs, ap jobs_in there, tasks_count v u same)
+
 -- the lane with its server taken further
-pub lane_stands : (lane : Lane) (w : Work) (u : Service) (ls rest more : List (List ℕ)) → Stands lane ls rest
-    → lane.work ≡ w
+pub lane_stands : (lane : Lane) (w : Work) (v u : Service) (ls rest more : List (List ℕ)) → Stands lane ls rest
+    → lane.work ≡ w → lane.server ≡ Some v → list_of u ≡ list_of v
     → Owes w (Some u) (account_of_lines ls) more → Stands (record lane { server = Some u }) ls more
-lane_stands lane w u ls rest more it is owes = record {
+lane_stands lane w v u ls rest more it is there same owes = record {
   intake = it.intake;
   opened = it.opened;
   unended = it.unended;
   marked = it.marked;
   owes = subst (λ x. Owes x (Some u) (account_of_lines ls) more) (sym is) owes;
+  jobs = jobs_on lane v u ls rest it there same;
   names = it.names;
 }
 
 -- the lane with its server taken further, and other work
 pub lane_turns : (lane : Lane) (w : Work) (u : Service) (ls rest more : List (List ℕ)) → Stands lane ls rest
-    → Owes w (Some u) (account_of_lines ls) more → GivesFault w ls
-    → Stands (record lane { server = Some u; work = w }) ls more
-lane_turns lane w u ls rest more it owes names =
+    → Owes w (Some u) (account_of_lines ls) more → jobs_in (Some u) ≤ admitted_in (account_of_lines ls)
+    → GivesFault w ls → Stands (record lane { server = Some u; work = w }) ls more
+lane_turns lane w u ls rest more it owes jobs names =
     record {
       intake = it.intake;
       opened = it.opened;
       unended = it.unended;
       marked = it.marked;
       owes = owes;
-      names =
-          names;
+      jobs = jobs;
+      names = names;
     }
 
 -- the lane is at rest
-pub lane_rests : (lane : Lane) (u : Service) (ls rest : List (List ℕ)) → Stands lane ls rest
-    → IsAtRest (Some u) (account_of_lines ls)
+pub lane_rests : (lane : Lane) (v u : Service) (ls rest : List (List ℕ)) → Stands lane ls rest
+    → lane.server ≡ Some v → list_of u ≡ list_of v → IsAtRest (Some u) (account_of_lines ls)
     → IsQuiet (record lane { server = Some u; work = Nothing }) ls
-lane_rests lane u ls rest it fits =
-    record { stands = lane_turns lane Nothing u ls rest [] it (refl, fits) tt; quiet = refl }
+lane_rests lane v u ls rest it there same fits = record {
+  stands = lane_turns lane Nothing u ls rest [] it (refl, fits) (jobs_on lane v u ls rest it there same) tt;
+  quiet = refl;
+}
 
 -- the job comes to the lane
 pub admit_turns : (lane : Lane) (job : JobFacts) (v w y : Service) (t : ℕ) (ls rest : List (List ℕ))
@@ -341,8 +354,10 @@ pub admit_turns : (lane : Lane) (job : JobFacts) (v w y : Service) (t : ℕ) (ls
 admit_turns lane job v w y t ls rest is there same rules last reaches ended admitted it =
     let owes : Admitting job v (account_of_lines ls) rest =
     lane_owes lane (Admit job) v (account_of_lines ls) rest is there it.owes in
-    lane_turns lane (Settle t) y ls rest rest it (subst (λ m. Settling m y (account_of_lines ls) rest) (sym same)
+    let settling : Settling t y (account_of_lines ls) rest =
+    subst (λ m. Settling m y (account_of_lines ls) rest) (sym same)
     (admit_none job v w (account_of_lines ls) rest owes rules (subst (λ m. w.last ≡ Mark m) same last) y y.spare
-    (subst (λ m. ReachesBarrier m v.rules v.state w.state) same reaches) ended admitted)) tt
+    (subst (λ m. ReachesBarrier m v.rules v.state w.state) same reaches) ended admitted) in
+    lane_turns lane (Settle t) y ls rest rest it settling (settling_jobs t y (account_of_lines ls) rest settling) tt
 
 -- ---- the end is given once

@@ -1,12 +1,13 @@
 -- How a lane comes to owe what a line of its feed adds.
 use Rattle.std.proofs.Common.{◌≡◌, ◌≤◌, ◌<◌, ◌^◌, ℕ, List, [], ◌∷◌, ◌++◌, refl, sym, ap, ◌∙◌, subst, Option, Some, None}
-use Rattle.std.proofs.Common.{Bool, true, false, Result, Ok, Err}
-use Rattle.std.specs.Prelude.{OnOk}
+use Rattle.std.proofs.Common.{Bool, true, false, Result, Ok, Err, arith}
+use Rattle.std.specs.Prelude.{OnOk, OnErr, length}
 use Rattle.std.proofs.lemmas.List.{append-nil}
 use Rattle.dover_model.specs.declared.events.Version.{Version}
 use Rattle.dover_model.specs.declared.events.Refusal.{Refusal}
 use Rattle.dover_model.specs.JobFacts.{JobFacts, job_of_numbers}
 use Rattle.dover_model.specs.Fraction.{Fraction}
+use Rattle.dover_model.specs.Session.{JobItem, new_session, with_item}
 use Rattle.dover_model.specs.Feed.{Account, Open, Ended, Faulty, account_of_lines, is_open, rules_with}
 use Rattle.dover_model.specs.Due.{due_lines}
 use Rattle.dover_model.specs.Text.{header, refused_text}
@@ -14,11 +15,14 @@ use Rattle.dover_core.specs.Service.{Service, fresh_service}
 use Rattle.event_feed.specs.Kept as feed
 use Rattle.event_feed.specs.Kept.{cause_of_fault}
 use Rattle.event_feed.specs.Answers.{DeclaresRatio, AddsJob, MovesMark, EndsFeed, AddsRefused, NewFault, IsFed, counted}
+use Rattle.event_feed.specs.Answers.{admitted_in}
+use Rattle.event_feed.proofs.Admitting.{admitted_by}
 use Rattle.event_feed.specs.declared.faults.FeedFault.{FeedFault}
 use Rattle.event_feed.specs.declared.fed.Fed.{Fed}
-use Rattle.event_feed.specs.declared.fed.Fed.TheVariants.{Over}
+use Rattle.event_feed.specs.declared.fed.Fed.TheVariants.{Job, Tick, Over, Refused as NotAdmitted}
 use Rattle.lane_server.specs.Lanes.{lines_added}
-use Rattle.lane_server.specs.Lane.{Fits, IsOpenAt, Owes, GivesFault, Adds, Stands, IsQuiet}
+use Rattle.lane_server.specs.Lane.{IsDeclared, Fits, IsOpenAt, Owes, GivesFault, Adds, Stands, IsQuiet}
+use Rattle.lane_server.specs.Spending.{jobs_in}
 use Rattle.lane_server.specs.declared.lane.Lane.{Lane}
 use Rattle.lane_server.specs.declared.lane.Work.TheVariants.{Nothing, Give, Settle, Admit, Finish}
 use Rattle.lane_server.specs.declared.out.LaneOut.TheVariants.{Header, Refuse, Refused}
@@ -29,6 +33,7 @@ use Rattle.lane_server.proofs.Adding.{end_rest, end_due, end_owes}
 use Rattle.lane_server.proofs.Adding.{refused_stands, refused_mark, refused_due, refused_mark_short, refused_fits}
 use Rattle.lane_server.proofs.Adding.{new_fault_due, opens_by, open_stands, lines_kept}
 use Rattle.lane_server.proofs.Adding.{added_is, account_over}
+use Rattle.lane_server.proofs.Admitted.{still_jobs}
 
 -- the ratio line
 pub declare_adds : (lane : Lane) (k : Fraction) (version : Version) (v : Service) (a b : Account) → IsOpenAt lane a
@@ -40,6 +45,7 @@ declare_adds lane k version v a b at it new = record {
   due = header_due a b k version at.stands it;
   marked = at.marked ∙ sym (header_mark a b k version at.stands it);
   owes = (refl, header_fits a b k version at.stands it v v.spare new, tt);
+  jobs = let none : length v.state.tasks ≡ 0 = ap (λ (u : Service). length u.state.tasks) new in omega arith;
   names = λ ls. tt;
 }
 
@@ -55,6 +61,8 @@ arrive_adds lane n job v u t a b at it there is room same =
       due = job_due a b n job at.kept at.stands it v fits;
       marked = same ∙ sym (job_mark a b n job at.kept at.stands it v fits);
       owes = job_owes a b n job at.kept at.stands it v fits u u.spare is room;
+      jobs = subst (λ (w : Service). length w.state.tasks ≤ admitted_in b) (sym is)
+          (still_jobs a b (Some v) (Job n job) fits it);
       names = λ ls. tt;
     }
 
@@ -70,6 +78,7 @@ tick_adds lane t a b at it = by_server lane.server at.fits where
     due = tick_due a b t at.kept at.stands it v fits;
     marked = sym (tick_mark a b t at.kept at.stands it v fits);
     owes = tick_owes a b t at.kept at.stands it v fits;
+    jobs = still_jobs a b (Some v) (Tick t) fits it;
     names = λ ls. tt;
   }
 
@@ -85,6 +94,7 @@ over_adds lane a b at it = by_server lane.server at.fits where
     due = end_due a b at.kept at.stands it v fits;
     marked = at.marked ∙ sym (end_mark a b at.kept at.stands it v fits);
     owes = end_owes a b at.kept at.stands it v fits;
+    jobs = still_jobs a b (Some v) Over fits it;
     names = λ ls. tt;
   }
 
@@ -103,6 +113,7 @@ refused_adds lane release work deadline value cause a b at it =
         refused_fits a b job cause at.kept at.stands it lane.server at.fits,
         (subst (λ m. m < 10 ^ 18) (sym at.marked) (refused_mark_short a b job cause at.kept at.stands it), it.numerals),
       );
+      jobs = still_jobs a b lane.server (NotAdmitted release work deadline value cause) at.fits it;
       names = λ ls. tt;
     }
 
@@ -142,16 +153,18 @@ taken_stands lane ls line fed intake is over it = record {
   marked = it.marked;
   owes = subst (Owes lane.work lane.server (account_of_lines (ls ++ line ∷ [])))
       (added_is ls line it.rest it.due) it.owes;
+  jobs = it.jobs;
   names = it.names (ls ++ line ∷ []);
 }
 
 -- the lane after a faulty line
 pub fault_stands : (lane : Lane) (i : feed.Kept) (ls : List (List ℕ)) (line : List ℕ) (fault : FeedFault)
     → feed.StandsFor i (ls ++ line ∷ []) → lane.mark ≡ (account_of_lines ls).mark
+    → jobs_in lane.server ≤ admitted_in (account_of_lines ls)
     → NewFault line fault (account_of_lines ls) (account_of_lines (ls ++ line ∷ []))
     → Stands (record lane { intake = i; is_open = false; work = Give (Refused fault.line fault.cause) })
     (ls ++ line ∷ []) (lines_added ls line)
-fault_stands lane i ls line fault intake marked it =
+fault_stands lane i ls line fault intake marked jobs it =
     let stands : (account_of_lines (ls ++ line ∷ [])).standing ≡ Faulty (counted (account_of_lines ls)).lines
     (cause_of_fault fault.cause) =
     ap (λ (x : Account). x.standing) it.after_is in record {
@@ -166,6 +179,8 @@ fault_stands lane i ls line fault intake marked it =
             sym opened ∙ stands in cc),
         tt,
       );
+      jobs = subst (λ n. jobs_in lane.server ≤ n)
+          (sym (ap (λ (x : Account). admitted_by x.session) it.after_is)) jobs;
       names = record { before = ls; line = line; more = []; lines = refl; new = it };
     }
 
@@ -182,6 +197,7 @@ over_stands lane ls line it over =
       owes = subst (Owes lane.work lane.server (account_of_lines (ls ++ line ∷ [])))
           (added_is ls line [] (ap due_lines same ∙ sym (append-nil (due_lines (account_of_lines ls)))))
           (subst (λ a. Owes lane.work lane.server a []) (sym same) it.stands.owes);
+      jobs = subst (λ a. jobs_in lane.server ≤ admitted_in a) (sym same) it.stands.jobs;
       names = subst (λ w. GivesFault w (ls ++ line ∷ [])) (sym it.quiet) tt;
     }
 
@@ -193,3 +209,16 @@ on_ok (Err e) f p = tt
 -- the line that was answered so is the end
 pub over_fed : {E : Type 0} (fed : Fed) (r : Result Fed E) → r ≡ Ok fed → r ≡ Ok Over → fed ≡ Over
 over_fed fed r e f = cc
+
+-- whatever an error is
+pub err_any : {T E : Type 0} (r : Result T E) (P : Type 0) → P → OnErr r P
+err_any (Ok x) P p = tt
+err_any (Err e) P p = p
+
+-- the ratio line declares the session
+pub ratio_declares : (k : Fraction) (version : Version) (a b : Account) → DeclaresRatio k version a b → IsDeclared b
+ratio_declares k version a b it = (new_session (rules_with k version), ap (λ (x : Account). x.session) it.after_is)
+
+-- at a job line it is declared
+pub job_declared : (n : ℕ) (job : JobFacts) (a b : Account) → AddsJob n job a b → IsDeclared b
+job_declared n job a b it = (with_item it.session (JobItem job), ap (λ (x : Account). x.session) it.after_is)

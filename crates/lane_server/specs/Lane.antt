@@ -9,9 +9,10 @@ use Rattle.dover_model.specs.Session.{JobItem, Session, instance_of, with_item}
 use Rattle.dover_model.specs.State.{State}
 use Rattle.dover_model.specs.Run.{Step, printed, printed_of}
 use Rattle.dover_model.specs.Settled.{settled}
+use Rattle.dover_model.specs.Sound.{Keeps}
 use Rattle.dover_model.specs.Paths.{HasPrinted, IsPath}
 use Rattle.dover_model.specs.Text.{header, text_of, refused_text}
-use Rattle.dover_model.specs.Feed.{Account, Open, Ended, account_of_lines, is_open, rules_with}
+use Rattle.dover_model.specs.Feed.{Account, Cause, Open, Ended, Faulty, account_of_lines, is_open, rules_with}
 use Rattle.dover_model.specs.Due.{due_lines, fault_text}
 use Rattle.dover_model.specs.Numerals.{AreShort}
 use Rattle.dover_model.proofs.Accounts.{IsKept}
@@ -21,11 +22,25 @@ use Rattle.dover_core.specs.Service.{Service, list_of}
 use Rattle.event_feed.specs.Kept as feed
 use Rattle.event_feed.specs.Kept.{cause_of_fault}
 use Rattle.event_feed.specs.Faults.{IsFirstFault}
+use Rattle.event_feed.specs.Answers.{admitted_in}
+use Rattle.lane_server.specs.Spending.{jobs_in}
 use Rattle.lane_server.specs.declared.out.LaneOut.{LaneOut}
 use Rattle.lane_server.specs.declared.out.LaneOut.TheVariants.{Header, Step as Printed, Refuse, Refused}
 use Rattle.lane_server.specs.declared.lane.Lane.{Lane}
 use Rattle.lane_server.specs.declared.lane.Work.{Work}
 use Rattle.lane_server.specs.declared.lane.Work.TheVariants.{Nothing, Give, Settle, Admit, Finish}
+
+-- ---- how a feed stands
+
+-- the session is there
+abbrev pub IsDeclared : Account → Type 0
+IsDeclared a = (S : Session) × (a.session ≡ Some S)
+
+-- a line at fault was read
+abbrev pub IsFaulty : Account → Type 0
+IsFaulty a = (line : ℕ) × (cause : Cause) × (a.standing ≡ Faulty line cause)
+
+-- ---- a line that is due
 
 -- the text of a line
 abbrev pub out_text : LaneOut → List ℕ
@@ -115,6 +130,7 @@ pub record Finishing (v : Service) (a : Account) (rest : List (List ℕ)) : Type
   pub stands : a.standing ≡ Ended
   pub valid : IsValid (instance_of session)
   pub rules : v.rules ≡ session.rules
+  pub keeps : Keeps (instance_of session) v.state
   pub mark : ℕ
   pub start : State
   pub before : List Event
@@ -152,6 +168,7 @@ pub record Stands (lane : Lane) (ls rest : List (List ℕ)) : Type 0 where
   pub unended : lane.is_open ≡ true → feed.has_ended lane.intake ≡ false
   pub marked : lane.mark ≡ (account_of_lines ls).mark
   pub owes : Owes lane.work lane.server (account_of_lines ls) rest
+  pub jobs : jobs_in lane.server ≤ admitted_in (account_of_lines ls)
   pub names : GivesFault lane.work ls
 
 -- it was handed these lines, and all that is due for them was given
@@ -180,4 +197,5 @@ pub record Adds (lane : Lane) (a b : Account) : Type 0 where
   pub due : due_lines b ≡ due_lines a ++ rest
   pub marked : lane.mark ≡ b.mark
   pub owes : Owes lane.work lane.server b rest
+  pub jobs : jobs_in lane.server ≤ admitted_in b
   pub names : (ls : List (List ℕ)) → GivesFault lane.work ls

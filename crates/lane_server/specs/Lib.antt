@@ -3,3 +3,4 @@ pub mod Reading
 pub mod Lane
 pub mod Kept
 pub mod Shorts
+pub mod Spending

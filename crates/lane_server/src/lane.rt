@@ -1,16 +1,17 @@
 //! One lane: a feed, the server that it feeds, and the lines that are due and not yet given.
-ghost use Rattle.std.specs.Prelude.{◌≡◌, ℕ, List, [], ◌∷◌, ◌++◌, true, OnOk};
-ghost use Rattle.dover_model.specs.Feed.{Account};
-ghost use Rattle.event_feed.specs.Answers.{DeclaresRatio, AddsJob, IsFed, counted};
+ghost use Rattle.std.specs.Prelude.{◌≡◌, ◌↔◌, ℕ, List, [], ◌∷◌, ◌++◌, Some, true, IsTrue, IsSome, OnOk, OnErr};
+ghost use Rattle.dover_model.specs.Feed.{Account, account_of_lines, is_open};
+ghost use Rattle.event_feed.specs.Answers.{DeclaresRatio, AddsJob, IsFed, EndAnswers, counted};
 ghost use Rattle.lane_server.specs.Lanes.{lines_added, feed_short, is_fine};
-ghost use Rattle.lane_server.specs.Lane.{Stands, IsQuiet, Gives, IsOpenAt, Adds};
+ghost use Rattle.lane_server.specs.Lane.{IsDeclared, Stands, IsQuiet, Gives, IsOpenAt, Adds};
+ghost use Rattle.lane_server.specs.Spending.{HasPaid};
 ghost use Rattle.lane_server.specs.Shorts.{short_texts};
-ghost use Rattle.lane_server.specs.declared.lane.Work.TheVariants.{Settle, Admit, Finish};
+ghost use Rattle.lane_server.specs.declared.lane.Work.TheVariants.{Nothing, Settle, Admit, Finish};
 
 use crate::out::LaneOut;
 use dover_core::{Horizon, Server};
 use dover_model::{Job, Memory, Ratio, Version};
-use event_feed::{Fed, Intake};
+use event_feed::{Fed, FeedFault, Intake};
 use std::alloc::Global;
 use std::sync::ledger::Ledger;
 use step_count::Steps;
@@ -30,9 +31,10 @@ pub(crate) enum Work {
     Finish,
 }
 
-/// A feed, its server from the ratio line on, and what is under way.
+/// A feed, its server from the ratio line on, and what is under way: each line of the feed goes in, and then each line
+/// that is due for it comes out.
 #[derive(Drop)]
-pub(crate) struct Lane {
+pub struct Lane {
     intake: Intake,
     server: Option<Server>,
     mark: u64,
@@ -42,8 +44,9 @@ pub(crate) struct Lane {
 
 impl Lane {
     /// No line came yet.
-    pub(crate) fn new() -> Lane
-        ensures { IsQuiet result [] }
+    pub fn new() -> Lane
+        ensures quiet { IsQuiet result [] }
+        ensures paid { (start : ℕ) → HasPaid result.server start start }
     {
         Lane {
             intake: Intake::new(),
@@ -54,9 +57,31 @@ impl Lane {
         }
     }
 
+    /// Goes on from where a feed was paused, with the intake and the server that stood there.
+    pub fn resumed(intake: Intake, server: Server) -> Lane
+        ensures { result ≡ record {
+          intake = intake;
+          server = Some server;
+          mark = server.state.clock;
+          is_open = true;
+          work = Nothing;
+        } }
+    {
+        let mark = server.clock();
+        Lane {
+            intake,
+            server: Some(server),
+            mark,
+            is_open: true,
+            work: Work::Nothing,
+        }
+    }
+
     fn declare(&mut self, alloc: Global, version: Version, k: Ratio) -> Result<(), Memory>
         ensures adds { (a b : Account) → IsOpenAt self.old a → DeclaresRatio k version (counted a) b
             → OnOk result (Adds self.new a b) }
+        ensures paid { (a b : Account) (start now : ℕ) → IsOpenAt self.old a → DeclaresRatio k version (counted a) b
+            → HasPaid self.old.server start now → OnOk result (HasPaid self.new.server start now) }
         ensures intake { self.new.intake ≡ self.old.intake }
     {
         self.server = Some(Server::new(alloc, version, k)?);
@@ -68,6 +93,8 @@ impl Lane {
         requires { (n : ℕ) × (a : Account) × (b : Account) × IsOpenAt self.old a × AddsJob n job (counted a) b }
         ensures adds { (n : ℕ) (a b : Account) → IsOpenAt self.old a → AddsJob n job (counted a) b
             → OnOk result (Adds self.new a b) }
+        ensures paid { (start now : ℕ) → HasPaid self.old.server start now
+            → OnOk result (HasPaid self.new.server start now) }
         ensures intake { self.new.intake ≡ self.old.intake }
     {
         let Some(server) = &mut self.server else {
@@ -83,6 +110,9 @@ impl Lane {
         requires { (a : Account) × (b : Account) × IsOpenAt self.old a × IsFed (counted a) b fed }
         ensures adds { (a b : Account) → IsOpenAt self.old a → IsFed (counted a) b fed
             → OnOk result (Adds self.new a b) }
+        ensures paid { (a b : Account) (start now : ℕ) → IsOpenAt self.old a → IsFed (counted a) b fed
+            → HasPaid self.old.server start now → OnOk result (HasPaid self.new.server start now) }
+        ensures lacks { (a b : Account) → IsFed (counted a) b fed → OnErr result (IsDeclared b) }
         ensures intake { self.new.intake ≡ self.old.intake }
     {
         match fed {
@@ -116,11 +146,20 @@ impl Lane {
         Ok(())
     }
 
-    /// Takes the next line of the feed. After its end or its fault, lines are disregarded.
-    pub(crate) fn line(&mut self, alloc: Global, line: &[u8]) -> Result<(), Memory>
+    /// Takes the next line of the feed, without its line feed. After its end or its fault, lines are disregarded. No
+    /// jobs are compared.
+    ///
+    /// # Errors
+    ///
+    /// `Memory` where there is none for the server or for the job; then the lane is no longer of use.
+    pub fn line(&mut self, alloc: Global, line: &[u8]) -> Result<(), Memory>
         requires { (ls : List (List ℕ)) × IsQuiet self.old ls }
-        ensures { (ls : List (List ℕ)) → IsQuiet self.old ls
+        ensures stands { (ls : List (List ℕ)) → IsQuiet self.old ls
             → OnOk result (Stands self.new (ls ++ line.now ∷ []) (lines_added ls line.now)) }
+        ensures paid { (ls : List (List ℕ)) (start now : ℕ) → IsQuiet self.old ls → HasPaid self.old.server start now
+            → OnOk result (HasPaid self.new.server start now) }
+        ensures lacks { (ls : List (List ℕ)) → IsQuiet self.old ls
+            → OnErr result (IsDeclared (account_of_lines (ls ++ line.now ∷ []))) }
     {
         if !self.is_open {
             return Ok(());
@@ -141,7 +180,9 @@ impl Lane {
     fn settle<L: Ledger>(&mut self, mark: u64, steps: &mut Steps<L>) -> Option<LaneOut>
         requires work { self.old.work ≡ Settle mark }
         requires stands { (ls : List (List ℕ)) × (rest : List (List ℕ)) × Stands self.old ls rest }
-        ensures { (ls rest : List (List ℕ)) → Stands self.old ls rest → Gives result self.new ls rest }
+        ensures gives { (ls rest : List (List ℕ)) → Stands self.old ls rest → Gives result self.new ls rest }
+        ensures paid { (ls rest : List (List ℕ)) (start : ℕ) → Stands self.old ls rest
+            → HasPaid self.old.server start steps.old → HasPaid self.new.server start steps.new }
     {
         let Some(server) = &mut self.server else {
             unreachable!();
@@ -158,7 +199,9 @@ impl Lane {
     fn admit<L: Ledger>(&mut self, job: Job, steps: &mut Steps<L>) -> Option<LaneOut>
         requires work { self.old.work ≡ Admit job }
         requires stands { (ls : List (List ℕ)) × (rest : List (List ℕ)) × Stands self.old ls rest }
-        ensures { (ls rest : List (List ℕ)) → Stands self.old ls rest → Gives result self.new ls rest }
+        ensures gives { (ls rest : List (List ℕ)) → Stands self.old ls rest → Gives result self.new ls rest }
+        ensures paid { (ls rest : List (List ℕ)) (start : ℕ) → Stands self.old ls rest
+            → HasPaid self.old.server start steps.old → HasPaid self.new.server start steps.new }
     {
         let Some(server) = &mut self.server else {
             unreachable!();
@@ -178,7 +221,9 @@ impl Lane {
     fn finish<L: Ledger>(&mut self, steps: &mut Steps<L>) -> Option<LaneOut>
         requires work { self.old.work ≡ Finish }
         requires stands { (ls : List (List ℕ)) × (rest : List (List ℕ)) × Stands self.old ls rest }
-        ensures { (ls rest : List (List ℕ)) → Stands self.old ls rest → Gives result self.new ls rest }
+        ensures gives { (ls rest : List (List ℕ)) → Stands self.old ls rest → Gives result self.new ls rest }
+        ensures paid { (ls rest : List (List ℕ)) (start : ℕ) → Stands self.old ls rest
+            → HasPaid self.old.server start steps.old → HasPaid self.new.server start steps.new }
     {
         let Some(server) = &mut self.server else {
             unreachable!();
@@ -193,9 +238,11 @@ impl Lane {
     }
 
     /// The next line due. None exactly where all that is due was given.
-    pub(crate) fn next_out<L: Ledger>(&mut self, steps: &mut Steps<L>) -> Option<LaneOut>
+    pub fn next_out<L: Ledger>(&mut self, steps: &mut Steps<L>) -> Option<LaneOut>
         requires { (ls : List (List ℕ)) × (rest : List (List ℕ)) × Stands self.old ls rest }
-        ensures { (ls rest : List (List ℕ)) → Stands self.old ls rest → Gives result self.new ls rest }
+        ensures gives { (ls rest : List (List ℕ)) → Stands self.old ls rest → Gives result self.new ls rest }
+        ensures paid { (ls rest : List (List ℕ)) (start : ℕ) → Stands self.old ls rest
+            → HasPaid self.old.server start steps.old → HasPaid self.new.server start steps.new }
     {
         let work = self.work;
         match work {
@@ -232,5 +279,44 @@ impl Lane {
             Ok(()) => true,
             Err(fault) => self.is_open && fault.line == 1,
         }
+    }
+
+    /// Whether the feed was neither ended nor at fault.
+    pub fn goes_on(&self) -> bool
+        ensures { (ls rest : List (List ℕ)) → Stands self.now ls rest → result ≡ is_open (account_of_lines ls) }
+    {
+        self.is_open
+    }
+
+    /// Why the feed is refused where no more comes, unless it was ended.
+    ///
+    /// # Errors
+    ///
+    /// The first fault, with its line; where there is none, that the feed is short.
+    pub fn end(&self) -> Result<(), FeedFault>
+        ensures { (ls rest : List (List ℕ)) → Stands self.now ls rest → EndAnswers ls result }
+    {
+        self.intake.end()
+    }
+
+    /// Whether the ratio line came, and there is a server.
+    pub fn has_server(&self) -> bool
+        ensures { IsTrue result ↔ IsSome self.now.server }
+    {
+        self.server.is_some()
+    }
+
+    /// The mark: the tick up to which all is settled.
+    pub fn mark(&self) -> u64
+        ensures { result ≡ self.now.mark }
+    {
+        self.mark
+    }
+
+    /// The server, from the ratio line on.
+    pub fn into_server(self) -> Option<Server>
+        ensures { result ≡ self.server }
+    {
+        self.server
     }
 }

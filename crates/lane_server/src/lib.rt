@@ -6,5 +6,6 @@ mod lanes;
 mod out;
 mod reading;
 
+pub use lane::Lane;
 pub use lanes::{LaneFault, LaneStep, Lanes};
 pub use out::LaneOut;

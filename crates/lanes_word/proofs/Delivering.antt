@@ -23,8 +23,8 @@ use Rattle.lanes_word.specs.Delivered.{Delivers, PutsBy, LeavesBy, due_so_far}
 use Rattle.lanes_word.specs.Keeping.{Keeps}
 use Rattle.lanes_word.specs.declared.progress.Progress.{Progress}
 use Rattle.lanes_word.specs.declared.progress.Progress.TheVariants as progress
-use Rattle.lanes_word.specs.declared.progress.Stop.{Stop}
-use Rattle.lanes_word.specs.declared.progress.Stop.TheVariants.{NoMemory, Unwritten}
+use Rattle.dialogue.specs.declared.talker.Stop.{Stop}
+use Rattle.dialogue.specs.declared.talker.Stop.TheVariants.{NoMemory, Unwritten}
 use Rattle.dover_model.proofs.Beginnings.{in_lines-append}
 use Rattle.lanes_word.proofs.Inputs.{goes_on_at, few_lines, long_ends, due_open, due_fed, due_longer, line_stays, Grows}
 use Rattle.lanes_word.proofs.Inputs.{input_grows, input_stays}

@@ -19,7 +19,7 @@ use Rattle.lanes_word.specs.Turning.{Gets, TurnMakes, TurnCauses, IsEnding, Ends
 use Rattle.lanes_word.specs.declared.session.Session.{Session}
 use Rattle.lanes_word.specs.declared.progress.Progress.{Progress}
 use Rattle.lanes_word.specs.declared.progress.Progress.TheVariants as progress
-use Rattle.lanes_word.specs.declared.progress.Stop.TheVariants.{NoMemory, Unwritten}
+use Rattle.dialogue.specs.declared.talker.Stop.TheVariants.{NoMemory, Unwritten}
 use Rattle.lanes_word.specs.declared.turn.Turn.TheVariants as turn
 use Rattle.dover_model.proofs.Beginnings.{in_lines-append}
 

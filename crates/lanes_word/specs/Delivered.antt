@@ -2,8 +2,6 @@
 use Rattle.std.specs.Prelude.{◌≡◌, ℕ, List, [], ◌∷◌, ◌++◌, true, false, Option, Result, Ok, Err, length}
 use Rattle.dover_model.specs.Lines.{in_lines}
 use Rattle.dover_model.specs.WholeRun.{Begins}
-use Rattle.dover_port.specs.Causes.{Rose, StaysWell, FailsLast}
-use Rattle.dover_port.specs.declared.calls.Calls.{Calls}
 use Rattle.dover_port.specs.Moves.{Move, Passes, CutsShort}
 use Rattle.lane_server.specs.Lanes.{Input, Open, Closed, Faulty, input, goes_on, lane_count, due_after, shorts_from}
 use Rattle.lane_server.specs.Lanes.{refused_line, fault_word}
@@ -11,8 +9,8 @@ use Rattle.lane_server.specs.Kept.{Kept, StandsFor}
 use Rattle.lanes_word.specs.Record.{HasLine, closing_status}
 use Rattle.lanes_word.specs.declared.progress.Progress.{Progress}
 use Rattle.lanes_word.specs.declared.progress.Progress.TheVariants as progress
-use Rattle.lanes_word.specs.declared.progress.Stop.{Stop}
-use Rattle.lanes_word.specs.declared.progress.Stop.TheVariants.{NoMemory, Unwritten}
+use Rattle.dialogue.specs.declared.talker.Stop.{Stop}
+use Rattle.dialogue.specs.declared.talker.Stop.TheVariants.{NoMemory, Unwritten}
 
 -- the last lines of a session that is over by a line of the input
 abbrev pub last_lines : Input → List (List ℕ)
@@ -64,15 +62,3 @@ pub record HasGiven (old new : Option (List Move)) (before after : List ℕ) (la
   pub counted : length text ≡ count
   pub stands : StandsFor lanes ls left
   pub puts : Passes old new before after (in_lines text)
-
--- A count of faults rises where a write failed, and nowhere else.
-abbrev pub StopCause : {T : Type 0} → Result T Stop → (writes writes' reads reads' : ℕ) → Type 0
-StopCause (Ok x) writes writes' reads reads' = (writes' ≡ writes) × (reads' ≡ reads)
-StopCause (Err NoMemory) writes writes' reads reads' = (writes' ≡ writes) × (reads' ≡ reads)
-StopCause (Err Unwritten) writes writes' reads reads' = Rose writes writes' × (reads' ≡ reads)
-
--- No call follows one that failed: the last one alone has failed where a write did, and else none has.
-abbrev pub StopsOn : {T : Type 0} → Result T Stop → (old new : Calls) → Type 0
-StopsOn (Ok x) old new = StaysWell old new
-StopsOn (Err NoMemory) old new = StaysWell old new
-StopsOn (Err Unwritten) old new = FailsLast old new

@@ -6,12 +6,14 @@ ghost use Rattle.dover_model.specs.Lines.{in_lines};
 ghost use Rattle.dover_model.specs.Limits.{most_lines};
 ghost use Rattle.lane_server.specs.Kept.{StandsFor, IsReady, is_closed};
 ghost use Rattle.lane_server.specs.Lanes.{Input, InputFault, Faulty, Open as Going, input, input_of_lines, fault_word};
-ghost use Rattle.lanes_word.specs.Delivered.{Delivers, StopCause, StopsOn};
+ghost use Rattle.dialogue.specs.Turns.{StopCause, StopsOn};
+ghost use Rattle.lanes_word.specs.Delivered.{Delivers};
 ghost use Rattle.lanes_word.specs.Keeping.{Keeps, Stands};
 ghost use Rattle.lanes_word.specs.declared.progress.Progress.TheVariants.{Open};
 
 use crate::lines::{put_out, put_refusal};
-use crate::progress::{Progress, Stop};
+use crate::progress::Progress;
+use dialogue::Stop;
 use dover_port::{Failed, Output, Port, Status};
 use lane_server::{LaneFault, LaneStep, Lanes};
 use line_text::{Lines, Step};

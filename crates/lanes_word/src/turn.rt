@@ -5,8 +5,9 @@ ghost use Rattle.lanes_word.specs.Keeping.{Stands};
 ghost use Rattle.lanes_word.specs.Turning.{TurnMakes, TurnCauses, EndsWell, turn_of, TurnStops};
 ghost use Rattle.lanes_word.specs.declared.turn.Turn.TheVariants.{More, NoInput};
 
-use crate::progress::{Progress, Stop};
+use crate::progress::Progress;
 use crate::session::{Session, take_piece};
+use dialogue::Stop;
 use dover_port::{Output, Port, Status};
 use std::sync::ledger::Ledger;
 use step_count::Steps;

@@ -1,5 +1,5 @@
 //! The line that refuses a feed.
-ghost use Rattle.std.specs.Prelude.{◌≡◌, ◌++◌, ◌∷◌, []};
+ghost use Rattle.std.specs.Prelude.{◌≡◌, ◌<◌, ◌++◌, ◌∷◌, [], length};
 ghost use Rattle.dover_model.specs.Due as due;
 ghost use Rattle.dover_port.specs.Causes.{HasCause, StopsAtFailure};
 ghost use Rattle.dover_port.specs.Moves.{PutsThrough};
@@ -26,14 +26,23 @@ fn cause_word(cause: Cause) -> &'static [u8]
     }
 }
 
-/// The line of a fault, with its line feed.
-pub fn fault_line(fault: FeedFault) -> LineBuf
-    ensures { result ≡ due.fault_text fault.line (cause_of_fault fault.cause) ++ 10 ∷ [] }
+/// The line of a fault, without its line feed. It has at most 128 bytes.
+pub fn fault_text(fault: FeedFault) -> LineBuf
+    ensures text { result ≡ due.fault_text fault.line (cause_of_fault fault.cause) }
+    ensures fits { length result < 129 }
 {
     let mut line = LineBuf::new();
     line.put_word(b"refused");
     line.put_number(fault.line);
     line.put_word(cause_word(fault.cause));
+    line
+}
+
+/// The line of a fault, with its line feed.
+pub fn fault_line(fault: FeedFault) -> LineBuf
+    ensures { result ≡ due.fault_text fault.line (cause_of_fault fault.cause) ++ 10 ∷ [] }
+{
+    let mut line = fault_text(fault);
     line.end_line();
     line
 }

@@ -5,6 +5,6 @@ mod faults;
 mod lines;
 mod traces;
 
-pub use faults::{fault_line, put_fault};
+pub use faults::{fault_line, fault_text, put_fault};
 pub use lines::{put_line, put_numbers};
 pub use traces::{put_event, put_header, put_refused};

@@ -20,9 +20,9 @@ use Rattle.dover_port.proofs.Through.{passes_then, passes_then_cut}
 use Rattle.snapshot.specs.Snapshot.{MayPause, snapshot}
 use Rattle.snapshot.specs.declared.reader.SnapFault.TheVariants as fault
 use Rattle.serve_word.specs.From.{EndsAt}
-use Rattle.serve_word.specs.Rest.{ServesRest}
-use Rattle.serve_word.specs.declared.from.AtEnd.{AtEnd}
-use Rattle.serve_word.proofs.Turns.{no_input, got_some}
+use Rattle.serve_word.specs.From.{ServesRest}
+use Rattle.serve_word.specs.declared.at_end.AtEnd.{AtEnd}
+use Rattle.dialogue.proofs.Records.{no_input, got_some}
 use Rattle.resume_word.specs.Opening.{OpeningStands, IsWholeAt, TakesFront}
 use Rattle.resume_word.specs.Record.{IsPart, MayRead, IsRefusedFor, Resumes, GoesOn, Refuses, refused_text}
 use Rattle.resume_word.specs.declared.opening.Opening.{Opening}

@@ -11,8 +11,7 @@ use Rattle.dover_port.specs.Moves.Move.{Got}
 use Rattle.dover_port.specs.declared.status.Status.{Status}
 use Rattle.dover_port.specs.declared.status.Status.TheVariants.{Done, No, Refused, ReadFault, WriteFault, Memory, Usage}
 use Rattle.dover_port.proofs.Made.{since_none, since_then, since_then_at, since_weaker, ins-append}
-use Rattle.dover_core.specs.Service.{Service}
-use Rattle.dover_core.specs.Spending.{waits_so_far, HasSpent, AreFew}
+use Rattle.dover_core.specs.Spending.{waits_so_far, AreFew}
 use Rattle.dover_core.proofs.Spending.{so_far_most, all_few}
 use Rattle.event_feed.specs.Answers.{admitted_in}
 use Rattle.snapshot.specs.Snapshot.{MayPause, snapshot}
@@ -20,10 +19,7 @@ use Rattle.snapshot.specs.Reading.{reading_of}
 use Rattle.snapshot.specs.Spending.{jobs_read, jobs_kept, HasSpentOn}
 use Rattle.snapshot.specs.declared.resuming.Resuming.{Resuming}
 use Rattle.snapshot.proofs.Spending.{jobs_reading}
-use Rattle.serve_word.specs.Rest.{SpendsRest}
-use Rattle.serve_word.specs.Spending.{waits_of, jobs_in}
-use Rattle.serve_word.proofs.Spending.{waits_most}
-use Rattle.serve_word.proofs.Turns.{got_some}
+use Rattle.dialogue.proofs.Records.{got_some}
 use Rattle.resume_word.specs.Opening.{OpeningStands, IsWholeAt, TakesFront, HasFewOf}
 use Rattle.resume_word.specs.Record.{GoesOn, Refuses, IsFrugal}
 use Rattle.resume_word.specs.declared.opening.Opening.{Opening}
@@ -37,21 +33,6 @@ few_kept (Some r) start now n spent few = λ d enough.
     let most : waits_so_far r.server.state ≤ 4 * length r.server.state.tasks = so_far_most r.server.state in
     all_few n d (waits_so_far r.server.state) start now (omega (arith, most, few))
     (spent d (omega (arith, few, enough)))
-
--- and so was what a feed goes on with
-pub few_rest : (F bytes : List ℕ) (v : Service) (start before after : ℕ) (moves : List Move)
-    → HasSpent v.state start before → SpendsRest F bytes (Some v) before after moves
-    → AreFew (admitted_in (account (F ++ (bytes ++ ins moves)))) start after
-few_rest F bytes v start before after moves spent it = λ d enough.
-    let small : jobs_in it.server + 1 < 2 ^ d = omega (arith, it.jobs, enough) in
-    let grows : length v.state.tasks ≤ jobs_in it.server = it.spends.grows in
-    joins (admitted_in (account (F ++ (bytes ++ ins moves)))) d (waits_so_far v.state) (waits_of it.server)
-    (jobs_in it.server) (waits_most it.server) it.jobs (spent d (omega (arith, grows, small)))
-    (it.spends.few d small) where
-      joins : (n d was is jobs : ℕ) → is ≤ 4 * jobs → jobs ≤ n → before ≤ start + 20 * d * was
-          → after + 20 * d * was ≤ before + 20 * d * is → after ≤ start + 80 * (n + 1) * d
-      joins n d was is jobs most few first second =
-          all_few n d is start after (omega (arith, most, few)) (omega (arith, first, second))
 
 -- ---- while the snapshot is read
 

@@ -14,7 +14,7 @@ use Rattle.snapshot.specs.Reading.{Reading, Begun, Going, Taken, reading_of}
 use Rattle.snapshot.specs.Kept.{IsGoing}
 use Rattle.snapshot.specs.Spending.{jobs_read}
 use Rattle.serve_word.specs.From.{MayReadFrom, EndsAt, IsRefusedAt, IsUnreadAt, IsUnwrittenAt, IsOutOfMemoryAt}
-use Rattle.serve_word.specs.declared.from.AtEnd.{AtEnd}
+use Rattle.serve_word.specs.declared.at_end.AtEnd.{AtEnd}
 use Rattle.resume_word.specs.Opening.{OpeningStands}
 use Rattle.resume_word.specs.declared.opening.Opening.{Opening}
 

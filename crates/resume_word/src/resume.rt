@@ -7,7 +7,7 @@ ghost use Rattle.dover_port.specs.Moves.{Since, ins};
 ghost use Rattle.event_feed.specs.Answers.{admitted_in};
 ghost use Rattle.snapshot.specs.Snapshot.{MayPause, snapshot};
 ghost use Rattle.snapshot.specs.Spending.{HasSpentOn};
-ghost use Rattle.serve_word.specs.Rest.{ServesRest};
+ghost use Rattle.serve_word.specs.From.{ServesRest};
 ghost use Rattle.resume_word.specs.Opening.{IsWholeAt};
 ghost use Rattle.resume_word.specs.Record.{Resumes, Refuses, IsFrugal};
 

@@ -1,17 +1,15 @@
 -- What the moves of a call come to that goes on from a feed of which some was read before.
-use Rattle.std.specs.Prelude.{◌≡◌, ℕ, List, ◌++◌, Bool, true, false, ◌⊎◌}
+use Rattle.std.specs.Prelude.{◌≡◌, ℕ, List, [], ◌++◌, Bool, true, false, ◌⊎◌}
 use Rattle.dover_model.specs.Feed.{is_open, is_ended, account}
 use Rattle.dover_model.specs.Due.{due, closed}
 use Rattle.dover_model.specs.WholeRun.{Begins}
-use Rattle.dover_port.specs.Moves.{Move, ins, outs, has_ended, EachRead, IsProperPrefix}
+use Rattle.dover_port.specs.Moves.{Move, ins, outs, has_ended, EachRead, EachReadFrom, IsProperPrefix}
 use Rattle.dover_port.specs.declared.status.Status.{Status}
 use Rattle.dover_port.specs.declared.status.Status.TheVariants.{Done, Refused, ReadFault, WriteFault, Memory}
 use Rattle.snapshot.specs.Snapshot.{snapshot}
 use Rattle.serve_word.specs.Closing.{PausesAt}
-use Rattle.serve_word.specs.Delivered.{IsDeclared, IsFaulty}
-use Rattle.serve_word.specs.Feeding.{FeedStands}
-use Rattle.serve_word.specs.declared.feed.Feed.{Feed}
-use Rattle.serve_word.specs.declared.from.AtEnd.{AtEnd}
+use Rattle.lane_server.specs.Lane.{IsDeclared, IsFaulty}
+use Rattle.serve_word.specs.declared.at_end.AtEnd.{AtEnd}
 
 -- Before a read: what is due beyond what was due for x was put, and the feed goes on.
 abbrev pub MayReadFrom : List ℕ → List ℕ → List ℕ → Type 0
@@ -64,9 +62,7 @@ pub record ServesFrom (x : List ℕ) (at_end : AtEnd) (status : Status) (moves :
   pub reads : EachRead (MayReadFrom x) moves
   pub ends : EndsAt x at_end status (ins moves) (outs moves) (has_ended moves)
 
--- The record of a call that goes on: the feed stands for x and what was got, and what is due for it was put.
-pub record GoesOnFrom (x : List ℕ) (feed : Feed) (moves : List Move) : Type 0 where
-  pub reads : EachRead (MayReadFrom x) moves
-  pub text : due x ++ outs moves ≡ due (x ++ ins moves)
-  pub unended : has_ended moves ≡ false
-  pub stands : FeedStands feed (x ++ ins moves)
+-- the record of a call with this status that had these bytes of the feed behind x
+pub record ServesRest (x bytes : List ℕ) (at_end : AtEnd) (status : Status) (moves : List Move) : Type 0 where
+  pub reads : EachReadFrom (MayReadFrom x) bytes [] moves
+  pub ends : EndsAt x at_end status (bytes ++ ins moves) (outs moves) (has_ended moves)

@@ -1,10 +1,6 @@
-pub mod Served
-pub mod Delivered
-pub mod Session
-pub mod Feeding
 pub mod Record
-pub mod Spending
-pub mod Pausing
 pub mod Closing
 pub mod From
-pub mod Rest
+pub mod Feeding
+pub mod Pausing
+pub mod Talking

@@ -7,8 +7,10 @@ use Rattle.dover_port.specs.declared.status.Status.{Status}
 use Rattle.dover_port.specs.declared.status.Status.TheVariants.{Done, Refused, ReadFault, WriteFault, Memory}
 use Rattle.snapshot.specs.Snapshot.{MayPause, head_line, state_line, snapshot}
 use Rattle.dover_core.specs.Service.{Service}
-use Rattle.serve_word.specs.Delivered.{IsFaulty}
+use Rattle.lane_server.specs.Lane.{IsFaulty}
+use Rattle.serve_word.specs.Feeding.{FeedRests}
 use Rattle.serve_word.specs.Record.{MayRead, IsDone, IsUnread, IsOutOfMemory}
+use Rattle.serve_word.specs.declared.feed.Feed.{Feed}
 
 -- the input ended where the feed may pause: what is due was put, and the snapshot behind it
 pub record IsPaused (moves : List Move) : Type 0 where
@@ -47,6 +49,15 @@ Ends _ moves = ⊥
 pub record Pauses (status : Status) (moves : List Move) : Type 0 where
   pub reads : EachRead MayRead moves
   pub ends : Ends status moves
+
+-- ---- the snapshot
+
+-- a feed of so many lines stands for these bytes, goes on, and may pause
+pub record CanPause (feed : Feed) (lines : ℕ) (x : List ℕ) : Type 0 where
+  pub rests : FeedRests feed x
+  pub goes_on : is_open (account x) ≡ true
+  pub may : MayPause x
+  pub count : lines ≡ (account x).lines
 
 -- the lines of a snapshot, of the jobs of a server
 abbrev pub lines_in : Service → ℕ → ℕ → List (List ℕ)

@@ -1,17 +1,12 @@
 //! The word `serve`: a feed is read, and each settled line of its trace is written before the next read.
 #![tactic(auto)]
 
+mod at_end;
 mod feed;
-mod from;
+mod lines;
 mod pause;
-mod progress;
-mod rest;
-mod serve;
-mod session;
-mod steps;
-mod turn;
+mod serving;
+mod words;
 
-pub use from::AtEnd;
-pub use pause::pause_word;
-pub use rest::serve_on;
-pub use serve::serve_word;
+pub use at_end::AtEnd;
+pub use words::{pause_word, serve_on, serve_word};

@@ -1,27 +1,25 @@
-//! The word `pause`: a feed is served, and where its input ends it is paused.
-ghost use Rattle.std.specs.Prelude.{◌≡◌, ◌≤◌, ◌↔◌, ◌++◌, ◌∷◌, [], ℕ, List, IsTrue, map, codes};
+//! The snapshot of a feed that is paused where its input ends.
+ghost use Rattle.std.specs.Prelude.{◌≡◌, ◌≤◌, ◌↔◌, ◌++◌, ◌∷◌, [], ℕ, List, IsTrue, true, map, codes};
+ghost use Rattle.dover_model.specs.Feed.{account, is_open};
 ghost use Rattle.dover_model.specs.Lines.{in_lines};
 ghost use Rattle.dover_model.specs.Limits.{most_lines, last_tick};
-ghost use Rattle.dover_port.specs.Causes.{Causes, HasCause, IsAnswer, StopsAtFailure, StopsWith};
-ghost use Rattle.dover_port.specs.Moves.{Since, PutsThrough};
-ghost use Rattle.snapshot.specs.Snapshot.{MayPause, state_line};
-ghost use Rattle.serve_word.specs.Feeding.{FeedStands};
-ghost use Rattle.serve_word.specs.Record.{IsFrugal};
-ghost use Rattle.serve_word.specs.Closing.{Closes};
-ghost use Rattle.serve_word.specs.Pausing.{Pauses, lines_in};
-ghost use Rattle.serve_word.specs.Spending.{Spends, jobs_in};
-ghost use Rattle.serve_word.specs.declared.from.AtEnd.TheVariants.{Pause};
+ghost use Rattle.dover_core.specs.Spending.{AreFew};
+ghost use Rattle.event_feed.specs.Answers.{admitted_in};
+ghost use Rattle.dover_port.specs.Causes.{HasCause, StopsAtFailure};
+ghost use Rattle.dover_port.specs.Moves.{PutsThrough};
+ghost use Rattle.lane_server.specs.Spending.{HasPaid};
+ghost use Rattle.snapshot.specs.Snapshot.{MayPause, state_line, snapshot};
+ghost use Rattle.serve_word.specs.Closing.{PausesAt};
+ghost use Rattle.serve_word.specs.Feeding.{FeedRests};
+ghost use Rattle.serve_word.specs.Pausing.{CanPause, lines_in};
 
+use crate::at_end::AtEnd;
 use crate::feed::Feed;
-use crate::from::{AtEnd, serve_from};
-use crate::serve::refuse_short;
-use crate::steps::settle;
-use dover_core::Server;
-use dover_port::{Failed, Output, Port, Status};
+use dover_core::{Horizon, Server};
+use dover_port::{Failed, Output, Port};
 use line_output::put_line;
 use line_text::LineBuf;
 use snapshot::{head, state};
-use std::alloc::Global;
 use std::sync::ledger::Ledger;
 use step_count::Steps;
 
@@ -94,64 +92,40 @@ fn put_snapshot<P: Port>(
     put_last(port, out)
 }
 
-/// The ratio was declared, and no line has begun.
-fn may_pause(feed: &Feed) -> bool
-    ensures { (x : List ℕ) → FeedStands feed.now x → IsTrue result ↔ MayPause x }
+/// Whether a feed that goes on is paused where its input ends: its ratio was declared, and no line has begun.
+pub(crate) fn is_paused(feed: &Feed, at_end: AtEnd) -> bool
+    ensures { (x : List ℕ) → FeedRests feed.now x → is_open (account x) ≡ true → IsTrue result ↔ PausesAt at_end x }
 {
-    feed.session.server.is_some() && feed.lines.rest() == 0
+    match at_end {
+        AtEnd::Refuse => false,
+        AtEnd::Pause => feed.lane.has_server() && feed.lines.rest() == 0,
+    }
 }
 
-/// Pauses a feed whose input has ended, or refuses it.
+/// Puts the snapshot of a feed of so many lines.
 pub(crate) fn pause<P: Port, L: Ledger>(
     port: &mut P,
-    feed: &mut Feed,
+    out: &mut Output,
+    feed: Feed,
+    lines: u64,
     steps: &mut Steps<L>,
-) -> Status
-    requires { (x : List ℕ) × FeedStands feed.old x }
-    ensures closes { (x : List ℕ) → FeedStands feed.old x
-        → Closes Pause result (P.moves port.old) (P.moves port.new) x }
-    ensures jobs { jobs_in feed.new.session.server ≤ jobs_in feed.old.session.server }
-    ensures count { Spends feed.old.session.server feed.new.session.server steps.old steps.new }
-    ensures answer { IsAnswer result }
-    ensures causes { Causes result (P.read_faults port.old) (P.read_faults port.new) (P.write_faults port.old)
-        (P.write_faults port.new) }
-    ensures stops { StopsWith result (P.calls port.old) (P.calls port.new) }
+) -> Result<(), Failed>
+    requires { (x : List ℕ) × CanPause feed lines x }
+    ensures text { (x : List ℕ) → CanPause feed lines x →
+        PutsThrough (P.moves port.old) (P.moves port.new) result out.old out.new (snapshot x) }
+    ensures paid { (x : List ℕ) (start : ℕ) → CanPause feed lines x → HasPaid feed.lane.server start steps.old →
+        AreFew (admitted_in (account x)) start steps.new }
+    ensures cause { HasCause (P.write_faults port.old) (P.write_faults port.new) (P.read_faults port.old)
+        (P.read_faults port.new) result }
+    ensures stops { StopsAtFailure (P.calls port.old) (P.calls port.new) result }
 {
-    if !may_pause(feed) {
-        return refuse_short(port, feed);
-    }
-    let Err(fault) = feed.session.intake.end() else {
+    let mark = feed.lane.mark();
+    let Some(mut server) = feed.lane.into_server() else {
         unreachable!();
     };
-    let mark = feed.session.mark;
-    let Some(server) = &mut feed.session.server else {
-        unreachable!();
-    };
-    let mut out = Output::new();
-    match settle(port, &mut out, server, mark, steps) {
-        Ok(()) => {}
-        Err(_) => return Status::WriteFault,
+    match server.step(Horizon::Mark(mark), steps) {
+        None => {}
+        Some(_) => unreachable!(),
     }
-    match put_snapshot(port, &mut out, server, fault.line - 1, mark) {
-        Ok(()) => {}
-        Err(_) => return Status::WriteFault,
-    }
-    match out.flush(port) {
-        Ok(()) => Status::Done,
-        Err(_) => Status::WriteFault,
-    }
-}
-
-/// Serves a feed, as `serve_word` does, but for the end of an input behind whole lines: there the feed's snapshot is
-/// put behind what is due.
-pub fn pause_word<P: Port, L: Ledger>(alloc: Global, port: &mut P, steps: &mut Steps<L>) -> Status
-    ensures pauses { Since (P.moves port.old) (P.moves port.new) (Pauses result) }
-    ensures count { Since (P.moves port.old) (P.moves port.new) (IsFrugal steps.old steps.new) }
-    ensures answer { IsAnswer result }
-    ensures causes { Causes result (P.read_faults port.old) (P.read_faults port.new) (P.write_faults port.old)
-        (P.write_faults port.new) }
-    ensures stops { StopsWith result (P.calls port.old) (P.calls port.new) }
-{
-    let mut feed = Feed::new(alloc);
-    serve_from(port, &mut feed, AtEnd::Pause, steps)
+    put_snapshot(port, out, &server, lines, mark)
 }

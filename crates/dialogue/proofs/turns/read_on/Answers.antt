@@ -1,14 +1,17 @@
-use Rattle.std.proofs.Common.{false, refl, ◌∙◌, ◌++◌, [], arith}
+use Rattle.std.proofs.Common.{false, refl, sym, ◌∙◌, ◌++◌, arith, subst}
+use Rattle.std.proofs.lemmas.List.{append-nil}
 use Rattle.dover_port.proofs.Made.{since_none}
-use Rattle.dialogue.proofs.Records.{starts, some_front, no_input, unread, ended, no_memory, unwritten, unflushed}
-use Rattle.dialogue.proofs.Records.{goes_on, over, counted}
+use Rattle.dialogue.specs.Turns.{GoesOn}
+use Rattle.dialogue.proofs.Records.{some_front, no_input, unread, ended, no_memory, unwritten, unflushed}
+use Rattle.dialogue.proofs.Records.{goes_on, over, counted, read_turn}
 use Rattle.dialogue.proofs.turns.read_on.Goals as goal
 
 pub loop-init : goal.loop-init
 loop-init g c = record {
-  moves = λ a s. since_none _ _ (starts _ (c.laws.ensures.steady a) _ s);
+  moves = λ a before s. since_none _ _ (subst (GoesOn (g.T.Talker.talk a)
+      (g.T.Talker.ready a c.args.talker.now c.args.meter.now)) (sym (append-nil before)) s);
   empty = c.requires.empty;
-  stands = λ a s. ([], omega arith, s, (c.laws.ensures.steady a).opens);
+  stands = λ a x s o. (x, omega arith, s, o);
   read_faults = refl;
   write_faults = refl;
   calls = λ well. well;
@@ -16,56 +19,62 @@ loop-init g c = record {
 
 pub returns-in_default-clause-reads : goal.returns-in_default-clause-reads
 returns-in_default-clause-reads g c =
-    λ a s. unread _ (c.laws.ensures.steady a) _ _ _ (rw c.in_default.ensures.failed.0 (c.loop.invariant.moves a s))
+    λ a before s. unread _ (c.laws.ensures.steady a) _ before _ _
+    (rw c.in_default.ensures.failed.0 (c.loop.invariant.moves a before s))
     (g.T.Talker.costs a c.loop.meter) (c.laws.ensures.rested a c.loop.talker c.loop.meter)
 
 pub returns-then-count-eq0-clause-reads : goal.returns-then-count-eq0-clause-reads
-returns-then-count-eq0-clause-reads g c = λ a s. ended _ (c.laws.ensures.steady a) _ _ _ (c.loop.invariant.moves a s) _
+returns-then-count-eq0-clause-reads g c = λ a before s.
+    ended _ (c.laws.ensures.steady a) _ before _ _ (c.loop.invariant.moves a before s) _
     (no_input _ _ _ _ c.if-count-eq0.true c.in-Ok.ensures.moved)
 
 pub returns-then-count-eq0-clause-stands : goal.returns-then-count-eq0-clause-stands
-returns-then-count-eq0-clause-stands g c = λ a s.
-    let was = c.loop.invariant.stands a s in
+returns-then-count-eq0-clause-stands g c = λ a x s o.
+    let was = c.loop.invariant.stands a x s o in
     (was.0, was.2, was.3, c.loop.invariant.empty)
 
 pub hear-requires : goal.hear-requires
 hear-requires g c =
-    let was = c.loop.invariant.stands c.requires.ready.0 c.requires.ready.1 in
+    let was = c.loop.invariant.stands c.requires.ready.0 c.requires.ready.1 c.requires.ready.2 c.requires.ready.3 in
     (c.requires.ready.0, was.0, was.2, was.3)
 
 pub returns-in-Err-NoMemory-clause-reads : goal.returns-in-Err-NoMemory-clause-reads
 returns-in-Err-NoMemory-clause-reads g c =
-    λ a s. no_memory _ (c.laws.ensures.steady a) _ _ _ (c.loop.invariant.moves a s) _ _
-    (some_front _ _ c.if-count-eq0.false c.in-Ok.ensures.bound) c.in-Ok.ensures.moved _ c.hear.new.out
+    λ a before s. no_memory _ (c.laws.ensures.steady a) _ _ _ before _
+    (read_turn _ (c.laws.ensures.steady a) _ before _ _ (c.loop.invariant.moves a before s) _ _
+    (some_front _ _ c.if-count-eq0.false c.in-Ok.ensures.bound) c.in-Ok.ensures.moved) _ c.hear.new.out
     (g.T.Talker.ready a c.hear.new.talker c.hear.new.meter) (g.T.Talker.costs a c.hear.new.meter)
     (λ x t o. rw (c.in-Err-NoMemory.field-0-is, c.loop.invariant.empty) at (c.in-Err-NoMemory.ensures.hears a x t o))
 
 pub returns-in-Err-Unwritten-clause-reads : goal.returns-in-Err-Unwritten-clause-reads
 returns-in-Err-Unwritten-clause-reads g c =
-    λ a s. unwritten _ (c.laws.ensures.steady a) _ _ _ (c.loop.invariant.moves a s) _ _
-    (some_front _ _ c.if-count-eq0.false c.in-Ok.ensures.bound) c.in-Ok.ensures.moved _ c.hear.new.out
+    λ a before s. unwritten _ (c.laws.ensures.steady a) _ _ _ before _
+    (read_turn _ (c.laws.ensures.steady a) _ before _ _ (c.loop.invariant.moves a before s) _ _
+    (some_front _ _ c.if-count-eq0.false c.in-Ok.ensures.bound) c.in-Ok.ensures.moved) _ c.hear.new.out
     (g.T.Talker.ready a c.hear.new.talker c.hear.new.meter) (g.T.Talker.costs a c.hear.new.meter)
     (λ x t o. rw (c.in-Err-Unwritten.field-0-is, c.loop.invariant.empty) at (c.in-Err-Unwritten.ensures.hears a x t o))
 
 pub returns-in-Err-clause-reads : goal.returns-in-Err-clause-reads
-returns-in-Err-clause-reads g c = λ a s. unflushed _ (c.laws.ensures.steady a) _ _ _ (c.loop.invariant.moves a s) _ _
-    (some_front _ _ c.if-count-eq0.false c.in-Ok.ensures.bound) c.in-Ok.ensures.moved _ c.hear.new.out
+returns-in-Err-clause-reads g c = λ a before s. unflushed _ (c.laws.ensures.steady a) _ _ _ before _
+    (read_turn _ (c.laws.ensures.steady a) _ before _ _ (c.loop.invariant.moves a before s) _ _
+    (some_front _ _ c.if-count-eq0.false c.in-Ok.ensures.bound) c.in-Ok.ensures.moved) _ c.hear.new.out
     (g.T.Talker.ready a c.hear.new.talker c.hear.new.meter) (g.T.Talker.costs a c.hear.new.meter)
     c.in-Ok-hear.more (λ x t o. rw c.loop.invariant.empty at (c.in-Ok-hear.ensures.hears a x t o)) _
     (c.laws.ensures.rested a c.hear.new.talker c.hear.new.meter)
     (c.laws.ensures.behind a c.hear.new.meter) c.in-Err.ensures.text.part
 
 pub returns-then-not-more-clause-reads : goal.returns-then-not-more-clause-reads
-returns-then-not-more-clause-reads g c = λ a s. over _ (c.laws.ensures.steady a) _ _ _ (c.loop.invariant.moves a s) _ _
-    (some_front _ _ c.if-count-eq0.false c.in-Ok.ensures.bound) c.in-Ok.ensures.moved _ c.hear.new.out
+returns-then-not-more-clause-reads g c = λ a before s. over _ (c.laws.ensures.steady a) _ _ _ before _
+    (read_turn _ (c.laws.ensures.steady a) _ before _ _ (c.loop.invariant.moves a before s) _ _
+    (some_front _ _ c.if-count-eq0.false c.in-Ok.ensures.bound) c.in-Ok.ensures.moved) _ c.hear.new.out
     (g.T.Talker.ready a c.hear.new.talker c.hear.new.meter) (g.T.Talker.costs a c.hear.new.meter)
     c.in-Ok-hear.more (λ x t o. rw c.loop.invariant.empty at (c.in-Ok-hear.ensures.hears a x t o)) _
     c.in-Ok-flush.ensures.text.all
     c.if-not-more.true
 
 pub returns-then-not-more-clause-stands : goal.returns-then-not-more-clause-stands
-returns-then-not-more-clause-stands g c = λ a s.
-    let was = c.loop.invariant.stands a s in
+returns-then-not-more-clause-stands g c = λ a x s o.
+    let was = c.loop.invariant.stands a x s o in
     let h = c.in-Ok-hear.ensures.hears a was.0 was.2 was.3 in
     (was.0 ++ h.front, h.stands, h.goes_on ∙ c.if-not-more.true, c.in-Ok-flush.ensures.empty)
 
@@ -73,15 +82,16 @@ pub loop-preserved : goal.loop-preserved
 loop-preserved g c =
     let some = some_front _ _ c.if-count-eq0.false c.in-Ok.ensures.bound in
     record {
-      moves = λ a s. goes_on _ (c.laws.ensures.steady a) _ _ _
-          (c.loop.invariant.moves a s) _ _ some c.in-Ok.ensures.moved _ c.hear.new.out
+      moves = λ a before s. goes_on _ (c.laws.ensures.steady a) _ _ _ before _
+          (read_turn _ (c.laws.ensures.steady a) _ before _ _ (c.loop.invariant.moves a before s) _ _
+          some c.in-Ok.ensures.moved) _ c.hear.new.out
           (g.T.Talker.ready a c.hear.new.talker c.hear.new.meter)
           (g.T.Talker.costs a c.hear.new.meter) c.in-Ok-hear.more
           (λ x t o. rw c.loop.invariant.empty at (c.in-Ok-hear.ensures.hears a x t o)) _ c.in-Ok-flush.ensures.text.all
           c.if-not-more.false;
       empty = c.in-Ok-flush.ensures.empty;
-      stands = λ a s.
-          let was = c.loop.invariant.stands a s in
+      stands = λ a x s o.
+          let was = c.loop.invariant.stands a x s o in
           let h = c.in-Ok-hear.ensures.hears a was.0 was.2 was.3 in (
             was.0 ++ h.front,
             counted _ _ was.0 _ _ _ _ _ c.in-Ok-hear.more h c.if-not-more.false c.loop.counter was.1 some,
@@ -98,11 +108,11 @@ loop-preserved g c =
 
 pub unreachable-requires : goal.unreachable-requires
 unreachable-requires g c =
-    let was = c.loop.invariant.stands c.requires.ready.0 c.requires.ready.1 in
+    let was = c.loop.invariant.stands c.requires.ready.0 c.requires.ready.1 c.requires.ready.2 c.requires.ready.3 in
     omega (arith, was.1, c.laws.ensures.few c.requires.ready.0 c.loop.talker c.loop.meter was.0 was.2 was.3)
 
 pub returns-in-Err-NoMemory-clause-stands : goal.returns-in-Err-NoMemory-clause-stands
-returns-in-Err-NoMemory-clause-stands g c = λ a s.
-    let was = c.loop.invariant.stands a s in
+returns-in-Err-NoMemory-clause-stands g c = λ a x s o.
+    let was = c.loop.invariant.stands a x s o in
     let lacks = rw c.in-Err-NoMemory.field-0-is at (c.in-Err-NoMemory.ensures.hears a was.0 was.2 was.3) in
     record { bytes = _; ended = false; lacking = lacks.0 }

@@ -14,7 +14,7 @@ loop-preserved c = (
   subst (λ xs. length xs ≡ c.loop.counter + 1) (sym c.in_ok-push.ensures.items)
       (omega (arith, length-append c.loop.lanes.items (c.new.result ∷ []), c.loop.invariant.0)),
   subst (λ xs. AllQuiet xs []) (sym c.in_ok-push.ensures.items)
-      (more_quiet c.loop.lanes.items c.new.result c.loop.invariant.1 c.new.ensures),
+      (more_quiet c.loop.lanes.items c.new.result c.loop.invariant.1 c.new.ensures.quiet),
 )
 
 pub returns-clause-count : goal.returns-clause-count

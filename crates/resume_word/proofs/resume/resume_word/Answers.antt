@@ -1,6 +1,6 @@
 use Rattle.std.proofs.Common.{[], ◌++◌, ◌<◌, ◌∙◌, ℕ, List, length, take, refl, ap, Ok, length-append, arith}
 use Rattle.dover_port.proofs.Made.{since_none, since_then}
-use Rattle.serve_word.proofs.Turns.{some_front}
+use Rattle.dialogue.proofs.Records.{some_front}
 use Rattle.resume_word.proofs.Bounds.{next_number, reading_bytes}
 use Rattle.resume_word.proofs.Reading.{starts, unread, more, no_memory, refused_line, whole, ended}
 use Rattle.resume_word.proofs.Sparing.{Anything, refusal_puts, got_first, got_none, got_any, frugal_front, frugal_still}

@@ -1,8 +1,6 @@
 use Rattle.std.proofs.Common.{sym, ◌∙◌}
 use Rattle.dover_model.specs.Lines.{lines_of}
 use Rattle.snapshot.proofs.Again.{lines_again}
-use Rattle.dover_port.proofs.Made.{since_weaker}
-use Rattle.resume_word.proofs.Sparing.{few_rest}
 use Rattle.resume_word.proofs.resume.serve_rest.Goals as goal
 
 pub take-server-requires : goal.take-server-requires
@@ -21,6 +19,5 @@ returns-clause-serves g c = λ y F whole may text.
 pub returns-clause-count : goal.returns-clause-count
 returns-clause-count g c = λ start y F spent whole may text.
     let gives = c.take-server.ensures.gives (lines_of y) whole.1 in
-    since_weaker _ _ _ _ (c.serve_on.ensures.count F may (gives.each F may (text ∙ sym (lines_again y whole.0))))
-    (λ moves it. few_rest F c.args.rest.now c.take-server.result.0 start _ _ moves
-    (c.take-server.ensures.count start _ spent) it)
+    c.serve_on.ensures.count F start may (gives.each F may (text ∙ sym (lines_again y whole.0)))
+    (c.take-server.ensures.count start _ spent)

@@ -1,51 +1,45 @@
-use Rattle.std.proofs.Common.{subst, inl}
-use Rattle.dover_model.specs.Feed.{account}
-use Rattle.dover_port.proofs.Made.{since_weaker}
-use Rattle.serve_word.specs.Session.{IsOpenAt}
-use Rattle.serve_word.proofs.Going.{open_can}
-use Rattle.serve_word.proofs.Snapped.{few_lines, never_cut, snapshot_cut, snapshot_put, snapshot_unflushed}
+use Rattle.std.proofs.Common.{sym, ap, ◌∙◌, subst, refl}
+use Rattle.dover_model.specs.Lines.{in_lines}
+use Rattle.dover_port.specs.Moves.{PutsThrough}
+use Rattle.dover_core.specs.declared.horizon.Horizon.TheVariants.{Mark}
+use Rattle.serve_word.specs.Pausing.{lines_in}
+use Rattle.serve_word.proofs.Snapped.{few_lines, no_server, known, follows, nothing_more, text_is, pause_paid}
 use Rattle.serve_word.proofs.pause.pause.Goals as goal
 
-pub settle-requires-clause-can : goal.settle-requires-clause-can
-settle-requires-clause-can g c = open_can (account c.requires.0) c.in-Some.server _
-    (subst (λ o. IsOpenAt (account c.requires.0) o c.args.feed.now.session.mark) c.in-Some.is c.requires.1.keeps.at)
-
-pub returns-in-Err-settle-clause-closes : goal.returns-in-Err-settle-clause-closes
-returns-in-Err-settle-clause-closes g c = λ x stands. inl (
-  (c.may_pause.ensures x stands).0 c.if-not-may_pause.false,
-  since_weaker _ _ _ _ (never_cut c.args.feed.now x stands c.in-Err.fault
-      (c.in-Err.ensures.answer _ stands.keeps.intake)
-      c.in-Some.server c.settle.new.server c.in-Some.is c.in-Err-settle.ensures.jobs c.in-Err-settle.field-0 _ _ _
-      (rw c.new-out.ensures at c.in-Err-settle.ensures.settles)) (λ made it. absurd it),
-)
+pub step-requires : goal.step-requires
+step-requires g c = rw c.mark-mark.ensures (follows c.args.feed c.args.lines c.requires.0 c.requires.1 c.in-Some.server
+    (sym c.into_server.ensures ∙ c.in-Some.is))
 
 pub put_snapshot-requires-clause-lines : goal.put_snapshot-requires-clause-lines
-put_snapshot-requires-clause-lines g c = few_lines c.args.feed.now c.requires.0 c.requires.1 c.in-Err.fault
-    (c.in-Err.ensures.answer _ c.requires.1.keeps.intake)
+put_snapshot-requires-clause-lines g c = few_lines c.args.feed c.args.lines c.requires.0 c.requires.1
 
-pub returns-in-Err-put_snapshot-clause-closes : goal.returns-in-Err-put_snapshot-clause-closes
-returns-in-Err-put_snapshot-clause-closes g c = λ x stands. inl (
-  (c.may_pause.ensures x stands).0 c.if-not-may_pause.false,
-  snapshot_cut c.args.feed.now x stands c.in-Err.fault (c.in-Err.ensures.answer _ stands.keeps.intake)
-      c.in-Some.server c.settle.new.server c.in-Some.is c.in-Ok.ensures.jobs c.in-Ok.field-0 _ _ _
-      (rw c.new-out.ensures at c.in-Ok.ensures.settles) _ c.put_snapshot.new.out
-      c.in-Err-put_snapshot.ensures.text.part,
-)
+pub put_snapshot-requires-clause-mark : goal.put_snapshot-requires-clause-mark
+put_snapshot-requires-clause-mark g c = rw c.mark-mark.ensures
+    (known c.args.feed c.args.lines c.requires.0 c.requires.1 c.in-Some.server
+    (sym c.into_server.ensures ∙ c.in-Some.is))
 
-pub returns-in-Ok-flush-clause-closes : goal.returns-in-Ok-flush-clause-closes
-returns-in-Ok-flush-clause-closes g c = λ x stands. (
-  (c.may_pause.ensures x stands).0 c.if-not-may_pause.false,
-  snapshot_put c.args.feed.now x stands c.in-Err.fault (c.in-Err.ensures.answer _ stands.keeps.intake)
-      c.in-Some.server c.settle.new.server c.in-Some.is c.in-Ok.ensures.jobs c.in-Ok.field-0 _ _ _
-      (rw c.new-out.ensures at c.in-Ok.ensures.settles) _ c.put_snapshot.new.out
-      c.in-Ok-put_snapshot.ensures.text.all _ c.in-Ok-flush.ensures.text.all,
-)
+pub returns-clause-text : goal.returns-clause-text
+returns-clause-text g c = λ x it. subst (PutsThrough _ _ _ _ _)
+    (ap (λ m. in_lines (lines_in c.step.new.self c.args.lines m)) c.mark-mark.ensures
+    ∙ text_is c.args.feed c.args.lines x it c.in-Some.server (sym c.into_server.ensures ∙ c.in-Some.is)
+    c.step.new.self c.in-None.ensures.rules (c.in-None.ensures.last ∙ ap Mark c.mark-mark.ensures)
+    (rw c.mark-mark.ensures at (c.in-None.ensures.none refl)) c.in-None.ensures.ended)
+    c.put_snapshot.ensures.text
 
-pub returns-in-Err-flush-clause-closes : goal.returns-in-Err-flush-clause-closes
-returns-in-Err-flush-clause-closes g c = λ x stands. inl (
-  (c.may_pause.ensures x stands).0 c.if-not-may_pause.false,
-  snapshot_unflushed c.args.feed.now x stands c.in-Err.fault (c.in-Err.ensures.answer _ stands.keeps.intake)
-      c.in-Some.server c.settle.new.server c.in-Some.is c.in-Ok.ensures.jobs c.in-Ok.field-0 _ _ _
-      (rw c.new-out.ensures at c.in-Ok.ensures.settles) _ c.put_snapshot.new.out
-      c.in-Ok-put_snapshot.ensures.text.all _ c.in-Err-flush.ensures.text.part,
-)
+pub returns-clause-paid : goal.returns-clause-paid
+returns-clause-paid g c = λ x start it paid.
+    pause_paid c.args.feed c.args.lines x it c.in-Some.server (sym c.into_server.ensures ∙ c.in-Some.is)
+    c.step.new.self c.in-None.ensures.rules (c.in-None.ensures.last ∙ ap Mark c.mark-mark.ensures)
+    (rw c.mark-mark.ensures at (c.in-None.ensures.none refl)) c.in-None.ensures.ended c.in-None.ensures.list start _ _
+    (rw c.mark-mark.ensures at c.in-None.ensures.count) paid
+
+pub unreachable-requires-in-Some-step : goal.unreachable-requires-in-Some-step
+unreachable-requires-in-Some-step g c =
+    nothing_more c.args.feed c.args.lines c.requires.0 c.requires.1 c.in-Some.server
+    (sym c.into_server.ensures ∙ c.in-Some.is) c.step.new.self c.in-Some-step.ensures.rules
+    (c.in-Some-step.ensures.last ∙ ap Mark c.mark-mark.ensures) c.in-Some-step.field-0
+    (rw c.mark-mark.ensures at c.in-Some-step.ensures.some) c.in-Some-step.ensures.ended
+
+pub unreachable-requires : goal.unreachable-requires
+unreachable-requires g c = no_server c.args.feed c.args.lines c.requires.0 c.requires.1
+    (sym c.into_server.ensures ∙ c.in_default.is)

@@ -15,8 +15,8 @@ take-requires c = (
   (c.in-Ok.ensures.answer c.requires.0 c.requires.1.stands.intake).1,
 )
 
-pub returns-in-Ok : goal.returns-in-Ok
-returns-in-Ok c = λ ls it.
+pub returns-in-Ok-clause-stands : goal.returns-in-Ok-clause-stands
+returns-in-Ok-clause-stands c = λ ls it.
     let at : IsOpenAt (record c.args.self.now { intake = c.line.new.self }) (account_of_lines ls) =
     open_at c.args.self.now c.line.new.self ls it c.if-not-self.false in
     let is = (c.in-Ok.ensures.answer ls it.stands.intake).1 in
@@ -28,12 +28,23 @@ returns-in-Ok c = λ ls it.
     (c.in-Ok.ensures.stands ls it.stands.intake)) is over)
     (c.take.ensures.adds (account_of_lines ls) (account_of_lines (ls ++ c.args.line.now ∷ [])) at is)
 
-pub returns-in-Err : goal.returns-in-Err
-returns-in-Err c = λ ls it. fault_stands c.args.self.now c.line.new.self ls c.args.line.now c.in-Err.fault
-    (c.in-Err.ensures.stands ls it.stands.intake) it.stands.marked
+pub returns-in-Err-clause-stands : goal.returns-in-Err-clause-stands
+returns-in-Err-clause-stands c = λ ls it. fault_stands c.args.self.now c.line.new.self ls c.args.line.now c.in-Err.fault
+    (c.in-Err.ensures.stands ls it.stands.intake) it.stands.marked it.stands.jobs
     (new_fault c.args.line.now c.in-Err.fault (account_of_lines ls) (account_of_lines (ls ++ c.args.line.now ∷ []))
     (open_at c.args.self.now c.line.new.self ls it c.if-not-self.false).stands
     (c.in-Err.ensures.answer ls it.stands.intake))
 
-pub returns-then-not-self : goal.returns-then-not-self
-returns-then-not-self c = λ ls it. over_stands c.args.self.now ls c.args.line.now it c.if-not-self.true
+pub returns-then-not-self-clause-stands : goal.returns-then-not-self-clause-stands
+returns-then-not-self-clause-stands c = λ ls it. over_stands c.args.self.now ls c.args.line.now it c.if-not-self.true
+
+pub returns-in-Ok-clause-paid : goal.returns-in-Ok-clause-paid
+returns-in-Ok-clause-paid c = λ ls start now it paid.
+    c.take.ensures.paid (account_of_lines ls) (account_of_lines (ls ++ c.args.line.now ∷ [])) start now
+    (open_at c.args.self.now c.line.new.self ls it c.if-not-self.false)
+    (c.in-Ok.ensures.answer ls it.stands.intake).1 paid
+
+pub returns-in-Ok-clause-lacks : goal.returns-in-Ok-clause-lacks
+returns-in-Ok-clause-lacks c = λ ls it.
+    c.take.ensures.lacks (account_of_lines ls) (account_of_lines (ls ++ c.args.line.now ∷ []))
+    (c.in-Ok.ensures.answer ls it.stands.intake).1

@@ -21,7 +21,7 @@ returns-in-Ok c = λ ls bytes it reads. feed_stands _ ls bytes c.args.lane c.fro
     (ap (λ (k : Kept). k.phase) c.self.view_is ∙ c.requires.ready)
     (omega (arith, c.requires.room, ap (λ (k : Kept). k.lines) c.self.view_is)) c.requires.lane reads c.from.ensures
     c.index_mut.ensures.value
-    c.in-Ok.ensures
+    c.in-Ok.ensures.stands
 
 pub returns-in-Err : goal.returns-in-Err
 returns-in-Err c = λ ls bytes it reads.

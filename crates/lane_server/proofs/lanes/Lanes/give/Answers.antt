@@ -17,7 +17,7 @@ returns-in-Some-clause-gives g c =
     λ ls rest it. give_some _ ls rest c.args.lane c.from.result c.index_mut.result.now c.next_out.new.self
     (subst (λ k. StandsFor k ls rest) (sym c.self.view_is) it)
     (ap (λ (k : Kept). k.phase) c.self.view_is ∙ c.requires.phase) c.from.ensures
-    c.index_mut.ensures.value c.in-Some.out c.in-Some.ensures
+    c.index_mut.ensures.value c.in-Some.out c.in-Some.ensures.gives
 
 pub returns-in-Some-clause-closed : goal.returns-in-Some-clause-closed
 returns-in-Some-clause-closed g c = ap is_closed c.self.view_is
@@ -27,7 +27,7 @@ returns-in-None-clause-gives g c =
     λ ls rest it. give_none _ ls rest c.args.lane c.from.result c.index_mut.result.now c.next_out.new.self
     (subst (λ k. StandsFor k ls rest) (sym c.self.view_is) it)
     (ap (λ (k : Kept). k.phase) c.self.view_is ∙ c.requires.phase) c.from.ensures
-    c.index_mut.ensures.value c.in-None.ensures
+    c.index_mut.ensures.value c.in-None.ensures.gives
 
 pub returns-in-None-clause-closed : goal.returns-in-None-clause-closed
 returns-in-None-clause-closed g c = sym (closed_giving c.args.self.now c.args.lane c.requires.phase)

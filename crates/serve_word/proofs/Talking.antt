@@ -1,0 +1,269 @@
+-- A feed that is served, as a talk.
+use Rattle.std.proofs.Common.{◌≡◌, ◌<◌, ◌^◌, ◌-◌, ℕ, suc, List, [], ◌∷◌, ◌++◌, length, map, refl, sym, ap, ◌∙◌, subst}
+use Rattle.std.proofs.Common.{arith, append_assoc, append-nil, length-append, Bool, true, false, cond, inl, inr}
+use Rattle.std.proofs.Common.{Ok, Err}
+use Rattle.std.specs.Prelude.{drop}
+use Rattle.std.proofs.lemmas.List.{length-map}
+use Rattle.dover_model.specs.declared.Memory.{Memory as Lacking}
+use Rattle.dover_model.specs.Feed as feeds
+use Rattle.dover_model.specs.Feed.{Account, is_open, is_ended, account, account_of_lines}
+use Rattle.dover_model.specs.Due.{due, closed, due_lines, fault_text}
+use Rattle.dover_model.specs.Lines.{in_lines, lines_of, whole_lines, rest_of, is_too_long}
+use Rattle.dover_model.specs.WholeRun.{Begins}
+use Rattle.dover_model.proofs.Beginnings.{in_lines-append}
+use Rattle.dover_model.proofs.Tests.{never}
+use Rattle.dover_port.specs.declared.status.Status.{Status}
+use Rattle.dover_port.specs.declared.status.Status.TheVariants.{Done, No, Refused, ReadFault, WriteFault, Memory, Usage}
+use Rattle.event_feed.specs.Answers.{EndAnswers, admitted_in}
+use Rattle.event_feed.specs.Kept.{cause_of_fault}
+use Rattle.event_feed.specs.declared.FeedFault.{FeedFault}
+use Rattle.event_feed.proofs.Admitting.{admitted_front}
+use Rattle.event_feed.proofs.Counting.{lines_counted}
+use Rattle.event_feed.proofs.GoingOn.{closed_account, open_bytes}
+use Rattle.dialogue.specs.Talk.{IsSteady, IsOver}
+use Rattle.dialogue.specs.Turns.{joined}
+use Rattle.dover_core.specs.Spending.{AreFew}
+use Rattle.lane_server.specs.Lane.{IsDeclared, IsFaulty}
+use Rattle.lane_server.specs.Spending.{HasPaid}
+use Rattle.lane_server.proofs.Adding.{open_stands}
+use Rattle.lane_server.proofs.Few.{owes_few}
+use Rattle.lane_server.proofs.Paying.{paid_few, few_more}
+use Rattle.serve_word.specs.Closing.{PausesAt}
+use Rattle.serve_word.specs.Pausing.{CanPause}
+use Rattle.serve_word.specs.Feeding.{FeedStands, Hands}
+use Rattle.serve_word.specs.Talking.{Call, due_behind, IsServedAs, serve_talk, Costs, IsGiving, IsReady}
+use Rattle.serve_word.specs.declared.at_end.AtEnd.{AtEnd}
+use Rattle.serve_word.specs.declared.at_end.AtEnd.TheVariants.{Refuse, Pause}
+use Rattle.serve_word.specs.declared.feed.Feed.{Feed}
+use Rattle.snapshot.specs.Snapshot.{MayPause, snapshot}
+use Rattle.serve_word.proofs.Accounts.{closed_is, due_begins, declared_front, ended_is}
+
+-- ---- what is due behind a feed
+
+-- what comes behind a list, without that list
+dropped : (front rest all : List ℕ) → all ≡ front ++ rest → drop (length front) all ≡ rest
+dropped front rest all is = ap (drop (length front)) is ∙ by front where
+  by : (xs : List ℕ) → drop (length xs) (xs ++ rest) ≡ rest
+  by [] = refl
+  by (x ∷ xs) = by xs
+
+-- what is due for the feed and the bytes behind it
+pub whole_due : (F x : List ℕ) → due F ++ due_behind F x ≡ due (F ++ x)
+whole_due F x = let it : Begins (due F) (due (F ++ x)) = due_begins F x in
+    ap (λ r. due F ++ r) (dropped (due F) it.0 (due (F ++ x)) it.1) ∙ sym it.1
+
+-- with a text behind it
+pub due_then : (F x text : List ℕ) → due F ++ (due_behind F x ++ text) ≡ due (F ++ x) ++ text
+due_then F x text = sym (append_assoc (due F) (due_behind F x) text) ∙ ap (λ l. l ++ text) (whole_due F x)
+
+-- with more that is due for more bytes
+behind_more : (F x y more : List ℕ) → due (F ++ (x ++ y)) ≡ due (F ++ x) ++ more
+    → due_behind F (x ++ y) ≡ due_behind F x ++ more
+behind_more F x y more is =
+    dropped (due F) (due_behind F x ++ more) (due (F ++ (x ++ y))) (is ∙ sym (due_then F x more))
+
+-- the text of the parts of lines
+joined_lines : (ls : List (List ℕ)) → joined (map (λ line. line ++ 10 ∷ []) ls) ≡ in_lines ls
+joined_lines [] = refl
+joined_lines (l ∷ ls) = ap (λ r. (l ++ 10 ∷ []) ++ r) (joined_lines ls)
+
+module _ (c : Call) where
+  -- the bytes of the call behind those of its feed
+  joins : (x y : List ℕ) → c.feed ++ (x ++ y) ≡ (c.feed ++ x) ++ y
+  joins x y = sym (append_assoc c.feed x y)
+
+  -- what is due only grows
+  grows : (x y : List ℕ) → Begins (due_behind c.feed x) (due_behind c.feed (x ++ y))
+  grows x y = let it : Begins (due (c.feed ++ x)) (due ((c.feed ++ x) ++ y)) = due_begins (c.feed ++ x) y in
+      (it.0, behind_more c.feed x y it.0 (ap due (joins x y) ∙ it.1))
+
+  -- ---- bytes behind the end
+
+  module _ (x y : List ℕ) (over : is_open (account (c.feed ++ x)) ≡ false) where
+    -- the account stays
+    same : account (c.feed ++ (x ++ y)) ≡ account (c.feed ++ x)
+    same = ap account (joins x y) ∙ closed_account (c.feed ++ x) y over
+
+    -- and what is due
+    same_due : due (c.feed ++ (x ++ y)) ≡ due (c.feed ++ x)
+    same_due = ap (λ a. in_lines (due_lines a)) same
+
+    -- also at the end of the input
+    same_closed : closed (c.feed ++ (x ++ y)) ≡ closed (c.feed ++ x)
+    same_closed = closed_is (c.feed ++ (x ++ y)) (ap is_open same ∙ over) ∙ same_due
+        ∙ sym (closed_is (c.feed ++ x) over)
+
+    -- and the answer
+    answered : (status : Status) (text : List ℕ) → IsServedAs c x false status text
+        → IsServedAs c (x ++ y) false status text
+    answered Done text (inl it) = inl (ap is_ended same ∙ it.0, it.1 ∙ sym same_due)
+    answered Done text (inr it) = never it.0
+    answered Refused text (inl faulty, it) = (inl (subst IsFaulty (sym same) faulty), it ∙ sym same_closed)
+    answered Refused text (inr cut, it) = never cut.0
+    answered No text it = absurd it
+    answered ReadFault text it = absurd it
+    answered WriteFault text it = absurd it
+    answered Memory text it = absurd it
+    answered Usage text it = absurd it
+
+  pub steady : IsSteady (serve_talk c)
+  steady = record {
+    opens = ap (λ x. is_open (account x)) (append-nil c.feed) ∙ c.goes_on;
+    nothing = dropped (due c.feed) [] (due (c.feed ++ []))
+        (ap due (append-nil c.feed) ∙ sym (append-nil (due c.feed)));
+    grows = grows;
+    stays = λ x y over. ap is_open (same x y over) ∙ over;
+    answered = λ x y status text over it. answered x y over status text it;
+    lacking = λ x y it. (
+      it.0,
+      subst (λ z. IsDeclared (account z)) (sym (joins x y)) (declared_front (c.feed ++ x) y it.1),
+    );
+  }
+
+  module _ (feed : Feed) (at_end : AtEnd) (steps : ℕ) where
+    -- a feed that goes on has few bytes
+    pub few : (x : List ℕ) → IsReady c feed at_end steps x → is_open (account (c.feed ++ x)) ≡ true
+        → length x < 2 ^ 64 - 1
+    few x at goes = omega (
+      arith,
+      open_bytes (c.feed ++ x) (open_stands (account (c.feed ++ x)) goes) (at.rests.cut goes).1,
+      length-append c.feed x,
+    )
+
+    -- few lines are left to give
+    pub few_parts : (x : List ℕ) (parts : List (List ℕ)) → IsGiving c feed at_end steps x parts
+        → length parts < 2 ^ 64 - 1
+    few_parts x parts at = omega (
+      arith,
+      ap (λ (l : List (List ℕ)). length l) at.parts_are,
+      length-map at.left (λ (l : List ℕ). l ++ 10 ∷ []),
+      owes_few feed.lane.work feed.lane.server (account (c.feed ++ x)) at.left at.stands.lane.owes,
+    )
+
+    -- few comparisons were made
+    pub spent : (x : List ℕ) (parts : List (List ℕ)) → IsGiving c feed at_end steps x parts → Costs c steps x
+    spent x parts at = paid_few feed.lane.server (admitted_in (account (c.feed ++ x))) c.start steps at.paid
+        at.stands.lane.jobs
+
+    pub rested : (x : List ℕ) → IsReady c feed at_end steps x → Costs c steps x
+    rested x at = paid_few feed.lane.server (admitted_in (account (c.feed ++ x))) c.start steps at.paid
+        at.rests.lane.stands.jobs
+
+    -- ---- a front of a piece
+
+    -- it was taken
+    pub taken : (y : Unit {0}) (x front : List ℕ) → Hands feed (c.feed ++ x) front (Ok y)
+        → HasPaid feed.lane.server c.start steps → at_end ≡ c.at_end
+        → (parts : List (List ℕ)) × (due_behind c.feed (x ++ front) ≡ due_behind c.feed x ++ joined parts)
+        × IsGiving c feed at_end steps (x ++ front) parts
+    taken y x front it paid is = (
+      map (λ line. line ++ 10 ∷ []) it.0,
+      behind_more c.feed x front (joined (map (λ line. line ++ 10 ∷ []) it.0))
+          (ap due (joins x front) ∙ ap in_lines it.1 ∙ in_lines-append (due_lines (account (c.feed ++ x))) it.0
+          ∙ ap (λ r. due (c.feed ++ x) ++ r) (sym (joined_lines it.0))),
+      record {
+        left = it.0;
+        parts_are = refl;
+        stands = subst (λ z. FeedStands feed z it.0) (sym (joins x front)) it.2;
+        paid = paid;
+        at_end_is = is;
+      },
+    )
+
+    -- there was no memory
+    pub lacked : (e : Lacking) (x front behind piece : List ℕ) → piece ≡ front ++ behind
+        → Hands feed (c.feed ++ x) front (Err e) → IsDeclared (account (c.feed ++ (x ++ piece)))
+    lacked e x front behind piece cut it = subst (λ z. IsDeclared (account z))
+        (append_assoc (c.feed ++ x) front behind ∙ ap (λ l. (c.feed ++ x) ++ l) (sym cut) ∙ sym (joins x piece))
+        (declared_front ((c.feed ++ x) ++ front) behind it)
+
+  -- more bytes have no fewer jobs
+  pub costs_more : (steps : ℕ) (x y : List ℕ) → Costs c steps x → Costs c steps (x ++ y)
+  costs_more steps x y it = subst (λ z. AreFew (admitted_in (account z)) c.start steps) (sym (joins x y))
+      (few_more (admitted_in (account (c.feed ++ x))) (admitted_in (account ((c.feed ++ x) ++ y))) c.start steps
+      (admitted_front (c.feed ++ x) y) it)
+
+  -- ---- the answer
+
+  -- the feed has ended
+  pub done : (x : List ℕ) (ended : Bool) → (account (c.feed ++ x)).standing ≡ feeds.Ended
+      → IsServedAs c x ended Done (due_behind c.feed x ++ [])
+  done x ended is = inl (ended_is (account (c.feed ++ x)) is, due_then c.feed x [] ∙ append-nil (due (c.feed ++ x)))
+
+  module _ (x : List ℕ) (ended : Bool) (fault : FeedFault)
+      (answers : EndAnswers {X = Unit {0}} (lines_of (c.feed ++ x)) (Err fault)) where
+    -- it is at fault
+    pub faulty : is_open (account (c.feed ++ x)) ≡ false → IsServedAs c x ended Refused (due_behind c.feed x ++ [])
+    faulty over = (
+      inl (by answers),
+      due_then c.feed x [] ∙ append-nil (due (c.feed ++ x)) ∙ sym (closed_is (c.feed ++ x) over),
+    ) where
+      by : EndAnswers {X = Unit {0}} (lines_of (c.feed ++ x)) (Err fault) → IsFaulty (account (c.feed ++ x))
+      by (inl it) = never (sym over
+          ∙ ap (λ s. elim s [ feeds.Open ↦ true | feeds.Ended ↦ false | feeds.Faulty n cause ↦ false ]) it.0)
+      by (inr is) = (fault.line, cause_of_fault fault.cause, is)
+
+    module _ (goes : is_open (account (c.feed ++ x)) ≡ true) (short : is_too_long (rest_of (c.feed ++ x)) ≡ false) where
+      -- its lines are the whole ones
+      lines_are : lines_of (c.feed ++ x) ≡ whole_lines (c.feed ++ x)
+      lines_are = ap (λ b. whole_lines (c.feed ++ x) ++ cond b (rest_of (c.feed ++ x) ∷ []) []) short
+          ∙ append-nil (whole_lines (c.feed ++ x))
+
+      -- the fault is that the feed is short
+      fault_is : fault_text fault.line (cause_of_fault fault.cause)
+          ≡ fault_text (suc (length (whole_lines (c.feed ++ x)))) feeds.Short
+      fault_is = by answers where
+        by : EndAnswers {X = Unit {0}} (lines_of (c.feed ++ x)) (Err fault)
+            → fault_text fault.line (cause_of_fault fault.cause)
+            ≡ fault_text (suc (length (whole_lines (c.feed ++ x)))) feeds.Short
+        by (inl it) = ap (λ (f : FeedFault). fault_text f.line (cause_of_fault f.cause)) it.1
+            ∙ ap (λ ls. fault_text (suc (length ls)) feeds.Short) lines_are
+        by (inr was) = absurd (let e = sym (open_stands (account (c.feed ++ x)) goes) ∙ was in cc)
+
+      -- behind so many lines
+      lines_before : fault.line - 1 ≡ (account (c.feed ++ x)).lines
+      lines_before = by answers where
+        by : EndAnswers {X = Unit {0}} (lines_of (c.feed ++ x)) (Err fault)
+            → fault.line - 1 ≡ (account (c.feed ++ x)).lines
+        by (inl it) = omega (
+          arith,
+          ap (λ (f : FeedFault). f.line) it.1,
+          lines_counted (lines_of (c.feed ++ x)) (open_stands (account (c.feed ++ x)) goes),
+        )
+        by (inr was) = absurd (let e = sym (open_stands (account (c.feed ++ x)) goes) ∙ was in cc)
+
+      -- its snapshot can be put
+      pub can_pause : (feed : Feed) (at_end : AtEnd) (steps : ℕ) → IsReady c feed at_end steps x
+          → PausesAt at_end (c.feed ++ x) → CanPause feed (fault.line - 1) (c.feed ++ x)
+      can_pause feed at_end steps at pauses = record {
+        rests = at.rests;
+        goes_on = goes;
+        may = by at_end pauses;
+        count = lines_before;
+      } where
+        by : (e : AtEnd) → PausesAt e (c.feed ++ x) → MayPause (c.feed ++ x)
+        by Refuse none = absurd none
+        by Pause may = may
+
+      module _ (over : IsOver (serve_talk c) x ended) where
+        -- the input has ended before it
+        input_ended : ended ≡ true
+        input_ended = sym over ∙ goes
+
+        -- so it is refused, unless it is paused
+        pub cut_off : (PausesAt c.at_end (c.feed ++ x) → ⊥) → IsServedAs c x ended Refused
+            (due_behind c.feed x ++ (fault_text fault.line (cause_of_fault fault.cause) ++ 10 ∷ []))
+        cut_off pauses = (
+          inr (input_ended, goes, pauses),
+          due_then c.feed x (fault_text fault.line (cause_of_fault fault.cause) ++ 10 ∷ [])
+              ∙ ap (λ l. due (c.feed ++ x) ++ (l ++ 10 ∷ [])) fault_is
+              ∙ ap (λ l. due (c.feed ++ x) ++ l)
+              (sym (append-nil (fault_text (suc (length (whole_lines (c.feed ++ x)))) feeds.Short ++ 10 ∷ [])))
+              ∙ sym (ap (λ b. due (c.feed ++ x)
+              ++ in_lines (cond b (fault_text (suc (length (whole_lines (c.feed ++ x)))) feeds.Short ∷ []) [])) goes),
+        )
+
+        -- it is paused
+        pub paused : PausesAt c.at_end (c.feed ++ x)
+            → IsServedAs c x ended Done (due_behind c.feed x ++ snapshot (c.feed ++ x))
+        paused pauses = inr (input_ended, pauses, due_then c.feed x (snapshot (c.feed ++ x)))

@@ -1,0 +1,6 @@
+use Rattle.std.proofs.Common.{◌++◌, []}
+use Rattle.dover_model.specs.Lines.{lines_of}
+use Rattle.serve_word.proofs.serving.ServingTalker.goes_on.Goals as goal
+
+pub returns : goal.returns
+returns g c = λ a x at. c.goes_on.ensures (lines_of (a.feed ++ x)) [] at.rests.lane.stands

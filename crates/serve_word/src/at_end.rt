@@ -1,0 +1,10 @@
+//! The end of the input.
+
+/// What is done where the input ends and the feed goes on.
+#[derive(Clone, Copy, Debug, PartialEq, Eq)]
+pub enum AtEnd {
+    /// It is refused as short.
+    Refuse,
+    /// It is paused, if its ratio was declared and no line has begun, and else refused as short.
+    Pause,
+}
