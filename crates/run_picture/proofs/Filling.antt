@@ -1,7 +1,7 @@
 -- Templates, byte by byte.
 use Rattle.std.proofs.Common.{◌≡◌, ℕ, zero, suc, ◌+◌, ◌≤◌, ◌<◌, List, [], ◌∷◌, ◌++◌, length, drop, get_or}
 use Rattle.std.proofs.Common.{refl, sym, ap, ◌∙◌}
-use Rattle.std.proofs.Common.{arith, add-one, drop-cons, append_assoc, append-nil}
+use Rattle.std.proofs.Common.{add-one, drop-cons, append_assoc, append-nil}
 use Rattle.std.proofs.lemmas.List.{drop_all}
 use Rattle.run_picture.specs.Templates.{Text, filled, part, left_behind, others}
 

@@ -1,5 +1,5 @@
 -- The picture as a whole.
-use Rattle.std.proofs.Common.{◌≡◌, ℕ, ◌+◌, ◌≤◌, List, [], ◌∷◌, ◌++◌, length, set, refl, sym, ap, ◌∙◌, arith}
+use Rattle.std.proofs.Common.{◌≡◌, ℕ, ◌+◌, ◌≤◌, List, [], ◌∷◌, length, set, refl, sym, ap, ◌∙◌, arith}
 use Rattle.std.proofs.Common.{length-append}
 use Rattle.std.proofs.lemmas.List.{length-set}
 use Rattle.std.specs.Prelude.{Bool, true, false, nat_lt, if◌then◌else◌, Option, None}
@@ -68,14 +68,13 @@ few_seen run worths seen same are few = omega (
 -- what is drawn is the picture, where all that it is drawn from is that of the run
 pub pictured : (k : Fraction) (run : List Event) (J : Instance) → IsRunOf k run J → (asked : Option Window)
     (jobs : List JobFacts) (worths : List ℕ) (rows : List Interval) (value : ℕ) (c : Counts) (seen : List Seen)
-    (pieces : List Piece) (w : Window) (a b : Text)
+    (pieces : List Piece) (w : Window) (b : Text)
     → jobs ≡ jobs_released run → worths ≡ weights J → rows ≡ rows_of J → value ≡ completed_value J
     → c ≡ counts_of k run jobs value → seen ≡ told_by [] (zip run worths) → pieces ≡ pieces_from None run
-    → w ≡ window_of asked jobs → a ≡ [] → b ≡ a ++ drawn 400 w c seen jobs run pieces rows → b ≡ picture asked J
-pictured k run J of asked jobs worths rows value c seen pieces w a b released weighed charged adds counts tells runs
-    views first last =
-    last ∙ ap (λ t. t ++ drawn 400 w c seen jobs run pieces rows) first
-    ∙ ap (λ x. drawn 400 x c seen jobs run pieces rows) views
+    → w ≡ window_of asked jobs → b ≡ drawn 400 w c seen jobs run pieces rows → b ≡ picture asked J
+pictured k run J of asked jobs worths rows value c seen pieces w b released weighed charged adds counts tells runs
+    views last =
+    last ∙ ap (λ x. drawn 400 x c seen jobs run pieces rows) views
     ∙ ap (λ x. drawn 400 (window_of asked jobs) x seen jobs run pieces rows) counts
     ∙ ap (λ x. drawn 400 (window_of asked jobs) (counts_of k run jobs value) x jobs run pieces rows) tells
     ∙ ap (λ x. drawn 400 (window_of asked jobs) (counts_of k run jobs value) (told_by [] (zip run worths)) jobs run x

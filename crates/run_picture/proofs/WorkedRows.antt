@@ -7,12 +7,14 @@ use Rattle.dover_model.proofs.Written.{job, one}
 use Rattle.run_picture.specs.Templates.{filled}
 use Rattle.run_picture.specs.Legends.{texts_style, labels_style, bars_style, lines_style, texts_styles, paths_styles}
 use Rattle.run_picture.specs.Legends.{styles}
-use Rattle.run_picture.specs.Legends.{legend_bars, legend_words, legend, lanes_colors, lanes_words, losses_words}
+use Rattle.run_picture.specs.Legends.{legend_bars, legend_words, legend, load_legend, lanes_colors, lanes_words}
+use Rattle.run_picture.specs.Legends.{losses_words}
 use Rattle.run_picture.specs.Legends.{lanes_legend}
 use Rattle.run_picture.specs.Frame.{blank, page, tens, marks_from, axis_by, axis, bands}
-use Rattle.run_picture.specs.Panels.{area, values_by, values, ready_by, ready}
+use Rattle.run_picture.specs.Panels.{area, values_by, values, ready_by, ready, towers_area, columns_by, columns}
 use Rattle.run_picture.specs.Pictures.{bars_of, all_bars, strip, windows, holds_bars, lanes_bars, arrows_lines}
-use Rattle.run_picture.specs.Pictures.{crosses_lines, lanes_lines, lanes_of, ground_of, all_bands, under, middle_of}
+use Rattle.run_picture.specs.Pictures.{crosses_lines, lanes_lines, lanes_of, ground_of, all_bands, under, under_load}
+use Rattle.run_picture.specs.Pictures.{middle_of}
 use Rattle.run_picture.specs.Pictures.{over, lanes_to, by_lanes, load, by_load, drawn, picture_by, picture}
 
 -- a take over a running and a held job
@@ -25,17 +27,17 @@ all_of_it : picture None take_over ≡
     ++ codes "<style>text{font:12px sans-serif;fill:#222}.s{font-size:10px}.r{text-anchor:end}\n"
     ++ codes ".m{text-anchor:middle}.b{font-weight:bold;font-size:14px}\n"
     ++ codes ".i text{font-size:9px;fill:#fff;text-anchor:middle}\n"
-    ++ codes ".j{font-size:10px;paint-order:stroke;stroke:#fff;stroke-width:3px;stroke-linejoin:round}\n"
-    ++ codes ".v{font-size:9px;fill:#a33c00;paint-order:stroke;stroke:#fff;stroke-width:2px}\n"
-    ++ codes "path{fill:none;pointer-events:none}text{pointer-events:none}.w,.g{pointer-events:stroke}\n"
+    ++ codes ".j text{font-size:10px;paint-order:stroke;stroke:#fff;stroke-width:3px;stroke-linejoin:round}\n"
+    ++ codes "text.v{font-size:9px;fill:#a33c00;paint-order:stroke;stroke:#fff;stroke-width:2px}\n"
+    ++ codes "path{fill:none;pointer-events:none}text{pointer-events:none}.w path{pointer-events:stroke}\n"
     ++ codes ".w{stroke:#dfe5ec}.g{stroke:#f4d5c4}.h{stroke:#9db8cc}.c{stroke:#0072b2}.t{stroke:#e69f00}\n"
     ++ codes ".l{stroke:#d55e00}\n"
     ++ codes ".o{stroke:#d55e00;stroke-opacity:.08}.f{fill:none;stroke:#bbb}.a{stroke:#e2e2e2}.p{stroke:#444}\n"
     ++ codes ".k{stroke:#b87a00;stroke-width:2}.x{stroke:#a33c00;stroke-width:2}\n"
     ++ codes ".C{fill:#0072b2}.L{fill:#d55e00}.Q{fill:#8a949e}</style>\n"
     ++ codes "<rect width='1400' height='326' fill='#fff'/>\n"
-    ++ codes "<text class='b' x='90' y='22'>jobs 3, completed 2 worth 15, abandoned 1 worth 2, taken 1, bound "
-    ++ codes "60</text>\n"
+    ++ codes "<text class='b' x='90' y='22'>jobs 3, completed 2 worth 15, abandoned 1 worth 2, taken 1, bound 60</"
+    ++ codes "text>\n"
     ++ codes "<g stroke-width='12'><path class='c' d='M90 40h14'/><path class='t' d='M205 40h14'/>\n"
     ++ codes "<path class='l' d='M385 40h14'/></g><text class='s' x='109' y='44'>ran, completed</text>\n"
     ++ codes "<text class='s' x='224' y='44'>ran, completed, after a take</text>\n"
@@ -67,25 +69,26 @@ all_of_it : picture None take_over ≡
     ++ codes "<text x='630' y='91'>0</text>\n"
     ++ codes "</g>\n"
     ++ codes "<text class='r' x='82' y='124'>jobs</text>\n"
-    ++ codes "<g stroke-width='15'>\n"
-    ++ codes "<path class='w' d='M90 121h1200'><title>job 0: release 0, work 3, deadline 30, value 3, complete"
-    ++ codes " 15</title></path>\n"
-    ++ codes "<path class='g' d='M90 139h160'><title>job 1: release 0, work 2, deadline 4, value 2 against 12 "
-    ++ codes "under way, abandon 2</title></path>\n"
-    ++ codes "<path class='w' d='M90 157h480'><title>job 2: release 0, work 12, deadline 12, value 12 against "
-    ++ codes "5 under way, taken, complete 12</title></path>\n"
+    ++ codes "<g class='w' stroke-width='15'>\n"
+    ++ codes "<path d='M90 121h1200'><title>job 0: 0 to 30, work 3, value 3, complete 15</title></path>\n"
+    ++ codes "<path class='g' d='M90 139h160'><title>job 1: 0 to 4, work 2, value 2 against 12, abandon 2</title><"
+    ++ codes "/path>\n"
+    ++ codes "<path d='M90 157h480'><title>job 2: 0 to 12, work 12, value 12 against 5, taken, complete 12</title>"
+    ++ codes "</path>\n"
     ++ codes "</g>\n"
     ++ codes "<path class='h' stroke-width='6' d='M90 121h600M90 139h80'/>\n"
     ++ codes "<path class='c' stroke-width='15' d='M570 121h120'/>\n"
     ++ codes "<path class='t' stroke-width='15' d='M90 157h480'/>\n"
     ++ codes "<path class='l' stroke-width='15' d=''/>\n"
-    ++ codes "<path class='p' d='M90 121V139m-2 -4h4l-2 4'/>\n"
-    ++ codes "<path class='k' d='M90 139V157m-2 -4h4l-2 4'/>\n"
-    ++ codes "<path class='x' d='M167 135l6 9m0 -9l-6 9'/>\n"
-    ++ codes "<text class='j' x='92' y='125'>0</text>\n"
-    ++ codes "<text class='j' x='92' y='143'>1</text>\n"
+    ++ codes "<path class='p' d='M90 121V139m-2-4h4l-2 4'/>\n"
+    ++ codes "<path class='k' d='M90 139V157m-2-4h4l-2 4'/>\n"
+    ++ codes "<path class='x' d='M167 135l6 9m0-9l-6 9'/>\n"
+    ++ codes "<g class='j'>\n"
+    ++ codes "<text x='92' y='125'>0</text>\n"
+    ++ codes "<text x='92' y='143'>1</text>\n"
     ++ codes "<text class='v' x='176' y='143'>-2</text>\n"
-    ++ codes "<text class='j' x='92' y='161'>2</text>\n"
+    ++ codes "<text x='92' y='161'>2</text>\n"
+    ++ codes "</g>\n"
     ++ codes "<path class='L' d='M90 290V290H170V278H570V200H690V180H1290V290Z'/>\n"
     ++ codes "<path class='C' d='M90 290V290H170V290H570V213H690V193H1290V290Z'/>\n"
     ++ codes "<text class='r' x='82' y='193'>value so far</text>\n"
@@ -93,10 +96,11 @@ all_of_it : picture None take_over ≡
     ++ codes "<text class='s' x='1296' y='190'>lost</text><text class='s' x='1296' y='202'>2</text>\n"
     ++ codes "<text class='s' x='1296' y='276'>completed</text><text class='s' x='1296' y='288'>15</text>\n"
     ++ codes "</svg>\n"
-unfolding digits filled texts_style labels_style bars_style lines_style legend_bars legend_words lanes_colors
-    lanes_words losses_words texts_styles paths_styles styles legend lanes_legend blank page tens marks_from axis_by
-    axis bands area values_by values ready_by ready bars_of all_bars strip windows holds_bars lanes_bars arrows_lines
-    crosses_lines lanes_lines lanes_of ground_of all_bands under middle_of over lanes_to by_lanes load by_load drawn
+unfolding digits filled texts_style labels_style bars_style lines_style legend_bars legend_words load_legend
+    lanes_colors lanes_words losses_words texts_styles paths_styles styles legend lanes_legend blank page tens
+    marks_from axis_by axis bands area values_by values ready_by ready towers_area columns_by columns bars_of all_bars
+    strip windows holds_bars lanes_bars arrows_lines crosses_lines lanes_lines lanes_of ground_of all_bands under
+    under_load middle_of over lanes_to by_lanes load by_load drawn
 all_of_it = refl
 
 -- its ticks from 1 to 11
@@ -105,17 +109,17 @@ some_of_it : picture (Some (record { from = 1; until = 11 })) take_over ≡
     ++ codes "<style>text{font:12px sans-serif;fill:#222}.s{font-size:10px}.r{text-anchor:end}\n"
     ++ codes ".m{text-anchor:middle}.b{font-weight:bold;font-size:14px}\n"
     ++ codes ".i text{font-size:9px;fill:#fff;text-anchor:middle}\n"
-    ++ codes ".j{font-size:10px;paint-order:stroke;stroke:#fff;stroke-width:3px;stroke-linejoin:round}\n"
-    ++ codes ".v{font-size:9px;fill:#a33c00;paint-order:stroke;stroke:#fff;stroke-width:2px}\n"
-    ++ codes "path{fill:none;pointer-events:none}text{pointer-events:none}.w,.g{pointer-events:stroke}\n"
+    ++ codes ".j text{font-size:10px;paint-order:stroke;stroke:#fff;stroke-width:3px;stroke-linejoin:round}\n"
+    ++ codes "text.v{font-size:9px;fill:#a33c00;paint-order:stroke;stroke:#fff;stroke-width:2px}\n"
+    ++ codes "path{fill:none;pointer-events:none}text{pointer-events:none}.w path{pointer-events:stroke}\n"
     ++ codes ".w{stroke:#dfe5ec}.g{stroke:#f4d5c4}.h{stroke:#9db8cc}.c{stroke:#0072b2}.t{stroke:#e69f00}\n"
     ++ codes ".l{stroke:#d55e00}\n"
     ++ codes ".o{stroke:#d55e00;stroke-opacity:.08}.f{fill:none;stroke:#bbb}.a{stroke:#e2e2e2}.p{stroke:#444}\n"
     ++ codes ".k{stroke:#b87a00;stroke-width:2}.x{stroke:#a33c00;stroke-width:2}\n"
     ++ codes ".C{fill:#0072b2}.L{fill:#d55e00}.Q{fill:#8a949e}</style>\n"
     ++ codes "<rect width='1400' height='326' fill='#fff'/>\n"
-    ++ codes "<text class='b' x='90' y='22'>jobs 3, completed 2 worth 15, abandoned 1 worth 2, taken 1, bound "
-    ++ codes "60</text>\n"
+    ++ codes "<text class='b' x='90' y='22'>jobs 3, completed 2 worth 15, abandoned 1 worth 2, taken 1, bound 60</"
+    ++ codes "text>\n"
     ++ codes "<g stroke-width='12'><path class='c' d='M90 40h14'/><path class='t' d='M205 40h14'/>\n"
     ++ codes "<path class='l' d='M385 40h14'/></g><text class='s' x='109' y='44'>ran, completed</text>\n"
     ++ codes "<text class='s' x='224' y='44'>ran, completed, after a take</text>\n"
@@ -150,13 +154,12 @@ some_of_it : picture (Some (record { from = 1; until = 11 })) take_over ≡
     ++ codes "<text x='690' y='91'>2</text>\n"
     ++ codes "</g>\n"
     ++ codes "<text class='r' x='82' y='124'>jobs</text>\n"
-    ++ codes "<g stroke-width='15'>\n"
-    ++ codes "<path class='w' d='M90 121h1200'><title>job 0: release 0, work 3, deadline 30, value 3, complete"
-    ++ codes " 15</title></path>\n"
-    ++ codes "<path class='g' d='M90 139h360'><title>job 1: release 0, work 2, deadline 4, value 2 against 12 "
-    ++ codes "under way, abandon 2</title></path>\n"
-    ++ codes "<path class='w' d='M90 157h1200'><title>job 2: release 0, work 12, deadline 12, value 12 against"
-    ++ codes " 5 under way, taken, complete 12</title></path>\n"
+    ++ codes "<g class='w' stroke-width='15'>\n"
+    ++ codes "<path d='M90 121h1200'><title>job 0: 0 to 30, work 3, value 3, complete 15</title></path>\n"
+    ++ codes "<path class='g' d='M90 139h360'><title>job 1: 0 to 4, work 2, value 2 against 12, abandon 2</title><"
+    ++ codes "/path>\n"
+    ++ codes "<path d='M90 157h1200'><title>job 2: 0 to 12, work 12, value 12 against 5, taken, complete 12</title"
+    ++ codes "></path>\n"
     ++ codes "</g>\n"
     ++ codes "<path class='h' stroke-width='6' d='M90 121h1200M90 139h120'/>\n"
     ++ codes "<path class='c' stroke-width='15' d=''/>\n"
@@ -164,8 +167,10 @@ some_of_it : picture (Some (record { from = 1; until = 11 })) take_over ≡
     ++ codes "<path class='l' stroke-width='15' d=''/>\n"
     ++ codes "<path class='p' d=''/>\n"
     ++ codes "<path class='k' d=''/>\n"
-    ++ codes "<path class='x' d='M207 135l6 9m0 -9l-6 9'/>\n"
+    ++ codes "<path class='x' d='M207 135l6 9m0-9l-6 9'/>\n"
+    ++ codes "<g class='j'>\n"
     ++ codes "<text class='v' x='216' y='143'>-2 against 12</text>\n"
+    ++ codes "</g>\n"
     ++ codes "<path class='L' d='M90 290V290H210V180H1290V180H1290V290Z'/>\n"
     ++ codes "<path class='C' d='M90 290V290H210V290H1290V290H1290V290Z'/>\n"
     ++ codes "<text class='r' x='82' y='193'>value so far</text>\n"
@@ -173,41 +178,46 @@ some_of_it : picture (Some (record { from = 1; until = 11 })) take_over ≡
     ++ codes "<text class='s' x='1296' y='190'>lost</text><text class='s' x='1296' y='202'>2</text>\n"
     ++ codes "<text class='s' x='1296' y='276'>completed</text><text class='s' x='1296' y='288'>0</text>\n"
     ++ codes "</svg>\n"
-unfolding digits filled texts_style labels_style bars_style lines_style legend_bars legend_words lanes_colors
-    lanes_words losses_words texts_styles paths_styles styles legend lanes_legend blank page tens marks_from axis_by
-    axis bands area values_by values ready_by ready bars_of all_bars strip windows holds_bars lanes_bars arrows_lines
-    crosses_lines lanes_lines lanes_of ground_of all_bands under middle_of over lanes_to by_lanes load by_load drawn
+unfolding digits filled texts_style labels_style bars_style lines_style legend_bars legend_words load_legend
+    lanes_colors lanes_words losses_words texts_styles paths_styles styles legend lanes_legend blank page tens
+    marks_from axis_by axis bands area values_by values ready_by ready towers_area columns_by columns bars_of all_bars
+    strip windows holds_bars lanes_bars arrows_lines crosses_lines lanes_lines lanes_of ground_of all_bands under
+    under_load middle_of over lanes_to by_lanes load by_load drawn
 some_of_it = refl
 
 -- its load
 its_load : picture_by 2 None take_over ≡
-    codes "<svg xmlns='http://www.w3.org/2000/svg' width='1400' height='384' viewBox='0 0 1400 384'>\n"
+    codes "<svg xmlns='http://www.w3.org/2000/svg' width='1400' height='510' viewBox='0 0 1400 510'>\n"
     ++ codes "<style>text{font:12px sans-serif;fill:#222}.s{font-size:10px}.r{text-anchor:end}\n"
     ++ codes ".m{text-anchor:middle}.b{font-weight:bold;font-size:14px}\n"
     ++ codes ".i text{font-size:9px;fill:#fff;text-anchor:middle}\n"
-    ++ codes ".j{font-size:10px;paint-order:stroke;stroke:#fff;stroke-width:3px;stroke-linejoin:round}\n"
-    ++ codes ".v{font-size:9px;fill:#a33c00;paint-order:stroke;stroke:#fff;stroke-width:2px}\n"
-    ++ codes "path{fill:none;pointer-events:none}text{pointer-events:none}.w,.g{pointer-events:stroke}\n"
+    ++ codes ".j text{font-size:10px;paint-order:stroke;stroke:#fff;stroke-width:3px;stroke-linejoin:round}\n"
+    ++ codes "text.v{font-size:9px;fill:#a33c00;paint-order:stroke;stroke:#fff;stroke-width:2px}\n"
+    ++ codes "path{fill:none;pointer-events:none}text{pointer-events:none}.w path{pointer-events:stroke}\n"
     ++ codes ".w{stroke:#dfe5ec}.g{stroke:#f4d5c4}.h{stroke:#9db8cc}.c{stroke:#0072b2}.t{stroke:#e69f00}\n"
     ++ codes ".l{stroke:#d55e00}\n"
     ++ codes ".o{stroke:#d55e00;stroke-opacity:.08}.f{fill:none;stroke:#bbb}.a{stroke:#e2e2e2}.p{stroke:#444}\n"
     ++ codes ".k{stroke:#b87a00;stroke-width:2}.x{stroke:#a33c00;stroke-width:2}\n"
     ++ codes ".C{fill:#0072b2}.L{fill:#d55e00}.Q{fill:#8a949e}</style>\n"
-    ++ codes "<rect width='1400' height='384' fill='#fff'/>\n"
-    ++ codes "<text class='b' x='90' y='22'>jobs 3, completed 2 worth 15, abandoned 1 worth 2, taken 1, bound "
-    ++ codes "60</text>\n"
+    ++ codes "<rect width='1400' height='510' fill='#fff'/>\n"
+    ++ codes "<text class='b' x='90' y='22'>jobs 3, completed 2 worth 15, abandoned 1 worth 2, taken 1, bound 60</"
+    ++ codes "text>\n"
     ++ codes "<g stroke-width='12'><path class='c' d='M90 40h14'/><path class='t' d='M205 40h14'/>\n"
     ++ codes "<path class='l' d='M385 40h14'/></g><text class='s' x='109' y='44'>ran, completed</text>\n"
     ++ codes "<text class='s' x='224' y='44'>ran, completed, after a take</text>\n"
     ++ codes "<text class='s' x='404' y='44'>ran, then abandoned: lost work</text>\n"
-    ++ codes "<path class='a' d='M90 76V348'/><text class='s m' x='90' y='362'>0</text>\n"
-    ++ codes "<path class='a' d='M290 76V348'/><text class='s m' x='290' y='362'>5</text>\n"
-    ++ codes "<path class='a' d='M490 76V348'/><text class='s m' x='490' y='362'>10</text>\n"
-    ++ codes "<path class='a' d='M690 76V348'/><text class='s m' x='690' y='362'>15</text>\n"
-    ++ codes "<path class='a' d='M890 76V348'/><text class='s m' x='890' y='362'>20</text>\n"
-    ++ codes "<path class='a' d='M1090 76V348'/><text class='s m' x='1090' y='362'>25</text>\n"
-    ++ codes "<path class='a' d='M1290 76V348'/><text class='s m' x='1290' y='362'>30</text>\n"
-    ++ codes "<text class='s r' x='1290' y='376'>tick</text>\n"
+    ++ codes "<path class='a' d='M90 76V474'/><text class='s m' x='90' y='488'>0</text>\n"
+    ++ codes "<path class='a' d='M290 76V474'/><text class='s m' x='290' y='488'>5</text>\n"
+    ++ codes "<path class='a' d='M490 76V474'/><text class='s m' x='490' y='488'>10</text>\n"
+    ++ codes "<path class='a' d='M690 76V474'/><text class='s m' x='690' y='488'>15</text>\n"
+    ++ codes "<path class='a' d='M890 76V474'/><text class='s m' x='890' y='488'>20</text>\n"
+    ++ codes "<path class='a' d='M1090 76V474'/><text class='s m' x='1090' y='488'>25</text>\n"
+    ++ codes "<path class='a' d='M1290 76V474'/><text class='s m' x='1290' y='488'>30</text>\n"
+    ++ codes "<text class='s r' x='1290' y='502'>tick</text>\n"
+    ++ codes "<path class='o' stroke-width='12' d='M580 40h14'/>\n"
+    ++ codes "<text class='s' x='599' y='44'>interval with lost value</text>\n"
+    ++ codes "<path class='o' stroke-width='414' d='M90 267h480'/>\n"
+    ++ codes "<text class='v' x='93' y='70'>lost 2</text>\n"
     ++ codes "<text class='r' x='82' y='91'>processor</text>\n"
     ++ codes "<rect class='f' x='90' y='76' width='1200' height='22'/>\n"
     ++ codes "<path class='c' stroke-width='22' d='M570 87h120'/>\n"
@@ -221,15 +231,21 @@ its_load : picture_by 2 None take_over ≡
     ++ codes "<text class='r' x='82' y='125'>ready jobs</text>\n"
     ++ codes "<rect class='f' x='90' y='112' width='1200' height='110'/>\n"
     ++ codes "<text class='s' x='1296' y='122'>at most 3</text>\n"
-    ++ codes "<path class='L' d='M90 348V348H168V336H570V258H690V238H1290V348Z'/>\n"
-    ++ codes "<path class='C' d='M90 348V348H168V348H570V271H690V251H1290V348Z'/>\n"
-    ++ codes "<text class='r' x='82' y='251'>value so far</text>\n"
+    ++ codes "<path class='L' d='M168 348V330h6V348M570 348V238h6V348M690 348V321h6V348'/>\n"
+    ++ codes "<path class='C' d='M570 348V238h6V348M690 348V321h6V348'/>\n"
+    ++ codes "<text class='r' x='82' y='251'>value</text><text class='s r' x='82' y='265'>by column</text>\n"
     ++ codes "<rect class='f' x='90' y='238' width='1200' height='110'/>\n"
-    ++ codes "<text class='s' x='1296' y='248'>lost</text><text class='s' x='1296' y='260'>2</text>\n"
-    ++ codes "<text class='s' x='1296' y='334'>completed</text><text class='s' x='1296' y='346'>15</text>\n"
+    ++ codes "<text class='s' x='1296' y='248'>at most 12</text>\n"
+    ++ codes "<path class='L' d='M90 474V474H168V462H570V384H690V364H1290V474Z'/>\n"
+    ++ codes "<path class='C' d='M90 474V474H168V474H570V397H690V377H1290V474Z'/>\n"
+    ++ codes "<text class='r' x='82' y='377'>value so far</text>\n"
+    ++ codes "<rect class='f' x='90' y='364' width='1200' height='110'/>\n"
+    ++ codes "<text class='s' x='1296' y='374'>lost</text><text class='s' x='1296' y='386'>2</text>\n"
+    ++ codes "<text class='s' x='1296' y='460'>completed</text><text class='s' x='1296' y='472'>15</text>\n"
     ++ codes "</svg>\n"
-unfolding digits filled texts_style labels_style bars_style lines_style legend_bars legend_words lanes_colors
-    lanes_words losses_words texts_styles paths_styles styles legend lanes_legend blank page tens marks_from axis_by
-    axis bands area values_by values ready_by ready bars_of all_bars strip windows holds_bars lanes_bars arrows_lines
-    crosses_lines lanes_lines lanes_of ground_of all_bands under middle_of over lanes_to by_lanes load by_load drawn
+unfolding digits filled texts_style labels_style bars_style lines_style legend_bars legend_words load_legend
+    lanes_colors lanes_words losses_words texts_styles paths_styles styles legend lanes_legend blank page tens
+    marks_from axis_by axis bands area values_by values ready_by ready towers_area columns_by columns bars_of all_bars
+    strip windows holds_bars lanes_bars arrows_lines crosses_lines lanes_lines lanes_of ground_of all_bands under
+    under_load middle_of over lanes_to by_lanes load by_load drawn
 its_load = refl

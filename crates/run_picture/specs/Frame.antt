@@ -85,9 +85,9 @@ axis w bottom = axis_by w bottom (step_of (w.until - w.from))
 abbrev pub is_loss : Window → Interval → Bool
 is_loss w i = (not (i.displaced == 0) || not (i.abandoned == 0)) && meets w i.from i.until
 
--- its band, around this height
-abbrev pub band : Window → (y : ℕ) → Interval → Text
-band w y i = if is_loss w i then bar w 1 i.from i.until y else []
+-- its band, so long at least, around this height
+abbrev pub band : Window → (least y : ℕ) → Interval → Text
+band w least y i = if is_loss w i then bar w least i.from i.until y else []
 
 -- a lost value at pixel x
 abbrev pub lost_at : (x value : ℕ) → Text
@@ -110,12 +110,12 @@ abbrev pub bars_end : Text
 bars_end = codes "'/>\n"
 
 -- the bands, around this height
-abbrev pub bands_at : Window → (y : ℕ) → List Interval → Text
-bands_at w y rows = flat_map (band w y) rows
+abbrev pub bands_at : Window → (least y : ℕ) → List Interval → Text
+bands_at w least y rows = flat_map (band w least y) rows
 
--- all bands, from pixel 60 down to the bottom
-unfoldable pub bands : Window → (bottom : ℕ) → List Interval → Text
-bands w bottom rows = bars_front 111 (bottom - 60) ++ bands_at w ((bottom + 60) / 2) rows ++ bars_end
+-- all bands, so long at least, from pixel 60 down to the bottom
+unfoldable pub bands : Window → (least bottom : ℕ) → List Interval → Text
+bands w least bottom rows = bars_front 111 (bottom - 60) ++ bands_at w least ((bottom + 60) / 2) rows ++ bars_end
 
 -- and what they lost
 abbrev pub band_words : Window → List Interval → Text

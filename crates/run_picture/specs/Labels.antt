@@ -1,5 +1,5 @@
 -- What is written in the lanes: the jobs' numbers, and what their losses weighed, where there is room.
-use Rattle.std.specs.Prelude.{ℕ, ◌+◌, ◌-◌, ◌*◌, List, [], ◌∷◌, ◌++◌, Bool, ◌&&◌, nat_le, if◌then◌else◌, codes}
+use Rattle.std.specs.Prelude.{ℕ, ◌+◌, ◌*◌, List, [], ◌∷◌, ◌++◌, Bool, ◌&&◌, nat_le, if◌then◌else◌, codes}
 use Rattle.std.specs.List.{flat_map}
 use Rattle.run_picture.specs.Templates.{Text, filled, digits_of, room}
 use Rattle.run_picture.specs.Plot.{x_at, has, pixels}
@@ -11,7 +11,7 @@ use Rattle.run_picture.specs.declared.lanes.Lane.{Lane}
 
 -- a number behind pixel x, around the height y
 abbrev pub number_at : (x y n : ℕ) → Text
-number_at x y n = filled (codes "<text class='j' x='@' y='@'>@</text>\n") ((x + 2) ∷ (y + 4) ∷ n ∷ [])
+number_at x y n = filled (codes "<text x='@' y='@'>@</text>\n") ((x + 2) ∷ (y + 4) ∷ n ∷ [])
 
 -- a lost value behind pixel x
 abbrev pub lost_at : (x y value : ℕ) → Text
@@ -50,6 +50,10 @@ abbrev pub label : Window → (unit : ℕ) → Lane → Text
 label w unit lane = if shows w lane.seen
     then number_of w (middle unit lane) lane.seen ++ loss_of w (middle unit lane) lane.seen else []
 
--- what is written in all lanes, where rows are high enough
+-- what is written in all lanes
+abbrev pub group : Window → (unit : ℕ) → List Lane → Text
+group w unit lanes = codes "<g class='j'>\n" ++ flat_map (label w unit) lanes ++ codes "</g>\n"
+
+-- the same where rows are high enough
 abbrev pub labels : Window → (unit : ℕ) → List Lane → Text
-labels w unit lanes = if nat_le 12 unit then flat_map (label w unit) lanes else []
+labels w unit lanes = if nat_le 12 unit then group w unit lanes else []

@@ -10,12 +10,12 @@ texts_style = codes "<style>text{font:12px sans-serif;fill:#222}.s{font-size:10p
 
 -- how texts on bars look
 unfoldable pub labels_style : Text
-labels_style = codes ".j{font-size:10px;paint-order:stroke;stroke:#fff;stroke-width:3px;stroke-linejoin:round}\n"
-    ++ codes ".v{font-size:9px;fill:#a33c00;paint-order:stroke;stroke:#fff;stroke-width:2px}\n"
+labels_style = codes ".j text{font-size:10px;paint-order:stroke;stroke:#fff;stroke-width:3px;stroke-linejoin:round}\n"
+    ++ codes "text.v{font-size:9px;fill:#a33c00;paint-order:stroke;stroke:#fff;stroke-width:2px}\n"
 
 -- the colors of bars, those of Okabe and Ito, which the color-blind can tell apart
 unfoldable pub bars_style : Text
-bars_style = codes "path{fill:none;pointer-events:none}text{pointer-events:none}.w,.g{pointer-events:stroke}\n"
+bars_style = codes "path{fill:none;pointer-events:none}text{pointer-events:none}.w path{pointer-events:stroke}\n"
     ++ codes ".w{stroke:#dfe5ec}.g{stroke:#f4d5c4}.h{stroke:#9db8cc}.c{stroke:#0072b2}.t{stroke:#e69f00}\n"
     ++ codes ".l{stroke:#d55e00}\n"
 
@@ -66,6 +66,11 @@ lanes_words = codes "<text class='s' x='599' y='44'>release to deadline</text>\n
 unfoldable pub losses_words : Text
 losses_words = codes "<text class='s' x='1009' y='44'>interval with lost value</text>\n"
     ++ codes "<text class='s' x='1139' y='44'>X abandoned: -value against that under way</text>\n"
+
+-- what bands mean in the load
+unfoldable pub load_legend : Text
+load_legend = codes "<path class='o' stroke-width='12' d='M580 40h14'/>\n"
+    ++ codes "<text class='s' x='599' y='44'>interval with lost value</text>\n"
 
 -- the legend of the lanes
 unfoldable pub lanes_legend : Text

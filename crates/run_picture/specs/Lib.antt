@@ -8,6 +8,7 @@ pub mod Windows
 pub mod Labels
 pub mod Marks
 pub mod Outlines
+pub mod Columns
 pub mod Panels
 pub mod Legends
 pub mod Frame

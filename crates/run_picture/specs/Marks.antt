@@ -1,5 +1,5 @@
 -- Marks in the lanes, step by step: where a job is held, where one is abandoned, and who takes the processor from whom.
-use Rattle.std.specs.Prelude.{ℕ, ◌+◌, ◌-◌, ◌*◌, ◌/◌, List, [], ◌∷◌, ◌++◌, Bool, nat_lt, if◌then◌else◌, codes}
+use Rattle.std.specs.Prelude.{ℕ, ◌-◌, ◌/◌, List, [], ◌∷◌, ◌++◌, Bool, nat_lt, if◌then◌else◌, codes}
 use Rattle.std.specs.List.{flat_map}
 use Rattle.dover_model.specs.declared.events.Event.{Event}
 use Rattle.dover_model.specs.declared.events.Event.TheVariants.{Preempt, Take, Abandon}
@@ -30,7 +30,7 @@ holds w unit lanes run = flat_map (hold_of w unit lanes) run
 
 -- a cross of this height, from its upper left on
 abbrev pub cross_from : (x y high : ℕ) → Text
-cross_from x y high = filled (codes "M@ @l6 @m0 -@l-6 @") (x ∷ y ∷ high ∷ high ∷ high ∷ [])
+cross_from x y high = filled (codes "M@ @l6 @m0-@l-6 @") (x ∷ y ∷ high ∷ high ∷ high ∷ [])
 
 -- the same around a point
 abbrev pub cross : (x y high : ℕ) → Text
@@ -53,7 +53,7 @@ crosses w unit lanes run = flat_map (cross_of w unit lanes) run
 -- an arrow at pixel x from one height to another
 abbrev pub arrow : (x from until : ℕ) → Text
 arrow x from until = filled (codes "M@ @V@") (x ∷ from ∷ until ∷ [])
-    ++ (if nat_lt from until then codes "m-2 -4h4l-2 4" else codes "m-2 4h4l-2 -4")
+    ++ (if nat_lt from until then codes "m-2-4h4l-2 4" else codes "m-2 4h4l-2-4")
 
 -- the arrow from one job to another, if the tick is in the window
 abbrev pub arrow_at : Window → (unit : ℕ) → List Lane → (at stops starts : ℕ) → Text

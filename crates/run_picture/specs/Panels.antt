@@ -3,6 +3,7 @@ use Rattle.std.specs.Prelude.{ℕ, ◌+◌, ◌-◌, List, [], ◌∷◌, ◌++�
 use Rattle.dover_model.specs.declared.events.Event.{Event}
 use Rattle.dover_model.specs.JobFacts.{JobFacts}
 use Rattle.run_picture.specs.Templates.{Text, filled}
+use Rattle.run_picture.specs.Columns.{fullest, towers}
 use Rattle.run_picture.specs.Outlines.{greatest, outline}
 use Rattle.run_view.specs.declared.window.Window.{Window}
 use Rattle.run_picture.specs.declared.outline.Measure.{Measure}
@@ -81,3 +82,29 @@ ready_by w most jobs run = area 81 (measured w Ready true most 222) jobs run ++ 
 -- the panel of the jobs that are ready, in columns
 unfoldable pub ready : Window → List JobFacts → List Event → Text
 ready w jobs run = ready_by w (greatest Ready w jobs run) jobs run
+
+-- ---- the values by column
+
+-- the towers of what is measured as an area of this class
+unfoldable pub towers_area : (class : ℕ) → Outline → List JobFacts → List Event → Text
+towers_area class o jobs run = area_front class ++ towers o jobs run ++ codes "'/>\n"
+
+-- the words beside the panel, and its border
+abbrev pub columns_border : (most : ℕ) → Text
+columns_border most =
+    codes "<text class='r' x='82' y='251'>value</text><text class='s r' x='82' y='265'>by column</text>\n"
+    ++ codes "<rect class='f' x='90' y='238' width='1200' height='110'/>\n"
+    ++ filled (codes "<text class='s' x='1296' y='248'>at most @</text>\n") (most ∷ [])
+
+-- the value completed, and on it the value lost
+abbrev pub columns_areas : Window → (most : ℕ) → List JobFacts → List Event → Text
+columns_areas w most jobs run = towers_area 76 (measured w Decided true most 348) jobs run
+    ++ towers_area 67 (measured w Completed true most 348) jobs run
+
+-- the panel, where so much value is decided in a column at most
+unfoldable pub columns_by : Window → (most : ℕ) → List JobFacts → List Event → Text
+columns_by w most jobs run = columns_areas w most jobs run ++ columns_border most
+
+-- the panel of the value that is decided in each column
+unfoldable pub columns : Window → List JobFacts → List Event → Text
+columns w jobs run = columns_by w (fullest Decided w jobs run) jobs run

@@ -1,5 +1,6 @@
 -- The picture of a run, as SVG in whole pixels: what a window of ticks shows of the processor, the jobs and the values.
-use Rattle.std.specs.Prelude.{ℕ, ◌+◌, ◌-◌, ◌*◌, ◌/◌, min, max, List, [], ◌∷◌, ◌++◌, Bool, true, false, nat_le, codes}
+use Rattle.std.specs.Prelude.{ℕ, ◌+◌, ◌-◌, ◌*◌, ◌/◌, min, max, List, [], ◌∷◌, ◌++◌, length, Bool, true, false, nat_le}
+use Rattle.std.specs.Prelude.{codes}
 use Rattle.std.specs.Prelude.{if◌then◌else◌}
 use Rattle.std.specs.Prelude.{Option, Some, None}
 use Rattle.dover_model.specs.declared.events.Event.{Event}
@@ -21,8 +22,8 @@ use Rattle.run_picture.specs.Strip.{piece_bars, piece_numbers}
 use Rattle.run_picture.specs.Windows.{job_windows}
 use Rattle.run_picture.specs.Labels.{labels}
 use Rattle.run_picture.specs.Marks.{holds, crosses, arrows}
-use Rattle.run_picture.specs.Panels.{values, ready}
-use Rattle.run_picture.specs.Legends.{lanes_legend}
+use Rattle.run_picture.specs.Panels.{values, ready, columns}
+use Rattle.run_picture.specs.Legends.{lanes_legend, load_legend}
 use Rattle.run_picture.specs.Frame.{page, axis, bands, band_words, bars_front, bars_end}
 use Rattle.run_view.specs.declared.window.Window.{Window}
 use Rattle.run_picture.specs.declared.seen.Seen.{Seen}
@@ -59,7 +60,7 @@ strip w least lanes pieces = strip_border ++ all_bars (record { window = w; unit
 -- the word beside the lanes, and the front of bars so high
 abbrev pub lanes_front : (high : ℕ) → Text
 lanes_front high = codes "<text class='r' x='82' y='124'>jobs</text>\n"
-    ++ filled (codes "<g stroke-width='@'>\n") (high ∷ [])
+    ++ filled (codes "<g class='w' stroke-width='@'>\n") (high ∷ [])
 
 -- the jobs' windows
 unfoldable pub windows : Window → (unit : ℕ) → List Lane → Text
@@ -102,13 +103,17 @@ lanes_of w unit lanes run pieces = lanes_bars w unit lanes run pieces ++ lanes_l
 unfoldable pub ground_of : Window → Counts → (bottom : ℕ) → Text
 ground_of w c bottom = page (bottom + 36) c ++ axis w bottom
 
--- the bands and their words
-unfoldable pub all_bands : Window → (bottom : ℕ) → List Interval → Text
-all_bands w bottom rows = bands w bottom rows ++ band_words w rows
+-- the bands, so long at least, and their words
+unfoldable pub all_bands : Window → (least bottom : ℕ) → List Interval → Text
+all_bands w least bottom rows = bands w least bottom rows ++ band_words w rows
 
 -- what stands under the lanes
 unfoldable pub under : Window → Counts → (bottom : ℕ) → List Interval → Text
-under w c bottom rows = ground_of w c bottom ++ lanes_legend ++ all_bands w bottom rows
+under w c bottom rows = ground_of w c bottom ++ lanes_legend ++ all_bands w 1 bottom rows
+
+-- what stands under the load
+unfoldable pub under_load : Window → Counts → List Interval → Text
+under_load w c rows = ground_of w c 474 ++ load_legend ++ all_bands w 0 474 rows
 
 -- the processor and the lanes
 unfoldable pub middle_of : Window → (unit : ℕ) → List Lane → List Event → List Piece → Text
@@ -130,24 +135,30 @@ by_lanes w c lanes jobs run pieces rows =
     let unit = unit_of (height lanes) in
     lanes_to w c unit (236 + unit * height lanes) lanes jobs run pieces rows
 
--- the processor and the ready jobs
+-- the processor, the ready jobs, and the values by column
 unfoldable pub load : Window → List Lane → List JobFacts → List Event → List Piece → Text
-load w lanes jobs run pieces = strip w 0 lanes pieces ++ ready w jobs run
+load w lanes jobs run pieces = strip w 0 lanes pieces ++ ready w jobs run ++ columns w jobs run
 
 -- the load in columns
-unfoldable pub by_load : Window → Counts → List Lane → List JobFacts → List Event → List Piece → Text
-by_load w c lanes jobs run pieces = ground_of w c 348 ++ load w lanes jobs run pieces ++ over w true 348 jobs run
+unfoldable pub by_load : Window → Counts → List Lane → List JobFacts → List Event → List Piece → List Interval → Text
+by_load w c lanes jobs run pieces rows = under_load w c rows ++ load w lanes jobs run pieces
+    ++ over w true 474 jobs run
 
 -- a window that shows no job
 abbrev pub nothing : Window
 nothing = record { from = 0; until = 0 }
 
--- lanes where the window shows so many jobs at most, and else the load
+-- lanes where they take at most 75,000 bytes, and else the load
+abbrev pub fitting : (lanes load : Text) → Text
+fitting lanes load = if nat_le (length lanes) 75_000 then lanes else load
+
+-- the same where the window shows so many jobs at most, and else the load
 unfoldable pub drawn : (most : ℕ) → Window → Counts → List Seen → List JobFacts → List Event → List Piece
     → List Interval → Text
 drawn most w c seen jobs run pieces rows = if nat_le (shown w seen) most
-    then by_lanes w c (lanes_from w [] seen) jobs run pieces rows
-    else by_load w c (lanes_from nothing [] seen) jobs run pieces
+    then fitting (by_lanes w c (lanes_from w [] seen) jobs run pieces rows)
+    (by_load w c (lanes_from nothing [] seen) jobs run pieces rows)
+    else by_load w c (lanes_from nothing [] seen) jobs run pieces rows
 
 -- all of the run
 abbrev pub whole : List JobFacts → Window

@@ -1,11 +1,9 @@
 -- What the steps of a run tell of each job.
 use Rattle.std.specs.Prelude.{ℕ, List, [], ◌∷◌, ◌++◌, length, set, Bool, true, false, nat_lt, if◌then◌else◌}
 use Rattle.std.specs.Prelude.{slice_index_or}
-use Rattle.std.specs.List.{fold}
 use Rattle.dover_model.specs.declared.events.Event.{Event}
 use Rattle.dover_model.specs.declared.events.Event.TheVariants.{Release, Take, Complete, Abandon}
 use Rattle.dover_model.specs.JobFacts.{JobFacts}
-use Rattle.run_picture.specs.declared.seen.Fate.{Fate}
 use Rattle.run_picture.specs.declared.seen.Fate.TheVariants.{Open, Completed, Abandoned}
 use Rattle.run_picture.specs.declared.seen.Seen.{Seen}
 

@@ -1,9 +1,9 @@
 -- The jobs' windows in their lanes: a bar from release to deadline, whose tooltip has the job's numbers and its fate.
-use Rattle.std.specs.Prelude.{ℕ, ◌+◌, ◌-◌, ◌*◌, List, [], ◌∷◌, ◌++◌, Bool, ◌&&◌, nat_le, if◌then◌else◌, codes}
+use Rattle.std.specs.Prelude.{ℕ, List, [], ◌∷◌, ◌++◌, Bool, if◌then◌else◌, codes}
 use Rattle.std.specs.List.{flat_map}
-use Rattle.run_picture.specs.Templates.{Text, filled, digits_of, room}
-use Rattle.run_picture.specs.Plot.{x_at, has, pixels, bar}
-use Rattle.run_picture.specs.Seen.{fate_tick, is_gone}
+use Rattle.run_picture.specs.Templates.{Text, filled}
+use Rattle.run_picture.specs.Plot.{bar}
+use Rattle.run_picture.specs.Seen.{is_gone}
 use Rattle.run_picture.specs.Lanes.{shows, middle}
 use Rattle.run_view.specs.declared.window.Window.{Window}
 use Rattle.run_picture.specs.declared.seen.Fate.{Fate}
@@ -15,8 +15,8 @@ use Rattle.run_picture.specs.declared.lanes.Lane.{Lane}
 
 -- what stood against the job's value, where it was weighed
 abbrev pub weighed : Seen → Text
-weighed s = if is_gone s then filled (codes " against @ under way") (s.against ∷ [])
-    else (if s.took then filled (codes " against @ under way, taken") (s.against ∷ []) else [])
+weighed s = if is_gone s then filled (codes " against @") (s.against ∷ [])
+    else (if s.took then filled (codes " against @, taken") (s.against ∷ []) else [])
 
 -- how it ended
 abbrev pub ended : Fate → Text
@@ -24,20 +24,20 @@ ended Open = []
 ended (Completed at) = filled (codes ", complete @") (at ∷ [])
 ended (Abandoned at) = filled (codes ", abandon @") (at ∷ [])
 
--- its numbers
-abbrev pub numbers : (n release work deadline value : ℕ) → Text
-numbers n release work deadline value =
-    filled (codes "job @: release @, work @, deadline @, value @") (n ∷ release ∷ work ∷ deadline ∷ value ∷ [])
+-- its numbers: release to deadline, work and value
+abbrev pub numbers : (n release deadline work value : ℕ) → Text
+numbers n release deadline work value =
+    filled (codes "job @: @ to @, work @, value @") (n ∷ release ∷ deadline ∷ work ∷ value ∷ [])
 
 -- all that is told of it
 abbrev pub note : Seen → Text
-note s = numbers s.number s.release s.work s.deadline s.value ++ weighed s ++ ended s.fate
+note s = numbers s.number s.release s.deadline s.work s.value ++ weighed s ++ ended s.fate
 
 -- ---- the bar
 
 -- its front, by whether the job is abandoned
 abbrev pub front : Bool → Text
-front gone = if gone then codes "<path class='g' d='" else codes "<path class='w' d='"
+front gone = if gone then codes "<path class='g' d='" else codes "<path d='"
 
 -- the bar of a job at this height, up to its tooltip
 abbrev pub shape : Window → (y : ℕ) → Seen → Text

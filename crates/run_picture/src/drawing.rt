@@ -1,17 +1,18 @@
 //! The picture as a whole.
-ghost use Rattle.std.specs.Prelude.{◌≡◌, ◌≤◌, ◌++◌, ◌^◌, length, OnOk, IfOk, Option};
+ghost use Rattle.std.specs.Prelude.{◌≡◌, ◌≤◌, ◌++◌, ◌^◌, [], length, OnOk, IfOk, Option};
 ghost use Rattle.charge_ledger.specs.Rows.{IsRunOf};
 ghost use Rattle.dover_model.specs.Instance.{Instance};
 ghost use Rattle.dover_model.specs.Limits.{last_tick};
 ghost use Rattle.dover_model.specs.Run as runs;
+ghost use Rattle.run_picture.specs.Lanes.{lanes_from};
 ghost use Rattle.run_picture.specs.Pictures as pictures;
 
 use crate::frame::{put_axis, put_band_words, put_bands, put_bars_end, put_bars_front, put_page};
 use crate::labels::put_labels;
 use crate::lanes::{Lane, height, lanes, shown, unit_of};
-use crate::legends::put_lanes_legend;
+use crate::legends::{put_lanes_legend, put_load_legend};
 use crate::marks::{put_arrows, put_crosses, put_holds};
-use crate::panels::{put_ready, put_values};
+use crate::panels::{put_columns, put_ready, put_values};
 use crate::plot::Window;
 use crate::processor::pieces;
 use crate::seen::{Seen, told_by};
@@ -25,8 +26,8 @@ use dover_report::{Counts, count, released};
 use std::alloc::Global;
 
 /// The run that prints these steps as SVG: the processor, a lane for each job that the window shows, or above 400 of
-/// them the load in columns, and the values so far. Without a window all of the run is shown. The jobs of the run are
-/// valid for the ratio `k`. Want of memory is the only error.
+/// them, or above 75,000 bytes, the load in columns, and the values so far. Without a window all of the run is shown.
+/// The jobs of the run are valid for the ratio `k`. Want of memory is the only error.
 pub fn picture(
     alloc: Global,
     k: Ratio,
@@ -43,10 +44,8 @@ pub fn picture(
     let seen = told_by(alloc, run, &worths)?;
     let pieces = pieces(alloc, run)?;
     let window = window_of(asked, &jobs);
-    let mut text = Vec::new(alloc);
-    put_drawn(
+    let text = drawn(
         alloc,
-        &mut text,
         window,
         &counts,
         &seen,
@@ -89,11 +88,10 @@ fn last_deadline(jobs: &[Job]) -> u64
     last
 }
 
-/// Appends lanes where the window shows at most 400 jobs, and else the load.
+/// Lanes where the window shows at most 400 jobs and they take at most 75,000 bytes, and else the load.
 #[tactic(auto, unfolding(crate::specs::Pictures::drawn))]
-fn put_drawn(
+fn drawn(
     alloc: Global,
-    text: &mut Vec<u8>,
     window: Window,
     counts: &Counts,
     seen: &[Seen],
@@ -101,19 +99,46 @@ fn put_drawn(
     run: &[Event],
     pieces: &[Piece],
     rows: &[Interval],
-) -> Result<(), Memory>
+) -> Result<Vec<u8>, Memory>
     requires steps { length run.now ≤ 5_000_001 }
     requires jobs { length seen.now ≤ 5_000_001 }
     requires from { window.from ≤ last_tick }
-    ensures { OnOk result (text.new.items
-        ≡ text.old.items ++ pictures.drawn 400 window counts.now seen.now jobs.now run.now pieces.now rows.now) }
+    ensures { IfOk result (λ text. text.items
+        ≡ pictures.drawn 400 window counts.now seen.now jobs.now run.now pieces.now rows.now) }
 {
-    if shown(window, seen) <= 400 {
-        let lanes = lanes(alloc, window, seen)?;
-        return put_by_lanes(text, window, counts, &lanes, jobs, run, pieces, rows);
+    if shown(window, seen) > 400 {
+        return loaded(alloc, window, counts, seen, jobs, run, pieces, rows);
     }
+    let lanes = lanes(alloc, window, seen)?;
+    let mut text = Vec::new(alloc);
+    put_by_lanes(&mut text, window, counts, &lanes, jobs, run, pieces, rows)?;
+    if text.len() <= 75_000 {
+        return Ok(text);
+    }
+    loaded(alloc, window, counts, seen, jobs, run, pieces, rows)
+}
+
+/// The load.
+fn loaded(
+    alloc: Global,
+    window: Window,
+    counts: &Counts,
+    seen: &[Seen],
+    jobs: &[Job],
+    run: &[Event],
+    pieces: &[Piece],
+    rows: &[Interval],
+) -> Result<Vec<u8>, Memory>
+    requires steps { length run.now ≤ 5_000_001 }
+    requires jobs { length seen.now ≤ 5_000_001 }
+    requires from { window.from ≤ last_tick }
+    ensures { IfOk result (λ text. text.items ≡ pictures.by_load
+        window counts.now (lanes_from pictures.nothing [] seen.now) jobs.now run.now pieces.now rows.now) }
+{
     let lanes = lanes(alloc, nothing(), seen)?;
-    put_by_load(text, window, counts, &lanes, jobs, run, pieces)
+    let mut text = Vec::new(alloc);
+    put_by_load(&mut text, window, counts, &lanes, jobs, run, pieces, rows)?;
+    Ok(text)
 }
 
 /// A window that shows no job.
@@ -198,22 +223,41 @@ fn put_under(
 {
     put_ground(text, window, counts, bottom)?;
     put_lanes_legend(text)?;
-    put_all_bands(text, window, bottom, rows)?;
+    put_all_bands(text, window, 1, bottom, rows)?;
     Ok(())
 }
 
-/// Appends the bands and their words.
+/// Appends what stands under the load.
+#[tactic(auto, unfolding(crate::specs::Pictures::under_load))]
+fn put_under_load(
+    text: &mut Vec<u8>,
+    window: Window,
+    counts: &Counts,
+    rows: &[Interval],
+) -> Result<(), Memory>
+    requires { window.from ≤ last_tick }
+    ensures { OnOk result (text.new.items ≡ text.old.items ++ pictures.under_load window counts.now rows.now) }
+{
+    put_ground(text, window, counts, 474)?;
+    put_load_legend(text)?;
+    put_all_bands(text, window, 0, 474, rows)?;
+    Ok(())
+}
+
+/// Appends the bands, so long at least, and their words.
 #[tactic(auto, unfolding(crate::specs::Pictures::all_bands))]
 fn put_all_bands(
     text: &mut Vec<u8>,
     window: Window,
+    least: u64,
     bottom: u64,
     rows: &[Interval],
 ) -> Result<(), Memory>
-    requires { bottom ≤ 2 ^ 39 }
-    ensures { OnOk result (text.new.items ≡ text.old.items ++ pictures.all_bands window bottom rows.now) }
+    requires least { least ≤ 1_290 }
+    requires bottom { bottom ≤ 2 ^ 39 }
+    ensures { OnOk result (text.new.items ≡ text.old.items ++ pictures.all_bands window least bottom rows.now) }
 {
-    put_bands(text, window, bottom, rows)?;
+    put_bands(text, window, least, bottom, rows)?;
     put_band_words(text, window, rows)?;
     Ok(())
 }
@@ -264,19 +308,20 @@ fn put_by_load(
     jobs: &[Job],
     run: &[Event],
     pieces: &[Piece],
+    rows: &[Interval],
 ) -> Result<(), Memory>
     requires steps { length run.now ≤ 5_000_001 }
     requires from { window.from ≤ last_tick }
     ensures { OnOk result (text.new.items
-        ≡ text.old.items ++ pictures.by_load window counts.now lanes.now jobs.now run.now pieces.now) }
+        ≡ text.old.items ++ pictures.by_load window counts.now lanes.now jobs.now run.now pieces.now rows.now) }
 {
-    put_ground(text, window, counts, 348)?;
+    put_under_load(text, window, counts, rows)?;
     put_load(text, window, lanes, jobs, run, pieces)?;
-    put_over(text, window, true, 348, jobs, run)?;
+    put_over(text, window, true, 474, jobs, run)?;
     Ok(())
 }
 
-/// Appends the processor and the ready jobs.
+/// Appends the processor, the ready jobs, and the values by column.
 #[tactic(auto, unfolding(crate::specs::Pictures::load))]
 fn put_load(
     text: &mut Vec<u8>,
@@ -292,6 +337,7 @@ fn put_load(
 {
     put_strip(text, window, 0, lanes, pieces)?;
     put_ready(text, window, jobs, run)?;
+    put_columns(text, window, jobs, run)?;
     Ok(())
 }
 
@@ -473,7 +519,7 @@ fn put_lanes_front(text: &mut Vec<u8>, high: u64) -> Result<(), Memory>
     ensures { OnOk result (text.new.items ≡ text.old.items ++ pictures.lanes_front high) }
 {
     text.extend_from_slice(b"<text class='r' x='82' y='124'>jobs</text>\n")?;
-    put(text, b"<g stroke-width='@'>\n", &[high])?;
+    put(text, b"<g class='w' stroke-width='@'>\n", &[high])?;
     Ok(())
 }
 

@@ -250,39 +250,55 @@ pub fn put_bars_end(text: &mut Vec<u8>) -> Result<(), Memory>
     Ok(())
 }
 
-/// Appends the bands of the intervals that lost value.
+/// Appends the bands of the intervals that lost value, so long at least.
 #[tactic(auto, unfolding(crate::specs::Frame::bands))]
 pub fn put_bands(
     text: &mut Vec<u8>,
     window: Window,
+    least: u64,
     bottom: u64,
     rows: &[Interval],
 ) -> Result<(), Memory>
-    requires { bottom ≤ 2 ^ 40 }
-    ensures { OnOk result (text.new.items ≡ text.old.items ++ frame.bands window bottom rows.now) }
+    requires least { least ≤ 1_290 }
+    requires bottom { bottom ≤ 2 ^ 40 }
+    ensures { OnOk result (text.new.items ≡ text.old.items ++ frame.bands window least bottom rows.now) }
 {
     put_bars_front(text, b'o', bottom.saturating_sub(60))?;
-    put_bands_at(text, window, (bottom + 60) / 2, rows)?;
+    put_bands_at(text, window, least, (bottom + 60) / 2, rows)?;
     put_bars_end(text)?;
     Ok(())
 }
 
 /// Appends the bands, around this height.
-fn put_bands_at(text: &mut Vec<u8>, window: Window, y: u64, rows: &[Interval]) -> Result<(), Memory>
-    ensures { OnOk result (text.new.items ≡ text.old.items ++ frame.bands_at window y rows.now) }
+fn put_bands_at(
+    text: &mut Vec<u8>,
+    window: Window,
+    least: u64,
+    y: u64,
+    rows: &[Interval],
+) -> Result<(), Memory>
+    requires { least ≤ 1_290 }
+    ensures { OnOk result (text.new.items ≡ text.old.items ++ frame.bands_at window least y rows.now) }
 {
     for row in rows {
-        put_band(text, window, y, row)?;
+        put_band(text, window, least, y, row)?;
     }
     Ok(())
 }
 
 /// Appends the band of an interval, if it lost value.
-fn put_band(text: &mut Vec<u8>, window: Window, y: u64, row: &Interval) -> Result<(), Memory>
-    ensures { OnOk result (text.new.items ≡ text.old.items ++ frame.band window y row.now) }
+fn put_band(
+    text: &mut Vec<u8>,
+    window: Window,
+    least: u64,
+    y: u64,
+    row: &Interval,
+) -> Result<(), Memory>
+    requires { least ≤ 1_290 }
+    ensures { OnOk result (text.new.items ≡ text.old.items ++ frame.band window least y row.now) }
 {
     if is_loss(window, row) {
-        put_bar(text, window, 1, row.from, row.until, y)?;
+        put_bar(text, window, least, row.from, row.until, y)?;
     }
     Ok(())
 }

@@ -1,5 +1,6 @@
 //! What is written in the lanes.
 ghost use Rattle.std.specs.Prelude.{◌≡◌, ◌≤◌, ◌++◌, ◌^◌, OnOk};
+ghost use Rattle.std.specs.List.{flat_map};
 ghost use Rattle.run_picture.specs.Labels as labels;
 
 use crate::lanes::{Lane, middle, shows};
@@ -21,6 +22,25 @@ pub fn put_labels(
     if unit < 12 {
         return Ok(());
     }
+    put_group(text, window, unit, lanes)
+}
+
+/// Appends what is written in all lanes, as one group.
+fn put_group(text: &mut Vec<u8>, window: Window, unit: u64, lanes: &[Lane]) -> Result<(), Memory>
+    requires { unit ≤ 18 }
+    ensures { OnOk result (text.new.items ≡ text.old.items ++ labels.group window unit lanes.now) }
+{
+    text.extend_from_slice(b"<g class='j'>\n")?;
+    put_each(text, window, unit, lanes)?;
+    text.extend_from_slice(b"</g>\n")?;
+    Ok(())
+}
+
+/// Appends what is written in each lane.
+fn put_each(text: &mut Vec<u8>, window: Window, unit: u64, lanes: &[Lane]) -> Result<(), Memory>
+    requires { unit ≤ 18 }
+    ensures { OnOk result (text.new.items ≡ text.old.items ++ flat_map (labels.label window unit) lanes.now) }
+{
     for lane in lanes {
         put_label(text, window, unit, lane)?;
     }
@@ -113,7 +133,7 @@ fn put_number_at(text: &mut Vec<u8>, x: u64, y: u64, number: u64) -> Result<(), 
 {
     put(
         text,
-        b"<text class='j' x='@' y='@'>@</text>\n",
+        b"<text x='@' y='@'>@</text>\n",
         &[x + 2, y + 4, number],
     )
 }

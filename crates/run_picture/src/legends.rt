@@ -21,10 +21,10 @@ fn put_labels_style(text: &mut Vec<u8>) -> Result<(), Memory>
     ensures { OnOk result (text.new.items ≡ text.old.items ++ legends.labels_style) }
 {
     text.extend_from_slice(
-        b".j{font-size:10px;paint-order:stroke;stroke:#fff;stroke-width:3px;stroke-linejoin:round}\n",
+        b".j text{font-size:10px;paint-order:stroke;stroke:#fff;stroke-width:3px;stroke-linejoin:round}\n",
     )?;
     text.extend_from_slice(
-        b".v{font-size:9px;fill:#a33c00;paint-order:stroke;stroke:#fff;stroke-width:2px}\n",
+        b"text.v{font-size:9px;fill:#a33c00;paint-order:stroke;stroke:#fff;stroke-width:2px}\n",
     )?;
     Ok(())
 }
@@ -34,7 +34,7 @@ fn put_bars_style(text: &mut Vec<u8>) -> Result<(), Memory>
     ensures { OnOk result (text.new.items ≡ text.old.items ++ legends.bars_style) }
 {
     text.extend_from_slice(
-        b"path{fill:none;pointer-events:none}text{pointer-events:none}.w,.g{pointer-events:stroke}\n",
+        b"path{fill:none;pointer-events:none}text{pointer-events:none}.w path{pointer-events:stroke}\n",
     )?;
     text.extend_from_slice(
         b".w{stroke:#dfe5ec}.g{stroke:#f4d5c4}.h{stroke:#9db8cc}.c{stroke:#0072b2}.t{stroke:#e69f00}\n",
@@ -154,6 +154,15 @@ fn put_losses_words(text: &mut Vec<u8>) -> Result<(), Memory>
     text.extend_from_slice(
         b"<text class='s' x='1139' y='44'>X abandoned: -value against that under way</text>\n",
     )?;
+    Ok(())
+}
+
+/// Appends what bands mean in the load.
+pub fn put_load_legend(text: &mut Vec<u8>) -> Result<(), Memory>
+    ensures { OnOk result (text.new.items ≡ text.old.items ++ legends.load_legend) }
+{
+    text.extend_from_slice(b"<path class='o' stroke-width='12' d='M580 40h14'/>\n")?;
+    text.extend_from_slice(b"<text class='s' x='599' y='44'>interval with lost value</text>\n")?;
     Ok(())
 }
 

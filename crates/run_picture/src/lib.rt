@@ -1,6 +1,7 @@
 //! The picture of a run, as SVG.
 #![tactic(auto)]
 
+mod columns;
 mod drawing;
 mod frame;
 mod labels;

@@ -134,7 +134,7 @@ fn put_cross(text: &mut Vec<u8>, x: u64, y: u64, high: u64) -> Result<(), Memory
 fn put_cross_from(text: &mut Vec<u8>, x: u64, y: u64, high: u64) -> Result<(), Memory>
     ensures { OnOk result (text.new.items ≡ text.old.items ++ marks.cross_from x y high) }
 {
-    put(text, b"M@ @l6 @m0 -@l-6 @", &[x, y, high, high, high])
+    put(text, b"M@ @l6 @m0-@l-6 @", &[x, y, high, high, high])
 }
 
 /// Appends arrows from job to job, where one preempts or else where one takes the processor.
@@ -211,9 +211,9 @@ fn put_arrow(text: &mut Vec<u8>, x: u64, from: u64, until: u64) -> Result<(), Me
 {
     put(text, b"M@ @V@", &[x, from, until])?;
     if from < until {
-        text.extend_from_slice(b"m-2 -4h4l-2 4")?;
+        text.extend_from_slice(b"m-2-4h4l-2 4")?;
     } else {
-        text.extend_from_slice(b"m-2 4h4l-2 -4")?;
+        text.extend_from_slice(b"m-2 4h4l-2-4")?;
     }
     Ok(())
 }

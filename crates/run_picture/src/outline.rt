@@ -81,7 +81,7 @@ fn decided_after(window: Window, jobs: &[Job], event: &Event, value: u64) -> u64
 }
 
 /// The number after a step.
-fn after(measure: Measure, window: Window, jobs: &[Job], event: &Event, number: u64) -> u64
+pub fn after(measure: Measure, window: Window, jobs: &[Job], event: &Event, number: u64) -> u64
     requires { number ≤ 6_000_000_000_000_000 }
     ensures is { result ≡ outlines.after measure window jobs.now event.now number }
     ensures modest { result ≤ number + most_value }
@@ -108,7 +108,7 @@ pub fn greatest(measure: Measure, window: Window, jobs: &[Job], run: &[Event]) -
 }
 
 /// The tick of a step.
-fn tick_of(event: &Event) -> u64
+pub fn tick_of(event: &Event) -> u64
     ensures { result ≡ outlines.tick_of event.now }
 {
     match *event {
@@ -136,7 +136,7 @@ fn pixel_of(outline: &Outline, x: u64, event: &Event) -> u64
 }
 
 /// The height of a number.
-fn rise(outline: &Outline, number: u64) -> u64
+pub fn rise(outline: &Outline, number: u64) -> u64
     ensures { result ≡ outlines.rise outline.now number }
 {
     outline

@@ -2,6 +2,7 @@
 ghost use Rattle.std.specs.Prelude.{◌≡◌, ◌≤◌, ◌++◌, ◌^◌, length, OnOk};
 ghost use Rattle.run_picture.specs.Panels as panels;
 
+use crate::columns::{fullest, put_towers};
 use crate::outline::{Measure, Outline, greatest, put_outline};
 use crate::plot::Window;
 use crate::template::put;
@@ -242,6 +243,101 @@ fn put_ready_border(text: &mut Vec<u8>, most: u64) -> Result<(), Memory>
     put(
         text,
         b"<text class='s' x='1296' y='122'>at most @</text>\n",
+        &[most],
+    )?;
+    Ok(())
+}
+
+/// Appends the panel of the value that is decided in each column.
+#[tactic(auto, unfolding(crate::specs::Panels::columns))]
+pub fn put_columns(
+    text: &mut Vec<u8>,
+    window: Window,
+    jobs: &[Job],
+    run: &[Event],
+) -> Result<(), Memory>
+    requires { length run.now ≤ 5_000_001 }
+    ensures { OnOk result (text.new.items ≡ text.old.items ++ panels.columns window jobs.now run.now) }
+{
+    let most = fullest(Measure::Decided, window, jobs, run);
+    put_columns_by(text, window, most, jobs, run)
+}
+
+/// Appends the panel, where so much value is decided in a column at most.
+#[tactic(auto, unfolding(crate::specs::Panels::columns_by))]
+fn put_columns_by(
+    text: &mut Vec<u8>,
+    window: Window,
+    most: u64,
+    jobs: &[Job],
+    run: &[Event],
+) -> Result<(), Memory>
+    requires { length run.now ≤ 5_000_001 }
+    ensures { OnOk result (text.new.items ≡ text.old.items ++ panels.columns_by window most jobs.now run.now) }
+{
+    put_columns_areas(text, window, most, jobs, run)?;
+    put_columns_border(text, most)?;
+    Ok(())
+}
+
+/// Appends the value completed, and on it the value lost.
+fn put_columns_areas(
+    text: &mut Vec<u8>,
+    window: Window,
+    most: u64,
+    jobs: &[Job],
+    run: &[Event],
+) -> Result<(), Memory>
+    requires { length run.now ≤ 5_000_001 }
+    ensures { OnOk result (text.new.items ≡ text.old.items ++ panels.columns_areas window most jobs.now run.now) }
+{
+    put_towers_area(
+        text,
+        b'L',
+        &measured(window, Measure::Decided, true, most, 348),
+        jobs,
+        run,
+    )?;
+    put_towers_area(
+        text,
+        b'C',
+        &measured(window, Measure::Completed, true, most, 348),
+        jobs,
+        run,
+    )?;
+    Ok(())
+}
+
+/// Appends towers as an area of this class.
+#[tactic(auto, unfolding(crate::specs::Panels::towers_area))]
+fn put_towers_area(
+    text: &mut Vec<u8>,
+    class: u8,
+    outline: &Outline,
+    jobs: &[Job],
+    run: &[Event],
+) -> Result<(), Memory>
+    requires { length run.now ≤ 5_000_001 }
+    ensures { OnOk result (text.new.items
+        ≡ text.old.items ++ panels.towers_area class outline.now jobs.now run.now) }
+{
+    put_area_front(text, class)?;
+    put_towers(text, outline, jobs, run)?;
+    text.extend_from_slice(b"'/>\n")?;
+    Ok(())
+}
+
+/// Appends the words beside the panel, and its border.
+fn put_columns_border(text: &mut Vec<u8>, most: u64) -> Result<(), Memory>
+    ensures { OnOk result (text.new.items ≡ text.old.items ++ panels.columns_border most) }
+{
+    text.extend_from_slice(
+        b"<text class='r' x='82' y='251'>value</text><text class='s r' x='82' y='265'>by column</text>\n",
+    )?;
+    text.extend_from_slice(b"<rect class='f' x='90' y='238' width='1200' height='110'/>\n")?;
+    put(
+        text,
+        b"<text class='s' x='1296' y='248'>at most @</text>\n",
         &[most],
     )?;
     Ok(())

@@ -61,7 +61,7 @@ fn put_front(text: &mut Vec<u8>, gone: bool) -> Result<(), Memory>
     if gone {
         text.extend_from_slice(b"<path class='g' d='")?;
     } else {
-        text.extend_from_slice(b"<path class='w' d='")?;
+        text.extend_from_slice(b"<path d='")?;
     }
     Ok(())
 }
@@ -83,8 +83,8 @@ fn put_note(text: &mut Vec<u8>, seen: &Seen) -> Result<(), Memory>
         text,
         u64::from(seen.number),
         seen.release,
-        seen.work,
         seen.deadline,
+        seen.work,
         seen.value,
     )?;
     put_weighed(text, seen)?;
@@ -92,21 +92,21 @@ fn put_note(text: &mut Vec<u8>, seen: &Seen) -> Result<(), Memory>
     Ok(())
 }
 
-/// Appends the numbers of a job.
+/// Appends the numbers of a job: release to deadline, work and value.
 fn put_job_numbers(
     text: &mut Vec<u8>,
     number: u64,
     release: u64,
-    work: u64,
     deadline: u64,
+    work: u64,
     value: u64,
 ) -> Result<(), Memory>
-    ensures { OnOk result (text.new.items ≡ text.old.items ++ windows.numbers number release work deadline value) }
+    ensures { OnOk result (text.new.items ≡ text.old.items ++ windows.numbers number release deadline work value) }
 {
     put(
         text,
-        b"job @: release @, work @, deadline @, value @",
-        &[number, release, work, deadline, value],
+        b"job @: @ to @, work @, value @",
+        &[number, release, deadline, work, value],
     )
 }
 
@@ -115,9 +115,9 @@ fn put_weighed(text: &mut Vec<u8>, seen: &Seen) -> Result<(), Memory>
     ensures { OnOk result (text.new.items ≡ text.old.items ++ windows.weighed seen.now) }
 {
     if seen.is_gone() {
-        put(text, b" against @ under way", &[seen.against])?;
+        put(text, b" against @", &[seen.against])?;
     } else if seen.took {
-        put(text, b" against @ under way, taken", &[seen.against])?;
+        put(text, b" against @, taken", &[seen.against])?;
     }
     Ok(())
 }

@@ -12,6 +12,7 @@ use Rattle.dover_model.specs.State.{privileged, value_sum}
 use Rattle.dover_model.specs.Step.{Move, Prints, Waits, Ticks}
 use Rattle.dover_model.specs.Run.{Step, event_of, printed_of, run}
 use Rattle.charge_ledger.specs.Rows.{IsRunOf, weight_of, weights}
+use Rattle.room_ledger.specs.Rooms.{room_before, room_of_step, rooms}
 
 -- a step beside what is weighed, and those behind it
 pub zip_next : (steps : List Event) (worths : List ℕ) (i : ℕ) (e : Event) (w : ℕ) → e ≡ get_or steps i e
@@ -46,3 +47,19 @@ pub same_length : (k : Fraction) (steps : List Event) (J : Instance) → IsRunOf
     → worths ≡ weights J
     → length worths ≡ length steps
 same_length k steps J of worths are = ap length are ∙ as_many (run J) ∙ ap length of.prints
+
+-- as many rooms are left as steps are printed
+rooms_many : (steps : List Step) → length (filter_map room_of_step steps) ≡ length (printed_of steps)
+rooms_many [] = refl
+rooms_many (x ∷ steps) = by_move x.move (rooms_many steps) where
+  by_move : (m : Move) → length (filter_map room_of_step steps) ≡ length (printed_of steps)
+      → length (cons_option (option_map (room_before x.before) (event_of m)) (filter_map room_of_step steps))
+      ≡ length (cons_option (event_of m) (printed_of steps))
+  by_move (Prints e) same = ap suc same
+  by_move (Waits n) same = same
+  by_move Ticks same = same
+
+-- of a run
+pub rooms_length : (k : Fraction) (steps : List Event) (J : Instance) → IsRunOf k steps J → (leaves : List ℕ)
+    → leaves ≡ rooms J → length leaves ≡ length steps
+rooms_length k steps J of leaves are = ap length are ∙ rooms_many (run J) ∙ ap length of.prints

@@ -1,9 +1,10 @@
 -- The story of a job, step by step.
 use Rattle.std.proofs.Common.{◌≡◌, ℕ, zero, suc, ◌+◌, ◌≤◌, ◌<◌, List, [], ◌∷◌, ◌++◌, length, drop, get_or, sym, ap}
-use Rattle.std.proofs.Common.{◌∙◌, append_assoc, append-nil}
+use Rattle.std.proofs.Common.{◌∙◌, append_assoc, append-nil, add-one, drop-cons}
 use Rattle.std.proofs.Common.{Bool, false, arith}
+use Rattle.std.proofs.lemmas.List.{drop_all}
 use Rattle.std.specs.Prelude.{Some, None, slice_get}
-use Rattle.std.specs.List.{AllByRecursion, zip}
+use Rattle.std.specs.List.{AllByRecursion}
 use Rattle.dover_model.specs.declared.events.Event.{Event}
 use Rattle.dover_model.specs.JobFacts.{JobFacts}
 use Rattle.dover_model.specs.Instance.{Instance}
@@ -11,8 +12,9 @@ use Rattle.dover_model.specs.Fraction.{Fraction}
 use Rattle.dover_report.specs.Counts.{jobs_released}
 use Rattle.dover_report.proofs.Counting.{jobs_are}
 use Rattle.charge_ledger.specs.Rows.{IsRunOf, weights}
-use Rattle.run_view.specs.Why.{told, on_after, story_from, asked, unknown, answer, why}
-use Rattle.run_view.proofs.Stepping.{zip_next, zip_end}
+use Rattle.room_ledger.specs.Rooms.{rooms}
+use Rattle.run_view.specs.Why.{told, on_after, starts_first, work_of, story_from, asked, unknown, answer, why}
+use Rattle.run_view.specs.declared.story.Weighed.{Weighed}
 
 -- what is weighed is small
 pub small_at : (ns : List ℕ) (i : ℕ) → AllByRecursion (λ n. n ≤ 10_000_000_000_000) ns
@@ -21,31 +23,61 @@ small_at [] i all = omega arith
 small_at (n ∷ ns) zero all = all.0
 small_at (n ∷ ns) (suc i) all = small_at ns i all.1
 
-module _ (k : Fraction) (n value : ℕ) (steps : List Event) (worths : List ℕ) where
+-- the item at an index, and those behind it
+pub one_next : {X : Type 0} (xs : List X) (i : ℕ) (x : X) → x ≡ get_or xs i x → i < length xs
+    → drop i xs ≡ x ∷ drop (i + 1) xs
+one_next xs i x is there = drop-cons xs i x there ∙ ap (λ y. y ∷ drop (suc i) xs) (sym is)
+    ∙ ap (λ m. x ∷ drop m xs) (sym (add-one i))
+
+module _ (k : Fraction) (n value : ℕ) (jobs : List JobFacts) (steps : List Event) (worths rooms : List ℕ) where
+  -- what is to be told from a place on
+  abbrev pub rest : Bool → ℕ → List ℕ
+  rest on i = story_from k n value jobs on (drop i steps) (drop i worths) (drop i rooms)
+
   -- one step more
-  pub told_more : (i : ℕ) (e : Event) (w : ℕ) (on turned : Bool) (text more whole : List ℕ)
-      → e ≡ get_or steps i e → w ≡ get_or worths i w → i < length steps → length worths ≡ length steps
-      → turned ≡ on_after n on e → more ≡ text ++ told k n value on w e
-      → text ++ story_from k n value on (drop i (zip steps worths)) ≡ whole
-      → more ++ story_from k n value turned (drop (i + 1) (zip steps worths)) ≡ whole
-  told_more i e w on turned text more whole is weighs there same turns longer before =
-      let rest = drop (i + 1) (zip steps worths) in
-      ap (λ t. t ++ story_from k n value turned rest) longer
-      ∙ append_assoc text (told k n value on w e) (story_from k n value turned rest)
-      ∙ ap (λ b. text ++ (told k n value on w e ++ story_from k n value b rest)) turns
-      ∙ ap (λ l. text ++ story_from k n value on l) (sym (zip_next steps worths i e w is weighs there same))
+  pub told_more : (i : ℕ) (e : Event) (w r : ℕ) (on starts turned : Bool) (x : Weighed) (text more whole : List ℕ)
+      → e ≡ get_or steps i e → w ≡ get_or worths i w → r ≡ get_or rooms i r → i < length steps
+      → length worths ≡ length steps → length rooms ≡ length steps
+      → starts ≡ starts_first n (drop (i + 1) steps) → turned ≡ on_after n on e
+      → x ≡ record { worth = w; work = work_of jobs e; room = r }
+      → more ≡ text ++ told k n value on starts x e → text ++ rest on i ≡ whole
+      → more ++ rest turned (i + 1) ≡ whole
+  told_more i e w r on starts turned x text more whole is weighs leaves there same as_many begins turns about longer
+      before =
+      let es = drop (i + 1) steps in let ws = drop (i + 1) worths in let rs = drop (i + 1) rooms in
+      ap (λ t. t ++ rest turned (i + 1)) longer ∙ append_assoc text (told k n value on starts x e) (rest turned (i + 1))
+      ∙ ap (λ b. text ++ (told k n value on starts x e ++ story_from k n value jobs b es ws rs)) turns
+      ∙ ap (λ b. text ++ (told k n value on b x e ++ story_from k n value jobs (on_after n on e) es ws rs)) begins
+      ∙ ap (λ y. text ++ (told k n value on (starts_first n es) y e ++ story_from k n value jobs (on_after n on e) es ws
+      rs)) about
+      ∙ ap (λ zs. text ++ story_from k n value jobs on (e ∷ es) (w ∷ ws) zs)
+      (sym (one_next rooms i r leaves (omega (arith, there, as_many))))
+      ∙ ap (λ ys. text ++ story_from k n value jobs on (e ∷ es) ys (drop i rooms))
+      (sym (one_next worths i w weighs (omega (arith, there, same))))
+      ∙ ap (λ xs. text ++ story_from k n value jobs on xs (drop i worths) (drop i rooms))
+      (sym (one_next steps i e is there))
       ∙ before
 
   -- all steps
-  pub told_all : (i : ℕ) (on : Bool) (text whole : List ℕ) → length steps ≤ i
-      → text ++ story_from k n value on (drop i (zip steps worths)) ≡ whole → text ≡ whole
+  pub told_all : (i : ℕ) (on : Bool) (text whole : List ℕ) → length steps ≤ i → text ++ rest on i ≡ whole
+      → text ≡ whole
   told_all i on text whole past before =
-      sym (append-nil text) ∙ ap (λ l. text ++ story_from k n value on l) (sym (zip_end steps worths i past)) ∙ before
+      sym (append-nil text)
+      ∙ ap (λ xs. text ++ story_from k n value jobs on xs (drop i worths) (drop i rooms)) (sym (drop_all i steps past))
+      ∙ before
+
+  -- whether the step behind starts the job
+  pub starts_some : (i : ℕ) (e : Event) (b : Bool) → e ≡ get_or steps i e → i < length steps
+      → b ≡ starts_first n (e ∷ drop (i + 1) steps) → b ≡ starts_first n (drop i steps)
+  starts_some i e b is there same = same ∙ ap (starts_first n) (sym (one_next steps i e is there))
+
+  pub starts_none : (i : ℕ) → length steps ≤ i → false ≡ starts_first n (drop i steps)
+  starts_none i past = ap (starts_first n) (sym (drop_all i steps past))
 
 module _ (k : Fraction) (steps : List Event) (J : Instance) (of : IsRunOf k steps J) (n : ℕ) (jobs : List JobFacts)
     (released : jobs ≡ jobs_released steps) where
   -- the jobs are those of the run
-  same_jobs : jobs ≡ J.jobs
+  pub same_jobs : jobs ≡ J.jobs
   same_jobs = released ∙ jobs_are k steps J of
 
   -- there is no such job
@@ -55,12 +87,15 @@ module _ (k : Fraction) (steps : List Event) (J : Instance) (of : IsRunOf k step
       ∙ ap (answer n J) (sym (ap (λ js. slice_get js n) (sym same_jobs) ∙ none))
 
   -- the job's story
-  pub why_some : (j : JobFacts) (worths a b c : List ℕ) → slice_get jobs n ≡ Some j → worths ≡ weights J → a ≡ []
-      → b ≡ a ++ asked n j
-      → c ≡ b ++ story_from k n j.value false (zip steps worths) → c ≡ why n J
-  why_some j worths a b c some weighed first middle last =
-      last ∙ ap (λ t. t ++ story_from k n j.value false (zip steps worths)) (middle ∙ ap (λ t. t ++ asked n j) first)
-      ∙ ap (λ (r : Fraction). asked n j ++ story_from r n j.value false (zip steps worths)) (sym of.ratio)
-      ∙ ap (λ ws. asked n j ++ story_from J.rules.ratio n j.value false (zip steps ws)) weighed
-      ∙ ap (λ es. asked n j ++ story_from J.rules.ratio n j.value false (zip es (weights J))) (sym of.prints)
+  pub why_some : (j : JobFacts) (worths leaves a b c : List ℕ) → slice_get jobs n ≡ Some j → worths ≡ weights J
+      → leaves ≡ rooms J → a ≡ [] → b ≡ a ++ asked n j
+      → c ≡ b ++ story_from k n j.value jobs false steps worths leaves → c ≡ why n J
+  why_some j worths leaves a b c some weighed left first middle last =
+      last ∙ ap (λ t. t ++ story_from k n j.value jobs false steps worths leaves)
+      (middle ∙ ap (λ t. t ++ asked n j) first)
+      ∙ ap (λ (r : Fraction). asked n j ++ story_from r n j.value jobs false steps worths leaves) (sym of.ratio)
+      ∙ ap (λ js. asked n j ++ story_from J.rules.ratio n j.value js false steps worths leaves) same_jobs
+      ∙ ap (λ ws. asked n j ++ story_from J.rules.ratio n j.value J.jobs false steps ws leaves) weighed
+      ∙ ap (λ rs. asked n j ++ story_from J.rules.ratio n j.value J.jobs false steps (weights J) rs) left
+      ∙ ap (λ es. asked n j ++ story_from J.rules.ratio n j.value J.jobs false es (weights J) (rooms J)) (sym of.prints)
       ∙ ap (answer n J) (sym (ap (λ js. slice_get js n) (sym same_jobs) ∙ some))

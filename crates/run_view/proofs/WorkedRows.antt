@@ -15,7 +15,7 @@ take_over = one 1 1 (job 0 3 30 3 ∷ job 0 2 4 2 ∷ job 0 12 12 12 ∷ [])
 displaced_job : why 0 take_over ≡
     codes "job 0: release 0, work 3, deadline 30, value 3\n"
     ++ codes "at 0 it runs\n"
-    ++ codes "at 0 it is preempted by job 1, which is due earlier\n"
+    ++ codes "at 0 it is preempted by job 1, which is due earlier, its work 2 within the room 27\n"
     ++ codes "at 0 it is displaced by job 2\n"
     ++ codes "at 12 it runs\n"
     ++ codes "at 15 it is completed\n"
@@ -24,7 +24,7 @@ displaced_job = refl
 
 abandoned_job : why 1 take_over ≡
     codes "job 1: release 0, work 2, deadline 4, value 2\n"
-    ++ codes "at 0 it preempts job 0, which is due later\n"
+    ++ codes "at 0 it preempts job 0, which is due later, its work 2 within the room 27\n"
     ++ codes "at 0 it is displaced by job 2\n"
     ++ codes "at 2 it is abandoned, its value 2 against 12 under way: 1 * 0^2 = 0 not above 1 * 12^2 = 144; heavy from 25 on\n"
 unfolding digits
@@ -32,10 +32,20 @@ abandoned_job = refl
 
 takes_job : why 2 take_over ≡
     codes "job 2: release 0, work 12, deadline 12, value 12\n"
+    ++ codes "at 0 it waits, its work 12 above the room 2\n"
     ++ codes "at 0 it takes the processor from job 1, its value 12 against 5 under way: 1 * 7^2 = 49 above 1 * 5^2 = 25; heavy from 11 on\n"
     ++ codes "at 12 it is completed\n"
 unfolding digits
 takes_job = refl
+
+-- a job that is due no earlier waits, whatever room there is
+waits_behind : why 1 (one 1 1 (job 0 3 10 3 ∷ job 1 2 12 2 ∷ [])) ≡
+    codes "job 1: release 1, work 2, deadline 12, value 2\n"
+    ++ codes "at 1 it waits, due no earlier than the job that runs, its work 2 within the room 7\n"
+    ++ codes "at 3 it runs\n"
+    ++ codes "at 5 it is completed\n"
+unfolding digits
+waits_behind = refl
 
 unknown_job : why 3 take_over ≡
     codes "no job 3 among 3\n"

@@ -1,14 +1,18 @@
 -- What happened to one job of a run, and by which test.
 use Rattle.std.specs.Prelude.{ℕ, ◌+◌, ◌-◌, ◌*◌, List, [], ◌∷◌, ◌++◌, length, Bool, false, not, ◌&&◌, ◌||◌, ◌==◌}
-use Rattle.std.specs.Prelude.{if◌then◌else◌, Option, Some, None, slice_get, codes}
+use Rattle.std.specs.Prelude.{nat_le, if◌then◌else◌, Option, Some, None, slice_get, codes}
+use Rattle.std.specs.Option.{option_map_or}
 use Rattle.dover_model.specs.declared.events.Event.{Event}
-use Rattle.dover_model.specs.declared.events.Event.TheVariants.{Run, Preempt, Take, Complete, Abandon}
+use Rattle.dover_model.specs.declared.events.Event.TheVariants.{Release, Run, Preempt, Take, Complete, Abandon, End}
 use Rattle.dover_model.specs.Fraction.{Fraction}
 use Rattle.dover_model.specs.Greatest.{greatest}
 use Rattle.dover_model.specs.JobFacts.{JobFacts}
 use Rattle.dover_model.specs.Instance.{Instance}
 use Rattle.dover_model.specs.Orders.{is_heavy}
-use Rattle.run_view.specs.Moments.{moments}
+use Rattle.dover_model.specs.Run.{printed}
+use Rattle.charge_ledger.specs.Rows.{weights}
+use Rattle.room_ledger.specs.Rooms.{rooms}
+use Rattle.run_view.specs.declared.story.Weighed.{Weighed}
 use Rattle.run_view.specs.Pieces.{Text, numbered}
 
 -- the least value that is heavy against w
@@ -61,26 +65,58 @@ gone k n value at m worth = if m == n then goes k value at worth else []
 abbrev pub own : Bool → ℕ → Text → Text
 own mine at words = if mine then stamped at words else []
 
+-- whether a work is within the room
+abbrev pub side : Bool → Text
+side fits = if fits then codes " within" else codes " above"
+
+-- the test of a fresh job's work against the room of the running and the held jobs, and the end of the line
+abbrev pub fitted : (work room : ℕ) → Text
+fitted work room = numbered (codes ", its work ") work ++ side (nat_le work room) ++ numbered (codes " the room ") room
+    ++ codes "\n"
+
 -- what a preemption means for job n
-abbrev pub preempted : (n at stops starts : ℕ) → Text
-preempted n at stops starts = if starts == n then stamped_with at (codes " it preempts") stops
-    (codes ", which is due later\n")
-    else (if stops == n then stamped_with at (codes " it is preempted by") starts
-    (codes ", which is due earlier\n") else [])
+abbrev pub preempted : (n at stops starts work room : ℕ) → Text
+preempted n at stops starts work room = if starts == n
+    then stamped_with at (codes " it preempts") stops (codes ", which is due later") ++ fitted work room
+    else (if stops == n then stamped_with at (codes " it is preempted by") starts (codes ", which is due earlier")
+    ++ fitted work room else [])
+
+-- where its work is within the room, a job waits since it is due no earlier than the job that runs
+abbrev pub reason : ℕ → (fits : Bool) → Text
+reason at fits = if fits then stamped at (codes " it waits, due no earlier than the job that runs")
+    else stamped at (codes " it waits")
+
+-- a fresh job waits
+abbrev pub waits : (at work room : ℕ) → Text
+waits at work room = reason at (nat_le work room) ++ fitted work room
+
+-- what a release means for job n, which starts at once or else waits
+abbrev pub arrived : (n m at : ℕ) (starts : Bool) (work room : ℕ) → Text
+arrived n m at starts work room = if (m == n) && not starts then waits at work room else []
 
 -- what a take means for job n of this value, which runs or is held where on is true
 abbrev pub taken : Fraction → (n value : ℕ) → Bool → (at stops starts worth : ℕ) → Text
 taken k n value on at stops starts worth = if starts == n then takes k value at stops worth
     else (if on then stamped_with at (codes " it is displaced by") starts (codes "\n") else [])
 
--- what a step means for it, where the jobs under way are worth so much
-abbrev pub told : Fraction → (n value : ℕ) → Bool → ℕ → Event → Text
-told k n value on worth (Run at m) = own (m == n) at (codes " it runs\n")
-told k n value on worth (Preempt at stops starts) = preempted n at stops starts
-told k n value on worth (Take at stops starts) = taken k n value on at stops starts worth
-told k n value on worth (Complete at m) = own (m == n) at (codes " it is completed\n")
-told k n value on worth (Abandon at m) = gone k n value at m worth
-told k n value on worth _ = []
+-- the work of a job
+abbrev pub work_in : List JobFacts → ℕ → ℕ
+work_in jobs n = option_map_or (λ j. j.work) (slice_get jobs n) 0
+
+-- the work that is tested at a step: that of the job that preempts
+abbrev pub work_of : List JobFacts → Event → ℕ
+work_of jobs (Preempt at stops starts) = work_in jobs starts
+work_of jobs _ = 0
+
+-- what a step means for it, which starts next or doesn't
+abbrev pub told : Fraction → (n value : ℕ) → (on starts : Bool) → Weighed → Event → Text
+told k n value on starts x (Release m job) = arrived n m job.release starts job.work x.room
+told k n value on starts x (Run at m) = own (m == n) at (codes " it runs\n")
+told k n value on starts x (Preempt at stops new) = preempted n at stops new x.work x.room
+told k n value on starts x (Take at stops new) = taken k n value on at stops new x.worth
+told k n value on starts x (Complete at m) = own (m == n) at (codes " it is completed\n")
+told k n value on starts x (Abandon at m) = gone k n value at m x.worth
+told k n value on starts x (End sum) = []
 
 -- whether job n runs or is held after a step
 abbrev pub on_after : ℕ → Bool → Event → Bool
@@ -90,10 +126,19 @@ on_after n on (Take at stops starts) = starts == n
 on_after n on (Complete at m) = on && not (m == n)
 on_after n on _ = on
 
--- what these steps mean for it
-abbrev pub story_from : Fraction → (n value : ℕ) → Bool → List (Event × ℕ) → Text
-story_from k n value on [] = []
-story_from k n value on (e_w ∷ more) = told k n value on e_w.1 e_w.0 ++ story_from k n value (on_after n on e_w.0) more
+-- whether the first of these steps starts job n
+abbrev pub starts_first : ℕ → List Event → Bool
+starts_first n [] = false
+starts_first n (Run at m ∷ steps) = m == n
+starts_first n (Preempt at stops starts ∷ steps) = starts == n
+starts_first n (_ ∷ steps) = false
+
+-- what these steps mean for it, before each of which the jobs under way are worth so much and leave so much room
+abbrev pub story_from : Fraction → (n value : ℕ) → List JobFacts → Bool → List Event → (worths rooms : List ℕ) → Text
+story_from k n value jobs on (e ∷ steps) (worth ∷ worths) (room ∷ rooms) =
+    told k n value on (starts_first n steps) (record { worth = worth; work = work_of jobs e; room = room }) e
+    ++ story_from k n value jobs (on_after n on e) steps worths rooms
+story_from k n value jobs on _ _ _ = []
 
 -- there is no such job
 abbrev pub unknown : ℕ → ℕ → Text
@@ -102,7 +147,7 @@ unknown n count = numbered (codes "no job ") n ++ numbered (codes " among ") cou
 -- the text on job n, if there is one
 abbrev pub answer : ℕ → Instance → Option JobFacts → Text
 answer n J None = unknown n (length J.jobs)
-answer n J (Some j) = asked n j ++ story_from J.rules.ratio n j.value false (moments J)
+answer n J (Some j) = asked n j ++ story_from J.rules.ratio n j.value J.jobs false (printed J) (weights J) (rooms J)
 
 -- the whole text
 abbrev pub why : ℕ → Instance → Text

@@ -1,7 +1,8 @@
 //! What happened to one job.
-ghost use Rattle.std.specs.Prelude.{◌≡◌, ◌≤◌, ◌++◌, ◌*◌, Bool, false, length, codes, OnOk, IfOk};
-ghost use Rattle.std.specs.List.{AllByRecursion, zip};
+ghost use Rattle.std.specs.Prelude.{◌≡◌, ◌≤◌, ◌++◌, ◌∷◌, ◌*◌, Bool, List, false, length, drop, codes, OnOk, IfOk};
+ghost use Rattle.std.specs.List.{AllByRecursion};
 ghost use Rattle.charge_ledger.specs.Rows.{IsRunOf};
+ghost use Rattle.dover_model.specs.declared.events.Event.{Event};
 ghost use Rattle.dover_model.specs.Instance.{Instance};
 ghost use Rattle.dover_model.specs.Limits.{most_total, most_value};
 ghost use Rattle.run_view.specs.Why as story;
@@ -11,6 +12,7 @@ use crate::threshold::least_heavy;
 use charge_ledger::weights;
 use dover_model::{Event, Job, Memory, Ratio};
 use dover_report::released;
+use room_ledger::rooms;
 use std::alloc::Global;
 
 /// The job that is asked about.
@@ -20,6 +22,17 @@ pub struct Asked {
     pub k: Ratio,
     pub number: u32,
     pub value: u64,
+}
+
+/// What is weighed at a step.
+#[derive(Clone, Copy, Debug, PartialEq, Eq)]
+pub struct Weighed {
+    /// What the running and the held jobs are worth.
+    pub worth: u64,
+    /// The work of the job that preempts, in ticks.
+    pub work: u64,
+    /// The room that the running and the held jobs leave a fresh job, in ticks.
+    pub room: u64,
 }
 
 /// What happened to the job of this number in the run that prints these steps, and by which test, line by line; one
@@ -35,13 +48,14 @@ pub fn why(alloc: Global, k: Ratio, run: &[Event], number: u32) -> Result<Vec<u8
         return Ok(text);
     };
     let worths = weights(alloc, k, run)?;
+    let rooms = rooms(alloc, k, &jobs, run)?;
     put_asked(&mut text, number, job)?;
     let asked = Asked {
         k,
         number,
         value: job.value(),
     };
-    put_story(&mut text, &asked, run, &worths)?;
+    put_story(&mut text, &asked, &jobs, run, &worths, &rooms)?;
     Ok(text)
 }
 
@@ -68,20 +82,76 @@ fn put_asked(text: &mut Vec<u8>, number: u32, job: &Job) -> Result<(), Memory>
     Ok(())
 }
 
-/// Appends what these steps mean for the job, each with what the jobs under way are worth before it.
-fn put_story(text: &mut Vec<u8>, asked: &Asked, run: &[Event], worths: &[u64]) -> Result<(), Memory>
+/// Appends what these steps mean for the job, before each of which the jobs under way are worth so much and leave so
+/// much room.
+fn put_story(
+    text: &mut Vec<u8>,
+    asked: &Asked,
+    jobs: &[Job],
+    run: &[Event],
+    worths: &[u64],
+    rooms: &[u64],
+) -> Result<(), Memory>
     requires same { length worths.now ≡ length run.now }
+    requires as_many { length rooms.now ≡ length run.now }
     requires value { asked.now.value ≤ most_value }
     requires small { AllByRecursion (λ worth. worth ≤ most_total) worths.now }
-    ensures { OnOk result (text.new.items ≡ text.old.items
-        ++ story.story_from asked.now.k asked.now.number asked.now.value false (zip run.now worths.now)) }
+    ensures { OnOk result (text.new.items ≡ text.old.items ++ story.story_from
+        asked.now.k asked.now.number asked.now.value jobs.now false run.now worths.now rooms.now) }
 {
     let mut on = false;
     for (index, event) in run.iter().enumerate() {
-        put_told(text, asked, on, event, worths[index])?;
+        let weighed = Weighed {
+            worth: worths[index],
+            work: work_of(jobs, event),
+            room: rooms[index],
+        };
+        let starts = starts_at(asked.number, run, index + 1);
+        put_told(text, asked, on, starts, &weighed, event)?;
         on = is_on_after(asked.number, on, event);
     }
     Ok(())
+}
+
+/// The work that is tested at a step: that of the job that preempts.
+fn work_of(jobs: &[Job], event: &Event) -> u64
+    ensures { result ≡ story.work_of jobs.now event.now }
+{
+    match event {
+        Event::Preempt { starts, .. } => work_in(jobs, *starts),
+        _ => 0,
+    }
+}
+
+/// The work of a job.
+fn work_in(jobs: &[Job], number: u32) -> u64
+    ensures { result ≡ story.work_in jobs.now number }
+{
+    match jobs.get(number as usize) {
+        Some(job) => job.work(),
+        None => 0,
+    }
+}
+
+/// Whether the step at this place starts the job of this number.
+fn starts_at(number: u32, run: &[Event], index: usize) -> bool
+    ensures { result ≡ story.starts_first number (drop index run.now) }
+{
+    match run.get(index) {
+        Some(event) => starts(number, event),
+        None => false,
+    }
+}
+
+/// Whether a step starts the job of this number.
+fn starts(number: u32, event: &Event) -> bool
+    ensures { (more : List Event) → result ≡ story.starts_first number (event.now ∷ more) }
+{
+    match event {
+        Event::Run { number: other, .. } => *other == number,
+        Event::Preempt { starts, .. } => *starts == number,
+        _ => false,
+    }
 }
 
 /// Whether the job runs or is held after a step.
@@ -97,20 +167,29 @@ fn is_on_after(number: u32, on: bool, event: &Event) -> bool
     }
 }
 
-/// Appends what a step means for the job, which runs or is held where `on` is true.
+/// Appends what a step means for the job, which runs or is held where `on` is true, and starts next where `starts` is.
 fn put_told(
     text: &mut Vec<u8>,
     asked: &Asked,
     on: bool,
+    starts: bool,
+    weighed: &Weighed,
     event: &Event,
-    worth: u64,
 ) -> Result<(), Memory>
     requires value { asked.now.value ≤ most_value }
-    requires worth { worth ≤ most_total }
-    ensures { OnOk result (text.new.items
-        ≡ text.old.items ++ story.told asked.now.k asked.now.number asked.now.value on worth event.now) }
+    requires worth { weighed.now.worth ≤ most_total }
+    ensures { OnOk result (text.new.items ≡ text.old.items
+        ++ story.told asked.now.k asked.now.number asked.now.value on starts weighed.now event.now) }
 {
     match *event {
+        Event::Release { number, job } => put_arrived(
+            text,
+            asked.number,
+            number,
+            starts,
+            &job,
+            weighed.room,
+        ),
         Event::Run { at, number } => put_own(text, number == asked.number, at, b" it runs\n"),
         Event::Preempt { at, stops, starts } => put_preempted(
             text,
@@ -118,16 +197,24 @@ fn put_told(
             at,
             stops,
             starts,
+            weighed,
         ),
-        Event::Take { at, stops, starts } => put_taken(text, asked, on, at, stops, starts, worth),
+        Event::Take { at, stops, starts } => put_taken(
+            text,
+            asked,
+            on,
+            at,
+            stops,
+            starts,
+            weighed.worth,
+        ),
         Event::Complete { at, number } => put_own(
             text,
             number == asked.number,
             at,
             b" it is completed\n",
         ),
-        Event::Abandon { at, number } => put_gone(text, asked, at, number, worth),
-        Event::Release { .. } => Ok(()),
+        Event::Abandon { at, number } => put_gone(text, asked, at, number, weighed.worth),
         Event::End { .. } => Ok(()),
     }
 }
@@ -149,22 +236,90 @@ fn put_preempted(
     at: u64,
     stops: u32,
     starts: u32,
+    weighed: &Weighed,
 ) -> Result<(), Memory>
-    ensures { OnOk result (text.new.items ≡ text.old.items ++ story.preempted number at stops starts) }
+    ensures { OnOk result (text.new.items ≡ text.old.items
+        ++ story.preempted number at stops starts weighed.now.work weighed.now.room) }
 {
     if starts == number {
-        return put_stamped_with(text, at, b" it preempts", stops, b", which is due later\n");
+        put_stamped_with(text, at, b" it preempts", stops, b", which is due later")?;
+        return put_fitted(text, weighed.work, weighed.room);
     }
     if stops == number {
-        return put_stamped_with(
+        put_stamped_with(
             text,
             at,
             b" it is preempted by",
             starts,
-            b", which is due earlier\n",
-        );
+            b", which is due earlier",
+        )?;
+        return put_fitted(text, weighed.work, weighed.room);
     }
     Ok(())
+}
+
+/// Appends the test of a fresh job's work against the room of the running and the held jobs.
+fn put_fitted(text: &mut Vec<u8>, work: u64, room: u64) -> Result<(), Memory>
+    ensures { OnOk result (text.new.items ≡ text.old.items ++ story.fitted work room) }
+{
+    put(text, b", its work ", work)?;
+    put_side(text, work <= room)?;
+    put(text, b" the room ", room)?;
+    text.extend_from_slice(b"\n")?;
+    Ok(())
+}
+
+/// Appends whether a work is within the room.
+fn put_side(text: &mut Vec<u8>, fits: bool) -> Result<(), Memory>
+    ensures { OnOk result (text.new.items ≡ text.old.items ++ story.side fits) }
+{
+    if fits {
+        text.extend_from_slice(b" within")?;
+    } else {
+        text.extend_from_slice(b" above")?;
+    }
+    Ok(())
+}
+
+/// Appends what a release means for the job of this number, which starts at once or else waits.
+fn put_arrived(
+    text: &mut Vec<u8>,
+    number: u32,
+    other: u32,
+    starts: bool,
+    job: &Job,
+    room: u64,
+) -> Result<(), Memory>
+    ensures { OnOk result (text.new.items
+        ≡ text.old.items ++ story.arrived number other job.now.release starts job.now.work room) }
+{
+    if other == number && !starts {
+        return put_waits(text, job.release(), job.work(), room);
+    }
+    Ok(())
+}
+
+/// Appends why a job waits.
+fn put_waits(text: &mut Vec<u8>, at: u64, work: u64, room: u64) -> Result<(), Memory>
+    ensures { OnOk result (text.new.items ≡ text.old.items ++ story.waits at work room) }
+{
+    put_reason(text, at, work <= room)?;
+    put_fitted(text, work, room)?;
+    Ok(())
+}
+
+/// Appends that a job waits, and why where its work is within the room.
+fn put_reason(text: &mut Vec<u8>, at: u64, fits: bool) -> Result<(), Memory>
+    ensures { OnOk result (text.new.items ≡ text.old.items ++ story.reason at fits) }
+{
+    if fits {
+        return put_stamped(
+            text,
+            at,
+            b" it waits, due no earlier than the job that runs",
+        );
+    }
+    put_stamped(text, at, b" it waits")
 }
 
 /// Appends what a take means for the job, which runs or is held where `on` is true.

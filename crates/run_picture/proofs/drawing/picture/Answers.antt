@@ -1,4 +1,4 @@
-use Rattle.std.proofs.Common.{◌≡◌, ◌++◌, refl, ap, ◌∙◌}
+use Rattle.std.proofs.Common.{◌≡◌, refl, ap, ◌∙◌}
 use Rattle.dover_report.specs.Counts.{counts_of, jobs_released}
 use Rattle.dover_report.proofs.Counting.{few_steps}
 use Rattle.run_view.proofs.Stepping.{same_length}
@@ -15,11 +15,11 @@ told_by-requires c = record {
       (c.deref-2.ensures.value ∙ c.in_ok-worths.ensures.are c.requires.0 c.requires.1);
 }
 
-pub put_drawn-requires-clause-steps : goal.put_drawn-requires-clause-steps
-put_drawn-requires-clause-steps c = few_steps c.args.k c.args.run.now c.requires.0 c.requires.1
+pub drawn-requires-clause-steps : goal.drawn-requires-clause-steps
+drawn-requires-clause-steps c = few_steps c.args.k c.args.run.now c.requires.0 c.requires.1
 
-pub put_drawn-requires-clause-jobs : goal.put_drawn-requires-clause-jobs
-put_drawn-requires-clause-jobs c = few_seen c.args.run.now c.deref-2.result.now c.deref-4.result.now
+pub drawn-requires-clause-jobs : goal.drawn-requires-clause-jobs
+drawn-requires-clause-jobs c = few_seen c.args.run.now c.deref-2.result.now c.deref-4.result.now
     (same_length c.args.k c.args.run.now c.requires.0 c.requires.1 c.deref-2.result.now
     (c.deref-2.ensures.value ∙ c.in_ok-worths.ensures.are c.requires.0 c.requires.1))
     (c.deref-4.ensures.value ∙ c.in_ok-seen.ensures)
@@ -33,11 +33,11 @@ returns c J of =
     let shown : c.deref-3.result.now ≡ jobs = c.deref-3.ensures.value ∙ c.in_ok-jobs.ensures in
     let put : c.deref-5.result.now ≡ jobs = c.deref-5.ensures.value ∙ c.in_ok-jobs.ensures in
     pictured c.args.k run J of c.args.asked jobs c.deref-2.result.now c.rows.result.now c.value.result
-    c.count-counts.result c.deref-4.result.now c.deref-6.result.now c.window_of-window.result _ _ refl
+    c.count-counts.result c.deref-4.result.now c.deref-6.result.now c.window_of-window.result _ refl
     (c.deref-2.ensures.value ∙ c.in_ok-worths.ensures.are J of)
     (c.rows.ensures ∙ c.in_ok-charge.ensures.rows J of) (c.value.ensures ∙ c.in_ok-charge.ensures.value J of)
     (c.count-counts.ensures ∙ ap (λ js. counts_of c.args.k run js c.value.result) counted)
     (c.deref-4.ensures.value ∙ c.in_ok-seen.ensures) (c.deref-6.ensures.value ∙ c.in_ok-pieces.ensures)
-    (c.window_of-window.ensures.is ∙ ap (window_of c.args.asked) shown) c.new-text.ensures.items
-    (c.in_ok-put_drawn.ensures ∙ ap (λ js. c.new-text.result.items ++ drawn 400 c.window_of-window.result
-    c.count-counts.result c.deref-4.result.now js run c.deref-6.result.now c.rows.result.now) put)
+    (c.window_of-window.ensures.is ∙ ap (window_of c.args.asked) shown)
+    (c.in_ok-text.ensures ∙ ap (λ js. drawn 400 c.window_of-window.result c.count-counts.result c.deref-4.result.now js
+    run c.deref-6.result.now c.rows.result.now) put)

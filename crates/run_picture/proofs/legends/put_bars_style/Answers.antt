@@ -7,7 +7,7 @@ use Rattle.run_picture.proofs.legends.put_bars_style.Goals as goal
 pub returns : goal.returns
 unfolding bars_style
 returns c = joined c.args.text.now.items
-    (codes "path{fill:none;pointer-events:none}text{pointer-events:none}.w,.g{pointer-events:stroke}\n"
+    (codes "path{fill:none;pointer-events:none}text{pointer-events:none}.w path{pointer-events:stroke}\n"
     ∷ codes ".w{stroke:#dfe5ec}.g{stroke:#f4d5c4}.h{stroke:#9db8cc}.c{stroke:#0072b2}.t{stroke:#e69f00}\n"
     ∷ codes ".l{stroke:#d55e00}\n"
     ∷ []) _ (

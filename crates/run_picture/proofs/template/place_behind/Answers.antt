@@ -1,4 +1,4 @@
-use Rattle.std.proofs.Common.{arith, ◌∙◌, ap, add-one, drop}
+use Rattle.std.proofs.Common.{◌∙◌, ap, add-one, drop}
 use Rattle.run_picture.proofs.Filling.{others_drop}
 use Rattle.run_picture.proofs.template.place_behind.Goals as goal
 

@@ -1,0 +1,5 @@
+pub mod Follows
+pub mod Roles
+pub mod Steps
+pub mod Moves
+pub mod Walking

@@ -1,0 +1,55 @@
+//! What a fresh job's work is tested against, step by step.
+ghost use Rattle.std.specs.Prelude.{◌≡◌, ◌≤◌, IfOk, length, map};
+ghost use Rattle.charge_ledger.specs.Rows.{IsRunOf};
+ghost use Rattle.dover_model.specs.declared.events.Role.TheVariants.{Coming};
+ghost use Rattle.dover_model.specs.Entries.{entry_of};
+ghost use Rattle.dover_model.specs.Instance.{Instance};
+ghost use Rattle.dover_model.specs.Limits.{most_jobs};
+ghost use Rattle.dover_model.specs.State.{to_come};
+ghost use Rattle.room_ledger.specs.Rooms as tests;
+
+use crate::under_way::UnderWay;
+use dover_model::{Entry, Event, Job, Memory, Ratio};
+use std::alloc::Global;
+
+/// At each printed step of a run that is a release or a preemption the room that the running and the held jobs leave a
+/// fresh job, and at each other one 0, in one pass over the steps. The jobs of the run are these, and valid for the
+/// ratio `k`. Want of memory is the only error.
+pub fn rooms(alloc: Global, k: Ratio, jobs: &[Job], run: &[Event]) -> Result<Vec<u64>, Memory>
+    requires { (J : Instance) × IsRunOf k run.now J × (jobs.now ≡ J.jobs) }
+    ensures { (J : Instance) → IsRunOf k run.now J → jobs.now ≡ J.jobs
+        → IfOk result (λ rooms. rooms.items ≡ tests.rooms J) }
+{
+    let mut under_way = UnderWay::new(alloc, entries(alloc, jobs)?)?;
+    let mut rooms = Vec::new(alloc);
+    for event in run {
+        rooms.push(under_way.room(event))?;
+        under_way.read(alloc, event)?;
+    }
+    Ok(rooms)
+}
+
+/// The jobs by number, before any of them ran.
+fn entries(alloc: Global, jobs: &[Job]) -> Result<Vec<Entry>, Memory>
+    requires { length jobs.now ≤ most_jobs }
+    ensures { IfOk result (λ entries. entries.items ≡ map entry_of (to_come 0 jobs.now)) }
+{
+    let mut entries = Vec::new(alloc);
+    for (number, job) in jobs.iter().enumerate() {
+        entries.push(fresh(number as u32, job))?;
+    }
+    Ok(entries)
+}
+
+/// A job before it runs.
+fn fresh(number: u32, job: &Job) -> Entry
+    ensures { result ≡ entry_of (record { number = number; job = job.now; role = Coming; had = 0 }) }
+{
+    Entry {
+        number,
+        deadline: job.deadline(),
+        latest: job.deadline().saturating_sub(job.work()),
+        left: job.work(),
+        value: job.value(),
+    }
+}

@@ -1,0 +1,12 @@
+use Rattle.std.proofs.Common.{[], ◌∷◌, refl}
+use Rattle.std.specs.Prelude.{codes}
+use Rattle.run_view.proofs.Joining.{joined}
+use Rattle.run_picture.proofs.panels.put_area_front.Goals as goal
+
+pub returns : goal.returns
+returns c = joined c.args.text.now.items
+    (codes "<path class='" ∷ (c.args.class ∷ []) ∷ codes "' d='" ∷ []) _ (
+      _,
+      c.in_ok-extend_from_slice.ensures.items,
+      (_, c.in_ok-push.ensures.items, (_, c.in_ok-extend_from_slice-2.ensures.items, refl)),
+    )
