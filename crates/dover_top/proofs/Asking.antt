@@ -10,12 +10,12 @@ use Rattle.dover_model.specs.Fraction.{Fraction, IsRatio}
 use Rattle.dover_model.specs.Numerals.{numeral}
 use Rattle.dover_model.proofs.Numerals.{numeral-decimal}
 use Rattle.dover_top.specs.Requests.{Asks, MayCarry}
-use Rattle.dover_top.specs.Words.{spelled, AreRow}
+use Rattle.dover_top.specs.Words.{spelled}
 use Rattle.dover_top.specs.declared.request.Request.{Request}
 use Rattle.dover_top.specs.declared.request.Request.TheVariants.{Serve, Judge, Report, Trial, Bait, Ask, Lanes, Pause}
 use Rattle.dover_top.specs.declared.request.Request.TheVariants.{Resume, Unroll}
-use Rattle.serve_word.specs.declared.from.AtEnd.{AtEnd}
-use Rattle.serve_word.specs.declared.from.AtEnd.TheVariants as ends
+use Rattle.serve_word.specs.declared.at_end.AtEnd.{AtEnd}
+use Rattle.serve_word.specs.declared.at_end.AtEnd.TheVariants as ends
 use Rattle.dover_words.specs.declared.question.Question.TheVariants.{Feasible, Best, Compare}
 
 -- ---- words read as what they ask for, if they ask for something
@@ -128,32 +128,6 @@ is_read words (Unroll until) asks = ap request_of asks.row
 pub asks_one : (words : List (String Global)) (r other : Request) → Asks words r → Asks words other → r ≡ other
 asks_one words r other one two = sym (is_read words r one) ∙ is_read words other two
 
--- words that ask for nothing are no row
-pub no_row : (words : List (String Global)) → ((r : Request) → Asks words r → ⊥) → AreRow words → ⊥
-no_row words none (inl asks) = none Serve asks
-no_row words none (inr (inl asks)) = none Judge asks
-no_row words none (inr (inr (inl (form, asks)))) = none (Report form) asks
-no_row words none (inr (inr (inr (inl (seed, count, k, asks))))) = none (Trial seed count k) asks
-no_row words none (inr (inr (inr (inr (inl (k, rounds, asks)))))) = none (Bait k rounds) asks
-no_row words none (inr (inr (inr (inr (inr (inl (question, asks))))))) = none (Ask question) asks
-no_row words none (inr (inr (inr (inr (inr (inr (inl asks))))))) = none Lanes asks
-no_row words none (inr (inr (inr (inr (inr (inr (inr (inl asks)))))))) = none Pause asks
-no_row words none (inr (inr (inr (inr (inr (inr (inr (inr (inl (at_end, asks)))))))))) = none (Resume at_end) asks
-no_row words none (inr (inr (inr (inr (inr (inr (inr (inr (inr (until, asks)))))))))) = none (Unroll until) asks
-
--- words that ask for something are a row
-pub are_row : (words : List (String Global)) (r : Request) → Asks words r → AreRow words
-are_row words Serve asks = inl asks
-are_row words Judge asks = inr (inl asks)
-are_row words (Report form) asks = inr (inr (inl (form, asks)))
-are_row words (Trial seed count k) asks = inr (inr (inr (inl (seed, count, k, asks))))
-are_row words (Bait k rounds) asks = inr (inr (inr (inr (inl (k, rounds, asks)))))
-are_row words (Ask question) asks = inr (inr (inr (inr (inr (inl (question, asks))))))
-are_row words Lanes asks = inr (inr (inr (inr (inr (inr (inl asks))))))
-are_row words Pause asks = inr (inr (inr (inr (inr (inr (inr (inl asks)))))))
-are_row words (Resume at_end) asks = inr (inr (inr (inr (inr (inr (inr (inr (inl (at_end, asks)))))))))
-are_row words (Unroll until) asks = inr (inr (inr (inr (inr (inr (inr (inr (inr (until, asks)))))))))
-
 -- what words ask for is within the limits of its word
 pub may_carry : (words : List (String Global)) (r : Request) → Asks words r → MayCarry r
 may_carry words Serve asks = tt
@@ -166,57 +140,3 @@ may_carry words Lanes asks = tt
 may_carry words Pause asks = tt
 may_carry words (Resume at_end) asks = tt
 may_carry words (Unroll until) asks = asks.known
-
--- what holds of the numbers of a trial, as a fact on a request
-abbrev OfTrial : (ℕ → ℕ → Fraction → Type 0) → Request → Type 0
-OfTrial P Serve = Unit {0}
-OfTrial P Judge = Unit {0}
-OfTrial P (Report form) = Unit {0}
-OfTrial P (Trial seed count k) = P seed count k
-OfTrial P (Bait k rounds) = Unit {0}
-OfTrial P (Ask question) = Unit {0}
-OfTrial P Lanes = Unit {0}
-OfTrial P Pause = Unit {0}
-OfTrial P (Resume at_end) = Unit {0}
-OfTrial P (Unroll until) = Unit {0}
-
--- equal trials have the same numbers
-pub trial_is : (P : ℕ → ℕ → Fraction → Type 0) (seed count seed' count' : ℕ) (k l : Fraction)
-    → Trial seed count k ≡ Trial seed' count' l
-    → P seed count k → P seed' count' l
-trial_is P seed count seed' count' k l e p = subst (OfTrial P) e p
-
--- what holds of the numbers of a bait, as a fact on a request
-abbrev OfBait : (Fraction → ℕ → Type 0) → Request → Type 0
-OfBait P Serve = Unit {0}
-OfBait P Judge = Unit {0}
-OfBait P (Report form) = Unit {0}
-OfBait P (Trial seed count k) = Unit {0}
-OfBait P (Bait k rounds) = P k rounds
-OfBait P (Ask question) = Unit {0}
-OfBait P Lanes = Unit {0}
-OfBait P Pause = Unit {0}
-OfBait P (Resume at_end) = Unit {0}
-OfBait P (Unroll until) = Unit {0}
-
--- equal baits have the same numbers
-pub bait_is : (P : Fraction → ℕ → Type 0) (k l : Fraction) (rounds rounds' : ℕ) → Bait k rounds ≡ Bait l rounds'
-    → P k rounds → P l rounds'
-bait_is P k l rounds rounds' e p = subst (OfBait P) e p
-
--- what holds of the tick of an unrolling, as a fact on a request
-abbrev OfUnroll : (ℕ → Type 0) → Request → Type 0
-OfUnroll P Serve = Unit {0}
-OfUnroll P Judge = Unit {0}
-OfUnroll P (Report form) = Unit {0}
-OfUnroll P (Trial seed count k) = Unit {0}
-OfUnroll P (Bait k rounds) = Unit {0}
-OfUnroll P (Ask question) = Unit {0}
-OfUnroll P Lanes = Unit {0}
-OfUnroll P Pause = Unit {0}
-OfUnroll P (Resume at_end) = Unit {0}
-OfUnroll P (Unroll until) = P until
-
--- equal unrollings have the same tick
-pub unroll_is : (P : ℕ → Type 0) (until until' : ℕ) → Unroll until ≡ Unroll until' → P until → P until'
-unroll_is P until until' e p = subst (OfUnroll P) e p

@@ -6,3 +6,4 @@ pub mod ServedLanes
 pub mod Asking
 pub mod Numbers
 pub mod UnrolledTasks
+pub mod Outcomes

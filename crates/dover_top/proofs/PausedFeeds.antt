@@ -6,7 +6,7 @@ use Rattle.dover_port.specs.Moves.{Move, ins, has_ended}
 use Rattle.dover_port.specs.declared.status.Status.{Status}
 use Rattle.dover_port.specs.declared.status.Status.TheVariants.{Done, No, Refused, ReadFault, WriteFault, Memory, Usage}
 use Rattle.snapshot.specs.Snapshot.{MayPause}
-use Rattle.serve_word.specs.Delivered.{IsFaulty}
+use Rattle.lane_server.specs.Lane.{IsFaulty}
 use Rattle.serve_word.specs.Record.{IsDone}
 use Rattle.serve_word.specs.Pausing.{Ends, Pauses, IsPaused, IsCutOff, IsRefused}
 use Rattle.dover_top.specs.Promises.{IsTracedOrPaused, IsSettledOrPaused}

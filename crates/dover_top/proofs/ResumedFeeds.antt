@@ -8,10 +8,10 @@ use Rattle.dover_port.specs.declared.status.Status.{Status}
 use Rattle.dover_port.specs.declared.status.Status.TheVariants.{Done, No, Refused, ReadFault, WriteFault, Memory, Usage}
 use Rattle.snapshot.specs.Snapshot.{MayPause, snapshot}
 use Rattle.serve_word.specs.Closing.{PausesAt}
-use Rattle.serve_word.specs.Delivered.{IsFaulty}
+use Rattle.lane_server.specs.Lane.{IsFaulty}
 use Rattle.serve_word.specs.From.{EndsAt, IsEndedAt, IsPausedAt, IsCutOffAt}
-use Rattle.serve_word.specs.declared.from.AtEnd.{AtEnd}
-use Rattle.serve_word.specs.declared.from.AtEnd.TheVariants.{Refuse, Pause}
+use Rattle.serve_word.specs.declared.at_end.AtEnd.{AtEnd}
+use Rattle.serve_word.specs.declared.at_end.AtEnd.TheVariants.{Refuse, Pause}
 use Rattle.resume_word.specs.Record.{Behind, EndsBefore, Ends, Resumes, IsRefusedFor, IsRefusedSnapshot}
 use Rattle.resume_word.proofs.Fronts.{never_both}
 use Rattle.dover_top.specs.Promises.{IsTraceOf, IsResumed, IsSettledOrResumed}

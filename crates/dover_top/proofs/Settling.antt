@@ -14,7 +14,7 @@ use Rattle.dover_port.specs.Causes.{Rose, Causes, IsAnswer}
 use Rattle.dover_port.specs.Moves.{Move, ins, outs, has_ended}
 use Rattle.dover_port.specs.declared.status.Status.{Status}
 use Rattle.dover_port.specs.declared.status.Status.TheVariants.{Done, No, Refused, ReadFault, WriteFault, Memory, Usage}
-use Rattle.serve_word.specs.Delivered.{IsFaulty}
+use Rattle.lane_server.specs.Lane.{IsFaulty}
 use Rattle.serve_word.specs.Record.{Ends, Serves, IsDone}
 use Rattle.judge_word.specs.Line.{verdict_text}
 use Rattle.judge_word.specs.Record as judged
@@ -54,10 +54,6 @@ use Rattle.dover_top.specs.Promises.{
   IsTold,
   IsAsked,
 }
-
--- the record of a call, at its status
-pub at_status : (status other : Status) (moves : List Move) → status ≡ other → Serves status moves → Ends other moves
-at_status status other moves e s = subst (λ t. Ends t moves) e s.ends
 
 -- ---- Done
 
@@ -111,40 +107,6 @@ reported form moves done = record {
   text = done.text;
   promises = promises_of (instance_of done.trace.0) done.trace.2.valid.jobs;
 }
-
--- ---- counts
-
--- without a read fault, their count stays
-pub reads_stay : (status : Status) (r r' w w' : ℕ) → Causes status r r' w w' → (status ≡ ReadFault → ⊥) → r' ≡ r
-reads_stay Done r r' w w' cause other = cause.0
-reads_stay No r r' w w' cause other = cause.0
-reads_stay Refused r r' w w' cause other = cause.0
-reads_stay ReadFault r r' w w' cause other = absurd (other refl)
-reads_stay WriteFault r r' w w' cause other = cause.0
-reads_stay Memory r r' w w' cause other = cause.0
-reads_stay Usage r r' w w' cause other = cause.0
-
--- without a write fault, their count stays
-pub writes_stay : (status : Status) (r r' w w' : ℕ) → Causes status r r' w w' → (status ≡ WriteFault → ⊥) → w' ≡ w
-writes_stay Done r r' w w' cause other = cause.1
-writes_stay No r r' w w' cause other = cause.1
-writes_stay Refused r r' w w' cause other = cause.1
-writes_stay ReadFault r r' w w' cause other = cause.1
-writes_stay WriteFault r r' w w' cause other = absurd (other refl)
-writes_stay Memory r r' w w' cause other = cause.1
-writes_stay Usage r r' w w' cause other = cause.1
-
--- where neither count rose, there is an answer or no memory
-pub complete : (status : Status) (r r' w w' : ℕ) → IsAnswer status → Causes status r r' w w' → (Rose r r' → ⊥)
-    → (Rose w w' → ⊥)
-    → (status ≡ Done) ⊎ (status ≡ Refused) ⊎ (status ≡ Memory)
-complete Done r r' w w' answer cause read write = inl refl
-complete Refused r r' w w' answer cause read write = inr (inl refl)
-complete Memory r r' w w' answer cause read write = inr (inr refl)
-complete ReadFault r r' w w' answer cause read write = absurd (read cause.0)
-complete WriteFault r r' w w' answer cause read write = absurd (write cause.1)
-complete No r r' w w' answer cause read write = absurd answer
-complete Usage r r' w w' answer cause read write = absurd answer
 
 -- ---- the answer that the feed calls for
 
@@ -240,20 +202,6 @@ reported_so form WriteFault r r' w w' answer cause read write moves s = absurd (
 reported_so form Refused r r' w w' answer cause read write moves s = absurd answer
 reported_so form Usage r r' w w' answer cause read write moves s = absurd answer
 
--- ---- the statuses that there are
-
--- where neither count rose, a text has an answer or there was no memory
-pub answered : (status : Status) (r r' w w' : ℕ) → judged.IsAnswer status → Causes status r r' w w' → (Rose r r' → ⊥)
-    → (Rose w w' → ⊥)
-    → (status ≡ Done) ⊎ (status ≡ No) ⊎ (status ≡ Memory)
-answered Done r r' w w' answer cause read write = inl refl
-answered No r r' w w' answer cause read write = inr (inl refl)
-answered Memory r r' w w' answer cause read write = inr (inr refl)
-answered ReadFault r r' w w' answer cause read write = absurd (read cause.0)
-answered WriteFault r r' w w' answer cause read write = absurd (write cause.1)
-answered Refused r r' w w' answer cause read write = absurd answer
-answered Usage r r' w w' answer cause read write = absurd answer
-
 -- ---- questions
 
 -- what is to be said of the jobs of a feed was written, and the run of these jobs keeps its promises
@@ -285,22 +233,6 @@ asked_so question Memory r r' w w' cause read write moves s = record { ended = �
 asked_so question ReadFault r r' w w' cause read write moves s = absurd (read cause.0)
 asked_so question WriteFault r r' w w' cause read write moves s = absurd (write cause.1)
 asked_so question Usage r r' w w' cause read write moves s = absurd s.ends
-
--- where neither count rose, a question has an answer or there was no memory
-pub asked_all : (question : Question) (status : Status) (r r' w w' : ℕ) → IsAnswerTo question status
-    → Causes status r r' w w' → (Rose r r' → ⊥)
-    → (Rose w w' → ⊥) → (status ≡ Done) ⊎ (status ≡ No) ⊎ (status ≡ Refused) ⊎ (status ≡ Memory)
-asked_all question Done r r' w w' answer cause read write = inl refl
-asked_all question No r r' w w' answer cause read write = inr (inl refl)
-asked_all question Refused r r' w w' answer cause read write = inr (inr (inl refl))
-asked_all question Memory r r' w w' answer cause read write = inr (inr (inr refl))
-asked_all question ReadFault r r' w w' answer cause read write = absurd (read cause.0)
-asked_all question WriteFault r r' w w' answer cause read write = absurd (write cause.1)
-asked_all question Usage r r' w w' answer cause read write = absurd (none question answer) where
-  none : (question : Question) → IsAnswerTo question Usage → ⊥
-  none Feasible it = it
-  none Best it = it
-  none Compare it = it
 
 -- ---- stated lists
 
@@ -363,21 +295,3 @@ given WriteFault r r' w w' fits answer cause write = absurd (write cause.1)
 given No r r' w w' fits answer cause write = absurd answer
 given ReadFault r r' w w' fits answer cause write = absurd answer
 given Usage r r' w w' fits answer cause write = absurd answer
-
--- the causes of a call that reads nothing are those of one that reads
-pub causes_too : (status : Status) (r r' w w' : ℕ) → (status ≡ ReadFault → ⊥) → stated.Causes status r r' w w'
-    → Causes status r r' w w'
-causes_too Done r r' w w' other cause = cause
-causes_too No r r' w w' other cause = cause
-causes_too Refused r r' w w' other cause = cause
-causes_too ReadFault r r' w w' other cause = absurd (other refl)
-causes_too WriteFault r r' w w' other cause = cause
-causes_too Memory r r' w w' other cause = cause
-causes_too Usage r r' w w' other cause = cause
-
--- it doesn't end with a read fault
-pub no_read : (status : Status) → stated.IsAnswer status → status ≡ ReadFault → ⊥
-no_read status answer e = subst stated.IsAnswer e answer
-
-pub no_read_for : (status : Status) (fits : Type 0) → stated.IsAnswerFor status fits → status ≡ ReadFault → ⊥
-no_read_for status fits answer e = subst (λ t. stated.IsAnswerFor t fits) e answer

@@ -15,11 +15,11 @@ use Rattle.dover_model.specs.Feed.{account, is_ended, is_open, Ended}
 use Rattle.dover_port.specs.Moves.{Move, ArePuts, ins, outs, has_ended, IsProperPrefix}
 use Rattle.dover_port.specs.declared.status.Status.{Status}
 use Rattle.dover_port.specs.declared.status.Status.TheVariants.{Done, No, Refused, Memory}
-use Rattle.serve_word.specs.Delivered.{IsFaulty}
+use Rattle.lane_server.specs.Lane.{IsFaulty}
 use Rattle.serve_word.specs.Closing.{PausesAt}
 use Rattle.serve_word.specs.From.{IsPausedAt, IsCutOffAt}
 use Rattle.serve_word.specs.Pausing.{IsPaused, IsCutOff}
-use Rattle.serve_word.specs.declared.from.AtEnd.{AtEnd}
+use Rattle.serve_word.specs.declared.at_end.AtEnd.{AtEnd}
 use Rattle.resume_word.specs.Record.{Behind, IsRefusedFor}
 use Rattle.snapshot.specs.Snapshot.{MayPause, snapshot}
 use Rattle.dover_model.specs.Due.{due}

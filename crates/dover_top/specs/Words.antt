@@ -7,8 +7,8 @@ use Rattle.dover_model.specs.Limits.{most_digits, most_jobs, last_tick}
 use Rattle.report_word.specs.declared.form.Form.{Form}
 use Rattle.report_word.specs.declared.form.Form.TheVariants.{Text, Table, Chrome, Why, Timeline, Svg}
 use Rattle.run_view.specs.declared.window.Window.{Window}
-use Rattle.serve_word.specs.declared.from.AtEnd.{AtEnd}
-use Rattle.serve_word.specs.declared.from.AtEnd.TheVariants.{Refuse, Pause}
+use Rattle.serve_word.specs.declared.at_end.AtEnd.{AtEnd}
+use Rattle.serve_word.specs.declared.at_end.AtEnd.TheVariants.{Refuse, Pause}
 use Rattle.dover_words.specs.declared.question.Question.{Question}
 use Rattle.dover_words.specs.declared.question.Question.TheVariants.{Feasible, Best, Compare}
 
@@ -100,14 +100,3 @@ AsksResume words at_end = spelled words ≡ codes "resume" ∷ end_words at_end
 pub record AsksUnroll (words : List (String Global)) (until : ℕ) : Type 0 where
   pub row : spelled words ≡ codes "unroll" ∷ decimal until ∷ []
   pub known : until ≤ last_tick
-
--- the words are a row
-abbrev pub AreRow : List (String Global) → Type 0
-AreRow words = AsksServe words ⊎ AsksJudge words ⊎ ((form : Form) × AsksReport words form)
-    ⊎ ((seed : ℕ) × (count : ℕ) × (k : Fraction) × AsksTrial words seed count k)
-    ⊎ ((k : Fraction) × (rounds : ℕ) × AsksBait words k rounds)
-    ⊎ ((question : Question) × AsksQuestion words question)
-    ⊎ AsksLanes words
-    ⊎ AsksPause words
-    ⊎ ((at_end : AtEnd) × AsksResume words at_end)
-    ⊎ ((until : ℕ) × AsksUnroll words until)

@@ -5,4 +5,5 @@ mod carrying;
 mod request;
 mod top;
 
+pub use request::Request;
 pub use top::dover;

@@ -16,9 +16,9 @@ use report_word::Form;
 use run_view::Window;
 use serve_word::AtEnd;
 
-/// What the words ask for.
+/// What the words of the command line ask for, one of the rows of `dover`.
 #[derive(Clone, Copy, Debug, PartialEq, Eq)]
-pub(crate) enum Request {
+pub enum Request {
     /// A feed is served.
     Serve,
     /// A text is judged.

@@ -1,5 +1,5 @@
 -- What the word `bait` writes.
-use Rattle.std.specs.Prelude.{ℕ, List, [], ◌∷◌, length, codes}
+use Rattle.std.specs.Prelude.{ℕ, List, [], ◌∷◌, length, codes, ◌⊎◌}
 use Rattle.dover_model.specs.Fraction.{Fraction}
 use Rattle.dover_model.specs.Instance.{Instance}
 use Rattle.dover_model.specs.Run.{completed_value}
@@ -7,7 +7,11 @@ use Rattle.dover_model.specs.Bound.{bound}
 use Rattle.dover_model.specs.Bait.{bait_jobs, bait_plan}
 use Rattle.dover_model.specs.Schedules.{worth}
 use Rattle.dover_model.specs.Lines.{with_numbers, in_lines}
+use Rattle.dover_port.specs.Moves.{Move}
+use Rattle.dover_port.specs.declared.status.Status.{Status}
+use Rattle.adversary.specs.Baiting.{FitsLimits}
 use Rattle.stated_word.specs.Lists.{stated}
+use Rattle.stated_word.specs.Record.{Writes, Refuses}
 use Rattle.stated_word.specs.declared.bait.Baited.{Baited}
 
 -- the baiting feed of so many rounds
@@ -40,3 +44,8 @@ bait_text k rounds = in_lines (baited_lines (baited_of k rounds))
 -- what is written of any other
 abbrev pub size_text : List ℕ
 size_text = in_lines (codes "refused size" ∷ [])
+
+-- Of baiting jobs that fit the limits, what their run comes to was put, and of others that they don't.
+abbrev pub Baits : Fraction → (rounds : ℕ) → Status → List Move → Type 0
+Baits k rounds status moves = (FitsLimits k rounds × Writes status (bait_text k rounds) moves)
+    ⊎ ((FitsLimits k rounds → ⊥) × Refuses status size_text moves)

@@ -1,6 +1,5 @@
 -- What the moves of a call come to, by how it ended.
 use Rattle.std.specs.Prelude.{◌≡◌, ℕ, List, []}
-use Rattle.dover_port.specs.Causes.{Rose}
 use Rattle.dover_port.specs.Moves.{Move, ArePuts, outs, IsProperPrefix}
 use Rattle.dover_port.specs.declared.status.Status.{Status}
 use Rattle.dover_port.specs.declared.status.Status.TheVariants.{Done, Refused, WriteFault, Memory}
@@ -33,8 +32,3 @@ IsAnswerFor Memory fits = fits
 IsAnswerFor Refused fits = fits → ⊥
 IsAnswerFor WriteFault fits = Unit {0}
 IsAnswerFor _ fits = ⊥
-
--- a write fault comes only where its count rose, and no other count changes
-abbrev pub Causes : Status → (reads reads' writes writes' : ℕ) → Type 0
-Causes WriteFault reads reads' writes writes' = (reads' ≡ reads) × Rose writes writes'
-Causes _ reads reads' writes writes' = (reads' ≡ reads) × (writes' ≡ writes)

@@ -2,12 +2,12 @@
 ghost use Rattle.std.specs.Prelude.{◌≡◌, ◌≤◌, length};
 ghost use Rattle.dover_model.specs.Bait.{bait_jobs};
 ghost use Rattle.dover_model.specs.Lines.{in_lines};
-ghost use Rattle.dover_port.specs.Causes.{HasCause, StopsAtFailure, StopsWith};
+ghost use Rattle.dover_port.specs.Causes.{Causes, HasCause, StopsAtFailure, StopsWith};
 ghost use Rattle.dover_port.specs.Moves.{Since, PutsThrough, PutsText};
 ghost use Rattle.adversary.specs.Baiting.{FitsLimits};
 ghost use Rattle.bait_run.specs.Baiting.{CompletesLastAlone};
-ghost use Rattle.stated_word.specs.Baited.{baited_lines, bait_instance, bait_text, size_text};
-ghost use Rattle.stated_word.specs.Record.{Writes, Refuses, IsAnswerFor, Causes};
+ghost use Rattle.stated_word.specs.Baited.{Baits, baited_lines, bait_instance, size_text};
+ghost use Rattle.stated_word.specs.Record.{Refuses, IsAnswerFor};
 ghost use Rattle.dover_core.specs.Spending.{AreFew};
 
 use crate::serving::serve_all;
@@ -94,10 +94,7 @@ pub fn bait_word<P: Port, L: Ledger>(
     steps: &mut Steps<L>,
 ) -> Status
     requires rounds { 1 ≤ rounds }
-    ensures writes { FitsLimits k rounds
-        → Since (P.moves port.old) (P.moves port.new) (Writes result (bait_text k rounds)) }
-    ensures refuses { (FitsLimits k rounds → ⊥)
-        → Since (P.moves port.old) (P.moves port.new) (Refuses result size_text) }
+    ensures baits { Since (P.moves port.old) (P.moves port.new) (Baits k rounds result) }
     ensures alone { result ≡ Status.Done → CompletesLastAlone k rounds (bait_instance k rounds) }
     ensures answer { IsAnswerFor result (FitsLimits k rounds) }
     ensures causes { Causes result (P.read_faults port.old) (P.read_faults port.new) (P.write_faults port.old)

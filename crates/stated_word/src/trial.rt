@@ -2,10 +2,10 @@
 ghost use Rattle.std.specs.Prelude.{◌≡◌, ◌<◌, ◌≤◌, ◌^◌};
 ghost use Rattle.dover_model.specs.Limits.{most_jobs};
 ghost use Rattle.dover_model.specs.Reports.{summary};
-ghost use Rattle.dover_port.specs.Causes.{StopsWith};
+ghost use Rattle.dover_port.specs.Causes.{Causes, StopsWith};
 ghost use Rattle.dover_port.specs.Moves.{Since};
 ghost use Rattle.stated_word.specs.Lists.{trial_instance};
-ghost use Rattle.stated_word.specs.Record.{Writes, IsAnswer, Causes};
+ghost use Rattle.stated_word.specs.Record.{Writes, IsAnswer};
 ghost use Rattle.dover_core.specs.Spending.{AreFew};
 
 use crate::lines::write_summary;

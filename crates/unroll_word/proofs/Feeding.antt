@@ -25,7 +25,7 @@ use Rattle.dover_model.proofs.Valid.{valid_front}
 use Rattle.event_feed.specs.Reading.{open_account}
 use Rattle.event_feed.proofs.Counting.{after_form}
 use Rattle.snapshot.proofs.Behind.{feedless_feed, lines_joined}
-use Rattle.snapshot.proofs.Handing.{ratio_numerals, ratio_account, job_numerals}
+use Rattle.snapshot.proofs.Handing.{ratio_account, job_numerals}
 use Rattle.snapshot.specs.Stored.{declared_number}
 use Rattle.trace_reading.proofs.Only.{valid_admitted}
 use Rattle.unroll_word.specs.Feeds.{IsFeedOf, feed_of, feed_lines, rules_text, job_text}
@@ -95,10 +95,9 @@ module _ (rules : Rules) where
 -- ---- the whole feed
 
 -- no line of a job has a line feed
-feedless_jobs : (jobs : List JobFacts) → AllByRecursion IsJob jobs
-    → AllByRecursion HasNoFeed (map job_text jobs ++ feed_text EndLine ∷ [])
-feedless_jobs [] each = (refl, tt)
-feedless_jobs (j ∷ jobs) each = (feedless_feed (JobLine j) (job_numerals j each.0), feedless_jobs jobs each.1)
+feedless_jobs : (jobs : List JobFacts) → AllByRecursion HasNoFeed (map job_text jobs ++ feed_text EndLine ∷ [])
+feedless_jobs [] = (refl, tt)
+feedless_jobs (j ∷ jobs) = (feedless_feed (JobLine j), feedless_jobs jobs)
 
 -- each release is at 0 or later
 from_zero : (jobs : List JobFacts) → AllByRecursion (λ j. 0 ≤ j.release) jobs
@@ -109,9 +108,8 @@ module _ (J : Instance) (valid : IsValid J) where
   -- no line has one
   feedless : AllByRecursion HasNoFeed (feed_lines J)
   feedless = (
-    feedless_feed (RatioLine J.rules.ratio.p J.rules.ratio.q (declared_number J.rules.version))
-        (ratio_numerals J.rules.ratio.p J.rules.ratio.q valid.ratio J.rules.version),
-    feedless_jobs J.jobs valid.each,
+    feedless_feed (RatioLine J.rules.ratio.p J.rules.ratio.q (declared_number J.rules.version)),
+    feedless_jobs J.jobs,
   )
 
   few : length J.jobs ≤ 1_000_000

@@ -1,149 +1,298 @@
-use Rattle.std.proofs.Common.{length, sym, ◌∙◌}
-use Rattle.dover_model.specs.Reports.{summary}
-use Rattle.dover_model.specs.Bait.{bait_jobs}
+use Rattle.std.proofs.Common.{sym, subst}
 use Rattle.dover_port.specs.Moves.{Since}
-use Rattle.adversary.specs.Baiting.{FitsLimits}
-use Rattle.stated_word.specs.Record as stated
-use Rattle.stated_word.specs.Lists.{trial_instance}
-use Rattle.stated_word.specs.Baited.{bait_text, size_text}
-use Rattle.dover_core.specs.Spending.{AreFew}
-use Rattle.unroll_word.specs.Record as unrolled
-use Rattle.dover_top.proofs.Asking.{trial_is, bait_is, unroll_is}
-use Rattle.dover_top.proofs.Settling.{causes_too, no_read, no_read_for}
+use Rattle.dover_port.proofs.Made.{since_weaker}
+use Rattle.dover_top.specs.Carried.{Carries}
+use Rattle.dover_top.specs.Outcomes.{MayEnd, IsFrugal, IsFrugalAsAsked}
+use Rattle.dover_top.proofs.Outcomes.{asked_frugal}
 use Rattle.dover_top.proofs.carrying.carry_out.Goals as goal
 
-pub returns-in-Trial-clause-trials : goal.returns-in-Trial-clause-trials
-returns-in-Trial-clause-trials g c = λ seed count k e. trial_is
-    (λ seed count k. Since (g.P.Port.moves c.args.port.now) (g.P.Port.moves c.trial_word.new.port)
-    (stated.Writes c.trial_word.result (summary (trial_instance k seed count))))
-    c.in-Trial.seed c.in-Trial.count seed count c.in-Trial.k k (sym c.in-Trial.is ∙ e) c.trial_word.ensures.writes
+pub returns-in-Serve-clause-carries : goal.returns-in-Serve-clause-carries
+returns-in-Serve-clause-carries g c =
+    subst (λ r. Since (g.P.Port.moves c.args.port.now) (g.P.Port.moves c.serve_word.new.port)
+    (Carries r c.serve_word.result))
+    (sym c.in-Serve.is) c.serve_word.ensures.serves
 
-pub returns-in-Trial-clause-trial_comparisons : goal.returns-in-Trial-clause-trial_comparisons
-returns-in-Trial-clause-trial_comparisons g c = λ seed count k e done. trial_is
-    (λ seed count k. AreFew count c.args.steps.now c.trial_word.new.steps)
-    c.in-Trial.seed c.in-Trial.count seed count c.in-Trial.k k (sym c.in-Trial.is ∙ e) (c.trial_word.ensures.count done)
+pub returns-in-Serve-clause-ends : goal.returns-in-Serve-clause-ends
+returns-in-Serve-clause-ends g c =
+    subst (λ r. MayEnd r c.serve_word.result) (sym c.in-Serve.is) c.serve_word.ensures.answer
+
+pub returns-in-Serve-clause-comparisons : goal.returns-in-Serve-clause-comparisons
+returns-in-Serve-clause-comparisons g c =
+    subst (λ r. Since (g.P.Port.moves c.args.port.now) (g.P.Port.moves c.serve_word.new.port)
+    (IsFrugal r c.serve_word.result c.args.steps.now c.serve_word.new.steps))
+    (sym c.in-Serve.is) c.serve_word.ensures.count
+
+pub returns-in-Serve-clause-stated : goal.returns-in-Serve-clause-stated
+returns-in-Serve-clause-stated g c =
+    λ done. subst (λ r. IsFrugalAsAsked r c.args.steps.now c.serve_word.new.steps)
+    (sym c.in-Serve.is) tt
+
+pub returns-in-Serve-clause-causes : goal.returns-in-Serve-clause-causes
+returns-in-Serve-clause-causes g c =
+    c.serve_word.ensures.causes
+
+pub returns-in-Serve-clause-stops : goal.returns-in-Serve-clause-stops
+returns-in-Serve-clause-stops g c =
+    c.serve_word.ensures.stops
+
+pub returns-in-Judge-clause-carries : goal.returns-in-Judge-clause-carries
+returns-in-Judge-clause-carries g c =
+    subst (λ r. Since (g.P.Port.moves c.args.port.now) (g.P.Port.moves c.judge_word.new.port)
+    (Carries r c.judge_word.result))
+    (sym c.in-Judge.is) c.judge_word.ensures.judges
+
+pub returns-in-Judge-clause-ends : goal.returns-in-Judge-clause-ends
+returns-in-Judge-clause-ends g c =
+    subst (λ r. MayEnd r c.judge_word.result) (sym c.in-Judge.is) c.judge_word.ensures.answer
+
+pub returns-in-Judge-clause-comparisons : goal.returns-in-Judge-clause-comparisons
+returns-in-Judge-clause-comparisons g c =
+    subst (λ r. Since (g.P.Port.moves c.args.port.now) (g.P.Port.moves c.judge_word.new.port)
+    (IsFrugal r c.judge_word.result c.args.steps.now c.judge_word.new.steps))
+    (sym c.in-Judge.is) (since_weaker _ _ _ _ c.judge_word.ensures.judges (λ xs s. tt))
+
+pub returns-in-Judge-clause-stated : goal.returns-in-Judge-clause-stated
+returns-in-Judge-clause-stated g c =
+    λ done. subst (λ r. IsFrugalAsAsked r c.args.steps.now c.judge_word.new.steps)
+    (sym c.in-Judge.is) tt
+
+pub returns-in-Judge-clause-causes : goal.returns-in-Judge-clause-causes
+returns-in-Judge-clause-causes g c =
+    c.judge_word.ensures.causes
+
+pub returns-in-Judge-clause-stops : goal.returns-in-Judge-clause-stops
+returns-in-Judge-clause-stops g c =
+    c.judge_word.ensures.stops
+
+pub returns-in-Report-clause-carries : goal.returns-in-Report-clause-carries
+returns-in-Report-clause-carries g c =
+    subst (λ r. Since (g.P.Port.moves c.args.port.now) (g.P.Port.moves c.report_word.new.port)
+    (Carries r c.report_word.result))
+    (sym c.in-Report.is) c.report_word.ensures.reports
+
+pub returns-in-Report-clause-ends : goal.returns-in-Report-clause-ends
+returns-in-Report-clause-ends g c =
+    subst (λ r. MayEnd r c.report_word.result) (sym c.in-Report.is) c.report_word.ensures.answer
+
+pub returns-in-Report-clause-comparisons : goal.returns-in-Report-clause-comparisons
+returns-in-Report-clause-comparisons g c =
+    subst (λ r. Since (g.P.Port.moves c.args.port.now) (g.P.Port.moves c.report_word.new.port)
+    (IsFrugal r c.report_word.result c.args.steps.now c.report_word.new.steps))
+    (sym c.in-Report.is) (since_weaker _ _ _ _ c.report_word.ensures.reports (λ xs s. tt))
+
+pub returns-in-Report-clause-stated : goal.returns-in-Report-clause-stated
+returns-in-Report-clause-stated g c =
+    λ done. subst (λ r. IsFrugalAsAsked r c.args.steps.now c.report_word.new.steps)
+    (sym c.in-Report.is) tt
+
+pub returns-in-Report-clause-causes : goal.returns-in-Report-clause-causes
+returns-in-Report-clause-causes g c =
+    c.report_word.ensures.causes
+
+pub returns-in-Report-clause-stops : goal.returns-in-Report-clause-stops
+returns-in-Report-clause-stops g c =
+    c.report_word.ensures.stops
+
+pub returns-in-Trial-clause-carries : goal.returns-in-Trial-clause-carries
+returns-in-Trial-clause-carries g c =
+    subst (λ r. Since (g.P.Port.moves c.args.port.now) (g.P.Port.moves c.trial_word.new.port)
+    (Carries r c.trial_word.result))
+    (sym c.in-Trial.is) c.trial_word.ensures.writes
+
+pub returns-in-Trial-clause-ends : goal.returns-in-Trial-clause-ends
+returns-in-Trial-clause-ends g c =
+    subst (λ r. MayEnd r c.trial_word.result) (sym c.in-Trial.is) c.trial_word.ensures.answer
+
+pub returns-in-Trial-clause-comparisons : goal.returns-in-Trial-clause-comparisons
+returns-in-Trial-clause-comparisons g c =
+    subst (λ r. Since (g.P.Port.moves c.args.port.now) (g.P.Port.moves c.trial_word.new.port)
+    (IsFrugal r c.trial_word.result c.args.steps.now c.trial_word.new.steps))
+    (sym c.in-Trial.is) (since_weaker _ _ _ _ c.trial_word.ensures.writes (λ xs s. tt))
+
+pub returns-in-Trial-clause-stated : goal.returns-in-Trial-clause-stated
+returns-in-Trial-clause-stated g c =
+    λ done. subst (λ r. IsFrugalAsAsked r c.args.steps.now c.trial_word.new.steps)
+    (sym c.in-Trial.is) (c.trial_word.ensures.count done)
 
 pub returns-in-Trial-clause-causes : goal.returns-in-Trial-clause-causes
 returns-in-Trial-clause-causes g c =
-    causes_too _ _ _ _ _ (no_read _ c.trial_word.ensures.answer) c.trial_word.ensures.causes
+    c.trial_word.ensures.causes
 
-pub returns-in-Bait-clause-baits : goal.returns-in-Bait-clause-baits
-returns-in-Bait-clause-baits g c = λ k rounds e fits. bait_is
-    (λ k rounds. FitsLimits k rounds → Since (g.P.Port.moves c.args.port.now) (g.P.Port.moves c.bait_word.new.port)
-    (stated.Writes c.bait_word.result (bait_text k rounds)))
-    c.in-Bait.k k c.in-Bait.rounds rounds (sym c.in-Bait.is ∙ e) c.bait_word.ensures.writes fits
+pub returns-in-Trial-clause-stops : goal.returns-in-Trial-clause-stops
+returns-in-Trial-clause-stops g c =
+    c.trial_word.ensures.stops
 
-pub returns-in-Bait-clause-refuses : goal.returns-in-Bait-clause-refuses
-returns-in-Bait-clause-refuses g c = λ k rounds e large. bait_is
-    (λ k rounds. (FitsLimits k rounds → ⊥)
-    → Since (g.P.Port.moves c.args.port.now) (g.P.Port.moves c.bait_word.new.port)
-    (stated.Refuses c.bait_word.result size_text))
-    c.in-Bait.k k c.in-Bait.rounds rounds (sym c.in-Bait.is ∙ e) c.bait_word.ensures.refuses large
+pub returns-in-Bait-clause-carries : goal.returns-in-Bait-clause-carries
+returns-in-Bait-clause-carries g c =
+    subst (λ r. Since (g.P.Port.moves c.args.port.now) (g.P.Port.moves c.bait_word.new.port)
+    (Carries r c.bait_word.result))
+    (sym c.in-Bait.is) c.bait_word.ensures.baits
 
-pub returns-in-Bait-clause-bait_comparisons : goal.returns-in-Bait-clause-bait_comparisons
-returns-in-Bait-clause-bait_comparisons g c = λ k rounds e done. bait_is
-    (λ k rounds. AreFew (length (bait_jobs k rounds)) c.args.steps.now c.bait_word.new.steps)
-    c.in-Bait.k k c.in-Bait.rounds rounds (sym c.in-Bait.is ∙ e) (c.bait_word.ensures.count done)
+pub returns-in-Bait-clause-ends : goal.returns-in-Bait-clause-ends
+returns-in-Bait-clause-ends g c =
+    subst (λ r. MayEnd r c.bait_word.result) (sym c.in-Bait.is) c.bait_word.ensures.answer
+
+pub returns-in-Bait-clause-comparisons : goal.returns-in-Bait-clause-comparisons
+returns-in-Bait-clause-comparisons g c =
+    subst (λ r. Since (g.P.Port.moves c.args.port.now) (g.P.Port.moves c.bait_word.new.port)
+    (IsFrugal r c.bait_word.result c.args.steps.now c.bait_word.new.steps))
+    (sym c.in-Bait.is) (since_weaker _ _ _ _ c.bait_word.ensures.baits (λ xs s. tt))
+
+pub returns-in-Bait-clause-stated : goal.returns-in-Bait-clause-stated
+returns-in-Bait-clause-stated g c =
+    λ done. subst (λ r. IsFrugalAsAsked r c.args.steps.now c.bait_word.new.steps)
+    (sym c.in-Bait.is) (c.bait_word.ensures.count done)
 
 pub returns-in-Bait-clause-causes : goal.returns-in-Bait-clause-causes
 returns-in-Bait-clause-causes g c =
-    causes_too _ _ _ _ _ (no_read_for _ _ c.bait_word.ensures.answer) c.bait_word.ensures.causes
-
-pub returns-in-Pause-clause-pauses : goal.returns-in-Pause-clause-pauses
-returns-in-Pause-clause-pauses g c = λ _. c.pause_word.ensures.pauses
-
-pub returns-in-Pause-clause-pause_answers : goal.returns-in-Pause-clause-pause_answers
-returns-in-Pause-clause-pause_answers g c = λ _. c.pause_word.ensures.answer
-
-pub returns-in-Pause-clause-pause_comparisons : goal.returns-in-Pause-clause-pause_comparisons
-returns-in-Pause-clause-pause_comparisons g c = λ _. c.pause_word.ensures.count
-
-pub returns-in-Pause-clause-causes : goal.returns-in-Pause-clause-causes
-returns-in-Pause-clause-causes g c = c.pause_word.ensures.causes
-
-pub returns-in-Serve-clause-causes : goal.returns-in-Serve-clause-causes
-returns-in-Serve-clause-causes g c = c.serve_word.ensures.causes
-
-pub returns-in-Judge-clause-causes : goal.returns-in-Judge-clause-causes
-returns-in-Judge-clause-causes g c = c.judge_word.ensures.causes
-
-pub returns-in-Report-clause-causes : goal.returns-in-Report-clause-causes
-returns-in-Report-clause-causes g c = c.report_word.ensures.causes
-
-pub returns-in-Ask-clause-causes : goal.returns-in-Ask-clause-causes
-returns-in-Ask-clause-causes g c = c.question_word.ensures.causes
-
-pub returns-in-Lanes-clause-causes : goal.returns-in-Lanes-clause-causes
-returns-in-Lanes-clause-causes g c = c.lanes_word.ensures.causes
-
-pub returns-in-Serve-clause-serves : goal.returns-in-Serve-clause-serves
-returns-in-Serve-clause-serves g c = λ e. c.serve_word.ensures.serves
-
-pub returns-in-Serve-clause-serve_answers : goal.returns-in-Serve-clause-serve_answers
-returns-in-Serve-clause-serve_answers g c = λ e. c.serve_word.ensures.answer
-
-pub returns-in-Serve-clause-comparisons : goal.returns-in-Serve-clause-comparisons
-returns-in-Serve-clause-comparisons g c = λ e. c.serve_word.ensures.count
-
-pub returns-in-Judge-clause-judges : goal.returns-in-Judge-clause-judges
-returns-in-Judge-clause-judges g c = λ e. c.judge_word.ensures.judges
-
-pub returns-in-Judge-clause-judge_answers : goal.returns-in-Judge-clause-judge_answers
-returns-in-Judge-clause-judge_answers g c = λ e. c.judge_word.ensures.answer
-
-pub returns-in-Lanes-clause-serves_lanes : goal.returns-in-Lanes-clause-serves_lanes
-returns-in-Lanes-clause-serves_lanes g c = λ e. c.lanes_word.ensures.serves
-
-pub returns-in-Lanes-clause-lanes_answers : goal.returns-in-Lanes-clause-lanes_answers
-returns-in-Lanes-clause-lanes_answers g c = λ e. c.lanes_word.ensures.answer
-
-pub returns-in-Serve-clause-stops : goal.returns-in-Serve-clause-stops
-returns-in-Serve-clause-stops g c = c.serve_word.ensures.stops
-
-pub returns-in-Judge-clause-stops : goal.returns-in-Judge-clause-stops
-returns-in-Judge-clause-stops g c = c.judge_word.ensures.stops
-
-pub returns-in-Report-clause-stops : goal.returns-in-Report-clause-stops
-returns-in-Report-clause-stops g c = c.report_word.ensures.stops
-
-pub returns-in-Trial-clause-stops : goal.returns-in-Trial-clause-stops
-returns-in-Trial-clause-stops g c = c.trial_word.ensures.stops
+    c.bait_word.ensures.causes
 
 pub returns-in-Bait-clause-stops : goal.returns-in-Bait-clause-stops
-returns-in-Bait-clause-stops g c = c.bait_word.ensures.stops
+returns-in-Bait-clause-stops g c =
+    c.bait_word.ensures.stops
+
+pub returns-in-Ask-clause-carries : goal.returns-in-Ask-clause-carries
+returns-in-Ask-clause-carries g c =
+    subst (λ r. Since (g.P.Port.moves c.args.port.now) (g.P.Port.moves c.question_word.new.port)
+    (Carries r c.question_word.result))
+    (sym c.in-Ask.is) c.question_word.ensures.tells
+
+pub returns-in-Ask-clause-ends : goal.returns-in-Ask-clause-ends
+returns-in-Ask-clause-ends g c =
+    subst (λ r. MayEnd r c.question_word.result) (sym c.in-Ask.is) c.question_word.ensures.answer
+
+pub returns-in-Ask-clause-comparisons : goal.returns-in-Ask-clause-comparisons
+returns-in-Ask-clause-comparisons g c =
+    subst (λ r. Since (g.P.Port.moves c.args.port.now) (g.P.Port.moves c.question_word.new.port)
+    (IsFrugal r c.question_word.result c.args.steps.now c.question_word.new.steps))
+    (sym c.in-Ask.is) (since_weaker _ _ _ _ c.question_word.ensures.count
+    (λ xs s. asked_frugal c.in-Ask.question c.question_word.result _ _ xs s))
+
+pub returns-in-Ask-clause-stated : goal.returns-in-Ask-clause-stated
+returns-in-Ask-clause-stated g c =
+    λ done. subst (λ r. IsFrugalAsAsked r c.args.steps.now c.question_word.new.steps)
+    (sym c.in-Ask.is) tt
+
+pub returns-in-Ask-clause-causes : goal.returns-in-Ask-clause-causes
+returns-in-Ask-clause-causes g c =
+    c.question_word.ensures.causes
 
 pub returns-in-Ask-clause-stops : goal.returns-in-Ask-clause-stops
-returns-in-Ask-clause-stops g c = c.question_word.ensures.stops
+returns-in-Ask-clause-stops g c =
+    c.question_word.ensures.stops
+
+pub returns-in-Lanes-clause-carries : goal.returns-in-Lanes-clause-carries
+returns-in-Lanes-clause-carries g c =
+    subst (λ r. Since (g.P.Port.moves c.args.port.now) (g.P.Port.moves c.lanes_word.new.port)
+    (Carries r c.lanes_word.result))
+    (sym c.in-Lanes.is) c.lanes_word.ensures.serves
+
+pub returns-in-Lanes-clause-ends : goal.returns-in-Lanes-clause-ends
+returns-in-Lanes-clause-ends g c =
+    subst (λ r. MayEnd r c.lanes_word.result) (sym c.in-Lanes.is) c.lanes_word.ensures.answer
+
+pub returns-in-Lanes-clause-comparisons : goal.returns-in-Lanes-clause-comparisons
+returns-in-Lanes-clause-comparisons g c =
+    subst (λ r. Since (g.P.Port.moves c.args.port.now) (g.P.Port.moves c.lanes_word.new.port)
+    (IsFrugal r c.lanes_word.result c.args.steps.now c.lanes_word.new.steps))
+    (sym c.in-Lanes.is) (since_weaker _ _ _ _ c.lanes_word.ensures.serves (λ xs s. tt))
+
+pub returns-in-Lanes-clause-stated : goal.returns-in-Lanes-clause-stated
+returns-in-Lanes-clause-stated g c =
+    λ done. subst (λ r. IsFrugalAsAsked r c.args.steps.now c.lanes_word.new.steps)
+    (sym c.in-Lanes.is) tt
+
+pub returns-in-Lanes-clause-causes : goal.returns-in-Lanes-clause-causes
+returns-in-Lanes-clause-causes g c =
+    c.lanes_word.ensures.causes
 
 pub returns-in-Lanes-clause-stops : goal.returns-in-Lanes-clause-stops
-returns-in-Lanes-clause-stops g c = c.lanes_word.ensures.stops
+returns-in-Lanes-clause-stops g c =
+    c.lanes_word.ensures.stops
+
+pub returns-in-Pause-clause-carries : goal.returns-in-Pause-clause-carries
+returns-in-Pause-clause-carries g c =
+    subst (λ r. Since (g.P.Port.moves c.args.port.now) (g.P.Port.moves c.pause_word.new.port)
+    (Carries r c.pause_word.result))
+    (sym c.in-Pause.is) c.pause_word.ensures.pauses
+
+pub returns-in-Pause-clause-ends : goal.returns-in-Pause-clause-ends
+returns-in-Pause-clause-ends g c =
+    subst (λ r. MayEnd r c.pause_word.result) (sym c.in-Pause.is) c.pause_word.ensures.answer
+
+pub returns-in-Pause-clause-comparisons : goal.returns-in-Pause-clause-comparisons
+returns-in-Pause-clause-comparisons g c =
+    subst (λ r. Since (g.P.Port.moves c.args.port.now) (g.P.Port.moves c.pause_word.new.port)
+    (IsFrugal r c.pause_word.result c.args.steps.now c.pause_word.new.steps))
+    (sym c.in-Pause.is) c.pause_word.ensures.count
+
+pub returns-in-Pause-clause-stated : goal.returns-in-Pause-clause-stated
+returns-in-Pause-clause-stated g c =
+    λ done. subst (λ r. IsFrugalAsAsked r c.args.steps.now c.pause_word.new.steps)
+    (sym c.in-Pause.is) tt
+
+pub returns-in-Pause-clause-causes : goal.returns-in-Pause-clause-causes
+returns-in-Pause-clause-causes g c =
+    c.pause_word.ensures.causes
 
 pub returns-in-Pause-clause-stops : goal.returns-in-Pause-clause-stops
-returns-in-Pause-clause-stops g c = c.pause_word.ensures.stops
+returns-in-Pause-clause-stops g c =
+    c.pause_word.ensures.stops
 
-pub returns-in-Resume-clause-resume_answers : goal.returns-in-Resume-clause-resume_answers
-returns-in-Resume-clause-resume_answers g c = λ at_end _. c.resume_word.ensures.answer
+pub returns-in-Resume-clause-carries : goal.returns-in-Resume-clause-carries
+returns-in-Resume-clause-carries g c =
+    subst (λ r. Since (g.P.Port.moves c.args.port.now) (g.P.Port.moves c.resume_word.new.port)
+    (Carries r c.resume_word.result))
+    (sym c.in-Resume.is) c.resume_word.ensures.resumes
 
-pub returns-in-Resume-clause-resume_comparisons : goal.returns-in-Resume-clause-resume_comparisons
-returns-in-Resume-clause-resume_comparisons g c = λ at_end _. c.resume_word.ensures.count
+pub returns-in-Resume-clause-ends : goal.returns-in-Resume-clause-ends
+returns-in-Resume-clause-ends g c =
+    subst (λ r. MayEnd r c.resume_word.result) (sym c.in-Resume.is) c.resume_word.ensures.answer
+
+pub returns-in-Resume-clause-comparisons : goal.returns-in-Resume-clause-comparisons
+returns-in-Resume-clause-comparisons g c =
+    subst (λ r. Since (g.P.Port.moves c.args.port.now) (g.P.Port.moves c.resume_word.new.port)
+    (IsFrugal r c.resume_word.result c.args.steps.now c.resume_word.new.steps))
+    (sym c.in-Resume.is) c.resume_word.ensures.count
+
+pub returns-in-Resume-clause-stated : goal.returns-in-Resume-clause-stated
+returns-in-Resume-clause-stated g c =
+    λ done. subst (λ r. IsFrugalAsAsked r c.args.steps.now c.resume_word.new.steps)
+    (sym c.in-Resume.is) tt
 
 pub returns-in-Resume-clause-causes : goal.returns-in-Resume-clause-causes
-returns-in-Resume-clause-causes g c = c.resume_word.ensures.causes
+returns-in-Resume-clause-causes g c =
+    c.resume_word.ensures.causes
 
 pub returns-in-Resume-clause-stops : goal.returns-in-Resume-clause-stops
-returns-in-Resume-clause-stops g c = c.resume_word.ensures.stops
+returns-in-Resume-clause-stops g c =
+    c.resume_word.ensures.stops
 
-pub returns-in-Unroll-clause-unrolls : goal.returns-in-Unroll-clause-unrolls
-returns-in-Unroll-clause-unrolls g c = λ until e. unroll_is
-    (λ until. Since (g.P.Port.moves c.args.port.now) (g.P.Port.moves c.unroll_word.new.port)
-    (unrolled.Tells until c.unroll_word.result))
-    c.in-Unroll.until until (sym c.in-Unroll.is ∙ e) c.unroll_word.ensures.tells
+pub returns-in-Unroll-clause-carries : goal.returns-in-Unroll-clause-carries
+returns-in-Unroll-clause-carries g c =
+    subst (λ r. Since (g.P.Port.moves c.args.port.now) (g.P.Port.moves c.unroll_word.new.port)
+    (Carries r c.unroll_word.result))
+    (sym c.in-Unroll.is) c.unroll_word.ensures.tells
 
-pub returns-in-Unroll-clause-unroll_answers : goal.returns-in-Unroll-clause-unroll_answers
-returns-in-Unroll-clause-unroll_answers g c = λ until _. c.unroll_word.ensures.answer
+pub returns-in-Unroll-clause-ends : goal.returns-in-Unroll-clause-ends
+returns-in-Unroll-clause-ends g c =
+    subst (λ r. MayEnd r c.unroll_word.result) (sym c.in-Unroll.is) c.unroll_word.ensures.answer
+
+pub returns-in-Unroll-clause-comparisons : goal.returns-in-Unroll-clause-comparisons
+returns-in-Unroll-clause-comparisons g c =
+    subst (λ r. Since (g.P.Port.moves c.args.port.now) (g.P.Port.moves c.unroll_word.new.port)
+    (IsFrugal r c.unroll_word.result c.args.steps.now c.unroll_word.new.steps))
+    (sym c.in-Unroll.is) (since_weaker _ _ _ _ c.unroll_word.ensures.tells (λ xs s. tt))
+
+pub returns-in-Unroll-clause-stated : goal.returns-in-Unroll-clause-stated
+returns-in-Unroll-clause-stated g c =
+    λ done. subst (λ r. IsFrugalAsAsked r c.args.steps.now c.unroll_word.new.steps)
+    (sym c.in-Unroll.is) tt
 
 pub returns-in-Unroll-clause-causes : goal.returns-in-Unroll-clause-causes
-returns-in-Unroll-clause-causes g c = c.unroll_word.ensures.causes
+returns-in-Unroll-clause-causes g c =
+    c.unroll_word.ensures.causes
 
 pub returns-in-Unroll-clause-stops : goal.returns-in-Unroll-clause-stops
-returns-in-Unroll-clause-stops g c = c.unroll_word.ensures.stops
+returns-in-Unroll-clause-stops g c =
+    c.unroll_word.ensures.stops

@@ -1,7 +1,7 @@
-use Rattle.std.proofs.Common.{◌∙◌, refl, ap, subst, length}
+use Rattle.std.proofs.Common.{◌∙◌, refl, ap, subst, length, inl, inr}
 use Rattle.dover_model.specs.Lines.{in_lines}
 use Rattle.dover_port.specs.declared.status.Status.TheVariants.{Done, WriteFault}
-use Rattle.dover_port.proofs.Made.{since_none}
+use Rattle.dover_port.proofs.Made.{since_none, since_weaker}
 use Rattle.adversary.specs.Baiting.{Baiting}
 use Rattle.dover_model.specs.Bait.{bait_jobs}
 use Rattle.dover_core.specs.Spending.{AreFew}
@@ -11,9 +11,9 @@ use Rattle.stated_word.proofs.Baiting.{feed_valid, feed_alone, feed_count, baite
 use Rattle.stated_word.proofs.Summing.{value_within, of_text}
 use Rattle.stated_word.proofs.bait.bait_word.Goals as goal
 
-pub returns-in_default-clause-writes : goal.returns-in_default-clause-writes
-returns-in_default-clause-writes g c =
-    λ fits. absurd (never_fits c.args.k c.args.rounds c.in_default.ensures.fits.1 fits)
+pub returns-in_default-clause-baits : goal.returns-in_default-clause-baits
+returns-in_default-clause-baits g c = since_weaker _ _ _ _ c.refuse_size.ensures.text
+    (λ xs refuses. inr (never_fits c.args.k c.args.rounds c.in_default.ensures.fits.1, refuses))
 
 pub returns-in_default-clause-answer : goal.returns-in_default-clause-answer
 returns-in_default-clause-answer g c =
@@ -36,33 +36,24 @@ bound-requires g c = record {
       c.in-Ok.tally c.in-Ok.ensures.tally;
 }
 
-pub returns-in-Ok-write_baited-clause-writes : goal.returns-in-Ok-write_baited-clause-writes
-returns-in-Ok-write_baited-clause-writes g c = λ fits. of_text _ _ Done _ _
+pub returns-in-Ok-write_baited-clause-baits : goal.returns-in-Ok-write_baited-clause-baits
+returns-in-Ok-write_baited-clause-baits g c = since_weaker _ _ _ _ (of_text _ _ Done _ _
     (ap (λ (b : Baited). in_lines (baited_lines b))
     (baited_is c.args.k c.args.rounds c.in-Some.feed c.in-Some.ensures.feed _ _ _ c.in-Ok.tally
     (c.from.ensures ∙ c.jobs-jobs.ensures.count) c.schedule_value-schedule.ensures.plan c.in-Ok.ensures.tally
     c.bound.ensures.is))
-    c.in-Ok-write_baited.ensures.text.all
+    c.in-Ok-write_baited.ensures.text.all) (λ xs writes. inl (c.in-Some.ensures.fits.0 refl, writes))
 
-pub returns-in-Err-clause-writes : goal.returns-in-Err-clause-writes
-returns-in-Err-clause-writes g c = λ fits. of_text _ _ WriteFault _ _
+pub returns-in-Err-clause-baits : goal.returns-in-Err-clause-baits
+returns-in-Err-clause-baits g c = since_weaker _ _ _ _ (of_text _ _ WriteFault _ _
     (ap (λ (b : Baited). in_lines (baited_lines b))
     (baited_is c.args.k c.args.rounds c.in-Some.feed c.in-Some.ensures.feed _ _ _ c.in-Ok.tally
     (c.from.ensures ∙ c.jobs-jobs.ensures.count) c.schedule_value-schedule.ensures.plan c.in-Ok.ensures.tally
     c.bound.ensures.is))
-    c.in-Err.ensures.text.part
+    c.in-Err.ensures.text.part) (λ xs writes. inl (c.in-Some.ensures.fits.0 refl, writes))
 
-pub returns-in_default-serve_all-clause-writes : goal.returns-in_default-serve_all-clause-writes
-returns-in_default-serve_all-clause-writes g c = λ fits. since_none _ _ refl
-
-pub returns-in_default-serve_all-clause-refuses : goal.returns-in_default-serve_all-clause-refuses
-returns-in_default-serve_all-clause-refuses g c = λ never. absurd (never (c.in-Some.ensures.fits.0 refl))
-
-pub returns-in-Ok-write_baited-clause-refuses : goal.returns-in-Ok-write_baited-clause-refuses
-returns-in-Ok-write_baited-clause-refuses g c = λ never. absurd (never (c.in-Some.ensures.fits.0 refl))
-
-pub returns-in-Err-clause-refuses : goal.returns-in-Err-clause-refuses
-returns-in-Err-clause-refuses g c = λ never. absurd (never (c.in-Some.ensures.fits.0 refl))
+pub returns-in_default-serve_all-clause-baits : goal.returns-in_default-serve_all-clause-baits
+returns-in_default-serve_all-clause-baits g c = since_none _ _ (inl (c.in-Some.ensures.fits.0 refl, refl))
 
 pub returns-in-Ok-write_baited-clause-count : goal.returns-in-Ok-write_baited-clause-count
 returns-in-Ok-write_baited-clause-count g c = λ done. subst (λ n. AreFew n c.args.steps.now c.serve_all.new.steps)

@@ -1,0 +1,33 @@
+-- What the call of each word does, as the record of the word has it.
+use Rattle.std.specs.Prelude.{List}
+use Rattle.dover_model.specs.Reports.{summary}
+use Rattle.dover_port.specs.Moves.{Move}
+use Rattle.dover_port.specs.declared.status.Status.{Status}
+use Rattle.serve_word.specs.Record as served
+use Rattle.serve_word.specs.Pausing.{Pauses}
+use Rattle.resume_word.specs.Record.{Resumes}
+use Rattle.judge_word.specs.Record.{Judges}
+use Rattle.report_word.specs.Record.{Reports}
+use Rattle.stated_word.specs.Record.{Writes}
+use Rattle.stated_word.specs.Lists.{trial_instance}
+use Rattle.stated_word.specs.Baited.{Baits}
+use Rattle.dover_words.specs.Questions.{says}
+use Rattle.dover_words.specs.Record as asked
+use Rattle.lanes_word.specs.Record as laned
+use Rattle.unroll_word.specs.Record as unrolled
+use Rattle.dover_top.specs.declared.request.Request.{Request}
+use Rattle.dover_top.specs.declared.request.Request.TheVariants.{Serve, Judge, Report, Trial, Bait, Ask, Lanes, Pause}
+use Rattle.dover_top.specs.declared.request.Request.TheVariants.{Resume, Unroll}
+
+-- the record of a call that carries out the request
+abbrev pub Carries : Request → Status → List Move → Type 0
+Carries Serve status = served.Serves status
+Carries Judge status = Judges status
+Carries (Report form) status = Reports form status
+Carries (Trial seed count k) status = Writes status (summary (trial_instance k seed count))
+Carries (Bait k rounds) status = Baits k rounds status
+Carries (Ask question) status = asked.Tells (says question) status
+Carries Lanes status = laned.Serves status
+Carries Pause status = Pauses status
+Carries (Resume at_end) status = Resumes at_end status
+Carries (Unroll until) status = unrolled.Tells until status

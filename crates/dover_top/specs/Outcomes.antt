@@ -1,0 +1,135 @@
+-- What a call comes to, for each row of words.
+use Rattle.std.specs.Prelude.{◌≡◌, ℕ, List, [], length, ◌⊎◌}
+use Rattle.dover_model.specs.Bait.{bait_jobs}
+use Rattle.dover_model.specs.Reports.{summary}
+use Rattle.dover_core.specs.Spending.{AreFew}
+use Rattle.dover_port.specs.Causes.{IsAnswer}
+use Rattle.dover_port.specs.Moves.{Move}
+use Rattle.dover_port.specs.declared.status.Status.{Status}
+use Rattle.dover_port.specs.declared.status.Status.TheVariants.{Done, No, Refused, ReadFault, WriteFault, Memory}
+use Rattle.adversary.specs.Baiting.{FitsLimits}
+use Rattle.serve_word.specs.Record as served
+use Rattle.serve_word.specs.Pausing as paused
+use Rattle.resume_word.specs.Record as resumed
+use Rattle.judge_word.specs.Record as judged
+use Rattle.report_word.specs.Record as reported
+use Rattle.stated_word.specs.Record as stated
+use Rattle.stated_word.specs.Lists.{trial_instance}
+use Rattle.stated_word.specs.Baited.{bait_text, size_text}
+use Rattle.feed_reading.specs.Record as listed
+use Rattle.dover_words.specs.Compare as compared
+use Rattle.dover_words.specs.Record as asked
+use Rattle.dover_words.specs.Questions.{says, IsAnswerTo}
+use Rattle.lanes_word.specs.Record as laned
+use Rattle.task_reading.specs.Record as tasks
+use Rattle.unroll_word.specs.Record as unrolled
+use Rattle.dover_top.specs.declared.request.Request.{Request}
+use Rattle.dover_top.specs.declared.request.Request.TheVariants.{Serve, Judge, Report, Trial, Bait, Ask, Lanes, Pause}
+use Rattle.dover_top.specs.declared.request.Request.TheVariants.{Resume, Unroll}
+use Rattle.dover_top.specs.Promises.{IsTraced, IsSettled, IsAccepted, IsJudged, IsReported, IsSummed, IsBaited}
+use Rattle.dover_top.specs.Promises.{IsTooLarge, IsCutShort, IsTracedOrPaused, IsSettledOrPaused, IsResumed}
+use Rattle.dover_top.specs.Promises.{IsSettledOrResumed, IsUnrolled, IsGiven, IsTold, IsAsked, AllServed, AreServed}
+use Rattle.dover_top.specs.Promises.{AreSettled}
+
+-- what was got and what was put where a read comes; trial and bait read nothing
+abbrev pub MayRead : Request → (got put : List ℕ) → Type 0
+MayRead Serve = served.MayRead
+MayRead Judge = judged.MayRead
+MayRead (Report form) = judged.MayRead
+MayRead (Trial seed count k) = λ got put. ⊥
+MayRead (Bait k rounds) = λ got put. ⊥
+MayRead (Ask question) = listed.MayRead
+MayRead Lanes = laned.MayRead
+MayRead Pause = served.MayRead
+MayRead (Resume at_end) = resumed.MayRead
+MayRead (Unroll until) = tasks.MayRead until
+
+-- what was read and written in all, by the status
+abbrev pub Outcome : Request → Status → List Move → Type 0
+Outcome Serve Done = IsTraced
+Outcome Serve Refused = served.IsRefused
+Outcome Serve ReadFault = served.IsUnread
+Outcome Serve WriteFault = served.IsUnwritten
+Outcome Serve Memory = served.IsOutOfMemory
+Outcome Judge Done = IsAccepted
+Outcome Judge No = judged.IsRefused
+Outcome Judge ReadFault = judged.IsUnread
+Outcome Judge WriteFault = judged.IsUnwritten
+Outcome Judge Memory = judged.IsOutOfMemory
+Outcome (Report form) Done = IsReported form
+Outcome (Report form) No = judged.IsRefused
+Outcome (Report form) ReadFault = judged.IsUnread
+Outcome (Report form) WriteFault = reported.IsUnwritten form
+Outcome (Report form) Memory = reported.IsOutOfMemory
+Outcome (Trial seed count k) Done = IsSummed (trial_instance k seed count)
+Outcome (Trial seed count k) WriteFault = IsCutShort (summary (trial_instance k seed count))
+Outcome (Trial seed count k) Memory = λ moves. moves ≡ []
+Outcome (Bait k rounds) Done = IsBaited k rounds
+Outcome (Bait k rounds) Refused = IsTooLarge
+Outcome (Bait k rounds) WriteFault = λ moves.
+    (FitsLimits k rounds × IsCutShort (bait_text k rounds) moves)
+    ⊎ ((FitsLimits k rounds → ⊥) × IsCutShort size_text moves)
+Outcome (Bait k rounds) Memory = λ moves. moves ≡ []
+Outcome (Ask question) Done = IsTold question
+Outcome (Ask question) No = asked.IsAnswered (says question) No
+Outcome (Ask question) Refused = λ moves. asked.IsRefused moves ⊎ asked.IsAnswered (says question) Refused moves
+Outcome (Ask question) ReadFault = asked.IsUnread
+Outcome (Ask question) WriteFault = asked.IsUnwritten (says question)
+Outcome (Ask question) Memory = asked.IsOutOfMemory
+Outcome Lanes Done = AllServed
+Outcome Lanes Refused = AreServed Refused
+Outcome Lanes ReadFault = laned.IsUnread
+Outcome Lanes WriteFault = laned.IsUnwritten
+Outcome Lanes Memory = laned.IsOutOfMemory
+Outcome Pause Done = IsTracedOrPaused
+Outcome Pause Refused = paused.IsRefused
+Outcome Pause ReadFault = served.IsUnread
+Outcome Pause WriteFault = paused.IsUnwritten
+Outcome Pause Memory = served.IsOutOfMemory
+Outcome (Resume at_end) Done = IsResumed at_end
+Outcome (Resume at_end) Refused = resumed.IsRefused at_end
+Outcome (Resume at_end) ReadFault = resumed.IsUnread at_end
+Outcome (Resume at_end) WriteFault = resumed.IsUnwritten at_end
+Outcome (Resume at_end) Memory = resumed.IsOutOfMemory at_end
+Outcome (Unroll until) Done = unrolled.IsAnswered until Done
+Outcome (Unroll until) Refused = λ moves. unrolled.IsRefused until moves ⊎ unrolled.IsAnswered until Refused moves
+Outcome (Unroll until) ReadFault = unrolled.IsUnread until
+Outcome (Unroll until) WriteFault = unrolled.IsUnwritten until
+Outcome (Unroll until) Memory = unrolled.IsOutOfMemory
+Outcome _ _ = λ moves. ⊥
+
+-- the statuses with which it may end
+abbrev pub MayEnd : Request → Status → Type 0
+MayEnd Judge status = judged.IsAnswer status
+MayEnd (Report form) status = judged.IsAnswer status
+MayEnd (Trial seed count k) status = stated.IsAnswer status
+MayEnd (Bait k rounds) status = stated.IsAnswerFor status (FitsLimits k rounds)
+MayEnd (Ask question) status = IsAnswerTo question status
+MayEnd _ status = IsAnswer status
+
+-- where no call failed, the status is the one that what was read calls for, if there was memory
+abbrev pub IsCalledFor : Request → Status → List Move → Type 0
+IsCalledFor Serve status = IsSettled status
+IsCalledFor Judge status = IsJudged status
+IsCalledFor (Report form) status = IsJudged status
+IsCalledFor (Trial seed count k) status = λ moves. (status ≡ Done) ⊎ (status ≡ Memory)
+IsCalledFor (Bait k rounds) status = λ moves. IsGiven status (FitsLimits k rounds)
+IsCalledFor (Ask question) status = IsAsked question status
+IsCalledFor Lanes status = AreSettled status
+IsCalledFor Pause status = IsSettledOrPaused status
+IsCalledFor (Resume at_end) status = IsSettledOrResumed at_end status
+IsCalledFor (Unroll until) status = IsUnrolled until status
+
+-- how few comparisons it made, with so many before and now, for the jobs of what was read; for some words at Done alone
+abbrev pub IsFrugal : Request → Status → (before now : ℕ) → List Move → Type 0
+IsFrugal Serve status before now = served.IsFrugal before now
+IsFrugal Pause status before now = served.IsFrugal before now
+IsFrugal (Resume at_end) status before now = resumed.IsFrugal before now
+IsFrugal (Ask question) Done before now = compared.IsFrugal before now
+IsFrugal _ _ before now = λ moves. Unit {0}
+
+-- the same where the words alone tell how many jobs there are
+abbrev pub IsFrugalAsAsked : Request → (before now : ℕ) → Type 0
+IsFrugalAsAsked (Trial seed count k) before now = AreFew count before now
+IsFrugalAsAsked (Bait k rounds) before now = AreFew (length (bait_jobs k rounds)) before now
+IsFrugalAsAsked _ before now = Unit {0}
