@@ -1,7 +1,12 @@
+ghost use Rattle.std.specs.Prelude.{◌≡◌, ◌<◌};
+
 use crate::ports::{Cut, SIZES, pieces_of, port};
-use dover_port::Status;
+use dover_port::{MemoryPort, Status};
 use judge_word::judge_word;
+use std::marker::Brand;
+use std::sync::ledger::{Blank, Ledger};
 use std::test::Fail;
+use step_count::Steps;
 
 /// Texts, how each ends, and what is written for it.
 const TEXTS: [(&str, Status, &str); 6] = [
@@ -69,6 +74,20 @@ const FAILING: [(Cut, Status, &str); 4] = [
     ),
 ];
 
+fn judged_in<L: Ledger>(rt: &HostRuntime, port: &mut MemoryPort, blank: Blank) -> Status
+    requires name { blank.name ≡ L.name }
+    requires parts { blank.parts ≡ L.parts }
+    requires some { 0 < blank.parts }
+{
+    let mut steps = Steps::<L>::new(rt.memory(), blank);
+    judge_word(rt.alloc(), port, &mut steps)
+}
+
+/// One call over a port, with a ledger of its own.
+fn judged(rt: &HostRuntime, port: &mut MemoryPort) -> Status {
+    judged_in::<Brand>(rt, port, Blank::new(1))
+}
+
 /// Whether the word ends so on the text, and writes this.
 fn ends(
     rt: &HostRuntime,
@@ -78,7 +97,7 @@ fn ends(
     written: &str,
 ) -> Result<bool, Fail> {
     let mut port = port(rt.alloc(), text, cut)?;
-    let answer = judge_word(rt.alloc(), &mut port);
+    let answer = judged(rt, &mut port);
     Ok(answer == status && port.written() == written.as_bytes())
 }
 

@@ -5,6 +5,8 @@
 #[cfg(test)]
 mod asked_questions;
 #[cfg(test)]
+mod drawn_runs;
+#[cfg(test)]
 mod judged_texts;
 #[cfg(test)]
 mod laned_feeds;
@@ -16,3 +18,5 @@ mod ports;
 mod stated_lists;
 #[cfg(test)]
 mod told_reports;
+#[cfg(test)]
+mod viewed_runs;

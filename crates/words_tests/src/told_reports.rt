@@ -1,10 +1,15 @@
 //! The two reports over ports in memory, in one piece and byte by byte, failing calls, and tables that are read back.
+ghost use Rattle.std.specs.Prelude.{◌≡◌, ◌<◌};
+
 use crate::ports::{Cut, pieces_of, port};
 use csv::{Reader, StringRecord};
-use dover_port::Status;
+use dover_port::{MemoryPort, Status};
 use report_word::{Form, report_word};
 use std::alloc::Global;
+use std::marker::Brand;
+use std::sync::ledger::{Blank, Ledger};
 use std::test::Fail;
+use step_count::Steps;
 
 /// The trace of a run in which a job takes the processor.
 const TAKEN: &str =
@@ -119,6 +124,25 @@ const FAILING: [(Cut, Status); 3] = [
     ),
 ];
 
+fn reported_in<L: Ledger>(
+    rt: &HostRuntime,
+    port: &mut MemoryPort,
+    form: Form,
+    blank: Blank,
+) -> Status
+    requires name { blank.name ≡ L.name }
+    requires parts { blank.parts ≡ L.parts }
+    requires some { 0 < blank.parts }
+{
+    let mut steps = Steps::<L>::new(rt.memory(), blank);
+    report_word(rt.alloc(), port, form, &mut steps)
+}
+
+/// One call over a port, with a ledger of its own.
+pub(crate) fn reported(rt: &HostRuntime, port: &mut MemoryPort, form: Form) -> Status {
+    reported_in::<Brand>(rt, port, form, Blank::new(1))
+}
+
 /// Whether the word ends so on the text, and tells this.
 fn ends(
     rt: &HostRuntime,
@@ -129,7 +153,7 @@ fn ends(
     told: &str,
 ) -> Result<bool, Fail> {
     let mut port = port(rt.alloc(), text, cut)?;
-    let answer = report_word(rt.alloc(), &mut port, form);
+    let answer = reported(rt, &mut port, form);
     Ok(answer == status && port.written() == told.as_bytes())
 }
 
@@ -205,7 +229,7 @@ fn tells_each(alloc: Global, table: &[u8], trace: &str, jobs: u64) -> Result<boo
 /// Whether the table of the trace is written, and reads back as so many jobs.
 fn reads_back(rt: &HostRuntime, trace: &str, jobs: u64) -> Result<bool, Fail> {
     let mut port = port(rt.alloc(), trace, pieces_of(4096))?;
-    let answer = report_word(rt.alloc(), &mut port, Form::Table);
+    let answer = reported(rt, &mut port, Form::Table);
     Ok(answer == Status::Done && tells_each(rt.alloc(), port.written(), trace, jobs)?)
 }
 

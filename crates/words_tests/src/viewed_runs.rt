@@ -1,6 +1,7 @@
 //! The reports for a viewer, on one job, and for a terminal, over ports in memory.
+use crate::told_reports::reported;
 use dover_port::{MemoryPort, Status};
-use report_word::{Form, report_word};
+use report_word::Form;
 use run_view::Window;
 use std::alloc::Global;
 use std::test::Fail;
@@ -35,7 +36,7 @@ const MINUTE: &str = "dover 1 5 1\njob 0 0 60 90 60\nrun 0 0\njob 1 10 5 30 25\n
     run 575 22\ncomplete 595 22\nend 995\n";
 
 /// Texts, the form that is asked for, how each ends, and what is written for it.
-const TEXTS: [(&str, Form, Status, &str); 30] = [
+const TEXTS: [(&str, Form, Status, &str); 32] = [
     (
         ONE,
         Form::Chrome,
@@ -83,14 +84,15 @@ const TEXTS: [(&str, Form, Status, &str); 30] = [
         Form::Why(0),
         Status::Done,
         "job 0: release 0, work 3, deadline 30, value 3\nat 0 it runs\n\
-            at 0 it is preempted by job 1, which is due earlier\nat 0 it is displaced by job 2\nat 12 it runs\n\
-            at 15 it is completed\n",
+            at 0 it is preempted by job 1, which is due earlier, its work 2 within the room 27\n\
+            at 0 it is displaced by job 2\nat 12 it runs\nat 15 it is completed\n",
     ),
     (
         TAKEN,
         Form::Why(1),
         Status::Done,
-        "job 1: release 0, work 2, deadline 4, value 2\nat 0 it preempts job 0, which is due later\n\
+        "job 1: release 0, work 2, deadline 4, value 2\n\
+            at 0 it preempts job 0, which is due later, its work 2 within the room 27\n\
             at 0 it is displaced by job 2\n\
             at 2 it is abandoned, its value 2 against 12 under way: 1 * 0^2 = 0 not above 1 * 12^2 = 144; heavy from 25 on\n",
     ),
@@ -99,6 +101,7 @@ const TEXTS: [(&str, Form, Status, &str); 30] = [
         Form::Why(2),
         Status::Done,
         "job 2: release 0, work 12, deadline 12, value 12\n\
+            at 0 it waits, its work 12 above the room 2\n\
             at 0 it takes the processor from job 1, its value 12 against 5 under way: 1 * 7^2 = 49 above 1 * 5^2 = 25; heavy from 11 on\n\
             at 12 it is completed\n",
     ),
@@ -123,16 +126,22 @@ const TEXTS: [(&str, Form, Status, &str); 30] = [
         MINUTE,
         Form::Why(4),
         Status::Done,
-        "job 4: release 100, work 60, deadline 190, value 60\nat 100 it runs\n\
-            at 110 it is preempted by job 5, which is due earlier\nat 115 it runs\n\
-            at 125 it is preempted by job 7, which is due earlier\nat 130 it runs\n\
-            at 150 it is preempted by job 8, which is due earlier\nat 160 it runs\nat 180 it is completed\n",
+        "job 4: release 100, work 60, deadline 190, value 60\n\
+            at 100 it runs\n\
+            at 110 it is preempted by job 5, which is due earlier, its work 5 within the room 30\n\
+            at 115 it runs\n\
+            at 125 it is preempted by job 7, which is due earlier, its work 5 within the room 25\n\
+            at 130 it runs\n\
+            at 150 it is preempted by job 8, which is due earlier, its work 10 within the room 20\n\
+            at 160 it runs\n\
+            at 180 it is completed\n",
     ),
     (
         MINUTE,
         Form::Why(6),
         Status::Done,
         "job 6: release 120, work 40, deadline 170, value 40\n\
+            at 120 it waits, its work 40 above the room 25\n\
             at 130 it is abandoned, its value 40 against 60 under way: 1 * 0^2 = 0 not above 5 * 60^2 = 18000; heavy from 195 on\n",
     ),
     (
@@ -140,13 +149,36 @@ const TEXTS: [(&str, Form, Status, &str); 30] = [
         Form::Why(10),
         Status::Done,
         "job 10: release 210, work 20, deadline 230, value 100\n\
+            at 210 it waits, its work 20 above the room 10\n\
             at 210 it is abandoned, its value 100 against 80 under way: 1 * 20^2 = 400 not above 5 * 80^2 = 32000; heavy from 259 on\n",
+    ),
+    (
+        MINUTE,
+        Form::Why(14),
+        Status::Done,
+        "job 14: release 300, work 5, deadline 320, value 25\n\
+            at 300 it waits, due no earlier than the job that runs, its work 5 within the room 15\n\
+            at 305 it runs\n\
+            at 310 it is completed\n",
+    ),
+    (
+        MINUTE,
+        Form::Why(17),
+        Status::Done,
+        "job 17: release 400, work 60, deadline 490, value 60\n\
+            at 400 it waits, its work 60 above the room 10\n\
+            at 410 it runs\n\
+            at 420 it is preempted by job 18, which is due earlier, its work 5 within the room 20\n\
+            at 425 it runs\n\
+            at 450 it is displaced by job 19\n\
+            at 465 it is abandoned, its value 60 against 300 under way: 1 * 0^2 = 0 not above 5 * 300^2 = 450000; heavy from 971 on\n",
     ),
     (
         MINUTE,
         Form::Why(19),
         Status::Done,
         "job 19: release 450, work 100, deadline 550, value 300\n\
+            at 450 it waits, its work 100 above the room 15\n\
             at 450 it takes the processor from job 17, its value 300 against 60 under way: 1 * 240^2 = 57600 above 5 * 60^2 = 18000; heavy from 195 on\n\
             at 550 it is completed\n",
     ),
@@ -349,7 +381,7 @@ fn texts_and_their_reports(rt: HostRuntime) -> Result<(), Fail> {
     let alloc = rt.alloc();
     for (text, form, status, told) in TEXTS {
         let mut port = port(alloc, text)?;
-        assert!(rt; report_word(alloc, &mut port, form) == status);
+        assert!(rt; reported(&rt, &mut port, form) == status);
         assert!(rt; port.written() == told.as_bytes());
     }
     Ok(())

@@ -1,6 +1,7 @@
 //! The report as SVG, over ports in memory.
+use crate::told_reports::reported;
 use dover_port::{MemoryPort, Status};
-use report_word::{Form, report_word};
+use report_word::Form;
 use run_view::Window;
 use std::alloc::Global;
 use std::test::Fail;
@@ -10,9 +11,9 @@ const STYLE: &str =
     "<style>text{font:12px sans-serif;fill:#222}.s{font-size:10px}.r{text-anchor:end}\n\
          .m{text-anchor:middle}.b{font-weight:bold;font-size:14px}\n\
          .i text{font-size:9px;fill:#fff;text-anchor:middle}\n\
-         .j{font-size:10px;paint-order:stroke;stroke:#fff;stroke-width:3px;stroke-linejoin:round}\n\
-         .v{font-size:9px;fill:#a33c00;paint-order:stroke;stroke:#fff;stroke-width:2px}\n\
-         path{fill:none;pointer-events:none}text{pointer-events:none}.w,.g{pointer-events:stroke}\n\
+         .j text{font-size:10px;paint-order:stroke;stroke:#fff;stroke-width:3px;stroke-linejoin:round}\n\
+         text.v{font-size:9px;fill:#a33c00;paint-order:stroke;stroke:#fff;stroke-width:2px}\n\
+         path{fill:none;pointer-events:none}text{pointer-events:none}.w path{pointer-events:stroke}\n\
          .w{stroke:#dfe5ec}.g{stroke:#f4d5c4}.h{stroke:#9db8cc}.c{stroke:#0072b2}.t{stroke:#e69f00}\n\
          .l{stroke:#d55e00}\n\
          .o{stroke:#d55e00;stroke-opacity:.08}.f{fill:none;stroke:#bbb}.a{stroke:#e2e2e2}.p{stroke:#444}\n\
@@ -52,7 +53,7 @@ const PICTURES: [(&str, Option<Window>, &str, &str); 4] = [
          <g class='i'>\n\
          </g>\n\
          <text class='r' x='82' y='124'>jobs</text>\n\
-         <g stroke-width='15'>\n\
+         <g class='w' stroke-width='15'>\n\
          </g>\n\
          <path class='h' stroke-width='6' d=''/>\n\
          <path class='c' stroke-width='15' d=''/>\n\
@@ -61,6 +62,8 @@ const PICTURES: [(&str, Option<Window>, &str, &str); 4] = [
          <path class='p' d=''/>\n\
          <path class='k' d=''/>\n\
          <path class='x' d=''/>\n\
+         <g class='j'>\n\
+         </g>\n\
          <path class='L' d='M90 254V254H1290V254Z'/>\n\
          <path class='C' d='M90 254V254H1290V254Z'/>\n\
          <text class='r' x='82' y='157'>value so far</text>\n\
@@ -105,9 +108,8 @@ const PICTURES: [(&str, Option<Window>, &str, &str); 4] = [
          <text x='690' y='91'>0</text>\n\
          </g>\n\
          <text class='r' x='82' y='124'>jobs</text>\n\
-         <g stroke-width='15'>\n\
-         <path class='w' d='M90 121h1200'><title>job 0: release 0, work 2, deadline 2, value 2, complete 2</title></p\
-         ath>\n\
+         <g class='w' stroke-width='15'>\n\
+         <path d='M90 121h1200'><title>job 0: 0 to 2, work 2, value 2, complete 2</title></path>\n\
          </g>\n\
          <path class='h' stroke-width='6' d=''/>\n\
          <path class='c' stroke-width='15' d='M90 121h1200'/>\n\
@@ -116,7 +118,9 @@ const PICTURES: [(&str, Option<Window>, &str, &str); 4] = [
          <path class='p' d=''/>\n\
          <path class='k' d=''/>\n\
          <path class='x' d=''/>\n\
-         <text class='j' x='92' y='125'>0</text>\n\
+         <g class='j'>\n\
+         <text x='92' y='125'>0</text>\n\
+         </g>\n\
          <path class='L' d='M90 254V254H1290V144H1290V254Z'/>\n\
          <path class='C' d='M90 254V254H1290V144H1290V254Z'/>\n\
          <text class='r' x='82' y='157'>value so far</text>\n\
@@ -174,25 +178,25 @@ const PICTURES: [(&str, Option<Window>, &str, &str); 4] = [
          <text x='630' y='91'>0</text>\n\
          </g>\n\
          <text class='r' x='82' y='124'>jobs</text>\n\
-         <g stroke-width='15'>\n\
-         <path class='w' d='M90 121h1200'><title>job 0: release 0, work 3, deadline 30, value 3, complete 15</title><\
-         /path>\n\
-         <path class='g' d='M90 139h160'><title>job 1: release 0, work 2, deadline 4, value 2 against 12 under way, a\
-         bandon 2</title></path>\n\
-         <path class='w' d='M90 157h480'><title>job 2: release 0, work 12, deadline 12, value 12 against 5 under way,\
-         \x20taken, complete 12</title></path>\n\
+         <g class='w' stroke-width='15'>\n\
+         <path d='M90 121h1200'><title>job 0: 0 to 30, work 3, value 3, complete 15</title></path>\n\
+         <path class='g' d='M90 139h160'><title>job 1: 0 to 4, work 2, value 2 against 12, abandon 2</title></path>\n\
+         <path d='M90 157h480'><title>job 2: 0 to 12, work 12, value 12 against 5, taken, complete 12</title></path\
+         >\n\
          </g>\n\
          <path class='h' stroke-width='6' d='M90 121h600M90 139h80'/>\n\
          <path class='c' stroke-width='15' d='M570 121h120'/>\n\
          <path class='t' stroke-width='15' d='M90 157h480'/>\n\
          <path class='l' stroke-width='15' d=''/>\n\
-         <path class='p' d='M90 121V139m-2 -4h4l-2 4'/>\n\
-         <path class='k' d='M90 139V157m-2 -4h4l-2 4'/>\n\
-         <path class='x' d='M167 135l6 9m0 -9l-6 9'/>\n\
-         <text class='j' x='92' y='125'>0</text>\n\
-         <text class='j' x='92' y='143'>1</text>\n\
+         <path class='p' d='M90 121V139m-2-4h4l-2 4'/>\n\
+         <path class='k' d='M90 139V157m-2-4h4l-2 4'/>\n\
+         <path class='x' d='M167 135l6 9m0-9l-6 9'/>\n\
+         <g class='j'>\n\
+         <text x='92' y='125'>0</text>\n\
+         <text x='92' y='143'>1</text>\n\
          <text class='v' x='176' y='143'>-2</text>\n\
-         <text class='j' x='92' y='161'>2</text>\n\
+         <text x='92' y='161'>2</text>\n\
+         </g>\n\
          <path class='L' d='M90 290V290H170V278H570V200H690V180H1290V290Z'/>\n\
          <path class='C' d='M90 290V290H170V290H570V213H690V193H1290V290Z'/>\n\
          <text class='r' x='82' y='193'>value so far</text>\n\
@@ -253,13 +257,11 @@ const PICTURES: [(&str, Option<Window>, &str, &str); 4] = [
          <text x='690' y='91'>2</text>\n\
          </g>\n\
          <text class='r' x='82' y='124'>jobs</text>\n\
-         <g stroke-width='15'>\n\
-         <path class='w' d='M90 121h1200'><title>job 0: release 0, work 3, deadline 30, value 3, complete 15</title><\
-         /path>\n\
-         <path class='g' d='M90 139h360'><title>job 1: release 0, work 2, deadline 4, value 2 against 12 under way, a\
-         bandon 2</title></path>\n\
-         <path class='w' d='M90 157h1200'><title>job 2: release 0, work 12, deadline 12, value 12 against 5 under way\
-         , taken, complete 12</title></path>\n\
+         <g class='w' stroke-width='15'>\n\
+         <path d='M90 121h1200'><title>job 0: 0 to 30, work 3, value 3, complete 15</title></path>\n\
+         <path class='g' d='M90 139h360'><title>job 1: 0 to 4, work 2, value 2 against 12, abandon 2</title></path>\n\
+         <path d='M90 157h1200'><title>job 2: 0 to 12, work 12, value 12 against 5, taken, complete 12</title></pat\
+         h>\n\
          </g>\n\
          <path class='h' stroke-width='6' d='M90 121h1200M90 139h120'/>\n\
          <path class='c' stroke-width='15' d=''/>\n\
@@ -267,8 +269,10 @@ const PICTURES: [(&str, Option<Window>, &str, &str); 4] = [
          <path class='l' stroke-width='15' d=''/>\n\
          <path class='p' d=''/>\n\
          <path class='k' d=''/>\n\
-         <path class='x' d='M207 135l6 9m0 -9l-6 9'/>\n\
+         <path class='x' d='M207 135l6 9m0-9l-6 9'/>\n\
+         <g class='j'>\n\
          <text class='v' x='216' y='143'>-2 against 12</text>\n\
+         </g>\n\
          <path class='L' d='M90 290V290H210V180H1290V180H1290V290Z'/>\n\
          <path class='C' d='M90 290V290H210V290H1290V290H1290V290Z'/>\n\
          <text class='r' x='82' y='193'>value so far</text>\n\
@@ -294,7 +298,7 @@ fn traces_and_their_pictures(rt: HostRuntime) -> Result<(), Fail> {
     let alloc = rt.alloc();
     for (text, window, front, rest) in PICTURES {
         let mut port = port(alloc, text)?;
-        assert!(rt; report_word(alloc, &mut port, Form::Svg(window)) == Status::Done);
+        assert!(rt; reported(&rt, &mut port, Form::Svg(window)) == Status::Done);
         let mut whole = Vec::from_slice(alloc, front.as_bytes())?;
         whole.extend_from_slice(STYLE.as_bytes())?;
         whole.extend_from_slice(rest.as_bytes())?;
