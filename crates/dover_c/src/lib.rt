@@ -5,7 +5,9 @@
 pub mod laws;
 mod slot;
 
-ghost use Rattle.std.specs.Prelude.{ℕ};
+ghost use Rattle.std.specs.Prelude.{◌≡◌, ℕ};
+ghost use prog.Memory.{size, capped};
+ghost use denote.Param.{layout};
 ghost use types.Logic.{sem};
 ghost use base.Fraction.{full_share};
 ghost use denote.RawPtr.{lies_at, room_at};
@@ -155,6 +157,8 @@ pub unsafe extern "C" fn dover_drop(place: *mut Place)
 
 /// How many bytes a place has. It lies at a multiple of 8.
 #[unsafe(no_mangle)]
-pub extern "C" fn dover_size() -> usize {
+pub extern "C" fn dover_size() -> usize
+    ensures { result ≡ capped (size (layout the_row)) }
+{
     std::mem::size_of::<Slot>()
 }
