@@ -1,10 +1,17 @@
 -- What is read of a feed's line.
-use Rattle.std.proofs.Common.{◌≡◌, ℕ, ◌<◌, List, [], ◌∷◌, length, refl, ap, ◌∙◌, Bool, true, false, cond, Option, Some}
-use Rattle.std.proofs.Common.{None, arith, codes}
-use Rattle.std.specs.Prelude.{Result, Ok, Err, IfOk, bytes_eq, if◌then◌else◌}
+use Rattle.std.proofs.Common.{◌≡◌, ◌≢◌, ℕ, List, [], ◌∷◌, length, refl, sym, ap, ◌∙◌, true, Option, Some}
+use Rattle.std.proofs.Common.{None, codes, option_map}
+use Rattle.std.proofs.lemmas.Slice.Eq.{bytes_eq-Decides}
+use Rattle.dover_model.specs.Numerals.{numeral}
+use Rattle.dover_model.specs.Lines.{line_of}
+use Rattle.dover_model.proofs.Fields.{line_of-fields_of}
+use Rattle.dover_model.proofs.Members.{some_same}
+use Rattle.dover_model.proofs.Tests.{none_is_some}
+use Rattle.line_text.proofs.Words.{IsNot, uncounted, skip, Lacks, differs}
+use Rattle.std.specs.Prelude.{Result, Ok, Err, IfOk, bytes_eq}
 use Rattle.std.specs.Option.{option_and_then}
 use Rattle.dover_model.specs.Numerals.{numerals}
-use Rattle.dover_model.specs.Lines.{fields_of, is_too_long}
+use Rattle.dover_model.specs.Lines.{fields_of}
 use Rattle.dover_model.specs.FeedLine as model
 use Rattle.dover_model.proofs.FeedLines.{feed_text-feed_line}
 use Rattle.dover_model.proofs.ReadShort.{read_HasNumerals}
@@ -12,54 +19,98 @@ use Rattle.line_text.specs.declared.BadLine.{BadLine}
 use Rattle.job_format.specs.declared.lines.FeedLine.{FeedLine}
 use Rattle.job_format.specs.Form.{form_of}
 
--- no line has more than five numbers
-many_ratio : (ns : List ℕ) → 5 < length ns → model.ratio_line ns ≡ None
-many_ratio [] many = absurd (omega arith)
-many_ratio (a ∷ []) many = refl
-many_ratio (a ∷ b ∷ []) many = absurd (omega arith)
-many_ratio (a ∷ b ∷ c ∷ []) many = absurd (omega arith)
-many_ratio (a ∷ b ∷ c ∷ d ∷ ns) many = refl
+-- ---- another count of numbers
 
-many_job : (ns : List ℕ) → 5 < length ns → model.job_line ns ≡ None
-many_job [] many = refl
-many_job (a ∷ []) many = refl
-many_job (a ∷ b ∷ []) many = refl
-many_job (a ∷ b ∷ c ∷ []) many = refl
-many_job (a ∷ b ∷ c ∷ d ∷ []) many = absurd (omega arith)
-many_job (a ∷ b ∷ c ∷ d ∷ e ∷ ns) many = refl
+-- of a job
+not_four : (ns : List ℕ) → length ns ≢ 4 → model.job_line ns ≡ None
+not_four [] other = refl
+not_four (a ∷ []) other = refl
+not_four (a ∷ b ∷ []) other = refl
+not_four (a ∷ b ∷ c ∷ []) other = refl
+not_four (a ∷ b ∷ c ∷ d ∷ []) other = absurd (other refl)
+not_four (a ∷ b ∷ c ∷ d ∷ e ∷ ns) other = refl
 
-many_tick : (ns : List ℕ) → 5 < length ns → model.tick_line ns ≡ None
-many_tick [] many = refl
-many_tick (a ∷ []) many = absurd (omega arith)
-many_tick (a ∷ b ∷ ns) many = refl
+-- of a tick
+not_one : (ns : List ℕ) → length ns ≢ 1 → model.tick_line ns ≡ None
+not_one [] other = refl
+not_one (a ∷ []) other = absurd (other refl)
+not_one (a ∷ b ∷ ns) other = refl
 
-many_end : (ns : List ℕ) → 5 < length ns → model.end_line ns ≡ None
-many_end [] many = absurd (omega arith)
-many_end (a ∷ ns) many = refl
+-- of a ratio
+not_two_or_three : (ns : List ℕ) → length ns ≢ 2 → length ns ≢ 3 → model.ratio_line ns ≡ None
+not_two_or_three [] other more = refl
+not_two_or_three (a ∷ []) other more = refl
+not_two_or_three (a ∷ b ∷ []) other more = absurd (other refl)
+not_two_or_three (a ∷ b ∷ c ∷ []) other more = absurd (more refl)
+not_two_or_three (a ∷ b ∷ c ∷ d ∷ ns) other more = refl
 
-many_word : (word ns : List ℕ) → 5 < length ns → model.line_of_word word ns ≡ None
-many_word word ns many =
-    by (bytes_eq word (codes "k")) (bytes_eq word (codes "job")) (bytes_eq word (codes "tick"))
-    (bytes_eq word (codes "end")) where
-      by : (a b c d : Bool) → cond a (model.ratio_line ns)
-          (cond b (model.job_line ns) (cond c (model.tick_line ns) (cond d (model.end_line ns) None))) ≡ None
-      by true b c d = many_ratio ns many
-      by false true c d = many_job ns many
-      by false false true d = many_tick ns many
-      by false false false true = many_end ns many
-      by false false false false = refl
+pub no_job : (o : Option (List ℕ)) → IsNot 4 o → None ≡ option_and_then model.job_line o
+no_job = uncounted model.job_line 4 not_four
 
--- so fields with no numbers, or more than five, are no line
-pub none_read : (line word : List ℕ) (rest : List (List ℕ)) → fields_of line ≡ word ∷ rest
-    → ((ns : List ℕ) → numerals rest ≡ Some ns → 5 < length ns) → model.feed_line line ≡ None
-none_read line word rest cut many = by (is_too_long line) where
-  by_numbers : (o : Option (List ℕ)) → numerals rest ≡ o → option_and_then (model.line_of_word word) o ≡ None
-  by_numbers None e = refl
-  by_numbers (Some ns) e = many_word word ns (many ns e)
+pub no_tick : (o : Option (List ℕ)) → IsNot 1 o → None ≡ option_and_then model.tick_line o
+no_tick = uncounted model.tick_line 1 not_one
 
-  by : (b : Bool) → (if b then None else model.line_of_fields (fields_of line)) ≡ None
-  by true = refl
-  by false = ap model.line_of_fields cut ∙ by_numbers (numerals rest) refl
+pub no_ratio : (o : Option (List ℕ)) → IsNot 2 o → IsNot 3 o → None ≡ option_and_then model.ratio_line o
+no_ratio None other more = refl
+no_ratio (Some ns) other more = sym (not_two_or_three ns (other ns refl) (more ns refl))
+
+-- ---- the word
+
+-- for each word its line has no such numbers if the word is this one
+pub record IsNoLine (word ns : List ℕ) : Type 0 where
+  pub ratio : bytes_eq word (codes "k") ≡ true → model.ratio_line ns ≡ None
+  pub job : bytes_eq word (codes "job") ≡ true → model.job_line ns ≡ None
+  pub tick : bytes_eq word (codes "tick") ≡ true → model.tick_line ns ≡ None
+  pub end : bytes_eq word (codes "end") ≡ true → model.end_line ns ≡ None
+
+-- then there is no line
+no_word : (word ns : List ℕ) → IsNoLine word ns → model.line_of_word word ns ≡ None
+no_word word ns it =
+    skip _ _ _ it.ratio (skip _ _ _ it.job (skip _ _ _ it.tick (skip _ _ _ it.end refl)))
+
+no_numbers : (word : List ℕ) (o : Option (List ℕ)) → ((ns : List ℕ) → o ≡ Some ns → IsNoLine word ns)
+    → option_and_then (model.line_of_word word) o ≡ None
+no_numbers word None it = refl
+no_numbers word (Some ns) it = no_word word ns (it ns refl)
+
+-- the line begins with no word of a feed and a space, and isn't the end
+pub record LacksAll (line : List ℕ) : Type 0 where
+  pub ratio : Lacks line (codes "k")
+  pub job : Lacks line (codes "job")
+  pub tick : Lacks line (codes "tick")
+  pub end : (line ≡ codes "end") → ⊥
+
+-- it is no line of a feed
+pub no_line : (line : List ℕ) → LacksAll line → None ≡ model.line_of_fields (fields_of line)
+no_line line it = sym (by_fields (fields_of line) refl) where
+  some_numbers : (field : List ℕ) (fields : List (List ℕ)) (ns : List ℕ) → numerals (field ∷ fields) ≡ Some ns
+      → model.end_line ns ≡ None
+  some_numbers field fields ns read = by (numeral field) (numerals fields) read where
+    by : (n : Option ℕ) (o : Option (List ℕ))
+        → option_and_then (λ m. option_map (λ ms. m ∷ ms) o) n ≡ Some ns → model.end_line ns ≡ None
+    by None o e = none_is_some e
+    by (Some n) None e = none_is_some e
+    by (Some n) (Some ms) e = ap model.end_line (sym (some_same (n ∷ ms) ns e))
+
+  by_fields : (fields : List (List ℕ)) → fields_of line ≡ fields → model.line_of_fields fields ≡ None
+  by_fields [] is = refl
+  by_fields (word ∷ []) is = no_word word [] record {
+    ratio = λ same. refl;
+    job = λ same. refl;
+    tick = λ same. refl;
+    end = λ same. absurd (it.end
+        (sym (line_of-fields_of line) ∙ ap line_of is ∙ (bytes_eq-Decides word (codes "end")).0 same));
+  }
+  by_fields (word ∷ field ∷ fields) is =
+      let other = differs line word field fields is in
+      no_numbers word (numerals (field ∷ fields)) (λ ns read. record {
+        ratio = λ same. absurd (other (codes "k") it.ratio same);
+        job = λ same. absurd (other (codes "job") it.job same);
+        tick = λ same. absurd (other (codes "tick") it.tick same);
+        end = λ same. some_numbers field fields ns read;
+      })
+
+-- ---- what is read
 
 -- the bytes are the text of what is read
 pub read_text : (line : List ℕ) (r : Result FeedLine BadLine) → IfOk r (λ x. model.feed_line line ≡ Some (form_of x))

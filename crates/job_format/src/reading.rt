@@ -1,10 +1,12 @@
 //! A feed's line from its bytes.
-ghost use Rattle.std.specs.Prelude.{◌≡◌, Some, None, IfOk, OnErr, option_map};
+ghost use Rattle.std.specs.Prelude.{◌≡◌, Some, None, IfOk, OnErr, option_map, option_and_then};
+ghost use Rattle.dover_model.specs.Lines.{fields_of};
+ghost use Rattle.dover_model.specs.Numerals.{numerals};
 ghost use Rattle.dover_model.specs.FeedLine as model;
 ghost use Rattle.job_format.specs.Form.{form_of};
 
 use crate::lines::FeedLine;
-use line_text::{BadLine, LINE_BYTES, cut_field, read_numbers};
+use line_text::{BadLine, LINE_BYTES, behind_word, numbers_in};
 
 fn ratio_line(numbers: &[u64]) -> Option<FeedLine>
     ensures { option_map form_of result ≡ model.ratio_line numbers.now }
@@ -47,30 +49,56 @@ fn tick_line(numbers: &[u64]) -> Option<FeedLine>
     }
 }
 
-fn end_line(numbers: &[u64]) -> Option<FeedLine>
-    ensures { option_map form_of result ≡ model.end_line numbers.now }
+/// The ratio that fields spell behind its word, with a version or without.
+#[tactic(auto, using(crate::proofs::WhatIsRead::no_ratio))]
+fn ratio_of(fields: &[u8]) -> Option<FeedLine>
+    ensures { option_map form_of result ≡ option_and_then model.ratio_line (numerals (fields_of fields.now)) }
 {
-    match numbers {
-        [] => Some(FeedLine::End),
-        _ => None,
+    if let Some(numbers) = numbers_in::<2>(fields) {
+        return ratio_line(&numbers);
     }
+    let numbers = numbers_in::<3>(fields)?;
+    ratio_line(&numbers)
 }
 
-/// The line of a word and the numbers behind it.
-fn line_of_word(word: &[u8], numbers: &[u64]) -> Option<FeedLine>
-    ensures { option_map form_of result ≡ model.line_of_word word.now numbers.now }
+/// The job that fields spell behind its word.
+#[inline(always)]
+#[tactic(auto, using(crate::proofs::WhatIsRead::no_job))]
+fn job_of(fields: &[u8]) -> Option<FeedLine>
+    ensures { option_map form_of result ≡ option_and_then model.job_line (numerals (fields_of fields.now)) }
 {
-    if word == b"k".as_slice() {
-        ratio_line(numbers)
-    } else if word == b"job".as_slice() {
-        job_line(numbers)
-    } else if word == b"tick".as_slice() {
-        tick_line(numbers)
-    } else if word == b"end".as_slice() {
-        end_line(numbers)
-    } else {
-        None
+    let numbers = numbers_in::<4>(fields)?;
+    job_line(&numbers)
+}
+
+/// The tick that fields spell behind its word.
+#[inline(always)]
+#[tactic(auto, using(crate::proofs::WhatIsRead::no_tick))]
+fn tick_of(fields: &[u8]) -> Option<FeedLine>
+    ensures { option_map form_of result ≡ option_and_then model.tick_line (numerals (fields_of fields.now)) }
+{
+    let numbers = numbers_in::<1>(fields)?;
+    tick_line(&numbers)
+}
+
+/// The line of the fields, by their word.
+#[inline(always)]
+fn line_of(line: &[u8]) -> Option<FeedLine>
+    ensures { option_map form_of result ≡ model.line_of_fields (fields_of line.now) }
+{
+    if let Some(fields) = behind_word(line, b"job") {
+        return job_of(fields);
     }
+    if let Some(fields) = behind_word(line, b"tick") {
+        return tick_of(fields);
+    }
+    if let Some(fields) = behind_word(line, b"k") {
+        return ratio_of(fields);
+    }
+    if line == b"end".as_slice() {
+        return Some(FeedLine::End);
+    }
+    None
 }
 
 /// The line that the bytes spell.
@@ -81,11 +109,7 @@ fn read(line: &[u8]) -> Result<FeedLine, BadLine>
     if line.len() >= LINE_BYTES {
         return Err(BadLine);
     }
-    let (word, rest) = cut_field(line);
-    let Some(numbers) = read_numbers(rest) else {
-        return Err(BadLine);
-    };
-    match line_of_word(word, numbers.as_slice()) {
+    match line_of(line) {
         Some(read) => Ok(read),
         None => Err(BadLine),
     }

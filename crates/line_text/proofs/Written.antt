@@ -1,17 +1,26 @@
 -- A line that is written number by number.
-use Rattle.std.proofs.Common.{◌≡◌, ℕ, zero, suc, ◌+◌, ◌-◌, ◌<◌, ◌≤◌, List, [], ◌∷◌, ◌++◌, length, length-append}
-use Rattle.std.proofs.Common.{append_assoc, append-nil, refl, ap}
+use Rattle.std.proofs.Common.{◌≡◌, ℕ, zero, suc, ◌+◌, ◌-◌, ◌*◌, ◌<◌, ◌≤◌, List, [], ◌∷◌, ◌++◌, length}
+use Rattle.std.proofs.Common.{length-append, append_assoc, append-nil, refl, ap}
 use Rattle.std.proofs.Common.{◌∙◌, sym, arith, decimal, drop, set, get_or}
 use Rattle.std.proofs.lemmas.Fmt.{length-decimal-le}
 use Rattle.std.proofs.lemmas.List.{drop-set}
 use Rattle.dover_model.specs.Numerals.{AreShort}
 use Rattle.dover_model.specs.Lines.{with_numbers}
+use Rattle.dover_model.proofs.Fields.{length-with_numbers}
 use Rattle.line_text.specs.Writing.{with_field, numbers_behind}
 
 -- a word and numbers are the word with the numbers behind it
 pub with_numbers-behind : (word ns : List ℕ) → word ++ numbers_behind ns ≡ with_numbers word ns
 with_numbers-behind word [] = append-nil word
 with_numbers-behind word (n ∷ ns) = ap (λ bs. word ++ 32 ∷ bs) (with_numbers-behind (decimal n) ns)
+
+-- numbers are no longer than so
+pub length-numbers_behind : (ns : List ℕ) → AreShort ns → length (numbers_behind ns) ≤ 19 * length ns
+length-numbers_behind ns short = omega (
+  arith,
+  ap (λ (bs : List ℕ). length bs) (with_numbers-behind [] ns),
+  length-with_numbers [] ns short,
+)
 
 -- a field behind a line that has begun
 pub with_field-begun : (line field : List ℕ) → 0 < length line → with_field line field ≡ line ++ 32 ∷ field

@@ -1,6 +1,7 @@
 -- Bytes that come one by one, cut into lines.
 use Rattle.std.specs.Prelude.{◌≡◌, ℕ, ◌+◌, ◌≤◌, min, List, [], ◌∷◌, ◌++◌, length, Bool, true, false, ◌==◌}
-use Rattle.std.specs.Prelude.{if◌then◌else◌}
+use Rattle.std.specs.Prelude.{if◌then◌else◌, not}
+use Rattle.std.specs.List.{list_all}
 use Rattle.line_text.specs.declared.cutting.Step.{Step}
 use Rattle.line_text.specs.declared.cutting.Step.TheVariants.{More, Line, TooLong}
 use Rattle.dover_model.specs.Lines.{whole_lines, rest_of, lines_of, is_too_long}
@@ -73,3 +74,11 @@ goes_on count line byte = if byte == 10
 -- what is kept after another byte
 abbrev pub after_byte : Cutting → ℕ → Cutting
 after_byte c byte = elim c.last [ More ↦ goes_on c.count c.line byte | Line ↦ goes_on c.count [] byte | TooLong ↦ c ]
+
+-- the bytes are a line with its line feed, where no line has begun before them
+pub record IsWholeLine (c : Cutting) (bytes : List ℕ) : Type 0 where
+  pub line : List ℕ
+  pub ended : bytes ≡ line ++ 10 ∷ []
+  pub one : list_all (λ b. not (b == 10)) line ≡ true
+  pub short : length line ≤ 128
+  pub fresh : begun_line c ≡ []

@@ -48,7 +48,7 @@ impl BackLine {
     ghost use Rattle.std.specs.Prelude.{◌≡◌, ◌≤◌, ◌+◌, ◌*◌, ◌++◌, ◌∷◌, [], length};
     ghost use Rattle.dover_model.specs.Lines.{with_numbers};
     ghost use Rattle.dover_model.specs.Numerals.{AreShort};
-    ghost use Rattle.line_text.specs.Writing.{most_written};
+    ghost use Rattle.line_text.specs.Writing.{most_written, numbers_behind};
 
     /// A line that has its line feed alone.
     #[inline(always)]
@@ -61,6 +61,15 @@ impl BackLine {
         BackLine { bytes, start }
     }
 
+    /// Leaves its line feed alone.
+    #[inline(always)]
+    pub fn clear(&mut self)
+        ensures { self.new ≡ 10 ∷ [] }
+    {
+        self.start = LINE_BYTES - 1;
+        self.bytes[self.start] = b'\n';
+    }
+
     /// Writes a word.
     #[inline(always)]
     pub fn put_word(&mut self, word: &[u8])
@@ -70,6 +79,17 @@ impl BackLine {
         let start = self.start - word.len();
         self.bytes[start..self.start].copy_from_slice(word);
         self.start = start;
+    }
+
+    /// Writes numbers, each behind a space.
+    #[inline(always)]
+    pub fn put_numbers(&mut self, numbers: &[u64])
+        requires short { AreShort numbers.now }
+        requires fits { 19 * length numbers.now + length self.old ≤ most_written }
+        ensures is { self.new ≡ numbers_behind numbers.now ++ self.old }
+        ensures size { length self.new ≤ 19 * length numbers.now + length self.old }
+    {
+        self.start = put_before(&mut self.bytes, self.start, numbers);
     }
 
     /// Writes a word and numbers.

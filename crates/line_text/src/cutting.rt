@@ -1,5 +1,6 @@
 //! Bytes, one by one, cut into lines.
 use crate::LINE_BYTES;
+use memchr::memchr;
 use std::marker::Model;
 
 /// What a byte made of the line.
@@ -34,10 +35,11 @@ impl Model for Lines {
 }
 
 impl Lines {
-    ghost use Rattle.std.specs.Prelude.{◌≡◌, ◌++◌, ◌∷◌, [], ℕ, List, length, false, ◌≢◌};
+    ghost use Rattle.std.specs.Prelude.{◌≡◌, ◌≤◌, ◌<◌, ◌++◌, ◌∷◌, [], ℕ, List, length, take, false, ◌≢◌};
     ghost use Rattle.dover_model.specs.Lines.{rest_of, is_too_long};
-    ghost use Rattle.line_text.specs.declared.cutting.Step.TheVariants.{More};
+    ghost use Rattle.line_text.specs.declared.cutting.Step.TheVariants.{More, Line};
     ghost use Rattle.line_text.specs.Cutting.{StandsFor, HasCut, step_of, with_byte, after_byte, begun_line};
+    ghost use Rattle.line_text.specs.Cutting.{IsWholeLine};
 
     /// No byte was pushed yet.
     pub fn new() -> Lines
@@ -89,6 +91,38 @@ impl Lines {
         self.keep(byte)
     }
 
+    /// How many bytes may be taken at once: those of the first line with its line feed, where it came whole and no line
+    /// has begun, and else one.
+    #[inline(always)]
+    pub fn front(&self, bytes: &[u8]) -> usize
+        requires { 0 < length bytes.now }
+        ensures some { 1 ≤ result }
+        ensures within { result ≤ length bytes.now }
+        ensures whole { 1 < result → IsWholeLine self.now (take result bytes.now) }
+    {
+        if self.rest() > 0 {
+            return 1;
+        }
+        let Some(at) = memchr(b'\n', bytes) else {
+            return 1;
+        };
+        if at >= LINE_BYTES {
+            return 1;
+        }
+        at + 1
+    }
+
+    /// Takes a line that came whole, where no line has begun. Answers it without its line feed.
+    #[inline(always)]
+    pub fn pass<'a>(&mut self, bytes: &'a [u8]) -> &'a [u8]
+        requires { IsWholeLine self.old bytes.now }
+        ensures stands { (x : List ℕ) → StandsFor self.old x → StandsFor self.new (x ++ bytes.now) }
+        ensures cut { (x : List ℕ) → StandsFor self.old x → HasCut Line result.now x (x ++ bytes.now) }
+    {
+        self.count = self.count.saturating_add(1);
+        &bytes[..bytes.len() - 1]
+    }
+
     /// After `Line` the line without its line feed, after `TooLong` its first 129 bytes.
     pub fn line(&self) -> &[u8]
         requires { self.now.last ≢ More }
@@ -105,6 +139,7 @@ impl Lines {
     }
 
     /// How many bytes came since the last line feed, 129 at most.
+    #[inline(always)]
     pub fn rest(&self) -> usize
         ensures { result ≡ length (begun_line self.now) }
     {

@@ -1,5 +1,5 @@
 //! The fields of a line, and the numbers in them.
-ghost use Rattle.std.specs.Prelude.{◌≡◌, ◌∷◌, ◌<◌, ℕ, List, length, Some, IfSome, IfNone};
+ghost use Rattle.std.specs.Prelude.{◌≡◌, ◌≢◌, ◌∷◌, ◌++◌, ◌<◌, ℕ, List, length, Some, IfSome, IfNone};
 ghost use Rattle.dover_model.specs.Lines.{fields_of};
 ghost use Rattle.dover_model.specs.Numerals.{numerals};
 ghost use Rattle.line_text.specs.Reading.{fields_left};
@@ -93,6 +93,51 @@ pub fn read_numbers(fields: Option<&[u8]>) -> Option<Numbers>
         }
         numbers.push(number);
         left = rest;
+    }
+    Some(numbers)
+}
+
+/// What is left of a line behind a word and a space, where it begins with them.
+#[inline(always)]
+pub fn behind_word<'a>(line: &'a [u8], word: &[u8]) -> Option<&'a [u8]>
+    ensures some { IfSome result (λ rest. line.now ≡ word.now ++ 32 ∷ rest.now) }
+    ensures none { IfNone result ((rest : List ℕ) → line.now ≡ word.now ++ 32 ∷ rest → ⊥) }
+{
+    let end = word.len();
+    if line.len() <= end {
+        return None;
+    }
+    for at in 0..end {
+        if line[at] != word[at] {
+            return None;
+        }
+    }
+    if line[end] != b' ' {
+        return None;
+    }
+    Some(&line[end + 1..])
+}
+
+/// The numbers that all fields of a line spell, where there are so many of them.
+#[inline(always)]
+pub fn numbers_in<const N: usize>(line: &[u8]) -> Option<[u64; N]>
+    ensures read { IfSome result (λ ns. numerals (fields_of line.now) ≡ Some ns) }
+    ensures none { IfNone result ((ns : List ℕ) → numerals (fields_of line.now) ≡ Some ns → length ns ≢ N) }
+{
+    let mut numbers = [0; N];
+    let mut left = Some(line);
+    for at in 0..N {
+        let Some(text) = left else {
+            return None;
+        };
+        let Some((number, rest)) = first_number(text) else {
+            return None;
+        };
+        numbers[at] = number;
+        left = rest;
+    }
+    if left.is_some() {
+        return None;
     }
     Some(numbers)
 }

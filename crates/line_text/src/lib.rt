@@ -9,7 +9,7 @@ mod numerals;
 
 pub use back_line::BackLine;
 pub use cutting::{Lines, Step};
-pub use fields::{Numbers, cut_field, read_numbers};
+pub use fields::{Numbers, behind_word, cut_field, numbers_in, read_numbers};
 pub use line_buf::LineBuf;
 pub use numerals::{first_number, numeral};
 use thiserror::Error;

@@ -11,6 +11,7 @@ ghost use Rattle.line_text.specs.Reading.{fields_left, number_of_first};
 const MOST_DIGITS: usize = 18;
 
 /// Whether there is a byte, and no leading zero except `0` itself.
+#[inline(always)]
 fn is_plain(text: &[u8]) -> bool
     ensures { result ≡ model.is_plain text.now }
 {
@@ -22,6 +23,7 @@ fn is_plain(text: &[u8]) -> bool
 }
 
 /// The number that the digits in front write, and how many they are. None where they are more than a numeral may have.
+#[inline(always)]
 fn leading_digits(text: &[u8]) -> Option<(u64, usize)>
     ensures within { IfSome result (λ r. r.1 ≤ length text.now) }
     ensures few { IfSome result (λ r. r.1 ≤ 18) }
@@ -61,6 +63,7 @@ pub fn numeral(text: &[u8]) -> Option<u64>
 }
 
 /// The number in front of a line, up to a space or the end, and what follows the space.
+#[inline(always)]
 fn number_in_front(line: &[u8]) -> Option<(u64, Option<&[u8]>)>
     ensures read { option_map (λ f. (f.0, fields_left f.1)) result ≡ number_of_first (fields_of line.now) }
     ensures shorter { IfSome result (λ f. IfSome f.1 (λ rest. length rest.now < length line.now)) }
@@ -78,6 +81,7 @@ fn number_in_front(line: &[u8]) -> Option<(u64, Option<&[u8]>)>
 }
 
 /// The number that the first field of a line spells, and what is left behind the field.
+#[inline(always)]
 pub fn first_number(line: &[u8]) -> Option<(u64, Option<&[u8]>)>
     ensures read { option_map (λ f. (f.0, fields_left f.1)) result ≡ number_of_first (fields_of line.now) }
     ensures shorter { IfSome result (λ f. IfSome f.1 (λ rest. length rest.now < length line.now)) }

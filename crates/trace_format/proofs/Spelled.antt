@@ -1,7 +1,7 @@
 -- A trace's line has one spelling: what is read has a form and the bytes as its text, and the text of what has a form
 -- is read as that.
 use Rattle.std.proofs.Common.{◌≡◌, ℕ, ◌^◌, ◌<◌, ◌≤◌, List, [], ◌∷◌, ◌++◌, map, refl, sym, ap, ◌∙◌, subst, Bool, true}
-use Rattle.std.proofs.Common.{false, cond, Option, Some}
+use Rattle.std.proofs.Common.{false, Option, Some}
 use Rattle.std.proofs.Common.{None, arith, codes, decimal}
 use Rattle.std.specs.Prelude.{bytes_eq, nat_le, if◌then◌else◌, length, ◌==◌}
 use Rattle.std.specs.Bool.{then_some}
@@ -525,39 +525,3 @@ no_last_word word (next ∷ fields) some = refl
 -- a line has a field
 pub some_field : (line : List ℕ) → 0 < length (fields_of line)
 some_field line = omega (arith, length-slice_split (λ b. b == 32) line)
-
--- no line has more than five numbers behind its word
-many_numbers : (word ns : List ℕ) → 5 < length ns → line_of_word word ns ≡ None
-many_numbers word [] many = absurd (omega arith)
-many_numbers word (a ∷ []) many = absurd (omega arith)
-many_numbers word (a ∷ b ∷ []) many = absurd (omega arith)
-many_numbers word (a ∷ b ∷ c ∷ []) many = absurd (omega arith)
-many_numbers word (a ∷ b ∷ c ∷ d ∷ []) many = absurd (omega arith)
-many_numbers word (a ∷ b ∷ c ∷ d ∷ e ∷ []) many = absurd (omega arith)
-many_numbers word (a ∷ b ∷ c ∷ d ∷ e ∷ f ∷ ns) many =
-    none_of (bytes_eq word (codes "dover")) (bytes_eq word (codes "job"))
-    (bytes_eq word (codes "run")) (bytes_eq word (codes "complete")) (bytes_eq word (codes "preempt"))
-    (bytes_eq word (codes "abandon"))
-    (bytes_eq word (codes "take")) (bytes_eq word (codes "end")) where
-      none_of : (a b c d e f g h : Bool) → cond a None
-          (option_map Step (cond b None
-          (cond c None (cond d None (cond e None (cond f None (cond g None (cond h None None)))))))) ≡ None
-      none_of true b c d e f g h = refl
-      none_of false true c d e f g h = refl
-      none_of false false true d e f g h = refl
-      none_of false false false true e f g h = refl
-      none_of false false false false true f g h = refl
-      none_of false false false false false true g h = refl
-      none_of false false false false false false true h = refl
-      none_of false false false false false false false true = refl
-      none_of false false false false false false false false = refl
-
--- so fields with no numbers, or more than five, are no line
-pub none_read : (word : List ℕ) (fields : List (List ℕ)) → bytes_eq word (codes "refuse") ≡ false
-    → ((ns : List ℕ) → numerals fields ≡ Some ns → 5 < length ns) → line_of_fields (word ∷ fields) ≡ None
-none_read word fields other many =
-    ap (λ b. if b then refused_of fields else option_and_then (line_of_word word) (numerals fields)) other
-    ∙ by_numbers (numerals fields) refl where
-      by_numbers : (o : Option (List ℕ)) → numerals fields ≡ o → option_and_then (line_of_word word) o ≡ None
-      by_numbers None e = refl
-      by_numbers (Some ns) e = many_numbers word ns (many ns e)

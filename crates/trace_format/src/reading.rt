@@ -1,18 +1,21 @@
 //! A trace's line from its bytes.
-ghost use Rattle.std.specs.Prelude.{◌≡◌, Ok, IfOk, option_map};
+ghost use Rattle.std.specs.Prelude.{◌≡◌, Ok, IfOk, option_map, option_and_then};
+ghost use Rattle.dover_model.specs.Numerals.{numerals};
 ghost use Rattle.dover_model.specs.Verdict as verdict;
 ghost use Rattle.dover_model.specs.Lines.{fields_of};
 ghost use Rattle.line_text.specs.Reading.{fields_left, number_of_first};
 ghost use Rattle.trace_format.specs.declared.lines.TraceLine.{TraceLine};
+ghost use Rattle.trace_format.specs.declared.lines.TraceLine.TheVariants.{Step};
 ghost use Rattle.trace_format.specs.Form.{HasForm, trace_text, item_in, rules_in};
 ghost use Rattle.trace_format.specs.Reading as model;
 
 use crate::lines::TraceLine;
-use crate::steps::step_of_word;
-use dover_model::Refusal;
-use line_text::{BadLine, cut_field, first_number, read_numbers};
+use crate::steps::{abandon_of, complete_of, end_of, preempt_of, release_of, run_of, take_of};
+use dover_model::{Event, Refusal};
+use line_text::{BadLine, behind_word, cut_field, first_number, numbers_in};
 
-fn header_of(numbers: &[u64]) -> Option<TraceLine>
+/// A header, of three numbers.
+fn header_with(numbers: &[u64]) -> Option<TraceLine>
     ensures { result ≡ model.header_of numbers.now }
 {
     match numbers {
@@ -25,14 +28,21 @@ fn header_of(numbers: &[u64]) -> Option<TraceLine>
     }
 }
 
-/// The line of a word and the numbers behind it.
-fn line_of_word(word: &[u8], numbers: &[u64]) -> Option<TraceLine>
-    ensures { result ≡ model.line_of_word word.now numbers.now }
+/// The header that fields spell behind its word.
+#[tactic(auto, using(crate::proofs::NoLine::no_header))]
+fn header_of(fields: &[u8]) -> Option<TraceLine>
+    ensures { result ≡ option_and_then model.header_of (numerals (fields_of fields.now)) }
 {
-    if word == b"dover".as_slice() {
-        return header_of(numbers);
-    }
-    match step_of_word(word, numbers) {
+    let numbers = numbers_in::<3>(fields)?;
+    header_with(&numbers)
+}
+
+/// The line of a step.
+#[inline(always)]
+fn line_of_step(step: Option<Event>) -> Option<TraceLine>
+    ensures { result ≡ option_map Step step }
+{
+    match step {
         Some(step) => Some(TraceLine::Step(step)),
         None => None,
     }
@@ -93,18 +103,38 @@ fn refused_of(fields: Option<&[u8]>) -> Option<TraceLine>
     })
 }
 
-/// The line of the fields.
+/// The line of the fields, by their word.
 fn line_of(line: &[u8]) -> Option<TraceLine>
     ensures { result ≡ model.line_of_fields (fields_of line.now) }
 {
-    let (word, rest) = cut_field(line);
-    if word == b"refuse".as_slice() {
-        return refused_of(rest);
+    if let Some(fields) = behind_word(line, b"job") {
+        return line_of_step(release_of(fields));
     }
-    let Some(numbers) = read_numbers(rest) else {
-        return None;
-    };
-    line_of_word(word, numbers.as_slice())
+    if let Some(fields) = behind_word(line, b"run") {
+        return line_of_step(run_of(fields));
+    }
+    if let Some(fields) = behind_word(line, b"complete") {
+        return line_of_step(complete_of(fields));
+    }
+    if let Some(fields) = behind_word(line, b"preempt") {
+        return line_of_step(preempt_of(fields));
+    }
+    if let Some(fields) = behind_word(line, b"abandon") {
+        return line_of_step(abandon_of(fields));
+    }
+    if let Some(fields) = behind_word(line, b"take") {
+        return line_of_step(take_of(fields));
+    }
+    if let Some(fields) = behind_word(line, b"refuse") {
+        return refused_of(Some(fields));
+    }
+    if let Some(fields) = behind_word(line, b"end") {
+        return line_of_step(end_of(fields));
+    }
+    if let Some(fields) = behind_word(line, b"dover") {
+        return header_of(fields);
+    }
+    None
 }
 
 /// Reads a line without its line feed. `BadLine` comes exactly where the bytes are none of the forms, or a `job` line's

@@ -1,8 +1,11 @@
 //! A printed step from a word and numbers.
-ghost use Rattle.std.specs.Prelude.{◌≡◌};
+ghost use Rattle.std.specs.Prelude.{◌≡◌, option_and_then};
+ghost use Rattle.dover_model.specs.Lines.{fields_of};
+ghost use Rattle.dover_model.specs.Numerals.{numerals};
 ghost use Rattle.trace_format.specs.Reading as model;
 
 use dover_model::{Event, Job};
+use line_text::numbers_in;
 
 /// The greatest number of a job.
 const LAST_NUMBER: u64 = 999_999;
@@ -22,7 +25,8 @@ fn new_job(release: u64, work: u64, deadline: u64, value: u64) -> Option<Job>
     Job::new(release, work, deadline, value)
 }
 
-fn release_of(numbers: &[u64]) -> Option<Event>
+/// A release, of a number and a job's four numbers.
+fn release_with(numbers: &[u64]) -> Option<Event>
     ensures { result ≡ model.release_of numbers.now }
 {
     let [number, release, work, deadline, value] = numbers else {
@@ -56,7 +60,8 @@ fn two_jobs(numbers: &[u64]) -> Option<(u64, u32, u32)>
     Some((*at, stops, starts))
 }
 
-fn end_of(numbers: &[u64]) -> Option<Event>
+/// The end, of a value.
+fn end_with(numbers: &[u64]) -> Option<Event>
     ensures { result ≡ model.end_of numbers.now }
 {
     match numbers {
@@ -65,60 +70,71 @@ fn end_of(numbers: &[u64]) -> Option<Event>
     }
 }
 
-fn run_of(numbers: &[u64]) -> Option<Event>
-    ensures { result ≡ model.run_of numbers.now }
+/// The release that fields spell behind its word. So it is with the steps below.
+#[inline(always)]
+#[tactic(auto, using(crate::proofs::NoLine::no_release))]
+pub fn release_of(fields: &[u8]) -> Option<Event>
+    ensures { result ≡ option_and_then model.release_of (numerals (fields_of fields.now)) }
 {
-    let (at, number) = one_job(numbers)?;
+    let numbers = numbers_in::<5>(fields)?;
+    release_with(&numbers)
+}
+
+#[inline(always)]
+#[tactic(auto, using(crate::proofs::NoLine::no_end))]
+pub fn end_of(fields: &[u8]) -> Option<Event>
+    ensures { result ≡ option_and_then model.end_of (numerals (fields_of fields.now)) }
+{
+    let numbers = numbers_in::<1>(fields)?;
+    end_with(&numbers)
+}
+
+#[inline(always)]
+#[tactic(auto, using(crate::proofs::NoLine::no_run))]
+pub fn run_of(fields: &[u8]) -> Option<Event>
+    ensures { result ≡ option_and_then model.run_of (numerals (fields_of fields.now)) }
+{
+    let numbers = numbers_in::<2>(fields)?;
+    let (at, number) = one_job(&numbers)?;
     Some(Event::Run { at, number })
 }
 
-fn complete_of(numbers: &[u64]) -> Option<Event>
-    ensures { result ≡ model.complete_of numbers.now }
+#[inline(always)]
+#[tactic(auto, using(crate::proofs::NoLine::no_complete))]
+pub fn complete_of(fields: &[u8]) -> Option<Event>
+    ensures { result ≡ option_and_then model.complete_of (numerals (fields_of fields.now)) }
 {
-    let (at, number) = one_job(numbers)?;
+    let numbers = numbers_in::<2>(fields)?;
+    let (at, number) = one_job(&numbers)?;
     Some(Event::Complete { at, number })
 }
 
-fn abandon_of(numbers: &[u64]) -> Option<Event>
-    ensures { result ≡ model.abandon_of numbers.now }
+#[inline(always)]
+#[tactic(auto, using(crate::proofs::NoLine::no_abandon))]
+pub fn abandon_of(fields: &[u8]) -> Option<Event>
+    ensures { result ≡ option_and_then model.abandon_of (numerals (fields_of fields.now)) }
 {
-    let (at, number) = one_job(numbers)?;
+    let numbers = numbers_in::<2>(fields)?;
+    let (at, number) = one_job(&numbers)?;
     Some(Event::Abandon { at, number })
 }
 
-fn preempt_of(numbers: &[u64]) -> Option<Event>
-    ensures { result ≡ model.preempt_of numbers.now }
+#[inline(always)]
+#[tactic(auto, using(crate::proofs::NoLine::no_preempt))]
+pub fn preempt_of(fields: &[u8]) -> Option<Event>
+    ensures { result ≡ option_and_then model.preempt_of (numerals (fields_of fields.now)) }
 {
-    let (at, stops, starts) = two_jobs(numbers)?;
+    let numbers = numbers_in::<3>(fields)?;
+    let (at, stops, starts) = two_jobs(&numbers)?;
     Some(Event::Preempt { at, stops, starts })
 }
 
-fn take_of(numbers: &[u64]) -> Option<Event>
-    ensures { result ≡ model.take_of numbers.now }
+#[inline(always)]
+#[tactic(auto, using(crate::proofs::NoLine::no_take))]
+pub fn take_of(fields: &[u8]) -> Option<Event>
+    ensures { result ≡ option_and_then model.take_of (numerals (fields_of fields.now)) }
 {
-    let (at, stops, starts) = two_jobs(numbers)?;
+    let numbers = numbers_in::<3>(fields)?;
+    let (at, stops, starts) = two_jobs(&numbers)?;
     Some(Event::Take { at, stops, starts })
-}
-
-/// The printed step of a word and the numbers behind it.
-pub fn step_of_word(word: &[u8], numbers: &[u64]) -> Option<Event>
-    ensures { result ≡ model.step_of_word word.now numbers.now }
-{
-    if word == b"job".as_slice() {
-        release_of(numbers)
-    } else if word == b"run".as_slice() {
-        run_of(numbers)
-    } else if word == b"complete".as_slice() {
-        complete_of(numbers)
-    } else if word == b"preempt".as_slice() {
-        preempt_of(numbers)
-    } else if word == b"abandon".as_slice() {
-        abandon_of(numbers)
-    } else if word == b"take".as_slice() {
-        take_of(numbers)
-    } else if word == b"end".as_slice() {
-        end_of(numbers)
-    } else {
-        None
-    }
 }

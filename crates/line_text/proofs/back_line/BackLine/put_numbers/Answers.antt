@@ -1,0 +1,19 @@
+use Rattle.std.proofs.Common.{List, ℕ, ◌++◌, length, length-append, ap, ◌∙◌, arith}
+use Rattle.line_text.specs.Writing.{numbers_behind}
+use Rattle.line_text.proofs.Written.{length-numbers_behind}
+use Rattle.line_text.proofs.back_line.BackLine.put_numbers.Goals as goal
+
+pub invariant_of-self : goal.invariant_of-self
+invariant_of-self c = omega (arith, c.put_before-self-inside.ensures.before, c.self.invariant)
+
+pub returns-clause-is : goal.returns-clause-is
+returns-clause-is c = c.put_before-self-inside.ensures.written
+    ∙ ap (λ bs. numbers_behind c.args.numbers.now ++ bs) c.self.view_is
+
+pub returns-clause-size : goal.returns-clause-size
+returns-clause-size c = omega (
+  arith,
+  ap (λ (bs : List ℕ). length bs) (returns-clause-is c),
+  length-append (numbers_behind c.args.numbers.now) c.args.self.now,
+  length-numbers_behind c.args.numbers.now c.requires.short,
+)
