@@ -11,14 +11,11 @@ use Rattle.dover_model.specs.Step.{Move, after}
 use Rattle.dover_model.specs.Run.{Step}
 use Rattle.dover_model.specs.WaitingMoves.{enters, leaves}
 use Rattle.queued_jobs.specs.Costs.{cost_of}
+use Rattle.queued_jobs.proofs.Spending.{twenty}
 use Rattle.dover_core.specs.declared.horizon.Horizon.{Horizon}
 use Rattle.dover_core.specs.Leading.{step_to, MayGo, taken_to, LeadsSilently}
 use Rattle.dover_core.specs.Counting.{waits_in, IsCounted}
 use Rattle.dover_core.proofs.Leads.{leads_append}
-
--- 20 * d for each time is enough
-twenty : (d m n : ℕ) → 2 * d * m + 6 * d * n ≤ 20 * d * (m + n)
-twenty d m n = omega arith
 
 -- twice as many
 both : (d m n before between later : ℕ) → between ≤ before + 20 * d * m → later ≤ between + 20 * d * n

@@ -5,7 +5,6 @@ use Rattle.std.specs.Prelude.{◌&&◌, Option, Some, None, IfSome, IsNone}
 use Rattle.std.specs.Bool.{then_some}
 use Rattle.std.specs.List.{sum_by, list_all, filter}
 use Rattle.std.proofs.lemmas.List.Sums.{sum_by-cons}
-use Rattle.std.proofs.lemmas.Nat.{mul-le}
 use Rattle.dover_model.specs.declared.events.Event.{Event}
 use Rattle.dover_model.specs.declared.events.Event.TheVariants.{End as EndEvent}
 use Rattle.dover_model.specs.declared.events.Task.{Task}
@@ -22,12 +21,13 @@ use Rattle.dover_model.proofs.Leaving.{ceases}
 use Rattle.dover_model.proofs.Kept.{open_deed, step_deed, end_same}
 use Rattle.dover_model.proofs.Potential.{Lowers, Weighs, one_if, deed_lowers, tick_weighs}
 use Rattle.dover_model.proofs.WaitingMoves.{waiting_count, counts_balance, step_leaves, open_leaves}
+use Rattle.queued_jobs.specs.Spending.{exits}
+use Rattle.queued_jobs.proofs.Spending.{cost_paid}
 use Rattle.dover_core.specs.declared.horizon.Horizon.{Horizon}
 use Rattle.dover_core.specs.declared.horizon.Horizon.TheVariants.{Mark, End}
 use Rattle.dover_core.specs.Leading.{step_to, taken_to, LeadsTo, GivesNext}
 use Rattle.dover_core.specs.Ways.{StopsAt}
 use Rattle.dover_core.specs.Counting.{waits_in, IsCounted}
-use Rattle.dover_core.specs.Spending.{exits}
 use Rattle.dover_core.proofs.Going.{to_kept}
 use Rattle.dover_core.proofs.Leads.{leads_append}
 
@@ -57,11 +57,6 @@ module _ (rules : Rules) (J : Instance) (valid : IsValid J) where
         counts_balance s (step_to to rules s),
         leads_pay to xs (after s (step_to to rules s)) u (to_kept rules J valid to s keeps) lead.2,
       )
-
--- what costs c for each of so many, paid for
-cost_paid : (c n a b x y before after : ℕ) → n + (a + x) ≤ b + y → after ≤ before + c * n
-    → after + c * (a + x) ≤ before + c * (b + y)
-cost_paid c n a b x y before after paid few = omega (arith, few, mul-le c (n + (a + x)) c (b + y) (omega arith) paid)
 
 -- the comparisons of steps that are counted are paid for
 pub counted_pays : (to : Horizon) (rules : Rules) (J : Instance) (s u : State) (d before after : ℕ) → IsValid J

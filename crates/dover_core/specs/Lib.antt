@@ -3,4 +3,3 @@ pub mod Leading
 pub mod Ways
 pub mod Kept
 pub mod Counting
-pub mod Spending

@@ -13,4 +13,5 @@ pub mod Ticking
 pub mod Silent
 pub mod Over
 pub mod Costs
+pub mod Spending
 pub mod Renewing

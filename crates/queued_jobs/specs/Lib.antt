@@ -3,3 +3,4 @@ pub mod Cases
 pub mod Roles
 pub mod Queued
 pub mod Costs
+pub mod Spending
