@@ -11,7 +11,7 @@ use Rattle.dover_model.specs.State.{is_done, value_sum}
 use Rattle.dover_model.specs.Step.{Prints, open_step}
 use Rattle.trace_reading.specs.Ready.{is_ready}
 use Rattle.ready_jobs.specs.Parts.{Parted, ready_of, state_of}
-use Rattle.ready_jobs.specs.Changed.{printed, cost_of}
+use Rattle.ready_jobs.specs.Changed.{printed}
 
 -- the job runs, is held and so on, and has had so many ticks; these jobs have no density but 1
 abbrev ready_job : Role → (number work deadline had : ℕ) → Task
@@ -41,10 +41,6 @@ takes_next = refl
 takes : filter is_ready (map (printed (Take 2 1 2)) (ready_of worked))
     ≡ ready_job Waiting 1 3 5 1 ∷ ready_job Waiting 0 4 30 1 ∷ ready_job Running 2 20 22 0 ∷ []
 takes = refl
-
--- two jobs begin to wait, and one ceases to: ten times three
-takes_for : cost_of 3 1 (Take 2 1 2) ≡ 30
-takes_for = refl
 
 completes : filter is_ready (map (printed (Complete 2 1)) (ready_of worked))
     ≡ ready_job Held 0 4 30 1 ∷ ready_job Waiting 2 20 22 0 ∷ []

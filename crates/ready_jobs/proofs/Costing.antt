@@ -17,16 +17,16 @@ use Rattle.dover_model.specs.Sound.{IsMember, Each}
 use Rattle.dover_model.specs.State.{State, is_waiting, is_over}
 use Rattle.dover_model.specs.Step.{Move, Prints, Waits, Ticks, open_step, with_role, displaced}
 use Rattle.dover_model.specs.WaitingMoves.{waits_then, enters, leaves}
-use Rattle.dover_model.proofs.Members.{term_le_sum}
+use Rattle.dover_model.proofs.Members.{term_le_sum, sum_filter, sum_same}
 use Rattle.dover_model.proofs.Roles.{passes, is_over_role}
 use Rattle.queued_jobs.specs.Costs.{cost_of}
-use Rattle.queued_jobs.proofs.Costs.{one_leaves, one_enters, run_leaves, abandon_leaves, take_leaves, wait_enters}
+use Rattle.queued_jobs.proofs.Costs.{one_leaves, run_leaves, abandon_leaves, take_leaves}
 use Rattle.trace_reading.specs.Ready.{is_ready}
 use Rattle.trace_reading.proofs.ReadyParts.{change, over_stays}
 use Rattle.ready_jobs.specs.Following.{PartOf}
 use Rattle.ready_jobs.specs.Changed.{named, AreOnce}
 use Rattle.ready_jobs.specs.Parts.{Parted, HaveRoles, ready_of, state_of}
-use Rattle.ready_jobs.proofs.Reordering.{in_left, in_right}
+use Rattle.ready_jobs.proofs.Reordering.{in_right}
 
 -- all of them count
 count_each : (p : Task → Bool) (ts : List Task) → Each (λ t. p t ≡ true) ts → length ts ≤ count_by p ts
@@ -101,15 +101,6 @@ module _ (p : Parted) (roles : HaveRoles p) (d before after at : ℕ) where
       one_leaves d (enters (state_of p) (Prints (Abandon at n))) (leaves (state_of p) (Prints (Abandon at n))) before
       after cost (abandon_leaves (state_of p) o (in_waiting o m) at n (roles.waiting o m) number)
 
-  pub wait_costs : (f : Task) → p.fresh ≡ Some f → after ≤ before + 2 * d
-      → after ≤ before + cost_of d (state_of p) (Waits f.number)
-  wait_costs f is cost =
-      one_enters d (enters (state_of p) (Waits f.number)) (leaves (state_of p) (Waits f.number)) before after cost
-      (wait_enters (state_of p) f (in_right A (B ++ (p.held ++ p.waiting)) f (in_left B (p.held ++ p.waiting) f here))
-      f.number (roles.fresh f here) refl) where
-        here : IsMember f B
-        here = subst (λ o. IsMember f (option_to_list o)) (sym is) (inl refl)
-
   module _ (once : AreOnce (ready_of p)) (stops starts : ℕ) (r x : Task) (runs : p.running ≡ Some r)
       (waits : IsMember x p.waiting) (number : x.number ≡ starts) where
     abbrev begins : Task → Bool
@@ -158,28 +149,17 @@ module _ (p : Parted) (roles : HaveRoles p) (d before after at : ℕ) where
 
 -- ---- of a whole run
 
--- those that aren't ready don't count
-count_ready : (f : Task → Bool) (xs : List Task) → Each (λ t. is_over t ≡ true → f t ≡ false) xs
-    → count_by f (filter is_ready xs) ≡ count_by f xs
-count_ready f [] none = refl
-count_ready f (x ∷ xs) none = by_test (is_over x) refl (count_ready f xs (λ t m. none t (inr m))) where
-  by_test : (b : Bool) → is_over x ≡ b → count_by f (filter is_ready xs) ≡ count_by f xs
-      → count_by f (cond (not b) (x ∷ filter is_ready xs) (filter is_ready xs)) ≡ count_by f (x ∷ xs)
-  by_test true over rest = omega (
-    arith,
-    rest,
-    sum_by-cons (λ t. cond {A = ℕ} (f t) 1 0) x xs,
-    ap (λ (b : Bool). cond {A = ℕ} b 1 0) (none x (inl refl) over),
-  )
-  by_test false ready rest = omega (
-    arith,
-    rest,
-    sum_by-cons (λ t. cond {A = ℕ} (f t) 1 0) x xs,
-    sum_by-cons (λ t. cond {A = ℕ} (f t) 1 0) x (filter is_ready xs),
-  )
+-- what those that are over don't weigh, the others weigh
+pub sum_ready : (f : Task → ℕ) (xs : List Task) → Each (λ t. is_over t ≡ true → f t ≡ 0) xs
+    → sum_by f (filter is_ready xs) ≡ sum_by f xs
+sum_ready f xs none = sum_filter is_ready f xs
+    ∙ sum_same (λ t. cond (is_ready t) (f t) 0) f xs (λ t m. by_test (is_over t) (f t) (none t m)) where
+      by_test : (b : Bool) (n : ℕ) → (b ≡ true → n ≡ 0) → cond (not b) n 0 ≡ n
+      by_test true n h = sym (h refl)
+      by_test false n h = refl
 
 -- a job that is over doesn't wait
-over_not_waiting : (t : Task) → is_over t ≡ true → is_waiting t ≡ false
+pub over_not_waiting : (t : Task) → is_over t ≡ true → is_waiting t ≡ false
 over_not_waiting t over = elim (is_over_role t over) [
   | inl e ↦ passes is_waiting t Done false e refl
   | inr e ↦ passes is_waiting t Gone false e refl
@@ -198,7 +178,8 @@ module _ (p : Parted) (J : Instance) (z : State) (part : PartOf p J z) (rules : 
 
   count_part : (f : Task → Bool) → Each (λ t. is_over t ≡ true → f t ≡ false) z.tasks
       → count_by f (ready_of p) ≡ count_by f z.tasks
-  count_part f none = part.ready.weighs (λ t. cond {A = ℕ} (f t) 1 0) ∙ count_ready f z.tasks none
+  count_part f none = part.ready.weighs (λ t. cond {A = ℕ} (f t) 1 0)
+      ∙ sum_ready (λ t. cond {A = ℕ} (f t) 1 0) z.tasks (λ t m over. ap (λ b. cond {A = ℕ} b 1 0) (none t m over))
 
   -- an open step costs the ready jobs what it costs all
   pub cost_whole : (d : ℕ) → cost_of d (state_of p) (open_step rules z) ≡ cost_of d z (open_step rules z)

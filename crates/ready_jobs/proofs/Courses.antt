@@ -1,12 +1,12 @@
 -- What is kept of a run, step by step.
-use Rattle.std.proofs.Common.{◌≡◌, ℕ, suc, ◌+◌, ◌≤◌, ◌<◌, inl, List, [], ◌∷◌, ◌++◌, length, refl, sym, ap}
+use Rattle.std.proofs.Common.{◌≡◌, ℕ, ◌+◌, ◌≤◌, ◌<◌, inl, List, [], ◌∷◌, ◌++◌, length, refl, sym, ap}
 use Rattle.std.proofs.Common.{◌∙◌, subst, Bool, true, false, cond, not, arith}
 use Rattle.std.specs.Prelude.{Option, nat_le, ◌&&◌, Some, None}
 use Rattle.std.specs.Option.{option_to_list}
 use Rattle.std.specs.List.{filter, list_all, sum_by}
 use Rattle.std.proofs.lemmas.Bool.{eq-eqb}
 use Rattle.std.proofs.lemmas.List.{length-append}
-use Rattle.std.proofs.lemmas.List.Sums.{sum_by-cons, sum_by-append}
+use Rattle.std.proofs.lemmas.List.Sums.{sum_by-cons, sum_by-append, length-filter, count_by-le-length}
 use Rattle.dover_model.specs.Limits.{last_tick}
 use Rattle.dover_model.specs.Fraction.{Fraction, IsRatio}
 use Rattle.dover_model.specs.JobFacts.{JobFacts}
@@ -37,13 +37,12 @@ use Rattle.ready_jobs.specs.Reordered.{IsReordered}
 use Rattle.ready_jobs.specs.Parts.{Parted, HaveRoles, ready_of, state_of}
 use Rattle.ready_jobs.specs.Following.{PartOf, IsPart, SettlesTo}
 use Rattle.ready_jobs.specs.Course.{Course, Follows, IsCourse, new_course, course_of, fresh_job}
-use Rattle.ready_jobs.specs.Course.{with_release, Reached, Settled, waiting_count, held_count}
+use Rattle.ready_jobs.specs.Course.{with_release, Reached, Settled}
 use Rattle.ready_jobs.proofs.Reordering.{same_order, further, exchanged, as_many, in_left, in_right}
 use Rattle.ready_jobs.proofs.Pooling.{between}
 use Rattle.ready_jobs.specs.Changed.{Leaves, AreOnce, named}
 use Rattle.ready_jobs.proofs.Changes.{once_numbered, once_some, once_still}
 use Rattle.ready_jobs.proofs.Following.{part_step, part_moves}
-use Rattle.ready_jobs.proofs.Seeing.{waiting_list, held_list}
 
 -- ---- what is kept
 
@@ -71,6 +70,16 @@ module _ (c : Course) (J : Instance) (z : State) (follows : Follows c J z) where
   -- the jobs are as many as those of the instance
   pub follows_count : c.jobs ≡ length J.jobs
   follows_count = sym follows.jobs ∙ sym (count_jobs z.tasks) ∙ ap length follows.keeps.jobs
+
+  -- no more are ready than were released
+  pub follows_fewer : length c.ready ≤ c.jobs
+  follows_fewer = omega (
+    arith,
+    as_many (filter is_ready z.tasks) c.ready follows.ready,
+    length-filter is_ready z.tasks,
+    count_by-le-length is_ready z.tasks,
+    follows.jobs,
+  )
 
   -- the jobs done aren't worth too much
   pub follows_modest : c.done ≤ 10_000_000_000_000
@@ -183,20 +192,7 @@ few_jobs c old = let few : length old.0.jobs ≤ 1_000_000 = old.2.valid.count i
 
 -- so are those that are ready
 pub few_ready : (c : Course) → IsCourse c → length c.ready ≤ 1_000_000
-few_ready c old = omega (
-  arith,
-  few_jobs c old,
-  old.2.jobs,
-  as_many (filter is_ready old.1.tasks) c.ready old.2.ready,
-  fewer old.1.tasks,
-) where
-  fewer : (ts : List Task) → length (filter is_ready ts) ≤ length ts
-  fewer [] = omega arith
-  fewer (t ∷ ts) = by_test (is_ready t) (fewer ts) where
-    by_test : (b : Bool) → length (filter is_ready ts) ≤ length ts
-        → length (cond b (t ∷ filter is_ready ts) (filter is_ready ts)) ≤ suc (length ts)
-    by_test true few = omega (arith, few)
-    by_test false few = omega (arith, few)
+few_ready c old = omega (arith, few_jobs c old, follows_fewer c old.0 old.1 old.2)
 
 -- and one more can be released
 pub more_ready : (c : Course) (j : JobFacts) → IsCourse (with_release c j c.room) → length c.ready < 1_000_000
@@ -248,15 +244,6 @@ pub course_part : (k : Fraction) (p : Parted) (jobs done : ℕ) → IsCourse (co
     → IsPart (record { ratio = k; version = p.version }) p
 course_part k p jobs done old =
     (old.0, old.1, follows_part k p jobs done old.0 old.1 old.2, old.2.rules)
-
--- how many wait, and how many are held
-pub waiting_is : (k : Fraction) (p : Parted) (jobs done : ℕ) → HaveRoles p
-    → waiting_count (course_of k p jobs done) ≡ length p.waiting
-waiting_is k p jobs done roles = ap length (waiting_list p roles)
-
-pub held_is : (k : Fraction) (p : Parted) (jobs done : ℕ) → HaveRoles p
-    → held_count (course_of k p jobs done) ≡ length p.held
-held_is k p jobs done roles = ap length (held_list p roles)
 
 -- a course that has done no more
 same_done : (k : Fraction) (q : Parted) (jobs done : ℕ) (J : Instance) (y : State)

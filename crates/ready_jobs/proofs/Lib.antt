@@ -11,4 +11,6 @@ mod ChangedRows
 pub mod Following
 pub mod Silences
 pub mod Courses
+pub mod Spending
 pub mod Keeping
+pub mod Releasing

@@ -373,6 +373,7 @@ module _ (item : ℕ → Entry → ItemFacts) (before : Entry → Entry → Bool
       → AreModest (jobs_at slots)
       → (t : Task) × (slice_get slots i.place ≡ Some (Some t))
       × (first (λ a b. before (entry_of a) (entry_of b)) (jobs_at slots) ≡ Some t)
+      × ((p : ℕ) × (i ≡ item p (entry_of t)))
   found_first i at own modest =
       let top = first_is is_before one_way onward (items_of table) i (sym at) in
       let it = item_job item 0 slots has.0 i (subst (λ l. IsMember i (items_of l)) has.1 top.0) in
@@ -387,6 +388,7 @@ module _ (item : ℕ → Entry → ItemFacts) (before : Entry → Entry → Bool
             (λ a b c. strict.onward (entry_of a) (entry_of b) (entry_of c)) (jobs_at slots) t member
             (λ u m ahead. best t it.0 it.3 member top.1 u m (cases_eq u.number t.number) ahead)
             (apart_or_one before strict (jobs_at slots) own),
+        (0 + it.0, it.3),
       ) where
         none_more : (n : ℕ) → 0 + n ≡ n
         none_more n = omega arith
@@ -434,11 +436,13 @@ module _ (v : Version) (slots : List (Option Task)) (table : List (Option ItemFa
       (modest : AreModest (jobs_at slots)) where
     pub due_found : HasItems (due_item v) slots table
         → (t : Task) × (slice_get slots i.place ≡ Some (Some t)) × (first (due_first v) (jobs_at slots) ≡ Some t)
+        × ((p : ℕ) × (i ≡ due_item v p (entry_of t)))
     due_found has = found_first (due_item v) (is_due_before v) (strict_by (λ e. e.deadline) v) (λ p a. refl)
         (due_law v) slots table has i at own modest
 
     pub latest_found : HasItems (latest_item v) slots table
         → (t : Task) × (slice_get slots i.place ≡ Some (Some t)) × (first (latest_first v) (jobs_at slots) ≡ Some t)
+        × ((p : ℕ) × (i ≡ latest_item v p (entry_of t)))
     latest_found has = found_first (latest_item v) (is_latest_before v) (strict_by (λ e. e.latest) v) (λ p a. refl)
         (latest_law v) slots table has i at own modest
 

@@ -1,7 +1,7 @@
 -- What is seen of the ready jobs by their roles.
 use Rattle.std.proofs.Common.{◌≡◌, ℕ, ◌-◌, ◌≤◌, ◌<◌, inl, inr, List, [], ◌∷◌, ◌++◌, map, min}
 use Rattle.std.proofs.Common.{refl, sym, ap, ◌∙◌, subst, Bool, true, false, cond, arith, nat_le}
-use Rattle.std.specs.Prelude.{Option, Some, None}
+use Rattle.std.specs.Prelude.{Option, Some, None, option_map}
 use Rattle.std.specs.Option.{option_to_list}
 use Rattle.std.specs.List.{filter, find, fold}
 use Rattle.std.proofs.lemmas.Bool.{cases_lt, eq-eqb, ne_eqb}
@@ -19,7 +19,7 @@ use Rattle.dover_model.specs.Orders.{due_first, latest_first, first, earlier}
 use Rattle.dover_model.specs.Step.{with_role, is_at_latest_start}
 use Rattle.dover_model.specs.Sound.{IsMember, Each}
 use Rattle.dover_model.proofs.EntryOrders.{strict_by}
-use Rattle.dover_model.proofs.Members.{reduce_none, filter_member, member_filter}
+use Rattle.dover_model.proofs.Members.{reduce_none, filter_member, member_filter, some_same}
 use Rattle.dover_model.proofs.Roles.{passes}
 use Rattle.dover_model.proofs.Tests.{none_is_some}
 use Rattle.plain_step.specs.Dues.{until_latest, until_done, until_release, still_ticks}
@@ -202,6 +202,35 @@ module _ (v : Version) (s : State) (tasks : List Task) (own : HaveOwnNumbers tas
         (apart_or_one (is_latest_before v) (strict_by (λ e. e.latest) v) (filter (is_at_latest_start s) tasks)
         (own_some (is_at_latest_start s) tasks own))
 
+  -- the first of those at their latest start, by the latest start of the first of all
+  none_by : (o : Option Task) → first (latest_first v) tasks ≡ o → option_map latest_start o ≡ None
+      → first (latest_first v) (filter (is_at_latest_start s) tasks) ≡ None
+  none_by None at none = late_none at
+  none_by (Some x) at none = none_is_some (sym none)
+
+  pub start_none : option_map latest_start (first (latest_first v) tasks) ≡ None
+      → first (latest_first v) (filter (is_at_latest_start s) tasks) ≡ None
+  start_none none = none_by (first (latest_first v) tasks) refl none
+
+  module _ (start : ℕ) where
+    later_by : (o : Option Task) → first (latest_first v) tasks ≡ o → option_map latest_start o ≡ Some start
+        → (start ≡ s.clock → ⊥) → first (latest_first v) (filter (is_at_latest_start s) tasks) ≡ None
+    later_by None at is other = none_is_some is
+    later_by (Some x) at is other = late_later x at (λ same. other (sym (some_same _ _ is) ∙ same))
+
+    pub start_later : option_map latest_start (first (latest_first v) tasks) ≡ Some start → (start ≡ s.clock → ⊥)
+        → first (latest_first v) (filter (is_at_latest_start s) tasks) ≡ None
+    start_later is other = later_by (first (latest_first v) tasks) refl is other
+
+    found_by : (o : Option Task) → first (latest_first v) tasks ≡ o → option_map latest_start o ≡ Some start
+        → start ≡ s.clock → first (latest_first v) (filter (is_at_latest_start s) tasks) ≡ o
+    found_by None at is same = none_is_some is
+    found_by (Some x) at is same = late_found x at (some_same _ _ is ∙ same)
+
+    pub start_found : option_map latest_start (first (latest_first v) tasks) ≡ Some start → start ≡ s.clock
+        → first (latest_first v) (filter (is_at_latest_start s) tasks) ≡ first (latest_first v) tasks
+    start_found is same = found_by (first (latest_first v) tasks) refl is same
+
 -- ---- silent ticks
 
 fold_most : (clock a : ℕ) (ts : List Task) → fold (until_latest clock) a ts ≤ a
@@ -246,7 +275,7 @@ fold_least clock a n (t ∷ ts) low each =
       at_least false = let it = here in omega (arith, low, it)
 
 -- the ticks before the first latest start
-pub before_latest : (v : Version) (clock a : ℕ) (ts : List Task) (x : Task) → first (latest_first v) ts ≡ Some x
+before_latest : (v : Version) (clock a : ℕ) (ts : List Task) (x : Task) → first (latest_first v) ts ≡ Some x
     → Each (λ t. clock < latest_start t) ts
     → min a (latest_start x - clock) ≡ fold (until_latest clock) a ts
 before_latest v clock a ts x at early =
@@ -266,9 +295,19 @@ before_latest v clock a ts x at early =
         | inr not ↦ not
       ]
 
+pub before_start : (v : Version) (clock a : ℕ) (ts : List Task) (start : ℕ)
+    → option_map latest_start (first (latest_first v) ts) ≡ Some start → Each (λ t. clock < latest_start t) ts
+    → min a (start - clock) ≡ fold (until_latest clock) a ts
+before_start v clock a ts start is early = by_first (first (latest_first v) ts) refl is where
+  by_first : (o : Option Task) → first (latest_first v) ts ≡ o → option_map latest_start o ≡ Some start
+      → min a (start - clock) ≡ fold (until_latest clock) a ts
+  by_first None at is = none_is_some is
+  by_first (Some x) at is =
+      ap (λ n. min a (n - clock)) (sym (some_same _ _ is)) ∙ before_latest v clock a ts x at early
+
 -- and where none waits
-pub before_none : (v : Version) (clock a : ℕ) (ts : List Task) → first (latest_first v) ts ≡ None
-    → a ≡ fold (until_latest clock) a ts
+pub before_none : (v : Version) (clock a : ℕ) (ts : List Task)
+    → option_map latest_start (first (latest_first v) ts) ≡ None → a ≡ fold (until_latest clock) a ts
 before_none v clock a [] none = refl
 before_none v clock a (t ∷ ts) none = none_is_some (sym none)
 

@@ -22,8 +22,7 @@ use Rattle.ready_jobs.proofs.Reordering.{as_many}
 use Rattle.ready_jobs.specs.Changed.{AreOnce, Leaves}
 use Rattle.ready_jobs.proofs.Changes.{stays}
 use Rattle.ready_jobs.proofs.Naming.{waits_says}
-use Rattle.ready_jobs.proofs.Seeing.{seen_fresh, waiting_list}
-use Rattle.ready_jobs.specs.Course.{course_of, waiting_count}
+use Rattle.ready_jobs.proofs.Seeing.{seen_fresh}
 use Rattle.ready_jobs.proofs.Following.{part_step, part_sound, ready_once, parts_later, jumps, settles_none}
 use Rattle.ready_jobs.proofs.Following.{settles_one, settles_on, jump_low, jump_silent, jump_reaches, ticks_stale}
 use Rattle.ready_jobs.proofs.Following.{ticks_early, had_fits, stale_ticks, roles_later}
@@ -190,13 +189,3 @@ waits_cost p q r d old new it same spent =
     let one : length r.waiting - length p.waiting ≡ 1 = omega (arith, one_more p q it, ap length same) in
     let all : 2 * d * (length r.waiting - length p.waiting) ≡ 2 * d * 1 = ap (λ n. 2 * d * n) one in
     omega (arith, all, spent)
-
-pub waits_more : (k : Fraction) (p q : Parted) (jobs done d old new : ℕ) → HaveRoles p → HaveRoles q
-    → new ≤ old + 2 * d * (length q.waiting - length p.waiting)
-    → new ≤ old + 2 * d * (waiting_count (course_of k q jobs done) - waiting_count (course_of k p jobs done))
-waits_more k p q jobs done d old new roles_p roles_q spent =
-    let one : waiting_count (course_of k q jobs done) - waiting_count (course_of k p jobs done)
-    ≡ length q.waiting - length p.waiting =
-    ap (λ n. n - waiting_count (course_of k p jobs done)) (ap length (waiting_list q roles_q))
-    ∙ ap (λ n. length q.waiting - n) (ap length (waiting_list p roles_p)) in
-    subst (λ n. new ≤ old + 2 * d * n) (sym one) spent

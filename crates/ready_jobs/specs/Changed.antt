@@ -1,8 +1,7 @@
 -- What a step makes of the ready jobs.
-use Rattle.std.specs.Prelude.{◌≡◌, ◌≤◌, ◌+◌, ◌*◌, ◌==◌, ℕ, List, map, if◌then◌else◌}
+use Rattle.std.specs.Prelude.{◌≡◌, ◌≤◌, ◌==◌, ℕ, List, map, if◌then◌else◌}
 use Rattle.std.specs.List.{filter, sum_by}
 use Rattle.dover_model.specs.declared.events.Event.{Event}
-use Rattle.dover_model.specs.declared.events.Event.TheVariants.{Release, Run, Preempt, Take, Complete, Abandon, End}
 use Rattle.dover_model.specs.declared.events.Role.TheVariants.{Waiting}
 use Rattle.dover_model.specs.declared.events.Task.{Task}
 use Rattle.dover_model.specs.Fraction.{Fraction}
@@ -36,14 +35,3 @@ pub record Leaves (f : Task → Task) (xs ys : List Task) (worth : ℕ) : Type 0
 -- the open step of these jobs, for some ratio, is printed
 abbrev pub IsNext : Parted → Event → Type 0
 IsNext p e = (k : Fraction) × (open_step (record { ratio = k; version = p.version }) (state_of p) ≡ Prints e)
-
--- the comparisons of a printed step while so many are held: 2d for each job that begins to wait, 6d for one that may
--- cease to
-abbrev pub cost_of : ℕ → ℕ → Event → ℕ
-cost_of d held (Release n job) = 0
-cost_of d held (Run at n) = 6 * d
-cost_of d held (Preempt at stops starts) = 0
-cost_of d held (Take at stops starts) = 6 * d + 2 * d * (held + 1)
-cost_of d held (Complete at n) = 0
-cost_of d held (Abandon at n) = 6 * d
-cost_of d held (End value) = 0

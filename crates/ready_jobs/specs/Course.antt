@@ -9,7 +9,7 @@ use Rattle.dover_model.specs.declared.events.Task.{Task}
 use Rattle.dover_model.specs.Fraction.{Fraction}
 use Rattle.dover_model.specs.JobFacts.{JobFacts}
 use Rattle.dover_model.specs.Instance.{Rules, Instance, IsValid}
-use Rattle.dover_model.specs.State.{State, is_coming, is_waiting, is_held, is_done, value_sum}
+use Rattle.dover_model.specs.State.{State, is_coming, is_done, value_sum}
 use Rattle.dover_model.specs.Step.{Move, Prints, open_step}
 use Rattle.dover_model.specs.Run.{Step}
 use Rattle.dover_model.specs.Settled.{is_late}
@@ -107,10 +107,3 @@ pub record GoesOnFrom (c d : Course) : Type 0 where
   pub fewer : length d.ready ≤ length c.ready
   pub jobs : d.jobs ≡ c.jobs
   pub room : d.room ≡ c.room
-
--- how many of the ready jobs wait, and how many are held
-abbrev pub waiting_count : Course → ℕ
-waiting_count c = length (filter is_waiting c.ready)
-
-abbrev pub held_count : Course → ℕ
-held_count c = length (filter is_held c.ready)

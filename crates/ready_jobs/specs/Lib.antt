@@ -5,3 +5,4 @@ pub mod Kept
 pub mod Changed
 pub mod Following
 pub mod Course
+pub mod Spending

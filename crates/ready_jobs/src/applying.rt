@@ -1,11 +1,11 @@
 //! What a printed step does to the ready jobs.
-ghost use Rattle.std.specs.Prelude.{◌≡◌, ℕ, ◌+◌, ◌*◌, ◌^◌, ◌<◌, ◌≤◌, ◌↔◌, length, Some, IsTrue};
+ghost use Rattle.std.specs.Prelude.{◌≡◌, ℕ, ◌+◌, ◌^◌, ◌<◌, ◌≤◌, ◌↔◌, length, Some, IsTrue};
 ghost use Rattle.dover_model.specs.declared.events.Event.TheVariants.{Run, Preempt, Take, Complete, Abandon};
 ghost use Rattle.dover_model.specs.declared.events.Task.{Task};
 ghost use Rattle.dover_model.specs.Step.{Prints};
-ghost use Rattle.queued_jobs.specs.Costs as costs;
+ghost use Rattle.queued_jobs.specs.Costs.{cost_of};
 ghost use Rattle.ready_jobs.specs.Parts.{AreSound, ready_of, state_of};
-ghost use Rattle.ready_jobs.specs.Changed.{AreOnce, Leaves, IsNext, printed, cost_of};
+ghost use Rattle.ready_jobs.specs.Changed.{AreOnce, Leaves, IsNext, printed};
 
 use crate::parts::Parts;
 use dover_model::{Event, Task};
@@ -13,6 +13,7 @@ use std::sync::ledger::Ledger;
 use step_count::Steps;
 
 // Whether it is a job of this number.
+#[inline(always)]
 fn has_number(job: &Option<Task>, number: u32) -> bool
     ensures { IsTrue result ↔ ((t : Task) × (job.now ≡ Some t) × (t.number ≡ number)) }
 {
@@ -24,6 +25,7 @@ fn has_number(job: &Option<Task>, number: u32) -> bool
 
 impl Parts {
     // The running job is done. Answers its value.
+    #[inline(always)]
     fn complete_next(&mut self, number: u32) -> u64
         requires sound { AreSound self.old }
         requires once { AreOnce (ready_of self.old) }
@@ -43,6 +45,7 @@ impl Parts {
     }
 
     // The job of this number runs, which is held, waits or is fresh.
+    #[inline(always)]
     fn run_next<L: Ledger>(&mut self, number: u32, steps: &mut Steps<L>)
         requires sound { AreSound self.old }
         requires once { AreOnce (ready_of self.old) }
@@ -54,9 +57,8 @@ impl Parts {
           held = self.new.held;
           waiting = self.new.waiting;
         } }
-        ensures count { (d : ℕ) → length (ready_of self.old) + 1 < 2 ^ d → steps.new ≤ steps.old + 6 * d }
         ensures cost { (at d : ℕ) → length (ready_of self.old) + 1 < 2 ^ d →
-            steps.new ≤ steps.old + costs.cost_of d (state_of self.old) (Prints (Run at number)) }
+            steps.new ≤ steps.old + cost_of d (state_of self.old) (Prints (Run at number)) }
     {
         let _ = self.clock();
         if has_number(&self.first_held(), number) {
@@ -69,6 +71,7 @@ impl Parts {
     }
 
     // The fresh job preempts the running one.
+    #[inline(always)]
     fn preempt_next(&mut self, stops: u32, starts: u32)
         requires sound { AreSound self.old }
         requires once { AreOnce (ready_of self.old) }
@@ -100,10 +103,8 @@ impl Parts {
           held = self.new.held;
           waiting = self.new.waiting;
         } }
-        ensures count { (d : ℕ) → length (ready_of self.old) + 1 < 2 ^ d →
-            steps.new ≤ steps.old + 6 * d + 2 * d * (length self.old.held + 1) }
         ensures cost { (at d : ℕ) → length (ready_of self.old) + 1 < 2 ^ d →
-            steps.new ≤ steps.old + costs.cost_of d (state_of self.old) (Prints (Take at stops starts)) }
+            steps.new ≤ steps.old + cost_of d (state_of self.old) (Prints (Take at stops starts)) }
     {
         let _ = self.clock();
         if let Some(r) = self.running() {
@@ -114,15 +115,15 @@ impl Parts {
     }
 
     // A waiting job is gone.
+    #[inline(always)]
     fn abandon_next<L: Ledger>(&mut self, number: u32, steps: &mut Steps<L>)
         requires sound { AreSound self.old }
         requires once { AreOnce (ready_of self.old) }
         requires next { (at : ℕ) × IsNext self.old (Abandon at number) }
         ensures leaves { (at : ℕ) → Leaves (printed (Abandon at number)) (ready_of self.old) (ready_of self.new) 0 }
         ensures kept { self.new ≡ record self.old { waiting = self.new.waiting } }
-        ensures count { (d : ℕ) → length (ready_of self.old) + 1 < 2 ^ d → steps.new ≤ steps.old + 6 * d }
         ensures cost { (at d : ℕ) → length (ready_of self.old) + 1 < 2 ^ d →
-            steps.new ≤ steps.old + costs.cost_of d (state_of self.old) (Prints (Abandon at number)) }
+            steps.new ≤ steps.old + cost_of d (state_of self.old) (Prints (Abandon at number)) }
     {
         let _ = self.clock();
         self.abandon(steps);
@@ -141,10 +142,8 @@ impl Parts {
           waiting = self.new.waiting;
         } }
         ensures fewer { length (ready_of self.new) ≤ length (ready_of self.old) }
-        ensures count { (d : ℕ) → length (ready_of self.old) + 1 < 2 ^ d →
-            steps.new ≤ steps.old + cost_of d (length self.old.held) event.now }
         ensures cost { (d : ℕ) → length (ready_of self.old) + 1 < 2 ^ d →
-            steps.new ≤ steps.old + costs.cost_of d (state_of self.old) (Prints event.now) }
+            steps.new ≤ steps.old + cost_of d (state_of self.old) (Prints event.now) }
     {
         let _ = self.clock();
         match *event {

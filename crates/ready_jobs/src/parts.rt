@@ -56,20 +56,15 @@ impl Model for Parts {
 }
 
 // The ticks that the job is still to have.
+#[inline(always)]
 fn left(t: &Task) -> u64
     ensures { result ≡ left t.now }
 {
     t.job.work().saturating_sub(t.had)
 }
 
-// The last tick at which the job can start and still be done in time.
-fn latest_start(t: &Task) -> u64
-    ensures { result ≡ latest_start t.now }
-{
-    t.job.deadline().saturating_sub(left(t))
-}
-
 // The job as one that doesn't run.
+#[inline(always)]
 fn entry_of(t: &Task) -> Entry
     ensures { result ≡ entry_of t.now }
 {
@@ -84,34 +79,29 @@ fn entry_of(t: &Task) -> Entry
 }
 
 // The job with so many ticks more, if it runs.
-fn later(t: &Task, ticks: u64) -> Task
-    requires { t.now.had + ticks < 2 ^ 64 }
-    ensures { result ≡ ticked_by ticks t.now }
+#[inline(always)]
+fn later(t: &mut Task, ticks: u64)
+    requires { t.old.had + ticks < 2 ^ 64 }
+    ensures { t.new ≡ ticked_by ticks t.old }
 {
-    Task {
-        number: t.number,
-        job: t.job,
-        role: t.role,
-        had: if matches!(t.role, Role::Running) {
-            t.had + ticks
-        } else {
-            t.had
-        },
+    if matches!(t.role, Role::Running) {
+        t.had += ticks;
     }
 }
 
 // The same of the running job, if one does.
-fn later_running(running: Option<Task>, ticks: u64) -> Option<Task>
-    requires { Each (λ t. t.had + ticks < 2 ^ 64) (option_to_list running) }
-    ensures { result ≡ option_map (ticked_by ticks) running }
+#[inline(always)]
+fn later_running(running: &mut Option<Task>, ticks: u64)
+    requires { Each (λ t. t.had + ticks < 2 ^ 64) (option_to_list running.old) }
+    ensures { running.new ≡ option_map (ticked_by ticks) running.old }
 {
-    match running {
-        Some(t) => Some(later(&t, ticks)),
-        None => None,
+    if let Some(t) = running {
+        later(t, ticks);
     }
 }
 
 // How many jobs it is.
+#[inline(always)]
 fn count_of(job: &Option<Task>) -> u32
     ensures is { result ≡ length (option_to_list job.now) }
     ensures most { result ≤ 1 }
@@ -123,6 +113,7 @@ fn count_of(job: &Option<Task>) -> u32
 }
 
 // The job on top, which is the last one.
+#[inline(always)]
 fn peek(held: &Vec<Task>) -> Option<Task>
     ensures { result ≡ head_of (reverse held.now.items) }
 {
@@ -130,6 +121,7 @@ fn peek(held: &Vec<Task>) -> Option<Task>
 }
 
 // The room of the held jobs with e, which is due before them.
+#[inline(always)]
 fn room_with(held: &Privileged, e: &Entry, clock: u64) -> u64
     requires clock { held.now.latest ≤ clock }
     requires first { Each (λ f. e.now.deadline < f.deadline) held.now.held }
@@ -160,6 +152,7 @@ impl Parts {
     }
 
     /// The clock.
+    #[inline(always)]
     pub fn clock(&self) -> u64
         ensures is { result ≡ self.now.clock }
         ensures roles { HaveRoles self.now }
@@ -170,6 +163,7 @@ impl Parts {
     }
 
     /// The version.
+    #[inline(always)]
     pub fn version(&self) -> Version
         ensures { result ≡ self.now.version }
     {
@@ -177,6 +171,7 @@ impl Parts {
     }
 
     /// The job that runs.
+    #[inline(always)]
     pub fn running(&self) -> Option<Task>
         ensures is { result ≡ self.now.running }
         ensures seen { result ≡ running (state_of self.now) }
@@ -185,6 +180,7 @@ impl Parts {
     }
 
     /// The fresh job.
+    #[inline(always)]
     pub fn fresh(&self) -> Option<Task>
         ensures is { result ≡ self.now.fresh }
         ensures seen { result ≡ find is_fresh (state_of self.now).tasks }
@@ -193,6 +189,7 @@ impl Parts {
     }
 
     /// How many jobs are ready.
+    #[inline(always)]
     pub fn count(&self) -> u32
         ensures { result ≡ length (ready_of self.now) }
     {
@@ -200,7 +197,15 @@ impl Parts {
         count_of(&self.running) + count_of(&self.fresh) + waiting
     }
 
+    /// For how many ready jobs there is room.
+    pub fn room(&self) -> u32
+        ensures { result ≡ self.now.room }
+    {
+        self.room
+    }
+
     // No job is to come.
+    #[inline(always)]
     fn arrival(&self) -> Option<Move>
         ensures { option_map step_of result ≡ arrival_of (view self.now.version (state_of self.now)) }
     {
@@ -209,6 +214,7 @@ impl Parts {
     }
 
     /// The first held job.
+    #[inline(always)]
     pub fn first_held(&self) -> Option<Task>
         ensures is { result ≡ head_of self.now.held }
         ensures seen { result ≡ first (due_first self.now.version) (held (state_of self.now)) }
@@ -218,6 +224,7 @@ impl Parts {
     }
 
     /// The first waiting job by deadline.
+    #[inline(always)]
     pub fn first_waiting(&self) -> Option<Task>
         requires { AreSound self.now }
         ensures is { result ≡ first (due_first self.now.version) self.now.waiting }
@@ -227,20 +234,22 @@ impl Parts {
     }
 
     /// Of the waiting jobs at their latest start, the first in that order.
+    #[inline(always)]
     pub fn first_late(&self) -> Option<Task>
         requires { AreSound self.now }
         ensures is { (x : Task) → result ≡ Some x → first (latest_first self.now.version) self.now.waiting ≡ Some x }
         ensures seen { result ≡ first (latest_first self.now.version)
             (filter (is_at_latest_start (state_of self.now)) (waiting (state_of self.now))) }
     {
-        let x = self.pool.first_latest()?;
-        if latest_start(&x) != self.clock {
+        let start = self.pool.first_start()?;
+        if start != self.clock {
             return None;
         }
-        Some(x)
+        self.pool.first_latest()
     }
 
     // The room of the held jobs.
+    #[inline(always)]
     fn room_held(&self) -> u64
         ensures { result ≡ room self.now.clock (held (state_of self.now)) }
     {
@@ -248,6 +257,7 @@ impl Parts {
     }
 
     // The room of the running job r and the held jobs.
+    #[inline(always)]
     fn room_busy(&self, r: &Task) -> u64
         requires sound { AreSound self.now }
         requires running { self.now.running ≡ Some r.now }
@@ -257,6 +267,7 @@ impl Parts {
     }
 
     // The value of the running job r and the held jobs.
+    #[inline(always)]
     fn value_busy(&self, r: &Task) -> u64
         requires sound { AreSound self.now }
         requires running { self.now.running ≡ Some r.now }
@@ -267,6 +278,7 @@ impl Parts {
     }
 
     // The fresh job f preempts the running job r, or waits.
+    #[inline(always)]
     fn decision(&self, r: &Task, f: &Task) -> Move
         requires sound { AreSound self.now }
         requires running { self.now.running ≡ Some r.now }
@@ -284,6 +296,7 @@ impl Parts {
     }
 
     // The job x takes the processor from the running job r, or is abandoned.
+    #[inline(always)]
     fn alarm(&self, k: Ratio, r: &Task, x: &Task) -> Move
         requires sound { AreSound self.now }
         requires running { self.now.running ≡ Some r.now }
@@ -304,6 +317,7 @@ impl Parts {
     }
 
     // The next step while r runs.
+    #[inline(always)]
     fn busy_step(&self, k: Ratio, r: &Task) -> Move
         requires sound { AreSound self.now }
         requires running { self.now.running ≡ Some r.now }
@@ -329,6 +343,7 @@ impl Parts {
     }
 
     // The job gets the processor.
+    #[inline(always)]
     fn run(&self, t: &Task) -> Move
         ensures { step_of result ≡ runs (view self.now.version (state_of self.now)) t.now }
     {
@@ -339,6 +354,7 @@ impl Parts {
     }
 
     // While p is held: the first waiting job, if it is due before p and fits the room of the held jobs, otherwise p.
+    #[inline(always)]
     fn resumed(&self, p: &Task) -> Task
         requires { AreSound self.now }
         ensures { let v = view self.now.version (state_of self.now) in result ≡ resumed v p.now v.waiting }
@@ -350,6 +366,7 @@ impl Parts {
     }
 
     // The next step while no job runs.
+    #[inline(always)]
     fn free_step(&self, k: Ratio) -> Move
         requires sound { AreSound self.now }
         requires free { running (state_of self.now) ≡ None }
@@ -372,6 +389,7 @@ impl Parts {
     }
 
     /// The next step where further jobs may come.
+    #[inline(always)]
     pub fn open_step(&self, k: Ratio) -> Move
         requires { AreSound self.now }
         ensures { step_of result ≡ open_step (record { ratio = k; version = self.now.version }) (state_of self.now) }
@@ -383,6 +401,7 @@ impl Parts {
     }
 
     // At most so many ticks, and what the running job has left.
+    #[inline(always)]
     fn until_done(&self, most: u64) -> u64
         ensures { result ≡ until_done (running (state_of self.now)) most }
     {
@@ -393,14 +412,15 @@ impl Parts {
     }
 
     /// How many silent ticks come before anything is due, at most `most`, where no waiting job is at its latest start.
+    #[inline(always)]
     pub fn silent_ticks(&self, most: u64) -> u64
         requires sound { AreSound self.now }
         requires early { Each (λ t. self.now.clock < latest_start t) self.now.waiting }
         ensures { result ≡ still_ticks most (state_of self.now) }
     {
         let before = self.until_done(most);
-        match self.pool.first_latest() {
-            Some(x) => before.min(latest_start(&x).saturating_sub(self.clock)),
+        match self.pool.first_start() {
+            Some(start) => before.min(start.saturating_sub(self.clock)),
             None => before,
         }
     }
@@ -434,6 +454,7 @@ impl Parts {
     }
 
     /// The running job is done, or goes.
+    #[inline(always)]
     pub fn complete(&mut self)
         ensures { self.new ≡ record self.old { running = None } }
     {
@@ -441,6 +462,7 @@ impl Parts {
     }
 
     /// The first held job runs on.
+    #[inline(always)]
     pub fn resume(&mut self)
         requires { self.old.running ≡ None }
         ensures { self.new ≡ record self.old {
@@ -471,6 +493,7 @@ impl Parts {
     }
 
     /// The fresh job runs.
+    #[inline(always)]
     pub fn begin(&mut self)
         requires { self.old.running ≡ None }
         ensures { self.new ≡ record self.old {
@@ -507,6 +530,7 @@ impl Parts {
     }
 
     /// A job comes, and is fresh.
+    #[inline(always)]
     pub fn come(&mut self, number: u32, job: Job)
         requires stale { self.old.fresh ≡ None }
         requires room { length (ready_of self.old) < self.old.room }
@@ -567,6 +591,7 @@ impl Parts {
     }
 
     /// The running job has so many ticks more, and the clock goes on.
+    #[inline(always)]
     pub fn tick(&mut self, ticks: u64)
         requires had { Each (λ t. t.had + ticks < 2 ^ 64) (option_to_list self.old.running) }
         requires known { self.old.clock + ticks < 2 ^ 64 }
@@ -575,7 +600,7 @@ impl Parts {
           running = option_map (ticked_by ticks) self.old.running;
         } }
     {
-        self.running = later_running(self.running, ticks);
+        later_running(&mut self.running, ticks);
         self.clock += ticks;
     }
 }

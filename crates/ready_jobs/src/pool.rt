@@ -1,10 +1,12 @@
 //! The jobs that wait.
 ghost use Rattle.std.specs.Prelude.{◌≡◌, ℕ, ◌+◌, ◌*◌, ◌^◌, ◌<◌, ◌≤◌, [], ◌∷◌, ◌++◌, slice_set, length, replicate, ◌-◌};
-ghost use Rattle.std.specs.Prelude.{Some, None, max, vec_len, vec_capacity, IsOk, IsNone, IfSome, OnOk, OnErr};
+ghost use Rattle.std.specs.Prelude.{Some, None, max, vec_len, vec_capacity, option_map, IsOk, IsNone, IfSome, OnOk};
+ghost use Rattle.std.specs.Prelude.{OnErr};
 ghost use Rattle.std.specs.List.{slice_get};
 ghost use Rattle.dover_model.specs.declared.events.Version.{Version};
 ghost use Rattle.dover_model.specs.declared.events.Task.{Task};
 ghost use Rattle.dover_model.specs.Entries.{entry_of};
+ghost use Rattle.dover_model.specs.State.{latest_start};
 ghost use Rattle.dover_model.specs.Orders.{due_first, latest_first, first};
 ghost use Rattle.dover_model.specs.Sound.{Each};
 ghost use Rattle.place_heap.specs.Orders.{due_item, latest_item};
@@ -43,6 +45,7 @@ impl Model for Pool {
 }
 
 // The ticks that the job is still to have.
+#[inline(always)]
 fn left(t: &Task) -> u64
     ensures { result ≡ (entry_of t.now).left }
 {
@@ -50,6 +53,7 @@ fn left(t: &Task) -> u64
 }
 
 // The item of the job by its deadline.
+#[inline(always)]
 fn due_item(version: Version, place: u32, t: &Task) -> Item
     requires place { place < 2 ^ 20 }
     requires number { t.now.number < 2 ^ 20 }
@@ -64,6 +68,7 @@ fn due_item(version: Version, place: u32, t: &Task) -> Item
 }
 
 // The item of the job by its latest start.
+#[inline(always)]
 fn latest_item(version: Version, place: u32, t: &Task) -> Item
     requires place { place < 2 ^ 20 }
     requires number { t.now.number < 2 ^ 20 }
@@ -78,6 +83,7 @@ fn latest_item(version: Version, place: u32, t: &Task) -> Item
 }
 
 // What is at a place.
+#[inline(always)]
 fn job_at(slots: &Vec<Option<Task>>, place: u32) -> Option<Task>
     requires { place < length slots.now.items }
     ensures { slice_get slots.now.items place ≡ Some result }
@@ -86,6 +92,7 @@ fn job_at(slots: &Vec<Option<Task>>, place: u32) -> Option<Task>
 }
 
 // Puts something at a place.
+#[inline(always)]
 fn put_at(slots: &mut Vec<Option<Task>>, place: u32, job: Option<Task>)
     requires { place < length slots.old.items }
     ensures items { slots.new.items ≡ slice_set slots.old.items place job }
@@ -96,6 +103,7 @@ fn put_at(slots: &mut Vec<Option<Task>>, place: u32, job: Option<Task>)
 }
 
 // The last free place, which is free no more.
+#[inline(always)]
 fn next_place(free: &mut Vec<u32>) -> u32
     requires { 0 < length free.old.items }
     ensures last { free.old.items ≡ free.new.items ++ result ∷ [] }
@@ -169,6 +177,7 @@ impl Pool {
     }
 
     /// The version that breaks ties.
+    #[inline(always)]
     pub fn version(&self) -> Version
         ensures { result ≡ self.now.version }
     {
@@ -176,6 +185,7 @@ impl Pool {
     }
 
     /// How many jobs wait.
+    #[inline(always)]
     pub fn count(&self) -> u32
         ensures { result ≡ length self.now.tasks }
     {
@@ -228,6 +238,7 @@ impl Pool {
     }
 
     /// The first by deadline, if one waits. Ties go by the version.
+    #[inline(always)]
     pub fn first_deadline(&self) -> Option<Task>
         requires own { HaveOwnNumbers self.now.tasks }
         requires modest { AreModest self.now.tasks }
@@ -238,6 +249,7 @@ impl Pool {
     }
 
     /// The first by latest start, if one waits. Ties go by the version.
+    #[inline(always)]
     pub fn first_latest(&self) -> Option<Task>
         requires own { HaveOwnNumbers self.now.tasks }
         requires modest { AreModest self.now.tasks }
@@ -245,6 +257,17 @@ impl Pool {
     {
         let item = self.by_latest.first()?;
         job_at(&self.slots, item.place())
+    }
+
+    /// The latest start of the first by latest start, if one waits.
+    #[inline(always)]
+    pub fn first_start(&self) -> Option<u64>
+        requires own { HaveOwnNumbers self.now.tasks }
+        requires modest { AreModest self.now.tasks }
+        ensures { result ≡ option_map latest_start (first (latest_first self.now.version) self.now.tasks) }
+    {
+        let item = self.by_latest.first()?;
+        Some(item.key())
     }
 
     /// Takes the first by deadline out, if one waits.

@@ -1,5 +1,5 @@
 //! The run of the jobs that were released so far, over those that are ready.
-ghost use Rattle.std.specs.Prelude.{◌≡◌, ◌≤◌, ◌<◌, ◌+◌, ◌-◌, ◌*◌, ◌^◌, ◌∷◌, [], ◌++◌, ℕ, ◌&&◌, nat_le, min, length};
+ghost use Rattle.std.specs.Prelude.{◌≡◌, ◌≤◌, ◌<◌, ◌+◌, ◌∷◌, [], ◌++◌, ℕ, ◌&&◌, nat_le, min, length};
 ghost use Rattle.std.specs.Prelude.{false, IfOk, IsOk, OnOk, OnErr};
 ghost use Rattle.dover_model.specs.Limits.{last_tick, most_jobs, most_total};
 ghost use Rattle.dover_model.specs.Instance.{Instance};
@@ -11,8 +11,8 @@ ghost use Rattle.plain_step.specs.Moves.{step_of, state_at};
 ghost use Rattle.trace_reading.specs.Leading.{PrintsNext};
 ghost use Rattle.ready_jobs.specs.Reordered.{IsReordered};
 ghost use Rattle.ready_jobs.specs.Course.{Course, Follows, IsCourse, Reached, Settled, new_course, fresh_job};
-ghost use Rattle.ready_jobs.specs.Changed.{cost_of};
-ghost use Rattle.ready_jobs.specs.Course.{with_release, waiting_count, held_count};
+ghost use Rattle.ready_jobs.specs.Course.{with_release};
+ghost use Rattle.ready_jobs.specs.Spending.{HasPaid};
 
 use crate::parts::Parts;
 use dover_model::jobs::LAST_TICK;
@@ -53,7 +53,8 @@ impl Ready {
     ///
     /// `Memory` where there is none.
     pub fn new(alloc: Global, version: Version, ratio: Ratio) -> Result<Ready, Memory>
-        ensures { IfOk result (λ c. c ≡ new_course (record { ratio = ratio; version = version }) 0) }
+        ensures empty { IfOk result (λ c. c ≡ new_course (record { ratio = ratio; version = version }) 0) }
+        ensures paid { IfOk result (λ c. (now : ℕ) → HasPaid c now now) }
     {
         let _ = ratio.p();
         Ok(Ready {
@@ -75,6 +76,7 @@ impl Ready {
         ensures grows { self.old.room ≤ self.new.room }
         ensures err { OnErr result (self.new.room ≡ self.old.room) }
         ensures enough { length self.old.ready + more ≤ self.old.room → IsOk result }
+        ensures paid { (start now : ℕ) → HasPaid self.old start now → HasPaid self.new start now }
     {
         let ready = self.parts.count();
         self.parts
@@ -82,6 +84,7 @@ impl Ready {
     }
 
     /// The clock.
+    #[inline(always)]
     pub fn clock(&self) -> u64
         ensures is { result ≡ self.now.clock }
         ensures known { result ≤ last_tick }
@@ -89,7 +92,22 @@ impl Ready {
         self.parts.clock()
     }
 
+    /// How many jobs are ready.
+    pub fn count(&self) -> u32
+        ensures { result ≡ length self.now.ready }
+    {
+        self.parts.count()
+    }
+
+    /// For how many ready jobs there is room.
+    pub fn room(&self) -> u32
+        ensures { result ≡ self.now.room }
+    {
+        self.parts.room()
+    }
+
     /// The version of the rules.
+    #[inline(always)]
     pub fn version(&self) -> Version
         ensures { result ≡ self.now.rules.version }
     {
@@ -97,6 +115,7 @@ impl Ready {
     }
 
     /// The ratio of the rules.
+    #[inline(always)]
     pub fn ratio(&self) -> Ratio
         ensures { result ≡ self.now.rules.ratio }
     {
@@ -104,6 +123,7 @@ impl Ready {
     }
 
     /// How many jobs were released.
+    #[inline(always)]
     pub fn jobs(&self) -> u32
         ensures is { result ≡ self.now.jobs }
         ensures few { result ≤ most_jobs }
@@ -112,6 +132,7 @@ impl Ready {
     }
 
     /// The value of the jobs done.
+    #[inline(always)]
     pub fn value(&self) -> u64
         ensures is { result ≡ self.now.done }
         ensures modest { result ≤ most_total }
@@ -122,7 +143,8 @@ impl Ready {
     /// The rules, where no job was released yet.
     pub fn declare(&mut self, version: Version, ratio: Ratio)
         requires { self.old.jobs ≡ 0 }
-        ensures { self.new ≡ record self.old { rules = record { ratio = ratio; version = version } } }
+        ensures rules { self.new ≡ record self.old { rules = record { ratio = ratio; version = version } } }
+        ensures paid { (start now : ℕ) → HasPaid self.old start now → HasPaid self.new start now }
     {
         let _ = ratio.p();
         self.parts.declare(version);
@@ -131,6 +153,7 @@ impl Ready {
 
     // Takes the silent steps up to the next printed one, or up to the barrier of the mark, and gives the step that
     // comes there.
+    #[inline(always)]
     fn go_on<L: Ledger>(&mut self, mark: u64, steps: &mut Steps<L>) -> Move
         requires some { 0 < length self.old.ready }
         requires low { self.old.clock ≤ mark }
@@ -141,8 +164,7 @@ impl Ready {
         ensures kept { self.new ≡ record self.old { clock = self.new.clock; ready = self.new.ready } }
         ensures fewer { length self.new.ready ≡ length self.old.ready }
         ensures low { self.new.clock ≤ mark }
-        ensures count { (d : ℕ) → length self.old.ready + 1 < 2 ^ d →
-            steps.new ≤ steps.old + 2 * d * (waiting_count self.new - waiting_count self.old) }
+        ensures paid { (start : ℕ) → HasPaid self.old start steps.old → HasPaid self.new start steps.new }
     {
         let _ = self.parts.clock();
         let step = self.parts.settle(self.ratio, mark, steps);
@@ -151,6 +173,7 @@ impl Ready {
     }
 
     /// Takes the silent steps up to the next printed one, which it gives, or up to the barrier of the mark.
+    #[inline(always)]
     pub fn settle<L: Ledger>(&mut self, mark: u64, steps: &mut Steps<L>) -> Option<Event>
         requires low { self.old.clock ≤ mark }
         requires known { mark ≤ last_tick }
@@ -158,8 +181,7 @@ impl Ready {
         ensures kept { self.new ≡ record self.old { clock = self.new.clock; ready = self.new.ready } }
         ensures fewer { length self.new.ready ≡ length self.old.ready }
         ensures low { self.new.clock ≤ mark }
-        ensures count { (d : ℕ) → length self.old.ready + 1 < 2 ^ d →
-            steps.new ≤ steps.old + 2 * d * (waiting_count self.new - waiting_count self.old) }
+        ensures paid { (start : ℕ) → HasPaid self.old start steps.old → HasPaid self.new start steps.new }
     {
         if self.parts.count() == 0 {
             return None;
@@ -179,6 +201,7 @@ impl Ready {
     }
 
     /// The step that the run prints next, where no further job comes. The silent steps before it are taken.
+    #[inline(always)]
     pub fn upcoming<L: Ledger>(&mut self, steps: &mut Steps<L>) -> Event
         ensures next { (J : Instance) (z : State) → Follows self.old J z → (y : State) × Follows self.new J y
             × PrintsNext J.rules z result y }
@@ -186,8 +209,7 @@ impl Ready {
             open_step self.new.rules (state_at self.new.clock self.new.ready) ≡ Prints result }
         ensures kept { self.new ≡ record self.old { clock = self.new.clock; ready = self.new.ready } }
         ensures fewer { length self.new.ready ≡ length self.old.ready }
-        ensures count { (d : ℕ) → length self.old.ready + 1 < 2 ^ d →
-            steps.new ≤ steps.old + 2 * d * (waiting_count self.new - waiting_count self.old) }
+        ensures paid { (start : ℕ) → HasPaid self.old start steps.old → HasPaid self.new start steps.new }
     {
         if self.parts.count() == 0 {
             return Event::End { value: self.done };
@@ -201,14 +223,14 @@ impl Ready {
     }
 
     /// Takes the printed step that comes now.
+    #[inline(always)]
     pub fn take<L: Ledger>(&mut self, event: &Event, steps: &mut Steps<L>)
         requires { open_step self.old.rules (state_at self.old.clock self.old.ready) ≡ Prints event.now }
         ensures after { (J : Instance) (z : State) → Follows self.old J z
             → Follows self.new J (after z (Prints event.now)) }
         ensures kept { self.new ≡ record self.old { ready = self.new.ready; done = self.new.done } }
         ensures fewer { length self.new.ready ≤ length self.old.ready }
-        ensures count { (d : ℕ) → length self.old.ready + 1 < 2 ^ d →
-            steps.new ≤ steps.old + cost_of d (held_count self.old) event.now }
+        ensures paid { (start : ℕ) → HasPaid self.old start steps.old → HasPaid self.new start steps.new }
     {
         let _ = self.parts.clock();
         let worth = self.parts.apply(event, steps);
@@ -216,12 +238,14 @@ impl Ready {
     }
 
     /// Takes the release of the next job, to which the clock goes on.
+    #[inline(always)]
     pub fn release(&mut self, job: Job)
         requires course { IsCourse (with_release self.old job self.old.room) }
         requires ahead { self.old.clock ≤ job.release }
         requires room { length self.old.ready < self.old.room }
         ensures kept { self.new ≡ record (with_release self.old job self.old.room) { ready = self.new.ready } }
         ensures ready { IsReordered (self.old.ready ++ fresh_job self.old job ∷ []) self.new.ready }
+        ensures paid { (start now : ℕ) → HasPaid self.old start now → HasPaid self.new start now }
     {
         let _ = self.parts.clock();
         self.parts.come(self.jobs, job);
@@ -230,6 +254,7 @@ impl Ready {
 }
 
 // The event is a decision at a latest start, at the mark or after it.
+#[inline(always)]
 fn is_late_at(event: &Event, mark: u64, clock: u64) -> bool
     ensures { result ≡ (is_late (Prints event.now) && nat_le mark clock) }
 {

@@ -19,6 +19,7 @@ use step_count::Steps;
 
 impl Parts {
     // The fresh job waits.
+    #[inline(always)]
     fn wait<L: Ledger>(&mut self, steps: &mut Steps<L>)
         requires { (rules : Rules) × (n : ℕ) × (open_step rules (state_of self.old) ≡ Waits n) }
         ensures fresh { (f : Task) × (self.old.fresh ≡ Some f)
@@ -32,7 +33,30 @@ impl Parts {
         }
     }
 
+    // Takes the silent ticks, of which one comes now, up to the next other step or to the mark. No job is fresh.
+    #[inline(always)]
+    fn tick_on(&mut self, k: Ratio, mark: u64) -> Move
+        requires part { IsPart (record { ratio = k; version = self.old.version }) self.old }
+        requires stale { self.old.fresh ≡ None }
+        requires ticks { open_step (record { ratio = k; version = self.old.version }) (state_of self.old) ≡ Ticks }
+        requires low { self.old.clock ≤ mark }
+        requires known { mark ≤ last_tick }
+        ensures settles { SettlesFrom k mark self.old self.new }
+        ensures step { step_of result
+            ≡ open_step (record { ratio = k; version = self.new.version }) (state_of self.new) }
+        ensures stops { IsSilent (step_of result) → (step_of result ≡ Ticks) × (mark ≤ self.new.clock) }
+        ensures low { self.new.clock ≤ mark }
+        ensures kept { self.new ≡ record self.old { clock = self.new.clock; running = self.new.running } }
+        ensures fewer { length (ready_of self.new) ≡ length (ready_of self.old) }
+    {
+        let clock = self.clock();
+        let count = self.silent_ticks(mark - clock);
+        self.tick(count);
+        self.open_step(k)
+    }
+
     // Takes the silent ticks up to the next other step, or to the mark. No job is fresh.
+    #[inline(always)]
     fn tick_to(&mut self, k: Ratio, mark: u64) -> Move
         requires part { IsPart (record { ratio = k; version = self.old.version }) self.old }
         requires stale { self.old.fresh ≡ None }
@@ -46,20 +70,17 @@ impl Parts {
         ensures kept { self.new ≡ record self.old { clock = self.new.clock; running = self.new.running } }
         ensures fewer { length (ready_of self.new) ≡ length (ready_of self.old) }
     {
-        let clock = self.clock();
+        let _ = self.clock();
         let step = self.open_step(k);
         match step {
             Move::Prints(_) => step,
             Move::Waits(_) => step,
-            Move::Ticks => {
-                let count = self.silent_ticks(mark - clock);
-                self.tick(count);
-                self.open_step(k)
-            }
+            Move::Ticks => self.tick_on(k, mark),
         }
     }
 
     /// Takes the silent steps up to the next printed one, which it gives, or up to the barrier of the mark.
+    #[inline(always)]
     pub fn settle<L: Ledger>(&mut self, k: Ratio, mark: u64, steps: &mut Steps<L>) -> Move
         requires part { IsPart (record { ratio = k; version = self.old.version }) self.old }
         requires low { self.old.clock ≤ mark }
@@ -87,7 +108,7 @@ impl Parts {
                 self.wait(steps);
                 self.tick_to(k, mark)
             }
-            Move::Ticks => self.tick_to(k, mark),
+            Move::Ticks => self.tick_on(k, mark),
         }
     }
 }

@@ -13,6 +13,7 @@ use std::sync::ledger::Ledger;
 use step_count::Steps;
 
 // The job in another role.
+#[inline(always)]
 pub(crate) fn in_role(t: &Task, role: Role) -> Task
     ensures { result ≡ with_role t.now role }
 {

@@ -1,5 +1,4 @@
-use Rattle.std.proofs.Common.{sym, ap}
-use Rattle.std.proofs.Common.{◌∙◌, subst}
+use Rattle.std.proofs.Common.{sym, ap, ◌∙◌, subst}
 use Rattle.std.specs.Prelude.{Option}
 use Rattle.std.specs.List.{filter}
 use Rattle.dover_model.specs.declared.events.Task.{Task}
@@ -8,8 +7,11 @@ use Rattle.dover_model.specs.Step.{is_at_latest_start}
 use Rattle.dover_model.specs.Orders.{latest_first, first}
 use Rattle.ready_jobs.specs.Parts.{Parted, AreSound, state_of}
 use Rattle.ready_jobs.specs.Kept.{parted_of}
-use Rattle.ready_jobs.proofs.Seeing.{waiting_list, late_none, late_later, late_found}
+use Rattle.ready_jobs.proofs.Seeing.{waiting_list, start_none, start_later, start_found}
 use Rattle.ready_jobs.proofs.parts.Parts.first_late.Goals as goal
+
+pub first_start-requires-clause-modest : goal.first_start-requires-clause-modest
+first_start-requires-clause-modest c = (subst AreSound (sym c.self.view_is) c.requires).modest
 
 pub first_latest-requires-clause-modest : goal.first_latest-requires-clause-modest
 first_latest-requires-clause-modest c = (subst AreSound (sym c.self.view_is) c.requires).modest
@@ -18,24 +20,23 @@ first_latest-requires-clause-modest c = (subst AreSound (sym c.self.view_is) c.r
 abbrev late : Parted → Option Task
 late q = first (latest_first q.version) (filter (is_at_latest_start (state_of q)) (waiting (state_of q)))
 
-pub returns-in_err-x-clause-seen : goal.returns-in_err-x-clause-seen
-returns-in_err-x-clause-seen c =
+pub returns-in_err-start-clause-seen : goal.returns-in_err-start-clause-seen
+returns-in_err-start-clause-seen c =
     let p = parted_of c.self.inside in
     let sound : AreSound p = subst AreSound (sym c.self.view_is) c.requires in
     c.from_residual.ensures
-    ∙ sym (late_none p.version (state_of p) p.waiting sound.own sound.early
-    (sym (sym c.in_err-x.was ∙ c.first_latest.ensures)))
+    ∙ sym (start_none p.version (state_of p) p.waiting sound.own sound.early
+    (sym (sym c.in_err-start.was ∙ c.first_start.ensures)))
     ∙ sym (ap (λ l. first (latest_first p.version) (filter (is_at_latest_start (state_of p)) l))
     (waiting_list p c.self.invariant.roles))
     ∙ ap late c.self.view_is
 
-pub returns-then-latest_start-self-clause-seen : goal.returns-then-latest_start-self-clause-seen
-returns-then-latest_start-self-clause-seen c =
+pub returns-then-start-self-clause-seen : goal.returns-then-start-self-clause-seen
+returns-then-start-self-clause-seen c =
     let p = parted_of c.self.inside in
     let sound : AreSound p = subst AreSound (sym c.self.view_is) c.requires in
-    sym (late_later p.version (state_of p) p.waiting sound.own sound.early c.in_ok-x.x
-    (sym (sym c.in_ok-x.was ∙ c.first_latest.ensures))
-    (λ same. c.if-latest_start-self.true (c.latest_start.ensures ∙ same)))
+    sym (start_later p.version (state_of p) p.waiting sound.own sound.early c.in_ok-start.start
+    (sym (sym c.in_ok-start.was ∙ c.first_start.ensures)) (λ same. c.if-start-self.true same))
     ∙ sym (ap (λ l. first (latest_first p.version) (filter (is_at_latest_start (state_of p)) l))
     (waiting_list p c.self.invariant.roles))
     ∙ ap late c.self.view_is
@@ -44,9 +45,9 @@ pub returns-clause-seen : goal.returns-clause-seen
 returns-clause-seen c =
     let p = parted_of c.self.inside in
     let sound : AreSound p = subst AreSound (sym c.self.view_is) c.requires in
-    sym (late_found p.version (state_of p) p.waiting sound.own sound.early c.in_ok-x.x
-    (sym (sym c.in_ok-x.was ∙ c.first_latest.ensures))
-    (sym c.latest_start.ensures ∙ c.if-latest_start-self.false))
+    c.first_latest.ensures
+    ∙ sym (start_found p.version (state_of p) p.waiting sound.own sound.early c.in_ok-start.start
+    (sym (sym c.in_ok-start.was ∙ c.first_start.ensures)) c.if-start-self.false)
     ∙ sym (ap (λ l. first (latest_first p.version) (filter (is_at_latest_start (state_of p)) l))
     (waiting_list p c.self.invariant.roles))
     ∙ ap late c.self.view_is

@@ -23,9 +23,12 @@ tick_to-requires-clause-part g c =
     (sym c.open_step-step.ensures ∙ ap step_of c.in-Waits.is) c.wait.ensures.fresh c.wait.ensures.kept)
     c.requires.part
 
-pub tick_to-requires-in-Ticks-clause-stale : goal.tick_to-requires-in-Ticks-clause-stale
-tick_to-requires-in-Ticks-clause-stale g c = known_stale c.args.k c.args.self.now c.clock.ensures.roles c.requires.part
+pub tick_on-requires-clause-stale : goal.tick_on-requires-clause-stale
+tick_on-requires-clause-stale g c = known_stale c.args.k c.args.self.now c.clock.ensures.roles c.requires.part
     (sym c.open_step-step.ensures ∙ ap step_of c.in-Ticks.is)
+
+pub tick_on-requires-clause-ticks : goal.tick_on-requires-clause-ticks
+tick_on-requires-clause-ticks g c = sym c.open_step-step.ensures ∙ ap step_of c.in-Ticks.is
 
 pub returns-in-Waits-clause-settles : goal.returns-in-Waits-clause-settles
 returns-in-Waits-clause-settles g c =

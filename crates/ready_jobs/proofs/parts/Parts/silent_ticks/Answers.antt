@@ -1,16 +1,16 @@
-use Rattle.std.proofs.Common.{◌-◌, ◌<◌, min, sym, ap}
+use Rattle.std.proofs.Common.{◌<◌, min, sym, ap}
 use Rattle.std.proofs.Common.{◌∙◌, subst}
 use Rattle.dover_model.specs.State.{running, latest_start}
 use Rattle.dover_model.specs.Sound.{Each}
 use Rattle.plain_step.specs.Dues.{still_ticks, until_done}
 use Rattle.ready_jobs.specs.Parts.{Parted, AreSound, state_of}
 use Rattle.ready_jobs.specs.Kept.{parted_of}
-use Rattle.ready_jobs.proofs.Seeing.{before_latest, before_none}
+use Rattle.ready_jobs.proofs.Seeing.{before_start, before_none}
 use Rattle.ready_jobs.proofs.Seeing.{still_is}
 use Rattle.ready_jobs.proofs.parts.Parts.silent_ticks.Goals as goal
 
-pub first_latest-requires-clause-modest : goal.first_latest-requires-clause-modest
-first_latest-requires-clause-modest c = (subst AreSound (sym c.self.view_is) c.requires.sound).modest
+pub first_start-requires-clause-modest : goal.first_start-requires-clause-modest
+first_start-requires-clause-modest c = (subst AreSound (sym c.self.view_is) c.requires.sound).modest
 
 pub returns-in-Some : goal.returns-in-Some
 returns-in-Some c =
@@ -21,9 +21,9 @@ returns-in-Some c =
     ∙ ap (λ (q : Parted). until_done (running (state_of q)) c.args.most) (sym c.self.view_is) in
     c.min.ensures ∙ ap (λ n. min n c.saturating_sub.result) before
     ∙ ap (min (until_done (running (state_of p)) c.args.most))
-    (c.saturating_sub.ensures ∙ ap (λ n. n - p.clock) c.latest_start.ensures)
-    ∙ before_latest p.version p.clock (until_done (running (state_of p)) c.args.most) p.waiting c.in-Some.x
-    (sym c.first_latest.ensures ∙ c.in-Some.is) early
+    c.saturating_sub.ensures
+    ∙ before_start p.version p.clock (until_done (running (state_of p)) c.args.most) p.waiting c.in-Some.start
+    (sym c.first_start.ensures ∙ c.in-Some.is) early
     ∙ still_is p c.self.invariant.roles c.args.most
     ∙ ap (λ (q : Parted). still_ticks c.args.most (state_of q)) c.self.view_is
 
@@ -33,6 +33,6 @@ returns-in-None c =
     let before = c.until_done-before.ensures
     ∙ ap (λ (q : Parted). until_done (running (state_of q)) c.args.most) (sym c.self.view_is) in
     before ∙ before_none p.version p.clock (until_done (running (state_of p)) c.args.most) p.waiting
-    (sym c.first_latest.ensures ∙ c.in-None.is)
+    (sym c.first_start.ensures ∙ c.in-None.is)
     ∙ still_is p c.self.invariant.roles c.args.most
     ∙ ap (λ (q : Parted). still_ticks c.args.most (state_of q)) c.self.view_is

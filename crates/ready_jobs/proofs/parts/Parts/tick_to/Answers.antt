@@ -1,95 +1,16 @@
-use Rattle.std.proofs.Common.{◌-◌, refl, sym, ap, ◌∙◌, subst, arith}
-use Rattle.plain_step.specs.Dues.{still_ticks}
+use Rattle.std.proofs.Common.{sym, ap, ◌∙◌}
 use Rattle.plain_step.specs.Moves.{step_of}
-use Rattle.ready_jobs.specs.Parts.{Parted, AreSound, state_of}
-use Rattle.ready_jobs.specs.Following.{SettlesFrom}
-use Rattle.ready_jobs.proofs.Following.{parts_later, jump_low, roles_later, stale_no_wait}
-use Rattle.ready_jobs.proofs.Silences.{part_after, known_sound, known_early, known_fits, ticks_settle, ticks_stop}
-use Rattle.ready_jobs.proofs.Silences.{ticks_count}
+use Rattle.ready_jobs.proofs.Following.{stale_no_wait}
+use Rattle.ready_jobs.proofs.Silences.{known_sound}
 use Rattle.ready_jobs.proofs.parts.Parts.tick_to.Goals as goal
 
 pub open_step-step-requires : goal.open_step-step-requires
-open_step-step-requires c = known_sound _ c.args.self.now c.clock-clock.ensures.roles c.requires.part
+open_step-step-requires c = known_sound _ c.args.self.now c.clock.ensures.roles c.requires.part
 
-pub silent_ticks-count-requires-clause-sound : goal.silent_ticks-count-requires-clause-sound
-silent_ticks-count-requires-clause-sound c = known_sound _ c.args.self.now c.clock-clock.ensures.roles c.requires.part
-
-pub silent_ticks-count-requires-clause-early : goal.silent_ticks-count-requires-clause-early
-silent_ticks-count-requires-clause-early c =
-    known_early c.args.k c.args.self.now c.clock-clock.ensures.roles c.requires.part
-    (sym c.open_step-step.ensures ∙ ap step_of c.in-Ticks.is)
-
-pub tick-requires-clause-had : goal.tick-requires-clause-had
-tick-requires-clause-had c = known_fits _ c.args.self.now c.clock-clock.ensures.roles c.requires.part
-    c.silent_ticks-count.result
-    (omega (
-      arith,
-      jump_low c.args.self.now c.clock-clock.ensures.roles (record
-          { ratio = c.args.k; version = c.args.self.now.version }) c.args.mark c.silent_ticks-count.result
-          c.requires.low
-          (c.silent_ticks-count.ensures
-          ∙ ap (λ t. still_ticks (c.args.mark - t) (state_of c.args.self.now)) c.clock-clock.ensures.is),
-      c.requires.known,
-    ))
-
-pub tick-requires-clause-known : goal.tick-requires-clause-known
-tick-requires-clause-known c = omega (
-  arith,
-  jump_low c.args.self.now c.clock-clock.ensures.roles (record
-      { ratio = c.args.k; version = c.args.self.now.version }) c.args.mark c.silent_ticks-count.result
-      c.requires.low
-      (c.silent_ticks-count.ensures
-      ∙ ap (λ t. still_ticks (c.args.mark - t) (state_of c.args.self.now)) c.clock-clock.ensures.is),
-  c.requires.known,
-)
-
-pub open_step-requires : goal.open_step-requires
-open_step-requires c =
-    let p = c.args.self.now in
-    let n = c.silent_ticks-count.result in
-    let roles = c.clock-clock.ensures.roles in
-    let settles : SettlesFrom c.args.k c.args.mark p (parts_later n p) =
-    ticks_settle c.args.k c.args.mark n p (parts_later n p) roles
-    (sym c.open_step-step.ensures ∙ ap step_of c.in-Ticks.is) (c.silent_ticks-count.ensures
-    ∙ ap (λ t. still_ticks (c.args.mark - t) (state_of c.args.self.now)) c.clock-clock.ensures.is)
-    c.requires.low refl in
-    subst AreSound (sym c.tick.ensures)
-    (known_sound _ (parts_later n p) (roles_later n p roles)
-    (part_after c.args.k c.args.mark p (parts_later n p) refl settles c.requires.part))
+pub tick_on-requires-clause-ticks : goal.tick_on-requires-clause-ticks
+tick_on-requires-clause-ticks c = sym c.open_step-step.ensures ∙ ap step_of c.in-Ticks.is
 
 pub returns-in-Waits-clause-stops : goal.returns-in-Waits-clause-stops
-returns-in-Waits-clause-stops c silent = absurd (stale_no_wait c.args.self.now c.clock-clock.ensures.roles
+returns-in-Waits-clause-stops c silent = absurd (stale_no_wait c.args.self.now c.clock.ensures.roles
     (record { ratio = c.args.k; version = c.args.self.now.version }) c.requires.stale _
     (sym c.open_step-step.ensures ∙ ap step_of c.in-Waits.is))
-
-pub returns-in-Ticks-clause-settles : goal.returns-in-Ticks-clause-settles
-returns-in-Ticks-clause-settles c =
-    ticks_settle c.args.k c.args.mark c.silent_ticks-count.result c.args.self.now c.tick.new.self
-    c.clock-clock.ensures.roles
-    (sym c.open_step-step.ensures ∙ ap step_of c.in-Ticks.is) (c.silent_ticks-count.ensures
-    ∙ ap (λ t. still_ticks (c.args.mark - t) (state_of c.args.self.now)) c.clock-clock.ensures.is)
-    c.requires.low
-    c.tick.ensures
-
-pub returns-in-Ticks-clause-stops : goal.returns-in-Ticks-clause-stops
-returns-in-Ticks-clause-stops c silent =
-    ticks_stop c.args.k c.args.mark c.silent_ticks-count.result c.args.self.now c.tick.new.self
-    c.clock-clock.ensures.roles c.requires.stale (c.silent_ticks-count.ensures
-    ∙ ap (λ t. still_ticks (c.args.mark - t) (state_of c.args.self.now)) c.clock-clock.ensures.is)
-    c.requires.low c.tick.ensures
-    (step_of c.open_step.result) (sym c.open_step.ensures) silent
-
-pub returns-in-Ticks-clause-low : goal.returns-in-Ticks-clause-low
-returns-in-Ticks-clause-low c = omega (
-  arith,
-  jump_low c.args.self.now c.clock-clock.ensures.roles (record
-      { ratio = c.args.k; version = c.args.self.now.version }) c.args.mark c.silent_ticks-count.result
-      c.requires.low
-      (c.silent_ticks-count.ensures
-      ∙ ap (λ t. still_ticks (c.args.mark - t) (state_of c.args.self.now)) c.clock-clock.ensures.is),
-  ap (λ (q : Parted). q.clock) c.tick.ensures,
-)
-
-pub returns-in-Ticks-clause-fewer : goal.returns-in-Ticks-clause-fewer
-returns-in-Ticks-clause-fewer c =
-    ticks_count c.silent_ticks-count.result c.args.self.now c.tick.new.self c.tick.ensures

@@ -1,8 +1,12 @@
-use Rattle.std.proofs.Common.{◌++◌, ◌∷◌, [], sym, subst}
+use Rattle.std.proofs.Common.{◌≤◌, ◌+◌, ◌++◌, ◌∷◌, [], sym, ap, subst}
+use Rattle.plain_step.specs.Moves.{state_at}
+use Rattle.queued_jobs.specs.Spending.{HasSpentFor}
 use Rattle.ready_jobs.specs.Reordered.{IsReordered}
-use Rattle.ready_jobs.specs.Parts.{ready_of}
-use Rattle.ready_jobs.specs.Course.{Course, IsCourse, with_release, fresh_job}
+use Rattle.ready_jobs.specs.Parts.{Parted, ready_of}
+use Rattle.ready_jobs.specs.Course.{Course, IsCourse, course_of, with_release, fresh_job}
+use Rattle.ready_jobs.specs.Spending.{HasPaid}
 use Rattle.ready_jobs.proofs.Courses.{come_stale, come_course, come_order}
+use Rattle.ready_jobs.proofs.Spending.{release_pays}
 use Rattle.ready_jobs.proofs.ready.Ready.release.Goals as goal
 
 pub come-requires-clause-stale : goal.come-requires-clause-stale
@@ -26,3 +30,15 @@ returns-clause-ready c =
     (come_order i.ratio i.parts i.jobs i.done c.args.job c.clock.ensures.roles
     (subst (λ (d : Course). IsCourse (with_release d c.args.job d.room)) (sym c.self.view_is) c.requires.course)
     c.come.new.self c.come.ensures)
+
+pub returns-clause-paid : goal.returns-clause-paid
+returns-clause-paid c start now paid =
+    let i = c.self.inside in
+    subst (λ t. HasSpentFor (i.jobs + 1) (state_at t (ready_of c.come.new.self)) start now)
+    (sym (ap (λ (q : Parted). q.clock) c.come.ensures))
+    (release_pays (course_of i.ratio i.parts i.jobs i.done) c.args.job (ready_of c.come.new.self)
+    (subst (λ (d : Course). d.clock ≤ c.args.job.release) (sym c.self.view_is) c.requires.ahead)
+    (come_order i.ratio i.parts i.jobs i.done c.args.job c.clock.ensures.roles
+    (subst (λ (d : Course). IsCourse (with_release d c.args.job d.room)) (sym c.self.view_is) c.requires.course)
+    c.come.new.self c.come.ensures) start now
+    (subst (λ d. HasPaid d start now) (sym c.self.view_is) paid))

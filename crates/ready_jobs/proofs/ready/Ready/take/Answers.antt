@@ -1,11 +1,12 @@
-use Rattle.std.proofs.Common.{◌≡◌, ◌≤◌, ◌+◌, ap, sym, subst, length, arith}
+use Rattle.std.proofs.Common.{◌≡◌, ◌+◌, ap, sym, subst, arith}
 use Rattle.dover_model.specs.Step.{Prints, open_step}
 use Rattle.plain_step.specs.Moves.{state_at}
-use Rattle.ready_jobs.specs.Changed.{cost_of}
 use Rattle.ready_jobs.specs.Parts.{Parted}
-use Rattle.ready_jobs.specs.Course.{Course, Follows, course_of, held_count}
-use Rattle.ready_jobs.proofs.Courses.{course_part, course_takes, takes_course, follows_modest, held_is}
+use Rattle.ready_jobs.specs.Course.{Course, Follows, course_of}
+use Rattle.ready_jobs.specs.Spending.{HasPaid}
+use Rattle.ready_jobs.proofs.Courses.{course_part, course_takes, takes_course, follows_modest}
 use Rattle.ready_jobs.proofs.Silences.{known_sound, known_once}
+use Rattle.ready_jobs.proofs.Spending.{printed_pays}
 use Rattle.ready_jobs.proofs.ready.Ready.take.Goals as goal
 
 pub apply-worth-requires-clause-sound : goal.apply-worth-requires-clause-sound
@@ -60,10 +61,13 @@ returns-clause-after g c J z follows =
     (ap (λ (q : Parted). q.clock) c.apply-worth.ensures.kept) c.apply-worth.ensures.leaves
     J z (subst (λ d. Follows d J z) (sym c.self.view_is) follows)
 
-pub returns-clause-count : goal.returns-clause-count
-returns-clause-count g c d large =
+pub returns-clause-paid : goal.returns-clause-paid
+returns-clause-paid g c start paid =
     let i = c.self.inside in
-    subst (λ e. c.apply-worth.new.steps ≤ c.args.steps.now + cost_of d (held_count e) c.args.event.now) c.self.view_is
-    (subst (λ n. c.apply-worth.new.steps ≤ c.args.steps.now + cost_of d n c.args.event.now)
-    (sym (held_is i.ratio i.parts i.jobs i.done c.clock.ensures.roles))
-    (c.apply-worth.ensures.count d (omega (arith, large, ap (λ (e : Course). length e.ready) c.self.view_is))))
+    printed_pays i.ratio i.parts c.apply-worth.new.self i.jobs i.done c.apply-worth.result c.args.event.now
+    (subst (λ (d : Course). open_step d.rules (state_at d.clock d.ready) ≡ Prints c.args.event.now)
+    (sym c.self.view_is) c.requires)
+    (ap (λ (q : Parted). q.version) c.apply-worth.ensures.kept)
+    (ap (λ (q : Parted). q.clock) c.apply-worth.ensures.kept) c.apply-worth.ensures.leaves
+    c.self.invariant c.args.steps.now c.apply-worth.new.steps c.apply-worth.ensures.cost start
+    (subst (λ d. HasPaid d start c.args.steps.now) (sym c.self.view_is) paid)

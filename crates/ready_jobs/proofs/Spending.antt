@@ -1,0 +1,201 @@
+-- What a course has cost: as much as the run that it is kept of.
+use Rattle.std.proofs.Common.{◌≡◌, ℕ, ◌+◌, ◌-◌, ◌*◌, ◌≤◌, ◌<◌, ◌^◌, inl, inr, List, [], ◌∷◌, ◌++◌, length, sym, ap}
+use Rattle.std.proofs.Common.{refl, ◌∙◌, subst, true, arith}
+use Rattle.std.specs.List.{sum_by}
+use Rattle.std.proofs.lemmas.List.Sums.{length-filter}
+use Rattle.std.proofs.lemmas.Nat.{mul-le}
+use Rattle.dover_model.specs.declared.events.Event.{Event}
+use Rattle.dover_model.specs.declared.events.Task.{Task}
+use Rattle.dover_model.specs.Fraction.{Fraction}
+use Rattle.dover_model.specs.JobFacts.{JobFacts}
+use Rattle.dover_model.specs.Instance.{Instance, IsValid}
+use Rattle.dover_model.specs.Sound.{Keeps}
+use Rattle.dover_model.specs.State.{State, is_waiting, is_over}
+use Rattle.dover_model.specs.Step.{Move, Prints, open_step, after, with_role}
+use Rattle.dover_model.specs.Run.{Step}
+use Rattle.dover_model.proofs.Kept.{open_kept}
+use Rattle.dover_model.proofs.Potential.{one_if, weight, weight_in, standing, stands}
+use Rattle.dover_model.proofs.Roles.{is_over_role}
+use Rattle.dover_model.proofs.WaitingMoves.{exits_scale, waiting_count, open_leaves}
+use Rattle.plain_step.specs.Moves.{state_at}
+use Rattle.queued_jobs.specs.Costs.{cost_of}
+use Rattle.queued_jobs.specs.Spending.{exits, waits_among, HasSpentFor, AreFew}
+use Rattle.queued_jobs.proofs.Spending.{so_far_for, spent_few, spent_on, spent_more, open_falls, open_pays}
+use Rattle.trace_reading.specs.Leading.{Idles}
+use Rattle.ready_jobs.specs.Reordered.{IsReordered}
+use Rattle.ready_jobs.specs.Parts.{Parted, HaveRoles, ready_of, state_of}
+use Rattle.ready_jobs.specs.Changed.{Leaves}
+use Rattle.ready_jobs.specs.Course.{Course, Follows, IsCourse, Reached, course_of, fresh_job, with_release}
+use Rattle.ready_jobs.specs.Spending.{HasPaid}
+use Rattle.ready_jobs.proofs.Costing.{sum_ready, over_not_waiting, fewer_wait, cost_whole}
+use Rattle.ready_jobs.proofs.Courses.{follows_count, follows_fewer, follows_part, follows_step, course_takes}
+use Rattle.ready_jobs.proofs.Seeing.{waiting_list}
+use Rattle.trace_reading.proofs.ReadyParts.{change}
+
+-- ---- in all
+
+-- nothing is paid yet
+pub paid_none : (c : Course) (now : ℕ) → HasPaid c now now
+paid_none c now = λ d enough. omega arith
+
+-- the comparisons for all jobs released so far are few
+pub paid_jobs : (c : Course) (start now : ℕ) → HasPaid c start now → AreFew c.jobs start now
+paid_jobs c start now paid = spent_few c.jobs (state_at c.clock c.ready) start now paid
+
+pub paid_few : (c : Course) (J : Instance) (z : State) → Follows c J z → (start now : ℕ) → HasPaid c start now
+    → AreFew (length J.jobs) start now
+paid_few c J z follows start now paid = subst (λ n. AreFew n start now) (follows_count c J z follows)
+    (paid_jobs c start now paid)
+
+-- ---- jobs that are over
+
+over_weighs : (clock w : ℕ) (t : Task) → is_over t ≡ true → weight exits_scale clock w t ≡ 0
+over_weighs clock w t over = elim (is_over_role t over) [
+  | inl e ↦ ap (λ role. weight_in exits_scale role clock w t) e
+  | inr e ↦ ap (λ role. weight_in exits_scale role clock w t) e
+]
+
+over_stands : (t : Task) → is_over t ≡ true → stands t ≡ 0
+over_stands t over = elim (is_over_role t over) [
+  | inl e ↦ ap (λ role. stands (with_role t role)) e
+  | inr e ↦ ap (λ role. stands (with_role t role)) e
+]
+
+over_waits : (t : Task) → is_over t ≡ true → one_if (is_waiting t) ≡ 0
+over_waits t over = ap one_if (over_not_waiting t over)
+
+-- ---- as much as the run
+
+module _ (c : Course) (J : Instance) (z : State) (follows : Follows c J z) where
+  -- the ready jobs, at their clock
+  abbrev here : State
+  here = state_at c.clock c.ready
+
+  weighs_same : (f : Task → ℕ) → ((t : Task) → is_over t ≡ true → f t ≡ 0) → sum_by f c.ready ≡ sum_by f z.tasks
+  weighs_same f none = follows.ready.weighs f ∙ sum_ready f z.tasks (λ t m. none t)
+
+  same_exits : exits here ≡ exits z
+  same_exits = ap (λ w. sum_by (weight exits_scale c.clock w) c.ready) (weighs_same stands over_stands)
+      ∙ ap (λ n. sum_by (weight exits_scale n (standing z.tasks)) c.ready) (sym follows.clock)
+      ∙ weighs_same (weight exits_scale z.clock (standing z.tasks)) (over_weighs z.clock (standing z.tasks))
+
+  same_waiting : waiting_count here ≡ waiting_count z
+  same_waiting = weighs_same (λ t. one_if (is_waiting t)) over_waits
+
+  -- they come to what all jobs come to
+  pub follows_waits : waits_among c.jobs here ≡ waits_among c.jobs z
+  follows_waits = ap (λ w. (4 * c.jobs + w) - 2 * exits here) same_waiting
+      ∙ ap (λ e. (4 * c.jobs + waiting_count z) - 2 * e) same_exits
+
+  module _ (start now : ℕ) where
+    pub paid_spent : HasPaid c start now → HasSpentFor c.jobs z start now
+    paid_spent paid = λ d enough. subst (λ m. now ≤ start + 20 * d * m) follows_waits (paid d enough)
+
+    pub spent_paid : HasSpentFor c.jobs z start now → HasPaid c start now
+    spent_paid spent = λ d enough. subst (λ m. now ≤ start + 20 * d * m) (sym follows_waits) (spent d enough)
+
+-- ---- silent steps
+
+-- what may still come falls, by each job that ceases to wait
+idles_fall : (J : Instance) → IsValid J → (xs : List Step) (s u : State) → Keeps J s → Idles J.rules s xs u
+    → (exits u ≤ exits s) × (exits u + waiting_count s ≤ exits s + waiting_count u)
+idles_fall J valid [] s u keeps same =
+    subst (λ v. (exits v ≤ exits s) × (exits v + waiting_count s ≤ exits s + waiting_count v)) same
+    (omega arith, omega arith)
+idles_fall J valid (x ∷ xs) s u keeps idles =
+    let y : State = after s (open_step J.rules s) in
+    let rest : (exits u ≤ exits y) × (exits u + waiting_count y ≤ exits y + waiting_count u) =
+    idles_fall J valid xs y u (open_kept J valid s keeps J.rules) idles.3 in (
+      omega (arith, open_leaves J valid J.rules s keeps, rest.0),
+      omega (arith, open_falls J valid J.rules s keeps, rest.1),
+    )
+
+-- 2 * d for each that waits more is paid by that
+more_pays : (d n ev eu wv wu mv mu t before now : ℕ) → eu ≤ ev → eu + wv ≤ ev + wu → t ≡ wu - wv
+    → mv + 2 * ev ≡ 4 * n + wv → mu + 2 * eu ≡ 4 * n + wu
+    → now ≤ before + 2 * d * t → now + 20 * d * mv ≤ before + 20 * d * mu
+more_pays d n ev eu wv wu mv mu t before now less falls more v u cost =
+    let all : 20 * d * (t + mv) ≤ 20 * d * mu =
+    mul-le (20 * d) (t + mv) (20 * d) mu (omega arith) (omega (arith, less, falls, more, v, u)) in
+    omega (arith, all, cost)
+
+-- how many of these wait
+count_waiting : (p : Parted) → HaveRoles p → waiting_count (state_of p) ≡ length p.waiting
+count_waiting p roles = sym (length-filter is_waiting (ready_of p)) ∙ ap length (waiting_list p roles)
+
+module _ (k : Fraction) (p q : Parted) (jobs done mark : ℕ) (m : Move) (roles : HaveRoles p) (roles_then : HaveRoles q)
+    (old : IsCourse (course_of k p jobs done)) (reached : Reached (course_of k q jobs done) old.0 old.1 mark m) where
+  -- jobs that begin to wait by silent steps pay for that
+  pub silent_pays : (before now : ℕ)
+      → ((d : ℕ) → length p.waiting + 1 < 2 ^ d → now ≤ before + 2 * d * (length q.waiting - length p.waiting))
+      → (start : ℕ) → HasPaid (course_of k p jobs done) start before → HasPaid (course_of k q jobs done) start now
+  silent_pays before now cost start paid =
+      let c : Course = course_of k p jobs done in
+      let u : State = reached.state in
+      let falls = idles_fall old.0 old.2.valid reached.idles.0 old.1 u old.2.keeps reached.idles.1 in
+      spent_paid (course_of k q jobs done) old.0 u reached.follows start now
+      (spent_on jobs old.1 u start before now
+      (λ d enough. more_pays d jobs (exits old.1) (exits u) (waiting_count old.1) (waiting_count u)
+      (waits_among jobs old.1) (waits_among jobs u) (length q.waiting - length p.waiting) before now
+      falls.0 falls.1
+      (ap (λ n. n - length p.waiting) (sym (count_waiting q roles_then)
+      ∙ same_waiting (course_of k q jobs done) old.0 u reached.follows)
+      ∙ ap (λ n. waiting_count u - n) (sym (count_waiting p roles) ∙ same_waiting c old.0 old.1 old.2))
+      (so_far_for jobs old.1 old.2.jobs) (so_far_for jobs u reached.follows.jobs)
+      (cost d (let fewer = fewer_wait p in let ready = follows_fewer c old.0 old.1 old.2 in
+      omega (arith, enough, fewer, ready))))
+      (paid_spent c old.0 old.1 old.2 start before paid))
+
+-- ---- printed steps
+
+module _ (k : Fraction) (p q : Parted) (jobs done worth : ℕ) (e : Event)
+    (prints : open_step (record { ratio = k; version = p.version }) (state_of p) ≡ Prints e)
+    (version : q.version ≡ p.version) (clock : q.clock ≡ p.clock)
+    (leaves : Leaves (change (Prints e)) (ready_of p) (ready_of q) worth)
+    (old : IsCourse (course_of k p jobs done)) where
+  -- those that begin and cease to wait by a printed step pay for it
+  pub printed_pays : (before now : ℕ)
+      → ((d : ℕ) → length (ready_of p) + 1 < 2 ^ d → now ≤ before + cost_of d (state_of p) (Prints e))
+      → (start : ℕ) → HasPaid (course_of k p jobs done) start before
+      → HasPaid (course_of k q jobs (done + worth)) start now
+  printed_pays before now cost start paid =
+      let c : Course = course_of k p jobs done in
+      let J : Instance = old.0 in
+      let z : State = old.1 in
+      let is : open_step J.rules z ≡ Prints e = sym (follows_step k p jobs done J z old.2) ∙ prints in
+      spent_paid (course_of k q jobs (done + worth)) J (after z (Prints e))
+      (course_takes k p q jobs done worth e prints version clock leaves J z old.2) start now
+      (subst (λ m. HasSpentFor jobs (after z m) start now) is
+      (spent_on jobs z (after z (open_step J.rules z)) start before now
+      (λ d enough. subst (λ n. now + 20 * d * waits_among n z
+      ≤ before + 20 * d * waits_among n (after z (open_step J.rules z))) old.2.jobs
+      (open_pays J old.2.valid J.rules z old.2.keeps d before now
+      (subst (λ n. now ≤ before + n)
+      (ap (cost_of d (state_of p)) (sym is)
+      ∙ cost_whole p J z (follows_part k p jobs done J z old.2) J.rules d)
+      (cost d (let fewer = follows_fewer c J z old.2 in omega (arith, enough, fewer))))))
+      (paid_spent c J z old.2 start before paid)))
+
+-- ---- a release
+
+-- the order of jobs is nothing to it
+spent_order : (n clock : ℕ) (xs ys : List Task) → IsReordered xs ys → (start now : ℕ)
+    → HasSpentFor n (state_at clock xs) start now → HasSpentFor n (state_at clock ys) start now
+spent_order n clock xs ys same start now spent = λ d enough.
+    subst (λ m. now ≤ start + 20 * d * m) (sym waits) (spent d enough) where
+      stood : standing ys ≡ standing xs
+      stood = same.weighs stands
+
+      waits : waits_among n (state_at clock ys) ≡ waits_among n (state_at clock xs)
+      waits = ap (λ w. (4 * n + w) - 2 * exits (state_at clock ys)) (same.weighs (λ t. one_if (is_waiting t)))
+          ∙ ap (λ e. (4 * n + waiting_count (state_at clock xs)) - 2 * e)
+          (ap (λ w. sum_by (weight exits_scale clock w) ys) stood
+          ∙ same.weighs (weight exits_scale clock (standing xs)))
+
+-- a release costs nothing
+pub release_pays : (c : Course) (j : JobFacts) (ready : List Task) → c.clock ≤ j.release
+    → IsReordered (c.ready ++ fresh_job c j ∷ []) ready → (start now : ℕ) → HasPaid c start now
+    → HasPaid (record (with_release c j c.room) { ready = ready }) start now
+release_pays c j ready later same start now paid =
+    spent_order (c.jobs + 1) j.release (c.ready ++ fresh_job c j ∷ []) ready same start now
+    (spent_more c.jobs (state_at c.clock c.ready) j.release (fresh_job c j) later (inr refl) start now paid)
