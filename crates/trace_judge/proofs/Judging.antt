@@ -207,7 +207,7 @@ named_more text piece =
     )
 
 -- one line more
-pub named_line : (ls : List (List ℕ)) (l : List ℕ)
+named_line : (ls : List (List ℕ)) (l : List ℕ)
     → length (filter is_job_line (ls ++ l ∷ [])) ≡ length (filter is_job_line ls) + job_lines_in l
 named_line ls l = ap length (filter-append is_job_line ls (l ∷ []))
     ∙ length-append (filter is_job_line ls) (filter is_job_line (l ∷ []))
@@ -215,6 +215,12 @@ named_line ls l = ap length (filter-append is_job_line ls (l ∷ []))
       by_test : (b : Bool) → length (cond b (l ∷ []) []) ≡ cond b 1 0
       by_test true = refl
       by_test false = refl
+
+-- a line that has ended may name a job more
+pub named_whole : (line before text : List ℕ) → HasCut Line line before text
+    → jobs_named text ≡ jobs_named before + job_lines_in line
+named_whole line before text parts = ap (λ ls. length (filter is_job_line ls)) parts.0
+    ∙ named_line (whole_lines before) line
 
 -- ---- what was found
 
@@ -262,11 +268,10 @@ is_cut j l s byte text good stands last parts =
       reads = good.reads;
     }
 
--- where a line has ended, it may name a job more
+-- so may the line that is kept, where it has ended
 pub named_ended : (j : Judge) (before text : List ℕ) → IsCut j Line before text
     → jobs_named text ≡ jobs_named before + job_lines_in j.lines.line
-named_ended j before text it = ap (λ ls. length (filter is_job_line ls)) it.parts.0
-    ∙ named_line (whole_lines before) j.lines.line
+named_ended j before text it = named_whole j.lines.line before text it.parts
 
 -- what is kept after the byte, by whether it is a line feed
 abbrev byte_keeps : ℕ → ℕ → List ℕ → Bool → Cutting
@@ -301,7 +306,7 @@ pub err_onto : {P Q : Type 0} (r : Result Unit Memory) → OnErr r P → (P → 
 err_onto (Ok x) p f = p
 err_onto (Err e) p f = f p
 
-pub err_of : {P : Type 0} (r : Result Unit Memory) → IsErr r → P → OnErr r P
+pub err_of : {A P : Type 0} (r : Result A Memory) → IsErr r → P → OnErr r P
 err_of (Ok x) is p = never is
 err_of (Err e) is p = p
 
@@ -332,14 +337,21 @@ fed_on a b c piece more first next = record {
 }
 
 -- too much behind a piece
-pub overfed_on : (a b : Judge) (piece more rest : List ℕ) → Fed a b piece → IsOverfed b more
-    → IsOverfed a ((piece ++ more) ++ rest)
-overfed_on a b piece more rest first over text stands = omega (
+pub overfed_on : (a b : Judge) (piece more : List ℕ) → Fed a b piece → IsOverfed b more → IsOverfed a (piece ++ more)
+overfed_on a b piece more first over text stands = omega (
   arith,
   first.spare text stands,
   over (text ++ piece) (first.stands text stands),
-  named_more ((text ++ piece) ++ more) rest,
-  ap jobs_named (ap (λ l. l ++ rest) (append_assoc text piece more) ∙ append_assoc text (piece ++ more) rest),
+  ap jobs_named (append_assoc text piece more),
+)
+
+-- and with more behind it
+pub overfed_more : (a : Judge) (piece more : List ℕ) → IsOverfed a piece → IsOverfed a (piece ++ more)
+overfed_more a piece more over text stands = omega (
+  arith,
+  over text stands,
+  named_more (text ++ piece) more,
+  ap jobs_named (append_assoc text piece more),
 )
 
 -- ---- what is accepted

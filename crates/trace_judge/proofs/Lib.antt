@@ -5,3 +5,5 @@ pub mod Releases
 pub mod Refusals
 pub mod Unread
 pub mod Judging
+pub mod Spending
+pub mod EndedLines

@@ -1,21 +1,18 @@
 -- How the judge takes the line of a release.
 use Rattle.std.proofs.Common.{◌≡◌, ℕ, ◌+◌, ◌*◌, ◌≤◌, ◌<◌, List, [], ◌∷◌, ◌++◌, length, length-append, refl, sym, ap}
-use Rattle.std.proofs.Common.{◌∙◌, subst, true, false, cond, min, inl, inr, arith}
+use Rattle.std.proofs.Common.{◌∙◌, subst, true, false, cond, min, arith}
 use Rattle.std.specs.Prelude.{Some, None}
-use Rattle.std.specs.List.{filter}
 use Rattle.std.proofs.lemmas.Bool.{false_from_ne_true}
-use Rattle.std.proofs.lemmas.List.{append-nil}
-use Rattle.std.proofs.lemmas.List.Elements.{filter-append, filter_map-append}
+use Rattle.std.proofs.lemmas.List.Elements.{filter_map-append}
 use Rattle.admission.specs.Kept as admission
-use Rattle.dover_model.specs.Limits.{most_items}
+use Rattle.dover_model.specs.Limits.{last_tick, most_items}
 use Rattle.dover_model.specs.JobFacts.{JobFacts}
 use Rattle.dover_model.specs.Admission.{refusal_of}
 use Rattle.dover_model.specs.declared.events.Event.{Event}
 use Rattle.dover_model.specs.declared.events.Event.TheVariants.{Release}
-use Rattle.dover_model.specs.declared.events.Role.TheVariants.{Fresh}
 use Rattle.dover_model.specs.declared.events.Task.{Task}
-use Rattle.dover_model.specs.Sound.{Each}
-use Rattle.dover_model.specs.State.{State, is_coming, is_done, value_sum}
+use Rattle.dover_model.specs.Sound.{Keeps}
+use Rattle.dover_model.specs.State.{State}
 use Rattle.dover_model.specs.Run.{printed_of}
 use Rattle.dover_model.specs.Session.{JobItem, Session, instance_of, admitted_jobs, with_item, job_of_item}
 use Rattle.dover_model.specs.Text.{text_of}
@@ -27,17 +24,17 @@ use Rattle.trace_format.specs.Form.{HasForm}
 use Rattle.trace_format.proofs.Spelled.{text_read, read_IsRead}
 use Rattle.trace_reading.specs.Leading.{WaitsUntil}
 use Rattle.trace_reading.specs.Reading.{Sees, MayRelease, with_fresh, release_text}
-use Rattle.trace_reading.specs.Ready.{is_ready}
 use Rattle.trace_reading.proofs.Continuing.{sees_release, sees_release_prints}
 use Rattle.trace_reading.proofs.Seeing.{sees_keeps, sees_rest}
 use Rattle.trace_reading.proofs.Only.{only_release}
 use Rattle.trace_judge.specs.declared.stage.Stage.TheVariants.{Going}
 use Rattle.ready_jobs.specs.Course.{Course, Follows, IsCourse, with_release, fresh_job}
 use Rattle.ready_jobs.specs.Reordered.{IsReordered}
-use Rattle.ready_jobs.proofs.Reordering.{both_parts, same_order, each_both, as_many}
+use Rattle.ready_jobs.proofs.Reordering.{as_many}
 use Rattle.trace_judge.specs.Reads.{Reading, Goes, Reads, StaysAhead, HasSpare, IsReader, kept_steps, Took, Waited}
 use Rattle.trace_judge.specs.Reads.{CanRelease, at_tick}
 use Rattle.ready_jobs.proofs.Courses.{follows_count, follows_room, follows_order}
+use Rattle.ready_jobs.proofs.Releasing as course
 use Rattle.trace_judge.proofs.Forms.{one_form}
 use Rattle.trace_judge.proofs.Readings.{ahead_of, here_of, reads_of, reads_ahead, with_room}
 use Rattle.trace_judge.proofs.Taking.{kept_more, kept_length}
@@ -138,34 +135,18 @@ module _ (r : Reading) (j : JobFacts) (room : ℕ) (ls : List (List ℕ)) (can :
 
   -- the run with it
   pub release_follows : Follows (with_release r.course j room) (instance_of S_more) (with_fresh y n j)
-  release_follows =
-      let goes : Goes r ls S can.from can.state = can.waited.goes in
-      let fresh : ℕ → Task = λ m. record { number = m; job = j; role = Fresh; had = 0 } in
-      let admitted : Admitted S.rules.ratio (admitted_jobs S.items) j =
-      not_refused S.rules.ratio (admitted_jobs S.items) j can.may.admitted in
-      let window : j.release + j.work ≤ j.deadline = admitted.job.window in
-      let due : j.deadline ≤ 1_000_000_000_000 = admitted.job.due in
-      record {
-        valid = sees.valid.jobs;
-        keeps = sees_keeps (ls ++ release_text S j ∷ []) S_more j.release (with_fresh y n j) sees;
-        rules = goes.follows.rules;
-        clock = refl;
-        ready = subst (λ m. IsReordered (filter is_ready (can.state.tasks ++ fresh n ∷ []))
-            (r.course.ready ++ fresh m ∷ []))
-            (sym next_number)
-            (subst (λ ts. IsReordered ts (r.course.ready ++ fresh n ∷ []))
-            (sym (filter-append is_ready can.state.tasks (fresh n ∷ [])))
-            (both_parts (filter is_ready can.state.tasks) r.course.ready (fresh n ∷ []) (fresh n ∷ [])
-            goes.follows.ready (same_order (fresh n ∷ []))));
-        jobs = omega (arith, length-append can.state.tasks (fresh n ∷ []), goes.follows.jobs);
-        done = ap value_sum (filter-append is_done can.state.tasks (fresh n ∷ [])
-            ∙ append-nil (filter is_done can.state.tasks)) ∙ goes.follows.done;
-        known = omega arith;
-        released = each_both (λ t. is_coming t ≡ false) can.state.tasks (fresh n ∷ []) goes.follows.released one_fresh;
-      } where
-        one_fresh : Each (λ t. is_coming t ≡ false) (record { number = n; job = j; role = Fresh; had = 0 } ∷ [])
-        one_fresh t (inl e) = subst (λ u. is_coming u ≡ false) (sym e) refl
-        one_fresh t (inr m) = absurd m
+  release_follows = subst (λ m. Follows (with_release r.course j room) (instance_of S_more) (with_fresh y m j))
+      next_number
+      (course.release_follows r.course (instance_of S) can.state can.waited.goes.follows (instance_of S_more) j room
+      refl sees.valid.jobs
+      (subst (λ m. Keeps (instance_of S_more) (with_fresh y m j)) (sym next_number)
+      (sees_keeps (ls ++ release_text S j ∷ []) S_more j.release (with_fresh y n j) sees)) known) where
+        known : j.release ≤ last_tick
+        known = let admitted : Admitted S.rules.ratio (admitted_jobs S.items) j =
+            not_refused S.rules.ratio (admitted_jobs S.items) j can.may.admitted in
+            let window : j.release + j.work ≤ j.deadline = admitted.job.window in
+            let due : j.deadline ≤ 1_000_000_000_000 = admitted.job.due in
+            omega arith
 
   -- the course with it
   pub release_course : IsCourse (with_release r.course j room)

@@ -1,6 +1,8 @@
 -- What the judge keeps of a text, and what it says of it.
 use Rattle.std.specs.Prelude.{◌≡◌, ◌≤◌, ◌<◌, ◌+◌, ℕ, List, [], ◌++◌, length, Bool, true, false}
+use Rattle.std.specs.Prelude.{Option, Some, None, Result, Ok, Err}
 use Rattle.std.specs.List.{filter}
+use Rattle.dover_model.specs.declared.Memory.{Memory}
 use Rattle.dover_model.specs.declared.events.Event.{Event}
 use Rattle.std.specs.List.{sum_by}
 use Rattle.dover_model.specs.Bound.{IsWithin, bound}
@@ -17,7 +19,10 @@ use Rattle.line_text.specs.declared.cutting.Step.{Step}
 use Rattle.trace_judge.specs.declared.verdict.Verdict.{Verdict}
 use Rattle.trace_judge.specs.declared.verdict.Verdict.TheVariants.{Accepted, Wrong, Short}
 use Rattle.trace_judge.specs.declared.judge.Judge.{Judge}
+use Rattle.trace_judge.specs.declared.judge.Found.{Found}
 use Rattle.trace_judge.specs.declared.judge.Found.TheVariants.{Good, Wrong as Bad, NoMemory}
+use Rattle.trace_judge.specs.declared.verdict.Expected.{Expected}
+use Rattle.ready_jobs.specs.Spending.{HasPaid}
 use Rattle.trace_judge.specs.Reads.{Reads, is_job_line, expected_of, kept_steps}
 
 -- how many whole lines of the text name a job
@@ -49,6 +54,22 @@ pub record Fed (old new : Judge) (piece : List ℕ) : Type 0 where
 -- the piece names more jobs than there was room for
 abbrev pub IsOverfed : Judge → List ℕ → Type 0
 IsOverfed j piece = (text : List ℕ) → StandsFor j text → j.reader.spare + jobs_named text < jobs_named (text ++ piece)
+
+-- up to here what the run cost is paid for, and its jobs are named by lines of the text
+pub record HasPaidFor (j : Judge) (text : List ℕ) (start now : ℕ) : Type 0 where
+  pub paid : HasPaid j.reader.course start now
+  pub few : j.reader.course.jobs ≤ jobs_named text
+
+-- what the piece costs is paid for
+abbrev pub PaysFor : (old new : Judge) → List ℕ → (before after : ℕ) → Type 0
+PaysFor old new piece before after = (text : List ℕ) (start : ℕ) → StandsFor old text
+    → HasPaidFor old text start before → HasPaidFor new (text ++ piece) start after
+
+-- what is found where this was told of a line of that number
+abbrev pub found_with : ℕ → Result (Option Expected) Memory → Found
+found_with line (Ok None) = Good
+found_with line (Ok (Some due)) = Bad line due
+found_with line (Err e) = NoMemory
 
 -- no line before the last byte was wrong, and this is kept of the bytes before it and cut with it
 pub record IsCut (j : Judge) (step : Step) (before text : List ℕ) : Type 0 where

@@ -149,10 +149,11 @@ is_job_line line = is_job_item (model.item_of line)
 abbrev pub job_lines_in : List ℕ → ℕ
 job_lines_in line = if is_job_line line then 1 else 0
 
--- the same steps are asked for, and there is as much spare room
+-- the same steps are asked for, there is as much spare room, and no further job was released
 pub record IsUnchangedFor (old new : Reading) : Type 0 where
   pub keep : new.keep ≡ old.keep
   pub spare : new.spare ≡ old.spare
+  pub jobs : new.course.jobs ≡ old.course.jobs
 
 -- one for the release of a job
 abbrev pub releases_in : Event → ℕ

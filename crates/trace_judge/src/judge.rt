@@ -1,11 +1,14 @@
 //! The judge of a text.
 ghost use Rattle.std.specs.Prelude.{◌≡◌, ◌≤◌, ◌<◌, ◌+◌, ◌∷◌, [], ℕ, List, false, true, Bool, IfOk, OnOk, OnErr, IsOk};
-ghost use Rattle.std.specs.Prelude.{◌≢◌, ◌↔◌, IsTrue, length};
+ghost use Rattle.std.specs.Prelude.{◌≢◌, ◌↔◌, IsTrue, length, take, IsErr};
 ghost use Rattle.dover_model.specs.Verdict as model;
 ghost use Rattle.line_text.specs.declared.cutting.Step.TheVariants.{More, Line, TooLong};
+ghost use Rattle.line_text.specs.Cutting.{IsWholeLine};
 ghost use Rattle.trace_judge.specs.declared.judge.Found.TheVariants.{Good, NoMemory};
 ghost use Rattle.trace_judge.specs.Reads.{job_lines_in};
 ghost use Rattle.trace_judge.specs.Judging.{StandsFor, Fed, IsOverfed, IsCut, Tells, steps_told, is_wrong};
+ghost use Rattle.trace_judge.specs.Judging.{found_with, HasPaidFor, PaysFor};
+ghost use Rattle.ready_jobs.specs.Spending.{HasPaid};
 
 use crate::reader::Reader;
 use crate::stage::Stage;
@@ -52,6 +55,7 @@ impl Judge {
     pub fn new(alloc: Global, keep: bool) -> Result<Judge, Memory>
         ensures stands { IfOk result (λ judge. StandsFor judge []) }
         ensures keep { IfOk result (λ judge. judge.reader.keep ≡ keep) }
+        ensures paid { IfOk result (λ judge. (now : ℕ) → HasPaidFor judge [] now now) }
     {
         Ok(Judge {
             lines: Lines::new(),
@@ -74,6 +78,8 @@ impl Judge {
         ensures err { OnErr result (self.new.reader.spare ≡ self.old.reader.spare) }
         ensures enough { (text : List ℕ) → StandsFor self.old text → more ≤ self.old.reader.spare → IsOk result }
         ensures failed { OnOk result (self.old.found ≢ NoMemory) }
+        ensures paid { (text : List ℕ) (start now : ℕ) → HasPaidFor self.old text start now
+            → HasPaidFor self.new text start now }
     {
         if self.has_failed() {
             return Err(Memory);
@@ -116,6 +122,9 @@ impl Judge {
         ensures stands { (before text : List ℕ) → IsCut self.old TooLong before text → StandsFor self.new text }
         ensures spare { self.new.reader.spare ≡ self.old.reader.spare }
         ensures keep { self.new.reader.keep ≡ self.old.reader.keep }
+        ensures jobs { self.new.reader.course.jobs ≡ self.old.reader.course.jobs }
+        ensures paid { (start : ℕ) → HasPaid self.old.reader.course start steps.old →
+            HasPaid self.new.reader.course start steps.new }
     {
         let expected = self.reader.due(steps);
         self.found = Found::Wrong {
@@ -124,18 +133,15 @@ impl Judge {
         };
     }
 
-    // The line has ended.
-    fn take_line<L: Ledger>(&mut self, steps: &mut Steps<L>) -> Result<(), Memory>
+    // A line has ended and was counted, and this was told of it.
+    #[inline(always)]
+    fn note(&mut self, taken: Result<Option<Expected>, Memory>) -> Result<(), Memory>
         requires good { self.old.found ≡ Good }
-        requires line { self.old.lines.last ≢ More }
-        ensures stands { OnOk result
-            ((before text : List ℕ) → IsCut self.old Line before text → StandsFor self.new text) }
-        ensures spare { self.old.reader.spare ≤ self.new.reader.spare + job_lines_in self.old.lines.line }
-        ensures keep { self.new.reader.keep ≡ self.old.reader.keep }
-        ensures room { OnErr result (self.old.reader.spare < job_lines_in self.old.lines.line) }
-        ensures failed { OnErr result (self.new.found ≡ NoMemory) }
+        ensures is { self.new ≡ record self.old { found = found_with self.old.lines.count taken } }
+        ensures ok { OnOk result (IsOk taken) }
+        ensures err { OnErr result (IsErr taken) }
     {
-        match self.reader.take(self.lines.line(), steps) {
+        match taken {
             Ok(None) => Ok(()),
             Ok(Some(expected)) => {
                 self.found = Found::Wrong {
@@ -151,12 +157,48 @@ impl Judge {
         }
     }
 
+    // The line that is kept has ended.
+    fn take_line<L: Ledger>(&mut self, steps: &mut Steps<L>) -> Result<(), Memory>
+        requires good { self.old.found ≡ Good }
+        requires line { self.old.lines.last ≢ More }
+        ensures stands { OnOk result
+            ((before text : List ℕ) → IsCut self.old Line before text → StandsFor self.new text) }
+        ensures spare { self.old.reader.spare ≤ self.new.reader.spare + job_lines_in self.old.lines.line }
+        ensures keep { self.new.reader.keep ≡ self.old.reader.keep }
+        ensures room { OnErr result (self.old.reader.spare < job_lines_in self.old.lines.line) }
+        ensures failed { OnErr result (self.new.found ≡ NoMemory) }
+        ensures jobs { self.new.reader.course.jobs
+            ≤ self.old.reader.course.jobs + job_lines_in self.old.lines.line }
+        ensures paid { (start : ℕ) → HasPaid self.old.reader.course start steps.old →
+            HasPaid self.new.reader.course start steps.new }
+    {
+        let taken = self.reader.take(self.lines.line(), steps);
+        self.note(taken)
+    }
+
+    // The next bytes are a whole line, where no line has begun and none is wrong so far. It is read where it stands.
+    #[inline(always)]
+    fn take_whole<L: Ledger>(&mut self, bytes: &[u8], steps: &mut Steps<L>) -> Result<(), Memory>
+        requires good { self.old.found ≡ Good }
+        requires whole { IsWholeLine self.old.lines bytes.now }
+        ensures fed { OnOk result (Fed self.old self.new bytes.now) }
+        ensures room { OnErr result (IsOverfed self.old bytes.now) }
+        ensures failed { OnErr result (self.new.found ≡ NoMemory) }
+        ensures paid { PaysFor self.old self.new bytes.now steps.old steps.new }
+    {
+        let line = self.lines.pass(bytes);
+        let taken = self.reader.take(line, steps);
+        self.note(taken)
+    }
+
     // The next byte, where no line is wrong so far.
+    #[inline(never)]
     fn take_byte<L: Ledger>(&mut self, byte: u8, steps: &mut Steps<L>) -> Result<(), Memory>
         requires good { self.old.found ≡ Good }
         ensures fed { OnOk result (Fed self.old self.new (byte ∷ [])) }
         ensures room { OnErr result (IsOverfed self.old (byte ∷ [])) }
         ensures failed { OnErr result (self.new.found ≡ NoMemory) }
+        ensures paid { PaysFor self.old self.new (byte ∷ []) steps.old steps.new }
     {
         match self.lines.push(byte) {
             Step::Line => return self.take_line(steps),
@@ -166,15 +208,43 @@ impl Judge {
         Ok(())
     }
 
-    // The next byte. Behind a wrong line it is disregarded.
-    fn take<L: Ledger>(&mut self, byte: u8, steps: &mut Steps<L>) -> Result<(), Memory>
-        ensures fed { OnOk result (Fed self.old self.new (byte ∷ [])) }
-        ensures room { OnErr result (IsOverfed self.old (byte ∷ [])) }
+    // The first of the bytes, where no line is wrong so far: a whole line, or one byte. Answers how many.
+    #[inline(always)]
+    fn take_front<L: Ledger>(&mut self, bytes: &[u8], steps: &mut Steps<L>) -> Result<usize, Memory>
+        requires some { 0 < length bytes.now }
+        requires good { self.old.found ≡ Good }
+        ensures fed { IfOk result (λ count. Fed self.old self.new (take count bytes.now)) }
+        ensures some { IfOk result (λ count. 1 ≤ count) }
+        ensures within { IfOk result (λ count. count ≤ length bytes.now) }
+        ensures room { OnErr result (IsOverfed self.old bytes.now) }
         ensures failed { OnErr result (self.new.found ≡ NoMemory) }
+        ensures paid { IfOk result (λ count. PaysFor self.old self.new (take count bytes.now) steps.old steps.new) }
+        ensures spent { OnErr result (PaysFor self.old self.new bytes.now steps.old steps.new) }
+    {
+        let count = self.lines.front(bytes);
+        if count > 1 {
+            self.take_whole(&bytes[..count], steps)?;
+            return Ok(count);
+        }
+        self.take_byte(bytes[0], steps)?;
+        Ok(1)
+    }
+
+    // The first of the bytes. Behind a wrong line all are disregarded. Answers how many.
+    #[inline(always)]
+    fn take<L: Ledger>(&mut self, bytes: &[u8], steps: &mut Steps<L>) -> Result<usize, Memory>
+        requires some { 0 < length bytes.now }
+        ensures fed { IfOk result (λ count. Fed self.old self.new (take count bytes.now)) }
+        ensures some { IfOk result (λ count. 1 ≤ count) }
+        ensures within { IfOk result (λ count. count ≤ length bytes.now) }
+        ensures room { OnErr result (IsOverfed self.old bytes.now) }
+        ensures failed { OnErr result (self.new.found ≡ NoMemory) }
+        ensures paid { IfOk result (λ count. PaysFor self.old self.new (take count bytes.now) steps.old steps.new) }
+        ensures spent { OnErr result (PaysFor self.old self.new bytes.now steps.old steps.new) }
     {
         match self.found {
-            Found::Good => self.take_byte(byte, steps),
-            Found::Wrong { .. } => Ok(()),
+            Found::Good => self.take_front(bytes, steps),
+            Found::Wrong { .. } => Ok(bytes.len()),
             Found::NoMemory => Err(Memory),
         }
     }
@@ -197,6 +267,7 @@ impl Judge {
         ensures room { OnErr result (IsOverfed self.old piece.now) }
         ensures failed { OnErr result (self.new.found ≡ NoMemory) }
         ensures stays { OnOk result (self.old.found ≢ NoMemory) }
+        ensures paid { PaysFor self.old self.new piece.now steps.old steps.new }
         ensures decided { (text : List ℕ) → StandsFor self.old text → is_wrong (model.verdict text) ≡ true
             → IsOk result }
     {
@@ -205,8 +276,10 @@ impl Judge {
             Found::Wrong { .. } => return Ok(()),
             Found::Good => {}
         }
-        for byte in piece {
-            self.take(*byte, steps)?;
+        let mut rest = piece;
+        while !rest.is_empty() {
+            let count = self.take(rest, steps)?;
+            rest = &rest[count..];
         }
         Ok(())
     }

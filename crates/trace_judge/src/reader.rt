@@ -27,6 +27,9 @@ use trace_format::{TraceLine, read_trace_line};
 /// The greatest number of items of a session.
 const MOST_ITEMS: u32 = 3_999_998;
 
+/// For how many jobs room is asked for at once.
+const JOBS_AT_ONCE: u32 = 64;
+
 /// The lines of a trace so far, and the run that they are read against.
 #[derive(Drop)]
 pub struct Reader {
@@ -89,6 +92,7 @@ impl Reader {
     ghost use Rattle.trace_judge.specs.declared.verdict.Verdict.TheVariants.{Accepted};
     ghost use Rattle.trace_reading.specs.Leading.{WaitsUntil};
     ghost use Rattle.ready_jobs.specs.Course.{GoesOnFrom};
+    ghost use Rattle.ready_jobs.specs.Spending.{HasPaid};
     ghost use Rattle.trace_judge.specs.Reads.{Reads, ReadsAhead, StaysAhead, Goes, Ends, Waited, CanRelease, Took};
     ghost use Rattle.trace_judge.specs.Reads.{TookLine, IsUnchangedFor, expected_of, releases_in, jobs_in};
     ghost use Rattle.trace_judge.specs.Reads.{job_lines_in};
@@ -98,6 +102,8 @@ impl Reader {
         ensures stage { IfOk result (λ reader. reader.stage ≡ Opening) }
         ensures reads { IfOk result (λ reader. Reads reader []) }
         ensures keep { IfOk result (λ reader. reader.keep ≡ keep) }
+        ensures jobs { IfOk result (λ reader. reader.course.jobs ≡ 0) }
+        ensures paid { IfOk result (λ reader. (now : ℕ) → HasPaid reader.course now now) }
     {
         let one = Ratio::new(1, 1).unwrap();
         let mut steps = Vec::new(alloc);
@@ -127,6 +133,7 @@ impl Reader {
         ensures grows { self.old.spare ≤ self.new.spare }
         ensures err { OnErr result (self.new.spare ≡ self.old.spare) }
         ensures enough { more ≤ self.old.spare → IsOk result }
+        ensures paid { (start now : ℕ) → HasPaid self.old.course start now → HasPaid self.new.course start now }
     {
         if more <= self.spare {
             return Ok(());
@@ -159,6 +166,9 @@ impl Reader {
         ensures due { (ls : List (List ℕ)) → ReadsAhead self.old ls → expected_after ls ≡ expected_of result }
         ensures ahead { StaysAhead self.old self.new }
         ensures kept { self.new ≡ record self.old { course = self.new.course } }
+        ensures jobs { self.new.course.jobs ≡ self.old.course.jobs }
+        ensures paid { (start : ℕ) → HasPaid self.old.course start steps.old →
+            HasPaid self.new.course start steps.new }
     {
         match self.stage {
             Stage::Opening => Expected::Header,
@@ -197,6 +207,7 @@ impl Reader {
         requires form { HasForm (Header version p q) }
         ensures took { Took self.old self.new (trace_text (Header version p q)) result }
         ensures kept { IsUnchangedFor self.old self.new }
+        ensures paid { (start now : ℕ) → HasPaid self.old.course start now → HasPaid self.new.course start now }
     {
         let Some(version) = version_of(version) else {
             return false;
@@ -217,6 +228,8 @@ impl Reader {
         requires none { item_in (Step event.now) ≡ None }
         ensures took { Took self.old self.new (trace_text (Step event.now)) result }
         ensures kept { IsUnchangedFor self.old self.new }
+        ensures paid { (start : ℕ) → HasPaid self.old.course start steps.old →
+            HasPaid self.new.course start steps.new }
     {
         let due = self.course.upcoming(steps);
         if !is_same(&due, event) {
@@ -246,6 +259,8 @@ impl Reader {
         ensures ahead { StaysAhead self.old self.new }
         ensures kept { self.new ≡ record self.old { course = self.new.course } }
         ensures course { GoesOnFrom self.old.course self.new.course }
+        ensures paid { (start : ℕ) → HasPaid self.old.course start steps.old →
+            HasPaid self.new.course start steps.new }
     {
         if self.floor > tick {
             return false;
@@ -278,6 +293,27 @@ impl Reader {
         checked.is_ok()
     }
 
+    // Room for a job more. Where there is none left, it is asked for more of them at once, if memory has it.
+    fn make_room(&mut self) -> Result<(), Memory>
+        ensures same { self.new ≡ record self.old {
+          course = record self.old.course { room = self.new.course.room };
+          spare = self.new.spare;
+          room = self.new.room;
+        } }
+        ensures ok { OnOk result (1 ≤ self.new.spare) }
+        ensures grows { self.old.spare ≤ self.new.spare }
+        ensures enough { 1 ≤ self.old.spare → IsOk result }
+        ensures paid { (start now : ℕ) → HasPaid self.old.course start now → HasPaid self.new.course start now }
+    {
+        if self.spare > 0 {
+            return Ok(());
+        }
+        match self.reserve(JOBS_AT_ONCE) {
+            Ok(()) => Ok(()),
+            Err(_) => self.reserve(1),
+        }
+    }
+
     // Takes the release of the job.
     fn admit(&mut self, job: Job)
         requires going { self.old.stage ≡ Going }
@@ -288,6 +324,8 @@ impl Reader {
             → Reads self.new (ls ++ text_of (Release self.old.course.jobs job) ∷ []) }
         ensures keep { self.new.keep ≡ self.old.keep }
         ensures spare { self.new.spare + 1 ≡ self.old.spare }
+        ensures jobs { self.new.course.jobs ≤ self.old.course.jobs + 1 }
+        ensures paid { (start now : ℕ) → HasPaid self.old.course start now → HasPaid self.new.course start now }
     {
         let number = self.course.jobs();
         self.course.release(job);
@@ -311,6 +349,9 @@ impl Reader {
         ensures room { 0 < self.old.spare → IsOk result }
         ensures spare { self.old.spare ≤ self.new.spare + 1 }
         ensures keep { self.new.keep ≡ self.old.keep }
+        ensures jobs { self.new.course.jobs ≤ self.old.course.jobs + 1 }
+        ensures paid { (start : ℕ) → HasPaid self.old.course start steps.old →
+            HasPaid self.new.course start steps.new }
     {
         let _ = &self.stage;
         if !self.may_admit(number, &job) {
@@ -319,7 +360,7 @@ impl Reader {
         if !self.waits_until(job.release(), steps) {
             return Ok(false);
         }
-        self.reserve(1)?;
+        self.make_room()?;
         self.admit(job);
         Ok(true)
     }
@@ -376,6 +417,8 @@ impl Reader {
         requires form { HasForm (Refused at release work deadline value cause) }
         ensures took { Took self.old self.new (trace_text (Refused at release work deadline value cause)) result }
         ensures kept { IsUnchangedFor self.old self.new }
+        ensures paid { (start : ℕ) → HasPaid self.old.course start steps.old →
+            HasPaid self.new.course start steps.new }
     {
         let _ = &self.stage;
         if !self.may_refuse(at, release, work, deadline, value, cause) {
@@ -395,6 +438,7 @@ impl Reader {
         requires form { HasForm read.now }
         ensures took { Took self.old self.new (trace_text read.now) result }
         ensures kept { IsUnchangedFor self.old self.new }
+        ensures paid { (start now : ℕ) → HasPaid self.old.course start now → HasPaid self.new.course start now }
     {
         match read {
             TraceLine::Header { version, p, q } => self.open_with(*version, *p, *q),
@@ -411,6 +455,9 @@ impl Reader {
         ensures room { releases_in event.now ≤ self.old.spare → IsOk result }
         ensures spare { self.old.spare ≤ self.new.spare + releases_in event.now }
         ensures keep { self.new.keep ≡ self.old.keep }
+        ensures jobs { self.new.course.jobs ≤ self.old.course.jobs + releases_in event.now }
+        ensures paid { (start : ℕ) → HasPaid self.old.course start steps.old →
+            HasPaid self.new.course start steps.new }
     {
         match event {
             Event::Release { number, job } => self.take_release(*number, *job, steps),
@@ -435,6 +482,9 @@ impl Reader {
         ensures room { jobs_in read.now ≤ self.old.spare → IsOk result }
         ensures spare { self.old.spare ≤ self.new.spare + jobs_in read.now }
         ensures keep { self.new.keep ≡ self.old.keep }
+        ensures jobs { self.new.course.jobs ≤ self.old.course.jobs + jobs_in read.now }
+        ensures paid { (start : ℕ) → HasPaid self.old.course start steps.old →
+            HasPaid self.new.course start steps.new }
     {
         match read {
             TraceLine::Header { .. } => Ok(false),
@@ -461,6 +511,9 @@ impl Reader {
         ensures room { jobs_in read.now ≤ self.old.spare → IsOk result }
         ensures spare { self.old.spare ≤ self.new.spare + jobs_in read.now }
         ensures keep { self.new.keep ≡ self.old.keep }
+        ensures jobs { self.new.course.jobs ≤ self.old.course.jobs + jobs_in read.now }
+        ensures paid { (start : ℕ) → HasPaid self.old.course start steps.old →
+            HasPaid self.new.course start steps.new }
     {
         match self.stage {
             Stage::Opening => Ok(self.take_first(read)),
@@ -480,6 +533,9 @@ impl Reader {
         ensures room { job_lines_in line.now ≤ self.old.spare → IsOk result }
         ensures spare { self.old.spare ≤ self.new.spare + job_lines_in line.now }
         ensures keep { self.new.keep ≡ self.old.keep }
+        ensures jobs { self.new.course.jobs ≤ self.old.course.jobs + job_lines_in line.now }
+        ensures paid { (start : ℕ) → HasPaid self.old.course start steps.old →
+            HasPaid self.new.course start steps.new }
     {
         let Ok(read) = read_trace_line(line) else {
             return Ok(Some(self.due(steps)));

@@ -1,35 +1,44 @@
-use Rattle.std.proofs.Common.{◌+◌, ◌++◌, ◌∷◌, [], ℕ, List, take, drop, get_or, sym, ap, ◌∙◌, subst, arith}
-use Rattle.std.proofs.Common.{take-append-drop}
-use Rattle.std.proofs.lemmas.List.{take_more}
-use Rattle.trace_judge.specs.Judging.{Fed, IsOverfed}
+use Rattle.std.proofs.Common.{sym, ◌∙◌}
+use Rattle.std.proofs.lemmas.List.{take_rest}
 use Rattle.dover_model.proofs.Tests.{never}
-use Rattle.trace_judge.proofs.Judging.{err_of, fed_on, overfed_on, wrong_fed, good_not_wrong, stands_good}
+use Rattle.trace_judge.proofs.Judging.{err_of, wrong_fed, good_not_wrong, stands_good}
+use Rattle.trace_judge.proofs.Spending.{pays_none}
+use Rattle.trace_judge.proofs.EndedLines.{fed_some, overfed_rest, pays_rest}
 use Rattle.trace_judge.proofs.judge.Judge.feed.Goals as goal
-
-pub returns-in_err-take-clause-room : goal.returns-in_err-take-clause-room
-returns-in_err-take-clause-room g c =
-    let piece : List ℕ = c.args.piece.now in
-    let i : ℕ = c.loop-byte.byte-index in
-    err_of c.from_residual.result c.from_residual.ensures.0
-    (subst (IsOverfed c.args.self.now)
-    (ap (λ l. l ++ drop (i + 1) piece) (sym (take_more piece i 0 (omega arith))) ∙ take-append-drop (i + 1) piece)
-    (overfed_on c.args.self.now c.loop-byte.self (take i piece) (get_or piece i 0 ∷ [])
-    (drop (i + 1) piece) c.loop-byte.invariant
-    c.in_err-take.ensures.room))
-
-pub loop-byte-preserved : goal.loop-byte-preserved
-loop-byte-preserved g c =
-    let piece : List ℕ = c.args.piece.now in
-    let i : ℕ = c.loop-byte.byte-index in
-    subst (Fed c.args.self.now c.take.new.self) (sym (take_more piece i 0 (omega arith)))
-    (fed_on c.args.self.now c.loop-byte.self c.take.new.self (take i piece)
-    (get_or piece i 0 ∷ []) c.loop-byte.invariant
-    c.in_ok-take.ensures.fed)
 
 pub returns-in-Wrong-clause-fed : goal.returns-in-Wrong-clause-fed
 returns-in-Wrong-clause-fed g c =
     wrong_fed c.args.self.now c.in-Wrong.line c.in-Wrong.expected c.args.piece.now c.in-Wrong.is
 
-pub returns-in_err-take-clause-decided : goal.returns-in_err-take-clause-decided
-returns-in_err-take-clause-decided g c text stands wrong =
+pub returns-in_err-count-clause-room : goal.returns-in_err-count-clause-room
+returns-in_err-count-clause-room g c = err_of c.from_residual.result c.from_residual.ensures.0
+    (overfed_rest c.args.self.now c.loop-rest.self c.args.piece.now c.loop-rest.rest.now c.args.steps.now
+    c.loop-rest.steps c.loop-rest.invariant
+    c.in_err-count.ensures.room)
+
+pub returns-in_err-count-clause-decided : goal.returns-in_err-count-clause-decided
+returns-in_err-count-clause-decided g c text stands wrong =
     never (sym (good_not_wrong c.args.self.now text (stands_good c.args.self.now text c.in-Good.is stands)) ∙ wrong)
+
+pub loop-rest-preserved : goal.loop-rest-preserved
+loop-rest-preserved g c = rw take_rest
+    (fed_some c.args.self.now c.loop-rest.self c.args.piece.now c.loop-rest.rest.now c.args.steps.now c.loop-rest.steps
+    c.loop-rest.invariant c.take.new.self
+    c.in_ok-count.count c.take.new.steps c.in_ok-count.ensures.fed c.in_ok-count.ensures.paid)
+
+pub returns-in_err-count-clause-paid : goal.returns-in_err-count-clause-paid
+returns-in_err-count-clause-paid g c =
+    pays_rest c.args.self.now c.loop-rest.self c.args.piece.now c.loop-rest.rest.now c.args.steps.now c.loop-rest.steps
+    c.loop-rest.invariant c.take.new.self c.take.new.steps c.in_err-count.ensures.spent
+
+pub returns-clause-paid : goal.returns-clause-paid
+returns-clause-paid g c =
+    pays_rest c.args.self.now c.loop-rest.self c.args.piece.now c.loop-rest.rest.now c.args.steps.now c.loop-rest.steps
+    c.loop-rest.invariant c.loop-rest.self c.loop-rest.steps
+    (pays_none c.loop-rest.self c.loop-rest.rest.now c.loop-rest.steps)
+
+pub returns-in-Wrong-clause-paid : goal.returns-in-Wrong-clause-paid
+returns-in-Wrong-clause-paid g c = pays_none c.args.self.now c.args.piece.now c.args.steps.now
+
+pub returns-in-NoMemory-clause-paid : goal.returns-in-NoMemory-clause-paid
+returns-in-NoMemory-clause-paid g c = pays_none c.args.self.now c.args.piece.now c.args.steps.now

@@ -1,7 +1,18 @@
-use Rattle.std.proofs.Common.{[], ◌∷◌}
+use Rattle.std.proofs.Common.{sym, subst, take, length}
+use Rattle.std.proofs.Math.Seq.{take-length}
+use Rattle.trace_judge.specs.Judging.{Fed}
 use Rattle.trace_judge.proofs.Judging.{wrong_fed}
+use Rattle.trace_judge.proofs.Spending.{pays_none}
 use Rattle.trace_judge.proofs.judge.Judge.take.Goals as goal
 
 pub returns-in-Wrong-clause-fed : goal.returns-in-Wrong-clause-fed
 returns-in-Wrong-clause-fed g c =
-    wrong_fed c.args.self.now c.in-Wrong.line c.in-Wrong.expected (c.args.byte ∷ []) c.in-Wrong.is
+    subst (Fed c.args.self.now c.args.self.now) (sym (take-length c.args.bytes.now))
+    (wrong_fed c.args.self.now c.in-Wrong.line c.in-Wrong.expected c.args.bytes.now c.in-Wrong.is)
+
+pub returns-in-Wrong-clause-paid : goal.returns-in-Wrong-clause-paid
+returns-in-Wrong-clause-paid g c =
+    pays_none c.args.self.now (take (length c.args.bytes.now) c.args.bytes.now) c.args.steps.now
+
+pub returns-in-NoMemory-clause-spent : goal.returns-in-NoMemory-clause-spent
+returns-in-NoMemory-clause-spent g c = pays_none c.args.self.now c.args.bytes.now c.args.steps.now

@@ -1,6 +1,7 @@
 use Rattle.std.proofs.Common.{◌<◌, ◌++◌, ◌∷◌, [], ℕ, List, length, sym, ap, ◌∙◌, subst, arith}
 use Rattle.line_text.specs.declared.cutting.Step.TheVariants.{More, Line, TooLong}
 use Rattle.line_text.specs.Cutting.{Cutting}
+use Rattle.ready_jobs.specs.Spending.{HasPaid}
 use Rattle.trace_judge.specs.Reads.{Reading, job_lines_in}
 use Rattle.trace_judge.specs.Judging.{StandsFor, IsCut}
 use Rattle.trace_judge.proofs.Judging.{stands_good, ok_onto, err_onto, some_line, is_cut, named_ended, named_more}
@@ -61,4 +62,31 @@ returns-in-TooLong-clause-fed g c = record {
       c.push.ensures.stands (sym c.in-TooLong.is ∙ c.push.ensures.last) c.in-TooLong.ensures.cut);
   spare = λ text stands. omega (arith, c.overrun.ensures.spare, named_more text (c.args.byte ∷ []));
   keep = c.overrun.ensures.keep;
+}
+
+pub returns-in-Line-clause-paid : goal.returns-in-Line-clause-paid
+returns-in-Line-clause-paid g c = λ text start stands it. record {
+  paid = c.take_line.ensures.paid start it.paid;
+  few = omega (
+    arith,
+    c.take_line.ensures.jobs,
+    it.few,
+    named_ended (record c.args.self.now { lines = c.push.new.self }) text (text ++ c.args.byte ∷ [])
+        (is_cut c.args.self.now c.push.new.self Line c.args.byte text
+        (stands_good c.args.self.now text c.requires.good stands)
+        c.push.ensures.stands (sym c.in-Line.is ∙ c.push.ensures.last) c.in-Line.ensures.cut),
+  );
+}
+
+pub returns-in-More-clause-paid : goal.returns-in-More-clause-paid
+returns-in-More-clause-paid g c = λ text start stands it. record {
+  paid = subst (λ (r : Reading). HasPaid r.course start c.args.steps.now) (sym c.go_on.ensures.reader) it.paid;
+  few = omega
+      (arith, ap (λ (r : Reading). r.course.jobs) c.go_on.ensures.reader, it.few, named_more text (c.args.byte ∷ []));
+}
+
+pub returns-in-TooLong-clause-paid : goal.returns-in-TooLong-clause-paid
+returns-in-TooLong-clause-paid g c = λ text start stands it. record {
+  paid = c.overrun.ensures.paid start it.paid;
+  few = omega (arith, c.overrun.ensures.jobs, it.few, named_more text (c.args.byte ∷ []));
 }

@@ -1,4 +1,5 @@
 use Rattle.std.proofs.Common.{refl, sym, ap, subst, arith}
+use Rattle.ready_jobs.specs.Spending.{HasPaid}
 use Rattle.trace_judge.specs.Reads.{Reading, CanRelease}
 use Rattle.ready_jobs.proofs.Courses.{more_ready}
 use Rattle.trace_judge.proofs.Releases.{release_course, release_room, taken_reads, taken_reader}
@@ -48,3 +49,7 @@ returns-clause-reads c = taken_reads _ _ c.self.view_is c.self.invariant c.requi
     c.admit.new.self _ c.keep_step.new.steps.items _ _ c.release.ensures.kept c.release.ensures.ready
     c.jobs-number.ensures.is
     c.release-self-inside.ensures.is c.admit.ensures.stands c.admit.ensures.ratio refl c.keep_step.ensures.items
+
+pub returns-clause-paid : goal.returns-clause-paid
+returns-clause-paid c start now paid = c.release.ensures.paid start now
+    (subst (λ (r : Reading). HasPaid r.course start now) (sym c.self.view_is) paid)

@@ -1,5 +1,6 @@
 use Rattle.std.proofs.Common.{sym, subst}
-use Rattle.trace_judge.specs.Reads.{ReadsAhead}
+use Rattle.ready_jobs.specs.Spending.{HasPaid}
+use Rattle.trace_judge.specs.Reads.{Reading, ReadsAhead}
 use Rattle.trace_judge.proofs.Readings.{ends_of, ended_due, named_ahead, named_due, next_reader, kept_on}
 use Rattle.trace_judge.proofs.reader.Reader.due.Goals as goal
 
@@ -20,3 +21,7 @@ pub returns-in-Ended-clause-due : goal.returns-in-Ended-clause-due
 returns-in-Ended-clause-due g c ls reads =
     let it = ends_of _ ls c.in-Ended.is (subst (λ v. ReadsAhead v ls) (sym c.self.view_is) reads) in
     ended_due _ ls it.0 it.1
+
+pub returns-in-Going-clause-paid : goal.returns-in-Going-clause-paid
+returns-in-Going-clause-paid g c start paid = c.upcoming.ensures.paid start
+    (subst (λ (r : Reading). HasPaid r.course start c.args.steps.now) (sym c.self.view_is) paid)

@@ -1,4 +1,5 @@
-use Rattle.std.proofs.Common.{◌≡◌, ◌∙◌, sym, ap, arith, max, true, false}
+use Rattle.std.proofs.Common.{◌≡◌, ◌∙◌, sym, ap, subst, arith, max, true, false}
+use Rattle.ready_jobs.specs.Spending.{HasPaid}
 use Rattle.trace_judge.specs.Reads.{Reading}
 use Rattle.trace_judge.proofs.Readings.{next_reader, kept_on, taken_on}
 use Rattle.trace_judge.proofs.Taking.{step_room, not_due, ended_took, ended_reader, stepped_took, stepped_reader}
@@ -70,3 +71,15 @@ returns-clause-took g c = stepped_took _ _ c.self.view_is c.requires.going c.upc
     (sym c.is_end.ensures ∙ c.if-is_end.false) c.take.new.self c.take.ensures.after
     c.clock.result c.max-self-inside.result c.clock.ensures.is
     (c.max-self-inside.ensures ∙ ap (max c.self.inside.floor) c.floor_after-floor.ensures)
+
+pub returns-then-not-is_same-clause-paid : goal.returns-then-not-is_same-clause-paid
+returns-then-not-is_same-clause-paid g c start paid = c.upcoming-due.ensures.paid start
+    (subst (λ (r : Reading). HasPaid r.course start c.args.steps.now) (sym c.self.view_is) paid)
+
+pub returns-then-is_end-clause-paid : goal.returns-then-is_end-clause-paid
+returns-then-is_end-clause-paid g c start paid = c.upcoming-due.ensures.paid start
+    (subst (λ (r : Reading). HasPaid r.course start c.args.steps.now) (sym c.self.view_is) paid)
+
+pub returns-clause-paid : goal.returns-clause-paid
+returns-clause-paid g c start paid = c.take.ensures.paid start (c.upcoming-due.ensures.paid start
+    (subst (λ (r : Reading). HasPaid r.course start c.args.steps.now) (sym c.self.view_is) paid))

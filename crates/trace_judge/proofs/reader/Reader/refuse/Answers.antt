@@ -1,3 +1,6 @@
+use Rattle.std.proofs.Common.{sym, subst}
+use Rattle.ready_jobs.specs.Spending.{HasPaid}
+use Rattle.trace_judge.specs.Reads.{Reading}
 use Rattle.trace_judge.proofs.Refusals.{not_refusable, not_waited, refused_took, refused_reader}
 use Rattle.trace_judge.proofs.reader.Reader.refuse.Goals as goal
 
@@ -26,3 +29,8 @@ returns-clause-took g c = refused_took c.args.at c.args.release c.args.work c.ar
     _ c.waits_until.new.self c.self-2.view_is c.waits_until.ensures.kept c.waits_until.ensures.course.rules
     (c.may_refuse.ensures.yes c.if-not-may_refuse.false) (c.may_refuse.ensures.refuses c.if-not-may_refuse.false)
     (c.waits_until.ensures.yes c.if-not-waits_until.false)
+
+pub returns-clause-paid : goal.returns-clause-paid
+returns-clause-paid g c start paid =
+    subst (λ (r : Reading). HasPaid r.course start c.waits_until.new.steps) (sym c.self-2.view_is)
+    (c.waits_until.ensures.paid start paid)

@@ -40,3 +40,6 @@ returns-clause-spare g c = omega (
   jobs_counted c.in-Ok.read c.args.line.now c.in-Ok.ensures.item,
   ap (λ (r : Reading). r.spare) c.due-2.ensures.kept,
 )
+
+pub returns-clause-paid : goal.returns-clause-paid
+returns-clause-paid g c start paid = c.due-2.ensures.paid start (c.take_read.ensures.paid start paid)

@@ -25,9 +25,9 @@ returns-then-not-waits_until-clause-took g c =
 
 -- the job may be released, with room
 can : (g : Over) (c : After-admit-arg-1 g) (ls : List (List ℕ)) (S : Session) (z y : State)
-    → Goes c.args.self.now ls S z y → CanRelease c.reserve.new.self c.args.job ls
-can g c = reserved_can c.args.self.now c.waits_until.new.self c.reserve.new.self c.args.job c.waits_until.ensures.kept
-    c.reserve.ensures.same
+    → Goes c.args.self.now ls S z y → CanRelease c.make_room.new.self c.args.job ls
+can g c = reserved_can c.args.self.now c.waits_until.new.self c.make_room.new.self c.args.job c.waits_until.ensures.kept
+    c.make_room.ensures.same
     (subst (λ tick. (ls : List (List ℕ)) (S : Session) (z y : State) → Goes c.args.self.now ls S z y → (x : State)
     × Waited c.waits_until.new.self tick ls S z x)
     c.release.ensures.is (c.waits_until.ensures.yes c.if-not-waits_until.false))
@@ -41,8 +41,16 @@ admit-requires-clause-can g c =
     (c.self.invariant.lines, can g c c.self.invariant.lines it.0 it.1 it.2 it.3)
 
 pub returns-clause-took : goal.returns-clause-took
-returns-clause-took g c = reserved_took c.args.self.now c.reserve.new.self c.admit.new.self c.args.number c.args.job
+returns-clause-took g c = reserved_took c.args.self.now c.make_room.new.self c.admit.new.self c.args.number c.args.job
     c.requires.going
     ((c.may_admit.ensures.yes c.if-not-may_admit.false).0 ∙ sym c.waits_until.ensures.course.jobs
-    ∙ sym (ap (λ (r : Reading). r.course.jobs) c.reserve.ensures.same))
+    ∙ sym (ap (λ (r : Reading). r.course.jobs) c.make_room.ensures.same))
     (can g (goal.at.returns-clause-took g c).After-admit-arg-1) c.admit.ensures.reads
+
+pub returns-in_err-make_room-clause-paid : goal.returns-in_err-make_room-clause-paid
+returns-in_err-make_room-clause-paid g c start paid =
+    c.make_room.ensures.paid start c.waits_until.new.steps (c.waits_until.ensures.paid start paid)
+
+pub returns-clause-paid : goal.returns-clause-paid
+returns-clause-paid g c start paid = c.admit.ensures.paid start c.waits_until.new.steps
+    (c.make_room.ensures.paid start c.waits_until.new.steps (c.waits_until.ensures.paid start paid))

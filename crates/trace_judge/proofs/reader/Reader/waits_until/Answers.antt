@@ -1,4 +1,5 @@
-use Rattle.std.proofs.Common.{◌∙◌, ap, arith}
+use Rattle.std.proofs.Common.{◌∙◌, sym, ap, subst, arith}
+use Rattle.ready_jobs.specs.Spending.{HasPaid}
 use Rattle.trace_judge.specs.Reads.{Reading}
 use Rattle.trace_judge.proofs.Readings.{kept_on}
 use Rattle.trace_judge.proofs.Taking.{settled_ahead, settled_yes, settled_no, settled_reader, is_nothing, is_something}
@@ -27,3 +28,7 @@ returns-clause-ahead g c =
     settled_ahead _ _ c.self.view_is c.settle.new.self c.args.tick c.settle.result c.settle.ensures.settled
     c.settle.ensures.low
     (ap (λ (r : Reading). r.stage) c.self.view_is ∙ c.requires.going)
+
+pub returns-clause-paid : goal.returns-clause-paid
+returns-clause-paid g c start paid = c.settle.ensures.paid start
+    (subst (λ (r : Reading). HasPaid r.course start c.args.steps.now) (sym c.self.view_is) paid)
