@@ -1,6 +1,6 @@
 -- What is left to give, part by part.
 use Rattle.std.proofs.Common.{◌≡◌, ◌<◌, ◌+◌, ◌^◌, ◌-◌, ℕ, List, [], ◌∷◌, ◌++◌, length, refl, sym, ap, ◌∙◌, subst}
-use Rattle.std.proofs.Common.{Option, Some, None, Ok, Err}
+use Rattle.std.proofs.Common.{Option, Ok, Err, true, false}
 use Rattle.std.proofs.Common.{arith, append_assoc, length-append}
 use Rattle.std.proofs.lemmas.List.{append-nil}
 use Rattle.std.proofs.lemmas.List.Concat.{flat_map-append}
@@ -38,7 +38,7 @@ joined_on parts part more = flat_map-append (λ l. l) parts (part ∷ more)
 module _ (standing now : Standing) (ready : Ready) (a b : Option (List Move)) (p q x : List ℕ) (rest : List (List ℕ))
     (count : ℕ)
     (given : HasGiven standing a b p q x rest count) where
-  module _ (part : List ℕ) (gives : GivesBy now ready x given.left (Some part)) where
+  module _ (part : List ℕ) (gives : GivesBy now ready x given.left part true) where
     -- a part more
     pub given_more : (c : Option (List Move)) (r : List ℕ) → Passes b c q r part
         → HasGiven now a c p r x rest (count + 1)
@@ -64,9 +64,9 @@ module _ (standing now : Standing) (ready : Ready) (a b : Option (List Move)) (p
     }
 
   -- nothing is left
-  pub given_all : GivesBy now ready x given.left None
+  pub given_all : (part : List ℕ) → GivesBy now ready x given.left part false
       → PutsThrough {T = Unit {0}} {E = Failed} a b (Ok tt) p q (joined rest)
-  given_all gives = record {
+  given_all part gives = record {
     all = subst (λ parts. Passes a b p q (joined parts))
         (sym (given.whole ∙ ap (λ l. given.given ++ l) gives.0 ∙ append-nil given.given)) given.puts;
     part = tt;

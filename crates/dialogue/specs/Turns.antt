@@ -1,6 +1,6 @@
 -- What the calls of a talker come to, and those of the reading loop.
-use Rattle.std.specs.Prelude.{◌≡◌, ◌<◌, ◌≤◌, ℕ, List, [], ◌∷◌, ◌++◌, length, take, Bool, true, false, Option, Some}
-use Rattle.std.specs.Prelude.{None, Result, Ok, Err}
+use Rattle.std.specs.Prelude.{◌≡◌, ◌<◌, ◌≤◌, ℕ, List, [], ◌∷◌, ◌++◌, length, take, Bool, true, false, Option}
+use Rattle.std.specs.Prelude.{Result, Ok, Err}
 use Rattle.std.specs.List.{flat_map}
 use Rattle.dover_model.specs.WholeRun.{Begins}
 use Rattle.dover_port.specs.Causes.{Rose, StaysWell, FailsLast}
@@ -46,9 +46,9 @@ TakesBy t standing costs x piece (Ok n) = Takes t standing x piece n
 TakesBy t standing costs x piece (Err e) = t.lacks (x ++ piece) false × costs (x ++ piece)
 
 -- the first of the parts was given, or there is none
-abbrev pub GivesBy : Standing → Ready → List ℕ → List (List ℕ) → Option (List ℕ) → Type 0
-GivesBy stands ready x rest (Some part) = (more : List (List ℕ)) × (rest ≡ part ∷ more) × stands x more
-GivesBy stands ready x rest None = (rest ≡ []) × ready x
+abbrev pub GivesBy : Standing → Ready → List ℕ → List (List ℕ) → (part : List ℕ) → (given : Bool) → Type 0
+GivesBy stands ready x rest part true = (more : List (List ℕ)) × (rest ≡ part ∷ more) × stands x more
+GivesBy stands ready x rest part false = (rest ≡ []) × ready x
 
 -- what is put of the answer, behind what is due, but for what is kept back after
 abbrev pub AnswersBy : Talk → List ℕ → Bool → (old new : Option (List Move)) → (after : List ℕ)

@@ -60,11 +60,12 @@ pub trait Talker: Drop {
         ensures takes { (a : about) (x : List ℕ) → ready a self.old meter.old x → (talk a).goes_on x ≡ true →
             TakesBy (talk a) (stands a self.new meter.new) (costs a meter.new) x piece.now result };
 
-    /// The next part of what is due. None where all was given.
-    fn next_part(&mut self, meter: &mut Self::Meter) -> Option<BackLine>
+    /// Whether there is a next part of what is due, which `part` then holds, whatever it held before. If there is none,
+    /// all was given, and `part` may hold anything.
+    fn next_part(&mut self, meter: &mut Self::Meter, part: &mut BackLine) -> bool
         requires { (a : about) × (x : List ℕ) × (rest : List (List ℕ)) × stands a self.old meter.old x rest }
         ensures gives { (a : about) (x : List ℕ) (rest : List (List ℕ)) → stands a self.old meter.old x rest →
-            GivesBy (stands a self.new meter.new) (ready a self.new meter.new) x rest result };
+            GivesBy (stands a self.new meter.new) (ready a self.new meter.new) x rest part.new result };
 
     /// Whether more is to be read.
     fn goes_on(&self, meter: &Self::Meter) -> bool

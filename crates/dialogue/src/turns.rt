@@ -8,6 +8,7 @@ ghost use Rattle.dialogue.specs.Turns.{ReadStops, read_before};
 
 use crate::{Stop, Talker};
 use dover_port::{Failed, Output, Port, Status};
+use line_text::BackLine;
 
 /// How many bytes a read asks for.
 const READ_BYTES: usize = 65_536;
@@ -25,12 +26,13 @@ pub(crate) enum Reading {
     NoMemory,
 }
 
-/// Puts all that is left to give.
+/// Puts all that is left to give, each part through `part`.
 fn give<P: Port, T: Talker>(
     port: &mut P,
     out: &mut Output,
     talker: &mut T,
     meter: &mut T::Meter,
+    part: &mut BackLine,
 ) -> Result<(), Failed>
     requires { (a : T.about) × (x : List ℕ) × (rest : List (List ℕ)) × T.stands a talker.old meter.old x rest }
     ensures text { (a : T.about) (x : List ℕ) (rest : List (List ℕ)) → T.stands a talker.old meter.old x rest →
@@ -45,12 +47,12 @@ fn give<P: Port, T: Talker>(
 {
     T::laws();
     for _ in 0..u64::MAX {
-        match talker.next_part(meter) {
-            Some(part) => match out.put(port, part.bytes()) {
-                Ok(()) => {}
-                Err(failed) => return Err(failed),
-            },
-            None => return Ok(()),
+        if !talker.next_part(meter, part) {
+            return Ok(());
+        }
+        match out.put(port, part.bytes()) {
+            Ok(()) => {}
+            Err(failed) => return Err(failed),
         }
     }
     unreachable!()
@@ -73,13 +75,14 @@ fn hear<P: Port, T: Talker>(
     ensures stops { StopsOn result (P.calls port.old) (P.calls port.new) }
 {
     T::laws();
+    let mut part = BackLine::new();
     let mut rest = piece;
     while !rest.is_empty() {
         let Ok(count) = talker.take(meter, rest) else {
             return Err(Stop::NoMemory);
         };
         rest = &rest[count..];
-        match give(port, out, talker, meter) {
+        match give(port, out, talker, meter, &mut part) {
             Ok(()) => {}
             Err(_) => return Err(Stop::Unwritten),
         }

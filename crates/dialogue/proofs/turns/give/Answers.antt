@@ -20,7 +20,7 @@ loop-preserved g c = record {
   given = λ a x rest it.
       let given = c.loop.invariant.given a x rest it in
       given_more _ _ (g.T.Talker.ready a c.next_part.new.self c.next_part.new.meter) _ _ _ _ x rest _ given
-      c.in-Some.part (c.in-Some.ensures.gives a x given.left given.stands) _ _
+      c.next_part.new.part (rw c.if-not-next_part.false at (c.next_part.ensures.gives a x given.left given.stands)) _ _
       (rw c.bytes.ensures.is at c.in-Ok.ensures.text.all);
   writes = c.in-Ok.ensures.cause.ok ∙ c.loop.invariant.writes;
   reads = c.in-Ok.ensures.cause.other ∙ c.loop.invariant.reads;
@@ -31,21 +31,23 @@ pub returns-in-Err-clause-text : goal.returns-in-Err-clause-text
 returns-in-Err-clause-text g c = λ a x rest it.
     let given = c.loop.invariant.given a x rest it in
     given_cut _ (g.T.Talker.stands a c.next_part.new.self c.next_part.new.meter)
-    (g.T.Talker.ready a c.next_part.new.self c.next_part.new.meter) _ _ _ _ x rest _ given c.in-Some.part
-    (c.in-Some.ensures.gives a x given.left given.stands) _ _ c.in-Err.failed
+    (g.T.Talker.ready a c.next_part.new.self c.next_part.new.meter) _ _ _ _ x rest _ given c.next_part.new.part
+    (rw c.if-not-next_part.false at (c.next_part.ensures.gives a x given.left given.stands)) _ _ c.in-Err.failed
     (rw c.bytes.ensures.is at c.in-Err.ensures.text.part)
 
 pub returns-in-Err-clause-left : goal.returns-in-Err-clause-left
 returns-in-Err-clause-left g c = λ a x rest it.
     let given = c.loop.invariant.given a x rest it in
-    let gives = c.in-Some.ensures.gives a x given.left given.stands in (gives.0, gives.2)
+    let gives = rw c.if-not-next_part.false at (c.next_part.ensures.gives a x given.left given.stands) in
+    (gives.0, gives.2)
 
-pub returns-in-None-clause-text : goal.returns-in-None-clause-text
-returns-in-None-clause-text g c = λ a x rest it.
+pub returns-then-not-next_part-clause-text : goal.returns-then-not-next_part-clause-text
+returns-then-not-next_part-clause-text g c = λ a x rest it.
     let given = c.loop.invariant.given a x rest it in
     given_all _ (g.T.Talker.stands a c.next_part.new.self c.next_part.new.meter)
     (g.T.Talker.ready a c.next_part.new.self c.next_part.new.meter)
-    _ _ _ _ x rest _ given (c.in-None.ensures.gives a x given.left given.stands)
+    _ _ _ _ x rest _ given c.next_part.new.part
+    (rw c.if-not-next_part.true at (c.next_part.ensures.gives a x given.left given.stands))
 
 pub unreachable-requires : goal.unreachable-requires
 unreachable-requires g c =

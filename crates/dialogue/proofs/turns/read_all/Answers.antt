@@ -1,4 +1,4 @@
-use Rattle.std.proofs.Common.{◌<◌, ◌∙◌, ◌++◌, [], false, length, arith}
+use Rattle.std.proofs.Common.{◌∙◌, [], false}
 use Rattle.dialogue.specs.Turns.{ReadsBy, read_before}
 use Rattle.dialogue.proofs.Records.{no_piece, some_piece}
 use Rattle.dialogue.proofs.Records.{starts, first_turn, no_memory, unwritten, unflushed, goes_on, over, then_more}
