@@ -1,29 +1,17 @@
 -- Comparisons that are few.
-use Rattle.std.proofs.Common.{◌≡◌, ◌≤◌, ◌<◌, ◌+◌, ◌*◌, ◌^◌, ℕ, List, length, sym, ap, ◌∙◌, subst}
+use Rattle.std.proofs.Common.{◌≡◌, ℕ, List, length, sym, ap, ◌∙◌, subst}
 use Rattle.std.proofs.Common.{arith, length-append, Some, None}
-use Rattle.std.proofs.lemmas.Nat.{mul-le}
 use Rattle.dover_model.specs.Feed.{account}
 use Rattle.dover_model.specs.Instance.{Instance, with_jobs}
 use Rattle.dover_model.specs.JobFacts.{JobFacts}
 use Rattle.dover_model.specs.Session.{Session, instance_of, admitted_jobs}
 use Rattle.dover_core.specs.Service.{Service, list_of}
-use Rattle.dover_core.specs.Spending.{HasSpent, AreFew}
+use Rattle.queued_jobs.specs.Spending.{HasSpent, AreFew}
+use Rattle.queued_jobs.proofs.Spending.{few_more}
 use Rattle.dover_core.proofs.Spending.{spent_all}
 use Rattle.event_feed.specs.Answers.{admitted_in}
 use Rattle.feed_reading.specs.Record.{IsEnded}
 use Rattle.feed_reading.specs.declared.listed.Listed.{Listed}
-
--- none are few
-pub none_few : (n count : ℕ) → AreFew n count count
-none_few n count = λ d enough. omega arith
-
--- those that are few for some jobs are few for more
-pub few_more : (n m before after : ℕ) → n ≤ m → AreFew n before after → AreFew m before after
-few_more n m before after most few = λ d enough.
-    let less : n + 1 < 2 ^ d = omega (arith, enough, most) in
-    let product : 80 * (n + 1) * d ≤ 80 * (m + 1) * d =
-    mul-le (80 * (n + 1)) d (80 * (m + 1)) d (omega (arith, most)) (omega arith) in
-    omega (arith, few d less, product)
 
 -- those of a server that has some of the jobs are few for all
 pub some_few : (J : Instance) (v w : Service) (rest : List JobFacts) → with_jobs (list_of v) rest ≡ J

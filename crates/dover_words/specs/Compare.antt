@@ -13,7 +13,7 @@ use Rattle.dover_port.specs.declared.status.Status.TheVariants.{Done, Refused}
 use Rattle.policy_lab.specs.Picks.{Picks}
 use Rattle.policy_lab.specs.PolicyRun.{policy_run, AreTooLarge}
 use Rattle.policy_lab.specs.Standard.{earliest_deadline, greatest_density}
-use Rattle.dover_core.specs.Spending.{AreFew}
+use Rattle.queued_jobs.specs.Spending.{AreFew}
 use Rattle.dover_words.specs.Texts.{size_text}
 use Rattle.dover_words.specs.declared.compare.Compared.{Compared}
 

@@ -1,6 +1,6 @@
 -- What a word says that answers on the jobs of a feed, by the bytes got so far, and what it keeps of them.
 use Rattle.std.specs.Prelude.{◌≡◌, ◌⊎◌, ℕ, List, [], false}
-use Rattle.dover_core.specs.Spending.{AreFew}
+use Rattle.queued_jobs.specs.Spending.{AreFew}
 use Rattle.dover_model.specs.Feed.{account, is_open}
 use Rattle.dover_port.specs.declared.status.Status.TheVariants.{Refused}
 use Rattle.dialogue.specs.Talk.{Talk}

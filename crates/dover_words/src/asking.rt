@@ -1,7 +1,7 @@
 //! What the reading loop calls: a reader of the feed, which is asked a question on its jobs at the end.
 ghost use Rattle.std.specs.Prelude.{◌≡◌, [], length};
 ghost use Rattle.dialogue.specs.Turns.{StopCause, StopsOn};
-ghost use Rattle.dover_core.specs.Spending.{AreFew};
+ghost use Rattle.queued_jobs.specs.Spending.{AreFew};
 ghost use Rattle.dover_model.specs.Instance.{IsValid};
 ghost use Rattle.feed_reading.specs.Listing.{listed_instance};
 ghost use Rattle.dover_words.specs.Asking.{SaysBy};
@@ -76,8 +76,8 @@ impl<L: Ledger> Talker for Asking<L> {
         }
     }
 
-    fn next_part(&mut self, _meter: &mut Steps<L>) -> Option<BackLine> {
-        None
+    fn next_part(&mut self, _meter: &mut Steps<L>, _part: &mut BackLine) -> bool {
+        false
     }
 
     fn goes_on(&self, _meter: &Steps<L>) -> bool {

@@ -6,7 +6,7 @@ ghost use Rattle.dover_port.specs.Causes.{HasCause, StopsAtFailure};
 ghost use Rattle.dover_port.specs.Moves.{PutsThrough};
 ghost use Rattle.dialogue.specs.Turns.{StopCause, StopsOn};
 ghost use Rattle.feed_reading.specs.Listing.{listed_instance};
-ghost use Rattle.dover_core.specs.Spending.{AreFew};
+ghost use Rattle.queued_jobs.specs.Spending.{AreFew};
 ghost use Rattle.dover_words.specs.Best.{SaysBest, found_lines, IsFinding};
 ghost use Rattle.dover_words.specs.Asking.{SaysBy};
 ghost use Rattle.dover_words.specs.Texts.{piece_lines};
@@ -26,7 +26,7 @@ use std::sync::ledger::Ledger;
 use step_count::Steps;
 
 /// What is said of a feed: its jobs, what the best set is worth, the value that its run completes, and the bound.
-#[derive(Clone, Copy, Debug, PartialEq, Eq)]
+#[derive(Clone, Copy)]
 struct Found {
     jobs: u64,
     optimum: u64,

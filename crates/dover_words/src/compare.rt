@@ -7,7 +7,7 @@ ghost use Rattle.dover_port.specs.Moves.{PutsThrough};
 ghost use Rattle.dialogue.specs.Turns.{StopCause, StopsOn};
 ghost use Rattle.feed_reading.specs.Listing.{listed_instance};
 ghost use Rattle.policy_lab.specs.PolicyRun.{AreTooLarge};
-ghost use Rattle.dover_core.specs.Spending.{AreFew};
+ghost use Rattle.queued_jobs.specs.Spending.{AreFew};
 ghost use Rattle.dover_words.specs.Asking.{SaysBy};
 ghost use Rattle.dover_words.specs.Compare.{SaysCompare, compared_of, compared_lines};
 
@@ -24,7 +24,7 @@ use std::sync::ledger::Ledger;
 use step_count::Steps;
 
 /// What is said of a feed: the value that its run completes, the worth of the two policies' schedules, and the bound.
-#[derive(Clone, Copy, Debug, PartialEq, Eq)]
+#[derive(Clone, Copy)]
 struct Compared {
     dover: u64,
     edf: u64,

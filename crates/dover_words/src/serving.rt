@@ -5,7 +5,7 @@ ghost use Rattle.dover_model.specs.Run.{completed_value, value_of_end};
 ghost use Rattle.dover_core.specs.declared.horizon.Horizon.TheVariants.{Mark, End};
 ghost use Rattle.dover_core.specs.Service.{MayFollow, list_of};
 ghost use Rattle.feed_reading.specs.Listing.{instance_with};
-ghost use Rattle.dover_core.specs.Spending.{HasSpent, AreFew};
+ghost use Rattle.queued_jobs.specs.Spending.{HasSpent, AreFew};
 ghost use Rattle.dover_words.specs.Serving.{HasTaken};
 
 use dover_core::{Horizon, Server};

@@ -7,7 +7,8 @@ use Rattle.dover_model.specs.Verdict.{verdict}
 use Rattle.dover_port.specs.Moves.{Move, ins, outs, has_ended, EachRead, IsProperPrefix}
 use Rattle.dover_port.specs.declared.status.Status.{Status}
 use Rattle.dover_port.specs.declared.status.Status.TheVariants.{Done, No, ReadFault, WriteFault, Memory}
-use Rattle.trace_judge.specs.Judging.{IsEarned, is_wrong}
+use Rattle.queued_jobs.specs.Spending.{AreFew}
+use Rattle.trace_judge.specs.Judging.{IsEarned, is_wrong, jobs_named}
 use Rattle.trace_judge.specs.declared.verdict.Verdict.{Verdict}
 use Rattle.trace_judge.specs.declared.verdict.Verdict.TheVariants.{Accepted, Wrong, Short}
 use Rattle.judge_word.specs.Line.{verdict_text}
@@ -71,6 +72,10 @@ Ends _ moves = ⊥
 pub record Judges (status : Status) (moves : List Move) : Type 0 where
   pub reads : EachRead MayRead moves
   pub ends : Ends status moves
+
+-- how few comparisons were made for the jobs that the lines name, with so many before and after
+abbrev pub IsFrugal : (before after : ℕ) → List Move → Type 0
+IsFrugal before after moves = AreFew (jobs_named (ins moves)) before after
 
 -- ---- the answer
 

@@ -1,7 +1,6 @@
 //! What the reading loop calls: a judge, which takes the text whole and answers at its end.
 ghost use Rattle.std.specs.Prelude.{◌≡◌, ℕ, List};
-ghost use Rattle.trace_judge.specs.Judging.{StandsFor};
-ghost use Rattle.judge_word.specs.Talking.{judge_talk, IsAt};
+ghost use Rattle.judge_word.specs.Talking.{judge_talk, IsReady, IsAt, Costs};
 
 use crate::lines::{put_verdict, status_of};
 use dialogue::{Stop, Talker};
@@ -23,15 +22,15 @@ pub(crate) struct Judging<L: Ledger> {
 impl<L: Ledger> Talker for Judging<L> {
     type Meter = Steps<L>;
 
-    ghost about = { Unit {0} };
+    ghost about = { ℕ };
 
-    ghost talk = { λ about. judge_talk };
+    ghost talk = { λ start. judge_talk };
 
-    ghost stands = { λ about j meter. IsAt j.judge };
+    ghost stands = { λ start j meter. IsAt j.judge start meter };
 
-    ghost ready = { λ about j meter. StandsFor j.judge };
+    ghost ready = { λ start j meter. IsReady j.judge start meter };
 
-    ghost costs = { λ about meter bytes. Unit {0} };
+    ghost costs = { Costs };
 
     fn laws() {}
 
@@ -42,8 +41,8 @@ impl<L: Ledger> Talker for Judging<L> {
         }
     }
 
-    fn next_part(&mut self, _meter: &mut Steps<L>) -> Option<BackLine> {
-        None
+    fn next_part(&mut self, _meter: &mut Steps<L>, _part: &mut BackLine) -> bool {
+        false
     }
 
     fn goes_on(&self, _meter: &Steps<L>) -> bool {

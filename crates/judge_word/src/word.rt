@@ -2,7 +2,7 @@
 ghost use Rattle.std.specs.Prelude.{◌≡◌};
 ghost use Rattle.dover_port.specs.Causes.{Causes, StopsWith};
 ghost use Rattle.dover_port.specs.Moves.{Since};
-ghost use Rattle.judge_word.specs.Record.{Judges, IsAnswer};
+ghost use Rattle.judge_word.specs.Record.{Judges, IsAnswer, IsFrugal};
 
 use crate::judging::Judging;
 use dialogue::converse;
@@ -17,6 +17,7 @@ use trace_judge::Judge;
 /// taken at the start and for each job that the text names.
 pub fn judge_word<P: Port, L: Ledger>(alloc: Global, port: &mut P, steps: &mut Steps<L>) -> Status
     ensures judges { Since (P.moves port.old) (P.moves port.new) (Judges result) }
+    ensures count { Since (P.moves port.old) (P.moves port.new) (IsFrugal steps.old steps.new) }
     ensures answer { IsAnswer result }
     ensures causes { Causes result
         (P.read_faults port.old) (P.read_faults port.new) (P.write_faults port.old) (P.write_faults port.new) }

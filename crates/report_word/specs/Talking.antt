@@ -7,7 +7,7 @@ use Rattle.dialogue.specs.declared.talker.Stop.{Stop}
 use Rattle.dialogue.specs.declared.talker.Stop.TheVariants.{NoMemory, Unwritten}
 use Rattle.judge_word.specs.Record.{IsTrace, IsNoTrace}
 use Rattle.judge_word.specs.Talking.{judging_talk}
-use Rattle.trace_judge.specs.Judging.{StandsFor, Tells, steps_told}
+use Rattle.trace_judge.specs.Judging.{StandsFor, HasPaidFor, Tells, steps_told}
 use Rattle.trace_judge.specs.declared.judge.Closed.{Closed}
 use Rattle.trace_judge.specs.declared.judge.Judge.{Judge}
 use Rattle.trace_judge.specs.declared.verdict.Verdict.{Verdict}
@@ -19,15 +19,21 @@ use Rattle.report_word.specs.declared.form.Form.{Form}
 abbrev pub report_talk : Form → Talk
 report_talk form = judging_talk (told form) (λ bytes ended. ended ≡ true → IsTrace bytes)
 
--- the judge stands for the bytes and keeps the steps, for a report of this form
-pub record Stands (asked given : Form) (kept : Judge) (bytes : List ℕ) : Type 0 where
+-- what a call is about: the form of the report, and the comparisons from which those of the call count
+pub record Call : Type 0 where
+  pub form : Form
+  pub start : ℕ
+
+-- the judge stands for the bytes, which pay for what it cost, and keeps the steps, for a report of this form
+pub record Stands (call : Call) (given : Form) (kept : Judge) (steps : ℕ) (bytes : List ℕ) : Type 0 where
   pub judge : StandsFor kept bytes
+  pub paid : HasPaidFor kept bytes call.start steps
   pub keep : kept.reader.keep ≡ true
-  pub form : given ≡ asked
+  pub form : given ≡ call.form
 
 -- and nothing is left to give
-abbrev pub IsAt : (asked given : Form) → Judge → List ℕ → List (List ℕ) → Type 0
-IsAt asked given kept bytes rest = Stands asked given kept bytes × (rest ≡ [])
+abbrev pub IsAt : Call → (given : Form) → Judge → (steps : ℕ) → List ℕ → List (List ℕ) → Type 0
+IsAt call given kept steps bytes rest = Stands call given kept steps bytes × (rest ≡ [])
 
 -- the judge's last word on the text: its verdict, and the steps of its run
 pub record IsClosed (closed : Closed) (text : List ℕ) : Type 0 where

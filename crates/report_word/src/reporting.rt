@@ -1,7 +1,7 @@
 //! What the reading loop calls: a judge that keeps the steps of the run, and tells the report at the end.
 ghost use Rattle.std.specs.Prelude.{ℕ, List};
-ghost use Rattle.report_word.specs.Talking.{report_talk, Stands, IsAt};
-ghost use Rattle.report_word.specs.declared.form.Form as forms;
+ghost use Rattle.judge_word.specs.Talking.{Costs};
+ghost use Rattle.report_word.specs.Talking.{Call, report_talk, Stands, IsAt};
 
 use crate::Form;
 use crate::word::tell;
@@ -27,15 +27,15 @@ pub(crate) struct Reporting<L: Ledger> {
 impl<L: Ledger> Talker for Reporting<L> {
     type Meter = Steps<L>;
 
-    ghost about = { forms.Form };
+    ghost about = { Call };
 
-    ghost talk = { report_talk };
+    ghost talk = { λ call. report_talk call.form };
 
-    ghost stands = { λ asked r meter. IsAt asked r.form r.judge };
+    ghost stands = { λ call r steps. IsAt call r.form r.judge steps };
 
-    ghost ready = { λ asked r meter. Stands asked r.form r.judge };
+    ghost ready = { λ call r steps. Stands call r.form r.judge steps };
 
-    ghost costs = { λ form meter bytes. Unit {0} };
+    ghost costs = { λ call steps. Costs call.start steps };
 
     fn laws() {}
 
@@ -46,8 +46,8 @@ impl<L: Ledger> Talker for Reporting<L> {
         }
     }
 
-    fn next_part(&mut self, _meter: &mut Steps<L>) -> Option<BackLine> {
-        None
+    fn next_part(&mut self, _meter: &mut Steps<L>, _part: &mut BackLine) -> bool {
+        false
     }
 
     fn goes_on(&self, _meter: &Steps<L>) -> bool {

@@ -2,7 +2,7 @@ use Rattle.std.proofs.Common.{◌∙◌, sym, ap, subst, length, ◌<◌, List, 
 use Rattle.dover_model.specs.JobFacts.{JobFacts}
 use Rattle.dover_model.specs.Run.{completed_value}
 use Rattle.feed_reading.specs.Listing.{instance_with, listed_instance}
-use Rattle.dover_core.specs.Spending.{AreFew}
+use Rattle.queued_jobs.specs.Spending.{AreFew}
 use Rattle.dover_words.proofs.Comparing.{value_low}
 use Rattle.dover_words.proofs.Finding.{finds_are}
 use Rattle.dover_words.proofs.best.find.Goals as goal

@@ -4,7 +4,7 @@ use Rattle.dover_model.specs.Run.{completed_value}
 use Rattle.policy_lab.specs.PolicyRun.{AreTooLarge, policy_run}
 use Rattle.policy_lab.specs.Standard.{greatest_density}
 use Rattle.dover_model.specs.Schedules.{worth}
-use Rattle.dover_core.specs.Spending.{AreFew}
+use Rattle.queued_jobs.specs.Spending.{AreFew}
 use Rattle.feed_reading.specs.Listing.{instance_with, listed_instance}
 use Rattle.dover_words.proofs.Comparing.{value_low, compared_is}
 use Rattle.dover_words.proofs.compare.compare.Goals as goal

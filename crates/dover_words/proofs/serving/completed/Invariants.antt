@@ -1,6 +1,6 @@
 use Rattle.std.proofs.Common.{drop}
 use Rattle.feed_reading.specs.Listing.{instance_with}
-use Rattle.dover_core.specs.Spending.{HasSpent}
+use Rattle.queued_jobs.specs.Spending.{HasSpent}
 use Rattle.dover_words.proofs.Completing.{Leaves}
 use Rattle.dover_words.proofs.serving.completed.Given as goal
 

@@ -2,7 +2,7 @@ use Rattle.std.proofs.Common.{◌≡◌, ℕ}
 use Rattle.dover_core.specs.declared.horizon.Horizon.TheVariants.{End}
 use Rattle.dover_core.specs.Service.{MayFollow, list_of, steps_left}
 use Rattle.dover_model.specs.Sound.{IsSound}
-use Rattle.dover_core.specs.Spending.{HasSpent}
+use Rattle.queued_jobs.specs.Spending.{HasSpent}
 use Rattle.dover_words.specs.Serving.{IsCompleting}
 use Rattle.dover_words.proofs.serving.finish.Given as goal
 

@@ -1,9 +1,10 @@
 use Rattle.std.proofs.Common.{subst}
-use Rattle.dover_core.specs.Spending.{AreFew}
+use Rattle.queued_jobs.specs.Spending.{AreFew}
 use Rattle.dover_words.specs.Questions.{says}
 use Rattle.feed_reading.proofs.Ending.{jobs_valid}
 use Rattle.dover_words.proofs.Answering.{refused, answered}
-use Rattle.dover_words.proofs.Counts.{none_few, listed_count}
+use Rattle.queued_jobs.proofs.Spending.{none_few}
+use Rattle.dover_words.proofs.Counts.{listed_count}
 use Rattle.dover_words.proofs.Talking.{saying}
 use Rattle.dover_words.proofs.asking.AskingTalker.answer.Goals as goal
 

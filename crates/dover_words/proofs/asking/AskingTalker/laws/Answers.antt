@@ -1,10 +1,10 @@
 use Rattle.std.proofs.Common.{sym, subst}
-use Rattle.dover_core.specs.Spending.{AreFew}
+use Rattle.queued_jobs.specs.Spending.{AreFew}
 use Rattle.dover_model.specs.Feed.{account}
 use Rattle.event_feed.specs.Answers.{admitted_in}
 use Rattle.event_feed.proofs.Admitting.{admitted_front}
 use Rattle.dover_words.specs.Questions.{says}
-use Rattle.dover_words.proofs.Counts.{none_few, few_more}
+use Rattle.queued_jobs.proofs.Spending.{none_few, few_more}
 use Rattle.dover_words.proofs.Talking.{steady, few}
 use Rattle.dover_words.proofs.asking.AskingTalker.laws.Goals as goal
 
