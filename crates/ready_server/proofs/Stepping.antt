@@ -1,0 +1,302 @@
+-- What a server has given after a step.
+use Rattle.std.proofs.Common.{◌≡◌, ℕ, ◌≤◌, List, [], ◌∷◌, ◌++◌, refl, sym, ap, ◌∙◌, subst, Bool, true, false, arith}
+use Rattle.std.proofs.Common.{append_assoc, ◌+◌, ◌<◌, length, min}
+use Rattle.std.specs.Prelude.{Option, Some, None, Result, Ok, Err, OnOk}
+use Rattle.std.specs.Bool.{MatchBool}
+use Rattle.std.specs.List.{cons_option}
+use Rattle.std.proofs.lemmas.List.{append-nil}
+use Rattle.dover_model.specs.declared.events.Event.{Event}
+use Rattle.dover_model.specs.declared.Memory.{Memory}
+use Rattle.dover_model.specs.Limits.{last_tick, most_jobs}
+use Rattle.dover_model.specs.Instance.{Rules, Instance, IsValid}
+use Rattle.dover_model.specs.State.{State, opening}
+use Rattle.dover_model.specs.Step.{Prints, step, open_step, after}
+use Rattle.dover_model.specs.Run.{Step, is_end, event_of, printed, printed_of, last_deadline}
+use Rattle.dover_model.specs.Settled.{settled}
+use Rattle.dover_model.specs.WholeRun.{open_at, IsBefore, IsWholeRun, Begins}
+use Rattle.dover_model.specs.Paths.{IsOpenPath, HasPrinted}
+use Rattle.dover_model.specs.Sound.{Keeps}
+use Rattle.dover_model.proofs.Ending.{potential, ends}
+use Rattle.dover_model.proofs.Kept.{open_kept}
+use Rattle.dover_model.proofs.Paths.{printed_more, printed_settled, printed_then_run, printed_begins, path_low}
+use Rattle.dover_model.proofs.Prefixes.{step_open, open_goes_on}
+use Rattle.dover_model.proofs.Tests.{never}
+use Rattle.plain_step.specs.Moves.{state_at}
+use Rattle.trace_reading.specs.Leading.{Settles, Idles, GoesOn, WaitsUntil, PrintsNext}
+use Rattle.trace_reading.proofs.Leading.{idles_settles, settles_silent}
+use Rattle.dover_core.specs.declared.horizon.Horizon.{Horizon}
+use Rattle.dover_core.specs.declared.horizon.Horizon.TheVariants.{Mark, End}
+use Rattle.dover_core.specs.Service.{MayFollow}
+use Rattle.dispatcher.specs.Dispatch.{due_by}
+use Rattle.ready_jobs.specs.Course.{Course, Follows, Comes, Settled}
+use Rattle.ready_jobs.specs.Spending.{HasPaid}
+use Rattle.ready_jobs.proofs.Courses.{follows_count, follows_fewer}
+use Rattle.ready_jobs.proofs.Releasing.{follows_opens}
+use Rattle.ready_server.specs.Serving.{LeavesRest, HasGiven, Serves, Rests}
+use Rattle.ready_server.specs.declared.server.ReadyServer.{ReadyServer}
+
+-- ---- to a mark
+
+-- silent steps are a path
+settles_path : (rules : Rules) (mark : ℕ) (xs : List Step) (s z : State) → Settles rules mark s xs z
+    → IsOpenPath rules mark s xs z
+settles_path rules mark [] s z settles = sym settles
+settles_path rules mark (x ∷ xs) s z settles =
+    (settles.0, settles.1, settles_path rules mark xs (after s (open_step rules s)) z settles.3)
+
+-- nothing more is printed by silent steps
+printed_still : (J : Instance) (mark mark2 : ℕ) (s z : State) (events : List Event) (xs : List Step)
+    → HasPrinted J mark s events → mark ≤ mark2 → Settles J.rules mark2 s xs z → HasPrinted J mark2 z events
+printed_still J mark mark2 s z events xs it later settles = subst (HasPrinted J mark2 z)
+    (ap (λ es. events ++ es) (settles_silent J.rules mark2 xs s z settles) ∙ append-nil events)
+    (printed_more J mark mark2 s z events xs it later (settles_path J.rules mark2 xs s z settles))
+
+-- an event more by a step that prints it
+pub printed_event : (J : Instance) (mark : ℕ) (s : State) (events : List Event) (e : Event)
+    → HasPrinted J mark s events → IsBefore J.rules mark s → open_step J.rules s ≡ Prints e
+    → HasPrinted J mark (after s (Prints e)) (events ++ e ∷ [])
+printed_event J mark s events e it before prints =
+    subst (λ m. HasPrinted J mark (after s m) (events ++ cons_option (event_of m) [])) prints
+    (printed_more J mark mark s (after s (open_step J.rules s)) events (open_at J.rules s ∷ []) it (omega arith)
+    (refl, before, refl))
+
+-- the clock of what was printed before a mark isn't behind it
+pub printed_low : (J : Instance) → IsValid J → (mark : ℕ) (s : State) (events : List Event) → HasPrinted J mark s events
+    → s.clock ≤ mark
+printed_low J valid mark s events it = path_low J valid mark it.steps (opening J.jobs) s (omega arith) it.path
+
+-- a server that may go on to a mark is on the way to an earlier one
+pub before_mark : (s : ReadyServer) (J : Instance) (from : Horizon) (mark : ℕ) (events : List Event)
+    → (serves : Serves s J from events) → MayFollow from (Mark mark)
+    → (s.ended ≡ false) × (m : ℕ) × HasPrinted J m serves.state events × (m ≤ mark) × (mark ≤ last_tick)
+before_mark s J (Mark m) mark events serves follows =
+    (serves.given.0, m, serves.given.1, follows.0, follows.1)
+before_mark s J End mark events serves follows = absurd follows
+
+-- so the clock of a server isn't behind a mark to which it may go on
+pub mark_low : (s : ReadyServer) (J : Instance) (from : Horizon) (mark : ℕ) (events : List Event)
+    → Serves s J from events → MayFollow from (Mark mark) → s.ready.clock ≤ mark
+mark_low s J from mark events serves follows =
+    let way = before_mark s J from mark events serves follows in
+    omega (
+      arith,
+      printed_low J serves.follows.valid way.1 serves.state events way.2,
+      way.3,
+      serves.follows.clock,
+    )
+
+module _ (s : ReadyServer) (d : Course) (mark : ℕ) (o : Option Event)
+    (settled_at : (J : Instance) (z : State) → Follows s.ready J z → Settled d J z mark o) (low : d.clock ≤ mark)
+    (J : Instance) (from : Horizon) (events : List Event) (serves : Serves s J from events)
+    (follows : MayFollow from (Mark mark)) where
+  -- where the server stood
+  way : (s.ended ≡ false) × (m : ℕ) × HasPrinted J m serves.state events × (m ≤ mark) × (mark ≤ last_tick)
+  way = before_mark s J from mark events serves follows
+
+  -- where it stands now
+  it : Settled d J serves.state mark o
+  it = settled_at J serves.state serves.follows
+
+  -- nothing more was printed till there
+  still : HasPrinted J mark it.state events
+  still = printed_still J way.1 mark serves.state it.state events it.idles.0 way.2 way.3
+      (idles_settles J.rules mark it.idles.0 serves.state it.state it.idles.1 (omega (arith, it.follows.clock)))
+
+  -- where nothing comes, all was given
+  pub mark_reached : o ≡ None → (events ≡ settled J mark) × Rests (record s { ready = d }) J (Mark mark)
+  mark_reached none = (
+    all,
+    record {
+      state = it.state;
+      follows = it.follows;
+      given = (
+        way.0,
+        record {
+          here = subst (HasPrinted J mark it.state) all still;
+          waits = subst (HasPrinted J mark there) all waits;
+          barrier = comes.barrier;
+        },
+      );
+    },
+  ) where
+    there : State
+    there = state_at mark it.state.tasks
+
+    comes : WaitsUntil J.rules mark serves.state there
+    comes = subst (Comes J serves.state mark it.state) none it.comes
+
+    waits : HasPrinted J mark there events
+    waits = printed_still J way.1 mark serves.state there events comes.steps way.2 way.3 comes.settles
+
+    all : events ≡ settled J mark
+    all = printed_settled J mark there events serves.follows.valid waits comes.barrier
+
+  module _ (e : Event) (some : o ≡ Some e) where
+    -- an event comes
+    comes_now : (open_step J.rules it.state ≡ Prints e) × IsBefore J.rules mark it.state × GoesOn it.state
+    comes_now = subst (Comes J serves.state mark it.state) some it.comes
+
+    -- it is the next step of the ready jobs
+    pub mark_opens : open_step d.rules (state_at d.clock d.ready) ≡ Prints e
+    mark_opens = follows_opens d J it.state it.follows ∙ comes_now.0
+
+    -- once it is taken, it was given
+    pub mark_given : (f : Course)
+        → ((I : Instance) (z : State) → Follows d I z → Follows f I (after z (Prints e)))
+        → Serves (record s { ready = f }) J (Mark mark) (events ++ e ∷ [])
+    mark_given f takes = record {
+      state = after it.state (Prints e);
+      follows = takes J it.state it.follows;
+      given = (way.0, printed_event J mark it.state events e still comes_now.1 comes_now.0);
+    }
+
+-- ---- to the end
+
+-- what is printed next in a whole run, and what is left behind it
+runs_on : (J : Instance) → IsValid J → (rules : Rules) (e : Event) (xs ys : List Step) (s z : State) → Keeps J s
+    → Idles rules s xs z → step rules z ≡ Prints e → IsWholeRun rules s ys
+    → (zs : List Step) × MatchBool (is_end (Prints e)) (zs ≡ []) (IsWholeRun rules (after z (Prints e)) zs)
+    × (printed_of ys ≡ e ∷ printed_of zs)
+runs_on J valid rules e xs [] s z keeps idles prints whole = absurd whole
+runs_on J valid rules e [] (y ∷ ys) s z keeps idles prints whole =
+    let here : step rules s ≡ Prints e = ap (step rules) idles ∙ prints in (
+      ys,
+      subst (λ u. MatchBool (is_end (Prints e)) (ys ≡ []) (IsWholeRun rules (after u (Prints e)) ys)) idles
+          (subst (λ m. MatchBool (is_end m) (ys ≡ []) (IsWholeRun rules (after s m) ys)) here whole.1),
+      ap (λ (v : Step). cons_option (event_of v.move) (printed_of ys)) whole.0
+          ∙ ap (λ m. cons_option (event_of m) (printed_of ys)) here,
+    )
+runs_on J valid rules e (x ∷ xs) (y ∷ ys) s z keeps idles prints whole =
+    let same : step rules s ≡ open_step rules s = step_open rules s idles.2 in
+    let on : IsWholeRun rules (after s (step rules s)) ys =
+    subst (λ b. MatchBool b (ys ≡ []) (IsWholeRun rules (after s (step rules s)) ys))
+    (ap is_end same ∙ open_goes_on J valid rules s keeps) whole.1 in
+    let rest = runs_on J valid rules e xs ys (after s (open_step rules s)) z (open_kept J valid s keeps rules) idles.3
+    prints (subst (λ m. IsWholeRun rules (after s m) ys) same on) in (
+      rest.0,
+      rest.1,
+      ap (λ (v : Step). cons_option (event_of v.move) (printed_of ys)) whole.0
+          ∙ ap (λ m. cons_option (event_of m) (printed_of ys)) same
+          ∙ ap (λ o. cons_option o (printed_of ys)) idles.1 ∙ rest.2,
+    )
+
+-- behind what was printed before a mark, the run leaves a rest
+marked_rest : (J : Instance) (mark : ℕ) (z : State) (events : List Event) → IsValid J → Keeps J z
+    → HasPrinted J mark z events → LeavesRest J z events
+marked_rest J mark z events valid keeps it =
+    let rest = ends J valid J.rules (potential (last_deadline J.jobs) z) z keeps (omega arith) in record {
+      steps = rest.0;
+      whole = rest.1;
+      prints = printed_then_run J mark z events rest.0 valid it rest.1;
+    }
+
+module _ (s : ReadyServer) (J : Instance) (from : Horizon) (events : List Event) (serves : Serves s J from events) where
+  -- before End, the run leaves a rest
+  rest_left : s.ended ≡ false → LeavesRest J serves.state events
+  rest_left goes_on = by_horizon from serves.given where
+    by_horizon : (to : Horizon) → HasGiven s.ended J serves.state to events → LeavesRest J serves.state events
+    by_horizon (Mark m) given =
+        marked_rest J m serves.state events serves.follows.valid serves.follows.keeps given.1
+    by_horizon End given =
+        subst (λ b. MatchBool b (events ≡ printed J) (LeavesRest J serves.state events)) goes_on given
+
+  -- after End, all was given
+  pub end_reached : s.ended ≡ true → (events ≡ printed J) × Rests s J End
+  end_reached ended =
+      (by_horizon from serves.given, record { state = serves.state; follows = serves.follows; given = ended }) where
+        by_horizon : (to : Horizon) → HasGiven s.ended J serves.state to events → events ≡ printed J
+        by_horizon (Mark m) given = never (sym given.0 ∙ ended)
+        by_horizon End given =
+            subst (λ b. MatchBool b (events ≡ printed J) (LeavesRest J serves.state events)) ended given
+
+  module _ (goes_on : s.ended ≡ false) (d : Course) (e : Event)
+      (next : (I : Instance) (z : State) → Follows s.ready I z
+      → (y : State) × Follows d I y × PrintsNext I.rules z e y) where
+    -- where the event is printed
+    now : (y : State) × Follows d J y × PrintsNext J.rules serves.state e y
+    now = next J serves.state serves.follows
+
+    -- what is left behind it
+    behind : (zs : List Step)
+        × MatchBool (is_end (Prints e)) (zs ≡ []) (IsWholeRun J.rules (after now.0 (Prints e)) zs)
+        × (printed J ≡ events ++ e ∷ printed_of zs)
+    behind =
+        let left = rest_left goes_on in
+        let it = runs_on J serves.follows.valid J.rules e now.2.steps left.steps serves.state now.0
+        serves.follows.keeps now.2.idles now.2.prints left.whole in
+        (it.0, it.1, left.prints ∙ ap (λ es. events ++ es) it.2)
+
+    -- where it is End, all was given
+    pub end_given : is_end (Prints e) ≡ true → Serves (record s { ready = d; ended = true }) J End (events ++ e ∷ [])
+    end_given is = record {
+      state = now.0;
+      follows = now.1;
+      given =
+          let last : behind.0 ≡ [] = subst
+          (λ b. MatchBool b (behind.0 ≡ []) (IsWholeRun J.rules (after now.0 (Prints e)) behind.0)) is behind.1 in
+          sym (behind.2 ∙ ap (λ zs. events ++ e ∷ printed_of zs) last);
+    }
+
+    -- where it isn't, it was given once it is taken
+    pub event_given : is_end (Prints e) ≡ false → (f : Course)
+        → ((I : Instance) (z : State) → Follows d I z → Follows f I (after z (Prints e)))
+        → Serves (record s { ready = f }) J End (events ++ e ∷ [])
+    event_given is f takes = record {
+      state = after now.0 (Prints e);
+      follows = takes J now.0 now.1;
+      given = subst (λ b. MatchBool b (events ++ e ∷ [] ≡ printed J)
+          (LeavesRest J (after now.0 (Prints e)) (events ++ e ∷ []))) (sym goes_on) (record {
+            steps = behind.0;
+            whole = subst
+                (λ b. MatchBool b (behind.0 ≡ []) (IsWholeRun J.rules (after now.0 (Prints e)) behind.0)) is behind.1;
+            prints = behind.2 ∙ sym (append_assoc events (e ∷ []) (printed_of behind.0));
+          });
+    }
+
+-- ---- what holds of each
+
+-- what was given begins what is due
+pub serves_begins : (s : ReadyServer) (J : Instance) (to : Horizon) (events : List Event) → Serves s J to events
+    → Begins events (due_by J to)
+serves_begins s J (Mark t) events serves =
+    printed_begins J t serves.state events serves.follows.valid serves.given.1
+serves_begins s J End events serves = by_ended s.ended serves.given where
+  by_ended : (b : Bool) → MatchBool b (events ≡ printed J) (LeavesRest J serves.state events)
+      → Begins events (printed J)
+  by_ended true all = ([], sym all ∙ sym (append-nil events))
+  by_ended false left = (printed_of left.steps, left.prints)
+
+-- a server at rest has given all
+pub rests_serves : (s : ReadyServer) (J : Instance) (to : Horizon) → Rests s J to → Serves s J to (due_by J to)
+rests_serves s J (Mark t) rests =
+    record { state = rests.state; follows = rests.follows; given = (rests.given.0, rests.given.1.here) }
+rests_serves s J End rests = record {
+  state = rests.state;
+  follows = rests.follows;
+  given = subst (λ b. MatchBool b (printed J ≡ printed J) (LeavesRest J rests.state (printed J))) (sym rests.given)
+      refl;
+}
+
+-- ---- room
+
+-- there is room for one ready job more, once it is made
+pub some_place : (s : ReadyServer) (J : Instance) (to : Horizon) (events : List Event) → Serves s J to events
+    → length J.jobs + 1 ≤ most_jobs → (d : Course) (more : ℕ) (r : Result Unit Memory)
+    → d ≡ record s.ready { room = d.room } → OnOk r (min (length s.ready.ready + more) most_jobs ≤ d.room) → 1 ≤ more
+    → OnOk r (length d.ready < d.room)
+some_place s J to events serves few d more (Ok x) same room some =
+    let least : length J.jobs + 1 ≤ 1_000_000 = few in
+    let made : min (length s.ready.ready + more) 1_000_000 ≤ d.room = room in
+    omega (
+      arith,
+      follows_fewer s.ready J serves.state serves.follows,
+      follows_count s.ready J serves.state serves.follows,
+      ap (λ (c : Course). length c.ready) same,
+    )
+some_place s J to events serves few d more (Err e) same room some = room
+
+-- ---- comparisons
+
+-- what was made before is paid for
+pub paid_before : (c : Course) (start now : ℕ) → now ≤ start → HasPaid c start now
+paid_before c start now early = λ d enough. omega arith

@@ -1,0 +1,16 @@
+use Rattle.std.proofs.Common.{sym, subst}
+use Rattle.dover_core.specs.Service.{MayFollow}
+use Rattle.dispatcher.specs.Dispatch.{due_by, Gives}
+use Rattle.ready_server.specs.Serving.{Serves, Rests}
+use Rattle.ready_server.proofs.server.ReadyServerDispatcher.step.Goals as goal
+
+pub returns-in-Mark-clause-gives : goal.returns-in-Mark-clause-gives
+returns-in-Mark-clause-gives g c J from events serves follows =
+    subst (λ to. Gives (Serves c.step_to.new.self J to) (Rests c.step_to.new.self J to) (due_by J to) events
+    c.step_to.result) (sym c.in-Mark.is)
+    (c.step_to.ensures.gives J from events serves (subst (MayFollow from) c.in-Mark.is follows))
+
+pub returns-in-End-clause-gives : goal.returns-in-End-clause-gives
+returns-in-End-clause-gives g c J from events serves follows =
+    subst (λ to. Gives (Serves c.step_on.new.self J to) (Rests c.step_on.new.self J to) (due_by J to) events
+    c.step_on.result) (sym c.in-End.is) (c.step_on.ensures.gives J from events serves)

@@ -1,0 +1,58 @@
+-- How far a server has come.
+use Rattle.std.specs.Prelude.{◌≡◌, ◌<◌, ℕ, List, ◌++◌, length, Bool, true, false}
+use Rattle.std.specs.Bool.{MatchBool}
+use Rattle.dover_model.specs.declared.events.Event.{Event}
+use Rattle.dover_model.specs.Instance.{Instance}
+use Rattle.dover_model.specs.State.{State}
+use Rattle.dover_model.specs.Run.{Step, printed, printed_of}
+use Rattle.dover_model.specs.Settled.{settled}
+use Rattle.dover_model.specs.WholeRun.{IsWholeRun, IsBarrier}
+use Rattle.dover_model.specs.Paths.{HasPrinted}
+use Rattle.plain_step.specs.Moves.{state_at}
+use Rattle.dover_core.specs.declared.horizon.Horizon.{Horizon}
+use Rattle.dover_core.specs.declared.horizon.Horizon.TheVariants.{Mark, End}
+use Rattle.ready_jobs.specs.Course.{Follows}
+use Rattle.ready_jobs.specs.Spending as spending
+use Rattle.ready_server.specs.declared.server.ReadyServer.{ReadyServer}
+
+-- from this state on, the run prints what is left of it behind these events
+pub record LeavesRest (J : Instance) (z : State) (events : List Event) : Type 0 where
+  pub steps : List Step
+  pub whole : IsWholeRun J.rules z steps
+  pub prints : printed J ≡ events ++ printed_of steps
+
+-- on the way to the horizon, these events were printed up to this state, or once it has ended, all
+abbrev pub HasGiven : Bool → Instance → State → Horizon → List Event → Type 0
+HasGiven ended J z (Mark t) events = (ended ≡ false) × HasPrinted J t z events
+HasGiven ended J z End events = MatchBool ended (events ≡ printed J) (LeavesRest J z events)
+
+-- its jobs are those of J that are ready in some state, up to which these events were given
+pub record Serves (s : ReadyServer) (J : Instance) (to : Horizon) (events : List Event) : Type 0 where
+  pub state : State
+  pub follows : Follows s.ready J state
+  pub given : HasGiven s.ended J state to events
+
+-- all that is settled at the mark was printed up to this state, and nothing more is till the clock is at the mark
+pub record IsThrough (J : Instance) (z : State) (mark : ℕ) : Type 0 where
+  pub here : HasPrinted J mark z (settled J mark)
+  pub waits : HasPrinted J mark (state_at mark z.tasks) (settled J mark)
+  pub barrier : IsBarrier J.rules mark (state_at mark z.tasks)
+
+-- all that is due by the horizon was printed up to this state
+abbrev pub HasGivenAll : Bool → Instance → State → Horizon → Type 0
+HasGivenAll ended J z (Mark t) = (ended ≡ false) × IsThrough J z t
+HasGivenAll ended J z End = ended ≡ true
+
+-- its jobs are those of J that are ready in some state, up to which all that is due was given
+pub record Rests (s : ReadyServer) (J : Instance) (to : Horizon) : Type 0 where
+  pub state : State
+  pub follows : Follows s.ready J state
+  pub given : HasGivenAll s.ended J state to
+
+-- there is room for one ready job more
+abbrev pub HasPlace : ReadyServer → Type 0
+HasPlace s = length s.ready.ready < s.ready.room
+
+-- no more comparisons were made than its jobs so far have called for
+abbrev pub HasPaid : ReadyServer → (start now : ℕ) → Type 0
+HasPaid s start now = spending.HasPaid s.ready start now
