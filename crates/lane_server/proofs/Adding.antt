@@ -3,7 +3,6 @@ use Rattle.std.proofs.Common.{◌≡◌, ℕ, suc, ◌+◌, ◌≤◌, ◌<◌, 
 use Rattle.std.proofs.Common.{subst, arith, inl, inr, ◌⊎◌, Bool, true, false}
 use Rattle.std.proofs.Common.{Some, None, Option, cond}
 use Rattle.std.proofs.lemmas.List.{append-nil}
-use Rattle.std.specs.Bool.{MatchBool}
 use Rattle.std.specs.Prelude.{drop}
 use Rattle.std.proofs.lemmas.List.Sums.{fold-append}
 use Rattle.dover_model.specs.declared.events.Event.{Event}
@@ -18,8 +17,6 @@ use Rattle.dover_model.specs.Session.{admitted_jobs}
 use Rattle.dover_model.specs.Run.{printed}
 use Rattle.dover_model.specs.Settled.{settled}
 use Rattle.dover_model.specs.WholeRun.{Begins}
-use Rattle.dover_model.specs.Paths.{HasPrinted}
-use Rattle.dover_model.specs.Sound.{IsMember}
 use Rattle.dover_model.specs.Text.{header, text_of, refused_text}
 use Rattle.dover_model.specs.Trace.{Printed, text_of_line, texts_among}
 use Rattle.dover_model.specs.Feed.{read_line, Account, Standing, Open, Ended, Faulty, Cause, rules_with, no_lines}
@@ -31,18 +28,16 @@ use Rattle.dover_model.proofs.Beginnings.{begins_onward}
 use Rattle.dover_model.proofs.Emitting.{texts_more, texts_job, texts_refused}
 use Rattle.dover_model.proofs.Growing.{Reads, reads_later, settled_later, settled_of_run, job_instance}
 use Rattle.dover_model.proofs.Growing.{refused_instance}
-use Rattle.dover_model.specs.State.{opening}
-use Rattle.dover_model.proofs.Kept.{opening_keeps}
-use Rattle.dover_model.proofs.Paths.{path_keeps, printed_nothing}
-use Rattle.dover_model.proofs.Prefixes.{settled_prefix}
-use Rattle.dover_core.specs.Service.{Service, fresh_service}
+use Rattle.dover_core.specs.declared.horizon.Horizon.{Horizon}
+use Rattle.dover_core.specs.declared.horizon.Horizon.TheVariants.{Mark, End}
+use Rattle.dispatcher.specs.Dispatch.{no_jobs, due_by}
 use Rattle.event_feed.specs.Kept.{cause_of_fault}
 use Rattle.event_feed.specs.Answers.{DeclaresRatio, AddsJob, MovesMark, EndsFeed, AddsRefused, NewFault, OldFault}
 use Rattle.event_feed.specs.Answers.{counted}
 use Rattle.event_feed.specs.declared.faults.FeedFault.{FeedFault}
 use Rattle.lane_server.specs.Lanes.{lines_added}
-use Rattle.lane_server.specs.Lane.{IsServed, Fits, IsAtRest, Settling, Admitting, Finishing, IsRunning}
-use Rattle.lane_server.proofs.Printing.{tasks_count}
+use Rattle.lane_server.specs.Lane.{Serving, Having, Fits, Running, Admitting, reach}
+use Rattle.lane_server.proofs.Printing.{due_before}
 
 -- ---- accounts
 
@@ -141,9 +136,36 @@ due_fault a b line cause stands is =
 one_session : (S T : Session) (a : Account) → a.session ≡ Some S → a.session ≡ Some T → S ≡ T
 one_session S T a e f = cc
 
--- the server of an account's session
-fits_session : (a : Account) (S : Session) (v : Service) → Fits a (Some v) → a.session ≡ Some S → IsServed S a.mark v
-fits_session a S v fits there = subst (λ T. IsServed T a.mark v) (one_session fits.0 S a fits.1 there) fits.2
+-- ---- how far the run of an account's jobs is due
+
+-- by how the account stands
+reach_by : (a : Account) (x : Standing) → a.standing ≡ x
+    → reach a ≡ cond (elim x [ Open ↦ false | Ended ↦ true | Faulty line cause ↦ false ]) End (Mark a.mark)
+reach_by a x e = ap (λ (y : Standing).
+    cond (elim y [ Open ↦ false | Ended ↦ true | Faulty line cause ↦ false ]) End (Mark a.mark)) e
+
+-- to the mark, where the account goes on
+pub reach_open : (a : Account) → a.standing ≡ Open → reach a ≡ Mark a.mark
+reach_open a stands = reach_by a Open stands
+
+module _ {D : Type 0} (serves : Serving D) where
+  -- the server of an account's session has printed what is settled
+  pub open_serves : (a : Account) (S : Session) (v : D) → Fits serves a (Some v) → a.session ≡ Some S
+      → a.standing ≡ Open → serves v (instance_of S) (Mark a.mark) (settled (instance_of S) a.mark)
+  open_serves a S v fits there stands =
+      subst (λ h. serves v (instance_of S) h (due_by (instance_of S) h)) (reach_open a stands)
+      (subst (λ (T : Session). serves v (instance_of T) (reach a) (due_by (instance_of T) (reach a)))
+      (one_session fits.0 S a fits.1 there) fits.2)
+
+  -- it fits another account for which as much is due
+  pub fits_same : (a b : Account) (server : Option D) → b.session ≡ a.session → reach b ≡ reach a
+      → Fits serves a server → Fits serves b server
+  fits_same a b None same far fits = same ∙ fits
+  fits_same a b (Some v) same far fits = (
+    fits.0,
+    same ∙ fits.1,
+    subst (λ h. serves v (instance_of fits.0) h (due_by (instance_of fits.0) h)) (sym far) fits.2,
+  )
 
 -- ---- the ratio line
 
@@ -178,18 +200,14 @@ module _ (a b : Account) (k : Fraction) (version : Version) (stands : a.standing
       ∙ ap (λ ls. ls ++ header (rules_with k version) ∷ []) (sym (due_nothing a it.first stands))
 
   -- a new server has served all that is settled
-  pub header_fits : (v : Service) (spare : ℕ) → v ≡ fresh_service version k spare → IsAtRest (Some v) b
-  header_fits v spare new = λ opened. (
+  pub header_fits : {D : Type 0} (serves : Serving D) (v : D) → serves v (no_jobs version k) (Mark 0) []
+      → Fits serves b (Some v)
+  header_fits serves v new = (
     started,
     header_session,
-    subst (λ m. IsServed started m v) (sym (header_mark ∙ it.no_mark)) (subst (IsServed started 0) (sym new) (record {
-      jobs = refl;
-      printed = subst (HasPrinted (instance_of started) 0 (fresh_service version k spare).state)
-          (sym (nothing_settled (rules_with k version)))
-          (printed_nothing (instance_of started) 0);
-      last = refl;
-      goes_on = refl;
-    })),
+    subst (λ h. serves v (instance_of started) h (due_by (instance_of started) h))
+        (sym (reach_open b header_stands ∙ ap Mark (header_mark ∙ it.no_mark)))
+        (subst (serves v (instance_of started) (Mark 0)) (sym (nothing_settled (rules_with k version))) new),
   )
 
 -- ---- a fault
@@ -199,6 +217,14 @@ pub new_fault_due : (bytes : List ℕ) (fault : FeedFault) (a b : Account) → N
     → due_lines b ≡ due_lines a ++ fault_text fault.line (cause_of_fault fault.cause) ∷ []
 new_fault_due bytes fault a b it = due_fault a b (suc a.lines) (cause_of_fault fault.cause) it.opened it.after_is
     ∙ ap (λ n. due_lines a ++ fault_text n (cause_of_fault fault.cause) ∷ []) (sym it.line)
+
+-- and as much of the session is due as before
+pub new_fault_fits : {D : Type 0} (serves : Serving D) (bytes : List ℕ) (fault : FeedFault) (a b : Account)
+    (server : Option D) → NewFault bytes fault a b → Fits serves a server → Fits serves b server
+new_fault_fits serves bytes fault a b server it fits =
+    fits_same serves a b server (ap (λ (x : Account). x.session) it.after_is)
+    (reach_by b _ (ap (λ (x : Account). x.standing) it.after_is)
+    ∙ ap (λ (x : Account). Mark x.mark) it.after_is ∙ sym (reach_open a it.opened)) fits
 
 -- an account that goes on has no fault yet
 pub new_fault : (bytes : List ℕ) (fault : FeedFault) (a b : Account) → a.standing ≡ Open → NewFault bytes fault a b
@@ -224,61 +250,56 @@ module _ (a : Account) (S : Session) (kept : IsKept a) (stands : a.standing ≡ 
 
 -- ---- a tick
 
-module _ (a b : Account) (t : ℕ) (kept : IsKept a) (stands : a.standing ≡ Open) (it : MovesMark t (counted a) b)
-    (v : Service) (fits : Fits a (Some v))
-  where
-    -- what is settled further
-    pub tick_begins : Begins (settled (instance_of it.session) a.mark) (settled (instance_of it.session) t)
-    tick_begins = settled_later (instance_of it.session) a.mark t
-        (holds_of a it.session kept stands it.before_is).reads.valid it.no_fall
+module _ (a b : Account) (t : ℕ) (kept : IsKept a) (stands : a.standing ≡ Open) (it : MovesMark t (counted a) b) where
+  -- what is settled further
+  pub tick_begins : Begins (settled (instance_of it.session) a.mark) (settled (instance_of it.session) t)
+  tick_begins = settled_later (instance_of it.session) a.mark t
+      (holds_of a it.session kept stands it.before_is).reads.valid it.no_fall
 
-    -- its lines
-    abbrev pub tick_rest : List (List ℕ)
-    tick_rest = map text_of tick_begins.0
+  -- its lines
+  abbrev pub tick_rest : List (List ℕ)
+  tick_rest = map text_of tick_begins.0
 
-    -- the account goes on
-    pub tick_stands : b.standing ≡ Open
-    tick_stands = ap (λ (x : Account). x.standing) it.after_is ∙ stands
+  -- the account goes on
+  pub tick_stands : b.standing ≡ Open
+  tick_stands = ap (λ (x : Account). x.standing) it.after_is ∙ stands
 
-    -- the mark is the tick
-    pub tick_mark : b.mark ≡ t
-    tick_mark = ap (λ (x : Account). x.mark) it.after_is
+  -- the mark is the tick
+  pub tick_mark : b.mark ≡ t
+  tick_mark = ap (λ (x : Account). x.mark) it.after_is
 
-    -- the session stays
-    tick_session : b.session ≡ Some it.session
-    tick_session = ap (λ (x : Account). x.session) it.after_is ∙ it.before_is
+  -- the session stays
+  tick_session : b.session ≡ Some it.session
+  tick_session = ap (λ (x : Account). x.session) it.after_is ∙ it.before_is
 
-    -- they are due
-    pub tick_due : due_lines b ≡ due_lines a ++ tick_rest
-    tick_due = due_on a it.session kept stands it.before_is b (settled (instance_of it.session) t) tick_begins.0
-        (due_open b it.session tick_session tick_stands
-        ∙ ap (λ m. texts_among it.session (settled (instance_of it.session) m)) tick_mark)
-        tick_begins.1
+  -- they are due
+  pub tick_due : due_lines b ≡ due_lines a ++ tick_rest
+  tick_due = due_on a it.session kept stands it.before_is b (settled (instance_of it.session) t) tick_begins.0
+      (due_open b it.session tick_session tick_stands
+      ∙ ap (λ m. texts_among it.session (settled (instance_of it.session) m)) tick_mark)
+      tick_begins.1
 
-    -- they are left
-    pub tick_owes : Settling t v b tick_rest
-    tick_owes = record {
-      session = it.session;
-      there = tick_session;
-      marked = tick_mark;
-      valid = (holds_of a it.session kept stands it.before_is).reads.valid;
-      events = settled (instance_of it.session) a.mark;
-      left = tick_begins.0;
-      way = record {
-        from = a.mark;
-        served = fits_session a it.session v fits it.before_is;
-        ordered = it.no_fall;
-        known = it.known;
-      };
-      due = tick_begins.1;
-      texts = refl;
-    }
+  -- they are left
+  pub tick_owes : {D : Type 0} (serves : Serving D) (v : D) → Fits serves a (Some v)
+      → Running serves (Mark t) v b tick_rest
+  tick_owes serves v fits = record {
+    session = it.session;
+    there = tick_session;
+    reached = reach_open b tick_stands ∙ ap Mark tick_mark;
+    valid = (holds_of a it.session kept stands it.before_is).reads.valid;
+    from = Mark a.mark;
+    follows = (it.no_fall, it.known);
+    events = settled (instance_of it.session) a.mark;
+    served = open_serves serves a it.session v fits it.before_is stands;
+    left = tick_begins.0;
+    due = tick_begins.1;
+    texts = refl;
+  }
 
 -- ---- a job
 
 module _ (a b : Account) (n : ℕ) (j : JobFacts) (kept : IsKept a) (stands : a.standing ≡ Open)
-    (it : AddsJob n j (counted a) b) (v : Service)
-    (fits : Fits a (Some v)) where
+    (it : AddsJob n j (counted a) b) where
   -- the session with the job
   abbrev joined : Session
   joined = with_item it.session (JobItem j)
@@ -291,33 +312,23 @@ module _ (a b : Account) (n : ℕ) (j : JobFacts) (kept : IsKept a) (stands : a.
   job_valid : IsValid (with_jobs (instance_of it.session) (j ∷ []))
   job_valid = admits it.session.rules (admitted_jobs it.session.items) j job_reads.valid job_reads.known it.admitted
 
-  -- there is room for the job
-  pub job_room : length v.state.tasks + 1 ≤ most_jobs
-  job_room = omega (
-    arith,
-    (not_refused it.session.rules.ratio (admitted_jobs it.session.items) j it.admitted).count,
-    tasks_count it.session v (fits_session a it.session v fits it.before_is).jobs,
-  )
+  -- there are few jobs so far
+  pub job_room : length (instance_of it.session).jobs + 1 ≤ most_jobs
+  job_room =
+      omega (arith, (not_refused it.session.rules.ratio (admitted_jobs it.session.items) j it.admitted).count)
 
   -- its release is a tick
   job_known : j.release ≤ last_tick
   job_known = let it = (not_refused it.session.rules.ratio (admitted_jobs it.session.items) j it.admitted).job in
       omega (arith, it.window, it.due)
 
-  -- what is settled without the job begins what is settled with it
-  settled_before : Begins (settled (instance_of it.session) j.release) (settled (instance_of joined) j.release)
-  settled_before = subst (λ J. Begins (settled (instance_of it.session) j.release) (settled J j.release))
-      (sym (job_instance it.session j))
-      (settled_prefix (instance_of it.session) (j ∷ []) j.release job_valid is_last j.release (omega arith)) where
-        is_last : (i : JobFacts) → IsMember i (j ∷ []) → j.release ≤ i.release
-        is_last i (inl e) = subst (λ (x : JobFacts). j.release ≤ x.release) (sym e) (omega arith)
-        is_last i (inr m) = absurd m
-
-  -- what is settled further
-  pub job_begins : Begins (settled (instance_of it.session) a.mark) (settled (instance_of joined) j.release)
+  -- what is due further
+  pub job_begins : Begins (settled (instance_of it.session) a.mark)
+      (settled (with_jobs (instance_of it.session) (j ∷ [])) j.release)
   job_begins = begins_onward (settled (instance_of it.session) a.mark) (settled (instance_of it.session) j.release)
-      (settled (instance_of joined) j.release)
-      (settled_later (instance_of it.session) a.mark j.release job_reads.valid it.no_fall) settled_before
+      (settled (with_jobs (instance_of it.session) (j ∷ [])) j.release)
+      (settled_later (instance_of it.session) a.mark j.release job_reads.valid it.no_fall)
+      (due_before (instance_of it.session) j job_valid)
 
   -- its lines
   abbrev pub job_rest : List (List ℕ)
@@ -337,37 +348,35 @@ module _ (a b : Account) (n : ℕ) (j : JobFacts) (kept : IsKept a) (stands : a.
 
   -- they are due
   pub job_due : due_lines b ≡ due_lines a ++ job_rest
-  job_due = due_on a it.session kept stands it.before_is b (settled (instance_of joined) j.release) job_begins.0
+  job_due = due_on a it.session kept stands it.before_is b
+      (settled (with_jobs (instance_of it.session) (j ∷ [])) j.release) job_begins.0
       (due_open b joined job_session job_stands ∙ ap (λ m. texts_among joined (settled (instance_of joined) m)) job_mark
-      ∙ texts_job it.session j (settled (instance_of joined) j.release)) job_begins.1
+      ∙ texts_job it.session j (settled (instance_of joined) j.release)
+      ∙ ap (λ J. texts_among it.session (settled J j.release)) (job_instance it.session j)) job_begins.1
 
   -- they are left, once there is room for the job
-  pub job_owes : (u : Service) (spare : ℕ) → u ≡ record v { spare = spare } → 1 ≤ u.spare → Admitting j u b job_rest
-  job_owes u spare is room = record {
+  pub job_owes : {D : Type 0} (serves : Serving D) (having : Having D) (v u : D) → Fits serves a (Some v)
+      → ((J : Instance) (to : Horizon) (events : List Event) → serves v J to events → serves u J to events) → having u
+      → Admitting serves having j u b job_rest
+  job_owes serves having v u fits still room = record {
     session = it.session;
     there = job_session;
-    marked = job_mark;
-    valid = job_reads.valid;
-    valid_with = job_valid;
+    reached = reach_open b job_stands ∙ ap Mark job_mark;
+    valid = job_valid;
     room = room;
+    from = Mark a.mark;
+    follows = (it.no_fall, job_known);
     events = settled (instance_of it.session) a.mark;
+    served = still (instance_of it.session) (Mark a.mark) (settled (instance_of it.session) a.mark)
+        (open_serves serves a it.session v fits it.before_is stands);
     left = job_begins.0;
-    way = record {
-      from = a.mark;
-      served = (let served = fits_session a it.session v fits it.before_is in
-          subst (IsServed it.session a.mark) (sym is)
-          (record { jobs = served.jobs; printed = served.printed; last = served.last; goes_on = served.goes_on }));
-      ordered = it.no_fall;
-      known = job_known;
-    };
     due = job_begins.1;
     texts = refl;
   }
 
 -- ---- the end
 
-module _ (a b : Account) (kept : IsKept a) (stands : a.standing ≡ Open) (it : EndsFeed (counted a) b) (v : Service)
-    (fits : Fits a (Some v)) where
+module _ (a b : Account) (kept : IsKept a) (stands : a.standing ≡ Open) (it : EndsFeed (counted a) b) where
   -- the session's jobs are valid
   end_valid : IsValid (instance_of it.session)
   end_valid = (holds_of a it.session kept stands it.before_is).reads.valid
@@ -394,27 +403,18 @@ module _ (a b : Account) (kept : IsKept a) (stands : a.standing ≡ Open) (it : 
       (due_ended b it.session (ap (λ (x : Account). x.session) it.after_is ∙ it.before_is) end_stands) end_begins.1
 
   -- they are left
-  pub end_owes : Finishing v b end_rest
-  end_owes = let served = fits_session a it.session v fits it.before_is in record {
+  pub end_owes : {D : Type 0} (serves : Serving D) (v : D) → Fits serves a (Some v) → Running serves End v b end_rest
+  end_owes serves v fits = record {
     session = it.session;
-    stands = end_stands;
+    there = ap (λ (x : Account). x.session) it.after_is ∙ it.before_is;
+    reached = reach_by b Ended end_stands;
     valid = end_valid;
-    rules = ap (λ (J : Instance). J.rules) served.jobs;
-    keeps = path_keeps (instance_of it.session) end_valid a.mark served.printed.steps
-        (opening (instance_of it.session).jobs) v.state (opening_keeps (instance_of it.session)) served.printed.path;
-    mark = a.mark;
-    start = v.state;
-    before = settled (instance_of it.session) a.mark;
-    settled = served.printed;
+    from = Mark a.mark;
+    follows = tt;
+    events = settled (instance_of it.session) a.mark;
+    served = open_serves serves a it.session v fits it.before_is stands;
     left = end_begins.0;
-    so_far = subst (λ x. MatchBool x (end_begins.0 ≡ [])
-        (IsRunning (instance_of it.session) v.state (settled (instance_of it.session) a.mark) v
-        end_begins.0)) (sym served.goes_on) (record {
-          steps = [];
-          path = refl;
-          due = end_begins.1 ∙ ap (λ es. es ++ end_begins.0)
-              (sym (append-nil (settled (instance_of it.session) a.mark)));
-        });
+    due = end_begins.1;
     texts = refl;
   }
 
@@ -452,16 +452,15 @@ module _ (a b : Account) (j : JobFacts) (cause : Refusal) (kept : IsKept a) (sta
       ∙ ap (λ ls. ls ++ refused_text refused ∷ []) (sym (due_open a it.session it.before_is stands))
 
   -- the server has served the session with it
-  pub refused_fits : (server : Option Service) → Fits a server → IsAtRest server b
-  refused_fits None fits = λ opened. absurd (let e : None ≡ Some it.session = sym fits ∙ it.before_is in cc)
-  refused_fits (Some v) fits = let served = fits_session a it.session v fits it.before_is in λ opened. (
+  pub refused_fits : {D : Type 0} (serves : Serving D) (server : Option D) → Fits serves a server
+      → Fits serves b server
+  refused_fits serves None fits = absurd (let e : None ≡ Some it.session = sym fits ∙ it.before_is in cc)
+  refused_fits serves (Some v) fits = (
     with_item it.session (RefusedItem refused),
     refused_session,
-    subst (λ m. IsServed (with_item it.session (RefusedItem refused)) m v) (sym refused_mark) (record {
-      jobs = served.jobs ∙ sym (refused_instance it.session refused);
-      printed = subst (λ J. HasPrinted J a.mark v.state (settled J a.mark))
-          (sym (refused_instance it.session refused)) served.printed;
-      last = served.last;
-      goes_on = served.goes_on;
-    }),
+    subst (λ h. serves v (instance_of (with_item it.session (RefusedItem refused))) h
+        (due_by (instance_of (with_item it.session (RefusedItem refused))) h))
+        (sym (reach_open b refused_stands ∙ ap Mark refused_mark))
+        (subst (λ J. serves v J (Mark a.mark) (settled J a.mark)) (sym (refused_instance it.session refused))
+        (open_serves serves a it.session v fits it.before_is stands)),
   )

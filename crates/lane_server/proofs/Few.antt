@@ -1,79 +1,63 @@
 -- Few lines are left to give at any time.
-use Rattle.std.proofs.Common.{◌≡◌, ◌≤◌, ◌<◌, ◌+◌, ◌-◌, ℕ, zero, suc, List, [], ◌∷◌, ◌++◌, length, refl, sym, ap, subst}
+use Rattle.std.proofs.Common.{◌≡◌, ◌≤◌, ◌<◌, ◌+◌, ◌-◌, ℕ, zero, suc, List, [], ◌∷◌, ◌++◌, length, refl, ap}
 use Rattle.std.proofs.Common.{Bool, true, false, Option, Some, None, cond}
 use Rattle.std.proofs.Common.{arith, length-append}
-use Rattle.std.specs.Bool.{MatchBool}
 use Rattle.std.specs.List.{flat_map, range_with_len, slice_get}
 use Rattle.std.proofs.lemmas.List.{length-map}
 use Rattle.dover_model.specs.declared.events.Event.{Event}
-use Rattle.dover_model.specs.Instance.{Instance, IsValid}
-use Rattle.dover_model.specs.Run.{printed, printed_of}
-use Rattle.dover_model.specs.Settled.{settled}
-use Rattle.dover_model.specs.Session.{instance_of, JobItem, with_item}
+use Rattle.dover_model.specs.Instance.{Instance, IsValid, with_jobs}
+use Rattle.dover_model.specs.Run.{printed}
+use Rattle.dover_model.specs.Session.{instance_of}
 use Rattle.dover_model.specs.Text.{text_of}
 use Rattle.dover_model.specs.Feed.{Account, Short, account_of_lines, is_open}
 use Rattle.dover_model.specs.Due.{fault_text}
 use Rattle.dover_model.proofs.Beginnings.{begins_length}
 use Rattle.dover_model.proofs.Ending.{few_printed}
-use Rattle.dover_model.proofs.Growing.{settled_of_run, job_instance}
-use Rattle.dover_core.specs.Service.{Service}
+use Rattle.dover_core.specs.declared.horizon.Horizon.{Horizon}
+use Rattle.dover_core.specs.declared.horizon.Horizon.TheVariants.{Mark}
+use Rattle.dispatcher.specs.Dispatch.{due_by}
 use Rattle.lane_server.specs.Lanes.{lane_count, Handed, input_of_lines, lane_lines, in_lane, feed_short, lane_short}
 use Rattle.lane_server.specs.Lanes.{shorts_from}
-use Rattle.lane_server.specs.Lane.{IsRunning, Owes}
+use Rattle.lane_server.specs.Lane.{Serving, Having, Owes}
 use Rattle.lane_server.specs.Kept.{Kept, Leaves, StandsFor}
 use Rattle.lane_server.specs.declared.lane.Work.{Work}
-use Rattle.lane_server.specs.declared.lane.Work.TheVariants.{Nothing, Give, Settle, Admit, Finish}
+use Rattle.lane_server.specs.declared.lane.Work.TheVariants.{Nothing, Give, Run, Admit}
 use Rattle.lane_server.specs.declared.lanes.Phase.{Phase}
 use Rattle.lane_server.specs.declared.lanes.Phase.TheVariants.{Ready, Giving, Closing}
+use Rattle.lane_server.proofs.Printing.{due_begins}
 
--- what a run prints
-run_few : (J : Instance) → IsValid J → length (printed J) ≤ 5_000_001
-run_few J valid = omega (arith, few_printed J valid, valid.count)
-
--- what is left of what is settled
-settled_few : (J : Instance) (mark : ℕ) (events left : List Event) → IsValid J → settled J mark ≡ events ++ left
+-- what is left of what is due
+due_few : (J : Instance) (to : Horizon) (events left : List Event) → IsValid J → due_by J to ≡ events ++ left
     → length left ≤ 5_000_001
-settled_few J mark events left valid is = omega (
+due_few J to events left valid is = omega (
   arith,
-  run_few J valid,
-  begins_length (settled J mark) (printed J) (settled_of_run J mark valid),
+  few_printed J valid,
+  valid.count,
+  begins_length (due_by J to) (printed J) (due_begins J to valid),
   ap length is,
   length-append events left,
 )
 
--- what is left of a run
-left_few : (J : Instance) (front left : List Event) → IsValid J → printed J ≡ front ++ left → length left ≤ 5_000_001
-left_few J front left valid is = omega (arith, run_few J valid, ap length is, length-append front left)
-
 -- what the work under way still gives
-pub owes_few : (work : Work) (server : Option Service) (a : Account) (rest : List (List ℕ)) → Owes work server a rest
-    → length rest ≤ 5_000_001
-owes_few Nothing server a rest owes = omega (arith, ap length owes.0)
-owes_few (Give out) server a rest owes = omega (arith, ap length owes.0)
-owes_few (Settle mark) None a rest owes = absurd owes
-owes_few (Settle mark) (Some v) a rest owes = omega (
+pub owes_few : {D : Type 0} (serves : Serving D) (having : Having D) (work : Work) (server : Option D) (a : Account)
+    (rest : List (List ℕ)) → Owes serves having work server a rest → length rest ≤ 5_000_001
+owes_few serves having Nothing server a rest owes = omega (arith, ap length owes.0)
+owes_few serves having (Give out) server a rest owes = omega (arith, ap length owes.0)
+owes_few serves having (Run to) None a rest owes = absurd owes
+owes_few serves having (Run to) (Some v) a rest owes = omega (
   arith,
   ap length owes.texts,
   length-map owes.left text_of,
-  settled_few (instance_of owes.session) mark owes.events owes.left owes.valid owes.due,
+  due_few (instance_of owes.session) to owes.events owes.left owes.valid owes.due,
 )
-owes_few (Admit job) None a rest owes = absurd owes
-owes_few (Admit job) (Some v) a rest owes = omega (
+owes_few serves having (Admit job) None a rest owes = absurd owes
+owes_few serves having (Admit job) (Some v) a rest owes = omega (
   arith,
   ap length owes.texts,
   length-map owes.left text_of,
-  settled_few (instance_of (with_item owes.session (JobItem job))) job.release owes.events owes.left
-      (subst IsValid (sym (job_instance owes.session job)) owes.valid_with) owes.due,
+  due_few (with_jobs (instance_of owes.session) (job ∷ [])) (Mark job.release) owes.events owes.left owes.valid
+      owes.due,
 )
-owes_few Finish None a rest owes = absurd owes
-owes_few Finish (Some v) a rest owes =
-    omega (arith, ap length owes.texts, length-map owes.left text_of, by_end v.ended owes.so_far) where
-      by_end : (b : Bool) → MatchBool b (owes.left ≡ [])
-          (IsRunning (instance_of owes.session) owes.start owes.before v owes.left)
-          → length owes.left ≤ 5_000_001
-      by_end true none = omega (arith, ap length none)
-      by_end false runs = left_few (instance_of owes.session)
-          (owes.before ++ printed_of runs.steps) owes.left owes.valid runs.due
 
 -- a feed is short once at most
 short_few : (ls : List (List ℕ)) → length (feed_short ls) ≤ 1
@@ -106,20 +90,22 @@ element [] i low = absurd (omega arith)
 element (x ∷ xs) zero low = (x, refl)
 element (x ∷ xs) (suc i) low = element xs i (omega arith)
 
--- whatever is under way
-pub few_left : (kept : Kept) (ls rest : List (List ℕ)) → StandsFor kept ls rest → length rest ≤ 5_000_001
-few_left kept ls rest it = by_phase kept.phase it.left where
-  by_phase : (p : Phase) → Leaves p kept.lanes (input_of_lines ls) rest → length rest ≤ 5_000_001
-  by_phase Ready left = omega (arith, ap length left.1)
-  by_phase (Giving lane) left =
-      let there = element kept.lanes lane (omega (arith, it.count, left.3.within)) in
-      let stands = left.3.gives there.0 there.1 in
-      omega (
-        arith,
-        ap length left.2,
-        length-map left.0 (in_lane lane),
-        owes_few there.0.work there.0.server
-            (account_of_lines (lane_lines (input_of_lines ls).handed lane)) left.0 stands.owes,
-      )
-  by_phase (Closing next) left =
-      omega (arith, ap length left.2, shorts_few (input_of_lines ls).handed next (lane_count - next))
+module _ {D : Type 0} {serves : Serving D} {having : Having D} where
+  -- whatever is under way
+  pub few_left : (kept : Kept D) (ls rest : List (List ℕ)) → StandsFor serves having kept ls rest
+      → length rest ≤ 5_000_001
+  few_left kept ls rest it = by_phase kept.phase it.left where
+    by_phase : (p : Phase) → Leaves serves having p kept.lanes (input_of_lines ls) rest → length rest ≤ 5_000_001
+    by_phase Ready left = omega (arith, ap length left.1)
+    by_phase (Giving lane) left =
+        let there = element kept.lanes lane (omega (arith, it.count, left.3.within)) in
+        let stands = left.3.gives there.0 there.1 in
+        omega (
+          arith,
+          ap length left.2,
+          length-map left.0 (in_lane lane),
+          owes_few serves having there.0.work there.0.server
+              (account_of_lines (lane_lines (input_of_lines ls).handed lane)) left.0 stands.owes,
+        )
+    by_phase (Closing next) left =
+        omega (arith, ap length left.2, shorts_few (input_of_lines ls).handed next (lane_count - next))

@@ -1,5 +1,4 @@
 pub mod Printing
-pub mod Closing
 pub mod Owing
 pub mod Adding
 pub mod Taking
@@ -7,5 +6,4 @@ pub mod Handing
 pub mod Keeping
 pub mod Fine
 pub mod Few
-pub mod Admitted
 pub mod Paying

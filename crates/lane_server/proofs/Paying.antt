@@ -1,86 +1,48 @@
 -- What a lane's comparisons are paid with.
-use Rattle.std.proofs.Common.{◌≡◌, ℕ, ◌+◌, ◌*◌, ◌≤◌, ◌<◌, ◌^◌, List, [], length, refl, sym, ap, ◌∙◌, subst, arith}
+use Rattle.std.proofs.Common.{◌≡◌, ℕ, ◌+◌, ◌*◌, ◌≤◌, List, length, sym, ap, ◌∙◌, subst, arith}
 use Rattle.std.proofs.Common.{Option, Some, None}
-use Rattle.std.proofs.lemmas.Nat.{mul-le}
-use Rattle.dover_model.specs.Fraction.{Fraction}
-use Rattle.dover_model.specs.declared.events.Version.{Version}
-use Rattle.dover_model.specs.Feed.{Account}
-use Rattle.dover_model.specs.Instance.{Instance, IsValid}
-use Rattle.dover_model.specs.JobFacts.{JobFacts}
-use Rattle.dover_model.specs.Session.{Session, instance_of}
 use Rattle.dover_model.specs.declared.events.Event.{Event}
-use Rattle.dover_model.specs.Sound.{IsSound, jobs_of}
+use Rattle.dover_model.specs.Feed.{Account}
+use Rattle.dover_model.specs.Instance.{Instance}
+use Rattle.dover_model.specs.Session.{instance_of}
 use Rattle.dover_core.specs.declared.horizon.Horizon.{Horizon}
-use Rattle.dover_core.specs.Service.{Service, list_of}
-use Rattle.dover_core.specs.Counting.{IsCounted}
-use Rattle.dover_core.specs.Spending.{HasSpent, AreFew, waits_so_far}
-use Rattle.dover_core.proofs.Spending.{spent_next, so_far_most, all_few}
-use Rattle.event_feed.specs.Answers.{DeclaresRatio, counted}
-use Rattle.lane_server.specs.Lane.{IsOnWay, Settling, Admitting, Finishing, IsOpenAt}
-use Rattle.lane_server.specs.Spending.{HasPaid, jobs_in}
-use Rattle.lane_server.specs.declared.lane.Lane.{Lane}
-use Rattle.lane_server.proofs.Admitted.{none_yet}
-use Rattle.lane_server.proofs.Printing.{keeps_later}
+use Rattle.queued_jobs.specs.Spending.{AreFew}
+use Rattle.queued_jobs.proofs.Spending.{few_more}
+use Rattle.event_feed.specs.Answers.{admitted_in}
+use Rattle.event_feed.proofs.Admitting.{job_more, admitted_by}
+use Rattle.lane_server.specs.Lane.{Serving, Having, Fits, Owes}
+use Rattle.lane_server.specs.Spending.{HasPaid}
+use Rattle.lane_server.specs.declared.lane.Work.{Work}
+use Rattle.lane_server.specs.declared.lane.Work.TheVariants.{Nothing, Give, Run, Admit}
 
--- a step to the horizon costs so much
-abbrev pub IsCountedStep : Horizon → (v u : Service) → (before after : ℕ) → Type 0
-IsCountedStep to v u before after = (d : ℕ) → length v.state.tasks + 1 < 2 ^ d
-    → IsCounted to v.rules v.state u.state d before after
+-- before the ratio line there is no server, and nothing was paid
+pub none_paid : {D : Type 0} (serves : Serving D) (paid : D → (start now : ℕ) → Type 0) (a : Account)
+    (server : Option D) → Fits serves a server → a.session ≡ None → (start now : ℕ) → HasPaid paid server start now
+    → now ≤ start
+none_paid serves paid a None fits none start now has_paid = has_paid
+none_paid serves paid a (Some v) fits none start now has_paid =
+    absurd (let e : None ≡ Some fits.0 = sym none ∙ fits.1 in cc)
 
-module _ (v u : Service) (same : list_of u ≡ list_of v) (o : Option Service) (there : o ≡ Some v)
-    (start before after : ℕ) (to : Horizon) (counted : IsCountedStep to v u before after)
-    (paid : HasPaid o start before) where
-  spent : HasSpent v.state start before
-  spent = subst (λ p. HasPaid p start before) there paid
+module _ {D : Type 0} {serves : Serving D} {paid : D → (start now : ℕ) → Type 0}
+    (few : (s : D) (J : Instance) (to : Horizon) (events : List Event) (start now : ℕ) → serves s J to events
+    → paid s start now → AreFew (length J.jobs) start now) where
+  -- a server that fits has the account's jobs
+  fits_few : (a : Account) (v : D) → Fits serves a (Some v) → (start now : ℕ) → paid v start now
+      → AreFew (admitted_in a) start now
+  fits_few a v fits start now has_paid = subst (λ n. AreFew n start now) (sym (ap admitted_by fits.1))
+      (few v (instance_of fits.0) _ _ start now fits.2 has_paid)
 
-  -- on the way to a mark
-  pub way_pays : (S : Session) → IsValid (instance_of S) → (t : ℕ) (events : List Event) → IsOnWay S t v events
-      → HasSpent u.state start after
-  way_pays S valid t events way = spent_next to v u start before after (subst IsValid (sym way.served.jobs) valid)
-      (keeps_later S valid t v events way [] v.state refl).sound same counted spent
-
-  -- where lines are left up to it
-  pub settle_pays : (t : ℕ) (a : Account) (rest : List (List ℕ)) → Settling t v a rest → HasSpent u.state start after
-  settle_pays t a rest it = way_pays it.session it.valid t it.events it.way
-
-  -- with a job that comes
-  pub admit_pays : (job : JobFacts) (a : Account) (rest : List (List ℕ)) → Admitting job v a rest
-      → HasSpent u.state start after
-  admit_pays job a rest it = way_pays it.session it.valid job.release it.events it.way
-
-  -- on the way to the end
-  pub finish_pays : (a : Account) (rest : List (List ℕ)) → Finishing v a rest → HasSpent u.state start after
-  finish_pays a rest it = spent_next to v u start before after
-      (subst IsValid (sym (ap (λ k. record { rules = k; jobs = jobs_of v.state.tasks }) it.rules
-      ∙ ap (λ js. record { rules = it.session.rules; jobs = js }) it.keeps.jobs)) it.valid)
-      it.keeps.sound same counted spent
-
--- the server that is made at the ratio line has paid for nothing
-pub declare_pays : (lane : Lane) (k : Fraction) (version : Version) (a b : Account) (v : Service) (start now : ℕ)
-    → IsOpenAt lane a → DeclaresRatio k version (counted a) b → HasPaid lane.server start now
-    → HasSpent v.state start now
-declare_pays lane k version a b v start now at it paid = let none : now ≤ start =
-    subst (λ o. HasPaid o start now) (none_yet a lane.server at.fits it.first) paid in
-    λ d enough. omega (arith, none)
-
--- room that is made costs nothing
-pub room_pays : (o : Option Service) (v u : Service) (k : ℕ) → o ≡ Some v → u ≡ record v { spare = k }
-    → (start now : ℕ) → HasPaid o start now → HasSpent u.state start now
-room_pays o v u k there is start now paid = subst (λ (w : Service). HasSpent w.state start now) (sym is)
-    (subst (λ p. HasPaid p start now) there paid)
-
--- ---- a whole call
-
--- what was paid is little for so many jobs, where no more were admitted
-pub paid_few : (o : Option Service) (n start now : ℕ) → HasPaid o start now → jobs_in o ≤ n → AreFew n start now
-paid_few None n start now none few = λ d enough. omega (arith, none)
-paid_few (Some v) n start now paid few = λ d enough.
-    all_few n d (waits_so_far v.state) start now (omega (arith, so_far_most v.state, few))
-    (paid d (omega (arith, few, enough)))
-
--- what is little for some jobs is little for more
-pub few_more : (n m before after : ℕ) → n ≤ m → AreFew n before after → AreFew m before after
-few_more n m before after less few = λ d enough.
-    let product : 80 * (n + 1) * d ≤ 80 * (m + 1) * d =
-    mul-le (80 * (n + 1)) d (80 * (m + 1)) d (omega (arith, less)) (omega arith) in
-    omega (arith, few d (omega (arith, less, enough)), product)
+  -- whatever is under way, what was paid is little for the account's jobs
+  pub owes_few_paid : (having : Having D) (work : Work) (server : Option D) (a : Account) (rest : List (List ℕ))
+      → Owes serves having work server a rest → (start now : ℕ) → HasPaid paid server start now
+      → AreFew (admitted_in a) start now
+  owes_few_paid having work None a rest owes start now none = λ d enough. omega (arith, none)
+  owes_few_paid having Nothing (Some v) a rest owes start now has_paid = fits_few a v owes.1 start now has_paid
+  owes_few_paid having (Give out) (Some v) a rest owes start now has_paid = fits_few a v owes.1 start now has_paid
+  owes_few_paid having (Run to) (Some v) a rest owes start now has_paid =
+      subst (λ n. AreFew n start now) (sym (ap admitted_by owes.there))
+      (few v (instance_of owes.session) owes.from owes.events start now owes.served has_paid)
+  owes_few_paid having (Admit job) (Some v) a rest owes start now has_paid =
+      few_more (length (instance_of owes.session).jobs) (admitted_in a) start now
+      (omega (arith, ap admitted_by owes.there, job_more owes.session.items job))
+      (few v (instance_of owes.session) owes.from owes.events start now owes.served has_paid)

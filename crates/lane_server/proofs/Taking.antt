@@ -1,132 +1,138 @@
 -- How a lane comes to owe what a line of its feed adds.
-use Rattle.std.proofs.Common.{◌≡◌, ◌≤◌, ◌<◌, ◌^◌, ℕ, List, [], ◌∷◌, ◌++◌, refl, sym, ap, ◌∙◌, subst, Option, Some, None}
-use Rattle.std.proofs.Common.{Bool, true, false, Result, Ok, Err, arith}
-use Rattle.std.specs.Prelude.{OnOk, OnErr, length}
+use Rattle.std.proofs.Common.{◌≡◌, ◌<◌, ◌^◌, ℕ, List, [], ◌∷◌, ◌++◌, refl, sym, ap, ◌∙◌, subst, Option, Some, None}
+use Rattle.std.proofs.Common.{Bool, true, false, Result, Ok, Err}
+use Rattle.std.specs.Prelude.{OnOk, OnErr}
 use Rattle.std.proofs.lemmas.List.{append-nil}
 use Rattle.dover_model.specs.declared.events.Version.{Version}
 use Rattle.dover_model.specs.declared.events.Refusal.{Refusal}
 use Rattle.dover_model.specs.JobFacts.{JobFacts, job_of_numbers}
 use Rattle.dover_model.specs.Fraction.{Fraction}
 use Rattle.dover_model.specs.Session.{JobItem, new_session, with_item}
-use Rattle.dover_model.specs.Feed.{Account, Open, Ended, Faulty, account_of_lines, is_open, rules_with}
+use Rattle.dover_model.specs.Feed.{Account, Open, Ended, account_of_lines, is_open, rules_with}
 use Rattle.dover_model.specs.Due.{due_lines}
 use Rattle.dover_model.specs.Text.{header, refused_text}
-use Rattle.dover_core.specs.Service.{Service, fresh_service}
+use Rattle.dover_model.specs.Instance.{Instance}
+use Rattle.dover_model.specs.declared.events.Event.{Event}
+use Rattle.dover_core.specs.declared.horizon.Horizon.{Horizon}
+use Rattle.dover_core.specs.declared.horizon.Horizon.TheVariants.{Mark, End}
+use Rattle.dispatcher.specs.Dispatch.{no_jobs}
 use Rattle.event_feed.specs.Kept as feed
-use Rattle.event_feed.specs.Kept.{cause_of_fault}
 use Rattle.event_feed.specs.Answers.{DeclaresRatio, AddsJob, MovesMark, EndsFeed, AddsRefused, NewFault, IsFed, counted}
-use Rattle.event_feed.specs.Answers.{admitted_in}
-use Rattle.event_feed.proofs.Admitting.{admitted_by}
 use Rattle.event_feed.specs.declared.faults.FeedFault.{FeedFault}
 use Rattle.event_feed.specs.declared.fed.Fed.{Fed}
-use Rattle.event_feed.specs.declared.fed.Fed.TheVariants.{Job, Tick, Over, Refused as NotAdmitted}
+use Rattle.event_feed.specs.declared.fed.Fed.TheVariants.{Over}
 use Rattle.lane_server.specs.Lanes.{lines_added}
-use Rattle.lane_server.specs.Lane.{IsDeclared, Fits, IsOpenAt, Owes, GivesFault, Adds, Stands, IsQuiet}
-use Rattle.lane_server.specs.Spending.{jobs_in}
+use Rattle.lane_server.specs.Lane.{IsDeclared, Serving, Having, Fits, IsOpenAt, Owes, GivesFault, Adds, Stands, IsQuiet}
 use Rattle.lane_server.specs.declared.lane.Lane.{Lane}
-use Rattle.lane_server.specs.declared.lane.Work.TheVariants.{Nothing, Give, Settle, Admit, Finish}
+use Rattle.lane_server.specs.declared.lane.Work.TheVariants.{Nothing, Give, Run, Admit}
 use Rattle.lane_server.specs.declared.out.LaneOut.TheVariants.{Header, Refuse, Refused}
 use Rattle.lane_server.proofs.Adding.{header_stands, header_mark, header_due, header_fits, job_stands, job_mark}
 use Rattle.lane_server.proofs.Adding.{job_rest, job_due, job_owes}
 use Rattle.lane_server.proofs.Adding.{tick_stands, tick_mark, tick_rest, tick_due, tick_owes, end_stands, end_mark}
 use Rattle.lane_server.proofs.Adding.{end_rest, end_due, end_owes}
 use Rattle.lane_server.proofs.Adding.{refused_stands, refused_mark, refused_due, refused_mark_short, refused_fits}
-use Rattle.lane_server.proofs.Adding.{new_fault_due, opens_by, open_stands, lines_kept}
+use Rattle.lane_server.proofs.Adding.{new_fault_due, new_fault_fits, opens_by, open_stands, lines_kept}
 use Rattle.lane_server.proofs.Adding.{added_is, account_over}
-use Rattle.lane_server.proofs.Admitted.{still_jobs}
 
--- the ratio line
-pub declare_adds : (lane : Lane) (k : Fraction) (version : Version) (v : Service) (a b : Account) → IsOpenAt lane a
-    → DeclaresRatio k version (counted a) b → v ≡ fresh_service version k v.spare
-    → Adds (record lane { server = Some v; work = Give (Header version k) }) a b
-declare_adds lane k version v a b at it new = record {
-  opened = at.opened ∙ sym (opens_by b Open (header_stands a b k version at.stands it));
-  rest = header (rules_with k version) ∷ [];
-  due = header_due a b k version at.stands it;
-  marked = at.marked ∙ sym (header_mark a b k version at.stands it);
-  owes = (refl, header_fits a b k version at.stands it v v.spare new, tt);
-  jobs = let none : length v.state.tasks ≡ 0 = ap (λ (u : Service). length u.state.tasks) new in omega arith;
-  names = λ ls. tt;
-}
-
--- a job
-pub arrive_adds : (lane : Lane) (n : ℕ) (job : JobFacts) (v u : Service) (t : ℕ) (a b : Account) → IsOpenAt lane a
-    → AddsJob n job (counted a) b
-    → lane.server ≡ Some v → u ≡ record v { spare = u.spare } → 1 ≤ u.spare → t ≡ job.release
-    → Adds (record lane { server = Some u; mark = t; work = Admit job }) a b
-arrive_adds lane n job v u t a b at it there is room same =
-    let fits : Fits a (Some v) = subst (Fits a) there at.fits in record {
-      opened = at.opened ∙ sym (opens_by b Open (job_stands a b n job at.kept at.stands it v fits));
-      rest = job_rest a b n job at.kept at.stands it v fits;
-      due = job_due a b n job at.kept at.stands it v fits;
-      marked = same ∙ sym (job_mark a b n job at.kept at.stands it v fits);
-      owes = job_owes a b n job at.kept at.stands it v fits u u.spare is room;
-      jobs = subst (λ (w : Service). length w.state.tasks ≤ admitted_in b) (sym is)
-          (still_jobs a b (Some v) (Job n job) fits it);
-      names = λ ls. tt;
-    }
-
--- a tick
-pub tick_adds : (lane : Lane) (t : ℕ) (a b : Account) → IsOpenAt lane a → MovesMark t (counted a) b
-    → Adds (record lane { mark = t; work = Settle t }) a b
-tick_adds lane t a b at it = by_server lane.server at.fits where
-  by_server : (o : Option Service) → Fits a o → Adds (record lane { server = o; mark = t; work = Settle t }) a b
-  by_server None fits = absurd (let e : None ≡ Some it.session = sym fits ∙ it.before_is in cc)
-  by_server (Some v) fits = record {
-    opened = at.opened ∙ sym (opens_by b Open (tick_stands a b t at.kept at.stands it v fits));
-    rest = tick_rest a b t at.kept at.stands it v fits;
-    due = tick_due a b t at.kept at.stands it v fits;
-    marked = sym (tick_mark a b t at.kept at.stands it v fits);
-    owes = tick_owes a b t at.kept at.stands it v fits;
-    jobs = still_jobs a b (Some v) (Tick t) fits it;
+module _ {D : Type 0} {serves : Serving D} {having : Having D} where
+  -- the ratio line
+  pub declare_adds : (lane : Lane D) (k : Fraction) (version : Version) (v : D) (a b : Account)
+      → IsOpenAt serves lane a → DeclaresRatio k version (counted a) b → serves v (no_jobs version k) (Mark 0) []
+      → Adds serves having (record lane { server = Some v; work = Give (Header version k) }) a b
+  declare_adds lane k version v a b at it new = record {
+    opened = at.opened ∙ sym (opens_by b Open (header_stands a b k version at.stands it));
+    rest = header (rules_with k version) ∷ [];
+    due = header_due a b k version at.stands it;
+    marked = at.marked ∙ sym (header_mark a b k version at.stands it);
+    owes = (refl, header_fits a b k version at.stands it serves v new, tt);
     names = λ ls. tt;
   }
 
--- the end
-pub over_adds : (lane : Lane) (a b : Account) → IsOpenAt lane a → EndsFeed (counted a) b
-    → Adds (record lane { is_open = false; work = Finish }) a b
-over_adds lane a b at it = by_server lane.server at.fits where
-  by_server : (o : Option Service) → Fits a o → Adds (record lane { server = o; is_open = false; work = Finish }) a b
-  by_server None fits = absurd (let e : None ≡ Some it.session = sym fits ∙ it.before_is in cc)
-  by_server (Some v) fits = record {
-    opened = sym (opens_by b Ended (end_stands a b at.kept at.stands it v fits));
-    rest = end_rest a b at.kept at.stands it v fits;
-    due = end_due a b at.kept at.stands it v fits;
-    marked = at.marked ∙ sym (end_mark a b at.kept at.stands it v fits);
-    owes = end_owes a b at.kept at.stands it v fits;
-    jobs = still_jobs a b (Some v) Over fits it;
-    names = λ ls. tt;
-  }
+  -- a job
+  pub arrive_adds : (lane : Lane D) (n : ℕ) (job : JobFacts) (v u : D) (t : ℕ) (a b : Account)
+      → IsOpenAt serves lane a → AddsJob n job (counted a) b → lane.server ≡ Some v
+      → ((J : Instance) (to : Horizon) (events : List Event) → serves v J to events → serves u J to events)
+      → having u → t ≡ job.release
+      → Adds serves having (record lane { server = Some u; mark = t; work = Admit job }) a b
+  arrive_adds lane n job v u t a b at it there still room same =
+      let fits : Fits serves a (Some v) = subst (Fits serves a) there at.fits in record {
+        opened = at.opened ∙ sym (opens_by b Open (job_stands a b n job at.kept at.stands it));
+        rest = job_rest a b n job at.kept at.stands it;
+        due = job_due a b n job at.kept at.stands it;
+        marked = same ∙ sym (job_mark a b n job at.kept at.stands it);
+        owes = job_owes a b n job at.kept at.stands it serves having v u fits still room;
+        names = λ ls. tt;
+      }
 
--- a refused job line
-pub refused_adds : (lane : Lane) (release work deadline value : ℕ) (cause : Refusal) (a b : Account) → IsOpenAt lane a
-    → AddsRefused (job_of_numbers release work deadline value) cause (counted a) b
-    → Adds (record lane { work = Give (Refuse lane.mark release work deadline value cause) }) a b
-refused_adds lane release work deadline value cause a b at it =
-    let job = job_of_numbers release work deadline value in record {
-      opened = at.opened ∙ sym (opens_by b Open (refused_stands a b job cause at.kept at.stands it));
-      rest = refused_text (record { at = a.mark; job = job; refusal = cause }) ∷ [];
-      due = refused_due a b job cause at.kept at.stands it;
-      marked = at.marked ∙ sym (refused_mark a b job cause at.kept at.stands it);
-      owes = (
-        ap (λ m. refused_text (record { at = m; job = job; refusal = cause }) ∷ []) (sym at.marked),
-        refused_fits a b job cause at.kept at.stands it lane.server at.fits,
-        (subst (λ m. m < 10 ^ 18) (sym at.marked) (refused_mark_short a b job cause at.kept at.stands it), it.numerals),
-      );
-      jobs = still_jobs a b lane.server (NotAdmitted release work deadline value cause) at.fits it;
+  -- a tick
+  pub tick_adds : (lane : Lane D) (t : ℕ) (a b : Account) → IsOpenAt serves lane a → MovesMark t (counted a) b
+      → Adds serves having (record lane { mark = t; work = Run (Mark t) }) a b
+  tick_adds lane t a b at it = by_server lane.server at.fits where
+    by_server : (o : Option D) → Fits serves a o
+        → Adds serves having (record lane { server = o; mark = t; work = Run (Mark t) }) a b
+    by_server None fits = absurd (let e : None ≡ Some it.session = sym fits ∙ it.before_is in cc)
+    by_server (Some v) fits = record {
+      opened = at.opened ∙ sym (opens_by b Open (tick_stands a b t at.kept at.stands it));
+      rest = tick_rest a b t at.kept at.stands it;
+      due = tick_due a b t at.kept at.stands it;
+      marked = sym (tick_mark a b t at.kept at.stands it);
+      owes = tick_owes a b t at.kept at.stands it serves v fits;
       names = λ ls. tt;
     }
+
+  -- the end
+  pub over_adds : (lane : Lane D) (a b : Account) → IsOpenAt serves lane a → EndsFeed (counted a) b
+      → Adds serves having (record lane { is_open = false; work = Run End }) a b
+  over_adds lane a b at it = by_server lane.server at.fits where
+    by_server : (o : Option D) → Fits serves a o
+        → Adds serves having (record lane { server = o; is_open = false; work = Run End }) a b
+    by_server None fits = absurd (let e : None ≡ Some it.session = sym fits ∙ it.before_is in cc)
+    by_server (Some v) fits = record {
+      opened = sym (opens_by b Ended (end_stands a b at.kept at.stands it));
+      rest = end_rest a b at.kept at.stands it;
+      due = end_due a b at.kept at.stands it;
+      marked = at.marked ∙ sym (end_mark a b at.kept at.stands it);
+      owes = end_owes a b at.kept at.stands it serves v fits;
+      names = λ ls. tt;
+    }
+
+  -- a refused job line
+  pub refused_adds : (lane : Lane D) (release work deadline value : ℕ) (cause : Refusal) (a b : Account)
+      → IsOpenAt serves lane a → AddsRefused (job_of_numbers release work deadline value) cause (counted a) b
+      → Adds serves having (record lane { work = Give (Refuse lane.mark release work deadline value cause) }) a b
+  refused_adds lane release work deadline value cause a b at it =
+      let job = job_of_numbers release work deadline value in record {
+        opened = at.opened ∙ sym (opens_by b Open (refused_stands a b job cause at.kept at.stands it));
+        rest = refused_text (record { at = a.mark; job = job; refusal = cause }) ∷ [];
+        due = refused_due a b job cause at.kept at.stands it;
+        marked = at.marked ∙ sym (refused_mark a b job cause at.kept at.stands it);
+        owes = (
+          ap (λ m. refused_text (record { at = m; job = job; refusal = cause }) ∷ []) (sym at.marked),
+          refused_fits a b job cause at.kept at.stands it serves lane.server at.fits,
+          (
+            subst (λ m. m < 10 ^ 18) (sym at.marked)
+                (refused_mark_short a b job cause at.kept at.stands it),
+            it.numerals,
+          ),
+        );
+        names = λ ls. tt;
+      }
 
 -- ---- a line of a lane
 
 -- a lane that goes on, and has nothing under way
-pub open_at : (lane : Lane) (i : feed.Kept) (ls : List (List ℕ)) → IsQuiet lane ls → lane.is_open ≡ true
-    → IsOpenAt (record lane { intake = i }) (account_of_lines ls)
-open_at lane i ls it opened =
-    let stands = open_stands (account_of_lines ls) (sym it.stands.opened ∙ opened) in
-    let owes : Owes Nothing lane.server (account_of_lines ls) [] =
-    subst (λ w. Owes w lane.server (account_of_lines ls) []) it.quiet it.stands.owes in
-    record { opened = opened; kept = lines_kept ls; stands = stands; fits = owes.1 stands; marked = it.stands.marked }
+pub open_at : {D : Type 0} {serves : Serving D} {having : Having D} (lane : Lane D) (i : feed.Kept)
+    (ls : List (List ℕ)) → IsQuiet serves having lane ls → lane.is_open ≡ true
+    → IsOpenAt serves (record lane { intake = i }) (account_of_lines ls)
+open_at {serves = serves} {having = having} lane i ls it opened =
+    let owes : Owes serves having Nothing lane.server (account_of_lines ls) [] =
+    subst (λ w. Owes serves having w lane.server (account_of_lines ls) []) it.quiet it.stands.owes in record {
+      opened = opened;
+      kept = lines_kept ls;
+      stands = open_stands (account_of_lines ls) (sym it.stands.opened ∙ opened);
+      fits = owes.1;
+      marked = it.stands.marked;
+    }
 
 -- a feed that was ended doesn't go on
 not_over : (fed : Fed) (a b : Account) (ended opened : Bool) → IsFed (counted a) b fed → (ended ≡ true → fed ≡ Over)
@@ -138,68 +144,61 @@ not_over fed a b true opened it over is goes_on =
     absurd (let e : true ≡ false = sym goes_on ∙ is
     ∙ opens_by b Ended (ap (λ (x : Account). x.standing) ends.after_is) in cc)
 
--- the lane after a good line
-pub taken_stands : (lane : Lane) (ls : List (List ℕ)) (line : List ℕ) (fed : Fed)
-    → feed.StandsFor lane.intake (ls ++ line ∷ [])
-    → IsFed (counted (account_of_lines ls)) (account_of_lines (ls ++ line ∷ [])) fed
-    → (feed.has_ended lane.intake ≡ true → fed ≡ Over)
-    → Adds lane (account_of_lines ls) (account_of_lines (ls ++ line ∷ []))
-    → Stands lane (ls ++ line ∷ []) (lines_added ls line)
-taken_stands lane ls line fed intake is over it = record {
-  intake = intake;
-  opened = it.opened;
-  unended = not_over fed (account_of_lines ls) (account_of_lines (ls ++ line ∷ []))
-      (feed.has_ended lane.intake) lane.is_open is over it.opened;
-  marked = it.marked;
-  owes = subst (Owes lane.work lane.server (account_of_lines (ls ++ line ∷ [])))
-      (added_is ls line it.rest it.due) it.owes;
-  jobs = it.jobs;
-  names = it.names (ls ++ line ∷ []);
-}
+module _ {D : Type 0} {serves : Serving D} {having : Having D} where
+  -- the lane after a good line
+  pub taken_stands : (lane : Lane D) (ls : List (List ℕ)) (line : List ℕ) (fed : Fed)
+      → feed.StandsFor lane.intake (ls ++ line ∷ [])
+      → IsFed (counted (account_of_lines ls)) (account_of_lines (ls ++ line ∷ [])) fed
+      → (feed.has_ended lane.intake ≡ true → fed ≡ Over)
+      → Adds serves having lane (account_of_lines ls) (account_of_lines (ls ++ line ∷ []))
+      → Stands serves having lane (ls ++ line ∷ []) (lines_added ls line)
+  taken_stands lane ls line fed intake is over it = record {
+    intake = intake;
+    opened = it.opened;
+    unended = not_over fed (account_of_lines ls) (account_of_lines (ls ++ line ∷ []))
+        (feed.has_ended lane.intake) lane.is_open is over it.opened;
+    marked = it.marked;
+    owes = subst (Owes serves having lane.work lane.server (account_of_lines (ls ++ line ∷ [])))
+        (added_is ls line it.rest it.due) it.owes;
+    names = it.names (ls ++ line ∷ []);
+  }
 
--- the lane after a faulty line
-pub fault_stands : (lane : Lane) (i : feed.Kept) (ls : List (List ℕ)) (line : List ℕ) (fault : FeedFault)
-    → feed.StandsFor i (ls ++ line ∷ []) → lane.mark ≡ (account_of_lines ls).mark
-    → jobs_in lane.server ≤ admitted_in (account_of_lines ls)
-    → NewFault line fault (account_of_lines ls) (account_of_lines (ls ++ line ∷ []))
-    → Stands (record lane { intake = i; is_open = false; work = Give (Refused fault.line fault.cause) })
-    (ls ++ line ∷ []) (lines_added ls line)
-fault_stands lane i ls line fault intake marked jobs it =
-    let stands : (account_of_lines (ls ++ line ∷ [])).standing ≡ Faulty (counted (account_of_lines ls)).lines
-    (cause_of_fault fault.cause) =
-    ap (λ (x : Account). x.standing) it.after_is in record {
-      intake = intake;
-      opened = sym (opens_by (account_of_lines (ls ++ line ∷ [])) _ stands);
-      unended = λ e. absurd (let f : false ≡ true = e in cc);
-      marked = marked ∙ sym (ap (λ (x : Account). x.mark) it.after_is);
-      owes = (
-        sym (added_is ls line _ (new_fault_due line fault (account_of_lines ls)
-            (account_of_lines (ls ++ line ∷ [])) it)),
-        λ opened. absurd (let e : Open ≡ Faulty (counted (account_of_lines ls)).lines (cause_of_fault fault.cause) =
-            sym opened ∙ stands in cc),
-        tt,
-      );
-      jobs = subst (λ n. jobs_in lane.server ≤ n)
-          (sym (ap (λ (x : Account). admitted_by x.session) it.after_is)) jobs;
-      names = record { before = ls; line = line; more = []; lines = refl; new = it };
-    }
+  -- the lane after a faulty line
+  pub fault_stands : (lane : Lane D) (i : feed.Kept) (ls : List (List ℕ)) (line : List ℕ) (fault : FeedFault)
+      → feed.StandsFor i (ls ++ line ∷ []) → IsOpenAt serves (record lane { intake = i }) (account_of_lines ls)
+      → NewFault line fault (account_of_lines ls) (account_of_lines (ls ++ line ∷ []))
+      → Stands serves having (record lane { intake = i; is_open = false; work = Give (Refused fault.line fault.cause) })
+      (ls ++ line ∷ []) (lines_added ls line)
+  fault_stands lane i ls line fault intake at it = record {
+    intake = intake;
+    opened = sym (opens_by (account_of_lines (ls ++ line ∷ [])) _ (ap (λ (x : Account). x.standing) it.after_is));
+    unended = λ e. absurd (let f : false ≡ true = e in cc);
+    marked = at.marked ∙ sym (ap (λ (x : Account). x.mark) it.after_is);
+    owes = (
+      sym (added_is ls line _ (new_fault_due line fault (account_of_lines ls)
+          (account_of_lines (ls ++ line ∷ [])) it)),
+      new_fault_fits serves line fault (account_of_lines ls)
+          (account_of_lines (ls ++ line ∷ [])) lane.server it at.fits,
+      tt,
+    );
+    names = record { before = ls; line = line; more = []; lines = refl; new = it };
+  }
 
--- the lane after a line that is disregarded
-pub over_stands : (lane : Lane) (ls : List (List ℕ)) (line : List ℕ) → IsQuiet lane ls → lane.is_open ≡ false
-    → Stands lane (ls ++ line ∷ []) (lines_added ls line)
-over_stands lane ls line it over =
-    let same : account_of_lines (ls ++ line ∷ []) ≡ account_of_lines ls =
-    account_over ls line (sym it.stands.opened ∙ over) in record {
-      intake = record { by_account = subst (feed.KeepsAccount lane.intake) (sym same) it.stands.intake.by_account };
-      opened = it.stands.opened ∙ ap is_open (sym same);
-      unended = it.stands.unended;
-      marked = it.stands.marked ∙ ap (λ (x : Account). x.mark) (sym same);
-      owes = subst (Owes lane.work lane.server (account_of_lines (ls ++ line ∷ [])))
-          (added_is ls line [] (ap due_lines same ∙ sym (append-nil (due_lines (account_of_lines ls)))))
-          (subst (λ a. Owes lane.work lane.server a []) (sym same) it.stands.owes);
-      jobs = subst (λ a. jobs_in lane.server ≤ admitted_in a) (sym same) it.stands.jobs;
-      names = subst (λ w. GivesFault w (ls ++ line ∷ [])) (sym it.quiet) tt;
-    }
+  -- the lane after a line that is disregarded
+  pub over_stands : (lane : Lane D) (ls : List (List ℕ)) (line : List ℕ) → IsQuiet serves having lane ls
+      → lane.is_open ≡ false → Stands serves having lane (ls ++ line ∷ []) (lines_added ls line)
+  over_stands lane ls line it over =
+      let same : account_of_lines (ls ++ line ∷ []) ≡ account_of_lines ls =
+      account_over ls line (sym it.stands.opened ∙ over) in record {
+        intake = record { by_account = subst (feed.KeepsAccount lane.intake) (sym same) it.stands.intake.by_account };
+        opened = it.stands.opened ∙ ap is_open (sym same);
+        unended = it.stands.unended;
+        marked = it.stands.marked ∙ ap (λ (x : Account). x.mark) (sym same);
+        owes = subst (Owes serves having lane.work lane.server (account_of_lines (ls ++ line ∷ [])))
+            (added_is ls line [] (ap due_lines same ∙ sym (append-nil (due_lines (account_of_lines ls)))))
+            (subst (λ a. Owes serves having lane.work lane.server a []) (sym same) it.stands.owes);
+        names = subst (λ w. GivesFault w (ls ++ line ∷ [])) (sym it.quiet) tt;
+      }
 
 -- what holds at Ok leads on
 pub on_ok : {T E : Type 0} (r : Result T E) {P Q : Type 0} → (P → Q) → OnOk r P → OnOk r Q

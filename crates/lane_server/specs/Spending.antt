@@ -1,14 +1,7 @@
--- What a feed's server has spent on comparisons, and on how many jobs.
-use Rattle.std.specs.Prelude.{ℕ, ◌≤◌, length, Option, Some, None}
-use Rattle.dover_core.specs.Service.{Service}
-use Rattle.dover_core.specs.Spending.{HasSpent}
+-- What a feed's server has paid for its comparisons.
+use Rattle.std.specs.Prelude.{ℕ, ◌≤◌, Option, Some, None}
 
--- how many jobs it has admitted
-abbrev pub jobs_in : Option Service → ℕ
-jobs_in None = 0
-jobs_in (Some v) = length v.state.tasks
-
--- up to here each time that a job began or ceased to wait cost 20 * d comparisons at most, and nothing else cost any
-abbrev pub HasPaid : Option Service → (start now : ℕ) → Type 0
-HasPaid None start now = now ≤ start
-HasPaid (Some v) start now = HasSpent v.state start now
+-- The server has made no more comparisons than its jobs have called for; where there is none, none were made.
+abbrev pub HasPaid : {D : Type 0} → (D → (start now : ℕ) → Type 0) → Option D → (start now : ℕ) → Type 0
+HasPaid paid None start now = now ≤ start
+HasPaid paid (Some server) start now = paid server start now

@@ -1,15 +1,17 @@
 //! One lane: a feed, the server that it feeds, and the lines that are due and not yet given.
 ghost use Rattle.std.specs.Prelude.{◌≡◌, ◌↔◌, ℕ, List, [], ◌∷◌, ◌++◌, Some, true, IsTrue, IsSome, OnOk, OnErr};
 ghost use Rattle.dover_model.specs.Feed.{Account, account_of_lines, is_open};
-ghost use Rattle.event_feed.specs.Answers.{DeclaresRatio, AddsJob, IsFed, EndAnswers, counted};
+ghost use Rattle.queued_jobs.specs.Spending.{AreFew};
+ghost use Rattle.event_feed.specs.Answers.{DeclaresRatio, AddsJob, IsFed, EndAnswers, counted, admitted_in};
 ghost use Rattle.lane_server.specs.Lanes.{lines_added, feed_short, is_fine};
 ghost use Rattle.lane_server.specs.Lane.{IsDeclared, Stands, IsQuiet, Gives, IsOpenAt, Adds};
 ghost use Rattle.lane_server.specs.Spending.{HasPaid};
 ghost use Rattle.lane_server.specs.Shorts.{short_texts};
-ghost use Rattle.lane_server.specs.declared.lane.Work.TheVariants.{Nothing, Settle, Admit, Finish};
+ghost use Rattle.lane_server.specs.declared.lane.Work.TheVariants.{Nothing, Run, Admit};
 
 use crate::out::LaneOut;
-use dover_core::{Horizon, Server};
+use dispatcher::Dispatcher;
+use dover_core::Horizon;
 use dover_model::{Job, Memory, Ratio, Version};
 use event_feed::{Fed, FeedFault, Intake};
 use std::alloc::Global;
@@ -23,30 +25,54 @@ pub(crate) enum Work {
     Nothing,
     /// One line is left.
     Give(LaneOut),
-    /// The run goes up to this mark.
-    Settle(u64),
+    /// The run goes up to this mark, or to its end.
+    Run(Horizon),
     /// The run goes up to the job's release, then the job is admitted, and the run goes up to its release with it.
     Admit(Job),
-    /// The run goes to its end.
-    Finish,
 }
 
 /// A feed, its server from the ratio line on, and what is under way: each line of the feed goes in, and then each line
 /// that is due for it comes out.
+///
+/// # Examples
+///
+/// A line of a feed goes in, and the lines that are due for it come out. The next line goes in when none is left:
+///
+/// ```
+/// let mut lane = Lane::<Server>::new();
+/// while let Some(line) = next_line() {
+///     lane.line(alloc, line)?;
+///     while let Some(out) = lane.next_out(&mut steps) {
+///         act_on(out);
+///     }
+/// }
+/// lane.end()
+/// ```
 #[derive(Drop)]
-pub struct Lane {
+pub struct Lane<D> {
     intake: Intake,
-    server: Option<Server>,
+    server: Option<D>,
     mark: u64,
     is_open: bool,
     work: Work,
 }
 
-impl Lane {
+impl<D: Dispatcher> Lane<D> {
+    ghost use Rattle.lane_server.specs.declared.lane.Lane.{Lane};
+
+    /// What holds of each lane. It does nothing.
+    pub fn laws()
+        ensures few { (lane : Lane D) (ls rest : List (List ℕ)) (start now : ℕ) →
+            Stands D.serves D.has_room lane ls rest → HasPaid D.paid lane.server start now
+            → AreFew (admitted_in (account_of_lines ls)) start now }
+    {
+        D::laws();
+    }
+
     /// No line came yet.
-    pub fn new() -> Lane
-        ensures quiet { IsQuiet result [] }
-        ensures paid { (start : ℕ) → HasPaid result.server start start }
+    pub fn new() -> Lane<D>
+        ensures quiet { IsQuiet D.serves D.has_room result [] }
+        ensures paid { (start : ℕ) → HasPaid D.paid result.server start start }
     {
         Lane {
             intake: Intake::new(),
@@ -57,17 +83,16 @@ impl Lane {
         }
     }
 
-    /// Goes on from where a feed was paused, with the intake and the server that stood there.
-    pub fn resumed(intake: Intake, server: Server) -> Lane
+    /// Goes on from where a feed was paused, at this mark, with the intake and the server that stood there.
+    pub fn resumed(intake: Intake, server: D, mark: u64) -> Lane<D>
         ensures { result ≡ record {
           intake = intake;
           server = Some server;
-          mark = server.state.clock;
+          mark = mark;
           is_open = true;
           work = Nothing;
         } }
     {
-        let mark = server.clock();
         Lane {
             intake,
             server: Some(server),
@@ -78,23 +103,25 @@ impl Lane {
     }
 
     fn declare(&mut self, alloc: Global, version: Version, k: Ratio) -> Result<(), Memory>
-        ensures adds { (a b : Account) → IsOpenAt self.old a → DeclaresRatio k version (counted a) b
-            → OnOk result (Adds self.new a b) }
-        ensures paid { (a b : Account) (start now : ℕ) → IsOpenAt self.old a → DeclaresRatio k version (counted a) b
-            → HasPaid self.old.server start now → OnOk result (HasPaid self.new.server start now) }
+        ensures adds { (a b : Account) → IsOpenAt D.serves self.old a → DeclaresRatio k version (counted a) b
+            → OnOk result (Adds D.serves D.has_room self.new a b) }
+        ensures paid { (a b : Account) (start now : ℕ) → IsOpenAt D.serves self.old a
+            → DeclaresRatio k version (counted a) b → HasPaid D.paid self.old.server start now
+            → OnOk result (HasPaid D.paid self.new.server start now) }
         ensures intake { self.new.intake ≡ self.old.intake }
     {
-        self.server = Some(Server::new(alloc, version, k)?);
+        self.server = Some(D::new(alloc, version, k)?);
         self.work = Work::Give(LaneOut::Header(version, k));
         Ok(())
     }
 
     fn arrive(&mut self, job: Job) -> Result<(), Memory>
-        requires { (n : ℕ) × (a : Account) × (b : Account) × IsOpenAt self.old a × AddsJob n job (counted a) b }
-        ensures adds { (n : ℕ) (a b : Account) → IsOpenAt self.old a → AddsJob n job (counted a) b
-            → OnOk result (Adds self.new a b) }
-        ensures paid { (start now : ℕ) → HasPaid self.old.server start now
-            → OnOk result (HasPaid self.new.server start now) }
+        requires { (n : ℕ) × (a : Account) × (b : Account) × IsOpenAt D.serves self.old a
+            × AddsJob n job (counted a) b }
+        ensures adds { (n : ℕ) (a b : Account) → IsOpenAt D.serves self.old a → AddsJob n job (counted a) b
+            → OnOk result (Adds D.serves D.has_room self.new a b) }
+        ensures paid { (start now : ℕ) → HasPaid D.paid self.old.server start now
+            → OnOk result (HasPaid D.paid self.new.server start now) }
         ensures intake { self.new.intake ≡ self.old.intake }
     {
         let Some(server) = &mut self.server else {
@@ -107,11 +134,11 @@ impl Lane {
     }
 
     fn take(&mut self, alloc: Global, fed: Fed) -> Result<(), Memory>
-        requires { (a : Account) × (b : Account) × IsOpenAt self.old a × IsFed (counted a) b fed }
-        ensures adds { (a b : Account) → IsOpenAt self.old a → IsFed (counted a) b fed
-            → OnOk result (Adds self.new a b) }
-        ensures paid { (a b : Account) (start now : ℕ) → IsOpenAt self.old a → IsFed (counted a) b fed
-            → HasPaid self.old.server start now → OnOk result (HasPaid self.new.server start now) }
+        requires { (a : Account) × (b : Account) × IsOpenAt D.serves self.old a × IsFed (counted a) b fed }
+        ensures adds { (a b : Account) → IsOpenAt D.serves self.old a → IsFed (counted a) b fed
+            → OnOk result (Adds D.serves D.has_room self.new a b) }
+        ensures paid { (a b : Account) (start now : ℕ) → IsOpenAt D.serves self.old a → IsFed (counted a) b fed
+            → HasPaid D.paid self.old.server start now → OnOk result (HasPaid D.paid self.new.server start now) }
         ensures lacks { (a b : Account) → IsFed (counted a) b fed → OnErr result (IsDeclared b) }
         ensures intake { self.new.intake ≡ self.old.intake }
     {
@@ -120,11 +147,11 @@ impl Lane {
             Fed::Job(_, job) => self.arrive(job)?,
             Fed::Tick(at) => {
                 self.mark = at;
-                self.work = Work::Settle(at);
+                self.work = Work::Run(Horizon::Mark(at));
             }
             Fed::Over => {
                 self.is_open = false;
-                self.work = Work::Finish;
+                self.work = Work::Run(Horizon::End);
             }
             Fed::Refused {
                 release,
@@ -146,19 +173,20 @@ impl Lane {
         Ok(())
     }
 
-    /// Takes the next line of the feed, without its line feed. After its end or its fault, lines are disregarded. No
+    /// Takes the next line of the feed, without its line feed, where all lines that were due before were given: at
+    /// first, and then where `next_out` has answered None. After the feed's end or its fault, lines are disregarded. No
     /// jobs are compared.
     ///
     /// # Errors
     ///
     /// `Memory` where there is none for the server or for the job; then the lane is no longer of use.
     pub fn line(&mut self, alloc: Global, line: &[u8]) -> Result<(), Memory>
-        requires { (ls : List (List ℕ)) × IsQuiet self.old ls }
-        ensures stands { (ls : List (List ℕ)) → IsQuiet self.old ls
-            → OnOk result (Stands self.new (ls ++ line.now ∷ []) (lines_added ls line.now)) }
-        ensures paid { (ls : List (List ℕ)) (start now : ℕ) → IsQuiet self.old ls → HasPaid self.old.server start now
-            → OnOk result (HasPaid self.new.server start now) }
-        ensures lacks { (ls : List (List ℕ)) → IsQuiet self.old ls
+        requires { (ls : List (List ℕ)) × IsQuiet D.serves D.has_room self.old ls }
+        ensures stands { (ls : List (List ℕ)) → IsQuiet D.serves D.has_room self.old ls
+            → OnOk result (Stands D.serves D.has_room self.new (ls ++ line.now ∷ []) (lines_added ls line.now)) }
+        ensures paid { (ls : List (List ℕ)) (start now : ℕ) → IsQuiet D.serves D.has_room self.old ls
+            → HasPaid D.paid self.old.server start now → OnOk result (HasPaid D.paid self.new.server start now) }
+        ensures lacks { (ls : List (List ℕ)) → IsQuiet D.serves D.has_room self.old ls
             → OnErr result (IsDeclared (account_of_lines (ls ++ line.now ∷ []))) }
     {
         if !self.is_open {
@@ -177,17 +205,19 @@ impl Lane {
         }
     }
 
-    fn settle<L: Ledger>(&mut self, mark: u64, steps: &mut Steps<L>) -> Option<LaneOut>
-        requires work { self.old.work ≡ Settle mark }
-        requires stands { (ls : List (List ℕ)) × (rest : List (List ℕ)) × Stands self.old ls rest }
-        ensures gives { (ls rest : List (List ℕ)) → Stands self.old ls rest → Gives result self.new ls rest }
-        ensures paid { (ls rest : List (List ℕ)) (start : ℕ) → Stands self.old ls rest
-            → HasPaid self.old.server start steps.old → HasPaid self.new.server start steps.new }
+    fn run<L: Ledger>(&mut self, to: Horizon, steps: &mut Steps<L>) -> Option<LaneOut>
+        requires work { self.old.work ≡ Run to }
+        requires stands { (ls : List (List ℕ)) × (rest : List (List ℕ)) × Stands D.serves D.has_room self.old ls rest }
+        ensures gives { (ls rest : List (List ℕ)) → Stands D.serves D.has_room self.old ls rest
+            → Gives D.serves D.has_room result self.new ls rest }
+        ensures paid { (start : ℕ) → HasPaid D.paid self.old.server start steps.old
+            → HasPaid D.paid self.new.server start steps.new }
     {
+        D::laws();
         let Some(server) = &mut self.server else {
             unreachable!();
         };
-        match server.step(Horizon::Mark(mark), steps) {
+        match server.step(to, steps) {
             Some(event) => Some(LaneOut::Step(event)),
             None => {
                 self.work = Work::Nothing;
@@ -198,38 +228,25 @@ impl Lane {
 
     fn admit<L: Ledger>(&mut self, job: Job, steps: &mut Steps<L>) -> Option<LaneOut>
         requires work { self.old.work ≡ Admit job }
-        requires stands { (ls : List (List ℕ)) × (rest : List (List ℕ)) × Stands self.old ls rest }
-        ensures gives { (ls rest : List (List ℕ)) → Stands self.old ls rest → Gives result self.new ls rest }
-        ensures paid { (ls rest : List (List ℕ)) (start : ℕ) → Stands self.old ls rest
-            → HasPaid self.old.server start steps.old → HasPaid self.new.server start steps.new }
+        requires stands { (ls : List (List ℕ)) × (rest : List (List ℕ)) × Stands D.serves D.has_room self.old ls rest }
+        ensures gives { (ls rest : List (List ℕ)) → Stands D.serves D.has_room self.old ls rest
+            → Gives D.serves D.has_room result self.new ls rest }
+        ensures paid { (start : ℕ) → HasPaid D.paid self.old.server start steps.old
+            → HasPaid D.paid self.new.server start steps.new }
     {
+        D::laws();
         let Some(server) = &mut self.server else {
             unreachable!();
         };
-        let release = job.release();
-        if let Some(event) = server.step(Horizon::Mark(release), steps) {
+        let release = Horizon::Mark(job.release());
+        if let Some(event) = server.step(release, steps) {
             return Some(LaneOut::Step(event));
         }
-        match server.admit(job) {
-            Ok(_) => {}
-            Err(_) => unreachable!(),
-        }
-        self.work = Work::Settle(release);
-        self.settle(release, steps)
-    }
-
-    fn finish<L: Ledger>(&mut self, steps: &mut Steps<L>) -> Option<LaneOut>
-        requires work { self.old.work ≡ Finish }
-        requires stands { (ls : List (List ℕ)) × (rest : List (List ℕ)) × Stands self.old ls rest }
-        ensures gives { (ls rest : List (List ℕ)) → Stands self.old ls rest → Gives result self.new ls rest }
-        ensures paid { (ls rest : List (List ℕ)) (start : ℕ) → Stands self.old ls rest
-            → HasPaid self.old.server start steps.old → HasPaid self.new.server start steps.new }
-    {
-        let Some(server) = &mut self.server else {
-            unreachable!();
-        };
-        match server.step(Horizon::End, steps) {
-            Some(event) => Some(LaneOut::Step(event)),
+        match server.admit(job, steps) {
+            Some(event) => {
+                self.work = Work::Run(release);
+                Some(LaneOut::Step(event))
+            }
             None => {
                 self.work = Work::Nothing;
                 None
@@ -239,28 +256,35 @@ impl Lane {
 
     /// The next line due. None exactly where all that is due was given.
     pub fn next_out<L: Ledger>(&mut self, steps: &mut Steps<L>) -> Option<LaneOut>
-        requires { (ls : List (List ℕ)) × (rest : List (List ℕ)) × Stands self.old ls rest }
-        ensures gives { (ls rest : List (List ℕ)) → Stands self.old ls rest → Gives result self.new ls rest }
-        ensures paid { (ls rest : List (List ℕ)) (start : ℕ) → Stands self.old ls rest
-            → HasPaid self.old.server start steps.old → HasPaid self.new.server start steps.new }
+        requires { (ls : List (List ℕ)) × (rest : List (List ℕ)) × Stands D.serves D.has_room self.old ls rest }
+        ensures gives { (ls rest : List (List ℕ)) → Stands D.serves D.has_room self.old ls rest
+            → Gives D.serves D.has_room result self.new ls rest }
+        ensures paid { (start : ℕ) → HasPaid D.paid self.old.server start steps.old
+            → HasPaid D.paid self.new.server start steps.new }
     {
-        let work = self.work;
-        match work {
+        match &self.work {
             Work::Nothing => None,
             Work::Give(out) => {
+                let out = *out;
                 self.work = Work::Nothing;
                 Some(out)
             }
-            Work::Settle(mark) => self.settle(mark, steps),
-            Work::Admit(job) => self.admit(job, steps),
-            Work::Finish => self.finish(steps),
+            Work::Run(to) => {
+                let to = *to;
+                self.run(to, steps)
+            }
+            Work::Admit(job) => {
+                let job = *job;
+                self.admit(job, steps)
+            }
         }
     }
 
     /// The line at which the feed is short where no more comes: one behind its lines. None where it has no line, or was
     /// ended or at fault.
     pub(crate) fn short(&self) -> Option<u64>
-        ensures { (ls : List (List ℕ)) → IsQuiet self.now ls → feed_short ls ≡ short_texts result }
+        ensures { (ls : List (List ℕ)) → IsQuiet D.serves D.has_room self.now ls
+            → feed_short ls ≡ short_texts result }
     {
         if !self.is_open {
             return None;
@@ -273,7 +297,7 @@ impl Lane {
 
     /// Whether the feed has no line, or was ended without a fault.
     pub(crate) fn is_fine(&self) -> bool
-        ensures { (ls rest : List (List ℕ)) → Stands self.now ls rest → result ≡ is_fine ls }
+        ensures { (ls rest : List (List ℕ)) → Stands D.serves D.has_room self.now ls rest → result ≡ is_fine ls }
     {
         match self.intake.end() {
             Ok(()) => true,
@@ -283,7 +307,8 @@ impl Lane {
 
     /// Whether the feed was neither ended nor at fault.
     pub fn goes_on(&self) -> bool
-        ensures { (ls rest : List (List ℕ)) → Stands self.now ls rest → result ≡ is_open (account_of_lines ls) }
+        ensures { (ls rest : List (List ℕ)) → Stands D.serves D.has_room self.now ls rest
+            → result ≡ is_open (account_of_lines ls) }
     {
         self.is_open
     }
@@ -294,7 +319,7 @@ impl Lane {
     ///
     /// The first fault, with its line; where there is none, that the feed is short.
     pub fn end(&self) -> Result<(), FeedFault>
-        ensures { (ls rest : List (List ℕ)) → Stands self.now ls rest → EndAnswers ls result }
+        ensures { (ls rest : List (List ℕ)) → Stands D.serves D.has_room self.now ls rest → EndAnswers ls result }
     {
         self.intake.end()
     }
@@ -314,7 +339,7 @@ impl Lane {
     }
 
     /// The server, from the ratio line on.
-    pub fn into_server(self) -> Option<Server>
+    pub fn into_server(self) -> Option<D>
         ensures { result ≡ self.server }
     {
         self.server

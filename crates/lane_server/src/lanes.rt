@@ -1,5 +1,5 @@
 //! The lanes of one input.
-ghost use Rattle.std.specs.Prelude.{◌≡◌, ◌<◌, ◌≤◌, ℕ, List, [], length, IfOk, IfSome, IsNone, Some, Ok, false};
+ghost use Rattle.std.specs.Prelude.{◌≡◌, ◌<◌, ℕ, List, [], length, IfOk, IfSome, IsNone, Some, Ok, false};
 ghost use Rattle.lane_server.specs.Lanes.{lane_count, OfLane, Close, lane_line, Handed, input_of_lines, all_ended};
 ghost use Rattle.lane_server.specs.Kept.{AllQuiet, AllStand};
 ghost use Rattle.lane_server.specs.Shorts.{IsFirstShort};
@@ -8,6 +8,7 @@ ghost use Rattle.lane_server.specs.declared.lanes.Phase.TheVariants.{Giving, Clo
 use crate::lane::Lane;
 use crate::out::LaneOut;
 use crate::reading::{LANES, LaneLine, lane_line};
+use dispatcher::Dispatcher;
 use dover_model::Memory;
 use event_feed::Cause;
 use std::alloc::Global;
@@ -51,24 +52,24 @@ enum Phase {
 
 /// Up to 64 feeds that come in one input, and what is due for them.
 #[derive(Drop)]
-pub struct Lanes {
+pub struct Lanes<D> {
     alloc: Global,
-    lanes: Vec<Lane>,
+    lanes: Vec<Lane<D>>,
     lines: u64,
     phase: Phase,
 }
 
-impl Model for Lanes {
+impl<D> Model for Lanes<D> {
     ghost use Rattle.lane_server.specs.Kept.{Kept};
 
-    ghost Value = { Kept };
+    ghost Value = { Kept D };
 
     ghost view = { λ l. record { lines = l.lines; lanes = l.lanes.items; phase = l.phase } };
 }
 
-fn new_lanes(alloc: Global) -> Result<Vec<Lane>, Memory>
+fn new_lanes<D: Dispatcher>(alloc: Global) -> Result<Vec<Lane<D>>, Memory>
     ensures count { IfOk result (λ lanes. length lanes.items ≡ lane_count) }
-    ensures quiet { IfOk result (λ lanes. AllQuiet lanes.items []) }
+    ensures quiet { IfOk result (λ lanes. AllQuiet D.serves D.has_room lanes.items []) }
 {
     let mut lanes = Vec::with_capacity(alloc, usize::from(LANES))?;
     for _ in 0..LANES {
@@ -78,10 +79,11 @@ fn new_lanes(alloc: Global) -> Result<Vec<Lane>, Memory>
 }
 
 /// The first lane from this one on that is short, and the line at which it is.
-fn next_short(lanes: &[Lane], from: u8) -> Option<(u8, u64)>
+fn next_short<D: Dispatcher>(lanes: &[Lane<D>], from: u8) -> Option<(u8, u64)>
     requires { length lanes.now ≡ lane_count }
     ensures within { IfSome result (λ short. short.0 < lane_count) }
-    ensures first { (handed : List Handed) → AllQuiet lanes.now handed → IsFirstShort result handed from }
+    ensures first { (handed : List Handed) → AllQuiet D.serves D.has_room lanes.now handed
+        → IsFirstShort result handed from }
 {
     for lane in from..LANES {
         if let Some(line) = lanes[usize::from(lane)].short() {
@@ -92,9 +94,9 @@ fn next_short(lanes: &[Lane], from: u8) -> Option<(u8, u64)>
 }
 
 /// Whether each lane that has a line is ended without a fault.
-fn all_fine(lanes: &[Lane]) -> bool
+fn all_fine<D: Dispatcher>(lanes: &[Lane<D>]) -> bool
     requires { length lanes.now ≡ lane_count }
-    ensures { (handed : List Handed) → AllStand lanes.now handed → result ≡ all_ended handed }
+    ensures { (handed : List Handed) → AllStand D.serves D.has_room lanes.now handed → result ≡ all_ended handed }
 {
     for lane in 0..LANES {
         if !lanes[usize::from(lane)].is_fine() {
@@ -104,13 +106,13 @@ fn all_fine(lanes: &[Lane]) -> bool
     true
 }
 
-impl Lanes {
+impl<D: Dispatcher> Lanes<D> {
     ghost use Rattle.lane_server.specs.Kept.{StandsFor, IsReady, is_closed, Answers, GivesNext};
 
     /// No line came yet. Err where there is no memory.
-    pub fn new(alloc: Global) -> Result<Lanes, Memory>
+    pub fn new(alloc: Global) -> Result<Lanes<D>, Memory>
         ensures ready { IfOk result (λ lanes. IsReady lanes) }
-        ensures stands { IfOk result (λ lanes. StandsFor lanes [] []) }
+        ensures stands { IfOk result (λ lanes. StandsFor D.serves D.has_room lanes [] []) }
     {
         Ok(Lanes {
             alloc,
@@ -122,12 +124,12 @@ impl Lanes {
 
     fn feed(&mut self, lane: u8, line: &[u8]) -> Result<LaneStep, LaneFault>
         requires ready { IsReady self.old }
-        requires stands { (ls : List (List ℕ)) × StandsFor self.old ls [] }
+        requires stands { (ls : List (List ℕ)) × StandsFor D.serves D.has_room self.old ls [] }
         requires room { self.old.lines < 4_000_000 }
         requires lane { lane < lane_count }
-        ensures { (ls : List (List ℕ)) (bytes : List ℕ) → StandsFor self.old ls []
+        ensures { (ls : List (List ℕ)) (bytes : List ℕ) → StandsFor D.serves D.has_room self.old ls []
             → lane_line bytes ≡ Some (OfLane lane line.now) →
-            Answers result self.old self.new ls bytes }
+            Answers D.serves D.has_room result self.old self.new ls bytes }
     {
         match self.lanes[usize::from(lane)].line(self.alloc, line) {
             Ok(()) => {
@@ -142,19 +144,22 @@ impl Lanes {
     fn close(&mut self) -> LaneStep
         requires ready { IsReady self.old }
         requires room { self.old.lines < 4_000_000 }
-        ensures { (ls : List (List ℕ)) (bytes : List ℕ) → StandsFor self.old ls [] → lane_line bytes ≡ Some Close →
-            Answers (Ok result) self.old self.new ls bytes }
+        ensures { (ls : List (List ℕ)) (bytes : List ℕ) → StandsFor D.serves D.has_room self.old ls []
+            → lane_line bytes ≡ Some Close →
+            Answers D.serves D.has_room (Ok result) self.old self.new ls bytes }
     {
         self.lines += 1;
         self.phase = Phase::Closing(0);
         LaneStep::Closed
     }
 
-    /// Takes the next line of the input, without its line feed.
+    /// Takes the next line of the input, without its line feed, where all lines that were due before were given: at
+    /// first, and then where `next_out` has answered None.
     pub fn line(&mut self, line: &[u8]) -> Result<LaneStep, LaneFault>
         requires ready { IsReady self.old }
-        requires stands { (ls : List (List ℕ)) × StandsFor self.old ls [] }
-        ensures { (ls : List (List ℕ)) → StandsFor self.old ls [] → Answers result self.old self.new ls line.now }
+        requires stands { (ls : List (List ℕ)) × StandsFor D.serves D.has_room self.old ls [] }
+        ensures { (ls : List (List ℕ)) → StandsFor D.serves D.has_room self.old ls []
+            → Answers D.serves D.has_room result self.old self.new ls line.now }
     {
         if self.lines >= MOST_LINES {
             return Err(LaneFault::Lines);
@@ -168,8 +173,10 @@ impl Lanes {
 
     fn give<L: Ledger>(&mut self, lane: u8, steps: &mut Steps<L>) -> Option<(u8, LaneOut)>
         requires phase { self.old.phase ≡ Giving lane }
-        requires stands { (ls : List (List ℕ)) × (rest : List (List ℕ)) × StandsFor self.old ls rest }
-        ensures gives { (ls rest : List (List ℕ)) → StandsFor self.old ls rest → GivesNext result self.new ls rest }
+        requires stands { (ls : List (List ℕ)) × (rest : List (List ℕ))
+            × StandsFor D.serves D.has_room self.old ls rest }
+        ensures gives { (ls rest : List (List ℕ)) → StandsFor D.serves D.has_room self.old ls rest
+            → GivesNext D.serves D.has_room result self.new ls rest }
         ensures ready { IsNone result → is_closed self.old ≡ false → IsReady self.new }
         ensures closed { is_closed self.new ≡ is_closed self.old }
     {
@@ -184,8 +191,10 @@ impl Lanes {
 
     fn give_short(&mut self, from: u8) -> Option<(u8, LaneOut)>
         requires phase { self.old.phase ≡ Closing from }
-        requires stands { (ls : List (List ℕ)) × (rest : List (List ℕ)) × StandsFor self.old ls rest }
-        ensures gives { (ls rest : List (List ℕ)) → StandsFor self.old ls rest → GivesNext result self.new ls rest }
+        requires stands { (ls : List (List ℕ)) × (rest : List (List ℕ))
+            × StandsFor D.serves D.has_room self.old ls rest }
+        ensures gives { (ls rest : List (List ℕ)) → StandsFor D.serves D.has_room self.old ls rest
+            → GivesNext D.serves D.has_room result self.new ls rest }
         ensures ready { IsNone result → is_closed self.old ≡ false → IsReady self.new }
         ensures closed { is_closed self.new ≡ is_closed self.old }
     {
@@ -204,8 +213,10 @@ impl Lanes {
 
     /// The next line due, and the lane that it is of.
     pub fn next_out<L: Ledger>(&mut self, steps: &mut Steps<L>) -> Option<(u8, LaneOut)>
-        requires stands { (ls : List (List ℕ)) × (rest : List (List ℕ)) × StandsFor self.old ls rest }
-        ensures gives { (ls rest : List (List ℕ)) → StandsFor self.old ls rest → GivesNext result self.new ls rest }
+        requires stands { (ls : List (List ℕ)) × (rest : List (List ℕ))
+            × StandsFor D.serves D.has_room self.old ls rest }
+        ensures gives { (ls rest : List (List ℕ)) → StandsFor D.serves D.has_room self.old ls rest
+            → GivesNext D.serves D.has_room result self.new ls rest }
         ensures ready { IsNone result → is_closed self.old ≡ false → IsReady self.new }
         ensures closed { is_closed self.new ≡ is_closed self.old }
     {
@@ -225,8 +236,8 @@ impl Lanes {
 
     /// Whether each lane that has a line is ended without a fault.
     pub fn all_ended(&self) -> bool
-        requires { (ls : List (List ℕ)) × (rest : List (List ℕ)) × StandsFor self.now ls rest }
-        ensures { (ls rest : List (List ℕ)) → StandsFor self.now ls rest
+        requires { (ls : List (List ℕ)) × (rest : List (List ℕ)) × StandsFor D.serves D.has_room self.now ls rest }
+        ensures { (ls rest : List (List ℕ)) → StandsFor D.serves D.has_room self.now ls rest
             → result ≡ all_ended (input_of_lines ls).handed }
     {
         all_fine(&self.lanes)

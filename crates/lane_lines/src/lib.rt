@@ -1,0 +1,6 @@
+//! The lines that a lane gives, as they are written.
+#![tactic(auto)]
+
+mod writing;
+
+pub use writing::write_out;
