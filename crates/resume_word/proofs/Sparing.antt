@@ -11,8 +11,8 @@ use Rattle.dover_port.specs.Moves.Move.{Got}
 use Rattle.dover_port.specs.declared.status.Status.{Status}
 use Rattle.dover_port.specs.declared.status.Status.TheVariants.{Done, No, Refused, ReadFault, WriteFault, Memory, Usage}
 use Rattle.dover_port.proofs.Made.{since_none, since_then, since_then_at, since_weaker, ins-append}
-use Rattle.dover_core.specs.Spending.{waits_so_far, AreFew}
-use Rattle.dover_core.proofs.Spending.{so_far_most, all_few}
+use Rattle.queued_jobs.specs.Spending.{waits_so_far, AreFew}
+use Rattle.queued_jobs.proofs.Spending.{among_most, all_few}
 use Rattle.event_feed.specs.Answers.{admitted_in}
 use Rattle.snapshot.specs.Snapshot.{MayPause, snapshot}
 use Rattle.snapshot.specs.Reading.{reading_of}
@@ -30,7 +30,8 @@ use Rattle.resume_word.proofs.Reading.{FeedWith, rest_behind, since_each}
 few_kept : (o : Option Resuming) (start now n : ℕ) → HasSpentOn o start now → jobs_kept o ≤ n → AreFew n start now
 few_kept None start now n none few = λ d enough. omega (arith, none)
 few_kept (Some r) start now n spent few = λ d enough.
-    let most : waits_so_far r.server.state ≤ 4 * length r.server.state.tasks = so_far_most r.server.state in
+    let most : waits_so_far r.server.state ≤ 4 * length r.server.state.tasks =
+    among_most (length r.server.state.tasks) r.server.state in
     all_few n d (waits_so_far r.server.state) start now (omega (arith, most, few))
     (spent d (omega (arith, few, enough)))
 

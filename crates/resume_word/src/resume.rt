@@ -1,7 +1,7 @@
 //! Reading a snapshot, and what follows it.
 ghost use Rattle.std.specs.Prelude.{◌≡◌, ◌++◌, ℕ, List};
 ghost use Rattle.dover_model.specs.Feed.{account};
-ghost use Rattle.dover_core.specs.Spending.{AreFew};
+ghost use Rattle.queued_jobs.specs.Spending.{AreFew};
 ghost use Rattle.dover_port.specs.Causes.{Causes, IsAnswer, StopsWith};
 ghost use Rattle.dover_port.specs.Moves.{Since, ins};
 ghost use Rattle.event_feed.specs.Answers.{admitted_in};

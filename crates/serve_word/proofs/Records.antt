@@ -17,11 +17,12 @@ use Rattle.serve_word.specs.From.{MayReadFrom, EndsAt, ServesFrom, ServesRest}
 use Rattle.serve_word.specs.Pausing as pausing
 use Rattle.serve_word.specs.Record.{Ends, Serves}
 use Rattle.serve_word.specs.Talking.{Call, due_behind, IsServedAs, serve_talk}
+use Rattle.serve_word.specs.declared.at_end.AtEnd.{AtEnd}
 use Rattle.serve_word.specs.declared.at_end.AtEnd.TheVariants.{Refuse, Pause}
 use Rattle.serve_word.proofs.Accounts.{said_ended, faulty_closed, closed_is}
 use Rattle.serve_word.proofs.Talking.{whole_due}
 
-module _ (c : Call) where
+module _ (at_end : AtEnd) (c : Call) where
   -- what was put, behind what was due for the feed
   due_put : (got put : List ℕ) → put ≡ due_behind c.feed got → due c.feed ++ put ≡ due (c.feed ++ got)
   due_put got put is = ap (λ l. due c.feed ++ l) is ∙ whole_due c.feed got
@@ -33,14 +34,14 @@ module _ (c : Call) where
       (it.0, it.1, sym is ∙ ap (λ l. due c.feed ++ l) it.2 ∙ sym (append_assoc (due c.feed) put it.0))
 
   -- before each read
-  reads_from : (moves : List Move) (got put : List ℕ) → EachReadFrom (talk.MayRead (serve_talk c)) got put moves
+  reads_from : (moves : List Move) (got put : List ℕ) → EachReadFrom (talk.MayRead (serve_talk at_end c)) got put moves
       → EachReadFrom (MayReadFrom c.feed) got put moves
-  reads_from moves got put it = reads_weaker (talk.MayRead (serve_talk c)) (MayReadFrom c.feed)
+  reads_from moves got put it = reads_weaker (talk.MayRead (serve_talk at_end c)) (MayReadFrom c.feed)
       (λ g p may. (due_put g p may.0, may.1)) got put moves it
 
   -- how it ends
-  pub ends_from : (status : Status) (moves : List Move) → talk.Ends (serve_talk c) status moves
-      → EndsAt c.feed c.at_end status (ins moves) (outs moves) (has_ended moves)
+  pub ends_from : (status : Status) (moves : List Move) → talk.Ends (serve_talk at_end c) status moves
+      → EndsAt c.feed at_end status (ins moves) (outs moves) (has_ended moves)
   ends_from Done moves made = made.answer
   ends_from No moves made = absurd made.answer
   ends_from Refused moves made = made.answer
@@ -52,12 +53,12 @@ module _ (c : Call) where
   ))
   ends_from WriteFault moves (inr it) = by it.status it.answer where
     -- the feed is over, so its input hasn't ended
-    unended : (e : Bool) → IsOver (serve_talk c) (ins moves) e → is_open (account (c.feed ++ ins moves)) ≡ false
+    unended : (e : Bool) → IsOver (serve_talk at_end c) (ins moves) e → is_open (account (c.feed ++ ins moves)) ≡ false
         → e ≡ false
     unended e over closed = sym over ∙ closed
 
-    by : (status : Status) → IsServedAs c (ins moves) (has_ended moves) status it.text
-        → EndsAt c.feed c.at_end WriteFault (ins moves) (outs moves) (has_ended moves)
+    by : (status : Status) → IsServedAs at_end c (ins moves) (has_ended moves) status it.text
+        → EndsAt c.feed at_end WriteFault (ins moves) (outs moves) (has_ended moves)
     by Done (inl done) = inr (inr (
       unended (has_ended moves) it.over (said_ended (account (c.feed ++ ins moves)) done.0),
       front_put (outs moves) it.text (due (c.feed ++ ins moves)) done.1 it.front,
@@ -92,15 +93,15 @@ module _ (c : Call) where
   )
   ends_from Usage moves made = absurd made
 
-  pub serves_from : (status : Status) (moves : List Move) → Talks (serve_talk c) status moves
-      → ServesFrom c.feed c.at_end status moves
+  pub serves_from : (status : Status) (moves : List Move) → Talks (serve_talk at_end c) status moves
+      → ServesFrom c.feed at_end status moves
   serves_from status moves it =
       record { reads = reads_from moves [] [] it.reads; ends = ends_from status moves it.ends }
 
   -- where a first piece was read before
   pub serves_rest : (status : Status) (piece : List ℕ) (moves : List Move)
-      → Talks (serve_talk c) status (read_before piece ++ moves)
-      → ServesRest c.feed piece c.at_end status moves
+      → Talks (serve_talk at_end c) status (read_before piece ++ moves)
+      → ServesRest c.feed piece at_end status moves
   serves_rest status [] moves it =
       record { reads = reads_from moves [] [] it.reads; ends = ends_from status moves it.ends }
   serves_rest status (byte ∷ bytes) moves it = record {
@@ -109,7 +110,7 @@ module _ (c : Call) where
   }
 
   -- the statuses
-  pub answers : (status : Status) → CanEnd (serve_talk c) status → IsAnswer status
+  pub answers : (status : Status) → CanEnd (serve_talk at_end c) status → IsAnswer status
   answers Done it = tt
   answers No it = absurd it.answer
   answers Refused it = tt

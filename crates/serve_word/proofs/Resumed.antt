@@ -5,25 +5,27 @@ use Rattle.dover_model.specs.State.{State}
 use Rattle.dover_model.specs.Lines.{lines_of, is_too_long}
 use Rattle.dover_model.specs.Feed.{account}
 use Rattle.dover_model.proofs.Barriers.{settled_at_barrier}
-use Rattle.dover_core.specs.Service.{Service}
-use Rattle.dover_core.specs.Spending.{HasSpent}
+use Rattle.dover_core.specs.Service.{Service, Stands}
+use Rattle.queued_jobs.specs.Spending.{HasSpent}
+use Rattle.dispatcher.specs.Dispatch.{due_by}
+use Rattle.dispatcher.specs.Serving.{Serves, HasRoom, HasPaid as HasSpentBy}
 use Rattle.event_feed.specs.Kept as feed
 use Rattle.line_text.specs.Cutting.{begun_line, is_over}
 use Rattle.lane_server.specs.Lane.{Fits, IsQuiet}
 use Rattle.lane_server.specs.Spending.{HasPaid}
 use Rattle.lane_server.specs.declared.lane.Lane.{Lane}
 use Rattle.lane_server.specs.declared.lane.Work.TheVariants.{Nothing}
-use Rattle.lane_server.proofs.Admitted.{fits_jobs}
+use Rattle.lane_server.proofs.Adding.{reach_open}
 use Rattle.snapshot.specs.Snapshot.{MayPause}
 use Rattle.snapshot.specs.Feeds.{ResumesFeed}
 use Rattle.snapshot.proofs.Feeds.{opened, holds}
 use Rattle.serve_word.specs.Feeding.{FeedRests}
 use Rattle.serve_word.specs.Talking.{Call, IsReady}
-use Rattle.serve_word.specs.declared.at_end.AtEnd.{AtEnd}
 use Rattle.serve_word.specs.declared.feed.Feed.{Feed}
 use Rattle.serve_word.proofs.Accounts.{opens}
 
-module _ (F : List ℕ) (may : MayPause F) (v : Service) (i : feed.Kept) (it : ResumesFeed v i F) where
+module _ (F : List ℕ) (may : MayPause F) (v : Service) (stands : Stands v) (i : feed.Kept)
+    (it : ResumesFeed v i F) where
   -- the clock of the server is the mark
   clock_is : v.state.clock ≡ (account F).mark
   clock_is = ap (λ (s : State). s.clock) it.state
@@ -31,54 +33,53 @@ module _ (F : List ℕ) (may : MayPause F) (v : Service) (i : feed.Kept) (it : R
       (account F).mark).clock
 
   -- the server has taken the feed to its mark
-  fits : Fits (account F) (Some v)
+  fits : Fits Serves (account F) (Some v)
   fits = (
     it.session,
     it.named,
-    record { jobs = it.list; printed = it.printed; last = it.ready.1; goes_on = it.goes_on },
+    subst (λ h. Serves v (instance_of it.session) h (due_by (instance_of it.session) h))
+        (sym (reach_open (account F) (opened F may)))
+        (record { stands = stands; jobs = it.list; last = it.ready.1; come = it.printed }),
   )
 
   -- the lane that goes on with it
-  abbrev lane : Lane
+  abbrev lane : Lane Service
   lane = record { intake = i; server = Some v; mark = v.state.clock; is_open = true; work = Nothing }
 
-  lane_rests : IsQuiet lane (lines_of F)
+  lane_rests : IsQuiet Serves HasRoom lane (lines_of F)
   lane_rests = record {
     stands = record {
       intake = it.stands;
       opened = sym (opens (account F) (opened F may));
       unended = λ is. it.going.not_ended;
       marked = clock_is;
-      owes = (refl, λ open_still. fits);
-      jobs = fits_jobs (account F) (Some v) fits;
+      owes = (refl, fits);
       names = tt;
     };
     quiet = refl;
   }
 
-  pub resumed_rests : (f : Feed) → begun_line f.lines ≡ [] → is_over f.lines.last ≡ false → f.lane ≡ lane
-      → FeedRests f F
+  pub resumed_rests : (f : Feed Service) → begun_line f.lines ≡ [] → is_over f.lines.last ≡ false → f.lane ≡ lane
+      → FeedRests Serves HasRoom f F
   resumed_rests f none over is = record {
     cut = λ open_still. (
       record { rest = none ∙ sym may.whole; over = over ∙ sym (ap is_too_long may.whole) },
       ap is_too_long may.whole,
     );
-    lane = subst (λ l. IsQuiet l (lines_of F)) (sym is) lane_rests;
+    lane = subst (λ l. IsQuiet Serves HasRoom l (lines_of F)) (sym is) lane_rests;
   }
 
 -- ---- a call that goes on with it
 
 -- what it is about
-abbrev pub call_on : (F : List ℕ) → MayPause F → AtEnd → ℕ → Call
-call_on F may at_end start =
-    record { feed = F; goes_on = opens (account F) (opened F may); at_end = at_end; start = start }
+abbrev pub call_on : (F : List ℕ) → MayPause F → ℕ → Call
+call_on F may start = record { feed = F; goes_on = opens (account F) (opened F may); start = start }
 
 -- it is ready
-pub ready_on : (F : List ℕ) (may : MayPause F) (at_end : AtEnd) (start steps : ℕ) (f : Feed) (v : Service)
-    → FeedRests f F → f.lane.server ≡ Some v → HasSpent v.state start steps
-    → IsReady (call_on F may at_end start) f at_end steps []
-ready_on F may at_end start steps f v rests there spent = record {
-  rests = subst (FeedRests f) (sym (append-nil F)) rests;
-  paid = subst (λ o. HasPaid o start steps) (sym there) spent;
-  at_end_is = refl;
+pub ready_on : (F : List ℕ) (may : MayPause F) (start steps : ℕ) (f : Feed Service) (v : Service)
+    → FeedRests Serves HasRoom f F → f.lane.server ≡ Some v → HasSpent v.state start steps
+    → IsReady Serves HasRoom HasSpentBy (call_on F may start) f steps []
+ready_on F may start steps f v rests there spent = record {
+  rests = subst (FeedRests Serves HasRoom f) (sym (append-nil F)) rests;
+  paid = subst (λ o. HasPaid HasSpentBy o start steps) (sym there) spent;
 }

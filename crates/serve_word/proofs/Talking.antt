@@ -1,7 +1,7 @@
 -- A feed that is served, as a talk.
 use Rattle.std.proofs.Common.{◌≡◌, ◌<◌, ◌^◌, ◌-◌, ℕ, suc, List, [], ◌∷◌, ◌++◌, length, map, refl, sym, ap, ◌∙◌, subst}
 use Rattle.std.proofs.Common.{arith, append_assoc, append-nil, length-append, Bool, true, false, cond, inl, inr}
-use Rattle.std.proofs.Common.{Ok, Err}
+use Rattle.std.proofs.Common.{Result, Ok, Err, Option}
 use Rattle.std.specs.Prelude.{drop}
 use Rattle.std.proofs.lemmas.List.{length-map}
 use Rattle.dover_model.specs.declared.Memory.{Memory as Lacking}
@@ -21,16 +21,21 @@ use Rattle.event_feed.proofs.Admitting.{admitted_front}
 use Rattle.event_feed.proofs.Counting.{lines_counted}
 use Rattle.event_feed.proofs.GoingOn.{closed_account, open_bytes}
 use Rattle.dialogue.specs.Talk.{IsSteady, IsOver}
-use Rattle.dialogue.specs.Turns.{joined}
-use Rattle.dover_core.specs.Spending.{AreFew}
-use Rattle.lane_server.specs.Lane.{IsDeclared, IsFaulty}
+use Rattle.dialogue.specs.Turns.{joined, AnswersBy}
+use Rattle.dialogue.specs.declared.talker.Stop.{Stop}
+use Rattle.dialogue.specs.declared.talker.Stop.TheVariants.{NoMemory, Unwritten}
+use Rattle.dover_port.specs.Moves.{Move}
+use Rattle.dover_core.specs.Service.{Service}
+use Rattle.queued_jobs.specs.Spending.{AreFew}
+use Rattle.dispatcher.specs.Serving as server
+use Rattle.lane_server.specs.Lane.{IsDeclared, IsFaulty, Serving, Having}
 use Rattle.lane_server.specs.Spending.{HasPaid}
 use Rattle.lane_server.proofs.Adding.{open_stands}
 use Rattle.lane_server.proofs.Few.{owes_few}
-use Rattle.lane_server.proofs.Paying.{paid_few, few_more}
+use Rattle.queued_jobs.proofs.Spending.{few_more}
 use Rattle.serve_word.specs.Closing.{PausesAt}
 use Rattle.serve_word.specs.Pausing.{CanPause}
-use Rattle.serve_word.specs.Feeding.{FeedStands, Hands}
+use Rattle.serve_word.specs.Feeding.{FeedStands, FeedRests, Hands}
 use Rattle.serve_word.specs.Talking.{Call, due_behind, IsServedAs, serve_talk, Costs, IsGiving, IsReady}
 use Rattle.serve_word.specs.declared.at_end.AtEnd.{AtEnd}
 use Rattle.serve_word.specs.declared.at_end.AtEnd.TheVariants.{Refuse, Pause}
@@ -94,35 +99,36 @@ module _ (c : Call) where
         ∙ sym (closed_is (c.feed ++ x) over)
 
     -- and the answer
-    answered : (status : Status) (text : List ℕ) → IsServedAs c x false status text
-        → IsServedAs c (x ++ y) false status text
-    answered Done text (inl it) = inl (ap is_ended same ∙ it.0, it.1 ∙ sym same_due)
-    answered Done text (inr it) = never it.0
-    answered Refused text (inl faulty, it) = (inl (subst IsFaulty (sym same) faulty), it ∙ sym same_closed)
-    answered Refused text (inr cut, it) = never cut.0
-    answered No text it = absurd it
-    answered ReadFault text it = absurd it
-    answered WriteFault text it = absurd it
-    answered Memory text it = absurd it
-    answered Usage text it = absurd it
+    answered : (at_end : AtEnd) (status : Status) (text : List ℕ) → IsServedAs at_end c x false status text
+        → IsServedAs at_end c (x ++ y) false status text
+    answered at_end Done text (inl it) = inl (ap is_ended same ∙ it.0, it.1 ∙ sym same_due)
+    answered at_end Done text (inr it) = never it.0
+    answered at_end Refused text (inl faulty, it) = (inl (subst IsFaulty (sym same) faulty), it ∙ sym same_closed)
+    answered at_end Refused text (inr cut, it) = never cut.0
+    answered at_end No text it = absurd it
+    answered at_end ReadFault text it = absurd it
+    answered at_end WriteFault text it = absurd it
+    answered at_end Memory text it = absurd it
+    answered at_end Usage text it = absurd it
 
-  pub steady : IsSteady (serve_talk c)
-  steady = record {
+  pub steady : (at_end : AtEnd) → IsSteady (serve_talk at_end c)
+  steady at_end = record {
     opens = ap (λ x. is_open (account x)) (append-nil c.feed) ∙ c.goes_on;
     nothing = dropped (due c.feed) [] (due (c.feed ++ []))
         (ap due (append-nil c.feed) ∙ sym (append-nil (due c.feed)));
     grows = grows;
     stays = λ x y over. ap is_open (same x y over) ∙ over;
-    answered = λ x y status text over it. answered x y over status text it;
+    answered = λ x y status text over it. answered x y over at_end status text it;
     lacking = λ x y it. (
       it.0,
       subst (λ z. IsDeclared (account z)) (sym (joins x y)) (declared_front (c.feed ++ x) y it.1),
     );
   }
 
-  module _ (feed : Feed) (at_end : AtEnd) (steps : ℕ) where
+  module _ {D : Type 0} (serves : Serving D) (has_room : Having D) (pays : D → (start now : ℕ) → Type 0) (feed : Feed D)
+      (steps : ℕ) where
     -- a feed that goes on has few bytes
-    pub few : (x : List ℕ) → IsReady c feed at_end steps x → is_open (account (c.feed ++ x)) ≡ true
+    pub few : (x : List ℕ) → IsReady serves has_room pays c feed steps x → is_open (account (c.feed ++ x)) ≡ true
         → length x < 2 ^ 64 - 1
     few x at goes = omega (
       arith,
@@ -131,32 +137,23 @@ module _ (c : Call) where
     )
 
     -- few lines are left to give
-    pub few_parts : (x : List ℕ) (parts : List (List ℕ)) → IsGiving c feed at_end steps x parts
+    pub few_parts : (x : List ℕ) (parts : List (List ℕ)) → IsGiving serves has_room pays c feed steps x parts
         → length parts < 2 ^ 64 - 1
     few_parts x parts at = omega (
       arith,
       ap (λ (l : List (List ℕ)). length l) at.parts_are,
       length-map at.left (λ (l : List ℕ). l ++ 10 ∷ []),
-      owes_few feed.lane.work feed.lane.server (account (c.feed ++ x)) at.left at.stands.lane.owes,
+      owes_few serves has_room feed.lane.work feed.lane.server (account (c.feed ++ x)) at.left at.stands.lane.owes,
     )
-
-    -- few comparisons were made
-    pub spent : (x : List ℕ) (parts : List (List ℕ)) → IsGiving c feed at_end steps x parts → Costs c steps x
-    spent x parts at = paid_few feed.lane.server (admitted_in (account (c.feed ++ x))) c.start steps at.paid
-        at.stands.lane.jobs
-
-    pub rested : (x : List ℕ) → IsReady c feed at_end steps x → Costs c steps x
-    rested x at = paid_few feed.lane.server (admitted_in (account (c.feed ++ x))) c.start steps at.paid
-        at.rests.lane.stands.jobs
 
     -- ---- a front of a piece
 
     -- it was taken
-    pub taken : (y : Unit {0}) (x front : List ℕ) → Hands feed (c.feed ++ x) front (Ok y)
-        → HasPaid feed.lane.server c.start steps → at_end ≡ c.at_end
+    pub taken : (y : Unit {0}) (x front : List ℕ) → Hands serves has_room feed (c.feed ++ x) front (Ok y)
+        → HasPaid pays feed.lane.server c.start steps
         → (parts : List (List ℕ)) × (due_behind c.feed (x ++ front) ≡ due_behind c.feed x ++ joined parts)
-        × IsGiving c feed at_end steps (x ++ front) parts
-    taken y x front it paid is = (
+        × IsGiving serves has_room pays c feed steps (x ++ front) parts
+    taken y x front it paid = (
       map (λ line. line ++ 10 ∷ []) it.0,
       behind_more c.feed x front (joined (map (λ line. line ++ 10 ∷ []) it.0))
           (ap due (joins x front) ∙ ap in_lines it.1 ∙ in_lines-append (due_lines (account (c.feed ++ x))) it.0
@@ -164,15 +161,14 @@ module _ (c : Call) where
       record {
         left = it.0;
         parts_are = refl;
-        stands = subst (λ z. FeedStands feed z it.0) (sym (joins x front)) it.2;
+        stands = subst (λ z. FeedStands serves has_room feed z it.0) (sym (joins x front)) it.2;
         paid = paid;
-        at_end_is = is;
       },
     )
 
     -- there was no memory
     pub lacked : (e : Lacking) (x front behind piece : List ℕ) → piece ≡ front ++ behind
-        → Hands feed (c.feed ++ x) front (Err e) → IsDeclared (account (c.feed ++ (x ++ piece)))
+        → Hands serves has_room feed (c.feed ++ x) front (Err e) → IsDeclared (account (c.feed ++ (x ++ piece)))
     lacked e x front behind piece cut it = subst (λ z. IsDeclared (account z))
         (append_assoc (c.feed ++ x) front behind ∙ ap (λ l. (c.feed ++ x) ++ l) (sym cut) ∙ sym (joins x piece))
         (declared_front ((c.feed ++ x) ++ front) behind it)
@@ -186,15 +182,20 @@ module _ (c : Call) where
   -- ---- the answer
 
   -- the feed has ended
-  pub done : (x : List ℕ) (ended : Bool) → (account (c.feed ++ x)).standing ≡ feeds.Ended
-      → IsServedAs c x ended Done (due_behind c.feed x ++ [])
-  done x ended is = inl (ended_is (account (c.feed ++ x)) is, due_then c.feed x [] ∙ append-nil (due (c.feed ++ x)))
+  pub done : (at_end : AtEnd) (x : List ℕ) (ended : Bool) → (account (c.feed ++ x)).standing ≡ feeds.Ended
+      → IsServedAs at_end c x ended Done (due_behind c.feed x ++ [])
+  done at_end x ended is = inl (
+    ended_is (account (c.feed ++ x)) is,
+    due_then c.feed x []
+        ∙ append-nil (due (c.feed ++ x)),
+  )
 
   module _ (x : List ℕ) (ended : Bool) (fault : FeedFault)
       (answers : EndAnswers {X = Unit {0}} (lines_of (c.feed ++ x)) (Err fault)) where
     -- it is at fault
-    pub faulty : is_open (account (c.feed ++ x)) ≡ false → IsServedAs c x ended Refused (due_behind c.feed x ++ [])
-    faulty over = (
+    pub faulty : (at_end : AtEnd) → is_open (account (c.feed ++ x)) ≡ false
+        → IsServedAs at_end c x ended Refused (due_behind c.feed x ++ [])
+    faulty at_end over = (
       inl (by answers),
       due_then c.feed x [] ∙ append-nil (due (c.feed ++ x)) ∙ sym (closed_is (c.feed ++ x) over),
     ) where
@@ -233,25 +234,17 @@ module _ (c : Call) where
         by (inr was) = absurd (let e = sym (open_stands (account (c.feed ++ x)) goes) ∙ was in cc)
 
       -- its snapshot can be put
-      pub can_pause : (feed : Feed) (at_end : AtEnd) (steps : ℕ) → IsReady c feed at_end steps x
-          → PausesAt at_end (c.feed ++ x) → CanPause feed (fault.line - 1) (c.feed ++ x)
-      can_pause feed at_end steps at pauses = record {
-        rests = at.rests;
-        goes_on = goes;
-        may = by at_end pauses;
-        count = lines_before;
-      } where
-        by : (e : AtEnd) → PausesAt e (c.feed ++ x) → MayPause (c.feed ++ x)
-        by Refuse none = absurd none
-        by Pause may = may
+      pub can_pause : (feed : Feed Service) → FeedRests server.Serves server.HasRoom feed (c.feed ++ x)
+          → MayPause (c.feed ++ x) → CanPause feed (fault.line - 1) (c.feed ++ x)
+      can_pause feed rests may = record { rests = rests; goes_on = goes; may = may; count = lines_before }
 
-      module _ (over : IsOver (serve_talk c) x ended) where
+      module _ (at_end : AtEnd) (over : IsOver (serve_talk at_end c) x ended) where
         -- the input has ended before it
         input_ended : ended ≡ true
         input_ended = sym over ∙ goes
 
         -- so it is refused, unless it is paused
-        pub cut_off : (PausesAt c.at_end (c.feed ++ x) → ⊥) → IsServedAs c x ended Refused
+        pub cut_off : (PausesAt at_end (c.feed ++ x) → ⊥) → IsServedAs at_end c x ended Refused
             (due_behind c.feed x ++ (fault_text fault.line (cause_of_fault fault.cause) ++ 10 ∷ []))
         cut_off pauses = (
           inr (input_ended, goes, pauses),
@@ -264,6 +257,31 @@ module _ (c : Call) where
         )
 
         -- it is paused
-        pub paused : PausesAt c.at_end (c.feed ++ x)
-            → IsServedAs c x ended Done (due_behind c.feed x ++ snapshot (c.feed ++ x))
+        pub paused : PausesAt at_end (c.feed ++ x)
+            → IsServedAs at_end c x ended Done (due_behind c.feed x ++ snapshot (c.feed ++ x))
         paused pauses = inr (input_ended, pauses, due_then c.feed x (snapshot (c.feed ++ x)))
+
+-- ---- a feed that may be paused
+
+-- where it isn't paused, it is answered as one that never is
+pub unpaused : (c : Call) (x : List ℕ) (ended : Bool) → (MayPause (c.feed ++ x) → ⊥) → (status : Status) (text : List ℕ)
+    → IsServedAs Refuse c x ended status text → IsServedAs Pause c x ended status text
+unpaused c x ended never Done text (inl it) = inl it
+unpaused c x ended never Done text (inr paused) = absurd paused.1
+unpaused c x ended never Refused text (inl faulty, it) = (inl faulty, it)
+unpaused c x ended never Refused text (inr cut, it) = (inr (cut.0, cut.1, never), it)
+unpaused c x ended never No text it = absurd it
+unpaused c x ended never ReadFault text it = absurd it
+unpaused c x ended never WriteFault text it = absurd it
+unpaused c x ended never Memory text it = absurd it
+unpaused c x ended never Usage text it = absurd it
+
+-- and so the whole answer
+pub unpaused_answer : (c : Call) (x : List ℕ) (ended : Bool) → (MayPause (c.feed ++ x) → ⊥)
+    → (old new : Option (List Move)) (after : List ℕ) (r : Result Status Stop)
+    → AnswersBy (serve_talk Refuse c) x ended old new after r → AnswersBy (serve_talk Pause c) x ended old new after r
+unpaused_answer c x ended never old new after (Ok status) it =
+    (it.0, (it.1.0, unpaused c x ended never status (due_behind c.feed x ++ it.1.0) it.1.1, it.1.2))
+unpaused_answer c x ended never old new after (Err NoMemory) it = it
+unpaused_answer c x ended never old new after (Err Unwritten) it =
+    (it.0, it.1, unpaused c x ended never it.0 (due_behind c.feed x ++ it.1) it.2, it.3)

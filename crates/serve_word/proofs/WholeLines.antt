@@ -1,16 +1,12 @@
 -- What a whole line adds, where no line has begun.
-use Rattle.std.proofs.Common.{◌≡◌, ℕ, ◌<◌, ◌≤◌, ◌+◌, ◌-◌, List, [], ◌∷◌, ◌++◌, length, take, get_or, refl, sym, ap, ◌∙◌}
-use Rattle.std.proofs.Common.{suc, zero, arith}
-use Rattle.std.proofs.Common.{Bool, true, false, cond, not, length-append}
-use Rattle.std.specs.Prelude.{◌==◌}
-use Rattle.std.specs.List.{list_all}
-use Rattle.std.proofs.lemmas.List.{append-nil, take_at, take_more}
+use Rattle.std.proofs.Common.{◌≡◌, ℕ, ◌+◌, ◌-◌, List, [], ◌∷◌, ◌++◌, length, take, refl, sym, ap, ◌∙◌}
+use Rattle.std.proofs.Common.{arith}
+use Rattle.std.proofs.Common.{cond, length-append}
+use Rattle.std.proofs.lemmas.List.{append-nil, take_at}
 use Rattle.std.proofs.lemmas.List.Concat.{flat_map-cons}
-use Rattle.std.proofs.lemmas.Bool.{and_from, eqb-true}
 use Rattle.dover_model.specs.Lines.{cut, whole_lines, rest_of, lines_of, is_too_long}
 use Rattle.dover_model.proofs.Cuts.{CutText, HasNoFeed, onto, cut_append, cut_in_lines}
-use Rattle.line_text.specs.Cutting.{Cutting, begun_line}
-use Rattle.serve_word.specs.Feeding.{IsWholeLine}
+use Rattle.line_text.specs.Cutting.{Cutting, begun_line, IsWholeLine}
 
 -- where no line has begun, the lines are the whole ones
 lines_whole : (bytes : List ℕ) → rest_of bytes ≡ [] → lines_of bytes ≡ whole_lines bytes
@@ -56,28 +52,3 @@ module _ (c : Cutting) (x bytes : List ℕ) (it : IsWholeLine c bytes) (cut_so :
   pub whole_more : lines_of (x ++ bytes) ≡ lines_of x ++ take (length bytes - 1) bytes ∷ []
   whole_more = ap (λ bs. lines_of (x ++ bs)) it.ended ∙ line_more x it.line it.one (sym cut_so ∙ it.fresh)
       ∙ ap (λ l. lines_of x ++ l ∷ []) (sym without_feed)
-
--- ---- the first line feed
-
--- bytes of which none is a line feed
-none_feed : (bytes : List ℕ) (n : ℕ) → n ≤ length bytes → ((k : ℕ) → k < n → (get_or bytes k 0 == 10) ≡ true → ⊥)
-    → HasNoFeed (take n bytes)
-none_feed bytes zero within none = refl
-none_feed [] (suc n) within none = absurd (omega arith)
-none_feed (b ∷ bytes) (suc n) within none =
-    and_from (not (b == 10)) (list_all (λ c. not (c == 10)) (take n bytes)) (by (b == 10) refl)
-    (none_feed bytes n (omega arith) (λ k less. none (suc k) (omega arith))) where
-      by : (c : Bool) → (b == 10) ≡ c → not c ≡ true
-      by true is = absurd (none zero (omega arith) is)
-      by false is = refl
-
--- the bytes up to the first line feed, with it, are a whole line
-pub first_whole : (c : Cutting) (bytes : List ℕ) (at : ℕ) → at < length bytes
-    → ((k : ℕ) → k < at → (get_or bytes k 0 == 10) ≡ true → ⊥)
-    → (get_or bytes at 0 == 10) ≡ true → begun_line c ≡ [] → IsWholeLine c (take (at + 1) bytes)
-first_whole c bytes at within none feed fresh = record {
-  line = take at bytes;
-  ended = take_more bytes at 0 within ∙ ap (λ b. take at bytes ++ b ∷ []) (eqb-true _ _ feed);
-  one = none_feed bytes at (omega arith) none;
-  fresh = fresh;
-}

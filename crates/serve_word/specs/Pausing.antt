@@ -7,6 +7,7 @@ use Rattle.dover_port.specs.declared.status.Status.{Status}
 use Rattle.dover_port.specs.declared.status.Status.TheVariants.{Done, Refused, ReadFault, WriteFault, Memory}
 use Rattle.snapshot.specs.Snapshot.{MayPause, head_line, state_line, snapshot}
 use Rattle.dover_core.specs.Service.{Service}
+use Rattle.dispatcher.specs.Serving as server
 use Rattle.lane_server.specs.Lane.{IsFaulty}
 use Rattle.serve_word.specs.Feeding.{FeedRests}
 use Rattle.serve_word.specs.Record.{MayRead, IsDone, IsUnread, IsOutOfMemory}
@@ -53,8 +54,8 @@ pub record Pauses (status : Status) (moves : List Move) : Type 0 where
 -- ---- the snapshot
 
 -- a feed of so many lines stands for these bytes, goes on, and may pause
-pub record CanPause (feed : Feed) (lines : ℕ) (x : List ℕ) : Type 0 where
-  pub rests : FeedRests feed x
+pub record CanPause (feed : Feed Service) (lines : ℕ) (x : List ℕ) : Type 0 where
+  pub rests : FeedRests server.Serves server.HasRoom feed x
   pub goes_on : is_open (account x) ≡ true
   pub may : MayPause x
   pub count : lines ≡ (account x).lines

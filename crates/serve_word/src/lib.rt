@@ -3,8 +3,8 @@
 
 mod at_end;
 mod feed;
-mod lines;
 mod pause;
+mod pausing;
 mod serving;
 mod words;
 

@@ -1,19 +1,18 @@
 //! The snapshot of a feed that is paused where its input ends.
-ghost use Rattle.std.specs.Prelude.{◌≡◌, ◌≤◌, ◌↔◌, ◌++◌, ◌∷◌, [], ℕ, List, IsTrue, true, map, codes};
-ghost use Rattle.dover_model.specs.Feed.{account, is_open};
+ghost use Rattle.std.specs.Prelude.{◌≡◌, ◌≤◌, ◌↔◌, ◌++◌, ◌∷◌, [], ℕ, List, IsTrue, map, codes};
+ghost use Rattle.dover_model.specs.Feed.{account};
 ghost use Rattle.dover_model.specs.Lines.{in_lines};
 ghost use Rattle.dover_model.specs.Limits.{most_lines, last_tick};
-ghost use Rattle.dover_core.specs.Spending.{AreFew};
+ghost use Rattle.dispatcher.specs.Serving as kept;
+ghost use Rattle.queued_jobs.specs.Spending.{AreFew};
 ghost use Rattle.event_feed.specs.Answers.{admitted_in};
 ghost use Rattle.dover_port.specs.Causes.{HasCause, StopsAtFailure};
 ghost use Rattle.dover_port.specs.Moves.{PutsThrough};
 ghost use Rattle.lane_server.specs.Spending.{HasPaid};
 ghost use Rattle.snapshot.specs.Snapshot.{MayPause, state_line, snapshot};
-ghost use Rattle.serve_word.specs.Closing.{PausesAt};
 ghost use Rattle.serve_word.specs.Feeding.{FeedRests};
 ghost use Rattle.serve_word.specs.Pausing.{CanPause, lines_in};
 
-use crate::at_end::AtEnd;
 use crate::feed::Feed;
 use dover_core::{Horizon, Server};
 use dover_port::{Failed, Output, Port};
@@ -92,28 +91,26 @@ fn put_snapshot<P: Port>(
     put_last(port, out)
 }
 
-/// Whether a feed that goes on is paused where its input ends: its ratio was declared, and no line has begun.
-pub(crate) fn is_paused(feed: &Feed, at_end: AtEnd) -> bool
-    ensures { (x : List ℕ) → FeedRests feed.now x → is_open (account x) ≡ true → IsTrue result ↔ PausesAt at_end x }
+/// Whether a feed is paused where its input ends: its ratio was declared, it goes on, and no line has begun.
+pub(crate) fn is_paused(feed: &Feed<Server>) -> bool
+    ensures { (x : List ℕ) → FeedRests kept.Serves kept.HasRoom feed.now x → IsTrue result ↔ MayPause x }
 {
-    match at_end {
-        AtEnd::Refuse => false,
-        AtEnd::Pause => feed.lane.has_server() && feed.lines.rest() == 0,
-    }
+    feed.lane.goes_on() && feed.lane.has_server() && feed.lines.rest() == 0
 }
 
 /// Puts the snapshot of a feed of so many lines.
 pub(crate) fn pause<P: Port, L: Ledger>(
     port: &mut P,
     out: &mut Output,
-    feed: Feed,
+    feed: Feed<Server>,
     lines: u64,
     steps: &mut Steps<L>,
 ) -> Result<(), Failed>
     requires { (x : List ℕ) × CanPause feed lines x }
     ensures text { (x : List ℕ) → CanPause feed lines x →
         PutsThrough (P.moves port.old) (P.moves port.new) result out.old out.new (snapshot x) }
-    ensures paid { (x : List ℕ) (start : ℕ) → CanPause feed lines x → HasPaid feed.lane.server start steps.old →
+    ensures paid { (x : List ℕ) (start : ℕ) → CanPause feed lines x
+        → HasPaid kept.HasPaid feed.lane.server start steps.old →
         AreFew (admitted_in (account x)) start steps.new }
     ensures cause { HasCause (P.write_faults port.old) (P.write_faults port.new) (P.read_faults port.old)
         (P.read_faults port.new) result }

@@ -1,55 +1,61 @@
 //! What the reading loop calls: a feed that is served.
 ghost use Rattle.std.specs.Prelude.{◌≡◌};
 ghost use Rattle.serve_word.specs.Talking.{Call, serve_talk, IsGiving, IsReady, Costs};
+ghost use Rattle.serve_word.specs.declared.at_end.AtEnd.TheVariants.{Refuse};
 
-use crate::at_end::AtEnd;
-use crate::feed::{Feed, front};
-use crate::lines::out_line;
-use crate::pause::{is_paused, pause};
+use crate::feed::Feed;
 use dialogue::{Stop, Talker};
+use dispatcher::Dispatcher;
 use dover_model::Memory;
 use dover_port::{Output, Port, Status};
+use lane_lines::write_out;
+use lane_server::Lane;
 use line_output::put_fault;
 use line_text::BackLine;
 use std::marker::PhantomData;
 use std::sync::ledger::Ledger;
 use step_count::Steps;
 
-/// A feed that is served, and what is done where its input ends.
+/// A feed that is served, and is refused as short where its input ends.
 #[derive(Drop)]
-pub(crate) struct Serving<L: Ledger> {
-    pub(crate) feed: Feed,
-    pub(crate) at_end: AtEnd,
+pub(crate) struct Serving<D, L: Ledger> {
+    pub(crate) feed: Feed<D>,
     pub(crate) counts: PhantomData<L>,
 }
 
-impl<L: Ledger> Talker for Serving<L> {
+impl<D: Dispatcher, L: Ledger> Talker for Serving<D, L> {
     type Meter = Steps<L>;
 
     ghost about = { Call };
 
-    ghost talk = { λ call. serve_talk call };
+    ghost talk = { λ call. serve_talk Refuse call };
 
-    ghost stands = { λ call s steps. IsGiving call s.feed s.at_end steps };
+    ghost stands = { λ call s steps. IsGiving D.serves D.has_room D.paid call s.feed steps };
 
-    ghost ready = { λ call s steps. IsReady call s.feed s.at_end steps };
+    ghost ready = { λ call s steps. IsReady D.serves D.has_room D.paid call s.feed steps };
 
     ghost costs = { λ call steps. Costs call steps };
 
-    fn laws() {}
+    fn laws() {
+        Lane::<D>::laws();
+    }
 
     fn take(&mut self, _meter: &mut Steps<L>, piece: &[u8]) -> Result<usize, Memory> {
-        let count = front(&self.feed.lines, piece);
+        Lane::<D>::laws();
+        let count = self.feed.lines.front(piece);
         match self.feed.take_front(&piece[..count]) {
             Ok(()) => Ok(count),
             Err(error) => Err(error),
         }
     }
 
-    fn next_part(&mut self, meter: &mut Steps<L>) -> Option<BackLine> {
+    fn next_part(&mut self, meter: &mut Steps<L>, part: &mut BackLine) -> bool {
         match self.feed.lane.next_out(meter) {
-            Some(out) => Some(out_line(out)),
-            None => None,
+            Some(out) => {
+                write_out(&out, part);
+                true
+            }
+            None => false,
         }
     }
 
@@ -59,22 +65,17 @@ impl<L: Ledger> Talker for Serving<L> {
 
     fn answer<P: Port>(
         self,
-        meter: &mut Steps<L>,
+        _meter: &mut Steps<L>,
         port: &mut P,
         out: &mut Output,
         _ended: bool,
     ) -> Result<Status, Stop> {
+        Lane::<D>::laws();
         let Err(fault) = self.feed.lane.end() else {
             return Ok(Status::Done);
         };
         if !self.feed.lane.goes_on() {
             return Ok(Status::Refused);
-        }
-        if is_paused(&self.feed, self.at_end) {
-            return match pause(port, out, self.feed, fault.line - 1, meter) {
-                Ok(()) => Ok(Status::Done),
-                Err(_) => Err(Stop::Unwritten),
-            };
         }
         match put_fault(port, out, fault) {
             Ok(()) => Ok(Status::Refused),

@@ -1,6 +1,6 @@
 //! The words, and the feed that goes on from its snapshot.
 ghost use Rattle.std.specs.Prelude.{◌≡◌, ◌++◌, ℕ, List};
-ghost use Rattle.dover_core.specs.Spending.{AreFew, HasSpent};
+ghost use Rattle.queued_jobs.specs.Spending.{AreFew, HasSpent};
 ghost use Rattle.dover_model.specs.Feed.{account};
 ghost use Rattle.dover_port.specs.Causes.{Causes, IsAnswer, StopsWith};
 ghost use Rattle.dover_port.specs.Moves.{Since, ins};
@@ -13,11 +13,13 @@ ghost use Rattle.serve_word.specs.Record.{Serves, IsFrugal};
 
 use crate::at_end::AtEnd;
 use crate::feed::Feed;
+use crate::pausing::Pausing;
 use crate::serving::Serving;
 use dialogue::{converse, converse_on};
 use dover_core::Server;
 use dover_port::{Port, Status};
 use event_feed::Intake;
+use ready_server::ReadyServer;
 use std::alloc::Global;
 use std::marker::PhantomData;
 use std::sync::ledger::Ledger;
@@ -34,8 +36,7 @@ pub fn serve_word<P: Port, L: Ledger>(alloc: Global, port: &mut P, steps: &mut S
     ensures stops { StopsWith result (P.calls port.old) (P.calls port.new) }
 {
     let serving = Serving {
-        feed: Feed::new(alloc),
-        at_end: AtEnd::Refuse,
+        feed: Feed::<ReadyServer>::new(alloc),
         counts: PhantomData,
     };
     converse(port, serving, steps)
@@ -53,10 +54,9 @@ pub fn pause_word<P: Port, L: Ledger>(alloc: Global, port: &mut P, steps: &mut S
 {
     let serving = Serving {
         feed: Feed::new(alloc),
-        at_end: AtEnd::Pause,
         counts: PhantomData,
     };
-    converse(port, serving, steps)
+    converse(port, Pausing { serving }, steps)
 }
 
 /// Serves a feed on from where it was paused, with the server and the intake that its snapshot gave. Of the feed's
@@ -85,8 +85,10 @@ pub fn serve_on<P: Port, L: Ledger>(
 {
     let serving = Serving {
         feed: Feed::resumed(alloc, server, intake),
-        at_end,
         counts: PhantomData,
     };
-    converse_on(port, serving, steps, rest)
+    match at_end {
+        AtEnd::Refuse => converse_on(port, serving, steps, rest),
+        AtEnd::Pause => converse_on(port, Pausing { serving }, steps, rest),
+    }
 }

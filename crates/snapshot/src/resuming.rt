@@ -6,7 +6,7 @@ ghost use Rattle.dover_model.specs.declared.events.Task.{Task};
 ghost use Rattle.dover_model.specs.WholeRun.{IsBarrier};
 ghost use Rattle.dover_core.specs.declared.horizon.Horizon.TheVariants.{Mark};
 ghost use Rattle.dover_core.specs.Service.{MayFollow, list_of};
-ghost use Rattle.dover_core.specs.Spending.{HasSpent};
+ghost use Rattle.queued_jobs.specs.Spending.{HasSpent};
 ghost use Rattle.snapshot.specs.Snapshot as model;
 ghost use Rattle.snapshot.specs.Kept.{IsServed, MayAdmit, IsAt, AreAt, IsReading, Begins, Answers};
 ghost use Rattle.snapshot.specs.Reading.{reading_of};

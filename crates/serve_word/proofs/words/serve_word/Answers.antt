@@ -7,35 +7,32 @@ use Rattle.serve_word.proofs.words.serve_word.Goals as goal
 
 pub converse-requires : goal.converse-requires
 converse-requires g c = (
-  record { feed = []; goes_on = refl; at_end = Refuse; start = c.args.steps.now },
-  record { rests = c.new.ensures.rests; paid = c.new.ensures.paid c.args.steps.now; at_end_is = refl },
+  record { feed = []; goes_on = refl; start = c.args.steps.now },
+  record { rests = c.new.ensures.rests; paid = c.new.ensures.paid c.args.steps.now },
 )
 
 pub returns-clause-serves : goal.returns-clause-serves
 returns-clause-serves g c =
-    let call : Call = record { feed = []; goes_on = refl; at_end = Refuse; start = c.args.steps.now } in
+    let call : Call = record { feed = []; goes_on = refl; start = c.args.steps.now } in
     since_weaker _ _ _ _ (c.converse.ensures.talks call (record {
       rests = c.new.ensures.rests;
       paid = c.new.ensures.paid c.args.steps.now;
-      at_end_is = refl;
     }))
-    (λ moves it. serves_whole c.converse.result moves (serves_from call c.converse.result moves it.0))
+    (λ moves it. serves_whole c.converse.result moves (serves_from Refuse call c.converse.result moves it.0))
 
 pub returns-clause-count : goal.returns-clause-count
 returns-clause-count g c =
-    let call : Call = record { feed = []; goes_on = refl; at_end = Refuse; start = c.args.steps.now } in
+    let call : Call = record { feed = []; goes_on = refl; start = c.args.steps.now } in
     since_weaker _ _ _ _ (c.converse.ensures.talks call (record {
       rests = c.new.ensures.rests;
       paid = c.new.ensures.paid c.args.steps.now;
-      at_end_is = refl;
     }))
     (λ moves it. it.1)
 
 pub returns-clause-answer : goal.returns-clause-answer
 returns-clause-answer g c =
-    let call : Call = record { feed = []; goes_on = refl; at_end = Refuse; start = c.args.steps.now } in
-    answers call c.converse.result (c.converse.ensures.answer call (record {
+    let call : Call = record { feed = []; goes_on = refl; start = c.args.steps.now } in
+    answers Refuse call c.converse.result (c.converse.ensures.answer call (record {
       rests = c.new.ensures.rests;
       paid = c.new.ensures.paid c.args.steps.now;
-      at_end_is = refl;
     }))

@@ -6,8 +6,8 @@ pub next_out-requires : goal.next_out-requires
 next_out-requires g c =
     let at = c.requires.3 in (lines_of (c.requires.0.feed ++ c.requires.1), at.left, at.stands.lane)
 
-pub out_line-requires : goal.out_line-requires
-out_line-requires g c =
+pub write_out-requires : goal.write_out-requires
+write_out-requires g c =
     let at = c.requires.3 in
     (c.in-Some.ensures.gives (lines_of (c.requires.0.feed ++ c.requires.1)) at.left at.stands.lane).3
 
@@ -17,13 +17,12 @@ returns-in-Some g c = record {
       let given = c.in-Some.ensures.gives (lines_of (a.feed ++ x)) at.left at.stands.lane in (
         map (λ line. line ++ 10 ∷ []) given.0,
         at.parts_are ∙ ap (map (λ line. line ++ 10 ∷ [])) given.1
-            ∙ ap (λ part. part ∷ map (λ line. line ++ 10 ∷ []) given.0) (sym c.out_line.ensures),
+            ∙ ap (λ part. part ∷ map (λ line. line ++ 10 ∷ []) given.0) (sym c.write_out.ensures.text),
         record {
           left = given.0;
           parts_are = refl;
           stands = record { cut = at.stands.cut; lane = given.2 };
-          paid = c.in-Some.ensures.paid (lines_of (a.feed ++ x)) at.left a.start at.stands.lane at.paid;
-          at_end_is = at.at_end_is;
+          paid = c.in-Some.ensures.paid a.start at.paid;
         },
       );
 }
@@ -35,8 +34,7 @@ returns-in-None g c = record {
         at.parts_are ∙ ap (map (λ line. line ++ 10 ∷ [])) given.0,
         record {
           rests = record { cut = at.stands.cut; lane = given.1 };
-          paid = c.in-None.ensures.paid (lines_of (a.feed ++ x)) at.left a.start at.stands.lane at.paid;
-          at_end_is = at.at_end_is;
+          paid = c.in-None.ensures.paid a.start at.paid;
         },
       );
 }

@@ -1,0 +1,70 @@
+//! What the reading loop calls: a feed that is served, and may be paused.
+ghost use Rattle.std.specs.Prelude.{◌≡◌};
+ghost use Rattle.dispatcher.specs.Serving.{Serves, HasRoom, HasPaid};
+ghost use Rattle.serve_word.specs.Talking.{Call, serve_talk, IsGiving, IsReady, Costs};
+ghost use Rattle.serve_word.specs.declared.at_end.AtEnd.TheVariants.{Pause};
+
+use crate::pause::{is_paused, pause};
+use crate::serving::Serving;
+use dialogue::{Stop, Talker};
+use dover_core::Server;
+use dover_model::Memory;
+use dover_port::{Output, Port, Status};
+use line_text::BackLine;
+use std::sync::ledger::Ledger;
+use step_count::Steps;
+
+/// A feed that is served, and is paused where its input ends, if its ratio was declared and no line has begun.
+#[derive(Drop)]
+pub(crate) struct Pausing<L: Ledger> {
+    pub(crate) serving: Serving<Server, L>,
+}
+
+impl<L: Ledger> Talker for Pausing<L> {
+    type Meter = Steps<L>;
+
+    ghost about = { Call };
+
+    ghost talk = { λ call. serve_talk Pause call };
+
+    ghost stands = { λ call s steps. IsGiving Serves HasRoom HasPaid call s.serving.feed steps };
+
+    ghost ready = { λ call s steps. IsReady Serves HasRoom HasPaid call s.serving.feed steps };
+
+    ghost costs = { λ call steps. Costs call steps };
+
+    fn laws() {
+        Serving::<Server, L>::laws();
+    }
+
+    fn take(&mut self, meter: &mut Steps<L>, piece: &[u8]) -> Result<usize, Memory> {
+        self.serving.take(meter, piece)
+    }
+
+    fn next_part(&mut self, meter: &mut Steps<L>, part: &mut BackLine) -> bool {
+        self.serving.next_part(meter, part)
+    }
+
+    fn goes_on(&self, meter: &Steps<L>) -> bool {
+        self.serving.goes_on(meter)
+    }
+
+    fn answer<P: Port>(
+        self,
+        meter: &mut Steps<L>,
+        port: &mut P,
+        out: &mut Output,
+        ended: bool,
+    ) -> Result<Status, Stop> {
+        if !is_paused(&self.serving.feed) {
+            return self.serving.answer(meter, port, out, ended);
+        }
+        let Err(fault) = self.serving.feed.lane.end() else {
+            unreachable!();
+        };
+        match pause(port, out, self.serving.feed, fault.line - 1, meter) {
+            Ok(()) => Ok(Status::Done),
+            Err(_) => Err(Stop::Unwritten),
+        }
+    }
+}
