@@ -1,24 +1,15 @@
 -- No line that is due has a line feed, nor has a line of a text.
-use Rattle.std.proofs.Common.{◌≡◌, ◌<◌, ◌≤◌, ℕ, zero, suc, ◌+◌, ◌/◌, ◌%◌, List, [], ◌∷◌, ◌++◌, map, refl, sym, ap, ◌∙◌}
+use Rattle.std.proofs.Common.{◌≡◌, ℕ, suc, List, [], ◌∷◌, refl, ap}
 use Rattle.std.proofs.Common.{Option, Some, None, Bool}
 use Rattle.std.proofs.Common.{true, false}
-use Rattle.std.proofs.Common.{cond, not, ◌&&◌, ◌==◌, arith, decimal, codes, nat_le}
-use Rattle.std.specs.List.{AllByRecursion, list_all, slice_split, onto_first}
-use Rattle.std.specs.Str.{all_ascii_digits}
-use Rattle.std.specs.Char.{is_ascii_digit}
-use Rattle.std.specs.Fmt.{digits, digits_onto, digit_glyph}
-use Rattle.std.proofs.lemmas.Bool.{ne_eqb, leb-true, le-leb, lt-ltb, and_parts, and_from}
-use Rattle.std.proofs.lemmas.List.Folds.{list_all-append}
-use Rattle.dover_model.specs.declared.events.Refusal.{Refusal}
-use Rattle.dover_model.specs.declared.events.Refusal.TheVariants.{BadJob, Count, Total, Ratio}
-use Rattle.dover_model.specs.declared.events.Event.TheVariants.{Release, Run, Preempt, Take, Complete, Abandon, End}
-use Rattle.dover_model.specs.JobFacts.{job_numbers}
-use Rattle.dover_model.specs.Lines.{whole_and_rest, whole_lines, rest_of, lines_of, is_too_long, line_of, with_numbers}
+use Rattle.std.proofs.Common.{cond, not, ◌&&◌, decimal, codes}
+use Rattle.std.specs.List.{AllByRecursion, slice_split, onto_first}
+use Rattle.std.proofs.lemmas.Bool.{and_from}
+use Rattle.dover_model.specs.Lines.{whole_and_rest, whole_lines, rest_of, lines_of, is_too_long}
 use Rattle.dover_model.specs.Session.{Session, instance_of}
 use Rattle.dover_model.specs.Run.{printed}
 use Rattle.dover_model.specs.Settled.{settled}
-use Rattle.dover_model.specs.Text.{version_number, refusal_word}
-use Rattle.dover_model.specs.Trace.{TraceLine, Printed, Refuses, text_of_line, texts_among}
+use Rattle.dover_model.specs.Trace.{texts_among}
 use Rattle.dover_model.specs.Feed.{Account, Standing, Open, Ended, Faulty, Cause, Lines, Line, Declared, Order}
 use Rattle.dover_model.specs.Feed.{NotAdmitted, Short, is_ended, is_open}
 use Rattle.dover_model.specs.Due.{due_lines, decided_lines, fault_lines, fault_text, cause_word, short_lines}

@@ -2,7 +2,7 @@
 use Rattle.std.proofs.Common.{◌≡◌, ◌<◌, ◌≤◌, ◌+◌, ℕ, suc, List, [], ◌∷◌, ◌++◌, length, refl, sym, ap, ◌∙◌, subst}
 use Rattle.std.proofs.Common.{Option, Some, None, Bool, true}
 use Rattle.std.proofs.Common.{false, cond}
-use Rattle.std.proofs.Common.{append_assoc, append-nil, arith, length-append, codes, bytes_eq}
+use Rattle.std.proofs.Common.{append_assoc, append-nil, arith, codes, bytes_eq}
 use Rattle.std.specs.Prelude.{nat_lt}
 use Rattle.std.specs.List.{fold}
 use Rattle.std.proofs.lemmas.Bool.{lt-ltb, ltb-true, ltb-false}
@@ -11,16 +11,15 @@ use Rattle.dover_model.specs.Limits.{most_lines}
 use Rattle.dover_model.specs.Lines.{cut, whole_lines, rest_of, lines_of, is_too_long, fields_of}
 use Rattle.dover_model.specs.WholeRun.{Begins}
 use Rattle.dover_model.proofs.Accounts.{longer, counted_lines, first_counts}
-use Rattle.dover_model.proofs.Beginnings.{begins_itself, begins_onward}
+use Rattle.dover_model.proofs.Beginnings.{begins_in_lines}
 use Rattle.dover_model.proofs.Cuts.{CutText, onto, first_part, cut_append, first_onto}
 use Rattle.lane_server.specs.Lanes.{LaneLine, OfLane, Close, lane_line, numbered_line, Handed, Input, InputStanding}
 use Rattle.lane_server.specs.Lanes.{Open, Closed, Faulty}
 use Rattle.lane_server.specs.Lanes.{TooManyLines, BadLane}
 use Rattle.lane_server.specs.Lanes.{no_input, next_line, read_lane_line, with_lane_line, goes_on, input_of_lines, input}
-use Rattle.lane_server.specs.Lanes.{newly_due, due_after}
+use Rattle.lane_server.specs.Lanes.{newly_due, due_after, lane_due}
 use Rattle.line_text.proofs.Lengths.{AreNotTooLong, text_few}
 use Rattle.lanes_word.specs.Record.{HasLine}
-use Rattle.lanes_word.specs.Delivered.{last_lines, due_so_far}
 
 -- an input
 abbrev input_with : ℕ → List Handed → InputStanding → Input
@@ -54,75 +53,36 @@ pub due_fed : (handed : List Handed) (h : Handed)
 due_fed handed h = due_after-append [] handed (h ∷ [])
     ∙ ap (λ ls. due_after [] handed ++ ls) (append-nil (newly_due handed h))
 
--- while the input goes on there are no last lines
-pub due_open : (a : Input) → a.standing ≡ Open → due_so_far a ≡ due_after [] a.handed
-due_open a stands = ap (λ s. due_after [] a.handed ++ last_lines (record a { standing = s })) stands
-    ∙ append-nil (due_after [] a.handed)
-
 -- ---- one line more
 
--- a line hands in one line or none, and what was due begins what is due
-pub record Grows (a b : Input) : Type 0 where
-  pub more : List Handed
-  pub handed : b.handed ≡ a.handed ++ more
-  pub due : Begins (due_so_far a) (due_so_far b)
-
--- nothing has changed
-grows_none : (a : Input) → Grows a a
-grows_none a = record { more = []; handed = sym (append-nil a.handed); due = begins_itself (due_so_far a) }
-
--- one after another
-grows_then : (a b c : Input) → Grows a b → Grows b c → Grows a c
-grows_then a b c first second = record {
-  more = first.more ++ second.more;
-  handed = second.handed ∙ ap (λ hs. hs ++ second.more) first.handed ∙ append_assoc a.handed first.more second.more;
-  due = begins_onward (due_so_far a) (due_so_far b) (due_so_far c) first.due second.due;
-}
-
--- lines behind those that are due so far
-begins_last : (xs ys : List (List ℕ)) → Begins (xs ++ []) (xs ++ ys)
-begins_last xs ys = (ys, ap (λ zs. zs ++ ys) (sym (append-nil xs)))
+-- more lines hand in more lines or none
+abbrev Grows : Input → Input → Type 0
+Grows a b = (more : List Handed) × (b.handed ≡ a.handed ++ more)
 
 -- a line
 line_grows : (lines : ℕ) (handed : List Handed) (s : InputStanding) (l : List ℕ)
     → Grows (input_with lines handed s) (next_line (input_with lines handed s) l)
-line_grows lines handed Closed l = grows_none (input_with lines handed Closed)
-line_grows lines handed (Faulty line fault) l = grows_none (input_with lines handed (Faulty line fault))
+line_grows lines handed Closed l = ([], sym (append-nil handed))
+line_grows lines handed (Faulty line fault) l = ([], sym (append-nil handed))
 line_grows lines handed Open l = by_tests (nat_lt most_lines (suc lines)) (lane_line l) where
-  last : (s : InputStanding) → Grows (input_with lines handed Open) (input_with (suc lines) handed s)
-  last s = record {
-    more = [];
-    handed = sym (append-nil handed);
-    due = begins_last (due_after [] handed) (last_lines (input_with (suc lines) handed s));
-  }
-
   by_tests : (b : Bool) (o : Option LaneLine)
       → Grows (input_with lines handed Open)
       (cond b (input_with (suc lines) handed (Faulty (suc lines) TooManyLines)) (elim o [
         | None ↦ input_with (suc lines) handed (Faulty (suc lines) BadLane)
         | Some line ↦ with_lane_line (input_with (suc lines) handed Open) line
       ]))
-  by_tests true o = last (Faulty (suc lines) TooManyLines)
-  by_tests false None = last (Faulty (suc lines) BadLane)
-  by_tests false (Some Close) = last Closed
-  by_tests false (Some (OfLane lane line)) = record {
-    more = record { lane = lane; line = line } ∷ [];
-    handed = refl;
-    due = (
-      newly_due handed (record { lane = lane; line = line }),
-      append-nil (due_after [] (handed ++ record { lane = lane; line = line } ∷ []))
-          ∙ due_fed handed (record { lane = lane; line = line })
-          ∙ ap (λ ls. ls ++ newly_due handed (record { lane = lane; line = line }))
-          (sym (append-nil (due_after [] handed))),
-    );
-  }
+  by_tests true o = ([], sym (append-nil handed))
+  by_tests false None = ([], sym (append-nil handed))
+  by_tests false (Some Close) = ([], sym (append-nil handed))
+  by_tests false (Some (OfLane lane line)) = (record { lane = lane; line = line } ∷ [], refl)
 
 -- many lines
 lines_grow : (ls : List (List ℕ)) (a : Input) → Grows a (fold next_line a ls)
-lines_grow [] a = grows_none a
+lines_grow [] a = ([], sym (append-nil a.handed))
 lines_grow (l ∷ ls) a =
-    grows_then a (next_line a l) (fold next_line (next_line a l) ls) (line_grows a.lines a.handed a.standing l)
-    (lines_grow ls (next_line a l))
+    let one : Grows a (next_line a l) = line_grows a.lines a.handed a.standing l in
+    let more : Grows (next_line a l) (fold next_line (next_line a l) ls) = lines_grow ls (next_line a l) in
+    (one.0 ++ more.0, more.1 ∙ ap (λ hs. hs ++ more.0) one.1 ∙ append_assoc a.handed one.0 more.0)
 
 -- an input that doesn't go on stays
 lines_stay : (ls : List (List ℕ)) (a : Input) → goes_on a ≡ false → fold next_line a ls ≡ a
@@ -199,22 +159,28 @@ module _ (F G : List ℕ) where
           ∙ ap (λ a. fold next_line a it.0) (sym (long_input long)),
     )
 
-  -- what is due only grows
-  pub input_grows : Grows (input F) (input (F ++ G))
+  -- it has the lines of the text, and maybe more
+  input_grows : Grows (input F) (input (F ++ G))
   input_grows = let it = input_append in subst (Grows (input F)) (sym it.1) (lines_grow it.0 (input F))
+
+  -- what is due only grows
+  pub due_grows : Begins (lane_due F) (lane_due (F ++ G))
+  due_grows = begins_in_lines (due_after [] (input F).handed) (due_after [] (input (F ++ G)).handed) (
+    due_after (input F).handed input_grows.0,
+    ap (due_after []) input_grows.1
+        ∙ due_after-append [] (input F).handed input_grows.0,
+  )
+
+  -- a lane that has a line keeps it
+  pub line_grows_on : HasLine (input F).handed → HasLine (input (F ++ G)).handed
+  line_grows_on has = subst HasLine (sym input_grows.1) (by (input F).handed has) where
+    by : (handed : List Handed) → HasLine handed → HasLine (handed ++ input_grows.0)
+    by [] none = absurd none
+    by (h ∷ handed) has = tt
 
   -- an input that doesn't go on stays
   pub input_stays : goes_on (input F) ≡ false → input (F ++ G) ≡ input F
   input_stays over = let it = input_append in it.1 ∙ lines_stay it.0 (input F) over
-
--- a lane that has a line keeps it
-pub line_stays : (handed more : List Handed) → HasLine handed → HasLine (handed ++ more)
-line_stays [] more has = absurd has
-line_stays (h ∷ handed) more has = tt
-
--- what is due for lines begins what is due for more
-pub due_longer : (handed more : List Handed) → Begins (due_after [] handed) (due_after [] (handed ++ more))
-due_longer handed more = (due_after handed more, due_after-append [] handed more)
 
 -- ---- lines that go on
 
@@ -283,16 +249,24 @@ pub few_lines : (ls : List (List ℕ)) → goes_on (input_of_lines ls) ≡ true 
 few_lines ls on = let good = lines_good ls no_input on in omega (arith, good.1, good.2 (omega arith))
 
 -- a line that is too long ends it
-pub long_ends : (ls : List (List ℕ)) (l : List ℕ) → is_too_long l ≡ true
+long_ends : (ls : List (List ℕ)) (l : List ℕ) → is_too_long l ≡ true
     → goes_on (input_of_lines (ls ++ l ∷ [])) ≡ true → ⊥
 long_ends ls l long on =
     let good = next_good (input_of_lines ls) l (sym (ap goes_on (fold-append next_line no_input ls (l ∷ []))) ∙ on) in
     absurd (omega (arith, good.1, ltb-true 128 (length l) long))
 
-module _ (x : List ℕ) (on : goes_on (input x) ≡ true) (short : is_too_long (rest_of x) ≡ false) where
+module _ (x : List ℕ) (on : goes_on (input x) ≡ true) where
+  -- no line that has begun is too long
+  pub short_rest : is_too_long (rest_of x) ≡ false
+  short_rest = by (is_too_long (rest_of x)) refl where
+    by : (b : Bool) → is_too_long (rest_of x) ≡ b → b ≡ false
+    by false is = refl
+    by true is = absurd (long_ends (whole_lines x) (rest_of x) is
+        (subst (λ b. goes_on (input_of_lines (whole_lines x ++ cond b (rest_of x ∷ []) [])) ≡ true) is on))
+
   -- its lines are the whole ones
   lines_are : lines_of x ≡ whole_lines x
-  lines_are = ap (λ b. whole_lines x ++ cond b (rest_of x ∷ []) []) short ∙ append-nil (whole_lines x)
+  lines_are = ap (λ b. whole_lines x ++ cond b (rest_of x ∷ []) []) short_rest ∙ append-nil (whole_lines x)
 
   -- all of them are counted
   pub whole_counted : (input x).lines ≡ length (whole_lines x)
@@ -307,7 +281,7 @@ module _ (x : List ℕ) (on : goes_on (input x) ≡ true) (short : is_too_long (
       omega (
         arith,
         text_few x most_lines (subst AreNotTooLong lines_are good.0) (omega (arith, few))
-            (ltb-false 128 (length (rest_of x)) short),
+            (ltb-false 128 (length (rest_of x)) short_rest),
       )
 
 -- ---- a line that refuses the input

@@ -2,9 +2,7 @@ pub mod Feedless
 pub mod OfLane
 pub mod Alone
 pub mod Inputs
-pub mod Delivering
+pub mod Handing
+pub mod Talking
 pub mod Texts
-pub mod Turns
 pub mod Records
-pub mod Giving
-pub mod Ending

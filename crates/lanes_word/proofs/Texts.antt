@@ -1,35 +1,15 @@
--- Lines with their line feeds, put through a buffer.
-use Rattle.std.proofs.Common.{◌≡◌, ◌<◌, ◌≤◌, ◌^◌, ℕ, List, [], ◌∷◌, ◌++◌, length, refl, sym, ap, ◌∙◌, arith}
-use Rattle.std.proofs.Common.{length-append, codes, decimal}
-use Rattle.std.proofs.Common.{append_assoc}
+-- Lines on their way out.
+use Rattle.std.proofs.Common.{◌≡◌, ◌<◌, ◌≤◌, ◌^◌, ℕ, List, [], ◌∷◌, ◌++◌, length, sym, ap, ◌∙◌, arith}
+use Rattle.std.proofs.Common.{length-append, codes, decimal, append_assoc}
 use Rattle.std.proofs.lemmas.Fmt.{decimal_nonempty}
-use Rattle.dover_model.specs.declared.events.Event.{Event}
-use Rattle.dover_model.specs.declared.events.Event.TheVariants as event
-use Rattle.dover_model.specs.Numerals.{AreShort}
-use Rattle.dover_model.proofs.TraceLines.{numbers_in}
-use Rattle.trace_format.specs.Form.{step_numbers}
 use Rattle.line_text.specs.Writing.{with_field}
+use Rattle.line_text.proofs.Written.{with_field-begun}
 use Rattle.line_output.proofs.FaultLines.{digits, word_and_number}
 use Rattle.lane_server.specs.Lanes.{in_lane}
 
--- the numbers of a step's line, in either's words
-pub same_numbers : (e : Event) → AreShort (numbers_in e) → AreShort (step_numbers e)
-same_numbers (event.Release n j) short = short
-same_numbers (event.Run at n) short = short
-same_numbers (event.Preempt at stops starts) short = short
-same_numbers (event.Take at stops starts) short = short
-same_numbers (event.Complete at n) short = short
-same_numbers (event.Abandon at n) short = short
-same_numbers (event.End value) short = short
-
--- behind a number comes a space
-number_in_front : (number : List ℕ) → 0 < length number → with_field number [] ≡ number ++ 32 ∷ []
-number_in_front [] some = absurd (omega arith)
-number_in_front (b ∷ number) some = refl
-
--- behind a lane's
+-- behind a lane's number comes a space
 pub lane_front : (lane : ℕ) → lane < 2 ^ 64 → with_field (decimal lane) [] ≡ decimal lane ++ 32 ∷ []
-lane_front lane small = number_in_front (decimal lane) (decimal_nonempty lane small)
+lane_front lane small = with_field-begun (decimal lane) [] (decimal_nonempty lane small)
 
 -- it fits
 pub lane_fits : (lane : ℕ) → lane < 2 ^ 64 → length (with_field (decimal lane) []) ≤ 21

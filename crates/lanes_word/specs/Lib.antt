@@ -1,5 +1,3 @@
 pub mod Alone
 pub mod Record
-pub mod Delivered
-pub mod Keeping
-pub mod Turning
+pub mod Talking

@@ -1,0 +1,28 @@
+//! Why an input is refused.
+ghost use Rattle.std.specs.Prelude.{◌≡◌, ◌≤◌, length};
+ghost use Rattle.lanes_word.specs.Talking.{word_of};
+
+/// Why an input is refused as a whole.
+#[derive(Clone, Copy, Debug, PartialEq, Eq)]
+pub(crate) enum Refusal {
+    /// It ends before `close`.
+    Short,
+    /// It has more than 4,000,000 lines.
+    TooManyLines,
+    /// A line is none of a lane.
+    BadLane,
+}
+
+impl Refusal {
+    /// The word for it.
+    pub(crate) fn word(self) -> &'static [u8]
+        ensures is { result.now ≡ word_of self }
+        ensures fits { length result.now ≤ 5 }
+    {
+        match self {
+            Refusal::Short => b"short",
+            Refusal::TooManyLines => b"lines",
+            Refusal::BadLane => b"lane",
+        }
+    }
+}
