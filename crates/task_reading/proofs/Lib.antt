@@ -1,5 +1,4 @@
 pub mod Read
 pub mod Accounts
 pub mod Taking
-pub mod Pieces
-pub mod Records
+pub mod Ending

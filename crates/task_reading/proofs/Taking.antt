@@ -1,8 +1,7 @@
 -- What a line makes of what is kept.
-use Rattle.std.proofs.Common.{◌≡◌, ◌≤◌, ◌<◌, ◌+◌, ◌-◌, ◌*◌, ℕ, suc, List, ◌∷◌, ◌++◌, [], map, refl, sym, ap, ◌∙◌, subst}
+use Rattle.std.proofs.Common.{◌≡◌, ◌≤◌, ◌<◌, ◌+◌, ◌-◌, ◌*◌, ℕ, List, ◌∷◌, ◌++◌, [], map, refl, sym, ap, ◌∙◌, subst}
 use Rattle.std.proofs.Common.{Bool, true, false, cond}
 use Rattle.std.proofs.Common.{Option, Some, None, is_some, arith}
-use Rattle.std.specs.Prelude.{◌==◌}
 use Rattle.std.specs.Option.{option_map}
 use Rattle.std.proofs.lemmas.Bool.{eq-eqb, ne_eqb}
 use Rattle.std.proofs.lemmas.List.{map-append}

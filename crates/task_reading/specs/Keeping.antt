@@ -1,6 +1,6 @@
 -- What is kept of a task text.
-use Rattle.std.specs.Prelude.{◌≡◌, ◌≤◌, ℕ, List, [], ◌∷◌, ◌++◌, map, true, false, Option, Some, None, is_some, Result}
-use Rattle.std.specs.Prelude.{Ok, Err}
+use Rattle.std.specs.Prelude.{◌≡◌, ◌<◌, ◌≤◌, ℕ, List, [], ◌∷◌, ◌++◌, length, take, map, true, false, Option, Some}
+use Rattle.std.specs.Prelude.{None, is_some, Result, Ok, Err}
 use Rattle.dover_model.specs.Limits.{last_tick, most_lines}
 use Rattle.dover_model.specs.Fraction.{IsRatio}
 use Rattle.dover_model.specs.Instance.{Rules}
@@ -13,13 +13,14 @@ use Rattle.line_text.specs.Cutting as cutting
 use Rattle.periodic_tasks.specs.Tasks.{tested_job}
 use Rattle.periodic_tasks.specs.Limits.{AreTasks}
 use Rattle.periodic_tasks.specs.declared.task.PeriodicTask.{PeriodicTask}
-use Rattle.task_reading.specs.Account.{TaskAccount, account_of_lines, cause_under}
+use Rattle.task_reading.specs.Account.{TaskAccount, account_of_lines, account, cause_under}
 use Rattle.task_reading.specs.declared.lines.TaskLine.TheVariants.{Task}
 use Rattle.task_reading.specs.declared.intake.Declaration.{Declaration}
 use Rattle.task_reading.specs.declared.intake.TaskIntake.{TaskIntake}
 use Rattle.task_reading.specs.declared.intake.Progress.{Progress}
 use Rattle.task_reading.specs.declared.intake.Progress.TheVariants as progress
 use Rattle.task_reading.specs.declared.text.TaskText.{TaskText}
+use Rattle.task_reading.specs.declared.reader.TaskReader.{TaskReader}
 
 -- a tick up to which tasks may release jobs
 abbrev pub IsKnown : ℕ → Type 0
@@ -73,3 +74,19 @@ pub record TextStands (until : ℕ) (text : TaskText) (bytes : List ℕ) : Type 
   pub cut : cutting.StandsFor text.lines bytes
   pub short : is_too_long (rest_of bytes) ≡ false
   pub keeps : Keeps until text.intake (lines_of bytes)
+
+-- the text of these bytes goes on, or it has ended with the tasks that are kept, or this is its fault
+abbrev pub IsSo : (until : ℕ) → Progress → TaskText → List ℕ → Type 0
+IsSo until progress.Open text bytes = TextStands until text bytes
+IsSo until progress.Ended text bytes = StandsAt until progress.Ended text.intake (account until bytes)
+IsSo until (progress.Refused cause) text bytes =
+    StandsAt until (progress.Refused cause) text.intake (account until bytes)
+IsSo until progress.NoMemory text bytes = ⊥
+
+-- the reader stands for the bytes
+abbrev pub StandsFor : (until : ℕ) → TaskReader → List ℕ → Type 0
+StandsFor until reader bytes = IsSo until reader.progress reader.text bytes
+
+-- behind x so many bytes of the piece were taken
+abbrev pub TakesFront : (until : ℕ) → TaskReader → (x piece : List ℕ) → ℕ → Type 0
+TakesFront until reader x piece n = (0 < n) × (n ≤ length piece) × StandsFor until reader (x ++ take n piece)

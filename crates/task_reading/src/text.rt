@@ -1,5 +1,6 @@
 //! What is kept of a task text between its bytes.
-ghost use Rattle.std.specs.Prelude.{◌≡◌, ◌∷◌, ◌++◌, ℕ, List, []};
+ghost use Rattle.std.specs.Prelude.{◌≡◌, ◌<◌, ◌∷◌, ◌++◌, ℕ, List, [], length};
+ghost use Rattle.line_text.specs.Cutting.{IsWholeLine};
 ghost use Rattle.task_reading.specs.Account.{account};
 ghost use Rattle.task_reading.specs.Keeping.{IsKnown, StandsAt, TextStands};
 ghost use Rattle.task_reading.specs.declared.intake.Progress.TheVariants.{Open};
@@ -42,22 +43,19 @@ impl TaskText {
         }
     }
 
-    /// Takes a piece of the text, up to a line that ends it or is faulty.
-    pub(crate) fn take_piece(&mut self, bytes: &[u8]) -> Progress
-        requires { (until : ℕ) × (x : List ℕ) × TextStands until self.old x }
+    /// Takes a front of a piece, a byte or a whole line.
+    pub(crate) fn take_front(&mut self, bytes: &[u8]) -> Progress
+        requires some { 0 < length bytes.now }
+        requires whole { 1 < length bytes.now → IsWholeLine self.old.lines bytes.now }
+        requires stands { (until : ℕ) × (x : List ℕ) × TextStands until self.old x }
         ensures at { (until : ℕ) (x : List ℕ) → TextStands until self.old x →
             StandsAt until result self.new.intake (account until (x ++ bytes.now)) }
         ensures stands { (until : ℕ) (x : List ℕ) → TextStands until self.old x → result ≡ Open
             → TextStands until self.new (x ++ bytes.now) }
     {
-        for byte in bytes {
-            match self.take_byte(*byte) {
-                Progress::Open => {}
-                Progress::Ended => return Progress::Ended,
-                Progress::Refused(cause) => return Progress::Refused(cause),
-                Progress::NoMemory => return Progress::NoMemory,
-            }
+        if bytes.len() > 1 {
+            return self.intake.take_line(self.lines.pass(bytes));
         }
-        Progress::Open
+        self.take_byte(bytes[0])
     }
 }

@@ -1,22 +1,20 @@
 -- The feed of valid jobs is read as these jobs.
-use Rattle.std.proofs.Common.{◌≡◌, ℕ, suc, ◌+◌, ◌≤◌, ◌<◌, List, [], ◌∷◌, ◌++◌, length, length-append, map, refl, sym}
+use Rattle.std.proofs.Common.{◌≡◌, ℕ, suc, ◌+◌, ◌≤◌, List, [], ◌∷◌, ◌++◌, length, map, refl, sym}
 use Rattle.std.proofs.Common.{ap, ◌∙◌, subst, append_assoc, cond}
-use Rattle.std.proofs.Common.{Some, None, codes, arith}
-use Rattle.std.specs.Prelude.{nat_lt}
+use Rattle.std.proofs.Common.{Some, None, arith}
 use Rattle.std.specs.List.{AllByRecursion, fold}
 use Rattle.std.specs.Option.{option_map}
 use Rattle.std.proofs.lemmas.Bool.{le-ltb}
 use Rattle.std.proofs.lemmas.List.{append-nil, map-append}
 use Rattle.std.proofs.lemmas.List.Sums.{fold-append}
 use Rattle.dover_model.specs.Limits.{most_lines}
-use Rattle.dover_model.specs.JobFacts.{JobFacts, IsJob, job_numbers}
+use Rattle.dover_model.specs.JobFacts.{JobFacts, IsJob}
 use Rattle.dover_model.specs.Instance.{Rules, Instance, IsInOrder, IsValid}
 use Rattle.dover_model.specs.Admission.{refusal_of}
 use Rattle.dover_model.specs.Session.{JobItem, admitted_jobs}
 use Rattle.dover_model.specs.FeedLine.{RatioLine, JobLine, EndLine, feed_line, feed_text}
-use Rattle.dover_model.specs.Feed.{Account, Ended, Lines, Order, NotAdmitted, cause_of, with_line, with_fault}
-use Rattle.dover_model.specs.Feed.{next_line, no_lines, account_of_lines, account}
-use Rattle.dover_model.specs.Trace.{session_of}
+use Rattle.dover_model.specs.Feed.{Account, Ended, Lines, Order, NotAdmitted, with_line, with_fault}
+use Rattle.dover_model.specs.Feed.{next_line, account_of_lines, account}
 use Rattle.dover_model.proofs.Cuts.{HasNoFeed}
 use Rattle.dover_model.proofs.FeedLines.{feed_line-feed_text}
 use Rattle.dover_model.proofs.Growing.{instance_with}
@@ -28,7 +26,7 @@ use Rattle.snapshot.proofs.Behind.{feedless_feed, lines_joined}
 use Rattle.snapshot.proofs.Handing.{ratio_account, job_numerals}
 use Rattle.snapshot.specs.Stored.{declared_number}
 use Rattle.trace_reading.proofs.Only.{valid_admitted}
-use Rattle.unroll_word.specs.Feeds.{IsFeedOf, feed_of, feed_lines, rules_text, job_text}
+use Rattle.unroll_word.specs.Feeds.{IsFeedOf, feed_of, feed_lines, job_text}
 
 -- ---- line by line
 

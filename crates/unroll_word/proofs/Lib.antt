@@ -1,3 +1,4 @@
 pub mod Feeding
 pub mod Putting
-pub mod Records
+pub mod Talking
+pub mod Ending

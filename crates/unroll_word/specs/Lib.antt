@@ -1,3 +1,4 @@
 pub mod Feeds
 pub mod Texts
 pub mod Record
+pub mod Talking

@@ -1,8 +1,8 @@
 -- What the moves of a call that unrolls tasks come to, by how it ended.
-use Rattle.std.specs.Prelude.{◌≡◌, ◌⊎◌, ℕ, List, [], true, false, Some}
+use Rattle.std.specs.Prelude.{◌≡◌, ◌⊎◌, ℕ, List, [], Bool, true, false, Some}
 use Rattle.dover_model.specs.Feed.{Cause, Ended, Faulty}
 use Rattle.dover_model.specs.Instance.{Rules}
-use Rattle.dover_port.specs.Moves.{Move, ArePuts, ins, outs, has_ended, EachRead, IsProperPrefix}
+use Rattle.dover_port.specs.Moves.{Move, ins, outs, has_ended, EachRead, IsProperPrefix}
 use Rattle.dover_port.specs.declared.status.Status.{Status}
 use Rattle.dover_port.specs.declared.status.Status.TheVariants.{Done, No, Refused, ReadFault, WriteFault, Memory, Usage}
 use Rattle.periodic_tasks.specs.Tasks.{unrolled}
@@ -20,21 +20,25 @@ Says until rules tasks Done text = Fits until tasks × IsFeedOf (unrolled until 
 Says until rules tasks Refused text = (Fits until tasks → ⊥) × (text ≡ size_text)
 Says until rules tasks _ text = ⊥
 
+-- a line of the task text of these bytes is at fault, or the input ended behind them before the text did
+abbrev pub IsRefusedAt : (until : ℕ) → List ℕ → Bool → Type 0
+IsRefusedAt until bytes ended = ((line : ℕ) × (cause : Cause) × ((account until bytes).standing ≡ Faulty line cause))
+    ⊎ ((ended ≡ true) × (is_open (account until bytes) ≡ true))
+
 -- a line of the task text is at fault, or the input ended before the text did
 abbrev pub IsRefusedText : (until : ℕ) → List Move → Type 0
-IsRefusedText until moves = ((line : ℕ) × (cause : Cause) × ((account until (ins moves)).standing ≡ Faulty line cause))
-    ⊎ ((has_ended moves ≡ true) × (is_open (account until (ins moves)) ≡ true))
+IsRefusedText until moves = IsRefusedAt until (ins moves) (has_ended moves)
 
--- the task text ended without a fault, and this is said of its tasks
-pub record IsSaid (until : ℕ) (status : Status) (text : List ℕ) (moves : List Move) : Type 0 where
-  pub ended : (account until (ins moves)).standing ≡ Ended
+-- the task text of these bytes ended without a fault, and this is said of its tasks
+pub record IsSaid (until : ℕ) (status : Status) (text bytes : List ℕ) : Type 0 where
+  pub ended : (account until bytes).standing ≡ Ended
   pub rules : Rules
-  pub rules_are : (account until (ins moves)).rules ≡ Some rules
-  pub said : Says until rules (account until (ins moves)).tasks status text
+  pub rules_are : (account until bytes).rules ≡ Some rules
+  pub said : Says until rules (account until bytes).tasks status text
 
 -- what is said of the tasks was put
 abbrev pub IsAnswered : (until : ℕ) → Status → List Move → Type 0
-IsAnswered until status moves = IsSaid until status (outs moves) moves
+IsAnswered until status moves = IsSaid until status (outs moves) (ins moves)
 
 -- the task text was refused, and its line was put
 abbrev pub IsRefused : (until : ℕ) → List Move → Type 0
@@ -49,7 +53,7 @@ pub record IsUnread (until : ℕ) (moves : List Move) : Type 0 where
 -- a write failed: a front of what refuses the text was put, or of what is said of its tasks, and not all of it
 abbrev pub IsUnwritten : (until : ℕ) → List Move → Type 0
 IsUnwritten until moves = (IsRefusedText until moves × IsProperPrefix (outs moves) (refusal_text until (ins moves)))
-    ⊎ ((status : Status) × (text : List ℕ) × IsSaid until status text moves × IsProperPrefix (outs moves) text)
+    ⊎ ((status : Status) × (text : List ℕ) × IsSaid until status text (ins moves) × IsProperPrefix (outs moves) text)
 
 -- there was no memory: nothing was put, and the input goes on
 pub record IsOutOfMemory (moves : List Move) : Type 0 where
@@ -70,15 +74,3 @@ Ends until Usage moves = ⊥
 pub record Tells (until : ℕ) (status : Status) (moves : List Move) : Type 0 where
   pub reads : EachRead (MayRead until) moves
   pub ends : Ends until status moves
-
--- ---- the last moves of a call
-
--- the text was put, which comes with this status, or a front of it where a write failed
-abbrev pub Puts : (due : Status) → Status → List ℕ → List Move → Type 0
-Puts due status text moves = ((status ≡ due) × ArePuts moves × (outs moves ≡ text))
-    ⊎ ((status ≡ WriteFault) × ArePuts moves × IsProperPrefix (outs moves) text)
-
--- what is said of these tasks was put, or there was no memory
-abbrev pub Finishes : (until : ℕ) → Rules → List PeriodicTask → Status → List Move → Type 0
-Finishes until rules tasks status moves = ((status ≡ Memory) × (moves ≡ []))
-    ⊎ ((due : Status) × (text : List ℕ) × Says until rules tasks due text × Puts due status text moves)

@@ -6,7 +6,7 @@ ghost use Rattle.dover_model.specs.Limits.{most_jobs};
 ghost use Rattle.dover_model.specs.Lines.{in_lines};
 ghost use Rattle.dover_model.specs.Feed.{rules_with};
 ghost use Rattle.dover_port.specs.Causes.{HasCause, StopsAtFailure};
-ghost use Rattle.dover_port.specs.Moves.{PutsText, PutsThrough};
+ghost use Rattle.dover_port.specs.Moves.{PutsThrough};
 ghost use Rattle.periodic_tasks.specs.Limits.{IsTask};
 ghost use Rattle.periodic_tasks.specs.Merging.{StandsBehind};
 ghost use Rattle.periodic_tasks.specs.Tasks.{jobs_before, unrolled};
@@ -89,8 +89,8 @@ fn put_jobs<P: Port, L: Ledger>(
     unreachable!()
 }
 
-/// Puts the lines of the feed of all jobs.
-fn put_feed<P: Port, L: Ledger>(
+/// Puts the lines of the feed of all jobs, of which none was given yet.
+pub(crate) fn put_feed<P: Port, L: Ledger>(
     port: &mut P,
     out: &mut Output,
     rules: (Ratio, Version),
@@ -115,30 +115,6 @@ fn put_feed<P: Port, L: Ledger>(
         Err(failed) => return Err(failed),
     }
     put_numbers(port, out, b"end", &[])
-}
-
-/// Writes the feed of all jobs, of which none was given yet.
-pub(crate) fn write_feed<P: Port, L: Ledger>(
-    port: &mut P,
-    rules: (Ratio, Version),
-    unrolling: &mut Unrolling,
-    steps: &mut Steps<L>,
-) -> Result<(), Failed>
-    requires stands { StandsBehind unrolling.old [] }
-    requires each { AllByRecursion (IsTask unrolling.old.until) unrolling.old.tasks }
-    requires few { length (jobs_before unrolling.old.until unrolling.old.tasks) ≤ most_jobs }
-    ensures text { PutsText (P.moves port.old) (P.moves port.new) result
-        (feed_of (unrolled unrolling.old.until (rules_with rules.0 rules.1) unrolling.old.tasks)) }
-    ensures cause { HasCause (P.write_faults port.old) (P.write_faults port.new) (P.read_faults port.old)
-        (P.read_faults port.new) result }
-    ensures stops { StopsAtFailure (P.calls port.old) (P.calls port.new) result }
-{
-    let mut out = Output::new();
-    match put_feed(port, &mut out, rules, unrolling, steps) {
-        Ok(()) => {}
-        Err(failed) => return Err(failed),
-    }
-    out.flush(port)
 }
 
 /// The feed of valid jobs ends without a fault, and says these jobs and no others.

@@ -2,8 +2,8 @@
 #![tactic(auto)]
 
 mod answering;
+mod asking;
 mod feeds;
-mod refusing;
 mod word;
 
 pub use feeds::feeds_of_jobs_are_read;

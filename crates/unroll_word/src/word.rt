@@ -4,13 +4,14 @@ ghost use Rattle.dover_port.specs.Moves.{Since};
 ghost use Rattle.task_reading.specs.Keeping.{IsKnown};
 ghost use Rattle.unroll_word.specs.Record.{Tells};
 
-use crate::answering::answer;
-use crate::refusing::refuse;
+use crate::asking::AskingTasks;
+use dialogue::converse;
 use dover_port::{Port, Status};
 use std::alloc::Global;
+use std::marker::PhantomData;
 use std::sync::ledger::Ledger;
 use step_count::Steps;
-use task_reading::{Reading, read_tasks};
+use task_reading::TaskReader;
 
 /// Unrolls periodic tasks: reads a task text to its end, and then writes the feed of all jobs that its tasks release
 /// before the tick `until`, at most
@@ -32,10 +33,11 @@ pub fn unroll_word<P: Port, L: Ledger>(
         (P.write_faults port.new) }
     ensures stops { StopsWith result (P.calls port.old) (P.calls port.new) }
 {
-    match read_tasks(alloc, port, until) {
-        Reading::Ended(listed) => answer(alloc, port, listed, until, steps),
-        Reading::Refused(fault) => refuse(port, fault),
-        Reading::Unread => Status::ReadFault,
-        Reading::NoMemory => Status::Memory,
-    }
+    let asking = AskingTasks {
+        alloc,
+        until,
+        reader: TaskReader::new(alloc, until),
+        counts: PhantomData,
+    };
+    converse(port, asking, steps)
 }

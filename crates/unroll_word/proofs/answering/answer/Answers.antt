@@ -1,17 +1,42 @@
+use Rattle.std.proofs.Common.{refl}
+use Rattle.dover_port.specs.declared.status.Status.TheVariants.{Done, Refused}
+use Rattle.periodic_tasks.specs.Tasks.{unrolled}
 use Rattle.task_reading.specs.Record.{listed_rules}
-use Rattle.unroll_word.proofs.Records.{feed_put, feed_cut, passed}
+use Rattle.unroll_word.specs.Feeds.{feed_of}
+use Rattle.unroll_word.specs.Texts.{size_text}
+use Rattle.unroll_word.proofs.Ending.{says_feed, passed, not_passed}
 use Rattle.unroll_word.proofs.answering.answer.Goals as goal
 
-pub returns-in-Ok-write_feed-clause-finishes : goal.returns-in-Ok-write_feed-clause-finishes
-returns-in-Ok-write_feed-clause-finishes g c =
-    feed_put c.args.until (listed_rules c.args.listed) c.args.listed.tasks.items c.requires.ratio
-    c.requires.are (passed c.args.until _ _ c.fits.result c.if-not-fits.false c.fits.ensures c.deref.ensures.value)
-    c.in-Ok.unrolling.until c.in-Ok.unrolling.tasks c.in-Ok.ensures.until
-    c.in-Ok.ensures.tasks _ _ c.in-Ok-write_feed.ensures.text.all
+pub returns-in-Ok-clause-says : goal.returns-in-Ok-clause-says
+returns-in-Ok-clause-says g c = (
+  size_text,
+  (not_passed c.args.until _ _ c.fits.result c.if-not-fits.true c.fits.ensures c.deref.ensures.value, refl),
+  rw c.requires.empty at c.in-Ok.ensures.text.all,
+)
 
-pub returns-clause-finishes : goal.returns-clause-finishes
-returns-clause-finishes g c =
-    feed_cut c.args.until (listed_rules c.args.listed) c.args.listed.tasks.items c.requires.ratio
-    c.requires.are (passed c.args.until _ _ c.fits.result c.if-not-fits.false c.fits.ensures c.deref.ensures.value)
-    c.in-Ok.unrolling.until c.in-Ok.unrolling.tasks c.in-Ok.ensures.until
-    c.in-Ok.ensures.tasks _ _ c.in-Err.ensures.text.part
+pub returns-in-Err-clause-says : goal.returns-in-Err-clause-says
+returns-in-Err-clause-says g c = (
+  Refused,
+  size_text,
+  (not_passed c.args.until _ _ c.fits.result c.if-not-fits.true c.fits.ensures c.deref.ensures.value, refl),
+  rw c.requires.empty at c.in-Err.ensures.text.part,
+)
+
+pub returns-in-Ok-put_feed-clause-says : goal.returns-in-Ok-put_feed-clause-says
+returns-in-Ok-put_feed-clause-says g c = (
+  feed_of (unrolled c.in-Ok-new.unrolling.until (listed_rules c.args.listed) c.in-Ok-new.unrolling.tasks),
+  says_feed c.args.until (listed_rules c.args.listed) c.args.listed.tasks.items c.requires.ratio c.requires.are
+      (passed c.args.until _ _ c.fits.result c.if-not-fits.false c.fits.ensures c.deref.ensures.value)
+      c.in-Ok-new.unrolling.until c.in-Ok-new.unrolling.tasks c.in-Ok-new.ensures.until c.in-Ok-new.ensures.tasks,
+  rw c.requires.empty at c.in-Ok-put_feed.ensures.text.all,
+)
+
+pub returns-clause-says : goal.returns-clause-says
+returns-clause-says g c = (
+  Done,
+  feed_of (unrolled c.in-Ok-new.unrolling.until (listed_rules c.args.listed) c.in-Ok-new.unrolling.tasks),
+  says_feed c.args.until (listed_rules c.args.listed) c.args.listed.tasks.items c.requires.ratio c.requires.are
+      (passed c.args.until _ _ c.fits.result c.if-not-fits.false c.fits.ensures c.deref.ensures.value)
+      c.in-Ok-new.unrolling.until c.in-Ok-new.unrolling.tasks c.in-Ok-new.ensures.until c.in-Ok-new.ensures.tasks,
+  rw c.requires.empty at c.in-Err-put_feed.ensures.text.part,
+)

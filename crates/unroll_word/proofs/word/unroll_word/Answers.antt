@@ -1,10 +1,16 @@
-use Rattle.unroll_word.proofs.Records.{ends_said, ends_refused}
+use Rattle.std.proofs.Common.{refl}
+use Rattle.dover_port.proofs.Made.{since_weaker}
+use Rattle.unroll_word.proofs.Talking.{told_by, answers}
 use Rattle.unroll_word.proofs.word.unroll_word.Goals as goal
 
-pub returns-in-Ended-clause-tells : goal.returns-in-Ended-clause-tells
-returns-in-Ended-clause-tells g c =
-    ends_said c.args.until _ _ _ c.in-Ended.listed _ c.in-Ended.ensures.reads c.answer.ensures.finishes
+pub converse-requires : goal.converse-requires
+converse-requires g c = (c.args.until, record { asks = refl; reads = c.new.ensures })
 
-pub returns-in-Refused-clause-tells : goal.returns-in-Refused-clause-tells
-returns-in-Refused-clause-tells g c =
-    ends_refused c.args.until _ _ _ _ _ c.in-Refused.ensures.reads c.refuse.ensures.puts
+pub returns-clause-tells : goal.returns-clause-tells
+returns-clause-tells g c = since_weaker _ _ _ _
+    (c.converse.ensures.talks c.args.until (record { asks = refl; reads = c.new.ensures }))
+    (λ moves it. told_by c.args.until c.converse.result moves it.0)
+
+pub returns-clause-answer : goal.returns-clause-answer
+returns-clause-answer g c = answers c.args.until c.converse.result
+    (c.converse.ensures.answer c.args.until (record { asks = refl; reads = c.new.ensures }))
