@@ -2,7 +2,9 @@
 use Rattle.std.proofs.Common.{◌≡◌, ℕ, List, [], ◌∷◌, ◌++◌, map, sym, ap, ◌∙◌, append_assoc, append-nil}
 use Rattle.std.specs.Prelude.{decimal}
 use Rattle.std.specs.List.{flat_map, join_with_byte}
+use Rattle.std.proofs.lemmas.List.Concat.{flat_map-append}
 use Rattle.dover_model.specs.Lines.{with_numbers, in_lines}
+use Rattle.dover_report.specs.Rows.{after_commas}
 
 -- the numbers, each behind this byte
 abbrev pub behind : ℕ → List ℕ → List ℕ
@@ -25,3 +27,24 @@ line_is text word numbers = ap (λ x. x ++ 10 ∷ []) (append_assoc text word (b
     ∙ append_assoc text (word ++ behind 32 numbers) (10 ∷ [])
     ∙ ap (λ x. text ++ (x ++ 10 ∷ [])) (sym (joined 32 word numbers))
     ∙ ap (λ x. text ++ x) (sym (one_line (with_numbers word numbers)))
+
+-- y is t with these lines put behind it, one by one
+abbrev pub GrowsByLines : List ℕ → List (List ℕ) → List ℕ → Type 0
+GrowsByLines t [] y = y ≡ t
+GrowsByLines t (l ∷ ls) y = (x : List ℕ) × (x ≡ t ++ in_lines (l ∷ [])) × GrowsByLines x ls y
+
+-- which are then behind it
+pub lines_are : (t : List ℕ) (ls : List (List ℕ)) (y : List ℕ) → GrowsByLines t ls y → y ≡ t ++ in_lines ls
+lines_are t [] y same = same ∙ sym (append-nil t)
+lines_are t (l ∷ ls) y (x, one, more) = lines_are x ls y more ∙ ap (λ s. s ++ in_lines ls) one
+    ∙ append_assoc t (in_lines (l ∷ [])) (in_lines ls) ∙ ap (λ s. t ++ s) (ap (λ s. s ++ in_lines ls) (one_line l))
+
+-- the row of a first field and two lists of others, put together
+pub row_is : (t first : List ℕ) (xs ys : List (List ℕ))
+    → (((t ++ first) ++ after_commas xs) ++ after_commas ys) ++ 10 ∷ []
+    ≡ t ++ in_lines ((first ++ after_commas (xs ++ ys)) ∷ [])
+row_is t first xs ys = ap (λ s. s ++ 10 ∷ []) (append_assoc (t ++ first) (after_commas xs) (after_commas ys)
+    ∙ ap (λ s. (t ++ first) ++ s) (sym (flat_map-append (λ field. 44 ∷ field) xs ys))
+    ∙ append_assoc t first (after_commas (xs ++ ys)))
+    ∙ append_assoc t (first ++ after_commas (xs ++ ys)) (10 ∷ [])
+    ∙ ap (λ s. t ++ s) (sym (one_line (first ++ after_commas (xs ++ ys))))

@@ -1,5 +1,8 @@
 pub mod Around
+pub mod Eaching
 pub mod Filling
+pub mod Going
 pub mod Knowing
+pub mod Lining
 pub mod Whole
 pub mod WorkedRows

@@ -95,17 +95,12 @@ fn put_tower_before(
     put_tower(text, outline, x, number)
 }
 
-/// Appends the tower of a number.
+/// Appends the tower of a number, from the base up, where it has a height.
 fn put_tower(text: &mut Vec<u8>, outline: &Outline, x: u64, number: u64) -> Result<(), Memory>
     ensures { OnOk result (text.new.items ≡ text.old.items ++ columns.tower outline.now x number) }
 {
-    put_tower_to(text, x, outline.base, rise(outline, number))
-}
-
-/// Appends a tower from the base up to a height.
-fn put_tower_to(text: &mut Vec<u8>, x: u64, base: u64, y: u64) -> Result<(), Memory>
-    ensures { OnOk result (text.new.items ≡ text.old.items ++ columns.tower_to x base y) }
-{
+    let base = outline.base;
+    let y = rise(outline, number);
     if base == y {
         return Ok(());
     }

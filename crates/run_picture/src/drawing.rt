@@ -7,7 +7,7 @@ ghost use Rattle.dover_model.specs.Run as runs;
 ghost use Rattle.run_picture.specs.Lanes.{lanes_from};
 ghost use Rattle.run_picture.specs.Pictures as pictures;
 
-use crate::frame::{put_axis, put_band_words, put_bands, put_bars_end, put_bars_front, put_page};
+use crate::frame::{put_axis, put_band_words, put_bands, put_bars_front, put_page};
 use crate::labels::put_labels;
 use crate::lanes::{Lane, height, lanes, shown, unit_of};
 use crate::legends::{put_lanes_legend, put_load_legend};
@@ -135,21 +135,14 @@ fn loaded(
     ensures { IfOk result (λ text. text.items ≡ pictures.by_load
         window counts.now (lanes_from pictures.nothing [] seen.now) jobs.now run.now pieces.now rows.now) }
 {
-    let lanes = lanes(alloc, nothing(), seen)?;
+    let nothing = Window { from: 0, until: 0 };
+    let lanes = lanes(alloc, nothing, seen)?;
     let mut text = Vec::new(alloc);
     put_by_load(&mut text, window, counts, &lanes, jobs, run, pieces, rows)?;
     Ok(text)
 }
 
-/// A window that shows no job.
-fn nothing() -> Window
-    ensures { result ≡ pictures.nothing }
-{
-    Window { from: 0, until: 0 }
-}
-
 /// Appends a picture with a lane for each job that the window shows.
-#[tactic(auto, unfolding(crate::specs::Pictures::by_lanes))]
 fn put_by_lanes(
     text: &mut Vec<u8>,
     window: Window,
@@ -167,41 +160,7 @@ fn put_by_lanes(
 {
     let high = height(lanes);
     let unit = unit_of(high);
-    put_lanes_to(
-        text,
-        window,
-        counts,
-        unit,
-        236 + unit * high,
-        lanes,
-        jobs,
-        run,
-        pieces,
-        rows,
-    )
-}
-
-/// Appends this picture, where rows are so high and the panel of values ends at this pixel.
-#[tactic(auto, unfolding(crate::specs::Pictures::lanes_to))]
-fn put_lanes_to(
-    text: &mut Vec<u8>,
-    window: Window,
-    counts: &Counts,
-    unit: u64,
-    bottom: u64,
-    lanes: &[Lane],
-    jobs: &[Job],
-    run: &[Event],
-    pieces: &[Piece],
-    rows: &[Interval],
-) -> Result<(), Memory>
-    requires steps { length run.now ≤ 5_000_001 }
-    requires from { window.from ≤ last_tick }
-    requires unit { unit ≤ 18 }
-    requires bottom { bottom ≤ 2 ^ 39 }
-    ensures { OnOk result (text.new.items ≡ text.old.items
-        ++ pictures.lanes_to window counts.now unit bottom lanes.now jobs.now run.now pieces.now rows.now) }
-{
+    let bottom = 236 + unit * high;
     put_under(text, window, counts, bottom, rows)?;
     put_middle(text, window, unit, lanes, run, pieces)?;
     put_over(text, window, false, bottom, jobs, run)?;
@@ -209,7 +168,6 @@ fn put_lanes_to(
 }
 
 /// Appends what stands under the lanes.
-#[tactic(auto, unfolding(crate::specs::Pictures::under))]
 fn put_under(
     text: &mut Vec<u8>,
     window: Window,
@@ -221,14 +179,14 @@ fn put_under(
     requires bottom { bottom ≤ 2 ^ 39 }
     ensures { OnOk result (text.new.items ≡ text.old.items ++ pictures.under window counts.now bottom rows.now) }
 {
-    put_ground(text, window, counts, bottom)?;
+    put_page(text, bottom + 36, counts)?;
+    put_axis(text, window, bottom)?;
     put_lanes_legend(text)?;
     put_all_bands(text, window, 1, bottom, rows)?;
     Ok(())
 }
 
 /// Appends what stands under the load.
-#[tactic(auto, unfolding(crate::specs::Pictures::under_load))]
 fn put_under_load(
     text: &mut Vec<u8>,
     window: Window,
@@ -238,7 +196,8 @@ fn put_under_load(
     requires { window.from ≤ last_tick }
     ensures { OnOk result (text.new.items ≡ text.old.items ++ pictures.under_load window counts.now rows.now) }
 {
-    put_ground(text, window, counts, 474)?;
+    put_page(text, 510, counts)?;
+    put_axis(text, window, 474)?;
     put_load_legend(text)?;
     put_all_bands(text, window, 0, 474, rows)?;
     Ok(())
@@ -259,23 +218,6 @@ fn put_all_bands(
 {
     put_bands(text, window, least, bottom, rows)?;
     put_band_words(text, window, rows)?;
-    Ok(())
-}
-
-/// Appends a page up to its axis.
-#[tactic(auto, unfolding(crate::specs::Pictures::ground_of))]
-fn put_ground(
-    text: &mut Vec<u8>,
-    window: Window,
-    counts: &Counts,
-    bottom: u64,
-) -> Result<(), Memory>
-    requires from { window.from ≤ last_tick }
-    requires bottom { bottom ≤ 2 ^ 39 }
-    ensures { OnOk result (text.new.items ≡ text.old.items ++ pictures.ground_of window counts.now bottom) }
-{
-    put_page(text, bottom + 36, counts)?;
-    put_axis(text, window, bottom)?;
     Ok(())
 }
 
@@ -361,7 +303,6 @@ fn put_middle(
 }
 
 /// Appends the processor, with bars so long at least.
-#[tactic(auto, unfolding(crate::specs::Pictures::strip))]
 fn put_strip(
     text: &mut Vec<u8>,
     window: Window,
@@ -372,28 +313,17 @@ fn put_strip(
     requires { least ≤ 1_290 }
     ensures { OnOk result (text.new.items ≡ text.old.items ++ pictures.strip window least lanes.now pieces.now) }
 {
-    put_strip_border(text)?;
-    put_all_bars(
-        text,
-        &Bars {
-            window,
-            unit: 0,
-            least,
-        },
-        lanes,
-        22,
-        pieces,
+    text.extend_from_slice(
+        b"<text class='r' x='82' y='91'>processor</text>\n\
+        <rect class='f' x='90' y='76' width='1200' height='22'/>\n",
     )?;
+    let bars = Bars {
+        window,
+        unit: 0,
+        least,
+    };
+    put_all_bars(text, &bars, lanes, 22, pieces)?;
     put_strip_numbers(text, window, pieces)?;
-    Ok(())
-}
-
-/// Appends the word beside the strip, and its border.
-fn put_strip_border(text: &mut Vec<u8>) -> Result<(), Memory>
-    ensures { OnOk result (text.new.items ≡ text.old.items ++ pictures.strip_border) }
-{
-    text.extend_from_slice(b"<text class='r' x='82' y='91'>processor</text>\n")?;
-    text.extend_from_slice(b"<rect class='f' x='90' y='76' width='1200' height='22'/>\n")?;
     Ok(())
 }
 
@@ -427,7 +357,6 @@ fn put_all_bars(
 }
 
 /// Appends the bars of pieces of one color, so high.
-#[tactic(auto, unfolding(crate::specs::Pictures::bars_of))]
 fn put_bars_of(
     text: &mut Vec<u8>,
     bars: &Bars,
@@ -443,12 +372,11 @@ fn put_bars_of(
 {
     put_bars_front(text, color, high)?;
     put_pieces(text, bars, lanes, color, pieces)?;
-    put_bars_end(text)?;
+    text.extend_from_slice(b"'/>\n")?;
     Ok(())
 }
 
 /// Appends all that stands in the lanes.
-#[tactic(auto, unfolding(crate::specs::Pictures::lanes_of))]
 fn put_lanes(
     text: &mut Vec<u8>,
     window: Window,
@@ -461,44 +389,21 @@ fn put_lanes(
     ensures { OnOk result (text.new.items
         ≡ text.old.items ++ pictures.lanes_of window unit lanes.now run.now pieces.now) }
 {
-    put_lanes_bars(text, window, unit, lanes, run, pieces)?;
+    put_all_windows(text, window, unit, lanes)?;
+    put_all_holds(text, window, unit, lanes, run)?;
+    let bars = Bars {
+        window,
+        unit,
+        least: 1,
+    };
+    let high = unit.saturating_sub(3);
+    put_all_bars(text, &bars, lanes, high, pieces)?;
     put_lanes_lines(text, window, unit, lanes, run)?;
     put_labels(text, window, unit, lanes)?;
     Ok(())
 }
 
-/// Appends the bars in the lanes.
-#[tactic(auto, unfolding(crate::specs::Pictures::lanes_bars))]
-fn put_lanes_bars(
-    text: &mut Vec<u8>,
-    window: Window,
-    unit: u64,
-    lanes: &[Lane],
-    run: &[Event],
-    pieces: &[Piece],
-) -> Result<(), Memory>
-    requires { unit ≤ 18 }
-    ensures { OnOk result (text.new.items
-        ≡ text.old.items ++ pictures.lanes_bars window unit lanes.now run.now pieces.now) }
-{
-    put_all_windows(text, window, unit, lanes)?;
-    put_all_holds(text, window, unit, lanes, run)?;
-    put_all_bars(
-        text,
-        &Bars {
-            window,
-            unit,
-            least: 1,
-        },
-        lanes,
-        unit.saturating_sub(3),
-        pieces,
-    )?;
-    Ok(())
-}
-
-/// Appends the jobs' windows.
-#[tactic(auto, unfolding(crate::specs::Pictures::windows))]
+/// Appends the word beside the lanes, and the jobs' windows.
 fn put_all_windows(
     text: &mut Vec<u8>,
     window: Window,
@@ -508,23 +413,18 @@ fn put_all_windows(
     requires { unit ≤ 18 }
     ensures { OnOk result (text.new.items ≡ text.old.items ++ pictures.windows window unit lanes.now) }
 {
-    put_lanes_front(text, unit.saturating_sub(3))?;
+    let high = unit.saturating_sub(3);
+    put(
+        text,
+        b"<text class='r' x='82' y='124'>jobs</text>\n<g class='w' stroke-width='@'>\n",
+        &[high],
+    )?;
     put_windows(text, window, unit, lanes)?;
     text.extend_from_slice(b"</g>\n")?;
     Ok(())
 }
 
-/// Appends the word beside the lanes, and the front of bars so high.
-fn put_lanes_front(text: &mut Vec<u8>, high: u64) -> Result<(), Memory>
-    ensures { OnOk result (text.new.items ≡ text.old.items ++ pictures.lanes_front high) }
-{
-    text.extend_from_slice(b"<text class='r' x='82' y='124'>jobs</text>\n")?;
-    put(text, b"<g class='w' stroke-width='@'>\n", &[high])?;
-    Ok(())
-}
-
 /// Appends where jobs are held.
-#[tactic(auto, unfolding(crate::specs::Pictures::holds_bars))]
 fn put_all_holds(
     text: &mut Vec<u8>,
     window: Window,
@@ -535,14 +435,13 @@ fn put_all_holds(
     requires { unit ≤ 18 }
     ensures { OnOk result (text.new.items ≡ text.old.items ++ pictures.holds_bars window unit lanes.now run.now) }
 {
-    put_bars_front(text, b'h', unit / 3)?;
+    put(text, b"<path class='h' stroke-width='@' d='", &[unit / 3])?;
     put_holds(text, window, unit, lanes, run)?;
-    put_bars_end(text)?;
+    text.extend_from_slice(b"'/>\n")?;
     Ok(())
 }
 
-/// Appends the lines in the lanes.
-#[tactic(auto, unfolding(crate::specs::Pictures::lanes_lines))]
+/// Appends the lines in the lanes: arrows of preemptions, arrows of takes, and crosses.
 fn put_lanes_lines(
     text: &mut Vec<u8>,
     window: Window,
@@ -553,57 +452,12 @@ fn put_lanes_lines(
     requires { unit ≤ 18 }
     ensures { OnOk result (text.new.items ≡ text.old.items ++ pictures.lanes_lines window unit lanes.now run.now) }
 {
-    put_all_arrows(text, window, unit, b'p', false, lanes, run)?;
-    put_all_arrows(text, window, unit, b'k', true, lanes, run)?;
-    put_all_crosses(text, window, unit, lanes, run)?;
-    Ok(())
-}
-
-/// Appends arrows of this class.
-#[tactic(auto, unfolding(crate::specs::Pictures::arrows_lines))]
-fn put_all_arrows(
-    text: &mut Vec<u8>,
-    window: Window,
-    unit: u64,
-    class: u8,
-    takes: bool,
-    lanes: &[Lane],
-    run: &[Event],
-) -> Result<(), Memory>
-    requires { unit ≤ 18 }
-    ensures { OnOk result (text.new.items
-        ≡ text.old.items ++ pictures.arrows_lines window unit class takes lanes.now run.now) }
-{
-    put_lines_front(text, class)?;
-    put_arrows(text, window, unit, takes, lanes, run)?;
-    put_bars_end(text)?;
-    Ok(())
-}
-
-/// Appends crosses.
-#[tactic(auto, unfolding(crate::specs::Pictures::crosses_lines))]
-fn put_all_crosses(
-    text: &mut Vec<u8>,
-    window: Window,
-    unit: u64,
-    lanes: &[Lane],
-    run: &[Event],
-) -> Result<(), Memory>
-    requires { unit ≤ 18 }
-    ensures { OnOk result (text.new.items ≡ text.old.items ++ pictures.crosses_lines window unit lanes.now run.now) }
-{
-    put_lines_front(text, b'x')?;
+    text.extend_from_slice(b"<path class='p' d='")?;
+    put_arrows(text, window, unit, false, lanes, run)?;
+    text.extend_from_slice(b"'/>\n<path class='k' d='")?;
+    put_arrows(text, window, unit, true, lanes, run)?;
+    text.extend_from_slice(b"'/>\n<path class='x' d='")?;
     put_crosses(text, window, unit, lanes, run)?;
-    put_bars_end(text)?;
-    Ok(())
-}
-
-/// Appends the front of lines of this class.
-fn put_lines_front(text: &mut Vec<u8>, class: u8) -> Result<(), Memory>
-    ensures { OnOk result (text.new.items ≡ text.old.items ++ pictures.lines_front class) }
-{
-    text.extend_from_slice(b"<path class='")?;
-    text.push(class)?;
-    text.extend_from_slice(b"' d='")?;
+    text.extend_from_slice(b"'/>\n")?;
     Ok(())
 }

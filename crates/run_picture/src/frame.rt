@@ -11,53 +11,20 @@ use dover_model::Memory;
 use dover_report::Counts;
 
 /// Appends a page with its title, and the legend of the processor.
-#[tactic(auto, unfolding(crate::specs::Frame::page))]
 pub fn put_page(text: &mut Vec<u8>, high: u64, counts: &Counts) -> Result<(), Memory>
     ensures { OnOk result (text.new.items ≡ text.old.items ++ frame.page high counts.now) }
-{
-    put_blank(text, high)?;
-    put_title(text, counts)?;
-    put_legend(text)?;
-    Ok(())
-}
-
-/// Appends a page that has nothing on it.
-#[tactic(auto, unfolding(crate::specs::Frame::blank))]
-fn put_blank(text: &mut Vec<u8>, high: u64) -> Result<(), Memory>
-    ensures { OnOk result (text.new.items ≡ text.old.items ++ frame.blank high) }
-{
-    put_front(text, high)?;
-    put_styles(text)?;
-    put_ground(text, high)?;
-    Ok(())
-}
-
-/// Appends the front of a page.
-fn put_front(text: &mut Vec<u8>, high: u64) -> Result<(), Memory>
-    ensures { OnOk result (text.new.items ≡ text.old.items ++ frame.front high) }
 {
     put(
         text,
         b"<svg xmlns='http://www.w3.org/2000/svg' width='1400' height='@' viewBox='0 0 1400 @'>\n",
         &[high, high],
-    )
-}
-
-/// Appends its white ground.
-fn put_ground(text: &mut Vec<u8>, high: u64) -> Result<(), Memory>
-    ensures { OnOk result (text.new.items ≡ text.old.items ++ frame.ground high) }
-{
+    )?;
+    put_styles(text)?;
     put(
         text,
         b"<rect width='1400' height='@' fill='#fff'/>\n",
         &[high],
-    )
-}
-
-/// Appends the numbers of the summary.
-fn put_title(text: &mut Vec<u8>, counts: &Counts) -> Result<(), Memory>
-    ensures { OnOk result (text.new.items ≡ text.old.items ++ frame.title counts.now) }
-{
+    )?;
     put(
         text,
         b"<text class='b' x='90' y='22'>jobs @, completed @ worth @, abandoned @ worth @, taken @, bound @</text>\n",
@@ -70,7 +37,9 @@ fn put_title(text: &mut Vec<u8>, counts: &Counts) -> Result<(), Memory>
             counts.taken,
             counts.bound,
         ],
-    )
+    )?;
+    put_legend(text)?;
+    Ok(())
 }
 
 /// Ten times as much, where sixty of them are less than the span.
@@ -145,7 +114,6 @@ pub fn put_axis(text: &mut Vec<u8>, window: Window, bottom: u64) -> Result<(), M
 }
 
 /// Appends the axis, with marks so far apart.
-#[tactic(auto, unfolding(crate::specs::Frame::axis_by))]
 fn put_axis_by(text: &mut Vec<u8>, window: Window, bottom: u64, step: u64) -> Result<(), Memory>
     requires bottom { bottom ≤ 2 ^ 40 }
     requires from { window.from ≤ last_tick }
@@ -154,7 +122,11 @@ fn put_axis_by(text: &mut Vec<u8>, window: Window, bottom: u64, step: u64) -> Re
     ensures { OnOk result (text.new.items ≡ text.old.items ++ frame.axis_by window bottom step) }
 {
     put_marks(text, window, bottom, step, round_down(window.from, step))?;
-    put_ticks_word(text, bottom)?;
+    put(
+        text,
+        b"<text class='s r' x='1290' y='@'>tick</text>\n",
+        &[bottom + 28],
+    )?;
     Ok(())
 }
 
@@ -190,39 +162,20 @@ fn put_marks(
     Ok(())
 }
 
-/// Appends the mark of a tick that the window has.
+/// Appends the mark of a tick that the window has: a line down to the bottom, and the tick below.
 fn put_mark(text: &mut Vec<u8>, window: Window, bottom: u64, tick: u64) -> Result<(), Memory>
     requires { bottom ≤ 2 ^ 40 }
     ensures { OnOk result (text.new.items ≡ text.old.items ++ frame.mark window bottom tick) }
 {
     if has(window, tick) {
-        put_mark_at(text, x_at(window, tick), bottom, tick)?;
+        let x = x_at(window, tick);
+        return put(
+            text,
+            b"<path class='a' d='M@ 76V@'/><text class='s m' x='@' y='@'>@</text>\n",
+            &[x, bottom, x, bottom + 14, tick],
+        );
     }
     Ok(())
-}
-
-/// Appends a line at pixel x down to the bottom, and its tick below.
-fn put_mark_at(text: &mut Vec<u8>, x: u64, bottom: u64, tick: u64) -> Result<(), Memory>
-    requires { bottom ≤ 2 ^ 40 }
-    ensures { OnOk result (text.new.items ≡ text.old.items ++ frame.mark_at x bottom tick) }
-{
-    put(
-        text,
-        b"<path class='a' d='M@ 76V@'/><text class='s m' x='@' y='@'>@</text>\n",
-        &[x, bottom, x, bottom + 14, tick],
-    )
-}
-
-/// Appends the word below the marks.
-fn put_ticks_word(text: &mut Vec<u8>, bottom: u64) -> Result<(), Memory>
-    requires { bottom ≤ 2 ^ 40 }
-    ensures { OnOk result (text.new.items ≡ text.old.items ++ frame.ticks_word bottom) }
-{
-    put(
-        text,
-        b"<text class='s r' x='1290' y='@'>tick</text>\n",
-        &[bottom + 28],
-    )
 }
 
 /// The window shows an interval that lost value.
@@ -242,16 +195,7 @@ pub fn put_bars_front(text: &mut Vec<u8>, class: u8, high: u64) -> Result<(), Me
     Ok(())
 }
 
-/// Appends the end of bars.
-pub fn put_bars_end(text: &mut Vec<u8>) -> Result<(), Memory>
-    ensures { OnOk result (text.new.items ≡ text.old.items ++ frame.bars_end) }
-{
-    text.extend_from_slice(b"'/>\n")?;
-    Ok(())
-}
-
 /// Appends the bands of the intervals that lost value, so long at least.
-#[tactic(auto, unfolding(crate::specs::Frame::bands))]
 pub fn put_bands(
     text: &mut Vec<u8>,
     window: Window,
@@ -265,7 +209,7 @@ pub fn put_bands(
 {
     put_bars_front(text, b'o', bottom.saturating_sub(60))?;
     put_bands_at(text, window, least, (bottom + 60) / 2, rows)?;
-    put_bars_end(text)?;
+    text.extend_from_slice(b"'/>\n")?;
     Ok(())
 }
 
@@ -319,7 +263,7 @@ fn put_band_word(text: &mut Vec<u8>, window: Window, row: &Interval) -> Result<(
 {
     if is_loss(window, row) {
         let long = pixels(window, 0, row.from, row.until);
-        put_lost_in(text, x_at(window, row.from), long, row.abandoned)?;
+        return put_lost_in(text, x_at(window, row.from), long, row.abandoned);
     }
     Ok(())
 }
@@ -330,19 +274,11 @@ fn put_lost_in(text: &mut Vec<u8>, x: u64, long: u64, value: u64) -> Result<(), 
     ensures { OnOk result (text.new.items ≡ text.old.items ++ frame.lost_in x long value) }
 {
     if room(5, value) <= long {
-        put_lost_at(text, x, value)?;
+        return put(
+            text,
+            b"<text class='v' x='@' y='70'>lost @</text>\n",
+            &[x + 3, value],
+        );
     }
     Ok(())
-}
-
-/// Appends a lost value at pixel x.
-fn put_lost_at(text: &mut Vec<u8>, x: u64, value: u64) -> Result<(), Memory>
-    requires { x ≤ 1_290 }
-    ensures { OnOk result (text.new.items ≡ text.old.items ++ frame.lost_at x value) }
-{
-    put(
-        text,
-        b"<text class='v' x='@' y='70'>lost @</text>\n",
-        &[x + 3, value],
-    )
 }

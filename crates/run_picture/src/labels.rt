@@ -79,13 +79,19 @@ fn has_number(window: Window, seen: &Seen) -> bool
     has(window, seen.release) && room(1, u64::from(seen.number)) <= long
 }
 
-/// Appends the job's number, where there is room.
+/// Appends the job's number around the height y, where there is room.
 fn put_number(text: &mut Vec<u8>, window: Window, y: u64, seen: &Seen) -> Result<(), Memory>
     requires { y ≤ 2 ^ 40 }
     ensures { OnOk result (text.new.items ≡ text.old.items ++ labels.number_of window y seen.now) }
 {
     if has_number(window, seen) {
-        put_number_at(text, x_at(window, seen.release), y, u64::from(seen.number))?;
+        let x = x_at(window, seen.release);
+        let number = u64::from(seen.number);
+        return put(
+            text,
+            b"<text x='@' y='@'>@</text>\n",
+            &[x + 2, y + 4, number],
+        );
     }
     Ok(())
 }
@@ -117,55 +123,18 @@ fn put_loss_in(
     ensures { OnOk result (text.new.items ≡ text.old.items ++ labels.loss_in x y long value against) }
 {
     if room(12, value) + 6 * digits_of(against) <= long {
-        return put_weighed_at(text, x, y, value, against);
+        return put(
+            text,
+            b"<text class='v' x='@' y='@'>-@ against @</text>\n",
+            &[x + 6, y + 4, value, against],
+        );
     }
     if room(2, value) <= long {
-        return put_lost_at(text, x, y, value);
+        return put(
+            text,
+            b"<text class='v' x='@' y='@'>-@</text>\n",
+            &[x + 6, y + 4, value],
+        );
     }
     Ok(())
-}
-
-/// Appends a number behind pixel x, around the height y.
-fn put_number_at(text: &mut Vec<u8>, x: u64, y: u64, number: u64) -> Result<(), Memory>
-    requires x { x ≤ 1_290 }
-    requires y { y ≤ 2 ^ 40 }
-    ensures { OnOk result (text.new.items ≡ text.old.items ++ labels.number_at x y number) }
-{
-    put(
-        text,
-        b"<text x='@' y='@'>@</text>\n",
-        &[x + 2, y + 4, number],
-    )
-}
-
-/// Appends a lost value behind pixel x.
-fn put_lost_at(text: &mut Vec<u8>, x: u64, y: u64, value: u64) -> Result<(), Memory>
-    requires x { x ≤ 1_290 }
-    requires y { y ≤ 2 ^ 40 }
-    ensures { OnOk result (text.new.items ≡ text.old.items ++ labels.lost_at x y value) }
-{
-    put(
-        text,
-        b"<text class='v' x='@' y='@'>-@</text>\n",
-        &[x + 6, y + 4, value],
-    )
-}
-
-/// Appends a lost value behind pixel x, and what it was weighed against.
-fn put_weighed_at(
-    text: &mut Vec<u8>,
-    x: u64,
-    y: u64,
-    value: u64,
-    against: u64,
-) -> Result<(), Memory>
-    requires x { x ≤ 1_290 }
-    requires y { y ≤ 2 ^ 40 }
-    ensures { OnOk result (text.new.items ≡ text.old.items ++ labels.weighed_at x y value against) }
-{
-    put(
-        text,
-        b"<text class='v' x='@' y='@'>-@ against @</text>\n",
-        &[x + 6, y + 4, value, against],
-    )
 }

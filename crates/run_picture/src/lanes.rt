@@ -8,7 +8,7 @@ use dover_model::Memory;
 use std::alloc::Global;
 
 /// What is told of a job, and its row.
-#[derive(Clone, Copy, Debug, PartialEq, Eq)]
+#[derive(Clone, Copy)]
 pub struct Lane {
     pub seen: Seen,
     pub row: u32,

@@ -1,5 +1,5 @@
 //! Marks in the lanes, step by step.
-ghost use Rattle.std.specs.Prelude.{◌≡◌, ◌≤◌, ◌++◌, ◌^◌, OnOk};
+ghost use Rattle.std.specs.Prelude.{◌≡◌, ◌≤◌, ◌++◌, ◌^◌, OnOk, codes, if◌then◌else◌};
 ghost use Rattle.run_picture.specs.Marks as marks;
 
 use crate::lanes::{Lane, lane_at, middle};
@@ -118,7 +118,7 @@ fn put_cross_in(
     ensures { OnOk result (text.new.items ≡ text.old.items ++ marks.cross_in window unit at lane.now) }
 {
     if has(window, at) {
-        put_cross(text, x_at(window, at), middle(unit, lane), unit / 2)?;
+        return put_cross(text, x_at(window, at), middle(unit, lane), unit / 2);
     }
     Ok(())
 }
@@ -127,14 +127,9 @@ fn put_cross_in(
 fn put_cross(text: &mut Vec<u8>, x: u64, y: u64, high: u64) -> Result<(), Memory>
     ensures { OnOk result (text.new.items ≡ text.old.items ++ marks.cross x y high) }
 {
-    put_cross_from(text, x.saturating_sub(3), y.saturating_sub(high / 2), high)
-}
-
-/// Appends a cross of this height, from its upper left on.
-fn put_cross_from(text: &mut Vec<u8>, x: u64, y: u64, high: u64) -> Result<(), Memory>
-    ensures { OnOk result (text.new.items ≡ text.old.items ++ marks.cross_from x y high) }
-{
-    put(text, b"M@ @l6 @m0-@l-6 @", &[x, y, high, high, high])
+    let left = x.saturating_sub(3);
+    let top = y.saturating_sub(high / 2);
+    put(text, b"M@ @l6 @m0-@l-6 @", &[left, top, high, high, high])
 }
 
 /// Appends arrows from job to job, where one preempts or else where one takes the processor.
@@ -210,10 +205,16 @@ fn put_arrow(text: &mut Vec<u8>, x: u64, from: u64, until: u64) -> Result<(), Me
     ensures { OnOk result (text.new.items ≡ text.old.items ++ marks.arrow x from until) }
 {
     put(text, b"M@ @V@", &[x, from, until])?;
-    if from < until {
-        text.extend_from_slice(b"m-2-4h4l-2 4")?;
-    } else {
-        text.extend_from_slice(b"m-2 4h4l-2-4")?;
-    }
+    text.extend_from_slice(head(from < until))?;
     Ok(())
+}
+
+/// The head of an arrow, by whether it goes down.
+fn head(down: bool) -> &'static [u8]
+    ensures { result.now ≡ (if down then codes "m-2-4h4l-2 4" else codes "m-2 4h4l-2-4") }
+{
+    if down {
+        return b"m-2-4h4l-2 4";
+    }
+    b"m-2 4h4l-2-4"
 }

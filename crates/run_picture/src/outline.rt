@@ -9,7 +9,7 @@ use dover_model::{Event, Job, Memory};
 use dover_report::value_of;
 
 /// What is measured.
-#[derive(Clone, Copy, Debug, PartialEq, Eq)]
+#[derive(Clone, Copy)]
 pub enum Measure {
     Ready,
     Completed,
@@ -17,7 +17,7 @@ pub enum Measure {
 }
 
 /// How an outline is drawn.
-#[derive(Clone, Copy, Debug, PartialEq, Eq)]
+#[derive(Clone, Copy)]
 pub struct Outline {
     pub window: Window,
     pub measure: Measure,
@@ -180,7 +180,7 @@ fn put_stairs(
     put_last(text, rise(outline, number), outline.base)
 }
 
-/// Appends a stair, where the pixel is another one.
+/// Appends a stair up to a number and right to a pixel, where that is another one.
 fn put_stair_to(
     text: &mut Vec<u8>,
     outline: &Outline,
@@ -193,13 +193,7 @@ fn put_stair_to(
     if x == next {
         return Ok(());
     }
-    put_stair(text, rise(outline, number), next)
-}
-
-/// Appends a stair up to a height and right to a pixel.
-fn put_stair(text: &mut Vec<u8>, y: u64, next: u64) -> Result<(), Memory>
-    ensures { OnOk result (text.new.items ≡ text.old.items ++ outlines.stair y next) }
-{
+    let y = rise(outline, number);
     put(text, b"V@H@", &[y, next])
 }
 

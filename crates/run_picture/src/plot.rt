@@ -62,17 +62,7 @@ pub fn pixels(window: Window, least: u64, from: u64, until: u64) -> u64
     least.max(x_at(window, until).saturating_sub(x_at(window, from)))
 }
 
-/// Appends a bar so long, from pixel x on, around the height y.
-fn put_dash(text: &mut Vec<u8>, x: u64, y: u64, long: u64) -> Result<(), Memory>
-    ensures { OnOk result (text.new.items ≡ text.old.items ++ plot.dash x y long) }
-{
-    if long == 0 {
-        return Ok(());
-    }
-    put(text, b"M@ @h@", &[x, y, long])
-}
-
-/// Appends the bar of these ticks.
+/// Appends the bar of these ticks around the height y, where it has a length.
 pub fn put_bar(
     text: &mut Vec<u8>,
     window: Window,
@@ -84,7 +74,10 @@ pub fn put_bar(
     requires { least ≤ 1_290 }
     ensures { OnOk result (text.new.items ≡ text.old.items ++ plot.bar window least from until y) }
 {
-    let x = x_at(window, from);
     let long = pixels(window, least, from, until);
-    put_dash(text, x, y, long)
+    if long == 0 {
+        return Ok(());
+    }
+    let x = x_at(window, from);
+    put(text, b"M@ @h@", &[x, y, long])
 }

@@ -6,7 +6,7 @@ use dover_model::{Event, Memory, Piece};
 use std::alloc::Global;
 
 /// The job that has the processor, from this tick on.
-#[derive(Clone, Copy, Debug, PartialEq, Eq)]
+#[derive(Clone, Copy)]
 pub struct Runner {
     pub number: u32,
     pub from: u64,

@@ -7,7 +7,7 @@ use dover_model::{Event, Job, Memory};
 use std::alloc::Global;
 
 /// How a job ended, and at which tick.
-#[derive(Clone, Copy, Debug, PartialEq, Eq)]
+#[derive(Clone, Copy)]
 pub enum Fate {
     Open,
     Completed(u64),
@@ -15,7 +15,7 @@ pub enum Fate {
 }
 
 /// What is told of a job.
-#[derive(Clone, Copy, Debug, PartialEq, Eq)]
+#[derive(Clone, Copy)]
 pub struct Seen {
     pub number: u32,
     pub release: u64,

@@ -8,7 +8,7 @@ use crate::template::{put, room};
 use dover_model::{Memory, Piece};
 
 /// Where bars are drawn.
-#[derive(Clone, Copy, Debug, PartialEq, Eq)]
+#[derive(Clone, Copy)]
 pub struct Bars {
     pub window: Window,
     /// How many pixels a row is high; 0 for the strip.
@@ -89,14 +89,11 @@ fn put_number_in(text: &mut Vec<u8>, left: u64, long: u64, number: u64) -> Resul
     ensures { OnOk result (text.new.items ≡ text.old.items ++ strip.number_in left long number) }
 {
     if room(0, number) <= long {
-        put_number_at(text, left + long / 2, number)?;
+        return put(
+            text,
+            b"<text x='@' y='91'>@</text>\n",
+            &[left + long / 2, number],
+        );
     }
     Ok(())
-}
-
-/// Appends a number, around pixel x.
-fn put_number_at(text: &mut Vec<u8>, x: u64, number: u64) -> Result<(), Memory>
-    ensures { OnOk result (text.new.items ≡ text.old.items ++ strip.number_at x number) }
-{
-    put(text, b"<text x='@' y='91'>@</text>\n", &[x, number])
 }

@@ -48,66 +48,36 @@ fn put_window(text: &mut Vec<u8>, window: Window, y: u64, seen: &Seen) -> Result
 fn put_shape(text: &mut Vec<u8>, window: Window, y: u64, seen: &Seen) -> Result<(), Memory>
     ensures { OnOk result (text.new.items ≡ text.old.items ++ windows.shape window y seen.now) }
 {
-    put_front(text, seen.is_gone())?;
+    text.extend_from_slice(front(seen.is_gone()))?;
     put_bar(text, window, 1, seen.release, seen.deadline, y)?;
     text.extend_from_slice(b"'><title>")?;
     Ok(())
 }
 
-/// Appends the front of the bar, by whether the job is abandoned.
-fn put_front(text: &mut Vec<u8>, gone: bool) -> Result<(), Memory>
-    ensures { OnOk result (text.new.items ≡ text.old.items ++ windows.front gone) }
+/// The front of the bar, by whether the job is abandoned.
+fn front(gone: bool) -> &'static [u8]
+    ensures { result.now ≡ windows.front gone }
 {
     if gone {
-        text.extend_from_slice(b"<path class='g' d='")?;
-    } else {
-        text.extend_from_slice(b"<path d='")?;
+        return b"<path class='g' d='";
     }
-    Ok(())
+    b"<path d='"
 }
 
-/// Appends the tooltip, and the end of the bar.
+/// Appends the tooltip, which is all that is told of the job, and the end of the bar.
 fn put_title(text: &mut Vec<u8>, seen: &Seen) -> Result<(), Memory>
     ensures { OnOk result (text.new.items ≡ text.old.items ++ windows.titled seen.now) }
 {
-    put_note(text, seen)?;
-    text.extend_from_slice(b"</title></path>\n")?;
-    Ok(())
-}
-
-/// Appends all that is told of a job.
-fn put_note(text: &mut Vec<u8>, seen: &Seen) -> Result<(), Memory>
-    ensures { OnOk result (text.new.items ≡ text.old.items ++ windows.note seen.now) }
-{
-    put_job_numbers(
-        text,
-        u64::from(seen.number),
-        seen.release,
-        seen.deadline,
-        seen.work,
-        seen.value,
-    )?;
-    put_weighed(text, seen)?;
-    put_ended(text, seen.fate)?;
-    Ok(())
-}
-
-/// Appends the numbers of a job: release to deadline, work and value.
-fn put_job_numbers(
-    text: &mut Vec<u8>,
-    number: u64,
-    release: u64,
-    deadline: u64,
-    work: u64,
-    value: u64,
-) -> Result<(), Memory>
-    ensures { OnOk result (text.new.items ≡ text.old.items ++ windows.numbers number release deadline work value) }
-{
+    let number = u64::from(seen.number);
     put(
         text,
         b"job @: @ to @, work @, value @",
-        &[number, release, deadline, work, value],
-    )
+        &[number, seen.release, seen.deadline, seen.work, seen.value],
+    )?;
+    put_weighed(text, seen)?;
+    put_ended(text, seen.fate)?;
+    text.extend_from_slice(b"</title></path>\n")?;
+    Ok(())
 }
 
 /// Appends what stood against the job's value, where it was weighed.
@@ -115,9 +85,10 @@ fn put_weighed(text: &mut Vec<u8>, seen: &Seen) -> Result<(), Memory>
     ensures { OnOk result (text.new.items ≡ text.old.items ++ windows.weighed seen.now) }
 {
     if seen.is_gone() {
-        put(text, b" against @", &[seen.against])?;
-    } else if seen.took {
-        put(text, b" against @, taken", &[seen.against])?;
+        return put(text, b" against @", &[seen.against]);
+    }
+    if seen.took {
+        return put(text, b" against @, taken", &[seen.against]);
     }
     Ok(())
 }

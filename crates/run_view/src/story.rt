@@ -16,7 +16,7 @@ use room_ledger::rooms;
 use std::alloc::Global;
 
 /// The job that is asked about.
-#[derive(Clone, Copy, Debug, PartialEq, Eq)]
+#[derive(Clone, Copy)]
 pub struct Asked {
     /// The ratio of its run.
     pub k: Ratio,
@@ -25,7 +25,7 @@ pub struct Asked {
 }
 
 /// What is weighed at a step.
-#[derive(Clone, Copy, Debug, PartialEq, Eq)]
+#[derive(Clone, Copy)]
 pub struct Weighed {
     /// What the running and the held jobs are worth.
     pub worth: u64,
@@ -263,22 +263,20 @@ fn put_fitted(text: &mut Vec<u8>, work: u64, room: u64) -> Result<(), Memory>
     ensures { OnOk result (text.new.items ≡ text.old.items ++ story.fitted work room) }
 {
     put(text, b", its work ", work)?;
-    put_side(text, work <= room)?;
+    text.extend_from_slice(side(work <= room))?;
     put(text, b" the room ", room)?;
     text.extend_from_slice(b"\n")?;
     Ok(())
 }
 
-/// Appends whether a work is within the room.
-fn put_side(text: &mut Vec<u8>, fits: bool) -> Result<(), Memory>
-    ensures { OnOk result (text.new.items ≡ text.old.items ++ story.side fits) }
+/// Whether a work is within the room.
+fn side(fits: bool) -> &'static [u8]
+    ensures { result.now ≡ story.side fits }
 {
     if fits {
-        text.extend_from_slice(b" within")?;
-    } else {
-        text.extend_from_slice(b" above")?;
+        return b" within";
     }
-    Ok(())
+    b" above"
 }
 
 /// Appends what a release means for the job of this number, which starts at once or else waits.

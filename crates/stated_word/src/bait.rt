@@ -8,7 +8,7 @@ ghost use Rattle.adversary.specs.Baiting.{FitsLimits};
 ghost use Rattle.bait_run.specs.Baiting.{CompletesLastAlone};
 ghost use Rattle.stated_word.specs.Baited.{Baits, baited_lines, bait_instance, size_text};
 ghost use Rattle.stated_word.specs.Record.{Refuses, IsAnswerFor};
-ghost use Rattle.dover_core.specs.Spending.{AreFew};
+ghost use Rattle.queued_jobs.specs.Spending.{AreFew};
 
 use crate::serving::serve_all;
 use adversary::Bait;
@@ -22,7 +22,7 @@ use step_count::Steps;
 
 /// What is said of a baiting feed: its jobs, the value that its run completes, the value of the given schedule, and the
 /// bound.
-#[derive(Clone, Copy, Debug, PartialEq, Eq)]
+#[derive(Clone, Copy)]
 struct Baited {
     jobs: u64,
     value: u64,

@@ -6,7 +6,7 @@ ghost use Rattle.dover_core.specs.declared.horizon.Horizon.TheVariants.{Mark, En
 ghost use Rattle.dover_core.specs.Service.{MayFollow, list_of};
 ghost use Rattle.stated_word.specs.Lists.{stated};
 ghost use Rattle.stated_word.specs.Serving.{HasTallied};
-ghost use Rattle.dover_core.specs.Spending.{HasSpent, AreFew};
+ghost use Rattle.queued_jobs.specs.Spending.{HasSpent, AreFew};
 ghost use Rattle.stated_word.specs.Tallied.{tally_of};
 
 use crate::stated::Stated;

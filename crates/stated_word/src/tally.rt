@@ -11,7 +11,7 @@ use root_compare::bound;
 
 /// What was counted of the printed steps so far: jobs that are done and the value that End names, jobs that are gone
 /// and their value, takes.
-#[derive(Clone, Copy, Debug, PartialEq, Eq)]
+#[derive(Clone, Copy)]
 pub(crate) struct Tally {
     pub(crate) completed: u64,
     pub(crate) value: u64,

@@ -6,7 +6,7 @@ ghost use Rattle.dover_port.specs.Causes.{Causes, StopsWith};
 ghost use Rattle.dover_port.specs.Moves.{Since};
 ghost use Rattle.stated_word.specs.Lists.{trial_instance};
 ghost use Rattle.stated_word.specs.Record.{Writes, IsAnswer};
-ghost use Rattle.dover_core.specs.Spending.{AreFew};
+ghost use Rattle.queued_jobs.specs.Spending.{AreFew};
 
 use crate::lines::write_summary;
 use crate::serving::serve_all;

@@ -4,7 +4,7 @@ use Rattle.dover_port.specs.declared.status.Status.TheVariants.{Done, WriteFault
 use Rattle.dover_port.proofs.Made.{since_none, since_weaker}
 use Rattle.adversary.specs.Baiting.{Baiting}
 use Rattle.dover_model.specs.Bait.{bait_jobs}
-use Rattle.dover_core.specs.Spending.{AreFew}
+use Rattle.queued_jobs.specs.Spending.{AreFew}
 use Rattle.stated_word.specs.Baited.{baited_lines}
 use Rattle.stated_word.specs.declared.bait.Baited.{Baited}
 use Rattle.stated_word.proofs.Baiting.{feed_valid, feed_alone, feed_count, baited_is, never_fits, refuses_what}

@@ -3,7 +3,7 @@ use Rattle.dover_core.specs.declared.horizon.Horizon.TheVariants.{End}
 use Rattle.dover_core.specs.Service.{MayFollow, list_of, steps_left}
 use Rattle.stated_word.specs.Serving.{IsFinishing}
 use Rattle.dover_model.specs.Sound.{IsSound}
-use Rattle.dover_core.specs.Spending.{HasSpent}
+use Rattle.queued_jobs.specs.Spending.{HasSpent}
 use Rattle.stated_word.proofs.serving.finish.Given as goal
 
 -- The run was taken some steps further and they were counted, and the jobs are the same.

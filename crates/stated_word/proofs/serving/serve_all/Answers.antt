@@ -5,8 +5,9 @@ use Rattle.dover_model.specs.Run.{printed}
 use Rattle.dover_core.specs.declared.horizon.Horizon.TheVariants.{Mark}
 use Rattle.dover_core.specs.Service.{Service, MayFollow}
 use Rattle.stated_word.specs.Serving.{HasTallied}
-use Rattle.dover_core.specs.Spending.{AreFew}
-use Rattle.dover_core.proofs.Spending.{spent_none, spent_job, spent_all}
+use Rattle.queued_jobs.specs.Spending.{AreFew}
+use Rattle.queued_jobs.proofs.Spending.{spent_none}
+use Rattle.dover_core.proofs.Spending.{spent_job, spent_all}
 use Rattle.stated_word.specs.Tallied.{tally_of}
 use Rattle.stated_word.specs.declared.tally.Tally.{Tally}
 use Rattle.stated_word.proofs.Admitting.{Serves, serves_none, next_follows, next_tallied, admits, serves_next}

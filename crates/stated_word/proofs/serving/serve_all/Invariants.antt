@@ -1,6 +1,6 @@
 use Rattle.std.proofs.Common.{length}
 use Rattle.stated_word.specs.Lists.{stated}
-use Rattle.dover_core.specs.Spending.{HasSpent}
+use Rattle.queued_jobs.specs.Spending.{HasSpent}
 use Rattle.stated_word.proofs.Admitting.{Serves}
 use Rattle.stated_word.proofs.serving.serve_all.Given as goal
 

@@ -2,7 +2,7 @@ use Rattle.std.proofs.Common.{◌≡◌, ◌≤◌, ℕ}
 use Rattle.dover_core.specs.declared.horizon.Horizon.TheVariants.{Mark}
 use Rattle.dover_core.specs.Service.{MayFollow, list_of, steps_left}
 use Rattle.stated_word.specs.Serving.{HasTallied}
-use Rattle.dover_core.specs.Spending.{HasSpent}
+use Rattle.queued_jobs.specs.Spending.{HasSpent}
 use Rattle.stated_word.proofs.serving.settle.Given as goal
 
 -- Some steps were taken and counted, and the jobs are the same.

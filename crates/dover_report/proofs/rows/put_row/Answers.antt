@@ -1,0 +1,15 @@
+use Rattle.std.proofs.Common.{◌++◌, ◌∷◌, [], map, ap, ◌∙◌, decimal}
+use Rattle.dover_model.specs.JobFacts.{job_numbers}
+use Rattle.dover_report.specs.Rows.{after_commas, ending_fields}
+use Rattle.dover_report.proofs.Texts.{row_is}
+use Rattle.dover_report.proofs.rows.put_row.Goals as goal
+
+pub returns : goal.returns
+returns c = c.in_ok-push.ensures.items
+    ∙ ap (λ s. s ++ 10 ∷ []) (c.in_ok-put_fields.ensures
+    ∙ ap (λ s. s ++ after_commas (ending_fields c.args.ending))
+    ((rw (c.release.ensures.is, c.work.ensures.is, c.deadline.ensures.is, c.value.ensures.is) at
+    c.in_ok-put_numbers.ensures)
+    ∙ ap (λ s. s ++ after_commas (map decimal (job_numbers c.args.job.now))) c.in_ok-put_number.ensures))
+    ∙ row_is c.args.text.now.items (decimal c.args.number) (map decimal (job_numbers c.args.job.now))
+    (ending_fields c.args.ending)

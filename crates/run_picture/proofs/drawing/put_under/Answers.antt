@@ -1,0 +1,19 @@
+use Rattle.std.proofs.Common.{[], ◌∷◌, refl, ◌+◌}
+use Rattle.run_view.proofs.Joining.{joined}
+use Rattle.run_picture.specs.Frame.{page, axis}
+use Rattle.run_picture.specs.Legends.{lanes_legend}
+use Rattle.run_picture.specs.Pictures.{ground_of, all_bands, under}
+use Rattle.run_picture.proofs.drawing.put_under.Goals as goal
+
+pub returns : goal.returns
+unfolding ground_of under
+returns c = joined c.args.text.now.items
+    (page (c.args.bottom + 36) c.args.counts.now
+    ∷ axis c.args.window c.args.bottom
+    ∷ lanes_legend
+    ∷ all_bands c.args.window 1 c.args.bottom c.args.rows.now
+    ∷ []) _ (
+      _,
+      c.in_ok-put_page.ensures,
+      (_, c.in_ok-put_axis.ensures, (_, c.in_ok-put_lanes_legend.ensures, (_, c.in_ok-put_all_bands.ensures, refl))),
+    )

@@ -1,0 +1,19 @@
+use Rattle.std.proofs.Common.{[], ◌∷◌, refl}
+use Rattle.run_view.proofs.Joining.{joined}
+use Rattle.run_picture.specs.Frame.{page, axis}
+use Rattle.run_picture.specs.Legends.{load_legend}
+use Rattle.run_picture.specs.Pictures.{ground_of, all_bands, under_load}
+use Rattle.run_picture.proofs.drawing.put_under_load.Goals as goal
+
+pub returns : goal.returns
+unfolding ground_of under_load
+returns c = joined c.args.text.now.items
+    (page 510 c.args.counts.now
+    ∷ axis c.args.window 474
+    ∷ load_legend
+    ∷ all_bands c.args.window 0 474 c.args.rows.now
+    ∷ []) _ (
+      _,
+      c.in_ok-put_page.ensures,
+      (_, c.in_ok-put_axis.ensures, (_, c.in_ok-put_load_legend.ensures, (_, c.in_ok-put_all_bands.ensures, refl))),
+    )

@@ -1,0 +1,23 @@
+use Rattle.std.proofs.Common.{[], ◌∷◌, refl}
+use Rattle.run_view.proofs.Joining.{joined}
+use Rattle.run_picture.specs.Legends.{styles, legend}
+use Rattle.run_picture.specs.Frame.{front, ground, title, blank, page}
+use Rattle.run_picture.proofs.frame.put_page.Goals as goal
+
+pub returns : goal.returns
+unfolding blank page
+returns c = joined c.args.text.now.items
+    (front c.args.high
+    ∷ styles
+    ∷ ground c.args.high
+    ∷ title c.args.counts.now
+    ∷ legend
+    ∷ []) _ (
+      _,
+      c.in_ok-put.ensures,
+      (
+        _,
+        c.in_ok-put_styles.ensures,
+        (_, c.in_ok-put-2.ensures, (_, c.in_ok-put-3.ensures, (_, c.in_ok-put_legend.ensures, refl))),
+      ),
+    )

@@ -1,4 +1,0 @@
-use Rattle.run_picture.proofs.labels.put_number_at.Goals as goal
-
-pub returns : goal.returns
-returns c = c.put.ensures

@@ -1,0 +1,5 @@
+use Rattle.std.proofs.Common.{refl}
+use Rattle.run_picture.proofs.lanes.nowhere.Goals as goal
+
+pub returns : goal.returns
+returns c = refl

@@ -1,4 +1,0 @@
-use Rattle.run_picture.proofs.panels.put_values_frame.Goals as goal
-
-pub returns : goal.returns
-returns c = c.put.ensures
