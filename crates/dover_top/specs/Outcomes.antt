@@ -2,7 +2,7 @@
 use Rattle.std.specs.Prelude.{◌≡◌, ℕ, List, [], length, ◌⊎◌}
 use Rattle.dover_model.specs.Bait.{bait_jobs}
 use Rattle.dover_model.specs.Reports.{summary}
-use Rattle.dover_core.specs.Spending.{AreFew}
+use Rattle.queued_jobs.specs.Spending.{AreFew}
 use Rattle.dover_port.specs.Causes.{IsAnswer}
 use Rattle.dover_port.specs.Moves.{Move}
 use Rattle.dover_port.specs.declared.status.Status.{Status}
@@ -123,6 +123,8 @@ IsCalledFor (Unroll until) status = IsUnrolled until status
 -- how few comparisons it made, with so many before and now, for the jobs of what was read; for some words at Done alone
 abbrev pub IsFrugal : Request → Status → (before now : ℕ) → List Move → Type 0
 IsFrugal Serve status before now = served.IsFrugal before now
+IsFrugal Judge status before now = judged.IsFrugal before now
+IsFrugal (Report form) status before now = judged.IsFrugal before now
 IsFrugal Pause status before now = served.IsFrugal before now
 IsFrugal (Resume at_end) status before now = resumed.IsFrugal before now
 IsFrugal (Ask question) Done before now = compared.IsFrugal before now

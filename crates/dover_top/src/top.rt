@@ -72,9 +72,10 @@ pub fn dover<P: Port, L: Ledger>(
         Since (P.moves port.old) (P.moves port.new) (IsCalledFor request result) }
 
     // How many comparisons a call makes: for n jobs at most 80 * (n + 1) * d, where n + 1 has at most d binary digits;
-    // serve and pause at every status, for the jobs that were admitted, none before a ratio line; resume and resume
-    // pause at every status, for the jobs of the snapshot and those admitted behind it together, and before its last
-    // line for those of its lines so far; the questions at Done.
+    // serve and pause at every status, for the jobs that were admitted, none before a ratio line; judge and report at
+    // every status, for the whole lines that name a job; resume and resume pause at every status, for the jobs of the
+    // snapshot and those admitted behind it together, and before its last line for those of its lines so far; the
+    // questions at Done.
     ensures comparisons { (request : Request) → Asks words.now request →
         Since (P.moves port.old) (P.moves port.new) (IsFrugal request result steps.old steps.new) }
     // trial and bait at Done, where the words alone tell how many jobs there are.

@@ -49,7 +49,7 @@ pub returns-in-Judge-clause-comparisons : goal.returns-in-Judge-clause-compariso
 returns-in-Judge-clause-comparisons g c =
     subst (λ r. Since (g.P.Port.moves c.args.port.now) (g.P.Port.moves c.judge_word.new.port)
     (IsFrugal r c.judge_word.result c.args.steps.now c.judge_word.new.steps))
-    (sym c.in-Judge.is) (since_weaker _ _ _ _ c.judge_word.ensures.judges (λ xs s. tt))
+    (sym c.in-Judge.is) c.judge_word.ensures.count
 
 pub returns-in-Judge-clause-stated : goal.returns-in-Judge-clause-stated
 returns-in-Judge-clause-stated g c =
@@ -78,7 +78,7 @@ pub returns-in-Report-clause-comparisons : goal.returns-in-Report-clause-compari
 returns-in-Report-clause-comparisons g c =
     subst (λ r. Since (g.P.Port.moves c.args.port.now) (g.P.Port.moves c.report_word.new.port)
     (IsFrugal r c.report_word.result c.args.steps.now c.report_word.new.steps))
-    (sym c.in-Report.is) (since_weaker _ _ _ _ c.report_word.ensures.reports (λ xs s. tt))
+    (sym c.in-Report.is) c.report_word.ensures.count
 
 pub returns-in-Report-clause-stated : goal.returns-in-Report-clause-stated
 returns-in-Report-clause-stated g c =
