@@ -94,6 +94,22 @@ fn lines_are_put(rt: HostRuntime) -> Result<(), Fail> {
     Ok(())
 }
 
+/// Whether an output whose flush fails keeps its bytes, so that the next flush puts them.
+fn is_kept(alloc: Global) -> Result<bool, Fail> {
+    let mut port = port(alloc, 1, 4096)?;
+    let mut out = Output::new();
+    let is_put = put_numbers(&mut port, &mut out, b"jobs", &[3]).is_ok();
+    let is_failed = out.flush(&mut port).is_err();
+    let is_flushed = out.flush(&mut port).is_ok();
+    Ok(is_put && is_failed && is_flushed && port.written() == "jobs 3\n".as_bytes())
+}
+
+#[test]
+fn a_failed_flush_keeps_the_bytes(rt: HostRuntime) -> Result<(), Fail> {
+    assert!(rt; is_kept(rt.alloc())?);
+    Ok(())
+}
+
 fn is_worded(alloc: Global, fault: FeedFault, text: &str) -> Result<bool, Fail> {
     let mut port = port(alloc, 0, 4096)?;
     let mut out = Output::new();

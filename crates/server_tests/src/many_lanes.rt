@@ -2,6 +2,8 @@
 ghost use Rattle.std.specs.Prelude.{◌≡◌, ◌<◌, ℕ, List, [], Ok, true, false};
 ghost use Rattle.lane_server.specs.Kept.{StandsFor, IsReady, is_closed};
 
+use dispatcher::Dispatcher;
+use dover_core::Server;
 use dover_model::{Event, Job, Memory, Ratio, Refusal, Version};
 use event_feed::Cause;
 use lane_server::{LaneFault, LaneOut, LaneStep, Lanes};
@@ -15,13 +17,13 @@ use step_count::Steps;
 const MANY: u32 = 100;
 
 // Gives the lines that are left, and says whether that were all.
-fn drain<L: Ledger>(
-    lanes: &mut Lanes,
+fn drain<D: Dispatcher, L: Ledger>(
+    lanes: &mut Lanes<D>,
     steps: &mut Steps<L>,
     outs: &mut Vec<(u8, LaneOut)>,
 ) -> Result<bool, Memory>
-    requires { (ls : List (List ℕ)) × (rest : List (List ℕ)) × StandsFor lanes.old ls rest }
-    ensures stands { result ≡ Ok true → (ls : List (List ℕ)) × StandsFor lanes.new ls [] }
+    requires { (ls : List (List ℕ)) × (rest : List (List ℕ)) × StandsFor D.serves D.has_room lanes.old ls rest }
+    ensures stands { result ≡ Ok true → (ls : List (List ℕ)) × StandsFor D.serves D.has_room lanes.new ls [] }
     ensures ready { result ≡ Ok true → is_closed lanes.old ≡ false → IsReady lanes.new }
 {
     for _ in 0..MANY {
@@ -41,13 +43,17 @@ struct Outcome {
     ended: Option<bool>,
 }
 
-fn outcome_in<L: Ledger>(rt: &HostRuntime, lines: &[&[u8]], blank: Blank) -> Result<Outcome, Memory>
+fn outcome_in<D: Dispatcher, L: Ledger>(
+    rt: &HostRuntime,
+    lines: &[&[u8]],
+    blank: Blank,
+) -> Result<Outcome, Memory>
     requires name { blank.name ≡ L.name }
     requires parts { blank.parts ≡ L.parts }
     requires some { 0 < blank.parts }
 {
     let mut steps: Steps<L> = Steps::new(rt.memory(), blank);
-    let mut lanes = Lanes::new(rt.alloc())?;
+    let mut lanes = Lanes::<D>::new(rt.alloc())?;
     let mut outs = Vec::new(rt.alloc());
     let mut last = None;
     let mut ended = None;
@@ -71,7 +77,7 @@ fn outcome_in<L: Ledger>(rt: &HostRuntime, lines: &[&[u8]], blank: Blank) -> Res
 }
 
 fn run(rt: &HostRuntime, lines: &[&[u8]]) -> Result<Outcome, Memory> {
-    outcome_in::<Brand>(rt, lines, Blank::new(1))
+    outcome_in::<Server, Brand>(rt, lines, Blank::new(1))
 }
 
 // The header of a lane.

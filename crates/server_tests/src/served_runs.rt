@@ -79,7 +79,7 @@ fn are_jobs(jobs: &[Job]) -> bool
     jobs.iter().copied().all(|job| is_job(&job))
 }
 
-fn assert_valid(rt: &impl Abort, k: Ratio, jobs: &[Job])
+pub(crate) fn assert_valid(rt: &impl Abort, k: Ratio, jobs: &[Job])
     ensures { (version : Version) → IsValid (record {
       rules = record { ratio = k; version = version };
       jobs = jobs.now;
@@ -104,7 +104,7 @@ fn text(alloc: Global, word: &str, numbers: &[u64]) -> Result<String, Memory> {
     Ok(text)
 }
 
-fn line(alloc: Global, e: &Event) -> Result<String, Memory> {
+pub(crate) fn line(alloc: Global, e: &Event) -> Result<String, Memory> {
     match *e {
         Event::Release { number, job } => {
             let (release, work, deadline, value) = (
@@ -194,7 +194,10 @@ fn printed<L: Ledger>(
 }
 
 // The jobs of these numbers.
-fn jobs(rt: &(impl Abort + AllocGlobal), numbers: &[[u64; 4]]) -> Result<Vec<Job>, Memory> {
+pub(crate) fn jobs(
+    rt: &(impl Abort + AllocGlobal),
+    numbers: &[[u64; 4]],
+) -> Result<Vec<Job>, Memory> {
     let mut jobs = Vec::new(rt.alloc());
     for n in numbers {
         jobs.push(Job::new(n[0], n[1], n[2], n[3]).expect(rt, "a job"))?;
@@ -219,8 +222,11 @@ fn assert_prints(
     Ok(())
 }
 
-/// Versions, ratios, the numbers of jobs, and what is printed of them.
-const WORKED: [(Version, (u32, u32), &[[u64; 4]], &str); 19] = [
+/// A version, a ratio, the numbers of jobs, and what is printed of them.
+pub(crate) type Worked = (Version, (u32, u32), &'static [[u64; 4]], &'static str);
+
+/// The worked examples.
+pub(crate) const WORKED: [Worked; 19] = [
     (
         Version::One,
         (1, 1),
@@ -385,7 +391,7 @@ const WORKED: [(Version, (u32, u32), &[[u64; 4]], &str); 19] = [
 fn assert_all(
     rt: &(impl Abort + AllocGlobal),
     memory: HeapMemory,
-    rows: &[(Version, (u32, u32), &[[u64; 4]], &str)],
+    rows: &[Worked],
 ) -> Result<(), Fail> {
     for (version, ratio, numbers, want) in rows {
         assert_prints(rt, memory, *version, *ratio, *numbers, *want)?;

@@ -186,25 +186,50 @@ const RESUMES: [(&str, Status, &str); 24] = [
     ),
 ];
 
-#[test]
-fn feeds_are_paused(rt: HostRuntime) -> Result<(), Fail> {
-    for (input, status, output) in PAUSES {
-        for size in [4096, 1, 7] {
-            let called = call(&rt, &["pause"], input.as_bytes(), size)?;
-            assert!(rt; called.status == status && called.written.as_slice() == output.as_bytes());
+/// How many bytes a read gives.
+const SIZES: [usize; 3] = [4096, 1, 7];
+
+/// Whether the words end so over an input in pieces of each size, and write this.
+fn tells_in(
+    rt: &HostRuntime,
+    words: &[&'static str],
+    input: &str,
+    sizes: &[usize],
+    status: Status,
+    output: &str,
+) -> Result<bool, Fail> {
+    for size in sizes {
+        let called = call(rt, words, input.as_bytes(), *size)?;
+        if called.status != status || called.written.as_slice() != output.as_bytes() {
+            return Ok(false);
         }
     }
+    Ok(true)
+}
+
+/// Whether the words do what each row says, in pieces of each size.
+fn agree(
+    rt: &HostRuntime,
+    words: &[&'static str],
+    rows: &[(&str, Status, &str)],
+) -> Result<bool, Fail> {
+    for (input, status, output) in rows {
+        if !tells_in(rt, words, *input, &SIZES, *status, *output)? {
+            return Ok(false);
+        }
+    }
+    Ok(true)
+}
+
+#[test]
+fn feeds_are_paused(rt: HostRuntime) -> Result<(), Fail> {
+    assert!(rt; agree(&rt, &["pause"], &PAUSES)?);
     Ok(())
 }
 
 #[test]
 fn snapshots_are_resumed(rt: HostRuntime) -> Result<(), Fail> {
-    for (input, status, output) in RESUMES {
-        for size in [4096, 1, 7] {
-            let called = call(&rt, &["resume"], input.as_bytes(), size)?;
-            assert!(rt; called.status == status && called.written.as_slice() == output.as_bytes());
-        }
-    }
+    assert!(rt; agree(&rt, &["resume"], &RESUMES)?);
     Ok(())
 }
 
@@ -221,68 +246,97 @@ fn a_full_feed_has_no_line_more(rt: HostRuntime) -> Result<(), Fail> {
     Ok(())
 }
 
+/// What `resume pause` does with snapshots and what follows them.
+const AGAIN: [(&str, Status, &str); 5] = [
+    (
+        "snapshot 1 1 1 3 2 1\nstate 0 running 2 0 4 10 4\nresume\n",
+        Status::Done,
+        "snapshot 1 1 1 3 2 1\nstate 0 running 2 0 4 10 4\nresume\n",
+    ),
+    (
+        "snapshot 1 1 1 3 2 1\nstate 0 running 2 0 4 10 4\nresume\njob 2 1 4 1\n",
+        Status::Done,
+        "job 1 2 1 4 1\npreempt 2 0 1\nsnapshot 1 1 1 4 2 2\nstate 0 held 2 0 4 10 4\nstate 1 running 0 2 1 4 1\nresume\n",
+    ),
+    (
+        "snapshot 1 1 1 3 2 1\nstate 0 running 2 0 4 10 4\nresume\nend\n",
+        Status::Done,
+        "complete 4 0\nend 4\n",
+    ),
+    (
+        "snapshot 1 1 1 3 2 1\nstate 0 running 2 0 4 10 4\nresume\nx",
+        Status::Refused,
+        "refused 4 short\n",
+    ),
+    (
+        "snapshot 1 1 1 3 2 1\n",
+        Status::Refused,
+        "refused 2 snapshot\n",
+    ),
+];
+
 #[test]
 fn a_resumed_feed_is_paused_again(rt: HostRuntime) -> Result<(), Fail> {
-    for (input, status, output) in [
-        (
-            "snapshot 1 1 1 3 2 1\nstate 0 running 2 0 4 10 4\nresume\n",
-            Status::Done,
-            "snapshot 1 1 1 3 2 1\nstate 0 running 2 0 4 10 4\nresume\n",
-        ),
-        (
-            "snapshot 1 1 1 3 2 1\nstate 0 running 2 0 4 10 4\nresume\njob 2 1 4 1\n",
-            Status::Done,
-            "job 1 2 1 4 1\npreempt 2 0 1\nsnapshot 1 1 1 4 2 2\nstate 0 held 2 0 4 10 4\nstate 1 running 0 2 1 4 1\nresume\n",
-        ),
-        (
-            "snapshot 1 1 1 3 2 1\nstate 0 running 2 0 4 10 4\nresume\nend\n",
-            Status::Done,
-            "complete 4 0\nend 4\n",
-        ),
-        (
-            "snapshot 1 1 1 3 2 1\nstate 0 running 2 0 4 10 4\nresume\nx",
-            Status::Refused,
-            "refused 4 short\n",
-        ),
-        (
-            "snapshot 1 1 1 3 2 1\n",
-            Status::Refused,
-            "refused 2 snapshot\n",
-        ),
-    ] {
-        for size in [4096, 1, 7] {
-            let called = call(&rt, &["resume", "pause"], input.as_bytes(), size)?;
-            assert!(rt; called.status == status && called.written.as_slice() == output.as_bytes());
+    assert!(rt; agree(&rt, &["resume", "pause"], &AGAIN)?);
+    Ok(())
+}
+
+const FEED: &str = "k 1 1\njob 0 4 10 4\ntick 2\n";
+
+const REST: &str = "snapshot 1 1 1 3 2 1\nstate 0 running 2 0 4 10 4\nresume\nend\n";
+
+const BEGUN: &str = "dover 1 1 1\njob 0 0 4 10 4\nrun 0 0\n";
+
+/// The bytes of a piece, and the read and the write that fail, from 1 on, and 0 for none.
+type Failing = (usize, u32, u32);
+
+/// Words, inputs, how a port fails, how the call ends, and what is written.
+const FAILS: [(&str, &str, Failing, Status, &str); 9] = [
+    ("pause", FEED, (4096, 1, 0), Status::ReadFault, ""),
+    ("pause", FEED, (4096, 2, 0), Status::ReadFault, BEGUN),
+    ("pause", FEED, (4096, 0, 1), Status::WriteFault, ""),
+    ("pause", FEED, (4096, 0, 2), Status::WriteFault, BEGUN),
+    ("resume", REST, (4096, 1, 0), Status::ReadFault, ""),
+    ("resume", REST, (20, 3, 0), Status::ReadFault, ""),
+    ("resume", REST, (55, 2, 0), Status::ReadFault, ""),
+    ("resume", REST, (4096, 0, 1), Status::WriteFault, ""),
+    ("resume", "resume\n", (4096, 0, 1), Status::WriteFault, ""),
+];
+
+/// Whether the word ends so over an input at a port that fails so, and writes this.
+fn fails(
+    rt: &HostRuntime,
+    word: &'static str,
+    input: &str,
+    failing: Failing,
+    status: Status,
+    text: &str,
+) -> Result<bool, Fail> {
+    let alloc = rt.alloc();
+    let (piece, read, write) = failing;
+    let words = words_of(alloc, &[word])?;
+    let script = pieces(alloc, input.as_bytes(), piece, 0)?;
+    let fail_reads = vec![in alloc; read]?;
+    let fail_writes = vec![in alloc; write]?;
+    let mut port = MemoryPort::new(alloc, script, fail_reads, fail_writes, 4096, 4096)?;
+    Ok(answer(rt, &words, &mut port) == status && port.written() == text.as_bytes())
+}
+
+/// Whether each row's word does what the row says.
+fn all_fail(
+    rt: &HostRuntime,
+    rows: &[(&'static str, &'static str, Failing, Status, &'static str)],
+) -> Result<bool, Fail> {
+    for (word, input, failing, status, text) in rows {
+        if !fails(rt, *word, *input, *failing, *status, *text)? {
+            return Ok(false);
         }
     }
-    Ok(())
+    Ok(true)
 }
 
 #[test]
 fn failing_calls(rt: HostRuntime) -> Result<(), Fail> {
-    let alloc = rt.alloc();
-    let feed = "k 1 1\njob 0 4 10 4\ntick 2\n";
-    let rest = "snapshot 1 1 1 3 2 1\nstate 0 running 2 0 4 10 4\nresume\nend\n";
-    let begun = "dover 1 1 1\njob 0 0 4 10 4\nrun 0 0\n";
-    // the word, the input, the bytes of a piece, the read and the write that fail
-    for (word, input, piece, read, write, status, text) in [
-        ("pause", feed, 4096, 1, 0, Status::ReadFault, ""),
-        ("pause", feed, 4096, 2, 0, Status::ReadFault, begun),
-        ("pause", feed, 4096, 0, 1, Status::WriteFault, ""),
-        ("pause", feed, 4096, 0, 2, Status::WriteFault, begun),
-        ("resume", rest, 4096, 1, 0, Status::ReadFault, ""),
-        ("resume", rest, 20, 3, 0, Status::ReadFault, ""),
-        ("resume", rest, 55, 2, 0, Status::ReadFault, ""),
-        ("resume", rest, 4096, 0, 1, Status::WriteFault, ""),
-        ("resume", "resume\n", 4096, 0, 1, Status::WriteFault, ""),
-    ] {
-        let words = words_of(alloc, &[word])?;
-        let script = pieces(alloc, input.as_bytes(), piece, 0)?;
-        let fail_reads = vec![in alloc; read]?;
-        let fail_writes = vec![in alloc; write]?;
-        let mut port = MemoryPort::new(alloc, script, fail_reads, fail_writes, 4096, 4096)?;
-        let answer = answer(&rt, &words, &mut port);
-        assert!(rt; answer == status && port.written() == text.as_bytes());
-    }
+    assert!(rt; all_fail(&rt, &FAILS)?);
     Ok(())
 }

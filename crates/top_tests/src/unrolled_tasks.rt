@@ -179,59 +179,108 @@ fn port(
     )?)
 }
 
-#[test]
-fn tasks_and_their_feeds(rt: HostRuntime) -> Result<(), Fail> {
-    let alloc = rt.alloc();
-    for (until, text, status, written) in ROWS {
-        for size in [4096, 1, 7] {
-            let mut port = port(alloc, text.as_bytes(), size, 0, 0)?;
-            let ended = answer(&rt, &["unroll", until], &mut port)?;
-            assert!(rt; ended == status && port.written() == written.as_bytes());
+/// How many bytes a read gives.
+const SIZES: [usize; 3] = [4096, 1, 7];
+
+/// Whether the tasks are unrolled up to this tick so, in pieces of each size.
+fn tells_in(
+    rt: &HostRuntime,
+    until: &'static str,
+    text: &str,
+    sizes: &[usize],
+    status: Status,
+    written: &str,
+) -> Result<bool, Fail> {
+    for size in sizes {
+        let mut port = port(rt.alloc(), text.as_bytes(), *size, 0, 0)?;
+        let ended = answer(rt, &["unroll", until], &mut port)?;
+        if ended != status || port.written() != written.as_bytes() {
+            return Ok(false);
         }
     }
+    Ok(true)
+}
+
+/// Whether each text is unrolled so, in pieces of each size.
+fn agree(
+    rt: &HostRuntime,
+    rows: &[(&'static str, &'static str, Status, &'static str)],
+) -> Result<bool, Fail> {
+    for (until, text, status, written) in rows {
+        if !tells_in(rt, *until, *text, &SIZES, *status, *written)? {
+            return Ok(false);
+        }
+    }
+    Ok(true)
+}
+
+#[test]
+fn tasks_and_their_feeds(rt: HostRuntime) -> Result<(), Fail> {
+    assert!(rt; agree(&rt, &ROWS)?);
     Ok(())
+}
+
+/// Whether the call ends so, and what it writes is served to its end if it ends well.
+fn is_served(
+    rt: &HostRuntime,
+    until: &'static str,
+    text: &str,
+    status: Status,
+) -> Result<bool, Fail> {
+    let alloc = rt.alloc();
+    let mut tasks = port(alloc, text.as_bytes(), 4096, 0, 0)?;
+    let ended = answer(rt, &["unroll", until], &mut tasks)?;
+    let mut feed = port(alloc, tasks.written(), 4096, 0, 0)?;
+    let served = answer(rt, &["serve"], &mut feed)?;
+    Ok(ended == status && (served == Status::Done) == (status == Status::Done))
+}
+
+/// Whether this is so of each row.
+fn are_served(
+    rt: &HostRuntime,
+    rows: &[(&'static str, &'static str, Status, &'static str)],
+) -> Result<bool, Fail> {
+    for (until, text, status, _) in rows {
+        if !is_served(rt, *until, *text, *status)? {
+            return Ok(false);
+        }
+    }
+    Ok(true)
 }
 
 #[test]
 fn what_is_unrolled_is_served(rt: HostRuntime) -> Result<(), Fail> {
-    let alloc = rt.alloc();
-    for (until, text, status, _) in ROWS {
-        let mut tasks = port(alloc, text.as_bytes(), 4096, 0, 0)?;
-        let ended = answer(&rt, &["unroll", until], &mut tasks)?;
-        let mut feed = port(alloc, tasks.written(), 4096, 0, 0)?;
-        let served = answer(&rt, &["serve"], &mut feed)?;
-        assert!(rt; ended == status && (served == Status::Done) == (status == Status::Done));
-    }
+    assert!(rt; are_served(&rt, &ROWS)?);
     Ok(())
+}
+
+/// Whether the call over a port that fails so ends with this status, writes nothing, and makes no call behind it.
+fn is_last(rt: &HostRuntime, read: u32, write: u32, status: Status) -> Result<bool, Fail> {
+    let mut port = port(rt.alloc(), CAMERA.as_bytes(), 16, read, write)?;
+    let ended = answer(rt, &["unroll", "130"], &mut port)?;
+    Ok(ended == status && port.written().is_empty() && port.calls() == Calls::LastFailed)
 }
 
 #[test]
 fn calls_that_fail(rt: HostRuntime) -> Result<(), Fail> {
-    let alloc = rt.alloc();
-    let mut unread = port(alloc, CAMERA.as_bytes(), 16, 3, 0)?;
-    let ended = answer(&rt, &["unroll", "130"], &mut unread)?;
-    assert!(rt;
-        ended == Status::ReadFault
-            && unread.written().is_empty()
-            && unread.calls() == Calls::LastFailed
-    );
-    let mut unwritten = port(alloc, CAMERA.as_bytes(), 16, 0, 1)?;
-    let ended = answer(&rt, &["unroll", "130"], &mut unwritten)?;
-    assert!(rt;
-        ended == Status::WriteFault
-            && unwritten.written().is_empty()
-            && unwritten.calls() == Calls::LastFailed
-    );
+    assert!(rt; is_last(&rt, 3, 0, Status::ReadFault)? && is_last(&rt, 0, 1, Status::WriteFault)?);
     Ok(())
+}
+
+/// Whether each of these words is refused, with nothing read.
+fn are_unread(rt: &HostRuntime, words: &[&'static str]) -> Result<bool, Fail> {
+    for until in words {
+        let mut port = port(rt.alloc(), CAMERA.as_bytes(), 4096, 0, 0)?;
+        let ended = answer(rt, &["unroll", *until], &mut port)?;
+        if ended != Status::Usage || !port.taken().is_empty() {
+            return Ok(false);
+        }
+    }
+    Ok(true)
 }
 
 #[test]
 fn wrong_words(rt: HostRuntime) -> Result<(), Fail> {
-    let alloc = rt.alloc();
-    for until in WRONG {
-        let mut port = port(alloc, CAMERA.as_bytes(), 4096, 0, 0)?;
-        let ended = answer(&rt, &["unroll", until], &mut port)?;
-        assert!(rt; ended == Status::Usage && port.taken().is_empty());
-    }
+    assert!(rt; are_unread(&rt, &WRONG)?);
     Ok(())
 }

@@ -1,7 +1,8 @@
 //! `dover` over ports in memory: worked feeds and texts in several cuts, failing calls, wrong words.
-use crate::calls::{answer, pieces, words_of};
+use crate::calls::{answer, call, pieces, words_of};
 use crate::wrong_texts::{ENDS, HEADERS, JOBS, LINES, REFUSED, STARTS};
 use dover_port::{MemoryPort, Status};
+use std::alloc::Global;
 use std::test::Fail;
 
 /// Feeds, how each ends, and what is written for it.
@@ -428,37 +429,56 @@ fn tells(
     Ok(answer(rt, words, &mut port) == status && port.written() == text.as_bytes())
 }
 
-#[test]
-fn feeds_and_their_traces(rt: HostRuntime) -> Result<(), Fail> {
-    let words = words_of(rt.alloc(), &["serve"])?;
-    for (feed, status, text) in FEEDS {
-        for cut in CUTS {
-            assert!(rt; tells(&rt, &words, feed, cut, status, text)?);
+/// Whether the words end so over an input in each of these cuts, and write this.
+fn tells_in(
+    rt: &HostRuntime,
+    words: &[String],
+    input: &str,
+    cuts: &[(usize, usize)],
+    status: Status,
+    text: &str,
+) -> Result<bool, Fail> {
+    for cut in cuts {
+        if !tells(rt, words, input, *cut, status, text)? {
+            return Ok(false);
         }
     }
+    Ok(true)
+}
+
+/// Whether the word does what each row says, in each cut.
+fn agree(
+    rt: &HostRuntime,
+    word: &'static str,
+    rows: &[(&'static str, Status, &'static str)],
+) -> Result<bool, Fail> {
+    let words = words_of(rt.alloc(), &[word])?;
+    for (input, status, text) in rows {
+        if !tells_in(rt, &words, *input, &CUTS, *status, *text)? {
+            return Ok(false);
+        }
+    }
+    Ok(true)
+}
+
+#[test]
+fn feeds_and_their_traces(rt: HostRuntime) -> Result<(), Fail> {
+    assert!(rt; agree(&rt, "serve", &FEEDS)?);
     Ok(())
 }
 
 #[test]
 fn texts_and_their_verdicts(rt: HostRuntime) -> Result<(), Fail> {
-    let words = words_of(rt.alloc(), &["judge"])?;
-    for (text, status, verdict) in TEXTS {
-        for cut in CUTS {
-            assert!(rt; tells(&rt, &words, text, cut, status, verdict)?);
-        }
-    }
+    assert!(rt; agree(&rt, "judge", &TEXTS)?);
     Ok(())
 }
 
 /// Whether each of these texts has the verdict beside it, in each cut.
 fn are_wrong(rt: &HostRuntime, texts: &[(&'static str, &'static str)]) -> Result<bool, Fail> {
     let words = words_of(rt.alloc(), &["judge"])?;
-    for row in texts {
-        let (text, verdict) = *row;
-        for cut in CUTS {
-            if !tells(rt, &words, text, cut, Status::No, verdict)? {
-                return Ok(false);
-            }
+    for (text, verdict) in texts {
+        if !tells_in(rt, &words, *text, &CUTS, Status::No, *verdict)? {
+            return Ok(false);
         }
     }
     Ok(true)
@@ -482,109 +502,160 @@ fn wrong_refusals_and_lines(rt: HostRuntime) -> Result<(), Fail> {
     Ok(())
 }
 
+/// How a port fails: the bytes of a piece, the read and the write that fail, from 1 on, and 0 for none, and the bytes
+/// that a write takes at most.
+type Failing = (usize, u32, u32, usize);
+
+const FEED: &str = "k 1 1\njob 0 2 2 2\nend\n";
+
+const TICKS: &str = "k 1 1\njob 0 2 2 2\ntick 2\nend\n";
+
+const BEGUN: &str = "dover 1 1 1\njob 0 0 2 2 2\nrun 0 0\n";
+
+const COMPLETED: &str = "dover 1 1 1\njob 0 0 2 2 2\nrun 0 0\ncomplete 2 0\n";
+
+const WHOLE: &str = "dover 1 1 1\njob 0 0 2 2 2\nrun 0 0\ncomplete 2 0\nend 2\n";
+
+/// Feeds, how a port fails, how `serve` ends over it, and what it writes.
+const FAILS: [(&str, Failing, Status, &str); 7] = [
+    (FEED, (4096, 1, 0, 4096), Status::ReadFault, ""),
+    (FEED, (18, 2, 0, 4096), Status::ReadFault, BEGUN),
+    (FEED, (4096, 0, 1, 4096), Status::WriteFault, ""),
+    (FEED, (4096, 2, 0, 4096), Status::Done, WHOLE),
+    (FEED, (1, 19, 0, 4096), Status::ReadFault, BEGUN),
+    (FEED, (4096, 0, 5, 1), Status::WriteFault, "dove"),
+    (TICKS, (25, 2, 0, 4096), Status::ReadFault, COMPLETED),
+];
+
+/// Whether the words end so over a feed at a port that fails so, and write this.
+fn fails(
+    rt: &HostRuntime,
+    words: &[String],
+    feed: &str,
+    failing: Failing,
+    status: Status,
+    text: &str,
+) -> Result<bool, Fail> {
+    let alloc = rt.alloc();
+    let (piece, read, write, most) = failing;
+    let script = pieces(alloc, feed.as_bytes(), piece, 0)?;
+    let fail_reads = vec![in alloc; read]?;
+    let fail_writes = vec![in alloc; write]?;
+    let mut port = MemoryPort::new(alloc, script, fail_reads, fail_writes, most.max(1), 4096)?;
+    Ok(answer(rt, words, &mut port) == status && port.written() == text.as_bytes())
+}
+
+/// Whether `serve` does what each row says.
+fn all_fail(rt: &HostRuntime, rows: &[(&str, Failing, Status, &str)]) -> Result<bool, Fail> {
+    let words = words_of(rt.alloc(), &["serve"])?;
+    for (feed, failing, status, text) in rows {
+        if !fails(rt, &words, *feed, *failing, *status, *text)? {
+            return Ok(false);
+        }
+    }
+    Ok(true)
+}
+
 #[test]
 fn failing_calls(rt: HostRuntime) -> Result<(), Fail> {
-    let alloc = rt.alloc();
-    let words = words_of(alloc, &["serve"])?;
-    let feed = "k 1 1\njob 0 2 2 2\nend\n";
-    let ticks = "k 1 1\njob 0 2 2 2\ntick 2\nend\n";
-    let begun = "dover 1 1 1\njob 0 0 2 2 2\nrun 0 0\n";
-    let completed = "dover 1 1 1\njob 0 0 2 2 2\nrun 0 0\ncomplete 2 0\n";
-    let whole = "dover 1 1 1\njob 0 0 2 2 2\nrun 0 0\ncomplete 2 0\nend 2\n";
-    // the feed, the bytes of a piece, the read and the write that fail, the bytes that a write takes at most
-    for (feed, piece, read, write, most, status, text) in [
-        (feed, 4096, 1, 0, 4096, Status::ReadFault, ""),
-        (feed, 18, 2, 0, 4096, Status::ReadFault, begun),
-        (feed, 4096, 0, 1, 4096, Status::WriteFault, ""),
-        (feed, 4096, 2, 0, 4096, Status::Done, whole),
-        (feed, 1, 19, 0, 4096, Status::ReadFault, begun),
-        (feed, 4096, 0, 5, 1, Status::WriteFault, "dove"),
-        (ticks, 25, 2, 0, 4096, Status::ReadFault, completed),
-    ] {
-        let script = pieces(alloc, feed.as_bytes(), piece, 0)?;
-        let fail_reads = vec![in alloc; read]?;
-        let fail_writes = vec![in alloc; write]?;
-        let mut port = MemoryPort::new(alloc, script, fail_reads, fail_writes, most.max(1), 4096)?;
-        let answer = answer(&rt, &words, &mut port);
-        assert!(rt; answer == status && port.written() == text.as_bytes());
-    }
+    assert!(rt; all_fail(&rt, &FAILS)?);
     Ok(())
+}
+
+/// Whether the words of each row do what it says.
+fn are_called(
+    rt: &HostRuntime,
+    rows: &[(&'static [&'static str], &'static str, Status, &'static str)],
+) -> Result<bool, Fail> {
+    for (texts, input, status, output) in rows {
+        let words = words_of(rt.alloc(), *texts)?;
+        if !tells(rt, &words, *input, (7, 0), *status, *output)? {
+            return Ok(false);
+        }
+    }
+    Ok(true)
 }
 
 #[test]
 fn words_and_what_they_write(rt: HostRuntime) -> Result<(), Fail> {
-    for (texts, input, status, output) in CALLS {
-        let words = words_of(rt.alloc(), texts)?;
-        assert!(rt; tells(&rt, &words, input, (7, 0), status, output)?);
-    }
+    assert!(rt; are_called(&rt, &CALLS)?);
     Ok(())
 }
 
 #[test]
 fn a_baiting_feed_is_served(rt: HostRuntime) -> Result<(), Fail> {
-    let alloc = rt.alloc();
-    let words = words_of(alloc, &["serve"])?;
-    let script = pieces(alloc, BAITING.as_bytes(), 4096, 0)?;
-    let mut port = MemoryPort::new(alloc, script, Vec::new(alloc), Vec::new(alloc), 4096, 4096)?;
-    let answer = answer(&rt, &words, &mut port);
-    assert!(rt; answer == Status::Done && port.written().ends_with(b"complete 23 11\nend 15\n"));
+    let called = call(&rt, &["serve"], BAITING.as_bytes(), 4096)?;
+    let is_told = called
+        .written
+        .as_slice()
+        .ends_with(b"complete 23 11\nend 15\n");
+    assert!(rt; called.status == Status::Done && is_told);
     Ok(())
+}
+
+/// Words that ask for nothing.
+const WRONG: [&[&str]; 14] = [
+    &[],
+    &["now"],
+    &["serve", "now"],
+    &["report"],
+    &["report", "pdf"],
+    &["bait", "1", "1", "0"],
+    &["bait", "1", "2", "1"],
+    &["bait", "1", "1", "1000001"],
+    &["trial", "01", "2", "1", "1"],
+    &["trial", "2147483648", "2", "1", "1"],
+    &["trial", "1", "1000001", "1", "1"],
+    &["feasible", "best"],
+    &["bests"],
+    &["lanes", "x"],
+];
+
+/// Whether the words are refused, with nothing read and nothing written.
+fn is_untouched(rt: &HostRuntime, texts: &[&'static str]) -> Result<bool, Fail> {
+    let alloc = rt.alloc();
+    let words = words_of(alloc, texts)?;
+    let script = pieces(alloc, b"k 1 1\nend\n", 4096, 0)?;
+    let mut port = MemoryPort::new(alloc, script, Vec::new(alloc), Vec::new(alloc), 4096, 4096)?;
+    let answer = answer(rt, &words, &mut port);
+    Ok(answer == Status::Usage && port.written().is_empty() && port.taken().is_empty())
+}
+
+/// Whether each of these is refused so.
+fn are_untouched(rt: &HostRuntime, rows: &[&'static [&'static str]]) -> Result<bool, Fail> {
+    for texts in rows {
+        if !is_untouched(rt, *texts)? {
+            return Ok(false);
+        }
+    }
+    Ok(true)
 }
 
 #[test]
 fn wrong_words(rt: HostRuntime) -> Result<(), Fail> {
-    let alloc = rt.alloc();
-    for texts in [
-        &[][..],
-        &["now"][..],
-        &["serve", "now"][..],
-        &["report"][..],
-        &["report", "pdf"][..],
-        &["bait", "1", "1", "0"][..],
-        &["bait", "1", "2", "1"][..],
-        &["bait", "1", "1", "1000001"][..],
-        &["trial", "01", "2", "1", "1"][..],
-        &["trial", "2147483648", "2", "1", "1"][..],
-        &["trial", "1", "1000001", "1", "1"][..],
-        &["feasible", "best"][..],
-        &["bests"][..],
-        &["lanes", "x"][..],
-    ] {
-        let words = words_of(alloc, texts)?;
-        let script = pieces(alloc, b"k 1 1\nend\n", 4096, 0)?;
-        let mut port = MemoryPort::new(
-            alloc,
-            script,
-            Vec::new(alloc),
-            Vec::new(alloc),
-            4096,
-            4096,
-        )?;
-        let answer = answer(&rt, &words, &mut port);
-        let is_untouched = port.written().is_empty() && port.taken().is_empty();
-        assert!(rt; answer == Status::Usage && is_untouched);
-    }
+    assert!(rt; are_untouched(&rt, &WRONG)?);
     Ok(())
+}
+
+/// A feed whose values are one more than may stand in one, in its last job.
+fn too_much(alloc: Global) -> Result<String, Fail> {
+    let mut feed = String::from_str(alloc, "k 1 1\n")?;
+    for _ in 0..10_000 {
+        feed.push_str("job 0 1 1000000000000 1000000000\n")?;
+    }
+    feed.push_str("job 0 1 1000000000000 1\n")?;
+    Ok(feed)
 }
 
 #[test]
 fn one_value_too_many(rt: HostRuntime) -> Result<(), Fail> {
     let alloc = rt.alloc();
     let words = words_of(alloc, &["serve"])?;
-    let mut feed = String::from_str(alloc, "k 1 1\n")?;
-    for _ in 0..10_000 {
-        feed.push_str("job 0 1 1000000000000 1000000000\n")?;
-    }
-    feed.push_str("job 0 1 1000000000000 1\n")?;
+    let feed = too_much(alloc)?;
     let script = pieces(alloc, feed.as_bytes(), 4096, 0)?;
-    let mut port = MemoryPort::new(
-        alloc,
-        script,
-        Vec::new(alloc),
-        Vec::new(alloc),
-        4096,
-        1_000_000,
-    )?;
+    let none = Vec::new(alloc);
+    let never = Vec::new(alloc);
+    let mut port = MemoryPort::new(alloc, script, none, never, 4096, 1_000_000)?;
     let answer = answer(&rt, &words, &mut port);
     assert!(rt; answer == Status::Refused && port.written().ends_with(b"refused 10002 total\n"));
     Ok(())

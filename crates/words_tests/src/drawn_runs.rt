@@ -21,7 +21,7 @@ const STYLE: &str =
          .C{fill:#0072b2}.L{fill:#d55e00}.Q{fill:#8a949e}</style>\n";
 
 /// Traces, the window that is asked for, and what stands in the picture before and behind its styles.
-const PICTURES: [(&str, Option<Window>, &str, &str); 4] = [
+const PICTURES: [(&str, Option<Window>, &str, &str); 5] = [
     // no job
     (
         "dover 1 1 1\n\
@@ -281,6 +281,79 @@ const PICTURES: [(&str, Option<Window>, &str, &str); 4] = [
          <text class='s' x='1296' y='276'>completed</text><text class='s' x='1296' y='288'>0</text>\n\
          </svg>\n",
     ),
+    // a job that ran, and is abandoned
+    (
+        "dover 1 1 1\n\
+         job 0 0 4 4 4\n\
+         run 0 0\n\
+         job 1 1 9 10 9\n\
+         take 1 0 1\n\
+         abandon 1 0\n\
+         complete 10 1\n\
+         end 9\n",
+        None,
+        "<svg xmlns='http://www.w3.org/2000/svg' width='1400' height='308' viewBox='0 0 1400 308'>\n",
+        "<rect width='1400' height='308' fill='#fff'/>\n\
+         <text class='b' x='90' y='22'>jobs 2, completed 1 worth 9, abandoned 1 worth 4, taken 1, bound 36</text>\n\
+         <g stroke-width='12'><path class='c' d='M90 40h14'/><path class='t' d='M205 40h14'/>\n\
+         <path class='l' d='M385 40h14'/></g><text class='s' x='109' y='44'>ran, completed</text>\n\
+         <text class='s' x='224' y='44'>ran, completed, after a take</text>\n\
+         <text class='s' x='404' y='44'>ran, then abandoned: lost work</text>\n\
+         <path class='a' d='M90 76V272'/><text class='s m' x='90' y='286'>0</text>\n\
+         <path class='a' d='M210 76V272'/><text class='s m' x='210' y='286'>1</text>\n\
+         <path class='a' d='M330 76V272'/><text class='s m' x='330' y='286'>2</text>\n\
+         <path class='a' d='M450 76V272'/><text class='s m' x='450' y='286'>3</text>\n\
+         <path class='a' d='M570 76V272'/><text class='s m' x='570' y='286'>4</text>\n\
+         <path class='a' d='M690 76V272'/><text class='s m' x='690' y='286'>5</text>\n\
+         <path class='a' d='M810 76V272'/><text class='s m' x='810' y='286'>6</text>\n\
+         <path class='a' d='M930 76V272'/><text class='s m' x='930' y='286'>7</text>\n\
+         <path class='a' d='M1050 76V272'/><text class='s m' x='1050' y='286'>8</text>\n\
+         <path class='a' d='M1170 76V272'/><text class='s m' x='1170' y='286'>9</text>\n\
+         <path class='a' d='M1290 76V272'/><text class='s m' x='1290' y='286'>10</text>\n\
+         <text class='s r' x='1290' y='300'>tick</text>\n\
+         <g stroke-width='12'><path class='w' d='M580 40h14'/><path class='g' d='M715 40h14'/>\n\
+         <path class='h' d='M855 40h14'/><path class='o' d='M990 40h14'/></g>\n\
+         <text class='s' x='599' y='44'>release to deadline</text>\n\
+         <text class='s' x='734' y='44'>the same, abandoned</text>\n\
+         <text class='s' x='874' y='44'>started, not running</text>\n\
+         <text class='s' x='1009' y='44'>interval with lost value</text>\n\
+         <text class='s' x='1139' y='44'>X abandoned: -value against that under way</text>\n\
+         <path class='o' stroke-width='212' d='M90 166h1200'/>\n\
+         <text class='v' x='93' y='70'>lost 4</text>\n\
+         <text class='r' x='82' y='91'>processor</text>\n\
+         <rect class='f' x='90' y='76' width='1200' height='22'/>\n\
+         <path class='c' stroke-width='22' d=''/>\n\
+         <path class='t' stroke-width='22' d='M210 87h1080'/>\n\
+         <path class='l' stroke-width='22' d='M90 87h120'/>\n\
+         <g class='i'>\n\
+         <text x='150' y='91'>0</text>\n\
+         <text x='750' y='91'>1</text>\n\
+         </g>\n\
+         <text class='r' x='82' y='124'>jobs</text>\n\
+         <g class='w' stroke-width='15'>\n\
+         <path class='g' d='M90 121h480'><title>job 0: 0 to 4, work 4, value 4 against 9, abandon 1</title></path>\n\
+         <path d='M210 139h1080'><title>job 1: 1 to 10, work 9, value 9 against 4, taken, complete 10</title></path>\n\
+         </g>\n\
+         <path class='h' stroke-width='6' d='M210 121h1'/>\n\
+         <path class='c' stroke-width='15' d=''/>\n\
+         <path class='t' stroke-width='15' d='M210 139h1080'/>\n\
+         <path class='l' stroke-width='15' d='M90 121h120'/>\n\
+         <path class='p' d=''/>\n\
+         <path class='k' d='M210 121V139m-2-4h4l-2 4'/>\n\
+         <path class='x' d='M207 117l6 9m0-9l-6 9'/>\n\
+         <g class='j'>\n\
+         <text x='92' y='125'>0</text>\n\
+         <text class='v' x='216' y='125'>-4 against 9</text>\n\
+         <text x='212' y='143'>1</text>\n\
+         </g>\n\
+         <path class='L' d='M90 272V272H210V239H1290V162H1290V272Z'/>\n\
+         <path class='C' d='M90 272V272H210V272H1290V196H1290V272Z'/>\n\
+         <text class='r' x='82' y='175'>value so far</text>\n\
+         <rect class='f' x='90' y='162' width='1200' height='110'/>\n\
+         <text class='s' x='1296' y='172'>lost</text><text class='s' x='1296' y='184'>4</text>\n\
+         <text class='s' x='1296' y='258'>completed</text><text class='s' x='1296' y='270'>9</text>\n\
+         </svg>\n",
+    ),
 ];
 
 /// A port over the text in one piece.
@@ -293,16 +366,35 @@ fn port(alloc: Global, text: &str) -> Result<MemoryPort, Fail> {
     Ok(MemoryPort::new(alloc, script, none, never, 4096, 65_536)?)
 }
 
+/// Whether the trace has this picture, with the styles in it.
+fn is_drawn(
+    rt: &HostRuntime,
+    text: &str,
+    window: Option<Window>,
+    front: &str,
+    rest: &str,
+) -> Result<bool, Fail> {
+    let alloc = rt.alloc();
+    let mut port = port(alloc, text)?;
+    let answer = reported(rt, &mut port, Form::Svg(window));
+    let mut whole = Vec::from_slice(alloc, front.as_bytes())?;
+    whole.extend_from_slice(STYLE.as_bytes())?;
+    whole.extend_from_slice(rest.as_bytes())?;
+    Ok(answer == Status::Done && port.written() == whole.as_slice())
+}
+
+/// Whether each trace has the picture beside it.
+fn are_drawn(rt: &HostRuntime, rows: &[(&str, Option<Window>, &str, &str)]) -> Result<bool, Fail> {
+    for (text, window, front, rest) in rows {
+        if !is_drawn(rt, *text, *window, *front, *rest)? {
+            return Ok(false);
+        }
+    }
+    Ok(true)
+}
+
 #[test]
 fn traces_and_their_pictures(rt: HostRuntime) -> Result<(), Fail> {
-    let alloc = rt.alloc();
-    for (text, window, front, rest) in PICTURES {
-        let mut port = port(alloc, text)?;
-        assert!(rt; reported(&rt, &mut port, Form::Svg(window)) == Status::Done);
-        let mut whole = Vec::from_slice(alloc, front.as_bytes())?;
-        whole.extend_from_slice(STYLE.as_bytes())?;
-        whole.extend_from_slice(rest.as_bytes())?;
-        assert!(rt; port.written() == whole.as_slice());
-    }
+    assert!(rt; are_drawn(&rt, &PICTURES)?);
     Ok(())
 }

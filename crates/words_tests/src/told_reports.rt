@@ -158,7 +158,7 @@ fn ends(
 }
 
 /// Whether each text ends so in pieces of each size, and this is told.
-fn agree_on_texts(
+pub(crate) fn agree_on_texts(
     rt: &HostRuntime,
     rows: &[(&str, Form, Status, &str)],
     sizes: &[usize],

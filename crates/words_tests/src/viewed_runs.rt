@@ -1,9 +1,8 @@
 //! The reports for a viewer, on one job, and for a terminal, over ports in memory.
-use crate::told_reports::reported;
-use dover_port::{MemoryPort, Status};
+use crate::told_reports::agree_on_texts;
+use dover_port::Status;
 use report_word::Form;
 use run_view::Window;
-use std::alloc::Global;
 use std::test::Fail;
 
 /// The trace of no job.
@@ -366,23 +365,8 @@ const TEXTS: [(&str, Form, Status, &str); 32] = [
     ),
 ];
 
-/// A port over the text in one piece.
-fn port(alloc: Global, text: &str) -> Result<MemoryPort, Fail> {
-    let piece = Vec::from_slice(alloc, text.as_bytes())?;
-    let mut script = Vec::new(alloc);
-    script.push(piece)?;
-    let none = Vec::new(alloc);
-    let never = Vec::new(alloc);
-    Ok(MemoryPort::new(alloc, script, none, never, 4096, 4096)?)
-}
-
 #[test]
 fn texts_and_their_reports(rt: HostRuntime) -> Result<(), Fail> {
-    let alloc = rt.alloc();
-    for (text, form, status, told) in TEXTS {
-        let mut port = port(alloc, text)?;
-        assert!(rt; reported(&rt, &mut port, form) == status);
-        assert!(rt; port.written() == told.as_bytes());
-    }
+    assert!(rt; agree_on_texts(&rt, &TEXTS, &[4096])?);
     Ok(())
 }

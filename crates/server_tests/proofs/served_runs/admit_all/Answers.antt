@@ -1,5 +1,4 @@
-use Rattle.std.proofs.Common.{◌≡◌, ◌∙◌, ◌+◌, ◌<◌, ◌∷◌, ℕ, suc, List, length, drop, drop-cons, add-one, get_or, sym, ap}
-use Rattle.std.proofs.Common.{subst, arith}
+use Rattle.std.proofs.Common.{◌≡◌, ◌∙◌, ◌+◌, ◌<◌, ◌∷◌, ℕ, List, length, drop, get_or, sym, ap, subst, arith}
 use Rattle.std.specs.List.{AllByRecursion}
 use Rattle.dover_model.specs.JobFacts.{JobFacts}
 use Rattle.dover_model.specs.Instance.{Instance, IsValid, with_jobs}
@@ -7,13 +6,8 @@ use Rattle.dover_core.specs.declared.horizon.Horizon.{Horizon}
 use Rattle.dover_core.specs.declared.horizon.Horizon.TheVariants.{Mark, End}
 use Rattle.dover_core.specs.Service.{Service, list_of, MayFollow}
 use Rattle.dover_core.proofs.Feeding.{next_valid, rest_valid, rest_follow}
+use Rattle.server_tests.proofs.Feeding.{from_here}
 use Rattle.server_tests.proofs.served_runs.admit_all.Goals as goal
-
--- the jobs from this one on
-from_here : (jobs : List JobFacts) (i : ℕ) (job : JobFacts) → i < length jobs → job ≡ get_or jobs i job
-    → drop i jobs ≡ job ∷ drop (i + 1) jobs
-from_here jobs i job short at = drop-cons jobs i job short ∙ ap (λ j. j ∷ drop (suc i) jobs) (sym at)
-    ∙ ap (λ n. job ∷ drop n jobs) (sym (add-one i))
 
 -- they are valid behind the list of the server that was settled
 still_valid : (v w : Service) (jobs : List JobFacts) (i : ℕ) (job : JobFacts) → i < length jobs

@@ -1,0 +1,120 @@
+//! Both servers side by side: each prints the same of the worked lists, whatever it keeps of them.
+ghost use Rattle.std.specs.Prelude.{◌≡◌, ◌<◌, List, true, IfOk};
+ghost use Rattle.dover_model.specs.declared.events.Event.{Event};
+ghost use Rattle.dover_model.specs.Instance.{Instance, IsValid};
+ghost use Rattle.dover_core.specs.declared.horizon.Horizon.{Horizon};
+ghost use Rattle.dover_core.specs.Service.{MayFollow};
+
+use crate::served_runs::{WORKED, Worked, assert_valid, jobs, line};
+use dispatcher::Dispatcher;
+use dover_core::{Horizon, Server};
+use dover_model::{Job, Memory, Ratio, Version};
+use ready_server::ReadyServer;
+use std::alloc::Global;
+use std::marker::Brand;
+use std::process::Abort;
+use std::rt::Memory as HeapMemory;
+use std::sync::ledger::{Blank, Ledger};
+use std::test::Fail;
+use step_count::Steps;
+
+// More printed steps than there are up to a mark.
+const MANY: u32 = 1000;
+
+// What is printed up to the horizon, and whether that was all.
+fn settle<D: Dispatcher, L: Ledger>(
+    alloc: Global,
+    server: &mut D,
+    to: Horizon,
+    steps: &mut Steps<L>,
+    text: &mut String,
+) -> Result<bool, Memory>
+    requires { (J : Instance) × (from : Horizon) × (events : List Event) × D.serves server.old J from events
+        × MayFollow from to }
+    ensures rests { IfOk result (λ all. all ≡ true → (J : Instance) (from : Horizon) (events : List Event)
+        → D.serves server.old J from events → MayFollow from to → D.rests server.new J to) }
+    ensures room { D.has_room server.old → D.has_room server.new }
+{
+    for _ in 0..MANY {
+        match server.step(to, steps) {
+            Some(e) => {
+                let line = line(alloc, &e)?;
+                text.push_str(line.as_str())?;
+            }
+            None => return Ok(true),
+        }
+    }
+    Ok(false)
+}
+
+// What a server prints of a valid list.
+fn printed<D: Dispatcher, L: Ledger>(
+    alloc: Global,
+    memory: HeapMemory,
+    version: Version,
+    k: Ratio,
+    jobs: &[Job],
+    blank: Blank,
+) -> Result<String, Memory>
+    requires valid { IsValid (record { rules = record { ratio = k; version = version }; jobs = jobs.now }) }
+    requires name { blank.name ≡ L.name }
+    requires parts { blank.parts ≡ L.parts }
+    requires some { 0 < blank.parts }
+{
+    D::laws();
+    let mut steps: Steps<L> = Steps::new(memory, blank);
+    let mut server = D::new(alloc, version, k)?;
+    let mut text = String::new(alloc);
+    for job in jobs {
+        server.make_room()?;
+        if !settle(
+            alloc,
+            &mut server,
+            Horizon::Mark(job.release()),
+            &mut steps,
+            &mut text,
+        )? {
+            return Ok(text);
+        }
+        if let Some(e) = server.admit(*job, &mut steps) {
+            let line = line(alloc, &e)?;
+            text.push_str(line.as_str())?;
+        }
+    }
+    let _ = settle(alloc, &mut server, Horizon::End, &mut steps, &mut text)?;
+    Ok(text)
+}
+
+fn assert_prints<D: Dispatcher>(
+    rt: &(impl Abort + AllocGlobal),
+    memory: HeapMemory,
+    version: Version,
+    ratio: (u32, u32),
+    numbers: &[[u64; 4]],
+    want: &str,
+) -> Result<(), Fail> {
+    let k = Ratio::new(ratio.0, ratio.1).expect(rt, "a ratio");
+    let list = jobs(rt, numbers)?;
+    let jobs = list.as_slice();
+    assert_valid(rt, k, jobs);
+    let text = printed::<D, Brand>(rt.alloc(), memory, version, k, jobs, Blank::new(1))?;
+    assert!(rt; text.as_str() == want);
+    Ok(())
+}
+
+fn assert_all<D: Dispatcher>(
+    rt: &(impl Abort + AllocGlobal),
+    memory: HeapMemory,
+    rows: &[Worked],
+) -> Result<(), Fail> {
+    for (version, ratio, numbers, want) in rows {
+        assert_prints::<D>(rt, memory, *version, *ratio, *numbers, *want)?;
+    }
+    Ok(())
+}
+
+#[test]
+fn both_servers_print_the_worked_examples(rt: HostRuntime) -> Result<(), Fail> {
+    assert_all::<Server>(&rt, rt.memory(), &WORKED)?;
+    assert_all::<ReadyServer>(&rt, rt.memory(), &WORKED)
+}
