@@ -3,17 +3,17 @@ use Rattle.std.proofs.Common.{◌≡◌, ℕ, List, [], ◌∷◌, ◌++◌, ref
 use Rattle.std.proofs.Common.{Bool, false, inl, inr}
 use Rattle.dover_model.specs.Feed.{is_open, account}
 use Rattle.dover_model.specs.Due.{due, closed}
+use Rattle.dover_model.specs.WholeRun.{Begins}
 use Rattle.dover_port.specs.Moves.{Move, ins, outs, has_ended, EachReadFrom, IsProperPrefix}
-use Rattle.dover_port.specs.Moves.Move.{Got}
 use Rattle.dover_port.specs.Causes.{IsAnswer}
 use Rattle.dover_port.specs.declared.status.Status.{Status}
 use Rattle.dover_port.specs.declared.status.Status.TheVariants.{Done, No, Refused, ReadFault, WriteFault, Memory, Usage}
 use Rattle.dialogue.specs.Talk as talk
-use Rattle.dialogue.specs.Talk.{IsOver, Talks, CanEnd}
-use Rattle.dialogue.specs.Turns.{read_before}
+use Rattle.dialogue.specs.Talk.{Talks, CanEnd}
 use Rattle.dialogue.proofs.Quiet.{reads_weaker}
 use Rattle.snapshot.specs.Snapshot.{snapshot}
-use Rattle.serve_word.specs.From.{MayReadFrom, EndsAt, ServesFrom, ServesRest}
+use Rattle.lane_server.specs.Lane.{IsDeclared}
+use Rattle.serve_word.specs.From.{MayReadFrom, EndsAt, IsUnwrittenAt, IsOutOfMemoryAt, ServesFrom}
 use Rattle.serve_word.specs.Pausing as pausing
 use Rattle.serve_word.specs.Record.{Ends, Serves}
 use Rattle.serve_word.specs.Talking.{Call, due_behind, IsServedAs, serve_talk}
@@ -22,92 +22,83 @@ use Rattle.serve_word.specs.declared.at_end.AtEnd.TheVariants.{Refuse, Pause}
 use Rattle.serve_word.proofs.Accounts.{said_ended, faulty_closed, closed_is}
 use Rattle.serve_word.proofs.Talking.{whole_due}
 
-module _ (at_end : AtEnd) (c : Call) where
+module _ (F : List ℕ) where
   -- what was put, behind what was due for the feed
-  due_put : (got put : List ℕ) → put ≡ due_behind c.feed got → due c.feed ++ put ≡ due (c.feed ++ got)
-  due_put got put is = ap (λ l. due c.feed ++ l) is ∙ whole_due c.feed got
+  pub due_put : (got put : List ℕ) → put ≡ due_behind F got → due F ++ put ≡ due (F ++ got)
+  due_put got put is = ap (λ l. due F ++ l) is ∙ whole_due F got
 
   -- a front of a text, behind what was due for the feed
-  front_put : (put text whole : List ℕ) → due c.feed ++ text ≡ whole → IsProperPrefix put text
-      → IsProperPrefix (due c.feed ++ put) whole
-  front_put put text whole is it =
-      (it.0, it.1, sym is ∙ ap (λ l. due c.feed ++ l) it.2 ∙ sym (append_assoc (due c.feed) put it.0))
+  front_put : (put text whole : List ℕ) → due F ++ text ≡ whole → IsProperPrefix put text
+      → IsProperPrefix (due F ++ put) whole
+  front_put put text whole is it = (
+    it.0,
+    it.1,
+    sym is ∙ ap (λ l. due F ++ l) it.2
+        ∙ sym (append_assoc (due F) put it.0),
+  )
 
+  module _ (at_end : AtEnd) (got put : List ℕ) (ended : Bool) where
+    -- a write failed before all that is due was put
+    pub part_put : ended ≡ false → IsProperPrefix put (due_behind F got) → IsUnwrittenAt F at_end got put ended
+    part_put unended part =
+        inr (inr (unended, front_put put (due_behind F got) (due (F ++ got)) (whole_due F got) part))
+
+    -- a write failed before the answer was put whole
+    pub cut_put : is_open (account (F ++ got)) ≡ ended → (status : Status) (text : List ℕ)
+        → IsServedAs at_end F got ended status text → IsProperPrefix put text → IsUnwrittenAt F at_end got put ended
+    cut_put over Done text (inl done) part = inr (inr (
+      sym over ∙ said_ended (account (F ++ got)) done.0,
+      front_put put text (due (F ++ got)) done.1 part,
+    ))
+    cut_put over Done text (inr paused) part =
+        inl (paused.0, paused.1, front_put put text (due (F ++ got) ++ snapshot (F ++ got)) paused.2 part)
+    cut_put over Refused text (inl faulty, is) part =
+        let closed : is_open (account (F ++ got)) ≡ false = faulty_closed (account (F ++ got)) faulty in
+        inr (inr (sym over ∙ closed, front_put put text (due (F ++ got)) (is ∙ closed_is (F ++ got) closed) part))
+    cut_put over Refused text (inr cut, is) part = inr (inl (cut, front_put put text (closed (F ++ got)) is part))
+    cut_put over No text none part = absurd none
+    cut_put over ReadFault text none part = absurd none
+    cut_put over WriteFault text none part = absurd none
+    cut_put over Memory text none part = absurd none
+    cut_put over Usage text none part = absurd none
+
+    -- there was no memory
+    pub lacked_put : ended ≡ false → IsDeclared (account (F ++ got)) → Begins put (due_behind F got)
+        → IsOutOfMemoryAt F at_end got put ended
+    lacked_put unended declared begins = (
+      unended,
+      declared,
+      (
+        begins.0,
+        sym (whole_due F got) ∙ ap (λ l. due F ++ l) begins.1 ∙ sym (append_assoc (due F) put begins.0),
+      ),
+    )
+
+module _ (at_end : AtEnd) (c : Call) where
   -- before each read
   reads_from : (moves : List Move) (got put : List ℕ) → EachReadFrom (talk.MayRead (serve_talk at_end c)) got put moves
       → EachReadFrom (MayReadFrom c.feed) got put moves
   reads_from moves got put it = reads_weaker (talk.MayRead (serve_talk at_end c)) (MayReadFrom c.feed)
-      (λ g p may. (due_put g p may.0, may.1)) got put moves it
+      (λ g p may. (due_put c.feed g p may.0, may.1)) got put moves it
 
   -- how it ends
-  pub ends_from : (status : Status) (moves : List Move) → talk.Ends (serve_talk at_end c) status moves
+  ends_from : (status : Status) (moves : List Move) → talk.Ends (serve_talk at_end c) status moves
       → EndsAt c.feed at_end status (ins moves) (outs moves) (has_ended moves)
   ends_from Done moves made = made.answer
   ends_from No moves made = absurd made.answer
   ends_from Refused moves made = made.answer
-  ends_from ReadFault moves made = (made.unended, made.open_still, due_put (ins moves) (outs moves) made.text)
-  ends_from WriteFault moves (inl it) = inr (inr (
-    it.0,
-    front_put (outs moves) (due_behind c.feed (ins moves)) (due (c.feed ++ ins moves))
-        (whole_due c.feed (ins moves)) it.1,
-  ))
-  ends_from WriteFault moves (inr it) = by it.status it.answer where
-    -- the feed is over, so its input hasn't ended
-    unended : (e : Bool) → IsOver (serve_talk at_end c) (ins moves) e → is_open (account (c.feed ++ ins moves)) ≡ false
-        → e ≡ false
-    unended e over closed = sym over ∙ closed
-
-    by : (status : Status) → IsServedAs at_end c (ins moves) (has_ended moves) status it.text
-        → EndsAt c.feed at_end WriteFault (ins moves) (outs moves) (has_ended moves)
-    by Done (inl done) = inr (inr (
-      unended (has_ended moves) it.over (said_ended (account (c.feed ++ ins moves)) done.0),
-      front_put (outs moves) it.text (due (c.feed ++ ins moves)) done.1 it.front,
-    ))
-    by Done (inr paused) = inl (
-      paused.0,
-      paused.1,
-      front_put (outs moves) it.text (due (c.feed ++ ins moves) ++ snapshot (c.feed ++ ins moves)) paused.2 it.front,
-    )
-    by Refused (inl faulty, text) =
-        let over : is_open (account (c.feed ++ ins moves)) ≡ false =
-        faulty_closed (account (c.feed ++ ins moves)) faulty in inr (inr (
-          unended (has_ended moves) it.over over,
-          front_put (outs moves) it.text (due (c.feed ++ ins moves))
-              (text ∙ closed_is (c.feed ++ ins moves) over) it.front,
-        ))
-    by Refused (inr cut, text) =
-        inr (inl (cut, front_put (outs moves) it.text (closed (c.feed ++ ins moves)) text it.front))
-    by No none = absurd none
-    by ReadFault none = absurd none
-    by WriteFault none = absurd none
-    by Memory none = absurd none
-    by Usage none = absurd none
-  ends_from Memory moves made = (
-    made.lacking.0,
-    made.lacking.1,
-    (
-      made.text.0,
-      sym (whole_due c.feed (ins moves)) ∙ ap (λ l. due c.feed ++ l) made.text.1
-          ∙ sym (append_assoc (due c.feed) (outs moves) made.text.0),
-    ),
-  )
+  ends_from ReadFault moves made = (made.unended, made.open_still, due_put c.feed (ins moves) (outs moves) made.text)
+  ends_from WriteFault moves (inl it) = part_put c.feed at_end (ins moves) (outs moves) (has_ended moves) it.0 it.1
+  ends_from WriteFault moves (inr it) =
+      cut_put c.feed at_end (ins moves) (outs moves) (has_ended moves) it.over it.status it.text it.answer it.front
+  ends_from Memory moves made =
+      lacked_put c.feed at_end (ins moves) (outs moves) (has_ended moves) made.lacking.0 made.lacking.1 made.text
   ends_from Usage moves made = absurd made
 
   pub serves_from : (status : Status) (moves : List Move) → Talks (serve_talk at_end c) status moves
       → ServesFrom c.feed at_end status moves
   serves_from status moves it =
       record { reads = reads_from moves [] [] it.reads; ends = ends_from status moves it.ends }
-
-  -- where a first piece was read before
-  pub serves_rest : (status : Status) (piece : List ℕ) (moves : List Move)
-      → Talks (serve_talk at_end c) status (read_before piece ++ moves)
-      → ServesRest c.feed piece at_end status moves
-  serves_rest status [] moves it =
-      record { reads = reads_from moves [] [] it.reads; ends = ends_from status moves it.ends }
-  serves_rest status (byte ∷ bytes) moves it = record {
-    reads = reads_from moves (byte ∷ bytes) [] it.reads.1;
-    ends = ends_from status (Got (byte ∷ bytes) ∷ moves) it.ends;
-  }
 
   -- the statuses
   pub answers : (status : Status) → CanEnd (serve_talk at_end c) status → IsAnswer status
@@ -118,11 +109,6 @@ module _ (at_end : AtEnd) (c : Call) where
   answers WriteFault it = tt
   answers Memory it = tt
   answers Usage it = absurd it
-
--- the bytes of a call with a first piece
-pub ins_rest : (piece : List ℕ) (moves : List Move) → ins (read_before piece ++ moves) ≡ piece ++ ins moves
-ins_rest [] moves = refl
-ins_rest (byte ∷ bytes) moves = refl
 
 -- ---- as it begins with nothing
 

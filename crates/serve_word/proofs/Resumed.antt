@@ -69,17 +69,10 @@ module _ (F : List ℕ) (may : MayPause F) (v : Service) (stands : Stands v) (i 
     lane = subst (λ l. IsQuiet Serves HasRoom l (lines_of F)) (sym is) lane_rests;
   }
 
--- ---- a call that goes on with it
-
--- what it is about
-abbrev pub call_on : (F : List ℕ) → MayPause F → ℕ → Call
-call_on F may start = record { feed = F; goes_on = opens (account F) (opened F may); start = start }
-
--- it is ready
-pub ready_on : (F : List ℕ) (may : MayPause F) (start steps : ℕ) (f : Feed Service) (v : Service)
-    → FeedRests Serves HasRoom f F → f.lane.server ≡ Some v → HasSpent v.state start steps
-    → IsReady Serves HasRoom HasSpentBy (call_on F may start) f steps []
-ready_on F may start steps f v rests there spent = record {
-  rests = subst (FeedRests Serves HasRoom f) (sym (append-nil F)) rests;
-  paid = subst (λ o. HasPaid HasSpentBy o start steps) (sym there) spent;
+-- it is ready for a call that goes on with it
+pub ready_on : (c : Call) (now : ℕ) (f : Feed Service) (v : Service) → FeedRests Serves HasRoom f c.feed
+    → f.lane.server ≡ Some v → HasSpent v.state c.start now → IsReady Serves HasRoom HasSpentBy c f now []
+ready_on c now f v rests there spent = record {
+  rests = subst (FeedRests Serves HasRoom f) (sym (append-nil c.feed)) rests;
+  paid = subst (λ o. HasPaid HasSpentBy o c.start now) (sym there) spent;
 }

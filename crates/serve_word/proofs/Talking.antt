@@ -99,8 +99,8 @@ module _ (c : Call) where
         ∙ sym (closed_is (c.feed ++ x) over)
 
     -- and the answer
-    answered : (at_end : AtEnd) (status : Status) (text : List ℕ) → IsServedAs at_end c x false status text
-        → IsServedAs at_end c (x ++ y) false status text
+    answered : (at_end : AtEnd) (status : Status) (text : List ℕ) → IsServedAs at_end c.feed x false status text
+        → IsServedAs at_end c.feed (x ++ y) false status text
     answered at_end Done text (inl it) = inl (ap is_ended same ∙ it.0, it.1 ∙ sym same_due)
     answered at_end Done text (inr it) = never it.0
     answered at_end Refused text (inl faulty, it) = (inl (subst IsFaulty (sym same) faulty), it ∙ sym same_closed)
@@ -183,7 +183,7 @@ module _ (c : Call) where
 
   -- the feed has ended
   pub done : (at_end : AtEnd) (x : List ℕ) (ended : Bool) → (account (c.feed ++ x)).standing ≡ feeds.Ended
-      → IsServedAs at_end c x ended Done (due_behind c.feed x ++ [])
+      → IsServedAs at_end c.feed x ended Done (due_behind c.feed x ++ [])
   done at_end x ended is = inl (
     ended_is (account (c.feed ++ x)) is,
     due_then c.feed x []
@@ -194,7 +194,7 @@ module _ (c : Call) where
       (answers : EndAnswers {X = Unit {0}} (lines_of (c.feed ++ x)) (Err fault)) where
     -- it is at fault
     pub faulty : (at_end : AtEnd) → is_open (account (c.feed ++ x)) ≡ false
-        → IsServedAs at_end c x ended Refused (due_behind c.feed x ++ [])
+        → IsServedAs at_end c.feed x ended Refused (due_behind c.feed x ++ [])
     faulty at_end over = (
       inl (by answers),
       due_then c.feed x [] ∙ append-nil (due (c.feed ++ x)) ∙ sym (closed_is (c.feed ++ x) over),
@@ -244,7 +244,7 @@ module _ (c : Call) where
         input_ended = sym over ∙ goes
 
         -- so it is refused, unless it is paused
-        pub cut_off : (PausesAt at_end (c.feed ++ x) → ⊥) → IsServedAs at_end c x ended Refused
+        pub cut_off : (PausesAt at_end (c.feed ++ x) → ⊥) → IsServedAs at_end c.feed x ended Refused
             (due_behind c.feed x ++ (fault_text fault.line (cause_of_fault fault.cause) ++ 10 ∷ []))
         cut_off pauses = (
           inr (input_ended, goes, pauses),
@@ -258,14 +258,14 @@ module _ (c : Call) where
 
         -- it is paused
         pub paused : PausesAt at_end (c.feed ++ x)
-            → IsServedAs at_end c x ended Done (due_behind c.feed x ++ snapshot (c.feed ++ x))
+            → IsServedAs at_end c.feed x ended Done (due_behind c.feed x ++ snapshot (c.feed ++ x))
         paused pauses = inr (input_ended, pauses, due_then c.feed x (snapshot (c.feed ++ x)))
 
 -- ---- a feed that may be paused
 
 -- where it isn't paused, it is answered as one that never is
 pub unpaused : (c : Call) (x : List ℕ) (ended : Bool) → (MayPause (c.feed ++ x) → ⊥) → (status : Status) (text : List ℕ)
-    → IsServedAs Refuse c x ended status text → IsServedAs Pause c x ended status text
+    → IsServedAs Refuse c.feed x ended status text → IsServedAs Pause c.feed x ended status text
 unpaused c x ended never Done text (inl it) = inl it
 unpaused c x ended never Done text (inr paused) = absurd paused.1
 unpaused c x ended never Refused text (inl faulty, it) = (inl faulty, it)

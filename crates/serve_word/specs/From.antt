@@ -3,7 +3,7 @@ use Rattle.std.specs.Prelude.{◌≡◌, ℕ, List, [], ◌++◌, Bool, true, fa
 use Rattle.dover_model.specs.Feed.{is_open, is_ended, account}
 use Rattle.dover_model.specs.Due.{due, closed}
 use Rattle.dover_model.specs.WholeRun.{Begins}
-use Rattle.dover_port.specs.Moves.{Move, ins, outs, has_ended, EachRead, EachReadFrom, IsProperPrefix}
+use Rattle.dover_port.specs.Moves.{Move, ins, outs, has_ended, EachRead, IsProperPrefix}
 use Rattle.dover_port.specs.declared.status.Status.{Status}
 use Rattle.dover_port.specs.declared.status.Status.TheVariants.{Done, Refused, ReadFault, WriteFault, Memory}
 use Rattle.snapshot.specs.Snapshot.{snapshot}
@@ -61,8 +61,3 @@ EndsAt x at_end _ got put ended = ⊥
 pub record ServesFrom (x : List ℕ) (at_end : AtEnd) (status : Status) (moves : List Move) : Type 0 where
   pub reads : EachRead (MayReadFrom x) moves
   pub ends : EndsAt x at_end status (ins moves) (outs moves) (has_ended moves)
-
--- the record of a call with this status that had these bytes of the feed behind x
-pub record ServesRest (x bytes : List ℕ) (at_end : AtEnd) (status : Status) (moves : List Move) : Type 0 where
-  pub reads : EachReadFrom (MayReadFrom x) bytes [] moves
-  pub ends : EndsAt x at_end status (bytes ++ ins moves) (outs moves) (has_ended moves)

@@ -26,10 +26,10 @@ abbrev pub due_behind : List ℕ → List ℕ → List ℕ
 due_behind F x = drop (length (due F)) (due (F ++ x))
 
 -- the status and the text that the bytes are answered with, by what is done where the input ends
-abbrev pub IsServedAs : AtEnd → Call → List ℕ → Bool → Status → List ℕ → Type 0
-IsServedAs at_end c x ended Done text = EndsAt c.feed at_end Done x text ended
-IsServedAs at_end c x ended Refused text = EndsAt c.feed at_end Refused x text ended
-IsServedAs at_end c x ended _ text = ⊥
+abbrev pub IsServedAs : AtEnd → List ℕ → List ℕ → Bool → Status → List ℕ → Type 0
+IsServedAs at_end F x ended Done text = EndsAt F at_end Done x text ended
+IsServedAs at_end F x ended Refused text = EndsAt F at_end Refused x text ended
+IsServedAs at_end F x ended _ text = ⊥
 
 -- Each line is due as soon as it is settled. The feed's end or its first fault ends the talk. Memory may be lacking
 -- behind the ratio line alone.
@@ -37,7 +37,7 @@ abbrev pub serve_talk : AtEnd → Call → Talk
 serve_talk at_end c = record {
   goes_on = λ x. is_open (account (c.feed ++ x));
   due = due_behind c.feed;
-  answer = IsServedAs at_end c;
+  answer = IsServedAs at_end c.feed;
   lacks = λ x ended. (ended ≡ false) × IsDeclared (account (c.feed ++ x));
 }
 

@@ -18,7 +18,7 @@ use std::alloc::Global;
 
 /// What is kept of a feed: the line that has begun, and the server that its lines are handed to.
 #[derive(Drop)]
-pub(crate) struct Feed<D> {
+pub struct Feed<D> {
     pub(crate) alloc: Global,
     pub(crate) lines: Lines,
     pub(crate) lane: Lane<D>,

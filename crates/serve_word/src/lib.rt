@@ -9,4 +9,7 @@ mod serving;
 mod words;
 
 pub use at_end::AtEnd;
-pub use words::{pause_word, serve_on, serve_word};
+pub use feed::Feed;
+pub use pausing::Pausing;
+pub use serving::Serving;
+pub use words::{pause_word, serve_word};

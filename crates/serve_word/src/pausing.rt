@@ -16,8 +16,17 @@ use step_count::Steps;
 
 /// A feed that is served, and is paused where its input ends, if its ratio was declared and no line has begun.
 #[derive(Drop)]
-pub(crate) struct Pausing<L: Ledger> {
+pub struct Pausing<L: Ledger> {
     pub(crate) serving: Serving<Server, L>,
+}
+
+impl<L: Ledger> Pausing<L> {
+    /// The same feed, to be paused where its input ends.
+    pub fn new(serving: Serving<Server, L>) -> Pausing<L>
+        ensures { result.serving ≡ serving }
+    {
+        Pausing { serving }
+    }
 }
 
 impl<L: Ledger> Talker for Pausing<L> {

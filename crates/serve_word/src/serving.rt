@@ -1,26 +1,47 @@
 //! What the reading loop calls: a feed that is served.
-ghost use Rattle.std.specs.Prelude.{◌≡◌};
+ghost use Rattle.std.specs.Prelude.{◌≡◌, ℕ, []};
+ghost use Rattle.queued_jobs.specs.Spending.{HasSpent};
+ghost use Rattle.dispatcher.specs.Serving.{Serves, HasRoom, HasPaid};
+ghost use Rattle.snapshot.specs.Snapshot.{MayPause};
+ghost use Rattle.snapshot.specs.Feeds.{ResumesFeed};
 ghost use Rattle.serve_word.specs.Talking.{Call, serve_talk, IsGiving, IsReady, Costs};
 ghost use Rattle.serve_word.specs.declared.at_end.AtEnd.TheVariants.{Refuse};
 
 use crate::feed::Feed;
 use dialogue::{Stop, Talker};
 use dispatcher::Dispatcher;
+use dover_core::Server;
 use dover_model::Memory;
 use dover_port::{Output, Port, Status};
+use event_feed::Intake;
 use lane_lines::write_out;
 use lane_server::Lane;
 use line_output::put_fault;
 use line_text::BackLine;
+use std::alloc::Global;
 use std::marker::PhantomData;
 use std::sync::ledger::Ledger;
 use step_count::Steps;
 
 /// A feed that is served, and is refused as short where its input ends.
 #[derive(Drop)]
-pub(crate) struct Serving<D, L: Ledger> {
+pub struct Serving<D, L: Ledger> {
     pub(crate) feed: Feed<D>,
     pub(crate) counts: PhantomData<L>,
+}
+
+impl<L: Ledger> Serving<Server, L> {
+    /// A feed that goes on from its snapshot, which gave the server and the intake. Nothing is given that was due
+    /// before the pause.
+    pub fn resumed(alloc: Global, server: Server, intake: Intake) -> Serving<Server, L>
+        ensures { (c : Call) (now : ℕ) → MayPause c.feed → ResumesFeed server intake c.feed →
+            HasSpent server.state c.start now → IsReady Serves HasRoom HasPaid c result.feed now [] }
+    {
+        Serving {
+            feed: Feed::resumed(alloc, server, intake),
+            counts: PhantomData,
+        }
+    }
 }
 
 impl<D: Dispatcher, L: Ledger> Talker for Serving<D, L> {
