@@ -12,22 +12,14 @@ use Rattle.snapshot.specs.Reading.{Reading, Begun, Going, Taken, Refused, next_l
 use Rattle.snapshot.specs.Kept.{IsReading}
 use Rattle.snapshot.specs.declared.resuming.Resuming.{Resuming}
 use Rattle.snapshot.proofs.Beginning.{Within, within}
+use Rattle.resume_word.proofs.Taking.{refused_stays, taken_stays}
 use Rattle.resume_word.specs.Opening.{OpeningStands}
 use Rattle.resume_word.specs.declared.opening.Opening.{Opening}
 use Rattle.resume_word.proofs.Opened.{IsRefused, long_refused}
 
--- a refused reading stays so, and so does one that is taken
-refused_stays : (at : ℕ) (ls : List (List ℕ)) → fold next_line (Refused at) ls ≡ Refused at
-refused_stays at [] = refl
-refused_stays at (l ∷ ls) = refused_stays at ls
-
-pub taken_stays : (h : Head) (tasks : List Task) (ls : List (List ℕ))
-    → fold next_line (Taken h tasks) ls ≡ Taken h tasks
-taken_stays h tasks [] = refl
-taken_stays h tasks (l ∷ ls) = taken_stays h tasks ls
-
 -- where the reading goes on, no line was too long
-short_lines : (ls : List (List ℕ)) (r : Reading) (h : Head) (tasks : List Task) → fold next_line r ls ≡ Going h tasks
+pub short_lines : (ls : List (List ℕ)) (r : Reading) (h : Head) (tasks : List Task)
+    → fold next_line r ls ≡ Going h tasks
     → AreNotTooLong ls
 short_lines [] r h tasks goes = tt
 short_lines (l ∷ ls) r h tasks goes = (by (is_too_long l) refl, short_lines ls (next_line r l) h tasks goes) where

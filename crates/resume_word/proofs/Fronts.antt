@@ -18,15 +18,15 @@ use Rattle.snapshot.proofs.Behind.{lines_whole, lines_behind, rest_joined}
 use Rattle.snapshot.proofs.Feeds.{named, lines_feedless, snapshot_is}
 use Rattle.resume_word.specs.Record.{is_part, IsPart, Behind, IsRefusedFor}
 use Rattle.resume_word.proofs.Opened.{IsRefused, long_refused}
-use Rattle.resume_word.proofs.Bounds.{taken_stays}
+use Rattle.resume_word.proofs.Taking.{taken_stays}
 
 -- ---- bytes before a cut text
 
-onto_none : (bs r : List ℕ) → onto bs ([], r) ≡ ([], bs ++ r)
+pub onto_none : (bs r : List ℕ) → onto bs ([], r) ≡ ([], bs ++ r)
 onto_none [] r = refl
 onto_none (b ∷ bs) r = ap (λ (c : CutText). put_before b c.0 c.1) (onto_none bs r)
 
-onto_some : (bs l : List ℕ) (ls : List (List ℕ)) (r : List ℕ) → onto bs (l ∷ ls, r) ≡ ((bs ++ l) ∷ ls, r)
+pub onto_some : (bs l : List ℕ) (ls : List (List ℕ)) (r : List ℕ) → onto bs (l ∷ ls, r) ≡ ((bs ++ l) ∷ ls, r)
 onto_some [] l ls r = refl
 onto_some (b ∷ bs) l ls r = ap (λ (c : CutText). put_before b c.0 c.1) (onto_some bs l ls r)
 

@@ -1,6 +1,13 @@
+pub mod Taking
 pub mod Opened
 pub mod Bounds
 pub mod Parts
-pub mod Reading
 pub mod Sparing
 pub mod Fronts
+pub mod Equally
+pub mod Onward
+pub mod Talking
+pub mod Stages
+pub mod Laws
+pub mod Refusal
+pub mod Records

@@ -40,22 +40,35 @@ not_last l long = by (bytes_eq l (codes "resume")) refl where
   by true e = let same : l ≡ codes "resume" = (bytes_eq-Decides l (codes "resume")).0 e in
       let above : 128 < length l = ltb-true _ _ long in absurd (omega (arith, ap length same))
 
--- it is refused, where no line was before or the snapshot goes on
-pub long_refused : (r : Reading) (l : List ℕ) → is_too_long l ≡ true
-    → ((h : Head) (tasks : List Task) → r ≡ Taken h tasks → ⊥) → IsRefused (next_line r l)
-long_refused Begun l long never =
-    (1, ap (λ b. with_head (cond b None (option_and_then head_from (numbers_of (codes "snapshot") l)))) long)
-long_refused (Going h tasks) l long never = (
-  length tasks + 2,
-  by (nat_lt (length tasks) h.jobs),
-) where
+-- what it makes of a reading: it is refused, unless the snapshot is whole or refused before
+abbrev pub long_reading : Reading → Reading
+long_reading Begun = Refused 1
+long_reading (Going h tasks) = refused_behind tasks
+long_reading (Taken h tasks) = Taken h tasks
+long_reading (Refused at) = Refused at
+
+pub long_next : (r : Reading) (l : List ℕ) → is_too_long l ≡ true → next_line r l ≡ long_reading r
+long_next Begun l long =
+    ap (λ b. with_head (cond b None (option_and_then head_from (numbers_of (codes "snapshot") l)))) long
+long_next (Going h tasks) l long = by (nat_lt (length tasks) h.jobs) where
   by : (b : Bool) → cond b (with_task h tasks (read_task l)) (with_last h tasks (bytes_eq l (codes "resume"))) ≡ Refused
       (length tasks + 2)
   by true = ap (λ c. with_task h tasks (cond c None (task_of_fields (fields_of l)))) long
   by false = ap (λ c. cond (c && has_reached_mark h tasks && is_settled h tasks) (Taken h tasks) (refused_behind tasks))
       (not_last l long)
-long_refused (Taken h tasks) l long never = absurd (never h tasks refl)
-long_refused (Refused at) l long never = (at, refl)
+long_next (Taken h tasks) l long = refl
+long_next (Refused at) l long = refl
+
+-- it is refused, where no line was before or the snapshot goes on
+pub long_refused : (r : Reading) (l : List ℕ) → is_too_long l ≡ true
+    → ((h : Head) (tasks : List Task) → r ≡ Taken h tasks → ⊥) → IsRefused (next_line r l)
+long_refused r l long never = by r (long_next r l long) never where
+  by : (r : Reading) → next_line r l ≡ long_reading r → ((h : Head) (tasks : List Task) → r ≡ Taken h tasks → ⊥)
+      → IsRefused (next_line r l)
+  by Begun is never = (1, is)
+  by (Going h tasks) is never = (length tasks + 2, is)
+  by (Taken h tasks) is never = absurd (never h tasks refl)
+  by (Refused at) is never = (at, is)
 
 -- what was read so far isn't taken
 reading_going : (o : Option Resuming) (ls : List (List ℕ)) → IsReading o ls → (h : Head) (tasks : List Task)

@@ -1,11 +1,11 @@
 -- What the moves of a call come to that reads a snapshot, and serves the feed of which it is on.
-use Rattle.std.specs.Prelude.{◌≡◌, Bool, ℕ, suc, List, [], ◌∷◌, ◌++◌, length, true, false, ◌⊎◌, Option, codes, decimal}
+use Rattle.std.specs.Prelude.{◌≡◌, Bool, ℕ, suc, List, [], ◌∷◌, ◌++◌, length, true, false, ◌⊎◌, codes, decimal}
 use Rattle.dover_model.specs.Lines.{in_lines, lines_of, whole_lines, line_of}
 use Rattle.dover_model.specs.WholeRun.{Begins}
 use Rattle.dover_model.specs.Feed.{account}
 use Rattle.queued_jobs.specs.Spending.{AreFew}
 use Rattle.event_feed.specs.Answers.{admitted_in}
-use Rattle.dover_port.specs.Moves.{Move, Since, ArePuts, ins, outs, has_ended, EachRead, IsProperPrefix}
+use Rattle.dover_port.specs.Moves.{Move, ins, outs, has_ended, EachRead, IsProperPrefix}
 use Rattle.dover_port.specs.declared.status.Status.{Status}
 use Rattle.dover_port.specs.declared.status.Status.TheVariants.{Done, Refused, ReadFault, WriteFault, Memory}
 use Rattle.snapshot.specs.Snapshot.{MayPause, snapshot}
@@ -15,8 +15,6 @@ use Rattle.snapshot.specs.Kept.{IsGoing}
 use Rattle.snapshot.specs.Spending.{jobs_read}
 use Rattle.serve_word.specs.From.{MayReadFrom, EndsAt, IsRefusedAt, IsUnreadAt, IsUnwrittenAt, IsOutOfMemoryAt}
 use Rattle.serve_word.specs.declared.at_end.AtEnd.{AtEnd}
-use Rattle.resume_word.specs.Opening.{OpeningStands}
-use Rattle.resume_word.specs.declared.opening.Opening.{Opening}
 
 -- ---- what was read
 
@@ -124,20 +122,11 @@ pub record Resumes (at_end : AtEnd) (status : Status) (moves : List Move) : Type
 
 -- The comparisons of a call are few for n jobs: before the snapshot is whole, for those of its lines that were read, or
 -- of a front of them; behind it, for those that were admitted in the feed and what follows.
+abbrev pub IsFrugalFor : (before after : ℕ) → List ℕ → Type 0
+IsFrugalFor before after x =
+    ((front : List ℕ) × Begins front x × AreFew (jobs_read (reading_of (lines_of front))) before after)
+    ⊎ Behind x (λ F H. AreFew (admitted_in (account (F ++ H))) before after)
+
+-- so they are for the bytes of a call
 abbrev pub IsFrugal : (before after : ℕ) → List Move → Type 0
-IsFrugal before after moves =
-    ((front : List ℕ) × Begins front (ins moves) × AreFew (jobs_read (reading_of (lines_of front))) before after)
-    ⊎ Behind (ins moves) (λ F H. AreFew (admitted_in (account (F ++ H))) before after)
-
--- The record of a call that is still to read the snapshot on.
-pub record GoesOn (opening : Opening) (moves : List Move) : Type 0 where
-  pub reads : EachRead MayRead moves
-  pub text : outs moves ≡ []
-  pub unended : has_ended moves ≡ false
-  pub stands : OpeningStands opening (ins moves)
-
--- the last text of a call that refuses a snapshot at a line
-abbrev pub Refuses : Status → Option (List Move) → Option (List Move) → ℕ → Type 0
-Refuses Refused old new at = Since old new (λ made. ArePuts made × (outs made ≡ refused_text at))
-Refuses WriteFault old new at = Since old new (λ made. ArePuts made × IsProperPrefix (outs made) (refused_text at))
-Refuses _ old new at = ⊥
+IsFrugal before after moves = IsFrugalFor before after (ins moves)

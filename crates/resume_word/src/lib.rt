@@ -3,5 +3,6 @@
 
 mod opening;
 mod resume;
+mod resuming;
 
 pub use resume::resume_word;

@@ -1,0 +1,102 @@
+use Rattle.std.proofs.Common.{sym, ◌∙◌, subst, refl, ap, ◌+◌}
+use Rattle.dialogue.specs.Turns.{AnswersBy}
+use Rattle.dover_port.specs.declared.status.Status.TheVariants as status
+use Rattle.dispatcher.specs.Serving.{Serves, HasRoom, HasPaid}
+use Rattle.serve_word.specs.Talking as serve
+use Rattle.serve_word.specs.Talking.{serve_talk}
+use Rattle.snapshot.specs.Reading.{Refused}
+use Rattle.resume_word.specs.Record.{refused_text}
+use Rattle.resume_word.specs.Talking.{IsReady, IsAnsweredBy}
+use Rattle.resume_word.proofs.Laws.{at_serving}
+use Rattle.resume_word.proofs.Talking.{due_at}
+use Rattle.resume_word.proofs.Stages.{opening_due, opening_answer, opening_costs, past_call, past_bytes, past_answers}
+use Rattle.resume_word.proofs.Stages.{past_goes, past_spent}
+use Rattle.resume_word.proofs.resuming.ResumingTalker.answer.Goals as goal
+
+pub returns-in-Opening-clause-answers : goal.returns-in-Opening-clause-answers
+returns-in-Opening-clause-answers g c = λ a x at over.
+    let it = subst (λ s. IsReady a s c.args.meter.now x) c.in-Opening.is at.1 in
+    c.refuse_snapshot.ensures.answers a x c.args.ended (opening_due a _ x it.0)
+    (opening_answer a _ x it.0 _ (ap (λ n. n + 1) (rw c.in-Opening.is at c.count.ensures)) c.args.ended over)
+
+pub returns-in-Opening-clause-spent : goal.returns-in-Opening-clause-spent
+returns-in-Opening-clause-spent g c = λ a x at.
+    let it = subst (λ s. IsReady a s c.args.meter.now x) c.in-Opening.is at.1 in opening_costs a _ x it.0 _ it.1
+
+pub returns-in-Refused-clause-answers : goal.returns-in-Refused-clause-answers
+returns-in-Refused-clause-answers g c = λ a x at over.
+    let it = subst (λ s. IsReady a s c.args.meter.now x) c.in-Refused.is at.1 in
+    c.refuse_snapshot-in-Refused.ensures.answers a x c.args.ended (due_at a x (Refused c.in-Refused.line) it.0)
+    (subst (λ r. IsAnsweredBy a.at_end r x c.args.ended status.Refused (refused_text c.in-Refused.line))
+    (sym it.0) refl)
+
+pub returns-in-Refused-clause-spent : goal.returns-in-Refused-clause-spent
+returns-in-Refused-clause-spent g c = λ a x at.
+    let it = subst (λ s. IsReady a s c.args.meter.now x) c.in-Refused.is at.1 in it.1
+
+pub answer-requires-clause-ready : goal.answer-requires-clause-ready
+answer-requires-clause-ready g c =
+    let a = c.requires.ready.0 in
+    let x = c.requires.ready.1 in
+    let it = at_serving a c.args.self.stage c.in-Serving.serving c.args.meter.now x c.in-Serving.is
+    c.requires.ready.2.1 in
+    rw c.in-Serving.is (
+      past_call a x _ it,
+      past_bytes a x _ it,
+      it.holds,
+      sym (past_goes a x _ it)
+          ∙ c.requires.ready.3,
+    )
+
+pub returns-in-Refuse-clause-answers : goal.returns-in-Refuse-clause-answers
+returns-in-Refuse-clause-answers g c = λ a x at over.
+    let it = at_serving a c.args.self.stage c.in-Serving.serving c.args.meter.now x c.in-Serving.is at.1 in
+    past_answers a x _ it c.args.ended _ _ _ c.answer.result
+    (subst (λ e. AnswersBy (serve_talk e (past_call a x _ it)) (past_bytes a x _ it) c.args.ended
+    (g.P.Port.moves c.args.port.now) (g.P.Port.moves c.answer.new.port) c.answer.new.out c.answer.result)
+    (sym c.in-Refuse.is ∙ at.0)
+    ((rw c.in-Serving.is at c.answer.ensures.answers) (past_call a x _ it) (past_bytes a x _ it) it.holds
+    (sym (past_goes a x _ it) ∙ over)))
+
+pub returns-in-Refuse-clause-spent : goal.returns-in-Refuse-clause-spent
+returns-in-Refuse-clause-spent g c = λ a x at.
+    let it = at_serving a c.args.self.stage c.in-Serving.serving c.args.meter.now x c.in-Serving.is at.1 in
+    past_spent a x _ it _
+    ((rw c.in-Serving.is at c.answer.ensures.spent) (past_call a x _ it) (past_bytes a x _ it) it.holds)
+
+pub answer-requires-in-Pause-clause-ready : goal.answer-requires-in-Pause-clause-ready
+answer-requires-in-Pause-clause-ready g c =
+    let a = c.requires.ready.0 in
+    let x = c.requires.ready.1 in
+    let it = at_serving a c.args.self.stage c.in-Serving.serving c.args.meter.now x c.in-Serving.is
+    c.requires.ready.2.1 in (
+      past_call a x _ it,
+      past_bytes a x _ it,
+      subst (λ s. serve.IsReady Serves HasRoom HasPaid (past_call a x _ it) s.feed c.args.meter.now
+          (past_bytes a x _ it))
+          (sym (rw c.in-Serving.is at c.new.ensures)) it.holds,
+      sym (past_goes a x _ it) ∙ c.requires.ready.3,
+    )
+
+pub returns-in-Pause-clause-answers : goal.returns-in-Pause-clause-answers
+returns-in-Pause-clause-answers g c = λ a x at over.
+    let it = at_serving a c.args.self.stage c.in-Serving.serving c.args.meter.now x c.in-Serving.is at.1 in
+    past_answers a x _ it c.args.ended _ _ _ c.answer-in-Pause.result
+    (subst (λ e. AnswersBy (serve_talk e (past_call a x _ it)) (past_bytes a x _ it) c.args.ended
+    (g.P.Port.moves c.args.port.now) (g.P.Port.moves c.answer-in-Pause.new.port) c.answer-in-Pause.new.out
+    c.answer-in-Pause.result)
+    (sym c.in-Pause.is ∙ at.0)
+    (c.answer-in-Pause.ensures.answers (past_call a x _ it) (past_bytes a x _ it)
+    (subst (λ s. serve.IsReady Serves HasRoom HasPaid (past_call a x _ it) s.feed c.args.meter.now
+    (past_bytes a x _ it))
+    (sym (rw c.in-Serving.is at c.new.ensures)) it.holds)
+    (sym (past_goes a x _ it) ∙ over)))
+
+pub returns-in-Pause-clause-spent : goal.returns-in-Pause-clause-spent
+returns-in-Pause-clause-spent g c = λ a x at.
+    let it = at_serving a c.args.self.stage c.in-Serving.serving c.args.meter.now x c.in-Serving.is at.1 in
+    past_spent a x _ it _
+    (c.answer-in-Pause.ensures.spent (past_call a x _ it) (past_bytes a x _ it)
+    (subst (λ s. serve.IsReady Serves HasRoom HasPaid (past_call a x _ it) s.feed c.args.meter.now
+    (past_bytes a x _ it))
+    (sym (rw c.in-Serving.is at c.new.ensures)) it.holds))
