@@ -9,11 +9,11 @@ use Rattle.dover_model.specs.Run.{Step, is_end}
 use Rattle.dover_model.specs.WholeRun.{step_at, IsWholeRun}
 use Rattle.dover_model.specs.Paths.{IsPath}
 use Rattle.dover_model.proofs.Paths.{closed_then_run}
-use Rattle.dover_core.specs.declared.horizon.Horizon.{Horizon}
-use Rattle.dover_core.specs.declared.horizon.Horizon.TheVariants.{Mark, End}
-use Rattle.dover_core.specs.Service.{MayFollow}
-use Rattle.dover_core.specs.Leading.{GivesNext}
-use Rattle.dover_core.proofs.Passing.{leads_closed, closed_append}
+use Rattle.dover_server.specs.declared.horizon.Horizon.{Horizon}
+use Rattle.dover_server.specs.declared.horizon.Horizon.TheVariants.{Mark, End}
+use Rattle.dover_server.specs.Service.{MayFollow}
+use Rattle.dover_server.specs.Leading.{GivesNext}
+use Rattle.dover_server.proofs.Passing.{leads_closed, closed_append}
 
 -- the end may follow any horizon
 pub end_follows : (last : Horizon) → MayFollow last End

@@ -17,12 +17,12 @@ use Rattle.dover_model.specs.Paths.{HasPrinted, IsOpenPath}
 use Rattle.dover_model.proofs.Honest.{count_jobs}
 use Rattle.dover_model.proofs.Paths.{path_append, printed_more, printed_settled, printed_behind, printed_begins}
 use Rattle.dover_model.proofs.Paths.{printed_then_run, printed_begins_run, closed_then_run}
-use Rattle.dover_core.specs.declared.horizon.Horizon.{Horizon}
-use Rattle.dover_core.specs.declared.horizon.Horizon.TheVariants.{Mark, End}
-use Rattle.dover_core.specs.Service.{Service, Stands, MayFollow, IsUpTo, list_of, with_job, admitted_task}
-use Rattle.dover_core.specs.Leading.{GivesNext, GivesNone, is_ready_after, is_end_given}
-use Rattle.dover_core.proofs.Admission.{admits, jobs_more}
-use Rattle.dover_core.proofs.Passing.{leads_open, printed_next, closed_append, goes_on_while, ended_now}
+use Rattle.dover_server.specs.declared.horizon.Horizon.{Horizon}
+use Rattle.dover_server.specs.declared.horizon.Horizon.TheVariants.{Mark, End}
+use Rattle.dover_server.specs.Service.{Service, Stands, MayFollow, IsUpTo, list_of, with_job, admitted_task}
+use Rattle.dover_server.specs.Leading.{GivesNext, GivesNone, is_ready_after, is_end_given}
+use Rattle.dover_server.proofs.Admission.{admits, jobs_more}
+use Rattle.dover_server.proofs.Passing.{leads_open, printed_next, closed_append, goes_on_while, ended_now}
 use Rattle.dispatcher.specs.Dispatch.{due_by, Gives}
 use Rattle.dispatcher.specs.Serving.{IsRunning, HasCome, Serves, IsReached, Rests}
 use Rattle.dispatcher.proofs.Closing.{steps_on, whole_on, path_on}

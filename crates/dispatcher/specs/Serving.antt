@@ -6,9 +6,9 @@ use Rattle.dover_model.specs.Instance.{Instance}
 use Rattle.dover_model.specs.State.{State}
 use Rattle.dover_model.specs.Run.{Step, printed, printed_of}
 use Rattle.dover_model.specs.Paths.{HasPrinted, IsPath}
-use Rattle.dover_core.specs.declared.horizon.Horizon.{Horizon}
-use Rattle.dover_core.specs.declared.horizon.Horizon.TheVariants.{Mark, End}
-use Rattle.dover_core.specs.Service.{Service, Stands, list_of}
+use Rattle.dover_server.specs.declared.horizon.Horizon.{Horizon}
+use Rattle.dover_server.specs.declared.horizon.Horizon.TheVariants.{Mark, End}
+use Rattle.dover_server.specs.Service.{Service, Stands, list_of}
 use Rattle.queued_jobs.specs.Spending.{HasSpent}
 use Rattle.dispatcher.specs.Dispatch.{due_by}
 

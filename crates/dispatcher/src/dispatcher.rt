@@ -4,13 +4,13 @@ ghost use Rattle.dover_model.specs.declared.events.Event.{Event};
 ghost use Rattle.dover_model.specs.Instance.{Instance, IsValid, with_jobs};
 ghost use Rattle.dover_model.specs.Limits.{most_jobs};
 ghost use Rattle.dover_model.specs.WholeRun.{Begins};
-ghost use Rattle.dover_core.specs.declared.horizon.Horizon.{Horizon};
-ghost use Rattle.dover_core.specs.declared.horizon.Horizon.TheVariants.{Mark};
-ghost use Rattle.dover_core.specs.Service.{MayFollow};
-ghost use Rattle.queued_jobs.specs.Spending.{AreFew};
+ghost use Rattle.dover_server.specs.declared.horizon.Horizon.{Horizon};
+ghost use Rattle.dover_server.specs.declared.horizon.Horizon.TheVariants.{Mark};
+ghost use Rattle.dover_server.specs.Service.{MayFollow};
+ghost use Rattle.queued_jobs.specs.Spending.{CostsAtMost};
 ghost use Rattle.dispatcher.specs.Dispatch.{no_jobs, due_by, Gives};
 
-use dover_core::Horizon;
+use dover_server::Horizon;
 use dover_model::{Event, Job, Memory, Ratio, Version};
 use std::alloc::Global;
 use std::sync::ledger::Ledger;
@@ -39,7 +39,7 @@ pub trait Dispatcher: Drop {
             → Begins events (due_by J to) }
         ensures rested { (s : Self) (J : Instance) (to : Horizon) → rests s J to → serves s J to (due_by J to) }
         ensures few { (s : Self) (J : Instance) (to : Horizon) (events : List Event) (start now : ℕ) →
-            serves s J to events → paid s start now → AreFew (length J.jobs) start now };
+            serves s J to events → paid s start now → CostsAtMost (length J.jobs) start now };
 
     /// No job is admitted yet, and the clock is 0.
     ///

@@ -3,7 +3,7 @@ ghost use Rattle.std.specs.Prelude.{◌≡◌, ◌≤◌, ◌+◌, ◌∷◌, []
 ghost use Rattle.dispatcher.specs.Serving.{Serves, Rests, HasRoom, HasPaid};
 
 use crate::dispatcher::Dispatcher;
-use dover_core::{Horizon, Server};
+use dover_server::{Horizon, Server};
 use dover_model::{Event, Job, Memory, Ratio, Version};
 use std::alloc::Global;
 use std::sync::ledger::Ledger;

@@ -17,16 +17,16 @@ use Rattle.dover_model.specs.Run.{printed, completed_value}
 use Rattle.dover_model.specs.Settled.{settled}
 use Rattle.dover_model.specs.Sound.{Each}
 use Rattle.dover_model.specs.Step.{Prints}
-use Rattle.dover_model.specs.Underload.{loses}
+use Rattle.dover_model.specs.Underload.{takes_or_abandons}
 use Rattle.dover_model.specs.Schedules.{Meets, worth}
 use Rattle.dover_model.specs.Bound.{IsWithin}
 use Rattle.dover_model.proofs.Tests.{never}
-use Rattle.dover_core.specs.declared.horizon.Horizon.{Horizon}
-use Rattle.dover_core.specs.declared.horizon.Horizon.TheVariants as horizon
-use Rattle.dover_core.specs.Leading.{is_end_given}
+use Rattle.dover_server.specs.declared.horizon.Horizon.{Horizon}
+use Rattle.dover_server.specs.declared.horizon.Horizon.TheVariants as horizon
+use Rattle.dover_server.specs.Leading.{is_end_given}
 use Rattle.dover_model.specs.Rest.{behind}
 use Rattle.std.specs.Option.{option_map}
-use Rattle.dover_core.specs.Service.{MayFollow}
+use Rattle.dover_server.specs.Service.{MayFollow}
 use Rattle.dover_engine.specs.declared.decision.Decision.{Decision}
 use Rattle.dover_engine.specs.declared.decision.Decision.TheVariants.{Release, Run, Preempt, Take, Complete, Abandon}
 use Rattle.dover_engine.specs.declared.decision.Decision.TheVariants.{End}
@@ -51,7 +51,7 @@ use Rattle.dover_c.specs.Program.{all_told, is_decision, answers, given, shown}
 abbrev IsKept : Decided → Type 0
 IsKept answer = (answer.kind ≡ 4 → ⊥) × (answer.kind ≡ 6 → ⊥)
 
-kept_kind : (e : Event) → loses (Prints e) ≡ false → IsKept (shown e)
+kept_kind : (e : Event) → takes_or_abandons (Prints e) ≡ false → IsKept (shown e)
 kept_kind (events.Release n job) none =
     ((λ e. absurd (let f : 1 ≡ 4 = e in cc)), (λ e. absurd (let f : 1 ≡ 6 = e in cc)))
 kept_kind (events.Run at n) none = ((λ e. absurd (let f : 2 ≡ 4 = e in cc)), (λ e. absurd (let f : 2 ≡ 6 = e in cc)))
@@ -63,7 +63,7 @@ kept_kind (events.Complete at n) none =
 kept_kind (events.Abandon at n) none = absurd (let f : true ≡ false = none in cc)
 kept_kind (events.End value) none = ((λ e. absurd (let f : 7 ≡ 4 = e in cc)), (λ e. absurd (let f : 7 ≡ 6 = e in cc)))
 
-each_kept : (es : List Event) → Each (λ e. loses (Prints e) ≡ false) es → Each IsKept (map shown es)
+each_kept : (es : List Event) → Each (λ e. takes_or_abandons (Prints e) ≡ false) es → Each IsKept (map shown es)
 each_kept [] each answer member = absurd member
 each_kept (e ∷ es) each answer (inl same) = subst IsKept (sym same) (kept_kind e (each e (inl refl)))
 each_kept (e ∷ es) each answer (inr member) = each_kept es (λ f there. each f (inr there)) answer member
@@ -424,7 +424,7 @@ module _ (version : Version) (p q capacity : ℕ) where
       subst (λ (J : Instance). Meets J → completed_value J ≡ total_value J.jobs) (all_are it.calls acts it.jobs)
       (life.underload_all version k it.calls it.w it.lives)
 
-  -- no decision that was given loses a job then
+  -- no decision that was given takes_or_abandons a job then
   pub unlost_given : (acts : List Act) (t : Slot) → IsProgram version p q capacity acts t
       → Meets (all_told version p q acts) → Each (λ answer. (answer.kind ≡ 4 → ⊥) × (answer.kind ≡ 6 → ⊥)) (given acts)
   unlost_given acts t program meets = let it = living acts t program in

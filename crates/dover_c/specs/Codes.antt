@@ -6,8 +6,8 @@ use Rattle.dover_model.specs.Fraction.{is_ratio, IsRatio}
 use Rattle.dover_model.specs.declared.events.Version.{Version}
 use Rattle.dover_model.specs.declared.events.Version.TheVariants.{One, Two}
 use Rattle.dover_model.specs.JobFacts.{JobFacts}
-use Rattle.dover_core.specs.declared.horizon.Horizon.TheVariants as horizon
-use Rattle.dover_core.specs.Service.{MayFollow}
+use Rattle.dover_server.specs.declared.horizon.Horizon.TheVariants as horizon
+use Rattle.dover_server.specs.Service.{MayFollow}
 use Rattle.admission.specs.declared.refused.Refused.TheVariants as refused
 use Rattle.dover_engine.specs.declared.causes.NotAdmitted.{NotAdmitted}
 use Rattle.dover_engine.specs.declared.causes.NotAdmitted.TheVariants.{Unsettled, Refused, Full}

@@ -1,7 +1,7 @@
 //! An engine where one could be made, and its calls with answers in numbers.
 ghost use Rattle.std.specs.Prelude.{◌≡◌, ◌<◌};
 ghost use Rattle.dover_model.specs.JobFacts.{job_of_numbers};
-ghost use Rattle.dover_core.specs.declared.horizon.Horizon.TheVariants.{End};
+ghost use Rattle.dover_server.specs.declared.horizon.Horizon.TheVariants.{End};
 ghost use Rattle.dover_engine.specs.Calls.{Decides};
 ghost use Rattle.dover_c.specs.Codes.{IsMade, AdmitAnswers, StepAnswers, FinishAnswers, RenewAnswers, StatusAnswers};
 ghost use Rattle.dover_c.specs.Codes.{ValueAnswers, RoomAnswers};

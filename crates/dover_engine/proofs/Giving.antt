@@ -19,11 +19,11 @@ use Rattle.dover_model.proofs.Kept.{opening_keeps}
 use Rattle.dover_model.proofs.Paths.{path_append, path_keeps, printed_nothing, printed_more, printed_settled}
 use Rattle.dover_model.proofs.Paths.{printed_behind, printed_then_run, closed_then_run}
 use Rattle.dover_model.proofs.Prefixes.{open_goes_on}
-use Rattle.dover_core.specs.declared.horizon.Horizon.{Horizon}
-use Rattle.dover_core.specs.declared.horizon.Horizon.TheVariants.{Mark, End}
-use Rattle.dover_core.specs.Service.{Service, list_of, with_job, admitted_task, MayFollow, Stands, IsReadyFor}
-use Rattle.dover_core.specs.Leading.{GivesNext, ReachesBarrier}
-use Rattle.dover_core.proofs.Passing.{leads_open, leads_closed, closed_append, printed_next, or_fails}
+use Rattle.dover_server.specs.declared.horizon.Horizon.{Horizon}
+use Rattle.dover_server.specs.declared.horizon.Horizon.TheVariants.{Mark, End}
+use Rattle.dover_server.specs.Service.{Service, list_of, with_job, admitted_task, MayFollow, Stands, IsReadyFor}
+use Rattle.dover_server.specs.Leading.{GivesNext, ReachesBarrier}
+use Rattle.dover_server.proofs.Passing.{leads_open, leads_closed, closed_append, printed_next, or_fails}
 use Rattle.dover_engine.specs.Calls.{Answers}
 use Rattle.dover_engine.specs.Given.{GaveAtMark, GaveAtEnd, GaveOfList}
 

@@ -5,9 +5,9 @@ use Rattle.dover_model.specs.JobFacts.{JobFacts}
 use Rattle.dover_model.specs.Instance.{IsValid, with_jobs}
 use Rattle.dover_model.specs.Admission.{refusal_of}
 use Rattle.dover_model.proofs.Admitting.{admits}
-use Rattle.dover_core.specs.declared.horizon.Horizon.{Horizon}
-use Rattle.dover_core.specs.declared.horizon.Horizon.TheVariants.{Mark, End}
-use Rattle.dover_core.specs.Service.{list_of, IsReadyFor, MayFollow, Stands}
+use Rattle.dover_server.specs.declared.horizon.Horizon.{Horizon}
+use Rattle.dover_server.specs.declared.horizon.Horizon.TheVariants.{Mark, End}
+use Rattle.dover_server.specs.Service.{list_of, IsReadyFor, MayFollow, Stands}
 use Rattle.dover_engine.specs.Kept.{AllKnown, IsKept}
 use Rattle.dover_engine.specs.declared.engine.Engine.TheInside.{Inside}
 use Rattle.std.specs.Prelude.{None}

@@ -24,9 +24,9 @@ use Rattle.dover_model.proofs.RestTick.{rests_from}
 use Rattle.dover_model.proofs.TurnSchedules.{turn_valid, honest_in_turn, within_in_turn}
 use Rattle.dover_model.proofs.Parting.{all_value_in_turn}
 use Rattle.dover_model.proofs.Turns.{turn_append, jobs_append}
-use Rattle.dover_core.specs.declared.horizon.Horizon.TheVariants.{Mark}
-use Rattle.dover_core.specs.Service.{Service, Stands, fresh_service, renewed, admitted_task, list_of}
-use Rattle.dover_core.proofs.Admission.{admits}
+use Rattle.dover_server.specs.declared.horizon.Horizon.TheVariants.{Mark}
+use Rattle.dover_server.specs.Service.{Service, Stands, fresh_service, renewed, admitted_task, list_of}
+use Rattle.dover_server.proofs.Admission.{admits}
 use Rattle.dover_engine.specs.Decisions.{events_in}
 use Rattle.dover_engine.specs.Life.{Life, fresh_life, done_value, is_at_rest}
 use Rattle.dover_engine.specs.Given.{Gave}

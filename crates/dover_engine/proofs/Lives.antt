@@ -26,11 +26,11 @@ use Rattle.dover_model.proofs.Apart.{runs_in_turn, behind_last, end_at_rest}
 use Rattle.dover_model.proofs.Turns.{over_more, jobs_append, completed_append, settled_behind, printed_behind}
 use Rattle.dover_model.proofs.Turns.{before_end_behind}
 use Rattle.dover_model.proofs.Tests.{never}
-use Rattle.dover_core.specs.declared.horizon.Horizon.{Horizon}
-use Rattle.dover_core.specs.declared.horizon.Horizon.TheVariants.{Mark, End}
-use Rattle.dover_core.specs.Service.{Service, Stands, IsUpTo, IsReadyFor, MayFollow, list_of, with_job, admitted_task}
-use Rattle.dover_core.proofs.Admission.{jobs_more}
-use Rattle.dover_core.proofs.Renewing as renewing
+use Rattle.dover_server.specs.declared.horizon.Horizon.{Horizon}
+use Rattle.dover_server.specs.declared.horizon.Horizon.TheVariants.{Mark, End}
+use Rattle.dover_server.specs.Service.{Service, Stands, IsUpTo, IsReadyFor, MayFollow, list_of, with_job, admitted_task}
+use Rattle.dover_server.proofs.Admission.{jobs_more}
+use Rattle.dover_server.proofs.Renewing as renewing
 use Rattle.dover_engine.specs.declared.decision.Decision.{Decision}
 use Rattle.dover_engine.specs.Decisions.{event_of, events_in, HasShortValue}
 use Rattle.dover_engine.specs.Life.{Life, done_value, is_at_rest, renewed_life}

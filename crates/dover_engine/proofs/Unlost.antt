@@ -1,4 +1,4 @@
--- Where one schedule serves all jobs that were ever admitted, no decision that was given loses one.
+-- Where one schedule serves all jobs that were ever admitted, no decision that was given takes_or_abandons one.
 use Rattle.std.proofs.Common.{◌≡◌, ℕ, List, [], ◌∷◌, ◌++◌, append-nil, map, refl, sym, ◌∙◌, subst}
 use Rattle.std.proofs.Common.{Bool, true, false, not, cond, inl, inr}
 use Rattle.std.specs.Bool.{MatchBool}
@@ -13,7 +13,7 @@ use Rattle.dover_model.specs.Step.{Move, Prints, Waits, Ticks}
 use Rattle.dover_model.specs.Run.{Step, run, printed, printed_of, event_of}
 use Rattle.dover_model.specs.Schedules.{Meets}
 use Rattle.dover_model.specs.Sound.{Each, IsMember, jobs_of}
-use Rattle.dover_model.specs.Underload.{loses}
+use Rattle.dover_model.specs.Underload.{takes_or_abandons}
 use Rattle.dover_model.specs.WholeRun.{Begins, IsWholeRun}
 use Rattle.dover_model.specs.Paths.{IsPath}
 use Rattle.dover_model.specs.Rest.{behind, names_end, before_end, in_turn, printed_in_turn}
@@ -22,7 +22,7 @@ use Rattle.dover_model.proofs.Parting.{none_lost_in_turn}
 use Rattle.dover_model.proofs.Paths.{printed_begins_run}
 use Rattle.dover_model.proofs.Turns.{over_turn}
 use Rattle.dover_model.proofs.TurnSchedules.{turn_valid}
-use Rattle.dover_core.specs.Service.{Service, Stands, list_of}
+use Rattle.dover_server.specs.Service.{Service, Stands, list_of}
 use Rattle.dover_engine.specs.Life.{Life}
 use Rattle.dover_engine.specs.Given.{GaveOfList}
 use Rattle.dover_engine.specs.Calls.{Call, Lives, all_jobs, decided}
@@ -31,7 +31,7 @@ use Rattle.dover_engine.proofs.LifeLaws.{it, in_turns, all_are}
 
 -- none of the events is a take or an abandonment
 abbrev LoseNone : List Event → Type 0
-LoseNone events = AllByRecursion (λ e. loses (Prints e) ≡ false) events
+LoseNone events = AllByRecursion (λ e. takes_or_abandons (Prints e) ≡ false) events
 
 -- ---- lists of events
 
@@ -46,7 +46,7 @@ none_front (e ∷ es) fs all = (all.0, none_front es fs all.1)
 none_behind : (n value : ℕ) (es : List Event) → LoseNone es → LoseNone (map (behind n value) es)
 none_behind n value [] all = tt
 none_behind n value (e ∷ es) all = (one e all.0, none_behind n value es all.1) where
-  one : (e : Event) → loses (Prints e) ≡ false → loses (Prints (behind n value e)) ≡ false
+  one : (e : Event) → takes_or_abandons (Prints e) ≡ false → takes_or_abandons (Prints (behind n value e)) ≡ false
   one (Release m job) none = refl
   one (Run at m) none = refl
   one (Preempt at stops starts) none = refl
@@ -62,18 +62,18 @@ none_before_end (e ∷ es) all = by (not (names_end e)) (none_before_end es all.
   by true rest = (all.0, rest)
   by false rest = rest
 
-each_none : (es : List Event) → LoseNone es → Each (λ e. loses (Prints e) ≡ false) es
+each_none : (es : List Event) → LoseNone es → Each (λ e. takes_or_abandons (Prints e) ≡ false) es
 each_none [] all e member = absurd member
-each_none (f ∷ es) all e (inl same) = subst (λ g. loses (Prints g) ≡ false) (sym same) all.0
+each_none (f ∷ es) all e (inl same) = subst (λ g. takes_or_abandons (Prints g) ≡ false) (sym same) all.0
 each_none (f ∷ es) all e (inr member) = each_none es all.1 e member
 
 -- ---- runs
 
-none_printed : (xs : List Step) → Each (λ x. loses x.move ≡ false) xs → LoseNone (printed_of xs)
+none_printed : (xs : List Step) → Each (λ x. takes_or_abandons x.move ≡ false) xs → LoseNone (printed_of xs)
 none_printed [] each = tt
 none_printed (x ∷ xs) each =
     by x.move (each x (inl refl)) (none_printed xs (λ y member. each y (inr member))) where
-      by : (m : Move) → loses m ≡ false → LoseNone (printed_of xs)
+      by : (m : Move) → takes_or_abandons m ≡ false → LoseNone (printed_of xs)
           → LoseNone (cons_option (event_of m) (printed_of xs))
       by (Prints e) none rest = (none, rest)
       by (Waits n) none rest = rest
@@ -85,7 +85,7 @@ module _ (rules : Rules) where
 
   -- no step of its run is one
   abbrev IsUnlost : List JobFacts → Type 0
-  IsUnlost jobs = Each (λ x. loses x.move ≡ false) (run (of_rules jobs))
+  IsUnlost jobs = Each (λ x. takes_or_abandons x.move ≡ false) (run (of_rules jobs))
 
   none_in_turn : (lists : List (List JobFacts)) → Each IsUnlost lists → LoseNone (printed_in_turn rules lists)
   none_in_turn [] each = (refl, tt)
@@ -120,7 +120,8 @@ given_begins v es stands (inr at) = by v.ended refl where
 -- ---- a life
 
 module _ (version : Version) (k : Fraction) (calls : List Call) (w : Life) (life : Lives version k calls w) where
-  pub none_lost_all : Meets (all_jobs version k calls) → Each (λ e. loses (Prints e) ≡ false) (decided calls)
+  pub none_lost_all : Meets (all_jobs version k calls)
+      → Each (λ e. takes_or_abandons (Prints e) ≡ false) (decided calls)
   none_lost_all meets =
       let stood = it version k calls w life in
       let rules : Rules = w.service.rules in

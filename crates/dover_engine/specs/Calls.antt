@@ -11,10 +11,10 @@ use Rattle.dover_model.specs.Instance.{Instance, IsValid, with_jobs}
 use Rattle.dover_model.specs.Admission.{refusal_of}
 use Rattle.dover_model.specs.Rest.{behind}
 use Rattle.admission.specs.Answers.{refusal_of_refused}
-use Rattle.dover_core.specs.declared.horizon.Horizon.{Horizon}
-use Rattle.dover_core.specs.declared.horizon.Horizon.TheVariants.{Mark, End}
-use Rattle.dover_core.specs.Service.{Service, list_of, with_job, IsReadyFor, MayFollow, Stands, steps_left}
-use Rattle.dover_core.specs.Leading.{GivesNext, GivesNone, is_ready_after, is_end_given}
+use Rattle.dover_server.specs.declared.horizon.Horizon.{Horizon}
+use Rattle.dover_server.specs.declared.horizon.Horizon.TheVariants.{Mark, End}
+use Rattle.dover_server.specs.Service.{Service, list_of, with_job, IsReadyFor, MayFollow, Stands, steps_left}
+use Rattle.dover_server.specs.Leading.{GivesNext, GivesNone, is_ready_after, is_end_given}
 use Rattle.dover_engine.specs.declared.causes.NotMade.{NotMade}
 use Rattle.dover_engine.specs.declared.causes.NotMade.TheVariants.{Capacity, Memory}
 use Rattle.dover_engine.specs.declared.causes.NotAdmitted.{NotAdmitted}

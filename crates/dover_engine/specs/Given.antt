@@ -11,9 +11,9 @@ use Rattle.dover_model.specs.WholeRun.{IsWholeRun}
 use Rattle.dover_model.specs.Paths.{HasPrinted, IsPath}
 use Rattle.dover_model.specs.Sound.{jobs_of}
 use Rattle.dover_model.specs.Rest.{NoneBefore, AreOverAt, behind, before_end, in_turn, completed_in_turn}
-use Rattle.dover_core.specs.declared.horizon.Horizon.{Horizon}
-use Rattle.dover_core.specs.declared.horizon.Horizon.TheVariants.{Mark, End}
-use Rattle.dover_core.specs.Service.{Service, list_of}
+use Rattle.dover_server.specs.declared.horizon.Horizon.{Horizon}
+use Rattle.dover_server.specs.declared.horizon.Horizon.TheVariants.{Mark, End}
+use Rattle.dover_server.specs.Service.{Service, list_of}
 use Rattle.dover_engine.specs.declared.decision.Decision.{Decision}
 use Rattle.dover_engine.specs.Decisions.{events_in}
 use Rattle.dover_engine.specs.Life.{Life}

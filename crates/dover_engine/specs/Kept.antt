@@ -3,9 +3,9 @@ use Rattle.std.specs.Prelude.{◌≡◌, ◌≤◌, List}
 use Rattle.std.specs.List.{AllByRecursion}
 use Rattle.dover_model.specs.JobFacts.{JobFacts}
 use Rattle.admission.specs.Kept as admission
-use Rattle.dover_core.specs.declared.horizon.Horizon.{Horizon}
-use Rattle.dover_core.specs.declared.horizon.Horizon.TheVariants.{Mark, End}
-use Rattle.dover_core.specs.Service.{list_of}
+use Rattle.dover_server.specs.declared.horizon.Horizon.{Horizon}
+use Rattle.dover_server.specs.declared.horizon.Horizon.TheVariants.{Mark, End}
+use Rattle.dover_server.specs.Service.{list_of}
 use Rattle.dover_engine.specs.declared.engine.Engine.TheInside.{Inside}
 use Rattle.dover_engine.specs.Life.{Life, most_forgotten}
 

@@ -4,7 +4,7 @@ use Rattle.std.specs.List.{filter, list_all}
 use Rattle.dover_model.specs.declared.events.Version.{Version}
 use Rattle.dover_model.specs.Fraction.{Fraction}
 use Rattle.dover_model.specs.State.{is_done, is_over, value_sum}
-use Rattle.dover_core.specs.Service.{Service, fresh_service, renewed}
+use Rattle.dover_server.specs.Service.{Service, fresh_service, renewed}
 
 -- the jobs since the last renewal, and those that were forgotten
 pub record Life : Type 0 where

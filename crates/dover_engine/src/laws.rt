@@ -10,11 +10,11 @@ ghost use Rattle.dover_model.specs.Instance.{total_value};
 ghost use Rattle.dover_model.specs.Run.{printed, completed_value};
 ghost use Rattle.dover_model.specs.Step.{Prints};
 ghost use Rattle.dover_model.specs.Sound.{Each};
-ghost use Rattle.dover_model.specs.Underload.{loses};
+ghost use Rattle.dover_model.specs.Underload.{takes_or_abandons};
 ghost use Rattle.dover_model.specs.Settled.{settled};
 ghost use Rattle.dover_model.specs.Schedules.{Meets, worth};
 ghost use Rattle.dover_model.specs.Bound.{IsWithin};
-ghost use Rattle.dover_core.specs.declared.horizon.Horizon.TheVariants.{Mark, End};
+ghost use Rattle.dover_server.specs.declared.horizon.Horizon.TheVariants.{Mark, End};
 ghost use Rattle.dover_engine.specs.Life.{Life, done_value, is_at_rest};
 ghost use Rattle.dover_engine.specs.Calls.{Call, Stepped, Lives, admitted, jobs_in, all_jobs, decided};
 
@@ -53,7 +53,7 @@ pub fn a_life_is_worth_enough()
     ensures underload { (version : Version) (k : Fraction) (calls : List Call) (w : Life) → Lives version k calls w →
         Meets (all_jobs version k calls) → completed_value (all_jobs version k calls) ≡ total_value (jobs_in calls) }
     ensures none_lost { (version : Version) (k : Fraction) (calls : List Call) (w : Life) → Lives version k calls w →
-        Meets (all_jobs version k calls) → Each (λ e. loses (Prints e) ≡ false) (decided calls) }
+        Meets (all_jobs version k calls) → Each (λ e. takes_or_abandons (Prints e) ≡ false) (decided calls) }
     ensures value { (version : Version) (k : Fraction) (calls : List Call) (w : Life) → Lives version k calls w →
         is_at_rest w ≡ true →
         w.earned + done_value w ≡ completed_value (all_jobs version k calls) }

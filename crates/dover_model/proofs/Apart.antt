@@ -13,7 +13,7 @@ use Rattle.dover_model.specs.Instance.{Rules, Instance, IsValid, with_jobs}
 use Rattle.dover_model.specs.State.{State, with_later, opening, to_come, is_done, value_sum}
 use Rattle.dover_model.specs.Step.{Move, Prints, Waits, Ticks, open_step, after}
 use Rattle.dover_model.specs.Run.{Step, is_end, event_of, printed_of, printed, run, completed_value}
-use Rattle.dover_model.specs.Settled.{is_late, settled, settled_steps, AllComeFrom}
+use Rattle.dover_model.specs.Settled.{waits_for_mark, settled, settled_steps, AllComeFrom}
 use Rattle.dover_model.specs.WholeRun.{open_at, step_at, EndsOver, IsSettledRun}
 use Rattle.dover_model.specs.Paths.{IsOpenPath}
 use Rattle.dover_model.specs.Sound.{Each, Keeps}
@@ -64,7 +64,8 @@ module _ (J : Instance) (valid : IsValid J) (mark : ℕ) (more : List JobFacts) 
   open_behind [] s t keeps here = ([], ap (λ z. with_later z ks) here, refl, refl)
   open_behind (x ∷ xs) s t keeps path =
       let same : open_step J.rules (with_later s ks) ≡ open_step J.rules s =
-      same_step J.rules s ks mark come.0 come.1 (late_early (is_late (open_step J.rules s)) mark s.clock path.1) in
+      same_step J.rules s ks mark come.0 come.1 (late_early (waits_for_mark (open_step J.rules s)) mark s.clock path.1)
+          in
       let next : after (with_later s ks) (open_step J.rules (with_later s ks)) ≡ with_later
       (after s (open_step J.rules s)) ks =
       ap (after (with_later s ks)) same
@@ -74,7 +75,7 @@ module _ (J : Instance) (valid : IsValid J) (mark : ℕ) (more : List JobFacts) 
         open_at J.rules (with_later s ks) ∷ rest.0,
         (
           refl,
-          ap (λ m. is_late m && nat_le mark s.clock) same ∙ path.1,
+          ap (λ m. waits_for_mark m && nat_le mark s.clock) same ∙ path.1,
           subst (λ z. IsOpenPath J.rules mark z rest.0 (with_later t ks)) (sym next) rest.1,
         ),
         omega (arith, rest.2),

@@ -7,7 +7,7 @@ use Rattle.dover_model.specs.Instance.{Instance, IsValid}
 use Rattle.dover_model.specs.State.{State, opening}
 use Rattle.dover_model.specs.Step.{Move, Ticks, open_step, after}
 use Rattle.dover_model.specs.Run.{Step}
-use Rattle.dover_model.specs.Settled.{is_late, settled_state}
+use Rattle.dover_model.specs.Settled.{waits_for_mark, settled_state}
 use Rattle.dover_model.specs.WholeRun.{IsBarrier, IsBefore, IsSettledRun}
 use Rattle.dover_model.specs.Sound.{Each, Keeps}
 use Rattle.dover_model.proofs.Deeds.{Deed, Completed, Resumed, Started, Began, Preempted, Stayed, Arrived, Taken}
@@ -18,7 +18,7 @@ use Rattle.dover_model.proofs.Settling.{late_early, at_barrier, settled_is_run}
 use Rattle.dover_model.proofs.Tests.{never}
 
 -- no job is fresh where a late step is taken
-late_none_fresh : (k : Fraction) (s : State) (m : Move) → Deed k s Ticks m → is_late m ≡ true
+late_none_fresh : (k : Fraction) (s : State) (m : Move) → Deed k s Ticks m → waits_for_mark m ≡ true
     → Each (λ t. t.role ≡ Fresh → ⊥) s.tasks
 late_none_fresh k s m (Completed r member runs done) late = never late
 late_none_fresh k s m (Resumed p member held none least why) late = never late
@@ -52,15 +52,16 @@ module _ (J : Instance) (valid : IsValid J) (mark : ℕ) where
         → (after s (open_step J.rules s)).clock ≤ mark
     by_clock (inl same) = omega arith
     by_clock (inr it) =
-        let less : s.clock < mark = late_early (is_late (open_step J.rules s)) mark s.clock before (ap is_late it.0) in
+        let less : s.clock < mark =
+            late_early (waits_for_mark (open_step J.rules s)) mark s.clock before (ap waits_for_mark it.0) in
         omega (arith, it.1)
 
   -- a settled run ends at its barrier
   pub ends_at_barrier : (xs : List Step) (s : State) → Keeps J s → s.clock ≤ mark → IsSettledRun J.rules mark s xs
       → AtBarrier J mark (state_after s xs)
   ends_at_barrier [] s keeps low run =
-      let it : (is_late (open_step J.rules s) ≡ true) × (mark ≤ s.clock) =
-      at_barrier (is_late (open_step J.rules s)) mark s.clock run in
+      let it : (waits_for_mark (open_step J.rules s) ≡ true) × (mark ≤ s.clock) =
+      at_barrier (waits_for_mark (open_step J.rules s)) mark s.clock run in
       record {
         keeps = keeps;
         clock = omega (arith, it.1);

@@ -241,8 +241,8 @@ module _ (k : Fraction) (version : Version) (s : State) (other : Move) (sound : 
       omega arith
 
   -- the waiting job at its latest start
-  is_late : (x : Task) → v.late ≡ Some x → IsMember x s.tasks × (x.role ≡ Waiting) × (latest_start x ≡ s.clock)
-  is_late x some =
+  waits_for_mark : (x : Task) → v.late ≡ Some x → IsMember x s.tasks × (x.role ≡ Waiting) × (latest_start x ≡ s.clock)
+  waits_for_mark x some =
       let it : IsMember x (waiting s) × (is_at_latest_start s x ≡ true) = late_member in
       let is_w : IsMember x s.tasks × (is_waiting x ≡ true) = member_filter is_waiting s.tasks x it.0 in
       (is_w.0, is_waiting_role x is_w.1, eqb-true _ _ it.1) where
@@ -413,13 +413,13 @@ module _ (k : Fraction) (version : Version) (s : State) (other : Move) (sound : 
       (settled_busy ro settles)
       (settled_free ro settles)
   deed_of m (Takes r x settles stale none late heavy) =
-      Taken r x (settled_r r settles).0 (settled_r r settles).1 (settled_r r settles).2 (is_late x late).0
-      (is_late x late).1 (is_late x late).2
+      Taken r x (settled_r r settles).0 (settled_r r settles).1 (settled_r r settles).2 (waits_for_mark x late).0
+      (waits_for_mark x late).1 (waits_for_mark x late).2
       (is_stale stale) heavy
   deed_of m (Abandons r x settles stale none late light) =
-      Abandoned r x (settled_r r settles).0 (settled_r r settles).1 (settled_r r settles).2 (is_late x late).0
-      (is_late x late).1
-      (is_late x late).2 (is_stale stale) light
+      Abandoned r x (settled_r r settles).0 (settled_r r settles).1 (settled_r r settles).2 (waits_for_mark x late).0
+      (waits_for_mark x late).1
+      (waits_for_mark x late).2 (is_stale stale) light
   deed_of m (Rests ro settles stale none quiet) = Rested (record {
     stale = is_stale stale;
     early = none_late ro settles quiet;

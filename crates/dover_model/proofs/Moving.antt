@@ -16,7 +16,7 @@ use Rattle.dover_model.specs.Instance.{Rules}
 use Rattle.dover_model.specs.State.{State, is_coming, is_fresh, is_waiting, is_held, is_running, is_privileged, is_done}
 use Rattle.dover_model.specs.State.{is_over, left, latest_start}
 use Rattle.dover_model.specs.State.{room, demand_by, least, value_sum}
-use Rattle.dover_model.specs.Orders.{is_heavy, first, earlier, due_first, latest_first}
+use Rattle.dover_model.specs.Orders.{is_heavy, first, earlier, due_first, starts_before}
 use Rattle.dover_model.specs.Step.{Move, Prints, Waits, Ticks, View, view, ◌or_else◌, completion, dispatch, decision}
 use Rattle.dover_model.specs.Step.{arrival, alarm}
 use Rattle.dover_model.specs.Step.{urgent_or, step, ending, after, ticked, runs, preempts, is_at_latest_start}
@@ -158,7 +158,7 @@ module _ (c : ℕ) where
 
   -- the order by latest start
   start_later : (v : Version) (a b : Task) → IsFitting a → IsFitting b
-      → latest_first v (moved_task c a) (moved_task c b) ≡ latest_first v a b
+      → starts_before v (moved_task c a) (moved_task c b) ≡ starts_before v a b
   start_later One a b fit fit2 =
       keys_later (latest_start (moved_task c a)) (latest_start (moved_task c b)) (latest_start a) (latest_start b)
       (nat_lt a.number b.number) (latest_later c a fit) (latest_later c b fit2)
@@ -239,7 +239,7 @@ module _ (c : ℕ) where
         first_later (due_first version) (due_later version) (filter is_waiting s.tasks)
             (filter_fits is_waiting s.tasks fits),
         e_late,
-        first_later (latest_first version) (start_later version)
+        first_later (starts_before version) (start_later version)
             (filter (is_at_latest_start s) (filter is_waiting s.tasks))
             (filter_fits (is_at_latest_start s) (filter is_waiting s.tasks) (filter_fits is_waiting s.tasks fits)),
         room_later s.clock (filter is_held s.tasks),

@@ -13,7 +13,7 @@ use Rattle.dover_model.specs.Instance.{Rules, Instance, IsValid, total_value}
 use Rattle.dover_model.specs.Schedules.{ticks_given, is_served, worth, Meets}
 use Rattle.dover_model.specs.Bound.{IsWithin, bound}
 use Rattle.dover_model.specs.Run.{completed_value, run}
-use Rattle.dover_model.specs.Underload.{loses}
+use Rattle.dover_model.specs.Underload.{takes_or_abandons}
 use Rattle.dover_model.specs.Sound.{IsMember, Each}
 use Rattle.dover_model.specs.Rest.{in_turn, completed_in_turn}
 use Rattle.dover_model.specs.Parts.{part_of, IsParted, part_under, completed_in_parts, bounds_of_parts}
@@ -308,7 +308,7 @@ bounds_parted J rules owner parts s parted valid =
     (valid part member)) in
     omega arith
 
--- where one schedule serves all jobs, each part loses nothing
+-- where one schedule serves all jobs, each part takes_or_abandons nothing
 pub meets_parted : (J : Instance) (rules : Rules) (owner : ℕ → ℕ) (part : ℕ) → Meets J
     → Meets (part_under (λ _. rules) owner J.jobs part)
 meets_parted J rules owner part meets = (
@@ -426,14 +426,14 @@ module _ (rules : Rules) where
       (no_more (of_rules jobs) s (valid jobs (inl refl)))
       (bound_in_turn lists (map (λ m. m - length jobs) s) (λ js member. valid js (inr member)))))
 
-  -- where one schedule serves all jobs, no list loses anything
+  -- where one schedule serves all jobs, no list takes_or_abandons anything
   pub none_lost_in_turn : (lists : List (List JobFacts)) → Each (λ jobs. IsValid (of_rules jobs)) lists
       → Meets (of_rules (in_turn lists))
-      → Each (λ jobs. Each (λ x. loses x.move ≡ false) (run (of_rules jobs))) lists
+      → Each (λ jobs. Each (λ x. takes_or_abandons x.move ≡ false) (run (of_rules jobs))) lists
   none_lost_in_turn [] valid meets = λ jobs member. absurd member
   none_lost_in_turn (jobs ∷ lists) valid meets =
       let both = meets_append jobs (in_turn lists) meets in
-      each_cons jobs lists (λ js. Each (λ x. loses x.move ≡ false) (run (of_rules js)))
+      each_cons jobs lists (λ js. Each (λ x. takes_or_abandons x.move ≡ false) (run (of_rules js)))
       (none_lost (of_rules jobs) (valid jobs (inl refl)) both.0)
       (none_lost_in_turn lists (λ js member. valid js (inr member)) both.1) where
         each_cons : {X : Type 0} (x : X) (xs : List X) (P : X → Type 0) → P x → Each P xs → Each P (x ∷ xs)

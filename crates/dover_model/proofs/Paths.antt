@@ -15,7 +15,7 @@ use Rattle.dover_model.specs.Instance.{Rules, Instance, IsValid, with_jobs}
 use Rattle.dover_model.specs.State.{State, with_later, opening, to_come, is_over, is_done, is_running, value_sum}
 use Rattle.dover_model.specs.Step.{Prints, Ticks, step, open_step, after, ending, ◌or_else◌, ticked}
 use Rattle.dover_model.specs.Run.{Step, is_end, event_of, printed_of, printed, run, last_deadline}
-use Rattle.dover_model.specs.Settled.{is_late, settled, settled_steps, AllComeFrom}
+use Rattle.dover_model.specs.Settled.{waits_for_mark, settled, settled_steps, AllComeFrom}
 use Rattle.dover_model.specs.WholeRun.{open_at, step_at, IsWholeRun, IsBarrier, IsBefore, IsSettledRun, Begins}
 use Rattle.dover_model.specs.Paths.{IsOpenPath, IsPath, HasPrinted}
 use Rattle.dover_model.specs.Sound.{Each, Keeps}
@@ -60,7 +60,7 @@ pub path_later : (rules : Rules) (mark mark2 : ℕ) → mark ≤ mark2 → (xs :
 path_later rules mark mark2 later [] s t path = path
 path_later rules mark mark2 later (x ∷ xs) s t path = (
   path.0,
-  before_later (is_late (open_step rules s)) mark mark2 s.clock later path.1,
+  before_later (waits_for_mark (open_step rules s)) mark mark2 s.clock later path.1,
   path_later rules mark mark2 later xs (after s (open_step rules s)) t path.2,
 )
 
@@ -104,7 +104,7 @@ module _ (J : Instance) (valid : IsValid J) (K : Instance) (valid_more : IsValid
       let same : open_step rules (with_later s more) ≡ open_step rules s =
       behind_step J valid K valid_more rules mark more come s keeps keeps_more path.1 in
       let before : IsBefore rules mark (with_later s more) =
-      subst (λ m. (is_late m && nat_le mark s.clock) ≡ false) (sym same) path.1 in
+      subst (λ m. (waits_for_mark m && nat_le mark s.clock) ≡ false) (sym same) path.1 in
       let rest = path_behind xs (after s (open_step rules s)) t (open_kept J valid s keeps rules)
       (behind_keeps J valid K valid_more rules mark more come s keeps keeps_more path.1) path.2 in (
         open_at rules (with_later s more) ∷ rest.0,

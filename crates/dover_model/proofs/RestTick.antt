@@ -14,7 +14,7 @@ use Rattle.dover_model.specs.Instance.{Rules, Instance, IsValid}
 use Rattle.dover_model.specs.State.{State, opening, is_over, is_running, left}
 use Rattle.dover_model.specs.Step.{Move, Ticks, step, open_step, after, with_role, displaced}
 use Rattle.dover_model.specs.Run.{Step, is_end, run}
-use Rattle.dover_model.specs.Settled.{is_late, settled_steps, settled_state}
+use Rattle.dover_model.specs.Settled.{waits_for_mark, settled_steps, settled_state}
 use Rattle.dover_model.specs.WholeRun.{open_at, IsWholeRun, IsBefore, IsSettledRun}
 use Rattle.dover_model.specs.Paths.{IsOpenPath}
 use Rattle.dover_model.specs.Sound.{IsMember, Each, IsSound, Keeps}
@@ -126,7 +126,7 @@ module _ (k : Fraction) (s : State) (sound : IsSound s) where
   goes_on other m (Rested quiet) it = inl refl
 
   -- a late step is a silent tick, or a job runs on after it
-  late_goes : (m : Move) → Deed k s Ticks m → is_late m ≡ true → (m ≡ Ticks) ⊎ RunsOn (after s m)
+  late_goes : (m : Move) → Deed k s Ticks m → waits_for_mark m ≡ true → (m ≡ Ticks) ⊎ RunsOn (after s m)
   late_goes m (Completed r member runs done) late = never late
   late_goes m (Resumed p member held none least why) late = never late
   late_goes m (Started o member waiting none first fits next) late = never late
@@ -195,7 +195,7 @@ module _ (J : Instance) (valid : IsValid J) where
           (refl, before, subst (λ m. IsOpenPath J.rules mark (after s m) it.1 it.0) (goes s keeps on) it.2),
           it.3,
         ) where
-          early : is_late (open_step J.rules s) ≡ true → s.clock < mark
+          early : waits_for_mark (open_step J.rules s) ≡ true → s.clock < mark
           early late = by_goes (late_goes J.rules.ratio s keeps.sound (open_step J.rules s)
               (open_deed J valid s keeps J.rules) late) where
                 by_goes : (open_step J.rules s ≡ Ticks) ⊎ RunsOn (after s (open_step J.rules s)) → s.clock < mark
@@ -213,8 +213,8 @@ module _ (J : Instance) (valid : IsValid J) where
                 )
 
           before : IsBefore J.rules mark s
-          before = by_late (is_late (open_step J.rules s)) refl where
-            by_late : (b : Bool) → is_late (open_step J.rules s) ≡ b → (b && nat_le mark s.clock) ≡ false
+          before = by_late (waits_for_mark (open_step J.rules s)) refl where
+            by_late : (b : Bool) → waits_for_mark (open_step J.rules s) ≡ b → (b && nat_le mark s.clock) ≡ false
             by_late true late = lt-leb _ _ (early late)
             by_late false late = refl
 

@@ -17,7 +17,7 @@ use Rattle.dover_model.specs.State.{is_fresh, is_waiting, value_sum}
 use Rattle.dover_model.specs.Step.{Prints, Ticks, step, open_step, after, ending, ◌or_else◌, ticked}
 use Rattle.dover_model.specs.Run.{Step, is_end, event_of, printed_of, printed, run, last_deadline, enough}
 use Rattle.dover_model.specs.Run.{completed_value}
-use Rattle.dover_model.specs.Settled.{is_late, settled, settled_steps, settled_state, AllComeFrom}
+use Rattle.dover_model.specs.Settled.{waits_for_mark, settled, settled_steps, settled_state, AllComeFrom}
 use Rattle.dover_model.specs.WholeRun.{open_at, step_at, IsWholeRun, IsBarrier, IsBefore, IsSettledRun}
 use Rattle.dover_model.specs.Paths.{IsOpenPath, IsPath, HasPrinted}
 use Rattle.dover_model.specs.Jumps.{ticked_by, later_by, NothingDue}
@@ -188,7 +188,7 @@ module _ (J : Instance) (valid : IsValid J) (m : ℕ) (late : NoneBefore m J.job
         open_at J.rules (at_tick i J.jobs) ∷ rest.0,
         (
           refl,
-          ap (λ x. is_late x && nat_le mark i) ticks ∙ lt-leb _ _ (omega (arith, here)),
+          ap (λ x. waits_for_mark x && nat_le mark i) ticks ∙ lt-leb _ _ (omega (arith, here)),
           subst (λ s. IsOpenPath J.rules mark s rest.0 (at_tick m J.jobs)) (sym next) rest.1,
         ),
         ap (λ x. cons_option (event_of x) (printed_of rest.0)) ticks ∙ rest.2,
@@ -269,7 +269,8 @@ module _ (J : Instance) (valid : IsValid J) (mark : ℕ) (j : JobFacts) (js : Li
   -- one step
   step_behind : (s : State) → Keeps J s → IsBefore J.rules mark s → step J.rules (with_later s ks) ≡ open_step J.rules s
   step_behind s keeps before = step_open J.rules (with_later s ks) (not_over s.tasks _ _ refl)
-      ∙ same_step J.rules s ks mark come.0 come.1 (late_early (is_late (open_step J.rules s)) mark s.clock before)
+      ∙ same_step J.rules s ks mark come.0 come.1
+          (late_early (waits_for_mark (open_step J.rules s)) mark s.clock before)
 
   -- all steps of a path
   pub path_behind : (xs : List Step) (s t : State) → Keeps J s → IsOpenPath J.rules mark s xs t

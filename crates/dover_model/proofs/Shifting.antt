@@ -19,12 +19,12 @@ use Rattle.dover_model.specs.Instance.{Rules}
 use Rattle.dover_model.specs.State.{State, is_coming, is_fresh, is_waiting, is_held, is_running, is_privileged, is_done}
 use Rattle.dover_model.specs.State.{is_over, left, latest_start}
 use Rattle.dover_model.specs.State.{room, demand_by, least, value_sum}
-use Rattle.dover_model.specs.Orders.{is_heavy, first, earlier, due_first, latest_first}
+use Rattle.dover_model.specs.Orders.{is_heavy, first, earlier, due_first, starts_before}
 use Rattle.dover_model.specs.Step.{Move, Prints, Waits, Ticks, View, view, with_role, ticked, displaced, ◌or_else◌}
 use Rattle.dover_model.specs.Step.{completion, dispatch, decision, arrival, alarm}
 use Rattle.dover_model.specs.Step.{urgent_or, step, open_step, ending, after, preempts, runs, is_at_latest_start}
 use Rattle.dover_model.specs.Run.{Step, is_end, event_of, printed_of}
-use Rattle.dover_model.specs.Settled.{is_late}
+use Rattle.dover_model.specs.Settled.{waits_for_mark}
 use Rattle.dover_model.specs.WholeRun.{step_at, open_at, IsWholeRun, IsSettledRun}
 use Rattle.dover_model.specs.Sound.{Each}
 use Rattle.dover_model.specs.Rest.{behind}
@@ -163,7 +163,7 @@ module _ (n : ℕ) where
       && (nat_lt b.job.value a.job.value || (eqb a.job.value b.job.value && less)))) (lt_shift n a.number b.number)
 
   -- the order by latest start
-  latest_shift : (v : Version) (a b : Task) → latest_first v (shifted n a) (shifted n b) ≡ latest_first v a b
+  latest_shift : (v : Version) (a b : Task) → starts_before v (shifted n a) (shifted n b) ≡ starts_before v a b
   latest_shift One a b =
       ap (λ less. nat_lt (latest_start a) (latest_start b) || (eqb (latest_start a) (latest_start b) && less))
       (lt_shift n a.number b.number)
@@ -260,7 +260,7 @@ module _ (n : ℕ) where
           first_shift (due_first version) (due_shift version) (filter is_held s.tasks),
           first_shift (due_first version) (due_shift version) (filter is_waiting s.tasks),
           filter_shift n (is_at_latest_start s) (λ _. refl) (filter is_waiting s.tasks),
-          first_shift (latest_first version) (latest_shift version)
+          first_shift (starts_before version) (latest_shift version)
               (filter (is_at_latest_start s) (filter is_waiting s.tasks)),
           room_shift s.clock (filter is_held s.tasks),
           room_shift s.clock (filter is_privileged s.tasks),
@@ -293,7 +293,7 @@ moved_end n value (Waits m) = refl
 moved_end n value Ticks = refl
 
 -- a late step stays late
-moved_late : (n value : ℕ) (m : Move) → is_late (moved n value m) ≡ is_late m
+moved_late : (n value : ℕ) (m : Move) → waits_for_mark (moved n value m) ≡ waits_for_mark m
 moved_late n value (Prints (Release m job)) = refl
 moved_late n value (Prints (Run at m)) = refl
 moved_late n value (Prints (Preempt at stops starts)) = refl
@@ -620,7 +620,7 @@ module _ (rules : Rules) (n : ℕ) (overs : List Task) (over : Each (λ t. is_ov
         × (printed_of ys ≡ map (behind n came_to) (printed_of xs))
     settled_beside mark [] s run = (
       [],
-      ap (λ m. is_late m && nat_le mark s.clock) (open_beside s)
+      ap (λ m. waits_for_mark m && nat_le mark s.clock) (open_beside s)
           ∙ ap (λ b. b && nat_le mark s.clock) (moved_late n came_to (open_step rules s)) ∙ run,
       refl,
       refl,
@@ -629,7 +629,7 @@ module _ (rules : Rules) (n : ℕ) (overs : List Task) (over : Each (λ t. is_ov
       open_at rules (beside n overs s) ∷ it.0,
       (
         refl,
-        ap (λ m. is_late m && nat_le mark s.clock) (open_beside s)
+        ap (λ m. waits_for_mark m && nat_le mark s.clock) (open_beside s)
             ∙ ap (λ b. b && nat_le mark s.clock) (moved_late n came_to (open_step rules s)) ∙ run.1,
         subst (λ t. IsSettledRun rules mark t it.0)
             (sym (ap (after (beside n overs s)) (open_beside s) ∙ after_beside s (open_step rules s))) it.1,

@@ -4,15 +4,15 @@ use Rattle.std.specs.List.{reduce}
 use Rattle.dover_model.specs.declared.events.Version.{Version}
 use Rattle.dover_model.specs.Fraction.{Fraction}
 use Rattle.dover_model.specs.declared.events.Task.{Task}
-use Rattle.dover_model.specs.Entries.{entry_of, is_due_before, is_latest_before}
+use Rattle.dover_model.specs.Entries.{entry_of, is_due_before, is_start_before}
 
 -- a comes before b in the order by deadline
 abbrev pub due_first : Version → Task → Task → Bool
 due_first v a b = is_due_before v (entry_of a) (entry_of b)
 
 -- a comes before b in the order by latest start
-abbrev pub latest_first : Version → Task → Task → Bool
-latest_first v a b = is_latest_before v (entry_of a) (entry_of b)
+abbrev pub starts_before : Version → Task → Task → Bool
+starts_before v a b = is_start_before v (entry_of a) (entry_of b)
 
 -- the one of the two that comes first
 abbrev pub earlier : {X : Type 0} → (X → X → Bool) → X → X → X

@@ -7,7 +7,7 @@ ghost use Rattle.dover_model.specs.Run.{run, printed, completed_value};
 ghost use Rattle.dover_model.specs.Settled.{settled};
 ghost use Rattle.dover_model.specs.Schedules.{Meets, worth};
 ghost use Rattle.dover_model.specs.Bound.{IsWithin};
-ghost use Rattle.dover_model.specs.Underload.{loses};
+ghost use Rattle.dover_model.specs.Underload.{takes_or_abandons};
 ghost use Rattle.dover_model.specs.Sound.{Each};
 ghost use Rattle.dover_model.specs.Rest.{instead, NoneBefore, IsAtRest, end_tick, behind, before_end, IsInTurn};
 ghost use Rattle.dover_model.specs.Rest.{AreOverAt, in_turn, printed_in_turn, completed_in_turn};
@@ -106,7 +106,7 @@ pub fn bounds_add_up()
         (completed_in_turn rules lists) }
 {}
 
-/// Where one schedule serves all jobs, no part loses anything.
+/// Where one schedule serves all jobs, no part takes_or_abandons anything.
 pub fn no_part_loses_in_underload()
     ensures parted { (J : Instance) (rules : Rules) (owner : ℕ → ℕ) (part : ℕ) → Meets J
         → IsValid (part_under (λ _. rules) owner J.jobs part) →
@@ -114,7 +114,8 @@ pub fn no_part_loses_in_underload()
     ensures in_turn { (rules : Rules) (lists : List (List JobFacts))
         → Each (λ jobs. IsValid (record { rules = rules; jobs = jobs })) lists →
         Meets (record { rules = rules; jobs = in_turn lists }) →
-        Each (λ jobs. Each (λ x. loses x.move ≡ false) (run (record { rules = rules; jobs = jobs }))) lists }
+        Each (λ jobs. Each (λ x. takes_or_abandons x.move ≡ false) (run (record { rules = rules; jobs = jobs }))) lists
+            }
     ensures value { (rules : Rules) (lists : List (List JobFacts))
         → Each (λ jobs. IsValid (record { rules = rules; jobs = jobs })) lists →
         Meets (record { rules = rules; jobs = in_turn lists })

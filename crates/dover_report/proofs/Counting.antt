@@ -28,8 +28,8 @@ use Rattle.dover_model.proofs.Growing.{items_of_steps}
 use Rattle.dover_model.proofs.ReleaseCounts.{releases}
 use Rattle.dover_model.proofs.JobSessions.{jobs_back, instance_back, session_of_valid}
 use Rattle.dover_model.proofs.Walks.{session_names}
-use Rattle.charge_ledger.specs.Rows.{IsRunOf, numbers_of, rows_of}
-use Rattle.charge_ledger.specs.declared.interval.Interval.{Interval}
+use Rattle.intervals.specs.Rows.{IsRunOf, numbers_of, rows_of}
+use Rattle.intervals.specs.declared.interval.Interval.{Interval}
 use Rattle.dover_report.specs.Counts.{job_released, jobs_released, is_completion, is_abandonment, value_in, value_lost}
 use Rattle.dover_report.specs.Counts.{all_lost}
 use Rattle.dover_report.specs.Counts.{counts_of, counts_lines}

@@ -13,7 +13,7 @@ use Rattle.dover_model.specs.JobFacts.{JobFacts, job_numbers}
 use Rattle.dover_model.specs.Instance.{Instance}
 use Rattle.dover_model.specs.Lines.{in_lines}
 use Rattle.dover_model.specs.Reports as model
-use Rattle.charge_ledger.specs.Rows.{IsRunOf}
+use Rattle.intervals.specs.Rows.{IsRunOf}
 use Rattle.dover_report.specs.declared.endings.Ending.{Ending}
 use Rattle.dover_report.specs.Counts.{jobs_released}
 use Rattle.dover_report.specs.Rows.{ending_of, ending_in, ending_fields, after_commas, row_text, rows_from}

@@ -2,7 +2,7 @@
 use Rattle.std.specs.Prelude.{ℕ, List, [], ◌∷◌, ◌++◌, map, codes}
 use Rattle.std.specs.List.{enumerate_from}
 use Rattle.dover_model.specs.Lines.{with_numbers, in_lines}
-use Rattle.charge_ledger.specs.declared.interval.Interval.{Interval}
+use Rattle.intervals.specs.declared.interval.Interval.{Interval}
 
 -- the text with one more line, of this word and these numbers
 abbrev pub with_line : List ℕ → List ℕ → List ℕ → List ℕ

@@ -3,13 +3,13 @@ ghost use Rattle.std.specs.Prelude.{◌≡◌, ◌++◌, OnOk, IfOk};
 ghost use Rattle.dover_model.specs.Instance.{Instance};
 ghost use Rattle.dover_model.specs.Lines.{in_lines};
 ghost use Rattle.dover_model.specs.Reports.{report, summary};
-ghost use Rattle.charge_ledger.specs.Rows.{IsRunOf};
+ghost use Rattle.intervals.specs.Rows.{IsRunOf};
 ghost use Rattle.dover_report.specs.Counts.{counts_lines};
 ghost use Rattle.dover_report.specs.Lines.{row_lines};
 
 use crate::counts::{Counts, count, released};
 use crate::lines::put_line;
-use charge_ledger::{Charge, Interval};
+use intervals::{Charge, Interval};
 use dover_model::{Event, Memory, Ratio};
 use std::alloc::Global;
 

@@ -16,7 +16,7 @@ use Rattle.dover_top.specs.declared.request.Request.TheVariants.{Serve, Judge, R
 use Rattle.dover_top.specs.declared.request.Request.TheVariants.{Resume, Unroll}
 use Rattle.serve_word.specs.declared.at_end.AtEnd.{AtEnd}
 use Rattle.serve_word.specs.declared.at_end.AtEnd.TheVariants as ends
-use Rattle.dover_words.specs.declared.question.Question.TheVariants.{Feasible, Best, Compare}
+use Rattle.question_words.specs.declared.question.Question.TheVariants.{Feasible, Best, Compare}
 
 -- ---- words read as what they ask for, if they ask for something
 

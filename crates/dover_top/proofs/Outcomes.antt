@@ -2,7 +2,7 @@
 use Rattle.std.proofs.Common.{◌≡◌, ℕ, List, [], ◌∷◌, ◌++◌, refl, sym, subst, ◌⊎◌, inl, inr, Option, String}
 use Rattle.std.specs.declared.alloc.Global.{Global}
 use Rattle.dover_model.specs.Reports.{summary}
-use Rattle.dover_port.specs.Causes.{Rose, Causes, IsAnswer}
+use Rattle.dover_port.specs.Causes.{Rose, Causes, IsNeitherNoNorUsage}
 use Rattle.dover_port.specs.Moves.{Move, Since, ArePuts, EachRead, EachReadFrom}
 use Rattle.dover_port.specs.Moves.Move.{Got, Ended, Put}
 use Rattle.dover_port.specs.declared.status.Status.{Status}
@@ -16,15 +16,15 @@ use Rattle.resume_word.specs.Record as resumed
 use Rattle.serve_word.specs.declared.at_end.AtEnd.{AtEnd}
 use Rattle.serve_word.specs.Record as served
 use Rattle.serve_word.specs.Pausing.{Pauses}
-use Rattle.stated_word.specs.Record as stated
-use Rattle.stated_word.specs.Lists.{trial_instance}
-use Rattle.stated_word.specs.Baited.{Baits, bait_text, size_text}
+use Rattle.trial_words.specs.Record as stated
+use Rattle.trial_words.specs.Lists.{trial_instance}
+use Rattle.trial_words.specs.Baited.{Baits, bait_text, size_text}
 use Rattle.report_word.specs.Record as told
-use Rattle.dover_words.specs.Questions.{says, IsAnswerTo}
-use Rattle.dover_words.specs.Record as asked
-use Rattle.dover_words.specs.Compare as compared
-use Rattle.dover_words.specs.declared.question.Question.{Question}
-use Rattle.dover_words.specs.declared.question.Question.TheVariants.{Feasible, Best, Compare}
+use Rattle.question_words.specs.Questions.{says, IsAnswerTo}
+use Rattle.question_words.specs.Record as asked
+use Rattle.question_words.specs.Compare as compared
+use Rattle.question_words.specs.declared.question.Question.{Question}
+use Rattle.question_words.specs.declared.question.Question.TheVariants.{Feasible, Best, Compare}
 use Rattle.unroll_word.specs.Record as unrolled
 use Rattle.dover_top.specs.Carried.{Carries}
 use Rattle.dover_top.specs.Outcomes.{MayRead, Outcome, MayEnd, IsCalledFor, IsFrugal}
@@ -103,7 +103,7 @@ reads_of (Unroll until) status moves s = s.reads
 
 -- ---- what was read and written in all, word by word
 
-of_serve : (status : Status) → IsAnswer status → (moves : List Move) → served.Serves status moves
+of_serve : (status : Status) → IsNeitherNoNorUsage status → (moves : List Move) → served.Serves status moves
     → Outcome Serve status moves
 of_serve Done answer moves s = traced moves s.ends
 of_serve Refused answer moves s = s.ends
@@ -113,7 +113,7 @@ of_serve Memory answer moves s = s.ends
 of_serve No answer moves s = absurd answer
 of_serve Usage answer moves s = absurd answer
 
-of_judge : (status : Status) → judged.IsAnswer status → (moves : List Move) → judged.Judges status moves
+of_judge : (status : Status) → judged.IsNeitherRefusedNorUsage status → (moves : List Move) → judged.Judges status moves
     → Outcome Judge status moves
 of_judge Done answer moves s = accepted moves s.ends
 of_judge No answer moves s = s.ends
@@ -123,7 +123,7 @@ of_judge Memory answer moves s = s.ends
 of_judge Refused answer moves s = absurd answer
 of_judge Usage answer moves s = absurd answer
 
-of_report : (form : Form) (status : Status) → judged.IsAnswer status → (moves : List Move)
+of_report : (form : Form) (status : Status) → judged.IsNeitherRefusedNorUsage status → (moves : List Move)
     → told.Reports form status moves → Outcome (Report form) status moves
 of_report form Done answer moves s = reported form moves s.ends
 of_report form No answer moves s = s.ends
@@ -134,7 +134,8 @@ of_report form Refused answer moves s = absurd answer
 of_report form Usage answer moves s = absurd answer
 
 module _ (words : List (String Global)) where
-  of_trial : (seed count : ℕ) (k : _) (asks : AsksTrial words seed count k) (status : Status) → stated.IsAnswer status
+  of_trial : (seed count : ℕ) (k : _) (asks : AsksTrial words seed count k) (status : Status)
+      → stated.IsDoneOrNotWritten status
       → (moves : List Move) → stated.Writes status (summary (trial_instance k seed count)) moves
       → Outcome (Trial seed count k) status moves
   of_trial seed count k asks Done answer moves s = summed k seed count moves asks.allowed asks.few s
@@ -170,7 +171,7 @@ of_ask question WriteFault moves s = s.ends
 of_ask question Memory moves s = s.ends
 of_ask question Usage moves s = absurd s.ends
 
-of_lanes : (status : Status) → IsAnswer status → (moves : List Move) → laned.Serves status moves
+of_lanes : (status : Status) → IsNeitherNoNorUsage status → (moves : List Move) → laned.Serves status moves
     → Outcome Lanes status moves
 of_lanes Done answer moves s = all_served moves s.ends
 of_lanes Refused answer moves s = served_so Refused moves s.ends
@@ -180,7 +181,7 @@ of_lanes Memory answer moves s = s.ends
 of_lanes No answer moves s = absurd answer
 of_lanes Usage answer moves s = absurd answer
 
-of_pause : (status : Status) → IsAnswer status → (moves : List Move) → Pauses status moves
+of_pause : (status : Status) → IsNeitherNoNorUsage status → (moves : List Move) → Pauses status moves
     → Outcome Pause status moves
 of_pause Done answer moves s = traced_or_paused moves s.ends
 of_pause Refused answer moves s = s.ends
@@ -190,7 +191,7 @@ of_pause Memory answer moves s = s.ends
 of_pause No answer moves s = absurd answer
 of_pause Usage answer moves s = absurd answer
 
-of_resume : (at_end : AtEnd) (status : Status) → IsAnswer status → (moves : List Move)
+of_resume : (at_end : AtEnd) (status : Status) → IsNeitherNoNorUsage status → (moves : List Move)
     → resumed.Resumes at_end status moves → Outcome (Resume at_end) status moves
 of_resume at_end Done answer moves s = resumed_so at_end moves s.ends
 of_resume at_end Refused answer moves s = s.ends
@@ -200,7 +201,8 @@ of_resume at_end Memory answer moves s = s.ends
 of_resume at_end No answer moves s = absurd answer
 of_resume at_end Usage answer moves s = absurd answer
 
-of_unroll : (until : ℕ) (status : Status) → IsAnswer status → (moves : List Move) → unrolled.Tells until status moves
+of_unroll : (until : ℕ) (status : Status) → IsNeitherNoNorUsage status → (moves : List Move)
+    → unrolled.Tells until status moves
     → Outcome (Unroll until) status moves
 of_unroll until Done answer moves s = s.ends
 of_unroll until Refused answer moves s = s.ends

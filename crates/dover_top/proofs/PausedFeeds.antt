@@ -9,7 +9,7 @@ use Rattle.snapshot.specs.Snapshot.{MayPause}
 use Rattle.lane_server.specs.Lane.{IsFaulty}
 use Rattle.serve_word.specs.Record.{IsDone}
 use Rattle.serve_word.specs.Pausing.{Ends, Pauses, IsPaused, IsCutOff, IsRefused}
-use Rattle.dover_top.specs.Promises.{IsTracedOrPaused, IsSettledOrPaused}
+use Rattle.dover_top.specs.Promises.{IsTracedOrPaused, HasDueStatusOrPaused}
 use Rattle.dover_top.proofs.Settling.{ended_alone, traced}
 
 -- the feed ended and has its trace, or it was paused
@@ -34,7 +34,7 @@ may_go_on moves may (inr cut) = cut.never may
 
 -- where neither count rose, the answer is the one that the feed calls for
 pub settled_or_paused : (status : Status) (r r' w w' : ℕ) → Causes status r r' w w' → (Rose r r' → ⊥) → (Rose w w' → ⊥)
-    → (moves : List Move) → Pauses status moves → IsSettledOrPaused status moves
+    → (moves : List Move) → Pauses status moves → HasDueStatusOrPaused status moves
 settled_or_paused Done r r' w w' cause read write moves s = record {
   ended = λ _. inl refl;
   refused = λ why. absurd (done_alone s.ends why);

@@ -14,7 +14,7 @@ use Rattle.serve_word.specs.declared.at_end.AtEnd.{AtEnd}
 use Rattle.serve_word.specs.declared.at_end.AtEnd.TheVariants.{Refuse, Pause}
 use Rattle.resume_word.specs.Record.{Behind, EndsBefore, Ends, Resumes, IsRefusedFor, IsRefusedSnapshot}
 use Rattle.resume_word.proofs.Fronts.{never_both}
-use Rattle.dover_top.specs.Promises.{IsTraceOf, IsResumed, IsSettledOrResumed}
+use Rattle.dover_top.specs.Promises.{IsTraceOf, IsResumed, HasDueStatusOrResumed}
 use Rattle.dover_top.proofs.Settling.{ended_alone, trace_of}
 
 -- what was written for each feed that ended goes on with its trace
@@ -89,7 +89,7 @@ module _ (at_end : AtEnd) (moves : List Move) where
 -- where neither count rose, the answer is the one that the snapshot and the feed call for
 pub settled_or_resumed : (at_end : AtEnd) (status : Status) (r r' w w' : ℕ) → Causes status r r' w w' → (Rose r r' → ⊥)
     → (Rose w w' → ⊥)
-    → (moves : List Move) → Resumes at_end status moves → IsSettledOrResumed at_end status moves
+    → (moves : List Move) → Resumes at_end status moves → HasDueStatusOrResumed at_end status moves
 settled_or_resumed at_end Done r r' w w' cause read write moves s = record {
   ended = λ F H may is ended. inl refl;
   refused = λ F H may is why. absurd (not_done at_end moves F H (done_behind at_end moves F H may is s.ends) why);

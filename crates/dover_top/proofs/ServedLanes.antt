@@ -7,7 +7,7 @@ use Rattle.dover_port.specs.declared.status.Status.TheVariants.{Done, No, Refuse
 use Rattle.lane_server.specs.Lanes.{Input, InputStanding, Open, Closed, Faulty, input, all_ended}
 use Rattle.lanes_word.specs.Alone.{text_of_lane}
 use Rattle.lanes_word.specs.Record.{IsClosed, Serves, closing_status}
-use Rattle.dover_top.specs.Promises.{feed_in, AreServed, AllServed, AreSettled}
+use Rattle.dover_top.specs.Promises.{feed_in, AreServed, AllServed, HaveDueStatus}
 use Rattle.dover_top.proofs.LaneFeeds.{lane_ended, served_ended}
 use Rattle.dover_top.proofs.Settling.{trace_of}
 
@@ -43,7 +43,7 @@ all_served moves it = let closed = done_closed (input (ins moves)) it.answered i
 
 -- where neither count rose, the session is over and has its closing status, or there was no memory
 pub lanes_so : (status : Status) (r r' w w' : ℕ) → Causes status r r' w w' → (Rose r r' → ⊥) → (Rose w w' → ⊥)
-    → (moves : List Move) → Serves status moves → AreSettled status moves
+    → (moves : List Move) → Serves status moves → HaveDueStatus status moves
 lanes_so Done r r' w w' cause read write moves s =
     record { read = inl s.ends.over; answered = λ _. inl s.ends.answered }
 lanes_so Refused r r' w w' cause read write moves s =

@@ -10,7 +10,7 @@ use Rattle.dover_model.proofs.BoundLaws.{bound}
 use Rattle.dover_model.proofs.Honest.{honest}
 use Rattle.dover_model.proofs.Onlines.{on_line}
 use Rattle.dover_model.proofs.Runs.{none_lost, all_value}
-use Rattle.dover_port.specs.Causes.{Rose, Causes, IsAnswer}
+use Rattle.dover_port.specs.Causes.{Rose, Causes, IsNeitherNoNorUsage}
 use Rattle.dover_port.specs.Moves.{Move, ins, outs, has_ended}
 use Rattle.dover_port.specs.declared.status.Status.{Status}
 use Rattle.dover_port.specs.declared.status.Status.TheVariants.{Done, No, Refused, ReadFault, WriteFault, Memory, Usage}
@@ -22,27 +22,27 @@ use Rattle.judge_word.specs.Record.{IsNoTrace}
 use Rattle.trace_judge.specs.Judging.{is_wrong}
 use Rattle.report_word.specs.Record as told
 use Rattle.report_word.specs.declared.form.Form.{Form}
-use Rattle.dover_words.specs.Questions.{says, IsAnswerTo}
-use Rattle.dover_words.specs.Record as asked
-use Rattle.dover_words.specs.declared.question.Question.{Question}
-use Rattle.dover_words.specs.declared.question.Question.TheVariants.{Feasible, Best, Compare}
+use Rattle.question_words.specs.Questions.{says, IsAnswerTo}
+use Rattle.question_words.specs.Record as asked
+use Rattle.question_words.specs.declared.question.Question.{Question}
+use Rattle.question_words.specs.declared.question.Question.TheVariants.{Feasible, Best, Compare}
 use Rattle.dover_model.specs.declared.events.Version.TheVariants.{One}
 use Rattle.dover_model.specs.Fraction.{Fraction, IsRatio}
 use Rattle.dover_model.specs.Limits.{most_jobs}
 use Rattle.dover_model.specs.Reports.{summary}
-use Rattle.job_gen.proofs.Drawn.{valid as generated_valid}
+use Rattle.trial_jobs.proofs.Drawn.{valid as generated_valid}
 use Rattle.bait_run.proofs.Completions.{completes_last_alone}
 use Rattle.adversary.specs.Baiting.{FitsLimits}
 use Rattle.adversary.proofs.Validity.{some_bait, valid as bait_valid}
 use Rattle.adversary.proofs.Plans.{plan_worth}
-use Rattle.stated_word.specs.Record as stated
-use Rattle.stated_word.specs.Lists.{trial_instance}
-use Rattle.stated_word.specs.Baited.{bait_instance, bait_text, size_text}
+use Rattle.trial_words.specs.Record as stated
+use Rattle.trial_words.specs.Lists.{trial_instance}
+use Rattle.trial_words.specs.Baited.{bait_instance, bait_text, size_text}
 use Rattle.dover_top.specs.Promises.{
   KeepsPromises,
   IsTraceOf,
   IsTraced,
-  IsSettled,
+  HasDueStatus,
   IsAccepted,
   IsJudged,
   IsReported,
@@ -124,9 +124,9 @@ ended_alone a X ended (inr goes_on) = by_standing a.standing ended goes_on.1 whe
   by_standing (Faulty line cause) over on = absurd (let clash : false ≡ true = over in cc)
 
 -- where neither count rose, the answer is the one that the feed calls for
-pub settled : (status : Status) (r r' w w' : ℕ) → IsAnswer status → Causes status r r' w w' → (Rose r r' → ⊥)
+pub settled : (status : Status) (r r' w w' : ℕ) → IsNeitherNoNorUsage status → Causes status r r' w w' → (Rose r r' → ⊥)
     → (Rose w w' → ⊥)
-    → (moves : List Move) → Serves status moves → IsSettled status moves
+    → (moves : List Move) → Serves status moves → HasDueStatus status moves
 settled Done r r' w w' answer cause read write moves s =
     record { ended = λ e. inl refl; refused = λ why. absurd (ended_alone (account (ins moves)) _ s.ends.ended why) }
 settled Refused r r' w w' answer cause read write moves s =
@@ -168,7 +168,7 @@ judged_done moves ended trace = record {
 }
 
 -- the answer at No
-judged_no : (moves : List Move) → judged.IsRefused moves → IsJudged No moves
+judged_no : (moves : List Move) → judged.IsWrongOrShort moves → IsJudged No moves
 judged_no moves refused = record {
   read = inl (over moves refused.cause);
   accepted = λ session it. absurd (accepted_alone (ins moves) session it (no_trace moves refused.cause));
@@ -180,7 +180,8 @@ judged_nothing : (moves : List Move) → IsJudged Memory moves
 judged_nothing moves = record { read = inr refl; accepted = λ session it. inr refl; refused = λ why. inr refl }
 
 -- where neither count rose, the answer is the one that the text calls for
-pub judged_so : (status : Status) (r r' w w' : ℕ) → judged.IsAnswer status → Causes status r r' w w' → (Rose r r' → ⊥)
+pub judged_so : (status : Status) (r r' w w' : ℕ) → judged.IsNeitherRefusedNorUsage status → Causes status r r' w w'
+    → (Rose r r' → ⊥)
     → (Rose w w' → ⊥) → (moves : List Move) → judged.Judges status moves → IsJudged status moves
 judged_so Done r r' w w' answer cause read write moves s = judged_done moves s.ends.ended s.ends.trace
 judged_so No r r' w w' answer cause read write moves s = judged_no moves s.ends
@@ -191,7 +192,8 @@ judged_so Refused r r' w w' answer cause read write moves s = absurd answer
 judged_so Usage r r' w w' answer cause read write moves s = absurd answer
 
 -- the same where a report is asked for
-pub reported_so : (form : Form) (status : Status) (r r' w w' : ℕ) → judged.IsAnswer status → Causes status r r' w w'
+pub reported_so : (form : Form) (status : Status) (r r' w w' : ℕ) → judged.IsNeitherRefusedNorUsage status
+    → Causes status r r' w w'
     → (Rose r r' → ⊥)
     → (Rose w w' → ⊥) → (moves : List Move) → told.Reports form status moves → IsJudged status moves
 reported_so form Done r r' w w' answer cause read write moves s = judged_done moves s.ends.ended s.ends.trace
@@ -274,7 +276,8 @@ pub too_large : (moves : List Move) → stated.Refuses Refused size_text moves �
 too_large moves writes = record { only = writes.0; text = writes.1 }
 
 -- where no write failed, a run is told of or there was no memory
-pub tried : (status : Status) (r r' w w' : ℕ) → stated.IsAnswer status → Causes status r r' w w' → (Rose w w' → ⊥)
+pub tried : (status : Status) (r r' w w' : ℕ) → stated.IsDoneOrNotWritten status → Causes status r r' w w'
+    → (Rose w w' → ⊥)
     → (status ≡ Done) ⊎ (status ≡ Memory)
 tried Done r r' w w' answer cause write = inl refl
 tried Memory r r' w w' answer cause write = inr refl

@@ -1,7 +1,7 @@
 -- What the statuses of an unrolling say.
 use Rattle.std.proofs.Common.{◌≡◌, ℕ, List, false, true, refl, sym, ap, ◌∙◌, ◌⊎◌, inl, inr}
 use Rattle.dover_model.specs.Feed.{Standing, Open, Ended, Faulty}
-use Rattle.dover_port.specs.Causes.{Rose, Causes, IsAnswer}
+use Rattle.dover_port.specs.Causes.{Rose, Causes, IsNeitherNoNorUsage}
 use Rattle.dover_port.specs.Moves.{Move, ins}
 use Rattle.dover_port.specs.declared.status.Status.{Status}
 use Rattle.dover_port.specs.declared.status.Status.TheVariants.{Done, No, Refused, ReadFault, WriteFault, Memory, Usage}
@@ -19,7 +19,7 @@ ended_alone until moves ended (inr goes_on) =
     let clash : false ≡ true = sym off ∙ goes_on.1 in cc
 
 -- where neither count rose, the answer is the one that the text calls for
-pub unrolled_so : (until : ℕ) (status : Status) (r r' w w' : ℕ) → IsAnswer status → Causes status r r' w w'
+pub unrolled_so : (until : ℕ) (status : Status) (r r' w w' : ℕ) → IsNeitherNoNorUsage status → Causes status r r' w w'
     → (Rose r r' → ⊥)
     → (Rose w w' → ⊥) → (moves : List Move) → Tells until status moves → IsUnrolled until status moves
 unrolled_so until Done r r' w w' answer cause read write moves s =

@@ -8,11 +8,11 @@ use Rattle.serve_word.specs.Pausing.{Pauses}
 use Rattle.resume_word.specs.Record.{Resumes}
 use Rattle.judge_word.specs.Record.{Judges}
 use Rattle.report_word.specs.Record.{Reports}
-use Rattle.stated_word.specs.Record.{Writes}
-use Rattle.stated_word.specs.Lists.{trial_instance}
-use Rattle.stated_word.specs.Baited.{Baits}
-use Rattle.dover_words.specs.Questions.{says}
-use Rattle.dover_words.specs.Record as asked
+use Rattle.trial_words.specs.Record.{Writes}
+use Rattle.trial_words.specs.Lists.{trial_instance}
+use Rattle.trial_words.specs.Baited.{Baits}
+use Rattle.question_words.specs.Questions.{says}
+use Rattle.question_words.specs.Record as asked
 use Rattle.lanes_word.specs.Record as laned
 use Rattle.unroll_word.specs.Record as unrolled
 use Rattle.dover_top.specs.declared.request.Request.{Request}

@@ -2,8 +2,8 @@
 use Rattle.std.specs.Prelude.{◌≡◌, ℕ, List, [], length, ◌⊎◌}
 use Rattle.dover_model.specs.Bait.{bait_jobs}
 use Rattle.dover_model.specs.Reports.{summary}
-use Rattle.queued_jobs.specs.Spending.{AreFew}
-use Rattle.dover_port.specs.Causes.{IsAnswer}
+use Rattle.queued_jobs.specs.Spending.{CostsAtMost}
+use Rattle.dover_port.specs.Causes.{IsNeitherNoNorUsage}
 use Rattle.dover_port.specs.Moves.{Move}
 use Rattle.dover_port.specs.declared.status.Status.{Status}
 use Rattle.dover_port.specs.declared.status.Status.TheVariants.{Done, No, Refused, ReadFault, WriteFault, Memory}
@@ -13,23 +13,23 @@ use Rattle.serve_word.specs.Pausing as paused
 use Rattle.resume_word.specs.Record as resumed
 use Rattle.judge_word.specs.Record as judged
 use Rattle.report_word.specs.Record as reported
-use Rattle.stated_word.specs.Record as stated
-use Rattle.stated_word.specs.Lists.{trial_instance}
-use Rattle.stated_word.specs.Baited.{bait_text, size_text}
-use Rattle.feed_reading.specs.Record as listed
-use Rattle.dover_words.specs.Compare as compared
-use Rattle.dover_words.specs.Record as asked
-use Rattle.dover_words.specs.Questions.{says, IsAnswerTo}
+use Rattle.trial_words.specs.Record as stated
+use Rattle.trial_words.specs.Lists.{trial_instance}
+use Rattle.trial_words.specs.Baited.{bait_text, size_text}
+use Rattle.feed_list.specs.Record as listed
+use Rattle.question_words.specs.Compare as compared
+use Rattle.question_words.specs.Record as asked
+use Rattle.question_words.specs.Questions.{says, IsAnswerTo}
 use Rattle.lanes_word.specs.Record as laned
 use Rattle.task_reading.specs.Record as tasks
 use Rattle.unroll_word.specs.Record as unrolled
 use Rattle.dover_top.specs.declared.request.Request.{Request}
 use Rattle.dover_top.specs.declared.request.Request.TheVariants.{Serve, Judge, Report, Trial, Bait, Ask, Lanes, Pause}
 use Rattle.dover_top.specs.declared.request.Request.TheVariants.{Resume, Unroll}
-use Rattle.dover_top.specs.Promises.{IsTraced, IsSettled, IsAccepted, IsJudged, IsReported, IsSummed, IsBaited}
-use Rattle.dover_top.specs.Promises.{IsTooLarge, IsCutShort, IsTracedOrPaused, IsSettledOrPaused, IsResumed}
-use Rattle.dover_top.specs.Promises.{IsSettledOrResumed, IsUnrolled, IsGiven, IsTold, IsAsked, AllServed, AreServed}
-use Rattle.dover_top.specs.Promises.{AreSettled}
+use Rattle.dover_top.specs.Promises.{IsTraced, HasDueStatus, IsAccepted, IsJudged, IsReported, IsSummed, IsBaited}
+use Rattle.dover_top.specs.Promises.{IsTooLarge, IsCutShort, IsTracedOrPaused, HasDueStatusOrPaused, IsResumed}
+use Rattle.dover_top.specs.Promises.{HasDueStatusOrResumed, IsUnrolled, IsGiven, IsTold, IsAsked, AllServed, AreServed}
+use Rattle.dover_top.specs.Promises.{HaveDueStatus}
 
 -- what was got and what was put where a read comes; trial and bait read nothing
 abbrev pub MayRead : Request → (got put : List ℕ) → Type 0
@@ -52,12 +52,12 @@ Outcome Serve ReadFault = served.IsUnread
 Outcome Serve WriteFault = served.IsUnwritten
 Outcome Serve Memory = served.IsOutOfMemory
 Outcome Judge Done = IsAccepted
-Outcome Judge No = judged.IsRefused
+Outcome Judge No = judged.IsWrongOrShort
 Outcome Judge ReadFault = judged.IsUnread
 Outcome Judge WriteFault = judged.IsUnwritten
 Outcome Judge Memory = judged.IsOutOfMemory
 Outcome (Report form) Done = IsReported form
-Outcome (Report form) No = judged.IsRefused
+Outcome (Report form) No = judged.IsWrongOrShort
 Outcome (Report form) ReadFault = judged.IsUnread
 Outcome (Report form) WriteFault = reported.IsUnwritten form
 Outcome (Report form) Memory = reported.IsOutOfMemory
@@ -100,24 +100,24 @@ Outcome _ _ = λ moves. ⊥
 
 -- the statuses with which it may end
 abbrev pub MayEnd : Request → Status → Type 0
-MayEnd Judge status = judged.IsAnswer status
-MayEnd (Report form) status = judged.IsAnswer status
-MayEnd (Trial seed count k) status = stated.IsAnswer status
+MayEnd Judge status = judged.IsNeitherRefusedNorUsage status
+MayEnd (Report form) status = judged.IsNeitherRefusedNorUsage status
+MayEnd (Trial seed count k) status = stated.IsDoneOrNotWritten status
 MayEnd (Bait k rounds) status = stated.IsAnswerFor status (FitsLimits k rounds)
 MayEnd (Ask question) status = IsAnswerTo question status
-MayEnd _ status = IsAnswer status
+MayEnd _ status = IsNeitherNoNorUsage status
 
 -- where no call failed, the status is the one that what was read calls for, if there was memory
 abbrev pub IsCalledFor : Request → Status → List Move → Type 0
-IsCalledFor Serve status = IsSettled status
+IsCalledFor Serve status = HasDueStatus status
 IsCalledFor Judge status = IsJudged status
 IsCalledFor (Report form) status = IsJudged status
 IsCalledFor (Trial seed count k) status = λ moves. (status ≡ Done) ⊎ (status ≡ Memory)
 IsCalledFor (Bait k rounds) status = λ moves. IsGiven status (FitsLimits k rounds)
 IsCalledFor (Ask question) status = IsAsked question status
-IsCalledFor Lanes status = AreSettled status
-IsCalledFor Pause status = IsSettledOrPaused status
-IsCalledFor (Resume at_end) status = IsSettledOrResumed at_end status
+IsCalledFor Lanes status = HaveDueStatus status
+IsCalledFor Pause status = HasDueStatusOrPaused status
+IsCalledFor (Resume at_end) status = HasDueStatusOrResumed at_end status
 IsCalledFor (Unroll until) status = IsUnrolled until status
 
 -- how few comparisons it made, with so many before and now, for the jobs of what was read; for some words at Done alone
@@ -132,6 +132,6 @@ IsFrugal _ _ before now = λ moves. Unit {0}
 
 -- the same where the words alone tell how many jobs there are
 abbrev pub IsFrugalAsAsked : Request → (before now : ℕ) → Type 0
-IsFrugalAsAsked (Trial seed count k) before now = AreFew count before now
-IsFrugalAsAsked (Bait k rounds) before now = AreFew (length (bait_jobs k rounds)) before now
+IsFrugalAsAsked (Trial seed count k) before now = CostsAtMost count before now
+IsFrugalAsAsked (Bait k rounds) before now = CostsAtMost (length (bait_jobs k rounds)) before now
 IsFrugalAsAsked _ before now = Unit {0}

@@ -8,7 +8,7 @@ use Rattle.dover_model.specs.Schedules.{worth, Meets}
 use Rattle.dover_model.specs.Run.{run, ran, completed_value}
 use Rattle.dover_model.specs.Online.{printed_up_to, known_at}
 use Rattle.dover_model.specs.Sound.{Each}
-use Rattle.dover_model.specs.Underload.{loses}
+use Rattle.dover_model.specs.Underload.{takes_or_abandons}
 use Rattle.dover_model.specs.Trace.{trace_of_session}
 use Rattle.dover_model.specs.Verdict.{Accepted, verdict}
 use Rattle.dover_model.specs.Feed.{account, is_ended, is_open, Ended}
@@ -30,11 +30,11 @@ use Rattle.dover_model.specs.Reports.{summary}
 use Rattle.dover_model.specs.Bait.{bait_plan, plan_value}
 use Rattle.bait_run.specs.Baiting.{CompletesLastAlone}
 use Rattle.report_word.specs.Record.{report_text}
-use Rattle.stated_word.specs.Baited.{bait_instance, bait_text, size_text}
+use Rattle.trial_words.specs.Baited.{bait_instance, bait_text, size_text}
 use Rattle.report_word.specs.declared.form.Form.{Form}
-use Rattle.dover_words.specs.declared.question.Question.{Question}
-use Rattle.dover_words.specs.Questions.{says}
-use Rattle.dover_words.specs.Record.{IsAnswered, IsRefusedFeed}
+use Rattle.question_words.specs.declared.question.Question.{Question}
+use Rattle.question_words.specs.Questions.{says}
+use Rattle.question_words.specs.Record.{IsAnswered, IsRefusedFeed}
 use Rattle.lane_server.specs.Lanes.{Closed, lane_count, input}
 use Rattle.lanes_word.specs.Alone.{lane_feed, text_of_lane}
 use Rattle.lanes_word.specs.Record as lanes
@@ -52,7 +52,7 @@ pub record KeepsPromises (J : Instance) : Type 0 where
   pub on_line : (t : ℕ) (K : Instance) → IsValid K → J.rules ≡ K.rules → known_at t J.jobs ≡ known_at t K.jobs
       → printed_up_to t J ≡ printed_up_to t K
   -- Where some schedule serves every job, none is taken late or abandoned,
-  pub none_lost : Meets J → Each (λ x. loses x.move ≡ false) (run J)
+  pub none_lost : Meets J → Each (λ x. takes_or_abandons x.move ≡ false) (run J)
   -- and the run completes all value.
   pub all_value : Meets J → completed_value J ≡ sum_by (λ j. j.value) J.jobs
 
@@ -71,7 +71,7 @@ abbrev pub IsTraced : List Move → Type 0
 IsTraced moves = IsTraceOf (ins moves) (outs moves)
 
 -- A feed that ended has its trace, and one that has a fault or is short has its refusal, if there was memory.
-pub record IsSettled (status : Status) (moves : List Move) : Type 0 where
+pub record HasDueStatus (status : Status) (moves : List Move) : Type 0 where
   pub ended : is_ended (account (ins moves)) ≡ true → (status ≡ Done) ⊎ (status ≡ Memory)
   pub refused : IsFaulty (account (ins moves)) ⊎ ((has_ended moves ≡ true) × (is_open (account (ins moves)) ≡ true))
       → (status ≡ Refused) ⊎ (status ≡ Memory)
@@ -83,7 +83,7 @@ IsTracedOrPaused moves = IsTraced moves ⊎ IsPaused moves
 
 -- A feed that ended has its trace, one that has a fault or is cut off where it may not pause has its refusal, if there
 -- was memory, and one that may pause where its input ends was paused.
-pub record IsSettledOrPaused (status : Status) (moves : List Move) : Type 0 where
+pub record HasDueStatusOrPaused (status : Status) (moves : List Move) : Type 0 where
   pub ended : is_ended (account (ins moves)) ≡ true → (status ≡ Done) ⊎ (status ≡ Memory)
   pub refused : IsFaulty (account (ins moves)) ⊎ IsCutOff moves → (status ≡ Refused) ⊎ (status ≡ Memory)
   pub paused : has_ended moves ≡ true → MayPause (ins moves) → status ≡ Done
@@ -97,7 +97,7 @@ IsResumed at_end moves = Behind (ins moves)
 -- Of each feed whose snapshot was read, and what follows it: one that ended has its trace, one that has a fault or is
 -- cut off has its refusal, if there was memory, and one that may pause where its input ends was paused. A snapshot with
 -- a line that no snapshot has there is refused.
-pub record IsSettledOrResumed (at_end : AtEnd) (status : Status) (moves : List Move) : Type 0 where
+pub record HasDueStatusOrResumed (at_end : AtEnd) (status : Status) (moves : List Move) : Type 0 where
   pub ended : (F H : List ℕ) → MayPause F → ins moves ≡ snapshot F ++ H → is_ended (account (F ++ H)) ≡ true
       → (status ≡ Done) ⊎ (status ≡ Memory)
   pub refused : (F H : List ℕ) → MayPause F → ins moves ≡ snapshot F ++ H
@@ -194,7 +194,7 @@ pub record AllServed (moves : List Move) : Type 0 where
   pub ended : (lane : ℕ) → lane < lane_count → feed_in moves lane ≢ [] → is_ended (account (feed_in moves lane)) ≡ true
 
 -- What was read is over, and has the status that it calls for, if there was memory.
-pub record AreSettled (status : Status) (moves : List Move) : Type 0 where
+pub record HaveDueStatus (status : Status) (moves : List Move) : Type 0 where
   pub read : lanes.IsOver moves ⊎ (status ≡ Memory)
   pub answered : lanes.IsOver moves → (status ≡ closing_status (input (ins moves))) ⊎ (status ≡ Memory)
 

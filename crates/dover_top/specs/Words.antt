@@ -9,8 +9,8 @@ use Rattle.report_word.specs.declared.form.Form.TheVariants.{Text, Table, Chrome
 use Rattle.run_view.specs.declared.window.Window.{Window}
 use Rattle.serve_word.specs.declared.at_end.AtEnd.{AtEnd}
 use Rattle.serve_word.specs.declared.at_end.AtEnd.TheVariants.{Refuse, Pause}
-use Rattle.dover_words.specs.declared.question.Question.{Question}
-use Rattle.dover_words.specs.declared.question.Question.TheVariants.{Feasible, Best, Compare}
+use Rattle.question_words.specs.declared.question.Question.{Question}
+use Rattle.question_words.specs.declared.question.Question.TheVariants.{Feasible, Best, Compare}
 
 -- the words as bytes
 abbrev pub spelled : List (String Global) → List (List ℕ)

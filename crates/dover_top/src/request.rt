@@ -10,7 +10,7 @@ ghost use Rattle.dover_top.specs.Requests.{Asks};
 ghost use Rattle.dover_top.specs.declared.request.Request.{Request};
 
 use dover_model::Ratio;
-use dover_words::Question;
+use question_words::Question;
 use line_text::numeral;
 use report_word::Form;
 use run_view::Window;

@@ -1,6 +1,6 @@
 ghost use Rattle.std.specs.Prelude.{◌≡◌};
 
-use charge_ledger::{Charge, Interval};
+use intervals::{Charge, Interval};
 use dover_model::{Event, Job, Ratio};
 use std::process::Abort;
 

@@ -1,5 +1,5 @@
 use dover_model::Ratio;
-use job_gen::Gen;
+use trial_jobs::Gen;
 
 #[test]
 fn the_first_jobs_of_a_seed(rt: HostRuntime) {

@@ -1,5 +1,5 @@
-//! Tests of the judge, and of the crates that tell of runs and make lists of jobs: `trace_judge`, `charge_ledger`,
-//! `dover_report`, `job_gen`
+//! Tests of the judge, and of the crates that tell of runs and make lists of jobs: `trace_judge`, `intervals`,
+//! `dover_report`, `trial_jobs`
 //! and `adversary`.
 #![tactic(auto)]
 

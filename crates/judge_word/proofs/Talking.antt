@@ -15,7 +15,7 @@ use Rattle.trace_judge.specs.declared.verdict.Verdict.TheVariants.{Accepted, Wro
 use Rattle.dialogue.specs.Talk.{Talk, IsSteady, IsFinal, IsOver, IsAnswered, IsUnread, IsUnwritten, Talks, CanEnd}
 use Rattle.dialogue.specs.Talk as talk
 use Rattle.judge_word.specs.Line.{verdict_text}
-use Rattle.judge_word.specs.Record.{MayRead, IsTrace, IsNoTrace, Judges, Ends, IsAnswer, status_of}
+use Rattle.judge_word.specs.Record.{MayRead, IsTrace, IsNoTrace, Judges, Ends, IsNeitherRefusedNorUsage, status_of}
 use Rattle.judge_word.specs.Record as judged
 use Rattle.judge_word.specs.Talking.{judging_talk, judge_talk, IsToldBy}
 use Rattle.dialogue.proofs.Quiet.{cut_answer, nothing_put, reads_weaker}
@@ -112,7 +112,7 @@ module _ (told : model.Verdict → List ℕ) (lacks : List ℕ → Bool → Type
 
     -- why the text is none
     pub refused_told : IsAnswered (judging_talk told lacks) No moves → outs moves ≡ verdict_text (verdict (ins moves))
-        → judged.IsRefused moves
+        → judged.IsWrongOrShort moves
     refused_told made text = record { cause = by_cause made.answer.0 (over_told made.over); text = text } where
       by_cause : IsNoTrace (ins moves) → judged.IsOver moves → (is_wrong (verdict (ins moves)) ≡ true)
           ⊎ ((has_ended moves ≡ true) × ((lines : ℕ) × (verdict (ins moves) ≡ model.Short lines)))
@@ -165,7 +165,7 @@ judged_by status moves it =
       by_status Usage made = absurd made
 
 -- and so are its statuses
-pub answers : (status : Status) → CanEnd judge_talk status → IsAnswer status
+pub answers : (status : Status) → CanEnd judge_talk status → IsNeitherRefusedNorUsage status
 answers Done it = tt
 answers No it = tt
 answers Refused it = absurd it.answer.0

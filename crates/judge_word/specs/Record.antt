@@ -7,7 +7,7 @@ use Rattle.dover_model.specs.Verdict.{verdict}
 use Rattle.dover_port.specs.Moves.{Move, ins, outs, has_ended, EachRead, IsProperPrefix}
 use Rattle.dover_port.specs.declared.status.Status.{Status}
 use Rattle.dover_port.specs.declared.status.Status.TheVariants.{Done, No, ReadFault, WriteFault, Memory}
-use Rattle.queued_jobs.specs.Spending.{AreFew}
+use Rattle.queued_jobs.specs.Spending.{CostsAtMost}
 use Rattle.trace_judge.specs.Judging.{IsEarned, is_wrong, jobs_named}
 use Rattle.trace_judge.specs.declared.verdict.Verdict.{Verdict}
 use Rattle.trace_judge.specs.declared.verdict.Verdict.TheVariants.{Accepted, Wrong, Short}
@@ -38,7 +38,7 @@ pub record IsDone (moves : List Move) : Type 0 where
   pub text : outs moves ≡ verdict_text (verdict (ins moves))
 
 -- a line is wrong, or the input ended too early, and the line of the verdict was put
-pub record IsRefused (moves : List Move) : Type 0 where
+pub record IsWrongOrShort (moves : List Move) : Type 0 where
   pub cause : (is_wrong (verdict (ins moves)) ≡ true)
       ⊎ ((has_ended moves ≡ true) × ((lines : ℕ) × (verdict (ins moves) ≡ model.Short lines)))
   pub text : outs moves ≡ verdict_text (verdict (ins moves))
@@ -62,7 +62,7 @@ pub record IsOutOfMemory (moves : List Move) : Type 0 where
 -- by the status
 abbrev pub Ends : Status → List Move → Type 0
 Ends Done moves = IsDone moves
-Ends No moves = IsRefused moves
+Ends No moves = IsWrongOrShort moves
 Ends ReadFault moves = IsUnread moves
 Ends WriteFault moves = IsUnwritten moves
 Ends Memory moves = IsOutOfMemory moves
@@ -75,7 +75,7 @@ pub record Judges (status : Status) (moves : List Move) : Type 0 where
 
 -- how few comparisons were made for the jobs that the lines name, with so many before and after
 abbrev pub IsFrugal : (before after : ℕ) → List Move → Type 0
-IsFrugal before after moves = AreFew (jobs_named (ins moves)) before after
+IsFrugal before after moves = CostsAtMost (jobs_named (ins moves)) before after
 
 -- ---- the answer
 
@@ -86,10 +86,10 @@ status_of (Wrong line due) = No
 status_of (Short lines) = No
 
 -- the statuses that the word ends with
-abbrev pub IsAnswer : Status → Type 0
-IsAnswer Done = Unit {0}
-IsAnswer No = Unit {0}
-IsAnswer ReadFault = Unit {0}
-IsAnswer WriteFault = Unit {0}
-IsAnswer Memory = Unit {0}
-IsAnswer _ = ⊥
+abbrev pub IsNeitherRefusedNorUsage : Status → Type 0
+IsNeitherRefusedNorUsage Done = Unit {0}
+IsNeitherRefusedNorUsage No = Unit {0}
+IsNeitherRefusedNorUsage ReadFault = Unit {0}
+IsNeitherRefusedNorUsage WriteFault = Unit {0}
+IsNeitherRefusedNorUsage Memory = Unit {0}
+IsNeitherRefusedNorUsage _ = ⊥

@@ -4,7 +4,7 @@ use Rattle.dover_model.specs.Verdict.{Verdict, verdict}
 use Rattle.dialogue.specs.Talk.{Talk}
 use Rattle.dover_port.specs.declared.status.Status.{Status}
 use Rattle.dover_port.specs.declared.status.Status.TheVariants.{Done, No}
-use Rattle.queued_jobs.specs.Spending.{AreFew}
+use Rattle.queued_jobs.specs.Spending.{CostsAtMost}
 use Rattle.trace_judge.specs.Judging.{is_wrong, StandsFor, HasPaidFor, jobs_named}
 use Rattle.trace_judge.specs.declared.judge.Judge.{Judge}
 use Rattle.judge_word.specs.Line.{verdict_text}
@@ -32,7 +32,7 @@ judge_talk = judging_talk verdict_text (λ bytes ended. ended ≡ false)
 
 -- the comparisons from `start` on are few for the jobs that the lines of the bytes name
 abbrev pub Costs : (start steps : ℕ) → List ℕ → Type 0
-Costs start steps bytes = AreFew (jobs_named bytes) start steps
+Costs start steps bytes = CostsAtMost (jobs_named bytes) start steps
 
 -- the judge stands for the bytes, and what it cost from `start` on is paid for by them
 pub record IsReady (judge : Judge) (start steps : ℕ) (bytes : List ℕ) : Type 0 where

@@ -2,7 +2,7 @@
 ghost use Rattle.std.specs.Prelude.{◌≡◌};
 ghost use Rattle.dover_port.specs.Causes.{Causes, StopsWith};
 ghost use Rattle.dover_port.specs.Moves.{Since};
-ghost use Rattle.judge_word.specs.Record.{Judges, IsAnswer, IsFrugal};
+ghost use Rattle.judge_word.specs.Record.{Judges, IsNeitherRefusedNorUsage, IsFrugal};
 
 use crate::judging::Judging;
 use dialogue::converse;
@@ -18,7 +18,7 @@ use trace_judge::Judge;
 pub fn judge_word<P: Port, L: Ledger>(alloc: Global, port: &mut P, steps: &mut Steps<L>) -> Status
     ensures judges { Since (P.moves port.old) (P.moves port.new) (Judges result) }
     ensures count { Since (P.moves port.old) (P.moves port.new) (IsFrugal steps.old steps.new) }
-    ensures answer { IsAnswer result }
+    ensures answer { IsNeitherRefusedNorUsage result }
     ensures causes { Causes result
         (P.read_faults port.old) (P.read_faults port.new) (P.write_faults port.old) (P.write_faults port.new) }
     ensures stops { StopsWith result (P.calls port.old) (P.calls port.new) }

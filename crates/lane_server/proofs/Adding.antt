@@ -28,8 +28,8 @@ use Rattle.dover_model.proofs.Beginnings.{begins_onward}
 use Rattle.dover_model.proofs.Emitting.{texts_more, texts_job, texts_refused}
 use Rattle.dover_model.proofs.Growing.{Reads, reads_later, settled_later, settled_of_run, job_instance}
 use Rattle.dover_model.proofs.Growing.{refused_instance}
-use Rattle.dover_core.specs.declared.horizon.Horizon.{Horizon}
-use Rattle.dover_core.specs.declared.horizon.Horizon.TheVariants.{Mark, End}
+use Rattle.dover_server.specs.declared.horizon.Horizon.{Horizon}
+use Rattle.dover_server.specs.declared.horizon.Horizon.TheVariants.{Mark, End}
 use Rattle.dispatcher.specs.Dispatch.{no_jobs, due_by}
 use Rattle.event_feed.specs.Kept.{cause_of_fault}
 use Rattle.event_feed.specs.Answers.{DeclaresRatio, AddsJob, MovesMark, EndsFeed, AddsRefused, NewFault, OldFault}

@@ -13,8 +13,8 @@ use Rattle.dover_model.specs.Feed.{Account, Short, account_of_lines, is_open}
 use Rattle.dover_model.specs.Due.{fault_text}
 use Rattle.dover_model.proofs.Beginnings.{begins_length}
 use Rattle.dover_model.proofs.Ending.{few_printed}
-use Rattle.dover_core.specs.declared.horizon.Horizon.{Horizon}
-use Rattle.dover_core.specs.declared.horizon.Horizon.TheVariants.{Mark}
+use Rattle.dover_server.specs.declared.horizon.Horizon.{Horizon}
+use Rattle.dover_server.specs.declared.horizon.Horizon.TheVariants.{Mark}
 use Rattle.dispatcher.specs.Dispatch.{due_by}
 use Rattle.lane_server.specs.Lanes.{lane_count, Handed, input_of_lines, lane_lines, in_lane, feed_short, lane_short}
 use Rattle.lane_server.specs.Lanes.{shorts_from}

@@ -12,9 +12,9 @@ use Rattle.dover_model.specs.Feed.{Account, account_of_lines}
 use Rattle.dover_model.proofs.Beginnings.{begins_onward}
 use Rattle.dover_model.proofs.Growing.{job_instance}
 use Rattle.dover_model.proofs.TraceLines.{numbers_in}
-use Rattle.dover_core.specs.declared.horizon.Horizon.{Horizon}
-use Rattle.dover_core.specs.declared.horizon.Horizon.TheVariants.{Mark}
-use Rattle.dover_core.specs.Service.{MayFollow}
+use Rattle.dover_server.specs.declared.horizon.Horizon.{Horizon}
+use Rattle.dover_server.specs.declared.horizon.Horizon.TheVariants.{Mark}
+use Rattle.dover_server.specs.Service.{MayFollow}
 use Rattle.dispatcher.specs.Dispatch.{due_by}
 use Rattle.lane_server.specs.Lane.{Serving, Having, Fits, Running, Admitting, Owes, GivesFault, Stands, IsQuiet, reach}
 use Rattle.lane_server.specs.declared.lane.Lane.{Lane}

@@ -5,8 +5,8 @@ use Rattle.dover_model.specs.declared.events.Event.{Event}
 use Rattle.dover_model.specs.Feed.{Account}
 use Rattle.dover_model.specs.Instance.{Instance}
 use Rattle.dover_model.specs.Session.{instance_of}
-use Rattle.dover_core.specs.declared.horizon.Horizon.{Horizon}
-use Rattle.queued_jobs.specs.Spending.{AreFew}
+use Rattle.dover_server.specs.declared.horizon.Horizon.{Horizon}
+use Rattle.queued_jobs.specs.Spending.{CostsAtMost}
 use Rattle.queued_jobs.proofs.Spending.{few_more}
 use Rattle.event_feed.specs.Answers.{admitted_in}
 use Rattle.event_feed.proofs.Admitting.{job_more, admitted_by}
@@ -25,22 +25,22 @@ none_paid serves paid a (Some v) fits none start now has_paid =
 
 module _ {D : Type 0} {serves : Serving D} {paid : D → (start now : ℕ) → Type 0}
     (few : (s : D) (J : Instance) (to : Horizon) (events : List Event) (start now : ℕ) → serves s J to events
-    → paid s start now → AreFew (length J.jobs) start now) where
+    → paid s start now → CostsAtMost (length J.jobs) start now) where
   -- a server that fits has the account's jobs
   fits_few : (a : Account) (v : D) → Fits serves a (Some v) → (start now : ℕ) → paid v start now
-      → AreFew (admitted_in a) start now
-  fits_few a v fits start now has_paid = subst (λ n. AreFew n start now) (sym (ap admitted_by fits.1))
+      → CostsAtMost (admitted_in a) start now
+  fits_few a v fits start now has_paid = subst (λ n. CostsAtMost n start now) (sym (ap admitted_by fits.1))
       (few v (instance_of fits.0) _ _ start now fits.2 has_paid)
 
   -- whatever is under way, what was paid is little for the account's jobs
   pub owes_few_paid : (having : Having D) (work : Work) (server : Option D) (a : Account) (rest : List (List ℕ))
       → Owes serves having work server a rest → (start now : ℕ) → HasPaid paid server start now
-      → AreFew (admitted_in a) start now
+      → CostsAtMost (admitted_in a) start now
   owes_few_paid having work None a rest owes start now none = λ d enough. omega (arith, none)
   owes_few_paid having Nothing (Some v) a rest owes start now has_paid = fits_few a v owes.1 start now has_paid
   owes_few_paid having (Give out) (Some v) a rest owes start now has_paid = fits_few a v owes.1 start now has_paid
   owes_few_paid having (Run to) (Some v) a rest owes start now has_paid =
-      subst (λ n. AreFew n start now) (sym (ap admitted_by owes.there))
+      subst (λ n. CostsAtMost n start now) (sym (ap admitted_by owes.there))
       (few v (instance_of owes.session) owes.from owes.events start now owes.served has_paid)
   owes_few_paid having (Admit job) (Some v) a rest owes start now has_paid =
       few_more (length (instance_of owes.session).jobs) (admitted_in a) start now

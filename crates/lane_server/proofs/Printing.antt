@@ -14,9 +14,9 @@ use Rattle.dover_model.proofs.Growing.{settled_of_run}
 use Rattle.dover_model.proofs.Prefixes.{settled_prefix}
 use Rattle.dover_model.proofs.ShortNumbers.{printed_short}
 use Rattle.dover_model.proofs.TraceLines.{numbers_in}
-use Rattle.dover_core.specs.declared.horizon.Horizon.{Horizon}
-use Rattle.dover_core.specs.declared.horizon.Horizon.TheVariants.{Mark, End}
-use Rattle.dover_core.specs.Service.{MayFollow}
+use Rattle.dover_server.specs.declared.horizon.Horizon.{Horizon}
+use Rattle.dover_server.specs.declared.horizon.Horizon.TheVariants.{Mark, End}
+use Rattle.dover_server.specs.Service.{MayFollow}
 use Rattle.dispatcher.specs.Dispatch.{due_by}
 
 -- what follows the same front is the same

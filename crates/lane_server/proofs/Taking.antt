@@ -13,8 +13,8 @@ use Rattle.dover_model.specs.Due.{due_lines}
 use Rattle.dover_model.specs.Text.{header, refused_text}
 use Rattle.dover_model.specs.Instance.{Instance}
 use Rattle.dover_model.specs.declared.events.Event.{Event}
-use Rattle.dover_core.specs.declared.horizon.Horizon.{Horizon}
-use Rattle.dover_core.specs.declared.horizon.Horizon.TheVariants.{Mark, End}
+use Rattle.dover_server.specs.declared.horizon.Horizon.{Horizon}
+use Rattle.dover_server.specs.declared.horizon.Horizon.TheVariants.{Mark, End}
 use Rattle.dispatcher.specs.Dispatch.{no_jobs}
 use Rattle.event_feed.specs.Kept as feed
 use Rattle.event_feed.specs.Answers.{DeclaresRatio, AddsJob, MovesMark, EndsFeed, AddsRefused, NewFault, IsFed, counted}

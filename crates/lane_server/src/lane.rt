@@ -1,7 +1,7 @@
 //! One lane: a feed, the server that it feeds, and the lines that are due and not yet given.
 ghost use Rattle.std.specs.Prelude.{◌≡◌, ◌↔◌, ℕ, List, [], ◌∷◌, ◌++◌, Some, true, IsTrue, IsSome, OnOk, OnErr};
 ghost use Rattle.dover_model.specs.Feed.{Account, account_of_lines, is_open};
-ghost use Rattle.queued_jobs.specs.Spending.{AreFew};
+ghost use Rattle.queued_jobs.specs.Spending.{CostsAtMost};
 ghost use Rattle.event_feed.specs.Answers.{DeclaresRatio, AddsJob, IsFed, EndAnswers, counted, admitted_in};
 ghost use Rattle.lane_server.specs.Lanes.{lines_added, feed_short, is_fine};
 ghost use Rattle.lane_server.specs.Lane.{IsDeclared, Stands, IsQuiet, Gives, IsOpenAt, Adds};
@@ -11,7 +11,7 @@ ghost use Rattle.lane_server.specs.declared.lane.Work.TheVariants.{Nothing, Run,
 
 use crate::out::LaneOut;
 use dispatcher::Dispatcher;
-use dover_core::Horizon;
+use dover_server::Horizon;
 use dover_model::{Job, Memory, Ratio, Version};
 use event_feed::{Fed, FeedFault, Intake};
 use std::alloc::Global;
@@ -64,7 +64,7 @@ impl<D: Dispatcher> Lane<D> {
     pub fn laws()
         ensures few { (lane : Lane D) (ls rest : List (List ℕ)) (start now : ℕ) →
             Stands D.serves D.has_room lane ls rest → HasPaid D.paid lane.server start now
-            → AreFew (admitted_in (account_of_lines ls)) start now }
+            → CostsAtMost (admitted_in (account_of_lines ls)) start now }
     {
         D::laws();
     }

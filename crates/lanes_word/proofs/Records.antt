@@ -3,7 +3,7 @@ use Rattle.std.proofs.Common.{◌≡◌, ℕ, List, [], ◌++◌, refl, ap, ◌�
 use Rattle.std.proofs.Common.{append_assoc, arith, length-append, cond}
 use Rattle.dover_model.specs.Lines.{in_lines, whole_lines}
 use Rattle.std.specs.Prelude.{length}
-use Rattle.dover_port.specs.Causes.{IsAnswer}
+use Rattle.dover_port.specs.Causes.{IsNeitherNoNorUsage}
 use Rattle.dover_port.specs.Moves.{Move, ins, outs, has_ended, IsProperPrefix}
 use Rattle.dover_port.specs.declared.status.Status.{Status}
 use Rattle.dover_port.specs.declared.status.Status.TheVariants.{Done, No, Refused, ReadFault, WriteFault, Memory, Usage}
@@ -76,7 +76,7 @@ pub serves : (status : Status) (moves : List Move) → Talks lanes_talk status m
 serves status moves it = record { reads = it.reads; ends = ends status moves it.ends }
 
 -- the statuses
-pub answers : (status : Status) → CanEnd lanes_talk status → IsAnswer status
+pub answers : (status : Status) → CanEnd lanes_talk status → IsNeitherNoNorUsage status
 answers Done it = tt
 answers No it = absurd (never_no (input it.bytes) it.answer.0)
 answers Refused it = tt

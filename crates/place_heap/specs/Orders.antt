@@ -4,7 +4,7 @@ use Rattle.dover_model.specs.Limits.{most_value}
 use Rattle.dover_model.specs.declared.events.Version.{Version}
 use Rattle.dover_model.specs.declared.events.Version.TheVariants.{One, Two}
 use Rattle.dover_model.specs.declared.events.Entry.{Entry}
-use Rattle.dover_model.specs.Entries.{is_due_before, is_latest_before}
+use Rattle.dover_model.specs.Entries.{is_due_before, is_start_before}
 use Rattle.place_heap.specs.Items.{ItemFacts, is_before}
 
 -- what settles equal keys before the number does: nothing, in version Two the greater value
@@ -23,4 +23,4 @@ latest_item v place e = record { key = e.latest; tie = tie_of v e.value; number 
 -- the items of two entries with numbers of their own, and values within the limit, come in the model's orders
 pub record AreOrderedAs (v : Version) (a b : Entry) (p q : ℕ) : Type 0 where
   pub due : is_before (due_item v p a) (due_item v q b) ≡ is_due_before v a b
-  pub latest : is_before (latest_item v p a) (latest_item v q b) ≡ is_latest_before v a b
+  pub latest : is_before (latest_item v p a) (latest_item v q b) ≡ is_start_before v a b

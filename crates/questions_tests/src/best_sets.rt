@@ -1,7 +1,7 @@
 ghost use Rattle.std.specs.Prelude.{◌≡◌};
 ghost use Rattle.dover_model.specs.Instance.{IsInOrder};
 
-use clairvoyant::{BestFault, best};
+use best_set::{BestFault, best};
 use dover_model::{Job, Piece};
 use std::alloc::Global;
 use std::process::Abort;

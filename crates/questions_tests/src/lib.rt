@@ -1,4 +1,4 @@
-//! Tests of the questions on a list of jobs: `deadline_oracle`, `clairvoyant` and `policy_lab`.
+//! Tests of the questions on a list of jobs: `feasibility`, `best_set` and `policy_lab`.
 #![tactic(auto)]
 
 #[cfg(test)]

@@ -11,7 +11,7 @@ use Rattle.dover_model.specs.State.{least, left, demand_by, demand_up_to, room}
 use Rattle.dover_model.specs.Entries.{entry_of, room_of}
 use Rattle.dover_model.specs.Sound.{IsMember, Each}
 use Rattle.dover_model.proofs.Tests.{none_is_some}
-use Rattle.privileged_queue.specs.Stack.{room_at}
+use Rattle.held_queue.specs.Stack.{room_at}
 use Rattle.dover_model.proofs.Members.{some_same, map_same, map_map, sum_filter, sum_map, sum_zero}
 use Rattle.queued_jobs.specs.Queued.{put_in, by_deadline}
 

@@ -15,8 +15,8 @@ use Rattle.dover_model.specs.State.{State, is_running, is_held, is_waiting, is_p
 use Rattle.dover_model.specs.State.{value_sum}
 use Rattle.dover_model.specs.Limits.{most_total}
 use Rattle.dover_model.specs.Instance.{Instance, IsValid}
-use Rattle.dover_model.specs.Entries.{IsStrictOrder, entry_of, room_of, is_due_before, is_latest_before}
-use Rattle.dover_model.specs.Orders.{due_first, latest_first, first}
+use Rattle.dover_model.specs.Entries.{IsStrictOrder, entry_of, room_of, is_due_before, is_start_before}
+use Rattle.dover_model.specs.Orders.{due_first, starts_before, first}
 use Rattle.dover_model.specs.Step.{is_at_latest_start}
 use Rattle.dover_model.specs.Sound.{IsMember, Each, IsNumberedFrom, IsSound, jobs_of}
 use Rattle.dover_model.proofs.EntryOrders.{strict_by}
@@ -28,7 +28,7 @@ use Rattle.dover_model.proofs.Tests.{none_is_some, never}
 use Rattle.dover_model.proofs.Moves.{says}
 use Rattle.rank_heap.specs.Table.{members_of}
 use Rattle.rank_heap.proofs.Tables.{grown_members}
-use Rattle.privileged_queue.specs.Stack.{top_of, value_of, IsByDeadline, room_at}
+use Rattle.held_queue.specs.Stack.{top_of, value_of, IsByDeadline, room_at}
 use Rattle.queued_jobs.specs.Queued.{turn_of, waiting_entry, put_in, by_deadline, held_entries}
 use Rattle.queued_jobs.proofs.Firsts.{first_best, first_only, first_member, not_itself, key_most, key_less}
 use Rattle.queued_jobs.proofs.Lookup.{found_first, found_first_none, find_head, find_none, own_entries, of_entry}
@@ -144,31 +144,31 @@ module _ (v : Version) (s : State) (sound : IsSound s) (es : List Entry)
         differs m n h = grind arith
 
   -- none is late where none waits
-  pub late_none : None ≡ first (is_latest_before v) es → None ≡ first (latest_first v) late
-  late_none none = ap (first (latest_first v))
+  pub late_none : None ≡ first (is_start_before v) es → None ≡ first (starts_before v) late
+  late_none none = ap (first (starts_before v))
       (sym (none_at (λ t m. absurd (none_waits (map entry_of (filter is_waiting s.tasks))
-      (ap (first (is_latest_before v)) (sym is) ∙ sym none) (entry_of t)
+      (ap (first (is_start_before v)) (sym is) ∙ sym none) (entry_of t)
       (there t (filter is_waiting s.tasks) m))))) where
         there : (t : Task) (ts : List Task) → IsMember t ts → IsMember (entry_of t) (map entry_of ts)
         there t [] m = absurd m
         there t (u ∷ us) (inl e) = inl (ap entry_of e)
         there t (u ∷ us) (inr m) = inr (there t us m)
 
-        none_waits : (xs : List Entry) → first (is_latest_before v) xs ≡ None → (y : Entry) → IsMember y xs → ⊥
+        none_waits : (xs : List Entry) → first (is_start_before v) xs ≡ None → (y : Entry) → IsMember y xs → ⊥
         none_waits [] e y m = absurd m
         none_waits (x ∷ xs) e y m = none_is_some (sym e)
 
-  module _ (e : Entry) (at : Some e ≡ first (is_latest_before v) es) where
-    strict : IsStrictOrder (is_latest_before v)
+  module _ (e : Entry) (at : Some e ≡ first (is_start_before v) es) where
+    strict : IsStrictOrder (is_start_before v)
     strict = strict_by (λ x. x.latest) v
 
-    best : Each (λ y. is_latest_before v y e ≡ true → ⊥) (map entry_of (filter is_waiting s.tasks))
-    best = first_best (is_latest_before v) strict e (map entry_of (filter is_waiting s.tasks))
-        (ap (first (is_latest_before v)) (sym is) ∙ sym at)
+    best : Each (λ y. is_start_before v y e ≡ true → ⊥) (map entry_of (filter is_waiting s.tasks))
+    best = first_best (is_start_before v) strict e (map entry_of (filter is_waiting s.tasks))
+        (ap (first (is_start_before v)) (sym is) ∙ sym at)
 
     there : IsMember e (map entry_of (filter is_waiting s.tasks))
-    there = first_member (is_latest_before v) (map entry_of (filter is_waiting s.tasks)) e
-        (ap (first (is_latest_before v)) (sym is) ∙ sym at)
+    there = first_member (is_start_before v) (map entry_of (filter is_waiting s.tasks)) e
+        (ap (first (is_start_before v)) (sym is) ∙ sym at)
 
     -- none starts earlier
     pub not_earlier : (t : Task) → IsMember t (filter is_waiting s.tasks) → e.latest ≤ latest_start t
@@ -183,19 +183,19 @@ module _ (v : Version) (s : State) (sound : IsSound s) (es : List Entry)
     latest_job = of_entry (filter is_waiting s.tasks) e there
 
     -- none is late where the first starts later
-    pub late_later : e.latest ≢ s.clock → None ≡ first (latest_first v) late
+    pub late_later : e.latest ≢ s.clock → None ≡ first (starts_before v) late
     late_later other =
         let it = of_entry (filter is_waiting s.tasks) e there in
         let same : e.latest ≡ latest_start it.0 = ap (λ (x : Entry). x.latest) it.2 in
         let past : s.clock ≤ latest_start it.0 = not_past it.0 it.1 in
         let later : s.clock < e.latest = omega (arith, same, past, other) in
-        ap (first (latest_first v)) (sym (none_at (λ t m. omega (arith, later, not_earlier t m))))
+        ap (first (starts_before v)) (sym (none_at (λ t m. omega (arith, later, not_earlier t m))))
 
     -- and otherwise it is the first of those that are
-    pub late_found : e.latest ≡ s.clock → slice_get s.tasks e.number ≡ first (latest_first v) late
+    pub late_found : e.latest ≡ s.clock → slice_get s.tasks e.number ≡ first (starts_before v) late
     late_found same =
-        found_first (is_latest_before v) s.tasks late e sound.numbered inside
-        (first_only (is_latest_before v) strict e (map entry_of late) member
+        found_first (is_start_before v) s.tasks late e sound.numbered inside
+        (first_only (is_start_before v) strict e (map entry_of late) member
         (λ y m h. best y (kept y m) h)
         (own_entries s.tasks late sound.numbered inside)) where
           inside : Each (λ t. IsMember t s.tasks) late

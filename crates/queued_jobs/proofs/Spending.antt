@@ -20,7 +20,7 @@ use Rattle.dover_model.proofs.Potential.{one_if, one_most, weight, weight_in, st
 use Rattle.dover_model.proofs.Tests.{never}
 use Rattle.dover_model.proofs.WaitingMoves.{exits_scale, waiting_count, counts_balance, open_leaves}
 use Rattle.queued_jobs.specs.Costs.{cost_of}
-use Rattle.queued_jobs.specs.Spending.{exits, waits_among, waits_so_far, HasSpentFor, HasSpent, AreFew}
+use Rattle.queued_jobs.specs.Spending.{exits, waits_among, waits_so_far, HasSpentFor, HasSpent, CostsAtMost}
 
 -- ---- what may still come
 
@@ -87,16 +87,16 @@ all_few n d waits start now most few =
     mul-le (20 * d) waits (20 * d) (4 * n) (omega arith) (omega (arith, most)) in
     omega (arith, few, product)
 
-pub spent_few : (n : ℕ) (s : State) (start now : ℕ) → HasSpentFor n s start now → AreFew n start now
+pub spent_few : (n : ℕ) (s : State) (start now : ℕ) → HasSpentFor n s start now → CostsAtMost n start now
 spent_few n s start now spent = λ d enough.
     all_few n d (waits_among n s) start now (among_most n s) (spent d enough)
 
 -- none are few
-pub none_few : (n count : ℕ) → AreFew n count count
+pub none_few : (n count : ℕ) → CostsAtMost n count count
 none_few n count = λ d enough. omega arith
 
 -- those that are few for some jobs are few for more
-pub few_more : (n m before after : ℕ) → n ≤ m → AreFew n before after → AreFew m before after
+pub few_more : (n m before after : ℕ) → n ≤ m → CostsAtMost n before after → CostsAtMost m before after
 few_more n m before after most few = λ d enough.
     let less : n + 1 < 2 ^ d = omega (arith, enough, most) in
     let product : 80 * (n + 1) * d ≤ 80 * (m + 1) * d =

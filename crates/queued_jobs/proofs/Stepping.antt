@@ -15,7 +15,7 @@ use Rattle.dover_model.specs.Sound.{IsMember, Each, IsNumberedFrom}
 use Rattle.dover_model.proofs.Roles.{passes, one_number, numbers_above}
 use Rattle.dover_model.proofs.Tests.{never}
 use Rattle.dover_model.proofs.Members.{all_member, filter_member, member_filter, map_member}
-use Rattle.privileged_queue.specs.Stack.{IsByDeadline}
+use Rattle.held_queue.specs.Stack.{IsByDeadline}
 use Rattle.queued_jobs.specs.Queued.{Agrees, turn_of, waiting_entry, by_deadline, held_entries}
 use Rattle.queued_jobs.proofs.Lookup.{of_entry}
 use Rattle.queued_jobs.proofs.Deadlines.{sorted_member, member_sorted}

@@ -20,7 +20,7 @@ use Rattle.dover_model.specs.State.{is_fresh, is_running, is_held, is_waiting, v
 use Rattle.dover_model.specs.Entries.{entry_of}
 use Rattle.dover_model.specs.Sound.{IsMember, Each, IsNumberedFrom}
 use Rattle.dover_model.proofs.Roles.{passes, is_held_role}
-use Rattle.privileged_queue.specs.Stack.{IsByDeadline}
+use Rattle.held_queue.specs.Stack.{IsByDeadline}
 use Rattle.queued_jobs.specs.Queued.{Queued, Agrees, turn_of, waiting_entry, put_in, by_deadline, held_entries}
 use Rattle.queued_jobs.specs.Queued.{in_state, with_job_in}
 use Rattle.queued_jobs.specs.Roles.{with_role_at}
@@ -29,7 +29,7 @@ use Rattle.waiting_queue.specs.Queue.{Queue, without}
 use Rattle.std.proofs.lemmas.Option.{slice_get_within}
 use Rattle.dover_model.specs.declared.events.Version.{Version}
 use Rattle.dover_model.specs.Orders.{due_first, first}
-use Rattle.privileged_queue.specs.Stack.{Stack, popped, without_top, top_of}
+use Rattle.held_queue.specs.Stack.{Stack, popped, without_top, top_of}
 use Rattle.queued_jobs.proofs.Growing.{table_len}
 use Rattle.queued_jobs.proofs.Firsts.{first_member}
 use Rattle.queued_jobs.proofs.Looking.{none_found, held_found, held_none}

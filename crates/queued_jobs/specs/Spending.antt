@@ -26,5 +26,5 @@ abbrev pub HasSpent : State → (start now : ℕ) → Type 0
 HasSpent s start now = HasSpentFor (length s.tasks) s start now
 
 -- the comparisons of a call that serves n jobs are few
-abbrev pub AreFew : (n before after : ℕ) → Type 0
-AreFew n before after = (d : ℕ) → n + 1 < 2 ^ d → after ≤ before + 80 * (n + 1) * d
+abbrev pub CostsAtMost : (n before after : ℕ) → Type 0
+CostsAtMost n before after = (d : ℕ) → n + 1 < 2 ^ d → after ≤ before + 80 * (n + 1) * d

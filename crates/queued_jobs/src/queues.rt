@@ -10,7 +10,7 @@ ghost use Rattle.dover_model.specs.Instance.{IsValid, with_jobs};
 ghost use Rattle.dover_model.specs.State.{State, opening, with_later, is_over, is_done, is_fresh, is_coming, is_held};
 ghost use Rattle.dover_model.specs.State.{is_running, left, latest_start, value_sum};
 ghost use Rattle.dover_model.specs.State.{running, held, waiting, privileged, room};
-ghost use Rattle.dover_model.specs.Orders.{due_first, latest_first, first};
+ghost use Rattle.dover_model.specs.Orders.{due_first, starts_before, first};
 ghost use Rattle.dover_model.specs.Step.{open_step, view, after, is_at_latest_start, resumed, runs};
 ghost use Rattle.dover_model.specs.Sound.{IsSound, Each, IsNumberedFrom};
 ghost use Rattle.dover_model.specs.Jumps.{NothingDue, later_by, ticked_by};
@@ -25,7 +25,7 @@ ghost use Rattle.queued_jobs.specs.Queued.{Queued, instance_of, in_state, with_j
 
 use crate::moves::Move;
 use dover_model::{Entry, Event, Job, Memory, Ratio, Role, Task, Version};
-use privileged_queue::Privileged;
+use held_queue::Privileged;
 use root_compare::heavy;
 use std::alloc::Global;
 use std::marker::Model;
@@ -261,7 +261,7 @@ impl Queues {
     // Of the waiting jobs at their latest start, the first in that order.
     fn first_late(&self) -> Option<Task>
         requires { IsSound self.now.state }
-        ensures { result ≡ first (latest_first self.now.rules.version)
+        ensures { result ≡ first (starts_before self.now.rules.version)
             (filter (is_at_latest_start self.now.state) (waiting self.now.state)) }
     {
         let e = self.waiting.first_latest()?;

@@ -2,7 +2,7 @@
 ghost use Rattle.std.specs.Prelude.{◌≡◌};
 
 use dover_model::Entry;
-use privileged_queue::Privileged;
+use held_queue::Privileged;
 
 #[test]
 fn one_is_held_and_resumed(rt: HostRuntime) {

@@ -1,5 +1,5 @@
-//! Tests of the crates below the server: `root_compare`, `tick_cpu`, `privileged_queue`, `rank_heap`, `waiting_queue`,
-//! `place_heap` and `plain_step`.
+//! Tests of the crates below the server: `root_compare`, `tick_cpu`, `held_queue`, `rank_heap`, `waiting_queue`,
+//! `place_heap` and `scanned_step`.
 #![tactic(auto)]
 
 #[cfg(test)]

@@ -3,7 +3,7 @@ ghost use Rattle.std.specs.Prelude.{◌≡◌, ◌≤◌, ◌+◌};
 ghost use Rattle.dover_model.specs.Limits.{most_value};
 
 use dover_model::{Event, Job, Ratio, Role, Task, Version};
-use plain_step::{Move, apply, open_step, silent_ticks, tick, wait};
+use scanned_step::{Move, apply, open_step, silent_ticks, tick, wait};
 use std::process::Abort;
 
 fn task(rt: &impl Abort, number: u32, job: [u64; 4], role: Role, had: u64) -> Task

@@ -11,13 +11,13 @@ use Rattle.dover_model.specs.declared.events.Event.TheVariants.{Release, Run, Pr
 use Rattle.dover_model.specs.declared.events.Role.TheVariants.{Held, Running}
 use Rattle.dover_model.specs.declared.events.Task.{Task}
 use Rattle.dover_model.specs.JobFacts.{JobFacts}
-use Rattle.dover_model.specs.Orders.{latest_first, first}
+use Rattle.dover_model.specs.Orders.{starts_before, first}
 use Rattle.dover_model.specs.State.{waiting, left, latest_start}
 use Rattle.dover_model.specs.Step.{View, view, with_role, is_at_latest_start}
 use Rattle.dover_model.specs.Sound.{Each}
 use Rattle.dover_model.proofs.Members.{some_same, sum_map}
 use Rattle.dover_model.proofs.Tests.{none_is_some}
-use Rattle.plain_step.specs.Cases.{next_of}
+use Rattle.scanned_step.specs.Cases.{next_of}
 use Rattle.trace_reading.specs.Ready.{is_ready}
 use Rattle.ready_jobs.specs.Reordered.{IsReordered}
 use Rattle.ready_jobs.specs.Parts.{Parted, HaveRoles, AreSound, ready_of, state_of, head_of, tail_of}
@@ -40,21 +40,21 @@ leaves_fewer f xs ys worth it = omega (
 
 -- the first waiting job at its latest start is the first one
 pub late_first : (p : Parted) → HaveRoles p → AreSound p → (x : Task)
-    → first (latest_first p.version) (filter (is_at_latest_start (state_of p)) (waiting (state_of p))) ≡ Some x
-    → first (latest_first p.version) p.waiting ≡ Some x
-late_first p roles sound x is = by_first (first (latest_first p.version) p.waiting) refl where
-  there : first (latest_first p.version) (filter (is_at_latest_start (state_of p)) p.waiting) ≡ Some x
+    → first (starts_before p.version) (filter (is_at_latest_start (state_of p)) (waiting (state_of p))) ≡ Some x
+    → first (starts_before p.version) p.waiting ≡ Some x
+late_first p roles sound x is = by_first (first (starts_before p.version) p.waiting) refl where
+  there : first (starts_before p.version) (filter (is_at_latest_start (state_of p)) p.waiting) ≡ Some x
   there = subst
-      (λ l. first (latest_first p.version) (filter (is_at_latest_start (state_of p)) l) ≡ Some x)
+      (λ l. first (starts_before p.version) (filter (is_at_latest_start (state_of p)) l) ≡ Some x)
       (waiting_list p roles) is
 
-  by_first : (o : Option Task) → first (latest_first p.version) p.waiting ≡ o
-      → first (latest_first p.version) p.waiting ≡ Some x
+  by_first : (o : Option Task) → first (starts_before p.version) p.waiting ≡ o
+      → first (starts_before p.version) p.waiting ≡ Some x
   by_first None none = none_is_some
       (sym (late_none p.version (state_of p) p.waiting sound.own sound.early none) ∙ there)
   by_first (Some y) at = by_test (cases_eq (latest_start y) p.clock) where
     by_test : (latest_start y ≡ p.clock) ⊎ ((latest_start y ≡ p.clock) → ⊥)
-        → first (latest_first p.version) p.waiting ≡ Some x
+        → first (starts_before p.version) p.waiting ≡ Some x
     by_test (inl now) = at
         ∙ sym (late_found p.version (state_of p) p.waiting sound.own sound.early y at now) ∙ there
     by_test (inr later) = none_is_some
@@ -113,11 +113,11 @@ module _ (p : Parted) (roles : HaveRoles p) (once : AreOnce (ready_of p)) where
       names_gone = says next.1.0 seen (Abandon next.0 n) next.1.1
 
       -- that is the one that the step names
-      pub gone_named : (x : Task) × (first (latest_first p.version) p.waiting ≡ Some x) × (x.number ≡ n)
+      pub gone_named : (x : Task) × (first (starts_before p.version) p.waiting ≡ Some x) × (x.number ≡ n)
       gone_named = (names_gone.1, late_first p roles sound names_gone.1 names_gone.3, names_gone.4)
 
       pub gone_leaves : (rest : List Task)
-          → ((x : Task) → first (latest_first p.version) p.waiting ≡ Some x → IsReordered p.waiting (x ∷ rest))
+          → ((x : Task) → first (starts_before p.version) p.waiting ≡ Some x → IsReordered p.waiting (x ∷ rest))
           → (at : ℕ) → Leaves (printed (Abandon at n)) (ready_of p) (ready_of (record p { waiting = rest })) 0
       gone_leaves rest out at =
           let x : Task = names_gone.1 in

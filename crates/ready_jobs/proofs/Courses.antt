@@ -18,7 +18,7 @@ use Rattle.dover_model.specs.Instance.{Rules, Instance, IsValid, total_value}
 use Rattle.dover_model.specs.State.{State, opening, is_over, is_done, value_sum}
 use Rattle.dover_model.specs.Step.{Move, Prints, Ticks, step, open_step, after}
 use Rattle.dover_model.specs.Run.{event_of, last_deadline}
-use Rattle.dover_model.specs.Settled.{is_late}
+use Rattle.dover_model.specs.Settled.{waits_for_mark}
 use Rattle.dover_model.specs.Sound.{IsMember, Keeps}
 use Rattle.dover_model.specs.WholeRun.{IsBarrier}
 use Rattle.dover_model.proofs.Members.{sum_filter, sum_le, sum_map, member_filter, term_le_sum}
@@ -281,17 +281,18 @@ module _ (k : Fraction) (p q : Parted) (jobs done mark : ℕ) (m : Move) (versio
         comes = step_y;
         stops = λ silent. late_now (stops silent).0 (stops silent).1;
         waits = λ here.
-            let at : (is_late m ≡ true) × (mark ≤ q.clock) = at_barrier (is_late m) mark q.clock here in
+            let at : (waits_for_mark m ≡ true) × (mark ≤ q.clock) = at_barrier (waits_for_mark m) mark q.clock here in
             let now : y.clock ≡ mark = omega (arith, at.1) in
             subst (λ t. WaitsUntil J.rules mark z (record { clock = t; tasks = y.tasks })) now (record {
               steps = it.steps;
               settles = it.settles;
-              barrier = ap (λ n. is_late n && nat_le mark y.clock) step_y ∙ ap (λ t. is_late m && nat_le mark t) clock_y
+              barrier = ap (λ n. waits_for_mark n && nat_le mark y.clock) step_y
+                  ∙ ap (λ t. waits_for_mark m && nat_le mark t) clock_y
                   ∙ here;
             });
       } where
-        late_now : m ≡ Ticks → mark ≤ q.clock → (is_late m && nat_le mark q.clock) ≡ true
-        late_now is far = ap (λ n. is_late n && nat_le mark q.clock) is ∙ le_true mark q.clock far where
+        late_now : m ≡ Ticks → mark ≤ q.clock → (waits_for_mark m && nat_le mark q.clock) ≡ true
+        late_now is far = ap (λ n. waits_for_mark n && nat_le mark q.clock) is ∙ le_true mark q.clock far where
           le_true : (a b : ℕ) → a ≤ b → nat_le a b ≡ true
           le_true a b h = grind arith
 
@@ -303,8 +304,8 @@ module _ (k : Fraction) (p q : Parted) (jobs done mark : ℕ) (m : Move) (versio
 pub no_last_barrier : (J : Instance) → IsValid J → (z : State) → Keeps J z → GoesOn z → IsSilent (open_step J.rules z)
     → IsBarrier J.rules last_tick z → ⊥
 no_last_barrier J valid z keeps on silent here =
-    let at : (is_late (open_step J.rules z) ≡ true) × (last_tick ≤ z.clock) =
-    at_barrier (is_late (open_step J.rules z)) last_tick z.clock here in
+    let at : (waits_for_mark (open_step J.rules z) ≡ true) × (last_tick ≤ z.clock) =
+    at_barrier (waits_for_mark (open_step J.rules z)) last_tick z.clock here in
     let ticks : step J.rules z ≡ Ticks = step_open J.rules z on ∙ late_silent (open_step J.rules z) at.0 silent in
     let early : z.clock < last_deadline J.jobs = ticks_early J valid z keeps J.rules ticks in
     let known : last_deadline J.jobs ≤ last_tick = deadline_known J valid in
@@ -312,22 +313,22 @@ no_last_barrier J valid z keeps on silent here =
 
 -- what has reached the mark
 pub reached_settled : (c : Course) (J : Instance) (z : State) (mark : ℕ) (m : Move) (reached : Reached c J z mark m)
-    → (is_late m && nat_le mark c.clock) ≡ true → Settled c J z mark None
+    → (waits_for_mark m && nat_le mark c.clock) ≡ true → Settled c J z mark None
 reached_settled c J z mark m reached here =
     record { state = reached.state; follows = reached.follows; idles = reached.idles; comes = reached.waits here }
 
 -- or a printed step before it
 pub reached_prints : (c : Course) (J : Instance) (z : State) (mark : ℕ) (e : Event)
     (reached : Reached c J z mark (Prints e))
-    → (is_late (Prints e) && nat_le mark c.clock) ≡ false → Settled c J z mark (Some e)
+    → (waits_for_mark (Prints e) && nat_le mark c.clock) ≡ false → Settled c J z mark (Some e)
 reached_prints c J z mark e reached before = record {
   state = reached.state;
   follows = reached.follows;
   idles = reached.idles;
   comes = (
     reached.comes,
-    ap (λ m. is_late m && nat_le mark reached.state.clock) reached.comes
-        ∙ ap (λ t. is_late (Prints e) && nat_le mark t) reached.follows.clock ∙ before,
+    ap (λ m. waits_for_mark m && nat_le mark reached.state.clock) reached.comes
+        ∙ ap (λ t. waits_for_mark (Prints e) && nat_le mark t) reached.follows.clock ∙ before,
     reached.goes_on,
   );
 }
@@ -371,24 +372,25 @@ pub reached_last : (c : Course) (J : Instance) (z : State) (m : Move) (reached :
 reached_last c J z m reached silent =
     no_last_barrier J reached.follows.valid reached.state reached.follows.keeps reached.goes_on
     (ap event_of reached.comes ∙ silent)
-    (ap (λ n. is_late n && nat_le last_tick reached.state.clock) reached.comes
-    ∙ ap (λ t. is_late m && nat_le last_tick t) reached.follows.clock
+    (ap (λ n. waits_for_mark n && nat_le last_tick reached.state.clock) reached.comes
+    ∙ ap (λ t. waits_for_mark m && nat_le last_tick t) reached.follows.clock
     ∙ reached.stops silent)
 
 -- a printed step was reached, and whether it is a barrier was tested
 module _ (c : Course) (J : Instance) (z : State) (mark : ℕ) (m : Move) (e : Event) (clock : ℕ) (b : Bool)
     (reached : Reached c J z mark m)
-    (is : m ≡ Prints e) (at : clock ≡ c.clock) (test : b ≡ (is_late (Prints e) && nat_le mark clock)) where
+    (is : m ≡ Prints e) (at : clock ≡ c.clock) (test : b ≡ (waits_for_mark (Prints e) && nat_le mark clock)) where
   -- it is
   pub tested_late : b ≡ true → Settled c J z mark None
   tested_late late = reached_settled c J z mark m reached
-      (ap (λ n. is_late n && nat_le mark c.clock) is ∙ ap (λ t. is_late (Prints e) && nat_le mark t) (sym at) ∙ sym test
+      (ap (λ n. waits_for_mark n && nat_le mark c.clock) is
+          ∙ ap (λ t. waits_for_mark (Prints e) && nat_le mark t) (sym at) ∙ sym test
       ∙ late)
 
   -- it isn't
   pub tested_early : b ≡ false → Settled c J z mark (Some e)
   tested_early early = reached_prints c J z mark e (subst (Reached c J z mark) is reached)
-      (ap (λ t. is_late (Prints e) && nat_le mark t) (sym at) ∙ sym test ∙ early)
+      (ap (λ t. waits_for_mark (Prints e) && nat_le mark t) (sym at) ∙ sym test ∙ early)
 
 -- a silent step was reached
 pub silent_settled : (c : Course) (J : Instance) (z : State) (mark : ℕ) (m n : Move) → Reached c J z mark m → m ≡ n

@@ -5,7 +5,7 @@ use Rattle.std.proofs.lemmas.List.{reverse-append}
 use Rattle.dover_model.specs.declared.events.Task.{Task}
 use Rattle.dover_model.specs.Entries.{entry_of}
 use Rattle.dover_model.specs.Sound.{IsMember, Each}
-use Rattle.privileged_queue.specs.Stack.{Stack, without_top}
+use Rattle.held_queue.specs.Stack.{Stack, without_top}
 use Rattle.queued_jobs.proofs.Steps.{without_first}
 use Rattle.ready_jobs.specs.Changed.{made_wait}
 use Rattle.ready_jobs.specs.Pools.{Pooled}

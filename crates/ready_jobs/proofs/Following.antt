@@ -16,7 +16,7 @@ use Rattle.dover_model.specs.Instance.{Rules, Instance, IsValid, total_value}
 use Rattle.dover_model.specs.Jumps.{ticked_by, later_by}
 use Rattle.dover_model.specs.Limits.{most_value, most_total}
 use Rattle.dover_model.specs.Run.{Step, event_of}
-use Rattle.dover_model.specs.Settled.{is_late}
+use Rattle.dover_model.specs.Settled.{waits_for_mark}
 use Rattle.dover_model.specs.Sound.{IsMember, Each, EachTwo, Keeps, IsSound}
 use Rattle.dover_model.specs.State.{State, is_coming, is_fresh, is_waiting, is_held, is_running, is_privileged, is_done}
 use Rattle.dover_model.specs.State.{is_over, left, latest_start, value_sum}
@@ -33,8 +33,8 @@ use Rattle.dover_model.proofs.Members.{sum_map, sum_zero}
 use Rattle.dover_model.proofs.Moves.{says}
 use Rattle.dover_model.proofs.Roles.{passes, is_running_role, is_fresh_role}
 use Rattle.dover_model.proofs.Tests.{never, none_is_some}
-use Rattle.plain_step.specs.Dues.{still_ticks}
-use Rattle.plain_step.proofs.Jumping.{silent as still_silent, due as still_due, within as still_within}
+use Rattle.scanned_step.specs.Dues.{still_ticks}
+use Rattle.scanned_step.proofs.Jumping.{silent as still_silent, due as still_due, within as still_within}
 use Rattle.trace_reading.specs.Leading.{IsSilent, Settles}
 use Rattle.trace_reading.specs.Ready.{is_ready, ready_part}
 use Rattle.trace_reading.proofs.Leading.{settles_append}
@@ -320,7 +320,7 @@ module _ (p : Parted) (roles : HaveRoles p) (J : Instance) (z : State) (part : P
           open_at J.rules (later_by k z) ∷ rest.0,
           (
             refl,
-            ap (λ m. is_late m && nat_le mark (z.clock + k)) ticks ∙ lt-leb mark (z.clock + k) (omega arith),
+            ap (λ m. waits_for_mark m && nat_le mark (z.clock + k)) ticks ∙ lt-leb mark (z.clock + k) (omega arith),
             ap event_of ticks,
             subst (λ u. Settles J.rules mark u rest.0 (later_by n z))
                 (sym (ap (after (later_by k z)) ticks ∙ more)) rest.1,
@@ -346,7 +346,7 @@ settles_none p J z mark part = record { state = z; steps = []; settles = refl; p
 
 -- a silent step that isn't a tick
 pub settles_one : (p q : Parted) (J : Instance) (z : State) (mark : ℕ) (m : Move) → PartOf p J z
-    → open_step J.rules z ≡ m → is_late m ≡ false → IsSilent m
+    → open_step J.rules z ≡ m → waits_for_mark m ≡ false → IsSilent m
     → q.version ≡ p.version → (after z m).clock ≡ q.clock → Leaves (change m) (ready_of p) (ready_of q) 0
     → SettlesTo q J z mark
 settles_one p q J z mark m part is early silent version clock leaves =
@@ -356,7 +356,7 @@ settles_one p q J z mark m part is early silent version clock leaves =
       steps = open_at J.rules z ∷ [];
       settles = (
         refl,
-        ap (λ n. is_late n && nat_le mark z.clock) is ∙ ap (λ b. b && nat_le mark z.clock) early,
+        ap (λ n. waits_for_mark n && nat_le mark z.clock) is ∙ ap (λ b. b && nat_le mark z.clock) early,
         ap event_of is ∙ silent,
         ap (after z) is,
       );

@@ -13,7 +13,7 @@ use Rattle.dover_model.specs.Jumps.{ticked_by}
 use Rattle.dover_model.specs.Step.{with_role}
 use Rattle.dover_model.specs.Sound.{IsMember, Each}
 use Rattle.dover_model.proofs.Members.{on_map}
-use Rattle.privileged_queue.specs.Stack.{Stack}
+use Rattle.held_queue.specs.Stack.{Stack}
 use Rattle.ready_jobs.specs.Pools.{Pooled}
 use Rattle.ready_jobs.specs.Parts.{Parted, AreParts, HaveRole, ready_of}
 use Rattle.ready_jobs.specs.Changed.{made_wait}

@@ -11,8 +11,8 @@ use Rattle.dover_model.specs.Limits.{most_value}
 use Rattle.dover_model.specs.declared.events.Version.{Version}
 use Rattle.dover_model.specs.declared.events.Task.{Task}
 use Rattle.dover_model.specs.declared.events.Entry.{Entry}
-use Rattle.dover_model.specs.Entries.{IsStrictOrder, entry_of, is_due_before, is_latest_before}
-use Rattle.dover_model.specs.Orders.{first, due_first, latest_first, earlier}
+use Rattle.dover_model.specs.Entries.{IsStrictOrder, entry_of, is_due_before, is_start_before}
+use Rattle.dover_model.specs.Orders.{first, due_first, starts_before, earlier}
 use Rattle.dover_model.specs.Sound.{IsMember, Each}
 use Rattle.dover_model.proofs.EntryOrders.{strict_by}
 use Rattle.dover_model.proofs.Members.{some_same, reduce_none}
@@ -418,7 +418,7 @@ due_law v a b p q apart low less = (ordered_as v a b p q apart low less).due
 
 latest_law : (v : Version) (a b : Entry) (p q : ℕ) → (a.number ≡ b.number → ⊥) → a.value ≤ most_value
     → b.value ≤ most_value
-    → is_before (latest_item v p a) (latest_item v q b) ≡ is_latest_before v a b
+    → is_before (latest_item v p a) (latest_item v q b) ≡ is_start_before v a b
 latest_law v a b p q apart low less = (ordered_as v a b p q apart low less).latest
 
 module _ (v : Version) (slots : List (Option Task)) (table : List (Option ItemFacts)) where
@@ -428,8 +428,8 @@ module _ (v : Version) (slots : List (Option Task)) (table : List (Option ItemFa
       (due_law v) slots table has
 
   pub latest_none : HasItems (latest_item v) slots table → None ≡ first is_before (items_of table)
-      → None ≡ first (latest_first v) (jobs_at slots)
-  latest_none has = none_first (latest_item v) (is_latest_before v) (strict_by (λ e. e.latest) v) (λ p a. refl)
+      → None ≡ first (starts_before v) (jobs_at slots)
+  latest_none has = none_first (latest_item v) (is_start_before v) (strict_by (λ e. e.latest) v) (λ p a. refl)
       (latest_law v) slots table has
 
   module _ (i : ItemFacts) (at : Some i ≡ first is_before (items_of table)) (own : HaveOwnNumbers (jobs_at slots))
@@ -441,9 +441,9 @@ module _ (v : Version) (slots : List (Option Task)) (table : List (Option ItemFa
         (due_law v) slots table has i at own modest
 
     pub latest_found : HasItems (latest_item v) slots table
-        → (t : Task) × (slice_get slots i.place ≡ Some (Some t)) × (first (latest_first v) (jobs_at slots) ≡ Some t)
+        → (t : Task) × (slice_get slots i.place ≡ Some (Some t)) × (first (starts_before v) (jobs_at slots) ≡ Some t)
         × ((p : ℕ) × (i ≡ latest_item v p (entry_of t)))
-    latest_found has = found_first (latest_item v) (is_latest_before v) (strict_by (λ e. e.latest) v) (λ p a. refl)
+    latest_found has = found_first (latest_item v) (is_start_before v) (strict_by (λ e. e.latest) v) (λ p a. refl)
         (latest_law v) slots table has i at own modest
 
 -- ---- the pool

@@ -10,7 +10,7 @@ use Rattle.dover_model.specs.Instance.{Rules, Instance, IsValid}
 use Rattle.dover_model.specs.State.{State, is_coming, is_done, value_sum}
 use Rattle.dover_model.specs.Step.{open_step}
 use Rattle.dover_model.specs.Sound.{Each, Keeps}
-use Rattle.plain_step.specs.Moves.{state_at}
+use Rattle.scanned_step.specs.Moves.{state_at}
 use Rattle.trace_reading.specs.Ready.{is_ready}
 use Rattle.trace_reading.specs.Reading.{with_fresh}
 use Rattle.ready_jobs.specs.Reordered.{IsReordered}

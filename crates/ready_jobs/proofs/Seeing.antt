@@ -12,18 +12,18 @@ use Rattle.dover_model.specs.declared.events.Role.{Role}
 use Rattle.dover_model.specs.declared.events.Role.TheVariants.{Fresh, Waiting, Held, Running}
 use Rattle.dover_model.specs.declared.events.Task.{Task}
 use Rattle.dover_model.specs.declared.events.Entry.{Entry}
-use Rattle.dover_model.specs.Entries.{entry_of, is_due_before, is_latest_before}
+use Rattle.dover_model.specs.Entries.{entry_of, is_due_before, is_start_before}
 use Rattle.dover_model.specs.State.{State, is_coming, is_fresh, is_waiting, is_held, is_running, is_privileged}
 use Rattle.dover_model.specs.State.{latest_start, running}
-use Rattle.dover_model.specs.Orders.{due_first, latest_first, first, earlier}
+use Rattle.dover_model.specs.Orders.{due_first, starts_before, first, earlier}
 use Rattle.dover_model.specs.Step.{with_role, is_at_latest_start}
 use Rattle.dover_model.specs.Sound.{IsMember, Each}
 use Rattle.dover_model.proofs.EntryOrders.{strict_by}
 use Rattle.dover_model.proofs.Members.{reduce_none, filter_member, member_filter, some_same}
 use Rattle.dover_model.proofs.Roles.{passes}
 use Rattle.dover_model.proofs.Tests.{none_is_some}
-use Rattle.plain_step.specs.Dues.{until_latest, until_done, until_release, still_ticks}
-use Rattle.privileged_queue.specs.Stack.{IsByDeadline, IsDueBeforeAll}
+use Rattle.scanned_step.specs.Dues.{until_latest, until_done, until_release, still_ticks}
+use Rattle.held_queue.specs.Stack.{IsByDeadline, IsDueBeforeAll}
 use Rattle.queued_jobs.proofs.Firsts.{key_less}
 use Rattle.queued_jobs.proofs.Lookup.{find_none, find_head}
 use Rattle.ready_jobs.specs.Parts.{Parted, HaveRole, HaveRoles, HaveOwnNumbers, ready_of, state_of, head_of}
@@ -167,14 +167,14 @@ module _ (v : Version) (s : State) (tasks : List Task) (own : HaveOwnNumbers tas
   none_at later = filter_none (is_at_latest_start s) tasks
       (λ t m. ne_eqb (latest_start t) s.clock (λ e. let less : s.clock < latest_start t = later t m in omega arith))
 
-  pub late_none : first (latest_first v) tasks ≡ None
-      → first (latest_first v) (filter (is_at_latest_start s) tasks) ≡ None
-  late_none none = ap (first (latest_first v))
-      (none_at (λ t m. absurd (reduce_none (earlier (latest_first v)) tasks none t m)))
+  pub late_none : first (starts_before v) tasks ≡ None
+      → first (starts_before v) (filter (is_at_latest_start s) tasks) ≡ None
+  late_none none = ap (first (starts_before v))
+      (none_at (λ t m. absurd (reduce_none (earlier (starts_before v)) tasks none t m)))
 
-  module _ (x : Task) (at : first (latest_first v) tasks ≡ Some x) where
-    top : IsMember x tasks × Each (λ y. latest_first v y x ≡ true → ⊥) tasks
-    top = first_is (latest_first v) (λ a b. (strict_by (λ e. e.latest) v).one_way (entry_of a) (entry_of b))
+  module _ (x : Task) (at : first (starts_before v) tasks ≡ Some x) where
+    top : IsMember x tasks × Each (λ y. starts_before v y x ≡ true → ⊥) tasks
+    top = first_is (starts_before v) (λ a b. (strict_by (λ e. e.latest) v).one_way (entry_of a) (entry_of b))
         (λ a b c. (strict_by (λ e. e.latest) v).onward (entry_of a) (entry_of b) (entry_of c)) tasks x at
 
     -- none starts earlier
@@ -185,51 +185,51 @@ module _ (v : Version) (s : State) (tasks : List Task) (own : HaveOwnNumbers tas
     ]
 
     pub late_later : (latest_start x ≡ s.clock → ⊥)
-        → first (latest_first v) (filter (is_at_latest_start s) tasks) ≡ None
+        → first (starts_before v) (filter (is_at_latest_start s) tasks) ≡ None
     late_later other =
         let past : s.clock ≤ latest_start x = early x top.0 in
-        ap (first (latest_first v))
+        ap (first (starts_before v))
         (none_at (λ t m. let low : latest_start x ≤ latest_start t = not_earlier t m in
         omega (arith, past, other, low)))
 
-    pub late_found : latest_start x ≡ s.clock → first (latest_first v) (filter (is_at_latest_start s) tasks) ≡ Some x
-    late_found same = first_only (latest_first v)
+    pub late_found : latest_start x ≡ s.clock → first (starts_before v) (filter (is_at_latest_start s) tasks) ≡ Some x
+    late_found same = first_only (starts_before v)
         (λ a b. (strict_by (λ e. e.latest) v).one_way (entry_of a) (entry_of b))
         (λ a b c. (strict_by (λ e. e.latest) v).onward (entry_of a) (entry_of b) (entry_of c))
         (filter (is_at_latest_start s) tasks) x
         (filter_member (is_at_latest_start s) tasks x top.0 (eq-eqb (latest_start x) s.clock same))
         (λ y m. top.1 y (member_filter (is_at_latest_start s) tasks y m).0)
-        (apart_or_one (is_latest_before v) (strict_by (λ e. e.latest) v) (filter (is_at_latest_start s) tasks)
+        (apart_or_one (is_start_before v) (strict_by (λ e. e.latest) v) (filter (is_at_latest_start s) tasks)
         (own_some (is_at_latest_start s) tasks own))
 
   -- the first of those at their latest start, by the latest start of the first of all
-  none_by : (o : Option Task) → first (latest_first v) tasks ≡ o → option_map latest_start o ≡ None
-      → first (latest_first v) (filter (is_at_latest_start s) tasks) ≡ None
+  none_by : (o : Option Task) → first (starts_before v) tasks ≡ o → option_map latest_start o ≡ None
+      → first (starts_before v) (filter (is_at_latest_start s) tasks) ≡ None
   none_by None at none = late_none at
   none_by (Some x) at none = none_is_some (sym none)
 
-  pub start_none : option_map latest_start (first (latest_first v) tasks) ≡ None
-      → first (latest_first v) (filter (is_at_latest_start s) tasks) ≡ None
-  start_none none = none_by (first (latest_first v) tasks) refl none
+  pub start_none : option_map latest_start (first (starts_before v) tasks) ≡ None
+      → first (starts_before v) (filter (is_at_latest_start s) tasks) ≡ None
+  start_none none = none_by (first (starts_before v) tasks) refl none
 
   module _ (start : ℕ) where
-    later_by : (o : Option Task) → first (latest_first v) tasks ≡ o → option_map latest_start o ≡ Some start
-        → (start ≡ s.clock → ⊥) → first (latest_first v) (filter (is_at_latest_start s) tasks) ≡ None
+    later_by : (o : Option Task) → first (starts_before v) tasks ≡ o → option_map latest_start o ≡ Some start
+        → (start ≡ s.clock → ⊥) → first (starts_before v) (filter (is_at_latest_start s) tasks) ≡ None
     later_by None at is other = none_is_some is
     later_by (Some x) at is other = late_later x at (λ same. other (sym (some_same _ _ is) ∙ same))
 
-    pub start_later : option_map latest_start (first (latest_first v) tasks) ≡ Some start → (start ≡ s.clock → ⊥)
-        → first (latest_first v) (filter (is_at_latest_start s) tasks) ≡ None
-    start_later is other = later_by (first (latest_first v) tasks) refl is other
+    pub start_later : option_map latest_start (first (starts_before v) tasks) ≡ Some start → (start ≡ s.clock → ⊥)
+        → first (starts_before v) (filter (is_at_latest_start s) tasks) ≡ None
+    start_later is other = later_by (first (starts_before v) tasks) refl is other
 
-    found_by : (o : Option Task) → first (latest_first v) tasks ≡ o → option_map latest_start o ≡ Some start
-        → start ≡ s.clock → first (latest_first v) (filter (is_at_latest_start s) tasks) ≡ o
+    found_by : (o : Option Task) → first (starts_before v) tasks ≡ o → option_map latest_start o ≡ Some start
+        → start ≡ s.clock → first (starts_before v) (filter (is_at_latest_start s) tasks) ≡ o
     found_by None at is same = none_is_some is
     found_by (Some x) at is same = late_found x at (some_same _ _ is ∙ same)
 
-    pub start_found : option_map latest_start (first (latest_first v) tasks) ≡ Some start → start ≡ s.clock
-        → first (latest_first v) (filter (is_at_latest_start s) tasks) ≡ first (latest_first v) tasks
-    start_found is same = found_by (first (latest_first v) tasks) refl is same
+    pub start_found : option_map latest_start (first (starts_before v) tasks) ≡ Some start → start ≡ s.clock
+        → first (starts_before v) (filter (is_at_latest_start s) tasks) ≡ first (starts_before v) tasks
+    start_found is same = found_by (first (starts_before v) tasks) refl is same
 
 -- ---- silent ticks
 
@@ -275,11 +275,11 @@ fold_least clock a n (t ∷ ts) low each =
       at_least false = let it = here in omega (arith, low, it)
 
 -- the ticks before the first latest start
-before_latest : (v : Version) (clock a : ℕ) (ts : List Task) (x : Task) → first (latest_first v) ts ≡ Some x
+before_latest : (v : Version) (clock a : ℕ) (ts : List Task) (x : Task) → first (starts_before v) ts ≡ Some x
     → Each (λ t. clock < latest_start t) ts
     → min a (latest_start x - clock) ≡ fold (until_latest clock) a ts
 before_latest v clock a ts x at early =
-    let top = first_is (latest_first v) (λ c d. (strict_by (λ e. e.latest) v).one_way (entry_of c) (entry_of d))
+    let top = first_is (starts_before v) (λ c d. (strict_by (λ e. e.latest) v).one_way (entry_of c) (entry_of d))
     (λ c d e. (strict_by (λ e. e.latest) v).onward (entry_of c) (entry_of d) (entry_of e)) ts x at in
     let most : fold (until_latest clock) a ts ≤ a = fold_most clock a ts in
     let first_one : fold (until_latest clock) a ts ≤ latest_start x - clock =
@@ -288,7 +288,7 @@ before_latest v clock a ts x at early =
     fold_least clock a (min a (latest_start x - clock)) ts (omega arith)
     (λ t m. let low : latest_start x ≤ latest_start t = not_less t m top.1 in omega (arith, low)) in
     omega (arith, most, first_one, least) where
-      not_less : (t : Task) → IsMember t ts → Each (λ y. latest_first v y x ≡ true → ⊥) ts
+      not_less : (t : Task) → IsMember t ts → Each (λ y. starts_before v y x ≡ true → ⊥) ts
           → latest_start x ≤ latest_start t
       not_less t m best = elim (cases_lt (latest_start t) (latest_start x)) [
         | inl less ↦ absurd (best t m (key_less (λ e. e.latest) v (entry_of t) (entry_of x) less))
@@ -296,10 +296,10 @@ before_latest v clock a ts x at early =
       ]
 
 pub before_start : (v : Version) (clock a : ℕ) (ts : List Task) (start : ℕ)
-    → option_map latest_start (first (latest_first v) ts) ≡ Some start → Each (λ t. clock < latest_start t) ts
+    → option_map latest_start (first (starts_before v) ts) ≡ Some start → Each (λ t. clock < latest_start t) ts
     → min a (start - clock) ≡ fold (until_latest clock) a ts
-before_start v clock a ts start is early = by_first (first (latest_first v) ts) refl is where
-  by_first : (o : Option Task) → first (latest_first v) ts ≡ o → option_map latest_start o ≡ Some start
+before_start v clock a ts start is early = by_first (first (starts_before v) ts) refl is where
+  by_first : (o : Option Task) → first (starts_before v) ts ≡ o → option_map latest_start o ≡ Some start
       → min a (start - clock) ≡ fold (until_latest clock) a ts
   by_first None at is = none_is_some is
   by_first (Some x) at is =
@@ -307,7 +307,7 @@ before_start v clock a ts start is early = by_first (first (latest_first v) ts) 
 
 -- and where none waits
 pub before_none : (v : Version) (clock a : ℕ) (ts : List Task)
-    → option_map latest_start (first (latest_first v) ts) ≡ None → a ≡ fold (until_latest clock) a ts
+    → option_map latest_start (first (starts_before v) ts) ≡ None → a ≡ fold (until_latest clock) a ts
 before_none v clock a [] none = refl
 before_none v clock a (t ∷ ts) none = none_is_some (sym none)
 

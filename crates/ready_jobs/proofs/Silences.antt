@@ -13,7 +13,7 @@ use Rattle.dover_model.specs.State.{latest_start}
 use Rattle.trace_reading.specs.Leading.{IsSilent}
 use Rattle.dover_model.specs.Step.{Move, Waits, Ticks, view, open_step, with_role}
 use Rattle.dover_model.specs.Jumps.{ticked_by, later_by}
-use Rattle.plain_step.specs.Dues.{still_ticks}
+use Rattle.scanned_step.specs.Dues.{still_ticks}
 use Rattle.trace_reading.proofs.ReadyParts.{change}
 use Rattle.ready_jobs.specs.Reordered.{IsReordered}
 use Rattle.ready_jobs.specs.Parts.{Parted, HaveRoles, AreSound, ready_of, state_of}

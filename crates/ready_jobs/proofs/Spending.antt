@@ -17,9 +17,9 @@ use Rattle.dover_model.proofs.Kept.{open_kept}
 use Rattle.dover_model.proofs.Potential.{one_if, weight, weight_in, standing, stands}
 use Rattle.dover_model.proofs.Roles.{is_over_role}
 use Rattle.dover_model.proofs.WaitingMoves.{exits_scale, waiting_count, open_leaves}
-use Rattle.plain_step.specs.Moves.{state_at}
+use Rattle.scanned_step.specs.Moves.{state_at}
 use Rattle.queued_jobs.specs.Costs.{cost_of}
-use Rattle.queued_jobs.specs.Spending.{exits, waits_among, HasSpentFor, AreFew}
+use Rattle.queued_jobs.specs.Spending.{exits, waits_among, HasSpentFor, CostsAtMost}
 use Rattle.queued_jobs.proofs.Spending.{so_far_for, spent_few, spent_on, spent_more, open_falls, open_pays}
 use Rattle.trace_reading.specs.Leading.{Idles}
 use Rattle.ready_jobs.specs.Reordered.{IsReordered}
@@ -39,12 +39,12 @@ pub paid_none : (c : Course) (now : ℕ) → HasPaid c now now
 paid_none c now = λ d enough. omega arith
 
 -- the comparisons for all jobs released so far are few
-pub paid_jobs : (c : Course) (start now : ℕ) → HasPaid c start now → AreFew c.jobs start now
+pub paid_jobs : (c : Course) (start now : ℕ) → HasPaid c start now → CostsAtMost c.jobs start now
 paid_jobs c start now paid = spent_few c.jobs (state_at c.clock c.ready) start now paid
 
 pub paid_few : (c : Course) (J : Instance) (z : State) → Follows c J z → (start now : ℕ) → HasPaid c start now
-    → AreFew (length J.jobs) start now
-paid_few c J z follows start now paid = subst (λ n. AreFew n start now) (follows_count c J z follows)
+    → CostsAtMost (length J.jobs) start now
+paid_few c J z follows start now paid = subst (λ n. CostsAtMost n start now) (follows_count c J z follows)
     (paid_jobs c start now paid)
 
 -- ---- jobs that are over

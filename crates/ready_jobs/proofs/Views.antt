@@ -6,7 +6,7 @@ use Rattle.std.proofs.lemmas.Bool.{cases_eq}
 use Rattle.dover_model.specs.declared.events.Version.{Version}
 use Rattle.dover_model.specs.declared.events.Entry.{Entry}
 use Rattle.dover_model.specs.declared.events.Task.{Task}
-use Rattle.dover_model.specs.Entries.{IsStrictOrder, entry_of, is_due_before, is_latest_before}
+use Rattle.dover_model.specs.Entries.{IsStrictOrder, entry_of, is_due_before, is_start_before}
 use Rattle.dover_model.specs.Instance.{Rules}
 use Rattle.dover_model.specs.State.{State, is_coming, is_fresh, is_waiting, is_held, is_running, is_privileged, left}
 use Rattle.dover_model.specs.State.{least, demand_up_to, room}
@@ -80,7 +80,7 @@ module _ (version : Version) (clock : ℕ) (xs ys : List Task) (same : IsReorder
     first_still (is_due_before version) (strict_by (λ e. e.deadline) version) (filter is_waiting xs)
         (filter is_waiting ys)
         (filtered xs ys same is_waiting) (own_some is_waiting xs known.own),
-    first_still (is_latest_before version) (strict_by (λ e. e.latest) version)
+    first_still (is_start_before version) (strict_by (λ e. e.latest) version)
         (filter (is_at_latest_start here) (filter is_waiting xs))
         (filter (is_at_latest_start here) (filter is_waiting ys))
         (filtered (filter is_waiting xs) (filter is_waiting ys) (filtered xs ys same is_waiting)

@@ -12,7 +12,7 @@ use Rattle.dover_model.specs.Instance.{Rules, Instance, IsValid}
 use Rattle.dover_model.specs.State.{State, is_coming, is_done, value_sum}
 use Rattle.dover_model.specs.Step.{Move, Prints, open_step}
 use Rattle.dover_model.specs.Run.{Step}
-use Rattle.dover_model.specs.Settled.{is_late}
+use Rattle.dover_model.specs.Settled.{waits_for_mark}
 use Rattle.dover_model.specs.Sound.{Each, Keeps}
 use Rattle.dover_model.specs.WholeRun.{IsBefore}
 use Rattle.trace_reading.specs.Leading.{Idles, IsSilent, GoesOn, WaitsUntil}
@@ -85,8 +85,8 @@ pub record Reached (c : Course) (J : Instance) (z : State) (mark : ℕ) (m : Mov
   pub idles : (xs : List Step) × Idles J.rules z xs state
   pub goes_on : GoesOn state
   pub comes : open_step J.rules state ≡ m
-  pub stops : IsSilent m → (is_late m && nat_le mark c.clock) ≡ true
-  pub waits : (is_late m && nat_le mark c.clock) ≡ true
+  pub stops : IsSilent m → (waits_for_mark m && nat_le mark c.clock) ≡ true
+  pub waits : (waits_for_mark m && nat_le mark c.clock) ≡ true
       → WaitsUntil J.rules mark z (record { clock = mark; tasks = state.tasks })
 
 -- what comes before the mark: this printed step, or nothing

@@ -9,7 +9,7 @@ use Rattle.dover_model.specs.Limits.{most_value, most_total, most_jobs}
 use Rattle.dover_model.specs.Entries.{entry_of}
 use Rattle.dover_model.specs.State.{State, latest_start, value_sum}
 use Rattle.dover_model.specs.Sound.{Each, EachTwo}
-use Rattle.privileged_queue.specs.Stack.{Stack}
+use Rattle.held_queue.specs.Stack.{Stack}
 use Rattle.ready_jobs.specs.Pools.{Pooled}
 
 -- no two jobs have one number

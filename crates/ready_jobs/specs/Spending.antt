@@ -1,6 +1,6 @@
 -- What the comparisons of a course are for.
 use Rattle.std.specs.Prelude.{ℕ}
-use Rattle.plain_step.specs.Moves.{state_at}
+use Rattle.scanned_step.specs.Moves.{state_at}
 use Rattle.queued_jobs.specs.Spending.{HasSpentFor}
 use Rattle.ready_jobs.specs.Course.{Course}
 

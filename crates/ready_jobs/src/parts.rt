@@ -10,13 +10,13 @@ ghost use Rattle.dover_model.specs.Entries.{entry_of, room_of};
 ghost use Rattle.dover_model.specs.Fraction.{IsRatio};
 ghost use Rattle.dover_model.specs.State.{is_fresh, is_coming, is_waiting, running, held, waiting, privileged, room};
 ghost use Rattle.dover_model.specs.State.{left, latest_start, value_sum};
-ghost use Rattle.dover_model.specs.Orders.{due_first, latest_first, first};
+ghost use Rattle.dover_model.specs.Orders.{due_first, starts_before, first};
 ghost use Rattle.dover_model.specs.Step.{open_step, view, with_role, is_at_latest_start, resumed, runs, displaced};
 ghost use Rattle.dover_model.specs.Jumps.{ticked_by};
 ghost use Rattle.dover_model.specs.Sound.{Each};
-ghost use Rattle.plain_step.specs.Moves.{step_of};
-ghost use Rattle.plain_step.specs.Cases.{decision_of, arrival_of, alarm_of};
-ghost use Rattle.plain_step.specs.Dues.{still_ticks, until_done};
+ghost use Rattle.scanned_step.specs.Moves.{step_of};
+ghost use Rattle.scanned_step.specs.Cases.{decision_of, arrival_of, alarm_of};
+ghost use Rattle.scanned_step.specs.Dues.{still_ticks, until_done};
 ghost use Rattle.ready_jobs.specs.Changed.{made_wait};
 ghost use Rattle.ready_jobs.specs.Reordered.{IsReordered};
 ghost use Rattle.ready_jobs.specs.Parts.{Parted, AreSound, HaveRoles, ready_of, state_of, head_of, tail_of};
@@ -24,8 +24,8 @@ ghost use Rattle.ready_jobs.specs.Parts.{Parted, AreSound, HaveRoles, ready_of, 
 use crate::pool::Pool;
 use crate::taking::{displace, in_role};
 use dover_model::{Entry, Event, Job, Memory, Ratio, Role, Task, Version};
-use plain_step::Move;
-use privileged_queue::Privileged;
+use scanned_step::Move;
+use held_queue::Privileged;
 use root_compare::heavy;
 use std::alloc::Global;
 use std::marker::Model;
@@ -237,8 +237,8 @@ impl Parts {
     #[inline(always)]
     pub fn first_late(&self) -> Option<Task>
         requires { AreSound self.now }
-        ensures is { (x : Task) → result ≡ Some x → first (latest_first self.now.version) self.now.waiting ≡ Some x }
-        ensures seen { result ≡ first (latest_first self.now.version)
+        ensures is { (x : Task) → result ≡ Some x → first (starts_before self.now.version) self.now.waiting ≡ Some x }
+        ensures seen { result ≡ first (starts_before self.now.version)
             (filter (is_at_latest_start (state_of self.now)) (waiting (state_of self.now))) }
     {
         let start = self.pool.first_start()?;
@@ -521,7 +521,7 @@ impl Parts {
     /// The first waiting job by latest start is taken out, and gone.
     pub fn abandon<L: Ledger>(&mut self, steps: &mut Steps<L>)
         requires sound { AreSound self.old }
-        ensures rest { (x : Task) → first (latest_first self.old.version) self.old.waiting ≡ Some x →
+        ensures rest { (x : Task) → first (starts_before self.old.version) self.old.waiting ≡ Some x →
             IsReordered self.old.waiting (x ∷ self.new.waiting) }
         ensures kept { self.new ≡ record self.old { waiting = self.new.waiting } }
         ensures count { (d : ℕ) → length self.old.waiting + 1 < 2 ^ d → steps.new ≤ steps.old + 6 * d }
@@ -573,7 +573,7 @@ impl Parts {
     pub fn take<L: Ledger>(&mut self, r: &Task, x: &Task, steps: &mut Steps<L>)
         requires sound { AreSound self.old }
         requires running { self.old.running ≡ Some r.now }
-        requires late { first (latest_first self.old.version) self.old.waiting ≡ Some x.now }
+        requires late { first (starts_before self.old.version) self.old.waiting ≡ Some x.now }
         ensures rest { IsReordered (map made_wait (r.now ∷ self.old.held) ++ self.old.waiting)
             (x.now ∷ self.new.waiting) }
         ensures kept { self.new ≡ record self.old {

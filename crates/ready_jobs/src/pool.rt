@@ -7,7 +7,7 @@ ghost use Rattle.dover_model.specs.declared.events.Version.{Version};
 ghost use Rattle.dover_model.specs.declared.events.Task.{Task};
 ghost use Rattle.dover_model.specs.Entries.{entry_of};
 ghost use Rattle.dover_model.specs.State.{latest_start};
-ghost use Rattle.dover_model.specs.Orders.{due_first, latest_first, first};
+ghost use Rattle.dover_model.specs.Orders.{due_first, starts_before, first};
 ghost use Rattle.dover_model.specs.Sound.{Each};
 ghost use Rattle.place_heap.specs.Orders.{due_item, latest_item};
 ghost use Rattle.ready_jobs.specs.Reordered.{IsReordered};
@@ -253,7 +253,7 @@ impl Pool {
     pub fn first_latest(&self) -> Option<Task>
         requires own { HaveOwnNumbers self.now.tasks }
         requires modest { AreModest self.now.tasks }
-        ensures { result ≡ first (latest_first self.now.version) self.now.tasks }
+        ensures { result ≡ first (starts_before self.now.version) self.now.tasks }
     {
         let item = self.by_latest.first()?;
         job_at(&self.slots, item.place())
@@ -264,7 +264,7 @@ impl Pool {
     pub fn first_start(&self) -> Option<u64>
         requires own { HaveOwnNumbers self.now.tasks }
         requires modest { AreModest self.now.tasks }
-        ensures { result ≡ option_map latest_start (first (latest_first self.now.version) self.now.tasks) }
+        ensures { result ≡ option_map latest_start (first (starts_before self.now.version) self.now.tasks) }
     {
         let item = self.by_latest.first()?;
         Some(item.key())
@@ -295,7 +295,7 @@ impl Pool {
     pub fn take_latest<L: Ledger>(&mut self, steps: &mut Steps<L>) -> Option<Task>
         requires own { HaveOwnNumbers self.old.tasks }
         requires modest { AreModest self.old.tasks }
-        ensures was { result ≡ first (latest_first self.old.version) self.old.tasks }
+        ensures was { result ≡ first (starts_before self.old.version) self.old.tasks }
         ensures rest { (t : Task) → result ≡ Some t → IsReordered self.old.tasks (t ∷ self.new.tasks) }
         ensures none { result ≡ None → self.new.tasks ≡ self.old.tasks }
         ensures kept { self.new ≡ record self.old { tasks = self.new.tasks } }

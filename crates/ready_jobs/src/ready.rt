@@ -6,8 +6,8 @@ ghost use Rattle.dover_model.specs.Instance.{Instance};
 ghost use Rattle.dover_model.specs.State.{State};
 ghost use Rattle.dover_model.specs.Step.{Prints, open_step, after};
 ghost use Rattle.dover_model.specs.Run.{is_end};
-ghost use Rattle.dover_model.specs.Settled.{is_late};
-ghost use Rattle.plain_step.specs.Moves.{step_of, state_at};
+ghost use Rattle.dover_model.specs.Settled.{waits_for_mark};
+ghost use Rattle.scanned_step.specs.Moves.{step_of, state_at};
 ghost use Rattle.trace_reading.specs.Leading.{PrintsNext};
 ghost use Rattle.ready_jobs.specs.Reordered.{IsReordered};
 ghost use Rattle.ready_jobs.specs.Course.{Course, Follows, IsCourse, Reached, Settled, new_course, fresh_job};
@@ -17,7 +17,7 @@ ghost use Rattle.ready_jobs.specs.Spending.{HasPaid};
 use crate::parts::Parts;
 use dover_model::jobs::LAST_TICK;
 use dover_model::{Event, Job, Memory, Ratio, Version};
-use plain_step::Move;
+use scanned_step::Move;
 use std::alloc::Global;
 use std::marker::Model;
 use std::sync::ledger::Ledger;
@@ -256,7 +256,7 @@ impl Ready {
 // The event is a decision at a latest start, at the mark or after it.
 #[inline(always)]
 fn is_late_at(event: &Event, mark: u64, clock: u64) -> bool
-    ensures { result ≡ (is_late (Prints event.now) && nat_le mark clock) }
+    ensures { result ≡ (waits_for_mark (Prints event.now) && nat_le mark clock) }
 {
     match event {
         Event::Take { .. } => mark <= clock,

@@ -5,7 +5,7 @@ ghost use Rattle.dover_model.specs.declared.events.Task.{Task};
 ghost use Rattle.dover_model.specs.Instance.{Rules};
 ghost use Rattle.dover_model.specs.Limits.{last_tick};
 ghost use Rattle.dover_model.specs.Step.{open_step, with_role, Waits, Ticks};
-ghost use Rattle.plain_step.specs.Moves.{step_of};
+ghost use Rattle.scanned_step.specs.Moves.{step_of};
 ghost use Rattle.trace_reading.specs.Leading.{IsSilent};
 ghost use Rattle.ready_jobs.specs.Reordered.{IsReordered};
 ghost use Rattle.ready_jobs.specs.Parts.{Parted, ready_of, state_of};
@@ -13,7 +13,7 @@ ghost use Rattle.ready_jobs.specs.Following.{IsPart, SettlesFrom};
 
 use crate::parts::Parts;
 use dover_model::Ratio;
-use plain_step::Move;
+use scanned_step::Move;
 use std::sync::ledger::Ledger;
 use step_count::Steps;
 

@@ -8,7 +8,7 @@ ghost use Rattle.ready_jobs.specs.Changed.{made_wait};
 
 use crate::pool::Pool;
 use dover_model::{Role, Task};
-use privileged_queue::Privileged;
+use held_queue::Privileged;
 use std::sync::ledger::Ledger;
 use step_count::Steps;
 

@@ -12,7 +12,7 @@ use Rattle.dover_model.specs.Limits.{last_tick}
 use Rattle.dover_model.specs.Instance.{Instance, IsValid, with_jobs}
 use Rattle.dover_model.specs.State.{State, opening, with_later, is_coming}
 use Rattle.dover_model.specs.Step.{Prints, open_step}
-use Rattle.dover_model.specs.Settled.{is_late, settled}
+use Rattle.dover_model.specs.Settled.{waits_for_mark, settled}
 use Rattle.dover_model.specs.WholeRun.{IsBefore}
 use Rattle.dover_model.specs.Paths.{HasPrinted}
 use Rattle.dover_model.specs.Sound.{IsMember, Each, FitsRole, IsSound, Keeps}
@@ -22,10 +22,10 @@ use Rattle.dover_model.proofs.Releasing.{coming_task, barrier_releases}
 use Rattle.dover_model.proofs.Roles.{passes}
 use Rattle.dover_model.proofs.Settling.{at_barrier}
 use Rattle.dover_model.proofs.Tests.{never}
-use Rattle.plain_step.specs.Moves.{state_at}
+use Rattle.scanned_step.specs.Moves.{state_at}
 use Rattle.trace_reading.specs.Reading.{with_fresh}
 use Rattle.trace_reading.proofs.Released.{after_release}
-use Rattle.dover_core.specs.declared.horizon.Horizon.TheVariants.{Mark}
+use Rattle.dover_server.specs.declared.horizon.Horizon.TheVariants.{Mark}
 use Rattle.ready_jobs.specs.Reordered.{IsReordered}
 use Rattle.ready_jobs.specs.Course.{Course, Follows, IsCourse, fresh_job, with_release}
 use Rattle.ready_jobs.proofs.Courses.{follows_count, follows_order}
@@ -81,7 +81,7 @@ module _ (s : ReadyServer) (J : Instance) (j : JobFacts) (rests : Rests s J (Mar
   comes : open_step K.rules (with_later there (coming_task n j ∷ [])) ≡ Prints (Release n j)
   comes = barrier_releases J there keeps_there K.rules
       (λ t m. not_ahead there keeps_there.sound t m (rests.follows.released t m))
-      (at_barrier (is_late (open_step J.rules there)) j.release j.release rests.given.1.barrier).0 n j refl
+      (at_barrier (waits_for_mark (open_step J.rules there)) j.release j.release rests.given.1.barrier).0 n j refl
 
   -- once it is printed, the job is fresh
   printed_release : HasPrinted K j.release (with_fresh there n j) (settled J j.release ++ Release n j ∷ [])
@@ -90,7 +90,7 @@ module _ (s : ReadyServer) (J : Instance) (j : JobFacts) (rests : Rests s J (Mar
       (printed_event K j.release (with_later there (coming_task n j ∷ [])) (settled J j.release) (Release n j) coming
       before comes) where
         before : IsBefore K.rules j.release (with_later there (coming_task n j ∷ []))
-        before = ap (λ m. is_late m && nat_le j.release j.release) comes
+        before = ap (λ m. waits_for_mark m && nat_le j.release j.release) comes
 
   -- its number is the next one of the server
   pub next_number : s.ready.jobs ≡ n

@@ -21,12 +21,12 @@ use Rattle.dover_model.proofs.Kept.{open_kept}
 use Rattle.dover_model.proofs.Paths.{printed_more, printed_settled, printed_then_run, printed_begins, path_low}
 use Rattle.dover_model.proofs.Prefixes.{step_open, open_goes_on}
 use Rattle.dover_model.proofs.Tests.{never}
-use Rattle.plain_step.specs.Moves.{state_at}
+use Rattle.scanned_step.specs.Moves.{state_at}
 use Rattle.trace_reading.specs.Leading.{Settles, Idles, GoesOn, WaitsUntil, PrintsNext}
 use Rattle.trace_reading.proofs.Leading.{idles_settles, settles_silent}
-use Rattle.dover_core.specs.declared.horizon.Horizon.{Horizon}
-use Rattle.dover_core.specs.declared.horizon.Horizon.TheVariants.{Mark, End}
-use Rattle.dover_core.specs.Service.{MayFollow}
+use Rattle.dover_server.specs.declared.horizon.Horizon.{Horizon}
+use Rattle.dover_server.specs.declared.horizon.Horizon.TheVariants.{Mark, End}
+use Rattle.dover_server.specs.Service.{MayFollow}
 use Rattle.dispatcher.specs.Dispatch.{due_by}
 use Rattle.ready_jobs.specs.Course.{Course, Follows, Comes, Settled}
 use Rattle.ready_jobs.specs.Spending.{HasPaid}

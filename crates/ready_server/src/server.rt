@@ -4,14 +4,14 @@ ghost use Rattle.dover_model.specs.declared.events.Event.{Event};
 ghost use Rattle.dover_model.specs.Instance.{Instance};
 ghost use Rattle.dover_model.specs.Run.{is_end};
 ghost use Rattle.dover_model.specs.Step.{Prints};
-ghost use Rattle.dover_core.specs.declared.horizon.Horizon.{Horizon};
-ghost use Rattle.dover_core.specs.declared.horizon.Horizon.TheVariants.{Mark, End};
-ghost use Rattle.dover_core.specs.Service.{MayFollow};
+ghost use Rattle.dover_server.specs.declared.horizon.Horizon.{Horizon};
+ghost use Rattle.dover_server.specs.declared.horizon.Horizon.TheVariants.{Mark, End};
+ghost use Rattle.dover_server.specs.Service.{MayFollow};
 ghost use Rattle.dispatcher.specs.Dispatch.{due_by, Gives};
 ghost use Rattle.ready_server.specs.Serving.{Serves, Rests, HasPlace, HasPaid};
 
 use dispatcher::Dispatcher;
-use dover_core::Horizon;
+use dover_server::Horizon;
 use dover_model::{Event, Job, Memory, Ratio, Version};
 use ready_jobs::Ready;
 use std::alloc::Global;

@@ -1,7 +1,7 @@
 -- What is told of a text, and what is put of it.
 use Rattle.std.proofs.Common.{◌≡◌, ℕ, List, [], refl, sym, ap, ◌∙◌, subst, Option, Bool, true}
 use Rattle.std.proofs.Common.{Ok, Err, inl, inr, ◌⊎◌, false}
-use Rattle.charge_ledger.specs.Rows.{IsRunOf}
+use Rattle.intervals.specs.Rows.{IsRunOf}
 use Rattle.dover_model.specs.Fraction.{Fraction}
 use Rattle.dover_model.specs.Session.{instance_of}
 use Rattle.dover_model.specs.Verdict as model

@@ -5,7 +5,7 @@ use Rattle.dover_port.specs.declared.status.Status.{Status}
 use Rattle.dover_port.specs.declared.status.Status.TheVariants.{Done, No, Refused, ReadFault, WriteFault, Memory, Usage}
 use Rattle.dialogue.specs.Talk.{IsSteady, Talks, CanEnd}
 use Rattle.dialogue.specs.Talk as talk
-use Rattle.judge_word.specs.Record.{IsTrace, IsAnswer}
+use Rattle.judge_word.specs.Record.{IsTrace, IsNeitherRefusedNorUsage}
 use Rattle.judge_word.proofs.Talking.{steady, reads_told, ended_told, refused_told, unread_told, front_told, over_cut}
 use Rattle.dialogue.proofs.Quiet.{nothing_put}
 use Rattle.report_word.specs.declared.form.Form.{Form}
@@ -49,7 +49,7 @@ module _ (form : Form) where
         by_status Usage made = absurd made
 
   -- and so are its statuses
-  pub answers : (status : Status) → CanEnd (report_talk form) status → IsAnswer status
+  pub answers : (status : Status) → CanEnd (report_talk form) status → IsNeitherRefusedNorUsage status
   answers Done it = tt
   answers No it = tt
   answers Refused it = absurd it.answer.0

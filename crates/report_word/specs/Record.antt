@@ -9,7 +9,7 @@ use Rattle.dover_port.specs.Moves.{Move, ins, outs, has_ended, EachRead, IsPrope
 use Rattle.dover_port.specs.declared.status.Status.{Status}
 use Rattle.dover_port.specs.declared.status.Status.TheVariants.{Done, No, ReadFault, WriteFault, Memory}
 use Rattle.judge_word.specs.Line.{verdict_text}
-use Rattle.judge_word.specs.Record.{MayRead, IsTrace, IsOver, IsRefused, IsUnread}
+use Rattle.judge_word.specs.Record.{MayRead, IsTrace, IsOver, IsWrongOrShort, IsUnread}
 use Rattle.run_view.specs.Chrome.{chrome}
 use Rattle.run_view.specs.Why.{why}
 use Rattle.run_view.specs.Timeline.{timeline}
@@ -52,7 +52,7 @@ pub record IsOutOfMemory (moves : List Move) : Type 0 where
 -- by the status
 abbrev pub Ends : Form → Status → List Move → Type 0
 Ends form Done moves = IsDone form moves
-Ends form No moves = IsRefused moves
+Ends form No moves = IsWrongOrShort moves
 Ends form ReadFault moves = IsUnread moves
 Ends form WriteFault moves = IsUnwritten form moves
 Ends form Memory moves = IsOutOfMemory moves

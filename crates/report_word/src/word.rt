@@ -1,11 +1,11 @@
 //! The word as a whole.
 ghost use Rattle.std.specs.Prelude.{◌≡◌, [], List, ℕ, Bool, IfOk};
-ghost use Rattle.charge_ledger.specs.Rows.{IsRunOf};
+ghost use Rattle.intervals.specs.Rows.{IsRunOf};
 ghost use Rattle.dover_model.specs.Instance.{Instance};
 ghost use Rattle.dover_port.specs.Causes.{Causes, StopsWith};
 ghost use Rattle.dover_port.specs.Moves.{Since};
 ghost use Rattle.dialogue.specs.Turns.{AnswersBy, StopCause, StopsOn};
-ghost use Rattle.judge_word.specs.Record.{IsAnswer, IsFrugal};
+ghost use Rattle.judge_word.specs.Record.{IsNeitherRefusedNorUsage, IsFrugal};
 ghost use Rattle.report_word.specs.Record.{Reports, report_text};
 ghost use Rattle.report_word.specs.Talking.{IsClosed, TellsNoTrace, Puts, report_talk};
 ghost use Rattle.report_word.specs.declared.form.Form as forms;
@@ -119,7 +119,7 @@ pub fn report_word<P: Port, L: Ledger>(
 ) -> Status
     ensures reports { Since (P.moves port.old) (P.moves port.new) (Reports form result) }
     ensures count { Since (P.moves port.old) (P.moves port.new) (IsFrugal steps.old steps.new) }
-    ensures answer { IsAnswer result }
+    ensures answer { IsNeitherRefusedNorUsage result }
     ensures causes { Causes result
         (P.read_faults port.old) (P.read_faults port.new) (P.write_faults port.old) (P.write_faults port.new) }
     ensures stops { StopsWith result (P.calls port.old) (P.calls port.new) }

@@ -3,7 +3,7 @@ use Rattle.std.proofs.Common.{◌≡◌, ◌<◌, ◌≤◌, ◌^◌, ◌-◌, �
 use Rattle.dover_model.specs.Feed.{account}
 use Rattle.dover_model.proofs.Tests.{never}
 use Rattle.dispatcher.specs.Serving.{Serves, HasRoom, HasPaid}
-use Rattle.dover_core.specs.Service.{Service}
+use Rattle.dover_server.specs.Service.{Service}
 use Rattle.event_feed.proofs.GoingOn.{open_bytes}
 use Rattle.lane_server.proofs.Adding.{open_stands}
 use Rattle.serve_word.specs.Talking as serve

@@ -8,7 +8,7 @@ use Rattle.dover_model.specs.Feed.{account, is_open}
 use Rattle.dover_model.specs.WholeRun.{Begins}
 use Rattle.dover_model.proofs.Tests.{never}
 use Rattle.dover_port.specs.Moves.{Move, ins, outs, has_ended, EachRead, IsProperPrefix}
-use Rattle.dover_port.specs.Causes.{IsAnswer}
+use Rattle.dover_port.specs.Causes.{IsNeitherNoNorUsage}
 use Rattle.dover_port.specs.declared.status.Status.{Status}
 use Rattle.dover_port.specs.declared.status.Status.TheVariants.{Done, No, Refused, ReadFault, WriteFault, Memory, Usage}
 use Rattle.dialogue.specs.Talk as talk
@@ -220,7 +220,7 @@ module _ (a : Asked) where
   no_answer (Taken h ts) x ended text it = it
   no_answer (reading.Refused at) x ended text it = it
 
-  pub answers : (status : Status) → CanEnd (resume_talk a) status → IsAnswer status
+  pub answers : (status : Status) → CanEnd (resume_talk a) status → IsNeitherNoNorUsage status
   answers Done it = tt
   answers No it = no_answer (reading_of (lines_of it.bytes)) it.bytes it.ended it.text it.answer
   answers Refused it = tt

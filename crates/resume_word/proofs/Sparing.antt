@@ -1,12 +1,13 @@
 -- The comparisons of a snapshot that is read, by its jobs.
 use Rattle.std.proofs.Common.{ℕ, ◌*◌, ◌≤◌, length, arith, Option, Some, None}
-use Rattle.queued_jobs.specs.Spending.{waits_so_far, AreFew}
+use Rattle.queued_jobs.specs.Spending.{waits_so_far, CostsAtMost}
 use Rattle.queued_jobs.proofs.Spending.{among_most, all_few}
 use Rattle.snapshot.specs.Spending.{jobs_kept, HasSpentOn}
 use Rattle.snapshot.specs.declared.resuming.Resuming.{Resuming}
 
 -- what is kept was served for few
-pub few_kept : (o : Option Resuming) (start now n : ℕ) → HasSpentOn o start now → jobs_kept o ≤ n → AreFew n start now
+pub few_kept : (o : Option Resuming) (start now n : ℕ) → HasSpentOn o start now → jobs_kept o ≤ n
+    → CostsAtMost n start now
 few_kept None start now n none few = λ d enough. omega (arith, none)
 few_kept (Some r) start now n spent few = λ d enough.
     let most : waits_so_far r.server.state ≤ 4 * length r.server.state.tasks =

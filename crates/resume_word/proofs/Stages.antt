@@ -11,7 +11,7 @@ use Rattle.dover_model.specs.Lines.{in_lines, lines_of, whole_lines, rest_of}
 use Rattle.dover_model.specs.Feed.{account, is_open}
 use Rattle.dover_model.specs.WholeRun.{Begins}
 use Rattle.dover_model.proofs.Tests.{never}
-use Rattle.dover_core.specs.Service.{Service}
+use Rattle.dover_server.specs.Service.{Service}
 use Rattle.dover_port.specs.Moves.{Move}
 use Rattle.dover_port.specs.declared.status.Status.{Status}
 use Rattle.dover_port.specs.declared.status.Status.TheVariants as status
@@ -20,7 +20,7 @@ use Rattle.dialogue.specs.Turns.{joined, Standing, Takes, TakesBy, GivesBy, Answ
 use Rattle.dialogue.specs.declared.talker.Stop.{Stop}
 use Rattle.dialogue.specs.declared.talker.Stop.TheVariants.{NoMemory, Unwritten}
 use Rattle.dispatcher.specs.Serving.{Serves, HasRoom, HasPaid}
-use Rattle.queued_jobs.specs.Spending.{AreFew}
+use Rattle.queued_jobs.specs.Spending.{CostsAtMost}
 use Rattle.snapshot.specs.Snapshot.{MayPause, Head, snapshot}
 use Rattle.snapshot.specs.Reading.{Reading, Begun, Going, Taken, Refused, reading_of}
 use Rattle.snapshot.specs.Kept.{IsReady, IsWhole, IsGoing}

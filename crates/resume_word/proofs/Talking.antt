@@ -14,7 +14,7 @@ use Rattle.dover_model.proofs.Tests.{never}
 use Rattle.line_text.proofs.Lengths.{AreNotTooLong}
 use Rattle.dover_port.specs.declared.status.Status.{Status}
 use Rattle.dialogue.specs.Talk.{IsSteady}
-use Rattle.queued_jobs.specs.Spending.{AreFew}
+use Rattle.queued_jobs.specs.Spending.{CostsAtMost}
 use Rattle.queued_jobs.proofs.Spending.{few_more}
 use Rattle.event_feed.specs.Answers.{admitted_in}
 use Rattle.event_feed.proofs.Admitting.{admitted_front}
@@ -195,10 +195,11 @@ module _ (x : List ℕ) (h : Head) (ts : List Task) (is : reading_of (lines_of x
       (parts_are x h ts is) (λ F may text. each F may (sym text))
 
   -- the comparisons
-  pub past_costs : (start now : ℕ) → AreFew (admitted_in (account (feed_of h ts ++ behind_snapshot h ts x))) start now
+  pub past_costs : (start now : ℕ)
+      → CostsAtMost (admitted_in (account (feed_of h ts ++ behind_snapshot h ts x))) start now
       → IsFrugalFor start now x
-  past_costs start now few = inr (past (λ F H. AreFew (admitted_in (account (F ++ H))) start now)
-      (λ F may text. subst (λ n. AreFew n start now)
+  past_costs start now few = inr (past (λ F H. CostsAtMost (admitted_in (account (F ++ H))) start now)
+      (λ F may text. subst (λ n. CostsAtMost n start now)
       (admitted_same (feed_of h ts) F (behind_snapshot h ts x) (feed_may x h ts is) may text) few))
 
 -- more bytes cost no less
@@ -206,7 +207,7 @@ pub frugal_more : (start now : ℕ) (x y : List ℕ) → IsFrugalFor start now x
 frugal_more start now x y (inl (part, begins, few)) =
     inl (part, (begins.0 ++ y, ap (λ l. l ++ y) begins.1 ∙ append_assoc part begins.0 y), few)
 frugal_more start now x y (inr it) = inr (behind (snapshot it.feed) it.feed it.may refl (x ++ y) (it.more ++ y)
-    (λ F H. AreFew (admitted_in (account (F ++ H))) start now)
+    (λ F H. CostsAtMost (admitted_in (account (F ++ H))) start now)
     (ap (λ l. l ++ y) it.read ∙ append_assoc (snapshot it.feed) it.more y)
     (λ F may text. few_more (admitted_in (account (F ++ it.more))) (admitted_in (account (F ++ (it.more ++ y))))
     start now

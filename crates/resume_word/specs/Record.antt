@@ -3,7 +3,7 @@ use Rattle.std.specs.Prelude.{◌≡◌, Bool, ℕ, suc, List, [], ◌∷◌, �
 use Rattle.dover_model.specs.Lines.{in_lines, lines_of, whole_lines, line_of}
 use Rattle.dover_model.specs.WholeRun.{Begins}
 use Rattle.dover_model.specs.Feed.{account}
-use Rattle.queued_jobs.specs.Spending.{AreFew}
+use Rattle.queued_jobs.specs.Spending.{CostsAtMost}
 use Rattle.event_feed.specs.Answers.{admitted_in}
 use Rattle.dover_port.specs.Moves.{Move, ins, outs, has_ended, EachRead, IsProperPrefix}
 use Rattle.dover_port.specs.declared.status.Status.{Status}
@@ -124,8 +124,8 @@ pub record Resumes (at_end : AtEnd) (status : Status) (moves : List Move) : Type
 -- of a front of them; behind it, for those that were admitted in the feed and what follows.
 abbrev pub IsFrugalFor : (before after : ℕ) → List ℕ → Type 0
 IsFrugalFor before after x =
-    ((front : List ℕ) × Begins front x × AreFew (jobs_read (reading_of (lines_of front))) before after)
-    ⊎ Behind x (λ F H. AreFew (admitted_in (account (F ++ H))) before after)
+    ((front : List ℕ) × Begins front x × CostsAtMost (jobs_read (reading_of (lines_of front))) before after)
+    ⊎ Behind x (λ F H. CostsAtMost (admitted_in (account (F ++ H))) before after)
 
 -- so they are for the bytes of a call
 abbrev pub IsFrugal : (before after : ℕ) → List Move → Type 0

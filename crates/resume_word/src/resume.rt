@@ -1,5 +1,5 @@
 //! Reading a snapshot, and what follows it.
-ghost use Rattle.dover_port.specs.Causes.{Causes, IsAnswer, StopsWith};
+ghost use Rattle.dover_port.specs.Causes.{Causes, IsNeitherNoNorUsage, StopsWith};
 ghost use Rattle.dover_port.specs.Moves.{Since};
 ghost use Rattle.resume_word.specs.Record.{Resumes, IsFrugal};
 
@@ -24,7 +24,7 @@ pub fn resume_word<P: Port, L: Ledger>(
 ) -> Status
     ensures resumes { Since (P.moves port.old) (P.moves port.new) (Resumes at_end result) }
     ensures count { Since (P.moves port.old) (P.moves port.new) (IsFrugal steps.old steps.new) }
-    ensures answer { IsAnswer result }
+    ensures answer { IsNeitherNoNorUsage result }
     ensures causes { Causes result (P.read_faults port.old) (P.read_faults port.new) (P.write_faults port.old)
         (P.write_faults port.new) }
     ensures stops { StopsWith result (P.calls port.old) (P.calls port.new) }

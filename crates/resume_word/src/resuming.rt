@@ -7,7 +7,7 @@ ghost use Rattle.resume_word.specs.Talking.{Asked, resume_talk, IsReady, IsGivin
 
 use crate::opening::{Opening, open_piece};
 use dialogue::{Stop, Talker};
-use dover_core::Server;
+use dover_server::Server;
 use dover_model::Memory;
 use dover_port::{Output, Port, Status};
 use line_output::put_line;

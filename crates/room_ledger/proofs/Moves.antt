@@ -24,7 +24,7 @@ use Rattle.dover_model.proofs.Roles.{one_number, passes, is_held_role, is_runnin
 use Rattle.dover_model.proofs.Roles.{numbered_map}
 use Rattle.dover_model.proofs.Tests.{never}
 use Rattle.dover_model.proofs.Ticking.{Quiet}
-use Rattle.privileged_queue.specs.Stack.{Stack, top_of, popped, IsByDeadline}
+use Rattle.held_queue.specs.Stack.{Stack, top_of, popped, IsByDeadline}
 use Rattle.queued_jobs.specs.Queued.{held_entries}
 use Rattle.queued_jobs.specs.Roles.{with_role_at, all_displaced}
 use Rattle.queued_jobs.proofs.Displacing.{displaced_same}

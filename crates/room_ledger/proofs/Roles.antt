@@ -15,7 +15,7 @@ use Rattle.dover_model.specs.Step.{with_role, displaced, ticked}
 use Rattle.dover_model.proofs.Members.{on_map, member_filter, by_bool}
 use Rattle.dover_model.proofs.Roles.{is_held_role, is_running_role, numbers_above}
 use Rattle.dover_model.proofs.Tests.{never, none_is_some}
-use Rattle.privileged_queue.specs.Stack.{top_of}
+use Rattle.held_queue.specs.Stack.{top_of}
 use Rattle.queued_jobs.specs.Queued.{by_deadline, held_entries}
 use Rattle.queued_jobs.specs.Roles.{Changes, with_role_at, all_displaced}
 use Rattle.queued_jobs.proofs.Changing.{Splits, changes_at, is_map, splits}

@@ -17,7 +17,7 @@ use Rattle.dover_model.specs.Step.{with_role, displaced, ticked, after, Ticks}
 use Rattle.dover_model.proofs.Members.{on_map, map_member}
 use Rattle.dover_model.proofs.Roles.{one_number, is_running_role, passes}
 use Rattle.dover_model.proofs.Tests.{never}
-use Rattle.privileged_queue.specs.Stack.{Stack, IsByDeadline}
+use Rattle.held_queue.specs.Stack.{Stack, IsByDeadline}
 use Rattle.queued_jobs.specs.Queued.{held_entries}
 use Rattle.queued_jobs.specs.Roles.{with_role_at, all_displaced}
 use Rattle.queued_jobs.proofs.Inverting.{task_at}

@@ -23,8 +23,8 @@ use Rattle.dover_model.proofs.Ending.{run_is_whole}
 use Rattle.dover_model.proofs.Kept.{step_deed, step_kept, opening_keeps, come_coming}
 use Rattle.dover_model.proofs.Members.{sum_map}
 use Rattle.dover_model.proofs.Roles.{passes}
-use Rattle.charge_ledger.specs.Rows.{IsRunOf}
-use Rattle.charge_ledger.proofs.Charges.{item_next}
+use Rattle.intervals.specs.Rows.{IsRunOf}
+use Rattle.intervals.proofs.Charges.{item_next}
 use Rattle.queued_jobs.specs.Queued.{by_deadline}
 use Rattle.room_ledger.specs.Pages.{Page, nobody, empty, with_event, room_on, IsReadable}
 use Rattle.room_ledger.specs.Rooms.{room_of_step}

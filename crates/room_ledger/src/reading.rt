@@ -1,6 +1,6 @@
 //! What a fresh job's work is tested against, step by step.
 ghost use Rattle.std.specs.Prelude.{◌≡◌, ◌≤◌, IfOk, length, map};
-ghost use Rattle.charge_ledger.specs.Rows.{IsRunOf};
+ghost use Rattle.intervals.specs.Rows.{IsRunOf};
 ghost use Rattle.dover_model.specs.declared.events.Role.TheVariants.{Coming};
 ghost use Rattle.dover_model.specs.Entries.{entry_of};
 ghost use Rattle.dover_model.specs.Instance.{Instance};

@@ -2,13 +2,13 @@
 ghost use Rattle.std.specs.Prelude.{◌≡◌, ◌≤◌, ◌<◌, ◌∷◌, OnOk, IfOk, None, slice_index_or};
 ghost use Rattle.dover_model.specs.Entries.{room_of};
 ghost use Rattle.dover_model.specs.Sound.{Each};
-ghost use Rattle.privileged_queue.specs.Stack.{top_of};
+ghost use Rattle.held_queue.specs.Stack.{top_of};
 ghost use Rattle.room_ledger.specs.Pages.{Page, nobody, ran, turn_at, stopped, started, with_hold, without, with_event};
 ghost use Rattle.room_ledger.specs.Pages.{empty, room_on, CanStop, CanPreempt, CanWeigh, IsReadable};
 ghost use Rattle.room_ledger.specs.Pages as pages;
 
 use dover_model::{Entry, Event, Memory};
-use privileged_queue::Privileged;
+use held_queue::Privileged;
 use std::alloc::Global;
 use std::marker::Model;
 

@@ -12,8 +12,8 @@ use Rattle.dover_model.specs.Fraction.{Fraction}
 use Rattle.dover_model.specs.JobFacts.{JobFacts}
 use Rattle.dover_model.specs.Instance.{Instance}
 use Rattle.dover_model.specs.Run.{completed_value}
-use Rattle.charge_ledger.specs.Rows.{IsRunOf, rows_of, weights}
-use Rattle.charge_ledger.specs.declared.interval.Interval.{Interval}
+use Rattle.intervals.specs.Rows.{IsRunOf, rows_of, weights}
+use Rattle.intervals.specs.declared.interval.Interval.{Interval}
 use Rattle.dover_report.specs.Counts.{counts_of, jobs_released}
 use Rattle.dover_report.specs.declared.counts.Counts.{Counts}
 use Rattle.dover_report.proofs.Counting.{jobs_are}

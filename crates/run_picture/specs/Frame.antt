@@ -3,7 +3,7 @@ use Rattle.std.specs.Prelude.{ℕ, zero, suc, ◌+◌, ◌-◌, ◌*◌, ◌/◌
 use Rattle.std.specs.Prelude.{nat_le, nat_lt, if◌then◌else◌, codes}
 use Rattle.std.specs.List.{flat_map}
 use Rattle.dover_report.specs.declared.counts.Counts.{Counts}
-use Rattle.charge_ledger.specs.declared.interval.Interval.{Interval}
+use Rattle.intervals.specs.declared.interval.Interval.{Interval}
 use Rattle.run_picture.specs.Templates.{Text, filled, room}
 use Rattle.run_picture.specs.Plot.{x_at, meets, has, pixels, bar}
 use Rattle.run_picture.specs.Legends.{styles, legend}

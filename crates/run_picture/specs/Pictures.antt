@@ -9,8 +9,8 @@ use Rattle.dover_model.specs.JobFacts.{JobFacts}
 use Rattle.dover_model.specs.Instance.{Instance}
 use Rattle.dover_model.specs.Limits.{last_tick}
 use Rattle.dover_model.specs.Run.{printed, completed_value, last_deadline}
-use Rattle.charge_ledger.specs.Rows.{rows_of}
-use Rattle.charge_ledger.specs.declared.interval.Interval.{Interval}
+use Rattle.intervals.specs.Rows.{rows_of}
+use Rattle.intervals.specs.declared.interval.Interval.{Interval}
 use Rattle.dover_report.specs.Counts.{counts_of}
 use Rattle.dover_report.specs.declared.counts.Counts.{Counts}
 use Rattle.run_view.specs.Moments.{moments}

@@ -1,6 +1,6 @@
 //! The picture as a whole.
 ghost use Rattle.std.specs.Prelude.{◌≡◌, ◌≤◌, ◌++◌, ◌^◌, [], length, OnOk, IfOk, Option};
-ghost use Rattle.charge_ledger.specs.Rows.{IsRunOf};
+ghost use Rattle.intervals.specs.Rows.{IsRunOf};
 ghost use Rattle.dover_model.specs.Instance.{Instance};
 ghost use Rattle.dover_model.specs.Limits.{last_tick};
 ghost use Rattle.dover_model.specs.Run as runs;
@@ -19,7 +19,7 @@ use crate::seen::{Seen, told_by};
 use crate::strip::{Bars, put_numbers, put_pieces};
 use crate::template::put;
 use crate::windows::put_windows;
-use charge_ledger::{Charge, Interval, weights};
+use intervals::{Charge, Interval, weights};
 use dover_model::jobs::LAST_TICK;
 use dover_model::{Event, Job, Memory, Piece, Ratio};
 use dover_report::{Counts, count, released};

@@ -6,7 +6,7 @@ ghost use Rattle.run_picture.specs.Frame as frame;
 use crate::legends::{put_legend, put_styles};
 use crate::plot::{Window, has, meets, pixels, put_bar, x_at};
 use crate::template::{put, room};
-use charge_ledger::Interval;
+use intervals::Interval;
 use dover_model::Memory;
 use dover_report::Counts;
 

@@ -13,7 +13,7 @@ use Rattle.dover_report.specs.declared.counts.Counts.{Counts}
 use Rattle.dover_report.specs.Rows.{ending_in}
 use Rattle.dover_report.specs.declared.endings.Ending.{Ending}
 use Rattle.dover_report.proofs.Counting.{jobs_are}
-use Rattle.charge_ledger.specs.Rows.{IsRunOf}
+use Rattle.intervals.specs.Rows.{IsRunOf}
 use Rattle.run_view.specs.Pieces.{numbered}
 use Rattle.run_view.specs.Stays.{stays_of}
 use Rattle.run_view.proofs.Joining.{whole}

@@ -11,7 +11,7 @@ use Rattle.dover_model.specs.Fraction.{Fraction}
 use Rattle.dover_model.specs.State.{privileged, value_sum}
 use Rattle.dover_model.specs.Step.{Move, Prints, Waits, Ticks}
 use Rattle.dover_model.specs.Run.{Step, event_of, printed_of, run}
-use Rattle.charge_ledger.specs.Rows.{IsRunOf, weight_of, weights}
+use Rattle.intervals.specs.Rows.{IsRunOf, weight_of, weights}
 use Rattle.room_ledger.specs.Rooms.{room_before, room_of_step, rooms}
 
 -- a step beside what is weighed, and those behind it

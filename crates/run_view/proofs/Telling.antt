@@ -11,7 +11,7 @@ use Rattle.dover_model.specs.Instance.{Instance}
 use Rattle.dover_model.specs.Fraction.{Fraction}
 use Rattle.dover_report.specs.Counts.{jobs_released}
 use Rattle.dover_report.proofs.Counting.{jobs_are}
-use Rattle.charge_ledger.specs.Rows.{IsRunOf, weights}
+use Rattle.intervals.specs.Rows.{IsRunOf, weights}
 use Rattle.room_ledger.specs.Rooms.{rooms}
 use Rattle.run_view.specs.Why.{told, on_after, starts_first, work_of, story_from, asked, unknown, answer, why}
 use Rattle.run_view.specs.declared.story.Weighed.{Weighed}

@@ -9,7 +9,7 @@ use Rattle.dover_model.specs.Instance.{Instance}
 use Rattle.dover_model.specs.Fraction.{Fraction}
 use Rattle.dover_report.specs.Counts.{jobs_released, value_lost}
 use Rattle.dover_report.proofs.Counting.{jobs_are}
-use Rattle.charge_ledger.specs.Rows.{IsRunOf, weights}
+use Rattle.intervals.specs.Rows.{IsRunOf, weights}
 use Rattle.run_view.specs.Chrome.{value_done, events_of, events_from, chrome, opening}
 use Rattle.run_view.proofs.Stepping.{zip_next, zip_end}
 

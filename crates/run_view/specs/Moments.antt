@@ -4,7 +4,7 @@ use Rattle.std.specs.List.{zip}
 use Rattle.dover_model.specs.declared.events.Event.{Event}
 use Rattle.dover_model.specs.Instance.{Instance}
 use Rattle.dover_model.specs.Run.{printed}
-use Rattle.charge_ledger.specs.Rows.{weights}
+use Rattle.intervals.specs.Rows.{weights}
 
 -- each printed step, with what the running and the held jobs are worth before it
 abbrev pub moments : Instance → List (Event × ℕ)

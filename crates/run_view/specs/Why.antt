@@ -10,7 +10,7 @@ use Rattle.dover_model.specs.JobFacts.{JobFacts}
 use Rattle.dover_model.specs.Instance.{Instance}
 use Rattle.dover_model.specs.Orders.{is_heavy}
 use Rattle.dover_model.specs.Run.{printed}
-use Rattle.charge_ledger.specs.Rows.{weights}
+use Rattle.intervals.specs.Rows.{weights}
 use Rattle.room_ledger.specs.Rooms.{rooms}
 use Rattle.run_view.specs.declared.story.Weighed.{Weighed}
 use Rattle.run_view.specs.Pieces.{Text, numbered}

@@ -1,7 +1,7 @@
 //! What happened to one job.
 ghost use Rattle.std.specs.Prelude.{◌≡◌, ◌≤◌, ◌++◌, ◌∷◌, ◌*◌, Bool, List, false, length, drop, codes, OnOk, IfOk};
 ghost use Rattle.std.specs.List.{AllByRecursion};
-ghost use Rattle.charge_ledger.specs.Rows.{IsRunOf};
+ghost use Rattle.intervals.specs.Rows.{IsRunOf};
 ghost use Rattle.dover_model.specs.declared.events.Event.{Event};
 ghost use Rattle.dover_model.specs.Instance.{Instance};
 ghost use Rattle.dover_model.specs.Limits.{most_total, most_value};
@@ -9,7 +9,7 @@ ghost use Rattle.run_view.specs.Why as story;
 
 use crate::pieces::{put, put_job, put_wide};
 use crate::threshold::least_heavy;
-use charge_ledger::weights;
+use intervals::weights;
 use dover_model::{Event, Job, Memory, Ratio};
 use dover_report::released;
 use room_ledger::rooms;

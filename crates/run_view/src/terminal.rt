@@ -1,6 +1,6 @@
 //! A picture of a run for a terminal.
 ghost use Rattle.std.specs.Prelude.{◌≡◌, ◌≤◌, ◌<◌, ◌*◌, ◌^◌, ◌++◌, ◌∷◌, [], List, length, OnOk, IfOk, if◌then◌else◌};
-ghost use Rattle.charge_ledger.specs.Rows.{IsRunOf};
+ghost use Rattle.intervals.specs.Rows.{IsRunOf};
 ghost use Rattle.dover_model.specs.declared.events.Event.{Event};
 ghost use Rattle.dover_model.specs.Instance.{Instance};
 ghost use Rattle.dover_model.specs.Run as model;
@@ -13,7 +13,7 @@ use crate::pieces::{put, put_wide};
 use crate::signs::{put_blanks, put_signs};
 use crate::stays::{Stay, Stays};
 use crate::window::Window;
-use charge_ledger::Charge;
+use intervals::Charge;
 use dover_model::{Event, Job, Memory, Ratio};
 use dover_report::endings::{Ending, endings};
 use dover_report::{Counts, count, released};

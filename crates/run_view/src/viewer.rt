@@ -1,14 +1,14 @@
 //! A run as events for a viewer of traces.
 ghost use Rattle.std.specs.Prelude.{◌≡◌, ◌≤◌, ◌++◌, ◌+◌, ◌*◌, length, OnOk, IfOk, codes};
 ghost use Rattle.std.specs.List.{zip};
-ghost use Rattle.charge_ledger.specs.Rows.{IsRunOf};
+ghost use Rattle.intervals.specs.Rows.{IsRunOf};
 ghost use Rattle.dover_model.specs.Instance.{Instance};
 ghost use Rattle.dover_model.specs.Limits.{most_value};
 ghost use Rattle.dover_report.specs.Counts as counts;
 ghost use Rattle.run_view.specs.Chrome as events;
 
 use crate::pieces::{put, put_job};
-use charge_ledger::weights;
+use intervals::weights;
 use dover_model::{Event, Job, Memory, Ratio};
 use dover_report::{released, value_of};
 use std::alloc::Global;

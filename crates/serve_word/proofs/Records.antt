@@ -5,7 +5,7 @@ use Rattle.dover_model.specs.Feed.{is_open, account}
 use Rattle.dover_model.specs.Due.{due, closed}
 use Rattle.dover_model.specs.WholeRun.{Begins}
 use Rattle.dover_port.specs.Moves.{Move, ins, outs, has_ended, EachReadFrom, IsProperPrefix}
-use Rattle.dover_port.specs.Causes.{IsAnswer}
+use Rattle.dover_port.specs.Causes.{IsNeitherNoNorUsage}
 use Rattle.dover_port.specs.declared.status.Status.{Status}
 use Rattle.dover_port.specs.declared.status.Status.TheVariants.{Done, No, Refused, ReadFault, WriteFault, Memory, Usage}
 use Rattle.dialogue.specs.Talk as talk
@@ -101,7 +101,7 @@ module _ (at_end : AtEnd) (c : Call) where
       record { reads = reads_from moves [] [] it.reads; ends = ends_from status moves it.ends }
 
   -- the statuses
-  pub answers : (status : Status) → CanEnd (serve_talk at_end c) status → IsAnswer status
+  pub answers : (status : Status) → CanEnd (serve_talk at_end c) status → IsNeitherNoNorUsage status
   answers Done it = tt
   answers No it = absurd it.answer
   answers Refused it = tt

@@ -5,7 +5,7 @@ use Rattle.dover_model.specs.State.{State}
 use Rattle.dover_model.specs.Lines.{lines_of, is_too_long}
 use Rattle.dover_model.specs.Feed.{account}
 use Rattle.dover_model.proofs.Barriers.{settled_at_barrier}
-use Rattle.dover_core.specs.Service.{Service, Stands}
+use Rattle.dover_server.specs.Service.{Service, Stands}
 use Rattle.queued_jobs.specs.Spending.{HasSpent}
 use Rattle.dispatcher.specs.Dispatch.{due_by}
 use Rattle.dispatcher.specs.Serving.{Serves, HasRoom, HasPaid as HasSpentBy}

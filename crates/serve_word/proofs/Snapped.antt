@@ -22,12 +22,12 @@ use Rattle.dover_model.proofs.Paths.{printed_begins}
 use Rattle.dover_model.proofs.Tests.{never}
 use Rattle.dover_port.specs.Moves.{Move, Passes, CutsShort, PutsThrough}
 use Rattle.dover_port.proofs.Through.{passes_then, passes_then_cut, cut_longer}
-use Rattle.dover_core.specs.declared.horizon.Horizon.TheVariants.{Mark, End}
-use Rattle.dover_core.specs.Leading.{GivesNext, ReachesBarrier}
-use Rattle.dover_core.specs.Counting.{IsCounted}
-use Rattle.dover_core.specs.Service.{Service, Stands, list_of, MayFollow}
-use Rattle.queued_jobs.specs.Spending.{AreFew}
-use Rattle.dover_core.proofs.Spending.{spent_all, spent_next}
+use Rattle.dover_server.specs.declared.horizon.Horizon.TheVariants.{Mark, End}
+use Rattle.dover_server.specs.Leading.{GivesNext, ReachesBarrier}
+use Rattle.dover_server.specs.Counting.{IsCounted}
+use Rattle.dover_server.specs.Service.{Service, Stands, list_of, MayFollow}
+use Rattle.queued_jobs.specs.Spending.{CostsAtMost}
+use Rattle.dover_server.proofs.Spending.{spent_all, spent_next}
 use Rattle.event_feed.specs.Answers.{admitted_in}
 use Rattle.event_feed.proofs.Admitting.{admitted_by}
 use Rattle.dispatcher.specs.Serving.{Serves, HasRoom, HasPaid as HasSpentBy}
@@ -213,8 +213,8 @@ module _ (feed : Feed Service) (lines : ℕ) (x : List ℕ) (it : CanPause feed 
       pub pause_paid : (start before after : ℕ)
           → ((d : ℕ) → length v.state.tasks + 1 < 2 ^ d
           → IsCounted (Mark feed.lane.mark) v.rules v.state u.state d before after)
-          → HasPaid HasSpentBy feed.lane.server start before → AreFew (admitted_in (account x)) start after
-      pause_paid start before after counted paid = subst (λ n. AreFew n start after) (sym (ap admitted_by fit.1))
+          → HasPaid HasSpentBy feed.lane.server start before → CostsAtMost (admitted_in (account x)) start after
+      pause_paid start before after counted paid = subst (λ n. CostsAtMost n start after) (sym (ap admitted_by fit.1))
           (spent_all (instance_of S) u start after jobs
           (spent_next (Mark feed.lane.mark) v u start before after served.stands.valid served.stands.sound same counted
           (subst (λ o. HasPaid HasSpentBy o start before) there paid)))

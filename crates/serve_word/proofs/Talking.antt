@@ -25,8 +25,8 @@ use Rattle.dialogue.specs.Turns.{joined, AnswersBy}
 use Rattle.dialogue.specs.declared.talker.Stop.{Stop}
 use Rattle.dialogue.specs.declared.talker.Stop.TheVariants.{NoMemory, Unwritten}
 use Rattle.dover_port.specs.Moves.{Move}
-use Rattle.dover_core.specs.Service.{Service}
-use Rattle.queued_jobs.specs.Spending.{AreFew}
+use Rattle.dover_server.specs.Service.{Service}
+use Rattle.queued_jobs.specs.Spending.{CostsAtMost}
 use Rattle.dispatcher.specs.Serving as server
 use Rattle.lane_server.specs.Lane.{IsDeclared, IsFaulty, Serving, Having}
 use Rattle.lane_server.specs.Spending.{HasPaid}
@@ -175,7 +175,7 @@ module _ (c : Call) where
 
   -- more bytes have no fewer jobs
   pub costs_more : (steps : ℕ) (x y : List ℕ) → Costs c steps x → Costs c steps (x ++ y)
-  costs_more steps x y it = subst (λ z. AreFew (admitted_in (account z)) c.start steps) (sym (joins x y))
+  costs_more steps x y it = subst (λ z. CostsAtMost (admitted_in (account z)) c.start steps) (sym (joins x y))
       (few_more (admitted_in (account (c.feed ++ x))) (admitted_in (account ((c.feed ++ x) ++ y))) c.start steps
       (admitted_front (c.feed ++ x) y) it)
 

@@ -6,7 +6,7 @@ use Rattle.dover_port.specs.Moves.{Move, ins, outs, has_ended, EachRead, IsPrope
 use Rattle.dover_port.specs.declared.status.Status.{Status}
 use Rattle.dover_port.specs.declared.status.Status.TheVariants.{Done, Refused, ReadFault, WriteFault, Memory}
 use Rattle.snapshot.specs.Snapshot.{MayPause, head_line, state_line, snapshot}
-use Rattle.dover_core.specs.Service.{Service}
+use Rattle.dover_server.specs.Service.{Service}
 use Rattle.dispatcher.specs.Serving as server
 use Rattle.lane_server.specs.Lane.{IsFaulty}
 use Rattle.serve_word.specs.Feeding.{FeedRests}

@@ -3,7 +3,7 @@ use Rattle.std.specs.Prelude.{◌≡◌, ℕ, List, true, false, ◌⊎◌}
 use Rattle.dover_model.specs.Feed.{is_open, is_ended, account}
 use Rattle.dover_model.specs.Due.{due, closed}
 use Rattle.dover_model.specs.WholeRun.{Begins}
-use Rattle.queued_jobs.specs.Spending.{AreFew}
+use Rattle.queued_jobs.specs.Spending.{CostsAtMost}
 use Rattle.event_feed.specs.Answers.{admitted_in}
 use Rattle.dover_port.specs.Moves.{Move, ins, outs, has_ended, EachRead, IsProperPrefix}
 use Rattle.dover_port.specs.declared.status.Status.{Status}
@@ -58,4 +58,4 @@ pub record Serves (status : Status) (moves : List Move) : Type 0 where
 -- The n jobs that were admitted, none before a ratio line, cost at most 80 * (n + 1) * d comparisons, where n + 1 has
 -- at most d binary digits.
 abbrev pub IsFrugal : (before after : ℕ) → List Move → Type 0
-IsFrugal before after moves = AreFew (admitted_in (account (ins moves))) before after
+IsFrugal before after moves = CostsAtMost (admitted_in (account (ins moves))) before after

@@ -4,7 +4,7 @@ use Rattle.dover_model.specs.Due.{due}
 use Rattle.dover_model.specs.Feed.{account, is_open}
 use Rattle.dover_port.specs.declared.status.Status.{Status}
 use Rattle.dover_port.specs.declared.status.Status.TheVariants.{Done, Refused}
-use Rattle.queued_jobs.specs.Spending.{AreFew}
+use Rattle.queued_jobs.specs.Spending.{CostsAtMost}
 use Rattle.event_feed.specs.Answers.{admitted_in}
 use Rattle.dialogue.specs.Talk.{Talk}
 use Rattle.lane_server.specs.Lane.{IsDeclared, Serving, Having}
@@ -43,7 +43,7 @@ serve_talk at_end c = record {
 
 -- the comparisons so far are few for the jobs that were admitted
 abbrev pub Costs : Call → ℕ → List ℕ → Type 0
-Costs c steps x = AreFew (admitted_in (account (c.feed ++ x))) c.start steps
+Costs c steps x = CostsAtMost (admitted_in (account (c.feed ++ x))) c.start steps
 
 -- The feed stands for these bytes behind those of the call, and these parts are left to give, each a line.
 pub record IsGiving {D : Type 0} (serves : Serving D) (has_room : Having D) (pays : D → (start now : ℕ) → Type 0)

@@ -9,7 +9,7 @@ ghost use Rattle.line_text.specs.Cutting.{IsWholeLine};
 ghost use Rattle.serve_word.specs.Feeding.{FeedRests, Hands};
 
 use dispatcher::Dispatcher;
-use dover_core::Server;
+use dover_server::Server;
 use dover_model::Memory;
 use event_feed::Intake;
 use lane_server::Lane;

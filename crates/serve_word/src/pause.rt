@@ -4,7 +4,7 @@ ghost use Rattle.dover_model.specs.Feed.{account};
 ghost use Rattle.dover_model.specs.Lines.{in_lines};
 ghost use Rattle.dover_model.specs.Limits.{most_lines, last_tick};
 ghost use Rattle.dispatcher.specs.Serving as kept;
-ghost use Rattle.queued_jobs.specs.Spending.{AreFew};
+ghost use Rattle.queued_jobs.specs.Spending.{CostsAtMost};
 ghost use Rattle.event_feed.specs.Answers.{admitted_in};
 ghost use Rattle.dover_port.specs.Causes.{HasCause, StopsAtFailure};
 ghost use Rattle.dover_port.specs.Moves.{PutsThrough};
@@ -14,7 +14,7 @@ ghost use Rattle.serve_word.specs.Feeding.{FeedRests};
 ghost use Rattle.serve_word.specs.Pausing.{CanPause, lines_in};
 
 use crate::feed::Feed;
-use dover_core::{Horizon, Server};
+use dover_server::{Horizon, Server};
 use dover_port::{Failed, Output, Port};
 use line_output::put_line;
 use line_text::LineBuf;
@@ -111,7 +111,7 @@ pub(crate) fn pause<P: Port, L: Ledger>(
         PutsThrough (P.moves port.old) (P.moves port.new) result out.old out.new (snapshot x) }
     ensures paid { (x : List ℕ) (start : ℕ) → CanPause feed lines x
         → HasPaid kept.HasPaid feed.lane.server start steps.old →
-        AreFew (admitted_in (account x)) start steps.new }
+        CostsAtMost (admitted_in (account x)) start steps.new }
     ensures cause { HasCause (P.write_faults port.old) (P.write_faults port.new) (P.read_faults port.old)
         (P.read_faults port.new) result }
     ensures stops { StopsAtFailure (P.calls port.old) (P.calls port.new) result }

@@ -7,7 +7,7 @@ ghost use Rattle.serve_word.specs.declared.at_end.AtEnd.TheVariants.{Pause};
 use crate::pause::{is_paused, pause};
 use crate::serving::Serving;
 use dialogue::{Stop, Talker};
-use dover_core::Server;
+use dover_server::Server;
 use dover_model::Memory;
 use dover_port::{Output, Port, Status};
 use line_text::BackLine;

@@ -10,7 +10,7 @@ ghost use Rattle.serve_word.specs.declared.at_end.AtEnd.TheVariants.{Refuse};
 use crate::feed::Feed;
 use dialogue::{Stop, Talker};
 use dispatcher::Dispatcher;
-use dover_core::Server;
+use dover_server::Server;
 use dover_model::Memory;
 use dover_port::{Output, Port, Status};
 use event_feed::Intake;

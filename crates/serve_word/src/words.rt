@@ -1,5 +1,5 @@
 //! The words.
-ghost use Rattle.dover_port.specs.Causes.{Causes, IsAnswer, StopsWith};
+ghost use Rattle.dover_port.specs.Causes.{Causes, IsNeitherNoNorUsage, StopsWith};
 ghost use Rattle.dover_port.specs.Moves.{Since};
 ghost use Rattle.serve_word.specs.Pausing.{Pauses};
 ghost use Rattle.serve_word.specs.Record.{Serves, IsFrugal};
@@ -20,7 +20,7 @@ use step_count::Steps;
 pub fn serve_word<P: Port, L: Ledger>(alloc: Global, port: &mut P, steps: &mut Steps<L>) -> Status
     ensures serves { Since (P.moves port.old) (P.moves port.new) (Serves result) }
     ensures count { Since (P.moves port.old) (P.moves port.new) (IsFrugal steps.old steps.new) }
-    ensures answer { IsAnswer result }
+    ensures answer { IsNeitherNoNorUsage result }
     ensures causes { Causes result (P.read_faults port.old) (P.read_faults port.new) (P.write_faults port.old)
         (P.write_faults port.new) }
     ensures stops { StopsWith result (P.calls port.old) (P.calls port.new) }
@@ -37,7 +37,7 @@ pub fn serve_word<P: Port, L: Ledger>(alloc: Global, port: &mut P, steps: &mut S
 pub fn pause_word<P: Port, L: Ledger>(alloc: Global, port: &mut P, steps: &mut Steps<L>) -> Status
     ensures pauses { Since (P.moves port.old) (P.moves port.new) (Pauses result) }
     ensures count { Since (P.moves port.old) (P.moves port.new) (IsFrugal steps.old steps.new) }
-    ensures answer { IsAnswer result }
+    ensures answer { IsNeitherNoNorUsage result }
     ensures causes { Causes result (P.read_faults port.old) (P.read_faults port.new) (P.write_faults port.old)
         (P.write_faults port.new) }
     ensures stops { StopsWith result (P.calls port.old) (P.calls port.new) }

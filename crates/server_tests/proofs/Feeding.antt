@@ -13,10 +13,10 @@ use Rattle.dover_model.specs.Instance.{Instance, IsValid, with_jobs}
 use Rattle.dover_model.specs.State.{opening}
 use Rattle.dover_model.proofs.Kept.{opening_keeps}
 use Rattle.dover_model.proofs.Valid.{valid_front}
-use Rattle.dover_core.specs.declared.horizon.Horizon.{Horizon}
-use Rattle.dover_core.specs.declared.horizon.Horizon.TheVariants.{Mark, End}
-use Rattle.dover_core.specs.Service.{Service, MayFollow}
-use Rattle.dover_core.proofs.Feeding.{rest_follow}
+use Rattle.dover_server.specs.declared.horizon.Horizon.{Horizon}
+use Rattle.dover_server.specs.declared.horizon.Horizon.TheVariants.{Mark, End}
+use Rattle.dover_server.specs.Service.{Service, MayFollow}
+use Rattle.dover_server.proofs.Feeding.{rest_follow}
 use Rattle.dispatcher.specs.Dispatch.{no_jobs, Gives}
 
 -- the jobs from this one on

@@ -1,4 +1,4 @@
-//! Tests of the server and of what stands on it: `dover_core`, `ready_server`, `lane_server` and `snapshot`.
+//! Tests of the server and of what stands on it: `dover_server`, `ready_server`, `lane_server` and `snapshot`.
 #![tactic(auto)]
 
 #[cfg(test)]

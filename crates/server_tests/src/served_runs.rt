@@ -5,11 +5,11 @@ ghost use Rattle.dover_model.specs.JobFacts.{is_job};
 ghost use Rattle.dover_model.specs.Instance.{IsValid, with_jobs, is_within_ratio, is_in_order};
 ghost use Rattle.dover_model.specs.declared.events.Version.{Version};
 ghost use Rattle.dover_model.specs.declared.events.Version.TheVariants.{One};
-ghost use Rattle.dover_core.specs.declared.horizon.Horizon.TheVariants.{Mark, End};
-ghost use Rattle.dover_core.specs.Service.{list_of, MayFollow};
-ghost use Rattle.dover_core.specs.Leading.{is_ready_after};
+ghost use Rattle.dover_server.specs.declared.horizon.Horizon.TheVariants.{Mark, End};
+ghost use Rattle.dover_server.specs.Service.{list_of, MayFollow};
+ghost use Rattle.dover_server.specs.Leading.{is_ready_after};
 
-use dover_core::{Horizon, Server};
+use dover_server::{Horizon, Server};
 use dover_model::jobs::{LAST_TICK, MOST_VALUE};
 use dover_model::{Event, Job, Memory, Ratio, Role, Version};
 use std::alloc::Global;

@@ -2,12 +2,12 @@
 ghost use Rattle.std.specs.Prelude.{◌≡◌, ◌<◌, List, true, IfOk};
 ghost use Rattle.dover_model.specs.declared.events.Event.{Event};
 ghost use Rattle.dover_model.specs.Instance.{Instance, IsValid};
-ghost use Rattle.dover_core.specs.declared.horizon.Horizon.{Horizon};
-ghost use Rattle.dover_core.specs.Service.{MayFollow};
+ghost use Rattle.dover_server.specs.declared.horizon.Horizon.{Horizon};
+ghost use Rattle.dover_server.specs.Service.{MayFollow};
 
 use crate::served_runs::{WORKED, Worked, assert_valid, jobs, line};
 use dispatcher::Dispatcher;
-use dover_core::{Horizon, Server};
+use dover_server::{Horizon, Server};
 use dover_model::{Job, Memory, Ratio, Version};
 use ready_server::ReadyServer;
 use std::alloc::Global;

@@ -1,7 +1,7 @@
 //! Snapshots of worked feeds.
 ghost use Rattle.std.specs.Prelude.{◌≡◌, ◌<◌};
 
-use dover_core::Server;
+use dover_server::Server;
 use dover_model::{Memory, Ratio, Version};
 use line_text::LineBuf;
 use snapshot::{Got, Reader, SnapFault, head, state};

@@ -12,7 +12,7 @@ use Rattle.dover_model.specs.declared.events.Role.TheVariants.{Coming, Fresh, Wa
 use Rattle.dover_model.specs.declared.events.Task.{Task}
 use Rattle.dover_model.specs.Sound.{IsNumberedFrom, jobs_of}
 use Rattle.dover_model.proofs.Members.{some_same}
-use Rattle.dover_core.specs.Service.{Service}
+use Rattle.dover_server.specs.Service.{Service}
 use Rattle.snapshot.specs.Snapshot.{role_word}
 use Rattle.snapshot.specs.Reading.{is_alike, are_alike}
 use Rattle.snapshot.specs.Kept.{stance_of, IsAt, AreAt}

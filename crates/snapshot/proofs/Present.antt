@@ -7,7 +7,7 @@ use Rattle.dover_model.specs.declared.events.Task.{Task}
 use Rattle.dover_model.specs.Instance.{Instance, IsValid}
 use Rattle.dover_model.specs.State.{State, is_coming}
 use Rattle.dover_model.specs.Step.{Move, Ticks, View, view, open_step}
-use Rattle.dover_model.specs.Settled.{is_late, settled_state}
+use Rattle.dover_model.specs.Settled.{waits_for_mark, settled_state}
 use Rattle.dover_model.specs.Sound.{IsMember, Each}
 use Rattle.dover_model.proofs.Barriers.{AtBarrier, settled_at_barrier}
 use Rattle.dover_model.proofs.Cases.{Case, Completes, Resumes, Starts, Begins, Preempts, Stays, Arrives, Takes}
@@ -51,7 +51,7 @@ module _ (J : Instance) (valid : IsValid J) (mark : ℕ) (known : AllByRecursion
         eqb-false _ _ n (due_now c it.0 (is_coming_role c it.1))
 
   -- none arrives at a late step
-  late_none : (m : Move) → Case J.rules.ratio v Ticks m → is_late m ≡ true → NoneArrives v v.coming
+  late_none : (m : Move) → Case J.rules.ratio v Ticks m → waits_for_mark m ≡ true → NoneArrives v v.coming
   late_none m (Completes r some done) late = never late
   late_none m (Resumes p none some) late = never late
   late_none m (Starts o none held some) late = never late
@@ -66,4 +66,4 @@ module _ (J : Instance) (valid : IsValid J) (mark : ℕ) (known : AllByRecursion
   -- at the barrier none is to come
   pub none_to_come : Each (λ t. t.role ≡ Coming → ⊥) s.tasks
   none_to_come = none_left (late_none (open_step J.rules s) (step_case J.rules.ratio v Ticks)
-      (at_barrier (is_late (open_step J.rules s)) mark s.clock bar.barrier).0)
+      (at_barrier (waits_for_mark (open_step J.rules s)) mark s.clock bar.barrier).0)

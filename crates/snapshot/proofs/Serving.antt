@@ -20,11 +20,11 @@ use Rattle.dover_model.proofs.Paths.{printed_more, printed_nothing}
 use Rattle.dover_model.proofs.Prefixes.{open_not_end}
 use Rattle.dover_model.proofs.Settling.{settled_is_run}
 use Rattle.dover_model.proofs.Runs.{printed_append}
-use Rattle.dover_core.specs.declared.horizon.Horizon.TheVariants.{Mark}
-use Rattle.dover_core.specs.Service.{Service, list_of, with_job, admitted_task, fresh_service}
-use Rattle.dover_core.specs.Leading.{GivesNext, ReachesBarrier}
-use Rattle.dover_core.proofs.Admission.{jobs_more}
-use Rattle.dover_core.proofs.Passing.{leads_open, printed_next, or_fails}
+use Rattle.dover_server.specs.declared.horizon.Horizon.TheVariants.{Mark}
+use Rattle.dover_server.specs.Service.{Service, list_of, with_job, admitted_task, fresh_service}
+use Rattle.dover_server.specs.Leading.{GivesNext, ReachesBarrier}
+use Rattle.dover_server.proofs.Admission.{jobs_more}
+use Rattle.dover_server.proofs.Passing.{leads_open, printed_next, or_fails}
 use Rattle.snapshot.specs.Snapshot.{Head}
 use Rattle.snapshot.specs.Reading.{stored}
 use Rattle.snapshot.specs.Taken.{HasTaken}

@@ -4,7 +4,7 @@ use Rattle.std.proofs.Common.{Bool, true, false, cond, ◌&&◌, Option, Some, N
 use Rattle.std.specs.Prelude.{nat_lt, bytes_eq}
 use Rattle.std.proofs.lemmas.List.Sums.{fold-append}
 use Rattle.dover_model.specs.declared.events.Task.{Task}
-use Rattle.dover_core.specs.Service.{Service}
+use Rattle.dover_server.specs.Service.{Service}
 use Rattle.queued_jobs.specs.Spending.{HasSpent}
 use Rattle.snapshot.specs.Snapshot.{Head}
 use Rattle.snapshot.specs.Reading.{Begun, Going, Taken, read_task, with_task, with_last, may_follow, has_reached_mark}

@@ -27,7 +27,7 @@ use Rattle.dover_model.proofs.Honest.{count_jobs}
 use Rattle.dover_model.proofs.JobSessions.{jobs_back}
 use Rattle.dover_model.proofs.Settling.{settled_is_run}
 use Rattle.dover_model.proofs.Valid.{valid_front}
-use Rattle.dover_core.specs.Service.{Service, IsReadyFor}
+use Rattle.dover_server.specs.Service.{Service, IsReadyFor}
 use Rattle.admission.specs.Kept as admission
 use Rattle.event_feed.specs.Kept as feed
 use Rattle.event_feed.specs.declared.kept_session.KeptSession.{KeptSession}

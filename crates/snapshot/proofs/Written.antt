@@ -14,7 +14,7 @@ use Rattle.dover_model.proofs.Kept.{each_job}
 use Rattle.dover_model.proofs.Tests.{none_is_some}
 use Rattle.dover_model.proofs.Members.{some_same}
 use Rattle.line_text.specs.Writing.{with_field}
-use Rattle.dover_core.specs.Service.{Service, Stands}
+use Rattle.dover_server.specs.Service.{Service, Stands}
 use Rattle.snapshot.specs.Snapshot.{role_word, state_line}
 
 -- ---- field by field

@@ -6,7 +6,7 @@ use Rattle.dover_model.specs.Settled.{settled, settled_state}
 use Rattle.dover_model.specs.Paths.{HasPrinted}
 use Rattle.dover_model.specs.Feed.{account}
 use Rattle.dover_model.specs.Due.{due, closed}
-use Rattle.dover_core.specs.Service.{Service, list_of, IsReadyFor}
+use Rattle.dover_server.specs.Service.{Service, list_of, IsReadyFor}
 use Rattle.event_feed.specs.Kept as feed
 use Rattle.snapshot.specs.Snapshot.{MayPause, snapshot}
 

@@ -7,7 +7,7 @@ ghost use Rattle.snapshot.specs.Reading.{reading_of};
 ghost use Rattle.snapshot.specs.Spending.{jobs_read, jobs_kept, HasSpentOn};
 
 use crate::resuming::Resuming;
-use dover_core::Server;
+use dover_server::Server;
 use event_feed::Intake;
 use std::alloc::Global;
 use std::marker::Model;

@@ -4,11 +4,11 @@ ghost use Rattle.std.specs.List.{slice_get};
 ghost use Rattle.std.specs.Option.{option_map};
 ghost use Rattle.dover_model.specs.Limits.{last_tick, most_lines};
 ghost use Rattle.dover_model.specs.Feed.{rules_with};
-ghost use Rattle.dover_core.specs.Service.{Stands};
+ghost use Rattle.dover_server.specs.Service.{Stands};
 ghost use Rattle.line_text.specs.Writing.{with_field, most_written};
 ghost use Rattle.snapshot.specs.Snapshot as model;
 
-use dover_core::Server;
+use dover_server::Server;
 use dover_model::{Ratio, Role, Version};
 use line_text::LineBuf;
 

@@ -1,7 +1,7 @@
 -- What the judging of a text costs.
 use Rattle.std.proofs.Common.{◌++◌, ℕ, List, subst, arith}
 use Rattle.std.proofs.lemmas.List.{append_assoc}
-use Rattle.queued_jobs.specs.Spending.{AreFew}
+use Rattle.queued_jobs.specs.Spending.{CostsAtMost}
 use Rattle.queued_jobs.proofs.Spending.{few_more}
 use Rattle.ready_jobs.proofs.Spending.{paid_jobs}
 use Rattle.trace_judge.specs.declared.judge.Judge.{Judge}
@@ -10,7 +10,7 @@ use Rattle.trace_judge.proofs.Judging.{named_more}
 
 -- the comparisons are few for the jobs that the text names
 pub costs_few : (j : Judge) (text : List ℕ) (start now : ℕ) → HasPaidFor j text start now
-    → AreFew (jobs_named text) start now
+    → CostsAtMost (jobs_named text) start now
 costs_few j text start now it = few_more j.reader.course.jobs (jobs_named text) start now it.few
     (paid_jobs j.reader.course start now it.paid)
 

@@ -13,7 +13,7 @@ use Rattle.dover_model.specs.Instance.{Rules, Instance}
 use Rattle.dover_model.specs.State.{State, opening, is_done, value_sum}
 use Rattle.dover_model.specs.Step.{Prints, step, after}
 use Rattle.dover_model.specs.Run.{Step, is_end, printed, printed_of}
-use Rattle.dover_model.specs.Settled.{is_late}
+use Rattle.dover_model.specs.Settled.{waits_for_mark}
 use Rattle.dover_model.specs.Session.{Session, instance_of, new_session}
 use Rattle.dover_model.specs.Text.{header, text_of, version_number}
 use Rattle.dover_model.specs.Verdict.{item_of, begins_trace, version_of_number}
@@ -314,8 +314,8 @@ end_is (Abandon at n) is = never is
 
 -- the floor after an event, as it is computed
 floor_is : (z : State) (e : Event) (clock : ℕ) → clock ≡ z.clock
-    → cond (is_late (Prints e)) (clock + 1) clock ≡ floor_after z e
-floor_is z e clock at = by_late (is_late (Prints e)) where
+    → cond (waits_for_mark (Prints e)) (clock + 1) clock ≡ floor_after z e
+floor_is z e clock at = by_late (waits_for_mark (Prints e)) where
   by_late : (b : Bool) → cond b (clock + 1) clock ≡ cond b (suc z.clock) z.clock
   by_late true = omega arith
   by_late false = at
@@ -434,7 +434,7 @@ module _ (r w : Reading) (same : r ≡ w) (going_w : w.stage ≡ Going) (d : Cou
       module _ (more : is_end (Prints due) ≡ false) (d2 : Course)
           (taken : (J : Instance) (z : State) → Follows d J z → Follows d2 J (after z (Prints due))) (clock floor : ℕ)
           (at : clock ≡ d.clock)
-          (floor_at : floor ≡ max r.floor (cond (is_late (Prints due)) (clock + 1) clock)) where
+          (floor_at : floor ≡ max r.floor (cond (waits_for_mark (Prints due)) (clock + 1) clock)) where
         -- the reading behind it
         abbrev stepped : Reading
         stepped = record r { course = d2; floor = floor; steps = steps; room = room }

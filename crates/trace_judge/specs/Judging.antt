@@ -10,7 +10,7 @@ use Rattle.dover_model.specs.Fraction.{Fraction}
 use Rattle.dover_model.specs.Schedules.{Meets, worth}
 use Rattle.dover_model.specs.Run.{run, printed, ran, completed_value}
 use Rattle.dover_model.specs.Sound.{Each}
-use Rattle.dover_model.specs.Underload.{loses}
+use Rattle.dover_model.specs.Underload.{takes_or_abandons}
 use Rattle.dover_model.specs.Session.{Session, IsValidSession, instance_of, admitted_jobs}
 use Rattle.dover_model.specs.Lines.{whole_lines}
 use Rattle.dover_model.specs.Verdict as model
@@ -85,7 +85,7 @@ pub record IsEarned (S : Session) (k : Fraction) (value : ℕ) : Type 0 where
   pub valid : IsValidSession S
   pub within : (s : List ℕ) → IsWithin k (worth (instance_of S) s) value
   pub honest : worth (instance_of S) (ran (instance_of S)) ≡ value
-  pub none_lost : Meets (instance_of S) → Each (λ x. loses x.move ≡ false) (run (instance_of S))
+  pub none_lost : Meets (instance_of S) → Each (λ x. takes_or_abandons x.move ≡ false) (run (instance_of S))
   pub whole : Meets (instance_of S) → value ≡ sum_by (λ j. j.value) (admitted_jobs S.items)
 
 -- the judge's verdict is that of the text, as the model has it

@@ -7,7 +7,7 @@ ghost use Rattle.dover_model.specs.declared.events.Version.TheVariants.{Two};
 ghost use Rattle.dover_model.specs.Fraction.{IsRatio};
 ghost use Rattle.dover_model.specs.Step.{Prints};
 ghost use Rattle.dover_model.specs.Run.{is_end};
-ghost use Rattle.dover_model.specs.Settled.{is_late};
+ghost use Rattle.dover_model.specs.Settled.{waits_for_mark};
 ghost use Rattle.dover_model.specs.Verdict.{version_of_number};
 
 use crate::stage::Stage;
@@ -606,7 +606,7 @@ fn is_end(event: &Event) -> bool
 // The least tick at which the event is settled, right after it is printed.
 fn floor_after(event: &Event, clock: u64) -> u64
     requires { clock ≤ last_tick }
-    ensures { result ≡ (if is_late (Prints event.now) then clock + 1 else clock) }
+    ensures { result ≡ (if waits_for_mark (Prints event.now) then clock + 1 else clock) }
 {
     match event {
         Event::Take { .. } => clock + 1,

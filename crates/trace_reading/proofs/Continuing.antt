@@ -17,7 +17,7 @@ use Rattle.dover_model.specs.Instance.{Instance, Rules, IsValid, with_jobs}
 use Rattle.dover_model.specs.State.{State, opening, with_later, is_coming}
 use Rattle.dover_model.specs.Step.{Prints, open_step, after}
 use Rattle.dover_model.specs.Run.{Step, is_end, printed_of}
-use Rattle.dover_model.specs.Settled.{is_late, settled, settled_steps}
+use Rattle.dover_model.specs.Settled.{waits_for_mark, settled, settled_steps}
 use Rattle.dover_model.specs.Sound.{Each, Keeps}
 use Rattle.dover_model.specs.WholeRun.{open_at, IsSettledRun}
 use Rattle.dover_model.specs.Session.{JobItem, RefusedItem, RefusedJob, Session, instance_of, admitted_jobs}
@@ -149,11 +149,12 @@ module _ (ls : List (List ℕ)) (S : Session) (floor : ℕ) (z : State) (sees : 
         (after y (Prints e))
         (leads_later_mark S.rules floor new_floor (omega arith) sees.steps (opening J.jobs) z sees.leads)
         (leads_append S.rules new_floor next.steps (open_at S.rules y ∷ []) z y (after y (Prints e))
-        (leads_later_mark S.rules y.clock new_floor (clock_below floor (is_late (Prints e)) y.clock) next.steps z y
+        (leads_later_mark S.rules y.clock new_floor (clock_below floor (waits_for_mark (Prints e)) y.clock) next.steps z
+            y
         (idles_leads S.rules next.steps z y next.idles)) (
           refl,
-          subst (λ m. (is_late m && nat_le new_floor y.clock) ≡ false) (sym opens)
-              (late_before floor (is_late (Prints e)) y.clock),
+          subst (λ m. (waits_for_mark m && nat_le new_floor y.clock) ≡ false) (sym opens)
+              (late_before floor (waits_for_mark (Prints e)) y.clock),
           goes_on,
           ap (after y) opens,
         ))
@@ -212,7 +213,7 @@ module _ (ls : List (List ℕ)) (S : Session) (floor : ℕ) (z : State) (sees : 
       lines = lines_more;
       within = within_printed;
       released = none_comes_after y (Prints e) none_y;
-      clock = clock_below floor (is_late (Prints e)) y.clock;
+      clock = clock_below floor (waits_for_mark (Prints e)) y.clock;
       mark = let low : mark_after 0 S.items ≤ floor = sees.mark in omega arith;
       tight = tight_more;
     }
@@ -306,8 +307,8 @@ module _ (ls : List (List ℕ)) (S : Session) (floor : ℕ) (z : State) (sees : 
     -- the clock is there
     at_release : y.clock ≡ j.release
     at_release =
-        let here : (is_late (open_step S.rules y) ≡ true) × (j.release ≤ y.clock) =
-        at_barrier (is_late (open_step S.rules y)) j.release y.clock may.waits.barrier in
+        let here : (waits_for_mark (open_step S.rules y) ≡ true) × (j.release ≤ y.clock) =
+        at_barrier (waits_for_mark (open_step S.rules y)) j.release y.clock may.waits.barrier in
         let high : j.release ≤ y.clock = here.1 in
         let low_z : z.clock ≤ floor = sees.clock in
         let ordered : floor ≤ j.release = may.no_fall in
@@ -325,7 +326,7 @@ module _ (ls : List (List ℕ)) (S : Session) (floor : ℕ) (z : State) (sees : 
     -- the release
     releases : open_step S.rules (with_later y coming) ≡ Prints (Release n j)
     releases = barrier_releases J y keeps_before S.rules known_y
-        (at_barrier (is_late (open_step S.rules y)) j.release y.clock may.waits.barrier).0
+        (at_barrier (waits_for_mark (open_step S.rules y)) j.release y.clock may.waits.barrier).0
         n j (sym at_release) where
           known_y : Each (λ (t : Task). t.job.release ≤ y.clock) y.tasks
           known_y t m =
@@ -353,7 +354,7 @@ module _ (ls : List (List ℕ)) (S : Session) (floor : ℕ) (z : State) (sees : 
         (with_later (opening J.jobs) coming)
         (with_later y coming) fresh behind.leads (
           refl,
-          subst (λ m. (is_late m && nat_le j.release y.clock) ≡ false) (sym releases) refl,
+          subst (λ m. (waits_for_mark m && nat_le j.release y.clock) ≡ false) (sym releases) refl,
           coming_goes_on y coming (coming_task n j) (inl refl) refl,
           ap (after (with_later y coming)) releases ∙ after_release J y keeps_before j at_release,
         ))

@@ -13,7 +13,7 @@ use Rattle.dover_model.specs.Instance.{Rules, Instance, IsValid}
 use Rattle.dover_model.specs.State.{State, with_later, is_over, is_done, value_sum}
 use Rattle.dover_model.specs.Step.{Move, Prints, Waits, Ticks, step, open_step, after, ending, ◌or_else◌}
 use Rattle.dover_model.specs.Run.{Step, is_end, event_of, printed_of}
-use Rattle.dover_model.specs.Settled.{is_late, AllComeFrom}
+use Rattle.dover_model.specs.Settled.{waits_for_mark, AllComeFrom}
 use Rattle.dover_model.specs.Sound.{IsMember, Keeps}
 use Rattle.dover_model.specs.WholeRun.{open_at, IsBefore, IsBarrier, IsSettledRun, IsWholeRun}
 use Rattle.dover_model.proofs.Members.{all_each}
@@ -46,7 +46,7 @@ module _ (rules : Rules) where
   leads_later_mark mark later onward [] s z leads = leads
   leads_later_mark mark later onward (x ∷ xs) s z leads = (
     leads.0,
-    before_later (is_late (open_step rules s)) mark later s.clock onward leads.1,
+    before_later (waits_for_mark (open_step rules s)) mark later s.clock onward leads.1,
     leads.2,
     leads_later_mark mark later onward xs (after s (open_step rules s)) z leads.3,
   )
@@ -155,7 +155,7 @@ module _ (rules : Rules) where
 -- ---- the clock
 
 -- a late step that prints nothing is a silent tick
-pub late_silent : (m : Move) → is_late m ≡ true → IsSilent m → m ≡ Ticks
+pub late_silent : (m : Move) → waits_for_mark m ≡ true → IsSilent m → m ≡ Ticks
 late_silent (Prints e) late silent = absurd (let clash : Some e ≡ None = silent in cc)
 late_silent (Waits n) late silent = never late
 late_silent Ticks late silent = refl
@@ -172,8 +172,8 @@ clock_rises s m = by_clock (clock_after s m) where
 tick_before : (rules : Rules) (mark : ℕ) (s : State) → IsSilent (open_step rules s)
     → (after s (open_step rules s)).clock ≤ mark
     → IsBefore rules mark s
-tick_before rules mark s silent low = by_late (is_late (open_step rules s)) refl where
-  by_late : (b : Bool) → is_late (open_step rules s) ≡ b → (b && nat_le mark s.clock) ≡ false
+tick_before rules mark s silent low = by_late (waits_for_mark (open_step rules s)) refl where
+  by_late : (b : Bool) → waits_for_mark (open_step rules s) ≡ b → (b && nat_le mark s.clock) ≡ false
   by_late true late = let ticks : open_step rules s ≡ Ticks = late_silent (open_step rules s) late silent in
       let next : (after s (open_step rules s)).clock ≡ s.clock + 1 = ap (λ m. (after s m).clock) ticks in
       lt-leb mark s.clock (omega arith)
@@ -188,7 +188,8 @@ before_tick rules mark s before low = by_clock (clock_after s (open_step rules s
       → (after s (open_step rules s)).clock ≤ mark
   by_clock (inl same) = omega arith
   by_clock (inr it) = let next : (after s (open_step rules s)).clock ≡ s.clock + 1 = it.1 in
-      let early : s.clock < mark = late_early (is_late (open_step rules s)) mark s.clock before (ap is_late it.0) in
+      let early : s.clock < mark =
+          late_early (waits_for_mark (open_step rules s)) mark s.clock before (ap waits_for_mark it.0) in
       omega arith
 
 module _ (rules : Rules) where
@@ -307,17 +308,17 @@ module _ (J : Instance) (valid : IsValid J) (rules : Rules) where
       → open_step rules z ≡ Prints e → mark < floor_after z e → IsSettledRun rules mark s ys → printed_of ys ≡ []
   stops_before mark xs [] s z e keeps low idles prints early run = refl
   stops_before mark [] (y ∷ ys) s z e keeps low idles prints early run =
-      absurd (by_late (is_late (Prints e)) refl early) where
+      absurd (by_late (waits_for_mark (Prints e)) refl early) where
         same : s.clock ≡ z.clock
         same = ap (λ (u : State). u.clock) idles
 
-        late_here : is_late (open_step rules s) ≡ is_late (Prints e)
-        late_here = ap (λ u. is_late (open_step rules u)) idles ∙ ap is_late prints
+        late_here : waits_for_mark (open_step rules s) ≡ waits_for_mark (Prints e)
+        late_here = ap (λ u. waits_for_mark (open_step rules u)) idles ∙ ap waits_for_mark prints
 
-        by_late : (b : Bool) → is_late (Prints e) ≡ b → mark < cond b (suc z.clock) z.clock → ⊥
+        by_late : (b : Bool) → waits_for_mark (Prints e) ≡ b → mark < cond b (suc z.clock) z.clock → ⊥
         by_late true late less =
             let first : s.clock < mark =
-            late_early (is_late (open_step rules s)) mark s.clock run.1 (late_here ∙ late) in omega (arith, same)
+            late_early (waits_for_mark (open_step rules s)) mark s.clock run.1 (late_here ∙ late) in omega (arith, same)
         by_late false not_late less = omega (arith, same)
   stops_before mark (x ∷ xs) (y ∷ ys) s z e keeps low idles prints early run =
       ap (λ (v : Step). cons_option (event_of v.move) (printed_of ys)) run.0
@@ -360,7 +361,7 @@ module _ (J : Instance) (valid : IsValid J) (K : Instance) (valid_more : IsValid
         steps = open_at rules (with_later s more) ∷ rest.steps;
         leads = (
           refl,
-          subst (λ m. (is_late m && nat_le mark s.clock) ≡ false) (sym step_same) passes.1,
+          subst (λ m. (waits_for_mark m && nat_le mark s.clock) ≡ false) (sym step_same) passes.1,
           coming_goes_on s more u member (come.0 u member),
           subst (λ v. Leads rules mark v rest.steps (with_later z more))
               (sym (behind_after J valid K valid_more rules mark more come s keeps keeps_more passes.1)) rest.leads,

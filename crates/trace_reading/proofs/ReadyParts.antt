@@ -17,7 +17,7 @@ use Rattle.dover_model.specs.Step.{Move, Prints, Waits, Ticks, view, open_step, 
 use Rattle.dover_model.specs.Step.{displaced, ticked}
 use Rattle.dover_model.specs.Sound.{IsMember, Each, Keeps, IsSound}
 use Rattle.dover_model.specs.Run.{Step, event_of}
-use Rattle.dover_model.specs.Settled.{is_late}
+use Rattle.dover_model.specs.Settled.{waits_for_mark}
 use Rattle.dover_model.specs.WholeRun.{open_at}
 use Rattle.dover_model.proofs.Members.{sum_filter, sum_zero, on_map, member_filter}
 use Rattle.dover_model.proofs.Roles.{by_role, one_number, is_over_role, passes}
@@ -297,7 +297,7 @@ module _ (J : Instance) (valid : IsValid J) (rules : Rules) where
       settles.3) in (
         open_at rules s ∷ rest.0,
         rest.1,
-        (refl, subst (λ m. (is_late m && nat_le mark s.clock) ≡ false) same settles.1, silent, rest.2),
+        (refl, subst (λ m. (waits_for_mark m && nat_le mark s.clock) ≡ false) same settles.1, silent, rest.2),
         rest.3,
         rest.4,
         rest.5 ∙ done_silent s keeps silent,

@@ -11,7 +11,7 @@ use Rattle.dover_model.specs.Instance.{Rules, Instance, IsValid}
 use Rattle.dover_model.specs.State.{State, is_over}
 use Rattle.dover_model.specs.Step.{Move, Prints, Waits, Ticks, step, open_step, after, ticked}
 use Rattle.dover_model.specs.Run.{Step, is_end, event_of}
-use Rattle.dover_model.specs.Settled.{is_late}
+use Rattle.dover_model.specs.Settled.{waits_for_mark}
 use Rattle.dover_model.specs.Sound.{IsMember, Keeps}
 use Rattle.dover_model.specs.Verdict.{ends_with_end}
 use Rattle.dover_model.specs.Session.{Session, instance_of}
@@ -80,7 +80,7 @@ module _ (J : Instance) (valid : IsValid J) (rules : Rules) where
       record {
         steps = [];
         settles = ap (λ c. record { clock = c; tasks = s.tasks }) here;
-        barrier = ap (λ m. is_late m && nat_le mark mark) (over_ticks (record { clock = mark; tasks = s.tasks })
+        barrier = ap (λ m. waits_for_mark m && nat_le mark mark) (over_ticks (record { clock = mark; tasks = s.tasks })
             (subst (λ c. Keeps J (record { clock = c; tasks = s.tasks })) here keeps) over)
             ∙ le-leb mark mark (omega arith);
       }
@@ -96,7 +96,7 @@ module _ (J : Instance) (valid : IsValid J) (rules : Rules) where
         steps = open_at rules s ∷ rest.steps;
         settles = (
           refl,
-          ap (λ m. is_late m && nat_le mark s.clock) ticks ∙ lt-leb mark s.clock (omega arith),
+          ap (λ m. waits_for_mark m && nat_le mark s.clock) ticks ∙ lt-leb mark s.clock (omega arith),
           ap event_of ticks,
           subst (λ u. Settles rules mark u rest.steps (record { clock = mark; tasks = s.tasks })) (sym on) rest.settles,
         );

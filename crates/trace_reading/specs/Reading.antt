@@ -11,10 +11,10 @@ use Rattle.dover_model.specs.State.{State, opening, is_coming}
 use Rattle.dover_model.specs.Step.{Prints}
 use Rattle.dover_model.specs.Run.{Step, printed_of}
 use Rattle.dover_model.specs.Sound.{Each}
-use Rattle.dover_model.specs.Settled.{is_late, settled}
+use Rattle.dover_model.specs.Settled.{waits_for_mark, settled}
 use Rattle.dover_model.specs.Admission.{refusal_of}
 use Rattle.dover_model.specs.Session.{Item, JobItem, RefusedItem, RefusedJob, Session, instance_of, admitted_jobs}
-use Rattle.dover_model.specs.Session.{IsValidSession, IsRefused}
+use Rattle.dover_model.specs.Session.{IsValidSession, MayBeRefused}
 use Rattle.dover_model.specs.Text.{text_of, refused_text}
 use Rattle.dover_model.specs.Trace.{places_of, texts_among}
 use Rattle.dover_model.specs.Verdict.{named_session}
@@ -44,7 +44,7 @@ pub record Sees (ls : List (List ℕ)) (S : Session) (floor : ℕ) (z : State) :
 
 -- the least tick at which the event is settled, right after it is printed
 abbrev pub floor_after : State → Event → ℕ
-floor_after z e = if is_late (Prints e) then suc z.clock else z.clock
+floor_after z e = if waits_for_mark (Prints e) then suc z.clock else z.clock
 
 -- the session may have one item more
 abbrev pub HasRoom : Session → Type 0
@@ -60,7 +60,7 @@ pub record MayRelease (S : Session) (floor : ℕ) (s : State) (j : JobFacts) (z 
 -- the refused line may come next, and the silent steps before it lead to z
 pub record MayRefuse (S : Session) (floor : ℕ) (s : State) (r : RefusedJob) (z : State) : Type 0 where
   pub room : HasRoom S
-  pub refused : IsRefused S.rules (admitted_jobs S.items) floor r
+  pub refused : MayBeRefused S.rules (admitted_jobs S.items) floor r
   pub waits : WaitsUntil S.rules r.at s z
 
 -- the state with the job of this number, which was released last

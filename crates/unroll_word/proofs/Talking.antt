@@ -3,7 +3,7 @@ use Rattle.std.proofs.Common.{◌≡◌, ◌<◌, ◌^◌, ◌-◌, ℕ, List, �
 use Rattle.std.proofs.Common.{Bool, true, false, inl, inr}
 use Rattle.dover_model.specs.Feed.{Standing, Open, Ended, Faulty}
 use Rattle.dover_model.specs.Lines.{in_lines, whole_lines}
-use Rattle.dover_port.specs.Causes.{IsAnswer}
+use Rattle.dover_port.specs.Causes.{IsNeitherNoNorUsage}
 use Rattle.dover_port.specs.Moves.{Move, ins, outs, has_ended, IsProperPrefix}
 use Rattle.dover_port.specs.declared.status.Status.{Status}
 use Rattle.dover_port.specs.declared.status.Status.TheVariants.{Done, No, Refused, ReadFault, WriteFault, Memory, Usage}
@@ -117,7 +117,7 @@ told_by until status moves it = record { reads = it.reads; ends = by_status stat
   by_status Usage made = absurd made
 
 -- the statuses
-pub answers : (until : ℕ) (status : Status) → CanEnd (unroll_talk until) status → IsAnswer status
+pub answers : (until : ℕ) (status : Status) → CanEnd (unroll_talk until) status → IsNeitherNoNorUsage status
 answers until Done it = tt
 answers until No it = never_no until it.bytes it.ended it.text it.answer
 answers until Refused it = tt

@@ -1,5 +1,5 @@
 //! The word.
-ghost use Rattle.dover_port.specs.Causes.{Causes, IsAnswer, StopsWith};
+ghost use Rattle.dover_port.specs.Causes.{Causes, IsNeitherNoNorUsage, StopsWith};
 ghost use Rattle.dover_port.specs.Moves.{Since};
 ghost use Rattle.task_reading.specs.Keeping.{IsKnown};
 ghost use Rattle.unroll_word.specs.Record.{Tells};
@@ -28,7 +28,7 @@ pub fn unroll_word<P: Port, L: Ledger>(
 ) -> Status
     requires { IsKnown until }
     ensures tells { Since (P.moves port.old) (P.moves port.new) (Tells until result) }
-    ensures answer { IsAnswer result }
+    ensures answer { IsNeitherNoNorUsage result }
     ensures causes { Causes result (P.read_faults port.old) (P.read_faults port.new) (P.write_faults port.old)
         (P.write_faults port.new) }
     ensures stops { StopsWith result (P.calls port.old) (P.calls port.new) }

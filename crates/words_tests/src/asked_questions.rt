@@ -2,7 +2,7 @@ ghost use Rattle.std.specs.Prelude.{◌≡◌, ◌<◌};
 
 use crate::ports::{Cut, SIZES, pieces_of, port};
 use dover_port::{Calls, MemoryPort, Status};
-use dover_words::{Question, question_word};
+use question_words::{Question, question_word};
 use std::marker::Brand;
 use std::sync::ledger::{Blank, Ledger};
 use std::test::Fail;

@@ -1,4 +1,4 @@
-//! Tests of the words: `judge_word`, `report_word`, `serve_word`, `stated_word`, `dover_words` and
+//! Tests of the words: `judge_word`, `report_word`, `serve_word`, `trial_words`, `question_words` and
 //! `lanes_word`.
 #![tactic(auto)]
 

@@ -5,7 +5,7 @@ ghost use Rattle.dover_model.specs.Limits.{most_jobs};
 use crate::ports::{Cut, pieces_of, port};
 use dover_model::Ratio;
 use dover_port::{MemoryPort, Status};
-use stated_word::{bait_word, trial_word};
+use trial_words::{bait_word, trial_word};
 use std::marker::Brand;
 use std::sync::ledger::{Blank, Ledger};
 use std::test::Fail;

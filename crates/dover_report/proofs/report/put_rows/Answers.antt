@@ -1,6 +1,6 @@
 use Rattle.std.proofs.Common.{◌+◌, ◌++◌, ◌∷◌, [], take, get_or, ap, ◌∙◌, append_assoc}
 use Rattle.dover_model.specs.Lines.{in_lines}
-use Rattle.charge_ledger.specs.declared.interval.Interval.{Interval}
+use Rattle.intervals.specs.declared.interval.Interval.{Interval}
 use Rattle.dover_report.specs.Lines.{row_line, row_lines}
 use Rattle.dover_report.proofs.Counting.{rows_more}
 use Rattle.dover_report.proofs.report.put_rows.Goals as goal

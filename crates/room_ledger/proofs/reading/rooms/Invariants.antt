@@ -1,6 +1,6 @@
 use Rattle.std.proofs.Common.{◌≡◌, drop}
 use Rattle.dover_model.specs.Instance.{Instance}
-use Rattle.charge_ledger.specs.Rows.{IsRunOf}
+use Rattle.intervals.specs.Rows.{IsRunOf}
 use Rattle.room_ledger.proofs.Walking.{Weighs}
 use Rattle.room_ledger.proofs.reading.rooms.Given as goal
 

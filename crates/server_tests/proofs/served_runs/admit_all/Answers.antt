@@ -2,10 +2,10 @@ use Rattle.std.proofs.Common.{◌≡◌, ◌∙◌, ◌+◌, ◌<◌, ◌∷◌,
 use Rattle.std.specs.List.{AllByRecursion}
 use Rattle.dover_model.specs.JobFacts.{JobFacts}
 use Rattle.dover_model.specs.Instance.{Instance, IsValid, with_jobs}
-use Rattle.dover_core.specs.declared.horizon.Horizon.{Horizon}
-use Rattle.dover_core.specs.declared.horizon.Horizon.TheVariants.{Mark, End}
-use Rattle.dover_core.specs.Service.{Service, list_of, MayFollow}
-use Rattle.dover_core.proofs.Feeding.{next_valid, rest_valid, rest_follow}
+use Rattle.dover_server.specs.declared.horizon.Horizon.{Horizon}
+use Rattle.dover_server.specs.declared.horizon.Horizon.TheVariants.{Mark, End}
+use Rattle.dover_server.specs.Service.{Service, list_of, MayFollow}
+use Rattle.dover_server.proofs.Feeding.{next_valid, rest_valid, rest_follow}
 use Rattle.server_tests.proofs.Feeding.{from_here}
 use Rattle.server_tests.proofs.served_runs.admit_all.Goals as goal
 

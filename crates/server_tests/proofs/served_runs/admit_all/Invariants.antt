@@ -1,8 +1,8 @@
 use Rattle.std.proofs.Common.{drop}
 use Rattle.std.specs.List.{AllByRecursion}
 use Rattle.dover_model.specs.Instance.{IsValid, with_jobs}
-use Rattle.dover_core.specs.declared.horizon.Horizon.TheVariants.{Mark, End}
-use Rattle.dover_core.specs.Service.{list_of, MayFollow}
+use Rattle.dover_server.specs.declared.horizon.Horizon.TheVariants.{Mark, End}
+use Rattle.dover_server.specs.Service.{list_of, MayFollow}
 use Rattle.server_tests.proofs.served_runs.admit_all.Given as goal
 
 abbrev pub invariant-loop-job : goal.invariant-loop-job

@@ -1,5 +1,5 @@
 use Rattle.std.proofs.Common.{◌≡◌}
-use Rattle.dover_core.specs.Service.{list_of, MayFollow, steps_left}
+use Rattle.dover_server.specs.Service.{list_of, MayFollow, steps_left}
 use Rattle.server_tests.proofs.served_runs.settle.Given as goal
 
 abbrev pub invariant-loop-e : goal.invariant-loop-e

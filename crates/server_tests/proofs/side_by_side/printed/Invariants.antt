@@ -2,7 +2,7 @@ use Rattle.std.specs.Prelude.{List}
 use Rattle.std.proofs.Common.{drop}
 use Rattle.dover_model.specs.declared.events.Event.{Event}
 use Rattle.dover_model.specs.Instance.{Instance}
-use Rattle.dover_core.specs.declared.horizon.Horizon.{Horizon}
+use Rattle.dover_server.specs.declared.horizon.Horizon.{Horizon}
 use Rattle.server_tests.proofs.Feeding.{CanFeed}
 use Rattle.server_tests.proofs.side_by_side.printed.Given as goal
 

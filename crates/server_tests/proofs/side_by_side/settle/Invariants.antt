@@ -1,8 +1,8 @@
 use Rattle.std.specs.Prelude.{List}
 use Rattle.dover_model.specs.declared.events.Event.{Event}
 use Rattle.dover_model.specs.Instance.{Instance}
-use Rattle.dover_core.specs.declared.horizon.Horizon.{Horizon}
-use Rattle.dover_core.specs.Service.{MayFollow}
+use Rattle.dover_server.specs.declared.horizon.Horizon.{Horizon}
+use Rattle.dover_server.specs.Service.{MayFollow}
 use Rattle.server_tests.proofs.side_by_side.settle.Given as goal
 
 abbrev pub invariant-loop : goal.invariant-loop

@@ -1,5 +1,5 @@
-use Rattle.dover_core.specs.declared.horizon.Horizon.TheVariants.{Mark}
-use Rattle.dover_core.proofs.Spending.{spent_next, spent_job}
+use Rattle.dover_server.specs.declared.horizon.Horizon.TheVariants.{Mark}
+use Rattle.dover_server.proofs.Spending.{spent_next, spent_job}
 use Rattle.dispatcher.proofs.Stepping.{step_gives, job_serves, rests_follow}
 use Rattle.dispatcher.proofs.server.ServerDispatcher.admit.Goals as goal
 

@@ -1,6 +1,6 @@
 use Rattle.std.proofs.Common.{subst}
 use Rattle.dover_model.specs.Instance.{IsValid}
-use Rattle.dover_core.proofs.Spending.{spent_all}
+use Rattle.dover_server.proofs.Spending.{spent_all}
 use Rattle.dispatcher.proofs.Stepping.{come_begins}
 use Rattle.dispatcher.proofs.server.ServerDispatcher.laws.Goals as goal
 

@@ -1,4 +1,4 @@
-use Rattle.dover_core.proofs.Spending.{spent_next}
+use Rattle.dover_server.proofs.Spending.{spent_next}
 use Rattle.dispatcher.proofs.Stepping.{step_gives}
 use Rattle.dispatcher.proofs.server.ServerDispatcher.step.Goals as goal
 

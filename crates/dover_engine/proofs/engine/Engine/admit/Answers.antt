@@ -1,7 +1,7 @@
 use Rattle.std.proofs.Common.{◌+◌, ◌∷◌, [], sym, ◌∙◌, ap, subst}
 use Rattle.dover_model.specs.JobFacts.{JobFacts, job_of_numbers}
 use Rattle.dover_model.specs.Instance.{IsValid, with_jobs}
-use Rattle.dover_core.specs.Service.{Service, list_of, with_job}
+use Rattle.dover_server.specs.Service.{Service, list_of, with_job}
 use Rattle.dover_engine.specs.Life.{Life}
 use Rattle.dover_engine.specs.Calls.{IsAdmitted}
 use Rattle.dover_engine.proofs.Keeping.{may_admit}

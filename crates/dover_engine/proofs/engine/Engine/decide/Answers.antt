@@ -1,6 +1,6 @@
 use Rattle.std.proofs.Common.{refl, sym, ◌∙◌, subst, ap}
 use Rattle.admission.specs.Kept.{StandsFor}
-use Rattle.dover_core.specs.Service.{list_of, MayFollow, Stands}
+use Rattle.dover_server.specs.Service.{list_of, MayFollow, Stands}
 use Rattle.dover_engine.specs.Kept.{AllKnown}
 use Rattle.dover_engine.specs.Calls.{Decides}
 use Rattle.dover_engine.proofs.Keeping.{still_known}

@@ -1,5 +1,5 @@
 use Rattle.std.proofs.Common.{refl, ap, ◌∙◌}
-use Rattle.dover_core.specs.Service.{Service}
+use Rattle.dover_server.specs.Service.{Service}
 use Rattle.dover_engine.proofs.Lives.{new_gave}
 use Rattle.dover_engine.proofs.engine.Engine.new.Goals as goal
 

@@ -1,5 +1,5 @@
 use Rattle.std.proofs.Common.{◌+◌, length, sym, ◌∙◌, subst}
-use Rattle.dover_core.specs.Service.{renewed}
+use Rattle.dover_server.specs.Service.{renewed}
 use Rattle.dover_engine.specs.Kept.{life_of}
 use Rattle.dover_engine.specs.Given.{Gave}
 use Rattle.dover_engine.proofs.Lives.{renew_gave}

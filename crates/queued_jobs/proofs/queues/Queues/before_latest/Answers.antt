@@ -2,8 +2,8 @@ use Rattle.std.proofs.Common.{◌≡◌, ◌+◌, ◌≤◌, true, refl, sym, ap
 use Rattle.dover_model.specs.declared.events.Entry.{Entry}
 use Rattle.dover_model.specs.declared.events.Role.TheVariants.{Waiting}
 use Rattle.dover_model.specs.State.{is_waiting, latest_start}
-use Rattle.dover_model.specs.Entries.{is_latest_before}
-use Rattle.dover_model.specs.Orders.{first, latest_first}
+use Rattle.dover_model.specs.Entries.{is_start_before}
+use Rattle.dover_model.specs.Orders.{first, starts_before}
 use Rattle.dover_model.specs.Sound.{IsSound, Each}
 use Rattle.dover_model.proofs.Members.{filter_member, member_filter}
 use Rattle.dover_model.proofs.Roles.{passes, is_waiting_role}
@@ -21,7 +21,7 @@ returns-in-Some-clause-due c =
     let sound = subst (λ q. IsSound q.state) (sym c.self.view_is) c.requires in
     let members = waiting_members inside.tasks.items table c.self.invariant.agrees.0
     c.self.invariant.agrees.2.waiting in
-    let at = c.in-Some.ensures ∙ ap (λ v. first (is_latest_before v) (members_of table)) c.self.invariant.version in
+    let at = c.in-Some.ensures ∙ ap (λ v. first (is_start_before v) (members_of table)) c.self.invariant.version in
     let due : Each (λ t. t.role ≡ Waiting → s.clock + c.min.result ≤ latest_start t) s.tasks = (λ x m waits.
     let there = filter_member is_waiting inside.tasks.items x m (passes is_waiting x Waiting true waits refl) in
     let past = not_past inside.version s sound (members_of table) members x there in
@@ -38,7 +38,7 @@ returns-in-Some-clause-all c n most all =
     let sound = subst (λ q. IsSound q.state) (sym c.self.view_is) c.requires in
     let members = waiting_members inside.tasks.items table c.self.invariant.agrees.0
     c.self.invariant.agrees.2.waiting in
-    let at = c.in-Some.ensures ∙ ap (λ v. first (is_latest_before v) (members_of table)) c.self.invariant.version in
+    let at = c.in-Some.ensures ∙ ap (λ v. first (is_start_before v) (members_of table)) c.self.invariant.version in
     let it = latest_job inside.version s sound (members_of table) members c.in-Some.e at in
     let early = subst (λ q. Each (λ t. t.role ≡ Waiting → q.state.clock + n ≤ latest_start t) q.state.tasks)
     (sym c.self.view_is) all in
@@ -54,10 +54,10 @@ returns-in-None-clause-due c =
     let table = inside.waiting.table in
     let members = waiting_members inside.tasks.items table c.self.invariant.agrees.0
     c.self.invariant.agrees.2.waiting in
-    let at = c.in-None.ensures ∙ ap (λ v. first (is_latest_before v) (members_of table)) c.self.invariant.version in
-    let none = waiting_none (is_latest_before inside.version) inside.tasks.items (members_of table) members at in
+    let at = c.in-None.ensures ∙ ap (λ v. first (is_start_before v) (members_of table)) c.self.invariant.version in
+    let none = waiting_none (is_start_before inside.version) inside.tasks.items (members_of table) members at in
     let due : Each (λ t. t.role ≡ Waiting → s.clock + c.args.most ≤ latest_start t) s.tasks = (λ x m waits.
-    absurd (none_pass (latest_first inside.version) is_waiting inside.tasks.items (sym none) x m
+    absurd (none_pass (starts_before inside.version) is_waiting inside.tasks.items (sym none) x m
     (passes is_waiting x Waiting true waits refl))) in
     subst (λ q. Each (λ t. t.role ≡ Waiting → q.state.clock + c.args.most ≤ latest_start t) q.state.tasks)
     c.self.view_is due

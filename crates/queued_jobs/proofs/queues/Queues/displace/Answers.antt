@@ -6,7 +6,7 @@ use Rattle.dover_model.specs.declared.events.Role.TheVariants.{Waiting, Held}
 use Rattle.dover_model.specs.State.{is_waiting, held}
 use Rattle.dover_model.specs.Orders.{due_first, first}
 use Rattle.dover_model.proofs.Roles.{passes}
-use Rattle.privileged_queue.specs.Stack.{IsByDeadline}
+use Rattle.held_queue.specs.Stack.{IsByDeadline}
 use Rattle.queued_jobs.specs.Queued.{Agrees, queued_of}
 use Rattle.queued_jobs.proofs.Changing.{splits, is_map}
 use Rattle.queued_jobs.proofs.Steps.{displace_step, changed_view, few_wait, number_free, number_ready}

@@ -14,7 +14,7 @@ use Rattle.queued_jobs.proofs.Looking.{entries_later, held_value}
 use Rattle.std.proofs.lemmas.List.Sums.{sum_by-cons}
 use Rattle.dover_model.specs.Sound.{Each}
 use Rattle.dover_model.specs.State.{value_sum}
-use Rattle.privileged_queue.specs.Stack.{value_of}
+use Rattle.held_queue.specs.Stack.{value_of}
 use Rattle.queued_jobs.proofs.queues.Queues.hold.Goals as goal
 
 pub stop-requires : goal.stop-requires

@@ -4,7 +4,7 @@ use Rattle.std.proofs.lemmas.Option.{slice_get_within}
 use Rattle.dover_model.specs.declared.events.Role.TheVariants.{Running}
 use Rattle.dover_model.specs.State.{running, held}
 use Rattle.dover_model.specs.Orders.{due_first, first}
-use Rattle.privileged_queue.specs.Stack.{IsByDeadline}
+use Rattle.held_queue.specs.Stack.{IsByDeadline}
 use Rattle.queued_jobs.specs.Queued.{Agrees, queued_of}
 use Rattle.queued_jobs.proofs.Changing.{splits, is_map}
 use Rattle.queued_jobs.proofs.Steps.{resume_step, changed_view, free_job}

@@ -1,6 +1,6 @@
 use Rattle.std.proofs.Common.{sym, ap, ◌∙◌}
 use Rattle.dover_model.specs.Step.{view, arrival}
-use Rattle.plain_step.specs.Cases.{arrival_of}
+use Rattle.scanned_step.specs.Cases.{arrival_of}
 use Rattle.ready_jobs.specs.Parts.{Parted, state_of}
 use Rattle.ready_jobs.specs.Kept.{parted_of}
 use Rattle.ready_jobs.proofs.Seeing.{seen_coming}

@@ -1,7 +1,7 @@
 use Rattle.std.proofs.Common.{sym, ap, ◌∙◌, subst}
 use Rattle.dover_model.specs.State.{held}
 use Rattle.dover_model.specs.Orders.{due_first, first}
-use Rattle.privileged_queue.specs.Stack.{IsByDeadline}
+use Rattle.held_queue.specs.Stack.{IsByDeadline}
 use Rattle.ready_jobs.specs.Parts.{Parted, state_of}
 use Rattle.ready_jobs.specs.Kept.{parted_of}
 use Rattle.ready_jobs.proofs.Seeing.{held_list}

@@ -4,7 +4,7 @@ use Rattle.std.specs.List.{filter}
 use Rattle.dover_model.specs.declared.events.Task.{Task}
 use Rattle.dover_model.specs.State.{waiting}
 use Rattle.dover_model.specs.Step.{is_at_latest_start}
-use Rattle.dover_model.specs.Orders.{latest_first, first}
+use Rattle.dover_model.specs.Orders.{starts_before, first}
 use Rattle.ready_jobs.specs.Parts.{Parted, AreSound, state_of}
 use Rattle.ready_jobs.specs.Kept.{parted_of}
 use Rattle.ready_jobs.proofs.Seeing.{waiting_list, start_none, start_later, start_found}
@@ -18,7 +18,7 @@ first_latest-requires-clause-modest c = (subst AreSound (sym c.self.view_is) c.r
 
 -- the waiting jobs at their latest start, of the parts
 abbrev late : Parted → Option Task
-late q = first (latest_first q.version) (filter (is_at_latest_start (state_of q)) (waiting (state_of q)))
+late q = first (starts_before q.version) (filter (is_at_latest_start (state_of q)) (waiting (state_of q)))
 
 pub returns-in_err-start-clause-seen : goal.returns-in_err-start-clause-seen
 returns-in_err-start-clause-seen c =
@@ -27,7 +27,7 @@ returns-in_err-start-clause-seen c =
     c.from_residual.ensures
     ∙ sym (start_none p.version (state_of p) p.waiting sound.own sound.early
     (sym (sym c.in_err-start.was ∙ c.first_start.ensures)))
-    ∙ sym (ap (λ l. first (latest_first p.version) (filter (is_at_latest_start (state_of p)) l))
+    ∙ sym (ap (λ l. first (starts_before p.version) (filter (is_at_latest_start (state_of p)) l))
     (waiting_list p c.self.invariant.roles))
     ∙ ap late c.self.view_is
 
@@ -37,7 +37,7 @@ returns-then-start-self-clause-seen c =
     let sound : AreSound p = subst AreSound (sym c.self.view_is) c.requires in
     sym (start_later p.version (state_of p) p.waiting sound.own sound.early c.in_ok-start.start
     (sym (sym c.in_ok-start.was ∙ c.first_start.ensures)) (λ same. c.if-start-self.true same))
-    ∙ sym (ap (λ l. first (latest_first p.version) (filter (is_at_latest_start (state_of p)) l))
+    ∙ sym (ap (λ l. first (starts_before p.version) (filter (is_at_latest_start (state_of p)) l))
     (waiting_list p c.self.invariant.roles))
     ∙ ap late c.self.view_is
 
@@ -48,6 +48,6 @@ returns-clause-seen c =
     c.first_latest.ensures
     ∙ sym (start_found p.version (state_of p) p.waiting sound.own sound.early c.in_ok-start.start
     (sym (sym c.in_ok-start.was ∙ c.first_start.ensures)) c.if-start-self.false)
-    ∙ sym (ap (λ l. first (latest_first p.version) (filter (is_at_latest_start (state_of p)) l))
+    ∙ sym (ap (λ l. first (starts_before p.version) (filter (is_at_latest_start (state_of p)) l))
     (waiting_list p c.self.invariant.roles))
     ∙ ap late c.self.view_is

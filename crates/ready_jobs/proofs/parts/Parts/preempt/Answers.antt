@@ -10,7 +10,7 @@ use Rattle.dover_model.specs.State.{value_sum}
 use Rattle.dover_model.specs.Step.{with_role}
 use Rattle.dover_model.specs.Sound.{Each, IsMember}
 use Rattle.dover_model.proofs.Members.{on_map, sum_map}
-use Rattle.privileged_queue.specs.Stack.{value_of}
+use Rattle.held_queue.specs.Stack.{value_of}
 use Rattle.queued_jobs.proofs.Steps.{top_later}
 use Rattle.ready_jobs.specs.Parts.{Parted, AreParts, AreSound}
 use Rattle.ready_jobs.specs.Kept.{parted_of}

@@ -2,7 +2,7 @@ use Rattle.std.proofs.Common.{reverse, length, refl, sym, ap, subst, arith}
 use Rattle.std.specs.Prelude.{vec_capacity}
 use Rattle.std.proofs.lemmas.List.{length-map, length-reverse}
 use Rattle.dover_model.specs.Entries.{entry_of}
-use Rattle.privileged_queue.specs.Stack.{Stack}
+use Rattle.held_queue.specs.Stack.{Stack}
 use Rattle.ready_jobs.specs.Pools.{Pooled}
 use Rattle.ready_jobs.specs.Parts.{AreParts}
 use Rattle.ready_jobs.specs.Kept.{parted_of}

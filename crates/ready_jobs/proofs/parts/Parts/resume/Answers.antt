@@ -3,7 +3,7 @@ use Rattle.std.specs.Prelude.{vec_capacity}
 use Rattle.std.specs.Option.{option_to_list}
 use Rattle.std.proofs.lemmas.List.{reverse-append}
 use Rattle.dover_model.specs.Entries.{entry_of}
-use Rattle.privileged_queue.specs.Stack.{Stack}
+use Rattle.held_queue.specs.Stack.{Stack}
 use Rattle.queued_jobs.proofs.Steps.{without_first}
 use Rattle.ready_jobs.specs.Parts.{Parted, AreParts}
 use Rattle.ready_jobs.specs.Kept.{parted_of}

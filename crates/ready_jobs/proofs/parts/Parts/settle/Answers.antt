@@ -1,5 +1,5 @@
 use Rattle.std.proofs.Common.{sym, ap, ◌∙◌}
-use Rattle.plain_step.specs.Moves.{step_of}
+use Rattle.scanned_step.specs.Moves.{step_of}
 use Rattle.ready_jobs.specs.Parts.{Parted}
 use Rattle.ready_jobs.proofs.Silences.{part_after, known_sound, known_stale, from_on, waits_settles, waits_count}
 use Rattle.ready_jobs.proofs.Silences.{waits_cost}

@@ -2,7 +2,7 @@ use Rattle.std.proofs.Common.{◌<◌, min, sym, ap}
 use Rattle.std.proofs.Common.{◌∙◌, subst}
 use Rattle.dover_model.specs.State.{running, latest_start}
 use Rattle.dover_model.specs.Sound.{Each}
-use Rattle.plain_step.specs.Dues.{still_ticks, until_done}
+use Rattle.scanned_step.specs.Dues.{still_ticks, until_done}
 use Rattle.ready_jobs.specs.Parts.{Parted, AreSound, state_of}
 use Rattle.ready_jobs.specs.Kept.{parted_of}
 use Rattle.ready_jobs.proofs.Seeing.{before_start, before_none}

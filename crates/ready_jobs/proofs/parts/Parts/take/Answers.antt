@@ -3,7 +3,7 @@ use Rattle.std.proofs.Common.{◌∙◌, subst, arith}
 use Rattle.std.specs.Prelude.{vec_capacity}
 use Rattle.std.proofs.lemmas.List.{length-reverse}
 use Rattle.dover_model.specs.declared.events.Task.{Task}
-use Rattle.dover_model.specs.Orders.{latest_first, first}
+use Rattle.dover_model.specs.Orders.{starts_before, first}
 use Rattle.ready_jobs.specs.Changed.{made_wait}
 use Rattle.ready_jobs.specs.Reordered.{IsReordered}
 use Rattle.ready_jobs.specs.Pools.{Pooled}
@@ -22,7 +22,7 @@ add-requires-clause-room g c =
     let inside = c.self.inside in
     let p = parted_of inside in
     let runs = ap (λ (q : Parted). q.running) c.self.view_is ∙ c.requires.running in
-    let late = ap (λ (q : Parted). first (latest_first q.version) q.waiting) c.self.view_is ∙ c.requires.late in
+    let late = ap (λ (q : Parted). first (starts_before q.version) q.waiting) c.self.view_is ∙ c.requires.late in
     let out = c.take_latest-self-inside.ensures.rest c.args.x.now (c.take_latest-self-inside.ensures.was ∙ late) in
     omega (
       arith,
@@ -45,7 +45,7 @@ displace-requires-clause-room g c =
     let inside = c.self.inside in
     let p = parted_of inside in
     let runs = ap (λ (q : Parted). q.running) c.self.view_is ∙ c.requires.running in
-    let late = ap (λ (q : Parted). first (latest_first q.version) q.waiting) c.self.view_is ∙ c.requires.late in
+    let late = ap (λ (q : Parted). first (starts_before q.version) q.waiting) c.self.view_is ∙ c.requires.late in
     let out = c.take_latest-self-inside.ensures.rest c.args.x.now (c.take_latest-self-inside.ensures.was ∙ late) in
     omega (
       arith,
@@ -73,7 +73,7 @@ invariant_of-self g c =
     let two = c.add.new.self in
     let three = c.displace.new.pool in
     let runs = ap (λ (q : Parted). q.running) c.self.view_is ∙ c.requires.running in
-    let late = ap (λ (q : Parted). first (latest_first q.version) q.waiting) c.self.view_is ∙ c.requires.late in
+    let late = ap (λ (q : Parted). first (starts_before q.version) q.waiting) c.self.view_is ∙ c.requires.late in
     let out = c.take_latest-self-inside.ensures.rest x (c.take_latest-self-inside.ensures.was ∙ late) in
     let into = subst (λ t. IsReordered (t ∷ one.tasks) two.tasks) c.in_role.ensures c.add.ensures.more in
     let order = taken_order r x p.held p.waiting one.tasks two.tasks three.tasks out into c.displace.ensures.more in
@@ -109,7 +109,7 @@ returns-clause-rest g c =
     let one = c.take_latest-self-inside.new.self in
     let two = c.add.new.self in
     let three = c.displace.new.pool in
-    let late = ap (λ (q : Parted). first (latest_first q.version) q.waiting) c.self.view_is ∙ c.requires.late in
+    let late = ap (λ (q : Parted). first (starts_before q.version) q.waiting) c.self.view_is ∙ c.requires.late in
     let out = c.take_latest-self-inside.ensures.rest x (c.take_latest-self-inside.ensures.was ∙ late) in
     let into = subst (λ t. IsReordered (t ∷ one.tasks) two.tasks) c.in_role.ensures c.add.ensures.more in
     subst (λ (q : Parted). IsReordered (map made_wait (r ∷ q.held) ++ q.waiting) (x ∷ three.tasks)) c.self.view_is
@@ -120,7 +120,7 @@ returns-clause-count g c d fits =
     let inside = c.self.inside in
     let p = parted_of inside in
     let runs = ap (λ (q : Parted). q.running) c.self.view_is ∙ c.requires.running in
-    let late = ap (λ (q : Parted). first (latest_first q.version) q.waiting) c.self.view_is ∙ c.requires.late in
+    let late = ap (λ (q : Parted). first (starts_before q.version) q.waiting) c.self.view_is ∙ c.requires.late in
     let out = c.take_latest-self-inside.ensures.rest c.args.x.now (c.take_latest-self-inside.ensures.was ∙ late) in
     let few = subst (λ (q : Parted). length (ready_of q) + 1 < 2 ^ d) (sym c.self.view_is) fits in
     let busy = some_busy p inside.rooms inside.pool (vec_capacity inside.held) c.self.invariant c.args.r.now runs in

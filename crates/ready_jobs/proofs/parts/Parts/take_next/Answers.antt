@@ -3,7 +3,7 @@ use Rattle.dover_model.specs.declared.events.Event.TheVariants.{Take}
 use Rattle.ready_jobs.specs.Changed.{Leaves, printed}
 use Rattle.ready_jobs.specs.Parts.{ready_of}
 use Rattle.ready_jobs.proofs.Applied.{taken_leaves, taken_named}
-use Rattle.dover_model.specs.Orders.{latest_first}
+use Rattle.dover_model.specs.Orders.{starts_before}
 use Rattle.queued_jobs.proofs.Firsts.{first_member}
 use Rattle.ready_jobs.proofs.Costing.{take_costs}
 use Rattle.ready_jobs.proofs.parts.Parts.take_next.Goals as goal
@@ -24,7 +24,7 @@ returns-in-Some-first_late-clause-cost g c at d fits =
     let x = c.in-Some-first_late.x in
     take_costs p c.clock.ensures.roles d _ _ at c.requires.once c.args.stops c.args.starts c.in-Some.r x
     (sym c.running.ensures.is ∙ c.in-Some.is)
-    (first_member (latest_first p.version) p.waiting x (c.first_late.ensures.is x c.in-Some-first_late.is))
+    (first_member (starts_before p.version) p.waiting x (c.first_late.ensures.is x c.in-Some-first_late.is))
     (taken_named p c.clock.ensures.roles c.requires.once c.args.stops c.args.starts c.requires.next x
     (sym c.first_late.ensures.seen ∙ c.in-Some-first_late.is))
     (c.take.ensures.count d fits)

@@ -1,6 +1,6 @@
 use Rattle.std.proofs.Common.{◌-◌, refl, sym, ap, ◌∙◌, subst, arith}
-use Rattle.plain_step.specs.Dues.{still_ticks}
-use Rattle.plain_step.specs.Moves.{step_of}
+use Rattle.scanned_step.specs.Dues.{still_ticks}
+use Rattle.scanned_step.specs.Moves.{step_of}
 use Rattle.ready_jobs.specs.Parts.{Parted, AreSound, state_of}
 use Rattle.ready_jobs.specs.Following.{SettlesFrom}
 use Rattle.ready_jobs.proofs.Following.{parts_later, jump_low, roles_later}

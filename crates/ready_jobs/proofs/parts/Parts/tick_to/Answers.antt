@@ -1,5 +1,5 @@
 use Rattle.std.proofs.Common.{sym, ap, ◌∙◌}
-use Rattle.plain_step.specs.Moves.{step_of}
+use Rattle.scanned_step.specs.Moves.{step_of}
 use Rattle.ready_jobs.proofs.Following.{stale_no_wait}
 use Rattle.ready_jobs.proofs.Silences.{known_sound}
 use Rattle.ready_jobs.proofs.parts.Parts.tick_to.Goals as goal

@@ -1,6 +1,6 @@
 use Rattle.std.proofs.Common.{Some, sym, ap, ◌∙◌, subst, arith}
 use Rattle.std.specs.List.{slice_get}
-use Rattle.dover_model.specs.Orders.{latest_first, first}
+use Rattle.dover_model.specs.Orders.{starts_before, first}
 use Rattle.dover_model.proofs.Members.{some_same}
 use Rattle.ready_jobs.specs.Parts.{HaveOwnNumbers, AreModest}
 use Rattle.ready_jobs.specs.Pools.{Pooled}
@@ -24,7 +24,7 @@ returns-in_err-item c =
     c.from_residual.ensures
     ∙ latest_none inside.version inside.slots.items inside.by_latest c.self.invariant.0.latest
     (sym c.in_err-item.was ∙ c.first.ensures)
-    ∙ ap (λ (q : Pooled). first (latest_first q.version) q.tasks) c.self.view_is
+    ∙ ap (λ (q : Pooled). first (starts_before q.version) q.tasks) c.self.view_is
 
 pub returns : goal.returns
 returns c =
@@ -35,4 +35,4 @@ returns c =
     (sym c.in_ok-item.was ∙ c.first.ensures) own modest
     c.self.invariant.0.latest in
     some_same _ _ (sym c.job_at.ensures ∙ ap (slice_get inside.slots.items) c.place.ensures.is ∙ it.1) ∙ sym it.2
-    ∙ ap (λ (q : Pooled). first (latest_first q.version) q.tasks) c.self.view_is
+    ∙ ap (λ (q : Pooled). first (starts_before q.version) q.tasks) c.self.view_is

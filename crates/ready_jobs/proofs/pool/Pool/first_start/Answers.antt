@@ -1,6 +1,6 @@
 use Rattle.std.proofs.Common.{Some, sym, ap, ◌∙◌, subst, option_map}
 use Rattle.dover_model.specs.State.{latest_start}
-use Rattle.dover_model.specs.Orders.{latest_first, first}
+use Rattle.dover_model.specs.Orders.{starts_before, first}
 use Rattle.place_heap.specs.Items.{ItemFacts}
 use Rattle.ready_jobs.specs.Parts.{HaveOwnNumbers, AreModest}
 use Rattle.ready_jobs.specs.Pools.{Pooled}
@@ -13,7 +13,7 @@ returns-in_err-item c =
     c.from_residual.ensures
     ∙ ap (option_map latest_start) (latest_none inside.version inside.slots.items inside.by_latest
     c.self.invariant.0.latest (sym c.in_err-item.was ∙ c.first.ensures)
-    ∙ ap (λ (q : Pooled). first (latest_first q.version) q.tasks) c.self.view_is)
+    ∙ ap (λ (q : Pooled). first (starts_before q.version) q.tasks) c.self.view_is)
 
 pub returns : goal.returns
 returns c =
@@ -24,4 +24,4 @@ returns c =
     (sym c.in_ok-item.was ∙ c.first.ensures) own modest c.self.invariant.0.latest in
     ap Some (c.key.ensures ∙ ap (λ (i : ItemFacts). i.key) it.3.1)
     ∙ ap (option_map latest_start) (sym it.2
-    ∙ ap (λ (q : Pooled). first (latest_first q.version) q.tasks) c.self.view_is)
+    ∙ ap (λ (q : Pooled). first (starts_before q.version) q.tasks) c.self.view_is)

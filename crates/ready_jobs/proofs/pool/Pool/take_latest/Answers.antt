@@ -1,6 +1,6 @@
 use Rattle.std.proofs.Common.{◌∷◌, ◌+◌, ◌<◌, ◌^◌, sym, ap, ◌∙◌, subst, length, arith}
 use Rattle.std.specs.List.{slice_get}
-use Rattle.dover_model.specs.Orders.{latest_first, first}
+use Rattle.dover_model.specs.Orders.{starts_before, first}
 use Rattle.dover_model.proofs.Members.{some_same}
 use Rattle.dover_model.proofs.Tests.{none_is_some}
 use Rattle.ready_jobs.specs.Reordered.{IsReordered}
@@ -34,7 +34,7 @@ returns-in_err-item-clause-was g c =
     c.from_residual.ensures
     ∙ latest_none inside.version inside.slots.items inside.by_latest c.self.invariant.0.latest
     (sym c.in_err-item.was ∙ c.first.ensures)
-    ∙ ap (λ (q : Pooled). first (latest_first q.version) q.tasks) c.self.view_is
+    ∙ ap (λ (q : Pooled). first (starts_before q.version) q.tasks) c.self.view_is
 
 pub returns-clause-was : goal.returns-clause-was
 returns-clause-was g c =
@@ -45,7 +45,7 @@ returns-clause-was g c =
     (sym c.in_ok-item.was ∙ c.first.ensures) own modest
     c.self.invariant.0.latest in
     some_same _ _ (sym c.take_at.ensures.was ∙ ap (slice_get inside.slots.items) c.place.ensures.is ∙ it.1) ∙ sym it.2
-    ∙ ap (λ (q : Pooled). first (latest_first q.version) q.tasks) c.self.view_is
+    ∙ ap (λ (q : Pooled). first (starts_before q.version) q.tasks) c.self.view_is
 
 pub returns-clause-rest : goal.returns-clause-rest
 returns-clause-rest g c t is =

@@ -1,5 +1,5 @@
 use Rattle.std.proofs.Common.{◌<◌, length, ap, sym, subst}
-use Rattle.plain_step.specs.Moves.{step_of}
+use Rattle.scanned_step.specs.Moves.{step_of}
 use Rattle.ready_jobs.specs.Parts.{Parted}
 use Rattle.ready_jobs.specs.Course.{Course, Follows}
 use Rattle.ready_jobs.specs.Spending.{HasPaid}

@@ -1,5 +1,5 @@
 use Rattle.std.proofs.Common.{◌≤◌, ◌+◌, ◌++◌, ◌∷◌, [], sym, ap, subst}
-use Rattle.plain_step.specs.Moves.{state_at}
+use Rattle.scanned_step.specs.Moves.{state_at}
 use Rattle.queued_jobs.specs.Spending.{HasSpentFor}
 use Rattle.ready_jobs.specs.Reordered.{IsReordered}
 use Rattle.ready_jobs.specs.Parts.{Parted, ready_of}

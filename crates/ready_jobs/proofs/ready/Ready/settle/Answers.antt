@@ -1,5 +1,5 @@
 use Rattle.std.proofs.Common.{sym, ap, ◌∙◌, subst, refl}
-use Rattle.plain_step.specs.Moves.{step_of}
+use Rattle.scanned_step.specs.Moves.{step_of}
 use Rattle.dover_model.specs.Step.{Ticks}
 use Rattle.ready_jobs.specs.Parts.{ready_of}
 use Rattle.ready_jobs.specs.Course.{Course, Settled}

@@ -1,6 +1,6 @@
 use Rattle.std.proofs.Common.{◌≡◌, ◌+◌, ap, sym, subst, arith}
 use Rattle.dover_model.specs.Step.{Prints, open_step}
-use Rattle.plain_step.specs.Moves.{state_at}
+use Rattle.scanned_step.specs.Moves.{state_at}
 use Rattle.ready_jobs.specs.Parts.{Parted}
 use Rattle.ready_jobs.specs.Course.{Course, Follows, course_of}
 use Rattle.ready_jobs.specs.Spending.{HasPaid}

@@ -1,5 +1,5 @@
 use Rattle.std.proofs.Common.{sym, ap, ◌∙◌, subst}
-use Rattle.plain_step.specs.Moves.{step_of}
+use Rattle.scanned_step.specs.Moves.{step_of}
 use Rattle.dover_model.specs.declared.events.Event.TheVariants.{End}
 use Rattle.dover_model.specs.Run.{event_of}
 use Rattle.dover_model.specs.Step.{Prints}

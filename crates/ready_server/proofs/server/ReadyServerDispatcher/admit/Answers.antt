@@ -2,7 +2,7 @@ use Rattle.std.proofs.Common.{◌++◌, ◌∷◌, [], sym, subst}
 use Rattle.dover_model.specs.declared.events.Event.TheVariants.{Release}
 use Rattle.dover_model.specs.Instance.{with_jobs}
 use Rattle.dover_model.specs.Settled.{settled}
-use Rattle.dover_core.specs.declared.horizon.Horizon.TheVariants.{Mark}
+use Rattle.dover_server.specs.declared.horizon.Horizon.TheVariants.{Mark}
 use Rattle.ready_server.specs.Serving.{Serves}
 use Rattle.ready_server.proofs.Releasing.{release_course, release_ahead, release_given}
 use Rattle.ready_server.proofs.server.ReadyServerDispatcher.admit.Goals as goal

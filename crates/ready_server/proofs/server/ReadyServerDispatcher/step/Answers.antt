@@ -1,5 +1,5 @@
 use Rattle.std.proofs.Common.{sym, subst}
-use Rattle.dover_core.specs.Service.{MayFollow}
+use Rattle.dover_server.specs.Service.{MayFollow}
 use Rattle.dispatcher.specs.Dispatch.{due_by, Gives}
 use Rattle.ready_server.specs.Serving.{Serves, Rests}
 use Rattle.ready_server.proofs.server.ReadyServerDispatcher.step.Goals as goal

@@ -1,5 +1,5 @@
 use Rattle.std.proofs.Common.{sym, subst, ap, ◌∙◌, Some}
-use Rattle.dover_core.specs.Service.{Service}
+use Rattle.dover_server.specs.Service.{Service}
 use Rattle.event_feed.specs.Kept.{Kept}
 use Rattle.snapshot.specs.Kept.{IsReady}
 use Rattle.snapshot.specs.Feeds.{Gives}

@@ -1,9 +1,0 @@
-use Rattle.std.proofs.Common.{drop}
-use Rattle.dover_model.specs.Instance.{Instance}
-use Rattle.charge_ledger.specs.Rows.{IsRunOf}
-use Rattle.charge_ledger.proofs.Reading.{Reads}
-use Rattle.charge_ledger.proofs.charge.Charge.of.Given as goal
-
--- the ledger has read the steps so far
-abbrev pub invariant-loop-event : goal.invariant-loop-event
-invariant-loop-event l = (J : Instance) → IsRunOf l.fn.k l.run J → Reads J l.ledger (drop l.event-index l.run)

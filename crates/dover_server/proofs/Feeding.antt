@@ -1,0 +1,55 @@
+-- A valid list, fed job by job.
+use Rattle.std.proofs.Common.{◌≡◌, ℕ, ◌+◌, ◌≤◌, List, [], ◌∷◌, ◌++◌, sym, subst, append_assoc, arith}
+use Rattle.std.specs.List.{AllByRecursion}
+use Rattle.dover_model.specs.JobFacts.{JobFacts, IsJob}
+use Rattle.dover_model.specs.Limits.{last_tick}
+use Rattle.dover_model.specs.Instance.{IsInOrder, IsValid, with_jobs}
+use Rattle.dover_model.specs.Sound.{jobs_of}
+use Rattle.dover_model.proofs.Valid.{valid_front}
+use Rattle.dover_server.specs.declared.horizon.Horizon.TheVariants.{Mark}
+use Rattle.dover_server.specs.Service.{Service, list_of, admitted_task, with_job, MayFollow}
+use Rattle.dover_server.proofs.Admission.{jobs_more}
+
+-- what holds of all holds of the last
+all_back : {X : Type 0} (P : X → Type 0) (xs ys : List X) → AllByRecursion P (xs ++ ys) → AllByRecursion P ys
+all_back P [] ys all = all
+all_back P (x ∷ xs) ys all = all_back P xs ys all.1
+
+-- the last jobs are in order
+order_back : (xs ys : List JobFacts) → IsInOrder (xs ++ ys) → IsInOrder ys
+order_back [] ys order = order
+order_back (x ∷ xs) ys order = order_back xs ys order.1
+
+-- jobs released at this tick or later may follow it
+may_follow : (t : ℕ) (jobs : List JobFacts) → AllByRecursion (λ j. t ≤ j.release) jobs → AllByRecursion IsJob jobs
+    → AllByRecursion (λ j. MayFollow (Mark t) (Mark j.release)) jobs
+may_follow t [] later each = tt
+may_follow t (j ∷ jobs) later each =
+    let window : j.release + j.work ≤ j.deadline = each.0.window in let due : j.deadline ≤ last_tick = each.0.due in
+    ((later.0, omega arith), may_follow t jobs later.1 each.1)
+
+module _ (v : Service) (j : JobFacts) (rest : List JobFacts) (valid : IsValid (with_jobs (list_of v) (j ∷ rest))) where
+  -- all jobs, in two parts
+  parts : jobs_of v.state.tasks ++ (j ∷ rest) ≡ (jobs_of v.state.tasks ++ (j ∷ [])) ++ rest
+  parts = sym (append_assoc (jobs_of v.state.tasks) (j ∷ []) rest)
+
+  -- the list with the next job alone is valid
+  pub next_valid : IsValid (with_jobs (list_of v) (j ∷ []))
+  next_valid = valid_front (with_jobs (list_of v) (j ∷ [])) rest
+      (subst (λ jobs. IsValid (record { rules = v.rules; jobs = jobs })) parts valid)
+
+  -- so is the list after it with all further ones
+  pub rest_valid : (spare : ℕ) → IsValid (with_jobs (list_of (with_job v j spare)) rest)
+  rest_valid spare = subst (λ jobs. IsValid (record { rules = v.rules; jobs = jobs ++ rest }))
+      (sym (jobs_more v.state.tasks (admitted_task _ j)))
+      (subst (λ jobs. IsValid (record { rules = v.rules; jobs = jobs })) parts valid)
+
+  -- their releases may follow its release
+  pub rest_follow : AllByRecursion (λ i. MayFollow (Mark j.release) (Mark i.release)) rest
+  rest_follow = may_follow j.release rest (order_back (jobs_of v.state.tasks) (j ∷ rest) valid.in_order).0
+      (all_back IsJob (jobs_of v.state.tasks) (j ∷ rest) valid.each).1
+
+  -- so may its own
+  pub same_follows : MayFollow (Mark j.release) (Mark j.release)
+  same_follows = (may_follow j.release (j ∷ []) (omega arith, tt)
+      ((all_back IsJob (jobs_of v.state.tasks) (j ∷ rest) valid.each).0, tt)).0

@@ -1,0 +1,153 @@
+//! Earliest deadline first, from one release or completion to the next.
+ghost use Rattle.std.specs.Prelude.{◌≡◌, ◌+◌, ◌^◌, ◌<◌, ◌≤◌, ◌∷◌, ◌⊎◌, length, IfOk, OnOk};
+ghost use Rattle.std.specs.Bool.{OnTrue, OnFalse};
+ghost use Rattle.dover_model.specs.Instance.{IsInOrder};
+ghost use Rattle.dover_model.specs.Limits.{most_jobs};
+ghost use Rattle.feasibility.specs.Progress.{Stands, StandsAt, AreBehind, HasFew, IsPending, NoneBefore, RunsUntil};
+ghost use Rattle.feasibility.specs.Progress.{IsWhole, with_late};
+
+use crate::pieces::add_piece;
+use dover_model::{Job, Memory, Piece};
+use std::alloc::Global;
+use std::collections::BTreeMap;
+
+/// Where the schedule stands at a tick.
+#[derive(Drop)]
+pub struct Simulation {
+    /// The tick.
+    pub clock: u64,
+    /// How many jobs are released by now.
+    pub released: usize,
+    /// What is left of each job that is released and not done, by its deadline and number.
+    pub ready: BTreeMap<(u64, u32), u64>,
+    /// The stretches of the schedule so far.
+    pub pieces: Vec<Piece>,
+    /// The least deadline of a job that ran although it can't be done in time.
+    pub late: Option<u64>,
+}
+
+impl Simulation {
+    /// Makes the jobs ready that are released by now.
+    fn release(&mut self, jobs: &[Job]) -> Result<(), Memory>
+        requires order { IsInOrder jobs.now }
+        requires count { length jobs.now ≤ most_jobs }
+        requires stands { StandsAt jobs.now self.old self.old.clock }
+        ensures stands { OnOk result (StandsAt jobs.now self.new (self.new.clock + 1)) }
+        ensures clock { self.new.clock ≡ self.old.clock }
+        ensures rises { self.old.released ≤ self.new.released }
+        ensures few { OnOk result (length self.new.pieces.items + length self.new.ready.entries + self.old.released
+            ≤ length self.old.pieces.items + length self.old.ready.entries + self.new.released) }
+        ensures moves { IsPending jobs.now self.old.clock self.old.released
+            → OnOk result (self.old.released < self.new.released) }
+    {
+        while let Some(job) = jobs.get(self.released) {
+            if self.clock < job.release() {
+                break;
+            }
+            self.ready
+                .insert((job.deadline(), self.released as u32), job.work())?;
+            self.released += 1;
+        }
+        Ok(())
+    }
+
+    /// The tick to which a job runs that has `left` ticks left: its end, or the next release.
+    fn until(&self, jobs: &[Job], left: u64) -> u64
+        requires some { 1 ≤ left }
+        requires fits { self.now.clock + left < 2 ^ 64 }
+        requires none { NoneBefore jobs.now (self.now.clock + 1) self.now.released }
+        ensures { RunsUntil jobs.now self.now.clock self.now.released left result }
+    {
+        let done = self.clock + left;
+        match jobs.get(self.released) {
+            Some(next) => done.min(next.release()),
+            None => done,
+        }
+    }
+
+    /// Runs the job that is due first to its end or to the next release.
+    fn run(&mut self, jobs: &[Job], deadline: u64, number: u32, left: u64) -> Result<(), Memory>
+        requires order { IsInOrder jobs.now }
+        requires count { length jobs.now ≤ most_jobs }
+        requires stands { Stands jobs.now self.old.clock self.old.released
+            (((deadline, number), left) ∷ self.old.ready.entries)
+            self.old.pieces.items self.old.late (self.old.clock + 1) }
+        requires behind { AreBehind deadline number self.old.ready.entries }
+        ensures stands { OnOk result (StandsAt jobs.now self.new self.new.clock) }
+        ensures later { OnOk result (self.old.clock < self.new.clock) }
+        ensures released { self.new.released ≡ self.old.released }
+        ensures few { OnOk result (
+            (length self.new.pieces.items + length self.new.ready.entries ≤ length self.old.pieces.items
+            + length self.old.ready.entries + 1)
+            ⊎ ((length self.new.pieces.items + length self.new.ready.entries ≤ length self.old.pieces.items
+            + length self.old.ready.entries + 2)
+            × IsPending jobs.now self.new.clock self.new.released)) }
+    {
+        let done = self.clock + left;
+        let until = self.until(jobs, left);
+        add_piece(
+            &mut self.pieces,
+            Piece {
+                from: self.clock,
+                until,
+                number,
+            },
+        )?;
+        if until < done {
+            self.ready.insert((deadline, number), done - until)?;
+        }
+        self.late = with_late(self.late, deadline, done);
+        self.clock = until;
+        Ok(())
+    }
+
+    /// Goes on to the next release or completion. False where there is neither.
+    fn step(&mut self, jobs: &[Job]) -> Result<bool, Memory>
+        requires order { IsInOrder jobs.now }
+        requires count { length jobs.now ≤ most_jobs }
+        requires stands { StandsAt jobs.now self.old (self.old.clock + 1) }
+        requires few { HasFew self.old }
+        ensures stands { IfOk result (λ more. OnTrue more (StandsAt jobs.now self.new (self.new.clock + 1))) }
+        ensures few { IfOk result (λ more. OnTrue more (HasFew self.new)) }
+        ensures later { IfOk result (λ more. OnTrue more (self.old.clock < self.new.clock)) }
+        ensures whole { IfOk result (λ more. OnFalse more (IsWhole jobs.now self.new.pieces.items self.new.late)) }
+    {
+        match self.ready.pop_first() {
+            Some(((deadline, number), left)) => self.run(jobs, deadline, number, left)?,
+            None => match jobs.get(self.released) {
+                Some(next) => self.clock = next.release(),
+                None => return Ok(false),
+            },
+        }
+        self.release(jobs)?;
+        Ok(true)
+    }
+}
+
+/// The least deadline of a late job, where a job of this deadline is done at the tick `done` at the earliest.
+fn with_late(late: Option<u64>, deadline: u64, done: u64) -> Option<u64>
+    ensures { result ≡ with_late late deadline done }
+{
+    if done <= deadline {
+        return late;
+    }
+    Some(late.map_or(deadline, |least| least.min(deadline)))
+}
+
+/// The whole schedule.
+pub fn simulate(alloc: Global, jobs: &[Job]) -> Result<Simulation, Memory>
+    requires order { IsInOrder jobs.now }
+    requires count { length jobs.now ≤ most_jobs }
+    ensures { IfOk result (λ s. IsWhole jobs.now s.pieces.items s.late) }
+{
+    let mut simulation = Simulation {
+        clock: 0,
+        released: 0,
+        ready: BTreeMap::new(alloc),
+        pieces: Vec::new(alloc),
+        late: None,
+    };
+    simulation.release(jobs)?;
+    while simulation.step(jobs)? {}
+    Ok(simulation)
+}

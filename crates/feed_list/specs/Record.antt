@@ -1,0 +1,30 @@
+-- What is known of a feed whose reading has ended.
+use Rattle.std.specs.Prelude.{◌≡◌, ◌⊎◌, ℕ, List, [], true, Some, length}
+use Rattle.dover_model.specs.Feed.{Faulty, is_open, is_ended, account}
+use Rattle.dover_model.specs.Lines.{whole_lines}
+use Rattle.dover_model.specs.Session.{Session, IsValidSession, instance_of}
+use Rattle.event_feed.specs.Answers.{short_after}
+use Rattle.event_feed.specs.Faults.{IsFaultIn}
+use Rattle.event_feed.specs.Kept.{cause_of_fault}
+use Rattle.event_feed.specs.declared.faults.FeedFault.{FeedFault}
+use Rattle.feed_list.specs.Listing.{listed_instance}
+use Rattle.feed_list.specs.declared.listed.Listed.{Listed}
+
+-- Before a read: nothing was put, and the bytes got neither end the feed nor have a fault.
+abbrev pub MayRead : List ℕ → List ℕ → Type 0
+MayRead got put = (put ≡ []) × (is_open (account got) ≡ true)
+
+-- the feed of these bytes ended without a fault, and these are the jobs of its session
+pub record IsEnded (listed : Listed) (bytes : List ℕ) : Type 0 where
+  pub ended : is_ended (account bytes) ≡ true
+  pub session : Session
+  pub session_is : (account bytes).session ≡ Some session
+  pub valid : IsValidSession session
+  pub jobs : listed_instance listed ≡ instance_of session
+
+-- this is the fault of the feed, with the other job named where the ratio is broken, or the feed goes on and this says
+-- that it is short
+abbrev pub IsRefusedBy : FeedFault → List ℕ → Type 0
+IsRefusedBy fault bytes =
+    (((account bytes).standing ≡ Faulty fault.line (cause_of_fault fault.cause)) × IsFaultIn fault bytes)
+    ⊎ ((is_open (account bytes) ≡ true) × (fault ≡ short_after (length (whole_lines bytes))))

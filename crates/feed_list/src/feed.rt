@@ -1,0 +1,73 @@
+//! What is kept of a feed between its bytes.
+ghost use Rattle.std.specs.Prelude.{◌≡◌, ◌∷◌, ◌++◌, ℕ, List, []};
+ghost use Rattle.dover_model.specs.Feed.{account};
+ghost use Rattle.dover_model.specs.Lines.{lines_of};
+ghost use Rattle.event_feed.specs.Faults.{IsFirstFault, IsFaultIn};
+ghost use Rattle.event_feed.specs.declared.faults.FeedFault.{FeedFault};
+ghost use Rattle.feed_list.specs.Feeding.{FeedStands};
+ghost use Rattle.feed_list.specs.Listing.{StandsAt};
+ghost use Rattle.feed_list.specs.declared.gathering.Progress.TheVariants.{Open, Refused};
+
+use crate::gathering::{Gathering, Progress};
+use event_feed::Intake;
+use line_text::{Lines, Step};
+use std::alloc::Global;
+
+/// What is kept of a feed: the line that has begun, and what the lines before it said.
+#[derive(Drop)]
+pub(crate) struct Feed {
+    pub(crate) lines: Lines,
+    pub(crate) gathering: Gathering,
+}
+
+impl Feed {
+    /// Nothing was read yet.
+    pub(crate) fn new(alloc: Global) -> Feed
+        ensures { FeedStands result [] }
+    {
+        Feed {
+            lines: Lines::new(),
+            gathering: Gathering {
+                intake: Intake::new(),
+                declared: None,
+                jobs: Vec::new(alloc),
+            },
+        }
+    }
+
+    /// Takes a byte of the feed.
+    fn take_byte(&mut self, byte: u8) -> Progress
+        requires { (x : List ℕ) × FeedStands self.old x }
+        ensures at { (x : List ℕ) → FeedStands self.old x →
+            StandsAt result self.new.gathering.declared self.new.gathering.jobs.items (account (x ++ byte ∷ [])) }
+        ensures stands { (x : List ℕ) → FeedStands self.old x → result ≡ Open → FeedStands self.new (x ++ byte ∷ []) }
+        ensures names { (x : List ℕ) (fault : FeedFault) → FeedStands self.old x → result ≡ Refused fault →
+            IsFirstFault fault (lines_of (x ++ byte ∷ [])) }
+    {
+        match self.lines.push(byte) {
+            Step::More => Progress::Open,
+            Step::Line => self.gathering.take_line(self.lines.line()),
+            Step::TooLong => self.gathering.take_line(self.lines.line()),
+        }
+    }
+
+    /// Takes a piece of the feed, up to a line that ends it or is faulty.
+    pub(crate) fn take_piece(&mut self, bytes: &[u8]) -> Progress
+        requires { (x : List ℕ) × FeedStands self.old x }
+        ensures at { (x : List ℕ) → FeedStands self.old x →
+            StandsAt result self.new.gathering.declared self.new.gathering.jobs.items (account (x ++ bytes.now)) }
+        ensures stands { (x : List ℕ) → FeedStands self.old x → result ≡ Open → FeedStands self.new (x ++ bytes.now) }
+        ensures names { (x : List ℕ) (fault : FeedFault) → FeedStands self.old x → result ≡ Refused fault
+            → IsFaultIn fault (x ++ bytes.now) }
+    {
+        for byte in bytes {
+            match self.take_byte(*byte) {
+                Progress::Open => {}
+                Progress::Ended => return Progress::Ended,
+                Progress::Refused(fault) => return Progress::Refused(fault),
+                Progress::NoMemory => return Progress::NoMemory,
+            }
+        }
+        Progress::Open
+    }
+}

@@ -1,0 +1,28 @@
+use Rattle.std.proofs.Common.{sym, subst}
+use Rattle.queued_jobs.specs.Spending.{CostsAtMost}
+use Rattle.dover_model.specs.Feed.{account}
+use Rattle.event_feed.specs.Answers.{admitted_in}
+use Rattle.event_feed.proofs.Admitting.{admitted_front}
+use Rattle.question_words.specs.Questions.{says}
+use Rattle.queued_jobs.proofs.Spending.{none_few, few_more}
+use Rattle.question_words.proofs.Talking.{steady, few}
+use Rattle.question_words.proofs.asking.AskingTalker.laws.Goals as goal
+
+pub returns-clause-steady : goal.returns-clause-steady
+returns-clause-steady g c = λ a. steady (says a.question)
+
+pub returns-clause-few : goal.returns-clause-few
+returns-clause-few g c = λ a t m x at goes. few t.reader x at.reads goes
+
+pub returns-clause-spent : goal.returns-clause-spent
+returns-clause-spent g c = λ a t m x rest at.
+    subst (λ n. CostsAtMost (admitted_in (account x)) a.before n) (sym at.0.counts)
+    (none_few (admitted_in (account x)) a.before)
+
+pub returns-clause-rested : goal.returns-clause-rested
+returns-clause-rested g c = λ a t m x at.
+    subst (λ n. CostsAtMost (admitted_in (account x)) a.before n) (sym at.counts)
+    (none_few (admitted_in (account x)) a.before)
+
+pub returns-clause-behind : goal.returns-clause-behind
+returns-clause-behind g c = λ a m x y costs. few_more _ _ a.before m (admitted_front x y) costs

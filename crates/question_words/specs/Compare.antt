@@ -1,0 +1,62 @@
+-- What the word `compare` says of the jobs of a feed.
+use Rattle.std.specs.Prelude.{◌≡◌, ◌≤◌, ℕ, List, [], ◌∷◌, codes, Some, length}
+use Rattle.dover_model.specs.Bound.{bound}
+use Rattle.dover_model.specs.Instance.{Instance}
+use Rattle.dover_model.specs.Lines.{with_numbers, in_lines}
+use Rattle.dover_model.specs.Run.{completed_value}
+use Rattle.dover_model.specs.Schedules.{worth}
+use Rattle.dover_model.specs.Session.{Session, instance_of}
+use Rattle.dover_model.specs.Feed.{account}
+use Rattle.dover_port.specs.Moves.{Move, ins}
+use Rattle.dover_port.specs.declared.status.Status.{Status}
+use Rattle.dover_port.specs.declared.status.Status.TheVariants.{Done, Refused}
+use Rattle.policy_lab.specs.Picks.{Picks}
+use Rattle.policy_lab.specs.PolicyRun.{policy_run, AreTooLarge}
+use Rattle.policy_lab.specs.Standard.{earliest_deadline, greatest_density}
+use Rattle.queued_jobs.specs.Spending.{CostsAtMost}
+use Rattle.question_words.specs.Texts.{size_text}
+use Rattle.question_words.specs.declared.compare.Compared.{Compared}
+
+-- what the schedule of a policy is worth
+abbrev pub worth_of : Picks → Instance → ℕ
+worth_of picks J = worth J (policy_run picks J.jobs)
+
+-- the value that the run of these jobs completes, what the two policies' schedules are worth, and the bound on what any
+-- is worth
+abbrev pub compared_of : Instance → Compared
+compared_of J = let value : ℕ = completed_value J in record {
+  dover = value;
+  edf = worth_of earliest_deadline J;
+  dense = worth_of greatest_density J;
+  bound = bound J.rules.ratio value;
+}
+
+-- the lines of these numbers
+abbrev pub compared_lines : Compared → List (List ℕ)
+compared_lines c =
+    with_numbers (codes "dover") (c.dover ∷ [])
+    ∷ with_numbers (codes "edf") (c.edf ∷ [])
+    ∷ with_numbers (codes "dense") (c.dense ∷ [])
+    ∷ with_numbers (codes "bound") (c.bound ∷ [])
+    ∷ []
+
+-- what is said of jobs that aren't too many or too late for the policies
+abbrev pub compare_text : Instance → List ℕ
+compare_text J = in_lines (compared_lines (compared_of J))
+
+-- neither policy's schedule is worth more than the bound
+pub record AreWithin (c : Compared) : Type 0 where
+  pub edf : c.edf ≤ c.bound
+  pub dense : c.dense ≤ c.bound
+
+-- Done with the four numbers, and Refused exactly where the policies aren't run over so large a feed
+abbrev pub SaysCompare : Instance → Status → List ℕ → Type 0
+SaysCompare J Done text = (AreTooLarge J.jobs → ⊥) × AreWithin (compared_of J) × (text ≡ compare_text J)
+SaysCompare J Refused text = AreTooLarge J.jobs × (text ≡ size_text)
+SaysCompare J _ text = ⊥
+
+-- the comparisons of a call whose feed admits n jobs are few: at most 80 * (n + 1) * d, where n + 1 has at most d
+-- binary digits
+abbrev pub IsFrugal : (before after : ℕ) → List Move → Type 0
+IsFrugal before after moves = (S : Session) → (account (ins moves)).session ≡ Some S
+    → CostsAtMost (length (instance_of S).jobs) before after

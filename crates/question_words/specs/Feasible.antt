@@ -1,0 +1,48 @@
+-- What the word `feasible` says of the jobs of a feed.
+use Rattle.std.specs.Prelude.{◌≡◌, ℕ, List, [], ◌∷◌, length, codes}
+use Rattle.dover_model.specs.Instance.{Instance}
+use Rattle.dover_model.specs.Lines.{with_numbers, in_lines}
+use Rattle.dover_model.specs.Schedules.{Meets}
+use Rattle.dover_model.specs.declared.pieces.Piece.{Piece}
+use Rattle.dover_port.specs.declared.status.Status.{Status}
+use Rattle.dover_port.specs.declared.status.Status.TheVariants.{Done, No, Refused, ReadFault, WriteFault, Memory}
+use Rattle.feasibility.specs.Feasibility.{ShowsAll, ShowsWindow}
+use Rattle.feasibility.specs.declared.answer.Feasible.{Feasible}
+use Rattle.feasibility.specs.declared.answer.Feasible.TheVariants.{All, Window}
+use Rattle.question_words.specs.Texts.{piece_lines}
+
+-- how many pieces there are, and each of them
+abbrev pub pieces_text : List Piece → List ℕ
+pieces_text pieces = in_lines (with_numbers (codes "feasible") (length pieces ∷ []) ∷ piece_lines pieces)
+
+-- a window with more work than ticks
+abbrev pub window_text : (a b work : ℕ) → List ℕ
+window_text a b work = in_lines (with_numbers (codes "window") (a ∷ b ∷ work ∷ []) ∷ [])
+
+-- Done where some schedule serves every job, with the pieces of one that does, and else No, with the window that shows
+-- it
+abbrev pub SaysFeasible : Instance → Status → List ℕ → Type 0
+SaysFeasible J Done text = Meets J × ((pieces : List Piece) × ShowsAll J.jobs pieces × (text ≡ pieces_text pieces))
+SaysFeasible J No text = (Meets J → ⊥)
+    × ((a : ℕ) × (b : ℕ) × (work : ℕ) × ShowsWindow J.jobs a b work × (text ≡ window_text a b work))
+SaysFeasible J _ text = ⊥
+
+-- the statuses that the word ends with
+abbrev pub IsFeasibleAnswer : Status → Type 0
+IsFeasibleAnswer Done = Unit {0}
+IsFeasibleAnswer No = Unit {0}
+IsFeasibleAnswer Refused = Unit {0}
+IsFeasibleAnswer ReadFault = Unit {0}
+IsFeasibleAnswer WriteFault = Unit {0}
+IsFeasibleAnswer Memory = Unit {0}
+IsFeasibleAnswer _ = ⊥
+
+-- the status and the text of an answer
+abbrev pub status_of : Feasible → Status
+status_of (All pieces) = Done
+status_of (Window a b work) = No
+
+-- its text
+abbrev pub text_of : Feasible → List ℕ
+text_of (All pieces) = pieces_text pieces.items
+text_of (Window a b work) = window_text a b work

@@ -1,0 +1,99 @@
+//! What the reading loop calls: a reader of the feed, which is asked a question on its jobs at the end.
+ghost use Rattle.std.specs.Prelude.{◌≡◌, [], length};
+ghost use Rattle.dialogue.specs.Turns.{StopCause, StopsOn};
+ghost use Rattle.queued_jobs.specs.Spending.{CostsAtMost};
+ghost use Rattle.dover_model.specs.Instance.{IsValid};
+ghost use Rattle.feed_list.specs.Listing.{listed_instance};
+ghost use Rattle.question_words.specs.Asking.{SaysBy};
+ghost use Rattle.question_words.specs.Questions.{says};
+ghost use Rattle.question_words.specs.Talking.{Asked, ask_talk, Stands, IsAt, Costs};
+
+use crate::refusing::refuse;
+use crate::{Question, best, compare, feasible};
+use dialogue::{Stop, Talker};
+use dover_model::Memory;
+use dover_port::{Output, Port, Status};
+use feed_list::{FeedReader, Listed};
+use line_text::BackLine;
+use std::alloc::Global;
+use std::marker::PhantomData;
+use std::sync::ledger::Ledger;
+use step_count::Steps;
+
+/// A question on the jobs of the feed that is read. Nothing is due before the answer.
+#[derive(Drop)]
+pub(crate) struct Asking<L: Ledger> {
+    pub(crate) alloc: Global,
+    pub(crate) question: Question,
+    pub(crate) reader: FeedReader,
+    pub(crate) counts: PhantomData<L>,
+}
+
+/// Puts the answer to the question on these jobs.
+fn answer<P: Port, L: Ledger>(
+    alloc: Global,
+    port: &mut P,
+    out: &mut Output,
+    question: Question,
+    listed: &Listed,
+    steps: &mut Steps<L>,
+) -> Result<Status, Stop>
+    requires empty { out.old ≡ [] }
+    requires valid { IsValid (listed_instance listed.now) }
+    ensures says { SaysBy (says question) (listed_instance listed.now)
+        (P.moves port.old) (P.moves port.new) out.new result }
+    ensures count { CostsAtMost (length listed.now.jobs.items) steps.old steps.new }
+    ensures cause { StopCause result
+        (P.write_faults port.old) (P.write_faults port.new) (P.read_faults port.old) (P.read_faults port.new) }
+    ensures stops { StopsOn result (P.calls port.old) (P.calls port.new) }
+{
+    match question {
+        Question::Feasible => feasible::answer(alloc, port, out, &listed.jobs),
+        Question::Best => best::answer(alloc, port, out, listed, steps),
+        Question::Compare => compare::answer(alloc, port, out, listed, steps),
+    }
+}
+
+impl<L: Ledger> Talker for Asking<L> {
+    type Meter = Steps<L>;
+
+    ghost about = { Asked };
+
+    ghost talk = { λ asked. ask_talk (says asked.question) };
+
+    ghost stands = { λ asked a steps. IsAt asked a.question a.reader steps };
+
+    ghost ready = { λ asked a steps. Stands asked a.question a.reader steps };
+
+    ghost costs = { λ asked steps. Costs asked steps };
+
+    fn laws() {}
+
+    fn take(&mut self, _meter: &mut Steps<L>, piece: &[u8]) -> Result<usize, Memory> {
+        match self.reader.take(piece) {
+            Ok(()) => Ok(piece.len()),
+            Err(error) => Err(error),
+        }
+    }
+
+    fn next_part(&mut self, _meter: &mut Steps<L>, _part: &mut BackLine) -> bool {
+        false
+    }
+
+    fn goes_on(&self, _meter: &Steps<L>) -> bool {
+        self.reader.goes_on()
+    }
+
+    fn answer<P: Port>(
+        self,
+        meter: &mut Steps<L>,
+        port: &mut P,
+        out: &mut Output,
+        _ended: bool,
+    ) -> Result<Status, Stop> {
+        match self.reader.close() {
+            Ok(listed) => answer(self.alloc, port, out, self.question, &listed, meter),
+            Err(fault) => refuse(port, out, fault),
+        }
+    }
+}

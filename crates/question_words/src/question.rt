@@ -1,0 +1,53 @@
+//! The questions, each by its word.
+ghost use Rattle.std.specs.Prelude.{◌≡◌};
+ghost use Rattle.dover_port.specs.Causes.{Causes, StopsWith};
+ghost use Rattle.dover_port.specs.Moves.{Since};
+ghost use Rattle.question_words.specs.Compare.{IsFrugal};
+ghost use Rattle.question_words.specs.Questions.{says, IsAnswerTo};
+ghost use Rattle.question_words.specs.Record.{Tells};
+
+use crate::asking::Asking;
+use dialogue::converse;
+use dover_port::{Port, Status};
+use feed_list::FeedReader;
+use std::alloc::Global;
+use std::marker::PhantomData;
+use std::sync::ledger::Ledger;
+use step_count::Steps;
+
+/// What is asked about the jobs of a feed.
+#[derive(Clone, Copy, Debug, PartialEq, Eq)]
+pub enum Question {
+    /// Whether some schedule serves every job.
+    Feasible,
+    /// What the best schedule is worth.
+    Best,
+    /// What the rules complete, and what two other policies do.
+    Compare,
+}
+
+/// Reads a feed to its end, and then answers the question on its jobs. A feed with a fault, or that ends too early, is
+/// refused. Refused job lines of version Two are passed over. Memory is taken for each admitted job, and for the
+/// answer.
+pub fn question_word<P: Port, L: Ledger>(
+    alloc: Global,
+    port: &mut P,
+    question: Question,
+    steps: &mut Steps<L>,
+) -> Status
+    ensures tells { Since (P.moves port.old) (P.moves port.new) (Tells (says question) result) }
+    ensures answer { IsAnswerTo question result }
+    ensures count { Since (P.moves port.old) (P.moves port.new)
+        (λ moves. result ≡ Status.Done → IsFrugal steps.old steps.new moves) }
+    ensures causes { Causes result
+        (P.read_faults port.old) (P.read_faults port.new) (P.write_faults port.old) (P.write_faults port.new) }
+    ensures stops { StopsWith result (P.calls port.old) (P.calls port.new) }
+{
+    let asking = Asking {
+        alloc,
+        question,
+        reader: FeedReader::new(alloc),
+        counts: PhantomData,
+    };
+    converse(port, asking, steps)
+}

@@ -1,0 +1,51 @@
+//! The word `trial`.
+ghost use Rattle.std.specs.Prelude.{◌≡◌, ◌<◌, ◌≤◌, ◌^◌};
+ghost use Rattle.dover_model.specs.Limits.{most_jobs};
+ghost use Rattle.dover_model.specs.Reports.{summary};
+ghost use Rattle.dover_port.specs.Causes.{Causes, StopsWith};
+ghost use Rattle.dover_port.specs.Moves.{Since};
+ghost use Rattle.trial_words.specs.Lists.{trial_instance};
+ghost use Rattle.trial_words.specs.Record.{Writes, IsDoneOrNotWritten};
+ghost use Rattle.queued_jobs.specs.Spending.{CostsAtMost};
+
+use crate::lines::write_summary;
+use crate::serving::serve_all;
+use crate::stated::keeps_limits;
+use dover_model::Ratio;
+use dover_port::{Port, Status};
+use trial_jobs::Gen;
+use std::alloc::Global;
+use std::sync::ledger::Ledger;
+use step_count::Steps;
+
+/// Serves the stated jobs of a seed, and writes the summary of their run: the jobs, those that were completed and
+/// abandoned with their values, the takes, and the bound on the value of every schedule. Nothing is read. The seed is
+/// below 2^31, the count at most 1,000,000.
+pub fn trial_word<P: Port, L: Ledger>(
+    alloc: Global,
+    port: &mut P,
+    seed: u32,
+    count: u32,
+    k: Ratio,
+    steps: &mut Steps<L>,
+) -> Status
+    requires seed { seed < 2 ^ 31 }
+    requires count { count ≤ most_jobs }
+    ensures writes { Since (P.moves port.old) (P.moves port.new)
+        (Writes result (summary (trial_instance k seed count))) }
+    ensures answer { IsDoneOrNotWritten result }
+    ensures causes { Causes result (P.read_faults port.old) (P.read_faults port.new) (P.write_faults port.old)
+        (P.write_faults port.new) }
+    ensures stops { StopsWith result (P.calls port.old) (P.calls port.new) }
+    ensures count { result ≡ Status.Done → CostsAtMost count steps.old steps.new }
+{
+    keeps_limits(k);
+    let mut jobs = Gen::new(seed, count, k);
+    let Ok(tally) = serve_all(alloc, k, &mut jobs, count, steps) else {
+        return Status::Memory;
+    };
+    match write_summary(port, &tally.counts(count, k)) {
+        Ok(()) => Status::Done,
+        Err(_) => Status::WriteFault,
+    }
+}
