@@ -7,8 +7,8 @@ ghost use Rattle.dover_model.specs.Sound.{Each};
 ghost use Rattle.best_set.specs.BestSet.{IsGood};
 ghost use Rattle.best_set.specs.Search.{IsChoice};
 
-use feasibility::{Feasible, judge_feasible};
 use dover_model::{Job, Memory, Piece};
+use feasibility::{Feasible, judge_feasible};
 use std::alloc::Global;
 
 /// Some of the jobs, of which one schedule serves each.

@@ -10,8 +10,8 @@ ghost use Rattle.dover_server.specs.Service.{MayFollow};
 ghost use Rattle.queued_jobs.specs.Spending.{CostsAtMost};
 ghost use Rattle.dispatcher.specs.Dispatch.{no_jobs, due_by, Gives};
 
-use dover_server::Horizon;
 use dover_model::{Event, Job, Memory, Ratio, Version};
+use dover_server::Horizon;
 use std::alloc::Global;
 use std::sync::ledger::Ledger;
 use step_count::Steps;

@@ -3,8 +3,8 @@ ghost use Rattle.std.specs.Prelude.{◌≡◌, ◌≤◌, ◌+◌, ◌∷◌, []
 ghost use Rattle.dispatcher.specs.Serving.{Serves, Rests, HasRoom, HasPaid};
 
 use crate::dispatcher::Dispatcher;
-use dover_server::{Horizon, Server};
 use dover_model::{Event, Job, Memory, Ratio, Version};
+use dover_server::{Horizon, Server};
 use std::alloc::Global;
 use std::sync::ledger::Ledger;
 use step_count::Steps;

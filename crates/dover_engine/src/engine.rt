@@ -16,9 +16,9 @@ ghost use Rattle.dover_engine.specs.Calls.{not_made, mark_refusal, IsAdmitted, I
 use crate::causes::{NotAdmitted, NotMade, NotStepped};
 use crate::decision::{Decision, decision_in};
 use admission::Admission;
-use dover_server::{Horizon, Server};
 use dover_model::jobs::LAST_TICK;
 use dover_model::{Event, Ratio, Version};
+use dover_server::{Horizon, Server};
 use std::alloc::Global;
 use std::marker::Model;
 use std::sync::ledger::Ledger;

@@ -65,7 +65,7 @@ module _ (J : Instance) (valid : IsValid J) (mark : ℕ) (more : List JobFacts) 
   open_behind (x ∷ xs) s t keeps path =
       let same : open_step J.rules (with_later s ks) ≡ open_step J.rules s =
       same_step J.rules s ks mark come.0 come.1 (late_early (waits_for_mark (open_step J.rules s)) mark s.clock path.1)
-          in
+      in
       let next : after (with_later s ks) (open_step J.rules (with_later s ks)) ≡ with_later
       (after s (open_step J.rules s)) ks =
       ap (after (with_later s ks)) same

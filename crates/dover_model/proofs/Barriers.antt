@@ -53,7 +53,7 @@ module _ (J : Instance) (valid : IsValid J) (mark : ℕ) where
     by_clock (inl same) = omega arith
     by_clock (inr it) =
         let less : s.clock < mark =
-            late_early (waits_for_mark (open_step J.rules s)) mark s.clock before (ap waits_for_mark it.0) in
+        late_early (waits_for_mark (open_step J.rules s)) mark s.clock before (ap waits_for_mark it.0) in
         omega (arith, it.1)
 
   -- a settled run ends at its barrier

@@ -270,7 +270,7 @@ module _ (J : Instance) (valid : IsValid J) (mark : ℕ) (j : JobFacts) (js : Li
   step_behind : (s : State) → Keeps J s → IsBefore J.rules mark s → step J.rules (with_later s ks) ≡ open_step J.rules s
   step_behind s keeps before = step_open J.rules (with_later s ks) (not_over s.tasks _ _ refl)
       ∙ same_step J.rules s ks mark come.0 come.1
-          (late_early (waits_for_mark (open_step J.rules s)) mark s.clock before)
+      (late_early (waits_for_mark (open_step J.rules s)) mark s.clock before)
 
   -- all steps of a path
   pub path_behind : (xs : List Step) (s t : State) → Keeps J s → IsOpenPath J.rules mark s xs t

@@ -9,8 +9,8 @@ ghost use Rattle.dover_report.specs.Lines.{row_lines};
 
 use crate::counts::{Counts, count, released};
 use crate::lines::put_line;
-use intervals::{Charge, Interval};
 use dover_model::{Event, Memory, Ratio};
+use intervals::{Charge, Interval};
 use std::alloc::Global;
 
 /// The report on the run that prints these steps: its ratio, its summary and its intervals. The jobs of the run are

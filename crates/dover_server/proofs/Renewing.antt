@@ -55,7 +55,7 @@ module _ (v : Service) (stands : Stands v) (mark : ℕ) (ready : IsReadyFor v ma
     barrier =
         let clock : v.state.clock ≡ mark = stands.reached mark ready in
         ap (λ m. waits_for_mark m && nat_le mark v.state.clock)
-            (over_ticks v.rules v.state stands.valid stands.sound over)
+        (over_ticks v.rules v.state stands.valid stands.sound over)
         ∙ le-leb mark v.state.clock (omega arith)
 
     -- is here

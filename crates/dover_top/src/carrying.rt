@@ -8,16 +8,16 @@ ghost use Rattle.dover_top.specs.Requests.{MayCarry};
 
 use crate::request::Request;
 use dover_port::{Port, Status};
-use question_words::question_word;
 use judge_word::judge_word;
 use lanes_word::lanes_word;
+use question_words::question_word;
 use report_word::report_word;
 use resume_word::resume_word;
 use serve_word::{pause_word, serve_word};
-use trial_words::{bait_word, trial_word};
 use std::alloc::Global;
 use std::sync::ledger::Ledger;
 use step_count::Steps;
+use trial_words::{bait_word, trial_word};
 use unroll_word::unroll_word;
 
 /// Carries out a request.

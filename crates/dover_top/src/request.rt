@@ -10,8 +10,8 @@ ghost use Rattle.dover_top.specs.Requests.{Asks};
 ghost use Rattle.dover_top.specs.declared.request.Request.{Request};
 
 use dover_model::Ratio;
-use question_words::Question;
 use line_text::numeral;
+use question_words::Question;
 use report_word::Form;
 use run_view::Window;
 use serve_word::AtEnd;

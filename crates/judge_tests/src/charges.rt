@@ -1,7 +1,7 @@
 ghost use Rattle.std.specs.Prelude.{◌≡◌};
 
-use intervals::{Charge, Interval};
 use dover_model::{Event, Job, Ratio};
+use intervals::{Charge, Interval};
 use std::process::Abort;
 
 /// The job of these numbers.

@@ -11,8 +11,8 @@ ghost use Rattle.lane_server.specs.declared.lane.Work.TheVariants.{Nothing, Run,
 
 use crate::out::LaneOut;
 use dispatcher::Dispatcher;
-use dover_server::Horizon;
 use dover_model::{Job, Memory, Ratio, Version};
+use dover_server::Horizon;
 use event_feed::{Fed, FeedFault, Intake};
 use std::alloc::Global;
 use std::sync::ledger::Ledger;

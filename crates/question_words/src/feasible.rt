@@ -9,10 +9,10 @@ ghost use Rattle.question_words.specs.Asking.{SaysBy};
 ghost use Rattle.question_words.specs.Feasible.{SaysFeasible, pieces_text, status_of, text_of};
 
 use crate::lines::put_pieces;
-use feasibility::{Feasible, judge_feasible};
 use dialogue::Stop;
 use dover_model::{Job, Piece};
 use dover_port::{Failed, Output, Port, Status};
+use feasibility::{Feasible, judge_feasible};
 use line_output::put_numbers;
 use std::alloc::Global;
 

@@ -8,8 +8,8 @@ ghost use Rattle.feed_list.specs.Listing.{instance_with};
 ghost use Rattle.queued_jobs.specs.Spending.{HasSpent, CostsAtMost};
 ghost use Rattle.question_words.specs.Serving.{HasTaken};
 
-use dover_server::{Horizon, Server};
 use dover_model::{Event, Job, Memory, Ratio, Version};
+use dover_server::{Horizon, Server};
 use std::alloc::Global;
 use std::sync::ledger::Ledger;
 use step_count::Steps;

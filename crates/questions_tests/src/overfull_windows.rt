@@ -4,8 +4,8 @@ ghost use Rattle.std.specs.Prelude.{◌≡◌, ◌≤◌, length};
 ghost use Rattle.std.specs.Bool.{OnTrue};
 ghost use Rattle.dover_model.specs.Instance.{IsInOrder};
 
-use feasibility::{Feasible, an_overfull_window_excludes_meeting, judge_feasible};
 use dover_model::{Job, Memory, Piece};
+use feasibility::{Feasible, an_overfull_window_excludes_meeting, judge_feasible};
 use std::alloc::Global;
 use std::process::Abort;
 use std::test::Fail;

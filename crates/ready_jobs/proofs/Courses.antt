@@ -384,7 +384,7 @@ module _ (c : Course) (J : Instance) (z : State) (mark : ℕ) (m : Move) (e : Ev
   pub tested_late : b ≡ true → Settled c J z mark None
   tested_late late = reached_settled c J z mark m reached
       (ap (λ n. waits_for_mark n && nat_le mark c.clock) is
-          ∙ ap (λ t. waits_for_mark (Prints e) && nat_le mark t) (sym at) ∙ sym test
+      ∙ ap (λ t. waits_for_mark (Prints e) && nat_le mark t) (sym at) ∙ sym test
       ∙ late)
 
   -- it isn't

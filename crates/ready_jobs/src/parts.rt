@@ -24,9 +24,9 @@ ghost use Rattle.ready_jobs.specs.Parts.{Parted, AreSound, HaveRoles, ready_of, 
 use crate::pool::Pool;
 use crate::taking::{displace, in_role};
 use dover_model::{Entry, Event, Job, Memory, Ratio, Role, Task, Version};
-use scanned_step::Move;
 use held_queue::Privileged;
 use root_compare::heavy;
+use scanned_step::Move;
 use std::alloc::Global;
 use std::marker::Model;
 use std::sync::ledger::Ledger;

@@ -11,8 +11,8 @@ ghost use Rattle.dispatcher.specs.Dispatch.{due_by, Gives};
 ghost use Rattle.ready_server.specs.Serving.{Serves, Rests, HasPlace, HasPaid};
 
 use dispatcher::Dispatcher;
-use dover_server::Horizon;
 use dover_model::{Event, Job, Memory, Ratio, Version};
+use dover_server::Horizon;
 use ready_jobs::Ready;
 use std::alloc::Global;
 use std::sync::ledger::Ledger;

@@ -7,9 +7,9 @@ ghost use Rattle.resume_word.specs.Talking.{Asked, resume_talk, IsReady, IsGivin
 
 use crate::opening::{Opening, open_piece};
 use dialogue::{Stop, Talker};
-use dover_server::Server;
 use dover_model::Memory;
 use dover_port::{Output, Port, Status};
+use dover_server::Server;
 use line_output::put_line;
 use line_text::{BackLine, LineBuf};
 use serve_word::{AtEnd, Pausing, Serving};

@@ -9,9 +9,9 @@ ghost use Rattle.run_view.specs.Why as story;
 
 use crate::pieces::{put, put_job, put_wide};
 use crate::threshold::least_heavy;
-use intervals::weights;
 use dover_model::{Event, Job, Memory, Ratio};
 use dover_report::released;
+use intervals::weights;
 use room_ledger::rooms;
 use std::alloc::Global;
 

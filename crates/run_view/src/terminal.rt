@@ -13,10 +13,10 @@ use crate::pieces::{put, put_wide};
 use crate::signs::{put_blanks, put_signs};
 use crate::stays::{Stay, Stays};
 use crate::window::Window;
-use intervals::Charge;
 use dover_model::{Event, Job, Memory, Ratio};
 use dover_report::endings::{Ending, endings};
 use dover_report::{Counts, count, released};
+use intervals::Charge;
 use itoa::Buffer;
 use std::alloc::Global;
 

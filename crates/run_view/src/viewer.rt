@@ -8,9 +8,9 @@ ghost use Rattle.dover_report.specs.Counts as counts;
 ghost use Rattle.run_view.specs.Chrome as events;
 
 use crate::pieces::{put, put_job};
-use intervals::weights;
 use dover_model::{Event, Job, Memory, Ratio};
 use dover_report::{released, value_of};
+use intervals::weights;
 use std::alloc::Global;
 
 /// The run that prints these steps as Trace Event JSON, with a tick as a microsecond: the job on the processor, each

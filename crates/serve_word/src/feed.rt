@@ -9,8 +9,8 @@ ghost use Rattle.line_text.specs.Cutting.{IsWholeLine};
 ghost use Rattle.serve_word.specs.Feeding.{FeedRests, Hands};
 
 use dispatcher::Dispatcher;
-use dover_server::Server;
 use dover_model::Memory;
+use dover_server::Server;
 use event_feed::Intake;
 use lane_server::Lane;
 use line_text::{Lines, Step};

@@ -14,8 +14,8 @@ ghost use Rattle.serve_word.specs.Feeding.{FeedRests};
 ghost use Rattle.serve_word.specs.Pausing.{CanPause, lines_in};
 
 use crate::feed::Feed;
-use dover_server::{Horizon, Server};
 use dover_port::{Failed, Output, Port};
+use dover_server::{Horizon, Server};
 use line_output::put_line;
 use line_text::LineBuf;
 use snapshot::{head, state};

@@ -3,8 +3,8 @@ ghost use Rattle.std.specs.Prelude.{◌≡◌, ◌<◌, ℕ, List, [], Ok, true,
 ghost use Rattle.lane_server.specs.Kept.{StandsFor, IsReady, is_closed};
 
 use dispatcher::Dispatcher;
-use dover_server::Server;
 use dover_model::{Event, Job, Memory, Ratio, Refusal, Version};
+use dover_server::Server;
 use event_feed::Cause;
 use lane_server::{LaneFault, LaneOut, LaneStep, Lanes};
 use std::marker::Brand;

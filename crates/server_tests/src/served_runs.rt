@@ -9,9 +9,9 @@ ghost use Rattle.dover_server.specs.declared.horizon.Horizon.TheVariants.{Mark, 
 ghost use Rattle.dover_server.specs.Service.{list_of, MayFollow};
 ghost use Rattle.dover_server.specs.Leading.{is_ready_after};
 
-use dover_server::{Horizon, Server};
 use dover_model::jobs::{LAST_TICK, MOST_VALUE};
 use dover_model::{Event, Job, Memory, Ratio, Role, Version};
+use dover_server::{Horizon, Server};
 use std::alloc::Global;
 use std::marker::Brand;
 use std::process::Abort;

@@ -7,8 +7,8 @@ ghost use Rattle.dover_server.specs.Service.{MayFollow};
 
 use crate::served_runs::{WORKED, Worked, assert_valid, jobs, line};
 use dispatcher::Dispatcher;
-use dover_server::{Horizon, Server};
 use dover_model::{Job, Memory, Ratio, Version};
+use dover_server::{Horizon, Server};
 use ready_server::ReadyServer;
 use std::alloc::Global;
 use std::marker::Brand;

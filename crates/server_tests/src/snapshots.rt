@@ -1,8 +1,8 @@
 //! Snapshots of worked feeds.
 ghost use Rattle.std.specs.Prelude.{◌≡◌, ◌<◌};
 
-use dover_server::Server;
 use dover_model::{Memory, Ratio, Version};
+use dover_server::Server;
 use line_text::LineBuf;
 use snapshot::{Got, Reader, SnapFault, head, state};
 use std::marker::Brand;

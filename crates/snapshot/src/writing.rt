@@ -8,8 +8,8 @@ ghost use Rattle.dover_server.specs.Service.{Stands};
 ghost use Rattle.line_text.specs.Writing.{with_field, most_written};
 ghost use Rattle.snapshot.specs.Snapshot as model;
 
-use dover_server::Server;
 use dover_model::{Ratio, Role, Version};
+use dover_server::Server;
 use line_text::LineBuf;
 
 /// Writes the first line, without its line feed, for a feed of so many lines (at most 4,000,000), at this mark (a tick)

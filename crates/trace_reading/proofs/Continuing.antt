@@ -150,7 +150,7 @@ module _ (ls : List (List ℕ)) (S : Session) (floor : ℕ) (z : State) (sees : 
         (leads_later_mark S.rules floor new_floor (omega arith) sees.steps (opening J.jobs) z sees.leads)
         (leads_append S.rules new_floor next.steps (open_at S.rules y ∷ []) z y (after y (Prints e))
         (leads_later_mark S.rules y.clock new_floor (clock_below floor (waits_for_mark (Prints e)) y.clock) next.steps z
-            y
+        y
         (idles_leads S.rules next.steps z y next.idles)) (
           refl,
           subst (λ m. (waits_for_mark m && nat_le new_floor y.clock) ≡ false) (sym opens)

@@ -189,7 +189,7 @@ before_tick rules mark s before low = by_clock (clock_after s (open_step rules s
   by_clock (inl same) = omega arith
   by_clock (inr it) = let next : (after s (open_step rules s)).clock ≡ s.clock + 1 = it.1 in
       let early : s.clock < mark =
-          late_early (waits_for_mark (open_step rules s)) mark s.clock before (ap waits_for_mark it.0) in
+      late_early (waits_for_mark (open_step rules s)) mark s.clock before (ap waits_for_mark it.0) in
       omega arith
 
 module _ (rules : Rules) where

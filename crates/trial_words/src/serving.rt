@@ -11,8 +11,8 @@ ghost use Rattle.trial_words.specs.Tallied.{tally_of};
 
 use crate::stated::Stated;
 use crate::tally::Tally;
-use dover_server::{Horizon, Server};
 use dover_model::{Memory, Ratio, Version};
+use dover_server::{Horizon, Server};
 use std::alloc::Global;
 use std::sync::ledger::Ledger;
 use step_count::Steps;

@@ -4,9 +4,9 @@ ghost use Rattle.dover_model.specs.Limits.{most_value};
 ghost use Rattle.dover_model.specs.Sound.{jobs_of};
 ghost use Rattle.dover_report.specs.Counts.{value_in};
 
-use dover_server::Server;
 use dover_model::{Event, Ratio};
 use dover_report::Counts;
+use dover_server::Server;
 use root_compare::bound;
 
 /// What was counted of the printed steps so far: jobs that are done and the value that End names, jobs that are gone

@@ -13,10 +13,10 @@ use crate::serving::serve_all;
 use crate::stated::keeps_limits;
 use dover_model::Ratio;
 use dover_port::{Port, Status};
-use trial_jobs::Gen;
 use std::alloc::Global;
 use std::sync::ledger::Ledger;
 use step_count::Steps;
+use trial_jobs::Gen;
 
 /// Serves the stated jobs of a seed, and writes the summary of their run: the jobs, those that were completed and
 /// abandoned with their values, the takes, and the bound on the value of every schedule. Nothing is read. The seed is

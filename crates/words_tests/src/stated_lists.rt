@@ -5,11 +5,11 @@ ghost use Rattle.dover_model.specs.Limits.{most_jobs};
 use crate::ports::{Cut, pieces_of, port};
 use dover_model::Ratio;
 use dover_port::{MemoryPort, Status};
-use trial_words::{bait_word, trial_word};
 use std::marker::Brand;
 use std::sync::ledger::{Blank, Ledger};
 use std::test::Fail;
 use step_count::Steps;
+use trial_words::{bait_word, trial_word};
 
 /// Seeds, counts and ratios, and the summaries of their runs.
 const TRIALS: [(u32, u32, u32, u32, &str); 2] = [

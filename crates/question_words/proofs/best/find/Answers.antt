@@ -24,7 +24,7 @@ returns-clause-too_many g c = (
 pub returns-clause-count : goal.returns-clause-count
 returns-clause-count g c =
     subst (λ (js : List JobFacts). CostsAtMost (length js) c.args.steps.now c.completed.new.steps)
-        c.deref-2.ensures.value
+    c.deref-2.ensures.value
     c.in-Ok.ensures.count
 
 pub returns-clause-finds : goal.returns-clause-finds
@@ -43,5 +43,5 @@ returns-clause-finds g c =
 pub returns-in_default-clause-count : goal.returns-in_default-clause-count
 returns-in_default-clause-count g c =
     subst (λ (js : List JobFacts). CostsAtMost (length js) c.args.steps.now c.completed.new.steps)
-        c.deref-2.ensures.value
+    c.deref-2.ensures.value
     c.in_default.ensures.count

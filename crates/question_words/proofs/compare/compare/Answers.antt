@@ -37,11 +37,11 @@ returns-clause-too_large g c = (
 pub returns-clause-count : goal.returns-clause-count
 returns-clause-count g c =
     subst (λ (js : List JobFacts). CostsAtMost (length js) c.args.steps.now c.completed.new.steps)
-        c.deref-3.ensures.value
+    c.deref-3.ensures.value
     c.in-Ok.ensures.count
 
 pub returns-in_default-clause-count : goal.returns-in_default-clause-count
 returns-in_default-clause-count g c =
     subst (λ (js : List JobFacts). CostsAtMost (length js) c.args.steps.now c.completed.new.steps)
-        c.deref-3.ensures.value
+    c.deref-3.ensures.value
     c.in_default.ensures.count
