@@ -1,4 +1,5 @@
 pub mod Reordered
+pub mod Slots
 pub mod Pools
 pub mod Parts
 pub mod Kept

@@ -6,6 +6,7 @@ mod parts;
 mod pool;
 mod ready;
 mod settling;
+mod slot;
 mod taking;
 
 pub use parts::Parts;

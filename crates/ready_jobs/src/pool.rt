@@ -14,6 +14,7 @@ ghost use Rattle.ready_jobs.specs.Reordered.{IsReordered};
 ghost use Rattle.ready_jobs.specs.Parts.{HaveOwnNumbers, AreModest};
 ghost use Rattle.ready_jobs.specs.Pools.{Pooled, IsPool, AreFree, jobs_at, most_places};
 
+use crate::slot::Slot;
 use dover_model::{Memory, Task, Version};
 use place_heap::{Heap, Item, tie_of};
 use std::alloc::Global;
@@ -26,7 +27,7 @@ use step_count::Steps;
 #[derive(Drop)]
 pub struct Pool {
     version: Version,
-    slots: Vec<Option<Task>>,
+    slots: Vec<Slot>,
     free: Vec<u32>,
     by_deadline: Heap,
     by_latest: Heap,
@@ -84,22 +85,44 @@ fn latest_item(version: Version, place: u32, t: &Task) -> Item
 
 // What is at a place.
 #[inline(always)]
-fn job_at(slots: &Vec<Option<Task>>, place: u32) -> Option<Task>
+fn job_at(slots: &Vec<Slot>, place: u32) -> Option<Task>
     requires { place < length slots.now.items }
     ensures { slice_get slots.now.items place ≡ Some result }
 {
-    slots[place as usize]
+    slots[place as usize].task()
 }
 
-// Puts something at a place.
+// Puts a job at a place.
 #[inline(always)]
-fn put_at(slots: &mut Vec<Option<Task>>, place: u32, job: Option<Task>)
-    requires { place < length slots.old.items }
-    ensures items { slots.new.items ≡ slice_set slots.old.items place job }
+fn put_at(slots: &mut Vec<Slot>, place: u32, t: &Task)
+    requires inside { place < length slots.old.items }
+    requires number { t.now.number < 2 ^ 20 }
+    ensures items { slots.new.items ≡ slice_set slots.old.items place (Some t.now) }
     ensures len { vec_len slots.new ≡ vec_len slots.old }
     ensures capacity { vec_capacity slots.new ≡ vec_capacity slots.old }
 {
-    slots[place as usize] = job;
+    slots[place as usize] = Slot::of(t);
+}
+
+// Leaves no job at a place.
+#[inline(always)]
+fn clear_at(slots: &mut Vec<Slot>, place: u32)
+    requires { place < length slots.old.items }
+    ensures items { slots.new.items ≡ slice_set slots.old.items place None }
+    ensures len { vec_len slots.new ≡ vec_len slots.old }
+    ensures capacity { vec_capacity slots.new ≡ vec_capacity slots.old }
+{
+    slots[place as usize] = Slot::empty();
+}
+
+// Opens the next place, where no job is.
+#[inline(always)]
+fn open_place(slots: &mut Vec<Slot>)
+    requires { length slots.old.items < vec_capacity slots.old }
+    ensures items { slots.new.items ≡ slots.old.items ++ None ∷ [] }
+    ensures capacity { vec_capacity slots.new ≡ vec_capacity slots.old }
+{
+    slots.push_reserved(Slot::empty());
 }
 
 // The last free place, which is free no more.
@@ -113,7 +136,7 @@ fn next_place(free: &mut Vec<u32>) -> u32
 }
 
 // Opens places up to so many, which are free.
-fn open_places(slots: &mut Vec<Option<Task>>, free: &mut Vec<u32>, places: u32)
+fn open_places(slots: &mut Vec<Slot>, free: &mut Vec<u32>, places: u32)
     requires fewer { length slots.old.items ≤ places }
     requires room { places ≤ vec_capacity slots.old }
     requires free { places ≤ vec_capacity free.old }
@@ -129,14 +152,14 @@ fn open_places(slots: &mut Vec<Option<Task>>, free: &mut Vec<u32>, places: u32)
     let mut place = slots.len() as u32;
     while place < places {
         free.push_reserved(place);
-        slots.push_reserved(None);
+        open_place(slots);
         place += 1;
     }
 }
 
 // Takes the job at a place out, which is then free.
 fn take_at<L: Ledger>(
-    slots: &mut Vec<Option<Task>>,
+    slots: &mut Vec<Slot>,
     free: &mut Vec<u32>,
     by_deadline: &mut Heap,
     by_latest: &mut Heap,
@@ -155,7 +178,7 @@ fn take_at<L: Ledger>(
     ensures count { (d : ℕ) → length (jobs_at slots.old.items) + 1 < 2 ^ d → steps.new ≤ steps.old + 6 * d }
 {
     let task = job_at(slots, place);
-    put_at(slots, place, None);
+    clear_at(slots, place);
     free.push_reserved(place);
     by_deadline.remove(place, steps);
     by_latest.remove(place, steps);
@@ -232,7 +255,7 @@ impl Pool {
         let place = next_place(&mut self.free);
         let due = due_item(self.version, place, &t);
         let latest = latest_item(self.version, place, &t);
-        put_at(&mut self.slots, place, Some(t));
+        put_at(&mut self.slots, place, &t);
         self.by_deadline.insert(due, steps);
         self.by_latest.insert(latest, steps);
     }

@@ -24,30 +24,30 @@ loop-place-preserved c =
     let free = c.loop-place.free.items in
     let place = c.loop-place.place in
     record {
-      are = subst (λ s. AreFree s c.push_reserved.new.self.items) (sym c.push_reserved-in-loop-place.ensures.items)
+      are = subst (λ s. AreFree s c.push_reserved.new.self.items) (sym c.open_place.ensures.items)
           (subst (AreFree (slots ++ None ∷ [])) (sym c.push_reserved.ensures.items)
           (free_more slots free place kept.place kept.are));
       count = omega (
         arith,
         kept.count,
         ap (λ l. length l) c.push_reserved.ensures.items,
-        ap (λ l. length l) c.push_reserved-in-loop-place.ensures.items,
-        ap (λ l. length (jobs_at l)) c.push_reserved-in-loop-place.ensures.items,
+        ap (λ l. length l) c.open_place.ensures.items,
+        ap (λ l. length (jobs_at l)) c.open_place.ensures.items,
         length_more free place,
         length_more slots None,
         ap (λ l. length l) (jobs_push slots),
       );
-      is = c.push_reserved-in-loop-place.ensures.items
+      is = c.open_place.ensures.items
           ∙ none_more c.args.slots.now.items slots place kept.first kept.is;
       first = omega (arith, kept.first);
-      jobs = ap jobs_at c.push_reserved-in-loop-place.ensures.items ∙ jobs_push slots ∙ kept.jobs;
+      jobs = ap jobs_at c.open_place.ensures.items ∙ jobs_push slots ∙ kept.jobs;
       place = omega (
         arith,
         kept.place,
-        ap (λ l. length l) c.push_reserved-in-loop-place.ensures.items,
+        ap (λ l. length l) c.open_place.ensures.items,
         length_more slots None,
       );
       most = omega (arith, c.loop-place-test.true);
-      slots = c.push_reserved-in-loop-place.ensures.capacity ∙ kept.slots;
+      slots = c.open_place.ensures.capacity ∙ kept.slots;
       free = c.push_reserved.ensures.capacity ∙ kept.free;
     }

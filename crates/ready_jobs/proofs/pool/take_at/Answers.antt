@@ -8,8 +8,8 @@ use Rattle.ready_jobs.proofs.pool.take_at.Goals as goal
 pub job_at-task-requires : goal.job_at-task-requires
 job_at-task-requires g c = within c.args.slots.now.items c.args.place (Some c.requires.some.0) c.requires.some.1
 
-pub put_at-requires : goal.put_at-requires
-put_at-requires g c = within c.args.slots.now.items c.args.place (Some c.requires.some.0) c.requires.some.1
+pub clear_at-requires : goal.clear_at-requires
+clear_at-requires g c = within c.args.slots.now.items c.args.place (Some c.requires.some.0) c.requires.some.1
 
 pub push_reserved-requires : goal.push_reserved-requires
 push_reserved-requires g c =
@@ -21,13 +21,13 @@ push_reserved-requires g c =
 
 pub returns-clause-rest : goal.returns-clause-rest
 returns-clause-rest g c t is =
-    subst (λ l. IsReordered (jobs_at c.args.slots.now.items) (t ∷ jobs_at l)) (sym c.put_at.ensures.items)
+    subst (λ l. IsReordered (jobs_at c.args.slots.now.items) (t ∷ jobs_at l)) (sym c.clear_at.ensures.items)
     (jobs_out c.args.slots.now.items c.args.place t (c.job_at-task.ensures ∙ ap Some is))
 
 pub returns-clause-pool : goal.returns-clause-pool
 returns-clause-pool g c version pool =
     subst (λ s. IsPool version s c.push_reserved.new.self.items c.remove.new.self c.remove-2.new.self)
-    (sym c.put_at.ensures.items)
+    (sym c.clear_at.ensures.items)
     (subst (λ f. IsPool version (set c.args.slots.now.items c.args.place None) f c.remove.new.self c.remove-2.new.self)
     (sym c.push_reserved.ensures.items)
     (subst (λ d. IsPool version (set c.args.slots.now.items c.args.place None)

@@ -32,8 +32,8 @@ latest_item-latest-requires-clause-place g c =
     add_small inside.version inside.slots.items c.next_place-place.new.free.items inside.by_deadline inside.by_latest
     c.next_place-place.result pool
 
-pub put_at-requires : goal.put_at-requires
-put_at-requires g c =
+pub put_at-requires-clause-inside : goal.put_at-requires-clause-inside
+put_at-requires-clause-inside g c =
     let inside = c.self.inside in
     let pool = subst (λ f. IsPool inside.version inside.slots.items f inside.by_deadline inside.by_latest)
     c.next_place-place.ensures.last c.self.invariant.0 in
