@@ -179,6 +179,22 @@ child_changes es low end start child k now next kept inside from ahead step = re
   count = omega (arith, kept.count);
 }
 
+-- of four, in two pairs, what comes before the first of both pairs
+pub four_first : (es : List ItemFacts) (low left right best k : ℕ) → IsAhead es left low → IsAhead es left (low + 1)
+    → IsAhead es right (low + 2) → IsAhead es right (low + 3) → IsAhead es best left → IsAhead es best right
+    → low ≤ k → k < low + 4 → IsAhead es best k
+four_first es low left right best k zero one two three first second from below = elim (cases_eq k low) [
+  | inl is ↦ subst (IsAhead es best) (sym is) (order.ahead_through es best left low first zero)
+  | inr not_zero ↦ elim (cases_eq k (low + 1)) [
+    | inl is ↦ subst (IsAhead es best) (sym is) (order.ahead_through es best left (low + 1) first one)
+    | inr not_one ↦ elim (cases_eq k (low + 2)) [
+      | inl is ↦ subst (IsAhead es best) (sym is) (order.ahead_through es best right (low + 2) second two)
+      | inr not_two ↦ subst (IsAhead es best) (omega (arith, from, below, not_zero, not_one, not_two))
+          (order.ahead_through es best right (low + 3) second three)
+    ]
+  ]
+]
+
 -- of the items with x in the hole, where the children are those of the items
 pub first_of_all : (items : List ItemFacts) (x : ItemFacts) (at c : ℕ) → at * 4 + 1 ≤ c → c ≤ at * 4 + 4
     → c < length items

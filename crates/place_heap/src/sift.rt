@@ -57,6 +57,57 @@ pub(crate) fn sift_up<L: Ledger>(
     set_at(items, positions, at, item);
 }
 
+// Of two positions the one whose item comes first.
+#[inline(always)]
+fn earlier<L: Ledger>(items: &[Item], left: usize, right: usize, steps: &mut Steps<L>) -> usize
+    requires order { left ≤ right }
+    requires inside { right < length items.now }
+    ensures low { left ≤ result }
+    ensures high { result ≤ right }
+    ensures left { IsAhead items.now result left }
+    ensures right { IsAhead items.now result right }
+    ensures count { steps.new ≡ steps.old + 1 }
+{
+    if items[right].is_before(&items[left], steps) {
+        right
+    } else {
+        left
+    }
+}
+
+// Of four positions, from this one on, the one whose item comes first. Two pairs are compared, then their first ones,
+// since that takes no jump that can't be foretold.
+#[inline(always)]
+fn first_of_four<L: Ledger>(items: &[Item], low: usize, steps: &mut Steps<L>) -> usize
+    requires { low + 4 ≤ length items.now }
+    ensures low { low ≤ result }
+    ensures high { result < low + 4 }
+    ensures first { (k : ℕ) → low ≤ k → k < low + 4 → IsAhead items.now result k }
+    ensures count { steps.new ≡ steps.old + 3 }
+{
+    let left = earlier(items, low, low + 1, steps);
+    let right = earlier(items, low + 2, low + 3, steps);
+    earlier(items, left, right, steps)
+}
+
+// Of the positions from this one on, of which there are at most four, the one whose item comes first.
+fn first_of_few<L: Ledger>(items: &[Item], low: usize, steps: &mut Steps<L>) -> usize
+    requires some { low < length items.now }
+    requires few { length items.now ≤ low + 4 }
+    ensures low { low ≤ result }
+    ensures inside { result < length items.now }
+    ensures first { (k : ℕ) → low ≤ k → k < length items.now → IsAhead items.now result k }
+    ensures count { steps.new ≤ steps.old + 3 }
+{
+    let mut child = low;
+    for k in low + 1..items.len() {
+        if items[k].is_before(&items[child], steps) {
+            child = k;
+        }
+    }
+    child
+}
+
 // The child that comes first.
 #[inline(always)]
 fn first_child<L: Ledger>(items: &[Item], at: usize, steps: &mut Steps<L>) -> usize
@@ -69,14 +120,10 @@ fn first_child<L: Ledger>(items: &[Item], at: usize, steps: &mut Steps<L>) -> us
     ensures count { steps.new ≤ steps.old + 3 }
 {
     let low = at * 4 + 1;
-    let end = items.len().min(low + 4);
-    let mut child = low;
-    for k in low + 1..end {
-        if items[k].is_before(&items[child], steps) {
-            child = k;
-        }
+    if low + 4 <= items.len() {
+        return first_of_four(items, low, steps);
     }
-    child
+    first_of_few(items, low, steps)
 }
 
 /// Moves an item down to where it comes before its children.
