@@ -1,4 +1,5 @@
 pub mod Reordered
+pub mod Short
 pub mod Slots
 pub mod Pools
 pub mod Parts

@@ -2,10 +2,12 @@
 #![tactic(auto)]
 
 mod applying;
+mod held;
 mod parts;
 mod pool;
 mod ready;
 mod settling;
+mod short;
 mod slot;
 mod taking;
 

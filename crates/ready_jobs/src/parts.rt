@@ -21,7 +21,9 @@ ghost use Rattle.ready_jobs.specs.Changed.{made_wait};
 ghost use Rattle.ready_jobs.specs.Reordered.{IsReordered};
 ghost use Rattle.ready_jobs.specs.Parts.{Parted, AreSound, HaveRoles, ready_of, state_of, head_of, tail_of};
 
+use crate::held::{peek, pop, push};
 use crate::pool::Pool;
+use crate::short::ShortTask;
 use crate::taking::{displace, in_role};
 use dover_model::{Entry, Event, Job, Memory, Ratio, Role, Task, Version};
 use held_queue::Privileged;
@@ -38,7 +40,7 @@ pub struct Parts {
     clock: u64,
     running: Option<Task>,
     fresh: Option<Task>,
-    held: Vec<Task>,
+    held: Vec<ShortTask>,
     rooms: Privileged,
     pool: Pool,
     room: u32,
@@ -110,14 +112,6 @@ fn count_of(job: &Option<Task>) -> u32
         Some(_) => 1,
         None => 0,
     }
-}
-
-// The job on top, which is the last one.
-#[inline(always)]
-fn peek(held: &Vec<Task>) -> Option<Task>
-    ensures { result ≡ head_of (reverse held.now.items) }
-{
-    held.last().copied()
 }
 
 // The room of the held jobs with e, which is due before them.
@@ -470,7 +464,7 @@ impl Parts {
           held = tail_of self.old.held;
         } }
     {
-        if let Some(p) = self.held.pop() {
+        if let Some(p) = pop(&mut self.held) {
             let _ = self.rooms.release_one();
             self.running = Some(in_role(&p, Role::Running));
         }
@@ -564,7 +558,7 @@ impl Parts {
         let entry = entry_of(r);
         let avail = room_with(&self.rooms, &entry, self.clock);
         self.rooms.hold(entry, self.clock, avail);
-        self.held.push_reserved(in_role(r, Role::Held));
+        push(&mut self.held, &in_role(r, Role::Held));
         self.fresh = None;
         self.running = Some(in_role(f, Role::Running));
     }

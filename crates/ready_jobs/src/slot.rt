@@ -1,71 +1,24 @@
 //! A place, in which a job waits or none.
-ghost use Rattle.std.specs.Prelude.{◌≡◌, ◌≤◌, ◌<◌, ◌/◌, ◌%◌, ◌^◌, Some, None};
-ghost use Rattle.dover_model.specs.Limits.{last_tick};
-ghost use Rattle.ready_jobs.specs.Slots.{tick_of};
+ghost use Rattle.std.specs.Prelude.{◌≡◌, ◌<◌, ◌^◌, Some, None};
 
-use dover_model::{Job, Role, Task};
+use crate::short::{NO_NUMBER, ShortTask};
+use dover_model::Task;
 use std::marker::Model;
-use std::mem::size_of;
-
-// The number of no job.
-const NO_NUMBER: u32 = u32::MAX;
-
-// A tick is below 2^40. Its low 32 binary digits are kept apart from those above them.
-const HIGH: u64 = 1 << 32;
 
 /// The job that waits at a place, or none.
 #[derive(Drop)]
 pub(crate) struct Slot {
-    had: u64,
-    number: u32,
-    value: u32,
-    release: u32,
-    work: u32,
-    deadline: u32,
-    release_high: u8,
-    work_high: u8,
-    deadline_high: u8,
-    role: Role,
+    task: ShortTask,
 }
-
-const _: () = prove!(size_of::<Slot>() == 32);
 
 impl Model for Slot {
     ghost use Rattle.std.specs.Prelude.{Option};
     ghost use Rattle.dover_model.specs.declared.events.Task.{Task};
+    ghost use Rattle.ready_jobs.specs.Slots.{job_or_none};
 
     ghost Value = { Option Task };
 
-    ghost use Rattle.ready_jobs.specs.Slots.{task_in, IsSlot};
-
-    ghost view = { task_in };
-
-    ghost invariant = { IsSlot };
-}
-
-// The low binary digits of a tick.
-#[inline(always)]
-fn low(tick: u64) -> u32
-    ensures { result ≡ tick % 2 ^ 32 }
-{
-    (tick % HIGH) as u32
-}
-
-// The binary digits of a tick above its low ones.
-#[inline(always)]
-fn high(tick: u64) -> u8
-    requires { tick ≤ last_tick }
-    ensures { result ≡ tick / 2 ^ 32 }
-{
-    (tick / HIGH) as u8
-}
-
-// The tick of these binary digits.
-#[inline(always)]
-fn tick(low: u32, high: u8) -> u64
-    ensures { result ≡ tick_of low high }
-{
-    low as u64 + high as u64 * HIGH
+    ghost view = { λ s. job_or_none s.task };
 }
 
 impl Slot {
@@ -75,16 +28,7 @@ impl Slot {
         ensures { result ≡ None }
     {
         Slot {
-            had: 0,
-            number: NO_NUMBER,
-            value: 0,
-            release: 0,
-            work: 0,
-            deadline: 0,
-            release_high: 0,
-            work_high: 0,
-            deadline_high: 0,
-            role: Role::Gone,
+            task: ShortTask::blank(),
         }
     }
 
@@ -95,16 +39,7 @@ impl Slot {
         ensures { result ≡ Some t.now }
     {
         Slot {
-            had: t.had,
-            number: t.number,
-            value: t.job.value() as u32,
-            release: low(t.job.release()),
-            work: low(t.job.work()),
-            deadline: low(t.job.deadline()),
-            release_high: high(t.job.release()),
-            work_high: high(t.job.work()),
-            deadline_high: high(t.job.deadline()),
-            role: t.role,
+            task: ShortTask::of(t),
         }
     }
 
@@ -113,20 +48,9 @@ impl Slot {
     pub(crate) fn task(&self) -> Option<Task>
         ensures { result ≡ self.now }
     {
-        if self.number == NO_NUMBER {
+        if self.task.number() == NO_NUMBER {
             return None;
         }
-        let job = Job::new(
-            tick(self.release, self.release_high),
-            tick(self.work, self.work_high),
-            tick(self.deadline, self.deadline_high),
-            self.value as u64,
-        );
-        Some(Task {
-            number: self.number,
-            job: job.unwrap(),
-            role: self.role,
-            had: self.had,
-        })
+        Some(self.task.task())
     }
 }

@@ -6,7 +6,9 @@ ghost use Rattle.dover_model.specs.Sound.{Each};
 ghost use Rattle.ready_jobs.specs.Reordered.{IsReordered};
 ghost use Rattle.ready_jobs.specs.Changed.{made_wait};
 
+use crate::held::pop;
 use crate::pool::Pool;
+use crate::short::ShortTask;
 use dover_model::{Role, Task};
 use held_queue::Privileged;
 use std::sync::ledger::Ledger;
@@ -27,7 +29,7 @@ pub(crate) fn in_role(t: &Task, role: Role) -> Task
 
 // The held jobs, which are on the stack with their rooms, wait in the pool.
 pub(crate) fn displace<L: Ledger>(
-    held: &mut Vec<Task>,
+    held: &mut Vec<ShortTask>,
     rooms: &mut Privileged,
     pool: &mut Pool,
     steps: &mut Steps<L>,
@@ -43,7 +45,7 @@ pub(crate) fn displace<L: Ledger>(
     ensures count { (d : ℕ) → length held.old.items + length pool.old.tasks + 1 < 2 ^ d →
         steps.new ≤ steps.old + 2 * d * length held.old.items }
 {
-    while let Some(t) = held.pop() {
+    while let Some(t) = pop(held) {
         let _ = rooms.release_one();
         pool.add(in_role(&t, Role::Waiting), steps);
     }

@@ -27,7 +27,7 @@ pub loop-t-preserved : goal.loop-t-preserved
 loop-t-preserved g c =
     let was = c.args.held.now.items in
     let is = c.loop-t.held.items in
-    let rest = c.pop.new.self.items in
+    let rest = c.pop.new.held.items in
     let t = c.in-Some.t in
     let it = c.loop-t.invariant.displaces in
     let top = c.pop.ensures.items ∙ ap (λ o. rest ++ option_to_list o) c.in-Some.is in
@@ -48,15 +48,15 @@ loop-t-preserved g c =
 
 pub add-requires-clause-room : goal.add-requires-clause-room
 add-requires-clause-room g c =
-    one_fits c.args.held.now.items c.loop-t.held.items c.pop.new.self.items c.in-Some.t c.args.rooms.now
+    one_fits c.args.held.now.items c.loop-t.held.items c.pop.new.held.items c.in-Some.t c.args.rooms.now
     c.loop-t.rooms c.release_one.new.self c.args.pool.now c.loop-t.pool c.loop-t.pool
     c.loop-t.invariant.displaces
-    (c.pop.ensures.items ∙ ap (λ o. c.pop.new.self.items ++ option_to_list o) c.in-Some.is)
+    (c.pop.ensures.items ∙ ap (λ o. c.pop.new.held.items ++ option_to_list o) c.in-Some.is)
 
 pub add-requires-clause-number : goal.add-requires-clause-number
 add-requires-clause-number g c =
     subst (λ (t : Task). t.number < 1_048_576) (sym c.in_role.ensures)
-    (one_small c.args.held.now.items c.loop-t.held.items c.pop.new.self.items c.in-Some.t c.args.rooms.now
+    (one_small c.args.held.now.items c.loop-t.held.items c.pop.new.held.items c.in-Some.t c.args.rooms.now
     c.loop-t.rooms c.release_one.new.self c.args.pool.now c.loop-t.pool c.loop-t.pool
     c.loop-t.invariant.displaces
-    (c.pop.ensures.items ∙ ap (λ o. c.pop.new.self.items ++ option_to_list o) c.in-Some.is))
+    (c.pop.ensures.items ∙ ap (λ o. c.pop.new.held.items ++ option_to_list o) c.in-Some.is))

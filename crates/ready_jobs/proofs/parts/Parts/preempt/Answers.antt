@@ -64,8 +64,8 @@ hold-requires-clause-total c =
     (subst (λ l. value_of (entry_of c.args.r.now ∷ l) ≤ 10_000_000_000_000) (sym c.self.invariant.held)
     (omega (arith, total, sum_map entry_of (λ e. e.value) (c.args.r.now ∷ p.held))))
 
-pub push_reserved-requires : goal.push_reserved-requires
-push_reserved-requires c =
+pub push-requires : goal.push-requires
+push-requires c =
     let inside = c.self.inside in
     let p = parted_of inside in
     let kept = c.self.invariant in
@@ -86,21 +86,21 @@ invariant_of-self c =
     c.entry_of-entry.ensures in
     let kept = preempted_kept p inside.rooms inside.pool
     (vec_capacity inside.held) c.self.invariant c.args.r.now c.args.f.now c.hold.new.self
-    (vec_capacity c.push_reserved.new.self) runs fresh more_is
-    (omega (arith, c.self.invariant.stack_room, c.push_reserved.ensures.capacity)) in
-    let held_is = ap reverse c.push_reserved.ensures.items ∙ reverse-append inside.held.items (c.in_role.result ∷ [])
+    (vec_capacity c.push.new.held) runs fresh more_is
+    (omega (arith, c.self.invariant.stack_room, c.push.ensures.capacity)) in
+    let held_is = ap reverse c.push.ensures.items ∙ reverse-append inside.held.items (c.in_role.result ∷ [])
     ∙ ap (λ t. t ∷ reverse inside.held.items) c.in_role.ensures in
     subst (λ l. AreParts (record p { running = Some c.in_role-2.result; fresh = None; held = l }) c.hold.new.self
-    inside.pool (vec_capacity c.push_reserved.new.self))
+    inside.pool (vec_capacity c.push.new.held))
     (sym held_is)
     (subst (λ t. AreParts (record p { running = Some t; fresh = None; held = with_role c.args.r.now Held ∷ p.held })
     c.hold.new.self inside.pool
-    (vec_capacity c.push_reserved.new.self)) (sym c.in_role-2.ensures) kept)
+    (vec_capacity c.push.new.held)) (sym c.in_role-2.ensures) kept)
 
 pub returns : goal.returns
 returns c =
     let inside = c.self.inside in
-    let held_is = ap reverse c.push_reserved.ensures.items ∙ reverse-append inside.held.items (c.in_role.result ∷ [])
+    let held_is = ap reverse c.push.ensures.items ∙ reverse-append inside.held.items (c.in_role.result ∷ [])
     ∙ ap (λ t. t ∷ reverse inside.held.items) c.in_role.ensures in
     ap (λ l. record (parted_of inside) { running = Some c.in_role-2.result; fresh = None; held = l }) held_is
     ∙ ap (λ t. record (parted_of inside)

@@ -14,7 +14,7 @@ pub invariant_of-self : goal.invariant_of-self
 invariant_of-self c =
     let inside = c.self.inside in
     let kept = c.self.invariant in
-    let rest = c.pop.new.self.items in
+    let rest = c.pop.new.held.items in
     let h = c.in-Some.p in
     let items : inside.held.items ≡ rest ++ h ∷ [] = c.pop.ensures.items
     ∙ ap (λ o. rest ++ option_to_list o) c.in-Some.is in
@@ -23,11 +23,11 @@ invariant_of-self c =
     let left_is = c.release_one.ensures.rest
     ∙ without_first inside.rooms (entry_of h) (map entry_of (reverse rest)) top in
     subst (λ t. AreParts (record (parted_of inside) { running = Some t; held = reverse rest }) c.release_one.new.self
-    inside.pool (vec_capacity c.pop.new.self))
+    inside.pool (vec_capacity c.pop.new.held))
     (sym c.in_role.ensures)
     (resumed_kept (parted_of inside) inside.rooms inside.pool (vec_capacity inside.held) kept h
     (reverse rest) c.release_one.new.self
-    (vec_capacity c.pop.new.self) (ap (λ (q : Parted). q.running) c.self.view_is ∙ c.requires) held_is
+    (vec_capacity c.pop.new.held) (ap (λ (q : Parted). q.running) c.self.view_is ∙ c.requires) held_is
     (ap (λ (s : Stack). s.held) left_is)
     (ap (λ (s : Stack). s.latest) left_is) (ap (λ (s : Stack). s.spare) left_is)
     (omega (arith, kept.stack_room, c.pop.ensures.capacity)))
