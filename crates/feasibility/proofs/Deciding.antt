@@ -1,12 +1,11 @@
 -- What the whole schedule by earliest deadline shows of the jobs.
-use Rattle.std.proofs.Common.{◌≡◌, ℕ, zero, suc, ◌+◌, ◌-◌, ◌≤◌, ◌<◌, ◌⊎◌, inl, inr, List, [], ◌∷◌, ◌++◌, length, take}
+use Rattle.std.proofs.Common.{◌≡◌, ℕ, ◌+◌, ◌-◌, ◌≤◌, ◌<◌, ◌⊎◌, inl, inr, List, [], ◌∷◌, ◌++◌, length, take}
 use Rattle.std.proofs.Common.{drop, replicate}
 use Rattle.std.proofs.Common.{refl, sym, ap, subst, Bool, true, false, cond, eqb, arith, IsTrue}
 use Rattle.std.specs.Prelude.{nat_le, Some, None}
 use Rattle.std.specs.List.{sum_by, count_by, enumerate_from, AllByRecursion}
 use Rattle.std.proofs.lemmas.Bool.{le-leb, leb-true, ne_eqb, and_parts, cases_lt}
 use Rattle.std.proofs.lemmas.List.{length-drop, length-take}
-use Rattle.std.proofs.lemmas.List.Sums.{sum_by-cons}
 use Rattle.dover_model.specs.Limits.{idle, most_jobs}
 use Rattle.dover_model.specs.JobFacts.{JobFacts}
 use Rattle.dover_model.specs.Schedules.{is_served, ticks_given}
@@ -15,12 +14,12 @@ use Rattle.dover_model.specs.Windows.{IsOverfull, is_inside, work_inside}
 use Rattle.dover_model.specs.Pieces.{AreInOrder, spread, stretches, edf}
 use Rattle.dover_model.specs.declared.pieces.Piece.{Piece}
 use Rattle.dover_model.proofs.Members.{sum_le}
-use Rattle.dover_model.proofs.Serving.{given, given_nil, given_less, one_name_per_tick, sum_numbered}
+use Rattle.dover_model.proofs.Serving.{given_less, one_name_per_tick, sum_numbered}
 use Rattle.feasibility.specs.Feasibility.{IsRelease, ServesAll, ShowsAll, ShowsWindow}
 use Rattle.feasibility.specs.Progress.{IsLateBy, IsWhole}
 use Rattle.feasibility.proofs.Overfull.{work_is, overfull_excludes}
 use Rattle.feasibility.proofs.Stretches.{stretches_in_order, spread_again}
-use Rattle.feasibility.proofs.Shares.{given_zero, given_without}
+use Rattle.feasibility.proofs.Shares.{given_without}
 use Rattle.feasibility.proofs.LastStart.{asked}
 
 -- what holds of each member holds of all by recursion

@@ -2,8 +2,10 @@
 use Rattle.std.proofs.Common.{◌≡◌, ℕ, zero, suc, ◌+◌, ◌-◌, ◌≤◌, ◌<◌, ◌⊎◌, inl, inr, List, [], ◌∷◌, ◌++◌, length}
 use Rattle.std.proofs.Common.{replicate, min, refl, sym}
 use Rattle.std.proofs.Common.{ap, ◌∙◌, subst, arith, Option}
-use Rattle.std.specs.Prelude.{Some, None, slice_get}
+use Rattle.std.specs.Prelude.{Some, None, slice_get, slice_index_or}
 use Rattle.std.proofs.lemmas.Bool.{cases_lt}
+use Rattle.std.proofs.lemmas.List.Sorted.{length_permutation}
+use Rattle.std.proofs.lemmas.Option.{slice_get_read}
 use Rattle.dover_model.specs.Limits.{idle, most_jobs}
 use Rattle.dover_model.specs.JobFacts.{JobFacts}
 use Rattle.dover_model.specs.Instance.{IsInOrder}
@@ -14,16 +16,23 @@ use Rattle.dover_model.specs.declared.events.Task.{Task}
 use Rattle.dover_model.specs.declared.pieces.Piece.{Piece}
 use Rattle.dover_model.proofs.Members.{some_same}
 use Rattle.dover_model.proofs.Tests.{none_is_some}
-use Rattle.feasibility.specs.Progress.{with_late, Stands, IsPending, NoneBefore, RunsUntil, AreBehind, kept_as}
-use Rattle.feasibility.proofs.Keeping.{Kept, insert, insert_length}
+use Rattle.feasibility.specs.Progress.{with_late, Stands, IsPending, NoneBefore, RunsUntil, kept_as}
+use Rattle.feasibility.specs.Queue.{Kept, IsFirst, IsTakenOut}
 use Rattle.feasibility.proofs.Numbered.{place_below}
-use Rattle.feasibility.proofs.Standing.{next_later, number_low, stands_until, stands_run, stands_done}
+use Rattle.feasibility.proofs.Standing.{next_later, number_low, stands_until, stands_moved, stands_run, stands_done}
 
 -- past the end there is no job
 place_past : (jobs : List JobFacts) (i : ℕ) → slice_get jobs i ≡ None → length jobs ≤ i
 place_past [] i none = omega arith
 place_past (j ∷ jobs) zero none = none_is_some (sym none)
 place_past (j ∷ jobs) (suc i) none = let past : length jobs ≤ i = place_past jobs i none in omega (arith, past)
+
+-- the next job
+pub next_found : (jobs : List JobFacts) (n released : ℕ) (j : JobFacts) → n ≡ released → n < length jobs
+    → j ≡ slice_index_or jobs n j
+    → slice_get jobs released ≡ Some j
+next_found jobs n released j same low is =
+    subst (λ m. slice_get jobs m ≡ Some j) same (slice_get_read jobs _ n j refl low is)
 
 module _ (jobs : List JobFacts) (clock released l : ℕ) (some : 1 ≤ l)
     (none : NoneBefore jobs (clock + 1) released) where
@@ -56,8 +65,12 @@ module _ (jobs : List JobFacts) (clock released l : ℕ) (some : 1 ≤ l)
   }
 
 module _ (jobs : List JobFacts) (clock released due n l : ℕ) (kept : List Kept) (pieces : List Piece) (late : Option ℕ)
-    (s : Stands jobs clock released (((due, n), l) ∷ kept) pieces late (clock + 1)) where
-  -- the first of the entries
+    (before : Stands jobs clock released kept pieces late (clock + 1)) (first : IsFirst ((due, n), l) kept) where
+  -- the job that is due first in front
+  s : Stands jobs clock released (((due, n), l) ∷ first.rest) pieces late (clock + 1)
+  s = subst (λ (ks : List Kept). Stands jobs clock released ks pieces late (clock + 1)) first.is before
+
+  -- its task
   first_task : (t : Task) × IsMember t s.tasks × (t.number < released) × (1 ≤ left t) × (((due, n), l) ≡ kept_as t)
   first_task = s.ready.each ((due, n), l) (inl refl)
 
@@ -71,7 +84,7 @@ module _ (jobs : List JobFacts) (clock released due n l : ℕ) (kept : List Kept
   not_idle count same =
       let e : n ≡ first_task.0.number = ap (λ (x : Kept). x.0.1) first_task.4 in
       let low : first_task.0.number < length jobs =
-      number_low jobs clock released (((due, n), l) ∷ kept) pieces late (clock + 1) s first_task.0 first_task.1 in
+      number_low jobs clock released (((due, n), l) ∷ first.rest) pieces late (clock + 1) s first_task.0 first_task.1 in
       omega arith
 
   -- no job comes before the next tick
@@ -82,66 +95,81 @@ module _ (jobs : List JobFacts) (clock released due n l : ℕ) (kept : List Kept
     by_next (Some j) e = inr (
       j,
       e,
-      (let later : clock < j.release =
-          next_later jobs clock released (((due, n), l) ∷ kept) pieces late s j e in omega arith),
+      (let later : clock < j.release = next_later jobs clock released kept pieces late before j e in omega arith),
     )
 
-  module _ (order : IsInOrder jobs) (behind : AreBehind due n kept) (until : ℕ)
-      (runs : RunsUntil jobs clock released l until) (after : List Piece)
-      (adds : (x : List ℕ) → length x ≡ clock → pieces ≡ stretches x
-      → after ≡ stretches (x ++ replicate (until - clock) n)) where
-    -- until then no job comes
-    still : Stands jobs clock released (((due, n), l) ∷ kept) pieces late (clock + (until - clock))
-    still = subst (λ u. Stands jobs clock released (((due, n), l) ∷ kept) pieces late u)
-        (let same : until ≡ clock + (until - clock) = omega (arith, runs.some) in same)
-        (stands_until jobs clock released (((due, n), l) ∷ kept) pieces late (clock + 1) s order until runs.none)
+  module _ (order : IsInOrder jobs) (until : ℕ) (runs : RunsUntil jobs clock released l until) (after : List Piece)
+      (now : List Kept) (stays : 1 ≤ clock + l - until → now ≡ ((due, n), clock + l - until) ∷ first.rest)
+      (goes : clock + l - until ≡ 0 → IsTakenOut ((due, n), l) kept now) where
+    -- so much is left, or nothing
+    any_left : (until < clock + l) ⊎ (clock + l ≤ until)
+    any_left = cases_lt until (clock + l)
 
-    -- with something left
-    pub ran_on : (now : List Kept) → until < clock + l → now ≡ insert kept (due, n) (clock + l - until)
-        → Stands jobs until released now after (with_late late due (clock + l)) until
-    ran_on now less e =
-        let there : clock + (until - clock) ≡ until = omega (arith, runs.some) in
-        let left_same : l - (until - clock) ≡ clock + l - until = omega (arith, runs.some) in
-        subst (λ u. Stands jobs u released now after (with_late late due (clock + l)) u) there
-        (subst (λ ks. Stands jobs (clock + (until - clock)) released ks after (with_late late due (clock + l))
-        (clock + (until - clock)))
-        (ap (λ v. insert kept (due, n) v) left_same ∙ sym e)
-        (stands_run jobs clock released due n l kept pieces late (until - clock) still behind (omega (arith, runs.some))
-        (omega (arith, runs.within))
-        after adds (omega (arith, runs.some))))
+    module _ (adds : (x : List ℕ) → length x ≡ clock → pieces ≡ stretches x
+        → after ≡ stretches (x ++ replicate (until - clock) n)) where
+      -- until then no job comes
+      still : (ks : List Kept) → Stands jobs clock released (((due, n), l) ∷ ks) pieces late (clock + 1)
+          → Stands jobs clock released (((due, n), l) ∷ ks) pieces late (clock + (until - clock))
+      still ks t = subst (λ u. Stands jobs clock released (((due, n), l) ∷ ks) pieces late u)
+          (let same : until ≡ clock + (until - clock) = omega (arith, runs.some) in same)
+          (stands_until jobs clock released (((due, n), l) ∷ ks) pieces late (clock + 1) t order until runs.none)
 
-    -- with nothing left
-    pub ran_out : (now : List Kept) → clock + l ≤ until → now ≡ kept
-        → Stands jobs until released now after (with_late late due (clock + l)) until
-    ran_out now all e =
-        let there : clock + (until - clock) ≡ until = omega (arith, runs.some) in
-        subst (λ u. Stands jobs u released now after (with_late late due (clock + l)) u) there
-        (subst (λ ks. Stands jobs (clock + (until - clock)) released ks after (with_late late due (clock + l))
-        (clock + (until - clock))) (sym e)
-        (stands_done jobs clock released due n l kept pieces late (until - clock) still behind
-        (omega (arith, runs.some)) (omega (arith, runs.within))
-        after adds (omega (arith, runs.some, runs.within))))
+      -- with something left
+      ran_on : until < clock + l → Stands jobs until released now after (with_late late due (clock + l)) until
+      ran_on less =
+          let there : clock + (until - clock) ≡ until = omega (arith, runs.some) in
+          let left_same : l - (until - clock) ≡ clock + l - until = omega (arith, runs.some) in
+          subst (λ u. Stands jobs u released now after (with_late late due (clock + l)) u) there
+          (subst (λ ks. Stands jobs (clock + (until - clock)) released ks after (with_late late due (clock + l))
+          (clock + (until - clock)))
+          (ap (λ v. ((due, n), v) ∷ first.rest) left_same ∙ sym (stays (omega (arith, less))))
+          (stands_run jobs clock released due n l first.rest pieces late (until - clock) (still first.rest s)
+          first.behind (omega (arith, runs.some)) (omega (arith, runs.within)) after adds (omega (arith, runs.some))))
 
-  -- where something is left, the next job is released by then
-  pending : (until : ℕ) → RunsUntil jobs clock released l until → until < clock + l → IsPending jobs until released
-  pending until runs less = by_end runs.ends where
-    by_end : (until ≡ clock + l) ⊎ IsPending jobs until released → IsPending jobs until released
-    by_end (inl e) = absurd (omega (arith, e))
-    by_end (inr next) = next
+      -- with nothing left
+      ran_out : clock + l ≤ until → Stands jobs until released now after (with_late late due (clock + l)) until
+      ran_out all =
+          let there : clock + (until - clock) ≡ until = omega (arith, runs.some) in
+          let out : IsTakenOut ((due, n), l) kept now = goes (omega (arith, all)) in
+          subst (λ u. Stands jobs u released now after (with_late late due (clock + l)) u) there
+          (stands_done jobs clock released due n l now pieces late (until - clock)
+          (still now (stands_moved jobs clock released kept pieces late (clock + 1) before (((due, n), l) ∷ now) out.rest))
+          out.behind (omega (arith, runs.some)) (omega (arith, runs.within)) after adds
+          (omega (arith, runs.some, runs.within)))
 
-  -- what is there afterwards
-  pub few_on : (until : ℕ) → RunsUntil jobs clock released l until → (after : List Piece) (now : List Kept)
-      → length after ≤ length pieces + 1
-      → until < clock + l → now ≡ insert kept (due, n) (clock + l - until)
-      → (length after + length now ≤ length pieces + length kept + 1)
-      ⊎ ((length after + length now ≤ length pieces + length kept + 2) × IsPending jobs until released)
-  few_on until runs after now count less e =
-      inr (
-        omega (arith, ap (λ (xs : List Kept). length xs) e, insert_length kept (due, n) (clock + l - until)),
-        pending until runs less,
+      -- it stands at the tick to which the job ran
+      pub ran : Stands jobs until released now after (with_late late due (clock + l)) until
+      ran = by_left any_left where
+        by_left : (until < clock + l) ⊎ (clock + l ≤ until)
+            → Stands jobs until released now after (with_late late due (clock + l)) until
+        by_left (inl less) = ran_on less
+        by_left (inr all) = ran_out all
+
+    -- where something is left, the next job is released by then
+    pending : until < clock + l → IsPending jobs until released
+    pending less = by_end runs.ends where
+      by_end : (until ≡ clock + l) ⊎ IsPending jobs until released → IsPending jobs until released
+      by_end (inl e) = absurd (omega (arith, e))
+      by_end (inr next) = next
+
+    -- what is there afterwards
+    pub few_after : length after ≤ length pieces + 1 → (length after + length now ≤ length pieces + length kept)
+        ⊎ ((length after + length now ≤ length pieces + length kept + 1) × IsPending jobs until released)
+    few_after count = by_left any_left where
+      by_left : (until < clock + l) ⊎ (clock + l ≤ until)
+          → (length after + length now ≤ length pieces + length kept)
+          ⊎ ((length after + length now ≤ length pieces + length kept + 1) × IsPending jobs until released)
+      by_left (inl less) = inr (
+        omega (
+          arith,
+          count,
+          ap (λ (ks : List Kept). length ks) (stays (omega (arith, less))),
+          ap (λ (ks : List Kept). length ks) first.is,
+        ),
+        pending less,
       )
-
-  pub few_out : (until : ℕ) (after : List Piece) (now : List Kept) → length after ≤ length pieces + 1 → now ≡ kept
-      → (length after + length now ≤ length pieces + length kept + 1)
-      ⊎ ((length after + length now ≤ length pieces + length kept + 2) × IsPending jobs until released)
-  few_out until after now count e = inl (omega (arith, ap (λ (xs : List Kept). length xs) e))
+      by_left (inr all) = inl (omega (
+        arith,
+        count,
+        length_permutation kept (((due, n), l) ∷ now) (goes (omega (arith, all))).rest,
+      ))

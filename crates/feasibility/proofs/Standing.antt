@@ -2,9 +2,10 @@
 use Rattle.std.proofs.Common.{◌≡◌, ℕ, ◌+◌, ◌-◌, ◌*◌, ◌≤◌, ◌<◌, ◌⊎◌, inl, inr, List, [], ◌∷◌, ◌++◌, length, map}
 use Rattle.std.proofs.Common.{replicate, append-nil, refl}
 use Rattle.std.proofs.Common.{sym, ap, ◌∙◌, subst, arith, Option, IsTrue}
-use Rattle.std.specs.Prelude.{Some, None, slice_get}
+use Rattle.std.specs.Prelude.{Some, None, slice_get, IsPermutation}
 use Rattle.std.specs.List.{sum_by, enumerate_from}
 use Rattle.std.proofs.lemmas.Bool.{le-leb, cases_lt, cases_eq}
+use Rattle.std.proofs.lemmas.List.Sorted.{IsPermutation-sym, sum_by-IsPermutation}
 use Rattle.std.proofs.lemmas.List.Sums.{sum_by-cons}
 use Rattle.dover_model.specs.Limits.{idle, most_jobs}
 use Rattle.dover_model.specs.JobFacts.{JobFacts, IsJob}
@@ -20,13 +21,14 @@ use Rattle.dover_model.proofs.Roles.{one_number}
 use Rattle.dover_model.proofs.Honest.{numbers_low, count_jobs}
 use Rattle.feasibility.specs.Progress.{AreReleased, IsLateBy, with_late, IsShown, AreServed, Stands, IsPending}
 use Rattle.feasibility.specs.Progress.{NoneBefore, IsWhole}
-use Rattle.feasibility.specs.Progress.{AreBehind, kept_as}
+use Rattle.feasibility.specs.Progress.{kept_as}
+use Rattle.feasibility.specs.Queue.{Kept, AreBehind}
 use Rattle.feasibility.proofs.EarliestFirst.{had_more, given_ticks, by_given, given_here, given_other, IsBehind}
 use Rattle.feasibility.proofs.EarliestFirst.{Leads, Rests, edf_over}
 use Rattle.feasibility.proofs.Shares.{none_behind}
 use Rattle.feasibility.proofs.Coming.{come_run, come_idle}
 use Rattle.feasibility.proofs.Lateness.{shown_on, late_shows, served_run, served_idle}
-use Rattle.feasibility.proofs.Keeping.{Kept, insert, insert_new, insert_member, insert_keeps, insert_sum}
+use Rattle.feasibility.proofs.Keeping.{member_moved}
 use Rattle.dover_model.proofs.Kept.{come_numbered, come_jobs}
 use Rattle.feasibility.proofs.Numbered.{come_had, come_left, task_at, place_below, releases_rise, each_numbered}
 use Rattle.feasibility.proofs.Numbered.{release_before_last}
@@ -125,15 +127,34 @@ module _ (jobs : List JobFacts) (clock released : ℕ) (kept : List Kept) (piece
     soon = s.soon;
   }
 
+  -- nor does it matter in which order the ready jobs are kept
+  pub stands_moved : (now : List Kept) → IsPermutation kept now → Stands jobs clock released now pieces late from
+  stands_moved now moved = record {
+    tasks = s.tasks;
+    so_far = s.so_far;
+    come = s.come;
+    ready = record {
+      each = λ e member. s.ready.each e (member_moved kept now moved e member);
+      all = λ t member low some_left.
+          member_moved now kept (IsPermutation-sym kept now moved) (kept_as t) (s.ready.all t member low some_left);
+    };
+    releases = s.releases;
+    stretch = s.stretch;
+    served = s.served;
+    shown = s.shown;
+    few = s.few;
+    soon = omega (arith, s.soon, sum_by-IsPermutation (λ (e : Kept). e.1) kept now moved);
+  }
+
   -- one job is released
   pub stands_release : (j : JobFacts) → slice_get jobs released ≡ Some j → clock ≤ from → j.release ≤ clock → IsJob j
-      → Stands jobs clock (released + 1) (insert kept (j.deadline, released) j.work) pieces late from
+      → Stands jobs clock (released + 1) (((j.deadline, released), j.work) ∷ kept) pieces late from
   stands_release j found after now is_job = record {
     tasks = s.tasks;
     so_far = s.so_far;
     come = s.come;
     ready = record {
-      each = λ e member. each e (insert_member kept (j.deadline, released) j.work e member);
+      each = each;
       all = λ t member low some_left. all t member some_left (cases_lt t.number released) low;
     };
     releases = record {
@@ -144,9 +165,13 @@ module _ (jobs : List JobFacts) (clock released : ℕ) (kept : List Kept) (piece
     served = s.served;
     shown = s.shown;
     few = let low : released < length jobs = place_below jobs released j found in omega arith;
-    soon = let sum : sum_by (λ e. e.1) (insert kept (j.deadline, released) j.work) ≤ sum_by (λ e. e.1) kept + j.work =
-        insert_sum kept (j.deadline, released) j.work in
-        omega (arith, s.soon, is_job.window, is_job.due);
+    soon = omega (
+      arith,
+      s.soon,
+      is_job.window,
+      is_job.due,
+      sum_by-cons (λ (e : Kept). e.1) ((j.deadline, released), j.work) kept,
+    );
   } where
     it : (t : Task) × IsMember t s.tasks × (t.number ≡ released) × (t.job ≡ j)
     it = task_of released j found
@@ -179,15 +204,10 @@ module _ (jobs : List JobFacts) (clock released : ℕ) (kept : List Kept) (piece
 
     all : (t : Task) → IsMember t s.tasks → 1 ≤ left t → (t.number < released) ⊎ (released ≤ t.number)
         → t.number < released + 1
-        → IsMember (kept_as t) (insert kept (j.deadline, released) j.work)
-    all t member some_left (inl low) top =
-        insert_keeps kept (j.deadline, released) j.work (kept_as t) (s.ready.all t member low some_left)
-        (λ same. absurd (let e : t.number ≡ released = ap (λ (x : ℕ × ℕ). x.1) same in omega arith))
+        → IsMember (kept_as t) (((j.deadline, released), j.work) ∷ kept)
+    all t member some_left (inl low) top = inr (s.ready.all t member low some_left)
     all t member some_left (inr high) top =
-        let same : t.number ≡ released = omega arith in
-        subst (λ e. IsMember e (insert kept (j.deadline, released) j.work)) (sym (as_kept t member same))
-        (insert_new kept
-        (j.deadline, released) j.work)
+        let same : t.number ≡ released = omega arith in inl (as_kept t member same)
 
     past : (t : Task) → IsMember t s.tasks → (t.number < released) ⊎ (released ≤ t.number) → t.number < released + 1
         → (t.job.release ≤ clock) × IsJob t.job
@@ -339,33 +359,32 @@ module _ (jobs : List JobFacts) (clock released due n l : ℕ) (kept : List Kept
   module _ (after : List Piece)
       (adds : (x : List ℕ) → length x ≡ clock → pieces ≡ stretches x → after ≡ stretches (x ++ replicate k n)) where
     -- where something is left, the job is kept
-    pub stands_run : k < l → Stands jobs (clock + k) released (insert kept (due, n) (l - k)) after
+    pub stands_run : k < l → Stands jobs (clock + k) released (((due, n), l - k) ∷ kept) after
         (with_late late due (clock + l)) (clock + k)
     stands_run less = record {
       tasks = tasks_after;
       so_far = s.so_far ++ replicate k n;
       come = come_run jobs clock s.so_far s.tasks s.come k n some leads;
       ready = record {
-        each = λ e member. each e (insert_member kept (due, n) (l - k) e member);
+        each = each;
         all = on_map (given_ticks k n)
-            (λ t. t.number < released → 1 ≤ left t → IsMember (kept_as t) (insert kept (due, n) (l - k))) s.tasks
+            (λ t. t.number < released → 1 ≤ left t → IsMember (kept_as t) (((due, n), l - k) ∷ kept)) s.tasks
             (λ u member. by_given (λ t. t.number < released → 1 ≤ left t
-            → IsMember (kept_as t) (insert kept (due, n) (l - k))) k n u
-            (λ same low some_left. subst (λ e. IsMember e (insert kept (due, n) (l - k))) (sym (here u member same))
-            (insert_new kept (due, n)
-            (l - k)))
-            (λ other low some_left. insert_keeps kept (due, n) (l - k) (kept_as u)
-            (others_kept u member other low some_left)
-            (λ same. other (ap (λ (x : ℕ × ℕ). x.1) same))));
+            → IsMember (kept_as t) (((due, n), l - k) ∷ kept)) k n u
+            (λ same low some_left. inl (here u member same))
+            (λ other low some_left. inr (others_kept u member other low some_left)));
       };
       releases = released_after;
       stretch = adds s.so_far s.come.ticks s.stretch;
       served = served_after;
       shown = shown_after;
       few = s.few;
-      soon = let sum : sum_by (λ e. e.1) (insert kept (due, n) (l - k)) ≤ sum_by (λ e. e.1) kept + (l - k) =
-          insert_sum kept (due, n) (l - k) in
-          omega (arith, s.soon, sum_by-cons (λ (e : Kept). e.1) ((due, n), l) kept);
+      soon = omega (
+        arith,
+        s.soon,
+        sum_by-cons (λ (e : Kept). e.1) ((due, n), l) kept,
+        sum_by-cons (λ (e : Kept). e.1) ((due, n), l - k) kept,
+      );
     } where
       -- the task that ran
       here : (u : Task) → IsMember u s.tasks → u.number ≡ n → kept_as (had_more k u) ≡ ((due, n), l - k)

@@ -14,6 +14,7 @@ use Rattle.dover_model.specs.declared.events.Task.{Task}
 use Rattle.dover_model.specs.declared.pieces.Piece.{Piece}
 use Rattle.feasibility.specs.declared.simulation.Simulation.{Simulation}
 use Rattle.feasibility.specs.Feasibility.{IsDeadline}
+use Rattle.feasibility.specs.Queue.{Kept}
 
 -- the ticks that the jobs inside the window from a to d have had
 abbrev pub had_inside : ℕ → ℕ → List Task → ℕ
@@ -39,12 +40,12 @@ pub record HasCome (jobs : List JobFacts) (clock : ℕ) (so_far : List ℕ) (tas
   pub enough : last_release jobs - clock + sum_by left tasks ≤ more
   pub busy : (d : ℕ) → IsBusy d clock tasks
 
--- what a ready job is kept as: its deadline and number, and what is left of it
-abbrev pub kept_as : Task → (ℕ × ℕ) × ℕ
+-- what a ready job is kept as
+abbrev pub kept_as : Task → Kept
 kept_as t = ((t.job.deadline, t.number), left t)
 
 -- kept are the jobs of number below `released` that aren't done
-pub record AreReady (released : ℕ) (kept : List ((ℕ × ℕ) × ℕ)) (tasks : List Task) : Type 0 where
+pub record AreReady (released : ℕ) (kept : List Kept) (tasks : List Task) : Type 0 where
   pub each : Each (λ e. (t : Task) × IsMember t tasks × (t.number < released) × (1 ≤ left t) × (e ≡ kept_as t)) kept
   pub all : Each (λ t. t.number < released → 1 ≤ left t → IsMember (kept_as t) kept) tasks
 
@@ -75,7 +76,7 @@ AreServed late s tasks =
 
 -- the simulation has come to the tick `clock`, and no job that isn't counted as released is released before the tick
 -- `from`
-pub record Stands (jobs : List JobFacts) (clock released : ℕ) (kept : List ((ℕ × ℕ) × ℕ)) (pieces : List Piece)
+pub record Stands (jobs : List JobFacts) (clock released : ℕ) (kept : List Kept) (pieces : List Piece)
     (late : Option ℕ)
     (from : ℕ) : Type 0 where
   pub tasks : List Task
@@ -91,15 +92,11 @@ pub record Stands (jobs : List JobFacts) (clock released : ℕ) (kept : List ((�
 
 -- the same of a simulation
 abbrev pub StandsAt : List JobFacts → Simulation → (from : ℕ) → Type 0
-StandsAt jobs s from = Stands jobs s.clock s.released s.ready.entries s.pieces.items s.late from
-
--- each of these entries is behind the job of this deadline and number
-abbrev pub AreBehind : (deadline number : ℕ) → List ((ℕ × ℕ) × ℕ) → Type 0
-AreBehind deadline number kept = Each (λ e. (deadline < e.0.0) ⊎ ((deadline ≡ e.0.0) × (number < e.0.1))) kept
+StandsAt jobs s from = Stands jobs s.clock s.queue.released s.queue.kept s.pieces.items s.late from
 
 -- the pieces and the ready jobs together are at most twice as many as the jobs that are released
 abbrev pub HasFew : Simulation → Type 0
-HasFew s = length s.pieces.items + length s.ready.entries ≤ 2 * s.released
+HasFew s = length s.pieces.items + length s.queue.kept ≤ 2 * s.queue.released
 
 -- the next job is released by now
 abbrev pub IsPending : List JobFacts → (clock released : ℕ) → Type 0

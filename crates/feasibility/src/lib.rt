@@ -5,6 +5,7 @@ mod answer;
 mod judging;
 mod laws;
 mod pieces;
+mod queue;
 mod simulation;
 mod window;
 

@@ -1,25 +1,23 @@
 //! Earliest deadline first, from one release or completion to the next.
-ghost use Rattle.std.specs.Prelude.{◌≡◌, ◌+◌, ◌^◌, ◌<◌, ◌≤◌, ◌∷◌, ◌⊎◌, length, IfOk, OnOk};
+ghost use Rattle.std.specs.Prelude.{◌≡◌, ◌+◌, ◌^◌, ◌<◌, ◌≤◌, ◌⊎◌, length, IfOk, OnOk};
 ghost use Rattle.std.specs.Bool.{OnTrue, OnFalse};
 ghost use Rattle.dover_model.specs.Instance.{IsInOrder};
 ghost use Rattle.dover_model.specs.Limits.{most_jobs};
-ghost use Rattle.feasibility.specs.Progress.{Stands, StandsAt, AreBehind, HasFew, IsPending, NoneBefore, RunsUntil};
-ghost use Rattle.feasibility.specs.Progress.{IsWhole, with_late};
+ghost use Rattle.feasibility.specs.Progress.{StandsAt, HasFew, IsPending, NoneBefore, RunsUntil, IsWhole, with_late};
+ghost use Rattle.feasibility.specs.Queue.{IsFirst};
 
 use crate::pieces::add_piece;
+use crate::queue::{DueJob, DueQueue};
 use dover_model::{Job, Memory, Piece};
 use std::alloc::Global;
-use std::collections::BTreeMap;
 
 /// Where the schedule stands at a tick.
 #[derive(Drop)]
 pub struct Simulation {
     /// The tick.
     pub clock: u64,
-    /// How many jobs are released by now.
-    pub released: usize,
-    /// What is left of each job that is released and not done, by its deadline and number.
-    pub ready: BTreeMap<(u64, u32), u64>,
+    /// The jobs that are released by now and not done.
+    pub queue: DueQueue,
     /// The stretches of the schedule so far.
     pub pieces: Vec<Piece>,
     /// The least deadline of a job that ran although it can't be done in time.
@@ -34,19 +32,17 @@ impl Simulation {
         requires stands { StandsAt jobs.now self.old self.old.clock }
         ensures stands { OnOk result (StandsAt jobs.now self.new (self.new.clock + 1)) }
         ensures clock { self.new.clock ≡ self.old.clock }
-        ensures rises { self.old.released ≤ self.new.released }
-        ensures few { OnOk result (length self.new.pieces.items + length self.new.ready.entries + self.old.released
-            ≤ length self.old.pieces.items + length self.old.ready.entries + self.new.released) }
-        ensures moves { IsPending jobs.now self.old.clock self.old.released
-            → OnOk result (self.old.released < self.new.released) }
+        ensures rises { self.old.queue.released ≤ self.new.queue.released }
+        ensures few { OnOk result (length self.new.pieces.items + length self.new.queue.kept + self.old.queue.released
+            ≤ length self.old.pieces.items + length self.old.queue.kept + self.new.queue.released) }
+        ensures moves { IsPending jobs.now self.old.clock self.old.queue.released
+            → OnOk result (self.old.queue.released < self.new.queue.released) }
     {
-        while let Some(job) = jobs.get(self.released) {
+        while let Some(job) = jobs.get(self.queue.released()) {
             if self.clock < job.release() {
                 break;
             }
-            self.ready
-                .insert((job.deadline(), self.released as u32), job.work())?;
-            self.released += 1;
+            self.queue.release(job.deadline(), job.work())?;
         }
         Ok(())
     }
@@ -55,48 +51,44 @@ impl Simulation {
     fn until(&self, jobs: &[Job], left: u64) -> u64
         requires some { 1 ≤ left }
         requires fits { self.now.clock + left < 2 ^ 64 }
-        requires none { NoneBefore jobs.now (self.now.clock + 1) self.now.released }
-        ensures { RunsUntil jobs.now self.now.clock self.now.released left result }
+        requires none { NoneBefore jobs.now (self.now.clock + 1) self.now.queue.released }
+        ensures { RunsUntil jobs.now self.now.clock self.now.queue.released left result }
     {
         let done = self.clock + left;
-        match jobs.get(self.released) {
+        match jobs.get(self.queue.released()) {
             Some(next) => done.min(next.release()),
             None => done,
         }
     }
 
     /// Runs the job that is due first to its end or to the next release.
-    fn run(&mut self, jobs: &[Job], deadline: u64, number: u32, left: u64) -> Result<(), Memory>
+    fn run(&mut self, jobs: &[Job], job: DueJob) -> Result<(), Memory>
         requires order { IsInOrder jobs.now }
         requires count { length jobs.now ≤ most_jobs }
-        requires stands { Stands jobs.now self.old.clock self.old.released
-            (((deadline, number), left) ∷ self.old.ready.entries)
-            self.old.pieces.items self.old.late (self.old.clock + 1) }
-        requires behind { AreBehind deadline number self.old.ready.entries }
+        requires stands { StandsAt jobs.now self.old (self.old.clock + 1) }
+        requires first { IsFirst ((job.deadline, job.number), job.left) self.old.queue.kept }
         ensures stands { OnOk result (StandsAt jobs.now self.new self.new.clock) }
         ensures later { OnOk result (self.old.clock < self.new.clock) }
-        ensures released { self.new.released ≡ self.old.released }
+        ensures released { self.new.queue.released ≡ self.old.queue.released }
         ensures few { OnOk result (
-            (length self.new.pieces.items + length self.new.ready.entries ≤ length self.old.pieces.items
-            + length self.old.ready.entries + 1)
-            ⊎ ((length self.new.pieces.items + length self.new.ready.entries ≤ length self.old.pieces.items
-            + length self.old.ready.entries + 2)
-            × IsPending jobs.now self.new.clock self.new.released)) }
+            (length self.new.pieces.items + length self.new.queue.kept
+            ≤ length self.old.pieces.items + length self.old.queue.kept)
+            ⊎ ((length self.new.pieces.items + length self.new.queue.kept
+            ≤ length self.old.pieces.items + length self.old.queue.kept + 1)
+            × IsPending jobs.now self.new.clock self.new.queue.released)) }
     {
-        let done = self.clock + left;
-        let until = self.until(jobs, left);
+        let done = self.clock + job.left;
+        let until = self.until(jobs, job.left);
         add_piece(
             &mut self.pieces,
             Piece {
                 from: self.clock,
                 until,
-                number,
+                number: job.number,
             },
         )?;
-        if until < done {
-            self.ready.insert((deadline, number), done - until)?;
-        }
-        self.late = with_late(self.late, deadline, done);
+        self.queue.leave(job.number, done - until);
+        self.late = with_late(self.late, job.deadline, done);
         self.clock = until;
         Ok(())
     }
@@ -112,9 +104,9 @@ impl Simulation {
         ensures later { IfOk result (λ more. OnTrue more (self.old.clock < self.new.clock)) }
         ensures whole { IfOk result (λ more. OnFalse more (IsWhole jobs.now self.new.pieces.items self.new.late)) }
     {
-        match self.ready.pop_first() {
-            Some(((deadline, number), left)) => self.run(jobs, deadline, number, left)?,
-            None => match jobs.get(self.released) {
+        match self.queue.first() {
+            Some(job) => self.run(jobs, job)?,
+            None => match jobs.get(self.queue.released()) {
                 Some(next) => self.clock = next.release(),
                 None => return Ok(false),
             },
@@ -142,8 +134,7 @@ pub fn simulate(alloc: Global, jobs: &[Job]) -> Result<Simulation, Memory>
 {
     let mut simulation = Simulation {
         clock: 0,
-        released: 0,
-        ready: BTreeMap::new(alloc),
+        queue: DueQueue::new(alloc),
         pieces: Vec::new(alloc),
         late: None,
     };

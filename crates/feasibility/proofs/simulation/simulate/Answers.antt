@@ -2,12 +2,13 @@ use Rattle.std.proofs.Common.{List, [], sym, subst}
 use Rattle.std.specs.Prelude.{None}
 use Rattle.dover_model.specs.declared.pieces.Piece.{Piece}
 use Rattle.feasibility.specs.Progress.{Stands}
-use Rattle.feasibility.proofs.Keeping.{Kept}
+use Rattle.feasibility.specs.Queue.{QueueFacts}
 use Rattle.feasibility.proofs.Standing.{stands_first}
 use Rattle.feasibility.proofs.simulation.simulate.Goals as goal
 
 pub release-requires-clause-stands : goal.release-requires-clause-stands
 release-requires-clause-stands c =
-    subst (λ (kept : List Kept). Stands c.args.jobs.now 0 0 kept c.new-2.result.items None 0) (sym c.new.ensures.empty)
+    subst (λ (q : QueueFacts). Stands c.args.jobs.now 0 q.released q.kept c.new-2.result.items None 0)
+    (sym c.new.ensures)
     (subst (λ (pieces : List Piece). Stands c.args.jobs.now 0 0 [] pieces None 0) (sym c.new-2.ensures.items)
     (stands_first c.args.jobs.now))

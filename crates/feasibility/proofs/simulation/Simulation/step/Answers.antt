@@ -1,59 +1,53 @@
-use Rattle.std.proofs.Common.{◌≡◌, ◌+◌, ◌<◌, List, [], refl, sym, subst, ap, ◌∙◌, arith}
-use Rattle.std.proofs.lemmas.Option.{slice_get_read}
+use Rattle.std.proofs.Common.{◌≡◌, ◌+◌, ◌<◌, List, [], sym, subst, ap, ◌∙◌, arith}
 use Rattle.feasibility.specs.declared.simulation.Simulation.{Simulation}
 use Rattle.feasibility.specs.Progress.{Stands, StandsAt}
-use Rattle.feasibility.proofs.Keeping.{Kept, all_behind, no_entries}
+use Rattle.feasibility.specs.Queue.{Kept}
 use Rattle.feasibility.proofs.Standing.{stands_idle, stands_last, next_later}
+use Rattle.feasibility.proofs.Running.{next_found}
 use Rattle.feasibility.proofs.simulation.Simulation.step.Goals as goal
 use Rattle.feasibility.proofs.simulation.Simulation.step.Goals.{in-Some+in_ok-run-in-Some, in-None+in-Some-get}
 
-pub run-requires-clause-behind : goal.run-requires-clause-behind
-run-requires-clause-behind c =
-    all_behind c.in-Some.deadline c.in-Some.number c.pop_first.new.self.entries c.in-Some.ensures.all_above
-
 pub returns-in-None-get-clause-whole : goal.returns-in-None-get-clause-whole
 returns-in-None-get-clause-whole c =
-    stands_last c.args.jobs.now c.args.self.now.clock c.args.self.now.released c.args.self.now.pieces.items
+    stands_last c.args.jobs.now c.args.self.now.clock c.args.self.now.queue.released c.args.self.now.pieces.items
     c.args.self.now.late
     (c.args.self.now.clock + 1)
-    (subst (λ (kept : List Kept). Stands c.args.jobs.now c.args.self.now.clock c.args.self.now.released kept
+    (subst (λ (kept : List Kept). Stands c.args.jobs.now c.args.self.now.clock c.args.self.now.queue.released kept
     c.args.self.now.pieces.items
-    c.args.self.now.late (c.args.self.now.clock + 1))
-    (no_entries c.args.self.now.ready.entries c.in-None.ensures.variant.1) c.requires.stands)
-    c.in-None-get.ensures.lookup.3 (omega (arith, c.requires.few))
+    c.args.self.now.late (c.args.self.now.clock + 1)) c.in-None.ensures.none c.requires.stands)
+    (omega (arith, c.in-None-get.ensures.lookup.3, c.released.ensures)) (omega (arith, c.requires.few))
 
 pub release-requires-clause-stands : goal.release-requires-clause-stands
-release-requires-clause-stands c = elim c.match-pop_first.branch [
+release-requires-clause-stands c = elim c.match-first.branch [
   | in-Some+in_ok-run-in-Some w ↦ subst (λ (x : Simulation). StandsAt c.args.jobs.now x x.clock)
       (sym w.self-is) w.in_ok-run-in-Some.ensures.stands
   | in-None+in-Some-get w ↦
-      let none : c.args.self.now.ready.entries ≡ [] =
-      no_entries c.args.self.now.ready.entries w.in-None.ensures.variant.1 in
-      let idle : Stands c.args.jobs.now w.in-Some-get.next.now.release c.args.self.now.released []
+      let none : c.args.self.now.queue.kept ≡ [] = w.in-None.ensures.none in
+      let idle : Stands c.args.jobs.now w.in-Some-get.next.now.release c.args.self.now.queue.released []
       c.args.self.now.pieces.items c.args.self.now.late
       w.in-Some-get.next.now.release =
-      stands_idle c.args.jobs.now c.args.self.now.clock c.args.self.now.released c.args.self.now.pieces.items
+      stands_idle c.args.jobs.now c.args.self.now.clock c.args.self.now.queue.released c.args.self.now.pieces.items
       c.args.self.now.late c.requires.count
       c.requires.order
-      (subst (λ (kept : List Kept). Stands c.args.jobs.now c.args.self.now.clock c.args.self.now.released kept
+      (subst (λ (kept : List Kept). Stands c.args.jobs.now c.args.self.now.clock c.args.self.now.queue.released kept
       c.args.self.now.pieces.items
       c.args.self.now.late (c.args.self.now.clock + 1)) none c.requires.stands)
       w.in-Some-get.next.now
-      (slice_get_read c.args.jobs.now _ c.args.self.now.released w.in-Some-get.next.now refl
-      w.in-Some-get.ensures.lookup.3.0
+      (next_found c.args.jobs.now _ _ w.in-Some-get.next.now w.released.ensures w.in-Some-get.ensures.lookup.3.0
       w.in-Some-get.ensures.lookup.1)
       w.release-self.ensures.job in
       subst (λ (x : Simulation). StandsAt c.args.jobs.now x x.clock) (sym w.self-is)
-      (subst (λ n. Stands c.args.jobs.now n c.args.self.now.released c.pop_first.new.self.entries
+      (subst (λ n. Stands c.args.jobs.now n c.args.self.now.queue.released c.args.self.now.queue.kept
       c.args.self.now.pieces.items c.args.self.now.late n)
       (sym w.release-self.ensures.is)
-      (subst (λ (kept : List Kept). Stands c.args.jobs.now w.in-Some-get.next.now.release c.args.self.now.released kept
+      (subst (λ (kept : List Kept). Stands c.args.jobs.now w.in-Some-get.next.now.release
+      c.args.self.now.queue.released kept
       c.args.self.now.pieces.items
-      c.args.self.now.late w.in-Some-get.next.now.release) (sym (w.in-None.ensures.unchanged ∙ none)) idle))
+      c.args.self.now.late w.in-Some-get.next.now.release) (sym none) idle))
 ]
 
 pub returns-clause-later : goal.returns-clause-later
-returns-clause-later c = elim c.match-pop_first.branch [
+returns-clause-later c = elim c.match-first.branch [
   | in-Some+in_ok-run-in-Some w ↦
       subst (λ n. c.args.self.now.clock < n)
       (sym (c.in_ok-release.ensures.clock ∙ ap (λ (x : Simulation). x.clock) w.self-is))
@@ -61,10 +55,9 @@ returns-clause-later c = elim c.match-pop_first.branch [
   | in-None+in-Some-get w ↦
       subst (λ n. c.args.self.now.clock < n)
       (sym (c.in_ok-release.ensures.clock ∙ ap (λ (x : Simulation). x.clock) w.self-is ∙ w.release-self.ensures.is))
-      (next_later c.args.jobs.now c.args.self.now.clock c.args.self.now.released c.args.self.now.ready.entries
+      (next_later c.args.jobs.now c.args.self.now.clock c.args.self.now.queue.released c.args.self.now.queue.kept
       c.args.self.now.pieces.items
       c.args.self.now.late c.requires.stands w.in-Some-get.next.now
-      (slice_get_read c.args.jobs.now _ c.args.self.now.released w.in-Some-get.next.now refl
-      w.in-Some-get.ensures.lookup.3.0
+      (next_found c.args.jobs.now _ _ w.in-Some-get.next.now w.released.ensures w.in-Some-get.ensures.lookup.3.0
       w.in-Some-get.ensures.lookup.1))
 ]

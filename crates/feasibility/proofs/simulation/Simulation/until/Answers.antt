@@ -1,18 +1,17 @@
-use Rattle.std.proofs.Common.{◌∙◌, ap, min, ◌+◌, refl}
-use Rattle.std.proofs.lemmas.Option.{slice_get_read}
-use Rattle.feasibility.proofs.Running.{until_next, until_end}
+use Rattle.std.proofs.Common.{◌∙◌, ap, min, ◌+◌, refl, arith}
+use Rattle.feasibility.proofs.Running.{next_found, until_next, until_end}
 use Rattle.feasibility.proofs.simulation.Simulation.until.Goals as goal
 
 pub returns-in-Some : goal.returns-in-Some
 returns-in-Some c =
-    until_next c.args.jobs.now c.args.self.now.clock c.args.self.now.released c.args.left c.requires.some
+    until_next c.args.jobs.now c.args.self.now.clock c.args.self.now.queue.released c.args.left c.requires.some
     c.requires.none
     c.in-Some.next.now c.min.result
-    (slice_get_read c.args.jobs.now _ c.args.self.now.released c.in-Some.next.now refl c.in-Some.ensures.lookup.3.0
+    (next_found c.args.jobs.now _ _ c.in-Some.next.now c.released.ensures c.in-Some.ensures.lookup.3.0
     c.in-Some.ensures.lookup.1)
     (c.min.ensures ∙ ap (λ r. min (c.args.self.now.clock + c.args.left) r) c.release.ensures.is)
 
 pub returns-in-None : goal.returns-in-None
 returns-in-None c =
-    until_end c.args.jobs.now c.args.self.now.clock c.args.self.now.released c.args.left c.requires.some c.requires.none
-    (c.args.self.now.clock + c.args.left) c.in-None.ensures.lookup.3 refl
+    until_end c.args.jobs.now c.args.self.now.clock c.args.self.now.queue.released c.args.left c.requires.some c.requires.none
+    (c.args.self.now.clock + c.args.left) (omega (arith, c.in-None.ensures.lookup.3, c.released.ensures)) refl
