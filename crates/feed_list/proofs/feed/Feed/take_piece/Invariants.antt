@@ -1,7 +1,11 @@
-use Rattle.std.proofs.Common.{ℕ, List, ◌++◌, take}
+use Rattle.std.proofs.Common.{ℕ, List, length}
 use Rattle.feed_list.specs.Feeding.{FeedStands}
+use Rattle.feed_list.proofs.Pieces.{HasTaken}
 use Rattle.feed_list.proofs.feed.Feed.take_piece.Given as goal
 
--- The feed stands for the bytes so far.
-abbrev pub invariant-loop-byte : goal.invariant-loop-byte
-invariant-loop-byte l = (x : List ℕ) → FeedStands l.initial.self x → FeedStands l.self (x ++ take l.byte-index l.bytes)
+-- A front of the piece was taken.
+abbrev pub invariant-loop-rest : goal.invariant-loop-rest
+invariant-loop-rest l = (x : List ℕ) → FeedStands l.initial.self x → HasTaken l.self x l.bytes l.rest
+
+abbrev pub decreases-loop-rest : goal.decreases-loop-rest
+decreases-loop-rest l = length l.rest
