@@ -594,12 +594,14 @@ fn a_baiting_feed_is_served(rt: HostRuntime) -> Result<(), Fail> {
 }
 
 /// Words that ask for nothing.
-const WRONG: [&[&str]; 14] = [
+const WRONG: [&[&str]; 16] = [
     &[],
     &["now"],
     &["serve", "now"],
     &["report"],
     &["report", "pdf"],
+    &["report", "svg", "5", "5"],
+    &["report", "timeline", "6", "5"],
     &["bait", "1", "1", "0"],
     &["bait", "1", "2", "1"],
     &["bait", "1", "1", "1000001"],

@@ -8,13 +8,12 @@ use std::sync::ledger::{Blank, Ledger};
 use std::test::Fail;
 use step_count::Steps;
 
+/// The trace of one job.
+const ONE: &str = "dover 1 1 1\njob 0 0 2 2 2\nrun 0 0\ncomplete 2 0\nend 2\n";
+
 /// Texts, how each ends, and what is written for it.
 const TEXTS: [(&str, Status, &str); 6] = [
-    (
-        "dover 1 1 1\njob 0 0 2 2 2\nrun 0 0\ncomplete 2 0\nend 2\n",
-        Status::Done,
-        "accepted 2 8\n",
-    ),
+    (ONE, Status::Done, "accepted 2 8\n"),
     ("dover 1 1 1\njob 0 0 2 2 2\nrun 0", Status::No, "short 2\n"),
     ("", Status::No, "short 0\n"),
     ("x\n", Status::No, "wrong 1 expected header\n"),
@@ -30,9 +29,10 @@ const TEXTS: [(&str, Status, &str); 6] = [
     ),
 ];
 
-/// How a port cuts and fails, how the call ends, and what is written.
-const FAILING: [(Cut, Status, &str); 4] = [
+/// Texts, how the port cuts and fails, how the call ends, and what is written.
+const FAILING: [(&str, Cut, Status, &str); 5] = [
     (
+        ONE,
         Cut {
             piece: 4096,
             read: 1,
@@ -43,6 +43,7 @@ const FAILING: [(Cut, Status, &str); 4] = [
         "",
     ),
     (
+        ONE,
         Cut {
             piece: 1,
             read: 13,
@@ -53,6 +54,7 @@ const FAILING: [(Cut, Status, &str); 4] = [
         "",
     ),
     (
+        ONE,
         Cut {
             piece: 4096,
             read: 0,
@@ -63,6 +65,7 @@ const FAILING: [(Cut, Status, &str); 4] = [
         "",
     ),
     (
+        ONE,
         Cut {
             piece: 4096,
             read: 0,
@@ -71,6 +74,18 @@ const FAILING: [(Cut, Status, &str); 4] = [
         },
         Status::WriteFault,
         "ac",
+    ),
+    // what is wrong is answered without another read
+    (
+        "x\n",
+        Cut {
+            piece: 4096,
+            read: 2,
+            write: 0,
+            most: 4096,
+        },
+        Status::No,
+        "wrong 1 expected header\n",
     ),
 ];
 
@@ -117,10 +132,10 @@ fn agree_on_texts(
     Ok(true)
 }
 
-/// Whether the text ends so over each of these ports, and this is written.
-fn agree_on_cuts(rt: &HostRuntime, text: &str, rows: &[(Cut, Status, &str)]) -> Result<bool, Fail> {
-    for (cut, status, written) in rows {
-        if !ends(rt, text, *cut, *status, *written)? {
+/// Whether each text ends so over its port, and this is written.
+fn agree_on_cuts(rt: &HostRuntime, rows: &[(&str, Cut, Status, &str)]) -> Result<bool, Fail> {
+    for (text, cut, status, written) in rows {
+        if !ends(rt, *text, *cut, *status, *written)? {
             return Ok(false);
         }
     }
@@ -135,6 +150,6 @@ fn texts_and_their_verdicts(rt: HostRuntime) -> Result<(), Fail> {
 
 #[test]
 fn failing_calls(rt: HostRuntime) -> Result<(), Fail> {
-    assert!(rt; agree_on_cuts(&rt, TEXTS[0].0, &FAILING)?);
+    assert!(rt; agree_on_cuts(&rt, &FAILING)?);
     Ok(())
 }
