@@ -1,15 +1,17 @@
 -- The least dense and the densest of jobs that grow by one.
 use Rattle.std.proofs.Common.{◌≡◌, ◌*◌, ◌≤◌, ◌<◌, ◌⊎◌, inl, inr, List, [], ◌∷◌, ◌++◌, length, refl, sym, ap, ◌∙◌, subst}
-use Rattle.std.proofs.Common.{append_assoc, arith}
+use Rattle.std.proofs.Common.{append_assoc, arith, Bool}
 use Rattle.std.specs.List.{AllByRecursion}
 use Rattle.std.proofs.lemmas.Bool.{cases_lt}
 use Rattle.dover_model.specs.JobFacts.{JobFacts, IsJob}
+use Rattle.dover_model.specs.Fraction.{Fraction}
+use Rattle.dover_model.specs.Admission.{is_within_ratio_both_ways}
 use Rattle.dover_model.proofs.Members.{all_append}
 use Rattle.dover_model.proofs.Valid.{all_from}
 use Rattle.dover_model.proofs.Growing.{all_behind}
 use Rattle.admission.specs.declared.extremes.Numbered.{Numbered}
 use Rattle.admission.specs.declared.extremes.Extremes.{Extremes}
-use Rattle.admission.specs.Kept.{IsLessDense, IsFirstBy, IsLeastDense, IsDensest, AreExtremes}
+use Rattle.admission.specs.Kept.{IsLessDense, IsFirstBy, IsLeastDense, IsDensest, IsBetween, AreExtremes}
 use Rattle.admission.proofs.Comparing.{not_both, no_less, chained}
 
 -- ---- lists
@@ -82,12 +84,18 @@ not_both_denser i j one other = not_both j i one other
 -- ---- the extremes
 
 -- those of one job
-pub of_one : (y : Numbered) → IsJob y.job → y.number ≡ 0 → AreExtremes (y.job ∷ []) (record { least = y; densest = y })
-of_one y job number =
-    record { each = (job, tt); least = alone_first IsLessDense y number; densest = alone_first IsDenser y number }
+pub of_one : (k : Fraction) (y : Numbered) (keep : Bool) → IsJob y.job → y.number ≡ 0
+    → keep ≡ is_within_ratio_both_ways k y.job y.job
+    → AreExtremes k (y.job ∷ []) (record { least = y; densest = y; keep_ratio = keep })
+of_one k y keep job number kept = record {
+  each = (job, tt);
+  least = alone_first IsLessDense y number;
+  densest = alone_first IsDenser y number;
+  keep = kept;
+}
 
-module _ (jobs : List JobFacts) (e : Extremes) (it : AreExtremes jobs e) (y : Numbered) (job : IsJob y.job)
-    (number : y.number ≡ length jobs) where
+module _ (k : Fraction) (jobs : List JobFacts) (e : Extremes) (it : AreExtremes k jobs e) (y : Numbered)
+    (job : IsJob y.job) (number : y.number ≡ length jobs) where
   -- each is a job
   pub each_more : AllByRecursion IsJob (jobs ++ y.job ∷ [])
   each_more = all_behind IsJob jobs y.job it.each job
@@ -128,3 +136,12 @@ module _ (jobs : List JobFacts) (e : Extremes) (it : AreExtremes jobs e) (y : Nu
         by_order (inr less) = let over : IsLessDense e.densest.job y.job → ⊥ = λ denser. absurd (omega arith) in
             subst (IsDensest (jobs ++ y.job ∷ [])) (sym (old over))
             (stays_first IsDenser not_both_denser jobs e.densest it.densest y.job over)
+
+  -- one more between them leaves them
+  pub between_more : IsBetween e y.job → AreExtremes k (jobs ++ y.job ∷ []) e
+  between_more between = record {
+    each = each_more;
+    least = stays_first IsLessDense not_both jobs e.least it.least y.job between.0;
+    densest = stays_first IsDenser not_both_denser jobs e.densest it.densest y.job between.1;
+    keep = it.keep;
+  }

@@ -1,6 +1,7 @@
 -- Testing a job against the least dense and the densest one is testing it against all.
-use Rattle.std.proofs.Common.{◌≡◌, ◌≤◌, List, [], ◌∷◌, Bool, true, false, refl}
-use Rattle.std.proofs.Common.{◌+◌, ◌<◌, length, None, not}
+use Rattle.std.proofs.Common.{◌≡◌, ◌≤◌, List, [], ◌∷◌, Bool, true, false, refl, sym, ◌∙◌, arith}
+use Rattle.std.proofs.Common.{ℕ, ◌+◌, ◌*◌, ◌<◌, length, None, not}
+use Rattle.std.proofs.lemmas.Nat.{mul-le}
 use Rattle.std.specs.Prelude.{nat_le, nat_lt}
 use Rattle.std.specs.List.{list_all}
 use Rattle.std.proofs.lemmas.Bool.{lt-leb, le-ltb}
@@ -10,10 +11,11 @@ use Rattle.dover_model.specs.JobFacts.{JobFacts, IsJob, is_job}
 use Rattle.dover_model.specs.Fraction.{Fraction}
 use Rattle.dover_model.specs.Instance.{IsWithinRatio, total_value}
 use Rattle.dover_model.specs.Admission.{is_within_ratio_both_ways, first_cause, refusal_of}
+use Rattle.dover_model.proofs.Calculus.{cancel}
 use Rattle.dover_model.proofs.Tests.{both, each}
 use Rattle.dover_model.proofs.Agreement.{is_within_ratio-agrees, is_job-agrees}
 use Rattle.admission.specs.declared.extremes.Extremes.{Extremes}
-use Rattle.admission.specs.Kept.{IsLessDense, AreExtremes}
+use Rattle.admission.specs.Kept.{IsLessDense, IsBetween, AreExtremes}
 use Rattle.admission.specs.Answers.{AllKeepRatio, LeastDenseKeeps}
 use Rattle.admission.proofs.Comparing.{not_both, no_less, within_least, within_densest}
 use Rattle.admission.proofs.Firsts.{all_both, none_under, first_is, IsDenser, not_both_denser}
@@ -29,7 +31,7 @@ ways : (k : Fraction) (i j : JobFacts) → is_within_ratio_both_ways k i j ≡ t
 ways k i j within = (both _ _ (is_within_ratio-agrees k i j) (is_within_ratio-agrees k j i)).0 within
 
 -- what the least dense and the densest job keep, all keep
-pub all_keep : (k : Fraction) (jobs : List JobFacts) (e : Extremes) (j : JobFacts) → AreExtremes jobs e
+pub all_keep : (k : Fraction) (jobs : List JobFacts) (e : Extremes) (j : JobFacts) → AreExtremes k jobs e
     → is_within_ratio_both_ways k e.least.job j ≡ true → is_within_ratio_both_ways k e.densest.job j ≡ true
     → AllKeepRatio k jobs j
 all_keep k jobs e j it least densest =
@@ -52,8 +54,54 @@ all_keep k jobs e j it least densest =
             (no_less i e.least.job no_less_dense) (ways k e.least.job j least).1,
       )
 
+-- where the least dense and the densest keep the ratio, it is at least one
+at_least_one : (p q lv lw dv dw : ℕ) → 1 ≤ dv → 1 ≤ lw → lv * dw ≤ dv * lw → q * dv * lw ≤ p * lv * dw → q ≤ p
+at_least_one p q lv lw dv dw worth work order within =
+    let more : p * (lv * dw) ≤ p * (dv * lw) = mul-le p (lv * dw) p (dv * lw) (omega arith) order in
+    cancel (dv * lw) q p (mul-le 1 1 dv lw worth work) (omega arith)
+
+-- what is no denser is within a ratio of at least one
+within_more : (p q iv iw jv jw : ℕ) → q ≤ p → iv * jw ≤ jv * iw → q * iv * jw ≤ p * jv * iw
+within_more p q iv iw jv jw ratio order =
+    let more : q * (iv * jw) ≤ p * (jv * iw) = mul-le q (iv * jw) p (jv * iw) ratio order in omega (more, arith)
+
+-- a job between the least dense and the densest keeps the ratio with all, where those two keep it
+pub between_keep : (k : Fraction) (jobs : List JobFacts) (e : Extremes) (j : JobFacts) → AreExtremes k jobs e
+    → e.keep_ratio ≡ true → IsBetween e j → AllKeepRatio k jobs j
+between_keep k jobs e j it kept between = all_keep k jobs e j it (both_ways k e.least.job j (
+  within_more k.p k.q e.least.job.value e.least.job.work j.value j.work ratio above,
+  within_densest k.p k.q e.least.job.value e.least.job.work e.densest.job.value e.densest.job.work j.value j.work
+      densest_job.work below within.1,
+)) (both_ways k e.densest.job j (
+  within_least k.p k.q e.densest.job.value e.densest.job.work e.least.job.value e.least.job.work j.value j.work
+      least_job.work above within.1,
+  within_more k.p k.q j.value j.work e.densest.job.value e.densest.job.work ratio below,
+)) where
+  least_job : IsJob e.least.job
+  least_job = first_is IsLessDense not_both jobs e.least it.least IsJob it.each
+
+  densest_job : IsJob e.densest.job
+  densest_job = first_is IsDenser not_both_denser jobs e.densest it.densest IsJob it.each
+
+  above : e.least.job.value * j.work ≤ j.value * e.least.job.work
+  above = no_less j e.least.job between.0
+
+  below : j.value * e.densest.job.work ≤ e.densest.job.value * j.work
+  below = no_less e.densest.job j between.1
+
+  order : e.least.job.value * e.densest.job.work ≤ e.densest.job.value * e.least.job.work
+  order = no_less e.densest.job e.least.job (first_is IsDenser not_both_denser jobs e.densest it.densest
+      (λ i. IsLessDense i e.least.job → ⊥) (none_under IsLessDense not_both jobs e.least it.least))
+
+  within : IsWithinRatio k e.least.job e.densest.job × IsWithinRatio k e.densest.job e.least.job
+  within = ways k e.least.job e.densest.job (sym it.keep ∙ kept)
+
+  ratio : k.q ≤ k.p
+  ratio = at_least_one k.p k.q e.least.job.value e.least.job.work e.densest.job.value e.densest.job.work
+      densest_job.worth least_job.work order within.1
+
 -- what one least dense job keeps, each keeps
-pub least_keep : (k : Fraction) (jobs : List JobFacts) (e : Extremes) (j : JobFacts) → AreExtremes jobs e
+pub least_keep : (k : Fraction) (jobs : List JobFacts) (e : Extremes) (j : JobFacts) → AreExtremes k jobs e
     → is_within_ratio_both_ways k e.least.job j ≡ true → LeastDenseKeeps k jobs j
 least_keep k jobs e j it keeps x least = both_ways k x.job j (
   within_densest k.p k.q j.value j.work e.least.job.value e.least.job.work x.job.value x.job.work least_job.work

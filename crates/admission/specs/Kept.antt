@@ -5,6 +5,7 @@ use Rattle.dover_model.specs.Limits.{most_jobs, most_total}
 use Rattle.dover_model.specs.JobFacts.{JobFacts, IsJob}
 use Rattle.dover_model.specs.Fraction.{Fraction}
 use Rattle.dover_model.specs.Instance.{total_value}
+use Rattle.dover_model.specs.Admission.{is_within_ratio_both_ways}
 use Rattle.admission.specs.declared.extremes.Numbered.{Numbered}
 use Rattle.admission.specs.declared.extremes.Extremes.{Extremes}
 
@@ -36,22 +37,27 @@ IsLeastDense jobs x = IsFirstBy IsLessDense jobs x
 abbrev pub IsDensest : List JobFacts → Numbered → Type 0
 IsDensest jobs x = IsFirstBy (λ i j. IsLessDense j i) jobs x
 
--- the least dense and the densest of jobs within their limits
-pub record AreExtremes (jobs : List JobFacts) (e : Extremes) : Type 0 where
+-- the job is neither less dense than the least dense one nor denser than the densest
+abbrev pub IsBetween : Extremes → JobFacts → Type 0
+IsBetween e j = (IsLessDense j e.least.job → ⊥) × (IsLessDense e.densest.job j → ⊥)
+
+-- the least dense and the densest of jobs within their limits, and whether the two keep the ratio
+pub record AreExtremes (k : Fraction) (jobs : List JobFacts) (e : Extremes) : Type 0 where
   pub each : AllByRecursion IsJob jobs
   pub least : IsLeastDense jobs e.least
   pub densest : IsDensest jobs e.densest
+  pub keep : e.keep_ratio ≡ is_within_ratio_both_ways k e.least.job e.densest.job
 
 -- the same, where there may be no job
-abbrev pub HasExtremes : List JobFacts → Option Extremes → Type 0
-HasExtremes jobs None = jobs ≡ []
-HasExtremes jobs (Some e) = AreExtremes jobs e
+abbrev pub HasExtremes : Fraction → List JobFacts → Option Extremes → Type 0
+HasExtremes k jobs None = jobs ≡ []
+HasExtremes k jobs (Some e) = AreExtremes k jobs e
 
 -- this is kept of these jobs
 pub record StandsFor (kept : Kept) (jobs : List JobFacts) : Type 0 where
   pub count : kept.count ≡ length jobs
   pub total : kept.total ≡ total_value jobs
-  pub extremes : HasExtremes jobs kept.extremes
+  pub extremes : HasExtremes kept.ratio jobs kept.extremes
 
 -- the limits of all jobs are kept
 pub record IsWithinLimits (count total : ℕ) : Type 0 where

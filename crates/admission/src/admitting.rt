@@ -65,6 +65,7 @@ impl Admission {
     }
 
     /// The number of the kept job that breaks the ratio with this one, if one does: the least dense one first.
+    #[inline(always)]
     fn breaker(&self, job: &Job) -> Option<u32>
         ensures other { (jobs : List JobFacts) → StandsFor self.now jobs
             → IfSome result (λ other. IsOther self.now.ratio jobs job.now other) }
@@ -117,8 +118,8 @@ impl Admission {
             job,
         };
         match &mut self.extremes {
-            Some(extremes) => extremes.add(&next),
-            None => self.extremes = Some(Extremes::of(next)),
+            Some(extremes) => extremes.add(self.ratio, &next),
+            None => self.extremes = Some(Extremes::of(self.ratio, next)),
         }
         self.count += 1;
         self.total += value;

@@ -37,42 +37,68 @@ fn keep_denser(kept: &mut Numbered, next: &Numbered)
 pub struct Extremes {
     pub least: Numbered,
     pub densest: Numbered,
+    /// Whether the two keep the ratio. A job between them then keeps it with all.
+    pub keep_ratio: bool,
 }
 
 impl Extremes {
-    ghost use Rattle.std.specs.Prelude.{◌≡◌, List, ◌++◌, ◌∷◌, [], length, IfSome, IsNone};
+    ghost use Rattle.std.specs.Prelude.{◌≡◌, ◌↔◌, List, ◌++◌, ◌∷◌, [], length, IfSome, IsNone, IsTrue};
     ghost use Rattle.dover_model.specs.JobFacts.{JobFacts, IsJob};
     ghost use Rattle.dover_model.specs.Admission.{is_within_ratio_both_ways};
-    ghost use Rattle.admission.specs.Kept.{AreExtremes};
+    ghost use Rattle.admission.specs.Kept.{AreExtremes, IsBetween};
     ghost use Rattle.admission.specs.Answers.{IsOther, AllKeepRatio};
 
     /// Those of one job.
-    pub fn of(first: Numbered) -> Extremes
+    pub fn of(ratio: Ratio, first: Numbered) -> Extremes
         requires { IsJob first.job }
-        ensures { first.number ≡ 0 → AreExtremes (first.job ∷ []) result }
+        ensures { first.number ≡ 0 → AreExtremes ratio (first.job ∷ []) result }
     {
         let densest = first;
         Extremes {
             least: first,
             densest,
+            keep_ratio: keeps_ratio(ratio, &first.job, &first.job),
         }
     }
 
-    /// Those of the jobs with one more behind them.
-    pub fn add(&mut self, next: &Numbered)
+    /// The job is neither less dense than the least dense one nor denser than the densest.
+    #[inline(always)]
+    fn have_between(&self, job: &Job) -> bool
+        ensures { IsTrue result ↔ IsBetween self.now job.now }
+    {
+        !is_less_dense(job, &self.least.job) && !is_less_dense(&self.densest.job, job)
+    }
+
+    /// Those of the jobs with one more behind them, which isn't between them.
+    #[inline(never)]
+    fn widen(&mut self, ratio: Ratio, next: &Numbered)
         requires { IsJob next.now.job }
-        ensures { (jobs : List JobFacts) → AreExtremes jobs self.old → next.now.number ≡ length jobs →
-            AreExtremes (jobs ++ next.now.job ∷ []) self.new }
+        ensures { (jobs : List JobFacts) → AreExtremes ratio jobs self.old → next.now.number ≡ length jobs →
+            AreExtremes ratio (jobs ++ next.now.job ∷ []) self.new }
     {
         keep_less_dense(&mut self.least, next);
         keep_denser(&mut self.densest, next);
+        self.keep_ratio = keeps_ratio(ratio, &self.least.job, &self.densest.job);
     }
 
-    /// The number of the one that breaks the ratio with this job, if one does: the least dense one first.
-    pub fn breaker(&self, ratio: Ratio, job: &Job) -> Option<u32>
-        ensures other { (jobs : List JobFacts) → AreExtremes jobs self.now
+    /// Those of the jobs with one more behind them.
+    #[inline(always)]
+    pub fn add(&mut self, ratio: Ratio, next: &Numbered)
+        requires { IsJob next.now.job }
+        ensures { (jobs : List JobFacts) → AreExtremes ratio jobs self.old → next.now.number ≡ length jobs →
+            AreExtremes ratio (jobs ++ next.now.job ∷ []) self.new }
+    {
+        if !self.have_between(&next.job) {
+            self.widen(ratio, next);
+        }
+    }
+
+    /// The number of the one of the two that breaks the ratio with this job, if one does: the least dense one first.
+    #[inline(never)]
+    fn first_breaker(&self, ratio: Ratio, job: &Job) -> Option<u32>
+        ensures other { (jobs : List JobFacts) → AreExtremes ratio jobs self.now
             → IfSome result (λ other. IsOther ratio jobs job.now other) }
-        ensures none { (jobs : List JobFacts) → AreExtremes jobs self.now → IsNone result
+        ensures none { (jobs : List JobFacts) → AreExtremes ratio jobs self.now → IsNone result
             → AllKeepRatio ratio jobs job.now }
     {
         if !keeps_ratio(ratio, &self.least.job, job) {
@@ -82,5 +108,19 @@ impl Extremes {
             return Some(self.densest.number);
         }
         None
+    }
+
+    /// The number of the one that breaks the ratio with this job, if one does: the least dense one first.
+    #[inline(always)]
+    pub fn breaker(&self, ratio: Ratio, job: &Job) -> Option<u32>
+        ensures other { (jobs : List JobFacts) → AreExtremes ratio jobs self.now
+            → IfSome result (λ other. IsOther ratio jobs job.now other) }
+        ensures none { (jobs : List JobFacts) → AreExtremes ratio jobs self.now → IsNone result
+            → AllKeepRatio ratio jobs job.now }
+    {
+        if self.keep_ratio && self.have_between(job) {
+            return None;
+        }
+        self.first_breaker(ratio, job)
     }
 }

@@ -40,6 +40,7 @@ fn declared_in(line: FeedLine) -> Option<(Ratio, Version)>
 }
 
 /// The first line, which has to declare the ratio.
+#[inline(never)]
 fn first_line(session: &mut Option<KeptSession>, line: FeedLine) -> Result<Fed, Cause>
     requires { session.old ≡ None }
     ensures declared { OnOk result (IsSome session.new) }
@@ -55,6 +56,7 @@ fn first_line(session: &mut Option<KeptSession>, line: FeedLine) -> Result<Fed, 
 }
 
 /// A line that has one of the forms.
+#[inline(always)]
 fn formed_line(session: &mut Option<KeptSession>, line: FeedLine) -> Result<Fed, Cause>
     requires { form.HasNumerals (form_of line) }
     ensures declared { OnOk result (IsSome session.new) }
@@ -68,6 +70,7 @@ fn formed_line(session: &mut Option<KeptSession>, line: FeedLine) -> Result<Fed,
 }
 
 /// A line, which is counted already.
+#[inline(always)]
 fn read(session: &mut Option<KeptSession>, lines: u64, line: &[u8]) -> Result<Fed, Cause>
     ensures few { OnOk result (lines ≤ most_lines) }
     ensures declared { OnOk result (IsSome session.new) }
@@ -136,6 +139,7 @@ impl Intake {
     /// intake.line(b"tick 3")?; // Fed::Tick(3)
     /// intake.line(b"end")?; // Fed::Over
     /// ```
+    #[inline(always)]
     pub fn line(&mut self, line: &[u8]) -> Result<Fed, FeedFault>
         requires { has_ended self.old ≡ false }
         ensures stands { (ls : List (List ℕ)) → StandsFor self.old ls → StandsFor self.new (ls ++ line.now ∷ []) }

@@ -39,6 +39,7 @@ impl KeptSession {
     }
 
     /// The job line of these numbers, which isn't admitted.
+    #[inline(never)]
     fn refuse(
         &self,
         release: u64,
@@ -64,6 +65,7 @@ impl KeptSession {
     }
 
     /// The job line of these numbers.
+    #[inline(always)]
     fn job(&mut self, release: u64, work: u64, deadline: u64, value: u64) -> Result<Fed, Cause>
         requires { AreShort (job_numbers (job_of_numbers release work deadline value)) }
         ensures { (lines : ℕ) (S : Session) (mark : ℕ) → IsKeptOf self.old S mark →
@@ -96,6 +98,7 @@ impl KeptSession {
     }
 
     /// A line after the first.
+    #[inline(always)]
     pub fn line(&mut self, line: FeedLine) -> Result<Fed, Cause>
         requires { HasNumerals (form_of line) }
         ensures { (lines : ℕ) (S : Session) (mark : ℕ) → IsKeptOf self.old S mark

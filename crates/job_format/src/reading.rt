@@ -50,6 +50,7 @@ fn tick_line(numbers: &[u64]) -> Option<FeedLine>
 }
 
 /// The ratio that fields spell behind its word, with a version or without.
+#[inline(never)]
 #[tactic(auto, using(crate::proofs::WhatIsRead::no_ratio))]
 fn ratio_of(fields: &[u8]) -> Option<FeedLine>
     ensures { option_map form_of result ≡ option_and_then model.ratio_line (numerals (fields_of fields.now)) }
@@ -102,6 +103,7 @@ fn line_of(line: &[u8]) -> Option<FeedLine>
 }
 
 /// The line that the bytes spell.
+#[inline(always)]
 fn read(line: &[u8]) -> Result<FeedLine, BadLine>
     ensures ok { IfOk result (λ read. model.feed_line line.now ≡ Some (form_of read)) }
     ensures err { OnErr result (model.feed_line line.now ≡ None) }
@@ -117,6 +119,7 @@ fn read(line: &[u8]) -> Result<FeedLine, BadLine>
 
 /// Reads a line without its line feed. `BadLine` comes exactly where the bytes have none of the forms, with one space
 /// between fields, or are more than 128.
+#[inline(always)]
 pub fn read_feed_line(line: &[u8]) -> Result<FeedLine, BadLine>
     ensures ok { IfOk result (λ read. model.feed_line line.now ≡ Some (form_of read)) }
     ensures err { OnErr result (model.feed_line line.now ≡ None) }

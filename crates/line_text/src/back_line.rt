@@ -45,7 +45,7 @@ impl Model for BackLine {
 }
 
 impl BackLine {
-    ghost use Rattle.std.specs.Prelude.{◌≡◌, ◌≤◌, ◌+◌, ◌*◌, ◌++◌, ◌∷◌, [], length};
+    ghost use Rattle.std.specs.Prelude.{◌≡◌, ◌≤◌, ◌+◌, ◌*◌, ◌++◌, ◌∷◌, [], length, decimal};
     ghost use Rattle.dover_model.specs.Lines.{with_numbers};
     ghost use Rattle.dover_model.specs.Numerals.{AreShort};
     ghost use Rattle.line_text.specs.Writing.{most_written, numbers_behind};
@@ -79,6 +79,15 @@ impl BackLine {
         let start = self.start - word.len();
         self.bytes[start..self.start].copy_from_slice(word);
         self.start = start;
+    }
+
+    /// Writes a number.
+    #[inline(always)]
+    pub fn put_number(&mut self, number: u64)
+        requires { length (decimal number) + length self.old ≤ most_written }
+        ensures { self.new ≡ decimal number ++ self.old }
+    {
+        self.start = write_digits(number, &mut self.bytes, self.start);
     }
 
     /// Writes numbers, each behind a space.

@@ -10,6 +10,9 @@ ghost use Rattle.line_text.specs.Reading.{fields_left, number_of_first};
 /// The most digits that a numeral may have.
 const MOST_DIGITS: usize = 18;
 
+/// The digit 0.
+const ZERO: u64 = 48;
+
 /// Whether there is a byte, and no leading zero except `0` itself.
 #[inline(always)]
 fn is_plain(text: &[u8]) -> bool
@@ -42,7 +45,7 @@ fn leading_digits(text: &[u8]) -> Option<(u64, usize)>
         if at == MOST_DIGITS {
             return None;
         }
-        number = 10 * number + u64::from(*byte - b'0');
+        number = 10 * number + (u64::from(*byte) - ZERO);
     }
     Some((number, text.len()))
 }

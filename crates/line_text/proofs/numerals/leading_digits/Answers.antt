@@ -27,8 +27,8 @@ pub loop-at-preserved : goal.loop-at-preserved
 loop-at-preserved c =
     let byte : ℕ = get_or c.args.text.now c.loop-at.at 0 in
     let digit : is_ascii_digit byte ≡ true = sym c.is_ascii_digit.ensures.value ∙ c.if-not-is_ascii_digit.false in
-    let added : 10 * c.loop-at.number + c.from.result ≡ 10 * c.loop-at.number + (byte - 48) =
-    ap (λ d. 10 * c.loop-at.number + d) c.from.ensures in
+    let added : 10 * c.loop-at.number + (c.from.result - 48) ≡ 10 * c.loop-at.number + (byte - 48) =
+    ap (λ d. 10 * c.loop-at.number + (d - 48)) c.from.ensures in
     record {
       digits = digits_more c.args.text.now c.loop-at.at c.loop-at-test.true c.loop-at.invariant.digits digit;
       number = added ∙ ap (λ n. 10 * n + (byte - 48)) c.loop-at.invariant.number
