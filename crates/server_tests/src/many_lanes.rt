@@ -43,6 +43,35 @@ struct Outcome {
     ended: Option<bool>,
 }
 
+// Takes the lines up to `close` or to one that isn't taken.
+fn take_lines<D: Dispatcher, L: Ledger>(
+    lanes: &mut Lanes<D>,
+    lines: &[&[u8]],
+    steps: &mut Steps<L>,
+    seen: &mut Outcome,
+) -> Result<(), Memory>
+    requires ready { IsReady lanes.old }
+    requires stands { (ls : List (List ℕ)) × StandsFor D.serves D.has_room lanes.old ls [] }
+{
+    for line in lines {
+        let answer = lanes.line(line);
+        seen.last = Some(answer);
+        let Ok(step) = answer else {
+            break;
+        };
+        let all = drain(lanes, steps, &mut seen.outs)?;
+        match step {
+            LaneStep::Fed(_) if all => {}
+            LaneStep::Closed if all => {
+                seen.ended = Some(lanes.all_ended());
+                break;
+            }
+            _ => break,
+        }
+    }
+    Ok(())
+}
+
 fn outcome_in<D: Dispatcher, L: Ledger>(
     rt: &HostRuntime,
     lines: &[&[u8]],
@@ -54,30 +83,29 @@ fn outcome_in<D: Dispatcher, L: Ledger>(
 {
     let mut steps: Steps<L> = Steps::new(rt.memory(), blank);
     let mut lanes = Lanes::<D>::new(rt.alloc())?;
-    let mut outs = Vec::new(rt.alloc());
-    let mut last = None;
-    let mut ended = None;
-    for line in lines {
-        let answer = lanes.line(line);
-        last = Some(answer);
-        let Ok(step) = answer else {
-            break;
-        };
-        let all = drain(&mut lanes, &mut steps, &mut outs)?;
-        match step {
-            LaneStep::Fed(_) if all => {}
-            LaneStep::Closed if all => {
-                ended = Some(lanes.all_ended());
-                break;
-            }
-            _ => break,
-        }
-    }
-    Ok(Outcome { outs, last, ended })
+    let mut seen = Outcome {
+        outs: Vec::new(rt.alloc()),
+        last: None,
+        ended: None,
+    };
+    take_lines(&mut lanes, lines, &mut steps, &mut seen)?;
+    Ok(seen)
 }
 
 fn run(rt: &HostRuntime, lines: &[&[u8]]) -> Result<Outcome, Memory> {
     outcome_in::<Server, Brand>(rt, lines, Blank::new(1))
+}
+
+// Whether the lines up to `close` give these, and whether all lanes are ended then is as it should be.
+fn gives(
+    rt: &HostRuntime,
+    lines: &[&[u8]],
+    outs: &[(u8, LaneOut)],
+    ended: bool,
+) -> Result<bool, Memory> {
+    let seen = run(rt, lines)?;
+    let is_closed = seen.last == Some(Ok(LaneStep::Closed)) && seen.ended == Some(ended);
+    Ok(is_closed && seen.outs.as_slice() == outs)
 }
 
 // The header of a lane.
@@ -85,22 +113,24 @@ fn header(lane: u8, k: Ratio) -> (u8, LaneOut) {
     (lane, LaneOut::Header(Version::One, k))
 }
 
+// Two lanes, of which one is at fault.
+const BESIDE: [&[u8]; 6] = [
+    b"0 k 1 1",
+    b"5 k 1 1",
+    b"0 job 0 2 2 2",
+    b"5 job 0 01 5 1",
+    b"0 end",
+    b"close",
+];
+
+// The other lane.
+const ALONE: [&[u8]; 4] = [b"0 k 1 1", b"0 job 0 2 2 2", b"0 end", b"close"];
+
 // A feed with a fault in one lane leaves the other alone.
 #[test]
 fn a_fault_is_that_of_its_lane(rt: HostRuntime) -> Result<(), Fail> {
     let ratio = Ratio::new(1, 1).expect(&rt, "a ratio");
     let job = Job::new(0, 2, 2, 2).expect(&rt, "a job");
-    let seen = run(
-        &rt,
-        &[
-            b"0 k 1 1",
-            b"5 k 1 1",
-            b"0 job 0 2 2 2",
-            b"5 job 0 01 5 1",
-            b"0 end",
-            b"close",
-        ],
-    )?;
     let want = [
         header(0, ratio),
         header(5, ratio),
@@ -116,9 +146,6 @@ fn a_fault_is_that_of_its_lane(rt: HostRuntime) -> Result<(), Fail> {
         (0, LaneOut::Step(Event::Complete { at: 2, number: 0 })),
         (0, LaneOut::Step(Event::End { value: 2 })),
     ];
-    assert!(rt; seen.outs.as_slice() == want.as_slice());
-    assert!(rt; seen.last == Some(Ok(LaneStep::Closed)) && seen.ended == Some(false));
-    let alone = run(&rt, &[b"0 k 1 1", b"0 job 0 2 2 2", b"0 end", b"close"])?;
     let of_lane = [
         header(0, ratio),
         (0, LaneOut::Step(Event::Release { number: 0, job })),
@@ -126,28 +153,44 @@ fn a_fault_is_that_of_its_lane(rt: HostRuntime) -> Result<(), Fail> {
         (0, LaneOut::Step(Event::Complete { at: 2, number: 0 })),
         (0, LaneOut::Step(Event::End { value: 2 })),
     ];
-    assert!(rt; alone.outs.as_slice() == of_lane.as_slice());
-    assert!(rt; alone.last == Some(Ok(LaneStep::Closed)) && alone.ended == Some(true));
+    assert!(rt; gives(&rt, &BESIDE, &want, false)? && gives(&rt, &ALONE, &of_lane, true)?);
     Ok(())
 }
+
+// A job that breaks the ratio names the other job: here the second, which is the least dense.
+#[test]
+fn the_other_job_is_named(rt: HostRuntime) -> Result<(), Fail> {
+    let seen = run(
+        &rt,
+        &[
+            b"5 k 2 1",
+            b"5 job 0 1 5 2",
+            b"5 job 0 1 5 1",
+            b"5 job 0 1 5 3",
+        ],
+    )?;
+    let cause = Cause::Ratio { other: 1 };
+    let last = seen.outs.last().copied();
+    assert!(rt; last == Some((5, LaneOut::Refused { line: 4, cause })));
+    Ok(())
+}
+
+// Lanes of which some are short.
+const SHORT: [&[u8]; 8] = [
+    b"63 k 1 1",
+    b"7 k 1 1",
+    b"63 tick 5",
+    b"2 end",
+    b"9 k 1 1",
+    b"9 end",
+    b"9 ",
+    b"close",
+];
 
 // Each lane that has a line and is neither ended nor faulty is short at `close`, in rising order.
 #[test]
 fn lanes_are_short_at_close(rt: HostRuntime) -> Result<(), Fail> {
     let ratio = Ratio::new(1, 1).expect(&rt, "a ratio");
-    let seen = run(
-        &rt,
-        &[
-            b"63 k 1 1",
-            b"7 k 1 1",
-            b"63 tick 5",
-            b"2 end",
-            b"9 k 1 1",
-            b"9 end",
-            b"9 ",
-            b"close",
-        ],
-    )?;
     let want = [
         header(63, ratio),
         header(7, ratio),
@@ -175,10 +218,19 @@ fn lanes_are_short_at_close(rt: HostRuntime) -> Result<(), Fail> {
             },
         ),
     ];
-    let holds = seen.outs.as_slice() == want.as_slice() && seen.last == Some(Ok(LaneStep::Closed));
-    assert!(rt; holds);
+    assert!(rt; gives(&rt, &SHORT, &want, false)?);
     Ok(())
 }
+
+// Version Two: a refused line between two jobs.
+const WITH_REFUSED: [&[u8]; 6] = [
+    b"3 k 1 1 2",
+    b"3 job 0 4 10 4",
+    b"3 job 0 1 5 9",
+    b"3 job 1 2 5 2",
+    b"3 end",
+    b"close",
+];
 
 // Version Two names a refused job line and goes on, and a job arrives between what is settled without it and with it.
 #[test]
@@ -186,17 +238,6 @@ fn a_refused_line_is_given(rt: HostRuntime) -> Result<(), Fail> {
     let ratio = Ratio::new(1, 1).expect(&rt, "a ratio");
     let long = Job::new(0, 4, 10, 4).expect(&rt, "a job");
     let short = Job::new(1, 2, 5, 2).expect(&rt, "a job");
-    let seen = run(
-        &rt,
-        &[
-            b"3 k 1 1 2",
-            b"3 job 0 4 10 4",
-            b"3 job 0 1 5 9",
-            b"3 job 1 2 5 2",
-            b"3 end",
-            b"close",
-        ],
-    )?;
     let want = [
         (3, LaneOut::Header(Version::Two, ratio)),
         (
@@ -238,26 +279,38 @@ fn a_refused_line_is_given(rt: HostRuntime) -> Result<(), Fail> {
         (3, LaneOut::Step(Event::Complete { at: 6, number: 0 })),
         (3, LaneOut::Step(Event::End { value: 6 })),
     ];
-    assert!(rt; seen.outs.as_slice() == want.as_slice());
+    assert!(rt; gives(&rt, &WITH_REFUSED, &want, true)?);
     Ok(())
 }
 
-// Lines that are of no lane, and `close` alone.
+// Lines that are of no lane, and `close` alone, and what is answered to the last.
+const INPUTS: [(&[&[u8]], Result<LaneStep, LaneFault>); 8] = [
+    (&[b"64 k 1 1"], Err(LaneFault::BadLane)),
+    (&[b"close"], Ok(LaneStep::Closed)),
+    (&[b"5"], Err(LaneFault::BadLane)),
+    (&[b"05 x"], Err(LaneFault::BadLane)),
+    (&[b"close "], Err(LaneFault::BadLane)),
+    (&[b" k 1 1"], Err(LaneFault::BadLane)),
+    (&[b""], Err(LaneFault::BadLane)),
+    (&[b"0 k 1 1", b"256 k 1 1"], Err(LaneFault::BadLane)),
+];
+
+// Whether each row's last line is answered so.
+fn are_answered(
+    rt: &HostRuntime,
+    rows: &[(&[&[u8]], Result<LaneStep, LaneFault>)],
+) -> Result<bool, Memory> {
+    for (lines, want) in rows {
+        let seen = run(rt, *lines)?;
+        if seen.last != Some(*want) {
+            return Ok(false);
+        }
+    }
+    Ok(true)
+}
+
 #[test]
 fn the_input_as_a_whole(rt: HostRuntime) -> Result<(), Fail> {
-    let rows: [(&[&[u8]], Result<LaneStep, LaneFault>); 8] = [
-        (&[b"64 k 1 1"], Err(LaneFault::BadLane)),
-        (&[b"close"], Ok(LaneStep::Closed)),
-        (&[b"5"], Err(LaneFault::BadLane)),
-        (&[b"05 x"], Err(LaneFault::BadLane)),
-        (&[b"close "], Err(LaneFault::BadLane)),
-        (&[b" k 1 1"], Err(LaneFault::BadLane)),
-        (&[b""], Err(LaneFault::BadLane)),
-        (&[b"0 k 1 1", b"256 k 1 1"], Err(LaneFault::BadLane)),
-    ];
-    for (lines, want) in rows {
-        let seen = run(&rt, lines)?;
-        assert!(rt; seen.last == Some(want));
-    }
+    assert!(rt; are_answered(&rt, &INPUTS)?);
     Ok(())
 }

@@ -1,6 +1,6 @@
-//! The server on worked examples, fed as a feed would.
+//! The server by its own calls, and the worked examples.
 ghost use Rattle.std.specs.Prelude.{◌≡◌, ◌≤◌, ◌<◌, ◌∷◌, [], nat_le, replicate, None, OnOk};
-ghost use Rattle.std.specs.List.{AllByRecursion, list_all};
+ghost use Rattle.std.specs.List.{list_all};
 ghost use Rattle.dover_model.specs.JobFacts.{is_job};
 ghost use Rattle.dover_model.specs.Instance.{IsValid, with_jobs, is_within_ratio, is_in_order};
 ghost use Rattle.dover_model.specs.declared.events.Version.{Version};
@@ -12,10 +12,9 @@ ghost use Rattle.dover_server.specs.Leading.{is_ready_after};
 use dover_model::jobs::{LAST_TICK, MOST_VALUE};
 use dover_model::{Event, Job, Memory, Ratio, Role, Version};
 use dover_server::{Horizon, Server};
-use std::alloc::Global;
+use itoa::Buffer;
 use std::marker::Brand;
 use std::process::Abort;
-use std::rt::Memory as HeapMemory;
 use std::sync::ledger::{Blank, Ledger};
 use std::test::Fail;
 use step_count::Steps;
@@ -94,103 +93,42 @@ pub(crate) fn assert_valid(rt: &impl Abort, k: Ratio, jobs: &[Job])
 
 // ---- the run
 
-// A word and numbers, up to a slash.
-fn text(alloc: Global, word: &str, numbers: &[u64]) -> Result<String, Memory> {
-    let mut text = String::from_str(alloc, word)?;
+// Appends a word and numbers, up to a slash.
+fn put_text(text: &mut String, word: &str, numbers: &[u64]) -> Result<(), Memory> {
+    text.push_str(word)?;
     for number in numbers {
-        text.push_str(format!(in alloc; " {number}")?.as_str())?;
+        text.push_str(" ")?;
+        text.push_str(Buffer::new().format(*number))?;
     }
     text.push_str("/")?;
-    Ok(text)
+    Ok(())
 }
 
-pub(crate) fn line(alloc: Global, e: &Event) -> Result<String, Memory> {
+/// Appends the text of a printed step, up to a slash.
+pub(crate) fn put_line(text: &mut String, e: &Event) -> Result<(), Memory> {
     match *e {
-        Event::Release { number, job } => {
-            let (release, work, deadline, value) = (
+        Event::Release { number, job } => put_text(
+            text,
+            "job",
+            &[
+                u64::from(number),
                 job.release(),
                 job.work(),
                 job.deadline(),
                 job.value(),
-            );
-            text(
-                alloc,
-                "job",
-                &[u64::from(number), release, work, deadline, value],
-            )
-        }
-        Event::Run { at, number } => text(alloc, "run", &[at, u64::from(number)]),
+            ],
+        ),
+        Event::Run { at, number } => put_text(text, "run", &[at, u64::from(number)]),
         Event::Preempt { at, stops, starts } => {
-            text(alloc, "preempt", &[at, u64::from(stops), u64::from(starts)])
+            put_text(text, "preempt", &[at, u64::from(stops), u64::from(starts)])
         }
         Event::Take { at, stops, starts } => {
-            text(alloc, "take", &[at, u64::from(stops), u64::from(starts)])
+            put_text(text, "take", &[at, u64::from(stops), u64::from(starts)])
         }
-        Event::Complete { at, number } => text(alloc, "complete", &[at, u64::from(number)]),
-        Event::Abandon { at, number } => text(alloc, "abandon", &[at, u64::from(number)]),
-        Event::End { value } => text(alloc, "end", &[value]),
+        Event::Complete { at, number } => put_text(text, "complete", &[at, u64::from(number)]),
+        Event::Abandon { at, number } => put_text(text, "abandon", &[at, u64::from(number)]),
+        Event::End { value } => put_text(text, "end", &[value]),
     }
-}
-
-// What is printed up to the horizon.
-fn settle<L: Ledger>(
-    alloc: Global,
-    server: &mut Server,
-    to: Horizon,
-    steps: &mut Steps<L>,
-    text: &mut String,
-) -> Result<(), Memory>
-    requires { MayFollow server.old.last to }
-    ensures list { list_of server.new ≡ list_of server.old }
-    ensures last { server.new.last ≡ to }
-    ensures ready { OnOk result (server.new.ready ≡ is_ready_after to None) }
-{
-    while let Some(e) = server.step(to, steps) {
-        let line = line(alloc, &e)?;
-        text.push_str(line.as_str())?;
-    }
-    Ok(())
-}
-
-// Each job is admitted at its release.
-fn admit_all<L: Ledger>(
-    alloc: Global,
-    server: &mut Server,
-    jobs: &[Job],
-    steps: &mut Steps<L>,
-    text: &mut String,
-) -> Result<(), Memory>
-    requires valid { IsValid (with_jobs (list_of server.old) jobs.now) }
-    requires follow { AllByRecursion (λ job. MayFollow server.old.last (Mark job.release)) jobs.now }
-    ensures open { OnOk result (MayFollow server.new.last End) }
-{
-    for job in jobs {
-        settle(alloc, server, Horizon::Mark(job.release()), steps, text)?;
-        server.admit(*job)?;
-    }
-    Ok(())
-}
-
-// What is printed of a valid list.
-fn printed<L: Ledger>(
-    alloc: Global,
-    memory: HeapMemory,
-    version: Version,
-    k: Ratio,
-    jobs: &[Job],
-    blank: Blank,
-) -> Result<String, Memory>
-    requires valid { IsValid (record { rules = record { ratio = k; version = version }; jobs = jobs.now }) }
-    requires name { blank.name ≡ L.name }
-    requires parts { blank.parts ≡ L.parts }
-    requires some { 0 < blank.parts }
-{
-    let mut steps: Steps<L> = Steps::new(memory, blank);
-    let mut server = Server::new(alloc, version, k)?;
-    let mut text = String::new(alloc);
-    admit_all(alloc, &mut server, jobs, &mut steps, &mut text)?;
-    settle(alloc, &mut server, Horizon::End, &mut steps, &mut text)?;
-    Ok(text)
 }
 
 // The jobs of these numbers.
@@ -203,23 +141,6 @@ pub(crate) fn jobs(
         jobs.push(Job::new(n[0], n[1], n[2], n[3]).expect(rt, "a job"))?;
     }
     Ok(jobs)
-}
-
-fn assert_prints(
-    rt: &(impl Abort + AllocGlobal),
-    memory: HeapMemory,
-    version: Version,
-    ratio: (u32, u32),
-    numbers: &[[u64; 4]],
-    want: &str,
-) -> Result<(), Fail> {
-    let k = Ratio::new(ratio.0, ratio.1).expect(rt, "a ratio");
-    let list = jobs(rt, numbers)?;
-    let jobs = list.as_slice();
-    assert_valid(rt, k, jobs);
-    let text = printed::<Brand>(rt.alloc(), memory, version, k, jobs, Blank::new(1))?;
-    assert!(rt; text.as_str() == want);
-    Ok(())
 }
 
 /// A version, a ratio, the numbers of jobs, and what is printed of them.
@@ -388,69 +309,6 @@ pub(crate) const WORKED: [Worked; 19] = [
     ),
 ];
 
-fn assert_all(
-    rt: &(impl Abort + AllocGlobal),
-    memory: HeapMemory,
-    rows: &[Worked],
-) -> Result<(), Fail> {
-    for (version, ratio, numbers, want) in rows {
-        assert_prints(rt, memory, *version, *ratio, *numbers, *want)?;
-    }
-    Ok(())
-}
-
-#[test]
-fn prints_the_worked_examples(rt: HostRuntime) -> Result<(), Fail> {
-    assert_all(&rt, rt.memory(), &WORKED)
-}
-
-// What is reserved for one job serves for one, and the job is what it was made of.
-fn admit_one<L: Ledger>(
-    rt: &HostRuntime,
-    k: Ratio,
-    job: Job,
-    blank: Blank,
-) -> Result<Server, Memory>
-    requires valid { IsValid (record { rules = record { ratio = k; version = One }; jobs = job ∷ [] }) }
-    requires name { blank.name ≡ L.name }
-    requires parts { blank.parts ≡ L.parts }
-    requires some { 0 < blank.parts }
-{
-    let alloc = rt.alloc();
-    let mut steps: Steps<L> = Steps::new(rt.memory(), blank);
-    let mut server = Server::new(alloc, Version::One, k)?;
-    server.reserve(1)?;
-    let mut text = String::new(alloc);
-    settle(
-        alloc,
-        &mut server,
-        Horizon::Mark(job.release()),
-        &mut steps,
-        &mut text,
-    )?;
-    server.admit(job)?;
-    Ok(server)
-}
-
-#[test]
-fn a_reserved_job_is_admitted(rt: HostRuntime) -> Result<(), Fail> {
-    let k = Ratio::new(1, 1).expect(&rt, "a ratio");
-    let job = Job::new(3, 2, 9, 5).expect(&rt, "a job");
-    assert_valid(&rt, k, &[job]);
-    let server = admit_one::<Brand>(&rt, k, job, Blank::new(1))?;
-    let counts = (
-        server.admitted(),
-        server.clock(),
-        server.value(),
-        server.spare(),
-    );
-    let first = (server.role(0), server.job(0), server.had(0));
-    let second = (server.role(1), server.job(1), server.had(1));
-    assert!(rt; counts == (1, 3, 0, 0) && !server.ready_for(3));
-    assert!(rt; first == (Some(Role::Coming), Some(job), Some(0)) && second == (None, None, None));
-    Ok(())
-}
-
 // ---- equal jobs
 
 fn assert_equal_valid(rt: &impl Abort, k: Ratio, job: &Job, count: u32)
@@ -473,6 +331,13 @@ struct Seen {
     last: Option<Event>,
 }
 
+fn nothing_seen() -> Seen {
+    Seen {
+        events: 0,
+        last: None,
+    }
+}
+
 // The events up to the horizon are seen.
 fn see<L: Ledger>(server: &mut Server, to: Horizon, steps: &mut Steps<L>, seen: &mut Seen)
     requires { MayFollow server.old.last to }
@@ -484,6 +349,52 @@ fn see<L: Ledger>(server: &mut Server, to: Horizon, steps: &mut Steps<L>, seen: 
         seen.events = seen.events.saturating_add(1);
         seen.last = Some(e);
     }
+}
+
+// What is reserved for one job serves for one, and the job is what it was made of.
+fn admit_one<L: Ledger>(
+    rt: &HostRuntime,
+    k: Ratio,
+    job: Job,
+    blank: Blank,
+) -> Result<Server, Memory>
+    requires valid { IsValid (record { rules = record { ratio = k; version = One }; jobs = job ∷ [] }) }
+    requires name { blank.name ≡ L.name }
+    requires parts { blank.parts ≡ L.parts }
+    requires some { 0 < blank.parts }
+{
+    let alloc = rt.alloc();
+    let mut steps: Steps<L> = Steps::new(rt.memory(), blank);
+    let mut server = Server::new(alloc, Version::One, k)?;
+    server.reserve(1)?;
+    let mut seen = nothing_seen();
+    see(
+        &mut server,
+        Horizon::Mark(job.release()),
+        &mut steps,
+        &mut seen,
+    );
+    server.admit(job)?;
+    Ok(server)
+}
+
+#[test]
+fn a_reserved_job_is_admitted(rt: HostRuntime) -> Result<(), Fail> {
+    let k = Ratio::new(1, 1).expect(&rt, "a ratio");
+    let job = Job::new(3, 2, 9, 5).expect(&rt, "a job");
+    assert_valid(&rt, k, &[job]);
+    let server = admit_one::<Brand>(&rt, k, job, Blank::new(1))?;
+    let counts = (
+        server.admitted(),
+        server.clock(),
+        server.value(),
+        server.spare(),
+    );
+    let first = (server.role(0), server.job(0), server.had(0));
+    let second = (server.role(1), server.job(1), server.had(1));
+    assert!(rt; counts == (1, 3, 0, 0) && !server.ready_for(3));
+    assert!(rt; first == (Some(Role::Coming), Some(job), Some(0)) && second == (None, None, None));
+    Ok(())
 }
 
 // So many equal jobs, each admitted at its release.
@@ -521,10 +432,7 @@ fn serve_equal<L: Ledger>(
     let mut steps: Steps<L> = Steps::new(rt.memory(), blank);
     let mut server = Server::new(rt.alloc(), Version::One, k)?;
     server.reserve(count)?;
-    let mut seen = Seen {
-        events: 0,
-        last: None,
-    };
+    let mut seen = nothing_seen();
     admit_equal(&mut server, job, count, &mut steps, &mut seen)?;
     see(&mut server, Horizon::End, &mut steps, &mut seen);
     Ok(seen)

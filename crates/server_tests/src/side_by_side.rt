@@ -5,7 +5,7 @@ ghost use Rattle.dover_model.specs.Instance.{Instance, IsValid};
 ghost use Rattle.dover_server.specs.declared.horizon.Horizon.{Horizon};
 ghost use Rattle.dover_server.specs.Service.{MayFollow};
 
-use crate::served_runs::{WORKED, Worked, assert_valid, jobs, line};
+use crate::served_runs::{WORKED, Worked, assert_valid, jobs, put_line};
 use dispatcher::Dispatcher;
 use dover_model::{Job, Memory, Ratio, Version};
 use dover_server::{Horizon, Server};
@@ -23,7 +23,6 @@ const MANY: u32 = 1000;
 
 // What is printed up to the horizon, and whether that was all.
 fn settle<D: Dispatcher, L: Ledger>(
-    alloc: Global,
     server: &mut D,
     to: Horizon,
     steps: &mut Steps<L>,
@@ -37,10 +36,7 @@ fn settle<D: Dispatcher, L: Ledger>(
 {
     for _ in 0..MANY {
         match server.step(to, steps) {
-            Some(e) => {
-                let line = line(alloc, &e)?;
-                text.push_str(line.as_str())?;
-            }
+            Some(e) => put_line(text, &e)?,
             None => return Ok(true),
         }
     }
@@ -68,7 +64,6 @@ fn printed<D: Dispatcher, L: Ledger>(
     for job in jobs {
         server.make_room()?;
         if !settle(
-            alloc,
             &mut server,
             Horizon::Mark(job.release()),
             &mut steps,
@@ -77,11 +72,10 @@ fn printed<D: Dispatcher, L: Ledger>(
             return Ok(text);
         }
         if let Some(e) = server.admit(*job, &mut steps) {
-            let line = line(alloc, &e)?;
-            text.push_str(line.as_str())?;
+            put_line(&mut text, &e)?;
         }
     }
-    let _ = settle(alloc, &mut server, Horizon::End, &mut steps, &mut text)?;
+    let _ = settle(&mut server, Horizon::End, &mut steps, &mut text)?;
     Ok(text)
 }
 

@@ -3,7 +3,7 @@ use Rattle.lane_server.specs.Lane.{Serving, Having}
 use Rattle.lane_server.specs.Kept.{Kept, StandsFor, Answers}
 use Rattle.lane_server.specs.declared.lanes.LaneStep.{LaneStep}
 use Rattle.lane_server.specs.declared.lanes.LaneStep.TheVariants.{Fed, Closed}
-use Rattle.server_tests.proofs.many_lanes.outcome_in.Goals as goal
+use Rattle.server_tests.proofs.many_lanes.take_lines.Goals as goal
 
 -- after a good line the lanes stand for the lines with it
 answered : {D : Type 0} (serves : Serving D) (having : Having D) (step : LaneStep) (old new : Kept D) (ls : List
