@@ -1,5 +1,5 @@
 //! Heaps beside lists that are kept sorted.
-ghost use Rattle.std.specs.Prelude.{◌≡◌, ◌<◌};
+ghost use Rattle.std.specs.Prelude.{◌≡◌, ◌<◌, length};
 
 use crate::entries::{draw, due, entry, take};
 use dover_model::{Entry, Memory, Version};
@@ -44,7 +44,36 @@ fn take_first(list: &mut Vec<Entry>) -> Option<Entry> {
     Some(list.remove(0))
 }
 
-// The first round, if there is one, in which the heap answers otherwise than the list.
+// The first round, if there is one, in which the heap answers otherwise than the list, which begins empty.
+fn first_difference<O: Rank, L: Ledger>(
+    sorting: Sorting,
+    heap: &mut Heap<O>,
+    list: &mut Vec<Entry>,
+    steps: &mut Steps<L>,
+) -> Result<Option<u32>, Memory>
+    requires { length heap.old.table ≡ 200 }
+{
+    let mut state = 1;
+    for round in 0..3000 {
+        let number = (draw(&mut state) % 200) as u32;
+        if heap.remove(number, steps) != take(list, number) {
+            return Ok(Some(round));
+        }
+        if draw(&mut state) % 8 == 0 {
+            if heap.first() != list.first().copied() || heap.pop(steps) != take_first(list) {
+                return Ok(Some(round));
+            }
+        } else {
+            let e = entry(&mut state, number);
+            heap.reserve(1)?;
+            heap.insert(e, steps);
+            sorting.put(list, e)?;
+        }
+    }
+    Ok(None)
+}
+
+// The same of a heap and of a list with no entry.
 fn difference<O: Rank, L: Ledger>(
     rt: &HostRuntime,
     order: O,
@@ -57,28 +86,9 @@ fn difference<O: Rank, L: Ledger>(
 {
     let mut steps: Steps<L> = Steps::new(rt.memory(), blank);
     let mut heap = Heap::new(rt.alloc(), order)?;
-    let mut list = Vec::new(rt.alloc());
     heap.reserve_numbers(NUMBERS)?;
-    let mut state = 1;
-    for round in 0..3000 {
-        let number = (draw(&mut state) % 200) as u32;
-        if heap.remove(number, &mut steps) != take(&mut list, number) {
-            return Ok(Some(round));
-        }
-        if draw(&mut state) % 8 == 0 {
-            if heap.first() != list.first().copied()
-                || heap.pop(&mut steps) != take_first(&mut list)
-            {
-                return Ok(Some(round));
-            }
-        } else {
-            let e = entry(&mut state, number);
-            heap.reserve(1)?;
-            heap.insert(e, &mut steps);
-            sorting.put(&mut list, e)?;
-        }
-    }
-    Ok(None)
+    let mut list = Vec::new(rt.alloc());
+    first_difference(sorting, &mut heap, &mut list, &mut steps)
 }
 
 #[test]
@@ -109,8 +119,8 @@ fn each_order_is_that_of_a_sorted_list(rt: HostRuntime) {
     }
 }
 
-// The numbers of three entries as they are popped, and of no entry then.
-fn order_of_three<L: Ledger>(rt: &HostRuntime, blank: Blank) -> Result<[Option<u32>; 4], Memory>
+// Three entries as they are popped, and no entry then.
+fn order_of_three<L: Ledger>(rt: &HostRuntime, blank: Blank) -> Result<[Option<Entry>; 4], Memory>
     requires name { blank.name ≡ L.name }
     requires parts { blank.parts ≡ L.parts }
     requires some { 0 < blank.parts }
@@ -125,15 +135,22 @@ fn order_of_three<L: Ledger>(rt: &HostRuntime, blank: Blank) -> Result<[Option<u
     heap.insert(due(0, 9, 5), &mut steps);
     heap.insert(due(1, 7, 6), &mut steps);
     heap.insert(due(2, 9, 5), &mut steps);
-    let mut popped = [None; 4];
-    for place in popped.iter_mut() {
-        *place = heap.pop(&mut steps).map(|e| e.number);
-    }
-    Ok(popped)
+    Ok([
+        heap.pop(&mut steps),
+        heap.pop(&mut steps),
+        heap.pop(&mut steps),
+        heap.pop(&mut steps),
+    ])
 }
 
 #[test]
 fn ties_go_to_the_smaller_number(rt: HostRuntime) {
     let found = order_of_three::<Brand>(&rt, Blank::new(1));
-    assert!(rt; found == Ok([Some(1), Some(0), Some(2), None]));
+    let wanted = [
+        Some(due(1, 7, 6)),
+        Some(due(0, 9, 5)),
+        Some(due(2, 9, 5)),
+        None,
+    ];
+    assert!(rt; found == Ok(wanted));
 }

@@ -1,5 +1,5 @@
 //! A heap of items beside a list that is kept sorted, and the order of two items.
-ghost use Rattle.std.specs.Prelude.{◌≡◌, ◌<◌, ◌≤◌, ◌^◌};
+ghost use Rattle.std.specs.Prelude.{◌≡◌, ◌<◌, ◌≤◌, ◌^◌, length};
 ghost use Rattle.dover_model.specs.Limits.{most_value};
 
 use crate::entries::draw;
@@ -42,28 +42,26 @@ fn take(list: &mut Vec<Row>, place: u32) -> bool {
     }
 }
 
-// The first round, if there is one, in which the heap answers otherwise than the list.
-fn difference<L: Ledger>(rt: &HostRuntime, blank: Blank) -> Result<Option<u32>, Memory>
-    requires name { blank.name ≡ L.name }
-    requires parts { blank.parts ≡ L.parts }
-    requires some { 0 < blank.parts }
+// The first round, if there is one, in which the heap answers otherwise than the list, which begins empty.
+fn first_difference<L: Ledger>(
+    heap: &mut Heap,
+    list: &mut Vec<Row>,
+    steps: &mut Steps<L>,
+) -> Result<Option<u32>, Memory>
+    requires { length heap.old ≡ 200 }
 {
-    let mut steps: Steps<L> = Steps::new(rt.memory(), blank);
-    let mut heap = Heap::new(rt.alloc());
-    let mut list = Vec::new(rt.alloc());
-    heap.reserve(200)?;
     let mut state = 1;
     for round in 0..3000 {
         let place = (draw(&mut state) % 200) as u32;
         let held = heap.holds(place);
-        heap.remove(place, &mut steps);
-        if take(&mut list, place) != held {
+        heap.remove(place, steps);
+        if take(list, place) != held {
             return Ok(Some(round));
         }
         if draw(&mut state) % 8 != 0 {
             let row = drawn(&mut state, place);
-            heap.insert(Item::new(row.0, row.1, row.2, row.3), &mut steps);
-            put(&mut list, row)?;
+            heap.insert(Item::new(row.0, row.1, row.2, row.3), steps);
+            put(list, row)?;
         }
         let first = heap.first().map(|i| (i.key(), i.place()));
         if first != list.first().map(|r| (r.0, r.3)) || heap.len() as usize != list.len() {
@@ -71,6 +69,19 @@ fn difference<L: Ledger>(rt: &HostRuntime, blank: Blank) -> Result<Option<u32>, 
         }
     }
     Ok(None)
+}
+
+// The same of a heap and of a list with nothing in them.
+fn difference<L: Ledger>(rt: &HostRuntime, blank: Blank) -> Result<Option<u32>, Memory>
+    requires name { blank.name ≡ L.name }
+    requires parts { blank.parts ≡ L.parts }
+    requires some { 0 < blank.parts }
+{
+    let mut steps: Steps<L> = Steps::new(rt.memory(), blank);
+    let mut heap = Heap::new(rt.alloc());
+    heap.reserve(200)?;
+    let mut list = Vec::new(rt.alloc());
+    first_difference(&mut heap, &mut list, &mut steps)
 }
 
 #[test]
@@ -117,16 +128,22 @@ fn ties_go_by_the_version(rt: HostRuntime) {
     let later = (1, 1_000_000_000, 0);
     let cheap = (1_000_000_000_000, 1, 3);
     let costly = (1_000_000_000_000, 1_000_000_000, 999_999);
-    let one = Version::One;
-    let two = Version::Two;
-    let found = first_place::<Brand>(&rt, Blank::new(1), due(one, least, 0), due(one, later, 1));
-    assert!(rt; found == Ok(Some(0)));
-    let found = first_place::<Brand>(&rt, Blank::new(1), due(two, later, 0), due(two, least, 1));
-    assert!(rt; found == Ok(Some(1)));
-    let found = first_place::<Brand>(&rt, Blank::new(1), due(one, costly, 0), due(one, cheap, 1));
-    assert!(rt; found == Ok(Some(1)));
-    let found = first_place::<Brand>(&rt, Blank::new(1), due(two, cheap, 0), due(two, costly, 1));
-    assert!(rt; found == Ok(Some(1)));
-    let found = first_place::<Brand>(&rt, Blank::new(1), due(two, cheap, 0), due(two, cheap, 1));
-    assert!(rt; found == Ok(Some(0)));
+    let (one, two) = (Version::One, Version::Two);
+    let found = [
+        first_place::<Brand>(&rt, Blank::new(1), due(one, least, 0), due(one, later, 1)),
+        first_place::<Brand>(&rt, Blank::new(1), due(two, later, 0), due(two, least, 1)),
+        first_place::<Brand>(&rt, Blank::new(1), due(one, costly, 0), due(one, cheap, 1)),
+        first_place::<Brand>(&rt, Blank::new(1), due(two, cheap, 0), due(two, costly, 1)),
+        first_place::<Brand>(&rt, Blank::new(1), due(two, cheap, 0), due(two, cheap, 1)),
+    ];
+    assert!(rt;
+        found
+            == [
+                Ok(Some(0)),
+                Ok(Some(1)),
+                Ok(Some(1)),
+                Ok(Some(1)),
+                Ok(Some(0))
+            ]
+    );
 }

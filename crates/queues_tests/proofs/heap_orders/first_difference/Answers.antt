@@ -1,9 +1,9 @@
 use Rattle.std.proofs.Common.{◌≡◌, ℕ, ◌%◌, ◌∙◌, Some, None, length, get_or, ap, arith}
 use Rattle.std.proofs.lemmas.List.{length-set}
 use Rattle.rank_heap.proofs.Tables.{taken_free, taken_len}
-use Rattle.queues_tests.proofs.heap_orders.difference.Goals.{then-draw-eq0+else-ne-2+else-ne-3}
-use Rattle.queues_tests.proofs.heap_orders.difference.Goals.{else-draw-eq0+in_ok-reserve+in_ok-put}
-use Rattle.queues_tests.proofs.heap_orders.difference.Goals as goal
+use Rattle.queues_tests.proofs.heap_orders.first_difference.Goals.{then-draw-eq0+else-ne-2+else-ne-3}
+use Rattle.queues_tests.proofs.heap_orders.first_difference.Goals.{else-draw-eq0+in_ok-reserve+in_ok-put}
+use Rattle.queues_tests.proofs.heap_orders.first_difference.Goals as goal
 
 pub insert-requires-clause-number : goal.insert-requires-clause-number
 insert-requires-clause-number g c =
