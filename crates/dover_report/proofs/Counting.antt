@@ -1,11 +1,12 @@
 -- Counts among the printed steps of a run are those of its report.
-use Rattle.std.proofs.Common.{◌≡◌, ℕ, ◌+◌, ◌≤◌, ◌<◌, List, [], ◌∷◌, ◌++◌, length, map, take, get_or, refl, sym, ap, ◌∙◌}
+use Rattle.std.proofs.Common.{◌≡◌, ℕ, ◌+◌, ◌*◌, ◌≤◌, ◌<◌, List, [], ◌∷◌, ◌++◌, length, map, take, get_or, refl}
+use Rattle.std.proofs.Common.{sym, ap, ◌∙◌}
 use Rattle.std.proofs.Common.{cond, arith, append_assoc}
-use Rattle.std.proofs.lemmas.List.{length-take}
+use Rattle.std.proofs.lemmas.List.{length-take, length-take-le}
 use Rattle.std.specs.Prelude.{Option, Some, None, option_to_list, codes}
 use Rattle.std.specs.List.{filter_map, sum_by, count_by, cons_option, enumerate_from}
 use Rattle.std.proofs.lemmas.List.{take_more}
-use Rattle.std.proofs.lemmas.List.Sums.{sum_by-cons}
+use Rattle.std.proofs.lemmas.List.Sums.{sum_by-cons, sum_by_more, count_by-le-length}
 use Rattle.std.proofs.lemmas.List.Elements.{filter_map-append}
 use Rattle.std.proofs.lemmas.List.Concat.{flat_map-append}
 use Rattle.dover_model.specs.declared.events.Event.{Event}
@@ -30,9 +31,11 @@ use Rattle.dover_model.proofs.JobSessions.{jobs_back, instance_back, session_of_
 use Rattle.dover_model.proofs.Walks.{session_names}
 use Rattle.intervals.specs.Rows.{IsRunOf, numbers_of, rows_of}
 use Rattle.intervals.specs.declared.interval.Interval.{Interval}
-use Rattle.dover_report.specs.Counts.{job_released, jobs_released, is_completion, is_abandonment, value_in, value_lost}
-use Rattle.dover_report.specs.Counts.{all_lost}
+use Rattle.dover_report.specs.Counts.{job_released, jobs_released, is_release, is_completion, is_abandonment}
+use Rattle.dover_report.specs.Counts.{value_in, value_lost, all_lost}
 use Rattle.dover_report.specs.Counts.{counts_of, counts_lines}
+use Rattle.dover_report.specs.Fates.{fates_of, with_fate, HasSpace}
+use Rattle.dover_report.specs.declared.counts.Fates.{Fates}
 use Rattle.dover_report.specs.Lines.{row_line, row_lines}
 
 -- ---- the jobs
@@ -144,6 +147,50 @@ losses jobs (Abandon at n ∷ run) = omega (
   losses jobs run,
 )
 losses jobs (End value ∷ run) = omega (arith, sum_by-cons (value_lost jobs) (End value) run, losses jobs run)
+
+-- what one step more makes of the jobs
+pub fates_more : (jobs : List JobFacts) (run : List Event) (i : ℕ) (e : Event) → e ≡ get_or run i e → i < length run
+    → with_fate jobs (fates_of jobs (take i run)) e ≡ fates_of jobs (take (i + 1) run)
+fates_more jobs run i e is there = sym (same_fates (more (λ x. cond (is_completion x) 1 0))
+    (more (λ x. cond (is_abandonment x) 1 0)) (more (value_lost jobs)) (more (λ x. cond (is_take x) 1 0))) where
+      whole : (b c d f : ℕ) → Fates
+      whole b c d f = record { jobs = length jobs; completed = b; abandoned = c; lost = d; taken = f }
+
+      same_fates : {b c d f b2 c2 d2 f2 : ℕ} → b ≡ b2 → c ≡ c2 → d ≡ d2 → f ≡ f2 → whole b c d f ≡ whole b2 c2 d2 f2
+      same_fates e1 e2 e3 e4 = cc
+
+      more : (f : Event → ℕ) → sum_by f (take (i + 1) run) ≡ sum_by f (take i run) + f e
+      more f = sum_by_more f run i e there ∙ ap (λ x. sum_by f (take i run) + f x) (sym is)
+
+-- there is room for one step more
+pub fates_fit : (jobs : List JobFacts) (run : List Event) (i : ℕ) (f : Fates) → f ≡ fates_of jobs (take i run)
+    → f.lost ≤ 1_000_000_000 * i → i < length run → length run ≤ 5_000_001 → HasSpace f
+fates_fit jobs run i f is low there few = record {
+  completed = omega (arith, ap (λ (g : Fates). g.completed) is, front, count_by-le-length is_completion (take i run));
+  abandoned = omega (arith, ap (λ (g : Fates). g.abandoned) is, front, count_by-le-length is_abandonment (take i run));
+  lost = omega arith;
+  taken = omega (arith, ap (λ (g : Fates). g.taken) is, front, count_by-le-length is_take (take i run));
+} where
+  front : length (take i run) ≤ 5_000_001
+  front = omega (arith, length-take-le i run (omega arith))
+
+-- the steps of which each releases a job are as many as the jobs
+pub releases_count : (run : List Event) → count_by is_release run ≡ length (jobs_released run)
+releases_count [] = refl
+releases_count (Release n job ∷ run) =
+    omega (arith, sum_by-cons (λ e. cond (is_release e) 1 0) (Release n job) run, releases_count run)
+releases_count (Run at n ∷ run) =
+    omega (arith, sum_by-cons (λ e. cond (is_release e) 1 0) (Run at n) run, releases_count run)
+releases_count (Preempt at r n ∷ run) =
+    omega (arith, sum_by-cons (λ e. cond (is_release e) 1 0) (Preempt at r n) run, releases_count run)
+releases_count (Take at r n ∷ run) =
+    omega (arith, sum_by-cons (λ e. cond (is_release e) 1 0) (Take at r n) run, releases_count run)
+releases_count (Complete at n ∷ run) =
+    omega (arith, sum_by-cons (λ e. cond (is_release e) 1 0) (Complete at n) run, releases_count run)
+releases_count (Abandon at n ∷ run) =
+    omega (arith, sum_by-cons (λ e. cond (is_release e) 1 0) (Abandon at n) run, releases_count run)
+releases_count (End value ∷ run) =
+    omega (arith, sum_by-cons (λ e. cond (is_release e) 1 0) (End value) run, releases_count run)
 
 -- ---- lines
 

@@ -20,6 +20,11 @@ job_released _ = None
 abbrev pub jobs_released : List Event → List JobFacts
 jobs_released run = filter_map job_released run
 
+-- a job is released
+abbrev pub is_release : Event → Bool
+is_release (Release n job) = true
+is_release _ = false
+
 -- a job is done
 abbrev pub is_completion : Event → Bool
 is_completion (Complete at n) = true

@@ -1,3 +1,4 @@
 pub mod Counts
+pub mod Fates
 pub mod Lines
 pub mod Rows

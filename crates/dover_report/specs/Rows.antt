@@ -1,10 +1,11 @@
 -- The rows of a table: a job, and how it ended.
-use Rattle.std.specs.Prelude.{ℕ, List, [], ◌∷◌, ◌++◌, length, map, set, ◌==◌, nat_lt, if◌then◌else◌, Option, Some, None}
+use Rattle.std.specs.Prelude.{◌≡◌, ℕ, ◌+◌, ◌<◌, ◌^◌, List, [], ◌∷◌, ◌++◌, length, map, set, ◌==◌, nat_lt}
+use Rattle.std.specs.Prelude.{if◌then◌else◌, slice_get, slice_index_or, Option, Some, None}
 use Rattle.std.specs.Prelude.{codes, decimal}
 use Rattle.std.specs.List.{filter_map, find, enumerate_from, flat_map}
-use Rattle.std.specs.Option.{option_map}
+use Rattle.std.specs.Option.{option_map, option_map_or}
 use Rattle.dover_model.specs.declared.events.Event.{Event}
-use Rattle.dover_model.specs.declared.events.Event.TheVariants.{Complete, Abandon}
+use Rattle.dover_model.specs.declared.events.Event.TheVariants.{Release, Complete, Abandon}
 use Rattle.dover_model.specs.JobFacts.{JobFacts, job_numbers}
 use Rattle.dover_model.specs.Reports.{Fate, fate_of_event, number_of}
 use Rattle.dover_model.specs.Reports as model
@@ -20,15 +21,25 @@ ending_of (model.Abandoned n at) = Abandoned at
 abbrev pub ending_in : List Event → ℕ → Option Ending
 ending_in run n = option_map ending_of (find (λ fate. number_of fate == n) (filter_map fate_of_event run))
 
--- the endings with this one at number n, if there are so many
-abbrev pub with_ending : List (Option Ending) → ℕ → Ending → List (Option Ending)
-with_ending ends n ending = if nat_lt n (length ends) then set ends n (Some ending) else ends
+-- how a step ends its job, if it does
+abbrev pub ending_by : Event → Option Ending
+ending_by (Complete at n) = Some (Completed at)
+ending_by (Abandon at n) = Some (Abandoned at)
+ending_by _ = None
 
--- the endings after an earlier step is read
-abbrev pub with_step : List (Option Ending) → Event → List (Option Ending)
-with_step ends (Complete at n) = with_ending ends n (Completed at)
-with_step ends (Abandon at n) = with_ending ends n (Abandoned at)
-with_step ends _ = ends
+-- how the step at this place ends its job, if it does
+abbrev pub ending_at : List Event → ℕ → Option Ending
+ending_at run place = option_map_or ending_by (slice_get run place) None
+
+-- the places with this one at number n, if there are so many
+abbrev pub with_place : List ℕ → ℕ → ℕ → List ℕ
+with_place places n place = if nat_lt n (length places) then set places n place else places
+
+-- the places after an earlier step is read, which stands at this one
+abbrev pub with_step : List ℕ → Event → ℕ → List ℕ
+with_step places (Complete at n) place = with_place places n place
+with_step places (Abandon at n) place = with_place places n place
+with_step places _ place = places
 
 -- the fields of an ending
 abbrev pub ending_fields : Option Ending → List (List ℕ)
@@ -47,3 +58,14 @@ row_text n j ending = decimal n ++ after_commas (map decimal (job_numbers j) ++ 
 -- the rows of jobs from number n on, with how they ended in these steps
 abbrev pub rows_from : List Event → ℕ → List JobFacts → List (List ℕ)
 rows_from run n jobs = map (λ n_j. row_text n_j.0 n_j.1 (ending_in run n_j.0)) (enumerate_from n jobs)
+
+-- the row of the job of number n, where the step releases it
+abbrev pub released_rows : List Event → ℕ → Event → List (List ℕ)
+released_rows run n (Release m j) = row_text n j (ending_in run n) ∷ []
+released_rows run n _ = []
+
+-- where the step releases the job of number n, its ending stands at its place
+abbrev pub CanRelease : List Event → List ℕ → ℕ → Event → Type 0
+CanRelease run places n (Release m j) = (n < length places) × (n + 1 < 2 ^ 64)
+    × (ending_at run (slice_index_or places n 0) ≡ ending_in run n)
+CanRelease run places n _ = Unit {0}

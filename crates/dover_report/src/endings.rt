@@ -1,6 +1,6 @@
 //! How the jobs of a run ended.
-ghost use Rattle.std.specs.Prelude.{◌≡◌, ◌<◌, ℕ, length, slice_index_or, Option, None, IfOk};
-ghost use Rattle.dover_report.specs.Rows.{ending_in, with_ending, with_step};
+ghost use Rattle.std.specs.Prelude.{◌≡◌, ◌≤◌, ◌<◌, ℕ, length, slice_index_or, IfOk};
+ghost use Rattle.dover_report.specs.Rows.{ending_at, ending_in, with_place, with_step};
 
 use dover_model::{Event, Memory};
 use std::alloc::Global;
@@ -12,41 +12,51 @@ pub enum Ending {
     Abandoned(u64),
 }
 
-/// How the jobs of the first numbers ended in these steps, of which the last is read first.
-pub fn endings(alloc: Global, run: &[Event], count: usize) -> Result<Vec<Option<Ending>>, Memory>
-    ensures count { IfOk result (λ ends. length ends.items ≡ count) }
-    ensures each { IfOk result (λ ends. (n : ℕ) → n < count → slice_index_or ends.items n None ≡ ending_in run.now n) }
+/// For each job of the first numbers the place of the step that ends it, and for one that none ends a place behind the
+/// steps. Of the steps the last is read first.
+pub fn endings(alloc: Global, run: &[Event], count: usize) -> Result<Vec<u32>, Memory>
+    requires { length run.now ≤ 5_000_001 }
+    ensures count { IfOk result (λ places. length places.items ≡ count) }
+    ensures each { IfOk result (λ places.
+        (n : ℕ) → n < count → ending_at run.now (slice_index_or places.items n 0) ≡ ending_in run.now n) }
 {
-    let mut ends = Vec::with_capacity(alloc, count)?;
-    ends.resize(count, None)?;
+    let mut places = Vec::with_capacity(alloc, count)?;
+    places.resize(count, u32::MAX)?;
     let mut left = run.len();
     while left > 0 {
         left -= 1;
-        put_step(&mut ends, &run[left]);
+        put_step(&mut places, &run[left], left as u32);
     }
-    Ok(ends)
+    Ok(places)
 }
 
-/// Takes an earlier step into account.
-fn put_step(ends: &mut [Option<Ending>], event: &Event)
-    ensures { ends.new ≡ with_step ends.old event.now }
+/// How the step at this place ends a job, if it does.
+pub fn ending_at(run: &[Event], place: u32) -> Option<Ending>
+    ensures { result ≡ ending_at run.now place }
+{
+    match run.get(place as usize) {
+        Some(Event::Complete { at, .. }) => Some(Ending::Completed(*at)),
+        Some(Event::Abandon { at, .. }) => Some(Ending::Abandoned(*at)),
+        _ => None,
+    }
+}
+
+/// Takes an earlier step into account, which stands at this place.
+fn put_step(places: &mut [u32], event: &Event, place: u32)
+    ensures { places.new ≡ with_step places.old event.now place }
 {
     match event {
-        Event::Complete { at, number } => put_ending(
-            ends,
-            *number as usize,
-            Ending::Completed(*at),
-        ),
-        Event::Abandon { at, number } => put_ending(ends, *number as usize, Ending::Abandoned(*at)),
+        Event::Complete { number, .. } => put_place(places, *number as usize, place),
+        Event::Abandon { number, .. } => put_place(places, *number as usize, place),
         _ => {}
     }
 }
 
-/// The job of this number, if there are so many, ended so.
-fn put_ending(ends: &mut [Option<Ending>], number: usize, ending: Ending)
-    ensures { ends.new ≡ with_ending ends.old number ending }
+/// The job of this number, if there are so many, ends at this place.
+fn put_place(places: &mut [u32], number: usize, place: u32)
+    ensures { places.new ≡ with_place places.old number place }
 {
-    if number < ends.len() {
-        ends[number] = Some(ending);
+    if number < places.len() {
+        places[number] = place;
     }
 }

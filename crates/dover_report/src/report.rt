@@ -7,7 +7,7 @@ ghost use Rattle.intervals.specs.Rows.{IsRunOf};
 ghost use Rattle.dover_report.specs.Counts.{counts_lines};
 ghost use Rattle.dover_report.specs.Lines.{row_lines};
 
-use crate::counts::{Counts, count, released};
+use crate::counts::{Counts, fates_in};
 use crate::lines::put_line;
 use dover_model::{Event, Memory, Ratio};
 use intervals::{Charge, Interval};
@@ -19,11 +19,11 @@ pub fn text(alloc: Global, k: Ratio, run: &[Event]) -> Result<Vec<u8>, Memory>
     requires { (J : Instance) × IsRunOf k run.now J }
     ensures { (J : Instance) → IsRunOf k run.now J → IfOk result (λ text. text.items ≡ report J) }
 {
+    let fates = fates_in(alloc, run)?;
     let charge = Charge::of(alloc, k, run)?;
-    let jobs = released(alloc, run)?;
     let mut text = Vec::new(alloc);
     put_line(&mut text, b"ratio", &[u64::from(k.p()), u64::from(k.q())])?;
-    put_counts(&mut text, count(k, run, &jobs, charge.value()))?;
+    put_counts(&mut text, fates.counts(k, charge.value()))?;
     put_rows(&mut text, charge.rows())?;
     Ok(text)
 }
@@ -33,10 +33,10 @@ pub fn summary(alloc: Global, k: Ratio, run: &[Event]) -> Result<Vec<u8>, Memory
     requires { (J : Instance) × IsRunOf k run.now J }
     ensures { (J : Instance) → IsRunOf k run.now J → IfOk result (λ text. text.items ≡ summary J) }
 {
+    let fates = fates_in(alloc, run)?;
     let charge = Charge::of(alloc, k, run)?;
-    let jobs = released(alloc, run)?;
     let mut text = Vec::new(alloc);
-    put_counts(&mut text, count(k, run, &jobs, charge.value()))?;
+    put_counts(&mut text, fates.counts(k, charge.value()))?;
     Ok(text)
 }
 

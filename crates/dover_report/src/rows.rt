@@ -1,14 +1,15 @@
 //! The table of jobs.
-ghost use Rattle.std.specs.Prelude.{◌≡◌, ◌++◌, ◌∷◌, [], map, OnOk, IfOk, decimal};
+ghost use Rattle.std.specs.Prelude.{◌≡◌, ◌+◌, ◌++◌, ◌∷◌, [], length, map, OnOk, IfOk, option_to_list, decimal};
 ghost use Rattle.dover_model.specs.Instance.{Instance};
 ghost use Rattle.dover_model.specs.Lines.{in_lines};
 ghost use Rattle.dover_model.specs.Fraction.{Fraction};
 ghost use Rattle.dover_model.specs.Reports.{table};
 ghost use Rattle.intervals.specs.Rows.{IsRunOf};
-ghost use Rattle.dover_report.specs.Rows.{after_commas, ending_fields, row_text};
+ghost use Rattle.dover_report.specs.Counts.{job_released};
+ghost use Rattle.dover_report.specs.Rows.{CanRelease, released_rows, after_commas, ending_fields, row_text};
 
-use crate::counts::released;
-use crate::endings::{Ending, endings};
+use crate::counts::releases;
+use crate::endings::{Ending, ending_at, endings};
 use dover_model::{Event, Job, Memory};
 use itoa::Buffer;
 use std::alloc::Global;
@@ -19,13 +20,34 @@ pub fn table(alloc: Global, run: &[Event]) -> Result<Vec<u8>, Memory>
     requires { (k : Fraction) × ((J : Instance) × IsRunOf k run.now J) }
     ensures { (k : Fraction) (J : Instance) → IsRunOf k run.now J → IfOk result (λ text. text.items ≡ table J) }
 {
-    let jobs = released(alloc, run)?;
-    let ends = endings(alloc, run, jobs.len())?;
+    let places = endings(alloc, run, releases(run))?;
     let mut text = Vec::from_slice(alloc, b"job,release,work,deadline,value,fate,tick\n")?;
-    for (number, job) in jobs.iter().enumerate() {
-        put_row(&mut text, number as u64, job, ends[number])?;
+    let mut number = 0;
+    for event in run {
+        number = put_released(&mut text, run, &places, number, event)?;
     }
     Ok(text)
+}
+
+/// Appends the row of the job of this number where the step releases it. Answers how many jobs are released behind it.
+fn put_released(
+    text: &mut Vec<u8>,
+    run: &[Event],
+    places: &[u32],
+    number: usize,
+    event: &Event,
+) -> Result<usize, Memory>
+    requires { CanRelease run.now places.now number event.now }
+    ensures number { IfOk result (λ next. next ≡ number + length (option_to_list (job_released event.now))) }
+    ensures text { OnOk result (text.new.items ≡ text.old.items ++ in_lines (released_rows run.now number event.now)) }
+{
+    match event {
+        Event::Release { job, .. } => {
+            put_row(text, number as u64, job, ending_at(run, places[number]))?;
+            Ok(number + 1)
+        }
+        _ => Ok(number),
+    }
 }
 
 /// Appends the row of a job.

@@ -1,30 +1,44 @@
-use Rattle.std.proofs.Common.{◌≡◌, ◌++◌, ◌∷◌, [], ap, ◌∙◌, arith}
-use Rattle.std.specs.Prelude.{None, codes}
-use Rattle.std.proofs.lemmas.List.{take_all, get_or_default}
+use Rattle.std.proofs.Common.{◌≡◌, ◌++◌, ap, ◌∙◌, arith, refl, subst, sym, length}
+use Rattle.std.specs.Prelude.{codes}
+use Rattle.std.proofs.lemmas.List.{take_all}
 use Rattle.dover_model.specs.Lines.{in_lines}
-use Rattle.dover_report.specs.Rows.{ending_in, row_text, rows_from}
-use Rattle.dover_report.proofs.Tables.{row_more, table_is}
+use Rattle.dover_report.specs.Counts.{jobs_released}
+use Rattle.dover_report.specs.Rows.{CanRelease, rows_from}
+use Rattle.dover_report.proofs.Counting.{few_steps, releases_count}
+use Rattle.dover_report.proofs.Tables.{can_release, row_more, number_more, table_is}
 use Rattle.dover_report.proofs.rows.table.Goals as goal
 
-pub loop-number-init : goal.loop-number-init
-loop-number-init c = c.in_ok-text.ensures.items
+pub endings-requires : goal.endings-requires
+endings-requires c = few_steps c.requires.0 c.args.run.now c.requires.1.0 c.requires.1.1
 
-pub loop-number-preserved : goal.loop-number-preserved
-loop-number-preserved c =
-    let ending : c.index.result.now ≡ ending_in c.args.run.now c.loop-number.number =
-    c.index.ensures ∙ get_or_default c.in_ok-ends.ends.items c.loop-number.number c.index.result.now None
-    (let count = c.in_ok-ends.ensures.count in omega (arith, count))
-    ∙ c.in_ok-ends.ensures.each c.loop-number.number (omega arith) in
-    c.in_ok-put_row.ensures
-    ∙ ap (λ x. x ++ in_lines (row_text c.loop-number.number c.job-item.result c.index.result.now ∷ []))
-    c.loop-number.invariant
-    ∙ row_more c.args.run.now c.deref-job-items.result.now c.loop-number.number c.job-item.result
-    (codes "job,release,work,deadline,value,fate,tick\n") c.index.result.now c.job-item.is c.loop-number-test.true
-    ending
+pub loop-event-init : goal.loop-event-init
+loop-event-init c = record { number = refl; text = c.in_ok-text.ensures.items }
+
+pub put_released-requires : goal.put_released-requires
+put_released-requires c =
+    let counted : c.releases.result ≡ length (jobs_released c.args.run.now) =
+    c.releases.ensures ∙ releases_count c.args.run.now in
+    subst (λ ps. CanRelease c.args.run.now ps c.loop-event.number c.event-item.result) (sym c.deref.ensures.value)
+    (can_release c.args.run.now c.in_ok-places.places.items c.loop-event.event-index c.loop-event.number
+    c.event-item.result c.event-item.is c.loop-event-test.true
+    (few_steps c.requires.0 c.args.run.now c.requires.1.0 c.requires.1.1) c.loop-event.invariant.number
+    (c.in_ok-places.ensures.count ∙ counted)
+    (λ n low. c.in_ok-places.ensures.each n (omega (arith, counted, low))))
+
+pub loop-event-preserved : goal.loop-event-preserved
+loop-event-preserved c = record {
+  number = c.in_ok-number.ensures.number
+      ∙ number_more c.args.run.now c.loop-event.event-index c.event-item.result c.loop-event.number c.event-item.is
+      c.loop-event-test.true c.loop-event.invariant.number;
+  text = c.in_ok-number.ensures.text
+      ∙ row_more c.args.run.now c.loop-event.event-index c.event-item.result c.loop-event.number
+      (codes "job,release,work,deadline,value,fate,tick\n") c.loop-event.text.items c.event-item.is
+      c.loop-event-test.true c.loop-event.invariant.number c.loop-event.invariant.text;
+}
 
 pub returns : goal.returns
-returns c k J of = c.loop-number.invariant
-    ∙ ap (λ js. codes "job,release,work,deadline,value,fate,tick\n" ++ in_lines (rows_from c.args.run.now 0 js))
-    (take_all c.loop-number.number c.deref-job-items.result.now (omega arith))
-    ∙ table_is k c.args.run.now J of c.deref-job-items.result.now
-    (c.deref-job-items.ensures.value ∙ c.in_ok-jobs.ensures)
+returns c k J of = c.loop-event.invariant.text
+    ∙ ap (λ es. codes "job,release,work,deadline,value,fate,tick\n"
+    ++ in_lines (rows_from c.args.run.now 0 (jobs_released es)))
+    (take_all c.loop-event.event-index c.args.run.now (omega arith))
+    ∙ table_is k c.args.run.now J of (jobs_released c.args.run.now) refl
