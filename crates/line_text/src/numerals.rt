@@ -1,5 +1,5 @@
 //! Numbers as a line spells them.
-ghost use Rattle.std.specs.Prelude.{◌≡◌, IfSome, IfNone, ◌+◌, ◌<◌, ◌≤◌, ◌^◌, length, take, get_or, true, false};
+ghost use Rattle.std.specs.Prelude.{◌≡◌, IfSome, IfNone, ◌+◌, ◌-◌, ◌<◌, ◌≤◌, ◌^◌, length, take, get_or, true, false};
 ghost use Rattle.std.specs.Prelude.{option_map, option_and_then, ◌∷◌};
 ghost use Rattle.std.specs.Char.{is_ascii_digit};
 ghost use Rattle.std.specs.Str.{all_ascii_digits};
@@ -9,9 +9,6 @@ ghost use Rattle.line_text.specs.Reading.{fields_left, number_of_first};
 
 /// The most digits that a numeral may have.
 const MOST_DIGITS: usize = 18;
-
-/// The digit 0.
-const ZERO: u64 = 48;
 
 /// Whether there is a byte, and no leading zero except `0` itself.
 #[inline(always)]
@@ -23,6 +20,15 @@ fn is_plain(text: &[u8]) -> bool
         [_] => true,
         [first, ..] => *first != b'0',
     }
+}
+
+/// How far a byte is above the digit 0: what a digit stands for, and more than 9 for each other byte.
+#[inline(always)]
+fn above_zero(byte: u8) -> u64
+    ensures digit { result ≤ 9 → (is_ascii_digit byte ≡ true) × (result ≡ byte - 48) }
+    ensures other { 9 < result → is_ascii_digit byte ≡ false }
+{
+    u64::from(byte).wrapping_sub(u64::from(b'0'))
 }
 
 /// The number that the digits in front write, and how many they are. None where they are more than a numeral may have.
@@ -39,13 +45,14 @@ fn leading_digits(text: &[u8]) -> Option<(u64, usize)>
 {
     let mut number = 0u64;
     for (at, byte) in text.iter().enumerate() {
-        if !byte.is_ascii_digit() {
+        let digit = above_zero(*byte);
+        if digit > 9 {
             return Some((number, at));
         }
         if at == MOST_DIGITS {
             return None;
         }
-        number = 10 * number + (u64::from(*byte) - ZERO);
+        number = 10 * number + digit;
     }
     Some((number, text.len()))
 }
