@@ -37,6 +37,7 @@ impl Feed {
     }
 
     /// Takes a byte of the feed.
+    #[inline(never)]
     fn take_byte(&mut self, byte: u8) -> Progress
         requires { (x : List ℕ) × FeedStands self.old x }
         ensures at { (x : List ℕ) → FeedStands self.old x →
@@ -53,6 +54,7 @@ impl Feed {
     }
 
     /// Takes a byte, or a whole line with its line feed where no line has begun.
+    #[inline(always)]
     fn take_front(&mut self, bytes: &[u8]) -> Progress
         requires some { 0 < length bytes.now }
         requires whole { 1 < length bytes.now → IsWholeLine self.old.lines bytes.now }

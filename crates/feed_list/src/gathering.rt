@@ -34,6 +34,7 @@ pub(crate) struct Gathering {
 
 impl Gathering {
     /// Takes what a line says.
+    #[inline(always)]
     fn take_fed(&mut self, fed: Fed) -> Progress
         ensures stands { (a b : Account) → a.standing ≡ feeds.Open
             → Lists self.old.declared self.old.jobs.items a.session →
@@ -56,6 +57,7 @@ impl Gathering {
     }
 
     /// Takes a line of the feed.
+    #[inline(always)]
     pub(crate) fn take_line(&mut self, line: &[u8]) -> Progress
         requires { (ls : List (List ℕ)) × Keeps self.old ls }
         ensures stands { (ls : List (List ℕ)) → Keeps self.old ls →

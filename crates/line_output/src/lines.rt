@@ -5,7 +5,7 @@ ghost use Rattle.dover_port.specs.Causes.{HasCause, StopsAtFailure};
 ghost use Rattle.dover_port.specs.Moves.{PutsThrough};
 
 use dover_port::{Failed, Output, Port};
-use line_text::LineBuf;
+use line_text::{BackLine, LineBuf};
 
 /// Puts a line with its line feed, or keeps it back in `out`. The line has at most 128 bytes. An `Err`: a write failed,
 /// and a front of what was kept back and of the line was put, but not all of it.
@@ -21,8 +21,8 @@ pub fn put_line<P: Port>(port: &mut P, out: &mut Output, mut line: LineBuf) -> R
 }
 
 /// Puts the line of a word and numbers, as `put_line` does. The word isn't empty, and with 21 bytes for each number the
-/// line is shorter than
-/// 129 bytes.
+/// line is shorter than 129 bytes.
+#[inline(always)]
 pub fn put_numbers<P: Port>(
     port: &mut P,
     out: &mut Output,
@@ -37,10 +37,13 @@ pub fn put_numbers<P: Port>(
         (P.read_faults port.new) result }
     ensures stops { StopsAtFailure (P.calls port.old) (P.calls port.new) result }
 {
-    let mut line = LineBuf::new();
-    line.put_word(word);
-    for number in numbers {
-        line.put_number(*number);
+    let mut line = BackLine::new();
+    let mut left = numbers.len();
+    while left > 0 {
+        left -= 1;
+        line.put_number(numbers[left]);
+        line.put_word(b" ");
     }
-    put_line(port, out, line)
+    line.put_word(word);
+    out.put(port, line.bytes())
 }

@@ -1,12 +1,14 @@
-use Rattle.std.proofs.Common.{◌≡◌, ◌<◌, ◌≤◌, ◌+◌, ◌*◌, ◌++◌, drop, length}
-use Rattle.dover_model.specs.Lines.{with_numbers}
+use Rattle.std.proofs.Common.{◌≡◌, ◌≤◌, ◌+◌, ◌*◌, ◌++◌, ◌∷◌, [], drop, length}
 use Rattle.line_text.specs.Writing.{numbers_behind}
 use Rattle.line_output.proofs.lines.put_numbers.Given as goal
 
--- the line so far and the numbers that are left make up the line, and each number has at most 20 digits
-abbrev pub invariant-loop-number : goal.invariant-loop-number
-invariant-loop-number g l = record {
-  whole : l.line ++ numbers_behind (drop l.number-index l.numbers) ≡ with_numbers l.word l.numbers;
-  begun : 0 < length l.line;
-  size : length l.line ≤ length l.word + 21 * l.number-index;
+-- the numbers from `left` on are written, and each of them has at most 20 digits
+abbrev pub invariant-loop-left : goal.invariant-loop-left
+invariant-loop-left g l = record {
+  few : l.left ≤ length l.numbers;
+  written : l.line ≡ numbers_behind (drop l.left l.numbers) ++ 10 ∷ [];
+  size : length l.line + 21 * l.left ≤ 21 * length l.numbers + 1;
 }
+
+abbrev pub decreases-loop-left : goal.decreases-loop-left
+decreases-loop-left g l = l.left
