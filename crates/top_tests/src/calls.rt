@@ -69,6 +69,49 @@ pub(crate) fn pieces(
     Ok(pieces)
 }
 
+/// How a port gives its input and fails.
+#[derive(Clone, Copy)]
+pub(crate) struct Cut {
+    /// The bytes of a piece, and with a seed above 0 those of the first, before it draws others.
+    pub(crate) piece: usize,
+    pub(crate) seed: usize,
+    /// The read and the write that fail, from 1 on, and 0 for none.
+    pub(crate) read: u32,
+    pub(crate) write: u32,
+    /// The bytes that a write takes at most.
+    pub(crate) most: usize,
+}
+
+/// One piece, and no call that fails.
+pub(crate) const AT_ONCE: Cut = Cut {
+    piece: 4096,
+    seed: 0,
+    read: 0,
+    write: 0,
+    most: 4096,
+};
+
+/// A port over the bytes.
+pub(crate) fn port(alloc: Global, bytes: &[u8], cut: Cut) -> Result<MemoryPort, Fail> {
+    let script = pieces(alloc, bytes, cut.piece, cut.seed)?;
+    let reads = vec![in alloc; cut.read]?;
+    let writes = vec![in alloc; cut.write]?;
+    Ok(MemoryPort::new(alloc, script, reads, writes, cut.most.max(1), 4096)?)
+}
+
+/// Whether the words end so over the bytes at a port, and write this.
+pub(crate) fn tells(
+    rt: &HostRuntime,
+    words: &[String],
+    bytes: &[u8],
+    cut: Cut,
+    status: Status,
+    text: &str,
+) -> Result<bool, Fail> {
+    let mut port = port(rt.alloc(), bytes, cut)?;
+    Ok(answer(rt, words, &mut port) == status && port.written() == text.as_bytes())
+}
+
 /// What the words do with this input, in pieces of so many bytes.
 pub(crate) fn call(
     rt: &HostRuntime,
@@ -78,8 +121,11 @@ pub(crate) fn call(
 ) -> Result<Called, Fail> {
     let alloc = rt.alloc();
     let words = words_of(alloc, words)?;
-    let script = pieces(alloc, input, size, 0)?;
-    let mut port = MemoryPort::new(alloc, script, Vec::new(alloc), Vec::new(alloc), 4096, 4096)?;
+    let cut = Cut {
+        piece: size,
+        ..AT_ONCE
+    };
+    let mut port = port(alloc, input, cut)?;
     let status = answer(rt, &words, &mut port);
     let mut written = Vec::new(alloc);
     written.extend_from_slice(port.written())?;

@@ -1,9 +1,9 @@
 //! Feeds that a seed draws.
 ghost use Rattle.std.specs.Prelude.{◌<◌, ℕ};
 
+use itoa::Buffer;
 use job_format::FeedLine;
 use std::alloc::{AllocError, Global};
-use std::test::Fail;
 
 /// Numbers drawn one after another.
 #[derive(Drop)]
@@ -76,37 +76,46 @@ pub(crate) fn draw_feed(alloc: Global, seed: u64) -> Result<Vec<FeedLine>, Alloc
     Ok(lines)
 }
 
-/// A line's text.
-fn text_of_line(alloc: Global, line: &FeedLine) -> Result<String, Fail> {
-    let text = match line {
+/// Appends a line of a word and numbers.
+fn put_numbers(text: &mut Vec<u8>, word: &[u8], numbers: &[u64]) -> Result<(), AllocError> {
+    text.extend_from_slice(word)?;
+    for number in numbers {
+        text.push(b' ')?;
+        text.extend_from_slice(Buffer::new().format(*number).as_bytes())?;
+    }
+    text.push(b'\n')?;
+    Ok(())
+}
+
+/// Appends a line's text.
+fn put_line(text: &mut Vec<u8>, line: &FeedLine) -> Result<(), AllocError> {
+    match *line {
         FeedLine::Declared {
             p,
             q,
             version: None,
-        } => format!(in alloc; "k {p} {q}\n")?,
+        } => put_numbers(text, b"k", &[p, q]),
         FeedLine::Declared {
             p,
             q,
             version: Some(version),
-        } => format!(in alloc; "k {p} {q} {version}\n")?,
+        } => put_numbers(text, b"k", &[p, q, version]),
         FeedLine::Job {
             release,
             work,
             deadline,
             value,
-        } => { format!(in alloc; "job {release} {work} {deadline} {value}\n")? }
-        FeedLine::Tick { at } => format!(in alloc; "tick {at}\n")?,
-        FeedLine::End => format!(in alloc; "end\n")?,
-    };
-    Ok(text)
+        } => put_numbers(text, b"job", &[release, work, deadline, value]),
+        FeedLine::Tick { at } => put_numbers(text, b"tick", &[at]),
+        FeedLine::End => put_numbers(text, b"end", &[]),
+    }
 }
 
 /// The text of these lines.
-pub(crate) fn text_of(alloc: Global, lines: &[FeedLine]) -> Result<Vec<u8>, Fail> {
+pub(crate) fn text_of(alloc: Global, lines: &[FeedLine]) -> Result<Vec<u8>, AllocError> {
     let mut text = Vec::new(alloc);
     for line in lines {
-        let written = text_of_line(alloc, line)?;
-        text.extend_from_slice(written.as_bytes())?;
+        put_line(&mut text, line)?;
     }
     Ok(text)
 }

@@ -1,6 +1,6 @@
 //! Rows of words: an input, how the call ends, and what it writes.
-use crate::calls::{answer, call, pieces, words_of};
-use dover_port::{MemoryPort, Status};
+use crate::calls::{AT_ONCE, Cut, tells, words_of};
+use dover_port::Status;
 use std::test::Fail;
 
 /// What `pause` does with feeds.
@@ -64,7 +64,7 @@ const PAUSES: [(&str, Status, &str); 13] = [
 ];
 
 /// What `resume` does with snapshots and what follows them.
-const RESUMES: [(&str, Status, &str); 24] = [
+const RESUMES: [(&str, Status, &str); 25] = [
     (
         "snapshot 1 1 1 3 2 1\nstate 0 running 2 0 4 10 4\nresume\njob 2 1 4 1\nend\n",
         Status::Done,
@@ -165,6 +165,12 @@ const RESUMES: [(&str, Status, &str); 24] = [
         Status::Refused,
         "refused 1 snapshot\n",
     ),
+    // a feed that has as many lines as one may have, none of which is a job
+    (
+        "snapshot 1 1 1 4000000 5 0\nresume\nend\n",
+        Status::Refused,
+        "refused 4000001 lines\n",
+    ),
     // no line can have moved the mark
     (
         "snapshot 1 1 1 1 5 0\nresume\n",
@@ -192,15 +198,18 @@ const SIZES: [usize; 3] = [4096, 1, 7];
 /// Whether the words end so over an input in pieces of each size, and write this.
 fn tells_in(
     rt: &HostRuntime,
-    words: &[&'static str],
+    words: &[String],
     input: &str,
     sizes: &[usize],
     status: Status,
     output: &str,
 ) -> Result<bool, Fail> {
     for size in sizes {
-        let called = call(rt, words, input.as_bytes(), *size)?;
-        if called.status != status || called.written.as_slice() != output.as_bytes() {
+        let cut = Cut {
+            piece: *size,
+            ..AT_ONCE
+        };
+        if !tells(rt, words, input.as_bytes(), cut, status, output)? {
             return Ok(false);
         }
     }
@@ -213,8 +222,9 @@ fn agree(
     words: &[&'static str],
     rows: &[(&str, Status, &str)],
 ) -> Result<bool, Fail> {
+    let words = words_of(rt.alloc(), words)?;
     for (input, status, output) in rows {
-        if !tells_in(rt, words, *input, &SIZES, *status, *output)? {
+        if !tells_in(rt, &words, *input, &SIZES, *status, *output)? {
             return Ok(false);
         }
     }
@@ -230,19 +240,6 @@ fn feeds_are_paused(rt: HostRuntime) -> Result<(), Fail> {
 #[test]
 fn snapshots_are_resumed(rt: HostRuntime) -> Result<(), Fail> {
     assert!(rt; agree(&rt, &["resume"], &RESUMES)?);
-    Ok(())
-}
-
-/// The snapshot of a feed that has as many lines as one may have, none of which is a job.
-const FULL: &str = "snapshot 1 1 1 4000000 5 0\nresume\nend\n";
-
-#[test]
-fn a_full_feed_has_no_line_more(rt: HostRuntime) -> Result<(), Fail> {
-    let called = call(&rt, &["resume"], FULL.as_bytes(), 4096)?;
-    assert!(rt;
-        called.status == Status::Refused
-            && called.written.as_slice() == b"refused 4000001 lines\n".as_slice()
-    );
     Ok(())
 }
 
@@ -303,32 +300,21 @@ const FAILS: [(&str, &str, Failing, Status, &str); 9] = [
     ("resume", "resume\n", (4096, 0, 1), Status::WriteFault, ""),
 ];
 
-/// Whether the word ends so over an input at a port that fails so, and writes this.
-fn fails(
-    rt: &HostRuntime,
-    word: &'static str,
-    input: &str,
-    failing: Failing,
-    status: Status,
-    text: &str,
-) -> Result<bool, Fail> {
-    let alloc = rt.alloc();
-    let (piece, read, write) = failing;
-    let words = words_of(alloc, &[word])?;
-    let script = pieces(alloc, input.as_bytes(), piece, 0)?;
-    let fail_reads = vec![in alloc; read]?;
-    let fail_writes = vec![in alloc; write]?;
-    let mut port = MemoryPort::new(alloc, script, fail_reads, fail_writes, 4096, 4096)?;
-    Ok(answer(rt, &words, &mut port) == status && port.written() == text.as_bytes())
-}
-
 /// Whether each row's word does what the row says.
 fn all_fail(
     rt: &HostRuntime,
     rows: &[(&'static str, &'static str, Failing, Status, &'static str)],
 ) -> Result<bool, Fail> {
     for (word, input, failing, status, text) in rows {
-        if !fails(rt, *word, *input, *failing, *status, *text)? {
+        let words = words_of(rt.alloc(), &[*word])?;
+        let (piece, read, write) = *failing;
+        let cut = Cut {
+            piece,
+            read,
+            write,
+            ..AT_ONCE
+        };
+        if !tells(rt, &words, input.as_bytes(), cut, *status, *text)? {
             return Ok(false);
         }
     }

@@ -1,8 +1,7 @@
 //! The word `unroll`: rows of task texts, and what is unrolled is served.
 use crate::calls;
-use crate::calls::{pieces, words_of};
+use crate::calls::{AT_ONCE, Cut, port, tells, words_of};
 use dover_port::{Calls, MemoryPort, Status};
-use std::alloc::Global;
 use std::test::Fail;
 
 /// The tick up to which jobs are released, a task text, how `unroll` ends, and what it writes.
@@ -161,24 +160,6 @@ fn answer(rt: &HostRuntime, texts: &[&'static str], port: &mut MemoryPort) -> Re
     Ok(calls::answer(rt, &words, port))
 }
 
-/// A port over the bytes in pieces of so many. The read and the write of these numbers fail, from 1 on.
-fn port(
-    alloc: Global,
-    bytes: &[u8],
-    size: usize,
-    read: u32,
-    write: u32,
-) -> Result<MemoryPort, Fail> {
-    Ok(MemoryPort::new(
-        alloc,
-        pieces(alloc, bytes, size, 0)?,
-        vec![in alloc; read]?,
-        vec![in alloc; write]?,
-        4096,
-        4096,
-    )?)
-}
-
 /// How many bytes a read gives.
 const SIZES: [usize; 3] = [4096, 1, 7];
 
@@ -191,10 +172,13 @@ fn tells_in(
     status: Status,
     written: &str,
 ) -> Result<bool, Fail> {
+    let words = words_of(rt.alloc(), &["unroll", until])?;
     for size in sizes {
-        let mut port = port(rt.alloc(), text.as_bytes(), *size, 0, 0)?;
-        let ended = answer(rt, &["unroll", until], &mut port)?;
-        if ended != status || port.written() != written.as_bytes() {
+        let cut = Cut {
+            piece: *size,
+            ..AT_ONCE
+        };
+        if !tells(rt, &words, text.as_bytes(), cut, status, written)? {
             return Ok(false);
         }
     }
@@ -228,9 +212,9 @@ fn is_served(
     status: Status,
 ) -> Result<bool, Fail> {
     let alloc = rt.alloc();
-    let mut tasks = port(alloc, text.as_bytes(), 4096, 0, 0)?;
+    let mut tasks = port(alloc, text.as_bytes(), AT_ONCE)?;
     let ended = answer(rt, &["unroll", until], &mut tasks)?;
-    let mut feed = port(alloc, tasks.written(), 4096, 0, 0)?;
+    let mut feed = port(alloc, tasks.written(), AT_ONCE)?;
     let served = answer(rt, &["serve"], &mut feed)?;
     Ok(ended == status && (served == Status::Done) == (status == Status::Done))
 }
@@ -256,7 +240,13 @@ fn what_is_unrolled_is_served(rt: HostRuntime) -> Result<(), Fail> {
 
 /// Whether the call over a port that fails so ends with this status, writes nothing, and makes no call behind it.
 fn is_last(rt: &HostRuntime, read: u32, write: u32, status: Status) -> Result<bool, Fail> {
-    let mut port = port(rt.alloc(), CAMERA.as_bytes(), 16, read, write)?;
+    let cut = Cut {
+        piece: 16,
+        read,
+        write,
+        ..AT_ONCE
+    };
+    let mut port = port(rt.alloc(), CAMERA.as_bytes(), cut)?;
     let ended = answer(rt, &["unroll", "130"], &mut port)?;
     Ok(ended == status && port.written().is_empty() && port.calls() == Calls::LastFailed)
 }
@@ -270,7 +260,7 @@ fn calls_that_fail(rt: HostRuntime) -> Result<(), Fail> {
 /// Whether each of these words is refused, with nothing read.
 fn are_unread(rt: &HostRuntime, words: &[&'static str]) -> Result<bool, Fail> {
     for until in words {
-        let mut port = port(rt.alloc(), CAMERA.as_bytes(), 4096, 0, 0)?;
+        let mut port = port(rt.alloc(), CAMERA.as_bytes(), AT_ONCE)?;
         let ended = answer(rt, &["unroll", *until], &mut port)?;
         if ended != Status::Usage || !port.taken().is_empty() {
             return Ok(false);

@@ -1,5 +1,5 @@
 //! `dover` over ports in memory: worked feeds and texts in several cuts, failing calls, wrong words.
-use crate::calls::{answer, call, pieces, words_of};
+use crate::calls::{AT_ONCE, Cut, answer, call, pieces, port, tells, words_of};
 use crate::wrong_texts::{ENDS, HEADERS, JOBS, LINES, REFUSED, STARTS};
 use dover_port::{MemoryPort, Status};
 use std::alloc::Global;
@@ -414,21 +414,6 @@ const BAITING: &str =
 /// How a text is cut: pieces of so many bytes, or with a seed above 0 of as many as it draws.
 const CUTS: [(usize, usize); 4] = [(4096, 0), (1, 0), (7, 3), (13, 11)];
 
-/// Whether the words end so over an input in such pieces, and write this.
-fn tells(
-    rt: &HostRuntime,
-    words: &[String],
-    input: &str,
-    cut: (usize, usize),
-    status: Status,
-    text: &str,
-) -> Result<bool, Fail> {
-    let alloc = rt.alloc();
-    let script = pieces(alloc, input.as_bytes(), cut.0, cut.1)?;
-    let mut port = MemoryPort::new(alloc, script, Vec::new(alloc), Vec::new(alloc), 4096, 4096)?;
-    Ok(answer(rt, words, &mut port) == status && port.written() == text.as_bytes())
-}
-
 /// Whether the words end so over an input in each of these cuts, and write this.
 fn tells_in(
     rt: &HostRuntime,
@@ -438,8 +423,13 @@ fn tells_in(
     status: Status,
     text: &str,
 ) -> Result<bool, Fail> {
-    for cut in cuts {
-        if !tells(rt, words, input, *cut, status, text)? {
+    for (piece, seed) in cuts {
+        let cut = Cut {
+            piece: *piece,
+            seed: *seed,
+            ..AT_ONCE
+        };
+        if !tells(rt, words, input.as_bytes(), cut, status, text)? {
             return Ok(false);
         }
     }
@@ -527,29 +517,19 @@ const FAILS: [(&str, Failing, Status, &str); 7] = [
     (TICKS, (25, 2, 0, 4096), Status::ReadFault, COMPLETED),
 ];
 
-/// Whether the words end so over a feed at a port that fails so, and write this.
-fn fails(
-    rt: &HostRuntime,
-    words: &[String],
-    feed: &str,
-    failing: Failing,
-    status: Status,
-    text: &str,
-) -> Result<bool, Fail> {
-    let alloc = rt.alloc();
-    let (piece, read, write, most) = failing;
-    let script = pieces(alloc, feed.as_bytes(), piece, 0)?;
-    let fail_reads = vec![in alloc; read]?;
-    let fail_writes = vec![in alloc; write]?;
-    let mut port = MemoryPort::new(alloc, script, fail_reads, fail_writes, most.max(1), 4096)?;
-    Ok(answer(rt, words, &mut port) == status && port.written() == text.as_bytes())
-}
-
 /// Whether `serve` does what each row says.
 fn all_fail(rt: &HostRuntime, rows: &[(&str, Failing, Status, &str)]) -> Result<bool, Fail> {
     let words = words_of(rt.alloc(), &["serve"])?;
     for (feed, failing, status, text) in rows {
-        if !fails(rt, &words, *feed, *failing, *status, *text)? {
+        let (piece, read, write, most) = *failing;
+        let cut = Cut {
+            piece,
+            seed: 0,
+            read,
+            write,
+            most,
+        };
+        if !tells(rt, &words, feed.as_bytes(), cut, *status, *text)? {
             return Ok(false);
         }
     }
@@ -569,7 +549,11 @@ fn are_called(
 ) -> Result<bool, Fail> {
     for (texts, input, status, output) in rows {
         let words = words_of(rt.alloc(), *texts)?;
-        if !tells(rt, &words, *input, (7, 0), *status, *output)? {
+        let cut = Cut {
+            piece: 7,
+            ..AT_ONCE
+        };
+        if !tells(rt, &words, input.as_bytes(), cut, *status, *output)? {
             return Ok(false);
         }
     }
@@ -615,10 +599,8 @@ const WRONG: [&[&str]; 16] = [
 
 /// Whether the words are refused, with nothing read and nothing written.
 fn is_untouched(rt: &HostRuntime, texts: &[&'static str]) -> Result<bool, Fail> {
-    let alloc = rt.alloc();
-    let words = words_of(alloc, texts)?;
-    let script = pieces(alloc, b"k 1 1\nend\n", 4096, 0)?;
-    let mut port = MemoryPort::new(alloc, script, Vec::new(alloc), Vec::new(alloc), 4096, 4096)?;
+    let words = words_of(rt.alloc(), texts)?;
+    let mut port = port(rt.alloc(), b"k 1 1\nend\n", AT_ONCE)?;
     let answer = answer(rt, &words, &mut port);
     Ok(answer == Status::Usage && port.written().is_empty() && port.taken().is_empty())
 }
