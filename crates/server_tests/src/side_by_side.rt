@@ -1,8 +1,10 @@
 //! Both servers side by side: each prints the same of the worked lists, whatever it keeps of them.
-ghost use Rattle.std.specs.Prelude.{◌≡◌, ◌<◌, List, true, IfOk};
+ghost use Rattle.std.specs.Prelude.{◌≡◌, ◌<◌, List, [], true, IfOk};
 ghost use Rattle.dover_model.specs.declared.events.Event.{Event};
 ghost use Rattle.dover_model.specs.Instance.{Instance, IsValid};
+ghost use Rattle.dispatcher.specs.Dispatch.{no_jobs};
 ghost use Rattle.dover_server.specs.declared.horizon.Horizon.{Horizon};
+ghost use Rattle.dover_server.specs.declared.horizon.Horizon.TheVariants.{Mark};
 ghost use Rattle.dover_server.specs.Service.{MayFollow};
 
 use crate::served_runs::{WORKED, Worked, assert_valid, jobs, put_line};
@@ -43,6 +45,32 @@ fn settle<D: Dispatcher, L: Ledger>(
     Ok(false)
 }
 
+// Feeds a valid list to a server with no job, and appends what it prints.
+fn feed<D: Dispatcher, L: Ledger>(
+    server: &mut D,
+    version: Version,
+    k: Ratio,
+    jobs: &[Job],
+    steps: &mut Steps<L>,
+    text: &mut String,
+) -> Result<(), Memory>
+    requires valid { IsValid (record { rules = record { ratio = k; version = version }; jobs = jobs.now }) }
+    requires serves { D.serves server.old (no_jobs version k) (Mark 0) [] }
+{
+    D::laws();
+    for job in jobs {
+        server.make_room()?;
+        if !settle(server, Horizon::Mark(job.release()), steps, text)? {
+            return Ok(());
+        }
+        if let Some(e) = server.admit(*job, steps) {
+            put_line(text, &e)?;
+        }
+    }
+    let _ = settle(server, Horizon::End, steps, text)?;
+    Ok(())
+}
+
 // What a server prints of a valid list.
 fn printed<D: Dispatcher, L: Ledger>(
     alloc: Global,
@@ -57,25 +85,10 @@ fn printed<D: Dispatcher, L: Ledger>(
     requires parts { blank.parts ≡ L.parts }
     requires some { 0 < blank.parts }
 {
-    D::laws();
     let mut steps: Steps<L> = Steps::new(memory, blank);
     let mut server = D::new(alloc, version, k)?;
     let mut text = String::new(alloc);
-    for job in jobs {
-        server.make_room()?;
-        if !settle(
-            &mut server,
-            Horizon::Mark(job.release()),
-            &mut steps,
-            &mut text,
-        )? {
-            return Ok(text);
-        }
-        if let Some(e) = server.admit(*job, &mut steps) {
-            put_line(&mut text, &e)?;
-        }
-    }
-    let _ = settle(&mut server, Horizon::End, &mut steps, &mut text)?;
+    feed(&mut server, version, k, jobs, &mut steps, &mut text)?;
     Ok(text)
 }
 

@@ -3,7 +3,7 @@ use Rattle.dover_model.specs.Instance.{with_jobs}
 use Rattle.dover_server.specs.declared.horizon.Horizon.TheVariants.{Mark}
 use Rattle.dispatcher.specs.Dispatch.{due_by}
 use Rattle.server_tests.proofs.Feeding.{CanFeed, from_here, can_admit, can_further, serves_on}
-use Rattle.server_tests.proofs.side_by_side.printed.Goals as goal
+use Rattle.server_tests.proofs.side_by_side.feed.Goals as goal
 
 pub admit-requires-clause-valid : goal.admit-requires-clause-valid
 admit-requires-clause-valid g c =
