@@ -145,15 +145,10 @@ module _ (t : Talk) (steady : IsSteady t) where
           };
         }
 
-  module _ (ready : Ready) (ended : Bool) (before : List Move) (a b : Option (List Move))
-      (read : Since a b (λ ms. IsRead t ready ended (before ++ ms))) (c : Option (List Move))
+  module _ (ready : Ready) (ended : Bool) (a b : Option (List Move))
+      (read : Since a b (IsRead t ready ended)) (c : Option (List Move))
       (q : List ℕ) (costs : Costs) (spent : (x : List ℕ) → ready x → costs x)
       (behind : (x y : List ℕ) → costs x → costs (x ++ y)) where
-    -- moves behind those before
-    behind_before : (T : List Move → Type 0) (xs ys : List Move) → T ((before ++ xs) ++ ys)
-        → T (before ++ (xs ++ ys))
-    behind_before T xs ys it = subst T (append_assoc before xs ys) it
-
     -- what the meter shows is allowed for all bytes got
     all_spent : (xs : List Move) (g : IsRead t ready ended xs) (puts : List Move) → ArePuts puts
         → costs (ins (xs ++ puts))
@@ -162,29 +157,29 @@ module _ (t : Talk) (steady : IsSteady t) where
 
     -- there was no memory
     pub lacking : ((x : List ℕ) → ready x → IsOver t x ended → t.lacks x ended × Passes b c [] q [])
-        → Since a c (λ ms. Talks t Memory (before ++ ms) × costs (ins (before ++ ms)))
+        → Since a c (λ ms. Talks t Memory ms × costs (ins ms))
     lacking answers = since_then_at a b c _
-        (λ xs puts. (g : IsRead t ready ended (before ++ xs)) × ArePuts puts × t.lacks g.front ended
+        (λ xs puts. (g : IsRead t ready ended xs) × ArePuts puts × t.lacks g.front ended
         × (outs puts ≡ [])) _ read
         (λ xs g. let it = answers g.front g.stands g.over in
         since_weaker b c _ _ it.1 (λ puts made. (g, made.0, it.0, nil_front (outs puts) q made.1)))
-        (λ xs puts g made. behind_before (λ ms. Talks t Memory ms × costs (ins ms)) xs puts (
-          on_lacking ready ended (before ++ xs) made.0 puts made.1 made.2 made.3,
-          all_spent (before ++ xs) made.0 puts made.1,
+        (λ xs puts g made. (
+          on_lacking ready ended xs made.0 puts made.1 made.2 made.3,
+          all_spent xs made.0 puts made.1,
         ))
 
     -- the answer couldn't be put
     pub cut : ((x : List ℕ) → ready x → IsOver t x ended
         → (status : Status) × (text : List ℕ) × t.answer x ended status (t.due x ++ text) × CutsShort b c [] text)
-        → Since a c (λ ms. Talks t WriteFault (before ++ ms) × costs (ins (before ++ ms)))
+        → Since a c (λ ms. Talks t WriteFault ms × costs (ins ms))
     cut answers = since_then_at a b c _
-        (λ xs puts. (g : IsRead t ready ended (before ++ xs)) × ArePuts puts × ((status : Status) × (text : List ℕ)
+        (λ xs puts. (g : IsRead t ready ended xs) × ArePuts puts × ((status : Status) × (text : List ℕ)
         × t.answer g.front ended status (t.due g.front ++ text) × IsProperPrefix (outs puts) text)) _ read
         (λ xs g. let it = answers g.front g.stands g.over in since_weaker b c _ _ it.3
         (λ puts made. (g, made.0, (it.0, it.1, it.2, made.1))))
-        (λ xs puts g made. behind_before (λ ms. Talks t WriteFault ms × costs (ins ms)) xs puts (
-          on_cut ready ended (before ++ xs) made.0 puts made.1 made.2.0 made.2.1 made.2.2 made.2.3,
-          all_spent (before ++ xs) made.0 puts made.1,
+        (λ xs puts g made. (
+          on_cut ready ended xs made.0 puts made.1 made.2.0 made.2.1 made.2.2 made.2.3,
+          all_spent xs made.0 puts made.1,
         ))
 
     module _ (status : Status) (answers : (x : List ℕ) → ready x → IsOver t x ended
@@ -192,29 +187,29 @@ module _ (t : Talk) (steady : IsSteady t) where
         (d : Option (List Move)) where
       -- the buffer couldn't be emptied
       pub unflushed : CutsShort c d q []
-          → Since a d (λ ms. Talks t WriteFault (before ++ ms) × costs (ins (before ++ ms)))
+          → Since a d (λ ms. Talks t WriteFault ms × costs (ins ms))
       unflushed short = since_then_at a b d _
-          (λ xs puts. (g : IsRead t ready ended (before ++ xs)) × ArePuts puts × ((text : List ℕ)
+          (λ xs puts. (g : IsRead t ready ended xs) × ArePuts puts × ((text : List ℕ)
           × t.answer g.front ended status (t.due g.front ++ text) × IsProperPrefix (outs puts) text)) _ read
           (λ xs g. let it = answers g.front g.stands g.over in
           since_weaker b d _ _ (passes_then_cut b c d [] q [] it.1.0 [] it.1.2 short)
           (λ puts made. (g, made.0, (it.1.0, it.1.1, subst (IsProperPrefix (outs puts)) (append-nil it.1.0) made.1))))
-          (λ xs puts g made. behind_before (λ ms. Talks t WriteFault ms × costs (ins ms)) xs puts (
-            on_cut ready ended (before ++ xs) made.0 puts made.1 status made.2.0 made.2.1 made.2.2,
-            all_spent (before ++ xs) made.0 puts made.1,
+          (λ xs puts g made. (
+            on_cut ready ended xs made.0 puts made.1 status made.2.0 made.2.1 made.2.2,
+            all_spent xs made.0 puts made.1,
           ))
 
       -- the answer was put
-      pub put : Passes c d q [] [] → Since a d (λ ms. Talks t status (before ++ ms) × costs (ins (before ++ ms)))
+      pub put : Passes c d q [] [] → Since a d (λ ms. Talks t status ms × costs (ins ms))
       put flushed = since_then_at a b d _
-          (λ xs puts. (g : IsRead t ready ended (before ++ xs)) × ArePuts puts × IsFinal status × ((text : List ℕ)
+          (λ xs puts. (g : IsRead t ready ended xs) × ArePuts puts × IsFinal status × ((text : List ℕ)
           × t.answer g.front ended status (t.due g.front ++ text) × (outs puts ≡ text))) _ read
           (λ xs g. let it = answers g.front g.stands g.over in
           since_weaker b d _ _ (passes_then b c d [] q [] it.1.0 [] it.1.2 flushed)
           (λ puts made. (g, made.0, it.0, (it.1.0, it.1.1, sym (append-nil (outs puts)) ∙ made.1 ∙ append-nil it.1.0))))
-          (λ xs puts g made. behind_before (λ ms. Talks t status ms × costs (ins ms)) xs puts (
-            on_answer ready ended (before ++ xs) made.0 puts made.1 status made.3.0 made.2 made.3.1 made.3.2,
-            all_spent (before ++ xs) made.0 puts made.1,
+          (λ xs puts g made. (
+            on_answer ready ended xs made.0 puts made.1 status made.3.0 made.2 made.3.1 made.3.2,
+            all_spent xs made.0 puts made.1,
           ))
 
 -- an answer leaves both counts

@@ -1,8 +1,6 @@
 -- How the record of a reading grows, read by read, and how it ends.
 use Rattle.std.proofs.Common.{◌≡◌, ◌<◌, ◌≤◌, ◌+◌, ℕ, List, ◌∷◌, ◌++◌, [], length, take, refl, sym, ap, ◌∙◌, subst}
 use Rattle.std.proofs.Common.{Option, arith}
-use Rattle.std.specs.Prelude.{◌==◌}
-use Rattle.std.proofs.lemmas.Bool.{eqb-true}
 use Rattle.std.proofs.Common.{Bool, true, false, inl, append_assoc, length-append}
 use Rattle.std.proofs.lemmas.List.{append-nil, length-take}
 use Rattle.dover_port.specs.Moves.{Move, Since, ArePuts, ins, outs, has_ended, EachRead, Adds, read_move, Passes}
@@ -14,7 +12,7 @@ use Rattle.dover_port.proofs.Made.{has_ended-append, has_ended-puts}
 use Rattle.dover_port.proofs.Made.{EachReadFrom-append, EachReadFrom-puts}
 use Rattle.dover_port.proofs.Through.{passes_then, passes_then_cut}
 use Rattle.dialogue.specs.Talk.{Talk, IsSteady, MayRead, Talks}
-use Rattle.dialogue.specs.Turns.{Ready, Costs, Hears, IsFrontOfDue, GoesOn, IsRead, read_before}
+use Rattle.dialogue.specs.Turns.{Ready, Costs, Hears, IsFrontOfDue, GoesOn, IsRead}
 use Rattle.dialogue.proofs.Hearing.{front_due}
 
 -- nothing was read
@@ -164,75 +162,37 @@ counted t now x bytes c d p q more h goes n few some =
 -- ---- the same of a port
 
 -- What is said of a turn that goes on from allowed moves, and in which the bytes were got and then some puts made, is
--- said of the port's moves from a on, behind those before; the puts are those from c on.
-abbrev pub WithTurn : Talk → Ready → (a c : Option (List Move)) → (before : List Move) → List ℕ → Type 1
-WithTurn t ready a c before bytes = (d : Option (List Move)) (U : List ℕ → List Move → Type 0) (T : List Move → Type 0)
+-- said of the port's moves from a on; the puts are those from c on.
+abbrev pub WithTurn : Talk → Ready → (a c : Option (List Move)) → List ℕ → Type 1
+WithTurn t ready a c bytes = (d : Option (List Move)) (U : List ℕ → List Move → Type 0) (T : List Move → Type 0)
     → ((x : List ℕ) → ready x → t.goes_on x ≡ true → Since c d (U x))
     → ((xs : List Move) → GoesOn t ready xs → (puts : List Move) → U (ins xs) puts → T (xs ++ Got bytes ∷ puts))
-    → Since a d (λ ms. T (before ++ ms))
+    → Since a d T
 
--- a first piece may be empty
-pub no_piece : (bytes : List ℕ) (empty : Bool) → empty ≡ (length bytes == 0) → empty ≡ true → read_before bytes ≡ []
-no_piece [] empty is yes_empty = refl
-no_piece (b ∷ bytes) empty is yes_empty = absurd (omega (arith, eqb-true _ _ (sym is ∙ yes_empty)))
-
-pub some_piece : (bytes : List ℕ) (empty : Bool) → empty ≡ (length bytes == 0) → empty ≡ false → 0 < length bytes
-some_piece [] empty is not_empty = absurd (let e : true ≡ false = sym is ∙ not_empty in cc)
-some_piece (b ∷ bytes) empty is not_empty = omega arith
-
--- the moves of a first piece
-got_before : (bytes : List ℕ) → 0 < length bytes → read_before bytes ≡ Got bytes ∷ []
-got_before [] some = absurd (omega arith)
-got_before (b ∷ bytes) some = refl
-
--- a piece that was read before
-pub first_turn : (t : Talk) → IsSteady t → (ready : Ready) → ready [] → (bytes : List ℕ) → 0 < length bytes
-    → (c : Option (List Move)) → WithTurn t ready c c (read_before bytes) bytes
-first_turn t steady ready stands bytes some c d U T then next =
-    since_weaker c d _ _ (then [] stands steady.opens) (λ puts u.
-    subst (λ first. T (first ++ puts)) (sym (got_before bytes some)) (next [] (starts t steady ready stands) puts u))
-
-module _ (t : Talk) (steady : IsSteady t) (ready : Ready) (before : List Move) (a b : Option (List Move))
-    (run : Since a b (λ ms. GoesOn t ready (before ++ ms))) where
-  -- moves behind those before
-  behind_before : (T : List Move → Type 0) (xs ys : List Move) → T ((before ++ xs) ++ ys) → T (before ++ (xs ++ ys))
-  behind_before T xs ys it = subst T (append_assoc before xs ys) it
-
+module _ (t : Talk) (steady : IsSteady t) (ready : Ready) (a b : Option (List Move))
+    (run : Since a b (GoesOn t ready)) where
   -- a read failed
   pub unread : (costs : Costs) → ((x : List ℕ) → ready x → costs x)
-      → Since a b (λ ms. Talks t ReadFault (before ++ ms) × costs (ins (before ++ ms)))
-  unread costs spent = since_weaker a b _ _ run
-      (λ xs g. (on_unread t steady ready (before ++ xs) g, spent (ins (before ++ xs)) g.stands))
+      → Since a b (λ ms. Talks t ReadFault ms × costs (ins ms))
+  unread costs spent = since_weaker a b _ _ run (λ xs g. (on_unread t steady ready xs g, spent (ins xs) g.stands))
 
   module _ (c : Option (List Move)) where
     -- the input has ended
-    pub ended : Since b c (λ moves. moves ≡ Ended ∷ []) → Since a c (λ ms. IsRead t ready true (before ++ ms))
-    ended end = since_then a b c _ _ _ run end
-        (λ xs ys g is. behind_before (IsRead t ready true) xs ys
-        (subst (λ ms. IsRead t ready true ((before ++ xs) ++ ms)) (sym is) (on_end t steady ready (before ++ xs) g)))
+    pub ended : Since b c (λ moves. moves ≡ Ended ∷ []) → Since a c (IsRead t ready true)
+    ended end = since_then a b c _ _ _ run end (λ xs ys g is.
+        subst (λ ms. IsRead t ready true (xs ++ ms)) (sym is) (on_end t steady ready xs g))
 
     -- a read, and what was put for it
-    pub read_turn : (bytes : List ℕ) → 0 < length bytes → Adds b c (read_move bytes)
-        → WithTurn t ready a c before bytes
+    pub read_turn : (bytes : List ℕ) → 0 < length bytes → Adds b c (read_move bytes) → WithTurn t ready a c bytes
     read_turn bytes some moved d U T then next =
-        since_then_at a b d (λ ms. GoesOn t ready (before ++ ms))
-        (λ xs ms. (puts : List Move) × (ms ≡ Got bytes ∷ puts) × U (ins (before ++ xs)) puts)
-        (λ ms. T (before ++ ms)) run
-        (λ xs g. since_then b c d _ _ _ moved (then (ins (before ++ xs)) g.stands g.goes_on)
+        since_then_at a b d (GoesOn t ready)
+        (λ xs ms. (puts : List Move) × (ms ≡ Got bytes ∷ puts) × U (ins xs) puts) T run
+        (λ xs g. since_then b c d _ _ _ moved (then (ins xs) g.stands g.goes_on)
         (λ ys zs is u. (zs, ap (λ l. l ++ zs) (is ∙ ap (λ m. m ∷ []) (got_some bytes some)), u)))
-        (λ xs ys g made. behind_before T xs ys
-        (subst (λ ms. T ((before ++ xs) ++ ms)) (sym made.1) (next (before ++ xs) g made.0 made.2)))
+        (λ xs ys g made. subst (λ ms. T (xs ++ ms)) (sym made.1) (next xs g made.0 made.2))
 
-    -- more was read, behind a part that goes on
-    pub then_more : (T : List Move → Type 0)
-        → ((first : List Move) → GoesOn t ready first → Since b c (λ ms. T (first ++ ms)))
-        → Since a c (λ ms. T (before ++ ms))
-    then_more T next = since_then_at a b c (λ ms. GoesOn t ready (before ++ ms))
-        (λ xs ms. T ((before ++ xs) ++ ms)) (λ ms. T (before ++ ms)) run
-        (λ xs g. next (before ++ xs) g) (λ xs ys g made. behind_before T xs ys made)
-
-module _ (t : Talk) (steady : IsSteady t) (ready : Ready) (a c : Option (List Move)) (before : List Move)
-    (bytes : List ℕ) (turn : WithTurn t ready a c before bytes) where
+module _ (t : Talk) (steady : IsSteady t) (ready : Ready) (a c : Option (List Move))
+    (bytes : List ℕ) (turn : WithTurn t ready a c bytes) where
   module _ (costs : Costs) where
     -- some of what is due was put
     abbrev pub IsShortTurn : List ℕ → List Move → Type 0
@@ -252,7 +212,7 @@ module _ (t : Talk) (steady : IsSteady t) (ready : Ready) (a c : Option (List Mo
     pub no_memory : ((x : List ℕ) → ready x → t.goes_on x ≡ true
         → t.lacks (x ++ bytes) false × costs (x ++ bytes)
         × ((text : List ℕ) × IsFrontOfDue t x bytes text × Passes c d [] q text))
-        → Since a d (λ ms. Talks t Memory (before ++ ms) × costs (ins (before ++ ms)))
+        → Since a d (λ ms. Talks t Memory ms × costs (ins ms))
     no_memory hears = turn d
         (λ x puts. ArePuts puts × costs (x ++ bytes)
         × ((text : List ℕ) × IsFrontOfDue t x bytes text × (outs puts ++ q ≡ text) × t.lacks (x ++ bytes) false))
@@ -267,7 +227,7 @@ module _ (t : Talk) (steady : IsSteady t) (ready : Ready) (a c : Option (List Mo
     -- what is due couldn't be put
     pub unwritten : ((x : List ℕ) → ready x → t.goes_on x ≡ true
         → costs (x ++ bytes) × ((text : List ℕ) × IsFrontOfDue t x bytes text × CutsShort c d [] text))
-        → Since a d (λ ms. Talks t WriteFault (before ++ ms) × costs (ins (before ++ ms)))
+        → Since a d (λ ms. Talks t WriteFault ms × costs (ins ms))
     unwritten hears = turn d (λ x puts. IsShortTurn costs x puts)
         (λ ms. Talks t WriteFault ms × costs (ins ms))
         (λ x s o. let h = hears x s o in since_weaker c d _ _ h.1.2 (λ puts it. (it.0, h.0, (h.1.0, h.1.1, it.1))))
@@ -278,7 +238,7 @@ module _ (t : Talk) (steady : IsSteady t) (ready : Ready) (a c : Option (List Mo
       -- the buffer couldn't be emptied
       pub unflushed : ((x : List ℕ) → now x → costs x) → ((x y : List ℕ) → costs x → costs (x ++ y))
           → CutsShort d e q []
-          → Since a e (λ ms. Talks t WriteFault (before ++ ms) × costs (ins (before ++ ms)))
+          → Since a e (λ ms. Talks t WriteFault ms × costs (ins ms))
       unflushed spent behind cut =
           turn e (λ x puts. IsShortTurn costs x puts) (λ ms. Talks t WriteFault ms × costs (ins ms))
           (λ x s o. let h = hears x s o in since_weaker c e _ _ (passes_then_cut c d e [] q [] h.text [] h.puts cut)
@@ -303,14 +263,14 @@ module _ (t : Talk) (steady : IsSteady t) (ready : Ready) (a c : Option (List Mo
             (λ puts it. (h, it.0, sym (append-nil (outs puts)) ∙ it.1 ∙ append-nil h.text))
 
         -- the talk goes on
-        pub goes_on : more ≡ true → Since a e (λ ms. GoesOn t now (before ++ ms))
+        pub goes_on : more ≡ true → Since a e (GoesOn t now)
         goes_on goes = turn e
             (λ x puts. (h : Hears t now x bytes c d [] q more) × ArePuts puts × (outs puts ≡ h.text))
             (GoesOn t now) flushes
             (λ xs g puts u. on_more t steady ready xs g bytes puts u.1 now more c d [] q u.0 u.2 goes)
 
         -- the talk is over
-        pub over : more ≡ false → Since a e (λ ms. IsRead t now false (before ++ ms))
+        pub over : more ≡ false → Since a e (IsRead t now false)
         over is = turn e
             (λ x puts. (h : Hears t now x bytes c d [] q more) × ArePuts puts × (outs puts ≡ h.text))
             (IsRead t now false) flushes

@@ -6,7 +6,6 @@ use Rattle.dover_model.specs.WholeRun.{Begins}
 use Rattle.dover_port.specs.Causes.{Rose, StaysWell, FailsLast}
 use Rattle.dover_port.specs.declared.calls.Calls.{Calls}
 use Rattle.dover_port.specs.Moves.{Move, ins, outs, has_ended, EachRead, Passes, CutsShort}
-use Rattle.dover_port.specs.Moves.Move.{Got}
 use Rattle.dover_port.specs.declared.status.Status.{Status}
 use Rattle.dover_port.specs.declared.status.Status.TheVariants.{ReadFault, WriteFault, Memory}
 use Rattle.dialogue.specs.Talk.{Talk, IsOver, IsFinal, MayRead, Talks, CanLack}
@@ -110,11 +109,6 @@ pub record GoesOn (t : Talk) (ready : Ready) (moves : List Move) : Type 0 where
   pub goes_on : t.goes_on (ins moves) ≡ true
   pub text : outs moves ≡ t.due (ins moves)
   pub stands : ready (ins moves)
-
--- the moves of a call that begins with a piece that was read before, if it isn't empty
-abbrev pub read_before : List ℕ → List Move
-read_before [] = []
-read_before (byte ∷ bytes) = Got (byte ∷ bytes) ∷ []
 
 -- no more is to be read: the talker stands for what was got, or for a front of it that ends the talk, and what is due
 -- was put

@@ -6,4 +6,4 @@ mod talker;
 mod turns;
 
 pub use talker::{Stop, Talker};
-pub use turns::{converse, converse_on};
+pub use turns::converse;

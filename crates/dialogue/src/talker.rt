@@ -1,5 +1,5 @@
 //! What the reading loop asks of a word.
-ghost use Rattle.std.specs.Prelude.{◌≡◌, ◌⊎◌, ◌<◌, ◌^◌, ◌-◌, ◌++◌, ℕ, List, [], true, false, length};
+ghost use Rattle.std.specs.Prelude.{◌≡◌, ◌<◌, ◌^◌, ◌-◌, ◌++◌, ℕ, List, [], true, length};
 ghost use Rattle.dialogue.specs.Talk.{Talk, IsSteady, IsOver};
 ghost use Rattle.dialogue.specs.Turns.{TakesBy, GivesBy, AnswersBy, StopCause, StopsOn};
 

@@ -1,10 +1,9 @@
 //! The reading loop.
-ghost use Rattle.std.specs.Prelude.{◌≡◌, ◌++◌, ℕ, List, [], true, OnOk, OnErr, Ok};
+ghost use Rattle.std.specs.Prelude.{◌≡◌, ℕ, List, [], true, OnOk, OnErr, Ok};
 ghost use Rattle.dover_port.specs.Causes.{Causes, HasCause, StopsAtFailure, StopsWith};
-ghost use Rattle.dover_port.specs.Moves.{Move, Since, PutsThrough, ins};
+ghost use Rattle.dover_port.specs.Moves.{Since, PutsThrough, ins};
 ghost use Rattle.dialogue.specs.Talk.{Talks, CanEnd};
-ghost use Rattle.dialogue.specs.Turns.{joined, HearsBy, StopCause, StopsOn, GoesOn, ReadsBy, StandsBy, ReadCauses};
-ghost use Rattle.dialogue.specs.Turns.{ReadStops, read_before};
+ghost use Rattle.dialogue.specs.Turns.{joined, HearsBy, StopCause, StopsOn, ReadsBy, StandsBy, ReadCauses, ReadStops};
 
 use crate::{Stop, Talker};
 use dover_port::{Failed, Output, Port, Status};
@@ -93,19 +92,18 @@ fn hear<P: Port, T: Talker>(
     Ok(true)
 }
 
-/// Reads until no more is to be read, behind these moves.
-fn read_on<P: Port, T: Talker>(
+/// Reads until no more is to be read.
+fn read_all<P: Port, T: Talker>(
     port: &mut P,
     out: &mut Output,
     talker: &mut T,
     meter: &mut T::Meter,
 ) -> Reading
     requires empty { out.old ≡ [] }
-    requires ready { (a : T.about) × (x : List ℕ) × T.ready a talker.old meter.old x × ((T.talk a).goes_on x ≡ true) }
-    ensures reads { (a : T.about) (before : List Move) → GoesOn (T.talk a) (T.ready a talker.old meter.old) before →
-        Since (P.moves port.old) (P.moves port.new)
-        (λ moves. ReadsBy result (T.talk a) (T.ready a talker.new meter.new) (T.costs a meter.new) (before ++ moves)) }
-    ensures stands { (a : T.about) (x : List ℕ) → T.ready a talker.old meter.old x → (T.talk a).goes_on x ≡ true →
+    requires ready { (a : T.about) × T.ready a talker.old meter.old [] }
+    ensures reads { (a : T.about) → T.ready a talker.old meter.old [] → Since (P.moves port.old) (P.moves port.new)
+        (ReadsBy result (T.talk a) (T.ready a talker.new meter.new) (T.costs a meter.new)) }
+    ensures stands { (a : T.about) → T.ready a talker.old meter.old [] →
         StandsBy result (T.talk a) (T.ready a talker.new meter.new) out.new }
     ensures causes { ReadCauses result
         (P.read_faults port.old) (P.read_faults port.new) (P.write_faults port.old) (P.write_faults port.new) }
@@ -136,56 +134,22 @@ fn read_on<P: Port, T: Talker>(
     unreachable!()
 }
 
-/// Takes a piece that was read before, puts what is due for it, and then reads until no more is to be read.
-fn read_all<P: Port, T: Talker>(
-    port: &mut P,
-    out: &mut Output,
-    talker: &mut T,
-    meter: &mut T::Meter,
-    piece: &[u8],
-) -> Reading
-    requires empty { out.old ≡ [] }
-    requires ready { (a : T.about) × T.ready a talker.old meter.old [] }
-    ensures reads { (a : T.about) → T.ready a talker.old meter.old [] →
-        Since (P.moves port.old) (P.moves port.new) (λ moves. ReadsBy result (T.talk a)
-        (T.ready a talker.new meter.new) (T.costs a meter.new) (read_before piece.now ++ moves)) }
-    ensures stands { (a : T.about) → T.ready a talker.old meter.old [] →
-        StandsBy result (T.talk a) (T.ready a talker.new meter.new) out.new }
-    ensures causes { ReadCauses result
-        (P.read_faults port.old) (P.read_faults port.new) (P.write_faults port.old) (P.write_faults port.new) }
-    ensures stops { ReadStops result (P.calls port.old) (P.calls port.new) }
-{
-    T::laws();
-    if piece.is_empty() {
-        return read_on(port, out, talker, meter);
-    }
-    let more = match hear(port, out, talker, meter, piece) {
-        Ok(more) => more,
-        Err(Stop::NoMemory) => return Reading::NoMemory,
-        Err(Stop::Unwritten) => return Reading::Unwritten,
-    };
-    match out.flush(port) {
-        Ok(()) => {}
-        Err(_) => return Reading::Unwritten,
-    }
-    if !more {
-        return Reading::Over(false);
-    }
-    read_on(port, out, talker, meter)
-}
-
-/// Talks on where a first piece was read before, as if it had been read by this call; it may be empty. What is due for
-/// it is put before the first read.
-pub fn converse_on<P: Port, T: Talker>(
-    port: &mut P,
-    mut talker: T,
-    meter: &mut T::Meter,
-    piece: &[u8],
-) -> Status
+/// Reads while the talk goes on, and puts what is due for the bytes got before each read; at the end puts the answer.
+/// A read asks for up to 65,536 bytes, and what is due for them is put together. It takes no memory of its own.
+///
+/// The status is that of the answer, and else `ReadFault` or `WriteFault` where the port failed, which is then the last
+/// call, and `Memory` where the talker had none.
+///
+/// # Examples
+///
+/// ```
+/// let judging = Judging { judge: Judge::new(alloc, false)?, counts: PhantomData };
+/// let status = converse(port, judging, steps);
+/// ```
+pub fn converse<P: Port, T: Talker>(port: &mut P, mut talker: T, meter: &mut T::Meter) -> Status
     requires { (a : T.about) × T.ready a talker meter.old [] }
     ensures talks { (a : T.about) → T.ready a talker meter.old [] → Since (P.moves port.old) (P.moves port.new)
-        (λ moves. Talks (T.talk a) result (read_before piece.now ++ moves)
-        × T.costs a meter.new (ins (read_before piece.now ++ moves))) }
+        (λ moves. Talks (T.talk a) result moves × T.costs a meter.new (ins moves)) }
     // Whatever the port tells.
     ensures answer { (a : T.about) → T.ready a talker meter.old [] → CanEnd (T.talk a) result }
     ensures causes { Causes result
@@ -194,7 +158,7 @@ pub fn converse_on<P: Port, T: Talker>(
 {
     T::laws();
     let mut out = Output::new();
-    let ended = match read_all(port, &mut out, &mut talker, meter, piece) {
+    let ended = match read_all(port, &mut out, &mut talker, meter) {
         Reading::Over(ended) => ended,
         Reading::Unread => return Status::ReadFault,
         Reading::Unwritten => return Status::WriteFault,
@@ -209,29 +173,4 @@ pub fn converse_on<P: Port, T: Talker>(
         Ok(()) => status,
         Err(_) => Status::WriteFault,
     }
-}
-
-/// Reads while the talk goes on, and puts what is due for the bytes got before each read; at the end puts the answer.
-/// A read asks for up to 65,536 bytes, and what is due for them is put together. It takes no memory of its own.
-///
-/// The status is that of the answer, and else `ReadFault` or `WriteFault` where the port failed, which is then the last
-/// call, and `Memory` where the talker had none.
-///
-/// # Examples
-///
-/// ```
-/// let judging = Judging { judge: Judge::new(alloc, false)? };
-/// let status = converse(port, judging, &mut ());
-/// ```
-pub fn converse<P: Port, T: Talker>(port: &mut P, talker: T, meter: &mut T::Meter) -> Status
-    requires { (a : T.about) × T.ready a talker meter.old [] }
-    ensures talks { (a : T.about) → T.ready a talker meter.old [] → Since (P.moves port.old) (P.moves port.new)
-        (λ moves. Talks (T.talk a) result moves × T.costs a meter.new (ins moves)) }
-    // Whatever the port tells.
-    ensures answer { (a : T.about) → T.ready a talker meter.old [] → CanEnd (T.talk a) result }
-    ensures causes { Causes result
-        (P.read_faults port.old) (P.read_faults port.new) (P.write_faults port.old) (P.write_faults port.new) }
-    ensures stops { StopsWith result (P.calls port.old) (P.calls port.new) }
-{
-    converse_on(port, talker, meter, &[])
 }

@@ -1,91 +1,115 @@
-use Rattle.std.proofs.Common.{◌∙◌, [], false}
-use Rattle.dialogue.specs.Turns.{ReadsBy, read_before}
-use Rattle.dialogue.proofs.Records.{no_piece, some_piece}
-use Rattle.dialogue.proofs.Records.{starts, first_turn, no_memory, unwritten, unflushed, goes_on, over, then_more}
+use Rattle.std.proofs.Common.{[], false, refl, ◌∙◌, ◌++◌, arith}
+use Rattle.dover_port.proofs.Made.{since_none}
+use Rattle.dialogue.proofs.Records.{starts, some_front, no_input, unread, ended, no_memory, unwritten}
+use Rattle.dialogue.proofs.Records.{unflushed, goes_on, over, counted, read_turn}
 use Rattle.dialogue.proofs.turns.read_all.Goals as goal
 
-pub read_on-requires-clause-ready : goal.read_on-requires-clause-ready
-read_on-requires-clause-ready g c =
-    let a = c.requires.ready.0 in
-    (a, [], c.requires.ready.1, (c.laws.ensures.steady a).opens)
+pub loop-init : goal.loop-init
+loop-init g c = record {
+  moves = λ a s. since_none _ _ (starts _ (c.laws.ensures.steady a) _ s);
+  empty = c.requires.empty;
+  stands = λ a s. ([], omega arith, s, (c.laws.ensures.steady a).opens);
+  read_faults = refl;
+  write_faults = refl;
+  calls = λ well. well;
+}
 
-pub returns-then-is_empty-clause-reads : goal.returns-then-is_empty-clause-reads
-returns-then-is_empty-clause-reads g c = λ a s.
-    rw (no_piece c.args.piece.now _ c.is_empty.ensures c.if-is_empty.true)
-    (c.read_on.ensures.reads a [] (starts _ (c.laws.ensures.steady a) _ s))
+pub returns-in_default-clause-reads : goal.returns-in_default-clause-reads
+returns-in_default-clause-reads g c =
+    λ a s. unread _ (c.laws.ensures.steady a) _ _ _
+    (rw c.in_default.ensures.failed.0 (c.loop.invariant.moves a s))
+    (g.T.Talker.costs a c.loop.meter) (c.laws.ensures.rested a c.loop.talker c.loop.meter)
 
-pub returns-then-is_empty-clause-stands : goal.returns-then-is_empty-clause-stands
-returns-then-is_empty-clause-stands g c = λ a s. c.read_on.ensures.stands a [] s (c.laws.ensures.steady a).opens
+pub returns-then-count-eq0-clause-reads : goal.returns-then-count-eq0-clause-reads
+returns-then-count-eq0-clause-reads g c = λ a s.
+    ended _ (c.laws.ensures.steady a) _ _ _ (c.loop.invariant.moves a s) _
+    (no_input _ _ _ _ c.if-count-eq0.true c.in-Ok.ensures.moved)
+
+pub returns-then-count-eq0-clause-stands : goal.returns-then-count-eq0-clause-stands
+returns-then-count-eq0-clause-stands g c = λ a s.
+    let was = c.loop.invariant.stands a s in
+    (was.0, was.2, was.3, c.loop.invariant.empty)
 
 pub hear-requires : goal.hear-requires
-hear-requires g c = (c.requires.ready.0, [], c.requires.ready.1, (c.laws.ensures.steady c.requires.ready.0).opens)
+hear-requires g c =
+    let was = c.loop.invariant.stands c.requires.ready.0 c.requires.ready.1 in
+    (c.requires.ready.0, was.0, was.2, was.3)
 
 pub returns-in-Err-NoMemory-clause-reads : goal.returns-in-Err-NoMemory-clause-reads
 returns-in-Err-NoMemory-clause-reads g c =
-    λ a s. no_memory _ (c.laws.ensures.steady a) _ _ _ (read_before c.args.piece.now) _
-    (first_turn _ (c.laws.ensures.steady a) _ s c.args.piece.now
-    (some_piece _ _ c.is_empty.ensures c.if-is_empty.false) _) _ c.hear.new.out
+    λ a s. no_memory _ (c.laws.ensures.steady a) _ _ _ _
+    (read_turn _ (c.laws.ensures.steady a) _ _ _ (c.loop.invariant.moves a s) _ _
+    (some_front _ _ c.if-count-eq0.false c.in-Ok.ensures.bound) c.in-Ok.ensures.moved) _ c.hear.new.out
     (g.T.Talker.ready a c.hear.new.talker c.hear.new.meter) (g.T.Talker.costs a c.hear.new.meter)
-    (λ x t o. rw (c.in-Err-NoMemory.field-0-is, c.requires.empty) at (c.in-Err-NoMemory.ensures.hears a x t o))
-
-pub returns-in-Err-NoMemory-clause-stands : goal.returns-in-Err-NoMemory-clause-stands
-returns-in-Err-NoMemory-clause-stands g c = λ a s.
-    let lacks = rw c.in-Err-NoMemory.field-0-is at
-    (c.in-Err-NoMemory.ensures.hears a [] s (c.laws.ensures.steady a).opens) in
-    record { bytes = _; ended = false; lacking = lacks.0 }
+    (λ x t o. rw (c.in-Err-NoMemory.field-0-is, c.loop.invariant.empty) at (c.in-Err-NoMemory.ensures.hears a x t o))
 
 pub returns-in-Err-Unwritten-clause-reads : goal.returns-in-Err-Unwritten-clause-reads
 returns-in-Err-Unwritten-clause-reads g c =
-    λ a s. unwritten _ (c.laws.ensures.steady a) _ _ _ (read_before c.args.piece.now) _
-    (first_turn _ (c.laws.ensures.steady a) _ s c.args.piece.now
-    (some_piece _ _ c.is_empty.ensures c.if-is_empty.false) _) _ c.hear.new.out
+    λ a s. unwritten _ (c.laws.ensures.steady a) _ _ _ _
+    (read_turn _ (c.laws.ensures.steady a) _ _ _ (c.loop.invariant.moves a s) _ _
+    (some_front _ _ c.if-count-eq0.false c.in-Ok.ensures.bound) c.in-Ok.ensures.moved) _ c.hear.new.out
     (g.T.Talker.ready a c.hear.new.talker c.hear.new.meter) (g.T.Talker.costs a c.hear.new.meter)
-    (λ x t o. rw (c.in-Err-Unwritten.field-0-is, c.requires.empty) at (c.in-Err-Unwritten.ensures.hears a x t o))
+    (λ x t o. rw (c.in-Err-Unwritten.field-0-is, c.loop.invariant.empty) at (c.in-Err-Unwritten.ensures.hears a x t o))
 
 pub returns-in-Err-clause-reads : goal.returns-in-Err-clause-reads
-returns-in-Err-clause-reads g c =
-    λ a s. unflushed _ (c.laws.ensures.steady a) _ _ _ (read_before c.args.piece.now) _
-    (first_turn _ (c.laws.ensures.steady a) _ s c.args.piece.now
-    (some_piece _ _ c.is_empty.ensures c.if-is_empty.false) _) _ c.hear.new.out
+returns-in-Err-clause-reads g c = λ a s. unflushed _ (c.laws.ensures.steady a) _ _ _ _
+    (read_turn _ (c.laws.ensures.steady a) _ _ _ (c.loop.invariant.moves a s) _ _
+    (some_front _ _ c.if-count-eq0.false c.in-Ok.ensures.bound) c.in-Ok.ensures.moved) _ c.hear.new.out
     (g.T.Talker.ready a c.hear.new.talker c.hear.new.meter) (g.T.Talker.costs a c.hear.new.meter)
-    c.in-Ok.more (λ x t o. rw c.requires.empty at (c.in-Ok.ensures.hears a x t o)) _
+    c.in-Ok-hear.more (λ x t o. rw c.loop.invariant.empty at (c.in-Ok-hear.ensures.hears a x t o)) _
     (c.laws.ensures.rested a c.hear.new.talker c.hear.new.meter)
     (c.laws.ensures.behind a c.hear.new.meter) c.in-Err.ensures.text.part
 
 pub returns-then-not-more-clause-reads : goal.returns-then-not-more-clause-reads
-returns-then-not-more-clause-reads g c =
-    λ a s. over _ (c.laws.ensures.steady a) _ _ _ (read_before c.args.piece.now) _
-    (first_turn _ (c.laws.ensures.steady a) _ s c.args.piece.now
-    (some_piece _ _ c.is_empty.ensures c.if-is_empty.false) _) _ c.hear.new.out
+returns-then-not-more-clause-reads g c = λ a s. over _ (c.laws.ensures.steady a) _ _ _ _
+    (read_turn _ (c.laws.ensures.steady a) _ _ _ (c.loop.invariant.moves a s) _ _
+    (some_front _ _ c.if-count-eq0.false c.in-Ok.ensures.bound) c.in-Ok.ensures.moved) _ c.hear.new.out
     (g.T.Talker.ready a c.hear.new.talker c.hear.new.meter) (g.T.Talker.costs a c.hear.new.meter)
-    c.in-Ok.more (λ x t o. rw c.requires.empty at (c.in-Ok.ensures.hears a x t o)) _
-    c.in-Ok-flush.ensures.text.all c.if-not-more.true
+    c.in-Ok-hear.more (λ x t o. rw c.loop.invariant.empty at (c.in-Ok-hear.ensures.hears a x t o)) _
+    c.in-Ok-flush.ensures.text.all
+    c.if-not-more.true
 
 pub returns-then-not-more-clause-stands : goal.returns-then-not-more-clause-stands
 returns-then-not-more-clause-stands g c = λ a s.
-    let h = c.in-Ok.ensures.hears a [] s (c.laws.ensures.steady a).opens in
-    (h.front, h.stands, h.goes_on ∙ c.if-not-more.true, c.in-Ok-flush.ensures.empty)
+    let was = c.loop.invariant.stands a s in
+    let h = c.in-Ok-hear.ensures.hears a was.0 was.2 was.3 in
+    (was.0 ++ h.front, h.stands, h.goes_on ∙ c.if-not-more.true, c.in-Ok-flush.ensures.empty)
 
-pub read_on-requires-2-clause-ready : goal.read_on-requires-2-clause-ready
-read_on-requires-2-clause-ready g c =
-    let a = c.requires.ready.0 in
-    let h = c.in-Ok.ensures.hears a [] c.requires.ready.1 (c.laws.ensures.steady a).opens in
-    (a, h.front, h.stands, h.goes_on ∙ c.if-not-more.false)
+pub loop-preserved : goal.loop-preserved
+loop-preserved g c =
+    let some = some_front _ _ c.if-count-eq0.false c.in-Ok.ensures.bound in
+    record {
+      moves = λ a s. goes_on _ (c.laws.ensures.steady a) _ _ _ _
+          (read_turn _ (c.laws.ensures.steady a) _ _ _ (c.loop.invariant.moves a s) _ _
+          some c.in-Ok.ensures.moved) _ c.hear.new.out
+          (g.T.Talker.ready a c.hear.new.talker c.hear.new.meter)
+          (g.T.Talker.costs a c.hear.new.meter) c.in-Ok-hear.more
+          (λ x t o. rw c.loop.invariant.empty at (c.in-Ok-hear.ensures.hears a x t o)) _ c.in-Ok-flush.ensures.text.all
+          c.if-not-more.false;
+      empty = c.in-Ok-flush.ensures.empty;
+      stands = λ a s.
+          let was = c.loop.invariant.stands a s in
+          let h = c.in-Ok-hear.ensures.hears a was.0 was.2 was.3 in (
+            was.0 ++ h.front,
+            counted _ _ was.0 _ _ _ _ _ c.in-Ok-hear.more h c.if-not-more.false c.loop.counter was.1 some,
+            h.stands,
+            h.goes_on ∙ c.if-not-more.false,
+          );
+      read_faults = c.in-Ok-flush.ensures.cause.other ∙ c.in-Ok-hear.ensures.cause.1 ∙ c.in-Ok.ensures.cause.ok
+          ∙ c.loop.invariant.read_faults;
+      write_faults = c.in-Ok-flush.ensures.cause.ok ∙ c.in-Ok-hear.ensures.cause.0 ∙ c.in-Ok.ensures.cause.other
+          ∙ c.loop.invariant.write_faults;
+      calls = λ well. c.in-Ok-flush.ensures.stops.well
+          (c.in-Ok-hear.ensures.stops (c.in-Ok.ensures.stops.well (c.loop.invariant.calls well)));
+    }
 
-pub returns-clause-reads : goal.returns-clause-reads
-returns-clause-reads g c = λ a s.
-    then_more _ (c.laws.ensures.steady a) _ (read_before c.args.piece.now) _ _
-    (goes_on _ (c.laws.ensures.steady a) _ _ _ (read_before c.args.piece.now) _
-    (first_turn _ (c.laws.ensures.steady a) _ s c.args.piece.now
-    (some_piece _ _ c.is_empty.ensures c.if-is_empty.false) _) _ c.hear.new.out
-    (g.T.Talker.ready a c.hear.new.talker c.hear.new.meter) (g.T.Talker.costs a c.hear.new.meter)
-    c.in-Ok.more (λ x t o. rw c.requires.empty at (c.in-Ok.ensures.hears a x t o)) _
-    c.in-Ok-flush.ensures.text.all c.if-not-more.false) _
-    (ReadsBy c.read_on-2.result (g.T.Talker.talk a) (g.T.Talker.ready a c.read_on-2.new.talker c.read_on-2.new.meter)
-    (g.T.Talker.costs a c.read_on-2.new.meter))
-    (λ first run. c.read_on-2.ensures.reads a first run)
+pub unreachable-requires : goal.unreachable-requires
+unreachable-requires g c =
+    let was = c.loop.invariant.stands c.requires.ready.0 c.requires.ready.1 in
+    omega (arith, was.1, c.laws.ensures.few c.requires.ready.0 c.loop.talker c.loop.meter was.0 was.2 was.3)
 
-pub returns-clause-stands : goal.returns-clause-stands
-returns-clause-stands g c = λ a s.
-    let h = c.in-Ok.ensures.hears a [] s (c.laws.ensures.steady a).opens in
-    c.read_on-2.ensures.stands a h.front h.stands (h.goes_on ∙ c.if-not-more.false)
+pub returns-in-Err-NoMemory-clause-stands : goal.returns-in-Err-NoMemory-clause-stands
+returns-in-Err-NoMemory-clause-stands g c = λ a s.
+    let was = c.loop.invariant.stands a s in
+    let lacks = rw c.in-Err-NoMemory.field-0-is at (c.in-Err-NoMemory.ensures.hears a was.0 was.2 was.3) in
+    record { bytes = _; ended = false; lacking = lacks.0 }
