@@ -13,7 +13,19 @@ use Rattle.dover_model.specs.declared.events.Task.{Task}
 use Rattle.dover_model.specs.JobFacts.{JobFacts}
 use Rattle.dover_model.specs.Instance.{Rules, Instance, IsValid, total_value}
 use Rattle.dover_model.specs.State.{State, opening, to_come, is_done, is_over, value_sum}
-use Rattle.dover_model.specs.Step.{Move, Prints, Waits, Ticks, step, after, ending, ◌or_else◌, with_role, displaced, ticked}
+use Rattle.dover_model.specs.Step.{
+  Move,
+  Prints,
+  Waits,
+  Ticks,
+  step,
+  after,
+  ending,
+  ◌or_else◌,
+  with_role,
+  displaced,
+  ticked,
+}
 use Rattle.dover_model.specs.Run.{Step, is_end, event_of, printed_of, printed, value_of_end, completed_value, run}
 use Rattle.dover_model.specs.WholeRun.{IsWholeRun}
 use Rattle.dover_model.specs.Sound.{IsMember, Each, IsNumberedFrom, Keeps, jobs_of}
@@ -129,7 +141,8 @@ module _ (J : Instance) (valid : IsValid J) where
       → kept_values (after s (step rules s)).tasks + lost_in J.jobs (step rules s) ≡ kept_values s.tasks
   step_keeps s keeps rules = by_deed (step rules s) (step_deed J valid s keeps rules) where
     rest : (b : Bool)
-        → kept_values (after s (then_some b (Prints (event.End (value_sum (filter is_done s.tasks)))) or_else Ticks)).tasks
+        → kept_values
+        (after s (then_some b (Prints (event.End (value_sum (filter is_done s.tasks)))) or_else Ticks)).tasks
         + lost_in J.jobs (then_some b (Prints (event.End (value_sum (filter is_done s.tasks)))) or_else Ticks)
         ≡ kept_values s.tasks
     rest true = omega (arith, ap kept_values (end_same s (value_sum (filter is_done s.tasks))))

@@ -310,5 +310,6 @@ module _ (left : List ℕ) (turns : List Turn) (it : IsInTurn left turns) (first
       first_is = ap (λ (u : Turn). (u.0, slice_index_or left u.0.1 0)) top_is ∙ by_head where
         by_head : (first_turn.0.0, slice_index_or left first_turn.0.0.1 0) ≡ first
         by_head =
-            let e : (first_turn.0.0, slice_index_or left first_turn.0.0.1 0) ∷ kept_of left first_turn.1 ≡ first ∷ rest =
+            let e : (first_turn.0.0, slice_index_or left first_turn.0.0.1 0) ∷ kept_of left first_turn.1
+            ≡ first ∷ rest =
             sym (ap (kept_of left) first_turn.2) ∙ is in cc

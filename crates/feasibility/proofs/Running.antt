@@ -133,7 +133,8 @@ module _ (jobs : List JobFacts) (clock released due n l : ℕ) (kept : List Kept
           let out : IsTakenOut ((due, n), l) kept now = goes (omega (arith, all)) in
           subst (λ u. Stands jobs u released now after (with_late late due (clock + l)) u) there
           (stands_done jobs clock released due n l now pieces late (until - clock)
-          (still now (stands_moved jobs clock released kept pieces late (clock + 1) before (((due, n), l) ∷ now) out.rest))
+          (still now
+          (stands_moved jobs clock released kept pieces late (clock + 1) before (((due, n), l) ∷ now) out.rest))
           out.behind (omega (arith, runs.some)) (omega (arith, runs.within)) after adds
           (omega (arith, runs.some, runs.within)))
 

@@ -24,7 +24,8 @@ overflow_add-number c =
 pub loop-at-preserved : goal.loop-at-preserved
 loop-at-preserved c =
     let byte : ℕ = get_or c.args.text.now c.loop-at.at 0 in
-    let digit : is_ascii_digit byte ≡ true = (c.above_zero-digit.ensures.digit (omega (arith, c.if-digit-gt9.false))).0 in
+    let digit : is_ascii_digit byte ≡ true =
+    (c.above_zero-digit.ensures.digit (omega (arith, c.if-digit-gt9.false))).0 in
     let stands : c.above_zero-digit.result ≡ byte - 48 =
     (c.above_zero-digit.ensures.digit (omega (arith, c.if-digit-gt9.false))).1 in
     let added : 10 * c.loop-at.number + c.above_zero-digit.result ≡ 10 * c.loop-at.number + (byte - 48) =

@@ -21,7 +21,8 @@ loop-job-preserved c = record {
       (subst (λ w. IsPermutation (((c.in-Some.job.now.deadline, c.loop-job.self.queue.released), w)
       ∷ c.loop-job.self.queue.kept) c.release-in-Some.new.self.kept) c.work.ensures.is
       (subst (λ d. IsPermutation (((d, c.loop-job.self.queue.released), c.work.result)
-      ∷ c.loop-job.self.queue.kept) c.release-in-Some.new.self.kept) c.deadline.ensures.is c.in_ok-release.ensures.kept)));
+      ∷ c.loop-job.self.queue.kept) c.release-in-Some.new.self.kept) c.deadline.ensures.is
+      c.in_ok-release.ensures.kept)));
   clock = c.loop-job.invariant.clock;
   rises = omega (arith, c.loop-job.invariant.rises, c.in_ok-release.ensures.released);
   few = omega (

@@ -11,7 +11,8 @@ until-until-requires-clause-some c =
 
 pub until-until-requires-clause-none : goal.until-until-requires-clause-none
 until-until-requires-clause-none c =
-    none_before c.args.jobs.now c.args.self.now.clock c.args.self.now.queue.released c.args.job.deadline c.args.job.number
+    none_before c.args.jobs.now c.args.self.now.clock c.args.self.now.queue.released c.args.job.deadline
+    c.args.job.number
     c.args.job.left c.args.self.now.queue.kept c.args.self.now.pieces.items c.args.self.now.late c.requires.stands
     c.requires.first
 
@@ -44,7 +45,8 @@ returns-clause-few c =
     ⊎ ((length c.add_piece.new.pieces.items + length c.leave.new.self.kept
     ≤ length c.args.self.now.pieces.items + length c.args.self.now.queue.kept + 1)
     × IsPending c.args.jobs.now c.until-until.result n)) (sym c.leave.ensures.released)
-    (few_after c.args.jobs.now c.args.self.now.clock c.args.self.now.queue.released c.args.job.deadline c.args.job.number
+    (few_after c.args.jobs.now c.args.self.now.clock c.args.self.now.queue.released c.args.job.deadline
+    c.args.job.number
     c.args.job.left c.args.self.now.queue.kept c.args.self.now.pieces.items c.args.self.now.late c.requires.stands
     c.requires.first c.requires.order c.until-until.result c.until-until.ensures c.add_piece.new.pieces.items
     c.leave.new.self.kept (c.leave.ensures.stays _ _ c.requires.first.is) (c.leave.ensures.goes _ _ c.requires.first.is)

@@ -13,5 +13,6 @@ returns-in-Some c =
 
 pub returns-in-None : goal.returns-in-None
 returns-in-None c =
-    until_end c.args.jobs.now c.args.self.now.clock c.args.self.now.queue.released c.args.left c.requires.some c.requires.none
+    until_end c.args.jobs.now c.args.self.now.clock c.args.self.now.queue.released c.args.left c.requires.some
+    c.requires.none
     (c.args.self.now.clock + c.args.left) (omega (arith, c.in-None.ensures.lookup.3, c.released.ensures)) refl
