@@ -20,8 +20,7 @@ pub fn put_line<P: Port>(port: &mut P, out: &mut Output, mut line: LineBuf) -> R
     out.put(port, line.bytes())
 }
 
-/// Puts the line of a word and numbers, as `put_line` does. The word isn't empty, and with 21 bytes for each number the
-/// line is shorter than 129 bytes.
+/// Puts the line of a word and numbers, as `put_line` does. With 21 bytes for each number it is shorter than 129 bytes.
 #[inline(always)]
 pub fn put_numbers<P: Port>(
     port: &mut P,
@@ -29,8 +28,7 @@ pub fn put_numbers<P: Port>(
     word: &[u8],
     numbers: &[u64],
 ) -> Result<(), Failed>
-    requires word { 0 < length word.now }
-    requires short { length word.now + 21 * length numbers.now < 129 }
+    requires { length word.now + 21 * length numbers.now < 129 }
     ensures text { PutsThrough (P.moves port.old) (P.moves port.new) result out.old out.new
         (with_numbers word.now numbers.now ++ 10 ∷ []) }
     ensures cause { HasCause (P.write_faults port.old) (P.write_faults port.new) (P.read_faults port.old)

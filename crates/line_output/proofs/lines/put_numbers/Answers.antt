@@ -30,7 +30,7 @@ put_number-requires g c =
       few_digits (get_or c.args.numbers.now (c.loop-left.left - 1) 0) is_low,
       c.loop-left-test.true,
       c.loop-left.invariant.size,
-      c.requires.short,
+      c.requires,
     )
 
 pub put_word-requires : goal.put_word-requires
@@ -44,7 +44,7 @@ put_word-requires g c =
       length-append (decimal n) c.loop-left.line,
       c.loop-left-test.true,
       c.loop-left.invariant.size,
-      c.requires.short,
+      c.requires,
     )
 
 pub loop-left-preserved : goal.loop-left-preserved
