@@ -1,7 +1,9 @@
 use Rattle.std.proofs.Common.{◌∙◌, Some, length, ap}
 use Rattle.std.proofs.lemmas.List.{length-set}
 use Rattle.waiting_queue.proofs.Twins.{taken_len}
-use Rattle.queues_tests.proofs.waiting_firsts.first_difference.Goals.{then-draw-ne0+in_ok-put_by_deadline+in_ok-put_by_latest}
+use Rattle.queues_tests.proofs.waiting_firsts.first_difference.Goals.{
+  then-draw-ne0+in_ok-put_by_deadline+in_ok-put_by_latest,
+}
 use Rattle.queues_tests.proofs.waiting_firsts.first_difference.Goals.{else-draw-ne0}
 use Rattle.queues_tests.proofs.waiting_firsts.first_difference.Goals as goal
 
