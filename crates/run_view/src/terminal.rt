@@ -14,7 +14,7 @@ use crate::signs::{put_blanks, put_signs};
 use crate::stays::{Stay, Stays};
 use crate::window::Window;
 use dover_model::{Event, Job, Memory, Ratio};
-use dover_report::endings::{Ending, endings};
+use dover_report::endings::{Ending, ending_at, endings};
 use dover_report::{Counts, count, released};
 use intervals::Charge;
 use itoa::Buffer;
@@ -138,14 +138,16 @@ fn put_jobs(
     run: &[Event],
     jobs: &[Job],
 ) -> Result<(), Memory>
+    requires { length run.now ≤ 5_000_001 }
     ensures { OnOk result (text.new.items
         ≡ text.old.items ++ picture.job_lines window.now run.now 0 jobs.now) }
 {
-    let ends = endings(alloc, run, jobs.len())?;
+    let places = endings(alloc, run, jobs.len())?;
     let stays = Stays::of(alloc, run, jobs.len())?;
     let mut own = Vec::new(alloc);
     for (number, job) in jobs.iter().enumerate() {
-        put_met(text, window, number, job, &stays, &mut own, ends[number])?;
+        let ending = ending_at(run, places[number]);
+        put_met(text, window, number, job, &stays, &mut own, ending)?;
     }
     Ok(())
 }
