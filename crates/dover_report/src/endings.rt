@@ -1,5 +1,5 @@
 //! How the jobs of a run ended.
-ghost use Rattle.std.specs.Prelude.{◌≡◌, ◌≤◌, ◌<◌, ℕ, length, slice_index_or, IfOk};
+ghost use Rattle.std.specs.Prelude.{◌≡◌, ◌<◌, ℕ, length, slice_index_or, IfOk};
 ghost use Rattle.dover_report.specs.Rows.{ending_at, ending_in, with_place, with_step};
 
 use dover_model::{Event, Memory};
@@ -14,27 +14,26 @@ pub enum Ending {
 
 /// For each job of the first numbers the place of the step that ends it, and for one that none ends a place behind the
 /// steps. Of the steps the last is read first.
-pub fn endings(alloc: Global, run: &[Event], count: usize) -> Result<Vec<u32>, Memory>
-    requires { length run.now ≤ 5_000_001 }
+pub fn endings(alloc: Global, run: &[Event], count: usize) -> Result<Vec<usize>, Memory>
     ensures count { IfOk result (λ places. length places.items ≡ count) }
     ensures each { IfOk result (λ places.
         (n : ℕ) → n < count → ending_at run.now (slice_index_or places.items n 0) ≡ ending_in run.now n) }
 {
-    let mut places = Vec::with_capacity(alloc, count)?;
-    places.resize(count, u32::MAX)?;
     let mut left = run.len();
+    let mut places = Vec::with_capacity(alloc, count)?;
+    places.resize(count, left)?;
     while left > 0 {
         left -= 1;
-        put_step(&mut places, &run[left], left as u32);
+        put_step(&mut places, &run[left], left);
     }
     Ok(places)
 }
 
 /// How the step at this place ends a job, if it does.
-pub fn ending_at(run: &[Event], place: u32) -> Option<Ending>
+pub fn ending_at(run: &[Event], place: usize) -> Option<Ending>
     ensures { result ≡ ending_at run.now place }
 {
-    match run.get(place as usize) {
+    match run.get(place) {
         Some(Event::Complete { at, .. }) => Some(Ending::Completed(*at)),
         Some(Event::Abandon { at, .. }) => Some(Ending::Abandoned(*at)),
         _ => None,
@@ -42,7 +41,7 @@ pub fn ending_at(run: &[Event], place: u32) -> Option<Ending>
 }
 
 /// Takes an earlier step into account, which stands at this place.
-fn put_step(places: &mut [u32], event: &Event, place: u32)
+fn put_step(places: &mut [usize], event: &Event, place: usize)
     ensures { places.new ≡ with_step places.old event.now place }
 {
     match event {
@@ -53,7 +52,7 @@ fn put_step(places: &mut [u32], event: &Event, place: u32)
 }
 
 /// The job of this number, if there are so many, ends at this place.
-fn put_place(places: &mut [u32], number: usize, place: u32)
+fn put_place(places: &mut [usize], number: usize, place: usize)
     ensures { places.new ≡ with_place places.old number place }
 {
     if number < places.len() {

@@ -33,7 +33,7 @@ pub fn table(alloc: Global, run: &[Event]) -> Result<Vec<u8>, Memory>
 fn put_released(
     text: &mut Vec<u8>,
     run: &[Event],
-    places: &[u32],
+    places: &[usize],
     number: usize,
     event: &Event,
 ) -> Result<usize, Memory>

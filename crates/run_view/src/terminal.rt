@@ -138,7 +138,6 @@ fn put_jobs(
     run: &[Event],
     jobs: &[Job],
 ) -> Result<(), Memory>
-    requires { length run.now ≤ 5_000_001 }
     ensures { OnOk result (text.new.items
         ≡ text.old.items ++ picture.job_lines window.now run.now 0 jobs.now) }
 {

@@ -6,8 +6,8 @@ use Rattle.dover_report.proofs.endings.endings.Goals as goal
 pub loop-left-init : goal.loop-left-init
 loop-left-init c =
     let start = none_there c.args.run.now c.in_ok-places.places.items c.resize.new.self.items _ c.args.count
-    4_294_967_295 c.in_ok-places.ensures.items c.in_ok-places.ensures.len c.in_ok-resize.ensures.items
-    (omega (arith, c.requires)) in
+    _ c.in_ok-places.ensures.items c.in_ok-places.ensures.len c.in_ok-resize.ensures.items
+    (omega arith) in
     record { short = omega arith; count = start.0; each = start.1 }
 
 pub loop-left-preserved : goal.loop-left-preserved

@@ -8,9 +8,6 @@ use Rattle.dover_report.proofs.Counting.{few_steps, releases_count}
 use Rattle.dover_report.proofs.Tables.{can_release, row_more, number_more, table_is}
 use Rattle.dover_report.proofs.rows.table.Goals as goal
 
-pub endings-requires : goal.endings-requires
-endings-requires c = few_steps c.requires.0 c.args.run.now c.requires.1.0 c.requires.1.1
-
 pub loop-event-init : goal.loop-event-init
 loop-event-init c = record { number = refl; text = c.in_ok-text.ensures.items }
 

@@ -18,9 +18,6 @@ count-requires-clause-total c =
           c.requires.1,
     )
 
-pub put_jobs-requires : goal.put_jobs-requires
-put_jobs-requires c = few_steps c.args.k c.args.run.now c.requires.0 c.requires.1
-
 pub returns : goal.returns
 returns c J of = drawn c.args.k c.args.run.now J of c.args.window c.window_or-window.result c.in_ok-jobs.jobs.items
     (counts_lines c.count.result) _ _ _ _ c.in_ok-jobs.ensures
