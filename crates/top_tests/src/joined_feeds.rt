@@ -48,41 +48,55 @@ fn goes_on(
     Ok(called.status == expected.status && all.as_slice() == expected.written.as_slice())
 }
 
+/// How often the feed was paused at this place between its lines, once or not at all, if from there it goes on as it
+/// should.
+fn pauses_at(
+    rt: &HostRuntime,
+    lines: &[FeedLine],
+    cut: usize,
+    size: usize,
+    served: &Called,
+) -> Result<Option<usize>, Fail>
+    requires { cut ≤ length lines.now }
+{
+    let front = text_of(rt.alloc(), &lines[..cut])?;
+    let paused = call(rt, &["pause"], front.as_slice(), size)?;
+    let written = paused.written.as_slice();
+    if snapshot_at(written).is_some() {
+        let goes_on = goes_on(rt, &["resume"], written, &lines[cut..], size, served)?;
+        return Ok(goes_on.then_some(1));
+    }
+    let same = call(rt, &["serve"], front.as_slice(), size)?;
+    let is_same = same.status == paused.status && same.written.as_slice() == written;
+    Ok(is_same.then_some(0))
+}
+
 /// How many of the places between its lines the feed was paused at, if from each it goes on as it should.
+fn pauses_in(
+    rt: &HostRuntime,
+    lines: &[FeedLine],
+    size: usize,
+    served: &Called,
+) -> Result<Option<usize>, Fail> {
+    let mut pauses = 0usize;
+    for cut in 0..lines.len() {
+        let Some(more) = pauses_at(rt, lines, cut, size, served)? else {
+            return Ok(None);
+        };
+        pauses = pauses.saturating_add(more);
+    }
+    Ok(Some(pauses))
+}
+
+/// The same, where the feed is served at once to see how it should go on.
 fn cut_everywhere(
     rt: &HostRuntime,
     lines: &[FeedLine],
     size: usize,
 ) -> Result<Option<usize>, Fail> {
-    let alloc = rt.alloc();
-    let whole = text_of(alloc, lines)?;
+    let whole = text_of(rt.alloc(), lines)?;
     let served = call(rt, &["serve"], whole.as_slice(), size)?;
-    let mut pauses = 0usize;
-    for cut in 0..lines.len() {
-        let front = text_of(alloc, &lines[..cut])?;
-        let paused = call(rt, &["pause"], front.as_slice(), size)?;
-        if snapshot_at(paused.written.as_slice()).is_none() {
-            let same = call(rt, &["serve"], front.as_slice(), size)?;
-            if same.status != paused.status
-                || same.written.as_slice() != paused.written.as_slice()
-            {
-                return Ok(None);
-            }
-        } else {
-            if !goes_on(
-                rt,
-                &["resume"],
-                paused.written.as_slice(),
-                &lines[cut..],
-                size,
-                &served,
-            )? {
-                return Ok(None);
-            }
-            pauses = pauses.saturating_add(1);
-        }
-    }
-    Ok(Some(pauses))
+    pauses_in(rt, lines, size, &served)
 }
 
 /// Whether the feed, paused at one place and again at a later one, is paused there as it would be at once.

@@ -144,7 +144,7 @@ pub(crate) fn reported(rt: &HostRuntime, port: &mut MemoryPort, form: Form) -> S
 }
 
 /// Whether the word ends so on the text, and tells this.
-fn ends(
+pub(crate) fn ends(
     rt: &HostRuntime,
     text: &str,
     form: Form,
