@@ -1,5 +1,5 @@
 //! A server of jobs that come as the run goes.
-ghost use Rattle.std.specs.Prelude.{◌≡◌, ◌≤◌, ◌+◌, ◌∷◌, [], ℕ, List, length, IfOk, OnOk};
+ghost use Rattle.std.specs.Prelude.{◌≡◌, ◌≤◌, ◌+◌, ◌∷◌, [], ℕ, List, length, IfOk, IsOk, OnOk};
 ghost use Rattle.dover_model.specs.declared.events.Event.{Event};
 ghost use Rattle.dover_model.specs.Instance.{Instance, IsValid, with_jobs};
 ghost use Rattle.dover_model.specs.Limits.{most_jobs};
@@ -50,17 +50,18 @@ pub trait Dispatcher: Drop {
         ensures serves { IfOk result (λ s. serves s (no_jobs version k) (Mark 0) []) }
         ensures paid { (start now : ℕ) → now ≤ start → IfOk result (λ s. paid s start now) };
 
-    /// Makes room for one job more.
+    /// Makes room for one job more. Where there is room, it takes no memory.
     ///
     /// # Errors
     ///
-    /// `Memory` where there is none.
+    /// `Memory` where there is none. It has come as far as before, and room can be asked for again.
     fn make_room(&mut self) -> Result<(), Memory>
         requires { (J : Instance) × (to : Horizon) × (events : List Event) × serves self.old J to events
             × (length J.jobs + 1 ≤ most_jobs) }
         ensures serves { (J : Instance) (to : Horizon) (events : List Event) → serves self.old J to events
             → serves self.new J to events }
         ensures room { OnOk result (has_room self.new) }
+        ensures enough { has_room self.old → IsOk result }
         ensures paid { (start now : ℕ) → paid self.old start now → paid self.new start now };
 
     /// The next printed step of the run of the admitted jobs. At a mark it is None where none comes before the first

@@ -190,12 +190,6 @@ module _ (p : Parted) (roles : HaveRoles p) (once : AreOnce (ready_of p)) where
       names_two : Says seen (Preempt next.0 m n)
       names_two = says next.1.0 seen (Preempt next.0 m n) next.1.1
 
-      pub some_stops : p.running ≡ None → ⊥
-      some_stops none = none_is_some (sym none ∙ runs_here names_two.0 names_two.2)
-
-      pub some_preempts : p.fresh ≡ None → ⊥
-      some_preempts none = none_is_some (sym none ∙ sym (seen_fresh p roles) ∙ names_two.3)
-
       pub preempted_leaves : (r f : Task) → p.running ≡ Some r → p.fresh ≡ Some f → (at : ℕ)
           → Leaves (printed (Preempt at m n)) (ready_of p) (ready_of (record p
           { running = Some (with_role f Running); fresh = None; held = with_role r Held ∷ p.held })) 0
@@ -212,12 +206,6 @@ module _ (p : Parted) (roles : HaveRoles p) (once : AreOnce (ready_of p)) where
     module _ (next : (at : ℕ) × IsNext p (Take at m n)) where
       names_taken : Says seen (Take next.0 m n)
       names_taken = says next.1.0 seen (Take next.0 m n) next.1.1
-
-      pub some_loses : p.running ≡ None → ⊥
-      some_loses none = none_is_some (sym none ∙ runs_here names_taken.0 names_taken.2)
-
-      pub some_takes : seen.late ≡ None → ⊥
-      some_takes none = none_is_some (sym none ∙ names_taken.3)
 
       -- the job at its latest start is the one that the step names
       pub taken_named : (x : Task) → seen.late ≡ Some x → x.number ≡ n

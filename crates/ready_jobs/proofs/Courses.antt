@@ -460,10 +460,6 @@ module _ (k : Fraction) (p : Parted) (jobs done : ℕ) (j : JobFacts) (roles : H
         (in_right (option_to_list p.running) (option_to_list p.fresh ++ (p.held ++ p.waiting)) f
         (in_left (option_to_list p.fresh) (p.held ++ p.waiting) f here)) (roles.fresh f here))
 
-  -- the number is small
-  pub come_number : jobs + 1 ≤ 1_000_000
-  come_number = few_jobs (with_release (course_of k p jobs done) j p.room) more
-
   module _ (q : Parted) (is : q ≡ record p {
     clock = j.release;
     fresh = Some (fresh_job (course_of k p jobs done) j);

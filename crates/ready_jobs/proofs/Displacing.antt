@@ -112,10 +112,6 @@ module _ (was is rest : List Task) (t : Task) (old now next : Stack) (from to mo
 -- none is held any more
 module _ (was is : List Task) (old now : Stack) (from to : Pooled) (it : Displaces was is old now from to)
     (none : is ≡ []) where
-  pub all_wait : IsReordered (map made_wait (reverse was) ++ from.tasks) to.tasks
-  all_wait = subst (λ l. IsReordered (map made_wait (reverse was) ++ from.tasks)
-      (map made_wait (reverse l) ++ to.tasks)) none it.same
-
   pub none_held : now ≡ record old { held = []; spare = old.spare + length was }
   none_held =
       let same : now.spare + length is ≡ old.spare + length was = it.spare in

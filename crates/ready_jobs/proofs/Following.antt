@@ -1,9 +1,9 @@
 -- The ready jobs of a whole run, step by step.
-use Rattle.std.proofs.Common.{◌≡◌, ℕ, zero, suc, ◌+◌, ◌-◌, ◌≤◌, ◌<◌, ◌⊎◌, inl, inr, List, [], ◌∷◌, ◌++◌, length, map}
-use Rattle.std.proofs.Common.{refl, sym, ap, ◌∙◌, subst, Bool, true, false, cond, not, arith, eqb}
+use Rattle.std.proofs.Common.{◌≡◌, ℕ, zero, suc, ◌+◌, ◌-◌, ◌≤◌, ◌<◌, inl, inr, List, [], ◌∷◌, ◌++◌, map}
+use Rattle.std.proofs.Common.{refl, sym, ap, ◌∙◌, subst, Bool, true, false, cond, arith, eqb}
 use Rattle.std.specs.Prelude.{Option, Some, None, ◌&&◌, nat_le, nat_lt}
 use Rattle.std.specs.Option.{option_to_list, option_map}
-use Rattle.std.specs.List.{AllByRecursion, filter, sum_by}
+use Rattle.std.specs.List.{AllByRecursion, filter}
 use Rattle.std.proofs.lemmas.Bool.{lt-leb, ltb-true, ltb-false}
 use Rattle.std.proofs.lemmas.List.{map-append}
 use Rattle.dover_model.specs.JobFacts.{IsJob}
@@ -12,24 +12,22 @@ use Rattle.dover_model.specs.declared.events.Role.{Role}
 use Rattle.dover_model.specs.declared.events.Role.TheVariants.{Coming, Fresh, Waiting, Held, Running, Done, Gone}
 use Rattle.dover_model.specs.declared.events.Event.TheVariants.{Release, Run, Preempt, Take, Complete, Abandon, End}
 use Rattle.dover_model.specs.declared.events.Task.{Task}
-use Rattle.dover_model.specs.Instance.{Rules, Instance, IsValid, total_value}
+use Rattle.dover_model.specs.Instance.{Rules, Instance, total_value}
 use Rattle.dover_model.specs.Jumps.{ticked_by, later_by}
-use Rattle.dover_model.specs.Limits.{most_value, most_total}
 use Rattle.dover_model.specs.Run.{Step, event_of}
 use Rattle.dover_model.specs.Settled.{waits_for_mark}
-use Rattle.dover_model.specs.Sound.{IsMember, Each, EachTwo, Keeps, IsSound}
-use Rattle.dover_model.specs.State.{State, is_coming, is_fresh, is_waiting, is_held, is_running, is_privileged, is_done}
-use Rattle.dover_model.specs.State.{is_over, left, latest_start, value_sum}
+use Rattle.dover_model.specs.Sound.{IsMember, Each, Keeps}
+use Rattle.dover_model.specs.State.{State, is_coming, is_fresh, is_waiting, is_running, is_privileged, is_done}
+use Rattle.dover_model.specs.State.{latest_start, value_sum}
 use Rattle.dover_model.specs.Step.{Move, Prints, Waits, Ticks, view, open_step, after, with_role, role_after, displaced}
-use Rattle.dover_model.specs.Step.{ticked}
 use Rattle.dover_model.specs.WholeRun.{open_at}
 use Rattle.dover_model.proofs.Jumping.{later_by-zero, after-later_by}
 use Rattle.dover_model.proofs.Deeds.{tick_quiet}
 use Rattle.dover_model.proofs.Ticking.{Quiet}
 use Rattle.dover_model.proofs.Kept.{open_deed, open_kept, each_job}
 use Rattle.queued_jobs.proofs.Silent.{early_waits}
-use Rattle.dover_model.proofs.Members.{member_filter, filter_member, on_map, map_map, map_same, sum_filter, sum_le}
-use Rattle.dover_model.proofs.Members.{sum_map, sum_zero}
+use Rattle.dover_model.proofs.Members.{member_filter, filter_member, on_map, sum_filter, sum_le}
+use Rattle.dover_model.proofs.Members.{sum_map}
 use Rattle.dover_model.proofs.Moves.{says}
 use Rattle.dover_model.proofs.Roles.{passes, is_running_role, is_fresh_role}
 use Rattle.dover_model.proofs.Tests.{never, none_is_some}
@@ -40,7 +38,7 @@ use Rattle.trace_reading.specs.Ready.{is_ready, ready_part}
 use Rattle.trace_reading.proofs.Leading.{settles_append}
 use Rattle.trace_reading.proofs.ReadyParts.{change, after_change, step_ready, ready_after, done_after}
 use Rattle.ready_jobs.specs.Reordered.{IsReordered}
-use Rattle.ready_jobs.specs.Parts.{Parted, HaveRole, HaveRoles, HaveOwnNumbers, AreModest, AreSound, ready_of, state_of}
+use Rattle.ready_jobs.specs.Parts.{Parted, HaveRole, HaveRoles, AreSound, ready_of, state_of}
 use Rattle.ready_jobs.specs.Following.{PartOf, SettlesTo}
 use Rattle.ready_jobs.specs.Changed.{AreOnce, Leaves}
 use Rattle.ready_jobs.proofs.Reordering.{filtered, mapped, further, in_left, in_right}
@@ -48,7 +46,6 @@ use Rattle.ready_jobs.proofs.Views.{AreApart, step_still}
 use Rattle.ready_jobs.proofs.Naming.{waits_says}
 use Rattle.ready_jobs.proofs.Seeing.{seen_fresh, fresh_list, waiting_list, privileged_list}
 use Rattle.ready_jobs.proofs.Changes.{once_numbered, once_some, once_still, once_own, map_each}
-use Rattle.ready_jobs.proofs.Changes.{all_ready}
 
 -- ---- a job that isn't to come stays so
 

@@ -1,7 +1,8 @@
 -- What a printed step says of the jobs that are seen.
-use Rattle.std.proofs.Common.{◌≡◌, ℕ, ◌⊎◌, inl, inr, refl, ap, ◌∙◌, subst, Bool, true, false, cond}
+use Rattle.std.proofs.Common.{◌≡◌, ℕ, ◌<◌, ◌⊎◌, inl, inr, refl, ap, ◌∙◌, subst, Bool, true, false, cond, arith}
 use Rattle.std.specs.Prelude.{Option, Some, None, ◌==◌}
 use Rattle.std.specs.Bool.{then_some}
+use Rattle.std.proofs.lemmas.Bool.{ne_eqb}
 use Rattle.dover_model.specs.declared.events.Event.{Event}
 use Rattle.dover_model.specs.declared.events.Event.TheVariants.{Release, Run, Preempt, Take, Complete, Abandon, End}
 use Rattle.dover_model.specs.declared.events.Task.{Task}
@@ -170,3 +171,16 @@ module _ (k : Fraction) (v : View) (n : ℕ) where
 
   pub waits_says : urgent_or k v Ticks ≡ Waits n → (g : Task) × (v.fresh ≡ Some g) × (g.number ≡ n)
   waits_says is = by_running_job v.running is
+
+-- while a job runs that isn't done, and nothing else is due, a tick is next
+pub ticks_next : (k : Fraction) (v : View) (r : Task) → v.running ≡ Some r → 0 < left r → v.fresh ≡ None
+    → v.coming ≡ None → v.late ≡ None → urgent_or k v Ticks ≡ Ticks
+ticks_next k v r runs some stale still early =
+    ap (λ o. completion v o or_else dispatch v o v.held v.waiting or_else decision v o v.fresh
+    or_else arrival v v.coming or_else alarm k v o v.late or_else Ticks) runs
+    ∙ ap (λ b. then_some b (Prints (Complete v.clock r.number)) or_else decision v (Some r) v.fresh
+    or_else arrival v v.coming or_else alarm k v (Some r) v.late or_else Ticks)
+    (ne_eqb (left r) 0 (λ none. omega (arith, some, none)))
+    ∙ ap (λ f. decision v (Some r) f or_else arrival v v.coming or_else alarm k v (Some r) v.late or_else Ticks) stale
+    ∙ ap (λ c. arrival v c or_else alarm k v (Some r) v.late or_else Ticks) still
+    ∙ ap (λ x. alarm k v (Some r) x or_else Ticks) early

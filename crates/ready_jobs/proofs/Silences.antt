@@ -1,17 +1,19 @@
 -- The silent steps of the ready jobs, as the program takes them.
 use Rattle.std.proofs.Common.{◌≡◌, ℕ, List, [], suc, ◌+◌, ◌-◌, ◌*◌, ◌≤◌, ◌<◌, ◌∷◌, ◌++◌, length, refl, sym}
-use Rattle.std.proofs.Common.{ap, ◌∙◌, subst, arith}
+use Rattle.std.proofs.Common.{ap, ◌∙◌, subst, arith, Bool, true, false, cond, zero}
 use Rattle.std.specs.Prelude.{Option, Some, None}
 use Rattle.std.specs.Option.{option_to_list, option_map}
+use Rattle.std.specs.List.{filter}
 use Rattle.std.proofs.lemmas.List.{length-append}
 use Rattle.dover_model.specs.Fraction.{Fraction}
 use Rattle.dover_model.specs.Instance.{Rules}
 use Rattle.dover_model.specs.declared.events.Role.TheVariants.{Waiting}
 use Rattle.dover_model.specs.declared.events.Task.{Task}
 use Rattle.dover_model.specs.Sound.{Each}
-use Rattle.dover_model.specs.State.{latest_start}
+use Rattle.dover_model.specs.State.{left, latest_start, is_running}
+use Rattle.dover_model.specs.Orders.{starts_before, first}
 use Rattle.trace_reading.specs.Leading.{IsSilent}
-use Rattle.dover_model.specs.Step.{Move, Waits, Ticks, view, open_step, with_role}
+use Rattle.dover_model.specs.Step.{Move, Prints, Waits, Ticks, view, open_step, with_role, is_at_latest_start}
 use Rattle.dover_model.specs.Jumps.{ticked_by, later_by}
 use Rattle.scanned_step.specs.Dues.{still_ticks}
 use Rattle.trace_reading.proofs.ReadyParts.{change}
@@ -21,8 +23,8 @@ use Rattle.ready_jobs.specs.Following.{IsPart, SettlesTo, SettlesFrom}
 use Rattle.ready_jobs.proofs.Reordering.{as_many}
 use Rattle.ready_jobs.specs.Changed.{AreOnce, Leaves}
 use Rattle.ready_jobs.proofs.Changes.{stays}
-use Rattle.ready_jobs.proofs.Naming.{waits_says}
-use Rattle.ready_jobs.proofs.Seeing.{seen_fresh}
+use Rattle.ready_jobs.proofs.Naming.{waits_says, ticks_next}
+use Rattle.ready_jobs.proofs.Seeing.{seen_fresh, seen_running, seen_coming, waiting_list, late_none, late_later}
 use Rattle.ready_jobs.proofs.Following.{part_step, part_sound, ready_once, parts_later, jumps, settles_none}
 use Rattle.ready_jobs.proofs.Following.{settles_one, settles_on, jump_low, jump_silent, jump_reaches, ticks_stale}
 use Rattle.ready_jobs.proofs.Following.{ticks_early, had_fits, stale_ticks, roles_later}
@@ -115,21 +117,91 @@ pub known_fits : (rules : Rules) (p : Parted) → HaveRoles p → IsPart rules p
     → Each (λ t. t.had + n < 18_446_744_073_709_551_616) (option_to_list p.running)
 known_fits rules p roles old n few = had_fits p roles old.0 old.1 old.2 n few
 
--- where the ticks stop
-pub ticks_stop : (k : Fraction) (mark n : ℕ) (p q : Parted) → HaveRoles p → p.fresh ≡ None
-    → n ≡ still_ticks (mark - p.clock) (state_of p) → p.clock ≤ mark → q ≡ parts_later n p
-    → (m : Move) → open_step (record { ratio = k; version = q.version }) (state_of q) ≡ m → IsSilent m
-    → (m ≡ Ticks) × (mark ≤ q.clock)
-ticks_stop k mark n p q roles stale is low later m next silent =
-    let rules : Rules = record { ratio = k; version = p.version } in
-    let there : open_step rules (state_of (parts_later n p)) ≡ m =
-    sym (ap (λ (r : Parted). open_step (record { ratio = k; version = r.version }) (state_of r)) later) ∙ next in
-    let ticks : m ≡ Ticks =
-    stale_ticks (parts_later n p) (roles_later n p roles) rules stale m there silent in (
-      ticks,
-      subst (λ (r : Parted). mark ≤ r.clock) (sym later)
-          (jump_reaches p roles rules mark n low is (there ∙ ticks)),
-    )
+-- ---- a jump, which takes the silent ticks that come, or none where another step does
+
+-- while a job runs that isn't done, no job is fresh, and none that waits is at its latest start, a tick is next
+module _ (p : Parted) (roles : HaveRoles p) (sound : AreSound p) (n : ℕ) (some : 0 < n)
+    (ahead : (x : Task) → first (starts_before p.version) p.waiting ≡ Some x → n ≤ latest_start x - p.clock) where
+  none_late : (o : Option Task) → first (starts_before p.version) p.waiting ≡ o
+      → first (starts_before p.version) (filter (is_at_latest_start (state_of p)) p.waiting) ≡ None
+  none_late None at = late_none p.version (state_of p) p.waiting sound.own sound.early at
+  none_late (Some x) at = late_later p.version (state_of p) p.waiting sound.own sound.early x at
+      (λ same. let far = ahead x at in omega (arith, same, some, far))
+
+  busy_ticks : (k : Fraction) (r : Task) → p.running ≡ Some r → p.fresh ≡ None → n ≤ left r
+      → open_step (record { ratio = k; version = p.version }) (state_of p) ≡ Ticks
+  busy_ticks k r runs stale busy =
+      ticks_next k (view p.version (state_of p)) r (seen_running p roles ∙ runs) (omega (arith, some, busy))
+      (seen_fresh p roles ∙ stale) (seen_coming p roles)
+      (ap (λ l. first (starts_before p.version) (filter (is_at_latest_start (state_of p)) l)) (waiting_list p roles)
+      ∙ none_late (first (starts_before p.version) p.waiting) refl)
+
+-- no ticks leave all as it is
+zero_later : (p : Parted) → parts_later 0 p ≡ p
+zero_later p =
+    let same : p.clock + 0 ≡ p.clock = omega arith in
+    ap (λ n. record p { clock = n; running = option_map (ticked_by 0) p.running }) same
+    ∙ ap (λ o. record p { running = o }) (none_had p.running) where
+      none_had : (o : Option Task) → option_map (ticked_by 0) o ≡ o
+      none_had None = refl
+      none_had (Some t) =
+          ap (λ n. Some (record { number = t.number; job = t.job; role = t.role; had = n }))
+          (by_role (is_running t)) where
+            by_role : (b : Bool) → cond b (t.had + 0) t.had ≡ t.had
+            by_role true = omega arith
+            by_role false = refl
+
+module _ (k : Fraction) (mark n : ℕ) (p : Parted) (roles : HaveRoles p) where
+  abbrev rules_here : Rules
+  rules_here = record { ratio = k; version = p.version }
+
+  -- as many ticks as come, where one does, otherwise none
+  pub data Jump : Type 0 where
+    Many : open_step rules_here (state_of p) ≡ Ticks → n ≡ still_ticks (mark - p.clock) (state_of p) → Jump
+    NoTick : (open_step rules_here (state_of p) ≡ Ticks → ⊥) → n ≡ 0 → Jump
+
+  module _ (old : IsPart rules_here p) (stale : p.fresh ≡ None)
+      (free : p.running ≡ None → open_step rules_here (state_of p) ≡ Ticks)
+      (still : Each (λ t. p.clock < latest_start t) p.waiting → n ≡ still_ticks (mark - p.clock) (state_of p))
+      (busy : (r : Task) → p.running ≡ Some r → n ≤ left r)
+      (ahead : (x : Task) → first (starts_before p.version) p.waiting ≡ Some x → n ≤ latest_start x - p.clock) where
+    no_ticks : (i : ℕ) → n ≡ i → (o : Option Task) → p.running ≡ o → (open_step rules_here (state_of p) ≡ Ticks → ⊥)
+        → n ≡ 0
+    no_ticks zero is o runs other = is
+    no_ticks (suc i) is None runs other = absurd (other (free runs))
+    no_ticks (suc i) is (Some r) runs other =
+        let sound = known_sound rules_here p roles old in
+        absurd (other (busy_ticks p roles sound n (omega (arith, is)) ahead k r runs stale (busy r runs)))
+
+    by_step : (m : Move) → open_step rules_here (state_of p) ≡ m → Jump
+    by_step (Prints e) is = let other : open_step rules_here (state_of p) ≡ Ticks → ⊥ = λ ticks. cc in
+        NoTick other (no_ticks n refl p.running refl other)
+    by_step (Waits w) is = let other : open_step rules_here (state_of p) ≡ Ticks → ⊥ = λ ticks. cc in
+        NoTick other (no_ticks n refl p.running refl other)
+    by_step Ticks is = Many is (still (known_early k p roles old is))
+
+    pub jump : Jump
+    jump = by_step (open_step rules_here (state_of p)) refl
+
+  module _ (it : Jump) (low : p.clock ≤ mark) where
+    pub jump_settles : SettlesFrom k mark p (parts_later n p)
+    jump_settles = elim it [
+      | Many ticks is ↦ ticks_settle k mark n p (parts_later n p) roles ticks is low refl
+      | NoTick other none ↦ subst (λ i. SettlesFrom k mark p (parts_later i p)) (sym none)
+          (subst (SettlesFrom k mark p) (sym (zero_later p)) (from_none k mark p))
+    ]
+
+    -- where it stops
+    pub jump_stops : p.fresh ≡ None → (m : Move)
+        → open_step rules_here (state_of (parts_later n p)) ≡ m → IsSilent m → (m ≡ Ticks) × (mark ≤ p.clock + n)
+    jump_stops stale m next silent =
+        let ticks : m ≡ Ticks =
+        stale_ticks (parts_later n p) (roles_later n p roles) rules_here stale m next silent in
+        elim it [
+          | Many first_ticks is ↦ (ticks, jump_reaches p roles rules_here mark n low is (next ∙ ticks))
+          | NoTick other none ↦ absurd (other (sym (ap (λ i. open_step rules_here (state_of (parts_later i p))) none
+              ∙ ap (λ q. open_step rules_here (state_of q)) (zero_later p)) ∙ next ∙ ticks))
+        ]
 
 -- ---- how many there are
 

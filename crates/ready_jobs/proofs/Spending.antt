@@ -34,10 +34,6 @@ use Rattle.trace_reading.proofs.ReadyParts.{change}
 
 -- ---- in all
 
--- nothing is paid yet
-pub paid_none : (c : Course) (now : ℕ) → HasPaid c now now
-paid_none c now = λ d enough. omega arith
-
 -- the comparisons for all jobs released so far are few
 pub paid_jobs : (c : Course) (start now : ℕ) → HasPaid c start now → CostsAtMost c.jobs start now
 paid_jobs c start now paid = spent_few c.jobs (state_at c.clock c.ready) start now paid

@@ -5,6 +5,7 @@ pub mod Pools
 pub mod Parts
 pub mod Kept
 pub mod Changed
+pub mod Deeds
 pub mod Following
 pub mod Course
 pub mod Spending

@@ -34,7 +34,7 @@ impl Parts {
             Leaves (printed (Complete at number)) (ready_of self.old) (ready_of self.new) result }
         ensures kept { self.new ≡ record self.old { running = self.new.running } }
     {
-        let _ = self.clock();
+        self.laws();
         match self.running() {
             Some(r) => {
                 self.complete();
@@ -60,7 +60,7 @@ impl Parts {
         ensures cost { (at d : ℕ) → length (ready_of self.old) + 1 < 2 ^ d →
             steps.new ≤ steps.old + cost_of d (state_of self.old) (Prints (Run at number)) }
     {
-        let _ = self.clock();
+        self.laws();
         if has_number(&self.first_held(), number) {
             self.resume();
         } else if has_number(&self.first_waiting(), number) {
@@ -84,7 +84,7 @@ impl Parts {
           held = self.new.held;
         } }
     {
-        let _ = self.clock();
+        self.laws();
         if let Some(r) = self.running() {
             if let Some(f) = self.fresh() {
                 self.preempt(&r, &f);
@@ -106,7 +106,7 @@ impl Parts {
         ensures cost { (at d : ℕ) → length (ready_of self.old) + 1 < 2 ^ d →
             steps.new ≤ steps.old + cost_of d (state_of self.old) (Prints (Take at stops starts)) }
     {
-        let _ = self.clock();
+        self.laws();
         if let Some(r) = self.running() {
             if let Some(x) = self.first_late() {
                 self.take(&r, &x, steps);
@@ -125,7 +125,7 @@ impl Parts {
         ensures cost { (at d : ℕ) → length (ready_of self.old) + 1 < 2 ^ d →
             steps.new ≤ steps.old + cost_of d (state_of self.old) (Prints (Abandon at number)) }
     {
-        let _ = self.clock();
+        self.laws();
         self.abandon(steps);
     }
 
@@ -145,7 +145,7 @@ impl Parts {
         ensures cost { (d : ℕ) → length (ready_of self.old) + 1 < 2 ^ d →
             steps.new ≤ steps.old + cost_of d (state_of self.old) (Prints event.now) }
     {
-        let _ = self.clock();
+        self.laws();
         match *event {
             Event::Run { number, .. } => {
                 self.run_next(number, steps);

@@ -2,7 +2,7 @@
 #![tactic(auto)]
 
 mod applying;
-mod held;
+mod deeds;
 mod parts;
 mod pool;
 mod ready;
@@ -11,6 +11,7 @@ mod short;
 mod slot;
 mod taking;
 
+pub use deeds::Deed;
 pub use parts::Parts;
 pub use pool::Pool;
 pub use ready::Ready;

@@ -1,6 +1,6 @@
 //! The ready jobs by their roles, what is seen of them, and how they change.
 ghost use Rattle.std.specs.Prelude.{◌≡◌, ℕ, ◌+◌, ◌-◌, ◌*◌, ◌^◌, ◌<◌, ◌≤◌, [], ◌∷◌, ◌++◌, length, map, max, Some, None};
-ghost use Rattle.std.specs.Prelude.{reverse, vec_capacity, option_map, IfOk, IsOk, OnOk, OnErr};
+ghost use Rattle.std.specs.Prelude.{reverse, vec_capacity, option_map, IfOk, IsOk, OnOk, OnErr, IsTrue, ◌↔◌};
 ghost use Rattle.std.specs.List.{filter, find};
 ghost use Rattle.std.specs.Option.{option_to_list, ForSome};
 ghost use Rattle.dover_model.specs.declared.events.Role.TheVariants.{Fresh, Waiting, Held, Running};
@@ -14,21 +14,20 @@ ghost use Rattle.dover_model.specs.Orders.{due_first, starts_before, first};
 ghost use Rattle.dover_model.specs.Step.{open_step, view, with_role, is_at_latest_start, resumed, runs, displaced};
 ghost use Rattle.dover_model.specs.Jumps.{ticked_by};
 ghost use Rattle.dover_model.specs.Sound.{Each};
-ghost use Rattle.scanned_step.specs.Moves.{step_of};
 ghost use Rattle.scanned_step.specs.Cases.{decision_of, arrival_of, alarm_of};
 ghost use Rattle.scanned_step.specs.Dues.{still_ticks, until_done};
 ghost use Rattle.ready_jobs.specs.Changed.{made_wait};
+ghost use Rattle.ready_jobs.specs.Deeds.{step_at};
 ghost use Rattle.ready_jobs.specs.Reordered.{IsReordered};
 ghost use Rattle.ready_jobs.specs.Parts.{Parted, AreSound, HaveRoles, ready_of, state_of, head_of, tail_of};
 
-use crate::held::{peek, pop, push};
+use crate::deeds::Deed;
 use crate::pool::Pool;
 use crate::short::ShortTask;
 use crate::taking::{displace, in_role};
-use dover_model::{Entry, Event, Job, Memory, Ratio, Role, Task, Version};
+use dover_model::{Entry, Job, Memory, Ratio, Role, Task, Version};
 use held_queue::Privileged;
 use root_compare::heavy;
-use scanned_step::Move;
 use std::alloc::Global;
 use std::marker::Model;
 use std::sync::ledger::Ledger;
@@ -145,13 +144,21 @@ impl Parts {
         })
     }
 
-    /// The clock.
+    /// What holds of the parts. It does nothing.
     #[inline(always)]
-    pub fn clock(&self) -> u64
-        ensures is { result ≡ self.now.clock }
+    pub fn laws(&self)
         ensures roles { HaveRoles self.now }
         ensures few { length (ready_of self.now) ≤ self.now.room }
         ensures most { self.now.room ≤ most_jobs }
+    {
+        // What is kept of the parts is known where a field is read.
+        let _ = &self.room;
+    }
+
+    /// The clock.
+    #[inline(always)]
+    pub fn clock(&self) -> u64
+        ensures { result ≡ self.now.clock }
     {
         self.clock
     }
@@ -191,6 +198,14 @@ impl Parts {
         count_of(&self.running) + count_of(&self.fresh) + waiting
     }
 
+    /// No job is ready.
+    #[inline(always)]
+    pub fn is_empty(&self) -> bool
+        ensures { IsTrue result ↔ (ready_of self.now ≡ []) }
+    {
+        self.running.is_none() && self.count() == 0
+    }
+
     /// For how many ready jobs there is room.
     pub fn room(&self) -> u32
         ensures { result ≡ self.now.room }
@@ -200,10 +215,10 @@ impl Parts {
 
     // No job is to come.
     #[inline(always)]
-    fn arrival(&self) -> Option<Move>
-        ensures { option_map step_of result ≡ arrival_of (view self.now.version (state_of self.now)) }
+    fn arrival(&self) -> Option<Deed>
+        ensures { option_map (step_at self.now.clock) result ≡ arrival_of (view self.now.version (state_of self.now)) }
     {
-        let _ = &self.clock;
+        self.laws();
         None
     }
 
@@ -213,6 +228,7 @@ impl Parts {
         ensures is { result ≡ head_of self.now.held }
         ensures seen { result ≡ first (due_first self.now.version) (held (state_of self.now)) }
     {
+        // The stack of the rooms knows that the held jobs stand by their deadlines.
         let _ = self.rooms.top();
         peek(&self.held)
     }
@@ -273,56 +289,49 @@ impl Parts {
 
     // The fresh job f preempts the running job r, or waits.
     #[inline(always)]
-    fn decision(&self, r: &Task, f: &Task) -> Move
+    fn decision(&self, r: &Task, f: &Task) -> Deed
         requires sound { AreSound self.now }
         requires running { self.now.running ≡ Some r.now }
-        ensures { step_of result ≡ decision_of (view self.now.version (state_of self.now)) r.now f.now }
+        ensures { step_at self.now.clock result ≡ decision_of (view self.now.version (state_of self.now)) r.now f.now }
     {
         if f.job.deadline() < r.job.deadline() && f.job.work() <= self.room_busy(r) {
-            Move::Prints(Event::Preempt {
-                at: self.clock,
+            Deed::Preempt {
                 stops: r.number,
                 starts: f.number,
-            })
+            }
         } else {
-            Move::Waits(f.number)
+            Deed::Wait { number: f.number }
         }
     }
 
     // The job x takes the processor from the running job r, or is abandoned.
     #[inline(always)]
-    fn alarm(&self, k: Ratio, r: &Task, x: &Task) -> Move
+    fn alarm(&self, k: Ratio, r: &Task, x: &Task) -> Deed
         requires sound { AreSound self.now }
         requires running { self.now.running ≡ Some r.now }
-        ensures { step_of result ≡ alarm_of k (view self.now.version (state_of self.now)) r.now x.now }
+        ensures { step_at self.now.clock result ≡ alarm_of k (view self.now.version (state_of self.now)) r.now x.now }
     {
         if heavy(x.job.value(), self.value_busy(r), k) {
-            Move::Prints(Event::Take {
-                at: self.clock,
+            Deed::Take {
                 stops: r.number,
                 starts: x.number,
-            })
+            }
         } else {
-            Move::Prints(Event::Abandon {
-                at: self.clock,
-                number: x.number,
-            })
+            Deed::Abandon { number: x.number }
         }
     }
 
     // The next step while r runs.
     #[inline(always)]
-    fn busy_step(&self, k: Ratio, r: &Task) -> Move
+    fn busy_step(&self, k: Ratio, r: &Task) -> Deed
         requires sound { AreSound self.now }
         requires running { self.now.running ≡ Some r.now }
         requires runs { running (state_of self.now) ≡ Some r.now }
-        ensures { step_of result ≡ open_step (record { ratio = k; version = self.now.version }) (state_of self.now) }
+        ensures { step_at self.now.clock result
+            ≡ open_step (record { ratio = k; version = self.now.version }) (state_of self.now) }
     {
         if left(r) == 0 {
-            return Move::Prints(Event::Complete {
-                at: self.clock,
-                number: r.number,
-            });
+            return Deed::Complete { number: r.number };
         }
         if let Some(f) = self.fresh() {
             return self.decision(r, &f);
@@ -332,19 +341,16 @@ impl Parts {
         }
         match self.first_late() {
             Some(x) => self.alarm(k, r, &x),
-            None => Move::Ticks,
+            None => Deed::Tick,
         }
     }
 
     // The job gets the processor.
     #[inline(always)]
-    fn run(&self, t: &Task) -> Move
-        ensures { step_of result ≡ runs (view self.now.version (state_of self.now)) t.now }
+    fn run(&self, t: &Task) -> Deed
+        ensures { step_at self.now.clock result ≡ runs (view self.now.version (state_of self.now)) t.now }
     {
-        Move::Prints(Event::Run {
-            at: self.clock,
-            number: t.number,
-        })
+        Deed::Run { number: t.number }
     }
 
     // While p is held: the first waiting job, if it is due before p and fits the room of the held jobs, otherwise p.
@@ -361,11 +367,13 @@ impl Parts {
 
     // The next step while no job runs.
     #[inline(always)]
-    fn free_step(&self, k: Ratio) -> Move
+    fn free_step(&self, k: Ratio) -> Deed
         requires sound { AreSound self.now }
         requires free { running (state_of self.now) ≡ None }
-        ensures { step_of result ≡ open_step (record { ratio = k; version = self.now.version }) (state_of self.now) }
+        ensures { step_at self.now.clock result
+            ≡ open_step (record { ratio = k; version = self.now.version }) (state_of self.now) }
     {
+        // A ratio is known to be one where it is read.
         let _ = k.p();
         if let Some(p) = self.first_held() {
             return self.run(&self.resumed(&p));
@@ -378,15 +386,16 @@ impl Parts {
         }
         match self.arrival() {
             Some(release) => release,
-            None => Move::Ticks,
+            None => Deed::Tick,
         }
     }
 
     /// The next step where further jobs may come.
     #[inline(always)]
-    pub fn open_step(&self, k: Ratio) -> Move
+    pub fn open_step(&self, k: Ratio) -> Deed
         requires { AreSound self.now }
-        ensures { step_of result ≡ open_step (record { ratio = k; version = self.now.version }) (state_of self.now) }
+        ensures { step_at self.now.clock result
+            ≡ open_step (record { ratio = k; version = self.now.version }) (state_of self.now) }
     {
         match self.running() {
             Some(r) => self.busy_step(k, &r),
@@ -397,7 +406,9 @@ impl Parts {
     // At most so many ticks, and what the running job has left.
     #[inline(always)]
     fn until_done(&self, most: u64) -> u64
-        ensures { result ≡ until_done (running (state_of self.now)) most }
+        ensures is { result ≡ until_done (running (state_of self.now)) most }
+        ensures most { result ≤ most }
+        ensures done { (r : Task) → self.now.running ≡ Some r → result ≤ left r }
     {
         match self.running() {
             Some(r) => most.min(left(&r)),
@@ -405,12 +416,17 @@ impl Parts {
         }
     }
 
-    /// How many silent ticks come before anything is due, at most `most`, where no waiting job is at its latest start.
+    /// How many silent ticks come before anything is due, at most `most`: while a job runs, none where it is done or a
+    /// waiting job is at its latest start.
     #[inline(always)]
     pub fn silent_ticks(&self, most: u64) -> u64
-        requires sound { AreSound self.now }
-        requires early { Each (λ t. self.now.clock < latest_start t) self.now.waiting }
-        ensures { result ≡ still_ticks most (state_of self.now) }
+        requires { AreSound self.now }
+        ensures still { Each (λ t. self.now.clock < latest_start t) self.now.waiting →
+            result ≡ still_ticks most (state_of self.now) }
+        ensures most { result ≤ most }
+        ensures done { (r : Task) → self.now.running ≡ Some r → result ≤ left r }
+        ensures start { (x : Task) → first (starts_before self.now.version) self.now.waiting ≡ Some x →
+            result ≤ latest_start x - self.now.clock }
     {
         let before = self.until_done(most);
         match self.pool.first_start() {

@@ -14,6 +14,7 @@ ghost use Rattle.ready_jobs.specs.Course.{Course, Follows, IsCourse, Reached, Se
 ghost use Rattle.ready_jobs.specs.Course.{with_release};
 ghost use Rattle.ready_jobs.specs.Spending.{HasPaid};
 
+use crate::deeds::step_at;
 use crate::parts::Parts;
 use dover_model::jobs::LAST_TICK;
 use dover_model::{Event, Job, Memory, Ratio, Version};
@@ -56,6 +57,7 @@ impl Ready {
         ensures empty { IfOk result (λ c. c ≡ new_course (record { ratio = ratio; version = version }) 0) }
         ensures paid { IfOk result (λ c. (now : ℕ) → HasPaid c now now) }
     {
+        // A ratio is known to be one where it is read.
         let _ = ratio.p();
         Ok(Ready {
             parts: Parts::new(alloc, version)?,
@@ -146,6 +148,7 @@ impl Ready {
         ensures rules { self.new ≡ record self.old { rules = record { ratio = ratio; version = version } } }
         ensures paid { (start now : ℕ) → HasPaid self.old start now → HasPaid self.new start now }
     {
+        // A ratio is known to be one where it is read.
         let _ = ratio.p();
         self.parts.declare(version);
         self.ratio = ratio;
@@ -166,10 +169,10 @@ impl Ready {
         ensures low { self.new.clock ≤ mark }
         ensures paid { (start : ℕ) → HasPaid self.old start steps.old → HasPaid self.new start steps.new }
     {
-        let _ = self.parts.clock();
-        let step = self.parts.settle(self.ratio, mark, steps);
-        let _ = self.parts.clock();
-        step
+        self.parts.laws();
+        let deed = self.parts.settle(self.ratio, mark, steps);
+        self.parts.laws();
+        step_at(self.parts.clock(), deed)
     }
 
     /// Takes the silent steps up to the next printed one, which it gives, or up to the barrier of the mark.
@@ -183,7 +186,7 @@ impl Ready {
         ensures low { self.new.clock ≤ mark }
         ensures paid { (start : ℕ) → HasPaid self.old start steps.old → HasPaid self.new start steps.new }
     {
-        if self.parts.count() == 0 {
+        if self.parts.is_empty() {
             return None;
         }
         let step = self.go_on(mark, steps);
@@ -211,7 +214,7 @@ impl Ready {
         ensures fewer { length self.new.ready ≡ length self.old.ready }
         ensures paid { (start : ℕ) → HasPaid self.old start steps.old → HasPaid self.new start steps.new }
     {
-        if self.parts.count() == 0 {
+        if self.parts.is_empty() {
             return Event::End { value: self.done };
         }
         let step = self.go_on(LAST_TICK, steps);
@@ -232,7 +235,7 @@ impl Ready {
         ensures fewer { length self.new.ready ≤ length self.old.ready }
         ensures paid { (start : ℕ) → HasPaid self.old start steps.old → HasPaid self.new start steps.new }
     {
-        let _ = self.parts.clock();
+        self.parts.laws();
         let worth = self.parts.apply(event, steps);
         self.done += worth;
     }
@@ -247,7 +250,7 @@ impl Ready {
         ensures ready { IsReordered (self.old.ready ++ fresh_job self.old job ∷ []) self.new.ready }
         ensures paid { (start now : ℕ) → HasPaid self.old start now → HasPaid self.new start now }
     {
-        let _ = self.parts.clock();
+        self.parts.laws();
         self.parts.come(self.jobs, job);
         self.jobs += 1;
     }

@@ -20,7 +20,6 @@ use Rattle.dover_model.proofs.Ending.{potential, ends}
 use Rattle.dover_model.proofs.Kept.{open_kept}
 use Rattle.dover_model.proofs.Paths.{printed_more, printed_settled, printed_then_run, printed_begins, path_low}
 use Rattle.dover_model.proofs.Prefixes.{step_open, open_goes_on}
-use Rattle.dover_model.proofs.Tests.{never}
 use Rattle.scanned_step.specs.Moves.{state_at}
 use Rattle.trace_reading.specs.Leading.{Settles, Idles, GoesOn, WaitsUntil, PrintsNext}
 use Rattle.trace_reading.proofs.Leading.{idles_settles, settles_silent}
@@ -29,7 +28,6 @@ use Rattle.dover_server.specs.declared.horizon.Horizon.TheVariants.{Mark, End}
 use Rattle.dover_server.specs.Service.{MayFollow}
 use Rattle.dispatcher.specs.Dispatch.{due_by}
 use Rattle.ready_jobs.specs.Course.{Course, Follows, Comes, Settled}
-use Rattle.ready_jobs.specs.Spending.{HasPaid}
 use Rattle.ready_jobs.proofs.Courses.{follows_count, follows_fewer}
 use Rattle.ready_jobs.proofs.Releasing.{follows_opens}
 use Rattle.ready_server.specs.Serving.{LeavesRest, HasGiven, Serves, Rests}
@@ -200,15 +198,6 @@ module _ (s : ReadyServer) (J : Instance) (from : Horizon) (events : List Event)
     by_horizon End given =
         subst (λ b. MatchBool b (events ≡ printed J) (LeavesRest J serves.state events)) goes_on given
 
-  -- after End, all was given
-  pub end_reached : s.ended ≡ true → (events ≡ printed J) × Rests s J End
-  end_reached ended =
-      (by_horizon from serves.given, record { state = serves.state; follows = serves.follows; given = ended }) where
-        by_horizon : (to : Horizon) → HasGiven s.ended J serves.state to events → events ≡ printed J
-        by_horizon (Mark m) given = never (sym given.0 ∙ ended)
-        by_horizon End given =
-            subst (λ b. MatchBool b (events ≡ printed J) (LeavesRest J serves.state events)) ended given
-
   module _ (goes_on : s.ended ≡ false) (d : Course) (e : Event)
       (next : (I : Instance) (z : State) → Follows s.ready I z
       → (y : State) × Follows d I y × PrintsNext I.rules z e y) where
@@ -294,9 +283,3 @@ some_place s J to events serves few d more (Ok x) same room some =
       ap (λ (c : Course). length c.ready) same,
     )
 some_place s J to events serves few d more (Err e) same room some = room
-
--- ---- comparisons
-
--- what was made before is paid for
-pub paid_before : (c : Course) (start now : ℕ) → now ≤ start → HasPaid c start now
-paid_before c start now early = λ d enough. omega arith

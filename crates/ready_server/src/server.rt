@@ -20,6 +20,16 @@ use step_count::Steps;
 
 /// A server that keeps the jobs that are released and not over, and forgets each as it is over. However many come, it
 /// makes room for at most twice as many as are ready at once.
+///
+/// # Examples
+///
+/// ```
+/// let mut server = ReadyServer::new(alloc, Version::One, Ratio::new(1, 1).unwrap())?;
+/// server.make_room()?;
+/// while let Some(event) = server.step(Horizon::Mark(0), steps) {} // None comes before the first job.
+/// let release = server.admit(Job::new(0, 2, 2, 2).unwrap(), steps);
+/// while let Some(event) = server.step(Horizon::End, steps) {} // run 0 0, complete 2 0, end 2
+/// ```
 #[derive(Drop)]
 pub struct ReadyServer {
     ready: Ready,
@@ -87,6 +97,7 @@ impl Dispatcher for ReadyServer {
     fn laws() {}
 
     fn new(alloc: Global, version: Version, k: Ratio) -> Result<ReadyServer, Memory> {
+        // A ratio is known to be one where it is read.
         let _ = k.p();
         Ok(ReadyServer {
             ready: Ready::new(alloc, version, k)?,

@@ -11,13 +11,13 @@ returns-clause-leaves g c at =
     let p = c.args.self.now in
     subst (λ q. Leaves (printed (Abandon at c.args.number)) (ready_of p) (ready_of q) 0)
     (sym c.abandon.ensures.kept)
-    (gone_leaves p c.clock.ensures.roles c.requires.once c.args.number c.requires.sound c.requires.next
+    (gone_leaves p c.laws.ensures.roles c.requires.once c.args.number c.requires.sound c.requires.next
     c.abandon.new.self.waiting c.abandon.ensures.rest at)
 
 pub returns-clause-cost : goal.returns-clause-cost
 returns-clause-cost g c at d fits =
     let p = c.args.self.now in
-    let it = gone_named p c.clock.ensures.roles c.requires.once c.args.number c.requires.sound c.requires.next in
-    abandon_costs p c.clock.ensures.roles d _ _ at c.args.number it.0
+    let it = gone_named p c.laws.ensures.roles c.requires.once c.args.number c.requires.sound c.requires.next in
+    abandon_costs p c.laws.ensures.roles d _ _ at c.args.number it.0
     ((c.abandon.ensures.rest it.0 it.1).back it.0 (inl refl)) it.2
     (c.abandon.ensures.count d (let few = fewer_wait p in omega (arith, fits, few)))

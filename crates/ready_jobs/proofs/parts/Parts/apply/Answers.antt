@@ -10,8 +10,8 @@ pub unreachable-requires : goal.unreachable-requires
 unreachable-requires g c =
     let p = c.args.self.now in
     elim c.in-Release.is [
-      | inl it ↦ none_comes p c.clock.ensures.roles c.requires.once it.0 it.1 (subst (IsNext p) it.2 c.requires.next)
-      | inr it ↦ none_ends p c.clock.ensures.roles c.requires.once it.0 (subst (IsNext p) it.1 c.requires.next)
+      | inl it ↦ none_comes p c.laws.ensures.roles c.requires.once it.0 it.1 (subst (IsNext p) it.2 c.requires.next)
+      | inr it ↦ none_ends p c.laws.ensures.roles c.requires.once it.0 (subst (IsNext p) it.1 c.requires.next)
     ]
 
 pub returns-in-Run-clause-fewer : goal.returns-in-Run-clause-fewer

@@ -12,9 +12,9 @@ returns-clause-leaves c at =
     (sym c.value.ensures.is)
     (subst (λ q. Leaves (printed (Complete at c.args.number)) (ready_of p) (ready_of q) c.in-Some.r.job.value)
     (sym c.complete.ensures)
-    (done_leaves p c.clock.ensures.roles c.requires.once c.args.number c.requires.next c.in-Some.r
+    (done_leaves p c.laws.ensures.roles c.requires.once c.args.number c.requires.next c.in-Some.r
     (sym c.running.ensures.is ∙ c.in-Some.is) at))
 
 pub unreachable-requires : goal.unreachable-requires
-unreachable-requires c = some_done c.args.self.now c.clock.ensures.roles c.requires.once c.args.number c.requires.next
+unreachable-requires c = some_done c.args.self.now c.laws.ensures.roles c.requires.once c.args.number c.requires.next
     (sym c.running.ensures.is ∙ c.in-None.is)

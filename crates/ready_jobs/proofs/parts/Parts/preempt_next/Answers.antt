@@ -10,6 +10,6 @@ returns-in-Some-fresh-clause-leaves c at =
     let p = c.args.self.now in
     subst (λ q. Leaves (printed (Preempt at c.args.stops c.args.starts)) (ready_of p) (ready_of q) 0)
     (sym c.preempt.ensures)
-    (preempted_leaves p c.clock.ensures.roles c.requires.once c.args.stops c.args.starts c.requires.next
+    (preempted_leaves p c.laws.ensures.roles c.requires.once c.args.stops c.args.starts c.requires.next
     c.in-Some.r c.in-Some-fresh.f
     (sym c.running.ensures.is ∙ c.in-Some.is) (sym c.fresh.ensures.is ∙ c.in-Some-fresh.is) at)

@@ -13,7 +13,7 @@ returns-in-Some-first_late-clause-leaves g c at =
     let p = c.args.self.now in
     subst (λ q. Leaves (printed (Take at c.args.stops c.args.starts)) (ready_of p) (ready_of q) 0)
     (sym c.take.ensures.kept)
-    (taken_leaves p c.clock.ensures.roles c.requires.once c.args.stops c.args.starts c.requires.next
+    (taken_leaves p c.laws.ensures.roles c.requires.once c.args.stops c.args.starts c.requires.next
     c.in-Some.r c.in-Some-first_late.x c.take.new.self.waiting
     (sym c.running.ensures.is ∙ c.in-Some.is) (sym c.first_late.ensures.seen ∙ c.in-Some-first_late.is)
     c.take.ensures.rest at)
@@ -22,9 +22,9 @@ pub returns-in-Some-first_late-clause-cost : goal.returns-in-Some-first_late-cla
 returns-in-Some-first_late-clause-cost g c at d fits =
     let p = c.args.self.now in
     let x = c.in-Some-first_late.x in
-    take_costs p c.clock.ensures.roles d _ _ at c.requires.once c.args.stops c.args.starts c.in-Some.r x
+    take_costs p c.laws.ensures.roles d _ _ at c.requires.once c.args.stops c.args.starts c.in-Some.r x
     (sym c.running.ensures.is ∙ c.in-Some.is)
     (first_member (starts_before p.version) p.waiting x (c.first_late.ensures.is x c.in-Some-first_late.is))
-    (taken_named p c.clock.ensures.roles c.requires.once c.args.stops c.args.starts c.requires.next x
+    (taken_named p c.laws.ensures.roles c.requires.once c.args.stops c.args.starts c.requires.next x
     (sym c.first_late.ensures.seen ∙ c.in-Some-first_late.is))
     (c.take.ensures.count d fits)

@@ -1,42 +1,28 @@
 use Rattle.std.proofs.Common.{◌-◌, refl, sym, ap, ◌∙◌, subst, arith}
+use Rattle.dover_model.specs.Step.{open_step}
 use Rattle.scanned_step.specs.Dues.{still_ticks}
-use Rattle.scanned_step.specs.Moves.{step_of}
+use Rattle.ready_jobs.specs.Deeds.{step_at}
 use Rattle.ready_jobs.specs.Parts.{Parted, AreSound, state_of}
 use Rattle.ready_jobs.specs.Following.{SettlesFrom}
-use Rattle.ready_jobs.proofs.Following.{parts_later, jump_low, roles_later}
-use Rattle.ready_jobs.proofs.Silences.{part_after, known_sound, known_early, known_fits, ticks_settle, ticks_stop}
-use Rattle.ready_jobs.proofs.Silences.{ticks_count}
+use Rattle.ready_jobs.proofs.Following.{parts_later, roles_later}
+use Rattle.ready_jobs.proofs.Silences.{part_after, known_sound, known_fits, jump, jump_settles, jump_stops}
+use Rattle.ready_jobs.proofs.Silences.{ticks_count, Jump}
 use Rattle.ready_jobs.proofs.parts.Parts.tick_on.Goals as goal
 
-pub silent_ticks-count-requires-clause-sound : goal.silent_ticks-count-requires-clause-sound
-silent_ticks-count-requires-clause-sound c = known_sound _ c.args.self.now c.clock-clock.ensures.roles c.requires.part
-
-pub silent_ticks-count-requires-clause-early : goal.silent_ticks-count-requires-clause-early
-silent_ticks-count-requires-clause-early c =
-    known_early c.args.k c.args.self.now c.clock-clock.ensures.roles c.requires.part
-    c.requires.ticks
+pub silent_ticks-count-requires : goal.silent_ticks-count-requires
+silent_ticks-count-requires c = known_sound _ c.args.self.now c.laws.ensures.roles c.requires.part
 
 pub tick-requires-clause-had : goal.tick-requires-clause-had
-tick-requires-clause-had c = known_fits _ c.args.self.now c.clock-clock.ensures.roles c.requires.part
-    c.silent_ticks-count.result
-    (omega (
-      arith,
-      jump_low c.args.self.now c.clock-clock.ensures.roles (record
-          { ratio = c.args.k; version = c.args.self.now.version }) c.args.mark c.silent_ticks-count.result
-          c.requires.low
-          (c.silent_ticks-count.ensures
-          ∙ ap (λ t. still_ticks (c.args.mark - t) (state_of c.args.self.now)) c.clock-clock.ensures.is),
-      c.requires.known,
-    ))
+tick-requires-clause-had c =
+    known_fits _ c.args.self.now c.laws.ensures.roles c.requires.part c.silent_ticks-count.result
+    (omega (arith, c.silent_ticks-count.ensures.most, c.requires.known))
 
 pub tick-requires-clause-known : goal.tick-requires-clause-known
 tick-requires-clause-known c = omega (
   arith,
-  jump_low c.args.self.now c.clock-clock.ensures.roles (record
-      { ratio = c.args.k; version = c.args.self.now.version }) c.args.mark c.silent_ticks-count.result
-      c.requires.low
-      (c.silent_ticks-count.ensures
-      ∙ ap (λ t. still_ticks (c.args.mark - t) (state_of c.args.self.now)) c.clock-clock.ensures.is),
+  c.silent_ticks-count.ensures.most,
+  c.clock-clock.ensures,
+  c.requires.low,
   c.requires.known,
 )
 
@@ -44,41 +30,52 @@ pub open_step-requires : goal.open_step-requires
 open_step-requires c =
     let p = c.args.self.now in
     let n = c.silent_ticks-count.result in
-    let roles = c.clock-clock.ensures.roles in
-    let settles : SettlesFrom c.args.k c.args.mark p (parts_later n p) =
-    ticks_settle c.args.k c.args.mark n p (parts_later n p) roles
-    c.requires.ticks (c.silent_ticks-count.ensures
-    ∙ ap (λ t. still_ticks (c.args.mark - t) (state_of c.args.self.now)) c.clock-clock.ensures.is)
-    c.requires.low refl in
+    let roles = c.laws.ensures.roles in
+    let most = ap (λ t. still_ticks (c.args.mark - t) (state_of p)) c.clock-clock.ensures in
+    let it : Jump c.args.k c.args.mark n p roles =
+    jump c.args.k c.args.mark n p roles c.requires.part c.requires.stale c.requires.ticks
+    (λ early. c.silent_ticks-count.ensures.still early ∙ most)
+    c.silent_ticks-count.ensures.done c.silent_ticks-count.ensures.start in
     subst AreSound (sym c.tick.ensures)
     (known_sound _ (parts_later n p) (roles_later n p roles)
-    (part_after c.args.k c.args.mark p (parts_later n p) refl settles c.requires.part))
+    (part_after c.args.k c.args.mark p (parts_later n p) refl
+    (jump_settles c.args.k c.args.mark n p roles it c.requires.low) c.requires.part))
 
 pub returns-clause-settles : goal.returns-clause-settles
 returns-clause-settles c =
-    ticks_settle c.args.k c.args.mark c.silent_ticks-count.result c.args.self.now c.tick.new.self
-    c.clock-clock.ensures.roles
-    c.requires.ticks (c.silent_ticks-count.ensures
-    ∙ ap (λ t. still_ticks (c.args.mark - t) (state_of c.args.self.now)) c.clock-clock.ensures.is)
-    c.requires.low
-    c.tick.ensures
+    let p = c.args.self.now in
+    let n = c.silent_ticks-count.result in
+    let roles = c.laws.ensures.roles in
+    let most = ap (λ t. still_ticks (c.args.mark - t) (state_of p)) c.clock-clock.ensures in
+    let it : Jump c.args.k c.args.mark n p roles =
+    jump c.args.k c.args.mark n p roles c.requires.part c.requires.stale c.requires.ticks
+    (λ early. c.silent_ticks-count.ensures.still early ∙ most)
+    c.silent_ticks-count.ensures.done c.silent_ticks-count.ensures.start in
+    subst (SettlesFrom c.args.k c.args.mark p) (sym c.tick.ensures)
+    (jump_settles c.args.k c.args.mark n p roles it c.requires.low)
 
 pub returns-clause-stops : goal.returns-clause-stops
 returns-clause-stops c silent =
-    ticks_stop c.args.k c.args.mark c.silent_ticks-count.result c.args.self.now c.tick.new.self
-    c.clock-clock.ensures.roles c.requires.stale (c.silent_ticks-count.ensures
-    ∙ ap (λ t. still_ticks (c.args.mark - t) (state_of c.args.self.now)) c.clock-clock.ensures.is)
-    c.requires.low c.tick.ensures
-    (step_of c.open_step.result) (sym c.open_step.ensures) silent
+    let p = c.args.self.now in
+    let n = c.silent_ticks-count.result in
+    let roles = c.laws.ensures.roles in
+    let most = ap (λ t. still_ticks (c.args.mark - t) (state_of p)) c.clock-clock.ensures in
+    let it : Jump c.args.k c.args.mark n p roles =
+    jump c.args.k c.args.mark n p roles c.requires.part c.requires.stale c.requires.ticks
+    (λ early. c.silent_ticks-count.ensures.still early ∙ most)
+    c.silent_ticks-count.ensures.done c.silent_ticks-count.ensures.start in
+    let stops = jump_stops c.args.k c.args.mark n p roles it c.requires.low c.requires.stale
+    (step_at c.tick.new.self.clock c.open_step.result)
+    (sym (ap (λ (q : Parted). open_step (record { ratio = c.args.k; version = q.version }) (state_of q)) c.tick.ensures)
+    ∙ sym c.open_step.ensures) silent in
+    (stops.0, omega (arith, stops.1, ap (λ (q : Parted). q.clock) c.tick.ensures))
 
 pub returns-clause-low : goal.returns-clause-low
 returns-clause-low c = omega (
   arith,
-  jump_low c.args.self.now c.clock-clock.ensures.roles (record
-      { ratio = c.args.k; version = c.args.self.now.version }) c.args.mark c.silent_ticks-count.result
-      c.requires.low
-      (c.silent_ticks-count.ensures
-      ∙ ap (λ t. still_ticks (c.args.mark - t) (state_of c.args.self.now)) c.clock-clock.ensures.is),
+  c.silent_ticks-count.ensures.most,
+  c.clock-clock.ensures,
+  c.requires.low,
   ap (λ (q : Parted). q.clock) c.tick.ensures,
 )
 

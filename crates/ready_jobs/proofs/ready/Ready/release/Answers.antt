@@ -12,13 +12,13 @@ use Rattle.ready_jobs.proofs.ready.Ready.release.Goals as goal
 pub come-requires-clause-stale : goal.come-requires-clause-stale
 come-requires-clause-stale c =
     let i = c.self.inside in
-    come_stale i.ratio i.parts i.jobs i.done c.args.job c.clock.ensures.roles
+    come_stale i.ratio i.parts i.jobs i.done c.args.job c.laws.ensures.roles
     (subst (λ (d : Course). IsCourse (with_release d c.args.job d.room)) (sym c.self.view_is) c.requires.course)
 
 pub invariant_of-self : goal.invariant_of-self
 invariant_of-self c =
     let i = c.self.inside in
-    come_course i.ratio i.parts i.jobs i.done c.args.job c.clock.ensures.roles
+    come_course i.ratio i.parts i.jobs i.done c.args.job c.laws.ensures.roles
     (subst (λ (d : Course). IsCourse (with_release d c.args.job d.room)) (sym c.self.view_is) c.requires.course)
     c.come.new.self c.come.ensures
 
@@ -27,7 +27,7 @@ returns-clause-ready c =
     let i = c.self.inside in
     subst (λ (d : Course). IsReordered (d.ready ++ fresh_job d c.args.job ∷ []) (ready_of c.come.new.self))
     c.self.view_is
-    (come_order i.ratio i.parts i.jobs i.done c.args.job c.clock.ensures.roles
+    (come_order i.ratio i.parts i.jobs i.done c.args.job c.laws.ensures.roles
     (subst (λ (d : Course). IsCourse (with_release d c.args.job d.room)) (sym c.self.view_is) c.requires.course)
     c.come.new.self c.come.ensures)
 
@@ -38,7 +38,7 @@ returns-clause-paid c start now paid =
     (sym (ap (λ (q : Parted). q.clock) c.come.ensures))
     (release_pays (course_of i.ratio i.parts i.jobs i.done) c.args.job (ready_of c.come.new.self)
     (subst (λ (d : Course). d.clock ≤ c.args.job.release) (sym c.self.view_is) c.requires.ahead)
-    (come_order i.ratio i.parts i.jobs i.done c.args.job c.clock.ensures.roles
+    (come_order i.ratio i.parts i.jobs i.done c.args.job c.laws.ensures.roles
     (subst (λ (d : Course). IsCourse (with_release d c.args.job d.room)) (sym c.self.view_is) c.requires.course)
     c.come.new.self c.come.ensures) start now
     (subst (λ d. HasPaid d start now) (sym c.self.view_is) paid))

@@ -12,7 +12,7 @@ use Rattle.ready_jobs.proofs.ready.Ready.take.Goals as goal
 pub apply-worth-requires-clause-sound : goal.apply-worth-requires-clause-sound
 apply-worth-requires-clause-sound g c =
     let i = c.self.inside in
-    known_sound _ i.parts c.clock.ensures.roles (course_part i.ratio i.parts i.jobs i.done c.self.invariant)
+    known_sound _ i.parts c.laws.ensures.roles (course_part i.ratio i.parts i.jobs i.done c.self.invariant)
 
 pub apply-worth-requires-clause-once : goal.apply-worth-requires-clause-once
 apply-worth-requires-clause-once g c =

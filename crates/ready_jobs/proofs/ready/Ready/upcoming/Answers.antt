@@ -4,19 +4,18 @@ use Rattle.dover_model.specs.declared.events.Event.TheVariants.{End}
 use Rattle.dover_model.specs.Run.{event_of}
 use Rattle.dover_model.specs.Step.{Prints}
 use Rattle.trace_reading.specs.Leading.{PrintsNext}
-use Rattle.ready_jobs.specs.Parts.{ready_of}
 use Rattle.ready_jobs.specs.Course.{Course, Follows, Reached}
-use Rattle.ready_jobs.proofs.Courses.{no_items, over_next, reached_next, reached_last}
+use Rattle.ready_jobs.proofs.Courses.{over_next, reached_next, reached_last}
 use Rattle.ready_jobs.proofs.ready.Ready.upcoming.Goals as goal
 
-pub returns-then-count-eq0-clause-next : goal.returns-then-count-eq0-clause-next
-returns-then-count-eq0-clause-next g c J z follows = (
+pub returns-then-is_empty-clause-next : goal.returns-then-is_empty-clause-next
+returns-then-is_empty-clause-next g c J z follows = (
   z,
   follows,
   subst (λ n. PrintsNext J.rules z (End n) z) (sym (ap (λ (d : Course). d.done) c.self.view_is))
       (over_next c.args.self.now J z follows
       (sym (ap (λ (d : Course). d.ready) c.self.view_is)
-      ∙ no_items (ready_of c.self.inside.parts) (sym c.count.ensures ∙ c.if-count-eq0.true))),
+      ∙ c.is_empty.ensures.0 c.if-is_empty.true)),
 )
 
 pub unreachable-requires-in-Ticks : goal.unreachable-requires-in-Ticks
