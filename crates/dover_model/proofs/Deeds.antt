@@ -164,7 +164,7 @@ module _ (k : Fraction) (version : Version) (s : State) (other : Move) (sound : 
   none_of p none = first_none (λ e. e.deadline) version p s.tasks none
 
   -- none waits or is held
-  nobody_behind : v.held ≡ None → v.waiting ≡ None → Each (λ t. is_ready_behind t ≡ true → ⊥) s.tasks
+  nobody_behind : v.first_held ≡ None → v.first_waiting ≡ None → Each (λ t. is_ready_behind t ≡ true → ⊥) s.tasks
   nobody_behind no_held no_waiting t m behind = by_role (is_behind_role t behind) where
     by_role : (t.role ≡ Waiting) ⊎ (t.role ≡ Held) → ⊥
     by_role (inl waits) = none_of is_waiting no_waiting t m (passes is_waiting t Waiting true waits refl)
@@ -241,7 +241,8 @@ module _ (k : Fraction) (version : Version) (s : State) (other : Move) (sound : 
       omega arith
 
   -- the waiting job at its latest start
-  waits_for_mark : (x : Task) → v.late ≡ Some x → IsMember x s.tasks × (x.role ≡ Waiting) × (latest_start x ≡ s.clock)
+  waits_for_mark : (x : Task) → v.must_start ≡ Some x
+      → IsMember x s.tasks × (x.role ≡ Waiting) × (latest_start x ≡ s.clock)
   waits_for_mark x some =
       let it : IsMember x (waiting s) × (is_at_latest_start s x ≡ true) = late_member in
       let is_w : IsMember x s.tasks × (is_waiting x ≡ true) = member_filter is_waiting s.tasks x it.0 in
@@ -252,7 +253,7 @@ module _ (k : Fraction) (version : Version) (s : State) (other : Move) (sound : 
             first_some (λ e. e.latest) version (is_at_latest_start s) (waiting s) x some in (it.0, it.1)
 
   -- no waiting job is at its latest start
-  none_late : (ro : Option Task) → Settles v ro → (v.late ≡ None) ⊎ (ro ≡ None)
+  none_late : (ro : Option Task) → Settles v ro → (v.must_start ≡ None) ⊎ (ro ≡ None)
       → Each (λ t. t.role ≡ Waiting → latest_start t ≡ s.clock → ⊥) s.tasks
   none_late ro settles (inl none) t m waits now =
       first_none (λ e. e.latest) version (is_at_latest_start s) (waiting s) none t
@@ -282,7 +283,7 @@ module _ (k : Fraction) (version : Version) (s : State) (other : Move) (sound : 
       omega (arith, demand_is is_privileged s.tasks t)
 
   -- the first waiting job
-  is_first_waiting : (o : Task) → v.waiting ≡ Some o
+  is_first_waiting : (o : Task) → v.first_waiting ≡ Some o
       → IsMember o s.tasks × (o.role ≡ Waiting) × Each (λ w. w.role ≡ Waiting → o.job.deadline ≤ w.job.deadline) s.tasks
   is_first_waiting o some = let it : IsMember o s.tasks × (is_waiting o ≡ true) × Each
       (λ t. is_waiting t ≡ true → o.job.deadline ≤ t.job.deadline) s.tasks =
@@ -337,7 +338,8 @@ module _ (k : Fraction) (version : Version) (s : State) (other : Move) (sound : 
     it : IsMember r s.tasks × (r.role ≡ Running) × (1 ≤ left r)
     it = settled_r r settles
 
-    by_before : (b : Bool) → nat_lt f.job.deadline r.job.deadline ≡ b → (b && nat_le f.job.work v.room) ≡ false
+    by_before : (b : Bool) → nat_lt f.job.deadline r.job.deadline ≡ b
+        → (b && nat_le f.job.work v.privileged_room) ≡ false
         → (r.job.deadline ≤ f.job.deadline) ⊎ ((f.job.deadline < r.job.deadline) × Crowded s (left f))
     by_before false later _ = inl (ltb-false _ _ later)
     by_before true before low = inr (
@@ -347,7 +349,7 @@ module _ (k : Fraction) (version : Version) (s : State) (other : Move) (sound : 
     )
 
   -- the deed of case 2
-  deed_resumes : (p : Task) (o : Option Task) → running s ≡ None → v.held ≡ Some p → v.waiting ≡ o
+  deed_resumes : (p : Task) (o : Option Task) → running s ≡ None → v.first_held ≡ Some p → v.first_waiting ≡ o
       → Deed k s other (runs v (resumed v p o))
   deed_resumes p o none is_p is_o = by_option o is_o where
     facts : IsMember p s.tasks × (is_held p ≡ true)
@@ -360,7 +362,7 @@ module _ (k : Fraction) (version : Version) (s : State) (other : Move) (sound : 
     resumes : Passes s p → Deed k s other (runs v p)
     resumes why = Resumed p facts.0 (is_held_role p facts.1) (none_runs none) least why
 
-    by_option : (o : Option Task) → v.waiting ≡ o → Deed k s other (runs v (resumed v p o))
+    by_option : (o : Option Task) → v.first_waiting ≡ o → Deed k s other (runs v (resumed v p o))
     by_option None e = resumes
         (NoneBefore (λ w m waits. absurd (none_of is_waiting e w m (passes is_waiting w Waiting true waits refl))))
     by_option (Some o) e = by_tests (nat_lt o.job.deadline p.job.deadline)
@@ -389,7 +391,7 @@ module _ (k : Fraction) (version : Version) (s : State) (other : Move) (sound : 
   -- the deed of each case
   pub deed_of : (m : Move) → Case k v other m → Deed k s other m
   deed_of m (Completes r some done) = Completed r (it_runs r some).0 (it_runs r some).1 (eqb-true _ _ done)
-  deed_of m (Resumes p none is_p) = deed_resumes p v.waiting none is_p refl
+  deed_of m (Resumes p none is_p) = deed_resumes p v.first_waiting none is_p refl
   deed_of m (Starts o none no_held is_o) =
       Started o (is_first_waiting o is_o).0 (is_first_waiting o is_o).1 (none_runs none)
       (λ t mt is_h. absurd (none_of is_held no_held t mt (passes is_held t Held true is_h refl)))
@@ -400,9 +402,9 @@ module _ (k : Fraction) (version : Version) (s : State) (other : Move) (sound : 
   deed_of m (Preempts r f settles is_fr fits) =
       let it : IsMember f s.tasks × (f.role ≡ Fresh) = is_f f is_fr in
       let low : f.job.work ≤ room s.clock (privileged s) =
-      leb-true _ _ (and_parts (nat_lt f.job.deadline r.job.deadline) (nat_le f.job.work v.room) fits).1 in
+      leb-true _ _ (and_parts (nat_lt f.job.deadline r.job.deadline) (nat_le f.job.work v.privileged_room) fits).1 in
       Preempted r f (settled_r r settles).0 (settled_r r settles).1 (settled_r r settles).2 it.0 it.1
-      (ltb-true _ _ (and_parts (nat_lt f.job.deadline r.job.deadline) (nat_le f.job.work v.room) fits).0)
+      (ltb-true _ _ (and_parts (nat_lt f.job.deadline r.job.deadline) (nat_le f.job.work v.privileged_room) fits).0)
       (fits_all f (says s sound f it.0 Fresh it.1).1 (omega arith))
   deed_of m (Stays r f settles is_fr tight) =
       Stayed r f (settled_r r settles).0 (settled_r r settles).1 (settled_r r settles).2 (is_f f is_fr).0

@@ -198,14 +198,14 @@ module _ (c : ℕ) where
   moved_view v = record {
     clock = v.clock + c;
     running = moved_option c v.running;
-    held = moved_option c v.held;
-    waiting = moved_option c v.waiting;
+    first_held = moved_option c v.first_held;
+    first_waiting = moved_option c v.first_waiting;
     fresh = moved_option c v.fresh;
     coming = moved_option c v.coming;
-    late = moved_option c v.late;
-    room_held = v.room_held;
-    room = v.room;
-    value = v.value;
+    must_start = moved_option c v.must_start;
+    held_room = v.held_room;
+    privileged_room = v.privileged_room;
+    privileged_value = v.privileged_value;
   }
 
   -- some of them fit as well
@@ -289,9 +289,9 @@ module _ (c : ℕ) where
   dispatch_later v (Some r) p o = refl
   dispatch_later v None (Some p) None = refl
   dispatch_later v None (Some p) (Some o) =
-      ap (λ b. Some (runs (moved_view v) (cond (b && nat_le (left o) v.room_held) (moved_task c o) (moved_task c p))))
+      ap (λ b. Some (runs (moved_view v) (cond (b && nat_le (left o) v.held_room) (moved_task c o) (moved_task c p))))
       (lt_later c o.job.deadline p.job.deadline)
-      ∙ by_test (nat_lt o.job.deadline p.job.deadline && nat_le (left o) v.room_held) where
+      ∙ by_test (nat_lt o.job.deadline p.job.deadline && nat_le (left o) v.held_room) where
         by_test : (b : Bool) → Some (runs (moved_view v) (cond b (moved_task c o) (moved_task c p))) ≡ moved_choice
             (Some (runs v (cond b o p)))
         by_test true = refl
@@ -306,7 +306,7 @@ module _ (c : ℕ) where
   decision_later v (Some r) None = refl
   decision_later v None (Some f) = refl
   decision_later v (Some r) (Some f) =
-      ap (λ b. Some (cond (b && nat_le f.job.work v.room) (Prints (Preempt (v.clock + c) r.number f.number))
+      ap (λ b. Some (cond (b && nat_le f.job.work v.privileged_room) (Prints (Preempt (v.clock + c) r.number f.number))
       (Waits f.number)))
       (lt_later c f.job.deadline r.job.deadline) ∙ by_test (preempts v f r) where
         by_test : (b : Bool) → Some (cond b (Prints (Preempt (v.clock + c) r.number f.number)) (Waits f.number))
@@ -331,7 +331,7 @@ module _ (c : ℕ) where
   alarm_later k v None None = refl
   alarm_later k v (Some r) None = refl
   alarm_later k v None (Some x) = refl
-  alarm_later k v (Some r) (Some x) = by_test (is_heavy k x.job.value v.value) where
+  alarm_later k v (Some r) (Some x) = by_test (is_heavy k x.job.value v.privileged_value) where
     by_test : (b : Bool) → Some
         (Prints (cond b (Take (v.clock + c) r.number x.number) (Abandon (v.clock + c) x.number)))
         ≡ moved_choice (Some (Prints (cond b (Take v.clock r.number x.number) (Abandon v.clock x.number))))
@@ -354,31 +354,35 @@ module _ (c : ℕ) where
   urgent_later : (k : Fraction) (v : View) (m : Move)
       → urgent_or k (moved_view v) (moved_move m) ≡ moved_move (urgent_or k v m)
   urgent_later k v m =
-      ap (λ a. a or_else dispatch (moved_view v) (moved_option c v.running) (moved_option c v.held)
-      (moved_option c v.waiting)
+      ap (λ a. a or_else dispatch (moved_view v) (moved_option c v.running) (moved_option c v.first_held)
+      (moved_option c v.first_waiting)
       or_else decision (moved_view v) (moved_option c v.running) (moved_option c v.fresh) or_else arrival (moved_view v)
       (moved_option c v.coming)
-      or_else alarm k (moved_view v) (moved_option c v.running) (moved_option c v.late) or_else moved_move m)
+      or_else alarm k (moved_view v) (moved_option c v.running) (moved_option c v.must_start) or_else moved_move m)
       (completion_later v v.running)
       ∙ ap (λ a. moved_choice (completion v v.running) or_else a
       or_else decision (moved_view v) (moved_option c v.running) (moved_option c v.fresh) or_else arrival (moved_view v)
       (moved_option c v.coming)
-      or_else alarm k (moved_view v) (moved_option c v.running) (moved_option c v.late) or_else moved_move m)
-      (dispatch_later v v.running v.held v.waiting)
-      ∙ ap (λ a. moved_choice (completion v v.running) or_else moved_choice (dispatch v v.running v.held v.waiting)
+      or_else alarm k (moved_view v) (moved_option c v.running) (moved_option c v.must_start) or_else moved_move m)
+      (dispatch_later v v.running v.first_held v.first_waiting)
+      ∙ ap (λ a. moved_choice (completion v v.running) or_else moved_choice
+      (dispatch v v.running v.first_held v.first_waiting)
       or_else a or_else arrival (moved_view v) (moved_option c v.coming)
-      or_else alarm k (moved_view v) (moved_option c v.running) (moved_option c v.late) or_else moved_move m)
+      or_else alarm k (moved_view v) (moved_option c v.running) (moved_option c v.must_start) or_else moved_move m)
       (decision_later v v.running v.fresh)
-      ∙ ap (λ a. moved_choice (completion v v.running) or_else moved_choice (dispatch v v.running v.held v.waiting)
+      ∙ ap (λ a. moved_choice (completion v v.running) or_else moved_choice
+      (dispatch v v.running v.first_held v.first_waiting)
       or_else moved_choice (decision v v.running v.fresh) or_else a
-      or_else alarm k (moved_view v) (moved_option c v.running) (moved_option c v.late) or_else moved_move m)
+      or_else alarm k (moved_view v) (moved_option c v.running) (moved_option c v.must_start) or_else moved_move m)
       (arrival_later v v.coming)
-      ∙ ap (λ a. moved_choice (completion v v.running) or_else moved_choice (dispatch v v.running v.held v.waiting)
+      ∙ ap (λ a. moved_choice (completion v v.running) or_else moved_choice
+      (dispatch v v.running v.first_held v.first_waiting)
       or_else moved_choice (decision v v.running v.fresh) or_else moved_choice (arrival v v.coming)
-      or_else a or_else moved_move m) (alarm_later k v v.running v.late)
-      ∙ first_moved (completion v v.running) (dispatch v v.running v.held v.waiting) (decision v v.running v.fresh)
+      or_else a or_else moved_move m) (alarm_later k v v.running v.must_start)
+      ∙ first_moved (completion v v.running) (dispatch v v.running v.first_held v.first_waiting)
+      (decision v v.running v.fresh)
       (arrival v v.coming)
-      (alarm k v v.running v.late) m
+      (alarm k v v.running v.must_start) m
 
   -- the end
   ending_later : (s : State) → (ending (moved_state c s) or_else Ticks) ≡ moved_move (ending s or_else Ticks)

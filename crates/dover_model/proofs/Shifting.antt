@@ -197,14 +197,14 @@ module _ (n : ℕ) where
   shifted_view v = record {
     clock = v.clock;
     running = shift_option n v.running;
-    held = shift_option n v.held;
-    waiting = shift_option n v.waiting;
+    first_held = shift_option n v.first_held;
+    first_waiting = shift_option n v.first_waiting;
     fresh = shift_option n v.fresh;
     coming = shift_option n v.coming;
-    late = shift_option n v.late;
-    room_held = v.room_held;
-    room = v.room;
-    value = v.value;
+    must_start = shift_option n v.must_start;
+    held_room = v.held_room;
+    privileged_room = v.privileged_room;
+    privileged_value = v.privileged_value;
   }
 
   module _ (overs : List Task) (over : Each (λ t. is_over t ≡ true) overs) where
@@ -322,7 +322,7 @@ module _ (n value : ℕ) where
   dispatch_shift v (Some r) p o = refl
   dispatch_shift v None (Some p) None = refl
   dispatch_shift v None (Some p) (Some o) =
-      by_test (nat_lt o.job.deadline p.job.deadline && nat_le (left o) v.room_held) where
+      by_test (nat_lt o.job.deadline p.job.deadline && nat_le (left o) v.held_room) where
         by_test : (b : Bool) → Some (runs (shifted_view n v) (cond b (shifted n o) (shifted n p)))
             ≡ moved_option n value
             (Some (runs v (cond b o p)))
@@ -359,7 +359,7 @@ module _ (n value : ℕ) where
   alarm_shift k v None None = refl
   alarm_shift k v (Some r) None = refl
   alarm_shift k v None (Some x) = refl
-  alarm_shift k v (Some r) (Some x) = by_test (is_heavy k x.job.value v.value) where
+  alarm_shift k v (Some r) (Some x) = by_test (is_heavy k x.job.value v.privileged_value) where
     by_test : (b : Bool) → Some
         (Prints (cond b (Take v.clock (n + r.number) (n + x.number)) (Abandon v.clock (n + x.number))))
         ≡ moved_option n value (Some (Prints (cond b (Take v.clock r.number x.number) (Abandon v.clock x.number))))
@@ -386,43 +386,49 @@ module _ (n value : ℕ) where
       let e_completion : completion (shifted_view n v) (shift_option n v.running) ≡ moved_option n value
       (completion v v.running) =
       completion_shift v v.running in
-      let e_dispatch : dispatch (shifted_view n v) (shift_option n v.running) (shift_option n v.held)
-      (shift_option n v.waiting)
-      ≡ moved_option n value (dispatch v v.running v.held v.waiting) = dispatch_shift v v.running v.held v.waiting in
+      let e_dispatch : dispatch (shifted_view n v) (shift_option n v.running) (shift_option n v.first_held)
+      (shift_option n v.first_waiting)
+      ≡ moved_option n value (dispatch v v.running v.first_held v.first_waiting) =
+      dispatch_shift v v.running v.first_held v.first_waiting in
       let e_decision : decision (shifted_view n v) (shift_option n v.running) (shift_option n v.fresh)
       ≡ moved_option n value (decision v v.running v.fresh) = decision_shift v v.running v.fresh in
       let e_arrival : arrival (shifted_view n v) (shift_option n v.coming) ≡ moved_option n value (arrival v v.coming) =
       arrival_shift v v.coming in
-      let e_alarm : alarm k (shifted_view n v) (shift_option n v.running) (shift_option n v.late)
-      ≡ moved_option n value (alarm k v v.running v.late) = alarm_shift k v v.running v.late in
-      ap (λ a. a or_else dispatch (shifted_view n v) (shift_option n v.running) (shift_option n v.held)
-      (shift_option n v.waiting)
+      let e_alarm : alarm k (shifted_view n v) (shift_option n v.running) (shift_option n v.must_start)
+      ≡ moved_option n value (alarm k v v.running v.must_start) = alarm_shift k v v.running v.must_start in
+      ap (λ a. a or_else dispatch (shifted_view n v) (shift_option n v.running) (shift_option n v.first_held)
+      (shift_option n v.first_waiting)
       or_else decision (shifted_view n v) (shift_option n v.running) (shift_option n v.fresh) or_else arrival
       (shifted_view n v) (shift_option n v.coming)
-      or_else alarm k (shifted_view n v) (shift_option n v.running) (shift_option n v.late) or_else moved n value m)
+      or_else alarm k (shifted_view n v) (shift_option n v.running) (shift_option n v.must_start) or_else moved n value
+      m)
       e_completion
       ∙ ap (λ a. moved_option n value (completion v v.running) or_else a
       or_else decision (shifted_view n v) (shift_option n v.running) (shift_option n v.fresh) or_else arrival
       (shifted_view n v) (shift_option n v.coming)
-      or_else alarm k (shifted_view n v) (shift_option n v.running) (shift_option n v.late) or_else moved n value m)
+      or_else alarm k (shifted_view n v) (shift_option n v.running) (shift_option n v.must_start) or_else moved n value
+      m)
       e_dispatch
       ∙ ap (λ a. moved_option n value (completion v v.running) or_else moved_option n value
-      (dispatch v v.running v.held v.waiting)
+      (dispatch v v.running v.first_held v.first_waiting)
       or_else a or_else arrival (shifted_view n v) (shift_option n v.coming)
-      or_else alarm k (shifted_view n v) (shift_option n v.running) (shift_option n v.late) or_else moved n value m)
+      or_else alarm k (shifted_view n v) (shift_option n v.running) (shift_option n v.must_start) or_else moved n value
+      m)
       e_decision
       ∙ ap (λ a. moved_option n value (completion v v.running) or_else moved_option n value
-      (dispatch v v.running v.held v.waiting)
+      (dispatch v v.running v.first_held v.first_waiting)
       or_else moved_option n value (decision v v.running v.fresh) or_else a
-      or_else alarm k (shifted_view n v) (shift_option n v.running) (shift_option n v.late) or_else moved n value m)
+      or_else alarm k (shifted_view n v) (shift_option n v.running) (shift_option n v.must_start) or_else moved n value
+      m)
       e_arrival
       ∙ ap (λ a. moved_option n value (completion v v.running) or_else moved_option n value
-      (dispatch v v.running v.held v.waiting)
+      (dispatch v v.running v.first_held v.first_waiting)
       or_else moved_option n value (decision v v.running v.fresh) or_else moved_option n value (arrival v v.coming)
       or_else a or_else moved n value m) e_alarm
-      ∙ first_moved (completion v v.running) (dispatch v v.running v.held v.waiting) (decision v v.running v.fresh)
+      ∙ first_moved (completion v v.running) (dispatch v v.running v.first_held v.first_waiting)
+      (decision v v.running v.fresh)
       (arrival v v.coming)
-      (alarm k v v.running v.late) m
+      (alarm k v v.running v.must_start) m
 
 module _ (rules : Rules) (n : ℕ) (overs : List Task) (over : Each (λ t. is_over t ≡ true) overs) where
   -- what those that are over came to

@@ -17,4 +17,4 @@ arrival_of v = arrival v v.coming
 -- the job x takes the processor from r, or is abandoned
 abbrev pub alarm_of : Fraction → View → Task → Task → Move
 alarm_of k v r x = Prints
-    (if is_heavy k x.job.value v.value then Take v.clock r.number x.number else Abandon v.clock x.number)
+    (if is_heavy k x.job.value v.privileged_value then Take v.clock r.number x.number else Abandon v.clock x.number)

@@ -386,7 +386,7 @@ impl Queues {
 
     // While p is held: the first waiting job, if it is due before p and fits the room of the held jobs, otherwise p.
     fn resumed(&self, p: &Task) -> Task
-        ensures { let v = view self.now.rules.version self.now.state in result ≡ resumed v p.now v.waiting }
+        ensures { let v = view self.now.rules.version self.now.state in result ≡ resumed v p.now v.first_waiting }
     {
         match self.first_waiting() {
             Some(o) if o.job.deadline() < p.job.deadline() && left(&o) <= self.room_held() => o,

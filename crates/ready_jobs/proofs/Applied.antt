@@ -155,21 +155,22 @@ module _ (p : Parted) (roles : HaveRoles p) (once : AreOnce (ready_of p)) where
           number (starts p roles once t rest run_free out)
 
       -- where neither the first held nor the first waiting job is named, the fresh one is
-      module _ (held_not : (t : Task) → seen.held ≡ Some t → t.number ≡ n → ⊥)
-          (waiting_not : (t : Task) → seen.waiting ≡ Some t → t.number ≡ n → ⊥) where
-        not_next : (h o : Option Task) (t : Task) → seen.held ≡ h → seen.waiting ≡ o → next_of seen h o ≡ Some t
+      module _ (held_not : (t : Task) → seen.first_held ≡ Some t → t.number ≡ n → ⊥)
+          (waiting_not : (t : Task) → seen.first_waiting ≡ Some t → t.number ≡ n → ⊥) where
+        not_next : (h o : Option Task) (t : Task) → seen.first_held ≡ h → seen.first_waiting ≡ o
+            → next_of seen h o ≡ Some t
             → t.number ≡ n → ⊥
         not_next None o t h_is o_is is number = waiting_not t (o_is ∙ is) number
         not_next (Some h) None t h_is o_is is number = held_not t (h_is ∙ is) number
         not_next (Some h) (Some o) t h_is o_is is number =
-            by_test (nat_lt o.job.deadline h.job.deadline && nat_le (left o) seen.room_held) is where
+            by_test (nat_lt o.job.deadline h.job.deadline && nat_le (left o) seen.held_room) is where
               by_test : (b : Bool) → Some (cond b o h) ≡ Some t → ⊥
               by_test true e = waiting_not t (o_is ∙ e) number
               by_test false e = held_not t (h_is ∙ e) number
 
         fresh_named : (f : Task) × (p.fresh ≡ Some f) × (f.number ≡ n)
         fresh_named = elim names_run.1 [
-          | inl it ↦ absurd (not_next seen.held seen.waiting it.0 refl refl it.1 it.2)
+          | inl it ↦ absurd (not_next seen.first_held seen.first_waiting it.0 refl refl it.1 it.2)
           | inr it ↦ (it.0, sym (seen_fresh p roles) ∙ it.2, it.3)
         ]
 
@@ -207,11 +208,17 @@ module _ (p : Parted) (roles : HaveRoles p) (once : AreOnce (ready_of p)) where
       names_taken : Says seen (Take next.0 m n)
       names_taken = says next.1.0 seen (Take next.0 m n) next.1.1
 
-      -- the job at its latest start is the one that the step names
-      pub taken_named : (x : Task) → seen.late ≡ Some x → x.number ≡ n
-      taken_named x late = named_here seen.late x names_taken.1 n late names_taken.3 names_taken.5
+      pub some_loses : p.running ≡ None → ⊥
+      some_loses none = none_is_some (sym none ∙ runs_here names_taken.0 names_taken.2)
 
-      pub taken_leaves : (r x : Task) (rest : List Task) → p.running ≡ Some r → seen.late ≡ Some x
+      pub some_takes : seen.must_start ≡ None → ⊥
+      some_takes none = none_is_some (sym none ∙ names_taken.3)
+
+      -- the job at its latest start is the one that the step names
+      pub taken_named : (x : Task) → seen.must_start ≡ Some x → x.number ≡ n
+      taken_named x late = named_here seen.must_start x names_taken.1 n late names_taken.3 names_taken.5
+
+      pub taken_leaves : (r x : Task) (rest : List Task) → p.running ≡ Some r → seen.must_start ≡ Some x
           → IsReordered (map made_wait (r ∷ p.held) ++ p.waiting) (x ∷ rest) → (at : ℕ)
           → Leaves (printed (Take at m n)) (ready_of p) (ready_of (record p
           { running = Some (with_role x Running); held = []; waiting = rest })) 0

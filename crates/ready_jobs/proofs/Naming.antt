@@ -16,14 +16,15 @@ use Rattle.scanned_step.specs.Cases.{next_of}
 -- the jobs that the step names, as they are seen
 abbrev pub Says : View → Event → Type 0
 Says v (Release n j) = (c : Task) × (v.coming ≡ Some c)
-Says v (Run at n) = (v.running ≡ None) × (((t : Task) × (next_of v v.held v.waiting ≡ Some t) × (t.number ≡ n))
-    ⊎ ((f : Task) × (next_of v v.held v.waiting ≡ None) × (v.fresh ≡ Some f) × (f.number ≡ n)))
+Says v (Run at n) =
+    (v.running ≡ None) × (((t : Task) × (next_of v v.first_held v.first_waiting ≡ Some t) × (t.number ≡ n))
+    ⊎ ((f : Task) × (next_of v v.first_held v.first_waiting ≡ None) × (v.fresh ≡ Some f) × (f.number ≡ n)))
 Says v (Preempt at m n) = (r : Task) × (f : Task) × (v.running ≡ Some r) × (v.fresh ≡ Some f) × (r.number ≡ m)
     × (f.number ≡ n)
-Says v (Take at m n) = (r : Task) × (x : Task) × (v.running ≡ Some r) × (v.late ≡ Some x) × (r.number ≡ m)
+Says v (Take at m n) = (r : Task) × (x : Task) × (v.running ≡ Some r) × (v.must_start ≡ Some x) × (r.number ≡ m)
     × (x.number ≡ n) × (v.fresh ≡ None)
 Says v (Complete at n) = (r : Task) × (v.running ≡ Some r) × (r.number ≡ n)
-Says v (Abandon at n) = (r : Task) × (x : Task) × (v.running ≡ Some r) × (v.late ≡ Some x) × (x.number ≡ n)
+Says v (Abandon at n) = (r : Task) × (x : Task) × (v.running ≡ Some r) × (v.must_start ≡ Some x) × (x.number ≡ n)
 Says v (End value) = ⊥
 
 same_event : (a b : Event) → Prints a ≡ Prints b → a ≡ b
@@ -36,17 +37,18 @@ module _ (k : Fraction) (v : View) (e : Event) where
   ticks_not : Ticks ≡ Prints e → ⊥
   ticks_not is = cc
 
-  by_alarm : (r x : Task) (b : Bool) → v.running ≡ Some r → v.late ≡ Some x → v.fresh ≡ None
+  by_alarm : (r x : Task) (b : Bool) → v.running ≡ Some r → v.must_start ≡ Some x → v.fresh ≡ None
       → Prints (cond b (Take v.clock r.number x.number) (Abandon v.clock x.number)) ≡ Prints e → Says v e
   by_alarm r x true runs_is late stale is =
       subst (Says v) (same_event (Take v.clock r.number x.number) e is) (r, x, runs_is, late, refl, refl, stale)
   by_alarm r x false runs_is late stale is =
       subst (Says v) (same_event (Abandon v.clock x.number) e is) (r, x, runs_is, late, refl)
 
-  late_or : (r : Task) (x : Option Task) → v.running ≡ Some r → v.late ≡ x → v.fresh ≡ None
+  late_or : (r : Task) (x : Option Task) → v.running ≡ Some r → v.must_start ≡ x → v.fresh ≡ None
       → (alarm k v (Some r) x or_else Ticks) ≡ Prints e → Says v e
   late_or r None runs_is late stale is = absurd (ticks_not is)
-  late_or r (Some x) runs_is late stale is = by_alarm r x (is_heavy k x.job.value v.value) runs_is late stale is
+  late_or r (Some x) runs_is late stale is =
+      by_alarm r x (is_heavy k x.job.value v.privileged_value) runs_is late stale is
 
   by_release : (c : Task) (b : Bool) (rest : Move) → v.coming ≡ Some c
       → (then_some b (Prints (Release c.number c.job)) or_else rest) ≡ Prints e
@@ -66,12 +68,13 @@ module _ (k : Fraction) (v : View) (e : Event) where
   by_decision r f false runs_is fresh is = absurd (waits_not f.number is)
 
   decision_or : (r : Task) (f : Option Task) → v.running ≡ Some r → v.fresh ≡ f
-      → (decision v (Some r) f or_else arrival v v.coming or_else alarm k v (Some r) v.late or_else Ticks) ≡ Prints e
+      → (decision v (Some r) f or_else arrival v v.coming or_else alarm k v (Some r) v.must_start or_else Ticks)
+      ≡ Prints e
       → Says v e
   decision_or r (Some f) runs_is fresh is = by_decision r f (preempts v f r) runs_is fresh is
   decision_or r None runs_is fresh is =
-      arrival_or v.coming (alarm k v (Some r) v.late or_else Ticks) refl is
-      (λ rest. late_or r v.late runs_is refl fresh rest)
+      arrival_or v.coming (alarm k v (Some r) v.must_start or_else Ticks) refl is
+      (λ rest. late_or r v.must_start runs_is refl fresh rest)
 
   by_completion : (r : Task) (b : Bool) (rest : Move) → v.running ≡ Some r
       → (then_some b (Prints (Complete v.clock r.number)) or_else rest) ≡ Prints e
@@ -85,31 +88,37 @@ module _ (k : Fraction) (v : View) (e : Event) where
   no_alarm None is = ticks_not is
   no_alarm (Some x) is = ticks_not is
 
-  free_or : (p o f : Option Task) → v.running ≡ None → v.held ≡ p → v.waiting ≡ o → v.fresh ≡ f
-      → (dispatch v None p o or_else decision v None f or_else arrival v v.coming or_else alarm k v None v.late or_else
+  free_or : (p o f : Option Task) → v.running ≡ None → v.first_held ≡ p → v.first_waiting ≡ o → v.fresh ≡ f
+      → (dispatch v None p o or_else decision v None f or_else arrival v v.coming or_else alarm k v None v.must_start
+      or_else
       Ticks) ≡ Prints e → Says v e
   free_or (Some p) o f free held_is waits fresh is =
-      subst (Says v) (same_event (Run v.clock (resumed v p o).number) e is)
-      (free, inl (resumed v p o, ap (λ q. next_of v q v.waiting) held_is ∙ ap (λ q. next_of v (Some p) q) waits, refl))
+      subst (Says v) (same_event (Run v.clock (resumed v p o).number) e is) (
+        free,
+        inl
+            (resumed v p o, ap (λ q. next_of v q v.first_waiting) held_is ∙ ap (λ q. next_of v (Some p) q) waits, refl),
+      )
   free_or None (Some o) f free held_is waits fresh is =
       subst (Says v) (same_event (Run v.clock o.number) e is)
-      (free, inl (o, ap (λ q. next_of v q v.waiting) held_is ∙ ap (λ q. next_of v None q) waits, refl))
+      (free, inl (o, ap (λ q. next_of v q v.first_waiting) held_is ∙ ap (λ q. next_of v None q) waits, refl))
   free_or None None (Some f) free held_is waits fresh is =
       subst (Says v) (same_event (Run v.clock f.number) e is)
-      (free, inr (f, ap (λ q. next_of v q v.waiting) held_is ∙ ap (λ q. next_of v None q) waits, fresh, refl))
+      (free, inr (f, ap (λ q. next_of v q v.first_waiting) held_is ∙ ap (λ q. next_of v None q) waits, fresh, refl))
   free_or None None None free held_is waits fresh is =
-      arrival_or v.coming (alarm k v None v.late or_else Ticks) refl is (λ rest. absurd (no_alarm v.late rest))
+      arrival_or v.coming (alarm k v None v.must_start or_else Ticks) refl is
+      (λ rest. absurd (no_alarm v.must_start rest))
 
   by_running : (r : Option Task) → v.running ≡ r
-      → (completion v r or_else dispatch v r v.held v.waiting or_else decision v r v.fresh or_else arrival v v.coming
-      or_else alarm k v r v.late or_else Ticks)
+      → (completion v r or_else dispatch v r v.first_held v.first_waiting or_else decision v r v.fresh or_else arrival v
+      v.coming
+      or_else alarm k v r v.must_start or_else Ticks)
       ≡ Prints e → Says v e
   by_running (Some r) runs_is is =
       by_completion r (left r == 0)
-      (decision v (Some r) v.fresh or_else arrival v v.coming or_else alarm k v (Some r) v.late or_else Ticks)
+      (decision v (Some r) v.fresh or_else arrival v v.coming or_else alarm k v (Some r) v.must_start or_else Ticks)
       runs_is is
       (λ rest. decision_or r v.fresh runs_is refl rest)
-  by_running None free is = free_or v.held v.waiting v.fresh free refl refl refl is
+  by_running None free is = free_or v.first_held v.first_waiting v.fresh free refl refl refl is
 
   pub says : urgent_or k v Ticks ≡ Prints e → Says v e
   says is = by_running v.running refl is
@@ -126,7 +135,8 @@ module _ (k : Fraction) (v : View) (n : ℕ) where
   alarm_not r None is = rests_not is
   alarm_not None (Some x) is = rests_not is
   alarm_not (Some r) (Some x) is =
-      prints_not (cond (is_heavy k x.job.value v.value) (Take v.clock r.number x.number) (Abandon v.clock x.number)) is
+      prints_not (cond (is_heavy k x.job.value v.privileged_value) (Take v.clock r.number x.number)
+      (Abandon v.clock x.number)) is
 
   arrival_not : (c r x : Option Task) → (arrival v c or_else alarm k v r x or_else Ticks) ≡ Waits n → ⊥
   arrival_not None r x is = alarm_not r x is
@@ -140,9 +150,10 @@ module _ (k : Fraction) (v : View) (n : ℕ) where
   same_number m is = cc
 
   decides : (r : Task) (f : Option Task) → v.fresh ≡ f
-      → (decision v (Some r) f or_else arrival v v.coming or_else alarm k v (Some r) v.late or_else Ticks) ≡ Waits n
+      → (decision v (Some r) f or_else arrival v v.coming or_else alarm k v (Some r) v.must_start or_else Ticks)
+      ≡ Waits n
       → (g : Task) × (v.fresh ≡ Some g) × (g.number ≡ n)
-  decides r None fresh is = absurd (arrival_not v.coming (Some r) v.late is)
+  decides r None fresh is = absurd (arrival_not v.coming (Some r) v.must_start is)
   decides r (Some f) fresh is = by_test (preempts v f r) is where
     by_test : (b : Bool) → cond b (Prints (Preempt v.clock r.number f.number)) (Waits f.number) ≡ Waits n → (g : Task)
         × (v.fresh ≡ Some g) × (g.number ≡ n)
@@ -150,22 +161,25 @@ module _ (k : Fraction) (v : View) (n : ℕ) where
     by_test false e = (f, fresh, same_number f.number e)
 
   frees : (p o f : Option Task)
-      → (dispatch v None p o or_else decision v None f or_else arrival v v.coming or_else alarm k v None v.late or_else
+      → (dispatch v None p o or_else decision v None f or_else arrival v v.coming or_else alarm k v None v.must_start
+      or_else
       Ticks) ≡ Waits n → ⊥
   frees (Some p) o f is = prints_not (Run v.clock (resumed v p o).number) is
   frees None (Some o) f is = prints_not (Run v.clock o.number) is
   frees None None (Some f) is = prints_not (Run v.clock f.number) is
-  frees None None None is = arrival_not v.coming None v.late is
+  frees None None None is = arrival_not v.coming None v.must_start is
 
   by_running_job : (r : Option Task)
-      → (completion v r or_else dispatch v r v.held v.waiting or_else decision v r v.fresh or_else arrival v v.coming
-      or_else alarm k v r v.late or_else Ticks)
+      → (completion v r or_else dispatch v r v.first_held v.first_waiting or_else decision v r v.fresh or_else arrival v
+      v.coming
+      or_else alarm k v r v.must_start or_else Ticks)
       ≡ Waits n → (g : Task) × (v.fresh ≡ Some g) × (g.number ≡ n)
-  by_running_job None is = absurd (frees v.held v.waiting v.fresh is)
+  by_running_job None is = absurd (frees v.first_held v.first_waiting v.fresh is)
   by_running_job (Some r) is = by_test (left r == 0) is where
     by_test : (b : Bool) → (then_some b (Prints (Complete v.clock r.number)) or_else decision v
         (Some r) v.fresh or_else arrival v v.coming
-        or_else alarm k v (Some r) v.late or_else Ticks) ≡ Waits n → (g : Task) × (v.fresh ≡ Some g) × (g.number ≡ n)
+        or_else alarm k v (Some r) v.must_start or_else Ticks) ≡ Waits n
+        → (g : Task) × (v.fresh ≡ Some g) × (g.number ≡ n)
     by_test true e = absurd (prints_not (Complete v.clock r.number) e)
     by_test false e = decides r v.fresh refl e
 

@@ -357,7 +357,7 @@ impl Parts {
     #[inline(always)]
     fn resumed(&self, p: &Task) -> Task
         requires { AreSound self.now }
-        ensures { let v = view self.now.version (state_of self.now) in result ≡ resumed v p.now v.waiting }
+        ensures { let v = view self.now.version (state_of self.now) in result ≡ resumed v p.now v.first_waiting }
     {
         match self.first_waiting() {
             Some(o) if o.job.deadline() < p.job.deadline() && left(&o) <= self.room_held() => o,

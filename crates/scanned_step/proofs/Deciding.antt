@@ -32,15 +32,16 @@ module _ (k : Fraction) (version : Version) (s : State) (other : Move) where
   -- while r runs
   pub busy_is : (r : Task) (done : Bool) (f : Option Task) (a : Option Move) (x : Option Task)
       → find is_running s.tasks ≡ Some r
-      → (left r == 0) ≡ done → find is_fresh s.tasks ≡ f → arrival_of v ≡ a → v.late ≡ x
+      → (left r == 0) ≡ done → find is_fresh s.tasks ≡ f → arrival_of v ≡ a → v.must_start ≡ x
       → busy k v r done f a x other ≡ urgent_or k v other
   busy_is r done f a x runs left_is fresh arrives late = sym (
-      ap (λ o. completion v o or_else dispatch v o v.held v.waiting or_else decision v o v.fresh or_else arrival_of v
-      or_else alarm k v o v.late
+      ap (λ o. completion v o or_else dispatch v o v.first_held v.first_waiting or_else decision v o v.fresh or_else
+      arrival_of v
+      or_else alarm k v o v.must_start
       or_else other) runs
-      ∙ ap (λ b. busy k v r b v.fresh (arrival_of v) v.late other) left_is
-      ∙ ap (λ o. busy k v r done o (arrival_of v) v.late other) fresh
-      ∙ ap (λ o. busy k v r done f o v.late other) arrives
+      ∙ ap (λ b. busy k v r b v.fresh (arrival_of v) v.must_start other) left_is
+      ∙ ap (λ o. busy k v r done o (arrival_of v) v.must_start other) fresh
+      ∙ ap (λ o. busy k v r done f o v.must_start other) arrives
       ∙ ap (λ o. busy k v r done f a o other) late)
 
   -- while none does
@@ -48,10 +49,11 @@ module _ (k : Fraction) (version : Version) (s : State) (other : Move) where
       → find is_fresh s.tasks ≡ f
       → arrival_of v ≡ a → free v next f a other ≡ urgent_or k v other
   free_is next f a none ready fresh arrives = sym (
-      ap (λ o. completion v o or_else dispatch v o v.held v.waiting or_else decision v o v.fresh or_else arrival_of v
-      or_else alarm k v o v.late
+      ap (λ o. completion v o or_else dispatch v o v.first_held v.first_waiting or_else decision v o v.fresh or_else
+      arrival_of v
+      or_else alarm k v o v.must_start
       or_else other) none
-      ∙ by_ready v.held v.waiting v.fresh (arrival_of v) v.late
+      ∙ by_ready v.first_held v.first_waiting v.fresh (arrival_of v) v.must_start
       ∙ ap (λ o. free v o v.fresh (arrival_of v) other) ready
       ∙ ap (λ o. free v next o (arrival_of v) other) fresh
       ∙ ap (λ o. free v next f o other) arrives) where

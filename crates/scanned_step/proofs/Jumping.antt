@@ -113,7 +113,7 @@ module _ (rules : Rules) (s : State) where
   tick_still ticks = by_running (running s) refl where
     by_running : (o : Option Task) → running s ≡ o → Still s
     by_running (Some r) runs =
-        let it : BusyTick v (left r == 0) (find is_fresh s.tasks) (find is_coming s.tasks) v.late =
+        let it : BusyTick v (left r == 0) (find is_fresh s.tasks) (find is_coming s.tasks) v.must_start =
         busy_ticks rules.ratio v
         r _ _ _ _ (busy_is rules.ratio rules.version s Ticks r _ _ _ _ runs refl refl refl refl ∙ ticks) in
         record {
@@ -129,7 +129,8 @@ module _ (rules : Rules) (s : State) where
     by_running None none =
         let it : FreeTick v (next_ready rules.version s) (find is_fresh s.tasks) (find is_coming s.tasks) =
         free_ticks v _ _ _ (free_is rules.ratio rules.version s Ticks _ _ _ none refl refl refl ∙ ticks) in
-        let both : (v.held ≡ None) × (v.waiting ≡ None) = none_ready v v.held v.waiting it.none in
+        let both : (v.first_held ≡ None) × (v.first_waiting ≡ None) =
+        none_ready v v.first_held v.first_waiting it.none in
         record {
           free = λ _ t member. (
             by_bool (is_waiting t ≡ false) (is_waiting t)
@@ -162,7 +163,7 @@ module _ (rules : Rules) (s : State) where
         let it : IsMember t s.tasks × (is_waiting t ≡ true) = member_filter is_waiting s.tasks t member in
         ne_eqb _ _ (still.early r runs t it.0 it.1)))))
     by_running None none = sym (free_is rules.ratio rules.version s other None None None none
-        (ap (λ p. next_of v p v.waiting) (ap (first (due_first rules.version))
+        (ap (λ p. next_of v p v.first_waiting) (ap (first (due_first rules.version))
         (none_filtered is_held s.tasks (λ t member. (still.free none t member).1)))
         ∙ ap (first (due_first rules.version))
         (none_filtered is_waiting s.tasks (λ t member. (still.free none t member).0)))
@@ -188,9 +189,9 @@ or_same None None None None None x y = inr refl
 pub urgent_is : (rules : Rules) (s : State) (other : Move) → (open_step rules s ≡ Ticks → ⊥)
     → urgent_or rules.ratio (view rules.version s) other ≡ open_step rules s
 urgent_is rules s other some = let v = view rules.version s in by_case
-    (or_same (completion v v.running) (dispatch v v.running v.held v.waiting) (decision v v.running v.fresh)
+    (or_same (completion v v.running) (dispatch v v.running v.first_held v.first_waiting) (decision v v.running v.fresh)
     (arrival_of v)
-    (alarm rules.ratio v v.running v.late) Ticks other) where
+    (alarm rules.ratio v v.running v.must_start) Ticks other) where
       by_case : (open_step rules s ≡ urgent_or rules.ratio (view rules.version s) other) ⊎ (open_step rules s ≡ Ticks)
           → urgent_or rules.ratio (view rules.version s) other ≡ open_step rules s
       by_case (inl same) = sym same

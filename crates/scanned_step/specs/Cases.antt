@@ -15,7 +15,7 @@ next_of v None o = o
 
 -- the same of a state
 abbrev pub next_ready : Version → State → Option Task
-next_ready version s = let v = view version s in next_of v v.held v.waiting
+next_ready version s = let v = view version s in next_of v v.first_held v.first_waiting
 
 -- the fresh job f preempts the running job r, or waits
 abbrev pub decision_of : View → Task → Task → Move
@@ -28,4 +28,4 @@ arrival_of v = arrival v v.coming
 -- the job x takes the processor from r, or is abandoned
 abbrev pub alarm_of : Fraction → View → Task → Task → Move
 alarm_of k v r x = Prints
-    (if is_heavy k x.job.value v.value then Take v.clock r.number x.number else Abandon v.clock x.number)
+    (if is_heavy k x.job.value v.privileged_value then Take v.clock r.number x.number else Abandon v.clock x.number)
