@@ -114,7 +114,7 @@ pub fn no_part_loses_in_underload()
     ensures in_turn { (rules : Rules) (lists : List (List JobFacts))
         → Each (λ jobs. IsValid (record { rules = rules; jobs = jobs })) lists →
         Meets (record { rules = rules; jobs = in_turn lists }) →
-        Each (λ jobs. Each (λ x. takes_or_abandons x.move ≡ false) (run (record { rules = rules; jobs = jobs }))) lists }
+        Each (λ js. Each (λ x. takes_or_abandons x.move ≡ false) (run (record { rules = rules; jobs = js }))) lists }
     ensures value { (rules : Rules) (lists : List (List JobFacts))
         → Each (λ jobs. IsValid (record { rules = rules; jobs = jobs })) lists →
         Meets (record { rules = rules; jobs = in_turn lists })

@@ -29,7 +29,7 @@ IsDeadline jobs b = (j : JobFacts) × IsMember j jobs × (j.deadline ≡ b)
 
 -- the schedule of the pieces serves every job
 abbrev pub ServesAll : List JobFacts → List Piece → Type 0
-ServesAll jobs pieces = AllByRecursion (λ n_j. IsTrue (is_served (spread pieces) n_j)) (enumerate_from 0 jobs)
+ServesAll jobs pieces = AllByRecursion (λ job. IsTrue (is_served (spread pieces) job)) (enumerate_from 0 jobs)
 
 -- all jobs can be served: the pieces are the stretches of the schedule by earliest deadline, and that serves every job
 pub record ShowsAll (jobs : List JobFacts) (pieces : List Piece) : Type 0 where
