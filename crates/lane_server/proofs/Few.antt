@@ -6,16 +6,14 @@ use Rattle.std.specs.List.{flat_map, range_with_len, slice_get}
 use Rattle.std.proofs.lemmas.List.{length-map}
 use Rattle.dover_model.specs.declared.events.Event.{Event}
 use Rattle.dover_model.specs.Instance.{Instance, IsValid, with_jobs}
-use Rattle.dover_model.specs.Run.{printed}
 use Rattle.dover_model.specs.Session.{instance_of}
 use Rattle.dover_model.specs.Text.{text_of}
 use Rattle.dover_model.specs.Feed.{Account, Short, account_of_lines, is_open}
 use Rattle.dover_model.specs.Due.{fault_text}
-use Rattle.dover_model.proofs.Beginnings.{begins_length}
-use Rattle.dover_model.proofs.Ending.{few_printed}
 use Rattle.dover_server.specs.declared.horizon.Horizon.{Horizon}
 use Rattle.dover_server.specs.declared.horizon.Horizon.TheVariants.{Mark}
 use Rattle.dispatcher.specs.Dispatch.{due_by}
+use Rattle.dispatcher.proofs.Dues.{due_few}
 use Rattle.lane_server.specs.Lanes.{lane_count, Handed, input_of_lines, lane_lines, in_lane, feed_short, lane_short}
 use Rattle.lane_server.specs.Lanes.{shorts_from}
 use Rattle.lane_server.specs.Lane.{Serving, Having, Owes}
@@ -24,19 +22,11 @@ use Rattle.lane_server.specs.declared.lane.Work.{Work}
 use Rattle.lane_server.specs.declared.lane.Work.TheVariants.{Nothing, Give, Run, Admit}
 use Rattle.lane_server.specs.declared.lanes.Phase.{Phase}
 use Rattle.lane_server.specs.declared.lanes.Phase.TheVariants.{Ready, Giving, Closing}
-use Rattle.lane_server.proofs.Printing.{due_begins}
 
 -- what is left of what is due
-due_few : (J : Instance) (to : Horizon) (events left : List Event) → IsValid J → due_by J to ≡ events ++ left
+left_few : (J : Instance) (to : Horizon) (events left : List Event) → IsValid J → due_by J to ≡ events ++ left
     → length left ≤ 5_000_001
-due_few J to events left valid is = omega (
-  arith,
-  few_printed J valid,
-  valid.count,
-  begins_length (due_by J to) (printed J) (due_begins J to valid),
-  ap length is,
-  length-append events left,
-)
+left_few J to events left valid is = omega (arith, due_few J to valid, ap length is, length-append events left)
 
 -- what the work under way still gives
 pub owes_few : {D : Type 0} (serves : Serving D) (having : Having D) (work : Work) (server : Option D) (a : Account)
@@ -48,14 +38,14 @@ owes_few serves having (Run to) (Some v) a rest owes = omega (
   arith,
   ap length owes.texts,
   length-map owes.left text_of,
-  due_few (instance_of owes.session) to owes.events owes.left owes.valid owes.due,
+  left_few (instance_of owes.session) to owes.events owes.left owes.valid owes.due,
 )
 owes_few serves having (Admit job) None a rest owes = absurd owes
 owes_few serves having (Admit job) (Some v) a rest owes = omega (
   arith,
   ap length owes.texts,
   length-map owes.left text_of,
-  due_few (with_jobs (instance_of owes.session) (job ∷ [])) (Mark job.release) owes.events owes.left owes.valid
+  left_few (with_jobs (instance_of owes.session) (job ∷ [])) (Mark job.release) owes.events owes.left owes.valid
       owes.due,
 )
 

@@ -16,11 +16,12 @@ use Rattle.dover_server.specs.declared.horizon.Horizon.{Horizon}
 use Rattle.dover_server.specs.declared.horizon.Horizon.TheVariants.{Mark}
 use Rattle.dover_server.specs.Service.{MayFollow}
 use Rattle.dispatcher.specs.Dispatch.{due_by}
+use Rattle.dispatcher.proofs.Dues.{follows_on}
 use Rattle.lane_server.specs.Lane.{Serving, Having, Fits, Running, Admitting, Owes, GivesFault, Stands, IsQuiet, reach}
 use Rattle.lane_server.specs.declared.lane.Lane.{Lane}
 use Rattle.lane_server.specs.declared.lane.Work.{Work}
 use Rattle.lane_server.specs.declared.lane.Work.TheVariants.{Nothing}
-use Rattle.lane_server.proofs.Printing.{same_behind, follows_on, due_before, event_short}
+use Rattle.lane_server.proofs.Printing.{same_behind, due_before, event_short}
 
 -- what is left begins with the event
 first_left : (events left all : List Event) (e : Event) → all ≡ events ++ left

@@ -10,31 +10,18 @@ use Rattle.dover_model.specs.WholeRun.{Begins}
 use Rattle.dover_model.specs.Sound.{IsMember}
 use Rattle.dover_model.specs.Numerals.{AreShort}
 use Rattle.dover_model.proofs.Beginnings.{begins_onward}
-use Rattle.dover_model.proofs.Growing.{settled_of_run}
 use Rattle.dover_model.proofs.Prefixes.{settled_prefix}
 use Rattle.dover_model.proofs.ShortNumbers.{printed_short}
 use Rattle.dover_model.proofs.TraceLines.{numbers_in}
 use Rattle.dover_server.specs.declared.horizon.Horizon.{Horizon}
-use Rattle.dover_server.specs.declared.horizon.Horizon.TheVariants.{Mark, End}
-use Rattle.dover_server.specs.Service.{MayFollow}
+use Rattle.dover_server.specs.declared.horizon.Horizon.TheVariants.{Mark}
 use Rattle.dispatcher.specs.Dispatch.{due_by}
+use Rattle.dispatcher.proofs.Dues.{due_begins}
 
 -- what follows the same front is the same
 pub same_behind : {X : Type 0} (xs ys zs : List X) → xs ++ ys ≡ xs ++ zs → ys ≡ zs
 same_behind [] ys zs e = e
 same_behind (x ∷ xs) ys zs e = same_behind xs ys zs (let f : x ∷ (xs ++ ys) ≡ x ∷ (xs ++ zs) = e in cc)
-
--- a horizon may follow itself, where it may follow another
-pub follows_on : (from to : Horizon) → MayFollow from to → MayFollow to to
-follows_on (Mark m) (Mark t) follows = (omega arith, follows.1)
-follows_on (Mark m) End follows = tt
-follows_on End (Mark t) follows = absurd follows
-follows_on End End follows = tt
-
--- what is due up to a horizon begins the run
-pub due_begins : (J : Instance) (to : Horizon) → IsValid J → Begins (due_by J to) (printed J)
-due_begins J (Mark t) valid = settled_of_run J t valid
-due_begins J End valid = ([], sym (append-nil (printed J)))
 
 -- what is due at a job's release without the job begins what is due with it
 pub due_before : (J : Instance) (job : JobFacts) → IsValid (with_jobs J (job ∷ []))

@@ -1,0 +1,19 @@
+-- How far a list was run, and what was shown of it.
+use Rattle.std.specs.Prelude.{List}
+use Rattle.dover_model.specs.declared.events.Event.{Event}
+use Rattle.dover_model.specs.declared.events.Version.{Version}
+use Rattle.dover_model.specs.Fraction.{Fraction}
+use Rattle.dover_model.specs.Instance.{Instance}
+use Rattle.dover_model.specs.JobFacts.{JobFacts}
+use Rattle.dover_server.specs.declared.horizon.Horizon.{Horizon}
+
+-- these jobs, with the rules that they are run by
+abbrev pub jobs_under : Version → Fraction → List JobFacts → Instance
+jobs_under version k jobs = record { rules = record { ratio = k; version = version }; jobs = jobs }
+
+-- The server has taken the run of these jobs towards the horizon, and the watcher has seen what it printed.
+pub record HasShown {D W : Type 0} (serves : D → Instance → Horizon → List Event → Type 0)
+    (seen : W → List Event → Type 0) (server : D) (watcher : W) (J : Instance) (to : Horizon) : Type 0 where
+  pub events : List Event
+  pub served : serves server J to events
+  pub shown : seen watcher events

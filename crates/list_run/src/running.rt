@@ -1,0 +1,100 @@
+//! A dispatcher over a list.
+ghost use Rattle.std.specs.Prelude.{◌≡◌, ℕ, List, [], ◌∷◌, length, OnOk, OnErr};
+ghost use Rattle.dover_model.specs.declared.events.Event.{Event};
+ghost use Rattle.dover_model.specs.Instance.{Instance, IsValid, with_jobs};
+ghost use Rattle.dover_model.specs.Run.{printed};
+ghost use Rattle.dover_server.specs.declared.horizon.Horizon.{Horizon};
+ghost use Rattle.dover_server.specs.declared.horizon.Horizon.TheVariants.{Mark};
+ghost use Rattle.dover_server.specs.Service.{MayFollow};
+ghost use Rattle.dispatcher.specs.Dispatch.{due_by};
+ghost use Rattle.queued_jobs.specs.Spending.{CostsAtMost};
+ghost use Rattle.list_run.specs.Running.{jobs_under, HasShown};
+
+use crate::source::JobSource;
+use crate::watcher::Watcher;
+use dispatcher::Dispatcher;
+use dover_model::{Job, Memory, Ratio, Version};
+use dover_server::Horizon;
+use std::alloc::Global;
+use std::sync::ledger::Ledger;
+use step_count::Steps;
+
+/// Takes the run to a horizon, and shows each step that is printed on the way.
+fn show_to<D: Dispatcher, W: Watcher, L: Ledger>(
+    server: &mut D,
+    to: Horizon,
+    watcher: &mut W,
+    steps: &mut Steps<L>,
+)
+    requires { (J : Instance) × (from : Horizon) × HasShown D.serves W.seen server.old watcher.old J from
+        × MayFollow from to }
+    ensures rests { (J : Instance) (from : Horizon) → HasShown D.serves W.seen server.old watcher.old J from
+        → MayFollow from to → D.rests server.new J to }
+    ensures seen { (J : Instance) (from : Horizon) → HasShown D.serves W.seen server.old watcher.old J from
+        → MayFollow from to → W.seen watcher.new (due_by J to) }
+    ensures room { D.has_room server.old → D.has_room server.new }
+    ensures paid { (start : ℕ) → D.paid server.old start steps.old → D.paid server.new start steps.new }
+{
+    D::laws();
+    for _ in 0..u64::MAX {
+        match server.step(to, steps) {
+            Some(event) => watcher.see(&event),
+            None => return,
+        }
+    }
+    unreachable!()
+}
+
+/// Takes the run to a job's release, admits the job, and shows each step that is printed.
+fn serve_job<D: Dispatcher, W: Watcher, L: Ledger>(
+    server: &mut D,
+    job: Job,
+    watcher: &mut W,
+    steps: &mut Steps<L>,
+) -> Result<(), Memory>
+    requires { (J : Instance) × (from : Horizon) × HasShown D.serves W.seen server.old watcher.old J from
+        × MayFollow from (Mark job.release) × IsValid (with_jobs J (job ∷ [])) }
+    ensures shown { (J : Instance) (from : Horizon) → HasShown D.serves W.seen server.old watcher.old J from
+        → MayFollow from (Mark job.release) → IsValid (with_jobs J (job ∷ [])) → OnOk result
+        (HasShown D.serves W.seen server.new watcher.new (with_jobs J (job ∷ [])) (Mark job.release)) }
+    ensures few { (J : Instance) (from : Horizon) (start : ℕ)
+        → HasShown D.serves W.seen server.old watcher.old J from → D.paid server.old start steps.old
+        → OnErr result (CostsAtMost (length J.jobs) start steps.new) }
+    ensures paid { (start : ℕ) → D.paid server.old start steps.old → D.paid server.new start steps.new }
+{
+    D::laws();
+    server.make_room()?;
+    show_to(server, Horizon::Mark(job.release()), watcher, steps);
+    if let Some(event) = server.admit(job, steps) {
+        watcher.see(&event);
+    }
+    Ok(())
+}
+
+/// Serves the jobs of a list, which are valid, to the end, and shows each printed step of their run. Memory is taken for
+/// the jobs that are ready at once.
+///
+/// # Errors
+///
+/// `Memory` where there is none.
+pub fn run_list<D: Dispatcher, S: JobSource, W: Watcher, L: Ledger>(
+    alloc: Global,
+    version: Version,
+    k: Ratio,
+    jobs: &mut S,
+    watcher: &mut W,
+    steps: &mut Steps<L>,
+) -> Result<(), Memory>
+    requires valid { IsValid (jobs_under version k (S.jobs jobs.old)) }
+    requires unseen { W.seen watcher.old [] }
+    ensures seen { OnOk result (W.seen watcher.new (printed (jobs_under version k (S.jobs jobs.old)))) }
+    ensures count { CostsAtMost (length (S.jobs jobs.old)) steps.old steps.new }
+{
+    D::laws();
+    let mut server = D::new(alloc, version, k)?;
+    while let Some(job) = jobs.next_job() {
+        serve_job(&mut server, job, watcher, steps)?;
+    }
+    show_to(&mut server, Horizon::End, watcher, steps);
+    Ok(())
+}
