@@ -41,7 +41,7 @@ pub(crate) fn carry_out<P: Port, L: Ledger>(
         Request::Judge => judge_word(alloc, port, steps),
         Request::Report(form) => report_word(alloc, port, form, steps),
         Request::Trial { seed, count, k } => trial_word(alloc, port, seed, count, k, steps),
-        Request::Bait { k, rounds } => bait_word(alloc, port, k, rounds, steps),
+        Request::Bait { k, rounds } => bait_word(port, k, rounds),
         Request::Ask(question) => question_word(alloc, port, question, steps),
         Request::Lanes => lanes_word(alloc, port, steps),
         Request::Pause => pause_word(alloc, port, steps),

@@ -42,15 +42,6 @@ pub can_first : (k : Fraction) (version : Version) (jobs : List JobFacts)
 can_first k version jobs valid = record { valid = valid; follow = follow_first jobs valid.each; ends = tt }
 
 module _ (J : Instance) (to : Horizon) (j : JobFacts) (rest : List JobFacts) (can : CanFeed J to (j ∷ rest)) where
-  -- there may be one job more
-  pub can_one : length J.jobs + 1 ≤ most_jobs
-  can_one = let few : length (J.jobs ++ j ∷ rest) ≤ 1_000_000 = can.valid.count in
-      omega (arith, length-append J.jobs (j ∷ rest))
-
-  -- the horizon may go on to its release
-  pub can_wait : MayFollow to (Mark j.release)
-  can_wait = can.follow.0
-
   -- all jobs, with the first one apart
   apart : IsValid (with_jobs (with_jobs J (j ∷ [])) rest)
   apart = subst (λ jobs. IsValid (record { rules = J.rules; jobs = jobs })) (sym (append_assoc J.jobs (j ∷ []) rest))

@@ -1,7 +1,6 @@
 pub mod Answering
 pub mod Comparing
-pub mod Completing
-pub mod Counts
+pub pub mod Counts
 pub mod Finding
 pub mod Pieces
 pub mod SaidFeasible

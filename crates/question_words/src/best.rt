@@ -11,9 +11,9 @@ ghost use Rattle.question_words.specs.Best.{SaysBest, found_lines, IsFinding};
 ghost use Rattle.question_words.specs.Asking.{SaysBy};
 ghost use Rattle.question_words.specs.Texts.{piece_lines};
 
+use crate::completing::completed;
 use crate::lines::put_pieces;
 use crate::refusing::refuse_size;
-use crate::serving::completed;
 use best_set::{BestFault, best};
 use dialogue::Stop;
 use dover_model::Piece;
@@ -46,7 +46,7 @@ fn find<L: Ledger>(
     ensures count { CostsAtMost (length listed.now.jobs.items) steps.old steps.new }
 {
     let best = best(alloc, &listed.jobs)?;
-    let Ok(value) = completed(alloc, listed.version, listed.ratio, &listed.jobs, steps) else {
+    let Ok(value) = completed(alloc, listed, steps) else {
         return Err(BestFault::Memory);
     };
     let found = Found {

@@ -11,8 +11,8 @@ ghost use Rattle.queued_jobs.specs.Spending.{CostsAtMost};
 ghost use Rattle.question_words.specs.Asking.{SaysBy};
 ghost use Rattle.question_words.specs.Compare.{SaysCompare, compared_of, compared_lines};
 
+use crate::completing::completed;
 use crate::refusing::refuse_size;
-use crate::serving::completed;
 use dialogue::Stop;
 use dover_port::{Failed, Output, Port, Status};
 use feed_list::Listed;
@@ -45,7 +45,7 @@ fn compare<L: Ledger>(
 {
     let edf = run_policy(alloc, &Edf, &listed.jobs)?;
     let dense = run_policy(alloc, &Dense, &listed.jobs)?;
-    let Ok(dover) = completed(alloc, listed.version, listed.ratio, &listed.jobs, steps) else {
+    let Ok(dover) = completed(alloc, listed, steps) else {
         return Err(LabFault::Memory);
     };
     Ok(Compared {

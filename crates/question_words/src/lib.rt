@@ -4,10 +4,10 @@
 mod asking;
 mod best;
 mod compare;
+mod completing;
 mod feasible;
 mod lines;
 mod question;
 mod refusing;
-mod serving;
 
 pub use question::{Question, question_word};

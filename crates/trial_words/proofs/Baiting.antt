@@ -1,59 +1,52 @@
 -- A baiting feed that is within the limits, and one that isn't.
 use Rattle.std.proofs.Common.{◌≡◌, ◌≤◌, ◌∙◌, ℕ, length, sym, ap, subst, true, false}
 use Rattle.dover_model.specs.Fraction.{Fraction, IsRatio}
-use Rattle.dover_model.specs.Instance.{IsValid}
 use Rattle.dover_model.specs.declared.events.Version.TheVariants.{One}
 use Rattle.dover_model.specs.Bait.{bait_jobs, plan_value}
 use Rattle.dover_model.specs.Bound.{bound}
-use Rattle.dover_model.specs.Run.{printed, completed_value}
+use Rattle.dover_model.specs.Limits.{most_total}
+use Rattle.dover_model.specs.Run.{completed_value}
 use Rattle.dover_port.specs.declared.status.Status.{Status}
 use Rattle.dover_port.specs.declared.status.Status.TheVariants.{Done, No, Refused, ReadFault, WriteFault, Memory, Usage}
 use Rattle.adversary.specs.Baiting.{Baiting, FitsLimits}
-use Rattle.bait_run.specs.Baiting.{CompletesLastAlone}
-use Rattle.bait_run.proofs.Completions.{completes_last_alone}
+use Rattle.bait_run.specs.Baiting.{CompletesLastAlone, baiting}
 use Rattle.adversary.proofs.Validity.{some_bait, valid}
 use Rattle.adversary.proofs.Plans.{plan_worth}
-use Rattle.trial_words.specs.Lists.{stated}
 use Rattle.trial_words.specs.Baited.{bait_instance, baited_of}
-use Rattle.trial_words.specs.Tallied.{tally_of}
 use Rattle.trial_words.specs.declared.bait.Baited.{Baited}
-use Rattle.trial_words.specs.declared.tally.Tally.{Tally}
 use Rattle.trial_words.specs.Record.{IsAnswerFor}
+use Rattle.trial_words.proofs.Summing.{value_within}
 
 module _ (k : Fraction) (rounds : ℕ) (feed : Baiting)
     (is : feed ≡ record { ratio = k; rounds = rounds; jobs = bait_jobs k rounds }) where
-  -- its jobs are valid
-  pub feed_valid : 1 ≤ rounds → IsRatio feed.ratio → FitsLimits feed.ratio feed.rounds → IsValid (stated k feed.jobs)
-  feed_valid some ratio fits =
-      let here : IsRatio k = subst (λ (b : Baiting). IsRatio b.ratio) is ratio in
-      let within : FitsLimits k rounds = subst (λ (b : Baiting). FitsLimits b.ratio b.rounds) is fits in
-      subst (λ jobs. IsValid (stated k jobs)) (sym (ap (λ (b : Baiting). b.jobs) is))
-      (valid k rounds here within (some_bait k rounds here some within) One)
+  -- what its run completes
+  same_value : completed_value (baiting feed.ratio One feed.rounds) ≡ completed_value (bait_instance k rounds)
+  same_value = ap (λ (b : Baiting). completed_value (baiting b.ratio One b.rounds)) is
 
   -- its run completes the last job of the chain, and no other
-  pub feed_alone : 1 ≤ rounds → IsRatio feed.ratio → FitsLimits feed.ratio feed.rounds
+  pub feed_alone : CompletesLastAlone feed.ratio feed.rounds (baiting feed.ratio One feed.rounds)
       → CompletesLastAlone k rounds (bait_instance k rounds)
-  feed_alone some ratio fits =
-      completes_last_alone k One rounds some
-      (subst (λ jobs. IsValid (stated k jobs)) (ap (λ (b : Baiting). b.jobs) is) (feed_valid some ratio fits))
+  feed_alone alone = subst (λ (b : Baiting). CompletesLastAlone b.ratio b.rounds (baiting b.ratio One b.rounds)) is
+      alone
 
-  -- as many are still to come as it has
-  pub feed_count : (jobs : ℕ) → jobs ≡ length (bait_jobs feed.ratio feed.rounds) → jobs ≡ length feed.jobs
-  feed_count jobs count = count ∙ ap (λ (b : Baiting). length (bait_jobs b.ratio b.rounds)) is
-      ∙ sym (ap (λ (b : Baiting). length b.jobs) is)
+  -- the value of its run is that of a valid list
+  pub feed_within : 1 ≤ rounds → IsRatio feed.ratio → FitsLimits feed.ratio feed.rounds → (value : ℕ)
+      → value ≡ completed_value (baiting feed.ratio One feed.rounds) → value ≤ most_total
+  feed_within some ratio fits value completed =
+      let here : IsRatio k = subst (λ (b : Baiting). IsRatio b.ratio) is ratio in
+      let within : FitsLimits k rounds = subst (λ (b : Baiting). FitsLimits b.ratio b.rounds) is fits in
+      subst (λ v. v ≤ most_total) (sym (completed ∙ same_value))
+      (value_within k (bait_jobs k rounds) (valid k rounds here within (some_bait k rounds here some within) One))
 
-  -- what was counted of its run, and its numbers
-  pub baited_is : (jobs schedule most : ℕ) (tally : Tally) → jobs ≡ length (bait_jobs feed.ratio feed.rounds)
-      → schedule ≡ plan_value feed.ratio feed.rounds → tally ≡ tally_of feed.jobs (printed (stated k feed.jobs))
-      → most ≡ bound k tally.value
-      → record { jobs = jobs; value = tally.value; schedule = schedule; bound = most } ≡ baited_of k rounds
-  baited_is jobs schedule most tally count plan counted bounds =
-      same (count ∙ ap (λ (b : Baiting). length (bait_jobs b.ratio b.rounds)) is) value
+  -- its numbers
+  pub baited_is : (jobs value schedule most : ℕ) → jobs ≡ length (bait_jobs feed.ratio feed.rounds)
+      → value ≡ completed_value (baiting feed.ratio One feed.rounds) → schedule ≡ plan_value feed.ratio feed.rounds
+      → most ≡ bound k value
+      → record { jobs = jobs; value = value; schedule = schedule; bound = most } ≡ baited_of k rounds
+  baited_is jobs value schedule most count completed plan bounds =
+      same (count ∙ ap (λ (b : Baiting). length (bait_jobs b.ratio b.rounds)) is) (completed ∙ same_value)
       (plan ∙ ap (λ (b : Baiting). plan_value b.ratio b.rounds) is ∙ sym (plan_worth k rounds One))
-      (bounds ∙ ap (bound k) value) where
-        value : tally.value ≡ completed_value (bait_instance k rounds)
-        value = ap (λ (t : Tally). t.value) counted ∙ ap (λ (b : Baiting). completed_value (stated k b.jobs)) is
-
+      (bounds ∙ ap (bound k) (completed ∙ same_value)) where
         numbers : (a b c d : ℕ) → Baited
         numbers a b c d = record { jobs = a; value = b; schedule = c; bound = d }
 

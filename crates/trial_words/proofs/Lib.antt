@@ -1,6 +1,3 @@
-pub mod Counting
-pub mod Settling
-pub mod Finishing
-pub mod Admitting
-pub mod Summing
-pub mod Baiting
+mod Baiting
+mod Counting
+mod Summing

@@ -1,23 +1,38 @@
 -- What is counted of the printed steps of a run.
-use Rattle.std.specs.Prelude.{ℕ, List}
-use Rattle.std.specs.List.{fold, count_by}
+use Rattle.std.specs.Prelude.{◌≡◌, ◌≤◌, ◌*◌, ℕ, List, length}
+use Rattle.std.specs.List.{fold, count_by, sum_by}
 use Rattle.dover_model.specs.declared.events.Event.{Event}
-use Rattle.dover_model.specs.JobFacts.{JobFacts}
+use Rattle.dover_model.specs.declared.events.Event.TheVariants.{Release}
+use Rattle.dover_model.specs.Limits.{most_value}
 use Rattle.dover_model.specs.Run.{value_of_end}
 use Rattle.dover_model.specs.Reports.{is_take}
-use Rattle.dover_report.specs.Counts.{is_completion, is_abandonment, all_lost}
+use Rattle.dover_report.specs.Counts.{is_completion, is_abandonment}
 use Rattle.trial_words.specs.declared.tally.Tally.{Tally}
+
+-- the value of the job that a step releases
+abbrev pub value_released : Event → ℕ
+value_released (Release n job) = job.value
+value_released _ = 0
+
+-- the value of the jobs that these steps release
+abbrev pub all_released : List Event → ℕ
+all_released events = sum_by value_released events
 
 -- the value that End names among these steps, 0 without one
 abbrev pub value_of : List Event → ℕ
 value_of events = fold (λ value e. value_of_end e value) 0 events
 
--- the tally of these steps of a run of these jobs
-abbrev pub tally_of : List JobFacts → List Event → Tally
-tally_of jobs events = record {
+-- the tally of these steps
+abbrev pub tally_of : List Event → Tally
+tally_of events = record {
+  released = all_released events;
   completed = count_by is_completion events;
   value = value_of events;
   abandoned = count_by is_abandonment events;
-  lost = all_lost jobs events;
   taken = count_by is_take events;
 }
+
+-- these steps were counted, and no job that they release is worth more than a job may be
+pub record HasCounted (tally : Tally) (events : List Event) : Type 0 where
+  pub counts : tally ≡ tally_of events
+  pub modest : all_released events ≤ most_value * length events

@@ -1,6 +1,5 @@
 //! The word `bait`.
-ghost use Rattle.std.specs.Prelude.{◌≡◌, ◌≤◌, length};
-ghost use Rattle.dover_model.specs.Bait.{bait_jobs};
+ghost use Rattle.std.specs.Prelude.{◌≡◌, ◌≤◌};
 ghost use Rattle.dover_model.specs.Lines.{in_lines};
 ghost use Rattle.dover_port.specs.Causes.{Causes, HasCause, StopsAtFailure, StopsWith};
 ghost use Rattle.dover_port.specs.Moves.{Since, PutsThrough, PutsText};
@@ -8,17 +7,12 @@ ghost use Rattle.adversary.specs.Baiting.{FitsLimits};
 ghost use Rattle.bait_run.specs.Baiting.{CompletesLastAlone};
 ghost use Rattle.trial_words.specs.Baited.{Baits, baited_lines, bait_instance, size_text};
 ghost use Rattle.trial_words.specs.Record.{Refuses, IsAnswerFor};
-ghost use Rattle.queued_jobs.specs.Spending.{CostsAtMost};
 
-use crate::serving::serve_all;
 use adversary::Bait;
 use dover_model::Ratio;
 use dover_port::{Failed, Output, Port, Status, put_all};
 use line_output::put_numbers;
 use root_compare::bound;
-use std::alloc::Global;
-use std::sync::ledger::Ledger;
-use step_count::Steps;
 
 /// What is said of a baiting feed: its jobs, the value that its run completes, the value of the given schedule, and the
 /// bound.
@@ -82,17 +76,11 @@ fn refuse_size<P: Port>(port: &mut P) -> Status
     }
 }
 
-/// Serves the baiting feed of so many rounds, at least one, and writes how many jobs it has, the value that its run
-/// completes, which is that of the chain's last job alone, the value of the schedule that runs the unit jobs and the
-/// bait, and the bound on the value of every schedule. Nothing is read. A feed of more than 1,000,000 jobs, or with a
-/// value above 10^9, is refused.
-pub fn bait_word<P: Port, L: Ledger>(
-    alloc: Global,
-    port: &mut P,
-    k: Ratio,
-    rounds: u32,
-    steps: &mut Steps<L>,
-) -> Status
+/// Writes of the baiting feed of so many rounds, at least one, how many jobs it has, the value that its run completes,
+/// which is that of the chain's last job alone, the value of the schedule that runs the unit jobs and the bait, and the
+/// bound on the value of every schedule. Nothing is read, and nothing has to be served for it. A feed of more than
+/// 1,000,000 jobs, or with a value above 10^9, is refused.
+pub fn bait_word<P: Port>(port: &mut P, k: Ratio, rounds: u32) -> Status
     requires rounds { 1 ≤ rounds }
     ensures baits { Since (P.moves port.old) (P.moves port.new) (Baits k rounds result) }
     ensures alone { result ≡ Status.Done → CompletesLastAlone k rounds (bait_instance k rounds) }
@@ -100,21 +88,16 @@ pub fn bait_word<P: Port, L: Ledger>(
     ensures causes { Causes result (P.read_faults port.old) (P.read_faults port.new) (P.write_faults port.old)
         (P.write_faults port.new) }
     ensures stops { StopsWith result (P.calls port.old) (P.calls port.new) }
-    ensures count { result ≡ Status.Done → CostsAtMost (length (bait_jobs k rounds)) steps.old steps.new }
 {
-    let Some(mut feed) = Bait::new(k, rounds) else {
+    let Some(feed) = Bait::new(k, rounds) else {
         return refuse_size(port);
     };
-    let jobs = feed.jobs();
-    let schedule = feed.schedule_value();
-    let Ok(tally) = serve_all(alloc, k, &mut feed, jobs, steps) else {
-        return Status::Memory;
-    };
+    let value = feed.value();
     let baited = Baited {
-        jobs: u64::from(jobs),
-        value: tally.value,
-        schedule,
-        bound: bound(tally.value, k),
+        jobs: u64::from(feed.jobs()),
+        value,
+        schedule: feed.schedule_value(),
+        bound: bound(value, k),
     };
     match write_baited(port, &baited) {
         Ok(()) => Status::Done,

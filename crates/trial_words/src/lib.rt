@@ -1,10 +1,9 @@
-//! The words `trial` and `bait`: a stated list of jobs is served, and what its run comes to is written.
+//! The words `trial` and `bait`: a stated list of jobs, and what its run comes to.
 #![tactic(auto)]
 
 mod bait;
+mod drawn;
 mod lines;
-mod serving;
-mod stated;
 mod tally;
 mod trial;
 

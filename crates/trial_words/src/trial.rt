@@ -1,5 +1,6 @@
 //! The word `trial`.
 ghost use Rattle.std.specs.Prelude.{◌≡◌, ◌<◌, ◌≤◌, ◌^◌};
+ghost use Rattle.dover_model.specs.Fraction.{IsRatio};
 ghost use Rattle.dover_model.specs.Limits.{most_jobs};
 ghost use Rattle.dover_model.specs.Reports.{summary};
 ghost use Rattle.dover_port.specs.Causes.{Causes, StopsWith};
@@ -8,15 +9,24 @@ ghost use Rattle.trial_words.specs.Lists.{trial_instance};
 ghost use Rattle.trial_words.specs.Record.{Writes, IsDoneOrNotWritten};
 ghost use Rattle.queued_jobs.specs.Spending.{CostsAtMost};
 
+use crate::drawn::Drawn;
 use crate::lines::write_summary;
-use crate::serving::serve_all;
-use crate::stated::keeps_limits;
-use dover_model::Ratio;
+use crate::tally::Tally;
+use dover_model::{Ratio, Version};
 use dover_port::{Port, Status};
+use list_run::run_list;
+use ready_server::ReadyServer;
 use std::alloc::Global;
 use std::sync::ledger::Ledger;
 use step_count::Steps;
 use trial_jobs::Gen;
+
+// The numbers of a ratio are within its limits, as reading one of them tells.
+fn keeps_limits(k: Ratio)
+    ensures { IsRatio k }
+{
+    let _ = k.p();
+}
 
 /// Serves the stated jobs of a seed, and writes the summary of their run: the jobs, those that were completed and
 /// abandoned with their values, the takes, and the bound on the value of every schedule. Nothing is read. The seed is
@@ -40,8 +50,16 @@ pub fn trial_word<P: Port, L: Ledger>(
     ensures count { result ≡ Status.Done → CostsAtMost count steps.old steps.new }
 {
     keeps_limits(k);
-    let mut jobs = Gen::new(seed, count, k);
-    let Ok(tally) = serve_all(alloc, k, &mut jobs, count, steps) else {
+    let mut jobs = Drawn(Gen::new(seed, count, k));
+    let mut tally = Tally::new();
+    let Ok(()) = run_list::<ReadyServer, Drawn, Tally, L>(
+        alloc,
+        Version::One,
+        k,
+        &mut jobs,
+        &mut tally,
+        steps,
+    ) else {
         return Status::Memory;
     };
     match write_summary(port, &tally.counts(count, k)) {

@@ -95,29 +95,6 @@ fn trial(rt: &HostRuntime, port: &mut MemoryPort, seed: u32, count: u32, k: Rati
     try_in::<Brand>(rt, port, seed, count, k, Blank::new(1))
 }
 
-/// The same of a baiting feed.
-fn bait_in<L: Ledger>(
-    rt: &HostRuntime,
-    port: &mut MemoryPort,
-    k: Ratio,
-    rounds: u32,
-    blank: Blank,
-) -> Status
-    requires name { blank.name ≡ L.name }
-    requires parts { blank.parts ≡ L.parts }
-    requires some { 0 < blank.parts }
-    requires rounds { 1 ≤ rounds }
-{
-    let mut steps = Steps::<L>::new(rt.memory(), blank);
-    bait_word(rt.alloc(), port, k, rounds, &mut steps)
-}
-
-fn bait(rt: &HostRuntime, port: &mut MemoryPort, k: Ratio, rounds: u32) -> Status
-    requires { 1 ≤ rounds }
-{
-    bait_in::<Brand>(rt, port, k, rounds, Blank::new(1))
-}
-
 /// Whether a call of `bait` ends so, and writes this.
 fn bait_ends(
     rt: &HostRuntime,
@@ -133,7 +110,7 @@ fn bait_ends(
         return Ok(false);
     }
     let mut port = port(rt.alloc(), "", pieces_of(1))?;
-    let answer = bait(rt, &mut port, k, rounds);
+    let answer = bait_word(&mut port, k, rounds);
     Ok(answer == status && port.written() == text.as_bytes())
 }
 

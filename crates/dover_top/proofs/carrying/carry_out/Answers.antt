@@ -1,6 +1,8 @@
-use Rattle.std.proofs.Common.{sym, subst}
+use Rattle.std.proofs.Common.{sym, subst, length}
+use Rattle.dover_model.specs.Bait.{bait_jobs}
 use Rattle.dover_port.specs.Moves.{Since}
 use Rattle.dover_port.proofs.Made.{since_weaker}
+use Rattle.queued_jobs.proofs.Spending.{none_few}
 use Rattle.dover_top.specs.Carried.{Carries}
 use Rattle.dover_top.specs.Outcomes.{MayEnd, IsFrugal, IsFrugalAsAsked}
 use Rattle.dover_top.proofs.Outcomes.{asked_frugal}
@@ -135,13 +137,13 @@ returns-in-Bait-clause-ends g c =
 pub returns-in-Bait-clause-comparisons : goal.returns-in-Bait-clause-comparisons
 returns-in-Bait-clause-comparisons g c =
     subst (λ r. Since (g.P.Port.moves c.args.port.now) (g.P.Port.moves c.bait_word.new.port)
-    (IsFrugal r c.bait_word.result c.args.steps.now c.bait_word.new.steps))
+    (IsFrugal r c.bait_word.result c.args.steps.now c.args.steps.now))
     (sym c.in-Bait.is) (since_weaker _ _ _ _ c.bait_word.ensures.baits (λ xs s. tt))
 
 pub returns-in-Bait-clause-stated : goal.returns-in-Bait-clause-stated
 returns-in-Bait-clause-stated g c =
-    λ done. subst (λ r. IsFrugalAsAsked r c.args.steps.now c.bait_word.new.steps)
-    (sym c.in-Bait.is) (c.bait_word.ensures.count done)
+    λ done. subst (λ r. IsFrugalAsAsked r c.args.steps.now c.args.steps.now)
+    (sym c.in-Bait.is) (none_few (length (bait_jobs c.in-Bait.k c.in-Bait.rounds)) c.args.steps.now)
 
 pub returns-in-Bait-clause-causes : goal.returns-in-Bait-clause-causes
 returns-in-Bait-clause-causes g c =

@@ -1,17 +1,13 @@
-use Rattle.std.proofs.Common.{◌∙◌, sym, ap, subst, length, ◌<◌, List, arith}
+use Rattle.std.proofs.Common.{sym, subst, length, ◌<◌, List, arith}
 use Rattle.dover_model.specs.JobFacts.{JobFacts}
-use Rattle.dover_model.specs.Run.{completed_value}
-use Rattle.feed_list.specs.Listing.{instance_with, listed_instance}
-use Rattle.queued_jobs.specs.Spending.{CostsAtMost}
+use Rattle.feed_list.specs.Listing.{listed_instance}
 use Rattle.question_words.proofs.Comparing.{value_low}
 use Rattle.question_words.proofs.Finding.{finds_are}
 use Rattle.question_words.proofs.best.find.Goals as goal
 
 pub bound-requires : goal.bound-requires
 bound-requires g c = record {
-  completed = value_low (listed_instance c.args.listed.now) c.requires _ (c.in-Ok.ensures.value
-      ∙ ap (λ js. completed_value (instance_with (c.args.listed.now.ratio, c.args.listed.now.version) js))
-      c.deref-2.ensures.value);
+  completed = value_low (listed_instance c.args.listed.now) c.requires _ c.in-Ok.ensures.value;
 }
 
 pub returns-clause-too_many : goal.returns-clause-too_many
@@ -20,12 +16,6 @@ returns-clause-too_many g c = (
   λ many. absurd (let e = c.in_ok-best.ensures.too_many.1
       (subst (λ (js : List JobFacts). 20 < length js) (sym c.deref.ensures.value) many) in cc),
 )
-
-pub returns-clause-count : goal.returns-clause-count
-returns-clause-count g c =
-    subst (λ (js : List JobFacts). CostsAtMost (length js) c.args.steps.now c.completed.new.steps)
-    c.deref-2.ensures.value
-    c.in-Ok.ensures.count
 
 pub returns-clause-finds : goal.returns-clause-finds
 returns-clause-finds g c =
@@ -36,12 +26,4 @@ returns-clause-finds g c =
       are = c.in_ok-best.ensures.pieces;
       earned = c.in_ok-best.ensures.worth;
       most = c.in_ok-best.ensures.most;
-    }) (omega (arith, c.len.ensures, c.args.listed.now.jobs.ok.0)) (c.in-Ok.ensures.value
-    ∙ ap (λ js. completed_value (instance_with (c.args.listed.now.ratio, c.args.listed.now.version) js))
-    c.deref-2.ensures.value) c.bound.ensures.is
-
-pub returns-in_default-clause-count : goal.returns-in_default-clause-count
-returns-in_default-clause-count g c =
-    subst (λ (js : List JobFacts). CostsAtMost (length js) c.args.steps.now c.completed.new.steps)
-    c.deref-2.ensures.value
-    c.in_default.ensures.count
+    }) (omega (arith, c.len.ensures, c.args.listed.now.jobs.ok.0)) c.in-Ok.ensures.value c.bound.ensures.is
