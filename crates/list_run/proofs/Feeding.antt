@@ -80,8 +80,8 @@ serves_on serves rests due so_far None rested gives = (due, rested gives.1)
 
 -- ---- of a server and a watcher
 
--- The server has taken the run of some jobs of the list, the watcher has seen what it printed, and the others may be fed
--- behind them.
+-- The server has taken the run of some jobs of the list, the watcher has seen what it printed, and the others may be
+-- fed behind them.
 pub record IsUnderWay {D W : Type 0} (serves : D → Instance → Horizon → List Event → Type 0)
     (seen : W → List Event → Type 0) (server : D) (watcher : W) (all : Instance) (rest : List JobFacts) : Type 0 where
   pub served : Instance

@@ -71,8 +71,8 @@ fn serve_job<D: Dispatcher, W: Watcher, L: Ledger>(
     Ok(())
 }
 
-/// Serves the jobs of a list, which are valid, to the end, and shows each printed step of their run. Memory is taken for
-/// the jobs that are ready at once.
+/// Serves the jobs of a list, which are valid, to the end, and shows each printed step of their run. Memory is taken
+/// for the jobs that are ready at once.
 ///
 /// # Errors
 ///

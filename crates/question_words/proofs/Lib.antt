@@ -1,6 +1,6 @@
 pub mod Answering
 pub mod Comparing
-pub pub mod Counts
+pub mod Counts
 pub mod Finding
 pub mod Pieces
 pub mod SaidFeasible

@@ -15,15 +15,15 @@ use step_count::Steps;
 
 /// The value that the End of a run names, 0 before it.
 #[derive(Clone, Copy)]
-struct Completed {
+struct EndValue {
     value: u64,
 }
 
-impl Watcher for Completed {
+impl Watcher for EndValue {
     ghost use Rattle.std.specs.List.{fold};
     ghost use Rattle.dover_model.specs.Run.{value_of_end};
 
-    ghost seen = { λ completed events. completed.value ≡ fold (λ value e. value_of_end e value) 0 events };
+    ghost seen = { λ end events. end.value ≡ fold (λ value e. value_of_end e value) 0 events };
 
     fn see(&mut self, event: &Event) {
         if let Event::End { value } = event {
@@ -47,14 +47,14 @@ pub(crate) fn completed<L: Ledger>(
     ensures count { CostsAtMost (length listed.now.jobs.items) steps.old steps.new }
 {
     let mut jobs = listed.jobs.as_slice();
-    let mut completed = Completed { value: 0 };
-    run_list::<ReadyServer, &[Job], Completed, L>(
+    let mut end = EndValue { value: 0 };
+    run_list::<ReadyServer, &[Job], EndValue, L>(
         alloc,
         listed.version,
         listed.ratio,
         &mut jobs,
-        &mut completed,
+        &mut end,
         steps,
     )?;
-    Ok(completed.value)
+    Ok(end.value)
 }

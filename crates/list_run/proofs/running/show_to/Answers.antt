@@ -46,4 +46,7 @@ returns-in-None-clause-seen g c = λ J from start follows.
 pub unreachable-requires : goal.unreachable-requires
 unreachable-requires g c =
     let it = c.loop.invariant.showing c.requires.0 c.requires.1 c.requires.2 c.requires.3 in
-    omega (arith, showing_few c.laws.ensures.valid c.laws.ensures.begins g.W.Watcher.seen _ _ c.requires.0 c.args.to _ it)
+    omega (
+      arith,
+      showing_few c.laws.ensures.valid c.laws.ensures.begins g.W.Watcher.seen _ _ c.requires.0 c.args.to _ it,
+    )
