@@ -1,5 +1,5 @@
 -- What a call comes to that serves a feed, from its talk.
-use Rattle.std.proofs.Common.{◌≡◌, ℕ, List, [], ◌∷◌, ◌++◌, refl, sym, ap, ◌∙◌, append_assoc}
+use Rattle.std.proofs.Common.{◌≡◌, ℕ, List, [], ◌++◌, sym, ap, ◌∙◌, append_assoc}
 use Rattle.std.proofs.Common.{Bool, false, inl, inr}
 use Rattle.dover_model.specs.Feed.{is_open, account}
 use Rattle.dover_model.specs.Due.{due, closed}

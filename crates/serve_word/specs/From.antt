@@ -1,5 +1,5 @@
 -- What the moves of a call come to that goes on from a feed of which some was read before.
-use Rattle.std.specs.Prelude.{◌≡◌, ℕ, List, [], ◌++◌, Bool, true, false, ◌⊎◌}
+use Rattle.std.specs.Prelude.{◌≡◌, ℕ, List, ◌++◌, Bool, true, false, ◌⊎◌}
 use Rattle.dover_model.specs.Feed.{is_open, is_ended, account}
 use Rattle.dover_model.specs.Due.{due, closed}
 use Rattle.dover_model.specs.WholeRun.{Begins}

@@ -1,5 +1,5 @@
 //! What the reading loop calls: a feed that is served.
-ghost use Rattle.std.specs.Prelude.{◌≡◌, ℕ, []};
+ghost use Rattle.std.specs.Prelude.{ℕ, []};
 ghost use Rattle.queued_jobs.specs.Spending.{HasSpent};
 ghost use Rattle.dispatcher.specs.Serving.{Serves, HasRoom, HasPaid};
 ghost use Rattle.snapshot.specs.Snapshot.{MayPause};
