@@ -1,9 +1,9 @@
 -- A snapshot whose last line is still to come has few lines, and few bytes.
-use Rattle.std.proofs.Common.{◌≡◌, ◌<◌, ◌≤◌, ℕ, List, [], ◌∷◌, ◌++◌, length, refl, sym, ap, ◌∙◌, subst, Bool, true}
-use Rattle.std.proofs.Common.{false, cond, arith, Option, Some, None}
+use Rattle.std.proofs.Common.{◌≡◌, ◌<◌, ◌≤◌, ℕ, List, [], ◌∷◌, length, refl, sym, ap, ◌∙◌, subst, Bool, true}
+use Rattle.std.proofs.Common.{false, arith, Option, Some, None}
 use Rattle.std.specs.List.{fold}
 use Rattle.std.proofs.lemmas.Bool.{ltb-false}
-use Rattle.std.proofs.lemmas.List.{append-nil, length-map}
+use Rattle.std.proofs.lemmas.List.{length-map}
 use Rattle.dover_model.specs.declared.events.Task.{Task}
 use Rattle.dover_model.specs.Lines.{lines_of, whole_lines, rest_of, is_too_long}
 use Rattle.line_text.proofs.Lengths.{AreNotTooLong, text_few}
@@ -15,6 +15,7 @@ use Rattle.snapshot.proofs.Beginning.{Within, within}
 use Rattle.resume_word.proofs.Taking.{refused_stays, taken_stays}
 use Rattle.resume_word.specs.Opening.{OpeningStands}
 use Rattle.resume_word.specs.declared.opening.Opening.{Opening}
+use Rattle.resume_word.proofs.Onward.{only_whole}
 use Rattle.resume_word.proofs.Opened.{IsRefused, long_refused}
 
 -- where the reading goes on, no line was too long
@@ -49,8 +50,7 @@ reading_few (Some r) ls it =
 pub reading_bytes : (o : Option Resuming) (x : List ℕ) → IsReading o (lines_of x) → is_too_long (rest_of x) ≡ false
     → length x < 129_000_258
 reading_bytes o x it short =
-    let whole : lines_of x ≡ whole_lines x = ap (λ b. whole_lines x ++ cond b (rest_of x ∷ []) []) short
-    ∙ append-nil (whole_lines x) in
+    let whole : lines_of x ≡ whole_lines x = only_whole x short in
     let few = reading_few o (lines_of x) it in
     omega (
       arith,
@@ -62,8 +62,7 @@ reading_bytes o x it short =
 pub next_number : (o : Opening) (x : List ℕ) → OpeningStands o x → (length (whole_lines x) ≤ 1_000_001)
     × (o.lines.count ≡ length (whole_lines x))
 next_number o x it =
-    let lines : lines_of x ≡ whole_lines x = ap (λ b. whole_lines x ++ cond b (rest_of x ∷ []) []) it.short
-    ∙ append-nil (whole_lines x) in
+    let lines : lines_of x ≡ whole_lines x = only_whole x it.short in
     let few : length (whole_lines x) ≤ 1_000_001 =
     omega (arith, (reading_few o.reader (lines_of x) it.reads).1, ap length lines) in
     (few, omega (arith, it.cut.count, few))

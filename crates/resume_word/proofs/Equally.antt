@@ -1,9 +1,10 @@
 -- Feeds with the same snapshot are served on with the same text, at the same cost.
-use Rattle.std.proofs.Common.{◌≡◌, ◌⊎◌, ℕ, List, [], ◌∷◌, ◌++◌, append_assoc, length, refl, sym, ap, ◌∙◌, subst}
+use Rattle.std.proofs.Common.{◌≡◌, ℕ, List, ◌++◌, append_assoc, length, sym, ap, ◌∙◌, subst}
 use Rattle.std.proofs.Common.{Bool, true, false, Option, Some, None, inl, inr}
-use Rattle.dover_model.specs.Session.{Session, admitted_jobs, instance_of}
+use Rattle.std.proofs.lemmas.List.{append_cancel_left}
+use Rattle.dover_model.specs.Session.{Session, admitted_jobs}
 use Rattle.dover_model.specs.Instance.{Instance}
-use Rattle.dover_model.specs.Feed.{Standing, Open, Ended, Faulty, account, is_open, is_ended}
+use Rattle.dover_model.specs.Feed.{Open, Ended, Faulty, account, is_open, is_ended}
 use Rattle.dover_model.specs.Due.{due, closed}
 use Rattle.dover_model.specs.WholeRun.{Begins}
 use Rattle.dover_port.specs.Moves.{IsProperPrefix}
@@ -26,23 +27,17 @@ use Rattle.serve_word.specs.declared.at_end.AtEnd.{AtEnd}
 use Rattle.serve_word.specs.declared.at_end.AtEnd.TheVariants.{Refuse, Pause}
 use Rattle.serve_word.proofs.Accounts.{declared_front}
 
--- what follows the same list is the same
-same_back : (xs us vs : List ℕ) → xs ++ us ≡ xs ++ vs → us ≡ vs
-same_back [] us vs same = same
-same_back (x ∷ xs) us vs same = let whole : x ∷ (xs ++ us) ≡ x ∷ (xs ++ vs) = same in let rest : xs ++ us ≡ xs ++ vs =
-    cc in same_back xs us vs rest
-
 -- ---- texts behind what was due for the one feed, and for the other
 
 module _ (g f closing whole other put : List ℕ) (is : whole ≡ g ++ closing) (is_other : other ≡ f ++ closing) where
   -- all of it
   all_put : g ++ put ≡ whole → f ++ put ≡ other
-  all_put all = ap (λ l. f ++ l) (same_back g put closing (all ∙ is)) ∙ sym is_other
+  all_put all = ap (λ l. f ++ l) (append_cancel_left g put closing (all ∙ is)) ∙ sym is_other
 
   -- a front of it
   front_put : (rest : List ℕ) → whole ≡ (g ++ put) ++ rest → other ≡ (f ++ put) ++ rest
   front_put rest cut = is_other
-      ∙ ap (λ l. f ++ l) (same_back g closing (put ++ rest) (sym is ∙ cut ∙ append_assoc g put rest))
+      ∙ ap (λ l. f ++ l) (append_cancel_left g closing (put ++ rest) (sym is ∙ cut ∙ append_assoc g put rest))
       ∙ sym (append_assoc f put rest)
 
   part_put : IsProperPrefix (g ++ put) whole → IsProperPrefix (f ++ put) other

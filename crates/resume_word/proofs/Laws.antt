@@ -1,5 +1,5 @@
 -- What holds of what is kept, whatever is read.
-use Rattle.std.proofs.Common.{◌≡◌, ◌<◌, ◌≤◌, ◌^◌, ◌-◌, ℕ, List, ◌++◌, length, ap, sym, subst, ◌∙◌, true, arith}
+use Rattle.std.proofs.Common.{◌≡◌, ◌<◌, ◌^◌, ◌-◌, ℕ, List, ◌++◌, length, ap, sym, subst, ◌∙◌, true, arith}
 use Rattle.dover_model.specs.Feed.{account}
 use Rattle.dover_model.proofs.Tests.{never}
 use Rattle.dispatcher.specs.Serving.{Serves, HasRoom, HasPaid}

@@ -1,24 +1,31 @@
 -- What more bytes make of a reading: a line that is refused stays so, and a snapshot that is whole has bytes behind it.
-use Rattle.std.proofs.Common.{◌≡◌, ◌<◌, ◌≤◌, ℕ, List, [], ◌∷◌, ◌++◌, append_assoc, append-nil, length, drop, refl}
+use Rattle.std.proofs.Common.{◌≡◌, ◌<◌, ℕ, List, [], ◌∷◌, ◌++◌, append_assoc, append-nil, length, drop, refl}
 use Rattle.std.proofs.Common.{sym, ap}
-use Rattle.std.proofs.Common.{◌∙◌, subst, Bool, true, false, cond, arith, length-append}
+use Rattle.std.proofs.Common.{◌∙◌, Bool, true, false, cond, arith, length-append}
 use Rattle.std.specs.List.{fold}
 use Rattle.std.proofs.lemmas.Bool.{ltb-true, lt-ltb}
 use Rattle.std.proofs.lemmas.List.Sums.{fold-append}
 use Rattle.dover_model.specs.declared.events.Task.{Task}
 use Rattle.dover_model.specs.Lines.{cut, in_lines, lines_of, whole_lines, rest_of, is_too_long}
-use Rattle.dover_model.specs.Feed.{account}
-use Rattle.dover_model.proofs.Cuts.{CutText, onto, cut_append}
+use Rattle.dover_model.proofs.Cuts.{CutText, onto, put_before, cut_append}
 use Rattle.dover_model.proofs.Beginnings.{in_lines-append}
 use Rattle.snapshot.specs.Snapshot.{MayPause, Head, snapshot}
 use Rattle.snapshot.specs.Reading.{Reading, Begun, Going, Taken, Refused, refused_behind, next_line, reading_of}
-use Rattle.snapshot.specs.Kept.{IsWhole}
 use Rattle.snapshot.proofs.Again.{joined_again}
 use Rattle.resume_word.proofs.Taking.{IsWholeFront, taken_whole, refused_stays, taken_stays}
 use Rattle.snapshot.proofs.Whole.{shortest_may, shortest_text}
 use Rattle.resume_word.specs.Talking.{feed_of, behind_snapshot}
-use Rattle.resume_word.proofs.Opened.{IsRefused, long_next, long_reading}
-use Rattle.resume_word.proofs.Fronts.{onto_none, onto_some}
+use Rattle.resume_word.proofs.Opened.{long_next, long_reading}
+
+-- ---- bytes before a cut text
+
+onto_none : (bs r : List ℕ) → onto bs ([], r) ≡ ([], bs ++ r)
+onto_none [] r = refl
+onto_none (b ∷ bs) r = ap (λ (c : CutText). put_before b c.0 c.1) (onto_none bs r)
+
+onto_some : (bs l : List ℕ) (ls : List (List ℕ)) (r : List ℕ) → onto bs (l ∷ ls, r) ≡ ((bs ++ l) ∷ ls, r)
+onto_some [] l ls r = refl
+onto_some (b ∷ bs) l ls r = ap (λ (c : CutText). put_before b c.0 c.1) (onto_some bs l ls r)
 
 -- lines that go on behind others
 pub reading_behind : (ls ms : List (List ℕ)) → reading_of (ls ++ ms) ≡ fold next_line (reading_of ls) ms
@@ -29,8 +36,8 @@ module _ (x : List ℕ) where
   lines_are : (b : Bool) → is_too_long (rest_of x) ≡ b → lines_of x ≡ whole_lines x ++ cond b (rest_of x ∷ []) []
   lines_are b e = ap (λ b. whole_lines x ++ cond b (rest_of x ∷ []) []) e
 
-  short_lines : is_too_long (rest_of x) ≡ false → lines_of x ≡ whole_lines x
-  short_lines short = lines_are false short ∙ append-nil (whole_lines x)
+  pub only_whole : is_too_long (rest_of x) ≡ false → lines_of x ≡ whole_lines x
+  only_whole short = lines_are false short ∙ append-nil (whole_lines x)
 
   -- what a line that is too long makes of the whole ones
   long_lines : is_too_long (rest_of x) ≡ true → reading_of (lines_of x) ≡ long_reading (reading_of (whole_lines x))
@@ -48,16 +55,13 @@ module _ (x : List ℕ) where
     by_reading (Refused at) e = e
 
     by : (b : Bool) → is_too_long (rest_of x) ≡ b → reading_of (whole_lines x) ≡ Taken h ts
-    by false short = ap reading_of (sym (short_lines short)) ∙ is
+    by false short = ap reading_of (sym (only_whole short)) ∙ is
     by true long = by_reading (reading_of (whole_lines x)) (sym (long_lines long) ∙ is)
 
   module _ (y : List ℕ) where
     -- the whole lines go on
     whole_more : whole_lines (x ++ y) ≡ whole_lines x ++ (onto (rest_of x) (cut y)).0
     whole_more = ap (λ (c : CutText). c.0) (cut_append x y)
-
-    rest_more : rest_of (x ++ y) ≡ (onto (rest_of x) (cut y)).1
-    rest_more = ap (λ (c : CutText). c.1) (cut_append x y)
 
     -- the lines that come
     abbrev more_lines : CutText → List (List ℕ)
@@ -102,7 +106,7 @@ module _ (x : List ℕ) where
       by : (b : Bool) → is_too_long (rest_of x) ≡ b → reading_of (lines_of (x ++ y)) ≡ Refused at
       by false short = reading_more
           ∙ ap (λ r. fold next_line r (more_lines (onto (rest_of x) (cut y))))
-          (ap reading_of (sym (short_lines short)) ∙ is)
+          (ap reading_of (sym (only_whole short)) ∙ is)
           ∙ refused_stays at (more_lines (onto (rest_of x) (cut y)))
       by true long = let first = long_first long (cut y) in
           reading_more ∙ ap (fold next_line (reading_of (whole_lines x))) first.2

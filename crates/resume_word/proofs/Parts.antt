@@ -1,5 +1,5 @@
 -- What a part of a snapshot, and what a whole one and the bytes behind it, are.
-use Rattle.std.proofs.Common.{◌≡◌, ℕ, List, [], ◌∷◌, ◌++◌, sym, ap, ◌∙◌, subst, Option, Some, None, true}
+use Rattle.std.proofs.Common.{◌≡◌, ℕ, List, ◌++◌, sym, ap, ◌∙◌, subst, Option, Some, None, true}
 use Rattle.dover_model.specs.Lines.{lines_of}
 use Rattle.snapshot.specs.Snapshot.{MayPause, snapshot}
 use Rattle.snapshot.specs.Reading.{reading_of}

@@ -1,30 +1,28 @@
 -- What a call comes to that reads a snapshot and serves its feed on, from its talk.
-use Rattle.std.proofs.Common.{◌≡◌, ◌<◌, ℕ, suc, List, [], ◌∷◌, ◌++◌, length, refl, sym, ap, ◌∙◌, subst, Bool, true}
+use Rattle.std.proofs.Common.{◌≡◌, ℕ, suc, List, [], ◌∷◌, ◌++◌, length, refl, sym, ap, ◌∙◌, subst, Bool}
 use Rattle.std.proofs.Common.{false}
 use Rattle.std.proofs.Common.{inl, inr, arith, length-append, append-nil}
 use Rattle.dover_model.specs.declared.events.Task.{Task}
 use Rattle.dover_model.specs.Lines.{lines_of, whole_lines}
-use Rattle.dover_model.specs.Feed.{account, is_open}
 use Rattle.dover_model.specs.WholeRun.{Begins}
 use Rattle.dover_model.proofs.Tests.{never}
-use Rattle.dover_port.specs.Moves.{Move, ins, outs, has_ended, EachRead, IsProperPrefix}
+use Rattle.dover_port.specs.Moves.{Move, ins, outs, has_ended, IsProperPrefix}
 use Rattle.dover_port.specs.Causes.{IsNeitherNoNorUsage}
 use Rattle.dover_port.specs.declared.status.Status.{Status}
 use Rattle.dover_port.specs.declared.status.Status.TheVariants.{Done, No, Refused, ReadFault, WriteFault, Memory, Usage}
 use Rattle.dialogue.specs.Talk as talk
 use Rattle.dialogue.specs.Talk.{Talks, CanEnd, IsCutAnswer}
 use Rattle.dialogue.proofs.Quiet.{reads_weaker}
-use Rattle.snapshot.specs.Snapshot.{Head, MayPause, snapshot}
+use Rattle.snapshot.specs.Snapshot.{Head}
 use Rattle.snapshot.specs.Reading as reading
 use Rattle.snapshot.specs.Reading.{Reading, Begun, Going, Taken, reading_of}
 use Rattle.snapshot.proofs.Feeds.{named}
 use Rattle.serve_word.specs.Talking.{IsServedAs}
 use Rattle.serve_word.specs.From.{MayReadFrom, EndsAt}
-use Rattle.serve_word.specs.declared.at_end.AtEnd.{AtEnd}
 use Rattle.serve_word.proofs.Accounts.{declared_front}
 use Rattle.serve_word.proofs.Records.{due_put, part_put, cut_put, lacked_put}
-use Rattle.resume_word.specs.Record.{is_part, IsPart, MayRead, IsRefusedFor, refused_text, EndsBefore, Ends, Resumes}
-use Rattle.resume_word.specs.Talking.{Asked, feed_of, behind_snapshot, due_by, IsRefusedAs, IsAnsweredBy, LacksBy}
+use Rattle.resume_word.specs.Record.{is_part, MayRead, IsRefusedFor, Ends, Resumes}
+use Rattle.resume_word.specs.Talking.{Asked, feed_of, behind_snapshot, IsRefusedAs, IsAnsweredBy, LacksBy}
 use Rattle.resume_word.specs.Talking.{HasBegun, resume_talk}
 use Rattle.resume_word.proofs.Equally.{may_same, ends_same}
 use Rattle.resume_word.proofs.Onward.{feed_may}
@@ -63,7 +61,7 @@ module _ (a : Asked) where
     abbrev says : Reading
     says = reading_of (lines_of x)
 
-    -- behind a whole snapshot, by its shortest feed
+    -- behind a whole snapshot, by one feed with it
     past_ends : (h : Head) (ts : List Task) → says ≡ Taken h ts → (status : Status)
         → EndsAt (feed_of h ts) a.at_end status (behind_snapshot h ts x) (outs moves) (has_ended moves)
         → Ends a.at_end status moves

@@ -1,13 +1,13 @@
 -- What is kept of a snapshot, and then of its feed, as more bytes come.
-use Rattle.std.proofs.Common.{◌≡◌, ◌<◌, ◌≤◌, ◌+◌, ◌^◌, ◌-◌, ℕ, suc, List, [], ◌∷◌, ◌++◌, length, take, drop, refl}
+use Rattle.std.proofs.Common.{◌≡◌, ◌<◌, ◌≤◌, ◌+◌, ℕ, suc, List, [], ◌∷◌, ◌++◌, length, take, drop, refl}
 use Rattle.std.proofs.Common.{sym, ap}
-use Rattle.std.proofs.Common.{◌∙◌, subst, append_assoc, append-nil, arith, Bool, true, false, inl, inr, Option, Some}
+use Rattle.std.proofs.Common.{◌∙◌, subst, append_assoc, append-nil, arith, Bool, true, false, inl, Option, Some}
 use Rattle.std.proofs.Common.{None}
 use Rattle.std.proofs.Common.{Result, Ok, Err, zero}
 use Rattle.std.proofs.lemmas.List.{take-append-drop}
 use Rattle.dover_model.specs.declared.Memory.{Memory as Lacking}
 use Rattle.dover_model.specs.declared.events.Task.{Task}
-use Rattle.dover_model.specs.Lines.{in_lines, lines_of, whole_lines, rest_of}
+use Rattle.dover_model.specs.Lines.{in_lines, lines_of, whole_lines}
 use Rattle.dover_model.specs.Feed.{account, is_open}
 use Rattle.dover_model.specs.WholeRun.{Begins}
 use Rattle.dover_model.proofs.Tests.{never}
@@ -20,10 +20,9 @@ use Rattle.dialogue.specs.Turns.{joined, Standing, Takes, TakesBy, GivesBy, Answ
 use Rattle.dialogue.specs.declared.talker.Stop.{Stop}
 use Rattle.dialogue.specs.declared.talker.Stop.TheVariants.{NoMemory, Unwritten}
 use Rattle.dispatcher.specs.Serving.{Serves, HasRoom, HasPaid}
-use Rattle.queued_jobs.specs.Spending.{CostsAtMost}
-use Rattle.snapshot.specs.Snapshot.{MayPause, Head, snapshot}
+use Rattle.snapshot.specs.Snapshot.{Head, snapshot}
 use Rattle.snapshot.specs.Reading.{Reading, Begun, Going, Taken, Refused, reading_of}
-use Rattle.snapshot.specs.Kept.{IsReady, IsWhole, IsGoing}
+use Rattle.snapshot.specs.Kept.{IsReady, IsWhole}
 use Rattle.snapshot.specs.Spending.{HasSpentOn}
 use Rattle.snapshot.specs.declared.reader.SnapFault.TheVariants as fault
 use Rattle.snapshot.specs.declared.resuming.Resuming.{Resuming}
@@ -37,7 +36,7 @@ use Rattle.serve_word.specs.declared.at_end.AtEnd.{AtEnd}
 use Rattle.serve_word.specs.declared.at_end.AtEnd.TheVariants.{Refuse}
 use Rattle.serve_word.proofs.Talking.{steady}
 use Rattle.resume_word.specs.Opening.{OpeningStands, IsWholeAt, TakesFront, HasFewOf}
-use Rattle.resume_word.specs.Record.{is_part, IsPart, IsFrugalFor, refused_text}
+use Rattle.resume_word.specs.Record.{is_part, IsFrugalFor, refused_text}
 use Rattle.resume_word.specs.Talking.{Asked, feed_of, behind_snapshot, goes_by, due_by, HasBegun, LacksBy, IsPast}
 use Rattle.resume_word.specs.Talking.{IsOpen, IsStopped}
 use Rattle.resume_word.specs.Talking.{IsAnsweredBy, resume_talk}
@@ -170,7 +169,7 @@ ready_whole : (o : Option Resuming) (ls : List (List ℕ)) → IsReady o ls → 
 ready_whole None ls none = absurd none
 ready_whole (Some r) ls it = (it.0, it.1, it.2)
 
--- the bytes are the snapshot of its shortest feed
+-- the bytes are the snapshot of the feed that stands for all with it
 pub record IsOpened (y : List ℕ) : Type 0 where
   pub head : Head
   pub tasks : List Task

@@ -1,12 +1,11 @@
 -- A snapshot that is read, and its feed behind it, as a talk.
-use Rattle.std.proofs.Common.{◌≡◌, ◌<◌, ◌≤◌, ◌+◌, ◌*◌, ◌^◌, ◌-◌, ℕ, suc, List, [], ◌∷◌, ◌++◌, length, take, refl}
+use Rattle.std.proofs.Common.{◌≡◌, ◌<◌, ◌≤◌, ◌*◌, ◌^◌, ◌-◌, ℕ, List, [], ◌∷◌, ◌++◌, length, refl}
 use Rattle.std.proofs.Common.{sym, ap}
-use Rattle.std.proofs.Common.{◌∙◌, subst, append_assoc, append-nil, length-append, arith, Bool, true, false, inl}
+use Rattle.std.proofs.Common.{◌∙◌, subst, append_assoc, length-append, arith, true, false, inl}
 use Rattle.std.proofs.Common.{inr, codes}
-use Rattle.std.proofs.Common.{Option, Some, None}
 use Rattle.std.proofs.lemmas.List.{length-map}
 use Rattle.dover_model.specs.declared.events.Task.{Task}
-use Rattle.dover_model.specs.Lines.{in_lines, lines_of, rest_of, whole_lines}
+use Rattle.dover_model.specs.Lines.{in_lines, lines_of}
 use Rattle.dover_model.specs.Feed.{account, is_open}
 use Rattle.dover_model.specs.WholeRun.{Begins}
 use Rattle.dover_model.proofs.Beginnings.{in_lines-append}
@@ -18,14 +17,10 @@ use Rattle.queued_jobs.specs.Spending.{CostsAtMost}
 use Rattle.queued_jobs.proofs.Spending.{few_more}
 use Rattle.event_feed.specs.Answers.{admitted_in}
 use Rattle.event_feed.proofs.Admitting.{admitted_front}
-use Rattle.event_feed.proofs.GoingOn.{open_bytes}
-use Rattle.lane_server.proofs.Adding.{open_stands}
 use Rattle.snapshot.specs.Snapshot.{MayPause, Head, state_line, snapshot}
 use Rattle.snapshot.specs.Reading.{Reading, Begun, Going, Taken, Refused, reading_of}
-use Rattle.snapshot.specs.Spending.{jobs_read}
 use Rattle.snapshot.proofs.Beginning.{Within, within}
 use Rattle.serve_word.specs.Talking.{Call, due_behind, IsServedAs, serve_talk}
-use Rattle.serve_word.specs.declared.at_end.AtEnd.{AtEnd}
 use Rattle.serve_word.proofs.Talking.{steady}
 use Rattle.resume_word.specs.Record.{Behind, IsFrugalFor}
 use Rattle.resume_word.specs.Talking.{Asked, feed_of, behind_snapshot, goes_by, due_by, IsAnsweredBy, HasBegun, LacksBy}
@@ -35,7 +30,7 @@ use Rattle.resume_word.proofs.Equally.{admitted_same}
 use Rattle.resume_word.proofs.Onward.{taken_on, refused_on, front, feed_may, feed_text, parts_are, behind_on}
 use Rattle.resume_word.proofs.Parts.{behind}
 
--- the call of the shortest feed
+-- the call of the feed that stands for all with a snapshot
 abbrev pub call_of : (start : ℕ) (x : List ℕ) (h : Head) (ts : List Task) → reading_of (lines_of x) ≡ Taken h ts → Call
 call_of start x h ts is = record { feed = feed_of h ts; goes_on = (feed_may x h ts is).going_on; start = start }
 
@@ -188,7 +183,7 @@ module _ (x : List ℕ) (h : Head) (ts : List Task) (is : reading_of (lines_of x
     few,
   )
 
-  -- what holds of the shortest feed and the bytes behind its snapshot, and of each other feed with it
+  -- what holds of that feed and the bytes behind its snapshot, and of each other feed with it
   pub past : (T : List ℕ → List ℕ → Type 0)
       → ((F : List ℕ) → MayPause F → snapshot (feed_of h ts) ≡ snapshot F → T F (behind_snapshot h ts x)) → Behind x T
   past T each = behind (snapshot (feed_of h ts)) (feed_of h ts) (feed_may x h ts is) refl x (behind_snapshot h ts x) T

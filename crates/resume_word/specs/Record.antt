@@ -7,7 +7,7 @@ use Rattle.queued_jobs.specs.Spending.{CostsAtMost}
 use Rattle.event_feed.specs.Answers.{admitted_in}
 use Rattle.dover_port.specs.Moves.{Move, ins, outs, has_ended, EachRead, IsProperPrefix}
 use Rattle.dover_port.specs.declared.status.Status.{Status}
-use Rattle.dover_port.specs.declared.status.Status.TheVariants.{Done, Refused, ReadFault, WriteFault, Memory}
+use Rattle.dover_port.specs.declared.status.Status.TheVariants.{Refused, ReadFault, WriteFault, Memory}
 use Rattle.snapshot.specs.Snapshot.{MayPause, snapshot}
 use Rattle.snapshot.specs.Reading as reading
 use Rattle.snapshot.specs.Reading.{Reading, Begun, Going, Taken, reading_of}

@@ -1,5 +1,5 @@
 -- What `resume` says, by the bytes got.
-use Rattle.std.specs.Prelude.{◌≡◌, Bool, true, false, ℕ, suc, List, [], ◌∷◌, ◌++◌, length, drop}
+use Rattle.std.specs.Prelude.{◌≡◌, Bool, true, false, ℕ, suc, List, [], ◌++◌, length, drop}
 use Rattle.dover_model.specs.declared.events.Task.{Task}
 use Rattle.dover_model.specs.Lines.{in_lines, lines_of, whole_lines}
 use Rattle.dover_model.specs.Feed.{account, is_open}
@@ -26,7 +26,7 @@ pub record Asked : Type 0 where
   pub at_end : AtEnd
   pub start : ℕ
 
--- the shortest feed with the snapshot of these jobs
+-- one feed with the snapshot of these jobs: the ratio, a line for each job, and the tick lines that are left
 abbrev pub feed_of : Head → List Task → List ℕ
 feed_of h tasks = in_lines (feed_lines h tasks)
 
@@ -85,7 +85,7 @@ resume_talk a = record {
 
 -- ---- what is kept
 
--- the bytes are a snapshot and bytes behind it, and of its shortest feed and these T holds
+-- the bytes are a snapshot and bytes behind it, and of the one feed with it and these T holds
 pub record IsPast (start : ℕ) (x : List ℕ) (T : Call → List ℕ → Type 0) : Type 0 where
   pub head : Head
   pub tasks : List Task

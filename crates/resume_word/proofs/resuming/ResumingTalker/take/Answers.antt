@@ -1,9 +1,9 @@
-use Rattle.std.proofs.Common.{◌++◌, ◌≡◌, [], List, ℕ, take, refl, sym, ap, ◌∙◌, subst, arith}
-use Rattle.dover_model.specs.Lines.{lines_of, in_lines}
+use Rattle.std.proofs.Common.{◌++◌, List, ℕ, take, refl, sym, ◌∙◌, subst}
+use Rattle.dover_model.specs.Lines.{lines_of}
 use Rattle.snapshot.specs.Reading.{Refused}
 use Rattle.resume_word.specs.Talking.{IsReady}
 use Rattle.dover_model.proofs.Tests.{never}
-use Rattle.resume_word.proofs.Talking.{due_at, goes_at}
+use Rattle.resume_word.proofs.Talking.{goes_at}
 use Rattle.resume_word.proofs.Onward.{feed_may}
 use Rattle.resume_word.proofs.Stages.{front_costs, line_refused, line_lacks, opened_is, some_used}
 use Rattle.resume_word.proofs.Stages.{opened_call, past_call, past_bytes, past_takes, past_goes, opening_took}
