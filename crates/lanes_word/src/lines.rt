@@ -16,11 +16,9 @@ pub(crate) fn write_in_lane(lane: u8, out: LaneOut, line: &mut BackLine)
     requires { HasNumerals out }
     ensures { line.new ≡ in_lane lane (out_text out) ++ 10 ∷ [] }
 {
-    let mut front = LineBuf::new();
-    front.put_number(u64::from(lane));
-    front.put_word(b"");
     write_out(&out, line);
-    line.put_word(front.bytes());
+    line.put_word(b" ");
+    line.put_number(u64::from(lane));
 }
 
 /// Puts the line that refuses the whole input. The word has at most 5 bytes.
