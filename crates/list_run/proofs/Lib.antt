@@ -1,2 +1,2 @@
-pub mod Feeding
+mod Feeding
 mod Showing

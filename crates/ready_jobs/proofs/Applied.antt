@@ -208,12 +208,6 @@ module _ (p : Parted) (roles : HaveRoles p) (once : AreOnce (ready_of p)) where
       names_taken : Says seen (Take next.0 m n)
       names_taken = says next.1.0 seen (Take next.0 m n) next.1.1
 
-      pub some_loses : p.running ≡ None → ⊥
-      some_loses none = none_is_some (sym none ∙ runs_here names_taken.0 names_taken.2)
-
-      pub some_takes : seen.must_start ≡ None → ⊥
-      some_takes none = none_is_some (sym none ∙ names_taken.3)
-
       -- the job at its latest start is the one that the step names
       pub taken_named : (x : Task) → seen.must_start ≡ Some x → x.number ≡ n
       taken_named x late = named_here seen.must_start x names_taken.1 n late names_taken.3 names_taken.5

@@ -188,13 +188,13 @@ module _ (k : Fraction) (v : View) (n : ℕ) where
 
 -- while a job runs that isn't done, and nothing else is due, a tick is next
 pub ticks_next : (k : Fraction) (v : View) (r : Task) → v.running ≡ Some r → 0 < left r → v.fresh ≡ None
-    → v.coming ≡ None → v.late ≡ None → urgent_or k v Ticks ≡ Ticks
+    → v.coming ≡ None → v.must_start ≡ None → urgent_or k v Ticks ≡ Ticks
 ticks_next k v r runs some stale still early =
-    ap (λ o. completion v o or_else dispatch v o v.held v.waiting or_else decision v o v.fresh
-    or_else arrival v v.coming or_else alarm k v o v.late or_else Ticks) runs
+    ap (λ o. completion v o or_else dispatch v o v.first_held v.first_waiting or_else decision v o v.fresh
+    or_else arrival v v.coming or_else alarm k v o v.must_start or_else Ticks) runs
     ∙ ap (λ b. then_some b (Prints (Complete v.clock r.number)) or_else decision v (Some r) v.fresh
-    or_else arrival v v.coming or_else alarm k v (Some r) v.late or_else Ticks)
+    or_else arrival v v.coming or_else alarm k v (Some r) v.must_start or_else Ticks)
     (ne_eqb (left r) 0 (λ none. omega (arith, some, none)))
-    ∙ ap (λ f. decision v (Some r) f or_else arrival v v.coming or_else alarm k v (Some r) v.late or_else Ticks) stale
-    ∙ ap (λ c. arrival v c or_else alarm k v (Some r) v.late or_else Ticks) still
+    ∙ ap (λ f. decision v (Some r) f or_else arrival v v.coming or_else alarm k v (Some r) v.must_start or_else Ticks) stale
+    ∙ ap (λ c. arrival v c or_else alarm k v (Some r) v.must_start or_else Ticks) still
     ∙ ap (λ x. alarm k v (Some r) x or_else Ticks) early

@@ -3,6 +3,7 @@
 
 mod applying;
 mod deeds;
+mod held;
 mod parts;
 mod pool;
 mod ready;

@@ -22,6 +22,7 @@ ghost use Rattle.ready_jobs.specs.Reordered.{IsReordered};
 ghost use Rattle.ready_jobs.specs.Parts.{Parted, AreSound, HaveRoles, ready_of, state_of, head_of, tail_of};
 
 use crate::deeds::Deed;
+use crate::held::{peek, pop, push};
 use crate::pool::Pool;
 use crate::short::ShortTask;
 use crate::taking::{displace, in_role};

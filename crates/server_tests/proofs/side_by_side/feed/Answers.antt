@@ -1,46 +1,9 @@
-use Rattle.std.proofs.Common.{◌+◌, ◌∷◌, [], drop, sym, subst, arith}
+use Rattle.std.proofs.Common.{◌+◌, ◌∷◌, [], drop, subst, arith}
 use Rattle.dover_model.specs.Instance.{with_jobs}
 use Rattle.dover_server.specs.declared.horizon.Horizon.TheVariants.{Mark}
 use Rattle.dispatcher.specs.Dispatch.{due_by}
-use Rattle.dover_server.specs.Service.{MayFollow}
-use Rattle.dispatcher.specs.Dispatch.{no_jobs}
-use Rattle.list_run.proofs.Feeding.{CanFeed, can_first, can_admit, can_further, few_with, serves_on}
-use Rattle.server_tests.proofs.Feeding.{from_here}
-use Rattle.server_tests.proofs.side_by_side.printed.Goals as goal
-
-pub loop-job-init : goal.loop-job-init
-loop-job-init g c = record {
-  serves = (
-    no_jobs c.args.version c.args.k,
-    Mark 0,
-    [],
-    c.in_ok-server.ensures.serves,
-    can_first c.args.k c.args.version c.args.jobs.now c.requires.valid,
-  );
-}
-
-pub make_room-requires : goal.make_room-requires
-make_room-requires g c =
-    let job = c.job-item.result in
-    let rest = drop (c.loop-job.job-index + 1) c.args.jobs.now in
-    let it = c.loop-job.invariant.serves in
-    let can : CanFeed it.0 it.1 (job ∷ rest) = subst (CanFeed it.0 it.1)
-    (from_here c.args.jobs.now c.loop-job.job-index job (omega arith) c.job-item.is) it.4 in
-    (it.0, it.1, it.2, it.3, few_with it.0 job (can_admit it.0 it.1 job rest can))
-
-pub settle-requires : goal.settle-requires
-settle-requires g c =
-    let job = c.job-item.result in
-    let rest = drop (c.loop-job.job-index + 1) c.args.jobs.now in
-    let it = c.loop-job.invariant.serves in
-    let can : CanFeed it.0 it.1 (job ∷ rest) = subst (CanFeed it.0 it.1)
-    (from_here c.args.jobs.now c.loop-job.job-index job (omega arith) c.job-item.is) it.4 in (
-      it.0,
-      it.1,
-      it.2,
-      c.in_ok-make_room.ensures.serves it.0 it.1 it.2 it.3,
-      subst (λ t. MayFollow it.1 (Mark t)) (sym c.release.ensures.is) can.follow.0,
-    )
+use Rattle.server_tests.proofs.Feeding.{CanFeed, from_here, can_admit, can_further, serves_on}
+use Rattle.server_tests.proofs.side_by_side.feed.Goals as goal
 
 pub admit-requires-clause-valid : goal.admit-requires-clause-valid
 admit-requires-clause-valid g c =
