@@ -129,6 +129,7 @@ impl Engine {
         if self.server.spare() == 0 {
             return Err(NotAdmitted::Full);
         }
+        // The server stands, as reading it tells.
         let _clock = self.server.clock();
         match self.server.admit(job) {
             Ok(number) => {
@@ -150,6 +151,7 @@ impl Engine {
         ensures count { (d : ℕ) → length self.old.service.state.tasks + 1 < 2 ^ d →
             IsCounted to self.old.service.rules self.old.service.state self.new.service.state d steps.old steps.new }
     {
+        // The server stands, as reading it tells.
         let _clock = self.server.clock();
         self.last = to;
         let event = step_to(&mut self.server, to, steps);
@@ -210,6 +212,7 @@ impl Engine {
     {
         let jobs = u64::from(self.server.admitted());
         let value = self.server.value();
+        // The server stands, as reading it tells.
         let _clock = self.server.clock();
         if MOST_FORGOTTEN - self.forgotten < jobs || MOST_FORGOTTEN - self.earned < value {
             return false;
@@ -227,6 +230,7 @@ impl Engine {
     pub fn value(&self) -> u64
         ensures { result ≡ self.now.earned + done_value self.now }
     {
+        // The server stands, as reading it tells.
         let _clock = self.server.clock();
         self.earned + self.server.value()
     }
