@@ -6,28 +6,15 @@ use Rattle.std.proofs.lemmas.Bool.{cases_lt}
 use Rattle.dover_model.specs.JobFacts.{JobFacts, IsJob}
 use Rattle.dover_model.specs.Fraction.{Fraction}
 use Rattle.dover_model.specs.Admission.{is_within_ratio_both_ways}
-use Rattle.dover_model.proofs.Members.{all_append}
+use Rattle.dover_model.proofs.Members.{all_append, all_both, all_at}
 use Rattle.dover_model.proofs.Valid.{all_from}
 use Rattle.dover_model.proofs.Growing.{all_behind}
 use Rattle.admission.specs.declared.extremes.Numbered.{Numbered}
 use Rattle.admission.specs.declared.extremes.Extremes.{Extremes}
-use Rattle.admission.specs.Kept.{IsLessDense, IsFirstBy, IsLeastDense, IsDensest, IsBetween, AreExtremes}
+use Rattle.admission.specs.Kept.{IsLessDense, IsFirstBy, IsLeastDense, IsDensest, AreExtremes}
 use Rattle.admission.proofs.Comparing.{not_both, no_less, chained}
 
 -- ---- lists
-
--- what each keeps, and what holds of both, holds of each
-pub all_both : {X : Type 0} (P Q R : X → Type 0) (xs : List X) → ((x : X) → P x → Q x → R x) → AllByRecursion P xs
-    → AllByRecursion Q xs
-    → AllByRecursion R xs
-all_both P Q R [] h one other = tt
-all_both P Q R (x ∷ xs) h one other = (h x one.0 other.0, all_both P Q R xs h one.1 other.1)
-
--- the one in the middle
-pub all_middle : {X : Type 0} (P : X → Type 0) (xs : List X) (y : X) (ys : List X) → AllByRecursion P (xs ++ y ∷ ys)
-    → P y
-all_middle P [] y ys all = all.0
-all_middle P (x ∷ xs) y ys all = all_middle P xs y ys all.1
 
 -- ---- the first of some jobs
 
@@ -44,7 +31,7 @@ module _ (Under : JobFacts → JobFacts → Type 0) (not_mutual : (i j : JobFact
 
   -- what holds of each holds of it
   pub first_is : (P : JobFacts → Type 0) → AllByRecursion P jobs → P x.job
-  first_is P all = all_middle P it.before x.job it.behind (subst (AllByRecursion P) it.place all)
+  first_is P all = all_at P it.before x.job it.behind (subst (AllByRecursion P) it.place all)
 
   -- it stays the first with one more that isn't under it
   pub stays_first : (y : JobFacts) → (Under y x.job → ⊥) → IsFirstBy Under (jobs ++ y ∷ []) x
@@ -136,12 +123,3 @@ module _ (k : Fraction) (jobs : List JobFacts) (e : Extremes) (it : AreExtremes 
         by_order (inr less) = let over : IsLessDense e.densest.job y.job → ⊥ = λ denser. absurd (omega arith) in
             subst (IsDensest (jobs ++ y.job ∷ [])) (sym (old over))
             (stays_first IsDenser not_both_denser jobs e.densest it.densest y.job over)
-
-  -- one more between them leaves them
-  pub between_more : IsBetween e y.job → AreExtremes k (jobs ++ y.job ∷ []) e
-  between_more between = record {
-    each = each_more;
-    least = stays_first IsLessDense not_both jobs e.least it.least y.job between.0;
-    densest = stays_first IsDenser not_both_denser jobs e.densest it.densest y.job between.1;
-    keep = it.keep;
-  }

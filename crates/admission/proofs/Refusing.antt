@@ -14,11 +14,12 @@ use Rattle.dover_model.specs.Admission.{is_within_ratio_both_ways, first_cause, 
 use Rattle.dover_model.proofs.Calculus.{cancel}
 use Rattle.dover_model.proofs.Tests.{both, each}
 use Rattle.dover_model.proofs.Agreement.{is_within_ratio-agrees, is_job-agrees}
+use Rattle.dover_model.proofs.Members.{all_both}
 use Rattle.admission.specs.declared.extremes.Extremes.{Extremes}
 use Rattle.admission.specs.Kept.{IsLessDense, IsBetween, AreExtremes}
 use Rattle.admission.specs.Answers.{AllKeepRatio, LeastDenseKeeps}
 use Rattle.admission.proofs.Comparing.{not_both, no_less, within_least, within_densest}
-use Rattle.admission.proofs.Firsts.{all_both, none_under, first_is, IsDenser, not_both_denser}
+use Rattle.admission.proofs.Firsts.{none_under, first_is, IsDenser, not_both_denser}
 
 -- the test says so of both ways
 both_ways : (k : Fraction) (i j : JobFacts) → (IsWithinRatio k i j × IsWithinRatio k j i)

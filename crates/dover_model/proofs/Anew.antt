@@ -18,13 +18,13 @@ use Rattle.dover_model.specs.Bound.{IsWithin}
 use Rattle.dover_model.specs.Sound.{Each}
 use Rattle.dover_model.specs.Rest.{behind, before_end, later_job, later_event, AreAnew, anew, printed_anew}
 use Rattle.dover_model.specs.Rest.{completed_anew}
-use Rattle.dover_model.proofs.Members.{all_member, on_map}
+use Rattle.dover_model.proofs.Members.{all_member, on_map, each_append}
 use Rattle.dover_model.proofs.BoundLaws.{bound as no_more}
 use Rattle.dover_model.proofs.RunLaws.{one_run}
 use Rattle.dover_model.proofs.Moving.{moved_task, moved_state, IsFitting, whole_later}
 use Rattle.dover_model.proofs.Runs.{last_value, value_last}
 use Rattle.dover_model.proofs.Resting.{at_tick, RunsFrom, alone, joined, runs_all, later_due, due_least, dues_mono}
-use Rattle.dover_model.proofs.Apart.{settled_at_rest, behind_last, each_append}
+use Rattle.dover_model.proofs.Apart.{settled_at_rest, behind_last}
 use Rattle.dover_model.proofs.Parting.{worth_to, worth_append, within_add, within_less}
 
 -- ---- jobs to come, moved in time

@@ -1,5 +1,5 @@
 -- What is settled falls apart at rest, and so do runs of many lists in turn.
-use Rattle.std.proofs.Common.{◌≡◌, ℕ, length-append, ◌+◌, ◌-◌, ◌*◌, ◌≤◌, inl, inr, List, [], ◌∷◌, ◌++◌, length, map}
+use Rattle.std.proofs.Common.{◌≡◌, ℕ, length-append, ◌+◌, ◌-◌, ◌*◌, ◌≤◌, List, [], ◌∷◌, ◌++◌, length, map}
 use Rattle.std.proofs.Common.{refl, sym, ap, ◌∙◌, subst}
 use Rattle.std.proofs.Common.{Bool, true, false, cond, arith, not, append-nil, append_assoc}
 use Rattle.std.specs.Prelude.{◌&&◌, nat_le}
@@ -25,26 +25,19 @@ use Rattle.dover_model.proofs.Settling.{late_early, settled_is_run, enough_settl
 use Rattle.dover_model.proofs.Later.{same_step}
 use Rattle.dover_model.proofs.Prefixes.{same_after, open_goes_on, come_from, come_append}
 use Rattle.dover_model.proofs.Runs.{printed_append, value_of_run, last_value, value_last}
-use Rattle.dover_model.proofs.Paths.{path_later, one_settled_run}
+use Rattle.dover_model.proofs.Paths.{path_later, one_settled_run, path_then_settled}
 use Rattle.dover_model.proofs.Shifting.{beside, came_to, settled_beside}
 use Rattle.dover_model.proofs.Resting.{at_tick, RunsFrom, Rests, at_rest, settles_from, ticks_path, tick_keeps}
 use Rattle.dover_model.proofs.Resting.{come_shift}
 use Rattle.dover_model.proofs.Resting.{numbers_below, numbers_apart, value_there, printed_at_rest, joined, runs_all}
 use Rattle.dover_model.proofs.Resting.{due_later, printed_apart}
 use Rattle.dover_model.proofs.Tests.{never}
+use Rattle.dover_model.proofs.Members.{each_append}
 
 -- from the tick on, with all these jobs to come, these events are settled at the mark
 abbrev pub SettlesFrom : Rules → ℕ → ℕ → List JobFacts → List Event → Type 0
 SettlesFrom rules mark m jobs events = (xs : List Step) × IsSettledRun rules mark (at_tick m jobs) xs
     × (length xs ≤ (mark - m) + 6 * length jobs) × (printed_of xs ≡ events)
-
--- an open path, and what settles behind it
-pub path_then_settled : (rules : Rules) (mark : ℕ) (xs ys : List Step) (s t : State) → IsOpenPath rules mark s xs t
-    → IsSettledRun rules mark t ys
-    → IsSettledRun rules mark s (xs ++ ys)
-path_then_settled rules mark [] ys s t here run = subst (λ z. IsSettledRun rules mark z ys) here run
-path_then_settled rules mark (x ∷ xs) ys s t path run =
-    (path.0, path.1, path_then_settled rules mark xs ys (after s (open_step rules s)) t path.2 run)
 
 -- ---- with jobs to come behind, the open steps are the same
 
@@ -282,12 +275,6 @@ value_apart J more m valid valid_more rest late =
     (before_end (printed J) ++ map (behind (length J.jobs) (completed_value J)) it.0)
 
 -- ---- many lists in turn
-
--- of each of two lists
-pub each_append : {X : Type 0} (P : X → Type 0) (xs ys : List X) → Each P xs → Each P ys → Each P (xs ++ ys)
-each_append P [] ys one other y member = other y member
-each_append P (x ∷ xs) ys one other y (inl e) = one y (inl e)
-each_append P (x ∷ xs) ys one other y (inr member) = each_append P xs ys (λ z m. one z (inr m)) other y member
 
 module _ (rules : Rules) where
   -- the instance of one list

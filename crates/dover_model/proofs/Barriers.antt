@@ -32,7 +32,7 @@ late_none_fresh k s m (Abandoned r x member runs some x_member waiting now stale
 late_none_fresh k s m (Rested quiet) late = quiet.stale
 
 -- the state after these steps
-abbrev state_after : State → List Step → State
+abbrev pub state_after : State → List Step → State
 state_after s xs = fold (λ s step. after step.before step.move) s xs
 
 -- a sound state at the mark, with none fresh, in which a late step is next

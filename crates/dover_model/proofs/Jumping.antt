@@ -65,11 +65,6 @@ after-later_by n s = ap (λ clock. state_of clock (map ticked (map (ticked_by n)
 
 -- ---- what is due after ticks
 
--- the left of a job after ticks
-left_later : (b : Bool) (work had n : ℕ) → work - cond b (had + n) had ≤ work - had
-left_later true work had n = omega arith
-left_later false work had n = omega arith
-
 -- a job that doesn't run has as much left
 left_same : (b : Bool) (work had n : ℕ) → b ≡ false → work - cond b (had + n) had ≡ work - had
 left_same true work had n out = never (sym out)

@@ -42,6 +42,7 @@ pub mod Prefixes
 pub mod Valid
 pub mod Beginnings
 pub mod Cuts
+pub mod GrowingTexts
 pub mod Releasing
 pub mod ReleaseCounts
 pub mod Onlines

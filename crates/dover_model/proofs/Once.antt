@@ -5,7 +5,7 @@ use Rattle.std.proofs.Common.{true, false, cond}
 use Rattle.std.proofs.Common.{arith, eqb}
 use Rattle.std.specs.Bool.{MatchBool, then_some}
 use Rattle.std.specs.List.{count_by, list_all, filter}
-use Rattle.std.proofs.lemmas.Bool.{eqb-true, eqb-false, eq-eqb}
+use Rattle.std.proofs.lemmas.Bool.{eqb-true, eqb-false, eq-eqb, false_from_ne_true}
 use Rattle.std.proofs.lemmas.List.Sums.{sum_by-cons}
 use Rattle.dover_model.specs.Fraction.{Fraction}
 use Rattle.dover_model.specs.declared.events.Role.{Role}
@@ -297,11 +297,6 @@ module _ (n : ℕ) (k : Fraction) (s : State) (other : Move) (sound : IsSound s)
 
 -- ---- what is tested is true once
 
--- a test that can't hold fails
-is_not : (b : Bool) → (b ≡ true → ⊥) → b ≡ false
-is_not true h = absurd (h refl)
-is_not false h = refl
-
 -- how many of these steps pass
 abbrev counted : (Move → Bool) → List Step → ℕ
 counted test xs = count_by (λ x. test x.move) xs
@@ -328,7 +323,7 @@ module _ (J : Instance) (valid : IsValid J) (rules : Rules) (test : Move → Boo
   none_more [] s keeps holds whole = absurd whole
   none_more (x ∷ xs) s keeps holds whole =
       let none : one_if (test (step rules s)) ≡ 0 =
-      ap one_if (is_not (test (step rules s)) (λ passed. (passes_once s keeps passed).0 holds)) in
+      ap one_if (false_from_ne_true (test (step rules s)) (λ passed. (passes_once s keeps passed).0 holds)) in
       let later : counted test xs ≡ 0 =
       of_later (counted test xs ≡ 0) (is_end (step rules s)) rules (after s (step rules s)) xs whole.1
       (ap (counted test)) (none_more xs (after s (step rules s)) (step_kept J valid s keeps rules)

@@ -5,7 +5,7 @@ use Rattle.std.proofs.Common.{sym, ap, ◌∙◌, subst, arith, cond, eqb, Bool,
 use Rattle.std.specs.List.{count_by, sum_by, filter, enumerate_from, AllByRecursion}
 use Rattle.std.proofs.lemmas.Bool.{le-leb, leb-true, eqb-true, eq-eqb, ne_eqb}
 use Rattle.std.proofs.lemmas.List.{take-map, drop-map}
-use Rattle.std.proofs.lemmas.List.Sums.{sum_by-cons}
+use Rattle.std.proofs.lemmas.List.Sums.{sum_by-cons, sum_by-append}
 use Rattle.std.proofs.lemmas.Nat.{mul-le}
 use Rattle.dover_model.specs.JobFacts.{JobFacts}
 use Rattle.dover_model.specs.Fraction.{Fraction}
@@ -18,15 +18,12 @@ use Rattle.dover_model.specs.Sound.{IsMember, Each}
 use Rattle.dover_model.specs.Rest.{in_turn, completed_in_turn}
 use Rattle.dover_model.specs.Parts.{part_of, IsParted, part_under, completed_in_parts, bounds_of_parts}
 use Rattle.dover_model.specs.Intervals.{intervals}
-use Rattle.dover_model.proofs.Members.{sum_le, sum_plus, term_le_sum, all_member, member_filter}
+use Rattle.dover_model.proofs.Members.{sum_le, sum_plus, term_le_sum, all_member, member_filter, each_cons}
 use Rattle.dover_model.proofs.GreatestLaws.{bound-is}
 use Rattle.dover_model.proofs.Runs.{none_lost, all_value}
 use Rattle.dover_model.proofs.BoundLaws.{bound as no_more, intervals_abandon}
 use Rattle.dover_model.proofs.Calculus.{below_add}
-
--- a numbered job
-abbrev pub Job : Type 0
-Job = ℕ × JobFacts
+use Rattle.dover_model.specs.Books.{Job}
 
 -- ---- a schedule under other numbers
 
@@ -335,11 +332,6 @@ enumerate_append k [] more = ap (λ m. enumerate_from m more) (omega arith)
 enumerate_append k (j ∷ jobs) more = ap (λ xs. (k, j) ∷ xs)
     (enumerate_append (k + 1) jobs more ∙ ap (λ m. enumerate_from (k + 1) jobs ++ enumerate_from m more) (omega arith))
 
--- a sum over both
-pub sum_append : (f : Job → ℕ) (xs ys : List Job) → sum_by f (xs ++ ys) ≡ sum_by f xs + sum_by f ys
-sum_append f [] ys = omega arith
-sum_append f (x ∷ xs) ys = omega (arith, sum_by-cons f x (xs ++ ys), sum_by-cons f x xs, sum_append f xs ys)
-
 -- all of both
 all_append : (P : Job → Type 0) (xs ys : List Job) → AllByRecursion P (xs ++ ys) → AllByRecursion P xs
     × AllByRecursion P ys
@@ -373,7 +365,7 @@ module _ (rules : Rules) where
       let split : sum_by (worth_to s) (enumerate_from 0 (jobs ++ more))
       ≡ sum_by (worth_to s) (enumerate_from 0 jobs) + sum_by (worth_to s) (enumerate_from (0 + length jobs) more) =
       ap (sum_by (worth_to s)) (enumerate_append 0 jobs more)
-      ∙ sum_append (worth_to s) (enumerate_from 0 jobs) (enumerate_from (0 + length jobs) more) in
+      ∙ sum_by-append (worth_to s) (enumerate_from 0 jobs) (enumerate_from (0 + length jobs) more) in
       let low : sum_by (worth_to s) (enumerate_from (length jobs + 0) more)
       ≤ sum_by (worth_to (map (λ m. m - length jobs) s))
       (enumerate_from 0 (map (λ (x : Job). x.1) (enumerate_from (length jobs + 0) more))) =
@@ -433,12 +425,9 @@ module _ (rules : Rules) where
   none_lost_in_turn [] valid meets = λ jobs member. absurd member
   none_lost_in_turn (jobs ∷ lists) valid meets =
       let both = meets_append jobs (in_turn lists) meets in
-      each_cons jobs lists (λ js. Each (λ x. takes_or_abandons x.move ≡ false) (run (of_rules js)))
+      each_cons (λ js. Each (λ x. takes_or_abandons x.move ≡ false) (run (of_rules js))) jobs lists
       (none_lost (of_rules jobs) (valid jobs (inl refl)) both.0)
-      (none_lost_in_turn lists (λ js member. valid js (inr member)) both.1) where
-        each_cons : {X : Type 0} (x : X) (xs : List X) (P : X → Type 0) → P x → Each P xs → Each P (x ∷ xs)
-        each_cons x xs P here more y (inl e) = subst P (sym e) here
-        each_cons x xs P here more y (inr member) = more y member
+      (none_lost_in_turn lists (λ js member. valid js (inr member)) both.1)
 
   -- and together they complete the value of all
   pub all_value_in_turn : (lists : List (List JobFacts)) → Each (λ jobs. IsValid (of_rules jobs)) lists

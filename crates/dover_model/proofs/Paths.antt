@@ -44,7 +44,7 @@ path_append rules mark (x ∷ xs) ys s t u path more =
     (path.0, path.1, path_append rules mark xs ys (after s (open_step rules s)) t u path.2 more)
 
 -- before the barrier of a mark is before that of a later one
-before_later : (late : Bool) (mark mark2 clock : ℕ) → mark ≤ mark2 → (late && nat_le mark clock) ≡ false
+pub before_later : (late : Bool) (mark mark2 clock : ℕ) → mark ≤ mark2 → (late && nat_le mark clock) ≡ false
     → (late && nat_le mark2 clock) ≡ false
 before_later false mark mark2 clock later before = refl
 before_later true mark mark2 clock later before = by_test (nat_le mark2 clock) refl where
@@ -272,7 +272,7 @@ printed_then_run J mark s events zs valid it whole =
 -- ---- what is printed begins what will be
 
 -- a path, and what settles behind it
-path_then_settled : (rules : Rules) (mark : ℕ) (xs ys : List Step) (s t : State) → IsOpenPath rules mark s xs t
+pub path_then_settled : (rules : Rules) (mark : ℕ) (xs ys : List Step) (s t : State) → IsOpenPath rules mark s xs t
     → IsSettledRun rules mark t ys
     → IsSettledRun rules mark s (xs ++ ys)
 path_then_settled rules mark [] ys s t here run = subst (λ z. IsSettledRun rules mark z ys) here run

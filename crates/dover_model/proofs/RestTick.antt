@@ -24,25 +24,17 @@ use Rattle.dover_model.proofs.Roles.{passes, one_number}
 use Rattle.dover_model.proofs.Deeds.{Deed, Completed, Resumed, Started, Began, Preempted, Stayed, Arrived, Taken}
 use Rattle.dover_model.proofs.Deeds.{Abandoned, Rested, over_rests}
 use Rattle.dover_model.proofs.Kept.{open_deed, open_kept, step_kept, opening_keeps}
-use Rattle.dover_model.proofs.Ending.{potential, clock_after, end_over, run_is_whole}
+use Rattle.dover_model.proofs.Ending.{potential, end_over, run_is_whole, later_clock}
 use Rattle.dover_model.proofs.Settling.{settles, settled_is_run}
 use Rattle.dover_model.proofs.Prefixes.{step_open, over_ticked}
-use Rattle.dover_model.proofs.Paths.{one_settled_run, path_keeps}
-use Rattle.dover_model.proofs.Resting.{state_after, path_state, end_step, Rests, at_rest}
-use Rattle.dover_model.proofs.Apart.{path_then_settled}
+use Rattle.dover_model.proofs.Paths.{one_settled_run, path_keeps, path_then_settled}
+use Rattle.dover_model.proofs.Resting.{path_state, end_step, Rests, at_rest}
 use Rattle.dover_model.proofs.Tests.{never}
+use Rattle.dover_model.proofs.Barriers.{state_after}
 
 -- the clock of the last step
-abbrev end_clock : ℕ → List Step → ℕ
+abbrev pub end_clock : ℕ → List Step → ℕ
 end_clock from xs = fold (λ clock step. step.before.clock) from xs
-
--- the clock never goes back
-pub later_clock : (s : State) (m : Move) → s.clock ≤ (after s m).clock
-later_clock s m = by_clock (clock_after s m) where
-  by_clock : ((after s m).clock ≡ s.clock) ⊎ ((m ≡ Ticks) × ((after s m).clock ≡ s.clock + 1))
-      → s.clock ≤ (after s m).clock
-  by_clock (inl e) = omega arith
-  by_clock (inr it) = let e : (after s m).clock ≡ s.clock + 1 = it.1 in omega arith
 
 -- a whole run ends no sooner than it begins
 whole_clock : (rules : Rules) (zs : List Step) (s : State) (from : ℕ) → IsWholeRun rules s zs

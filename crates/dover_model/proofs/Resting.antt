@@ -5,7 +5,7 @@ use Rattle.std.proofs.Common.{Bool, true, false, cond, arith}
 use Rattle.std.specs.Prelude.{◌&&◌, nat_le}
 use Rattle.std.specs.Bool.{MatchBool, then_some}
 use Rattle.std.specs.List.{list_all, filter, fold, cons_option}
-use Rattle.std.proofs.lemmas.Bool.{lt-leb, leb-true, leb-false}
+use Rattle.std.proofs.lemmas.Bool.{lt-leb, leb-true, leb-false, and_right}
 use Rattle.dover_model.specs.JobFacts.{JobFacts, IsJob}
 use Rattle.dover_model.specs.declared.events.Event.{Event}
 use Rattle.dover_model.specs.declared.events.Event.TheVariants.{End}
@@ -32,7 +32,7 @@ use Rattle.dover_model.proofs.Potential.{steps_scale, weights, weight, weight_in
 use Rattle.dover_model.proofs.Ending.{potential, ends, sum_each}
 use Rattle.dover_model.proofs.RunLaws.{enough_fuel}
 use Rattle.dover_model.proofs.Settling.{late_early, settles, settled_is_run}
-use Rattle.dover_model.proofs.Barriers.{AtBarrier, settled_at_barrier}
+use Rattle.dover_model.proofs.Barriers.{AtBarrier, settled_at_barrier, state_after}
 use Rattle.dover_model.proofs.Later.{same_step}
 use Rattle.dover_model.proofs.Prefixes.{same_after, step_open, open_goes_on, come_from, come_append}
 use Rattle.dover_model.proofs.Runs.{printed_append, last_value, value_last}
@@ -227,10 +227,6 @@ module _ (J : Instance) (valid : IsValid J) (m : ℕ) (late : NoneBefore m J.job
 
 -- ---- a settled run is a path to its barrier
 
--- the state after these steps
-abbrev pub state_after : State → List Step → State
-state_after s xs = fold (λ s step. after step.before step.move) s xs
-
 -- the end of a path
 pub path_state : (rules : Rules) (mark : ℕ) (xs : List Step) (s t : State) → IsOpenPath rules mark s xs t
     → state_after s xs ≡ t
@@ -251,10 +247,7 @@ settled_path rules mark (x ∷ xs) s run = let it = settled_path rules mark xs (
 not_over : (tasks : List Task) (k : Task) (more : List Task) → is_over k ≡ false
     → list_all is_over (tasks ++ (k ∷ more)) ≡ false
 not_over [] k more out = ap (λ b. b && list_all is_over more) out
-not_over (t ∷ tasks) k more out = ap (λ b. is_over t && b) (not_over tasks k more out) ∙ by_test (is_over t) where
-  by_test : (b : Bool) → (b && false) ≡ false
-  by_test true = refl
-  by_test false = refl
+not_over (t ∷ tasks) k more out = ap (λ b. is_over t && b) (not_over tasks k more out) ∙ and_right (is_over t) false refl
 
 module _ (J : Instance) (valid : IsValid J) (mark : ℕ) (j : JobFacts) (js : List JobFacts)
     (late : NoneBefore mark (j ∷ js)) where

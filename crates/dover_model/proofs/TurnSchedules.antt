@@ -4,10 +4,10 @@ use Rattle.std.proofs.Common.{refl}
 use Rattle.std.proofs.Common.{sym, ap, ◌∙◌, subst, arith, cond, eqb, Bool, true, false, replicate, length-append}
 use Rattle.std.specs.Prelude.{None}
 use Rattle.std.specs.Bool.{MatchBool}
-use Rattle.std.specs.List.{count_by, sum_by, fold, filter_map, cons_option, enumerate_from}
+use Rattle.std.specs.List.{count_by, sum_by, filter_map, cons_option, enumerate_from}
 use Rattle.std.proofs.lemmas.Bool.{le-leb, leb-true}
 use Rattle.std.proofs.lemmas.List.{take-map, drop-map, length-replicate}
-use Rattle.std.proofs.lemmas.List.Sums.{sum_by-cons}
+use Rattle.std.proofs.lemmas.List.Sums.{sum_by-cons, sum_by-append}
 use Rattle.dover_model.specs.Limits.{idle}
 use Rattle.dover_model.specs.JobFacts.{JobFacts}
 use Rattle.dover_model.specs.Instance.{Rules, Instance, IsValid}
@@ -21,15 +21,12 @@ use Rattle.dover_model.specs.Sound.{Each}
 use Rattle.dover_model.specs.Rest.{NoneBefore, end_tick, IsInTurn, in_turn, completed_in_turn}
 use Rattle.dover_model.proofs.Ending.{run_is_whole}
 use Rattle.dover_model.proofs.Honest.{honest}
-use Rattle.dover_model.proofs.RestTick.{ended_by}
+use Rattle.dover_model.proofs.RestTick.{ended_by, end_clock}
 use Rattle.dover_model.proofs.Apart.{turn_late, value_in_turn}
-use Rattle.dover_model.proofs.Parting.{worth_to, count_map, enumerate_append, sum_append, bound_in_turn}
+use Rattle.dover_model.proofs.Parting.{worth_to, count_map, enumerate_append, bound_in_turn}
+use Rattle.dover_model.proofs.Members.{each_cons}
 
 -- ---- the ticks of a run
-
--- the clock of the last step
-abbrev last_clock : ℕ → List Step → ℕ
-last_clock from xs = fold (λ clock step. step.before.clock) from xs
 
 -- a step is a tick, and the clock goes on, or it isn't
 tick_or_not : (s : State) (m : Move) → (is_end m ≡ true → tick_of (record { before = s; move = m }) ≡ None)
@@ -41,20 +38,20 @@ tick_or_not s Ticks = (λ last. absurd (let e : false ≡ true = last in cc), λ
 
 -- a run has as many ticks as it takes, at most
 ticks_most : (rules : Rules) (zs : List Step) (s : State) (from : ℕ) → IsWholeRun rules s zs
-    → length (filter_map tick_of zs) + s.clock ≤ last_clock from zs
+    → length (filter_map tick_of zs) + s.clock ≤ end_clock from zs
 ticks_most rules [] s from whole = absurd whole
 ticks_most rules (z ∷ zs) s from whole =
     subst (λ (y : Step). length (cons_option (tick_of y) (filter_map tick_of zs)) + s.clock
-    ≤ last_clock y.before.clock zs) (sym whole.0)
+    ≤ end_clock y.before.clock zs) (sym whole.0)
     (by_end (is_end (step rules s)) refl whole.1 (ticks_most rules zs (after s (step rules s)) s.clock)) where
       by_end : (b : Bool) → is_end (step rules s) ≡ b
           → MatchBool b (zs ≡ []) (IsWholeRun rules (after s (step rules s)) zs)
           → (IsWholeRun rules (after s (step rules s)) zs
-          → length (filter_map tick_of zs) + (after s (step rules s)).clock ≤ last_clock s.clock zs)
-          → length (cons_option (tick_of (step_at rules s)) (filter_map tick_of zs)) + s.clock ≤ last_clock s.clock zs
+          → length (filter_map tick_of zs) + (after s (step rules s)).clock ≤ end_clock s.clock zs)
+          → length (cons_option (tick_of (step_at rules s)) (filter_map tick_of zs)) + s.clock ≤ end_clock s.clock zs
       by_end true last none more =
           subst (λ xs. length (cons_option (tick_of (step_at rules s)) (filter_map tick_of xs)) + s.clock
-          ≤ last_clock s.clock xs) (sym none)
+          ≤ end_clock s.clock xs) (sym none)
           (subst (λ o. length (cons_option {X = ℕ} o []) + s.clock ≤ s.clock)
           (sym ((tick_or_not s (step rules s)).0 last)) (omega arith))
       by_end false on rest more = omega (arith, (tick_or_not s (step rules s)).1 (filter_map tick_of zs), more rest)
@@ -205,7 +202,7 @@ module _ (rules : Rules) where
             ap (sum_by (worth_to (one_then (length jobs) turn.2.0 (ran (of_rules jobs)) b)))
             (enumerate_append 0 jobs (in_turn lists)
             ∙ ap (λ m. enumerate_from 0 jobs ++ enumerate_from m (in_turn lists)) (omega arith))
-            ∙ sum_append (worth_to (one_then (length jobs) turn.2.0 (ran (of_rules jobs)) b)) (enumerate_from 0 jobs)
+            ∙ sum_by-append (worth_to (one_then (length jobs) turn.2.0 (ran (of_rules jobs)) b)) (enumerate_from 0 jobs)
             (enumerate_from (length jobs + 0) (in_turn lists)) in
             omega (arith, sum_by-cons (λ js. completed_value (of_rules js)) jobs lists)
 
@@ -214,10 +211,7 @@ module _ (rules : Rules) where
       → Each (λ jobs. IsValid (of_rules jobs)) lists
   turn_valid [] from turn = λ jobs member. absurd member
   turn_valid (jobs ∷ lists) from turn =
-      each_cons (λ js. IsValid (of_rules js)) jobs lists turn.0 (turn_valid lists turn.2.0 turn.2.3) where
-        each_cons : {X : Type 0} (P : X → Type 0) (x : X) (xs : List X) → P x → Each P xs → Each P (x ∷ xs)
-        each_cons P x xs here more y (inl e) = subst P (sym e) here
-        each_cons P x xs here more y (inr member) = more y member
+      each_cons (λ js. IsValid (of_rules js)) jobs lists turn.0 (turn_valid lists turn.2.0 turn.2.3)
 
   -- no schedule of all jobs is worth more than the one run allows
   pub within_in_turn : (lists : List (List JobFacts)) (s : List ℕ) → IsInTurn rules 0 lists

@@ -15,7 +15,8 @@ use Rattle.dover_model.specs.Rest.{NoneBefore, IsAtRest, behind, names_end, befo
 use Rattle.dover_model.specs.Rest.{printed_in_turn, completed_in_turn}
 use Rattle.dover_model.proofs.Resting.{RunsFrom, alone, joined, runs_all, due_later}
 use Rattle.dover_model.proofs.Apart.{SettlesFrom, settles_alone, settles_joined, settled_all, settled_at_rest}
-use Rattle.dover_model.proofs.Apart.{before_append, each_append, runs_in_turn}
+use Rattle.dover_model.proofs.Apart.{before_append, runs_in_turn}
+use Rattle.dover_model.proofs.Members.{each_append}
 
 -- ---- numbered behind, twice
 

@@ -18,8 +18,9 @@ use Rattle.dover_model.proofs.Deeds.{over_rests}
 use Rattle.dover_model.proofs.Kept.{open_deed}
 use Rattle.dover_model.proofs.Settling.{settled_is_run}
 use Rattle.dover_model.proofs.Paths.{path_settles, one_settled_run, printed_settled}
-use Rattle.dover_model.proofs.Resting.{state_after, path_state, printed_none, value_there}
+use Rattle.dover_model.proofs.Resting.{path_state, printed_none, value_there}
 use Rattle.dover_model.proofs.Apart.{settled_at_rest}
+use Rattle.dover_model.proofs.Barriers.{state_after}
 use Rattle.queued_jobs.specs.declared.moves.Move.{Move as Stepped}
 use Rattle.queued_jobs.specs.declared.moves.Move.TheVariants as moves
 use Rattle.queued_jobs.specs.Moves.{step_of}

@@ -3,7 +3,7 @@ use Rattle.std.proofs.Common.{◌≡◌, ℕ, ◌+◌, ◌-◌, ◌≤◌, ◌<�
 use Rattle.std.proofs.Common.{drop, replicate}
 use Rattle.std.proofs.Common.{refl, sym, ap, subst, Bool, true, false, cond, eqb, arith, IsTrue}
 use Rattle.std.specs.Prelude.{nat_le, Some, None}
-use Rattle.std.specs.List.{sum_by, count_by, enumerate_from, AllByRecursion}
+use Rattle.std.specs.List.{sum_by, count_by, enumerate_from}
 use Rattle.std.proofs.lemmas.Bool.{le-leb, leb-true, ne_eqb, and_parts, cases_lt}
 use Rattle.std.proofs.lemmas.List.{length-drop, length-take}
 use Rattle.dover_model.specs.Limits.{idle, most_jobs}
@@ -13,7 +13,7 @@ use Rattle.dover_model.specs.Sound.{IsMember, Each}
 use Rattle.dover_model.specs.Windows.{IsOverfull, is_inside, work_inside}
 use Rattle.dover_model.specs.Pieces.{AreInOrder, spread, stretches, edf}
 use Rattle.dover_model.specs.declared.pieces.Piece.{Piece}
-use Rattle.dover_model.proofs.Members.{sum_le}
+use Rattle.dover_model.proofs.Members.{sum_le, each_all}
 use Rattle.dover_model.proofs.Serving.{given_less, one_name_per_tick, sum_numbered}
 use Rattle.feasibility.specs.Feasibility.{IsRelease, ServesAll, ShowsAll, ShowsWindow}
 use Rattle.feasibility.specs.Progress.{IsLateBy, IsWhole}
@@ -21,11 +21,6 @@ use Rattle.feasibility.proofs.Overfull.{work_is, overfull_excludes}
 use Rattle.feasibility.proofs.Stretches.{stretches_in_order, spread_again}
 use Rattle.feasibility.proofs.Shares.{given_without}
 use Rattle.feasibility.proofs.LastStart.{asked}
-
--- what holds of each member holds of all by recursion
-each_all : {X : Type 0} (P : X → Type 0) (xs : List X) → Each P xs → AllByRecursion P xs
-each_all P [] all = tt
-each_all P (x ∷ xs) all = (all x (inl refl), each_all P xs (λ y m. all y (inr m)))
 
 -- ---- all can be served
 

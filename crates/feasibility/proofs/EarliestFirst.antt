@@ -17,7 +17,7 @@ use Rattle.dover_model.specs.declared.events.Version.TheVariants.{One}
 use Rattle.dover_model.specs.Entries.{entry_of}
 use Rattle.dover_model.proofs.EntryOrders.{strict_by}
 use Rattle.dover_model.proofs.Members.{by_bool, filter_member, member_filter, all_each, on_map, map_member, map_map}
-use Rattle.dover_model.proofs.Members.{map_same, map_self}
+use Rattle.dover_model.proofs.Members.{map_same, map_self, filter_none}
 use Rattle.dover_model.proofs.Roles.{one_number, numbered_map}
 
 -- ---- ticks given to one job
@@ -238,12 +238,6 @@ edf_run (suc k) (suc total) more clock m tasks numbered e it =
     ∙ map_same (λ t. given_ticks k m (given m t)) (given_ticks (suc k) m) tasks (λ t _. given_one_more k m t)))
 
 -- ---- no job runs
-
--- a list of which none passes
-filter_none : (p : Task → Bool) (xs : List Task) → Each (λ x. p x ≡ false) xs → filter p xs ≡ []
-filter_none p [] none = refl
-filter_none p (x ∷ xs) none = ap (λ b. cond b (x ∷ filter p xs) (filter p xs)) (none x (inl refl))
-    ∙ filter_none p xs (λ y m. none y (inr m))
 
 -- for k ticks no job is ready, and none comes; but some job isn't done, and none has the idle number
 pub record Rests (k clock : ℕ) (tasks : List Task) : Type 0 where

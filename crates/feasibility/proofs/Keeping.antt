@@ -5,7 +5,7 @@ use Rattle.std.specs.Prelude.{Some, None, IsSome, IfSome, slice_index_or, slice_
 use Rattle.std.specs.declared.cmp.Ordering.{Ordering}
 use Rattle.std.specs.declared.cmp.Ordering.TheVariants.{Less, Equal, Greater}
 use Rattle.std.specs.BinaryHeap.{IsHeap, IsUpperBound, PopsGreatest}
-use Rattle.std.specs.List.{sum_by, AllByRecursion}
+use Rattle.std.specs.List.{sum_by}
 use Rattle.std.specs.Ordering.{nat_cmp, ordering_then, is_lt}
 use Rattle.std.proofs.lemmas.Bool.{cases_eq, eq-eqb, ne_eqb}
 use Rattle.std.proofs.lemmas.Cmp.{ranked}
@@ -15,14 +15,10 @@ use Rattle.std.proofs.lemmas.List.Elements.{All-from_recursion, recursion_from_A
 use Rattle.std.proofs.lemmas.List.Sorted.{All-permutation, IsPermutation-map, sum_by_pushed, sum_by_popped}
 use Rattle.std.proofs.lemmas.List.Sums.{sum_by-cons}
 use Rattle.dover_model.specs.Sound.{IsMember, Each}
-use Rattle.dover_model.proofs.Members.{all_member, on_map, map_same, sum_zero, term_le_sum}
+use Rattle.dover_model.proofs.Members.{all_member, on_map, map_same, sum_zero, term_le_sum, each_all}
 use Rattle.feasibility.specs.Queue.{Kept, Turn, turn_cmp, kept_of, is_of, IsInTurn, AreBehind, IsFirst, IsTakenOut}
 
 -- ---- the same in another order
-
-each_all : {X : Type 0} (P : X → Type 0) (xs : List X) → Each P xs → AllByRecursion P xs
-each_all P [] all = tt
-each_all P (x ∷ xs) all = (all x (inl refl), each_all P xs (λ y member. all y (inr member)))
 
 -- what holds of each holds of each in another order
 each_moved : {X : Type 0} (P : X → Type 0) (xs ys : List X) → IsPermutation xs ys → Each P xs → Each P ys

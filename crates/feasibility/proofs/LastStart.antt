@@ -9,9 +9,10 @@ use Rattle.std.proofs.lemmas.List.{drop_more}
 use Rattle.std.proofs.lemmas.List.Sums.{sum_by-cons, sum_by-append}
 use Rattle.dover_model.specs.JobFacts.{JobFacts, IsJob}
 use Rattle.dover_model.specs.Instance.{IsInOrder}
-use Rattle.dover_model.specs.Sound.{IsMember, Each}
+use Rattle.dover_model.specs.Sound.{Each}
 use Rattle.dover_model.specs.Windows.{IsOverfull, is_inside, work_inside}
-use Rattle.dover_model.proofs.Members.{all_member, sum_le, sum_same, sum_zero}
+use Rattle.dover_model.proofs.Members.{all_member, sum_le, sum_same, sum_zero, member_behind}
+use Rattle.dover_model.proofs.Valid.{order_back}
 use Rattle.feasibility.specs.Feasibility.{IsRelease}
 use Rattle.feasibility.proofs.Overfull.{work_is}
 
@@ -95,23 +96,15 @@ front_order [] j behind order i member = absurd member
 front_order (x ∷ front) j behind order i (inl e) =
     subst (λ (y : JobFacts). y.release ≤ j.release) (sym e)
     (all_member (λ (later : JobFacts). x.release ≤ later.release) (front ++ j ∷ behind) order.0 j
-    (in_middle front)) where
-      in_middle : (xs : List JobFacts) → IsMember j (xs ++ j ∷ behind)
-      in_middle [] = inl refl
-      in_middle (y ∷ xs) = inr (in_middle xs)
+    (member_behind front (j ∷ behind) j (inl refl)))
 front_order (x ∷ front) j behind order i (inr member) = front_order front j behind order.1 i member
-
--- and those behind it are in order
-pub order_behind : (front behind : List JobFacts) → IsInOrder (front ++ behind) → IsInOrder behind
-order_behind [] behind order = order
-order_behind (x ∷ front) behind order = order_behind front behind order.1
 
 -- at the first place from the end at which the window is overfull
 pub starts_here : (b work : ℕ) (front : List JobFacts) (j : JobFacts) (behind : List JobFacts)
     → IsInOrder (front ++ j ∷ behind) → j.deadline ≤ b
     → j.release ≤ b → b - j.release < work + j.work → Passed b work behind → StartsAt (front ++ j ∷ behind) b j.release
 starts_here b work front j behind order due released full p = record {
-  release = (j, in_middle front, refl);
+  release = (j, member_behind front (j ∷ behind) j (inl refl), refl);
   overfull = record {
     window = released;
     work = refl;
@@ -120,13 +113,9 @@ starts_here b work front j behind order due released full p = record {
   };
   last = λ c w over. by_start c w over (cases_lt j.release c);
 } where
-  in_middle : (xs : List JobFacts) → IsMember j (xs ++ j ∷ behind)
-  in_middle [] = inl refl
-  in_middle (y ∷ xs) = inr (in_middle xs)
-
   -- the jobs from here on
   later : Each (λ i. j.release ≤ i.release) behind
-  later = all_member (λ (i : JobFacts). j.release ≤ i.release) behind (order_behind front (j ∷ behind) order).0
+  later = all_member (λ (i : JobFacts). j.release ≤ i.release) behind (order_back front (j ∷ behind) order).0
 
   all_work : work + j.work ≤ sum_by (asked j.release b) (front ++ j ∷ behind)
   all_work =
@@ -180,7 +169,7 @@ module _ (jobs : List JobFacts) (order : IsInOrder jobs) (b work k : ℕ) (j : J
 
   -- they are in order
   in_order_here : IsInOrder (j ∷ drop k jobs)
-  in_order_here = order_behind (take (k - 1) jobs) (j ∷ drop k jobs) (subst IsInOrder whole order)
+  in_order_here = order_back (take (k - 1) jobs) (j ∷ drop k jobs) (subst IsInOrder whole order)
 
   -- the greatest start is here
   pub starts_at : IsJob j → j.deadline ≤ b → b - j.release < work + j.work → StartsAt jobs b j.release

@@ -1,5 +1,5 @@
 -- The tasks of a list of jobs, by their numbers.
-use Rattle.std.proofs.Common.{◌≡◌, ℕ, zero, suc, ◌+◌, ◌≤◌, ◌<◌, inl, inr, List, [], ◌∷◌, length, refl, sym, ap, ◌∙◌}
+use Rattle.std.proofs.Common.{◌≡◌, ℕ, zero, suc, ◌+◌, ◌≤◌, ◌<◌, inl, inr, List, [], ◌∷◌, refl, sym, ap, ◌∙◌}
 use Rattle.std.proofs.Common.{subst, cond, arith}
 use Rattle.std.proofs.Common.{Bool, true, false}
 use Rattle.std.specs.Prelude.{Some, slice_get, nat_le}
@@ -49,12 +49,6 @@ task_at n (suc i) (t ∷ tasks) j numbered found = more (task_at (suc n) i tasks
       × (u.number
       ≡ n + suc i) × (u.job ≡ j)
   more it = (it.0, inr it.1, (let e : it.0.number ≡ suc n + i = it.2 in omega (arith, e)), it.3)
-
--- a place within the list
-pub place_below : {X : Type 0} (xs : List X) (i : ℕ) (x : X) → slice_get xs i ≡ Some x → i < length xs
-place_below [] i x found = none_is_some found
-place_below (y ∷ xs) zero x found = omega arith
-place_below (y ∷ xs) (suc i) x found = let low : i < length xs = place_below xs i x found in omega (arith, low)
 
 -- releases don't fall as the numbers rise
 pub releases_rise : (n : ℕ) (tasks : List Task) → IsNumberedFrom n tasks → IsInOrder (jobs_of tasks) → (t u : Task)

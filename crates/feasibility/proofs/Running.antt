@@ -5,7 +5,7 @@ use Rattle.std.proofs.Common.{ap, ◌∙◌, subst, arith, Option}
 use Rattle.std.specs.Prelude.{Some, None, slice_get, slice_index_or}
 use Rattle.std.proofs.lemmas.Bool.{cases_lt}
 use Rattle.std.proofs.lemmas.List.Sorted.{length_permutation}
-use Rattle.std.proofs.lemmas.Option.{slice_get_read}
+use Rattle.std.proofs.lemmas.Option.{slice_get_read, slice_get_within}
 use Rattle.dover_model.specs.Limits.{idle, most_jobs}
 use Rattle.dover_model.specs.JobFacts.{JobFacts}
 use Rattle.dover_model.specs.Instance.{IsInOrder}
@@ -18,7 +18,6 @@ use Rattle.dover_model.proofs.Members.{some_same}
 use Rattle.dover_model.proofs.Tests.{none_is_some}
 use Rattle.feasibility.specs.Progress.{with_late, Stands, IsPending, NoneBefore, RunsUntil, kept_as}
 use Rattle.feasibility.specs.Queue.{Kept, IsFirst, IsTakenOut}
-use Rattle.feasibility.proofs.Numbered.{place_below}
 use Rattle.feasibility.proofs.Standing.{next_later, number_low, stands_until, stands_moved, stands_run, stands_done}
 
 -- past the end there is no job
@@ -46,7 +45,7 @@ module _ (jobs : List JobFacts) (clock released l : ℕ) (some : 1 ≤ l)
     ends = by_end (cases_lt j.release (clock + l));
   } where
     later : NoneBefore jobs (clock + 1) released → clock < j.release
-    later (inl all) = absurd (let low : released < length jobs = place_below jobs released j found in omega arith)
+    later (inl all) = absurd (let low : released < length jobs = slice_get_within jobs released j found in omega arith)
     later (inr next) = let same : next.0.release ≡ j.release =
         ap (λ (x : JobFacts). x.release) (some_same next.0 j (sym next.1 ∙ found)) in
         let ahead : clock + 1 ≤ next.0.release = next.2 in omega arith

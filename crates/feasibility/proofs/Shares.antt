@@ -7,7 +7,7 @@ use Rattle.std.proofs.lemmas.Bool.{eq-eqb, ne_eqb}
 use Rattle.std.proofs.lemmas.List.{drop-append-le, drop-replicate, take_all, drop_all}
 use Rattle.std.proofs.lemmas.List.Sums.{sum_by-cons, sum_by-append}
 use Rattle.std.proofs.lemmas.List.Folds.{sum_by-replicate}
-use Rattle.dover_model.proofs.Serving.{given, given_nil}
+use Rattle.dover_model.proofs.Serving.{given, given_nil, given_zero}
 
 -- how often a list names the number
 abbrev pub named : ℕ → List ℕ → ℕ
@@ -44,11 +44,6 @@ none_behind n r s late = ap (named n) (drop_all r s late)
 -- where the window reaches to the end, it gives what comes from its start on
 pub whole_window : (n r d : ℕ) (s : List ℕ) → length s ≤ d → given (λ m. eqb m n) r d s ≡ named n (drop r s)
 whole_window n r d s short = ap (λ xs. named n (drop r xs)) (take_all d s short)
-
--- an empty window gives nothing
-pub given_zero : (p : ℕ → Bool) (r : ℕ) (s : List ℕ) → given p r 0 s ≡ 0
-given_zero p zero s = refl
-given_zero p (suc r) s = refl
 
 -- more ticks give no less
 pub given_grows : (p : ℕ → Bool) (r d : ℕ) (s more : List ℕ) → given p r d s ≤ given p r d (s ++ more)

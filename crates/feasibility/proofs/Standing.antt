@@ -7,6 +7,7 @@ use Rattle.std.specs.List.{sum_by, enumerate_from}
 use Rattle.std.proofs.lemmas.Bool.{le-leb, cases_lt, cases_eq}
 use Rattle.std.proofs.lemmas.List.Sorted.{IsPermutation-sym, sum_by-IsPermutation}
 use Rattle.std.proofs.lemmas.List.Sums.{sum_by-cons}
+use Rattle.std.proofs.lemmas.Option.{slice_get_within}
 use Rattle.dover_model.specs.Limits.{idle, most_jobs}
 use Rattle.dover_model.specs.JobFacts.{JobFacts, IsJob}
 use Rattle.dover_model.specs.Instance.{IsInOrder}
@@ -30,7 +31,7 @@ use Rattle.feasibility.proofs.Coming.{come_run, come_idle}
 use Rattle.feasibility.proofs.Lateness.{shown_on, late_shows, served_run, served_idle}
 use Rattle.feasibility.proofs.Keeping.{member_moved}
 use Rattle.dover_model.proofs.Kept.{come_numbered, come_jobs}
-use Rattle.feasibility.proofs.Numbered.{come_had, come_left, task_at, place_below, releases_rise, each_numbered}
+use Rattle.feasibility.proofs.Numbered.{come_had, come_left, task_at, releases_rise, each_numbered}
 use Rattle.feasibility.proofs.Numbered.{release_before_last}
 use Rattle.feasibility.proofs.Stretches.{stretches_idle}
 
@@ -164,7 +165,7 @@ module _ (jobs : List JobFacts) (clock released : ℕ) (kept : List Kept) (piece
     stretch = s.stretch;
     served = s.served;
     shown = s.shown;
-    few = let low : released < length jobs = place_below jobs released j found in omega arith;
+    few = let low : released < length jobs = slice_get_within jobs released j found in omega arith;
     soon = omega (
       arith,
       s.soon,
@@ -235,7 +236,7 @@ moved_to_next jobs clock old released j rises found later pending = by_order (ca
 pub moved_to_end : (jobs : List JobFacts) (clock old released : ℕ) → length jobs ≤ released → IsPending jobs clock old
     → old < released
 moved_to_end jobs clock old released all pending = let low : old < length jobs =
-    place_below jobs old pending.0 pending.1 in omega arith
+    slice_get_within jobs old pending.0 pending.1 in omega arith
 
 -- ---- a job runs
 

@@ -4,6 +4,7 @@ use Rattle.std.proofs.Common.{ap, ◌∙◌, Bool, true}
 use Rattle.std.proofs.Common.{false, cond, eqb, arith, append_assoc}
 use Rattle.std.specs.Prelude.{◌&&◌}
 use Rattle.std.proofs.lemmas.Bool.{eqb-true, eq-eqb, ne_eqb, and_parts, and_from}
+use Rattle.std.proofs.lemmas.List.{nil_from_length}
 use Rattle.dover_model.specs.Limits.{idle}
 use Rattle.dover_model.specs.Pieces.{InOrderFrom, spread_from, with_tick, stretches_from, stretches}
 use Rattle.dover_model.specs.declared.pieces.Piece.{Piece}
@@ -241,11 +242,6 @@ spread_again t (x ∷ s) = by_idle (eqb x idle) refl (spread_again (t + 1) s) (s
 
 -- ---- one more piece
 
--- none
-no_pieces : (ps : List Piece) → length ps ≡ 0 → ps ≡ []
-no_pieces [] none = refl
-no_pieces (p ∷ ps) none = absurd (omega (arith, none))
-
 module _ (s : List ℕ) (p : Piece) (some : p.from < p.until) (job : p.number ≡ idle → ⊥) (here : length s ≡ p.from) where
   -- the stretches of the schedule with the ticks of the piece
   pub stretches_more : stretches (s ++ replicate (p.until - p.from) p.number) ≡ with_piece (stretches s) p
@@ -259,8 +255,8 @@ module _ (s : List ℕ) (p : Piece) (some : p.from < p.until) (job : p.number �
   pub more_first : (old mid new : List Piece) → old ≡ stretches s → length old ≡ 0 → length mid ≡ 0
       → new ≡ mid ++ p ∷ []
       → new ≡ stretches (s ++ replicate (p.until - p.from) p.number)
-  more_first old mid new is none nothing e = e ∙ ap (λ ps. ps ++ p ∷ []) (no_pieces mid nothing)
-      ∙ sym (ap (λ ps. with_piece ps p) (no_pieces old none))
+  more_first old mid new is none nothing e = e ∙ ap (λ ps. ps ++ p ∷ []) (nil_from_length mid nothing)
+      ∙ sym (ap (λ ps. with_piece ps p) (nil_from_length old none))
       ∙ ap (λ ps. with_piece ps p) is ∙ sym stretches_more
 
   module _ (xs old : List Piece) (q : Piece) (is : old ≡ stretches s) (last : old ≡ xs ++ q ∷ []) where

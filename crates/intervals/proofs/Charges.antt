@@ -1,7 +1,7 @@
 -- What a run costs, said of its rows.
-use Rattle.std.proofs.Common.{◌≡◌, ℕ, suc, ◌+◌, ◌-◌, ◌*◌, ◌≤◌, ◌<◌, List, ◌∷◌, length, drop, get_or, sym, ap, ◌∙◌}
-use Rattle.std.proofs.Common.{subst, arith, add-one, drop-cons}
-use Rattle.std.proofs.lemmas.List.{drop_all}
+use Rattle.std.proofs.Common.{◌≡◌, ℕ, ◌+◌, ◌-◌, ◌*◌, ◌≤◌, ◌<◌, List, ◌∷◌, length, drop, get_or, sym, ap, ◌∙◌}
+use Rattle.std.proofs.Common.{subst, arith}
+use Rattle.std.proofs.lemmas.List.{drop_all, drop_more}
 use Rattle.std.specs.List.{sum_by}
 use Rattle.dover_model.specs.Fraction.{Fraction}
 use Rattle.dover_model.specs.JobFacts.{JobFacts}
@@ -25,10 +25,9 @@ use Rattle.intervals.specs.Rows.{IsRunOf, numbers_of, rows_of}
 use Rattle.intervals.proofs.Reading.{Reads, all_read}
 
 -- the item at an index, and those behind it
-pub item_next : (run : List Event) (i : ℕ) (e : Event) → e ≡ get_or run i e → i < length run
-    → drop i run ≡ e ∷ drop (i + 1) run
-item_next run i e is there = drop-cons run i e there ∙ ap (λ x. x ∷ drop (suc i) run) (sym is)
-    ∙ ap (λ n. e ∷ drop n run) (sym (add-one i))
+pub item_next : {X : Type 0} (xs : List X) (i : ℕ) (x : X) → x ≡ get_or xs i x → i < length xs
+    → drop i xs ≡ x ∷ drop (i + 1) xs
+item_next xs i x is there = drop_more xs i x there ∙ ap (λ y. y ∷ drop (i + 1) xs) (sym is)
 
 -- where all steps are read, the page has the rows and the value
 pub charged : (k : Fraction) (run : List Event) (J : Instance) → IsRunOf k run J → (l : Page) (i : ℕ) → length run ≤ i

@@ -124,7 +124,7 @@ pub record Reads (J : Instance) (l : Page) (rest : List Event) : Type 0 where
   pub few : l.era + length rest ≤ 5_000_002
 
 -- a test that is one of two facts
-one_of_two : {A B : Type 0} (b : Bool) → MatchBool b A B → A ⊎ B
+pub one_of_two : {A B : Type 0} (b : Bool) → MatchBool b A B → A ⊎ B
 one_of_two true fact = inl fact
 one_of_two false fact = inr fact
 
@@ -231,7 +231,7 @@ module _ (J : Instance) (valid : IsValid J) where
   weighs_next l e rest reads = (one_read l e rest reads).1
 
   -- a whole run prints something
-  some_printed : (xs : List Step) (s : State) → IsWholeRun J.rules s xs → printed_of xs ≡ [] → ⊥
+  pub some_printed : (xs : List Step) (s : State) → IsWholeRun J.rules s xs → printed_of xs ≡ [] → ⊥
   some_printed [] s whole none = whole
   some_printed (x ∷ xs) s whole none =
       by_move (step J.rules s) whole.1

@@ -1,10 +1,9 @@
 -- The page follows each step of the machine.
-use Rattle.std.proofs.Common.{◌≡◌, ℕ, ◌+◌, ◌*◌, ◌≤◌, ◌<◌, ◌^◌, List, ◌∷◌, ◌++◌, length, map, refl, sym, ap, ◌∙◌, subst}
+use Rattle.std.proofs.Common.{◌≡◌, ℕ, ◌+◌, ◌≤◌, ◌<◌, ◌^◌, List, ◌∷◌, ◌++◌, length, map, refl, sym, ap, ◌∙◌, subst}
 use Rattle.std.proofs.Common.{Bool, true, false, cond}
 use Rattle.std.proofs.Common.{arith}
 use Rattle.std.specs.Prelude.{Option, Some, None}
 use Rattle.std.specs.List.{sum_by}
-use Rattle.std.proofs.lemmas.Nat.{mul-le}
 use Rattle.dover_model.specs.Fraction.{Fraction}
 use Rattle.dover_model.specs.Intervals as model
 use Rattle.dover_model.specs.declared.events.Event.TheVariants.{Run}
@@ -20,18 +19,13 @@ use Rattle.dover_model.proofs.Roles.{passes}
 use Rattle.dover_model.proofs.Loads.{with_roles}
 use Rattle.dover_model.proofs.OneChange.{changed, state_with}
 use Rattle.dover_model.proofs.Booking.{is_gone}
+use Rattle.dover_model.proofs.Calculus.{square_le}
 use Rattle.intervals.specs.declared.interval.UnderWay.{UnderWay}
 use Rattle.intervals.specs.Pages.{Page, value_at, joined, with_one_more, begun_or, CanJoin}
 use Rattle.intervals.specs.Rows.{numbers_of}
 use Rattle.intervals.proofs.Follows.{value_where, ArePaid, Follows, Next}
 use Rattle.intervals.proofs.Sums.{turned, active_few, values_fit}
 use Rattle.intervals.proofs.Knowing.{turns_tracks, enters_tracks}
-
--- greater numbers have greater squares
-scaled_square : (q a b : ℕ) → a ≤ b → q * a * a ≤ q * b * b
-scaled_square q a b less =
-    let square : a * a ≤ b * b = mul-le a a b b less less in
-    let times : q * (a * a) ≤ q * (b * b) = mul-le q (a * a) q (b * b) (omega arith) square in omega (arith, times)
 
 -- what is paid for stays so where the values of jobs done and gone stay, and that of active ones does not fall
 pub paid_more : (k : Fraction) (s t : State) (w v : ℕ) (o : Option model.Interval)
@@ -44,7 +38,7 @@ paid_more k s t w v (Some i) done gone more paid = record {
   displaced = omega (
     arith,
     paid.displaced,
-    scaled_square k.q (i.regular + i.taken + w) (i.regular + i.taken + v) (omega arith),
+    square_le k.q (i.regular + i.taken + w) (i.regular + i.taken + v) (omega arith),
   );
 }
 

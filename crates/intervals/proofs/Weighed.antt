@@ -1,7 +1,7 @@
 -- What the active jobs are worth before each step of a run, read with the ledger.
 use Rattle.std.proofs.Common.{◌≡◌, ℕ, ◌+◌, ◌≤◌, ◌<◌, List, [], ◌∷◌, ◌++◌, length, drop, get_or, sym, ap, ◌∙◌, subst}
 use Rattle.std.proofs.Common.{append_assoc, append-nil}
-use Rattle.std.specs.List.{AllByRecursion, filter_map}
+use Rattle.std.specs.List.{filter_map}
 use Rattle.std.proofs.lemmas.List.{drop_all}
 use Rattle.dover_model.specs.Fraction.{Fraction}
 use Rattle.dover_model.specs.Instance.{Instance}
@@ -20,11 +20,6 @@ module _ (J : Instance) where
   same_page : (l p : Page) (worths : List ℕ) (rest : List Event) → p ≡ l → Weighs J l worths rest
       → Weighs J p worths rest
   same_page l p worths rest same it = subst (λ (q : Page). Weighs J q worths rest) (sym same) it
-
--- one number more
-pub all_more : (P : ℕ → Type 0) (ns : List ℕ) (n : ℕ) → AllByRecursion P ns → P n → AllByRecursion P (ns ++ n ∷ [])
-all_more P [] n all it = (it, tt)
-all_more P (m ∷ ns) n all it = (all.0, all_more P ns n all.1 it)
 
 module _ (k : Fraction) (steps : List Event) (J : Instance) (of : IsRunOf k steps J) where
   -- before the first step

@@ -19,25 +19,14 @@ use Rattle.dover_model.specs.Verdict.{good_verdict, wrong_verdict, verdict}
 use Rattle.dover_model.proofs.Agreement.{is_valid_session-agrees}
 use Rattle.dover_model.proofs.Members.{some_same}
 use Rattle.dover_model.proofs.ShortNumbers.{printed_short, AreAllShort}
-use Rattle.dover_model.proofs.TraceLines.{numbers_in}
 use Rattle.dover_model.proofs.WrongStays.{next_wrong}
-use Rattle.trace_format.specs.Form.{step_numbers}
+use Rattle.dover_model.specs.Text.{step_numbers}
 use Rattle.judge_word.specs.Line.{IsShortDue}
-
--- the numbers of a step's line, in either's words
-same_numbers : (e : Event) → AreShort (numbers_in e) → AreShort (step_numbers e)
-same_numbers (event.Release n j) short = short
-same_numbers (event.Run at n) short = short
-same_numbers (event.Preempt at stops starts) short = short
-same_numbers (event.Take at stops starts) short = short
-same_numbers (event.Complete at n) short = short
-same_numbers (event.Abandon at n) short = short
-same_numbers (event.End value) short = short
 
 -- one of the steps is due, or nothing
 nth_short : (es : List Event) (n : ℕ) → AreAllShort es → IsShortDue (option_map_or Step (slice_get es n) Nothing)
 nth_short [] n all = tt
-nth_short (e ∷ es) zero all = same_numbers e all.0
+nth_short (e ∷ es) zero all = all.0
 nth_short (e ∷ es) (suc n) all = nth_short es n all.1
 
 -- the session that these lines name is valid

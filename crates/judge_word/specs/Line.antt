@@ -5,9 +5,8 @@ use Rattle.dover_model.specs.Lines.{line_of, with_numbers}
 use Rattle.dover_model.specs.Numerals.{AreShort}
 use Rattle.dover_model.specs.Run.{completed_value}
 use Rattle.dover_model.specs.Session.{instance_of}
-use Rattle.dover_model.specs.Text.{text_of}
+use Rattle.dover_model.specs.Text.{text_of, step_numbers}
 use Rattle.dover_model.specs.Verdict.{Expected, Header, Step, Nothing, Verdict, Accepted, Wrong, Short}
-use Rattle.trace_format.specs.Form.{step_numbers}
 
 -- what is due in place of a wrong line
 abbrev pub expected_text : Expected → List ℕ

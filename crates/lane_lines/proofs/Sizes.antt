@@ -9,20 +9,9 @@ use Rattle.dover_model.specs.declared.events.Refusal.TheVariants.{BadJob, Count,
 use Rattle.dover_model.specs.JobFacts.{job_numbers}
 use Rattle.dover_model.specs.Lines.{line_of}
 use Rattle.dover_model.specs.Numerals.{AreShort}
-use Rattle.dover_model.specs.Text.{text_of, refused_text, refusal_word}
+use Rattle.dover_model.specs.Text.{text_of, refused_text, refusal_word, step_numbers}
 use Rattle.dover_model.proofs.Fields.{length-with_numbers}
-use Rattle.dover_model.proofs.TraceLines.{numbers_in}
-use Rattle.trace_format.specs.Form.{step_numbers, refused_job}
-
--- the numbers of a step's line, in either's words
-pub same_numbers : (e : Event) → AreShort (numbers_in e) → AreShort (step_numbers e)
-same_numbers (event.Release n j) short = short
-same_numbers (event.Run at n) short = short
-same_numbers (event.Preempt at stops starts) short = short
-same_numbers (event.Take at stops starts) short = short
-same_numbers (event.Complete at n) short = short
-same_numbers (event.Abandon at n) short = short
-same_numbers (event.End value) short = short
+use Rattle.trace_format.specs.Form.{refused_job}
 
 -- a word, numbers and a word
 numbers_size : (word : List ℕ) (ns : List ℕ) (last : List ℕ) → AreShort ns
@@ -50,7 +39,7 @@ refuse_size at release work deadline value cause short = omega (
   word_size Ratio = omega arith
 
 -- a printed step
-pub event_size : (e : Event) → AreShort (numbers_in e) → length (text_of e) ≤ 103
+pub event_size : (e : Event) → AreShort (step_numbers e) → length (text_of e) ≤ 103
 event_size (event.Release n j) short = omega (arith, length-with_numbers (codes "job") (n ∷ job_numbers j) short)
 event_size (event.Run at n) short = omega (arith, length-with_numbers (codes "run") (at ∷ n ∷ []) short)
 event_size (event.Preempt at a b) short =

@@ -7,11 +7,10 @@ use Rattle.dover_model.specs.Instance.{Instance, IsValid, with_jobs}
 use Rattle.dover_model.specs.Session.{JobItem, Session, instance_of, with_item}
 use Rattle.dover_model.specs.Numerals.{AreShort}
 use Rattle.dover_model.specs.WholeRun.{Begins}
-use Rattle.dover_model.specs.Text.{text_of}
+use Rattle.dover_model.specs.Text.{text_of, step_numbers}
 use Rattle.dover_model.specs.Feed.{Account, account_of_lines}
 use Rattle.dover_model.proofs.Beginnings.{begins_onward}
 use Rattle.dover_model.proofs.Growing.{job_instance}
-use Rattle.dover_model.proofs.TraceLines.{numbers_in}
 use Rattle.dover_server.specs.declared.horizon.Horizon.{Horizon}
 use Rattle.dover_server.specs.declared.horizon.Horizon.TheVariants.{Mark}
 use Rattle.dover_server.specs.Service.{MayFollow}
@@ -47,7 +46,7 @@ module _ {D : Type 0} {serves : Serving D}
   -- a step to the horizon gives the first line that is left, and its numbers have numerals
   pub run_gives : (to : Horizon) (v u : D) (a : Account) (rest : List (List ℕ)) (it : Running serves to v a rest)
       (e : Event) → serves u (instance_of it.session) to (it.events ++ e ∷ [])
-      → (more : List (List ℕ)) × (rest ≡ text_of e ∷ more) × Running serves to u a more × AreShort (numbers_in e)
+      → (more : List (List ℕ)) × (rest ≡ text_of e ∷ more) × Running serves to u a more × AreShort (step_numbers e)
   run_gives to v u a rest it e served =
       let front : Begins (it.events ++ e ∷ []) (due_by (instance_of it.session) to) =
       begins u (instance_of it.session) to (it.events ++ e ∷ []) served in (
@@ -75,7 +74,7 @@ module _ {D : Type 0} {serves : Serving D}
       (it : Admitting serves having job v a rest) (e : Event)
       → serves u (instance_of it.session) (Mark job.release) (it.events ++ e ∷ []) → having u
       → (more : List (List ℕ)) × (rest ≡ text_of e ∷ more) × Admitting serves having job u a more
-      × AreShort (numbers_in e)
+      × AreShort (step_numbers e)
   admit_gives job v u a rest it e served room =
       let all : List Event = due_by (jobs_with it.session job) (Mark job.release) in
       let front : Begins (it.events ++ e ∷ []) all =
@@ -108,7 +107,7 @@ module _ {D : Type 0} {serves : Serving D}
       → serves y (jobs_with it.session job) (Mark job.release)
       (due_by (instance_of it.session) (Mark job.release) ++ e ∷ [])
       → (more : List (List ℕ)) × (rest ≡ text_of e ∷ more) × Running serves (Mark job.release) y a more
-      × AreShort (numbers_in e)
+      × AreShort (step_numbers e)
   joined_gives job v y a rest it e same served =
       let S : Session = joined it.session job in
       let all : List Event = due_by (jobs_with it.session job) (Mark job.release) in

@@ -12,7 +12,7 @@ use Rattle.dover_model.specs.Numerals.{AreShort}
 use Rattle.dover_model.proofs.Beginnings.{begins_onward}
 use Rattle.dover_model.proofs.Prefixes.{settled_prefix}
 use Rattle.dover_model.proofs.ShortNumbers.{printed_short}
-use Rattle.dover_model.proofs.TraceLines.{numbers_in}
+use Rattle.dover_model.specs.Text.{step_numbers}
 use Rattle.dover_server.specs.declared.horizon.Horizon.{Horizon}
 use Rattle.dover_server.specs.declared.horizon.Horizon.TheVariants.{Mark}
 use Rattle.dispatcher.specs.Dispatch.{due_by}
@@ -38,10 +38,10 @@ all_one P (y ∷ xs) x ys all = all_one P xs x ys all.1
 
 -- the numbers of an event that is due are short
 pub event_short : (J : Instance) (to : Horizon) (events : List Event) (e : Event) → IsValid J
-    → Begins (events ++ e ∷ []) (due_by J to) → AreShort (numbers_in e)
+    → Begins (events ++ e ∷ []) (due_by J to) → AreShort (step_numbers e)
 event_short J to events e valid begins =
     let run : Begins (events ++ e ∷ []) (printed J) =
     begins_onward (events ++ e ∷ []) (due_by J to) (printed J) begins (due_begins J to valid) in
-    all_one (λ x. AreShort (numbers_in x)) events e run.0
-    (subst (AllByRecursion (λ x. AreShort (numbers_in x)))
+    all_one (λ x. AreShort (step_numbers x)) events e run.0
+    (subst (AllByRecursion (λ x. AreShort (step_numbers x)))
     (run.1 ∙ append_assoc events (e ∷ []) run.0) (printed_short J valid))

@@ -4,12 +4,11 @@ use Rattle.dover_model.specs.declared.events.Event.{Event}
 use Rattle.dover_model.specs.JobFacts.{JobFacts, job_of_numbers}
 use Rattle.dover_model.specs.Instance.{Instance, IsValid, with_jobs}
 use Rattle.dover_model.specs.Session.{JobItem, Session, instance_of, with_item}
-use Rattle.dover_model.specs.Text.{header, text_of, refused_text}
+use Rattle.dover_model.specs.Text.{header, text_of, refused_text, step_numbers}
 use Rattle.dover_model.specs.Feed.{Account, Cause, Open, Faulty, account_of_lines, is_open, is_ended, rules_with}
 use Rattle.dover_model.specs.Due.{due_lines, fault_text}
 use Rattle.dover_model.specs.Numerals.{AreShort}
 use Rattle.dover_model.proofs.Accounts.{IsKept}
-use Rattle.dover_model.proofs.TraceLines.{numbers_in}
 use Rattle.dover_server.specs.declared.horizon.Horizon.{Horizon}
 use Rattle.dover_server.specs.declared.horizon.Horizon.TheVariants.{Mark, End}
 use Rattle.dover_server.specs.Service.{MayFollow}
@@ -46,7 +45,7 @@ out_text (Refused line cause) = fault_text line (cause_of_fault cause)
 -- its numbers have numerals
 abbrev pub HasNumerals : LaneOut → Type 0
 HasNumerals (Header version k) = Unit {0}
-HasNumerals (Printed e) = AreShort (numbers_in e)
+HasNumerals (Printed e) = AreShort (step_numbers e)
 HasNumerals (Refuse at release work deadline value cause) = AreShort (at ∷ release ∷ work ∷ deadline ∷ value ∷ [])
 HasNumerals (Refused line cause) = Unit {0}
 

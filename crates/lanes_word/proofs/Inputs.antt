@@ -10,7 +10,7 @@ use Rattle.std.proofs.lemmas.List.Sums.{fold-append}
 use Rattle.dover_model.specs.Limits.{most_lines}
 use Rattle.dover_model.specs.Lines.{cut, whole_lines, rest_of, lines_of, is_too_long, fields_of}
 use Rattle.dover_model.specs.WholeRun.{Begins}
-use Rattle.dover_model.proofs.Accounts.{longer, counted_lines, first_counts}
+use Rattle.dover_model.proofs.GrowingTexts.{longer, counted_lines, first_counts}
 use Rattle.dover_model.proofs.Beginnings.{begins_in_lines}
 use Rattle.dover_model.proofs.Cuts.{CutText, onto, first_part, cut_append, first_onto}
 use Rattle.lane_server.specs.Lanes.{LaneLine, OfLane, Close, lane_line, numbered_line, Handed, Input, InputStanding}

@@ -4,7 +4,8 @@ ghost use Rattle.dover_model.specs.Numerals.{AreShort};
 ghost use Rattle.dover_model.specs.Text as text;
 ghost use Rattle.dover_port.specs.Causes.{HasCause, StopsAtFailure};
 ghost use Rattle.dover_port.specs.Moves.{PutsThrough};
-ghost use Rattle.trace_format.specs.Form.{IsRefusedLine, trace_text, step_numbers};
+ghost use Rattle.trace_format.specs.Form.{IsRefusedLine, trace_text};
+ghost use Rattle.dover_model.specs.Text.{step_numbers};
 
 use crate::lines::put_line;
 use dover_model::{Event, Ratio, Version};

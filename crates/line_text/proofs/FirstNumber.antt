@@ -12,31 +12,16 @@ use Rattle.std.specs.Char.{is_ascii_digit}
 use Rattle.std.specs.Str.{all_ascii_digits}
 use Rattle.std.specs.List.{list_all, onto_first}
 use Rattle.std.specs.Option.{option_map, option_and_then}
-use Rattle.std.proofs.lemmas.Bool.{and_parts, ne_eqb, le-leb, lt-leb}
+use Rattle.std.proofs.lemmas.Bool.{and_parts, le-leb, lt-leb, not-true, and_right}
 use Rattle.std.proofs.lemmas.List.{take_more, drop_more}
 use Rattle.std.proofs.lemmas.List.Splits.{slice_split-cons_yes, slice_split-cons_no}
 use denote.Ref.{Bor}
 use Rattle.dover_model.specs.Lines.{fields_of}
 use Rattle.dover_model.specs.Numerals.{number_onto, is_plain, numeral, numerals}
-use Rattle.dover_model.proofs.Tests.{not_true}
-use Rattle.dover_model.proofs.Fields.{is_space, HasNoSpace}
+use Rattle.dover_model.proofs.Fields.{is_space, HasNoSpace, digits_have_no_space}
 use Rattle.line_text.specs.Reading.{fields_left, number_of_first}
 
 -- ---- digits
-
--- what fails with anything
-and_false : (b : Bool) → (b && false) ≡ false
-and_false true = refl
-and_false false = refl
-
--- digits are no spaces
-digits_whole : (ds : List ℕ) → all_ascii_digits ds ≡ true → HasNoSpace ds
-digits_whole [] digits = refl
-digits_whole (d ∷ ds) digits =
-    let both = and_parts (is_ascii_digit d) (all_ascii_digits ds) digits in
-    let least : 48 ≤ d = leb-true 48 d (and_parts (leb 48 d) (leb d 57) both.0).0 in
-    ap (λ b. not b && list_all (λ b. not (is_space b)) ds) (ne_eqb d 32 (λ same. absurd (omega arith)))
-    ∙ digits_whole ds both.1
 
 -- a digit stands for a number below ten
 pub digit_small : (b : ℕ) → is_ascii_digit b ≡ true → b - 48 ≤ 9
@@ -80,20 +65,20 @@ digits_stop : (ds : List ℕ) (b : ℕ) (more : List ℕ) → is_ascii_digit b �
     → all_ascii_digits (ds ++ b ∷ more) ≡ false
 digits_stop [] b more other = ap (λ t. t && all_ascii_digits more) other
 digits_stop (d ∷ ds) b more other = ap (λ t. is_ascii_digit d && t) (digits_stop ds b more other)
-    ∙ and_false (is_ascii_digit d)
+    ∙ and_right (is_ascii_digit d) false refl
 
 -- ---- numerals
 
 -- other bytes than digits are none
 not_digits : (bs : List ℕ) → all_ascii_digits bs ≡ false → numeral bs ≡ None
 not_digits bs other = ap (λ t. then_some (is_plain bs && nat_le (length bs) 18 && t) (number_onto 0 bs)) other
-    ∙ ap (λ t. then_some t (number_onto 0 bs)) (and_false (is_plain bs && nat_le (length bs) 18))
+    ∙ ap (λ t. then_some t (number_onto 0 bs)) (and_right (is_plain bs && nat_le (length bs) 18) false refl)
 
 -- more than 18 are none
 pub too_many : (bs : List ℕ) → 18 < length bs → numeral bs ≡ None
 too_many bs many = ap (λ t. then_some (is_plain bs && t && all_ascii_digits bs) (number_onto 0 bs))
     (lt-leb (length bs) 18 many)
-    ∙ ap (λ t. then_some (t && all_ascii_digits bs) (number_onto 0 bs)) (and_false (is_plain bs))
+    ∙ ap (λ t. then_some (t && all_ascii_digits bs) (number_onto 0 bs)) (and_right (is_plain bs) false refl)
 
 -- digits, at most 18, are one where they are plain
 pub few_digits : (ds : List ℕ) → length ds ≤ 18 → all_ascii_digits ds ≡ true
@@ -124,7 +109,7 @@ fields_behind : (ds line field : List ℕ) (fields : List (List ℕ)) → HasNoS
 fields_behind [] line field fields none e = e
 fields_behind (d ∷ ds) line field fields none e =
     let both = and_parts (not (is_space d)) (list_all (λ b. not (is_space b)) ds) none in
-    slice_split-cons_no is_space d (ds ++ line) (not_true (is_space d) both.0)
+    slice_split-cons_no is_space d (ds ++ line) (not-true (is_space d) both.0)
     ∙ ap (onto_first d) (fields_behind ds line field fields both.1 e)
 
 -- there is a first field
@@ -143,7 +128,7 @@ no_number field fields none = ap (option_map (λ n. let f : ℕ × List (List �
 -- digits to the end
 pub digits_end : (line : List ℕ) → all_ascii_digits line ≡ true → fields_of line ≡ line ∷ []
 digits_end line digits = ap fields_of (sym (append-nil line))
-    ∙ fields_behind line [] [] [] (digits_whole line digits) refl
+    ∙ fields_behind line [] [] [] (digits_have_no_space line digits) refl
     ∙ ap (λ f. f ∷ []) (append-nil line)
 
 -- digits to a space
@@ -155,7 +140,7 @@ digits_space line i here space digits =
     ∙ ap (λ bs. take i line ++ bs) (drop_more line i 0 here) ∙ ap (λ b. take i line ++ b ∷ drop (i + 1) line) space in
     ap fields_of parts
     ∙ fields_behind (take i line) (32 ∷ drop (i + 1) line) [] (fields_of (drop (i + 1) line))
-    (digits_whole (take i line) digits) refl
+    (digits_have_no_space (take i line) digits) refl
     ∙ ap (λ f. f ∷ fields_of (drop (i + 1) line)) (append-nil (take i line))
 
 -- digits to another byte
@@ -172,7 +157,7 @@ digits_other line i here space other digits =
     ∙ ap (λ bs. take i line ++ bs) (drop_more line i 0 here) in
     ap (λ bs. number_of_first (fields_of bs)) parts
     ∙ ap number_of_first (fields_behind (take i line) (b ∷ rest) (b ∷ first.0) first.1
-    (digits_whole (take i line) digits) front)
+    (digits_have_no_space (take i line) digits) front)
     ∙ no_number (take i line ++ b ∷ first.0) first.1
     (not_digits (take i line ++ b ∷ first.0) (digits_stop (take i line) b first.0 other))
 
@@ -184,7 +169,7 @@ digits_many line many digits =
     let size : length (take 19 line) ≡ 19 = length-take-le 19 line (omega arith) in
     ap (λ bs. number_of_first (fields_of bs)) (sym (take-append-drop 19 line))
     ∙ ap number_of_first (fields_behind (take 19 line) (drop 19 line) first.0 first.1
-    (digits_whole (take 19 line) digits) first.2)
+    (digits_have_no_space (take 19 line) digits) first.2)
     ∙ no_number (take 19 line ++ first.0) first.1
     (too_many (take 19 line ++ first.0) (omega (arith, length-append (take 19 line) first.0)))
 

@@ -27,6 +27,11 @@ pub with_field-begun : (line field : List ℕ) → 0 < length line → with_fiel
 with_field-begun [] field begun = absurd (omega arith)
 with_field-begun (b ∷ line) field begun = refl
 
+-- a line with a field more is longer by the field and a space at most
+pub field_fits : (line field : List ℕ) → length (with_field line field) ≤ length line + length field + 1
+field_fits [] field = omega arith
+field_fits (b ∷ line) field = omega (arith, length-append (b ∷ line) (32 ∷ field))
+
 -- one number more
 pub one_behind : (line : List ℕ) (n : ℕ) (ns whole : List ℕ) → 0 < length line → line ++ numbers_behind (n ∷ ns) ≡ whole
     → with_field line (decimal n) ++ numbers_behind ns ≡ whole

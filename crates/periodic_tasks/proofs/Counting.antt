@@ -1,7 +1,7 @@
 -- How many jobs tasks release before a tick, and what they are worth, by arithmetics.
-use Rattle.std.proofs.Common.{◌≡◌, ℕ, zero, suc, ◌+◌, ◌-◌, ◌*◌, ◌/◌, ◌%◌, ◌<◌, ◌≤◌, List, [], ◌∷◌, ◌++◌, length}
+use Rattle.std.proofs.Common.{◌≡◌, ℕ, zero, suc, ◌+◌, ◌-◌, ◌*◌, ◌/◌, ◌%◌, ◌<◌, ◌≤◌, List, [], ◌∷◌, length}
 use Rattle.std.proofs.Common.{length-append, map, refl, sym, ap}
-use Rattle.std.proofs.Common.{◌∙◌, Bool, true, false, cond, arith, min}
+use Rattle.std.proofs.Common.{◌∙◌, Bool, true, false, cond, arith}
 use Rattle.std.specs.Prelude.{◌&&◌, ◌==◌, nat_le}
 use Rattle.std.specs.Int.{div_ceil}
 use Rattle.std.specs.List.{AllByRecursion, sum_by, filter}

@@ -1,5 +1,5 @@
 -- The first of the next releases.
-use Rattle.std.proofs.Common.{◌≡◌, ℕ, zero, suc, ◌+◌, ◌<◌, ◌≤◌, ◌⊎◌, inl, inr, List, [], ◌∷◌, length, get_or, refl, sym}
+use Rattle.std.proofs.Common.{◌≡◌, ℕ, zero, suc, ◌<◌, ◌≤◌, ◌⊎◌, inl, inr, List, [], ◌∷◌, length, get_or, refl, sym}
 use Rattle.std.proofs.Common.{ap, ◌∙◌, subst, Bool, true, false, cond}
 use Rattle.std.proofs.Common.{Option, Some, None, arith}
 use Rattle.std.specs.List.{AllByRecursion, fold}
@@ -8,7 +8,7 @@ use Rattle.dover_model.specs.declared.events.Version.TheVariants.{One}
 use Rattle.dover_model.specs.Entries.{is_due_before}
 use Rattle.dover_model.specs.Orders.{earlier, first}
 use Rattle.dover_model.specs.Sound.{IsMember}
-use Rattle.dover_model.proofs.Valid.{all_from}
+use Rattle.dover_model.proofs.Members.{some_same}
 use Rattle.rank_heap.specs.Table.{members_of}
 
 -- e comes at or before f
@@ -81,10 +81,6 @@ fold_member best (x ∷ xs) = of (earlier_is best x (is_due_before One x best))
 
 -- ---- of a table
 
--- equal contents
-same_some : {X : Type 0} {x y : X} → Some x ≡ Some y → x ≡ y
-same_some {X} {x} {y} h = let e : Some x ≡ Some y = h in cc
-
 -- what holds of each member holds of each entry
 in_table : (P : Entry → Type 0) (table : List (Option Entry)) → AllByRecursion P (members_of table)
     → (n : ℕ) (f : Entry)
@@ -92,7 +88,7 @@ in_table : (P : Entry → Type 0) (table : List (Option Entry)) → AllByRecursi
 in_table P [] all n f is = absurd (let e : None ≡ Some f = is in cc)
 in_table P (None ∷ table) all zero f is = absurd (let e : None ≡ Some f = is in cc)
 in_table P (None ∷ table) all (suc n) f is = in_table P table all n f is
-in_table P (Some e ∷ table) all zero f is = subst P (same_some is) all.0
+in_table P (Some e ∷ table) all zero f is = subst P (some_same _ _ is) all.0
 in_table P (Some e ∷ table) all (suc n) f is = in_table P table all.1 n f is
 
 -- an entry of a table has a place
@@ -124,7 +120,7 @@ first_is table e is = of (members_of table) refl is where
   of : (xs : List Entry) → members_of table ≡ xs → first (is_due_before One) xs ≡ Some e → IsFirst e table
   of [] members none = absurd (let h : None ≡ Some e = none in cc)
   of (x ∷ xs) members some =
-      let same : found x xs ≡ e = same_some some in
+      let same : found x xs ≡ e = some_same _ _ some in
       let leads : Leads (found x xs) x × AllByRecursion (Leads (found x xs)) xs = fold_leads x xs in
       let all : AllByRecursion (Leads e) (x ∷ xs) = subst (λ f. AllByRecursion (Leads f) (x ∷ xs)) same leads in
       let member : IsMember e (x ∷ xs) = subst (λ f. IsMember f (x ∷ xs)) same (fold_member x xs) in record {

@@ -17,10 +17,10 @@ use Rattle.rank_heap.specs.Table.{Members, members_of, without_member}
 use Rattle.rank_heap.specs.declared.rank.ByDeadline.{ByDeadline}
 use Rattle.periodic_tasks.specs.Limits.{IsTask}
 use Rattle.periodic_tasks.specs.Tasks.{releases, job_at, released_at, jobs_before}
-use Rattle.periodic_tasks.specs.Merging.{Merge, merge, blank_task, IsQuiet, IsNextRelease, IsNext, from_tick}
+use Rattle.periodic_tasks.specs.Merging.{Merge, merge, blank_task, IsNextRelease, IsNext, from_tick}
 use Rattle.periodic_tasks.specs.Merging.{kept_release, StandsBehind}
 use Rattle.periodic_tasks.specs.declared.task.PeriodicTask.{PeriodicTask}
-use Rattle.periodic_tasks.proofs.Firsts.{Leads, HasPlace, IsFirst, first_is, none_first}
+use Rattle.periodic_tasks.proofs.Firsts.{IsFirst, first_is, none_first}
 use Rattle.periodic_tasks.proofs.Released.{job_within}
 use Rattle.periodic_tasks.proofs.Releases.{follows_short}
 

@@ -1,9 +1,8 @@
 -- The jobs that tasks release are valid.
-use Rattle.std.proofs.Common.{◌≡◌, ℕ, zero, suc, ◌+◌, ◌-◌, ◌*◌, ◌/◌, ◌%◌, ◌<◌, ◌≤◌, List, [], ◌∷◌, ◌++◌, length, map}
+use Rattle.std.proofs.Common.{◌≡◌, ℕ, zero, suc, ◌+◌, ◌-◌, ◌*◌, ◌/◌, ◌%◌, ◌<◌, ◌≤◌, List, [], ◌∷◌, ◌++◌, map}
 use Rattle.std.proofs.Common.{refl, Bool, true, false, cond}
 use Rattle.std.proofs.Common.{arith}
-use Rattle.std.specs.Prelude.{◌&&◌, ◌==◌, nat_le}
-use Rattle.std.specs.Int.{div_ceil}
+use Rattle.std.specs.Prelude.{◌==◌, nat_le}
 use Rattle.std.specs.List.{AllByRecursion, filter}
 use Rattle.std.proofs.Math.Nat.{lt_of_mul-lt-mul_right, mul-le-mul_right}
 use Rattle.std.proofs.lemmas.Grind.{div_ceil_times}
@@ -13,17 +12,12 @@ use Rattle.dover_model.specs.JobFacts.{JobFacts, IsJob}
 use Rattle.dover_model.specs.Fraction.{Fraction, IsRatio}
 use Rattle.dover_model.specs.Instance.{Rules, IsInOrder, IsWithinRatio, IsValid}
 use Rattle.dover_model.proofs.Valid.{all_from}
+use Rattle.dover_model.proofs.Members.{all_append}
 use Rattle.periodic_tasks.specs.Tasks.{releases, job_at, released_at, jobs_before, count_before, tested_job, unrolled}
 use Rattle.periodic_tasks.specs.Limits.{IsTask, AreTasks, AreWithin, Fits}
 use Rattle.periodic_tasks.specs.declared.task.PeriodicTask.{PeriodicTask}
 
 -- ---- what holds of each job
-
--- of some, and of others behind them
-all_behind : {X : Type 0} (P : X → Type 0) (xs ys : List X) → AllByRecursion P xs → AllByRecursion P ys
-    → AllByRecursion P (xs ++ ys)
-all_behind P [] ys one other = other
-all_behind P (x ∷ xs) ys one other = (one.0, all_behind P xs ys one.1 other)
 
 -- of those at a tick
 all_at : (P : JobFacts → Type 0) (tick : ℕ) (tasks : List PeriodicTask)
@@ -46,7 +40,7 @@ pub all_before : (P : JobFacts → Type 0) (until : ℕ) (tasks : List PeriodicT
     → AllByRecursion (HasEach P until) tasks
     → AllByRecursion P (jobs_before until tasks)
 all_before P zero tasks all = tt
-all_before P (suc until) tasks all = all_behind P (jobs_before until tasks) (released_at until tasks)
+all_before P (suc until) tasks all = all_append P (jobs_before until tasks) (released_at until tasks)
     (all_before P until tasks
     (all_from (HasEach P (suc until)) (HasEach P until) tasks (λ task has tick low. has tick (omega arith)) all))
     (all_at P until tasks (all_from (HasEach P (suc until))
@@ -67,7 +61,7 @@ order_behind : (xs ys : List JobFacts) (tick : ℕ) → IsInOrder xs → IsInOrd
     → AllByRecursion (λ j. tick ≤ j.release) ys → IsInOrder (xs ++ ys)
 order_behind [] ys tick one other early late = other
 order_behind (x ∷ xs) ys tick one other early late = (
-  all_behind (λ later. x.release ≤ later.release) xs ys one.0
+  all_append (λ later. x.release ≤ later.release) xs ys one.0
       (all_from (λ j. tick ≤ j.release) (λ later. x.release ≤ later.release) ys
       (λ j low. let first : x.release ≤ tick = early.0 in omega arith) late),
   order_behind xs ys tick one.1 other early.1 late,

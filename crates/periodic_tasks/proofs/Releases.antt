@@ -1,15 +1,15 @@
 -- When a task releases, and when it doesn't.
-use Rattle.std.proofs.Common.{◌≡◌, ℕ, zero, suc, ◌+◌, ◌-◌, ◌*◌, ◌/◌, ◌%◌, ◌^◌, ◌<◌, ◌≤◌, refl, sym, ap, ◌∙◌, Bool, true}
+use Rattle.std.proofs.Common.{◌≡◌, ℕ, suc, ◌+◌, ◌-◌, ◌*◌, ◌/◌, ◌%◌, ◌^◌, ◌<◌, ◌≤◌, refl, ap, ◌∙◌, Bool, true}
 use Rattle.std.proofs.Common.{false, cond, min, arith}
 use Rattle.std.proofs.Common.{Option, Some, None}
 use Rattle.std.specs.Prelude.{◌&&◌, ◌==◌, nat_le, nat_lt}
 use Rattle.std.proofs.Math.Nat.{zero-mod}
 use Rattle.std.proofs.lemmas.Nat.{div-add-mod', mod-mul-add}
-use Rattle.std.proofs.lemmas.Bool.{leb-true, le-leb, lt-leb, ltb-true, ltb-false, lt-ltb, le-ltb, eqb-true, eq-eqb}
+use Rattle.std.proofs.lemmas.Bool.{leb-true, le-leb, lt-leb, ltb-true, ltb-false, eqb-true, eq-eqb}
 use Rattle.std.proofs.lemmas.Bool.{ne_eqb, and_parts}
 use Rattle.dover_model.specs.declared.events.Entry.{Entry}
 use Rattle.periodic_tasks.specs.Tasks.{releases}
-use Rattle.periodic_tasks.specs.Merging.{IsQuiet, IsNextRelease, IsNext, kept_release}
+use Rattle.periodic_tasks.specs.Merging.{IsNext, kept_release}
 use Rattle.periodic_tasks.specs.declared.task.PeriodicTask.{PeriodicTask}
 
 -- the release of the task of this number

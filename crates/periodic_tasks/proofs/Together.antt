@@ -1,5 +1,5 @@
 -- Tasks that may stand together, with one more.
-use Rattle.std.proofs.Common.{◌≡◌, ◌+◌, ◌*◌, ◌≤◌, ◌<◌, ℕ, List, [], ◌∷◌, ◌++◌, length, length-append, map, refl, Option}
+use Rattle.std.proofs.Common.{◌≡◌, ◌≤◌, ◌<◌, ℕ, List, [], ◌∷◌, ◌++◌, length, length-append, map}
 use Rattle.std.proofs.Common.{None, arith}
 use Rattle.std.specs.List.{AllByRecursion}
 use Rattle.std.proofs.Math.Nat.{mul-le-mul_right}
@@ -11,6 +11,7 @@ use Rattle.dover_model.specs.Admission.{refusal_of}
 use Rattle.dover_model.proofs.Admitting.{Admitted, not_refused}
 use Rattle.dover_model.proofs.Growing.{all_behind}
 use Rattle.dover_model.proofs.Valid.{all_from}
+use Rattle.dover_model.proofs.Members.{all_both}
 use Rattle.periodic_tasks.specs.Tasks.{tested_job}
 use Rattle.periodic_tasks.specs.Limits.{IsTask, AreWithin, AreTasks}
 use Rattle.periodic_tasks.specs.declared.task.PeriodicTask.{PeriodicTask}
@@ -18,13 +19,6 @@ use Rattle.periodic_tasks.specs.declared.task.PeriodicTask.{PeriodicTask}
 -- no tasks
 pub no_tasks : (until : ℕ) (k : Fraction) → AreTasks until k []
 no_tasks until k = record { each = tt; few = omega arith; densities = tt }
-
--- what each keeps, and what holds of both, holds of each
-all_and : {X : Type 0} (P Q R : X → Type 0) (xs : List X) → ((x : X) → P x → Q x → R x) → AllByRecursion P xs
-    → AllByRecursion Q xs
-    → AllByRecursion R xs
-all_and P Q R [] h all other = tt
-all_and P Q R (x ∷ xs) h all other = (h x all.0 other.0, all_and P Q R xs h all.1 other.1)
 
 -- what holds of each tested job holds of each task
 unmapped : (P : JobFacts → Type 0) (until : ℕ) (tasks : List PeriodicTask)
@@ -51,7 +45,7 @@ tasks_more until k tasks task above are period none =
       each = all_behind (IsTask until) tasks task are.each (record { period = period; job = it.job });
       few = omega (arith, fewer, length-map tasks (tested_job until), length-append tasks (task ∷ []));
       densities = all_behind (λ a. AllByRecursion (AreWithin until k a) (tasks ++ task ∷ [])) tasks task
-          (all_and (λ a. AllByRecursion (AreWithin until k a) tasks) Both
+          (all_both (λ a. AllByRecursion (AreWithin until k a) tasks) Both
           (λ a. AllByRecursion (AreWithin until k a) (tasks ++ task ∷ [])) tasks
           (λ a row with_task. all_behind (AreWithin until k a) tasks task row with_task.0) are.densities both)
           (all_behind (AreWithin until k task) tasks task

@@ -1,5 +1,5 @@
 -- Which tasks may stand together, and how many jobs they may release.
-use Rattle.std.specs.Prelude.{ℕ, ◌*◌, ◌≤◌, ◌<◌, ◌^◌, List, map, length, ◌==◌, if◌then◌else◌, Option, Some}
+use Rattle.std.specs.Prelude.{ℕ, ◌*◌, ◌≤◌, List, map, length, ◌==◌, if◌then◌else◌, Option, Some}
 use Rattle.std.specs.List.{AllByRecursion, sum_by}
 use Rattle.dover_model.specs.Limits.{most_jobs, most_total}
 use Rattle.dover_model.specs.declared.events.Refusal.{Refusal}

@@ -2,9 +2,8 @@
 use Rattle.std.proofs.Common.{◌≡◌, ℕ, zero, suc, ◌+◌, ◌-◌, ◌*◌, ◌/◌, ◌<◌, ◌≤◌, Bool, true, false, List, []}
 use Rattle.std.proofs.Common.{◌∷◌, Option, Some, None}
 use Rattle.std.proofs.Common.{length, get_or, map, option_map, refl, ap, ◌∙◌, sym, subst, ◌⊎◌, arith, inl, inr}
-use Rattle.std.proofs.Common.{unwrap_or}
 use Rattle.std.proofs.lemmas.Bool.{cases_eq, false≢true}
-use Rattle.std.proofs.lemmas.Option.{slice_get-get_or, slice_get_past}
+use Rattle.std.proofs.lemmas.Option.{slice_get-get_or, slice_get_past, same_Some}
 use Rattle.std.specs.Prelude.{slice_get, if◌then◌else◌}
 use Rattle.std.specs.List.{AllByRecursion, fold}
 use Rattle.dover_model.specs.Orders.{earlier, first}
@@ -25,9 +24,6 @@ IsIn e (x ∷ xs) = (e ≡ x) ⊎ IsIn e xs
 abbrev pub Leads : ItemFacts → ItemFacts → Type 0
 Leads e x = (x ≡ e) ⊎ (is_before e x ≡ true)
 
-same_item : (x y : ItemFacts) → Some x ≡ Some y → x ≡ y
-same_item x y e = ap (λ o. unwrap_or {T = ItemFacts} o x) e
-
 -- what holds of each item of a table holds of each of its items
 each_item : (P : ItemFacts → Type 0) (table : List (Option ItemFacts))
     → ((n : ℕ) (e : ItemFacts) → get_or table n None ≡ Some e → P e) → AllByRecursion P (items_of table)
@@ -40,7 +36,7 @@ item_in : (table : List (Option ItemFacts)) (n : ℕ) (e : ItemFacts) → get_or
 item_in [] n e h = grind arith
 item_in (None ∷ table) zero e h = grind arith
 item_in (None ∷ table) (suc n) e h = item_in table n e h
-item_in (Some x ∷ table) zero e h = inl (sym (same_item x e h))
+item_in (Some x ∷ table) zero e h = inl (sym (same_Some x e h))
 item_in (Some x ∷ table) (suc n) e h = inr (item_in table n e h)
 
 no_items : (table : List (Option ItemFacts)) → ((n : ℕ) → get_or table n None ≡ None) → items_of table ≡ []
@@ -170,7 +166,7 @@ top_first es ps heap kept few some =
       by_kept n k e h is = elim (cases_eq k nowhere) [
         | inl none ↦ absurd (none_is_some e (sym (slice_get_past es k (omega (arith, none, few))) ∙ is))
         | inr some ↦ let inside : k < length es = kept.inside n k h some in
-            by_position k e inside (same_item (get_or es k blank) e (sym (slice_get-get_or es k blank inside) ∙ is))
+            by_position k e inside (same_Some (get_or es k blank) e (sym (slice_get-get_or es k blank inside) ∙ is))
       ] where
         none_is_some : (y : ItemFacts) → None ≡ Some y → ⊥
         none_is_some y e = grind arith

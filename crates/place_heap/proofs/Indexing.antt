@@ -4,7 +4,7 @@ use Rattle.std.proofs.Common.{set, get_or}
 use Rattle.std.proofs.Common.{refl, ap, ◌∙◌, sym, subst, ◌⊎◌, arith, inl, inr}
 use Rattle.std.specs.Prelude.{slice_get}
 use Rattle.std.proofs.lemmas.Bool.{cases_eq, cases_lt}
-use Rattle.std.proofs.lemmas.Option.{slice_get-get_or, slice_get_past}
+use Rattle.std.proofs.lemmas.Option.{slice_get-get_or, slice_get_past, none-some}
 use Rattle.std.proofs.lemmas.List.{get_or-set_same, get_or-set_other, get_or_past, get_or-map, ext_get_or, length-set}
 use Rattle.std.proofs.lemmas.List.{length-map, get_or_default, get_or_append_left, get_or_push, length_push}
 use Rattle.place_heap.specs.Items.{ItemFacts}
@@ -41,9 +41,6 @@ same_item es ys i j i_in j_in is = slice_get-get_or ys j blank j_in ∙ ap Some 
 pub no_item : (es ys : List ItemFacts) (i : ℕ) → i ≡ nowhere → length es ≤ nowhere → length ys ≤ nowhere
     → slice_get ys i ≡ slice_get es i
 no_item es ys i is few_es few_ys = slice_get_past ys i (omega arith) ∙ sym (slice_get_past es i (omega arith))
-
-none_is_some : (y : ItemFacts) → None ≡ Some y → ⊥
-none_is_some y e = grind arith
 
 -- ---- two items swapped
 
@@ -261,7 +258,7 @@ module _ (es new : List ItemFacts) (ps : List ℕ) (x : ItemFacts) (is : new ≡
 
   -- no item has the place yet
   none_there : (k : ℕ) → k < length es → position ps x.place ≡ k → ⊥
-  none_there k k_in e = none_is_some (get_or es k blank) (sym free ∙ table_at es ps x.place (omega (arith, few))
+  none_there k k_in e = none-some (get_or es k blank) (sym free ∙ table_at es ps x.place (omega (arith, few))
       ∙ ap (slice_get es) e ∙ slice_get-get_or es k blank k_in)
 
   own : (k : ℕ) (d : ItemFacts) → k < length es → (get_or es k d).place ≢ x.place

@@ -3,7 +3,6 @@ pub mod Ranking
 pub mod Order
 pub mod Indexing
 pub mod Counting
-pub mod Covered
 pub mod Loops
 pub mod Tables
 pub mod Keeping

@@ -1,5 +1,6 @@
 -- The order of items, as one by which they can be sorted.
 use Rattle.std.proofs.Common.{◌≡◌, ◌≢◌, ℕ, Bool, true, false, nat_lt, arith}
+use Rattle.dover_model.proofs.EntryOrders.{less_one_way, less_onward, less_total}
 use Rattle.place_heap.specs.Items.{ItemFacts, less_or, is_before}
 
 -- ---- by one number, and where two are equal by something else
@@ -20,17 +21,8 @@ onward_or : (k l m : ℕ) (t u w : Bool) → (t ≡ true → u ≡ true → w �
     → less_or l m u ≡ true → less_or k m w ≡ true
 onward_or k l m t u w ties h i = grind arith
 
-less_one_way : (m n : ℕ) → nat_lt m n ≡ true → nat_lt n m ≡ false
-less_one_way m n h = grind arith
-
 less_behind : (k l m : ℕ) → nat_lt l k ≡ false → nat_lt m l ≡ false → nat_lt m k ≡ false
 less_behind k l m h i = grind arith
-
-less_onward : (k l m : ℕ) → nat_lt k l ≡ true → nat_lt l m ≡ true → nat_lt k m ≡ true
-less_onward k l m h i = grind arith
-
-less_total : (m n : ℕ) → m ≢ n → nat_lt m n ≡ false → nat_lt n m ≡ true
-less_total m n apart h = grind arith
 
 -- ---- items
 

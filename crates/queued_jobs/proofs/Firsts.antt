@@ -9,13 +9,8 @@ use Rattle.dover_model.specs.declared.events.Entry.{Entry}
 use Rattle.dover_model.specs.Entries.{IsStrictOrder, comes_first_by, wins_tie}
 use Rattle.dover_model.specs.Orders.{earlier, first}
 use Rattle.dover_model.specs.Sound.{IsMember, Each, EachTwo}
-use Rattle.dover_model.proofs.Members.{some_same}
+use Rattle.dover_model.proofs.Members.{some_same, each_cons}
 use Rattle.dover_model.proofs.Tests.{none_is_some}
-
--- of the first element and of all others
-pub each_cons : {X : Type 0} (P : X → Type 0) (x : X) (xs : List X) → P x → Each P xs → Each P (x ∷ xs)
-each_cons P x xs here more y (inl e) = subst P (sym e) here
-each_cons P x xs here more y (inr member) = more y member
 
 -- the better of two is one of them
 earlier_pick : {X : Type 0} (before : X → X → Bool) (acc x : X) (b : Bool) → before x acc ≡ b

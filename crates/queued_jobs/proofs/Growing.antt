@@ -1,6 +1,6 @@
 -- One job more, and more room.
-use Rattle.std.proofs.Common.{◌≡◌, ℕ, zero, suc, ◌+◌, ◌-◌, ◌≤◌, inl, inr, List, [], ◌∷◌, ◌++◌, length, map, replicate}
-use Rattle.std.proofs.Common.{refl, sym, ap, ◌∙◌, subst}
+use Rattle.std.proofs.Common.{◌≡◌, ℕ, zero, suc, ◌+◌, ◌-◌, ◌≤◌, List, [], ◌∷◌, ◌++◌, length, map, replicate}
+use Rattle.std.proofs.Common.{refl, sym, ap, ◌∙◌}
 use Rattle.std.proofs.Common.{Bool, true, false, arith, cond}
 use Rattle.std.specs.Prelude.{Option, Some, None, nat_le}
 use Rattle.std.specs.List.{filter}
@@ -11,9 +11,10 @@ use Rattle.dover_model.specs.declared.events.Entry.{Entry}
 use Rattle.dover_model.specs.declared.events.Role.TheVariants.{Coming}
 use Rattle.dover_model.specs.State.{is_coming, is_running, is_fresh, is_waiting, is_held, is_done, value_sum}
 use Rattle.dover_model.specs.Entries.{entry_of}
-use Rattle.dover_model.specs.Sound.{Each, IsNumberedFrom}
+use Rattle.dover_model.specs.Sound.{IsNumberedFrom}
 use Rattle.dover_model.proofs.Tests.{never}
 use Rattle.dover_model.proofs.Roles.{passes}
+use Rattle.dover_model.proofs.Members.{each_behind}
 use Rattle.queued_jobs.specs.Queued.{Agrees, turn_of, waiting_entry, by_deadline}
 
 -- a job that fails a test adds nothing
@@ -33,13 +34,6 @@ numbered_push n [] t all is = (is ∙ add_none n, tt) where
 numbered_push n (x ∷ ts) t all is = (all.0, numbered_push (suc n) ts t all.1 (is ∙ shift n (length ts))) where
   shift : (m l : ℕ) → m + suc l ≡ suc m + l
   shift m l = omega arith
-
--- each job, and it
-pub each_push : {X : Type 0} (P : X → Type 0) (xs : List X) (y : X) → Each P xs → P y → Each P (xs ++ y ∷ [])
-each_push P [] y all here z (inl e) = subst P (sym e) here
-each_push P [] y all here z (inr m) = absurd m
-each_push P (x ∷ xs) y all here z (inl e) = all z (inl e)
-each_push P (x ∷ xs) y all here z (inr m) = each_push P xs y (λ w n. all w (inr n)) here z m
 
 -- a job that doesn't wait takes one of the numbers that are ready
 pub table_push : (tasks : List Task) (t : Task) (k : ℕ) (table : List (Option Entry)) → 1 ≤ k → waiting_entry t ≡ None
@@ -73,7 +67,7 @@ agrees_push tasks t table k held job fresh next done kept some number role = rec
       ∙ kept.running;
   fresh = ap (map (λ u. u.number)) (filter_push is_fresh tasks t (passes is_fresh t Coming false role refl))
       ∙ kept.fresh;
-  coming = each_push (λ u. is_coming u ≡ nat_le next u.number) tasks t kept.coming
+  coming = each_behind (λ u. is_coming u ≡ nat_le next u.number) tasks t kept.coming
       (passes is_coming t Coming true role refl ∙ sym (is_le next t.number (omega (arith, number, kept.next))));
   next = omega (arith, kept.next, length_push tasks t);
   waiting = table_push tasks t k table some (passes_entry (passes is_waiting t Coming false role refl)) kept.waiting;

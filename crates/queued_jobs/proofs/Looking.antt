@@ -22,9 +22,9 @@ use Rattle.dover_model.specs.Sound.{IsMember, Each, IsNumberedFrom, IsSound, job
 use Rattle.dover_model.proofs.EntryOrders.{strict_by}
 use Rattle.dover_model.proofs.Members.{some_same, member_filter, filter_member, all_member, map_member, map_map, sum_le}
 use Rattle.dover_model.proofs.Members.{sum_filter, sum_same}
-use Rattle.dover_model.proofs.Members.{sum_plus, sum_map}
+use Rattle.dover_model.proofs.Members.{sum_plus, sum_map, filter_none}
 use Rattle.dover_model.proofs.Roles.{is_running_role, is_held_role, is_waiting_role}
-use Rattle.dover_model.proofs.Tests.{none_is_some, never}
+use Rattle.dover_model.proofs.Tests.{none_is_some}
 use Rattle.dover_model.proofs.Moves.{says}
 use Rattle.rank_heap.specs.Table.{members_of}
 use Rattle.rank_heap.proofs.Tables.{grown_members}
@@ -115,14 +115,6 @@ pub waiting_none : (before : Entry → Entry → Bool) (tasks : List Task) (es :
 waiting_none before tasks es is at =
     sym (found_first_none before (filter is_waiting tasks) (ap (first before) (sym is) ∙ sym at))
 
--- none passes a test that each fails
-none_passes : {X : Type 0} (p : X → Bool) (xs : List X) → Each (λ x. p x ≡ false) xs → filter p xs ≡ []
-none_passes p [] fail = refl
-none_passes p (x ∷ xs) fail = by_test (p x) (fail x (inl refl)) (none_passes p xs (λ y m. fail y (inr m))) where
-  by_test : (b : Bool) → b ≡ false → filter p xs ≡ [] → cond b (x ∷ filter p xs) (filter p xs) ≡ []
-  by_test true h rest = never (sym h)
-  by_test false h rest = rest
-
 module _ (v : Version) (s : State) (sound : IsSound s) (es : List Entry)
     (is : es ≡ map entry_of (filter is_waiting s.tasks)) where
   -- the waiting jobs at their latest start
@@ -138,7 +130,7 @@ module _ (v : Version) (s : State) (sound : IsSound s) (es : List Entry)
 
   none_at : Each (λ t. s.clock < latest_start t) (filter is_waiting s.tasks)
       → filter (is_at_latest_start s) (filter is_waiting s.tasks) ≡ []
-  none_at early = none_passes (is_at_latest_start s) (filter is_waiting s.tasks)
+  none_at early = filter_none (is_at_latest_start s) (filter is_waiting s.tasks)
       (λ t m. differs (latest_start t) s.clock (early t m)) where
         differs : (m n : ℕ) → n < m → (m == n) ≡ false
         differs m n h = grind arith

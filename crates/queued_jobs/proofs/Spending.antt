@@ -6,7 +6,6 @@ use Rattle.std.specs.List.{sum_by}
 use Rattle.std.proofs.lemmas.List.{length-map}
 use Rattle.std.proofs.lemmas.List.Sums.{sum_by-cons, sum_by-append}
 use Rattle.std.proofs.lemmas.Nat.{mul-le}
-use Rattle.std.proofs.lemmas.Bool.{ltb-true, lt-ltb}
 use Rattle.dover_model.specs.declared.events.Role.{Role}
 use Rattle.dover_model.specs.declared.events.Role.TheVariants.{Coming, Fresh, Waiting, Held, Running, Done, Gone}
 use Rattle.dover_model.specs.declared.events.Task.{Task}
@@ -16,7 +15,7 @@ use Rattle.dover_model.specs.State.{State, is_waiting, latest_start}
 use Rattle.dover_model.specs.Step.{Move, Prints, Waits, Ticks, open_step, after, with_role}
 use Rattle.dover_model.specs.WaitingMoves.{enters, leaves}
 use Rattle.dover_model.proofs.Members.{sum_le}
-use Rattle.dover_model.proofs.Potential.{one_if, one_most, weight, weight_in, standing, stands}
+use Rattle.dover_model.proofs.Potential.{one_if, one_most, weight, weight_in, standing, stands, lower_test}
 use Rattle.dover_model.proofs.Tests.{never}
 use Rattle.dover_model.proofs.WaitingMoves.{exits_scale, waiting_count, counts_balance, open_leaves}
 use Rattle.queued_jobs.specs.Costs.{cost_of}
@@ -174,12 +173,8 @@ none_waits : (t : Task) → (t.role ≡ Coming) ⊎ (t.role ≡ Fresh) → one_i
 none_waits t (inl e) = ap (λ role. one_if (is_waiting (with_role t role))) e
 none_waits t (inr e) = ap (λ role. one_if (is_waiting (with_role t role))) e
 
--- what is ahead of a later clock is ahead of a clock
-less_still : (clock later at : ℕ) → clock ≤ later → nat_lt later at ≡ true → nat_lt clock at ≡ true
-less_still clock later at less ahead = grind (arith, ltb-true, lt-ltb)
-
 later_less : (clock later at : ℕ) → clock ≤ later → one_if (nat_lt later at) ≤ one_if (nat_lt clock at)
-later_less clock later at less = by_test (nat_lt later at) (nat_lt clock at) (less_still clock later at less) where
+later_less clock later at less = by_test (nat_lt later at) (nat_lt clock at) (lower_test clock later at less) where
   by_test : (a b : Bool) → (a ≡ true → b ≡ true) → one_if a ≤ one_if b
   by_test false b h = omega arith
   by_test true true h = omega arith
@@ -199,7 +194,7 @@ weight_later clock later w t Fresh less = omega arith
 weight_later clock later w t Waiting less = omega (
   arith,
   or_still (nat_lt later (latest_start t)) (nat_lt clock (latest_start t)) (nat_lt w t.job.value)
-      (less_still clock later (latest_start t) less),
+      (lower_test clock later (latest_start t) less),
 )
 weight_later clock later w t Held less = omega (arith, later_less clock later (latest_start t) less)
 weight_later clock later w t Running less = omega (arith, later_less clock later (latest_start t) less)

@@ -19,7 +19,7 @@ use Rattle.dover_model.specs.Step.{alarm, ◌or_else◌}
 use Rattle.dover_model.specs.Step.{runs, preempts, open_step, urgent_or, is_at_latest_start}
 use Rattle.dover_model.specs.Sound.{IsMember, Each}
 use Rattle.dover_model.proofs.Members.{by_bool, found, filter_member, member_filter, reduce_none, some_same, on_map}
-use Rattle.dover_model.proofs.Members.{map_member}
+use Rattle.dover_model.proofs.Members.{map_member, filter_none}
 use Rattle.dover_model.proofs.Roles.{passes, is_waiting_role}
 use Rattle.dover_model.specs.declared.events.Role.TheVariants.{Waiting}
 use Rattle.dover_model.proofs.Tests.{never, none_is_some}
@@ -27,7 +27,6 @@ use Rattle.scanned_step.specs.Cases.{next_of, next_ready, arrival_of}
 use Rattle.dover_model.specs.Jumps.{ticked_by, later_by}
 use Rattle.scanned_step.specs.Dues.{ticks_until, until_release, until_done, until_latest, still_ticks}
 use Rattle.scanned_step.proofs.Deciding.{busy, free, busy_is, free_is}
-use Rattle.scanned_step.proofs.Scans.{none_filtered}
 
 -- ---- where a silent tick is next
 
@@ -159,14 +158,14 @@ module _ (rules : Rules) (s : State) where
         sym (busy_is rules.ratio rules.version s other r false None None None runs
         (ne_eqb _ _ (still.busy r runs)) still.stale
         (none_arrives (find is_coming s.tasks) refl)
-        (ap (first (starts_before rules.version)) (none_filtered (is_at_latest_start s) (waiting s) (λ t member.
+        (ap (first (starts_before rules.version)) (filter_none (is_at_latest_start s) (waiting s) (λ t member.
         let it : IsMember t s.tasks × (is_waiting t ≡ true) = member_filter is_waiting s.tasks t member in
         ne_eqb _ _ (still.early r runs t it.0 it.1)))))
     by_running None none = sym (free_is rules.ratio rules.version s other None None None none
         (ap (λ p. next_of v p v.first_waiting) (ap (first (due_first rules.version))
-        (none_filtered is_held s.tasks (λ t member. (still.free none t member).1)))
+        (filter_none is_held s.tasks (λ t member. (still.free none t member).1)))
         ∙ ap (first (due_first rules.version))
-        (none_filtered is_waiting s.tasks (λ t member. (still.free none t member).0)))
+        (filter_none is_waiting s.tasks (λ t member. (still.free none t member).0)))
         still.stale (none_arrives (find is_coming s.tasks) refl))
 
 -- where an open step is a tick, nothing else is next

@@ -1,4 +1,3 @@
 pub mod Scans
-pub mod InPlace
 pub mod Deciding
 pub mod Jumping

@@ -1,7 +1,7 @@
 -- Sums over a part of a list, and the least of some numbers.
 use Rattle.std.proofs.Common.{◌≡◌, ℕ, zero, suc, ◌+◌, ◌-◌, ◌≤◌, List, [], ◌∷◌, take, map, Bool, true, false, cond, refl}
 use Rattle.std.proofs.Common.{sym, ap, ◌∙◌}
-use Rattle.std.proofs.Common.{subst, arith, min, inl, inr}
+use Rattle.std.proofs.Common.{subst, arith, min}
 use Rattle.std.specs.Prelude.{nat_le, ◌&&◌}
 use Rattle.std.specs.List.{sum_by, filter, list_all}
 use Rattle.std.proofs.lemmas.List.Sums.{sum_by-cons}
@@ -52,9 +52,3 @@ room_all amount clock p tasks some = by_list (filter p tasks) refl where
   by_list [] e = absurd (some (filtered_some p tasks e))
   by_list (t ∷ members) e =
       sym (least_all amount (λ u. u.job.deadline - (clock + demand_up_to (t ∷ members) u)) t members)
-
--- where none passes a test, the filter is empty
-pub none_filtered : {X : Type 0} (p : X → Bool) (xs : List X) → Each (λ x. p x ≡ false) xs → filter p xs ≡ []
-none_filtered p [] none = refl
-none_filtered p (x ∷ xs) none = ap (λ b. cond b (x ∷ filter p xs) (filter p xs)) (none x (inl refl))
-    ∙ none_filtered p xs (λ y member. none y (inr member))

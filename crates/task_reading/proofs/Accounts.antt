@@ -1,17 +1,17 @@
 -- The account of a text that grows, and of one that goes on.
-use Rattle.std.proofs.Common.{◌≡◌, ◌≤◌, ◌<◌, ◌+◌, ℕ, suc, List, ◌∷◌, ◌++◌, [], length, length-append, refl, sym, ap}
-use Rattle.std.proofs.Common.{◌∙◌, subst, append_assoc}
+use Rattle.std.proofs.Common.{◌≡◌, ◌≤◌, ◌<◌, ◌+◌, ℕ, suc, List, ◌∷◌, ◌++◌, [], length, refl, sym, ap}
+use Rattle.std.proofs.Common.{◌∙◌, subst}
 use Rattle.std.proofs.Common.{Bool, true, false, cond, Option, Some, None, arith}
 use Rattle.std.specs.Prelude.{nat_lt}
 use Rattle.std.specs.List.{fold}
-use Rattle.std.proofs.lemmas.Bool.{ltb-true, ltb-false, lt-ltb, le-ltb}
+use Rattle.std.proofs.lemmas.Bool.{ltb-false, lt-ltb, le-ltb}
 use Rattle.std.proofs.lemmas.List.{append-nil}
 use Rattle.std.proofs.lemmas.List.Sums.{fold-append}
 use Rattle.dover_model.specs.Limits.{most_lines}
-use Rattle.dover_model.specs.Lines.{cut, lines_of, whole_lines, rest_of, is_too_long, fields_of}
+use Rattle.dover_model.specs.Lines.{lines_of, whole_lines, rest_of, is_too_long, fields_of}
 use Rattle.dover_model.specs.Feed as feed
 use Rattle.dover_model.specs.Feed.{Standing, Open, Ended, Faulty, Cause}
-use Rattle.dover_model.proofs.Cuts.{CutText, onto, cut_append, first_onto, first_part}
+use Rattle.dover_model.proofs.GrowingTexts.{read_append}
 use Rattle.line_text.proofs.Lengths.{AreNotTooLong, text_few}
 use Rattle.task_reading.specs.Lines.{task_line, line_of_fields}
 use Rattle.task_reading.specs.Account.{TaskAccount, no_lines, cause_of, with_fault, with_line, read_line, is_open}
@@ -73,66 +73,9 @@ module _ (until : ℕ) where
       ap (λ o. cond (is_open a) (after_count (counted a) (nat_lt most_lines (suc a.lines)) o) a)
       (unread l long_l ∙ sym (unread m long_m))
 
-  -- what is longer is too long as well
-  longer : (l more : List ℕ) → is_too_long l ≡ true → is_too_long (l ++ more) ≡ true
-  longer l more long = let above : 128 < length l = ltb-true _ _ long in
-      lt-ltb 128 (length (l ++ more)) (omega (arith, length-append l more))
-
-  -- the lines that count of a cut text
-  abbrev counted_lines : List (List ℕ) → List ℕ → List (List ℕ)
-  counted_lines ls rest = ls ++ cond (is_too_long rest) (rest ∷ []) []
-
-  -- where the first part is too long, the lines that count begin with it
-  first_counts : (ls : List (List ℕ)) (rest : List ℕ) → is_too_long (first_part ls rest) ≡ true
-      → (more : List (List ℕ)) × (counted_lines ls rest ≡ first_part ls rest ∷ more)
-  first_counts [] rest long = ([], ap (λ b. cond b (rest ∷ []) []) long)
-  first_counts (l ∷ ls) rest long = (counted_lines ls rest, refl)
-
-  module _ (F G : List ℕ) where
-    -- the lines behind the whole ones of F
-    abbrev behind : CutText
-    behind = onto (rest_of F) (cut G)
-
-    -- the account of the whole lines of F
-    abbrev whole : TaskAccount
-    whole = fold (next_line until) no_lines (whole_lines F)
-
-    all_lines_of : account until (F ++ G) ≡ fold (next_line until) whole (counted_lines behind.0 behind.1)
-    all_lines_of = ap (λ (c : CutText). fold (next_line until) no_lines (counted_lines c.0 c.1)) (cut_append F G)
-        ∙ ap (fold (next_line until) no_lines)
-        (append_assoc (whole_lines F) behind.0 (cond (is_too_long behind.1) (behind.1 ∷ []) []))
-        ∙ fold-append (next_line until) no_lines (whole_lines F) (counted_lines behind.0 behind.1)
-
-    short_account : is_too_long (rest_of F) ≡ false → account until F ≡ whole
-    short_account short = ap (λ b. fold (next_line until) no_lines (whole_lines F ++ cond b (rest_of F ∷ []) [])) short
-        ∙ ap (fold (next_line until) no_lines) (append-nil (whole_lines F))
-
-    long_account : is_too_long (rest_of F) ≡ true → account until F ≡ next_line until whole (rest_of F)
-    long_account long = ap (λ b. fold (next_line until) no_lines (whole_lines F ++ cond b (rest_of F ∷ []) [])) long
-        ∙ fold-append (next_line until) no_lines (whole_lines F) (rest_of F ∷ [])
-
-    first_long : is_too_long (rest_of F) ≡ true → is_too_long (first_part behind.0 behind.1) ≡ true
-    first_long long = subst (λ l. is_too_long l ≡ true) (sym (first_onto (rest_of F) (cut G)))
-        (longer (rest_of F) (first_part (cut G).0 (cut G).1) long)
-
-    -- the account of a text that grows is that of the text, with further lines
-    account_append : (ls : List (List ℕ)) × (account until (F ++ G) ≡ fold (next_line until) (account until F) ls)
-    account_append = by_length (is_too_long (rest_of F)) refl where
-      by_length : (b : Bool) → is_too_long (rest_of F) ≡ b
-          → (ls : List (List ℕ)) × (account until (F ++ G) ≡ fold (next_line until) (account until F) ls)
-      by_length false short = (
-        counted_lines behind.0 behind.1,
-        all_lines_of ∙ ap (λ a. fold (next_line until) a (counted_lines behind.0 behind.1)) (sym (short_account short)),
-      )
-      by_length true long =
-          let it : (more : List (List ℕ)) × (counted_lines behind.0 behind.1 ≡ first_part behind.0 behind.1 ∷ more) =
-          first_counts behind.0 behind.1 (first_long long) in (
-            it.0,
-            all_lines_of ∙ ap (fold (next_line until) whole) it.1
-                ∙ ap (λ a. fold (next_line until) a it.0)
-                (too_long_same whole (first_part behind.0 behind.1) (rest_of F) (first_long long) long)
-                ∙ ap (λ a. fold (next_line until) a it.0) (sym (long_account long)),
-          )
+  account_append : (F G : List ℕ) → (ls : List (List ℕ))
+      × (account until (F ++ G) ≡ fold (next_line until) (account until F) ls)
+  account_append F G = read_append (next_line until) no_lines too_long_same F G
 
   -- an account that doesn't go on stays
   closed_stays : (ls : List (List ℕ)) (a : TaskAccount) → is_open a ≡ false → fold (next_line until) a ls ≡ a

@@ -7,17 +7,14 @@ use Rattle.std.proofs.lemmas.Bool.{eq-eqb, ne_eqb}
 use Rattle.std.proofs.lemmas.List.{map-append}
 use Rattle.dover_model.specs.declared.events.Refusal.{Refusal}
 use Rattle.dover_model.specs.declared.events.Refusal.TheVariants as refusal
-use Rattle.dover_model.specs.declared.events.Version.{Version}
 use Rattle.dover_model.specs.Limits.{most_lines}
-use Rattle.dover_model.specs.Fraction.{Fraction, IsRatio, is_ratio}
+use Rattle.dover_model.specs.Fraction.{Fraction}
 use Rattle.dover_model.specs.JobFacts.{JobFacts, job_of_numbers}
 use Rattle.dover_model.specs.Instance.{Rules}
 use Rattle.dover_model.specs.Admission.{refusal_of}
 use Rattle.dover_model.specs.Feed as feed
 use Rattle.dover_model.specs.Feed.{Open, Faulty, NotAdmitted, declared_version, declared_rules, rules_with}
-use Rattle.dover_model.proofs.Agreement.{is_ratio-agrees}
-use Rattle.dover_model.proofs.Members.{some_same}
-use Rattle.dover_model.proofs.Tests.{none_is_some}
+use Rattle.dover_model.proofs.Accounts.{declared_ratio}
 use Rattle.admission.specs.Kept as admission
 use Rattle.admission.specs.Answers.{refusal_of_refused}
 use Rattle.admission.specs.declared.refused.Refused.{Refused}
@@ -121,17 +118,6 @@ none_ended intake none until x it = let clash : true ≡ false = sym it.2
     ∙ ap (λ (o : Option Declaration). is_some o) none in cc
 
 -- ---- the line of the ratio
-
--- a ratio that is declared is within the limits
-declared_ratio : (k : Fraction) (version : Option ℕ) (rules : Rules) → declared_rules k version ≡ Some rules
-    → IsRatio rules.ratio
-declared_ratio k version rules is = by (is_ratio k) (declared_version version) refl is where
-  by : (b : Bool) (o : Option Version) → is_ratio k ≡ b → cond b (option_map (rules_with k) o) None ≡ Some rules
-      → IsRatio rules.ratio
-  by false o test none = none_is_some none
-  by true None test none = none_is_some none
-  by true (Some v) test some =
-      subst (λ (r : Rules). IsRatio r.ratio) (some_same (rules_with k v) rules some) ((is_ratio-agrees k).0 test)
 
 module _ (until : ℕ) (intake : TaskIntake) (a : TaskAccount) (p q : ℕ) (version : Option ℕ)
     (keeps : KeepsAccount until intake a) where

@@ -18,7 +18,7 @@ use Rattle.dover_model.specs.Numerals.{numeral, numerals, AreShort}
 use Rattle.dover_model.specs.Lines.{fields_of, line_of, with_numbers, numbers_after}
 use Rattle.dover_model.specs.Instance.{Rules}
 use Rattle.dover_model.specs.Session.{Item}
-use Rattle.dover_model.specs.Text.{text_of, refusal_word}
+use Rattle.dover_model.specs.Text.{text_of, refusal_word, step_numbers}
 use Rattle.dover_model.specs.Trace.{Printed, Refuses}
 use Rattle.dover_model.specs.Verdict as verdict
 use Rattle.dover_model.proofs.Tests.{none_is_some}
@@ -32,7 +32,7 @@ use Rattle.dover_model.proofs.TraceLines.{word_HasNoSpace, then_word, item_of-te
 use Rattle.line_text.specs.Reading.{number_of_first}
 use Rattle.trace_format.specs.declared.lines.TraceLine.{TraceLine}
 use Rattle.trace_format.specs.declared.lines.TraceLine.TheVariants.{Header, Step, Refused}
-use Rattle.trace_format.specs.Form.{last_number, trace_text, step_numbers, NamesJobs, HasForm, item_in, rules_in}
+use Rattle.trace_format.specs.Form.{last_number, trace_text, NamesJobs, HasForm, item_in, rules_in}
 use Rattle.trace_format.specs.Form.{refused_job}
 use Rattle.trace_format.specs.Reading.{◌>>=◌, job_number, new_job, release_of, one_job, two_jobs}
 use Rattle.trace_format.specs.Reading.{end_of, step_of_word, header_of, line_of_word, last_word, refused_of}

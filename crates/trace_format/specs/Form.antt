@@ -3,12 +3,12 @@ use Rattle.std.specs.Prelude.{ℕ, ◌≤◌, List, [], ◌∷◌, Option, Some,
 use Rattle.dover_model.specs.declared.events.Event.{Event}
 use Rattle.dover_model.specs.declared.events.Event.TheVariants.{Release, Run, Preempt, Take, Complete, Abandon, End}
 use Rattle.dover_model.specs.declared.events.Refusal.{Refusal}
-use Rattle.dover_model.specs.JobFacts.{IsJob, job_of_numbers, job_numbers}
+use Rattle.dover_model.specs.JobFacts.{IsJob, job_of_numbers}
 use Rattle.dover_model.specs.Numerals.{AreShort}
 use Rattle.dover_model.specs.Lines.{with_numbers}
 use Rattle.dover_model.specs.Instance.{Rules}
 use Rattle.dover_model.specs.Session.{Item, JobItem, RefusedItem, RefusedJob}
-use Rattle.dover_model.specs.Text.{text_of, refused_text}
+use Rattle.dover_model.specs.Text.{text_of, refused_text, step_numbers}
 use Rattle.dover_model.specs.Verdict.{rules_from}
 use Rattle.trace_format.specs.declared.lines.TraceLine.{TraceLine}
 use Rattle.trace_format.specs.declared.lines.TraceLine.TheVariants.{Header, Step, Refused}
@@ -27,16 +27,6 @@ abbrev pub trace_text : TraceLine → List ℕ
 trace_text (Header version p q) = with_numbers (codes "dover") (version ∷ p ∷ q ∷ [])
 trace_text (Step e) = text_of e
 trace_text (Refused at r c d v cause) = refused_text (refused_job at r c d v cause)
-
--- the numbers of a step, in the order of its line
-abbrev pub step_numbers : Event → List ℕ
-step_numbers (Release n j) = n ∷ job_numbers j
-step_numbers (Run at n) = at ∷ n ∷ []
-step_numbers (Preempt at stops starts) = at ∷ stops ∷ starts ∷ []
-step_numbers (Take at stops starts) = at ∷ stops ∷ starts ∷ []
-step_numbers (Complete at n) = at ∷ n ∷ []
-step_numbers (Abandon at n) = at ∷ n ∷ []
-step_numbers (End value) = value ∷ []
 
 -- its jobs have numbers that jobs may have, and a job that is released is one
 abbrev pub NamesJobs : Event → Type 0

@@ -2,7 +2,8 @@
 ghost use Rattle.std.specs.Prelude.{◌≡◌, ◌<◌, ◌∷◌, ◌++◌, [], length};
 ghost use Rattle.dover_model.specs.Numerals.{AreShort};
 ghost use Rattle.dover_model.specs.Text as form;
-ghost use Rattle.trace_format.specs.Form.{IsRefusedLine, trace_text, step_numbers};
+ghost use Rattle.trace_format.specs.Form.{IsRefusedLine, trace_text};
+ghost use Rattle.dover_model.specs.Text.{step_numbers};
 
 use crate::lines::TraceLine;
 use dover_model::{Event, Ratio, Refusal, Version};

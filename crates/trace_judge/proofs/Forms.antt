@@ -14,20 +14,19 @@ use Rattle.dover_model.specs.Step.{Move, Prints, Waits, Ticks, step, ending, ◌
 use Rattle.dover_model.specs.Run.{printed, printed_of}
 use Rattle.dover_model.specs.Sound.{IsMember, Keeps}
 use Rattle.dover_model.specs.Session.{Session, instance_of}
-use Rattle.dover_model.proofs.Members.{some_same}
+use Rattle.dover_model.proofs.Members.{some_same, all_at}
 use Rattle.dover_model.proofs.Deeds.{Deed, Completed, Resumed, Started, Began, Preempted, Stayed, Arrived, Taken}
 use Rattle.dover_model.proofs.Deeds.{Abandoned, Rested}
 use Rattle.dover_model.proofs.Kept.{step_deed, each_job}
 use Rattle.dover_model.proofs.Honest.{numbers_low, count_jobs}
 use Rattle.dover_model.proofs.ShortNumbers.{printed_short}
-use Rattle.dover_model.proofs.TraceEnds.{all_at}
-use Rattle.dover_model.proofs.TraceLines.{numbers_in}
 use Rattle.trace_format.specs.declared.lines.TraceLine.{TraceLine}
 use Rattle.trace_format.specs.declared.lines.TraceLine.TheVariants.{Step}
-use Rattle.trace_format.specs.Form.{HasForm, NamesJobs, step_numbers, trace_text}
+use Rattle.trace_format.specs.Form.{HasForm, NamesJobs, trace_text}
 use Rattle.trace_format.specs.Reading.{line_of_fields}
 use Rattle.trace_format.proofs.Spelled.{text_read}
 use Rattle.dover_model.specs.Lines.{fields_of}
+use Rattle.dover_model.specs.Text.{step_numbers}
 use Rattle.trace_reading.specs.Leading.{PrintsNext}
 use Rattle.trace_reading.specs.Reading.{Sees}
 use Rattle.trace_reading.proofs.Leading.{leads_passes, idles_leads, passes_keeps}
@@ -37,16 +36,6 @@ use Rattle.trace_reading.proofs.Seeing.{sees_keeps, sees_next}
 pub one_form : (x y : TraceLine) → HasForm x → HasForm y → trace_text x ≡ trace_text y → x ≡ y
 one_form x y form_x form_y same =
     some_same x y (sym (text_read x form_x) ∙ ap (λ l. line_of_fields (fields_of l)) same ∙ text_read y form_y)
-
--- the numbers of a step's line
-same_numbers : (e : Event) → numbers_in e ≡ step_numbers e
-same_numbers (Release n j) = refl
-same_numbers (Run at n) = refl
-same_numbers (Preempt at stops starts) = refl
-same_numbers (Take at stops starts) = refl
-same_numbers (Complete at n) = refl
-same_numbers (Abandon at n) = refl
-same_numbers (End value) = refl
 
 -- what is printed names jobs
 abbrev MoveNames : Move → Type 0
@@ -93,7 +82,7 @@ next_form ls S floor z sees e y next =
     let keeps_y : Keeps (instance_of S) y =
     passes_keeps (instance_of S) sees.valid.jobs S.rules y.clock next.steps z y (sees_keeps ls S floor z sees)
     (leads_passes S.rules y.clock next.steps z y (idles_leads S.rules next.steps z y next.idles)) in (
-      subst AreShort (same_numbers e) (all_at (λ e. AreShort (numbers_in e)) (printed_of sees.steps) e it.0
-          (subst (AllByRecursion (λ e. AreShort (numbers_in e))) it.1 (printed_short (instance_of S) sees.valid.jobs))),
+      all_at (λ e. AreShort (step_numbers e)) (printed_of sees.steps) e it.0
+          (subst (AllByRecursion (λ e. AreShort (step_numbers e))) it.1 (printed_short (instance_of S) sees.valid.jobs)),
       subst MoveNames next.prints (step_names (instance_of S) sees.valid.jobs y keeps_y S.rules),
     )

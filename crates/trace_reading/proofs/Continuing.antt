@@ -21,7 +21,7 @@ use Rattle.dover_model.specs.Settled.{waits_for_mark, settled, settled_steps}
 use Rattle.dover_model.specs.Sound.{Each, Keeps}
 use Rattle.dover_model.specs.WholeRun.{open_at, IsSettledRun}
 use Rattle.dover_model.specs.Session.{JobItem, RefusedItem, RefusedJob, Session, instance_of, admitted_jobs}
-use Rattle.dover_model.specs.Session.{IsValidSession, with_item, new_session}
+use Rattle.dover_model.specs.Session.{IsValidSession, with_item, new_session, mark_after}
 use Rattle.dover_model.specs.Text.{header, text_of, refused_text}
 use Rattle.dover_model.specs.Trace.{TraceLine, Printed, Refuses, Placed, text_of_line, places_of, lines_among}
 use Rattle.dover_model.specs.Trace.{texts_among, put_in}
@@ -37,11 +37,15 @@ use Rattle.dover_model.proofs.PutIn.{places_after-append}
 use Rattle.dover_model.proofs.Growing.{Reads, LinesName, job_instance, refused_instance, all_behind}
 use Rattle.dover_model.proofs.Admitting.{admits}
 use Rattle.dover_model.proofs.TraceLines.{item_of_line}
+use Rattle.dover_model.proofs.Accounts.{follows_behind, mark_behind}
+use Rattle.dover_model.proofs.Members.{each_behind}
+use Rattle.dover_model.proofs.Runs.{printed_append}
+use Rattle.dover_model.proofs.Paths.{one_settled_run}
 use Rattle.trace_reading.specs.Leading.{GoesOn, Leads, Passes, Idles, PrintsNext}
-use Rattle.trace_reading.specs.Reading.{mark_after, Sees, floor_after, MayRelease, MayRefuse, with_fresh, release_text}
-use Rattle.trace_reading.proofs.Items.{follows_behind, mark_behind, reads_mark}
+use Rattle.trace_reading.specs.Reading.{Sees, floor_after, MayRelease, MayRefuse, with_fresh, release_text}
+use Rattle.trace_reading.proofs.Items.{reads_mark}
 use Rattle.trace_reading.proofs.Leading.{leads_later_mark, leads_append, leads_passes, settles_passes, passes_append}
-use Rattle.trace_reading.proofs.Leading.{passes_settled, settled_once}
+use Rattle.trace_reading.proofs.Leading.{passes_settled}
 use Rattle.trace_reading.proofs.Leading.{settles_silent, idles_silent, idles_leads, settles_clock, passes_keeps}
 use Rattle.trace_reading.proofs.Leading.{prints_goes_on, stops_before}
 use Rattle.trace_reading.proofs.Leading.{Later, passes_later, coming_goes_on}
@@ -54,10 +58,6 @@ texts_behind : (rules : Rules) (front more : List TraceLine)
     → header rules ∷ map text_of_line (front ++ more) ≡ (header rules ∷ map text_of_line front) ++ map text_of_line more
 texts_behind rules front more = ap (λ xs. header rules ∷ xs) (map-append text_of_line front more)
 
--- the events of steps and of further steps
-printed_append : (xs ys : List Step) → printed_of (xs ++ ys) ≡ printed_of xs ++ printed_of ys
-printed_append xs ys = filter_map-append _ xs ys
-
 -- the clock isn't above the floor after an event
 clock_below : (floor : ℕ) (late : Bool) (clock : ℕ) → clock ≤ max floor (cond late (suc clock) clock)
 clock_below floor true clock = omega arith
@@ -68,13 +68,6 @@ late_before : (floor : ℕ) (late : Bool) (clock : ℕ)
     → (late && nat_le (max floor (cond late (suc clock) clock)) clock) ≡ false
 late_before floor true clock = lt-leb (max floor (suc clock)) clock (omega arith)
 late_before floor false clock = refl
-
--- what holds of each task, and of one behind
-all_members : (P : Task → Type 0) (tasks : List Task) (u : Task) → Each P tasks → P u → Each P (tasks ++ u ∷ [])
-all_members P [] u all last t (inl e) = subst P (sym e) last
-all_members P [] u all last t (inr m) = absurd m
-all_members P (x ∷ tasks) u all last t (inl e) = all t (inl e)
-all_members P (x ∷ tasks) u all last t (inr m) = all_members P tasks u (λ v mv. all v (inr mv)) last t m
 
 module _ (ls : List (List ℕ)) (S : Session) (floor : ℕ) (z : State) (sees : Sees ls S floor z) where
   -- the jobs of the session
@@ -99,7 +92,7 @@ module _ (ls : List (List ℕ)) (S : Session) (floor : ℕ) (z : State) (sees : 
       settles J sees.valid.jobs S.rules t (potential t z) z (sees_keeps ls S floor z sees) (omega arith) in (
         it.0,
         it.1,
-        settled_once S.rules t (settled_steps J t) (sees.steps ++ it.0) (opening J.jobs)
+        one_settled_run S.rules t (settled_steps J t) (sees.steps ++ it.0) (opening J.jobs)
             (settled_is_run J t sees.valid.jobs)
             (passes_settled S.rules t sees.steps it.0 (opening J.jobs) z
             (leads_passes S.rules t sees.steps (opening J.jobs) z
@@ -425,7 +418,7 @@ module _ (ls : List (List ℕ)) (S : Session) (floor : ℕ) (z : State) (sees : 
       leads = leads_job;
       lines = lines_job;
       within = within_job;
-      released = all_members (λ t. is_coming t ≡ false) y.tasks (record { number = n; job = j; role = Fresh; had = 0 })
+      released = each_behind (λ t. is_coming t ≡ false) y.tasks (record { number = n; job = j; role = Fresh; had = 0 })
           (none_comes_passes S.rules j.release may.waits.steps z y
           (settles_passes S.rules j.release may.waits.steps z y may.waits.settles) sees.released) refl;
       clock = omega arith;
@@ -454,7 +447,7 @@ module _ (ls : List (List ℕ)) (S : Session) (floor : ℕ) (z : State) (sees : 
     all_settled =
         let it : (ys : List Step) × IsSettledRun S.rules r.at z ys × (settled_steps J r.at ≡ sees.steps ++ ys) =
         settled_from_floor r.at may.refused.no_fall in
-        let none : printed_of it.0 ≡ [] = ap printed_of (settled_once S.rules r.at it.0 (may.waits.steps ++ []) z it.1
+        let none : printed_of it.0 ≡ [] = ap printed_of (one_settled_run S.rules r.at it.0 (may.waits.steps ++ []) z it.1
         (passes_settled S.rules r.at may.waits.steps [] z y
         (settles_passes S.rules r.at may.waits.steps z y may.waits.settles) may.waits.barrier)
         ∙ append-nil may.waits.steps) ∙ settles_silent S.rules r.at may.waits.steps z y may.waits.settles in

@@ -1,29 +1,12 @@
 -- Items of a session, one after another.
-use Rattle.std.proofs.Common.{◌≡◌, ℕ, ◌≤◌, max, List, [], ◌∷◌, ◌++◌, refl, sym, ap, subst, arith}
+use Rattle.std.proofs.Common.{◌≡◌, ℕ, ◌≤◌, max, List, [], ◌∷◌, ◌++◌, sym, ap, subst, arith}
 use Rattle.std.proofs.lemmas.List.{append_assoc, append-nil}
 use Rattle.dover_model.specs.JobFacts.{JobFacts}
 use Rattle.dover_model.specs.Instance.{Rules, IsValid}
 use Rattle.dover_model.specs.Session.{Item, JobItem, RefusedItem, Session, instance_of, admitted_jobs, FollowsItems}
-use Rattle.dover_model.specs.Session.{IsValidSession}
+use Rattle.dover_model.specs.Session.{IsValidSession, mark_after}
 use Rattle.dover_model.proofs.Growing.{Reads, reads_new}
 use Rattle.dover_model.proofs.Walks.{Takes, takes, session_with, tick_of_item, follows_next, jobs_append}
-use Rattle.trace_reading.specs.Reading.{mark_after}
-
--- items that may stand behind others
-pub follows_behind : (rules : Rules) (jobs : List JobFacts) (mark : ℕ) (items more : List Item)
-    → FollowsItems rules jobs mark items
-    → FollowsItems rules (jobs ++ admitted_jobs items) (mark_after mark items) more
-    → FollowsItems rules jobs mark (items ++ more)
-follows_behind rules jobs mark [] more follows behind =
-    subst (λ js. FollowsItems rules js mark more) (append-nil jobs) behind
-follows_behind rules jobs mark (JobItem j ∷ items) more follows behind = (
-  follows.0,
-  follows_behind rules (jobs ++ j ∷ []) (max mark j.release) items more follows.1
-      (subst (λ js. FollowsItems rules js (mark_after (max mark j.release) items) more)
-      (sym (append_assoc jobs (j ∷ []) (admitted_jobs items))) behind),
-)
-follows_behind rules jobs mark (RefusedItem r ∷ items) more follows behind =
-    (follows.0, follows_behind rules jobs (max mark r.at) items more follows.1 behind)
 
 -- and the other way round
 pub behind_follows : (rules : Rules) (jobs : List JobFacts) (mark : ℕ) (items more : List Item)
@@ -37,13 +20,6 @@ behind_follows rules jobs mark (JobItem j ∷ items) more follows =
     (behind_follows rules (jobs ++ j ∷ []) (max mark j.release) items more follows.1)
 behind_follows rules jobs mark (RefusedItem r ∷ items) more follows =
     behind_follows rules jobs (max mark r.at) items more follows.1
-
--- the mark after one item more
-pub mark_behind : (mark : ℕ) (items : List Item) (item : Item)
-    → mark_after mark (items ++ item ∷ []) ≡ mark_after (mark_after mark items) (item ∷ [])
-mark_behind mark [] item = refl
-mark_behind mark (JobItem j ∷ items) item = mark_behind (max mark j.release) items item
-mark_behind mark (RefusedItem r ∷ items) item = mark_behind (max mark r.at) items item
 
 -- the mark after a first item that may follow
 mark_next : (rules : Rules) (jobs : List JobFacts) (mark : ℕ) (x : Item) (more : List Item)

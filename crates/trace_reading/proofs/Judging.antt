@@ -6,6 +6,7 @@ use Rattle.std.specs.Prelude.{nat_lt, ◌&&◌, ◌||◌}
 use Rattle.std.specs.Option.{option_map_or}
 use Rattle.std.proofs.lemmas.List.{append-nil, take-append-le}
 use Rattle.std.proofs.Math.Seq.{take-length}
+use Rattle.std.proofs.lemmas.Bool.{and_right}
 use Rattle.dover_model.specs.Session.{Session, IsValidSession}
 use Rattle.dover_model.specs.Lines.{whole_lines, rest_of, is_too_long}
 use Rattle.dover_model.specs.Trace.{trace_lines}
@@ -67,10 +68,7 @@ wrong_rest T counts passes =
           → begins_trace (whole_lines T ++ rest_of T ∷ []) ≡ false
       by_tests true b long e h = too_long_fails (whole_lines T) (rest_of T) long
       by_tests false true short ended h = after_end_fails (whole_lines T) (rest_of T) ended
-      by_tests false false short goes_on h = never (sym (and_false (nat_lt 0 (length (rest_of T)))) ∙ h) where
-        and_false : (b : Bool) → (b && false) ≡ false
-        and_false true = refl
-        and_false false = refl
+      by_tests false false short goes_on h = never (sym (and_right (nat_lt 0 (length (rest_of T))) false refl) ∙ h)
 
 -- a trace with nothing behind it is accepted
 pub accepted_text : (T : List ℕ) (S : Session) → IsValidSession S → whole_lines T ≡ trace_lines S → rest_of T ≡ []

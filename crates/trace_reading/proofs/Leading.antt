@@ -1,10 +1,10 @@
 -- Open steps that lead from one state to another.
-use Rattle.std.proofs.Common.{◌≡◌, ℕ, suc, ◌+◌, ◌≤◌, ◌<◌, ◌⊎◌, inl, inr, List, [], ◌∷◌, ◌++◌, refl, sym, ap, ◌∙◌, subst}
+use Rattle.std.proofs.Common.{◌≡◌, ℕ, suc, ◌+◌, ◌≤◌, ◌<◌, List, [], ◌∷◌, ◌++◌, refl, sym, ap, ◌∙◌, subst}
 use Rattle.std.proofs.Common.{Bool, true, false, cond, arith}
 use Rattle.std.specs.Prelude.{nat_le, ◌&&◌, Option, None, Some}
 use Rattle.std.specs.Bool.{MatchBool, then_some}
 use Rattle.std.specs.List.{list_all, cons_option, filter}
-use Rattle.std.proofs.lemmas.Bool.{leb-false, lt-leb, false_from_ne_true}
+use Rattle.std.proofs.lemmas.Bool.{lt-leb, false_from_ne_true}
 use Rattle.dover_model.specs.declared.events.Event.{Event}
 use Rattle.dover_model.specs.declared.events.Event.TheVariants.{End}
 use Rattle.dover_model.specs.declared.events.Role.TheVariants.{Coming}
@@ -16,14 +16,16 @@ use Rattle.dover_model.specs.Run.{Step, is_end, event_of, printed_of}
 use Rattle.dover_model.specs.Settled.{waits_for_mark, AllComeFrom}
 use Rattle.dover_model.specs.Sound.{IsMember, Keeps}
 use Rattle.dover_model.specs.WholeRun.{open_at, IsBefore, IsBarrier, IsSettledRun, IsWholeRun}
-use Rattle.dover_model.proofs.Members.{all_each}
+use Rattle.dover_model.proofs.Members.{all_each, member_behind}
 use Rattle.dover_model.proofs.Roles.{passes}
 use Rattle.dover_model.proofs.Deeds.{over_rests}
 use Rattle.dover_model.proofs.Kept.{open_kept, step_deed}
-use Rattle.dover_model.proofs.Ending.{clock_after}
+use Rattle.dover_model.proofs.Ending.{later_clock}
 use Rattle.dover_model.proofs.Settling.{late_early}
-use Rattle.dover_model.proofs.Prefixes.{step_open, open_not_end, behind_step, behind_after, behind_keeps, member_behind}
+use Rattle.dover_model.proofs.Prefixes.{step_open, open_not_end, behind_step, behind_after, behind_keeps}
 use Rattle.dover_model.proofs.Tests.{never}
+use Rattle.dover_model.proofs.Paths.{before_later}
+use Rattle.dover_model.proofs.Releasing.{within_mark}
 use Rattle.trace_reading.specs.Leading.{GoesOn, IsSilent, Passes, Leads, Settles, Idles}
 use Rattle.trace_reading.specs.Reading.{floor_after}
 
@@ -31,13 +33,6 @@ use Rattle.trace_reading.specs.Reading.{floor_after}
 none_printed : (o : Option Event) (es : List Event) → cons_option o es ≡ [] → (o ≡ None) × (es ≡ [])
 none_printed None es none = (refl, none)
 none_printed (Some e) es none = absurd (let clash : e ∷ es ≡ [] = none in cc)
-
--- what is before a mark is before a later one
-before_later : (late : Bool) (mark later clock : ℕ) → mark ≤ later → (late && nat_le mark clock) ≡ false
-    → (late && nat_le later clock) ≡ false
-before_later true mark later clock onward before = let early : clock < mark = leb-false _ _ before in
-    lt-leb later clock (omega arith)
-before_later false mark later clock onward before = refl
 
 module _ (rules : Rules) where
   -- at a later mark
@@ -101,16 +96,6 @@ module _ (rules : Rules) where
   passes_settled mark (x ∷ xs) ys s z passes run =
       (passes.0, passes.1, passes_settled mark xs ys (after s (open_step rules s)) z passes.2 run)
 
-  -- a state has one settled run
-  pub settled_once : (mark : ℕ) (xs ys : List Step) (s : State) → IsSettledRun rules mark s xs
-      → IsSettledRun rules mark s ys → xs ≡ ys
-  settled_once mark [] [] s one other = refl
-  settled_once mark [] (y ∷ ys) s one other = never (sym other.1 ∙ one)
-  settled_once mark (x ∷ xs) [] s one other = never (sym one.1 ∙ other)
-  settled_once mark (x ∷ xs) (y ∷ ys) s one other =
-      let rest : xs ≡ ys = settled_once mark xs ys (after s (open_step rules s)) one.2 other.2 in
-      ap (λ u. u ∷ xs) (one.0 ∙ sym other.0) ∙ ap (λ us. y ∷ us) rest
-
   -- settled steps that print nothing are silent
   pub settled_settles : (mark : ℕ) (xs : List Step) (s : State) → IsSettledRun rules mark s xs → printed_of xs ≡ []
       → (z : State) × Settles rules mark s xs z × IsBarrier rules mark z
@@ -160,14 +145,6 @@ late_silent (Prints e) late silent = absurd (let clash : Some e ≡ None = silen
 late_silent (Waits n) late silent = never late
 late_silent Ticks late silent = refl
 
--- the clock doesn't fall
-clock_rises : (s : State) (m : Move) → s.clock ≤ (after s m).clock
-clock_rises s m = by_clock (clock_after s m) where
-  by_clock : ((after s m).clock ≡ s.clock) ⊎ ((m ≡ Ticks) × ((after s m).clock ≡ s.clock + 1))
-      → s.clock ≤ (after s m).clock
-  by_clock (inl same) = omega arith
-  by_clock (inr it) = let next : (after s m).clock ≡ s.clock + 1 = it.1 in omega arith
-
 -- a silent step that leaves the clock before a tick, or at it, is before that tick
 tick_before : (rules : Rules) (mark : ℕ) (s : State) → IsSilent (open_step rules s)
     → (after s (open_step rules s)).clock ≤ mark
@@ -179,25 +156,12 @@ tick_before rules mark s silent low = by_late (waits_for_mark (open_step rules s
       lt-leb mark s.clock (omega arith)
   by_late false early = refl
 
--- a silent step before a tick leaves the clock before it, or at it
-before_tick : (rules : Rules) (mark : ℕ) (s : State) → IsBefore rules mark s → s.clock ≤ mark
-    → (after s (open_step rules s)).clock ≤ mark
-before_tick rules mark s before low = by_clock (clock_after s (open_step rules s)) where
-  by_clock : ((after s (open_step rules s)).clock ≡ s.clock)
-      ⊎ ((open_step rules s ≡ Ticks) × ((after s (open_step rules s)).clock ≡ s.clock + 1))
-      → (after s (open_step rules s)).clock ≤ mark
-  by_clock (inl same) = omega arith
-  by_clock (inr it) = let next : (after s (open_step rules s)).clock ≡ s.clock + 1 = it.1 in
-      let early : s.clock < mark =
-      late_early (waits_for_mark (open_step rules s)) mark s.clock before (ap waits_for_mark it.0) in
-      omega arith
-
 module _ (rules : Rules) where
   -- idle steps don't turn the clock back
   pub idles_clock : (xs : List Step) (s z : State) → Idles rules s xs z → s.clock ≤ z.clock
   idles_clock [] s z idles = let same : s.clock ≡ z.clock = ap (λ (u : State). u.clock) idles in omega arith
   idles_clock (x ∷ xs) s z idles = let rest : (after s (open_step rules s)).clock ≤ z.clock =
-      idles_clock xs (after s (open_step rules s)) z idles.3 in omega (arith, clock_rises s (open_step rules s))
+      idles_clock xs (after s (open_step rules s)) z idles.3 in omega (arith, later_clock s (open_step rules s))
 
   -- idle steps lead on, up to the clock that they reach
   pub idles_leads : (xs : List Step) (s z : State) → Idles rules s xs z → Leads rules z.clock s xs z
@@ -227,7 +191,7 @@ module _ (rules : Rules) where
   settles_clock mark [] s z settles low = let same : s.clock ≡ z.clock = ap (λ (u : State). u.clock) settles in
       omega arith
   settles_clock mark (x ∷ xs) s z settles low =
-      settles_clock mark xs (after s (open_step rules s)) z settles.3 (before_tick rules mark s settles.1 low)
+      settles_clock mark xs (after s (open_step rules s)) z settles.3 (within_mark rules mark s settles.1 low)
 
 -- ---- states of an instance
 
@@ -324,7 +288,7 @@ module _ (J : Instance) (valid : IsValid J) (rules : Rules) where
       ap (λ (v : Step). cons_option (event_of v.move) (printed_of ys)) run.0
       ∙ ap (λ o. cons_option o (printed_of ys)) idles.1
       ∙ stops_before mark xs ys (after s (open_step rules s)) z e (open_kept J valid s keeps rules)
-      (before_tick rules mark s run.1 low) idles.3
+      (within_mark rules mark s run.1 low) idles.3
       prints early run.2
 
 -- ---- with jobs behind

@@ -1,25 +1,22 @@
 -- No other lines continue a trace.
-use Rattle.std.proofs.Common.{◌≡◌, ℕ, suc, ◌+◌, ◌≤◌, ◌<◌, ◌⊎◌, inl, inr, List, [], ◌∷◌, ◌++◌, length, length-append}
+use Rattle.std.proofs.Common.{◌≡◌, ℕ, ◌+◌, ◌≤◌, ◌<◌, ◌⊎◌, inl, inr, List, [], ◌∷◌, ◌++◌, length, length-append}
 use Rattle.std.proofs.Common.{map, refl, sym, ap, ◌∙◌, subst}
-use Rattle.std.proofs.Common.{Bool, true, false, cond, not, arith, Option, Some, None, filter_map}
+use Rattle.std.proofs.Common.{Bool, true, false, arith, Option, Some, None, filter_map}
 use Rattle.std.specs.Prelude.{bytes_eq, nat_lt}
 use Rattle.std.specs.List.{AllByRecursion, cons_option, starts_with}
 use Rattle.std.specs.Option.{option_map, option_map_or}
-use Rattle.std.proofs.lemmas.Bool.{ltb-true, ltb-false, lt-leb, and_parts}
-use Rattle.std.proofs.lemmas.List.{append_assoc, append-nil, length-map}
+use Rattle.std.proofs.lemmas.Bool.{ltb-true, ltb-false, and_parts}
+use Rattle.std.proofs.lemmas.List.{append_assoc, append-nil, length-map, nil_from_length}
 use Rattle.std.proofs.lemmas.List.Elements.{filter_map-append}
-use Rattle.std.proofs.lemmas.List.Sums.{sum_by-append, sum_by-cons}
 use Rattle.std.proofs.lemmas.Slice.Eq.{bytes_eq-Decides, starts_is}
-use Rattle.dover_model.specs.JobFacts.{JobFacts, IsJob}
+use Rattle.dover_model.specs.JobFacts.{JobFacts}
 use Rattle.dover_model.specs.Fraction.{IsRatio}
 use Rattle.dover_model.specs.declared.events.Event.{Event}
 use Rattle.dover_model.specs.declared.events.Event.TheVariants.{Release}
-use Rattle.dover_model.specs.declared.events.Refusal.TheVariants.{BadJob, Count, Total, Ratio}
-use Rattle.dover_model.specs.Instance.{Rules, Instance, IsValid, with_jobs, IsWithinRatio, total_value}
-use Rattle.dover_model.specs.Admission.{refusal_of, is_within_ratio_both_ways}
+use Rattle.dover_model.specs.Instance.{Rules, IsValid, with_jobs}
 use Rattle.dover_model.specs.Session.{Item, JobItem, RefusedItem, RefusedJob, Session, FollowsItems, IsValidSession}
 use Rattle.dover_model.specs.Session.{instance_of, admitted_jobs}
-use Rattle.dover_model.specs.Session.{with_item, is_valid_session}
+use Rattle.dover_model.specs.Session.{with_item, is_valid_session, mark_after}
 use Rattle.dover_model.specs.State.{State}
 use Rattle.dover_model.specs.Run.{Step, printed_of}
 use Rattle.dover_model.specs.Settled.{settled, settled_steps}
@@ -27,9 +24,9 @@ use Rattle.dover_model.specs.Text.{header, text_of, refused_text}
 use Rattle.dover_model.specs.Trace.{TraceLine, Printed, Refuses, text_of_line, lines_among, trace_lines}
 use Rattle.dover_model.specs.Verdict.{named_session, begins_trace, begins_trace_of, rules_of, item_of}
 use Rattle.dover_model.specs.WholeRun.{Begins, IsBarrier, IsSettledRun}
-use Rattle.dover_model.proofs.Agreement.{is_valid_session-agrees, is_job-agrees, is_within_ratio-agrees}
+use Rattle.dover_model.proofs.Agreement.{is_valid_session-agrees}
 use Rattle.dover_model.proofs.Beginnings.{begins_either, begins_onward}
-use Rattle.dover_model.proofs.Members.{some_same}
+use Rattle.dover_model.proofs.Members.{some_same, all_last, heads, tails}
 use Rattle.dover_model.proofs.Valid.{all_front}
 use Rattle.dover_model.proofs.Growing.{Reads, all_lines, lines_at, job_instance, reads_later, reads_job, lines_job}
 use Rattle.dover_model.proofs.Growing.{reads_refused, lines_refused, lines_of_trace}
@@ -37,9 +34,10 @@ use Rattle.dover_model.proofs.TraceLines.{HasShortNumbers, item_of_line, item_of
 use Rattle.dover_model.proofs.ShortNumbers.{lines_short}
 use Rattle.dover_model.proofs.Walks.{session_with}
 use Rattle.dover_model.proofs.Named.{header_names, texts_name, first_texts}
-use Rattle.dover_model.proofs.Tests.{never, each, both}
+use Rattle.dover_model.proofs.Tests.{never}
+use Rattle.dover_model.proofs.Admitting.{valid_admitted}
 use Rattle.trace_reading.specs.Leading.{Settles, WaitsUntil, PrintsNext}
-use Rattle.trace_reading.specs.Reading.{mark_after, Sees, HasRoom, MayRelease, MayRefuse, release_text, IsReleaseNext}
+use Rattle.trace_reading.specs.Reading.{Sees, HasRoom, MayRelease, MayRefuse, release_text, IsReleaseNext}
 use Rattle.trace_reading.specs.Reading.{IsRefusedNext}
 use Rattle.trace_reading.proofs.Items.{behind_follows, reads_mark}
 use Rattle.trace_reading.proofs.Seeing.{sees_next_text, sees_names, sees_short}
@@ -82,14 +80,6 @@ begin_both xs ys one other = by_rest one.0 one.1 where
       (omega (arith, ap length e, length-append xs (r ∷ rest), ap length other.1, length-append ys other.0))
 
 module _ {X : Type 0} where
-  -- the rest of equal lists
-  tails : (u v : X) (us vs : List X) → u ∷ us ≡ v ∷ vs → us ≡ vs
-  tails u v us vs e = cc
-
-  -- the first of equal lists
-  heads : (u v : X) (us vs : List X) → u ∷ us ≡ v ∷ vs → u ≡ v
-  heads u v us vs e = cc
-
   -- the elements at the end of two beginnings of one length
   same_end : (xs : List X) (a b : X) (zs : List X) → Begins (xs ++ a ∷ []) zs → Begins (xs ++ b ∷ []) zs → a ≡ b
   same_end [] a b [] one other = absurd (omega (arith, ap length one.1))
@@ -125,54 +115,7 @@ module _ {X Y : Type 0} (f : X → Y) where
         text = rest.text;
       }
 
--- none
-no_elements : {X : Type 0} (xs : List X) → length xs ≡ 0 → xs ≡ []
-no_elements [] none = refl
-no_elements (x ∷ xs) none = absurd (omega arith)
-
 -- ---- a valid job is admitted
-
--- what holds of all holds of the last
-all_last : {X : Type 0} (P : X → Type 0) (xs : List X) (y : X) → AllByRecursion P (xs ++ y ∷ []) → P y
-all_last P [] y all = all.0
-all_last P (x ∷ xs) y all = all_last P xs y all.1
-
--- what holds of each with the last, and of the last with each
-all_pairs : {X : Type 0} (R : X → X → Type 0) (xs : List X) (y : X)
-    → AllByRecursion (λ x. AllByRecursion (R x) (xs ++ y ∷ [])) (xs ++ y ∷ [])
-    → AllByRecursion (λ x. R x y × R y x) xs
-all_pairs R xs y all = pairs xs (all_front (λ x. AllByRecursion (R x) (xs ++ y ∷ [])) xs (y ∷ []) all)
-    (all_front (R y) xs (y ∷ []) (all_last (λ x. AllByRecursion (R x) (xs ++ y ∷ [])) xs y all)) where
-      pairs : (us : List _) → AllByRecursion (λ x. AllByRecursion (R x) (xs ++ y ∷ [])) us → AllByRecursion (R y) us
-          → AllByRecursion (λ x. R x y × R y x) us
-      pairs [] one other = tt
-      pairs (u ∷ us) one other = ((all_last (R u) xs y one.0, other.0), pairs us one.1 other.1)
-
--- no cause holds
-none_holds : (a b c d : Bool) → a ≡ false → b ≡ false → c ≡ false → d ≡ false
-    → cond a (Some BadJob) (cond b (Some Count) (cond c (Some Total) (cond d (Some Ratio) None))) ≡ None
-none_holds a b c d ea eb ec ed =
-    ap (λ x. cond x (Some BadJob) (cond b (Some Count) (cond c (Some Total) (cond d (Some Ratio) None)))) ea
-    ∙ ap (λ x. cond x (Some Count) (cond c (Some Total) (cond d (Some Ratio) None))) eb
-    ∙ ap (λ x. cond x (Some Total) (cond d (Some Ratio) None)) ec ∙ ap (λ x. cond x (Some Ratio) None) ed
-
--- a job that is valid behind others is admitted
-pub valid_admitted : (J : Instance) (j : JobFacts) → IsValid (with_jobs J (j ∷ []))
-    → refusal_of J.rules.ratio J.jobs j ≡ None
-valid_admitted J j valid = none_holds _ _ _ _ (ap not ((is_job-agrees j).1 (all_last IsJob J.jobs j valid.each)))
-    (let most : length (J.jobs ++ j ∷ []) ≤ 1_000_000 = valid.count in
-    lt-leb 1_000_000 (length J.jobs) (omega (arith, length-append J.jobs (j ∷ []))))
-    (let most : total_value (J.jobs ++ j ∷ []) ≤ 10_000_000_000_000 = valid.total in
-    lt-leb (suc 10_000_000_000_000) (total_value J.jobs + j.value)
-    (omega (
-      arith,
-      sum_by-append (λ (i : JobFacts). i.value) J.jobs (j ∷ []),
-      sum_by-cons (λ (i : JobFacts). i.value) j [],
-    )))
-    (ap not ((each (λ i. is_within_ratio_both_ways J.rules.ratio i j)
-    (λ i. IsWithinRatio J.rules.ratio i j × IsWithinRatio J.rules.ratio j i)
-    (λ i. both _ _ (is_within_ratio-agrees J.rules.ratio i j) (is_within_ratio-agrees J.rules.ratio j i)) J.jobs).1
-    (all_pairs (IsWithinRatio J.rules.ratio) J.jobs j valid.densities)))
 
 -- ---- what lines name
 
@@ -370,7 +313,7 @@ module _ (ls : List (List ℕ)) (S : Session) (floor : ℕ) (z : State) (sees : 
           let counted : length (printed_of (sees.steps ++ rest.0)) ≡ length so_far + length (printed_of rest.0) =
           ap length (filter_map-append _ sees.steps rest.0) ∙ length-append so_far (printed_of rest.0) in
           let silent : printed_of rest.0 ≡ [] =
-          no_elements (printed_of rest.0) (omega (arith, all_printed, ap length (ap printed_of rest.2))) in
+          nil_from_length (printed_of rest.0) (omega (arith, all_printed, ap length (ap printed_of rest.2))) in
           let found : (y : State) × Settles S.rules t z rest.0 y × IsBarrier S.rules t y =
           settled_settles S.rules t rest.0 z rest.1 silent in
           (found.0, record { steps = rest.0; settles = found.1; barrier = found.2 })

@@ -3,7 +3,7 @@ use Rattle.std.proofs.Common.{◌≡◌, ℕ, ◌+◌, ◌⊎◌, inl, inr, List
 use Rattle.std.proofs.Common.{false, cond, not, arith, eqb}
 use Rattle.std.specs.Prelude.{Some, None, ◌&&◌, nat_le}
 use Rattle.std.specs.List.{filter, find, sum_by}
-use Rattle.std.proofs.lemmas.Bool.{ne_eqb}
+use Rattle.std.proofs.lemmas.Bool.{ne_eqb, not-true, not-false}
 use Rattle.std.proofs.lemmas.List.Sums.{sum_by-cons}
 use Rattle.dover_model.specs.Fraction.{Fraction}
 use Rattle.dover_model.specs.declared.events.Role.{Role}
@@ -24,7 +24,7 @@ use Rattle.dover_model.proofs.Roles.{by_role, one_number, is_over_role, passes}
 use Rattle.dover_model.proofs.Deeds.{Deed, Completed, Resumed, Started, Began, Preempted, Stayed, Arrived, Taken}
 use Rattle.dover_model.proofs.Deeds.{Abandoned, Rested}
 use Rattle.dover_model.proofs.Kept.{open_deed, open_kept}
-use Rattle.dover_model.proofs.Tests.{never, not_true}
+use Rattle.dover_model.proofs.Tests.{never}
 use Rattle.trace_reading.specs.Leading.{IsSilent, Settles}
 use Rattle.trace_reading.specs.Ready.{is_ready, ready_part}
 
@@ -53,11 +53,7 @@ module _ {X : Type 0} (p q : X → Bool) (onward : (x : X) → q x ≡ false →
 over_fails : (p : Task → Bool) → ((t : Task) → p (with_role t Done) ≡ false)
     → ((t : Task) → p (with_role t Gone) ≡ false)
     → (t : Task) → is_ready t ≡ false → p t ≡ false
-over_fails p done gone t over = by_roles (is_over_role t (denied (is_over t) over)) where
-  denied : (b : Bool) → not b ≡ false → b ≡ true
-  denied true h = refl
-  denied false h = never (sym h)
-
+over_fails p done gone t over = by_roles (is_over_role t (not-false (is_over t) over)) where
   by_roles : (t.role ≡ Done) ⊎ (t.role ≡ Gone) → p t ≡ false
   by_roles (inl e) = passes p t Done false e (done t)
   by_roles (inr e) = passes p t Gone false e (gone t)
@@ -245,10 +241,7 @@ filter_all p (x ∷ xs) all = ap (λ b. cond b (x ∷ filter p xs) (filter p xs)
 -- a silent move doesn't do or lose a job
 silent_done : (m : Move) → IsSilent m → (t : Task) → is_over t ≡ false → is_done (change m t) ≡ false
 silent_done m silent t ready =
-    ready_not_done (change m t) (denied_back (is_over (change m t)) (silent_ready m silent t (ap not ready))) where
-      denied_back : (b : Bool) → not b ≡ true → b ≡ false
-      denied_back true h = never h
-      denied_back false h = refl
+    ready_not_done (change m t) (not-true (is_over (change m t)) (silent_ready m silent t (ap not ready)))
 
 module _ (J : Instance) (valid : IsValid J) (rules : Rules) where
   -- after a silent step the part is the part after it
@@ -281,7 +274,7 @@ module _ (J : Instance) (valid : IsValid J) (rules : Rules) where
       (subst (Each (λ t. done_value t ≡ 0)) (sym (after_change (ready_part s) (open_step rules s)))
       (on_map (change (open_step rules s)) (λ t. done_value t ≡ 0) (filter is_ready s.tasks)
       (λ t m. ap (λ b. cond b (change (open_step rules s) t).job.value 0) (silent_done (open_step rules s) silent t
-      (not_true (is_over t) (member_filter is_ready s.tasks t m).1))))) in
+      (not-true (is_over t) (member_filter is_ready s.tasks t m).1))))) in
       omega (arith, done_after J valid rules s keeps, sum_filter is_done (λ t. t.job.value) part)
 
   -- silent steps of the part are silent steps of the state

@@ -4,7 +4,7 @@ use Rattle.std.proofs.Common.{Bool, true, false, not, arith}
 use Rattle.std.specs.Prelude.{nat_le, ◌&&◌}
 use Rattle.std.specs.List.{list_all}
 use Rattle.std.specs.Bool.{MatchBool}
-use Rattle.std.proofs.lemmas.Bool.{false_from_ne_true, lt-leb, le-leb}
+use Rattle.std.proofs.lemmas.Bool.{false_from_ne_true, lt-leb, le-leb, not-true}
 use Rattle.dover_model.specs.declared.events.Event.{Event}
 use Rattle.dover_model.specs.declared.events.Task.{Task}
 use Rattle.dover_model.specs.Instance.{Rules, Instance, IsValid}
@@ -37,10 +37,7 @@ goes_on_after s m silent on =
     let it : (t : Task) × IsMember t s.tasks × (is_over t ≡ false) = not_all is_over s.tasks on in
     some_goes_on (after s m) (change m it.0)
     (subst (IsMember (change m it.0)) (sym (after_change s m)) (map_member (change m) s.tasks it.0 it.1))
-    (not_true_back (is_over (change m it.0)) (silent_ready m silent it.0 (ap not it.2))) where
-      not_true_back : (b : Bool) → not b ≡ true → b ≡ false
-      not_true_back true h = never h
-      not_true_back false h = refl
+    (not-true (is_over (change m it.0)) (silent_ready m silent it.0 (ap not it.2)))
 
 module _ (rules : Rules) where
   -- silent steps, where some job isn't over

@@ -1,5 +1,5 @@
 -- What the lines of a trace so far have come to, and which line may come next.
-use Rattle.std.specs.Prelude.{◌≡◌, ◌≤◌, ◌<◌, ◌+◌, ℕ, suc, max, List, [], ◌∷◌, ◌++◌, length, false, if◌then◌else◌, None}
+use Rattle.std.specs.Prelude.{◌≡◌, ◌≤◌, ◌<◌, ◌+◌, ℕ, suc, List, [], ◌∷◌, ◌++◌, length, false, if◌then◌else◌, None}
 use Rattle.std.specs.Prelude.{Some}
 use Rattle.std.specs.List.{AllByRecursion}
 use Rattle.dover_model.specs.Limits.{most_items}
@@ -13,18 +13,12 @@ use Rattle.dover_model.specs.Run.{Step, printed_of}
 use Rattle.dover_model.specs.Sound.{Each}
 use Rattle.dover_model.specs.Settled.{waits_for_mark, settled}
 use Rattle.dover_model.specs.Admission.{refusal_of}
-use Rattle.dover_model.specs.Session.{Item, JobItem, RefusedItem, RefusedJob, Session, instance_of, admitted_jobs}
-use Rattle.dover_model.specs.Session.{IsValidSession, MayBeRefused}
+use Rattle.dover_model.specs.Session.{RefusedJob, Session, instance_of, admitted_jobs}
+use Rattle.dover_model.specs.Session.{IsValidSession, MayBeRefused, mark_after}
 use Rattle.dover_model.specs.Text.{text_of, refused_text}
 use Rattle.dover_model.specs.Trace.{places_of, texts_among}
 use Rattle.dover_model.specs.Verdict.{named_session}
 use Rattle.trace_reading.specs.Leading.{Leads, WaitsUntil}
-
--- the mark after items that come at this mark
-abbrev pub mark_after : ℕ → List Item → ℕ
-mark_after mark [] = mark
-mark_after mark (JobItem j ∷ items) = mark_after (max mark j.release) items
-mark_after mark (RefusedItem r ∷ items) = mark_after (max mark r.at) items
 
 -- The lines begin the trace of the valid session that they name. The steps printed among them lead to the state z, in
 -- which no job is to come.

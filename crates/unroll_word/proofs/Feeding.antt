@@ -20,12 +20,12 @@ use Rattle.dover_model.proofs.FeedLines.{feed_line-feed_text}
 use Rattle.dover_model.proofs.Growing.{instance_with}
 use Rattle.dover_model.proofs.JobSessions.{jobs_back, session_of_valid}
 use Rattle.dover_model.proofs.Valid.{valid_front}
+use Rattle.dover_model.proofs.Admitting.{valid_admitted}
 use Rattle.event_feed.specs.Reading.{open_account}
 use Rattle.event_feed.proofs.Counting.{after_form}
 use Rattle.snapshot.proofs.Behind.{feedless_feed, lines_joined}
 use Rattle.snapshot.proofs.Handing.{ratio_account, job_numerals}
 use Rattle.snapshot.specs.Stored.{declared_number}
-use Rattle.trace_reading.proofs.Only.{valid_admitted}
 use Rattle.unroll_word.specs.Feeds.{IsFeedOf, feed_of, feed_lines, job_text}
 
 -- ---- line by line

@@ -1,7 +1,8 @@
-use Rattle.std.proofs.Common.{◌≡◌, ◌≤◌, ◌++◌, ◌∷◌, [], ap, ◌∙◌, arith, subst, sym, drop}
+use Rattle.std.proofs.Common.{◌≡◌, ◌≤◌, ◌++◌, ◌∷◌, [], ap, ◌∙◌, arith, subst, sym}
 use Rattle.std.specs.List.{AllByRecursion}
 use Rattle.dover_model.specs.Limits.{most_total}
-use Rattle.intervals.proofs.Weighed.{Weighs, begun, gone_on, readable, small, weighed, all_more}
+use Rattle.dover_model.proofs.Growing.{all_behind}
+use Rattle.intervals.proofs.Weighed.{begun, gone_on, readable, small, weighed}
 use Rattle.intervals.proofs.weighing.weights.Goals as goal
 
 pub loop-event-init : goal.loop-event-init
@@ -26,7 +27,7 @@ loop-event-preserved c =
           c.event-item.is c.loop-event-test.true _ c.loop-event.worths.items _ c.in_ok-read.ensures longer
           (c.loop-event.invariant.weighs J of);
       small = subst (AllByRecursion (λ worth. worth ≤ most_total)) (sym longer)
-          (all_more (λ worth. worth ≤ most_total) c.loop-event.worths.items c.loop-event.ledger.worth
+          (all_behind (λ worth. worth ≤ most_total) c.loop-event.worths.items c.loop-event.ledger.worth
           c.loop-event.invariant.small
           (small c.args.k c.args.run.now c.requires.0 c.requires.1 c.loop-event.ledger c.loop-event.event-index
           c.event-item.result

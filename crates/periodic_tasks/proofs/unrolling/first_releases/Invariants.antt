@@ -1,4 +1,4 @@
-use Rattle.std.proofs.Common.{◌≡◌, ◌≤◌, ◌<◌, ◌+◌, ℕ, length, get_or, Option, None}
+use Rattle.std.proofs.Common.{◌≡◌, ◌≤◌, ◌<◌, ◌+◌, ℕ, length, get_or, None}
 use Rattle.dover_model.specs.declared.events.Version.TheVariants.{One}
 use Rattle.periodic_tasks.specs.Merging.{IsNext, blank_task}
 use Rattle.periodic_tasks.proofs.unrolling.first_releases.Given as goal

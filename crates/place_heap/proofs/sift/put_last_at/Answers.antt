@@ -1,9 +1,8 @@
 use Rattle.std.proofs.Common.{◌≡◌, ◌≤◌, ◌<◌, ◌++◌, ◌∷◌, [], None, ap, ◌∙◌, sym, subst, length, set, arith}
 use Rattle.std.specs.Option.{option_to_list}
-use Rattle.std.proofs.lemmas.List.{length-set, length_push, get_or_default}
+use Rattle.std.proofs.lemmas.List.{length-set, length_push, get_or_default, take_at}
 use Rattle.place_heap.specs.Table.{IsIndexed, nowhere, table_of, blank}
 use Rattle.place_heap.specs.HeapOrder.{IsHeapSave}
-use Rattle.place_heap.proofs.Covered.{covered}
 use Rattle.place_heap.proofs.Indexing.{last_ready, fill_indexed, fill_table, out_is}
 use Rattle.place_heap.proofs.Order.{put_save}
 use Rattle.place_heap.proofs.sift.put_last_at.Goals as goal
@@ -28,7 +27,7 @@ returns-clause-indexed c =
     let is : old ≡ front ++ x ∷ [] = c.pop.ensures.items ∙ ap (λ o. front ++ option_to_list o) c.unwrap-last.ensures in
     let few : length old ≤ nowhere = omega (arith, c.requires.few) in
     let at_in : at < length front = omega (arith, c.requires.at, ap length is, length_push front x) in
-    let whole = covered c.pop.new.self.len c.set_at.new.items _ (c.set_at.auto.items ∙ c.deref_mut.ensures.len) in
+    let whole = take_at c.set_at.new.items _ c.pop.new.self.len (c.set_at.auto.items ∙ c.deref_mut.ensures.len) in
     let items_is = c.set_at.ensures.items ∙ ap (λ l. set l at x) c.deref_mut.ensures.value in
     let out_at = c.index.ensures ∙ get_or_default front at c.index.result.now blank at_in in
     let positions_is = c.set_at.ensures.positions
@@ -47,7 +46,7 @@ returns-clause-table c d =
     let is : old ≡ front ++ x ∷ [] = c.pop.ensures.items ∙ ap (λ o. front ++ option_to_list o) c.unwrap-last.ensures in
     let few : length old ≤ nowhere = omega (arith, c.requires.few) in
     let at_in : at < length front = omega (arith, c.requires.at, ap length is, length_push front x) in
-    let whole = covered c.pop.new.self.len c.set_at.new.items _ (c.set_at.auto.items ∙ c.deref_mut.ensures.len) in
+    let whole = take_at c.set_at.new.items _ c.pop.new.self.len (c.set_at.auto.items ∙ c.deref_mut.ensures.len) in
     let items_is = c.set_at.ensures.items ∙ ap (λ l. set l at x) c.deref_mut.ensures.value in
     let out_at = c.index.ensures ∙ get_or_default front at c.index.result.now blank at_in in
     let positions_is = c.set_at.ensures.positions
@@ -63,7 +62,7 @@ returns-clause-heap c =
     let x = c.unwrap-last.result in
     let is : c.args.items.now.items ≡ front ++ x ∷ [] = c.pop.ensures.items
     ∙ ap (λ o. front ++ option_to_list o) c.unwrap-last.ensures in
-    let whole = covered c.pop.new.self.len c.set_at.new.items _ (c.set_at.auto.items ∙ c.deref_mut.ensures.len) in
+    let whole = take_at c.set_at.new.items _ c.pop.new.self.len (c.set_at.auto.items ∙ c.deref_mut.ensures.len) in
     let items_is = c.set_at.ensures.items ∙ ap (λ l. set l at x) c.deref_mut.ensures.value in
     subst (λ l. IsHeapSave l at) (sym (whole ∙ items_is))
     (put_save c.args.items.now.items front x at c.requires.heap is)

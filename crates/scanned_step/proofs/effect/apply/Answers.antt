@@ -1,10 +1,10 @@
 use Rattle.std.proofs.Common.{◌≡◌, length, ap, ◌∙◌, arith}
 use Rattle.dover_model.specs.Step.{with_role, role_after}
-use Rattle.scanned_step.proofs.InPlace.{map_front, map_front_next, map_front_all}
+use Rattle.dover_model.proofs.InPlace.{map_front, map_front_item, map_front_all}
 use Rattle.scanned_step.proofs.effect.apply.Goals as goal
 
 pub loop-t-preserved : goal.loop-t-preserved
-loop-t-preserved c = map_front_next _ c.args.tasks.now c.loop-t.tasks c.loop-t.t-index
+loop-t-preserved c = map_front_item _ c.args.tasks.now c.loop-t.tasks c.loop-t.t-index
     c.t-item.result _ c.loop-t.invariant (omega arith)
     c.t-item.is (cc)
 

@@ -1,6 +1,6 @@
 use Rattle.std.proofs.Common.{◌≡◌}
 use Rattle.dover_model.specs.Step.{with_role, role_after}
-use Rattle.scanned_step.proofs.InPlace.{map_front}
+use Rattle.dover_model.proofs.InPlace.{map_front}
 use Rattle.scanned_step.proofs.effect.apply.Given as goal
 
 abbrev pub invariant-loop-t : goal.invariant-loop-t

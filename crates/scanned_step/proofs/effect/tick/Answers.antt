@@ -1,11 +1,11 @@
 use Rattle.std.proofs.Common.{◌≡◌, ◌+◌, ◌<◌, length, get_or, ap, ◌∙◌, subst, arith}
 use Rattle.dover_model.specs.declared.events.Task.{Task}
 use Rattle.dover_model.specs.Jumps.{ticked_by}
-use Rattle.scanned_step.proofs.InPlace.{map_front, map_front_next, map_front_all, next_member}
+use Rattle.dover_model.proofs.InPlace.{map_front, map_front_item, map_front_all, next_member}
 use Rattle.scanned_step.proofs.effect.tick.Goals as goal
 
 pub loop-t-preserved : goal.loop-t-preserved
-loop-t-preserved c = map_front_next _ c.args.tasks.now c.loop-t.tasks c.loop-t.t-index
+loop-t-preserved c = map_front_item _ c.args.tasks.now c.loop-t.tasks c.loop-t.t-index
     c.t-item.result _ c.loop-t.invariant (omega arith)
     c.t-item.is (cc)
 

@@ -1,6 +1,6 @@
 use Rattle.std.proofs.Common.{◌≡◌}
 use Rattle.dover_model.specs.Jumps.{ticked_by}
-use Rattle.scanned_step.proofs.InPlace.{map_front}
+use Rattle.dover_model.proofs.InPlace.{map_front}
 use Rattle.scanned_step.proofs.effect.tick.Given as goal
 
 abbrev pub invariant-loop-t : goal.invariant-loop-t

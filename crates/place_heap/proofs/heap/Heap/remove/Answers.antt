@@ -1,9 +1,9 @@
 use Rattle.std.proofs.Common.{◌≡◌, ◌≢◌, ◌∙◌, None, set, get_or, ap, sym, subst, arith}
 use Rattle.std.specs.Prelude.{vec_capacity}
+use Rattle.std.proofs.lemmas.List.{take_at}
 use Rattle.place_heap.specs.Items.{ItemFacts}
 use Rattle.place_heap.specs.Table.{position, nowhere, table_of}
 use Rattle.place_heap.specs.Kept.{IsKept}
-use Rattle.place_heap.proofs.Covered.{covered}
 use Rattle.place_heap.proofs.Keeping.{kept_taken, taken_table, none_to_take}
 use Rattle.place_heap.proofs.heap.Heap.remove.Goals as goal
 
@@ -20,7 +20,7 @@ invariant_of-self g c =
     let table : (d : ItemFacts)
     → table_of new qs ≡ set (table_of es ps) (get_or es at d).place None = λ d. c.take_at.ensures.table d
     ∙ ap (λ l. set (table_of es l) (get_or es at d).place None) c.deref_mut.ensures.value in
-    let whole = covered c.self.inside.positions.len qs _ (c.take_at.auto.positions ∙ c.deref_mut.ensures.len) in
+    let whole = take_at qs _ c.self.inside.positions.len (c.take_at.auto.positions ∙ c.deref_mut.ensures.len) in
     subst (λ l. IsKept new l (vec_capacity c.take_at.new.items)) (sym whole)
     (kept_taken es new ps qs _ _ c.args.place at c.self.invariant is some c.take_at.ensures.fewer
     c.take_at.ensures.capacity
@@ -40,7 +40,7 @@ returns-then-at-clause-out g c =
     let table : (d : ItemFacts)
     → table_of new qs ≡ set (table_of es ps) (get_or es at d).place None = λ d. c.take_at.ensures.table d
     ∙ ap (λ l. set (table_of es l) (get_or es at d).place None) c.deref_mut.ensures.value in
-    let whole = covered c.self.inside.positions.len qs _ (c.take_at.auto.positions ∙ c.deref_mut.ensures.len) in
+    let whole = take_at qs _ c.self.inside.positions.len (c.take_at.auto.positions ∙ c.deref_mut.ensures.len) in
     ap (table_of new) whole ∙ taken_table es new ps qs c.args.place at c.self.invariant.indexed is some table
     ∙ ap (λ t. set t c.args.place None) c.self.view_is
 
