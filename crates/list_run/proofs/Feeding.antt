@@ -8,7 +8,7 @@ use Rattle.dover_model.specs.declared.events.Version.{Version}
 use Rattle.dover_model.specs.Fraction.{Fraction}
 use Rattle.dover_model.specs.JobFacts.{JobFacts, IsJob}
 use Rattle.dover_model.specs.Limits.{last_tick, most_jobs}
-use Rattle.dover_model.specs.Instance.{Instance, IsValid, with_jobs}
+use Rattle.dover_model.specs.Instance.{Instance, IsValid, with_jobs, jobs_under}
 use Rattle.dover_model.specs.State.{opening}
 use Rattle.dover_model.proofs.Kept.{opening_keeps}
 use Rattle.dover_model.proofs.Valid.{valid_front}
@@ -19,7 +19,7 @@ use Rattle.dover_server.proofs.Feeding.{rest_follow}
 use Rattle.dispatcher.specs.Dispatch.{no_jobs, Gives}
 use Rattle.queued_jobs.specs.Spending.{CostsAtMost}
 use Rattle.queued_jobs.proofs.Spending.{few_more}
-use Rattle.list_run.specs.Running.{jobs_under, HasShown}
+use Rattle.list_run.specs.Running.{HasShown}
 
 -- these jobs may be fed behind those of J, where the horizon is this one
 pub record CanFeed (J : Instance) (to : Horizon) (jobs : List JobFacts) : Type 0 where
@@ -37,7 +37,7 @@ follow_first (j ∷ jobs) each =
 
 -- all jobs of a valid list may be fed
 pub can_first : (k : Fraction) (version : Version) (jobs : List JobFacts)
-    → IsValid (record { rules = record { ratio = k; version = version }; jobs = jobs })
+    → IsValid (jobs_under version k jobs)
     → CanFeed (no_jobs version k) (Mark 0) jobs
 can_first k version jobs valid = record { valid = valid; follow = follow_first jobs valid.each; ends = tt }
 

@@ -1,2 +1,2 @@
-mod Feeding
+pub mod Feeding
 mod Showing

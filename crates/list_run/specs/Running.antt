@@ -7,10 +7,6 @@ use Rattle.dover_model.specs.Instance.{Instance}
 use Rattle.dover_model.specs.JobFacts.{JobFacts}
 use Rattle.dover_server.specs.declared.horizon.Horizon.{Horizon}
 
--- these jobs, with the rules that they are run by
-abbrev pub jobs_under : Version → Fraction → List JobFacts → Instance
-jobs_under version k jobs = record { rules = record { ratio = k; version = version }; jobs = jobs }
-
 -- The server has taken the run of these jobs towards the horizon, and the watcher has seen what it printed.
 pub record HasShown {D W : Type 0} (serves : D → Instance → Horizon → List Event → Type 0)
     (seen : W → List Event → Type 0) (server : D) (watcher : W) (J : Instance) (to : Horizon) : Type 0 where

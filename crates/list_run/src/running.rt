@@ -1,14 +1,14 @@
 //! A dispatcher over a list.
 ghost use Rattle.std.specs.Prelude.{◌≡◌, ℕ, List, [], ◌∷◌, length, OnOk, OnErr};
 ghost use Rattle.dover_model.specs.declared.events.Event.{Event};
-ghost use Rattle.dover_model.specs.Instance.{Instance, IsValid, with_jobs};
+ghost use Rattle.dover_model.specs.Instance.{Instance, IsValid, with_jobs, jobs_under};
 ghost use Rattle.dover_model.specs.Run.{printed};
 ghost use Rattle.dover_server.specs.declared.horizon.Horizon.{Horizon};
 ghost use Rattle.dover_server.specs.declared.horizon.Horizon.TheVariants.{Mark};
 ghost use Rattle.dover_server.specs.Service.{MayFollow};
 ghost use Rattle.dispatcher.specs.Dispatch.{due_by};
 ghost use Rattle.queued_jobs.specs.Spending.{CostsAtMost};
-ghost use Rattle.list_run.specs.Running.{jobs_under, HasShown};
+ghost use Rattle.list_run.specs.Running.{HasShown};
 
 use crate::source::JobSource;
 use crate::watcher::Watcher;

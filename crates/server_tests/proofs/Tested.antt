@@ -8,8 +8,10 @@ use Rattle.dover_model.specs.Fraction.{Fraction, IsRatio}
 use Rattle.dover_model.specs.JobFacts.{JobFacts, IsJob, is_job}
 use Rattle.dover_model.specs.Limits.{most_value}
 use Rattle.dover_model.specs.Instance.{IsInOrder, IsWithinRatio, IsValid, is_within_ratio, is_in_order, total_value}
+use Rattle.dover_model.specs.Instance.{jobs_under}
 use Rattle.dover_model.proofs.Agreement.{is_job-agrees, is_within_ratio-agrees, is_in_order-agrees}
 use Rattle.dover_model.proofs.Tests.{each}
+use Rattle.dover_model.proofs.Members.{all_copies}
 
 -- jobs sum up to at most the greatest value each
 total_small : (jobs : List JobFacts) → AllByRecursion IsJob jobs → total_value jobs ≤ most_value * length jobs
@@ -21,7 +23,7 @@ total_small (j ∷ jobs) all = let modest : j.value ≤ most_value = all.0.modes
 pub tested_valid : (k : Fraction) (version : Version) (jobs : List JobFacts) → IsRatio k → length jobs ≤ 100
     → list_all is_job jobs ≡ true
     → is_in_order jobs ≡ true → list_all (λ i. list_all (is_within_ratio k i) jobs) jobs ≡ true
-    → IsValid (record { rules = record { ratio = k; version = version }; jobs = jobs })
+    → IsValid (jobs_under version k jobs)
 tested_valid k version jobs ratio short are_jobs in_order dense = record {
   ratio = ratio;
   each = all;
@@ -34,15 +36,10 @@ tested_valid k version jobs ratio short are_jobs in_order dense = record {
   all : AllByRecursion IsJob jobs
   all = (each is_job IsJob is_job-agrees jobs).0 are_jobs
 
--- what holds of a job holds of each of so many
-all_equal : (P : JobFacts → Type 0) (j : JobFacts) (n : ℕ) → P j → AllByRecursion P (replicate n j)
-all_equal P j zero here = tt
-all_equal P j (suc n) here = (here, all_equal P j n here)
-
 -- equal jobs are in order
 equal_in_order : (j : JobFacts) (n : ℕ) → IsInOrder (replicate n j)
 equal_in_order j zero = tt
-equal_in_order j (suc n) = (all_equal (λ later. j.release ≤ later.release) j n (omega arith), equal_in_order j n)
+equal_in_order j (suc n) = (all_copies (λ later. j.release ≤ later.release) n j (omega arith), equal_in_order j n)
 
 -- so many equal jobs
 equal_length : (j : JobFacts) (n : ℕ) → length (replicate n j) ≡ n
@@ -59,13 +56,13 @@ equal_total j (suc n) modest =
 pub equal_valid : (k : Fraction) (version : Version) (j : JobFacts) (n : ℕ) → IsRatio k → n ≤ 1_000_000
     → j.value ≤ 10_000_000 → is_job j ≡ true
     → is_within_ratio k j j ≡ true
-    → IsValid (record { rules = record { ratio = k; version = version }; jobs = replicate n j })
+    → IsValid (jobs_under version k (replicate n j))
 equal_valid k version j n ratio few modest job dense = record {
   ratio = ratio;
-  each = all_equal IsJob j n ((is_job-agrees j).0 job);
+  each = all_copies IsJob n j ((is_job-agrees j).0 job);
   in_order = equal_in_order j n;
   count = omega (arith, equal_length j n);
   total = omega (arith, equal_total j n modest);
-  densities = all_equal (λ i. AllByRecursion (IsWithinRatio k i) (replicate n j)) j n
-      (all_equal (IsWithinRatio k j) j n ((is_within_ratio-agrees k j j).0 dense));
+  densities = all_copies (λ i. AllByRecursion (IsWithinRatio k i) (replicate n j)) n j
+      (all_copies (IsWithinRatio k j) n j ((is_within_ratio-agrees k j j).0 dense));
 }

@@ -2,7 +2,7 @@
 ghost use Rattle.std.specs.Prelude.{◌≡◌, ◌≤◌, ◌<◌, ◌∷◌, [], nat_le, replicate, None, OnOk};
 ghost use Rattle.std.specs.List.{list_all};
 ghost use Rattle.dover_model.specs.JobFacts.{is_job};
-ghost use Rattle.dover_model.specs.Instance.{IsValid, with_jobs, is_within_ratio, is_in_order};
+ghost use Rattle.dover_model.specs.Instance.{IsValid, with_jobs, is_within_ratio, is_in_order, jobs_under};
 ghost use Rattle.dover_model.specs.declared.events.Version.{Version};
 ghost use Rattle.dover_model.specs.declared.events.Version.TheVariants.{One};
 ghost use Rattle.dover_server.specs.declared.horizon.Horizon.TheVariants.{Mark, End};
@@ -424,7 +424,7 @@ fn serve_equal<L: Ledger>(
     count: u32,
     blank: Blank,
 ) -> Result<Seen, Memory>
-    requires valid { IsValid (record { rules = record { ratio = k; version = One }; jobs = replicate count job }) }
+    requires valid { IsValid (jobs_under One k (replicate count job)) }
     requires name { blank.name ≡ L.name }
     requires parts { blank.parts ≡ L.parts }
     requires some { 0 < blank.parts }

@@ -1,7 +1,7 @@
 //! Both servers side by side: each prints the same of the worked lists, whatever it keeps of them.
 ghost use Rattle.std.specs.Prelude.{◌≡◌, ◌<◌, List, [], true, IfOk};
 ghost use Rattle.dover_model.specs.declared.events.Event.{Event};
-ghost use Rattle.dover_model.specs.Instance.{Instance, IsValid};
+ghost use Rattle.dover_model.specs.Instance.{Instance, IsValid, jobs_under};
 ghost use Rattle.dispatcher.specs.Dispatch.{no_jobs};
 ghost use Rattle.dover_server.specs.declared.horizon.Horizon.{Horizon};
 ghost use Rattle.dover_server.specs.declared.horizon.Horizon.TheVariants.{Mark};
@@ -54,7 +54,7 @@ fn feed<D: Dispatcher, L: Ledger>(
     steps: &mut Steps<L>,
     text: &mut String,
 ) -> Result<(), Memory>
-    requires valid { IsValid (record { rules = record { ratio = k; version = version }; jobs = jobs.now }) }
+    requires valid { IsValid (jobs_under version k jobs.now) }
     requires serves { D.serves server.old (no_jobs version k) (Mark 0) [] }
 {
     D::laws();
@@ -67,7 +67,7 @@ fn feed<D: Dispatcher, L: Ledger>(
             put_line(text, &e)?;
         }
     }
-    let _ = settle(server, Horizon::End, steps, text)?;
+    settle(server, Horizon::End, steps, text)?;
     Ok(())
 }
 
@@ -80,7 +80,7 @@ fn printed<D: Dispatcher, L: Ledger>(
     jobs: &[Job],
     blank: Blank,
 ) -> Result<String, Memory>
-    requires valid { IsValid (record { rules = record { ratio = k; version = version }; jobs = jobs.now }) }
+    requires valid { IsValid (jobs_under version k jobs.now) }
     requires name { blank.name ≡ L.name }
     requires parts { blank.parts ≡ L.parts }
     requires some { 0 < blank.parts }

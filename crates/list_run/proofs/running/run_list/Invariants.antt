@@ -1,5 +1,5 @@
 use Rattle.std.proofs.Common.{length}
-use Rattle.list_run.specs.Running.{jobs_under}
+use Rattle.dover_model.specs.Instance.{jobs_under}
 use Rattle.list_run.proofs.Feeding.{IsUnderWay}
 use Rattle.list_run.proofs.running.run_list.Given as goal
 

@@ -2,7 +2,8 @@ use Rattle.std.proofs.Common.{◌+◌, ◌∷◌, [], drop, subst, arith}
 use Rattle.dover_model.specs.Instance.{with_jobs}
 use Rattle.dover_server.specs.declared.horizon.Horizon.TheVariants.{Mark}
 use Rattle.dispatcher.specs.Dispatch.{due_by}
-use Rattle.server_tests.proofs.Feeding.{CanFeed, from_here, can_admit, can_further, serves_on}
+use Rattle.list_run.proofs.Feeding.{CanFeed, can_admit, can_further, serves_on}
+use Rattle.server_tests.proofs.Feeding.{from_here}
 use Rattle.server_tests.proofs.side_by_side.feed.Goals as goal
 
 pub admit-requires-clause-valid : goal.admit-requires-clause-valid

@@ -3,7 +3,7 @@ use Rattle.std.proofs.Common.{drop}
 use Rattle.dover_model.specs.declared.events.Event.{Event}
 use Rattle.dover_model.specs.Instance.{Instance}
 use Rattle.dover_server.specs.declared.horizon.Horizon.{Horizon}
-use Rattle.server_tests.proofs.Feeding.{CanFeed}
+use Rattle.list_run.proofs.Feeding.{CanFeed}
 use Rattle.server_tests.proofs.side_by_side.feed.Given as goal
 
 abbrev pub invariant-loop-job : goal.invariant-loop-job

@@ -1,5 +1,5 @@
 use Rattle.std.proofs.Common.{◌++◌, ◌∷◌, []}
-use Rattle.server_tests.proofs.Feeding.{may_stay}
+use Rattle.dispatcher.proofs.Dues.{follows_on}
 use Rattle.server_tests.proofs.side_by_side.settle.Goals as goal
 
 pub loop-init : goal.loop-init
@@ -18,7 +18,7 @@ loop-preserved g c = record {
         c.args.to,
         now.1 ++ c.in-Some.e ∷ [],
         c.in-Some.ensures.gives J now.0 now.1 now.2 now.3,
-        may_stay now.0 c.args.to now.3,
+        follows_on now.0 c.args.to now.3,
       );
   room = λ has. c.in-Some.ensures.room (c.loop.invariant.room has);
 }
