@@ -15,11 +15,6 @@ use Rattle.dover_server.specs.Service.{MayFollow}
 use Rattle.dover_server.specs.Leading.{GivesNext}
 use Rattle.dover_server.proofs.Passing.{leads_closed, closed_append}
 
--- the end may follow any horizon
-pub end_follows : (last : Horizon) → MayFollow last End
-end_follows (Mark t) = tt
-end_follows End = tt
-
 -- no steps
 abbrev no_steps : List Step
 no_steps = []

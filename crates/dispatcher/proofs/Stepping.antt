@@ -208,24 +208,3 @@ job_serves v w J job spare it valid is =
 -- a mark at which it rests may follow itself
 pub rests_follow : (v : Service) (J : Instance) (t : ℕ) → Rests v J (Mark t) → MayFollow (Mark t) (Mark t)
 rests_follow v J t it = (omega arith, (subst (λ h. IsUpTo h v.state.clock) it.0.last it.0.stands.clock).1)
-
--- ---- room
-
--- room that is made changes nothing
-pub room_serves : (v u : Service) (J : Instance) (to : Horizon) (events : List Event) (spare : ℕ)
-    → u ≡ record v { spare = spare } → Serves v J to events → Serves u J to events
-room_serves v u J to events spare is it = subst (λ x. Serves x J to events) (sym is) (record {
-  stands = record {
-    valid = it.stands.valid;
-    sound = it.stands.sound;
-    clock = it.stands.clock;
-    reached = it.stands.reached;
-    ended = it.stands.ended;
-  };
-  jobs = it.jobs;
-  last = it.last;
-  come = come to it.come;
-}) where
-  come : (to : Horizon) → HasCome J to v events → HasCome J to (record v { spare = spare }) events
-  come (Mark t) c = c
-  come End c = c
