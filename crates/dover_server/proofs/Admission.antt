@@ -10,6 +10,9 @@ use Rattle.dover_model.specs.Instance.{IsValid, with_jobs}
 use Rattle.dover_model.specs.State.{State, with_later, is_privileged, is_ready_behind, privileged, left, demand_up_to}
 use Rattle.dover_model.specs.Sound.{IsMember, Each, EachTwo, IsNumberedFrom, FitsRole, NoneRuns, IsSound, jobs_of}
 use Rattle.dover_model.proofs.Tests.{never}
+use Rattle.dover_model.proofs.Members.{each_behind}
+use Rattle.dover_model.proofs.Honest.{numbers_low}
+use Rattle.queued_jobs.proofs.Growing.{numbered_push, filter_push}
 use Rattle.dover_server.specs.Service.{Service, Stands, IsReadyFor, list_of, admitted_task, with_job}
 
 module _ {X : Type 0} where
@@ -22,13 +25,6 @@ module _ {X : Type 0} where
     by_rest : IsMember x xs ⊎ (x ≡ y) → IsMember x (z ∷ xs) ⊎ (x ≡ y)
     by_rest (inl m) = inl (inr m)
     by_rest (inr e) = inr e
-
-  -- what holds of each and of one more
-  each_more : (P : X → Type 0) (xs : List X) (y : X) → Each P xs → P y → Each P (xs ++ (y ∷ []))
-  each_more P xs y all here x member = by_in (in_more xs y x member) where
-    by_in : IsMember x xs ⊎ (x ≡ y) → P x
-    by_in (inl m) = all x m
-    by_in (inr e) = subst P (sym e) here
 
   -- what holds of each two, and of one more with each, either way, and with itself
   two_more : (R : X → X → Type 0) (xs : List X) (y : X) → EachTwo R xs → Each (λ x. R x y) xs → Each (λ x. R y x) xs
@@ -47,25 +43,6 @@ module _ {X : Type 0} where
   in_front (z ∷ xs) y x (inl e) = inl e
   in_front (z ∷ xs) y x (inr member) = inr (in_front xs y x member)
 
--- one that fails a test isn't in the filter
-filter_more : {X : Type 0} (p : X → Bool) (xs : List X) (y : X) → p y ≡ false → filter p (xs ++ (y ∷ [])) ≡ filter p xs
-filter_more p [] y out = ap (λ b. cond b (y ∷ []) []) out
-filter_more p (x ∷ xs) y out = ap (λ ys. cond (p x) (x ∷ ys) ys) (filter_more p xs y out)
-
--- numbered in a row, with one more
-numbered_more : (n : ℕ) (tasks : List Task) (t : Task) → IsNumberedFrom n tasks → t.number ≡ n + length tasks
-    → IsNumberedFrom n (tasks ++ (t ∷ []))
-numbered_more n [] t numbered next = (omega arith, tt)
-numbered_more n (u ∷ tasks) t numbered next = (numbered.0, numbered_more (suc n) tasks t numbered.1 (omega arith))
-
--- each number is below the next
-numbers_below : (n : ℕ) (tasks : List Task) → IsNumberedFrom n tasks → Each (λ t. t.number < n + length tasks) tasks
-numbers_below n [] numbered t member = absurd member
-numbers_below n (u ∷ tasks) numbered t (inl e) = let here : t.number ≡ n = ap (λ (x : Task). x.number) e ∙ numbered.0 in
-    omega arith
-numbers_below n (u ∷ tasks) numbered t (inr member) = let low : t.number < suc n + length tasks =
-    numbers_below (suc n) tasks numbered.1 t member in omega arith
-
 module _ (s : State) (sound : IsSound s) (job : JobFacts) (ahead : s.clock ≤ job.release) where
   abbrev new : Task
   new = admitted_task (length s.tasks) job
@@ -73,13 +50,13 @@ module _ (s : State) (sound : IsSound s) (job : JobFacts) (ahead : s.clock ≤ j
   -- with a job to come a sound state stays sound
   pub admitted_sound : IsSound (with_later s (new ∷ []))
   admitted_sound = record {
-    numbered = numbered_more 0 s.tasks new sound.numbered (omega arith);
-    at_most_work = each_more (λ t. t.had ≤ t.job.work) s.tasks new sound.at_most_work (omega arith);
-    roles = each_more (λ t. FitsRole s.clock t.role t) s.tasks new sound.roles (refl, ahead);
+    numbered = numbered_push 0 s.tasks new sound.numbered (omega arith);
+    at_most_work = each_behind (λ t. t.had ≤ t.job.work) s.tasks new sound.at_most_work (omega arith);
+    roles = each_behind (λ t. FitsRole s.clock t.role t) s.tasks new sound.roles (refl, ahead);
     coming_last = two_more (λ t u. t.role ≡ Coming → t.number ≤ u.number → u.role ≡ Coming) s.tasks new
         sound.coming_last
         (λ t m _ _. refl) (λ t m _ high. absurd (let low : t.number < 0 + length s.tasks =
-        numbers_below 0 s.tasks sound.numbered t m in omega arith)) (λ _ _. refl);
+        numbers_low 0 s.tasks sound.numbered t m in omega arith)) (λ _ _. refl);
     one_runs = two_more (λ t u. t.role ≡ Running → u.role ≡ Running → t.number ≡ u.number) s.tasks new sound.one_runs
         (λ t m _ e. absurd (cc)) (λ t m e _. absurd (cc)) (λ _ _. refl);
     one_fresh = two_more (λ t u. t.role ≡ Fresh → u.role ≡ Fresh → t.number ≡ u.number) s.tasks new sound.one_fresh
@@ -92,8 +69,8 @@ module _ (s : State) (sound : IsSound s) (job : JobFacts) (ahead : s.clock ≤ j
         (λ t m _ e. absurd (cc)) (λ t m e _. absurd (cc)) (λ e _. absurd (cc));
     room = subst (λ set. Each (λ t. is_privileged t ≡ true → s.clock + demand_up_to set t ≤ t.job.deadline)
         (s.tasks ++ (new ∷ [])))
-        (sym (filter_more is_privileged s.tasks new refl))
-        (each_more (λ t. is_privileged t ≡ true → s.clock + demand_up_to (privileged s) t ≤ t.job.deadline) s.tasks new
+        (sym (filter_push is_privileged s.tasks new refl))
+        (each_behind (λ t. is_privileged t ≡ true → s.clock + demand_up_to (privileged s) t ≤ t.job.deadline) s.tasks new
         sound.room (λ e. never e));
     fresh_busy = two_more (λ t u. t.role ≡ Fresh → u.role ≡ Running → 1 ≤ left u) s.tasks new sound.fresh_busy
         (λ t m _ e. absurd (cc)) (λ t m e _. absurd (cc)) (λ e _. absurd (cc));

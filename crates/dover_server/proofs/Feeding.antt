@@ -5,20 +5,10 @@ use Rattle.dover_model.specs.JobFacts.{JobFacts, IsJob}
 use Rattle.dover_model.specs.Limits.{last_tick}
 use Rattle.dover_model.specs.Instance.{IsInOrder, IsValid, with_jobs}
 use Rattle.dover_model.specs.Sound.{jobs_of}
-use Rattle.dover_model.proofs.Valid.{valid_front}
+use Rattle.dover_model.proofs.Valid.{valid_front, all_back, order_back}
 use Rattle.dover_server.specs.declared.horizon.Horizon.TheVariants.{Mark}
 use Rattle.dover_server.specs.Service.{Service, list_of, admitted_task, with_job, MayFollow}
 use Rattle.dover_server.proofs.Admission.{jobs_more}
-
--- what holds of all holds of the last
-all_back : {X : Type 0} (P : X → Type 0) (xs ys : List X) → AllByRecursion P (xs ++ ys) → AllByRecursion P ys
-all_back P [] ys all = all
-all_back P (x ∷ xs) ys all = all_back P xs ys all.1
-
--- the last jobs are in order
-order_back : (xs ys : List JobFacts) → IsInOrder (xs ++ ys) → IsInOrder ys
-order_back [] ys order = order
-order_back (x ∷ xs) ys order = order_back xs ys order.1
 
 -- jobs released at this tick or later may follow it
 may_follow : (t : ℕ) (jobs : List JobFacts) → AllByRecursion (λ j. t ≤ j.release) jobs → AllByRecursion IsJob jobs

@@ -10,6 +10,7 @@ use Rattle.dover_model.specs.Instance.{Rules, Instance}
 use Rattle.dover_model.specs.Feed.{Account, Open, Faulty, rules_with, account_of_lines}
 use Rattle.dover_model.specs.Session.{Session, Item, JobItem, RefusedItem, RefusedJob, refused_at, admitted_jobs}
 use Rattle.dover_model.specs.Session.{instance_of, with_item, new_session}
+use Rattle.dover_model.proofs.Growing.{instance_with as under_rules}
 use Rattle.event_feed.specs.Answers.{AddsJob, AddsRefused, DeclaresRatio, NewFault, OldFault, counted, admitted_in}
 use Rattle.event_feed.specs.Faults.{IsFirstFault}
 use Rattle.event_feed.specs.Kept.{cause_of_fault}
@@ -29,10 +30,6 @@ pub refused_more : (items : List Item) (r : RefusedJob)
 refused_more [] r = refl
 refused_more (JobItem i ∷ items) r = ap (λ js. i ∷ js) (refused_more items r)
 refused_more (RefusedItem s ∷ items) r = refused_more items r
-
--- these jobs under these rules
-abbrev jobs_under : Rules → List JobFacts → Instance
-jobs_under rules jobs = record { rules = rules; jobs = jobs }
 
 -- instances of the same jobs
 same_instance : (d : Fraction × Version) (xs ys : List JobFacts) → xs ≡ ys → instance_with d xs ≡ instance_with d ys
@@ -81,7 +78,7 @@ module _ (a b : Account) (stands : a.standing ≡ Open) where
             with_item adds.session (JobItem job),
             job_session,
             same_instance declared _ _ more
-                ∙ ap (λ r. jobs_under r (admitted_jobs (adds.session.items ++ JobItem job ∷ []))) rules,
+                ∙ ap (λ r. under_rules r (admitted_jobs (adds.session.items ++ JobItem job ∷ []))) rules,
           ),
         )
 
@@ -108,15 +105,10 @@ module _ (a b : Account) (stands : a.standing ≡ Open) where
         (
           with_item adds.session (refused_at a.mark job cause),
           ap (λ (x : Account). x.session) adds.after_is,
-          is ∙ ap (λ js. jobs_under adds.session.rules js)
+          is ∙ ap (λ js. under_rules adds.session.rules js)
               (sym (refused_more adds.session.items (record { at = a.mark; job = job; refusal = cause }))),
         ),
       )
-
--- a test that holds where it shouldn't
-pub not_then : (b : Bool) → (b ≡ true → ⊥) → b ≡ false
-not_then true never = absurd (never refl)
-not_then false never = refl
 
 -- a faulty line behind lines that go on is the first
 pub first_fault : (ls : List (List ℕ)) (line : List ℕ) (fault : FeedFault) → (account_of_lines ls).standing ≡ Open

@@ -22,7 +22,7 @@ use Rattle.dover_model.specs.Trace.{Printed, text_of_line, texts_among}
 use Rattle.dover_model.specs.Feed.{read_line, Account, Standing, Open, Ended, Faulty, Cause, rules_with, no_lines}
 use Rattle.dover_model.specs.Feed.{next_line, account_of_lines, is_open}
 use Rattle.dover_model.specs.Due.{due_lines, fault_text}
-use Rattle.dover_model.proofs.Accounts.{Holds, HoldsBy, IsKept, lines_goes}
+use Rattle.dover_model.proofs.Accounts.{Holds, HoldsBy, IsKept, lines_goes, account_with}
 use Rattle.dover_model.proofs.Admitting.{admits, not_refused}
 use Rattle.dover_model.proofs.Beginnings.{begins_onward}
 use Rattle.dover_model.proofs.Emitting.{texts_more, texts_job, texts_refused}
@@ -92,10 +92,6 @@ added_is ls l rest due =
     sym (ap (drop (length (due_lines (account_of_lines ls)))) due ∙ drop_front (due_lines (account_of_lines ls)) rest)
 
 -- ---- what is due for an account
-
--- an account
-abbrev account_with : ℕ → Option Session → ℕ → Standing → Account
-account_with lines session mark standing = record { lines = lines; session = session; mark = mark; standing = standing }
 
 -- the account of its parts
 parts : (a : Account) (session : Option Session) (standing : Standing) → a.session ≡ session → a.standing ≡ standing

@@ -4,13 +4,13 @@ use Rattle.std.proofs.Common.{Bool, true, false, ◌&&◌}
 use Rattle.std.proofs.Common.{arith, Some, get_or}
 use Rattle.std.specs.List.{slice_get, list_all, range_with_len}
 use Rattle.std.proofs.lemmas.Option.{slice_get_read}
+use Rattle.std.proofs.lemmas.Bool.{cases_eq}
 use Rattle.lane_server.specs.Lanes.{lane_count, Handed, input_of_lines, lane_lines, is_fine, all_ended}
 use Rattle.lane_server.specs.Lane.{Serving, Having, Stands}
 use Rattle.lane_server.specs.Kept.{Kept, AllStand, Leaves, StandsFor}
 use Rattle.lane_server.specs.declared.lane.Lane.{Lane}
 use Rattle.lane_server.specs.declared.lanes.Phase.{Phase}
 use Rattle.lane_server.specs.declared.lanes.Phase.TheVariants.{Ready, Giving, Closing}
-use Rattle.lane_server.proofs.Handing.{same_or_not}
 
 module _ {D : Type 0} {serves : Serving D} {having : Having D} where
   -- whatever is under way, each lane was handed its lines
@@ -20,7 +20,7 @@ module _ {D : Type 0} {serves : Serving D} {having : Having D} where
     by_phase : (p : Phase) → Leaves serves having p kept.lanes (input_of_lines ls) rest
         → AllStand serves having kept.lanes (input_of_lines ls).handed
     by_phase Ready left = λ i lane there. ([], (left.2 i lane there).stands)
-    by_phase (Giving giving) left = λ i lane there. by_lane i lane there (same_or_not i giving) where
+    by_phase (Giving giving) left = λ i lane there. by_lane i lane there (cases_eq i giving) where
       by_lane : (i : ℕ) (lane : Lane D) → slice_get kept.lanes i ≡ Some lane → (i ≡ giving) ⊎ (i ≡ giving → ⊥)
           → (more : List (List ℕ)) × Stands serves having lane (lane_lines (input_of_lines ls).handed i) more
       by_lane i lane there (inl same) = (

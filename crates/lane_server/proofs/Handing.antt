@@ -162,10 +162,3 @@ pub shorts_first : (handed : List Handed) (i line : ℕ) → i < lane_count
     (lane_count - (i + 1))
 shorts_first handed i line low one =
     shorts_next handed i low ∙ ap (λ ls. map (in_lane i) ls ++ shorts_from handed (i + 1) (lane_count - (i + 1))) one
-
--- two numbers are the same or not
-pub same_or_not : (i j : ℕ) → (i ≡ j) ⊎ (i ≡ j → ⊥)
-same_or_not i j = by_test (i == j) refl where
-  by_test : (b : Bool) → (i == j) ≡ b → (i ≡ j) ⊎ (i ≡ j → ⊥)
-  by_test true e = inl (eqb-true i j e)
-  by_test false e = inr (eqb-false i j e)

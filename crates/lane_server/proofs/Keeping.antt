@@ -6,6 +6,7 @@ use Rattle.std.proofs.Math.ListN.{set}
 use Rattle.std.specs.List.{slice_get}
 use Rattle.std.proofs.lemmas.List.{get_or-set_other, get_or-set_same, length-set}
 use Rattle.std.proofs.lemmas.Option.{slice_get_within, get_or_from_slice_get, slice_get_read}
+use Rattle.std.proofs.lemmas.Bool.{cases_eq}
 use Rattle.dover_model.specs.Limits.{most_lines}
 use Rattle.event_feed.specs.declared.faults.Cause.TheVariants as cause
 use Rattle.lane_server.specs.Lanes.{lane_count, OfLane, Close, lane_line, Handed, Input, input_of_lines, lane_lines}
@@ -19,7 +20,7 @@ use Rattle.lane_server.specs.declared.out.LaneOut.TheVariants.{Refused}
 use Rattle.lane_server.specs.declared.lane.Lane.{Lane}
 use Rattle.lane_server.specs.declared.lanes.Phase.{Phase}
 use Rattle.lane_server.specs.declared.lanes.Phase.TheVariants.{Ready, Giving, Closing}
-use Rattle.lane_server.proofs.Handing.{input_fed, input_closed, lines_same, lines_other, shorts_over, same_or_not}
+use Rattle.lane_server.proofs.Handing.{input_fed, input_closed, lines_same, lines_other, shorts_over}
 
 -- ---- elements
 
@@ -252,7 +253,7 @@ module _ {D : Type 0} {serves : Serving D} {having : Having D} where
       where
         all : IsQuiet serves having u (lane_lines (input_of_lines ls).handed lane)
             → AllQuiet serves having (set kept.lanes at u) (input_of_lines ls).handed
-        all quiet = λ i x there. by_lane i x there (same_or_not i lane) where
+        all quiet = λ i x there. by_lane i x there (cases_eq i lane) where
           by_lane : (i : ℕ) (x : Lane D) → slice_get (set kept.lanes at u) i ≡ Some x → (i ≡ lane) ⊎ (i ≡ lane → ⊥)
               → IsQuiet serves having x (lane_lines (input_of_lines ls).handed i)
           by_lane i x there (inl e) = subst (λ j. IsQuiet serves having x (lane_lines (input_of_lines ls).handed j))

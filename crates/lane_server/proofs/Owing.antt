@@ -1,6 +1,6 @@
 -- What is left after a step of the server.
 use Rattle.std.proofs.Common.{◌≡◌, List, [], ◌∷◌, ◌++◌, ℕ, map, refl, sym, ap, ◌∙◌, subst, Some}
-use Rattle.std.proofs.lemmas.List.{append-nil, append_assoc}
+use Rattle.std.proofs.lemmas.List.{append-nil, append_assoc, append_cancel_left}
 use Rattle.dover_model.specs.declared.events.Event.{Event}
 use Rattle.dover_model.specs.JobFacts.{JobFacts}
 use Rattle.dover_model.specs.Instance.{Instance, IsValid, with_jobs}
@@ -20,17 +20,17 @@ use Rattle.lane_server.specs.Lane.{Serving, Having, Fits, Running, Admitting, Ow
 use Rattle.lane_server.specs.declared.lane.Lane.{Lane}
 use Rattle.lane_server.specs.declared.lane.Work.{Work}
 use Rattle.lane_server.specs.declared.lane.Work.TheVariants.{Nothing}
-use Rattle.lane_server.proofs.Printing.{same_behind, due_before, event_short}
+use Rattle.lane_server.proofs.Printing.{due_before, event_short}
 
 -- what is left begins with the event
 first_left : (events left all : List Event) (e : Event) → all ≡ events ++ left
     → (begins : Begins (events ++ e ∷ []) all) → left ≡ e ∷ begins.0
 first_left events left all e due begins =
-    same_behind events left (e ∷ begins.0) (sym due ∙ begins.1 ∙ append_assoc events (e ∷ []) begins.0)
+    append_cancel_left events left (e ∷ begins.0) (sym due ∙ begins.1 ∙ append_assoc events (e ∷ []) begins.0)
 
 -- nothing is left
 none_left : (events left all : List Event) → all ≡ events ++ left → events ≡ all → left ≡ []
-none_left events left all due same = same_behind events left [] (sym due ∙ sym same ∙ sym (append-nil events))
+none_left events left all due same = append_cancel_left events left [] (sym due ∙ sym same ∙ sym (append-nil events))
 
 -- the session with the job that comes
 abbrev joined : Session → JobFacts → Session

@@ -13,15 +13,11 @@ use Rattle.dover_model.proofs.Beginnings.{begins_onward}
 use Rattle.dover_model.proofs.Prefixes.{settled_prefix}
 use Rattle.dover_model.proofs.ShortNumbers.{printed_short}
 use Rattle.dover_model.specs.Text.{step_numbers}
+use Rattle.dover_model.proofs.Members.{all_at}
 use Rattle.dover_server.specs.declared.horizon.Horizon.{Horizon}
 use Rattle.dover_server.specs.declared.horizon.Horizon.TheVariants.{Mark}
 use Rattle.dispatcher.specs.Dispatch.{due_by}
 use Rattle.dispatcher.proofs.Dues.{due_begins}
-
--- what follows the same front is the same
-pub same_behind : {X : Type 0} (xs ys zs : List X) → xs ++ ys ≡ xs ++ zs → ys ≡ zs
-same_behind [] ys zs e = e
-same_behind (x ∷ xs) ys zs e = same_behind xs ys zs (let f : x ∷ (xs ++ ys) ≡ x ∷ (xs ++ zs) = e in cc)
 
 -- what is due at a job's release without the job begins what is due with it
 pub due_before : (J : Instance) (job : JobFacts) → IsValid (with_jobs J (job ∷ []))
@@ -31,17 +27,12 @@ due_before J job valid = settled_prefix J (job ∷ []) job.release valid is_last
   is_last i (inl e) = subst (λ (x : JobFacts). job.release ≤ x.release) (sym e) (omega arith)
   is_last i (inr m) = absurd m
 
--- what holds of all holds of each
-all_one : {X : Type 0} (P : X → Type 0) (xs : List X) (x : X) (ys : List X) → AllByRecursion P (xs ++ x ∷ ys) → P x
-all_one P [] x ys all = all.0
-all_one P (y ∷ xs) x ys all = all_one P xs x ys all.1
-
 -- the numbers of an event that is due are short
 pub event_short : (J : Instance) (to : Horizon) (events : List Event) (e : Event) → IsValid J
     → Begins (events ++ e ∷ []) (due_by J to) → AreShort (step_numbers e)
 event_short J to events e valid begins =
     let run : Begins (events ++ e ∷ []) (printed J) =
     begins_onward (events ++ e ∷ []) (due_by J to) (printed J) begins (due_begins J to valid) in
-    all_one (λ x. AreShort (step_numbers x)) events e run.0
+    all_at (λ x. AreShort (step_numbers x)) events e run.0
     (subst (AllByRecursion (λ x. AreShort (step_numbers x)))
     (run.1 ∙ append_assoc events (e ∷ []) run.0) (printed_short J valid))

@@ -200,11 +200,6 @@ module _ {D : Type 0} {serves : Serving D} {having : Having D} where
         names = subst (λ w. GivesFault w (ls ++ line ∷ [])) (sym it.quiet) tt;
       }
 
--- what holds at Ok leads on
-pub on_ok : {T E : Type 0} (r : Result T E) {P Q : Type 0} → (P → Q) → OnOk r P → OnOk r Q
-on_ok (Ok x) f p = f p
-on_ok (Err e) f p = tt
-
 -- the line that was answered so is the end
 pub over_fed : {E : Type 0} (fed : Fed) (r : Result Fed E) → r ≡ Ok fed → r ≡ Ok Over → fed ≡ Over
 over_fed fed r e f = cc

@@ -5,7 +5,7 @@ use Rattle.std.proofs.Common.{cond, ◌==◌, decimal, codes, length, append_ass
 use Rattle.std.proofs.Common.{nat_lt}
 use Rattle.std.specs.List.{AllByRecursion, flat_map, range_with_len, fold, filter}
 use Rattle.std.specs.Option.{option_and_then}
-use Rattle.std.proofs.lemmas.Bool.{ltb-true}
+use Rattle.std.proofs.lemmas.Bool.{ltb-true, cases_eq}
 use Rattle.std.proofs.lemmas.List.Sums.{fold-append}
 use Rattle.dover_model.specs.Limits.{most_lines}
 use Rattle.dover_model.specs.Numerals.{numeral}
@@ -27,7 +27,7 @@ use Rattle.lane_server.specs.Lanes.{in_lane, lines_added, newly_due, due_after, 
 use Rattle.lane_server.specs.Lanes.{fault_word, refused_line}
 use Rattle.lane_server.specs.Lanes.{closing_lines, lanes_closed}
 use Rattle.lane_server.proofs.Adding.{added_is}
-use Rattle.lane_server.proofs.Handing.{lines_same, lines_other, same_or_not}
+use Rattle.lane_server.proofs.Handing.{lines_same, lines_other}
 use Rattle.lanes_word.specs.Alone.{text_of_lane, lane_feed, closed_feed, served_alone}
 use Rattle.std.proofs.lemmas.Grind.{flat_map-append}
 use Rattle.dover_model.proofs.Beginnings.{in_lines-append}
@@ -216,7 +216,7 @@ module _ (lane : ℕ) (low : lane < lane_count) where
   picks_newly : (before : List Handed) (h : Handed) → h.lane < lane_count
       → due_lines (lane_account before lane) ++ picks lane (newly_due before h) ≡ due_lines
       (lane_account (before ++ h ∷ []) lane)
-  picks_newly before h low_h = by_lane (same_or_not lane h.lane) where
+  picks_newly before h low_h = by_lane (cases_eq lane h.lane) where
     by_lane : (lane ≡ h.lane) ⊎ (lane ≡ h.lane → ⊥)
         → due_lines (lane_account before lane) ++ picks lane (newly_due before h) ≡ due_lines
         (lane_account (before ++ h ∷ []) lane)

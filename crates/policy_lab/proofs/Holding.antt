@@ -4,7 +4,7 @@ use Rattle.std.proofs.Common.{get_or, map, refl, sym}
 use Rattle.std.proofs.Common.{ap, ◌∙◌, subst}
 use Rattle.std.proofs.Common.{Bool, true, false, cond, eqb, arith, add-one, append_assoc}
 use Rattle.std.specs.List.{filter}
-use Rattle.std.proofs.lemmas.List.{drop_more, drop_all, map-append}
+use Rattle.std.proofs.lemmas.List.{drop_more, drop_all, map-append, length_push, append-nil}
 use Rattle.std.proofs.lemmas.List.Elements.{filter-append}
 use Rattle.dover_model.specs.JobFacts.{JobFacts, IsJob}
 use Rattle.dover_model.specs.Instance.{IsInOrder}
@@ -77,7 +77,7 @@ pub ready_more : (t n : ℕ) (jobs : List JobFacts) (entries : List Entry) (task
     → HasReady t jobs (n + 1) (entries ++ (entry_to_come n j ∷ [])) tasks
 ready_more t n jobs entries tasks j has short is released now good = record {
   known = has.known ++ (coming_task n j ∷ []);
-  count = one_longer has.known (coming_task n j) ∙ ap (λ m. m + 1) has.count;
+  count = length_push has.known (coming_task n j) ∙ ap (λ m. m + 1) has.count;
   whole =
       has.whole ∙ ap (λ rest. has.known ++ to_come n rest) rest_is
       ∙ sym (append_assoc has.known (coming_task n j ∷ []) (to_come (suc n) (drop (n + 1) jobs)))
@@ -96,10 +96,6 @@ ready_more t n jobs entries tasks j has short is released now good = record {
   ready_now : is_ready t (coming_task n j) ≡ true
   ready_now = let work : 1 ≤ j.work = good.work in let window : j.release + j.work ≤ j.deadline = good.window in
       says_ready t (coming_task n j) released (omega arith) (omega arith)
-
-  one_longer : (tasks : List Task) (task : Task) → length (tasks ++ (task ∷ [])) ≡ length tasks + 1
-  one_longer [] task = omega arith
-  one_longer (x ∷ tasks) task = omega (arith, one_longer tasks task)
 
 -- of late jobs none is ready
 none_ready : (t n : ℕ) (jobs : List JobFacts) → Each (λ j. t < j.release) jobs
@@ -122,10 +118,7 @@ all_ready t n jobs entries tasks has late =
     has.ready ∙ ap (map entry_of)
     (sym (ap (filter (is_ready t)) has.whole ∙ filter-append (is_ready t) has.known (to_come n (drop n jobs))
     ∙ ap (λ rest. filter (is_ready t) has.known ++ rest) (none_ready t n (drop n jobs) late)
-    ∙ append_nil (filter (is_ready t) has.known))) where
-      append_nil : (xs : List Task) → xs ++ [] ≡ xs
-      append_nil [] = refl
-      append_nil (x ∷ xs) = ap (λ ys. x ∷ ys) (append_nil xs)
+    ∙ append-nil (filter (is_ready t) has.known)))
 
 -- a job that is to come stays as it is
 still_to_come : (t n m : ℕ) (jobs : List JobFacts) → Each (λ j. t < j.release) jobs → Fits m t (to_come n jobs)

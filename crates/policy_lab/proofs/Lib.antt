@@ -1,5 +1,4 @@
 pub mod Given
-pub mod Counts
 pub mod Entries
 pub mod Runs
 pub mod Taking

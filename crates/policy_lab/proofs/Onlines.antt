@@ -5,7 +5,7 @@ use Rattle.std.proofs.Common.{subst, Bool, true, false, cond}
 use Rattle.std.proofs.Common.{arith}
 use Rattle.std.specs.Prelude.{nat_le, None, unwrap_or}
 use Rattle.std.specs.List.{filter, fold}
-use Rattle.std.proofs.lemmas.List.{map-append}
+use Rattle.std.proofs.lemmas.List.{map-append, append-nil}
 use Rattle.std.proofs.lemmas.List.Elements.{filter-append}
 use Rattle.std.proofs.lemmas.Bool.{leb-true, leb-false}
 use Rattle.dover_model.specs.JobFacts.{JobFacts}
@@ -18,9 +18,10 @@ use Rattle.dover_model.specs.Run.{last_deadline}
 use Rattle.dover_model.specs.Pieces.{given}
 use Rattle.dover_model.specs.Online.{known_at}
 use Rattle.dover_model.specs.Sound.{IsMember, Each}
-use Rattle.dover_model.proofs.Members.{on_map}
+use Rattle.dover_model.proofs.Members.{on_map, member_front}
 use Rattle.dover_model.proofs.Prefixes.{come_append}
 use Rattle.dover_model.proofs.Valid.{Split, split_known}
+use Rattle.dover_model.proofs.Resting.{later_due, due_least}
 use Rattle.policy_lab.specs.Picks.{Picks}
 use Rattle.policy_lab.specs.PolicyRun.{is_ready, picked, policy_run_from, policy_run}
 use Rattle.policy_lab.proofs.Given.{ready_says, given_job}
@@ -72,10 +73,7 @@ module _ (picks : Picks) (idles : picks [] ≡ None) where
       (none_ready t later (λ task m ready.
       let released : task.job.release ≤ t = (ready_says t task ready).0 in let above : last < task.job.release =
       late task m in omega arith))
-      ∙ append_nil (filter (is_ready t) known)) where
-        append_nil : (xs : List Task) → xs ++ [] ≡ xs
-        append_nil [] = refl
-        append_nil (x ∷ xs) = ap (λ ys. x ∷ ys) (append_nil xs)
+      ∙ append-nil (filter (is_ready t) known))
 
   -- what a run picks at a tick depends on the known tasks alone
   alone : (last ticks n t : ℕ) (known later : List Task) → t + ticks ≤ last
@@ -98,31 +96,20 @@ module _ (picks : Picks) (idles : picks [] ≡ None) where
         same : picked picks t (known ++ later) ≡ picked picks t known
         same = unseen t last known later (omega arith) late
 
--- the greater of a tick and a deadline
-abbrev later_of : ℕ → JobFacts → ℕ
-later_of d j = cond (nat_le d j.deadline) j.deadline d
-
--- it is at least each of the two
-later_is : (d : ℕ) (j : JobFacts) → (d ≤ later_of d j) × (j.deadline ≤ later_of d j)
-later_is d j = by_test (nat_le d j.deadline) refl where
-  by_test : (b : Bool) → nat_le d j.deadline ≡ b → (d ≤ cond b j.deadline d) × (j.deadline ≤ cond b j.deadline d)
-  by_test true h = let low : d ≤ j.deadline = leb-true _ _ h in (low, omega arith)
-  by_test false h = let low : j.deadline < d = leb-false _ _ h in (omega arith, omega arith)
-
 -- no deadline is greater than the greatest
-greatest : (jobs : List JobFacts) (d : ℕ) → (d ≤ fold later_of d jobs)
-    × Each (λ j. j.deadline ≤ fold later_of d jobs) jobs
+greatest : (jobs : List JobFacts) (d : ℕ) → (d ≤ fold later_due d jobs)
+    × Each (λ j. j.deadline ≤ fold later_due d jobs) jobs
 greatest [] d = (omega arith, λ j member. absurd member)
-greatest (j ∷ jobs) d = with_first (greatest jobs (later_of d j)) where
-  with_first : (later_of d j ≤ fold later_of (later_of d j) jobs)
-      × Each (λ i. i.deadline ≤ fold later_of (later_of d j) jobs) jobs
-      → (d ≤ fold later_of (later_of d j) jobs) × Each (λ i. i.deadline ≤ fold later_of (later_of d j) jobs) (j ∷ jobs)
-  with_first rest = (omega (arith, (later_is d j).0, rest.0), each rest.0 rest.1) where
-    each : later_of d j ≤ fold later_of (later_of d j) jobs
-        → Each (λ i. i.deadline ≤ fold later_of (later_of d j) jobs) jobs
-        → Each (λ i. i.deadline ≤ fold later_of (later_of d j) jobs) (j ∷ jobs)
+greatest (j ∷ jobs) d = with_first (greatest jobs (later_due d j)) where
+  with_first : (later_due d j ≤ fold later_due (later_due d j) jobs)
+      × Each (λ i. i.deadline ≤ fold later_due (later_due d j) jobs) jobs
+      → (d ≤ fold later_due (later_due d j) jobs) × Each (λ i. i.deadline ≤ fold later_due (later_due d j) jobs) (j ∷ jobs)
+  with_first rest = (omega (arith, (due_least d j).0, rest.0), each rest.0 rest.1) where
+    each : later_due d j ≤ fold later_due (later_due d j) jobs
+        → Each (λ i. i.deadline ≤ fold later_due (later_due d j) jobs) jobs
+        → Each (λ i. i.deadline ≤ fold later_due (later_due d j) jobs) (j ∷ jobs)
     each most of_rest i (inl e) = let same : i.deadline ≡ j.deadline = ap (λ (x : JobFacts). x.deadline) e in
-        omega (arith, (later_is d j).1, most)
+        omega (arith, (due_least d j).1, most)
     each most of_rest i (inr member) = of_rest i member
 
 -- of the jobs of tasks that are to come
@@ -145,15 +132,10 @@ module _ (picks : Picks) (idles : picks [] ≡ None) (t : ℕ) where
       (λ j m. let late : t + 1 ≤ j.release = parts.late j m in omega arith))
       (each_come (λ j. j.deadline ≤ 0 + last_deadline jobs) 0 (known_at t jobs) (λ j m.
       let due : j.deadline ≤ last_deadline jobs =
-      (greatest jobs 0).1 j (subst (IsMember j) (sym parts.whole) (in_front (known_at t jobs) parts.more j m)) in
+      (greatest jobs 0).1 j (subst (IsMember j) (sym parts.whole) (member_front (known_at t jobs) parts.more j m)) in
       omega arith)) where
         parts : Split t jobs
         parts = split_known t jobs order
-
-        in_front : (xs ys : List JobFacts) (x : JobFacts) → IsMember x xs → IsMember x (xs ++ ys)
-        in_front [] ys x member = absurd member
-        in_front (y ∷ xs) ys x (inl e) = inl e
-        in_front (y ∷ xs) ys x (inr member) = inr (in_front xs ys x member)
 
 -- the schedules of a policy agree where the known jobs do
 pub on_line : (picks : Picks) (t : ℕ) (jobs others : List JobFacts) → picks [] ≡ None → IsInOrder jobs

@@ -6,6 +6,7 @@ use Rattle.std.proofs.Common.{eqb, arith, add-one, append_assoc, append-nil}
 use Rattle.std.specs.Prelude.{nat_le, Option, Some, None, unwrap_or}
 use Rattle.std.specs.List.{sum_by, filter, enumerate_from}
 use Rattle.std.proofs.lemmas.Bool.{eq-eqb, eqb-true, ne_eqb}
+use Rattle.std.proofs.lemmas.List.{length_push}
 use Rattle.dover_model.specs.JobFacts.{JobFacts}
 use Rattle.dover_model.specs.Instance.{Rules}
 use Rattle.dover_model.specs.declared.events.Task.{Task}
@@ -20,12 +21,11 @@ use Rattle.dover_model.proofs.Kept.{come_numbered, come_jobs}
 use Rattle.dover_model.proofs.Members.{on_map, sum_same}
 use Rattle.dover_model.proofs.Roles.{numbered_map, one_number}
 use Rattle.dover_model.proofs.Serving.{given_nil}
-use Rattle.dover_model.proofs.Honest.{numbers_low, count_jobs, sum_tasks}
+use Rattle.dover_model.proofs.Honest.{numbers_low, count_jobs, sum_tasks, given_miss, given_hit}
 use Rattle.policy_lab.specs.Picks.{Picks, IsPick, IsPolicy}
 use Rattle.policy_lab.specs.PolicyRun.{is_ready, picked, policy_run_from, policy_run}
 use Rattle.policy_lab.specs.Bench.{tasks_at, schedule_before, served_value}
 use Rattle.policy_lab.proofs.Given.{ready_says, given_number, given_job, Fits}
-use Rattle.policy_lab.proofs.Counts.{given_hit, given_miss, one_longer}
 use Rattle.policy_lab.proofs.Entries.{are_ready, number_ready}
 
 -- ---- numbers and jobs
@@ -61,7 +61,7 @@ module _ (picks : Picks) (jobs : List JobFacts) where
   -- the schedule has a place for each tick
   pub schedule_length : (t : ℕ) → length (schedule_before picks jobs t) ≡ t
   schedule_length zero = refl
-  schedule_length (suc t) = one_longer (schedule_before picks jobs t) (picked picks t (tasks_at picks jobs t))
+  schedule_length (suc t) = length_push (schedule_before picks jobs t) (picked picks t (tasks_at picks jobs t))
       ∙ ap (λ n. n + 1) (schedule_length t) ∙ add-one t
 
   -- what comes before tick t, and from it on, is the whole

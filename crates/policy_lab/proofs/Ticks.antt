@@ -14,7 +14,7 @@ use Rattle.dover_model.specs.Entries.{entry_of}
 use Rattle.dover_model.specs.State.{to_come, left}
 use Rattle.dover_model.specs.Pieces.{given, stretches}
 use Rattle.dover_model.specs.Sound.{IsMember, Each}
-use Rattle.dover_model.proofs.Members.{map_member, sum_le, sum_map, sum_zero}
+use Rattle.dover_model.proofs.Members.{map_member, sum_le, sum_map, sum_zero, cond_le}
 use Rattle.policy_lab.specs.Picks.{Picks, IsPolicy, AreReady, number_of}
 use Rattle.policy_lab.specs.PolicyRun.{is_ready, picked}
 use Rattle.policy_lab.specs.Bench.{HasReady, HasRun, tasks_at, schedule_before, served_value, spent_value, given_entry}
@@ -37,16 +37,12 @@ module _ (picks : Picks) (policy : IsPolicy picks) (jobs : List JobFacts) (good 
   most_served t =
       let less : served_value tasks ≤ sum_by (λ task. task.job.value) tasks =
       sum_le (λ task. cond (eqb (left task) 0) task.job.value 0) (λ task. task.job.value) tasks
-      (λ task member. at_most (eqb (left task) 0) task.job.value) in
+      (λ task member. cond_le (eqb (left task) 0) task.job.value) in
       let all : sum_by (λ task. task.job.value) tasks ≡ total_value jobs =
       sym (sum_map (λ task. task.job) (λ j. j.value) tasks) ∙ ap total_value (jobs_at picks jobs t) in
       omega arith where
         tasks : List Task
         tasks = tasks_at picks jobs t
-
-        at_most : (b : Bool) (v : ℕ) → cond b v 0 ≤ v
-        at_most true v = omega arith
-        at_most false v = omega arith
 
   -- before the first tick
   pub run_begins : HasRun picks jobs 0 0 0 [] []
@@ -154,8 +150,3 @@ begins_as picks policy jobs good count released value entries pieces r v e p =
     (subst (λ x. HasRun picks jobs 0 0 x entries pieces) (sym v)
     (subst (λ x. HasRun picks jobs 0 0 0 x pieces) (sym e)
     (subst (λ x. HasRun picks jobs 0 0 0 [] x) (sym p) (run_begins picks policy jobs good count))))
-
--- what follows where a call succeeds
-pub on_ok : {X Y : Type 0} {P Q : Type 0} (r : Result X Y) → (P → Q) → OnOk r P → OnOk r Q
-on_ok (Ok x) onward holds = onward holds
-on_ok (Err y) onward holds = tt

@@ -1,9 +1,10 @@
 use Rattle.std.proofs.Common.{◌≡◌, ◌∷◌, ◌++◌, [], sym, ap, ◌∙◌, subst}
+use Rattle.std.proofs.lemmas.Bool.{false_from_ne_true}
 use Rattle.event_feed.specs.Kept as feed
 use Rattle.dover_model.specs.Feed.{account_of_lines}
 use Rattle.feed_list.specs.Listing.{StandsAt}
 use Rattle.event_feed.specs.Faults.{IsFirstFault}
-use Rattle.feed_list.proofs.Listing.{not_then, first_fault}
+use Rattle.feed_list.proofs.Listing.{first_fault}
 use Rattle.feed_list.proofs.gathering.Gathering.take_line.Goals as goal
 
 pub returns-in-Ok-clause-keeps : goal.returns-in-Ok-clause-keeps
@@ -15,7 +16,7 @@ returns-in-Ok-clause-keeps c = λ ls keeps is.
       intake = subst (λ i. feed.StandsFor i (ls ++ c.args.line.now ∷ [])) (sym c.take_fed.ensures.intake)
           (c.in-Ok.ensures.stands ls keeps.intake);
       goes_on = ap feed.has_ended c.take_fed.ensures.intake
-          ∙ not_then _ (λ ended. c.take_fed.ensures.goes_on is (let e = c.in-Ok.ensures.ended.0 ended in cc));
+          ∙ false_from_ne_true _ (λ ended. c.take_fed.ensures.goes_on is (let e = c.in-Ok.ensures.ended.0 ended in cc));
       stands = at.0;
       lists = at.1;
     }

@@ -1,10 +1,11 @@
 use Rattle.std.proofs.Common.{◌≡◌, ◌∙◌, ap, sym, subst, ◌∷◌, ◌++◌, [], true}
+use Rattle.std.proofs.lemmas.Result.{on_ok_weaker}
 use Rattle.dover_model.specs.Feed.{account_of_lines}
 use Rattle.event_feed.specs.Kept as feed
 use Rattle.event_feed.specs.declared.fed.Fed.TheVariants.{Over}
 use Rattle.lane_server.specs.Lane.{IsOpenAt}
 use Rattle.lane_server.proofs.Adding.{new_fault}
-use Rattle.lane_server.proofs.Taking.{taken_stands, fault_stands, over_stands, open_at, over_fed, on_ok}
+use Rattle.lane_server.proofs.Taking.{taken_stands, fault_stands, over_stands, open_at, over_fed}
 use Rattle.lane_server.proofs.lane.Lane.line.Goals as goal
 
 pub take-requires : goal.take-requires
@@ -24,7 +25,7 @@ returns-in-Ok-clause-stands g c = λ ls it.
     let over : feed.has_ended c.take.new.self.intake ≡ true → c.in-Ok.fed ≡ Over =
     λ e. over_fed c.in-Ok.fed c.line.result c.in-Ok.is
     (c.line.ensures.ended.0 (sym (ap feed.has_ended c.take.ensures.intake) ∙ e)) in
-    on_ok c.take.result (taken_stands c.take.new.self ls c.args.line.now c.in-Ok.fed
+    on_ok_weaker c.take.result (taken_stands c.take.new.self ls c.args.line.now c.in-Ok.fed
     (subst (λ i. feed.StandsFor i (ls ++ c.args.line.now ∷ [])) (sym c.take.ensures.intake)
     (c.in-Ok.ensures.stands ls it.stands.intake)) is over)
     (c.take.ensures.adds (account_of_lines ls) (account_of_lines (ls ++ c.args.line.now ∷ [])) at is)

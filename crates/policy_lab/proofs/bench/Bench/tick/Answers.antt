@@ -1,12 +1,13 @@
 use Rattle.std.proofs.Common.{◌+◌, ◌++◌, ◌∷◌, [], map, ap, sym, subst, arith, ◌∙◌}
 use Rattle.std.specs.Prelude.{Some, ℕ}
 use Rattle.std.specs.List.{filter}
+use Rattle.std.proofs.lemmas.Result.{on_ok_weaker}
 use Rattle.dover_model.specs.Pieces.{stretches}
 use Rattle.dover_model.specs.Sound.{IsMember}
 use Rattle.policy_lab.specs.Picks.{AreReady, number_of}
 use Rattle.policy_lab.specs.Bench.{tasks_at, schedule_before, spent_value, given_entry, is_in_time}
 use Rattle.policy_lab.proofs.Runs.{schedule_length}
-use Rattle.policy_lab.proofs.Ticks.{may_pick, may_give, is_picked, is_low, most_after, run_goes_on, run_idles, on_ok}
+use Rattle.policy_lab.proofs.Ticks.{may_pick, may_give, is_picked, is_low, most_after, run_goes_on, run_idles}
 use Rattle.policy_lab.proofs.bench.Bench.tick.Goals as goal
 
 pub pick-requires : goal.pick-requires
@@ -107,7 +108,7 @@ returns g c =
     (Some c.in-Some.number) (c.in-Some.ensures.by_the_list ∙ ap picks c.deref.ensures.value) in
     let past = schedule_before picks c.args.jobs.now c.args.tick in
     let given = c.give.ensures ∙ ap (λ (n : ℕ). map (given_entry n) c.release.new.ready.items) is_n in
-    on_ok c.extend.result (λ pieces.
+    on_ok_weaker c.extend.result (λ pieces.
     run_goes_on picks law c.args.jobs.now c.requires.each c.requires.count c.args.tick c.in_ok-self.field-0
     c.release.new.ready.items has late
     c.args.self.now.value (c.args.self.now.value + c.spent_value.result) c.keep_in_time.new.ready.items
