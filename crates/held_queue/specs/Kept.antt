@@ -1,31 +1,29 @@
--- What a stack keeps beside the jobs that it holds.
-use Rattle.std.specs.Prelude.{◌≡◌, ℕ, ◌+◌, ◌^◌, ◌<◌, ◌≤◌, List, [], ◌∷◌, map, Option, Some, None}
+-- The rooms of held jobs, as they are kept without the jobs.
+use Rattle.std.specs.Prelude.{◌≡◌, ℕ, ◌≤◌, List, [], ◌∷◌, Option, Some, None}
 use Rattle.dover_model.specs.declared.events.Entry.{Entry}
 use Rattle.dover_model.specs.Entries.{room_of}
 use Rattle.dover_model.specs.Limits.{most_total}
-use Rattle.held_queue.specs.declared.Hold.{Hold}
 use Rattle.held_queue.specs.Stack.{value_of, IsByDeadline}
 
--- the held jobs
-abbrev pub entries_of : List Hold → List Entry
-entries_of holds = map (λ h. h.entry) holds
+-- from the top down the ticks until which the rooms last, how many more fit, and the sum of the values
+pub record Lasting : Type 0 where
+  pub untils : List ℕ
+  pub spare : ℕ
+  pub value : ℕ
 
--- the first one
-abbrev pub first_hold : List Hold → Option Hold
-first_hold [] = None
-first_hold (h ∷ below) = Some h
+-- for each job the tick until which the room lasts that it and those below it leave: what it is at tick 0
+abbrev pub untils_of : List Entry → List ℕ
+untils_of [] = []
+untils_of (e ∷ below) = room_of 0 (e ∷ below) ∷ untils_of below
 
--- each has the room that it and those below it had at its hold
-abbrev pub AreRooms : ℕ → List Hold → Type 0
-AreRooms latest [] = Unit {0}
-AreRooms latest (h ∷ below) = (room_of h.at (h.entry ∷ entries_of below) ≡ h.avail) × (h.at ≤ latest)
-    × AreRooms latest below
+-- the first of these ticks
+abbrev pub first_of : List ℕ → Option ℕ
+first_of [] = None
+first_of (until ∷ more) = Some until
 
--- the holds from the top down, with what is counted beside them
-pub record IsKept (holds : List Hold) (latest spare value len capacity : ℕ) : Type 0 where
-  pub rooms : AreRooms latest holds
-  pub order : IsByDeadline (entries_of holds)
-  pub sum : value ≡ value_of (entries_of holds)
-  pub total : value ≤ most_total
-  pub fits : len + spare ≤ capacity
-  pub small : len + spare < 2 ^ 32
+-- these are the rooms of these jobs
+pub record AreRoomsOf (rooms : Lasting) (held : List Entry) : Type 0 where
+  pub untils : rooms.untils ≡ untils_of held
+  pub order : IsByDeadline held
+  pub sum : rooms.value ≡ value_of held
+  pub total : rooms.value ≤ most_total

@@ -1,67 +1,48 @@
 //! The held jobs, with the room that they leave.
 #![tactic(auto)]
 
-ghost use Rattle.std.specs.Prelude.{◌≡◌, ◌+◌, ◌-◌, ◌<◌, ◌≤◌, [], ◌∷◌, max, reverse, IfOk, IsOk, OnOk, OnErr};
-ghost use Rattle.std.specs.Option.{ForSome};
+ghost use Rattle.std.specs.Prelude.{◌≡◌, ◌-◌, ◌<◌, ◌≤◌, [], ◌∷◌, max, IfOk, IsOk, OnOk, OnErr};
 ghost use Rattle.dover_model.specs.Limits.{most_total};
 ghost use Rattle.dover_model.specs.Entries.{room_of};
-ghost use Rattle.held_queue.specs.Kept.{first_hold};
-ghost use Rattle.held_queue.specs.Stack.{Stack, top_of, value_of, IsByDeadline, room_at, top_with_room};
-ghost use Rattle.held_queue.specs.Stack.{without_top};
+ghost use Rattle.dover_model.specs.Sound.{Each};
+ghost use Rattle.held_queue.specs.Stack.{Stack, top_of, value_of, IsByDeadline, IsDueBeforeTop};
+ghost use Rattle.held_queue.specs.Stack.{room_at, top_with_room, without_top};
+
+mod rooms;
 
 use dover_model::{Entry, Memory};
+pub use rooms::Rooms;
 use std::alloc::Global;
 use std::marker::Model;
 
-/// A held job, and what the room was when it was held.
-#[derive(Clone, Copy)]
-struct Hold {
-    entry: Entry,
-    avail: u64,
-    at: u64,
-}
-
-// The hold on top, which is the last one.
-fn peek(holds: &Vec<Hold>) -> Option<Hold>
-    ensures { result ≡ first_hold (reverse holds.now.items) }
-{
-    holds.last().copied()
-}
-
-/// A stack of held jobs. Each is due before those below it, and keeps the room that it was handed and the tick of its
-/// hold.
+/// A stack of held jobs. Each is due before those below it.
 #[derive(Drop)]
 pub struct Privileged {
-    holds: Vec<Hold>,
-    latest: u64,
-    spare: u32,
-    value: u64,
+    entries: Vec<Entry>,
+    rooms: Rooms,
 }
 
 impl Model for Privileged {
-    ghost use Rattle.std.specs.Prelude.{map, reverse, vec_len, vec_capacity};
+    ghost use Rattle.std.specs.Prelude.{◌+◌, ◌≤◌, reverse, vec_len, vec_capacity};
     ghost use Rattle.held_queue.specs.Stack.{Stack};
-    ghost use Rattle.held_queue.specs.Kept.{IsKept};
+    ghost use Rattle.held_queue.specs.Kept.{AreRoomsOf};
 
     ghost Value = { Stack };
 
-    ghost view = { λ q. record
-        { held = map (λ h. h.entry) (reverse q.holds.items); latest = q.latest; spare = q.spare } };
+    ghost view = { λ q. record { held = reverse q.entries.items; spare = q.rooms.spare } };
 
-    ghost invariant = { λ q. IsKept (reverse q.holds.items) q.latest q.spare q.value (vec_len q.holds)
-        (vec_capacity q.holds) };
+    ghost invariant = { λ q. AreRoomsOf q.rooms (reverse q.entries.items)
+        × (vec_len q.entries + q.rooms.spare ≤ vec_capacity q.entries) };
 }
 
 impl Privileged {
     /// None are held.
     pub fn new(alloc: Global) -> Result<Privileged, Memory>
-        ensures { IfOk result (λ q. q ≡ record { held = []; latest = 0; spare = 0 }) }
+        ensures { IfOk result (λ q. q ≡ record { held = []; spare = 0 }) }
     {
         Ok(Privileged {
-            holds: Vec::new(alloc),
-            latest: 0,
-            spare: 0,
-            value: 0,
+            entries: Vec::new(alloc),
+            rooms: Rooms::new(alloc),
         })
     }
 
@@ -71,14 +52,11 @@ impl Privileged {
         ensures err { OnErr result (self.new ≡ self.old) }
         ensures enough { more ≤ self.old.spare → IsOk result }
     {
-        if more <= self.spare {
+        if more <= self.rooms.spare() {
             return Ok(());
         }
-        if more as usize > u32::MAX as usize - self.holds.len() {
-            return Err(Memory);
-        }
-        self.holds.reserve(more as usize)?;
-        self.spare = more;
+        self.entries.reserve(more as usize)?;
+        self.rooms.reserve(more)?;
         Ok(())
     }
 
@@ -86,29 +64,18 @@ impl Privileged {
     pub fn spare(&self) -> u32
         ensures { result ≡ self.now.spare }
     {
-        self.spare
+        self.rooms.spare()
     }
 
-    /// Puts a job on top at the tick `now`. `avail` is the room of the held jobs with it. It is due before the others,
-    /// and the sum of the values stays within the limit.
-    pub fn hold(&mut self, e: Entry, now: u64, avail: u64)
+    /// Puts a job on top. It is due before the others, and the sum of the values stays within the limit.
+    pub fn hold(&mut self, e: Entry)
         requires spare { 1 ≤ self.old.spare }
-        requires first { ForSome (top_of self.old.held) (λ top. e.deadline < top.deadline) }
-        requires room { avail ≡ room_of now (e ∷ self.old.held) }
+        requires first { IsDueBeforeTop e self.old.held }
         requires total { value_of (e ∷ self.old.held) ≤ most_total }
-        ensures { self.new ≡ record
-            { held = e ∷ self.old.held; latest = max self.old.latest now; spare = self.old.spare - 1 } }
+        ensures { self.new ≡ record { held = e ∷ self.old.held; spare = self.old.spare - 1 } }
     {
-        self.holds
-            .push(Hold {
-                entry: e,
-                avail,
-                at: now,
-            })
-            .unwrap();
-        self.latest = self.latest.max(now);
-        self.spare -= 1;
-        self.value += e.value;
+        self.rooms.hold(&e);
+        self.entries.push_reserved(e);
     }
 
     /// The one that is due first, if any is held.
@@ -116,29 +83,27 @@ impl Privileged {
         ensures top { result ≡ top_of self.now.held }
         ensures order { IsByDeadline self.now.held }
     {
-        match peek(&self.holds) {
-            Some(hold) => Some(hold.entry),
-            None => None,
-        }
+        self.entries.last().copied()
     }
 
     /// How many ticks could go to others from the tick `now` on before some held job misses its deadline, if any is
     /// held.
-    /// `now` isn't before the latest hold.
     pub fn room(&self, now: u64) -> Option<u64>
-        requires { self.now.latest ≤ now }
         ensures { result ≡ room_at now self.now.held }
     {
-        match peek(&self.holds) {
-            Some(hold) => Some(hold.avail.saturating_sub(now - hold.at)),
-            None => None,
-        }
+        self.rooms.room(now)
     }
 
-    /// Takes the one on top out, with the room of the held jobs and it at the tick `now`, if any is held. `now` isn't
-    /// before the latest hold.
+    /// The room of the held jobs with `e`, which is due before them.
+    pub fn room_with(&self, e: &Entry, now: u64) -> u64
+        requires { Each (λ f. e.now.deadline < f.deadline) self.now.held }
+        ensures { result ≡ room_of now (e.now ∷ self.now.held) }
+    {
+        self.rooms.room_with(e, now)
+    }
+
+    /// Takes the one on top out, with the room of the held jobs and it at the tick `now`, if any is held.
     pub fn resume(&mut self, now: u64) -> Option<(Entry, u64)>
-        requires { self.old.latest ≤ now }
         ensures room { result ≡ top_with_room now self.old.held }
         ensures rest { self.new ≡ without_top self.old }
     {
@@ -153,14 +118,9 @@ impl Privileged {
         ensures order { IsByDeadline self.old.held }
         ensures rest { self.new ≡ without_top self.old }
     {
-        match self.holds.pop() {
-            Some(hold) => {
-                self.spare += 1;
-                self.value -= hold.entry.value;
-                Some(hold.entry)
-            }
-            None => None,
-        }
+        let e = self.entries.pop()?;
+        self.rooms.release_one(e.value);
+        Some(e)
     }
 
     /// The sum of the values of the held jobs.
@@ -168,6 +128,6 @@ impl Privileged {
         ensures is { result ≡ value_of self.now.held }
         ensures most { result ≤ most_total }
     {
-        self.value
+        self.rooms.value_sum()
     }
 }

@@ -361,8 +361,8 @@ number_ready tasks table k t e is found same =
 
 -- the stack with its top taken off
 pub without_first : (s : Stack) (e : Entry) (rest : List Entry) → s.held ≡ e ∷ rest
-    → without_top s ≡ record { held = rest; latest = s.latest; spare = s.spare + 1 }
-without_first s e rest is = ap (λ h. popped h s.latest s.spare) is
+    → without_top s ≡ record { held = rest; spare = s.spare + 1 }
+without_first s e rest is = ap (λ h. popped h s.spare) is
 
 -- what is known of the first held job
 pub record IsTop (t : Task) (tasks : List Task) (stack : List Entry) : Type 0 where

@@ -93,7 +93,6 @@ pub record IsQueued (a : Inside) : Type 0 where
   pub version : a.waiting.version ≡ a.version
   pub agrees : (k : ℕ) × (a.spare ≤ k)
       × Agrees a.tasks.items a.waiting.table k a.held.held a.cpu.job a.fresh a.next a.done
-  pub latest : a.held.latest ≤ a.cpu.clock
   pub fits : vec_len a.tasks + a.spare ≤ vec_capacity a.tasks
   pub fits_held : vec_len a.tasks + a.spare ≤ length a.held.held + a.held.spare
   pub few : vec_len a.tasks + a.spare ≤ most_jobs

@@ -83,19 +83,6 @@ fn entry_of(t: &Task) -> Entry
     }
 }
 
-// The room of the held jobs with e, which is due before them.
-fn room_with(held: &Privileged, e: &Entry, clock: u64) -> u64
-    requires clock { held.now.latest ≤ clock }
-    requires first { Each (λ f. e.now.deadline < f.deadline) held.now.held }
-    ensures { result ≡ room_of clock (e.now ∷ held.now.held) }
-{
-    let alone = e.deadline.saturating_sub(e.left).saturating_sub(clock);
-    match held.room(clock) {
-        Some(room) => alone.min(room.saturating_sub(e.left)),
-        None => alone,
-    }
-}
-
 // Gives the job of this number another role.
 fn set_role(tasks: &mut Vec<Task>, number: u32, role: Role)
     requires { number < length tasks.old.items }
@@ -284,7 +271,7 @@ impl Queues {
         requires running { running self.now.state ≡ Some r.now }
         ensures { result ≡ room self.now.state.clock (privileged self.now.state) }
     {
-        room_with(&self.held, &entry_of(r), self.cpu.clock())
+        self.held.room_with(&entry_of(r), self.cpu.clock())
     }
 
     // The value of the running job r and the held jobs.
@@ -543,9 +530,7 @@ impl Queues {
         ensures { self.new ≡ with_job_in self.old t.now.number Held }
     {
         let _ = self.cpu.stop();
-        let entry = entry_of(t);
-        let avail = room_with(&self.held, &entry, self.cpu.clock());
-        self.held.hold(entry, self.cpu.clock(), avail);
+        self.held.hold(entry_of(t));
         set_role(&mut self.tasks, t.number, Role::Held);
     }
 

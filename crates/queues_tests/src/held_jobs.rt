@@ -15,7 +15,7 @@ fn one_is_held_and_resumed(rt: HostRuntime) {
         left: 9,
         value: 10,
     };
-    stack.hold(e, 1, 4);
+    stack.hold(e);
     let is_on_top = stack.room(3) == Some(2) && stack.value_sum() == 10;
     let resumed = stack.resume(3);
     let is_empty = stack.top().is_none()
@@ -42,8 +42,8 @@ fn the_one_due_first_is_on_top(rt: HostRuntime) {
         left: 2,
         value: 2,
     };
-    stack.hold(later, 0, 27);
-    stack.hold(sooner, 0, 2);
+    stack.hold(later);
+    stack.hold(sooner);
     let is_on_top = stack.top() == Some(sooner) && stack.value_sum() == 5;
     let released = stack.release_one();
     assert!(rt; is_on_top && released == Some(sooner) && stack.room(20) == Some(7));

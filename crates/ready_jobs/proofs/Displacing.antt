@@ -3,10 +3,7 @@ use Rattle.std.proofs.Common.{◌≡◌, ℕ, ◌+◌, ◌*◌, ◌≤◌, ◌<�
 use Rattle.std.proofs.Common.{sym, ap, ◌∙◌, subst, arith}
 use Rattle.std.proofs.lemmas.List.{reverse-append}
 use Rattle.dover_model.specs.declared.events.Task.{Task}
-use Rattle.dover_model.specs.Entries.{entry_of}
 use Rattle.dover_model.specs.Sound.{IsMember, Each}
-use Rattle.held_queue.specs.Stack.{Stack, without_top}
-use Rattle.queued_jobs.proofs.Steps.{without_first}
 use Rattle.ready_jobs.specs.Changed.{made_wait}
 use Rattle.ready_jobs.specs.Pools.{Pooled}
 use Rattle.ready_jobs.specs.Reordered.{IsReordered}
@@ -14,10 +11,7 @@ use Rattle.ready_jobs.proofs.Pooling.{between, length_more}
 use Rattle.ready_jobs.proofs.Reordering.{same_order, both_parts, further, turned, as_many}
 
 -- of the jobs that were held some are still, and the others wait: those that will wait in the end are the same
-pub record Displaces (was is : List Task) (old now : Stack) (from to : Pooled) : Type 0 where
-  pub held : now.held ≡ map entry_of (reverse is)
-  pub latest : now.latest ≡ old.latest
-  pub spare : now.spare + length is ≡ old.spare + length was
+pub record Displaces (was is : List Task) (from to : Pooled) : Type 0 where
   pub kept : to ≡ record from { tasks = to.tasks }
   pub same : IsReordered (map made_wait (reverse was) ++ from.tasks) (map made_wait (reverse is) ++ to.tasks)
   pub numbers : Each (λ t. t.number < 1_048_576) (reverse is)
@@ -66,8 +60,8 @@ taken_order r x held waiting rest two three out into all =
     (further (map made_wait (r ∷ held) ++ rest) (map made_wait held ++ two) three
     (one_waits r held rest two into) all)))
 
-module _ (was is rest : List Task) (t : Task) (old now next : Stack) (from to more : Pooled)
-    (it : Displaces was is old now from to) (top : is ≡ rest ++ t ∷ []) where
+module _ (was is rest : List Task) (t : Task) (from to more : Pooled) (it : Displaces was is from to)
+    (top : is ≡ rest ++ t ∷ []) where
   turned_is : reverse is ≡ t ∷ reverse rest
   turned_is = ap reverse top ∙ reverse-append rest (t ∷ [])
 
@@ -81,22 +75,13 @@ module _ (was is rest : List Task) (t : Task) (old now next : Stack) (from to mo
   pub one_small : t.number < 1_048_576
   one_small = it.numbers t (subst (IsMember t) (sym turned_is) (inl refl))
 
-  module _ (pops : next ≡ without_top now) (kept : more ≡ record to { tasks = more.tasks })
-      (add : IsReordered (made_wait t ∷ to.tasks) more.tasks) where
-    next_is : next ≡ record { held = map entry_of (reverse rest); latest = now.latest; spare = now.spare + 1 }
-    next_is = pops ∙ without_first now (entry_of t) (map entry_of (reverse rest))
-        (it.held ∙ ap (map entry_of) turned_is)
-
+  module _ (kept : more ≡ record to { tasks = more.tasks }) (add : IsReordered (made_wait t ∷ to.tasks) more.tasks) where
     longer : length more.tasks ≡ length to.tasks + 1
     longer = omega (arith, as_many (made_wait t ∷ to.tasks) more.tasks add)
 
     -- it waits
-    pub one_displaced : Displaces was rest old next from more
+    pub one_displaced : Displaces was rest from more
     one_displaced = record {
-      held = ap (λ (s : Stack). s.held) next_is;
-      latest = ap (λ (s : Stack). s.latest) next_is ∙ it.latest;
-      spare = let same : now.spare + length is ≡ old.spare + length was = it.spare in
-          omega (arith, same, one_less, ap (λ (s : Stack). s.spare) next_is);
       kept = kept ∙ ap (λ (q : Pooled). record q { tasks = more.tasks }) it.kept;
       same = further (map made_wait (reverse was) ++ from.tasks) (map made_wait (reverse is) ++ to.tasks)
           (map made_wait (reverse rest) ++ more.tasks) it.same
@@ -108,14 +93,3 @@ module _ (was is rest : List Task) (t : Task) (old now next : Stack) (from to mo
       sum = let sum : length is + length to.tasks ≡ length was + length from.tasks = it.sum in
           omega (arith, sum, one_less, longer);
     }
-
--- none is held any more
-module _ (was is : List Task) (old now : Stack) (from to : Pooled) (it : Displaces was is old now from to)
-    (none : is ≡ []) where
-  pub none_held : now ≡ record old { held = []; spare = old.spare + length was }
-  none_held =
-      let same : now.spare + length is ≡ old.spare + length was = it.spare in
-      let spare : now.spare ≡ old.spare + length was = omega (arith, same, ap (λ l. length l) none) in
-      ap (λ h. record now { held = h }) (it.held ∙ ap (λ l. map entry_of (reverse l)) none)
-      ∙ ap (λ l. record { held = []; latest = l; spare = now.spare }) it.latest
-      ∙ ap (λ s. record { held = []; latest = old.latest; spare = s }) spare

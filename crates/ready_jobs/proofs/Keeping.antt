@@ -1,5 +1,5 @@
 -- The parts are kept where jobs go from one to another.
-use Rattle.std.proofs.Common.{max, ◌-◌, ◌≡◌, ℕ, ◌+◌, ◌≤◌, ◌<◌, inl, inr, List, [], ◌∷◌, ◌++◌, length, map}
+use Rattle.std.proofs.Common.{◌-◌, ◌≡◌, ℕ, ◌+◌, ◌≤◌, ◌<◌, inl, inr, List, [], ◌∷◌, ◌++◌, length, map}
 use Rattle.std.proofs.Common.{refl, sym, ap, ◌∙◌, subst, arith}
 use Rattle.std.specs.Prelude.{Option, Some, None}
 use Rattle.std.specs.Option.{option_to_list, option_map}
@@ -13,7 +13,7 @@ use Rattle.dover_model.specs.Jumps.{ticked_by}
 use Rattle.dover_model.specs.Step.{with_role}
 use Rattle.dover_model.specs.Sound.{IsMember, Each}
 use Rattle.dover_model.proofs.Members.{on_map}
-use Rattle.held_queue.specs.Stack.{Stack}
+use Rattle.held_queue.specs.Kept.{Lasting, AreRoomsOf}
 use Rattle.ready_jobs.specs.Pools.{Pooled}
 use Rattle.ready_jobs.specs.Parts.{Parted, AreParts, HaveRole, ready_of}
 use Rattle.ready_jobs.specs.Changed.{made_wait}
@@ -26,7 +26,7 @@ each_option P None all t m = absurd m
 each_option P (Some u) all t (inl e) = subst P (sym e) (all u refl)
 each_option P (Some u) all t (inr m) = absurd m
 
-module _ (p : Parted) (rooms : Stack) (pool : Pooled) (capacity : ℕ) (kept : AreParts p rooms pool capacity) where
+module _ (p : Parted) (rooms : Lasting) (pool : Pooled) (capacity : ℕ) (kept : AreParts p rooms pool capacity) where
   abbrev small : Task → Type 0
   small t = t.number < 1_048_576
 
@@ -70,7 +70,6 @@ module _ (p : Parted) (rooms : Stack) (pool : Pooled) (capacity : ℕ) (kept : A
           kept.roles.waiting;
     };
     held = kept.held;
-    latest = kept.latest;
     few = omega (arith, kept.few, four_length A B p.held p.waiting, four_length [] B p.held p.waiting);
     small = small_parts [] B p.held p.waiting (λ t m. absurd m) small_fresh small_held small_waiting;
     most = kept.most;
@@ -91,7 +90,6 @@ module _ (p : Parted) (rooms : Stack) (pool : Pooled) (capacity : ℕ) (kept : A
           kept.roles.waiting;
     };
     held = kept.held;
-    latest = kept.latest;
     few = omega (
       arith,
       kept.few,
@@ -116,10 +114,10 @@ module _ (p : Parted) (rooms : Stack) (pool : Pooled) (capacity : ℕ) (kept : A
     one_small t (inr m) = absurd m
 
   -- the first held job runs
-  pub resumed_kept : (h : Task) (rest : List Task) (left : Stack) (room : ℕ) → p.running ≡ None → p.held ≡ h ∷ rest
-      → left.held ≡ map entry_of rest → left.latest ≡ rooms.latest → left.spare ≡ rooms.spare + 1 → p.room ≤ room
+  pub resumed_kept : (h : Task) (rest : List Task) (left : Lasting) (room : ℕ) → p.running ≡ None → p.held ≡ h ∷ rest
+      → AreRoomsOf left (map entry_of rest) → left.spare ≡ rooms.spare + 1 → p.room ≤ room
       → AreParts (record p { running = Some (with_role h Running); held = rest }) left pool room
-  resumed_kept h rest left room free is rooms_are latest spare fits = record {
+  resumed_kept h rest left room free is rooms_are spare fits = record {
     roles = record {
       running = one;
       fresh = kept.roles.fresh;
@@ -127,7 +125,6 @@ module _ (p : Parted) (rooms : Stack) (pool : Pooled) (capacity : ℕ) (kept : A
       waiting = kept.roles.waiting;
     };
     held = rooms_are;
-    latest = omega (arith, kept.latest, latest);
     few = omega (
       arith,
       kept.few,
@@ -140,14 +137,7 @@ module _ (p : Parted) (rooms : Stack) (pool : Pooled) (capacity : ℕ) (kept : A
         (λ t m. small_held t (subst (IsMember t) (sym is) (inr m))) small_waiting;
     most = kept.most;
     pool_room = kept.pool_room;
-    held_room = omega (
-      arith,
-      kept.held_room,
-      spare,
-      ap (λ l. length l) rooms_are,
-      ap (λ l. length l) kept.held,
-      ap (λ l. length (map entry_of l)) is,
-    );
+    held_room = omega (arith, kept.held_room, spare, ap (λ l. length l) is);
     stack_room = fits;
   } where
     one : HaveRole Running (with_role h Running ∷ [])
@@ -166,7 +156,6 @@ module _ (p : Parted) (rooms : Stack) (pool : Pooled) (capacity : ℕ) (kept : A
   come_kept n clock j stale some less ahead = record {
     roles = record { running = kept.roles.running; fresh = one; held = kept.roles.held; waiting = kept.roles.waiting };
     held = kept.held;
-    latest = omega (arith, kept.latest, ahead);
     few = omega (
       arith,
       some,
@@ -203,7 +192,6 @@ module _ (p : Parted) (rooms : Stack) (pool : Pooled) (capacity : ℕ) (kept : A
       waiting = kept.roles.waiting;
     };
     held = kept.held;
-    latest = omega (arith, kept.latest);
     few = omega (
       arith,
       kept.few,
@@ -245,7 +233,6 @@ module _ (p : Parted) (rooms : Stack) (pool : Pooled) (capacity : ℕ) (kept : A
           kept.roles.waiting;
     };
     held = kept.held;
-    latest = kept.latest;
     few = kept.few;
     small = kept.small;
     most = kept.most;
@@ -255,11 +242,11 @@ module _ (p : Parted) (rooms : Stack) (pool : Pooled) (capacity : ℕ) (kept : A
   }
 
   -- more room
-  pub reserved_kept : (room more : ℕ) (left : Stack) (pool' : Pooled) → left.held ≡ rooms.held
-      → left.latest ≡ rooms.latest → p.room ≤ room → room ≤ 1_000_000
-      → room ≤ pool'.room → room ≤ length rooms.held + left.spare → room ≤ more
+  pub reserved_kept : (room more : ℕ) (left : Lasting) (pool' : Pooled) → AreRoomsOf left (map entry_of p.held)
+      → p.room ≤ room → room ≤ 1_000_000
+      → room ≤ pool'.room → room ≤ length p.held + left.spare → room ≤ more
       → AreParts (record p { room = room }) left pool' more
-  reserved_kept room more left pool' same latest low most fits fits_held fits_stack = record {
+  reserved_kept room more left pool' same low most fits fits_held fits_stack = record {
     roles = record {
       running = kept.roles.running;
       fresh = kept.roles.fresh;
@@ -267,13 +254,12 @@ module _ (p : Parted) (rooms : Stack) (pool : Pooled) (capacity : ℕ) (kept : A
       waiting =
           kept.roles.waiting;
     };
-    held = same ∙ kept.held;
-    latest = omega (arith, kept.latest, latest);
+    held = same;
     few = omega (arith, kept.few, low);
     small = kept.small;
     most = most;
     pool_room = fits;
-    held_room = omega (arith, fits_held, ap (λ l. length l) same);
+    held_room = fits_held;
     stack_room = fits_stack;
   }
 
@@ -292,7 +278,6 @@ module _ (p : Parted) (rooms : Stack) (pool : Pooled) (capacity : ℕ) (kept : A
       waiting = λ t m. waits t (more.back t m);
     };
     held = kept.held;
-    latest = kept.latest;
     few = omega (
       arith,
       kept.few,
@@ -328,7 +313,6 @@ module _ (p : Parted) (rooms : Stack) (pool : Pooled) (capacity : ℕ) (kept : A
       waiting = λ t m. kept.roles.waiting t (less.back t (inr m));
     };
     held = kept.held;
-    latest = kept.latest;
     few = omega (
       arith,
       kept.few,
@@ -364,7 +348,6 @@ module _ (p : Parted) (rooms : Stack) (pool : Pooled) (capacity : ℕ) (kept : A
           kept.roles.waiting;
     };
     held = kept.held;
-    latest = kept.latest;
     few = kept.few;
     small = kept.small;
     most = kept.most;
@@ -384,7 +367,6 @@ module _ (p : Parted) (rooms : Stack) (pool : Pooled) (capacity : ℕ) (kept : A
       waiting = λ t m. kept.roles.waiting t (less.back t (inr m));
     };
     held = kept.held;
-    latest = kept.latest;
     few = omega (
       arith,
       kept.few,
@@ -417,15 +399,14 @@ module _ (p : Parted) (rooms : Stack) (pool : Pooled) (capacity : ℕ) (kept : A
     ap (λ o. length (option_to_list o)) is,
   )
 
-  pub preempted_kept : (r f : Task) (more : Stack) (room : ℕ) → p.running ≡ Some r → p.fresh ≡ Some f
-      → more ≡ record { held = entry_of r ∷ rooms.held; latest = max rooms.latest p.clock; spare = rooms.spare - 1 }
+  pub preempted_kept : (r f : Task) (more : Lasting) (room : ℕ) → p.running ≡ Some r → p.fresh ≡ Some f
+      → AreRoomsOf more (entry_of r ∷ map entry_of p.held) → more.spare ≡ rooms.spare - 1
       → p.room ≤ room
       → AreParts (record p { running = Some (with_role f Running); fresh = None; held = with_role r Held ∷ p.held })
       more pool room
-  preempted_kept r f more room runs is more_is fits = record {
+  preempted_kept r f more room runs is more_are spare fits = record {
     roles = record { running = one; fresh = λ t m. absurd m; held = holds; waiting = kept.roles.waiting };
-    held = ap (λ (s : Stack). s.held) more_is ∙ ap (λ l. entry_of r ∷ l) kept.held;
-    latest = omega (arith, kept.latest, ap (λ (s : Stack). s.latest) more_is);
+    held = more_are;
     few = omega (
       arith,
       kept.few,
@@ -442,10 +423,7 @@ module _ (p : Parted) (rooms : Stack) (pool : Pooled) (capacity : ℕ) (kept : A
       arith,
       kept.held_room,
       busy_two r f runs is,
-      ap (λ (s : Stack). s.spare) more_is,
-      ap (λ (s : Stack). length s.held) more_is,
-      ap (λ l. length l) kept.held,
-      length-map p.held entry_of,
+      spare,
     );
     stack_room = fits;
   } where
@@ -489,14 +467,13 @@ module _ (p : Parted) (rooms : Stack) (pool : Pooled) (capacity : ℕ) (kept : A
     all_waits t m = each_both (λ u. u.role ≡ Waiting) (map made_wait (r ∷ p.held)) p.waiting
         (on_map made_wait (λ u. u.role ≡ Waiting) (r ∷ p.held) (λ u k. refl)) kept.roles.waiting t (out.back t (inr m))
 
-    pub taken_kept : (left : Stack) (room : ℕ)
-        → left ≡ record { held = []; latest = rooms.latest; spare = rooms.spare + length p.held }
+    pub taken_kept : (left : Lasting) (room : ℕ)
+        → AreRoomsOf left [] → left.spare ≡ rooms.spare + length p.held
         → pool'.room ≡ pool.room → p.room ≤ room
         → AreParts (record p { running = Some (with_role x Running); held = []; waiting = pool'.tasks }) left pool' room
-    taken_kept left room left_is same fits = record {
+    taken_kept left room left_are spare same fits = record {
       roles = record { running = one; fresh = kept.roles.fresh; held = λ t m. absurd m; waiting = all_waits };
-      held = ap (λ (s : Stack). s.held) left_is;
-      latest = omega (arith, kept.latest, ap (λ (s : Stack). s.latest) left_is);
+      held = left_are;
       few = omega (
         arith,
         kept.few,
@@ -511,13 +488,7 @@ module _ (p : Parted) (rooms : Stack) (pool : Pooled) (capacity : ℕ) (kept : A
           (λ t m. all_small t (inr m));
       most = kept.most;
       pool_room = omega (arith, kept.pool_room, same);
-      held_room = omega (
-        arith,
-        kept.held_room,
-        ap (λ (s : Stack). s.spare) left_is,
-        ap (λ l. length l) kept.held,
-        length-map p.held entry_of,
-      );
+      held_room = omega (arith, kept.held_room, spare);
       stack_room = fits;
     } where
       one : HaveRole Running (with_role x Running ∷ [])

@@ -9,7 +9,7 @@ use Rattle.dover_model.specs.Limits.{most_value, most_total, most_jobs}
 use Rattle.dover_model.specs.Entries.{entry_of}
 use Rattle.dover_model.specs.State.{State, latest_start, value_sum}
 use Rattle.dover_model.specs.Sound.{Each, EachTwo}
-use Rattle.held_queue.specs.Stack.{Stack}
+use Rattle.held_queue.specs.Kept.{Lasting, AreRoomsOf}
 use Rattle.ready_jobs.specs.Pools.{Pooled}
 
 -- no two jobs have one number
@@ -52,15 +52,14 @@ pub record HaveRoles (p : Parted) : Type 0 where
 
 -- what is kept: the parts have their roles, the rooms are those of the held jobs, and there is room for all jobs in
 -- each part
-pub record AreParts (p : Parted) (rooms : Stack) (pool : Pooled) (capacity : ℕ) : Type 0 where
+pub record AreParts (p : Parted) (rooms : Lasting) (pool : Pooled) (capacity : ℕ) : Type 0 where
   pub roles : HaveRoles p
-  pub held : rooms.held ≡ map entry_of p.held
-  pub latest : rooms.latest ≤ p.clock
+  pub held : AreRoomsOf rooms (map entry_of p.held)
   pub few : length (ready_of p) ≤ p.room
   pub small : Each (λ t. t.number < 2 ^ 20) (ready_of p)
   pub most : p.room ≤ most_jobs
   pub pool_room : p.room ≤ pool.room
-  pub held_room : p.room ≤ length rooms.held + rooms.spare
+  pub held_room : p.room ≤ length p.held + rooms.spare
   pub stack_room : p.room ≤ capacity
 
 -- what the machine knows of the jobs in a state that it reaches

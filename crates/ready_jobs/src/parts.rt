@@ -27,7 +27,7 @@ use crate::pool::Pool;
 use crate::short::ShortTask;
 use crate::taking::{displace, in_role};
 use dover_model::{Entry, Job, Memory, Ratio, Role, Task, Version};
-use held_queue::Privileged;
+use held_queue::Rooms;
 use root_compare::heavy;
 use std::alloc::Global;
 use std::marker::Model;
@@ -41,7 +41,7 @@ pub struct Parts {
     running: Option<Task>,
     fresh: Option<Task>,
     held: Vec<ShortTask>,
-    rooms: Privileged,
+    rooms: Rooms,
     pool: Pool,
     room: u32,
 }
@@ -114,20 +114,6 @@ fn count_of(job: &Option<Task>) -> u32
     }
 }
 
-// The room of the held jobs with e, which is due before them.
-#[inline(always)]
-fn room_with(held: &Privileged, e: &Entry, clock: u64) -> u64
-    requires clock { held.now.latest ≤ clock }
-    requires first { Each (λ f. e.now.deadline < f.deadline) held.now.held }
-    ensures { result ≡ room_of clock (e.now ∷ held.now.held) }
-{
-    let alone = e.deadline.saturating_sub(e.left).saturating_sub(clock);
-    match held.room(clock) {
-        Some(room) => alone.min(room.saturating_sub(e.left)),
-        None => alone,
-    }
-}
-
 impl Parts {
     /// No jobs, and no room.
     pub fn new(alloc: Global, version: Version) -> Result<Parts, Memory>
@@ -139,7 +125,7 @@ impl Parts {
             running: None,
             fresh: None,
             held: Vec::new(alloc),
-            rooms: Privileged::new(alloc)?,
+            rooms: Rooms::new(alloc),
             pool: Pool::new(alloc, version),
             room: 0,
         })
@@ -229,8 +215,6 @@ impl Parts {
         ensures is { result ≡ head_of self.now.held }
         ensures seen { result ≡ first (due_first self.now.version) (held (state_of self.now)) }
     {
-        // The stack of the rooms knows that the held jobs stand by their deadlines.
-        let _ = self.rooms.top();
         peek(&self.held)
     }
 
@@ -274,7 +258,7 @@ impl Parts {
         requires running { self.now.running ≡ Some r.now }
         ensures { result ≡ room self.now.clock (privileged (state_of self.now)) }
     {
-        room_with(&self.rooms, &entry_of(r), self.clock)
+        self.rooms.room_with(&entry_of(r), self.clock)
     }
 
     // The value of the running job r and the held jobs.
@@ -482,7 +466,7 @@ impl Parts {
         } }
     {
         if let Some(p) = pop(&mut self.held) {
-            let _ = self.rooms.release_one();
+            self.rooms.release_one(p.job.value());
             self.running = Some(in_role(&p, Role::Running));
         }
     }
@@ -572,9 +556,7 @@ impl Parts {
           held = with_role r.now Held ∷ self.old.held;
         } }
     {
-        let entry = entry_of(r);
-        let avail = room_with(&self.rooms, &entry, self.clock);
-        self.rooms.hold(entry, self.clock, avail);
+        self.rooms.hold(&entry_of(r));
         push(&mut self.held, &in_role(r, Role::Held));
         self.fresh = None;
         self.running = Some(in_role(f, Role::Running));
@@ -597,7 +579,8 @@ impl Parts {
     {
         let _ = self.pool.take_latest(steps);
         self.pool.add(in_role(r, Role::Waiting), steps);
-        displace(&mut self.held, &mut self.rooms, &mut self.pool, steps);
+        displace(&mut self.held, &mut self.pool, steps);
+        self.rooms.clear();
         self.running = Some(in_role(x, Role::Running));
     }
 

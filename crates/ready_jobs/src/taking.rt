@@ -1,6 +1,5 @@
 //! All held jobs wait.
 ghost use Rattle.std.specs.Prelude.{◌≡◌, ℕ, ◌+◌, ◌*◌, ◌^◌, ◌<◌, ◌≤◌, [], ◌++◌, length, map, reverse, vec_capacity};
-ghost use Rattle.dover_model.specs.Entries.{entry_of};
 ghost use Rattle.dover_model.specs.Step.{with_role};
 ghost use Rattle.dover_model.specs.Sound.{Each};
 ghost use Rattle.ready_jobs.specs.Reordered.{IsReordered};
@@ -10,7 +9,6 @@ use crate::held::pop;
 use crate::pool::Pool;
 use crate::short::ShortTask;
 use dover_model::{Role, Task};
-use held_queue::Privileged;
 use std::sync::ledger::Ledger;
 use step_count::Steps;
 
@@ -27,26 +25,18 @@ pub(crate) fn in_role(t: &Task, role: Role) -> Task
     }
 }
 
-// The held jobs, which are on the stack with their rooms, wait in the pool.
-pub(crate) fn displace<L: Ledger>(
-    held: &mut Vec<ShortTask>,
-    rooms: &mut Privileged,
-    pool: &mut Pool,
-    steps: &mut Steps<L>,
-)
-    requires rooms { rooms.old.held ≡ map entry_of (reverse held.old.items) }
+// The held jobs wait in the pool.
+pub(crate) fn displace<L: Ledger>(held: &mut Vec<ShortTask>, pool: &mut Pool, steps: &mut Steps<L>)
     requires room { length held.old.items + length pool.old.tasks ≤ pool.old.room }
     requires numbers { Each (λ t. t.number < 2 ^ 20) (reverse held.old.items) }
     ensures none { held.new.items ≡ [] }
     ensures capacity { vec_capacity held.new ≡ vec_capacity held.old }
-    ensures rooms { rooms.new ≡ record rooms.old { held = []; spare = rooms.old.spare + length held.old.items } }
     ensures kept { pool.new ≡ record pool.old { tasks = pool.new.tasks } }
     ensures more { IsReordered (map made_wait (reverse held.old.items) ++ pool.old.tasks) pool.new.tasks }
     ensures count { (d : ℕ) → length held.old.items + length pool.old.tasks + 1 < 2 ^ d →
         steps.new ≤ steps.old + 2 * d * length held.old.items }
 {
     while let Some(t) = pop(held) {
-        let _ = rooms.release_one();
         pool.add(in_role(&t, Role::Waiting), steps);
     }
 }

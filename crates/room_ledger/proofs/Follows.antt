@@ -29,7 +29,6 @@ pub record Follows (s : State) (p : Page) : Type 0 where
   pub turn : IsTurn s.tasks (turn_at p s.clock)
   pub stored : AreStored p.entries s.tasks
   pub count : length s.tasks ≤ length p.entries
-  pub latest : p.held.latest ≤ s.clock
   pub order : IsByDeadline p.held.held
   pub held : p.held.held ≡ held_entries s.tasks
 

@@ -69,7 +69,7 @@ module _ (s : State) (sound : IsSound s) (p : Page) (follows : Follows s p)
         (λ t m yes_. sound.one_runs t r m member (is_running_role t yes_) runs))
         before_held
 
-    can_hold : CanHold p.held s.clock (entry_of r)
+    can_hold : CanHold p.held (entry_of r)
     can_hold = record {
       first = before_entries;
       total = omega (
@@ -85,18 +85,18 @@ module _ (s : State) (sound : IsSound s) (p : Page) (follows : Follows s p)
     completes : Next s p (Prints (Complete s.clock r.number))
     completes = record {
       can = (can_stop, refl);
-      follows = halted s sound p follows r member runs Done (λ e. cc) p.held follows.latest follows.order
+      follows = halted s sound p follows r member runs Done (λ e. cc) p.held follows.order
           (follows.held ∙ held_same s.tasks sound.numbered r member Done not_held refl);
     }
 
     -- it is held
     holds : Follows (at_clock s (with_role_at r.number Held s.tasks))
-        (record (stopped p s.clock) { held = with_hold p.held s.clock (turn_at p s.clock) })
+        (record (stopped p s.clock) { held = with_hold p.held (turn_at p s.clock) })
     holds = subst (λ o. Follows (at_clock s (with_role_at r.number Held s.tasks))
-        (record (stopped p s.clock) { held = with_hold p.held s.clock o }))
+        (record (stopped p s.clock) { held = with_hold p.held o }))
         (sym (the_turn s sound p follows r member runs))
         (halted s sound p follows r member runs Held (λ e. cc)
-        (with_hold p.held s.clock (Some (entry_of r))) (omega (arith, follows.latest))
+        (with_hold p.held (Some (entry_of r)))
         (each_all (λ f. r.job.deadline < f.deadline) p.held.held before_entries, follows.order)
         (ap (λ es. entry_of r ∷ es) follows.held
         ∙ held_more s.tasks sound.numbered r member not_held before_held))
@@ -105,17 +105,17 @@ module _ (s : State) (sound : IsSound s) (p : Page) (follows : Follows s p)
     preempts : (f : Task) → IsMember f s.tasks → f.role ≡ Fresh → Next s p (Prints (Preempt s.clock r.number f.number))
     preempts f f_in fresh = record {
       can = (
-        (can_stop, record { late = follows.latest; can = of_turn (CanHold p.held s.clock) can_hold }),
+        (can_stop, of_turn (CanHold p.held) can_hold),
         room_is,
       );
       follows = subst (λ ts. Follows (at_clock s ts)
-          (started (record (stopped p s.clock) { held = with_hold p.held s.clock (turn_at p s.clock) }) s.clock
+          (started (record (stopped p s.clock) { held = with_hold p.held (turn_at p s.clock) }) s.clock
           f.number))
           (map_map (λ t. with_role t (cond (t.number == f.number) Running t.role))
           (λ t. with_role t (cond (t.number == r.number) Held t.role)) s.tasks)
           (starts (at_clock s tasks)
-          (record (stopped p s.clock) { held = with_hold p.held s.clock (turn_at p s.clock) }) holds g g_in g_idle
-          (with_hold p.held s.clock (turn_at p s.clock)) holds.latest holds.order
+          (record (stopped p s.clock) { held = with_hold p.held (turn_at p s.clock) }) holds g g_in g_idle
+          (with_hold p.held (turn_at p s.clock)) holds.order
           (holds.held ∙ held_same tasks numbered g g_in Running g_out refl));
     } where
       tasks : List Task
@@ -157,7 +157,7 @@ module _ (s : State) (sound : IsSound s) (p : Page) (follows : Follows s p)
           ∙ map_map (λ t. with_role t (cond (t.number == x.number) Running t.role))
           (λ t. with_role t (displaced t.role)) s.tasks)
           (starts (at_clock s tasks) (record (stopped p s.clock) { held = empty }) free g g_in g_idle empty
-          free.latest free.order (free.held ∙ held_same tasks numbered g g_in Running g_out refl));
+          free.order (free.held ∙ held_same tasks numbered g g_in Running g_out refl));
     } where
       waiting : List Task
       waiting = with_role_at r.number Waiting s.tasks
@@ -166,7 +166,7 @@ module _ (s : State) (sound : IsSound s) (p : Page) (follows : Follows s p)
       tasks = all_displaced waiting
 
       alone : Follows (at_clock s waiting) (record (stopped p s.clock) { held = p.held })
-      alone = halted s sound p follows r member runs Waiting (λ e. cc) p.held follows.latest follows.order
+      alone = halted s sound p follows r member runs Waiting (λ e. cc) p.held follows.order
           (follows.held ∙ held_same s.tasks sound.numbered r member Waiting not_held refl)
 
       free : Follows (at_clock s tasks) (record (stopped p s.clock) { held = empty })
@@ -207,7 +207,7 @@ module _ (s : State) (sound : IsSound s) (p : Page) (follows : Follows s p)
   resumes q member holds least = record {
     can = (tt, refl);
     follows = subst (λ h. Follows (at_clock s tasks) (started (record p { held = h }) s.clock q.number)) (sym stack_is)
-        (starts s p follows q member idle rest follows.latest
+        (starts s p follows q member idle rest
         (subst IsByDeadline is follows.order).1 refl);
   } where
     tasks : List Task
@@ -241,12 +241,12 @@ module _ (s : State) (sound : IsSound s) (p : Page) (follows : Follows s p)
     is = follows.held ∙ held_less s.tasks sound.numbered q member held later
 
     rest : Stack
-    rest = record { held = held_entries tasks; latest = p.held.latest; spare = p.held.spare + 1 }
+    rest = record { held = held_entries tasks; spare = p.held.spare + 1 }
 
     stack_is : without q.number p.held (top_of p.held.held) ≡ rest
     stack_is = ap (without q.number p.held) (ap top_of is)
-        ∙ ap (λ b. cond b (popped p.held.held p.held.latest p.held.spare) p.held) (eq-eqb q.number q.number refl)
-        ∙ ap (λ es. popped es p.held.latest p.held.spare) is
+        ∙ ap (λ b. cond b (popped p.held.held p.held.spare) p.held) (eq-eqb q.number q.number refl)
+        ∙ ap (λ es. popped es p.held.spare) is
 
   -- a job that isn't held starts
   begins : (x : Task) → IsMember x s.tasks → (x.role ≡ Running → ⊥) → is_held x ≡ false
@@ -255,14 +255,14 @@ module _ (s : State) (sound : IsSound s) (p : Page) (follows : Follows s p)
     can = (tt, refl);
     follows = subst (λ h. Follows (at_clock s (with_role_at x.number Running s.tasks))
         (started (record p { held = h }) s.clock x.number)) (sym (by_top (top_of p.held.held) refl))
-        (starts s p follows x member idle p.held follows.latest follows.order
+        (starts s p follows x member idle p.held follows.order
         (follows.held ∙ held_same s.tasks sound.numbered x member Running out refl));
   } where
     by_top : (o : Option Entry) → top_of p.held.held ≡ o → without x.number p.held o ≡ p.held
     by_top None e = refl
     by_top (Some e) top =
         let it = top_held s.tasks p.held.held e follows.held top in
-        ap (λ b. cond b (popped p.held.held p.held.latest p.held.spare) p.held) (ne_eqb e.number x.number (λ same. never
+        ap (λ b. cond b (popped p.held.held p.held.spare) p.held) (ne_eqb e.number x.number (λ same. never
         (sym out ∙ passes is_held x Held true
         (sym (ap (λ (t : Task). t.role) (one_number 0 s.tasks sound.numbered it.0 x it.1 member
         (sym (ap (λ (f : Entry). f.number) it.3) ∙ same))) ∙ it.2) refl)))
@@ -275,11 +275,8 @@ module _ (s : State) (sound : IsSound s) (p : Page) (follows : Follows s p)
       → Next s p (Prints (Release c.number c.job))
   releases c member comes now free = record {
     can = (
-      record {
-        late = omega (arith, follows.latest, now);
-        first = subst (λ m. ForSome (turn_at p m) (λ e. Each (λ f. e.deadline < f.deadline) p.held.held)) (sym now)
-            (firsts (turn_at p s.clock) follows.turn);
-      },
+      subst (λ m. ForSome (turn_at p m) (λ e. Each (λ f. e.deadline < f.deadline) p.held.held)) (sym now)
+          (firsts (turn_at p s.clock) follows.turn),
       subst (λ m. room_with m p.held (turn_at p m) ≡ room s.clock (privileged s)) (sym now)
           (by_turn (turn_at p s.clock) refl follows.turn),
     );

@@ -96,14 +96,13 @@ module _ (s : State) (sound : IsSound s) (p : Page) (follows : Follows s p) wher
         follows.count,
         length-map s.tasks (λ t. with_role t (cond (t.number == c.number) new t.role)),
       );
-      latest = follows.latest;
       order = follows.order;
       held = follows.held ∙ held_same s.tasks sound.numbered c member new out out_too;
     }
 
   -- the job that runs gets another role, and the held ones are these
   module _ (r : Task) (member : IsMember r s.tasks) (runs : r.role ≡ Running) (new : Role)
-      (idle_now : new ≡ Running → ⊥) (h : Stack) (late : h.latest ≤ s.clock) (order : IsByDeadline h.held)
+      (idle_now : new ≡ Running → ⊥) (h : Stack) (order : IsByDeadline h.held)
       (is : h.held ≡ held_entries (with_role_at r.number new s.tasks)) where
     none_now : NoneRuns (with_role_at r.number new s.tasks)
     none_now =
@@ -147,7 +146,6 @@ module _ (s : State) (sound : IsSound s) (p : Page) (follows : Follows s p) wher
         length-map s.tasks (λ t. with_role t (cond (t.number == r.number) new t.role)),
         length-set p.entries r.number (entry_of r),
       );
-      latest = late;
       order = order;
       held = is;
     }
@@ -166,7 +164,6 @@ module _ (s : State) (sound : IsSound s) (p : Page) (follows : Follows s p) wher
         on_map ticked (λ t. (t.role ≡ Running → ⊥) → slice_index_or p.entries t.number nobody ≡ entry_of t) s.tasks
         (λ t m other. follows.stored t m other ∙ idle_same t (is_running t) refl other);
     count = omega (arith, follows.count, length-map s.tasks ticked);
-    latest = omega (arith, follows.latest);
     order = follows.order;
     held = follows.held ∙ held_ticked s.tasks;
   } where
@@ -213,7 +210,7 @@ module _ (s : State) (sound : IsSound s) (p : Page) (follows : Follows s p) wher
 module _ (s : State) (p : Page) (follows : Follows s p) where
   -- a job that doesn't run starts, and the held ones are these
   module _ (x : Task) (member : IsMember x s.tasks) (idle : x.role ≡ Running → ⊥) (h : Stack)
-      (late : h.latest ≤ s.clock) (order : IsByDeadline h.held)
+      (order : IsByDeadline h.held)
       (is : h.held ≡ held_entries (with_role_at x.number Running s.tasks)) where
     pub starts : Follows (at_clock s (with_role_at x.number Running s.tasks))
         (started (record p { held = h }) s.clock x.number)
@@ -233,7 +230,6 @@ module _ (s : State) (p : Page) (follows : Follows s p) where
         follows.count,
         length-map s.tasks (λ t. with_role t (cond (t.number == x.number) Running t.role)),
       );
-      latest = late;
       order = order;
       held = is;
     } where
@@ -253,7 +249,6 @@ module _ (s : State) (p : Page) (follows : Follows s p) where
         (λ t. (t.role ≡ Running → ⊥) → slice_index_or p.entries t.number nobody ≡ entry_of t) s.tasks
         (λ t m other. follows.stored t m (none t m));
     count = omega (arith, follows.count, length-map s.tasks (λ t. with_role t (displaced t.role)));
-    latest = omega arith;
     order = tt;
     held = none_held s.tasks;
   } where

@@ -164,7 +164,6 @@ module _ (J : Instance) (valid : IsValid J) where
       stored = λ t m other.
           ap (λ i. get_or (map entry_of (to_come 0 J.jobs)) i nobody) (none_off t.number) ∙ come_stored 0 J.jobs t m;
       count = omega (arith, length-map (to_come 0 J.jobs) entry_of);
-      latest = omega arith;
       order = tt;
       held = ap (λ ts. by_deadline (map entry_of ts)) (sym (none_pass is_held (to_come 0 J.jobs)
           (λ t m. passes is_held t Coming false (come_coming 0 J.jobs t m).0 refl)));

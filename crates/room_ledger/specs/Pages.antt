@@ -24,7 +24,7 @@ nobody = record { number = 0; deadline = 0; latest = 0; left = 0; value = 0 }
 
 -- no job is held
 abbrev pub empty : Stack
-empty = record { held = []; latest = 0; spare = 0 }
+empty = record { held = []; spare = 0 }
 
 -- a job that ran for so many ticks more
 abbrev pub ran : ℕ → Entry → Entry
@@ -53,22 +53,22 @@ stopped p at = record p { entries = stored p.entries (turn_at p at); turn = None
 abbrev pub started : Page → (at n : ℕ) → Page
 started p at n = record p { since = at; turn = Some (slice_index_or p.entries n nobody) }
 
--- the held jobs with this one, from this tick on
-abbrev pub with_hold : Stack → ℕ → Option Entry → Stack
-with_hold s at None = s
-with_hold s at (Some e) = record { held = e ∷ s.held; latest = max s.latest at; spare = max s.spare 1 - 1 }
+-- the held jobs with this one
+abbrev pub with_hold : Stack → Option Entry → Stack
+with_hold s None = s
+with_hold s (Some e) = record { held = e ∷ s.held; spare = max s.spare 1 - 1 }
 
 -- without the job of this number, if it is the one on top
 abbrev pub without : ℕ → Stack → Option Entry → Stack
 without n s None = s
-without n s (Some e) = if e.number == n then popped s.held s.latest s.spare else s
+without n s (Some e) = if e.number == n then popped s.held s.spare else s
 
 -- after a printed step
 abbrev pub with_event : Page → Event → Page
 with_event p (Release n job) = p
 with_event p (Run at n) = started (record p { held = without n p.held (top_of p.held.held) }) at n
 with_event p (Preempt at stops starts) =
-    started (record (stopped p at) { held = with_hold p.held at (turn_at p at) }) at starts
+    started (record (stopped p at) { held = with_hold p.held (turn_at p at) }) at starts
 with_event p (Take at stops starts) = started (record (stopped p at) { held = empty }) at starts
 with_event p (Complete at n) = stopped p at
 with_event p (Abandon at n) = p
@@ -87,8 +87,8 @@ room_on p _ = 0
 
 -- ---- what a step asks of the page
 
--- this job can be put on top at a tick
-pub record CanHold (s : Stack) (at : ℕ) (e : Entry) : Type 0 where
+-- this job can be put on top
+pub record CanHold (s : Stack) (e : Entry) : Type 0 where
   pub first : Each (λ f. e.deadline < f.deadline) s.held
   pub total : value_of (e ∷ s.held) ≤ most_total
 
@@ -97,14 +97,12 @@ abbrev pub CanStop : Page → ℕ → Type 0
 CanStop p at = ForSome (turn_at p at) (λ e. e.number < length p.entries)
 
 -- and held
-pub record CanPreempt (p : Page) (at : ℕ) : Type 0 where
-  pub late : p.held.latest ≤ at
-  pub can : ForSome (turn_at p at) (CanHold p.held at)
+abbrev pub CanPreempt : Page → ℕ → Type 0
+CanPreempt p at = ForSome (turn_at p at) (CanHold p.held)
 
 -- the room can be asked for
-pub record CanWeigh (p : Page) (at : ℕ) : Type 0 where
-  pub late : p.held.latest ≤ at
-  pub first : ForSome (turn_at p at) (λ e. Each (λ f. e.deadline < f.deadline) p.held.held)
+abbrev pub CanWeigh : Page → ℕ → Type 0
+CanWeigh p at = ForSome (turn_at p at) (λ e. Each (λ f. e.deadline < f.deadline) p.held.held)
 
 -- the step can come next
 abbrev pub IsReadable : Page → Event → Type 0

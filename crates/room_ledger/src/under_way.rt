@@ -1,7 +1,5 @@
 //! The running and the held jobs, kept from the printed steps alone.
 ghost use Rattle.std.specs.Prelude.{◌≡◌, ◌≤◌, ◌<◌, ◌∷◌, OnOk, IfOk, None, slice_index_or};
-ghost use Rattle.dover_model.specs.Entries.{room_of};
-ghost use Rattle.dover_model.specs.Sound.{Each};
 ghost use Rattle.held_queue.specs.Stack.{top_of};
 ghost use Rattle.room_ledger.specs.Pages.{Page, nobody, ran, turn_at, stopped, started, with_hold, without, with_event};
 ghost use Rattle.room_ledger.specs.Pages.{empty, room_on, CanStop, CanPreempt, CanWeigh, IsReadable};
@@ -41,19 +39,6 @@ fn ran(ticks: u64, entry: &Entry) -> Entry
         latest: entry.deadline.saturating_sub(left),
         left,
         value: entry.value,
-    }
-}
-
-/// The room of the held jobs with this one, which is due before them.
-fn room_with(held: &Privileged, entry: &Entry, at: u64) -> u64
-    requires late { held.now.latest ≤ at }
-    requires first { Each (λ f. entry.now.deadline < f.deadline) held.now.held }
-    ensures { result ≡ room_of at (entry.now ∷ held.now.held) }
-{
-    let alone = entry.deadline.saturating_sub(entry.left).saturating_sub(at);
-    match held.room(at) {
-        Some(room) => alone.min(room.saturating_sub(entry.left)),
-        None => alone,
     }
 }
 
@@ -104,7 +89,7 @@ impl UnderWay {
         ensures { result ≡ pages.room_with at self.now.held (turn_at self.now at) }
     {
         match self.turn_at(at) {
-            Some(entry) => room_with(&self.held, &entry, at),
+            Some(entry) => self.held.room_with(&entry, at),
             None => 0,
         }
     }
@@ -172,12 +157,11 @@ impl UnderWay {
         requires stop { CanStop self.old at }
         requires hold { CanPreempt self.old at }
         ensures { OnOk result (self.new ≡ started (record (stopped self.old at)
-            { held = with_hold self.old.held at (turn_at self.old at) }) at number) }
+            { held = with_hold self.old.held (turn_at self.old at) }) at number) }
     {
         if let Some(entry) = self.turn_at(at) {
             self.held.reserve(1)?;
-            let room = room_with(&self.held, &entry, at);
-            self.held.hold(entry, at, room);
+            self.held.hold(entry);
         }
         self.stop(at);
         self.start(at, number);

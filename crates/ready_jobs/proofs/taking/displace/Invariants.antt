@@ -5,7 +5,7 @@ use Rattle.ready_jobs.proofs.taking.displace.Given as goal
 
 abbrev pub invariant-loop-t : goal.invariant-loop-t
 invariant-loop-t g l = record {
-  displaces : Displaces l.initial.held.items l.held.items l.initial.rooms l.rooms l.initial.pool l.pool;
+  displaces : Displaces l.initial.held.items l.held.items l.initial.pool l.pool;
   capacity : vec_capacity l.held ≡ vec_capacity l.initial.held;
   count : (d : ℕ) → length l.initial.held.items + length l.initial.pool.tasks + 1 < 2 ^ d →
       l.steps + 2 * d * length l.held.items ≤ l.initial.steps + 2 * d * length l.initial.held.items;

@@ -61,7 +61,6 @@ invariant_of-self c =
             (inside.done + t.job.value))
             (sym c.stop.ensures.free) agrees),
       );
-      latest = subst (λ p. inside.held.latest ≤ p.clock) (sym c.stop.ensures.free) kept.latest;
       fits = omega (arith, kept.fits, c.set_role.ensures.len, c.set_role.ensures.capacity);
       fits_held = omega (arith, kept.fits_held, c.set_role.ensures.len);
       few = omega (arith, kept.few, c.set_role.ensures.len);

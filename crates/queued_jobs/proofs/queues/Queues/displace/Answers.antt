@@ -85,7 +85,6 @@ invariant_of-self g c =
             (subst (λ w. Agrees changed w.table k top.rest inside.cpu.job inside.fresh inside.next inside.done)
             (sym after_is) agrees)),
       );
-      latest = subst (λ h. h.latest ≤ inside.cpu.clock) (sym below_is) kept.latest;
       fits = omega (arith, kept.fits, c.set_role.ensures.len, c.set_role.ensures.capacity);
       fits_held = subst (λ h. vec_len c.set_role.new.tasks + inside.spare ≤ length h.held + h.spare) (sym below_is)
           (omega (arith, kept.fits_held, c.set_role.ensures.len, ap length top.is));

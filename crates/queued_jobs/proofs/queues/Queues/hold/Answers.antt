@@ -29,18 +29,6 @@ stop-requires c =
     (passes is_running t Running true c.requires.role refl) in
     subst IsSome (sym job) refl
 
-pub room_with-avail-requires-clause-first : goal.room_with-avail-requires-clause-first
-room_with-avail-requires-clause-first c =
-    let inside = c.self.inside in
-    let kept = c.self.invariant in
-    let tasks = inside.tasks.items in
-    let t = c.args.t.now in
-    let first = subst (λ q. Each (λ x. is_held x ≡ true → t.job.deadline < x.job.deadline) q.state.tasks)
-    (sym c.self.view_is) c.requires.first in
-    let later = subst (Each (λ f. t.job.deadline < f.deadline)) (sym kept.agrees.2.held)
-    (entries_later t.job.deadline tasks first) in
-    subst (λ e. Each (λ f. e.deadline < f.deadline) inside.held.held) (sym c.entry_of-entry.ensures) later
-
 pub hold-requires-clause-spare : goal.hold-requires-clause-spare
 hold-requires-clause-spare c =
     let inside = c.self.inside in
@@ -62,7 +50,7 @@ hold-requires-clause-first c x top =
     (sym c.self.view_is) c.requires.first in
     let later = subst (Each (λ f. t.job.deadline < f.deadline)) (sym kept.agrees.2.held)
     (entries_later t.job.deadline tasks first) in
-    subst (λ e. e.deadline < x.deadline) (sym c.entry_of-entry.ensures)
+    subst (λ e. e.deadline < x.deadline) (sym c.entry_of.ensures)
     (top_later t.job.deadline inside.held.held x later top)
 
 pub hold-requires-clause-total : goal.hold-requires-clause-total
@@ -82,7 +70,7 @@ hold-requires-clause-total c =
     (let one : value_of (entry_of t ∷ inside.held.held) ≡ t.job.value + value_of inside.held.held =
     sum_by-cons (λ e. e.value) (entry_of t) inside.held.held in
     omega (arith, one, sum, room, total)) in
-    subst (λ e. value_of (e ∷ inside.held.held) ≤ 10_000_000_000_000) (sym c.entry_of-entry.ensures) all
+    subst (λ e. value_of (e ∷ inside.held.held) ≤ 10_000_000_000_000) (sym c.entry_of.ensures) all
 
 pub set_role-requires : goal.set_role-requires
 set_role-requires c =
@@ -107,7 +95,6 @@ invariant_of-self c =
     let agrees = hold_step tasks changed t inside.waiting.table k inside.held.held inside.cpu.job inside.fresh
     inside.next inside.done
     (splits t Held tasks changed found c.set_role.ensures.changes) c.requires.role kept.agrees.2 first in
-    let now : c.clock-2.result ≡ inside.cpu.clock = c.clock-2.ensures ∙ ap (λ p. p.clock) c.stop.ensures.free in
     let few = fewer_pass is_held tasks t (found_member tasks t.number t found)
     (passes is_held t Running false c.requires.role refl) in
     record {
@@ -119,14 +106,11 @@ invariant_of-self c =
             inside.done) (sym c.hold.ensures)
             (subst (λ e. Agrees changed inside.waiting.table k
             (e ∷ inside.held.held) c.stop.new.self.job inside.fresh inside.next inside.done)
-            (sym c.entry_of-entry.ensures)
+            (sym c.entry_of.ensures)
             (subst (λ p. Agrees changed inside.waiting.table k
             (entry_of t ∷ inside.held.held) p.job inside.fresh inside.next inside.done)
             (sym c.stop.ensures.free) agrees)),
       );
-      latest = subst (λ h. h.latest ≤ c.stop.new.self.clock) (sym c.hold.ensures)
-          (subst (λ p. max inside.held.latest c.clock-2.result ≤ p.clock) (sym c.stop.ensures.free)
-          (omega (arith, kept.latest, now)));
       fits = omega (arith, kept.fits, c.set_role.ensures.len, c.set_role.ensures.capacity);
       fits_held = subst (λ h. vec_len c.set_role.new.tasks + inside.spare ≤ length h.held + h.spare)
           (sym c.hold.ensures)

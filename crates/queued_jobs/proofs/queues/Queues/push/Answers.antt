@@ -30,7 +30,6 @@ invariant_of-self c =
         subst (λ ts. Agrees ts inside.waiting.table (kept.agrees.0 - 1) inside.held.held inside.cpu.job
             inside.fresh inside.next inside.done) (sym items) agrees,
       );
-      latest = kept.latest;
       fits = omega (arith, kept.fits, some, longer, c.push.ensures.capacity);
       fits_held = omega (arith, kept.fits_held, some, longer);
       few = omega (arith, kept.few, some, longer);

@@ -58,7 +58,6 @@ invariant_of-self c =
         subst (λ m. Agrees changed inside.waiting.table k inside.held.held inside.cpu.job (Some t.number)
             (m + 1) inside.done) here agrees,
       );
-      latest = kept.latest;
       fits = omega (arith, kept.fits, c.set_role.ensures.len, c.set_role.ensures.capacity);
       fits_held = omega (arith, kept.fits_held, c.set_role.ensures.len);
       few = omega (arith, kept.few, c.set_role.ensures.len);

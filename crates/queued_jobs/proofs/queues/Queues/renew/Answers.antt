@@ -23,7 +23,6 @@ invariant_of-self c =
             (length inside.tasks.items + kept.agrees.0) inside.held.held inside.cpu.job inside.fresh 0 0)
             (sym c.clear.ensures.items) agrees,
       );
-      latest = kept.latest;
       fits = omega (arith, kept.fits);
       fits_held = omega (arith, kept.fits_held);
       few = omega (arith, kept.few);

@@ -24,7 +24,6 @@ invariant_of-self-in_err-reserve-2 c =
             (kept.agrees.0 + m) h.held inside.cpu.job inside.fresh inside.next
             inside.done) (sym same) agrees,
       );
-      latest = subst (λ h. h.latest ≤ inside.cpu.clock) (sym same) kept.latest;
       fits = kept.fits;
       fits_held = subst (λ h. vec_len inside.tasks + inside.spare ≤ length h.held + h.spare) (sym same) kept.fits_held;
       few = kept.few;
@@ -53,7 +52,6 @@ invariant_of-self-in_err-reserve-3 c =
             (subst (λ h. Agrees inside.tasks.items c.reserve.new.self.table
             (kept.agrees.0 + m) h.held inside.cpu.job inside.fresh inside.next inside.done) (sym roomier) agrees),
       );
-      latest = subst (λ h. h.latest ≤ inside.cpu.clock) (sym roomier) kept.latest;
       fits = omega (arith, kept.fits, c.reserve-3.ensures.len, c.reserve-3.ensures.capacity);
       fits_held = subst (λ h. vec_len tasks + inside.spare ≤ length h.held + h.spare) (sym roomier)
           (omega (arith, kept.fits_held, c.reserve-3.ensures.len));
@@ -86,7 +84,6 @@ invariant_of-self-2 c =
             (subst (λ h. Agrees inside.tasks.items c.reserve.new.self.table
             (kept.agrees.0 + m) h.held inside.cpu.job inside.fresh inside.next inside.done) (sym roomier) agrees),
       );
-      latest = subst (λ h. h.latest ≤ inside.cpu.clock) (sym roomier) kept.latest;
       fits = omega (arith, c.in_ok-reserve-3.ensures.ok, c.reserve-3.ensures.len);
       fits_held = subst (λ h. vec_len tasks + c.args.more ≤ length h.held + h.spare) (sym roomier)
           (omega (

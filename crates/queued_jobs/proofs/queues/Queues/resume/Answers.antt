@@ -67,8 +67,6 @@ invariant_of-self c =
             (sym runs_is)
             agrees)),
       );
-      latest = subst (λ h. h.latest ≤ c.start.new.self.clock) (sym below_is)
-          (subst (λ p. inside.held.latest ≤ p.clock) (sym runs_is) kept.latest);
       fits = omega (arith, kept.fits, c.set_role.ensures.len, c.set_role.ensures.capacity);
       fits_held = subst (λ h. vec_len c.set_role.new.tasks + inside.spare ≤ length h.held + h.spare) (sym below_is)
           (omega (arith, kept.fits_held, c.set_role.ensures.len, ap length top.is));

@@ -7,8 +7,8 @@ use Rattle.queued_jobs.specs.Queued.{queued_of}
 use Rattle.queued_jobs.proofs.Looking.{only_running, running_before, entries_later, busy_room}
 use Rattle.queued_jobs.proofs.queues.Queues.room_busy.Goals as goal
 
-pub room_with-requires-clause-first : goal.room_with-requires-clause-first
-room_with-requires-clause-first c =
+pub room_with-requires : goal.room_with-requires
+room_with-requires c =
     let inside = c.self.inside in
     let sound = subst (λ q. IsSound q.state) (sym c.self.view_is) c.requires.sound in
     let runs = only_running inside.tasks.items inside.cpu.job c.args.r.now c.self.invariant.agrees.2.running

@@ -61,7 +61,6 @@ invariant_of-self c =
             inside.next inside.done)
             (sym run) agrees),
       );
-      latest = subst (λ p. inside.held.latest ≤ p.clock) (sym run) (omega (arith, kept.latest));
       fits = omega (arith, kept.fits, c.serve.ensures.len, c.serve.ensures.capacity);
       fits_held = omega (arith, kept.fits_held, c.serve.ensures.len);
       few = omega (arith, kept.few, c.serve.ensures.len);

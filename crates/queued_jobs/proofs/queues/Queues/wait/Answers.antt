@@ -64,7 +64,6 @@ invariant_of-self g c =
         (subst (λ w. Agrees changed w.table k inside.held.held inside.cpu.job None inside.next inside.done)
             (sym after_is) agrees),
       );
-      latest = kept.latest;
       fits = omega (arith, kept.fits, c.set_role.ensures.len, c.set_role.ensures.capacity);
       fits_held = omega (arith, kept.fits_held, c.set_role.ensures.len);
       few = omega (arith, kept.few, c.set_role.ensures.len);

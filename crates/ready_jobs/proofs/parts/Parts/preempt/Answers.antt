@@ -1,33 +1,24 @@
-use Rattle.std.proofs.Common.{inl, ◌≤◌, ◌-◌, ◌<◌, ◌∷◌, [], ◌++◌, max, reverse, length, Some, None, refl}
+use Rattle.std.proofs.Common.{inl, ◌≤◌, ◌-◌, ◌<◌, ◌∷◌, [], ◌++◌, max, reverse, length, Some, None, refl, ◌+◌, map}
 use Rattle.std.proofs.Common.{sym, ap, ◌∙◌, subst, arith}
 use Rattle.std.specs.Prelude.{vec_capacity}
 use Rattle.std.specs.Option.{option_to_list}
-use Rattle.std.proofs.lemmas.List.{reverse-append, length-map, length-reverse}
+use Rattle.std.proofs.lemmas.List.{reverse-append, length-reverse}
+use Rattle.std.proofs.lemmas.List.Sums.{sum_by-cons}
+use Rattle.dover_model.specs.declared.events.Task.{Task}
 use Rattle.dover_model.specs.declared.events.Entry.{Entry}
 use Rattle.dover_model.specs.declared.events.Role.TheVariants.{Held, Running}
 use Rattle.dover_model.specs.Entries.{entry_of}
 use Rattle.dover_model.specs.State.{value_sum}
 use Rattle.dover_model.specs.Step.{with_role}
-use Rattle.dover_model.specs.Sound.{Each, IsMember}
+use Rattle.dover_model.specs.Sound.{IsMember}
 use Rattle.dover_model.proofs.Members.{on_map, sum_map}
-use Rattle.held_queue.specs.Stack.{value_of}
-use Rattle.queued_jobs.proofs.Steps.{top_later}
+use Rattle.held_queue.specs.Stack.{IsDueBeforeTop}
+use Rattle.held_queue.specs.Kept.{AreRoomsOf}
+use Rattle.held_queue.proofs.Holding.{before_top}
 use Rattle.ready_jobs.specs.Parts.{Parted, AreParts, AreSound}
 use Rattle.ready_jobs.specs.Kept.{parted_of}
 use Rattle.ready_jobs.proofs.Keeping.{busy_two, preempted_kept}
 use Rattle.ready_jobs.proofs.parts.Parts.preempt.Goals as goal
-
-pub room_with-avail-requires-clause-first : goal.room_with-avail-requires-clause-first
-room_with-avail-requires-clause-first c =
-    let inside = c.self.inside in
-    let p = parted_of inside in
-    let sound : AreSound p = subst AreSound (sym c.self.view_is) c.requires.sound in
-    let runs = ap (λ (q : Parted). q.running) c.self.view_is ∙ c.requires.running in
-    let later = sound.first c.args.r.now
-    (subst (λ o. IsMember c.args.r.now (option_to_list o)) (sym runs) (inl refl)) in
-    subst (λ (e : Entry). Each (λ f. e.deadline < f.deadline) inside.rooms.held) (sym c.entry_of-entry.ensures)
-    (subst (Each (λ f. c.args.r.now.job.deadline < f.deadline)) (sym c.self.invariant.held)
-    (on_map entry_of (λ f. c.args.r.now.job.deadline < f.deadline) p.held later))
 
 pub hold-requires-clause-spare : goal.hold-requires-clause-spare
 hold-requires-clause-spare c =
@@ -37,20 +28,7 @@ hold-requires-clause-spare c =
     let two = busy_two p inside.rooms inside.pool (vec_capacity inside.held) kept c.args.r.now c.args.f.now
     (ap (λ (q : Parted). q.running) c.self.view_is ∙ c.requires.running)
     (ap (λ (q : Parted). q.fresh) c.self.view_is ∙ c.requires.fresh) in
-    omega (arith, two, kept.held_room, ap (λ l. length l) kept.held, length-map p.held entry_of)
-
-pub hold-requires-clause-first : goal.hold-requires-clause-first
-hold-requires-clause-first c x top =
-    let inside = c.self.inside in
-    let p = parted_of inside in
-    let sound : AreSound p = subst AreSound (sym c.self.view_is) c.requires.sound in
-    let runs = ap (λ (q : Parted). q.running) c.self.view_is ∙ c.requires.running in
-    let later = sound.first c.args.r.now
-    (subst (λ o. IsMember c.args.r.now (option_to_list o)) (sym runs) (inl refl)) in
-    subst (λ (e : Entry). e.deadline < x.deadline) (sym c.entry_of-entry.ensures)
-    (top_later c.args.r.now.job.deadline inside.rooms.held x
-    (subst (Each (λ f. c.args.r.now.job.deadline < f.deadline)) (sym c.self.invariant.held)
-    (on_map entry_of (λ f. c.args.r.now.job.deadline < f.deadline) p.held later)) top)
+    omega (arith, two, kept.held_room)
 
 pub hold-requires-clause-total : goal.hold-requires-clause-total
 hold-requires-clause-total c =
@@ -60,9 +38,14 @@ hold-requires-clause-total c =
     let runs = ap (λ (q : Parted). q.running) c.self.view_is ∙ c.requires.running in
     let total : value_sum (c.args.r.now ∷ p.held) ≤ 10_000_000_000_000 =
     subst (λ o. value_sum (option_to_list o ++ p.held) ≤ 10_000_000_000_000) runs sound.total in
-    subst (λ (e : Entry). value_of (e ∷ inside.rooms.held) ≤ 10_000_000_000_000) (sym c.entry_of-entry.ensures)
-    (subst (λ l. value_of (entry_of c.args.r.now ∷ l) ≤ 10_000_000_000_000) (sym c.self.invariant.held)
-    (omega (arith, total, sum_map entry_of (λ e. e.value) (c.args.r.now ∷ p.held))))
+    subst (λ (e : Entry). inside.rooms.value + e.value ≤ 10_000_000_000_000) (sym c.entry_of.ensures)
+    (omega (
+      arith,
+      total,
+      c.self.invariant.held.sum,
+      sum_map entry_of (λ e. e.value) p.held,
+      sum_by-cons (λ (t : Task). t.job.value) c.args.r.now p.held,
+    ))
 
 pub push-requires : goal.push-requires
 push-requires c =
@@ -80,13 +63,16 @@ invariant_of-self c =
     let p = parted_of inside in
     let runs = ap (λ (q : Parted). q.running) c.self.view_is ∙ c.requires.running in
     let fresh = ap (λ (q : Parted). q.fresh) c.self.view_is ∙ c.requires.fresh in
-    let more_is = c.hold.ensures
-    ∙ ap (λ (e : Entry). record
-    { held = e ∷ inside.rooms.held; latest = max inside.rooms.latest inside.clock; spare = inside.rooms.spare - 1 })
-    c.entry_of-entry.ensures in
+    let sound : AreSound p = subst AreSound (sym c.self.view_is) c.requires.sound in
+    let first = before_top (entry_of c.args.r.now) (map entry_of p.held)
+    (on_map entry_of (λ f. c.args.r.now.job.deadline < f.deadline) p.held
+    (sound.first c.args.r.now (subst (λ o. IsMember c.args.r.now (option_to_list o)) (sym runs) (inl refl)))) in
+    let more_are = subst (λ e. AreRoomsOf c.hold.new.self (e ∷ map entry_of p.held)) c.entry_of.ensures
+    (c.hold.ensures.kept (map entry_of p.held) c.self.invariant.held
+    (subst (λ e. IsDueBeforeTop e (map entry_of p.held)) (sym c.entry_of.ensures) first)) in
     let kept = preempted_kept p inside.rooms inside.pool
     (vec_capacity inside.held) c.self.invariant c.args.r.now c.args.f.now c.hold.new.self
-    (vec_capacity c.push.new.held) runs fresh more_is
+    (vec_capacity c.push.new.held) runs fresh more_are c.hold.ensures.spare
     (omega (arith, c.self.invariant.stack_room, c.push.ensures.capacity)) in
     let held_is = ap reverse c.push.ensures.items ∙ reverse-append inside.held.items (c.in_role.result ∷ [])
     ∙ ap (λ t. t ∷ reverse inside.held.items) c.in_role.ensures in

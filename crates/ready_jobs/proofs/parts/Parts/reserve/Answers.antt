@@ -1,8 +1,9 @@
-use Rattle.std.proofs.Common.{reverse, length, refl, sym, ap, subst, arith}
+use Rattle.std.proofs.Common.{reverse, length, refl, sym, ap, subst, arith, map}
 use Rattle.std.specs.Prelude.{vec_capacity}
-use Rattle.std.proofs.lemmas.List.{length-map, length-reverse}
+use Rattle.std.proofs.lemmas.List.{length-reverse}
 use Rattle.dover_model.specs.Entries.{entry_of}
-use Rattle.held_queue.specs.Stack.{Stack}
+use Rattle.held_queue.specs.Kept.{Lasting, AreRoomsOf}
+use Rattle.held_queue.proofs.Holding.{spare_kept}
 use Rattle.ready_jobs.specs.Pools.{Pooled}
 use Rattle.ready_jobs.specs.Parts.{AreParts}
 use Rattle.ready_jobs.specs.Kept.{parted_of}
@@ -18,7 +19,7 @@ invariant_of-self-in_err-reserve-2 c =
     (vec_capacity c.reserve.new.self)) (sym c.reserve.ensures.items)
     (subst (λ r. AreParts p r inside.pool (vec_capacity c.reserve.new.self)) (sym c.in_err-reserve-2.ensures.err)
     (reserved_kept p inside.rooms inside.pool (vec_capacity inside.held) kept inside.room
-    (vec_capacity c.reserve.new.self) inside.rooms inside.pool refl refl
+    (vec_capacity c.reserve.new.self) inside.rooms inside.pool kept.held
     (omega arith) kept.most kept.pool_room kept.held_room (omega (arith, kept.stack_room, c.reserve.ensures.capacity))))
 
 pub invariant_of-self-in_err-reserve-3 : goal.invariant_of-self-in_err-reserve-3
@@ -37,10 +38,10 @@ invariant_of-self-in_err-reserve-3 c =
     (sym c.reserve-3.ensures.same)
     (reserved_kept p inside.rooms inside.pool (vec_capacity inside.held) kept inside.room
     (vec_capacity c.reserve.new.self) rooms pool
-    (ap (λ (s : Stack). s.held) c.in_ok-reserve-2.ensures.ok)
-    (ap (λ (s : Stack). s.latest) c.in_ok-reserve-2.ensures.ok)
+    (subst (λ r. AreRoomsOf r (map entry_of p.held)) (sym c.in_ok-reserve-2.ensures.ok)
+    (spare_kept inside.rooms (map entry_of p.held) _ kept.held))
     (omega arith) kept.most (omega (arith, kept.pool_room, c.in_err-reserve-3.ensures.err))
-    (omega (arith, kept.held_room, ap (λ (s : Stack). s.spare) c.in_ok-reserve-2.ensures.ok))
+    (omega (arith, kept.held_room, ap (λ (s : Lasting). s.spare) c.in_ok-reserve-2.ensures.ok))
     (omega (arith, kept.stack_room, c.reserve.ensures.capacity)))))
 
 pub invariant_of-self-2 : goal.invariant_of-self-2
@@ -61,14 +62,12 @@ invariant_of-self-2 c =
     (sym c.reserve-3.ensures.same)
     (reserved_kept p inside.rooms inside.pool (vec_capacity inside.held) kept c.args.room
     (vec_capacity c.reserve.new.self) rooms pool
-    (ap (λ (s : Stack). s.held) c.in_ok-reserve-2.ensures.ok)
-    (ap (λ (s : Stack). s.latest) c.in_ok-reserve-2.ensures.ok)
+    (subst (λ r. AreRoomsOf r (map entry_of p.held)) (sym c.in_ok-reserve-2.ensures.ok)
+    (spare_kept inside.rooms (map entry_of p.held) _ kept.held))
     (omega (arith, c.if-room-self.false)) c.requires (omega (arith, c.in_ok-reserve-3.ensures.ok))
     (omega (
       arith,
-      ap (λ (s : Stack). s.spare) c.in_ok-reserve-2.ensures.ok,
-      ap (λ l. length l) kept.held,
-      length-map p.held entry_of,
+      ap (λ (s : Lasting). s.spare) c.in_ok-reserve-2.ensures.ok,
       length-reverse inside.held.items,
       inside.held.ok.0,
       c.len-held.ensures,

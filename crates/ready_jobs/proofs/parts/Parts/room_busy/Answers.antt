@@ -1,35 +1,29 @@
-use Rattle.std.proofs.Common.{inl, ◌<◌, ◌∷◌, ◌++◌, refl, sym, ap, ◌∙◌, subst}
+use Rattle.std.proofs.Common.{inl, ◌<◌, ◌∷◌, ◌++◌, refl, sym, ap, ◌∙◌, subst, map}
 use Rattle.std.specs.Option.{option_to_list}
-use Rattle.dover_model.specs.declared.events.Entry.{Entry}
 use Rattle.dover_model.specs.Entries.{entry_of, room_of}
 use Rattle.dover_model.specs.State.{privileged, room}
-use Rattle.dover_model.specs.Sound.{Each, IsMember}
+use Rattle.dover_model.specs.Sound.{IsMember}
 use Rattle.dover_model.proofs.Members.{on_map}
+use Rattle.held_queue.specs.Stack.{IsDueBeforeTop}
+use Rattle.held_queue.proofs.Holding.{before_top}
 use Rattle.queued_jobs.proofs.Deadlines.{room_map}
 use Rattle.ready_jobs.specs.Parts.{Parted, AreSound, state_of}
 use Rattle.ready_jobs.specs.Kept.{parted_of}
 use Rattle.ready_jobs.proofs.Seeing.{privileged_list}
 use Rattle.ready_jobs.proofs.parts.Parts.room_busy.Goals as goal
 
-pub room_with-requires-clause-first : goal.room_with-requires-clause-first
-room_with-requires-clause-first c =
-    let inside = c.self.inside in
-    let p = parted_of inside in
-    let sound : AreSound p = subst AreSound (sym c.self.view_is) c.requires.sound in
-    let runs = ap (λ (q : Parted). q.running) c.self.view_is ∙ c.requires.running in
-    let later = sound.first c.args.r.now
-    (subst (λ o. IsMember c.args.r.now (option_to_list o)) (sym runs) (inl refl)) in
-    subst (λ d. Each (λ f. d < f.deadline) inside.rooms.held) (sym (ap (λ (e : Entry). e.deadline) c.entry_of.ensures))
-    (subst (Each (λ f. c.args.r.now.job.deadline < f.deadline)) (sym c.self.invariant.held)
-    (on_map entry_of (λ f. c.args.r.now.job.deadline < f.deadline) p.held later))
-
 pub returns : goal.returns
 returns c =
     let inside = c.self.inside in
     let p = parted_of inside in
     let runs = ap (λ (q : Parted). q.running) c.self.view_is ∙ c.requires.running in
-    c.room_with.ensures ∙ ap (λ e. room_of inside.clock (e ∷ inside.rooms.held)) c.entry_of.ensures
-    ∙ ap (λ l. room_of inside.clock (entry_of c.args.r.now ∷ l)) c.self.invariant.held
+    let sound : AreSound p = subst AreSound (sym c.self.view_is) c.requires.sound in
+    let first = before_top (entry_of c.args.r.now) (map entry_of p.held)
+    (on_map entry_of (λ f. c.args.r.now.job.deadline < f.deadline) p.held
+    (sound.first c.args.r.now (subst (λ o. IsMember c.args.r.now (option_to_list o)) (sym runs) (inl refl)))) in
+    c.room_with.ensures (map entry_of p.held) c.self.invariant.held
+    (subst (λ e. IsDueBeforeTop e (map entry_of p.held)) (sym c.entry_of.ensures) first)
+    ∙ ap (λ e. room_of inside.clock (e ∷ map entry_of p.held)) c.entry_of.ensures
     ∙ room_map inside.clock (c.args.r.now ∷ p.held)
     ∙ sym (ap (room inside.clock)
     (privileged_list p c.self.invariant.roles ∙ ap (λ o. option_to_list o ++ p.held) runs))

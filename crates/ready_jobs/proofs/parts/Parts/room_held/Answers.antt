@@ -1,6 +1,6 @@
-use Rattle.std.proofs.Common.{sym, ap, ◌∙◌}
+use Rattle.std.proofs.Common.{sym, ap, ◌∙◌, map}
 use Rattle.std.specs.Prelude.{unwrap_or}
-use Rattle.dover_model.specs.Entries.{room_of}
+use Rattle.dover_model.specs.Entries.{entry_of}
 use Rattle.dover_model.specs.State.{held, room}
 use Rattle.queued_jobs.proofs.Deadlines.{room_map}
 use Rattle.queued_jobs.proofs.Looking.{room_or_none}
@@ -14,7 +14,6 @@ returns c =
     let inside = c.self.inside in
     let p = parted_of inside in
     let kept = c.self.invariant in
-    c.unwrap_or.ensures ∙ ap (λ o. unwrap_or o 0) c.room.ensures ∙ room_or_none inside.clock inside.rooms.held
-    ∙ ap (room_of inside.clock) kept.held
-    ∙ room_map inside.clock p.held ∙ sym (ap (room inside.clock) (held_list p kept.roles))
+    c.unwrap_or.ensures ∙ ap (λ o. unwrap_or o 0) (c.room.ensures (map entry_of p.held) kept.held)
+    ∙ room_or_none inside.clock (map entry_of p.held) ∙ room_map inside.clock p.held ∙ sym (ap (room inside.clock) (held_list p kept.roles))
     ∙ ap (λ (q : Parted). room q.clock (held (state_of q))) c.self.view_is

@@ -1,8 +1,9 @@
 use Rattle.std.proofs.Common.{◌+◌, ◌^◌, ◌<◌, ◌∷◌, [], ◌++◌, map, reverse, length, Some, sym, ap}
 use Rattle.std.proofs.Common.{◌∙◌, subst, arith}
 use Rattle.std.specs.Prelude.{vec_capacity}
-use Rattle.std.proofs.lemmas.List.{length-reverse}
+use Rattle.std.proofs.lemmas.List.{length-map, length-reverse}
 use Rattle.dover_model.specs.declared.events.Task.{Task}
+use Rattle.dover_model.specs.Entries.{entry_of}
 use Rattle.dover_model.specs.Orders.{starts_before, first}
 use Rattle.ready_jobs.specs.Changed.{made_wait}
 use Rattle.ready_jobs.specs.Reordered.{IsReordered}
@@ -83,22 +84,21 @@ invariant_of-self g c =
     let room = ap (λ (q : Pooled). q.room) c.displace.ensures.kept
     ∙ ap (λ (q : Pooled). q.room) c.add.ensures.kept
     ∙ ap (λ (q : Pooled). q.room) c.take_latest-self-inside.ensures.kept in
-    let left = c.displace.ensures.rooms
-    ∙ ap (λ n. record { held = []; latest = inside.rooms.latest; spare = inside.rooms.spare + n })
-    (sym (length-reverse inside.held.items)) in
+    let spare = c.clear.ensures.spare (map entry_of p.held) c.self.invariant.held
+    ∙ ap (λ n. inside.rooms.spare + n) (length-map p.held entry_of) in
     subst (λ v. AreParts (record p {
       version = v;
       running = Some c.in_role-2.result;
       held = reverse c.displace.new.held.items;
       waiting = three.tasks;
-    }) c.displace.new.rooms three
+    }) c.clear.new.self three
     (vec_capacity c.displace.new.held)) (sym version)
     (subst (λ l. AreParts (record p { running = Some c.in_role-2.result; held = reverse l; waiting = three.tasks })
-    c.displace.new.rooms three (vec_capacity c.displace.new.held)) (sym c.displace.ensures.none)
+    c.clear.new.self three (vec_capacity c.displace.new.held)) (sym c.displace.ensures.none)
     (subst (λ t. AreParts (record p { running = Some t; held = []; waiting = three.tasks })
-    c.displace.new.rooms three (vec_capacity c.displace.new.held)) (sym c.in_role-2.ensures)
+    c.clear.new.self three (vec_capacity c.displace.new.held)) (sym c.in_role-2.ensures)
     (taken_kept p inside.rooms inside.pool (vec_capacity inside.held) c.self.invariant r x runs three order
-    c.displace.new.rooms (vec_capacity c.displace.new.held) left room
+    c.clear.new.self (vec_capacity c.displace.new.held) c.clear.ensures.kept spare room
     (omega (arith, c.self.invariant.stack_room, c.displace.ensures.capacity)))))
 
 pub returns-clause-rest : goal.returns-clause-rest

@@ -4,15 +4,9 @@ use Rattle.held_queue.specs.Stack.{Stack}
 use Rattle.queued_jobs.proofs.Steps.{top_later}
 use Rattle.room_ledger.proofs.under_way.UnderWay.preempt.Goals as goal
 
-pub room_with-room-requires-clause-first : goal.room_with-room-requires-clause-first
-room_with-room-requires-clause-first c =
-    subst (λ (s : Stack). Each (λ f. c.in-Some.entry.deadline < f.deadline) s.held) (sym c.in_ok-reserve.ensures.ok)
-    (subst (λ p. Each (λ f. c.in-Some.entry.deadline < f.deadline) p.held.held) (sym c.self.view_is)
-    (c.requires.hold.can c.in-Some.entry (sym c.in-Some.ensures)).first)
-
 pub hold-requires-clause-first : goal.hold-requires-clause-first
 hold-requires-clause-first c x top =
     top_later c.in-Some.entry.deadline c.reserve.new.self.held x
     (subst (λ (s : Stack). Each (λ f. c.in-Some.entry.deadline < f.deadline) s.held) (sym c.in_ok-reserve.ensures.ok)
     (subst (λ p. Each (λ f. c.in-Some.entry.deadline < f.deadline) p.held.held) (sym c.self.view_is)
-    (c.requires.hold.can c.in-Some.entry (sym c.in-Some.ensures)).first)) top
+    (c.requires.hold c.in-Some.entry (sym c.in-Some.ensures)).first)) top

@@ -1,8 +1,12 @@
-use Rattle.std.proofs.Common.{subst}
-use Rattle.room_ledger.specs.Pages.{IsReadable}
+use Rattle.std.proofs.Common.{sym, subst}
+use Rattle.room_ledger.specs.Pages.{CanWeigh, IsReadable}
 use Rattle.room_ledger.proofs.under_way.UnderWay.room.Goals as goal
+
+pub room_at-requires : goal.room_at-requires
+room_at-requires c = subst (CanWeigh c.args.self.now) (sym c.release.ensures.is)
+    (subst (IsReadable c.args.self.now) c.in-Release.is c.requires)
 
 pub room_at-requires-in-Preempt : goal.room_at-requires-in-Preempt
 room_at-requires-in-Preempt c =
     let can = subst (IsReadable c.args.self.now) c.in-Preempt.is c.requires in
-    record { late = can.1.late; first = λ e at. (can.1.can e at).first }
+    λ e at. (can.1 e at).first
