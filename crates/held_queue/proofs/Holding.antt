@@ -1,5 +1,5 @@
 -- One hold more, and one less.
-use Rattle.std.proofs.Common.{◌≡◌, ℕ, ◌+◌, ◌-◌, ◌<◌, ◌≤◌, inl, inr, suc, List, [], ◌∷◌, ◌++◌, length, Option, Some, None}
+use Rattle.std.proofs.Common.{◌≡◌, ℕ, ◌+◌, ◌-◌, ◌<◌, ◌≤◌, inl, inr, suc, List, [], ◌∷◌, ◌++◌, length, Some, None}
 use Rattle.std.proofs.Common.{reverse, option_map, refl, ap, ◌∙◌, sym, subst, arith}
 use Rattle.std.specs.List.{AllByRecursion}
 use Rattle.std.proofs.lemmas.List.{reverse-append}
@@ -9,7 +9,7 @@ use Rattle.dover_model.specs.Entries.{room_of}
 use Rattle.dover_model.specs.Limits.{most_total}
 use Rattle.dover_model.specs.Sound.{Each}
 use Rattle.held_queue.specs.Kept.{Lasting, AreRoomsOf, untils_of, first_of}
-use Rattle.held_queue.specs.Stack.{top_of, value_of, room_at, IsByDeadline, IsDueBeforeAll, IsDueBeforeTop}
+use Rattle.held_queue.specs.Stack.{value_of, room_at, IsByDeadline, IsDueBeforeAll, IsDueBeforeTop}
 use Rattle.held_queue.proofs.FirstDue.{room_later}
 
 -- the room at a clock, by what is kept of the job on top

@@ -3,7 +3,6 @@ ghost use Rattle.std.specs.Prelude.{◌≡◌, ◌+◌, ◌-◌, ◌<◌, ◌≤
 ghost use Rattle.dover_model.specs.Limits.{most_total};
 ghost use Rattle.dover_model.specs.declared.events.Entry.{Entry};
 ghost use Rattle.dover_model.specs.Entries.{room_of};
-ghost use Rattle.dover_model.specs.Sound.{Each};
 ghost use Rattle.held_queue.specs.Kept.{AreRoomsOf, first_of};
 ghost use Rattle.held_queue.specs.Stack.{IsDueBeforeTop, room_at};
 

@@ -1,18 +1,16 @@
 -- Entries in the order of their deadlines: the same members, sums and room.
-use Rattle.std.proofs.Common.{◌≡◌, ℕ, ◌+◌, ◌-◌, ◌≤◌, ◌<◌, ◌⊎◌, inl, inr, min, List, [], ◌∷◌, map, refl, sym, ap, ◌∙◌}
-use Rattle.std.proofs.Common.{subst, Bool, true, false, arith}
+use Rattle.std.proofs.Common.{◌≡◌, ℕ, ◌+◌, ◌-◌, ◌⊎◌, inl, inr, min, List, [], ◌∷◌, map, refl, sym, ap, ◌∙◌}
+use Rattle.std.proofs.Common.{Bool, true, false, arith}
 use Rattle.std.proofs.Common.{nat_lt, cond}
-use Rattle.std.specs.Prelude.{Some, None}
-use Rattle.std.specs.List.{filter, sum_by}
+use Rattle.std.specs.List.{sum_by}
 use Rattle.std.proofs.lemmas.List.Sums.{sum_by-cons}
 use Rattle.dover_model.specs.declared.events.Task.{Task}
 use Rattle.dover_model.specs.declared.events.Entry.{Entry}
-use Rattle.dover_model.specs.State.{least, left, demand_by, demand_up_to, room}
+use Rattle.dover_model.specs.State.{least, left, demand_up_to, room}
 use Rattle.dover_model.specs.Entries.{entry_of, room_of}
-use Rattle.dover_model.specs.Sound.{IsMember, Each}
-use Rattle.dover_model.proofs.Tests.{none_is_some}
+use Rattle.dover_model.specs.Sound.{IsMember}
 use Rattle.held_queue.proofs.FirstDue.{demand, least_cons}
-use Rattle.dover_model.proofs.Members.{some_same, map_same, map_map, sum_filter, sum_map, sum_zero}
+use Rattle.dover_model.proofs.Members.{map_same, map_map, sum_filter, sum_map}
 use Rattle.queued_jobs.specs.Queued.{put_in, by_deadline}
 
 -- ---- members

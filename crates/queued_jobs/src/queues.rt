@@ -14,7 +14,7 @@ ghost use Rattle.dover_model.specs.Orders.{due_first, starts_before, first};
 ghost use Rattle.dover_model.specs.Step.{open_step, view, after, is_at_latest_start, resumed, runs};
 ghost use Rattle.dover_model.specs.Sound.{IsSound, Each, IsNumberedFrom};
 ghost use Rattle.dover_model.specs.Jumps.{NothingDue, later_by, ticked_by};
-ghost use Rattle.dover_model.specs.Entries.{entry_of, room_of};
+ghost use Rattle.dover_model.specs.Entries.{entry_of};
 ghost use Rattle.queued_jobs.specs.Cases.{decision_of, arrival_of, alarm_of};
 ghost use Rattle.queued_jobs.specs.Moves.{step_of};
 ghost use Rattle.queued_jobs.specs.Roles.{Changes, all_displaced};

@@ -75,7 +75,8 @@ module _ (was is rest : List Task) (t : Task) (from to more : Pooled) (it : Disp
   pub one_small : t.number < 1_048_576
   one_small = it.numbers t (subst (IsMember t) (sym turned_is) (inl refl))
 
-  module _ (kept : more ≡ record to { tasks = more.tasks }) (add : IsReordered (made_wait t ∷ to.tasks) more.tasks) where
+  module _ (kept : more ≡ record to { tasks = more.tasks })
+      (add : IsReordered (made_wait t ∷ to.tasks) more.tasks) where
     longer : length more.tasks ≡ length to.tasks + 1
     longer = omega (arith, as_many (made_wait t ∷ to.tasks) more.tasks add)
 

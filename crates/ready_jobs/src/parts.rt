@@ -6,7 +6,7 @@ ghost use Rattle.std.specs.Option.{option_to_list, ForSome};
 ghost use Rattle.dover_model.specs.declared.events.Role.TheVariants.{Fresh, Waiting, Held, Running};
 ghost use Rattle.dover_model.specs.declared.events.Task.{Task};
 ghost use Rattle.dover_model.specs.Limits.{most_jobs, most_total, last_tick};
-ghost use Rattle.dover_model.specs.Entries.{entry_of, room_of};
+ghost use Rattle.dover_model.specs.Entries.{entry_of};
 ghost use Rattle.dover_model.specs.Fraction.{IsRatio};
 ghost use Rattle.dover_model.specs.State.{is_fresh, is_coming, is_waiting, running, held, waiting, privileged, room};
 ghost use Rattle.dover_model.specs.State.{left, latest_start, value_sum};

@@ -1,5 +1,5 @@
 -- The page follows each change of roles.
-use Rattle.std.proofs.Common.{◌≡◌, ℕ, ◌+◌, ◌-◌, ◌≤◌, ◌<◌, List, length, map, set, refl, sym, ap, ◌∙◌, subst}
+use Rattle.std.proofs.Common.{◌≡◌, ℕ, ◌+◌, ◌-◌, ◌<◌, List, length, map, set, refl, sym, ap, ◌∙◌, subst}
 use Rattle.std.proofs.Common.{Bool, true, false, cond, arith}
 use Rattle.std.proofs.lemmas.Bool.{eqb-true, eq-eqb, ne_eqb}
 use Rattle.std.proofs.Common.{length-set, get_or-set_other}

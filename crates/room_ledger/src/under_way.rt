@@ -1,5 +1,5 @@
 //! The running and the held jobs, kept from the printed steps alone.
-ghost use Rattle.std.specs.Prelude.{◌≡◌, ◌≤◌, ◌<◌, ◌∷◌, OnOk, IfOk, None, slice_index_or};
+ghost use Rattle.std.specs.Prelude.{◌≡◌, ◌<◌, OnOk, IfOk, None, slice_index_or};
 ghost use Rattle.held_queue.specs.Stack.{top_of};
 ghost use Rattle.room_ledger.specs.Pages.{Page, nobody, ran, turn_at, stopped, started, with_hold, without, with_event};
 ghost use Rattle.room_ledger.specs.Pages.{empty, room_on, CanStop, CanPreempt, CanWeigh, IsReadable};

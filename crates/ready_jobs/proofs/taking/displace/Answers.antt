@@ -30,8 +30,7 @@ loop-t-preserved g c =
     let top = c.pop.ensures.items ∙ ap (λ o. rest ++ option_to_list o) c.in-Some.is in
     let more = subst (λ u. IsReordered (u ∷ c.loop-t.pool.tasks) c.add.new.self.tasks) c.in_role.ensures
     c.add.ensures.more in
-    let fewer = one_less was is rest t c.args.pool.now
-    c.loop-t.pool c.add.new.self it top in
+    let fewer = one_less was is rest t c.args.pool.now c.loop-t.pool c.add.new.self it top in
     record {
       displaces = one_displaced was is rest t c.args.pool.now
           c.loop-t.pool c.add.new.self it top c.add.ensures.kept more;
@@ -45,13 +44,13 @@ loop-t-preserved g c =
 
 pub add-requires-clause-room : goal.add-requires-clause-room
 add-requires-clause-room g c =
-    one_fits c.args.held.now.items c.loop-t.held.items c.pop.new.held.items c.in-Some.t c.args.pool.now c.loop-t.pool c.loop-t.pool
-    c.loop-t.invariant.displaces
+    one_fits c.args.held.now.items c.loop-t.held.items c.pop.new.held.items c.in-Some.t c.args.pool.now
+    c.loop-t.pool c.loop-t.pool c.loop-t.invariant.displaces
     (c.pop.ensures.items ∙ ap (λ o. c.pop.new.held.items ++ option_to_list o) c.in-Some.is)
 
 pub add-requires-clause-number : goal.add-requires-clause-number
 add-requires-clause-number g c =
     subst (λ (t : Task). t.number < 1_048_576) (sym c.in_role.ensures)
-    (one_small c.args.held.now.items c.loop-t.held.items c.pop.new.held.items c.in-Some.t c.args.pool.now c.loop-t.pool c.loop-t.pool
-    c.loop-t.invariant.displaces
+    (one_small c.args.held.now.items c.loop-t.held.items c.pop.new.held.items c.in-Some.t c.args.pool.now
+    c.loop-t.pool c.loop-t.pool c.loop-t.invariant.displaces
     (c.pop.ensures.items ∙ ap (λ o. c.pop.new.held.items ++ option_to_list o) c.in-Some.is))

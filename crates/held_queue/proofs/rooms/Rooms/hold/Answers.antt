@@ -1,4 +1,4 @@
-use Rattle.std.proofs.Common.{◌≡◌, ◌+◌, ◌-◌, ◌≤◌, ◌∷◌, [], reverse, refl, sym, subst}
+use Rattle.std.proofs.Common.{◌+◌, ◌-◌, ◌≤◌, ◌∷◌, reverse, refl, sym, subst}
 use Rattle.held_queue.specs.Kept.{Lasting, AreRoomsOf}
 use Rattle.held_queue.proofs.Holding.{held_more}
 use Rattle.held_queue.proofs.rooms.Rooms.hold.Goals as goal

@@ -1,4 +1,4 @@
-use Rattle.std.proofs.Common.{◌≡◌, ℕ, ◌-◌, ◌∙◌, Some, option_map, ap, sym}
+use Rattle.std.proofs.Common.{ℕ, ◌-◌, ◌∙◌, Some, option_map, ap}
 use Rattle.held_queue.specs.Kept.{Lasting, first_of}
 use Rattle.held_queue.proofs.Holding.{room_now}
 use Rattle.held_queue.proofs.rooms.Rooms.room.Goals as goal

@@ -1,4 +1,4 @@
-use Rattle.std.proofs.Common.{◌≡◌, ◌+◌, max, ◌≤◌, ◌<◌, ◌∷◌, length, true, false, Some, refl, sym, ap, ◌∙◌, subst, arith}
+use Rattle.std.proofs.Common.{◌≡◌, ◌+◌, ◌≤◌, ◌<◌, ◌∷◌, length, true, false, Some, refl, sym, ap, subst, arith}
 use Rattle.std.specs.Prelude.{IsSome, vec_len}
 use Rattle.std.specs.List.{slice_get, filter}
 use Rattle.std.proofs.lemmas.Option.{slice_get_within}

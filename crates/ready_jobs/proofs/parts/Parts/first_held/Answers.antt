@@ -1,4 +1,4 @@
-use Rattle.std.proofs.Common.{sym, ap, ◌∙◌, subst}
+use Rattle.std.proofs.Common.{sym, ap, ◌∙◌}
 use Rattle.dover_model.specs.State.{held}
 use Rattle.dover_model.specs.Orders.{due_first, first}
 use Rattle.ready_jobs.specs.Parts.{Parted, state_of}

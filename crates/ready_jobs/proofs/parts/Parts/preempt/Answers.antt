@@ -1,4 +1,4 @@
-use Rattle.std.proofs.Common.{inl, ◌≤◌, ◌-◌, ◌<◌, ◌∷◌, [], ◌++◌, max, reverse, length, Some, None, refl, ◌+◌, map}
+use Rattle.std.proofs.Common.{inl, ◌≤◌, ◌<◌, ◌∷◌, [], ◌++◌, reverse, Some, None, refl, ◌+◌, map}
 use Rattle.std.proofs.Common.{sym, ap, ◌∙◌, subst, arith}
 use Rattle.std.specs.Prelude.{vec_capacity}
 use Rattle.std.specs.Option.{option_to_list}

@@ -1,4 +1,4 @@
-use Rattle.std.proofs.Common.{reverse, length, refl, sym, ap, subst, arith, map}
+use Rattle.std.proofs.Common.{reverse, sym, ap, subst, arith, map}
 use Rattle.std.specs.Prelude.{vec_capacity}
 use Rattle.std.proofs.lemmas.List.{length-reverse}
 use Rattle.dover_model.specs.Entries.{entry_of}

@@ -15,5 +15,6 @@ returns c =
     let p = parted_of inside in
     let kept = c.self.invariant in
     c.unwrap_or.ensures ∙ ap (λ o. unwrap_or o 0) (c.room.ensures (map entry_of p.held) kept.held)
-    ∙ room_or_none inside.clock (map entry_of p.held) ∙ room_map inside.clock p.held ∙ sym (ap (room inside.clock) (held_list p kept.roles))
+    ∙ room_or_none inside.clock (map entry_of p.held) ∙ room_map inside.clock p.held
+    ∙ sym (ap (room inside.clock) (held_list p kept.roles))
     ∙ ap (λ (q : Parted). room q.clock (held (state_of q))) c.self.view_is

@@ -15,7 +15,8 @@ returns-clause-is c =
     let inside = c.self.inside in
     let p = parted_of inside in
     let runs = ap (λ (q : Parted). q.running) c.self.view_is ∙ c.requires.running in
-    ap (λ n. n + c.value_sum.result) c.value.ensures.is ∙ ap (λ n. c.args.r.now.job.value + n) (c.value_sum.ensures ∙ c.self.invariant.held.sum)
+    ap (λ n. n + c.value_sum.result) c.value.ensures.is
+    ∙ ap (λ n. c.args.r.now.job.value + n) (c.value_sum.ensures ∙ c.self.invariant.held.sum)
     ∙ ap (λ n. c.args.r.now.job.value + n) (sum_map entry_of (λ e. e.value) p.held)
     ∙ sym (sum_by-cons (λ (t : Task). t.job.value) c.args.r.now p.held)
     ∙ sym (ap value_sum (privileged_list p c.self.invariant.roles ∙ ap (λ o. option_to_list o ++ p.held) runs))
