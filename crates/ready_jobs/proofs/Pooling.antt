@@ -4,7 +4,7 @@ use Rattle.std.proofs.Common.{set, get_or, replicate, refl, sym, ap, ◌∙◌, 
 use Rattle.std.specs.Prelude.{Option, Some, None, option_map, ◌==◌, is_some}
 use Rattle.std.specs.List.{slice_get, sum_by, count_by}
 use Rattle.std.proofs.lemmas.Bool.{cases_eq, eq-eqb, ne_eqb}
-use Rattle.std.proofs.lemmas.List.{append_assoc, append-nil, length-append, length-replicate}
+use Rattle.std.proofs.lemmas.List.{append_assoc, length-append, length-replicate}
 use Rattle.std.proofs.lemmas.List.{replicate-append-replicate}
 use Rattle.std.proofs.lemmas.List.Sums.{sum_by-cons, sum_by-append}
 use Rattle.dover_model.specs.Limits.{most_value}
@@ -578,22 +578,6 @@ jobs_push (Some t ∷ slots) = ap (λ l. t ∷ l) (jobs_push slots)
 pub length_more : {X : Type 0} (xs : List X) (x : X) → length (xs ++ x ∷ []) ≡ length xs + 1
 length_more xs x = omega (arith, length-append xs (x ∷ []))
 
--- no places more
-pub all_none : (slots : List (Option Task)) (n : ℕ) → n ≡ length slots
-    → slots ≡ slots ++ replicate {A = Option Task} (n - length slots) None
-all_none slots n is = sym (append-nil slots)
-    ∙ ap (λ m. slots ++ replicate {A = Option Task} m None) (let none : 0 ≡ n - length slots = omega arith in none)
-
--- one place more
-pub none_more : (front slots : List (Option Task)) (n : ℕ) → length front ≤ n
-    → slots ≡ front ++ replicate {A = Option Task} (n - length front) None
-    → slots ++ None ∷ [] ≡ front ++ replicate {A = Option Task} (n + 1 - length front) None
-none_more front slots n low is =
-    ap (λ l. l ++ None ∷ []) is ∙ append_assoc front (replicate (n - length front) None) (None ∷ [])
-    ∙ ap (λ l. front ++ l) (replicate-append-replicate (n - length front) 1 None)
-    ∙ ap (λ m. front ++ replicate {A = Option Task} m None)
-    (let one : n - length front + 1 ≡ n + 1 - length front = omega arith in one)
-
 module _ (item : ℕ → Entry → ItemFacts) where
   -- the items of more places
   items_more : (p m : ℕ) (slots : List (Option Task))
@@ -634,3 +618,19 @@ module _ (item : ℕ → Entry → ItemFacts) where
       items_length item 0 slots,
       length-replicate {A = Option ItemFacts} has.0 None,
     )
+
+pub no_places : (places : List ℕ) → length places ≡ 0 → places ≡ []
+no_places [] none = refl
+no_places (p ∷ more) none = absurd (omega (arith, none))
+
+-- one place is opened
+pub opened : (v : Version) (slots : List (Option Task)) (d l : List (Option ItemFacts)) → IsPool v slots [] d l
+    → length slots + 1 ≤ length d → length slots + 1 ≤ length l → length slots + 1 ≤ 1_048_576
+    → IsPool v (slots ++ None ∷ []) (length slots ∷ []) d l
+opened v slots d l pool due latest few = record {
+  due = places_grow (due_item v) slots d 1 pool.due due;
+  latest = places_grow (latest_item v) slots l 1 pool.latest latest;
+  free = free_more slots [] (length slots) refl pool.free;
+  count = omega (arith, pool.count, length_more slots None, ap (λ ts. length ts) (jobs_push slots));
+  few = omega (arith, few, length_more slots None);
+}

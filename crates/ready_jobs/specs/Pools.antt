@@ -56,3 +56,13 @@ pub record IsPool (version : Version) (slots : List (Option Task)) (places : Lis
   pub free : AreFree slots places
   pub count : length places + length (jobs_at slots) ≡ length slots
   pub few : length slots ≤ most_places
+
+-- so many jobs fit: there are no more places than that, and room for as many, also for those that are free, and in both
+-- heaps
+pub record HasRoom (room places slots free due latest : ℕ) : Type 0 where
+  pub opened : places ≤ room
+  pub most : room ≤ most_places
+  pub slots_fit : room ≤ slots
+  pub free_fit : room ≤ free
+  pub due_fit : room ≤ due
+  pub latest_fit : room ≤ latest

@@ -1,5 +1,5 @@
 //! The jobs that wait.
-ghost use Rattle.std.specs.Prelude.{◌≡◌, ℕ, ◌+◌, ◌*◌, ◌^◌, ◌<◌, ◌≤◌, [], ◌∷◌, ◌++◌, slice_set, length, replicate, ◌-◌};
+ghost use Rattle.std.specs.Prelude.{◌≡◌, ℕ, ◌+◌, ◌*◌, ◌^◌, ◌<◌, ◌≤◌, [], ◌∷◌, ◌++◌, slice_set, length, List, Option};
 ghost use Rattle.std.specs.Prelude.{Some, None, max, vec_len, vec_capacity, option_map, IsOk, IsNone, IfSome, OnOk};
 ghost use Rattle.std.specs.Prelude.{OnErr};
 ghost use Rattle.std.specs.List.{slice_get};
@@ -9,10 +9,11 @@ ghost use Rattle.dover_model.specs.Entries.{entry_of};
 ghost use Rattle.dover_model.specs.State.{latest_start};
 ghost use Rattle.dover_model.specs.Orders.{due_first, starts_before, first};
 ghost use Rattle.dover_model.specs.Sound.{Each};
+ghost use Rattle.place_heap.specs.Items.{ItemFacts};
 ghost use Rattle.place_heap.specs.Orders.{due_item, latest_item};
 ghost use Rattle.ready_jobs.specs.Reordered.{IsReordered};
 ghost use Rattle.ready_jobs.specs.Parts.{HaveOwnNumbers, AreModest};
-ghost use Rattle.ready_jobs.specs.Pools.{Pooled, IsPool, AreFree, jobs_at, most_places};
+ghost use Rattle.ready_jobs.specs.Pools.{Pooled, IsPool, jobs_at, most_places};
 
 use crate::slot::Slot;
 use dover_model::{Memory, Task, Version};
@@ -23,7 +24,7 @@ use std::sync::ledger::Ledger;
 use step_count::Steps;
 
 /// A set of jobs that wait, with the first by deadline and the first by latest start at hand. Each has a place, which
-/// another takes once it is gone.
+/// another takes once it is gone. A place is opened where none is free, so room that no job needs isn't touched.
 #[derive(Drop)]
 pub struct Pool {
     version: Version,
@@ -31,18 +32,20 @@ pub struct Pool {
     free: Vec<u32>,
     by_deadline: Heap,
     by_latest: Heap,
+    room: u32,
 }
 
 impl Model for Pool {
-    ghost use Rattle.std.specs.Prelude.{vec_len, vec_capacity, length, ◌≤◌};
-    ghost use Rattle.ready_jobs.specs.Pools.{Pooled, IsPool, jobs_at};
+    ghost use Rattle.std.specs.Prelude.{vec_capacity, length};
+    ghost use Rattle.ready_jobs.specs.Pools.{Pooled, IsPool, HasRoom, jobs_at};
 
     ghost Value = { Pooled };
 
-    ghost view = { λ p. record { version = p.version; tasks = jobs_at p.slots.items; room = vec_len p.slots } };
+    ghost view = { λ p. record { version = p.version; tasks = jobs_at p.slots.items; room = p.room } };
 
     ghost invariant = { λ p. IsPool p.version p.slots.items p.free.items p.by_deadline p.by_latest
-        × (vec_len p.slots ≤ vec_capacity p.free) };
+        × HasRoom p.room (length p.slots.items) (vec_capacity p.slots) (vec_capacity p.free) (length p.by_deadline)
+        (length p.by_latest) };
 }
 
 // The ticks that the job is still to have.
@@ -125,35 +128,28 @@ fn open_place(slots: &mut Vec<Slot>)
     slots.push_reserved(Slot::empty());
 }
 
-// The last free place, which is free no more.
+// The last free place, which is free no more. Where none is, the next one is opened.
 #[inline(always)]
-fn next_place(free: &mut Vec<u32>) -> u32
-    requires { 0 < length free.old.items }
-    ensures last { free.old.items ≡ free.new.items ++ result ∷ [] }
-    ensures capacity { vec_capacity free.new ≡ vec_capacity free.old }
-{
-    free.pop().unwrap()
-}
-
-// Opens places up to so many, which are free.
-fn open_places(slots: &mut Vec<Slot>, free: &mut Vec<u32>, places: u32)
-    requires fewer { length slots.old.items ≤ places }
-    requires room { places ≤ vec_capacity slots.old }
-    requires free { places ≤ vec_capacity free.old }
-    requires are { AreFree slots.old.items free.old.items }
+fn next_place(slots: &mut Vec<Slot>, free: &mut Vec<u32>) -> u32
+    requires room { length (jobs_at slots.old.items) < vec_capacity slots.old }
     requires count { length free.old.items + length (jobs_at slots.old.items) ≡ length slots.old.items }
-    ensures are { AreFree slots.new.items free.new.items }
-    ensures count { length free.new.items + length (jobs_at slots.new.items) ≡ length slots.new.items }
+    requires few { length slots.old.items < 2 ^ 32 }
+    ensures pool { (v : Version) (due latest : List (Option ItemFacts)) →
+        IsPool v slots.old.items free.old.items due latest → length slots.new.items ≤ length due →
+        length slots.new.items ≤ length latest → length slots.new.items ≤ most_places →
+        IsPool v slots.new.items (free.new.items ++ result ∷ []) due latest }
     ensures jobs { jobs_at slots.new.items ≡ jobs_at slots.old.items }
-    ensures slots { slots.new.items ≡ slots.old.items ++ replicate (places - length slots.old.items) None }
-    ensures places { length slots.new.items ≡ places }
-    ensures capacity { vec_capacity free.new ≡ vec_capacity free.old }
+    ensures places { length slots.new.items ≤ max (length slots.old.items) (length (jobs_at slots.old.items) + 1) }
+    ensures slots { vec_capacity slots.new ≡ vec_capacity slots.old }
+    ensures free { vec_capacity free.new ≡ vec_capacity free.old }
 {
-    let mut place = slots.len() as u32;
-    while place < places {
-        free.push_reserved(place);
-        open_place(slots);
-        place += 1;
+    match free.pop() {
+        Some(place) => place,
+        None => {
+            let place = slots.len() as u32;
+            open_place(slots);
+            place
+        }
     }
 }
 
@@ -175,6 +171,9 @@ fn take_at<L: Ledger>(
         IsPool version slots.new.items free.new.items by_deadline.new by_latest.new }
     ensures places { vec_len slots.new ≡ vec_len slots.old }
     ensures capacity { vec_capacity free.new ≡ vec_capacity free.old }
+    ensures slots { vec_capacity slots.new ≡ vec_capacity slots.old }
+    ensures due { length by_deadline.new ≡ length by_deadline.old }
+    ensures latest { length by_latest.new ≡ length by_latest.old }
     ensures count { (d : ℕ) → length (jobs_at slots.old.items) + 1 < 2 ^ d → steps.new ≤ steps.old + 6 * d }
 {
     let task = job_at(slots, place);
@@ -196,6 +195,7 @@ impl Pool {
             free: Vec::new(alloc),
             by_deadline: Heap::new(alloc),
             by_latest: Heap::new(alloc),
+            room: 0,
         }
     }
 
@@ -232,15 +232,14 @@ impl Pool {
         ensures err { OnErr result (self.new.room ≡ self.old.room) }
         ensures enough { places ≤ self.old.room → IsOk result }
     {
-        let have = self.slots.len();
-        if places as usize <= have {
+        if places <= self.room {
             return Ok(());
         }
-        self.slots.reserve(places as usize - have)?;
+        self.slots.reserve(places as usize - self.slots.len())?;
         self.free.reserve(places as usize - self.free.len())?;
         self.by_deadline.reserve(places)?;
         self.by_latest.reserve(places)?;
-        open_places(&mut self.slots, &mut self.free, places);
+        self.room = places;
         Ok(())
     }
 
@@ -252,7 +251,7 @@ impl Pool {
         ensures more { IsReordered (t ∷ self.old.tasks) self.new.tasks }
         ensures count { (d : ℕ) → length self.old.tasks + 1 < 2 ^ d → steps.new ≤ steps.old + 2 * d }
     {
-        let place = next_place(&mut self.free);
+        let place = next_place(&mut self.slots, &mut self.free);
         let due = due_item(self.version, place, &t);
         let latest = latest_item(self.version, place, &t);
         put_at(&mut self.slots, place, &t);

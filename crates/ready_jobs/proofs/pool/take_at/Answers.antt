@@ -1,8 +1,9 @@
-use Rattle.std.proofs.Common.{◌∷◌, [], ◌++◌, Some, None, sym, ap, ◌∙◌, subst, set}
+use Rattle.std.proofs.Common.{◌∷◌, [], ◌++◌, Some, None, sym, ap, ◌∙◌, subst, set, length}
 use Rattle.std.proofs.Common.{arith}
 use Rattle.ready_jobs.specs.Reordered.{IsReordered}
 use Rattle.ready_jobs.specs.Pools.{IsPool, jobs_at}
-use Rattle.ready_jobs.proofs.Pooling.{within, jobs_out, left_room, left_kept, left_due_count, left_latest_count}
+use Rattle.ready_jobs.proofs.Pooling.{within, same_length, jobs_out, left_room, left_kept, left_due_count}
+use Rattle.ready_jobs.proofs.Pooling.{left_latest_count}
 use Rattle.ready_jobs.proofs.pool.take_at.Goals as goal
 
 pub job_at-task-requires : goal.job_at-task-requires
@@ -39,6 +40,13 @@ returns-clause-pool g c version pool =
     (left_kept version c.args.slots.now.items c.args.free.now.items c.args.by_deadline.now c.args.by_latest.now
     c.args.place pool
     c.requires.some.0 c.requires.some.1))))
+
+pub returns-clause-due : goal.returns-clause-due
+returns-clause-due g c = ap (λ l. length l) c.remove.ensures.out ∙ same_length c.args.by_deadline.now c.args.place None
+
+pub returns-clause-latest : goal.returns-clause-latest
+returns-clause-latest g c =
+    ap (λ l. length l) c.remove-2.ensures.out ∙ same_length c.args.by_latest.now c.args.place None
 
 pub returns-clause-count : goal.returns-clause-count
 returns-clause-count g c d fits =

@@ -22,10 +22,27 @@ take_at-requires-clause-some g c =
 pub take_at-requires-clause-pool : goal.take_at-requires-clause-pool
 take_at-requires-clause-pool g c = (c.self.inside.version, c.self.invariant.0)
 
+pub take_at-requires-clause-room : goal.take_at-requires-clause-room
+take_at-requires-clause-room g c =
+    omega (arith, c.self.invariant.1.opened, c.self.invariant.1.free_fit, c.self.inside.slots.ok.0)
+
 pub invariant_of-self : goal.invariant_of-self
 invariant_of-self g c = (
   c.take_at.ensures.pool c.self.inside.version c.self.invariant.0,
-  omega (arith, c.self.invariant.1, c.take_at.ensures.places, c.take_at.ensures.capacity),
+  record {
+    opened = omega (
+      arith,
+      c.self.invariant.1.opened,
+      c.take_at.ensures.places,
+      c.take_at.new.slots.ok.0,
+      c.self.inside.slots.ok.0,
+    );
+    most = c.self.invariant.1.most;
+    slots_fit = omega (arith, c.self.invariant.1.slots_fit, c.take_at.ensures.slots);
+    free_fit = omega (arith, c.self.invariant.1.free_fit, c.take_at.ensures.capacity);
+    due_fit = omega (arith, c.self.invariant.1.due_fit, c.take_at.ensures.due);
+    latest_fit = omega (arith, c.self.invariant.1.latest_fit, c.take_at.ensures.latest);
+  },
 )
 
 pub returns-in_err-item-clause-was : goal.returns-in_err-item-clause-was
