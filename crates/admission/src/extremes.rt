@@ -6,7 +6,7 @@ use crate::densities::{is_less_dense, keeps_ratio};
 use dover_model::{Job, Ratio};
 
 /// A job under its number.
-#[derive(Clone, Copy, Debug, PartialEq, Eq)]
+#[derive(Clone, Copy)]
 pub struct Numbered {
     pub number: u32,
     pub job: Job,
@@ -33,7 +33,7 @@ fn keep_denser(kept: &mut Numbered, next: &Numbered)
 }
 
 /// The least dense and the densest of some jobs, and of equally dense ones the first.
-#[derive(Clone, Copy, Debug, PartialEq, Eq)]
+#[derive(Clone, Copy)]
 pub struct Extremes {
     pub least: Numbered,
     pub densest: Numbered,

@@ -8,7 +8,7 @@ use dover_port::{Output, Port, Status};
 use line_text::BackLine;
 
 /// Why an answer was not put whole.
-#[derive(Clone, Copy, Debug, PartialEq, Eq)]
+#[derive(Clone, Copy)]
 pub enum Stop {
     /// There was no memory.
     NoMemory,

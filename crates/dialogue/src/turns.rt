@@ -13,7 +13,7 @@ use line_text::BackLine;
 const READ_BYTES: usize = 65_536;
 
 /// How the reading ends.
-#[derive(Clone, Copy, Debug, PartialEq, Eq)]
+#[derive(Clone, Copy)]
 pub(crate) enum Reading {
     /// No more is to be read. Whether the input has ended.
     Over(bool),

@@ -9,7 +9,7 @@ pub enum Version {
 }
 
 /// Why a job isn't admitted.
-#[derive(Clone, Copy, Debug, PartialEq, Eq)]
+#[derive(Clone, Copy, PartialEq, Eq)]
 pub enum Refusal {
     BadJob,
     Count,
@@ -18,7 +18,7 @@ pub enum Refusal {
 }
 
 /// What a job is at a moment.
-#[derive(Clone, Copy, Debug, PartialEq, Eq)]
+#[derive(Clone, Copy, PartialEq, Eq)]
 pub enum Role {
     Coming,
     Fresh,
@@ -30,7 +30,7 @@ pub enum Role {
 }
 
 /// A job at a moment, under its number: its role, and the ticks that it has had.
-#[derive(Clone, Copy, Debug, PartialEq, Eq)]
+#[derive(Clone, Copy)]
 pub struct Task {
     pub number: u32,
     pub job: Job,
@@ -39,7 +39,7 @@ pub struct Task {
 }
 
 /// A printed step.
-#[derive(Clone, Copy, Debug, PartialEq, Eq)]
+#[derive(Clone, Copy, PartialEq, Eq)]
 pub enum Event {
     Release { number: u32, job: Job },
     Run { at: u64, number: u32 },
@@ -51,7 +51,7 @@ pub enum Event {
 }
 
 /// A job that doesn't run at the moment.
-#[derive(Clone, Copy, Debug, PartialEq, Eq)]
+#[derive(Clone, Copy)]
 pub struct Entry {
     pub number: u32,
     pub deadline: u64,

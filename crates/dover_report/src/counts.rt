@@ -11,7 +11,7 @@ use root_compare::bound;
 use std::alloc::Global;
 
 /// What the summary of a run says: counts of jobs and of takes, and sums of values.
-#[derive(Clone, Copy, Debug, PartialEq, Eq)]
+#[derive(Clone, Copy)]
 pub struct Counts {
     pub jobs: u64,
     pub completed: u64,
@@ -24,7 +24,7 @@ pub struct Counts {
 
 /// What became of the jobs of a run: how many there are, are done and are gone, what those are worth that are gone, and
 /// how many took the processor.
-#[derive(Clone, Copy, Debug, PartialEq, Eq)]
+#[derive(Clone, Copy)]
 pub(crate) struct Fates {
     jobs: u64,
     completed: u64,

@@ -6,7 +6,7 @@ use dover_model::{Event, Memory};
 use std::alloc::Global;
 
 /// How a job ended, and at which tick.
-#[derive(Clone, Copy, Debug, PartialEq, Eq)]
+#[derive(Clone, Copy)]
 pub enum Ending {
     Completed(u64),
     Abandoned(u64),

@@ -1,7 +1,7 @@
 //! How far steps are taken.
 
 /// Up to a mark, at which further jobs may come, or to the end.
-#[derive(Clone, Copy, Debug, PartialEq, Eq)]
+#[derive(Clone, Copy, PartialEq, Eq)]
 pub enum Horizon {
     Mark(u64),
     End,

@@ -17,7 +17,7 @@ use run_view::Window;
 use serve_word::AtEnd;
 
 /// What the words of the command line ask for, one of the rows of `dover`.
-#[derive(Clone, Copy, Debug, PartialEq, Eq)]
+#[derive(Clone, Copy)]
 pub enum Request {
     /// A feed is served.
     Serve,

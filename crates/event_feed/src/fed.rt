@@ -2,7 +2,7 @@
 use dover_model::{Job, Ratio, Refusal, Version};
 
 /// What a line says that isn't at fault.
-#[derive(Clone, Copy, Debug, PartialEq, Eq)]
+#[derive(Clone, Copy, PartialEq, Eq)]
 pub enum Fed {
     /// The ratio and the version are declared.
     Ratio(Ratio, Version),

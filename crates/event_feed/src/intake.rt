@@ -22,7 +22,7 @@ use std::marker::Model;
 const MOST_LINES: u64 = 4_000_000;
 
 /// Whether a feed goes on.
-#[derive(Clone, Copy, Debug, PartialEq, Eq)]
+#[derive(Clone, Copy)]
 enum Standing {
     Open,
     Over,

@@ -2,7 +2,7 @@
 use dover_model::Piece;
 
 /// Whether some schedule serves every job, and what shows it.
-#[derive(Debug, Drop)]
+#[derive(Drop)]
 pub enum Feasible {
     /// All can be served: the longest stretches of one job, in order, where in each tick the job that is due first
     /// runs.

@@ -12,7 +12,7 @@ use dover_model::{Job, Ratio, Version};
 use event_feed::{Fed, FeedFault, Intake};
 
 /// How a feed stands after a line.
-#[derive(Clone, Copy, Debug, PartialEq, Eq)]
+#[derive(Clone, Copy)]
 pub(crate) enum Progress {
     /// It goes on.
     Open,

@@ -1,7 +1,7 @@
 //! Intervals in which the processor is busy with the jobs of one overload.
 
 /// From a run of a job while no interval is under way to the completion that leaves no job held: ticks and values.
-#[derive(Clone, Copy, Debug, PartialEq, Eq)]
+#[derive(Clone, Copy)]
 pub struct Interval {
     /// The tick at which it starts.
     pub from: u64,
@@ -18,7 +18,7 @@ pub struct Interval {
 }
 
 /// The interval under way, and whether a job was taken in it.
-#[derive(Clone, Copy, Debug, PartialEq, Eq)]
+#[derive(Clone, Copy)]
 pub struct UnderWay {
     pub interval: Interval,
     pub took: bool,

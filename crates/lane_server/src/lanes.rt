@@ -20,7 +20,7 @@ use step_count::Steps;
 const MOST_LINES: u64 = 4_000_000;
 
 /// What a good line of the input is.
-#[derive(Clone, Copy, Debug, PartialEq, Eq)]
+#[derive(Clone, Copy, PartialEq, Eq)]
 pub enum LaneStep {
     /// A line of this lane's feed.
     Fed(u8),
@@ -29,7 +29,7 @@ pub enum LaneStep {
 }
 
 /// Why a line of the input wasn't taken.
-#[derive(Clone, Copy, Debug, PartialEq, Eq)]
+#[derive(Clone, Copy, PartialEq, Eq)]
 pub enum LaneFault {
     /// Its number in the whole input is above 4,000,000.
     Lines,

@@ -4,7 +4,7 @@ ghost use Rattle.periodic_tasks.specs.Tasks as model;
 
 /// A task that releases a job at its offset, and one more each period. Times are in ticks. Its numbers may be out of
 /// all limits.
-#[derive(Clone, Copy, Debug, PartialEq, Eq)]
+#[derive(Clone, Copy)]
 pub struct PeriodicTask {
     /// The tick of the first release.
     pub offset: u64,

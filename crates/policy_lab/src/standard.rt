@@ -23,7 +23,7 @@ fn is_denser(a: &Entry, b: &Entry) -> bool
 }
 
 /// Earliest deadline first, ties to the smaller number.
-#[derive(Clone, Copy, Debug, PartialEq, Eq)]
+#[derive(Clone, Copy)]
 pub struct Edf;
 
 impl Policy for Edf {
@@ -44,7 +44,7 @@ impl Policy for Edf {
 }
 
 /// Greatest value for each tick left first, ties to the smaller number.
-#[derive(Clone, Copy, Debug, PartialEq, Eq)]
+#[derive(Clone, Copy)]
 pub struct Dense;
 
 impl Policy for Dense {

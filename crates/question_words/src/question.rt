@@ -16,7 +16,7 @@ use std::sync::ledger::Ledger;
 use step_count::Steps;
 
 /// What is asked about the jobs of a feed.
-#[derive(Clone, Copy, Debug, PartialEq, Eq)]
+#[derive(Clone, Copy)]
 pub enum Question {
     /// Whether some schedule serves every job.
     Feasible,

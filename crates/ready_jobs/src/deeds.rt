@@ -8,7 +8,7 @@ use scanned_step::Move;
 
 /// What the ready jobs do next, with the numbers of the jobs that do it. It is a step once the clock is known, and no
 /// job comes by it.
-#[derive(Clone, Copy, Debug, PartialEq, Eq)]
+#[derive(Clone, Copy)]
 pub enum Deed {
     Run { number: u32 },
     Preempt { stops: u32, starts: u32 },

@@ -1,7 +1,7 @@
 use run_view::Window;
 
 /// The form of a report on a run.
-#[derive(Clone, Copy, Debug, PartialEq, Eq)]
+#[derive(Clone, Copy)]
 pub enum Form {
     /// The ratio, the summary and the intervals, line by line.
     Text,

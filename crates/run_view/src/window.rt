@@ -5,7 +5,7 @@ ghost use Rattle.run_view.specs.Timeline as picture;
 use dover_model::Job;
 
 /// The ticks from `from` on and before `until`. A window with `until` at or below `from` has no tick.
-#[derive(Clone, Copy, Debug, PartialEq, Eq)]
+#[derive(Clone, Copy)]
 pub struct Window {
     /// Its first tick.
     pub from: u64,

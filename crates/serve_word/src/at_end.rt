@@ -1,7 +1,7 @@
 //! The end of the input.
 
 /// What is done where the input ends and the feed goes on.
-#[derive(Clone, Copy, Debug, PartialEq, Eq)]
+#[derive(Clone, Copy)]
 pub enum AtEnd {
     /// It is refused as short.
     Refuse,

@@ -13,7 +13,7 @@ use dover_model::{Ratio, Role, Version};
 use line_text::{LINE_BYTES, Numbers, cut_field, first_number, read_numbers};
 
 /// The first line: the rules are within their limits, and the other numbers are below 10^18.
-#[derive(Clone, Copy, Debug, PartialEq, Eq)]
+#[derive(Clone, Copy)]
 pub(crate) struct Head {
     pub(crate) version: Version,
     pub(crate) ratio: Ratio,
@@ -23,7 +23,7 @@ pub(crate) struct Head {
 }
 
 /// The line of a job. Its numbers are below 10^18, and may be out of the limits of a job.
-#[derive(Clone, Copy, Debug, PartialEq, Eq)]
+#[derive(Clone, Copy)]
 pub(crate) struct StateLine {
     pub(crate) number: u64,
     pub(crate) role: Role,

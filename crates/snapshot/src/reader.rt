@@ -16,7 +16,7 @@ use step_count::Steps;
 use thiserror::Error;
 
 /// Whether a snapshot was read to its last line.
-#[derive(Clone, Copy, Debug, PartialEq, Eq)]
+#[derive(Clone, Copy)]
 pub enum Got {
     /// No line so far is refused, and the last is still to come.
     More,

@@ -24,7 +24,7 @@ use std::sync::ledger::Ledger;
 use step_count::Steps;
 
 /// What a job is where the feed paused, and how many ticks it has had.
-#[derive(Clone, Copy, Debug, PartialEq, Eq)]
+#[derive(Clone, Copy)]
 pub(crate) struct Stance {
     pub(crate) role: Role,
     pub(crate) had: u64,

@@ -22,7 +22,7 @@ use std::alloc::Global;
 const MOST_LINES: u64 = 4_000_000;
 
 /// How a task text stands after a line.
-#[derive(Clone, Copy, Debug, PartialEq, Eq)]
+#[derive(Clone, Copy)]
 pub(crate) enum Progress {
     /// It goes on.
     Open,

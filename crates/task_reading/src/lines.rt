@@ -2,7 +2,7 @@
 use periodic_tasks::PeriodicTask;
 
 /// A line of a task text. Its numbers are below 10^18 where it was read, and may be out of the limits of tasks.
-#[derive(Clone, Copy, Debug, PartialEq, Eq)]
+#[derive(Clone, Copy)]
 pub enum TaskLine {
     /// `k P Q` or `k P Q N`: the ratio, and perhaps the version.
     Declared {

@@ -20,7 +20,7 @@ use std::sync::ledger::Ledger;
 use step_count::Steps;
 
 /// What was found of the text so far.
-#[derive(Clone, Copy, Debug, PartialEq, Eq)]
+#[derive(Clone, Copy)]
 enum Found {
     /// No line is wrong.
     Good,

@@ -1,7 +1,7 @@
 //! How far a trace has come.
 
 /// No line yet, lines behind the header, or the line of the end.
-#[derive(Clone, Copy, Debug, PartialEq, Eq)]
+#[derive(Clone, Copy)]
 pub enum Stage {
     Opening,
     Going,
