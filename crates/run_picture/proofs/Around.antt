@@ -1,7 +1,7 @@
 -- The axis, step by step.
 use Rattle.std.proofs.Common.{◌≡◌, ℕ, zero, suc, ◌+◌, ◌-◌, ◌≤◌, ◌<◌, ◌++◌, sym, ap, ◌∙◌}
 use Rattle.std.proofs.Common.{append_assoc, append-nil, arith}
-use Rattle.run_picture.specs.Templates.{Text}
+use Rattle.run_view.specs.Templates.{Text}
 use Rattle.run_picture.specs.Frame.{next_ten, tens, mark, marks_from}
 use Rattle.run_view.specs.declared.window.Window.{Window}
 

@@ -1,6 +1,5 @@
 pub mod Around
 pub mod Eaching
-pub mod Filling
 pub mod Going
 pub mod Knowing
 pub mod Lining

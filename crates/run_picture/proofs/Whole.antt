@@ -17,7 +17,7 @@ use Rattle.intervals.specs.declared.interval.Interval.{Interval}
 use Rattle.dover_report.specs.Counts.{counts_of, jobs_released}
 use Rattle.dover_report.specs.declared.counts.Counts.{Counts}
 use Rattle.dover_report.proofs.Counting.{jobs_are}
-use Rattle.run_picture.specs.Templates.{Text}
+use Rattle.run_view.specs.Templates.{Text}
 use Rattle.run_picture.specs.Seen.{fresh, taking, done, gone, seen_at, told_of, with_step, told_by}
 use Rattle.run_picture.specs.Processor.{pieces_from}
 use Rattle.run_picture.specs.Pictures.{window_of, drawn, picture}

@@ -2,7 +2,7 @@
 use Rattle.std.specs.Prelude.{ℕ, min, max, List, [], ◌∷◌, ◌++◌, ◌==◌, if◌then◌else◌, codes}
 use Rattle.dover_model.specs.declared.events.Event.{Event}
 use Rattle.dover_model.specs.JobFacts.{JobFacts}
-use Rattle.run_picture.specs.Templates.{Text, filled}
+use Rattle.run_view.specs.Templates.{Text, filled}
 use Rattle.run_picture.specs.Plot.{column_at}
 use Rattle.run_picture.specs.Outlines.{after, tick_of, rise}
 use Rattle.run_view.specs.declared.window.Window.{Window}

@@ -4,7 +4,8 @@ use Rattle.std.specs.Prelude.{nat_le, nat_lt, if◌then◌else◌, codes}
 use Rattle.std.specs.List.{flat_map}
 use Rattle.dover_report.specs.declared.counts.Counts.{Counts}
 use Rattle.intervals.specs.declared.interval.Interval.{Interval}
-use Rattle.run_picture.specs.Templates.{Text, filled, room}
+use Rattle.run_view.specs.Templates.{Text, filled}
+use Rattle.run_picture.specs.Sizes.{room}
 use Rattle.run_picture.specs.Plot.{x_at, meets, has, pixels, bar}
 use Rattle.run_picture.specs.Legends.{styles, legend}
 use Rattle.run_view.specs.declared.window.Window.{Window}

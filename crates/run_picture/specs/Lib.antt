@@ -1,4 +1,4 @@
-pub mod Templates
+pub mod Sizes
 pub mod Plot
 pub mod Seen
 pub mod Processor

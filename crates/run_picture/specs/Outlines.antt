@@ -4,7 +4,7 @@ use Rattle.dover_model.specs.declared.events.Event.{Event}
 use Rattle.dover_model.specs.declared.events.Event.TheVariants.{Release, Run, Preempt, Take, Complete, Abandon, End}
 use Rattle.dover_model.specs.JobFacts.{JobFacts}
 use Rattle.dover_report.specs.Counts.{value_in}
-use Rattle.run_picture.specs.Templates.{Text, filled}
+use Rattle.run_view.specs.Templates.{Text, filled}
 use Rattle.run_picture.specs.Plot.{scaled, x_at, column_at, has}
 use Rattle.run_view.specs.declared.window.Window.{Window}
 use Rattle.run_picture.specs.declared.outline.Measure.{Measure}

@@ -2,7 +2,7 @@
 use Rattle.std.specs.Prelude.{ℕ, ◌+◌, ◌-◌, List, [], ◌∷◌, ◌++◌, Bool, true, codes}
 use Rattle.dover_model.specs.declared.events.Event.{Event}
 use Rattle.dover_model.specs.JobFacts.{JobFacts}
-use Rattle.run_picture.specs.Templates.{Text, filled}
+use Rattle.run_view.specs.Templates.{Text, filled}
 use Rattle.run_picture.specs.Columns.{fullest, towers}
 use Rattle.run_picture.specs.Outlines.{greatest, outline}
 use Rattle.run_view.specs.declared.window.Window.{Window}

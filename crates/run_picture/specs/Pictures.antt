@@ -14,7 +14,7 @@ use Rattle.intervals.specs.declared.interval.Interval.{Interval}
 use Rattle.dover_report.specs.Counts.{counts_of}
 use Rattle.dover_report.specs.declared.counts.Counts.{Counts}
 use Rattle.run_view.specs.Moments.{moments}
-use Rattle.run_picture.specs.Templates.{Text, filled}
+use Rattle.run_view.specs.Templates.{Text, filled}
 use Rattle.run_picture.specs.Seen.{told_by}
 use Rattle.run_picture.specs.Processor.{pieces_from}
 use Rattle.run_picture.specs.Lanes.{shown, lanes_from, height, unit_of}

@@ -2,7 +2,8 @@
 use Rattle.std.specs.Prelude.{ℕ, ◌+◌, ◌/◌, List, [], ◌∷◌, ◌&&◌, ◌==◌, nat_le, if◌then◌else◌, codes}
 use Rattle.std.specs.List.{flat_map}
 use Rattle.dover_model.specs.declared.pieces.Piece.{Piece}
-use Rattle.run_picture.specs.Templates.{Text, filled, room}
+use Rattle.run_view.specs.Templates.{Text, filled}
+use Rattle.run_picture.specs.Sizes.{room}
 use Rattle.run_picture.specs.Plot.{x_at, meets, pixels, bar}
 use Rattle.run_picture.specs.Seen.{tint}
 use Rattle.run_picture.specs.Lanes.{lane_at, middle}

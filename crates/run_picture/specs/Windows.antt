@@ -1,7 +1,7 @@
 -- The jobs' windows in their lanes: a bar from release to deadline, whose tooltip has the job's numbers and its fate.
 use Rattle.std.specs.Prelude.{ℕ, List, [], ◌∷◌, ◌++◌, Bool, if◌then◌else◌, codes}
 use Rattle.std.specs.List.{flat_map}
-use Rattle.run_picture.specs.Templates.{Text, filled}
+use Rattle.run_view.specs.Templates.{Text, filled}
 use Rattle.run_picture.specs.Plot.{bar}
 use Rattle.run_picture.specs.Seen.{is_gone}
 use Rattle.run_picture.specs.Lanes.{shows, middle}

@@ -5,8 +5,8 @@ ghost use Rattle.run_picture.specs.Columns as columns;
 
 use crate::outline::{Measure, Outline, after, rise, tick_of};
 use crate::plot::{Window, column_at};
-use crate::template::put;
 use dover_model::{Event, Job, Memory};
+use run_view::template::put;
 
 /// The left pixel of the column of a step, never before pixel x.
 fn column_of(window: Window, x: u64, event: &Event) -> u64

@@ -17,12 +17,12 @@ use crate::plot::Window;
 use crate::processor::pieces;
 use crate::seen::{Seen, told_by};
 use crate::strip::{Bars, put_numbers, put_pieces};
-use crate::template::put;
 use crate::windows::put_windows;
 use dover_model::jobs::LAST_TICK;
 use dover_model::{Event, Job, Memory, Piece, Ratio};
 use dover_report::{Counts, count, released};
 use intervals::{Charge, Interval, weights};
+use run_view::template::put;
 use std::alloc::Global;
 
 /// The run that prints these steps as SVG: the processor, a lane for each job that the window shows, or above 400 of

@@ -5,10 +5,11 @@ ghost use Rattle.run_picture.specs.Frame as frame;
 
 use crate::legends::{put_legend, put_styles};
 use crate::plot::{Window, has, meets, pixels, put_bar, x_at};
-use crate::template::{put, room};
+use crate::sizes::room;
 use dover_model::Memory;
 use dover_report::Counts;
 use intervals::Interval;
+use run_view::template::put;
 
 /// Appends a page with its title, and the legend of the processor.
 pub fn put_page(text: &mut Vec<u8>, high: u64, counts: &Counts) -> Result<(), Memory>

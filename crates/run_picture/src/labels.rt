@@ -6,8 +6,9 @@ ghost use Rattle.run_picture.specs.Labels as labels;
 use crate::lanes::{Lane, middle, shows};
 use crate::plot::{Window, has, pixels, x_at};
 use crate::seen::Seen;
-use crate::template::{digits_of, put, room};
+use crate::sizes::{digits_of, room};
 use dover_model::Memory;
+use run_view::template::put;
 
 /// Appends what is written in all lanes, where rows are high enough.
 pub fn put_labels(

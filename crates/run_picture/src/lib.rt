@@ -13,8 +13,8 @@ mod panels;
 mod plot;
 mod processor;
 mod seen;
+mod sizes;
 mod strip;
-mod template;
 mod windows;
 
 pub use drawing::picture;

@@ -4,8 +4,8 @@ ghost use Rattle.run_picture.specs.Marks as marks;
 
 use crate::lanes::{Lane, lane_at, middle};
 use crate::plot::{Window, has, meets, put_bar, x_at};
-use crate::template::put;
 use dover_model::{Event, Memory};
+use run_view::template::put;
 
 /// Appends bars where jobs are started and not over.
 pub fn put_holds(

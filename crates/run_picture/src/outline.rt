@@ -4,9 +4,9 @@ ghost use Rattle.dover_model.specs.Limits.{most_value};
 ghost use Rattle.run_picture.specs.Outlines as outlines;
 
 use crate::plot::{Window, column_at, has, scaled, x_at};
-use crate::template::put;
 use dover_model::{Event, Job, Memory};
 use dover_report::value_of;
+use run_view::template::put;
 
 /// What is measured.
 #[derive(Clone, Copy)]

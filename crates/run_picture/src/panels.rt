@@ -5,8 +5,8 @@ ghost use Rattle.run_picture.specs.Panels as panels;
 use crate::columns::{fullest, put_towers};
 use crate::outline::{Measure, Outline, greatest, put_outline};
 use crate::plot::Window;
-use crate::template::put;
 use dover_model::{Event, Job, Memory};
+use run_view::template::put;
 
 /// Appends an outline as an area of this class.
 fn put_area(

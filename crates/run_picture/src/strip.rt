@@ -4,8 +4,9 @@ ghost use Rattle.run_picture.specs.Strip as strip;
 
 use crate::lanes::{Lane, lane_at, middle};
 use crate::plot::{Window, meets, pixels, put_bar, x_at};
-use crate::template::{put, room};
+use crate::sizes::room;
 use dover_model::{Memory, Piece};
+use run_view::template::put;
 
 /// Where bars are drawn.
 #[derive(Clone, Copy)]

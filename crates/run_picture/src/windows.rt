@@ -5,8 +5,8 @@ ghost use Rattle.run_picture.specs.Windows as windows;
 use crate::lanes::{Lane, middle, shows};
 use crate::plot::{Window, put_bar};
 use crate::seen::{Fate, Seen};
-use crate::template::put;
 use dover_model::Memory;
+use run_view::template::put;
 
 /// Appends the windows of the jobs that the window of the picture shows.
 pub fn put_windows(

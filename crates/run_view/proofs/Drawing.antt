@@ -14,7 +14,7 @@ use Rattle.dover_report.specs.Rows.{ending_in}
 use Rattle.dover_report.specs.declared.endings.Ending.{Ending}
 use Rattle.dover_report.proofs.Counting.{jobs_are}
 use Rattle.intervals.specs.Rows.{IsRunOf}
-use Rattle.run_view.specs.Pieces.{numbered}
+use Rattle.run_view.specs.Templates.{filled}
 use Rattle.run_view.specs.Stays.{stays_of}
 use Rattle.run_view.proofs.Joining.{whole}
 use Rattle.run_view.specs.Timeline.{window_or, first_tick, padded, labels_from, frame, meets, sign, signs_from}
@@ -54,13 +54,21 @@ one_line a b c d e f g =
     ∙ joined_five (codes ", ") (codes "jobs " ++ a) (codes "completed " ++ (b ++ 32 ∷ c))
     (codes "abandoned " ++ (d ++ 32 ∷ e)) (codes "taken " ++ f) (codes "bound " ++ g))
 
+-- the same texts behind one another, grouped to the right
+grouped : (w a x b y c z d u e v f p g q : List ℕ)
+    → w ++ (a ++ (x ++ (b ++ (y ++ (c ++ (z ++ (d ++ (u ++ (e ++ (v ++ (f ++ (p ++ (g ++ q)))))))))))))
+    ≡ (w ++ a) ++ (x ++ b) ++ (y ++ c) ++ (z ++ d) ++ (u ++ e) ++ (v ++ f) ++ (p ++ g) ++ q
+grouped w a x b y c z d u e v f p g q = simp append_assoc
+
 -- of counts
-pub summary_pieces : (n : Counts)
-    → whole (numbered (codes "jobs ") n.jobs ∷ numbered (codes ", completed ") n.completed
-    ∷ numbered (codes " ") n.value ∷ numbered (codes ", abandoned ") n.abandoned
-    ∷ numbered (codes " ") n.lost ∷ numbered (codes ", taken ") n.taken
-    ∷ numbered (codes ", bound ") n.bound ∷ codes "\n" ∷ []) ≡ summed_up (counts_lines n)
-summary_pieces n = one_line (decimal n.jobs) (decimal n.completed) (decimal n.value) (decimal n.abandoned)
+pub summary_line : (n : Counts)
+    → filled (codes "jobs @, completed @ @, abandoned @ @, taken @, bound @\n")
+    (n.jobs ∷ n.completed ∷ n.value ∷ n.abandoned ∷ n.lost ∷ n.taken ∷ n.bound ∷ []) ≡ summed_up (counts_lines n)
+unfolding filled
+summary_line n = grouped (codes "jobs ") (decimal n.jobs) (codes ", completed ") (decimal n.completed)
+    (codes " ") (decimal n.value) (codes ", abandoned ") (decimal n.abandoned) (codes " ") (decimal n.lost)
+    (codes ", taken ") (decimal n.taken) (codes ", bound ") (decimal n.bound) (codes "\n")
+    ∙ one_line (decimal n.jobs) (decimal n.completed) (decimal n.value) (decimal n.abandoned)
     (decimal n.lost) (decimal n.taken) (decimal n.bound)
 
 -- ---- the ruler

@@ -1,3 +1,4 @@
+pub mod Filling
 pub mod Joining
 pub mod Stepping
 pub mod Viewed

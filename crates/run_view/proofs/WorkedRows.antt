@@ -4,8 +4,9 @@ use Rattle.std.specs.Prelude.{codes, Some, None}
 use Rattle.std.specs.Fmt.{digits}
 use Rattle.dover_model.specs.Instance.{Instance}
 use Rattle.dover_model.proofs.Written.{job, one}
+use Rattle.run_view.specs.Templates.{filled}
 use Rattle.run_view.specs.Chrome.{chrome}
-use Rattle.run_view.specs.Why.{why}
+use Rattle.run_view.specs.Why.{why, tested}
 use Rattle.run_view.specs.Timeline.{timeline}
 
 -- a take over a running and a held job
@@ -19,7 +20,7 @@ displaced_job : why 0 take_over ≡
     ++ codes "at 0 it is displaced by job 2\n"
     ++ codes "at 12 it runs\n"
     ++ codes "at 15 it is completed\n"
-unfolding digits
+unfolding digits filled
 displaced_job = refl
 
 abandoned_job : why 1 take_over ≡
@@ -27,7 +28,7 @@ abandoned_job : why 1 take_over ≡
     ++ codes "at 0 it preempts job 0, which is due later, its work 2 within the room 27\n"
     ++ codes "at 0 it is displaced by job 2\n"
     ++ codes "at 2 it is abandoned, its value 2 against 12 under way: 1 * 0^2 = 0 not above 1 * 12^2 = 144; heavy from 25 on\n"
-unfolding digits
+unfolding digits filled tested
 abandoned_job = refl
 
 takes_job : why 2 take_over ≡
@@ -35,7 +36,7 @@ takes_job : why 2 take_over ≡
     ++ codes "at 0 it waits, its work 12 above the room 2\n"
     ++ codes "at 0 it takes the processor from job 1, its value 12 against 5 under way: 1 * 7^2 = 49 above 1 * 5^2 = 25; heavy from 11 on\n"
     ++ codes "at 12 it is completed\n"
-unfolding digits
+unfolding digits filled tested
 takes_job = refl
 
 -- a job that is due no earlier waits, whatever room there is
@@ -44,12 +45,17 @@ waits_behind : why 1 (one 1 1 (job 0 3 10 3 ∷ job 1 2 12 2 ∷ [])) ≡
     ++ codes "at 1 it waits, due no earlier than the job that runs, its work 2 within the room 7\n"
     ++ codes "at 3 it runs\n"
     ++ codes "at 5 it is completed\n"
-unfolding digits
+unfolding digits filled
 waits_behind = refl
+
+greatest_number : why 4_294_967_295 take_over ≡
+    codes "no job 4294967295 among 3\n"
+unfolding digits filled
+greatest_number = refl
 
 unknown_job : why 3 take_over ≡
     codes "no job 3 among 3\n"
-unfolding digits
+unfolding digits filled
 unknown_job = refl
 
 viewed_run : chrome take_over ≡
@@ -75,7 +81,7 @@ viewed_run : chrome take_over ≡
     ++ codes ",{\"pid\":0,\"tid\":0,\"ph\":\"e\",\"ts\":15,\"cat\":\"job\",\"id\":\"0\",\"name\":\"job 0\",\"args\":{\"fate\":\"complete\"}}\n"
     ++ codes ",{\"pid\":0,\"tid\":0,\"ph\":\"C\",\"ts\":15,\"name\":\"value\",\"args\":{\"completed\":15,\"lost\":2}}\n"
     ++ codes "]}\n"
-unfolding digits
+unfolding digits filled
 viewed_run = refl
 
 -- the whole run
@@ -86,7 +92,7 @@ drawn_run : timeline None take_over ≡
     ++ codes "     0 ------------###............... 3\n"
     ++ codes "     1 --X. -2\n"
     ++ codes "     2 !########### 12\n"
-unfolding digits
+unfolding digits filled
 drawn_run = refl
 
 -- in a window, of which a column has many ticks
@@ -96,7 +102,7 @@ drawn_window : timeline (Some (record { from = 5; until = 1_000 })) take_over �
     ++ codes "       5                   265                 525                 785\n"
     ++ codes "     0 #. 3\n"
     ++ codes "     2 # 12\n"
-unfolding digits
+unfolding digits filled
 drawn_window = refl
 
 -- no job has a tick there
@@ -104,5 +110,31 @@ drawn_nothing : timeline (Some (record { from = 40; until = 50 })) take_over ≡
     codes "jobs 3, completed 2 15, abandoned 1 2, taken 1, bound 60\n"
     ++ codes "       ticks of a column: 1\n"
     ++ codes "       40\n"
-unfolding digits
+unfolding digits filled
 drawn_nothing = refl
+
+-- a window of all ticks that a number may name
+drawn_wide : timeline (Some (record { from = 0; until = 18_446_744_073_709_551_615 })) take_over ≡
+    codes "jobs 3, completed 2 15, abandoned 1 2, taken 1, bound 60\n"
+    ++ codes "       ticks of a column: 230584300921369396\n"
+    ++ codes "       0                   4611686018427387920 9223372036854775840 13835058055282163760\n"
+    ++ codes "     0 # 3\n"
+    ++ codes "     1 X -2\n"
+    ++ codes "     2 ! 12\n"
+unfolding digits filled
+drawn_wide = refl
+
+-- windows of no tick
+drawn_empty : timeline (Some (record { from = 5; until = 5 })) take_over ≡
+    codes "jobs 3, completed 2 15, abandoned 1 2, taken 1, bound 60\n"
+    ++ codes "       ticks of a column: 1\n"
+    ++ codes "       5\n"
+unfolding digits filled
+drawn_empty = refl
+
+drawn_turned : timeline (Some (record { from = 9; until = 3 })) take_over ≡
+    codes "jobs 3, completed 2 15, abandoned 1 2, taken 1, bound 60\n"
+    ++ codes "       ticks of a column: 1\n"
+    ++ codes "       9\n"
+unfolding digits filled
+drawn_turned = refl

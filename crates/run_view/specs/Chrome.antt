@@ -6,49 +6,54 @@ use Rattle.dover_model.specs.JobFacts.{JobFacts}
 use Rattle.dover_model.specs.Instance.{Instance}
 use Rattle.dover_report.specs.Counts.{value_in, value_lost}
 use Rattle.run_view.specs.Moments.{moments}
-use Rattle.run_view.specs.Pieces.{Text, numbered}
+use Rattle.run_view.specs.Templates.{Text, filled}
 
--- ---- one event each
-
--- the front of an event of this phase at this tick
-abbrev pub front : Text → ℕ → Text
-front phase at = codes ",{\"pid\":0,\"tid\":0,\"ph\":\"" ++ phase ++ numbered (codes "\",\"ts\":") at
-
--- the name of a job
-abbrev pub named : ℕ → Text
-named n = numbered (codes ",\"name\":\"job ") n ++ codes "\""
+-- ---- one event each, as a line in which each @ stands for a number
 
 -- the job gets the processor
+abbrev pub begins_line : Text
+begins_line = codes ",{\"pid\":0,\"tid\":0,\"ph\":\"B\",\"ts\":@,\"name\":\"job @\"}\n"
+
 abbrev pub begins : (at n : ℕ) → Text
-begins at n = front (codes "B") at ++ named n ++ codes "}\n"
+begins at n = filled begins_line (at ∷ n ∷ [])
 
 -- it loses the processor
+abbrev pub ends_line : Text
+ends_line = codes ",{\"pid\":0,\"tid\":0,\"ph\":\"E\",\"ts\":@,\"name\":\"job @\"}\n"
+
 abbrev pub ends : (at n : ℕ) → Text
-ends at n = front (codes "E") at ++ named n ++ codes "}\n"
+ends at n = filled ends_line (at ∷ n ∷ [])
 
--- the span of a job, from its release to its fate
-abbrev pub spanned : ℕ → Text
-spanned n = numbered (codes ",\"cat\":\"job\",\"id\":\"") n ++ codes "\"" ++ named n
+-- it is released, and its span begins
+abbrev pub opens_line : Text
+opens_line = codes ",{\"pid\":0,\"tid\":0,\"ph\":\"b\",\"ts\":@,\"cat\":\"job\",\"id\":\"@\",\"name\":\"job @\""
+    ++ codes ",\"args\":{\"work\":@,\"deadline\":@,\"value\":@}}\n"
 
--- it is released
 abbrev pub opens : ℕ → JobFacts → Text
-opens n j = front (codes "b") j.release ++ spanned n ++ numbered (codes ",\"args\":{\"work\":") j.work
-    ++ numbered (codes ",\"deadline\":") j.deadline ++ numbered (codes ",\"value\":") j.value ++ codes "}}\n"
+opens n j = filled opens_line (j.release ∷ n ∷ n ∷ j.work ∷ j.deadline ∷ j.value ∷ [])
 
--- it has this fate
+-- it has this fate, and its span ends
+abbrev pub closes_line : Text → Text
+closes_line fate = codes ",{\"pid\":0,\"tid\":0,\"ph\":\"e\",\"ts\":@,\"cat\":\"job\",\"id\":\"@\",\"name\":\"job @\""
+    ++ codes ",\"args\":{\"fate\":\"" ++ fate ++ codes "\"}}\n"
+
 abbrev pub closes : (at n : ℕ) → Text → Text
-closes at n fate = front (codes "e") at ++ spanned n ++ codes ",\"args\":{\"fate\":\"" ++ fate ++ codes "\"}}\n"
+closes at n fate = filled (closes_line fate) (at ∷ n ∷ n ∷ [])
 
 -- at its latest start its value stands against what the running and the held jobs are worth
+abbrev pub weighed_line : Text → Text
+weighed_line answer = codes ",{\"pid\":0,\"tid\":0,\"ph\":\"i\",\"ts\":@,\"s\":\"g\",\"name\":\"" ++ answer ++ codes " job @\""
+    ++ codes ",\"args\":{\"value\":@,\"against\":@}}\n"
+
 abbrev pub weighed : (at n : ℕ) → Text → (value worth : ℕ) → Text
-weighed at n answer value worth = front (codes "i") at ++ codes ",\"s\":\"g\",\"name\":\"" ++ answer ++ numbered
-    (codes " job ") n
-    ++ numbered (codes "\",\"args\":{\"value\":") value ++ numbered (codes ",\"against\":") worth ++ codes "}}\n"
+weighed at n answer value worth = filled (weighed_line answer) (at ∷ n ∷ value ∷ worth ∷ [])
 
 -- so much value is completed by now, and so much is lost
+abbrev pub summed_line : Text
+summed_line = codes ",{\"pid\":0,\"tid\":0,\"ph\":\"C\",\"ts\":@,\"name\":\"value\",\"args\":{\"completed\":@,\"lost\":@}}\n"
+
 abbrev pub summed : (at done lost : ℕ) → Text
-summed at done lost = front (codes "C") at ++ numbered (codes ",\"name\":\"value\",\"args\":{\"completed\":") done
-    ++ numbered (codes ",\"lost\":") lost ++ codes "}}\n"
+summed at done lost = filled summed_line (at ∷ done ∷ lost ∷ [])
 
 -- ---- the run
 

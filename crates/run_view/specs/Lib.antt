@@ -1,4 +1,4 @@
-pub mod Pieces
+pub mod Templates
 pub mod Moments
 pub mod Chrome
 pub mod Why

@@ -10,7 +10,7 @@ use Rattle.dover_model.specs.Run.{last_deadline, printed}
 use Rattle.dover_report.specs.Rows.{ending_in}
 use Rattle.dover_report.specs.declared.endings.Ending.{Ending}
 use Rattle.dover_report.specs.declared.endings.Ending.TheVariants.{Completed, Abandoned}
-use Rattle.run_view.specs.Pieces.{Text, numbered}
+use Rattle.run_view.specs.Templates.{Text, filled}
 use Rattle.run_view.specs.Stays.{stays_of}
 use Rattle.run_view.specs.declared.stays.Stay.{Stay}
 use Rattle.run_view.specs.declared.window.Window.{Window}
@@ -65,7 +65,7 @@ ruler w = blanks 7 ++ labels_from w (column_of w (w.until - 1) / 20) 0 ++ codes 
 
 -- the ticks of a column, and the ruler
 abbrev pub frame : Window → Text
-frame w = numbered (codes "       ticks of a column: ") (column_ticks w) ++ codes "\n" ++ ruler w
+frame w = filled (codes "       ticks of a column: @\n") (column_ticks w ∷ []) ++ ruler w
 
 -- ---- the signs of a job in the ticks from a on and before b
 

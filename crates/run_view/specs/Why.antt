@@ -1,6 +1,6 @@
 -- What happened to one job of a run, and by which test.
 use Rattle.std.specs.Prelude.{ℕ, ◌+◌, ◌-◌, ◌*◌, List, [], ◌∷◌, ◌++◌, length, Bool, false, not, ◌&&◌, ◌||◌, ◌==◌}
-use Rattle.std.specs.Prelude.{nat_le, if◌then◌else◌, Option, Some, None, slice_get, codes}
+use Rattle.std.specs.Prelude.{nat_le, if◌then◌else◌, Option, Some, None, slice_get, codes, decimal}
 use Rattle.std.specs.Option.{option_map_or}
 use Rattle.dover_model.specs.declared.events.Event.{Event}
 use Rattle.dover_model.specs.declared.events.Event.TheVariants.{Release, Run, Preempt, Take, Complete, Abandon, End}
@@ -13,7 +13,7 @@ use Rattle.dover_model.specs.Run.{printed}
 use Rattle.intervals.specs.Rows.{weights}
 use Rattle.room_ledger.specs.Rooms.{rooms}
 use Rattle.run_view.specs.declared.story.Weighed.{Weighed}
-use Rattle.run_view.specs.Pieces.{Text, numbered}
+use Rattle.run_view.specs.Templates.{Text, filled}
 
 -- the least value that is heavy against w
 abbrev pub least_heavy : Fraction → ℕ → ℕ
@@ -21,83 +21,69 @@ least_heavy k w = greatest (λ v. not (is_heavy k v w)) + 1
 
 -- the numbers of the job
 abbrev pub asked : ℕ → JobFacts → Text
-asked n j = numbered (codes "job ") n ++ numbered (codes ": release ") j.release ++ numbered (codes ", work ") j.work
-    ++ numbered (codes ", deadline ") j.deadline ++ numbered (codes ", value ") j.value ++ codes "\n"
+asked n j = filled (codes "job @: release @, work @, deadline @, value @\n")
+    (n ∷ j.release ∷ j.work ∷ j.deadline ∷ j.value ∷ [])
 
--- the side of the value
-abbrev pub over : Fraction → (value worth : ℕ) → Text
-over k value worth = numbered (codes " under way: ") k.q ++ numbered (codes " * ") (value - worth)
-    ++ numbered (codes "^2 = ") (k.q * (value - worth) * (value - worth))
-
--- the side of the jobs under way
-abbrev pub under : Fraction → ℕ → Text
-under k worth = numbered (codes " ") k.p ++ numbered (codes " * ") worth ++ numbered (codes "^2 = ")
-    (k.p * worth * worth)
+-- a part of a ratio times the square of a value
+abbrev pub square : (part value : ℕ) → Text
+square part value = filled (codes " @ * @^2 = ") (part ∷ value ∷ []) ++ decimal (part * value * value)
 
 -- the test at a latest start: both sides of it, this word between them, and from which value on it is passed
-abbrev pub tested : Fraction → (value worth : ℕ) → Text → Text
-tested k value worth answer = numbered (codes ", its value ") value ++ numbered (codes " against ") worth
-    ++ over k value worth ++ answer
-    ++ under k worth ++ numbered (codes "; heavy from ") (least_heavy k worth) ++ codes " on\n"
-
--- at a tick
-abbrev pub stamped : ℕ → Text → Text
-stamped at words = numbered (codes "at ") at ++ words
-
--- at a tick, with another job
-abbrev pub stamped_with : ℕ → Text → ℕ → Text → Text
-stamped_with at words other rest = stamped at words ++ numbered (codes " job ") other ++ rest
+unfoldable pub tested : Fraction → (value worth : ℕ) → Text → Text
+tested k value worth answer = filled (codes ", its value @ against @ under way:") (value ∷ worth ∷ [])
+    ++ square k.q (value - worth) ++ answer ++ square k.p worth
+    ++ filled (codes "; heavy from @ on\n") (least_heavy k worth ∷ [])
 
 -- the job takes the processor
 abbrev pub takes : Fraction → (value at stops worth : ℕ) → Text
-takes k value at stops worth = stamped_with at (codes " it takes the processor from") stops []
+takes k value at stops worth = filled (codes "at @ it takes the processor from job @") (at ∷ stops ∷ [])
     ++ tested k value worth (codes " above")
 
 -- it is abandoned
 abbrev pub goes : Fraction → (value at worth : ℕ) → Text
-goes k value at worth = stamped at (codes " it is abandoned") ++ tested k value worth (codes " not above")
+goes k value at worth = filled (codes "at @ it is abandoned") (at ∷ []) ++ tested k value worth (codes " not above")
 
 -- what an abandonment of job m means for job n
 abbrev pub gone : Fraction → (n value at m worth : ℕ) → Text
 gone k n value at m worth = if m == n then goes k value at worth else []
 
--- words at a tick, where the step is the job's own
+-- a line at a tick, where the step is the job's own
 abbrev pub own : Bool → ℕ → Text → Text
-own mine at words = if mine then stamped at words else []
+own mine at line = if mine then filled line (at ∷ []) else []
 
--- whether a work is within the room
-abbrev pub side : Bool → Text
-side fits = if fits then codes " within" else codes " above"
+-- it preempts another job, with the test of its work against the room of the running and the held jobs
+abbrev pub preempts_line : (fits : Bool) → Text
+preempts_line fits = if fits
+    then codes "at @ it preempts job @, which is due later, its work @ within the room @\n"
+    else codes "at @ it preempts job @, which is due later, its work @ above the room @\n"
 
--- the test of a fresh job's work against the room of the running and the held jobs, and the end of the line
-abbrev pub fitted : (work room : ℕ) → Text
-fitted work room = numbered (codes ", its work ") work ++ side (nat_le work room) ++ numbered (codes " the room ") room
-    ++ codes "\n"
+-- another job preempts it, with the test of that job's work
+abbrev pub preempted_line : (fits : Bool) → Text
+preempted_line fits = if fits
+    then codes "at @ it is preempted by job @, which is due earlier, its work @ within the room @\n"
+    else codes "at @ it is preempted by job @, which is due earlier, its work @ above the room @\n"
 
 -- what a preemption means for job n
 abbrev pub preempted : (n at stops starts work room : ℕ) → Text
 preempted n at stops starts work room = if starts == n
-    then stamped_with at (codes " it preempts") stops (codes ", which is due later") ++ fitted work room
-    else (if stops == n then stamped_with at (codes " it is preempted by") starts (codes ", which is due earlier")
-    ++ fitted work room else [])
+    then filled (preempts_line (nat_le work room)) (at ∷ stops ∷ work ∷ room ∷ [])
+    else (if stops == n then filled (preempted_line (nat_le work room)) (at ∷ starts ∷ work ∷ room ∷ []) else [])
 
--- where its work is within the room, a job waits since it is due no earlier than the job that runs
-abbrev pub reason : ℕ → (fits : Bool) → Text
-reason at fits = if fits then stamped at (codes " it waits, due no earlier than the job that runs")
-    else stamped at (codes " it waits")
-
--- a fresh job waits
-abbrev pub waits : (at work room : ℕ) → Text
-waits at work room = reason at (nat_le work room) ++ fitted work room
+-- where its work is within the room, a fresh job waits since it is due no earlier than the job that runs
+abbrev pub waits_line : (fits : Bool) → Text
+waits_line fits = if fits
+    then codes "at @ it waits, due no earlier than the job that runs, its work @ within the room @\n"
+    else codes "at @ it waits, its work @ above the room @\n"
 
 -- what a release means for job n, which starts at once or else waits
 abbrev pub arrived : (n m at : ℕ) (starts : Bool) (work room : ℕ) → Text
-arrived n m at starts work room = if (m == n) && not starts then waits at work room else []
+arrived n m at starts work room = if (m == n) && not starts
+    then filled (waits_line (nat_le work room)) (at ∷ work ∷ room ∷ []) else []
 
 -- what a take means for job n of this value, which runs or is held where on is true
 abbrev pub taken : Fraction → (n value : ℕ) → Bool → (at stops starts worth : ℕ) → Text
 taken k n value on at stops starts worth = if starts == n then takes k value at stops worth
-    else (if on then stamped_with at (codes " it is displaced by") starts (codes "\n") else [])
+    else (if on then filled (codes "at @ it is displaced by job @\n") (at ∷ starts ∷ []) else [])
 
 -- the work of a job
 abbrev pub work_in : List JobFacts → ℕ → ℕ
@@ -111,10 +97,10 @@ work_of jobs _ = 0
 -- what a step means for it, which starts next or doesn't
 abbrev pub told : Fraction → (n value : ℕ) → (on starts : Bool) → Weighed → Event → Text
 told k n value on starts x (Release m job) = arrived n m job.release starts job.work x.room
-told k n value on starts x (Run at m) = own (m == n) at (codes " it runs\n")
+told k n value on starts x (Run at m) = own (m == n) at (codes "at @ it runs\n")
 told k n value on starts x (Preempt at stops new) = preempted n at stops new x.work x.room
 told k n value on starts x (Take at stops new) = taken k n value on at stops new x.worth
-told k n value on starts x (Complete at m) = own (m == n) at (codes " it is completed\n")
+told k n value on starts x (Complete at m) = own (m == n) at (codes "at @ it is completed\n")
 told k n value on starts x (Abandon at m) = gone k n value at m x.worth
 told k n value on starts x (End sum) = []
 
@@ -142,7 +128,7 @@ story_from k n value jobs on _ _ _ = []
 
 -- there is no such job
 abbrev pub unknown : ℕ → ℕ → Text
-unknown n count = numbered (codes "no job ") n ++ numbered (codes " among ") count ++ codes "\n"
+unknown n count = filled (codes "no job @ among @\n") (n ∷ count ∷ [])
 
 -- the text on job n, if there is one
 abbrev pub answer : ℕ → Instance → Option JobFacts → Text

@@ -1,10 +1,10 @@
 //! Reports on a run for viewers, and on what happened to one job, as texts.
 #![tactic(auto)]
 
-mod pieces;
 mod signs;
 mod stays;
 mod story;
+pub mod template;
 mod terminal;
 mod threshold;
 mod viewer;

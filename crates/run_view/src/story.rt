@@ -1,13 +1,14 @@
 //! What happened to one job.
-ghost use Rattle.std.specs.Prelude.{◌≡◌, ◌≤◌, ◌++◌, ◌∷◌, ◌*◌, Bool, List, false, length, drop, codes, OnOk, IfOk};
+ghost use Rattle.std.specs.Prelude.{◌≡◌, ◌≤◌, ◌++◌, ◌∷◌, [], ◌*◌, List, false, length, drop, nat_le, OnOk, IfOk};
 ghost use Rattle.std.specs.List.{AllByRecursion};
 ghost use Rattle.intervals.specs.Rows.{IsRunOf};
 ghost use Rattle.dover_model.specs.declared.events.Event.{Event};
 ghost use Rattle.dover_model.specs.Instance.{Instance};
 ghost use Rattle.dover_model.specs.Limits.{most_total, most_value};
+ghost use Rattle.run_view.specs.Templates.{filled};
 ghost use Rattle.run_view.specs.Why as story;
 
-use crate::pieces::{put, put_job, put_wide};
+use crate::template::{put, put_wide};
 use crate::threshold::least_heavy;
 use dover_model::{Event, Job, Memory, Ratio};
 use dover_report::released;
@@ -63,23 +64,24 @@ pub fn why(alloc: Global, k: Ratio, run: &[Event], number: u32) -> Result<Vec<u8
 fn put_unknown(text: &mut Vec<u8>, number: u32, count: u64) -> Result<(), Memory>
     ensures { OnOk result (text.new.items ≡ text.old.items ++ story.unknown number count) }
 {
-    put_job(text, b"no job ", number)?;
-    put(text, b" among ", count)?;
-    text.extend_from_slice(b"\n")?;
-    Ok(())
+    put(text, b"no job @ among @\n", &[u64::from(number), count])
 }
 
 /// Appends the numbers of the job.
 fn put_asked(text: &mut Vec<u8>, number: u32, job: &Job) -> Result<(), Memory>
     ensures { OnOk result (text.new.items ≡ text.old.items ++ story.asked number job.now) }
 {
-    put_job(text, b"job ", number)?;
-    put(text, b": release ", job.release())?;
-    put(text, b", work ", job.work())?;
-    put(text, b", deadline ", job.deadline())?;
-    put(text, b", value ", job.value())?;
-    text.extend_from_slice(b"\n")?;
-    Ok(())
+    put(
+        text,
+        b"job @: release @, work @, deadline @, value @\n",
+        &[
+            u64::from(number),
+            job.release(),
+            job.work(),
+            job.deadline(),
+            job.value(),
+        ],
+    )
 }
 
 /// Appends what these steps mean for the job, before each of which the jobs under way are worth so much and leave so
@@ -190,7 +192,7 @@ fn put_told(
             &job,
             weighed.room,
         ),
-        Event::Run { at, number } => put_own(text, number == asked.number, at, b" it runs\n"),
+        Event::Run { at, number } => put_own(text, number == asked.number, at, b"at @ it runs\n"),
         Event::Preempt { at, stops, starts } => put_preempted(
             text,
             asked.number,
@@ -212,19 +214,19 @@ fn put_told(
             text,
             number == asked.number,
             at,
-            b" it is completed\n",
+            b"at @ it is completed\n",
         ),
         Event::Abandon { at, number } => put_gone(text, asked, at, number, weighed.worth),
         Event::End { .. } => Ok(()),
     }
 }
 
-/// Appends words at a tick, where the step is the job's own.
-fn put_own(text: &mut Vec<u8>, mine: bool, at: u64, words: &[u8]) -> Result<(), Memory>
-    ensures { OnOk result (text.new.items ≡ text.old.items ++ story.own mine at words.now) }
+/// Appends a line at a tick, where the step is the job's own.
+fn put_own(text: &mut Vec<u8>, mine: bool, at: u64, line: &[u8]) -> Result<(), Memory>
+    ensures { OnOk result (text.new.items ≡ text.old.items ++ story.own mine at line.now) }
 {
     if mine {
-        put_stamped(text, at, words)?;
+        return put(text, line, &[at]);
     }
     Ok(())
 }
@@ -241,42 +243,36 @@ fn put_preempted(
     ensures { OnOk result (text.new.items ≡ text.old.items
         ++ story.preempted number at stops starts weighed.now.work weighed.now.room) }
 {
+    let (work, room) = (weighed.work, weighed.room);
     if starts == number {
-        put_stamped_with(text, at, b" it preempts", stops, b", which is due later")?;
-        return put_fitted(text, weighed.work, weighed.room);
+        let other = u64::from(stops);
+        return put(text, preempts_line(work <= room), &[at, other, work, room]);
     }
     if stops == number {
-        put_stamped_with(
-            text,
-            at,
-            b" it is preempted by",
-            starts,
-            b", which is due earlier",
-        )?;
-        return put_fitted(text, weighed.work, weighed.room);
+        let other = u64::from(starts);
+        return put(text, preempted_line(work <= room), &[at, other, work, room]);
     }
     Ok(())
 }
 
-/// Appends the test of a fresh job's work against the room of the running and the held jobs.
-fn put_fitted(text: &mut Vec<u8>, work: u64, room: u64) -> Result<(), Memory>
-    ensures { OnOk result (text.new.items ≡ text.old.items ++ story.fitted work room) }
-{
-    put(text, b", its work ", work)?;
-    text.extend_from_slice(side(work <= room))?;
-    put(text, b" the room ", room)?;
-    text.extend_from_slice(b"\n")?;
-    Ok(())
-}
-
-/// Whether a work is within the room.
-fn side(fits: bool) -> &'static [u8]
-    ensures { result.now ≡ story.side fits }
+/// The line of a job that preempts another, by whether its work is within the room.
+fn preempts_line(fits: bool) -> &'static [u8]
+    ensures { result.now ≡ story.preempts_line fits }
 {
     if fits {
-        return b" within";
+        return b"at @ it preempts job @, which is due later, its work @ within the room @\n";
     }
-    b" above"
+    b"at @ it preempts job @, which is due later, its work @ above the room @\n"
+}
+
+/// The line of a job that another preempts, by whether that one's work is within the room.
+fn preempted_line(fits: bool) -> &'static [u8]
+    ensures { result.now ≡ story.preempted_line fits }
+{
+    if fits {
+        return b"at @ it is preempted by job @, which is due earlier, its work @ within the room @\n";
+    }
+    b"at @ it is preempted by job @, which is due earlier, its work @ above the room @\n"
 }
 
 /// Appends what a release means for the job of this number, which starts at once or else waits.
@@ -299,25 +295,20 @@ fn put_arrived(
 
 /// Appends why a job waits.
 fn put_waits(text: &mut Vec<u8>, at: u64, work: u64, room: u64) -> Result<(), Memory>
-    ensures { OnOk result (text.new.items ≡ text.old.items ++ story.waits at work room) }
+    ensures { OnOk result (text.new.items
+        ≡ text.old.items ++ filled (story.waits_line (nat_le work room)) (at ∷ work ∷ room ∷ [])) }
 {
-    put_reason(text, at, work <= room)?;
-    put_fitted(text, work, room)?;
-    Ok(())
+    put(text, waits_line(work <= room), &[at, work, room])
 }
 
-/// Appends that a job waits, and why where its work is within the room.
-fn put_reason(text: &mut Vec<u8>, at: u64, fits: bool) -> Result<(), Memory>
-    ensures { OnOk result (text.new.items ≡ text.old.items ++ story.reason at fits) }
+/// The line of a job that waits, by whether its work is within the room.
+fn waits_line(fits: bool) -> &'static [u8]
+    ensures { result.now ≡ story.waits_line fits }
 {
     if fits {
-        return put_stamped(
-            text,
-            at,
-            b" it waits, due no earlier than the job that runs",
-        );
+        return b"at @ it waits, due no earlier than the job that runs, its work @ within the room @\n";
     }
-    put_stamped(text, at, b" it waits")
+    b"at @ it waits, its work @ above the room @\n"
 }
 
 /// Appends what a take means for the job, which runs or is held where `on` is true.
@@ -339,7 +330,11 @@ fn put_taken(
         return put_takes(text, asked, at, stops, worth);
     }
     if on {
-        return put_stamped_with(text, at, b" it is displaced by", starts, b"\n");
+        return put(
+            text,
+            b"at @ it is displaced by job @\n",
+            &[at, u64::from(starts)],
+        );
     }
     Ok(())
 }
@@ -356,7 +351,11 @@ fn put_takes(
     requires worth { worth ≤ most_total }
     ensures { OnOk result (text.new.items ≡ text.old.items ++ story.takes asked.now.k asked.now.value at stops worth) }
 {
-    put_stamped_with(text, at, b" it takes the processor from", stops, b"")?;
+    put(
+        text,
+        b"at @ it takes the processor from job @",
+        &[at, u64::from(stops)],
+    )?;
     put_tested(text, asked, worth, b" above")?;
     Ok(())
 }
@@ -386,33 +385,8 @@ fn put_goes(text: &mut Vec<u8>, asked: &Asked, at: u64, worth: u64) -> Result<()
     requires worth { worth ≤ most_total }
     ensures { OnOk result (text.new.items ≡ text.old.items ++ story.goes asked.now.k asked.now.value at worth) }
 {
-    put_stamped(text, at, b" it is abandoned")?;
+    put(text, b"at @ it is abandoned", &[at])?;
     put_tested(text, asked, worth, b" not above")?;
-    Ok(())
-}
-
-/// Appends words at a tick.
-fn put_stamped(text: &mut Vec<u8>, at: u64, words: &[u8]) -> Result<(), Memory>
-    ensures { OnOk result (text.new.items ≡ text.old.items ++ story.stamped at words.now) }
-{
-    put(text, b"at ", at)?;
-    text.extend_from_slice(words)?;
-    Ok(())
-}
-
-/// Appends words at a tick, and another job.
-fn put_stamped_with(
-    text: &mut Vec<u8>,
-    at: u64,
-    words: &[u8],
-    other: u32,
-    rest: &[u8],
-) -> Result<(), Memory>
-    ensures { OnOk result (text.new.items ≡ text.old.items ++ story.stamped_with at words.now other rest.now) }
-{
-    put_stamped(text, at, words)?;
-    put_job(text, b" job ", other)?;
-    text.extend_from_slice(rest)?;
     Ok(())
 }
 
@@ -423,36 +397,27 @@ fn put_tested(text: &mut Vec<u8>, asked: &Asked, worth: u64, answer: &[u8]) -> R
     ensures { OnOk result (text.new.items
         ≡ text.old.items ++ story.tested asked.now.k asked.now.value worth answer.now) }
 {
-    put(text, b", its value ", asked.value)?;
-    put(text, b" against ", worth)?;
-    put_over(text, asked.k, asked.value, worth)?;
+    let more = asked.value.saturating_sub(worth);
+    put(
+        text,
+        b", its value @ against @ under way:",
+        &[asked.value, worth],
+    )?;
+    put_square(text, asked.k.q(), more)?;
     text.extend_from_slice(answer)?;
-    put_under(text, asked.k, worth)?;
-    put(text, b"; heavy from ", least_heavy(worth, asked.k))?;
-    text.extend_from_slice(b" on\n")?;
+    put_square(text, asked.k.p(), worth)?;
+    put(text, b"; heavy from @ on\n", &[least_heavy(worth, asked.k)])?;
     Ok(())
 }
 
-/// Appends the side of the value.
-fn put_over(text: &mut Vec<u8>, k: Ratio, value: u64, worth: u64) -> Result<(), Memory>
-    requires { value ≤ most_value }
-    ensures { OnOk result (text.new.items ≡ text.old.items ++ story.over k value worth) }
+/// Appends a part of a ratio times the square of a value.
+fn put_square(text: &mut Vec<u8>, part: u32, value: u64) -> Result<(), Memory>
+    requires part { part ≤ 1_000_000 }
+    requires value { value ≤ most_total }
+    ensures { OnOk result (text.new.items ≡ text.old.items ++ story.square part value) }
 {
-    let more = value.saturating_sub(worth);
-    put_job(text, b" under way: ", k.q())?;
-    put(text, b" * ", more)?;
-    put_wide(text, b"^2 = ", times_square(k.q(), more))?;
-    Ok(())
-}
-
-/// Appends the side of the jobs under way.
-fn put_under(text: &mut Vec<u8>, k: Ratio, worth: u64) -> Result<(), Memory>
-    requires { worth ≤ most_total }
-    ensures { OnOk result (text.new.items ≡ text.old.items ++ story.under k worth) }
-{
-    put_job(text, b" ", k.p())?;
-    put(text, b" * ", worth)?;
-    put_wide(text, b"^2 = ", times_square(k.p(), worth))?;
+    put(text, b" @ * @^2 = ", &[u64::from(part), value])?;
+    put_wide(text, times_square(part, value))?;
     Ok(())
 }
 

@@ -9,9 +9,9 @@ ghost use Rattle.run_view.specs.Book.{Keeps};
 ghost use Rattle.run_view.specs.Stays.{stays_of};
 ghost use Rattle.run_view.specs.Timeline as picture;
 
-use crate::pieces::{put, put_wide};
 use crate::signs::{put_blanks, put_signs};
 use crate::stays::{Stay, Stays};
+use crate::template::{put, put_wide};
 use crate::window::Window;
 use dover_model::{Event, Job, Memory, Ratio};
 use dover_report::endings::{Ending, ending_at, endings};
@@ -74,23 +74,30 @@ fn last_deadline(jobs: &[Job]) -> u64
 fn put_summary(text: &mut Vec<u8>, counts: Counts) -> Result<(), Memory>
     ensures { OnOk result (text.new.items ≡ text.old.items ++ picture.summed_up (counts_lines counts)) }
 {
-    put(text, b"jobs ", counts.jobs)?;
-    put(text, b", completed ", counts.completed)?;
-    put(text, b" ", counts.value)?;
-    put(text, b", abandoned ", counts.abandoned)?;
-    put(text, b" ", counts.lost)?;
-    put(text, b", taken ", counts.taken)?;
-    put(text, b", bound ", counts.bound)?;
-    text.extend_from_slice(b"\n")?;
-    Ok(())
+    put(
+        text,
+        b"jobs @, completed @ @, abandoned @ @, taken @, bound @\n",
+        &[
+            counts.jobs,
+            counts.completed,
+            counts.value,
+            counts.abandoned,
+            counts.lost,
+            counts.taken,
+            counts.bound,
+        ],
+    )
 }
 
 /// Appends the ticks of a column, and the ruler.
 fn put_frame(text: &mut Vec<u8>, window: &Window) -> Result<(), Memory>
     ensures { OnOk result (text.new.items ≡ text.old.items ++ picture.frame window.now) }
 {
-    put(text, b"       ticks of a column: ", window.column_ticks())?;
-    text.extend_from_slice(b"\n")?;
+    put(
+        text,
+        b"       ticks of a column: @\n",
+        &[window.column_ticks()],
+    )?;
     put_ruler(text, window)?;
     Ok(())
 }
@@ -115,7 +122,7 @@ fn put_labels(text: &mut Vec<u8>, window: &Window, more: u64) -> Result<(), Memo
     for index in 0..more {
         put_padded(text, window.first_tick(20 * index))?;
     }
-    put_wide(text, b"", window.first_tick(20 * more))?;
+    put_wide(text, window.first_tick(20 * more))?;
     Ok(())
 }
 
@@ -191,8 +198,7 @@ fn put_job(
     put_signs(text, window, job, own, ending)?;
     text.extend_from_slice(b" ")?;
     put_loss_sign(text, ending)?;
-    put(text, b"", job.value())?;
-    text.extend_from_slice(b"\n")?;
+    put(text, b"@\n", &[job.value()])?;
     Ok(())
 }
 

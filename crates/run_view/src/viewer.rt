@@ -7,7 +7,7 @@ ghost use Rattle.dover_model.specs.Limits.{most_value};
 ghost use Rattle.dover_report.specs.Counts as counts;
 ghost use Rattle.run_view.specs.Chrome as events;
 
-use crate::pieces::{put, put_job};
+use crate::template::put;
 use dover_model::{Event, Job, Memory, Ratio};
 use dover_report::{released, value_of};
 use intervals::weights;
@@ -82,22 +82,27 @@ fn put_event(
     ensures { OnOk result (text.new.items ≡ text.old.items ++ events.events_of jobs.now done lost worth event.now) }
 {
     match *event {
-        Event::Release { number, job } => put_opens(text, number, &job),
-        Event::Run { at, number } => put_begins(text, at, number),
-        Event::Preempt { at, stops, starts } => put_switch(text, at, stops, starts),
+        Event::Release { number, job } => put_opens(text, u64::from(number), &job),
+        Event::Run { at, number } => put_begins(text, at, u64::from(number)),
+        Event::Preempt { at, stops, starts } => put_switch(
+            text,
+            at,
+            u64::from(stops),
+            u64::from(starts),
+        ),
         Event::Take { at, stops, starts } => put_taken(
             text,
             at,
-            stops,
-            starts,
+            u64::from(stops),
+            u64::from(starts),
             value_of(jobs, starts),
             worth,
         ),
-        Event::Complete { at, number } => put_completed(text, at, number, done, lost),
+        Event::Complete { at, number } => put_completed(text, at, u64::from(number), done, lost),
         Event::Abandon { at, number } => put_abandoned(
             text,
             at,
-            number,
+            u64::from(number),
             value_of(jobs, number),
             worth,
             done,
@@ -107,12 +112,53 @@ fn put_event(
     }
 }
 
+/// Appends that the job is released.
+fn put_opens(text: &mut Vec<u8>, number: u64, job: &Job) -> Result<(), Memory>
+    ensures { OnOk result (text.new.items ≡ text.old.items ++ events.opens number job.now) }
+{
+    put(
+        text,
+        b",{\"pid\":0,\"tid\":0,\"ph\":\"b\",\"ts\":@,\"cat\":\"job\",\"id\":\"@\",\"name\":\"job @\",\"args\":{\"work\":@,\"deadline\":@,\"value\":@}}\n",
+        &[
+            job.release(),
+            number,
+            number,
+            job.work(),
+            job.deadline(),
+            job.value(),
+        ],
+    )
+}
+
+/// Appends that the job gets the processor.
+fn put_begins(text: &mut Vec<u8>, at: u64, number: u64) -> Result<(), Memory>
+    ensures { OnOk result (text.new.items ≡ text.old.items ++ events.begins at number) }
+{
+    put(
+        text,
+        b",{\"pid\":0,\"tid\":0,\"ph\":\"B\",\"ts\":@,\"name\":\"job @\"}\n",
+        &[at, number],
+    )
+}
+
+/// Appends that the processor goes from one job to another.
+fn put_switch(text: &mut Vec<u8>, at: u64, stops: u64, starts: u64) -> Result<(), Memory>
+    ensures { OnOk result (text.new.items ≡ text.old.items ++ (events.ends at stops ++ events.begins at starts)) }
+{
+    put(
+        text,
+        b",{\"pid\":0,\"tid\":0,\"ph\":\"E\",\"ts\":@,\"name\":\"job @\"}\n\
+        ,{\"pid\":0,\"tid\":0,\"ph\":\"B\",\"ts\":@,\"name\":\"job @\"}\n",
+        &[at, stops, at, starts],
+    )
+}
+
 /// Appends that a job takes the processor from another.
 fn put_taken(
     text: &mut Vec<u8>,
     at: u64,
-    stops: u32,
-    starts: u32,
+    stops: u64,
+    starts: u64,
     value: u64,
     worth: u64,
 ) -> Result<(), Memory>
@@ -120,17 +166,20 @@ fn put_taken(
         ≡ text.old.items ++ (events.ends at stops ++ events.begins at starts
         ++ events.weighed at starts (codes "take") value worth)) }
 {
-    put_ends(text, at, stops)?;
-    put_begins(text, at, starts)?;
-    put_weighed(text, at, starts, b"take", value, worth)?;
-    Ok(())
+    put(
+        text,
+        b",{\"pid\":0,\"tid\":0,\"ph\":\"E\",\"ts\":@,\"name\":\"job @\"}\n\
+        ,{\"pid\":0,\"tid\":0,\"ph\":\"B\",\"ts\":@,\"name\":\"job @\"}\n\
+        ,{\"pid\":0,\"tid\":0,\"ph\":\"i\",\"ts\":@,\"s\":\"g\",\"name\":\"take job @\",\"args\":{\"value\":@,\"against\":@}}\n",
+        &[at, stops, at, starts, at, starts, value, worth],
+    )
 }
 
 /// Appends that the job is done, and the values so far.
 fn put_completed(
     text: &mut Vec<u8>,
     at: u64,
-    number: u32,
+    number: u64,
     done: u64,
     lost: u64,
 ) -> Result<(), Memory>
@@ -138,17 +187,20 @@ fn put_completed(
         ≡ text.old.items ++ (events.ends at number ++ events.closes at number (codes "complete")
         ++ events.summed at done lost)) }
 {
-    put_ends(text, at, number)?;
-    put_closes(text, at, number, b"complete")?;
-    put_summed(text, at, done, lost)?;
-    Ok(())
+    put(
+        text,
+        b",{\"pid\":0,\"tid\":0,\"ph\":\"E\",\"ts\":@,\"name\":\"job @\"}\n\
+        ,{\"pid\":0,\"tid\":0,\"ph\":\"e\",\"ts\":@,\"cat\":\"job\",\"id\":\"@\",\"name\":\"job @\",\"args\":{\"fate\":\"complete\"}}\n\
+        ,{\"pid\":0,\"tid\":0,\"ph\":\"C\",\"ts\":@,\"name\":\"value\",\"args\":{\"completed\":@,\"lost\":@}}\n",
+        &[at, number, at, number, number, at, done, lost],
+    )
 }
 
 /// Appends that the job is gone, and the values so far.
 fn put_abandoned(
     text: &mut Vec<u8>,
     at: u64,
-    number: u32,
+    number: u64,
     value: u64,
     worth: u64,
     done: u64,
@@ -158,123 +210,11 @@ fn put_abandoned(
         ≡ text.old.items ++ (events.closes at number (codes "abandon")
         ++ events.weighed at number (codes "abandon") value worth ++ events.summed at done lost)) }
 {
-    put_closes(text, at, number, b"abandon")?;
-    put_weighed(text, at, number, b"abandon", value, worth)?;
-    put_summed(text, at, done, lost)?;
-    Ok(())
-}
-
-/// Appends the front of an event of this phase, up to its tick.
-fn put_front(text: &mut Vec<u8>, phase: &[u8], at: u64) -> Result<(), Memory>
-    ensures { OnOk result (text.new.items ≡ text.old.items ++ events.front phase.now at) }
-{
-    text.extend_from_slice(b",{\"pid\":0,\"tid\":0,\"ph\":\"")?;
-    text.extend_from_slice(phase)?;
-    put(text, b"\",\"ts\":", at)?;
-    Ok(())
-}
-
-/// Appends the name of a job.
-fn put_name(text: &mut Vec<u8>, number: u32) -> Result<(), Memory>
-    ensures { OnOk result (text.new.items ≡ text.old.items ++ events.named number) }
-{
-    put_job(text, b",\"name\":\"job ", number)?;
-    text.extend_from_slice(b"\"")?;
-    Ok(())
-}
-
-/// Appends that the job gets the processor.
-fn put_begins(text: &mut Vec<u8>, at: u64, number: u32) -> Result<(), Memory>
-    ensures { OnOk result (text.new.items ≡ text.old.items ++ events.begins at number) }
-{
-    put_front(text, b"B", at)?;
-    put_name(text, number)?;
-    text.extend_from_slice(b"}\n")?;
-    Ok(())
-}
-
-/// Appends that the job loses the processor.
-fn put_ends(text: &mut Vec<u8>, at: u64, number: u32) -> Result<(), Memory>
-    ensures { OnOk result (text.new.items ≡ text.old.items ++ events.ends at number) }
-{
-    put_front(text, b"E", at)?;
-    put_name(text, number)?;
-    text.extend_from_slice(b"}\n")?;
-    Ok(())
-}
-
-/// Appends that the processor goes from one job to another.
-fn put_switch(text: &mut Vec<u8>, at: u64, stops: u32, starts: u32) -> Result<(), Memory>
-    ensures { OnOk result (text.new.items ≡ text.old.items ++ (events.ends at stops ++ events.begins at starts)) }
-{
-    put_ends(text, at, stops)?;
-    put_begins(text, at, starts)?;
-    Ok(())
-}
-
-/// Appends what says that an event is of the span of a job.
-fn put_span(text: &mut Vec<u8>, number: u32) -> Result<(), Memory>
-    ensures { OnOk result (text.new.items ≡ text.old.items ++ events.spanned number) }
-{
-    put_job(text, b",\"cat\":\"job\",\"id\":\"", number)?;
-    text.extend_from_slice(b"\"")?;
-    put_name(text, number)?;
-    Ok(())
-}
-
-/// Appends that the job is released.
-fn put_opens(text: &mut Vec<u8>, number: u32, job: &Job) -> Result<(), Memory>
-    ensures { OnOk result (text.new.items ≡ text.old.items ++ events.opens number job.now) }
-{
-    put_front(text, b"b", job.release())?;
-    put_span(text, number)?;
-    put(text, b",\"args\":{\"work\":", job.work())?;
-    put(text, b",\"deadline\":", job.deadline())?;
-    put(text, b",\"value\":", job.value())?;
-    text.extend_from_slice(b"}}\n")?;
-    Ok(())
-}
-
-/// Appends that the job has this fate.
-fn put_closes(text: &mut Vec<u8>, at: u64, number: u32, fate: &[u8]) -> Result<(), Memory>
-    ensures { OnOk result (text.new.items ≡ text.old.items ++ events.closes at number fate.now) }
-{
-    put_front(text, b"e", at)?;
-    put_span(text, number)?;
-    text.extend_from_slice(b",\"args\":{\"fate\":\"")?;
-    text.extend_from_slice(fate)?;
-    text.extend_from_slice(b"\"}}\n")?;
-    Ok(())
-}
-
-/// Appends what is weighed where a job is taken or abandoned.
-fn put_weighed(
-    text: &mut Vec<u8>,
-    at: u64,
-    number: u32,
-    answer: &[u8],
-    value: u64,
-    worth: u64,
-) -> Result<(), Memory>
-    ensures { OnOk result (text.new.items ≡ text.old.items ++ events.weighed at number answer.now value worth) }
-{
-    put_front(text, b"i", at)?;
-    text.extend_from_slice(b",\"s\":\"g\",\"name\":\"")?;
-    text.extend_from_slice(answer)?;
-    put_job(text, b" job ", number)?;
-    put(text, b"\",\"args\":{\"value\":", value)?;
-    put(text, b",\"against\":", worth)?;
-    text.extend_from_slice(b"}}\n")?;
-    Ok(())
-}
-
-/// Appends the values so far.
-fn put_summed(text: &mut Vec<u8>, at: u64, done: u64, lost: u64) -> Result<(), Memory>
-    ensures { OnOk result (text.new.items ≡ text.old.items ++ events.summed at done lost) }
-{
-    put_front(text, b"C", at)?;
-    put(text, b",\"name\":\"value\",\"args\":{\"completed\":", done)?;
-    put(text, b",\"lost\":", lost)?;
-    text.extend_from_slice(b"}}\n")?;
-    Ok(())
+    put(
+        text,
+        b",{\"pid\":0,\"tid\":0,\"ph\":\"e\",\"ts\":@,\"cat\":\"job\",\"id\":\"@\",\"name\":\"job @\",\"args\":{\"fate\":\"abandon\"}}\n\
+        ,{\"pid\":0,\"tid\":0,\"ph\":\"i\",\"ts\":@,\"s\":\"g\",\"name\":\"abandon job @\",\"args\":{\"value\":@,\"against\":@}}\n\
+        ,{\"pid\":0,\"tid\":0,\"ph\":\"C\",\"ts\":@,\"name\":\"value\",\"args\":{\"completed\":@,\"lost\":@}}\n",
+        &[at, number, number, at, number, value, worth, at, done, lost],
+    )
 }

@@ -1,6 +1,6 @@
 use Rattle.std.proofs.Common.{[], ◌∷◌, refl, ◌/◌}
 use Rattle.run_view.proofs.Joining.{joined}
-use Rattle.run_picture.specs.Templates.{filled}
+use Rattle.run_view.specs.Templates.{filled}
 use Rattle.run_picture.specs.Frame.{bars_front, bars_end}
 use Rattle.run_picture.specs.Marks.{holds}
 use Rattle.run_picture.specs.Pictures.{holds_bars}

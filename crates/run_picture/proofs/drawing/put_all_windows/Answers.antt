@@ -1,7 +1,7 @@
 use Rattle.std.proofs.Common.{[], ◌∷◌, refl, ◌-◌}
 use Rattle.std.specs.Prelude.{codes}
 use Rattle.run_view.proofs.Joining.{joined}
-use Rattle.run_picture.specs.Templates.{filled}
+use Rattle.run_view.specs.Templates.{filled}
 use Rattle.run_picture.specs.Windows.{job_windows}
 use Rattle.run_picture.specs.Pictures.{lanes_front, windows}
 use Rattle.run_picture.proofs.drawing.put_all_windows.Goals as goal

@@ -1,7 +1,7 @@
 use Rattle.std.proofs.Common.{[], ◌∷◌, refl}
 use Rattle.std.specs.Prelude.{codes}
 use Rattle.run_view.proofs.Joining.{joined}
-use Rattle.run_picture.specs.Templates.{filled}
+use Rattle.run_view.specs.Templates.{filled}
 use Rattle.run_picture.proofs.frame.put_bars_front.Goals as goal
 
 pub returns : goal.returns

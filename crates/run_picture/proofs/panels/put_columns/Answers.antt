@@ -1,6 +1,6 @@
 use Rattle.std.proofs.Common.{[], ◌∷◌, refl, true}
 use Rattle.run_view.proofs.Joining.{joined}
-use Rattle.run_picture.specs.Templates.{filled}
+use Rattle.run_view.specs.Templates.{filled}
 use Rattle.run_picture.specs.Columns.{fullest}
 use Rattle.run_picture.specs.Panels.{towers_area, measured, columns_border, columns_by, columns}
 use Rattle.run_picture.specs.declared.outline.Measure.TheVariants.{Completed, Decided}

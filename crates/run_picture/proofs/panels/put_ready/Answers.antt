@@ -1,6 +1,6 @@
 use Rattle.std.proofs.Common.{[], ◌∷◌, refl, true}
 use Rattle.run_view.proofs.Joining.{joined}
-use Rattle.run_picture.specs.Templates.{filled}
+use Rattle.run_view.specs.Templates.{filled}
 use Rattle.run_picture.specs.Outlines.{greatest}
 use Rattle.run_picture.specs.Panels.{area, measured, ready_border, ready_by, ready}
 use Rattle.run_picture.specs.declared.outline.Measure.TheVariants.{Ready}

@@ -1,9 +1,8 @@
-use Rattle.std.proofs.Common.{[], ◌∷◌, refl}
-use Rattle.run_view.specs.Chrome.{begins, ends}
-use Rattle.run_view.proofs.Joining.{joined}
+use Rattle.std.proofs.Common.{[], ◌∷◌, ◌++◌, ◌≡◌, refl, subst}
+use Rattle.std.specs.Prelude.{OnOk}
+use Rattle.run_view.specs.Chrome.{begins_line, ends_line}
+use Rattle.run_view.proofs.Filling.{filled_two}
 use Rattle.run_view.proofs.viewer.put_switch.Goals as goal
 
 pub returns : goal.returns
-returns c = joined c.args.text.now.items
-    (ends c.args.at c.args.stops ∷ begins c.args.at c.args.starts ∷ []) _
-    (_, c.in_ok-put_ends.ensures, (_, c.in_ok-put_begins.ensures, refl))
+returns c = subst (λ t. OnOk c.put.result (c.put.new.text.items ≡ c.args.text.now.items ++ t)) (filled_two ends_line begins_line (c.args.at ∷ c.args.stops ∷ []) (c.args.at ∷ c.args.starts ∷ []) refl) c.put.ensures

@@ -1,11 +1,10 @@
-use Rattle.std.proofs.Common.{[], ◌∷◌, refl}
+use Rattle.std.proofs.Common.{[], ◌∷◌, ◌++◌, ◌≡◌, refl, subst}
+use Rattle.std.specs.Prelude.{OnOk}
 use Rattle.std.specs.Prelude.{codes}
-use Rattle.run_view.specs.Chrome.{begins, ends, weighed}
-use Rattle.run_view.proofs.Joining.{joined}
+use Rattle.run_view.specs.Chrome.{begins_line, ends_line, weighed_line}
+use Rattle.run_view.proofs.Filling.{filled_three}
 use Rattle.run_view.proofs.viewer.put_taken.Goals as goal
 
 pub returns : goal.returns
-returns c = joined c.args.text.now.items
-    (ends c.args.at c.args.stops ∷ begins c.args.at c.args.starts ∷ weighed c.args.at c.args.starts
-    (codes "take") c.args.value c.args.worth ∷ []) _
-    (_, c.in_ok-put_ends.ensures, (_, c.in_ok-put_begins.ensures, (_, c.in_ok-put_weighed.ensures, refl)))
+returns c = subst (λ t. OnOk c.put.result (c.put.new.text.items ≡ c.args.text.now.items ++ t)) (filled_three ends_line begins_line (weighed_line (codes "take")) (c.args.at ∷ c.args.stops ∷ [])
+    (c.args.at ∷ c.args.starts ∷ []) (c.args.at ∷ c.args.starts ∷ c.args.value ∷ c.args.worth ∷ []) refl refl) c.put.ensures

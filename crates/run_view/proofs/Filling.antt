@@ -1,9 +1,10 @@
 -- Templates, byte by byte.
-use Rattle.std.proofs.Common.{◌≡◌, ℕ, zero, suc, ◌+◌, ◌≤◌, ◌<◌, List, [], ◌∷◌, ◌++◌, length, drop, get_or}
+use Rattle.std.proofs.Common.{◌≡◌, ℕ, zero, suc, ◌+◌, ◌≤◌, ◌<◌, List, [], ◌∷◌, ◌++◌, length, drop, get_or, arith}
 use Rattle.std.proofs.Common.{refl, sym, ap, ◌∙◌}
 use Rattle.std.proofs.Common.{add-one, drop-cons, append_assoc, append-nil}
+use Rattle.std.specs.Prelude.{Bool, true, false, ◌==◌, if◌then◌else◌, decimal}
 use Rattle.std.proofs.lemmas.List.{drop_all}
-use Rattle.run_picture.specs.Templates.{Text, filled, part, left_behind, others}
+use Rattle.run_view.specs.Templates.{Text, filled, part, left_behind, first_numeral, others}
 
 -- behind one more number
 pub others_drop : (next : ℕ) (ns : List ℕ) → drop (suc next) ns ≡ others (drop next ns)
@@ -44,3 +45,33 @@ pub filled_all : (cs ns : List ℕ) (i next : ℕ) (text whole : Text) → lengt
 filled_all cs ns i next text whole past before =
     sym (append-nil text) ∙ ap (λ t. text ++ t) (sym (filled_none (drop next ns)))
     ∙ ap (λ l. text ++ filled l (drop next ns)) (sym (drop_all i cs past)) ∙ before
+
+-- ---- templates one behind another
+
+-- how many numbers a template has room for
+abbrev pub uses : Text → ℕ
+uses [] = 0
+uses (c ∷ cs) = if c == 64 then suc (uses cs) else uses cs
+
+-- a first template that uses all numbers of its own
+pub filled_two : (cs ds : Text) (ns ms : List ℕ) → uses cs ≡ length ns
+    → filled (cs ++ ds) (ns ++ ms) ≡ filled cs ns ++ filled ds ms
+unfolding filled
+filled_two [] ds [] ms same = refl
+filled_two [] ds (n ∷ ns) ms same = absurd (omega (arith, same))
+filled_two (c ∷ cs) ds ns ms same = by_byte (c == 64) ns (λ ns. filled_two cs ds ns ms) same where
+  by_byte : (b : Bool) (ns : List ℕ)
+      → ((ns : List ℕ) → uses cs ≡ length ns → filled (cs ++ ds) (ns ++ ms) ≡ filled cs ns ++ filled ds ms)
+      → (if b then suc (uses cs) else uses cs) ≡ length ns
+      → (if b then first_numeral (ns ++ ms) else c ∷ []) ++ filled (cs ++ ds) (if b then others (ns ++ ms) else ns ++ ms)
+      ≡ (if b then first_numeral ns else c ∷ []) ++ filled cs (if b then others ns else ns) ++ filled ds ms
+  by_byte true [] more same = absurd (omega (arith, same))
+  by_byte true (n ∷ ns) more same = ap (λ t. decimal n ++ t) (more ns (omega (arith, same)))
+      ∙ sym (append_assoc (decimal n) (filled cs ns) (filled ds ms))
+  by_byte false ns more same = ap (λ t. c ∷ t) (more ns same)
+
+-- three templates
+pub filled_three : (cs ds es : Text) (ns ms ks : List ℕ) → uses cs ≡ length ns → uses (cs ++ ds) ≡ length (ns ++ ms)
+    → filled (cs ++ ds ++ es) (ns ++ ms ++ ks) ≡ filled cs ns ++ filled ds ms ++ filled es ks
+filled_three cs ds es ns ms ks one two = filled_two (cs ++ ds) es (ns ++ ms) ks two
+    ∙ ap (λ t. t ++ filled es ks) (filled_two cs ds ns ms one)

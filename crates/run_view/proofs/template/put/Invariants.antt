@@ -1,6 +1,6 @@
 use Rattle.std.proofs.Common.{◌≡◌, ◌≤◌, ◌++◌, drop}
-use Rattle.run_picture.specs.Templates.{filled}
-use Rattle.run_picture.proofs.template.put.Given as goal
+use Rattle.run_view.specs.Templates.{filled}
+use Rattle.run_view.proofs.template.put.Given as goal
 
 -- the text so far, and what is to come
 abbrev pub invariant-loop-byte : goal.invariant-loop-byte

@@ -1,5 +1,5 @@
 -- Texts from templates.
-use Rattle.std.specs.Prelude.{ℕ, ◌+◌, ◌*◌, List, [], ◌∷◌, ◌++◌, length, ◌==◌, if◌then◌else◌, decimal}
+use Rattle.std.specs.Prelude.{ℕ, List, [], ◌∷◌, ◌++◌, ◌==◌, if◌then◌else◌, decimal}
 
 abbrev pub Text : Type 0
 Text = List ℕ
@@ -26,11 +26,3 @@ left_behind c ns = if c == 64 then others ns else ns
 unfoldable pub filled : Text → List ℕ → Text
 filled [] ns = []
 filled (c ∷ cs) ns = part c ns ++ filled cs (left_behind c ns)
-
--- how many digits a number has
-abbrev pub digits_of : ℕ → ℕ
-digits_of n = length (decimal n)
-
--- how many pixels so many letters and a number take, with a pixel or two beside them
-abbrev pub room : (letters n : ℕ) → ℕ
-room letters n = 6 * (letters + digits_of n) + 4

@@ -1,6 +1,6 @@
 //! Texts from templates.
-ghost use Rattle.std.specs.Prelude.{◌≡◌, ◌≤◌, ◌<◌, ◌^◌, ◌+◌, ◌++◌, ℕ, List, drop, OnOk};
-ghost use Rattle.run_picture.specs.Templates.{digits_of, filled, first_numeral, left_behind, part, room};
+ghost use Rattle.std.specs.Prelude.{◌≡◌, ◌≤◌, ◌<◌, ◌^◌, ◌+◌, ◌++◌, ℕ, List, drop, decimal, OnOk};
+ghost use Rattle.run_view.specs.Templates.{filled, first_numeral, left_behind, part};
 
 use dover_model::Memory;
 use itoa::Buffer;
@@ -47,19 +47,10 @@ fn place_behind(byte: u8, next: usize) -> usize
     if byte == b'@' { next + 1 } else { next }
 }
 
-/// How many digits a number has.
-pub fn digits_of(number: u64) -> u64
-    ensures is { result ≡ digits_of number }
-    ensures few { result ≤ 20 }
+/// Appends a number that may be wide.
+pub fn put_wide(text: &mut Vec<u8>, number: u128) -> Result<(), Memory>
+    ensures { OnOk result (text.new.items ≡ text.old.items ++ decimal number) }
 {
-    Buffer::new().format(number).len() as u64
-}
-
-/// How many pixels so many letters and a number take.
-pub fn room(letters: u64, number: u64) -> u64
-    requires { letters ≤ 1_000 }
-    ensures is { result ≡ room letters number }
-    ensures modest { result ≤ 6_124 }
-{
-    6 * (letters + digits_of(number)) + 4
+    text.extend_from_slice(Buffer::new().format(number).as_bytes())?;
+    Ok(())
 }

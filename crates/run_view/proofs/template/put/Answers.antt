@@ -1,6 +1,6 @@
 use Rattle.std.proofs.Common.{arith}
-use Rattle.run_picture.proofs.Filling.{filled_more, filled_all}
-use Rattle.run_picture.proofs.template.put.Goals as goal
+use Rattle.run_view.proofs.Filling.{filled_more, filled_all}
+use Rattle.run_view.proofs.template.put.Goals as goal
 
 pub loop-byte-preserved : goal.loop-byte-preserved
 loop-byte-preserved c = record {
