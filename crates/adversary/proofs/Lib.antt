@@ -10,3 +10,10 @@ pub mod Linking
 pub mod Naming
 pub mod Doubling
 pub mod Worths
+pub mod Steady
+pub mod RunWeights
+pub mod RunLinks
+pub mod RunFeeds
+pub mod Baited
+pub mod Completions
+pub mod RunRows

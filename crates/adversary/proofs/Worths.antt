@@ -2,8 +2,8 @@
 use Rattle.std.proofs.Common.{◌≡◌, sym, ◌∙◌}
 use Rattle.dover_model.specs.declared.events.Version.TheVariants.{One}
 use Rattle.dover_model.specs.Run.{completed_value}
-use Rattle.bait_run.specs.Baiting.{baiting, CompletesLastAlone}
-use Rattle.bait_run.proofs.Completions.{completes_last_alone}
+use Rattle.adversary.specs.BaitingRuns.{baiting, CompletesLastAlone}
+use Rattle.adversary.proofs.Completions.{completes_last_alone}
 use Rattle.adversary.specs.declared.feed.Bait.TheInside.{Inside}
 use Rattle.adversary.specs.Kept.{IsKept}
 use Rattle.adversary.proofs.Giving.{kept_fits}

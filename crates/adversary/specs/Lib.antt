@@ -1,3 +1,4 @@
 pub mod Baiting
+pub mod BaitingRuns
 pub mod Kept
 pub mod Links

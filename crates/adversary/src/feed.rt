@@ -120,7 +120,7 @@ impl Bait {
     ghost use Rattle.dover_model.specs.declared.events.Version.TheVariants.{One};
     ghost use Rattle.dover_model.specs.Run.{completed_value};
     ghost use Rattle.dover_model.specs.Schedules.{worth};
-    ghost use Rattle.bait_run.specs.Baiting.{baiting, CompletesLastAlone};
+    ghost use Rattle.adversary.specs.BaitingRuns.{baiting, CompletesLastAlone};
     ghost use Rattle.adversary.specs.Baiting.{FitsLimits};
 
     /// The feed with so many jobs in its chain, at least one. None exactly where it has more than 1,000,000 jobs or a

@@ -6,6 +6,7 @@ ghost use Rattle.dover_model.specs.Instance.{IsValid};
 ghost use Rattle.dover_model.specs.Schedules.{worth};
 ghost use Rattle.dover_model.specs.Bait.{unit_value, chain, last_link, bait_value, bait_jobs, bait_plan, plan_value};
 ghost use Rattle.adversary.specs.Baiting.{FitsLimits};
+ghost use Rattle.adversary.specs.BaitingRuns.{baiting, CompletesLastAlone};
 ghost use Rattle.adversary.specs.Links.{IsLeastUnmoved, IsLeastHeavy, IsMostLight};
 
 /// The jobs of a baiting feed within the limits are valid for its ratio.
@@ -39,4 +40,10 @@ pub fn links_take_by_the_least_value()
         chain k rounds ≡ before ++ w ∷ v ∷ rest → IsLeastHeavy k w v }
     ensures bait { (k : Fraction) (rounds : ℕ) → IsRatio k → 1 ≤ rounds → FitsLimits k rounds →
         IsMostLight k (last_link k rounds) (bait_value k rounds) }
+{}
+
+/// The run of a baiting feed completes the last job of its chain, and no other, and so is worth the last link.
+pub fn a_baiting_run_completes_its_last_link()
+    ensures { (k : Fraction) (version : Version) (rounds : ℕ) → 1 ≤ rounds → IsValid (baiting k version rounds) →
+        CompletesLastAlone k rounds (baiting k version rounds) }
 {}

@@ -31,7 +31,7 @@ use Rattle.dover_model.specs.Fraction.{Fraction, IsRatio}
 use Rattle.dover_model.specs.Limits.{most_jobs}
 use Rattle.dover_model.specs.Reports.{summary}
 use Rattle.trial_jobs.proofs.Drawn.{valid as generated_valid}
-use Rattle.bait_run.proofs.Completions.{completes_last_alone}
+use Rattle.adversary.proofs.Completions.{completes_last_alone}
 use Rattle.adversary.specs.Baiting.{FitsLimits}
 use Rattle.adversary.proofs.Validity.{some_bait, valid as bait_valid}
 use Rattle.adversary.proofs.Plans.{plan_worth}

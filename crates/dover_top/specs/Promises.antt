@@ -28,7 +28,7 @@ use Rattle.judge_word.specs.Record.{IsNoTrace, IsOver}
 use Rattle.dover_model.specs.Fraction.{Fraction}
 use Rattle.dover_model.specs.Reports.{summary}
 use Rattle.dover_model.specs.Bait.{bait_plan, plan_value}
-use Rattle.bait_run.specs.Baiting.{CompletesLastAlone}
+use Rattle.adversary.specs.BaitingRuns.{CompletesLastAlone}
 use Rattle.report_word.specs.Record.{report_text}
 use Rattle.trial_words.specs.Baited.{bait_instance, bait_text, size_text}
 use Rattle.report_word.specs.declared.form.Form.{Form}

@@ -9,7 +9,7 @@ use Rattle.dover_model.specs.Run.{completed_value}
 use Rattle.dover_port.specs.declared.status.Status.{Status}
 use Rattle.dover_port.specs.declared.status.Status.TheVariants.{Done, No, Refused, ReadFault, WriteFault, Memory, Usage}
 use Rattle.adversary.specs.Baiting.{Baiting, FitsLimits}
-use Rattle.bait_run.specs.Baiting.{CompletesLastAlone, baiting}
+use Rattle.adversary.specs.BaitingRuns.{CompletesLastAlone, baiting}
 use Rattle.adversary.proofs.Validity.{some_bait, valid}
 use Rattle.adversary.proofs.Plans.{plan_worth}
 use Rattle.trial_words.specs.Baited.{bait_instance, baited_of}

@@ -4,7 +4,7 @@ ghost use Rattle.dover_model.specs.Lines.{in_lines};
 ghost use Rattle.dover_port.specs.Causes.{Causes, HasCause, StopsAtFailure, StopsWith};
 ghost use Rattle.dover_port.specs.Moves.{Since, PutsThrough, PutsText};
 ghost use Rattle.adversary.specs.Baiting.{FitsLimits};
-ghost use Rattle.bait_run.specs.Baiting.{CompletesLastAlone};
+ghost use Rattle.adversary.specs.BaitingRuns.{CompletesLastAlone};
 ghost use Rattle.trial_words.specs.Baited.{Baits, baited_lines, bait_instance, size_text};
 ghost use Rattle.trial_words.specs.Record.{Refuses, IsAnswerFor};
 

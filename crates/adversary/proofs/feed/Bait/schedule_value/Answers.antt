@@ -2,7 +2,7 @@ use Rattle.std.proofs.Common.{◌∙◌, ap, sym}
 use Rattle.dover_model.specs.declared.events.Version.TheVariants.{One}
 use Rattle.dover_model.specs.Bait.{bait_plan, plan_value}
 use Rattle.dover_model.specs.Schedules.{worth}
-use Rattle.bait_run.specs.Baiting.{baiting}
+use Rattle.adversary.specs.BaitingRuns.{baiting}
 use Rattle.adversary.proofs.Plans.{plan_worth}
 use Rattle.adversary.specs.Baiting.{Baiting}
 use Rattle.adversary.proofs.Giving.{kept_plan, tick_low, product_fits, plan_fits}

@@ -2,7 +2,7 @@ use Rattle.std.proofs.Common.{ap, ◌∙◌, subst}
 use Rattle.dover_model.specs.declared.events.Version.TheVariants.{One}
 use Rattle.dover_model.specs.Bait.{last_link}
 use Rattle.dover_model.specs.Run.{completed_value}
-use Rattle.bait_run.specs.Baiting.{baiting, CompletesLastAlone}
+use Rattle.adversary.specs.BaitingRuns.{baiting, CompletesLastAlone}
 use Rattle.adversary.specs.Baiting.{Baiting}
 use Rattle.adversary.proofs.Worths.{kept_completed, kept_alone}
 use Rattle.adversary.proofs.feed.Bait.value.Goals as goal

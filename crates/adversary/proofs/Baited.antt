@@ -21,14 +21,14 @@ use Rattle.dover_model.proofs.Members.{all_member}
 use Rattle.dover_model.proofs.Kept.{step_deed, opening_keeps, come_coming}
 use Rattle.dover_model.proofs.Ending.{run_is_whole, run_over}
 use Rattle.dover_model.proofs.Runs.{run_states, value_of_run}
-use Rattle.bait_run.specs.Baiting.{baiting}
-use Rattle.bait_run.proofs.Heavy.{most_light_light, most_light_more, unit_light}
-use Rattle.bait_run.proofs.Links.{last_from, end_from, links, last_is, end_is, IsTight, links_tight, links_due}
-use Rattle.bait_run.proofs.Links.{AreSmall, links_above, last_above}
-use Rattle.bait_run.proofs.Links.{last_small, last_more, links_most, links_heavier, HasNext, links_next, links_last}
-use Rattle.bait_run.proofs.Links.{links_one}
-use Rattle.bait_run.proofs.Feeds.{in_back, unit_at, IsUnit, bait, feed_is, link_in_feed, feed_begins, feed_sum}
-use Rattle.bait_run.proofs.Steady.{IsLast, IsChained, Stands, IsSteady, step_steady, value_of_steady}
+use Rattle.adversary.specs.BaitingRuns.{baiting}
+use Rattle.adversary.proofs.RunWeights.{most_light_light, most_light_more, unit_light}
+use Rattle.adversary.proofs.RunLinks.{last_from, end_from, links, last_is, end_is, IsTight, links_tight, links_due}
+use Rattle.adversary.proofs.RunLinks.{AreSmall, links_above, last_above}
+use Rattle.adversary.proofs.RunLinks.{last_small, last_more, links_most, links_heavier, HasNext, links_next, links_last}
+use Rattle.adversary.proofs.RunLinks.{links_one}
+use Rattle.adversary.proofs.RunFeeds.{in_back, unit_at, IsUnit, bait, feed_is, link_in_feed, feed_begins, feed_sum}
+use Rattle.adversary.proofs.Steady.{IsLast, IsChained, Stands, IsSteady, step_steady, value_of_steady}
 
 module _ (k : Fraction) (version : Version) (n : ℕ) (valid : IsValid (baiting k version (suc n))) where
   -- the feed

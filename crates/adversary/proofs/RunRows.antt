@@ -2,7 +2,7 @@
 use Rattle.std.proofs.Common.{◌≡◌, true, refl}
 use Rattle.dover_model.specs.declared.events.Version.TheVariants.{One, Two}
 use Rattle.dover_model.specs.Instance.{is_valid}
-use Rattle.bait_run.specs.Baiting.{baiting}
+use Rattle.adversary.specs.BaitingRuns.{baiting}
 
 valid_1_1_4 : is_valid (baiting (record { p = 1; q = 1 }) One 4) ≡ true
 valid_1_1_4 = refl

@@ -11,7 +11,7 @@ use Rattle.dover_model.specs.JobFacts.{JobFacts}
 use Rattle.dover_model.specs.Orders.{is_heavy}
 use Rattle.dover_model.specs.Bait.{most_light, chain_from, tight_job, chain_jobs_from}
 use Rattle.dover_model.specs.Sound.{IsMember, Each}
-use Rattle.bait_run.proofs.Heavy.{heavy_grows, next_heavy, next_more}
+use Rattle.adversary.proofs.RunWeights.{heavy_grows, next_heavy, next_more}
 
 -- the last of n + 1 links from w on
 abbrev pub last_from : Fraction → (n : ℕ) → ℕ → ℕ

@@ -32,13 +32,13 @@ use Rattle.dover_model.proofs.Deeds.{Abandoned, Rested}
 use Rattle.dover_model.proofs.Kept.{step_deed, step_kept, opening_keeps, come_coming, end_same}
 use Rattle.dover_model.proofs.Ending.{end_over, run_is_whole}
 use Rattle.dover_model.proofs.Potential.{one_if}
-use Rattle.bait_run.specs.Baiting.{baiting, CompletesLastAlone}
-use Rattle.bait_run.proofs.Steady.{IsLast, IsChained, IsSteady, alone, stands_as, differ, completes, no_preemption}
-use Rattle.bait_run.proofs.Steady.{taken, on_taken, step_steady}
-use Rattle.bait_run.proofs.Steady.{value_of_steady}
-use Rattle.bait_run.proofs.Links.{links_ends}
-use Rattle.bait_run.proofs.Baited.{bait_completes, most, Link, Light, ratio, small, chained, opening_steady}
-use Rattle.bait_run.proofs.Baited.{each_steady}
+use Rattle.adversary.specs.BaitingRuns.{baiting, CompletesLastAlone}
+use Rattle.adversary.proofs.Steady.{IsLast, IsChained, IsSteady, alone, stands_as, differ, completes, no_preemption}
+use Rattle.adversary.proofs.Steady.{taken, on_taken, step_steady}
+use Rattle.adversary.proofs.Steady.{value_of_steady}
+use Rattle.adversary.proofs.RunLinks.{links_ends}
+use Rattle.adversary.proofs.Baited.{bait_completes, most, Link, Light, ratio, small, chained, opening_steady}
+use Rattle.adversary.proofs.Baited.{each_steady}
 
 -- some job is done, or none is
 abbrev SomeDone : Bool → List Task → Type 0
