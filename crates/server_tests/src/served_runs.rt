@@ -351,39 +351,8 @@ fn see<L: Ledger>(server: &mut Server, to: Horizon, steps: &mut Steps<L>, seen: 
     }
 }
 
-// What is reserved for one job serves for one, and the job is what it was made of.
-fn admit_one<L: Ledger>(
-    rt: &HostRuntime,
-    k: Ratio,
-    job: Job,
-    blank: Blank,
-) -> Result<Server, Memory>
-    requires valid { IsValid (record { rules = record { ratio = k; version = One }; jobs = job ∷ [] }) }
-    requires name { blank.name ≡ L.name }
-    requires parts { blank.parts ≡ L.parts }
-    requires some { 0 < blank.parts }
-{
-    let alloc = rt.alloc();
-    let mut steps: Steps<L> = Steps::new(rt.memory(), blank);
-    let mut server = Server::new(alloc, Version::One, k)?;
-    server.reserve(1)?;
-    let mut seen = nothing_seen();
-    see(
-        &mut server,
-        Horizon::Mark(job.release()),
-        &mut steps,
-        &mut seen,
-    );
-    server.admit(job)?;
-    Ok(server)
-}
-
-#[test]
-fn a_reserved_job_is_admitted(rt: HostRuntime) -> Result<(), Fail> {
-    let k = Ratio::new(1, 1).expect(&rt, "a ratio");
-    let job = Job::new(3, 2, 9, 5).expect(&rt, "a job");
-    assert_valid(&rt, k, &[job]);
-    let server = admit_one::<Brand>(&rt, k, job, Blank::new(1))?;
+// Whether the server stands as it should with this one job, which is still to come.
+fn has_one(server: &Server, job: Job) -> bool {
     let counts = (
         server.admitted(),
         server.clock(),
@@ -392,8 +361,51 @@ fn a_reserved_job_is_admitted(rt: HostRuntime) -> Result<(), Fail> {
     );
     let first = (server.role(0), server.job(0), server.had(0));
     let second = (server.role(1), server.job(1), server.had(1));
-    assert!(rt; counts == (1, 3, 0, 0) && !server.ready_for(3));
-    assert!(rt; first == (Some(Role::Coming), Some(job), Some(0)) && second == (None, None, None));
+    counts == (1, 3, 0, 0)
+        && !server.ready_for(3)
+        && first == (Some(Role::Coming), Some(job), Some(0))
+        && second == (None, None, None)
+}
+
+// Room is made for one job, and it is admitted.
+fn admit_one<L: Ledger>(server: &mut Server, job: Job, steps: &mut Steps<L>) -> Result<bool, Memory>
+    requires valid { IsValid (with_jobs (list_of server.old) (job ∷ [])) }
+    requires follow { MayFollow server.old.last (Mark job.release) }
+{
+    server.reserve(1)?;
+    see(
+        server,
+        Horizon::Mark(job.release()),
+        steps,
+        &mut nothing_seen(),
+    );
+    server.admit(job)?;
+    Ok(has_one(server, job))
+}
+
+// What is reserved for one job serves for one, and the job is what it was made of.
+fn is_admitted<L: Ledger>(
+    rt: &HostRuntime,
+    k: Ratio,
+    job: Job,
+    blank: Blank,
+) -> Result<bool, Memory>
+    requires valid { IsValid (record { rules = record { ratio = k; version = One }; jobs = job ∷ [] }) }
+    requires name { blank.name ≡ L.name }
+    requires parts { blank.parts ≡ L.parts }
+    requires some { 0 < blank.parts }
+{
+    let mut steps: Steps<L> = Steps::new(rt.memory(), blank);
+    let mut server = Server::new(rt.alloc(), Version::One, k)?;
+    admit_one(&mut server, job, &mut steps)
+}
+
+#[test]
+fn a_reserved_job_is_admitted(rt: HostRuntime) -> Result<(), Fail> {
+    let k = Ratio::new(1, 1).expect(&rt, "a ratio");
+    let job = Job::new(3, 2, 9, 5).expect(&rt, "a job");
+    assert_valid(&rt, k, &[job]);
+    assert!(rt; is_admitted::<Brand>(&rt, k, job, Blank::new(1))?);
     Ok(())
 }
 
@@ -416,7 +428,23 @@ fn admit_equal<L: Ledger>(
     Ok(())
 }
 
-// So many equal jobs, with room made for them at once.
+// So many equal jobs, with room made for them at once, and no further one.
+fn serve_all<L: Ledger>(
+    server: &mut Server,
+    job: Job,
+    count: u32,
+    steps: &mut Steps<L>,
+) -> Result<Seen, Memory>
+    requires valid { IsValid (with_jobs (list_of server.old) (replicate count job)) }
+    requires follow { MayFollow server.old.last (Mark job.release) }
+{
+    server.reserve(count)?;
+    let mut seen = nothing_seen();
+    admit_equal(server, job, count, steps, &mut seen)?;
+    see(server, Horizon::End, steps, &mut seen);
+    Ok(seen)
+}
+
 fn serve_equal<L: Ledger>(
     rt: &HostRuntime,
     k: Ratio,
@@ -431,11 +459,7 @@ fn serve_equal<L: Ledger>(
 {
     let mut steps: Steps<L> = Steps::new(rt.memory(), blank);
     let mut server = Server::new(rt.alloc(), Version::One, k)?;
-    server.reserve(count)?;
-    let mut seen = nothing_seen();
-    admit_equal(&mut server, job, count, &mut steps, &mut seen)?;
-    see(&mut server, Horizon::End, &mut steps, &mut seen);
-    Ok(seen)
+    serve_all(&mut server, job, count, &mut steps)
 }
 
 // The proof of the test doesn't see the number, so that it counts none of the jobs.

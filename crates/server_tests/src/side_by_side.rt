@@ -120,8 +120,17 @@ fn assert_all<D: Dispatcher>(
     Ok(())
 }
 
+// The same of both servers.
+fn assert_both(
+    rt: &(impl Abort + AllocGlobal),
+    memory: HeapMemory,
+    rows: &[Worked],
+) -> Result<(), Fail> {
+    assert_all::<Server>(rt, memory, rows)?;
+    assert_all::<ReadyServer>(rt, memory, rows)
+}
+
 #[test]
 fn both_servers_print_the_worked_examples(rt: HostRuntime) -> Result<(), Fail> {
-    assert_all::<Server>(&rt, rt.memory(), &WORKED)?;
-    assert_all::<ReadyServer>(&rt, rt.memory(), &WORKED)
+    assert_both(&rt, rt.memory(), &WORKED)
 }

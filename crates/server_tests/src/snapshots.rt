@@ -1,5 +1,7 @@
 //! Snapshots of worked feeds.
-ghost use Rattle.std.specs.Prelude.{◌≡◌, ◌<◌};
+ghost use Rattle.std.specs.Prelude.{◌≡◌, ◌<◌, ℕ, List, Ok};
+ghost use Rattle.snapshot.specs.Kept.{IsReading, IsReady};
+ghost use Rattle.server_tests.specs.declared.snapshots.Outcome.TheVariants.{Taken};
 
 use dover_model::{Memory, Ratio, Version};
 use dover_server::Server;
@@ -42,6 +44,26 @@ fn is_written_again(server: &Server, wanted: &[u8]) -> bool {
     line.bytes() == wanted
 }
 
+// What the lines come to, without a look at what is taken.
+fn read_all<L: Ledger>(
+    reader: &mut Reader,
+    lines: &[&[u8]],
+    steps: &mut Steps<L>,
+) -> Result<Outcome, Memory>
+    requires { (ls : List (List ℕ)) × IsReading reader.old ls }
+    ensures { result ≡ Ok Taken → (ls : List (List ℕ)) × IsReady reader.new ls }
+{
+    for line in lines {
+        match reader.line(line, steps) {
+            Ok(Got::More) => {}
+            Ok(Got::Ready) => return Ok(Outcome::Taken),
+            Err(SnapFault::BadSnapshot { line }) => return Ok(Outcome::Refused(line)),
+            Err(SnapFault::Memory) => return Err(Memory),
+        }
+    }
+    Ok(Outcome::Open)
+}
+
 fn outcome_in<L: Ledger>(
     rt: &HostRuntime,
     lines: &[&[u8]],
@@ -54,21 +76,17 @@ fn outcome_in<L: Ledger>(
 {
     let mut steps: Steps<L> = Steps::new(rt.memory(), blank);
     let mut reader = Reader::new(rt.alloc());
-    for line in lines {
-        match reader.line(line, &mut steps) {
-            Ok(Got::More) => {}
-            Ok(Got::Ready) => {
-                let (server, _) = reader.take();
-                return Ok(match is_written_again(&server, last_job) {
-                    true => Outcome::Written,
-                    false => Outcome::Taken,
-                });
-            }
-            Err(SnapFault::BadSnapshot { line }) => return Ok(Outcome::Refused(line)),
-            Err(SnapFault::Memory) => return Err(Memory),
+    match read_all(&mut reader, lines, &mut steps) {
+        Ok(Outcome::Taken) => {
+            let (server, _) = reader.take();
+            Ok(if is_written_again(&server, last_job) {
+                Outcome::Written
+            } else {
+                Outcome::Taken
+            })
         }
+        outcome => outcome,
     }
-    Ok(Outcome::Open)
 }
 
 fn answer(rt: &HostRuntime, lines: &[&[u8]], last_job: &[u8]) -> Result<Outcome, Memory> {

@@ -1,6 +1,6 @@
 use Rattle.std.specs.Prelude.{ℕ, List}
 use Rattle.snapshot.specs.Kept.{IsReading}
-use Rattle.server_tests.proofs.snapshots.outcome_in.Given as goal
+use Rattle.server_tests.proofs.snapshots.read_all.Given as goal
 
 -- No line is refused so far.
 abbrev pub invariant-loop-line : goal.invariant-loop-line
