@@ -3,7 +3,7 @@ use dover_model::Piece;
 use thiserror::Error;
 
 /// The jobs that are worth the most of those that one schedule serves, and such a schedule.
-#[derive(Drop)]
+#[derive(PartialEq, Eq, Drop)]
 pub struct Best {
     /// The sum of their values.
     pub value: u64,

@@ -51,7 +51,7 @@ pub enum Event {
 }
 
 /// A job that doesn't run at the moment.
-#[derive(Clone, Copy)]
+#[derive(Clone, Copy, PartialEq, Eq)]
 pub struct Entry {
     pub number: u32,
     pub deadline: u64,

@@ -20,7 +20,7 @@ const MOST_JOBS: usize = 10_000;
 const LATEST_DEADLINE: u64 = 100_000;
 
 /// What a policy's schedule comes to.
-#[derive(Drop)]
+#[derive(PartialEq, Eq, Drop)]
 pub struct Outcome {
     /// The sum of the values of the jobs that it serves.
     pub value: u64,
