@@ -1,9 +1,10 @@
 -- What the loops of a heap keep: an item x that moves, the hole at, and the others.
 use Rattle.std.proofs.Common.{◌≡◌, ◌≢◌, ℕ, ◌+◌, ◌-◌, ◌*◌, ◌/◌, ◌<◌, ◌≤◌, Bool, true, false, List, length}
-use Rattle.std.proofs.Common.{get_or, set}
+use Rattle.std.proofs.Common.{get_or, set, take, drop}
 use Rattle.std.proofs.Common.{refl, ap, ◌∙◌, sym, subst, arith, inl, inr}
 use Rattle.std.proofs.lemmas.Bool.{cases_eq}
 use Rattle.std.proofs.lemmas.List.{get_or-set_same, get_or-set_other, set-get_or, length-set, get_or_default}
+use Rattle.std.proofs.lemmas.List.{get_or-take, get_or-drop}
 use Rattle.place_heap.specs.Items.{ItemFacts, is_before}
 use Rattle.place_heap.specs.Table.{IsIndexed, nowhere, table_of, blank}
 use Rattle.place_heap.specs.HeapOrder.{IsAhead, IsChild, IsHeap, IsHeapUp, IsHeapDown}
@@ -194,6 +195,16 @@ four_first es low left right best k zero one two three first second from below =
     ]
   ]
 ]
+
+-- what is ahead among n items that follow each other is so where they stand
+pub ahead_within : (es : List ItemFacts) (low n best k : ℕ) → best < n → k < n → IsAhead (take n (drop low es)) best k
+    → IsAhead es (low + best) (low + k)
+ahead_within es low n best k best_in k_in ahead d =
+    ap (λ z. is_before z (get_or es (low + best) d)) (sym (at k k_in))
+    ∙ ap (is_before (get_or (take n (drop low es)) k d)) (sym (at best best_in))
+    ∙ ahead d where
+      at : (i : ℕ) → i < n → get_or (take n (drop low es)) i d ≡ get_or es (low + i) d
+      at i less = get_or-take n (drop low es) i d less ∙ get_or-drop low es i d
 
 -- of the items with x in the hole, where the children are those of the items
 pub first_of_all : (items : List ItemFacts) (x : ItemFacts) (at c : ℕ) → at * 4 + 1 ≤ c → c ≤ at * 4 + 4

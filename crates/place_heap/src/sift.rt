@@ -85,9 +85,10 @@ fn first_of_four<L: Ledger>(items: &[Item], low: usize, steps: &mut Steps<L>) ->
     ensures first { (k : ℕ) → low ≤ k → k < low + 4 → IsAhead items.now result k }
     ensures count { steps.new ≡ steps.old + 3 }
 {
-    let left = earlier(items, low, low + 1, steps);
-    let right = earlier(items, low + 2, low + 3, steps);
-    earlier(items, left, right, steps)
+    let four = &items[low..low + 4];
+    let left = earlier(four, 0, 1, steps);
+    let right = earlier(four, 2, 3, steps);
+    low + earlier(four, left, right, steps)
 }
 
 // Of the positions from this one on, of which there are at most four, the one whose item comes first.
