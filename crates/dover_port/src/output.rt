@@ -17,6 +17,37 @@ pub struct Output {
     used: usize,
 }
 
+// Copies bytes as two blocks of this size, which may overlap.
+#[inline(always)]
+fn copy_ends(to: &mut [u8], from: &[u8], size: usize)
+    requires same { length to.old ≡ length from.now }
+    requires low { size ≤ length from.now }
+    requires high { length from.now ≤ size + size }
+    ensures { to.new ≡ from.now }
+{
+    let last = from.len() - size;
+    to[..size].copy_from_slice(&from[..size]);
+    to[last..].copy_from_slice(&from[last..]);
+}
+
+// Copies bytes. Those of a usual line go as two blocks, since the compiler makes no call of a copy of a known size.
+#[inline(always)]
+fn copy_line(to: &mut [u8], from: &[u8])
+    requires { length to.old ≡ length from.now }
+    ensures { to.new ≡ from.now }
+{
+    let size = from.len();
+    if size < 16 {
+        to.copy_from_slice(from);
+    } else if size <= 32 {
+        copy_ends(to, from, 16);
+    } else if size <= 64 {
+        copy_ends(to, from, 32);
+    } else {
+        to.copy_from_slice(from);
+    }
+}
+
 impl Model for Output {
     ghost use Rattle.std.specs.Prelude.{ℕ, List, take, ◌≤◌};
 
@@ -39,6 +70,7 @@ impl Output {
     }
 
     /// Puts all that is kept back.
+    #[inline(never)]
     pub fn flush<P: Port>(&mut self, port: &mut P) -> Result<(), Failed>
         ensures text { PutsThrough (P.moves port.old) (P.moves port.new) result self.old [] [] }
         ensures empty { OnOk result (self.new ≡ []) }
@@ -64,16 +96,18 @@ impl Output {
     }
 
     /// Keeps the bytes back.
+    #[inline(always)]
     fn keep(&mut self, bytes: &[u8])
         requires { length self.old + length bytes.now ≤ OUTPUT_BYTES }
         ensures { self.new ≡ self.old ++ bytes.now }
     {
         let end = self.used + bytes.len();
-        self.bytes[self.used..end].copy_from_slice(bytes);
+        copy_line(&mut self.bytes[self.used..end], bytes);
         self.used = end;
     }
 
     /// Puts the bytes, or keeps them back for later. There may be at most `OUTPUT_BYTES`.
+    #[inline(always)]
     pub fn put<P: Port>(&mut self, port: &mut P, bytes: &[u8]) -> Result<(), Failed>
         requires { length bytes.now ≤ OUTPUT_BYTES }
         ensures text { PutsThrough (P.moves port.old) (P.moves port.new) result self.old self.new bytes.now }
