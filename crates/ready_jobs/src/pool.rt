@@ -244,6 +244,7 @@ impl Pool {
     }
 
     /// A job begins to wait, for which there is room.
+    #[inline(always)]
     pub fn add<L: Ledger>(&mut self, t: Task, steps: &mut Steps<L>)
         requires room { length self.old.tasks < self.old.room }
         requires number { t.number < 2 ^ 20 }
