@@ -52,7 +52,8 @@ pub fn write_event(e: &Event, to: &mut BackLine)
     }
 }
 
-fn refusal_word(cause: Refusal) -> &'static [u8]
+/// The word for why a job line is refused.
+pub fn refusal_word(cause: Refusal) -> &'static [u8]
     ensures { result.now ≡ form.refusal_word cause }
 {
     match cause {
