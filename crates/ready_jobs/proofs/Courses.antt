@@ -12,12 +12,12 @@ use Rattle.dover_model.specs.Fraction.{Fraction, IsRatio}
 use Rattle.dover_model.specs.JobFacts.{JobFacts}
 use Rattle.dover_model.specs.declared.events.Role.TheVariants.{Fresh}
 use Rattle.dover_model.specs.declared.events.Event.{Event}
-use Rattle.dover_model.specs.declared.events.Event.TheVariants.{End}
+use Rattle.dover_model.specs.declared.events.Event.TheVariants.{Release, Run, Preempt, Take, Complete, Abandon, End}
 use Rattle.dover_model.specs.declared.events.Task.{Task}
 use Rattle.dover_model.specs.Instance.{Rules, Instance, IsValid, total_value}
 use Rattle.dover_model.specs.State.{State, opening, is_over, is_done, value_sum}
-use Rattle.dover_model.specs.Step.{Move, Prints, Ticks, step, open_step, after}
-use Rattle.dover_model.specs.Run.{event_of, last_deadline}
+use Rattle.dover_model.specs.Step.{Move, Prints, Waits, Ticks, step, open_step, after, with_role}
+use Rattle.dover_model.specs.Run.{event_of, is_end, last_deadline}
 use Rattle.dover_model.specs.Settled.{waits_for_mark}
 use Rattle.dover_model.specs.Sound.{IsMember, Keeps}
 use Rattle.dover_model.specs.WholeRun.{IsBarrier}
@@ -27,7 +27,7 @@ use Rattle.dover_model.proofs.Honest.{count_jobs}
 use Rattle.dover_model.proofs.Prefixes.{step_open}
 use Rattle.dover_model.proofs.Settling.{at_barrier}
 use Rattle.dover_model.proofs.ShortNumbers.{deadline_known, ticks_early}
-use Rattle.dover_model.proofs.Tests.{not_true}
+use Rattle.dover_model.proofs.Tests.{not_true, never}
 use Rattle.trace_reading.specs.Leading.{GoesOn, IsSilent, Idles, WaitsUntil, PrintsNext}
 use Rattle.trace_reading.specs.Ready.{is_ready}
 use Rattle.trace_reading.proofs.Leading.{late_silent, over_ends}
@@ -37,11 +37,13 @@ use Rattle.ready_jobs.specs.Reordered.{IsReordered}
 use Rattle.ready_jobs.specs.Parts.{Parted, HaveRoles, ready_of, state_of}
 use Rattle.ready_jobs.specs.Following.{PartOf, IsPart, SettlesTo}
 use Rattle.ready_jobs.specs.Course.{Course, Follows, IsCourse, new_course, course_of, fresh_job}
-use Rattle.ready_jobs.specs.Course.{with_release, Reached, Settled}
+use Rattle.ready_jobs.specs.Course.{with_release, Reached, Settled, ComesNext, Takes, IsDue}
+use Rattle.ready_jobs.specs.Deeds.{Does}
+use Rattle.ready_jobs.specs.declared.deeds.Deed.{Deed}
 use Rattle.ready_jobs.proofs.Reordering.{same_order, further, exchanged, as_many, in_left, in_right}
 use Rattle.ready_jobs.proofs.Pooling.{between}
 use Rattle.ready_jobs.specs.Changed.{Leaves, AreOnce, named}
-use Rattle.ready_jobs.proofs.Changes.{once_numbered, once_some, once_still}
+use Rattle.ready_jobs.proofs.Changes.{once_numbered, once_some, once_still, map_each}
 use Rattle.ready_jobs.proofs.Following.{part_step, part_moves}
 
 -- ---- what is kept
@@ -376,6 +378,25 @@ reached_last c J z m reached silent =
     ∙ ap (λ t. waits_for_mark m && nat_le last_tick t) reached.follows.clock
     ∙ reached.stops silent)
 
+-- so the step that is reached there is printed next
+pub reached_comes : (c d : Course) (m : Move)
+    → ((J : Instance) (z : State) → Follows c J z → Reached d J z last_tick m) → IsCourse c
+    → (e : Event) × (m ≡ Prints e) × ComesNext c d e
+reached_comes c d m reaches some = by_move m refl where
+  silent : IsSilent m → ⊥
+  silent = reached_last d some.0 some.1 m (reaches some.0 some.1 some.2)
+
+  by_move : (n : Move) → m ≡ n → (e : Event) × (m ≡ Prints e) × ComesNext c d e
+  by_move (Prints e) is = (
+    e,
+    is,
+    λ J z follows.
+        let it : Reached d J z last_tick (Prints e) = subst (Reached d J z last_tick) is (reaches J z follows) in
+        (it.state, it.follows, reached_next d J z last_tick e it),
+  )
+  by_move (Waits n) is = absurd (silent (ap event_of is))
+  by_move Ticks is = absurd (silent (ap event_of is))
+
 -- a printed step was reached, and whether it is a barrier was tested
 module _ (c : Course) (J : Instance) (z : State) (mark : ℕ) (m : Move) (e : Event) (clock : ℕ) (b : Bool)
     (reached : Reached c J z mark m)
@@ -417,6 +438,37 @@ module _ (k : Fraction) (p q : Parted) (jobs done worth : ℕ) (e : Event)
   -- is a course again
   pub takes_course : IsCourse (course_of k p jobs done) → IsCourse (course_of k q jobs (done + worth))
   takes_course old = (old.0, after old.1 (Prints e), course_takes old.0 old.1 old.2)
+
+-- the end changes nothing
+end_stays : (s : State) (value : ℕ) → after s (Prints (End value)) ≡ s
+end_stays s value = ap (λ ts. record { clock = s.clock; tasks = ts })
+    (map_each (λ t. with_role t t.role) s.tasks (λ t m. refl))
+
+-- where the end is taken, it is printed next
+pub ends_next : (c d : Course) (e : Event) → Takes c e d → is_end (Prints e) ≡ true → ComesNext c d e
+ends_next c d (End value) it last = λ J z follows.
+    let next : (y : State) × Follows it.there J y × PrintsNext J.rules z (End value) y = it.comes J z follows in
+    (next.0, subst (Follows d J) (end_stays next.0 value) (it.passes J next.0 next.1), next.2)
+ends_next c d (Release n j) it last = never last
+ends_next c d (Run at n) it last = never last
+ends_next c d (Preempt at stops starts) it last = never last
+ends_next c d (Take at stops starts) it last = never last
+ends_next c d (Complete at n) it last = never last
+ends_next c d (Abandon at n) it last = never last
+
+-- where no job is ready, the end is taken
+pub over_takes : (c : Course) → c.ready ≡ [] → Takes c (End c.done) c
+over_takes c none = record {
+  there = c;
+  comes = λ J z follows. (z, follows, over_next c J z follows none);
+  passes = λ J z follows. subst (Follows c J) (sym (end_stays z c.done)) follows;
+  clock = refl;
+}
+
+-- the deed that is due of the course is that of its jobs
+pub due_does : (k : Fraction) (p : Parted) (jobs done : ℕ) (deed : Deed) (e : Event)
+    → IsDue (course_of k p jobs done) deed e → Does p deed e
+due_does k p jobs done deed e due = record { prints = due.prints; next = (k, due.opens); finds = due.finds }
 
 -- ---- a release
 

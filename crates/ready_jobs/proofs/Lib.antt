@@ -6,6 +6,7 @@ pub mod Changes
 pub mod Displacing
 pub mod Naming
 pub mod Applied
+pub mod Doing
 pub mod Costing
 mod ChangedRows
 pub mod Following

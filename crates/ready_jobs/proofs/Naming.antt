@@ -27,7 +27,7 @@ Says v (Complete at n) = (r : Task) × (v.running ≡ Some r) × (r.number ≡ n
 Says v (Abandon at n) = (r : Task) × (x : Task) × (v.running ≡ Some r) × (v.must_start ≡ Some x) × (x.number ≡ n)
 Says v (End value) = ⊥
 
-same_event : (a b : Event) → Prints a ≡ Prints b → a ≡ b
+pub same_event : (a b : Event) → Prints a ≡ Prints b → a ≡ b
 same_event a b e = cc
 
 module _ (k : Fraction) (v : View) (e : Event) where

@@ -10,15 +10,18 @@ use Rattle.dover_model.specs.Fraction.{Fraction}
 use Rattle.dover_model.specs.JobFacts.{JobFacts}
 use Rattle.dover_model.specs.Instance.{Rules, Instance, IsValid}
 use Rattle.dover_model.specs.State.{State, is_coming, is_done, value_sum}
-use Rattle.dover_model.specs.Step.{Move, Prints, open_step}
+use Rattle.dover_model.specs.Step.{Move, Prints, open_step, after, view}
 use Rattle.dover_model.specs.Run.{Step}
 use Rattle.dover_model.specs.Settled.{waits_for_mark}
 use Rattle.dover_model.specs.Sound.{Each, Keeps}
 use Rattle.dover_model.specs.WholeRun.{IsBefore}
-use Rattle.trace_reading.specs.Leading.{Idles, IsSilent, GoesOn, WaitsUntil}
+use Rattle.scanned_step.specs.Moves.{state_at}
+use Rattle.trace_reading.specs.Leading.{Idles, IsSilent, GoesOn, WaitsUntil, PrintsNext}
 use Rattle.trace_reading.specs.Ready.{is_ready}
 use Rattle.ready_jobs.specs.Reordered.{IsReordered}
 use Rattle.ready_jobs.specs.Parts.{Parted, ready_of}
+use Rattle.ready_jobs.specs.Deeds.{Finds, step_at}
+use Rattle.ready_jobs.specs.declared.deeds.Deed.{Deed}
 
 -- what is kept of a run: the clock, the jobs that aren't over, in no told order, how many there are in all, what those
 -- done are worth, and how many ready jobs there is room for
@@ -100,6 +103,37 @@ pub record Settled (c : Course) (J : Instance) (z : State) (mark : ℕ) (next : 
   pub follows : Follows c J state
   pub idles : (xs : List Step) × Idles J.rules z xs state
   pub comes : Comes J z mark state next
+
+-- from wherever the course is kept of, silent steps lead to where the other is, and this comes there before the mark
+abbrev pub SettlesAt : Course → ℕ → Course → Option Event → Type 0
+SettlesAt c mark d next = (J : Instance) (z : State) → Follows c J z → Settled d J z mark next
+
+-- they lead to where this step is printed next
+abbrev pub ComesNext : (c d : Course) → Event → Type 0
+ComesNext c d e = (J : Instance) (z : State) → Follows c J z → (y : State) × Follows d J y × PrintsNext J.rules z e y
+
+-- from wherever the course is kept of, the step leads to where the other is
+abbrev pub Passes : Course → Event → Course → Type 0
+Passes c e d = (J : Instance) (z : State) → Follows c J z → Follows d J (after z (Prints e))
+
+-- silent steps lead to where the step is printed next, and it leads to the other course
+pub record Takes (c : Course) (e : Event) (d : Course) : Type 0 where
+  pub there : Course
+  pub comes : ComesNext c there e
+  pub passes : Passes there e d
+  pub clock : d.clock ≡ there.clock
+
+-- the same of a step before the mark, or none comes
+abbrev pub StepsBefore : Course → ℕ → Course → Option Event → Type 0
+StepsBefore c mark d None = SettlesAt c mark d None × (d.clock ≤ mark)
+StepsBefore c mark d (Some e) = (there : Course) × SettlesAt c mark there (Some e) × (there.clock ≤ mark)
+    × Passes there e d
+
+-- the deed is the open step of the ready jobs, which prints e
+pub record IsDue (c : Course) (deed : Deed) (e : Event) : Type 0 where
+  pub prints : step_at c.clock deed ≡ Prints e
+  pub opens : open_step c.rules (state_at c.clock c.ready) ≡ Prints e
+  pub finds : Finds (view c.rules.version (state_at c.clock c.ready)) deed
 
 -- the course is one that goes on from the other: it has the same rules, jobs and room, and no more ready jobs
 pub record GoesOnFrom (c d : Course) : Type 0 where

@@ -1,27 +1,18 @@
 //! What a printed step does to the ready jobs.
-ghost use Rattle.std.specs.Prelude.{◌≡◌, ℕ, ◌+◌, ◌^◌, ◌<◌, ◌≤◌, ◌↔◌, length, Some, IsTrue};
+ghost use Rattle.std.specs.Prelude.{◌≡◌, ℕ, ◌+◌, ◌^◌, ◌<◌, ◌≤◌, length};
+ghost use Rattle.dover_model.specs.declared.events.Event.{Event};
 ghost use Rattle.dover_model.specs.declared.events.Event.TheVariants.{Run, Preempt, Take, Complete, Abandon};
-ghost use Rattle.dover_model.specs.declared.events.Task.{Task};
-ghost use Rattle.dover_model.specs.Step.{Prints};
+ghost use Rattle.dover_model.specs.Step.{Prints, view};
 ghost use Rattle.queued_jobs.specs.Costs.{cost_of};
 ghost use Rattle.ready_jobs.specs.Parts.{AreSound, ready_of, state_of};
 ghost use Rattle.ready_jobs.specs.Changed.{AreOnce, Leaves, IsNext, printed};
+ghost use Rattle.ready_jobs.specs.Deeds.{Finds, Does};
+ghost use Rattle.ready_jobs.specs.declared.deeds.Deed.TheVariants.{Resume, Start, Begin};
 
+use crate::deeds::Deed;
 use crate::parts::Parts;
-use dover_model::{Event, Task};
 use std::sync::ledger::Ledger;
 use step_count::Steps;
-
-// Whether it is a job of this number.
-#[inline(always)]
-fn has_number(job: &Option<Task>, number: u32) -> bool
-    ensures { IsTrue result ↔ ((t : Task) × (job.now ≡ Some t) × (t.number ≡ number)) }
-{
-    match job {
-        Some(t) => t.number == number,
-        None => false,
-    }
-}
 
 impl Parts {
     // The running job is done. Answers its value.
@@ -44,30 +35,48 @@ impl Parts {
         }
     }
 
-    // The job of this number runs, which is held, waits or is fresh.
+    // The first held job runs on.
     #[inline(always)]
-    fn run_next<L: Ledger>(&mut self, number: u32, steps: &mut Steps<L>)
+    fn resume_next(&mut self, number: u32)
+        requires once { AreOnce (ready_of self.old) }
+        requires next { (at : ℕ) × IsNext self.old (Run at number) }
+        requires finds { Finds (view self.old.version (state_of self.old)) (Resume number) }
+        ensures leaves { (at : ℕ) → Leaves (printed (Run at number)) (ready_of self.old) (ready_of self.new) 0 }
+        ensures kept { self.new ≡ record self.old { running = self.new.running; held = self.new.held } }
+    {
+        self.laws();
+        // That the first of the held jobs stands on top is known where it is looked at. It costs nothing.
+        let _ = self.first_held();
+        self.resume();
+    }
+
+    // The first waiting job by deadline runs.
+    #[inline(always)]
+    fn start_next<L: Ledger>(&mut self, number: u32, steps: &mut Steps<L>)
         requires sound { AreSound self.old }
         requires once { AreOnce (ready_of self.old) }
         requires next { (at : ℕ) × IsNext self.old (Run at number) }
+        requires finds { Finds (view self.old.version (state_of self.old)) (Start number) }
         ensures leaves { (at : ℕ) → Leaves (printed (Run at number)) (ready_of self.old) (ready_of self.new) 0 }
-        ensures kept { self.new ≡ record self.old {
-          running = self.new.running;
-          fresh = self.new.fresh;
-          held = self.new.held;
-          waiting = self.new.waiting;
-        } }
+        ensures kept { self.new ≡ record self.old { running = self.new.running; waiting = self.new.waiting } }
         ensures cost { (at d : ℕ) → length (ready_of self.old) + 1 < 2 ^ d →
             steps.new ≤ steps.old + cost_of d (state_of self.old) (Prints (Run at number)) }
     {
         self.laws();
-        if has_number(&self.first_held(), number) {
-            self.resume();
-        } else if has_number(&self.first_waiting(), number) {
-            self.start(steps);
-        } else {
-            self.begin();
-        }
+        self.start(steps);
+    }
+
+    // The fresh job runs.
+    #[inline(always)]
+    fn begin_next(&mut self, number: u32)
+        requires once { AreOnce (ready_of self.old) }
+        requires next { (at : ℕ) × IsNext self.old (Run at number) }
+        requires finds { Finds (view self.old.version (state_of self.old)) (Begin number) }
+        ensures leaves { (at : ℕ) → Leaves (printed (Run at number)) (ready_of self.old) (ready_of self.new) 0 }
+        ensures kept { self.new ≡ record self.old { running = self.new.running; fresh = self.new.fresh } }
+    {
+        self.laws();
+        self.begin();
     }
 
     // The fresh job preempts the running one.
@@ -129,12 +138,15 @@ impl Parts {
         self.abandon(steps);
     }
 
-    /// Takes the printed step that comes now, and answers the value of the job that it completes, 0 where none is.
-    pub fn apply<L: Ledger>(&mut self, event: &Event, steps: &mut Steps<L>) -> u64
+    /// Takes the deed that comes now, which is printed, and answers the value of the job that it completes, 0 where none
+    /// is.
+    #[inline(always)]
+    pub fn apply<L: Ledger>(&mut self, deed: Deed, steps: &mut Steps<L>) -> u64
         requires sound { AreSound self.old }
         requires once { AreOnce (ready_of self.old) }
-        requires next { IsNext self.old event.now }
-        ensures leaves { Leaves (printed event.now) (ready_of self.old) (ready_of self.new) result }
+        requires does { (e : Event) × Does self.old deed e }
+        ensures leaves { (e : Event) → Does self.old deed e →
+            Leaves (printed e) (ready_of self.old) (ready_of self.new) result }
         ensures kept { self.new ≡ record self.old {
           running = self.new.running;
           fresh = self.new.fresh;
@@ -142,29 +154,19 @@ impl Parts {
           waiting = self.new.waiting;
         } }
         ensures fewer { length (ready_of self.new) ≤ length (ready_of self.old) }
-        ensures cost { (d : ℕ) → length (ready_of self.old) + 1 < 2 ^ d →
-            steps.new ≤ steps.old + cost_of d (state_of self.old) (Prints event.now) }
+        ensures cost { (e : Event) (d : ℕ) → Does self.old deed e → length (ready_of self.old) + 1 < 2 ^ d →
+            steps.new ≤ steps.old + cost_of d (state_of self.old) (Prints e) }
     {
-        self.laws();
-        match *event {
-            Event::Run { number, .. } => {
-                self.run_next(number, steps);
-                0
-            }
-            Event::Preempt { stops, starts, .. } => {
-                self.preempt_next(stops, starts);
-                0
-            }
-            Event::Take { stops, starts, .. } => {
-                self.take_next(stops, starts, steps);
-                0
-            }
-            Event::Complete { number, .. } => self.complete_next(number),
-            Event::Abandon { number, .. } => {
-                self.abandon_next(number, steps);
-                0
-            }
-            Event::Release { .. } | Event::End { .. } => unreachable!(),
+        match deed {
+            Deed::Resume { number } => self.resume_next(number),
+            Deed::Start { number } => self.start_next(number, steps),
+            Deed::Begin { number } => self.begin_next(number),
+            Deed::Preempt { stops, starts } => self.preempt_next(stops, starts),
+            Deed::Take { stops, starts } => self.take_next(stops, starts, steps),
+            Deed::Complete { number } => return self.complete_next(number),
+            Deed::Abandon { number } => self.abandon_next(number, steps),
+            Deed::Wait { .. } | Deed::Tick => unreachable!(),
         }
+        0
     }
 }

@@ -1,5 +1,7 @@
 //! What the ready jobs do next.
-ghost use Rattle.std.specs.Prelude.{◌≡◌};
+ghost use Rattle.std.specs.Prelude.{◌≡◌, ◌↔◌, IsTrue};
+ghost use Rattle.dover_model.specs.declared.events.Event.TheVariants.{Run, Preempt, Take, Complete, Abandon};
+ghost use Rattle.dover_model.specs.Step.{Prints};
 ghost use Rattle.scanned_step.specs.Moves.{step_of};
 ghost use Rattle.ready_jobs.specs.Deeds.{step_at};
 
@@ -10,13 +12,108 @@ use scanned_step::Move;
 /// job comes by it.
 #[derive(Clone, Copy)]
 pub enum Deed {
-    Run { number: u32 },
+    /// The first held job runs on.
+    Resume { number: u32 },
+    /// The first waiting job by deadline runs.
+    Start { number: u32 },
+    /// The fresh job runs.
+    Begin { number: u32 },
+    /// The fresh job takes the processor, and the running one is held.
     Preempt { stops: u32, starts: u32 },
+    /// A waiting job takes the processor, and the running and held ones wait.
     Take { stops: u32, starts: u32 },
+    /// The running job is done.
     Complete { number: u32 },
+    /// A waiting job is gone.
     Abandon { number: u32 },
+    /// The fresh job waits, which prints nothing.
     Wait { number: u32 },
+    /// A tick passes, which prints nothing.
     Tick,
+}
+
+/// A deed that prints a step, and the step.
+#[derive(Clone, Copy, Debug, PartialEq, Eq)]
+pub(crate) struct Due {
+    pub(crate) deed: Deed,
+    pub(crate) event: Event,
+}
+
+// The step is that a job of this number runs at this tick.
+#[inline(always)]
+fn is_run(event: &Event, tick: u64, runs: u32) -> bool
+    ensures { IsTrue result ↔ (event.now ≡ Run tick runs) }
+{
+    match event {
+        Event::Run { at, number } => *at == tick && *number == runs,
+        _ => false,
+    }
+}
+
+// The step is that the one job preempts the other at this tick.
+#[inline(always)]
+fn is_preempt(event: &Event, tick: u64, stopped: u32, started: u32) -> bool
+    ensures { IsTrue result ↔ (event.now ≡ Preempt tick stopped started) }
+{
+    match event {
+        Event::Preempt { at, stops, starts } => {
+            *at == tick && *stops == stopped && *starts == started
+        }
+        _ => false,
+    }
+}
+
+// The step is that the one job takes the processor from the other at this tick.
+#[inline(always)]
+fn is_take(event: &Event, tick: u64, stopped: u32, started: u32) -> bool
+    ensures { IsTrue result ↔ (event.now ≡ Take tick stopped started) }
+{
+    match event {
+        Event::Take { at, stops, starts } => {
+            *at == tick && *stops == stopped && *starts == started
+        }
+        _ => false,
+    }
+}
+
+// The step is that the job is done at this tick.
+#[inline(always)]
+fn is_complete(event: &Event, tick: u64, done: u32) -> bool
+    ensures { IsTrue result ↔ (event.now ≡ Complete tick done) }
+{
+    match event {
+        Event::Complete { at, number } => *at == tick && *number == done,
+        _ => false,
+    }
+}
+
+// The step is that the job is gone at this tick.
+#[inline(always)]
+fn is_abandon(event: &Event, tick: u64, gone: u32) -> bool
+    ensures { IsTrue result ↔ (event.now ≡ Abandon tick gone) }
+{
+    match event {
+        Event::Abandon { at, number } => *at == tick && *number == gone,
+        _ => false,
+    }
+}
+
+// The deed prints this step at this tick.
+#[inline(always)]
+pub(crate) fn prints(tick: u64, deed: Deed, event: &Event) -> bool
+    ensures { IsTrue result ↔ (step_at tick deed ≡ Prints event.now) }
+{
+    match deed {
+        Deed::Resume { number } => is_run(event, tick, number),
+        Deed::Start { number } => is_run(event, tick, number),
+        Deed::Begin { number } => is_run(event, tick, number),
+        Deed::Preempt { stops, starts } => is_preempt(event, tick, stops, starts),
+        Deed::Take { stops, starts } => is_take(event, tick, stops, starts),
+        Deed::Complete { number } => is_complete(event, tick, number),
+        Deed::Abandon { number } => is_abandon(event, tick, number),
+        Deed::Wait { .. } => false,
+        Deed::Tick => false,
+    }
 }
 
 // The step at this tick.
@@ -25,7 +122,9 @@ pub(crate) fn step_at(at: u64, deed: Deed) -> Move
     ensures { step_of result ≡ step_at at deed }
 {
     match deed {
-        Deed::Run { number } => Move::Prints(Event::Run { at, number }),
+        Deed::Resume { number } => Move::Prints(Event::Run { at, number }),
+        Deed::Start { number } => Move::Prints(Event::Run { at, number }),
+        Deed::Begin { number } => Move::Prints(Event::Run { at, number }),
         Deed::Preempt { stops, starts } => Move::Prints(Event::Preempt { at, stops, starts }),
         Deed::Take { stops, starts } => Move::Prints(Event::Take { at, stops, starts }),
         Deed::Complete { number } => Move::Prints(Event::Complete { at, number }),

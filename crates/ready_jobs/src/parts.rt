@@ -17,7 +17,7 @@ ghost use Rattle.dover_model.specs.Sound.{Each};
 ghost use Rattle.scanned_step.specs.Cases.{decision_of, arrival_of, alarm_of};
 ghost use Rattle.scanned_step.specs.Dues.{still_ticks, until_done};
 ghost use Rattle.ready_jobs.specs.Changed.{made_wait};
-ghost use Rattle.ready_jobs.specs.Deeds.{step_at};
+ghost use Rattle.ready_jobs.specs.Deeds.{step_at, Finds};
 ghost use Rattle.ready_jobs.specs.Reordered.{IsReordered};
 ghost use Rattle.ready_jobs.specs.Parts.{Parted, AreSound, HaveRoles, ready_of, state_of, head_of, tail_of};
 
@@ -203,7 +203,9 @@ impl Parts {
     // No job is to come.
     #[inline(always)]
     fn arrival(&self) -> Option<Deed>
-        ensures { option_map (step_at self.now.clock) result ≡ arrival_of (view self.now.version (state_of self.now)) }
+        ensures is { option_map (step_at self.now.clock) result
+            ≡ arrival_of (view self.now.version (state_of self.now)) }
+        ensures none { result ≡ None }
     {
         self.laws();
         None
@@ -277,7 +279,9 @@ impl Parts {
     fn decision(&self, r: &Task, f: &Task) -> Deed
         requires sound { AreSound self.now }
         requires running { self.now.running ≡ Some r.now }
-        ensures { step_at self.now.clock result ≡ decision_of (view self.now.version (state_of self.now)) r.now f.now }
+        ensures is { step_at self.now.clock result
+            ≡ decision_of (view self.now.version (state_of self.now)) r.now f.now }
+        ensures finds { Finds (view self.now.version (state_of self.now)) result }
     {
         if f.job.deadline() < r.job.deadline() && f.job.work() <= self.room_busy(r) {
             Deed::Preempt {
@@ -294,7 +298,9 @@ impl Parts {
     fn alarm(&self, k: Ratio, r: &Task, x: &Task) -> Deed
         requires sound { AreSound self.now }
         requires running { self.now.running ≡ Some r.now }
-        ensures { step_at self.now.clock result ≡ alarm_of k (view self.now.version (state_of self.now)) r.now x.now }
+        ensures is { step_at self.now.clock result
+            ≡ alarm_of k (view self.now.version (state_of self.now)) r.now x.now }
+        ensures finds { Finds (view self.now.version (state_of self.now)) result }
     {
         if heavy(x.job.value(), self.value_busy(r), k) {
             Deed::Take {
@@ -312,8 +318,9 @@ impl Parts {
         requires sound { AreSound self.now }
         requires running { self.now.running ≡ Some r.now }
         requires runs { running (state_of self.now) ≡ Some r.now }
-        ensures { step_at self.now.clock result
+        ensures is { step_at self.now.clock result
             ≡ open_step (record { ratio = k; version = self.now.version }) (state_of self.now) }
+        ensures finds { Finds (view self.now.version (state_of self.now)) result }
     {
         if left(r) == 0 {
             return Deed::Complete { number: r.number };
@@ -330,23 +337,20 @@ impl Parts {
         }
     }
 
-    // The job gets the processor.
+    // While p is held: the first waiting job runs, if it is due before p and fits the room of the held jobs, otherwise p.
     #[inline(always)]
-    fn run(&self, t: &Task) -> Deed
-        ensures { step_at self.now.clock result ≡ runs (view self.now.version (state_of self.now)) t.now }
-    {
-        Deed::Run { number: t.number }
-    }
-
-    // While p is held: the first waiting job, if it is due before p and fits the room of the held jobs, otherwise p.
-    #[inline(always)]
-    fn resumed(&self, p: &Task) -> Task
-        requires { AreSound self.now }
-        ensures { let v = view self.now.version (state_of self.now) in result ≡ resumed v p.now v.first_waiting }
+    fn resumed(&self, p: &Task) -> Deed
+        requires sound { AreSound self.now }
+        requires held { (view self.now.version (state_of self.now)).first_held ≡ Some p.now }
+        ensures is { let v = view self.now.version (state_of self.now) in
+            step_at self.now.clock result ≡ runs v (resumed v p.now v.first_waiting) }
+        ensures finds { Finds (view self.now.version (state_of self.now)) result }
     {
         match self.first_waiting() {
-            Some(o) if o.job.deadline() < p.job.deadline() && left(&o) <= self.room_held() => o,
-            _ => *p,
+            Some(o) if o.job.deadline() < p.job.deadline() && left(&o) <= self.room_held() => {
+                Deed::Start { number: o.number }
+            }
+            _ => Deed::Resume { number: p.number },
         }
     }
 
@@ -355,19 +359,20 @@ impl Parts {
     fn free_step(&self, k: Ratio) -> Deed
         requires sound { AreSound self.now }
         requires free { running (state_of self.now) ≡ None }
-        ensures { step_at self.now.clock result
+        ensures is { step_at self.now.clock result
             ≡ open_step (record { ratio = k; version = self.now.version }) (state_of self.now) }
+        ensures finds { Finds (view self.now.version (state_of self.now)) result }
     {
         // A ratio is known to be one where it is read.
         let _ = k.p();
         if let Some(p) = self.first_held() {
-            return self.run(&self.resumed(&p));
+            return self.resumed(&p);
         }
         if let Some(o) = self.first_waiting() {
-            return self.run(&o);
+            return Deed::Start { number: o.number };
         }
         if let Some(f) = self.fresh() {
-            return self.run(&f);
+            return Deed::Begin { number: f.number };
         }
         match self.arrival() {
             Some(release) => release,
@@ -379,8 +384,9 @@ impl Parts {
     #[inline(always)]
     pub fn open_step(&self, k: Ratio) -> Deed
         requires { AreSound self.now }
-        ensures { step_at self.now.clock result
+        ensures is { step_at self.now.clock result
             ≡ open_step (record { ratio = k; version = self.now.version }) (state_of self.now) }
+        ensures finds { Finds (view self.now.version (state_of self.now)) result }
     {
         match self.running() {
             Some(r) => self.busy_step(k, &r),

@@ -1,20 +1,21 @@
 //! The run of the jobs that were released so far, over those that are ready.
-ghost use Rattle.std.specs.Prelude.{◌≡◌, ◌≤◌, ◌<◌, ◌+◌, ◌∷◌, [], ◌++◌, ℕ, ◌&&◌, nat_le, min, length};
-ghost use Rattle.std.specs.Prelude.{false, IfOk, IsOk, OnOk, OnErr};
+ghost use Rattle.std.specs.Prelude.{◌≡◌, ◌≢◌, ◌↔◌, ◌≤◌, ◌<◌, ◌+◌, ◌∷◌, [], ◌++◌, ℕ, ◌&&◌, nat_le, min, length};
+ghost use Rattle.std.specs.Prelude.{true, false, IsTrue, IfOk, IsOk, OnOk, OnErr, IfSome, option_map};
+ghost use Rattle.dover_model.specs.declared.events.Event.{Event};
+ghost use Rattle.dover_model.specs.declared.events.Event.TheVariants.{End};
 ghost use Rattle.dover_model.specs.Limits.{last_tick, most_jobs, most_total};
 ghost use Rattle.dover_model.specs.Instance.{Instance};
 ghost use Rattle.dover_model.specs.State.{State};
-ghost use Rattle.dover_model.specs.Step.{Prints, open_step, after};
-ghost use Rattle.dover_model.specs.Run.{is_end};
+ghost use Rattle.dover_model.specs.Step.{Prints, open_step, view};
 ghost use Rattle.dover_model.specs.Settled.{waits_for_mark};
-ghost use Rattle.scanned_step.specs.Moves.{step_of, state_at};
-ghost use Rattle.trace_reading.specs.Leading.{PrintsNext};
+ghost use Rattle.scanned_step.specs.Moves.{state_at};
 ghost use Rattle.ready_jobs.specs.Reordered.{IsReordered};
 ghost use Rattle.ready_jobs.specs.Course.{Course, Follows, IsCourse, Reached, Settled, new_course, fresh_job};
-ghost use Rattle.ready_jobs.specs.Course.{with_release};
+ghost use Rattle.ready_jobs.specs.Course.{IsDue, SettlesAt, StepsBefore, ComesNext, Passes, Takes, with_release};
+ghost use Rattle.ready_jobs.specs.Deeds.{Finds, step_at};
 ghost use Rattle.ready_jobs.specs.Spending.{HasPaid};
 
-use crate::deeds::step_at;
+use crate::deeds::{Deed, Due, prints, step_at};
 use crate::parts::Parts;
 use dover_model::jobs::LAST_TICK;
 use dover_model::{Event, Job, Memory, Ratio, Version};
@@ -154,16 +155,17 @@ impl Ready {
         self.ratio = ratio;
     }
 
-    // Takes the silent steps up to the next printed one, or up to the barrier of the mark, and gives the step that
-    // comes there.
+    // Takes the silent steps up to the next printed one, or up to the barrier of the mark, and gives what comes there.
     #[inline(always)]
-    fn go_on<L: Ledger>(&mut self, mark: u64, steps: &mut Steps<L>) -> Move
+    fn go_on<L: Ledger>(&mut self, mark: u64, steps: &mut Steps<L>) -> Deed
         requires some { 0 < length self.old.ready }
         requires low { self.old.clock ≤ mark }
         requires known { mark ≤ last_tick }
         ensures reached { (J : Instance) (z : State) → Follows self.old J z
-            → Reached self.new J z mark (step_of result) }
-        ensures step { step_of result ≡ open_step self.new.rules (state_at self.new.clock self.new.ready) }
+            → Reached self.new J z mark (step_at self.new.clock result) }
+        ensures step { step_at self.new.clock result
+            ≡ open_step self.new.rules (state_at self.new.clock self.new.ready) }
+        ensures finds { Finds (view self.new.rules.version (state_at self.new.clock self.new.ready)) result }
         ensures kept { self.new ≡ record self.old { clock = self.new.clock; ready = self.new.ready } }
         ensures fewer { length self.new.ready ≡ length self.old.ready }
         ensures low { self.new.clock ≤ mark }
@@ -172,7 +174,70 @@ impl Ready {
         self.parts.laws();
         let deed = self.parts.settle(self.ratio, mark, steps);
         self.parts.laws();
-        step_at(self.parts.clock(), deed)
+        deed
+    }
+
+    // Takes the silent steps up to the next printed one, which it gives, or up to the barrier of the mark.
+    #[inline(always)]
+    fn due_before<L: Ledger>(&mut self, mark: u64, steps: &mut Steps<L>) -> Option<Due>
+        requires low { self.old.clock ≤ mark }
+        requires known { mark ≤ last_tick }
+        ensures settled { SettlesAt self.old mark self.new (option_map (λ due. due.event) result) }
+        ensures due { IfSome result (λ due. IsDue self.new due.deed due.event) }
+        ensures kept { self.new ≡ record self.old { clock = self.new.clock; ready = self.new.ready } }
+        ensures fewer { length self.new.ready ≡ length self.old.ready }
+        ensures low { self.new.clock ≤ mark }
+        ensures paid { (start : ℕ) → HasPaid self.old start steps.old → HasPaid self.new start steps.new }
+    {
+        if self.parts.is_empty() {
+            return None;
+        }
+        let deed = self.go_on(mark, steps);
+        let clock = self.parts.clock();
+        match step_at(clock, deed) {
+            Move::Prints(event) => {
+                if is_late_at(&event, mark, clock) {
+                    None
+                } else {
+                    Some(Due { deed, event })
+                }
+            }
+            Move::Waits(_) => None,
+            Move::Ticks => None,
+        }
+    }
+
+    // Takes the silent steps up to the next printed one, where some job is ready and no further one comes.
+    #[inline(always)]
+    fn due_next<L: Ledger>(&mut self, steps: &mut Steps<L>) -> Due
+        requires some { 0 < length self.old.ready }
+        ensures comes { ComesNext self.old self.new result.event }
+        ensures due { IsDue self.new result.deed result.event }
+        ensures kept { self.new ≡ record self.old { clock = self.new.clock; ready = self.new.ready } }
+        ensures fewer { length self.new.ready ≡ length self.old.ready }
+        ensures paid { (start : ℕ) → HasPaid self.old start steps.old → HasPaid self.new start steps.new }
+    {
+        self.parts.laws();
+        let deed = self.go_on(LAST_TICK, steps);
+        match step_at(self.parts.clock(), deed) {
+            Move::Prints(event) => Due { deed, event },
+            Move::Waits(_) => unreachable!(),
+            Move::Ticks => unreachable!(),
+        }
+    }
+
+    // Takes the printed step that comes now.
+    #[inline(always)]
+    fn take<L: Ledger>(&mut self, due: &Due, steps: &mut Steps<L>)
+        requires { IsDue self.old due.now.deed due.now.event }
+        ensures after { Passes self.old due.now.event self.new }
+        ensures kept { self.new ≡ record self.old { ready = self.new.ready; done = self.new.done } }
+        ensures fewer { length self.new.ready ≤ length self.old.ready }
+        ensures paid { (start : ℕ) → HasPaid self.old start steps.old → HasPaid self.new start steps.new }
+    {
+        self.parts.laws();
+        let worth = self.parts.apply(due.deed, steps);
+        self.done += worth;
     }
 
     /// Takes the silent steps up to the next printed one, which it gives, or up to the barrier of the mark.
@@ -186,30 +251,39 @@ impl Ready {
         ensures low { self.new.clock ≤ mark }
         ensures paid { (start : ℕ) → HasPaid self.old start steps.old → HasPaid self.new start steps.new }
     {
-        if self.parts.is_empty() {
-            return None;
+        match self.due_before(mark, steps) {
+            Some(due) => Some(due.event),
+            None => None,
         }
-        let step = self.go_on(mark, steps);
-        match step {
-            Move::Prints(event) => {
-                if is_late_at(&event, mark, self.parts.clock()) {
-                    None
-                } else {
-                    Some(event)
-                }
+    }
+
+    /// Takes the steps up to the next printed one, and that too, which it gives, or up to the barrier of the mark.
+    #[inline(always)]
+    pub fn step<L: Ledger>(&mut self, mark: u64, steps: &mut Steps<L>) -> Option<Event>
+        requires low { self.old.clock ≤ mark }
+        requires known { mark ≤ last_tick }
+        ensures stepped { StepsBefore self.old mark self.new result }
+        ensures kept { self.new ≡ record self.old {
+          clock = self.new.clock;
+          ready = self.new.ready;
+          done = self.new.done;
+        } }
+        ensures fewer { length self.new.ready ≤ length self.old.ready }
+        ensures paid { (start : ℕ) → HasPaid self.old start steps.old → HasPaid self.new start steps.new }
+    {
+        match self.due_before(mark, steps) {
+            Some(due) => {
+                self.take(&due, steps);
+                Some(due.event)
             }
-            Move::Waits(_) => None,
-            Move::Ticks => None,
+            None => None,
         }
     }
 
     /// The step that the run prints next, where no further job comes. The silent steps before it are taken.
     #[inline(always)]
     pub fn upcoming<L: Ledger>(&mut self, steps: &mut Steps<L>) -> Event
-        ensures next { (J : Instance) (z : State) → Follows self.old J z → (y : State) × Follows self.new J y
-            × PrintsNext J.rules z result y }
-        ensures open { is_end (Prints result) ≡ false →
-            open_step self.new.rules (state_at self.new.clock self.new.ready) ≡ Prints result }
+        ensures next { ComesNext self.old self.new result }
         ensures kept { self.new ≡ record self.old { clock = self.new.clock; ready = self.new.ready } }
         ensures fewer { length self.new.ready ≡ length self.old.ready }
         ensures paid { (start : ℕ) → HasPaid self.old start steps.old → HasPaid self.new start steps.new }
@@ -217,27 +291,53 @@ impl Ready {
         if self.parts.is_empty() {
             return Event::End { value: self.done };
         }
-        let step = self.go_on(LAST_TICK, steps);
-        match step {
-            Move::Prints(event) => event,
-            Move::Waits(_) => unreachable!(),
-            Move::Ticks => unreachable!(),
-        }
+        self.due_next(steps).event
     }
 
-    /// Takes the printed step that comes now.
+    /// Takes the step that the run prints next, where no further job comes, and gives it.
     #[inline(always)]
-    pub fn take<L: Ledger>(&mut self, event: &Event, steps: &mut Steps<L>)
-        requires { open_step self.old.rules (state_at self.old.clock self.old.ready) ≡ Prints event.now }
-        ensures after { (J : Instance) (z : State) → Follows self.old J z
-            → Follows self.new J (after z (Prints event.now)) }
-        ensures kept { self.new ≡ record self.old { ready = self.new.ready; done = self.new.done } }
+    pub fn step_on<L: Ledger>(&mut self, steps: &mut Steps<L>) -> Event
+        ensures taken { Takes self.old result self.new }
+        ensures kept { self.new ≡ record self.old {
+          clock = self.new.clock;
+          ready = self.new.ready;
+          done = self.new.done;
+        } }
         ensures fewer { length self.new.ready ≤ length self.old.ready }
         ensures paid { (start : ℕ) → HasPaid self.old start steps.old → HasPaid self.new start steps.new }
     {
-        self.parts.laws();
-        let worth = self.parts.apply(event, steps);
-        self.done += worth;
+        if self.parts.is_empty() {
+            return Event::End { value: self.done };
+        }
+        let due = self.due_next(steps);
+        self.take(&due, steps);
+        due.event
+    }
+
+    /// Takes the step that the run prints next, where no further job comes, if it is this one. If it is another, only the
+    /// silent steps before it are taken.
+    #[inline(always)]
+    pub fn follow<L: Ledger>(&mut self, event: &Event, steps: &mut Steps<L>) -> bool
+        ensures yes { result ≡ true → Takes self.old event.now self.new }
+        ensures no { result ≡ false → (e : Event) × ComesNext self.old self.new e × (e ≢ event.now) }
+        ensures kept { self.new ≡ record self.old {
+          clock = self.new.clock;
+          ready = self.new.ready;
+          done = self.new.done;
+        } }
+        ensures fewer { length self.new.ready ≤ length self.old.ready }
+        ensures paid { (start : ℕ) → HasPaid self.old start steps.old → HasPaid self.new start steps.new }
+    {
+        if self.parts.is_empty() {
+            return is_end_with(event, self.done);
+        }
+        let deed = self.go_on(LAST_TICK, steps);
+        if !prints(self.parts.clock(), deed, event) {
+            return false;
+        }
+        let event = *event;
+        self.take(&Due { deed, event }, steps);
+        true
     }
 
     /// Takes the release of the next job, to which the clock goes on.
@@ -253,6 +353,17 @@ impl Ready {
         self.parts.laws();
         self.parts.come(self.jobs, job);
         self.jobs += 1;
+    }
+}
+
+// The event is the end, with this value.
+#[inline(always)]
+fn is_end_with(event: &Event, done: u64) -> bool
+    ensures { IsTrue result ↔ (event.now ≡ End done) }
+{
+    match event {
+        Event::End { value } => *value == done,
+        _ => false,
     }
 }
 

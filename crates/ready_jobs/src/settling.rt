@@ -4,9 +4,9 @@ ghost use Rattle.dover_model.specs.declared.events.Role.TheVariants.{Waiting};
 ghost use Rattle.dover_model.specs.declared.events.Task.{Task};
 ghost use Rattle.dover_model.specs.Instance.{Rules};
 ghost use Rattle.dover_model.specs.Limits.{last_tick};
-ghost use Rattle.dover_model.specs.Step.{open_step, with_role, Waits, Ticks};
+ghost use Rattle.dover_model.specs.Step.{open_step, view, with_role, Waits, Ticks};
 ghost use Rattle.trace_reading.specs.Leading.{IsSilent};
-ghost use Rattle.ready_jobs.specs.Deeds.{step_at};
+ghost use Rattle.ready_jobs.specs.Deeds.{step_at, Finds};
 ghost use Rattle.ready_jobs.specs.Reordered.{IsReordered};
 ghost use Rattle.ready_jobs.specs.Parts.{Parted, ready_of, state_of};
 ghost use Rattle.ready_jobs.specs.Following.{IsPart, SettlesFrom};
@@ -40,6 +40,7 @@ impl Parts {
         ensures settles { (mark : ℕ) → SettlesFrom k mark self.old self.new }
         ensures some { IfSome result (λ deed. step_at self.new.clock deed
             ≡ open_step (record { ratio = k; version = self.new.version }) (state_of self.new)) }
+        ensures finds { IfSome result (λ deed. Finds (view self.new.version (state_of self.new)) deed) }
         ensures prints { IfSome result (λ deed. IsSilent (step_at self.new.clock deed) → ⊥) }
         ensures none { IfNone result (self.new.fresh ≡ None) }
         ensures kept { self.new ≡ record self.old { fresh = self.new.fresh; waiting = self.new.waiting } }
@@ -74,6 +75,7 @@ impl Parts {
         ensures settles { SettlesFrom k mark self.old self.new }
         ensures step { step_at self.new.clock result
             ≡ open_step (record { ratio = k; version = self.new.version }) (state_of self.new) }
+        ensures finds { Finds (view self.new.version (state_of self.new)) result }
         ensures stops { let step = step_at self.new.clock result in
             IsSilent step → (step ≡ Ticks) × (mark ≤ self.new.clock) }
         ensures low { self.new.clock ≤ mark }
@@ -97,6 +99,7 @@ impl Parts {
         ensures settles { SettlesFrom k mark self.old self.new }
         ensures step { step_at self.new.clock result
             ≡ open_step (record { ratio = k; version = self.new.version }) (state_of self.new) }
+        ensures finds { Finds (view self.new.version (state_of self.new)) result }
         ensures stops { let step = step_at self.new.clock result in
             IsSilent step → (step ≡ Ticks) × (mark ≤ self.new.clock) }
         ensures low { self.new.clock ≤ mark }
@@ -123,6 +126,7 @@ impl Parts {
         ensures settles { SettlesFrom k mark self.old self.new }
         ensures step { step_at self.new.clock result
             ≡ open_step (record { ratio = k; version = self.new.version }) (state_of self.new) }
+        ensures finds { Finds (view self.new.version (state_of self.new)) result }
         ensures stops { let step = step_at self.new.clock result in
             IsSilent step → (step ≡ Ticks) × (mark ≤ self.new.clock) }
         ensures low { self.new.clock ≤ mark }

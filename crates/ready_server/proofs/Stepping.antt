@@ -26,10 +26,9 @@ use Rattle.trace_reading.proofs.Leading.{idles_settles, settles_silent}
 use Rattle.dover_server.specs.declared.horizon.Horizon.{Horizon}
 use Rattle.dover_server.specs.declared.horizon.Horizon.TheVariants.{Mark, End}
 use Rattle.dover_server.specs.Service.{MayFollow}
-use Rattle.dispatcher.specs.Dispatch.{due_by}
-use Rattle.ready_jobs.specs.Course.{Course, Follows, Comes, Settled}
+use Rattle.dispatcher.specs.Dispatch.{due_by, Gives}
+use Rattle.ready_jobs.specs.Course.{Course, Follows, Comes, Settled, StepsBefore}
 use Rattle.ready_jobs.proofs.Courses.{follows_count, follows_fewer}
-use Rattle.ready_jobs.proofs.Releasing.{follows_opens}
 use Rattle.ready_server.specs.Serving.{LeavesRest, HasGiven, Serves, Rests}
 use Rattle.ready_server.specs.declared.server.ReadyServer.{ReadyServer}
 
@@ -101,7 +100,7 @@ module _ (s : ReadyServer) (d : Course) (mark : ℕ) (o : Option Event)
       (idles_settles J.rules mark it.idles.0 serves.state it.state it.idles.1 (omega (arith, it.follows.clock)))
 
   -- where nothing comes, all was given
-  pub mark_reached : o ≡ None → (events ≡ settled J mark) × Rests (record s { ready = d }) J (Mark mark)
+  mark_reached : o ≡ None → (events ≡ settled J mark) × Rests (record s { ready = d }) J (Mark mark)
   mark_reached none = (
     all,
     record {
@@ -134,12 +133,8 @@ module _ (s : ReadyServer) (d : Course) (mark : ℕ) (o : Option Event)
     comes_now : (open_step J.rules it.state ≡ Prints e) × IsBefore J.rules mark it.state × GoesOn it.state
     comes_now = subst (Comes J serves.state mark it.state) some it.comes
 
-    -- it is the next step of the ready jobs
-    pub mark_opens : open_step d.rules (state_at d.clock d.ready) ≡ Prints e
-    mark_opens = follows_opens d J it.state it.follows ∙ comes_now.0
-
     -- once it is taken, it was given
-    pub mark_given : (f : Course)
+    mark_given : (f : Course)
         → ((I : Instance) (z : State) → Follows d I z → Follows f I (after z (Prints e)))
         → Serves (record s { ready = f }) J (Mark mark) (events ++ e ∷ [])
     mark_given f takes = record {
@@ -147,6 +142,16 @@ module _ (s : ReadyServer) (d : Course) (mark : ℕ) (o : Option Event)
       follows = takes J it.state it.follows;
       given = (way.0, printed_event J mark it.state events e still comes_now.1 comes_now.0);
     }
+
+-- the answer at a mark
+pub mark_stepped : (s : ReadyServer) (d : Course) (mark : ℕ) (o : Option Event) → StepsBefore s.ready mark d o
+    → (J : Instance) (from : Horizon) (events : List Event) → Serves s J from events → MayFollow from (Mark mark)
+    → Gives (Serves (record s { ready = d }) J (Mark mark)) (Rests (record s { ready = d }) J (Mark mark))
+    (due_by J (Mark mark)) events o
+mark_stepped s d mark None it J from events serves follows =
+    mark_reached s d mark None it.0 it.1 J from events serves follows refl
+mark_stepped s d mark (Some e) it J from events serves follows =
+    mark_given s it.0 mark (Some e) it.1 it.2 J from events serves follows e refl d it.3
 
 -- ---- to the end
 

@@ -55,13 +55,7 @@ impl ReadyServer {
         ensures room { HasPlace self.old → HasPlace self.new }
         ensures paid { (start : ℕ) → HasPaid self.old start steps.old → HasPaid self.new start steps.new }
     {
-        match self.ready.settle(mark, steps) {
-            Some(event) => {
-                self.ready.take(&event, steps);
-                Some(event)
-            }
-            None => None,
-        }
+        self.ready.step(mark, steps)
     }
 
     // The next printed step of the run, where no further job comes.
@@ -75,12 +69,11 @@ impl ReadyServer {
         if self.ended {
             return None;
         }
-        let event = self.ready.upcoming(steps);
+        let event = self.ready.step_on(steps);
         if is_end(&event) {
             self.ended = true;
             return Some(event);
         }
-        self.ready.take(&event, steps);
         Some(event)
     }
 }

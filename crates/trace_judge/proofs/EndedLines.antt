@@ -1,60 +1,59 @@
 -- What is found where a line has ended.
 use Rattle.std.proofs.Common.{◌≡◌, ℕ, ◌+◌, ◌≤◌, ◌<◌, List, [], ◌∷◌, ◌++◌, length, length-append, sym, ap, ◌∙◌, subst}
-use Rattle.std.proofs.Common.{arith, Option, Some, None, take, drop, take-append-drop, append_assoc}
+use Rattle.std.proofs.Common.{refl, arith, Bool, true, false, take, drop, take-append-drop, append_assoc}
 use Rattle.std.specs.Prelude.{Result, Ok, Err, IsOk, IsErr, IfOk}
 use Rattle.dover_model.specs.declared.Memory.{Memory}
 use Rattle.dover_model.specs.Lines.{whole_lines}
 use Rattle.dover_model.specs.Verdict as model
 use Rattle.dover_model.proofs.Tests.{never}
 use Rattle.line_text.specs.Cutting as cutting
-use Rattle.line_text.specs.Cutting.{Cutting, HasCut}
+use Rattle.line_text.specs.Cutting.{HasCut}
 use Rattle.line_text.specs.declared.cutting.Step.TheVariants.{Line}
 use Rattle.trace_reading.proofs.Judging.{wrong_line}
-use Rattle.trace_judge.specs.declared.judge.Judge.{Judge}
 use Rattle.trace_judge.specs.declared.judge.Found.TheVariants.{Good}
-use Rattle.trace_judge.specs.declared.verdict.Expected.{Expected}
-use Rattle.trace_judge.specs.Reads.{Reading, Reads, TookLine, job_lines_in}
-use Rattle.trace_judge.specs.Judging.{StandsFor, Fed, PaysFor, IsOverfed, found_with}
-use Rattle.trace_judge.proofs.Judging.{reads_begins, reads_few, rest_empty, stands_good, named_whole}
+use Rattle.trace_judge.specs.Reads.{Reading, Reads, Took, IsUnchangedFor, job_lines_in}
+use Rattle.trace_judge.specs.Judging.{Judged, StandsFor, Notes, Fed, PaysFor, IsOverfed}
+use Rattle.trace_judge.proofs.Judging.{reads_begins, reads_few, rest_empty, good_stands, stands_good, named_whole}
 use Rattle.trace_judge.proofs.Judging.{fed_on, overfed_on, overfed_more}
 use Rattle.trace_judge.proofs.Spending.{pays_more, pays_on}
 
--- the judge after this was told of a line
-abbrev pub noted : Cutting → Reading → Result (Option Expected) Memory → Judge
-noted lines reader taken = record { lines = lines; reader = reader; found = found_with lines.count taken }
-
-module _ (old new : Reading) (lines : Cutting) (line before text : List ℕ) (cut : cutting.StandsFor lines text)
-    (parts : HasCut Line line before text) (reads : Reads old (whole_lines before)) where
-  -- it stands for the text that the line ends
-  pub noted_stands : (taken : Result (Option Expected) Memory) → IsOk taken → IfOk taken (TookLine old new line)
-      → StandsFor (noted lines new taken) text
-  noted_stands (Ok None) ok took = record {
+-- a line has ended and was read, and this was told of it
+module _ (mid new : Judged) (old : Reading) (line before text : List ℕ) (good : mid.found ≡ Good)
+    (cut : cutting.StandsFor mid.lines text) (parts : HasCut Line line before text)
+    (reads : Reads old (whole_lines before)) where
+  -- the judge stands for the text that the line ends
+  pub noted_stands : (taken : Result Bool Memory) → IsOk taken → IfOk taken (Took old mid.reader line)
+      → Notes mid new taken → StandsFor new text
+  noted_stands (Ok true) ok took same = subst (λ j. StandsFor j text) (sym same) (good_stands mid text good record {
     cut = cut;
     counts = rest_empty text parts.1;
-    reads = subst (Reads new) (sym parts.0) (took (whole_lines before) reads);
-  }
-  noted_stands (Ok (Some due)) ok took =
+    reads = subst (Reads mid.reader) (sym parts.0) (took.yes refl (whole_lines before) reads);
+  })
+  noted_stands (Ok false) ok took misses =
       let ls : List (List ℕ) = whole_lines before in
-      wrong_line text ls line parts.0 parts.1 (reads_begins old ls reads) (took ls reads).0
+      let it = took.no refl ls reads in
+      subst (λ j. StandsFor j text) (sym misses.is)
+      (wrong_line text ls line parts.0 parts.1 (reads_begins old ls reads) it.0
       ∙ ap (λ n. model.Wrong n (model.expected_after ls))
       (omega (arith, reads_few old ls reads, cut.count, ap length parts.0, length-append ls (line ∷ [])))
-      ∙ ap (model.Wrong lines.count) (took ls reads).1
-  noted_stands (Err e) ok took = never ok
+      ∙ ap (model.Wrong mid.lines.count) (misses.expects ls it.1))
+  noted_stands (Err e) ok took failed = never ok
 
-module _ (j : Judge) (lines : Cutting) (new : Reading) (line bytes : List ℕ) (good : j.found ≡ Good)
-    (stands : (x : List ℕ) → cutting.StandsFor j.lines x → cutting.StandsFor lines (x ++ bytes))
+module _ (j mid new : Judged) (line bytes : List ℕ) (good : j.found ≡ Good) (good_mid : mid.found ≡ Good)
+    (stands : (x : List ℕ) → cutting.StandsFor j.lines x → cutting.StandsFor mid.lines (x ++ bytes))
     (parts : (x : List ℕ) → cutting.StandsFor j.lines x → HasCut Line line x (x ++ bytes)) where
   -- the judge was fed the bytes of the line
-  pub noted_fed : (taken : Result (Option Expected) Memory) → IsOk taken → IfOk taken (TookLine j.reader new line)
-      → j.reader.spare ≤ new.spare + job_lines_in line → new.keep ≡ j.reader.keep
-      → Fed j (noted lines new taken) bytes
-  noted_fed taken ok took spare keep = record {
+  pub noted_fed : (taken : Result Bool Memory) → IsOk taken → IfOk taken (Took j.reader mid.reader line)
+      → Notes mid new taken → IsUnchangedFor mid.reader new.reader
+      → j.reader.spare ≤ mid.reader.spare + job_lines_in line → mid.reader.keep ≡ j.reader.keep
+      → Fed j new bytes
+  noted_fed taken ok took notes kept spare keep = record {
     stands = λ text at. let was = stands_good j text good at in
-        noted_stands j.reader new lines line text (text ++ bytes) (stands text was.cut) (parts text was.cut) was.reads
-        taken ok took;
+        noted_stands mid new j.reader line text (text ++ bytes) good_mid (stands text was.cut) (parts text was.cut)
+        was.reads taken ok took notes;
     spare = λ text at. let was = stands_good j text good at in
-        omega (arith, spare, named_whole line text (text ++ bytes) (parts text was.cut));
-    keep = keep;
+        omega (arith, spare, kept.spare, named_whole line text (text ++ bytes) (parts text was.cut));
+    keep = kept.keep ∙ keep;
   }
 
   -- or there was no room for the job that it names
@@ -70,15 +69,15 @@ ok_not_err (Err e) ok err = never ok
 -- ---- a piece, front by front
 
 -- the judge was fed the piece but for the rest, and what that cost is paid for
-pub record HasFed (old new : Judge) (piece rest : List ℕ) (before after : ℕ) : Type 0 where
+pub record HasFed (old new : Judged) (piece rest : List ℕ) (before after : ℕ) : Type 0 where
   pub front : List ℕ
   pub is : piece ≡ front ++ rest
   pub fed : Fed old new front
   pub paid : PaysFor old new front before after
 
-module _ (a b : Judge) (piece rest : List ℕ) (before between : ℕ) (it : HasFed a b piece rest before between) where
+module _ (a b : Judged) (piece rest : List ℕ) (before between : ℕ) (it : HasFed a b piece rest before between) where
   -- and then some of the rest
-  pub fed_some : (c : Judge) (count after : ℕ) → Fed b c (take count rest)
+  pub fed_some : (c : Judged) (count after : ℕ) → Fed b c (take count rest)
       → PaysFor b c (take count rest) between after → HasFed a c piece (drop count rest) before after
   fed_some c count after next pays = record {
     front = it.front ++ take count rest;
@@ -93,17 +92,17 @@ module _ (a b : Judge) (piece rest : List ℕ) (before between : ℕ) (it : HasF
   overfed_rest over = subst (IsOverfed a) (sym it.is) (overfed_on a b it.front rest it.fed over)
 
   -- what the rest costs is paid for as well
-  pub pays_rest : (c : Judge) (after : ℕ) → PaysFor b c rest between after → PaysFor a c piece before after
+  pub pays_rest : (c : Judged) (after : ℕ) → PaysFor b c rest between after → PaysFor a c piece before after
   pays_rest c after pays = subst (λ l. PaysFor a c l before after) (sym it.is)
       (pays_on a b c it.front rest before between after it.fed it.paid pays)
 
 -- no room for the jobs of a front
-pub overfed_front : (j : Judge) (count : ℕ) (bytes : List ℕ) → IsOverfed j (take count bytes) → IsOverfed j bytes
+pub overfed_front : (j : Judged) (count : ℕ) (bytes : List ℕ) → IsOverfed j (take count bytes) → IsOverfed j bytes
 overfed_front j count bytes over = subst (IsOverfed j) (take-append-drop count bytes)
     (overfed_more j (take count bytes) (drop count bytes) over)
 
 -- what a front costs is paid for by all
-pub pays_front : (old new : Judge) (count : ℕ) (bytes : List ℕ) (before after : ℕ)
+pub pays_front : (old new : Judged) (count : ℕ) (bytes : List ℕ) (before after : ℕ)
     → PaysFor old new (take count bytes) before after → PaysFor old new bytes before after
 pays_front old new count bytes before after pays =
     subst (λ l. PaysFor old new l before after) (take-append-drop count bytes)

@@ -227,12 +227,12 @@ reserve_reader r old d steps spare room same unchanged ready all =
       reads = room_ahead r d.room spare room old.lines old.reads;
     }))
 
--- so is one that goes on by a printed step
-pub taken_on : (c d e : Course) → GoesOnFrom c d → e ≡ record d { ready = e.ready; done = e.done }
-    → length e.ready ≤ length d.ready → GoesOnFrom c e
-taken_on c d e on kept fewer = record {
-  rules = ap (λ (b : Course). b.rules) kept ∙ on.rules;
-  fewer = omega (arith, fewer, on.fewer);
-  jobs = ap (λ (b : Course). b.jobs) kept ∙ on.jobs;
-  room = ap (λ (b : Course). b.room) kept ∙ on.room;
+-- and one that goes on to a printed step and takes it
+pub followed_on : (c d : Course) → d ≡ record c { clock = d.clock; ready = d.ready; done = d.done }
+    → length d.ready ≤ length c.ready → GoesOnFrom c d
+followed_on c d kept fewer = record {
+  rules = ap (λ (b : Course). b.rules) kept;
+  fewer = fewer;
+  jobs = ap (λ (b : Course). b.jobs) kept;
+  room = ap (λ (b : Course). b.room) kept;
 }

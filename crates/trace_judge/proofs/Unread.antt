@@ -87,7 +87,7 @@ refused_form S floor z l it =
     )
 
 -- a line without a form continues no trace
-pub unread_fails : (w : Reading) (l : List ℕ) → ((x : TraceLine) → HasForm x → trace_text x ≡ l → ⊥)
+unread_fails : (w : Reading) (l : List ℕ) → ((x : TraceLine) → HasForm x → trace_text x ≡ l → ⊥)
     → (ls : List (List ℕ)) → Reads w ls
     → begins_trace (ls ++ l ∷ []) ≡ false
 unread_fails w l none ls reads = false_from_ne_true _ (by_stage w.stage reads) where
@@ -108,6 +108,14 @@ unread_fails w l none ls reads = false_from_ne_true _ (by_stage w.stage reads) w
       by_line here.0 here.1 here.2 next.0 next.1 next.2
       (continues_only ls here.0 w.floor here.1 here.2.sees next.0 next.1 next.2 l passes)
   by_stage Ended it passes = let clash : false ≡ true = sym (ended_fails w ls it.0 it.1 l) ∙ passes in cc
+
+-- so it is wrong
+pub unread_took : (w : Reading) (l : List ℕ) → ((x : TraceLine) → HasForm x → trace_text x ≡ l → ⊥)
+    → Took w w l false
+unread_took w l none = record {
+  yes = λ e. absurd (let clash : false ≡ true = e in cc);
+  no = λ _ ls reads. (unread_fails w l none ls reads, reads_ahead w ls reads);
+}
 
 -- a line that was read as a release names a job
 pub jobs_counted : (x : TraceLine) (l : List ℕ) → item_of l ≡ item_in x → jobs_in x ≤ job_lines_in l

@@ -1,6 +1,6 @@
 -- What the judge keeps of the lines of a trace.
 use Rattle.std.specs.Prelude.{◌≡◌, ◌≤◌, ◌+◌, ◌*◌, ℕ, List, [], ◌∷◌, ◌++◌, length, min, Bool, true, false, if◌then◌else◌}
-use Rattle.std.specs.Prelude.{Option, Some, None}
+use Rattle.std.specs.Prelude.{Option, Some}
 use Rattle.admission.specs.Kept as admission
 use Rattle.dover_model.specs.Limits.{most_jobs}
 use Rattle.dover_model.specs.JobFacts.{JobFacts}
@@ -106,12 +106,6 @@ pub record Took (old new : Reading) (line : List ℕ) (good : Bool) : Type 0 whe
   pub yes : good ≡ true → (ls : List (List ℕ)) → Reads old ls → Reads new (ls ++ line ∷ [])
   pub no : good ≡ false → (ls : List (List ℕ)) → Reads old ls → (model.begins_trace (ls ++ line ∷ []) ≡ false)
       × ReadsAhead new ls
-
--- with the line the trace goes on, or it doesn't, and this is due
-abbrev pub TookLine : Reading → Reading → List ℕ → Option Expected → Type 0
-TookLine old new line None = (ls : List (List ℕ)) → Reads old ls → Reads new (ls ++ line ∷ [])
-TookLine old new line (Some due) = (ls : List (List ℕ)) → Reads old ls
-    → (model.begins_trace (ls ++ line ∷ []) ≡ false) × (model.expected_after ls ≡ expected_of due)
 
 -- what is kept now was kept of the same lines
 abbrev pub StaysAhead : Reading → Reading → Type 0

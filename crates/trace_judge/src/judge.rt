@@ -5,9 +5,9 @@ ghost use Rattle.dover_model.specs.Verdict as model;
 ghost use Rattle.line_text.specs.declared.cutting.Step.TheVariants.{More, Line, TooLong};
 ghost use Rattle.line_text.specs.Cutting.{IsWholeLine};
 ghost use Rattle.trace_judge.specs.declared.judge.Found.TheVariants.{Good, NoMemory};
-ghost use Rattle.trace_judge.specs.Reads.{job_lines_in};
+ghost use Rattle.trace_judge.specs.Reads.{job_lines_in, IsUnchangedFor};
 ghost use Rattle.trace_judge.specs.Judging.{StandsFor, Fed, IsOverfed, IsCut, Tells, steps_told, is_wrong};
-ghost use Rattle.trace_judge.specs.Judging.{found_with, HasPaidFor, PaysFor};
+ghost use Rattle.trace_judge.specs.Judging.{Misses, Notes, HasPaidFor, PaysFor};
 ghost use Rattle.ready_jobs.specs.Spending.{HasPaid};
 
 use crate::reader::Reader;
@@ -116,45 +116,55 @@ impl Judge {
         }
     }
 
-    // The line is too long.
-    fn overrun<L: Ledger>(&mut self, steps: &mut Steps<L>)
-        requires good { self.old.found ≡ Good }
-        ensures stands { (before text : List ℕ) → IsCut self.old TooLong before text → StandsFor self.new text }
-        ensures spare { self.new.reader.spare ≡ self.old.reader.spare }
-        ensures keep { self.new.reader.keep ≡ self.old.reader.keep }
-        ensures jobs { self.new.reader.course.jobs ≡ self.old.reader.course.jobs }
+    // The line of this number is wrong.
+    #[inline(never)]
+    fn miss<L: Ledger>(&mut self, line: u64, steps: &mut Steps<L>)
+        ensures missed { Misses self.old self.new line }
+        ensures kept { IsUnchangedFor self.old.reader self.new.reader }
         ensures paid { (start : ℕ) → HasPaid self.old.reader.course start steps.old →
             HasPaid self.new.reader.course start steps.new }
     {
         let expected = self.reader.due(steps);
-        self.found = Found::Wrong {
-            line: self.lines.count().saturating_add(1),
-            expected,
-        };
+        self.found = Found::Wrong { line, expected };
+    }
+
+    // The line is too long.
+    fn overrun<L: Ledger>(&mut self, steps: &mut Steps<L>)
+        requires good { self.old.found ≡ Good }
+        ensures stands { (before text : List ℕ) → IsCut self.old TooLong before text → StandsFor self.new text }
+        ensures kept { IsUnchangedFor self.old.reader self.new.reader }
+        ensures paid { (start : ℕ) → HasPaid self.old.reader.course start steps.old →
+            HasPaid self.new.reader.course start steps.new }
+    {
+        let line = self.lines.count().saturating_add(1);
+        self.miss(line, steps);
     }
 
     // A line has ended and was counted, and this was told of it.
     #[inline(always)]
-    fn note(&mut self, taken: Result<Option<Expected>, Memory>) -> Result<(), Memory>
-        requires good { self.old.found ≡ Good }
-        ensures is { self.new ≡ record self.old { found = found_with self.old.lines.count taken } }
+    fn note<L: Ledger>(
+        &mut self,
+        taken: Result<bool, Memory>,
+        steps: &mut Steps<L>,
+    ) -> Result<(), Memory>
+        ensures notes { Notes self.old self.new taken }
+        ensures kept { IsUnchangedFor self.old.reader self.new.reader }
         ensures ok { OnOk result (IsOk taken) }
         ensures err { OnErr result (IsErr taken) }
+        ensures failed { OnErr result (self.new.found ≡ NoMemory) }
+        ensures paid { (start : ℕ) → HasPaid self.old.reader.course start steps.old →
+            HasPaid self.new.reader.course start steps.new }
     {
-        match taken {
-            Ok(None) => Ok(()),
-            Ok(Some(expected)) => {
-                self.found = Found::Wrong {
-                    line: self.lines.count(),
-                    expected,
-                };
-                Ok(())
-            }
-            Err(error) => {
-                self.found = Found::NoMemory;
-                Err(error)
-            }
+        let Ok(good) = taken else {
+            self.found = Found::NoMemory;
+            return Err(Memory);
+        };
+        if good {
+            return Ok(());
         }
+        let line = self.lines.count();
+        self.miss(line, steps);
+        Ok(())
     }
 
     // The line that is kept has ended.
@@ -173,7 +183,7 @@ impl Judge {
             HasPaid self.new.reader.course start steps.new }
     {
         let taken = self.reader.take(self.lines.line(), steps);
-        self.note(taken)
+        self.note(taken, steps)
     }
 
     // The next bytes are a whole line, where no line has begun and none is wrong so far. It is read where it stands.
@@ -188,7 +198,7 @@ impl Judge {
     {
         let line = self.lines.pass(bytes);
         let taken = self.reader.take(line, steps);
-        self.note(taken)
+        self.note(taken, steps)
     }
 
     // The next byte, where no line is wrong so far.

@@ -94,7 +94,7 @@ impl Reader {
     ghost use Rattle.ready_jobs.specs.Course.{GoesOnFrom};
     ghost use Rattle.ready_jobs.specs.Spending.{HasPaid};
     ghost use Rattle.trace_judge.specs.Reads.{Reads, ReadsAhead, StaysAhead, Goes, Ends, Waited, CanRelease, Took};
-    ghost use Rattle.trace_judge.specs.Reads.{TookLine, IsUnchangedFor, expected_of, releases_in, jobs_in};
+    ghost use Rattle.trace_judge.specs.Reads.{IsUnchangedFor, expected_of, releases_in, jobs_in};
     ghost use Rattle.trace_judge.specs.Reads.{job_lines_in};
 
     /// No line. Where `keep` is true, the steps of the run are kept.
@@ -222,6 +222,7 @@ impl Reader {
     }
 
     // The next line is that of the printed step that is due.
+    #[inline(always)]
     fn follow<L: Ledger>(&mut self, event: &Event, steps: &mut Steps<L>) -> bool
         requires going { self.old.stage ≡ Going }
         requires form { HasForm (Step event.now) }
@@ -231,19 +232,16 @@ impl Reader {
         ensures paid { (start : ℕ) → HasPaid self.old.course start steps.old →
             HasPaid self.new.course start steps.new }
     {
-        let due = self.course.upcoming(steps);
-        if !is_same(&due, event) {
+        if !self.course.follow(event, steps) {
             return false;
         }
-        if is_end(&due) {
+        keep_step(self.keep, &mut self.steps, *event);
+        if is_end(event) {
             self.stage = Stage::Ended;
-            keep_step(self.keep, &mut self.steps, due);
             return true;
         }
-        let floor = floor_after(&due, self.course.clock());
+        let floor = floor_after(event, self.course.clock());
         self.floor = self.floor.max(floor);
-        self.course.take(&due, steps);
-        keep_step(self.keep, &mut self.steps, due);
         true
     }
 
@@ -353,6 +351,7 @@ impl Reader {
         ensures paid { (start : ℕ) → HasPaid self.old.course start steps.old →
             HasPaid self.new.course start steps.new }
     {
+        // What is kept of the lines is known where a field is read.
         let _ = &self.stage;
         if !self.may_admit(number, &job) {
             return Ok(false);
@@ -420,6 +419,7 @@ impl Reader {
         ensures paid { (start : ℕ) → HasPaid self.old.course start steps.old →
             HasPaid self.new.course start steps.new }
     {
+        // What is kept of the lines is known where a field is read.
         let _ = &self.stage;
         if !self.may_refuse(at, release, work, deadline, value, cause) {
             return false;
@@ -448,6 +448,7 @@ impl Reader {
     }
 
     // A line of a step.
+    #[inline(always)]
     fn take_step<L: Ledger>(&mut self, event: &Event, steps: &mut Steps<L>) -> Result<bool, Memory>
         requires going { self.old.stage ≡ Going }
         requires form { HasForm (Step event.now) }
@@ -461,12 +462,7 @@ impl Reader {
     {
         match event {
             Event::Release { number, job } => self.take_release(*number, *job, steps),
-            Event::Run { .. } => Ok(self.follow(event, steps)),
-            Event::Preempt { .. } => Ok(self.follow(event, steps)),
-            Event::Take { .. } => Ok(self.follow(event, steps)),
-            Event::Complete { .. } => Ok(self.follow(event, steps)),
-            Event::Abandon { .. } => Ok(self.follow(event, steps)),
-            Event::End { .. } => Ok(self.follow(event, steps)),
+            _ => Ok(self.follow(event, steps)),
         }
     }
 
@@ -522,14 +518,10 @@ impl Reader {
         }
     }
 
-    /// The next line. Where it doesn't go on as a trace does, this gives what is due in its place, and further lines
+    /// The next line. Where it doesn't go on as a trace does, `due` gives what is due in its place, and further lines
     /// aren't to be taken.
-    pub fn take<L: Ledger>(
-        &mut self,
-        line: &[u8],
-        steps: &mut Steps<L>,
-    ) -> Result<Option<Expected>, Memory>
-        ensures took { IfOk result (TookLine self.old self.new line.now) }
+    pub fn take<L: Ledger>(&mut self, line: &[u8], steps: &mut Steps<L>) -> Result<bool, Memory>
+        ensures took { IfOk result (Took self.old self.new line.now) }
         ensures room { job_lines_in line.now ≤ self.old.spare → IsOk result }
         ensures spare { self.old.spare ≤ self.new.spare + job_lines_in line.now }
         ensures keep { self.new.keep ≡ self.old.keep }
@@ -537,13 +529,10 @@ impl Reader {
         ensures paid { (start : ℕ) → HasPaid self.old.course start steps.old →
             HasPaid self.new.course start steps.new }
     {
-        let Ok(read) = read_trace_line(line) else {
-            return Ok(Some(self.due(steps)));
-        };
-        if self.take_read(&read, steps)? {
-            return Ok(None);
+        match read_trace_line(line) {
+            Ok(read) => self.take_read(&read, steps),
+            Err(_) => Ok(false),
         }
-        Ok(Some(self.due(steps)))
     }
 }
 

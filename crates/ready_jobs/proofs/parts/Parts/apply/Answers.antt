@@ -1,21 +1,77 @@
-use Rattle.std.proofs.Common.{◌+◌, ◌≤◌, inl, inr, sym, subst}
+use Rattle.std.proofs.Common.{◌+◌, ◌≤◌, refl, subst}
+use Rattle.dover_model.specs.declared.events.Event.TheVariants.{Run, Preempt, Take, Complete, Abandon}
 use Rattle.dover_model.specs.Step.{Prints}
 use Rattle.queued_jobs.specs.Costs.{cost_of}
 use Rattle.ready_jobs.specs.Parts.{state_of}
-use Rattle.ready_jobs.specs.Changed.{IsNext}
-use Rattle.ready_jobs.proofs.Applied.{leaves_fewer, none_comes, none_ends}
+use Rattle.ready_jobs.specs.declared.deeds.Deed.TheVariants as deeds
+use Rattle.ready_jobs.proofs.Applied.{leaves_fewer}
+use Rattle.ready_jobs.proofs.Doing.{does_print, does_next}
 use Rattle.ready_jobs.proofs.parts.Parts.apply.Goals as goal
 
-pub unreachable-requires : goal.unreachable-requires
-unreachable-requires g c =
-    let p = c.args.self.now in
-    elim c.in-Release.is [
-      | inl it ↦ none_comes p c.laws.ensures.roles c.requires.once it.0 it.1 (subst (IsNext p) it.2 c.requires.next)
-      | inr it ↦ none_ends p c.laws.ensures.roles c.requires.once it.0 (subst (IsNext p) it.1 c.requires.next)
-    ]
+pub resume_next-requires-clause-next : goal.resume_next-requires-clause-next
+resume_next-requires-clause-next g c =
+    let p = c.args.self.now in (
+      p.clock,
+      does_next p c.args.deed (deeds.Resume c.in-Resume.number) c.in-Resume.is (Run p.clock c.in-Resume.number)
+          c.requires.does.0 refl c.requires.does.1,
+    )
 
-pub returns-in-Run-clause-fewer : goal.returns-in-Run-clause-fewer
-returns-in-Run-clause-fewer g c = leaves_fewer _ _ _ _ (c.run_next.ensures.leaves 0)
+pub start_next-requires-clause-next : goal.start_next-requires-clause-next
+start_next-requires-clause-next g c =
+    let p = c.args.self.now in (
+      p.clock,
+      does_next p c.args.deed (deeds.Start c.in-Start.number) c.in-Start.is (Run p.clock c.in-Start.number)
+          c.requires.does.0 refl c.requires.does.1,
+    )
+
+pub begin_next-requires-clause-next : goal.begin_next-requires-clause-next
+begin_next-requires-clause-next g c =
+    let p = c.args.self.now in (
+      p.clock,
+      does_next p c.args.deed (deeds.Begin c.in-Begin.number) c.in-Begin.is (Run p.clock c.in-Begin.number)
+          c.requires.does.0 refl c.requires.does.1,
+    )
+
+pub preempt_next-requires-clause-next : goal.preempt_next-requires-clause-next
+preempt_next-requires-clause-next g c =
+    let p = c.args.self.now in (
+      p.clock,
+      does_next p c.args.deed (deeds.Preempt c.in-Preempt.stops c.in-Preempt.starts) c.in-Preempt.is (Preempt p.clock c.in-Preempt.stops c.in-Preempt.starts)
+          c.requires.does.0 refl c.requires.does.1,
+    )
+
+pub take_next-requires-clause-next : goal.take_next-requires-clause-next
+take_next-requires-clause-next g c =
+    let p = c.args.self.now in (
+      p.clock,
+      does_next p c.args.deed (deeds.Take c.in-Take.stops c.in-Take.starts) c.in-Take.is (Take p.clock c.in-Take.stops c.in-Take.starts)
+          c.requires.does.0 refl c.requires.does.1,
+    )
+
+pub complete_next-requires-clause-next : goal.complete_next-requires-clause-next
+complete_next-requires-clause-next g c =
+    let p = c.args.self.now in (
+      p.clock,
+      does_next p c.args.deed (deeds.Complete c.in-Complete.number) c.in-Complete.is (Complete p.clock c.in-Complete.number)
+          c.requires.does.0 refl c.requires.does.1,
+    )
+
+pub abandon_next-requires-clause-next : goal.abandon_next-requires-clause-next
+abandon_next-requires-clause-next g c =
+    let p = c.args.self.now in (
+      p.clock,
+      does_next p c.args.deed (deeds.Abandon c.in-Abandon.number) c.in-Abandon.is (Abandon p.clock c.in-Abandon.number)
+          c.requires.does.0 refl c.requires.does.1,
+    )
+
+pub returns-in-Resume-clause-fewer : goal.returns-in-Resume-clause-fewer
+returns-in-Resume-clause-fewer g c = leaves_fewer _ _ _ _ (c.resume_next.ensures.leaves 0)
+
+pub returns-in-Start-clause-fewer : goal.returns-in-Start-clause-fewer
+returns-in-Start-clause-fewer g c = leaves_fewer _ _ _ _ (c.start_next.ensures.leaves 0)
+
+pub returns-in-Begin-clause-fewer : goal.returns-in-Begin-clause-fewer
+returns-in-Begin-clause-fewer g c = leaves_fewer _ _ _ _ (c.begin_next.ensures.leaves 0)
 
 pub returns-in-Preempt-clause-fewer : goal.returns-in-Preempt-clause-fewer
 returns-in-Preempt-clause-fewer g c = leaves_fewer _ _ _ _ (c.preempt_next.ensures.leaves 0)
@@ -29,17 +85,23 @@ returns-in-Complete-clause-fewer g c = leaves_fewer _ _ _ _ (c.complete_next.ens
 pub returns-in-Abandon-clause-fewer : goal.returns-in-Abandon-clause-fewer
 returns-in-Abandon-clause-fewer g c = leaves_fewer _ _ _ _ (c.abandon_next.ensures.leaves 0)
 
-pub returns-in-Run-clause-cost : goal.returns-in-Run-clause-cost
-returns-in-Run-clause-cost g c d fits =
-    subst (λ e. c.run_next.new.steps ≤ c.args.steps.now + cost_of d (state_of c.args.self.now) (Prints e))
-    (sym c.in-Run.is) (c.run_next.ensures.cost c.in-Run.at d fits)
+pub returns-in-Start-clause-cost : goal.returns-in-Start-clause-cost
+returns-in-Start-clause-cost g c e d does fits =
+    let p = c.args.self.now in
+    subst (λ x. c.start_next.new.steps ≤ c.args.steps.now + cost_of d (state_of p) (Prints x))
+    (does_print p c.args.deed (deeds.Start c.in-Start.number) c.in-Start.is (Run p.clock c.in-Start.number) e refl does)
+    (c.start_next.ensures.cost p.clock d fits)
 
 pub returns-in-Take-clause-cost : goal.returns-in-Take-clause-cost
-returns-in-Take-clause-cost g c d fits =
-    subst (λ e. c.take_next.new.steps ≤ c.args.steps.now + cost_of d (state_of c.args.self.now) (Prints e))
-    (sym c.in-Take.is) (c.take_next.ensures.cost c.in-Take.at d fits)
+returns-in-Take-clause-cost g c e d does fits =
+    let p = c.args.self.now in
+    subst (λ x. c.take_next.new.steps ≤ c.args.steps.now + cost_of d (state_of p) (Prints x))
+    (does_print p c.args.deed (deeds.Take c.in-Take.stops c.in-Take.starts) c.in-Take.is (Take p.clock c.in-Take.stops c.in-Take.starts) e refl does)
+    (c.take_next.ensures.cost p.clock d fits)
 
 pub returns-in-Abandon-clause-cost : goal.returns-in-Abandon-clause-cost
-returns-in-Abandon-clause-cost g c d fits =
-    subst (λ e. c.abandon_next.new.steps ≤ c.args.steps.now + cost_of d (state_of c.args.self.now) (Prints e))
-    (sym c.in-Abandon.is) (c.abandon_next.ensures.cost c.in-Abandon.at d fits)
+returns-in-Abandon-clause-cost g c e d does fits =
+    let p = c.args.self.now in
+    subst (λ x. c.abandon_next.new.steps ≤ c.args.steps.now + cost_of d (state_of p) (Prints x))
+    (does_print p c.args.deed (deeds.Abandon c.in-Abandon.number) c.in-Abandon.is (Abandon p.clock c.in-Abandon.number) e refl does)
+    (c.abandon_next.ensures.cost p.clock d fits)

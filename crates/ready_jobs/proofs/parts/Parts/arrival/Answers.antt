@@ -4,7 +4,7 @@ use Rattle.ready_jobs.specs.Parts.{state_of}
 use Rattle.ready_jobs.proofs.Seeing.{seen_coming}
 use Rattle.ready_jobs.proofs.parts.Parts.arrival.Goals as goal
 
-pub returns : goal.returns
-returns c =
+pub returns-clause-is : goal.returns-clause-is
+returns-clause-is c =
     let p = c.args.self.now in
     sym (ap (arrival (view p.version (state_of p))) (seen_coming p c.laws.ensures.roles))

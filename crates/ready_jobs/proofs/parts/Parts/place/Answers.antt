@@ -10,13 +10,13 @@ pub wait-requires : goal.wait-requires
 wait-requires g c = (
   record { ratio = c.args.k; version = c.args.self.now.version },
   c.in-Wait.number,
-  sym c.open_step-deed.ensures ∙ ap (step_at c.args.self.now.clock) c.in-Wait.is,
+  sym c.open_step-deed.ensures.is ∙ ap (step_at c.args.self.now.clock) c.in-Wait.is,
 )
 
 pub returns-in-Wait-clause-settles : goal.returns-in-Wait-clause-settles
 returns-in-Wait-clause-settles g c mark =
     waits_settles c.args.k mark c.args.self.now c.wait.new.self c.in-Wait.number c.laws.ensures.roles
-    (sym c.open_step-deed.ensures ∙ ap (step_at c.args.self.now.clock) c.in-Wait.is) c.wait.ensures.fresh
+    (sym c.open_step-deed.ensures.is ∙ ap (step_at c.args.self.now.clock) c.in-Wait.is) c.wait.ensures.fresh
     c.wait.ensures.kept
 
 pub returns-in-Wait-clause-fewer : goal.returns-in-Wait-clause-fewer

@@ -67,7 +67,7 @@ returns-clause-stops c silent =
     let stops = jump_stops c.args.k c.args.mark n p roles it c.requires.low c.requires.stale
     (step_at c.tick.new.self.clock c.open_step.result)
     (sym (ap (λ (q : Parted). open_step (record { ratio = c.args.k; version = q.version }) (state_of q)) c.tick.ensures)
-    ∙ sym c.open_step.ensures) silent in
+    ∙ sym c.open_step.ensures.is) silent in
     (stops.0, omega (arith, stops.1, ap (λ (q : Parted). q.clock) c.tick.ensures))
 
 pub returns-clause-low : goal.returns-clause-low

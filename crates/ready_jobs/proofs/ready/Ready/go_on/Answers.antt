@@ -1,7 +1,7 @@
-use Rattle.std.proofs.Common.{◌<◌, length, ap, sym, ◌∙◌, subst}
+use Rattle.std.proofs.Common.{◌<◌, length, ap, sym, subst}
 use Rattle.ready_jobs.specs.Deeds.{step_at}
 use Rattle.ready_jobs.specs.Parts.{Parted}
-use Rattle.ready_jobs.specs.Course.{Course, Follows, Reached, course_of}
+use Rattle.ready_jobs.specs.Course.{Course, Follows}
 use Rattle.ready_jobs.specs.Spending.{HasPaid}
 use Rattle.ready_jobs.proofs.Courses.{course_part, course_reaches, reaches_course}
 use Rattle.ready_jobs.proofs.Spending.{silent_pays}
@@ -26,14 +26,12 @@ pub returns-clause-reached : goal.returns-clause-reached
 returns-clause-reached g c K z follows =
     let i = c.self.inside in
     let q = c.settle-deed.new.self in
-    let step = c.step_at.ensures ∙ ap (λ n. step_at n c.settle-deed.result) c.clock.ensures in
-    subst (Reached (course_of i.ratio q i.jobs i.done) K z c.args.mark) (sym step)
-    (course_reaches i.ratio i.parts q i.jobs i.done c.args.mark (step_at q.clock c.settle-deed.result)
+    course_reaches i.ratio i.parts q i.jobs i.done c.args.mark (step_at q.clock c.settle-deed.result)
     (ap (λ (p : Parted). p.version) c.settle-deed.ensures.kept)
     (subst (λ (d : Course). 0 < length d.ready) (sym c.self.view_is) c.requires.some)
     c.settle-deed.ensures.settles c.settle-deed.ensures.step c.settle-deed.ensures.stops c.settle-deed.ensures.low
     c.requires.known
-    K z (subst (λ d. Follows d K z) (sym c.self.view_is) follows))
+    K z (subst (λ d. Follows d K z) (sym c.self.view_is) follows)
 
 pub returns-clause-paid : goal.returns-clause-paid
 returns-clause-paid g c start paid =

@@ -60,8 +60,8 @@ returns-in-TooLong-clause-fed g c = record {
       (is_cut c.args.self.now c.push.new.self TooLong c.args.byte text
       (stands_good c.args.self.now text c.requires.good stands)
       c.push.ensures.stands (sym c.in-TooLong.is ∙ c.push.ensures.last) c.in-TooLong.ensures.cut);
-  spare = λ text stands. omega (arith, c.overrun.ensures.spare, named_more text (c.args.byte ∷ []));
-  keep = c.overrun.ensures.keep;
+  spare = λ text stands. omega (arith, c.overrun.ensures.kept.spare, named_more text (c.args.byte ∷ []));
+  keep = c.overrun.ensures.kept.keep;
 }
 
 pub returns-in-Line-clause-paid : goal.returns-in-Line-clause-paid
@@ -88,5 +88,5 @@ returns-in-More-clause-paid g c = λ text start stands it. record {
 pub returns-in-TooLong-clause-paid : goal.returns-in-TooLong-clause-paid
 returns-in-TooLong-clause-paid g c = λ text start stands it. record {
   paid = c.overrun.ensures.paid start it.paid;
-  few = omega (arith, c.overrun.ensures.jobs, it.few, named_more text (c.args.byte ∷ []));
+  few = omega (arith, c.overrun.ensures.kept.jobs, it.few, named_more text (c.args.byte ∷ []));
 }

@@ -1,0 +1,22 @@
+use Rattle.std.proofs.Common.{sym, ap, ◌∙◌, subst}
+use Rattle.dover_model.specs.declared.events.Event.TheVariants.{End}
+use Rattle.ready_jobs.specs.Course.{Course, Takes}
+use Rattle.ready_jobs.proofs.Courses.{over_takes}
+use Rattle.ready_jobs.proofs.ready.Ready.step_on.Goals as goal
+
+pub returns-then-is_empty-clause-taken : goal.returns-then-is_empty-clause-taken
+returns-then-is_empty-clause-taken g c =
+    let now = c.args.self.now in
+    subst (λ n. Takes now (End n) now) (sym (ap (λ (d : Course). d.done) c.self.view_is))
+    (over_takes now (sym (ap (λ (d : Course). d.ready) c.self.view_is) ∙ c.is_empty.ensures.0 c.if-is_empty.true))
+
+pub returns-clause-taken : goal.returns-clause-taken
+returns-clause-taken g c = record {
+  there = c.due_next-due.new.self;
+  comes = c.due_next-due.ensures.comes;
+  passes = c.take.ensures.after;
+  clock = ap (λ (d : Course). d.clock) c.take.ensures.kept;
+}
+
+pub returns-clause-paid : goal.returns-clause-paid
+returns-clause-paid g c start paid = c.take.ensures.paid start (c.due_next-due.ensures.paid start paid)

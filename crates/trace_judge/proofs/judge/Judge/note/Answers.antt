@@ -1,0 +1,18 @@
+use Rattle.std.proofs.Common.{ap, sym, ◌∙◌, subst, refl}
+use Rattle.std.specs.Prelude.{Ok}
+use Rattle.trace_judge.specs.declared.judge.Found.TheVariants.{NoMemory}
+use Rattle.trace_judge.specs.Judging.{Notes, Misses}
+use Rattle.trace_judge.proofs.judge.Judge.note.Goals as goal
+
+pub returns-in_default-clause-notes : goal.returns-in_default-clause-notes
+returns-in_default-clause-notes g c =
+    subst (Notes c.args.self.now (record c.args.self.now { found = NoMemory })) (sym c.in_default.is) refl
+
+pub returns-then-good-clause-notes : goal.returns-then-good-clause-notes
+returns-then-good-clause-notes g c =
+    subst (Notes c.args.self.now c.args.self.now) (sym (c.in-Ok.is ∙ ap Ok c.if-good.true)) refl
+
+pub returns-clause-notes : goal.returns-clause-notes
+returns-clause-notes g c =
+    subst (Notes c.args.self.now c.miss.new.self) (sym (c.in-Ok.is ∙ ap Ok c.if-good.false))
+    (subst (Misses c.args.self.now c.miss.new.self) c.count-line.ensures c.miss.ensures.missed)
