@@ -247,7 +247,8 @@ settled_path rules mark (x ∷ xs) s run = let it = settled_path rules mark xs (
 not_over : (tasks : List Task) (k : Task) (more : List Task) → is_over k ≡ false
     → list_all is_over (tasks ++ (k ∷ more)) ≡ false
 not_over [] k more out = ap (λ b. b && list_all is_over more) out
-not_over (t ∷ tasks) k more out = ap (λ b. is_over t && b) (not_over tasks k more out) ∙ and_right (is_over t) false refl
+not_over (t ∷ tasks) k more out =
+    ap (λ b. is_over t && b) (not_over tasks k more out) ∙ and_right (is_over t) false refl
 
 module _ (J : Instance) (valid : IsValid J) (mark : ℕ) (j : JobFacts) (js : List JobFacts)
     (late : NoneBefore mark (j ∷ js)) where

@@ -70,7 +70,8 @@ module _ (s : State) (sound : IsSound s) (job : JobFacts) (ahead : s.clock ≤ j
     room = subst (λ set. Each (λ t. is_privileged t ≡ true → s.clock + demand_up_to set t ≤ t.job.deadline)
         (s.tasks ++ (new ∷ [])))
         (sym (filter_push is_privileged s.tasks new refl))
-        (each_behind (λ t. is_privileged t ≡ true → s.clock + demand_up_to (privileged s) t ≤ t.job.deadline) s.tasks new
+        (each_behind (λ t. is_privileged t ≡ true → s.clock + demand_up_to (privileged s) t ≤ t.job.deadline) s.tasks
+        new
         sound.room (λ e. never e));
     fresh_busy = two_more (λ t u. t.role ≡ Fresh → u.role ≡ Running → 1 ≤ left u) s.tasks new sound.fresh_busy
         (λ t m _ e. absurd (cc)) (λ t m e _. absurd (cc)) (λ e _. absurd (cc));

@@ -103,7 +103,8 @@ greatest [] d = (omega arith, λ j member. absurd member)
 greatest (j ∷ jobs) d = with_first (greatest jobs (later_due d j)) where
   with_first : (later_due d j ≤ fold later_due (later_due d j) jobs)
       × Each (λ i. i.deadline ≤ fold later_due (later_due d j) jobs) jobs
-      → (d ≤ fold later_due (later_due d j) jobs) × Each (λ i. i.deadline ≤ fold later_due (later_due d j) jobs) (j ∷ jobs)
+      → (d ≤ fold later_due (later_due d j) jobs)
+      × Each (λ i. i.deadline ≤ fold later_due (later_due d j) jobs) (j ∷ jobs)
   with_first rest = (omega (arith, (due_least d j).0, rest.0), each rest.0 rest.1) where
     each : later_due d j ≤ fold later_due (later_due d j) jobs
         → Each (λ i. i.deadline ≤ fold later_due (later_due d j) jobs) jobs

@@ -83,6 +83,7 @@ next_form ls S floor z sees e y next =
     passes_keeps (instance_of S) sees.valid.jobs S.rules y.clock next.steps z y (sees_keeps ls S floor z sees)
     (leads_passes S.rules y.clock next.steps z y (idles_leads S.rules next.steps z y next.idles)) in (
       all_at (λ e. AreShort (step_numbers e)) (printed_of sees.steps) e it.0
-          (subst (AllByRecursion (λ e. AreShort (step_numbers e))) it.1 (printed_short (instance_of S) sees.valid.jobs)),
+          (subst (AllByRecursion (λ e. AreShort (step_numbers e))) it.1
+          (printed_short (instance_of S) sees.valid.jobs)),
       subst MoveNames next.prints (step_names (instance_of S) sees.valid.jobs y keeps_y S.rules),
     )

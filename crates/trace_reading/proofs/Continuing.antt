@@ -447,7 +447,8 @@ module _ (ls : List (List ℕ)) (S : Session) (floor : ℕ) (z : State) (sees : 
     all_settled =
         let it : (ys : List Step) × IsSettledRun S.rules r.at z ys × (settled_steps J r.at ≡ sees.steps ++ ys) =
         settled_from_floor r.at may.refused.no_fall in
-        let none : printed_of it.0 ≡ [] = ap printed_of (one_settled_run S.rules r.at it.0 (may.waits.steps ++ []) z it.1
+        let none : printed_of it.0 ≡ [] = ap printed_of
+        (one_settled_run S.rules r.at it.0 (may.waits.steps ++ []) z it.1
         (passes_settled S.rules r.at may.waits.steps [] z y
         (settles_passes S.rules r.at may.waits.steps z y may.waits.settles) may.waits.barrier)
         ∙ append-nil may.waits.steps) ∙ settles_silent S.rules r.at may.waits.steps z y may.waits.settles in
