@@ -2,15 +2,29 @@
 #![tactic(auto)]
 
 #[cfg(test)]
+mod asked_questions;
+#[cfg(test)]
 mod calls;
 #[cfg(test)]
 mod drawn_feeds;
 #[cfg(test)]
+mod drawn_runs;
+#[cfg(test)]
 mod joined_feeds;
+#[cfg(test)]
+mod judged_texts;
+#[cfg(test)]
+mod laned_feeds;
 #[cfg(test)]
 mod paused_feeds;
 #[cfg(test)]
+mod stated_lists;
+#[cfg(test)]
+mod told_reports;
+#[cfg(test)]
 mod unrolled_tasks;
+#[cfg(test)]
+mod viewed_runs;
 #[cfg(test)]
 mod whole_words;
 #[cfg(test)]

@@ -1,5 +1,5 @@
 //! Rows of words: an input, how the call ends, and what it writes.
-use crate::calls::{AT_ONCE, Cut, tells, words_of};
+use crate::calls::{AT_ONCE, Cut, agree, call_over, tells, words_of};
 use dover_port::Status;
 use std::test::Fail;
 
@@ -192,48 +192,51 @@ const RESUMES: [(&str, Status, &str); 25] = [
     ),
 ];
 
-/// How many bytes a read gives.
-const SIZES: [usize; 3] = [4096, 1, 7];
-
-/// Whether the words end so over an input in pieces of each size, and write this.
-fn tells_in(
-    rt: &HostRuntime,
-    words: &[String],
-    input: &str,
-    sizes: &[usize],
-    status: Status,
-    output: &str,
-) -> Result<bool, Fail> {
-    for size in sizes {
-        let cut = Cut {
-            piece: *size,
-            ..AT_ONCE
-        };
-        if !tells(rt, words, input.as_bytes(), cut, status, output)? {
-            return Ok(false);
-        }
-    }
-    Ok(true)
-}
-
-/// Whether the words do what each row says, in pieces of each size.
-fn agree(
-    rt: &HostRuntime,
-    words: &[&'static str],
-    rows: &[(&str, Status, &str)],
-) -> Result<bool, Fail> {
-    let words = words_of(rt.alloc(), words)?;
-    for (input, status, output) in rows {
-        if !tells_in(rt, &words, *input, &SIZES, *status, *output)? {
-            return Ok(false);
-        }
-    }
-    Ok(true)
-}
+/// Further inputs, how each ends, and what is written for it.
+const MORE: [(&str, Status, &str); 9] = [
+    (
+        "k 1 1\njob 0 4 10 4\ntick 2\n",
+        Status::Done,
+        "dover 1 1 1\njob 0 0 4 10 4\nrun 0 0\nsnapshot 1 1 1 3 2 1\nstate 0 running 2 0 4 10 4\nresume\n",
+    ),
+    (
+        "k 1 1\n",
+        Status::Done,
+        "dover 1 1 1\nsnapshot 1 1 1 1 0 0\nresume\n",
+    ),
+    (
+        "k 1 1 2\njob 0 4 10 4\njob 1 1 1 1\n",
+        Status::Done,
+        "dover 2 1 1\njob 0 0 4 10 4\nrun 0 0\nrefuse 0 1 1 1 1 job\nsnapshot 2 1 1 3 0 1\n\
+         state 0 running 0 0 4 10 4\nresume\n",
+    ),
+    ("k 1 1\nend\n", Status::Done, "dover 1 1 1\nend 0\n"),
+    ("", Status::Refused, "refused 1 short\n"),
+    (
+        "k 1 1\nx",
+        Status::Refused,
+        "dover 1 1 1\nrefused 2 short\n",
+    ),
+    ("job 0 1 1 1\n", Status::Refused, "refused 1 declared\n"),
+    (
+        "k 1 1\njob 0 10 10 10\njob 0 21 21 21\ntick 3\n",
+        Status::Done,
+        "dover 1 1 1\njob 0 0 10 10 10\nrun 0 0\njob 1 0 21 21 21\ntake 0 0 1\nabandon 0 0\nsnapshot 1 1 1 4 3 2\n\
+         state 0 gone 0 0 10 10 10\nstate 1 running 3 0 21 21 21\nresume\n",
+    ),
+    (
+        "k 1 1\njob 0 2 2 2\njob 2 10 30 10\njob 3 2 6 2\njob 3 9 14 9\njob 3 8 11 8\ntick 4\n",
+        Status::Done,
+        "dover 1 1 1\njob 0 0 2 2 2\nrun 0 0\ncomplete 2 0\njob 1 2 10 30 10\nrun 2 1\njob 2 3 2 6 2\n\
+         preempt 3 1 2\njob 3 3 9 14 9\njob 4 3 8 11 8\nabandon 3 4\nsnapshot 1 1 1 7 4 5\nstate 0 done 2 0 2 2 2\n\
+         state 1 held 1 2 10 30 10\nstate 2 running 1 3 2 6 2\nstate 3 waiting 0 3 9 14 9\nstate 4 gone 0 3 8 11 8\n\
+         resume\n",
+    ),
+];
 
 #[test]
 fn feeds_are_paused(rt: HostRuntime) -> Result<(), Fail> {
-    assert!(rt; agree(&rt, &["pause"], &PAUSES)?);
+    assert!(rt; agree(&rt, &["pause"], &PAUSES)? && agree(&rt, &["pause"], &MORE)?);
     Ok(())
 }
 
@@ -324,5 +327,31 @@ fn all_fail(
 #[test]
 fn failing_calls(rt: HostRuntime) -> Result<(), Fail> {
     assert!(rt; all_fail(&rt, &FAILS)?);
+    Ok(())
+}
+
+/// Whether the write of this number ends the call, and what was written is a proper front of the text.
+fn ends_unwritten(
+    rt: &HostRuntime,
+    feed: &'static str,
+    write: u32,
+    text: &str,
+) -> Result<bool, Fail> {
+    let cut = Cut {
+        write,
+        most: 30,
+        ..AT_ONCE
+    };
+    let called = call_over(rt, &["pause"], feed.as_bytes(), cut)?;
+    let written = called.written.as_slice();
+    let is_front = written.len() < text.len() && text.as_bytes().starts_with(written);
+    Ok(called.status == Status::WriteFault && is_front)
+}
+
+#[test]
+fn a_write_fails(rt: HostRuntime) -> Result<(), Fail> {
+    for write in 1..4 {
+        assert!(rt; ends_unwritten(&rt, MORE[0].0, write, MORE[0].2)?);
+    }
     Ok(())
 }

@@ -1,7 +1,7 @@
 //! The word `unroll`: rows of task texts, and what is unrolled is served.
 use crate::calls;
-use crate::calls::{AT_ONCE, Cut, port, tells, words_of};
-use dover_port::{Calls, MemoryPort, Status};
+use crate::calls::{AT_ONCE, CUTS, Cut, is_last, port, tells_in, words_of};
+use dover_port::{MemoryPort, Status};
 use std::test::Fail;
 
 /// The tick up to which jobs are released, a task text, how `unroll` ends, and what it writes.
@@ -160,38 +160,14 @@ fn answer(rt: &HostRuntime, texts: &[&'static str], port: &mut MemoryPort) -> Re
     Ok(calls::answer(rt, &words, port))
 }
 
-/// How many bytes a read gives.
-const SIZES: [usize; 3] = [4096, 1, 7];
-
-/// Whether the tasks are unrolled up to this tick so, in pieces of each size.
-fn tells_in(
-    rt: &HostRuntime,
-    until: &'static str,
-    text: &str,
-    sizes: &[usize],
-    status: Status,
-    written: &str,
-) -> Result<bool, Fail> {
-    let words = words_of(rt.alloc(), &["unroll", until])?;
-    for size in sizes {
-        let cut = Cut {
-            piece: *size,
-            ..AT_ONCE
-        };
-        if !tells(rt, &words, text.as_bytes(), cut, status, written)? {
-            return Ok(false);
-        }
-    }
-    Ok(true)
-}
-
-/// Whether each text is unrolled so, in pieces of each size.
+/// Whether each text is unrolled so, in each cut.
 fn agree(
     rt: &HostRuntime,
     rows: &[(&'static str, &'static str, Status, &'static str)],
 ) -> Result<bool, Fail> {
     for (until, text, status, written) in rows {
-        if !tells_in(rt, *until, *text, &SIZES, *status, *written)? {
+        let words = words_of(rt.alloc(), &["unroll", *until])?;
+        if !tells_in(rt, &words, *text, &CUTS, *status, *written)? {
             return Ok(false);
         }
     }
@@ -239,21 +215,21 @@ fn what_is_unrolled_is_served(rt: HostRuntime) -> Result<(), Fail> {
 }
 
 /// Whether the call over a port that fails so ends with this status, writes nothing, and makes no call behind it.
-fn is_last(rt: &HostRuntime, read: u32, write: u32, status: Status) -> Result<bool, Fail> {
+fn is_last_call(rt: &HostRuntime, read: u32, write: u32, status: Status) -> Result<bool, Fail> {
     let cut = Cut {
         piece: 16,
         read,
         write,
         ..AT_ONCE
     };
-    let mut port = port(rt.alloc(), CAMERA.as_bytes(), cut)?;
-    let ended = answer(rt, &["unroll", "130"], &mut port)?;
-    Ok(ended == status && port.written().is_empty() && port.calls() == Calls::LastFailed)
+    is_last(rt, &["unroll", "130"], CAMERA, cut, status)
 }
 
 #[test]
 fn calls_that_fail(rt: HostRuntime) -> Result<(), Fail> {
-    assert!(rt; is_last(&rt, 3, 0, Status::ReadFault)? && is_last(&rt, 0, 1, Status::WriteFault)?);
+    assert!(rt;
+        is_last_call(&rt, 3, 0, Status::ReadFault)? && is_last_call(&rt, 0, 1, Status::WriteFault)?
+    );
     Ok(())
 }
 

@@ -1,5 +1,8 @@
 //! `dover` over ports in memory: worked feeds and texts in several cuts, failing calls, wrong words.
-use crate::calls::{AT_ONCE, Cut, answer, call, pieces, port, tells, words_of};
+use crate::calls::{
+    AT_ONCE, CUTS, Failing, Row, agree, all_fail, answer, are_called, call, pieces, port, tells_in,
+    words_of,
+};
 use crate::wrong_texts::{ENDS, HEADERS, JOBS, LINES, REFUSED, STARTS};
 use dover_port::{MemoryPort, Status};
 use std::alloc::Global;
@@ -254,7 +257,7 @@ const TAKEN: &str =
     "dover 1 1 1\njob 0 0 3 30 3\nrun 0 0\njob 1 0 2 4 2\npreempt 0 0 1\njob 2 0 12 12 12\ntake 0 1 2\nabandon 2 1\ncomplete 12 2\nrun 12 0\ncomplete 15 0\nend 15\n";
 
 /// Words, what is read, how the call ends, and what is written.
-const CALLS: [(&[&str], &str, Status, &str); 26] = [
+const CALLS: [Row; 26] = [
     (
         &["report", "text"],
         TAKEN,
@@ -411,55 +414,15 @@ const CALLS: [(&[&str], &str, Status, &str); 26] = [
 const BAITING: &str =
     "k 1 1\njob 0 1 1 1\njob 0 3 3 3\njob 0 1 1 1\njob 1 1 2 1\njob 2 7 9 7\njob 2 1 3 1\njob 3 1 4 1\njob 4 1 5 1\njob 5 1 6 1\njob 6 1 7 1\njob 7 1 8 1\njob 8 15 23 15\njob 8 1 9 1\njob 9 1 10 1\njob 10 1 11 1\njob 11 1 12 1\njob 12 1 13 1\njob 13 1 14 1\njob 14 1 15 1\njob 15 1 16 1\njob 16 1 17 1\njob 17 1 18 1\njob 18 1 19 1\njob 19 1 20 1\njob 20 1 21 1\njob 21 1 22 1\njob 22 30 52 30\nend\n";
 
-/// How a text is cut: pieces of so many bytes, or with a seed above 0 of as many as it draws.
-const CUTS: [(usize, usize); 4] = [(4096, 0), (1, 0), (7, 3), (13, 11)];
-
-/// Whether the words end so over an input in each of these cuts, and write this.
-fn tells_in(
-    rt: &HostRuntime,
-    words: &[String],
-    input: &str,
-    cuts: &[(usize, usize)],
-    status: Status,
-    text: &str,
-) -> Result<bool, Fail> {
-    for (piece, seed) in cuts {
-        let cut = Cut {
-            piece: *piece,
-            seed: *seed,
-            ..AT_ONCE
-        };
-        if !tells(rt, words, input.as_bytes(), cut, status, text)? {
-            return Ok(false);
-        }
-    }
-    Ok(true)
-}
-
-/// Whether the word does what each row says, in each cut.
-fn agree(
-    rt: &HostRuntime,
-    word: &'static str,
-    rows: &[(&'static str, Status, &'static str)],
-) -> Result<bool, Fail> {
-    let words = words_of(rt.alloc(), &[word])?;
-    for (input, status, text) in rows {
-        if !tells_in(rt, &words, *input, &CUTS, *status, *text)? {
-            return Ok(false);
-        }
-    }
-    Ok(true)
-}
-
 #[test]
 fn feeds_and_their_traces(rt: HostRuntime) -> Result<(), Fail> {
-    assert!(rt; agree(&rt, "serve", &FEEDS)?);
+    assert!(rt; agree(&rt, &["serve"], &FEEDS)?);
     Ok(())
 }
 
 #[test]
 fn texts_and_their_verdicts(rt: HostRuntime) -> Result<(), Fail> {
-    assert!(rt; agree(&rt, "judge", &TEXTS)?);
+    assert!(rt; agree(&rt, &["judge"], &TEXTS)?);
     Ok(())
 }
 
@@ -492,10 +455,6 @@ fn wrong_refusals_and_lines(rt: HostRuntime) -> Result<(), Fail> {
     Ok(())
 }
 
-/// How a port fails: the bytes of a piece, the read and the write that fail, from 1 on, and 0 for none, and the bytes
-/// that a write takes at most.
-type Failing = (usize, u32, u32, usize);
-
 const FEED: &str = "k 1 1\njob 0 2 2 2\nend\n";
 
 const TICKS: &str = "k 1 1\njob 0 2 2 2\ntick 2\nend\n";
@@ -517,52 +476,15 @@ const FAILS: [(&str, Failing, Status, &str); 7] = [
     (TICKS, (25, 2, 0, 4096), Status::ReadFault, COMPLETED),
 ];
 
-/// Whether `serve` does what each row says.
-fn all_fail(rt: &HostRuntime, rows: &[(&str, Failing, Status, &str)]) -> Result<bool, Fail> {
-    let words = words_of(rt.alloc(), &["serve"])?;
-    for (feed, failing, status, text) in rows {
-        let (piece, read, write, most) = *failing;
-        let cut = Cut {
-            piece,
-            seed: 0,
-            read,
-            write,
-            most,
-        };
-        if !tells(rt, &words, feed.as_bytes(), cut, *status, *text)? {
-            return Ok(false);
-        }
-    }
-    Ok(true)
-}
-
 #[test]
 fn failing_calls(rt: HostRuntime) -> Result<(), Fail> {
-    assert!(rt; all_fail(&rt, &FAILS)?);
+    assert!(rt; all_fail(&rt, &["serve"], &FAILS)?);
     Ok(())
-}
-
-/// Whether the words of each row do what it says.
-fn are_called(
-    rt: &HostRuntime,
-    rows: &[(&'static [&'static str], &'static str, Status, &'static str)],
-) -> Result<bool, Fail> {
-    for (texts, input, status, output) in rows {
-        let words = words_of(rt.alloc(), *texts)?;
-        let cut = Cut {
-            piece: 7,
-            ..AT_ONCE
-        };
-        if !tells(rt, &words, input.as_bytes(), cut, *status, *output)? {
-            return Ok(false);
-        }
-    }
-    Ok(true)
 }
 
 #[test]
 fn words_and_what_they_write(rt: HostRuntime) -> Result<(), Fail> {
-    assert!(rt; are_called(&rt, &CALLS)?);
+    assert!(rt; are_called(&rt, &CALLS, &[(7, 0)])?);
     Ok(())
 }
 

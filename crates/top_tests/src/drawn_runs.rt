@@ -1,9 +1,6 @@
-//! The report as SVG, over ports in memory.
-use crate::told_reports::reported;
-use dover_port::{MemoryPort, Status};
-use report_word::Form;
-use run_view::Window;
-use std::alloc::Global;
+//! The report as SVG.
+use crate::calls::call;
+use dover_port::Status;
 use std::test::Fail;
 
 /// How texts and bars look, the same in each picture.
@@ -20,13 +17,13 @@ const STYLE: &str =
          .k{stroke:#b87a00;stroke-width:2}.x{stroke:#a33c00;stroke-width:2}\n\
          .C{fill:#0072b2}.L{fill:#d55e00}.Q{fill:#8a949e}</style>\n";
 
-/// Traces, the window that is asked for, and what stands in the picture before and behind its styles.
-const PICTURES: [(&str, Option<Window>, &str, &str); 5] = [
+/// Words, traces, and what stands in the picture before and behind its styles.
+const PICTURES: [(&[&str], &str, &str, &str); 5] = [
     // no job
     (
+        &["report", "svg"],
         "dover 1 1 1\n\
          end 0\n",
-        None,
         "<svg xmlns='http://www.w3.org/2000/svg' width='1400' height='290' viewBox='0 0 1400 290'>\n",
         "<rect width='1400' height='290' fill='#fff'/>\n\
          <text class='b' x='90' y='22'>jobs 0, completed 0 worth 0, abandoned 0 worth 0, taken 0, bound 0</text>\n\
@@ -74,12 +71,12 @@ const PICTURES: [(&str, Option<Window>, &str, &str); 5] = [
     ),
     // one job
     (
+        &["report", "svg"],
         "dover 1 1 1\n\
          job 0 0 2 2 2\n\
          run 0 0\n\
          complete 2 0\n\
          end 2\n",
-        None,
         "<svg xmlns='http://www.w3.org/2000/svg' width='1400' height='290' viewBox='0 0 1400 290'>\n",
         "<rect width='1400' height='290' fill='#fff'/>\n\
          <text class='b' x='90' y='22'>jobs 1, completed 1 worth 2, abandoned 0 worth 0, taken 0, bound 8</text>\n\
@@ -131,6 +128,7 @@ const PICTURES: [(&str, Option<Window>, &str, &str); 5] = [
     ),
     // a take
     (
+        &["report", "svg"],
         "dover 1 1 1\n\
          job 0 0 3 30 3\n\
          run 0 0\n\
@@ -143,7 +141,6 @@ const PICTURES: [(&str, Option<Window>, &str, &str); 5] = [
          run 12 0\n\
          complete 15 0\n\
          end 15\n",
-        None,
         "<svg xmlns='http://www.w3.org/2000/svg' width='1400' height='326' viewBox='0 0 1400 326'>\n",
         "<rect width='1400' height='326' fill='#fff'/>\n\
          <text class='b' x='90' y='22'>jobs 3, completed 2 worth 15, abandoned 1 worth 2, taken 1, bound 60</text>\n\
@@ -207,6 +204,7 @@ const PICTURES: [(&str, Option<Window>, &str, &str); 5] = [
     ),
     // a part of it
     (
+        &["report", "svg", "1", "11"],
         "dover 1 1 1\n\
          job 0 0 3 30 3\n\
          run 0 0\n\
@@ -219,7 +217,6 @@ const PICTURES: [(&str, Option<Window>, &str, &str); 5] = [
          run 12 0\n\
          complete 15 0\n\
          end 15\n",
-        Some(Window { from: 1, until: 11 }),
         "<svg xmlns='http://www.w3.org/2000/svg' width='1400' height='326' viewBox='0 0 1400 326'>\n",
         "<rect width='1400' height='326' fill='#fff'/>\n\
          <text class='b' x='90' y='22'>jobs 3, completed 2 worth 15, abandoned 1 worth 2, taken 1, bound 60</text>\n\
@@ -283,6 +280,7 @@ const PICTURES: [(&str, Option<Window>, &str, &str); 5] = [
     ),
     // a job that ran, and is abandoned
     (
+        &["report", "svg"],
         "dover 1 1 1\n\
          job 0 0 4 4 4\n\
          run 0 0\n\
@@ -291,7 +289,6 @@ const PICTURES: [(&str, Option<Window>, &str, &str); 5] = [
          abandon 1 0\n\
          complete 10 1\n\
          end 9\n",
-        None,
         "<svg xmlns='http://www.w3.org/2000/svg' width='1400' height='308' viewBox='0 0 1400 308'>\n",
         "<rect width='1400' height='308' fill='#fff'/>\n\
          <text class='b' x='90' y='22'>jobs 2, completed 1 worth 9, abandoned 1 worth 4, taken 1, bound 36</text>\n\
@@ -356,37 +353,34 @@ const PICTURES: [(&str, Option<Window>, &str, &str); 5] = [
     ),
 ];
 
-/// A port over the text in one piece.
-fn port(alloc: Global, text: &str) -> Result<MemoryPort, Fail> {
-    let piece = Vec::from_slice(alloc, text.as_bytes())?;
-    let mut script = Vec::new(alloc);
-    script.push(piece)?;
-    let none = Vec::new(alloc);
-    let never = Vec::new(alloc);
-    Ok(MemoryPort::new(alloc, script, none, never, 4096, 65_536)?)
-}
-
-/// Whether the trace has this picture, with the styles in it.
+/// Whether the words draw this picture of the trace, with the styles in it.
 fn is_drawn(
     rt: &HostRuntime,
-    text: &str,
-    window: Option<Window>,
+    words: &[&'static str],
+    trace: &str,
     front: &str,
     rest: &str,
 ) -> Result<bool, Fail> {
     let alloc = rt.alloc();
-    let mut port = port(alloc, text)?;
-    let answer = reported(rt, &mut port, Form::Svg(window));
+    let called = call(rt, words, trace.as_bytes(), 4096)?;
     let mut whole = Vec::from_slice(alloc, front.as_bytes())?;
     whole.extend_from_slice(STYLE.as_bytes())?;
     whole.extend_from_slice(rest.as_bytes())?;
-    Ok(answer == Status::Done && port.written() == whole.as_slice())
+    Ok(called.status == Status::Done && called.written.as_slice() == whole.as_slice())
 }
 
 /// Whether each trace has the picture beside it.
-fn are_drawn(rt: &HostRuntime, rows: &[(&str, Option<Window>, &str, &str)]) -> Result<bool, Fail> {
-    for (text, window, front, rest) in rows {
-        if !is_drawn(rt, *text, *window, *front, *rest)? {
+fn are_drawn(
+    rt: &HostRuntime,
+    rows: &[(
+        &'static [&'static str],
+        &'static str,
+        &'static str,
+        &'static str,
+    )],
+) -> Result<bool, Fail> {
+    for (words, trace, front, rest) in rows {
+        if !is_drawn(rt, *words, *trace, *front, *rest)? {
             return Ok(false);
         }
     }

@@ -1,15 +1,9 @@
-//! The two reports over ports in memory, in one piece and byte by byte, failing calls, and tables that are read back.
-ghost use Rattle.std.specs.Prelude.{◌≡◌, ◌<◌};
-
-use crate::ports::{Cut, pieces_of, port};
+//! The two reports: `report text`, and `report csv`, whose tables are read back.
+use crate::calls::{Failing, Row, all_fail, are_called, call};
 use csv::{Reader, StringRecord};
-use dover_port::{MemoryPort, Status};
-use report_word::{Form, report_word};
+use dover_port::Status;
 use std::alloc::Global;
-use std::marker::Brand;
-use std::sync::ledger::{Blank, Ledger};
 use std::test::Fail;
-use step_count::Steps;
 
 /// The trace of a run in which a job takes the processor.
 const TAKEN: &str =
@@ -45,24 +39,24 @@ const MINUTE: &str =
         end 8555\n";
 
 /// Texts, the form that is asked for, how each ends, and what is written for it.
-const TEXTS: [(&str, Form, Status, &str); 7] = [
+const TEXTS: [Row; 7] = [
     (
+        &["report", "text"],
         TAKEN,
-        Form::Text,
         Status::Done,
         "ratio 1 1\njobs 3\ncompleted 2 15\nabandoned 1 2\ntaken 1\nbound 60\ninterval 1 0 12 0 12 5 2\n\
          interval 2 12 15 3 0 0 0\n",
     ),
     (
+        &["report", "csv"],
         TAKEN,
-        Form::Table,
         Status::Done,
         "job,release,work,deadline,value,fate,tick\n0,0,3,30,3,complete,15\n1,0,2,4,2,abandon,2\n\
          2,0,12,12,12,complete,12\n",
     ),
     (
+        &["report", "text"],
         MINUTE,
-        Form::Text,
         Status::Done,
         "ratio 100 1\njobs 24\ncompleted 21 8555\nabandoned 3 220\ntaken 1\nbound 1035155\ninterval 1 0 80 1110 0 0 0\n\
             interval 2 100 180 1110 0 0 40\ninterval 3 200 230 0 2000 80 80\ninterval 4 230 235 25 0 0 0\n\
@@ -70,8 +64,8 @@ const TEXTS: [(&str, Form, Status, &str); 7] = [
             interval 8 500 585 2085 0 0 0\n",
     ),
     (
+        &["report", "csv"],
         MINUTE,
-        Form::Table,
         Status::Done,
         "job,release,work,deadline,value,fate,tick\n0,0,60,90,60,complete,80\n1,10,5,30,25,complete,15\n\
             2,50,5,70,25,complete,55\n3,65,10,75,1000,complete,75\n4,100,60,190,60,complete,180\n\
@@ -84,114 +78,33 @@ const TEXTS: [(&str, Form, Status, &str); 7] = [
             21,500,60,590,60,complete,585\n22,530,5,550,25,complete,535\n23,560,20,580,2000,complete,580\n",
     ),
     (
+        &["report", "text"],
         "dover 1 1 1\njob 0 0 2 2 2\nrun 0",
-        Form::Text,
         Status::No,
         "short 2\n",
     ),
-    ("x\n", Form::Table, Status::No, "wrong 1 expected header\n"),
-    ("", Form::Table, Status::No, "short 0\n"),
+    (
+        &["report", "csv"],
+        "x\n",
+        Status::No,
+        "wrong 1 expected header\n",
+    ),
+    (&["report", "csv"], "", Status::No, "short 0\n"),
 ];
 
 /// How a port cuts and fails, and how the call ends.
-const FAILING: [(Cut, Status); 3] = [
-    (
-        Cut {
-            piece: 4096,
-            read: 1,
-            write: 0,
-            most: 4096,
-        },
-        Status::ReadFault,
-    ),
-    (
-        Cut {
-            piece: 1,
-            read: 13,
-            write: 0,
-            most: 4096,
-        },
-        Status::ReadFault,
-    ),
-    (
-        Cut {
-            piece: 4096,
-            read: 0,
-            write: 1,
-            most: 4096,
-        },
-        Status::WriteFault,
-    ),
+const FAILING: [(&str, Failing, Status, &str); 3] = [
+    (ONE, (4096, 1, 0, 4096), Status::ReadFault, ""),
+    (ONE, (1, 13, 0, 4096), Status::ReadFault, ""),
+    (ONE, (4096, 0, 1, 4096), Status::WriteFault, ""),
 ];
-
-fn reported_in<L: Ledger>(
-    rt: &HostRuntime,
-    port: &mut MemoryPort,
-    form: Form,
-    blank: Blank,
-) -> Status
-    requires name { blank.name ≡ L.name }
-    requires parts { blank.parts ≡ L.parts }
-    requires some { 0 < blank.parts }
-{
-    let mut steps = Steps::<L>::new(rt.memory(), blank);
-    report_word(rt.alloc(), port, form, &mut steps)
-}
-
-/// One call over a port, with a ledger of its own.
-pub(crate) fn reported(rt: &HostRuntime, port: &mut MemoryPort, form: Form) -> Status {
-    reported_in::<Brand>(rt, port, form, Blank::new(1))
-}
-
-/// Whether the word ends so on the text, and tells this.
-pub(crate) fn ends(
-    rt: &HostRuntime,
-    text: &str,
-    form: Form,
-    cut: Cut,
-    status: Status,
-    told: &str,
-) -> Result<bool, Fail> {
-    let mut port = port(rt.alloc(), text, cut)?;
-    let answer = reported(rt, &mut port, form);
-    Ok(answer == status && port.written() == told.as_bytes())
-}
-
-/// Whether each text ends so in pieces of each size, and this is told.
-pub(crate) fn agree_on_texts(
-    rt: &HostRuntime,
-    rows: &[(&str, Form, Status, &str)],
-    sizes: &[usize],
-) -> Result<bool, Fail> {
-    for (text, form, status, told) in rows {
-        for size in sizes {
-            if !ends(rt, *text, *form, pieces_of(*size), *status, *told)? {
-                return Ok(false);
-            }
-        }
-    }
-    Ok(true)
-}
-
-/// Whether the call ends so over each of these ports, and tells nothing.
-fn agree_on_cuts(rt: &HostRuntime, rows: &[(Cut, Status)]) -> Result<bool, Fail> {
-    for (cut, status) in rows {
-        if !ends(rt, ONE, Form::Table, *cut, *status, "")? {
-            return Ok(false);
-        }
-    }
-    Ok(true)
-}
 
 #[test]
 fn texts_and_their_reports(rt: HostRuntime) -> Result<(), Fail> {
-    assert!(rt; agree_on_texts(&rt, &TEXTS, &[4096, 1])?);
-    Ok(())
-}
-
-#[test]
-fn failing_calls(rt: HostRuntime) -> Result<(), Fail> {
-    assert!(rt; agree_on_cuts(&rt, &FAILING)?);
+    assert!(rt;
+        are_called(&rt, &TEXTS, &[(4096, 0), (1, 0)])?
+            && all_fail(&rt, &["report", "csv"], &FAILING)?
+    );
     Ok(())
 }
 
@@ -228,14 +141,13 @@ fn tells_each(alloc: Global, table: &[u8], trace: &str, jobs: u64) -> Result<boo
 
 /// Whether the table of the trace is written, and reads back as so many jobs.
 fn reads_back(rt: &HostRuntime, trace: &str, jobs: u64) -> Result<bool, Fail> {
-    let mut port = port(rt.alloc(), trace, pieces_of(4096))?;
-    let answer = reported(rt, &mut port, Form::Table);
-    Ok(answer == Status::Done && tells_each(rt.alloc(), port.written(), trace, jobs)?)
+    let called = call(rt, &["report", "csv"], trace.as_bytes(), 4096)?;
+    let table = called.written.as_slice();
+    Ok(called.status == Status::Done && tells_each(rt.alloc(), table, trace, jobs)?)
 }
 
 #[test]
 fn tables_read_back(rt: HostRuntime) -> Result<(), Fail> {
-    assert!(rt; reads_back(&rt, TAKEN, 3)?);
-    assert!(rt; reads_back(&rt, MINUTE, 24)?);
+    assert!(rt; reads_back(&rt, TAKEN, 3)? && reads_back(&rt, MINUTE, 24)?);
     Ok(())
 }

@@ -1,9 +1,6 @@
-//! The reports for a viewer, on one job, and for a terminal, over ports in memory.
-use crate::ports::pieces_of;
-use crate::told_reports::{agree_on_texts, ends};
+//! The reports for a viewer, on one job, and for a terminal.
+use crate::calls::{AT_ONCE, Row, are_called, tells, words_of};
 use dover_port::Status;
-use report_word::Form;
-use run_view::Window;
 use std::test::Fail;
 
 /// The trace of no job.
@@ -36,20 +33,20 @@ const MINUTE: &str = "dover 1 5 1\njob 0 0 60 90 60\nrun 0 0\njob 1 10 5 30 25\n
     run 575 22\ncomplete 595 22\nend 995\n";
 
 /// Traces, and what is written for each form that is asked for.
-const RUNS: [(&str, &[(Form, &str)]); 4] = [
+const RUNS: [(&str, &[(&[&str], &str)]); 4] = [
     (
         EMPTY,
         &[
             (
-                Form::Chrome,
+                &["report", "chrome"],
                 r#"{"traceEvents":[
 {"pid":0,"tid":0,"ph":"M","name":"thread_name","args":{"name":"processor"}}
 ]}
 "#,
             ),
-            (Form::Why(0), "no job 0 among 0\n"),
+            (&["report", "why", "0"], "no job 0 among 0\n"),
             (
-                Form::Timeline(None),
+                &["report", "timeline"],
                 r#"jobs 0, completed 0 0, abandoned 0 0, taken 0, bound 0
        ticks of a column: 1
        0
@@ -61,7 +58,7 @@ const RUNS: [(&str, &[(Form, &str)]); 4] = [
         ONE,
         &[
             (
-                Form::Chrome,
+                &["report", "chrome"],
                 r#"{"traceEvents":[
 {"pid":0,"tid":0,"ph":"M","name":"thread_name","args":{"name":"processor"}}
 ,{"pid":0,"tid":0,"ph":"b","ts":0,"cat":"job","id":"0","name":"job 0","args":{"work":2,"deadline":2,"value":2}}
@@ -73,7 +70,7 @@ const RUNS: [(&str, &[(Form, &str)]); 4] = [
 "#,
             ),
             (
-                Form::Timeline(None),
+                &["report", "timeline"],
                 r#"jobs 1, completed 1 2, abandoned 0 0, taken 0, bound 8
        ticks of a column: 1
        0
@@ -86,7 +83,7 @@ const RUNS: [(&str, &[(Form, &str)]); 4] = [
         TAKEN,
         &[
             (
-                Form::Chrome,
+                &["report", "chrome"],
                 r#"{"traceEvents":[
 {"pid":0,"tid":0,"ph":"M","name":"thread_name","args":{"name":"processor"}}
 ,{"pid":0,"tid":0,"ph":"b","ts":0,"cat":"job","id":"0","name":"job 0","args":{"work":3,"deadline":30,"value":3}}
@@ -112,29 +109,28 @@ const RUNS: [(&str, &[(Form, &str)]); 4] = [
 "#,
             ),
             (
-                Form::Why(0),
+                &["report", "why", "0"],
                 "job 0: release 0, work 3, deadline 30, value 3\nat 0 it runs\n\
             at 0 it is preempted by job 1, which is due earlier, its work 2 within the room 27\n\
             at 0 it is displaced by job 2\nat 12 it runs\nat 15 it is completed\n",
             ),
             (
-                Form::Why(1),
+                &["report", "why", "1"],
                 "job 1: release 0, work 2, deadline 4, value 2\n\
             at 0 it preempts job 0, which is due later, its work 2 within the room 27\n\
             at 0 it is displaced by job 2\n\
             at 2 it is abandoned, its value 2 against 12 under way: 1 * 0^2 = 0 not above 1 * 12^2 = 144; heavy from 25 on\n",
             ),
             (
-                Form::Why(2),
+                &["report", "why", "2"],
                 "job 2: release 0, work 12, deadline 12, value 12\n\
             at 0 it waits, its work 12 above the room 2\n\
             at 0 it takes the processor from job 1, its value 12 against 5 under way: 1 * 7^2 = 49 above 1 * 5^2 = 25; heavy from 11 on\n\
             at 12 it is completed\n",
             ),
-            (Form::Why(3), "no job 3 among 3\n"),
-            (Form::Why(u32::MAX), "no job 4294967295 among 3\n"),
+            (&["report", "why", "3"], "no job 3 among 3\n"),
             (
-                Form::Timeline(None),
+                &["report", "timeline"],
                 r#"jobs 3, completed 2 15, abandoned 1 2, taken 1, bound 60
        ticks of a column: 1
        0                   20
@@ -144,7 +140,7 @@ const RUNS: [(&str, &[(Form, &str)]); 4] = [
 "#,
             ),
             (
-                Form::Timeline(Some(Window { from: 1, until: 11 })),
+                &["report", "timeline", "1", "11"],
                 r#"jobs 3, completed 2 15, abandoned 1 2, taken 1, bound 60
        ticks of a column: 1
        1
@@ -154,10 +150,7 @@ const RUNS: [(&str, &[(Form, &str)]); 4] = [
 "#,
             ),
             (
-                Form::Timeline(Some(Window {
-                    from: 5,
-                    until: 1000,
-                })),
+                &["report", "timeline", "5", "1000"],
                 r#"jobs 3, completed 2 15, abandoned 1 2, taken 1, bound 60
        ticks of a column: 13
        5                   265                 525                 785
@@ -166,40 +159,10 @@ const RUNS: [(&str, &[(Form, &str)]); 4] = [
 "#,
             ),
             (
-                Form::Timeline(Some(Window {
-                    from: 40,
-                    until: 50,
-                })),
+                &["report", "timeline", "40", "50"],
                 r#"jobs 3, completed 2 15, abandoned 1 2, taken 1, bound 60
        ticks of a column: 1
        40
-"#,
-            ),
-            (
-                Form::Timeline(Some(Window {
-                    from: 0,
-                    until: u64::MAX,
-                })),
-                r#"jobs 3, completed 2 15, abandoned 1 2, taken 1, bound 60
-       ticks of a column: 230584300921369396
-       0                   4611686018427387920 9223372036854775840 13835058055282163760
-     0 # 3
-     1 X -2
-     2 ! 12
-"#,
-            ),
-            (
-                Form::Timeline(Some(Window { from: 5, until: 5 })),
-                r#"jobs 3, completed 2 15, abandoned 1 2, taken 1, bound 60
-       ticks of a column: 1
-       5
-"#,
-            ),
-            (
-                Form::Timeline(Some(Window { from: 9, until: 3 })),
-                r#"jobs 3, completed 2 15, abandoned 1 2, taken 1, bound 60
-       ticks of a column: 1
-       9
 "#,
             ),
         ],
@@ -208,7 +171,7 @@ const RUNS: [(&str, &[(Form, &str)]); 4] = [
         MINUTE,
         &[
             (
-                Form::Why(4),
+                &["report", "why", "4"],
                 "job 4: release 100, work 60, deadline 190, value 60\n\
             at 100 it runs\n\
             at 110 it is preempted by job 5, which is due earlier, its work 5 within the room 30\n\
@@ -220,26 +183,26 @@ const RUNS: [(&str, &[(Form, &str)]); 4] = [
             at 180 it is completed\n",
             ),
             (
-                Form::Why(6),
+                &["report", "why", "6"],
                 "job 6: release 120, work 40, deadline 170, value 40\n\
             at 120 it waits, its work 40 above the room 25\n\
             at 130 it is abandoned, its value 40 against 60 under way: 1 * 0^2 = 0 not above 5 * 60^2 = 18000; heavy from 195 on\n",
             ),
             (
-                Form::Why(10),
+                &["report", "why", "10"],
                 "job 10: release 210, work 20, deadline 230, value 100\n\
             at 210 it waits, its work 20 above the room 10\n\
             at 210 it is abandoned, its value 100 against 80 under way: 1 * 20^2 = 400 not above 5 * 80^2 = 32000; heavy from 259 on\n",
             ),
             (
-                Form::Why(14),
+                &["report", "why", "14"],
                 "job 14: release 300, work 5, deadline 320, value 25\n\
             at 300 it waits, due no earlier than the job that runs, its work 5 within the room 15\n\
             at 305 it runs\n\
             at 310 it is completed\n",
             ),
             (
-                Form::Why(17),
+                &["report", "why", "17"],
                 "job 17: release 400, work 60, deadline 490, value 60\n\
             at 400 it waits, its work 60 above the room 10\n\
             at 410 it runs\n\
@@ -249,14 +212,14 @@ const RUNS: [(&str, &[(Form, &str)]); 4] = [
             at 465 it is abandoned, its value 60 against 300 under way: 1 * 0^2 = 0 not above 5 * 300^2 = 450000; heavy from 971 on\n",
             ),
             (
-                Form::Why(19),
+                &["report", "why", "19"],
                 "job 19: release 450, work 100, deadline 550, value 300\n\
             at 450 it waits, its work 100 above the room 15\n\
             at 450 it takes the processor from job 17, its value 300 against 60 under way: 1 * 240^2 = 57600 above 5 * 60^2 = 18000; heavy from 195 on\n\
             at 550 it is completed\n",
             ),
             (
-                Form::Timeline(None),
+                &["report", "timeline"],
                 r#"jobs 24, completed 19 995, abandoned 5 275, taken 1, bound 10419
        ticks of a column: 8
        0                   160                 320                 480
@@ -287,10 +250,7 @@ const RUNS: [(&str, &[(Form, &str)]); 4] = [
 "#,
             ),
             (
-                Form::Timeline(Some(Window {
-                    from: 440,
-                    until: 480,
-                })),
+                &["report", "timeline", "440", "480"],
                 r#"jobs 24, completed 19 995, abandoned 5 275, taken 1, bound 10419
        ticks of a column: 1
        440                 460
@@ -305,44 +265,54 @@ const RUNS: [(&str, &[(Form, &str)]); 4] = [
 ];
 
 /// Texts that are no traces, the form that is asked for, how each ends, and what is written for it.
-const TEXTS: [(&str, Form, Status, &str); 6] = [
+const TEXTS: [Row; 6] = [
     (
+        &["report", "chrome"],
         "dover 1 1 1\njob 0 0 2 2 2\nrun 0",
-        Form::Chrome,
         Status::No,
         "short 2\n",
     ),
     (
+        &["report", "chrome"],
         "dover 1 1 1\njob 0 0 2 2 2\nrun 1 0\n",
-        Form::Chrome,
         Status::No,
         "wrong 3 expected run 0 0\n",
     ),
     (
+        &["report", "why", "0"],
         "dover 1 1 1\njob 0 0 2 2 2\nrun 0",
-        Form::Why(0),
-        Status::No,
-        "short 2\n",
-    ),
-    ("x\n", Form::Why(0), Status::No, "wrong 1 expected header\n"),
-    (
-        "dover 1 1 1\njob 0 0 2 2 2\nrun 0",
-        Form::Timeline(None),
         Status::No,
         "short 2\n",
     ),
     (
+        &["report", "why", "0"],
+        "x\n",
+        Status::No,
+        "wrong 1 expected header\n",
+    ),
+    (
+        &["report", "timeline"],
+        "dover 1 1 1\njob 0 0 2 2 2\nrun 0",
+        Status::No,
+        "short 2\n",
+    ),
+    (
+        &["report", "timeline", "0", "2"],
         "dover 1 1 1\njob 0 0 2 2 2\nrun 1 0\n",
-        Form::Timeline(Some(Window { from: 0, until: 2 })),
         Status::No,
         "wrong 3 expected run 0 0\n",
     ),
 ];
 
 /// Whether this is written for each form of the trace.
-fn tells_forms(rt: &HostRuntime, trace: &str, forms: &[(Form, &str)]) -> Result<bool, Fail> {
-    for (form, told) in forms {
-        if !ends(rt, trace, *form, pieces_of(4096), Status::Done, *told)? {
+fn tells_forms(
+    rt: &HostRuntime,
+    trace: &str,
+    forms: &[(&'static [&'static str], &'static str)],
+) -> Result<bool, Fail> {
+    for (texts, told) in forms {
+        let words = words_of(rt.alloc(), *texts)?;
+        if !tells(rt, &words, trace.as_bytes(), AT_ONCE, Status::Done, *told)? {
             return Ok(false);
         }
     }
@@ -350,7 +320,13 @@ fn tells_forms(rt: &HostRuntime, trace: &str, forms: &[(Form, &str)]) -> Result<
 }
 
 /// The same of each trace.
-fn tells_runs(rt: &HostRuntime, runs: &[(&str, &[(Form, &str)])]) -> Result<bool, Fail> {
+fn tells_runs(
+    rt: &HostRuntime,
+    runs: &[(
+        &'static str,
+        &'static [(&'static [&'static str], &'static str)],
+    )],
+) -> Result<bool, Fail> {
     for (trace, forms) in runs {
         if !tells_forms(rt, *trace, *forms)? {
             return Ok(false);
@@ -361,6 +337,6 @@ fn tells_runs(rt: &HostRuntime, runs: &[(&str, &[(Form, &str)])]) -> Result<bool
 
 #[test]
 fn texts_and_their_reports(rt: HostRuntime) -> Result<(), Fail> {
-    assert!(rt; tells_runs(&rt, &RUNS)? && agree_on_texts(&rt, &TEXTS, &[4096])?);
+    assert!(rt; tells_runs(&rt, &RUNS)? && are_called(&rt, &TEXTS, &[(4096, 0)])?);
     Ok(())
 }
