@@ -9,9 +9,7 @@ use Rattle.dover_model.specs.Run.{Step, is_end}
 use Rattle.dover_model.specs.WholeRun.{step_at, IsWholeRun}
 use Rattle.dover_model.specs.Paths.{IsPath}
 use Rattle.dover_model.proofs.Paths.{closed_then_run}
-use Rattle.dover_server.specs.declared.horizon.Horizon.{Horizon}
-use Rattle.dover_server.specs.declared.horizon.Horizon.TheVariants.{Mark, End}
-use Rattle.dover_server.specs.Service.{MayFollow}
+use Rattle.dover_server.specs.declared.horizon.Horizon.TheVariants.{End}
 use Rattle.dover_server.specs.Leading.{GivesNext}
 use Rattle.dover_server.proofs.Passing.{leads_closed, closed_append}
 

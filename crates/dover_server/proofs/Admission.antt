@@ -1,14 +1,13 @@
 -- A job that is admitted keeps what a Server stands for.
-use Rattle.std.proofs.Common.{◌≡◌, ℕ, suc, ◌+◌, ◌≤◌, ◌<◌, ◌⊎◌, inl, inr, List, [], ◌∷◌, ◌++◌, length, refl, sym, ap}
-use Rattle.std.proofs.Common.{◌∙◌, subst, Bool}
-use Rattle.std.proofs.Common.{true, false, cond, arith}
-use Rattle.std.specs.List.{filter}
+use Rattle.std.proofs.Common.{◌≡◌, ℕ, ◌+◌, ◌≤◌, ◌<◌, ◌⊎◌, inl, inr, List, [], ◌∷◌, ◌++◌, length, refl, sym, ap}
+use Rattle.std.proofs.Common.{subst}
+use Rattle.std.proofs.Common.{true, arith}
 use Rattle.dover_model.specs.declared.events.Role.TheVariants.{Coming, Fresh, Held, Running}
 use Rattle.dover_model.specs.declared.events.Task.{Task}
 use Rattle.dover_model.specs.JobFacts.{JobFacts}
 use Rattle.dover_model.specs.Instance.{IsValid, with_jobs}
 use Rattle.dover_model.specs.State.{State, with_later, is_privileged, is_ready_behind, privileged, left, demand_up_to}
-use Rattle.dover_model.specs.Sound.{IsMember, Each, EachTwo, IsNumberedFrom, FitsRole, NoneRuns, IsSound, jobs_of}
+use Rattle.dover_model.specs.Sound.{IsMember, Each, EachTwo, FitsRole, NoneRuns, IsSound, jobs_of}
 use Rattle.dover_model.proofs.Tests.{never}
 use Rattle.dover_model.proofs.Members.{each_behind}
 use Rattle.dover_model.proofs.Honest.{numbers_low}

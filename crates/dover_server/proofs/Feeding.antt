@@ -3,7 +3,7 @@ use Rattle.std.proofs.Common.{◌≡◌, ℕ, ◌+◌, ◌≤◌, List, [], ◌�
 use Rattle.std.specs.List.{AllByRecursion}
 use Rattle.dover_model.specs.JobFacts.{JobFacts, IsJob}
 use Rattle.dover_model.specs.Limits.{last_tick}
-use Rattle.dover_model.specs.Instance.{IsInOrder, IsValid, with_jobs}
+use Rattle.dover_model.specs.Instance.{IsValid, with_jobs}
 use Rattle.dover_model.specs.Sound.{jobs_of}
 use Rattle.dover_model.proofs.Valid.{valid_front, all_back, order_back}
 use Rattle.dover_server.specs.declared.horizon.Horizon.TheVariants.{Mark}

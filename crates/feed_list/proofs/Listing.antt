@@ -1,12 +1,12 @@
 -- What is listed after a line.
 use Rattle.std.proofs.Common.{◌≡◌, ◌<◌, ◌+◌, ◌⊎◌, inl, inr, ℕ, List, ◌∷◌, ◌++◌, [], length, refl, sym, ap, ◌∙◌, Option}
 use Rattle.std.proofs.Common.{Some, None, arith}
-use Rattle.std.proofs.Common.{length-append, Bool, true, false}
+use Rattle.std.proofs.Common.{length-append}
 use Rattle.dover_model.specs.declared.events.Version.{Version}
 use Rattle.dover_model.specs.declared.events.Refusal.{Refusal}
 use Rattle.dover_model.specs.JobFacts.{JobFacts}
 use Rattle.dover_model.specs.Fraction.{Fraction}
-use Rattle.dover_model.specs.Instance.{Rules, Instance}
+use Rattle.dover_model.specs.Instance.{Instance}
 use Rattle.dover_model.specs.Feed.{Account, Open, Faulty, rules_with, account_of_lines}
 use Rattle.dover_model.specs.Session.{Session, Item, JobItem, RefusedItem, RefusedJob, refused_at, admitted_jobs}
 use Rattle.dover_model.specs.Session.{instance_of, with_item, new_session}

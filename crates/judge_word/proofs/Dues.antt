@@ -8,7 +8,6 @@ use Rattle.std.proofs.lemmas.Bool.{and_parts}
 use Rattle.std.proofs.Math.Seq.{take-length}
 use Rattle.dover_model.specs.declared.events.Event.{Event}
 use Rattle.dover_model.specs.declared.events.Event.TheVariants as event
-use Rattle.dover_model.specs.Numerals.{AreShort}
 use Rattle.dover_model.specs.Lines.{whole_lines, rest_of}
 use Rattle.dover_model.specs.Run.{printed}
 use Rattle.dover_model.specs.Session.{Session, instance_of}
@@ -20,7 +19,6 @@ use Rattle.dover_model.proofs.Agreement.{is_valid_session-agrees}
 use Rattle.dover_model.proofs.Members.{some_same}
 use Rattle.dover_model.proofs.ShortNumbers.{printed_short, AreAllShort}
 use Rattle.dover_model.proofs.WrongStays.{next_wrong}
-use Rattle.dover_model.specs.Text.{step_numbers}
 use Rattle.judge_word.specs.Line.{IsShortDue}
 
 -- one of the steps is due, or nothing

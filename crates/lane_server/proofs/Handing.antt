@@ -1,10 +1,10 @@
 -- What a line of the input hands to its lane.
 use Rattle.std.proofs.Common.{◌≡◌, ◌≤◌, ◌<◌, ◌+◌, ◌-◌, ℕ, suc, List, [], ◌∷◌, ◌++◌, length, map, refl, sym, ap, ◌∙◌}
-use Rattle.std.proofs.Common.{arith, Bool, true, false, cond, ◌==◌, Option, Some, None, ◌⊎◌, inl, inr}
+use Rattle.std.proofs.Common.{arith, Bool, true, false, cond, ◌==◌, Option, Some, None}
 use Rattle.std.specs.Prelude.{nat_lt, option_map}
 use Rattle.std.specs.Option.{option_and_then}
 use Rattle.std.specs.List.{filter, flat_map, range_with_len}
-use Rattle.std.proofs.lemmas.Bool.{ne_eqb, eqb-false, eqb-true, lt-ltb, ltb-true}
+use Rattle.std.proofs.lemmas.Bool.{ne_eqb, eqb-false, lt-ltb, ltb-true}
 use Rattle.std.proofs.lemmas.List.{append-nil, map-append}
 use Rattle.std.proofs.lemmas.List.Elements.{filter-append}
 use Rattle.std.proofs.lemmas.List.Sums.{fold-append}

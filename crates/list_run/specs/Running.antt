@@ -1,10 +1,7 @@
 -- How far a list was run, and what was shown of it.
 use Rattle.std.specs.Prelude.{List}
 use Rattle.dover_model.specs.declared.events.Event.{Event}
-use Rattle.dover_model.specs.declared.events.Version.{Version}
-use Rattle.dover_model.specs.Fraction.{Fraction}
 use Rattle.dover_model.specs.Instance.{Instance}
-use Rattle.dover_model.specs.JobFacts.{JobFacts}
 use Rattle.dover_server.specs.declared.horizon.Horizon.{Horizon}
 
 -- The server has taken the run of these jobs towards the horizon, and the watcher has seen what it printed.

@@ -1,9 +1,9 @@
 -- One tick of a policy's run, over what the run has come to.
 use Rattle.std.proofs.Common.{◌≡◌, ℕ, suc, ◌+◌, ◌-◌, ◌≤◌, ◌<◌, inl, inr, List, [], ◌∷◌, ◌++◌, length, drop, map, refl}
 use Rattle.std.proofs.Common.{sym, ap, ◌∙◌, subst}
-use Rattle.std.proofs.Common.{Bool, true, false, cond}
+use Rattle.std.proofs.Common.{false, cond}
 use Rattle.std.proofs.Common.{eqb, arith}
-use Rattle.std.specs.Prelude.{Option, None, unwrap_or, Result, Ok, Err, OnOk}
+use Rattle.std.specs.Prelude.{Option, None, unwrap_or}
 use Rattle.std.specs.List.{filter, sum_by}
 use Rattle.dover_model.specs.JobFacts.{JobFacts, IsJob}
 use Rattle.dover_model.specs.Instance.{total_value}

@@ -13,7 +13,7 @@ use Rattle.dover_model.specs.JobFacts.{JobFacts, job_of_numbers}
 use Rattle.dover_model.specs.Instance.{Rules}
 use Rattle.dover_model.specs.Admission.{refusal_of}
 use Rattle.dover_model.specs.Feed as feed
-use Rattle.dover_model.specs.Feed.{Open, Faulty, NotAdmitted, declared_version, declared_rules, rules_with}
+use Rattle.dover_model.specs.Feed.{Open, Faulty, NotAdmitted, declared_rules, rules_with}
 use Rattle.dover_model.proofs.Accounts.{declared_ratio}
 use Rattle.admission.specs.Kept as admission
 use Rattle.admission.specs.Answers.{refusal_of_refused}

@@ -1,12 +1,12 @@
 -- The steps that a run prints have the form of a trace's lines, and a line has one form.
-use Rattle.std.proofs.Common.{◌≡◌, ℕ, ◌≤◌, List, ◌∷◌, ◌++◌, length, refl, sym, ap, ◌∙◌, subst, Bool, true, false, arith}
+use Rattle.std.proofs.Common.{◌≡◌, ℕ, ◌≤◌, List, ◌∷◌, ◌++◌, length, sym, ap, ◌∙◌, subst, Bool, true, false, arith}
 use Rattle.std.specs.Bool.{then_some}
 use Rattle.std.specs.List.{AllByRecursion, list_all, filter}
 use Rattle.dover_model.specs.JobFacts.{IsJob}
 use Rattle.dover_model.specs.Fraction.{Fraction}
 use Rattle.dover_model.specs.Numerals.{AreShort}
 use Rattle.dover_model.specs.declared.events.Event.{Event}
-use Rattle.dover_model.specs.declared.events.Event.TheVariants.{Release, Run, Preempt, Take, Complete, Abandon, End}
+use Rattle.dover_model.specs.declared.events.Event.TheVariants.{End}
 use Rattle.dover_model.specs.declared.events.Task.{Task}
 use Rattle.dover_model.specs.Instance.{Rules, Instance, IsValid}
 use Rattle.dover_model.specs.State.{State, is_over, is_done, value_sum}
