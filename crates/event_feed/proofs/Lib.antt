@@ -4,3 +4,4 @@ pub mod Counting
 pub mod Skipping
 pub mod GoingOn
 pub mod Admitting
+pub mod Spelling

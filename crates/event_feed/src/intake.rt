@@ -16,6 +16,7 @@ use crate::fed::Fed;
 use crate::kept_session::KeptSession;
 use dover_model::{Ratio, Version};
 use job_format::{FeedLine, read_feed_line};
+use line_text::Spelled;
 use std::marker::Model;
 
 /// How many lines a feed may have.
@@ -69,9 +70,31 @@ fn formed_line(session: &mut Option<KeptSession>, line: FeedLine) -> Result<Fed,
     }
 }
 
+/// Keeps the numbers of a job line with their text.
+#[inline(always)]
+fn keep_numbers(spelled: &mut Spelled, line: &[u8], read: &FeedLine)
+    requires text { form.feed_text (form_of read.now) ≡ line.now }
+    requires short { form.HasNumerals (form_of read.now) }
+{
+    if let FeedLine::Job {
+        release,
+        work,
+        deadline,
+        value,
+    } = read
+    {
+        spelled.keep(&[*release, *work, *deadline, *value], &line[3..]);
+    }
+}
+
 /// A line, which is counted already.
 #[inline(always)]
-fn read(session: &mut Option<KeptSession>, lines: u64, line: &[u8]) -> Result<Fed, Cause>
+fn read(
+    session: &mut Option<KeptSession>,
+    spelled: &mut Spelled,
+    lines: u64,
+    line: &[u8],
+) -> Result<Fed, Cause>
     ensures few { OnOk result (lines ≤ most_lines) }
     ensures declared { OnOk result (IsSome session.new) }
     ensures taken { (a : Account) → a.standing ≡ Open → a.lines ≡ lines → KeepsSession session.old a.session a.mark →
@@ -81,7 +104,10 @@ fn read(session: &mut Option<KeptSession>, lines: u64, line: &[u8]) -> Result<Fe
         return Err(Cause::Lines);
     }
     match read_feed_line(line) {
-        Ok(read) => formed_line(session, read),
+        Ok(read) => {
+            keep_numbers(spelled, line, &read);
+            formed_line(session, read)
+        }
         Err(_) => Err(Cause::Line),
     }
 }
@@ -93,6 +119,7 @@ pub struct Intake {
     lines: u64,
     session: Option<KeptSession>,
     standing: Standing,
+    spelled: Spelled,
 }
 
 impl Model for Intake {
@@ -120,6 +147,7 @@ impl Intake {
             lines: 0,
             session: None,
             standing: Standing::Open,
+            spelled: Spelled::new(),
         }
     }
 
@@ -156,7 +184,7 @@ impl Intake {
             return Err(fault);
         }
         self.lines += 1;
-        match read(&mut self.session, self.lines, line) {
+        match read(&mut self.session, &mut self.spelled, self.lines, line) {
             Ok(Fed::Over) => {
                 self.standing = Standing::Over;
                 Ok(Fed::Over)
@@ -171,6 +199,12 @@ impl Intake {
                 Err(fault)
             }
         }
+    }
+
+    /// The numbers of the last job line that had the form of one, with their text; before it four zeros.
+    #[inline(always)]
+    pub fn spelled(&self) -> &Spelled {
+        &self.spelled
     }
 
     /// The input ends here. The fault is that of an earlier line, or that there was no end line. It leaves all as

@@ -14,6 +14,7 @@ use dispatcher::Dispatcher;
 use dover_model::{Job, Memory, Ratio, Version};
 use dover_server::Horizon;
 use event_feed::{Fed, FeedFault, Intake};
+use line_text::Spelled;
 use std::alloc::Global;
 use std::sync::ledger::Ledger;
 use step_count::Steps;
@@ -329,6 +330,12 @@ impl<D: Dispatcher> Lane<D> {
         ensures { IsTrue result ↔ IsSome self.now.server }
     {
         self.server.is_some()
+    }
+
+    /// The numbers of the last job line with their text.
+    #[inline(always)]
+    pub fn spelled(&self) -> &Spelled {
+        self.intake.spelled()
     }
 
     /// The mark: the tick up to which all is settled.

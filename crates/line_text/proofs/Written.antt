@@ -3,7 +3,10 @@ use Rattle.std.proofs.Common.{◌≡◌, ℕ, zero, suc, ◌+◌, ◌-◌, ◌*�
 use Rattle.std.proofs.Common.{length-append, append_assoc, append-nil, refl, ap}
 use Rattle.std.proofs.Common.{◌∙◌, sym, arith, decimal, drop, set, get_or}
 use Rattle.std.proofs.lemmas.Fmt.{length-decimal-le}
-use Rattle.std.proofs.lemmas.List.{drop-set}
+use Rattle.std.proofs.Common.{take, subst}
+use Rattle.std.proofs.lemmas.List.{drop-set, length-take-le, drop-append-le, drop-drop}
+use Rattle.std.proofs.Math.Seq.{drop-append-add}
+use borrow.Rule.Slice.PartMut.{put_mid, post_of}
 use Rattle.dover_model.specs.Numerals.{AreShort}
 use Rattle.dover_model.specs.Lines.{with_numbers}
 use Rattle.dover_model.proofs.Fields.{length-with_numbers}
@@ -66,3 +69,13 @@ pub digits_at : (ns : List ℕ) (i : ℕ) → AreShort ns → i < length ns → 
 digits_at [] i short less = absurd (omega arith)
 digits_at (n ∷ ns) zero short less = length-decimal-le 18 n (omega arith) short.0 (omega (arith, short.0))
 digits_at (n ∷ ns) (suc i) short less = digits_at ns i short.1 (omega arith)
+
+-- what is dropped up to a place in a part that was written is the rest of the part and what follows it
+pub drop_into : (low k s : ℕ) (bytes part : List ℕ) → low ≤ length bytes → s ≤ length part
+    → drop (low + s) (put_mid low k bytes part) ≡ drop s part ++ drop (low + k) bytes
+drop_into low k s bytes part inside within =
+    let front : length (take low bytes) ≡ low = length-take-le low bytes inside in
+    subst (λ n. drop (n + s) (put_mid low k bytes part) ≡ drop s (part ++ post_of low k bytes)) front
+    (drop-append-add (take low bytes) (part ++ post_of low k bytes) s)
+    ∙ drop-append-le s part (post_of low k bytes) within
+    ∙ ap (λ bs. drop s part ++ bs) (drop-drop k low bytes)

@@ -4,6 +4,7 @@ ghost use Rattle.dover_model.specs.Numerals.{AreShort};
 ghost use Rattle.line_text.specs.Writing.{numbers_behind};
 
 use crate::LINE_BYTES;
+use crate::spelled::{SPELLED_BYTES, Spelled};
 use itoa::write_digits;
 use std::marker::Model;
 
@@ -16,7 +17,7 @@ pub struct BackLine {
 
 // Writes numbers, each behind a space, so that they end at `end`, and answers where they begin.
 #[inline(always)]
-fn put_before(bytes: &mut [u8], end: usize, numbers: &[u64]) -> usize
+pub(crate) fn put_before(bytes: &mut [u8], end: usize, numbers: &[u64]) -> usize
     requires short { AreShort numbers.now }
     requires room { 19 * length numbers.now ≤ end }
     requires end { end ≤ length bytes.old }
@@ -110,6 +111,18 @@ impl BackLine {
     {
         self.start = put_before(&mut self.bytes, self.start, numbers);
         self.put_word(word);
+    }
+
+    /// Writes the numbers of a job line, each behind a space, with the text that they come with.
+    #[inline(always)]
+    pub fn put_spelled(&mut self, spelled: &Spelled)
+        requires { 76 + length self.old ≤ most_written }
+        ensures is { self.new ≡ numbers_behind spelled.now ++ self.old }
+        ensures size { length self.new ≤ 76 + length self.old }
+    {
+        let low = self.start - SPELLED_BYTES;
+        self.bytes[low..self.start].copy_from_slice(&spelled.bytes);
+        self.start = low + spelled.start;
     }
 
     /// The bytes written so far.

@@ -6,12 +6,14 @@ mod cutting;
 mod fields;
 mod line_buf;
 mod numerals;
+mod spelled;
 
 pub use back_line::BackLine;
 pub use cutting::{Lines, Step};
 pub use fields::{Numbers, behind_word, cut_field, numbers_in, read_numbers};
 pub use line_buf::LineBuf;
 pub use numerals::{first_number, numeral};
+pub use spelled::{JOB_NUMBERS, Spelled};
 use thiserror::Error;
 
 /// The most bytes that a line may have, with its line feed.

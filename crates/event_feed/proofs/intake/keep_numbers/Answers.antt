@@ -1,0 +1,17 @@
+use Rattle.std.proofs.Common.{◌≡◌, ◌≤◌, ℕ, List, [], ◌∷◌, length, ap, subst, arith}
+use Rattle.std.proofs.lemmas.List.{take_rest}
+use Rattle.dover_model.specs.JobFacts.{job_of_numbers}
+use Rattle.dover_model.specs.FeedLine.{feed_text, HasNumerals}
+use Rattle.job_format.specs.declared.lines.FeedLine.{FeedLine}
+use Rattle.job_format.specs.Form.{form_of}
+use Rattle.event_feed.proofs.Spelling.{numbers_fit}
+use Rattle.event_feed.proofs.intake.keep_numbers.Goals as goal
+
+pub keep-requires-clause-fits : goal.keep-requires-clause-fits
+keep-requires-clause-fits c =
+    let line : List ℕ = c.args.line.now in
+    let text = subst (λ (read : FeedLine). feed_text (form_of read) ≡ line) c.in-Job.is c.requires.text in
+    let short = subst (λ (read : FeedLine). HasNumerals (form_of read)) c.in-Job.is c.requires.short in
+    let fits = numbers_fit line
+    (job_of_numbers c.in-Job.release c.in-Job.work c.in-Job.deadline c.in-Job.value) short text in
+    omega (arith, fits, ap (λ (bs : List ℕ). length bs) (take_rest line 3))
