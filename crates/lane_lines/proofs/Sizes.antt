@@ -23,6 +23,13 @@ numbers_size word (n ∷ ns) last short =
     let digits : length (decimal n) ≤ 18 = length-decimal-le 18 n (omega arith) short.0 (omega arith) in
     omega (arith, more, digits, length-append word (32 ∷ line_of (decimal n ∷ map decimal ns ++ last ∷ [])))
 
+-- the word of a refusal
+pub word_size : (r : Refusal) → length (refusal_word r) ≤ 5
+word_size BadJob = omega arith
+word_size Count = omega arith
+word_size Total = omega arith
+word_size Ratio = omega arith
+
 -- a refused job line
 pub refuse_size : (at release work deadline value : ℕ) (cause : Refusal)
     → AreShort (at ∷ release ∷ work ∷ deadline ∷ value ∷ [])
@@ -31,12 +38,7 @@ refuse_size at release work deadline value cause short = omega (
   arith,
   numbers_size (codes "refuse") (at ∷ release ∷ work ∷ deadline ∷ value ∷ []) (refusal_word cause) short,
   word_size cause,
-) where
-  word_size : (r : Refusal) → length (refusal_word r) ≤ 5
-  word_size BadJob = omega arith
-  word_size Count = omega arith
-  word_size Total = omega arith
-  word_size Ratio = omega arith
+)
 
 -- a printed step
 pub event_size : (e : Event) → AreShort (step_numbers e) → length (text_of e) ≤ 103

@@ -3,4 +3,4 @@
 
 mod writing;
 
-pub use writing::write_out;
+pub use writing::{write_next, write_out};
