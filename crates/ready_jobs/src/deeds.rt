@@ -33,7 +33,7 @@ pub enum Deed {
 }
 
 /// A deed that prints a step, and the step.
-#[derive(Clone, Copy, Debug, PartialEq, Eq)]
+#[derive(Clone, Copy)]
 pub(crate) struct Due {
     pub(crate) deed: Deed,
     pub(crate) event: Event,
