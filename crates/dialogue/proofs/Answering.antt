@@ -1,6 +1,6 @@
 -- The answer, behind the last read.
 use Rattle.std.proofs.Common.{◌≡◌, ℕ, List, ◌∷◌, ◌++◌, [], refl, sym, ap, ◌∙◌, subst, Option}
-use Rattle.std.proofs.Common.{Bool, true, false, inr, ◌||◌, append_assoc}
+use Rattle.std.proofs.Common.{Bool, true, false, inl, inr, ◌||◌, append_assoc}
 use Rattle.std.proofs.lemmas.List.{append-nil}
 use Rattle.dover_model.specs.WholeRun.{Begins}
 use Rattle.dover_port.specs.Moves.{Move, Since, ArePuts, ins, outs, has_ended, EachRead, EachReadFrom, Passes}
@@ -54,7 +54,7 @@ module _ (t : Talk) (steady : IsSteady t) where
 
   -- by the status
   answered : (status : Status) (moves : List Move) → EachRead (MayRead t) moves → IsFinal status
-      → IsAnswered t status moves → Talks t status moves
+      → IsAnswered t (ins moves) (outs moves) (has_ended moves) status → Talks t status moves
   answered Done moves reads final it = record { reads = reads; ends = it }
   answered No moves reads final it = record { reads = reads; ends = it }
   answered Refused moves reads final it = record { reads = reads; ends = it }
@@ -145,6 +145,86 @@ module _ (t : Talk) (steady : IsSteady t) where
           };
         }
 
+  -- ---- whatever the port tells
+
+  -- bytes that end a talk can be read so
+  can_read : (x : List ℕ) (ended : Bool) → IsOver t x ended
+      → (xs : List Move) × (read : IsRead t (λ y. y ≡ x) ended xs) × (x ≡ read.front)
+  can_read x true over = (
+    Got x ∷ Put (t.due x) ∷ Ended ∷ [],
+    record {
+      reads = ((sym steady.nothing, steady.opens), ((refl, over), tt));
+      end = refl;
+      front = x;
+      behind = [];
+      cut = refl;
+      over = over;
+      all = λ _. refl;
+      text = append-nil (t.due x);
+      stands = refl;
+    },
+    refl,
+  )
+  can_read x false over = (
+    Got x ∷ Put (t.due x) ∷ [],
+    record {
+      reads = ((sym steady.nothing, steady.opens), tt);
+      end = refl;
+      front = x;
+      behind = [];
+      cut = refl;
+      over = over;
+      all = λ _. refl;
+      text = append-nil (t.due x);
+      stands = refl;
+    },
+    refl,
+  )
+
+  module _ (x : List ℕ) (ended : Bool) (over : IsOver t x ended) where
+    -- they can be answered
+    pub can_answer : (status : Status) (text : List ℕ) → IsFinal status → t.answer x ended status (t.due x ++ text)
+        → CanEnd (Talks t) status
+    can_answer status text final it = let read = can_read x ended over in inr (
+      read.0 ++ Put text ∷ [],
+      on_answer (λ y. y ≡ x) ended read.0 read.1 (Put text ∷ []) tt status text final
+          (subst (λ y. t.answer y ended status (t.due y ++ text)) read.2 it) (append-nil text),
+    )
+
+    -- memory can be lacking behind them
+    pub can_lack : t.lacks x ended → CanEnd (Talks t) Memory
+    can_lack lacks = let read = can_read x ended over in
+        inr (
+          read.0 ++ [],
+          on_lacking (λ y. y ≡ x) ended read.0 read.1 [] tt
+              (subst (λ y. t.lacks y ended) read.2 lacks) refl,
+        )
+
+  -- or while they come
+  pub can_lack_on : (x : List ℕ) → t.lacks x false → CanEnd (Talks t) Memory
+  can_lack_on x lacks = inr (
+    Got x ∷ [],
+    record {
+      reads = ((sym steady.nothing, steady.opens), tt);
+      ends = record {
+        lacking = subst (λ y. t.lacks y false) (sym (append-nil x)) lacks;
+        text = (t.due (x ++ []), refl);
+      };
+    },
+  )
+
+  -- the first read can fail
+  pub can_fail : CanEnd (Talks t) ReadFault
+  can_fail = inr (
+    [],
+    record {
+      reads = tt;
+      ends = record { unended = refl; open_still = steady.opens; text = sym steady.nothing };
+    },
+  )
+
+  -- ---- behind the last read
+
   module _ (ready : Ready) (ended : Bool) (a b : Option (List Move))
       (read : Since a b (IsRead t ready ended)) (c : Option (List Move))
       (q : List ℕ) (costs : Costs) (spent : (x : List ℕ) → ready x → costs x)
@@ -231,14 +311,3 @@ final_stops ReadFault old new final well = absurd final
 final_stops WriteFault old new final well = absurd final
 final_stops Memory old new final well = absurd final
 final_stops Usage old new final well = absurd final
-
--- an answer that was made could be made
-pub final_ends : (t : Talk) (status : Status) (x : List ℕ) (ended : Bool) (text : List ℕ) → IsFinal status
-    → t.answer x ended status text → CanEnd t status
-final_ends t Done x ended text final it = record { bytes = x; ended = ended; text = text; answer = it }
-final_ends t No x ended text final it = record { bytes = x; ended = ended; text = text; answer = it }
-final_ends t Refused x ended text final it = record { bytes = x; ended = ended; text = text; answer = it }
-final_ends t ReadFault x ended text final it = absurd final
-final_ends t WriteFault x ended text final it = absurd final
-final_ends t Memory x ended text final it = absurd final
-final_ends t Usage x ended text final it = absurd final

@@ -1,5 +1,6 @@
 pub mod Answering
+pub mod Behind
 pub mod Giving
 pub mod Hearing
-pub mod Quiet
+pub mod Allowed
 pub mod Records

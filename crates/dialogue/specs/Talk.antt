@@ -1,5 +1,5 @@
 -- What a command that reads says, by the bytes got so far, and what the moves of a call then come to.
-use Rattle.std.specs.Prelude.{◌≡◌, ◌⊎◌, ℕ, List, [], ◌++◌, Bool, true, false}
+use Rattle.std.specs.Prelude.{◌≡◌, ◌⊎◌, ℕ, List, [], ◌++◌, drop, length, Bool, true, false}
 use Rattle.dover_model.specs.WholeRun.{Begins}
 use Rattle.dover_port.specs.Moves.{Move, ins, outs, has_ended, EachRead, IsProperPrefix}
 use Rattle.dover_port.specs.declared.status.Status.{Status}
@@ -32,49 +32,50 @@ MayRead t got put = (put ≡ t.due got) × (t.goes_on got ≡ true)
 abbrev pub IsOver : Talk → List ℕ → Bool → Type 0
 IsOver t x ended = t.goes_on x ≡ ended
 
--- the talk is over, and the whole text that comes with this status was put
-pub record IsAnswered (t : Talk) (status : Status) (moves : List Move) : Type 0 where
-  pub over : IsOver t (ins moves) (has_ended moves)
-  pub answer : t.answer (ins moves) (has_ended moves) status (outs moves)
+-- these bytes were got and put, and the input has ended or not
+module _ (t : Talk) (got put : List ℕ) (ended : Bool) where
+  -- the talk is over, and the whole text that comes with this status was put
+  pub record IsAnswered (status : Status) : Type 0 where
+    pub over : IsOver t got ended
+    pub answer : t.answer got ended status put
 
--- a read failed: what is due was put, and the talk goes on
-pub record IsUnread (t : Talk) (moves : List Move) : Type 0 where
-  pub unended : has_ended moves ≡ false
-  pub open_still : t.goes_on (ins moves) ≡ true
-  pub text : outs moves ≡ t.due (ins moves)
+  -- a read failed: what is due was put, and the talk goes on
+  pub record IsUnread : Type 0 where
+    pub unended : ended ≡ false
+    pub open_still : t.goes_on got ≡ true
+    pub text : put ≡ t.due got
 
--- a front of the text that answers was put, and not all of it
-pub record IsCutAnswer (t : Talk) (moves : List Move) : Type 0 where
-  pub over : IsOver t (ins moves) (has_ended moves)
-  pub status : Status
-  pub text : List ℕ
-  pub answer : t.answer (ins moves) (has_ended moves) status text
-  pub front : IsProperPrefix (outs moves) text
+  -- a front of the text that answers was put, and not all of it
+  pub record IsCutAnswer : Type 0 where
+    pub over : IsOver t got ended
+    pub status : Status
+    pub text : List ℕ
+    pub answer : t.answer got ended status text
+    pub front : IsProperPrefix put text
 
--- a write failed: a front of what is due was put, or of the text that answers, and not all of it
-abbrev pub IsUnwritten : Talk → List Move → Type 0
-IsUnwritten t moves = ((has_ended moves ≡ false) × IsProperPrefix (outs moves) (t.due (ins moves)))
-    ⊎ IsCutAnswer t moves
+  -- a write failed: a front of what is due was put, or of the text that answers, and not all of it
+  abbrev pub IsUnwritten : Type 0
+  IsUnwritten = ((ended ≡ false) × IsProperPrefix put (t.due got)) ⊎ IsCutAnswer
 
--- there was no memory: a front of what is due was put, and memory may be lacking
-pub record IsOutOfMemory (t : Talk) (moves : List Move) : Type 0 where
-  pub lacking : t.lacks (ins moves) (has_ended moves)
-  pub text : Begins (outs moves) (t.due (ins moves))
+  -- there was no memory: a front of what is due was put, and memory may be lacking
+  pub record IsOutOfMemory : Type 0 where
+    pub lacking : t.lacks got ended
+    pub text : Begins put (t.due got)
 
 -- by the status
-abbrev pub Ends : Talk → Status → List Move → Type 0
-Ends t Done moves = IsAnswered t Done moves
-Ends t No moves = IsAnswered t No moves
-Ends t Refused moves = IsAnswered t Refused moves
-Ends t ReadFault moves = IsUnread t moves
-Ends t WriteFault moves = IsUnwritten t moves
-Ends t Memory moves = IsOutOfMemory t moves
-Ends t Usage moves = ⊥
+abbrev pub Ends : Talk → Status → (got put : List ℕ) → Bool → Type 0
+Ends t Done got put ended = IsAnswered t got put ended Done
+Ends t No got put ended = IsAnswered t got put ended No
+Ends t Refused got put ended = IsAnswered t got put ended Refused
+Ends t ReadFault got put ended = IsUnread t got put ended
+Ends t WriteFault got put ended = IsUnwritten t got put ended
+Ends t Memory got put ended = IsOutOfMemory t got put ended
+Ends t Usage got put ended = ⊥
 
 -- what the record of a call with this status is
 pub record Talks (t : Talk) (status : Status) (moves : List Move) : Type 0 where
   pub reads : EachRead (MayRead t) moves
-  pub ends : Ends t status moves
+  pub ends : Ends t status (ins moves) (outs moves) (has_ended moves)
 
 -- the statuses of an answer
 abbrev pub IsFinal : Status → Type 0
@@ -83,24 +84,17 @@ IsFinal No = Unit {0}
 IsFinal Refused = Unit {0}
 IsFinal _ = ⊥
 
--- some bytes may be answered with this status
-pub record CanAnswer (t : Talk) (status : Status) : Type 0 where
-  pub bytes : List ℕ
-  pub ended : Bool
-  pub text : List ℕ
-  pub answer : t.answer bytes ended status text
+-- A call may end with this status, whatever the port tells: some moves come to it, or a write failed.
+abbrev pub CanEnd : (Status → List Move → Type 0) → Status → Type 0
+CanEnd says status = (status ≡ WriteFault) ⊎ ((moves : List Move) × says status moves)
 
--- memory may be lacking behind some bytes
-pub record CanLack (t : Talk) : Type 0 where
-  pub bytes : List ℕ
-  pub ended : Bool
-  pub lacking : t.lacks bytes ended
+-- ---- a talk behind bytes
 
--- a call may end with this status, whatever the port tells
-abbrev pub CanEnd : Talk → Status → Type 0
-CanEnd t Done = CanAnswer t Done
-CanEnd t No = CanAnswer t No
-CanEnd t Refused = CanAnswer t Refused
-CanEnd t Memory = CanLack t
-CanEnd t Usage = ⊥
-CanEnd t _ = Unit {0}
+-- What is said of the bytes that follow these, where all that is due for these was put before.
+abbrev pub talk_behind : List ℕ → Talk → Talk
+talk_behind F t = record {
+  goes_on = λ x. t.goes_on (F ++ x);
+  due = λ x. drop (length (t.due F)) (t.due (F ++ x));
+  answer = λ x ended status text. t.answer (F ++ x) ended status (t.due F ++ text);
+  lacks = λ x ended. t.lacks (F ++ x) ended;
+}

@@ -8,7 +8,7 @@ use Rattle.dover_port.specs.declared.calls.Calls.{Calls}
 use Rattle.dover_port.specs.Moves.{Move, ins, outs, has_ended, EachRead, Passes, CutsShort}
 use Rattle.dover_port.specs.declared.status.Status.{Status}
 use Rattle.dover_port.specs.declared.status.Status.TheVariants.{ReadFault, WriteFault, Memory}
-use Rattle.dialogue.specs.Talk.{Talk, IsOver, IsFinal, MayRead, Talks, CanLack}
+use Rattle.dialogue.specs.Talk.{Talk, IsOver, IsFinal, MayRead, Talks, CanEnd}
 use Rattle.dialogue.specs.declared.talker.Stop.{Stop}
 use Rattle.dialogue.specs.declared.talker.Stop.TheVariants.{NoMemory, Unwritten}
 use Rattle.dialogue.specs.declared.turns.Reading.{Reading}
@@ -130,12 +130,13 @@ ReadsBy reading.Unread t ready costs moves = Talks t ReadFault moves × costs (i
 ReadsBy reading.Unwritten t ready costs moves = Talks t WriteFault moves × costs (ins moves)
 ReadsBy reading.NoMemory t ready costs moves = Talks t Memory moves × costs (ins moves)
 
--- Where no more is to be read, nothing is kept back of what is due, and the talker stands for some bytes; where there
--- was no memory, some bytes may lack it.
+-- Where no more is to be read, nothing is kept back of what is due, and the talker stands for some bytes; else a call
+-- may end so.
 abbrev pub StandsBy : Reading → Talk → Ready → (kept : List ℕ) → Type 0
 StandsBy (reading.Over ended) t ready kept = (x : List ℕ) × ready x × IsOver t x ended × (kept ≡ [])
-StandsBy reading.NoMemory t ready kept = CanLack t
-StandsBy _ t ready kept = Unit {0}
+StandsBy reading.Unread t ready kept = CanEnd (Talks t) ReadFault
+StandsBy reading.Unwritten t ready kept = CanEnd (Talks t) WriteFault
+StandsBy reading.NoMemory t ready kept = CanEnd (Talks t) Memory
 
 -- a fault comes only where its count rose
 abbrev pub ReadCauses : Reading → (reads reads' writes writes' : ℕ) → Type 0

@@ -151,7 +151,7 @@ pub fn converse<P: Port, T: Talker>(port: &mut P, mut talker: T, meter: &mut T::
     ensures talks { (a : T.about) → T.ready a talker meter.old [] → Since (P.moves port.old) (P.moves port.new)
         (λ moves. Talks (T.talk a) result moves × T.costs a meter.new (ins moves)) }
     // Whatever the port tells.
-    ensures answer { (a : T.about) → T.ready a talker meter.old [] → CanEnd (T.talk a) result }
+    ensures ends { (a : T.about) → T.ready a talker meter.old [] → CanEnd (Talks (T.talk a)) result }
     ensures causes { Causes result
         (P.read_faults port.old) (P.read_faults port.new) (P.write_faults port.old) (P.write_faults port.new) }
     ensures stops { StopsWith result (P.calls port.old) (P.calls port.new) }

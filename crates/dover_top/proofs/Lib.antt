@@ -1,9 +1,6 @@
-pub mod Settling
-pub mod PausedFeeds
-pub mod ResumedFeeds
+pub mod Keeping
 pub mod LaneFeeds
 pub mod ServedLanes
 pub mod Asking
 pub mod Numbers
-pub mod UnrolledTasks
-pub mod Outcomes
+pub mod Saying

@@ -1,5 +1,6 @@
 pub mod Promises
 pub mod Words
 pub mod Requests
-pub mod Outcomes
-pub mod Carried
+pub mod Says
+pub mod Keeps
+pub mod Spending

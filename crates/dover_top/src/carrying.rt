@@ -2,9 +2,10 @@
 ghost use Rattle.std.specs.Prelude.{◌≡◌};
 ghost use Rattle.dover_port.specs.Causes.{Causes, StopsWith};
 ghost use Rattle.dover_port.specs.Moves.{Since};
-ghost use Rattle.dover_top.specs.Carried.{Carries};
-ghost use Rattle.dover_top.specs.Outcomes.{MayEnd, IsFrugal, IsFrugalAsAsked};
+ghost use Rattle.dialogue.specs.Talk.{CanEnd};
 ghost use Rattle.dover_top.specs.Requests.{MayCarry};
+ghost use Rattle.dover_top.specs.Says.{Says};
+ghost use Rattle.dover_top.specs.Spending.{IsFrugal, IsFrugalAsAsked};
 
 use crate::request::Request;
 use dover_port::{Port, Status};
@@ -28,8 +29,8 @@ pub(crate) fn carry_out<P: Port, L: Ledger>(
     steps: &mut Steps<L>,
 ) -> Status
     requires { MayCarry request }
-    ensures carries { Since (P.moves port.old) (P.moves port.new) (Carries request result) }
-    ensures ends { MayEnd request result }
+    ensures talks { Since (P.moves port.old) (P.moves port.new) (Says request result) }
+    ensures ends { CanEnd (Says request) result }
     ensures comparisons { Since (P.moves port.old) (P.moves port.new) (IsFrugal request result steps.old steps.new) }
     ensures stated { result ≡ Status.Done → IsFrugalAsAsked request steps.old steps.new }
     ensures causes { Causes result (P.read_faults port.old) (P.read_faults port.new) (P.write_faults port.old)

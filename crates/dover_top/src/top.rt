@@ -1,10 +1,13 @@
 //! The call `dover`.
 ghost use Rattle.std.specs.Prelude.{◌≡◌, ◌↔◌};
-ghost use Rattle.dover_port.specs.Causes.{Causes, Rose, StopsWith};
-ghost use Rattle.dover_port.specs.Moves.{Since, EachRead};
+ghost use Rattle.dover_port.specs.Causes.{Causes, StopsWith};
+ghost use Rattle.dover_port.specs.Moves.{Since};
+ghost use Rattle.dialogue.specs.Talk.{CanEnd};
 ghost use Rattle.dover_top.specs.declared.request.Request.{Request};
+ghost use Rattle.dover_top.specs.Keeps.{Keeps};
 ghost use Rattle.dover_top.specs.Requests.{Asks};
-ghost use Rattle.dover_top.specs.Outcomes.{MayRead, Outcome, MayEnd, IsCalledFor, IsFrugal, IsFrugalAsAsked};
+ghost use Rattle.dover_top.specs.Says.{Says};
+ghost use Rattle.dover_top.specs.Spending.{IsFrugal, IsFrugalAsAsked};
 
 use crate::carrying::carry_out;
 use crate::request::asked;
@@ -57,19 +60,14 @@ pub fn dover<P: Port, L: Ledger>(
     port: &mut P,
     steps: &mut Steps<L>,
 ) -> Status
-    // What was got and put before each read, and whether one may come; nothing is read behind the end of input.
-    ensures reads { (request : Request) → Asks words.now request →
-        Since (P.moves port.old) (P.moves port.new) (EachRead (MayRead request)) }
-    // What was read and written in all, by the status, with the promises on the run at Done.
-    ensures outcome { (request : Request) → Asks words.now request →
-        Since (P.moves port.old) (P.moves port.new) (Outcome request result) }
-    // The statuses with which these words may end.
-    ensures ends { (request : Request) → Asks words.now request → MayEnd request result }
-    // Where no count of faults rose, the status is the one that what was read calls for, or there was no memory.
-    ensures called_for { (request : Request) → Asks words.now request →
-        (Rose (P.read_faults port.old) (P.read_faults port.new) → ⊥) →
-        (Rose (P.write_faults port.old) (P.write_faults port.new) → ⊥) →
-        Since (P.moves port.old) (P.moves port.new) (IsCalledFor request result) }
+    // What was got and put before each read, and in all, by the status.
+    ensures talks { (request : Request) → Asks words.now request →
+        Since (P.moves port.old) (P.moves port.new) (Says request result) }
+    // What it promises of the run besides.
+    ensures promises { (request : Request) → Asks words.now request →
+        Since (P.moves port.old) (P.moves port.new) (Keeps request result) }
+    // Whatever the port tells, it is a status with which what these words ask for may end.
+    ensures ends { (request : Request) → Asks words.now request → CanEnd (Says request) result }
 
     // How many comparisons a call makes: for n jobs at most 80 * (n + 1) * d, where n + 1 has at most d binary digits;
     // serve and pause at every status, for the jobs that were admitted, none before a ratio line; judge and report at
@@ -82,7 +80,8 @@ pub fn dover<P: Port, L: Ledger>(
     ensures stated { (request : Request) → Asks words.now request → result ≡ Status.Done →
         IsFrugalAsAsked request steps.old steps.new }
 
-    // A fault comes only where its count rose in this call, and each count rises for its own fault alone.
+    // A fault comes only where its count rose in this call, and each count rises for its own fault alone. So where none
+    // rose, what was read has its answer, or there was no memory.
     ensures causes { Causes result (P.read_faults port.old) (P.read_faults port.new) (P.write_faults port.old)
         (P.write_faults port.new) }
     // No call of the port follows one that failed: the last one alone has failed at a fault, and else none has.

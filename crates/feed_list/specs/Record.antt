@@ -1,5 +1,5 @@
 -- What is known of a feed whose reading has ended.
-use Rattle.std.specs.Prelude.{◌≡◌, ◌⊎◌, ℕ, List, [], true, Some, length}
+use Rattle.std.specs.Prelude.{◌≡◌, ◌⊎◌, ℕ, List, true, Some, length}
 use Rattle.dover_model.specs.Feed.{Faulty, is_open, is_ended, account}
 use Rattle.dover_model.specs.Lines.{whole_lines}
 use Rattle.dover_model.specs.Session.{Session, IsValidSession, instance_of}
@@ -9,10 +9,6 @@ use Rattle.event_feed.specs.Kept.{cause_of_fault}
 use Rattle.event_feed.specs.declared.faults.FeedFault.{FeedFault}
 use Rattle.feed_list.specs.Listing.{listed_instance}
 use Rattle.feed_list.specs.declared.listed.Listed.{Listed}
-
--- Before a read: nothing was put, and the bytes got neither end the feed nor have a fault.
-abbrev pub MayRead : List ℕ → List ℕ → Type 0
-MayRead got put = (put ≡ []) × (is_open (account got) ≡ true)
 
 -- the feed of these bytes ended without a fault, and these are the jobs of its session
 pub record IsEnded (listed : Listed) (bytes : List ℕ) : Type 0 where

@@ -1,3 +1,4 @@
+pub mod Talk
 pub mod Line
-pub mod Record
+pub mod Spending
 pub mod Talking

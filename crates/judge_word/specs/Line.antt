@@ -1,4 +1,4 @@
--- The line of a verdict.
+-- The line of a verdict, and its status.
 use Rattle.std.specs.Prelude.{ℕ, List, [], ◌∷◌, ◌++◌, codes, decimal}
 use Rattle.dover_model.specs.Bound.{bound}
 use Rattle.dover_model.specs.Lines.{line_of, with_numbers}
@@ -7,6 +7,11 @@ use Rattle.dover_model.specs.Run.{completed_value}
 use Rattle.dover_model.specs.Session.{instance_of}
 use Rattle.dover_model.specs.Text.{text_of, step_numbers}
 use Rattle.dover_model.specs.Verdict.{Expected, Header, Step, Nothing, Verdict, Accepted, Wrong, Short}
+use Rattle.dover_port.specs.declared.status.Status.{Status}
+use Rattle.dover_port.specs.declared.status.Status.TheVariants.{Done, No}
+use Rattle.trace_format.specs.Form.{step_numbers}
+use Rattle.trace_judge.specs.declared.verdict.Verdict.{Verdict as Told}
+use Rattle.trace_judge.specs.declared.verdict.Verdict.TheVariants as told
 
 -- what is due in place of a wrong line
 abbrev pub expected_text : Expected → List ℕ
@@ -46,3 +51,9 @@ abbrev pub IsShortDue : Expected → Type 0
 IsShortDue Header = Unit {0}
 IsShortDue (Step e) = AreShort (step_numbers e)
 IsShortDue Nothing = Unit {0}
+
+-- the status of a verdict
+abbrev pub status_of : Told → Status
+status_of (told.Accepted k version value most jobs) = Done
+status_of (told.Wrong line due) = No
+status_of (told.Short lines) = No

@@ -1,6 +1,7 @@
 //! What the reading loop calls: a judge, which takes the text whole and answers at its end.
 ghost use Rattle.std.specs.Prelude.{◌≡◌, ℕ, List};
-ghost use Rattle.judge_word.specs.Talking.{judge_talk, IsReady, IsAt, Costs};
+ghost use Rattle.judge_word.specs.Talk.{judge_talk};
+ghost use Rattle.judge_word.specs.Talking.{IsReady, IsAt, Costs};
 
 use crate::lines::{put_verdict, status_of};
 use dialogue::{Stop, Talker};

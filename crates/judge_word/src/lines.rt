@@ -5,7 +5,7 @@ ghost use Rattle.dover_port.specs.Causes.{HasCause, StopsAtFailure};
 ghost use Rattle.dover_port.specs.Moves.{PutsThrough};
 ghost use Rattle.trace_judge.specs.Judging.{Tells};
 ghost use Rattle.trace_judge.specs.Reads.{expected_of};
-ghost use Rattle.judge_word.specs.Record.{status_of};
+ghost use Rattle.judge_word.specs.Line.{status_of};
 ghost use Rattle.judge_word.specs.Line.{IsShortDue, accepted_line, wrong_front, expected_text, short_line};
 ghost use Rattle.judge_word.specs.Line.{verdict_text};
 

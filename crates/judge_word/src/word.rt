@@ -1,8 +1,9 @@
 //! The word as a whole.
-ghost use Rattle.std.specs.Prelude.{◌≡◌};
 ghost use Rattle.dover_port.specs.Causes.{Causes, StopsWith};
 ghost use Rattle.dover_port.specs.Moves.{Since};
-ghost use Rattle.judge_word.specs.Record.{Judges, IsNeitherRefusedNorUsage, IsFrugal};
+ghost use Rattle.dialogue.specs.Talk.{Talks, CanEnd};
+ghost use Rattle.judge_word.specs.Spending.{IsFrugal};
+ghost use Rattle.judge_word.specs.Talk.{judge_talk};
 
 use crate::judging::Judging;
 use dialogue::converse;
@@ -16,9 +17,9 @@ use trace_judge::Judge;
 /// Judges a text: reads it to its first wrong line or the end of the input, and then writes its verdict. Memory is
 /// taken at the start and for each job that the text names.
 pub fn judge_word<P: Port, L: Ledger>(alloc: Global, port: &mut P, steps: &mut Steps<L>) -> Status
-    ensures judges { Since (P.moves port.old) (P.moves port.new) (Judges result) }
+    ensures talks { Since (P.moves port.old) (P.moves port.new) (Talks judge_talk result) }
     ensures count { Since (P.moves port.old) (P.moves port.new) (IsFrugal steps.old steps.new) }
-    ensures answer { IsNeitherRefusedNorUsage result }
+    ensures ends { CanEnd (Talks judge_talk) result }
     ensures causes { Causes result
         (P.read_faults port.old) (P.read_faults port.new) (P.write_faults port.old) (P.write_faults port.new) }
     ensures stops { StopsWith result (P.calls port.old) (P.calls port.new) }

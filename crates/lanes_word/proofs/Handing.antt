@@ -13,8 +13,8 @@ use Rattle.lane_server.specs.Kept.{Kept, StandsFor, IsFed, IsClosed, is_closed}
 use Rattle.lane_server.specs.declared.lanes.Phase.{Phase}
 use Rattle.lane_server.specs.declared.lanes.Phase.TheVariants.{Ready, Giving, Closing}
 use Rattle.lane_server.proofs.Handing.{input_fed, input_closed}
-use Rattle.lanes_word.specs.Record.{HasLine}
-use Rattle.lanes_word.specs.Talking.{is_short, HasFault, Leaves, Holds, Hands}
+use Rattle.lanes_word.specs.Talk.{HasLine}
+use Rattle.lanes_word.specs.Keeping.{is_short, HasFault, Leaves, Holds, Hands}
 use Rattle.lanes_word.specs.declared.refusal.Refusal.{Refusal}
 use Rattle.lanes_word.specs.declared.refusal.Refusal.TheVariants.{Short, TooManyLines, BadLane}
 use Rattle.lanes_word.proofs.Inputs.{goes_on_at, few_lines, due_fed, input_many, input_bad}

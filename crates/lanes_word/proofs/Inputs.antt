@@ -19,7 +19,7 @@ use Rattle.lane_server.specs.Lanes.{TooManyLines, BadLane}
 use Rattle.lane_server.specs.Lanes.{no_input, next_line, read_lane_line, with_lane_line, goes_on, input_of_lines, input}
 use Rattle.lane_server.specs.Lanes.{newly_due, due_after, lane_due}
 use Rattle.line_text.proofs.Lengths.{AreNotTooLong, text_few}
-use Rattle.lanes_word.specs.Record.{HasLine}
+use Rattle.lanes_word.specs.Talk.{HasLine}
 
 -- an input
 abbrev input_with : ℕ → List Handed → InputStanding → Input

@@ -5,4 +5,3 @@ pub mod Inputs
 pub mod Handing
 pub mod Talking
 pub mod Texts
-pub mod Records

@@ -22,8 +22,9 @@ use Rattle.lane_server.specs.Lane.{Serving, Having}
 use Rattle.lane_server.specs.Kept as keeping
 use Rattle.lane_server.specs.Kept.{Kept, StandsFor}
 use Rattle.lane_server.proofs.Few.{few_left}
-use Rattle.lanes_word.specs.Record.{HasLine, closing_status}
-use Rattle.lanes_word.specs.Talking.{lanes_talk, word_of, is_short, Leaves, Holds, Hands, IsGiving, IsReady, Adds}
+use Rattle.lanes_word.specs.Talk.{HasLine, closing_status}
+use Rattle.lanes_word.specs.Talk.{lanes_talk}
+use Rattle.lanes_word.specs.Keeping.{word_of, is_short, Leaves, Holds, Hands, IsGiving, IsReady, Adds}
 use Rattle.lanes_word.specs.declared.refusal.Refusal.{Refusal}
 use Rattle.lanes_word.specs.declared.refusal.Refusal.TheVariants.{Short, TooManyLines, BadLane}
 use Rattle.lanes_word.proofs.Handing.{open_holds, over_holds, holds_open, goes_short, unclosed}

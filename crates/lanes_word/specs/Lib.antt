@@ -1,3 +1,4 @@
-pub mod Alone
+pub mod Talk
 pub mod Record
-pub mod Talking
+pub mod Alone
+pub mod Keeping

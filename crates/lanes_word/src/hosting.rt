@@ -7,7 +7,8 @@ ghost use Rattle.dover_port.specs.Moves.{PutsThrough};
 ghost use Rattle.lane_server.specs.Kept as kept;
 ghost use Rattle.lane_server.specs.Lanes.{goes_on, input};
 ghost use Rattle.line_text.specs.Cutting.{IsWholeLine};
-ghost use Rattle.lanes_word.specs.Talking.{lanes_talk, is_short, Leaves, Hands, IsGiving, IsReady, Adds};
+ghost use Rattle.lanes_word.specs.Talk.{lanes_talk};
+ghost use Rattle.lanes_word.specs.Keeping.{is_short, Leaves, Hands, IsGiving, IsReady, Adds};
 
 use crate::lines::{put_refusal, write_in_lane};
 use crate::refusal::Refusal;

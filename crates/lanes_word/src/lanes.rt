@@ -1,6 +1,7 @@
 //! The word.
-ghost use Rattle.dover_port.specs.Causes.{Causes, IsNeitherNoNorUsage, StopsWith};
+ghost use Rattle.dover_port.specs.Causes.{Causes, StopsWith};
 ghost use Rattle.dover_port.specs.Moves.{Since};
+ghost use Rattle.dialogue.specs.Talk.{CanEnd};
 ghost use Rattle.lanes_word.specs.Record.{Serves};
 
 use crate::hosting::Hosting;
@@ -17,7 +18,7 @@ use step_count::Steps;
 /// at the start and at lines of lanes alone.
 pub fn lanes_word<P: Port, L: Ledger>(alloc: Global, port: &mut P, steps: &mut Steps<L>) -> Status
     ensures serves { Since (P.moves port.old) (P.moves port.new) (Serves result) }
-    ensures answer { IsNeitherNoNorUsage result }
+    ensures ends { CanEnd Serves result }
     ensures causes { Causes result (P.read_faults port.old) (P.read_faults port.new) (P.write_faults port.old)
         (P.write_faults port.new) }
     ensures stops { StopsWith result (P.calls port.old) (P.calls port.new) }

@@ -1,6 +1,6 @@
 //! Why an input is refused.
 ghost use Rattle.std.specs.Prelude.{◌≡◌, ◌≤◌, length};
-ghost use Rattle.lanes_word.specs.Talking.{word_of};
+ghost use Rattle.lanes_word.specs.Keeping.{word_of};
 
 /// Why an input is refused as a whole.
 #[derive(Clone, Copy)]

@@ -20,8 +20,8 @@ use Rattle.feed_list.specs.Listing.{listed_instance}
 use Rattle.feed_list.specs.Record.{IsEnded, IsRefusedBy}
 use Rattle.feed_list.specs.declared.listed.Listed.{Listed}
 use Rattle.question_words.specs.Asking.{PutsBy, SaysBy}
-use Rattle.question_words.specs.Record.{Says, IsRefusedAt, IsSaid}
-use Rattle.question_words.specs.Talking.{ask_talk}
+use Rattle.question_words.specs.Talk.{Says, IsRefusedAt, IsSaid}
+use Rattle.question_words.specs.Talk.{ask_talk}
 use Rattle.question_words.specs.Texts.{refusal_text}
 
 -- whether a feed goes on, by its standing

@@ -1,26 +1,19 @@
--- What a word says that answers on the jobs of a feed: its laws, and what they come to.
-use Rattle.std.proofs.Common.{◌≡◌, ◌<◌, ◌^◌, ◌-◌, ℕ, List, ◌∷◌, ◌++◌, [], length, refl, sym, ap, ◌∙◌, subst, arith}
-use Rattle.std.proofs.Common.{Bool, true, false, inl, inr, cond, suc}
+-- What a word says that answers on the jobs of a feed: its laws.
+use Rattle.std.proofs.Common.{◌≡◌, ◌<◌, ◌^◌, ◌-◌, ℕ, List, ◌∷◌, ◌++◌, [], length, refl, sym, ap, ◌∙◌, arith}
+use Rattle.std.proofs.Common.{true, false, inl, inr, cond, suc}
 use Rattle.dover_model.specs.Due.{fault_text, fault_lines, short_lines}
 use Rattle.dover_model.specs.Feed as feeds
-use Rattle.dover_model.specs.Feed.{Account, Standing, account, is_open, is_ended}
+use Rattle.dover_model.specs.Feed.{Account, account, is_open, is_ended}
 use Rattle.dover_model.specs.Instance.{Instance}
 use Rattle.dover_model.specs.Lines.{in_lines, whole_lines}
-use Rattle.dover_port.specs.Causes.{IsNeitherNoNorUsage}
-use Rattle.dover_port.specs.Moves.{Move, ins, outs, has_ended, IsProperPrefix}
 use Rattle.dover_port.specs.declared.status.Status.{Status}
-use Rattle.dover_port.specs.declared.status.Status.TheVariants.{Done, No, Refused, ReadFault, WriteFault, Memory, Usage}
-use Rattle.dialogue.specs.Talk.{IsSteady, IsFinal, IsCutAnswer, Talks, CanEnd}
-use Rattle.dialogue.specs.Talk as talk
-use Rattle.dialogue.proofs.Quiet.{cut_answer, nothing_put}
+use Rattle.dialogue.specs.Talk.{IsSteady, IsFinal}
 use Rattle.event_feed.proofs.GoingOn.{closed_account, open_bytes}
 use Rattle.feed_list.specs.Feeding as feed
 use Rattle.feed_list.specs.declared.reader.FeedReader.{FeedReader}
 use Rattle.feed_list.proofs.Ending.{going_stands}
-use Rattle.question_words.specs.Questions.{says, IsAnswerTo}
-use Rattle.question_words.specs.Record.{Says, IsRefusedAt, IsSaid, Tells, Ends}
-use Rattle.question_words.specs.Record as asked
-use Rattle.question_words.specs.Talking.{ask_talk}
+use Rattle.question_words.specs.Questions.{says}
+use Rattle.question_words.specs.Talk.{Says, IsRefusedAt, IsSaid, ask_talk}
 use Rattle.question_words.specs.Texts.{refusal_text}
 use Rattle.question_words.specs.declared.question.Question.{Question}
 use Rattle.question_words.specs.declared.question.Question.TheVariants.{Feasible, Best, Compare}
@@ -83,43 +76,6 @@ few reader x at on =
     let stands : feed.FeedStands reader.feed x = going_stands reader.progress reader.feed x at on in
     omega (arith, open_bytes x stands.keeps.stands stands.short)
 
--- ---- the record
-
--- an answer with this status isn't a refusal
-said_only : (says : Says) (status : Status) (x : List ℕ) (ended : Bool) (text : List ℕ) → (status ≡ Refused → ⊥)
-    → (ask_talk says).answer x ended status text → IsSaid says status text x
-said_only says status x ended text not (inl refused) = absurd (not refused.0)
-said_only says status x ended text not (inr said) = said
-
--- what refuses a feed, or is said of its jobs
-refused_told : (says : Says) (moves : List Move)
-    → (ask_talk says).answer (ins moves) (has_ended moves) Refused (outs moves) → Ends says Refused moves
-refused_told says moves (inl refused) = inl (refused.1, refused.2)
-refused_told says moves (inr said) = inr said
-
--- a front of it
-front_told : (says : Says) (moves : List Move) → IsCutAnswer (ask_talk says) moves → asked.IsUnwritten says moves
-front_told says moves cut = by_answer cut.answer where
-  by_answer : (ask_talk says).answer (ins moves) (has_ended moves) cut.status cut.text → asked.IsUnwritten says moves
-  by_answer (inl refused) = inl (refused.1, subst (IsProperPrefix (outs moves)) refused.2 cut.front)
-  by_answer (inr said) = inr (cut.status, cut.text, said, cut.front)
-
--- what the word promises is what its talk comes to
-pub told_by : (says : Says) (status : Status) (moves : List Move) → Talks (ask_talk says) status moves
-    → Tells says status moves
-told_by says status moves it = record { reads = it.reads; ends = by_status status it.ends } where
-  by_status : (s : Status) → talk.Ends (ask_talk says) s moves → Ends says s moves
-  by_status Done made = said_only says Done (ins moves) (has_ended moves) (outs moves)
-      (λ is. let e : Done ≡ Refused = is in cc) made.answer
-  by_status No made = said_only says No (ins moves) (has_ended moves) (outs moves)
-      (λ is. let e : No ≡ Refused = is in cc) made.answer
-  by_status Refused made = refused_told says moves made.answer
-  by_status ReadFault made = record { unended = made.unended; open_still = made.open_still; text = made.text }
-  by_status WriteFault made = front_told says moves (cut_answer (ask_talk says) (λ x. refl) moves made)
-  by_status Memory made =
-      record { unended = made.lacking; text = nothing_put (ask_talk says) (λ x. refl) moves made }
-  by_status Usage made = absurd made
-
 -- ---- the statuses
 
 -- what is said of the jobs comes with one of them
@@ -128,35 +84,3 @@ pub saying : (question : Question) (J : Instance) (status : Status) (text : List
 saying Feasible J status text it = feasible_saying J status text it
 saying Best J status text it = best_saying J status text it
 saying Compare J status text it = compare_saying J status text it
-
--- they are those of the word
-pub answers : (question : Question) (status : Status) → CanEnd (ask_talk (says question)) status
-    → IsAnswerTo question status
-answers Feasible Done it = tt
-answers Feasible No it = tt
-answers Feasible Refused it = tt
-answers Feasible ReadFault it = tt
-answers Feasible WriteFault it = tt
-answers Feasible Memory it = tt
-answers Feasible Usage it = absurd it
-answers Best status it = by_status status it where
-  by_status : (s : Status) → CanEnd (ask_talk (says Best)) s → IsNeitherNoNorUsage s
-  by_status Done made = tt
-  by_status No made = (said_only (says Best) No made.bytes made.ended made.text
-      (λ is. let e : No ≡ Refused = is in cc) made.answer).said
-  by_status Refused made = tt
-  by_status ReadFault made = tt
-  by_status WriteFault made = tt
-  by_status Memory made = tt
-  by_status Usage made = absurd made
-answers Compare status it = by_status status it where
-  by_status : (s : Status) → CanEnd (ask_talk (says Compare)) s → IsNeitherNoNorUsage s
-  by_status Done made = tt
-  by_status No made =
-      (said_only (says Compare) No made.bytes made.ended made.text
-      (λ is. let e : No ≡ Refused = is in cc) made.answer).said
-  by_status Refused made = tt
-  by_status ReadFault made = tt
-  by_status WriteFault made = tt
-  by_status Memory made = tt
-  by_status Usage made = absurd made

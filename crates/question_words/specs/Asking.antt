@@ -5,7 +5,7 @@ use Rattle.dover_port.specs.Moves.{Move, Passes, CutsShort}
 use Rattle.dover_port.specs.declared.status.Status.{Status}
 use Rattle.dialogue.specs.declared.talker.Stop.{Stop}
 use Rattle.dialogue.specs.declared.talker.Stop.TheVariants.{NoMemory, Unwritten}
-use Rattle.question_words.specs.Record.{Says}
+use Rattle.question_words.specs.Talk.{Says}
 
 -- the text was put with this status, or a front of it that isn't all
 abbrev pub PutsBy : Status → List ℕ → (old new : Option (List Move)) → (after : List ℕ) → Result Status Stop → Type 0

@@ -5,7 +5,7 @@ use Rattle.dover_model.specs.Lines.{with_numbers, in_lines}
 use Rattle.dover_model.specs.Schedules.{Meets}
 use Rattle.dover_model.specs.declared.pieces.Piece.{Piece}
 use Rattle.dover_port.specs.declared.status.Status.{Status}
-use Rattle.dover_port.specs.declared.status.Status.TheVariants.{Done, No, Refused, ReadFault, WriteFault, Memory}
+use Rattle.dover_port.specs.declared.status.Status.TheVariants.{Done, No}
 use Rattle.feasibility.specs.Feasibility.{ShowsAll, ShowsWindow}
 use Rattle.feasibility.specs.declared.answer.Feasible.{Feasible}
 use Rattle.feasibility.specs.declared.answer.Feasible.TheVariants.{All, Window}
@@ -26,16 +26,6 @@ SaysFeasible J Done text = Meets J × ((pieces : List Piece) × ShowsAll J.jobs 
 SaysFeasible J No text = (Meets J → ⊥)
     × ((a : ℕ) × (b : ℕ) × (work : ℕ) × ShowsWindow J.jobs a b work × (text ≡ window_text a b work))
 SaysFeasible J _ text = ⊥
-
--- the statuses that the word ends with
-abbrev pub IsFeasibleAnswer : Status → Type 0
-IsFeasibleAnswer Done = Unit {0}
-IsFeasibleAnswer No = Unit {0}
-IsFeasibleAnswer Refused = Unit {0}
-IsFeasibleAnswer ReadFault = Unit {0}
-IsFeasibleAnswer WriteFault = Unit {0}
-IsFeasibleAnswer Memory = Unit {0}
-IsFeasibleAnswer _ = ⊥
 
 -- the status and the text of an answer
 abbrev pub status_of : Feasible → Status

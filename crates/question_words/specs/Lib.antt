@@ -1,8 +1,8 @@
 pub mod Texts
-pub mod Record
+pub mod Talk
 pub mod Feasible
 pub mod Compare
 pub mod Best
 pub mod Questions
 pub mod Asking
-pub mod Talking
+pub mod Keeping

@@ -6,7 +6,8 @@ ghost use Rattle.dover_model.specs.Instance.{IsValid};
 ghost use Rattle.feed_list.specs.Listing.{listed_instance};
 ghost use Rattle.question_words.specs.Asking.{SaysBy};
 ghost use Rattle.question_words.specs.Questions.{says};
-ghost use Rattle.question_words.specs.Talking.{Asked, ask_talk, Stands, IsAt, Costs};
+ghost use Rattle.question_words.specs.Talk.{ask_talk};
+ghost use Rattle.question_words.specs.Keeping.{Asked, Stands, IsAt, Costs};
 
 use crate::refusing::refuse;
 use crate::{Question, best, compare, feasible};

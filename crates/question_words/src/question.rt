@@ -2,9 +2,10 @@
 ghost use Rattle.std.specs.Prelude.{◌≡◌};
 ghost use Rattle.dover_port.specs.Causes.{Causes, StopsWith};
 ghost use Rattle.dover_port.specs.Moves.{Since};
+ghost use Rattle.dialogue.specs.Talk.{Talks, CanEnd};
 ghost use Rattle.question_words.specs.Compare.{IsFrugal};
-ghost use Rattle.question_words.specs.Questions.{says, IsAnswerTo};
-ghost use Rattle.question_words.specs.Record.{Tells};
+ghost use Rattle.question_words.specs.Questions.{says};
+ghost use Rattle.question_words.specs.Talk.{ask_talk};
 
 use crate::asking::Asking;
 use dialogue::converse;
@@ -35,8 +36,8 @@ pub fn question_word<P: Port, L: Ledger>(
     question: Question,
     steps: &mut Steps<L>,
 ) -> Status
-    ensures tells { Since (P.moves port.old) (P.moves port.new) (Tells (says question) result) }
-    ensures answer { IsAnswerTo question result }
+    ensures talks { Since (P.moves port.old) (P.moves port.new) (Talks (ask_talk (says question)) result) }
+    ensures ends { CanEnd (Talks (ask_talk (says question))) result }
     ensures count { Since (P.moves port.old) (P.moves port.new)
         (λ moves. result ≡ Status.Done → IsFrugal steps.old steps.new moves) }
     ensures causes { Causes result

@@ -13,7 +13,8 @@ use Rattle.dialogue.specs.Turns.{AnswersBy}
 use Rattle.dialogue.specs.declared.talker.Stop.{Stop}
 use Rattle.dialogue.specs.declared.talker.Stop.TheVariants.{NoMemory, Unwritten}
 use Rattle.judge_word.specs.Line.{verdict_text}
-use Rattle.judge_word.specs.Record.{IsTrace, IsNoTrace, status_of}
+use Rattle.judge_word.specs.Talk.{IsTrace, IsNoTrace}
+use Rattle.judge_word.specs.Line.{status_of}
 use Rattle.judge_word.proofs.Talking.{by_verdict}
 use Rattle.trace_judge.specs.Judging.{Tells, steps_told, is_wrong}
 use Rattle.trace_judge.specs.declared.judge.Closed.{Closed}
@@ -21,8 +22,8 @@ use Rattle.trace_judge.specs.declared.verdict.Expected.{Expected}
 use Rattle.trace_judge.specs.declared.verdict.Verdict.{Verdict}
 use Rattle.trace_judge.specs.declared.verdict.Verdict.TheVariants.{Accepted, Wrong, Short}
 use Rattle.report_word.specs.declared.form.Form.{Form}
-use Rattle.report_word.specs.Record.{report_text, told}
-use Rattle.report_word.specs.Talking.{report_talk, IsClosed, TellsNoTrace, Puts}
+use Rattle.report_word.specs.Talk.{report_text, told, report_talk}
+use Rattle.report_word.specs.Talking.{IsClosed, TellsNoTrace, Puts}
 
 -- the judge kept the steps of the run
 pub closed_with : (closed : Closed) (keep : Bool) (text : List ℕ) → keep ≡ true → Tells closed.verdict text

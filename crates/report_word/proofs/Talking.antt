@@ -1,59 +1,11 @@
--- What the word's talk comes to.
-use Rattle.std.proofs.Common.{◌≡◌, ℕ, List, Bool, true, false, refl, ap, ◌∙◌}
-use Rattle.dover_port.specs.Moves.{Move, ins}
-use Rattle.dover_port.specs.declared.status.Status.{Status}
-use Rattle.dover_port.specs.declared.status.Status.TheVariants.{Done, No, Refused, ReadFault, WriteFault, Memory, Usage}
-use Rattle.dialogue.specs.Talk.{IsSteady, Talks, CanEnd}
-use Rattle.dialogue.specs.Talk as talk
-use Rattle.judge_word.specs.Record.{IsTrace, IsNeitherRefusedNorUsage}
-use Rattle.judge_word.proofs.Talking.{steady, reads_told, ended_told, refused_told, unread_told, front_told, over_cut}
-use Rattle.dialogue.proofs.Quiet.{nothing_put}
+-- The laws of the word's talk.
+use Rattle.std.proofs.Common.{◌≡◌, false, true}
+use Rattle.dialogue.specs.Talk.{IsSteady}
+use Rattle.judge_word.specs.Talk.{IsTrace}
+use Rattle.judge_word.proofs.Talking.{steady}
 use Rattle.report_word.specs.declared.form.Form.{Form}
-use Rattle.report_word.specs.Record.{told, Reports, Ends}
-use Rattle.report_word.specs.Talking.{report_talk}
-use Rattle.report_word.proofs.Answering.{line_told}
+use Rattle.report_word.specs.Talk.{told, report_talk}
 
--- where memory may be lacking
-abbrev for_report : List ℕ → Bool → Type 0
-for_report bytes ended = ended ≡ true → IsTrace bytes
-
-module _ (form : Form) where
-  -- its laws
-  pub report_steady : IsSteady (report_talk form)
-  report_steady = steady (told form) for_report
-      (λ x y it ended. absurd (let e : false ≡ true = ended in cc))
-
-  -- what the word promises is what its talk comes to
-  pub reported_by : (status : Status) (moves : List Move) → Talks (report_talk form) status moves
-      → Reports form status moves
-  reported_by status moves it =
-      record { reads = reads_told (told form) for_report moves it.reads; ends = by_status status it.ends } where
-        by_status : (s : Status) → talk.Ends (report_talk form) s moves → Ends form s moves
-        by_status Done made = record {
-          ended = ended_told (told form) for_report moves made;
-          trace = made.answer.0;
-          text = made.answer.1 ∙ ap (told form) made.answer.0.1;
-        }
-        by_status No made = refused_told (told form) for_report moves made
-            (made.answer.1 ∙ line_told form (ins moves) made.answer.0)
-        by_status Refused made = absurd made.answer.0
-        by_status ReadFault made = unread_told (told form) for_report moves made
-        by_status WriteFault made =
-            record {
-              over = over_cut (told form) for_report moves made;
-              text = front_told
-                  (told form) for_report moves made;
-            }
-        by_status Memory made =
-            record { text = nothing_put (report_talk form) (λ x. refl) moves made; trace = made.lacking }
-        by_status Usage made = absurd made
-
-  -- and so are its statuses
-  pub answers : (status : Status) → CanEnd (report_talk form) status → IsNeitherRefusedNorUsage status
-  answers Done it = tt
-  answers No it = tt
-  answers Refused it = absurd it.answer.0
-  answers ReadFault it = tt
-  answers WriteFault it = tt
-  answers Memory it = tt
-  answers Usage it = absurd it
+pub report_steady : (form : Form) → IsSteady (report_talk form)
+report_steady form = steady (told form) (λ bytes ended. ended ≡ true → IsTrace bytes)
+    (λ x y it ended. absurd (let e : false ≡ true = ended in cc))

@@ -1,23 +1,15 @@
--- What the word says, by the bytes got so far, and what it keeps of them.
+-- What is kept of a text that is reported on, and what is put of the answer.
 use Rattle.std.specs.Prelude.{◌≡◌, ℕ, List, [], true, Option, Result, Ok, Err}
 use Rattle.dover_model.specs.Verdict.{verdict}
 use Rattle.dover_port.specs.Moves.{Move, Passes, CutsShort}
-use Rattle.dialogue.specs.Talk.{Talk}
 use Rattle.dialogue.specs.declared.talker.Stop.{Stop}
 use Rattle.dialogue.specs.declared.talker.Stop.TheVariants.{NoMemory, Unwritten}
-use Rattle.judge_word.specs.Record.{IsTrace, IsNoTrace}
-use Rattle.judge_word.specs.Talking.{judging_talk}
+use Rattle.judge_word.specs.Talk.{IsNoTrace}
 use Rattle.trace_judge.specs.Judging.{StandsFor, HasPaidFor, Tells, steps_told}
 use Rattle.trace_judge.specs.declared.judge.Closed.{Closed}
 use Rattle.trace_judge.specs.declared.judge.Judge.{Judge}
 use Rattle.trace_judge.specs.declared.verdict.Verdict.{Verdict}
-use Rattle.report_word.specs.Record.{told}
 use Rattle.report_word.specs.declared.form.Form.{Form}
-
--- The report on the run of an accepted trace is told, and else the line of the verdict. Where the input has ended,
--- memory may be lacking for a report alone.
-abbrev pub report_talk : Form → Talk
-report_talk form = judging_talk (told form) (λ bytes ended. ended ≡ true → IsTrace bytes)
 
 -- what a call is about: the form of the report, and the comparisons from which those of the call count
 pub record Call : Type 0 where

@@ -1,7 +1,8 @@
 //! What the reading loop calls: a judge that keeps the steps of the run, and tells the report at the end.
 ghost use Rattle.std.specs.Prelude.{ℕ, List};
 ghost use Rattle.judge_word.specs.Talking.{Costs};
-ghost use Rattle.report_word.specs.Talking.{Call, report_talk, Stands, IsAt};
+ghost use Rattle.report_word.specs.Talk.{report_talk};
+ghost use Rattle.report_word.specs.Talking.{Call, Stands, IsAt};
 
 use crate::Form;
 use crate::word::tell;

@@ -4,10 +4,11 @@ ghost use Rattle.intervals.specs.Rows.{IsRunOf};
 ghost use Rattle.dover_model.specs.Instance.{Instance};
 ghost use Rattle.dover_port.specs.Causes.{Causes, StopsWith};
 ghost use Rattle.dover_port.specs.Moves.{Since};
+ghost use Rattle.dialogue.specs.Talk.{Talks, CanEnd};
 ghost use Rattle.dialogue.specs.Turns.{AnswersBy, StopCause, StopsOn};
-ghost use Rattle.judge_word.specs.Record.{IsNeitherRefusedNorUsage, IsFrugal};
-ghost use Rattle.report_word.specs.Record.{Reports, report_text};
-ghost use Rattle.report_word.specs.Talking.{IsClosed, TellsNoTrace, Puts, report_talk};
+ghost use Rattle.judge_word.specs.Spending.{IsFrugal};
+ghost use Rattle.report_word.specs.Talk.{report_text, report_talk};
+ghost use Rattle.report_word.specs.Talking.{IsClosed, TellsNoTrace, Puts};
 ghost use Rattle.report_word.specs.declared.form.Form as forms;
 
 use crate::Form;
@@ -117,9 +118,9 @@ pub fn report_word<P: Port, L: Ledger>(
     form: Form,
     steps: &mut Steps<L>,
 ) -> Status
-    ensures reports { Since (P.moves port.old) (P.moves port.new) (Reports form result) }
+    ensures talks { Since (P.moves port.old) (P.moves port.new) (Talks (report_talk form) result) }
     ensures count { Since (P.moves port.old) (P.moves port.new) (IsFrugal steps.old steps.new) }
-    ensures answer { IsNeitherRefusedNorUsage result }
+    ensures ends { CanEnd (Talks (report_talk form)) result }
     ensures causes { Causes result
         (P.read_faults port.old) (P.read_faults port.new) (P.write_faults port.old) (P.write_faults port.new) }
     ensures stops { StopsWith result (P.calls port.old) (P.calls port.new) }

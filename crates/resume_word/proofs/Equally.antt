@@ -10,6 +10,7 @@ use Rattle.dover_model.specs.WholeRun.{Begins}
 use Rattle.dover_port.specs.Moves.{IsProperPrefix}
 use Rattle.dover_port.specs.declared.status.Status.{Status}
 use Rattle.dover_port.specs.declared.status.Status.TheVariants.{Done, No, Refused, ReadFault, WriteFault, Memory, Usage}
+use Rattle.dialogue.specs.Talk as talk
 use Rattle.event_feed.specs.Answers.{admitted_in}
 use Rattle.lane_server.specs.Lane.{IsDeclared, IsFaulty}
 use Rattle.snapshot.specs.Snapshot.{MayPause, snapshot}
@@ -22,29 +23,19 @@ use Rattle.snapshot.proofs.Alike.{Alike, SameRun, GoAlike, lines_alike}
 use Rattle.snapshot.proofs.Behind.{account_behind}
 use Rattle.snapshot.proofs.Feeds.{go_on, same_alike, named}
 use Rattle.serve_word.specs.Closing.{PausesAt}
-use Rattle.serve_word.specs.From.{EndsAt, MayReadFrom, IsCutOffAt}
+use Rattle.serve_word.specs.Keeping.{due_behind, serve_talk}
+use Rattle.serve_word.specs.Talk.{IsServedAs}
 use Rattle.serve_word.specs.declared.at_end.AtEnd.{AtEnd}
 use Rattle.serve_word.specs.declared.at_end.AtEnd.TheVariants.{Refuse, Pause}
 use Rattle.serve_word.proofs.Accounts.{declared_front}
+use Rattle.serve_word.proofs.Talking.{whole_due}
 
 -- ---- texts behind what was due for the one feed, and for the other
 
-module _ (g f closing whole other put : List ℕ) (is : whole ≡ g ++ closing) (is_other : other ≡ f ++ closing) where
-  -- all of it
-  all_put : g ++ put ≡ whole → f ++ put ≡ other
-  all_put all = ap (λ l. f ++ l) (append_cancel_left g put closing (all ∙ is)) ∙ sym is_other
-
-  -- a front of it
-  front_put : (rest : List ℕ) → whole ≡ (g ++ put) ++ rest → other ≡ (f ++ put) ++ rest
-  front_put rest cut = is_other
-      ∙ ap (λ l. f ++ l) (append_cancel_left g closing (put ++ rest) (sym is ∙ cut ∙ append_assoc g put rest))
-      ∙ sym (append_assoc f put rest)
-
-  part_put : IsProperPrefix (g ++ put) whole → IsProperPrefix (f ++ put) other
-  part_put part = (part.0, part.1, front_put part.0 part.2)
-
-  begins_put : Begins (g ++ put) whole → Begins (f ++ put) other
-  begins_put begins = (begins.0, front_put begins.0 begins.1)
+all_put : (g f closing whole other put : List ℕ) → whole ≡ g ++ closing → other ≡ f ++ closing → g ++ put ≡ whole
+    → f ++ put ≡ other
+all_put g f closing whole other put is is_other all =
+    ap (λ l. f ++ l) (append_cancel_left g put closing (all ∙ is)) ∙ sym is_other
 
 -- as many jobs
 abbrev jobs_in : Option Session → ℕ
@@ -108,60 +99,67 @@ module _ (G F H : List ℕ) (may : MayPause G) (may_other : MayPause F) (same : 
     again_other = ap (λ l. due (F ++ H) ++ l) (pauses_same at_end pauses).1 ∙ ap (λ l. l ++ snapshot (G ++ H)) go.other
         ∙ append_assoc (due F) go.more (snapshot (G ++ H))
 
-  module _ (put : List ℕ) where
+  -- the same is due beyond what was
+  due_same : due_behind G H ≡ due_behind F H
+  due_same = append_cancel_left (due G) (due_behind G H) go.more (whole_due G H ∙ go.first)
+      ∙ sym (append_cancel_left (due F) (due_behind F H) go.more (whole_due F H ∙ go.other))
+
+  module _ (at_end : AtEnd) (put : List ℕ) where
     -- a read that may come
-    pub may_same : MayReadFrom G H put → MayReadFrom F H put
-    may_same it =
-        (all_put (due G) (due F) go.more (due (G ++ H)) (due (F ++ H)) put go.first go.other it.0, sym open_same ∙ it.1)
+    pub may_same : talk.MayRead (serve_talk at_end G) H put → talk.MayRead (serve_talk at_end F) H put
+    may_same it = (it.0 ∙ due_same, sym open_same ∙ it.1)
 
-    module _ (at_end : AtEnd) (ended : Bool) where
-      cut_same : IsCutOffAt G at_end H put ended → IsCutOffAt F at_end H put ended
-      cut_same it = (it.0, sym open_same ∙ it.1, never_pauses at_end it.2)
-
-      -- the end
-      pub ends_same : (status : Status) → EndsAt G at_end status H put ended → EndsAt F at_end status H put ended
-      ends_same Done (inl it) = inl (
+    module _ (ended : Bool) where
+      -- an answer
+      answer_same : (status : Status) (text : List ℕ) → IsServedAs at_end (G ++ H) ended status (due G ++ text)
+          → IsServedAs at_end (F ++ H) ended status (due F ++ text)
+      answer_same Done text (inl it) = inl (
         sym ended_same ∙ it.0,
-        all_put (due G) (due F) go.more (due (G ++ H)) (due (F ++ H)) put go.first go.other it.1,
+        all_put (due G) (due F) go.more (due (G ++ H)) (due (F ++ H)) text go.first go.other it.1,
       )
-      ends_same Done (inr it) = inr (
+      answer_same Done text (inr it) = inr (
         it.0,
         (pauses_same at_end it.1).0,
         all_put (due G) (due F) (go.more ++ snapshot (G ++ H)) (due (G ++ H) ++ snapshot (G ++ H))
-            (due (F ++ H) ++ snapshot (F ++ H)) put (again_first at_end it.1) (again_other at_end it.1) it.2,
+            (due (F ++ H) ++ snapshot (F ++ H)) text (again_first at_end it.1) (again_other at_end it.1) it.2,
       )
-      ends_same Refused (inl faulty, is) = (
+      answer_same Refused text (inl faulty, is) = (
         inl (faulty_same faulty),
-        all_put (due G) (due F) go.closing (closed (G ++ H)) (closed (F ++ H)) put go.first_closed go.other_closed is,
+        all_put (due G) (due F) go.closing (closed (G ++ H)) (closed (F ++ H)) text go.first_closed go.other_closed is,
       )
-      ends_same Refused (inr cut, is) = (
-        inr (cut_same cut),
-        all_put (due G) (due F) go.closing (closed (G ++ H)) (closed (F ++ H)) put go.first_closed go.other_closed is,
+      answer_same Refused text (inr cut, is) = (
+        inr (cut.0, sym open_same ∙ cut.1, never_pauses at_end cut.2),
+        all_put (due G) (due F) go.closing (closed (G ++ H)) (closed (F ++ H)) text go.first_closed go.other_closed is,
       )
-      ends_same ReadFault it = (
-        it.0,
-        sym open_same ∙ it.1,
-        all_put (due G) (due F) go.more (due (G ++ H)) (due (F ++ H)) put go.first go.other it.2,
-      )
-      ends_same WriteFault (inl it) = inl (
-        it.0,
-        (pauses_same at_end it.1).0,
-        part_put (due G) (due F) (go.more ++ snapshot (G ++ H)) (due (G ++ H) ++ snapshot (G ++ H))
-            (due (F ++ H) ++ snapshot (F ++ H)) put (again_first at_end it.1) (again_other at_end it.1) it.2,
-      )
-      ends_same WriteFault (inr (inl it)) = inr (inl (
-        cut_same it.0,
-        part_put (due G) (due F) go.closing (closed (G ++ H))
-            (closed (F ++ H)) put go.first_closed go.other_closed it.1,
-      ))
-      ends_same WriteFault (inr (inr it)) = inr (inr (
-        it.0,
-        part_put (due G) (due F) go.more (due (G ++ H)) (due (F ++ H)) put go.first go.other it.1,
-      ))
-      ends_same Memory it = (
-        it.0,
-        declared,
-        begins_put (due G) (due F) go.more (due (G ++ H)) (due (F ++ H)) put go.first go.other it.2,
-      )
-      ends_same No it = it
+      answer_same No text it = it
+      answer_same ReadFault text it = it
+      answer_same WriteFault text it = it
+      answer_same Memory text it = it
+      answer_same Usage text it = it
+
+      answered_same : (status : Status) → talk.IsAnswered (serve_talk at_end G) H put ended status
+          → talk.IsAnswered (serve_talk at_end F) H put ended status
+      answered_same status it = record { over = sym open_same ∙ it.over; answer = answer_same status put it.answer }
+
+      -- the end
+      pub ends_same : (status : Status) → talk.Ends (serve_talk at_end G) status H put ended
+          → talk.Ends (serve_talk at_end F) status H put ended
+      ends_same Done it = answered_same Done it
+      ends_same No it = answered_same No it
+      ends_same Refused it = answered_same Refused it
+      ends_same ReadFault it = record {
+        unended = it.unended;
+        open_still = sym open_same ∙ it.open_still;
+        text = it.text ∙ due_same;
+      }
+      ends_same WriteFault (inl it) = inl (it.0, subst (IsProperPrefix put) due_same it.1)
+      ends_same WriteFault (inr it) = inr (record {
+        over = sym open_same ∙ it.over;
+        status = it.status;
+        text = it.text;
+        answer = answer_same it.status it.text it.answer;
+        front = it.front;
+      })
+      ends_same Memory it =
+          record { lacking = (it.lacking.0, declared); text = subst (Begins put) due_same it.text }
       ends_same Usage it = it

@@ -6,13 +6,14 @@ use Rattle.dispatcher.specs.Serving.{Serves, HasRoom, HasPaid}
 use Rattle.dover_server.specs.Service.{Service}
 use Rattle.event_feed.proofs.GoingOn.{open_bytes}
 use Rattle.lane_server.proofs.Adding.{open_stands}
-use Rattle.serve_word.specs.Talking as serve
-use Rattle.serve_word.specs.Talking.{Call, Costs}
+use Rattle.serve_word.specs.Keeping as serve
+use Rattle.serve_word.specs.Keeping.{Call, Costs}
 use Rattle.serve_word.specs.declared.serving.Serving.{Serving}
 use Rattle.serve_word.proofs.Talking as serving
 use Rattle.snapshot.specs.Reading.{Refused}
 use Rattle.resume_word.specs.Record.{IsFrugalFor}
-use Rattle.resume_word.specs.Talking.{Asked, IsReady, IsGiving, IsPast, resume_talk, feed_of, behind_snapshot}
+use Rattle.resume_word.specs.Talk.{Asked, resume_talk, feed_of, behind_snapshot}
+use Rattle.resume_word.specs.Keeping.{IsReady, IsGiving, IsPast}
 use Rattle.resume_word.specs.declared.resuming.Stage.{Stage}
 use Rattle.resume_word.specs.declared.resuming.Stage.TheVariants as stage
 use Rattle.resume_word.proofs.Bounds.{reading_bytes}

@@ -14,7 +14,7 @@ use Rattle.snapshot.specs.Reading.{Reading, Begun, Going, Taken, Refused, refuse
 use Rattle.snapshot.proofs.Again.{joined_again}
 use Rattle.resume_word.proofs.Taking.{IsWholeFront, taken_whole, refused_stays, taken_stays}
 use Rattle.snapshot.proofs.Whole.{shortest_may, shortest_text}
-use Rattle.resume_word.specs.Talking.{feed_of, behind_snapshot}
+use Rattle.resume_word.specs.Talk.{feed_of, behind_snapshot}
 use Rattle.resume_word.proofs.Opened.{long_next, long_reading}
 
 -- ---- bytes before a cut text

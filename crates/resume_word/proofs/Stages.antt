@@ -29,17 +29,18 @@ use Rattle.snapshot.specs.declared.resuming.Resuming.{Resuming}
 use Rattle.snapshot.proofs.Again.{lines_again}
 use Rattle.snapshot.proofs.Spending.{jobs_reading}
 use Rattle.snapshot.proofs.Whole.{shortest_text}
-use Rattle.serve_word.specs.Talking as serve
-use Rattle.serve_word.specs.Talking.{Call, Costs, due_behind, IsServedAs, serve_talk}
+use Rattle.serve_word.specs.Keeping as serve
+use Rattle.serve_word.specs.Keeping.{Call, Costs, due_behind, serve_talk}
 use Rattle.serve_word.specs.declared.feed.Feed.{Feed}
 use Rattle.serve_word.specs.declared.at_end.AtEnd.{AtEnd}
 use Rattle.serve_word.specs.declared.at_end.AtEnd.TheVariants.{Refuse}
 use Rattle.serve_word.proofs.Talking.{steady}
 use Rattle.resume_word.specs.Opening.{OpeningStands, IsWholeAt, TakesFront, HasFewOf}
 use Rattle.resume_word.specs.Record.{is_part, IsFrugalFor, refused_text}
-use Rattle.resume_word.specs.Talking.{Asked, feed_of, behind_snapshot, goes_by, due_by, HasBegun, LacksBy, IsPast}
-use Rattle.resume_word.specs.Talking.{IsOpen, IsStopped}
-use Rattle.resume_word.specs.Talking.{IsAnsweredBy, resume_talk}
+use Rattle.resume_word.specs.Talk.{Asked, feed_of, behind_snapshot, goes_by, due_by, HasBegun, LacksBy}
+use Rattle.resume_word.specs.Keeping.{IsPast}
+use Rattle.resume_word.specs.Keeping.{IsOpen, IsStopped}
+use Rattle.resume_word.specs.Talk.{IsAnsweredBy, resume_talk}
 use Rattle.resume_word.specs.declared.opening.Opening.{Opening}
 use Rattle.resume_word.proofs.Bounds.{next_number}
 use Rattle.resume_word.proofs.Onward.{taken_on, refused_on, feed_may, behind_on}
@@ -280,7 +281,7 @@ module _ (a : Asked) (x : List ℕ) (T : Call → List ℕ → Type 0) (at : IsP
     reads_more more = taken_on x more at.head at.tasks at.reads
 
     pub past_takes : (r : Result ℕ Lacking)
-        → TakesBy (serve_talk Refuse past_call)
+        → TakesBy (serve_talk Refuse past_call.feed)
         (λ H parts. serve.IsGiving Serves HasRoom HasPaid past_call f now H parts)
         (λ H. Costs past_call now H) past_bytes piece r
         → TakesBy (resume_talk a)
@@ -329,16 +330,16 @@ module _ (a : Asked) (x : List ℕ) (T : Call → List ℕ → Type 0) (at : IsP
 
   -- the answer
   served_answer : (status : Status) (text : List ℕ) (ended : Bool)
-      → IsServedAs a.at_end (feed_of at.head at.tasks) past_bytes ended status
+      → (serve_talk a.at_end (feed_of at.head at.tasks)).answer past_bytes ended status
       (due_behind (feed_of at.head at.tasks) past_bytes ++ text)
       → (resume_talk a).answer x ended status ((resume_talk a).due x ++ text)
   served_answer status text ended it =
       subst (λ r. IsAnsweredBy a.at_end r x ended status ((resume_talk a).due x ++ text)) (sym at.reads)
-      (subst (λ l. IsServedAs a.at_end (feed_of at.head at.tasks) past_bytes ended status (l ++ text))
+      (subst (λ l. (serve_talk a.at_end (feed_of at.head at.tasks)).answer past_bytes ended status (l ++ text))
       (sym past_due) it)
 
   pub past_answers : (ended : Bool) (old new : Option (List Move)) (after : List ℕ) (r : Result Status Stop)
-      → AnswersBy (serve_talk a.at_end past_call) past_bytes ended old new after r
+      → AnswersBy (serve_talk a.at_end past_call.feed) past_bytes ended old new after r
       → AnswersBy (resume_talk a) x ended old new after r
   past_answers ended old new after (Ok status) it =
       (it.0, (it.1.0, served_answer status it.1.0 ended it.1.1, it.1.2))

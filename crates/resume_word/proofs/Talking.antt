@@ -20,11 +20,11 @@ use Rattle.event_feed.proofs.Admitting.{admitted_front}
 use Rattle.snapshot.specs.Snapshot.{MayPause, Head, state_line, snapshot}
 use Rattle.snapshot.specs.Reading.{Reading, Begun, Going, Taken, Refused, reading_of}
 use Rattle.snapshot.proofs.Beginning.{Within, within}
-use Rattle.serve_word.specs.Talking.{Call, due_behind, IsServedAs, serve_talk}
+use Rattle.serve_word.specs.Keeping.{Call, due_behind, serve_talk}
 use Rattle.serve_word.proofs.Talking.{steady}
 use Rattle.resume_word.specs.Record.{Behind, IsFrugalFor}
-use Rattle.resume_word.specs.Talking.{Asked, feed_of, behind_snapshot, goes_by, due_by, IsAnsweredBy, HasBegun, LacksBy}
-use Rattle.resume_word.specs.Talking.{resume_talk}
+use Rattle.resume_word.specs.Talk.{Asked, feed_of, behind_snapshot, goes_by, due_by, IsAnsweredBy, HasBegun, LacksBy}
+use Rattle.resume_word.specs.Talk.{resume_talk}
 use Rattle.resume_word.proofs.Bounds.{short_lines}
 use Rattle.resume_word.proofs.Equally.{admitted_same}
 use Rattle.resume_word.proofs.Onward.{taken_on, refused_on, front, feed_may, feed_text, parts_are, behind_on}
@@ -59,7 +59,7 @@ module _ (a : Asked) (x y : List ℕ) where
     abbrev H : List ℕ
     H = behind_snapshot h ts x
 
-    serves : IsSteady (serve_talk a.at_end call)
+    serves : IsSteady (serve_talk a.at_end (feed_of h ts))
     serves = steady call a.at_end
 
     more_is : reading_of (lines_of (x ++ y)) ≡ Taken h ts
@@ -84,7 +84,7 @@ module _ (a : Asked) (x y : List ℕ) where
         → IsAnsweredBy a.at_end (reading_of (lines_of (x ++ y))) (x ++ y) false status text
     answered_past over status text it =
         subst (λ r. IsAnsweredBy a.at_end r (x ++ y) false status text) (sym more_is)
-        (subst (λ l. IsServedAs a.at_end (feed_of h ts) l false status text) (sym (behind_on x h ts is y))
+        (subst (λ l. (serve_talk a.at_end (feed_of h ts)).answer l false status text) (sym (behind_on x h ts is y))
         (serves.answered H y status text (closed_past over)
         (subst (λ r. IsAnsweredBy a.at_end r x false status text) is it)))
 

@@ -1,3 +1,4 @@
-pub mod Opening
+pub mod Talk
 pub mod Record
-pub mod Talking
+pub mod Opening
+pub mod Keeping

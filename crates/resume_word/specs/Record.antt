@@ -8,12 +8,13 @@ use Rattle.event_feed.specs.Answers.{admitted_in}
 use Rattle.dover_port.specs.Moves.{Move, ins, outs, has_ended, EachRead, IsProperPrefix}
 use Rattle.dover_port.specs.declared.status.Status.{Status}
 use Rattle.dover_port.specs.declared.status.Status.TheVariants.{Refused, ReadFault, WriteFault, Memory}
+use Rattle.dialogue.specs.Talk as talk
 use Rattle.snapshot.specs.Snapshot.{MayPause, snapshot}
 use Rattle.snapshot.specs.Reading as reading
 use Rattle.snapshot.specs.Reading.{Reading, Begun, Going, Taken, reading_of}
 use Rattle.snapshot.specs.Kept.{IsGoing}
 use Rattle.snapshot.specs.Spending.{jobs_read}
-use Rattle.serve_word.specs.From.{MayReadFrom, EndsAt, IsRefusedAt, IsUnreadAt, IsUnwrittenAt, IsOutOfMemoryAt}
+use Rattle.serve_word.specs.Keeping.{serve_talk}
 use Rattle.serve_word.specs.declared.at_end.AtEnd.{AtEnd}
 
 -- ---- what was read
@@ -38,10 +39,10 @@ pub record Behind (x : List ℕ) (T : List ℕ → List ℕ → Type 0) : Type 0
   pub read : x ≡ snapshot feed ++ more
   pub each : (F H : List ℕ) → MayPause F → x ≡ snapshot F ++ H → T F H
 
--- Before a read: the snapshot is still to be read on, and nothing was put; or of its feed and what follows what is due
--- was put beyond what was due for the feed alone, and the feed goes on.
-abbrev pub MayRead : List ℕ → List ℕ → Type 0
-MayRead got put = (IsPart got × (put ≡ [])) ⊎ Behind got (λ F H. MayReadFrom F H put)
+-- Before a read: the snapshot is still to be read on, and nothing was put; or what serving its feed on allows.
+abbrev pub MayRead : AtEnd → List ℕ → List ℕ → Type 0
+MayRead at_end got put =
+    (IsPart got × (put ≡ [])) ⊎ Behind got (λ F H. talk.MayRead (serve_talk at_end F) H put)
 
 -- the line that refuses a snapshot
 abbrev pub refused_text : ℕ → List ℕ
@@ -90,34 +91,14 @@ EndsBefore _ moves = ⊥
 
 -- ---- the whole call
 
--- how it ends: before the snapshot is whole, or behind it
+-- how it ends: before the snapshot is whole, or as serving its feed on does
 abbrev pub Ends : AtEnd → Status → List Move → Type 0
 Ends at_end status moves = EndsBefore status moves
-    ⊎ Behind (ins moves) (λ F H. EndsAt F at_end status H (outs moves) (has_ended moves))
-
--- a line of the snapshot is refused; or the feed has a fault or is cut off, and it is refused
-abbrev pub IsRefused : AtEnd → List Move → Type 0
-IsRefused at_end moves = IsRefusedSnapshot moves
-    ⊎ Behind (ins moves) (λ F H. IsRefusedAt F at_end H (outs moves) (has_ended moves))
-
--- a read failed, where the snapshot was still to be read on or the feed goes on
-abbrev pub IsUnread : AtEnd → List Move → Type 0
-IsUnread at_end moves = IsUnreadSnapshot moves
-    ⊎ Behind (ins moves) (λ F H. IsUnreadAt F at_end H (outs moves) (has_ended moves))
-
--- a write failed: not all of what is due was put
-abbrev pub IsUnwritten : AtEnd → List Move → Type 0
-IsUnwritten at_end moves = IsUnwrittenRefusal moves
-    ⊎ Behind (ins moves) (λ F H. IsUnwrittenAt F at_end H (outs moves) (has_ended moves))
-
--- there was no memory, for the snapshot or for what follows it
-abbrev pub IsOutOfMemory : AtEnd → List Move → Type 0
-IsOutOfMemory at_end moves = IsOutOfMemoryBefore moves
-    ⊎ Behind (ins moves) (λ F H. IsOutOfMemoryAt F at_end H (outs moves) (has_ended moves))
+    ⊎ Behind (ins moves) (λ F H. talk.Ends (serve_talk at_end F) status H (outs moves) (has_ended moves))
 
 -- what the record of a call with this status is
 pub record Resumes (at_end : AtEnd) (status : Status) (moves : List Move) : Type 0 where
-  pub reads : EachRead MayRead moves
+  pub reads : EachRead (MayRead at_end) moves
   pub ends : Ends at_end status moves
 
 -- The comparisons of a call are few for n jobs: before the snapshot is whole, for those of its lines that were read, or

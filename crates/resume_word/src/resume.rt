@@ -1,6 +1,7 @@
 //! Reading a snapshot, and what follows it.
-ghost use Rattle.dover_port.specs.Causes.{Causes, IsNeitherNoNorUsage, StopsWith};
+ghost use Rattle.dover_port.specs.Causes.{Causes, StopsWith};
 ghost use Rattle.dover_port.specs.Moves.{Since};
+ghost use Rattle.dialogue.specs.Talk.{CanEnd};
 ghost use Rattle.resume_word.specs.Record.{Resumes, IsFrugal};
 
 use crate::opening::Opening;
@@ -24,7 +25,7 @@ pub fn resume_word<P: Port, L: Ledger>(
 ) -> Status
     ensures resumes { Since (P.moves port.old) (P.moves port.new) (Resumes at_end result) }
     ensures count { Since (P.moves port.old) (P.moves port.new) (IsFrugal steps.old steps.new) }
-    ensures answer { IsNeitherNoNorUsage result }
+    ensures ends { CanEnd (Resumes at_end) result }
     ensures causes { Causes result (P.read_faults port.old) (P.read_faults port.new) (P.write_faults port.old)
         (P.write_faults port.new) }
     ensures stops { StopsWith result (P.calls port.old) (P.calls port.new) }

@@ -3,7 +3,8 @@ ghost use Rattle.std.specs.Prelude.{◌≡◌, Bool, ℕ, List, []};
 ghost use Rattle.dialogue.specs.Turns.{AnswersBy, StopCause, StopsOn};
 ghost use Rattle.dover_port.specs.declared.status.Status.TheVariants as statuses;
 ghost use Rattle.resume_word.specs.Record.{refused_text, IsFrugalFor};
-ghost use Rattle.resume_word.specs.Talking.{Asked, resume_talk, IsReady, IsGiving};
+ghost use Rattle.resume_word.specs.Talk.{Asked, resume_talk};
+ghost use Rattle.resume_word.specs.Keeping.{IsReady, IsGiving};
 
 use crate::opening::{Opening, open_piece};
 use dialogue::{Stop, Talker};

@@ -6,4 +6,3 @@ pub mod Resumed
 pub mod States
 pub mod Snapped
 pub mod Talking
-pub mod Records

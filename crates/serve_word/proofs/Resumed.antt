@@ -20,7 +20,7 @@ use Rattle.snapshot.specs.Snapshot.{MayPause}
 use Rattle.snapshot.specs.Feeds.{ResumesFeed}
 use Rattle.snapshot.proofs.Feeds.{opened, holds}
 use Rattle.serve_word.specs.Feeding.{FeedRests}
-use Rattle.serve_word.specs.Talking.{Call, IsReady}
+use Rattle.serve_word.specs.Keeping.{Call, IsReady}
 use Rattle.serve_word.specs.declared.feed.Feed.{Feed}
 use Rattle.serve_word.proofs.Accounts.{opens}
 

@@ -2,14 +2,12 @@
 use Rattle.std.proofs.Common.{◌≡◌, ◌<◌, ◌^◌, ◌-◌, ℕ, suc, List, [], ◌∷◌, ◌++◌, length, map, refl, sym, ap, ◌∙◌, subst}
 use Rattle.std.proofs.Common.{arith, append_assoc, append-nil, length-append, Bool, true, false, cond, inl, inr}
 use Rattle.std.proofs.Common.{Result, Ok, Err, Option}
-use Rattle.std.specs.Prelude.{drop}
 use Rattle.std.proofs.lemmas.List.{length-map}
 use Rattle.dover_model.specs.declared.Memory.{Memory as Lacking}
 use Rattle.dover_model.specs.Feed as feeds
 use Rattle.dover_model.specs.Feed.{Account, is_open, is_ended, account, account_of_lines}
 use Rattle.dover_model.specs.Due.{due, closed, due_lines, fault_text}
 use Rattle.dover_model.specs.Lines.{in_lines, lines_of, whole_lines, rest_of, is_too_long}
-use Rattle.dover_model.specs.WholeRun.{Begins}
 use Rattle.dover_model.proofs.Beginnings.{in_lines-append}
 use Rattle.dover_model.proofs.Tests.{never}
 use Rattle.dover_port.specs.declared.status.Status.{Status}
@@ -22,6 +20,7 @@ use Rattle.event_feed.proofs.Counting.{lines_counted}
 use Rattle.event_feed.proofs.GoingOn.{closed_account, open_bytes}
 use Rattle.dialogue.specs.Talk.{IsSteady, IsOver}
 use Rattle.dialogue.specs.Turns.{joined, AnswersBy}
+use Rattle.dialogue.proofs.Behind as beyond
 use Rattle.dialogue.specs.declared.talker.Stop.{Stop}
 use Rattle.dialogue.specs.declared.talker.Stop.TheVariants.{NoMemory, Unwritten}
 use Rattle.dover_port.specs.Moves.{Move}
@@ -36,36 +35,62 @@ use Rattle.queued_jobs.proofs.Spending.{few_more}
 use Rattle.serve_word.specs.Closing.{PausesAt}
 use Rattle.serve_word.specs.Pausing.{CanPause}
 use Rattle.serve_word.specs.Feeding.{FeedStands, FeedRests, Hands}
-use Rattle.serve_word.specs.Talking.{Call, due_behind, IsServedAs, serve_talk, Costs, IsGiving, IsReady}
+use Rattle.serve_word.specs.Keeping.{Call, due_behind, serve_talk, Costs, IsGiving, IsReady}
+use Rattle.serve_word.specs.Talk.{IsServedAs, feed_talk}
 use Rattle.serve_word.specs.declared.at_end.AtEnd.{AtEnd}
 use Rattle.serve_word.specs.declared.at_end.AtEnd.TheVariants.{Refuse, Pause}
 use Rattle.serve_word.specs.declared.feed.Feed.{Feed}
 use Rattle.snapshot.specs.Snapshot.{MayPause, snapshot}
 use Rattle.serve_word.proofs.Accounts.{closed_is, due_begins, declared_front, ended_is}
 
--- ---- what is due behind a feed
+-- ---- bytes behind the end of a feed
 
--- what comes behind a list, without that list
-dropped : (front rest all : List ℕ) → all ≡ front ++ rest → drop (length front) all ≡ rest
-dropped front rest all is = ap (drop (length front)) is ∙ by front where
-  by : (xs : List ℕ) → drop (length xs) (xs ++ rest) ≡ rest
-  by [] = refl
-  by (x ∷ xs) = by xs
+module _ (x y : List ℕ) (over : is_open (account x) ≡ false) where
+  -- the account stays
+  same : account (x ++ y) ≡ account x
+  same = closed_account x y over
+
+  -- and what is due
+  same_due : due (x ++ y) ≡ due x
+  same_due = ap (λ a. in_lines (due_lines a)) same
+
+  -- also at the end of the input
+  same_closed : closed (x ++ y) ≡ closed x
+  same_closed = closed_is (x ++ y) (ap is_open same ∙ over) ∙ same_due ∙ sym (closed_is x over)
+
+  -- and the answer
+  answered : (at_end : AtEnd) (status : Status) (text : List ℕ) → IsServedAs at_end x false status text
+      → IsServedAs at_end (x ++ y) false status text
+  answered at_end Done text (inl it) = inl (ap is_ended same ∙ it.0, it.1 ∙ sym same_due)
+  answered at_end Done text (inr it) = never it.0
+  answered at_end Refused text (inl faulty, it) = (inl (subst IsFaulty (sym same) faulty), it ∙ sym same_closed)
+  answered at_end Refused text (inr cut, it) = never cut.0
+  answered at_end No text it = absurd it
+  answered at_end ReadFault text it = absurd it
+  answered at_end WriteFault text it = absurd it
+  answered at_end Memory text it = absurd it
+  answered at_end Usage text it = absurd it
+
+-- the laws of the talk
+pub feed_steady : (at_end : AtEnd) → IsSteady (feed_talk at_end)
+feed_steady at_end = record {
+  opens = refl;
+  nothing = refl;
+  grows = λ x y. due_begins x y;
+  stays = λ x y over. ap is_open (same x y over) ∙ over;
+  answered = λ x y status text over it. answered x y over at_end status text it;
+  lacking = λ x y it. (it.0, declared_front x y it.1);
+}
+
+-- ---- behind a feed
 
 -- what is due for the feed and the bytes behind it
 pub whole_due : (F x : List ℕ) → due F ++ due_behind F x ≡ due (F ++ x)
-whole_due F x = let it : Begins (due F) (due (F ++ x)) = due_begins F x in
-    ap (λ r. due F ++ r) (dropped (due F) it.0 (due (F ++ x)) it.1) ∙ sym it.1
+whole_due F x = beyond.whole_due (feed_talk Refuse) (feed_steady Refuse) F x
 
 -- with a text behind it
-pub due_then : (F x text : List ℕ) → due F ++ (due_behind F x ++ text) ≡ due (F ++ x) ++ text
-due_then F x text = sym (append_assoc (due F) (due_behind F x) text) ∙ ap (λ l. l ++ text) (whole_due F x)
-
--- with more that is due for more bytes
-behind_more : (F x y more : List ℕ) → due (F ++ (x ++ y)) ≡ due (F ++ x) ++ more
-    → due_behind F (x ++ y) ≡ due_behind F x ++ more
-behind_more F x y more is =
-    dropped (due F) (due_behind F x ++ more) (due (F ++ (x ++ y))) (is ∙ sym (due_then F x more))
+due_then : (F x text : List ℕ) → due F ++ (due_behind F x ++ text) ≡ due (F ++ x) ++ text
+due_then F x text = beyond.due_then (feed_talk Refuse) (feed_steady Refuse) F x text
 
 -- the text of the parts of lines
 joined_lines : (ls : List (List ℕ)) → joined (map (λ line. line ++ 10 ∷ []) ls) ≡ in_lines ls
@@ -77,53 +102,9 @@ module _ (c : Call) where
   joins : (x y : List ℕ) → c.feed ++ (x ++ y) ≡ (c.feed ++ x) ++ y
   joins x y = sym (append_assoc c.feed x y)
 
-  -- what is due only grows
-  grows : (x y : List ℕ) → Begins (due_behind c.feed x) (due_behind c.feed (x ++ y))
-  grows x y = let it : Begins (due (c.feed ++ x)) (due ((c.feed ++ x) ++ y)) = due_begins (c.feed ++ x) y in
-      (it.0, behind_more c.feed x y it.0 (ap due (joins x y) ∙ it.1))
-
-  -- ---- bytes behind the end
-
-  module _ (x y : List ℕ) (over : is_open (account (c.feed ++ x)) ≡ false) where
-    -- the account stays
-    same : account (c.feed ++ (x ++ y)) ≡ account (c.feed ++ x)
-    same = ap account (joins x y) ∙ closed_account (c.feed ++ x) y over
-
-    -- and what is due
-    same_due : due (c.feed ++ (x ++ y)) ≡ due (c.feed ++ x)
-    same_due = ap (λ a. in_lines (due_lines a)) same
-
-    -- also at the end of the input
-    same_closed : closed (c.feed ++ (x ++ y)) ≡ closed (c.feed ++ x)
-    same_closed = closed_is (c.feed ++ (x ++ y)) (ap is_open same ∙ over) ∙ same_due
-        ∙ sym (closed_is (c.feed ++ x) over)
-
-    -- and the answer
-    answered : (at_end : AtEnd) (status : Status) (text : List ℕ) → IsServedAs at_end c.feed x false status text
-        → IsServedAs at_end c.feed (x ++ y) false status text
-    answered at_end Done text (inl it) = inl (ap is_ended same ∙ it.0, it.1 ∙ sym same_due)
-    answered at_end Done text (inr it) = never it.0
-    answered at_end Refused text (inl faulty, it) = (inl (subst IsFaulty (sym same) faulty), it ∙ sym same_closed)
-    answered at_end Refused text (inr cut, it) = never cut.0
-    answered at_end No text it = absurd it
-    answered at_end ReadFault text it = absurd it
-    answered at_end WriteFault text it = absurd it
-    answered at_end Memory text it = absurd it
-    answered at_end Usage text it = absurd it
-
-  pub steady : (at_end : AtEnd) → IsSteady (serve_talk at_end c)
-  steady at_end = record {
-    opens = ap (λ x. is_open (account x)) (append-nil c.feed) ∙ c.goes_on;
-    nothing = dropped (due c.feed) [] (due (c.feed ++ []))
-        (ap due (append-nil c.feed) ∙ sym (append-nil (due c.feed)));
-    grows = grows;
-    stays = λ x y over. ap is_open (same x y over) ∙ over;
-    answered = λ x y status text over it. answered x y over at_end status text it;
-    lacking = λ x y it. (
-      it.0,
-      subst (λ z. IsDeclared (account z)) (sym (joins x y)) (declared_front (c.feed ++ x) y it.1),
-    );
-  }
+  -- the laws
+  pub steady : (at_end : AtEnd) → IsSteady (serve_talk at_end c.feed)
+  steady at_end = beyond.steady_behind (feed_talk at_end) (feed_steady at_end) c.feed c.goes_on
 
   module _ {D : Type 0} (serves : Serving D) (has_room : Having D) (pays : D → (start now : ℕ) → Type 0) (feed : Feed D)
       (steps : ℕ) where
@@ -155,7 +136,8 @@ module _ (c : Call) where
         × IsGiving serves has_room pays c feed steps (x ++ front) parts
     taken y x front it paid = (
       map (λ line. line ++ 10 ∷ []) it.0,
-      behind_more c.feed x front (joined (map (λ line. line ++ 10 ∷ []) it.0))
+      beyond.behind_more (feed_talk Refuse) (feed_steady Refuse) c.feed x front
+          (joined (map (λ line. line ++ 10 ∷ []) it.0))
           (ap due (joins x front) ∙ ap in_lines it.1 ∙ in_lines-append (due_lines (account (c.feed ++ x))) it.0
           ∙ ap (λ r. due (c.feed ++ x) ++ r) (sym (joined_lines it.0))),
       record {
@@ -183,7 +165,7 @@ module _ (c : Call) where
 
   -- the feed has ended
   pub done : (at_end : AtEnd) (x : List ℕ) (ended : Bool) → (account (c.feed ++ x)).standing ≡ feeds.Ended
-      → IsServedAs at_end c.feed x ended Done (due_behind c.feed x ++ [])
+      → (serve_talk at_end c.feed).answer x ended Done (due_behind c.feed x ++ [])
   done at_end x ended is = inl (
     ended_is (account (c.feed ++ x)) is,
     due_then c.feed x []
@@ -194,7 +176,7 @@ module _ (c : Call) where
       (answers : EndAnswers {X = Unit {0}} (lines_of (c.feed ++ x)) (Err fault)) where
     -- it is at fault
     pub faulty : (at_end : AtEnd) → is_open (account (c.feed ++ x)) ≡ false
-        → IsServedAs at_end c.feed x ended Refused (due_behind c.feed x ++ [])
+        → (serve_talk at_end c.feed).answer x ended Refused (due_behind c.feed x ++ [])
     faulty at_end over = (
       inl (by answers),
       due_then c.feed x [] ∙ append-nil (due (c.feed ++ x)) ∙ sym (closed_is (c.feed ++ x) over),
@@ -238,13 +220,13 @@ module _ (c : Call) where
           → MayPause (c.feed ++ x) → CanPause feed (fault.line - 1) (c.feed ++ x)
       can_pause feed rests may = record { rests = rests; goes_on = goes; may = may; count = lines_before }
 
-      module _ (at_end : AtEnd) (over : IsOver (serve_talk at_end c) x ended) where
+      module _ (at_end : AtEnd) (over : IsOver (serve_talk at_end c.feed) x ended) where
         -- the input has ended before it
         input_ended : ended ≡ true
         input_ended = sym over ∙ goes
 
         -- so it is refused, unless it is paused
-        pub cut_off : (PausesAt at_end (c.feed ++ x) → ⊥) → IsServedAs at_end c.feed x ended Refused
+        pub cut_off : (PausesAt at_end (c.feed ++ x) → ⊥) → (serve_talk at_end c.feed).answer x ended Refused
             (due_behind c.feed x ++ (fault_text fault.line (cause_of_fault fault.cause) ++ 10 ∷ []))
         cut_off pauses = (
           inr (input_ended, goes, pauses),
@@ -258,14 +240,14 @@ module _ (c : Call) where
 
         -- it is paused
         pub paused : PausesAt at_end (c.feed ++ x)
-            → IsServedAs at_end c.feed x ended Done (due_behind c.feed x ++ snapshot (c.feed ++ x))
+            → (serve_talk at_end c.feed).answer x ended Done (due_behind c.feed x ++ snapshot (c.feed ++ x))
         paused pauses = inr (input_ended, pauses, due_then c.feed x (snapshot (c.feed ++ x)))
 
 -- ---- a feed that may be paused
 
 -- where it isn't paused, it is answered as one that never is
 pub unpaused : (c : Call) (x : List ℕ) (ended : Bool) → (MayPause (c.feed ++ x) → ⊥) → (status : Status) (text : List ℕ)
-    → IsServedAs Refuse c.feed x ended status text → IsServedAs Pause c.feed x ended status text
+    → (serve_talk Refuse c.feed).answer x ended status text → (serve_talk Pause c.feed).answer x ended status text
 unpaused c x ended never Done text (inl it) = inl it
 unpaused c x ended never Done text (inr paused) = absurd paused.1
 unpaused c x ended never Refused text (inl faulty, it) = (inl faulty, it)
@@ -279,7 +261,8 @@ unpaused c x ended never Usage text it = absurd it
 -- and so the whole answer
 pub unpaused_answer : (c : Call) (x : List ℕ) (ended : Bool) → (MayPause (c.feed ++ x) → ⊥)
     → (old new : Option (List Move)) (after : List ℕ) (r : Result Status Stop)
-    → AnswersBy (serve_talk Refuse c) x ended old new after r → AnswersBy (serve_talk Pause c) x ended old new after r
+    → AnswersBy (serve_talk Refuse c.feed) x ended old new after r
+    → AnswersBy (serve_talk Pause c.feed) x ended old new after r
 unpaused_answer c x ended never old new after (Ok status) it =
     (it.0, (it.1.0, unpaused c x ended never status (due_behind c.feed x ++ it.1.0) it.1.1, it.1.2))
 unpaused_answer c x ended never old new after (Err NoMemory) it = it

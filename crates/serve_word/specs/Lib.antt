@@ -1,6 +1,6 @@
-pub mod Record
+pub mod Talk
 pub mod Closing
-pub mod From
 pub mod Feeding
+pub mod Keeping
 pub mod Pausing
-pub mod Talking
+pub mod Spending

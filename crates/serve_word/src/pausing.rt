@@ -1,7 +1,7 @@
 //! What the reading loop calls: a feed that is served, and may be paused.
 ghost use Rattle.std.specs.Prelude.{◌≡◌};
 ghost use Rattle.dispatcher.specs.Serving.{Serves, HasRoom, HasPaid};
-ghost use Rattle.serve_word.specs.Talking.{Call, serve_talk, IsGiving, IsReady, Costs};
+ghost use Rattle.serve_word.specs.Keeping.{Call, serve_talk, IsGiving, IsReady, Costs};
 ghost use Rattle.serve_word.specs.declared.at_end.AtEnd.TheVariants.{Pause};
 
 use crate::pause::{is_paused, pause};
@@ -34,7 +34,7 @@ impl<L: Ledger> Talker for Pausing<L> {
 
     ghost about = { Call };
 
-    ghost talk = { λ call. serve_talk Pause call };
+    ghost talk = { λ call. serve_talk Pause call.feed };
 
     ghost stands = { λ call s steps. IsGiving Serves HasRoom HasPaid call s.serving.feed steps };
 

@@ -4,7 +4,7 @@ ghost use Rattle.queued_jobs.specs.Spending.{HasSpent};
 ghost use Rattle.dispatcher.specs.Serving.{Serves, HasRoom, HasPaid};
 ghost use Rattle.snapshot.specs.Snapshot.{MayPause};
 ghost use Rattle.snapshot.specs.Feeds.{ResumesFeed};
-ghost use Rattle.serve_word.specs.Talking.{Call, serve_talk, IsGiving, IsReady, Costs};
+ghost use Rattle.serve_word.specs.Keeping.{Call, serve_talk, IsGiving, IsReady, Costs};
 ghost use Rattle.serve_word.specs.declared.at_end.AtEnd.TheVariants.{Refuse};
 
 use crate::feed::Feed;
@@ -49,7 +49,7 @@ impl<D: Dispatcher, L: Ledger> Talker for Serving<D, L> {
 
     ghost about = { Call };
 
-    ghost talk = { λ call. serve_talk Refuse call };
+    ghost talk = { λ call. serve_talk Refuse call.feed };
 
     ghost stands = { λ call s steps. IsGiving D.serves D.has_room D.paid call s.feed steps };
 

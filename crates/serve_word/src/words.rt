@@ -1,8 +1,10 @@
 //! The words.
-ghost use Rattle.dover_port.specs.Causes.{Causes, IsNeitherNoNorUsage, StopsWith};
+ghost use Rattle.dover_port.specs.Causes.{Causes, StopsWith};
 ghost use Rattle.dover_port.specs.Moves.{Since};
-ghost use Rattle.serve_word.specs.Pausing.{Pauses};
-ghost use Rattle.serve_word.specs.Record.{Serves, IsFrugal};
+ghost use Rattle.dialogue.specs.Talk.{Talks, CanEnd};
+ghost use Rattle.serve_word.specs.Spending.{IsFrugal};
+ghost use Rattle.serve_word.specs.Talk.{feed_talk};
+ghost use Rattle.serve_word.specs.declared.at_end.AtEnd.TheVariants.{Refuse, Pause};
 
 use crate::feed::Feed;
 use crate::pausing::Pausing;
@@ -18,9 +20,9 @@ use step_count::Steps;
 /// Serves a feed: reads it to its `end` line, its first faulty line or the end of the input, and writes each line of
 /// its trace that is settled before the next read. Memory is taken at the ratio line and for each admitted job alone.
 pub fn serve_word<P: Port, L: Ledger>(alloc: Global, port: &mut P, steps: &mut Steps<L>) -> Status
-    ensures serves { Since (P.moves port.old) (P.moves port.new) (Serves result) }
+    ensures talks { Since (P.moves port.old) (P.moves port.new) (Talks (feed_talk Refuse) result) }
     ensures count { Since (P.moves port.old) (P.moves port.new) (IsFrugal steps.old steps.new) }
-    ensures answer { IsNeitherNoNorUsage result }
+    ensures ends { CanEnd (Talks (feed_talk Refuse)) result }
     ensures causes { Causes result (P.read_faults port.old) (P.read_faults port.new) (P.write_faults port.old)
         (P.write_faults port.new) }
     ensures stops { StopsWith result (P.calls port.old) (P.calls port.new) }
@@ -35,9 +37,9 @@ pub fn serve_word<P: Port, L: Ledger>(alloc: Global, port: &mut P, steps: &mut S
 /// Serves a feed, as `serve_word` does, but for the end of an input behind whole lines: there the feed's snapshot is
 /// put behind what is due.
 pub fn pause_word<P: Port, L: Ledger>(alloc: Global, port: &mut P, steps: &mut Steps<L>) -> Status
-    ensures pauses { Since (P.moves port.old) (P.moves port.new) (Pauses result) }
+    ensures talks { Since (P.moves port.old) (P.moves port.new) (Talks (feed_talk Pause) result) }
     ensures count { Since (P.moves port.old) (P.moves port.new) (IsFrugal steps.old steps.new) }
-    ensures answer { IsNeitherNoNorUsage result }
+    ensures ends { CanEnd (Talks (feed_talk Pause)) result }
     ensures causes { Causes result (P.read_faults port.old) (P.read_faults port.new) (P.write_faults port.old)
         (P.write_faults port.new) }
     ensures stops { StopsWith result (P.calls port.old) (P.calls port.new) }

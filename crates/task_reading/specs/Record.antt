@@ -1,5 +1,5 @@
 -- What is known of a task text whose reading has ended.
-use Rattle.std.specs.Prelude.{◌≡◌, ◌⊎◌, ℕ, List, [], true, Some, length}
+use Rattle.std.specs.Prelude.{◌≡◌, ◌⊎◌, ℕ, List, true, Some, length}
 use Rattle.dover_model.specs.Fraction.{IsRatio}
 use Rattle.dover_model.specs.Instance.{Rules}
 use Rattle.dover_model.specs.Lines.{whole_lines}
@@ -10,10 +10,6 @@ use Rattle.event_feed.specs.declared.faults.FeedFault.{FeedFault}
 use Rattle.periodic_tasks.specs.Limits.{AreTasks}
 use Rattle.task_reading.specs.Account.{account, is_open}
 use Rattle.task_reading.specs.declared.listed.ListedTasks.{ListedTasks}
-
--- Before a read: nothing was put, and the bytes got neither end the text nor have a fault.
-abbrev pub MayRead : (until : ℕ) → List ℕ → List ℕ → Type 0
-MayRead until got put = (put ≡ []) × (is_open (account until got) ≡ true)
 
 -- the rules that were declared
 abbrev pub listed_rules : ListedTasks → Rules

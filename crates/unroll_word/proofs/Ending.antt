@@ -24,8 +24,9 @@ use Rattle.task_reading.specs.Record.{IsEnded, IsRefusedBy, listed_rules}
 use Rattle.task_reading.specs.declared.listed.ListedTasks.{ListedTasks}
 use Rattle.task_reading.proofs.Accounts.{goes_on, open_by_test}
 use Rattle.unroll_word.specs.Feeds.{IsFeedOf, feed_of}
-use Rattle.unroll_word.specs.Record.{Says, IsRefusedAt, IsSaid}
-use Rattle.unroll_word.specs.Talking.{unroll_talk, SaysBy}
+use Rattle.unroll_word.specs.Talk.{Says, IsRefusedAt, IsSaid}
+use Rattle.unroll_word.specs.Talk.{unroll_talk}
+use Rattle.unroll_word.specs.Keeping.{SaysBy}
 use Rattle.unroll_word.specs.Texts.{refusal_text, refusal_lines}
 use Rattle.unroll_word.proofs.Feeding.{feed_is}
 

@@ -1,23 +1,16 @@
--- What the word says: its laws, and what they come to.
+-- What the word says: its laws.
 use Rattle.std.proofs.Common.{◌≡◌, ◌<◌, ◌^◌, ◌-◌, ℕ, List, ◌++◌, [], length, refl, sym, ap, ◌∙◌, subst, arith}
-use Rattle.std.proofs.Common.{Bool, true, false, inl, inr}
+use Rattle.std.proofs.Common.{true, false, inl, inr}
 use Rattle.dover_model.specs.Feed.{Standing, Open, Ended, Faulty}
 use Rattle.dover_model.specs.Lines.{in_lines, whole_lines}
-use Rattle.dover_port.specs.Causes.{IsNeitherNoNorUsage}
-use Rattle.dover_port.specs.Moves.{Move, ins, outs, has_ended, IsProperPrefix}
 use Rattle.dover_port.specs.declared.status.Status.{Status}
-use Rattle.dover_port.specs.declared.status.Status.TheVariants.{Done, No, Refused, ReadFault, WriteFault, Memory, Usage}
-use Rattle.dialogue.specs.Talk.{IsSteady, IsCutAnswer, Talks, CanEnd}
-use Rattle.dialogue.specs.Talk as talk
-use Rattle.dialogue.proofs.Quiet.{cut_answer, nothing_put}
+use Rattle.dialogue.specs.Talk.{IsSteady}
 use Rattle.task_reading.specs.Account.{TaskAccount, account, is_open}
 use Rattle.task_reading.specs.Keeping.{TextStands, StandsFor}
 use Rattle.task_reading.specs.declared.reader.TaskReader.{TaskReader}
 use Rattle.task_reading.proofs.Accounts.{goes_on, closed_account, open_bytes}
 use Rattle.task_reading.proofs.Ending.{going_stands}
-use Rattle.unroll_word.specs.Record.{IsRefusedAt, IsSaid, Tells, Ends}
-use Rattle.unroll_word.specs.Record as unrolled
-use Rattle.unroll_word.specs.Talking.{unroll_talk}
+use Rattle.unroll_word.specs.Talk.{Says, IsRefusedAt, IsSaid, unroll_talk}
 use Rattle.unroll_word.specs.Texts.{refusal_text, refusal_lines}
 
 -- ---- the laws
@@ -47,7 +40,7 @@ module _ (until : ℕ) (x y : List ℕ) (over : is_open (account until x) ≡ fa
     ended = ap (λ (a : TaskAccount). a.standing) same ∙ it.ended;
     rules = it.rules;
     rules_are = ap (λ (a : TaskAccount). a.rules) same ∙ it.rules_are;
-    said = subst (λ (a : TaskAccount). unrolled.Says until it.rules a.tasks status text) (sym same) it.said;
+    said = subst (λ (a : TaskAccount). Says until it.rules a.tasks status text) (sym same) it.said;
   }
 
   -- bytes behind those that end the text change no answer
@@ -73,55 +66,3 @@ pub few : (until : ℕ) (reader : TaskReader) (x : List ℕ) → StandsFor until
 few until reader x at on =
     let stands : TextStands until reader.text x = going_stands until reader.progress reader.text x at on in
     omega (arith, open_bytes until x stands.keeps.stands stands.short)
-
--- ---- the record
-
--- an answer with this status isn't a refusal
-said_only : (until : ℕ) (status : Status) (x : List ℕ) (ended : Bool) (text : List ℕ) → (status ≡ Refused → ⊥)
-    → (unroll_talk until).answer x ended status text → IsSaid until status text x
-said_only until status x ended text not (inl refused) = absurd (not refused.0)
-said_only until status x ended text not (inr said) = said
-
--- nothing is said with `No`
-never_no : (until : ℕ) (x : List ℕ) (ended : Bool) (text : List ℕ) → (unroll_talk until).answer x ended No text → ⊥
-never_no until x ended text it = (said_only until No x ended text (λ is. let e : No ≡ Refused = is in cc) it).said
-
--- what refuses a text, or is said of its tasks
-refused_told : (until : ℕ) (moves : List Move)
-    → (unroll_talk until).answer (ins moves) (has_ended moves) Refused (outs moves) → Ends until Refused moves
-refused_told until moves (inl refused) = inl (refused.1, refused.2)
-refused_told until moves (inr said) = inr said
-
--- a front of it
-front_told : (until : ℕ) (moves : List Move) → IsCutAnswer (unroll_talk until) moves
-    → unrolled.IsUnwritten until moves
-front_told until moves cut = by_answer cut.answer where
-  by_answer : (unroll_talk until).answer (ins moves) (has_ended moves) cut.status cut.text
-      → unrolled.IsUnwritten until moves
-  by_answer (inl refused) = inl (refused.1, subst (IsProperPrefix (outs moves)) refused.2 cut.front)
-  by_answer (inr said) = inr (cut.status, cut.text, said, cut.front)
-
--- what the word promises is what its talk comes to
-pub told_by : (until : ℕ) (status : Status) (moves : List Move) → Talks (unroll_talk until) status moves
-    → Tells until status moves
-told_by until status moves it = record { reads = it.reads; ends = by_status status it.ends } where
-  by_status : (s : Status) → talk.Ends (unroll_talk until) s moves → Ends until s moves
-  by_status Done made = said_only until Done (ins moves) (has_ended moves) (outs moves)
-      (λ is. let e : Done ≡ Refused = is in cc) made.answer
-  by_status No made = never_no until (ins moves) (has_ended moves) (outs moves) made.answer
-  by_status Refused made = refused_told until moves made.answer
-  by_status ReadFault made = record { unended = made.unended; open_still = made.open_still; text = made.text }
-  by_status WriteFault made = front_told until moves (cut_answer (unroll_talk until) (λ x. refl) moves made)
-  by_status Memory made =
-      record { unended = made.lacking; text = nothing_put (unroll_talk until) (λ x. refl) moves made }
-  by_status Usage made = absurd made
-
--- the statuses
-pub answers : (until : ℕ) (status : Status) → CanEnd (unroll_talk until) status → IsNeitherNoNorUsage status
-answers until Done it = tt
-answers until No it = never_no until it.bytes it.ended it.text it.answer
-answers until Refused it = tt
-answers until ReadFault it = tt
-answers until WriteFault it = tt
-answers until Memory it = tt
-answers until Usage it = absurd it

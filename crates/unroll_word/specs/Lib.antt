@@ -1,4 +1,4 @@
 pub mod Feeds
 pub mod Texts
-pub mod Record
-pub mod Talking
+pub mod Talk
+pub mod Keeping

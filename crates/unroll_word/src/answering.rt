@@ -4,7 +4,7 @@ ghost use Rattle.dialogue.specs.Turns.{StopCause, StopsOn};
 ghost use Rattle.dover_model.specs.Fraction.{IsRatio};
 ghost use Rattle.periodic_tasks.specs.Limits.{AreTasks};
 ghost use Rattle.task_reading.specs.Record.{listed_rules};
-ghost use Rattle.unroll_word.specs.Talking.{SaysBy};
+ghost use Rattle.unroll_word.specs.Keeping.{SaysBy};
 
 use crate::feeds::put_feed;
 use dialogue::Stop;

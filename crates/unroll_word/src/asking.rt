@@ -1,6 +1,7 @@
 //! What the reading loop calls: a reader of the tasks, whose jobs are asked for at the end.
 ghost use Rattle.std.specs.Prelude.{ℕ};
-ghost use Rattle.unroll_word.specs.Talking.{unroll_talk, Stands, IsAt};
+ghost use Rattle.unroll_word.specs.Talk.{unroll_talk};
+ghost use Rattle.unroll_word.specs.Keeping.{Stands, IsAt};
 
 use crate::answering::answer;
 use dialogue::{Stop, Talker};

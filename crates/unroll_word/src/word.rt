@@ -1,8 +1,9 @@
 //! The word.
-ghost use Rattle.dover_port.specs.Causes.{Causes, IsNeitherNoNorUsage, StopsWith};
+ghost use Rattle.dover_port.specs.Causes.{Causes, StopsWith};
 ghost use Rattle.dover_port.specs.Moves.{Since};
+ghost use Rattle.dialogue.specs.Talk.{Talks, CanEnd};
 ghost use Rattle.task_reading.specs.Keeping.{IsKnown};
-ghost use Rattle.unroll_word.specs.Record.{Tells};
+ghost use Rattle.unroll_word.specs.Talk.{unroll_talk};
 
 use crate::asking::AskingTasks;
 use dialogue::converse;
@@ -27,8 +28,8 @@ pub fn unroll_word<P: Port, L: Ledger>(
     steps: &mut Steps<L>,
 ) -> Status
     requires { IsKnown until }
-    ensures tells { Since (P.moves port.old) (P.moves port.new) (Tells until result) }
-    ensures answer { IsNeitherNoNorUsage result }
+    ensures talks { Since (P.moves port.old) (P.moves port.new) (Talks (unroll_talk until) result) }
+    ensures ends { CanEnd (Talks (unroll_talk until)) result }
     ensures causes { Causes result (P.read_faults port.old) (P.read_faults port.new) (P.write_faults port.old)
         (P.write_faults port.new) }
     ensures stops { StopsWith result (P.calls port.old) (P.calls port.new) }

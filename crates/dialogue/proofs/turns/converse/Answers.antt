@@ -1,5 +1,5 @@
-use Rattle.std.proofs.Common.{◌∙◌}
-use Rattle.dialogue.proofs.Answering.{lacking, cut, unflushed, put, final_causes, final_stops, final_ends}
+use Rattle.std.proofs.Common.{◌∙◌, refl, inl}
+use Rattle.dialogue.proofs.Answering.{lacking, cut, unflushed, put, final_causes, final_stops, can_answer, can_lack}
 use Rattle.dialogue.proofs.turns.converse.Goals as goal
 
 pub answer-requires-clause-empty : goal.answer-requires-clause-empty
@@ -55,14 +55,20 @@ returns-in-Ok-flush-clause-stops g c =
     final_stops c.in-Ok.status _ _ (c.in-Ok.ensures.answers c.requires.0 was.0 was.1 was.2).0
     (λ well. c.in-Ok-flush.ensures.stops.well (c.in-Ok.ensures.stops (c.in-Over.ensures.stops well)))
 
-pub returns-in-Ok-flush-clause-answer : goal.returns-in-Ok-flush-clause-answer
-returns-in-Ok-flush-clause-answer g c = λ a s.
+pub returns-in-Ok-flush-clause-ends : goal.returns-in-Ok-flush-clause-ends
+returns-in-Ok-flush-clause-ends g c = λ a s.
     let was = c.in-Over.ensures.stands a s in
     let made = c.in-Ok.ensures.answers a was.0 was.1 was.2 in
-    final_ends _ c.in-Ok.status was.0 c.in-Over.ended _ made.0 made.1.1
+    can_answer _ (c.laws.ensures.steady a) was.0 c.in-Over.ended was.2 c.in-Ok.status made.1.0 made.0 made.1.1
 
-pub returns-in-Err-NoMemory-clause-answer : goal.returns-in-Err-NoMemory-clause-answer
-returns-in-Err-NoMemory-clause-answer g c = λ a s.
+pub returns-in-Err-NoMemory-clause-ends : goal.returns-in-Err-NoMemory-clause-ends
+returns-in-Err-NoMemory-clause-ends g c = λ a s.
     let was = c.in-Over.ensures.stands a s in
     let lacks = rw c.in-Err-NoMemory.field-0-is at (c.in-Err-NoMemory.ensures.answers a was.0 was.1 was.2) in
-    record { bytes = was.0; ended = c.in-Over.ended; lacking = lacks.0 }
+    can_lack _ (c.laws.ensures.steady a) was.0 c.in-Over.ended was.2 lacks.0
+
+pub returns-in-Err-Unwritten-clause-ends : goal.returns-in-Err-Unwritten-clause-ends
+returns-in-Err-Unwritten-clause-ends g c = λ a s. inl refl
+
+pub returns-in-Err-clause-ends : goal.returns-in-Err-clause-ends
+returns-in-Err-clause-ends g c = λ a s. inl refl

@@ -1,5 +1,6 @@
-use Rattle.std.proofs.Common.{[], false, refl, ◌∙◌, ◌++◌, arith}
+use Rattle.std.proofs.Common.{[], refl, inl, ◌∙◌, ◌++◌, arith}
 use Rattle.dover_port.proofs.Made.{since_none}
+use Rattle.dialogue.proofs.Answering.{can_fail, can_lack_on}
 use Rattle.dialogue.proofs.Records.{starts, some_front, no_input, unread, ended, no_memory, unwritten}
 use Rattle.dialogue.proofs.Records.{unflushed, goes_on, over, counted, read_turn}
 use Rattle.dialogue.proofs.turns.read_all.Goals as goal
@@ -112,4 +113,13 @@ pub returns-in-Err-NoMemory-clause-stands : goal.returns-in-Err-NoMemory-clause-
 returns-in-Err-NoMemory-clause-stands g c = λ a s.
     let was = c.loop.invariant.stands a s in
     let lacks = rw c.in-Err-NoMemory.field-0-is at (c.in-Err-NoMemory.ensures.hears a was.0 was.2 was.3) in
-    record { bytes = _; ended = false; lacking = lacks.0 }
+    can_lack_on _ (c.laws.ensures.steady a) _ lacks.0
+
+pub returns-in_default-clause-stands : goal.returns-in_default-clause-stands
+returns-in_default-clause-stands g c = λ a s. can_fail _ (c.laws.ensures.steady a)
+
+pub returns-in-Err-Unwritten-clause-stands : goal.returns-in-Err-Unwritten-clause-stands
+returns-in-Err-Unwritten-clause-stands g c = λ a s. inl refl
+
+pub returns-in-Err-clause-stands : goal.returns-in-Err-clause-stands
+returns-in-Err-clause-stands g c = λ a s. inl refl

@@ -3,20 +3,23 @@ use Rattle.dover_model.specs.Bait.{bait_jobs}
 use Rattle.dover_port.specs.Moves.{Since}
 use Rattle.dover_port.proofs.Made.{since_weaker}
 use Rattle.queued_jobs.proofs.Spending.{none_few}
-use Rattle.dover_top.specs.Carried.{Carries}
-use Rattle.dover_top.specs.Outcomes.{MayEnd, IsFrugal, IsFrugalAsAsked}
-use Rattle.dover_top.proofs.Outcomes.{asked_frugal}
+use Rattle.dialogue.specs.Talk.{CanEnd}
+use Rattle.dover_model.specs.Reports.{summary}
+use Rattle.trial_words.specs.Lists.{trial_instance}
+use Rattle.dover_top.specs.Says.{Says}
+use Rattle.dover_top.specs.Spending.{IsFrugal, IsFrugalAsAsked}
+use Rattle.dover_top.proofs.Saying.{asked_frugal, tried, given}
 use Rattle.dover_top.proofs.carrying.carry_out.Goals as goal
 
-pub returns-in-Serve-clause-carries : goal.returns-in-Serve-clause-carries
-returns-in-Serve-clause-carries g c =
+pub returns-in-Serve-clause-talks : goal.returns-in-Serve-clause-talks
+returns-in-Serve-clause-talks g c =
     subst (λ r. Since (g.P.Port.moves c.args.port.now) (g.P.Port.moves c.serve_word.new.port)
-    (Carries r c.serve_word.result))
-    (sym c.in-Serve.is) c.serve_word.ensures.serves
+    (Says r c.serve_word.result))
+    (sym c.in-Serve.is) c.serve_word.ensures.talks
 
 pub returns-in-Serve-clause-ends : goal.returns-in-Serve-clause-ends
 returns-in-Serve-clause-ends g c =
-    subst (λ r. MayEnd r c.serve_word.result) (sym c.in-Serve.is) c.serve_word.ensures.answer
+    subst (λ r. CanEnd (Says r) c.serve_word.result) (sym c.in-Serve.is) c.serve_word.ensures.ends
 
 pub returns-in-Serve-clause-comparisons : goal.returns-in-Serve-clause-comparisons
 returns-in-Serve-clause-comparisons g c =
@@ -37,15 +40,15 @@ pub returns-in-Serve-clause-stops : goal.returns-in-Serve-clause-stops
 returns-in-Serve-clause-stops g c =
     c.serve_word.ensures.stops
 
-pub returns-in-Judge-clause-carries : goal.returns-in-Judge-clause-carries
-returns-in-Judge-clause-carries g c =
+pub returns-in-Judge-clause-talks : goal.returns-in-Judge-clause-talks
+returns-in-Judge-clause-talks g c =
     subst (λ r. Since (g.P.Port.moves c.args.port.now) (g.P.Port.moves c.judge_word.new.port)
-    (Carries r c.judge_word.result))
-    (sym c.in-Judge.is) c.judge_word.ensures.judges
+    (Says r c.judge_word.result))
+    (sym c.in-Judge.is) c.judge_word.ensures.talks
 
 pub returns-in-Judge-clause-ends : goal.returns-in-Judge-clause-ends
 returns-in-Judge-clause-ends g c =
-    subst (λ r. MayEnd r c.judge_word.result) (sym c.in-Judge.is) c.judge_word.ensures.answer
+    subst (λ r. CanEnd (Says r) c.judge_word.result) (sym c.in-Judge.is) c.judge_word.ensures.ends
 
 pub returns-in-Judge-clause-comparisons : goal.returns-in-Judge-clause-comparisons
 returns-in-Judge-clause-comparisons g c =
@@ -66,15 +69,15 @@ pub returns-in-Judge-clause-stops : goal.returns-in-Judge-clause-stops
 returns-in-Judge-clause-stops g c =
     c.judge_word.ensures.stops
 
-pub returns-in-Report-clause-carries : goal.returns-in-Report-clause-carries
-returns-in-Report-clause-carries g c =
+pub returns-in-Report-clause-talks : goal.returns-in-Report-clause-talks
+returns-in-Report-clause-talks g c =
     subst (λ r. Since (g.P.Port.moves c.args.port.now) (g.P.Port.moves c.report_word.new.port)
-    (Carries r c.report_word.result))
-    (sym c.in-Report.is) c.report_word.ensures.reports
+    (Says r c.report_word.result))
+    (sym c.in-Report.is) c.report_word.ensures.talks
 
 pub returns-in-Report-clause-ends : goal.returns-in-Report-clause-ends
 returns-in-Report-clause-ends g c =
-    subst (λ r. MayEnd r c.report_word.result) (sym c.in-Report.is) c.report_word.ensures.answer
+    subst (λ r. CanEnd (Says r) c.report_word.result) (sym c.in-Report.is) c.report_word.ensures.ends
 
 pub returns-in-Report-clause-comparisons : goal.returns-in-Report-clause-comparisons
 returns-in-Report-clause-comparisons g c =
@@ -95,15 +98,17 @@ pub returns-in-Report-clause-stops : goal.returns-in-Report-clause-stops
 returns-in-Report-clause-stops g c =
     c.report_word.ensures.stops
 
-pub returns-in-Trial-clause-carries : goal.returns-in-Trial-clause-carries
-returns-in-Trial-clause-carries g c =
+pub returns-in-Trial-clause-talks : goal.returns-in-Trial-clause-talks
+returns-in-Trial-clause-talks g c =
     subst (λ r. Since (g.P.Port.moves c.args.port.now) (g.P.Port.moves c.trial_word.new.port)
-    (Carries r c.trial_word.result))
+    (Says r c.trial_word.result))
     (sym c.in-Trial.is) c.trial_word.ensures.writes
 
 pub returns-in-Trial-clause-ends : goal.returns-in-Trial-clause-ends
 returns-in-Trial-clause-ends g c =
-    subst (λ r. MayEnd r c.trial_word.result) (sym c.in-Trial.is) c.trial_word.ensures.answer
+    subst (λ r. CanEnd (Says r) c.trial_word.result) (sym c.in-Trial.is)
+    (tried (summary (trial_instance c.in-Trial.k c.in-Trial.seed c.in-Trial.count)) c.trial_word.result
+    c.trial_word.ensures.answer)
 
 pub returns-in-Trial-clause-comparisons : goal.returns-in-Trial-clause-comparisons
 returns-in-Trial-clause-comparisons g c =
@@ -124,15 +129,16 @@ pub returns-in-Trial-clause-stops : goal.returns-in-Trial-clause-stops
 returns-in-Trial-clause-stops g c =
     c.trial_word.ensures.stops
 
-pub returns-in-Bait-clause-carries : goal.returns-in-Bait-clause-carries
-returns-in-Bait-clause-carries g c =
+pub returns-in-Bait-clause-talks : goal.returns-in-Bait-clause-talks
+returns-in-Bait-clause-talks g c =
     subst (λ r. Since (g.P.Port.moves c.args.port.now) (g.P.Port.moves c.bait_word.new.port)
-    (Carries r c.bait_word.result))
+    (Says r c.bait_word.result))
     (sym c.in-Bait.is) c.bait_word.ensures.baits
 
 pub returns-in-Bait-clause-ends : goal.returns-in-Bait-clause-ends
 returns-in-Bait-clause-ends g c =
-    subst (λ r. MayEnd r c.bait_word.result) (sym c.in-Bait.is) c.bait_word.ensures.answer
+    subst (λ r. CanEnd (Says r) c.bait_word.result) (sym c.in-Bait.is)
+    (given c.in-Bait.k c.in-Bait.rounds c.bait_word.result c.bait_word.ensures.answer)
 
 pub returns-in-Bait-clause-comparisons : goal.returns-in-Bait-clause-comparisons
 returns-in-Bait-clause-comparisons g c =
@@ -153,15 +159,15 @@ pub returns-in-Bait-clause-stops : goal.returns-in-Bait-clause-stops
 returns-in-Bait-clause-stops g c =
     c.bait_word.ensures.stops
 
-pub returns-in-Ask-clause-carries : goal.returns-in-Ask-clause-carries
-returns-in-Ask-clause-carries g c =
+pub returns-in-Ask-clause-talks : goal.returns-in-Ask-clause-talks
+returns-in-Ask-clause-talks g c =
     subst (λ r. Since (g.P.Port.moves c.args.port.now) (g.P.Port.moves c.question_word.new.port)
-    (Carries r c.question_word.result))
-    (sym c.in-Ask.is) c.question_word.ensures.tells
+    (Says r c.question_word.result))
+    (sym c.in-Ask.is) c.question_word.ensures.talks
 
 pub returns-in-Ask-clause-ends : goal.returns-in-Ask-clause-ends
 returns-in-Ask-clause-ends g c =
-    subst (λ r. MayEnd r c.question_word.result) (sym c.in-Ask.is) c.question_word.ensures.answer
+    subst (λ r. CanEnd (Says r) c.question_word.result) (sym c.in-Ask.is) c.question_word.ensures.ends
 
 pub returns-in-Ask-clause-comparisons : goal.returns-in-Ask-clause-comparisons
 returns-in-Ask-clause-comparisons g c =
@@ -183,15 +189,15 @@ pub returns-in-Ask-clause-stops : goal.returns-in-Ask-clause-stops
 returns-in-Ask-clause-stops g c =
     c.question_word.ensures.stops
 
-pub returns-in-Lanes-clause-carries : goal.returns-in-Lanes-clause-carries
-returns-in-Lanes-clause-carries g c =
+pub returns-in-Lanes-clause-talks : goal.returns-in-Lanes-clause-talks
+returns-in-Lanes-clause-talks g c =
     subst (λ r. Since (g.P.Port.moves c.args.port.now) (g.P.Port.moves c.lanes_word.new.port)
-    (Carries r c.lanes_word.result))
+    (Says r c.lanes_word.result))
     (sym c.in-Lanes.is) c.lanes_word.ensures.serves
 
 pub returns-in-Lanes-clause-ends : goal.returns-in-Lanes-clause-ends
 returns-in-Lanes-clause-ends g c =
-    subst (λ r. MayEnd r c.lanes_word.result) (sym c.in-Lanes.is) c.lanes_word.ensures.answer
+    subst (λ r. CanEnd (Says r) c.lanes_word.result) (sym c.in-Lanes.is) c.lanes_word.ensures.ends
 
 pub returns-in-Lanes-clause-comparisons : goal.returns-in-Lanes-clause-comparisons
 returns-in-Lanes-clause-comparisons g c =
@@ -212,15 +218,15 @@ pub returns-in-Lanes-clause-stops : goal.returns-in-Lanes-clause-stops
 returns-in-Lanes-clause-stops g c =
     c.lanes_word.ensures.stops
 
-pub returns-in-Pause-clause-carries : goal.returns-in-Pause-clause-carries
-returns-in-Pause-clause-carries g c =
+pub returns-in-Pause-clause-talks : goal.returns-in-Pause-clause-talks
+returns-in-Pause-clause-talks g c =
     subst (λ r. Since (g.P.Port.moves c.args.port.now) (g.P.Port.moves c.pause_word.new.port)
-    (Carries r c.pause_word.result))
-    (sym c.in-Pause.is) c.pause_word.ensures.pauses
+    (Says r c.pause_word.result))
+    (sym c.in-Pause.is) c.pause_word.ensures.talks
 
 pub returns-in-Pause-clause-ends : goal.returns-in-Pause-clause-ends
 returns-in-Pause-clause-ends g c =
-    subst (λ r. MayEnd r c.pause_word.result) (sym c.in-Pause.is) c.pause_word.ensures.answer
+    subst (λ r. CanEnd (Says r) c.pause_word.result) (sym c.in-Pause.is) c.pause_word.ensures.ends
 
 pub returns-in-Pause-clause-comparisons : goal.returns-in-Pause-clause-comparisons
 returns-in-Pause-clause-comparisons g c =
@@ -241,15 +247,15 @@ pub returns-in-Pause-clause-stops : goal.returns-in-Pause-clause-stops
 returns-in-Pause-clause-stops g c =
     c.pause_word.ensures.stops
 
-pub returns-in-Resume-clause-carries : goal.returns-in-Resume-clause-carries
-returns-in-Resume-clause-carries g c =
+pub returns-in-Resume-clause-talks : goal.returns-in-Resume-clause-talks
+returns-in-Resume-clause-talks g c =
     subst (λ r. Since (g.P.Port.moves c.args.port.now) (g.P.Port.moves c.resume_word.new.port)
-    (Carries r c.resume_word.result))
+    (Says r c.resume_word.result))
     (sym c.in-Resume.is) c.resume_word.ensures.resumes
 
 pub returns-in-Resume-clause-ends : goal.returns-in-Resume-clause-ends
 returns-in-Resume-clause-ends g c =
-    subst (λ r. MayEnd r c.resume_word.result) (sym c.in-Resume.is) c.resume_word.ensures.answer
+    subst (λ r. CanEnd (Says r) c.resume_word.result) (sym c.in-Resume.is) c.resume_word.ensures.ends
 
 pub returns-in-Resume-clause-comparisons : goal.returns-in-Resume-clause-comparisons
 returns-in-Resume-clause-comparisons g c =
@@ -270,21 +276,21 @@ pub returns-in-Resume-clause-stops : goal.returns-in-Resume-clause-stops
 returns-in-Resume-clause-stops g c =
     c.resume_word.ensures.stops
 
-pub returns-in-Unroll-clause-carries : goal.returns-in-Unroll-clause-carries
-returns-in-Unroll-clause-carries g c =
+pub returns-in-Unroll-clause-talks : goal.returns-in-Unroll-clause-talks
+returns-in-Unroll-clause-talks g c =
     subst (λ r. Since (g.P.Port.moves c.args.port.now) (g.P.Port.moves c.unroll_word.new.port)
-    (Carries r c.unroll_word.result))
-    (sym c.in-Unroll.is) c.unroll_word.ensures.tells
+    (Says r c.unroll_word.result))
+    (sym c.in-Unroll.is) c.unroll_word.ensures.talks
 
 pub returns-in-Unroll-clause-ends : goal.returns-in-Unroll-clause-ends
 returns-in-Unroll-clause-ends g c =
-    subst (λ r. MayEnd r c.unroll_word.result) (sym c.in-Unroll.is) c.unroll_word.ensures.answer
+    subst (λ r. CanEnd (Says r) c.unroll_word.result) (sym c.in-Unroll.is) c.unroll_word.ensures.ends
 
 pub returns-in-Unroll-clause-comparisons : goal.returns-in-Unroll-clause-comparisons
 returns-in-Unroll-clause-comparisons g c =
     subst (λ r. Since (g.P.Port.moves c.args.port.now) (g.P.Port.moves c.unroll_word.new.port)
     (IsFrugal r c.unroll_word.result c.args.steps.now c.unroll_word.new.steps))
-    (sym c.in-Unroll.is) (since_weaker _ _ _ _ c.unroll_word.ensures.tells (λ xs s. tt))
+    (sym c.in-Unroll.is) (since_weaker _ _ _ _ c.unroll_word.ensures.talks (λ xs s. tt))
 
 pub returns-in-Unroll-clause-stated : goal.returns-in-Unroll-clause-stated
 returns-in-Unroll-clause-stated g c =

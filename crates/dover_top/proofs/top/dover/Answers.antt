@@ -1,28 +1,25 @@
 use Rattle.std.proofs.Common.{refl, sym, subst}
 use Rattle.dover_port.specs.Moves.{Since}
-use Rattle.dover_top.specs.Outcomes.{IsFrugal, IsFrugalAsAsked, MayEnd}
+use Rattle.dialogue.specs.Talk.{CanEnd}
+use Rattle.dover_top.specs.Says.{Says}
+use Rattle.dover_top.specs.Spending.{IsFrugal, IsFrugalAsAsked}
 use Rattle.dover_top.proofs.Asking.{asks_one, may_carry}
-use Rattle.dover_top.proofs.Outcomes.{call_reads, call_outcome, call_ends, call_called_for, never_usage}
+use Rattle.dover_top.proofs.Saying.{call_talks, call_promises, never_usage}
 use Rattle.dover_top.proofs.top.dover.Goals as goal
 
 pub carry_out-requires : goal.carry_out-requires
 carry_out-requires g c = may_carry _ _ c.in-Some.ensures.some
 
-pub returns-in-Some-clause-reads : goal.returns-in-Some-clause-reads
-returns-in-Some-clause-reads g c = call_reads _ _ c.in-Some.ensures.some _ _ _ c.carry_out.ensures.carries
-    c.carry_out.ensures.ends
+pub returns-in-Some-clause-talks : goal.returns-in-Some-clause-talks
+returns-in-Some-clause-talks g c = call_talks _ _ c.in-Some.ensures.some _ _ _ c.carry_out.ensures.talks
 
-pub returns-in-Some-clause-outcome : goal.returns-in-Some-clause-outcome
-returns-in-Some-clause-outcome g c = call_outcome _ _ c.in-Some.ensures.some _ _ _ c.carry_out.ensures.carries
-    c.carry_out.ensures.ends
+pub returns-in-Some-clause-promises : goal.returns-in-Some-clause-promises
+returns-in-Some-clause-promises g c = call_promises _ _ c.in-Some.ensures.some _ _ _ c.carry_out.ensures.talks
 
 pub returns-in-Some-clause-ends : goal.returns-in-Some-clause-ends
-returns-in-Some-clause-ends g c = call_ends _ _ c.in-Some.ensures.some _ _ _ c.carry_out.ensures.carries
+returns-in-Some-clause-ends g c = λ r asks.
+    subst (λ q. CanEnd (Says q) c.carry_out.result) (asks_one _ _ r c.in-Some.ensures.some asks)
     c.carry_out.ensures.ends
-
-pub returns-in-Some-clause-called_for : goal.returns-in-Some-clause-called_for
-returns-in-Some-clause-called_for g c = call_called_for _ _ c.in-Some.ensures.some _ _ _ c.carry_out.ensures.carries
-    c.carry_out.ensures.ends _ _ _ _ c.carry_out.ensures.causes
 
 pub returns-in-Some-clause-comparisons : goal.returns-in-Some-clause-comparisons
 returns-in-Some-clause-comparisons g c = λ r asks.
@@ -37,25 +34,22 @@ returns-in-Some-clause-stated g c = λ r asks done.
 
 pub returns-in-Some-clause-usage : goal.returns-in-Some-clause-usage
 returns-in-Some-clause-usage g c = (
-  (λ e. absurd (never_usage c.in-Some.request (subst (MayEnd c.in-Some.request) e c.carry_out.ensures.ends))),
+  (λ e. absurd (never_usage c.in-Some.request (subst (CanEnd (Says c.in-Some.request)) e c.carry_out.ensures.ends))),
   (λ none. absurd (none c.in-Some.request c.in-Some.ensures.some)),
 )
 
 pub returns-in-Some-clause-idle : goal.returns-in-Some-clause-idle
 returns-in-Some-clause-idle g c =
-    λ e. absurd (never_usage c.in-Some.request (subst (MayEnd c.in-Some.request) e c.carry_out.ensures.ends))
+    λ e. absurd (never_usage c.in-Some.request (subst (CanEnd (Says c.in-Some.request)) e c.carry_out.ensures.ends))
 
-pub returns-in-None-clause-reads : goal.returns-in-None-clause-reads
-returns-in-None-clause-reads g c = λ r asks. absurd (c.in-None.ensures.none refl r asks)
+pub returns-in-None-clause-talks : goal.returns-in-None-clause-talks
+returns-in-None-clause-talks g c = λ r asks. absurd (c.in-None.ensures.none refl r asks)
 
-pub returns-in-None-clause-outcome : goal.returns-in-None-clause-outcome
-returns-in-None-clause-outcome g c = λ r asks. absurd (c.in-None.ensures.none refl r asks)
+pub returns-in-None-clause-promises : goal.returns-in-None-clause-promises
+returns-in-None-clause-promises g c = λ r asks. absurd (c.in-None.ensures.none refl r asks)
 
 pub returns-in-None-clause-ends : goal.returns-in-None-clause-ends
 returns-in-None-clause-ends g c = λ r asks. absurd (c.in-None.ensures.none refl r asks)
-
-pub returns-in-None-clause-called_for : goal.returns-in-None-clause-called_for
-returns-in-None-clause-called_for g c = λ r asks read write. absurd (c.in-None.ensures.none refl r asks)
 
 pub returns-in-None-clause-comparisons : goal.returns-in-None-clause-comparisons
 returns-in-None-clause-comparisons g c = λ r asks. absurd (c.in-None.ensures.none refl r asks)

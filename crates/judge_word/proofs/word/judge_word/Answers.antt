@@ -1,5 +1,5 @@
-use Rattle.dover_port.proofs.Made.{since_weaker}
-use Rattle.judge_word.proofs.Talking.{judged_by, answers}
+use Rattle.std.proofs.Common.{[], refl, inr}
+use Rattle.dover_port.proofs.Made.{since_none, since_weaker}
 use Rattle.judge_word.proofs.word.judge_word.Goals as goal
 
 pub converse-requires : goal.converse-requires
@@ -8,16 +8,16 @@ converse-requires g c = (
   record { stands = c.in-Ok.ensures.stands; paid = c.in-Ok.ensures.paid c.args.steps.now },
 )
 
-pub returns-clause-judges : goal.returns-clause-judges
-returns-clause-judges g c = since_weaker _ _ _ _ (c.converse.ensures.talks c.args.steps.now
+pub returns-clause-talks : goal.returns-clause-talks
+returns-clause-talks g c = since_weaker _ _ _ _ (c.converse.ensures.talks c.args.steps.now
     (record { stands = c.in-Ok.ensures.stands; paid = c.in-Ok.ensures.paid c.args.steps.now }))
-    (λ moves it. judged_by c.converse.result moves it.0)
+    (λ moves it. it.0)
 
 pub returns-clause-count : goal.returns-clause-count
 returns-clause-count g c = since_weaker _ _ _ _ (c.converse.ensures.talks c.args.steps.now
     (record { stands = c.in-Ok.ensures.stands; paid = c.in-Ok.ensures.paid c.args.steps.now }))
     (λ moves it. it.1)
 
-pub returns-clause-answer : goal.returns-clause-answer
-returns-clause-answer g c = answers c.converse.result (c.converse.ensures.answer c.args.steps.now
-    (record { stands = c.in-Ok.ensures.stands; paid = c.in-Ok.ensures.paid c.args.steps.now }))
+pub returns-clause-ends : goal.returns-clause-ends
+returns-clause-ends g c = c.converse.ensures.ends c.args.steps.now
+    (record { stands = c.in-Ok.ensures.stands; paid = c.in-Ok.ensures.paid c.args.steps.now })

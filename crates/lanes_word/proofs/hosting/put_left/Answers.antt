@@ -1,7 +1,7 @@
 use Rattle.std.proofs.Common.{[], refl, ◌∙◌, arith}
 use Rattle.dover_model.specs.Lines.{lines_of}
 use Rattle.dialogue.proofs.Giving.{given_none, given_more, given_cut, given_all, given_few}
-use Rattle.lanes_word.specs.Talking.{Leaves}
+use Rattle.lanes_word.specs.Keeping.{Leaves}
 use Rattle.lanes_word.proofs.Talking.{leaves_few}
 use Rattle.lanes_word.proofs.hosting.put_left.Goals as goal
 

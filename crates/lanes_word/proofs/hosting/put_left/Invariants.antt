@@ -2,7 +2,7 @@ use Rattle.std.proofs.Common.{◌≡◌, List, ℕ}
 use Rattle.dover_model.specs.Lines.{lines_of}
 use Rattle.dover_port.specs.Causes.{StaysWell}
 use Rattle.dialogue.proofs.Giving.{HasGiven}
-use Rattle.lanes_word.specs.Talking.{Leaves}
+use Rattle.lanes_word.specs.Keeping.{Leaves}
 use Rattle.lanes_word.proofs.hosting.put_left.Given as goal
 
 -- Some of the parts were given and put, and the others are left.

@@ -1,7 +1,6 @@
 use Rattle.std.proofs.Common.{refl}
 use Rattle.dover_port.proofs.Made.{since_weaker}
 use Rattle.report_word.specs.Talking.{Call}
-use Rattle.report_word.proofs.Talking.{reported_by, answers}
 use Rattle.report_word.proofs.word.report_word.Goals as goal
 
 pub converse-requires : goal.converse-requires
@@ -15,8 +14,8 @@ converse-requires g c = (
   },
 )
 
-pub returns-clause-reports : goal.returns-clause-reports
-returns-clause-reports g c =
+pub returns-clause-talks : goal.returns-clause-talks
+returns-clause-talks g c =
     let call : Call = record { form = c.args.form; start = c.args.steps.now } in
     since_weaker _ _ _ _ (c.converse.ensures.talks call (record {
       judge = c.in-Ok.ensures.stands;
@@ -24,7 +23,7 @@ returns-clause-reports g c =
       keep = c.in-Ok.ensures.keep;
       form = refl;
     }))
-    (λ moves it. reported_by c.args.form c.converse.result moves it.0)
+    (λ moves it. it.0)
 
 pub returns-clause-count : goal.returns-clause-count
 returns-clause-count g c =
@@ -37,12 +36,12 @@ returns-clause-count g c =
     }))
     (λ moves it. it.1)
 
-pub returns-clause-answer : goal.returns-clause-answer
-returns-clause-answer g c =
+pub returns-clause-ends : goal.returns-clause-ends
+returns-clause-ends g c =
     let call : Call = record { form = c.args.form; start = c.args.steps.now } in
-    answers c.args.form c.converse.result (c.converse.ensures.answer call (record {
+    c.converse.ensures.ends call (record {
       judge = c.in-Ok.ensures.stands;
       paid = c.in-Ok.ensures.paid c.args.steps.now;
       keep = c.in-Ok.ensures.keep;
       form = refl;
-    }))
+    })

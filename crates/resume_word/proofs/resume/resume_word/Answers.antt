@@ -1,7 +1,7 @@
 use Rattle.std.proofs.Common.{refl}
 use Rattle.dover_port.proofs.Made.{since_weaker}
-use Rattle.resume_word.specs.Talking.{Asked}
-use Rattle.resume_word.proofs.Records.{resumes, answers}
+use Rattle.resume_word.specs.Talk.{Asked}
+use Rattle.resume_word.proofs.Records.{resumes, can_end}
 use Rattle.resume_word.proofs.resume.resume_word.Goals as goal
 
 pub converse-requires : goal.converse-requires
@@ -24,8 +24,8 @@ returns-clause-count g c =
     (refl, (c.new.ensures.stands, c.new.ensures.count c.args.steps.now)))
     (λ moves it. it.1)
 
-pub returns-clause-answer : goal.returns-clause-answer
-returns-clause-answer g c =
+pub returns-clause-ends : goal.returns-clause-ends
+returns-clause-ends g c =
     let asked : Asked = record { at_end = c.args.at_end; start = c.args.steps.now } in
-    answers asked c.converse.result (c.converse.ensures.answer asked
+    can_end asked c.converse.result (c.converse.ensures.ends asked
     (refl, (c.new.ensures.stands, c.new.ensures.count c.args.steps.now)))

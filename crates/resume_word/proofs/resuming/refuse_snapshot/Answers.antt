@@ -4,7 +4,7 @@ use Rattle.dover_port.specs.declared.status.Status.TheVariants.{Refused}
 use Rattle.line_text.specs.Writing.{with_field}
 use Rattle.line_output.proofs.FaultLines.{word_and_number}
 use Rattle.resume_word.specs.Record.{refused_text}
-use Rattle.resume_word.specs.Talking.{resume_talk}
+use Rattle.resume_word.specs.Talk.{resume_talk}
 use Rattle.resume_word.proofs.Refusal.{refusal, refusal_is, refusal_size}
 use Rattle.resume_word.proofs.resuming.refuse_snapshot.Goals as goal
 

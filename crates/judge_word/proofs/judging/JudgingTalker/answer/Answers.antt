@@ -3,7 +3,7 @@ use Rattle.dover_model.specs.Verdict.{verdict}
 use Rattle.dover_model.proofs.Tests.{never}
 use Rattle.trace_judge.proofs.Spending.{costs_few}
 use Rattle.judge_word.specs.Line.{verdict_text}
-use Rattle.judge_word.specs.Record.{status_of}
+use Rattle.judge_word.specs.Line.{status_of}
 use Rattle.judge_word.proofs.Talking.{by_verdict}
 use Rattle.judge_word.proofs.judging.JudgingTalker.answer.Goals as goal
 

@@ -3,7 +3,7 @@ use Rattle.dover_model.specs.Lines.{lines_of}
 use Rattle.dialogue.specs.Turns.{joined}
 use Rattle.dover_port.specs.declared.status.Status.TheVariants.{Refused}
 use Rattle.lane_server.specs.Lanes.{input, shorts_from, lane_count, refused_line}
-use Rattle.lanes_word.specs.Talking.{Holds}
+use Rattle.lanes_word.specs.Keeping.{Holds}
 use Rattle.lanes_word.proofs.Talking.{final, closed_status, closing, closed_text, Refuses, refuses, refused_text}
 use Rattle.lanes_word.proofs.hosting.HostingTalker.answer.Goals as goal
 

@@ -1,7 +1,7 @@
 use Rattle.std.proofs.Common.{◌++◌, refl, ap, ◌∙◌, arith, drop, take, append_assoc, subst}
 use Rattle.std.proofs.lemmas.List.{take-append-drop}
 use Rattle.lane_server.specs.Lanes.{input}
-use Rattle.lanes_word.specs.Record.{HasLine}
+use Rattle.lanes_word.specs.Talk.{HasLine}
 use Rattle.lanes_word.proofs.Inputs.{line_grows_on}
 use Rattle.lanes_word.proofs.hosting.HostingTalker.take.Goals as goal
 

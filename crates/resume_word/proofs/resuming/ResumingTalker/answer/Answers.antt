@@ -2,11 +2,12 @@ use Rattle.std.proofs.Common.{sym, ◌∙◌, subst, refl, ap, ◌+◌}
 use Rattle.dialogue.specs.Turns.{AnswersBy}
 use Rattle.dover_port.specs.declared.status.Status.TheVariants as status
 use Rattle.dispatcher.specs.Serving.{Serves, HasRoom, HasPaid}
-use Rattle.serve_word.specs.Talking as serve
-use Rattle.serve_word.specs.Talking.{serve_talk}
+use Rattle.serve_word.specs.Keeping as serve
+use Rattle.serve_word.specs.Keeping.{serve_talk}
 use Rattle.snapshot.specs.Reading.{Refused}
 use Rattle.resume_word.specs.Record.{refused_text}
-use Rattle.resume_word.specs.Talking.{IsReady, IsAnsweredBy}
+use Rattle.resume_word.specs.Talk.{IsAnsweredBy}
+use Rattle.resume_word.specs.Keeping.{IsReady}
 use Rattle.resume_word.proofs.Laws.{at_serving}
 use Rattle.resume_word.proofs.Talking.{due_at}
 use Rattle.resume_word.proofs.Stages.{opening_due, opening_answer, opening_costs, past_call, past_bytes, past_answers}
@@ -52,7 +53,7 @@ pub returns-in-Refuse-clause-answers : goal.returns-in-Refuse-clause-answers
 returns-in-Refuse-clause-answers g c = λ a x at over.
     let it = at_serving a c.args.self.stage c.in-Serving.serving c.args.meter.now x c.in-Serving.is at.1 in
     past_answers a x _ it c.args.ended _ _ _ c.answer.result
-    (subst (λ e. AnswersBy (serve_talk e (past_call a x _ it)) (past_bytes a x _ it) c.args.ended
+    (subst (λ e. AnswersBy (serve_talk e (past_call a x _ it).feed) (past_bytes a x _ it) c.args.ended
     (g.P.Port.moves c.args.port.now) (g.P.Port.moves c.answer.new.port) c.answer.new.out c.answer.result)
     (sym c.in-Refuse.is ∙ at.0)
     ((rw c.in-Serving.is at c.answer.ensures.answers) (past_call a x _ it) (past_bytes a x _ it) it.holds
@@ -82,7 +83,7 @@ pub returns-in-Pause-clause-answers : goal.returns-in-Pause-clause-answers
 returns-in-Pause-clause-answers g c = λ a x at over.
     let it = at_serving a c.args.self.stage c.in-Serving.serving c.args.meter.now x c.in-Serving.is at.1 in
     past_answers a x _ it c.args.ended _ _ _ c.answer-in-Pause.result
-    (subst (λ e. AnswersBy (serve_talk e (past_call a x _ it)) (past_bytes a x _ it) c.args.ended
+    (subst (λ e. AnswersBy (serve_talk e (past_call a x _ it).feed) (past_bytes a x _ it) c.args.ended
     (g.P.Port.moves c.args.port.now) (g.P.Port.moves c.answer-in-Pause.new.port) c.answer-in-Pause.new.out
     c.answer-in-Pause.result)
     (sym c.in-Pause.is ∙ at.0)

@@ -1,6 +1,6 @@
 use Rattle.std.proofs.Common.{sym, ◌∙◌, subst}
 use Rattle.snapshot.specs.Reading.{Refused}
-use Rattle.resume_word.specs.Talking.{IsReady}
+use Rattle.resume_word.specs.Keeping.{IsReady}
 use Rattle.resume_word.proofs.Talking.{goes_at}
 use Rattle.resume_word.proofs.Stages.{opening_goes, past_goes, past_call, past_bytes}
 use Rattle.resume_word.proofs.resuming.ResumingTalker.goes_on.Goals as goal

@@ -1,5 +1,5 @@
 use Rattle.std.proofs.Common.{subst, sym}
-use Rattle.resume_word.specs.Talking.{IsGiving, IsReady}
+use Rattle.resume_word.specs.Keeping.{IsGiving, IsReady}
 use Rattle.resume_word.proofs.Stages.{past_call, past_bytes, past_gives}
 use Rattle.resume_word.proofs.resuming.ResumingTalker.next_part.Goals as goal
 

@@ -1,7 +1,7 @@
 use Rattle.std.proofs.Common.{◌++◌, List, ℕ, take, refl, sym, ◌∙◌, subst}
 use Rattle.dover_model.specs.Lines.{lines_of}
 use Rattle.snapshot.specs.Reading.{Refused}
-use Rattle.resume_word.specs.Talking.{IsReady}
+use Rattle.resume_word.specs.Keeping.{IsReady}
 use Rattle.dover_model.proofs.Tests.{never}
 use Rattle.resume_word.proofs.Talking.{goes_at}
 use Rattle.resume_word.proofs.Onward.{feed_may}

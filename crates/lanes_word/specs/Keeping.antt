@@ -1,10 +1,9 @@
--- What the word `lanes` says, by the bytes got, and what it keeps of them.
+-- What is kept of the bytes.
 use Rattle.std.specs.Prelude.{◌≡◌, ◌≤◌, ℕ, suc, List, [], ◌∷◌, ◌++◌, map, Bool, true, false, Option, Some, None, Result}
 use Rattle.std.specs.Prelude.{Ok, Err, codes}
 use Rattle.dover_model.specs.declared.Memory.{Memory}
 use Rattle.dover_model.specs.Limits.{most_lines}
 use Rattle.dover_model.specs.Lines.{lines_of}
-use Rattle.dialogue.specs.Talk.{Talk}
 use Rattle.dialogue.specs.Turns.{joined}
 use Rattle.line_text.specs.Cutting as cuts
 use Rattle.line_text.specs.Cutting.{Cutting}
@@ -15,19 +14,9 @@ use Rattle.lane_server.specs.Lanes.{lane_due, due_after, shorts_from, lanes_clos
 use Rattle.lane_server.specs.Lane.{Serving, Having}
 use Rattle.lane_server.specs.Kept as keeping
 use Rattle.lane_server.specs.Kept.{Kept, StandsFor}
-use Rattle.lanes_word.specs.Record.{HasLine, closing_status}
+use Rattle.lanes_word.specs.Talk.{HasLine}
 use Rattle.lanes_word.specs.declared.refusal.Refusal.{Refusal}
 use Rattle.lanes_word.specs.declared.refusal.Refusal.TheVariants.{Short, TooManyLines, BadLane}
-
--- Each line for a lane is due as soon as it is settled. `close` or a fault of the whole input ends the talk, and the
--- closing lines are its answer. Memory may be lacking at a line of a lane alone.
-abbrev pub lanes_talk : Talk
-lanes_talk = record {
-  goes_on = λ x. goes_on (input x);
-  due = lane_due;
-  answer = λ x ended status text. (status ≡ closing_status (input x)) × (text ≡ lanes_closed x);
-  lacks = λ x ended. (ended ≡ false) × HasLine (input x).handed;
-}
 
 -- ---- why the input is refused if no more of it is read
 

@@ -1,16 +1,14 @@
--- What a word says that serves a feed, by the bytes got behind those that were read before.
-use Rattle.std.specs.Prelude.{◌≡◌, ℕ, List, ◌∷◌, ◌++◌, [], length, drop, map, Bool, true, false}
+-- What is kept of a feed that is served on behind bytes that were read before.
+use Rattle.std.specs.Prelude.{◌≡◌, ℕ, List, ◌∷◌, ◌++◌, [], length, drop, map, true}
 use Rattle.dover_model.specs.Due.{due}
 use Rattle.dover_model.specs.Feed.{account, is_open}
-use Rattle.dover_port.specs.declared.status.Status.{Status}
-use Rattle.dover_port.specs.declared.status.Status.TheVariants.{Done, Refused}
 use Rattle.queued_jobs.specs.Spending.{CostsAtMost}
 use Rattle.event_feed.specs.Answers.{admitted_in}
-use Rattle.dialogue.specs.Talk.{Talk}
-use Rattle.lane_server.specs.Lane.{IsDeclared, Serving, Having}
+use Rattle.dialogue.specs.Talk.{Talk, talk_behind}
+use Rattle.lane_server.specs.Lane.{Serving, Having}
 use Rattle.lane_server.specs.Spending.{HasPaid}
 use Rattle.serve_word.specs.Feeding.{FeedStands, FeedRests}
-use Rattle.serve_word.specs.From.{EndsAt}
+use Rattle.serve_word.specs.Talk.{feed_talk}
 use Rattle.serve_word.specs.declared.feed.Feed.{Feed}
 use Rattle.serve_word.specs.declared.at_end.AtEnd.{AtEnd}
 
@@ -25,21 +23,9 @@ pub record Call : Type 0 where
 abbrev pub due_behind : List ℕ → List ℕ → List ℕ
 due_behind F x = drop (length (due F)) (due (F ++ x))
 
--- the status and the text that the bytes are answered with, by what is done where the input ends
-abbrev pub IsServedAs : AtEnd → List ℕ → List ℕ → Bool → Status → List ℕ → Type 0
-IsServedAs at_end F x ended Done text = EndsAt F at_end Done x text ended
-IsServedAs at_end F x ended Refused text = EndsAt F at_end Refused x text ended
-IsServedAs at_end F x ended _ text = ⊥
-
--- Each line is due as soon as it is settled. The feed's end or its first fault ends the talk. Memory may be lacking
--- behind the ratio line alone.
-abbrev pub serve_talk : AtEnd → Call → Talk
-serve_talk at_end c = record {
-  goes_on = λ x. is_open (account (c.feed ++ x));
-  due = due_behind c.feed;
-  answer = IsServedAs at_end c.feed;
-  lacks = λ x ended. (ended ≡ false) × IsDeclared (account (c.feed ++ x));
-}
+-- Behind the feed, what is said of the whole feed beyond what was.
+abbrev pub serve_talk : AtEnd → List ℕ → Talk
+serve_talk at_end F = talk_behind F (feed_talk at_end)
 
 -- the comparisons so far are few for the jobs that were admitted
 abbrev pub Costs : Call → ℕ → List ℕ → Type 0

@@ -7,19 +7,12 @@ use Rattle.dover_model.specs.WholeRun.{Begins}
 use Rattle.dover_port.specs.declared.status.Status.{Status}
 use Rattle.dover_port.specs.declared.status.Status.TheVariants as status
 use Rattle.dialogue.specs.Talk.{Talk}
-use Rattle.dispatcher.specs.Serving.{Serves, HasRoom, HasPaid}
 use Rattle.snapshot.specs.Snapshot.{Head, snapshot}
 use Rattle.snapshot.specs.Reading.{Reading, Begun, Going, Taken, Refused, reading_of}
 use Rattle.snapshot.specs.Kept.{IsGoing, feed_lines}
-use Rattle.snapshot.specs.Spending.{HasSpentOn}
-use Rattle.serve_word.specs.Talking as serve
-use Rattle.serve_word.specs.Talking.{Call, due_behind, IsServedAs}
+use Rattle.serve_word.specs.Keeping.{due_behind, serve_talk}
 use Rattle.serve_word.specs.declared.at_end.AtEnd.{AtEnd}
-use Rattle.resume_word.specs.Opening.{OpeningStands}
-use Rattle.resume_word.specs.Record.{refused_text, IsFrugalFor}
-use Rattle.resume_word.specs.declared.opening.Opening.{Opening}
-use Rattle.resume_word.specs.declared.resuming.Stage.{Stage}
-use Rattle.resume_word.specs.declared.resuming.Stage.TheVariants as stage
+use Rattle.resume_word.specs.Record.{refused_text}
 
 -- What a call is about: what is done where the input ends, and the comparisons from which those of the call count.
 pub record Asked : Type 0 where
@@ -60,7 +53,7 @@ abbrev pub IsAnsweredBy : AtEnd → Reading → List ℕ → Bool → Status →
 IsAnsweredBy at_end Begun x ended s text = (ended ≡ true) × IsRefusedAs (suc (length (whole_lines x))) s text
 IsAnsweredBy at_end (Going h tasks) x ended s text = (ended ≡ true) × IsRefusedAs (suc (length (whole_lines x))) s text
 IsAnsweredBy at_end (Taken h tasks) x ended s text =
-    IsServedAs at_end (feed_of h tasks) (behind_snapshot h tasks x) ended s text
+    (serve_talk at_end (feed_of h tasks)).answer (behind_snapshot h tasks x) ended s text
 IsAnsweredBy at_end (Refused at) x ended s text = IsRefusedAs at s text
 
 -- a front of the bytes is the first line of a snapshot, or more of it
@@ -82,34 +75,3 @@ resume_talk a = record {
   answer = λ x ended s text. IsAnsweredBy a.at_end (reading_of (lines_of x)) x ended s text;
   lacks = λ x ended. (ended ≡ false) × LacksBy (reading_of (lines_of x)) x;
 }
-
--- ---- what is kept
-
--- the bytes are a snapshot and bytes behind it, and of the one feed with it and these T holds
-pub record IsPast (start : ℕ) (x : List ℕ) (T : Call → List ℕ → Type 0) : Type 0 where
-  pub head : Head
-  pub tasks : List Task
-  pub reads : reading_of (lines_of x) ≡ Taken head tasks
-  pub goes : is_open (account (feed_of head tasks)) ≡ true
-  pub holds : T (record { feed = feed_of head tasks; goes_on = goes; start = start }) (behind_snapshot head tasks x)
-
--- the snapshot is still to be read on
-abbrev pub IsOpen : Asked → Opening → ℕ → List ℕ → Type 0
-IsOpen a o now x = OpeningStands o x × HasSpentOn o.reader a.start now
-
--- this line of it is refused
-abbrev pub IsStopped : Asked → ℕ → ℕ → List ℕ → Type 0
-IsStopped a at now x = (reading_of (lines_of x) ≡ Refused at) × IsFrugalFor a.start now x
-
--- all that is due for these bytes was given
-abbrev pub IsReady : {L : Type 0} → Asked → Stage L → ℕ → List ℕ → Type 0
-IsReady a (stage.Opening o) now x = IsOpen a o now x
-IsReady a (stage.Refused at) now x = IsStopped a at now x
-IsReady a (stage.Serving s) now x = IsPast a.start x (λ c H. serve.IsReady Serves HasRoom HasPaid c s.feed now H)
-
--- these parts are left to give
-abbrev pub IsGiving : {L : Type 0} → Asked → Stage L → ℕ → List ℕ → List (List ℕ) → Type 0
-IsGiving a (stage.Opening o) now x parts = (parts ≡ []) × IsOpen a o now x
-IsGiving a (stage.Refused at) now x parts = (parts ≡ []) × IsStopped a at now x
-IsGiving a (stage.Serving s) now x parts =
-    IsPast a.start x (λ c H. serve.IsGiving Serves HasRoom HasPaid c s.feed now H parts)

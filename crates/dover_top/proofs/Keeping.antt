@@ -1,0 +1,125 @@
+-- What is promised of what was read and written.
+use Rattle.std.proofs.Common.{◌≡◌, ◌≤◌, ℕ, List, ◌++◌, Bool, true, false, sym, ap, ◌∙◌, inl, inr}
+use Rattle.dover_model.specs.Instance.{Instance, IsValid}
+use Rattle.dover_model.specs.Session.{instance_of}
+use Rattle.dover_model.specs.Verdict.{verdict}
+use Rattle.dover_model.specs.Due.{due}
+use Rattle.dover_model.specs.Feed.{account, is_ended, is_open}
+use Rattle.dover_model.specs.Fraction.{Fraction, IsRatio}
+use Rattle.dover_model.specs.Limits.{most_jobs}
+use Rattle.dover_model.specs.declared.events.Version.TheVariants.{One}
+use Rattle.dover_model.proofs.Accepting.{feed_hands, feed_accepted}
+use Rattle.dover_model.proofs.BoundLaws.{bound}
+use Rattle.dover_model.proofs.Honest.{honest}
+use Rattle.dover_model.proofs.Onlines.{on_line}
+use Rattle.dover_model.proofs.Runs.{none_lost, all_value}
+use Rattle.dover_model.proofs.Tests.{never}
+use Rattle.dover_port.specs.Moves.{Move, ins, outs, has_ended}
+use Rattle.dover_port.specs.declared.status.Status.{Status}
+use Rattle.dover_port.specs.declared.status.Status.TheVariants.{Done, Refused}
+use Rattle.serve_word.specs.Closing.{PausesAt}
+use Rattle.serve_word.specs.Talk.{IsServedAs}
+use Rattle.serve_word.specs.declared.at_end.AtEnd.{AtEnd}
+use Rattle.serve_word.specs.declared.at_end.AtEnd.TheVariants as ends
+use Rattle.serve_word.proofs.Accounts.{said_ended}
+use Rattle.resume_word.specs.Record as resumed
+use Rattle.judge_word.specs.Talk.{IsTrace}
+use Rattle.question_words.specs.Talk as asked
+use Rattle.trial_jobs.proofs.Drawn.{valid as generated_valid}
+use Rattle.bait_run.proofs.Completions.{completes_last_alone}
+use Rattle.adversary.specs.Baiting.{FitsLimits}
+use Rattle.adversary.proofs.Validity.{some_bait, valid as bait_valid}
+use Rattle.adversary.proofs.Plans.{plan_worth}
+use Rattle.trial_words.specs.Lists.{trial_instance}
+use Rattle.trial_words.specs.Baited.{bait_instance}
+use Rattle.dover_top.specs.Promises.{KeepsPromises, IsTraceOf, IsResumed, IsAccepted, KeepsBaits, IsRun}
+
+-- the run of a valid list keeps the promises
+promises_of : (J : Instance) → IsValid J → KeepsPromises J
+promises_of J valid = record {
+  bound = λ s. bound J s valid;
+  honest = honest J valid;
+  on_line = λ t K valid_too rules known. on_line t J K valid valid_too rules known;
+  none_lost = none_lost J valid;
+  all_value = all_value J valid;
+}
+
+-- what is due for a feed that ended is the trace of its session
+pub trace_of : (feed written : List ℕ) → is_ended (account feed) ≡ true → written ≡ due feed → IsTraceOf feed written
+trace_of feed written ended same =
+    let hands = feed_hands feed ended in
+    let accepted = feed_accepted feed hands.session ended hands.has in
+    record {
+      session = hands.session;
+      ended = ended;
+      named = hands.has;
+      valid = hands.valid;
+      text = same ∙ accepted.1;
+      accepted = ap verdict same ∙ accepted.2;
+      promises = promises_of (instance_of hands.session) hands.valid.jobs;
+    }
+
+-- ---- a feed that was served
+
+-- one that is paused goes on
+pauses_open : (at_end : AtEnd) (x : List ℕ) → PausesAt at_end x → is_open (account x) ≡ true
+pauses_open ends.Refuse x none = absurd none
+pauses_open ends.Pause x may = may.going_on
+
+-- one that ended has its trace
+pub served : (at_end : AtEnd) (x : List ℕ) (ended : Bool) (written : List ℕ)
+    → IsServedAs at_end x ended Done written → is_ended (account x) ≡ true → IsTraceOf x written
+served at_end x ended written (inl it) over = trace_of x written it.0 it.1
+served at_end x ended written (inr it) over =
+    never (sym (said_ended (account x) over) ∙ pauses_open at_end x it.1)
+
+-- and it ended, unless it may be paused
+pub traced : (x : List ℕ) (ended : Bool) (written : List ℕ) → IsServedAs ends.Refuse x ended Done written
+    → IsTraceOf x written
+traced x ended written (inl it) = trace_of x written it.0 it.1
+traced x ended written (inr it) = absurd it.1
+
+-- behind its snapshot
+pub resumed_so : (at_end : AtEnd) (moves : List Move) → resumed.Ends at_end Done moves → IsResumed moves
+resumed_so at_end moves (inl none) = absurd none
+resumed_so at_end moves (inr it) = record {
+  feed = it.feed;
+  more = it.more;
+  may = it.may;
+  read = it.read;
+  each = λ F H may read. served at_end (F ++ H) (has_ended moves) (due F ++ outs moves)
+      (it.each F H may read).answer;
+}
+
+-- ---- a text that was judged, a feed that was asked about, and stated lists
+
+pub accepted : (moves : List Move) → IsTrace (ins moves) → IsAccepted moves
+accepted moves it = record {
+  session = it.0;
+  valid = it.2.valid;
+  accepted = it.1;
+  promises = promises_of (instance_of it.0) it.2.valid.jobs;
+}
+
+pub ran : (says : asked.Says) (ended : Bool) (text : List ℕ) (moves : List Move)
+    → (asked.ask_talk says).answer (ins moves) ended Done text → IsRun moves
+ran says ended text moves (inl refused) = absurd (let e : Done ≡ Refused = refused.0 in cc)
+ran says ended text moves (inr said) = record {
+  session = said.session;
+  named = said.session_is;
+  promises = promises_of (instance_of said.session) said.valid.jobs;
+}
+
+pub generated : (k : Fraction) (seed count : ℕ) → IsRatio k → count ≤ most_jobs
+    → KeepsPromises (trial_instance k seed count)
+generated k seed count allowed few =
+    promises_of (trial_instance k seed count) (generated_valid k allowed seed count One few)
+
+pub baited : (k : Fraction) (rounds : ℕ) → IsRatio k → 1 ≤ rounds → FitsLimits k rounds → KeepsBaits k rounds
+baited k rounds allowed some fits =
+    let valid = bait_valid k rounds allowed fits (some_bait k rounds allowed some fits) One in
+    record {
+      schedule = plan_worth k rounds One;
+      last = completes_last_alone k One rounds some valid;
+      promises = promises_of (bait_instance k rounds) valid;
+    }

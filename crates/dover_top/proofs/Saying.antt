@@ -1,0 +1,142 @@
+-- What a call says and keeps, for each row of words.
+use Rattle.std.proofs.Common.{◌≡◌, ℕ, List, [], ◌∷◌, refl, sym, subst, ◌∙◌, append-nil, ◌⊎◌, inl, inr, Option, String}
+use Rattle.std.specs.declared.alloc.Global.{Global}
+use Rattle.dover_model.specs.Fraction.{Fraction}
+use Rattle.dover_model.specs.Reports.{summary}
+use Rattle.dover_port.specs.Moves.{Move, Since, ins, outs, has_ended}
+use Rattle.dover_port.specs.Moves.Move.{Put}
+use Rattle.dover_port.specs.declared.status.Status.{Status}
+use Rattle.dover_port.specs.declared.status.Status.TheVariants.{Done, No, Refused, ReadFault, WriteFault, Memory, Usage}
+use Rattle.dover_port.proofs.Made.{since_weaker}
+use Rattle.dialogue.specs.Talk.{Talks, CanEnd}
+use Rattle.adversary.specs.Baiting.{FitsLimits}
+use Rattle.serve_word.specs.declared.at_end.AtEnd.TheVariants as ends
+use Rattle.trial_words.specs.Record.{Writes, IsDoneOrNotWritten, IsAnswerFor}
+use Rattle.trial_words.specs.Baited.{Baits, bait_text, size_text}
+use Rattle.question_words.specs.Questions.{says}
+use Rattle.question_words.specs.Compare as compared
+use Rattle.question_words.specs.declared.question.Question.{Question}
+use Rattle.lanes_word.specs.Record as laned
+use Rattle.lanes_word.specs.Talk.{lanes_talk}
+use Rattle.dover_top.specs.Says.{Says}
+use Rattle.dover_top.specs.Keeps.{Keeps}
+use Rattle.dover_top.specs.Promises.{AreServed, HaveEnded, KeepsBaits}
+use Rattle.dover_top.specs.Requests.{Asks}
+use Rattle.dover_top.specs.Spending.{IsFrugal}
+use Rattle.dover_top.specs.declared.request.Request.{Request}
+use Rattle.dover_top.specs.declared.request.Request.TheVariants.{Serve, Judge, Report, Trial, Bait, Ask, Lanes, Pause}
+use Rattle.dover_top.specs.declared.request.Request.TheVariants.{Resume, Unroll}
+use Rattle.dover_top.proofs.Asking.{asks_one}
+use Rattle.dover_top.proofs.Keeping.{served, traced, resumed_so, accepted, ran, generated, baited}
+use Rattle.dover_top.proofs.ServedLanes.{are_served, have_ended}
+
+-- ---- the statuses, whatever the port tells
+
+-- a text that was written
+pub tried : (text : List ℕ) (status : Status) → IsDoneOrNotWritten status → CanEnd (λ s. Writes s text) status
+tried text Done answer = inr (Put text ∷ [], (tt, append-nil text))
+tried text WriteFault answer = inl refl
+tried text Memory answer = inr ([], refl)
+tried text No answer = absurd answer
+tried text Refused answer = absurd answer
+tried text ReadFault answer = absurd answer
+tried text Usage answer = absurd answer
+
+-- or one that refuses
+pub given : (k : Fraction) (rounds : ℕ) (status : Status) → IsAnswerFor status (FitsLimits k rounds)
+    → CanEnd (Baits k rounds) status
+given k rounds Done fits = inr (Put (bait_text k rounds) ∷ [], inl (fits, (tt, append-nil (bait_text k rounds))))
+given k rounds Memory fits = inr ([], inl (fits, refl))
+given k rounds Refused large = inr (Put size_text ∷ [], inr (large, (tt, append-nil size_text)))
+given k rounds WriteFault answer = inl refl
+given k rounds No answer = absurd answer
+given k rounds ReadFault answer = absurd answer
+given k rounds Usage answer = absurd answer
+
+-- no request says anything with Usage
+no_usage : (r : Request) (moves : List Move) → Says r Usage moves → ⊥
+no_usage Serve moves s = s.ends
+no_usage Judge moves s = s.ends
+no_usage (Report form) moves s = s.ends
+no_usage (Trial seed count k) moves s = s
+no_usage (Bait k rounds) moves (inl s) = s.1
+no_usage (Bait k rounds) moves (inr s) = s.1
+no_usage (Ask question) moves s = s.ends
+no_usage Lanes moves (inl s) = s.ends
+no_usage Lanes moves (inr s) = let e : Usage ≡ Memory = s.0 in cc
+no_usage Pause moves s = s.ends
+no_usage (Resume at_end) moves s = elim s.ends [
+  | inl none ↦ none
+  | inr it ↦ it.each it.feed it.more it.may it.read
+]
+no_usage (Unroll until) moves s = s.ends
+
+-- so none ends with it
+pub never_usage : (r : Request) → CanEnd (Says r) Usage → ⊥
+never_usage r (inl cut) = let e : Usage ≡ WriteFault = cut in cc
+never_usage r (inr it) = no_usage r it.0 it.1
+
+-- ---- what is kept
+
+module _ (moves : List Move) where
+  -- the status is known
+  abbrev at : (r : Request) (status : Status) → Says r status moves → status ≡ Done → Says r Done moves
+  at r status s done = subst (λ t. Says r t moves) done s
+
+  bait_kept : (k : Fraction) (rounds : ℕ) → (FitsLimits k rounds → KeepsBaits k rounds) → Baits k rounds Done moves
+      → KeepsBaits k rounds
+  bait_kept k rounds kept (inl it) = kept it.0
+  bait_kept k rounds kept (inr it) = absurd it.1
+
+  lanes_served : (status : Status) → (status ≡ Done) ⊎ (status ≡ Refused) → laned.Serves status moves → AreServed moves
+  lanes_served status (inl is) (inl it) = are_served Done moves (subst (λ s. Talks lanes_talk s moves) is it).ends
+  lanes_served status (inr is) (inl it) = are_served Refused moves (subst (λ s. Talks lanes_talk s moves) is it).ends
+  lanes_served status (inl is) (inr none) = absurd (let e : Done ≡ Memory = sym is ∙ none.0 in cc)
+  lanes_served status (inr is) (inr none) = absurd (let e : Refused ≡ Memory = sym is ∙ none.0 in cc)
+
+  lanes_ended : laned.Serves Done moves → HaveEnded moves
+  lanes_ended (inl it) = have_ended moves it.ends
+  lanes_ended (inr none) = absurd (let e : Done ≡ Memory = none.0 in cc)
+
+  keeps_of : (words : List (String Global)) (r : Request) → Asks words r → (status : Status) → Says r status moves
+      → Keeps r status moves
+  keeps_of words Serve asks status s = λ done.
+      traced (ins moves) (has_ended moves) (outs moves) (at Serve status s done).ends.answer
+  keeps_of words Judge asks status s = λ done. accepted moves (at Judge status s done).ends.answer.0
+  keeps_of words (Report form) asks status s = λ done. accepted moves (at (Report form) status s done).ends.answer.0
+  keeps_of words (Trial seed count k) asks status s = λ done. generated k seed count asks.allowed asks.few
+  keeps_of words (Bait k rounds) asks status s = λ done.
+      bait_kept k rounds (baited k rounds asks.allowed asks.some) (at (Bait k rounds) status s done)
+  keeps_of words (Ask question) asks status s = λ done.
+      ran (says question) (has_ended moves) (outs moves) moves (at (Ask question) status s done).ends.answer
+  keeps_of words Lanes asks status s = (
+    (λ over. lanes_served status over s),
+    (λ done. lanes_ended (at Lanes status s done)),
+  )
+  keeps_of words Pause asks status s = λ done.
+      served ends.Pause (ins moves) (has_ended moves) (outs moves) (at Pause status s done).ends.answer
+  keeps_of words (Resume at_end) asks status s = λ done.
+      resumed_so at_end moves (at (Resume at_end) status s done).ends
+  keeps_of words (Unroll until) asks status s = tt
+
+-- a question at Done has made few comparisons
+pub asked_frugal : (question : Question) (status : Status) (before now : ℕ) (moves : List Move)
+    → (status ≡ Done → compared.IsFrugal before now moves) → IsFrugal (Ask question) status before now moves
+asked_frugal question Done before now moves few = few refl
+asked_frugal question No before now moves few = tt
+asked_frugal question Refused before now moves few = tt
+asked_frugal question ReadFault before now moves few = tt
+asked_frugal question WriteFault before now moves few = tt
+asked_frugal question Memory before now moves few = tt
+asked_frugal question Usage before now moves few = tt
+
+-- ---- of a call, for whatever its words ask
+
+module _ (words : List (String Global)) (request : Request) (asks : Asks words request) (a b : Option (List Move))
+    (status : Status) (says : Since a b (Says request status)) where
+  pub call_talks : (r : Request) → Asks words r → Since a b (Says r status)
+  call_talks r other = subst (λ q. Since a b (Says q status)) (asks_one words request r asks other) says
+
+  pub call_promises : (r : Request) → Asks words r → Since a b (Keeps r status)
+  call_promises r other = subst (λ q. Since a b (Keeps q status)) (asks_one words request r asks other)
+      (since_weaker a b _ _ says (λ moves s. keeps_of moves words request asks status s))

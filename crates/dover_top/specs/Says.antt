@@ -1,0 +1,35 @@
+-- What the call of each request comes to, by its status.
+use Rattle.std.specs.Prelude.{List}
+use Rattle.dover_model.specs.Reports.{summary}
+use Rattle.dover_port.specs.Moves.{Move}
+use Rattle.dover_port.specs.declared.status.Status.{Status}
+use Rattle.dialogue.specs.Talk.{Talks}
+use Rattle.serve_word.specs.Talk.{feed_talk}
+use Rattle.serve_word.specs.declared.at_end.AtEnd.TheVariants as ends
+use Rattle.resume_word.specs.Record.{Resumes}
+use Rattle.judge_word.specs.Talk.{judge_talk}
+use Rattle.report_word.specs.Talk.{report_talk}
+use Rattle.trial_words.specs.Record.{Writes}
+use Rattle.trial_words.specs.Lists.{trial_instance}
+use Rattle.trial_words.specs.Baited.{Baits}
+use Rattle.question_words.specs.Questions.{says}
+use Rattle.question_words.specs.Talk.{ask_talk}
+use Rattle.lanes_word.specs.Record.{Serves}
+use Rattle.unroll_word.specs.Talk.{unroll_talk}
+use Rattle.dover_top.specs.declared.request.Request.{Request}
+use Rattle.dover_top.specs.declared.request.Request.TheVariants.{Serve, Judge, Report, Trial, Bait, Ask, Lanes, Pause}
+use Rattle.dover_top.specs.declared.request.Request.TheVariants.{Resume, Unroll}
+
+-- What was got and put before each read, and in all. What reads says a talk; trial and bait read nothing and write a
+-- text; and resume says of each feed with its snapshot what serving the feed on does.
+abbrev pub Says : Request → Status → List Move → Type 0
+Says Serve = Talks (feed_talk ends.Refuse)
+Says Judge = Talks judge_talk
+Says (Report form) = Talks (report_talk form)
+Says (Trial seed count k) = λ status. Writes status (summary (trial_instance k seed count))
+Says (Bait k rounds) = Baits k rounds
+Says (Ask question) = Talks (ask_talk (says question))
+Says Lanes = Serves
+Says Pause = Talks (feed_talk ends.Pause)
+Says (Resume at_end) = Resumes at_end
+Says (Unroll until) = Talks (unroll_talk until)

@@ -1,0 +1,40 @@
+-- What a word says that judges a text, by the bytes got so far.
+use Rattle.std.specs.Prelude.{◌≡◌, ◌⊎◌, ℕ, List, [], Bool, true, false, not}
+use Rattle.dover_model.specs.Run.{completed_value}
+use Rattle.dover_model.specs.Session.{Session, instance_of}
+use Rattle.dover_model.specs.Verdict.{Verdict, Accepted, Short, verdict}
+use Rattle.dover_port.specs.declared.status.Status.{Status}
+use Rattle.dover_port.specs.declared.status.Status.TheVariants.{Done, No}
+use Rattle.dialogue.specs.Talk.{Talk}
+use Rattle.trace_judge.specs.Judging.{IsEarned, is_wrong}
+use Rattle.judge_word.specs.Line.{verdict_text}
+
+-- The bytes are the trace of a valid session. Its run completes a value that no schedule of its jobs beats by more than
+-- the ratio allows, and which the run's own schedule is worth.
+abbrev pub IsTrace : List ℕ → Type 0
+IsTrace bytes = (S : Session) × (verdict bytes ≡ Accepted S)
+    × IsEarned S S.rules.ratio (completed_value (instance_of S))
+
+-- the bytes aren't a trace, whatever follows, or stop before its end
+abbrev pub IsNoTrace : List ℕ → Type 0
+IsNoTrace bytes = (is_wrong (verdict bytes) ≡ true) ⊎ ((lines : ℕ) × (verdict bytes ≡ Short lines))
+
+-- the verdict is told with this status
+abbrev pub IsToldBy : Status → List ℕ → Type 0
+IsToldBy Done bytes = IsTrace bytes
+IsToldBy No bytes = IsNoTrace bytes
+IsToldBy _ bytes = ⊥
+
+-- Nothing is due before the end, which comes with the input's or at the first wrong line; then this is told of the
+-- verdict. Memory may be lacking here.
+abbrev pub judging_talk : (told : Verdict → List ℕ) → (lacks : List ℕ → Bool → Type 0) → Talk
+judging_talk told lacks = record {
+  goes_on = λ bytes. not (is_wrong (verdict bytes));
+  due = λ bytes. [];
+  answer = λ bytes ended status text. IsToldBy status bytes × (text ≡ told (verdict bytes));
+  lacks = lacks;
+}
+
+-- The line of the verdict is told, and memory is lacking before the input's end alone.
+abbrev pub judge_talk : Talk
+judge_talk = judging_talk verdict_text (λ bytes ended. ended ≡ false)

@@ -1,0 +1,37 @@
+-- What a word says that answers on the jobs of a feed, by the bytes got so far.
+use Rattle.std.specs.Prelude.{◌≡◌, ◌⊎◌, ℕ, List, [], Bool, true, false, Some}
+use Rattle.dover_model.specs.Feed.{is_open, is_ended, account, Cause, Faulty}
+use Rattle.dover_model.specs.Instance.{Instance}
+use Rattle.dover_model.specs.Session.{Session, IsValidSession, instance_of}
+use Rattle.dover_port.specs.declared.status.Status.{Status}
+use Rattle.dover_port.specs.declared.status.Status.TheVariants.{Refused}
+use Rattle.dialogue.specs.Talk.{Talk}
+use Rattle.question_words.specs.Texts.{refusal_text}
+
+-- what a word has to say of these jobs: a status and a text
+abbrev pub Says : Type 1
+Says = Instance → Status → List ℕ → Type 0
+
+-- a line of the feed of these bytes is at fault, or the input ended behind them before the feed did
+abbrev pub IsRefusedAt : List ℕ → Bool → Type 0
+IsRefusedAt bytes ended = ((line : ℕ) × (cause : Cause) × ((account bytes).standing ≡ Faulty line cause))
+    ⊎ ((ended ≡ true) × (is_open (account bytes) ≡ true))
+
+-- the feed of these bytes ended without a fault, and this is said of its jobs
+pub record IsSaid (says : Says) (status : Status) (text bytes : List ℕ) : Type 0 where
+  pub ended : is_ended (account bytes) ≡ true
+  pub session : Session
+  pub session_is : (account bytes).session ≡ Some session
+  pub valid : IsValidSession session
+  pub said : says (instance_of session) status text
+
+-- Nothing is due before the end, which comes with the feed's, its first fault or the input's. Then the line that
+-- refuses the feed is, or what is to be said of its jobs. Memory is lacking before the input's end alone.
+abbrev pub ask_talk : Says → Talk
+ask_talk says = record {
+  goes_on = λ bytes. is_open (account bytes);
+  due = λ bytes. [];
+  answer = λ bytes ended status text.
+      ((status ≡ Refused) × IsRefusedAt bytes ended × (text ≡ refusal_text bytes)) ⊎ IsSaid says status text bytes;
+  lacks = λ bytes ended. ended ≡ false;
+}

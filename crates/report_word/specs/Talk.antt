@@ -1,0 +1,36 @@
+-- What the word says, by the bytes got so far.
+use Rattle.std.specs.Prelude.{◌≡◌, List, ℕ, true}
+use Rattle.dover_model.specs.Instance.{Instance}
+use Rattle.dover_model.specs.Reports.{report, table}
+use Rattle.dover_model.specs.Session.{instance_of}
+use Rattle.dover_model.specs.Verdict as model
+use Rattle.dialogue.specs.Talk.{Talk}
+use Rattle.judge_word.specs.Line.{verdict_text}
+use Rattle.judge_word.specs.Talk.{IsTrace, judging_talk}
+use Rattle.run_view.specs.Chrome.{chrome}
+use Rattle.run_view.specs.Why.{why}
+use Rattle.run_view.specs.Timeline.{timeline}
+use Rattle.run_picture.specs.Pictures.{picture}
+use Rattle.report_word.specs.declared.form.Form.{Form}
+use Rattle.report_word.specs.declared.form.Form.TheVariants.{Text, Table, Chrome, Why, Timeline, Svg}
+
+-- the report on the run of these jobs, the table of it, its events for a viewer, the story of one job, or a picture
+-- for a terminal or as SVG
+abbrev pub report_text : Form → Instance → List ℕ
+report_text Text J = report J
+report_text Table J = table J
+report_text Chrome J = chrome J
+report_text (Why n) J = why n J
+report_text (Timeline window) J = timeline window J
+report_text (Svg window) J = picture window J
+
+-- what is told of a text by its verdict: the report on the run of an accepted trace, and else the line of the verdict
+abbrev pub told : Form → model.Verdict → List ℕ
+told form (model.Accepted S) = report_text form (instance_of S)
+told form (model.Wrong line due) = verdict_text (model.Wrong line due)
+told form (model.Short lines) = verdict_text (model.Short lines)
+
+-- The report on the run of an accepted trace is told, and else the line of the verdict. Where the input has ended,
+-- memory may be lacking for a report alone.
+abbrev pub report_talk : Form → Talk
+report_talk form = judging_talk (told form) (λ bytes ended. ended ≡ true → IsTrace bytes)

@@ -1,0 +1,46 @@
+-- What is kept of a snapshot, and of the feed behind it.
+use Rattle.std.specs.Prelude.{◌≡◌, true, ℕ, List, []}
+use Rattle.dover_model.specs.declared.events.Task.{Task}
+use Rattle.dover_model.specs.Lines.{lines_of}
+use Rattle.dover_model.specs.Feed.{account, is_open}
+use Rattle.dispatcher.specs.Serving.{Serves, HasRoom, HasPaid}
+use Rattle.snapshot.specs.Snapshot.{Head}
+use Rattle.snapshot.specs.Reading.{Taken, Refused, reading_of}
+use Rattle.snapshot.specs.Spending.{HasSpentOn}
+use Rattle.serve_word.specs.Keeping as serve
+use Rattle.serve_word.specs.Keeping.{Call}
+use Rattle.resume_word.specs.Opening.{OpeningStands}
+use Rattle.resume_word.specs.Record.{IsFrugalFor}
+use Rattle.resume_word.specs.Talk.{Asked, feed_of, behind_snapshot}
+use Rattle.resume_word.specs.declared.opening.Opening.{Opening}
+use Rattle.resume_word.specs.declared.resuming.Stage.{Stage}
+use Rattle.resume_word.specs.declared.resuming.Stage.TheVariants as stage
+
+-- the bytes are a snapshot and bytes behind it, and of the one feed with it and these T holds
+pub record IsPast (start : ℕ) (x : List ℕ) (T : Call → List ℕ → Type 0) : Type 0 where
+  pub head : Head
+  pub tasks : List Task
+  pub reads : reading_of (lines_of x) ≡ Taken head tasks
+  pub goes : is_open (account (feed_of head tasks)) ≡ true
+  pub holds : T (record { feed = feed_of head tasks; goes_on = goes; start = start }) (behind_snapshot head tasks x)
+
+-- the snapshot is still to be read on
+abbrev pub IsOpen : Asked → Opening → ℕ → List ℕ → Type 0
+IsOpen a o now x = OpeningStands o x × HasSpentOn o.reader a.start now
+
+-- this line of it is refused
+abbrev pub IsStopped : Asked → ℕ → ℕ → List ℕ → Type 0
+IsStopped a at now x = (reading_of (lines_of x) ≡ Refused at) × IsFrugalFor a.start now x
+
+-- all that is due for these bytes was given
+abbrev pub IsReady : {L : Type 0} → Asked → Stage L → ℕ → List ℕ → Type 0
+IsReady a (stage.Opening o) now x = IsOpen a o now x
+IsReady a (stage.Refused at) now x = IsStopped a at now x
+IsReady a (stage.Serving s) now x = IsPast a.start x (λ c H. serve.IsReady Serves HasRoom HasPaid c s.feed now H)
+
+-- these parts are left to give
+abbrev pub IsGiving : {L : Type 0} → Asked → Stage L → ℕ → List ℕ → List (List ℕ) → Type 0
+IsGiving a (stage.Opening o) now x parts = (parts ≡ []) × IsOpen a o now x
+IsGiving a (stage.Refused at) now x parts = (parts ≡ []) × IsStopped a at now x
+IsGiving a (stage.Serving s) now x parts =
+    IsPast a.start x (λ c H. serve.IsGiving Serves HasRoom HasPaid c s.feed now H parts)

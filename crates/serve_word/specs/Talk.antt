@@ -1,0 +1,33 @@
+-- What a word says that serves a feed, by the bytes got so far.
+use Rattle.std.specs.Prelude.{◌≡◌, ◌⊎◌, ℕ, List, ◌++◌, Bool, true, false}
+use Rattle.dover_model.specs.Due.{due, closed}
+use Rattle.dover_model.specs.Feed.{account, is_open, is_ended}
+use Rattle.dover_port.specs.declared.status.Status.{Status}
+use Rattle.dover_port.specs.declared.status.Status.TheVariants.{Done, Refused}
+use Rattle.dialogue.specs.Talk.{Talk}
+use Rattle.lane_server.specs.Lane.{IsDeclared, IsFaulty}
+use Rattle.snapshot.specs.Snapshot.{snapshot}
+use Rattle.serve_word.specs.Closing.{PausesAt}
+use Rattle.serve_word.specs.declared.at_end.AtEnd.{AtEnd}
+
+-- the input ended where the feed goes on, and it isn't paused
+abbrev pub IsCutOff : AtEnd → List ℕ → Bool → Type 0
+IsCutOff at_end x ended = (ended ≡ true) × (is_open (account x) ≡ true) × (PausesAt at_end x → ⊥)
+
+-- Done: the feed ended, and this is its trace; or the input ended where it is paused, and its snapshot stands behind
+-- what is due. Refused: it has a fault or is cut off, and the line that refuses it stands behind what is due.
+abbrev pub IsServedAs : AtEnd → List ℕ → Bool → Status → List ℕ → Type 0
+IsServedAs at_end x ended Done text = ((is_ended (account x) ≡ true) × (text ≡ due x))
+    ⊎ ((ended ≡ true) × PausesAt at_end x × (text ≡ due x ++ snapshot x))
+IsServedAs at_end x ended Refused text = (IsFaulty (account x) ⊎ IsCutOff at_end x ended) × (text ≡ closed x)
+IsServedAs at_end x ended _ text = ⊥
+
+-- Each line is due as soon as it is settled. The feed's end or its first fault ends the talk. Memory may be lacking
+-- behind the ratio line, before the input's end.
+abbrev pub feed_talk : AtEnd → Talk
+feed_talk at_end = record {
+  goes_on = λ x. is_open (account x);
+  due = due;
+  answer = IsServedAs at_end;
+  lacks = λ x ended. (ended ≡ false) × IsDeclared (account x);
+}
