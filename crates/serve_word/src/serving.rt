@@ -14,7 +14,7 @@ use dover_model::Memory;
 use dover_port::{Output, Port, Status};
 use dover_server::Server;
 use event_feed::Intake;
-use lane_lines::write_out;
+use lane_lines::write_next;
 use lane_server::Lane;
 use line_output::put_fault;
 use line_text::BackLine;
@@ -73,7 +73,7 @@ impl<D: Dispatcher, L: Ledger> Talker for Serving<D, L> {
     fn next_part(&mut self, meter: &mut Steps<L>, part: &mut BackLine) -> bool {
         match self.feed.lane.next_out(meter) {
             Some(out) => {
-                write_out(&out, part);
+                write_next(&out, self.feed.lane.spelled(), part);
                 true
             }
             None => false,

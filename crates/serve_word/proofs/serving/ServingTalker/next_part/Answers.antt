@@ -6,8 +6,8 @@ pub next_out-requires : goal.next_out-requires
 next_out-requires g c =
     let at = c.requires.3 in (lines_of (c.requires.0.feed ++ c.requires.1), at.left, at.stands.lane)
 
-pub write_out-requires : goal.write_out-requires
-write_out-requires g c =
+pub write_next-requires : goal.write_next-requires
+write_next-requires g c =
     let at = c.requires.3 in
     (c.in-Some.ensures.gives (lines_of (c.requires.0.feed ++ c.requires.1)) at.left at.stands.lane).3
 
@@ -17,7 +17,7 @@ returns-in-Some g c = record {
       let given = c.in-Some.ensures.gives (lines_of (a.feed ++ x)) at.left at.stands.lane in (
         map (λ line. line ++ 10 ∷ []) given.0,
         at.parts_are ∙ ap (map (λ line. line ++ 10 ∷ [])) given.1
-            ∙ ap (λ part. part ∷ map (λ line. line ++ 10 ∷ []) given.0) (sym c.write_out.ensures.text),
+            ∙ ap (λ part. part ∷ map (λ line. line ++ 10 ∷ []) given.0) (sym c.write_next.ensures.text),
         record {
           left = given.0;
           parts_are = refl;
