@@ -1,5 +1,6 @@
 use dover_model::{Job, Ratio, Refusal, Version};
 use event_feed::{Cause, Fed, FeedFault, Intake};
+use line_text::{BackLine, JOB_NUMBERS};
 
 // What the lines of a text, each ended by a slash, are answered: the last of them, and the end of the input after it.
 #[derive(Drop)]
@@ -151,4 +152,27 @@ fn lines_are_bounded(rt: HostRuntime) {
     }
     let mut longer = Intake::new();
     assert!(rt; longer.line(&[b'x'; 129]) == Err(fault(1, Cause::Line)));
+}
+
+// Whether these numbers, with this text, are those of the last job line of a text that goes on.
+fn are_spelled(text: &[u8], numbers: &[u64; JOB_NUMBERS], spelled: &[u8]) -> bool {
+    let mut intake = Intake::new();
+    for line in text.split(|byte| *byte == b'/') {
+        if intake.line(line) == Ok(Fed::Over) {
+            return false;
+        }
+    }
+    let mut written = BackLine::new();
+    written.put_spelled(intake.spelled());
+    intake.spelled().has(numbers) && written.bytes() == spelled
+}
+
+#[test]
+fn numbers_keep_their_text(rt: HostRuntime) {
+    assert!(rt; are_spelled(b"k 1 1", &[0, 0, 0, 0], b" 0 0 0 0\n"));
+    assert!(rt; are_spelled(b"k 1 1/job 5 1 70 1/tick 9", &[5, 1, 70, 1], b" 5 1 70 1\n"));
+    assert!(rt; !are_spelled(b"k 1 1/job 5 1 70 1", &[5, 1, 70, 2], b" 5 1 70 1\n"));
+    let refused = b"k 1 1 2/job 5 1 70 1/job 6 0 999999999999999999 9";
+    let text = b" 6 0 999999999999999999 9\n";
+    assert!(rt; are_spelled(refused, &[6, 0, 999_999_999_999_999_999, 9], text));
 }
