@@ -1,5 +1,5 @@
 -- What is promised of what was read and written.
-use Rattle.std.proofs.Common.{◌≡◌, ◌≤◌, ℕ, List, ◌++◌, Bool, true, false, sym, ap, ◌∙◌, inl, inr}
+use Rattle.std.proofs.Common.{◌≡◌, ◌≤◌, ℕ, List, ◌++◌, Bool, true, sym, ap, ◌∙◌, inl, inr}
 use Rattle.dover_model.specs.Instance.{Instance, IsValid}
 use Rattle.dover_model.specs.Session.{instance_of}
 use Rattle.dover_model.specs.Verdict.{verdict}
@@ -15,7 +15,6 @@ use Rattle.dover_model.proofs.Onlines.{on_line}
 use Rattle.dover_model.proofs.Runs.{none_lost, all_value}
 use Rattle.dover_model.proofs.Tests.{never}
 use Rattle.dover_port.specs.Moves.{Move, ins, outs, has_ended}
-use Rattle.dover_port.specs.declared.status.Status.{Status}
 use Rattle.dover_port.specs.declared.status.Status.TheVariants.{Done, Refused}
 use Rattle.serve_word.specs.Closing.{PausesAt}
 use Rattle.serve_word.specs.Talk.{IsServedAs}

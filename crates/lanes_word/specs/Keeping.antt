@@ -8,9 +8,9 @@ use Rattle.dialogue.specs.Turns.{joined}
 use Rattle.line_text.specs.Cutting as cuts
 use Rattle.line_text.specs.Cutting.{Cutting}
 use Rattle.lane_server.specs.Lanes as lanes
-use Rattle.lane_server.specs.Lanes.{InputFault, Open, Closed, Faulty, input, input_of_lines, goes_on}
+use Rattle.lane_server.specs.Lanes.{InputFault, Open, Closed, Faulty, input, input_of_lines}
 use Rattle.lane_server.specs.Lanes.{lane_count}
-use Rattle.lane_server.specs.Lanes.{lane_due, due_after, shorts_from, lanes_closed, fault_word}
+use Rattle.lane_server.specs.Lanes.{lane_due, due_after, shorts_from, fault_word}
 use Rattle.lane_server.specs.Lane.{Serving, Having}
 use Rattle.lane_server.specs.Kept as keeping
 use Rattle.lane_server.specs.Kept.{Kept, StandsFor}

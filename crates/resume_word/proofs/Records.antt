@@ -1,5 +1,5 @@
 -- What a call comes to that reads a snapshot and serves its feed on, from its talk.
-use Rattle.std.proofs.Common.{◌≡◌, ℕ, suc, List, [], ◌∷◌, ◌++◌, length, refl, sym, ap, ◌∙◌, subst, Bool}
+use Rattle.std.proofs.Common.{◌≡◌, ℕ, suc, List, [], ◌∷◌, ◌++◌, length, refl, sym, ap, ◌∙◌, subst}
 use Rattle.std.proofs.Common.{false}
 use Rattle.std.proofs.Common.{inl, inr, arith, length-append, append-nil}
 use Rattle.dover_model.specs.declared.events.Task.{Task}

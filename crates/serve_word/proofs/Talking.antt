@@ -5,7 +5,7 @@ use Rattle.std.proofs.Common.{Result, Ok, Err, Option}
 use Rattle.std.proofs.lemmas.List.{length-map}
 use Rattle.dover_model.specs.declared.Memory.{Memory as Lacking}
 use Rattle.dover_model.specs.Feed as feeds
-use Rattle.dover_model.specs.Feed.{Account, is_open, is_ended, account, account_of_lines}
+use Rattle.dover_model.specs.Feed.{is_open, is_ended, account}
 use Rattle.dover_model.specs.Due.{due, closed, due_lines, fault_text}
 use Rattle.dover_model.specs.Lines.{in_lines, lines_of, whole_lines, rest_of, is_too_long}
 use Rattle.dover_model.proofs.Beginnings.{in_lines-append}

@@ -1,4 +1,4 @@
-use Rattle.std.proofs.Common.{refl, sym, subst}
+use Rattle.std.proofs.Common.{refl, subst}
 use Rattle.dover_port.specs.Moves.{Since}
 use Rattle.dialogue.specs.Talk.{CanEnd}
 use Rattle.dover_top.specs.Says.{Says}
