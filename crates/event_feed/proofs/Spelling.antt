@@ -7,7 +7,8 @@ use Rattle.line_text.specs.Writing.{numbers_behind}
 use Rattle.line_text.proofs.Written.{with_numbers-behind, length-numbers_behind}
 
 -- behind the word the line has the numbers
-pub job_text : (line : List ℕ) (j : JobFacts) → feed_text (JobLine j) ≡ line → drop 3 line ≡ numbers_behind (job_numbers j)
+pub job_text : (line : List ℕ) (j : JobFacts) → feed_text (JobLine j) ≡ line
+    → drop 3 line ≡ numbers_behind (job_numbers j)
 job_text line j e = ap (drop 3) (sym e ∙ sym (with_numbers-behind (codes "job") (job_numbers j)))
 
 -- the text has room

@@ -138,8 +138,8 @@ impl Parts {
         self.abandon(steps);
     }
 
-    /// Takes the deed that comes now, which is printed, and answers the value of the job that it completes, 0 where none
-    /// is.
+    /// Takes the deed that comes now, which is printed, and answers the value of the job that it completes, 0 where
+    /// none is.
     #[inline(always)]
     pub fn apply<L: Ledger>(&mut self, deed: Deed, steps: &mut Steps<L>) -> u64
         requires sound { AreSound self.old }

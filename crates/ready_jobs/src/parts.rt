@@ -337,7 +337,7 @@ impl Parts {
         }
     }
 
-    // While p is held: the first waiting job runs, if it is due before p and fits the room of the held jobs, otherwise p.
+    // While p is held: the first waiting job runs, if it is due before p and fits the room of the held jobs, else p.
     #[inline(always)]
     fn resumed(&self, p: &Task) -> Deed
         requires sound { AreSound self.now }

@@ -314,8 +314,8 @@ impl Ready {
         due.event
     }
 
-    /// Takes the step that the run prints next, where no further job comes, if it is this one. If it is another, only the
-    /// silent steps before it are taken.
+    /// Takes the step that the run prints next, where no further job comes, if it is this one. If it is another, only
+    /// the silent steps before it are taken.
     #[inline(always)]
     pub fn follow<L: Ledger>(&mut self, event: &Event, steps: &mut Steps<L>) -> bool
         ensures yes { result ≡ true → Takes self.old event.now self.new }

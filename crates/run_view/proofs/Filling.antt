@@ -63,7 +63,8 @@ filled_two (c ∷ cs) ds ns ms same = by_byte (c == 64) ns (λ ns. filled_two cs
   by_byte : (b : Bool) (ns : List ℕ)
       → ((ns : List ℕ) → uses cs ≡ length ns → filled (cs ++ ds) (ns ++ ms) ≡ filled cs ns ++ filled ds ms)
       → (if b then suc (uses cs) else uses cs) ≡ length ns
-      → (if b then first_numeral (ns ++ ms) else c ∷ []) ++ filled (cs ++ ds) (if b then others (ns ++ ms) else ns ++ ms)
+      → (if b then first_numeral (ns ++ ms) else c ∷ [])
+      ++ filled (cs ++ ds) (if b then others (ns ++ ms) else ns ++ ms)
       ≡ (if b then first_numeral ns else c ∷ []) ++ filled cs (if b then others ns else ns) ++ filled ds ms
   by_byte true [] more same = absurd (omega (arith, same))
   by_byte true (n ∷ ns) more same = ap (λ t. decimal n ++ t) (more ns (omega (arith, same)))

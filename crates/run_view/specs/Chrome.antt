@@ -42,7 +42,8 @@ closes at n fate = filled (closes_line fate) (at ∷ n ∷ n ∷ [])
 
 -- at its latest start its value stands against what the running and the held jobs are worth
 abbrev pub weighed_line : Text → Text
-weighed_line answer = codes ",{\"pid\":0,\"tid\":0,\"ph\":\"i\",\"ts\":@,\"s\":\"g\",\"name\":\"" ++ answer ++ codes " job @\""
+weighed_line answer = codes ",{\"pid\":0,\"tid\":0,\"ph\":\"i\",\"ts\":@,\"s\":\"g\",\"name\":\"" ++ answer
+    ++ codes " job @\""
     ++ codes ",\"args\":{\"value\":@,\"against\":@}}\n"
 
 abbrev pub weighed : (at n : ℕ) → Text → (value worth : ℕ) → Text

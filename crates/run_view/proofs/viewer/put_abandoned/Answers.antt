@@ -6,6 +6,8 @@ use Rattle.run_view.proofs.Filling.{filled_three}
 use Rattle.run_view.proofs.viewer.put_abandoned.Goals as goal
 
 pub returns : goal.returns
-returns c = subst (λ t. OnOk c.put.result (c.put.new.text.items ≡ c.args.text.now.items ++ t)) (filled_three (closes_line (codes "abandon")) (weighed_line (codes "abandon")) summed_line
+returns c =
+    subst (λ t. OnOk c.put.result (c.put.new.text.items ≡ c.args.text.now.items ++ t))
+    (filled_three (closes_line (codes "abandon")) (weighed_line (codes "abandon")) summed_line
     (c.args.at ∷ c.args.number ∷ c.args.number ∷ []) (c.args.at ∷ c.args.number ∷ c.args.value ∷ c.args.worth ∷ [])
     (c.args.at ∷ c.args.done ∷ c.args.lost ∷ []) refl refl) c.put.ensures

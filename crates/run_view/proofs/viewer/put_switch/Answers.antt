@@ -5,4 +5,7 @@ use Rattle.run_view.proofs.Filling.{filled_two}
 use Rattle.run_view.proofs.viewer.put_switch.Goals as goal
 
 pub returns : goal.returns
-returns c = subst (λ t. OnOk c.put.result (c.put.new.text.items ≡ c.args.text.now.items ++ t)) (filled_two ends_line begins_line (c.args.at ∷ c.args.stops ∷ []) (c.args.at ∷ c.args.starts ∷ []) refl) c.put.ensures
+returns c =
+    subst (λ t. OnOk c.put.result (c.put.new.text.items ≡ c.args.text.now.items ++ t))
+    (filled_two ends_line begins_line (c.args.at ∷ c.args.stops ∷ []) (c.args.at ∷ c.args.starts ∷ []) refl)
+    c.put.ensures

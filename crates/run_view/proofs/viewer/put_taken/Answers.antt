@@ -6,5 +6,8 @@ use Rattle.run_view.proofs.Filling.{filled_three}
 use Rattle.run_view.proofs.viewer.put_taken.Goals as goal
 
 pub returns : goal.returns
-returns c = subst (λ t. OnOk c.put.result (c.put.new.text.items ≡ c.args.text.now.items ++ t)) (filled_three ends_line begins_line (weighed_line (codes "take")) (c.args.at ∷ c.args.stops ∷ [])
-    (c.args.at ∷ c.args.starts ∷ []) (c.args.at ∷ c.args.starts ∷ c.args.value ∷ c.args.worth ∷ []) refl refl) c.put.ensures
+returns c =
+    subst (λ t. OnOk c.put.result (c.put.new.text.items ≡ c.args.text.now.items ++ t))
+    (filled_three ends_line begins_line (weighed_line (codes "take")) (c.args.at ∷ c.args.stops ∷ [])
+    (c.args.at ∷ c.args.starts ∷ []) (c.args.at ∷ c.args.starts ∷ c.args.value ∷ c.args.worth ∷ []) refl refl)
+    c.put.ensures

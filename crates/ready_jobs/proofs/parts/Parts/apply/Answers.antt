@@ -36,7 +36,8 @@ pub preempt_next-requires-clause-next : goal.preempt_next-requires-clause-next
 preempt_next-requires-clause-next g c =
     let p = c.args.self.now in (
       p.clock,
-      does_next p c.args.deed (deeds.Preempt c.in-Preempt.stops c.in-Preempt.starts) c.in-Preempt.is (Preempt p.clock c.in-Preempt.stops c.in-Preempt.starts)
+      does_next p c.args.deed (deeds.Preempt c.in-Preempt.stops c.in-Preempt.starts) c.in-Preempt.is
+          (Preempt p.clock c.in-Preempt.stops c.in-Preempt.starts)
           c.requires.does.0 refl c.requires.does.1,
     )
 
@@ -44,7 +45,8 @@ pub take_next-requires-clause-next : goal.take_next-requires-clause-next
 take_next-requires-clause-next g c =
     let p = c.args.self.now in (
       p.clock,
-      does_next p c.args.deed (deeds.Take c.in-Take.stops c.in-Take.starts) c.in-Take.is (Take p.clock c.in-Take.stops c.in-Take.starts)
+      does_next p c.args.deed (deeds.Take c.in-Take.stops c.in-Take.starts) c.in-Take.is
+          (Take p.clock c.in-Take.stops c.in-Take.starts)
           c.requires.does.0 refl c.requires.does.1,
     )
 
@@ -52,7 +54,8 @@ pub complete_next-requires-clause-next : goal.complete_next-requires-clause-next
 complete_next-requires-clause-next g c =
     let p = c.args.self.now in (
       p.clock,
-      does_next p c.args.deed (deeds.Complete c.in-Complete.number) c.in-Complete.is (Complete p.clock c.in-Complete.number)
+      does_next p c.args.deed (deeds.Complete c.in-Complete.number) c.in-Complete.is
+          (Complete p.clock c.in-Complete.number)
           c.requires.does.0 refl c.requires.does.1,
     )
 
@@ -96,12 +99,14 @@ pub returns-in-Take-clause-cost : goal.returns-in-Take-clause-cost
 returns-in-Take-clause-cost g c e d does fits =
     let p = c.args.self.now in
     subst (λ x. c.take_next.new.steps ≤ c.args.steps.now + cost_of d (state_of p) (Prints x))
-    (does_print p c.args.deed (deeds.Take c.in-Take.stops c.in-Take.starts) c.in-Take.is (Take p.clock c.in-Take.stops c.in-Take.starts) e refl does)
+    (does_print p c.args.deed (deeds.Take c.in-Take.stops c.in-Take.starts) c.in-Take.is
+    (Take p.clock c.in-Take.stops c.in-Take.starts) e refl does)
     (c.take_next.ensures.cost p.clock d fits)
 
 pub returns-in-Abandon-clause-cost : goal.returns-in-Abandon-clause-cost
 returns-in-Abandon-clause-cost g c e d does fits =
     let p = c.args.self.now in
     subst (λ x. c.abandon_next.new.steps ≤ c.args.steps.now + cost_of d (state_of p) (Prints x))
-    (does_print p c.args.deed (deeds.Abandon c.in-Abandon.number) c.in-Abandon.is (Abandon p.clock c.in-Abandon.number) e refl does)
+    (does_print p c.args.deed (deeds.Abandon c.in-Abandon.number) c.in-Abandon.is
+    (Abandon p.clock c.in-Abandon.number) e refl does)
     (c.abandon_next.ensures.cost p.clock d fits)

@@ -30,7 +30,8 @@ pub overflow_add-self : goal.overflow_add-self
 overflow_add-self g c =
     let i = c.self.inside in
     let due = subst (λ d. IsDue d c.args.due.now.deed c.args.due.now.event) (sym c.self.view_is) c.requires in
-    let new = takes_course i.ratio i.parts c.apply-worth.new.self i.jobs i.done c.apply-worth.result c.args.due.now.event
+    let new = takes_course i.ratio i.parts c.apply-worth.new.self i.jobs i.done c.apply-worth.result
+    c.args.due.now.event
     due.opens
     (ap (λ (q : Parted). q.version) c.apply-worth.ensures.kept)
     (ap (λ (q : Parted). q.clock) c.apply-worth.ensures.kept)
@@ -47,7 +48,8 @@ pub invariant_of-self : goal.invariant_of-self
 invariant_of-self g c =
     let i = c.self.inside in
     let due = subst (λ d. IsDue d c.args.due.now.deed c.args.due.now.event) (sym c.self.view_is) c.requires in
-    takes_course i.ratio i.parts c.apply-worth.new.self i.jobs i.done c.apply-worth.result c.args.due.now.event due.opens
+    takes_course i.ratio i.parts c.apply-worth.new.self i.jobs i.done c.apply-worth.result c.args.due.now.event
+    due.opens
     (ap (λ (q : Parted). q.version) c.apply-worth.ensures.kept)
     (ap (λ (q : Parted). q.clock) c.apply-worth.ensures.kept)
     (c.apply-worth.ensures.leaves c.args.due.now.event
@@ -58,7 +60,8 @@ pub returns-clause-after : goal.returns-clause-after
 returns-clause-after g c J z follows =
     let i = c.self.inside in
     let due = subst (λ d. IsDue d c.args.due.now.deed c.args.due.now.event) (sym c.self.view_is) c.requires in
-    course_takes i.ratio i.parts c.apply-worth.new.self i.jobs i.done c.apply-worth.result c.args.due.now.event due.opens
+    course_takes i.ratio i.parts c.apply-worth.new.self i.jobs i.done c.apply-worth.result c.args.due.now.event
+    due.opens
     (ap (λ (q : Parted). q.version) c.apply-worth.ensures.kept)
     (ap (λ (q : Parted). q.clock) c.apply-worth.ensures.kept)
     (c.apply-worth.ensures.leaves c.args.due.now.event
@@ -71,7 +74,8 @@ returns-clause-paid g c start paid =
     let due = subst (λ d. IsDue d c.args.due.now.deed c.args.due.now.event) (sym c.self.view_is) c.requires in
     let does : Does i.parts c.args.due.now.deed c.args.due.now.event =
     due_does i.ratio i.parts i.jobs i.done c.args.due.now.deed c.args.due.now.event due in
-    printed_pays i.ratio i.parts c.apply-worth.new.self i.jobs i.done c.apply-worth.result c.args.due.now.event due.opens
+    printed_pays i.ratio i.parts c.apply-worth.new.self i.jobs i.done c.apply-worth.result c.args.due.now.event
+    due.opens
     (ap (λ (q : Parted). q.version) c.apply-worth.ensures.kept)
     (ap (λ (q : Parted). q.clock) c.apply-worth.ensures.kept)
     (c.apply-worth.ensures.leaves c.args.due.now.event does)
