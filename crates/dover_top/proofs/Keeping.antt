@@ -25,7 +25,7 @@ use Rattle.resume_word.specs.Record as resumed
 use Rattle.judge_word.specs.Talk.{IsTrace}
 use Rattle.question_words.specs.Talk as asked
 use Rattle.trial_jobs.proofs.Drawn.{valid as generated_valid}
-use Rattle.bait_run.proofs.Completions.{completes_last_alone}
+use Rattle.adversary.proofs.Completions.{completes_last_alone}
 use Rattle.adversary.specs.Baiting.{FitsLimits}
 use Rattle.adversary.proofs.Validity.{some_bait, valid as bait_valid}
 use Rattle.adversary.proofs.Plans.{plan_worth}

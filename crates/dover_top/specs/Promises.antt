@@ -16,7 +16,7 @@ use Rattle.dover_model.specs.Trace.{trace_of_session}
 use Rattle.dover_model.specs.Underload.{takes_or_abandons}
 use Rattle.dover_model.specs.Verdict.{Accepted, verdict}
 use Rattle.dover_port.specs.Moves.{Move, ins, outs}
-use Rattle.bait_run.specs.Baiting.{CompletesLastAlone}
+use Rattle.adversary.specs.BaitingRuns.{CompletesLastAlone}
 use Rattle.trial_words.specs.Baited.{bait_instance}
 use Rattle.lane_server.specs.Lanes.{Closed, lane_count, input}
 use Rattle.lanes_word.specs.Alone.{lane_feed, text_of_lane, served_alone}

@@ -9,7 +9,6 @@ use Rattle.dover_model.specs.Text.{text_of, step_numbers}
 use Rattle.dover_model.specs.Verdict.{Expected, Header, Step, Nothing, Verdict, Accepted, Wrong, Short}
 use Rattle.dover_port.specs.declared.status.Status.{Status}
 use Rattle.dover_port.specs.declared.status.Status.TheVariants.{Done, No}
-use Rattle.trace_format.specs.Form.{step_numbers}
 use Rattle.trace_judge.specs.declared.verdict.Verdict.{Verdict as Told}
 use Rattle.trace_judge.specs.declared.verdict.Verdict.TheVariants as told
 
