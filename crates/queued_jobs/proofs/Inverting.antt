@@ -6,6 +6,7 @@ use Rattle.std.specs.Prelude.{Option, Some, None, ◌==◌}
 use Rattle.std.proofs.lemmas.Bool.{false≢true}
 use Rattle.dover_model.specs.declared.events.Role.{Role}
 use Rattle.dover_model.specs.JobFacts.{JobFacts}
+use Rattle.queued_jobs.specs.Queued.{Queued, IsNext, instance_of}
 use Rattle.queued_jobs.specs.Roles.{with_role_at}
 use Rattle.std.specs.List.{filter, find, slice_get, sum_by}
 use Rattle.dover_model.specs.declared.events.Version.{Version}
@@ -18,11 +19,11 @@ use Rattle.dover_model.specs.State.{State, is_coming, is_held, is_running, is_pr
 use Rattle.dover_model.specs.State.{value_sum}
 use Rattle.dover_model.specs.Limits.{last_tick, most_total}
 use Rattle.dover_model.specs.Instance.{Instance, IsValid}
-use Rattle.dover_model.proofs.Kept.{realistic}
+use Rattle.dover_model.proofs.Kept.{realistic, open_deed}
 use Rattle.dover_model.proofs.Moves.{says, active_slack}
 use Rattle.dover_model.specs.Entries.{IsStrictOrder, entry_of, is_due_before}
 use Rattle.dover_model.specs.Orders.{due_first, first}
-use Rattle.dover_model.specs.Step.{Move, Prints, Waits, Ticks, with_role}
+use Rattle.dover_model.specs.Step.{Move, Prints, Waits, Ticks, open_step, with_role}
 use Rattle.dover_model.specs.Sound.{IsMember, Each, NoneRuns, IsNumberedFrom, IsSound, Keeps, jobs_of}
 use Rattle.dover_model.proofs.EntryOrders.{strict_by}
 use Rattle.dover_model.proofs.Members.{some_same, found, filter_member, member_filter, map_member, on_map, sum_map}
@@ -88,64 +89,76 @@ held_first v s sound p member role least =
           (map_member entry_of (filter is_held s.tasks) p there) best
           (own_entries s.tasks (filter is_held s.tasks) sound.numbered inside)
 
+-- ---- the job of a number
+
+-- a job that has this number
+pub record Known (s : State) (n : ℕ) : Type 0 where
+  pub task : Task
+  pub member : IsMember task s.tasks
+  pub number : task.number ≡ n
+
+module _ (s : State) (sound : IsSound s) (n : ℕ) (it : Known s n) where
+  -- it stands there
+  stands_there : slice_get s.tasks n ≡ Some it.task
+  stands_there = ap (slice_get s.tasks) (sym it.number) ∙ task_at s.tasks it.task sound.numbered it.member
+
+  -- so some job does
+  pub there : (t : Task) × (slice_get s.tasks n ≡ Some t)
+  there = (it.task, stands_there)
+
+  module _ (t : Task) (read : slice_get s.tasks n ≡ Some t) where
+    -- and is what is read there
+    pub is_same : t ≡ it.task
+    is_same = some_same t it.task (sym read ∙ stands_there)
+
+    -- the number is its own
+    pub own_number : t.number ≡ n
+    own_number = ap (λ (x : Task). x.number) is_same ∙ it.number
+
+    -- and it is found there
+    pub found_there : slice_get s.tasks t.number ≡ Some t
+    found_there = ap (slice_get s.tasks) own_number ∙ read
+
+    -- with its role
+    pub own_role : (role : Role) → it.task.role ≡ role → t.role ≡ role
+    own_role role is = ap (λ (x : Task). x.role) is_same ∙ is
+
 -- ---- each step
+
+-- the job of this number has this role
+pub record Named (s : State) (n : ℕ) (role : Role) : Type 0 where
+  pub known : Known s n
+  pub role_is : known.task.role ≡ role
 
 -- the job that runs next
 pub record Runs (v : Version) (s : State) (n : ℕ) : Type 0 where
-  pub task : Task
-  pub member : IsMember task s.tasks
-  pub number : task.number ≡ n
+  pub known : Known s n
   pub free : running s ≡ None
-  pub role : ((task.role ≡ Held) × (first (due_first v) (held s) ≡ Some task))
-      ⊎ ((task.role ≡ Waiting) ⊎ (task.role ≡ Fresh))
+  pub role : ((known.task.role ≡ Held) × (first (due_first v) (held s) ≡ Some known.task))
+      ⊎ ((known.task.role ≡ Waiting) ⊎ (known.task.role ≡ Fresh))
 
-pub record Completes (s : State) (n : ℕ) : Type 0 where
-  pub task : Task
-  pub member : IsMember task s.tasks
-  pub number : task.number ≡ n
-  pub role : task.role ≡ Running
-
-pub record Abandons (s : State) (n : ℕ) : Type 0 where
-  pub task : Task
-  pub member : IsMember task s.tasks
-  pub number : task.number ≡ n
-  pub role : task.role ≡ Waiting
-
-pub record Stays (s : State) (n : ℕ) : Type 0 where
-  pub task : Task
-  pub member : IsMember task s.tasks
-  pub number : task.number ≡ n
-  pub role : task.role ≡ Fresh
-
+-- the job that is released
 pub record Arrives (s : State) (n : ℕ) : Type 0 where
-  pub task : Task
-  pub member : IsMember task s.tasks
-  pub number : task.number ≡ n
-  pub role : task.role ≡ Coming
-  pub least : Each (λ t. t.role ≡ Coming → task.number ≤ t.number) s.tasks
+  pub known : Known s n
+  pub role : known.task.role ≡ Coming
+  pub least : Each (λ t. t.role ≡ Coming → known.task.number ≤ t.number) s.tasks
   pub stale : Each (λ t. t.role ≡ Fresh → ⊥) s.tasks
 
 module _ (v : Version) (k : Fraction) (s : State) (sound : IsSound s) where
   pub runs_says : (at n : ℕ) (m : Move) → Deed k s Ticks m → m ≡ Prints (Run at n) → Runs v s n
   runs_says at n m (Completed r member role done) e = absurd (cc)
   runs_says at n m (Resumed p member role none least why) e = record {
-    task = p;
-    member = member;
-    number = cc;
+    known = record { task = p; member = member; number = cc };
     free = none_runs s none;
     role = inl (role, held_first v s sound p member role least);
   }
   runs_says at n m (Started o member role none first fits next) e = record {
-    task = o;
-    member = member;
-    number = cc;
+    known = record { task = o; member = member; number = cc };
     free = none_runs s none;
     role = inr (inl role);
   }
   runs_says at n m (Began f member role none) e = record {
-    task = f;
-    member = member;
-    number = cc;
+    known = record { task = f; member = member; number = cc };
     free = none_runs s none;
     role = inr (inr role);
   }
@@ -156,9 +169,9 @@ module _ (v : Version) (k : Fraction) (s : State) (sound : IsSound s) where
   runs_says at n m (Abandoned r x r_in runs some x_in waits now stale light) e = absurd (cc)
   runs_says at n m (Rested quiet) e = absurd (cc)
 
-  pub completes_says : (at n : ℕ) (m : Move) → Deed k s Ticks m → m ≡ Prints (Complete at n) → Completes s n
+  pub completes_says : (at n : ℕ) (m : Move) → Deed k s Ticks m → m ≡ Prints (Complete at n) → Named s n Running
   completes_says at n m (Completed r member role done) e =
-      record { task = r; member = member; number = cc; role = role }
+      record { known = record { task = r; member = member; number = cc }; role_is = role }
   completes_says at n m (Resumed p member role none least why) e = absurd (cc)
   completes_says at n m (Started o member role none first fits next) e = absurd (cc)
   completes_says at n m (Began f member role none) e = absurd (cc)
@@ -169,7 +182,7 @@ module _ (v : Version) (k : Fraction) (s : State) (sound : IsSound s) where
   completes_says at n m (Abandoned r x r_in runs some x_in waits now stale light) e = absurd (cc)
   completes_says at n m (Rested quiet) e = absurd (cc)
 
-  pub abandons_says : (at n : ℕ) (m : Move) → Deed k s Ticks m → m ≡ Prints (Abandon at n) → Abandons s n
+  pub abandons_says : (at n : ℕ) (m : Move) → Deed k s Ticks m → m ≡ Prints (Abandon at n) → Named s n Waiting
   abandons_says at n m (Completed r member role done) e = absurd (cc)
   abandons_says at n m (Resumed p member role none least why) e = absurd (cc)
   abandons_says at n m (Started o member role none first fits next) e = absurd (cc)
@@ -179,17 +192,17 @@ module _ (v : Version) (k : Fraction) (s : State) (sound : IsSound s) where
   abandons_says at n m (Arrived c member role now least stale busy free) e = absurd (cc)
   abandons_says at n m (Taken r x r_in runs some x_in waits now stale heavy) e = absurd (cc)
   abandons_says at n m (Abandoned r x r_in runs some x_in waits now stale light) e =
-      record { task = x; member = x_in; number = cc; role = waits }
+      record { known = record { task = x; member = x_in; number = cc }; role_is = waits }
   abandons_says at n m (Rested quiet) e = absurd (cc)
 
-  pub stays_says : (n : ℕ) (m : Move) → Deed k s Ticks m → m ≡ Waits n → Stays s n
+  pub stays_says : (n : ℕ) (m : Move) → Deed k s Ticks m → m ≡ Waits n → Named s n Fresh
   stays_says n m (Completed r member role done) e = absurd (cc)
   stays_says n m (Resumed p member role none least why) e = absurd (cc)
   stays_says n m (Started o member role none first fits next) e = absurd (cc)
   stays_says n m (Began f member role none) e = absurd (cc)
   stays_says n m (Preempted r f r_in runs some f_in fresh before fits) e = absurd (cc)
   stays_says n m (Stayed r f r_in runs some f_in fresh why) e =
-      record { task = f; member = f_in; number = cc; role = fresh }
+      record { known = record { task = f; member = f_in; number = cc }; role_is = fresh }
   stays_says n m (Arrived c member role now least stale busy free) e = absurd (cc)
   stays_says n m (Taken r x r_in runs some x_in waits now stale heavy) e = absurd (cc)
   stays_says n m (Abandoned r x r_in runs some x_in waits now stale light) e = absurd (cc)
@@ -213,13 +226,6 @@ all_value J tasks valid jobs =
     let total : sum_by (λ j. j.value) (jobs_of tasks) ≤ most_total =
     subst (λ js. sum_by (λ j. j.value) js ≤ most_total) (sym jobs) valid.total in
     omega (arith, all, total)
-
--- the job that is read at a number is the one of that number
-pub same_task : (tasks : List Task) (n : ℕ) (o : Option Task) (r : Task) → IsNumberedFrom 0 tasks → IsMember r tasks
-    → r.number ≡ n
-    → o ≡ slice_get tasks n
-    → o ≡ Some r
-same_task tasks n o r all member number read = read ∙ ap (slice_get tasks) (sym number) ∙ task_at tasks r all member
 
 -- ---- a release
 
@@ -250,9 +256,7 @@ module _ (v : Version) (k : Fraction) (s : State) (sound : IsSound s) where
   arrives_says n job m (Preempted r f r_in runs some f_in fresh before fits) e = absurd (cc)
   arrives_says n job m (Stayed r f r_in runs some f_in fresh why) e = absurd (cc)
   arrives_says n job m (Arrived c member role now least stale busy free) e = record {
-    task = c;
-    member = member;
-    number = cc;
+    known = record { task = c; member = member; number = cc };
     role = role;
     least = least;
     stale = stale;
@@ -263,42 +267,21 @@ module _ (v : Version) (k : Fraction) (s : State) (sound : IsSound s) where
 
 -- ---- a preemption
 
-pub record Preempts (s : State) (stops starts : ℕ) : Type 0 where
-  pub stopped : Task
-  pub started : Task
-  pub stopped_in : IsMember stopped s.tasks
-  pub started_in : IsMember started s.tasks
-  pub stopped_number : stopped.number ≡ stops
-  pub started_number : started.number ≡ starts
-  pub stopped_role : stopped.role ≡ Running
-  pub started_role : started.role ≡ Fresh
-
-pub record Takes (s : State) (stops starts : ℕ) : Type 0 where
-  pub stopped : Task
-  pub started : Task
-  pub stopped_in : IsMember stopped s.tasks
-  pub started_in : IsMember started s.tasks
-  pub stopped_number : stopped.number ≡ stops
-  pub started_number : started.number ≡ starts
-  pub stopped_role : stopped.role ≡ Running
-  pub started_role : started.role ≡ Waiting
+-- the job that stops, and the one that starts, which has this role
+pub record Switches (s : State) (stops starts : ℕ) (role : Role) : Type 0 where
+  pub stopped : Named s stops Running
+  pub started : Named s starts role
 
 module _ (k : Fraction) (s : State) where
   pub preempts_says : (at stops starts : ℕ) (m : Move) → Deed k s Ticks m → m ≡ Prints (Preempt at stops starts)
-      → Preempts s stops starts
+      → Switches s stops starts Fresh
   preempts_says at stops starts m (Completed r member role done) e = absurd (cc)
   preempts_says at stops starts m (Resumed p member role none least why) e = absurd (cc)
   preempts_says at stops starts m (Started o member role none first fits next) e = absurd (cc)
   preempts_says at stops starts m (Began f member role none) e = absurd (cc)
   preempts_says at stops starts m (Preempted r f r_in runs some f_in fresh before fits) e = record {
-    stopped = r;
-    started = f;
-    stopped_in = r_in;
-    started_in = f_in;
-    stopped_number = cc;
-    started_number = cc;
-    stopped_role = runs;
-    started_role = fresh;
+    stopped = record { known = record { task = r; member = r_in; number = cc }; role_is = runs };
+    started = record { known = record { task = f; member = f_in; number = cc }; role_is = fresh };
   }
   preempts_says at stops starts m (Stayed r f r_in runs some f_in fresh why) e = absurd (cc)
   preempts_says at stops starts m (Arrived c member role now least stale busy free) e = absurd (cc)
@@ -307,7 +290,7 @@ module _ (k : Fraction) (s : State) where
   preempts_says at stops starts m (Rested quiet) e = absurd (cc)
 
   pub takes_says : (at stops starts : ℕ) (m : Move) → Deed k s Ticks m → m ≡ Prints (Take at stops starts)
-      → Takes s stops starts
+      → Switches s stops starts Waiting
   takes_says at stops starts m (Completed r member role done) e = absurd (cc)
   takes_says at stops starts m (Resumed p member role none least why) e = absurd (cc)
   takes_says at stops starts m (Started o member role none first fits next) e = absurd (cc)
@@ -316,14 +299,8 @@ module _ (k : Fraction) (s : State) where
   takes_says at stops starts m (Stayed r f r_in runs some f_in fresh why) e = absurd (cc)
   takes_says at stops starts m (Arrived c member role now least stale busy free) e = absurd (cc)
   takes_says at stops starts m (Taken r x r_in runs some x_in waits now stale heavy) e = record {
-    stopped = r;
-    started = x;
-    stopped_in = r_in;
-    started_in = x_in;
-    stopped_number = cc;
-    started_number = cc;
-    stopped_role = runs;
-    started_role = waits;
+    stopped = record { known = record { task = r; member = r_in; number = cc }; role_is = runs };
+    started = record { known = record { task = x; member = x_in; number = cc }; role_is = waits };
   }
   takes_says at stops starts m (Abandoned r x r_in runs some x_in waits now stale light) e = absurd (cc)
   takes_says at stops starts m (Rested quiet) e = absurd (cc)
@@ -400,3 +377,47 @@ at_clock k s m (Arrived c member role now least stale busy free) = refl
 at_clock k s m (Taken r x r_in runs some x_in waits now stale heavy) = refl
 at_clock k s m (Abandoned r x r_in runs some x_in waits now stale light) = refl
 at_clock k s m (Rested quiet) = refl
+
+-- ---- the step that comes next
+
+module _ (q : Queued) where
+  -- what the next step is a deed of
+  deed_of : (m : Move) → IsNext q m → Deed q.rules.ratio q.state Ticks (open_step q.rules q.state)
+  deed_of m next =
+      open_deed (instance_of q) next.valid q.state (record { sound = next.sound; jobs = refl }) q.rules
+
+  module _ (n : ℕ) where
+    pub runs_next : IsNext q (Prints (Run q.state.clock n)) → Runs q.rules.version q.state n
+    runs_next next = runs_says q.rules.version q.rules.ratio q.state next.sound q.state.clock n
+        (open_step q.rules q.state) (deed_of (Prints (Run q.state.clock n)) next) next.step
+
+    pub completes_next : IsNext q (Prints (Complete q.state.clock n)) → Named q.state n Running
+    completes_next next = completes_says q.rules.version q.rules.ratio q.state next.sound q.state.clock n
+        (open_step q.rules q.state) (deed_of (Prints (Complete q.state.clock n)) next) next.step
+
+    pub abandons_next : IsNext q (Prints (Abandon q.state.clock n)) → Named q.state n Waiting
+    abandons_next next = abandons_says q.rules.version q.rules.ratio q.state next.sound q.state.clock n
+        (open_step q.rules q.state) (deed_of (Prints (Abandon q.state.clock n)) next) next.step
+
+    pub stays_next : IsNext q (Waits n) → Named q.state n Fresh
+    stays_next next = stays_says q.rules.version q.rules.ratio q.state next.sound n
+        (open_step q.rules q.state) (deed_of (Waits n) next) next.step
+
+    pub arrives_next : (job : JobFacts) → IsNext q (Prints (Release n job)) → Arrives q.state n
+    arrives_next job next = arrives_says q.rules.version q.rules.ratio q.state next.sound n job
+        (open_step q.rules q.state) (deed_of (Prints (Release n job)) next) next.step
+
+  module _ (stops starts : ℕ) where
+    pub preempts_next : IsNext q (Prints (Preempt q.state.clock stops starts)) → Switches q.state stops starts Fresh
+    preempts_next next = preempts_says q.rules.ratio q.state q.state.clock stops starts
+        (open_step q.rules q.state) (deed_of (Prints (Preempt q.state.clock stops starts)) next) next.step
+
+    pub takes_next : IsNext q (Prints (Take q.state.clock stops starts)) → Switches q.state stops starts Waiting
+    takes_next next = takes_says q.rules.ratio q.state q.state.clock stops starts
+        (open_step q.rules q.state) (deed_of (Prints (Take q.state.clock stops starts)) next) next.step
+
+  -- a ready job of the next step can be done by the last tick
+  pub in_time_next : (m : Move) → IsNext q m → (t : Task) → IsMember t q.state.tasks
+      → (t.role ≡ Held) ⊎ ((t.role ≡ Waiting) ⊎ (t.role ≡ Fresh)) → q.state.clock + left t ≤ last_tick
+  in_time_next m next t member role =
+      in_time (instance_of q) next.valid q.state (record { sound = next.sound; jobs = refl }) t member role

@@ -214,6 +214,17 @@ impl Queues {
         self.tasks.get(number as usize).copied()
     }
 
+    // The job of this number, which is there.
+    fn known(&self, number: u32) -> Task
+        requires { (t : Task) × (slice_get self.now.state.tasks number ≡ Some t) }
+        ensures { slice_get self.now.state.tasks number ≡ Some result }
+    {
+        match self.task(number) {
+            Some(t) => t,
+            None => unreachable!(),
+        }
+    }
+
     fn running(&self) -> Option<Task>
         ensures { result ≡ running self.now.state }
     {
@@ -539,9 +550,8 @@ impl Queues {
         requires { IsNext self.old (Prints (Complete self.old.state.clock number)) }
         ensures { self.new ≡ stepped self.old (Prints (Complete self.old.state.clock number)) }
     {
-        if let Some(t) = self.task(number) {
-            self.complete(&t);
-        }
+        let t = self.known(number);
+        self.complete(&t);
     }
 
     // The waiting job of this number is abandoned.
@@ -551,9 +561,8 @@ impl Queues {
         ensures count { (d : ℕ) → length self.old.state.tasks + 1 < 2 ^ d → steps.new ≤
             steps.old + cost_of d self.old.state (Prints (Abandon self.old.state.clock number)) }
     {
-        if let Some(t) = self.task(number) {
-            self.abandon(&t, steps);
-        }
+        let t = self.known(number);
+        self.abandon(&t, steps);
     }
 
     // The job of this number runs, which was held, waiting or fresh.
@@ -563,12 +572,11 @@ impl Queues {
         ensures count { (d : ℕ) → length self.old.state.tasks + 1 < 2 ^ d → steps.new ≤
             steps.old + cost_of d self.old.state (Prints (Run self.old.state.clock number)) }
     {
-        if let Some(t) = self.task(number) {
-            match t.role {
-                Role::Held => self.resume(&t),
-                Role::Waiting => self.start(&t, steps),
-                _ => self.begin(&t),
-            }
+        let t = self.known(number);
+        match t.role {
+            Role::Held => self.resume(&t),
+            Role::Waiting => self.start(&t, steps),
+            _ => self.begin(&t),
         }
     }
 
@@ -577,9 +585,8 @@ impl Queues {
         requires { IsNext self.old (Prints (Release number job.now)) }
         ensures { self.new ≡ stepped self.old (Prints (Release number job.now)) }
     {
-        if let Some(t) = self.task(number) {
-            self.release(&t);
-        }
+        let t = self.known(number);
+        self.release(&t);
     }
 
     // The job of number `starts`, which is fresh, preempts the running one.
@@ -587,12 +594,10 @@ impl Queues {
         requires { IsNext self.old (Prints (Preempt self.old.state.clock stops starts)) }
         ensures { self.new ≡ stepped self.old (Prints (Preempt self.old.state.clock stops starts)) }
     {
-        if let Some(r) = self.task(stops) {
-            if let Some(f) = self.task(starts) {
-                self.hold(&r);
-                self.begin(&f);
-            }
-        }
+        let r = self.known(stops);
+        let f = self.known(starts);
+        self.hold(&r);
+        self.begin(&f);
     }
 
     // All held jobs wait.
@@ -616,13 +621,11 @@ impl Queues {
         ensures count { (d : ℕ) → length self.old.state.tasks + 1 < 2 ^ d → steps.new ≤
             steps.old + cost_of d self.old.state (Prints (Take self.old.state.clock stops starts)) }
     {
-        if let Some(r) = self.task(stops) {
-            if let Some(x) = self.task(starts) {
-                self.stop(&r, steps);
-                self.displace_held(steps);
-                self.start(&x, steps);
-            }
-        }
+        let r = self.known(stops);
+        let x = self.known(starts);
+        self.stop(&r, steps);
+        self.displace_held(steps);
+        self.start(&x, steps);
     }
 
     /// The effect of the next step, which is printed.
@@ -651,9 +654,8 @@ impl Queues {
         ensures cost { (d : ℕ) → length self.old.state.tasks + 1 < 2 ^ d → steps.new ≤
             steps.old + cost_of d self.old.state (WaitsFor number) }
     {
-        if let Some(t) = self.task(number) {
-            self.wait(&t, steps);
-        }
+        let t = self.known(number);
+        self.wait(&t, steps);
     }
 
     // At most `most`, and what the running job has left.

@@ -1,82 +1,36 @@
-use Rattle.std.proofs.Common.{◌≡◌, Some, refl, sym, ap, ◌∙◌, subst}
-use Rattle.std.specs.List.{slice_get}
-use Rattle.dover_model.specs.declared.events.Role.TheVariants.{Gone}
-use Rattle.dover_model.specs.declared.events.Task.{Task}
-use Rattle.dover_model.specs.Step.{open_step}
-use Rattle.dover_model.specs.Sound.{Keeps}
-use Rattle.dover_model.proofs.Members.{some_same}
-use Rattle.dover_model.proofs.Tests.{none_is_some}
-use Rattle.dover_model.proofs.Kept.{open_deed}
-use Rattle.queued_jobs.specs.Queued.{instance_of, with_job_in}
-use Rattle.queued_jobs.proofs.Inverting.{abandons_says, task_at, same_task}
+use Rattle.std.proofs.Common.{ap, ◌∙◌}
+use Rattle.dover_model.specs.declared.events.Role.TheVariants.{Gone, Waiting}
+use Rattle.queued_jobs.specs.Queued.{with_job_in}
+use Rattle.queued_jobs.proofs.Inverting.{abandons_next, there, found_there, own_role, own_number}
 use Rattle.queued_jobs.proofs.Costs.{abandon_leaves, one_leaves}
 use Rattle.queued_jobs.proofs.queues.Queues.abandon_next.Goals as goal
+
+pub known-t-requires : goal.known-t-requires
+known-t-requires g c =
+    let q = c.args.self.now in
+    there q.state c.requires.sound c.args.number (abandons_next q c.args.number c.requires).known
 
 pub abandon-requires-clause-found : goal.abandon-requires-clause-found
 abandon-requires-clause-found g c =
     let q = c.args.self.now in
-    let tasks = q.state.tasks in
-    let all = c.requires.sound.numbered in
-    let keeps : Keeps (instance_of q) q.state = record { sound = c.requires.sound; jobs = refl } in
-    let it = abandons_says q.rules.version q.rules.ratio q.state c.requires.sound q.state.clock c.args.number
-    (open_step q.rules q.state)
-    (open_deed (instance_of q) c.requires.valid q.state keeps q.rules) c.requires.step in
-    let t = c.in-Some.t in
-    let same : t ≡ it.task =
-    some_same t it.task (same_task tasks c.args.number
-    (Some t) it.task all it.member it.number c.in-Some.ensures) in
-    subst (λ x. slice_get tasks x.number ≡ Some x) (sym same) (task_at tasks it.task all it.member)
+    found_there q.state c.requires.sound c.args.number (abandons_next q c.args.number c.requires).known
+    c.known-t.result c.known-t.ensures
 
 pub abandon-requires-clause-role : goal.abandon-requires-clause-role
 abandon-requires-clause-role g c =
     let q = c.args.self.now in
-    let tasks = q.state.tasks in
-    let all = c.requires.sound.numbered in
-    let keeps : Keeps (instance_of q) q.state = record { sound = c.requires.sound; jobs = refl } in
-    let it = abandons_says q.rules.version q.rules.ratio q.state c.requires.sound q.state.clock c.args.number
-    (open_step q.rules q.state)
-    (open_deed (instance_of q) c.requires.valid q.state keeps q.rules) c.requires.step in
-    let t = c.in-Some.t in
-    let same : t ≡ it.task =
-    some_same t it.task (same_task tasks c.args.number
-    (Some t) it.task all it.member it.number c.in-Some.ensures) in
-    ap (λ (x : Task). x.role) same ∙ it.role
+    let it = abandons_next q c.args.number c.requires in
+    own_role q.state c.requires.sound c.args.number it.known c.known-t.result c.known-t.ensures Waiting it.role_is
 
-pub returns-in-Some-clause-gone : goal.returns-in-Some-clause-gone
-returns-in-Some-clause-gone g c =
+pub returns-clause-gone : goal.returns-clause-gone
+returns-clause-gone g c =
     let q = c.args.self.now in
-    let tasks = q.state.tasks in
-    let all = c.requires.sound.numbered in
-    let keeps : Keeps (instance_of q) q.state = record { sound = c.requires.sound; jobs = refl } in
-    let it = abandons_says q.rules.version q.rules.ratio q.state c.requires.sound q.state.clock c.args.number
-    (open_step q.rules q.state)
-    (open_deed (instance_of q) c.requires.valid q.state keeps q.rules) c.requires.step in
-    let t = c.in-Some.t in
-    let same : t ≡ it.task =
-    some_same t it.task (same_task tasks c.args.number
-    (Some t) it.task all it.member it.number c.in-Some.ensures) in
-    c.abandon.ensures.gone ∙ ap (λ m. with_job_in q m Gone) (ap (λ (x : Task). x.number) same ∙ it.number)
+    c.abandon.ensures.gone ∙ ap (λ n. with_job_in q n Gone) (own_number q.state c.requires.sound c.args.number
+    (abandons_next q c.args.number c.requires).known c.known-t.result c.known-t.ensures)
 
-pub returns-in_default-clause-gone : goal.returns-in_default-clause-gone
-returns-in_default-clause-gone g c =
+pub returns-clause-count : goal.returns-clause-count
+returns-clause-count g c d fits =
     let q = c.args.self.now in
-    let tasks = q.state.tasks in
-    let all = c.requires.sound.numbered in
-    let keeps : Keeps (instance_of q) q.state = record { sound = c.requires.sound; jobs = refl } in
-    let it = abandons_says q.rules.version q.rules.ratio q.state c.requires.sound q.state.clock c.args.number
-    (open_step q.rules q.state)
-    (open_deed (instance_of q) c.requires.valid q.state keeps q.rules) c.requires.step in
-    none_is_some (sym c.in_default.is
-    ∙ same_task tasks c.args.number c.task.result it.task all it.member it.number c.task.ensures)
-
-pub returns-in-Some-clause-count : goal.returns-in-Some-clause-count
-returns-in-Some-clause-count g c d fits =
-    let q = c.args.self.now in
-    let tasks = q.state.tasks in
-    let all = c.requires.sound.numbered in
-    let keeps : Keeps (instance_of q) q.state = record { sound = c.requires.sound; jobs = refl } in
-    let it = abandons_says q.rules.version q.rules.ratio q.state c.requires.sound q.state.clock c.args.number
-    (open_step q.rules q.state)
-    (open_deed (instance_of q) c.requires.valid q.state keeps q.rules) c.requires.step in
+    let it = abandons_next q c.args.number c.requires in
     one_leaves d _ _ _ _ (c.abandon.ensures.count d fits)
-    (abandon_leaves q.state it.task it.member q.state.clock c.args.number it.role it.number)
+    (abandon_leaves q.state it.known.task it.known.member q.state.clock c.args.number it.role_is it.known.number)
