@@ -8,6 +8,22 @@ pub enum Version {
     Two,
 }
 
+impl Version {
+    ghost use Rattle.std.specs.Prelude.{◌≡◌};
+    ghost use Rattle.dover_model.specs.Verdict.{version_of_number};
+
+    /// The version of this number, if it has one.
+    pub fn from_number(number: u64) -> Option<Version>
+        ensures { result ≡ version_of_number number }
+    {
+        match number {
+            1 => Some(Version::One),
+            2 => Some(Version::Two),
+            _ => None,
+        }
+    }
+}
+
 /// Why a job isn't admitted.
 #[derive(Clone, Copy, PartialEq, Eq)]
 pub enum Refusal {

@@ -27,8 +27,9 @@ impl Model for Ratio {
 }
 
 impl Ratio {
-    ghost use Rattle.std.specs.Prelude.{◌≡◌, ◌↔◌, IsSome, IfSome};
-    ghost use Rattle.dover_model.specs.Fraction.{IsRatio};
+    ghost use Rattle.std.specs.Prelude.{◌≡◌, ◌↔◌, IsSome, IfSome, IfNone};
+    ghost use Rattle.std.specs.Bool.{then_some};
+    ghost use Rattle.dover_model.specs.Fraction.{IsRatio, is_ratio};
 
     /// None exactly where p or q is out of the limits.
     pub fn new(p: u32, q: u32) -> Option<Ratio>
@@ -39,6 +40,18 @@ impl Ratio {
             return None;
         }
         Some(Ratio { p, q })
+    }
+
+    /// The ratio of numbers that were read, of any size. None exactly where they are out of the limits.
+    pub fn from_numbers(p: u64, q: u64) -> Option<Ratio>
+        ensures is { result ≡ then_some (is_ratio (record { p = p; q = q })) (record { p = p; q = q }) }
+        ensures some { IfSome result (λ k. (k ≡ record { p = p; q = q }) × IsRatio k) }
+        ensures none { IfNone result (IsRatio (record { p = p; q = q }) → ⊥) }
+    {
+        match (u32::try_from(p), u32::try_from(q)) {
+            (Ok(p), Ok(q)) => Ratio::new(p, q),
+            _ => None,
+        }
     }
 
     pub fn p(&self) -> u32

@@ -1,21 +1,9 @@
 //! What the numbers of a line declare: a ratio and a version.
 ghost use Rattle.std.specs.Prelude.{◌≡◌, ℕ, Option};
 ghost use Rattle.std.specs.Option.{option_map};
-ghost use Rattle.std.specs.Bool.{then_some};
-ghost use Rattle.dover_model.specs.Fraction.{is_ratio};
 ghost use Rattle.dover_model.specs.Feed.{declared_rules, declared_version, rules_with};
 
 use dover_model::{Ratio, Version};
-
-/// The ratio of these numbers, if they are within its limits.
-fn ratio_of(p: u64, q: u64) -> Option<Ratio>
-    ensures { result ≡ then_some (is_ratio (record { p = p; q = q })) (record { p = p; q = q }) }
-{
-    match (u32::try_from(p), u32::try_from(q)) {
-        (Ok(p), Ok(q)) => Ratio::new(p, q),
-        _ => None,
-    }
-}
 
 /// The version of this number: none stands for One.
 fn version_of(number: Option<u64>) -> Option<Version>
@@ -34,7 +22,7 @@ pub fn declared(p: u64, q: u64, version: Option<u64>) -> Option<(Ratio, Version)
     ensures { option_map (λ declared. rules_with declared.0 declared.1) result
         ≡ declared_rules (record { p = p; q = q }) version }
 {
-    let ratio = ratio_of(p, q)?;
+    let ratio = Ratio::from_numbers(p, q)?;
     let version = version_of(version)?;
     Some((ratio, version))
 }

@@ -1,9 +1,6 @@
 //! The lines of a snapshot, as they are read.
 ghost use Rattle.std.specs.Prelude.{◌≡◌, ◌∷◌, ◌<◌, ◌^◌, ℕ, List, length, Some, IfSome, IfNone, option_map};
-ghost use Rattle.std.specs.Bool.{then_some};
-ghost use Rattle.dover_model.specs.Fraction.{is_ratio};
 ghost use Rattle.dover_model.specs.Numerals.{numerals};
-ghost use Rattle.dover_model.specs.Verdict as verdict;
 ghost use Rattle.line_text.specs.Reading.{fields_left};
 ghost use Rattle.snapshot.specs.Reading as model;
 ghost use Rattle.snapshot.specs.Forms.{head_in, task_in, behind_number, behind_word};
@@ -50,27 +47,6 @@ pub(crate) fn is_within_limits(head: &Head) -> bool
         && head.lines <= MOST_LINES
 }
 
-/// The version of this number.
-fn version_of(number: u64) -> Option<Version>
-    ensures { result ≡ verdict.version_of_number number }
-{
-    match number {
-        1 => Some(Version::One),
-        2 => Some(Version::Two),
-        _ => None,
-    }
-}
-
-/// The ratio of these numbers, if they are within its limits.
-fn ratio_of(p: u64, q: u64) -> Option<Ratio>
-    ensures { result ≡ then_some (is_ratio (record { p = p; q = q })) (record { p = p; q = q }) }
-{
-    match (u32::try_from(p), u32::try_from(q)) {
-        (Ok(p), Ok(q)) => Ratio::new(p, q),
-        _ => None,
-    }
-}
-
 /// The first line of a version's number and five more numbers.
 fn head_of(version: u64, numbers: &[u64]) -> Option<Head>
     ensures { option_map head_in result ≡ model.head_from (version ∷ numbers.now) }
@@ -78,8 +54,8 @@ fn head_of(version: u64, numbers: &[u64]) -> Option<Head>
     let [p, q, lines, mark, jobs] = numbers else {
         return None;
     };
-    let version = version_of(version)?;
-    let ratio = ratio_of(*p, *q)?;
+    let version = Version::from_number(version)?;
+    let ratio = Ratio::from_numbers(*p, *q)?;
     Some(Head {
         version,
         ratio,

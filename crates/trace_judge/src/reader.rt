@@ -1,20 +1,17 @@
 //! What the judge keeps of the lines of a trace.
 ghost use Rattle.std.specs.Prelude.{◌≡◌, ◌≤◌, ◌<◌, ◌+◌, ◌∷◌, ◌++◌, ◌↔◌, ℕ, List, [], Bool, true, false, IsTrue, IfOk};
-ghost use Rattle.std.specs.Prelude.{OnOk, OnErr, IsOk, IfSome, IfNone, Some, None, vec_len, vec_capacity, length};
+ghost use Rattle.std.specs.Prelude.{OnOk, OnErr, IsOk, Some, None, vec_len, vec_capacity, length};
 ghost use Rattle.std.specs.Prelude.{if◌then◌else◌};
 ghost use Rattle.dover_model.specs.Limits.{last_tick, most_items};
 ghost use Rattle.dover_model.specs.declared.events.Version.TheVariants.{Two};
-ghost use Rattle.dover_model.specs.Fraction.{IsRatio};
 ghost use Rattle.dover_model.specs.Step.{Prints};
 ghost use Rattle.dover_model.specs.Run.{is_end};
 ghost use Rattle.dover_model.specs.Settled.{waits_for_mark};
-ghost use Rattle.dover_model.specs.Verdict.{version_of_number};
 
 use crate::stage::Stage;
 use crate::verdict::{Expected, Verdict};
 use admission::Admission;
 use dover_model::jobs::LAST_TICK;
-use dover_model::ratios::{MOST_P, MOST_Q};
 use dover_model::{Event, Job, Memory, Ratio, Refusal, Version};
 use ready_jobs::Ready;
 use root_compare::bound;
@@ -209,10 +206,10 @@ impl Reader {
         ensures kept { IsUnchangedFor self.old self.new }
         ensures paid { (start now : ℕ) → HasPaid self.old.course start now → HasPaid self.new.course start now }
     {
-        let Some(version) = version_of(version) else {
+        let Some(version) = Version::from_number(version) else {
             return false;
         };
-        let Some(ratio) = ratio_of(p, q) else {
+        let Some(ratio) = Ratio::from_numbers(p, q) else {
             return false;
         };
         self.course.declare(version, ratio);
@@ -551,31 +548,6 @@ fn is_same_cause(a: Refusal, b: Refusal) -> bool
     ensures { IsTrue result ↔ (a ≡ b) }
 {
     a == b
-}
-
-// The version of a header's number.
-fn version_of(number: u64) -> Option<Version>
-    ensures { result ≡ version_of_number number }
-{
-    match number {
-        1 => Some(Version::One),
-        2 => Some(Version::Two),
-        _ => None,
-    }
-}
-
-// The ratio of a header's numbers.
-fn ratio_of(p: u64, q: u64) -> Option<Ratio>
-    ensures some { IfSome result (λ k. (k ≡ record { p = p; q = q }) × IsRatio k) }
-    ensures none { IfNone result (IsRatio (record { p = p; q = q }) → ⊥) }
-{
-    if p > u64::from(MOST_P) {
-        return None;
-    }
-    if q > u64::from(MOST_Q) {
-        return None;
-    }
-    Ratio::new(p as u32, q as u32)
 }
 
 // Both are the same step.

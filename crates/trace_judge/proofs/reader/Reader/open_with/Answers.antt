@@ -6,25 +6,25 @@ use Rattle.trace_judge.proofs.reader.Reader.open_with.Goals as goal
 pub returns-in_default-clause-took : goal.returns-in_default-clause-took
 returns-in_default-clause-took c =
     no_version c.args.self.now c.requires.opening c.args.version c.args.p c.args.q c.requires.form
-    (sym c.version_of.ensures ∙ c.in_default.is)
+    (sym c.from_number.ensures ∙ c.in_default.is)
 
-pub returns-in_default-ratio_of-clause-took : goal.returns-in_default-ratio_of-clause-took
-returns-in_default-ratio_of-clause-took c =
+pub returns-in_default-from_numbers-clause-took : goal.returns-in_default-from_numbers-clause-took
+returns-in_default-from_numbers-clause-took c =
     no_ratio c.args.self.now c.requires.opening c.args.version c.args.p c.args.q c.requires.form
-    c.in_default-ratio_of.ensures.none
+    c.in_default-from_numbers.ensures.none
 
 pub invariant_of-self : goal.invariant_of-self
 invariant_of-self c = opened_reader _ (ap (λ (r : Reading). r.stage) c.self.view_is ∙ c.requires.opening) c.args.version
     c.args.p c.args.q c.requires.form
-    c.in-Some.version c.in-Some-ratio_of.ratio
-    (sym c.version_of.ensures ∙ c.in-Some.is) c.in-Some-ratio_of.ensures.some c.declare.new.self
+    c.in-Some.version c.in-Some-from_numbers.ratio
+    (sym c.from_number.ensures ∙ c.in-Some.is) c.in-Some-from_numbers.ensures.some c.declare.new.self
     c.new-self-inside.result c.declare.ensures.rules c.new-self-inside.ensures.ratio c.new-self-inside.ensures.stands
     c.self.invariant
 
 pub returns-clause-took : goal.returns-clause-took
 returns-clause-took c = opened_took _ (ap (λ (r : Reading). r.stage) c.self.view_is ∙ c.requires.opening) c.args.version
     c.args.p c.args.q c.requires.form
-    c.in-Some.version c.in-Some-ratio_of.ratio
-    (sym c.version_of.ensures ∙ c.in-Some.is) c.in-Some-ratio_of.ensures.some c.declare.new.self
+    c.in-Some.version c.in-Some-from_numbers.ratio
+    (sym c.from_number.ensures ∙ c.in-Some.is) c.in-Some-from_numbers.ensures.some c.declare.new.self
     c.new-self-inside.result c.declare.ensures.rules c.new-self-inside.ensures.ratio
     c.new-self-inside.ensures.stands _ c.self.view_is
