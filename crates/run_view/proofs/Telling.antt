@@ -66,14 +66,6 @@ module _ (k : Fraction) (n value : ℕ) (jobs : List JobFacts) (steps : List Eve
       ∙ ap (λ xs. text ++ story_from k n value jobs on xs (drop i worths) (drop i rooms)) (sym (drop_all i steps past))
       ∙ before
 
-  -- whether the step behind starts the job
-  pub starts_some : (i : ℕ) (e : Event) (b : Bool) → e ≡ get_or steps i e → i < length steps
-      → b ≡ starts_first n (e ∷ drop (i + 1) steps) → b ≡ starts_first n (drop i steps)
-  starts_some i e b is there same = same ∙ ap (starts_first n) (sym (one_next steps i e is there))
-
-  pub starts_none : (i : ℕ) → length steps ≤ i → false ≡ starts_first n (drop i steps)
-  starts_none i past = ap (starts_first n) (sym (drop_all i steps past))
-
 module _ (k : Fraction) (steps : List Event) (J : Instance) (of : IsRunOf k steps J) (n : ℕ) (jobs : List JobFacts)
     (released : jobs ≡ jobs_released steps) where
   -- the jobs are those of the run
