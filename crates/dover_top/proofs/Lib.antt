@@ -1,5 +1,4 @@
 pub mod Keeping
-pub mod LaneFeeds
 pub mod ServedLanes
 pub mod Asking
 pub mod Numbers

@@ -5,11 +5,11 @@ use Rattle.dover_port.specs.declared.status.Status.{Status}
 use Rattle.dover_port.specs.declared.status.Status.TheVariants.{Done, Refused}
 use Rattle.dialogue.specs.Talk.{IsAnswered}
 use Rattle.lane_server.specs.Lanes.{Input, InputStanding, Open, Closed, Faulty, input, all_ended}
-use Rattle.lanes_word.specs.Alone.{text_of_lane}
+use Rattle.lane_server.specs.Alone.{text_of_lane}
 use Rattle.lanes_word.specs.Talk.{closing_status, lanes_talk}
-use Rattle.lanes_word.proofs.Alone.{alone}
+use Rattle.lane_server.proofs.Alone.{alone}
 use Rattle.dover_top.specs.Promises.{feed_in, AreServed, HaveEnded}
-use Rattle.dover_top.proofs.LaneFeeds.{lane_ended, served_ended}
+use Rattle.lane_server.proofs.LaneFeeds.{lane_ended, served_ended}
 use Rattle.dover_top.proofs.Keeping.{trace_of}
 
 -- what stands on the output for each lane

@@ -19,7 +19,7 @@ use Rattle.dover_port.specs.Moves.{Move, ins, outs}
 use Rattle.adversary.specs.BaitingRuns.{CompletesLastAlone}
 use Rattle.trial_words.specs.Baited.{bait_instance}
 use Rattle.lane_server.specs.Lanes.{Closed, lane_count, input}
-use Rattle.lanes_word.specs.Alone.{lane_feed, text_of_lane, served_alone}
+use Rattle.lane_server.specs.Alone.{lane_feed, text_of_lane, served_alone}
 use Rattle.resume_word.specs.Record.{Behind}
 
 -- what stands of the run of a valid list of jobs

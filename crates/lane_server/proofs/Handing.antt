@@ -1,24 +1,19 @@
 -- What a line of the input hands to its lane.
-use Rattle.std.proofs.Common.{◌≡◌, ◌≤◌, ◌<◌, ◌+◌, ◌-◌, ℕ, suc, List, [], ◌∷◌, ◌++◌, length, map, refl, sym, ap, ◌∙◌}
+use Rattle.std.proofs.Common.{◌≡◌, ◌<◌, ◌+◌, ◌-◌, ℕ, suc, List, [], ◌∷◌, ◌++◌, length, map, refl, sym, ap, ◌∙◌}
 use Rattle.std.proofs.Common.{arith, Bool, true, false, cond, ◌==◌, Option, Some, None}
-use Rattle.std.specs.Prelude.{nat_lt, option_map}
+use Rattle.std.specs.Prelude.{option_map}
 use Rattle.std.specs.Option.{option_and_then}
 use Rattle.std.specs.List.{filter, flat_map, range_with_len}
-use Rattle.std.proofs.lemmas.Bool.{ne_eqb, eqb-false, lt-ltb, ltb-true}
+use Rattle.std.proofs.lemmas.Bool.{ne_eqb, eqb-false, lt-ltb}
 use Rattle.std.proofs.lemmas.List.{append-nil, map-append}
 use Rattle.std.proofs.lemmas.List.Elements.{filter-append}
-use Rattle.std.proofs.lemmas.List.Sums.{fold-append}
 use Rattle.std.proofs.lemmas.List.Splits.{join_with_byte-slice_split, length-slice_split}
-use Rattle.dover_model.specs.Limits.{most_lines}
 use Rattle.dover_model.specs.Lines.{fields_of, line_of}
 use Rattle.dover_model.specs.Numerals.{numeral}
 use Rattle.dover_model.specs.Feed.{Short}
 use Rattle.dover_model.specs.Due.{fault_text}
 use Rattle.line_text.specs.Reading.{number_of_first}
-use Rattle.lane_server.specs.Lanes.{lane_count, LaneLine, OfLane, Close, lane_line, numbered_line, of_lane, Handed}
-use Rattle.lane_server.specs.Lanes.{Input, Open, Closed, Faulty}
-use Rattle.lane_server.specs.Lanes.{InputStanding, TooManyLines, BadLane, no_input, next_line, with_lane_line, goes_on}
-use Rattle.lane_server.specs.Lanes.{input_of_lines}
+use Rattle.lane_server.specs.Lanes.{lane_count, OfLane, numbered_line, of_lane, Handed}
 use Rattle.lane_server.specs.Lanes.{lane_lines, in_lane, feed_short, lane_short, shorts_from}
 use Rattle.lane_server.specs.Shorts.{short_texts}
 
@@ -50,62 +45,10 @@ numbered_is (field ∷ more) number r read low = by_numeral (numeral field) refl
       by_more more refl same (is ∙ ap Some (ap (λ (p : ℕ × List (List ℕ)). p.0) both))
       ∙ ap (λ l. Some (OfLane number l)) (joined same)
 
--- ---- the input of one line more
-
--- the input of one line more
-input_next : (ls : List (List ℕ)) (l : List ℕ) → input_of_lines (ls ++ l ∷ []) ≡ next_line (input_of_lines ls) l
-input_next ls l = fold-append next_line no_input ls (l ∷ [])
-
--- a good line that isn't one too many
-next_good : (a : Input) (l : List ℕ) (x : LaneLine) → a.standing ≡ Open → suc a.lines ≤ most_lines
-    → lane_line l ≡ Some x
-    → next_line a l ≡ with_lane_line (record a { lines = suc a.lines }) x
-next_good a l x stands room reads =
-    by_parts (goes_on a) (nat_lt most_lines (suc a.lines)) (lane_line l) (opens a.standing stands)
-    (few (nat_lt most_lines (suc a.lines)) refl) reads where
-      opens : (s : InputStanding) → s ≡ Open
-          → elim s [ Open ↦ true | Closed ↦ false | Faulty line fault ↦ false ] ≡ true
-      opens Open e = refl
-      opens Closed e = absurd (let f : Closed ≡ Open = e in cc)
-      opens (Faulty line fault) e = absurd (let f : Faulty line fault ≡ Open = e in cc)
-
-      few : (b : Bool) → nat_lt most_lines (suc a.lines) ≡ b → b ≡ false
-      few true many = absurd (omega (arith, ltb-true most_lines (suc a.lines) many))
-      few false many = refl
-
-      by_parts : (b c : Bool) (o : Option LaneLine) → b ≡ true → c ≡ false → o ≡ Some x
-          → cond b (cond c (record a { lines = suc a.lines; standing = Faulty (suc a.lines) TooManyLines }) (elim o [
-            | None ↦ record a { lines = suc a.lines; standing = Faulty (suc a.lines) BadLane }
-            | Some line ↦ with_lane_line (record a { lines = suc a.lines }) line
-          ])) a ≡ with_lane_line (record a { lines = suc a.lines }) x
-      by_parts false c o e f g = absurd (let h : false ≡ true = e in cc)
-      by_parts true true o e f g = absurd (let h : true ≡ false = f in cc)
-      by_parts true false None e f g = absurd (let h : None ≡ Some x = g in cc)
-      by_parts true false (Some y) e f g = let same : y ≡ x = (let h : Some y ≡ Some x = g in cc) in
-          ap (with_lane_line (record a { lines = suc a.lines })) same
-
--- with a line of a lane
-pub input_fed : (ls : List (List ℕ)) (bytes : List ℕ) (lane : ℕ) (line : List ℕ) → (input_of_lines ls).standing ≡ Open
-    → suc (input_of_lines ls).lines ≤ most_lines → lane_line bytes ≡ Some (OfLane lane line)
-    → input_of_lines (ls ++ bytes ∷ []) ≡ record (input_of_lines ls) {
-      lines = suc (input_of_lines ls).lines;
-      handed = (input_of_lines ls).handed ++ record { lane = lane; line = line } ∷ [];
-    }
-input_fed ls bytes lane line stands room reads =
-    input_next ls bytes ∙ next_good (input_of_lines ls) bytes (OfLane lane line) stands room reads
-
--- with `close`
-pub input_closed : (ls : List (List ℕ)) (bytes : List ℕ) → (input_of_lines ls).standing ≡ Open
-    → suc (input_of_lines ls).lines ≤ most_lines → lane_line bytes ≡ Some Close
-    → input_of_lines (ls ++ bytes ∷ []) ≡ record (input_of_lines ls)
-    { lines = suc (input_of_lines ls).lines; standing = Closed }
-input_closed ls bytes stands room reads = input_next ls bytes
-    ∙ next_good (input_of_lines ls) bytes Close stands room reads
-
 -- ---- the lines of a lane
 
 -- a lane's lines, with one handed line more
-lines_with : (handed : List Handed) (h : Handed) (i : ℕ)
+pub lines_with : (handed : List Handed) (h : Handed) (i : ℕ)
     → lane_lines (handed ++ h ∷ []) i ≡ lane_lines handed i ++ cond (h.lane == i) (h.line ∷ []) []
 lines_with handed h i = ap (map (λ (x : Handed). x.line)) (filter-append (λ (x : Handed). x.lane == i) handed (h ∷ []))
     ∙ map-append (λ (x : Handed). x.line) (filter (λ (x : Handed). x.lane == i) handed)

@@ -20,7 +20,8 @@ use Rattle.lane_server.specs.declared.out.LaneOut.TheVariants.{Refused}
 use Rattle.lane_server.specs.declared.lane.Lane.{Lane}
 use Rattle.lane_server.specs.declared.lanes.Phase.{Phase}
 use Rattle.lane_server.specs.declared.lanes.Phase.TheVariants.{Ready, Giving, Closing}
-use Rattle.lane_server.proofs.Handing.{input_fed, input_closed, lines_same, lines_other, shorts_over}
+use Rattle.lane_server.proofs.Inputs.{input_fed, input_closed}
+use Rattle.lane_server.proofs.Handing.{lines_same, lines_other, shorts_over}
 
 -- ---- elements
 
@@ -124,7 +125,7 @@ module _ {D : Type 0} {serves : Serving D} {having : Having D} where
   feed_stands kept ls bytes lane at line l u it ready low within reads same is given =
       let left = ready_left kept ls [] it ready in
       let room : HasRoom ls = has_room kept ls [] it low in
-      let fed = input_fed ls bytes lane line left.0 room reads in
+      let fed = input_fed ls bytes left.0 room lane line reads in
       let own : List (List ℕ) = lines_added (lane_lines (input_of_lines ls).handed lane) line in
       let quiet : IsQuiet serves having l (lane_lines (input_of_lines ls).handed lane) =
       one_quiet kept.lanes (input_of_lines ls).handed lane at l left.2 it.count within same is in record {

@@ -2,7 +2,12 @@ pub mod Printing
 pub mod Owing
 pub mod Adding
 pub mod Taking
+pub mod Inputs
+pub mod Feedless
+pub mod Alone
+pub mod LaneFeeds
 pub mod Handing
+pub mod Receiving
 pub mod Keeping
 pub mod Fine
 pub mod Few

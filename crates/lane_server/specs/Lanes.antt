@@ -60,6 +60,11 @@ pub record Input : Type 0 where
   pub handed : List Handed  -- in order
   pub standing : InputStanding
 
+-- a lane has a line
+abbrev pub HasLine : List Handed → Type 0
+HasLine [] = ⊥
+HasLine (h ∷ handed) = Unit {0}
+
 -- the input of no lines
 abbrev pub no_input : Input
 no_input = record { lines = 0; handed = []; standing = Open }
@@ -75,8 +80,12 @@ read_lane_line a bytes = if nat_lt most_lines a.lines then record a { standing =
     elim (lane_line bytes) [ None ↦ record a { standing = Faulty a.lines BadLane } | Some line ↦ with_lane_line a line ]
 
 -- neither closed nor faulty
+abbrev pub goes_on_at : InputStanding → Bool
+goes_on_at s = elim s [ Open ↦ true | Closed ↦ false | Faulty line fault ↦ false ]
+
+-- so is the input
 abbrev pub goes_on : Input → Bool
-goes_on a = elim a.standing [ Open ↦ true | Closed ↦ false | Faulty line fault ↦ false ]
+goes_on a = goes_on_at a.standing
 
 -- the next line; after `close` or a fault, lines are disregarded
 abbrev pub next_line : Input → List ℕ → Input

@@ -2,10 +2,14 @@
 #![tactic(auto)]
 
 mod lane;
+mod lane_input;
 mod lanes;
 mod out;
 mod reading;
+mod refusal;
 
 pub use lane::Lane;
+pub use lane_input::{LaneInput, Refused};
 pub use lanes::{LaneFault, LaneStep, Lanes};
 pub use out::LaneOut;
+pub use refusal::Refusal;

@@ -1,4 +1,3 @@
 pub mod Talk
 pub mod Record
-pub mod Alone
 pub mod Keeping

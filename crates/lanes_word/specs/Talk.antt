@@ -1,9 +1,9 @@
 -- What the word `lanes` says, by the bytes got.
-use Rattle.std.specs.Prelude.{◌≡◌, List, [], ◌∷◌, false, if◌then◌else◌}
+use Rattle.std.specs.Prelude.{◌≡◌, false, if◌then◌else◌}
 use Rattle.dover_port.specs.declared.status.Status.{Status}
 use Rattle.dover_port.specs.declared.status.Status.TheVariants.{Done, Refused}
 use Rattle.dialogue.specs.Talk.{Talk}
-use Rattle.lane_server.specs.Lanes.{Input, Open, Closed, Faulty, Handed, input, goes_on, lane_due, lanes_closed}
+use Rattle.lane_server.specs.Lanes.{Input, Open, Closed, Faulty, HasLine, input, goes_on, lane_due, lanes_closed}
 use Rattle.lane_server.specs.Lanes.{all_ended}
 
 -- the status of a session that is over: done where `close` came, and each lane that has a line is ended without a fault
@@ -13,11 +13,6 @@ closing_status a = elim a.standing [
   | Closed ↦ if all_ended a.handed then Done else Refused
   | Faulty line fault ↦ Refused
 ]
-
--- a lane has a line
-abbrev pub HasLine : List Handed → Type 0
-HasLine [] = ⊥
-HasLine (h ∷ handed) = Unit {0}
 
 -- Each line for a lane is due as soon as it is settled. `close` or a fault of the whole input ends the talk, and the
 -- closing lines are its answer. Memory may be lacking at a line of a lane alone.

@@ -7,9 +7,10 @@ ghost use Rattle.lanes_word.specs.Record.{Serves};
 use crate::hosting::Hosting;
 use dialogue::converse;
 use dover_port::{Port, Status};
-use lane_server::Lanes;
+use lane_server::LaneInput;
 use ready_server::ReadyServer;
 use std::alloc::Global;
+use std::marker::PhantomData;
 use std::sync::ledger::Ledger;
 use step_count::Steps;
 
@@ -23,8 +24,14 @@ pub fn lanes_word<P: Port, L: Ledger>(alloc: Global, port: &mut P, steps: &mut S
         (P.write_faults port.new) }
     ensures stops { StopsWith result (P.calls port.old) (P.calls port.new) }
 {
-    match Lanes::<ReadyServer>::new(alloc) {
-        Ok(lanes) => converse(port, Hosting::new(lanes), steps),
+    match LaneInput::<ReadyServer>::new(alloc) {
+        Ok(input) => {
+            let hosting = Hosting {
+                input,
+                counts: PhantomData,
+            };
+            converse(port, hosting, steps)
+        }
         Err(_) => Status::Memory,
     }
 }

@@ -4,6 +4,5 @@
 mod hosting;
 mod lanes;
 mod lines;
-mod refusal;
 
 pub use lanes::lanes_word;

@@ -2,7 +2,8 @@ use Rattle.std.proofs.Common.{[], refl, ◌∙◌, arith}
 use Rattle.dover_model.specs.Lines.{lines_of}
 use Rattle.dialogue.proofs.Giving.{given_none, given_more, given_cut, given_all, given_few}
 use Rattle.lanes_word.specs.Keeping.{Leaves}
-use Rattle.lanes_word.proofs.Talking.{leaves_few}
+use Rattle.lane_server.proofs.Few.{few_left}
+use Rattle.lanes_word.proofs.Talking.{few_parts}
 use Rattle.lanes_word.proofs.hosting.put_left.Goals as goal
 
 pub loop-init : goal.loop-init
@@ -26,7 +27,7 @@ loop-preserved g c = record {
       given_more _ (λ y. Leaves g.D.Dispatcher.serves g.D.Dispatcher.has_room c.give_next.new.lanes (lines_of y))
       (λ y. Leaves g.D.Dispatcher.serves g.D.Dispatcher.has_room c.give_next.new.lanes (lines_of y) [])
       _ _ _ _ x parts _ given c.give_next.new.part
-      (rw c.if-not-give_next.false at (c.give_next.ensures.gives x given.left given.stands)) _ _
+      (rw c.if-not-give_next.false at (c.give_next.ensures x given.left given.stands)) _ _
       (rw c.bytes.ensures.is at c.in-Ok.ensures.text.all);
   writes = c.in-Ok.ensures.cause.ok ∙ c.loop.invariant.writes;
   reads = c.in-Ok.ensures.cause.other ∙ c.loop.invariant.reads;
@@ -39,7 +40,7 @@ returns-in-Err-clause-text g c = λ x parts it.
     given_cut _ (λ y. Leaves g.D.Dispatcher.serves g.D.Dispatcher.has_room c.give_next.new.lanes (lines_of y))
     (λ y. Leaves g.D.Dispatcher.serves g.D.Dispatcher.has_room c.give_next.new.lanes (lines_of y) [])
     _ _ _ _ x parts _ given c.give_next.new.part
-    (rw c.if-not-give_next.false at (c.give_next.ensures.gives x given.left given.stands)) _ _ c.in-Err.failed
+    (rw c.if-not-give_next.false at (c.give_next.ensures x given.left given.stands)) _ _ c.in-Err.failed
     (rw c.bytes.ensures.is at c.in-Err.ensures.text.part)
 
 pub returns-then-not-give_next-clause-text : goal.returns-then-not-give_next-clause-text
@@ -48,7 +49,7 @@ returns-then-not-give_next-clause-text g c = λ x parts it.
     given_all _ (λ y. Leaves g.D.Dispatcher.serves g.D.Dispatcher.has_room c.give_next.new.lanes (lines_of y))
     (λ y. Leaves g.D.Dispatcher.serves g.D.Dispatcher.has_room c.give_next.new.lanes (lines_of y) [])
     _ _ _ _ x parts _ given c.give_next.new.part
-    (rw c.if-not-give_next.true at (c.give_next.ensures.gives x given.left given.stands))
+    (rw c.if-not-give_next.true at (c.give_next.ensures x given.left given.stands))
 
 pub unreachable-requires : goal.unreachable-requires
 unreachable-requires g c =
@@ -58,6 +59,6 @@ unreachable-requires g c =
       given_few _ (λ y. Leaves g.D.Dispatcher.serves g.D.Dispatcher.has_room c.loop.lanes (lines_of y))
           (λ y. Leaves g.D.Dispatcher.serves g.D.Dispatcher.has_room c.loop.lanes (lines_of y) [])
           _ _ _ _ c.requires.0 c.requires.1 _ given
-          (leaves_few g.D.Dispatcher.serves g.D.Dispatcher.has_room c.args.lanes.now
-          (lines_of c.requires.0) c.requires.1 c.requires.2),
+          (few_parts c.requires.2.0 c.requires.1 c.requires.2.1
+          (few_left c.args.lanes.now (lines_of c.requires.0) c.requires.2.0 c.requires.2.2)),
     )

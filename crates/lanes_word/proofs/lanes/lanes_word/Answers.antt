@@ -3,14 +3,14 @@ use Rattle.dover_port.proofs.Made.{since_none, since_weaker}
 use Rattle.lanes_word.proofs.lanes.lanes_word.Goals as goal
 
 pub converse-requires : goal.converse-requires
-converse-requires g c = (tt, c.new-in-Ok.ensures)
+converse-requires g c = (tt, c.in-Ok.ensures)
 
 pub returns-in-Ok-clause-serves : goal.returns-in-Ok-clause-serves
-returns-in-Ok-clause-serves g c = since_weaker _ _ _ _ (c.converse.ensures.talks tt c.new-in-Ok.ensures)
+returns-in-Ok-clause-serves g c = since_weaker _ _ _ _ (c.converse.ensures.talks tt c.in-Ok.ensures)
     (λ moves it. inl it.0)
 
 pub returns-in-Ok-clause-ends : goal.returns-in-Ok-clause-ends
-returns-in-Ok-clause-ends g c = elim (c.converse.ensures.ends tt c.new-in-Ok.ensures) [
+returns-in-Ok-clause-ends g c = elim (c.converse.ensures.ends tt c.in-Ok.ensures) [
   | inl cut ↦ inl cut
   | inr it ↦ inr (it.0, inl it.1)
 ]

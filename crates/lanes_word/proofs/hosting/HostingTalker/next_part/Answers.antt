@@ -1,30 +1,21 @@
-use Rattle.std.proofs.Common.{sym, ◌∙◌}
-use Rattle.dover_model.specs.Lines.{lines_of}
-use Rattle.lanes_word.proofs.Handing.{open_holds}
-use Rattle.lanes_word.proofs.Talking.{none_over, gives_on}
+use Rattle.std.proofs.Common.{refl, ap, ◌∙◌}
+use Rattle.lanes_word.specs.Keeping.{parts_of}
 use Rattle.lanes_word.proofs.hosting.HostingTalker.next_part.Goals as goal
 
-pub returns-then-not-is_short : goal.returns-then-not-is_short
-returns-then-not-is_short g c = record {
-  gives = λ a x rest at. none_over g.D.Dispatcher.serves g.D.Dispatcher.has_room _ _ _ x rest at
-      (sym c.is_short.ensures ∙ c.if-not-is_short.true);
+pub next_out-requires : goal.next_out-requires
+next_out-requires g c = (c.requires.1, c.requires.3.0, c.requires.3.2)
+
+pub write_in_lane-requires : goal.write_in_lane-requires
+write_in_lane-requires g c = (c.in-Some.ensures c.requires.1 c.requires.3.0 c.requires.3.2).3
+
+pub returns-in-Some : goal.returns-in-Some
+returns-in-Some g c = record {
+  gives = λ a x rest at.
+      let given = c.in-Some.ensures x at.0 at.2 in
+      rw c.write_in_lane.ensures (parts_of given.0, at.1 ∙ ap parts_of given.1, (given.0, refl, given.2));
 }
 
-pub give_next-requires : goal.give_next-requires
-give_next-requires g c = (
-  c.requires.1,
-  c.requires.2,
-  (open_holds g.D.Dispatcher.serves g.D.Dispatcher.has_room _ (lines_of c.requires.1) c.requires.2 _
-      (sym c.is_short.ensures ∙ c.if-not-is_short.false)
-      c.requires.3.holds).1,
-)
-
-pub returns : goal.returns
-returns g c = record {
-  gives = λ a x rest at.
-      let is = sym c.is_short.ensures ∙ c.if-not-is_short.false in
-      gives_on g.D.Dispatcher.serves g.D.Dispatcher.has_room _ _ _ x rest at c.give_next.new.lanes
-      c.give_next.new.part c.give_next.result is
-      (c.give_next.ensures.gives x rest (open_holds g.D.Dispatcher.serves g.D.Dispatcher.has_room _
-      (lines_of x) rest _ is at.holds).1) c.give_next.ensures.ready;
+pub returns-in-None : goal.returns-in-None
+returns-in-None g c = record {
+  gives = λ a x rest at. let given = c.in-None.ensures x at.0 at.2 in (at.1 ∙ ap parts_of given.0, given.1);
 }

@@ -1,10 +1,10 @@
 //! Why an input is refused.
 ghost use Rattle.std.specs.Prelude.{◌≡◌, ◌≤◌, length};
-ghost use Rattle.lanes_word.specs.Keeping.{word_of};
+ghost use Rattle.lane_server.specs.LaneInput.{word_of};
 
 /// Why an input is refused as a whole.
-#[derive(Clone, Copy)]
-pub(crate) enum Refusal {
+#[derive(Clone, Copy, PartialEq, Eq)]
+pub enum Refusal {
     /// It ends before `close`.
     Short,
     /// It has more than 4,000,000 lines.
@@ -15,7 +15,7 @@ pub(crate) enum Refusal {
 
 impl Refusal {
     /// The word for it.
-    pub(crate) fn word(self) -> &'static [u8]
+    pub fn word(self) -> &'static [u8]
         ensures is { result.now ≡ word_of self }
         ensures fits { length result.now ≤ 5 }
     {

@@ -1,38 +1,32 @@
 use Rattle.std.proofs.Common.{[], ap, ◌∙◌}
 use Rattle.lane_server.specs.Kept.{Kept}
 use Rattle.lane_server.proofs.Keeping.{ready_left}
-use Rattle.lanes_word.proofs.Handing.{hands_fed, hands_close, hands_many, hands_bad, hands_lack}
-use Rattle.lanes_word.proofs.hosting.hand.Goals as goal
+use Rattle.lane_server.proofs.Receiving.{hands_fed, hands_close, hands_many, hands_bad, lacks}
+use Rattle.lane_server.proofs.lane_input.hand.Goals as goal
 
 pub returns-in-Ok-Fed : goal.returns-in-Ok-Fed
 returns-in-Ok-Fed g c = λ ls stands.
-    hands_fed g.D.Dispatcher.serves g.D.Dispatcher.has_room ls c.args.line.now c.line.new.self
-    (ready_left c.args.lanes.now ls [] stands c.requires.ready).0
+    hands_fed ls c.args.line.now (ready_left c.args.lanes.now ls [] stands c.requires.2).0 c.line.new.self
     c.in-Ok-Fed.field-0-0 (rw c.in-Ok-Fed.field-0-is at (c.in-Ok-Fed.ensures ls stands))
 
 pub returns-in-Ok-Closed : goal.returns-in-Ok-Closed
 returns-in-Ok-Closed g c = λ ls stands.
-    hands_close g.D.Dispatcher.serves g.D.Dispatcher.has_room ls c.args.line.now c.line.new.self
-    (ready_left c.args.lanes.now ls [] stands c.requires.ready).0
+    hands_close ls c.args.line.now (ready_left c.args.lanes.now ls [] stands c.requires.2).0 c.line.new.self
     (rw c.in-Ok-Closed.field-0-is at (c.in-Ok-Closed.ensures ls stands))
 
 pub returns-in-Err-Lines : goal.returns-in-Err-Lines
 returns-in-Err-Lines g c = λ ls stands.
     let it = rw c.in-Err-Lines.field-0-is at (c.in-Err-Lines.ensures ls stands) in
-    hands_many g.D.Dispatcher.serves g.D.Dispatcher.has_room ls c.args.line.now c.line.new.self
-    (ready_left c.args.lanes.now ls [] stands c.requires.ready).0
+    hands_many ls c.args.line.now (ready_left c.args.lanes.now ls [] stands c.requires.2).0 c.line.new.self
     (ap (λ (k : Kept _). k.lines) it.1 ∙ stands.counted) it.0
 
 pub returns-in-Err-BadLane : goal.returns-in-Err-BadLane
 returns-in-Err-BadLane g c = λ ls stands.
     let it = rw c.in-Err-BadLane.field-0-is at (c.in-Err-BadLane.ensures ls stands) in
-    hands_bad g.D.Dispatcher.serves g.D.Dispatcher.has_room ls c.args.line.now c.line.new.self
-    (ready_left c.args.lanes.now ls [] stands c.requires.ready).0
+    hands_bad ls c.args.line.now (ready_left c.args.lanes.now ls [] stands c.requires.2).0 c.line.new.self
     (ap (λ (k : Kept _). k.lines) it.2 ∙ stands.counted) it.0 it.1
 
 pub returns-in-Err-Memory : goal.returns-in-Err-Memory
 returns-in-Err-Memory g c = λ ls stands.
     let it = rw c.in-Err-Memory.field-0-is at (c.in-Err-Memory.ensures ls stands) in
-    hands_lack g.D.Dispatcher.serves g.D.Dispatcher.has_room ls c.args.line.now c.line.new.self
-    (ready_left c.args.lanes.now ls [] stands c.requires.ready).0
-    _ it.0 it.1.0 it.1.1 it.1.2
+    lacks ls c.args.line.now (ready_left c.args.lanes.now ls [] stands c.requires.2).0 it.0 it.1.0 it.1.1 it.1.2

@@ -8,26 +8,26 @@ use Rattle.std.proofs.lemmas.Bool.{and_parts, cases_lt}
 use Rattle.std.proofs.lemmas.List.{append-nil}
 use Rattle.dover_model.specs.Lines.{whole_lines, in_lines}
 use Rattle.dover_model.specs.Feed as feeds
-use Rattle.dover_model.specs.Feed.{Account, Standing, Short, account, account_of_lines, is_ended}
+use Rattle.dover_model.specs.Feed.{Standing, Short, account, account_of_lines, is_ended}
 use Rattle.dover_model.specs.Due.{due, fault_text}
 use Rattle.dover_model.proofs.Tests.{never}
 use Rattle.lane_server.specs.Lanes.{lane_count, Handed, Input, InputStanding, Open, Closed, Faulty}
 use Rattle.lane_server.specs.Lanes.{input, lane_lines, is_fine, all_ended}
-use Rattle.lanes_word.specs.Alone.{lane_feed, closed_feed, served_alone}
-use Rattle.lanes_word.proofs.Alone.{lane_feed_account}
+use Rattle.lane_server.specs.Alone.{lane_feed, closed_feed, served_alone}
+use Rattle.lane_server.proofs.Alone.{lane_feed_account}
 
 -- a test that all numbers of a range pass
 passes : (test : ℕ → Bool) (from count n : ℕ) → list_all test (range_with_len from count) ≡ true → from ≤ n
     → n < from + count → test n ≡ true
 passes test from zero n all least most = absurd (omega arith)
 passes test from (suc count) n all least most = by_order (cases_lt from n)
-    (and_parts (test from) (list_all test (range_with_len (from + 1) count)) all)
-    (λ later rest. passes test (from + 1) count n rest (omega arith) (omega arith)) where
-      by_order : (from < n) ⊎ (n ≤ from) → (test from ≡ true) × (list_all test (range_with_len (from + 1) count) ≡ true)
-          → (from < n → list_all test (range_with_len (from + 1) count) ≡ true → test n ≡ true) → test n ≡ true
-      by_order (inl later) both behind = behind later both.1
-      by_order (inr same) both behind =
-          subst (λ m. test m ≡ true) {x = from} {y = n} (omega (arith, same, least)) both.0
+    (λ later. passes test (from + 1) count n both.1 (omega arith) (omega arith)) where
+      both : (test from ≡ true) × (list_all test (range_with_len (from + 1) count) ≡ true)
+      both = and_parts (test from) (list_all test (range_with_len (from + 1) count)) all
+
+      by_order : (from < n) ⊎ (n ≤ from) → (from < n → test n ≡ true) → test n ≡ true
+      by_order (inl later) behind = behind later
+      by_order (inr same) behind = subst (λ m. test m ≡ true) {x = from} {y = n} (omega (arith, same, least)) both.0
 
 -- a feed that has a line and is fine has ended
 fine_ended : (ls : List (List ℕ)) → is_fine ls ≡ true → (ls ≡ [] → ⊥) → is_ended (account_of_lines ls) ≡ true
@@ -67,11 +67,7 @@ closed_ended (b ∷ F) ended =
 pub served_ended : (a : Input) (lane : ℕ) → is_ended (account (lane_feed a lane)) ≡ true
     → served_alone a lane ≡ due (lane_feed a lane)
 served_ended a lane ended = by_standing a.standing where
-  by_standing : (s : InputStanding) → elim s [
-    | Open ↦ due (lane_feed a lane)
-    | Closed ↦ closed_feed (lane_feed a lane)
-    | Faulty line fault ↦ due (lane_feed a lane)
-  ] ≡ due (lane_feed a lane)
+  by_standing : (s : InputStanding) → served_alone (record a { standing = s }) lane ≡ due (lane_feed a lane)
   by_standing Open = refl
   by_standing Closed = closed_ended (lane_feed a lane) ended
   by_standing (Faulty line fault) = refl

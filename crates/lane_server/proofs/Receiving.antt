@@ -1,0 +1,292 @@
+-- What an input of lanes holds of its lines and bytes.
+use Rattle.std.proofs.Common.{◌≡◌, ◌<◌, ◌≤◌, ◌+◌, ℕ, suc, List, [], ◌∷◌, ◌++◌, length, refl, sym, ap, ◌∙◌, subst}
+use Rattle.std.proofs.Common.{Option, Some, None, Result, Ok, Err, Bool, true, false, cond, append-nil, arith}
+use Rattle.std.specs.Option.{IsNone}
+use Rattle.dover_model.specs.declared.Memory.{Memory}
+use Rattle.dover_model.specs.Limits.{most_lines}
+use Rattle.dover_model.specs.Lines.{lines_of, whole_lines}
+use Rattle.dover_model.proofs.Tests.{never}
+use Rattle.line_text.specs.Cutting as cuts
+use Rattle.lane_server.specs.Lanes as lanes
+use Rattle.lane_server.specs.Lanes.{OfLane, lane_line, Handed, Input, InputStanding, InputFault, Open, Closed, Faulty}
+use Rattle.lane_server.specs.Lanes.{HasLine, goes_on_at, goes_on, input, input_of_lines, newly_due, due_after}
+use Rattle.lane_server.specs.Lanes.{lane_count, shorts_from, refused_line, closing_lines}
+use Rattle.lane_server.specs.Lane.{Serving, Having}
+use Rattle.lane_server.specs.Kept as keeping
+use Rattle.lane_server.specs.Kept.{Kept, StandsFor, Answers, IsReady, is_closed, GivesNext}
+use Rattle.lane_server.specs.LaneInput.{word_of, standing_of, LeavesAt, Holds, Stands, Rests, Hands, Adds}
+use Rattle.lane_server.specs.LaneInput.{GivesDue, Ends}
+use Rattle.lane_server.specs.declared.lanes.Phase.{Phase}
+use Rattle.lane_server.specs.declared.lanes.Phase.TheVariants.{Ready, Giving, Closing}
+use Rattle.lane_server.specs.declared.out.LaneOut.{LaneOut}
+use Rattle.lane_server.specs.declared.refusal.Refusal.{Refusal}
+use Rattle.lane_server.specs.declared.refusal.Refusal.TheVariants.{Short, TooManyLines, BadLane}
+use Rattle.lane_server.specs.declared.lane_input.LaneInput.{LaneInput}
+use Rattle.lane_server.proofs.Few.{few_left}
+use Rattle.lane_server.proofs.Inputs.{is_open, due_fed, input_fed, input_closed, input_many, input_bad, few_lines}
+use Rattle.lane_server.proofs.Inputs.{short_rest, whole_counted}
+
+-- the bytes with one more, behind a line that may still go on
+pub with_it : (x : List ℕ) (byte : ℕ) → goes_on (input x) ≡ true → cuts.with_byte x byte ≡ x ++ byte ∷ []
+with_it x byte goes = ap (λ b. cond b x (x ++ byte ∷ [])) (short_rest x goes)
+
+module _ {D : Type 0} {serves : Serving D} {having : Having D} where
+  -- ---- what is held
+
+  -- lines by which the input stands so
+  holds_so : (r : Option Refusal) (kept : Kept D) (ls left : List (List ℕ))
+      → (input_of_lines ls).standing ≡ standing_of kept.lines r
+      → LeavesAt serves having (standing_of kept.lines r) kept ls left
+      → Holds serves having r kept ls left
+  holds_so r kept ls left stands leaves =
+      record { stands = stands; leaves = subst (λ s. LeavesAt serves having s kept ls left) (sym stands) leaves }
+
+  module _ (r : Option Refusal) (kept : Kept D) (ls left : List (List ℕ)) (it : Holds serves having r kept ls left) where
+    -- what is left by why it would be refused
+    leaves_so : LeavesAt serves having (standing_of kept.lines r) kept ls left
+    leaves_so = subst (λ s. LeavesAt serves having s kept ls left) it.stands it.leaves
+
+    module _ (on : goes_on (input_of_lines ls) ≡ true) where
+      -- while the input goes on, the lanes took all lines
+      holds_open : StandsFor serves having kept ls left
+      holds_open = subst (λ s. LeavesAt serves having s kept ls left) (is_open (input_of_lines ls) on) it.leaves
+
+      -- it is held on as the lanes give lines
+      holds_on : (new : Kept D) (more : List (List ℕ)) → StandsFor serves having new ls more
+          → Holds serves having r new ls more
+      holds_on new more stands = record {
+        stands = it.stands ∙ ap (λ n. standing_of n r) (holds_open.counted ∙ sym stands.counted);
+        leaves = subst (λ s. LeavesAt serves having s new ls more) (sym (is_open (input_of_lines ls) on)) stands;
+      }
+
+      -- `close` didn't come
+      unclosed : is_closed kept ≡ false
+      unclosed = by kept.phase holds_open.left where
+        by : (p : Phase) → keeping.Leaves serves having p kept.lanes (input_of_lines ls) left
+            → elim p [ Ready ↦ false | Giving lane ↦ false | Closing next ↦ true ] ≡ false
+        by Ready at = refl
+        by (Giving lane) at = refl
+        by (Closing next) at = never (sym (ap goes_on_at at.0) ∙ on)
+
+    -- once it doesn't, nothing is left
+    holds_over : goes_on (input_of_lines ls) ≡ false → (left ≡ []) × Holds serves having r kept ls []
+    holds_over over = let both = by (input_of_lines ls).standing over it.leaves in
+        (both.0, record { stands = it.stands; leaves = both.1 }) where
+          by : (s : InputStanding) → goes_on_at s ≡ false → LeavesAt serves having s kept ls left
+              → (left ≡ []) × LeavesAt serves having s kept ls []
+          by Open over it = never (sym over)
+          by Closed over it = (it.0, (refl, it.1))
+          by (Faulty line fault) over it = (it.0, (refl, it.1))
+
+-- ---- a line
+
+module _ (ls : List (List ℕ)) (bytes : List ℕ) (opened : (input_of_lines ls).standing ≡ Open) where
+  -- the input so far
+  abbrev a : Input
+  a = input_of_lines ls
+
+  -- the input with the line
+  abbrev b : Input
+  b = input_of_lines (ls ++ bytes ∷ [])
+
+  -- a line of a lane is one that a lane has
+  pub lacks : suc a.lines ≤ most_lines → (lane : ℕ) (line : List ℕ) → lane_line bytes ≡ Some (OfLane lane line)
+      → HasLine b.handed
+  lacks room lane line reads = subst (λ (c : Input). HasLine c.handed)
+      (sym (input_fed ls bytes opened room lane line reads)) (by a.handed) where
+        by : (handed : List Handed) → HasLine (handed ++ record { lane = lane; line = line } ∷ [])
+        by [] = tt
+        by (x ∷ handed) = tt
+
+  module _ {D : Type 0} {serves : Serving D} {having : Having D} (kept : Kept D) where
+    -- a line that hands in nothing
+    hands_none : (r : Option Refusal) → b.handed ≡ a.handed → b.standing ≡ standing_of kept.lines r
+        → LeavesAt serves having (standing_of kept.lines r) kept (ls ++ bytes ∷ []) []
+        → Hands serves having kept ls bytes (Ok r)
+    hands_none r same stands leaves = (
+      [],
+      ap (due_after []) same ∙ sym (append-nil (due_after [] a.handed)),
+      holds_so r kept (ls ++ bytes ∷ []) [] stands leaves,
+    )
+
+    -- a line at fault
+    hands_fault : (r : Refusal) (fault : InputFault) → kept.lines ≡ a.lines
+        → standing_of kept.lines (Some r) ≡ Faulty (suc kept.lines) fault
+        → b ≡ record a { lines = suc a.lines; standing = Faulty (suc a.lines) fault }
+        → Hands serves having kept ls bytes (Ok (Some r))
+    hands_fault r fault counted named is = hands_none (Some r) (ap (λ (c : Input). c.handed) is)
+        (ap (λ (c : Input). c.standing) is ∙ ap (λ n. Faulty (suc n) fault) (sym counted) ∙ sym named)
+        (subst (λ s. LeavesAt serves having s kept (ls ++ bytes ∷ []) []) (sym named)
+        (refl, omega (arith, counted, few_lines ls (ap goes_on_at opened))))
+
+    -- a line of a lane
+    pub hands_fed : (lane : ℕ) → keeping.IsFed serves having lane kept ls bytes
+        → Hands serves having kept ls bytes (Ok (Some Short))
+    hands_fed lane fed =
+        let taken : Handed = record { lane = lane; line = fed.line } in
+        let is : b ≡ record a { lines = suc a.lines; handed = a.handed ++ taken ∷ [] } =
+        input_fed ls bytes opened fed.room lane fed.line fed.reads in (
+          newly_due a.handed taken,
+          ap (λ (c : Input). due_after [] c.handed) is ∙ due_fed a.handed taken,
+          holds_so (Some Short) kept (ls ++ bytes ∷ []) (newly_due a.handed taken)
+              (ap (λ (c : Input). c.standing) is ∙ opened) fed.stands,
+        )
+
+    -- `close`
+    pub hands_close : keeping.IsClosed serves having kept ls bytes → Hands serves having kept ls bytes (Ok None)
+    hands_close closed =
+        let is : b ≡ record a { lines = suc a.lines; standing = Closed } =
+        input_closed ls bytes opened closed.room closed.reads in
+        hands_none None (ap (λ (c : Input). c.handed) is) (ap (λ (c : Input). c.standing) is) (
+          refl,
+          subst (λ (c : Input). StandsFor serves having kept (ls ++ bytes ∷ []) (shorts_from c.handed 0 lane_count))
+              (sym is) closed.stands,
+        )
+
+    -- one line too many
+    pub hands_many : kept.lines ≡ a.lines → most_lines < suc a.lines
+        → Hands serves having kept ls bytes (Ok (Some TooManyLines))
+    hands_many counted many =
+        hands_fault TooManyLines lanes.TooManyLines counted refl (input_many ls bytes opened many)
+
+    -- a line of no lane
+    pub hands_bad : kept.lines ≡ a.lines → suc a.lines ≤ most_lines → lane_line bytes ≡ None
+        → Hands serves having kept ls bytes (Ok (Some BadLane))
+    hands_bad counted room none =
+        hands_fault BadLane lanes.BadLane counted refl (input_bad ls bytes opened room none)
+
+module _ {D : Type 0} {serves : Serving D} {having : Having D} where
+  -- ---- bytes
+
+  module _ (i : LaneInput D) (x : List ℕ) where
+    module _ (left : List (List ℕ)) (at : Stands serves having i x left) where
+      -- few lines are left
+      pub few_stand : length left ≤ 5_000_001
+      few_stand = by (goes_on (input x)) refl where
+        by : (b : Bool) → goes_on (input x) ≡ b → length left ≤ 5_000_001
+        by true on = few_left i.lanes (lines_of x) left (holds_open i.refusal i.lanes (lines_of x) left at.holds on)
+        by false over = omega (
+          arith,
+          ap (λ (l : List (List ℕ)). length l) (holds_over i.refusal i.lanes (lines_of x) left at.holds over).0,
+        )
+
+      -- whether it goes on
+      pub goes_so : goes_on_at (standing_of i.lanes.lines i.refusal) ≡ goes_on (input x)
+      goes_so = sym (ap goes_on_at at.holds.stands)
+
+      -- none is left once it doesn't
+      pub none_over : goes_on (input x) ≡ false → (left ≡ []) × Rests serves having i x
+      none_over over = let both = holds_over i.refusal i.lanes (lines_of x) left at.holds over in (
+        both.0,
+        record { stands = record { cut = at.cut; holds = both.1 }; ready = λ on. never (sym over ∙ on) },
+      )
+
+      module _ (on : goes_on (input x) ≡ true) where
+        -- while it does, the lanes took all lines
+        pub lanes_stand : StandsFor serves having i.lanes (lines_of x) left
+        lanes_stand = holds_open i.refusal i.lanes (lines_of x) left at.holds on
+
+        -- and give what is left
+        pub gives_on : (new : Kept D) (o : Option (ℕ × LaneOut)) → GivesNext serves having o new (lines_of x) left
+            → (IsNone o → is_closed i.lanes ≡ false → IsReady new)
+            → GivesDue serves having o (record i { lanes = new }) x left
+        gives_on new None gives rests = (
+          gives.0,
+          record {
+            stands = record {
+              cut = at.cut;
+              holds = holds_on i.refusal i.lanes (lines_of x) left at.holds on new [] gives.1;
+            };
+            ready = λ goes. rests refl (unclosed i.refusal i.lanes (lines_of x) left at.holds on);
+          },
+        )
+        gives_on new (Some given) gives rests = (
+          gives.0,
+          gives.1,
+          record {
+            cut = at.cut;
+            holds = holds_on i.refusal i.lanes (lines_of x) left at.holds on new gives.0 gives.2;
+          },
+          gives.3,
+          gives.4,
+        )
+
+    -- while it goes on, lines may come
+    pub may_take : Rests serves having i x → goes_on (input x) ≡ true
+        → (ls : List (List ℕ)) × StandsFor serves having i.lanes ls [] × IsReady i.lanes
+    may_take at on = (lines_of x, lanes_stand [] at.stands on, at.ready on)
+
+    -- ---- a front of a piece
+
+    module _ (front : List ℕ) (cut : cuts.StandsFor i.lines (x ++ front)) where
+      -- no line has ended
+      pub adds_none : (r : Option Refusal) → goes_on (input x) ≡ true → lines_of (x ++ front) ≡ lines_of x
+          → Holds serves having r i.lanes (lines_of x) [] → Adds serves having i x front (Ok (Some Short))
+      adds_none r on same holds = (
+        [],
+        ap (λ ls. due_after [] (input_of_lines ls).handed) same ∙ sym (append-nil (due_after [] (input x).handed)),
+        record {
+          cut = cut;
+          holds = subst (λ ls. Holds serves having (Some Short) i.lanes ls []) (sym same)
+              (holds_so (Some Short) i.lanes (lines_of x) [] (is_open (input x) on)
+              (holds_open r i.lanes (lines_of x) [] holds on));
+        },
+      )
+
+  -- ---- the end
+
+  -- `close` came
+  pub ends_closed : (kept : Kept D) (x : List ℕ) → Holds serves having None kept (lines_of x) []
+      → Ends serves having (Ok kept) x
+  ends_closed kept x it = (it.stands, (leaves_so None kept (lines_of x) [] it).1)
+
+  -- the line that refuses the input
+  pub refuses : (r : Refusal) (kept : Kept D) (x : List ℕ) → Holds serves having (Some r) kept (lines_of x) []
+      → (kept.lines ≤ most_lines) × ((input x).standing ≡ Closed → ⊥)
+      × (closing_lines (length (whole_lines x)) (input x) ≡ refused_line (kept.lines + 1) (word_of r) ∷ [])
+  refuses r kept x it = by r it.stands (leaves_so (Some r) kept (lines_of x) [] it) where
+    last : (s : InputStanding) → (input x).standing ≡ s
+        → closing_lines (length (whole_lines x)) (input x)
+        ≡ closing_lines (length (whole_lines x)) (record (input x) { standing = s })
+    last s is = ap (λ t. closing_lines (length (whole_lines x)) (record (input x) { standing = t })) is
+
+    one_more : (n m : ℕ) (word : List ℕ) → suc n ≡ m → refused_line (suc n) word ∷ [] ≡ refused_line m word ∷ []
+    one_more n m word is = ap (λ k. refused_line k word ∷ []) is
+
+    by : (r : Refusal) → (input x).standing ≡ standing_of kept.lines (Some r)
+        → LeavesAt serves having (standing_of kept.lines (Some r)) kept (lines_of x) []
+        → (kept.lines ≤ most_lines) × ((input x).standing ≡ Closed → ⊥)
+        × (closing_lines (length (whole_lines x)) (input x) ≡ refused_line (kept.lines + 1) (word_of r) ∷ [])
+    by Short is leaves =
+        let on : goes_on (input x) ≡ true = ap goes_on_at is in (
+          omega (arith, leaves.counted, few_lines (lines_of x) on),
+          λ closed. never (sym (ap goes_on_at closed) ∙ on),
+          last Open is ∙ one_more (length (whole_lines x)) (kept.lines + 1) (word_of Short)
+              (omega (arith, leaves.counted, whole_counted x on)),
+        )
+    by TooManyLines is leaves = (
+      leaves.1,
+      λ closed. absurd (let e : Closed ≡ Faulty (suc kept.lines) lanes.TooManyLines = sym closed ∙ is in cc),
+      last (Faulty (suc kept.lines) lanes.TooManyLines) is
+          ∙ one_more kept.lines (kept.lines + 1) (word_of TooManyLines) (omega arith),
+    )
+    by BadLane is leaves = (
+      leaves.1,
+      λ closed. absurd (let e : Closed ≡ Faulty (suc kept.lines) lanes.BadLane = sym closed ∙ is in cc),
+      last (Faulty (suc kept.lines) lanes.BadLane) is
+          ∙ one_more kept.lines (kept.lines + 1) (word_of BadLane) (omega arith),
+    )
+
+-- what a line adds is left to give
+pub adds_line : {D : Type 0} (serves : Serving D) (having : Having D) (i : LaneInput D) (x front line : List ℕ)
+    → cuts.StandsFor i.lines (x ++ front)
+    → lines_of (x ++ front) ≡ lines_of x ++ line ∷ []
+    → (result : Result (Option Refusal) Memory) → Hands serves having i.lanes (lines_of x) line result
+    → Adds serves having i x front result
+adds_line serves having i x front line cut more (Ok r) it = (
+  it.0,
+  ap (λ ls. due_after [] (input_of_lines ls).handed) more ∙ it.1,
+  record { cut = cut; holds = subst (λ ls. Holds serves having r i.lanes ls it.0) (sym more) it.2 },
+)
+adds_line serves having i x front line cut more (Err e) it =
+    subst (λ ls. HasLine (input_of_lines ls).handed) (sym more) it

@@ -1,0 +1,157 @@
+//! The bytes of many feeds that come in one input.
+ghost use Rattle.std.specs.Prelude.{◌≡◌, ◌<◌, ◌∷◌, ℕ, List, [], true, length, IfOk};
+ghost use Rattle.line_text.specs.Cutting.{IsWholeLine};
+ghost use Rattle.lane_server.specs.Kept as kept;
+ghost use Rattle.lane_server.specs.Lanes.{goes_on, goes_on_at, input};
+ghost use Rattle.lane_server.specs.LaneInput.{standing_of, Stands, Rests, Hands, Adds, Takes, GivesDue, Ends};
+
+use crate::lanes::{LaneFault, LaneStep, Lanes};
+use crate::out::LaneOut;
+use crate::refusal::Refusal;
+use dispatcher::Dispatcher;
+use dover_model::Memory;
+use line_text::{Lines, Step};
+use std::alloc::Global;
+use std::sync::ledger::Ledger;
+use step_count::Steps;
+
+/// The line at which an input is refused, and why.
+#[derive(Clone, Copy, PartialEq, Eq)]
+pub struct Refused {
+    pub line: u64,
+    pub cause: Refusal,
+}
+
+/// Up to 64 feeds that come in one input, piece by piece: the line that has begun, the lanes, and why the input is
+/// refused if no more of it comes. It isn't where `close` came, and while it goes on, it is short.
+#[derive(Drop)]
+pub struct LaneInput<D> {
+    lines: Lines,
+    lanes: Lanes<D>,
+    refusal: Option<Refusal>,
+}
+
+/// Hands a line to the lanes, and says why the input is then refused if no more of it comes.
+fn hand<D: Dispatcher>(lanes: &mut Lanes<D>, line: &[u8]) -> Result<Option<Refusal>, Memory>
+    requires { (ls : List (List ℕ)) × kept.StandsFor D.serves D.has_room lanes.old ls [] × kept.IsReady lanes.old }
+    ensures { (ls : List (List ℕ)) → kept.StandsFor D.serves D.has_room lanes.old ls []
+        → Hands D.serves D.has_room lanes.new ls line.now result }
+{
+    match lanes.line(line) {
+        Ok(LaneStep::Fed(_)) => Ok(Some(Refusal::Short)),
+        Ok(LaneStep::Closed) => Ok(None),
+        Err(LaneFault::Lines) => Ok(Some(Refusal::TooManyLines)),
+        Err(LaneFault::BadLane) => Ok(Some(Refusal::BadLane)),
+        Err(LaneFault::Memory) => Err(Memory),
+    }
+}
+
+fn is_short(refusal: Option<Refusal>) -> bool
+    ensures { (lines : ℕ) → result ≡ goes_on_at (standing_of lines refusal) }
+{
+    match refusal {
+        Some(Refusal::Short) => true,
+        _ => false,
+    }
+}
+
+impl<D: Dispatcher> LaneInput<D> {
+    /// No byte came yet. Err where there is no memory.
+    pub fn new(alloc: Global) -> Result<LaneInput<D>, Memory>
+        ensures { IfOk result (λ i. Rests D.serves D.has_room i []) }
+    {
+        Ok(LaneInput {
+            lines: Lines::new(),
+            lanes: Lanes::new(alloc)?,
+            refusal: Some(Refusal::Short),
+        })
+    }
+
+    /// Takes a byte, and says why the input is then refused if no more of it comes.
+    fn take_byte(&mut self, byte: u8) -> Result<Option<Refusal>, Memory>
+        requires { (x : List ℕ) × Rests D.serves D.has_room self.old x × (goes_on (input x) ≡ true) }
+        ensures { (x : List ℕ) → Rests D.serves D.has_room self.old x → goes_on (input x) ≡ true
+            → Adds D.serves D.has_room self.new x (byte ∷ []) result }
+    {
+        match self.lines.push(byte) {
+            Step::More => Ok(Some(Refusal::Short)),
+            Step::Line => hand(&mut self.lanes, self.lines.line()),
+            Step::TooLong => hand(&mut self.lanes, self.lines.line()),
+        }
+    }
+
+    /// Takes a byte or a whole line, and says why the input is then refused if no more of it comes.
+    fn take_front(&mut self, bytes: &[u8]) -> Result<Option<Refusal>, Memory>
+        requires some { 0 < length bytes.now }
+        requires whole { 1 < length bytes.now → IsWholeLine self.old.lines bytes.now }
+        requires rests { (x : List ℕ) × Rests D.serves D.has_room self.old x × (goes_on (input x) ≡ true) }
+        ensures { (x : List ℕ) → Rests D.serves D.has_room self.old x → goes_on (input x) ≡ true
+            → Adds D.serves D.has_room self.new x bytes.now result }
+    {
+        if bytes.len() > 1 {
+            return hand(&mut self.lanes, self.lines.pass(bytes));
+        }
+        self.take_byte(bytes[0])
+    }
+
+    /// Takes a front of the piece, a byte or a whole line, and says how many bytes, where the input goes on and all
+    /// lines that were due before were given: at first, and then where `next_out` has answered None.
+    ///
+    /// # Errors
+    ///
+    /// `Memory` where there is none for a lane's server or for its job; then the input is no longer of use.
+    pub fn take(&mut self, piece: &[u8]) -> Result<usize, Memory>
+        requires some { 0 < length piece.now }
+        requires rests { (x : List ℕ) × Rests D.serves D.has_room self.old x × (goes_on (input x) ≡ true) }
+        ensures { (x : List ℕ) → Rests D.serves D.has_room self.old x → goes_on (input x) ≡ true
+            → Takes D.serves D.has_room self.new x piece.now result }
+    {
+        let count = self.lines.front(piece);
+        match self.take_front(&piece[..count]) {
+            Ok(refusal) => {
+                self.refusal = refusal;
+                Ok(count)
+            }
+            Err(error) => Err(error),
+        }
+    }
+
+    /// The next line due, and the lane that it is of. None where all that is due was given. The short lines that
+    /// `close` adds aren't among them: the lanes give those at the end.
+    pub fn next_out<L: Ledger>(&mut self, steps: &mut Steps<L>) -> Option<(u8, LaneOut)>
+        requires { (x : List ℕ) × (left : List (List ℕ)) × Stands D.serves D.has_room self.old x left }
+        ensures { (x : List ℕ) (left : List (List ℕ)) → Stands D.serves D.has_room self.old x left
+            → GivesDue D.serves D.has_room result self.new x left }
+    {
+        if !is_short(self.refusal) {
+            return None;
+        }
+        self.lanes.next_out(steps)
+    }
+
+    /// Whether neither `close` nor a fault of the whole input came.
+    pub fn goes_on(&self) -> bool
+        ensures { (x : List ℕ) (left : List (List ℕ)) → Stands D.serves D.has_room self.now x left
+            → result ≡ goes_on (input x) }
+    {
+        is_short(self.refusal)
+    }
+
+    /// Where `close` came the lanes, of which the short lines are left to give.
+    ///
+    /// # Errors
+    ///
+    /// Else why the input is refused where no more of it comes, and at which line.
+    pub fn end(self) -> Result<Lanes<D>, Refused>
+        requires { (x : List ℕ) × Rests D.serves D.has_room self x }
+        ensures { (x : List ℕ) → Rests D.serves D.has_room self x → Ends D.serves D.has_room result x }
+    {
+        match self.refusal {
+            None => Ok(self.lanes),
+            Some(cause) => {
+                let line = self.lanes.lines() + 1;
+                Err(Refused { line, cause })
+            }
+        }
+    }
+}
