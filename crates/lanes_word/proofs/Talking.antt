@@ -9,10 +9,11 @@ use Rattle.dover_model.proofs.Beginnings.{in_lines-append}
 use Rattle.dover_model.proofs.Tests.{never}
 use Rattle.dover_port.specs.declared.status.Status.TheVariants.{Done, Refused}
 use Rattle.dialogue.specs.Talk.{IsSteady, IsFinal}
-use Rattle.dialogue.specs.Turns.{joined, TakesBy}
+use Rattle.dialogue.specs.Turns.{joined, Standing, TakesBy}
 use Rattle.lane_server.specs.Lanes.{Input, InputStanding, Open, Closed, Faulty, Handed, input, goes_on_at, goes_on}
 use Rattle.lane_server.specs.Lanes.{due_after, lane_due, lane_count, shorts_from, closing_lines, lanes_closed, all_ended}
 use Rattle.lane_server.specs.Lane.{Serving, Having}
+use Rattle.lane_server.specs.Kept.{Kept, StandsFor}
 use Rattle.lane_server.specs.LaneInput.{Grows, Takes}
 use Rattle.lane_server.specs.declared.lane_input.LaneInput.{LaneInput}
 use Rattle.lane_server.proofs.Inputs.{input_stays, due_grows, line_grows_on}
@@ -74,6 +75,11 @@ due_parts : (before after : List Handed) (left : List (List ℕ)) → Grows befo
     → in_lines (due_after [] after) ≡ in_lines (due_after [] before) ++ joined (parts_of left)
 due_parts before after left grows = ap in_lines grows ∙ in_lines-append (due_after [] before) left
     ∙ ap (λ l. in_lines (due_after [] before) ++ l) (sym (joined_lines left))
+
+-- the lanes took these lines, and these parts are left to give, whatever came before
+abbrev pub left_in : {D : Type 0} → Serving D → Having D → Kept D → List (List ℕ) → Standing
+left_in serves having kept ls = λ x parts. (left : List (List ℕ)) × (parts ≡ parts_of left)
+    × StandsFor serves having kept ls left
 
 -- the talk goes on behind a front of a piece
 pub takes : {D : Type 0} (serves : Serving D) (having : Having D) (i : LaneInput D) (x piece : List ℕ)

@@ -1,18 +1,12 @@
 -- What is left to give, in parts.
 use Rattle.std.specs.Prelude.{◌≡◌, ℕ, List, [], ◌∷◌, ◌++◌, map}
 use Rattle.lane_server.specs.Lane.{Serving, Having}
-use Rattle.lane_server.specs.Kept.{Kept, StandsFor}
 use Rattle.lane_server.specs.LaneInput.{Stands}
 use Rattle.lane_server.specs.declared.lane_input.LaneInput.{LaneInput}
 
 -- each line with its line feed
 abbrev pub parts_of : List (List ℕ) → List (List ℕ)
 parts_of ls = map (λ line. line ++ 10 ∷ []) ls
-
--- The lanes took these lines, and these parts are left to give.
-abbrev pub Leaves : {D : Type 0} → Serving D → Having D → Kept D → List (List ℕ) → List (List ℕ) → Type 0
-Leaves serves has_room kept ls parts = (left : List (List ℕ)) × (parts ≡ parts_of left)
-    × StandsFor serves has_room kept ls left
 
 -- These bytes came, and these parts are left to give of what is due for them.
 abbrev pub Gives : {D : Type 0} → Serving D → Having D → LaneInput D → List ℕ → List (List ℕ) → Type 0

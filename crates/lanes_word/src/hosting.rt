@@ -1,12 +1,12 @@
 //! What the reading loop calls: lanes that are served.
-ghost use Rattle.std.specs.Prelude.{◌≡◌, ℕ, List, [], true, false, if◌then◌else◌};
-ghost use Rattle.dialogue.specs.Turns.{joined, GivesBy};
-ghost use Rattle.dover_model.specs.Lines.{lines_of};
+ghost use Rattle.std.specs.Prelude.{◌≡◌, ℕ, List, if◌then◌else◌};
+ghost use Rattle.dialogue.specs.Turns.{joined};
 ghost use Rattle.dover_port.specs.Causes.{HasCause, StopsAtFailure};
 ghost use Rattle.dover_port.specs.Moves.{PutsThrough};
+ghost use Rattle.lane_server.specs.Kept.{StandsFor};
 ghost use Rattle.lane_server.specs.LaneInput.{Rests};
 ghost use Rattle.lanes_word.specs.Talk.{lanes_talk};
-ghost use Rattle.lanes_word.specs.Keeping.{Leaves, Gives};
+ghost use Rattle.lanes_word.specs.Keeping.{parts_of, Gives};
 
 use crate::lines::{put_refusal, write_in_lane};
 use dialogue::{Stop, Talker};
@@ -26,45 +26,26 @@ pub(crate) struct Hosting<D, L: Ledger> {
     pub(crate) counts: PhantomData<L>,
 }
 
-/// Whether a line is left to give. The part then is that line, with its lane's number in front.
-fn give_next<D: Dispatcher, L: Ledger>(
-    lanes: &mut Lanes<D>,
-    steps: &mut Steps<L>,
-    part: &mut BackLine,
-) -> bool
-    requires { (x : List ℕ) × (parts : List (List ℕ)) × Leaves D.serves D.has_room lanes.old (lines_of x) parts }
-    ensures { (x : List ℕ) (parts : List (List ℕ)) → Leaves D.serves D.has_room lanes.old (lines_of x) parts →
-        GivesBy (λ y. Leaves D.serves D.has_room lanes.new (lines_of y)) (λ y. Leaves D.serves D.has_room lanes.new
-        (lines_of y) []) x parts part.new result }
-{
-    match lanes.next_out(steps) {
-        Some((lane, out)) => {
-            write_in_lane(lane, out, part);
-            true
-        }
-        None => false,
-    }
-}
-
-/// Puts what is left to give.
+/// Puts the lines that are left to give.
 fn put_left<P: Port, D: Dispatcher, L: Ledger>(
     port: &mut P,
     out: &mut Output,
     lanes: &mut Lanes<D>,
     steps: &mut Steps<L>,
 ) -> Result<(), Failed>
-    requires { (x : List ℕ) × (parts : List (List ℕ)) × Leaves D.serves D.has_room lanes.old (lines_of x) parts }
-    ensures text { (x : List ℕ) (parts : List (List ℕ)) → Leaves D.serves D.has_room lanes.old (lines_of x) parts →
-        PutsThrough (P.moves port.old) (P.moves port.new) result out.old out.new (joined parts) }
+    requires { (ls left : List (List ℕ)) × StandsFor D.serves D.has_room lanes.old ls left }
+    ensures text { (ls left : List (List ℕ)) → StandsFor D.serves D.has_room lanes.old ls left →
+        PutsThrough (P.moves port.old) (P.moves port.new) result out.old out.new (joined (parts_of left)) }
     ensures cause { HasCause (P.write_faults port.old) (P.write_faults port.new) (P.read_faults port.old)
         (P.read_faults port.new) result }
     ensures stops { StopsAtFailure (P.calls port.old) (P.calls port.new) result }
 {
     let mut part = BackLine::new();
     for _ in 0..u64::MAX {
-        if !give_next(lanes, steps, &mut part) {
+        let Some((lane, given)) = lanes.next_out(steps) else {
             return Ok(());
-        }
+        };
+        write_in_lane(lane, given, &mut part);
         match out.put(port, part.bytes()) {
             Ok(()) => {}
             Err(failed) => return Err(failed),

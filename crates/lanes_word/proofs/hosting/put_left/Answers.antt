@@ -1,33 +1,37 @@
-use Rattle.std.proofs.Common.{[], refl, ◌∙◌, arith}
-use Rattle.dover_model.specs.Lines.{lines_of}
+use Rattle.std.proofs.Common.{[], refl, ap, ◌∙◌, arith}
 use Rattle.dialogue.proofs.Giving.{given_none, given_more, given_cut, given_all, given_few}
-use Rattle.lanes_word.specs.Keeping.{Leaves}
 use Rattle.lane_server.proofs.Few.{few_left}
-use Rattle.lanes_word.proofs.Talking.{few_parts}
+use Rattle.lanes_word.specs.Keeping.{parts_of}
+use Rattle.lanes_word.proofs.Talking.{few_parts, left_in}
 use Rattle.lanes_word.proofs.hosting.put_left.Goals as goal
 
 pub loop-init : goal.loop-init
 loop-init g c = record {
-  given = λ x parts it. given_none (λ y. Leaves g.D.Dispatcher.serves g.D.Dispatcher.has_room c.args.lanes.now
-      (lines_of y)) _ _ x parts it;
+  given = λ ls left it. given_none (left_in g.D.Dispatcher.serves g.D.Dispatcher.has_room c.args.lanes.now ls)
+      _ _ [] (parts_of left) (left, refl, it);
   writes = refl;
   reads = refl;
   calls = λ well. well;
 }
 
-pub give_next-requires : goal.give_next-requires
-give_next-requires g c =
+pub next_out-requires : goal.next_out-requires
+next_out-requires g c =
     let given = c.loop.invariant.given c.requires.0 c.requires.1 c.requires.2 in
-    (c.requires.0, given.left, given.stands)
+    record { stands = (c.requires.0, given.stands.0, given.stands.2) }
+
+pub write_in_lane-requires : goal.write_in_lane-requires
+write_in_lane-requires g c =
+    let given = c.loop.invariant.given c.requires.0 c.requires.1 c.requires.2 in
+    (c.in-Some.ensures.gives c.requires.0 given.stands.0 given.stands.2).3
 
 pub loop-preserved : goal.loop-preserved
 loop-preserved g c = record {
-  given = λ x parts it.
-      let given = c.loop.invariant.given x parts it in
-      given_more _ (λ y. Leaves g.D.Dispatcher.serves g.D.Dispatcher.has_room c.give_next.new.lanes (lines_of y))
-      (λ y. Leaves g.D.Dispatcher.serves g.D.Dispatcher.has_room c.give_next.new.lanes (lines_of y) [])
-      _ _ _ _ x parts _ given c.give_next.new.part
-      (rw c.if-not-give_next.false at (c.give_next.ensures x given.left given.stands)) _ _
+  given = λ ls left it.
+      let given = c.loop.invariant.given ls left it in
+      let next = c.in-Some.ensures.gives ls given.stands.0 given.stands.2 in
+      let now = left_in g.D.Dispatcher.serves g.D.Dispatcher.has_room c.next_out.new.self ls in
+      given_more _ now (λ x. now x []) _ _ _ _ [] (parts_of left) _ given c.write_in_lane.new.line
+      (rw c.write_in_lane.ensures (parts_of next.0, given.stands.1 ∙ ap parts_of next.1, (next.0, refl, next.2))) _ _
       (rw c.bytes.ensures.is at c.in-Ok.ensures.text.all);
   writes = c.in-Ok.ensures.cause.ok ∙ c.loop.invariant.writes;
   reads = c.in-Ok.ensures.cause.other ∙ c.loop.invariant.reads;
@@ -35,30 +39,29 @@ loop-preserved g c = record {
 }
 
 pub returns-in-Err-clause-text : goal.returns-in-Err-clause-text
-returns-in-Err-clause-text g c = λ x parts it.
-    let given = c.loop.invariant.given x parts it in
-    given_cut _ (λ y. Leaves g.D.Dispatcher.serves g.D.Dispatcher.has_room c.give_next.new.lanes (lines_of y))
-    (λ y. Leaves g.D.Dispatcher.serves g.D.Dispatcher.has_room c.give_next.new.lanes (lines_of y) [])
-    _ _ _ _ x parts _ given c.give_next.new.part
-    (rw c.if-not-give_next.false at (c.give_next.ensures x given.left given.stands)) _ _ c.in-Err.failed
-    (rw c.bytes.ensures.is at c.in-Err.ensures.text.part)
+returns-in-Err-clause-text g c = λ ls left it.
+    let given = c.loop.invariant.given ls left it in
+    let next = c.in-Some.ensures.gives ls given.stands.0 given.stands.2 in
+    let now = left_in g.D.Dispatcher.serves g.D.Dispatcher.has_room c.next_out.new.self ls in
+    given_cut _ now (λ x. now x []) _ _ _ _ [] (parts_of left) _ given c.write_in_lane.new.line
+    (rw c.write_in_lane.ensures (parts_of next.0, given.stands.1 ∙ ap parts_of next.1, (next.0, refl, next.2))) _ _
+    c.in-Err.failed (rw c.bytes.ensures.is at c.in-Err.ensures.text.part)
 
-pub returns-then-not-give_next-clause-text : goal.returns-then-not-give_next-clause-text
-returns-then-not-give_next-clause-text g c = λ x parts it.
-    let given = c.loop.invariant.given x parts it in
-    given_all _ (λ y. Leaves g.D.Dispatcher.serves g.D.Dispatcher.has_room c.give_next.new.lanes (lines_of y))
-    (λ y. Leaves g.D.Dispatcher.serves g.D.Dispatcher.has_room c.give_next.new.lanes (lines_of y) [])
-    _ _ _ _ x parts _ given c.give_next.new.part
-    (rw c.if-not-give_next.true at (c.give_next.ensures x given.left given.stands))
+pub returns-in_default-clause-text : goal.returns-in_default-clause-text
+returns-in_default-clause-text g c = λ ls left it.
+    let given = c.loop.invariant.given ls left it in
+    let next = c.in_default.ensures.gives ls given.stands.0 given.stands.2 in
+    let now = left_in g.D.Dispatcher.serves g.D.Dispatcher.has_room c.next_out.new.self ls in
+    given_all _ now (λ x. now x []) _ _ _ _ [] (parts_of left) _ given []
+    (given.stands.1 ∙ ap parts_of next.0, ([], refl, next.1))
 
 pub unreachable-requires : goal.unreachable-requires
 unreachable-requires g c =
     let given = c.loop.invariant.given c.requires.0 c.requires.1 c.requires.2 in
+    let now = left_in g.D.Dispatcher.serves g.D.Dispatcher.has_room c.loop.lanes c.requires.0 in
     omega (
       arith,
-      given_few _ (λ y. Leaves g.D.Dispatcher.serves g.D.Dispatcher.has_room c.loop.lanes (lines_of y))
-          (λ y. Leaves g.D.Dispatcher.serves g.D.Dispatcher.has_room c.loop.lanes (lines_of y) [])
-          _ _ _ _ c.requires.0 c.requires.1 _ given
-          (few_parts c.requires.2.0 c.requires.1 c.requires.2.1
-          (few_left c.args.lanes.now (lines_of c.requires.0) c.requires.2.0 c.requires.2.2)),
+      given_few _ now (λ x. now x []) _ _ _ _ [] (parts_of c.requires.1) _ given
+          (few_parts c.requires.1 (parts_of c.requires.1) refl
+          (few_left c.args.lanes.now c.requires.0 c.requires.1 c.requires.2)),
     )

@@ -1,4 +1,4 @@
-use Rattle.std.proofs.Common.{◌++◌, ◌∷◌, [], refl}
+use Rattle.std.proofs.Common.{◌++◌, ◌∷◌, []}
 use Rattle.dover_model.specs.Lines.{lines_of}
 use Rattle.dialogue.specs.Turns.{joined}
 use Rattle.dover_port.specs.declared.status.Status.TheVariants.{Refused}
@@ -18,7 +18,7 @@ all_ended-requires g c =
 pub put_left-requires : goal.put_left-requires
 put_left-requires g c =
     let x = c.requires.ready.1 in
-    (x, _, (_, refl, (c.in-Ok.ensures x c.requires.ready.2).1))
+    (lines_of x, _, (c.in-Ok.ensures x c.requires.ready.2).1)
 
 pub returns-in-Ok-put_left-clause-answers : goal.returns-in-Ok-put_left-clause-answers
 returns-in-Ok-put_left-clause-answers g c = λ a x at over.
@@ -31,7 +31,7 @@ returns-in-Ok-put_left-clause-answers g c = λ a x at over.
           closed_status x ended.0 c.all_ended.result (c.all_ended.ensures (lines_of x) _ ended.1),
           closed_text x ended.0,
         ),
-        rw c.requires.empty at (c.in-Ok-put_left.ensures.text x _ (_, refl, ended.1)).all,
+        rw c.requires.empty at (c.in-Ok-put_left.ensures.text (lines_of x) _ ended.1).all,
       ),
     )
 
@@ -45,7 +45,7 @@ returns-in-Ok-clause-answers g c = λ a x at over.
             (closed_status x ended.0 c.all_ended.result (c.all_ended.ensures (lines_of x) _ ended.1)),
         closed_text x ended.0,
       ),
-      rw c.requires.empty at (c.in-Err-put_left.ensures.text x _ (_, refl, ended.1)).part,
+      rw c.requires.empty at (c.in-Err-put_left.ensures.text (lines_of x) _ ended.1).part,
     )
 
 pub returns-in-Ok-put_refusal-clause-answers : goal.returns-in-Ok-put_refusal-clause-answers
