@@ -1,5 +1,5 @@
 -- What an input of lanes holds of its lines and bytes.
-use Rattle.std.proofs.Common.{◌≡◌, ◌<◌, ◌≤◌, ◌+◌, ℕ, suc, List, [], ◌∷◌, ◌++◌, length, refl, sym, ap, ◌∙◌, subst}
+use Rattle.std.proofs.Common.{◌≡◌, ◌≤◌, ◌+◌, ℕ, suc, List, [], ◌∷◌, ◌++◌, length, refl, sym, ap, ◌∙◌, subst}
 use Rattle.std.proofs.Common.{Option, Some, None, Result, Ok, Err, Bool, true, false, cond, append-nil, arith}
 use Rattle.std.specs.Option.{IsNone}
 use Rattle.dover_model.specs.declared.Memory.{Memory}
@@ -10,7 +10,7 @@ use Rattle.line_text.specs.Cutting as cuts
 use Rattle.lane_server.specs.Lanes as lanes
 use Rattle.lane_server.specs.Lanes.{OfLane, lane_line, Handed, Input, InputStanding, InputFault, Open, Closed, Faulty}
 use Rattle.lane_server.specs.Lanes.{HasLine, goes_on_at, goes_on, input, input_of_lines, newly_due, due_after}
-use Rattle.lane_server.specs.Lanes.{lane_count, shorts_from, refused_line, closing_lines}
+use Rattle.lane_server.specs.Lanes.{lane_count, shorts_from, refused_line, closing_lines, fault_word}
 use Rattle.lane_server.specs.Lane.{Serving, Having}
 use Rattle.lane_server.specs.Kept as keeping
 use Rattle.lane_server.specs.Kept.{Kept, StandsFor, Answers, IsReady, is_closed, GivesNext}
@@ -23,7 +23,7 @@ use Rattle.lane_server.specs.declared.refusal.Refusal.{Refusal}
 use Rattle.lane_server.specs.declared.refusal.Refusal.TheVariants.{Short, TooManyLines, BadLane}
 use Rattle.lane_server.specs.declared.lane_input.LaneInput.{LaneInput}
 use Rattle.lane_server.proofs.Few.{few_left}
-use Rattle.lane_server.proofs.Inputs.{is_open, due_fed, input_fed, input_closed, input_many, input_bad, few_lines}
+use Rattle.lane_server.proofs.Inputs.{is_open, due_fed, input_fed, input_closed, few_lines}
 use Rattle.lane_server.proofs.Inputs.{short_rest, whole_counted}
 
 -- the bytes with one more, behind a line that may still go on
@@ -78,6 +78,11 @@ module _ {D : Type 0} {serves : Serving D} {having : Having D} where
           by Closed over it = (it.0, (refl, it.1))
           by (Faulty line fault) over it = (it.0, (refl, it.1))
 
+-- the input is refused one line behind those that the lanes took, with this word
+abbrev pub IsRefused : {D : Type 0} → Kept D → List ℕ → List ℕ → Type 0
+IsRefused kept x word = (kept.lines ≤ most_lines) × ((input x).standing ≡ Closed → ⊥)
+    × (closing_lines (length (whole_lines x)) (input x) ≡ refused_line (kept.lines + 1) word ∷ [])
+
 -- ---- a line
 
 module _ (ls : List (List ℕ)) (bytes : List ℕ) (opened : (input_of_lines ls).standing ≡ Open) where
@@ -110,7 +115,7 @@ module _ (ls : List (List ℕ)) (bytes : List ℕ) (opened : (input_of_lines ls)
     )
 
     -- a line at fault
-    hands_fault : (r : Refusal) (fault : InputFault) → kept.lines ≡ a.lines
+    pub hands_fault : (r : Refusal) (fault : InputFault) → kept.lines ≡ a.lines
         → standing_of kept.lines (Some r) ≡ Faulty (suc kept.lines) fault
         → b ≡ record a { lines = suc a.lines; standing = Faulty (suc a.lines) fault }
         → Hands serves having kept ls bytes (Ok (Some r))
@@ -142,18 +147,6 @@ module _ (ls : List (List ℕ)) (bytes : List ℕ) (opened : (input_of_lines ls)
           subst (λ (c : Input). StandsFor serves having kept (ls ++ bytes ∷ []) (shorts_from c.handed 0 lane_count))
               (sym is) closed.stands,
         )
-
-    -- one line too many
-    pub hands_many : kept.lines ≡ a.lines → most_lines < suc a.lines
-        → Hands serves having kept ls bytes (Ok (Some TooManyLines))
-    hands_many counted many =
-        hands_fault TooManyLines lanes.TooManyLines counted refl (input_many ls bytes opened many)
-
-    -- a line of no lane
-    pub hands_bad : kept.lines ≡ a.lines → suc a.lines ≤ most_lines → lane_line bytes ≡ None
-        → Hands serves having kept ls bytes (Ok (Some BadLane))
-    hands_bad counted room none =
-        hands_fault BadLane lanes.BadLane counted refl (input_bad ls bytes opened room none)
 
 module _ {D : Type 0} {serves : Serving D} {having : Having D} where
   -- ---- bytes
@@ -242,40 +235,37 @@ module _ {D : Type 0} {serves : Serving D} {having : Having D} where
 
   -- the line that refuses the input
   pub refuses : (r : Refusal) (kept : Kept D) (x : List ℕ) → Holds serves having (Some r) kept (lines_of x) []
-      → (kept.lines ≤ most_lines) × ((input x).standing ≡ Closed → ⊥)
-      × (closing_lines (length (whole_lines x)) (input x) ≡ refused_line (kept.lines + 1) (word_of r) ∷ [])
+      → IsRefused kept x (word_of r)
   refuses r kept x it = by r it.stands (leaves_so (Some r) kept (lines_of x) [] it) where
+    -- by how it stands
     last : (s : InputStanding) → (input x).standing ≡ s
         → closing_lines (length (whole_lines x)) (input x)
         ≡ closing_lines (length (whole_lines x)) (record (input x) { standing = s })
     last s is = ap (λ t. closing_lines (length (whole_lines x)) (record (input x) { standing = t })) is
 
-    one_more : (n m : ℕ) (word : List ℕ) → suc n ≡ m → refused_line (suc n) word ∷ [] ≡ refused_line m word ∷ []
-    one_more n m word is = ap (λ k. refused_line k word ∷ []) is
+    -- for a fault
+    by_fault : (fault : InputFault) → (input x).standing ≡ Faulty (suc kept.lines) fault → kept.lines ≤ most_lines
+        → IsRefused kept x (fault_word fault)
+    by_fault fault is few = (
+      few,
+      λ closed. absurd (let e : Closed ≡ Faulty (suc kept.lines) fault = sym closed ∙ is in cc),
+      last (Faulty (suc kept.lines) fault) is
+          ∙ ap (λ n. refused_line n (fault_word fault) ∷ []) {x = suc kept.lines} {y = kept.lines + 1} (omega arith),
+    )
 
     by : (r : Refusal) → (input x).standing ≡ standing_of kept.lines (Some r)
         → LeavesAt serves having (standing_of kept.lines (Some r)) kept (lines_of x) []
-        → (kept.lines ≤ most_lines) × ((input x).standing ≡ Closed → ⊥)
-        × (closing_lines (length (whole_lines x)) (input x) ≡ refused_line (kept.lines + 1) (word_of r) ∷ [])
+        → IsRefused kept x (word_of r)
     by Short is leaves =
         let on : goes_on (input x) ≡ true = ap goes_on_at is in (
           omega (arith, leaves.counted, few_lines (lines_of x) on),
           λ closed. never (sym (ap goes_on_at closed) ∙ on),
-          last Open is ∙ one_more (length (whole_lines x)) (kept.lines + 1) (word_of Short)
+          last Open is ∙ ap (λ n. refused_line n (word_of Short) ∷ [])
+              {x = suc (length (whole_lines x))} {y = kept.lines + 1}
               (omega (arith, leaves.counted, whole_counted x on)),
         )
-    by TooManyLines is leaves = (
-      leaves.1,
-      λ closed. absurd (let e : Closed ≡ Faulty (suc kept.lines) lanes.TooManyLines = sym closed ∙ is in cc),
-      last (Faulty (suc kept.lines) lanes.TooManyLines) is
-          ∙ one_more kept.lines (kept.lines + 1) (word_of TooManyLines) (omega arith),
-    )
-    by BadLane is leaves = (
-      leaves.1,
-      λ closed. absurd (let e : Closed ≡ Faulty (suc kept.lines) lanes.BadLane = sym closed ∙ is in cc),
-      last (Faulty (suc kept.lines) lanes.BadLane) is
-          ∙ one_more kept.lines (kept.lines + 1) (word_of BadLane) (omega arith),
-    )
+    by TooManyLines is leaves = by_fault lanes.TooManyLines is leaves.1
+    by BadLane is leaves = by_fault lanes.BadLane is leaves.1
 
 -- what a line adds is left to give
 pub adds_line : {D : Type 0} (serves : Serving D) (having : Having D) (i : LaneInput D) (x front line : List ℕ)

@@ -1,7 +1,10 @@
-use Rattle.std.proofs.Common.{[], ap, ◌∙◌}
+use Rattle.std.proofs.Common.{[], refl, ap, ◌∙◌}
 use Rattle.lane_server.specs.Kept.{Kept}
+use Rattle.lane_server.specs.Lanes as lanes
+use Rattle.lane_server.specs.declared.refusal.Refusal.TheVariants.{TooManyLines, BadLane}
+use Rattle.lane_server.proofs.Inputs.{input_many, input_bad}
 use Rattle.lane_server.proofs.Keeping.{ready_left}
-use Rattle.lane_server.proofs.Receiving.{hands_fed, hands_close, hands_many, hands_bad, lacks}
+use Rattle.lane_server.proofs.Receiving.{hands_fed, hands_close, hands_fault, lacks}
 use Rattle.lane_server.proofs.lane_input.hand.Goals as goal
 
 pub returns-in-Ok-Fed : goal.returns-in-Ok-Fed
@@ -17,14 +20,16 @@ returns-in-Ok-Closed g c = λ ls stands.
 pub returns-in-Err-Lines : goal.returns-in-Err-Lines
 returns-in-Err-Lines g c = λ ls stands.
     let it = rw c.in-Err-Lines.field-0-is at (c.in-Err-Lines.ensures ls stands) in
-    hands_many ls c.args.line.now (ready_left c.args.lanes.now ls [] stands c.requires.2).0 c.line.new.self
-    (ap (λ (k : Kept _). k.lines) it.1 ∙ stands.counted) it.0
+    let opened = (ready_left c.args.lanes.now ls [] stands c.requires.2).0 in
+    hands_fault ls c.args.line.now opened c.line.new.self TooManyLines lanes.TooManyLines
+    (ap (λ (k : Kept _). k.lines) it.1 ∙ stands.counted) refl (input_many ls c.args.line.now opened it.0)
 
 pub returns-in-Err-BadLane : goal.returns-in-Err-BadLane
 returns-in-Err-BadLane g c = λ ls stands.
     let it = rw c.in-Err-BadLane.field-0-is at (c.in-Err-BadLane.ensures ls stands) in
-    hands_bad ls c.args.line.now (ready_left c.args.lanes.now ls [] stands c.requires.2).0 c.line.new.self
-    (ap (λ (k : Kept _). k.lines) it.2 ∙ stands.counted) it.0 it.1
+    let opened = (ready_left c.args.lanes.now ls [] stands c.requires.2).0 in
+    hands_fault ls c.args.line.now opened c.line.new.self BadLane lanes.BadLane
+    (ap (λ (k : Kept _). k.lines) it.2 ∙ stands.counted) refl (input_bad ls c.args.line.now opened it.0 it.1)
 
 pub returns-in-Err-Memory : goal.returns-in-Err-Memory
 returns-in-Err-Memory g c = λ ls stands.
