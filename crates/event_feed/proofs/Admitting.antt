@@ -8,7 +8,7 @@ use Rattle.dover_model.specs.Limits.{most_lines, last_tick}
 use Rattle.dover_model.specs.JobFacts.{JobFacts}
 use Rattle.dover_model.specs.declared.events.Refusal.{Refusal}
 use Rattle.dover_model.specs.Admission.{refusal_of}
-use Rattle.dover_model.specs.Session.{Session, Item, JobItem, RefusedItem, RefusedJob, refused_at, admitted_jobs}
+use Rattle.dover_model.specs.Session.{Session, Item, JobItem, RefusedItem, RefusedJob, refused_at, with_item, admitted_jobs}
 use Rattle.dover_model.specs.Session.{is_two}
 use Rattle.dover_model.specs.FeedLine.{FeedLine, RatioLine, JobLine, TickLine, EndLine, feed_line}
 use Rattle.dover_model.specs.Feed.{Account, Standing, Lines, Line, is_open, next_line, read_line, with_line, with_fault}
@@ -36,7 +36,11 @@ refused_more (RefusedItem s ∷ items) r = refused_more items r
 abbrev pub admitted_by : Option Session → ℕ
 admitted_by o = elim o [ None ↦ 0 | Some S ↦ length (admitted_jobs S.items) ]
 
--- ---- any line takes no job back
+-- ---- a session stays, and no line takes a job back
+
+-- there is a session, which has admitted at least so many jobs
+abbrev HasAtLeast : ℕ → Account → Type 0
+HasAtLeast n a = (S : Session) × (a.session ≡ Some S) × (n ≤ length (admitted_jobs S.items))
 
 -- an account
 abbrev account_with : ℕ → Session → ℕ → Standing → Account
@@ -52,62 +56,77 @@ module _ (lines : ℕ) (S : Session) (mark : ℕ) (standing : Standing) where
   n = length (admitted_jobs S.items)
 
   -- a job line
-  job_keeps : (j : JobFacts) → n ≤ admitted_in (with_line at (JobLine j) (later_line_cause S mark (JobLine j)))
+  job_keeps : (j : JobFacts) → HasAtLeast n (with_line at (JobLine j) (later_line_cause S mark (JobLine j)))
   job_keeps j = by_order (nat_lt j.release mark) where
     by_two : (refusal : Refusal) (two : Bool)
-        → n ≤ admitted_in (cond two (with_item_in at (refused_at mark j refusal)) (with_fault at (NotAdmitted refusal)))
-    by_two refusal true = omega (arith, refused_more S.items (record { at = mark; job = j; refusal = refusal }))
-    by_two refusal false = omega arith
+        → HasAtLeast n (cond two (with_item_in at (refused_at mark j refusal)) (with_fault at (NotAdmitted refusal)))
+    by_two refusal true = (
+      with_item S (refused_at mark j refusal),
+      refl,
+      omega (arith, refused_more S.items (record { at = mark; job = j; refusal = refusal })),
+    )
+    by_two refusal false = (S, refl, omega arith)
 
-    by_refusal : (o : Option Refusal) → n ≤ admitted_in (with_line at (JobLine j) (option_map NotAdmitted o))
-    by_refusal None = omega (arith, job_more S.items j)
+    by_refusal : (o : Option Refusal) → HasAtLeast n (with_line at (JobLine j) (option_map NotAdmitted o))
+    by_refusal None = (with_item S (JobItem j), refl, omega (arith, job_more S.items j))
     by_refusal (Some refusal) = by_two refusal (is_two S.rules.version)
 
-    by_order : (b : Bool) → n ≤ admitted_in
+    by_order : (b : Bool) → HasAtLeast n
         (with_line at (JobLine j)
         (cond b (Some Order) (option_map NotAdmitted (refusal_of S.rules.ratio (admitted_jobs S.items) j))))
-    by_order true = omega arith
+    by_order true = (S, refl, omega arith)
     by_order false = by_refusal (refusal_of S.rules.ratio (admitted_jobs S.items) j)
 
   -- any line that has a form
-  form_keeps : (line : FeedLine) → n ≤ admitted_in (with_line at line (later_line_cause S mark line))
-  form_keeps (RatioLine p q version) = omega arith
+  form_keeps : (line : FeedLine) → HasAtLeast n (with_line at line (later_line_cause S mark line))
+  form_keeps (RatioLine p q version) = (S, refl, omega arith)
   form_keeps (JobLine j) = job_keeps j
   form_keeps (TickLine t) = by_tests (nat_lt t mark || nat_lt last_tick t) where
-    by_tests : (b : Bool) → n ≤ admitted_in (with_line at (TickLine t) (cond b (Some Order) None))
-    by_tests true = omega arith
-    by_tests false = omega arith
-  form_keeps EndLine = omega arith
+    by_tests : (b : Bool) → HasAtLeast n (with_line at (TickLine t) (cond b (Some Order) None))
+    by_tests true = (S, refl, omega arith)
+    by_tests false = (S, refl, omega arith)
+  form_keeps EndLine = (S, refl, omega arith)
 
   -- any line
-  read_keeps : (l : List ℕ) → n ≤ admitted_in (read_line at l)
+  read_keeps : (l : List ℕ) → HasAtLeast n (read_line at l)
   read_keeps l = by_count (nat_lt most_lines lines) (feed_line l) where
-    by_count : (b : Bool) (o : Option FeedLine) → n ≤ admitted_in (cond b (with_fault at Lines)
+    by_count : (b : Bool) (o : Option FeedLine) → HasAtLeast n (cond b (with_fault at Lines)
         (elim o [ None ↦ with_fault at Line | Some line ↦ with_line at line (later_line_cause S mark line) ]))
-    by_count true o = omega arith
-    by_count false None = omega arith
+    by_count true o = (S, refl, omega arith)
+    by_count false None = (S, refl, omega arith)
     by_count false (Some line) = form_keeps line
 
--- no line takes a job back
-keeps_next : (a : Account) (l : List ℕ) → admitted_in a ≤ admitted_in (next_line a l)
-keeps_next a l = by_session a.session refl where
-  by_session : (o : Option Session) → a.session ≡ o → admitted_in a ≤ admitted_in (next_line a l)
-  by_session None none = let zero : admitted_in a ≡ 0 = ap admitted_by none in omega arith
-  by_session (Some S) there =
-      subst (λ o. admitted_by o ≤ admitted_in (next_line (record a { session = o }) l)) (sym there)
-      (by_open (is_open a)) where
-        by_open : (b : Bool) → length (admitted_jobs S.items) ≤ admitted_in
-            (cond b (read_line (account_with (suc a.lines) S a.mark a.standing) l)
-            (account_with a.lines S a.mark a.standing))
-        by_open true = read_keeps (suc a.lines) S a.mark a.standing l
-        by_open false = omega arith
+-- the next line
+keeps_next : (n : ℕ) (a : Account) (l : List ℕ) → HasAtLeast n a → HasAtLeast n (next_line a l)
+keeps_next n a l it =
+    let next = subst (λ o. HasAtLeast (length (admitted_jobs it.0.items)) (next_line (record a { session = o }) l))
+    (sym it.1) (by_open (is_open a)) in (next.0, next.1, omega (arith, it.2, next.2))
+  where
+    by_open : (b : Bool) → HasAtLeast (length (admitted_jobs it.0.items))
+        (cond b (read_line (account_with (suc a.lines) it.0 a.mark a.standing) l)
+        (account_with a.lines it.0 a.mark a.standing))
+    by_open true = read_keeps (suc a.lines) it.0 a.mark a.standing l
+    by_open false = (it.0, refl, omega arith)
 
--- nor do many
-keeps_lines : (ls : List (List ℕ)) (a : Account) → admitted_in a ≤ admitted_in (fold next_line a ls)
-keeps_lines [] a = omega arith
-keeps_lines (l ∷ ls) a = omega (arith, keeps_next a l, keeps_lines ls (next_line a l))
+-- many lines
+keeps_lines : (n : ℕ) (ls : List (List ℕ)) (a : Account) → HasAtLeast n a → HasAtLeast n (fold next_line a ls)
+keeps_lines n [] a it = it
+keeps_lines n (l ∷ ls) a it = keeps_lines n ls (next_line a l) (keeps_next n a l it)
 
--- nor do more bytes
+-- more bytes
+keeps_front : (n : ℕ) (F G : List ℕ) → HasAtLeast n (account F) → HasAtLeast n (account (F ++ G))
+keeps_front n F G it = let more = account_append F G in
+    subst (HasAtLeast n) (sym more.1) (keeps_lines n more.0 (account F) it)
+
+-- a session that is there stays, whatever bytes follow
+pub declared_front : (F G : List ℕ) → (S : Session) × ((account F).session ≡ Some S)
+    → (S : Session) × ((account (F ++ G)).session ≡ Some S)
+declared_front F G it = let kept = keeps_front 0 F G (it.0, it.1, omega arith) in (kept.0, kept.1)
+
+-- and its jobs stay admitted
 pub admitted_front : (F G : List ℕ) → admitted_in (account F) ≤ admitted_in (account (F ++ G))
-admitted_front F G = let more = account_append F G in
-    subst (λ a. admitted_in (account F) ≤ admitted_in a) (sym more.1) (keeps_lines more.0 (account F))
+admitted_front F G = by (account F).session refl where
+  by : (o : Option Session) → (account F).session ≡ o → admitted_in (account F) ≤ admitted_in (account (F ++ G))
+  by None none = let zero : admitted_in (account F) ≡ 0 = ap admitted_by none in omega arith
+  by (Some S) there = let kept = keeps_front (length (admitted_jobs S.items)) F G (S, there, omega arith) in
+      omega (arith, ap admitted_by there, ap admitted_by kept.1, kept.2)

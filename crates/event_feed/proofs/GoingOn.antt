@@ -4,7 +4,7 @@ use Rattle.std.proofs.Common.{false, cond}
 use Rattle.std.proofs.Common.{Option, Some, None, arith}
 use Rattle.std.specs.Prelude.{nat_lt}
 use Rattle.std.specs.List.{fold}
-use Rattle.std.proofs.lemmas.Bool.{ltb-false}
+use Rattle.std.proofs.lemmas.Bool.{ltb-false, ltb-true}
 use Rattle.std.proofs.lemmas.List.{append-nil}
 use Rattle.dover_model.specs.Limits.{most_lines}
 use Rattle.dover_model.specs.Lines.{lines_of, whole_lines, rest_of, is_too_long, fields_of}
@@ -72,6 +72,23 @@ lines_good (l ∷ ls) a opened =
     let rest = lines_good ls (next_line a l) opened in
     let all : (next_line a l).lines + length ls ≤ most_lines = rest.1 (omega (arith, good.0)) in
     ((good.1, rest.0), λ few. omega arith)
+
+-- the last of lines of which none is too long isn't
+last_short : (ls : List (List ℕ)) (l : List ℕ) → AreNotTooLong (ls ++ l ∷ []) → length l ≤ 128
+last_short [] l short = short.0
+last_short (m ∷ ls) l short = last_short ls l short.1
+
+-- in a feed that goes on, no line that has begun is too long
+pub open_short : (x : List ℕ) → (account x).standing ≡ Open → is_too_long (rest_of x) ≡ false
+open_short x opened = by (is_too_long (rest_of x)) refl where
+  by : (b : Bool) → is_too_long (rest_of x) ≡ b → b ≡ false
+  by false is = refl
+  by true is = let ended : lines_of x ≡ whole_lines x ++ rest_of x ∷ [] =
+      ap (λ b. whole_lines x ++ cond b (rest_of x ∷ []) []) is in
+      let good = lines_good (lines_of x) no_lines opened in
+      let few : length (rest_of x) ≤ 128 =
+      last_short (whole_lines x) (rest_of x) (subst AreNotTooLong ended good.0) in
+      absurd (omega (arith, few, ltb-true 128 (length (rest_of x)) is))
 
 -- a feed that goes on has at most so many bytes
 pub open_bytes : (x : List ℕ) → (account x).standing ≡ Open → is_too_long (rest_of x) ≡ false → length x < 516_000_129

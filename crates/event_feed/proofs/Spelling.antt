@@ -1,5 +1,5 @@
 -- The text of the numbers of a job line.
-use Rattle.std.proofs.Common.{◌≡◌, ◌≤◌, ◌*◌, ℕ, List, ◌++◌, drop, length, codes, ap, sym, ◌∙◌, subst, arith}
+use Rattle.std.proofs.Common.{◌≡◌, ◌≤◌, ℕ, List, drop, length, codes, ap, sym, ◌∙◌, arith}
 use Rattle.dover_model.specs.JobFacts.{JobFacts, job_numbers}
 use Rattle.dover_model.specs.FeedLine.{feed_text, JobLine}
 use Rattle.dover_model.specs.Numerals.{AreShort}

@@ -36,7 +36,7 @@ impl Model for Lines {
 
 impl Lines {
     ghost use Rattle.std.specs.Prelude.{◌≡◌, ◌≤◌, ◌<◌, ◌++◌, ◌∷◌, [], ℕ, List, length, take, false, ◌≢◌};
-    ghost use Rattle.dover_model.specs.Lines.{rest_of, is_too_long};
+    ghost use Rattle.dover_model.specs.Lines.{whole_lines, rest_of, is_too_long};
     ghost use Rattle.line_text.specs.declared.cutting.Step.TheVariants.{More, Line};
     ghost use Rattle.line_text.specs.Cutting.{StandsFor, HasCut, step_of, with_byte, after_byte, begun_line};
     ghost use Rattle.line_text.specs.Cutting.{IsWholeLine};
@@ -50,6 +50,19 @@ impl Lines {
             bytes: [0; LINE_BYTES],
             used: 0,
             count: 0,
+            last: Step::More,
+        }
+    }
+
+    /// So many whole lines came, and no line has begun.
+    pub fn behind(count: u64) -> Lines
+        ensures { (bytes : List ℕ) → count ≡ length (whole_lines bytes) → rest_of bytes ≡ [] →
+            StandsFor result bytes }
+    {
+        Lines {
+            bytes: [0; LINE_BYTES],
+            used: 0,
+            count,
             last: Step::More,
         }
     }

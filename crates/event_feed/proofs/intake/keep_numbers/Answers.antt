@@ -1,4 +1,4 @@
-use Rattle.std.proofs.Common.{◌≡◌, ◌≤◌, ℕ, List, [], ◌∷◌, length, ap, subst, arith}
+use Rattle.std.proofs.Common.{◌≡◌, ℕ, List, length, ap, subst, arith}
 use Rattle.std.proofs.lemmas.List.{take_rest}
 use Rattle.dover_model.specs.JobFacts.{job_of_numbers}
 use Rattle.dover_model.specs.FeedLine.{feed_text, HasNumerals}
