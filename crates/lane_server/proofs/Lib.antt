@@ -12,3 +12,4 @@ pub mod Keeping
 pub mod Fine
 pub mod Few
 pub mod Paying
+pub mod Feeding

@@ -1,6 +1,7 @@
 pub mod Lanes
 pub mod Reading
 pub mod Lane
+pub mod Feeding
 pub mod Kept
 pub mod Shorts
 pub mod Alone

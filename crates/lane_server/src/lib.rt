@@ -1,6 +1,7 @@
-//! Many feeds in one input, each with a server of its own.
+//! One feed, or many in one input, each with a server of its own.
 #![tactic(auto)]
 
+mod feed;
 mod lane;
 mod lane_input;
 mod lanes;
@@ -8,6 +9,7 @@ mod out;
 mod reading;
 mod refusal;
 
+pub use feed::Feed;
 pub use lane::Lane;
 pub use lane_input::{LaneInput, Refused};
 pub use lanes::{LaneFault, LaneStep, Lanes};

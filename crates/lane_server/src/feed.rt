@@ -1,0 +1,174 @@
+//! One feed, byte by byte: its intake and its server.
+ghost use Rattle.std.specs.Prelude.{◌≡◌, ◌<◌, ◌∷◌, ℕ, List, [], true, length, OnOk};
+ghost use Rattle.dover_model.specs.Feed.{account, is_open};
+ghost use Rattle.dover_model.specs.Lines.{lines_of, rest_of};
+ghost use Rattle.line_text.specs.Cutting.{IsWholeLine, begun_line};
+ghost use Rattle.lane_server.specs.Lane.{IsQuiet};
+ghost use Rattle.lane_server.specs.Feeding.{FeedStands, FeedRests, FeedGives, Hands, Takes};
+ghost use Rattle.lane_server.specs.Spending.{HasPaid};
+
+use crate::lane::Lane;
+use crate::out::LaneOut;
+use dispatcher::Dispatcher;
+use dover_model::Memory;
+use line_text::{Lines, Step};
+use std::alloc::Global;
+use std::sync::ledger::Ledger;
+use step_count::Steps;
+
+/// A feed of bytes with its server: pieces of the feed go in, cut anywhere, and each line that is due comes out as soon
+/// as it is settled. There is no port in it: its owner reads, and does with the lines what it wants.
+///
+/// # Limits
+///
+/// Those of a feed: lines of at most 128 bytes, 4,000,000 of them, and 1,000,000 jobs. A line that breaks one is a fault,
+/// which comes out as the line that refuses the feed, and ends it. Memory is taken at the ratio line and for each
+/// admitted job alone.
+///
+/// # Examples
+///
+/// Each piece goes in front by front, and behind each front come the lines that are due for it:
+///
+/// ```
+/// let mut feed = Feed::<ReadyServer>::new(alloc);
+/// while feed.lane().goes_on() {
+///     let Some(mut piece) = next_piece() else {
+///         return feed.lane().end();
+///     };
+///     while feed.lane().goes_on() && !piece.is_empty() {
+///         let count = feed.take(piece)?;
+///         while let Some(out) = feed.next_out(&mut steps) {
+///             act_on(out);
+///         }
+///         piece = &piece[count..];
+///     }
+/// }
+/// feed.lane().end()
+/// ```
+#[derive(Drop)]
+pub struct Feed<D> {
+    alloc: Global,
+    lines: Lines,
+    lane: Lane<D>,
+}
+
+impl<D: Dispatcher> Feed<D> {
+    /// No byte came yet. Takes no memory.
+    pub fn new(alloc: Global) -> Feed<D>
+        ensures rests { FeedRests D.serves D.has_room result [] }
+        ensures paid { (start : ℕ) → HasPaid D.paid result.lane.server start start }
+    {
+        Feed {
+            alloc,
+            lines: Lines::new(),
+            lane: Lane::new(),
+        }
+    }
+
+    /// Goes on behind whole lines, all of which this lane was handed.
+    pub fn behind(alloc: Global, lane: Lane<D>) -> Feed<D>
+        ensures rests { (x : List ℕ) → rest_of x ≡ [] → is_open (account x) ≡ true →
+            IsQuiet D.serves D.has_room lane (lines_of x) → FeedRests D.serves D.has_room result x }
+        ensures lane { result.lane ≡ lane }
+    {
+        let count = match lane.end() {
+            Ok(()) => 0,
+            Err(fault) => fault.line.saturating_sub(1),
+        };
+        Feed {
+            alloc,
+            lines: Lines::behind(count),
+            lane,
+        }
+    }
+
+    /// Takes a byte.
+    fn take_byte(&mut self, byte: u8) -> Result<(), Memory>
+        requires { (x : List ℕ) × FeedRests D.serves D.has_room self.old x × (is_open (account x) ≡ true) }
+        ensures hands { (x : List ℕ) → FeedRests D.serves D.has_room self.old x → is_open (account x) ≡ true →
+            Hands D.serves D.has_room self.new x (byte ∷ []) result }
+        ensures paid { (x : List ℕ) (start now : ℕ) → FeedRests D.serves D.has_room self.old x →
+            HasPaid D.paid self.old.lane.server start now →
+            OnOk result (HasPaid D.paid self.new.lane.server start now) }
+    {
+        match self.lines.push(byte) {
+            Step::More => Ok(()),
+            Step::Line => self.lane.line(self.alloc, self.lines.line()),
+            Step::TooLong => self.lane.line(self.alloc, self.lines.line()),
+        }
+    }
+
+    /// Takes a byte, or a whole line with its line feed where no line has begun.
+    fn take_front(&mut self, bytes: &[u8]) -> Result<(), Memory>
+        requires some { 0 < length bytes.now }
+        requires whole { 1 < length bytes.now → IsWholeLine self.old.lines bytes.now }
+        requires rests { (x : List ℕ) × FeedRests D.serves D.has_room self.old x × (is_open (account x) ≡ true) }
+        ensures hands { (x : List ℕ) → FeedRests D.serves D.has_room self.old x → is_open (account x) ≡ true →
+            Hands D.serves D.has_room self.new x bytes.now result }
+        ensures paid { (x : List ℕ) (start now : ℕ) → FeedRests D.serves D.has_room self.old x →
+            HasPaid D.paid self.old.lane.server start now →
+            OnOk result (HasPaid D.paid self.new.lane.server start now) }
+    {
+        if bytes.len() > 1 {
+            return self.lane.line(self.alloc, self.lines.pass(bytes));
+        }
+        self.take_byte(bytes[0])
+    }
+
+    /// Takes a front of a piece of the feed, up to a line feed at most, and says how many bytes. The feed goes on, and
+    /// all that was due before was given: at first, and then where `next_out` has answered None.
+    ///
+    /// # Errors
+    ///
+    /// `Memory` where there is none for the server or for a job; then the feed is no longer of use.
+    #[inline(always)]
+    pub fn take(&mut self, piece: &[u8]) -> Result<usize, Memory>
+        requires some { 0 < length piece.now }
+        requires rests { (x : List ℕ) × FeedRests D.serves D.has_room self.old x × (is_open (account x) ≡ true) }
+        ensures takes { (x : List ℕ) → FeedRests D.serves D.has_room self.old x → is_open (account x) ≡ true →
+            Takes D.serves D.has_room self.new x piece.now result }
+        ensures paid { (x : List ℕ) (start now : ℕ) → FeedRests D.serves D.has_room self.old x →
+            HasPaid D.paid self.old.lane.server start now →
+            OnOk result (HasPaid D.paid self.new.lane.server start now) }
+    {
+        let count = self.lines.front(piece);
+        match self.take_front(&piece[..count]) {
+            Ok(()) => Ok(count),
+            Err(error) => Err(error),
+        }
+    }
+
+    /// The next line due. None exactly where all that is due was given.
+    #[inline(always)]
+    pub fn next_out<L: Ledger>(&mut self, steps: &mut Steps<L>) -> Option<LaneOut>
+        requires { (x : List ℕ) × (left : List (List ℕ)) × FeedStands D.serves D.has_room self.old x left }
+        ensures gives { (x : List ℕ) (left : List (List ℕ)) → FeedStands D.serves D.has_room self.old x left →
+            FeedGives D.serves D.has_room result self.new x left }
+        ensures paid { (start : ℕ) → HasPaid D.paid self.old.lane.server start steps.old →
+            HasPaid D.paid self.new.lane.server start steps.new }
+    {
+        self.lane.next_out(steps)
+    }
+
+    /// How many bytes came since the last line feed, 129 at most.
+    pub fn rest(&self) -> usize
+        ensures { result ≡ length (begun_line self.now.lines) }
+    {
+        self.lines.rest()
+    }
+
+    /// The lane that its lines are handed to: whether it goes on, why it is refused where no more comes, its mark.
+    #[inline(always)]
+    pub fn lane(&self) -> &Lane<D>
+        ensures { result.now ≡ self.now.lane }
+    {
+        &self.lane
+    }
+
+    /// The lane, where no more bytes come.
+    pub fn into_lane(self) -> Lane<D>
+        ensures { result ≡ self.lane }
+    {
+        self.lane
+    }
+}
