@@ -1,16 +1,16 @@
 -- Lines of snapshots and feeds have no line feed, and a text behind whole lines is cut on its own.
-use Rattle.std.proofs.Common.{◌≡◌, ℕ, ◌≤◌, List, [], ◌∷◌, ◌++◌, append_assoc, append-nil, map, refl, sym, ap, ◌∙◌, true}
-use Rattle.std.proofs.Common.{not, cond, ◌&&◌, arith, decimal, codes, Some, None, inl, inr}
+use Rattle.std.proofs.Common.{◌≡◌, ℕ, List, [], ◌∷◌, ◌++◌, append_assoc, append-nil, map, refl, sym, ap, ◌∙◌}
+use Rattle.std.proofs.Common.{cond, decimal, codes, Some, None}
 use Rattle.std.specs.List.{AllByRecursion, fold}
 use Rattle.std.proofs.lemmas.List.Sums.{fold-append}
 use Rattle.dover_model.specs.declared.events.Role.{Role}
 use Rattle.dover_model.specs.declared.events.Role.TheVariants.{Coming, Fresh, Waiting, Held, Running, Done, Gone}
 use Rattle.dover_model.specs.declared.events.Task.{Task}
 use Rattle.dover_model.specs.JobFacts.{job_numbers}
-use Rattle.dover_model.specs.Lines.{line_of, with_numbers, in_lines, lines_of, whole_lines, rest_of, cut, is_too_long}
+use Rattle.dover_model.specs.Lines.{in_lines, lines_of, whole_lines, rest_of, cut, is_too_long}
 use Rattle.dover_model.specs.FeedLine.{FeedLine, RatioLine, JobLine, TickLine, EndLine, feed_text}
 use Rattle.dover_model.specs.Feed.{next_line, no_lines, account}
-use Rattle.dover_model.proofs.NoFeeds.{feedless_line, feedless_decimal, feedless_decimals, feedless_numbers}
+use Rattle.dover_model.proofs.NoFeeds.{feedless_line, feedless_decimals, feedless_numbers}
 use Rattle.dover_model.proofs.Cuts.{CutText, HasNoFeed, onto, cut_append, cut_in_lines}
 use Rattle.snapshot.specs.Snapshot.{Head, head_line, head_numbers, role_word, state_line}
 

@@ -24,7 +24,7 @@ use Rattle.snapshot.proofs.Alike.{Alike, SameRun, GoAlike, lines_alike}
 use Rattle.snapshot.proofs.Behind.{feedless_head, feedless_states, same_lines, whole_behind, rest_behind, lines_whole}
 use Rattle.snapshot.proofs.Behind.{account_behind}
 use Rattle.snapshot.proofs.Reached.{Reached, lines_reach, lines_few}
-use Rattle.snapshot.proofs.Takeable.{is_head, is_state, taken, stored_is, holds_open, reaches_open}
+use Rattle.snapshot.proofs.Takeable.{is_head, taken, stored_is, holds_open, reaches_open}
 
 -- ---- a feed that may pause
 

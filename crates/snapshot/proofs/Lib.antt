@@ -22,3 +22,4 @@ pub mod Again
 pub mod Feeds
 pub mod Whole
 pub mod Apart
+pub mod Pausing

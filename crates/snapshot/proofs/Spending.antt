@@ -1,5 +1,5 @@
 -- The jobs that a reader serves again, and what they have cost.
-use Rattle.std.proofs.Common.{◌≡◌, ℕ, ◌≤◌, ◌+◌, ◌-◌, List, [], ◌∷◌, ◌++◌, length, length-append, sym, ap, ◌∙◌, subst}
+use Rattle.std.proofs.Common.{ℕ, ◌≤◌, List, [], ◌∷◌, ◌++◌, length, length-append, sym, ap, ◌∙◌, subst}
 use Rattle.std.proofs.Common.{Bool, true, false, cond, ◌&&◌, Option, Some, None, codes, arith}
 use Rattle.std.specs.Prelude.{nat_lt, bytes_eq}
 use Rattle.std.proofs.lemmas.List.Sums.{fold-append}
@@ -9,8 +9,7 @@ use Rattle.queued_jobs.specs.Spending.{HasSpent}
 use Rattle.snapshot.specs.Snapshot.{Head}
 use Rattle.snapshot.specs.Reading.{Begun, Going, Taken, read_task, with_task, with_last, may_follow, has_reached_mark}
 use Rattle.snapshot.specs.Reading.{is_settled, refused_behind, next_line, reading_of}
-use Rattle.snapshot.specs.Stored.{HasRead}
-use Rattle.snapshot.specs.Kept.{Holds, IsReading}
+use Rattle.snapshot.specs.Kept.{IsReading}
 use Rattle.snapshot.specs.Spending.{jobs_read, jobs_kept}
 use Rattle.snapshot.specs.declared.resuming.Resuming.{Resuming}
 use Rattle.snapshot.proofs.Stepping.{served_count}

@@ -3,6 +3,7 @@ pub mod Reading
 pub mod Stored
 pub mod Forms
 pub mod Taken
+pub mod Pausing
 pub mod Kept
 pub mod Spending
 pub mod Feeds

@@ -4,9 +4,11 @@
 mod feeding;
 mod forms;
 pub mod laws;
+mod paused;
 mod reader;
 mod resuming;
 mod writing;
 
+pub use paused::Paused;
 pub use reader::{Got, Reader, SnapFault};
 pub use writing::{head, state};

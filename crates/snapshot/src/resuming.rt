@@ -31,7 +31,7 @@ pub(crate) struct Stance {
 }
 
 /// Takes the run to a mark.
-fn settle<L: Ledger>(server: &mut Server, mark: u64, steps: &mut Steps<L>)
+pub(crate) fn settle<L: Ledger>(server: &mut Server, mark: u64, steps: &mut Steps<L>)
     requires taken { HasTaken server.old mark }
     requires follows { MayFollow server.old.last (Mark mark) }
     ensures taken { HasTaken server.new mark }
