@@ -1,37 +1,29 @@
 -- What is kept of a feed that goes on from its snapshot.
-use Rattle.std.proofs.Common.{◌≡◌, ℕ, List, [], append-nil, refl, sym, ap, ◌∙◌, subst, Some, false, true}
+use Rattle.std.proofs.Common.{◌≡◌, ℕ, List, [], append-nil, refl, sym, ap, ◌∙◌, subst, Some, true}
 use Rattle.dover_model.specs.Session.{instance_of}
 use Rattle.dover_model.specs.State.{State}
-use Rattle.dover_model.specs.Lines.{lines_of, is_too_long}
-use Rattle.dover_model.specs.Feed.{account}
+use Rattle.dover_model.specs.Lines.{lines_of}
+use Rattle.dover_model.specs.Feed.{account, Open}
 use Rattle.dover_model.proofs.Barriers.{settled_at_barrier}
 use Rattle.dover_server.specs.Service.{Service, Stands}
 use Rattle.queued_jobs.specs.Spending.{HasSpent}
 use Rattle.dispatcher.specs.Dispatch.{due_by}
 use Rattle.dispatcher.specs.Serving.{Serves, HasRoom, HasPaid as HasSpentBy}
 use Rattle.event_feed.specs.Kept as feed
-use Rattle.line_text.specs.Cutting.{begun_line, is_over}
 use Rattle.lane_server.specs.Lane.{Fits, IsQuiet}
+use Rattle.lane_server.specs.Feeding.{FeedRests}
 use Rattle.lane_server.specs.Spending.{HasPaid}
+use Rattle.lane_server.specs.declared.feed.Feed.{Feed}
 use Rattle.lane_server.specs.declared.lane.Lane.{Lane}
 use Rattle.lane_server.specs.declared.lane.Work.TheVariants.{Nothing}
-use Rattle.lane_server.proofs.Adding.{reach_open}
+use Rattle.lane_server.proofs.Adding.{reach_open, opens_by}
 use Rattle.snapshot.specs.Snapshot.{MayPause}
 use Rattle.snapshot.specs.Feeds.{ResumesFeed}
 use Rattle.snapshot.proofs.Feeds.{opened, holds}
-use Rattle.serve_word.specs.Feeding.{FeedRests}
 use Rattle.serve_word.specs.Keeping.{Call, IsReady}
-use Rattle.serve_word.specs.declared.feed.Feed.{Feed}
-use Rattle.serve_word.proofs.Accounts.{opens}
 
 module _ (F : List ℕ) (may : MayPause F) (v : Service) (stands : Stands v) (i : feed.Kept)
     (it : ResumesFeed v i F) where
-  -- the clock of the server is the mark
-  clock_is : v.state.clock ≡ (account F).mark
-  clock_is = ap (λ (s : State). s.clock) it.state
-      ∙ (settled_at_barrier (instance_of it.session) (holds F may it.session it.named).reads.valid
-      (account F).mark).clock
-
   -- the server has taken the feed to its mark
   fits : Fits Serves (account F) (Some v)
   fits = (
@@ -42,37 +34,33 @@ module _ (F : List ℕ) (may : MayPause F) (v : Service) (stands : Stands v) (i 
         (record { stands = stands; jobs = it.list; last = it.ready.1; come = it.printed }),
   )
 
-  -- the lane that goes on with it
-  abbrev lane : Lane Service
+  -- the lane that goes on with it, from the server's clock, which is the mark
+  abbrev pub lane : Lane Service
   lane = record { intake = i; server = Some v; mark = v.state.clock; is_open = true; work = Nothing }
 
   lane_rests : IsQuiet Serves HasRoom lane (lines_of F)
   lane_rests = record {
     stands = record {
       intake = it.stands;
-      opened = sym (opens (account F) (opened F may));
+      opened = sym (opens_by (account F) Open (opened F may));
       unended = λ is. it.going.not_ended;
-      marked = clock_is;
+      marked = ap (λ (s : State). s.clock) it.state
+          ∙ (settled_at_barrier (instance_of it.session) (holds F may it.session it.named).reads.valid
+          (account F).mark).clock;
       owes = (refl, fits);
       names = tt;
     };
     quiet = refl;
   }
 
-  pub resumed_rests : (f : Feed Service) → begun_line f.lines ≡ [] → is_over f.lines.last ≡ false → f.lane ≡ lane
-      → FeedRests Serves HasRoom f F
-  resumed_rests f none over is = record {
-    cut = λ open_still. (
-      record { rest = none ∙ sym may.whole; over = over ∙ sym (ap is_too_long may.whole) },
-      ap is_too_long may.whole,
-    );
-    lane = subst (λ l. IsQuiet Serves HasRoom l (lines_of F)) (sym is) lane_rests;
-  }
-
 -- it is ready for a call that goes on with it
-pub ready_on : (c : Call) (now : ℕ) (f : Feed Service) (v : Service) → FeedRests Serves HasRoom f c.feed
-    → f.lane.server ≡ Some v → HasSpent v.state c.start now → IsReady Serves HasRoom HasSpentBy c f now []
-ready_on c now f v rests there spent = record {
-  rests = subst (FeedRests Serves HasRoom f) (sym (append-nil c.feed)) rests;
-  paid = subst (λ o. HasPaid HasSpentBy o c.start now) (sym there) spent;
+pub ready_on : (c : Call) (now : ℕ) (may : MayPause c.feed) (v : Service) (stands : Stands v) (i : feed.Kept)
+    (it : ResumesFeed v i c.feed) (l : Lane Service) → l ≡ lane c.feed may v stands i it → (f : Feed Service)
+    → f.lane ≡ l → (IsQuiet Serves HasRoom l (lines_of c.feed) → FeedRests Serves HasRoom f c.feed)
+    → HasSpent v.state c.start now → IsReady Serves HasRoom HasSpentBy c f now []
+ready_on c now may v stands i it l is f there rests spent = record {
+  rests = subst (FeedRests Serves HasRoom f) (sym (append-nil c.feed))
+      (rests (subst (λ l. IsQuiet Serves HasRoom l (lines_of c.feed)) (sym is)
+      (lane_rests c.feed may v stands i it)));
+  paid = subst (λ (l : Lane Service). HasPaid HasSpentBy l.server c.start now) (sym (there ∙ is)) spent;
 }

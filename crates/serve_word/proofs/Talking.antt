@@ -1,13 +1,16 @@
 -- A feed that is served, as a talk.
-use Rattle.std.proofs.Common.{◌≡◌, ◌<◌, ◌^◌, ◌-◌, ℕ, suc, List, [], ◌∷◌, ◌++◌, length, map, refl, sym, ap, ◌∙◌, subst}
+use Rattle.std.proofs.Common.{◌≡◌, ◌<◌, ◌^◌, ◌-◌, ℕ, suc, List, [], ◌∷◌, ◌++◌, length, map, take, refl, sym, ap, ◌∙◌, subst}
 use Rattle.std.proofs.Common.{arith, append_assoc, append-nil, length-append, Bool, true, false, cond, inl, inr}
 use Rattle.std.proofs.Common.{Result, Ok, Err, Option}
+use Rattle.std.specs.Prelude.{OnOk}
 use Rattle.std.proofs.lemmas.List.{length-map}
+use Rattle.std.proofs.lemmas.List.Folds.{flat_map-map}
 use Rattle.dover_model.specs.declared.Memory.{Memory as Lacking}
 use Rattle.dover_model.specs.Feed as feeds
 use Rattle.dover_model.specs.Feed.{is_open, is_ended, account}
 use Rattle.dover_model.specs.Due.{due, closed, due_lines, fault_text}
-use Rattle.dover_model.specs.Lines.{in_lines, lines_of, whole_lines, rest_of, is_too_long}
+use Rattle.dover_model.specs.Lines.{in_lines, lines_of, whole_lines, rest_of}
+use Rattle.dover_model.proofs.Accounts.{due_grows}
 use Rattle.dover_model.proofs.Beginnings.{in_lines-append}
 use Rattle.dover_model.proofs.Tests.{never}
 use Rattle.dover_port.specs.declared.status.Status.{Status}
@@ -15,33 +18,41 @@ use Rattle.dover_port.specs.declared.status.Status.TheVariants.{Done, No, Refuse
 use Rattle.event_feed.specs.Answers.{EndAnswers, admitted_in}
 use Rattle.event_feed.specs.Kept.{cause_of_fault}
 use Rattle.event_feed.specs.declared.FeedFault.{FeedFault}
-use Rattle.event_feed.proofs.Admitting.{admitted_front}
-use Rattle.event_feed.proofs.Counting.{lines_counted}
-use Rattle.event_feed.proofs.GoingOn.{closed_account, open_bytes}
+use Rattle.event_feed.proofs.Admitting.{admitted_front, declared_front}
+use Rattle.event_feed.proofs.GoingOn.{closed_account, closed_due, open_bytes, open_short}
 use Rattle.dialogue.specs.Talk.{IsSteady, IsOver}
-use Rattle.dialogue.specs.Turns.{joined, AnswersBy}
+use Rattle.dialogue.specs.Turns.{joined, TakesBy, AnswersBy}
 use Rattle.dialogue.proofs.Behind as beyond
 use Rattle.dialogue.specs.declared.talker.Stop.{Stop}
 use Rattle.dialogue.specs.declared.talker.Stop.TheVariants.{NoMemory, Unwritten}
 use Rattle.dover_port.specs.Moves.{Move}
-use Rattle.dover_server.specs.Service.{Service}
 use Rattle.queued_jobs.specs.Spending.{CostsAtMost}
-use Rattle.dispatcher.specs.Serving as server
 use Rattle.lane_server.specs.Lane.{IsDeclared, IsFaulty, Serving, Having}
+use Rattle.lane_server.specs.Feeding.{FeedStands, Takes}
 use Rattle.lane_server.specs.Spending.{HasPaid}
-use Rattle.lane_server.proofs.Adding.{open_stands}
+use Rattle.lane_server.specs.declared.feed.Feed.{Feed}
+use Rattle.lane_server.proofs.Adding.{open_stands, opens_by}
 use Rattle.lane_server.proofs.Few.{owes_few}
 use Rattle.queued_jobs.proofs.Spending.{few_more}
 use Rattle.serve_word.specs.Closing.{PausesAt}
-use Rattle.serve_word.specs.Pausing.{CanPause}
-use Rattle.serve_word.specs.Feeding.{FeedStands, FeedRests, Hands}
-use Rattle.serve_word.specs.Keeping.{Call, due_behind, serve_talk, Costs, IsGiving, IsReady}
+use Rattle.serve_word.specs.Keeping.{Call, due_behind, serve_talk, Costs, IsGiving}
 use Rattle.serve_word.specs.Talk.{IsServedAs, feed_talk}
 use Rattle.serve_word.specs.declared.at_end.AtEnd.{AtEnd}
 use Rattle.serve_word.specs.declared.at_end.AtEnd.TheVariants.{Refuse, Pause}
-use Rattle.serve_word.specs.declared.feed.Feed.{Feed}
 use Rattle.snapshot.specs.Snapshot.{MayPause, snapshot}
-use Rattle.serve_word.proofs.Accounts.{closed_is, due_begins, declared_front, ended_is}
+
+-- what answers for one feed answers for another, if each of the two statuses does
+answers_as : (at other : AtEnd) (x y : List ℕ) (ended : Bool)
+    → ((text : List ℕ) → IsServedAs at x ended Done text → IsServedAs other y ended Done text)
+    → ((text : List ℕ) → IsServedAs at x ended Refused text → IsServedAs other y ended Refused text)
+    → (status : Status) (text : List ℕ) → IsServedAs at x ended status text → IsServedAs other y ended status text
+answers_as at other x y ended done refused Done text it = done text it
+answers_as at other x y ended done refused Refused text it = refused text it
+answers_as at other x y ended done refused No text it = absurd it
+answers_as at other x y ended done refused ReadFault text it = absurd it
+answers_as at other x y ended done refused WriteFault text it = absurd it
+answers_as at other x y ended done refused Memory text it = absurd it
+answers_as at other x y ended done refused Usage text it = absurd it
 
 -- ---- bytes behind the end of a feed
 
@@ -56,27 +67,26 @@ module _ (x y : List ℕ) (over : is_open (account x) ≡ false) where
 
   -- also at the end of the input
   same_closed : closed (x ++ y) ≡ closed x
-  same_closed = closed_is (x ++ y) (ap is_open same ∙ over) ∙ same_due ∙ sym (closed_is x over)
+  same_closed = closed_due (x ++ y) (ap is_open same ∙ over) ∙ same_due ∙ sym (closed_due x over)
 
   -- and the answer
   answered : (at_end : AtEnd) (status : Status) (text : List ℕ) → IsServedAs at_end x false status text
       → IsServedAs at_end (x ++ y) false status text
-  answered at_end Done text (inl it) = inl (ap is_ended same ∙ it.0, it.1 ∙ sym same_due)
-  answered at_end Done text (inr it) = never it.0
-  answered at_end Refused text (inl faulty, it) = (inl (subst IsFaulty (sym same) faulty), it ∙ sym same_closed)
-  answered at_end Refused text (inr cut, it) = never cut.0
-  answered at_end No text it = absurd it
-  answered at_end ReadFault text it = absurd it
-  answered at_end WriteFault text it = absurd it
-  answered at_end Memory text it = absurd it
-  answered at_end Usage text it = absurd it
+  answered at_end = answers_as at_end at_end x (x ++ y) false done refused where
+    done : (text : List ℕ) → IsServedAs at_end x false Done text → IsServedAs at_end (x ++ y) false Done text
+    done text (inl it) = inl (ap is_ended same ∙ it.0, it.1 ∙ sym same_due)
+    done text (inr it) = never it.0
+
+    refused : (text : List ℕ) → IsServedAs at_end x false Refused text → IsServedAs at_end (x ++ y) false Refused text
+    refused text (inl faulty, it) = (inl (subst IsFaulty (sym same) faulty), it ∙ sym same_closed)
+    refused text (inr cut, it) = never cut.0
 
 -- the laws of the talk
 pub feed_steady : (at_end : AtEnd) → IsSteady (feed_talk at_end)
 feed_steady at_end = record {
   opens = refl;
   nothing = refl;
-  grows = λ x y. due_begins x y;
+  grows = due_grows;
   stays = λ x y over. ap is_open (same x y over) ∙ over;
   answered = λ x y status text over it. answered x y over at_end status text it;
   lacking = λ x y it. (it.0, declared_front x y it.1);
@@ -92,11 +102,6 @@ whole_due F x = beyond.whole_due (feed_talk Refuse) (feed_steady Refuse) F x
 due_then : (F x text : List ℕ) → due F ++ (due_behind F x ++ text) ≡ due (F ++ x) ++ text
 due_then F x text = beyond.due_then (feed_talk Refuse) (feed_steady Refuse) F x text
 
--- the text of the parts of lines
-joined_lines : (ls : List (List ℕ)) → joined (map (λ line. line ++ 10 ∷ []) ls) ≡ in_lines ls
-joined_lines [] = refl
-joined_lines (l ∷ ls) = ap (λ r. (l ++ 10 ∷ []) ++ r) (joined_lines ls)
-
 module _ (c : Call) where
   -- the bytes of the call behind those of its feed
   joins : (x y : List ℕ) → c.feed ++ (x ++ y) ≡ (c.feed ++ x) ++ y
@@ -106,54 +111,10 @@ module _ (c : Call) where
   pub steady : (at_end : AtEnd) → IsSteady (serve_talk at_end c.feed)
   steady at_end = beyond.steady_behind (feed_talk at_end) (feed_steady at_end) c.feed c.goes_on
 
-  module _ {D : Type 0} (serves : Serving D) (has_room : Having D) (pays : D → (start now : ℕ) → Type 0) (feed : Feed D)
-      (steps : ℕ) where
-    -- a feed that goes on has few bytes
-    pub few : (x : List ℕ) → IsReady serves has_room pays c feed steps x → is_open (account (c.feed ++ x)) ≡ true
-        → length x < 2 ^ 64 - 1
-    few x at goes = omega (
-      arith,
-      open_bytes (c.feed ++ x) (open_stands (account (c.feed ++ x)) goes) (at.rests.cut goes).1,
-      length-append c.feed x,
-    )
-
-    -- few lines are left to give
-    pub few_parts : (x : List ℕ) (parts : List (List ℕ)) → IsGiving serves has_room pays c feed steps x parts
-        → length parts < 2 ^ 64 - 1
-    few_parts x parts at = omega (
-      arith,
-      ap (λ (l : List (List ℕ)). length l) at.parts_are,
-      length-map at.left (λ (l : List ℕ). l ++ 10 ∷ []),
-      owes_few serves has_room feed.lane.work feed.lane.server (account (c.feed ++ x)) at.left at.stands.lane.owes,
-    )
-
-    -- ---- a front of a piece
-
-    -- it was taken
-    pub taken : (y : Unit {0}) (x front : List ℕ) → Hands serves has_room feed (c.feed ++ x) front (Ok y)
-        → HasPaid pays feed.lane.server c.start steps
-        → (parts : List (List ℕ)) × (due_behind c.feed (x ++ front) ≡ due_behind c.feed x ++ joined parts)
-        × IsGiving serves has_room pays c feed steps (x ++ front) parts
-    taken y x front it paid = (
-      map (λ line. line ++ 10 ∷ []) it.0,
-      beyond.behind_more (feed_talk Refuse) (feed_steady Refuse) c.feed x front
-          (joined (map (λ line. line ++ 10 ∷ []) it.0))
-          (ap due (joins x front) ∙ ap in_lines it.1 ∙ in_lines-append (due_lines (account (c.feed ++ x))) it.0
-          ∙ ap (λ r. due (c.feed ++ x) ++ r) (sym (joined_lines it.0))),
-      record {
-        left = it.0;
-        parts_are = refl;
-        stands = subst (λ z. FeedStands serves has_room feed z it.0) (sym (joins x front)) it.2;
-        paid = paid;
-      },
-    )
-
-    -- there was no memory
-    pub lacked : (e : Lacking) (x front behind piece : List ℕ) → piece ≡ front ++ behind
-        → Hands serves has_room feed (c.feed ++ x) front (Err e) → IsDeclared (account (c.feed ++ (x ++ piece)))
-    lacked e x front behind piece cut it = subst (λ z. IsDeclared (account z))
-        (append_assoc (c.feed ++ x) front behind ∙ ap (λ l. (c.feed ++ x) ++ l) (sym cut) ∙ sym (joins x piece))
-        (declared_front ((c.feed ++ x) ++ front) behind it)
+  -- a feed that goes on has few bytes
+  pub few : (x : List ℕ) → is_open (account (c.feed ++ x)) ≡ true → length x < 2 ^ 64 - 1
+  few x goes = let opened = open_stands (account (c.feed ++ x)) goes in
+      omega (arith, open_bytes (c.feed ++ x) opened (open_short (c.feed ++ x) opened), length-append c.feed x)
 
   -- more bytes have no fewer jobs
   pub costs_more : (steps : ℕ) (x y : List ℕ) → Costs c steps x → Costs c steps (x ++ y)
@@ -161,15 +122,53 @@ module _ (c : Call) where
       (few_more (admitted_in (account (c.feed ++ x))) (admitted_in (account ((c.feed ++ x) ++ y))) c.start steps
       (admitted_front (c.feed ++ x) y) it)
 
+  module _ {D : Type 0} (serves : Serving D) (has_room : Having D) (pays : D → (start now : ℕ) → Type 0) (feed : Feed D)
+      (steps : ℕ) (x : List ℕ) where
+    -- few lines are left to give
+    pub few_parts : (parts : List (List ℕ)) → IsGiving serves has_room pays c feed steps x parts
+        → length parts < 2 ^ 64 - 1
+    few_parts parts at = omega (
+      arith,
+      ap (λ (l : List (List ℕ)). length l) at.parts_are,
+      length-map at.left (λ (l : List ℕ). l ++ 10 ∷ []),
+      owes_few serves has_room feed.lane.work feed.lane.server (account (c.feed ++ x)) at.left at.stands.lane.owes,
+    )
+
+    -- a front of a piece was taken, or there was no memory
+    pub taken : (at_end : AtEnd) (piece : List ℕ) (r : Result ℕ Lacking)
+        → Takes serves has_room feed (c.feed ++ x) piece r
+        → OnOk r (HasPaid pays feed.lane.server c.start steps) → Costs c steps x
+        → TakesBy (serve_talk at_end c.feed) (IsGiving serves has_room pays c feed steps) (Costs c steps) x piece r
+    taken at_end piece (Ok n) it paid costs = (
+      it.0,
+      it.1,
+      (
+        map (λ line. line ++ 10 ∷ []) it.2.0,
+        beyond.behind_more (feed_talk Refuse) (feed_steady Refuse) c.feed x (take n piece)
+            (joined (map (λ line. line ++ 10 ∷ []) it.2.0))
+            (ap due (joins x (take n piece)) ∙ ap in_lines it.2.1
+            ∙ in_lines-append (due_lines (account (c.feed ++ x))) it.2.0
+            ∙ ap (λ r. due (c.feed ++ x) ++ r)
+            (sym (flat_map-map (λ part. part) (λ (line : List ℕ). line ++ 10 ∷ []) it.2.0))),
+        record {
+          left = it.2.0;
+          parts_are = refl;
+          stands = subst (λ z. FeedStands serves has_room feed z it.2.0) (sym (joins x (take n piece))) it.2.2;
+          paid = paid;
+        },
+      ),
+    )
+    taken at_end piece (Err e) it paid costs =
+        ((refl, subst (λ z. IsDeclared (account z)) (sym (joins x piece)) it), costs_more steps x piece costs)
+
   -- ---- the answer
 
   -- the feed has ended
   pub done : (at_end : AtEnd) (x : List ℕ) (ended : Bool) → (account (c.feed ++ x)).standing ≡ feeds.Ended
       → (serve_talk at_end c.feed).answer x ended Done (due_behind c.feed x ++ [])
   done at_end x ended is = inl (
-    ended_is (account (c.feed ++ x)) is,
-    due_then c.feed x []
-        ∙ append-nil (due (c.feed ++ x)),
+    ap (λ s. elim s [ feeds.Open ↦ false | feeds.Ended ↦ true | feeds.Faulty line cause ↦ false ]) is,
+    due_then c.feed x [] ∙ append-nil (due (c.feed ++ x)),
   )
 
   module _ (x : List ℕ) (ended : Bool) (fault : FeedFault)
@@ -179,92 +178,65 @@ module _ (c : Call) where
         → (serve_talk at_end c.feed).answer x ended Refused (due_behind c.feed x ++ [])
     faulty at_end over = (
       inl (by answers),
-      due_then c.feed x [] ∙ append-nil (due (c.feed ++ x)) ∙ sym (closed_is (c.feed ++ x) over),
+      due_then c.feed x [] ∙ append-nil (due (c.feed ++ x)) ∙ sym (closed_due (c.feed ++ x) over),
     ) where
       by : EndAnswers {X = Unit {0}} (lines_of (c.feed ++ x)) (Err fault) → IsFaulty (account (c.feed ++ x))
-      by (inl it) = never (sym over
-          ∙ ap (λ s. elim s [ feeds.Open ↦ true | feeds.Ended ↦ false | feeds.Faulty n cause ↦ false ]) it.0)
+      by (inl it) = never (sym over ∙ opens_by (account (c.feed ++ x)) feeds.Open it.0)
       by (inr is) = (fault.line, cause_of_fault fault.cause, is)
 
-    module _ (goes : is_open (account (c.feed ++ x)) ≡ true) (short : is_too_long (rest_of (c.feed ++ x)) ≡ false) where
+    -- it is cut off: it goes on, the input has ended before it, and it isn't paused
+    pub cut_off : (at_end : AtEnd) → is_open (account (c.feed ++ x)) ≡ true
+        → IsOver (serve_talk at_end c.feed) x ended → (PausesAt at_end (c.feed ++ x) → ⊥)
+        → (serve_talk at_end c.feed).answer x ended Refused
+        (due_behind c.feed x ++ (fault_text fault.line (cause_of_fault fault.cause) ++ 10 ∷ []))
+    cut_off at_end goes over pauses = (
+      inr (sym over ∙ goes, goes, pauses),
+      due_then c.feed x (fault_text fault.line (cause_of_fault fault.cause) ++ 10 ∷ [])
+          ∙ ap (λ l. due (c.feed ++ x) ++ l) (ap (λ l. l ++ 10 ∷ []) (fault_is answers) ∙ sym (append-nil _))
+          ∙ sym (ap (λ b. due (c.feed ++ x)
+          ++ in_lines (cond b (fault_text (suc (length (whole_lines (c.feed ++ x)))) feeds.Short ∷ []) [])) goes),
+    ) where
       -- its lines are the whole ones
       lines_are : lines_of (c.feed ++ x) ≡ whole_lines (c.feed ++ x)
-      lines_are = ap (λ b. whole_lines (c.feed ++ x) ++ cond b (rest_of (c.feed ++ x) ∷ []) []) short
+      lines_are = ap (λ b. whole_lines (c.feed ++ x) ++ cond b (rest_of (c.feed ++ x) ∷ []) [])
+          (open_short (c.feed ++ x) (open_stands (account (c.feed ++ x)) goes))
           ∙ append-nil (whole_lines (c.feed ++ x))
 
       -- the fault is that the feed is short
-      fault_is : fault_text fault.line (cause_of_fault fault.cause)
+      fault_is : EndAnswers {X = Unit {0}} (lines_of (c.feed ++ x)) (Err fault)
+          → fault_text fault.line (cause_of_fault fault.cause)
           ≡ fault_text (suc (length (whole_lines (c.feed ++ x)))) feeds.Short
-      fault_is = by answers where
-        by : EndAnswers {X = Unit {0}} (lines_of (c.feed ++ x)) (Err fault)
-            → fault_text fault.line (cause_of_fault fault.cause)
-            ≡ fault_text (suc (length (whole_lines (c.feed ++ x)))) feeds.Short
-        by (inl it) = ap (λ (f : FeedFault). fault_text f.line (cause_of_fault f.cause)) it.1
-            ∙ ap (λ ls. fault_text (suc (length ls)) feeds.Short) lines_are
-        by (inr was) = absurd (let e = sym (open_stands (account (c.feed ++ x)) goes) ∙ was in cc)
+      fault_is (inl it) = ap (λ (f : FeedFault). fault_text f.line (cause_of_fault f.cause)) it.1
+          ∙ ap (λ ls. fault_text (suc (length ls)) feeds.Short) lines_are
+      fault_is (inr was) = absurd (let e = sym (open_stands (account (c.feed ++ x)) goes) ∙ was in cc)
 
-      -- behind so many lines
-      lines_before : fault.line - 1 ≡ (account (c.feed ++ x)).lines
-      lines_before = by answers where
-        by : EndAnswers {X = Unit {0}} (lines_of (c.feed ++ x)) (Err fault)
-            → fault.line - 1 ≡ (account (c.feed ++ x)).lines
-        by (inl it) = omega (
-          arith,
-          ap (λ (f : FeedFault). f.line) it.1,
-          lines_counted (lines_of (c.feed ++ x)) (open_stands (account (c.feed ++ x)) goes),
-        )
-        by (inr was) = absurd (let e = sym (open_stands (account (c.feed ++ x)) goes) ∙ was in cc)
+  -- it is paused
+  pub paused : (x : List ℕ) (ended : Bool) → IsOver (serve_talk Pause c.feed) x ended → MayPause (c.feed ++ x)
+      → (serve_talk Pause c.feed).answer x ended Done (due_behind c.feed x ++ snapshot (c.feed ++ x))
+  paused x ended over may = inr (sym over ∙ may.going_on, may, due_then c.feed x (snapshot (c.feed ++ x)))
 
-      -- its snapshot can be put
-      pub can_pause : (feed : Feed Service) → FeedRests server.Serves server.HasRoom feed (c.feed ++ x)
-          → MayPause (c.feed ++ x) → CanPause feed (fault.line - 1) (c.feed ++ x)
-      can_pause feed rests may = record { rests = rests; goes_on = goes; may = may; count = lines_before }
+  -- where it isn't paused, it is answered as one that never is
+  module _ (x : List ℕ) (ended : Bool) (never : MayPause (c.feed ++ x) → ⊥) where
+    unpaused : (status : Status) (text : List ℕ) → (serve_talk Refuse c.feed).answer x ended status text
+        → (serve_talk Pause c.feed).answer x ended status text
+    unpaused status text =
+        answers_as Refuse Pause (c.feed ++ x) (c.feed ++ x) ended done refused status (due c.feed ++ text) where
+          done : (text : List ℕ) → IsServedAs Refuse (c.feed ++ x) ended Done text
+              → IsServedAs Pause (c.feed ++ x) ended Done text
+          done text (inl it) = inl it
+          done text (inr paused) = absurd paused.1
 
-      module _ (at_end : AtEnd) (over : IsOver (serve_talk at_end c.feed) x ended) where
-        -- the input has ended before it
-        input_ended : ended ≡ true
-        input_ended = sym over ∙ goes
+          refused : (text : List ℕ) → IsServedAs Refuse (c.feed ++ x) ended Refused text
+              → IsServedAs Pause (c.feed ++ x) ended Refused text
+          refused text (inl faulty, it) = (inl faulty, it)
+          refused text (inr cut, it) = (inr (cut.0, cut.1, never), it)
 
-        -- so it is refused, unless it is paused
-        pub cut_off : (PausesAt at_end (c.feed ++ x) → ⊥) → (serve_talk at_end c.feed).answer x ended Refused
-            (due_behind c.feed x ++ (fault_text fault.line (cause_of_fault fault.cause) ++ 10 ∷ []))
-        cut_off pauses = (
-          inr (input_ended, goes, pauses),
-          due_then c.feed x (fault_text fault.line (cause_of_fault fault.cause) ++ 10 ∷ [])
-              ∙ ap (λ l. due (c.feed ++ x) ++ (l ++ 10 ∷ [])) fault_is
-              ∙ ap (λ l. due (c.feed ++ x) ++ l)
-              (sym (append-nil (fault_text (suc (length (whole_lines (c.feed ++ x)))) feeds.Short ++ 10 ∷ [])))
-              ∙ sym (ap (λ b. due (c.feed ++ x)
-              ++ in_lines (cond b (fault_text (suc (length (whole_lines (c.feed ++ x)))) feeds.Short ∷ []) [])) goes),
-        )
-
-        -- it is paused
-        pub paused : PausesAt at_end (c.feed ++ x)
-            → (serve_talk at_end c.feed).answer x ended Done (due_behind c.feed x ++ snapshot (c.feed ++ x))
-        paused pauses = inr (input_ended, pauses, due_then c.feed x (snapshot (c.feed ++ x)))
-
--- ---- a feed that may be paused
-
--- where it isn't paused, it is answered as one that never is
-pub unpaused : (c : Call) (x : List ℕ) (ended : Bool) → (MayPause (c.feed ++ x) → ⊥) → (status : Status) (text : List ℕ)
-    → (serve_talk Refuse c.feed).answer x ended status text → (serve_talk Pause c.feed).answer x ended status text
-unpaused c x ended never Done text (inl it) = inl it
-unpaused c x ended never Done text (inr paused) = absurd paused.1
-unpaused c x ended never Refused text (inl faulty, it) = (inl faulty, it)
-unpaused c x ended never Refused text (inr cut, it) = (inr (cut.0, cut.1, never), it)
-unpaused c x ended never No text it = absurd it
-unpaused c x ended never ReadFault text it = absurd it
-unpaused c x ended never WriteFault text it = absurd it
-unpaused c x ended never Memory text it = absurd it
-unpaused c x ended never Usage text it = absurd it
-
--- and so the whole answer
-pub unpaused_answer : (c : Call) (x : List ℕ) (ended : Bool) → (MayPause (c.feed ++ x) → ⊥)
-    → (old new : Option (List Move)) (after : List ℕ) (r : Result Status Stop)
-    → AnswersBy (serve_talk Refuse c.feed) x ended old new after r
-    → AnswersBy (serve_talk Pause c.feed) x ended old new after r
-unpaused_answer c x ended never old new after (Ok status) it =
-    (it.0, (it.1.0, unpaused c x ended never status (due_behind c.feed x ++ it.1.0) it.1.1, it.1.2))
-unpaused_answer c x ended never old new after (Err NoMemory) it = it
-unpaused_answer c x ended never old new after (Err Unwritten) it =
-    (it.0, it.1, unpaused c x ended never it.0 (due_behind c.feed x ++ it.1) it.2, it.3)
+    -- and so is the whole answer
+    pub unpaused_answer : (old new : Option (List Move)) (after : List ℕ) (r : Result Status Stop)
+        → AnswersBy (serve_talk Refuse c.feed) x ended old new after r
+        → AnswersBy (serve_talk Pause c.feed) x ended old new after r
+    unpaused_answer old new after (Ok status) it =
+        (it.0, (it.1.0, unpaused status (due_behind c.feed x ++ it.1.0) it.1.1, it.1.2))
+    unpaused_answer old new after (Err NoMemory) it = it
+    unpaused_answer old new after (Err Unwritten) it =
+        (it.0, it.1, unpaused it.0 (due_behind c.feed x ++ it.1) it.2, it.3)

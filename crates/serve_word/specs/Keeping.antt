@@ -6,10 +6,10 @@ use Rattle.queued_jobs.specs.Spending.{CostsAtMost}
 use Rattle.event_feed.specs.Answers.{admitted_in}
 use Rattle.dialogue.specs.Talk.{Talk, talk_behind}
 use Rattle.lane_server.specs.Lane.{Serving, Having}
+use Rattle.lane_server.specs.Feeding.{FeedStands, FeedRests}
 use Rattle.lane_server.specs.Spending.{HasPaid}
-use Rattle.serve_word.specs.Feeding.{FeedStands, FeedRests}
+use Rattle.lane_server.specs.declared.feed.Feed.{Feed}
 use Rattle.serve_word.specs.Talk.{feed_talk}
-use Rattle.serve_word.specs.declared.feed.Feed.{Feed}
 use Rattle.serve_word.specs.declared.at_end.AtEnd.{AtEnd}
 
 -- What a call is about: the bytes of a feed that goes on, of which all that is due was put before, and the comparisons

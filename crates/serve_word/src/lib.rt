@@ -2,14 +2,12 @@
 #![tactic(auto)]
 
 mod at_end;
-mod feed;
 mod pause;
 mod pausing;
 mod serving;
 mod words;
 
 pub use at_end::AtEnd;
-pub use feed::Feed;
 pub use pausing::Pausing;
 pub use serving::Serving;
 pub use words::{pause_word, serve_word};

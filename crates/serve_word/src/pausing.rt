@@ -68,10 +68,7 @@ impl<L: Ledger> Talker for Pausing<L> {
         if !is_paused(&self.serving.feed) {
             return self.serving.answer(meter, port, out, ended);
         }
-        let Err(fault) = self.serving.feed.lane.end() else {
-            unreachable!();
-        };
-        match pause(port, out, self.serving.feed, fault.line - 1, meter) {
+        match pause(port, out, self.serving.feed, meter) {
             Ok(()) => Ok(Status::Done),
             Err(_) => Err(Stop::Unwritten),
         }

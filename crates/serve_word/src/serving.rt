@@ -7,7 +7,6 @@ ghost use Rattle.snapshot.specs.Feeds.{ResumesFeed};
 ghost use Rattle.serve_word.specs.Keeping.{Call, serve_talk, IsGiving, IsReady, Costs};
 ghost use Rattle.serve_word.specs.declared.at_end.AtEnd.TheVariants.{Refuse};
 
-use crate::feed::Feed;
 use dialogue::{Stop, Talker};
 use dispatcher::Dispatcher;
 use dover_model::Memory;
@@ -15,7 +14,7 @@ use dover_port::{Output, Port, Status};
 use dover_server::Server;
 use event_feed::Intake;
 use lane_lines::write_next;
-use lane_server::Lane;
+use lane_server::{Feed, Lane};
 use line_output::put_fault;
 use line_text::BackLine;
 use std::alloc::Global;
@@ -37,8 +36,9 @@ impl<L: Ledger> Serving<Server, L> {
         ensures { (c : Call) (now : ℕ) → MayPause c.feed → ResumesFeed server intake c.feed →
             HasSpent server.state c.start now → IsReady Serves HasRoom HasPaid c result.feed now [] }
     {
+        let mark = server.clock();
         Serving {
-            feed: Feed::resumed(alloc, server, intake),
+            feed: Feed::behind(alloc, Lane::resumed(intake, server, mark)),
             counts: PhantomData,
         }
     }
@@ -63,17 +63,13 @@ impl<D: Dispatcher, L: Ledger> Talker for Serving<D, L> {
 
     fn take(&mut self, _meter: &mut Steps<L>, piece: &[u8]) -> Result<usize, Memory> {
         Lane::<D>::laws();
-        let count = self.feed.lines.front(piece);
-        match self.feed.take_front(&piece[..count]) {
-            Ok(()) => Ok(count),
-            Err(error) => Err(error),
-        }
+        self.feed.take(piece)
     }
 
     fn next_part(&mut self, meter: &mut Steps<L>, part: &mut BackLine) -> bool {
-        match self.feed.lane.next_out(meter) {
+        match self.feed.next_out(meter) {
             Some(out) => {
-                write_next(&out, self.feed.lane.spelled(), part);
+                write_next(&out, self.feed.lane().spelled(), part);
                 true
             }
             None => false,
@@ -81,7 +77,7 @@ impl<D: Dispatcher, L: Ledger> Talker for Serving<D, L> {
     }
 
     fn goes_on(&self, _meter: &Steps<L>) -> bool {
-        self.feed.lane.goes_on()
+        self.feed.lane().goes_on()
     }
 
     fn answer<P: Port>(
@@ -92,10 +88,11 @@ impl<D: Dispatcher, L: Ledger> Talker for Serving<D, L> {
         _ended: bool,
     ) -> Result<Status, Stop> {
         Lane::<D>::laws();
-        let Err(fault) = self.feed.lane.end() else {
+        let lane = self.feed.into_lane();
+        let Err(fault) = lane.end() else {
             return Ok(Status::Done);
         };
-        if !self.feed.lane.goes_on() {
+        if !lane.goes_on() {
             return Ok(Status::Refused);
         }
         match put_fault(port, out, fault) {

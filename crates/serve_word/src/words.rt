@@ -6,11 +6,11 @@ ghost use Rattle.serve_word.specs.Spending.{IsFrugal};
 ghost use Rattle.serve_word.specs.Talk.{feed_talk};
 ghost use Rattle.serve_word.specs.declared.at_end.AtEnd.TheVariants.{Refuse, Pause};
 
-use crate::feed::Feed;
 use crate::pausing::Pausing;
 use crate::serving::Serving;
 use dialogue::converse;
 use dover_port::{Port, Status};
+use lane_server::Feed;
 use ready_server::ReadyServer;
 use std::alloc::Global;
 use std::marker::PhantomData;

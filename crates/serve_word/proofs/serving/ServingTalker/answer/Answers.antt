@@ -13,7 +13,7 @@ returns-in_default-clause-answers g c = λ a x at over. (
   tt,
   (
     [],
-    done a Refuse x c.args._ended (c.in_default.ensures (lines_of (a.feed ++ x)) [] at.rests.lane.stands),
+    done a Refuse x c.args._ended ((rw c.into_lane-lane.ensures at (c.in_default.ensures (lines_of (a.feed ++ x)) [])) at.rests.lane.stands),
     rw c.requires.empty (passes_nothing _ []),
   ),
 )
@@ -23,30 +23,30 @@ returns-then-not-goes_on-clause-answers g c = λ a x at over. (
   tt,
   (
     [],
-    faulty a x c.args._ended c.in-Err.fault (c.in-Err.ensures (lines_of (a.feed ++ x)) [] at.rests.lane.stands) Refuse
-        (sym (c.goes_on.ensures (lines_of (a.feed ++ x)) [] at.rests.lane.stands) ∙ c.if-not-goes_on.true),
+    faulty a x c.args._ended c.in-Err.fault ((rw c.into_lane-lane.ensures at (c.in-Err.ensures (lines_of (a.feed ++ x)) [])) at.rests.lane.stands) Refuse
+        (sym ((rw c.into_lane-lane.ensures at (c.goes_on.ensures (lines_of (a.feed ++ x)) [])) at.rests.lane.stands) ∙ c.if-not-goes_on.true),
     rw c.requires.empty (passes_nothing _ []),
   ),
 )
 
 pub returns-in-Ok-clause-answers : goal.returns-in-Ok-clause-answers
 returns-in-Ok-clause-answers g c = λ a x at over.
-    let goes = sym (c.goes_on.ensures (lines_of (a.feed ++ x)) [] at.rests.lane.stands) ∙ c.if-not-goes_on.false in (
+    let goes = sym ((rw c.into_lane-lane.ensures at (c.goes_on.ensures (lines_of (a.feed ++ x)) [])) at.rests.lane.stands) ∙ c.if-not-goes_on.false in (
       tt,
       (
         fault_text c.in-Err.fault.line (cause_of_fault c.in-Err.fault.cause) ++ 10 ∷ [],
-        cut_off a x c.args._ended c.in-Err.fault (c.in-Err.ensures (lines_of (a.feed ++ x)) [] at.rests.lane.stands)
-            goes (at.rests.cut goes).1 Refuse over (λ pauses. pauses),
+        cut_off a x c.args._ended c.in-Err.fault ((rw c.into_lane-lane.ensures at (c.in-Err.ensures (lines_of (a.feed ++ x)) [])) at.rests.lane.stands)
+            Refuse goes over (λ pauses. pauses),
         rw c.requires.empty at c.in-Ok.ensures.text.all,
       ),
     )
 
 pub returns-clause-answers : goal.returns-clause-answers
 returns-clause-answers g c = λ a x at over.
-    let goes = sym (c.goes_on.ensures (lines_of (a.feed ++ x)) [] at.rests.lane.stands) ∙ c.if-not-goes_on.false in (
+    let goes = sym ((rw c.into_lane-lane.ensures at (c.goes_on.ensures (lines_of (a.feed ++ x)) [])) at.rests.lane.stands) ∙ c.if-not-goes_on.false in (
       Refused,
       fault_text c.in-Err.fault.line (cause_of_fault c.in-Err.fault.cause) ++ 10 ∷ [],
-      cut_off a x c.args._ended c.in-Err.fault (c.in-Err.ensures (lines_of (a.feed ++ x)) [] at.rests.lane.stands)
-          goes (at.rests.cut goes).1 Refuse over (λ pauses. pauses),
+      cut_off a x c.args._ended c.in-Err.fault ((rw c.into_lane-lane.ensures at (c.in-Err.ensures (lines_of (a.feed ++ x)) [])) at.rests.lane.stands)
+          Refuse goes over (λ pauses. pauses),
       rw c.requires.empty at c.in-Err-put_fault.ensures.text.part,
     )

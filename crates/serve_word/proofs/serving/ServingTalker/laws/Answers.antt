@@ -8,8 +8,7 @@ pub returns-clause-steady : goal.returns-clause-steady
 returns-clause-steady g c = λ a. steady a Refuse
 
 pub returns-clause-few : goal.returns-clause-few
-returns-clause-few g c = λ a t m x at goes. few a g.D.Dispatcher.serves g.D.Dispatcher.has_room g.D.Dispatcher.paid
-    t.feed m x at goes
+returns-clause-few g c = λ a t m x at goes. few a x goes
 
 pub returns-clause-parts : goal.returns-clause-parts
 returns-clause-parts g c = λ a t m x rest at. few_parts a g.D.Dispatcher.serves g.D.Dispatcher.has_room

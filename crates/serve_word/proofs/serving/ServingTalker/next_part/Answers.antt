@@ -1,27 +1,26 @@
 use Rattle.std.proofs.Common.{◌++◌, ◌∷◌, [], ap, sym, ◌∙◌, map, refl}
-use Rattle.dover_model.specs.Lines.{lines_of}
 use Rattle.serve_word.proofs.serving.ServingTalker.next_part.Goals as goal
 
 pub next_out-requires : goal.next_out-requires
 next_out-requires g c =
-    let at = c.requires.3 in (lines_of (c.requires.0.feed ++ c.requires.1), at.left, at.stands.lane)
+    let at = c.requires.3 in (c.requires.0.feed ++ c.requires.1, at.left, at.stands)
 
 pub write_next-requires : goal.write_next-requires
 write_next-requires g c =
     let at = c.requires.3 in
-    (c.in-Some.ensures.gives (lines_of (c.requires.0.feed ++ c.requires.1)) at.left at.stands.lane).3
+    (c.in-Some.ensures.gives (c.requires.0.feed ++ c.requires.1) at.left at.stands).3
 
 pub returns-in-Some : goal.returns-in-Some
 returns-in-Some g c = record {
   gives = λ a x rest at.
-      let given = c.in-Some.ensures.gives (lines_of (a.feed ++ x)) at.left at.stands.lane in (
+      let given = c.in-Some.ensures.gives (a.feed ++ x) at.left at.stands in (
         map (λ line. line ++ 10 ∷ []) given.0,
         at.parts_are ∙ ap (map (λ line. line ++ 10 ∷ [])) given.1
             ∙ ap (λ part. part ∷ map (λ line. line ++ 10 ∷ []) given.0) (sym c.write_next.ensures.text),
         record {
           left = given.0;
           parts_are = refl;
-          stands = record { cut = at.stands.cut; lane = given.2 };
+          stands = given.2;
           paid = c.in-Some.ensures.paid a.start at.paid;
         },
       );
@@ -30,10 +29,10 @@ returns-in-Some g c = record {
 pub returns-in-None : goal.returns-in-None
 returns-in-None g c = record {
   gives = λ a x rest at.
-      let given = c.in-None.ensures.gives (lines_of (a.feed ++ x)) at.left at.stands.lane in (
+      let given = c.in-None.ensures.gives (a.feed ++ x) at.left at.stands in (
         at.parts_are ∙ ap (map (λ line. line ++ 10 ∷ [])) given.0,
         record {
-          rests = record { cut = at.stands.cut; lane = given.1 };
+          rests = given.1;
           paid = c.in-None.ensures.paid a.start at.paid;
         },
       );
