@@ -1,5 +1,5 @@
 -- What is due of a run up to a horizon.
-use Rattle.std.proofs.Common.{◌≡◌, ◌≤◌, [], length, sym, arith}
+use Rattle.std.proofs.Common.{◌≤◌, [], length, sym, arith}
 use Rattle.std.proofs.lemmas.List.{append-nil}
 use Rattle.dover_model.specs.Instance.{Instance, IsValid}
 use Rattle.dover_model.specs.Run.{printed}
