@@ -1,25 +1,15 @@
 -- Steps to a horizon make few comparisons: the weights pay for each time that a job begins or ceases to wait.
-use Rattle.std.proofs.Common.{◌≡◌, ℕ, ◌+◌, ◌*◌, ◌≤◌, ◌⊎◌, inl, inr, List, [], ◌∷◌, ◌++◌, refl, sym, ap, ◌∙◌, subst}
-use Rattle.std.proofs.Common.{Bool, true, false, not, arith}
-use Rattle.std.specs.Prelude.{◌&&◌, Option, Some, None, IfSome, IsNone}
-use Rattle.std.specs.Bool.{then_some}
-use Rattle.std.specs.List.{sum_by, list_all, filter}
+use Rattle.std.proofs.Common.{◌≡◌, ℕ, ◌+◌, ◌*◌, ◌≤◌, List, [], ◌∷◌, ◌++◌, refl, sym, ap, ◌∙◌, subst}
+use Rattle.std.proofs.Common.{arith}
+use Rattle.std.specs.Prelude.{Option, Some, None, IfSome, IsNone}
 use Rattle.std.proofs.lemmas.List.Sums.{sum_by-cons}
 use Rattle.dover_model.specs.declared.events.Event.{Event}
-use Rattle.dover_model.specs.declared.events.Event.TheVariants.{End as EndEvent}
-use Rattle.dover_model.specs.declared.events.Task.{Task}
 use Rattle.dover_model.specs.Instance.{Rules, Instance, IsValid}
-use Rattle.dover_model.specs.State.{State, is_waiting, is_over, is_done, value_sum}
-use Rattle.dover_model.specs.Step.{Move, Prints, Waits, Ticks, step, open_step, after, ending, ◌or_else◌, with_role}
-use Rattle.dover_model.specs.Step.{ticked}
+use Rattle.dover_model.specs.State.{State}
+use Rattle.dover_model.specs.Step.{after}
 use Rattle.dover_model.specs.Run.{Step}
-use Rattle.dover_model.specs.WaitingMoves.{role_then, waits_then, leaves, enters}
+use Rattle.dover_model.specs.WaitingMoves.{leaves, enters}
 use Rattle.dover_model.specs.Sound.{Keeps}
-use Rattle.dover_model.proofs.Members.{sum_plus, sum_same, sum_map, sum_zero}
-use Rattle.dover_model.proofs.Ticking.{Quiet}
-use Rattle.dover_model.proofs.Leaving.{ceases}
-use Rattle.dover_model.proofs.Kept.{open_deed, step_deed, end_same}
-use Rattle.dover_model.proofs.Potential.{Lowers, Weighs, one_if, deed_lowers, tick_weighs}
 use Rattle.dover_model.proofs.WaitingMoves.{waiting_count, counts_balance, step_leaves, open_leaves}
 use Rattle.queued_jobs.specs.Spending.{exits}
 use Rattle.queued_jobs.proofs.Spending.{cost_paid}
