@@ -20,7 +20,7 @@ use Rattle.serve_word.specs.Closing.{PausesAt}
 use Rattle.serve_word.specs.Talk.{IsServedAs}
 use Rattle.serve_word.specs.declared.at_end.AtEnd.{AtEnd}
 use Rattle.serve_word.specs.declared.at_end.AtEnd.TheVariants as ends
-use Rattle.serve_word.proofs.Accounts.{said_ended}
+use Rattle.lane_server.proofs.Feeding.{ended_over as said_ended}
 use Rattle.resume_word.specs.Record as resumed
 use Rattle.judge_word.specs.Talk.{IsTrace}
 use Rattle.question_words.specs.Talk as asked

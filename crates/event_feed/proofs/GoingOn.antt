@@ -10,7 +10,7 @@ use Rattle.dover_model.specs.Limits.{most_lines}
 use Rattle.dover_model.specs.Lines.{in_lines, lines_of, whole_lines, rest_of, is_too_long, fields_of}
 use Rattle.dover_model.specs.FeedLine.{FeedLine, feed_line, line_of_fields}
 use Rattle.dover_model.specs.Session.{Session}
-use Rattle.dover_model.specs.Feed.{Account, Standing, Open, Ended, Faulty, Lines, Short, Cause, no_lines, is_open, is_ended}
+use Rattle.dover_model.specs.Feed.{Account, Standing, Open, Ended, Faulty, Lines, Short, Cause, no_lines, is_open}
 use Rattle.dover_model.specs.Feed.{next_line, read_line, with_fault, account}
 use Rattle.dover_model.specs.Due.{due, closed, fault_text}
 use Rattle.dover_model.proofs.Accounts.{account_append}
@@ -35,15 +35,6 @@ pub closed_due : (x : List ℕ) → is_open (account x) ≡ false → closed x �
 closed_due x over =
     ap (λ b. due x ++ in_lines (cond b (fault_text (suc (length (whole_lines x))) Short ∷ []) [])) over
     ∙ append-nil (due x)
-
--- one that has ended doesn't go on
-pub ended_over : (a : Account) → is_ended a ≡ true → is_open a ≡ false
-ended_over a ended = by a.standing ended where
-  by : (s : Standing) → elim s [ Open ↦ false | Ended ↦ true | Faulty line cause ↦ false ] ≡ true
-      → elim s [ Open ↦ true | Ended ↦ false | Faulty line cause ↦ false ] ≡ false
-  by Open is = absurd (let e : false ≡ true = is in cc)
-  by Ended is = refl
-  by (Faulty line cause) is = refl
 
 -- ---- the lines of a feed that goes on
 

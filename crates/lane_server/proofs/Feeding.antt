@@ -1,20 +1,37 @@
 -- What bytes of a feed hand to its lane, and what is left to give then.
-use Rattle.std.proofs.Common.{◌≡◌, ℕ, List, [], ◌∷◌, ◌++◌, sym, ap, ◌∙◌, subst, true, false, Result, Ok, Err, cond}
+use Rattle.std.proofs.Common.{◌≡◌, ℕ, List, [], ◌∷◌, ◌++◌, sym, ap, ◌∙◌, subst, refl, true, false, Result, Ok, Err, cond, Some}
 use Rattle.std.proofs.lemmas.List.{append-nil}
 use Rattle.std.specs.Prelude.{OnOk, OnErr}
 use Rattle.dover_model.specs.declared.Memory.{Memory}
 use Rattle.dover_model.specs.Due.{due_lines}
-use Rattle.dover_model.specs.Feed.{account, account_of_lines, is_open, next_line}
+use Rattle.dover_model.specs.Feed.{Account, Standing, Open, Ended, Faulty, account, account_of_lines, is_open, is_ended}
+use Rattle.dover_model.specs.Feed.{next_line}
 use Rattle.dover_model.specs.Lines.{lines_of, rest_of, is_too_long}
+use Rattle.dover_model.specs.Session.{Session, instance_of}
+use Rattle.dover_model.specs.Settled.{settled}
 use Rattle.dover_model.specs.WholeRun.{Begins}
 use Rattle.dover_model.proofs.Accounts.{lines_goes}
 use Rattle.line_text.specs.Cutting.{Cutting, StandsFor, with_byte}
+use Rattle.dispatcher.specs.Dispatch.{due_by}
+use Rattle.dover_server.specs.declared.horizon.Horizon.TheVariants.{Mark}
+use Rattle.event_feed.specs.Kept as feed
 use Rattle.event_feed.proofs.GoingOn.{open_short}
-use Rattle.lane_server.specs.Lane.{IsDeclared, Serving, Having, Stands, IsQuiet}
+use Rattle.lane_server.specs.Lane.{IsDeclared, Serving, Having, Fits, Owes, Stands, IsQuiet}
 use Rattle.lane_server.specs.Lanes.{lines_added}
 use Rattle.lane_server.specs.Feeding.{Hands}
 use Rattle.lane_server.specs.declared.feed.Feed.{Feed}
-use Rattle.lane_server.proofs.Adding.{account_next, added_is, lines_kept, open_stands}
+use Rattle.lane_server.specs.declared.lane.Lane.{Lane}
+use Rattle.lane_server.specs.declared.lane.Work.TheVariants.{Nothing}
+use Rattle.lane_server.proofs.Adding.{account_next, added_is, lines_kept, open_serves, open_stands, opens_by, reach_open}
+
+-- a feed that has ended doesn't go on
+pub ended_over : (a : Account) → is_ended a ≡ true → is_open a ≡ false
+ended_over a ended = by a.standing ended where
+  by : (s : Standing) → elim s [ Open ↦ false | Ended ↦ true | Faulty line cause ↦ false ] ≡ true
+      → elim s [ Open ↦ true | Ended ↦ false | Faulty line cause ↦ false ] ≡ false
+  by Open is = absurd (let e : false ≡ true = is in cc)
+  by Ended is = refl
+  by (Faulty line cause) is = refl
 
 -- a line adds to what was due
 pub due_added : (ls : List (List ℕ)) (l : List ℕ)
@@ -59,3 +76,45 @@ module _ {D : Type 0} (serves : Serving D) (has_room : Having D) (feed : Feed D)
     },
   )
   hands_line (Err e) line more stands lacks = subst (λ ls. IsDeclared (account_of_lines ls)) (sym more) lacks
+
+-- ---- a lane that goes on and has given all
+
+module _ {D : Type 0} (serves : Serving D) (has_room : Having D) (ls : List (List ℕ))
+    (stands : (account_of_lines ls).standing ≡ Open) where
+  -- the server has taken the run of this session to the mark
+  abbrev pub AtMark : D → Session → ℕ → Type 0
+  AtMark v S mark = serves v (instance_of S) (Mark mark) (settled (instance_of S) mark)
+
+  -- its server has
+  pub quiet_serves : (lane : Lane D) → IsQuiet serves has_room lane ls → (v : D) → lane.server ≡ Some v
+      → (S : Session) × ((account_of_lines ls).session ≡ Some S) × AtMark v S (account_of_lines ls).mark
+  quiet_serves lane it v there =
+      let owes = subst (λ w. Owes serves has_room w lane.server (account_of_lines ls) []) it.quiet it.stands.owes in
+      let fits : Fits serves (account_of_lines ls) (Some v) = subst (Fits serves (account_of_lines ls)) there owes.1 in
+      (fits.0, fits.1, open_serves serves (account_of_lines ls) fits.0 v fits fits.1 stands)
+
+  -- so a lane is quiet that goes on with such a server
+  pub quiet_on : (intake : feed.Kept) (v : D) (S : Session) (mark : ℕ) → feed.StandsFor intake ls → feed.IsGoing intake
+      → (account_of_lines ls).session ≡ Some S → mark ≡ (account_of_lines ls).mark
+      → AtMark v S (account_of_lines ls).mark
+      → IsQuiet serves has_room
+      (record { intake = intake; server = Some v; mark = mark; is_open = true; work = Nothing }) ls
+  quiet_on intake v S mark it going there marked served = record {
+    stands = record {
+      intake = it;
+      opened = sym (opens_by (account_of_lines ls) Open stands);
+      unended = λ is. going.not_ended;
+      marked = marked;
+      owes = (
+        refl,
+        (
+          S,
+          there,
+          subst (λ h. serves v (instance_of S) h (due_by (instance_of S) h)) (sym (reach_open (account_of_lines ls) stands))
+              served,
+        ),
+      );
+      names = tt;
+    };
+    quiet = refl;
+  }

@@ -27,7 +27,7 @@ use Rattle.serve_word.specs.Keeping.{due_behind, serve_talk}
 use Rattle.serve_word.specs.Talk.{IsServedAs}
 use Rattle.serve_word.specs.declared.at_end.AtEnd.{AtEnd}
 use Rattle.serve_word.specs.declared.at_end.AtEnd.TheVariants.{Refuse, Pause}
-use Rattle.serve_word.proofs.Accounts.{declared_front}
+use Rattle.event_feed.proofs.Admitting.{declared_front}
 use Rattle.serve_word.proofs.Talking.{whole_due}
 
 -- ---- texts behind what was due for the one feed, and for the other

@@ -4,7 +4,7 @@ use Rattle.dover_model.specs.Feed.{account}
 use Rattle.dover_model.proofs.Tests.{never}
 use Rattle.dispatcher.specs.Serving.{Serves, HasRoom, HasPaid}
 use Rattle.dover_server.specs.Service.{Service}
-use Rattle.event_feed.proofs.GoingOn.{open_bytes}
+use Rattle.event_feed.proofs.GoingOn.{open_bytes, open_short}
 use Rattle.lane_server.proofs.Adding.{open_stands}
 use Rattle.serve_word.specs.Keeping as serve
 use Rattle.serve_word.specs.Keeping.{Call, Costs}
@@ -28,10 +28,10 @@ module _ {L : Type 0} (a : Asked) (now : ℕ) (x : List ℕ) where
   few (stage.Refused line) at goes = never (sym (goes_at a x (Refused line) at.0) ∙ goes)
   few (stage.Serving s) at goes =
       let still = sym (past_goes a x _ at) ∙ goes in
+      let opened = open_stands (account (feed_of at.head at.tasks ++ behind_snapshot at.head at.tasks x)) still in
       talking.few_bytes x at.head at.tasks at.reads still
-      (open_bytes (feed_of at.head at.tasks ++ behind_snapshot at.head at.tasks x)
-      (open_stands (account (feed_of at.head at.tasks ++ behind_snapshot at.head at.tasks x)) still)
-      (at.holds.rests.cut still).1)
+      (open_bytes (feed_of at.head at.tasks ++ behind_snapshot at.head at.tasks x) opened
+      (open_short (feed_of at.head at.tasks ++ behind_snapshot at.head at.tasks x) opened))
 
   module _ (rest : List (List ℕ)) where
     -- few parts are left

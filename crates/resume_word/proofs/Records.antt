@@ -17,7 +17,7 @@ use Rattle.snapshot.specs.Reading as reading
 use Rattle.snapshot.specs.Reading.{Reading, Begun, Going, Taken, reading_of}
 use Rattle.snapshot.proofs.Feeds.{named}
 use Rattle.serve_word.specs.Keeping.{serve_talk}
-use Rattle.serve_word.proofs.Accounts.{declared_front}
+use Rattle.event_feed.proofs.Admitting.{declared_front}
 use Rattle.resume_word.specs.Record.{is_part, MayRead, IsRefusedFor, Ends, Resumes}
 use Rattle.resume_word.specs.Talk.{Asked, feed_of, behind_snapshot, IsRefusedAs, IsAnsweredBy, LacksBy}
 use Rattle.resume_word.specs.Talk.{HasBegun, resume_talk}

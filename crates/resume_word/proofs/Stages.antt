@@ -31,7 +31,7 @@ use Rattle.snapshot.proofs.Spending.{jobs_reading}
 use Rattle.snapshot.proofs.Whole.{shortest_text}
 use Rattle.serve_word.specs.Keeping as serve
 use Rattle.serve_word.specs.Keeping.{Call, Costs, due_behind, serve_talk}
-use Rattle.serve_word.specs.declared.feed.Feed.{Feed}
+use Rattle.lane_server.specs.declared.feed.Feed.{Feed}
 use Rattle.serve_word.specs.declared.at_end.AtEnd.{AtEnd}
 use Rattle.serve_word.specs.declared.at_end.AtEnd.TheVariants.{Refuse}
 use Rattle.serve_word.proofs.Talking.{steady}

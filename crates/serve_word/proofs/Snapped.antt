@@ -4,7 +4,8 @@ use Rattle.std.proofs.Common.{Option, Some, arith, inl, inr, Err}
 use Rattle.std.proofs.lemmas.List.{append-nil, take_more, take-append-drop}
 use Rattle.dover_model.specs.Lines.{in_lines, lines_of}
 use Rattle.dover_model.specs.Feed.{account}
-use Rattle.dover_model.specs.Session.{instance_of}
+use Rattle.dover_model.specs.Paths.{HasPrinted}
+use Rattle.dover_model.specs.Session.{Session, instance_of}
 use Rattle.dover_model.specs.Settled.{settled}
 use Rattle.dover_model.proofs.Beginnings.{in_lines-append}
 use Rattle.dover_port.specs.Moves.{Move, Passes, CutsShort}
@@ -15,46 +16,41 @@ use Rattle.dispatcher.specs.Serving.{Serves, HasRoom}
 use Rattle.event_feed.specs.Answers.{EndAnswers}
 use Rattle.event_feed.specs.declared.faults.FeedFault.{FeedFault}
 use Rattle.event_feed.proofs.Counting.{lines_counted}
-use Rattle.lane_server.specs.Lane.{Fits, IsQuiet, Owes, Stands}
+use Rattle.lane_server.specs.Lane.{IsQuiet, Stands}
 use Rattle.lane_server.specs.Feeding.{FeedRests}
 use Rattle.lane_server.specs.declared.feed.Feed.{Feed}
 use Rattle.lane_server.specs.declared.lane.Lane.{Lane}
-use Rattle.lane_server.proofs.Adding.{open_serves}
+use Rattle.lane_server.proofs.Feeding.{AtMark, quiet_serves}
 use Rattle.snapshot.specs.Snapshot.{MayPause}
 use Rattle.snapshot.specs.Pausing.{IsTakenTo}
 use Rattle.snapshot.proofs.Feeds.{opened}
 
-module _ (feed : Feed Service) (x : List ℕ) (rests : FeedRests Serves HasRoom feed x) (may : MayPause x)
-    (lane : Lane Service) (is : lane ≡ feed.lane) where
-  -- all that is due was given
+-- the server has taken the feed to its mark, and its lines are those before the fault that says that it is short
+pub taken_to : (feed : Feed Service) (x : List ℕ) → FeedRests Serves HasRoom feed x → MayPause x → (lane : Lane Service)
+    → lane ≡ feed.lane → (v : Service) → lane.server ≡ Some v → (fault : FeedFault)
+    → ((ls rest : List (List ℕ)) → Stands Serves HasRoom lane ls rest → EndAnswers {X = Unit {0}} ls (Err fault))
+    → (mark : ℕ) → mark ≡ lane.mark → IsTakenTo v (fault.line - 1) mark x
+taken_to feed x rests may lane is v there fault answers mark marked = record {
+  may = may;
+  lines_are = by (answers (lines_of x) [] quiet.stands);
+  mark_is = marked ∙ quiet.stands.marked;
+  session = at.0;
+  named = at.1;
+  list = at.2.jobs;
+  last = at.2.last ∙ ap Mark (sym (marked ∙ quiet.stands.marked));
+  printed = subst (λ m. HasPrinted (instance_of at.0) m v.state (settled (instance_of at.0) m))
+      (sym (marked ∙ quiet.stands.marked)) at.2.come;
+} where
   quiet : IsQuiet Serves HasRoom lane (lines_of x)
   quiet = subst (λ l. IsQuiet Serves HasRoom l (lines_of x)) (sym is) rests.lane
 
-  -- the server has taken the feed to its mark, and its lines are those before the fault that says that it is short
-  pub taken_to : (v : Service) → lane.server ≡ Some v → (fault : FeedFault)
-      → ((ls rest : List (List ℕ)) → Stands Serves HasRoom lane ls rest → EndAnswers {X = Unit {0}} ls (Err fault))
-      → (mark : ℕ) → mark ≡ lane.mark → IsTakenTo v (fault.line - 1) mark x
-  taken_to v there fault answers mark marked = record {
-    may = may;
-    lines_are = by (answers (lines_of x) [] quiet.stands);
-    mark_is = marked ∙ quiet.stands.marked;
-    session = fit.0;
-    named = fit.1;
-    list = served.jobs;
-    last = served.last;
-    printed = served.come;
-  } where
-    fit : Fits Serves (account x) (Some v)
-    fit = let owes = subst (λ w. Owes Serves HasRoom w lane.server (account x) []) quiet.quiet quiet.stands.owes in
-        subst (Fits Serves (account x)) there owes.1
+  at : (S : Session) × ((account x).session ≡ Some S) × AtMark Serves HasRoom (lines_of x) (opened x may) v S
+      (account x).mark
+  at = quiet_serves Serves HasRoom (lines_of x) (opened x may) lane quiet v there
 
-    served : Serves v (instance_of fit.0) (Mark mark) (settled (instance_of fit.0) mark)
-    served = subst (λ m. Serves v (instance_of fit.0) (Mark m) (settled (instance_of fit.0) m))
-        (sym (marked ∙ quiet.stands.marked)) (open_serves Serves (account x) fit.0 v fit fit.1 (opened x may))
-
-    by : EndAnswers {X = Unit {0}} (lines_of x) (Err fault) → fault.line - 1 ≡ (account x).lines
-    by (inl it) = omega (arith, ap (λ (f : FeedFault). f.line) it.1, lines_counted (lines_of x) (opened x may))
-    by (inr was) = absurd (let e = sym (opened x may) ∙ was in cc)
+  by : EndAnswers {X = Unit {0}} (lines_of x) (Err fault) → fault.line - 1 ≡ (account x).lines
+  by (inl it) = omega (arith, ap (λ (f : FeedFault). f.line) it.1, lines_counted (lines_of x) (opened x may))
+  by (inr was) = absurd (let e = sym (opened x may) ∙ was in cc)
 
 module _ (ls : List (List ℕ)) (i : ℕ) (within : i < length ls) (line : List ℕ) (is : line ≡ get_or ls i [])
     (a b c : Option (List Move)) (p q r : List ℕ) (first : Passes a b p q (in_lines (take i ls))) where

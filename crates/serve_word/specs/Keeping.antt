@@ -1,5 +1,5 @@
 -- What is kept of a feed that is served on behind bytes that were read before.
-use Rattle.std.specs.Prelude.{◌≡◌, ℕ, List, ◌∷◌, ◌++◌, [], length, drop, map, true}
+use Rattle.std.specs.Prelude.{◌≡◌, ℕ, List, ◌∷◌, ◌++◌, [], length, drop, map, true, refl}
 use Rattle.dover_model.specs.Due.{due}
 use Rattle.dover_model.specs.Feed.{account, is_open}
 use Rattle.queued_jobs.specs.Spending.{CostsAtMost}
@@ -18,6 +18,10 @@ pub record Call : Type 0 where
   pub feed : List ℕ
   pub goes_on : is_open (account feed) ≡ true
   pub start : ℕ
+
+-- a call that is about a whole feed
+abbrev pub whole_call : ℕ → Call
+whole_call start = record { feed = []; goes_on = refl; start = start }
 
 -- what is due for the bytes behind the feed, beyond what was due for the feed
 abbrev pub due_behind : List ℕ → List ℕ → List ℕ

@@ -4,7 +4,7 @@ ghost use Rattle.queued_jobs.specs.Spending.{HasSpent};
 ghost use Rattle.dispatcher.specs.Serving.{Serves, HasRoom, HasPaid};
 ghost use Rattle.snapshot.specs.Snapshot.{MayPause};
 ghost use Rattle.snapshot.specs.Feeds.{ResumesFeed};
-ghost use Rattle.serve_word.specs.Keeping.{Call, serve_talk, IsGiving, IsReady, Costs};
+ghost use Rattle.serve_word.specs.Keeping.{Call, whole_call, serve_talk, IsGiving, IsReady, Costs};
 ghost use Rattle.serve_word.specs.declared.at_end.AtEnd.TheVariants.{Refuse};
 
 use dialogue::{Stop, Talker};
@@ -39,6 +39,18 @@ impl<L: Ledger> Serving<Server, L> {
         let mark = server.clock();
         Serving {
             feed: Feed::behind(alloc, Lane::resumed(intake, server, mark)),
+            counts: PhantomData,
+        }
+    }
+}
+
+impl<D: Dispatcher, L: Ledger> Serving<D, L> {
+    /// A feed of which nothing was read yet.
+    pub fn new(alloc: Global) -> Serving<D, L>
+        ensures { (start : ℕ) → IsReady D.serves D.has_room D.paid (whole_call start) result.feed start [] }
+    {
+        Serving {
+            feed: Feed::new(alloc),
             counts: PhantomData,
         }
     }

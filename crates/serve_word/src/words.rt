@@ -10,10 +10,8 @@ use crate::pausing::Pausing;
 use crate::serving::Serving;
 use dialogue::converse;
 use dover_port::{Port, Status};
-use lane_server::Feed;
 use ready_server::ReadyServer;
 use std::alloc::Global;
-use std::marker::PhantomData;
 use std::sync::ledger::Ledger;
 use step_count::Steps;
 
@@ -27,11 +25,7 @@ pub fn serve_word<P: Port, L: Ledger>(alloc: Global, port: &mut P, steps: &mut S
         (P.write_faults port.new) }
     ensures stops { StopsWith result (P.calls port.old) (P.calls port.new) }
 {
-    let serving = Serving {
-        feed: Feed::<ReadyServer>::new(alloc),
-        counts: PhantomData,
-    };
-    converse(port, serving, steps)
+    converse(port, Serving::<ReadyServer, L>::new(alloc), steps)
 }
 
 /// Serves a feed, as `serve_word` does, but for the end of an input behind whole lines: there the feed's snapshot is
@@ -44,9 +38,6 @@ pub fn pause_word<P: Port, L: Ledger>(alloc: Global, port: &mut P, steps: &mut S
         (P.write_faults port.new) }
     ensures stops { StopsWith result (P.calls port.old) (P.calls port.new) }
 {
-    let serving = Serving {
-        feed: Feed::new(alloc),
-        counts: PhantomData,
-    };
+    let serving = Serving::new(alloc);
     converse(port, Pausing { serving }, steps)
 }

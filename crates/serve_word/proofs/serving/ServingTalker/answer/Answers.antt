@@ -9,44 +9,40 @@ use Rattle.serve_word.proofs.Talking.{done, faulty, cut_off}
 use Rattle.serve_word.proofs.serving.ServingTalker.answer.Goals as goal
 
 pub returns-in_default-clause-answers : goal.returns-in_default-clause-answers
-returns-in_default-clause-answers g c = λ a x at over. (
-  tt,
-  (
-    [],
-    done a Refuse x c.args._ended ((rw c.into_lane-lane.ensures at (c.in_default.ensures (lines_of (a.feed ++ x)) [])) at.rests.lane.stands),
-    rw c.requires.empty (passes_nothing _ []),
-  ),
-)
+returns-in_default-clause-answers g c = λ a x at over.
+    let ended = (rw c.into_lane-lane.ensures at (c.in_default.ensures (lines_of (a.feed ++ x)) [])) at.rests.lane.stands
+    in (tt, ([], done a Refuse x c.args._ended ended, rw c.requires.empty (passes_nothing _ [])))
 
 pub returns-then-not-goes_on-clause-answers : goal.returns-then-not-goes_on-clause-answers
-returns-then-not-goes_on-clause-answers g c = λ a x at over. (
-  tt,
-  (
-    [],
-    faulty a x c.args._ended c.in-Err.fault ((rw c.into_lane-lane.ensures at (c.in-Err.ensures (lines_of (a.feed ++ x)) [])) at.rests.lane.stands) Refuse
-        (sym ((rw c.into_lane-lane.ensures at (c.goes_on.ensures (lines_of (a.feed ++ x)) [])) at.rests.lane.stands) ∙ c.if-not-goes_on.true),
-    rw c.requires.empty (passes_nothing _ []),
-  ),
-)
+returns-then-not-goes_on-clause-answers g c = λ a x at over.
+    let why = (rw c.into_lane-lane.ensures at (c.in-Err.ensures (lines_of (a.feed ++ x)) [])) at.rests.lane.stands in
+    let goes = (rw c.into_lane-lane.ensures at (c.goes_on.ensures (lines_of (a.feed ++ x)) [])) at.rests.lane.stands in (
+      tt,
+      (
+        [],
+        faulty a x c.args._ended c.in-Err.fault why Refuse (sym goes ∙ c.if-not-goes_on.true),
+        rw c.requires.empty (passes_nothing _ []),
+      ),
+    )
 
 pub returns-in-Ok-clause-answers : goal.returns-in-Ok-clause-answers
 returns-in-Ok-clause-answers g c = λ a x at over.
-    let goes = sym ((rw c.into_lane-lane.ensures at (c.goes_on.ensures (lines_of (a.feed ++ x)) [])) at.rests.lane.stands) ∙ c.if-not-goes_on.false in (
+    let why = (rw c.into_lane-lane.ensures at (c.in-Err.ensures (lines_of (a.feed ++ x)) [])) at.rests.lane.stands in
+    let goes = (rw c.into_lane-lane.ensures at (c.goes_on.ensures (lines_of (a.feed ++ x)) [])) at.rests.lane.stands in (
       tt,
       (
         fault_text c.in-Err.fault.line (cause_of_fault c.in-Err.fault.cause) ++ 10 ∷ [],
-        cut_off a x c.args._ended c.in-Err.fault ((rw c.into_lane-lane.ensures at (c.in-Err.ensures (lines_of (a.feed ++ x)) [])) at.rests.lane.stands)
-            Refuse goes over (λ pauses. pauses),
+        cut_off a x c.args._ended c.in-Err.fault why Refuse (sym goes ∙ c.if-not-goes_on.false) over (λ pauses. pauses),
         rw c.requires.empty at c.in-Ok.ensures.text.all,
       ),
     )
 
 pub returns-clause-answers : goal.returns-clause-answers
 returns-clause-answers g c = λ a x at over.
-    let goes = sym ((rw c.into_lane-lane.ensures at (c.goes_on.ensures (lines_of (a.feed ++ x)) [])) at.rests.lane.stands) ∙ c.if-not-goes_on.false in (
+    let why = (rw c.into_lane-lane.ensures at (c.in-Err.ensures (lines_of (a.feed ++ x)) [])) at.rests.lane.stands in
+    let goes = (rw c.into_lane-lane.ensures at (c.goes_on.ensures (lines_of (a.feed ++ x)) [])) at.rests.lane.stands in (
       Refused,
       fault_text c.in-Err.fault.line (cause_of_fault c.in-Err.fault.cause) ++ 10 ∷ [],
-      cut_off a x c.args._ended c.in-Err.fault ((rw c.into_lane-lane.ensures at (c.in-Err.ensures (lines_of (a.feed ++ x)) [])) at.rests.lane.stands)
-          Refuse goes over (λ pauses. pauses),
+      cut_off a x c.args._ended c.in-Err.fault why Refuse (sym goes ∙ c.if-not-goes_on.false) over (λ pauses. pauses),
       rw c.requires.empty at c.in-Err-put_fault.ensures.text.part,
     )
