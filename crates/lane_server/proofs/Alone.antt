@@ -1,7 +1,8 @@
 -- What stands on the output for a lane is what its feed alone calls for.
 use Rattle.std.proofs.Common.{◌≡◌, ◌<◌, ◌≤◌, ℕ, zero, suc, ◌+◌, List, [], ◌∷◌, ◌++◌, map, refl, sym, ap, ◌∙◌, subst}
 use Rattle.std.proofs.Common.{Option, Some, None, Bool, true, false}
-use Rattle.std.proofs.Common.{cond, ◌==◌, arith, decimal, codes, length, append_assoc, append-nil, ◌⊎◌, inl, inr, bytes_eq}
+use Rattle.std.proofs.Common.{cond, ◌==◌, arith, decimal, codes, length, append_assoc, append-nil, ◌⊎◌, inl, inr}
+use Rattle.std.proofs.Common.{bytes_eq}
 use Rattle.std.proofs.Common.{nat_lt}
 use Rattle.std.specs.List.{AllByRecursion, onto_first, flat_map, range_with_len, fold, filter}
 use Rattle.std.specs.Option.{option_and_then}

@@ -41,7 +41,8 @@ module _ {D : Type 0} {serves : Serving D} {having : Having D} where
   holds_so r kept ls left stands leaves =
       record { stands = stands; leaves = subst (λ s. LeavesAt serves having s kept ls left) (sym stands) leaves }
 
-  module _ (r : Option Refusal) (kept : Kept D) (ls left : List (List ℕ)) (it : Holds serves having r kept ls left) where
+  module _ (r : Option Refusal) (kept : Kept D) (ls left : List (List ℕ))
+      (it : Holds serves having r kept ls left) where
     -- what is left by why it would be refused
     leaves_so : LeavesAt serves having (standing_of kept.lines r) kept ls left
     leaves_so = subst (λ s. LeavesAt serves having s kept ls left) it.stands it.leaves
@@ -164,8 +165,8 @@ module _ {D : Type 0} {serves : Serving D} {having : Having D} where
         )
 
       -- whether it goes on
-      pub goes_so : goes_on_at (standing_of i.lanes.lines i.refusal) ≡ goes_on (input x)
-      goes_so = sym (ap goes_on_at at.holds.stands)
+      pub goes_so : (b : Bool) → ((lines : ℕ) → b ≡ goes_on_at (standing_of lines i.refusal)) → b ≡ goes_on (input x)
+      goes_so b is = is i.lanes.lines ∙ sym (ap goes_on_at at.holds.stands)
 
       -- none is left once it doesn't
       pub none_over : goes_on (input x) ≡ false → (left ≡ []) × Rests serves having i x

@@ -5,24 +5,20 @@ use Rattle.lane_server.proofs.lane_input.LaneInput.next_out.Goals as goal
 
 pub returns-then-not-is_short : goal.returns-then-not-is_short
 returns-then-not-is_short g c = λ x left at. none_over c.args.self.now x left at
-    (sym (goes_so c.args.self.now x left at) ∙ sym (c.is_short.ensures c.args.self.now.lanes.lines) ∙ c.if-not-is_short.true)
+    (sym (goes_so c.args.self.now x left at c.is_short.result c.is_short.ensures) ∙ c.if-not-is_short.true)
 
 pub next_out-requires : goal.next_out-requires
 next_out-requires g c =
     let x = c.requires.0 in
     let left = c.requires.1 in
     let at = c.requires.2 in
-    record {
-      stands = (
-        lines_of x,
-        left,
-        lanes_stand c.args.self.now x left at
-            (sym (goes_so c.args.self.now x left at) ∙ sym (c.is_short.ensures c.args.self.now.lanes.lines) ∙ c.if-not-is_short.false),
-      );
-    }
+    let on = sym (goes_so c.args.self.now x left at c.is_short.result c.is_short.ensures)
+    ∙ c.if-not-is_short.false in
+    record { stands = (lines_of x, left, lanes_stand c.args.self.now x left at on) }
 
 pub returns : goal.returns
 returns g c = λ x left at.
-    let on = sym (goes_so c.args.self.now x left at) ∙ sym (c.is_short.ensures c.args.self.now.lanes.lines) ∙ c.if-not-is_short.false in
+    let on = sym (goes_so c.args.self.now x left at c.is_short.result c.is_short.ensures)
+    ∙ c.if-not-is_short.false in
     gives_on c.args.self.now x left at on c.next_out.new.self c.next_out.result
     (c.next_out.ensures.gives (lines_of x) left (lanes_stand c.args.self.now x left at on)) c.next_out.ensures.ready

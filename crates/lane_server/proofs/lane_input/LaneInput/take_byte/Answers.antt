@@ -31,4 +31,5 @@ returns-in-TooLong g c = λ x at on.
     (record c.args.self.now { lines = c.push.new.self; lanes = c.hand-in-TooLong.new.lanes }) x (c.args.byte ∷ []) _
     (subst (StandsFor c.push.new.self) (with_it x c.args.byte on) (c.in-TooLong.ensures.stands x at.stands.cut))
     (c.in-TooLong.ensures.cut x at.stands.cut (short_rest x on)).2 _
-    (rw c.line-in-TooLong.ensures at (c.hand-in-TooLong.ensures (lines_of x) (lanes_stand c.args.self.now x [] at.stands on)))
+    (rw c.line-in-TooLong.ensures at
+    (c.hand-in-TooLong.ensures (lines_of x) (lanes_stand c.args.self.now x [] at.stands on)))
