@@ -1,6 +1,6 @@
 -- The answer, behind the last read.
 use Rattle.std.proofs.Common.{◌≡◌, ℕ, List, ◌∷◌, ◌++◌, [], refl, sym, ap, ◌∙◌, subst, Option}
-use Rattle.std.proofs.Common.{Bool, true, false, inl, inr, ◌||◌, append_assoc}
+use Rattle.std.proofs.Common.{Bool, true, false, inr, ◌||◌, append_assoc}
 use Rattle.std.proofs.lemmas.List.{append-nil}
 use Rattle.dover_model.specs.WholeRun.{Begins}
 use Rattle.dover_port.specs.Moves.{Move, Since, ArePuts, ins, outs, has_ended, EachRead, EachReadFrom, Passes}
@@ -30,39 +30,25 @@ nil_front : (xs ys : List ℕ) → xs ++ ys ≡ [] → xs ≡ []
 nil_front [] ys is = refl
 nil_front (x ∷ xs) ys is = absurd (let e : x ∷ (xs ++ ys) ≡ [] = is in cc)
 
+-- what holds of each status of an answer
+by_final : (P : Status → Type 0) → P Done → P No → P Refused → (status : Status) → IsFinal status → P status
+by_final P done denied refused Done final = done
+by_final P done denied refused No final = denied
+by_final P done denied refused Refused final = refused
+by_final P done denied refused ReadFault final = absurd final
+by_final P done denied refused WriteFault final = absurd final
+by_final P done denied refused Memory final = absurd final
+by_final P done denied refused Usage final = absurd final
+
+-- an answer leaves both counts
+pub final_causes : (status : Status) (r r' w w' : ℕ) → IsFinal status → r' ≡ r → w' ≡ w → Causes status r r' w w'
+final_causes status r r' w w' final e f = by_final (λ s. Causes s r r' w w') (e, f) (e, f) (e, f) status final
+
+-- behind an answer each call went well
+pub final_stops : (status : Status) (old new : Calls) → IsFinal status → StaysWell old new → StopsWith status old new
+final_stops status old new final well = by_final (λ s. StopsWith s old new) well well well status final
+
 module _ (t : Talk) (steady : IsSteady t) where
-  -- bytes behind those that end the talk change no answer
-  carried : (front behind : List ℕ) (e : Bool) → IsOver t front e → (e ≡ true → behind ≡ []) → (status : Status)
-      → (text : List ℕ) → t.answer front e status text → t.answer (front ++ behind) e status text
-  carried front behind true over all status text it =
-      subst (λ y. t.answer y true status text) (sym (append-nil front) ∙ ap (λ l. front ++ l) (sym (all refl))) it
-  carried front behind false over all status text it = steady.answered front behind status text over it
-
-  -- nor that it is over
-  carried_over : (front behind : List ℕ) (e : Bool) → (e ≡ true → behind ≡ []) → IsOver t front e
-      → IsOver t (front ++ behind) e
-  carried_over front behind true all over =
-      ap t.goes_on (ap (λ l. front ++ l) (all refl) ∙ append-nil front) ∙ over
-  carried_over front behind false all over = steady.stays front behind over
-
-  -- nor that memory is lacking
-  carried_lacking : (front behind : List ℕ) (e : Bool) → (e ≡ true → behind ≡ []) → t.lacks front e
-      → t.lacks (front ++ behind) e
-  carried_lacking front behind true all it =
-      subst (λ y. t.lacks y true) (sym (append-nil front) ∙ ap (λ l. front ++ l) (sym (all refl))) it
-  carried_lacking front behind false all it = steady.lacking front behind it
-
-  -- by the status
-  answered : (status : Status) (moves : List Move) → EachRead (MayRead t) moves → IsFinal status
-      → IsAnswered t (ins moves) (outs moves) (has_ended moves) status → Talks t status moves
-  answered Done moves reads final it = record { reads = reads; ends = it }
-  answered No moves reads final it = record { reads = reads; ends = it }
-  answered Refused moves reads final it = record { reads = reads; ends = it }
-  answered ReadFault moves reads final it = absurd final
-  answered WriteFault moves reads final it = absurd final
-  answered Memory moves reads final it = absurd final
-  answered Usage moves reads final it = absurd final
-
   module _ (ready : Ready) (ended : Bool) (xs : List Move) (g : IsRead t ready ended xs) (puts : List Move)
       (p : ArePuts puts) where
     -- the bytes got
@@ -84,28 +70,43 @@ module _ (t : Talk) (steady : IsSteady t) where
     last_reads : EachRead (MayRead t) (xs ++ puts)
     last_reads = reads_then_puts (MayRead t) [] [] xs puts p g.reads
 
+    -- what holds of the bytes that the talker stands for holds of all, where bytes behind them change nothing of it
+    of_all : (P : List ℕ → Bool → Type 0)
+        → (ended ≡ false → P g.front false → P (g.front ++ g.behind) false) → P g.front ended
+        → P (ins (xs ++ puts)) (has_ended (xs ++ puts))
+    of_all P stays it = subst (P (ins (xs ++ puts))) (sym last_ended)
+        (subst (λ y. P y ended) (sym last_ins) (by_end ended g.all stays it)) where
+          by_end : (e : Bool) → (e ≡ true → g.behind ≡ [])
+              → (e ≡ false → P g.front false → P (g.front ++ g.behind) false) → P g.front e
+              → P (g.front ++ g.behind) e
+          by_end true all stays it =
+              subst (λ y. P y true) (sym (append-nil g.front) ∙ ap (λ l. g.front ++ l) (sym (all refl))) it
+          by_end false all stays it = stays refl it
+
     -- no more is to be read
     last_over : IsOver t (ins (xs ++ puts)) (has_ended (xs ++ puts))
-    last_over = subst (IsOver t (ins (xs ++ puts))) (sym last_ended)
-        (subst (λ y. IsOver t y ended) (sym last_ins) (carried_over g.front g.behind ended g.all g.over))
+    last_over = of_all (λ y e. IsOver t y e) (λ _ over. steady.stays g.front g.behind over) g.goes_on
 
     -- the answer is that of all bytes got
     last_answer : (status : Status) (text : List ℕ) → t.answer g.front ended status text
         → t.answer (ins (xs ++ puts)) (has_ended (xs ++ puts)) status text
-    last_answer status text it = subst (λ e. t.answer (ins (xs ++ puts)) e status text) (sym last_ended)
-        (subst (λ y. t.answer y ended status text) (sym last_ins)
-        (carried g.front g.behind ended g.over g.all status text it))
+    last_answer status text it = of_all (λ y e. t.answer y e status text)
+        (λ is it. steady.answered g.front g.behind status text (g.goes_on ∙ is) it) it
 
     -- the answer was put
     pub on_answer : (status : Status) (text : List ℕ) → IsFinal status
         → t.answer g.front ended status (t.due g.front ++ text) → outs puts ≡ text
         → Talks t status (xs ++ puts)
-    on_answer status text final it is = answered status (xs ++ puts) last_reads final (record {
-      over = last_over;
-      answer = subst (t.answer (ins (xs ++ puts)) (has_ended (xs ++ puts)) status)
-          (ap (λ l. t.due g.front ++ l) (sym is) ∙ sym last_outs)
-          (last_answer status (t.due g.front ++ text) it);
-    })
+    on_answer status text final it is =
+        by_final (λ s. IsAnswered t (ins (xs ++ puts)) (outs (xs ++ puts)) (has_ended (xs ++ puts)) s
+        → Talks t s (xs ++ puts))
+        (λ it. record { reads = last_reads; ends = it }) (λ it. record { reads = last_reads; ends = it })
+        (λ it. record { reads = last_reads; ends = it }) status final (record {
+          over = last_over;
+          answer = subst (t.answer (ins (xs ++ puts)) (has_ended (xs ++ puts)) status)
+              (ap (λ l. t.due g.front ++ l) (sym is) ∙ sym last_outs)
+              (last_answer status (t.due g.front ++ text) it);
+        })
 
     -- it couldn't be put
     pub on_cut : (status : Status) (text : List ℕ) → t.answer g.front ended status (t.due g.front ++ text)
@@ -134,8 +135,7 @@ module _ (t : Talk) (steady : IsSteady t) where
         record {
           reads = last_reads;
           ends = record {
-            lacking = subst (t.lacks (ins (xs ++ puts))) (sym last_ended)
-                (subst (λ y. t.lacks y ended) (sym last_ins) (carried_lacking g.front g.behind ended g.all lacks));
+            lacking = of_all t.lacks (λ _ it. steady.lacking g.front g.behind it) lacks;
             text = (
               more.0,
               ap t.due last_ins ∙ more.1
@@ -147,58 +147,44 @@ module _ (t : Talk) (steady : IsSteady t) where
 
   -- ---- whatever the port tells
 
-  -- bytes that end a talk can be read so
-  can_read : (x : List ℕ) (ended : Bool) → IsOver t x ended
-      → (xs : List Move) × (read : IsRead t (λ y. y ≡ x) ended xs) × (x ≡ read.front)
-  can_read x true over = (
-    Got x ∷ Put (t.due x) ∷ Ended ∷ [],
-    record {
-      reads = ((sym steady.nothing, steady.opens), ((refl, over), tt));
-      end = refl;
-      front = x;
-      behind = [];
-      cut = refl;
-      over = over;
-      all = λ _. refl;
-      text = append-nil (t.due x);
-      stands = refl;
-    },
-    refl,
-  )
-  can_read x false over = (
-    Got x ∷ Put (t.due x) ∷ [],
-    record {
-      reads = ((sym steady.nothing, steady.opens), tt);
-      end = refl;
-      front = x;
-      behind = [];
-      cut = refl;
-      over = over;
-      all = λ _. refl;
-      text = append-nil (t.due x);
-      stands = refl;
-    },
-    refl,
-  )
-
   module _ (x : List ℕ) (ended : Bool) (over : IsOver t x ended) where
+    -- bytes behind which no more is to be read can be read
+    can_read : (xs : List Move) × IsRead t (λ y. y ≡ x) ended xs
+    can_read = let last = by_end ended over in (
+      Got x ∷ Put (t.due x) ∷ last.0,
+      record {
+        reads = ((sym steady.nothing, steady.opens), last.4);
+        end = last.1;
+        front = x;
+        behind = [];
+        cut = ap (λ l. x ++ l) last.2;
+        goes_on = over;
+        all = λ _. refl;
+        text = ap (λ l. t.due x ++ l) last.3 ∙ append-nil (t.due x);
+        stands = refl;
+      },
+    ) where
+      by_end : (e : Bool) → IsOver t x e → (ms : List Move) × (has_ended ms ≡ e) × (ins ms ≡ []) × (outs ms ≡ [])
+          × EachReadFrom (MayRead t) x (t.due x) ms
+      by_end true over = (Ended ∷ [], refl, refl, refl, ((refl, over), tt))
+      by_end false over = ([], refl, refl, refl, tt)
+
     -- they can be answered
     pub can_answer : (status : Status) (text : List ℕ) → IsFinal status → t.answer x ended status (t.due x ++ text)
         → CanEnd (Talks t) status
-    can_answer status text final it = let read = can_read x ended over in inr (
-      read.0 ++ Put text ∷ [],
-      on_answer (λ y. y ≡ x) ended read.0 read.1 (Put text ∷ []) tt status text final
-          (subst (λ y. t.answer y ended status (t.due y ++ text)) read.2 it) (append-nil text),
+    can_answer status text final it = inr (
+      can_read.0 ++ Put text ∷ [],
+      on_answer (λ y. y ≡ x) ended can_read.0 can_read.1 (Put text ∷ []) tt status text final
+          (subst (λ y. t.answer y ended status (t.due y ++ text)) (sym can_read.1.stands) it) (append-nil text),
     )
 
     -- memory can be lacking behind them
     pub can_lack : t.lacks x ended → CanEnd (Talks t) Memory
-    can_lack lacks = let read = can_read x ended over in
-        inr (
-          read.0 ++ [],
-          on_lacking (λ y. y ≡ x) ended read.0 read.1 [] tt
-              (subst (λ y. t.lacks y ended) read.2 lacks) refl,
-        )
+    can_lack lacks = inr (
+      can_read.0 ++ [],
+      on_lacking (λ y. y ≡ x) ended can_read.0 can_read.1 [] tt
+          (subst (λ y. t.lacks y ended) (sym can_read.1.stands) lacks) refl,
+    )
 
   -- or while they come
   pub can_lack_on : (x : List ℕ) → t.lacks x false → CanEnd (Talks t) Memory
@@ -226,88 +212,58 @@ module _ (t : Talk) (steady : IsSteady t) where
   -- ---- behind the last read
 
   module _ (ready : Ready) (ended : Bool) (a b : Option (List Move))
-      (read : Since a b (IsRead t ready ended)) (c : Option (List Move))
-      (q : List ℕ) (costs : Costs) (spent : (x : List ℕ) → ready x → costs x)
+      (read : Since a b (IsRead t ready ended)) (costs : Costs) (spent : (x : List ℕ) → ready x → costs x)
       (behind : (x y : List ℕ) → costs x → costs (x ++ y)) where
-    -- what the meter shows is allowed for all bytes got
-    all_spent : (xs : List Move) (g : IsRead t ready ended xs) (puts : List Move) → ArePuts puts
-        → costs (ins (xs ++ puts))
-    all_spent xs g puts p =
-        subst costs (sym (last_ins ready ended xs g puts p)) (behind g.front g.behind (spent g.front g.stands))
+    -- What is said of the puts behind the reading is said of the port's moves from a on.
+    then_puts : (c : Option (List Move)) (U : List ℕ → List Move → Type 0) (T : List Move → Type 0)
+        → ((x : List ℕ) → ready x → IsOver t x ended → Since b c (λ puts. ArePuts puts × U x puts))
+        → ((xs : List Move) → (g : IsRead t ready ended xs) → (puts : List Move) → ArePuts puts → U g.front puts
+        → T (xs ++ puts)) → Since a c (λ ms. T ms × costs (ins ms))
+    then_puts c U T then next = since_then_at a b c _
+        (λ xs puts. (g : IsRead t ready ended xs) × ArePuts puts × U g.front puts) _ read
+        (λ xs g. since_weaker b c _ _ (then g.front g.stands g.goes_on) (λ puts made. (g, made.0, made.1)))
+        (λ xs puts _ made. (
+          next xs made.0 puts made.1 made.2,
+          subst costs (sym (last_ins ready ended xs made.0 puts made.1))
+              (behind made.0.front made.0.behind (spent made.0.front made.0.stands)),
+        ))
 
     -- there was no memory
-    pub lacking : ((x : List ℕ) → ready x → IsOver t x ended → t.lacks x ended × Passes b c [] q [])
+    pub lacking : (c : Option (List Move)) (q : List ℕ)
+        → ((x : List ℕ) → ready x → IsOver t x ended → t.lacks x ended × Passes b c [] q [])
         → Since a c (λ ms. Talks t Memory ms × costs (ins ms))
-    lacking answers = since_then_at a b c _
-        (λ xs puts. (g : IsRead t ready ended xs) × ArePuts puts × t.lacks g.front ended
-        × (outs puts ≡ [])) _ read
-        (λ xs g. let it = answers g.front g.stands g.over in
-        since_weaker b c _ _ it.1 (λ puts made. (g, made.0, it.0, nil_front (outs puts) q made.1)))
-        (λ xs puts g made. (
-          on_lacking ready ended xs made.0 puts made.1 made.2 made.3,
-          all_spent xs made.0 puts made.1,
-        ))
+    lacking c q answers = then_puts c (λ x puts. t.lacks x ended × (outs puts ≡ [])) (Talks t Memory)
+        (λ x r o. let it = answers x r o in
+        since_weaker b c _ _ it.1 (λ puts made. (made.0, (it.0, nil_front (outs puts) q made.1))))
+        (λ xs g puts p u. on_lacking ready ended xs g puts p u.0 u.1)
 
     -- the answer couldn't be put
-    pub cut : ((x : List ℕ) → ready x → IsOver t x ended
+    pub cut : (c : Option (List Move)) → ((x : List ℕ) → ready x → IsOver t x ended
         → (status : Status) × (text : List ℕ) × t.answer x ended status (t.due x ++ text) × CutsShort b c [] text)
         → Since a c (λ ms. Talks t WriteFault ms × costs (ins ms))
-    cut answers = since_then_at a b c _
-        (λ xs puts. (g : IsRead t ready ended xs) × ArePuts puts × ((status : Status) × (text : List ℕ)
-        × t.answer g.front ended status (t.due g.front ++ text) × IsProperPrefix (outs puts) text)) _ read
-        (λ xs g. let it = answers g.front g.stands g.over in since_weaker b c _ _ it.3
-        (λ puts made. (g, made.0, (it.0, it.1, it.2, made.1))))
-        (λ xs puts g made. (
-          on_cut ready ended xs made.0 puts made.1 made.2.0 made.2.1 made.2.2 made.2.3,
-          all_spent xs made.0 puts made.1,
-        ))
+    cut c answers = then_puts c (λ x puts. (status : Status) × (text : List ℕ)
+        × t.answer x ended status (t.due x ++ text) × IsProperPrefix (outs puts) text) (Talks t WriteFault)
+        (λ x r o. let it = answers x r o in
+        since_weaker b c _ _ it.3 (λ puts made. (made.0, (it.0, it.1, it.2, made.1))))
+        (λ xs g puts p u. on_cut ready ended xs g puts p u.0 u.1 u.2 u.3)
 
-    module _ (status : Status) (answers : (x : List ℕ) → ready x → IsOver t x ended
-        → IsFinal status × ((text : List ℕ) × t.answer x ended status (t.due x ++ text) × Passes b c [] q text))
-        (d : Option (List Move)) where
+    module _ (c d : Option (List Move)) (q : List ℕ) (status : Status)
+        (answers : (x : List ℕ) → ready x → IsOver t x ended → IsFinal status
+        × ((text : List ℕ) × t.answer x ended status (t.due x ++ text) × Passes b c [] q text)) where
       -- the buffer couldn't be emptied
-      pub unflushed : CutsShort c d q []
-          → Since a d (λ ms. Talks t WriteFault ms × costs (ins ms))
-      unflushed short = since_then_at a b d _
-          (λ xs puts. (g : IsRead t ready ended xs) × ArePuts puts × ((text : List ℕ)
-          × t.answer g.front ended status (t.due g.front ++ text) × IsProperPrefix (outs puts) text)) _ read
-          (λ xs g. let it = answers g.front g.stands g.over in
-          since_weaker b d _ _ (passes_then_cut b c d [] q [] it.1.0 [] it.1.2 short)
-          (λ puts made. (g, made.0, (it.1.0, it.1.1, subst (IsProperPrefix (outs puts)) (append-nil it.1.0) made.1))))
-          (λ xs puts g made. (
-            on_cut ready ended xs made.0 puts made.1 status made.2.0 made.2.1 made.2.2,
-            all_spent xs made.0 puts made.1,
-          ))
+      pub unflushed : CutsShort c d q [] → Since a d (λ ms. Talks t WriteFault ms × costs (ins ms))
+      unflushed short = cut d (λ x r o. let it = (answers x r o).1 in (
+        status,
+        it.0,
+        it.1,
+        subst (CutsShort b d []) (append-nil it.0) (passes_then_cut b c d [] q [] it.0 [] it.2 short),
+      ))
 
       -- the answer was put
       pub put : Passes c d q [] [] → Since a d (λ ms. Talks t status ms × costs (ins ms))
-      put flushed = since_then_at a b d _
-          (λ xs puts. (g : IsRead t ready ended xs) × ArePuts puts × IsFinal status × ((text : List ℕ)
-          × t.answer g.front ended status (t.due g.front ++ text) × (outs puts ≡ text))) _ read
-          (λ xs g. let it = answers g.front g.stands g.over in
+      put flushed = then_puts d (λ x puts. IsFinal status × ((text : List ℕ)
+          × t.answer x ended status (t.due x ++ text) × (outs puts ≡ text))) (Talks t status)
+          (λ x r o. let it = answers x r o in
           since_weaker b d _ _ (passes_then b c d [] q [] it.1.0 [] it.1.2 flushed)
-          (λ puts made. (g, made.0, it.0, (it.1.0, it.1.1, sym (append-nil (outs puts)) ∙ made.1 ∙ append-nil it.1.0))))
-          (λ xs puts g made. (
-            on_answer ready ended xs made.0 puts made.1 status made.3.0 made.2 made.3.1 made.3.2,
-            all_spent xs made.0 puts made.1,
-          ))
-
--- an answer leaves both counts
-pub final_causes : (status : Status) (r r' w w' : ℕ) → IsFinal status → r' ≡ r → w' ≡ w → Causes status r r' w w'
-final_causes Done r r' w w' final e f = (e, f)
-final_causes No r r' w w' final e f = (e, f)
-final_causes Refused r r' w w' final e f = (e, f)
-final_causes ReadFault r r' w w' final e f = absurd final
-final_causes WriteFault r r' w w' final e f = absurd final
-final_causes Memory r r' w w' final e f = absurd final
-final_causes Usage r r' w w' final e f = absurd final
-
--- behind an answer each call went well
-pub final_stops : (status : Status) (old new : Calls) → IsFinal status → StaysWell old new → StopsWith status old new
-final_stops Done old new final well = well
-final_stops No old new final well = well
-final_stops Refused old new final well = well
-final_stops ReadFault old new final well = absurd final
-final_stops WriteFault old new final well = absurd final
-final_stops Memory old new final well = absurd final
-final_stops Usage old new final well = absurd final
+          (λ puts made. (made.0, (it.0, (it.1.0, it.1.1, sym (append-nil (outs puts)) ∙ made.1 ∙ append-nil it.1.0)))))
+          (λ xs g puts p u. on_answer ready ended xs g puts p status u.1.0 u.0 u.1.1 u.1.2)

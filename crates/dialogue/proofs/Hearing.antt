@@ -1,28 +1,17 @@
 -- A piece, taken front by front.
 use Rattle.std.proofs.Common.{◌≡◌, ◌-◌, ℕ, List, [], ◌++◌, length, take, drop, refl, sym, ap, ◌∙◌, subst, Option}
-use Rattle.std.proofs.Common.{true, false, append_assoc}
+use Rattle.std.proofs.Common.{Bool, true, false, append_assoc}
 use Rattle.std.proofs.lemmas.List.{append-nil, take-append-drop, take_rest}
 use Rattle.dover_model.specs.WholeRun.{Begins}
 use Rattle.dover_port.specs.Moves.{Move, Passes, CutsShort}
 use Rattle.dover_port.proofs.Through.{passes_then, passes_then_cut, passes_nothing}
 use Rattle.dialogue.specs.Talk.{Talk, IsSteady}
-use Rattle.dialogue.specs.Turns.{joined, Standing, Ready, Costs, Takes, Hears, IsFrontOfDue}
-
--- A front of the piece was taken behind x, the rest is left, what is due was put, and the talk goes on.
-pub record HasHeard (t : Talk) (ready : Ready) (x piece rest : List ℕ) (old new : Option (List Move))
-    (before after : List ℕ) : Type 0 where
-  pub front : List ℕ
-  pub cut : piece ≡ front ++ rest
-  pub text : List ℕ
-  pub due : t.due (x ++ front) ≡ t.due x ++ text
-  pub puts : Passes old new before after text
-  pub stands : ready (x ++ front)
-  pub goes_on : t.goes_on (x ++ front) ≡ true
+use Rattle.dialogue.specs.Turns.{joined, Standing, Ready, Costs, Takes, HasHeard, IsFrontOfDue}
 
 -- nothing was taken
 pub heard_none : (t : Talk) (ready : Ready) (x piece : List ℕ) (a : Option (List Move)) (p : List ℕ) → ready x
     → t.goes_on x ≡ true
-    → HasHeard t ready x piece piece a a p p
+    → HasHeard t ready x piece piece a a p p true
 heard_none t ready x piece a p stands goes_on = record {
   front = [];
   cut = refl;
@@ -49,21 +38,7 @@ front_due t steady x piece front behind text cut due =
 
 module _ (t : Talk) (steady : IsSteady t) (ready : Ready) (x piece rest : List ℕ) (a b : Option (List Move))
     (p q : List ℕ)
-    (heard : HasHeard t ready x piece rest a b p q) where
-  -- all was taken
-  pub heard_all : rest ≡ [] → Hears t ready x piece a b p q true
-  heard_all none = record {
-    front = heard.front;
-    behind = rest;
-    cut = heard.cut;
-    text = heard.text;
-    due = heard.due;
-    puts = heard.puts;
-    stands = heard.stands;
-    goes_on = heard.goes_on;
-    all = λ _. none;
-  }
-
+    (heard : HasHeard t ready x piece rest a b p q true) where
   -- there was no memory
   pub heard_no_memory : (costs : Costs) → t.lacks ((x ++ heard.front) ++ rest) false
       × costs ((x ++ heard.front) ++ rest)
@@ -108,31 +83,16 @@ module _ (t : Talk) (steady : IsSteady t) (ready : Ready) (x piece rest : List �
         ),
       )
 
-      module _ (last : Ready) (puts : Passes b c q r (joined takes.2.0))
-          (stands : last ((x ++ heard.front) ++ take n rest)) where
-        -- the talk goes on
-        pub heard_more : t.goes_on ((x ++ heard.front) ++ take n rest) ≡ true
-            → HasHeard t last x piece (take (length rest - n) (drop n rest)) a c p r
-        heard_more goes_on = record {
-          front = taken;
-          cut = cut_more ∙ ap (λ l. taken ++ l) (sym (take_rest rest n));
-          text = heard.text ++ joined takes.2.0;
-          due = due_more;
-          puts = passes_then a b c p q r heard.text (joined takes.2.0) heard.puts puts;
-          stands = subst (λ y. last y) taken_is stands;
-          goes_on = ap t.goes_on (sym taken_is) ∙ goes_on;
-        }
-
-        -- the talk is over
-        pub heard_over : t.goes_on ((x ++ heard.front) ++ take n rest) ≡ false → Hears t last x piece a c p r false
-        heard_over over = record {
-          front = taken;
-          behind = drop n rest;
-          cut = cut_more;
-          text = heard.text ++ joined takes.2.0;
-          due = due_more;
-          puts = passes_then a b c p q r heard.text (joined takes.2.0) heard.puts puts;
-          stands = subst (λ y. last y) taken_is stands;
-          goes_on = ap t.goes_on (sym taken_is) ∙ over;
-          all = λ more. absurd (let e : false ≡ true = more in cc);
-        }
+      -- it was put
+      pub heard_more : (last : Ready) (more : Bool) → Passes b c q r (joined takes.2.0)
+          → last ((x ++ heard.front) ++ take n rest) → t.goes_on ((x ++ heard.front) ++ take n rest) ≡ more
+          → HasHeard t last x piece (take (length rest - n) (drop n rest)) a c p r more
+      heard_more last more puts stands goes_on = record {
+        front = taken;
+        cut = cut_more ∙ ap (λ l. taken ++ l) (sym (take_rest rest n));
+        text = heard.text ++ joined takes.2.0;
+        due = due_more;
+        puts = passes_then a b c p q r heard.text (joined takes.2.0) heard.puts puts;
+        stands = subst (λ y. last y) taken_is stands;
+        goes_on = ap t.goes_on (sym taken_is) ∙ goes_on;
+      }

@@ -72,18 +72,22 @@ StopsOn (Err Unwritten) old new = FailsLast old new
 
 -- ---- a piece
 
--- behind x the piece, or a front of it that ends the talk, was taken, and what is due for it was put
-pub record Hears (t : Talk) (ready : Ready) (x piece : List ℕ) (old new : Option (List Move)) (before after : List ℕ)
-    (more : Bool) : Type 0 where
+-- Behind x a front of the piece was taken, the rest is left, and what is due was put.
+pub record HasHeard (t : Talk) (ready : Ready) (x piece rest : List ℕ) (old new : Option (List Move))
+    (before after : List ℕ) (more : Bool) : Type 0 where
   pub front : List ℕ
-  pub behind : List ℕ
-  pub cut : piece ≡ front ++ behind
+  pub cut : piece ≡ front ++ rest
   pub text : List ℕ
   pub due : t.due (x ++ front) ≡ t.due x ++ text
   pub puts : Passes old new before after text
   pub stands : ready (x ++ front)
   pub goes_on : t.goes_on (x ++ front) ≡ more
-  pub all : more ≡ true → behind ≡ []
+
+-- the piece was, or a front of it that ends the talk
+abbrev pub Hears : Talk → Ready → (x piece : List ℕ) → (old new : Option (List Move)) → (before after : List ℕ)
+    → (more : Bool) → Type 0
+Hears t ready x piece old new before after more = (rest : List ℕ)
+    × HasHeard t ready x piece rest old new before after more × (more ≡ true → rest ≡ [])
 
 -- a front of what is due for the piece behind x
 pub record IsFrontOfDue (t : Talk) (x piece text : List ℕ) : Type 0 where
@@ -102,26 +106,25 @@ HearsBy t ready costs x piece old new before after (Err Unwritten) =
 
 -- ---- the reading
 
--- the talker stands for what was got, the talk goes on, and what is due was put
-pub record GoesOn (t : Talk) (ready : Ready) (moves : List Move) : Type 0 where
-  pub reads : EachRead (MayRead t) moves
-  pub unended : has_ended moves ≡ false
-  pub goes_on : t.goes_on (ins moves) ≡ true
-  pub text : outs moves ≡ t.due (ins moves)
-  pub stands : ready (ins moves)
-
--- no more is to be read: the talker stands for what was got, or for a front of it that ends the talk, and what is due
--- was put
-pub record IsRead (t : Talk) (ready : Ready) (ended : Bool) (moves : List Move) : Type 0 where
+-- The talker stands for what was got, or for a front of it that ends the talk, and what is due was put.
+pub record HasRead (t : Talk) (ready : Ready) (ended more : Bool) (moves : List Move) : Type 0 where
   pub reads : EachRead (MayRead t) moves
   pub end : has_ended moves ≡ ended
   pub front : List ℕ
   pub behind : List ℕ
   pub cut : ins moves ≡ front ++ behind
-  pub over : IsOver t front ended
-  pub all : ended ≡ true → behind ≡ []
+  pub goes_on : t.goes_on front ≡ more
+  pub all : more ≡ true → behind ≡ []
   pub text : outs moves ≡ t.due front
   pub stands : ready front
+
+-- the talk goes on, and the input has not ended
+abbrev pub GoesOn : Talk → Ready → List Move → Type 0
+GoesOn t ready moves = HasRead t ready false true moves
+
+-- no more is to be read
+abbrev pub IsRead : Talk → Ready → (ended : Bool) → List Move → Type 0
+IsRead t ready ended moves = HasRead t ready ended ended moves
 
 -- by how the reading ended
 abbrev pub ReadsBy : Reading → Talk → Ready → Costs → List Move → Type 0

@@ -12,35 +12,31 @@ answer-requires-clause-ready g c =
 
 pub returns-in-Err-NoMemory-clause-talks : goal.returns-in-Err-NoMemory-clause-talks
 returns-in-Err-NoMemory-clause-talks g c =
-    λ a s. lacking _ (c.laws.ensures.steady a) _ c.in-Over.ended _ _
-    (c.in-Over.ensures.reads a s) _
-    c.answer.new.out (g.T.Talker.costs a c.answer.new.meter) (c.in-Err-NoMemory.ensures.spent a)
-    (c.laws.ensures.behind a c.answer.new.meter)
+    λ a s. lacking _ (c.laws.ensures.steady a) _ c.in-Over.ended _ _ (c.in-Over.ensures.reads a s)
+    (g.T.Talker.costs a c.answer.new.meter) (c.in-Err-NoMemory.ensures.spent a)
+    (c.laws.ensures.behind a c.answer.new.meter) _ c.answer.new.out
     (λ x t o. rw c.in-Err-NoMemory.field-0-is at (c.in-Err-NoMemory.ensures.answers a x t o))
 
 pub returns-in-Err-Unwritten-clause-talks : goal.returns-in-Err-Unwritten-clause-talks
 returns-in-Err-Unwritten-clause-talks g c =
-    λ a s. cut _ (c.laws.ensures.steady a) _ c.in-Over.ended _ _
-    (c.in-Over.ensures.reads a s) _
-    c.answer.new.out (g.T.Talker.costs a c.answer.new.meter) (c.in-Err-Unwritten.ensures.spent a)
-    (c.laws.ensures.behind a c.answer.new.meter)
+    λ a s. cut _ (c.laws.ensures.steady a) _ c.in-Over.ended _ _ (c.in-Over.ensures.reads a s)
+    (g.T.Talker.costs a c.answer.new.meter) (c.in-Err-Unwritten.ensures.spent a)
+    (c.laws.ensures.behind a c.answer.new.meter) _
     (λ x t o. rw c.in-Err-Unwritten.field-0-is at (c.in-Err-Unwritten.ensures.answers a x t o))
 
 pub returns-in-Ok-flush-clause-talks : goal.returns-in-Ok-flush-clause-talks
 returns-in-Ok-flush-clause-talks g c =
-    λ a s. put _ (c.laws.ensures.steady a) _ c.in-Over.ended _ _
-    (c.in-Over.ensures.reads a s) _
-    c.answer.new.out (g.T.Talker.costs a c.answer.new.meter) (c.in-Ok.ensures.spent a)
-    (c.laws.ensures.behind a c.answer.new.meter) c.in-Ok.status
-    (c.in-Ok.ensures.answers a) _ c.in-Ok-flush.ensures.text.all
+    λ a s. put _ (c.laws.ensures.steady a) _ c.in-Over.ended _ _ (c.in-Over.ensures.reads a s)
+    (g.T.Talker.costs a c.answer.new.meter) (c.in-Ok.ensures.spent a)
+    (c.laws.ensures.behind a c.answer.new.meter) _ _ c.answer.new.out c.in-Ok.status
+    (c.in-Ok.ensures.answers a) c.in-Ok-flush.ensures.text.all
 
 pub returns-in-Err-clause-talks : goal.returns-in-Err-clause-talks
 returns-in-Err-clause-talks g c =
-    λ a s. unflushed _ (c.laws.ensures.steady a) _ c.in-Over.ended _ _
-    (c.in-Over.ensures.reads a s) _
-    c.answer.new.out (g.T.Talker.costs a c.answer.new.meter) (c.in-Ok.ensures.spent a)
-    (c.laws.ensures.behind a c.answer.new.meter) c.in-Ok.status
-    (c.in-Ok.ensures.answers a) _ c.in-Err.ensures.text.part
+    λ a s. unflushed _ (c.laws.ensures.steady a) _ c.in-Over.ended _ _ (c.in-Over.ensures.reads a s)
+    (g.T.Talker.costs a c.answer.new.meter) (c.in-Ok.ensures.spent a)
+    (c.laws.ensures.behind a c.answer.new.meter) _ _ c.answer.new.out c.in-Ok.status
+    (c.in-Ok.ensures.answers a) c.in-Err.ensures.text.part
 
 pub returns-in-Ok-flush-clause-causes : goal.returns-in-Ok-flush-clause-causes
 returns-in-Ok-flush-clause-causes g c =

@@ -1,5 +1,5 @@
-use Rattle.std.proofs.Common.{refl, ◌∙◌, sym}
-use Rattle.dialogue.proofs.Hearing.{heard_none, heard_no_memory, heard_cut, heard_more, heard_over}
+use Rattle.std.proofs.Common.{◌≡◌, refl, ◌∙◌, sym, true, false}
+use Rattle.dialogue.proofs.Hearing.{heard_none, heard_no_memory, heard_cut, heard_more}
 use Rattle.dialogue.proofs.turns.hear.Goals as goal
 
 pub loop-rest-init : goal.loop-rest-init
@@ -31,12 +31,15 @@ pub returns-then-not-goes_on-clause-hears : goal.returns-then-not-goes_on-clause
 returns-then-not-goes_on-clause-hears g c = λ a x s o.
     let heard = c.loop-rest.invariant.heard a x s o in
     let takes = c.in-Ok.ensures.takes a _ heard.stands heard.goes_on in
-    let stands = c.in-Ok-give.ensures.ready a _ _ takes.2.2 in
-    heard_over _ (c.laws.ensures.steady a) _ x _ _ _ _ _ _ heard
-    (g.T.Talker.stands a c.take.new.self c.take.new.meter) c.in-Ok.count takes _
-    c.give.new.out (g.T.Talker.ready a c.give.new.talker c.give.new.meter)
-    (c.in-Ok-give.ensures.text a _ _ takes.2.2).all stands
-    (sym (c.goes_on.ensures a _ stands) ∙ c.if-not-goes_on.true)
+    let stands = c.in-Ok-give.ensures.ready a _ _ takes.2.2 in (
+      _,
+      heard_more _ (c.laws.ensures.steady a) _ x _ _ _ _ _ _ heard
+          (g.T.Talker.stands a c.take.new.self c.take.new.meter) c.in-Ok.count takes _
+          c.give.new.out (g.T.Talker.ready a c.give.new.talker c.give.new.meter) false
+          (c.in-Ok-give.ensures.text a _ _ takes.2.2).all stands
+          (sym (c.goes_on.ensures a _ stands) ∙ c.if-not-goes_on.true),
+      λ more. absurd (let e : false ≡ true = more in cc),
+    )
 
 pub loop-rest-preserved : goal.loop-rest-preserved
 loop-rest-preserved g c = record {
@@ -46,7 +49,7 @@ loop-rest-preserved g c = record {
       let stands = c.in-Ok-give.ensures.ready a _ _ takes.2.2 in
       heard_more _ (c.laws.ensures.steady a) _ x _ _ _ _ _ _ heard
       (g.T.Talker.stands a c.take.new.self c.take.new.meter) c.in-Ok.count takes _
-      c.give.new.out (g.T.Talker.ready a c.give.new.talker c.give.new.meter)
+      c.give.new.out (g.T.Talker.ready a c.give.new.talker c.give.new.meter) true
       (c.in-Ok-give.ensures.text a _ _ takes.2.2).all stands
       (sym (c.goes_on.ensures a _ stands) ∙ c.if-not-goes_on.false);
   writes = c.in-Ok-give.ensures.cause.ok ∙ c.loop-rest.invariant.writes;

@@ -1,8 +1,8 @@
 use Rattle.std.proofs.Common.{[], refl, inl, ◌∙◌, ◌++◌, arith}
 use Rattle.dover_port.proofs.Made.{since_none}
 use Rattle.dialogue.proofs.Answering.{can_fail, can_lack_on}
-use Rattle.dialogue.proofs.Records.{starts, some_front, no_input, unread, ended, no_memory, unwritten}
-use Rattle.dialogue.proofs.Records.{unflushed, goes_on, over, counted, read_turn}
+use Rattle.dialogue.proofs.Records.{starts, some_front, got_some, no_input, unread, ended, no_memory, unwritten}
+use Rattle.dialogue.proofs.Records.{unflushed, heard, counted}
 use Rattle.dialogue.proofs.turns.read_all.Goals as goal
 
 pub loop-init : goal.loop-init
@@ -37,64 +37,58 @@ hear-requires g c =
     (c.requires.ready.0, was.0, was.2, was.3)
 
 pub returns-in-Err-NoMemory-clause-reads : goal.returns-in-Err-NoMemory-clause-reads
-returns-in-Err-NoMemory-clause-reads g c =
-    λ a s. no_memory _ (c.laws.ensures.steady a) _ _ _ _
-    (read_turn _ (c.laws.ensures.steady a) _ _ _ (c.loop.invariant.moves a s) _ _
-    (some_front _ _ c.if-count-eq0.false c.in-Ok.ensures.bound) c.in-Ok.ensures.moved) _ c.hear.new.out
-    (g.T.Talker.ready a c.hear.new.talker c.hear.new.meter) (g.T.Talker.costs a c.hear.new.meter)
+returns-in-Err-NoMemory-clause-reads g c = λ a s.
+    no_memory _ (c.laws.ensures.steady a) _ _ _ (c.loop.invariant.moves a s) _ _
+    (got_some _ _ _ _ c.if-count-eq0.false c.in-Ok.ensures.bound c.in-Ok.ensures.moved) _
+    (g.T.Talker.costs a c.hear.new.meter) c.hear.new.out
     (λ x t o. rw (c.in-Err-NoMemory.field-0-is, c.loop.invariant.empty) at (c.in-Err-NoMemory.ensures.hears a x t o))
 
 pub returns-in-Err-Unwritten-clause-reads : goal.returns-in-Err-Unwritten-clause-reads
-returns-in-Err-Unwritten-clause-reads g c =
-    λ a s. unwritten _ (c.laws.ensures.steady a) _ _ _ _
-    (read_turn _ (c.laws.ensures.steady a) _ _ _ (c.loop.invariant.moves a s) _ _
-    (some_front _ _ c.if-count-eq0.false c.in-Ok.ensures.bound) c.in-Ok.ensures.moved) _ c.hear.new.out
-    (g.T.Talker.ready a c.hear.new.talker c.hear.new.meter) (g.T.Talker.costs a c.hear.new.meter)
+returns-in-Err-Unwritten-clause-reads g c = λ a s.
+    unwritten _ (c.laws.ensures.steady a) _ _ _ (c.loop.invariant.moves a s) _ _
+    (got_some _ _ _ _ c.if-count-eq0.false c.in-Ok.ensures.bound c.in-Ok.ensures.moved) _
+    (g.T.Talker.costs a c.hear.new.meter)
     (λ x t o. rw (c.in-Err-Unwritten.field-0-is, c.loop.invariant.empty) at (c.in-Err-Unwritten.ensures.hears a x t o))
 
 pub returns-in-Err-clause-reads : goal.returns-in-Err-clause-reads
-returns-in-Err-clause-reads g c = λ a s. unflushed _ (c.laws.ensures.steady a) _ _ _ _
-    (read_turn _ (c.laws.ensures.steady a) _ _ _ (c.loop.invariant.moves a s) _ _
-    (some_front _ _ c.if-count-eq0.false c.in-Ok.ensures.bound) c.in-Ok.ensures.moved) _ c.hear.new.out
-    (g.T.Talker.ready a c.hear.new.talker c.hear.new.meter) (g.T.Talker.costs a c.hear.new.meter)
-    c.in-Ok-hear.more (λ x t o. rw c.loop.invariant.empty at (c.in-Ok-hear.ensures.hears a x t o)) _
-    (c.laws.ensures.rested a c.hear.new.talker c.hear.new.meter)
+returns-in-Err-clause-reads g c = λ a s.
+    unflushed _ (c.laws.ensures.steady a) _ _ _ (c.loop.invariant.moves a s) _ _
+    (got_some _ _ _ _ c.if-count-eq0.false c.in-Ok.ensures.bound c.in-Ok.ensures.moved)
+    (g.T.Talker.ready a c.hear.new.talker c.hear.new.meter) c.in-Ok-hear.more _ _ c.hear.new.out
+    (λ x t o. rw c.loop.invariant.empty at (c.in-Ok-hear.ensures.hears a x t o))
+    (g.T.Talker.costs a c.hear.new.meter) (c.laws.ensures.rested a c.hear.new.talker c.hear.new.meter)
     (c.laws.ensures.behind a c.hear.new.meter) c.in-Err.ensures.text.part
 
 pub returns-then-not-more-clause-reads : goal.returns-then-not-more-clause-reads
-returns-then-not-more-clause-reads g c = λ a s. over _ (c.laws.ensures.steady a) _ _ _ _
-    (read_turn _ (c.laws.ensures.steady a) _ _ _ (c.loop.invariant.moves a s) _ _
-    (some_front _ _ c.if-count-eq0.false c.in-Ok.ensures.bound) c.in-Ok.ensures.moved) _ c.hear.new.out
-    (g.T.Talker.ready a c.hear.new.talker c.hear.new.meter) (g.T.Talker.costs a c.hear.new.meter)
-    c.in-Ok-hear.more (λ x t o. rw c.loop.invariant.empty at (c.in-Ok-hear.ensures.hears a x t o)) _
-    c.in-Ok-flush.ensures.text.all
-    c.if-not-more.true
+returns-then-not-more-clause-reads g c = λ a s. rw c.if-not-more.true at
+    (heard _ (c.laws.ensures.steady a) _ _ _ (c.loop.invariant.moves a s) _ _
+    (got_some _ _ _ _ c.if-count-eq0.false c.in-Ok.ensures.bound c.in-Ok.ensures.moved)
+    (g.T.Talker.ready a c.hear.new.talker c.hear.new.meter) c.in-Ok-hear.more _ _ c.hear.new.out
+    (λ x t o. rw c.loop.invariant.empty at (c.in-Ok-hear.ensures.hears a x t o)) c.in-Ok-flush.ensures.text.all)
 
 pub returns-then-not-more-clause-stands : goal.returns-then-not-more-clause-stands
 returns-then-not-more-clause-stands g c = λ a s.
     let was = c.loop.invariant.stands a s in
     let h = c.in-Ok-hear.ensures.hears a was.0 was.2 was.3 in
-    (was.0 ++ h.front, h.stands, h.goes_on ∙ c.if-not-more.true, c.in-Ok-flush.ensures.empty)
+    (was.0 ++ h.1.front, h.1.stands, h.1.goes_on ∙ c.if-not-more.true, c.in-Ok-flush.ensures.empty)
 
 pub loop-preserved : goal.loop-preserved
 loop-preserved g c =
     let some = some_front _ _ c.if-count-eq0.false c.in-Ok.ensures.bound in
     record {
-      moves = λ a s. goes_on _ (c.laws.ensures.steady a) _ _ _ _
-          (read_turn _ (c.laws.ensures.steady a) _ _ _ (c.loop.invariant.moves a s) _ _
-          some c.in-Ok.ensures.moved) _ c.hear.new.out
-          (g.T.Talker.ready a c.hear.new.talker c.hear.new.meter)
-          (g.T.Talker.costs a c.hear.new.meter) c.in-Ok-hear.more
-          (λ x t o. rw c.loop.invariant.empty at (c.in-Ok-hear.ensures.hears a x t o)) _ c.in-Ok-flush.ensures.text.all
-          c.if-not-more.false;
+      moves = λ a s. rw c.if-not-more.false at
+          (heard _ (c.laws.ensures.steady a) _ _ _ (c.loop.invariant.moves a s) _ _
+          (got_some _ _ _ _ c.if-count-eq0.false c.in-Ok.ensures.bound c.in-Ok.ensures.moved)
+          (g.T.Talker.ready a c.hear.new.talker c.hear.new.meter) c.in-Ok-hear.more _ _ c.hear.new.out
+          (λ x t o. rw c.loop.invariant.empty at (c.in-Ok-hear.ensures.hears a x t o)) c.in-Ok-flush.ensures.text.all);
       empty = c.in-Ok-flush.ensures.empty;
       stands = λ a s.
           let was = c.loop.invariant.stands a s in
           let h = c.in-Ok-hear.ensures.hears a was.0 was.2 was.3 in (
-            was.0 ++ h.front,
-            counted _ _ was.0 _ _ _ _ _ c.in-Ok-hear.more h c.if-not-more.false c.loop.counter was.1 some,
-            h.stands,
-            h.goes_on ∙ c.if-not-more.false,
+            was.0 ++ h.1.front,
+            counted _ _ was.0 _ _ _ _ _ _ _ h.1 (h.2 c.if-not-more.false) c.loop.counter was.1 some,
+            h.1.stands,
+            h.1.goes_on ∙ c.if-not-more.false,
           );
       read_faults = c.in-Ok-flush.ensures.cause.other ∙ c.in-Ok-hear.ensures.cause.1 ∙ c.in-Ok.ensures.cause.ok
           ∙ c.loop.invariant.read_faults;
