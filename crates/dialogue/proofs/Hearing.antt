@@ -1,12 +1,13 @@
 -- A piece, taken front by front.
-use Rattle.std.proofs.Common.{◌≡◌, ◌-◌, ℕ, List, [], ◌++◌, length, take, drop, refl, sym, ap, ◌∙◌, subst, Option}
+use Rattle.std.proofs.Common.{◌≡◌, ◌<◌, ◌-◌, arith, ℕ, List, [], ◌++◌, length, take, drop, refl, sym, ap, ◌∙◌, subst, Option}
 use Rattle.std.proofs.Common.{Bool, true, false, append_assoc}
 use Rattle.std.proofs.lemmas.List.{append-nil, take-append-drop, take_rest}
+use Rattle.std.proofs.Math.Seq.{take-length}
 use Rattle.dover_model.specs.WholeRun.{Begins}
 use Rattle.dover_port.specs.Moves.{Move, Passes, CutsShort}
 use Rattle.dover_port.proofs.Through.{passes_then, passes_then_cut, passes_nothing}
 use Rattle.dialogue.specs.Talk.{Talk, IsSteady}
-use Rattle.dialogue.specs.Turns.{joined, Standing, Ready, Costs, Takes, HasHeard, IsFrontOfDue}
+use Rattle.dialogue.specs.Turns.{joined, Standing, Ready, AllGiven, Costs, Takes, HasHeard, IsFrontOfDue}
 
 -- nothing was taken
 pub heard_none : (t : Talk) (ready : Ready) (x piece : List ℕ) (a : Option (List Move)) (p : List ℕ) → ready x
@@ -21,6 +22,19 @@ heard_none t ready x piece a p stands goes_on = record {
   stands = subst (λ y. ready y) (sym (append-nil x)) stands;
   goes_on = ap t.goes_on (append-nil x) ∙ goes_on;
 }
+
+-- a piece was taken whole, for which nothing is due
+pub takes_whole : (t : Talk) (ready : Ready) (x piece : List ℕ) → 0 < length piece → t.due (x ++ piece) ≡ t.due x
+    → ready (x ++ piece) → Takes t (AllGiven ready) x piece (length piece)
+takes_whole t ready x piece some none stands = (
+  some,
+  omega arith,
+  (
+    [],
+    ap (λ l. t.due (x ++ l)) (take-length piece) ∙ none ∙ sym (append-nil (t.due x)),
+    (subst (λ l. ready (x ++ l)) (sym (take-length piece)) stands, refl),
+  ),
+)
 
 -- what is due for a front of the piece is a front of what is due for the piece
 pub front_due : (t : Talk) → IsSteady t → (x piece front behind text : List ℕ) → piece ≡ front ++ behind

@@ -28,6 +28,10 @@ joined parts = flat_map (λ part. part) parts
 abbrev pub Ready : Type 1
 Ready = List ℕ → Type 0
 
+-- the same where nothing is left to give
+abbrev pub AllGiven : Ready → Standing
+AllGiven ready x rest = ready x × (rest ≡ [])
+
 -- what a meter may show, by the bytes got
 abbrev pub Costs : Type 1
 Costs = List ℕ → Type 0

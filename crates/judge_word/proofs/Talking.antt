@@ -1,19 +1,26 @@
 -- What a word says that judges a text: its laws.
 use Rattle.std.proofs.Common.{◌≡◌, ◌<◌, ◌^◌, ◌-◌, ℕ, List, ◌++◌, [], length, refl, sym, ap, ◌∙◌, subst, arith}
-use Rattle.std.proofs.Common.{Bool, true, false, not, inl, inr}
+use Rattle.std.proofs.Common.{Bool, true, false, not, inl, inr, Option, Ok, Err}
 use Rattle.dover_model.specs.Verdict as model
 use Rattle.dover_model.specs.Verdict.{verdict}
 use Rattle.dover_model.proofs.WrongStays.{wrong_verdict_stays}
 use Rattle.dover_port.specs.declared.status.Status.{Status}
 use Rattle.dover_port.specs.declared.status.Status.TheVariants.{Done, No, Refused, ReadFault, WriteFault, Memory, Usage}
-use Rattle.trace_judge.specs.Judging.{StandsFor, Tells, IsEarned, is_wrong}
+use Rattle.queued_jobs.proofs.Spending.{few_more}
+use Rattle.trace_judge.specs.Judging.{StandsFor, HasPaidFor, Fed, PaysFor, Tells, IsEarned, is_wrong, jobs_named, keeps}
+use Rattle.trace_judge.proofs.Judging.{named_more}
+use Rattle.trace_judge.proofs.Lengths.{few_bytes}
+use Rattle.trace_judge.proofs.Spending.{costs_few}
 use Rattle.trace_judge.specs.declared.judge.Judge.{Judge}
 use Rattle.trace_judge.specs.declared.verdict.Verdict.{Verdict}
 use Rattle.trace_judge.specs.declared.verdict.Verdict.TheVariants.{Accepted, Wrong, Short}
 use Rattle.dialogue.specs.Talk.{IsSteady, IsFinal}
+use Rattle.dialogue.specs.Turns.{AnswersBy}
+use Rattle.dialogue.specs.declared.talker.Stop.TheVariants.{Unwritten}
+use Rattle.dover_port.specs.Moves.{Move, Passes, CutsShort}
 use Rattle.judge_word.specs.Line.{verdict_text, status_of}
 use Rattle.judge_word.specs.Talk.{judging_talk, judge_talk, IsToldBy}
-use Rattle.judge_word.proofs.Lengths.{few_bytes}
+use Rattle.judge_word.specs.Talking.{Costs, IsReady}
 
 -- ---- the laws
 
@@ -46,9 +53,39 @@ module _ (x y : List ℕ) (same : verdict (x ++ y) ≡ verdict x) where
   told_same Memory it = absurd it
   told_same Usage it = absurd it
 
--- a text that goes on has few bytes
-pub few : (judge : Judge) (x : List ℕ) → StandsFor judge x → not (is_wrong (verdict x)) ≡ true → length x < 2 ^ 64 - 1
-few judge x stands goes = omega (arith, few_bytes judge x stands (not_so (is_wrong (verdict x)) goes))
+-- ---- what is kept
+
+-- of no bytes
+pub ready_none : (keep : Bool) (judge : Judge) → StandsFor judge [] → ((now : ℕ) → HasPaidFor judge [] now now)
+    → keeps judge ≡ keep → (start : ℕ) → IsReady keep judge start start []
+ready_none keep judge stands paid kept start = record { stands = stands; paid = paid start; keep_is = kept }
+
+module _ (keep : Bool) (judge : Judge) (start steps : ℕ) (x : List ℕ) (at : IsReady keep judge start steps x) where
+  -- a text that goes on has few bytes
+  pub few : not (is_wrong (verdict x)) ≡ true → length x < 2 ^ 64 - 1
+  few goes = omega (arith, few_bytes judge x at.stands (not_so (is_wrong (verdict x)) goes))
+
+  -- what it cost is allowed
+  pub spent : Costs start steps x
+  spent = costs_few judge x start steps at.paid
+
+  module _ (new : Judge) (after : ℕ) (piece : List ℕ) (pays : PaysFor judge new piece steps after) where
+    -- with a piece behind it
+    pub ready_more : Fed judge new piece → IsReady keep new start after (x ++ piece)
+    ready_more fed = record {
+      stands = fed.stands x at.stands;
+      paid = pays x start at.stands at.paid;
+      keep_is = fed.keep ∙ at.keep_is;
+    }
+
+    -- also where there was no memory for it
+    pub spent_more : Costs start after (x ++ piece)
+    spent_more = costs_few new (x ++ piece) start after (pays x start at.stands at.paid)
+
+-- more bytes allow what fewer did
+pub spent_behind : (start steps : ℕ) (x y : List ℕ) → Costs start steps x → Costs start steps (x ++ y)
+spent_behind start steps x y costs =
+    few_more (jobs_named x) (jobs_named (x ++ y)) start steps (named_more x y) costs
 
 -- ---- the answer
 
@@ -64,6 +101,16 @@ by_verdict (Accepted k version value most jobs) x tells = (
 )
 by_verdict (Wrong line due) x tells = (tt, inl (ap is_wrong tells))
 by_verdict (Short lines) x tells = (tt, inr (lines, tells))
+
+module _ (told : model.Verdict → List ℕ) (lacks : List ℕ → Bool → Type 0) (v : Verdict) (x : List ℕ) (ended : Bool)
+    (tells : Tells v x) (a b : Option (List Move)) (q : List ℕ) where
+  -- what is told of it was put
+  pub told_put : Passes a b [] q (told (verdict x)) → AnswersBy (judging_talk told lacks) x ended a b q (Ok (status_of v))
+  told_put put = let it = by_verdict v x tells in (it.0, (told (verdict x), (it.1, refl), put))
+
+  -- it couldn't be put
+  pub told_cut : CutsShort a b [] (told (verdict x)) → AnswersBy (judging_talk told lacks) x ended a b q (Err Unwritten)
+  told_cut cut = (status_of v, told (verdict x), ((by_verdict v x tells).1, refl), cut)
 
 -- ---- a talk on the verdict
 

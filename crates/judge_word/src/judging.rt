@@ -1,7 +1,8 @@
 //! What the reading loop calls: a judge, which takes the text whole and answers at its end.
-ghost use Rattle.std.specs.Prelude.{◌≡◌, ℕ, List};
+ghost use Rattle.std.specs.Prelude.{ℕ, false};
+ghost use Rattle.dialogue.specs.Turns.{AllGiven};
 ghost use Rattle.judge_word.specs.Talk.{judge_talk};
-ghost use Rattle.judge_word.specs.Talking.{IsReady, IsAt, Costs};
+ghost use Rattle.judge_word.specs.Talking.{IsReady, Costs};
 
 use crate::lines::{put_verdict, status_of};
 use dialogue::{Stop, Talker};
@@ -27,9 +28,9 @@ impl<L: Ledger> Talker for Judging<L> {
 
     ghost talk = { λ start. judge_talk };
 
-    ghost stands = { λ start j meter. IsAt j.judge start meter };
+    ghost stands = { λ start j meter. AllGiven (IsReady false j.judge start meter) };
 
-    ghost ready = { λ start j meter. IsReady j.judge start meter };
+    ghost ready = { λ start j meter. IsReady false j.judge start meter };
 
     ghost costs = { Costs };
 

@@ -5,39 +5,13 @@ ghost use Rattle.dover_port.specs.Causes.{HasCause, StopsAtFailure};
 ghost use Rattle.dover_port.specs.Moves.{PutsThrough};
 ghost use Rattle.trace_judge.specs.Judging.{Tells};
 ghost use Rattle.trace_judge.specs.Reads.{expected_of};
-ghost use Rattle.judge_word.specs.Line.{status_of};
-ghost use Rattle.judge_word.specs.Line.{IsShortDue, accepted_line, wrong_front, expected_text, short_line};
-ghost use Rattle.judge_word.specs.Line.{verdict_text};
+ghost use Rattle.judge_word.specs.Line.{status_of, wrong_front, expected_text, verdict_text};
 
 use dover_port::{Failed, Output, Port, Status};
+use line_output::put_numbers;
 use line_text::{BackLine, LineBuf};
 use trace_format::write_event;
 use trace_judge::{Expected, Verdict};
-
-/// The line of an accepted trace.
-fn accepted_line(value: u64, bound: u64) -> LineBuf
-    ensures text { result ≡ accepted_line value bound ++ 10 ∷ [] }
-    ensures fits { length result ≤ 129 }
-{
-    let mut line = LineBuf::new();
-    line.put_word(b"accepted");
-    line.put_number(value);
-    line.put_number(bound);
-    line.end_line();
-    line
-}
-
-/// The line of a text that is short.
-fn short_line(lines: u64) -> LineBuf
-    ensures text { result ≡ short_line lines ++ 10 ∷ [] }
-    ensures fits { length result ≤ 129 }
-{
-    let mut line = LineBuf::new();
-    line.put_word(b"short");
-    line.put_number(lines);
-    line.end_line();
-    line
-}
 
 /// What stands before the text of what is due, in the line of a wrong text.
 fn wrong_front(number: u64) -> LineBuf
@@ -47,14 +21,13 @@ fn wrong_front(number: u64) -> LineBuf
     let mut line = LineBuf::new();
     line.put_word(b"wrong");
     line.put_number(number);
-    line.put_word(b"expected");
-    line.put_word(b"");
+    line.put_word(b"expected ");
     line
 }
 
-/// The text of what is due, and the end of the line.
+/// The text of what is due in place of the wrong line of a text, and the end of the line.
 fn due_line(expected: Expected) -> BackLine
-    requires { IsShortDue (expected_of expected) }
+    requires { (text : List ℕ) × (line : ℕ) × (model.verdict text ≡ model.Wrong line (expected_of expected)) }
     ensures { result ≡ expected_text (expected_of expected) ++ 10 ∷ [] }
 {
     let mut line = BackLine::new();
@@ -73,7 +46,7 @@ fn put_wrong<P: Port>(
     number: u64,
     expected: Expected,
 ) -> Result<(), Failed>
-    requires { IsShortDue (expected_of expected) }
+    requires { (text : List ℕ) × (model.verdict text ≡ model.Wrong number (expected_of expected)) }
     ensures text { PutsThrough (P.moves port.old) (P.moves port.new) result out.old out.new
         (verdict_text (model.Wrong number (expected_of expected))) }
     ensures cause { HasCause
@@ -110,9 +83,9 @@ pub fn put_verdict<P: Port>(port: &mut P, out: &mut Output, verdict: &Verdict) -
 {
     match verdict {
         Verdict::Accepted { value, bound, .. } => {
-            out.put(port, accepted_line(*value, *bound).bytes())
+            put_numbers(port, out, b"accepted", &[*value, *bound])
         }
         Verdict::Wrong { line, expected } => put_wrong(port, out, *line, *expected),
-        Verdict::Short { lines } => out.put(port, short_line(*lines).bytes()),
+        Verdict::Short { lines } => put_numbers(port, out, b"short", &[*lines]),
     }
 }

@@ -4,11 +4,10 @@ use Rattle.dover_model.specs.Verdict.{verdict}
 use Rattle.dover_port.specs.Moves.{Move, Passes, CutsShort}
 use Rattle.dialogue.specs.declared.talker.Stop.{Stop}
 use Rattle.dialogue.specs.declared.talker.Stop.TheVariants.{NoMemory, Unwritten}
-use Rattle.judge_word.specs.Talk.{IsNoTrace}
-use Rattle.trace_judge.specs.Judging.{StandsFor, HasPaidFor, Tells, steps_told}
+use Rattle.judge_word.specs.Talking.{IsReady}
+use Rattle.trace_judge.specs.Judging.{Tells, steps_told}
 use Rattle.trace_judge.specs.declared.judge.Closed.{Closed}
 use Rattle.trace_judge.specs.declared.judge.Judge.{Judge}
-use Rattle.trace_judge.specs.declared.verdict.Verdict.{Verdict}
 use Rattle.report_word.specs.declared.form.Form.{Form}
 
 -- what a call is about: the form of the report, and the comparisons from which those of the call count
@@ -16,25 +15,15 @@ pub record Call : Type 0 where
   pub form : Form
   pub start : ℕ
 
--- the judge stands for the bytes, which pay for what it cost, and keeps the steps, for a report of this form
+-- the judge stands for the bytes and keeps the steps, for a report of this form
 pub record Stands (call : Call) (given : Form) (kept : Judge) (steps : ℕ) (bytes : List ℕ) : Type 0 where
-  pub judge : StandsFor kept bytes
-  pub paid : HasPaidFor kept bytes call.start steps
-  pub keep : kept.reader.keep ≡ true
+  pub judge : IsReady true kept call.start steps bytes
   pub form : given ≡ call.form
-
--- and nothing is left to give
-abbrev pub IsAt : Call → (given : Form) → Judge → (steps : ℕ) → List ℕ → List (List ℕ) → Type 0
-IsAt call given kept steps bytes rest = Stands call given kept steps bytes × (rest ≡ [])
 
 -- the judge's last word on the text: its verdict, and the steps of its run
 pub record IsClosed (closed : Closed) (text : List ℕ) : Type 0 where
   pub tells : Tells closed.verdict text
   pub steps : closed.steps.items ≡ steps_told true (verdict text)
-
--- the judge's verdict on the text, which is no trace
-abbrev pub TellsNoTrace : Verdict → List ℕ → Type 0
-TellsNoTrace v text = Tells v text × IsNoTrace text
 
 -- the text was put, or a front of it that isn't all, or there was no memory for it
 abbrev pub Puts : {T : Type 0} → Result T Stop → (old new : Option (List Move)) → List ℕ → Type 0

@@ -1,8 +1,8 @@
 //! What the reading loop calls: a judge that keeps the steps of the run, and tells the report at the end.
-ghost use Rattle.std.specs.Prelude.{ℕ, List};
+ghost use Rattle.dialogue.specs.Turns.{AllGiven};
 ghost use Rattle.judge_word.specs.Talking.{Costs};
 ghost use Rattle.report_word.specs.Talk.{report_talk};
-ghost use Rattle.report_word.specs.Talking.{Call, Stands, IsAt};
+ghost use Rattle.report_word.specs.Talking.{Call, Stands};
 
 use crate::Form;
 use crate::word::tell;
@@ -32,7 +32,7 @@ impl<L: Ledger> Talker for Reporting<L> {
 
     ghost talk = { λ call. report_talk call.form };
 
-    ghost stands = { λ call r steps. IsAt call r.form r.judge steps };
+    ghost stands = { λ call r steps. AllGiven (Stands call r.form r.judge steps) };
 
     ghost ready = { λ call r steps. Stands call r.form r.judge steps };
 

@@ -8,8 +8,7 @@ ghost use Rattle.dialogue.specs.Talk.{Talks, CanEnd};
 ghost use Rattle.dialogue.specs.Turns.{AnswersBy, StopCause, StopsOn};
 ghost use Rattle.judge_word.specs.Spending.{IsFrugal};
 ghost use Rattle.report_word.specs.Talk.{report_text, report_talk};
-ghost use Rattle.report_word.specs.Talking.{IsClosed, TellsNoTrace, Puts};
-ghost use Rattle.report_word.specs.declared.form.Form as forms;
+ghost use Rattle.report_word.specs.Talking.{IsClosed, Puts};
 
 use crate::Form;
 use crate::reporting::Reporting;
@@ -65,22 +64,6 @@ fn put_report<P: Port>(
     }
 }
 
-/// Puts the line of the verdict of a text that isn't accepted.
-fn put_refusal<P: Port>(port: &mut P, out: &mut Output, verdict: &Verdict) -> Result<Status, Stop>
-    requires empty { out.old ≡ [] }
-    requires no_trace { (text : List ℕ) × TellsNoTrace verdict.now text }
-    ensures answers { (text : List ℕ) (ended : Bool) (form : forms.Form) → TellsNoTrace verdict.now text →
-        AnswersBy (report_talk form) text ended (P.moves port.old) (P.moves port.new) out.new result }
-    ensures cause { StopCause result
-        (P.write_faults port.old) (P.write_faults port.new) (P.read_faults port.old) (P.read_faults port.new) }
-    ensures stops { StopsOn result (P.calls port.old) (P.calls port.new) }
-{
-    match put_verdict(port, out, verdict) {
-        Ok(()) => Ok(status_of(verdict)),
-        Err(_) => Err(Stop::Unwritten),
-    }
-}
-
 /// Puts the report where the text is accepted, and else the line of its verdict.
 pub(crate) fn tell<P: Port>(
     alloc: Global,
@@ -104,8 +87,10 @@ pub(crate) fn tell<P: Port>(
                 Err(stop) => Err(stop),
             }
         }
-        Verdict::Wrong { .. } => put_refusal(port, out, &closed.verdict),
-        Verdict::Short { .. } => put_refusal(port, out, &closed.verdict),
+        _ => match put_verdict(port, out, &closed.verdict) {
+            Ok(()) => Ok(status_of(&closed.verdict)),
+            Err(_) => Err(Stop::Unwritten),
+        },
     }
 }
 

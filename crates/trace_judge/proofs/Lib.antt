@@ -7,3 +7,5 @@ pub mod Unread
 pub mod Judging
 pub mod Spending
 pub mod EndedLines
+pub mod Dues
+pub mod Lengths

@@ -42,13 +42,17 @@ StandsFor j text = elim j.found [
   | NoMemory ↦ ⊥
 ]
 
+-- the steps of the run are kept
+abbrev pub keeps : Judge → Bool
+keeps j = j.reader.keep
+
 -- the judge stands for what it stood for with the piece behind it, and has spent room for no more than the jobs that
 -- the piece names
 pub record Fed (old new : Judge) (piece : List ℕ) : Type 0 where
   pub stands : (text : List ℕ) → StandsFor old text → StandsFor new (text ++ piece)
   pub spare : (text : List ℕ) → StandsFor old text
       → old.reader.spare + jobs_named text ≤ new.reader.spare + jobs_named (text ++ piece)
-  pub keep : new.reader.keep ≡ old.reader.keep
+  pub keep : keeps new ≡ keeps old
 
 -- the piece names more jobs than there was room for
 abbrev pub IsOverfed : Judge → List ℕ → Type 0

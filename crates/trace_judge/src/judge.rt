@@ -6,7 +6,7 @@ ghost use Rattle.line_text.specs.declared.cutting.Step.TheVariants.{More, Line, 
 ghost use Rattle.line_text.specs.Cutting.{IsWholeLine};
 ghost use Rattle.trace_judge.specs.declared.judge.Found.TheVariants.{Good, NoMemory};
 ghost use Rattle.trace_judge.specs.Reads.{job_lines_in, IsUnchangedFor};
-ghost use Rattle.trace_judge.specs.Judging.{StandsFor, Fed, IsOverfed, IsCut, Tells, steps_told, is_wrong};
+ghost use Rattle.trace_judge.specs.Judging.{StandsFor, Fed, IsOverfed, IsCut, Tells, keeps, steps_told, is_wrong};
 ghost use Rattle.trace_judge.specs.Judging.{Misses, Notes, HasPaidFor, PaysFor};
 ghost use Rattle.ready_jobs.specs.Spending.{HasPaid};
 
@@ -54,7 +54,7 @@ impl Judge {
     /// `Memory` where there is none for the first step.
     pub fn new(alloc: Global, keep: bool) -> Result<Judge, Memory>
         ensures stands { IfOk result (λ judge. StandsFor judge []) }
-        ensures keep { IfOk result (λ judge. judge.reader.keep ≡ keep) }
+        ensures keep { IfOk result (λ judge. keeps judge ≡ keep) }
         ensures paid { IfOk result (λ judge. (now : ℕ) → HasPaidFor judge [] now now) }
     {
         Ok(Judge {
@@ -72,7 +72,7 @@ impl Judge {
     pub fn reserve(&mut self, more: u32) -> Result<(), Memory>
         ensures stands { (text : List ℕ) → StandsFor self.old text → StandsFor self.new text }
         ensures found { self.new.found ≡ self.old.found }
-        ensures keep { self.new.reader.keep ≡ self.old.reader.keep }
+        ensures keep { keeps self.new ≡ keeps self.old }
         ensures ok { OnOk result (more ≤ self.new.reader.spare) }
         ensures grows { self.old.reader.spare ≤ self.new.reader.spare }
         ensures err { OnErr result (self.new.reader.spare ≡ self.old.reader.spare) }
@@ -350,7 +350,7 @@ impl Judge {
     pub fn close(self) -> Result<Closed, Memory>
         ensures tells { IfOk result (λ closed. (text : List ℕ) → StandsFor self text → Tells closed.verdict text) }
         ensures steps { IfOk result (λ closed. (text : List ℕ) → StandsFor self text →
-            closed.steps.items ≡ steps_told self.reader.keep (model.verdict text)) }
+            closed.steps.items ≡ steps_told (keeps self) (model.verdict text)) }
         ensures ok { (text : List ℕ) → StandsFor self text → IsOk result }
         ensures failed { OnOk result (self.found ≢ NoMemory) }
     {

@@ -1,20 +1,27 @@
-use Rattle.std.proofs.Common.{arith}
-use Rattle.judge_word.proofs.Sizes.{wrong_number, wrong_expected, wrong_space}
+use Rattle.std.proofs.Common.{arith, codes, decimal, length-append, ◌∷◌}
+use Rattle.line_output.proofs.FaultLines.{digits}
+use Rattle.line_text.specs.Writing.{with_field}
 use Rattle.judge_word.proofs.lines.wrong_front.Goals as goal
 
 pub put_number-requires : goal.put_number-requires
-put_number-requires c = rw (c.put_word.ensures, c.new-line.ensures)
-    (omega (arith, wrong_number c.args.number (omega arith)))
+put_number-requires c = rw (c.put_word.ensures, c.new-line.ensures) (omega (
+  arith,
+  digits c.args.number (omega arith),
+  length-append (codes "wrong") (32 ∷ decimal c.args.number),
+))
 
 pub put_word-requires-2 : goal.put_word-requires-2
-put_word-requires-2 c = rw (c.put_number.ensures, c.put_word.ensures, c.new-line.ensures)
-    (omega (arith, wrong_expected c.args.number (omega arith)))
-
-pub put_word-requires-3 : goal.put_word-requires-3
-put_word-requires-3 c = rw (c.put_word-2.ensures, c.put_number.ensures, c.put_word.ensures, c.new-line.ensures)
-    (omega (arith, wrong_space c.args.number (omega arith)))
+put_word-requires-2 c = rw (c.put_number.ensures, c.put_word.ensures, c.new-line.ensures) (omega (
+  arith,
+  digits c.args.number (omega arith),
+  length-append (codes "wrong") (32 ∷ decimal c.args.number),
+  length-append (with_field (codes "wrong") (decimal c.args.number)) (32 ∷ codes "expected "),
+))
 
 pub returns-clause-fits : goal.returns-clause-fits
-returns-clause-fits c = rw
-    (c.put_word-3.ensures, c.put_word-2.ensures, c.put_number.ensures, c.put_word.ensures, c.new-line.ensures)
-    (omega (arith, wrong_space c.args.number (omega arith)))
+returns-clause-fits c = rw (c.put_word-2.ensures, c.put_number.ensures, c.put_word.ensures, c.new-line.ensures) (omega (
+  arith,
+  digits c.args.number (omega arith),
+  length-append (codes "wrong") (32 ∷ decimal c.args.number),
+  length-append (with_field (codes "wrong") (decimal c.args.number)) (32 ∷ codes "expected "),
+))

@@ -1,6 +1,6 @@
 use Rattle.std.proofs.Common.{◌∙◌}
 use Rattle.dover_model.specs.Session.{instance_of}
-use Rattle.report_word.proofs.Answering.{run_of, reported, unreported, wrong_told, short_told}
+use Rattle.report_word.proofs.Answering.{run_of, reported, unreported, refused, unrefused}
 use Rattle.report_word.proofs.word.tell.Goals as goal
 
 pub put_report-requires : goal.put_report-requires
@@ -22,17 +22,15 @@ returns-in-Err-clause-answers g c = λ text ended closed.
     (c.in-Err.ensures.puts (instance_of tells.0)
     (run_of _ _ _ _ _ text tells _ (c.deref.ensures.value ∙ closed.steps)))
 
-pub put_refusal-requires-clause-no_trace : goal.put_refusal-requires-clause-no_trace
-put_refusal-requires-clause-no_trace g c = (
-  c.requires.closed.0,
-  rw c.in-Wrong.is (wrong_told _ _ c.requires.closed.0
-      (rw c.in-Wrong.is at c.requires.closed.1.tells)),
-)
+pub put_verdict-requires : goal.put_verdict-requires
+put_verdict-requires g c = (c.requires.closed.0, c.requires.closed.1.tells)
 
-pub returns-in-Wrong-clause-answers : goal.returns-in-Wrong-clause-answers
-returns-in-Wrong-clause-answers g c = λ text ended closed. c.put_refusal.ensures.answers text ended c.args.form
-    (rw c.in-Wrong.is (wrong_told _ _ text (rw c.in-Wrong.is at closed.tells)))
+pub returns-in-Ok-put_verdict-clause-answers : goal.returns-in-Ok-put_verdict-clause-answers
+returns-in-Ok-put_verdict-clause-answers g c = λ text ended closed. rw c.status_of.ensures
+    (refused c.args.form c.args.closed.now.verdict text ended closed.tells c.in_default.not-Accepted _ _ _
+    (rw c.requires.empty at (c.in-Ok-put_verdict.ensures.text text closed.tells).all))
 
-pub returns-in-Short-clause-answers : goal.returns-in-Short-clause-answers
-returns-in-Short-clause-answers g c = λ text ended closed. c.put_refusal-in-Short.ensures.answers text ended c.args.form
-    (rw c.in-Short.is (short_told _ text (rw c.in-Short.is at closed.tells)))
+pub returns-in-Err-put_verdict-clause-answers : goal.returns-in-Err-put_verdict-clause-answers
+returns-in-Err-put_verdict-clause-answers g c = λ text ended closed.
+    unrefused c.args.form c.args.closed.now.verdict text ended closed.tells c.in_default.not-Accepted _ _
+    c.put_verdict.new.out (rw c.requires.empty at (c.in-Err-put_verdict.ensures.text text closed.tells).part)

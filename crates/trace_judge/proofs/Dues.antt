@@ -1,4 +1,4 @@
--- The numbers of a step that is due have numerals.
+-- The numbers of a step that is due in place of a wrong line have numerals.
 use Rattle.std.proofs.Common.{◌≡◌, ℕ, zero, suc, ◌-◌, List, [], ◌∷◌, ◌++◌, length, take, refl, ap, ◌∙◌, subst}
 use Rattle.std.proofs.Common.{Bool, true, false, cond, ◌&&◌, Option, Some, None, arith, append_assoc}
 use Rattle.std.specs.Prelude.{slice_get}
@@ -7,11 +7,12 @@ use Rattle.std.proofs.lemmas.List.{take-append-le}
 use Rattle.std.proofs.lemmas.Bool.{and_parts}
 use Rattle.std.proofs.Math.Seq.{take-length}
 use Rattle.dover_model.specs.declared.events.Event.{Event}
-use Rattle.dover_model.specs.declared.events.Event.TheVariants as event
 use Rattle.dover_model.specs.Lines.{whole_lines, rest_of}
 use Rattle.dover_model.specs.Run.{printed}
 use Rattle.dover_model.specs.Session.{Session, instance_of}
-use Rattle.dover_model.specs.Verdict.{Expected, Step, Nothing, Verdict, Accepted, Wrong, Short, named_session}
+use Rattle.dover_model.specs.Numerals.{AreShort}
+use Rattle.dover_model.specs.Text.{step_numbers}
+use Rattle.dover_model.specs.Verdict.{Expected, Header, Step, Nothing, Verdict, Accepted, Wrong, Short, named_session}
 use Rattle.dover_model.specs.Verdict.{begins_trace, begins_trace_of}
 use Rattle.dover_model.specs.Verdict.{ends_with_end, is_empty, text_lines, first_wrong, step_after, expected_after}
 use Rattle.dover_model.specs.Verdict.{good_verdict, wrong_verdict, verdict}
@@ -19,7 +20,12 @@ use Rattle.dover_model.proofs.Agreement.{is_valid_session-agrees}
 use Rattle.dover_model.proofs.Members.{some_same}
 use Rattle.dover_model.proofs.ShortNumbers.{printed_short, AreAllShort}
 use Rattle.dover_model.proofs.WrongStays.{next_wrong}
-use Rattle.judge_word.specs.Line.{IsShortDue}
+
+-- the numbers of what is due have numerals
+abbrev IsShortDue : Expected → Type 0
+IsShortDue Header = Unit {0}
+IsShortDue (Step e) = AreShort (step_numbers e)
+IsShortDue Nothing = Unit {0}
 
 -- one of the steps is due, or nothing
 nth_short : (es : List Event) (n : ℕ) → AreAllShort es → IsShortDue (option_map_or Step (slice_get es n) Nothing)
@@ -86,6 +92,6 @@ verdict_due T = by_first (first_wrong [] (text_lines T)) refl where
   by_first None none = good_due (ends_with_end (whole_lines T) && is_empty (rest_of T)) (named_session (whole_lines T))
       (length (whole_lines T))
 
--- the same of a wrong text
-pub wrong_due : (T : List ℕ) (line : ℕ) (due : Expected) → verdict T ≡ Wrong line due → IsShortDue due
-wrong_due T line due is = subst (λ v. IsShortDue (due_of v)) is (verdict_due T)
+-- the same of a step
+pub due_short : (T : List ℕ) (line : ℕ) (e : Event) → verdict T ≡ Wrong line (Step e) → AreShort (step_numbers e)
+due_short T line e is = subst (λ v. IsShortDue (due_of v)) is (verdict_due T)
