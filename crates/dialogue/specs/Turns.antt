@@ -3,16 +3,13 @@ use Rattle.std.specs.Prelude.{◌≡◌, ◌<◌, ◌≤◌, ℕ, List, [], ◌�
 use Rattle.std.specs.Prelude.{Result, Ok, Err}
 use Rattle.std.specs.List.{flat_map}
 use Rattle.dover_model.specs.WholeRun.{Begins}
-use Rattle.dover_port.specs.Causes.{Rose, StaysWell, FailsLast}
+use Rattle.dover_port.specs.Causes.{Rose, StaysWell, FailsLast, Causes, StopsWith}
 use Rattle.dover_port.specs.declared.calls.Calls.{Calls}
 use Rattle.dover_port.specs.Moves.{Move, ins, outs, has_ended, EachRead, Passes, CutsShort}
 use Rattle.dover_port.specs.declared.status.Status.{Status}
-use Rattle.dover_port.specs.declared.status.Status.TheVariants.{ReadFault, WriteFault, Memory}
 use Rattle.dialogue.specs.Talk.{Talk, IsOver, IsFinal, MayRead, Talks, CanEnd}
 use Rattle.dialogue.specs.declared.talker.Stop.{Stop}
 use Rattle.dialogue.specs.declared.talker.Stop.TheVariants.{NoMemory, Unwritten}
-use Rattle.dialogue.specs.declared.turns.Reading.{Reading}
-use Rattle.dialogue.specs.declared.turns.Reading.TheVariants as reading
 
 -- ---- a talker
 
@@ -130,29 +127,23 @@ GoesOn t ready moves = HasRead t ready false true moves
 abbrev pub IsRead : Talk → Ready → (ended : Bool) → List Move → Type 0
 IsRead t ready ended moves = HasRead t ready ended ended moves
 
--- by how the reading ended
-abbrev pub ReadsBy : Reading → Talk → Ready → Costs → List Move → Type 0
-ReadsBy (reading.Over ended) t ready costs moves = IsRead t ready ended moves
-ReadsBy reading.Unread t ready costs moves = Talks t ReadFault moves × costs (ins moves)
-ReadsBy reading.Unwritten t ready costs moves = Talks t WriteFault moves × costs (ins moves)
-ReadsBy reading.NoMemory t ready costs moves = Talks t Memory moves × costs (ins moves)
+-- by the result
+abbrev pub ReadsBy : Result Bool Status → Talk → Ready → Costs → List Move → Type 0
+ReadsBy (Ok ended) t ready costs moves = IsRead t ready ended moves
+ReadsBy (Err status) t ready costs moves = Talks t status moves × costs (ins moves)
 
 -- Where no more is to be read, nothing is kept back of what is due, and the talker stands for some bytes; else a call
 -- may end so.
-abbrev pub StandsBy : Reading → Talk → Ready → (kept : List ℕ) → Type 0
-StandsBy (reading.Over ended) t ready kept = (x : List ℕ) × ready x × IsOver t x ended × (kept ≡ [])
-StandsBy reading.Unread t ready kept = CanEnd (Talks t) ReadFault
-StandsBy reading.Unwritten t ready kept = CanEnd (Talks t) WriteFault
-StandsBy reading.NoMemory t ready kept = CanEnd (Talks t) Memory
+abbrev pub StandsBy : Result Bool Status → Talk → Ready → (kept : List ℕ) → Type 0
+StandsBy (Ok ended) t ready kept = (x : List ℕ) × ready x × IsOver t x ended × (kept ≡ [])
+StandsBy (Err status) t ready kept = CanEnd (Talks t) status
 
 -- a fault comes only where its count rose
-abbrev pub ReadCauses : Reading → (reads reads' writes writes' : ℕ) → Type 0
-ReadCauses reading.Unread reads reads' writes writes' = Rose reads reads' × (writes' ≡ writes)
-ReadCauses reading.Unwritten reads reads' writes writes' = (reads' ≡ reads) × Rose writes writes'
-ReadCauses _ reads reads' writes writes' = (reads' ≡ reads) × (writes' ≡ writes)
+abbrev pub ReadCauses : Result Bool Status → (reads reads' writes writes' : ℕ) → Type 0
+ReadCauses (Ok ended) reads reads' writes writes' = (reads' ≡ reads) × (writes' ≡ writes)
+ReadCauses (Err status) reads reads' writes writes' = Causes status reads reads' writes writes'
 
--- no call follows one that failed: the last one alone has failed where a read or a write did, and else none has
-abbrev pub ReadStops : Reading → (old new : Calls) → Type 0
-ReadStops reading.Unread old new = FailsLast old new
-ReadStops reading.Unwritten old new = FailsLast old new
-ReadStops _ old new = StaysWell old new
+-- no call follows one that failed
+abbrev pub ReadStops : Result Bool Status → (old new : Calls) → Type 0
+ReadStops (Ok ended) old new = StaysWell old new
+ReadStops (Err status) old new = StopsWith status old new

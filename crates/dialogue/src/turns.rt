@@ -12,19 +12,6 @@ use line_text::BackLine;
 /// How many bytes a read asks for.
 const READ_BYTES: usize = 65_536;
 
-/// How the reading ends.
-#[derive(Clone, Copy)]
-pub(crate) enum Reading {
-    /// No more is to be read. Whether the input has ended.
-    Over(bool),
-    /// The port failed to read.
-    Unread,
-    /// The port failed to write.
-    Unwritten,
-    /// There was no memory.
-    NoMemory,
-}
-
 /// Puts all that is left to give, each part through `part`.
 fn give<P: Port, T: Talker>(
     port: &mut P,
@@ -92,13 +79,13 @@ fn hear<P: Port, T: Talker>(
     Ok(true)
 }
 
-/// Reads until no more is to be read.
+/// Reads until no more is to be read, and says whether the input has ended. An `Err`: the status of a failure.
 fn read_all<P: Port, T: Talker>(
     port: &mut P,
     out: &mut Output,
     talker: &mut T,
     meter: &mut T::Meter,
-) -> Reading
+) -> Result<bool, Status>
     requires empty { out.old ≡ [] }
     requires ready { (a : T.about) × T.ready a talker.old meter.old [] }
     ensures reads { (a : T.about) → T.ready a talker.old meter.old [] → Since (P.moves port.old) (P.moves port.new)
@@ -113,22 +100,22 @@ fn read_all<P: Port, T: Talker>(
     let mut buf = [0u8; READ_BYTES];
     for _ in 0..u64::MAX {
         let Ok(count) = port.read(&mut buf) else {
-            return Reading::Unread;
+            return Err(Status::ReadFault);
         };
         if count == 0 {
-            return Reading::Over(true);
+            return Ok(true);
         }
         let more = match hear(port, out, talker, meter, &buf[..count]) {
             Ok(more) => more,
-            Err(Stop::NoMemory) => return Reading::NoMemory,
-            Err(Stop::Unwritten) => return Reading::Unwritten,
+            Err(Stop::NoMemory) => return Err(Status::Memory),
+            Err(Stop::Unwritten) => return Err(Status::WriteFault),
         };
         match out.flush(port) {
             Ok(()) => {}
-            Err(_) => return Reading::Unwritten,
+            Err(_) => return Err(Status::WriteFault),
         }
         if !more {
-            return Reading::Over(false);
+            return Ok(false);
         }
     }
     unreachable!()
@@ -159,10 +146,8 @@ pub fn converse<P: Port, T: Talker>(port: &mut P, mut talker: T, meter: &mut T::
     T::laws();
     let mut out = Output::new();
     let ended = match read_all(port, &mut out, &mut talker, meter) {
-        Reading::Over(ended) => ended,
-        Reading::Unread => return Status::ReadFault,
-        Reading::Unwritten => return Status::WriteFault,
-        Reading::NoMemory => return Status::Memory,
+        Ok(ended) => ended,
+        Err(status) => return status,
     };
     let status = match talker.answer(meter, port, &mut out, ended) {
         Ok(status) => status,

@@ -12,7 +12,6 @@ use Rattle.dialogue.specs.Turns.{AnswersBy}
 use Rattle.dialogue.specs.declared.talker.Stop.{Stop}
 use Rattle.dialogue.specs.declared.talker.Stop.TheVariants.{NoMemory, Unwritten}
 use Rattle.judge_word.specs.Line.{verdict_text, status_of}
-use Rattle.judge_word.specs.Talk.{IsTrace}
 use Rattle.judge_word.proofs.Talking.{by_verdict, told_put, told_cut}
 use Rattle.trace_judge.specs.Judging.{Tells, steps_told}
 use Rattle.trace_judge.specs.declared.judge.Closed.{Closed}
