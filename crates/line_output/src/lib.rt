@@ -6,5 +6,5 @@ mod lines;
 mod traces;
 
 pub use faults::{fault_line, fault_text, put_fault};
-pub use lines::{put_line, put_numbers};
+pub use lines::{put_line, put_numbers, write_numbers};
 pub use traces::{put_event, put_header, put_refused};
