@@ -103,6 +103,11 @@ module _ {D W : Type 0} {serves : D → Instance → Horizon → List Event → 
     whole = refl;
   }
 
+  -- another server that has printed the same
+  pub served_by : (v u : D) (w : W) (J : Instance) (to : Horizon) (it : HasShown serves seen v w J to)
+      → serves u J to it.events → HasShown serves seen u w J to
+  served_by v u w J to it served = record { events = it.events; served = served; shown = it.shown }
+
   module _ (v : D) (w : W) (all : Instance) (j : JobFacts) (rest : List JobFacts)
       (it : IsUnderWay serves seen v w all (j ∷ rest)) where
     -- with the next job

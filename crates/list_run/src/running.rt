@@ -1,5 +1,5 @@
 //! A dispatcher over a list.
-ghost use Rattle.std.specs.Prelude.{◌≡◌, ℕ, List, [], ◌∷◌, length, OnOk, OnErr};
+ghost use Rattle.std.specs.Prelude.{◌≡◌, ℕ, List, [], ◌∷◌, length, OnOk};
 ghost use Rattle.dover_model.specs.declared.events.Event.{Event};
 ghost use Rattle.dover_model.specs.Instance.{Instance, IsValid, with_jobs, jobs_under};
 ghost use Rattle.dover_model.specs.Run.{printed};
@@ -28,10 +28,8 @@ fn show_to<D: Dispatcher, W: Watcher, L: Ledger>(
 )
     requires { (J : Instance) × (from : Horizon) × HasShown D.serves W.seen server.old watcher.old J from
         × MayFollow from to }
-    ensures rests { (J : Instance) (from : Horizon) → HasShown D.serves W.seen server.old watcher.old J from
-        → MayFollow from to → D.rests server.new J to }
-    ensures seen { (J : Instance) (from : Horizon) → HasShown D.serves W.seen server.old watcher.old J from
-        → MayFollow from to → W.seen watcher.new (due_by J to) }
+    ensures shown { (J : Instance) (from : Horizon) → HasShown D.serves W.seen server.old watcher.old J from
+        → MayFollow from to → D.rests server.new J to × W.seen watcher.new (due_by J to) }
     ensures room { D.has_room server.old → D.has_room server.new }
     ensures paid { (start : ℕ) → D.paid server.old start steps.old → D.paid server.new start steps.new }
 {
@@ -45,30 +43,27 @@ fn show_to<D: Dispatcher, W: Watcher, L: Ledger>(
     unreachable!()
 }
 
-/// Takes the run to a job's release, admits the job, and shows each step that is printed.
+/// Takes the run to a job's release, admits the job, for which there is room, and shows each step that is printed.
 fn serve_job<D: Dispatcher, W: Watcher, L: Ledger>(
     server: &mut D,
     job: Job,
     watcher: &mut W,
     steps: &mut Steps<L>,
-) -> Result<(), Memory>
-    requires { (J : Instance) × (from : Horizon) × HasShown D.serves W.seen server.old watcher.old J from
+)
+    requires room { D.has_room server.old }
+    requires shown { (J : Instance) × (from : Horizon) × HasShown D.serves W.seen server.old watcher.old J from
         × MayFollow from (Mark job.release) × IsValid (with_jobs J (job ∷ [])) }
     ensures shown { (J : Instance) (from : Horizon) → HasShown D.serves W.seen server.old watcher.old J from
-        → MayFollow from (Mark job.release) → IsValid (with_jobs J (job ∷ [])) → OnOk result
-        (HasShown D.serves W.seen server.new watcher.new (with_jobs J (job ∷ [])) (Mark job.release)) }
-    ensures few { (J : Instance) (from : Horizon) (start : ℕ)
-        → HasShown D.serves W.seen server.old watcher.old J from → D.paid server.old start steps.old
-        → OnErr result (CostsAtMost (length J.jobs) start steps.new) }
+        → MayFollow from (Mark job.release) → IsValid (with_jobs J (job ∷ []))
+        → HasShown D.serves W.seen server.new watcher.new (with_jobs J (job ∷ [])) (Mark job.release) }
     ensures paid { (start : ℕ) → D.paid server.old start steps.old → D.paid server.new start steps.new }
 {
     D::laws();
-    server.make_room()?;
     show_to(server, Horizon::Mark(job.release()), watcher, steps);
-    if let Some(event) = server.admit(job, steps) {
-        watcher.see(&event);
+    match server.admit(job, steps) {
+        Some(event) => watcher.see(&event),
+        None => {}
     }
-    Ok(())
 }
 
 /// Serves the jobs of a list, which are valid, to the end, and shows each printed step of their run. Memory is taken
@@ -93,7 +88,8 @@ pub fn run_list<D: Dispatcher, S: JobSource, W: Watcher, L: Ledger>(
     D::laws();
     let mut server = D::new(alloc, version, k)?;
     while let Some(job) = jobs.next_job() {
-        serve_job(&mut server, job, watcher, steps)?;
+        server.make_room()?;
+        serve_job(&mut server, job, watcher, steps);
     }
     show_to(&mut server, Horizon::End, watcher, steps);
     Ok(())
