@@ -1,119 +1,85 @@
 -- What is listed after a line.
-use Rattle.std.proofs.Common.{◌≡◌, ◌<◌, ◌+◌, ◌⊎◌, inl, inr, ℕ, List, ◌∷◌, ◌++◌, [], length, refl, sym, ap, ◌∙◌, Option}
-use Rattle.std.proofs.Common.{Some, None, arith}
-use Rattle.std.proofs.Common.{length-append}
+use Rattle.std.proofs.Common.{◌≡◌, ◌<◌, ◌++◌, ◌∷◌, [], ◌⊎◌, inl, inr, ℕ, List, length, refl, sym, ap, ◌∙◌}
+use Rattle.std.proofs.Common.{Option, Some, None, Bool, true, false, arith}
 use Rattle.dover_model.specs.declared.events.Version.{Version}
 use Rattle.dover_model.specs.declared.events.Refusal.{Refusal}
 use Rattle.dover_model.specs.JobFacts.{JobFacts}
 use Rattle.dover_model.specs.Fraction.{Fraction}
-use Rattle.dover_model.specs.Instance.{Instance}
-use Rattle.dover_model.specs.Feed.{Account, Open, Faulty, rules_with, account_of_lines}
-use Rattle.dover_model.specs.Session.{Session, Item, JobItem, RefusedItem, RefusedJob, refused_at, admitted_jobs}
-use Rattle.dover_model.specs.Session.{instance_of, with_item, new_session}
-use Rattle.dover_model.proofs.Growing.{instance_with as under_rules}
-use Rattle.event_feed.specs.Answers.{AddsJob, AddsRefused, DeclaresRatio, NewFault, OldFault, counted, admitted_in}
+use Rattle.dover_model.specs.Instance.{Instance, with_jobs}
+use Rattle.dover_model.specs.Feed as feeds
+use Rattle.dover_model.specs.Feed.{Account, account_of_lines, is_open}
+use Rattle.dover_model.specs.Session.{Session, JobItem, instance_of, admitted_jobs, with_item, refused_at}
+use Rattle.dover_model.proofs.Growing.{job_instance, refused_instance}
+use Rattle.event_feed.proofs.Admitting.{job_more}
+use Rattle.event_feed.specs.Answers.{AddsJob, AddsRefused, NewFault, OldFault, counted, admitted_in}
 use Rattle.event_feed.specs.Faults.{IsFirstFault}
 use Rattle.event_feed.specs.Kept.{cause_of_fault}
 use Rattle.event_feed.specs.declared.faults.FeedFault.{FeedFault}
 use Rattle.feed_list.specs.Listing.{Lists, instance_with}
 
--- a job more
-pub job_more : (items : List Item) (j : JobFacts)
-    → admitted_jobs (items ++ JobItem j ∷ []) ≡ admitted_jobs items ++ j ∷ []
-job_more [] j = refl
-job_more (JobItem i ∷ items) j = ap (λ js. i ∷ js) (job_more items j)
-job_more (RefusedItem r ∷ items) j = job_more items j
+-- ---- how a feed stands
 
--- a refused line more
-pub refused_more : (items : List Item) (r : RefusedJob)
-    → admitted_jobs (items ++ RefusedItem r ∷ []) ≡ admitted_jobs items
-refused_more [] r = refl
-refused_more (JobItem i ∷ items) r = ap (λ js. i ∷ js) (refused_more items r)
-refused_more (RefusedItem s ∷ items) r = refused_more items r
+-- whether a feed goes on, by its standing
+abbrev pub goes_on : feeds.Standing → Bool
+goes_on s = elim s [ feeds.Open ↦ true | feeds.Ended ↦ false | feeds.Faulty line cause ↦ false ]
 
--- instances of the same jobs
-same_instance : (d : Fraction × Version) (xs ys : List JobFacts) → xs ≡ ys → instance_with d xs ≡ instance_with d ys
-same_instance d xs ys e = ap (instance_with d) e
+-- one that goes on is open
+pub open_by_test : (a : Account) → is_open a ≡ true → a.standing ≡ feeds.Open
+open_by_test a on = by_standing a.standing refl where
+  by_standing : (s : feeds.Standing) → a.standing ≡ s → a.standing ≡ feeds.Open
+  by_standing feeds.Open is = is
+  by_standing feeds.Ended is = absurd (let e : true ≡ false = sym on ∙ ap goes_on is in cc)
+  by_standing (feeds.Faulty line cause) is = absurd (let e : true ≡ false = sym on ∙ ap goes_on is in cc)
+
+-- a faulty line behind lines that go on is the first
+pub first_fault : (ls : List (List ℕ)) (line : List ℕ) (fault : FeedFault) → (account_of_lines ls).standing ≡ feeds.Open
+    → NewFault line fault (account_of_lines ls) (account_of_lines (ls ++ line ∷ []))
+    ⊎ OldFault fault (account_of_lines ls) (account_of_lines (ls ++ line ∷ [])) → IsFirstFault fault (ls ++ line ∷ [])
+first_fault ls line fault stands (inl new) = record { before = ls; line = line; more = []; lines = refl; new = new }
+first_fault ls line fault stands (inr old) =
+    absurd (let e : feeds.Open ≡ feeds.Faulty fault.line (cause_of_fault fault.cause) = sym stands ∙ old.faulty in cc)
+
+-- ---- what a line adds
 
 -- an account without a session isn't one with
 no_session : (a : Account) (S : Session) {X : Type 0} → a.session ≡ None → a.session ≡ Some S → X
 no_session a S none some = absurd (let e : None ≡ Some S = sym none ∙ some in cc)
 
--- the one session
-one_session : (S T : Session) (a : Account) → a.session ≡ Some S → a.session ≡ Some T → S ≡ T
-one_session S T a e f = cc
+-- what is listed of the one session
+same_session : (S : Session) (a : Account) (declared : Fraction × Version) (jobs : List JobFacts)
+    → Lists (Some declared) jobs a.session → a.session ≡ Some S → instance_with declared jobs ≡ instance_of S
+same_session S a declared jobs lists is = lists.2 ∙ ap instance_of (let e : lists.0 ≡ S = cc in e)
 
-module _ (a b : Account) (stands : a.standing ≡ Open) where
-  -- the ratio line
-  pub ratio_listed : (k : Fraction) (version : Version) → DeclaresRatio k version (counted a) b
-      → (o : Option (Fraction × Version))
-      (jobs : List JobFacts) → Lists o jobs a.session → (b.standing ≡ Open) × Lists (Some (k, version)) jobs b.session
-  ratio_listed k version it None jobs lists = (
-    ap (λ (x : Account). x.standing) it.after_is ∙ stands,
-    (
-      new_session (rules_with k version),
+module _ (a b : Account) (declared : Option (Fraction × Version)) (jobs : List JobFacts)
+    (lists : Lists declared jobs a.session) where
+  -- a job line
+  pub job_listed : (number : ℕ) (job : JobFacts) → AddsJob number job (counted a) b
+      → Lists declared (jobs ++ job ∷ []) b.session
+  job_listed number job it = by_rules declared lists where
+    by_rules : (o : Option (Fraction × Version)) → Lists o jobs a.session → Lists o (jobs ++ job ∷ []) b.session
+    by_rules None none = no_session a it.session none.1 it.before_is
+    by_rules (Some rules) some = (
+      with_item it.session (JobItem job),
       ap (λ (x : Account). x.session) it.after_is,
-      same_instance (k, version) jobs [] lists.0,
-    ),
-  )
-  ratio_listed k version it (Some declared) jobs lists = no_session a lists.0 it.first lists.1
-
-  module _ (n : ℕ) (job : JobFacts) (adds : AddsJob n job (counted a) b) where
-    -- the session after a job line
-    job_session : b.session ≡ Some (with_item adds.session (JobItem job))
-    job_session = ap (λ (x : Account). x.session) adds.after_is
-
-    -- a job line
-    pub job_listed : (o : Option (Fraction × Version)) (jobs : List JobFacts) → Lists o jobs a.session
-        → (b.standing ≡ Open) × Lists o (jobs ++ job ∷ []) b.session
-    job_listed None jobs lists = no_session a adds.session lists.1 adds.before_is
-    job_listed (Some declared) jobs lists =
-        let same : lists.0 ≡ adds.session = one_session lists.0 adds.session a lists.1 adds.before_is in
-        let is : instance_with declared jobs ≡ instance_of adds.session = lists.2 ∙ ap instance_of same in
-        let rules : rules_with declared.0 declared.1 ≡ adds.session.rules = ap (λ (J : Instance). J.rules) is in
-        let more : jobs ++ job ∷ [] ≡ admitted_jobs (adds.session.items ++ JobItem job ∷ []) =
-        ap (λ (J : Instance). J.jobs ++ job ∷ []) is ∙ sym (job_more adds.session.items job) in (
-          ap (λ (x : Account). x.standing) adds.after_is ∙ stands,
-          (
-            with_item adds.session (JobItem job),
-            job_session,
-            same_instance declared _ _ more
-                ∙ ap (λ r. under_rules r (admitted_jobs (adds.session.items ++ JobItem job ∷ []))) rules,
-          ),
-        )
-
-    -- its job is admitted
-    pub job_admitted : 0 < admitted_in b
-    job_admitted =
-        let is : admitted_in b ≡ length (admitted_jobs (adds.session.items ++ JobItem job ∷ [])) =
-        ap (λ (o : Option Session). elim o [ None ↦ 0 | Some S ↦ length (admitted_jobs S.items) ]) job_session in
-        let more : length (admitted_jobs (adds.session.items ++ JobItem job ∷ [])) ≡ length
-        (admitted_jobs adds.session.items) + 1 =
-        ap (λ (js : List JobFacts). length js) (job_more adds.session.items job)
-        ∙ length-append (admitted_jobs adds.session.items) (job ∷ []) in
-        omega arith
+      ap (λ (J : Instance). with_jobs J (job ∷ [])) (same_session it.session a rules jobs some it.before_is)
+          ∙ sym (job_instance it.session job),
+    )
 
   -- a refused line
-  pub refused_listed : (job : JobFacts) (cause : Refusal) → AddsRefused job cause (counted a) b
-      → (o : Option (Fraction × Version))
-      (jobs : List JobFacts) → Lists o jobs a.session → (b.standing ≡ Open) × Lists o jobs b.session
-  refused_listed job cause adds None jobs lists = no_session a adds.session lists.1 adds.before_is
-  refused_listed job cause adds (Some declared) jobs lists =
-      let same : lists.0 ≡ adds.session = one_session lists.0 adds.session a lists.1 adds.before_is in
-      let is : instance_with declared jobs ≡ instance_of adds.session = lists.2 ∙ ap instance_of same in (
-        ap (λ (x : Account). x.standing) adds.after_is ∙ stands,
-        (
-          with_item adds.session (refused_at a.mark job cause),
-          ap (λ (x : Account). x.session) adds.after_is,
-          is ∙ ap (λ js. under_rules adds.session.rules js)
-              (sym (refused_more adds.session.items (record { at = a.mark; job = job; refusal = cause }))),
-        ),
-      )
+  pub refused_listed : (job : JobFacts) (refusal : Refusal) → AddsRefused job refusal (counted a) b
+      → Lists declared jobs b.session
+  refused_listed job refusal it = by_rules declared lists where
+    by_rules : (o : Option (Fraction × Version)) → Lists o jobs a.session → Lists o jobs b.session
+    by_rules None none = no_session a it.session none.1 it.before_is
+    by_rules (Some rules) some = (
+      with_item it.session (refused_at a.mark job refusal),
+      ap (λ (x : Account). x.session) it.after_is,
+      same_session it.session a rules jobs some it.before_is ∙ sym (refused_instance it.session _),
+    )
 
--- a faulty line behind lines that go on is the first
-pub first_fault : (ls : List (List ℕ)) (line : List ℕ) (fault : FeedFault) → (account_of_lines ls).standing ≡ Open
-    → NewFault line fault (account_of_lines ls) (account_of_lines (ls ++ line ∷ []))
-    ⊎ OldFault fault (account_of_lines ls) (account_of_lines (ls ++ line ∷ [])) → IsFirstFault fault (ls ++ line ∷ [])
-first_fault ls line fault stands (inl new) = record { before = ls; line = line; more = []; lines = refl; new = new }
-first_fault ls line fault stands (inr old) =
-    absurd (let e : Open ≡ Faulty fault.line (cause_of_fault fault.cause) = sym stands ∙ old.faulty in cc)
+-- a job line admits its job
+pub job_admitted : (a b : Account) (number : ℕ) (job : JobFacts) → AddsJob number job (counted a) b → 0 < admitted_in b
+job_admitted a b number job it =
+    let is : admitted_in b ≡ length (admitted_jobs (it.session.items ++ JobItem job ∷ [])) =
+    ap (λ (x : Account). admitted_in x) it.after_is in
+    omega (arith, job_more it.session.items job)

@@ -1,3 +1,3 @@
 pub mod Listing
-pub mod Feeding
+pub mod Keeping
 pub mod Record

@@ -1,6 +1,6 @@
 -- What is known of a feed whose reading has ended.
 use Rattle.std.specs.Prelude.{◌≡◌, ◌⊎◌, ℕ, List, true, Some, length}
-use Rattle.dover_model.specs.Feed.{Faulty, is_open, is_ended, account}
+use Rattle.dover_model.specs.Feed.{Account, Ended, Faulty, is_open, account}
 use Rattle.dover_model.specs.Lines.{whole_lines}
 use Rattle.dover_model.specs.Session.{Session, IsValidSession, instance_of}
 use Rattle.event_feed.specs.Answers.{short_after}
@@ -10,11 +10,11 @@ use Rattle.event_feed.specs.declared.faults.FeedFault.{FeedFault}
 use Rattle.feed_list.specs.Listing.{listed_instance}
 use Rattle.feed_list.specs.declared.listed.Listed.{Listed}
 
--- the feed of these bytes ended without a fault, and these are the jobs of its session
-pub record IsEnded (listed : Listed) (bytes : List ℕ) : Type 0 where
-  pub ended : is_ended (account bytes) ≡ true
+-- the feed of this account ended without a fault, and these are the jobs of its session
+pub record IsEnded (listed : Listed) (a : Account) : Type 0 where
+  pub ended : a.standing ≡ Ended
   pub session : Session
-  pub session_is : (account bytes).session ≡ Some session
+  pub session_is : a.session ≡ Some session
   pub valid : IsValidSession session
   pub jobs : listed_instance listed ≡ instance_of session
 

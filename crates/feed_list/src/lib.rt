@@ -1,7 +1,6 @@
 //! A feed that comes in pieces is read up to its end, and the jobs that it admits are listed.
 #![tactic(auto)]
 
-mod feed;
 mod gathering;
 mod listed;
 mod reader;

@@ -2,6 +2,5 @@ pub mod Answering
 pub mod Comparing
 pub mod Counts
 pub mod Finding
-pub mod Pieces
-pub mod SaidFeasible
+pub mod Lines
 pub mod Talking

@@ -15,7 +15,6 @@ use Rattle.policy_lab.specs.PolicyRun.{policy_run, AreTooLarge}
 use Rattle.policy_lab.specs.Standard.{earliest_deadline, greatest_density}
 use Rattle.queued_jobs.specs.Spending.{CostsAtMost}
 use Rattle.question_words.specs.Texts.{size_text}
-use Rattle.question_words.specs.declared.compare.Compared.{Compared}
 
 -- what the schedule of a policy is worth
 abbrev pub worth_of : Picks → Instance → ℕ
@@ -23,35 +22,22 @@ worth_of picks J = worth J (policy_run picks J.jobs)
 
 -- the value that the run of these jobs completes, what the two policies' schedules are worth, and the bound on what any
 -- is worth
-abbrev pub compared_of : Instance → Compared
-compared_of J = let value : ℕ = completed_value J in record {
-  dover = value;
-  edf = worth_of earliest_deadline J;
-  dense = worth_of greatest_density J;
-  bound = bound J.rules.ratio value;
-}
-
--- the lines of these numbers
-abbrev pub compared_lines : Compared → List (List ℕ)
-compared_lines c =
-    with_numbers (codes "dover") (c.dover ∷ [])
-    ∷ with_numbers (codes "edf") (c.edf ∷ [])
-    ∷ with_numbers (codes "dense") (c.dense ∷ [])
-    ∷ with_numbers (codes "bound") (c.bound ∷ [])
-    ∷ []
-
--- what is said of jobs that aren't too many or too late for the policies
 abbrev pub compare_text : Instance → List ℕ
-compare_text J = in_lines (compared_lines (compared_of J))
+compare_text J = in_lines (
+    with_numbers (codes "dover") (completed_value J ∷ [])
+    ∷ with_numbers (codes "edf") (worth_of earliest_deadline J ∷ [])
+    ∷ with_numbers (codes "dense") (worth_of greatest_density J ∷ [])
+    ∷ with_numbers (codes "bound") (bound J.rules.ratio (completed_value J) ∷ [])
+    ∷ [])
 
 -- neither policy's schedule is worth more than the bound
-pub record AreWithin (c : Compared) : Type 0 where
-  pub edf : c.edf ≤ c.bound
-  pub dense : c.dense ≤ c.bound
+pub record AreWithin (J : Instance) : Type 0 where
+  pub edf : worth_of earliest_deadline J ≤ bound J.rules.ratio (completed_value J)
+  pub dense : worth_of greatest_density J ≤ bound J.rules.ratio (completed_value J)
 
 -- Done with the four numbers, and Refused exactly where the policies aren't run over so large a feed
 abbrev pub SaysCompare : Instance → Status → List ℕ → Type 0
-SaysCompare J Done text = (AreTooLarge J.jobs → ⊥) × AreWithin (compared_of J) × (text ≡ compare_text J)
+SaysCompare J Done text = (AreTooLarge J.jobs → ⊥) × AreWithin J × (text ≡ compare_text J)
 SaysCompare J Refused text = AreTooLarge J.jobs × (text ≡ size_text)
 SaysCompare J _ text = ⊥
 

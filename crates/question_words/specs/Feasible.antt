@@ -7,8 +7,6 @@ use Rattle.dover_model.specs.declared.pieces.Piece.{Piece}
 use Rattle.dover_port.specs.declared.status.Status.{Status}
 use Rattle.dover_port.specs.declared.status.Status.TheVariants.{Done, No}
 use Rattle.feasibility.specs.Feasibility.{ShowsAll, ShowsWindow}
-use Rattle.feasibility.specs.declared.answer.Feasible.{Feasible}
-use Rattle.feasibility.specs.declared.answer.Feasible.TheVariants.{All, Window}
 use Rattle.question_words.specs.Texts.{piece_lines}
 
 -- how many pieces there are, and each of them
@@ -26,13 +24,3 @@ SaysFeasible J Done text = Meets J × ((pieces : List Piece) × ShowsAll J.jobs 
 SaysFeasible J No text = (Meets J → ⊥)
     × ((a : ℕ) × (b : ℕ) × (work : ℕ) × ShowsWindow J.jobs a b work × (text ≡ window_text a b work))
 SaysFeasible J _ text = ⊥
-
--- the status and the text of an answer
-abbrev pub status_of : Feasible → Status
-status_of (All pieces) = Done
-status_of (Window a b work) = No
-
--- its text
-abbrev pub text_of : Feasible → List ℕ
-text_of (All pieces) = pieces_text pieces.items
-text_of (Window a b work) = window_text a b work

@@ -3,7 +3,7 @@ use Rattle.std.specs.Prelude.{◌≡◌, ℕ, List, []}
 use Rattle.queued_jobs.specs.Spending.{CostsAtMost}
 use Rattle.dover_model.specs.Feed.{account}
 use Rattle.event_feed.specs.Answers.{admitted_in}
-use Rattle.feed_list.specs.Feeding as feed
+use Rattle.feed_list.specs.Keeping as feed
 use Rattle.feed_list.specs.declared.reader.FeedReader.{FeedReader}
 use Rattle.question_words.specs.declared.question.Question.{Question}
 

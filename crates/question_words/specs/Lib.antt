@@ -4,5 +4,4 @@ pub mod Feasible
 pub mod Compare
 pub mod Best
 pub mod Questions
-pub mod Asking
 pub mod Keeping

@@ -1,21 +1,25 @@
 -- What a word says that answers on the jobs of a feed, by the bytes got so far.
-use Rattle.std.specs.Prelude.{◌≡◌, ◌⊎◌, ℕ, List, [], Bool, true, false, Some}
-use Rattle.dover_model.specs.Feed.{is_open, is_ended, account, Cause, Faulty}
+use Rattle.std.specs.Prelude.{◌≡◌, ◌⊎◌, ℕ, suc, List, [], ◌∷◌, length, Bool, true, false, Some}
+use Rattle.dover_model.specs.Due.{fault_text}
+use Rattle.dover_model.specs.Feed.{is_open, is_ended, account, Cause, Faulty, Short}
 use Rattle.dover_model.specs.Instance.{Instance}
+use Rattle.dover_model.specs.Lines.{in_lines, whole_lines}
 use Rattle.dover_model.specs.Session.{Session, IsValidSession, instance_of}
 use Rattle.dover_port.specs.declared.status.Status.{Status}
 use Rattle.dover_port.specs.declared.status.Status.TheVariants.{Refused}
 use Rattle.dialogue.specs.Talk.{Talk}
-use Rattle.question_words.specs.Texts.{refusal_text}
 
 -- what a word has to say of these jobs: a status and a text
 abbrev pub Says : Type 1
 Says = Instance → Status → List ℕ → Type 0
 
--- a line of the feed of these bytes is at fault, or the input ended behind them before the feed did
-abbrev pub IsRefusedAt : List ℕ → Bool → Type 0
-IsRefusedAt bytes ended = ((line : ℕ) × (cause : Cause) × ((account bytes).standing ≡ Faulty line cause))
-    ⊎ ((ended ≡ true) × (is_open (account bytes) ≡ true))
+-- the line of the fault of this feed, or, where the input ended behind these bytes before the feed did, that it is short
+abbrev pub IsRefusal : List ℕ → Bool → List ℕ → Type 0
+IsRefusal bytes ended text =
+    ((line : ℕ) × (cause : Cause) × ((account bytes).standing ≡ Faulty line cause)
+    × (text ≡ in_lines (fault_text line cause ∷ [])))
+    ⊎ ((ended ≡ true) × (is_open (account bytes) ≡ true)
+    × (text ≡ in_lines (fault_text (suc (length (whole_lines bytes))) Short ∷ [])))
 
 -- the feed of these bytes ended without a fault, and this is said of its jobs
 pub record IsSaid (says : Says) (status : Status) (text bytes : List ℕ) : Type 0 where
@@ -32,6 +36,6 @@ ask_talk says = record {
   goes_on = λ bytes. is_open (account bytes);
   due = λ bytes. [];
   answer = λ bytes ended status text.
-      ((status ≡ Refused) × IsRefusedAt bytes ended × (text ≡ refusal_text bytes)) ⊎ IsSaid says status text bytes;
+      ((status ≡ Refused) × IsRefusal bytes ended text) ⊎ IsSaid says status text bytes;
   lacks = λ bytes ended. ended ≡ false;
 }

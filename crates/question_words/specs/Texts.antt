@@ -1,14 +1,12 @@
--- The texts that are put one at a time: what refuses a feed, and a list of pieces.
-use Rattle.std.specs.Prelude.{ℕ, List, [], ◌∷◌, ◌++◌, length, map, codes}
-use Rattle.dover_model.specs.Due.{fault_lines, short_lines}
-use Rattle.dover_model.specs.Feed.{account}
-use Rattle.dover_model.specs.Lines.{with_numbers, in_lines, whole_lines}
+-- The texts that are put, and how an answer is.
+use Rattle.std.specs.Prelude.{◌≡◌, ℕ, List, [], ◌∷◌, ◌++◌, map, codes, Option, Result, Ok, Err}
+use Rattle.dover_model.specs.Lines.{with_numbers, in_lines}
 use Rattle.dover_model.specs.declared.pieces.Piece.{Piece}
-
--- what refuses the feed of these bytes where the input ends behind them: the line of its fault, or that it is short
-abbrev pub refusal_text : List ℕ → List ℕ
-refusal_text bytes = in_lines
-    (fault_lines (account bytes).standing ++ short_lines (length (whole_lines bytes)) (account bytes))
+use Rattle.dover_port.specs.Moves.{Move, Passes, CutsShort}
+use Rattle.dover_port.specs.declared.status.Status.{Status}
+use Rattle.dialogue.specs.declared.talker.Stop.{Stop}
+use Rattle.dialogue.specs.declared.talker.Stop.TheVariants.{NoMemory, Unwritten}
+use Rattle.question_words.specs.declared.answer.Answer.{Answer}
 
 -- the line of a piece
 abbrev pub piece_line : Piece → List ℕ
@@ -21,3 +19,13 @@ piece_lines pieces = map piece_line pieces
 -- what is said of jobs that are too many or too late
 abbrev pub size_text : List ℕ
 size_text = in_lines (codes "refused size" ∷ [])
+
+-- the text of an answer
+abbrev pub text_of : Answer → List ℕ
+text_of answer = answer.head ++ in_lines (piece_lines answer.pieces.items)
+
+-- the answer was put, or a front of its text that isn't all
+abbrev pub PutsBy : Answer → (old new : Option (List Move)) → (after : List ℕ) → Result Status Stop → Type 0
+PutsBy answer old new after (Ok status) = (status ≡ answer.status) × Passes old new [] after (text_of answer)
+PutsBy answer old new after (Err Unwritten) = CutsShort old new [] (text_of answer)
+PutsBy answer old new after (Err NoMemory) = ⊥

@@ -1,20 +1,21 @@
 //! What the reading loop calls: a reader of the feed, which is asked a question on its jobs at the end.
-ghost use Rattle.std.specs.Prelude.{◌≡◌, [], length};
-ghost use Rattle.dialogue.specs.Turns.{StopCause, StopsOn};
+ghost use Rattle.std.specs.Prelude.{IfOk, length};
+ghost use Rattle.dialogue.specs.Talk.{IsFinal};
 ghost use Rattle.queued_jobs.specs.Spending.{CostsAtMost};
 ghost use Rattle.dover_model.specs.Instance.{IsValid};
 ghost use Rattle.feed_list.specs.Listing.{listed_instance};
-ghost use Rattle.question_words.specs.Asking.{SaysBy};
 ghost use Rattle.question_words.specs.Questions.{says};
 ghost use Rattle.question_words.specs.Talk.{ask_talk};
 ghost use Rattle.question_words.specs.Keeping.{Asked, Stands, IsAt, Costs};
+ghost use Rattle.question_words.specs.Texts.{text_of};
 
-use crate::refusing::refuse;
+use crate::answer::Answer;
 use crate::{Question, best, compare, feasible};
 use dialogue::{Stop, Talker};
 use dover_model::Memory;
 use dover_port::{Output, Port, Status};
 use feed_list::{FeedReader, Listed};
+use line_output::fault_text;
 use line_text::BackLine;
 use std::alloc::Global;
 use std::marker::PhantomData;
@@ -30,28 +31,23 @@ pub(crate) struct Asking<L: Ledger> {
     pub(crate) counts: PhantomData<L>,
 }
 
-/// Puts the answer to the question on these jobs.
-fn answer<P: Port, L: Ledger>(
+/// The answer to the question on these jobs.
+fn answer<L: Ledger>(
     alloc: Global,
-    port: &mut P,
-    out: &mut Output,
     question: Question,
     listed: &Listed,
     steps: &mut Steps<L>,
-) -> Result<Status, Stop>
-    requires empty { out.old ≡ [] }
-    requires valid { IsValid (listed_instance listed.now) }
-    ensures says { SaysBy (says question) (listed_instance listed.now)
-        (P.moves port.old) (P.moves port.new) out.new result }
+) -> Result<Answer, Memory>
+    requires { IsValid (listed_instance listed.now) }
+    ensures says { IfOk result
+        (λ answer. says question (listed_instance listed.now) answer.status (text_of answer)) }
+    ensures ends { IfOk result (λ answer. IsFinal answer.status) }
     ensures count { CostsAtMost (length listed.now.jobs.items) steps.old steps.new }
-    ensures cause { StopCause result
-        (P.write_faults port.old) (P.write_faults port.new) (P.read_faults port.old) (P.read_faults port.new) }
-    ensures stops { StopsOn result (P.calls port.old) (P.calls port.new) }
 {
     match question {
-        Question::Feasible => feasible::answer(alloc, port, out, &listed.jobs),
-        Question::Best => best::answer(alloc, port, out, listed, steps),
-        Question::Compare => compare::answer(alloc, port, out, listed, steps),
+        Question::Feasible => feasible::answer(alloc, listed),
+        Question::Best => best::answer(alloc, listed, steps),
+        Question::Compare => compare::answer(alloc, listed, steps),
     }
 }
 
@@ -93,8 +89,11 @@ impl<L: Ledger> Talker for Asking<L> {
         _ended: bool,
     ) -> Result<Status, Stop> {
         match self.reader.close() {
-            Ok(listed) => answer(self.alloc, port, out, self.question, &listed, meter),
-            Err(fault) => refuse(port, out, fault),
+            Ok(listed) => match answer(self.alloc, self.question, &listed, meter) {
+                Ok(answer) => answer.put(port, out),
+                Err(Memory) => Err(Stop::NoMemory),
+            },
+            Err(fault) => Answer::refused(self.alloc, fault_text(fault).bytes()).put(port, out),
         }
     }
 }

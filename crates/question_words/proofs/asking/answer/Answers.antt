@@ -1,10 +1,7 @@
-use Rattle.std.proofs.Common.{sym}
-use Rattle.feed_list.specs.Listing.{listed_instance}
 use Rattle.question_words.proofs.asking.answer.Goals as goal
 
 pub returns-in-Feasible-clause-says : goal.returns-in-Feasible-clause-says
-returns-in-Feasible-clause-says g c = rw c.in-Feasible.is
-    (c.answer.ensures.says (listed_instance c.args.listed.now) (sym c.deref.ensures.value))
+returns-in-Feasible-clause-says g c = rw c.in-Feasible.is c.answer.ensures.says
 
 pub returns-in-Best-clause-says : goal.returns-in-Best-clause-says
 returns-in-Best-clause-says g c = rw c.in-Best.is c.answer-in-Best.ensures.says

@@ -1,14 +1,39 @@
-use Rattle.std.proofs.Common.{sym, subst}
-use Rattle.feasibility.specs.Feasibility.{IsAnswer}
-use Rattle.question_words.proofs.SaidFeasible.{answer_put, answer_cut}
+use Rattle.std.proofs.Common.{◌≡◌, ◌++◌, ◌∷◌, ◌∙◌, [], length, refl, ap, subst, codes, arith}
+use Rattle.dover_model.specs.Lines.{in_lines}
+use Rattle.feasibility.specs.Feasibility.{IsAnswer, ShowsAll, ShowsWindow}
+use Rattle.feed_list.specs.Listing.{listed_instance}
+use Rattle.question_words.specs.Texts.{piece_lines}
+use Rattle.question_words.proofs.Lines.{one_written}
 use Rattle.question_words.proofs.feasible.answer.Goals as goal
 
-pub returns-in-Ok-put_answer-clause-says : goal.returns-in-Ok-put_answer-clause-says
-returns-in-Ok-put_answer-clause-says g c = λ J same. rw c.status_of.ensures
-    (answer_put _ _ _ J c.in-Ok.feasible (subst (λ jobs. IsAnswer jobs c.in-Ok.feasible) (sym same) c.in-Ok.ensures)
-    (rw c.requires.empty at c.in-Ok-put_answer.ensures.text.all))
+pub returns-in-All-clause-says : goal.returns-in-All-clause-says
+returns-in-All-clause-says c =
+    let pieces = c.in-All.pieces.items in
+    let it = subst (λ js. ShowsAll js pieces) c.deref.ensures.value
+    (subst (IsAnswer c.deref.result.now) c.in-All.is c.in_ok-pieces.ensures) in (
+      it.meets (listed_instance c.args.listed.now).rules,
+      (
+        pieces,
+        it,
+        one_written (codes "feasible") (c.len.result ∷ []) (length pieces ∷ []) (piece_lines pieces) c.new-head.result
+            c.write_numbers.new.line c.new-head.ensures c.write_numbers.ensures.is
+            (ap (λ n. n ∷ []) (let e : c.len.result ≡ length pieces = omega (arith, c.len.ensures) in e)),
+      ),
+    )
 
-pub returns-clause-says : goal.returns-clause-says
-returns-clause-says g c = λ J same. answer_cut _ _ c.put_answer.new.out J c.in-Ok.feasible
-    (subst (λ jobs. IsAnswer jobs c.in-Ok.feasible) (sym same) c.in-Ok.ensures)
-    (rw c.requires.empty at c.in-Err.ensures.text.part)
+pub returns-in-Window-clause-says : goal.returns-in-Window-clause-says
+returns-in-Window-clause-says c =
+    let it = subst (λ js. ShowsWindow js c.in-Window.a c.in-Window.b c.in-Window.work) c.deref.ensures.value
+    (subst (IsAnswer c.deref.result.now) c.in-Window.is c.in_ok-pieces.ensures) in
+    let numbers = c.in-Window.a ∷ c.in-Window.b ∷ c.in-Window.work ∷ [] in (
+      it.unmet (listed_instance c.args.listed.now).rules,
+      (
+        c.in-Window.a,
+        c.in-Window.b,
+        c.in-Window.work,
+        it,
+        ap (λ ps. c.write_numbers-in-Window.new.line ++ in_lines (piece_lines ps)) c.new.ensures.items
+            ∙ one_written (codes "window") numbers numbers [] c.new-head.result c.write_numbers-in-Window.new.line
+            c.new-head.ensures c.write_numbers-in-Window.ensures.is refl,
+      ),
+    )

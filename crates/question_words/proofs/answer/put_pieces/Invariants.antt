@@ -3,7 +3,7 @@ use Rattle.dover_model.specs.Lines.{in_lines}
 use Rattle.dover_port.specs.Causes.{StaysWell}
 use Rattle.dover_port.specs.Moves.{Passes}
 use Rattle.question_words.specs.Texts.{piece_lines}
-use Rattle.question_words.proofs.lines.put_pieces.Given as goal
+use Rattle.question_words.proofs.answer.put_pieces.Given as goal
 
 -- the lines of the pieces so far are put
 abbrev pub invariant-loop-piece : goal.invariant-loop-piece

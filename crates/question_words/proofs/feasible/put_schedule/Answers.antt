@@ -1,8 +1,0 @@
-use Rattle.line_output.proofs.Putting.{puts_behind, puts_cut}
-use Rattle.question_words.proofs.feasible.put_schedule.Goals as goal
-
-pub returns-in-Err-clause-text : goal.returns-in-Err-clause-text
-returns-in-Err-clause-text g c = puts_cut _ _ _ _ _ _ _ c.in-Err.ensures.text.part
-
-pub returns-clause-text : goal.returns-clause-text
-returns-clause-text g c = puts_behind _ _ _ _ _ _ _ _ _ c.in-Ok.ensures.text.all c.put_pieces.ensures.text

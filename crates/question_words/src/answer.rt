@@ -1,0 +1,76 @@
+//! What is put of an answer.
+ghost use Rattle.std.specs.Prelude.{◌≡◌, ◌<◌, ◌∷◌, [], length};
+ghost use Rattle.dover_model.specs.Lines.{in_lines};
+ghost use Rattle.dover_port.specs.Causes.{HasCause, StopsAtFailure};
+ghost use Rattle.dover_port.specs.Moves.{PutsThrough};
+ghost use Rattle.dover_port.specs.declared.status.Status.TheVariants.{Refused};
+ghost use Rattle.dialogue.specs.Turns.{StopCause, StopsOn};
+ghost use Rattle.question_words.specs.Texts.{PutsBy, piece_lines, text_of};
+
+use dialogue::Stop;
+use dover_model::Piece;
+use dover_port::{Failed, Output, Port, Status};
+use line_output::put_numbers;
+use line_text::BackLine;
+use std::alloc::Global;
+
+/// An answer: its status, its first lines, and the pieces whose lines come behind these.
+#[derive(Drop)]
+pub(crate) struct Answer {
+    pub(crate) status: Status,
+    pub(crate) head: BackLine,
+    pub(crate) pieces: Vec<Piece>,
+}
+
+/// Puts the line of each piece.
+fn put_pieces<P: Port>(port: &mut P, out: &mut Output, pieces: &[Piece]) -> Result<(), Failed>
+    ensures text { PutsThrough (P.moves port.old) (P.moves port.new) result out.old out.new
+        (in_lines (piece_lines pieces.now)) }
+    ensures cause { HasCause
+        (P.write_faults port.old) (P.write_faults port.new) (P.read_faults port.old) (P.read_faults port.new) result }
+    ensures stops { StopsAtFailure (P.calls port.old) (P.calls port.new) result }
+{
+    for piece in pieces {
+        let numbers = [piece.from, piece.until, u64::from(piece.number)];
+        match put_numbers(port, out, b"piece", &numbers) {
+            Ok(()) => {}
+            Err(failed) => return Err(failed),
+        }
+    }
+    Ok(())
+}
+
+impl Answer {
+    /// A line that refuses.
+    pub(crate) fn refused(alloc: Global, line: &[u8]) -> Answer
+        requires { length line.now < 129 }
+        ensures status { result.status ≡ Refused }
+        ensures text { text_of result ≡ in_lines (line.now ∷ []) }
+    {
+        let mut head = BackLine::new();
+        head.put_word(line);
+        Answer {
+            status: Status::Refused,
+            head,
+            pieces: Vec::new(alloc),
+        }
+    }
+
+    /// Puts its text.
+    pub(crate) fn put<P: Port>(&self, port: &mut P, out: &mut Output) -> Result<Status, Stop>
+        requires { out.old ≡ [] }
+        ensures puts { PutsBy self.now (P.moves port.old) (P.moves port.new) out.new result }
+        ensures cause { StopCause result
+            (P.write_faults port.old) (P.write_faults port.new) (P.read_faults port.old) (P.read_faults port.new) }
+        ensures stops { StopsOn result (P.calls port.old) (P.calls port.new) }
+    {
+        match out.put(port, self.head.bytes()) {
+            Ok(()) => {}
+            Err(_) => return Err(Stop::Unwritten),
+        }
+        match put_pieces(port, out, &self.pieces) {
+            Ok(()) => Ok(self.status),
+            Err(_) => Err(Stop::Unwritten),
+        }
+    }
+}
