@@ -118,6 +118,7 @@ impl Parts {
         self.laws();
         if let Some(r) = self.running() {
             if let Some(x) = self.first_late() {
+                let x = x.task();
                 self.take(&r, &x, steps);
             }
         }

@@ -3,19 +3,17 @@ ghost use Rattle.std.specs.Prelude.{◌≡◌, ◌↔◌, ◌<◌, ◌+◌, [], 
 ghost use Rattle.std.specs.Prelude.{IsSome, MatchOption};
 ghost use Rattle.std.specs.Option.{option_to_list};
 ghost use Rattle.ready_jobs.specs.Parts.{head_of};
+ghost use Rattle.ready_jobs.specs.Slots.{seen};
 
 use crate::short::ShortTask;
 use dover_model::Task;
 
 /// The job on top.
 #[inline(always)]
-pub(crate) fn peek(held: &Vec<ShortTask>) -> Option<Task>
-    ensures { result ≡ head_of (reverse held.now.items) }
+pub(crate) fn peek(held: &Vec<ShortTask>) -> Option<&ShortTask>
+    ensures { seen result ≡ head_of (reverse held.now.items) }
 {
-    match held.last() {
-        Some(t) => Some(t.task()),
-        None => None,
-    }
+    held.last()
 }
 
 /// Takes the job on top out.

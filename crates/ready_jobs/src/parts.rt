@@ -19,6 +19,7 @@ ghost use Rattle.scanned_step.specs.Dues.{still_ticks, until_done};
 ghost use Rattle.ready_jobs.specs.Changed.{made_wait};
 ghost use Rattle.ready_jobs.specs.Deeds.{step_at, Finds};
 ghost use Rattle.ready_jobs.specs.Reordered.{IsReordered};
+ghost use Rattle.ready_jobs.specs.Slots.{seen};
 ghost use Rattle.ready_jobs.specs.Parts.{Parted, AreSound, HaveRoles, ready_of, state_of, head_of, tail_of};
 
 use crate::deeds::Deed;
@@ -213,29 +214,30 @@ impl Parts {
 
     /// The first held job.
     #[inline(always)]
-    pub fn first_held(&self) -> Option<Task>
-        ensures is { result ≡ head_of self.now.held }
-        ensures seen { result ≡ first (due_first self.now.version) (held (state_of self.now)) }
+    pub(crate) fn first_held(&self) -> Option<&ShortTask>
+        ensures is { seen result ≡ head_of self.now.held }
+        ensures seen { seen result ≡ first (due_first self.now.version) (held (state_of self.now)) }
     {
         peek(&self.held)
     }
 
     /// The first waiting job by deadline.
     #[inline(always)]
-    pub fn first_waiting(&self) -> Option<Task>
+    pub(crate) fn first_waiting(&self) -> Option<&ShortTask>
         requires { AreSound self.now }
-        ensures is { result ≡ first (due_first self.now.version) self.now.waiting }
-        ensures seen { result ≡ first (due_first self.now.version) (waiting (state_of self.now)) }
+        ensures is { seen result ≡ first (due_first self.now.version) self.now.waiting }
+        ensures seen { seen result ≡ first (due_first self.now.version) (waiting (state_of self.now)) }
     {
         self.pool.first_deadline()
     }
 
     /// Of the waiting jobs at their latest start, the first in that order.
     #[inline(always)]
-    pub fn first_late(&self) -> Option<Task>
+    pub(crate) fn first_late(&self) -> Option<&ShortTask>
         requires { AreSound self.now }
-        ensures is { (x : Task) → result ≡ Some x → first (starts_before self.now.version) self.now.waiting ≡ Some x }
-        ensures seen { result ≡ first (starts_before self.now.version)
+        ensures is { (x : Task) → seen result ≡ Some x
+            → first (starts_before self.now.version) self.now.waiting ≡ Some x }
+        ensures seen { seen result ≡ first (starts_before self.now.version)
             (filter (is_at_latest_start (state_of self.now)) (waiting (state_of self.now))) }
     {
         let start = self.pool.first_start()?;
@@ -295,20 +297,20 @@ impl Parts {
 
     // The job x takes the processor from the running job r, or is abandoned.
     #[inline(always)]
-    fn alarm(&self, k: Ratio, r: &Task, x: &Task) -> Deed
+    fn alarm(&self, k: Ratio, r: &Task, x: &ShortTask) -> Deed
         requires sound { AreSound self.now }
         requires running { self.now.running ≡ Some r.now }
         ensures is { step_at self.now.clock result
             ≡ alarm_of k (view self.now.version (state_of self.now)) r.now x.now }
         ensures finds { Finds (view self.now.version (state_of self.now)) result }
     {
-        if heavy(x.job.value(), self.value_busy(r), k) {
+        if heavy(x.value(), self.value_busy(r), k) {
             Deed::Take {
                 stops: r.number,
-                starts: x.number,
+                starts: x.number(),
             }
         } else {
-            Deed::Abandon { number: x.number }
+            Deed::Abandon { number: x.number() }
         }
     }
 
@@ -332,14 +334,14 @@ impl Parts {
             return release;
         }
         match self.first_late() {
-            Some(x) => self.alarm(k, r, &x),
+            Some(x) => self.alarm(k, r, x),
             None => Deed::Tick,
         }
     }
 
     // While p is held: the first waiting job runs, if it is due before p and fits the room of the held jobs, else p.
     #[inline(always)]
-    fn resumed(&self, p: &Task) -> Deed
+    fn resumed(&self, p: &ShortTask) -> Deed
         requires sound { AreSound self.now }
         requires held { (view self.now.version (state_of self.now)).first_held ≡ Some p.now }
         ensures is { let v = view self.now.version (state_of self.now) in
@@ -347,10 +349,10 @@ impl Parts {
         ensures finds { Finds (view self.now.version (state_of self.now)) result }
     {
         match self.first_waiting() {
-            Some(o) if o.job.deadline() < p.job.deadline() && left(&o) <= self.room_held() => {
-                Deed::Start { number: o.number }
+            Some(o) if o.deadline() < p.deadline() && o.left() <= self.room_held() => {
+                Deed::Start { number: o.number() }
             }
-            _ => Deed::Resume { number: p.number },
+            _ => Deed::Resume { number: p.number() },
         }
     }
 
@@ -366,10 +368,10 @@ impl Parts {
         // A ratio is known to be one where it is read.
         let _ = k.p();
         if let Some(p) = self.first_held() {
-            return self.resumed(&p);
+            return self.resumed(p);
         }
         if let Some(o) = self.first_waiting() {
-            return Deed::Start { number: o.number };
+            return Deed::Start { number: o.number() };
         }
         if let Some(f) = self.fresh() {
             return Deed::Begin { number: f.number };
@@ -527,7 +529,7 @@ impl Parts {
         ensures kept { self.new ≡ record self.old { waiting = self.new.waiting } }
         ensures count { (d : ℕ) → length self.old.waiting + 1 < 2 ^ d → steps.new ≤ steps.old + 6 * d }
     {
-        let _ = self.pool.take_latest(steps);
+        self.pool.take_latest(steps);
     }
 
     /// A job comes, and is fresh.
@@ -583,7 +585,7 @@ impl Parts {
         ensures count { (d : ℕ) → length (ready_of self.old) + 1 < 2 ^ d →
             steps.new ≤ steps.old + 6 * d + 2 * d * (length self.old.held + 1) }
     {
-        let _ = self.pool.take_latest(steps);
+        self.pool.take_latest(steps);
         self.pool.add(in_role(r, Role::Waiting), steps);
         displace(&mut self.held, &mut self.pool, steps);
         self.rooms.clear();

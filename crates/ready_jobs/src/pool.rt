@@ -14,7 +14,9 @@ ghost use Rattle.place_heap.specs.Orders.{due_item, latest_item};
 ghost use Rattle.ready_jobs.specs.Reordered.{IsReordered};
 ghost use Rattle.ready_jobs.specs.Parts.{HaveOwnNumbers, AreModest};
 ghost use Rattle.ready_jobs.specs.Pools.{Pooled, IsPool, jobs_at, most_places};
+ghost use Rattle.ready_jobs.specs.Slots.{seen};
 
+use crate::short::ShortTask;
 use crate::slot::Slot;
 use dover_model::{Memory, Task, Version};
 use place_heap::{Heap, Item, tie_of};
@@ -88,11 +90,23 @@ fn latest_item(version: Version, place: u32, t: &Task) -> Item
 
 // What is at a place.
 #[inline(always)]
-fn job_at(slots: &Vec<Slot>, place: u32) -> Option<Task>
+fn job_at(slots: &Vec<Slot>, place: u32) -> Option<&ShortTask>
+    requires { place < length slots.now.items }
+    ensures { slice_get slots.now.items place ≡ Some (seen result) }
+{
+    slots[place as usize].task()
+}
+
+// What is at a place, taken over.
+#[inline(always)]
+fn task_at(slots: &Vec<Slot>, place: u32) -> Option<Task>
     requires { place < length slots.now.items }
     ensures { slice_get slots.now.items place ≡ Some result }
 {
-    slots[place as usize].task()
+    match job_at(slots, place) {
+        Some(t) => Some(t.task()),
+        None => None,
+    }
 }
 
 // Puts a job at a place.
@@ -154,6 +168,7 @@ fn next_place(slots: &mut Vec<Slot>, free: &mut Vec<u32>) -> u32
 }
 
 // Takes the job at a place out, which is then free.
+#[inline(always)]
 fn take_at<L: Ledger>(
     slots: &mut Vec<Slot>,
     free: &mut Vec<u32>,
@@ -161,12 +176,12 @@ fn take_at<L: Ledger>(
     by_latest: &mut Heap,
     place: u32,
     steps: &mut Steps<L>,
-) -> Option<Task>
+)
     requires some { (t : Task) × (slice_get slots.old.items place ≡ Some (Some t)) }
     requires pool { (version : Version) × IsPool version slots.old.items free.old.items by_deadline.old by_latest.old }
     requires room { vec_len slots.old ≤ vec_capacity free.old }
-    ensures was { slice_get slots.old.items place ≡ Some result }
-    ensures rest { (t : Task) → result ≡ Some t → IsReordered (jobs_at slots.old.items) (t ∷ jobs_at slots.new.items) }
+    ensures rest { (t : Task) → slice_get slots.old.items place ≡ Some (Some t)
+        → IsReordered (jobs_at slots.old.items) (t ∷ jobs_at slots.new.items) }
     ensures pool { (version : Version) → IsPool version slots.old.items free.old.items by_deadline.old by_latest.old →
         IsPool version slots.new.items free.new.items by_deadline.new by_latest.new }
     ensures places { vec_len slots.new ≡ vec_len slots.old }
@@ -176,12 +191,10 @@ fn take_at<L: Ledger>(
     ensures latest { length by_latest.new ≡ length by_latest.old }
     ensures count { (d : ℕ) → length (jobs_at slots.old.items) + 1 < 2 ^ d → steps.new ≤ steps.old + 6 * d }
 {
-    let task = job_at(slots, place);
     clear_at(slots, place);
     free.push_reserved(place);
     by_deadline.remove(place, steps);
     by_latest.remove(place, steps);
-    task
 }
 
 impl Pool {
@@ -262,10 +275,10 @@ impl Pool {
 
     /// The first by deadline, if one waits. Ties go by the version.
     #[inline(always)]
-    pub fn first_deadline(&self) -> Option<Task>
+    pub(crate) fn first_deadline(&self) -> Option<&ShortTask>
         requires own { HaveOwnNumbers self.now.tasks }
         requires modest { AreModest self.now.tasks }
-        ensures { result ≡ first (due_first self.now.version) self.now.tasks }
+        ensures { seen result ≡ first (due_first self.now.version) self.now.tasks }
     {
         let item = self.by_deadline.first()?;
         job_at(&self.slots, item.place())
@@ -273,10 +286,10 @@ impl Pool {
 
     /// The first by latest start, if one waits. Ties go by the version.
     #[inline(always)]
-    pub fn first_latest(&self) -> Option<Task>
+    pub(crate) fn first_latest(&self) -> Option<&ShortTask>
         requires own { HaveOwnNumbers self.now.tasks }
         requires modest { AreModest self.now.tasks }
-        ensures { result ≡ first (starts_before self.now.version) self.now.tasks }
+        ensures { seen result ≡ first (starts_before self.now.version) self.now.tasks }
     {
         let item = self.by_latest.first()?;
         job_at(&self.slots, item.place())
@@ -294,6 +307,7 @@ impl Pool {
     }
 
     /// Takes the first by deadline out, if one waits.
+    #[inline(always)]
     pub fn take_deadline<L: Ledger>(&mut self, steps: &mut Steps<L>) -> Option<Task>
         requires own { HaveOwnNumbers self.old.tasks }
         requires modest { AreModest self.old.tasks }
@@ -304,34 +318,39 @@ impl Pool {
         ensures count { (d : ℕ) → length self.old.tasks + 1 < 2 ^ d → steps.new ≤ steps.old + 6 * d }
     {
         let item = self.by_deadline.first()?;
+        let place = item.place();
+        let task = task_at(&self.slots, place);
         take_at(
             &mut self.slots,
             &mut self.free,
             &mut self.by_deadline,
             &mut self.by_latest,
-            item.place(),
+            place,
             steps,
-        )
+        );
+        task
     }
 
     /// Takes the first by latest start out, if one waits.
-    pub fn take_latest<L: Ledger>(&mut self, steps: &mut Steps<L>) -> Option<Task>
+    #[inline(always)]
+    pub fn take_latest<L: Ledger>(&mut self, steps: &mut Steps<L>)
         requires own { HaveOwnNumbers self.old.tasks }
         requires modest { AreModest self.old.tasks }
-        ensures was { result ≡ first (starts_before self.old.version) self.old.tasks }
-        ensures rest { (t : Task) → result ≡ Some t → IsReordered self.old.tasks (t ∷ self.new.tasks) }
-        ensures none { result ≡ None → self.new.tasks ≡ self.old.tasks }
+        ensures rest { (t : Task) → first (starts_before self.old.version) self.old.tasks ≡ Some t
+            → IsReordered self.old.tasks (t ∷ self.new.tasks) }
+        ensures none { first (starts_before self.old.version) self.old.tasks ≡ None → self.new.tasks ≡ self.old.tasks }
         ensures kept { self.new ≡ record self.old { tasks = self.new.tasks } }
         ensures count { (d : ℕ) → length self.old.tasks + 1 < 2 ^ d → steps.new ≤ steps.old + 6 * d }
     {
-        let item = self.by_latest.first()?;
-        take_at(
-            &mut self.slots,
-            &mut self.free,
-            &mut self.by_deadline,
-            &mut self.by_latest,
-            item.place(),
-            steps,
-        )
+        if let Some(item) = self.by_latest.first() {
+            take_at(
+                &mut self.slots,
+                &mut self.free,
+                &mut self.by_deadline,
+                &mut self.by_latest,
+                item.place(),
+                steps,
+            );
+        }
     }
 }

@@ -1,6 +1,7 @@
 //! A job at a moment, in little room.
 ghost use Rattle.std.specs.Prelude.{◌≡◌, ◌≤◌, ◌/◌, ◌%◌, ◌^◌};
-ghost use Rattle.dover_model.specs.Limits.{last_tick};
+ghost use Rattle.dover_model.specs.Limits.{last_tick, most_value};
+ghost use Rattle.dover_model.specs.State.{left};
 ghost use Rattle.ready_jobs.specs.Short.{no_number, tick_of};
 
 use dover_model::{Job, Role, Task};
@@ -112,6 +113,31 @@ impl ShortTask {
         ensures { result ≡ self.now.number }
     {
         self.number
+    }
+
+    /// Its value.
+    #[inline(always)]
+    pub(crate) fn value(&self) -> u64
+        ensures is { result ≡ self.now.job.value }
+        ensures most { result ≤ most_value }
+    {
+        self.value as u64
+    }
+
+    /// Its deadline.
+    #[inline(always)]
+    pub(crate) fn deadline(&self) -> u64
+        ensures { result ≡ self.now.job.deadline }
+    {
+        tick(self.deadline, self.deadline_high)
+    }
+
+    /// The ticks that it is still to have.
+    #[inline(always)]
+    pub(crate) fn left(&self) -> u64
+        ensures { result ≡ left self.now }
+    {
+        tick(self.work, self.work_high).saturating_sub(self.had)
     }
 
     /// The job.

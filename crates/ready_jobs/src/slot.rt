@@ -1,5 +1,6 @@
 //! A place, in which a job waits or none.
 ghost use Rattle.std.specs.Prelude.{◌≡◌, ◌<◌, ◌^◌, Some, None};
+ghost use Rattle.ready_jobs.specs.Slots.{seen};
 
 use crate::short::{NO_NUMBER, ShortTask};
 use dover_model::Task;
@@ -45,12 +46,12 @@ impl Slot {
 
     /// The job that waits there, if one does.
     #[inline(always)]
-    pub(crate) fn task(&self) -> Option<Task>
-        ensures { result ≡ self.now }
+    pub(crate) fn task(&self) -> Option<&ShortTask>
+        ensures { seen result ≡ self.now }
     {
         if self.task.number() == NO_NUMBER {
             return None;
         }
-        Some(self.task.task())
+        Some(&self.task)
     }
 }

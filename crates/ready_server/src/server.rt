@@ -45,6 +45,7 @@ fn is_end(event: &Event) -> bool
 
 impl ReadyServer {
     // The next printed step before the barrier of the mark.
+    #[inline(always)]
     fn step_to<L: Ledger>(&mut self, mark: u64, steps: &mut Steps<L>) -> Option<Event>
         requires { (J : Instance) × (from : Horizon) × (events : List Event) × Serves self.old J from events
             × MayFollow from (Mark mark) }
@@ -59,6 +60,7 @@ impl ReadyServer {
     }
 
     // The next printed step of the run, where no further job comes.
+    #[inline(always)]
     fn step_on<L: Ledger>(&mut self, steps: &mut Steps<L>) -> Option<Event>
         requires { (J : Instance) × (from : Horizon) × (events : List Event) × Serves self.old J from events }
         ensures gives { (J : Instance) (from : Horizon) (events : List Event) → Serves self.old J from events
@@ -106,6 +108,7 @@ impl Dispatcher for ReadyServer {
         self.ready.reserve(ready.max(1))
     }
 
+    #[inline(always)]
     fn step<L: Ledger>(&mut self, to: Horizon, steps: &mut Steps<L>) -> Option<Event> {
         match to {
             Horizon::Mark(mark) => self.step_to(mark, steps),

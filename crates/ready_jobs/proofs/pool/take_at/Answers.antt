@@ -6,9 +6,6 @@ use Rattle.ready_jobs.proofs.Pooling.{within, same_length, jobs_out, left_room, 
 use Rattle.ready_jobs.proofs.Pooling.{left_latest_count}
 use Rattle.ready_jobs.proofs.pool.take_at.Goals as goal
 
-pub job_at-task-requires : goal.job_at-task-requires
-job_at-task-requires g c = within c.args.slots.now.items c.args.place (Some c.requires.some.0) c.requires.some.1
-
 pub clear_at-requires : goal.clear_at-requires
 clear_at-requires g c = within c.args.slots.now.items c.args.place (Some c.requires.some.0) c.requires.some.1
 
@@ -23,7 +20,7 @@ push_reserved-requires g c =
 pub returns-clause-rest : goal.returns-clause-rest
 returns-clause-rest g c t is =
     subst (λ l. IsReordered (jobs_at c.args.slots.now.items) (t ∷ jobs_at l)) (sym c.clear_at.ensures.items)
-    (jobs_out c.args.slots.now.items c.args.place t (c.job_at-task.ensures ∙ ap Some is))
+    (jobs_out c.args.slots.now.items c.args.place t is)
 
 pub returns-clause-pool : goal.returns-clause-pool
 returns-clause-pool g c version pool =

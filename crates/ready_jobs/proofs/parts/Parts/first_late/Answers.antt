@@ -7,6 +7,7 @@ use Rattle.dover_model.specs.Step.{is_at_latest_start}
 use Rattle.dover_model.specs.Orders.{starts_before, first}
 use Rattle.ready_jobs.specs.Parts.{Parted, AreSound, state_of}
 use Rattle.ready_jobs.specs.Kept.{parted_of}
+use Rattle.ready_jobs.specs.Slots.{seen}
 use Rattle.ready_jobs.proofs.Seeing.{waiting_list, start_none, start_later, start_found}
 use Rattle.ready_jobs.proofs.parts.Parts.first_late.Goals as goal
 
@@ -24,7 +25,7 @@ pub returns-in_err-start-clause-seen : goal.returns-in_err-start-clause-seen
 returns-in_err-start-clause-seen c =
     let p = parted_of c.self.inside in
     let sound : AreSound p = subst AreSound (sym c.self.view_is) c.requires in
-    c.from_residual.ensures
+    ap seen c.from_residual.ensures
     ∙ sym (start_none p.version (state_of p) p.waiting sound.own sound.early
     (sym (sym c.in_err-start.was ∙ c.first_start.ensures)))
     ∙ sym (ap (λ l. first (starts_before p.version) (filter (is_at_latest_start (state_of p)) l))

@@ -15,8 +15,8 @@ use Rattle.ready_jobs.proofs.Displacing.{taken_order, take_counted}
 use Rattle.ready_jobs.proofs.Reordering.{as_many}
 use Rattle.ready_jobs.proofs.parts.Parts.take.Goals as goal
 
-pub take_latest-self-inside-requires-clause-modest : goal.take_latest-self-inside-requires-clause-modest
-take_latest-self-inside-requires-clause-modest g c = (subst AreSound (sym c.self.view_is) c.requires.sound).modest
+pub take_latest-requires-clause-modest : goal.take_latest-requires-clause-modest
+take_latest-requires-clause-modest g c = (subst AreSound (sym c.self.view_is) c.requires.sound).modest
 
 pub add-requires-clause-room : goal.add-requires-clause-room
 add-requires-clause-room g c =
@@ -24,13 +24,13 @@ add-requires-clause-room g c =
     let p = parted_of inside in
     let runs = ap (λ (q : Parted). q.running) c.self.view_is ∙ c.requires.running in
     let late = ap (λ (q : Parted). first (starts_before q.version) q.waiting) c.self.view_is ∙ c.requires.late in
-    let out = c.take_latest-self-inside.ensures.rest c.args.x.now (c.take_latest-self-inside.ensures.was ∙ late) in
+    let out = c.take_latest.ensures.rest c.args.x.now late in
     omega (
       arith,
       all_fit p inside.rooms inside.pool (vec_capacity inside.held) c.self.invariant c.args.r.now runs,
       c.self.invariant.pool_room,
-      as_many p.waiting (c.args.x.now ∷ c.take_latest-self-inside.new.self.tasks) out,
-      ap (λ (q : Pooled). q.room) c.take_latest-self-inside.ensures.kept,
+      as_many p.waiting (c.args.x.now ∷ c.take_latest.new.self.tasks) out,
+      ap (λ (q : Pooled). q.room) c.take_latest.ensures.kept,
     )
 
 pub add-requires-clause-number : goal.add-requires-clause-number
@@ -47,15 +47,15 @@ displace-requires-clause-room g c =
     let p = parted_of inside in
     let runs = ap (λ (q : Parted). q.running) c.self.view_is ∙ c.requires.running in
     let late = ap (λ (q : Parted). first (starts_before q.version) q.waiting) c.self.view_is ∙ c.requires.late in
-    let out = c.take_latest-self-inside.ensures.rest c.args.x.now (c.take_latest-self-inside.ensures.was ∙ late) in
+    let out = c.take_latest.ensures.rest c.args.x.now late in
     omega (
       arith,
       all_fit p inside.rooms inside.pool (vec_capacity inside.held) c.self.invariant c.args.r.now runs,
       length-reverse inside.held.items,
       c.self.invariant.pool_room,
-      as_many p.waiting (c.args.x.now ∷ c.take_latest-self-inside.new.self.tasks) out,
-      as_many (c.in_role.result ∷ c.take_latest-self-inside.new.self.tasks) c.add.new.self.tasks c.add.ensures.more,
-      ap (λ (q : Pooled). q.room) c.take_latest-self-inside.ensures.kept,
+      as_many p.waiting (c.args.x.now ∷ c.take_latest.new.self.tasks) out,
+      as_many (c.in_role.result ∷ c.take_latest.new.self.tasks) c.add.new.self.tasks c.add.ensures.more,
+      ap (λ (q : Pooled). q.room) c.take_latest.ensures.kept,
       ap (λ (q : Pooled). q.room) c.add.ensures.kept,
     )
 
@@ -70,20 +70,20 @@ invariant_of-self g c =
     let p = parted_of inside in
     let r = c.args.r.now in
     let x = c.args.x.now in
-    let one = c.take_latest-self-inside.new.self in
+    let one = c.take_latest.new.self in
     let two = c.add.new.self in
     let three = c.displace.new.pool in
     let runs = ap (λ (q : Parted). q.running) c.self.view_is ∙ c.requires.running in
     let late = ap (λ (q : Parted). first (starts_before q.version) q.waiting) c.self.view_is ∙ c.requires.late in
-    let out = c.take_latest-self-inside.ensures.rest x (c.take_latest-self-inside.ensures.was ∙ late) in
+    let out = c.take_latest.ensures.rest x late in
     let into = subst (λ t. IsReordered (t ∷ one.tasks) two.tasks) c.in_role.ensures c.add.ensures.more in
     let order = taken_order r x p.held p.waiting one.tasks two.tasks three.tasks out into c.displace.ensures.more in
     let version = ap (λ (q : Pooled). q.version) c.displace.ensures.kept
     ∙ ap (λ (q : Pooled). q.version) c.add.ensures.kept
-    ∙ ap (λ (q : Pooled). q.version) c.take_latest-self-inside.ensures.kept in
+    ∙ ap (λ (q : Pooled). q.version) c.take_latest.ensures.kept in
     let room = ap (λ (q : Pooled). q.room) c.displace.ensures.kept
     ∙ ap (λ (q : Pooled). q.room) c.add.ensures.kept
-    ∙ ap (λ (q : Pooled). q.room) c.take_latest-self-inside.ensures.kept in
+    ∙ ap (λ (q : Pooled). q.room) c.take_latest.ensures.kept in
     let spare = c.clear.ensures.spare (map entry_of p.held) c.self.invariant.held
     ∙ ap (λ n. inside.rooms.spare + n) (length-map p.held entry_of) in
     subst (λ v. AreParts (record p {
@@ -106,11 +106,11 @@ returns-clause-rest g c =
     let p = parted_of c.self.inside in
     let r = c.args.r.now in
     let x = c.args.x.now in
-    let one = c.take_latest-self-inside.new.self in
+    let one = c.take_latest.new.self in
     let two = c.add.new.self in
     let three = c.displace.new.pool in
     let late = ap (λ (q : Parted). first (starts_before q.version) q.waiting) c.self.view_is ∙ c.requires.late in
-    let out = c.take_latest-self-inside.ensures.rest x (c.take_latest-self-inside.ensures.was ∙ late) in
+    let out = c.take_latest.ensures.rest x late in
     let into = subst (λ t. IsReordered (t ∷ one.tasks) two.tasks) c.in_role.ensures c.add.ensures.more in
     subst (λ (q : Parted). IsReordered (map made_wait (r ∷ q.held) ++ q.waiting) (x ∷ three.tasks)) c.self.view_is
     (taken_order r x p.held p.waiting one.tasks two.tasks three.tasks out into c.displace.ensures.more)
@@ -121,14 +121,14 @@ returns-clause-count g c d fits =
     let p = parted_of inside in
     let runs = ap (λ (q : Parted). q.running) c.self.view_is ∙ c.requires.running in
     let late = ap (λ (q : Parted). first (starts_before q.version) q.waiting) c.self.view_is ∙ c.requires.late in
-    let out = c.take_latest-self-inside.ensures.rest c.args.x.now (c.take_latest-self-inside.ensures.was ∙ late) in
+    let out = c.take_latest.ensures.rest c.args.x.now late in
     let few = subst (λ (q : Parted). length (ready_of q) + 1 < 2 ^ d) (sym c.self.view_is) fits in
     let busy = some_busy p inside.rooms inside.pool (vec_capacity inside.held) c.self.invariant c.args.r.now runs in
-    let less = as_many p.waiting (c.args.x.now ∷ c.take_latest-self-inside.new.self.tasks) out in
-    let more = as_many (c.in_role.result ∷ c.take_latest-self-inside.new.self.tasks) c.add.new.self.tasks
+    let less = as_many p.waiting (c.args.x.now ∷ c.take_latest.new.self.tasks) out in
+    let more = as_many (c.in_role.result ∷ c.take_latest.new.self.tasks) c.add.new.self.tasks
     c.add.ensures.more in
     take_counted d _ _ _ _ _ _
     (sym (length-reverse inside.held.items) ∙ ap (λ (q : Parted). length q.held) c.self.view_is)
-    (c.take_latest-self-inside.ensures.count d (omega (arith, few, busy)))
+    (c.take_latest.ensures.count d (omega (arith, few, busy)))
     (c.add.ensures.count d (omega (arith, few, busy, less)))
     (c.displace.ensures.count d (omega (arith, few, busy, less, more, length-reverse inside.held.items)))

@@ -1,7 +1,8 @@
-use Rattle.std.proofs.Common.{sym, ◌∙◌, subst}
+use Rattle.std.proofs.Common.{Some, sym, ap, ◌∙◌, subst}
 use Rattle.dover_model.specs.declared.events.Event.TheVariants.{Take}
 use Rattle.ready_jobs.specs.Changed.{Leaves, printed}
 use Rattle.ready_jobs.specs.Parts.{ready_of}
+use Rattle.ready_jobs.specs.Slots.{seen}
 use Rattle.ready_jobs.proofs.Applied.{taken_leaves, taken_named}
 use Rattle.dover_model.specs.Orders.{starts_before}
 use Rattle.queued_jobs.proofs.Firsts.{first_member}
@@ -11,20 +12,22 @@ use Rattle.ready_jobs.proofs.parts.Parts.take_next.Goals as goal
 pub returns-in-Some-first_late-clause-leaves : goal.returns-in-Some-first_late-clause-leaves
 returns-in-Some-first_late-clause-leaves g c at =
     let p = c.args.self.now in
+    let late = ap seen c.in-Some-first_late.is ∙ ap Some (sym c.task-x.ensures) in
     subst (λ q. Leaves (printed (Take at c.args.stops c.args.starts)) (ready_of p) (ready_of q) 0)
     (sym c.take.ensures.kept)
     (taken_leaves p c.laws.ensures.roles c.requires.once c.args.stops c.args.starts c.requires.next
-    c.in-Some.r c.in-Some-first_late.x c.take.new.self.waiting
-    (sym c.running.ensures.is ∙ c.in-Some.is) (sym c.first_late.ensures.seen ∙ c.in-Some-first_late.is)
+    c.in-Some.r c.task-x.result c.take.new.self.waiting
+    (sym c.running.ensures.is ∙ c.in-Some.is) (sym c.first_late.ensures.seen ∙ late)
     c.take.ensures.rest at)
 
 pub returns-in-Some-first_late-clause-cost : goal.returns-in-Some-first_late-clause-cost
 returns-in-Some-first_late-clause-cost g c at d fits =
     let p = c.args.self.now in
-    let x = c.in-Some-first_late.x in
+    let x = c.task-x.result in
+    let late = ap seen c.in-Some-first_late.is ∙ ap Some (sym c.task-x.ensures) in
     take_costs p c.laws.ensures.roles d _ _ at c.requires.once c.args.stops c.args.starts c.in-Some.r x
     (sym c.running.ensures.is ∙ c.in-Some.is)
-    (first_member (starts_before p.version) p.waiting x (c.first_late.ensures.is x c.in-Some-first_late.is))
+    (first_member (starts_before p.version) p.waiting x (c.first_late.ensures.is x late))
     (taken_named p c.laws.ensures.roles c.requires.once c.args.stops c.args.starts c.requires.next x
-    (sym c.first_late.ensures.seen ∙ c.in-Some-first_late.is))
+    (sym c.first_late.ensures.seen ∙ late))
     (c.take.ensures.count d fits)

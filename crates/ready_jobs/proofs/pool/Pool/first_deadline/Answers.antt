@@ -4,6 +4,7 @@ use Rattle.dover_model.specs.Orders.{due_first, first}
 use Rattle.dover_model.proofs.Members.{some_same}
 use Rattle.ready_jobs.specs.Parts.{HaveOwnNumbers, AreModest}
 use Rattle.ready_jobs.specs.Pools.{Pooled}
+use Rattle.ready_jobs.specs.Slots.{seen}
 use Rattle.ready_jobs.proofs.Pooling.{due_none, due_found, within}
 use Rattle.ready_jobs.proofs.pool.Pool.first_deadline.Goals as goal
 
@@ -21,7 +22,7 @@ job_at-requires c =
 pub returns-in_err-item : goal.returns-in_err-item
 returns-in_err-item c =
     let inside = c.self.inside in
-    c.from_residual.ensures
+    ap seen c.from_residual.ensures
     ∙ due_none inside.version inside.slots.items inside.by_deadline c.self.invariant.0.due
     (sym c.in_err-item.was ∙ c.first.ensures)
     ∙ ap (λ (q : Pooled). first (due_first q.version) q.tasks) c.self.view_is

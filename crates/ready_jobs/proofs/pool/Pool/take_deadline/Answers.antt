@@ -1,4 +1,4 @@
-use Rattle.std.proofs.Common.{◌∷◌, ◌+◌, ◌<◌, ◌^◌, sym, ap, ◌∙◌, subst, length, arith}
+use Rattle.std.proofs.Common.{◌∷◌, ◌+◌, ◌<◌, ◌^◌, Some, sym, ap, ◌∙◌, subst, length, arith}
 use Rattle.std.specs.List.{slice_get}
 use Rattle.dover_model.specs.Orders.{due_first, first}
 use Rattle.dover_model.proofs.Members.{some_same}
@@ -6,8 +6,19 @@ use Rattle.dover_model.proofs.Tests.{none_is_some}
 use Rattle.ready_jobs.specs.Reordered.{IsReordered}
 use Rattle.ready_jobs.specs.Parts.{HaveOwnNumbers, AreModest}
 use Rattle.ready_jobs.specs.Pools.{Pooled, jobs_at}
-use Rattle.ready_jobs.proofs.Pooling.{due_none, due_found}
+use Rattle.ready_jobs.proofs.Pooling.{due_none, due_found, within}
 use Rattle.ready_jobs.proofs.pool.Pool.take_deadline.Goals as goal
+
+pub task_at-task-requires : goal.task_at-task-requires
+task_at-task-requires g c =
+    let inside = c.self.inside in
+    let own = subst (λ (q : Pooled). HaveOwnNumbers q.tasks) (sym c.self.view_is) c.requires.own in
+    let modest = subst (λ (q : Pooled). AreModest q.tasks) (sym c.self.view_is) c.requires.modest in
+    let it = due_found inside.version inside.slots.items inside.by_deadline c.in_ok-item.item
+    (sym c.in_ok-item.was ∙ c.first.ensures) own modest
+    c.self.invariant.0.due in
+    let here = within inside.slots.items c.in_ok-item.item.place (Some it.0) it.1 in
+    omega (arith, here, c.place-place.ensures.is)
 
 pub take_at-requires-clause-some : goal.take_at-requires-clause-some
 take_at-requires-clause-some g c =
@@ -17,7 +28,7 @@ take_at-requires-clause-some g c =
     let it = due_found inside.version inside.slots.items inside.by_deadline c.in_ok-item.item
     (sym c.in_ok-item.was ∙ c.first.ensures) own modest
     c.self.invariant.0.due in
-    (it.0, ap (slice_get inside.slots.items) c.place.ensures.is ∙ it.1)
+    (it.0, ap (slice_get inside.slots.items) c.place-place.ensures.is ∙ it.1)
 
 pub take_at-requires-clause-pool : goal.take_at-requires-clause-pool
 take_at-requires-clause-pool g c = (c.self.inside.version, c.self.invariant.0)
@@ -61,13 +72,14 @@ returns-clause-was g c =
     let it = due_found inside.version inside.slots.items inside.by_deadline c.in_ok-item.item
     (sym c.in_ok-item.was ∙ c.first.ensures) own modest
     c.self.invariant.0.due in
-    some_same _ _ (sym c.take_at.ensures.was ∙ ap (slice_get inside.slots.items) c.place.ensures.is ∙ it.1) ∙ sym it.2
+    some_same _ _ (sym c.task_at-task.ensures ∙ ap (slice_get inside.slots.items) c.place-place.ensures.is ∙ it.1)
+    ∙ sym it.2
     ∙ ap (λ (q : Pooled). first (due_first q.version) q.tasks) c.self.view_is
 
 pub returns-clause-rest : goal.returns-clause-rest
 returns-clause-rest g c t is =
     subst (λ (q : Pooled). IsReordered q.tasks (t ∷ jobs_at c.take_at.new.slots.items)) c.self.view_is
-    (c.take_at.ensures.rest t is)
+    (c.take_at.ensures.rest t (c.task_at-task.ensures ∙ ap Some is))
 
 pub returns-clause-count : goal.returns-clause-count
 returns-clause-count g c d fits =
@@ -81,5 +93,5 @@ returns-clause-none g c none =
     let it = due_found inside.version inside.slots.items inside.by_deadline c.in_ok-item.item
     (sym c.in_ok-item.was ∙ c.first.ensures) own modest
     c.self.invariant.0.due in
-    none_is_some (sym none ∙ some_same _ _ (sym c.take_at.ensures.was
-    ∙ ap (slice_get inside.slots.items) c.place.ensures.is ∙ it.1))
+    none_is_some (sym none ∙ some_same _ _ (sym c.task_at-task.ensures
+    ∙ ap (slice_get inside.slots.items) c.place-place.ensures.is ∙ it.1))

@@ -1,7 +1,6 @@
-use Rattle.std.proofs.Common.{◌∷◌, ◌+◌, ◌<◌, ◌^◌, sym, ap, ◌∙◌, subst, length, arith}
+use Rattle.std.proofs.Common.{◌∷◌, ◌+◌, ◌<◌, ◌^◌, Some, sym, ap, ◌∙◌, subst, length, arith}
 use Rattle.std.specs.List.{slice_get}
 use Rattle.dover_model.specs.Orders.{starts_before, first}
-use Rattle.dover_model.proofs.Members.{some_same}
 use Rattle.dover_model.proofs.Tests.{none_is_some}
 use Rattle.ready_jobs.specs.Reordered.{IsReordered}
 use Rattle.ready_jobs.specs.Parts.{HaveOwnNumbers, AreModest}
@@ -14,8 +13,8 @@ take_at-requires-clause-some g c =
     let inside = c.self.inside in
     let own = subst (λ (q : Pooled). HaveOwnNumbers q.tasks) (sym c.self.view_is) c.requires.own in
     let modest = subst (λ (q : Pooled). AreModest q.tasks) (sym c.self.view_is) c.requires.modest in
-    let it = latest_found inside.version inside.slots.items inside.by_latest c.in_ok-item.item
-    (sym c.in_ok-item.was ∙ c.first.ensures) own modest
+    let it = latest_found inside.version inside.slots.items inside.by_latest c.in-Some.item
+    (sym c.in-Some.is ∙ c.first.ensures) own modest
     c.self.invariant.0.latest in
     (it.0, ap (slice_get inside.slots.items) c.place.ensures.is ∙ it.1)
 
@@ -45,41 +44,35 @@ invariant_of-self g c = (
   },
 )
 
-pub returns-in_err-item-clause-was : goal.returns-in_err-item-clause-was
-returns-in_err-item-clause-was g c =
-    let inside = c.self.inside in
-    c.from_residual.ensures
-    ∙ latest_none inside.version inside.slots.items inside.by_latest c.self.invariant.0.latest
-    (sym c.in_err-item.was ∙ c.first.ensures)
-    ∙ ap (λ (q : Pooled). first (starts_before q.version) q.tasks) c.self.view_is
-
-pub returns-clause-was : goal.returns-clause-was
-returns-clause-was g c =
+pub returns-in-Some-clause-rest : goal.returns-in-Some-clause-rest
+returns-in-Some-clause-rest g c t is =
     let inside = c.self.inside in
     let own = subst (λ (q : Pooled). HaveOwnNumbers q.tasks) (sym c.self.view_is) c.requires.own in
     let modest = subst (λ (q : Pooled). AreModest q.tasks) (sym c.self.view_is) c.requires.modest in
-    let it = latest_found inside.version inside.slots.items inside.by_latest c.in_ok-item.item
-    (sym c.in_ok-item.was ∙ c.first.ensures) own modest
+    let it = latest_found inside.version inside.slots.items inside.by_latest c.in-Some.item
+    (sym c.in-Some.is ∙ c.first.ensures) own modest
     c.self.invariant.0.latest in
-    some_same _ _ (sym c.take_at.ensures.was ∙ ap (slice_get inside.slots.items) c.place.ensures.is ∙ it.1) ∙ sym it.2
-    ∙ ap (λ (q : Pooled). first (starts_before q.version) q.tasks) c.self.view_is
-
-pub returns-clause-rest : goal.returns-clause-rest
-returns-clause-rest g c t is =
+    let same = sym it.2 ∙ ap (λ (q : Pooled). first (starts_before q.version) q.tasks) c.self.view_is ∙ is in
     subst (λ (q : Pooled). IsReordered q.tasks (t ∷ jobs_at c.take_at.new.slots.items)) c.self.view_is
-    (c.take_at.ensures.rest t is)
+    (c.take_at.ensures.rest t (ap (slice_get inside.slots.items) c.place.ensures.is ∙ it.1 ∙ ap Some same))
 
-pub returns-clause-count : goal.returns-clause-count
-returns-clause-count g c d fits =
+pub returns-in-Some-clause-none : goal.returns-in-Some-clause-none
+returns-in-Some-clause-none g c none =
+    let inside = c.self.inside in
+    let own = subst (λ (q : Pooled). HaveOwnNumbers q.tasks) (sym c.self.view_is) c.requires.own in
+    let modest = subst (λ (q : Pooled). AreModest q.tasks) (sym c.self.view_is) c.requires.modest in
+    let it = latest_found inside.version inside.slots.items inside.by_latest c.in-Some.item
+    (sym c.in-Some.is ∙ c.first.ensures) own modest
+    c.self.invariant.0.latest in
+    none_is_some (sym (sym it.2 ∙ ap (λ (q : Pooled). first (starts_before q.version) q.tasks) c.self.view_is ∙ none))
+
+pub returns-in-Some-clause-count : goal.returns-in-Some-clause-count
+returns-in-Some-clause-count g c d fits =
     c.take_at.ensures.count d (subst (λ (q : Pooled). length q.tasks + 1 < 2 ^ d) (sym c.self.view_is) fits)
 
-pub returns-clause-none : goal.returns-clause-none
-returns-clause-none g c none =
+pub returns-in_default-clause-rest : goal.returns-in_default-clause-rest
+returns-in_default-clause-rest g c t is =
     let inside = c.self.inside in
-    let own = subst (λ (q : Pooled). HaveOwnNumbers q.tasks) (sym c.self.view_is) c.requires.own in
-    let modest = subst (λ (q : Pooled). AreModest q.tasks) (sym c.self.view_is) c.requires.modest in
-    let it = latest_found inside.version inside.slots.items inside.by_latest c.in_ok-item.item
-    (sym c.in_ok-item.was ∙ c.first.ensures) own modest
-    c.self.invariant.0.latest in
-    none_is_some (sym none ∙ some_same _ _ (sym c.take_at.ensures.was
-    ∙ ap (slice_get inside.slots.items) c.place.ensures.is ∙ it.1))
+    none_is_some (latest_none inside.version inside.slots.items inside.by_latest c.self.invariant.0.latest
+    (sym c.in_default.is ∙ c.first.ensures)
+    ∙ ap (λ (q : Pooled). first (starts_before q.version) q.tasks) c.self.view_is ∙ is)
