@@ -4,6 +4,7 @@ ghost use Rattle.dover_port.specs.Causes.{HasCause, StopsAtFailure};
 ghost use Rattle.dover_port.specs.Moves.{PutsThrough};
 
 use crate::{Failed, Port, put_all};
+use block_copy::copy_short;
 use std::marker::Model;
 
 /// How many bytes an `Output` keeps back at most.
@@ -15,37 +16,6 @@ pub const OUTPUT_BYTES: usize = 65_536;
 pub struct Output {
     bytes: [u8; OUTPUT_BYTES],
     used: usize,
-}
-
-// Copies bytes as two blocks of this size, which may overlap.
-#[inline(always)]
-fn copy_ends(to: &mut [u8], from: &[u8], size: usize)
-    requires same { length to.old ≡ length from.now }
-    requires low { size ≤ length from.now }
-    requires high { length from.now ≤ size + size }
-    ensures { to.new ≡ from.now }
-{
-    let last = from.len() - size;
-    to[..size].copy_from_slice(&from[..size]);
-    to[last..].copy_from_slice(&from[last..]);
-}
-
-// Copies bytes. Those of a usual line go as two blocks, since the compiler makes no call of a copy of a known size.
-#[inline(always)]
-fn copy_line(to: &mut [u8], from: &[u8])
-    requires { length to.old ≡ length from.now }
-    ensures { to.new ≡ from.now }
-{
-    let size = from.len();
-    if size < 16 {
-        to.copy_from_slice(from);
-    } else if size <= 32 {
-        copy_ends(to, from, 16);
-    } else if size <= 64 {
-        copy_ends(to, from, 32);
-    } else {
-        to.copy_from_slice(from);
-    }
 }
 
 impl Model for Output {
@@ -102,7 +72,7 @@ impl Output {
         ensures { self.new ≡ self.old ++ bytes.now }
     {
         let end = self.used + bytes.len();
-        copy_line(&mut self.bytes[self.used..end], bytes);
+        copy_short(&mut self.bytes[self.used..end], bytes);
         self.used = end;
     }
 

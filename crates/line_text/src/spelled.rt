@@ -2,6 +2,7 @@
 ghost use Rattle.std.specs.Prelude.{◌≡◌};
 
 use crate::back_line::put_before;
+use block_copy::copy_short;
 use std::marker::Model;
 
 /// How many numbers a job line has.
@@ -56,7 +57,7 @@ impl Spelled {
         ensures { self.new ≡ numbers.now }
     {
         let start = SPELLED_BYTES - text.len();
-        self.bytes[start..].copy_from_slice(text);
+        copy_short(&mut self.bytes[start..], text);
         self.start = start;
         self.numbers = *numbers;
     }
