@@ -1,5 +1,5 @@
 -- What the loops of a heap keep: an item x that moves, the hole at, and the others.
-use Rattle.std.proofs.Common.{◌≡◌, ◌≢◌, ℕ, ◌+◌, ◌-◌, ◌*◌, ◌/◌, ◌<◌, ◌≤◌, Bool, true, false, List, length}
+use Rattle.std.proofs.Common.{◌≡◌, ◌≢◌, ℕ, ◌+◌, ◌-◌, ◌*◌, ◌/◌, ◌<◌, ◌≤◌, true, false, List, length}
 use Rattle.std.proofs.Common.{get_or, set, take, drop}
 use Rattle.std.proofs.Common.{refl, ap, ◌∙◌, sym, subst, arith, inl, inr}
 use Rattle.std.proofs.lemmas.Bool.{cases_eq}
@@ -134,51 +134,22 @@ module _ (es₀ : List ItemFacts) (ps₀ : List ℕ) (x : ItemFacts) (items : Li
 
 -- ---- the child that comes first
 
--- the child so far, before which none of those below k comes
-pub record ChildLoop (es : List ItemFacts) (low end start child k now : ℕ) : Type 0 where
-  pub from : low ≤ child
-  pub inside : child < end
-  pub first : (j : ℕ) → low ≤ j → j < k → IsAhead es child j
-  pub count : now + low + 1 ≤ start + k
+-- of two, what comes before both
+pub two_first : (es : List ItemFacts) (low best k : ℕ) → IsAhead es best low → IsAhead es best (low + 1)
+    → low ≤ k → k < low + 2 → IsAhead es best k
+two_first es low best k zero one from below = elim (cases_eq k low) [
+  | inl is ↦ subst (IsAhead es best) (sym is) zero
+  | inr not_zero ↦ subst (IsAhead es best) (omega (arith, from, below, not_zero)) one
+]
 
-not_itself : (a : ItemFacts) (b : Bool) → is_before a a ≡ b → b ≡ false
-not_itself a false h = refl
-not_itself a true h = sym h ∙ one_way a a h
-
-pub child_start : (es : List ItemFacts) (low end start : ℕ) → low < end → ChildLoop es low end start low (low + 1) start
-child_start es low end start some = record {
-  from = omega arith;
-  inside = some;
-  first = λ j low_in high. let is : j ≡ low = omega arith in
-      subst (IsAhead es low) (sym is)
-      (λ d. not_itself (get_or es low d) (is_before (get_or es low d) (get_or es low d)) refl);
-  count = omega arith;
-}
-
-pub child_stays : (es : List ItemFacts) (low end start child k now next : ℕ) → ChildLoop es low end start child k now
-    → IsAhead es child k → next ≡ now + 1 → ChildLoop es low end start child (k + 1) next
-child_stays es low end start child k now next kept ahead step = record {
-  from = kept.from;
-  inside = kept.inside;
-  first = λ j low_in high. elim (cases_eq j k) [
-    | inl is ↦ subst (IsAhead es child) (sym is) ahead
-    | inr not ↦ kept.first j low_in (omega (arith, high, not))
-  ];
-  count = omega (arith, kept.count);
-}
-
-pub child_changes : (es : List ItemFacts) (low end start child k now next : ℕ) → ChildLoop es low end start child k now
-    → k < end → low ≤ k → IsAhead es k child → next ≡ now + 1 → ChildLoop es low end start k (k + 1) next
-child_changes es low end start child k now next kept inside from ahead step = record {
-  from = from;
-  inside = inside;
-  first = λ j low_in high. elim (cases_eq j k) [
-    | inl is ↦ subst (IsAhead es k) (sym is)
-        (λ d. not_itself (get_or es k d) (is_before (get_or es k d) (get_or es k d)) refl)
-    | inr not ↦ order.ahead_through es k child j ahead (kept.first j low_in (omega (arith, high, not)))
-  ];
-  count = omega (arith, kept.count);
-}
+-- of three, what comes before the first of two and the third
+pub three_first : (es : List ItemFacts) (low left best k : ℕ) → IsAhead es left low → IsAhead es left (low + 1)
+    → IsAhead es best left → IsAhead es best (low + 2) → low ≤ k → k < low + 3 → IsAhead es best k
+three_first es low left best k zero one first two from below = elim (cases_eq k (low + 2)) [
+  | inl is ↦ subst (IsAhead es best) (sym is) two
+  | inr not_two ↦ order.ahead_through es best left k first
+      (two_first es low left k zero one from (omega (arith, below, not_two)))
+]
 
 -- of four, in two pairs, what comes before the first of both pairs
 pub four_first : (es : List ItemFacts) (low left right best k : ℕ) → IsAhead es left low → IsAhead es left (low + 1)

@@ -91,22 +91,24 @@ fn first_of_four<L: Ledger>(items: &[Item], low: usize, steps: &mut Steps<L>) ->
     low + earlier(four, left, right, steps)
 }
 
-// Of the positions from this one on, of which there are at most four, the one whose item comes first.
+// Of the positions from this one on, of which there are fewer than four, the one whose item comes first.
+#[inline(always)]
 fn first_of_few<L: Ledger>(items: &[Item], low: usize, steps: &mut Steps<L>) -> usize
     requires some { low < length items.now }
-    requires few { length items.now ≤ low + 4 }
+    requires few { length items.now < low + 4 }
     ensures low { low ≤ result }
     ensures inside { result < length items.now }
     ensures first { (k : ℕ) → low ≤ k → k < length items.now → IsAhead items.now result k }
     ensures count { steps.new ≤ steps.old + 3 }
 {
-    let mut child = low;
-    for k in low + 1..items.len() {
-        if items[k].is_before(&items[child], steps) {
-            child = k;
+    match items.len() - low {
+        1 => low,
+        2 => earlier(items, low, low + 1, steps),
+        _ => {
+            let left = earlier(items, low, low + 1, steps);
+            earlier(items, left, low + 2, steps)
         }
     }
-    child
 }
 
 // The child that comes first.

@@ -1,34 +1,14 @@
-use Rattle.std.proofs.Common.{◌≡◌, ◌<◌, ◌+◌, length, get_or, sym, subst, ap, ◌∙◌, arith}
-use Rattle.std.proofs.lemmas.List.{get_or_default}
-use Rattle.place_heap.specs.Items.{is_before}
-use Rattle.place_heap.specs.Table.{blank}
-use Rattle.place_heap.proofs.Order.{ahead_from, ahead_if_before}
-use Rattle.place_heap.proofs.Loops.{ChildLoop, child_stays, child_changes}
-use Rattle.place_heap.proofs.sift.first_of_few.Goals.{then-is_before, else-is_before}
+use Rattle.std.proofs.Common.{arith}
+use Rattle.place_heap.proofs.Loops.{two_first, three_first}
 use Rattle.place_heap.proofs.sift.first_of_few.Goals as goal
 
-pub loop-k-preserved : goal.loop-k-preserved
-loop-k-preserved g c =
-    let es = c.args.items.now in
-    let k = c.loop-k.k in
-    let child = c.loop-k.child in
-    let kept = c.loop-k.invariant in
-    let start = c.args.steps.now in
-    let low = c.args.low in
-    let next = c.is_before.new.steps in
-    let k_in : k < length es = c.loop-k-test.true in
-    let child_in : child < length es = kept.inside in
-    let answer : c.is_before.result ≡ is_before (get_or es k blank) (get_or es child blank) = c.is_before.ensures.answer
-    ∙ ap (λ z. is_before z c.index-items-child.result)
-    (c.index-items-k.is ∙ get_or_default es k c.index-items-k.result blank k_in)
-    ∙ ap (is_before (get_or es k blank))
-    (c.index-items-child.is ∙ get_or_default es child c.index-items-child.result blank child_in) in
-    elim c.if-is_before.branch [
-      | then-is_before w ↦ subst (λ n. ChildLoop es low (length es) start n (k + 1) next) (sym w.child-is)
-          (child_changes es low (length es) start child k c.loop-k.steps next kept c.loop-k-test.true
-          (omega (arith, c.loop-k.auto.k))
-          (ahead_if_before es k child k_in child_in (sym answer ∙ w.if-is_before.true)) c.is_before.ensures.count)
-      | else-is_before w ↦ subst (λ n. ChildLoop es low (length es) start n (k + 1) next) (sym w.child-is)
-          (child_stays es low (length es) start child k c.loop-k.steps next kept
-          (ahead_from es child k child_in k_in (sym answer ∙ w.if-is_before.false)) c.is_before.ensures.count)
-    ]
+pub returns-in-2-clause-first : goal.returns-in-2-clause-first
+returns-in-2-clause-first g c k from below =
+    two_first c.args.items.now c.args.low c.earlier.result k c.earlier.ensures.left c.earlier.ensures.right from
+    (omega (arith, below, c.in-2.is, c.requires.some))
+
+pub returns-in_default-clause-first : goal.returns-in_default-clause-first
+returns-in_default-clause-first g c k from below =
+    three_first c.args.items.now c.args.low c.earlier-left.result c.earlier-in_default.result k
+    c.earlier-left.ensures.left c.earlier-left.ensures.right c.earlier-in_default.ensures.left
+    c.earlier-in_default.ensures.right from (omega (arith, below, c.requires.few))
