@@ -11,7 +11,8 @@ use Rattle.dover_port.specs.declared.status.Status.TheVariants.{Done, Refused}
 use Rattle.dialogue.specs.Talk.{IsSteady, IsFinal}
 use Rattle.dialogue.specs.Turns.{joined, Standing, TakesBy}
 use Rattle.lane_server.specs.Lanes.{Input, InputStanding, Open, Closed, Faulty, Handed, input, goes_on_at, goes_on}
-use Rattle.lane_server.specs.Lanes.{due_after, lane_due, lane_count, shorts_from, closing_lines, lanes_closed, all_ended}
+use Rattle.lane_server.specs.Lanes.{due_after, lane_due, lane_count, shorts_from, closing_lines, lanes_closed}
+use Rattle.lane_server.specs.Lanes.{all_ended}
 use Rattle.lane_server.specs.Lane.{Serving, Having}
 use Rattle.lane_server.specs.Kept.{Kept, StandsFor}
 use Rattle.lane_server.specs.LaneInput.{Grows, Takes}

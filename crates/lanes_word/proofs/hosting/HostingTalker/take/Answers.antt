@@ -5,4 +5,7 @@ pub take-requires-clause-rests : goal.take-requires-clause-rests
 take-requires-clause-rests g c = (c.requires.stands.1, c.requires.stands.2, c.requires.stands.3)
 
 pub returns : goal.returns
-returns g c = record { takes = λ a x at on. takes g.D.Dispatcher.serves g.D.Dispatcher.has_room c.take.new.self x c.args.piece.now c.take.result (c.take.ensures x at on) }
+returns g c = record {
+  takes = λ a x at on. takes g.D.Dispatcher.serves g.D.Dispatcher.has_room c.take.new.self x c.args.piece.now
+      c.take.result (c.take.ensures x at on);
+}
