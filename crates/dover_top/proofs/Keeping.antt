@@ -16,8 +16,7 @@ use Rattle.dover_model.proofs.Runs.{none_lost, all_value}
 use Rattle.dover_model.proofs.Tests.{never}
 use Rattle.dover_port.specs.Moves.{Move, ins, outs, has_ended}
 use Rattle.dover_port.specs.declared.status.Status.TheVariants.{Done, Refused}
-use Rattle.serve_word.specs.Closing.{PausesAt}
-use Rattle.serve_word.specs.Talk.{IsServedAs}
+use Rattle.serve_word.specs.Talk.{PausesAt, IsServedAs}
 use Rattle.serve_word.specs.declared.at_end.AtEnd.{AtEnd}
 use Rattle.serve_word.specs.declared.at_end.AtEnd.TheVariants as ends
 use Rattle.lane_server.proofs.Feeding.{ended_over as said_ended}

@@ -1,5 +1,6 @@
 -- What bytes of a feed hand to its lane, and what is left to give then.
-use Rattle.std.proofs.Common.{◌≡◌, ℕ, List, [], ◌∷◌, ◌++◌, sym, ap, ◌∙◌, subst, refl, true, false, Result, Ok, Err, cond, Some}
+use Rattle.std.proofs.Common.{◌≡◌, ℕ, List, [], ◌∷◌, ◌++◌, sym, ap, ◌∙◌, subst, refl, true, false, cond, Some}
+use Rattle.std.proofs.Common.{Result, Ok, Err}
 use Rattle.std.proofs.lemmas.List.{append-nil}
 use Rattle.std.specs.Prelude.{OnOk, OnErr}
 use Rattle.dover_model.specs.declared.Memory.{Memory}
@@ -22,7 +23,8 @@ use Rattle.lane_server.specs.Feeding.{Hands}
 use Rattle.lane_server.specs.declared.feed.Feed.{Feed}
 use Rattle.lane_server.specs.declared.lane.Lane.{Lane}
 use Rattle.lane_server.specs.declared.lane.Work.TheVariants.{Nothing}
-use Rattle.lane_server.proofs.Adding.{account_next, added_is, lines_kept, open_serves, open_stands, opens_by, reach_open}
+use Rattle.lane_server.proofs.Adding.{account_next, added_is, lines_kept, open_serves, open_stands, opens_by}
+use Rattle.lane_server.proofs.Adding.{reach_open}
 
 -- a feed that has ended doesn't go on
 pub ended_over : (a : Account) → is_ended a ≡ true → is_open a ≡ false
@@ -110,8 +112,8 @@ module _ {D : Type 0} (serves : Serving D) (has_room : Having D) (ls : List (Lis
         (
           S,
           there,
-          subst (λ h. serves v (instance_of S) h (due_by (instance_of S) h)) (sym (reach_open (account_of_lines ls) stands))
-              served,
+          subst (λ h. serves v (instance_of S) h (due_by (instance_of S) h))
+              (sym (reach_open (account_of_lines ls) stands)) served,
         ),
       );
       names = tt;

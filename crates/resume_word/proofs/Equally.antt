@@ -22,9 +22,8 @@ use Rattle.std.specs.List.{fold}
 use Rattle.snapshot.proofs.Alike.{Alike, SameRun, GoAlike, lines_alike}
 use Rattle.snapshot.proofs.Behind.{account_behind}
 use Rattle.snapshot.proofs.Feeds.{go_on, same_alike, named}
-use Rattle.serve_word.specs.Closing.{PausesAt}
 use Rattle.serve_word.specs.Keeping.{due_behind, serve_talk}
-use Rattle.serve_word.specs.Talk.{IsServedAs}
+use Rattle.serve_word.specs.Talk.{PausesAt, IsServedAs}
 use Rattle.serve_word.specs.declared.at_end.AtEnd.{AtEnd}
 use Rattle.serve_word.specs.declared.at_end.AtEnd.TheVariants.{Refuse, Pause}
 use Rattle.event_feed.proofs.Admitting.{declared_front}

@@ -1,3 +1,2 @@
-pub mod Resumed
 pub mod Snapped
 pub mod Talking

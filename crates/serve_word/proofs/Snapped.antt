@@ -1,34 +1,65 @@
--- A feed that is paused, and the lines of its snapshot, put one behind another.
-use Rattle.std.proofs.Common.{◌≡◌, ◌<◌, ◌+◌, ◌-◌, ℕ, List, [], ◌∷◌, ◌++◌, length, take, drop, get_or, sym, ap, ◌∙◌, subst}
-use Rattle.std.proofs.Common.{Option, Some, arith, inl, inr, Err}
-use Rattle.std.proofs.lemmas.List.{append-nil, take_more, take-append-drop}
-use Rattle.dover_model.specs.Lines.{in_lines, lines_of}
+-- A feed that goes on from its snapshot, one that is paused, and the lines of a snapshot, put one behind another.
+use Rattle.std.proofs.Common.{◌≡◌, ℕ, [], append-nil, sym, ap, ◌∙◌, subst, Some, true, ◌<◌, ◌+◌, ◌-◌, List, ◌∷◌, ◌++◌}
+use Rattle.std.proofs.Common.{length, take, drop, get_or, Option, arith, inl, inr, Err}
+use Rattle.dover_model.specs.Session.{instance_of, Session}
+use Rattle.dover_model.specs.State.{State}
+use Rattle.dover_model.specs.Lines.{lines_of, in_lines}
 use Rattle.dover_model.specs.Feed.{account}
+use Rattle.dover_model.proofs.Barriers.{settled_at_barrier}
+use Rattle.dover_server.specs.Service.{Service, Stands}
+use Rattle.queued_jobs.specs.Spending.{HasSpent}
+use Rattle.dispatcher.specs.Serving.{Serves, HasRoom, HasPaid as HasSpentBy}
+use Rattle.event_feed.specs.Kept as feed
+use Rattle.lane_server.specs.Lane.{IsQuiet, Stands as LaneStands}
+use Rattle.lane_server.specs.Feeding.{FeedRests}
+use Rattle.lane_server.specs.Spending.{HasPaid}
+use Rattle.lane_server.specs.declared.feed.Feed.{Feed}
+use Rattle.lane_server.specs.declared.lane.Lane.{Lane}
+use Rattle.lane_server.specs.declared.lane.Work.TheVariants.{Nothing}
+use Rattle.lane_server.proofs.Feeding.{quiet_on, AtMark, quiet_serves}
+use Rattle.snapshot.specs.Snapshot.{MayPause}
+use Rattle.snapshot.specs.Feeds.{ResumesFeed}
+use Rattle.snapshot.proofs.Feeds.{opened, holds}
+use Rattle.serve_word.specs.Keeping.{Call, IsReady}
+use Rattle.std.proofs.lemmas.List.{append-nil, take_more, take-append-drop}
 use Rattle.dover_model.specs.Paths.{HasPrinted}
-use Rattle.dover_model.specs.Session.{Session, instance_of}
 use Rattle.dover_model.specs.Settled.{settled}
 use Rattle.dover_model.proofs.Beginnings.{in_lines-append}
 use Rattle.dover_port.specs.Moves.{Move, Passes, CutsShort}
 use Rattle.dover_port.proofs.Through.{passes_then, passes_then_cut, cut_longer}
 use Rattle.dover_server.specs.declared.horizon.Horizon.TheVariants.{Mark}
-use Rattle.dover_server.specs.Service.{Service}
-use Rattle.dispatcher.specs.Serving.{Serves, HasRoom}
 use Rattle.event_feed.specs.Answers.{EndAnswers}
 use Rattle.event_feed.specs.declared.faults.FeedFault.{FeedFault}
 use Rattle.event_feed.proofs.Counting.{lines_counted}
-use Rattle.lane_server.specs.Lane.{IsQuiet, Stands}
-use Rattle.lane_server.specs.Feeding.{FeedRests}
-use Rattle.lane_server.specs.declared.feed.Feed.{Feed}
-use Rattle.lane_server.specs.declared.lane.Lane.{Lane}
-use Rattle.lane_server.proofs.Feeding.{AtMark, quiet_serves}
-use Rattle.snapshot.specs.Snapshot.{MayPause}
 use Rattle.snapshot.specs.Pausing.{IsTakenTo}
-use Rattle.snapshot.proofs.Feeds.{opened}
+
+-- ---- it goes on
+
+-- it is ready for a call that goes on with it, from the server's clock, which is the mark
+pub ready_on : (c : Call) (now : ℕ) (may : MayPause c.feed) (v : Service) (stands : Stands v) (i : feed.Kept)
+    (it : ResumesFeed v i c.feed) (l : Lane Service)
+    → l ≡ record { intake = i; server = Some v; mark = v.state.clock; is_open = true; work = Nothing }
+    → (f : Feed Service) → f.lane ≡ l
+    → (IsQuiet Serves HasRoom l (lines_of c.feed) → FeedRests Serves HasRoom f c.feed)
+    → HasSpent v.state c.start now → IsReady Serves HasRoom HasSpentBy c f now []
+ready_on c now may v stands i it l is f there rests spent = record {
+  rests = subst (FeedRests Serves HasRoom f) (sym (append-nil c.feed))
+      (rests (subst (λ l. IsQuiet Serves HasRoom l (lines_of c.feed)) (sym is)
+      (quiet_on Serves HasRoom (lines_of c.feed) (opened c.feed may) i v it.session v.state.clock it.stands it.going
+      it.named
+      (ap (λ (s : State). s.clock) it.state
+      ∙ (settled_at_barrier (instance_of it.session) (holds c.feed may it.session it.named).reads.valid
+      (account c.feed).mark).clock)
+      (record { stands = stands; jobs = it.list; last = it.ready.1; come = it.printed }))));
+  paid = subst (λ (l : Lane Service). HasPaid HasSpentBy l.server c.start now) (sym (there ∙ is)) spent;
+}
+
+-- ---- it is paused
 
 -- the server has taken the feed to its mark, and its lines are those before the fault that says that it is short
 pub taken_to : (feed : Feed Service) (x : List ℕ) → FeedRests Serves HasRoom feed x → MayPause x → (lane : Lane Service)
     → lane ≡ feed.lane → (v : Service) → lane.server ≡ Some v → (fault : FeedFault)
-    → ((ls rest : List (List ℕ)) → Stands Serves HasRoom lane ls rest → EndAnswers {X = Unit {0}} ls (Err fault))
+    → ((ls rest : List (List ℕ)) → LaneStands Serves HasRoom lane ls rest → EndAnswers {X = Unit {0}} ls (Err fault))
     → (mark : ℕ) → mark ≡ lane.mark → IsTakenTo v (fault.line - 1) mark x
 taken_to feed x rests may lane is v there fault answers mark marked = record {
   may = may;
@@ -51,6 +82,8 @@ taken_to feed x rests may lane is v there fault answers mark marked = record {
   by : EndAnswers {X = Unit {0}} (lines_of x) (Err fault) → fault.line - 1 ≡ (account x).lines
   by (inl it) = omega (arith, ap (λ (f : FeedFault). f.line) it.1, lines_counted (lines_of x) (opened x may))
   by (inr was) = absurd (let e = sym (opened x may) ∙ was in cc)
+
+-- ---- its lines are put
 
 module _ (ls : List (List ℕ)) (i : ℕ) (within : i < length ls) (line : List ℕ) (is : line ≡ get_or ls i [])
     (a b c : Option (List Move)) (p q r : List ℕ) (first : Passes a b p q (in_lines (take i ls))) where

@@ -1,4 +1,3 @@
 pub mod Talk
-pub mod Closing
 pub mod Keeping
 pub mod Spending

@@ -6,9 +6,14 @@ use Rattle.dover_port.specs.declared.status.Status.{Status}
 use Rattle.dover_port.specs.declared.status.Status.TheVariants.{Done, Refused}
 use Rattle.dialogue.specs.Talk.{Talk}
 use Rattle.lane_server.specs.Lane.{IsDeclared, IsFaulty}
-use Rattle.snapshot.specs.Snapshot.{snapshot}
-use Rattle.serve_word.specs.Closing.{PausesAt}
+use Rattle.snapshot.specs.Snapshot.{MayPause, snapshot}
 use Rattle.serve_word.specs.declared.at_end.AtEnd.{AtEnd}
+use Rattle.serve_word.specs.declared.at_end.AtEnd.TheVariants.{Refuse, Pause}
+
+-- the feed of these bytes is paused where its input ends
+abbrev pub PausesAt : AtEnd → List ℕ → Type 0
+PausesAt Refuse x = ⊥
+PausesAt Pause x = MayPause x
 
 -- the input ended where the feed goes on, and it isn't paused
 abbrev pub IsCutOff : AtEnd → List ℕ → Bool → Type 0

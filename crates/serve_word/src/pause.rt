@@ -1,5 +1,5 @@
 //! The snapshot of a feed that is paused where its input ends.
-ghost use Rattle.std.specs.Prelude.{◌↔◌, ℕ, List, IsTrue};
+ghost use Rattle.std.specs.Prelude.{◌≡◌, ◌↔◌, ℕ, List, IsTrue};
 ghost use Rattle.dover_model.specs.Feed.{account};
 ghost use Rattle.dover_model.specs.Lines.{in_lines};
 ghost use Rattle.dispatcher.specs.Serving as kept;
@@ -21,7 +21,11 @@ use std::sync::ledger::Ledger;
 use step_count::Steps;
 
 /// Puts the lines of a snapshot.
-fn put_lines<P: Port>(port: &mut P, out: &mut Output, paused: &Paused) -> Result<(), Failed>
+pub(crate) fn put_lines<P: Port>(
+    port: &mut P,
+    out: &mut Output,
+    paused: &Paused,
+) -> Result<(), Failed>
     ensures text { PutsThrough (P.moves port.old) (P.moves port.new) result out.old out.new (in_lines paused.now) }
     ensures cause { HasCause (P.write_faults port.old) (P.write_faults port.new) (P.read_faults port.old)
         (P.read_faults port.new) result }
@@ -45,22 +49,14 @@ pub(crate) fn is_paused(feed: &Feed<Server>) -> bool
     feed.lane().goes_on() && feed.lane().has_server() && feed.rest() == 0
 }
 
-/// Puts the snapshot of a feed that may pause.
-pub(crate) fn pause<P: Port, L: Ledger>(
-    port: &mut P,
-    out: &mut Output,
-    feed: Feed<Server>,
-    steps: &mut Steps<L>,
-) -> Result<(), Failed>
+/// A feed that may pause, as the lines of its snapshot.
+pub(crate) fn pause<L: Ledger>(feed: Feed<Server>, steps: &mut Steps<L>) -> Paused
     requires { (x : List ℕ) × FeedRests kept.Serves kept.HasRoom feed x × MayPause x }
     ensures text { (x : List ℕ) → FeedRests kept.Serves kept.HasRoom feed x → MayPause x →
-        PutsThrough (P.moves port.old) (P.moves port.new) result out.old out.new (snapshot x) }
+        in_lines result ≡ snapshot x }
     ensures paid { (x : List ℕ) (start : ℕ) → FeedRests kept.Serves kept.HasRoom feed x → MayPause x →
         HasPaid kept.HasPaid feed.lane.server start steps.old →
         CostsAtMost (admitted_in (account x)) start steps.new }
-    ensures cause { HasCause (P.write_faults port.old) (P.write_faults port.new) (P.read_faults port.old)
-        (P.read_faults port.new) result }
-    ensures stops { StopsAtFailure (P.calls port.old) (P.calls port.new) result }
 {
     let lane = feed.into_lane();
     let Err(fault) = lane.end() else {
@@ -70,6 +66,5 @@ pub(crate) fn pause<P: Port, L: Ledger>(
     let Some(server) = lane.into_server() else {
         unreachable!();
     };
-    let paused = Paused::new(server, fault.line - 1, mark, steps);
-    put_lines(port, out, &paused)
+    Paused::new(server, fault.line - 1, mark, steps)
 }

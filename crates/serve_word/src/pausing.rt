@@ -4,7 +4,7 @@ ghost use Rattle.dispatcher.specs.Serving.{Serves, HasRoom, HasPaid};
 ghost use Rattle.serve_word.specs.Keeping.{Call, serve_talk, IsGiving, IsReady, Costs};
 ghost use Rattle.serve_word.specs.declared.at_end.AtEnd.TheVariants.{Pause};
 
-use crate::pause::{is_paused, pause};
+use crate::pause::{is_paused, pause, put_lines};
 use crate::serving::Serving;
 use dialogue::{Stop, Talker};
 use dover_model::Memory;
@@ -68,7 +68,7 @@ impl<L: Ledger> Talker for Pausing<L> {
         if !is_paused(&self.serving.feed) {
             return self.serving.answer(meter, port, out, ended);
         }
-        match pause(port, out, self.serving.feed, meter) {
+        match put_lines(port, out, &pause(self.serving.feed, meter)) {
             Ok(()) => Ok(Status::Done),
             Err(_) => Err(Stop::Unwritten),
         }

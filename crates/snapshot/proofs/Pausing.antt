@@ -71,7 +71,8 @@ module _ (v : Service) (lines mark : ℕ) (F : List ℕ) (it : IsTakenTo v lines
         ∙ ap (λ (s : State). text (list_of u) lines mark s) (settled_there u (list_of u) mark reached refl barrier)
         ∙ ap (λ (J : Instance). text J lines mark (settled_state J mark)) (same ∙ it.list)
         ∙ ap (λ n. text (instance_of it.session) n mark (settled_state (instance_of it.session) mark)) it.lines_are
-        ∙ ap (λ m. text (instance_of it.session) (account F).lines m (settled_state (instance_of it.session) m)) it.mark_is
+        ∙ ap (λ m. text (instance_of it.session) (account F).lines m (settled_state (instance_of it.session) m))
+        it.mark_is
         ∙ sym (snapshot_is F it.may it.session it.named)
       where
         text : Instance → ℕ → ℕ → State → List ℕ
@@ -93,6 +94,7 @@ line_of_job (t ∷ tasks) last zero line e = sym (some_same (state_line t) line 
 line_of_job (t ∷ tasks) last (suc n) line e = line_of_job tasks last n line e
 
 -- the last line
-pub last_line : (tasks : List Task) (last : List ℕ) → get_or (map state_line tasks ++ last ∷ []) (length tasks) [] ≡ last
+pub last_line : (tasks : List Task) (last : List ℕ)
+    → get_or (map state_line tasks ++ last ∷ []) (length tasks) [] ≡ last
 last_line [] last = refl
 last_line (t ∷ tasks) last = last_line tasks last

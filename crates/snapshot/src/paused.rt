@@ -59,8 +59,8 @@ impl Paused {
         u64::from(self.server.admitted()) + 2
     }
 
-    /// Writes the line of this number, from 0 on, without its line feed. The buffer is empty before, and has at most 128
-    /// bytes after.
+    /// Writes the line of this number, from 0 on, without its line feed. The buffer is empty before, and has at most
+    /// 128 bytes after.
     pub fn line(&self, number: u64, to: &mut LineBuf)
         requires there { number < length self.now }
         requires empty { to.old ≡ [] }

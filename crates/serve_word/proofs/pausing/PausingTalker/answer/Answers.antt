@@ -23,25 +23,25 @@ returns-in-Ok-clause-answers g c = λ a x at over.
       (
         snapshot (a.feed ++ x),
         paused a x c.args.ended over may,
-        rw c.requires.empty at (c.in-Ok.ensures.text (a.feed ++ x) at.rests may).all,
+        rw (c.requires.empty, c.pause.ensures.text (a.feed ++ x) at.rests may) at c.in-Ok.ensures.text.all,
       ),
     )
 
 pub returns-in-Ok-clause-spent : goal.returns-in-Ok-clause-spent
 returns-in-Ok-clause-spent g c = λ a x at.
-    c.in-Ok.ensures.paid (a.feed ++ x) a.start at.rests
+    c.pause.ensures.paid (a.feed ++ x) a.start at.rests
     ((c.is_paused.ensures (a.feed ++ x) at.rests).0 c.if-not-is_paused.false) at.paid
 
-pub returns-in-Err-clause-answers : goal.returns-in-Err-clause-answers
-returns-in-Err-clause-answers g c = λ a x at over.
+pub returns-clause-answers : goal.returns-clause-answers
+returns-clause-answers g c = λ a x at over.
     let may = (c.is_paused.ensures (a.feed ++ x) at.rests).0 c.if-not-is_paused.false in (
       Done,
       snapshot (a.feed ++ x),
       paused a x c.args.ended over may,
-      rw c.requires.empty at (c.in-Err.ensures.text (a.feed ++ x) at.rests may).part,
+      rw (c.requires.empty, c.pause.ensures.text (a.feed ++ x) at.rests may) at c.in-Err.ensures.text.part,
     )
 
-pub returns-in-Err-clause-spent : goal.returns-in-Err-clause-spent
-returns-in-Err-clause-spent g c = λ a x at.
-    c.in-Err.ensures.paid (a.feed ++ x) a.start at.rests
+pub returns-clause-spent : goal.returns-clause-spent
+returns-clause-spent g c = λ a x at.
+    c.pause.ensures.paid (a.feed ++ x) a.start at.rests
     ((c.is_paused.ensures (a.feed ++ x) at.rests).0 c.if-not-is_paused.false) at.paid

@@ -1,4 +1,4 @@
-use Rattle.serve_word.proofs.Resumed.{ready_on}
+use Rattle.serve_word.proofs.Snapped.{ready_on}
 use Rattle.serve_word.proofs.serving.Serving+Server+L.resumed.Goals as goal
 
 pub returns : goal.returns

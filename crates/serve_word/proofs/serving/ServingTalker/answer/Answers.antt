@@ -16,7 +16,8 @@ returns-in_default-clause-answers g c = λ a x at over.
 pub returns-then-not-goes_on-clause-answers : goal.returns-then-not-goes_on-clause-answers
 returns-then-not-goes_on-clause-answers g c = λ a x at over.
     let why = (rw c.into_lane-lane.ensures at (c.in-Err.ensures (lines_of (a.feed ++ x)) [])) at.rests.lane.stands in
-    let goes = (rw c.into_lane-lane.ensures at (c.goes_on.ensures (lines_of (a.feed ++ x)) [])) at.rests.lane.stands in (
+    let goes = (rw c.into_lane-lane.ensures at (c.goes_on.ensures (lines_of (a.feed ++ x)) [])) at.rests.lane.stands
+    in (
       tt,
       (
         [],
@@ -28,7 +29,8 @@ returns-then-not-goes_on-clause-answers g c = λ a x at over.
 pub returns-in-Ok-clause-answers : goal.returns-in-Ok-clause-answers
 returns-in-Ok-clause-answers g c = λ a x at over.
     let why = (rw c.into_lane-lane.ensures at (c.in-Err.ensures (lines_of (a.feed ++ x)) [])) at.rests.lane.stands in
-    let goes = (rw c.into_lane-lane.ensures at (c.goes_on.ensures (lines_of (a.feed ++ x)) [])) at.rests.lane.stands in (
+    let goes = (rw c.into_lane-lane.ensures at (c.goes_on.ensures (lines_of (a.feed ++ x)) [])) at.rests.lane.stands
+    in (
       tt,
       (
         fault_text c.in-Err.fault.line (cause_of_fault c.in-Err.fault.cause) ++ 10 ∷ [],
@@ -40,7 +42,8 @@ returns-in-Ok-clause-answers g c = λ a x at over.
 pub returns-clause-answers : goal.returns-clause-answers
 returns-clause-answers g c = λ a x at over.
     let why = (rw c.into_lane-lane.ensures at (c.in-Err.ensures (lines_of (a.feed ++ x)) [])) at.rests.lane.stands in
-    let goes = (rw c.into_lane-lane.ensures at (c.goes_on.ensures (lines_of (a.feed ++ x)) [])) at.rests.lane.stands in (
+    let goes = (rw c.into_lane-lane.ensures at (c.goes_on.ensures (lines_of (a.feed ++ x)) [])) at.rests.lane.stands
+    in (
       Refused,
       fault_text c.in-Err.fault.line (cause_of_fault c.in-Err.fault.cause) ++ 10 ∷ [],
       cut_off a x c.args._ended c.in-Err.fault why Refuse (sym goes ∙ c.if-not-goes_on.false) over (λ pauses. pauses),
