@@ -60,7 +60,7 @@ impl ReadyServer {
     }
 
     // The next printed step of the run, where no further job comes.
-    #[inline(always)]
+    #[inline(never)]
     fn step_on<L: Ledger>(&mut self, steps: &mut Steps<L>) -> Option<Event>
         requires { (J : Instance) × (from : Horizon) × (events : List Event) × Serves self.old J from events }
         ensures gives { (J : Instance) (from : Horizon) (events : List Event) → Serves self.old J from events
