@@ -1,34 +1,12 @@
 -- What is counted with one step more.
-use Rattle.std.proofs.Common.{◌≡◌, ◌+◌, ◌*◌, ◌≤◌, ℕ, List, [], ◌∷◌, ◌++◌, length, refl, sym, ap, ◌∙◌, cond, arith}
-use Rattle.std.proofs.Common.{length-append}
-use Rattle.std.specs.List.{count_by}
+use Rattle.std.proofs.Common.{◌≡◌, ◌+◌, ◌≤◌, ℕ, List, [], ◌∷◌, ◌++◌, refl, sym, ap, ◌∙◌, cond, arith, length-append}
 use Rattle.std.proofs.lemmas.List.Sums.{sum_by_push, fold-append}
 use Rattle.dover_model.specs.declared.events.Event.{Event}
 use Rattle.dover_model.specs.Run.{value_of_end}
 use Rattle.dover_model.specs.Reports.{is_take}
 use Rattle.dover_report.specs.Counts.{is_completion, is_abandonment}
-use Rattle.trial_words.specs.Tallied.{tally_of, value_of, value_released, all_released, HasCounted}
+use Rattle.trial_words.specs.Tallied.{value_released, tally_of, HasCounted}
 use Rattle.trial_words.specs.declared.tally.Tally.{Tally}
-
--- the tally with one step more
-tally_more : (events : List Event) (e : Event) → tally_of (events ++ e ∷ []) ≡ record {
-  released = all_released events + value_released e;
-  completed = count_by is_completion events + cond (is_completion e) 1 0;
-  value = value_of_end e (value_of events);
-  abandoned = count_by is_abandonment events + cond (is_abandonment e) 1 0;
-  taken = count_by is_take events + cond (is_take e) 1 0;
-}
-tally_more events e = same_tally (sum_by_push value_released events e)
-    (sum_by_push (λ x. cond (is_completion x) 1 0) events e)
-    (fold-append (λ value x. value_of_end x value) 0 events (e ∷ []))
-    (sum_by_push (λ x. cond (is_abandonment x) 1 0) events e)
-    (sum_by_push (λ x. cond (is_take x) 1 0) events e) where
-      whole : (a b c d f : ℕ) → Tally
-      whole a b c d f = record { released = a; completed = b; value = c; abandoned = d; taken = f }
-
-      same_tally : {a b c d f a2 b2 c2 d2 f2 : ℕ} → a ≡ a2 → b ≡ b2 → c ≡ c2 → d ≡ d2 → f ≡ f2
-          → whole a b c d f ≡ whole a2 b2 c2 d2 f2
-      same_tally e1 e2 e3 e4 e5 = cc
 
 -- nothing was counted
 pub counted_none : HasCounted (tally_of []) []
@@ -46,18 +24,17 @@ pub counted_more : (tally next : Tally) (events : List Event) (e : Event) → Ha
     }
     → HasCounted next (events ++ e ∷ [])
 counted_more tally next events e it modest is = record {
-  counts = is ∙ ap (λ (t : Tally). record {
-    released = t.released + value_released e;
-    completed = t.completed + cond (is_completion e) 1 0;
-    value = value_of_end e t.value;
-    abandoned = t.abandoned + cond (is_abandonment e) 1 0;
-    taken = t.taken + cond (is_take e) 1 0;
-  }) it.counts ∙ sym (tally_more events e);
-  modest = omega (
-    arith,
-    it.modest,
-    modest,
-    sum_by_push value_released events e,
-    length-append events (e ∷ []),
-  );
-}
+  counts = is ∙ ap (λ (t : Tally). whole (t.released + value_released e) (t.completed + cond (is_completion e) 1 0)
+      (value_of_end e t.value) (t.abandoned + cond (is_abandonment e) 1 0) (t.taken + cond (is_take e) 1 0)) it.counts
+      ∙ sym (same_tally (sum_by_push value_released events e) (sum_by_push (λ x. cond (is_completion x) 1 0) events e)
+      (fold-append (λ value x. value_of_end x value) 0 events (e ∷ []))
+      (sum_by_push (λ x. cond (is_abandonment x) 1 0) events e)
+      (sum_by_push (λ x. cond (is_take x) 1 0) events e));
+  modest = omega (arith, it.modest, modest, sum_by_push value_released events e, length-append events (e ∷ []));
+} where
+  whole : (a b c d f : ℕ) → Tally
+  whole a b c d f = record { released = a; completed = b; value = c; abandoned = d; taken = f }
+
+  same_tally : {a b c d f a2 b2 c2 d2 f2 : ℕ} → a ≡ a2 → b ≡ b2 → c ≡ c2 → d ≡ d2 → f ≡ f2
+      → whole a b c d f ≡ whole a2 b2 c2 d2 f2
+  same_tally e1 e2 e3 e4 e5 = cc

@@ -1,98 +1,130 @@
 -- What was counted of a run is what its summary says.
-use Rattle.std.proofs.Common.{◌≡◌, ◌+◌, ◌≤◌, ℕ, List, [], ◌∷◌, sym, refl, ap, ◌∙◌, subst, Option, arith}
+use Rattle.std.proofs.Common.{◌≡◌, ◌+◌, ◌-◌, ◌≤◌, ℕ, List, [], ◌∷◌, length, sym, refl, ap, ◌∙◌, subst, Option, arith}
+use Rattle.std.proofs.Common.{◌++◌, append_assoc, codes, decimal}
+use Rattle.std.specs.List.{cons_option}
 use Rattle.std.proofs.lemmas.List.Sums.{sum_by-cons}
 use Rattle.dover_model.specs.declared.events.Event.{Event}
 use Rattle.dover_model.specs.declared.events.Event.TheVariants as event
+use Rattle.dover_model.specs.Bound.{bound}
+use Rattle.dover_model.specs.Fraction.{Fraction}
+use Rattle.dover_model.specs.Instance.{Instance, IsValid, total_value}
+use Rattle.dover_model.specs.Limits.{most_total}
 use Rattle.dover_model.specs.JobFacts.{JobFacts}
-use Rattle.dover_model.specs.Fraction.{Fraction, IsRatio}
-use Rattle.dover_model.specs.Instance.{IsValid, total_value}
-use Rattle.dover_model.specs.Limits.{most_jobs, most_total}
-use Rattle.dover_model.specs.Generator.{generated_jobs}
-use Rattle.dover_model.specs.Lines.{in_lines}
+use Rattle.dover_model.specs.Lines.{with_numbers, in_lines}
 use Rattle.dover_model.specs.Reports.{summary}
 use Rattle.dover_model.specs.Run.{printed, completed_value}
 use Rattle.dover_port.specs.Moves.{Move, Since}
 use Rattle.dover_port.specs.declared.status.Status.{Status}
 use Rattle.intervals.specs.Rows.{IsRunOf}
-use Rattle.dover_report.specs.Counts.{counts_of, counts_lines, all_lost, jobs_released}
+use Rattle.dover_report.specs.Counts.{counts_of, counts_lines, all_lost, job_released, jobs_released}
 use Rattle.dover_report.specs.declared.counts.Counts.{Counts}
 use Rattle.dover_report.proofs.Counting.{jobs_are, summary_is, value_small}
 use Rattle.dover_report.proofs.Losses.{lost_rest}
-use Rattle.trial_jobs.proofs.Drawn as drawn
-use Rattle.dover_model.specs.declared.events.Version.TheVariants.{One}
-use Rattle.trial_words.specs.Lists.{stated}
+use Rattle.run_view.specs.Templates.{filled}
 use Rattle.trial_words.specs.Record.{Writes}
-use Rattle.trial_words.specs.Tallied.{value_of, value_released, all_released, HasCounted}
+use Rattle.trial_words.specs.Tallied.{value_released, all_released, tally_of, CountsRun}
 use Rattle.trial_words.specs.declared.tally.Tally.{Tally}
+
+-- the counts of a tally
+abbrev pub counts_by : ℕ → Tally → (lost most : ℕ) → Counts
+counts_by jobs t lost most = record {
+  jobs = jobs;
+  completed = t.completed;
+  value = t.value;
+  abandoned = t.abandoned;
+  lost = lost;
+  taken = t.taken;
+  bound = most;
+}
+
+-- they are those of the steps
+counts_are : (k : Fraction) (jobs lost : ℕ) (t : Tally) (most : ℕ) (all : List JobFacts) (events : List Event)
+    → most ≡ bound k t.value → jobs ≡ length all → t ≡ tally_of events → lost ≡ all_lost all events
+    → counts_by jobs t lost most ≡ counts_of k events all (tally_of events).value
+counts_are k jobs lost t most all events bounds count is rest =
+    ap (λ (u : Tally). counts_by jobs u lost most) is
+    ∙ ap (λ n. counts_by n (tally_of events) lost most) count
+    ∙ ap (λ n. counts_by (length all) (tally_of events) n most) rest
+    ∙ ap (counts_by (length all) (tally_of events) (all_lost all events))
+    (bounds ∙ ap (λ (u : Tally). bound k u.value) is)
+
+-- a valid run by its own steps
+pub own_run : (J : Instance) (k : Fraction) → IsValid J → J.rules.ratio ≡ k → IsRunOf k (printed J) J
+own_run J k valid ratio = record { valid = valid; ratio = ratio; prints = refl }
+
+-- lines with a line feed behind each
+abbrev pub fed : List (List ℕ) → List ℕ
+fed [] = []
+fed (l ∷ ls) = l ++ (10 ∷ fed ls)
+
+-- they are a text of lines
+pub fed_lines : (ls : List (List ℕ)) → fed ls ≡ in_lines ls
+fed_lines [] = refl
+fed_lines (l ∷ ls) = ap (λ t. l ++ (10 ∷ t)) (fed_lines ls) ∙ sym (append_assoc l (10 ∷ []) (in_lines ls))
+
+-- the template with the numbers of the counts
+pub in_template : (c : Counts)
+    → filled (codes "jobs @" ++ (10 ∷ codes "completed @ @" ++ (10 ∷ codes "abandoned @ @" ++ (10 ∷ codes "taken @"
+    ++ (10 ∷ codes "bound @" ++ (10 ∷ []))))))
+    (c.jobs ∷ c.completed ∷ c.value ∷ c.abandoned ∷ c.lost ∷ c.taken ∷ c.bound ∷ []) ≡ in_lines (counts_lines c)
+unfolding filled
+in_template c =
+    let jobs : List ℕ = with_numbers (codes "jobs") (c.jobs ∷ []) in
+    let completed : List ℕ = with_numbers (codes "completed") (c.completed ∷ c.value ∷ []) in
+    let taken : List ℕ =
+    fed (with_numbers (codes "taken") (c.taken ∷ []) ∷ with_numbers (codes "bound") (c.bound ∷ []) ∷ []) in
+    ap (λ t. jobs ++ (10 ∷ codes "completed " ++ t)) (sym (append_assoc (decimal c.completed) (32 ∷ decimal c.value)
+    (10 ∷ codes "abandoned " ++ (decimal c.abandoned ++ (32 ∷ decimal c.lost ++ (10 ∷ taken))))))
+    ∙ ap (λ t. jobs ++ (10 ∷ completed ++ (10 ∷ codes "abandoned " ++ t)))
+    (sym (append_assoc (decimal c.abandoned) (32 ∷ decimal c.lost) (10 ∷ taken)))
+    ∙ fed_lines (counts_lines c)
 
 -- the value that these steps release is that of the jobs that they release
 released_values : (events : List Event) → all_released events ≡ total_value (jobs_released events)
 released_values [] = refl
-released_values (event.Release n j ∷ events) = omega (
-  arith,
-  sum_by-cons value_released (event.Release n j) events,
-  sum_by-cons (λ (i : JobFacts). i.value) j (jobs_released events),
-  released_values events,
-)
-released_values (event.Run at n ∷ events) =
-    omega (arith, sum_by-cons value_released (event.Run at n) events, released_values events)
-released_values (event.Preempt at stops starts ∷ events) =
-    omega (arith, sum_by-cons value_released (event.Preempt at stops starts) events, released_values events)
-released_values (event.Take at stops starts ∷ events) =
-    omega (arith, sum_by-cons value_released (event.Take at stops starts) events, released_values events)
-released_values (event.Complete at n ∷ events) =
-    omega (arith, sum_by-cons value_released (event.Complete at n) events, released_values events)
-released_values (event.Abandon at n ∷ events) =
-    omega (arith, sum_by-cons value_released (event.Abandon at n) events, released_values events)
-released_values (event.End value ∷ events) =
-    omega (arith, sum_by-cons value_released (event.End value) events, released_values events)
+released_values (e ∷ events) = sum_by-cons value_released e events
+    ∙ ap (λ n. value_released e + n) (released_values events) ∙ by_step e (jobs_released events) where
+      by_step : (e : Event) (jobs : List JobFacts)
+          → value_released e + total_value jobs ≡ total_value (cons_option (job_released e) jobs)
+      by_step (event.Release n job) jobs = sym (sum_by-cons (λ (j : JobFacts). j.value) job jobs)
+      by_step (event.Run at n) jobs = omega arith
+      by_step (event.Preempt at stops starts) jobs = omega arith
+      by_step (event.Take at stops starts) jobs = omega arith
+      by_step (event.Complete at n) jobs = omega arith
+      by_step (event.Abandon at n) jobs = omega arith
+      by_step (event.End value) jobs = omega arith
 
-module _ (k : Fraction) (jobs : List JobFacts) (valid : IsValid (stated k jobs)) where
-  -- the run of these jobs
-  of : IsRunOf k (printed (stated k jobs)) (stated k jobs)
-  of = record { valid = valid; ratio = refl; prints = refl }
+module _ (J : Instance) (k : Fraction) (jobs : ℕ) (tally : Tally) (it : CountsRun J k jobs tally) where
+  -- the value that was completed is that of a valid list
+  pub within : tally.value ≤ most_total
+  within = subst (λ (t : Tally). t.value ≤ most_total) (sym it.counted.counts)
+      (value_small k (printed J) J (own_run J k it.valid it.ratio))
 
-  -- the value that it completes is that of a valid list
-  pub value_within : completed_value (stated k jobs) ≤ most_total
-  value_within = value_small k (printed (stated k jobs)) (stated k jobs) of
-
-  -- the value of all jobs is completed or lost
-  pub value_in_parts : value_of (printed (stated k jobs)) + all_lost jobs (printed (stated k jobs))
-      ≡ all_released (printed (stated k jobs))
-  value_in_parts = lost_rest (stated k jobs) valid
-      ∙ ap total_value (sym (jobs_are k (printed (stated k jobs)) (stated k jobs) of))
-      ∙ sym (released_values (printed (stated k jobs)))
-
-  -- so what was counted as completed was released
-  pub value_released_first : (tally : Tally) → HasCounted tally (printed (stated k jobs))
-      → tally.value ≤ tally.released
-  value_released_first tally it = omega (
+  -- with what is lost it is all that was released
+  pub in_parts : tally.value + all_lost J.jobs (printed J) ≡ tally.released
+  in_parts = omega (
     arith,
-    value_in_parts,
-    ap (λ (t : Tally). t.value) it.counts,
-    ap (λ (t : Tally). t.released) it.counts,
+    lost_rest J it.valid,
+    ap total_value (jobs_are k (printed J) J (own_run J k it.valid it.ratio)),
+    released_values (printed J),
+    ap (λ (t : Tally). t.value) it.counted.counts,
+    ap (λ (t : Tally). t.released) it.counted.counts,
   )
 
-  -- and it is that of a valid list
-  pub tally_within : (tally : Tally) → HasCounted tally (printed (stated k jobs)) → tally.value ≤ most_total
-  tally_within tally it = subst (λ (t : Tally). t.value ≤ most_total) (sym it.counts) value_within
+  -- so the lines of the counts are the summary
+  pub told : (lost most : ℕ) → lost ≡ tally.released - tally.value → most ≡ bound k tally.value
+      → in_lines (counts_lines (counts_by jobs tally lost most)) ≡ summary J
+  told lost most rest bounds =
+      let of = own_run J k it.valid it.ratio in
+      ap (λ (c : Counts). in_lines (counts_lines c)) (counts_are k jobs lost tally most J.jobs (printed J) bounds
+      (sym it.size) it.counted.counts (omega (arith, in_parts, rest)))
+      ∙ ap in_lines (summary_is k (printed J) J of J.jobs (completed_value J) (sym (jobs_are k (printed J) J of)) refl)
 
-  -- the lines of the counts are the summary
-  pub summary_text : (c : Counts) → c ≡ counts_of k (printed (stated k jobs)) jobs (value_of (printed (stated k jobs)))
-      → in_lines (counts_lines c) ≡ summary (stated k jobs)
-  summary_text c is = ap (λ (x : Counts). in_lines (counts_lines x)) is
-      ∙ ap in_lines (summary_is k (printed (stated k jobs)) (stated k jobs) of jobs (completed_value (stated k jobs))
-      (sym (jobs_are k (printed (stated k jobs)) (stated k jobs) of)) refl)
-
--- the jobs of a seed are valid
-pub seed_valid : (seed count : ℕ) (k : Fraction) (jobs : List JobFacts) → IsRatio k → count ≤ most_jobs
-    → jobs ≡ generated_jobs seed count k
-    → IsValid (stated k jobs)
-seed_valid seed count k jobs ratio few is =
-    subst (λ js. IsValid (stated k js)) (sym is) (drawn.valid k ratio seed count One few)
+-- what was put behind nothing is all
+pub appended : (old new t : List ℕ) → old ≡ [] → new ≡ old ++ t → new ≡ t
+appended old new t none is = rw (is, none) refl
 
 -- what was put is the same text
 pub of_text : (old new : Option (List Move)) (status : Status) (t u : List ℕ) → t ≡ u → Since old new (Writes status t)
-    → Since old new
-    (Writes status u)
+    → Since old new (Writes status u)
 of_text old new status t u same it = subst (λ text. Since old new (Writes status text)) same it

@@ -1,5 +1,6 @@
 -- What the word `bait` writes.
 use Rattle.std.specs.Prelude.{ℕ, List, [], ◌∷◌, length, codes, ◌⊎◌}
+use Rattle.dover_model.specs.declared.events.Version.TheVariants.{One}
 use Rattle.dover_model.specs.Fraction.{Fraction}
 use Rattle.dover_model.specs.Instance.{Instance}
 use Rattle.dover_model.specs.Run.{completed_value}
@@ -10,36 +11,23 @@ use Rattle.dover_model.specs.Lines.{with_numbers, in_lines}
 use Rattle.dover_port.specs.Moves.{Move}
 use Rattle.dover_port.specs.declared.status.Status.{Status}
 use Rattle.adversary.specs.Baiting.{FitsLimits}
-use Rattle.trial_words.specs.Lists.{stated}
+use Rattle.adversary.specs.BaitingRuns.{baiting}
 use Rattle.trial_words.specs.Record.{Writes, Refuses}
-use Rattle.trial_words.specs.declared.bait.Baited.{Baited}
 
 -- the baiting feed of so many rounds
 abbrev pub bait_instance : Fraction → (rounds : ℕ) → Instance
-bait_instance k rounds = stated k (bait_jobs k rounds)
+bait_instance k rounds = baiting k One rounds
 
--- the lines of these numbers
-abbrev pub baited_lines : Baited → List (List ℕ)
-baited_lines b =
-    with_numbers (codes "jobs") (b.jobs ∷ [])
-    ∷ with_numbers (codes "value") (b.value ∷ [])
-    ∷ with_numbers (codes "schedule") (b.schedule ∷ [])
-    ∷ with_numbers (codes "bound") (b.bound ∷ [])
-    ∷ []
-
--- how many jobs the feed has, what its run completes, what the schedule of its unit jobs and its bait is worth, and the
--- bound
-abbrev pub baited_of : Fraction → (rounds : ℕ) → Baited
-baited_of k rounds = let value = completed_value (bait_instance k rounds) in record {
-  jobs = length (bait_jobs k rounds);
-  value = value;
-  schedule = worth (bait_instance k rounds) (bait_plan k rounds);
-  bound = bound k value;
-}
-
--- what is written of a feed that is within the limits
+-- what is written of a feed that is within the limits: how many jobs it has, what its run completes, what the schedule
+-- of its unit jobs and its bait is worth, and the bound
 abbrev pub bait_text : Fraction → (rounds : ℕ) → List ℕ
-bait_text k rounds = in_lines (baited_lines (baited_of k rounds))
+bait_text k rounds = let value = completed_value (bait_instance k rounds) in in_lines (
+    with_numbers (codes "jobs") (length (bait_jobs k rounds) ∷ [])
+    ∷ with_numbers (codes "value") (value ∷ [])
+    ∷ with_numbers (codes "schedule") (worth (bait_instance k rounds) (bait_plan k rounds) ∷ [])
+    ∷ with_numbers (codes "bound") (bound k value ∷ [])
+    ∷ []
+    )
 
 -- what is written of any other
 abbrev pub size_text : List ℕ

@@ -17,18 +17,3 @@ abbrev pub Refuses : Status → List ℕ → List Move → Type 0
 Refuses Refused text moves = ArePuts moves × (outs moves ≡ text)
 Refuses WriteFault text moves = ArePuts moves × IsProperPrefix (outs moves) text
 Refuses _ text moves = ⊥
-
--- the statuses of a call that writes
-abbrev pub IsDoneOrNotWritten : Status → Type 0
-IsDoneOrNotWritten Done = Unit {0}
-IsDoneOrNotWritten WriteFault = Unit {0}
-IsDoneOrNotWritten Memory = Unit {0}
-IsDoneOrNotWritten _ = ⊥
-
--- the same where only what fits is served, and anything else is refused
-abbrev pub IsAnswerFor : Status → (fits : Type 0) → Type 0
-IsAnswerFor Done fits = fits
-IsAnswerFor Memory fits = fits
-IsAnswerFor Refused fits = fits → ⊥
-IsAnswerFor WriteFault fits = Unit {0}
-IsAnswerFor _ fits = ⊥

@@ -3,8 +3,10 @@ use Rattle.std.specs.Prelude.{◌≡◌, ◌≤◌, ◌*◌, ℕ, List, length}
 use Rattle.std.specs.List.{fold, count_by, sum_by}
 use Rattle.dover_model.specs.declared.events.Event.{Event}
 use Rattle.dover_model.specs.declared.events.Event.TheVariants.{Release}
+use Rattle.dover_model.specs.Fraction.{Fraction}
+use Rattle.dover_model.specs.Instance.{Instance, IsValid}
 use Rattle.dover_model.specs.Limits.{most_value}
-use Rattle.dover_model.specs.Run.{value_of_end}
+use Rattle.dover_model.specs.Run.{printed, value_of_end}
 use Rattle.dover_model.specs.Reports.{is_take}
 use Rattle.dover_report.specs.Counts.{is_completion, is_abandonment}
 use Rattle.trial_words.specs.declared.tally.Tally.{Tally}
@@ -18,16 +20,12 @@ value_released _ = 0
 abbrev pub all_released : List Event → ℕ
 all_released events = sum_by value_released events
 
--- the value that End names among these steps, 0 without one
-abbrev pub value_of : List Event → ℕ
-value_of events = fold (λ value e. value_of_end e value) 0 events
-
--- the tally of these steps
+-- the tally of these steps, with the value that End names among them, 0 without one
 abbrev pub tally_of : List Event → Tally
 tally_of events = record {
   released = all_released events;
   completed = count_by is_completion events;
-  value = value_of events;
+  value = fold (λ value e. value_of_end e value) 0 events;
   abandoned = count_by is_abandonment events;
   taken = count_by is_take events;
 }
@@ -36,3 +34,10 @@ tally_of events = record {
 pub record HasCounted (tally : Tally) (events : List Event) : Type 0 where
   pub counts : tally ≡ tally_of events
   pub modest : all_released events ≤ most_value * length events
+
+-- the whole run of J was counted, which has so many jobs
+pub record CountsRun (J : Instance) (k : Fraction) (jobs : ℕ) (tally : Tally) : Type 0 where
+  pub valid : IsValid J
+  pub ratio : J.rules.ratio ≡ k
+  pub size : length J.jobs ≡ jobs
+  pub counted : HasCounted tally (printed J)

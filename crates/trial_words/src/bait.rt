@@ -1,79 +1,34 @@
 //! The word `bait`.
 ghost use Rattle.std.specs.Prelude.{◌≡◌, ◌≤◌};
-ghost use Rattle.dover_model.specs.Lines.{in_lines};
-ghost use Rattle.dover_port.specs.Causes.{Causes, HasCause, StopsAtFailure, StopsWith};
-ghost use Rattle.dover_port.specs.Moves.{Since, PutsThrough, PutsText};
-ghost use Rattle.adversary.specs.Baiting.{FitsLimits};
+ghost use Rattle.dialogue.specs.Talk.{CanEnd};
+ghost use Rattle.dover_port.specs.Causes.{Causes, StopsWith};
+ghost use Rattle.dover_port.specs.Moves.{Since};
 ghost use Rattle.adversary.specs.BaitingRuns.{CompletesLastAlone};
-ghost use Rattle.trial_words.specs.Baited.{Baits, baited_lines, bait_instance, size_text};
-ghost use Rattle.trial_words.specs.Record.{Refuses, IsAnswerFor};
+ghost use Rattle.trial_words.specs.Baited.{Baits, bait_instance, bait_text};
 
 use adversary::Bait;
 use dover_model::Ratio;
-use dover_port::{Failed, Output, Port, Status, put_all};
-use line_output::put_numbers;
+use dover_port::{Port, Status, put_all};
+use line_output::write_numbers;
+use line_text::BackLine;
 use root_compare::bound;
 
-/// What is said of a baiting feed: its jobs, the value that its run completes, the value of the given schedule, and the
-/// bound.
-#[derive(Clone, Copy)]
-struct Baited {
-    jobs: u64,
-    value: u64,
-    schedule: u64,
-    bound: u64,
-}
-
-/// Puts the lines of a baiting feed.
-fn put_baited<P: Port>(port: &mut P, out: &mut Output, baited: &Baited) -> Result<(), Failed>
-    ensures text { PutsThrough (P.moves port.old) (P.moves port.new) result out.old out.new
-        (in_lines (baited_lines baited.now)) }
-    ensures cause { HasCause (P.write_faults port.old) (P.write_faults port.new) (P.read_faults port.old)
-        (P.read_faults port.new) result }
-    ensures stops { StopsAtFailure (P.calls port.old) (P.calls port.new) result }
+/// What is written of a feed with this ratio: its jobs, the value that its run completes, the value of the given
+/// schedule, and the bound.
+fn text_of(feed: &Bait, k: Ratio) -> BackLine
+    requires { feed.now.ratio ≡ k }
+    ensures text { result ≡ bait_text feed.now.ratio feed.now.rounds }
+    ensures alone { CompletesLastAlone feed.now.ratio feed.now.rounds
+        (bait_instance feed.now.ratio feed.now.rounds) }
 {
-    match put_numbers(port, out, b"jobs", &[baited.jobs]) {
-        Ok(()) => {}
-        Err(failed) => return Err(failed),
-    }
-    match put_numbers(port, out, b"value", &[baited.value]) {
-        Ok(()) => {}
-        Err(failed) => return Err(failed),
-    }
-    match put_numbers(port, out, b"schedule", &[baited.schedule]) {
-        Ok(()) => {}
-        Err(failed) => return Err(failed),
-    }
-    put_numbers(port, out, b"bound", &[baited.bound])
-}
-
-/// Writes the lines of a baiting feed.
-fn write_baited<P: Port>(port: &mut P, baited: &Baited) -> Result<(), Failed>
-    ensures text { PutsText (P.moves port.old) (P.moves port.new) result (in_lines (baited_lines baited.now)) }
-    ensures cause { HasCause (P.write_faults port.old) (P.write_faults port.new) (P.read_faults port.old)
-        (P.read_faults port.new) result }
-    ensures stops { StopsAtFailure (P.calls port.old) (P.calls port.new) result }
-{
-    let mut out = Output::new();
-    match put_baited(port, &mut out, baited) {
-        Ok(()) => {}
-        Err(failed) => return Err(failed),
-    }
-    out.flush(port)
-}
-
-/// Refuses a feed that is too large.
-fn refuse_size<P: Port>(port: &mut P) -> Status
-    ensures text { Since (P.moves port.old) (P.moves port.new) (Refuses result size_text) }
-    ensures answer { IsAnswerFor result ⊥ }
-    ensures causes { Causes result (P.read_faults port.old) (P.read_faults port.new) (P.write_faults port.old)
-        (P.write_faults port.new) }
-    ensures stops { StopsWith result (P.calls port.old) (P.calls port.new) }
-{
-    match put_all(port, b"refused size\n") {
-        Ok(()) => Status::Refused,
-        Err(_) => Status::WriteFault,
-    }
+    let jobs = u64::from(feed.jobs());
+    let value = feed.value();
+    let mut text = BackLine::new();
+    write_numbers(&mut text, b"\nbound", &[bound(value, k)]);
+    write_numbers(&mut text, b"\nschedule", &[feed.schedule_value()]);
+    write_numbers(&mut text, b"\nvalue", &[value]);
+    write_numbers(&mut text, b"jobs", &[jobs]);
+    text
 }
 
 /// Writes of the baiting feed of so many rounds, at least one, how many jobs it has, the value that its run completes,
@@ -83,23 +38,19 @@ fn refuse_size<P: Port>(port: &mut P) -> Status
 pub fn bait_word<P: Port>(port: &mut P, k: Ratio, rounds: u32) -> Status
     requires rounds { 1 ≤ rounds }
     ensures baits { Since (P.moves port.old) (P.moves port.new) (Baits k rounds result) }
+    ensures ends { CanEnd (Baits k rounds) result }
     ensures alone { result ≡ Status.Done → CompletesLastAlone k rounds (bait_instance k rounds) }
-    ensures answer { IsAnswerFor result (FitsLimits k rounds) }
     ensures causes { Causes result (P.read_faults port.old) (P.read_faults port.new) (P.write_faults port.old)
         (P.write_faults port.new) }
     ensures stops { StopsWith result (P.calls port.old) (P.calls port.new) }
 {
     let Some(feed) = Bait::new(k, rounds) else {
-        return refuse_size(port);
+        return match put_all(port, b"refused size\n") {
+            Ok(()) => Status::Refused,
+            Err(_) => Status::WriteFault,
+        };
     };
-    let value = feed.value();
-    let baited = Baited {
-        jobs: u64::from(feed.jobs()),
-        value,
-        schedule: feed.schedule_value(),
-        bound: bound(value, k),
-    };
-    match write_baited(port, &baited) {
+    match put_all(port, text_of(&feed, k).bytes()) {
         Ok(()) => Status::Done,
         Err(_) => Status::WriteFault,
     }

@@ -3,7 +3,6 @@
 
 mod bait;
 mod drawn;
-mod lines;
 mod tally;
 mod trial;
 

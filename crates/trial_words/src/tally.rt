@@ -1,11 +1,11 @@
 //! What is counted of a run while it goes on.
-ghost use Rattle.std.specs.Prelude.{◌≡◌, ◌≤◌};
-ghost use Rattle.dover_model.specs.Limits.{most_total};
+ghost use Rattle.std.specs.Prelude.{◌≡◌};
 
-use dover_model::{Event, Ratio};
-use dover_report::Counts;
+use dover_model::{Event, Memory, Ratio};
 use list_run::Watcher;
 use root_compare::bound;
+use run_view::template::put;
+use std::alloc::Global;
 
 /// What was counted of the printed steps so far: the value of the released jobs, how many are done and the value that
 /// End names, how many are gone, takes.
@@ -19,11 +19,10 @@ pub(crate) struct Tally {
 }
 
 impl Tally {
-    ghost use Rattle.std.specs.Prelude.{◌+◌, [], List, length};
-    ghost use Rattle.dover_model.specs.declared.events.Event.{Event};
-    ghost use Rattle.dover_model.specs.JobFacts.{JobFacts};
-    ghost use Rattle.dover_report.specs.Counts.{counts_of, all_lost};
-    ghost use Rattle.trial_words.specs.Tallied.{tally_of, value_of, all_released};
+    ghost use Rattle.std.specs.Prelude.{[], IfOk};
+    ghost use Rattle.dover_model.specs.Instance.{Instance};
+    ghost use Rattle.dover_model.specs.Reports.{summary};
+    ghost use Rattle.trial_words.specs.Tallied.{tally_of, CountsRun};
 
     /// Nothing was printed yet.
     pub(crate) fn new() -> Tally
@@ -38,23 +37,27 @@ impl Tally {
         }
     }
 
-    /// What the summary says of a run of so many jobs, whose value is completed or lost.
-    pub(crate) fn counts(&self, jobs: u32, k: Ratio) -> Counts
-        requires value { self.now.value ≤ most_total }
-        requires part { self.now.value ≤ self.now.released }
-        ensures { (all : List JobFacts) (events : List Event) → jobs ≡ length all → self.now ≡ tally_of events
-            → value_of events + all_lost all events ≡ all_released events
-            → result ≡ counts_of k events all (value_of events) }
+    /// The summary of the run that was counted, which has so many jobs. Want of memory is the only error.
+    pub(crate) fn summary(&self, alloc: Global, jobs: u32, k: Ratio) -> Result<Vec<u8>, Memory>
+        requires { (J : Instance) × CountsRun J k jobs self.now }
+        ensures { (J : Instance) → CountsRun J k jobs self.now → IfOk result (λ text. text.items ≡ summary J) }
     {
-        Counts {
-            jobs: u64::from(jobs),
-            completed: self.completed,
-            value: self.value,
-            abandoned: self.abandoned,
-            lost: self.released - self.value,
-            taken: self.taken,
-            bound: bound(self.value, k),
-        }
+        let numbers = [
+            u64::from(jobs),
+            self.completed,
+            self.value,
+            self.abandoned,
+            self.released - self.value,
+            self.taken,
+            bound(self.value, k),
+        ];
+        let mut text = Vec::new(alloc);
+        put(
+            &mut text,
+            b"jobs @\ncompleted @ @\nabandoned @ @\ntaken @\nbound @\n",
+            &numbers,
+        )?;
+        Ok(text)
     }
 }
 

@@ -1,32 +1,24 @@
 //! The word `trial`.
 ghost use Rattle.std.specs.Prelude.{◌≡◌, ◌<◌, ◌≤◌, ◌^◌};
-ghost use Rattle.dover_model.specs.Fraction.{IsRatio};
+ghost use Rattle.dialogue.specs.Talk.{CanEnd};
 ghost use Rattle.dover_model.specs.Limits.{most_jobs};
 ghost use Rattle.dover_model.specs.Reports.{summary};
 ghost use Rattle.dover_port.specs.Causes.{Causes, StopsWith};
 ghost use Rattle.dover_port.specs.Moves.{Since};
 ghost use Rattle.trial_words.specs.Lists.{trial_instance};
-ghost use Rattle.trial_words.specs.Record.{Writes, IsDoneOrNotWritten};
+ghost use Rattle.trial_words.specs.Record.{Writes};
 ghost use Rattle.queued_jobs.specs.Spending.{CostsAtMost};
 
 use crate::drawn::Drawn;
-use crate::lines::write_summary;
 use crate::tally::Tally;
 use dover_model::{Ratio, Version};
-use dover_port::{Port, Status};
+use dover_port::{Port, Status, put_all};
 use list_run::run_list;
 use ready_server::ReadyServer;
 use std::alloc::Global;
 use std::sync::ledger::Ledger;
 use step_count::Steps;
 use trial_jobs::Gen;
-
-// The numbers of a ratio are within its limits, as reading one of them tells.
-fn keeps_limits(k: Ratio)
-    ensures { IsRatio k }
-{
-    let _ = k.p();
-}
 
 /// Serves the stated jobs of a seed, and writes the summary of their run: the jobs, those that were completed and
 /// abandoned with their values, the takes, and the bound on the value of every schedule. Nothing is read. The seed is
@@ -43,13 +35,14 @@ pub fn trial_word<P: Port, L: Ledger>(
     requires count { count ≤ most_jobs }
     ensures writes { Since (P.moves port.old) (P.moves port.new)
         (Writes result (summary (trial_instance k seed count))) }
-    ensures answer { IsDoneOrNotWritten result }
+    ensures ends { CanEnd (λ status. Writes status (summary (trial_instance k seed count))) result }
     ensures causes { Causes result (P.read_faults port.old) (P.read_faults port.new) (P.write_faults port.old)
         (P.write_faults port.new) }
     ensures stops { StopsWith result (P.calls port.old) (P.calls port.new) }
     ensures count { result ≡ Status.Done → CostsAtMost count steps.old steps.new }
 {
-    keeps_limits(k);
+    // That the numbers of a ratio are within its limits is what reading one of them tells.
+    let _ = k.p();
     let mut jobs = Drawn(Gen::new(seed, count, k));
     let mut tally = Tally::new();
     let Ok(()) = run_list::<ReadyServer, Drawn, Tally, L>(
@@ -62,7 +55,10 @@ pub fn trial_word<P: Port, L: Ledger>(
     ) else {
         return Status::Memory;
     };
-    match write_summary(port, &tally.counts(count, k)) {
+    let Ok(text) = tally.summary(alloc, count, k) else {
+        return Status::Memory;
+    };
+    match put_all(port, &text) {
         Ok(()) => Status::Done,
         Err(_) => Status::WriteFault,
     }

@@ -1,0 +1,19 @@
+use Rattle.std.proofs.Common.{◌≤◌, ◌∙◌, sym, ap, subst}
+use Rattle.dover_model.specs.Bound.{bound}
+use Rattle.dover_model.specs.Limits.{most_total}
+use Rattle.trial_words.proofs.Baiting.{value_within, written, told}
+use Rattle.trial_words.proofs.bait.text_of.Goals as goal
+
+pub bound-requires : goal.bound-requires
+bound-requires c = record {
+  completed = subst (λ v. v ≤ most_total) (sym c.value-value.ensures.completed)
+      (value_within _ _ c.jobs.ensures.ratio c.jobs.ensures.some c.jobs.ensures.fits);
+}
+
+pub returns-clause-text : goal.returns-clause-text
+returns-clause-text c =
+    written c.from-jobs.result c.value-value.result c.schedule_value.result c.bound.result _ _ _ _ _ c.new-text.ensures
+    c.write_numbers.ensures.is c.write_numbers-2.ensures.is c.write_numbers-3.ensures.is c.write_numbers-4.ensures.is
+    ∙ told c.args.feed.now.ratio c.args.feed.now.rounds _ _ _ _ (c.from-jobs.ensures ∙ c.jobs.ensures.count)
+    c.value-value.ensures.completed c.schedule_value.ensures.worth
+    (c.bound.ensures.is ∙ ap (λ k. bound k c.value-value.result) (sym c.requires))
