@@ -9,7 +9,7 @@ use Rattle.run_view.specs.declared.window.Window.{Window}
 use Rattle.dover_model.specs.Fraction.{Fraction, IsRatio}
 use Rattle.dover_model.specs.Numerals.{numeral}
 use Rattle.dover_model.proofs.Numerals.{numeral-decimal}
-use Rattle.dover_top.specs.Requests.{Asks, MayCarry}
+use Rattle.dover_top.specs.Requests.{Asks}
 use Rattle.dover_top.specs.Words.{spelled}
 use Rattle.dover_top.specs.declared.request.Request.{Request}
 use Rattle.dover_top.specs.declared.request.Request.TheVariants.{Serve, Judge, Report, Trial, Bait, Ask, Lanes, Pause}
@@ -127,16 +127,3 @@ is_read words (Unroll until) asks = ap request_of asks.row
 -- words that ask for two things ask for one
 pub asks_one : (words : List (String Global)) (r other : Request) → Asks words r → Asks words other → r ≡ other
 asks_one words r other one two = sym (is_read words r one) ∙ is_read words other two
-
--- what words ask for is within the limits of its word
-pub may_carry : (words : List (String Global)) (r : Request) → Asks words r → MayCarry r
-may_carry words Serve asks = tt
-may_carry words Judge asks = tt
-may_carry words (Report form) asks = tt
-may_carry words (Trial seed count k) asks = (asks.small, asks.few)
-may_carry words (Bait k rounds) asks = asks.some
-may_carry words (Ask question) asks = tt
-may_carry words Lanes asks = tt
-may_carry words Pause asks = tt
-may_carry words (Resume at_end) asks = tt
-may_carry words (Unroll until) asks = asks.known

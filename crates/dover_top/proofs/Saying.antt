@@ -1,17 +1,15 @@
 -- What a call says and keeps, for each row of words.
-use Rattle.std.proofs.Common.{◌≡◌, ℕ, List, [], ◌∷◌, refl, sym, subst, ◌∙◌, append-nil, ◌⊎◌, inl, inr, Option, String}
+use Rattle.std.proofs.Common.{◌≡◌, ℕ, List, refl, sym, subst, ◌∙◌, ◌⊎◌, inl, inr, Option, String}
 use Rattle.std.specs.declared.alloc.Global.{Global}
 use Rattle.dover_model.specs.Fraction.{Fraction}
 use Rattle.dover_port.specs.Moves.{Move, Since, ins, outs, has_ended}
-use Rattle.dover_port.specs.Moves.Move.{Put}
 use Rattle.dover_port.specs.declared.status.Status.{Status}
 use Rattle.dover_port.specs.declared.status.Status.TheVariants.{Done, No, Refused, ReadFault, WriteFault, Memory, Usage}
 use Rattle.dover_port.proofs.Made.{since_weaker}
 use Rattle.dialogue.specs.Talk.{Talks, CanEnd}
 use Rattle.adversary.specs.Baiting.{FitsLimits}
 use Rattle.serve_word.specs.declared.at_end.AtEnd.TheVariants as ends
-use Rattle.trial_words.specs.Record.{Writes, IsDoneOrNotWritten, IsAnswerFor}
-use Rattle.trial_words.specs.Baited.{Baits, bait_text, size_text}
+use Rattle.trial_words.specs.Baited.{Baits}
 use Rattle.question_words.specs.Questions.{says}
 use Rattle.question_words.specs.Compare as compared
 use Rattle.question_words.specs.declared.question.Question.{Question}
@@ -21,7 +19,8 @@ use Rattle.dover_top.specs.Says.{Says}
 use Rattle.dover_top.specs.Keeps.{Keeps}
 use Rattle.dover_top.specs.Promises.{AreServed, HaveEnded, KeepsBaits}
 use Rattle.dover_top.specs.Requests.{Asks}
-use Rattle.dover_top.specs.Spending.{IsFrugal}
+use Rattle.dover_top.specs.Carrying.{CarriesOut}
+use Rattle.dover_top.specs.Spending.{IsFrugal, IsFrugalAsAsked}
 use Rattle.dover_top.specs.declared.request.Request.{Request}
 use Rattle.dover_top.specs.declared.request.Request.TheVariants.{Serve, Judge, Report, Trial, Bait, Ask, Lanes, Pause}
 use Rattle.dover_top.specs.declared.request.Request.TheVariants.{Resume, Unroll}
@@ -29,28 +28,7 @@ use Rattle.dover_top.proofs.Asking.{asks_one}
 use Rattle.dover_top.proofs.Keeping.{served, traced, resumed_so, accepted, ran, generated, baited}
 use Rattle.dover_top.proofs.ServedLanes.{are_served, have_ended}
 
--- ---- the statuses, whatever the port tells
-
--- a text that was written
-pub tried : (text : List ℕ) (status : Status) → IsDoneOrNotWritten status → CanEnd (λ s. Writes s text) status
-tried text Done answer = inr (Put text ∷ [], (tt, append-nil text))
-tried text WriteFault answer = inl refl
-tried text Memory answer = inr ([], refl)
-tried text No answer = absurd answer
-tried text Refused answer = absurd answer
-tried text ReadFault answer = absurd answer
-tried text Usage answer = absurd answer
-
--- or one that refuses
-pub given : (k : Fraction) (rounds : ℕ) (status : Status) → IsAnswerFor status (FitsLimits k rounds)
-    → CanEnd (Baits k rounds) status
-given k rounds Done fits = inr (Put (bait_text k rounds) ∷ [], inl (fits, (tt, append-nil (bait_text k rounds))))
-given k rounds Memory fits = inr ([], inl (fits, refl))
-given k rounds Refused large = inr (Put size_text ∷ [], inr (large, (tt, append-nil size_text)))
-given k rounds WriteFault answer = inl refl
-given k rounds No answer = absurd answer
-given k rounds ReadFault answer = absurd answer
-given k rounds Usage answer = absurd answer
+-- ---- Usage
 
 -- no request says anything with Usage
 no_usage : (r : Request) (moves : List Move) → Says r Usage moves → ⊥
@@ -129,13 +107,27 @@ asked_frugal question WriteFault before now moves few = tt
 asked_frugal question Memory before now moves few = tt
 asked_frugal question Usage before now moves few = tt
 
--- ---- of a call, for whatever its words ask
+-- ---- of a call
 
-module _ (words : List (String Global)) (request : Request) (asks : Asks words request) (a b : Option (List Move))
-    (status : Status) (says : Since a b (Says request status)) where
-  pub call_talks : (r : Request) → Asks words r → Since a b (Says r status)
-  call_talks r other = subst (λ q. Since a b (Says q status)) (asks_one words request r asks other) says
+-- what is said of a request that is this one
+pub carried : (request r : Request) (status : Status) (old new : Option (List Move)) (before now : ℕ) → request ≡ r
+    → Since old new (Says r status) → CanEnd (Says r) status → Since old new (IsFrugal r status before now)
+    → (status ≡ Done → IsFrugalAsAsked r before now) → CarriesOut request status old new before now
+carried request r status old new before now is talks ends comparisons stated =
+    subst (λ q. CarriesOut q status old new before now) (sym is)
+    (record { talks = talks; ends = ends; comparisons = comparisons; stated = stated })
 
-  pub call_promises : (r : Request) → Asks words r → Since a b (Keeps r status)
-  call_promises r other = subst (λ q. Since a b (Keeps q status)) (asks_one words request r asks other)
-      (since_weaker a b _ _ says (λ moves s. keeps_of moves words request asks status s))
+-- what is left for whatever the words ask for
+module _ (words : List (String Global)) (request : Request) (asks : Asks words request) (status : Status)
+    (old new : Option (List Move)) (before now : ℕ) (it : CarriesOut request status old new before now) where
+  pub for_all : (r : Request) → Asks words r → CarriesOut r status old new before now
+  for_all r other = subst (λ q. CarriesOut q status old new before now) (asks_one words request r asks other) it
+
+  pub keeps_all : (r : Request) → Asks words r → Since old new (Keeps r status)
+  keeps_all r other = since_weaker old new _ _ (for_all r other).talks
+      (λ moves said. keeps_of moves words r other status said)
+
+-- what no words ask for
+pub asked_none : (A : Request → Type 0) (words : List (String Global)) → ((r : Request) → Asks words r → ⊥)
+    → (r : Request) → Asks words r → A r
+asked_none A words none r asks = absurd (none r asks)

@@ -4,3 +4,4 @@ pub mod Requests
 pub mod Says
 pub mod Keeps
 pub mod Spending
+pub mod Carrying

@@ -1,6 +1,5 @@
 -- How many comparisons a call makes, for each row of words.
-use Rattle.std.specs.Prelude.{ℕ, List, length}
-use Rattle.dover_model.specs.Bait.{bait_jobs}
+use Rattle.std.specs.Prelude.{◌≡◌, ℕ, List}
 use Rattle.queued_jobs.specs.Spending.{CostsAtMost}
 use Rattle.dover_port.specs.Moves.{Move}
 use Rattle.dover_port.specs.declared.status.Status.{Status}
@@ -23,8 +22,8 @@ IsFrugal (Resume at_end) status before now = resumed.IsFrugal before now
 IsFrugal (Ask question) Done before now = compared.IsFrugal before now
 IsFrugal _ _ before now = λ moves. Unit {0}
 
--- the same where the words alone tell how many jobs there are
+-- the same where the words alone tell how many jobs there are, and where none are served
 abbrev pub IsFrugalAsAsked : Request → (before now : ℕ) → Type 0
 IsFrugalAsAsked (Trial seed count k) before now = CostsAtMost count before now
-IsFrugalAsAsked (Bait k rounds) before now = CostsAtMost (length (bait_jobs k rounds)) before now
+IsFrugalAsAsked (Bait k rounds) before now = now ≡ before
 IsFrugalAsAsked _ before now = Unit {0}

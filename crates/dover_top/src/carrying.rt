@@ -1,11 +1,9 @@
 //! Carrying out what is asked for.
-ghost use Rattle.std.specs.Prelude.{◌≡◌};
+ghost use Rattle.std.specs.Prelude.{List, String};
+ghost use Rattle.std.specs.declared.alloc.Global.{Global};
 ghost use Rattle.dover_port.specs.Causes.{Causes, StopsWith};
-ghost use Rattle.dover_port.specs.Moves.{Since};
-ghost use Rattle.dialogue.specs.Talk.{CanEnd};
-ghost use Rattle.dover_top.specs.Requests.{MayCarry};
-ghost use Rattle.dover_top.specs.Says.{Says};
-ghost use Rattle.dover_top.specs.Spending.{IsFrugal, IsFrugalAsAsked};
+ghost use Rattle.dover_top.specs.Carrying.{CarriesOut};
+ghost use Rattle.dover_top.specs.Requests.{Asks};
 
 use crate::request::Request;
 use dover_port::{Port, Status};
@@ -21,18 +19,15 @@ use step_count::Steps;
 use trial_words::{bait_word, trial_word};
 use unroll_word::unroll_word;
 
-/// Carries out a request.
+/// Carries out a request that some words ask for.
 pub(crate) fn carry_out<P: Port, L: Ledger>(
     alloc: Global,
     request: Request,
     port: &mut P,
     steps: &mut Steps<L>,
 ) -> Status
-    requires { MayCarry request }
-    ensures talks { Since (P.moves port.old) (P.moves port.new) (Says request result) }
-    ensures ends { CanEnd (Says request) result }
-    ensures comparisons { Since (P.moves port.old) (P.moves port.new) (IsFrugal request result steps.old steps.new) }
-    ensures stated { result ≡ Status.Done → IsFrugalAsAsked request steps.old steps.new }
+    requires { (words : List (String Global)) × Asks words request }
+    ensures carries { CarriesOut request result (P.moves port.old) (P.moves port.new) steps.old steps.new }
     ensures causes { Causes result (P.read_faults port.old) (P.read_faults port.new) (P.write_faults port.old)
         (P.write_faults port.new) }
     ensures stops { StopsWith result (P.calls port.old) (P.calls port.new) }

@@ -76,7 +76,7 @@ pub fn dover<P: Port, L: Ledger>(
     // questions at Done.
     ensures comparisons { (request : Request) → Asks words.now request →
         Since (P.moves port.old) (P.moves port.new) (IsFrugal request result steps.old steps.new) }
-    // trial and bait at Done, where the words alone tell how many jobs there are.
+    // trial at Done, where the words alone tell how many jobs there are; bait makes none.
     ensures stated { (request : Request) → Asks words.now request → result ≡ Status.Done →
         IsFrugalAsAsked request steps.old steps.new }
 

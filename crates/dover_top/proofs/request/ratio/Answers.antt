@@ -8,9 +8,9 @@ returns-clause-none c = λ none k allowed spells_p spells_q.
     let small_p : k.p < 10 ^ 18 = omega (arith, allowed.small_p) in
     let small_q : k.q < 10 ^ 18 = omega (arith, allowed.small_q, allowed.above_one, allowed.small_p) in
     let p : c.in_ok-p.p ≡ k.p =
-    decimal_same _ _ _ (omega (arith, c.in_ok-p.ensures.some.1)) small_p c.in_ok-p.ensures.some.0 spells_p in
+    decimal_same _ _ _ (omega (arith, c.in_ok-p.ensures.some.2)) small_p c.in_ok-p.ensures.some.0 spells_p in
     let q : c.in_ok-q.q ≡ k.q =
-    decimal_same _ _ _ (omega (arith, c.in_ok-q.ensures.some.1)) small_q c.in_ok-q.ensures.some.0 spells_q in
+    decimal_same _ _ _ (omega (arith, c.in_ok-q.ensures.some.2)) small_q c.in_ok-q.ensures.some.0 spells_q in
     refused _ none (c.new.ensures.allowed.1 (same_ratio _ _ k p q allowed)) where
       refused : (k : Option Fraction) → IsNone k → IsSome k → ⊥
       refused None none some = absurd (let clash : false ≡ true = some in cc)
