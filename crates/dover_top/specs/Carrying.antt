@@ -9,8 +9,9 @@ use Rattle.dover_top.specs.Spending.{IsFrugal, IsFrugalAsAsked}
 use Rattle.dover_top.specs.declared.request.Request.{Request}
 
 -- It ended with this status, between these moves of the port and these counts of comparisons.
-pub record CarriesOut (request : Request) (status : Status) (old new : Option (List Move)) (before now : ℕ) : Type 0 where
-  pub talks : Since old new (Says request status)
-  pub ends : CanEnd (Says request) status
-  pub comparisons : Since old new (IsFrugal request status before now)
-  pub stated : status ≡ Done → IsFrugalAsAsked request before now
+pub record CarriesOut (request : Request) (status : Status) (old new : Option (List Move)) (before now : ℕ) : Type 0
+  where
+    pub talks : Since old new (Says request status)
+    pub ends : CanEnd (Says request) status
+    pub comparisons : Since old new (IsFrugal request status before now)
+    pub stated : status ≡ Done → IsFrugalAsAsked request before now

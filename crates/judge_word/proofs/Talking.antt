@@ -105,7 +105,8 @@ by_verdict (Short lines) x tells = (tt, inr (lines, tells))
 module _ (told : model.Verdict → List ℕ) (lacks : List ℕ → Bool → Type 0) (v : Verdict) (x : List ℕ) (ended : Bool)
     (tells : Tells v x) (a b : Option (List Move)) (q : List ℕ) where
   -- what is told of it was put
-  pub told_put : Passes a b [] q (told (verdict x)) → AnswersBy (judging_talk told lacks) x ended a b q (Ok (status_of v))
+  pub told_put : Passes a b [] q (told (verdict x))
+      → AnswersBy (judging_talk told lacks) x ended a b q (Ok (status_of v))
   told_put put = let it = by_verdict v x tells in (it.0, (told (verdict x), (it.1, refl), put))
 
   -- it couldn't be put

@@ -1,5 +1,6 @@
 -- What is put at the end of a feed is an answer.
-use Rattle.std.proofs.Common.{◌≡◌, ℕ, List, ◌∷◌, [], sym, ap, ◌∙◌, subst, Bool, true, false, inl, inr, Option, Result, Ok, Err}
+use Rattle.std.proofs.Common.{◌≡◌, ℕ, List, ◌∷◌, [], sym, ap, ◌∙◌, subst, Bool, true, false, inl, inr, Option}
+use Rattle.std.proofs.Common.{Result, Ok, Err}
 use Rattle.dover_model.specs.Due.{fault_text}
 use Rattle.dover_model.specs.Feed as feeds
 use Rattle.dover_model.specs.Feed.{account}

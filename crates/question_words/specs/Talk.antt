@@ -13,7 +13,8 @@ use Rattle.dialogue.specs.Talk.{Talk}
 abbrev pub Says : Type 1
 Says = Instance → Status → List ℕ → Type 0
 
--- the line of the fault of this feed, or, where the input ended behind these bytes before the feed did, that it is short
+-- the line of the fault of this feed, or, where the input ended behind these bytes before the feed did, the line that
+-- says so
 abbrev pub IsRefusal : List ℕ → Bool → List ℕ → Type 0
 IsRefusal bytes ended text =
     ((line : ℕ) × (cause : Cause) × ((account bytes).standing ≡ Faulty line cause)

@@ -195,6 +195,7 @@ ticks_next k v r runs some stale still early =
     ∙ ap (λ b. then_some b (Prints (Complete v.clock r.number)) or_else decision v (Some r) v.fresh
     or_else arrival v v.coming or_else alarm k v (Some r) v.must_start or_else Ticks)
     (ne_eqb (left r) 0 (λ none. omega (arith, some, none)))
-    ∙ ap (λ f. decision v (Some r) f or_else arrival v v.coming or_else alarm k v (Some r) v.must_start or_else Ticks) stale
+    ∙ ap (λ f. decision v (Some r) f or_else arrival v v.coming or_else alarm k v (Some r) v.must_start or_else Ticks)
+    stale
     ∙ ap (λ c. arrival v c or_else alarm k v (Some r) v.must_start or_else Ticks) still
     ∙ ap (λ x. alarm k v (Some r) x or_else Ticks) early

@@ -46,8 +46,8 @@ module _ (k : Fraction) (version : Version) (value most jobs : ℕ) (text : List
     -- the report was put
     pub reported : (x : Unit {0}) → Puts (Ok x) a b (report_text form (instance_of tells.0))
         → AnswersBy (report_talk form) text ended a b q (Ok Done)
-    reported x put = told_put (told form) (report_talk form).lacks (Accepted k version value most jobs) text ended tells a b q
-        (subst (Passes a b [] q) told_report (rw none put))
+    reported x put = told_put (told form) (report_talk form).lacks (Accepted k version value most jobs) text ended tells
+        a b q (subst (Passes a b [] q) told_report (rw none put))
 
     -- it wasn't
     pub unreported : (stop : Stop) → Puts {T = Unit {0}} (Err stop) a b (report_text form (instance_of tells.0))

@@ -15,7 +15,8 @@ returns-in-Some g c =
     (subst (CanEnd (Says c.in-Some.request)) e c.carry_out.ensures.carries.ends) in
     record {
       talks = λ r asks. (all r asks).talks;
-      promises = keeps_all c.args.words.now c.in-Some.request c.in-Some.ensures.some _ _ _ _ _ c.carry_out.ensures.carries;
+      promises = keeps_all c.args.words.now c.in-Some.request c.in-Some.ensures.some _ _ _ _ _
+          c.carry_out.ensures.carries;
       ends = λ r asks. (all r asks).ends;
       comparisons = λ r asks. (all r asks).comparisons;
       stated = λ r asks. (all r asks).stated;

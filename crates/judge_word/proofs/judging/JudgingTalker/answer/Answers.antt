@@ -10,14 +10,14 @@ returns-in_default-clause-answers g c = λ a x at over. never (c.in_default.ensu
 pub returns-in-Ok-put_verdict-clause-answers : goal.returns-in-Ok-put_verdict-clause-answers
 returns-in-Ok-put_verdict-clause-answers g c = λ a x at over.
     let tells = c.in-Ok.ensures.tells x at.stands in
-    rw c.status_of.ensures (told_put verdict_text (λ bytes ended. ended ≡ false) c.in-Ok.closed.verdict x c.args._ended tells _ _ _
-    (rw c.requires.empty at (c.in-Ok-put_verdict.ensures.text x tells).all))
+    rw c.status_of.ensures (told_put verdict_text (λ bytes ended. ended ≡ false) c.in-Ok.closed.verdict x
+    c.args._ended tells _ _ _ (rw c.requires.empty at (c.in-Ok-put_verdict.ensures.text x tells).all))
 
 pub returns-clause-answers : goal.returns-clause-answers
 returns-clause-answers g c = λ a x at over.
     let tells = c.in-Ok.ensures.tells x at.stands in
-    told_cut verdict_text (λ bytes ended. ended ≡ false) c.in-Ok.closed.verdict x c.args._ended tells _ _ c.put_verdict.new.out
-    (rw c.requires.empty at (c.in-Err.ensures.text x tells).part)
+    told_cut verdict_text (λ bytes ended. ended ≡ false) c.in-Ok.closed.verdict x c.args._ended tells _ _
+    c.put_verdict.new.out (rw c.requires.empty at (c.in-Err.ensures.text x tells).part)
 
 pub returns-in_default-clause-spent : goal.returns-in_default-clause-spent
 returns-in_default-clause-spent g c = λ a x at. spent _ _ a _ x at

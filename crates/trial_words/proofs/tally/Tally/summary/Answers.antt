@@ -14,4 +14,5 @@ pub returns : goal.returns
 returns c J it = appended _ _ _ c.new-text.ensures.items c.in_ok-put.ensures
     ∙ in_template (counts_by c.from.result c.args.self.now _ c.bound.result)
     ∙ told J c.args.k c.from.result c.args.self.now
-    (subst (λ n. CountsRun J c.args.k n c.args.self.now) (sym c.from.ensures) it) _ c.bound.result refl c.bound.ensures.is
+    (subst (λ n. CountsRun J c.args.k n c.args.self.now) (sym c.from.ensures) it) _ c.bound.result refl
+    c.bound.ensures.is
