@@ -26,7 +26,7 @@ wrong_front line = line_of (codes "wrong" ∷ decimal line ∷ codes "expected "
 abbrev pub verdict_line : Verdict → List ℕ
 verdict_line (Accepted S) = let value : ℕ = completed_value (instance_of S) in
     with_numbers (codes "accepted") (value ∷ bound S.rules.ratio value ∷ [])
-verdict_line (Wrong line due) = wrong_front line ++ expected_text due
+verdict_line (Wrong line due) = line_of (codes "wrong" ∷ decimal line ∷ codes "expected" ∷ expected_text due ∷ [])
 verdict_line (Short lines) = with_numbers (codes "short") (lines ∷ [])
 
 -- with its line feed
