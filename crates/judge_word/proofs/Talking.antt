@@ -11,7 +11,7 @@ use Rattle.trace_judge.specs.Judging.{StandsFor, HasPaidFor, Fed, PaysFor, Tells
 use Rattle.trace_judge.proofs.Judging.{named_more}
 use Rattle.trace_judge.proofs.Lengths.{few_bytes}
 use Rattle.trace_judge.proofs.Spending.{costs_few}
-use Rattle.trace_judge.specs.declared.judge.Judge.{Judge}
+use Rattle.trace_judge.specs.Judging.{Judged}
 use Rattle.trace_judge.specs.declared.verdict.Verdict.{Verdict}
 use Rattle.trace_judge.specs.declared.verdict.Verdict.TheVariants.{Accepted, Wrong, Short}
 use Rattle.dialogue.specs.Talk.{IsSteady, IsFinal}
@@ -56,11 +56,11 @@ module _ (x y : List ℕ) (same : verdict (x ++ y) ≡ verdict x) where
 -- ---- what is kept
 
 -- of no bytes
-pub ready_none : (keep : Bool) (judge : Judge) → StandsFor judge [] → ((now : ℕ) → HasPaidFor judge [] now now)
+pub ready_none : (keep : Bool) (judge : Judged) → StandsFor judge [] → ((now : ℕ) → HasPaidFor judge [] now now)
     → keeps judge ≡ keep → (start : ℕ) → IsReady keep judge start start []
 ready_none keep judge stands paid kept start = record { stands = stands; paid = paid start; keep_is = kept }
 
-module _ (keep : Bool) (judge : Judge) (start steps : ℕ) (x : List ℕ) (at : IsReady keep judge start steps x) where
+module _ (keep : Bool) (judge : Judged) (start steps : ℕ) (x : List ℕ) (at : IsReady keep judge start steps x) where
   -- a text that goes on has few bytes
   pub few : not (is_wrong (verdict x)) ≡ true → length x < 2 ^ 64 - 1
   few goes = omega (arith, few_bytes judge x at.stands (not_so (is_wrong (verdict x)) goes))
@@ -69,7 +69,7 @@ module _ (keep : Bool) (judge : Judge) (start steps : ℕ) (x : List ℕ) (at : 
   pub spent : Costs start steps x
   spent = costs_few judge x start steps at.paid
 
-  module _ (new : Judge) (after : ℕ) (piece : List ℕ) (pays : PaysFor judge new piece steps after) where
+  module _ (new : Judged) (after : ℕ) (piece : List ℕ) (pays : PaysFor judge new piece steps after) where
     -- with a piece behind it
     pub ready_more : Fed judge new piece → IsReady keep new start after (x ++ piece)
     ready_more fed = record {

@@ -5,9 +5,8 @@ use Rattle.dover_port.specs.Moves.{Move, Passes, CutsShort}
 use Rattle.dialogue.specs.declared.talker.Stop.{Stop}
 use Rattle.dialogue.specs.declared.talker.Stop.TheVariants.{NoMemory, Unwritten}
 use Rattle.judge_word.specs.Talking.{IsReady}
-use Rattle.trace_judge.specs.Judging.{Tells, steps_told}
+use Rattle.trace_judge.specs.Judging.{Judged, Tells, steps_told}
 use Rattle.trace_judge.specs.declared.judge.Closed.{Closed}
-use Rattle.trace_judge.specs.declared.judge.Judge.{Judge}
 use Rattle.report_word.specs.declared.form.Form.{Form}
 
 -- what a call is about: the form of the report, and the comparisons from which those of the call count
@@ -16,7 +15,7 @@ pub record Call : Type 0 where
   pub start : ℕ
 
 -- the judge stands for the bytes and keeps the steps, for a report of this form
-pub record Stands (call : Call) (given : Form) (kept : Judge) (steps : ℕ) (bytes : List ℕ) : Type 0 where
+pub record Stands (call : Call) (given : Form) (kept : Judged) (steps : ℕ) (bytes : List ℕ) : Type 0 where
   pub judge : IsReady true kept call.start steps bytes
   pub form : given ≡ call.form
 

@@ -10,16 +10,15 @@ use Rattle.line_text.specs.Cutting as cutting
 use Rattle.line_text.specs.Cutting.{HasCut}
 use Rattle.line_text.specs.declared.cutting.Step.TheVariants.{Line}
 use Rattle.trace_reading.proofs.Judging.{wrong_line}
-use Rattle.trace_judge.specs.declared.judge.Judge.{Judge}
 use Rattle.trace_judge.specs.declared.judge.Found.TheVariants.{Good}
 use Rattle.trace_judge.specs.Reads.{Reading, Reads, Took, IsUnchangedFor, job_lines_in}
-use Rattle.trace_judge.specs.Judging.{StandsFor, Notes, Fed, PaysFor, IsOverfed}
+use Rattle.trace_judge.specs.Judging.{Judged, StandsFor, Notes, Fed, PaysFor, IsOverfed}
 use Rattle.trace_judge.proofs.Judging.{reads_begins, reads_few, rest_empty, good_stands, stands_good, named_whole}
 use Rattle.trace_judge.proofs.Judging.{fed_on, overfed_on, overfed_more}
 use Rattle.trace_judge.proofs.Spending.{pays_more, pays_on}
 
 -- a line has ended and was read, and this was told of it
-module _ (mid new : Judge) (old : Reading) (line before text : List ℕ) (good : mid.found ≡ Good)
+module _ (mid new : Judged) (old : Reading) (line before text : List ℕ) (good : mid.found ≡ Good)
     (cut : cutting.StandsFor mid.lines text) (parts : HasCut Line line before text)
     (reads : Reads old (whole_lines before)) where
   -- the judge stands for the text that the line ends
@@ -40,7 +39,7 @@ module _ (mid new : Judge) (old : Reading) (line before text : List ℕ) (good :
       ∙ ap (model.Wrong mid.lines.count) (misses.expects ls it.1))
   noted_stands (Err e) ok took failed = never ok
 
-module _ (j mid new : Judge) (line bytes : List ℕ) (good : j.found ≡ Good) (good_mid : mid.found ≡ Good)
+module _ (j mid new : Judged) (line bytes : List ℕ) (good : j.found ≡ Good) (good_mid : mid.found ≡ Good)
     (stands : (x : List ℕ) → cutting.StandsFor j.lines x → cutting.StandsFor mid.lines (x ++ bytes))
     (parts : (x : List ℕ) → cutting.StandsFor j.lines x → HasCut Line line x (x ++ bytes)) where
   -- the judge was fed the bytes of the line
@@ -70,15 +69,15 @@ ok_not_err (Err e) ok err = never ok
 -- ---- a piece, front by front
 
 -- the judge was fed the piece but for the rest, and what that cost is paid for
-pub record HasFed (old new : Judge) (piece rest : List ℕ) (before after : ℕ) : Type 0 where
+pub record HasFed (old new : Judged) (piece rest : List ℕ) (before after : ℕ) : Type 0 where
   pub front : List ℕ
   pub is : piece ≡ front ++ rest
   pub fed : Fed old new front
   pub paid : PaysFor old new front before after
 
-module _ (a b : Judge) (piece rest : List ℕ) (before between : ℕ) (it : HasFed a b piece rest before between) where
+module _ (a b : Judged) (piece rest : List ℕ) (before between : ℕ) (it : HasFed a b piece rest before between) where
   -- and then some of the rest
-  pub fed_some : (c : Judge) (count after : ℕ) → Fed b c (take count rest)
+  pub fed_some : (c : Judged) (count after : ℕ) → Fed b c (take count rest)
       → PaysFor b c (take count rest) between after → HasFed a c piece (drop count rest) before after
   fed_some c count after next pays = record {
     front = it.front ++ take count rest;
@@ -93,17 +92,17 @@ module _ (a b : Judge) (piece rest : List ℕ) (before between : ℕ) (it : HasF
   overfed_rest over = subst (IsOverfed a) (sym it.is) (overfed_on a b it.front rest it.fed over)
 
   -- what the rest costs is paid for as well
-  pub pays_rest : (c : Judge) (after : ℕ) → PaysFor b c rest between after → PaysFor a c piece before after
+  pub pays_rest : (c : Judged) (after : ℕ) → PaysFor b c rest between after → PaysFor a c piece before after
   pays_rest c after pays = subst (λ l. PaysFor a c l before after) (sym it.is)
       (pays_on a b c it.front rest before between after it.fed it.paid pays)
 
 -- no room for the jobs of a front
-pub overfed_front : (j : Judge) (count : ℕ) (bytes : List ℕ) → IsOverfed j (take count bytes) → IsOverfed j bytes
+pub overfed_front : (j : Judged) (count : ℕ) (bytes : List ℕ) → IsOverfed j (take count bytes) → IsOverfed j bytes
 overfed_front j count bytes over = subst (IsOverfed j) (take-append-drop count bytes)
     (overfed_more j (take count bytes) (drop count bytes) over)
 
 -- what a front costs is paid for by all
-pub pays_front : (old new : Judge) (count : ℕ) (bytes : List ℕ) (before after : ℕ)
+pub pays_front : (old new : Judged) (count : ℕ) (bytes : List ℕ) (before after : ℕ)
     → PaysFor old new (take count bytes) before after → PaysFor old new bytes before after
 pays_front old new count bytes before after pays =
     subst (λ l. PaysFor old new l before after) (take-append-drop count bytes)

@@ -35,7 +35,6 @@ use Rattle.line_text.specs.declared.cutting.Step.TheVariants.{More, Line, TooLon
 use Rattle.trace_reading.proofs.Judging.{good_text, wrong_rest, accepted_text, short_text}
 use Rattle.trace_reading.proofs.Seeing.{sees_begins}
 use Rattle.trace_reading.proofs.Waiting.{sees_not_ended}
-use Rattle.trace_judge.specs.declared.judge.Judge.{Judge}
 use Rattle.trace_judge.specs.declared.stage.Stage.{Stage}
 use Rattle.trace_judge.specs.declared.stage.Stage.TheVariants.{Opening, Going, Ended}
 use Rattle.trace_judge.specs.declared.verdict.Expected.{Expected}
@@ -48,7 +47,7 @@ use Rattle.trace_judge.specs.declared.judge.Found.{Found}
 use Rattle.trace_judge.specs.declared.judge.Found.TheVariants.{Good, Wrong as Bad, NoMemory}
 use Rattle.trace_judge.specs.Reads.{Reading, expected_of, Ends, Reads, is_job_line, job_lines_in, kept_steps}
 use Rattle.trace_judge.specs.Judging.{jobs_named, steps_told, IsGood, IsCut, StandsFor, Fed, IsOverfed, Tells, IsEarned}
-use Rattle.trace_judge.specs.Judging.{is_wrong}
+use Rattle.trace_judge.specs.Judging.{Judged, is_wrong}
 use Rattle.trace_judge.proofs.Readings.{HereBy, ends_of, reads_ahead, with_room, room_opens, room_goes, room_ends}
 
 -- ---- a trace has few lines
@@ -225,7 +224,7 @@ named_whole line before text parts = ap (λ ls. length (filter is_job_line ls)) 
 -- ---- what was found
 
 -- what the judge stands for by what it found
-abbrev pub StandsBy : Found → Judge → List ℕ → Type 0
+abbrev pub StandsBy : Found → Judged → List ℕ → Type 0
 StandsBy found j text = elim found [
   | Good ↦ IsGood j text
   | Bad line due ↦ model.verdict text ≡ model.Wrong line (expected_of due)
@@ -233,10 +232,10 @@ StandsBy found j text = elim found [
 ]
 
 -- no line is wrong
-pub good_stands : (j : Judge) (text : List ℕ) → j.found ≡ Good → IsGood j text → StandsFor j text
+pub good_stands : (j : Judged) (text : List ℕ) → j.found ≡ Good → IsGood j text → StandsFor j text
 good_stands j text is good = subst (λ f. StandsBy f j text) (sym is) good
 
-pub stands_good : (j : Judge) (text : List ℕ) → j.found ≡ Good → StandsFor j text → IsGood j text
+pub stands_good : (j : Judged) (text : List ℕ) → j.found ≡ Good → StandsFor j text → IsGood j text
 stands_good j text is stands = let there : StandsBy Good j text = subst (λ f. StandsBy f j text) is stands in there
 
 -- no rest counts behind a line feed
@@ -252,7 +251,7 @@ left_false false b none = refl
 left_false true b none = never (sym none)
 
 -- the byte is cut from a text of which no line is wrong
-pub is_cut : (j : Judge) (l : Cutting) (s : Step) (byte : ℕ) (text : List ℕ) → IsGood j text
+pub is_cut : (j : Judged) (l : Cutting) (s : Step) (byte : ℕ) (text : List ℕ) → IsGood j text
     → ((bytes : List ℕ) → cutting.StandsFor j.lines bytes → cutting.StandsFor l (with_byte bytes byte)) → s ≡ l.last
     → ((bytes : List ℕ) → cutting.StandsFor j.lines bytes → is_too_long (rest_of bytes) ≡ false
     → HasCut s l.line bytes (bytes ++ byte ∷ []))
@@ -269,7 +268,7 @@ is_cut j l s byte text good stands last parts =
     }
 
 -- so may the line that is kept, where it has ended
-pub named_ended : (j : Judge) (before text : List ℕ) → IsCut j Line before text
+pub named_ended : (j : Judged) (before text : List ℕ) → IsCut j Line before text
     → jobs_named text ≡ jobs_named before + job_lines_in j.lines.line
 named_ended j before text it = named_whole j.lines.line before text it.parts
 
@@ -313,7 +312,7 @@ err_of (Err e) is p = p
 -- ---- texts that go on
 
 -- a wrong verdict stays
-pub wrong_fed : (j : Judge) (line : ℕ) (due : Expected) (piece : List ℕ) → j.found ≡ Bad line due → Fed j j piece
+pub wrong_fed : (j : Judged) (line : ℕ) (due : Expected) (piece : List ℕ) → j.found ≡ Bad line due → Fed j j piece
 wrong_fed j line due piece is = record {
   stands = λ text stands.
       let wrong : StandsBy (Bad line due) j text = subst (λ f. StandsBy f j text) is stands in
@@ -323,7 +322,7 @@ wrong_fed j line due piece is = record {
 }
 
 -- one piece and another
-pub fed_on : (a b c : Judge) (piece more : List ℕ) → Fed a b piece → Fed b c more → Fed a c (piece ++ more)
+pub fed_on : (a b c : Judged) (piece more : List ℕ) → Fed a b piece → Fed b c more → Fed a c (piece ++ more)
 fed_on a b c piece more first next = record {
   stands = λ text stands. subst (StandsFor c) (append_assoc text piece more)
       (next.stands (text ++ piece) (first.stands text stands));
@@ -337,7 +336,7 @@ fed_on a b c piece more first next = record {
 }
 
 -- too much behind a piece
-pub overfed_on : (a b : Judge) (piece more : List ℕ) → Fed a b piece → IsOverfed b more → IsOverfed a (piece ++ more)
+pub overfed_on : (a b : Judged) (piece more : List ℕ) → Fed a b piece → IsOverfed b more → IsOverfed a (piece ++ more)
 overfed_on a b piece more first over text stands = omega (
   arith,
   first.spare text stands,
@@ -346,7 +345,7 @@ overfed_on a b piece more first over text stands = omega (
 )
 
 -- and with more behind it
-pub overfed_more : (a : Judge) (piece more : List ℕ) → IsOverfed a piece → IsOverfed a (piece ++ more)
+pub overfed_more : (a : Judged) (piece more : List ℕ) → IsOverfed a piece → IsOverfed a (piece ++ more)
 overfed_more a piece more over text stands = omega (
   arith,
   over text stands,
@@ -373,7 +372,7 @@ same_verdict S k v value most jobs ratio version worth within count =
 -- ---- the verdict
 
 -- no line of a text that is good is wrong
-pub good_not_wrong : (j : Judge) (text : List ℕ) → IsGood j text → is_wrong (model.verdict text) ≡ false
+pub good_not_wrong : (j : Judged) (text : List ℕ) → IsGood j text → is_wrong (model.verdict text) ≡ false
 good_not_wrong j text good = by_stage j.reader.stage refl where
   by_stage : (s : Stage) → j.reader.stage ≡ s → is_wrong (model.verdict text) ≡ false
   by_stage Opening is = ap is_wrong (reads_short j.reader text good.reads (ap is_ended is) good.counts)
@@ -383,7 +382,7 @@ good_not_wrong j text good = by_stage j.reader.stage refl where
       ap is_wrong (reads_accepted j.reader text good.reads (ap is_ended is) good.counts end.0 end.1)
 
 -- nor of one that the judge stands for, where it found no wrong line
-pub stands_not_wrong : (j : Judge) (text : List ℕ) → StandsFor j text
+pub stands_not_wrong : (j : Judged) (text : List ℕ) → StandsFor j text
     → ((line : ℕ) (due : Expected) → j.found ≡ Bad line due → ⊥)
     → is_wrong (model.verdict text) ≡ false
 stands_not_wrong j text stands none = by_found j.found refl stands where
@@ -393,7 +392,7 @@ stands_not_wrong j text stands none = by_found j.found refl stands where
   by_found NoMemory is there = absurd there
 
 -- the steps of an accepted run were kept
-pub steps_accepted : (j : Judge) (text : List ℕ) → StandsFor j text → (S : Session)
+pub steps_accepted : (j : Judged) (text : List ℕ) → StandsFor j text → (S : Session)
     → model.verdict text ≡ model.Accepted S
     → j.reader.steps ≡ kept_steps j.reader.keep (printed (instance_of S))
 steps_accepted j text stands S told = by_found j.found refl stands where
@@ -418,7 +417,7 @@ steps_accepted j text stands S told = by_found j.found refl stands where
   by_found NoMemory is there = absurd there
 
 -- what is left of the steps
-pub steps_left : (j : Judge) (text : List ℕ) → StandsFor j text → (v : Verdict) → Tells v text
+pub steps_left : (j : Judged) (text : List ℕ) → StandsFor j text → (v : Verdict) → Tells v text
     → ((k : Fraction) (version : Version) (value most jobs : ℕ) → v ≡ Accepted k version value most jobs → ⊥)
     → [] ≡ steps_told j.reader.keep (model.verdict text)
 steps_left j text stands (Accepted k version value most jobs) tells other =
@@ -427,7 +426,7 @@ steps_left j text stands (Wrong line due) tells other = ap (steps_told j.reader.
 steps_left j text stands (Short lines) tells other = ap (steps_told j.reader.keep) (sym tells)
 
 -- room for more jobs changes nothing
-pub room_stands : (j : Judge) (ready spare room : ℕ) (text : List ℕ) → StandsFor j text
+pub room_stands : (j : Judged) (ready spare room : ℕ) (text : List ℕ) → StandsFor j text
     → StandsFor (record j { reader = with_room j.reader ready spare room }) text
 room_stands j ready spare room text stands = by_found j.found stands where
   by_stage : (s : Stage) → HereBy s j.reader (whole_lines text)

@@ -12,8 +12,7 @@ use Rattle.dover_model.proofs.Named.{beginnings_pass}
 use Rattle.dover_model.proofs.Tests.{never}
 use Rattle.dover_model.proofs.WrongStays.{begun, Starts, too_long_fails}
 use Rattle.line_text.proofs.Lengths.{AreNotTooLong, text_few}
-use Rattle.trace_judge.specs.Judging.{IsGood, StandsFor, is_wrong}
-use Rattle.trace_judge.specs.declared.judge.Judge.{Judge}
+use Rattle.trace_judge.specs.Judging.{Judged, IsGood, StandsFor, is_wrong}
 use Rattle.trace_judge.specs.declared.judge.Found.{Found}
 use Rattle.trace_judge.specs.declared.judge.Found.TheVariants.{Good, Wrong as Bad, NoMemory}
 use Rattle.trace_judge.specs.Reads.{expected_of}
@@ -51,7 +50,7 @@ rest_short : (a b : Bool) → (a || b) ≡ false → a ≡ false
 rest_short true b none = none
 rest_short false b none = refl
 
-module _ (judge : Judge) (x : List ℕ) where
+module _ (judge : Judged) (x : List ℕ) where
   -- of what is kept of lines that are right
   few_good : IsGood judge x → length x < 2_580_000_129
   few_good good =

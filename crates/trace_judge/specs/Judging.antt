@@ -15,27 +15,35 @@ use Rattle.dover_model.specs.Session.{Session, IsValidSession, instance_of, admi
 use Rattle.dover_model.specs.Lines.{whole_lines}
 use Rattle.dover_model.specs.Verdict as model
 use Rattle.line_text.specs.Cutting as cutting
+use Rattle.line_text.specs.Cutting.{Cutting}
 use Rattle.line_text.specs.declared.cutting.Step.{Step}
 use Rattle.trace_judge.specs.declared.verdict.Verdict.{Verdict}
 use Rattle.trace_judge.specs.declared.verdict.Verdict.TheVariants.{Accepted, Wrong, Short}
-use Rattle.trace_judge.specs.declared.judge.Judge.{Judge}
+use Rattle.trace_judge.specs.declared.judge.Found.{Found}
 use Rattle.trace_judge.specs.declared.judge.Found.TheVariants.{Good, Wrong as Bad, NoMemory}
 use Rattle.trace_judge.specs.declared.verdict.Expected.{Expected}
 use Rattle.ready_jobs.specs.Spending.{HasPaid}
-use Rattle.trace_judge.specs.Reads.{Reads, ReadsAhead, is_job_line, expected_of, kept_steps}
+use Rattle.trace_judge.specs.Reads.{Reading, Reads, ReadsAhead, is_job_line, expected_of, kept_steps}
+
+-- what is kept of a text: the line that goes on and how many have ended, what is kept of the lines, and what was found:
+-- no line wrong, the first wrong line and what is due in its place, or that memory was lacking
+pub record Judged : Type 0 where
+  pub lines : Cutting
+  pub reader : Reading
+  pub found : Found
 
 -- how many whole lines of the text name a job
 abbrev pub jobs_named : List ℕ → ℕ
 jobs_named text = length (filter is_job_line (whole_lines text))
 
 -- no line of the text is wrong, and this is kept of it
-pub record IsGood (j : Judge) (text : List ℕ) : Type 0 where
+pub record IsGood (j : Judged) (text : List ℕ) : Type 0 where
   pub cut : cutting.StandsFor j.lines text
   pub counts : model.rest_counts text ≡ false
   pub reads : Reads j.reader (whole_lines text)
 
 -- the judge stands for the text: no memory was lacking, and what it has found is so
-abbrev pub StandsFor : Judge → List ℕ → Type 0
+abbrev pub StandsFor : Judged → List ℕ → Type 0
 StandsFor j text = elim j.found [
   | Good ↦ IsGood j text
   | Bad line due ↦ model.verdict text ≡ model.Wrong line (expected_of due)
@@ -43,45 +51,45 @@ StandsFor j text = elim j.found [
 ]
 
 -- the steps of the run are kept
-abbrev pub keeps : Judge → Bool
+abbrev pub keeps : Judged → Bool
 keeps j = j.reader.keep
 
 -- the judge stands for what it stood for with the piece behind it, and has spent room for no more than the jobs that
 -- the piece names
-pub record Fed (old new : Judge) (piece : List ℕ) : Type 0 where
+pub record Fed (old new : Judged) (piece : List ℕ) : Type 0 where
   pub stands : (text : List ℕ) → StandsFor old text → StandsFor new (text ++ piece)
   pub spare : (text : List ℕ) → StandsFor old text
       → old.reader.spare + jobs_named text ≤ new.reader.spare + jobs_named (text ++ piece)
   pub keep : keeps new ≡ keeps old
 
 -- the piece names more jobs than there was room for
-abbrev pub IsOverfed : Judge → List ℕ → Type 0
+abbrev pub IsOverfed : Judged → List ℕ → Type 0
 IsOverfed j piece = (text : List ℕ) → StandsFor j text → j.reader.spare + jobs_named text < jobs_named (text ++ piece)
 
 -- up to here what the run cost is paid for, and its jobs are named by lines of the text
-pub record HasPaidFor (j : Judge) (text : List ℕ) (start now : ℕ) : Type 0 where
+pub record HasPaidFor (j : Judged) (text : List ℕ) (start now : ℕ) : Type 0 where
   pub paid : HasPaid j.reader.course start now
   pub few : j.reader.course.jobs ≤ jobs_named text
 
 -- what the piece costs is paid for
-abbrev pub PaysFor : (old new : Judge) → List ℕ → (before after : ℕ) → Type 0
+abbrev pub PaysFor : (old new : Judged) → List ℕ → (before after : ℕ) → Type 0
 PaysFor old new piece before after = (text : List ℕ) (start : ℕ) → StandsFor old text
     → HasPaidFor old text start before → HasPaidFor new (text ++ piece) start after
 
 -- the line of this number is wrong, and this is due in its place; the run may have gone on to that
-pub record Misses (old new : Judge) (line : ℕ) : Type 0 where
+pub record Misses (old new : Judged) (line : ℕ) : Type 0 where
   pub due : Expected
   pub is : new ≡ record old { reader = new.reader; found = Bad line due }
   pub expects : (ls : List (List ℕ)) → ReadsAhead old.reader ls → model.expected_after ls ≡ expected_of due
 
 -- what is found where this was told of the line that was counted last
-abbrev pub Notes : (old new : Judge) → Result Bool Memory → Type 0
+abbrev pub Notes : (old new : Judged) → Result Bool Memory → Type 0
 Notes old new (Ok true) = new ≡ old
 Notes old new (Ok false) = Misses old new old.lines.count
 Notes old new (Err e) = new ≡ record old { found = NoMemory }
 
 -- no line before the last byte was wrong, and this is kept of the bytes before it and cut with it
-pub record IsCut (j : Judge) (step : Step) (before text : List ℕ) : Type 0 where
+pub record IsCut (j : Judged) (step : Step) (before text : List ℕ) : Type 0 where
   pub cut : cutting.StandsFor j.lines text
   pub last : j.lines.last ≡ step
   pub parts : cutting.HasCut step j.lines.line before text

@@ -16,12 +16,13 @@ use crate::verdict::{Expected, Verdict};
 use dover_model::{Event, Memory};
 use line_text::{Lines, Step};
 use std::alloc::Global;
+use std::marker::Model;
 use std::sync::ledger::Ledger;
 use step_count::Steps;
 
 /// What was found of the text so far.
 #[derive(Clone, Copy)]
-enum Found {
+pub enum Found {
     /// No line is wrong.
     Good,
     /// This line, counted from 1, is the first that is wrong.
@@ -37,6 +38,14 @@ pub struct Judge {
     lines: Lines,
     reader: Reader,
     found: Found,
+}
+
+impl Model for Judge {
+    ghost use Rattle.trace_judge.specs.Judging.{Judged};
+
+    ghost Value = { Judged };
+
+    ghost view = { λ j. record { lines = j.lines; reader = j.reader; found = j.found } };
 }
 
 /// What a text is, and the steps of its run where it is accepted and they were kept.

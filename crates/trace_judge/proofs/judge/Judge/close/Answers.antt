@@ -1,7 +1,7 @@
 use Rattle.std.proofs.Common.{sym, ap, ◌∙◌, subst, Vec, Global}
 use Rattle.dover_model.specs.declared.events.Event.{Event}
 use Rattle.dover_model.proofs.Tests.{never}
-use Rattle.trace_judge.specs.Judging.{Tells, steps_told}
+use Rattle.trace_judge.specs.Judging.{Judged, Tells, steps_told}
 use Rattle.trace_judge.proofs.Judging.{steps_accepted, steps_left}
 use Rattle.trace_judge.proofs.judge.Judge.close.Goals as goal
 use Rattle.trace_judge.proofs.judge.Judge.close.Goals.{in-Accepted, in_default, then-not-matches, else-not-matches}
@@ -21,6 +21,7 @@ returns-clause-steps c text stands = elim c.if-not-matches.branch [
     | in-Accepted x ↦
         let told = subst (λ v. Tells v text) x.in-Accepted.is (c.in_ok-verdict.ensures.tells text stands) in
         ap (λ (v : Vec Event Global). v.items) w.steps-is ∙ c.into_steps-steps.ensures
+        ∙ ap (λ (j : Judged). j.reader.steps) c.self.view_is
         ∙ steps_accepted c.args.self text stands told.0 told.1 ∙ ap (steps_told c.args.self.reader.keep) (sym told.1)
     | in_default x ↦ never (sym x.matches-is ∙ w.if-not-matches.false)
   ]

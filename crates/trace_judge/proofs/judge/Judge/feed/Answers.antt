@@ -1,6 +1,7 @@
-use Rattle.std.proofs.Common.{sym, ◌∙◌}
+use Rattle.std.proofs.Common.{sym, ap, ◌∙◌}
 use Rattle.std.proofs.lemmas.List.{take_rest}
 use Rattle.dover_model.proofs.Tests.{never}
+use Rattle.trace_judge.specs.Judging.{Judged}
 use Rattle.trace_judge.proofs.Judging.{err_of, wrong_fed, good_not_wrong, stands_good}
 use Rattle.trace_judge.proofs.Spending.{pays_none}
 use Rattle.trace_judge.proofs.EndedLines.{fed_some, overfed_rest, pays_rest}
@@ -8,7 +9,8 @@ use Rattle.trace_judge.proofs.judge.Judge.feed.Goals as goal
 
 pub returns-in-Wrong-clause-fed : goal.returns-in-Wrong-clause-fed
 returns-in-Wrong-clause-fed g c =
-    wrong_fed c.args.self.now c.in-Wrong.line c.in-Wrong.expected c.args.piece.now c.in-Wrong.is
+    wrong_fed c.args.self.now c.in-Wrong.line c.in-Wrong.expected c.args.piece.now
+    (ap (λ (j : Judged). j.found) (sym c.self.view_is) ∙ c.in-Wrong.is)
 
 pub returns-in_err-count-clause-room : goal.returns-in_err-count-clause-room
 returns-in_err-count-clause-room g c = err_of c.from_residual.result c.from_residual.ensures.0
@@ -18,7 +20,8 @@ returns-in_err-count-clause-room g c = err_of c.from_residual.result c.from_resi
 
 pub returns-in_err-count-clause-decided : goal.returns-in_err-count-clause-decided
 returns-in_err-count-clause-decided g c text stands wrong =
-    never (sym (good_not_wrong c.args.self.now text (stands_good c.args.self.now text c.in-Good.is stands)) ∙ wrong)
+    never (sym (good_not_wrong c.args.self.now text (stands_good c.args.self.now text
+    (ap (λ (j : Judged). j.found) (sym c.self.view_is) ∙ c.in-Good.is) stands)) ∙ wrong)
 
 pub loop-rest-preserved : goal.loop-rest-preserved
 loop-rest-preserved g c = rw take_rest

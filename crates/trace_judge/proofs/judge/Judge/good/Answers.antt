@@ -8,13 +8,13 @@ use Rattle.trace_judge.proofs.judge.Judge.good.Goals as goal
 
 pub returns-in-Ended : goal.returns-in-Ended
 returns-in-Ended c text stands =
-    let good : IsGood c.args.self.now text = stands_good c.args.self.now text c.requires stands in
+    let good = subst (λ j. IsGood j text) (sym c.self.view_is) (stands_good c.args.self.now text c.requires stands) in
     let ls : List (List ℕ) = whole_lines text in
     let ended = sym c.stage.ensures ∙ c.in-Ended.is in
-    let end = ends_of c.args.self.now.reader ls ended (reads_ahead c.args.self.now.reader ls good.reads) in
+    let end = ends_of c.self.inside.reader ls ended (reads_ahead c.self.inside.reader ls good.reads) in
     subst (λ v. Tells v text) (sym (c.accepted.ensures ls end.0 end.1)) (
       end.0,
-      reads_accepted c.args.self.now.reader text good.reads (ap is_ended ended) good.counts end.0 end.1,
+      reads_accepted c.self.inside.reader text good.reads (ap is_ended ended) good.counts end.0 end.1,
       refl,
       refl,
       refl,
@@ -25,22 +25,22 @@ returns-in-Ended c text stands =
 
 pub returns-in-Going : goal.returns-in-Going
 returns-in-Going c text stands =
-    let good : IsGood c.args.self.now text = stands_good c.args.self.now text c.requires stands in
-    reads_short c.args.self.now.reader text good.reads (ap is_ended (sym c.stage.ensures ∙ c.in-Going.is)) good.counts
+    let good = subst (λ j. IsGood j text) (sym c.self.view_is) (stands_good c.args.self.now text c.requires stands) in
+    reads_short c.self.inside.reader text good.reads (ap is_ended (sym c.stage.ensures ∙ c.in-Going.is)) good.counts
     ∙ ap model.Short (omega (
       arith,
-      reads_few c.args.self.now.reader (whole_lines text) good.reads,
+      reads_few c.self.inside.reader (whole_lines text) good.reads,
       good.cut.count,
       c.count-in-Going.ensures,
     ))
 
 pub returns-in-Opening : goal.returns-in-Opening
 returns-in-Opening c text stands =
-    let good : IsGood c.args.self.now text = stands_good c.args.self.now text c.requires stands in
-    reads_short c.args.self.now.reader text good.reads (ap is_ended (sym c.stage.ensures ∙ c.in-Opening.is)) good.counts
+    let good = subst (λ j. IsGood j text) (sym c.self.view_is) (stands_good c.args.self.now text c.requires stands) in
+    reads_short c.self.inside.reader text good.reads (ap is_ended (sym c.stage.ensures ∙ c.in-Opening.is)) good.counts
     ∙ ap model.Short (omega (
       arith,
-      reads_few c.args.self.now.reader (whole_lines text) good.reads,
+      reads_few c.self.inside.reader (whole_lines text) good.reads,
       good.cut.count,
       c.count.ensures,
     ))

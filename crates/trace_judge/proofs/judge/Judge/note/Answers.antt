@@ -1,12 +1,14 @@
 use Rattle.std.proofs.Common.{ap, sym, ◌∙◌, subst, refl}
 use Rattle.std.specs.Prelude.{Ok}
 use Rattle.trace_judge.specs.declared.judge.Found.TheVariants.{NoMemory}
-use Rattle.trace_judge.specs.Judging.{Notes, Misses}
+use Rattle.trace_judge.specs.Judging.{Judged, Notes, Misses}
 use Rattle.trace_judge.proofs.judge.Judge.note.Goals as goal
 
 pub returns-in_default-clause-notes : goal.returns-in_default-clause-notes
 returns-in_default-clause-notes g c =
-    subst (Notes c.args.self.now (record c.args.self.now { found = NoMemory })) (sym c.in_default.is) refl
+    subst (Notes c.args.self.now
+    (record { lines = c.self.inside.lines; reader = c.self.inside.reader; found = NoMemory })) (sym c.in_default.is)
+    (ap (λ (j : Judged). record j { found = NoMemory }) c.self.view_is)
 
 pub returns-then-good-clause-notes : goal.returns-then-good-clause-notes
 returns-then-good-clause-notes g c =
@@ -15,4 +17,5 @@ returns-then-good-clause-notes g c =
 pub returns-clause-notes : goal.returns-clause-notes
 returns-clause-notes g c =
     subst (Notes c.args.self.now c.miss.new.self) (sym (c.in-Ok.is ∙ ap Ok c.if-good.false))
-    (subst (Misses c.args.self.now c.miss.new.self) c.count-line.ensures c.miss.ensures.missed)
+    (subst (Misses c.args.self.now c.miss.new.self)
+    (c.count-line.ensures ∙ ap (λ (j : Judged). j.lines.count) c.self.view_is) c.miss.ensures.missed)

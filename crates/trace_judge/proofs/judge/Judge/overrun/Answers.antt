@@ -3,7 +3,7 @@ use Rattle.dover_model.specs.Lines.{whole_lines}
 use Rattle.dover_model.specs.Verdict as model
 use Rattle.line_text.specs.Cutting.{is_over}
 use Rattle.trace_judge.specs.Reads.{Reads}
-use Rattle.trace_judge.specs.Judging.{StandsFor}
+use Rattle.trace_judge.specs.Judging.{Judged, StandsFor}
 use Rattle.trace_judge.proofs.Readings.{reads_ahead}
 use Rattle.trace_judge.proofs.Judging.{reads_few, rest_long}
 use Rattle.trace_judge.proofs.judge.Judge.overrun.Goals as goal
@@ -21,6 +21,7 @@ returns-clause-stands g c before text it =
       reads_few c.args.self.now.reader (whole_lines text) reads,
       it.cut.count,
       c.count.ensures,
+      ap (λ (j : Judged). j.lines.count) c.self.view_is,
       c.saturating_add-line.ensures,
     ))
     ∙ ap (model.Wrong c.saturating_add-line.result)

@@ -1,6 +1,6 @@
-use Rattle.std.proofs.Common.{sym, subst, take, length}
+use Rattle.std.proofs.Common.{sym, ap, ◌∙◌, subst, take, length}
 use Rattle.std.proofs.Math.Seq.{take-length}
-use Rattle.trace_judge.specs.Judging.{Fed}
+use Rattle.trace_judge.specs.Judging.{Judged, Fed}
 use Rattle.trace_judge.proofs.Judging.{wrong_fed}
 use Rattle.trace_judge.proofs.Spending.{pays_none}
 use Rattle.trace_judge.proofs.judge.Judge.take.Goals as goal
@@ -8,7 +8,8 @@ use Rattle.trace_judge.proofs.judge.Judge.take.Goals as goal
 pub returns-in-Wrong-clause-fed : goal.returns-in-Wrong-clause-fed
 returns-in-Wrong-clause-fed g c =
     subst (Fed c.args.self.now c.args.self.now) (sym (take-length c.args.bytes.now))
-    (wrong_fed c.args.self.now c.in-Wrong.line c.in-Wrong.expected c.args.bytes.now c.in-Wrong.is)
+    (wrong_fed c.args.self.now c.in-Wrong.line c.in-Wrong.expected c.args.bytes.now
+    (ap (λ (j : Judged). j.found) (sym c.self.view_is) ∙ c.in-Wrong.is))
 
 pub returns-in-Wrong-clause-paid : goal.returns-in-Wrong-clause-paid
 returns-in-Wrong-clause-paid g c =

@@ -1,20 +1,39 @@
-use Rattle.std.proofs.Common.{arith}
+use Rattle.std.proofs.Common.{arith, ap, sym, ◌∙◌, subst}
+use Rattle.line_text.specs.declared.cutting.Step.TheVariants.{Line}
+use Rattle.ready_jobs.specs.Spending.{HasPaid}
+use Rattle.trace_judge.specs.Reads.{job_lines_in}
+use Rattle.trace_judge.specs.Judging.{Judged, IsCut}
 use Rattle.trace_judge.proofs.Judging.{ok_onto}
 use Rattle.trace_judge.proofs.EndedLines.{noted_stands}
 use Rattle.trace_judge.proofs.judge.Judge.take_line.Goals as goal
 
 pub returns-clause-stands : goal.returns-clause-stands
 returns-clause-stands g c = ok_onto c.note.result c.note.ensures.ok (λ ok before text it.
-    noted_stands (record c.args.self.now { reader = c.take-taken.new.self }) c.note.new.self c.args.self.now.reader
-    c.args.self.now.lines.line before text c.requires.good it.cut it.parts it.reads c.take-taken.result ok
+    let at = subst (λ j. IsCut j Line before text) (sym c.self.view_is) it in
+    noted_stands
+    (record { lines = c.self.inside.lines; reader = c.take-taken.new.self; found = c.self.inside.found })
+    c.note.new.self c.self.inside.reader c.self.inside.lines.line before text
+    (ap (λ (j : Judged). j.found) c.self.view_is ∙ c.requires.good) at.cut at.parts at.reads c.take-taken.result ok
     (rw c.line.ensures at c.take-taken.ensures.took) c.note.ensures.notes)
 
 pub returns-clause-spare : goal.returns-clause-spare
-returns-clause-spare g c =
-    omega (arith, rw c.line.ensures at c.take-taken.ensures.spare, c.note.ensures.kept.spare)
+returns-clause-spare g c = omega (
+  arith,
+  rw c.line.ensures at c.take-taken.ensures.spare,
+  c.note.ensures.kept.spare,
+  ap (λ (j : Judged). j.reader.spare) c.self.view_is,
+  ap (λ (j : Judged). job_lines_in j.lines.line) c.self.view_is,
+)
 
 pub returns-clause-jobs : goal.returns-clause-jobs
-returns-clause-jobs g c = omega (arith, rw c.line.ensures at c.take-taken.ensures.jobs, c.note.ensures.kept.jobs)
+returns-clause-jobs g c = omega (
+  arith,
+  rw c.line.ensures at c.take-taken.ensures.jobs,
+  c.note.ensures.kept.jobs,
+  ap (λ (j : Judged). j.reader.course.jobs) c.self.view_is,
+  ap (λ (j : Judged). job_lines_in j.lines.line) c.self.view_is,
+)
 
 pub returns-clause-paid : goal.returns-clause-paid
-returns-clause-paid g c start paid = c.note.ensures.paid start (c.take-taken.ensures.paid start paid)
+returns-clause-paid g c start paid = c.note.ensures.paid start (c.take-taken.ensures.paid start
+    (subst (λ (j : Judged). HasPaid j.reader.course start c.args.steps.now) (sym c.self.view_is) paid))
