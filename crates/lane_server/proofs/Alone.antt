@@ -11,16 +11,12 @@ use Rattle.std.proofs.lemmas.Bool.{ltb-true, ne_eqb, eqb-true, eq-eqb, and_parts
 use Rattle.std.proofs.lemmas.Fmt.{decimal_injective}
 use Rattle.std.proofs.lemmas.Grind.{flat_map-append}
 use Rattle.std.proofs.lemmas.List.Splits.{length-slice_split}
-use Rattle.std.proofs.lemmas.List.Sums.{fold-append}
 use Rattle.std.proofs.lemmas.Slice.Eq.{bytes_eq-Decides}
 use Rattle.dover_model.specs.Limits.{most_lines}
 use Rattle.dover_model.specs.Numerals.{numeral}
 use Rattle.dover_model.specs.Lines.{fields_of, line_of, in_lines, whole_lines, lines_of, is_too_long}
-use Rattle.dover_model.specs.WholeRun.{Begins}
-use Rattle.dover_model.specs.Feed as feeds
-use Rattle.dover_model.specs.Feed.{account_of_lines, account, no_lines}
+use Rattle.dover_model.specs.Feed.{account_of_lines, account}
 use Rattle.dover_model.specs.Due.{due, due_lines, closed, short_lines}
-use Rattle.dover_model.proofs.Accounts.{IsKept, lines_goes}
 use Rattle.dover_model.proofs.Beginnings.{in_lines-append}
 use Rattle.dover_model.proofs.Cuts.{CutText, HasNoFeed, cut_in_lines}
 use Rattle.dover_model.proofs.Fields.{is_space, HasNoSpace, digits_have_no_space, line_of-fields_of}
@@ -36,7 +32,7 @@ use Rattle.lane_server.specs.Lanes.{in_lane, lines_added, newly_due, due_after, 
 use Rattle.lane_server.specs.Lanes.{fault_word, refused_line}
 use Rattle.lane_server.specs.Lanes.{closing_lines, lanes_closed}
 use Rattle.lane_server.specs.Alone.{behind_number, text_of_lane, lane_feed, closed_feed, served_alone}
-use Rattle.lane_server.proofs.Adding.{added_is}
+use Rattle.lane_server.proofs.Feeding.{due_added}
 use Rattle.lane_server.proofs.Feedless.{feedless_due, feedless_short, feedless_lines}
 use Rattle.lane_server.proofs.Handing.{lines_with}
 use Rattle.lane_server.proofs.Inputs.{read_after}
@@ -133,17 +129,6 @@ feed_closed (l ∷ ls) none = some l (in_lines ls)
       some : (l rest : List ℕ) → closed_feed ((l ++ 10 ∷ []) ++ rest) ≡ closed ((l ++ 10 ∷ []) ++ rest)
       some [] rest = refl
       some (b ∷ l) rest = refl
-
--- a line adds to what was due
-due_added : (ls : List (List ℕ)) (l : List ℕ)
-    → due_lines (account_of_lines ls) ++ lines_added ls l ≡ due_lines (account_of_lines (ls ++ l ∷ []))
-due_added ls l =
-    let kept : IsKept (account_of_lines ls) = (lines_goes ls no_lines refl).0 in
-    let grows : Begins (due_lines (account_of_lines ls)) (due_lines (feeds.next_line (account_of_lines ls) l)) =
-    (lines_goes (l ∷ []) (account_of_lines ls) kept).1 in
-    let whole : due_lines (account_of_lines (ls ++ l ∷ [])) ≡ due_lines (account_of_lines ls) ++ grows.0 =
-    ap due_lines (fold-append feeds.next_line no_lines ls (l ∷ [])) ∙ grows.1 in
-    ap (λ ms. due_lines (account_of_lines ls) ++ ms) (sym (added_is ls l grows.0 whole)) ∙ sym whole
 
 -- one that is short
 short_feedless : (ls : List (List ℕ)) → AllByRecursion HasNoFeed (feed_short ls)
@@ -246,7 +231,7 @@ module _ (lane : ℕ) (low : lane < lane_count) where
   due_newly before h true is =
       ap (λ i. due_lines (lane_account before lane) ++ lines_added (lane_lines before i) h.line)
       (eqb-true h.lane lane is)
-      ∙ due_added (lane_lines before lane) h.line
+      ∙ sym (due_added (lane_lines before lane) h.line)
       ∙ ap (λ ls. due_lines (account_of_lines ls)) (sym (lines_with before h lane
       ∙ ap (λ c. lane_lines before lane ++ cond c (h.line ∷ []) []) is))
   due_newly before h false is = append-nil (due_lines (lane_account before lane))

@@ -115,8 +115,8 @@ impl<D: Dispatcher> Feed<D> {
         self.take_byte(bytes[0])
     }
 
-    /// Takes a front of a piece of the feed, up to a line feed at most, and says how many bytes. The feed goes on, and
-    /// all that was due before was given: at first, and then where `next_out` has answered None.
+    /// Takes a front of a piece of the feed, at least a byte, and says how many bytes. The feed goes on, and all that
+    /// was due before was given: at first, and then where `next_out` has answered None.
     ///
     /// # Errors
     ///

@@ -94,8 +94,8 @@ impl<D: Dispatcher> LaneInput<D> {
         self.take_byte(bytes[0])
     }
 
-    /// Takes a front of the piece, a byte or a whole line, and says how many bytes, where the input goes on and all
-    /// lines that were due before were given: at first, and then where `next_out` has answered None.
+    /// Takes a front of the piece, at least a byte, and says how many bytes, where the input goes on and all lines that
+    /// were due before were given: at first, and then where `next_out` has answered None.
     ///
     /// # Errors
     ///

@@ -22,7 +22,7 @@ use trial_jobs::Gen;
 
 /// Serves the stated jobs of a seed, and writes the summary of their run: the jobs, those that were completed and
 /// abandoned with their values, the takes, and the bound on the value of every schedule. Nothing is read. The seed is
-/// below 2^31, the count at most 1,000,000.
+/// below 2^31, the count at most 1,000,000. Memory is taken for the jobs that are ready at once, and for the summary.
 pub fn trial_word<P: Port, L: Ledger>(
     alloc: Global,
     port: &mut P,
