@@ -16,7 +16,7 @@ use Rattle.dover_top.specs.declared.request.Request.TheVariants.{Serve, Judge, R
 use Rattle.dover_top.specs.declared.request.Request.TheVariants.{Resume, Unroll}
 use Rattle.serve_word.specs.declared.at_end.AtEnd.{AtEnd}
 use Rattle.serve_word.specs.declared.at_end.AtEnd.TheVariants as ends
-use Rattle.question_words.specs.declared.question.Question.TheVariants.{Feasible, Best, Compare}
+use Rattle.question_words.specs.declared.question.Question.TheVariants.{Feasible, Best, Compare, Loss}
 
 -- ---- words read as what they ask for, if they ask for something
 
@@ -61,10 +61,11 @@ request_of words =
     if bytes_eq (word_at 0 words) (codes "feasible") then Ask Feasible else (
     if bytes_eq (word_at 0 words) (codes "best") then Ask Best else (
     if bytes_eq (word_at 0 words) (codes "compare") then Ask Compare else (
+    if bytes_eq (word_at 0 words) (codes "loss") then Ask Loss else (
     if bytes_eq (word_at 0 words) (codes "lanes") then Lanes else (
     if bytes_eq (word_at 0 words) (codes "pause") then Pause else (
     if bytes_eq (word_at 0 words) (codes "resume") then Resume (end_of (word_at 1 words)) else Unroll
-    (number_of (word_at 1 words))))))))))))
+    (number_of (word_at 1 words)))))))))))))
 
 -- a number is read back
 number_same : (n : ℕ) → n < 10 ^ 18 → number_of (decimal n) ≡ n
@@ -117,6 +118,7 @@ is_read words (Bait k rounds) asks = ap request_of asks.row
 is_read words (Ask Feasible) asks = ap request_of asks
 is_read words (Ask Best) asks = ap request_of asks
 is_read words (Ask Compare) asks = ap request_of asks
+is_read words (Ask Loss) asks = ap request_of asks
 is_read words Lanes asks = ap request_of asks
 is_read words Pause asks = ap request_of asks
 is_read words (Resume ends.Refuse) asks = ap request_of asks

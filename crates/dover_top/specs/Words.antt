@@ -10,7 +10,7 @@ use Rattle.run_view.specs.declared.window.Window.{Window}
 use Rattle.serve_word.specs.declared.at_end.AtEnd.{AtEnd}
 use Rattle.serve_word.specs.declared.at_end.AtEnd.TheVariants.{Refuse, Pause}
 use Rattle.question_words.specs.declared.question.Question.{Question}
-use Rattle.question_words.specs.declared.question.Question.TheVariants.{Feasible, Best, Compare}
+use Rattle.question_words.specs.declared.question.Question.TheVariants.{Feasible, Best, Compare, Loss}
 
 -- the words as bytes
 abbrev pub spelled : List (String Global) → List (List ℕ)
@@ -74,6 +74,7 @@ abbrev pub question_word : Question → List ℕ
 question_word Feasible = codes "feasible"
 question_word Best = codes "best"
 question_word Compare = codes "compare"
+question_word Loss = codes "loss"
 
 -- the one word that asks this about the jobs of a feed
 abbrev pub AsksQuestion : List (String Global) → Question → Type 0

@@ -98,6 +98,7 @@ fn one_word(word: &String) -> Option<Request>
         "feasible" => Some(Request::Ask(Question::Feasible)),
         "best" => Some(Request::Ask(Question::Best)),
         "compare" => Some(Request::Ask(Question::Compare)),
+        "loss" => Some(Request::Ask(Question::Loss)),
         "lanes" => Some(Request::Lanes),
         "pause" => Some(Request::Pause),
         "resume" => Some(Request::Resume(AtEnd::Refuse)),

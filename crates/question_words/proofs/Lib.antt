@@ -3,4 +3,5 @@ pub mod Comparing
 pub mod Counts
 pub mod Finding
 pub mod Lines
+pub mod Losing
 pub mod Talking

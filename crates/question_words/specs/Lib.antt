@@ -3,5 +3,7 @@ pub mod Talk
 pub mod Feasible
 pub mod Compare
 pub mod Best
+pub mod Loss
 pub mod Questions
 pub mod Keeping
+pub mod Watching

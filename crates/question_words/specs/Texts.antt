@@ -7,6 +7,9 @@ use Rattle.dover_port.specs.declared.status.Status.{Status}
 use Rattle.dialogue.specs.declared.talker.Stop.{Stop}
 use Rattle.dialogue.specs.declared.talker.Stop.TheVariants.{NoMemory, Unwritten}
 use Rattle.question_words.specs.declared.answer.Answer.{Answer}
+use Rattle.question_words.specs.declared.answer.Rows.{Rows}
+use Rattle.question_words.specs.declared.answer.Rows.TheVariants.{Pieces, Stretches}
+use Rattle.question_words.specs.declared.answer.StretchRow.{StretchRow}
 
 -- the line of a piece
 abbrev pub piece_line : Piece → List ℕ
@@ -16,13 +19,26 @@ piece_line piece = with_numbers (codes "piece") (piece.from ∷ piece.until ∷ 
 abbrev pub piece_lines : List Piece → List (List ℕ)
 piece_lines pieces = map piece_line pieces
 
+-- the line of a stretch
+abbrev pub stretch_line : StretchRow → List ℕ
+stretch_line x = with_numbers (codes "stretch") (x.from ∷ x.until ∷ x.total ∷ x.cap ∷ x.value ∷ [])
+
+-- the line of each stretch
+abbrev pub stretch_lines : List StretchRow → List (List ℕ)
+stretch_lines xs = map stretch_line xs
+
+-- the line of each row
+abbrev pub row_lines : Rows → List (List ℕ)
+row_lines (Pieces pieces) = piece_lines pieces.items
+row_lines (Stretches xs) = stretch_lines xs.items
+
 -- what is said of jobs that are too many or too late
 abbrev pub size_text : List ℕ
 size_text = in_lines (codes "refused size" ∷ [])
 
 -- the text of an answer
 abbrev pub text_of : Answer → List ℕ
-text_of answer = answer.head ++ in_lines (piece_lines answer.pieces.items)
+text_of answer = answer.head ++ in_lines (row_lines answer.rows)
 
 -- the answer was put, or a front of its text that isn't all
 abbrev pub PutsBy : Answer → (old new : Option (List Move)) → (after : List ℕ) → Result Status Stop → Type 0

@@ -5,7 +5,7 @@ ghost use Rattle.dover_port.specs.Causes.{HasCause, StopsAtFailure};
 ghost use Rattle.dover_port.specs.Moves.{PutsThrough};
 ghost use Rattle.dover_port.specs.declared.status.Status.TheVariants.{Refused};
 ghost use Rattle.dialogue.specs.Turns.{StopCause, StopsOn};
-ghost use Rattle.question_words.specs.Texts.{PutsBy, piece_lines, text_of};
+ghost use Rattle.question_words.specs.Texts.{PutsBy, piece_lines, row_lines, stretch_lines, text_of};
 
 use dialogue::Stop;
 use dover_model::Piece;
@@ -14,12 +14,32 @@ use line_output::put_numbers;
 use line_text::BackLine;
 use std::alloc::Global;
 
-/// An answer: its status, its first lines, and the pieces whose lines come behind these.
+/// What is known of a stretch of ticks, and of the jobs that are released and due in it.
+#[derive(Clone, Copy)]
+pub(crate) struct StretchRow {
+    pub(crate) from: u64,
+    pub(crate) until: u64,
+    /// What they are worth together.
+    pub(crate) total: u64,
+    /// No schedule of them is worth more.
+    pub(crate) cap: u64,
+    /// What the run completes of it.
+    pub(crate) value: u64,
+}
+
+/// What has a line each.
+#[derive(Drop)]
+pub(crate) enum Rows {
+    Pieces(Vec<Piece>),
+    Stretches(Vec<StretchRow>),
+}
+
+/// An answer: its status, its first lines, and the rows whose lines come behind these.
 #[derive(Drop)]
 pub(crate) struct Answer {
     pub(crate) status: Status,
     pub(crate) head: BackLine,
-    pub(crate) pieces: Vec<Piece>,
+    pub(crate) rows: Rows,
 }
 
 /// Puts the line of each piece.
@@ -40,6 +60,42 @@ fn put_pieces<P: Port>(port: &mut P, out: &mut Output, pieces: &[Piece]) -> Resu
     Ok(())
 }
 
+/// Puts the line of each stretch.
+fn put_stretches<P: Port>(
+    port: &mut P,
+    out: &mut Output,
+    stretches: &[StretchRow],
+) -> Result<(), Failed>
+    ensures text { PutsThrough (P.moves port.old) (P.moves port.new) result out.old out.new
+        (in_lines (stretch_lines stretches.now)) }
+    ensures cause { HasCause
+        (P.write_faults port.old) (P.write_faults port.new) (P.read_faults port.old) (P.read_faults port.new) result }
+    ensures stops { StopsAtFailure (P.calls port.old) (P.calls port.new) result }
+{
+    for x in stretches {
+        let numbers = [x.from, x.until, x.total, x.cap, x.value];
+        match put_numbers(port, out, b"stretch", &numbers) {
+            Ok(()) => {}
+            Err(failed) => return Err(failed),
+        }
+    }
+    Ok(())
+}
+
+/// Puts the line of each row.
+fn put_rows<P: Port>(port: &mut P, out: &mut Output, rows: &Rows) -> Result<(), Failed>
+    ensures text { PutsThrough (P.moves port.old) (P.moves port.new) result out.old out.new
+        (in_lines (row_lines rows.now)) }
+    ensures cause { HasCause
+        (P.write_faults port.old) (P.write_faults port.new) (P.read_faults port.old) (P.read_faults port.new) result }
+    ensures stops { StopsAtFailure (P.calls port.old) (P.calls port.new) result }
+{
+    match rows {
+        Rows::Pieces(pieces) => put_pieces(port, out, pieces),
+        Rows::Stretches(stretches) => put_stretches(port, out, stretches),
+    }
+}
+
 impl Answer {
     /// A line that refuses.
     pub(crate) fn refused(alloc: Global, line: &[u8]) -> Answer
@@ -52,7 +108,7 @@ impl Answer {
         Answer {
             status: Status::Refused,
             head,
-            pieces: Vec::new(alloc),
+            rows: Rows::Pieces(Vec::new(alloc)),
         }
     }
 
@@ -68,7 +124,7 @@ impl Answer {
             Ok(()) => {}
             Err(_) => return Err(Stop::Unwritten),
         }
-        match put_pieces(port, out, &self.pieces) {
+        match put_rows(port, out, &self.rows) {
             Ok(()) => Ok(self.status),
             Err(_) => Err(Stop::Unwritten),
         }

@@ -10,7 +10,7 @@ ghost use Rattle.question_words.specs.Keeping.{Asked, Stands, IsAt, Costs};
 ghost use Rattle.question_words.specs.Texts.{text_of};
 
 use crate::answer::Answer;
-use crate::{Question, best, compare, feasible};
+use crate::{Question, best, compare, feasible, loss};
 use dialogue::{Stop, Talker};
 use dover_model::Memory;
 use dover_port::{Output, Port, Status};
@@ -48,6 +48,7 @@ fn answer<L: Ledger>(
         Question::Feasible => feasible::answer(alloc, listed),
         Question::Best => best::answer(alloc, listed, steps),
         Question::Compare => compare::answer(alloc, listed, steps),
+        Question::Loss => loss::answer(alloc, listed, steps),
     }
 }
 

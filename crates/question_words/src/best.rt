@@ -7,7 +7,7 @@ ghost use Rattle.queued_jobs.specs.Spending.{CostsAtMost};
 ghost use Rattle.question_words.specs.Best.{SaysBest};
 ghost use Rattle.question_words.specs.Texts.{text_of};
 
-use crate::answer::Answer;
+use crate::answer::{Answer, Rows};
 use crate::completing::completed;
 use best_set::{BestFault, best};
 use dover_model::Memory;
@@ -48,6 +48,6 @@ pub(crate) fn answer<L: Ledger>(
     Ok(Answer {
         status: Status::Done,
         head,
-        pieces: best.pieces,
+        rows: Rows::Pieces(best.pieces),
     })
 }

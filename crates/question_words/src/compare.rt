@@ -7,7 +7,7 @@ ghost use Rattle.queued_jobs.specs.Spending.{CostsAtMost};
 ghost use Rattle.question_words.specs.Compare.{SaysCompare};
 ghost use Rattle.question_words.specs.Texts.{text_of};
 
-use crate::answer::Answer;
+use crate::answer::{Answer, Rows};
 use crate::completing::completed;
 use dover_model::Memory;
 use dover_port::Status;
@@ -51,6 +51,6 @@ pub(crate) fn answer<L: Ledger>(
     Ok(Answer {
         status: Status::Done,
         head,
-        pieces: Vec::new(alloc),
+        rows: Rows::Pieces(Vec::new(alloc)),
     })
 }

@@ -6,7 +6,7 @@ ghost use Rattle.feed_list.specs.Listing.{listed_instance};
 ghost use Rattle.question_words.specs.Feasible.{SaysFeasible};
 ghost use Rattle.question_words.specs.Texts.{text_of};
 
-use crate::answer::Answer;
+use crate::answer::{Answer, Rows};
 use dover_model::Memory;
 use dover_port::Status;
 use feasibility::{Feasible, judge_feasible};
@@ -29,7 +29,7 @@ pub(crate) fn answer(alloc: Global, listed: &Listed) -> Result<Answer, Memory>
             Ok(Answer {
                 status: Status::Done,
                 head,
-                pieces,
+                rows: Rows::Pieces(pieces),
             })
         }
         Feasible::Window { a, b, work } => {
@@ -37,7 +37,7 @@ pub(crate) fn answer(alloc: Global, listed: &Listed) -> Result<Answer, Memory>
             Ok(Answer {
                 status: Status::No,
                 head,
-                pieces: Vec::new(alloc),
+                rows: Rows::Pieces(Vec::new(alloc)),
             })
         }
     }

@@ -7,6 +7,7 @@ mod best;
 mod compare;
 mod completing;
 mod feasible;
+mod loss;
 mod question;
 
 pub use question::{Question, question_word};

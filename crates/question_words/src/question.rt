@@ -25,6 +25,8 @@ pub enum Question {
     Best,
     /// What the rules complete, and what two other policies do.
     Compare,
+    /// What the rules lose at most, and where there is too much work.
+    Loss,
 }
 
 /// Reads a feed to its end, and then answers the question on its jobs. A feed with a fault, or that ends too early, is

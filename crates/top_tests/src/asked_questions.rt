@@ -1,4 +1,4 @@
-//! Questions: feeds, and what `feasible`, `compare` and `best` answer.
+//! Questions: feeds, and what `feasible`, `compare`, `loss` and `best` answer.
 use crate::calls::{AT_ONCE, Cut, Failing, agree, all_fail, is_last};
 use dover_port::Status;
 use std::test::Fail;
@@ -96,6 +96,36 @@ const BEST: [(&str, Status, &str); 4] = [
     ),
 ];
 
+/// The same of `loss`: no stretch, one with a job that is due in it and released before, one at the price of a job, and
+/// a feed that is refused.
+const LOST: [(&str, Status, &str); 5] = [
+    (
+        "k 1 1\njob 0 2 2 2\nend\n",
+        Status::Done,
+        "total 2\nvalue 2\nceiling 2\nbound 8\n",
+    ),
+    (
+        FIRST,
+        Status::Done,
+        "total 31\nvalue 21\nceiling 21\nbound 84\nstretch 0 21 31 21 21\n",
+    ),
+    (
+        "k 1 1\njob 0 2 8 2\njob 3 4 7 4\njob 3 4 8 4\nend\n",
+        Status::Done,
+        "total 10\nvalue 6\nceiling 6\nbound 24\nstretch 3 8 8 4 4\n",
+    ),
+    (
+        "k 2 1
+job 0 5 30 10\njob 0 5 30 10\njob 0 5 30 10\njob 0 5 30 10\njob 0 5 30 5\njob 0 5 30 5
+job 0 5 30 5\njob 0 5 30 5\njob 0 5 30 5\njob 0 5 30 5\njob 0 5 30 5\njob 0 5 30 5
+end
+",
+        Status::Done,
+        "total 80\nvalue 50\nceiling 50\nbound 291\nstretch 0 30 80 50 50\n",
+    ),
+    ("k 1 1\nx\nend\n", Status::Refused, "refused 2 line\n"),
+];
+
 /// A feed of 21 jobs.
 const MANY: &str = "k 1 1
 job 0 1 1 1\njob 0 1 1 1\njob 0 1 1 1\njob 0 1 1 1\njob 0 1 1 1\njob 0 1 1 1\njob 0 1 1 1
@@ -141,6 +171,12 @@ fn feeds_and_their_best_sets(rt: HostRuntime) -> Result<(), Fail> {
 #[test]
 fn feeds_and_whether_they_can_be_met(rt: HostRuntime) -> Result<(), Fail> {
     assert!(rt; agree(&rt, &["feasible"], &FEASIBLE)? && all_fail(&rt, &["feasible"], &SHORT)?);
+    Ok(())
+}
+
+#[test]
+fn feeds_and_what_their_overload_costs(rt: HostRuntime) -> Result<(), Fail> {
+    assert!(rt; agree(&rt, &["loss"], &LOST)?);
     Ok(())
 }
 

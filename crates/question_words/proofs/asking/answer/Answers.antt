@@ -8,3 +8,6 @@ returns-in-Best-clause-says g c = rw c.in-Best.is c.answer-in-Best.ensures.says
 
 pub returns-in-Compare-clause-says : goal.returns-in-Compare-clause-says
 returns-in-Compare-clause-says g c = rw c.in-Compare.is c.answer-in-Compare.ensures.says
+
+pub returns-in-Loss-clause-says : goal.returns-in-Loss-clause-says
+returns-in-Loss-clause-says g c = rw c.in-Loss.is c.answer-in-Loss.ensures.says

@@ -1,23 +1,23 @@
 use Rattle.std.proofs.Common.{[], refl}
 use Rattle.dover_model.specs.Lines.{in_lines}
 use Rattle.dover_port.proofs.Through.{passes_then, passes_then_cut, cut_longer}
-use Rattle.question_words.specs.Texts.{piece_lines}
+use Rattle.question_words.specs.Texts.{row_lines}
 use Rattle.question_words.proofs.answer.Answer.put.Goals as goal
 
 pub returns-in-Err-clause-puts : goal.returns-in-Err-clause-puts
 returns-in-Err-clause-puts g c =
-    cut_longer _ _ [] c.args.self.now.head (in_lines (piece_lines c.args.self.now.pieces.items))
+    cut_longer _ _ [] c.args.self.now.head (in_lines (row_lines c.args.self.now.rows))
     (rw (c.requires, c.bytes.ensures.is) at c.in-Err.ensures.text.part)
 
-pub returns-in-Ok-put_pieces-clause-puts : goal.returns-in-Ok-put_pieces-clause-puts
-returns-in-Ok-put_pieces-clause-puts g c = (
+pub returns-in-Ok-put_rows-clause-puts : goal.returns-in-Ok-put_rows-clause-puts
+returns-in-Ok-put_rows-clause-puts g c = (
   refl,
   passes_then _ _ _ [] _ _ c.args.self.now.head _ (rw (c.requires, c.bytes.ensures.is) at c.in-Ok.ensures.text.all)
-      (rw c.deref.ensures.value at c.in-Ok-put_pieces.ensures.text.all),
+      c.in-Ok-put_rows.ensures.text.all,
 )
 
-pub returns-in-Err-put_pieces-clause-puts : goal.returns-in-Err-put_pieces-clause-puts
-returns-in-Err-put_pieces-clause-puts g c =
-    passes_then_cut _ _ _ [] _ c.put_pieces.new.out c.args.self.now.head _
+pub returns-in-Err-put_rows-clause-puts : goal.returns-in-Err-put_rows-clause-puts
+returns-in-Err-put_rows-clause-puts g c =
+    passes_then_cut _ _ _ [] _ c.put_rows.new.out c.args.self.now.head _
     (rw (c.requires, c.bytes.ensures.is) at c.in-Ok.ensures.text.all)
-    (rw c.deref.ensures.value at c.in-Err-put_pieces.ensures.text.part)
+    c.in-Err-put_rows.ensures.text.part

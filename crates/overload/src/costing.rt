@@ -1,0 +1,180 @@
+//! What an overload costs at most, stretch by stretch.
+ghost use Rattle.std.specs.Prelude.{◌≡◌, ◌≤◌, ◌<◌, ◌&&◌, cond, false, get_or, length, OnOk, IfOk};
+ghost use Rattle.dover_model.specs.Instance.{IsInOrder, total_value};
+ghost use Rattle.dover_model.specs.JobFacts.{IsJob};
+ghost use Rattle.dover_model.specs.Limits.{last_tick, most_jobs, most_value};
+ghost use Rattle.dover_model.specs.Sound.{Each};
+ghost use Rattle.dover_model.specs.Windows.{is_inside};
+ghost use Rattle.overload.specs.Stretches.{IsStretch, IsCosted, jobs_inside, value_inside};
+ghost use Rattle.overload.specs.Collecting.{HasCosted, IsCut, IsNear};
+
+use crate::caps::cap;
+use crate::overfull::{Ticks, overfull};
+use crate::stretch::{Costed, Stretch};
+use dover_model::jobs::LAST_TICK;
+use dover_model::{Job, Memory};
+use std::alloc::Global;
+
+/// The sum of the values of these jobs.
+fn total_value(jobs: &[Job]) -> u64
+    requires { length jobs.now ≤ most_jobs }
+    ensures is { result ≡ total_value jobs.now }
+    ensures jobs { Each IsJob jobs.now }
+{
+    let mut value = 0;
+    for job in jobs {
+        value += job.value();
+    }
+    value
+}
+
+/// How many jobs are released before a tick.
+fn released(jobs: &[Job], tick: u64) -> usize
+    requires { IsInOrder jobs.now }
+    ensures { IsCut jobs.now tick result }
+{
+    let mut low = 0;
+    let mut high = jobs.len();
+    while low < high {
+        let middle = low + (high - low) / 2;
+        if jobs[middle].release() < tick {
+            low = middle + 1;
+        } else {
+            high = middle;
+        }
+    }
+    low
+}
+
+/// Those of the jobs that are released and due in some ticks.
+fn inside(alloc: Global, jobs: &[Job], from: u64, until: u64) -> Result<Vec<Job>, Memory>
+    ensures { IfOk result (λ inside. inside.items ≡ jobs_inside jobs.now from until) }
+{
+    let mut inside = Vec::new(alloc);
+    for job in jobs {
+        if from <= job.release() && job.deadline() <= until {
+            inside.push(*job)?;
+        }
+    }
+    Ok(inside)
+}
+
+/// The jobs that are released in some ticks.
+fn near(jobs: &[Job], from: u64, until: u64) -> &[Job]
+    requires in_order { IsInOrder jobs.now }
+    ensures { IsNear jobs.now from until result.now }
+{
+    let first = released(jobs, from);
+    let second = released(jobs, until);
+    jobs.get(first..second).unwrap_or(&[])
+}
+
+/// What is known of the jobs inside some ticks.
+fn stretch(alloc: Global, jobs: &[Job], ticks: Ticks) -> Result<Stretch, Memory>
+    requires in_order { IsInOrder jobs.now }
+    requires count { length jobs.now ≤ most_jobs }
+    requires each { Each IsJob jobs.now }
+    requires some { ticks.from < ticks.until }
+    requires due { ticks.until ≤ last_tick }
+    ensures from { IfOk result (λ x. x.from ≡ ticks.from) }
+    ensures until { IfOk result (λ x. x.until ≡ ticks.until) }
+    ensures stretch { IfOk result (IsStretch jobs.now) }
+{
+    let Ticks { from, until } = ticks;
+    let inside = inside(alloc, near(jobs, from, until), from, until)?;
+    let total = total_value(&inside);
+    let cap = cap(alloc, &inside, from, until, total)?;
+    Ok(Stretch {
+        from,
+        until,
+        total,
+        cap,
+    })
+}
+
+/// The stretches so far, and where the last ends.
+#[derive(Drop)]
+struct Costing {
+    costed: Costed,
+    at: u64,
+}
+
+impl Costing {
+    /// Adds a stretch with these ticks, unless it begins too early or ends too late.
+    fn add(&mut self, alloc: Global, jobs: &[Job], ticks: Ticks) -> Result<(), Memory>
+        requires in_order { IsInOrder jobs.now }
+        requires count { length jobs.now ≤ most_jobs }
+        requires each { Each IsJob jobs.now }
+        requires costed { HasCosted jobs.now self.old }
+        ensures { OnOk result (HasCosted jobs.now self.new) }
+    {
+        if ticks.from < self.at || ticks.until <= ticks.from || LAST_TICK < ticks.until {
+            return Ok(());
+        }
+        let x = stretch(alloc, jobs, ticks)?;
+        self.costed.stretches.push(x)?;
+        self.costed.cap -= x.total - x.cap;
+        self.at = ticks.until;
+        Ok(())
+    }
+}
+
+/// Where jobs have more work than there are ticks, what they are worth at most there, and what all jobs are worth at most.
+///
+/// # Errors
+///
+/// `Memory` where there is none, and nothing else.
+pub fn cost_of(alloc: Global, jobs: &[Job]) -> Result<Costed, Memory>
+    requires in_order { IsInOrder jobs.now }
+    requires count { length jobs.now ≤ most_jobs }
+    ensures { IfOk result (IsCosted jobs.now) }
+{
+    let total = total_value(jobs);
+    let mut costing = Costing {
+        costed: Costed {
+            total,
+            cap: total,
+            stretches: Vec::new(alloc),
+        },
+        at: 0,
+    };
+    for ticks in overfull(alloc, jobs)?.iter() {
+        costing.add(alloc, jobs, *ticks)?;
+    }
+    Ok(costing.costed)
+}
+
+/// Whether the job of a place is done.
+fn is_done(done: &[bool], place: usize) -> bool
+    ensures { result ≡ get_or done.now place false }
+{
+    done.get(place).copied().unwrap_or(false)
+}
+
+/// What a job is worth if it is done, and inside some ticks, and else 0.
+fn value_if(job: &Job, done: bool, from: u64, until: u64) -> u64
+    ensures is { result ≡ cond (is_inside from until job.now && done) job.now.value 0 }
+    ensures modest { result ≤ most_value }
+{
+    if done && from <= job.release() && job.deadline() <= until {
+        return job.value();
+    }
+    0
+}
+
+/// What the jobs that are inside some ticks and done are worth, by whether each job is done.
+pub fn value_inside(jobs: &[Job], done: &[bool], from: u64, until: u64) -> u64
+    requires in_order { IsInOrder jobs.now }
+    requires count { length jobs.now ≤ most_jobs }
+    requires each { Each IsJob jobs.now }
+    ensures { result ≡ value_inside jobs.now (λ n. get_or done.now n false) from until }
+{
+    let mut place = released(jobs, from);
+    let second = released(jobs, until);
+    let mut value = 0;
+    while place < second {
+        value += value_if(&jobs[place], is_done(done, place), from, until);
+        place += 1;
+    }
+    value
+}

@@ -1,0 +1,36 @@
+use Rattle.std.proofs.Common.{◌∙◌, ap, subst, sym, codes, get_or, false}
+use Rattle.dover_model.specs.JobFacts.{IsJob}
+use Rattle.dover_model.specs.Sound.{Each}
+use Rattle.dover_model.proofs.Members.{all_member}
+use Rattle.feed_list.specs.Listing.{listed_instance}
+use Rattle.question_words.specs.Texts.{stretch_lines}
+use Rattle.question_words.proofs.Comparing.{value_low}
+use Rattle.question_words.proofs.Lines.{four_written}
+use Rattle.question_words.proofs.Losing.{rows_said, lost}
+use Rattle.question_words.proofs.loss.answer.Goals as goal
+
+pub bound-requires : goal.bound-requires
+bound-requires g c = record {
+  completed = value_low (listed_instance c.args.listed.now) c.requires _ c.in_ok-completed.ensures.value;
+}
+
+pub rows-requires-clause-each : goal.rows-requires-clause-each
+rows-requires-clause-each g c = subst (Each IsJob) (sym c.deref-2.ensures.value)
+    (all_member IsJob c.args.listed.now.jobs.items c.requires.each)
+
+pub returns-clause-says : goal.returns-clause-says
+returns-clause-says g c =
+    let J = listed_instance c.args.listed.now in
+    let costed = c.in_ok-costed.costed in
+    let rows = c.in_ok-rows.rows.items in
+    lost J c.requires costed c.deref.result.now c.deref.ensures.value c.in_ok-costed.ensures
+    c.in_ok-completed.completed.value c.bound.result c.in_ok-completed.ensures.value c.bound.ensures.is rows
+    (rows_said J c.requires costed c.deref-2.result.now c.deref-2.ensures.value c.deref-3.result.now
+    c.deref-3.ensures.value (λ n. get_or c.deref-4.result.now n false)
+    (λ n low. ap (λ flags. get_or flags n false) c.deref-4.ensures.value ∙ c.in_ok-completed.ensures.done n low)
+    rows c.in_ok-rows.ensures) _
+    (four_written (codes "total") (codes "value") (codes "ceiling") (codes "bound") costed.total
+    c.in_ok-completed.completed.value costed.cap c.bound.result (stretch_lines rows) c.new-head.result
+    c.write_numbers.new.line c.write_numbers-2.new.line c.write_numbers-3.new.line c.write_numbers-4.new.line
+    c.new-head.ensures c.write_numbers.ensures.is c.write_numbers-2.ensures.is c.write_numbers-3.ensures.is
+    c.write_numbers-4.ensures.is)

@@ -1,0 +1,57 @@
+-- What the word `loss` says of the jobs of a feed.
+use Rattle.std.specs.Prelude.{◌≡◌, ◌≤◌, ℕ, List, [], ◌∷◌, map, codes, Bool, false, ◌==◌}
+use Rattle.std.specs.List.{list_any}
+use Rattle.dover_model.specs.Bound.{bound}
+use Rattle.dover_model.specs.Instance.{Instance, total_value}
+use Rattle.dover_model.specs.JobFacts.{JobFacts}
+use Rattle.dover_model.specs.Lines.{with_numbers, in_lines}
+use Rattle.dover_model.specs.Run.{completed_value, printed}
+use Rattle.dover_model.specs.declared.events.Event.{Event}
+use Rattle.dover_model.specs.declared.events.Event.TheVariants.{Complete}
+use Rattle.dover_port.specs.declared.status.Status.{Status}
+use Rattle.dover_port.specs.declared.status.Status.TheVariants.{Done}
+use Rattle.overload.specs.Stretches.{IsCosted, value_inside}
+use Rattle.overload.specs.declared.stretch.Costed.{Costed}
+use Rattle.overload.specs.declared.stretch.Stretch.{Stretch}
+use Rattle.question_words.specs.Texts.{stretch_lines}
+use Rattle.question_words.specs.declared.answer.StretchRow.{StretchRow}
+
+-- the step completes the job of the number
+abbrev pub completes : ℕ → Event → Bool
+completes n (Complete at m) = m == n
+completes n _ = false
+
+-- the run of these jobs completes that of the number
+abbrev pub is_completed : Instance → ℕ → Bool
+is_completed J n = list_any (completes n) (printed J)
+
+-- the stretch, with the value of the jobs inside that are done, by whether the job of each number is
+abbrev pub row_of : List JobFacts → (ℕ → Bool) → Stretch → StretchRow
+row_of jobs done x = record {
+  from = x.from;
+  until = x.until;
+  total = x.total;
+  cap = x.cap;
+  value = value_inside jobs done x.from x.until;
+}
+
+-- what all jobs are worth, what the run completes, what no schedule is worth more than, and the bound; and each stretch,
+-- with what the run completes of the jobs inside
+abbrev pub loss_text : Instance → Costed → List ℕ
+loss_text J costed = in_lines (
+    with_numbers (codes "total") (total_value J.jobs ∷ [])
+    ∷ with_numbers (codes "value") (completed_value J ∷ [])
+    ∷ with_numbers (codes "ceiling") (costed.cap ∷ [])
+    ∷ with_numbers (codes "bound") (bound J.rules.ratio (completed_value J) ∷ [])
+    ∷ stretch_lines (map (row_of J.jobs (is_completed J)) costed.stretches.items))
+
+-- No schedule is worth more than the ceiling, which is the value of the jobs outside of the stretches, and their caps. The
+-- run completes no more.
+pub record IsCeiling (J : Instance) (it : Costed) : Type 0 where
+  pub costed : IsCosted J.jobs it
+  pub above : completed_value J ≤ it.cap
+
+-- Done with some stretches that show a ceiling
+abbrev pub SaysLoss : Instance → Status → List ℕ → Type 0
+SaysLoss J Done text = (costed : Costed) × IsCeiling J costed × (text ≡ loss_text J costed)
+SaysLoss J _ text = ⊥

@@ -1,0 +1,83 @@
+//! The word `loss`.
+ghost use Rattle.std.specs.Prelude.{◌≡◌, ◌≤◌, IfOk, length, map, get_or, false};
+ghost use Rattle.dover_model.specs.Instance.{IsInOrder, IsValid};
+ghost use Rattle.dover_model.specs.JobFacts.{IsJob};
+ghost use Rattle.dover_model.specs.Limits.{most_jobs};
+ghost use Rattle.dover_model.specs.Sound.{Each};
+ghost use Rattle.dialogue.specs.Talk.{IsFinal};
+ghost use Rattle.feed_list.specs.Listing.{listed_instance};
+ghost use Rattle.queued_jobs.specs.Spending.{CostsAtMost};
+ghost use Rattle.question_words.specs.Loss.{SaysLoss, row_of};
+ghost use Rattle.question_words.specs.Texts.{text_of};
+
+use crate::answer::{Answer, Rows, StretchRow};
+use crate::completing::completed_jobs;
+use dover_model::{Job, Memory};
+use dover_port::Status;
+use feed_list::Listed;
+use line_output::write_numbers;
+use line_text::BackLine;
+use overload::{Stretch, cost_of, value_inside};
+use root_compare::bound;
+use std::alloc::Global;
+use std::sync::ledger::Ledger;
+use step_count::Steps;
+
+/// The stretches, with what is done of the jobs inside.
+fn rows(
+    alloc: Global,
+    jobs: &[Job],
+    stretches: &[Stretch],
+    done: &[bool],
+) -> Result<Vec<StretchRow>, Memory>
+    requires in_order { IsInOrder jobs.now }
+    requires count { length jobs.now ≤ most_jobs }
+    requires each { Each IsJob jobs.now }
+    ensures { IfOk result (λ rows. rows.items ≡ map (row_of jobs.now (λ n. get_or done.now n false)) stretches.now) }
+{
+    let mut rows = Vec::new(alloc);
+    for x in stretches {
+        let value = value_inside(jobs, done, x.from, x.until);
+        rows.push(StretchRow {
+            from: x.from,
+            until: x.until,
+            total: x.total,
+            cap: x.cap,
+            value,
+        })?;
+    }
+    Ok(rows)
+}
+
+/// Finds where the jobs have more work than there are ticks, and says what came of it: what all jobs are worth, the
+/// value that the run completes, what no schedule is worth more than, and the bound on what any schedule is worth; and
+/// for each stretch of ticks, what the jobs that are released and due in it are worth, what no schedule of these is worth
+/// more than, and what the run completes of them. Memory is taken for the search and for the run.
+pub(crate) fn answer<L: Ledger>(
+    alloc: Global,
+    listed: &Listed,
+    steps: &mut Steps<L>,
+) -> Result<Answer, Memory>
+    requires { IsValid (listed_instance listed.now) }
+    ensures says { IfOk result (λ answer. SaysLoss (listed_instance listed.now) answer.status (text_of answer)) }
+    ensures ends { IfOk result (λ answer. IsFinal answer.status) }
+    ensures count { CostsAtMost (length listed.now.jobs.items) steps.old steps.new }
+{
+    let costed = cost_of(alloc, &listed.jobs)?;
+    let completed = completed_jobs(alloc, listed, steps)?;
+    let rows = rows(alloc, &listed.jobs, &costed.stretches, &completed.done)?;
+    let mut head = BackLine::new();
+    write_numbers(
+        &mut head,
+        b"\nbound",
+        &[bound(completed.value, listed.ratio)],
+    );
+    write_numbers(&mut head, b"\nceiling", &[costed.cap]);
+    write_numbers(&mut head, b"\nvalue", &[completed.value]);
+    write_numbers(&mut head, b"total", &[costed.total]);
+    Ok(Answer {
+        status: Status::Done,
+        head,
+        rows: Rows::Stretches(rows),
+    })
+}
