@@ -7,16 +7,18 @@
    Jobs    1 <= work, release + work <= deadline <= 1,000,000,000,000, 1 <= value <= 1,000,000,000. The ratio p/q is
            an upper bound of how often the densest job (value for each tick of work) is worth the least dense one:
            1 <= q <= 1,000, q <= p <= 1,000,000.
-   Limits  Between two moments of rest (dover_renew): `capacity` jobs, at most 1,000,000, and 10,000,000,000,000 in
-           value.
-   Memory  dover_init takes all of it: 208 bytes for each job of the capacity and a little more. No later call takes
+   Limits  At once: `capacity` open jobs, which are released and not over; at most 1,000,000. Since the last moment of
+           rest: 1,000,000 jobs, and 10,000,000,000,000 in value. Rest is where dover_step answers DOVER_NONE and no
+           job is open: dover_room is then the room that there was at first. From there on these limits and that of
+           densities start anew; the clock and the numbers go on.
+   Memory  dover_init takes all of it: 116 bytes for each job of the capacity and a little more. No later call takes
            or gives back any, but dover_drop, which gives all back.
    Errors  Every call but dover_init answers whatever it is asked, in any order. A refused call leaves the engine as
            it was.
    Threads One engine is used by one call at a time. Two engines are independent. No call is made from a signal
            handler, or from the forked child of a process with threads. No call blocks, waits, locks or reads a clock.
-   Time    A step costs at most 20 comparisons, times the binary digits of the count of jobs, for each job that begins
-           or ceases to wait. A take moves all held jobs at once: the capacity bounds them. */
+   Time    A step costs at most 20 comparisons, times the binary digits of the count of jobs since the last moment of
+           rest, for each job that begins or ceases to wait. A take moves all held jobs at once: the capacity bounds them. */
 #ifndef DOVER_H
 #define DOVER_H
 #include <stddef.h>
@@ -27,7 +29,7 @@ extern "C" {
 
 /* A place for an engine: static, on a stack or in an arena, at a multiple of 8 bytes. From dover_init to dover_drop
    nobody but these calls reads or writes it. It isn't moved or copied. */
-#define DOVER_WORDS 64
+#define DOVER_WORDS 80
 typedef struct { uint64_t opaque[DOVER_WORDS]; } dover;
 
 /* How many bytes an engine takes: at most sizeof(dover). Test it once, at the start. */
@@ -47,7 +49,7 @@ enum {
 };
 uint32_t dover_status(dover *);
 
-/* Hands in a job under the next number, 0 at first. Numbers are never used twice, whatever dover_renew forgets.
+/* Hands in a job under the next number, 0 at first. Numbers are never used twice.
    The status is the first of these causes that holds, in this order, and 0 where none does. */
 typedef struct { uint64_t number; uint32_t status; } dover_admitted;
 enum {
@@ -55,10 +57,10 @@ enum {
     DOVER_NOT_MADE = 7,  /* there is no engine */
     DOVER_UNSETTLED = 1, /* dover_step to the release has to answer DOVER_NONE first, also between two jobs of one */
     DOVER_BAD_JOB = 2,   /* a limit of a job */
-    DOVER_COUNT = 3,     /* 1,000,000 jobs since the last renewal */
-    DOVER_TOTAL = 4,     /* too much value since the last renewal */
-    DOVER_DENSITY = 5,   /* its density and that of a job since the last renewal break the ratio */
-    DOVER_FULL = 6       /* the capacity is used up: wait for rest and renew, or drop the job and go on */
+    DOVER_COUNT = 3,     /* 1,000,000 jobs since the last moment of rest */
+    DOVER_TOTAL = 4,     /* too much value since then */
+    DOVER_DENSITY = 5,   /* its density and that of a job since then break the ratio */
+    DOVER_FULL = 6       /* as many jobs are open as the capacity allows: wait till one is over, or drop the job */
 };
 dover_admitted dover_admit(dover *, uint64_t release, uint64_t work, uint64_t deadline, uint64_t value);
 
@@ -85,16 +87,10 @@ dover_decision dover_step(dover *, uint64_t mark);
    admitted from then on. */
 dover_decision dover_finish(dover *);
 
-/* Forgets all jobs, where all are over and the last dover_step answered DOVER_NONE: answers 1. The clock and numbers
-   go on, there is room again for `capacity` jobs, and the limits of count, value and ratio start anew. Else it answers
-   0, and nothing changes. It is 0 for good once more than 10^18 jobs, or more than 10^18 in value, would be
-   forgotten. */
-uint32_t dover_renew(dover *);
-
-/* The value of all jobs that completed, also of those that were forgotten. 0 where there is no engine. */
+/* The value of all jobs that completed. 0 where there is no engine. */
 uint64_t dover_value(dover *);
 
-/* For how many further jobs there is room. 0 where there is no engine. */
+/* For how many open jobs more there is room. 0 where there is no engine. */
 uint32_t dover_room(dover *);
 
 /* Gives back the memory. The place is free again. */

@@ -142,7 +142,7 @@ static void plain_settle(uint64_t mark) {
     while (d.kind != DOVER_NONE && d.kind <= DOVER_END);
 }
 
-// Preemptions, a take, an abandonment, renewals and the end, with no calls but the engine's.
+// Preemptions, a take, an abandonment and the end, with no calls but the engine's.
 static void all_calls() {
     uint64_t t = 0;
     for (uint64_t round = 0; round < 10; round++) {
@@ -157,7 +157,7 @@ static void all_calls() {
         plain_settle(t);
         dover_admit(&engine, t, 1000000, t + 1000000, 1000000000);
         plain_settle(t = due + 1);
-        if (dover_renew(&engine) != 1 || dover_value(&engine) == 0 || dover_room(&engine) == 0) fail("no renewal", 0);
+        if (dover_value(&engine) == 0 || dover_room(&engine) != 1000) fail("some job is open", 0);
     }
     while (dover_finish(&engine).kind != DOVER_NONE) {}
 }

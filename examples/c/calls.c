@@ -1,4 +1,4 @@
-/* Each cause of each call, renewals, two engines, and no memory after dover_init. Prints a line for each row that
+/* Each cause of each call, rest, two engines, and no memory after dover_init. Prints a line for each row that
    fails, and ends with 0 where none does. */
 #include <stdio.h>
 #include <string.h>
@@ -50,7 +50,7 @@ static void making(void) {
     dover_init(&b, 0, 0, 1, 10); /* no engine */
     ROW(admit(&b, 0, 1, 1, 1) == DOVER_NOT_MADE && dover_step(&b, 0).kind == DOVER_NO_ENGINE &&
         dover_finish(&b).kind == DOVER_NO_ENGINE);
-    ROW(dover_renew(&b) == 0 && dover_value(&b) == 0 && dover_room(&b) == 0 &&
+    ROW(dover_value(&b) == 0 && dover_room(&b) == 0 &&
         dover_step(&b, big).kind == DOVER_NO_ENGINE);
     dover_drop(&b);
 }
@@ -74,20 +74,17 @@ static void one_by_one(void) {
     ROW(admit(&a, 0, 2, 9, 2) == DOVER_UNSETTLED);
     ROW(settle(&a, 0) == DOVER_NONE && admit(&a, 0, 2, 9, 5) == DOVER_DENSITY &&
         admit(&a, 0, 2, 9, 4) == DOVER_ADMITTED);
-    ROW(dover_renew(&a) == 0); /* not settled, not at rest */
-    ROW(settle(&a, 1) == DOVER_NONE && dover_renew(&a) == 0 && dover_value(&a) == 0);
+    ROW(settle(&a, 1) == DOVER_NONE && dover_value(&a) == 0 && dover_room(&a) == 1);
     ROW(dover_step(&a, 0).kind == DOVER_FALLS && dover_step(&a, last + 1).kind == DOVER_LATE &&
         dover_step(&a, big).kind == DOVER_LATE);
-    ROW(settle(&a, 4) == DOVER_NONE && dover_value(&a) == 6 && dover_room(&a) == 1);
-    ROW(dover_renew(&a) == 1 && dover_room(&a) == 3 && dover_value(&a) == 6 && dover_renew(&a) == 1);
+    ROW(settle(&a, 4) == DOVER_NONE && dover_value(&a) == 6 && dover_room(&a) == 3);
     ROW(dover_step(&a, 3).kind == DOVER_FALLS);
     dover_admitted third = dover_admit(&a, 4, 1, 5, 1000); /* no earlier job binds its density */
     ROW(third.status == DOVER_ADMITTED && third.number == 2);
     dover_decision e = dover_step(&a, 4);
     ROW(e.kind == DOVER_RELEASE && e.job == 2 && e.tick == 4);
     ROW((e = dover_finish(&a)).kind == DOVER_RUN && e.job == 2 && e.tick == 4);
-    ROW(dover_step(&a, 4).kind == DOVER_FINISHED && admit(&a, 4, 1, 5, 1000) == DOVER_UNSETTLED &&
-        dover_renew(&a) == 0);
+    ROW(dover_step(&a, 4).kind == DOVER_FINISHED && admit(&a, 4, 1, 5, 1000) == DOVER_UNSETTLED);
     ROW((e = dover_finish(&a)).kind == DOVER_COMPLETE && e.job == 2 && e.tick == 5);
     ROW((e = dover_finish(&a)).kind == DOVER_END && e.tick == 1006 && dover_finish(&a).kind == DOVER_NONE &&
         dover_value(&a) == 1006);
@@ -97,14 +94,14 @@ static void one_by_one(void) {
     dover_drop(&b);
 }
 
-/* An engine for four jobs serves 400,000, three at a time, beside one for four jobs in all. */
+/* An engine for four open jobs serves 400,000, beside one whose jobs stay open. */
 static void for_long(void) {
     dover_init(&a, 1000, 1, 2, 4);
     dover_init(&b, 1000, 1, 2, 4);
     unsigned long before = taken;
     uint64_t t = 0, wrong = 0, number = 0;
     for (int i = 0; i < 100000; i++) {
-        if (settle(&a, t) != DOVER_NONE || (i > 0 && dover_renew(&a) != 1)) wrong++;
+        if (settle(&a, t) != DOVER_NONE || dover_room(&a) != 4) wrong++;
         for (uint64_t j = 0; j < 4; j++) {
             dover_admitted x = dover_admit(&a, t, 2, t + 4 + j, 5 + j);
             if (x.status != DOVER_ADMITTED || x.number != number++) wrong++;
@@ -114,8 +111,8 @@ static void for_long(void) {
     }
     ROW(wrong == 0 && number == 400000);
     for (uint64_t j = 0; j < 5; j++) {
-        settle(&b, 9 * j);
-        ROW(admit(&b, 9 * j, 2, 9 * j + 4, 5) == (j < 4 ? DOVER_ADMITTED : DOVER_FULL));
+        settle(&b, j);
+        ROW(admit(&b, j, 20, 100 + j, 50) == (j < 4 ? DOVER_ADMITTED : DOVER_FULL));
     }
     ROW(taken == before);
     dover_drop(&a);
@@ -134,16 +131,18 @@ static void limits(void) {
     ROW(admit(&a, 10000, most, 10000 + 2 * most, most) == DOVER_TOTAL);
     ROW(admit(&a, 10000, 1, 10002, 1) == DOVER_TOTAL);
     dover_drop(&a);
-    dover_init(&a, 1, 1, 1, 1000000);
+    dover_init(&a, 1, 1, 1, 3);
     unsigned long before = taken;
     uint64_t t = 0;
-    for (int i = 0; i < 1000000; i++, t++) {
+    ROW(settle(&a, 0) == DOVER_NONE && admit(&a, 0, 900000, 2000000, 900000) == DOVER_ADMITTED); /* open for long */
+    for (int i = 1; i < 1000000; i++, t++) {
         settle(&a, t);
         if (admit(&a, t, 1, t + 1, 1) != DOVER_ADMITTED) ROW(0);
     }
     settle(&a, t);
-    ROW(dover_room(&a) == 0 && admit(&a, t, 1, t + 1, 1) == DOVER_COUNT);
-    ROW(dover_renew(&a) == 1 && dover_room(&a) == 1000000 && dover_admit(&a, t, 1, t + 1, 1).number == 1000000);
+    ROW(dover_room(&a) == 2 && admit(&a, t, 1, t + 1, 1) == DOVER_COUNT);
+    settle(&a, t = 2000000);
+    ROW(dover_room(&a) == 3 && dover_admit(&a, t, 1, t + 1, 1).number == 1000000);
     ROW(taken == before);
     dover_drop(&a);
 }

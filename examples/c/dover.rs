@@ -5,7 +5,7 @@ use std::mem::MaybeUninit;
 use std::num::NonZeroU32;
 
 #[repr(C, align(8))]
-struct Place([u64; 64]);
+struct Place([u64; 80]);
 
 /// The answer to a job: status 0 and its number, or why it wasn't admitted.
 #[repr(C)]
@@ -35,7 +35,6 @@ unsafe extern "C" {
     fn dover_admit(place: *mut Place, release: u64, work: u64, deadline: u64, value: u64) -> Admitted;
     fn dover_step(place: *mut Place, mark: u64) -> Decision;
     fn dover_finish(place: *mut Place) -> Decision;
-    fn dover_renew(place: *mut Place) -> u32;
     fn dover_value(place: *mut Place) -> u64;
     fn dover_room(place: *mut Place) -> u32;
     fn dover_drop(place: *mut Place);
@@ -67,10 +66,6 @@ impl Dover {
 
     pub fn finish(&mut self) -> Decision {
         unsafe { dover_finish(self.0) }
-    }
-
-    pub fn renew(&mut self) -> bool {
-        unsafe { dover_renew(self.0) == 1 }
     }
 
     pub fn value(&mut self) -> u64 {

@@ -1,7 +1,7 @@
 -- What a program in C does, as calls of an engine.
 use Rattle.std.proofs.Common.{◌≡◌, ℕ, ◌≤◌, List, [], ◌∷◌, ◌++◌, map, refl, sym, ap, ◌∙◌, subst, cond, append-nil}
 use Rattle.std.proofs.Common.{Bool, true, false, inl, inr}
-use Rattle.std.specs.Prelude.{Option, Some, None, ◌==◌, ◌&&◌, ◌||◌, not, nat_lt, Result, Ok, Err}
+use Rattle.std.specs.Prelude.{Option, Some, None, ◌==◌, ◌||◌, not, nat_lt, Result, Ok, Err}
 use Rattle.std.specs.List.{filter, enumerate_from}
 use Rattle.std.proofs.lemmas.Bool.{eqb-true, eq-eqb}
 use Rattle.std.proofs.lemmas.List.{map-append}
@@ -24,8 +24,6 @@ use Rattle.dover_model.proofs.Tests.{never}
 use Rattle.dover_server.specs.declared.horizon.Horizon.{Horizon}
 use Rattle.dover_server.specs.declared.horizon.Horizon.TheVariants as horizon
 use Rattle.dover_server.specs.Leading.{is_end_given}
-use Rattle.dover_model.specs.Rest.{behind}
-use Rattle.std.specs.Option.{option_map}
 use Rattle.dover_server.specs.Service.{MayFollow}
 use Rattle.dover_engine.specs.declared.decision.Decision.{Decision}
 use Rattle.dover_engine.specs.declared.decision.Decision.TheVariants.{Release, Run, Preempt, Take, Complete, Abandon}
@@ -33,16 +31,17 @@ use Rattle.dover_engine.specs.declared.decision.Decision.TheVariants.{End}
 use Rattle.dover_engine.specs.declared.causes.NotStepped.{NotStepped}
 use Rattle.dover_engine.specs.declared.causes.NotStepped.TheVariants.{Finished, Falls, Late}
 use Rattle.dover_engine.specs.Decisions.{event_of, event_in, events_in}
-use Rattle.dover_engine.specs.Life.{Life, fresh_life, is_at_rest, is_countable}
+use Rattle.dispatcher.specs.Dispatch.{no_jobs}
+use Rattle.dover_engine.specs.Life.{Life, has_ended}
+use Rattle.dover_engine.specs.Given.{Gave}
 use Rattle.dover_engine.specs.Calls as engine
 use Rattle.dover_engine.proofs.LifeLaws as life
-use Rattle.dover_engine.proofs.Unlost.{none_lost_all}
 use Rattle.dover_c.specs.declared.Admitted.{Admitted}
 use Rattle.dover_c.specs.declared.Decided.{Decided}
 use Rattle.dover_c.specs.declared.slot.Slot.{Slot}
 use Rattle.dover_c.specs.Codes.{version_number, mark_code, numbers_of, IsStepOf, Stands, IsMade, IsFresh, CallsOn}
-use Rattle.dover_c.specs.Codes.{Admits, Steps, Finishes, Renews}
-use Rattle.dover_c.specs.Program.{Act, Admit, Step, Finish, Renew, Ask, Does, DoesAll, IsProgram, told, jobs_told}
+use Rattle.dover_c.specs.Codes.{Admits, Steps, Finishes}
+use Rattle.dover_c.specs.Program.{Act, Admit, Step, Finish, Ask, Does, DoesAll, IsProgram, told, jobs_told}
 use Rattle.dover_c.specs.Program.{all_told, is_decision, answers, given, shown}
 
 -- ---- decisions that lose no job
@@ -75,7 +74,6 @@ answers_append [] more = refl
 answers_append (Admit job answer ∷ acts) more = answers_append acts more
 answers_append (Step mark answer ∷ acts) more = ap (λ es. answer ∷ es) (answers_append acts more)
 answers_append (Finish answer ∷ acts) more = ap (λ es. answer ∷ es) (answers_append acts more)
-answers_append (Renew answer ∷ acts) more = answers_append acts more
 answers_append (Ask ∷ acts) more = answers_append acts more
 
 -- a filter of two lists
@@ -165,17 +163,11 @@ not_none Falls e = absurd (let f : 8 ≡ 0 = e in cc)
 not_none Late e = absurd (let f : 9 ≡ 0 = e in cc)
 
 -- the end may follow any horizon
-may_end : (v : Life) → MayFollow v.service.last horizon.End
-may_end v = by_last v.service.last where
+may_end : (v : Life) → MayFollow v.last horizon.End
+may_end v = by_last v.last where
   by_last : (last : Horizon) → MayFollow last horizon.End
   by_last (horizon.Mark m) = tt
   by_last horizon.End = tt
-
--- the second of two tests
-second : (a b : Bool) → (a && b) ≡ true → b ≡ true
-second true true e = refl
-second true false e = never e
-second false b e = never e
 
 -- a job
 turn_admit : (v : Life) (job : JobFacts) (answer : Admitted) (s t : Slot)
@@ -217,15 +209,6 @@ turn_finish v answer s t (w, is, it) =
     (ap (map shown) (append-nil (events_in it.says)) ∙ sym (given_of it.says)
     ∙ ap (λ a. filter is_decision (a ∷ [])) (sym it.shown))
 
--- a renewal
-turn_renew : (v : Life) (answer : ℕ) (s t : Slot) → CallsOn (Some v) s t (answer ≡ 0) (Renews answer)
-    → Turned v (Renew answer ∷ []) t
-turn_renew v answer s t (w, is, it) = by_test (is_countable v && is_at_rest v) refl where
-  by_test : (b : Bool) → (is_countable v && is_at_rest v) ≡ b → Turned v (Renew answer ∷ []) t
-  by_test true holds = one_call v w (Renew answer) engine.Renewed t (ap (λ (x : Slot). x.engine) is)
-      (second (is_countable v) (is_at_rest v) holds, (it.yes holds).1) refl refl
-  by_test false fails = nothing v (Renew answer) t (ap (λ (x : Slot). x.engine) is ∙ ap Some (it.no fails).1) refl refl
-
 -- a call
 turn_one : (v : Life) (act : Act) (s t : Slot) → s.engine ≡ Some v → Does act s t → Turned v (act ∷ []) t
 turn_one v (Admit job answer) s t there does = turn_admit v job answer s t
@@ -234,8 +217,6 @@ turn_one v (Step mark answer) s t there does =
     turn_step v mark answer s t (subst (λ o. CallsOn o s t (answer.kind ≡ 11) (Steps mark answer)) there does)
 turn_one v (Finish answer) s t there does =
     turn_finish v answer s t (subst (λ o. CallsOn o s t (answer.kind ≡ 11) (Finishes answer)) there does)
-turn_one v (Renew answer) s t there does =
-    turn_renew v answer s t (subst (λ o. CallsOn o s t (answer ≡ 0) (Renews answer)) there does)
 turn_one v Ask s t there does = nothing v Ask t (ap (λ (x : Slot). x.engine) does ∙ there) refl refl
 
 -- two lists
@@ -249,7 +230,6 @@ told_append (Admit job answer ∷ acts) more = by_test (answer.status == 0) (tol
   by_test false same = same
 told_append (Step mark answer ∷ acts) more = told_append acts more
 told_append (Finish answer ∷ acts) more = told_append acts more
-told_append (Renew answer ∷ acts) more = told_append acts more
 told_append (Ask ∷ acts) more = told_append acts more
 
 leads_append : (xs ys : List engine.Call) (v u w : Life) → engine.LeadsAll xs v u → engine.LeadsAll ys u w
@@ -332,10 +312,9 @@ module _ (version : Version) (p q capacity : ℕ) where
         w = turned.w;
         there = turned.there;
         lives = record {
-          ratio = made.2.ratio;
-          spare = made.0.service.spare;
-          lives = subst (λ u. engine.LeadsAll turned.calls u turned.w)
-              (made.2.fresh ∙ ap (λ which. fresh_life which k made.0.service.spare) (sym same)) turned.leads;
+          made = made.0;
+          fresh = subst (λ which. Gave made.0 (no_jobs which k) []) (sym same) made.2.gave;
+          lives = turned.leads;
         };
         jobs = turned.jobs;
         decisions = turned.decisions;
@@ -396,10 +375,10 @@ module _ (version : Version) (p q capacity : ℕ) where
               let is_none : decision ≡ None = kind_none decision (sym (ap (λ (d : Decided). d.kind) so) ∙ none) in
               let further : engine.Lives version k (it.calls ++ (engine.Stepped (horizon.Mark mark) None ∷ [])) w
               = record {
-                ratio = it.lives.ratio;
-                spare = it.lives.spare;
-                lives = leads_append it.calls (engine.Stepped (horizon.Mark mark) None ∷ [])
-                    (fresh_life version k it.lives.spare) it.w w it.lives.lives
+                made = it.lives.made;
+                fresh = it.lives.fresh;
+                lives = leads_append it.calls (engine.Stepped (horizon.Mark mark) None ∷ []) it.lives.made it.w w
+                    it.lives.lives
                     (w, subst (λ d. engine.Leads (engine.Stepped (horizon.Mark mark) d) it.w w) is_none leads, refl);
               } in
               sym it.decisions ∙ ap (map shown) (life.settled_all version k it.calls mark w further
@@ -429,7 +408,7 @@ module _ (version : Version) (p q capacity : ℕ) where
       → Meets (all_told version p q acts) → Each (λ answer. (answer.kind ≡ 4 → ⊥) × (answer.kind ≡ 6 → ⊥)) (given acts)
   unlost_given acts t program meets = let it = living acts t program in
       subst (Each IsKept) it.decisions (each_kept (engine.decided it.calls)
-      (none_lost_all version k it.calls it.w it.lives (subst Meets (sym (all_are it.calls acts it.jobs)) meets)))
+      (life.none_lost_all version k it.calls it.w it.lives (subst Meets (sym (all_are it.calls acts it.jobs)) meets)))
 
   -- an answer of kind 7 is an End
   kind_end : (says : Option Decision) → (numbers_of says).kind ≡ 7 → (value : ℕ)
@@ -442,18 +421,6 @@ module _ (version : Version) (p q capacity : ℕ) where
   kind_end (Some (Complete at n)) e = absurd (let f : 5 ≡ 7 = e in cc)
   kind_end (Some (Abandon at n)) e = absurd (let f : 6 ≡ 7 = e in cc)
   kind_end (Some (End value)) e = (value, refl)
-
-  -- so was the server's
-  was_end : (n value sum : ℕ) (event : Option Event) → Some (events.End value) ≡ option_map (behind n sum) event
-      → is_end_given event ≡ true
-  was_end n value sum None e = absurd cc
-  was_end n value sum (Some (events.Release m job)) e = absurd cc
-  was_end n value sum (Some (events.Run at m)) e = absurd cc
-  was_end n value sum (Some (events.Preempt at stops starts)) e = absurd cc
-  was_end n value sum (Some (events.Take at stops starts)) e = absurd cc
-  was_end n value sum (Some (events.Complete at m)) e = absurd cc
-  was_end n value sum (Some (events.Abandon at m)) e = absurd cc
-  was_end n value sum (Some (events.End more)) e = refl
 
   -- a test or one that holds
   or_holds : (a b : Bool) → b ≡ true → (a || b) ≡ true
@@ -479,15 +446,14 @@ module _ (version : Version) (p q capacity : ℕ) where
         by_finish (w, is, fin) =
             let last : engine.Call = engine.Stepped horizon.End fin.says in
             let further : engine.Lives version k (it.calls ++ (last ∷ [])) w = record {
-              ratio = it.lives.ratio;
-              spare = it.lives.spare;
-              lives = leads_append it.calls (last ∷ []) (fresh_life version k it.lives.spare) it.w w it.lives.lives
+              made = it.lives.made;
+              fresh = it.lives.fresh;
+              lives = leads_append it.calls (last ∷ []) it.lives.made it.w w it.lives.lives
                   (w, (may_end it.w, fin.step), refl);
             } in
             let is_end = kind_end fin.says (sym (ap (λ (d : Decided). d.kind) fin.shown) ∙ seven) in
-            let ended : w.service.ended ≡ true = fin.step.step.ended
-            ∙ or_holds it.w.service.ended (is_end_given fin.step.event)
-            (was_end it.w.forgotten is_end.0 it.w.earned fin.step.event (sym is_end.1 ∙ fin.step.shown)) in
+            let ended : has_ended w ≡ true = fin.step.ended
+            ∙ or_holds (has_ended it.w) (is_end_given (event_in fin.says)) (ap is_end_given is_end.1) in
             let jobs : engine.admitted (it.calls ++ (last ∷ [])) ≡ told acts =
             life.admitted_append it.calls (last ∷ []) ∙ append-nil (engine.admitted it.calls) ∙ it.jobs in
             given_append acts (Finish answer ∷ [])

@@ -1,5 +1,5 @@
 -- What the numbers say that go to a caller in C.
-use Rattle.std.specs.Prelude.{◌≡◌, ℕ, ◌+◌, ◌≤◌, true, false, Option, Some, None, not, ◌||◌, ◌&&◌, ◌==◌, nat_lt}
+use Rattle.std.specs.Prelude.{◌≡◌, ◌≤◌, ℕ, [], Option, Some, None, not, ◌||◌, ◌==◌, nat_lt}
 use Rattle.std.specs.Prelude.{if◌then◌else◌, Result, Ok, Err}
 use Rattle.dover_model.specs.Limits.{most_jobs}
 use Rattle.dover_model.specs.Fraction.{is_ratio, IsRatio}
@@ -8,6 +8,7 @@ use Rattle.dover_model.specs.declared.events.Version.TheVariants.{One, Two}
 use Rattle.dover_model.specs.JobFacts.{JobFacts}
 use Rattle.dover_server.specs.declared.horizon.Horizon.TheVariants as horizon
 use Rattle.dover_server.specs.Service.{MayFollow}
+use Rattle.dispatcher.specs.Dispatch.{no_jobs}
 use Rattle.admission.specs.declared.refused.Refused.TheVariants as refused
 use Rattle.dover_engine.specs.declared.causes.NotAdmitted.{NotAdmitted}
 use Rattle.dover_engine.specs.declared.causes.NotAdmitted.TheVariants.{Unsettled, Refused, Full}
@@ -18,7 +19,8 @@ use Rattle.dover_engine.specs.declared.causes.NotStepped.TheVariants as not_step
 use Rattle.dover_engine.specs.declared.decision.Decision.{Decision}
 use Rattle.dover_engine.specs.declared.decision.Decision.TheVariants.{Release, Run, Preempt, Take, Complete, Abandon}
 use Rattle.dover_engine.specs.declared.decision.Decision.TheVariants.{End}
-use Rattle.dover_engine.specs.Life.{Life, fresh_life, done_value, is_at_rest, is_countable, renewed_life}
+use Rattle.dover_engine.specs.Life.{Life, done_value, spare_of}
+use Rattle.dover_engine.specs.Given.{Gave}
 use Rattle.dover_engine.specs.Calls.{IsAdmitted, IsCause, Decides, mark_refusal}
 use Rattle.dover_c.specs.declared.Admitted.{Admitted}
 use Rattle.dover_c.specs.declared.Decided.{Decided}
@@ -43,13 +45,14 @@ abbrev pub version_number : Version → ℕ
 version_number One = 1
 version_number Two = 2
 
--- an engine of this ratio and version, with no jobs and room for so many
+-- an engine of this ratio and version, with no jobs and room for so many open ones
 pub record IsFresh (p q version capacity : ℕ) (v : Life) : Type 0 where
   pub which : Version
   pub version_is : version ≡ version_number which
   pub ratio : IsRatio (record { p = p; q = q })
-  pub fresh : v ≡ fresh_life which (record { p = p; q = q }) v.service.spare
-  pub room : capacity ≤ v.service.spare
+  pub gave : Gave v (no_jobs which (record { p = p; q = q })) []
+  pub last : v.last ≡ horizon.Mark 0
+  pub room : capacity ≤ spare_of v
 
 -- status 0 stands by an engine as it was asked for, and with none the status says why
 abbrev pub Stands : (p q version capacity : ℕ) → (status : ℕ) → Option Life → Type 0
@@ -88,7 +91,7 @@ cause_code Full = 6
 pub record IsRefused (v w : Life) (job : JobFacts) (code : ℕ) : Type 0 where
   pub cause : NotAdmitted
   pub code_is : code ≡ cause_code cause
-  pub holds : IsCause v.service job cause
+  pub holds : IsCause v job cause
   pub same : w ≡ v
 
 -- what the answer to a job says
@@ -120,8 +123,8 @@ mark_code not_stepped.Finished = 10
 
 -- what the engine says of a step to a mark
 abbrev pub IsStepOf : ℕ → Life → Life → Result (Option Decision) NotStepped → Type 0
-IsStepOf mark v w (Ok answer) = MayFollow v.service.last (horizon.Mark mark) × Decides (horizon.Mark mark) v w answer
-IsStepOf mark v w (Err cause) = (mark_refusal v.service.last mark ≡ Some cause) × (w ≡ v)
+IsStepOf mark v w (Ok answer) = MayFollow v.last (horizon.Mark mark) × Decides (horizon.Mark mark) v w answer
+IsStepOf mark v w (Err cause) = (mark_refusal v.last mark ≡ Some cause) × (w ≡ v)
 
 -- the answer to a step to a mark: a decision, none, or why no step was taken
 pub record Steps (mark : ℕ) (answer : Decided) (v w : Life) : Type 0 where
@@ -144,22 +147,12 @@ pub record Finishes (answer : Decided) (v w : Life) : Type 0 where
 abbrev pub FinishAnswers : Slot → Slot → Decided → Type 0
 FinishAnswers s t answer = Calls s t (answer.kind ≡ 11) (Finishes answer)
 
--- ---- renewing
-
--- 1 where all jobs are forgotten, which is where all are over, and else 0
-pub record Renews (answer : ℕ) (v w : Life) : Type 0 where
-  pub yes : (is_countable v && is_at_rest v) ≡ true → (answer ≡ 1) × (w ≡ renewed_life v)
-  pub no : (is_countable v && is_at_rest v) ≡ false → (answer ≡ 0) × (w ≡ v)
-
-abbrev pub RenewAnswers : Slot → Slot → ℕ → Type 0
-RenewAnswers s t answer = Calls s t (answer ≡ 0) (Renews answer)
-
 -- ---- questions
 
 -- the value of all jobs that completed is told, and nothing changed
 abbrev pub ValueAnswers : Slot → Slot → ℕ → Type 0
-ValueAnswers s t answer = Calls s t (answer ≡ 0) (λ v w. (answer ≡ v.earned + done_value v) × (w ≡ v))
+ValueAnswers s t answer = Calls s t (answer ≡ 0) (λ v w. (answer ≡ done_value v) × (w ≡ v))
 
 -- for how many jobs there is room is told, and nothing changed
 abbrev pub RoomAnswers : Slot → Slot → ℕ → Type 0
-RoomAnswers s t answer = Calls s t (answer ≡ 0) (λ v w. (answer ≡ v.service.spare) × (w ≡ v))
+RoomAnswers s t answer = Calls s t (answer ≡ 0) (λ v w. (answer ≡ spare_of v) × (w ≡ v))

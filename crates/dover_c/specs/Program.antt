@@ -9,14 +9,13 @@ use Rattle.dover_model.specs.Instance.{Instance}
 use Rattle.dover_c.specs.declared.Admitted.{Admitted}
 use Rattle.dover_c.specs.declared.Decided.{Decided}
 use Rattle.dover_c.specs.declared.slot.Slot.{Slot}
-use Rattle.dover_c.specs.Codes.{version_number, IsMade, AdmitAnswers, StepAnswers, FinishAnswers, RenewAnswers}
+use Rattle.dover_c.specs.Codes.{version_number, IsMade, AdmitAnswers, StepAnswers, FinishAnswers}
 
 -- a call between dover_init and dover_drop, with its answer
 pub data Act : Type 0 where
   Admit : JobFacts → Admitted → Act
   Step : ℕ → Decided → Act
   Finish : Decided → Act
-  Renew : ℕ → Act
   Ask : Act  -- for the status, the value or the room
 
 -- it leads from s to t
@@ -24,7 +23,6 @@ abbrev pub Does : Act → Slot → Slot → Type 0
 Does (Admit job answer) s t = AdmitAnswers s t job answer
 Does (Step mark answer) s t = StepAnswers mark s t answer
 Does (Finish answer) s t = FinishAnswers s t answer
-Does (Renew answer) s t = RenewAnswers s t answer
 Does Ask s t = t ≡ s
 
 -- these lead from s to t, one after another
@@ -45,7 +43,6 @@ told [] = []
 told (Admit job answer ∷ acts) = if answer.status == 0 then (answer.number, job) ∷ told acts else told acts
 told (Step mark answer ∷ acts) = told acts
 told (Finish answer ∷ acts) = told acts
-told (Renew answer ∷ acts) = told acts
 told (Ask ∷ acts) = told acts
 
 -- the jobs alone, and their instance
@@ -66,7 +63,6 @@ answers [] = []
 answers (Admit job answer ∷ acts) = answers acts
 answers (Step mark answer ∷ acts) = answer ∷ answers acts
 answers (Finish answer ∷ acts) = answer ∷ answers acts
-answers (Renew answer ∷ acts) = answers acts
 answers (Ask ∷ acts) = answers acts
 
 -- the decisions that it was given

@@ -14,8 +14,8 @@ ghost use Rattle.dover_c.specs.declared.slot.Slot.{Slot};
 ghost use Rattle.dover_c.specs.declared.Decided.{Decided};
 ghost use Rattle.dover_c.specs.Program.{Act, Step, Finish, IsProgram, told, jobs_told, all_told, given, shown};
 
-/// The jobs that the program was told were admitted have the numbers 0, 1, 2 and so on, whatever was forgotten. Where a
-/// step to a mark answers that none comes, the decisions that were given are all that is settled there of the run of
+/// The jobs that the program was told were admitted have the numbers 0, 1, 2 and so on. Where a step
+/// to a mark answers that none comes, the decisions that were given are all that is settled there of the run of
 /// all those jobs; with the End they are the whole run; and none that was given is changed by what comes later. No
 /// schedule of all those jobs is worth more than the ratio allows that run, some schedule is worth as much as it
 /// completes, and where one schedule serves all of them, it completes all, and no decision that was given is a take or

@@ -14,7 +14,7 @@ ghost use denote.RawPtr.{lies_at, room_at};
 ghost use Rattle.dover_model.specs.JobFacts.{job_of_numbers};
 ghost use Rattle.dover_c.specs.declared.slot.Slot.{Slot};
 ghost use Rattle.dover_c.specs.contracts.slot.Slot.{the_row};
-ghost use Rattle.dover_c.specs.Codes.{IsMade, AdmitAnswers, StepAnswers, FinishAnswers, RenewAnswers, StatusAnswers};
+ghost use Rattle.dover_c.specs.Codes.{IsMade, AdmitAnswers, StepAnswers, FinishAnswers, StatusAnswers};
 ghost use Rattle.dover_c.specs.Codes.{ValueAnswers, RoomAnswers};
 ghost use Rattle.dover_c.specs.Places.{after_at};
 
@@ -48,7 +48,7 @@ pub struct Decided {
     pub kind: u32,
 }
 
-/// Makes an engine of this ratio and version with room for so many jobs, and puts it at the address. `dover_status`
+/// Makes an engine of this ratio and version with room for so many open jobs, and puts it at the address. `dover_status`
 /// says whether there is one.
 #[unsafe(no_mangle)]
 pub unsafe extern "C" fn dover_init(
@@ -113,17 +113,6 @@ pub unsafe extern "C" fn dover_finish(place: *mut Place, memory: Memory) -> Deci
     slot::finish(&mut *(place as *mut Slot), memory)
 }
 
-/// Forgets all jobs, where they are over and the last step was to a mark and answered that none comes: then it is 1,
-/// and else 0. No memory is taken.
-#[unsafe(no_mangle)]
-pub unsafe extern "C" fn dover_renew(place: *mut Place) -> u32
-    ghost v: { Slot }
-    requires* { sem 𝓛 (lies_at the_row full_share place v) }
-    ensures* { sem 𝓛 (after_at place (λ w. RenewAnswers v w result)) }
-{
-    slot::renew(&mut *(place as *mut Slot))
-}
-
 /// The value of all jobs that completed.
 #[unsafe(no_mangle)]
 pub unsafe extern "C" fn dover_value(place: *mut Place) -> u64
@@ -134,7 +123,7 @@ pub unsafe extern "C" fn dover_value(place: *mut Place) -> u64
     slot::value(&mut *(place as *mut Slot))
 }
 
-/// For how many further jobs there is room.
+/// For how many open jobs more there is room.
 #[unsafe(no_mangle)]
 pub unsafe extern "C" fn dover_room(place: *mut Place) -> u32
     ghost v: { Slot }

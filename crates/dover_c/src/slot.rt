@@ -3,7 +3,7 @@ ghost use Rattle.std.specs.Prelude.{◌≡◌, ◌<◌};
 ghost use Rattle.dover_model.specs.JobFacts.{job_of_numbers};
 ghost use Rattle.dover_server.specs.declared.horizon.Horizon.TheVariants.{End};
 ghost use Rattle.dover_engine.specs.Calls.{Decides};
-ghost use Rattle.dover_c.specs.Codes.{IsMade, AdmitAnswers, StepAnswers, FinishAnswers, RenewAnswers, StatusAnswers};
+ghost use Rattle.dover_c.specs.Codes.{IsMade, AdmitAnswers, StepAnswers, FinishAnswers, StatusAnswers};
 ghost use Rattle.dover_c.specs.Codes.{ValueAnswers, RoomAnswers};
 ghost use Rattle.dover_c.specs.Codes.{cause_code, made_code, mark_code, numbers_of, IsStepOf};
 
@@ -186,15 +186,6 @@ pub(crate) fn finish(slot: &mut Slot, memory: Memory) -> Decided
     };
     let answer = step_to_end::<Brand>(engine, memory, Blank::new(1));
     numbers_of(&answer)
-}
-
-pub(crate) fn renew(slot: &mut Slot) -> u32
-    ensures { RenewAnswers slot.old slot.new result }
-{
-    match &mut slot.engine {
-        Some(engine) => u32::from(engine.renew()),
-        None => 0,
-    }
 }
 
 pub(crate) fn value(slot: &mut Slot) -> u64

@@ -1,5 +1,4 @@
-mod Keeping
 mod Giving
+mod Since
 pub mod Lives
 pub mod LifeLaws
-pub mod Unlost

@@ -1,5 +1,5 @@
 -- Decisions as events.
-use Rattle.std.specs.Prelude.{◌<◌, ◌^◌, List, Option, option_to_list}
+use Rattle.std.specs.Prelude.{List, Option, option_to_list}
 use Rattle.std.specs.Option.{option_map}
 use Rattle.dover_model.specs.declared.events.Event.{Event}
 use Rattle.dover_model.specs.declared.events.Event.TheVariants as events
@@ -24,8 +24,3 @@ event_in answer = option_map event_of answer
 -- the same as a list
 abbrev pub events_in : Option Decision → List Event
 events_in answer = option_to_list (event_in answer)
-
--- a value at the end that has 18 digits
-abbrev pub HasShortValue : Event → Type 0
-HasShortValue (events.End value) = value < 10 ^ 18
-HasShortValue event = Unit {0}

@@ -1,42 +1,69 @@
 -- What an engine stands for.
-use Rattle.std.specs.Prelude.{ℕ, ◌+◌, ◌&&◌, length, Bool, not, nat_le}
-use Rattle.std.specs.List.{filter, list_all}
-use Rattle.dover_model.specs.declared.events.Version.{Version}
-use Rattle.dover_model.specs.Fraction.{Fraction}
-use Rattle.dover_model.specs.State.{is_done, is_over, value_sum}
-use Rattle.dover_server.specs.Service.{Service, fresh_service, renewed}
+use Rattle.std.specs.Prelude.{◌≡◌, ℕ, ◌+◌, ◌*◌, ◌^◌, ◌≤◌, ◌<◌, [], Bool, true, Option, if◌then◌else◌}
+use Rattle.dover_model.specs.Limits.{most_jobs}
+use Rattle.dover_model.specs.declared.events.Event.{Event}
+use Rattle.admission.specs.Kept.{Kept}
+use Rattle.dover_server.specs.declared.horizon.Horizon.{Horizon}
+use Rattle.dover_server.specs.declared.horizon.Horizon.TheVariants.{Mark, End}
+use Rattle.ready_server.specs.declared.server.ReadyServer.{ReadyServer}
+use Rattle.ready_server.specs.Serving as serving
 
--- the jobs since the last renewal, and those that were forgotten
+-- the jobs that are open, what the next job is tested by, how far the steps were taken, and the jobs before the last
+-- moment of rest
 pub record Life : Type 0 where
-  pub service : Service  -- the jobs since the last renewal
-  pub forgotten : ℕ  -- how many jobs came before them
+  pub server : ReadyServer
+  pub admission : Kept
+  pub last : Horizon  -- the last one that was handed in, at first the mark 0
+  pub settled : Bool  -- the last step was to a mark and answered None, and no job was admitted since
+  pub coming : Option Event  -- the release of the job that was admitted last, till it is given
+  pub forgotten : ℕ  -- how many jobs there were before
   pub earned : ℕ  -- what those of them that completed were worth
 
--- no job was ever admitted
-abbrev pub fresh_life : Version → Fraction → ℕ → Life
-fresh_life version k spare = record { service = fresh_service version k spare; forgotten = 0; earned = 0 }
+abbrev pub life_with : ReadyServer → Kept → Horizon → Bool → Option Event → (forgotten earned : ℕ) → Life
+life_with server admission last settled coming forgotten earned = record {
+  server = server;
+  admission = admission;
+  last = last;
+  settled = settled;
+  coming = coming;
+  forgotten = forgotten;
+  earned = earned;
+}
 
--- the value of the jobs that completed since the last renewal
+-- for how many open jobs more there is room
+abbrev pub spare_of : Life → ℕ
+spare_of v = serving.spare_of v.server
+
+-- the value of the jobs that completed
 abbrev pub done_value : Life → ℕ
-done_value v = value_sum (filter is_done v.service.state.tasks)
-
--- all jobs are over, and the last step was to a mark and answered None
-abbrev pub is_at_rest : Life → Bool
-is_at_rest v = v.service.ready && not v.service.ended && list_all is_over v.service.state.tasks
+done_value v = v.earned + v.server.ready.done
 
 -- how many jobs may be forgotten, and what they may have earned
 abbrev pub most_forgotten : ℕ
 most_forgotten = 1_000_000_000_000_000_000
 
--- the numbers of all jobs, and their value, are within that
-abbrev pub is_countable : Life → Bool
-is_countable v = nat_le (v.forgotten + length v.service.state.tasks) most_forgotten && nat_le
-    (v.earned + done_value v) most_forgotten
+-- the clock: the last mark where all that is settled there was given
+abbrev pub clock_of : Life → ℕ
+clock_of v = elim v.last [
+  | Mark t ↦ if v.settled then t else v.server.ready.clock
+  | End ↦ v.server.ready.clock
+]
 
--- all jobs are forgotten
-abbrev pub renewed_life : Life → Life
-renewed_life v = record {
-  service = renewed v.service;
-  forgotten = v.forgotten + length v.service.state.tasks;
-  earned = v.earned + done_value v;
-}
+-- End was given
+abbrev pub has_ended : Life → Bool
+has_ended v = v.server.ended
+
+-- no more comparisons were made than its jobs so far have called for
+pub record HasPaid (v : Life) (start now : ℕ) : Type 0 where
+  pub since : ℕ
+  pub before : (d : ℕ) → most_jobs + 1 < 2 ^ d → since ≤ start + 80 * d * v.forgotten
+  pub paid : serving.HasPaid v.server since now
+
+-- all that is settled at this mark was given, so that a job of this release may be admitted
+abbrev pub IsReadyFor : Life → ℕ → Type 0
+IsReadyFor v t = (v.settled ≡ true) × (v.last ≡ Mark t)
+
+-- all that is settled was given, and no job is open
+pub record IsAtRest (v : Life) : Type 0 where
+  pub settled : v.settled ≡ true
+  pub none : v.server.ready.ready ≡ []

@@ -2,7 +2,8 @@
 ghost use Rattle.std.specs.Prelude.{◌≡◌, ◌≤◌, ◌+◌, IfSome};
 ghost use Rattle.std.specs.Option.{option_map};
 ghost use Rattle.dover_model.specs.Rest.{behind};
-ghost use Rattle.dover_engine.specs.Decisions.{event_of, event_in, HasShortValue};
+ghost use Rattle.ready_server.specs.Serving.{HasShortValue};
+ghost use Rattle.dover_engine.specs.Decisions.{event_of, event_in};
 ghost use Rattle.dover_engine.specs.Life.{most_forgotten};
 
 use dover_model::{Event, Job};

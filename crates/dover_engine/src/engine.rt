@@ -1,42 +1,47 @@
 //! The engine.
-ghost use Rattle.std.specs.Prelude.{◌≡◌, ◌≤◌, ◌<◌, ◌+◌, ◌^◌, ◌&&◌, ◌++◌, ℕ, IsTrue, IfOk, IfErr, OnErr, true, false};
-ghost use Rattle.std.specs.Prelude.{length, List, [], ◌∷◌};
-ghost use Rattle.std.specs.Prelude.{OnOk, OnSome, IfSome, option_to_list};
-ghost use Rattle.dover_model.specs.Limits.{most_jobs, last_tick};
-ghost use Rattle.dover_model.specs.JobFacts.{JobFacts, job_of_numbers};
+ghost use Rattle.std.specs.Prelude.{◌≡◌, ◌≤◌, ◌↔◌, ◌++◌, ◌||◌, ℕ, IsTrue, IfOk, IfErr, OnErr, OnOk, IsNone, IfSome, List, [], Some, option_to_list};
+ghost use Rattle.std.specs.Option.{option_map};
+ghost use Rattle.dover_model.specs.Limits.{last_tick};
+ghost use Rattle.dover_model.specs.Rest.{behind};
+ghost use Rattle.dover_model.specs.JobFacts.{job_of_numbers};
+ghost use Rattle.dover_model.specs.Instance.{Instance};
 ghost use Rattle.dover_model.specs.declared.events.Event.{Event};
 ghost use Rattle.dover_server.specs.declared.horizon.Horizon.TheVariants.{Mark, End};
-ghost use Rattle.dover_server.specs.Service.{MayFollow, Stands};
-ghost use Rattle.dover_server.specs.Counting.{IsCounted};
-ghost use Rattle.dover_engine.specs.Decisions.{events_in};
-ghost use Rattle.dover_engine.specs.Life.{fresh_life, done_value, is_at_rest, is_countable, renewed_life};
-ghost use Rattle.dover_engine.specs.Given.{Gave, IsPrompt};
-ghost use Rattle.dover_engine.specs.Calls.{not_made, mark_refusal, IsAdmitted, IsCause, Answers, Decides};
+ghost use Rattle.dover_server.specs.Service.{MayFollow};
+ghost use Rattle.dover_server.specs.Leading.{is_ready_after, is_end_given};
+ghost use Rattle.dispatcher.specs.Dispatch.{no_jobs, due_by};
+ghost use Rattle.dover_engine.specs.Life.{spare_of, done_value, clock_of, has_ended, HasPaid, IsReadyFor};
+ghost use Rattle.ready_server.specs.Serving.{HasShortValue};
+ghost use Rattle.dover_engine.specs.Decisions.{event_in};
+ghost use Rattle.dover_engine.specs.Given.{Gave};
+ghost use Rattle.dover_engine.specs.Calls.{not_made, mark_refusal, IsAdmitted, IsCause, BeginsAnew, Decides};
 
 use crate::causes::{NotAdmitted, NotMade, NotStepped};
 use crate::decision::{Decision, decision_in};
 use admission::Admission;
 use dover_model::jobs::LAST_TICK;
 use dover_model::{Event, Ratio, Version};
-use dover_server::{Horizon, Server};
+use dover_server::Horizon;
+use ready_server::ReadyServer;
 use std::alloc::Global;
 use std::marker::Model;
 use std::sync::ledger::Ledger;
 use step_count::Steps;
 
-// How many jobs there may be between two moments of rest.
-const MOST_JOBS: u32 = 1_000_000;
-
 // How many jobs may be forgotten, and what they may have earned.
 const MOST_FORGOTTEN: u64 = 1_000_000_000_000_000_000;
 
-/// A server with its admission, which takes all its memory when it is made. Where all its jobs are over, it can forget
-/// them and go on.
+// How many jobs there may be.
+const MOST_JOBS: u32 = 1_000_000;
+
+/// A server with its admission, which takes all its memory when it is made, and forgets each job as it is over.
 #[derive(Drop)]
 pub struct Engine {
-    server: Server,
+    server: ReadyServer,
     admission: Admission,
     last: Horizon,
+    settled: bool,
+    coming: Option<Event>,
     forgotten: u64,
     earned: u64,
 }
@@ -53,14 +58,11 @@ impl Model for Engine {
     ghost invariant = { IsKept };
 }
 
-// One step of the server.
-fn step_to<L: Ledger>(server: &mut Server, to: Horizon, steps: &mut Steps<L>) -> Option<Event>
-    requires { MayFollow server.old.last to }
-    ensures answers { Answers to server.old server.new result }
-    ensures count { (d : ℕ) → length server.old.state.tasks + 1 < 2 ^ d →
-        IsCounted to server.old.rules server.old.state server.new.state d steps.old steps.new }
+// Whether all that is settled at the horizon was given, where this is the answer.
+fn is_ready_after(to: Horizon, event: &Option<Event>) -> bool
+    ensures { result ≡ is_ready_after to event.now }
 {
-    server.step(to, steps)
+    matches!((to, event), (Horizon::Mark(_), None))
 }
 
 // Why no step is taken to the mark.
@@ -76,17 +78,19 @@ fn mark_refusal(last: Horizon, mark: u64) -> Option<NotStepped>
 }
 
 impl Engine {
-    /// No job is admitted yet, and there is room for so many. No later call takes memory.
+    /// No job is admitted yet, and there is room for so many open ones: jobs that are released and not over. No later
+    /// call takes memory.
     pub fn new(alloc: Global, version: Version, k: Ratio, capacity: u32) -> Result<Engine, NotMade>
-        ensures made { IfOk result (λ engine. engine ≡ fresh_life version k engine.service.spare) }
-        ensures room { IfOk result (λ engine. capacity ≤ engine.service.spare) }
-        ensures gave { IfOk result (λ engine. Gave engine [] []) }
+        ensures gave { IfOk result (λ engine. Gave engine (no_jobs version k) []) }
+        ensures begins { IfOk result (λ engine. engine.last ≡ Mark 0) }
+        ensures room { IfOk result (λ engine. capacity ≤ spare_of engine) }
+        ensures paid { (now : ℕ) → IfOk result (λ engine. HasPaid engine now now) }
         ensures err { IfErr result (λ cause. cause ≡ not_made capacity) }
     {
         if capacity > MOST_JOBS {
             return Err(NotMade::Capacity);
         }
-        let Ok(mut server) = Server::new(alloc, version, k) else {
+        let Ok(mut server) = ReadyServer::new(alloc, version, k) else {
             return Err(NotMade::Memory);
         };
         if server.reserve(capacity).is_err() {
@@ -96,14 +100,25 @@ impl Engine {
             server,
             admission: Admission::new(k),
             last: Horizon::Mark(0),
+            settled: false,
+            coming: None,
             forgotten: 0,
             earned: 0,
         })
     }
 
+    /// Whether all that is settled at the tick was given, so that a job of this release may be admitted.
+    pub fn is_ready_for(&self, release: u64) -> bool
+        ensures { IsTrue result ↔ IsReadyFor self.now release }
+    {
+        self.settled && self.last == Horizon::Mark(release)
+    }
+
     /// Admits the job of these numbers under the next number, which is the answer: jobs are numbered from 0 in the
-    /// order in which they are admitted, and no renewal begins the numbers again. The job is still to come. No memory
-    /// is taken.
+    /// order in which they are admitted. Its release is the next decision. No memory is taken.
+    ///
+    /// The limits of count, total and ratio are those of the jobs since the last moment of rest: a tick at which `step`
+    /// answered None and no job was open. Then the jobs before are forgotten.
     pub fn admit(
         &mut self,
         release: u64,
@@ -113,13 +128,12 @@ impl Engine {
     ) -> Result<u64, NotAdmitted>
         ensures ok { IfOk result
             (λ number. IsAdmitted self.old self.new (job_of_numbers release work deadline value) number) }
-        ensures gave { (jobs : List JobFacts) (events : List Event) → Gave self.old jobs events →
-            OnOk result (Gave self.new (jobs ++ (job_of_numbers release work deadline value ∷ [])) events) }
         ensures kept { OnErr result (self.new ≡ self.old) }
         ensures cause { IfErr result
-            (λ cause. IsCause self.old.service (job_of_numbers release work deadline value) cause) }
+            (λ cause. IsCause self.old (job_of_numbers release work deadline value) cause) }
+        ensures paid { (start now : ℕ) → HasPaid self.old start now → HasPaid self.new start now }
     {
-        if !self.server.ready_for(release) {
+        if !self.is_ready_for(release) {
             return Err(NotAdmitted::Unsettled);
         }
         let job = match self.admission.check(release, work, deadline, value) {
@@ -129,33 +143,90 @@ impl Engine {
         if self.server.spare() == 0 {
             return Err(NotAdmitted::Full);
         }
-        // The server stands, as reading it tells.
-        let _clock = self.server.clock();
-        match self.server.admit(job) {
-            Ok(number) => {
-                self.admission.admit(job);
-                Ok(self.forgotten + u64::from(number))
+        let number = self.admission.count();
+        let event = self.server.admit(job);
+        self.admission.admit(job);
+        self.settled = false;
+        self.coming = Some(event);
+        Ok(self.forgotten + u64::from(number))
+    }
+
+    // The next event before the horizon, of the jobs since the last moment of rest.
+    fn next<L: Ledger>(&mut self, to: Horizon, steps: &mut Steps<L>) -> Option<Event>
+        requires { MayFollow self.old.last to }
+        ensures gave { (J : Instance) (events : List Event) → Gave self.old J events →
+            Gave self.new J (events ++ option_to_list (option_map (behind self.old.forgotten self.old.earned) result)) }
+        ensures prompt { (J : Instance) (events : List Event) → Gave self.old J events →
+            IsNone result → events ≡ due_by J to }
+        ensures last { self.new.last ≡ to }
+        ensures settled { self.new.settled ≡ is_ready_after to result }
+        ensures ended { has_ended self.new ≡ (has_ended self.old || is_end_given result) }
+        ensures forgotten { self.new.forgotten ≡ self.old.forgotten }
+        ensures earned { self.new.earned ≡ self.old.earned }
+        ensures short { IfSome result HasShortValue }
+        ensures spare { spare_of self.old ≤ spare_of self.new }
+        ensures paid { (start : ℕ) → HasPaid self.old start steps.old → HasPaid self.new start steps.new }
+    {
+        self.last = to;
+        match self.coming {
+            Some(event) => {
+                self.coming = None;
+                self.settled = false;
+                Some(event)
             }
-            Err(_) => unreachable!(),
+            None => {
+                let event = self.server.step(to, steps);
+                self.settled = is_ready_after(to, &event);
+                event
+            }
         }
+    }
+
+    // The decision of an event of the jobs since the last moment of rest.
+    fn shown(&self, event: &Option<Event>) -> Option<Decision>
+        requires { IfSome event.now HasShortValue }
+        ensures { event_in result ≡ option_map (behind self.now.forgotten self.now.earned) event.now }
+    {
+        decision_in(self.forgotten, self.earned, event)
+    }
+
+    // Begins anew where all jobs are over and all that is settled was given: the jobs are forgotten, and the clock and
+    // the numbers go on. It does so too rarely only where more than 10^18 jobs, or jobs of more than 10^18 in value,
+    // would be forgotten.
+    fn renew(&mut self)
+        ensures gave { (J : Instance) (events : List Event) → Gave self.old J events → Gave self.new J events }
+        ensures last { self.new.last ≡ self.old.last }
+        ensures settled { self.new.settled ≡ self.old.settled }
+        ensures ended { has_ended self.new ≡ has_ended self.old }
+        ensures anew { BeginsAnew self.new }
+        ensures value { done_value self.new ≡ done_value self.old }
+        ensures spare { spare_of self.new ≡ spare_of self.old }
+        ensures paid { (start now : ℕ) → HasPaid self.old start now → HasPaid self.new start now }
+    {
+        if !self.settled || !self.server.is_idle() {
+            return;
+        }
+        let jobs = u64::from(self.admission.count());
+        let value = self.server.value();
+        if MOST_FORGOTTEN - self.forgotten < jobs || MOST_FORGOTTEN - self.earned < value {
+            return;
+        }
+        self.server.renew();
+        self.admission = Admission::new(self.admission.ratio());
+        self.forgotten += jobs;
+        self.earned += value;
     }
 
     // The next decision before the horizon.
     fn decide<L: Ledger>(&mut self, to: Horizon, steps: &mut Steps<L>) -> Option<Decision>
-        requires { MayFollow self.old.service.last to }
+        requires { MayFollow self.old.last to }
         ensures decides { Decides to self.old self.new result }
-        ensures gave { (jobs : List JobFacts) (events : List Event) → Gave self.old jobs events →
-            Gave self.new jobs (events ++ events_in result) }
-        ensures prompt { (jobs : List JobFacts) (events : List Event) → Gave self.old jobs events →
-            IsPrompt to self.new.service.rules (self.new.service.ended ≡ true) jobs events result }
-        ensures count { (d : ℕ) → length self.old.service.state.tasks + 1 < 2 ^ d →
-            IsCounted to self.old.service.rules self.old.service.state self.new.service.state d steps.old steps.new }
+        ensures paid { (start : ℕ) → HasPaid self.old start steps.old → HasPaid self.new start steps.new }
     {
-        // The server stands, as reading it tells.
-        let _clock = self.server.clock();
-        self.last = to;
-        let event = step_to(&mut self.server, to, steps);
-        decision_in(self.forgotten, self.earned, &event)
+        let event = self.next(to, steps);
+        let decision = self.shown(&event);
+        self.renew();
+        decision
     }
 
     /// The next decision that no job can change that is released at the mark or later. None where all that are settled
@@ -165,19 +236,12 @@ impl Engine {
         mark: u64,
         steps: &mut Steps<L>,
     ) -> Result<Option<Decision>, NotStepped>
-        ensures refusal { IfErr result (λ cause. mark_refusal self.old.service.last mark ≡ Some cause) }
+        ensures refusal { IfErr result (λ cause. mark_refusal self.old.last mark ≡ Some cause) }
         ensures kept { OnErr result (self.new ≡ self.old) }
         ensures free { OnErr result (steps.new ≡ steps.old) }
-        ensures may { OnOk result (MayFollow self.old.service.last (Mark mark)) }
+        ensures may { OnOk result (MayFollow self.old.last (Mark mark)) }
         ensures decides { IfOk result (λ answer. Decides (Mark mark) self.old self.new answer) }
-        ensures gave { (jobs : List JobFacts) (events : List Event) → Gave self.old jobs events →
-            IfOk result (λ answer. Gave self.new jobs (events ++ events_in answer)) }
-        ensures prompt { (jobs : List JobFacts) (events : List Event) → Gave self.old jobs events →
-            IfOk result (λ answer. IsPrompt (Mark mark) self.new.service.rules
-            (self.new.service.ended ≡ true) jobs events answer) }
-        ensures count { (d : ℕ) → length self.old.service.state.tasks + 1 < 2 ^ d →
-            OnOk result (IsCounted (Mark mark) self.old.service.rules self.old.service.state self.new.service.state d
-            steps.old steps.new) }
+        ensures paid { (start : ℕ) → HasPaid self.old start steps.old → HasPaid self.new start steps.new }
     {
         if let Some(cause) = mark_refusal(self.last, mark) {
             return Err(cause);
@@ -189,63 +253,32 @@ impl Engine {
     /// admitted and no step is taken to a mark. No memory is taken.
     pub fn finish<L: Ledger>(&mut self, steps: &mut Steps<L>) -> Option<Decision>
         ensures decides { Decides End self.old self.new result }
-        ensures gave { (jobs : List JobFacts) (events : List Event) → Gave self.old jobs events →
-            Gave self.new jobs (events ++ events_in result) }
-        ensures prompt { (jobs : List JobFacts) (events : List Event) → Gave self.old jobs events →
-            IsPrompt End self.new.service.rules (self.new.service.ended ≡ true) jobs events result }
-        ensures count { (d : ℕ) → length self.old.service.state.tasks + 1 < 2 ^ d →
-            IsCounted End self.old.service.rules self.old.service.state self.new.service.state d steps.old steps.new }
+        ensures paid { (start : ℕ) → HasPaid self.old start steps.old → HasPaid self.new start steps.new }
     {
         self.decide(Horizon::End, steps)
     }
 
-    /// Forgets all jobs, where they are over and the last step was to a mark and answered None: the clock and the
-    /// numbers go on, there is room again for as many jobs, and the limits of count, total and ratio start anew.
-    /// Answers whether it did. It does so too rarely only where more than 10^18 jobs, or jobs of more than 10^18 in
-    /// value, would be forgotten. No memory is taken.
-    pub fn renew(&mut self) -> bool
-        ensures when { result ≡ (is_countable self.old && is_at_rest self.old) }
-        ensures renewed { IsTrue result → self.new ≡ renewed_life self.old }
-        ensures kept { result ≡ false → self.new ≡ self.old }
-        ensures gave { (jobs : List JobFacts) (events : List Event) → Gave self.old jobs events →
-            Gave self.new jobs events }
-    {
-        let jobs = u64::from(self.server.admitted());
-        let value = self.server.value();
-        // The server stands, as reading it tells.
-        let _clock = self.server.clock();
-        if MOST_FORGOTTEN - self.forgotten < jobs || MOST_FORGOTTEN - self.earned < value {
-            return false;
-        }
-        if !self.server.renew() {
-            return false;
-        }
-        self.admission = Admission::new(self.server.ratio());
-        self.forgotten += jobs;
-        self.earned += value;
-        true
-    }
-
     /// The sum of the values of all jobs that completed.
     pub fn value(&self) -> u64
-        ensures { result ≡ self.now.earned + done_value self.now }
+        ensures { result ≡ done_value self.now }
     {
-        // The server stands, as reading it tells.
-        let _clock = self.server.clock();
         self.earned + self.server.value()
     }
 
-    /// The clock, in ticks.
+    /// The tick up to which all is settled, or else that of the last decision, or one behind it.
     pub fn clock(&self) -> u64
-        ensures is { result ≡ self.now.service.state.clock }
-        ensures stands { Stands self.now.service }
+        ensures is { result ≡ clock_of self.now }
+        ensures known { result ≤ last_tick }
     {
-        self.server.clock()
+        match self.last {
+            Horizon::Mark(mark) if self.settled => mark,
+            _ => self.server.clock(),
+        }
     }
 
-    /// For how many further jobs there is room.
+    /// For how many open jobs more there is room.
     pub fn spare(&self) -> u32
-        ensures { result ≡ self.now.service.spare }
+        ensures { result ≡ spare_of self.now }
     {
         self.server.spare()
     }

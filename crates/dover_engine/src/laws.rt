@@ -1,6 +1,6 @@
 //! What an engine gives over its whole life, whatever calls are made of it: each law is the contract of a function that
 //! does nothing.
-ghost use Rattle.std.specs.Prelude.{◌≡◌, ◌≤◌, ◌+◌, ◌++◌, ℕ, List, [], ◌∷◌, true, false, None};
+ghost use Rattle.std.specs.Prelude.{◌≡◌, ◌≤◌, ◌++◌, ℕ, List, [], ◌∷◌, true, false, None};
 ghost use Rattle.std.specs.List.{enumerate_from};
 ghost use Rattle.dover_model.specs.declared.events.Version.{Version};
 ghost use Rattle.dover_model.specs.declared.events.Event.{Event};
@@ -14,8 +14,9 @@ ghost use Rattle.dover_model.specs.Underload.{takes_or_abandons};
 ghost use Rattle.dover_model.specs.Settled.{settled};
 ghost use Rattle.dover_model.specs.Schedules.{Meets, worth};
 ghost use Rattle.dover_model.specs.Bound.{IsWithin};
-ghost use Rattle.dover_server.specs.declared.horizon.Horizon.TheVariants.{Mark, End};
-ghost use Rattle.dover_engine.specs.Life.{Life, done_value, is_at_rest};
+ghost use Rattle.dover_model.specs.WholeRun.{Begins};
+ghost use Rattle.dover_server.specs.declared.horizon.Horizon.TheVariants.{Mark};
+ghost use Rattle.dover_engine.specs.Life.{Life, done_value, has_ended, IsAtRest};
 ghost use Rattle.dover_engine.specs.Calls.{Call, Stepped, Lives, admitted, jobs_in, all_jobs, decided};
 
 /// Whatever jobs were admitted, steps taken and jobs forgotten: the jobs are numbered from 0 in the order in which they
@@ -29,14 +30,16 @@ pub fn a_life_is_one_run()
         Lives version k (calls ++ (Stepped (Mark mark) None ∷ [])) w →
         decided calls ≡ settled (all_jobs version k calls) mark }
     ensures at_rest { (version : Version) (k : Fraction) (calls : List Call) (w : Life) → Lives version k calls w →
-        is_at_rest w ≡ true →
-        decided calls ++ (events.End (w.earned + done_value w) ∷ []) ≡ printed (all_jobs version k calls) }
+        IsAtRest w →
+        decided calls ++ (events.End (done_value w) ∷ []) ≡ printed (all_jobs version k calls) }
     ensures ended { (version : Version) (k : Fraction) (calls : List Call) (w : Life) → Lives version k calls w →
-        w.service.ended ≡ true →
+        has_ended w ≡ true →
         decided calls ≡ printed (all_jobs version k calls) }
+    ensures begins { (version : Version) (k : Fraction) (calls : List Call) (w : Life) → Lives version k calls w →
+        Begins (decided calls) (printed (all_jobs version k calls)) }
     ensures online { (version : Version) (k : Fraction) (calls more : List Call) (w : Life) →
         Lives version k (calls ++ more) w →
-        w.service.ended ≡ true → (later : List Event)
+        has_ended w ≡ true → (later : List Event)
         × (printed (all_jobs version k (calls ++ more)) ≡ decided calls ++ later) }
 {}
 
@@ -55,6 +58,6 @@ pub fn a_life_is_worth_enough()
     ensures none_lost { (version : Version) (k : Fraction) (calls : List Call) (w : Life) → Lives version k calls w →
         Meets (all_jobs version k calls) → Each (λ e. takes_or_abandons (Prints e) ≡ false) (decided calls) }
     ensures value { (version : Version) (k : Fraction) (calls : List Call) (w : Life) → Lives version k calls w →
-        is_at_rest w ≡ true →
-        w.earned + done_value w ≡ completed_value (all_jobs version k calls) }
+        IsAtRest w →
+        done_value w ≡ completed_value (all_jobs version k calls) }
 {}

@@ -7,4 +7,3 @@ pub mod Feeding
 pub mod Counting
 pub mod Spending
 pub mod Passing
-pub mod Renewing

@@ -52,17 +52,6 @@ with_job v job spare = record {
   spare = spare;
 }
 
--- the jobs are forgotten, and the clock goes on
-abbrev pub renewed : Service → Service
-renewed v = record {
-  rules = v.rules;
-  state = record { clock = v.state.clock; tasks = [] };
-  last = v.last;
-  ready = v.ready;
-  ended = v.ended;
-  spare = v.spare + length v.state.tasks;
-}
-
 -- the last step was to this mark and answered None, and no job was admitted since
 abbrev pub IsReadyFor : Service → ℕ → Type 0
 IsReadyFor v t = (v.ready ≡ true) × (v.last ≡ Mark t)

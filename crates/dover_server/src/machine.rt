@@ -1,8 +1,6 @@
 //! The machine of the server.
 ghost use Rattle.std.specs.Prelude.{◌≡◌, ◌≤◌, ◌<◌, ◌+◌, ◌^◌, ℕ, IfSome, IsNone, None, length};
-ghost use Rattle.std.specs.List.{list_all};
 ghost use Rattle.dover_model.specs.Instance.{IsValid};
-ghost use Rattle.dover_model.specs.State.{is_over};
 ghost use Rattle.dover_model.specs.Sound.{IsSound, jobs_of};
 ghost use Rattle.dover_model.specs.Step.{Prints, Ticks, open_step};
 ghost use Rattle.dover_model.specs.Jumps.{NothingDue};
@@ -33,18 +31,6 @@ fn step_or_end(queues: &Queues, step: Move) -> Move
             value: queues.value(),
         }),
         _ => step,
-    }
-}
-
-// Whether all jobs are over.
-pub fn all_over(queues: &Queues) -> bool
-    requires valid { IsValid (instance_of queues.now) }
-    requires sound { IsSound queues.now.state }
-    ensures { result ≡ list_all is_over queues.now.state.tasks }
-{
-    match queues.open_step() {
-        Move::Ticks => queues.are_over(),
-        _ => false,
     }
 }
 

@@ -2,23 +2,18 @@
 ghost use Rattle.std.specs.Prelude.{◌≡◌, ◌≤◌, ◌<◌, ◌+◌, ◌↔◌, IsTrue, IfOk, IsOk, OnOk, OnErr, IfSome, OnSome, IsNone};
 ghost use Rattle.std.specs.Prelude.{true, false, length, ◌∷◌, []};
 ghost use Rattle.std.specs.Prelude.{◌||◌, ◌^◌, ℕ};
-ghost use Rattle.std.specs.Prelude.{not, ◌&&◌, List};
-ghost use Rattle.std.specs.List.{slice_get, filter, list_all};
+ghost use Rattle.std.specs.List.{slice_get, filter};
 ghost use Rattle.std.specs.Option.{option_map};
 ghost use Rattle.dover_model.specs.Limits.{most_jobs};
 ghost use Rattle.dover_model.specs.Instance.{IsValid, with_jobs};
-ghost use Rattle.dover_model.specs.State.{is_done, is_over, value_sum};
-ghost use Rattle.dover_model.specs.declared.events.Event.{Event};
-ghost use Rattle.dover_model.specs.Paths.{HasPrinted};
-ghost use Rattle.dover_model.specs.Run.{printed, completed_value};
-ghost use Rattle.dover_model.specs.Rest.{IsAtRest, before_end};
-ghost use Rattle.dover_server.specs.Service.{list_of, fresh_service, with_job, renewed, IsReadyFor, MayFollow, Stands};
+ghost use Rattle.dover_model.specs.State.{is_done, value_sum};
+ghost use Rattle.dover_server.specs.Service.{list_of, fresh_service, with_job, IsReadyFor, MayFollow, Stands};
 ghost use Rattle.dover_server.specs.Service.{steps_left};
 ghost use Rattle.dover_server.specs.Counting.{IsCounted};
 ghost use Rattle.dover_server.specs.Leading.{GivesNext, GivesNone, is_ready_after, is_end_given};
 
 use crate::horizon::Horizon;
-use crate::machine::{all_over, next_printed};
+use crate::machine::next_printed;
 use dover_model::{Event, Job, Memory, Ratio, Role, Version};
 use queued_jobs::Queues;
 use std::alloc::Global;
@@ -216,31 +211,6 @@ impl Server {
         self.ready = is_ready_after(to, &printed);
         self.ended = is_end_given(&printed);
         printed
-    }
-
-    /// Forgets all jobs, where they are over and the last step was to a mark and answered None: the clock goes on, no
-    /// memory is taken, and there is room for as many more jobs. What was given till then is their whole run but for
-    /// its End, which is at rest, and the run of no jobs leads to what is left. Answers whether it did.
-    pub fn renew(&mut self) -> bool
-        ensures when { result ≡ (self.old.ready && not self.old.ended && list_all is_over self.old.state.tasks) }
-        ensures renewed { IsTrue result → self.new ≡ renewed self.old }
-        ensures kept { result ≡ false → self.new ≡ self.old }
-        ensures gave { (mark : ℕ) (events : List Event) → IsTrue result → IsReadyFor self.old mark →
-            HasPrinted (list_of self.old) mark self.old.state events
-            → events ≡ before_end (printed (list_of self.old)) }
-        ensures rest { (mark : ℕ) (events : List Event) → IsTrue result → IsReadyFor self.old mark →
-            HasPrinted (list_of self.old) mark self.old.state events → IsAtRest (list_of self.old) mark }
-        ensures value { (mark : ℕ) (events : List Event) → IsTrue result → IsReadyFor self.old mark →
-            HasPrinted (list_of self.old) mark self.old.state events →
-            value_sum (filter is_done self.old.state.tasks) ≡ completed_value (list_of self.old) }
-        ensures anew { (mark : ℕ) → IsTrue result → IsReadyFor self.old mark
-            → HasPrinted (list_of self.new) mark self.new.state [] }
-    {
-        if !self.ready || self.ended || !all_over(&self.queues) {
-            return false;
-        }
-        self.queues.renew();
-        true
     }
 
     /// The sum of the values of the completed jobs.

@@ -14,4 +14,3 @@ pub mod Silent
 pub mod Over
 pub mod Costs
 pub mod Spending
-pub mod Renewing

@@ -191,22 +191,6 @@ impl Queues {
         number
     }
 
-    /// Forgets all jobs, which are over. The clock goes on, and there is room for as many more.
-    pub fn renew(&mut self)
-        requires { Each (λ t. is_over t ≡ true) self.old.state.tasks }
-        ensures { self.new ≡ record {
-          rules = self.old.rules;
-          state = record { clock = self.old.state.clock; tasks = [] };
-          spare = self.old.spare + length self.old.state.tasks;
-        } }
-    {
-        let jobs = self.tasks.len() as u32;
-        self.spare += jobs;
-        self.tasks.clear();
-        self.next = 0;
-        self.done = 0;
-    }
-
     /// The job of a number, if there is one, with its role and the ticks that it has had.
     pub fn task(&self, number: u32) -> Option<Task>
         ensures { result ≡ slice_get self.now.state.tasks number }

@@ -25,6 +25,7 @@ use Rattle.dover_model.proofs.Members.{sum_filter, sum_le, sum_map, member_filte
 use Rattle.dover_model.proofs.Kept.{opening_keeps}
 use Rattle.dover_model.proofs.Honest.{count_jobs}
 use Rattle.dover_model.proofs.Prefixes.{step_open}
+use Rattle.dover_model.proofs.Resting.{tick_keeps}
 use Rattle.dover_model.proofs.Settling.{at_barrier}
 use Rattle.dover_model.proofs.ShortNumbers.{deadline_known, ticks_early}
 use Rattle.dover_model.proofs.Tests.{not_true, never}
@@ -174,6 +175,38 @@ declared_course c rules old none ratio =
         released = follows.released;
       },
     )
+
+-- the state of no jobs, at any tick
+pub none_keeps : (rules : Rules) → IsValid (record { rules = rules; jobs = [] }) → (clock : ℕ)
+    → Keeps (record { rules = rules; jobs = [] }) (record { clock = clock; tasks = [] })
+none_keeps rules valid clock =
+    tick_keeps (record { rules = rules; jobs = [] }) valid clock (λ j member. absurd member) clock (omega arith)
+
+-- where none is ready, the course is also kept of no jobs
+pub renewed_follows : (c : Course) → IsCourse c → length c.ready ≡ 0
+    → Follows (record c { jobs = 0; done = 0 }) (record { rules = c.rules; jobs = [] })
+    (record { clock = c.clock; tasks = [] })
+renewed_follows c old none =
+    let ratio : IsRatio c.rules.ratio =
+    subst (λ (rules : Rules). IsRatio rules.ratio) old.2.rules old.2.valid.ratio in
+    let valid : IsValid (record { rules = c.rules; jobs = [] }) = (new_follows c.rules 0 ratio).valid in record {
+      valid = valid;
+      keeps = none_keeps c.rules valid c.clock;
+      rules = refl;
+      clock = refl;
+      ready = subst (λ (ts : List Task). IsReordered ts c.ready) (no_items c.ready none) (same_order c.ready);
+      jobs = refl;
+      done = refl;
+      known = omega (arith, old.2.clock, old.2.known);
+      released = λ t m. absurd m;
+    }
+
+pub renewed_course : (c : Course) → IsCourse c → length c.ready ≡ 0 → IsCourse (record c { jobs = 0; done = 0 })
+renewed_course c old none = (
+  record { rules = c.rules; jobs = [] },
+  record { clock = c.clock; tasks = [] },
+  renewed_follows c old none,
+)
 
 -- where no job was released, none is ready
 pub none_ready : (c : Course) → IsCourse c → c.jobs ≡ 0 → c.ready ≡ []

@@ -155,6 +155,15 @@ impl Ready {
         self.ratio = ratio;
     }
 
+    /// Forgets how many jobs there were, and what those done were worth, where none is ready. The clock goes on.
+    pub fn renew(&mut self)
+        requires { length self.old.ready ≡ 0 }
+        ensures renewed { self.new ≡ record self.old { jobs = 0; done = 0 } }
+    {
+        self.jobs = 0;
+        self.done = 0;
+    }
+
     // Takes the silent steps up to the next printed one, or up to the barrier of the mark, and gives what comes there.
     #[inline(always)]
     fn go_on<L: Ledger>(&mut self, mark: u64, steps: &mut Steps<L>) -> Deed

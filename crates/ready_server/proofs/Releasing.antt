@@ -35,7 +35,7 @@ use Rattle.ready_server.specs.declared.server.ReadyServer.{ReadyServer}
 use Rattle.ready_server.proofs.Stepping.{printed_event, printed_low}
 
 -- a job that isn't to come was released
-not_ahead : (s : State) → IsSound s → (t : Task) → IsMember t s.tasks → is_coming t ≡ false → t.job.release ≤ s.clock
+pub not_ahead : (s : State) → IsSound s → (t : Task) → IsMember t s.tasks → is_coming t ≡ false → t.job.release ≤ s.clock
 not_ahead s sound t member came = by_role t.role refl (sound.roles t member) where
   by_role : (r : Role) → t.role ≡ r → FitsRole s.clock r t → t.job.release ≤ s.clock
   by_role Coming is fits = never (sym came ∙ passes is_coming t Coming true is refl)

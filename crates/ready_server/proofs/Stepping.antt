@@ -1,11 +1,12 @@
 -- What a server has given after a step.
 use Rattle.std.proofs.Common.{◌≡◌, ℕ, ◌≤◌, List, [], ◌∷◌, ◌++◌, refl, sym, ap, ◌∙◌, subst, Bool, true, false, arith}
 use Rattle.std.proofs.Common.{append_assoc, ◌+◌, ◌<◌, length, min}
-use Rattle.std.specs.Prelude.{Option, Some, None, Result, Ok, Err, OnOk}
+use Rattle.std.specs.Prelude.{Option, Some, None, Result, Ok, Err, OnOk, IfSome}
 use Rattle.std.specs.Bool.{MatchBool}
 use Rattle.std.specs.List.{cons_option}
 use Rattle.std.proofs.lemmas.List.{append-nil}
 use Rattle.dover_model.specs.declared.events.Event.{Event}
+use Rattle.dover_model.specs.declared.events.Event.TheVariants as events
 use Rattle.dover_model.specs.declared.Memory.{Memory}
 use Rattle.dover_model.specs.Limits.{last_tick, most_jobs}
 use Rattle.dover_model.specs.Instance.{Rules, Instance, IsValid}
@@ -20,16 +21,18 @@ use Rattle.dover_model.proofs.Ending.{potential, ends}
 use Rattle.dover_model.proofs.Kept.{open_kept}
 use Rattle.dover_model.proofs.Paths.{printed_more, printed_settled, printed_then_run, printed_begins, path_low}
 use Rattle.dover_model.proofs.Prefixes.{step_open, open_goes_on}
+use Rattle.dover_model.proofs.ShortNumbers.{step_short, IsShortMove}
 use Rattle.scanned_step.specs.Moves.{state_at}
 use Rattle.trace_reading.specs.Leading.{Settles, Idles, GoesOn, WaitsUntil, PrintsNext}
 use Rattle.trace_reading.proofs.Leading.{idles_settles, settles_silent}
 use Rattle.dover_server.specs.declared.horizon.Horizon.{Horizon}
 use Rattle.dover_server.specs.declared.horizon.Horizon.TheVariants.{Mark, End}
 use Rattle.dover_server.specs.Service.{MayFollow}
+use Rattle.dover_server.specs.Leading.{is_end_given}
 use Rattle.dispatcher.specs.Dispatch.{due_by, Gives}
-use Rattle.ready_jobs.specs.Course.{Course, Follows, Comes, Settled, StepsBefore}
+use Rattle.ready_jobs.specs.Course.{Course, Follows, Comes, ComesNext, Settled, StepsBefore}
 use Rattle.ready_jobs.proofs.Courses.{follows_count, follows_fewer}
-use Rattle.ready_server.specs.Serving.{LeavesRest, HasGiven, Serves, Rests}
+use Rattle.ready_server.specs.Serving.{LeavesRest, HasGiven, Serves, Rests, HasShortValue}
 use Rattle.ready_server.specs.declared.server.ReadyServer.{ReadyServer}
 
 -- ---- to a mark
@@ -153,6 +156,15 @@ mark_stepped s d mark None it J from events serves follows =
 mark_stepped s d mark (Some e) it J from events serves follows =
     mark_given s it.0 mark (Some e) it.1 it.2 J from events serves follows e refl d it.3
 
+-- no End comes before a mark
+pub no_end_before : (s : ReadyServer) (J : Instance) (from : Horizon) (events : List Event) → Serves s J from events
+    → (mark : ℕ) (d : Course) (o : Option Event) → StepsBefore s.ready mark d o → is_end_given o ≡ false
+no_end_before s J from events serves mark d None it = refl
+no_end_before s J from events serves mark d (Some e) it =
+    let at : Settled it.0 J serves.state mark (Some e) = it.1 J serves.state serves.follows in
+    ap is_end (sym at.comes.0)
+    ∙ open_goes_on J serves.follows.valid J.rules at.state at.follows.keeps
+
 -- ---- to the end
 
 -- what is printed next in a whole run, and what is left behind it
@@ -247,7 +259,60 @@ module _ (s : ReadyServer) (J : Instance) (from : Horizon) (events : List Event)
           });
     }
 
+-- the value that the next step names at the end is short
+pub next_short : (c d : Course) (J : Instance) (z : State) → Follows c J z → (e : Event) → ComesNext c d e
+    → HasShortValue e
+next_short c d J z follows e next = by_event e (subst IsShortMove here.2.prints
+    (step_short J here.1.valid here.0 here.1.keeps (omega (arith, here.1.known)) J.rules)) where
+      here : (y : State) × Follows d J y × PrintsNext J.rules z e y
+      here = next J z follows
+
+      by_event : (f : Event) → IsShortMove (Prints f) → HasShortValue f
+      by_event (events.Release n job) short = tt
+      by_event (events.Run at n) short = tt
+      by_event (events.Preempt at stops starts) short = tt
+      by_event (events.Take at stops starts) short = tt
+      by_event (events.Complete at n) short = tt
+      by_event (events.Abandon at n) short = tt
+      by_event (events.End value) short = short.0
+
+-- an event that isn't the End names no value
+pub open_short : (e : Event) → is_end (Prints e) ≡ false → HasShortValue e
+open_short (events.Release n job) none = tt
+open_short (events.Run at n) none = tt
+open_short (events.Preempt at stops starts) none = tt
+open_short (events.Take at stops starts) none = tt
+open_short (events.Complete at n) none = tt
+open_short (events.Abandon at n) none = tt
+open_short (events.End value) none = absurd (let f : true ≡ false = none in cc)
+
+-- nor does an answer that isn't
+pub open_shorts : (o : Option Event) → is_end_given o ≡ false → IfSome o HasShortValue
+open_shorts None none = tt
+open_shorts (Some e) none = open_short e none
+
 -- ---- what holds of each
+
+-- what is served towards a horizon is served towards a later one
+pub serves_later : (s : ReadyServer) (J : Instance) (from to : Horizon) (events : List Event) → Serves s J from events
+    → MayFollow from to → Serves s J to events
+serves_later s J (Mark m) (Mark t) events serves may = record {
+  state = serves.state;
+  follows = serves.follows;
+  given = (
+    serves.given.0,
+    subst (HasPrinted J t serves.state) (append-nil events)
+        (printed_more J m t serves.state serves.state events [] serves.given.1 may.0 refl),
+  );
+}
+serves_later s J (Mark m) End events serves may = record {
+  state = serves.state;
+  follows = serves.follows;
+  given = subst (λ b. MatchBool b (events ≡ printed J) (LeavesRest J serves.state events)) (sym serves.given.0)
+      (marked_rest J m serves.state events serves.follows.valid serves.follows.keeps serves.given.1);
+}
+serves_later s J End (Mark t) events serves may = absurd may
+serves_later s J End End events serves may = serves
 
 -- what was given begins what is due
 pub serves_begins : (s : ReadyServer) (J : Instance) (to : Horizon) (events : List Event) → Serves s J to events

@@ -1,7 +1,8 @@
 -- How far a server has come.
-use Rattle.std.specs.Prelude.{◌≡◌, ◌<◌, ℕ, List, ◌++◌, length, Bool, true, false}
+use Rattle.std.specs.Prelude.{◌≡◌, ◌<◌, ◌-◌, ◌^◌, ℕ, List, ◌++◌, length, Bool, true, false}
 use Rattle.std.specs.Bool.{MatchBool}
 use Rattle.dover_model.specs.declared.events.Event.{Event}
+use Rattle.dover_model.specs.declared.events.Event.TheVariants as events
 use Rattle.dover_model.specs.Instance.{Instance}
 use Rattle.dover_model.specs.State.{State}
 use Rattle.dover_model.specs.Run.{Step, printed, printed_of}
@@ -56,3 +57,12 @@ HasPlace s = length s.ready.ready < s.ready.room
 -- no more comparisons were made than its jobs so far have called for
 abbrev pub HasPaid : ReadyServer → (start now : ℕ) → Type 0
 HasPaid s start now = spending.HasPaid s.ready start now
+
+-- for how many ready jobs more there is room
+abbrev pub spare_of : ReadyServer → ℕ
+spare_of s = s.ready.room - length s.ready.ready
+
+-- a value at the end that has 18 digits
+abbrev pub HasShortValue : Event → Type 0
+HasShortValue (events.End value) = value < 10 ^ 18
+HasShortValue event = Unit {0}

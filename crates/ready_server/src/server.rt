@@ -1,14 +1,18 @@
 //! The server over the jobs that are ready.
-ghost use Rattle.std.specs.Prelude.{◌≡◌, ℕ, List};
+ghost use Rattle.std.specs.Prelude.{◌≡◌, ◌≤◌, ◌+◌, ◌∷◌, [], ◌++◌, ◌||◌, ◌↔◌, ℕ, List, length, min, IfOk, OnOk, IfSome, IsTrue, false};
 ghost use Rattle.dover_model.specs.declared.events.Event.{Event};
-ghost use Rattle.dover_model.specs.Instance.{Instance};
+ghost use Rattle.dover_model.specs.Instance.{Instance, IsValid, with_jobs};
+ghost use Rattle.dover_model.specs.Limits.{most_jobs, most_total, last_tick};
+ghost use Rattle.dover_model.specs.Rest.{instead};
+ghost use Rattle.dover_model.specs.Settled.{settled};
 ghost use Rattle.dover_model.specs.Run.{is_end};
 ghost use Rattle.dover_model.specs.Step.{Prints};
 ghost use Rattle.dover_server.specs.declared.horizon.Horizon.{Horizon};
 ghost use Rattle.dover_server.specs.declared.horizon.Horizon.TheVariants.{Mark, End};
 ghost use Rattle.dover_server.specs.Service.{MayFollow};
-ghost use Rattle.dispatcher.specs.Dispatch.{due_by, Gives};
-ghost use Rattle.ready_server.specs.Serving.{Serves, Rests, HasPlace, HasPaid};
+ghost use Rattle.dover_server.specs.Leading.{is_end_given};
+ghost use Rattle.dispatcher.specs.Dispatch.{no_jobs, due_by, Gives};
+ghost use Rattle.ready_server.specs.Serving.{Serves, Rests, HasPlace, HasPaid, spare_of, HasShortValue};
 
 use dispatcher::Dispatcher;
 use dover_model::{Event, Job, Memory, Ratio, Version};
@@ -44,6 +48,83 @@ fn is_end(event: &Event) -> bool
 }
 
 impl ReadyServer {
+    /// No job is admitted yet, there is room for none, and the clock is 0.
+    ///
+    /// # Errors
+    ///
+    /// `Memory` where there is none.
+    pub fn new(alloc: Global, version: Version, k: Ratio) -> Result<ReadyServer, Memory>
+        ensures serves { IfOk result (λ s. Serves s (no_jobs version k) (Mark 0) []) }
+        ensures empty { IfOk result (λ s. s.ready.ready ≡ []) }
+        ensures paid { (start now : ℕ) → now ≤ start → IfOk result (λ s. HasPaid s start now) }
+    {
+        // A ratio is known to be one where it is read.
+        let _ = k.p();
+        Ok(ReadyServer {
+            ready: Ready::new(alloc, version, k)?,
+            ended: false,
+        })
+    }
+
+    /// Room for so many ready jobs more, as far as there can be jobs. Want of it leaves all as before.
+    ///
+    /// # Errors
+    ///
+    /// `Memory` where there is none.
+    pub fn reserve(&mut self, more: u32) -> Result<(), Memory>
+        ensures serves { (J : Instance) (to : Horizon) (events : List Event) → Serves self.old J to events
+            → Serves self.new J to events }
+        ensures room { OnOk result (min (length self.old.ready.ready + more) most_jobs ≤ self.new.ready.room) }
+        ensures same { self.new.ready.ready ≡ self.old.ready.ready }
+        ensures paid { (start now : ℕ) → HasPaid self.old start now → HasPaid self.new start now }
+    {
+        self.ready.reserve(more)
+    }
+
+    /// For how many ready jobs more there is room.
+    pub fn spare(&self) -> u32
+        ensures { result ≡ spare_of self.now }
+    {
+        self.ready.room().saturating_sub(self.ready.count())
+    }
+
+    /// The value of the jobs done.
+    pub fn value(&self) -> u64
+        ensures is { result ≡ self.now.ready.done }
+        ensures modest { result ≤ most_total }
+    {
+        self.ready.value()
+    }
+
+    /// The clock, in ticks.
+    pub fn clock(&self) -> u64
+        ensures is { result ≡ self.now.ready.clock }
+        ensures known { result ≤ last_tick }
+    {
+        self.ready.clock()
+    }
+
+    /// Whether no job is ready.
+    pub fn is_idle(&self) -> bool
+        ensures { IsTrue result ↔ (length self.now.ready.ready ≡ 0) }
+    {
+        self.ready.count() == 0
+    }
+
+    /// Forgets how many jobs there were, and what those done were worth, where none is ready: what is left at rest is
+    /// the run of no jobs. The clock goes on.
+    pub fn renew(&mut self)
+        requires { length self.old.ready.ready ≡ 0 }
+        ensures rests { (J : Instance) (mark : ℕ) → Rests self.old J (Mark mark)
+            → Rests self.new (instead J []) (Mark mark) }
+        ensures done { self.new.ready.done ≡ 0 }
+        ensures ended { self.new.ended ≡ self.old.ended }
+        ensures spare { spare_of self.new ≡ spare_of self.old }
+        ensures renewed { self.new.ready ≡ record self.old.ready { jobs = 0; done = 0 } }
+    {
+        self.ready.renew();
+    }
+
     // The next printed step before the barrier of the mark.
     #[inline(always)]
     fn step_to<L: Ledger>(&mut self, mark: u64, steps: &mut Steps<L>) -> Option<Event>
@@ -53,6 +134,9 @@ impl ReadyServer {
             → MayFollow from (Mark mark)
             → Gives (Serves self.new J (Mark mark)) (Rests self.new J (Mark mark)) (due_by J (Mark mark)) events
             result }
+        ensures open { is_end_given result ≡ false }
+        ensures ended { self.new.ended ≡ self.old.ended }
+        ensures spare { spare_of self.old ≤ spare_of self.new }
         ensures room { HasPlace self.old → HasPlace self.new }
         ensures paid { (start : ℕ) → HasPaid self.old start steps.old → HasPaid self.new start steps.new }
     {
@@ -65,6 +149,9 @@ impl ReadyServer {
         requires { (J : Instance) × (from : Horizon) × (events : List Event) × Serves self.old J from events }
         ensures gives { (J : Instance) (from : Horizon) (events : List Event) → Serves self.old J from events
             → Gives (Serves self.new J End) (Rests self.new J End) (due_by J End) events result }
+        ensures ended { self.new.ended ≡ (self.old.ended || is_end_given result) }
+        ensures short { IfSome result HasShortValue }
+        ensures spare { spare_of self.old ≤ spare_of self.new }
         ensures room { HasPlace self.old → HasPlace self.new }
         ensures paid { (start : ℕ) → HasPaid self.old start steps.old → HasPaid self.new start steps.new }
     {
@@ -77,6 +164,42 @@ impl ReadyServer {
             return Some(event);
         }
         Some(event)
+    }
+
+    /// The next printed step of the run of the admitted jobs, up to the horizon. It makes no room less.
+    #[inline(always)]
+    pub fn step<L: Ledger>(&mut self, to: Horizon, steps: &mut Steps<L>) -> Option<Event>
+        requires { (J : Instance) × (from : Horizon) × (events : List Event) × Serves self.old J from events
+            × MayFollow from to }
+        ensures gives { (J : Instance) (from : Horizon) (events : List Event) → Serves self.old J from events
+            → MayFollow from to
+            → Gives (Serves self.new J to) (Rests self.new J to) (due_by J to) events result }
+        ensures ended { self.new.ended ≡ (self.old.ended || is_end_given result) }
+        ensures short { IfSome result HasShortValue }
+        ensures spare { spare_of self.old ≤ spare_of self.new }
+        ensures room { HasPlace self.old → HasPlace self.new }
+        ensures paid { (start : ℕ) → HasPaid self.old start steps.old → HasPaid self.new start steps.new }
+    {
+        match to {
+            Horizon::Mark(mark) => self.step_to(mark, steps),
+            Horizon::End => self.step_on(steps),
+        }
+    }
+
+    /// Releases a job, up to which all was given, and gives its release. No memory is taken.
+    #[inline(always)]
+    pub fn admit(&mut self, job: Job) -> Event
+        requires room { HasPlace self.old }
+        requires valid { (J : Instance) × Rests self.old J (Mark job.release) × IsValid (with_jobs J (job ∷ [])) }
+        ensures serves { (J : Instance) → Rests self.old J (Mark job.release) → IsValid (with_jobs J (job ∷ [])) →
+            Serves self.new (with_jobs J (job ∷ [])) (Mark job.release) (settled J job.release ++ result ∷ []) }
+        ensures open { is_end (Prints result) ≡ false }
+        ensures spare { spare_of self.old ≤ spare_of self.new + 1 }
+        ensures paid { (start now : ℕ) → HasPaid self.old start now → HasPaid self.new start now }
+    {
+        let number = self.ready.jobs();
+        self.ready.release(job);
+        Event::Release { number, job }
     }
 }
 
@@ -92,12 +215,7 @@ impl Dispatcher for ReadyServer {
     fn laws() {}
 
     fn new(alloc: Global, version: Version, k: Ratio) -> Result<ReadyServer, Memory> {
-        // A ratio is known to be one where it is read.
-        let _ = k.p();
-        Ok(ReadyServer {
-            ready: Ready::new(alloc, version, k)?,
-            ended: false,
-        })
+        ReadyServer::new(alloc, version, k)
     }
 
     fn make_room(&mut self) -> Result<(), Memory> {
@@ -110,15 +228,10 @@ impl Dispatcher for ReadyServer {
 
     #[inline(always)]
     fn step<L: Ledger>(&mut self, to: Horizon, steps: &mut Steps<L>) -> Option<Event> {
-        match to {
-            Horizon::Mark(mark) => self.step_to(mark, steps),
-            Horizon::End => self.step_on(steps),
-        }
+        ReadyServer::step(self, to, steps)
     }
 
     fn admit<L: Ledger>(&mut self, job: Job, _steps: &mut Steps<L>) -> Option<Event> {
-        let number = self.ready.jobs();
-        self.ready.release(job);
-        Some(Event::Release { number, job })
+        Some(ReadyServer::admit(self, job))
     }
 }

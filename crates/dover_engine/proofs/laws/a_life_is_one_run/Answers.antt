@@ -1,4 +1,4 @@
-use Rattle.dover_engine.proofs.LifeLaws.{numbers, settled_all, rest_all, ended_all, online_all}
+use Rattle.dover_engine.proofs.LifeLaws.{numbers, settled_all, rest_all, ended_all, online_all, begins_all}
 use Rattle.dover_engine.proofs.laws.a_life_is_one_run.Goals as goal
 
 pub returns-clause-numbers : goal.returns-clause-numbers
@@ -15,3 +15,6 @@ returns-clause-ended c = ended_all
 
 pub returns-clause-online : goal.returns-clause-online
 returns-clause-online c = online_all
+
+pub returns-clause-begins : goal.returns-clause-begins
+returns-clause-begins c = begins_all

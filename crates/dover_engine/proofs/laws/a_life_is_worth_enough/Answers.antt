@@ -1,5 +1,4 @@
-use Rattle.dover_engine.proofs.LifeLaws.{within_all, honest_all, underload_all, value_all}
-use Rattle.dover_engine.proofs.Unlost.{none_lost_all}
+use Rattle.dover_engine.proofs.LifeLaws.{within_all, honest_all, underload_all, value_all, none_lost_all}
 use Rattle.dover_engine.proofs.laws.a_life_is_worth_enough.Goals as goal
 
 pub returns-clause-within : goal.returns-clause-within

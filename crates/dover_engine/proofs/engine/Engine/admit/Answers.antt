@@ -1,38 +1,68 @@
-use Rattle.std.proofs.Common.{◌+◌, ◌∷◌, [], sym, ◌∙◌, ap, subst}
+use Rattle.std.proofs.Common.{◌≡◌, ◌+◌, ◌∷◌, [], sym, ◌∙◌, ap, subst, refl}
+use Rattle.std.specs.Prelude.{None, Some, false}
 use Rattle.dover_model.specs.JobFacts.{JobFacts, job_of_numbers}
-use Rattle.dover_model.specs.Instance.{IsValid, with_jobs}
-use Rattle.dover_server.specs.Service.{Service, list_of, with_job}
-use Rattle.dover_engine.specs.Life.{Life}
+use Rattle.dover_model.specs.Instance.{Instance, with_jobs}
+use Rattle.dover_model.specs.Rest.{instead}
+use Rattle.dover_model.specs.Admission.{refusal_of}
+use Rattle.dover_engine.specs.Kept.{life_of}
+use Rattle.dover_engine.specs.Life.{life_with, Life, IsReadyFor, HasPaid}
+use Rattle.dover_engine.specs.Given.{Gave}
 use Rattle.dover_engine.specs.Calls.{IsAdmitted}
-use Rattle.dover_engine.proofs.Keeping.{may_admit}
+use Rattle.dover_engine.proofs.Giving.{rests_there, may_admit, job_gave}
 use Rattle.dover_engine.proofs.Lives.{admit_gave}
 use Rattle.dover_engine.proofs.engine.Engine.admit.Goals as goal
 
-pub admit-requires-clause-valid : goal.admit-requires-clause-valid
-admit-requires-clause-valid c =
-    let e = c.self.inside in
-    subst (λ job. IsValid (with_jobs (list_of e.server) (job ∷ []))) (sym c.in-Ok.ensures.job)
-    (may_admit e (job_of_numbers c.args.release c.args.work c.args.deadline c.args.value) c.self.invariant
-    c.clock-clock.ensures.stands
-    (c.ready_for.ensures.0 c.if-not-ready_for.false)
-    (c.in-Ok.ensures.refusal (list_of e.server).jobs c.self.invariant.jobs))
+pub admit-event-requires-clause-valid : goal.admit-event-requires-clause-valid
+admit-event-requires-clause-valid c =
+    let kept = c.self.invariant in
+    let g = kept.gave in
+    let K : Instance = instead kept.jobs g.since in
+    let v : Life = life_of c.self.inside in
+    let ready = subst (λ (j : JobFacts). IsReadyFor v j.release) (sym c.in-Ok.ensures.job)
+    (subst (λ u. IsReadyFor u c.args.release) (sym c.self.view_is)
+    (c.is_ready_for.ensures.0 c.if-not-is_ready_for.false)) in
+    let none = subst (λ (j : JobFacts). refusal_of v.admission.ratio g.since j ≡ None) (sym c.in-Ok.ensures.job)
+    (c.in-Ok.ensures.refusal g.since g.gave.admission) in
+    (K, rests_there v K g.told g.gave c.in-Ok.job ready, may_admit v K g.told g.gave c.in-Ok.job ready none)
 
 pub returns-clause-ok : goal.returns-clause-ok
 returns-clause-ok c =
-    let e = c.self.inside in
-    let job : JobFacts = job_of_numbers c.args.release c.args.work c.args.deadline c.args.value in
-    let w = c.admit.new.self in
-    let after : Service → Life = λ service. record { service = service; forgotten = e.forgotten; earned = e.earned } in
-    let ready = c.ready_for.ensures.0 c.if-not-ready_for.false in
-    subst (λ v. IsAdmitted v (after w) job (e.forgotten + c.from.result)) c.self.view_is (record {
-      numbered = ap (λ n. e.forgotten + n) (c.from.ensures ∙ c.in-Ok-admit.ensures.number);
+    let v : Life = life_of c.self.inside in
+    let w : Life = life_with c.admit-event.new.self c.admit.new.self v.last false (Some c.admit-event.result)
+    v.forgotten v.earned in
+    let ready = subst (λ (j : JobFacts). IsReadyFor v j.release) (sym c.in-Ok.ensures.job)
+    (subst (λ u. IsReadyFor u c.args.release) (sym c.self.view_is)
+    (c.is_ready_for.ensures.0 c.if-not-is_ready_for.false)) in
+    subst (λ u. IsAdmitted u w
+    (job_of_numbers c.args.release c.args.work c.args.deadline c.args.value) (c.self.inside.forgotten + c.from.result)) c.self.view_is
+    (subst (λ (j : JobFacts). IsAdmitted v w j (c.self.inside.forgotten + c.from.result)) c.in-Ok.ensures.job (record {
+      numbered = ap (λ n. v.forgotten + n) (c.from.ensures ∙ c.count-number.ensures);
       ready = ready;
-      valid = may_admit e job c.self.invariant c.clock-clock.ensures.stands ready
-          (c.in-Ok.ensures.refusal (list_of e.server).jobs c.self.invariant.jobs);
-      life = ap after (c.in-Ok-admit.ensures.ok
-          ∙ ap (λ (j : JobFacts). with_job e.server j w.spare) c.in-Ok.ensures.job);
-      spare = c.in-Ok-admit.ensures.spare;
-    })
+      gave = λ J events g.
+          let K : Instance = instead J g.since in
+          let none = subst (λ (j : JobFacts). refusal_of v.admission.ratio g.since j ≡ None) (sym c.in-Ok.ensures.job)
+          (c.in-Ok.ensures.refusal g.since g.gave.admission) in
+          admit_gave v J events g c.in-Ok.job ready c.admit-event.new.self c.admit.new.self c.admit-event.result
+          (job_gave v K g.told g.gave c.in-Ok.job ready c.admit-event.new.self c.admit.new.self c.admit-event.result
+          (c.admit-event.ensures.serves K (rests_there v K g.told g.gave c.in-Ok.job ready)
+          (may_admit v K g.told g.gave c.in-Ok.job ready none))
+          (c.admit.ensures.stands g.since g.gave.admission) c.admit.ensures.ratio c.admit-event.ensures.open);
+      last = refl;
+      spare = c.admit-event.ensures.spare;
+    }))
 
-pub returns-clause-gave : goal.returns-clause-gave
-returns-clause-gave c = λ jobs events gave. admit_gave c.args.self.now _ _ _ (returns-clause-ok c) jobs events gave
+pub invariant_of-self : goal.invariant_of-self
+invariant_of-self c =
+    let kept = c.self.invariant in record {
+      jobs = with_jobs kept.jobs (job_of_numbers c.args.release c.args.work c.args.deadline c.args.value ∷ []);
+      events = kept.events;
+      gave = (returns-clause-ok c).gave kept.jobs kept.events
+          (subst (λ u. Gave u kept.jobs kept.events) c.self.view_is kept.gave);
+      forgotten_fits = kept.forgotten_fits;
+      earned_fits = kept.earned_fits;
+    }
+
+pub returns-clause-paid : goal.returns-clause-paid
+returns-clause-paid c start now paid =
+    let it = subst (λ u. HasPaid u start now) (sym c.self.view_is) paid in
+    record { since = it.since; before = it.before; paid = c.admit-event.ensures.paid it.since now it.paid }

@@ -1,49 +1,35 @@
-use Rattle.std.proofs.Common.{refl, sym, ◌∙◌, subst, ap}
-use Rattle.admission.specs.Kept.{StandsFor}
-use Rattle.dover_server.specs.Service.{list_of, MayFollow, Stands}
-use Rattle.dover_engine.specs.Kept.{AllKnown}
-use Rattle.dover_engine.specs.Calls.{Decides}
-use Rattle.dover_engine.proofs.Keeping.{still_known}
-use Rattle.dover_engine.proofs.Lives.{answers_short, decide_gave, decide_prompt}
+use Rattle.std.proofs.Common.{◌++◌, sym, ◌∙◌, ap, subst, arith}
+use Rattle.std.specs.Prelude.{option_to_list, ◌||◌}
+use Rattle.std.specs.Option.{option_map}
+use Rattle.dover_model.specs.Rest.{behind}
+use Rattle.dover_server.specs.Leading.{is_ready_after, is_end_given}
+use Rattle.dover_engine.specs.Decisions.{events_in}
+use Rattle.dover_engine.specs.Life.{has_ended}
+use Rattle.dover_engine.specs.Given.{Gave}
+use Rattle.dover_engine.proofs.Lives.{answer_prompt, ended_given, ready_behind, end_behind}
 use Rattle.dover_engine.proofs.engine.Engine.decide.Goals as goal
 
-pub invariant_of-self : goal.invariant_of-self
-invariant_of-self c = λ c'.
-    let e = c'.self.inside in let w = c'.step_to-event.new.server in let a = c'.step_to-event.ensures.answers in
-    let may = subst (λ u. MayFollow u.service.last c'.args.to) (sym c'.self.view_is) c'.requires in record {
-      ratio = c'.self.invariant.ratio ∙ ap (λ r. r.ratio) (sym a.rules);
-      jobs = subst (λ J. StandsFor e.admission J.jobs) (sym a.list) c'.self.invariant.jobs;
-      last_is = a.last;
-      known = subst (λ J. AllKnown w.last J.jobs) (sym a.list)
-          (subst (λ h. AllKnown h (list_of e.server).jobs) (sym a.last)
-          (still_known e.server.last c'.args.to (list_of e.server).jobs may c'.self.invariant.known));
-      forgotten_fits = c'.self.invariant.forgotten_fits;
-      earned_fits = c'.self.invariant.earned_fits;
-    }
-
-pub decision_in-requires-clause-value : goal.decision_in-requires-clause-value
-decision_in-requires-clause-value c = λ c'.
-    answers_short c'.args.to c'.self.inside.server c'.step_to-event.new.server c'.step_to-event.result
-    c'.step_to-event.ensures.answers
-
 pub returns-clause-decides : goal.returns-clause-decides
-returns-clause-decides c = λ c'.
-    let e = c'.self.inside in let w = c'.step_to-event.new.server in
-    subst (λ v. Decides c'.args.to v
-    (record { service = w; forgotten = e.forgotten; earned = e.earned }) c'.decision_in.result) c'.self.view_is
-    (record {
-      event = c'.step_to-event.result;
-      shown = c'.decision_in.ensures;
-      step = c'.step_to-event.ensures.answers;
-      life = refl;
-    })
-
-pub returns-clause-gave : goal.returns-clause-gave
-returns-clause-gave c = λ c'. λ jobs events gave. decide_gave c'.args.to c'.args.self.now _ _ c'.requires
-    (subst (λ v. Stands v.service) c'.self.view_is c'.clock-clock.ensures.stands)
-    (returns-clause-decides c c') jobs events gave
-
-pub returns-clause-prompt : goal.returns-clause-prompt
-returns-clause-prompt c = λ c'. λ jobs events gave. decide_prompt c'.args.to c'.args.self.now _ _ c'.requires
-    (subst (λ v. Stands v.service) c'.self.view_is c'.clock-clock.ensures.stands)
-    (returns-clause-decides c c') jobs events gave
+returns-clause-decides g c =
+    let v = c.args.self.now in
+    let o = c.next-event.result in
+    let same = c.shown-decision.ensures
+    ∙ ap (λ n. option_map (behind n c.next-event.new.self.earned) o) c.next-event.ensures.forgotten
+    ∙ ap (λ value. option_map (behind v.forgotten value) o) c.next-event.ensures.earned in record {
+      gave = λ J events gave. subst (λ p. Gave c.renew.new.self J (events ++ option_to_list p)) (sym same)
+          (c.renew.ensures.gave J (events ++ option_to_list (option_map (behind v.forgotten v.earned) o))
+          (c.next-event.ensures.gave J events gave));
+      whole = λ J events gave ended. ended_given c.renew.new.self J (events ++ events_in c.shown-decision.result)
+          (subst (λ p. Gave c.renew.new.self J (events ++ option_to_list p)) (sym same)
+          (c.renew.ensures.gave J (events ++ option_to_list (option_map (behind v.forgotten v.earned) o))
+          (c.next-event.ensures.gave J events gave))) ended;
+      prompt = λ J events gave. answer_prompt c.args.to J events v.forgotten v.earned c.shown-decision.result o
+          same (c.next-event.ensures.prompt J events gave);
+      last = c.renew.ensures.last ∙ c.next-event.ensures.last;
+      settled = c.renew.ensures.settled ∙ c.next-event.ensures.settled
+          ∙ ready_behind c.args.to v.forgotten v.earned o ∙ ap (is_ready_after c.args.to) (sym same);
+      ended = c.renew.ensures.ended ∙ c.next-event.ensures.ended
+          ∙ ap (λ b. has_ended v || b) (end_behind v.forgotten v.earned o ∙ ap is_end_given (sym same));
+      anew = c.renew.ensures.anew;
+      spare = omega (arith, c.next-event.ensures.spare, c.renew.ensures.spare);
+    }

@@ -1,29 +1,46 @@
-use Rattle.std.proofs.Common.{◌+◌, length, sym, ◌∙◌, subst}
-use Rattle.dover_server.specs.Service.{renewed}
+use Rattle.std.proofs.Common.{◌+◌, refl, sym, ◌∙◌, subst, arith}
+use Rattle.dover_model.specs.Rest.{instead}
+use Rattle.ready_jobs.proofs.Courses.{no_items}
 use Rattle.dover_engine.specs.Kept.{life_of}
+use Rattle.dover_engine.specs.Life.{life_with, Life, IsAtRest, HasPaid}
 use Rattle.dover_engine.specs.Given.{Gave}
-use Rattle.dover_engine.proofs.Lives.{renew_gave}
+use Rattle.dover_engine.proofs.Lives.{renew_gave, renew_paid}
 use Rattle.dover_engine.proofs.engine.Engine.renew.Goals as goal
 
 pub returns-clause-gave : goal.returns-clause-gave
-returns-clause-gave c = λ jobs events gave.
-    let e = c.self.inside in
-    let rest = sym c.renew.ensures.when ∙ c.if-not-renew.false in
-    subst (λ service. Gave (record {
-      service = service;
-      forgotten = e.forgotten + c.from-jobs.result;
-      earned = e.earned + c.value-value.result;
-    }) jobs events) (sym (c.renew.ensures.renewed c.if-not-renew.false))
-    (subst (λ n. Gave (record
-    { service = renewed e.server; forgotten = e.forgotten + n; earned = e.earned + c.value-value.result }) jobs
-    events)
-    (sym (c.from-jobs.ensures ∙ c.admitted.ensures))
-    (subst (λ value. Gave (record {
-      service = renewed e.server;
-      forgotten = e.forgotten + length e.server.state.tasks;
-      earned =
-          e.earned + value;
-    }) jobs events)
-    (sym c.value-value.ensures)
-    (renew_gave (life_of e) c.clock-clock.ensures.stands rest jobs events
-    (subst (λ v. Gave v jobs events) (sym c.self.view_is) gave))))
+returns-clause-gave c J events gave =
+    let v : Life = life_of c.self.inside in
+    let it : Gave v J events = subst (λ u. Gave u J events) (sym c.self.view_is) gave in
+    let still : IsAtRest v = record {
+      settled = c.if-not-self.false;
+      none = no_items v.server.ready.ready (c.is_idle.ensures.0 c.if-not-is_idle.false);
+    } in
+    subst (λ n. Gave (life_with c.renew.new.self c.new-self-inside.result v.last v.settled v.coming (v.forgotten +
+    n) (v.earned + c.value-value.result)) J events) (sym (c.from-jobs.ensures ∙ c.count.ensures))
+    (subst (λ value. Gave (life_with c.renew.new.self c.new-self-inside.result v.last v.settled v.coming
+    (v.forgotten + v.admission.count) (v.earned + value)) J events) (sym c.value-value.ensures.is)
+    (renew_gave v J events it still c.renew.new.self c.new-self-inside.result
+    (c.renew.ensures.rests (instead J it.since)) c.new-self-inside.ensures.stands
+    (c.new-self-inside.ensures.ratio ∙ c.ratio.ensures)))
+
+pub invariant_of-self : goal.invariant_of-self
+invariant_of-self c =
+    let kept = c.self.invariant in record {
+      jobs = kept.jobs;
+      events = kept.events;
+      gave = returns-clause-gave c kept.jobs kept.events
+          (subst (λ u. Gave u kept.jobs kept.events) c.self.view_is kept.gave);
+      forgotten_fits = omega (arith, c.if-self-jobs.false, kept.forgotten_fits);
+      earned_fits = omega (arith, c.if-self-value.false, kept.earned_fits);
+    }
+
+pub returns-clause-paid : goal.returns-clause-paid
+returns-clause-paid c start now paid =
+    let v : Life = life_of c.self.inside in
+    let it = subst (λ u. HasPaid u start now) (sym c.self.view_is) paid in
+    let kept = c.self.invariant in
+    subst (λ n. HasPaid (life_with c.renew.new.self c.new-self-inside.result v.last v.settled v.coming (v.forgotten
+    + n) (v.earned + c.value-value.result)) start now) (sym (c.from-jobs.ensures ∙ c.count.ensures))
+    (renew_paid v kept.jobs kept.events kept.gave
+    (no_items v.server.ready.ready (c.is_idle.ensures.0 c.if-not-is_idle.false)) start now it (life_with
+    c.renew.new.self c.new-self-inside.result v.last v.settled v.coming (v.forgotten + v.admission.count) (v.earned + c.value-value.result)) refl)

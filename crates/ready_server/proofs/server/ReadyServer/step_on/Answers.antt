@@ -1,6 +1,6 @@
 use Rattle.std.proofs.Common.{sym, ◌∙◌}
 use Rattle.ready_jobs.proofs.Courses.{ends_next}
-use Rattle.ready_server.proofs.Stepping.{end_given, event_given}
+use Rattle.ready_server.proofs.Stepping.{end_given, event_given, next_short}
 use Rattle.ready_server.proofs.server.ReadyServer.step_on.Goals as goal
 
 pub returns-then-is_end-clause-gives : goal.returns-then-is_end-clause-gives
@@ -15,3 +15,15 @@ returns-clause-gives g c J from events serves =
     let it = c.step_on-event.ensures.taken in
     event_given c.args.self.now J from events serves c.if-self.false it.there c.step_on-event.result it.comes
     (sym c.is_end.ensures ∙ c.if-is_end.false) c.step_on-event.new.self it.passes
+
+pub returns-then-is_end-clause-short : goal.returns-then-is_end-clause-short
+returns-then-is_end-clause-short g c =
+    let it = c.requires.3 in
+    next_short c.args.self.now.ready c.step_on-event.ensures.taken.there c.requires.0 it.state it.follows
+    c.step_on-event.result c.step_on-event.ensures.taken.comes
+
+pub returns-clause-short : goal.returns-clause-short
+returns-clause-short g c =
+    let it = c.requires.3 in
+    next_short c.args.self.now.ready c.step_on-event.ensures.taken.there c.requires.0 it.state it.follows
+    c.step_on-event.result c.step_on-event.ensures.taken.comes

@@ -1,27 +1,4 @@
-use Rattle.std.proofs.Common.{◌++◌, ◌∷◌, [], sym, subst}
-use Rattle.dover_model.specs.declared.events.Event.TheVariants.{Release}
-use Rattle.dover_model.specs.Instance.{with_jobs}
-use Rattle.dover_model.specs.Settled.{settled}
-use Rattle.dover_server.specs.declared.horizon.Horizon.TheVariants.{Mark}
-use Rattle.ready_server.specs.Serving.{Serves}
-use Rattle.ready_server.proofs.Releasing.{release_course, release_ahead, release_given}
 use Rattle.ready_server.proofs.server.ReadyServerDispatcher.admit.Goals as goal
 
-pub release-requires-clause-course : goal.release-requires-clause-course
-release-requires-clause-course g c =
-    release_course c.args.self.now c.requires.valid.0 c.args.job c.requires.valid.1 c.requires.valid.2
-
-pub release-requires-clause-ahead : goal.release-requires-clause-ahead
-release-requires-clause-ahead g c =
-    release_ahead c.args.self.now c.requires.valid.0 c.args.job c.requires.valid.1 c.requires.valid.2
-
-pub returns-clause-gives : goal.returns-clause-gives
-returns-clause-gives g c J rests valid =
-    subst (λ n. Serves (record c.args.self.now { ready = c.release.new.self }) (with_jobs J (c.args.job ∷ []))
-    (Mark c.args.job.release) (settled J c.args.job.release ++ Release n c.args.job ∷ []))
-    (sym c.jobs-number.ensures.is)
-    (release_given c.args.self.now J c.args.job rests valid c.release.new.self c.release.ensures.kept
-    c.release.ensures.ready)
-
 pub returns-clause-paid : goal.returns-clause-paid
-returns-clause-paid g c start paid = c.release.ensures.paid start c.args._steps.now paid
+returns-clause-paid g c start paid = c.admit.ensures.paid start c.args._steps.now paid
