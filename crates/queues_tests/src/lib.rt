@@ -1,5 +1,5 @@
-//! Tests of the crates below the server: `root_compare`, `tick_cpu`, `held_queue`, `rank_heap`, `waiting_queue`,
-//! `place_heap` and `scanned_step`.
+//! Tests of the crates below the server: `root_compare`, `tick_cpu`, `held_queue`, `rank_heap`, `waiting_queue` and
+//! `place_heap`.
 #![tactic(auto)]
 
 #[cfg(test)]
@@ -14,7 +14,5 @@ mod items_at_places;
 mod jumps;
 #[cfg(test)]
 mod roots;
-#[cfg(test)]
-mod single_steps;
 #[cfg(test)]
 mod waiting_firsts;

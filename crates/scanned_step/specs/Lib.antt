@@ -1,4 +1,3 @@
 pub mod Moves
-pub mod Rooms
 pub mod Cases
 pub mod Dues
