@@ -1,7 +1,6 @@
 -- One job completes in a run of a chain, and that is the last link.
 use Rattle.std.proofs.Common.{◌≡◌, ℕ, suc, zero, ◌+◌, ◌≤◌, ◌⊎◌, inl, inr, List, [], ◌∷◌, map, refl, sym, ap, ◌∙◌, subst}
-use Rattle.std.proofs.Common.{Bool, true, false, cond}
-use Rattle.std.proofs.Common.{arith, eqb}
+use Rattle.std.proofs.Common.{Bool, true, false, cond, arith, eqb}
 use Rattle.std.specs.Prelude.{None, Some}
 use Rattle.std.specs.Bool.{MatchBool, then_some}
 use Rattle.std.specs.List.{count_by, list_all, filter, last_or}
@@ -31,11 +30,10 @@ use Rattle.dover_model.proofs.Deeds.{Deed, Completed, Resumed, Started, Began, P
 use Rattle.dover_model.proofs.Deeds.{Abandoned, Rested}
 use Rattle.dover_model.proofs.Kept.{step_deed, step_kept, opening_keeps, come_coming, end_same}
 use Rattle.dover_model.proofs.Ending.{end_over, run_is_whole}
-use Rattle.dover_model.proofs.Potential.{one_if}
+use Rattle.dover_model.specs.Weights.{one_if}
 use Rattle.adversary.specs.BaitingRuns.{baiting, CompletesLastAlone}
 use Rattle.adversary.proofs.Steady.{IsLast, IsChained, IsSteady, alone, stands_as, differ, completes, no_preemption}
-use Rattle.adversary.proofs.Steady.{taken, on_taken, step_steady}
-use Rattle.adversary.proofs.Steady.{value_of_steady}
+use Rattle.adversary.proofs.Steady.{taken, on_taken, step_steady, value_of_steady}
 use Rattle.adversary.proofs.RunLinks.{links_ends}
 use Rattle.adversary.proofs.Baited.{bait_completes, most, Link, Light, ratio, small, chained, opening_steady}
 use Rattle.adversary.proofs.Baited.{each_steady}

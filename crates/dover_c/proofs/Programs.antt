@@ -1,6 +1,6 @@
 -- What a program in C does, as calls of an engine.
-use Rattle.std.proofs.Common.{◌≡◌, ℕ, ◌≤◌, List, [], ◌∷◌, ◌++◌, map, refl, sym, ap, ◌∙◌, subst, cond, append-nil}
-use Rattle.std.proofs.Common.{Bool, true, false, inl, inr}
+use Rattle.std.proofs.Common.{◌≡◌, ℕ, ◌≤◌, List, [], ◌∷◌, ◌++◌, map, refl, sym, ap, ◌∙◌, subst, cond, append-nil, Bool}
+use Rattle.std.proofs.Common.{true, false, inl, inr}
 use Rattle.std.specs.Prelude.{Option, Some, None, ◌==◌, ◌||◌, not, nat_lt, Result, Ok, Err}
 use Rattle.std.specs.List.{filter, enumerate_from}
 use Rattle.std.proofs.lemmas.Bool.{eqb-true, eq-eqb}
@@ -21,17 +21,15 @@ use Rattle.dover_model.specs.Underload.{takes_or_abandons}
 use Rattle.dover_model.specs.Schedules.{Meets, worth}
 use Rattle.dover_model.specs.Bound.{IsWithin}
 use Rattle.dover_model.proofs.Tests.{never}
-use Rattle.dover_server.specs.declared.horizon.Horizon.{Horizon}
-use Rattle.dover_server.specs.declared.horizon.Horizon.TheVariants as horizon
-use Rattle.dover_server.specs.Leading.{is_end_given}
-use Rattle.dover_server.specs.Service.{MayFollow}
+use Rattle.dover_model.specs.declared.horizon.Horizon.{Horizon}
+use Rattle.dover_model.specs.declared.horizon.Horizon.TheVariants as horizon
+use Rattle.dover_model.specs.Horizons.{is_end_given, MayFollow, no_jobs}
 use Rattle.dover_engine.specs.declared.decision.Decision.{Decision}
 use Rattle.dover_engine.specs.declared.decision.Decision.TheVariants.{Release, Run, Preempt, Take, Complete, Abandon}
 use Rattle.dover_engine.specs.declared.decision.Decision.TheVariants.{End}
 use Rattle.dover_engine.specs.declared.causes.NotStepped.{NotStepped}
 use Rattle.dover_engine.specs.declared.causes.NotStepped.TheVariants.{Finished, Falls, Late}
 use Rattle.dover_engine.specs.Decisions.{event_of, event_in, events_in}
-use Rattle.dispatcher.specs.Dispatch.{no_jobs}
 use Rattle.dover_engine.specs.Life.{Life, has_ended}
 use Rattle.dover_engine.specs.Given.{Gave}
 use Rattle.dover_engine.specs.Calls as engine
@@ -41,8 +39,8 @@ use Rattle.dover_c.specs.declared.Decided.{Decided}
 use Rattle.dover_c.specs.declared.slot.Slot.{Slot}
 use Rattle.dover_c.specs.Codes.{version_number, mark_code, numbers_of, IsStepOf, Stands, IsMade, IsFresh, CallsOn}
 use Rattle.dover_c.specs.Codes.{Admits, Steps, Finishes}
-use Rattle.dover_c.specs.Program.{Act, Admit, Step, Finish, Ask, Does, DoesAll, IsProgram, told, jobs_told}
-use Rattle.dover_c.specs.Program.{all_told, is_decision, answers, given, shown}
+use Rattle.dover_c.specs.Program.{Act, Admit, Step, Finish, Ask, Does, DoesAll, IsProgram, told, jobs_told, all_told}
+use Rattle.dover_c.specs.Program.{is_decision, answers, given, shown}
 
 -- ---- decisions that lose no job
 

@@ -1,14 +1,13 @@
 -- What the numbers say that go to a caller in C.
-use Rattle.std.specs.Prelude.{◌≡◌, ◌≤◌, ℕ, [], Option, Some, None, not, ◌||◌, ◌==◌, nat_lt}
-use Rattle.std.specs.Prelude.{if◌then◌else◌, Result, Ok, Err}
+use Rattle.std.specs.Prelude.{◌≡◌, ◌≤◌, ℕ, [], Option, Some, None, not, ◌||◌, ◌==◌, nat_lt, if◌then◌else◌, Result, Ok}
+use Rattle.std.specs.Prelude.{Err}
 use Rattle.dover_model.specs.Limits.{most_jobs}
 use Rattle.dover_model.specs.Fraction.{is_ratio, IsRatio}
 use Rattle.dover_model.specs.declared.events.Version.{Version}
 use Rattle.dover_model.specs.declared.events.Version.TheVariants.{One, Two}
 use Rattle.dover_model.specs.JobFacts.{JobFacts}
-use Rattle.dover_server.specs.declared.horizon.Horizon.TheVariants as horizon
-use Rattle.dover_server.specs.Service.{MayFollow}
-use Rattle.dispatcher.specs.Dispatch.{no_jobs}
+use Rattle.dover_model.specs.declared.horizon.Horizon.TheVariants as horizon
+use Rattle.dover_model.specs.Horizons.{MayFollow, no_jobs}
 use Rattle.admission.specs.declared.refused.Refused.TheVariants as refused
 use Rattle.dover_engine.specs.declared.causes.NotAdmitted.{NotAdmitted}
 use Rattle.dover_engine.specs.declared.causes.NotAdmitted.TheVariants.{Unsettled, Refused, Full}

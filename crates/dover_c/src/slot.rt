@@ -1,11 +1,10 @@
 //! An engine where one could be made, and its calls with answers in numbers.
 ghost use Rattle.std.specs.Prelude.{◌≡◌, ◌<◌};
 ghost use Rattle.dover_model.specs.JobFacts.{job_of_numbers};
-ghost use Rattle.dover_server.specs.declared.horizon.Horizon.TheVariants.{End};
+ghost use Rattle.dover_model.specs.declared.horizon.Horizon.TheVariants.{End};
 ghost use Rattle.dover_engine.specs.Calls.{Decides};
-ghost use Rattle.dover_c.specs.Codes.{IsMade, AdmitAnswers, StepAnswers, FinishAnswers, StatusAnswers};
-ghost use Rattle.dover_c.specs.Codes.{ValueAnswers, RoomAnswers};
-ghost use Rattle.dover_c.specs.Codes.{cause_code, made_code, mark_code, numbers_of, IsStepOf};
+ghost use Rattle.dover_c.specs.Codes.{IsMade, AdmitAnswers, StepAnswers, FinishAnswers, StatusAnswers, ValueAnswers};
+ghost use Rattle.dover_c.specs.Codes.{RoomAnswers, cause_code, made_code, mark_code, numbers_of, IsStepOf};
 
 use crate::{Admitted, Decided};
 use admission::Refused;

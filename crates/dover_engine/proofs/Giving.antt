@@ -16,11 +16,9 @@ use Rattle.dover_model.specs.Settled.{settled}
 use Rattle.dover_model.specs.Sound.{Each, jobs_of}
 use Rattle.dover_model.proofs.Admitting.{admits}
 use Rattle.admission.specs.Kept.{Kept, StandsFor}
-use Rattle.dover_server.specs.declared.horizon.Horizon.{Horizon}
-use Rattle.dover_server.specs.declared.horizon.Horizon.TheVariants.{Mark, End}
-use Rattle.dover_server.specs.Service.{MayFollow}
-use Rattle.dover_server.specs.Leading.{is_ready_after}
-use Rattle.dispatcher.specs.Dispatch.{no_jobs, due_by, Gives}
+use Rattle.dover_model.specs.declared.horizon.Horizon.{Horizon}
+use Rattle.dover_model.specs.declared.horizon.Horizon.TheVariants.{Mark, End}
+use Rattle.dover_model.specs.Horizons.{MayFollow, is_ready_after, no_jobs, due_by, Gives}
 use Rattle.ready_server.specs.Serving.{Serves, Rests}
 use Rattle.ready_server.specs.declared.server.ReadyServer.{ReadyServer}
 use Rattle.ready_server.proofs.Stepping.{serves_later, rests_serves, printed_low}

@@ -25,14 +25,14 @@ use Rattle.dover_model.proofs.RestTick.{rests_from}
 use Rattle.dover_model.proofs.TurnSchedules.{turn_valid, honest_in_turn, within_in_turn}
 use Rattle.dover_model.proofs.Turns.{turn_append, jobs_append}
 use Rattle.dover_model.proofs.Runs.{last_value, value_last}
-use Rattle.dover_server.specs.declared.horizon.Horizon.TheVariants.{Mark}
-use Rattle.dispatcher.specs.Dispatch.{no_jobs}
+use Rattle.dover_model.specs.declared.horizon.Horizon.TheVariants.{Mark}
+use Rattle.dover_model.specs.Horizons.{no_jobs}
 use Rattle.dover_engine.specs.Decisions.{events_in}
 use Rattle.dover_engine.specs.Life.{Life, done_value, has_ended, IsAtRest}
 use Rattle.dover_engine.specs.Given.{Gave}
 use Rattle.dover_engine.proofs.Lives.{ended_given, rest_gave, given_begins}
-use Rattle.dover_engine.specs.Calls.{Call, Admitted, Stepped, Leads, LeadsAll, Lives, admitted, jobs_in}
-use Rattle.dover_engine.specs.Calls.{all_jobs, decided}
+use Rattle.dover_engine.specs.Calls.{Call, Admitted, Stepped, Leads, LeadsAll, Lives, admitted, jobs_in, all_jobs}
+use Rattle.dover_engine.specs.Calls.{decided}
 
 -- ---- what is given
 

@@ -1,7 +1,6 @@
 -- What an engine gives of all jobs that were ever admitted, call by call.
-use Rattle.std.proofs.Common.{◌≡◌, ℕ, ◌+◌, ◌*◌, ◌≤◌, ◌<◌, ◌^◌, List, [], ◌∷◌, ◌++◌, length, map, refl, sym, ap, ◌∙◌, subst}
-use Rattle.std.proofs.Common.{arith, inl, inr}
-use Rattle.std.proofs.Common.{Bool, true, false, append-nil, append_assoc, length-append}
+use Rattle.std.proofs.Common.{◌≡◌, ℕ, ◌+◌, ◌*◌, ◌≤◌, ◌<◌, ◌^◌, List, [], ◌∷◌, ◌++◌, length, map, refl, sym, ap, ◌∙◌}
+use Rattle.std.proofs.Common.{subst, arith, inl, inr, Bool, true, false, append-nil, append_assoc, length-append}
 use Rattle.std.specs.Prelude.{Option, Some, None, IsNone, is_some, option_to_list}
 use Rattle.std.specs.Option.{option_map}
 use Rattle.std.proofs.lemmas.List.{map-append}
@@ -22,14 +21,12 @@ use Rattle.dover_model.proofs.Apart.{runs_in_turn, behind_last, end_at_rest}
 use Rattle.dover_model.proofs.Turns.{over_more, jobs_append, completed_append, settled_behind, printed_behind}
 use Rattle.dover_model.proofs.Turns.{before_end_behind}
 use Rattle.admission.specs.Kept.{Kept, StandsFor}
-use Rattle.dover_server.specs.declared.horizon.Horizon.{Horizon}
-use Rattle.dover_server.specs.declared.horizon.Horizon.TheVariants.{Mark, End}
-use Rattle.dover_server.specs.Service.{MayFollow}
-use Rattle.dover_server.specs.Leading.{is_ready_after, is_end_given}
-use Rattle.queued_jobs.specs.Spending.{waits_among}
-use Rattle.scanned_step.specs.Moves.{state_at}
+use Rattle.dover_model.specs.declared.horizon.Horizon.{Horizon}
+use Rattle.dover_model.specs.declared.horizon.Horizon.TheVariants.{Mark, End}
+use Rattle.dover_model.specs.Horizons.{MayFollow, is_ready_after, is_end_given, no_jobs, due_by}
+use Rattle.dover_model.specs.Spending.{waits_among}
+use Rattle.dover_model.specs.State.{state_at}
 use Rattle.ready_jobs.proofs.Courses.{follows_count}
-use Rattle.dispatcher.specs.Dispatch.{no_jobs, due_by}
 use Rattle.ready_server.specs.Serving.{Serves, Rests}
 use Rattle.ready_server.specs.declared.server.ReadyServer.{ReadyServer}
 use Rattle.dover_engine.specs.declared.decision.Decision.{Decision}

@@ -1,13 +1,13 @@
 -- What was given since the last moment of rest, and rest.
-use Rattle.std.proofs.Common.{◌≡◌, ℕ, List, [], ◌++◌, refl, sym, ap, ◌∙◌, subst}
-use Rattle.std.proofs.Common.{Bool, true, false, append-nil, append_assoc}
+use Rattle.std.proofs.Common.{◌≡◌, ℕ, List, [], ◌++◌, refl, sym, ap, ◌∙◌, subst, Bool, true, false, append-nil}
+use Rattle.std.proofs.Common.{append_assoc}
 use Rattle.std.specs.Prelude.{None, Option, Some, IfSome, option_to_list, not}
 use Rattle.std.specs.Bool.{MatchBool}
 use Rattle.std.specs.List.{filter}
 use Rattle.dover_model.specs.declared.events.Event.{Event}
 use Rattle.dover_model.specs.declared.events.Task.{Task}
 use Rattle.dover_model.specs.Instance.{Instance}
-use Rattle.dover_model.specs.State.{State, opening, is_over, is_done, value_sum}
+use Rattle.dover_model.specs.State.{State, opening, is_over, is_done, value_sum, state_at}
 use Rattle.dover_model.specs.Step.{Prints}
 use Rattle.dover_model.specs.Run.{is_end, printed, completed_value}
 use Rattle.dover_model.specs.Settled.{settled_steps, settled_state}
@@ -22,16 +22,14 @@ use Rattle.dover_model.proofs.Paths.{path_settles, one_settled_run}
 use Rattle.dover_model.proofs.Resting.{path_state, value_there}
 use Rattle.dover_model.proofs.Settling.{settled_is_run}
 use Rattle.dover_model.proofs.Tests.{never}
-use Rattle.scanned_step.specs.Moves.{state_at}
-use Rattle.trace_reading.specs.Ready.{is_ready}
-use Rattle.dover_server.specs.declared.horizon.Horizon.{Horizon}
-use Rattle.dover_server.specs.declared.horizon.Horizon.TheVariants.{Mark, End}
-use Rattle.dispatcher.specs.Dispatch.{due_by}
+use Rattle.dover_model.specs.Ready.{is_ready}
+use Rattle.dover_model.specs.declared.horizon.Horizon.{Horizon}
+use Rattle.dover_model.specs.declared.horizon.Horizon.TheVariants.{Mark, End}
+use Rattle.dover_model.specs.Horizons.{due_by, MayFollow}
 use Rattle.ready_server.specs.Serving.{Serves, Rests, HasGiven, LeavesRest}
 use Rattle.ready_server.proofs.Stepping.{serves_begins, rests_serves}
 use Rattle.ready_server.proofs.Renewing.{none_settled}
 use Rattle.admission.specs.Kept.{StandsFor}
-use Rattle.dover_server.specs.Service.{MayFollow}
 use Rattle.dover_engine.specs.Life.{Life, has_ended, IsAtRest}
 use Rattle.dover_engine.specs.Given.{GaveSince, IsSettled}
 

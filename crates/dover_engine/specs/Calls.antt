@@ -1,6 +1,6 @@
 -- What the calls of an engine say.
-use Rattle.std.specs.Prelude.{◌≡◌, ℕ, ◌+◌, ◌≤◌, ◌||◌, List, [], ◌∷◌, ◌++◌, map, Option, Some, None}
-use Rattle.std.specs.Prelude.{true, nat_lt, if◌then◌else◌}
+use Rattle.std.specs.Prelude.{◌≡◌, ℕ, ◌+◌, ◌≤◌, ◌||◌, List, [], ◌∷◌, ◌++◌, map, Option, Some, None, true, nat_lt}
+use Rattle.std.specs.Prelude.{if◌then◌else◌}
 use Rattle.dover_model.specs.declared.events.Version.{Version}
 use Rattle.dover_model.specs.declared.events.Event.{Event}
 use Rattle.dover_model.specs.declared.events.Refusal.{Refusal}
@@ -12,11 +12,9 @@ use Rattle.dover_model.specs.Admission.{refusal_of}
 use Rattle.dover_model.specs.Run.{printed}
 use Rattle.admission.specs.Kept.{Kept, StandsFor}
 use Rattle.admission.specs.Answers.{refusal_of_refused}
-use Rattle.dover_server.specs.declared.horizon.Horizon.{Horizon}
-use Rattle.dover_server.specs.declared.horizon.Horizon.TheVariants.{Mark, End}
-use Rattle.dover_server.specs.Service.{MayFollow}
-use Rattle.dover_server.specs.Leading.{is_ready_after, is_end_given}
-use Rattle.dispatcher.specs.Dispatch.{no_jobs}
+use Rattle.dover_model.specs.declared.horizon.Horizon.{Horizon}
+use Rattle.dover_model.specs.declared.horizon.Horizon.TheVariants.{Mark, End}
+use Rattle.dover_model.specs.Horizons.{MayFollow, is_ready_after, is_end_given, no_jobs}
 use Rattle.dover_engine.specs.declared.causes.NotMade.{NotMade}
 use Rattle.dover_engine.specs.declared.causes.NotMade.TheVariants.{Capacity, Memory}
 use Rattle.dover_engine.specs.declared.causes.NotAdmitted.{NotAdmitted}

@@ -1,5 +1,6 @@
 -- What an engine has given of the run of all jobs that were ever admitted.
-use Rattle.std.specs.Prelude.{◌≡◌, ◌≤◌, ℕ, List, ◌++◌, length, map, true, false, Option, Some, None, IfSome, option_to_list}
+use Rattle.std.specs.Prelude.{◌≡◌, ◌≤◌, ℕ, List, ◌++◌, length, map, true, false, Option, Some, None, IfSome}
+use Rattle.std.specs.Prelude.{option_to_list}
 use Rattle.dover_model.specs.declared.events.Event.{Event}
 use Rattle.dover_model.specs.Instance.{Instance}
 use Rattle.dover_model.specs.Step.{Prints}
@@ -7,10 +8,9 @@ use Rattle.dover_model.specs.JobFacts.{JobFacts}
 use Rattle.dover_model.specs.Run.{is_end, printed}
 use Rattle.dover_model.specs.Rest.{NoneBefore, AreOverAt, behind, before_end, instead, in_turn, completed_in_turn}
 use Rattle.admission.specs.Kept.{StandsFor}
-use Rattle.dover_server.specs.declared.horizon.Horizon.{Horizon}
-use Rattle.dover_server.specs.declared.horizon.Horizon.TheVariants.{Mark, End}
-use Rattle.dover_server.specs.Service.{MayFollow}
-use Rattle.dispatcher.specs.Dispatch.{due_by}
+use Rattle.dover_model.specs.declared.horizon.Horizon.{Horizon}
+use Rattle.dover_model.specs.declared.horizon.Horizon.TheVariants.{Mark, End}
+use Rattle.dover_model.specs.Horizons.{MayFollow, due_by}
 use Rattle.ready_server.specs.Serving.{Serves, Rests}
 use Rattle.dover_engine.specs.declared.decision.Decision.{Decision}
 use Rattle.dover_engine.specs.Life.{Life, has_ended}

@@ -15,7 +15,7 @@ ghost use Rattle.dover_model.specs.Settled.{settled};
 ghost use Rattle.dover_model.specs.Schedules.{Meets, worth};
 ghost use Rattle.dover_model.specs.Bound.{IsWithin};
 ghost use Rattle.dover_model.specs.WholeRun.{Begins};
-ghost use Rattle.dover_server.specs.declared.horizon.Horizon.TheVariants.{Mark};
+ghost use Rattle.dover_model.specs.declared.horizon.Horizon.TheVariants.{Mark};
 ghost use Rattle.dover_engine.specs.Life.{Life, done_value, has_ended, IsAtRest};
 ghost use Rattle.dover_engine.specs.Calls.{Call, Stepped, Lives, admitted, jobs_in, all_jobs, decided};
 

@@ -51,6 +51,10 @@ pub mod Orderly
 pub mod Underload
 pub mod Runs
 pub mod Paths
+pub mod Leading
+pub mod ReadyParts
+pub mod Waiting
+pub mod Released
 pub mod Shifting
 pub mod Moving
 pub mod Resting
@@ -61,6 +65,7 @@ pub mod Parting
 pub mod TurnSchedules
 pub mod Anew
 pub mod WaitingMoves
+pub mod Spending
 pub mod Once
 pub mod Honest
 pub mod Numerals
@@ -77,6 +82,7 @@ pub mod GreatestLaws
 pub mod TraceLines
 pub mod PutIn
 pub mod Growing
+pub mod Horizons
 pub mod Admitting
 pub mod ReadShort
 pub mod Accounts

@@ -1,8 +1,7 @@
 -- Over a run each job takes once at most and preempts once at most, and as often as a job completes, one gets the free
 -- processor.
 use Rattle.std.proofs.Common.{◌≡◌, ℕ, ◌+◌, ◌≤◌, ◌<◌, ◌⊎◌, inl, inr, List, [], ◌∷◌, map, refl, sym, ap, ◌∙◌, subst, Bool}
-use Rattle.std.proofs.Common.{true, false, cond}
-use Rattle.std.proofs.Common.{arith, eqb}
+use Rattle.std.proofs.Common.{true, false, cond, arith, eqb}
 use Rattle.std.specs.Bool.{MatchBool, then_some}
 use Rattle.std.specs.List.{count_by, list_all, filter}
 use Rattle.std.proofs.lemmas.Bool.{eqb-true, eqb-false, eq-eqb, false_from_ne_true}
@@ -32,9 +31,9 @@ use Rattle.dover_model.proofs.Deeds.{Deed, Completed, Resumed, Started, Began, P
 use Rattle.dover_model.proofs.Deeds.{Abandoned, Rested}
 use Rattle.dover_model.proofs.Kept.{step_deed, step_kept, opening_keeps, come_coming, end_same}
 use Rattle.dover_model.proofs.Preempting.{waits_sound, r_there, held_sound, f_there, same_tasks, one_waits, one_held}
-use Rattle.dover_model.proofs.Potential.{standing, stands, one_if, standing_more, stands_of, stands_running}
-use Rattle.dover_model.proofs.Potential.{stands_done, stood_not}
-use Rattle.dover_model.proofs.Potential.{steps_scale, stood_less, stands_then, stood}
+use Rattle.dover_model.specs.Weights.{standing, stands, one_if}
+use Rattle.dover_model.proofs.Potential.{standing_more, stands_of, stands_running, stands_done, stood_not, steps_scale}
+use Rattle.dover_model.proofs.Potential.{stood_less, stands_then, stood}
 use Rattle.dover_model.proofs.Ending.{end_over, run_is_whole}
 use Rattle.dover_model.proofs.Tests.{never}
 

@@ -1,7 +1,6 @@
 -- A run falls apart at a moment of rest.
 use Rattle.std.proofs.Common.{◌≡◌, ℕ, zero, suc, length-append, ◌+◌, ◌-◌, ◌*◌, ◌≤◌, ◌<◌, inl, inr, List, [], ◌∷◌, ◌++◌}
-use Rattle.std.proofs.Common.{length, map, refl, sym, ap, ◌∙◌, subst, append-nil}
-use Rattle.std.proofs.Common.{Bool, true, false, cond, arith}
+use Rattle.std.proofs.Common.{length, map, refl, sym, ap, ◌∙◌, subst, append-nil, Bool, true, false, cond, arith}
 use Rattle.std.specs.Prelude.{◌&&◌, nat_le}
 use Rattle.std.specs.Bool.{MatchBool, then_some}
 use Rattle.std.specs.List.{list_all, filter, fold, cons_option}
@@ -28,7 +27,8 @@ use Rattle.dover_model.proofs.Roles.{passes}
 use Rattle.dover_model.proofs.Deeds.{over_rests}
 use Rattle.dover_model.proofs.Kept.{open_deed, open_kept, step_deed, opening_keeps, come_coming}
 use Rattle.dover_model.proofs.Jumping.{later_keeps, later_ticks}
-use Rattle.dover_model.proofs.Potential.{steps_scale, weights, weight, weight_in, standing}
+use Rattle.dover_model.proofs.Potential.{steps_scale, weights}
+use Rattle.dover_model.specs.Weights.{weight, weight_in, standing}
 use Rattle.dover_model.proofs.Ending.{potential, ends, sum_each}
 use Rattle.dover_model.proofs.RunLaws.{enough_fuel}
 use Rattle.dover_model.proofs.Settling.{late_early, settles, settled_is_run}

@@ -4,6 +4,7 @@ pub mod Fraction
 pub mod Instance
 pub mod Schedules
 pub mod State
+pub mod Ready
 pub mod Entries
 pub mod Orders
 pub mod Step
@@ -11,12 +12,16 @@ pub mod Run
 pub mod Sound
 pub mod Jumps
 pub mod Settled
+pub mod Horizons
 pub mod Rest
 pub mod WholeRun
 pub mod Paths
+pub mod Leading
 pub mod Online
 pub mod Underload
 pub mod WaitingMoves
+pub mod Weights
+pub mod Spending
 pub mod Processor
 pub mod Greatest
 pub mod Bound

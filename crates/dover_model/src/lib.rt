@@ -3,6 +3,7 @@
 
 pub mod bound_laws;
 pub mod events;
+pub mod horizon;
 pub mod jobs;
 pub mod pieces;
 pub mod ratios;
@@ -11,6 +12,7 @@ pub mod run_laws;
 pub mod trace_laws;
 
 pub use events::{Entry, Event, Refusal, Role, Task, Version};
+pub use horizon::Horizon;
 pub use jobs::Job;
 pub use pieces::Piece;
 pub use ratios::Ratio;

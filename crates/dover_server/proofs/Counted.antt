@@ -10,9 +10,9 @@ use Rattle.dover_model.specs.Sound.{jobs_of}
 use Rattle.dover_model.specs.Step.{Move, after}
 use Rattle.dover_model.specs.Run.{Step}
 use Rattle.dover_model.specs.WaitingMoves.{enters, leaves}
-use Rattle.queued_jobs.specs.Costs.{cost_of}
-use Rattle.queued_jobs.proofs.Spending.{twenty}
-use Rattle.dover_server.specs.declared.horizon.Horizon.{Horizon}
+use Rattle.dover_model.specs.Spending.{cost_of}
+use Rattle.dover_model.proofs.Spending.{twenty}
+use Rattle.dover_model.specs.declared.horizon.Horizon.{Horizon}
 use Rattle.dover_server.specs.Leading.{step_to, MayGo, taken_to, LeadsSilently}
 use Rattle.dover_server.specs.Counting.{waits_in, IsCounted}
 use Rattle.dover_server.proofs.Leads.{leads_append}

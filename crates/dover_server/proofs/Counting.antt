@@ -1,6 +1,5 @@
 -- Steps to a horizon make few comparisons: the weights pay for each time that a job begins or ceases to wait.
-use Rattle.std.proofs.Common.{◌≡◌, ℕ, ◌+◌, ◌*◌, ◌≤◌, List, [], ◌∷◌, ◌++◌, refl, sym, ap, ◌∙◌, subst}
-use Rattle.std.proofs.Common.{arith}
+use Rattle.std.proofs.Common.{◌≡◌, ℕ, ◌+◌, ◌*◌, ◌≤◌, List, [], ◌∷◌, ◌++◌, refl, sym, ap, ◌∙◌, subst, arith}
 use Rattle.std.specs.Prelude.{Option, Some, None, IfSome, IsNone}
 use Rattle.std.proofs.lemmas.List.Sums.{sum_by-cons}
 use Rattle.dover_model.specs.declared.events.Event.{Event}
@@ -10,11 +9,11 @@ use Rattle.dover_model.specs.Step.{after}
 use Rattle.dover_model.specs.Run.{Step}
 use Rattle.dover_model.specs.WaitingMoves.{leaves, enters}
 use Rattle.dover_model.specs.Sound.{Keeps}
-use Rattle.dover_model.proofs.WaitingMoves.{waiting_count, counts_balance, step_leaves, open_leaves}
-use Rattle.queued_jobs.specs.Spending.{exits}
-use Rattle.queued_jobs.proofs.Spending.{cost_paid}
-use Rattle.dover_server.specs.declared.horizon.Horizon.{Horizon}
-use Rattle.dover_server.specs.declared.horizon.Horizon.TheVariants.{Mark, End}
+use Rattle.dover_model.specs.Spending.{waiting_count, exits}
+use Rattle.dover_model.proofs.WaitingMoves.{counts_balance, step_leaves, open_leaves}
+use Rattle.dover_model.proofs.Spending.{cost_paid}
+use Rattle.dover_model.specs.declared.horizon.Horizon.{Horizon}
+use Rattle.dover_model.specs.declared.horizon.Horizon.TheVariants.{Mark, End}
 use Rattle.dover_server.specs.Leading.{step_to, taken_to, LeadsTo, GivesNext}
 use Rattle.dover_server.specs.Ways.{StopsAt}
 use Rattle.dover_server.specs.Counting.{waits_in, IsCounted}

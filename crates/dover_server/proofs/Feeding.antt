@@ -6,17 +6,11 @@ use Rattle.dover_model.specs.Limits.{last_tick}
 use Rattle.dover_model.specs.Instance.{IsValid, with_jobs}
 use Rattle.dover_model.specs.Sound.{jobs_of}
 use Rattle.dover_model.proofs.Valid.{valid_front, all_back, order_back}
-use Rattle.dover_server.specs.declared.horizon.Horizon.TheVariants.{Mark}
-use Rattle.dover_server.specs.Service.{Service, list_of, admitted_task, with_job, MayFollow}
+use Rattle.dover_model.specs.declared.horizon.Horizon.TheVariants.{Mark}
+use Rattle.dover_server.specs.Service.{Service, list_of, admitted_task, with_job}
+use Rattle.dover_model.specs.Horizons.{MayFollow}
 use Rattle.dover_server.proofs.Admission.{jobs_more}
-
--- jobs released at this tick or later may follow it
-may_follow : (t : ℕ) (jobs : List JobFacts) → AllByRecursion (λ j. t ≤ j.release) jobs → AllByRecursion IsJob jobs
-    → AllByRecursion (λ j. MayFollow (Mark t) (Mark j.release)) jobs
-may_follow t [] later each = tt
-may_follow t (j ∷ jobs) later each =
-    let window : j.release + j.work ≤ j.deadline = each.0.window in let due : j.deadline ≤ last_tick = each.0.due in
-    ((later.0, omega arith), may_follow t jobs later.1 each.1)
+use Rattle.dover_model.proofs.Horizons.{may_follow}
 
 module _ (v : Service) (j : JobFacts) (rest : List JobFacts) (valid : IsValid (with_jobs (list_of v) (j ∷ rest))) where
   -- all jobs, in two parts
@@ -34,12 +28,7 @@ module _ (v : Service) (j : JobFacts) (rest : List JobFacts) (valid : IsValid (w
       (sym (jobs_more v.state.tasks (admitted_task _ j)))
       (subst (λ jobs. IsValid (record { rules = v.rules; jobs = jobs })) parts valid)
 
-  -- their releases may follow its release
-  pub rest_follow : AllByRecursion (λ i. MayFollow (Mark j.release) (Mark i.release)) rest
-  rest_follow = may_follow j.release rest (order_back (jobs_of v.state.tasks) (j ∷ rest) valid.in_order).0
-      (all_back IsJob (jobs_of v.state.tasks) (j ∷ rest) valid.each).1
-
-  -- so may its own
+  -- its release may follow itself
   pub same_follows : MayFollow (Mark j.release) (Mark j.release)
   same_follows = (may_follow j.release (j ∷ []) (omega arith, tt)
       ((all_back IsJob (jobs_of v.state.tasks) (j ∷ rest) valid.each).0, tt)).0

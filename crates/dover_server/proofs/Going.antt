@@ -1,7 +1,6 @@
 -- What steps on the way to a horizon keep, and how they fall.
 use Rattle.std.proofs.Common.{map, ◌≡◌, ℕ, zero, suc, ◌+◌, ◌-◌, ◌≤◌, ◌<◌, ◌⊎◌, inl, inr, List, [], ◌∷◌, refl, sym, ap}
-use Rattle.std.proofs.Common.{◌∙◌}
-use Rattle.std.proofs.Common.{subst, Bool, true, false, cond, arith}
+use Rattle.std.proofs.Common.{◌∙◌, subst, Bool, true, false, cond, arith}
 use Rattle.std.specs.Prelude.{None, nat_le, ◌&&◌}
 use Rattle.std.specs.Bool.{then_some}
 use Rattle.std.specs.List.{AllByRecursion, list_all, fold, filter}
@@ -33,8 +32,8 @@ use Rattle.queued_jobs.specs.Moves.{step_of}
 use Rattle.queued_jobs.specs.Queued.{Queued, IsNext, in_state, stepped}
 use Rattle.dover_model.specs.Jumps.{later_by, NothingDue}
 use Rattle.dover_model.proofs.Jumping.{later_by-zero, after-later_by, later_ticks}
-use Rattle.dover_server.specs.declared.horizon.Horizon.{Horizon}
-use Rattle.dover_server.specs.declared.horizon.Horizon.TheVariants.{Mark, End}
+use Rattle.dover_model.specs.declared.horizon.Horizon.{Horizon}
+use Rattle.dover_model.specs.declared.horizon.Horizon.TheVariants.{Mark, End}
 use Rattle.dover_server.specs.Service.{IsUpTo}
 use Rattle.dover_server.specs.Leading.{step_to, MayGo, LeadsSilently, GivesNext}
 use Rattle.dover_server.specs.Ways.{step_or_end, is_barrier_to, last_clock, CanGo, GoesOn}

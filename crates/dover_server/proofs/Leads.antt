@@ -7,7 +7,7 @@ use Rattle.dover_model.specs.State.{State}
 use Rattle.dover_model.specs.Step.{after}
 use Rattle.dover_model.specs.Run.{Step, event_of, printed_of}
 use Rattle.dover_model.proofs.Runs.{printed_append}
-use Rattle.dover_server.specs.declared.horizon.Horizon.{Horizon}
+use Rattle.dover_model.specs.declared.horizon.Horizon.{Horizon}
 use Rattle.dover_server.specs.Leading.{step_to, MayGo, taken_to, LeadsTo, LeadsSilently}
 
 module _ (to : Horizon) (rules : Rules) where

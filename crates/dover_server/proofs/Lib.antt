@@ -7,3 +7,5 @@ pub mod Feeding
 pub mod Counting
 pub mod Spending
 pub mod Passing
+pub mod Closing
+pub mod Stepping

@@ -8,9 +8,9 @@ use Rattle.dover_model.specs.Step.{Move, Prints, Waits, Ticks, step, after}
 use Rattle.dover_model.specs.Run.{Step, is_end, event_of, printed_of}
 use Rattle.dover_model.specs.Paths.{IsPath, IsOpenPath}
 use Rattle.dover_model.proofs.Runs.{printed_append}
-use Rattle.dover_server.specs.declared.horizon.Horizon.{Horizon}
-use Rattle.dover_server.specs.declared.horizon.Horizon.TheVariants.{Mark, End}
-use Rattle.dover_server.specs.Service.{MayFollow}
+use Rattle.dover_model.specs.declared.horizon.Horizon.{Horizon}
+use Rattle.dover_model.specs.declared.horizon.Horizon.TheVariants.{Mark, End}
+use Rattle.dover_model.specs.Horizons.{MayFollow}
 use Rattle.dover_server.specs.Leading.{LeadsTo}
 
 -- ---- paths

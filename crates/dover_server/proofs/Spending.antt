@@ -8,10 +8,10 @@ use Rattle.dover_model.specs.JobFacts.{JobFacts}
 use Rattle.dover_model.specs.Instance.{Instance, IsValid}
 use Rattle.dover_model.specs.Sound.{IsSound}
 use Rattle.dover_model.proofs.Honest.{count_jobs}
-use Rattle.dover_model.proofs.WaitingMoves.{waiting_count}
-use Rattle.queued_jobs.specs.Spending.{exits, waits_among, waits_so_far, HasSpentFor, HasSpent, CostsAtMost}
-use Rattle.queued_jobs.proofs.Spending.{so_far, so_far_for, paid_so_far, spent_on, spent_more, spent_few}
-use Rattle.dover_server.specs.declared.horizon.Horizon.{Horizon}
+use Rattle.dover_model.specs.Spending.{waiting_count, exits, waits_among, waits_so_far, HasSpentFor, HasSpent}
+use Rattle.dover_model.specs.Spending.{CostsAtMost}
+use Rattle.dover_model.proofs.Spending.{so_far, so_far_for, paid_so_far, spent_on, spent_more, spent_few}
+use Rattle.dover_model.specs.declared.horizon.Horizon.{Horizon}
 use Rattle.dover_server.specs.Service.{Service, list_of, with_job, admitted_task}
 use Rattle.dover_server.specs.Counting.{IsCounted}
 use Rattle.dover_server.proofs.Counting.{counted_pays}

@@ -17,10 +17,11 @@ use Rattle.dover_model.proofs.Ticking.{Quiet}
 use Rattle.dover_model.proofs.Kept.{open_deed, step_deed, end_same}
 use Rattle.dover_model.proofs.Potential.{weights, steps_scale, tick_weighs}
 use Rattle.dover_model.proofs.Tests.{never}
-use Rattle.dover_server.specs.declared.horizon.Horizon.{Horizon}
-use Rattle.dover_server.specs.declared.horizon.Horizon.TheVariants.{Mark, End}
-use Rattle.dover_server.specs.Service.{Service, Stands, MayFollow, IsUpTo}
-use Rattle.dover_server.specs.Leading.{step_to, LeadsTo, GivesNext, is_ready_after, is_end_given}
+use Rattle.dover_model.specs.declared.horizon.Horizon.{Horizon}
+use Rattle.dover_model.specs.declared.horizon.Horizon.TheVariants.{Mark, End}
+use Rattle.dover_server.specs.Service.{Service, Stands, IsUpTo}
+use Rattle.dover_model.specs.Horizons.{MayFollow, is_ready_after, is_end_given}
+use Rattle.dover_server.specs.Leading.{step_to, LeadsTo, GivesNext}
 use Rattle.dover_server.specs.Ways.{CanGo, StopsAt}
 use Rattle.dover_server.proofs.Going.{to_kept, to_brings, jobs_in, own_keeps}
 

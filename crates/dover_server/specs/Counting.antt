@@ -5,7 +5,7 @@ use Rattle.dover_model.specs.Instance.{Rules}
 use Rattle.dover_model.specs.State.{State}
 use Rattle.dover_model.specs.Run.{Step}
 use Rattle.dover_model.specs.WaitingMoves.{enters, leaves}
-use Rattle.dover_server.specs.declared.horizon.Horizon.{Horizon}
+use Rattle.dover_model.specs.declared.horizon.Horizon.{Horizon}
 use Rattle.dover_server.specs.Leading.{LeadsTo}
 
 -- how often jobs begin and cease to wait in these steps

@@ -6,8 +6,8 @@ use Rattle.dover_model.specs.State.{State}
 use Rattle.dover_model.specs.Step.{Move, Prints, step, open_step, after}
 use Rattle.dover_model.specs.Run.{Step, printed_of, is_end}
 use Rattle.dover_model.specs.WholeRun.{IsBarrier, IsBefore}
-use Rattle.dover_server.specs.declared.horizon.Horizon.{Horizon}
-use Rattle.dover_server.specs.declared.horizon.Horizon.TheVariants.{Mark, End}
+use Rattle.dover_model.specs.declared.horizon.Horizon.{Horizon}
+use Rattle.dover_model.specs.declared.horizon.Horizon.TheVariants.{Mark, End}
 use Rattle.dover_server.specs.Service.{Service}
 
 -- the step of a state: an open one before a mark, where further jobs may come
@@ -54,14 +54,3 @@ pub record ReachesBarrier (t : ℕ) (rules : Rules) (s u : State) : Type 0 where
 abbrev pub GivesNone : Horizon → Service → State → Type 0
 GivesNone (Mark t) v u = ReachesBarrier t v.rules v.state u
 GivesNone End v u = (v.ended ≡ true) × (u ≡ v.state)
-
--- a mark is reached where a step to it answers None
-abbrev pub is_ready_after : Horizon → Option Event → Bool
-is_ready_after (Mark t) None = true
-is_ready_after (Mark t) (Some e) = false
-is_ready_after End answer = false
-
--- End is given
-abbrev pub is_end_given : Option Event → Bool
-is_end_given None = false
-is_end_given (Some e) = is_end (Prints e)

@@ -3,3 +3,4 @@ pub mod Leading
 pub mod Ways
 pub mod Kept
 pub mod Counting
+pub mod Serving

@@ -10,8 +10,8 @@ use Rattle.dover_model.specs.Instance.{Rules, Instance, IsValid}
 use Rattle.dover_model.specs.State.{State, opening, with_later}
 use Rattle.dover_model.specs.Sound.{IsSound, jobs_of}
 use Rattle.dover_model.proofs.Potential.{weights}
-use Rattle.dover_server.specs.declared.horizon.Horizon.{Horizon}
-use Rattle.dover_server.specs.declared.horizon.Horizon.TheVariants.{Mark, End}
+use Rattle.dover_model.specs.declared.horizon.Horizon.{Horizon}
+use Rattle.dover_model.specs.declared.horizon.Horizon.TheVariants.{Mark, End}
 
 -- the admitted jobs in their state, and how far the steps were taken
 pub record Service : Type 0 where
@@ -55,13 +55,6 @@ with_job v job spare = record {
 -- the last step was to this mark and answered None, and no job was admitted since
 abbrev pub IsReadyFor : Service → ℕ → Type 0
 IsReadyFor v t = (v.ready ≡ true) × (v.last ≡ Mark t)
-
--- marks never fall and are at most the last tick, and the end is for good
-abbrev pub MayFollow : Horizon → Horizon → Type 0
-MayFollow (Mark m) (Mark t) = (m ≤ t) × (t ≤ last_tick)
-MayFollow (Mark m) End = Unit {0}
-MayFollow End (Mark t) = ⊥
-MayFollow End End = Unit {0}
 
 -- the clock isn't past the mark
 abbrev pub IsUpTo : Horizon → ℕ → Type 0

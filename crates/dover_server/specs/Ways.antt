@@ -8,8 +8,8 @@ use Rattle.dover_model.specs.declared.events.Task.{Task}
 use Rattle.dover_model.specs.Sound.{IsSound, jobs_of}
 use Rattle.dover_model.proofs.Ending.{potential}
 use Rattle.dover_model.specs.Settled.{waits_for_mark}
-use Rattle.dover_server.specs.declared.horizon.Horizon.{Horizon}
-use Rattle.dover_server.specs.declared.horizon.Horizon.TheVariants.{Mark, End}
+use Rattle.dover_model.specs.declared.horizon.Horizon.{Horizon}
+use Rattle.dover_model.specs.declared.horizon.Horizon.TheVariants.{Mark, End}
 use Rattle.dover_server.specs.Service.{IsUpTo}
 use Rattle.dover_server.specs.Leading.{LeadsSilently, ReachesBarrier}
 

@@ -6,13 +6,13 @@ ghost use Rattle.dover_model.specs.Step.{Prints, Ticks, open_step};
 ghost use Rattle.dover_model.specs.Jumps.{NothingDue};
 ghost use Rattle.dover_model.specs.Run.{event_of};
 ghost use Rattle.queued_jobs.specs.Moves.{step_of};
-ghost use Rattle.queued_jobs.specs.Costs.{cost_of};
+ghost use Rattle.dover_model.specs.Spending.{cost_of};
 ghost use Rattle.queued_jobs.specs.Queued.{instance_of, in_state, stepped};
 ghost use Rattle.dover_server.specs.Leading.{step_to, MayGo, GivesNext};
 ghost use Rattle.dover_server.specs.Counting.{IsCounted};
 ghost use Rattle.dover_server.specs.Ways.{step_or_end, is_barrier_to, last_clock, CanGo, GoesOn, StopsAt};
 
-use crate::horizon::Horizon;
+use dover_model::Horizon;
 use dover_model::Event;
 use dover_model::jobs::LAST_TICK;
 use queued_jobs::{Move, Queues};

@@ -1,18 +1,17 @@
 //! The server.
 ghost use Rattle.std.specs.Prelude.{◌≡◌, ◌≤◌, ◌<◌, ◌+◌, ◌↔◌, IsTrue, IfOk, IsOk, OnOk, OnErr, IfSome, OnSome, IsNone};
-ghost use Rattle.std.specs.Prelude.{true, false, length, ◌∷◌, []};
-ghost use Rattle.std.specs.Prelude.{◌||◌, ◌^◌, ℕ};
+ghost use Rattle.std.specs.Prelude.{true, false, length, ◌∷◌, [], ◌||◌, ◌^◌, ℕ};
 ghost use Rattle.std.specs.List.{slice_get, filter};
 ghost use Rattle.std.specs.Option.{option_map};
 ghost use Rattle.dover_model.specs.Limits.{most_jobs};
 ghost use Rattle.dover_model.specs.Instance.{IsValid, with_jobs};
 ghost use Rattle.dover_model.specs.State.{is_done, value_sum};
-ghost use Rattle.dover_server.specs.Service.{list_of, fresh_service, with_job, IsReadyFor, MayFollow, Stands};
-ghost use Rattle.dover_server.specs.Service.{steps_left};
+ghost use Rattle.dover_server.specs.Service.{list_of, fresh_service, with_job, IsReadyFor, Stands, steps_left};
+ghost use Rattle.dover_model.specs.Horizons.{MayFollow, is_ready_after, is_end_given};
 ghost use Rattle.dover_server.specs.Counting.{IsCounted};
-ghost use Rattle.dover_server.specs.Leading.{GivesNext, GivesNone, is_ready_after, is_end_given};
+ghost use Rattle.dover_server.specs.Leading.{GivesNext, GivesNone};
 
-use crate::horizon::Horizon;
+use dover_model::Horizon;
 use crate::machine::next_printed;
 use dover_model::{Event, Job, Memory, Ratio, Role, Version};
 use queued_jobs::Queues;

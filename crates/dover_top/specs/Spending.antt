@@ -1,6 +1,6 @@
 -- How many comparisons a call makes, for each row of words.
 use Rattle.std.specs.Prelude.{◌≡◌, ℕ, List}
-use Rattle.queued_jobs.specs.Spending.{CostsAtMost}
+use Rattle.dover_model.specs.Spending.{CostsAtMost}
 use Rattle.dover_port.specs.Moves.{Move}
 use Rattle.dover_port.specs.declared.status.Status.{Status}
 use Rattle.dover_port.specs.declared.status.Status.TheVariants.{Done}
@@ -9,8 +9,7 @@ use Rattle.resume_word.specs.Record as resumed
 use Rattle.judge_word.specs.Spending as judged
 use Rattle.question_words.specs.Compare as compared
 use Rattle.dover_top.specs.declared.request.Request.{Request}
-use Rattle.dover_top.specs.declared.request.Request.TheVariants.{Serve, Judge, Report, Trial, Bait, Ask, Pause}
-use Rattle.dover_top.specs.declared.request.Request.TheVariants.{Resume}
+use Rattle.dover_top.specs.declared.request.Request.TheVariants.{Serve, Judge, Report, Trial, Bait, Ask, Pause, Resume}
 
 -- how few comparisons it made, with so many before and now, for the jobs of what was read; for some words at Done alone
 abbrev pub IsFrugal : Request → Status → (before now : ℕ) → List Move → Type 0

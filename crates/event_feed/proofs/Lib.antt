@@ -5,3 +5,5 @@ pub mod Skipping
 pub mod GoingOn
 pub mod Admitting
 pub mod Spelling
+pub mod Ending
+pub mod Listing

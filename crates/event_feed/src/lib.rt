@@ -1,13 +1,19 @@
-//! What a feed says, line by line, and which line is at fault.
+//! What a feed says, line by line, and which line is at fault; and a feed in pieces, read to its end, with its jobs as a
+//! list.
 #![tactic(auto)]
 
 mod declaring;
 mod faults;
 mod fed;
+mod gathering;
 mod intake;
 mod kept_session;
+mod listed;
+mod reader;
 
 pub use declaring::declared;
 pub use faults::{Cause, FeedFault};
 pub use fed::Fed;
 pub use intake::Intake;
+pub use listed::Listed;
+pub use reader::FeedReader;

@@ -1,17 +1,17 @@
 -- What a word says that judges a text: its laws.
-use Rattle.std.proofs.Common.{◌≡◌, ◌<◌, ◌^◌, ◌-◌, ℕ, List, ◌++◌, [], length, refl, sym, ap, ◌∙◌, subst, arith}
-use Rattle.std.proofs.Common.{Bool, true, false, not, inl, inr, Option, Ok, Err}
+use Rattle.std.proofs.Common.{◌≡◌, ◌<◌, ◌^◌, ◌-◌, ℕ, List, ◌++◌, [], length, refl, sym, ap, ◌∙◌, subst, arith, Bool}
+use Rattle.std.proofs.Common.{true, false, not, inl, inr, Option, Ok, Err}
 use Rattle.dover_model.specs.Verdict as model
 use Rattle.dover_model.specs.Verdict.{verdict}
 use Rattle.dover_model.proofs.WrongStays.{wrong_verdict_stays}
 use Rattle.dover_port.specs.declared.status.Status.{Status}
 use Rattle.dover_port.specs.declared.status.Status.TheVariants.{Done, No, Refused, ReadFault, WriteFault, Memory, Usage}
-use Rattle.queued_jobs.proofs.Spending.{few_more}
+use Rattle.dover_model.proofs.Spending.{few_more}
 use Rattle.trace_judge.specs.Judging.{StandsFor, HasPaidFor, Fed, PaysFor, Tells, IsEarned, is_wrong, jobs_named, keeps}
+use Rattle.trace_judge.specs.Judging.{Judged}
 use Rattle.trace_judge.proofs.Judging.{named_more}
 use Rattle.trace_judge.proofs.Lengths.{few_bytes}
 use Rattle.trace_judge.proofs.Spending.{costs_few}
-use Rattle.trace_judge.specs.Judging.{Judged}
 use Rattle.trace_judge.specs.declared.verdict.Verdict.{Verdict}
 use Rattle.trace_judge.specs.declared.verdict.Verdict.TheVariants.{Accepted, Wrong, Short}
 use Rattle.dialogue.specs.Talk.{IsSteady, IsFinal}

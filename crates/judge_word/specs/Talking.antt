@@ -1,6 +1,6 @@
 -- What is kept of a text that is judged.
 use Rattle.std.specs.Prelude.{◌≡◌, ℕ, List, Bool}
-use Rattle.queued_jobs.specs.Spending.{CostsAtMost}
+use Rattle.dover_model.specs.Spending.{CostsAtMost}
 use Rattle.trace_judge.specs.Judging.{Judged, StandsFor, HasPaidFor, jobs_named, keeps}
 
 -- the comparisons from `start` on are few for the jobs that the lines of the bytes name

@@ -1,7 +1,6 @@
 -- What each line of a feed adds to what is due, and how the lane comes to owe it.
 use Rattle.std.proofs.Common.{◌≡◌, ℕ, suc, ◌+◌, ◌≤◌, ◌<◌, ◌^◌, List, [], ◌∷◌, ◌++◌, length, map, refl, sym, ap, ◌∙◌}
-use Rattle.std.proofs.Common.{subst, arith, inl, inr, ◌⊎◌, Bool, true, false}
-use Rattle.std.proofs.Common.{Some, None, Option, cond}
+use Rattle.std.proofs.Common.{subst, arith, inl, inr, ◌⊎◌, Bool, true, false, Some, None, Option, cond}
 use Rattle.std.proofs.lemmas.List.{append-nil}
 use Rattle.std.specs.Prelude.{drop}
 use Rattle.std.proofs.lemmas.List.Sums.{fold-append}
@@ -28,9 +27,9 @@ use Rattle.dover_model.proofs.Beginnings.{begins_onward}
 use Rattle.dover_model.proofs.Emitting.{texts_more, texts_job, texts_refused}
 use Rattle.dover_model.proofs.Growing.{Reads, reads_later, settled_later, settled_of_run, job_instance}
 use Rattle.dover_model.proofs.Growing.{refused_instance}
-use Rattle.dover_server.specs.declared.horizon.Horizon.{Horizon}
-use Rattle.dover_server.specs.declared.horizon.Horizon.TheVariants.{Mark, End}
-use Rattle.dispatcher.specs.Dispatch.{no_jobs, due_by}
+use Rattle.dover_model.specs.declared.horizon.Horizon.{Horizon}
+use Rattle.dover_model.specs.declared.horizon.Horizon.TheVariants.{Mark, End}
+use Rattle.dover_model.specs.Horizons.{no_jobs, due_by}
 use Rattle.event_feed.specs.Kept.{cause_of_fault}
 use Rattle.event_feed.specs.Answers.{DeclaresRatio, AddsJob, MovesMark, EndsFeed, AddsRefused, NewFault, OldFault}
 use Rattle.event_feed.specs.Answers.{counted}

@@ -1,7 +1,6 @@
 -- Few lines are left to give at any time.
-use Rattle.std.proofs.Common.{◌≡◌, ◌≤◌, ◌<◌, ◌+◌, ◌-◌, ℕ, zero, suc, List, [], ◌∷◌, ◌++◌, length, refl, ap}
-use Rattle.std.proofs.Common.{Bool, true, false, Option, Some, None, cond}
-use Rattle.std.proofs.Common.{arith, length-append}
+use Rattle.std.proofs.Common.{◌≡◌, ◌≤◌, ◌<◌, ◌+◌, ◌-◌, ℕ, zero, suc, List, [], ◌∷◌, ◌++◌, length, refl, ap, Bool, true}
+use Rattle.std.proofs.Common.{false, Option, Some, None, cond, arith, length-append}
 use Rattle.std.specs.List.{flat_map, range_with_len, slice_get}
 use Rattle.std.proofs.lemmas.List.{length-map}
 use Rattle.dover_model.specs.declared.events.Event.{Event}
@@ -10,10 +9,10 @@ use Rattle.dover_model.specs.Session.{instance_of}
 use Rattle.dover_model.specs.Text.{text_of}
 use Rattle.dover_model.specs.Feed.{Account, Short, account_of_lines, is_open}
 use Rattle.dover_model.specs.Due.{fault_text}
-use Rattle.dover_server.specs.declared.horizon.Horizon.{Horizon}
-use Rattle.dover_server.specs.declared.horizon.Horizon.TheVariants.{Mark}
-use Rattle.dispatcher.specs.Dispatch.{due_by}
-use Rattle.dispatcher.proofs.Dues.{due_few}
+use Rattle.dover_model.specs.declared.horizon.Horizon.{Horizon}
+use Rattle.dover_model.specs.declared.horizon.Horizon.TheVariants.{Mark}
+use Rattle.dover_model.specs.Horizons.{due_by}
+use Rattle.dover_model.proofs.Horizons.{due_few}
 use Rattle.lane_server.specs.Lanes.{lane_count, Handed, input_of_lines, lane_lines, in_lane, feed_short, lane_short}
 use Rattle.lane_server.specs.Lanes.{shorts_from}
 use Rattle.lane_server.specs.Lane.{Serving, Having, Owes}

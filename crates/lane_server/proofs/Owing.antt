@@ -11,11 +11,10 @@ use Rattle.dover_model.specs.Text.{text_of, step_numbers}
 use Rattle.dover_model.specs.Feed.{Account, account_of_lines}
 use Rattle.dover_model.proofs.Beginnings.{begins_onward}
 use Rattle.dover_model.proofs.Growing.{job_instance}
-use Rattle.dover_server.specs.declared.horizon.Horizon.{Horizon}
-use Rattle.dover_server.specs.declared.horizon.Horizon.TheVariants.{Mark}
-use Rattle.dover_server.specs.Service.{MayFollow}
-use Rattle.dispatcher.specs.Dispatch.{due_by}
-use Rattle.dispatcher.proofs.Dues.{follows_on}
+use Rattle.dover_model.specs.declared.horizon.Horizon.{Horizon}
+use Rattle.dover_model.specs.declared.horizon.Horizon.TheVariants.{Mark}
+use Rattle.dover_model.specs.Horizons.{MayFollow, due_by}
+use Rattle.dover_model.proofs.Horizons.{follows_on}
 use Rattle.lane_server.specs.Lane.{Serving, Having, Fits, Running, Admitting, Owes, GivesFault, Stands, IsQuiet, reach}
 use Rattle.lane_server.specs.declared.lane.Lane.{Lane}
 use Rattle.lane_server.specs.declared.lane.Work.{Work}

@@ -1,13 +1,12 @@
 -- What a lane's comparisons are paid with.
-use Rattle.std.proofs.Common.{◌≡◌, ℕ, ◌≤◌, List, length, sym, ap, ◌∙◌, subst, arith}
-use Rattle.std.proofs.Common.{Option, Some, None}
+use Rattle.std.proofs.Common.{◌≡◌, ℕ, ◌≤◌, List, length, sym, ap, ◌∙◌, subst, arith, Option, Some, None}
 use Rattle.dover_model.specs.declared.events.Event.{Event}
 use Rattle.dover_model.specs.Feed.{Account}
 use Rattle.dover_model.specs.Instance.{Instance}
 use Rattle.dover_model.specs.Session.{instance_of}
-use Rattle.dover_server.specs.declared.horizon.Horizon.{Horizon}
-use Rattle.queued_jobs.specs.Spending.{CostsAtMost}
-use Rattle.queued_jobs.proofs.Spending.{few_more}
+use Rattle.dover_model.specs.declared.horizon.Horizon.{Horizon}
+use Rattle.dover_model.specs.Spending.{CostsAtMost}
+use Rattle.dover_model.proofs.Spending.{few_more}
 use Rattle.event_feed.specs.Answers.{admitted_in}
 use Rattle.event_feed.proofs.Admitting.{job_more, admitted_by}
 use Rattle.lane_server.specs.Lane.{Serving, Having, Fits, Owes}

@@ -13,9 +13,9 @@ use Rattle.dover_model.specs.Due.{due_lines}
 use Rattle.dover_model.specs.Text.{header, refused_text}
 use Rattle.dover_model.specs.Instance.{Instance}
 use Rattle.dover_model.specs.declared.events.Event.{Event}
-use Rattle.dover_server.specs.declared.horizon.Horizon.{Horizon}
-use Rattle.dover_server.specs.declared.horizon.Horizon.TheVariants.{Mark, End}
-use Rattle.dispatcher.specs.Dispatch.{no_jobs}
+use Rattle.dover_model.specs.declared.horizon.Horizon.{Horizon}
+use Rattle.dover_model.specs.declared.horizon.Horizon.TheVariants.{Mark, End}
+use Rattle.dover_model.specs.Horizons.{no_jobs}
 use Rattle.event_feed.specs.Kept as feed
 use Rattle.event_feed.specs.Answers.{DeclaresRatio, AddsJob, MovesMark, EndsFeed, AddsRefused, NewFault, IsFed, counted}
 use Rattle.event_feed.specs.declared.faults.FeedFault.{FeedFault}
@@ -27,12 +27,10 @@ use Rattle.lane_server.specs.declared.lane.Lane.{Lane}
 use Rattle.lane_server.specs.declared.lane.Work.TheVariants.{Nothing, Give, Run, Admit}
 use Rattle.lane_server.specs.declared.out.LaneOut.TheVariants.{Header, Refuse, Refused}
 use Rattle.lane_server.proofs.Adding.{header_stands, header_mark, header_due, header_fits, job_stands, job_mark}
-use Rattle.lane_server.proofs.Adding.{job_rest, job_due, job_owes}
-use Rattle.lane_server.proofs.Adding.{tick_stands, tick_mark, tick_rest, tick_due, tick_owes, end_stands, end_mark}
-use Rattle.lane_server.proofs.Adding.{end_rest, end_due, end_owes}
-use Rattle.lane_server.proofs.Adding.{refused_stands, refused_mark, refused_due, refused_mark_short, refused_fits}
-use Rattle.lane_server.proofs.Adding.{new_fault_due, new_fault_fits, opens_by, open_stands, lines_kept}
-use Rattle.lane_server.proofs.Adding.{added_is, account_over}
+use Rattle.lane_server.proofs.Adding.{job_rest, job_due, job_owes, tick_stands, tick_mark, tick_rest, tick_due}
+use Rattle.lane_server.proofs.Adding.{tick_owes, end_stands, end_mark, end_rest, end_due, end_owes, refused_stands}
+use Rattle.lane_server.proofs.Adding.{refused_mark, refused_due, refused_mark_short, refused_fits, new_fault_due}
+use Rattle.lane_server.proofs.Adding.{new_fault_fits, opens_by, open_stands, lines_kept, added_is, account_over}
 
 module _ {D : Type 0} {serves : Serving D} {having : Having D} where
   -- the ratio line

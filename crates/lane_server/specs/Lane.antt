@@ -1,5 +1,5 @@
 -- What a lane keeps of its feed, and what it still has to give.
-use Rattle.std.specs.Prelude.{◌≡◌, ℕ, List, [], ◌∷◌, ◌++◌, map, true, false, if◌then◌else◌, Option, Some, None}
+use Rattle.std.specs.Prelude.{◌≡◌, ◌⊎◌, ℕ, List, [], ◌∷◌, ◌++◌, map, true, false, if◌then◌else◌, Option, Some, None}
 use Rattle.dover_model.specs.declared.events.Event.{Event}
 use Rattle.dover_model.specs.JobFacts.{JobFacts, job_of_numbers}
 use Rattle.dover_model.specs.Instance.{Instance, IsValid, with_jobs}
@@ -9,10 +9,12 @@ use Rattle.dover_model.specs.Feed.{Account, Cause, Open, Faulty, account_of_line
 use Rattle.dover_model.specs.Due.{due_lines, fault_text}
 use Rattle.dover_model.specs.Numerals.{AreShort}
 use Rattle.dover_model.proofs.Accounts.{IsKept}
-use Rattle.dover_server.specs.declared.horizon.Horizon.{Horizon}
-use Rattle.dover_server.specs.declared.horizon.Horizon.TheVariants.{Mark, End}
-use Rattle.dover_server.specs.Service.{MayFollow}
-use Rattle.dispatcher.specs.Dispatch.{due_by}
+use Rattle.dover_model.specs.declared.horizon.Horizon.{Horizon}
+use Rattle.dover_model.specs.declared.horizon.Horizon.TheVariants.{Mark, End}
+use Rattle.dover_model.specs.Horizons.{MayFollow, due_by}
+use Rattle.dover_model.specs.declared.events.Version.{Version}
+use Rattle.dover_model.specs.Fraction.{Fraction}
+use Rattle.event_feed.specs.Answers.{DeclaresRatio, AddsJob, counted}
 use Rattle.event_feed.specs.Kept as feed
 use Rattle.event_feed.specs.Kept.{cause_of_fault}
 use Rattle.event_feed.specs.Faults.{IsFirstFault}
@@ -27,6 +29,11 @@ use Rattle.lane_server.specs.declared.lane.Work.TheVariants.{Nothing, Give, Run,
 -- the session is there
 abbrev pub IsDeclared : Account → Type 0
 IsDeclared a = (S : Session) × (a.session ≡ Some S)
+
+-- memory is asked for: the line that makes b of a declares the rules, or admits a job
+abbrev pub AsksForMemory : Account → Account → Type 0
+AsksForMemory a b = ((k : Fraction) × (version : Version) × DeclaresRatio k version (counted a) b)
+    ⊎ ((n : ℕ) × (job : JobFacts) × AddsJob n job (counted a) b)
 
 -- a line at fault was read
 abbrev pub IsFaulty : Account → Type 0

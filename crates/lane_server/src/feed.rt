@@ -9,7 +9,7 @@ ghost use Rattle.lane_server.specs.Spending.{HasPaid};
 
 use crate::lane::Lane;
 use crate::out::LaneOut;
-use dispatcher::Dispatcher;
+use ready_server::Dispatcher;
 use dover_model::Memory;
 use line_text::{Lines, Step};
 use std::alloc::Global;

@@ -1,18 +1,17 @@
 //! One lane: a feed, the server that it feeds, and the lines that are due and not yet given.
 ghost use Rattle.std.specs.Prelude.{◌≡◌, ◌↔◌, ℕ, List, [], ◌∷◌, ◌++◌, Some, true, IsTrue, IsSome, OnOk, OnErr};
 ghost use Rattle.dover_model.specs.Feed.{Account, account_of_lines, is_open};
-ghost use Rattle.queued_jobs.specs.Spending.{CostsAtMost};
+ghost use Rattle.dover_model.specs.Spending.{CostsAtMost};
 ghost use Rattle.event_feed.specs.Answers.{DeclaresRatio, AddsJob, IsFed, EndAnswers, counted, admitted_in};
 ghost use Rattle.lane_server.specs.Lanes.{lines_added, feed_short, is_fine};
-ghost use Rattle.lane_server.specs.Lane.{IsDeclared, Stands, IsQuiet, Gives, IsOpenAt, Adds};
+ghost use Rattle.lane_server.specs.Lane.{IsDeclared, AsksForMemory, Stands, IsQuiet, Gives, IsOpenAt, Adds};
 ghost use Rattle.lane_server.specs.Spending.{HasPaid};
 ghost use Rattle.lane_server.specs.Shorts.{short_texts};
 ghost use Rattle.lane_server.specs.declared.lane.Work.TheVariants.{Nothing, Run, Admit};
 
 use crate::out::LaneOut;
-use dispatcher::Dispatcher;
-use dover_model::{Job, Memory, Ratio, Version};
-use dover_server::Horizon;
+use ready_server::Dispatcher;
+use dover_model::{Horizon, Job, Memory, Ratio, Version};
 use event_feed::{Fed, FeedFault, Intake};
 use line_text::Spelled;
 use std::alloc::Global;
@@ -141,6 +140,7 @@ impl<D: Dispatcher> Lane<D> {
         ensures paid { (a b : Account) (start now : ℕ) → IsOpenAt D.serves self.old a → IsFed (counted a) b fed
             → HasPaid D.paid self.old.server start now → OnOk result (HasPaid D.paid self.new.server start now) }
         ensures lacks { (a b : Account) → IsFed (counted a) b fed → OnErr result (IsDeclared b) }
+        ensures asks { (a b : Account) → IsFed (counted a) b fed → OnErr result (AsksForMemory a b) }
         ensures intake { self.new.intake ≡ self.old.intake }
     {
         match fed {
@@ -180,7 +180,8 @@ impl<D: Dispatcher> Lane<D> {
     ///
     /// # Errors
     ///
-    /// `Memory` where there is none for the server or for the job; then the lane is no longer of use.
+    /// `Memory` where there is none for the server, at a ratio line, or for the job, at the line of one that is
+    /// admitted; then the lane is no longer of use.
     pub fn line(&mut self, alloc: Global, line: &[u8]) -> Result<(), Memory>
         requires { (ls : List (List ℕ)) × IsQuiet D.serves D.has_room self.old ls }
         ensures stands { (ls : List (List ℕ)) → IsQuiet D.serves D.has_room self.old ls
@@ -189,6 +190,8 @@ impl<D: Dispatcher> Lane<D> {
             → HasPaid D.paid self.old.server start now → OnOk result (HasPaid D.paid self.new.server start now) }
         ensures lacks { (ls : List (List ℕ)) → IsQuiet D.serves D.has_room self.old ls
             → OnErr result (IsDeclared (account_of_lines (ls ++ line.now ∷ []))) }
+        ensures asks { (ls : List (List ℕ)) → IsQuiet D.serves D.has_room self.old ls
+            → OnErr result (AsksForMemory (account_of_lines ls) (account_of_lines (ls ++ line.now ∷ []))) }
     {
         if !self.is_open {
             return Ok(());

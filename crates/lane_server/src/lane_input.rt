@@ -8,7 +8,7 @@ ghost use Rattle.lane_server.specs.LaneInput.{standing_of, Stands, Rests, Hands,
 use crate::lanes::{LaneFault, LaneStep, Lanes};
 use crate::out::LaneOut;
 use crate::refusal::Refusal;
-use dispatcher::Dispatcher;
+use ready_server::Dispatcher;
 use dover_model::Memory;
 use line_text::{Lines, Step};
 use std::alloc::Global;

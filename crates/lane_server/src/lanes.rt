@@ -8,7 +8,7 @@ ghost use Rattle.lane_server.specs.declared.lanes.Phase.TheVariants.{Giving, Clo
 use crate::lane::Lane;
 use crate::out::LaneOut;
 use crate::reading::{LANES, LaneLine, lane_line};
-use dispatcher::Dispatcher;
+use ready_server::Dispatcher;
 use dover_model::Memory;
 use event_feed::Cause;
 use std::alloc::Global;

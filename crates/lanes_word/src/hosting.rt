@@ -10,11 +10,11 @@ ghost use Rattle.lanes_word.specs.Keeping.{parts_of, Gives};
 
 use crate::lines::{put_refusal, write_in_lane};
 use dialogue::{Stop, Talker};
-use dispatcher::Dispatcher;
 use dover_model::Memory;
 use dover_port::{Failed, Output, Port, Status};
 use lane_server::{LaneInput, Lanes};
 use line_text::BackLine;
+use ready_server::Dispatcher;
 use std::marker::PhantomData;
 use std::sync::ledger::Ledger;
 use step_count::Steps;

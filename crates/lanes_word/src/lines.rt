@@ -6,9 +6,8 @@ ghost use Rattle.lane_server.specs.Lane.{out_text, HasNumerals};
 ghost use Rattle.lane_server.specs.Lanes.{in_lane, refused_line};
 
 use dover_port::{Failed, Output, Port};
-use lane_lines::write_out;
 use lane_server::LaneOut;
-use line_output::put_line;
+use line_output::{put_line, write_out};
 use line_text::{BackLine, LineBuf};
 
 /// Writes the line that is due for a lane, with the lane's number in front, in place of what `line` had.

@@ -1,2 +1,4 @@
 pub mod FaultLines
 pub mod Putting
+pub mod Sizes
+pub mod Refusals

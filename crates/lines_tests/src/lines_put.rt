@@ -1,14 +1,14 @@
 //! Lines over ports in memory.
+ghost use Rattle.lane_server.specs.Lane.{HasNumerals};
+
 use dover_model::{Event, Ratio, Refusal, Version};
 use dover_port::{Failed, MemoryPort, Output, Port, Status};
 use event_feed::{Cause, FeedFault};
-use line_output::{
-    fault_line, put_event, put_fault, put_header, put_line, put_numbers, put_refused,
-};
-use line_text::LineBuf;
+use lane_server::LaneOut;
+use line_output::{fault_line, put_fault, put_line, put_numbers, write_out};
+use line_text::{BackLine, LineBuf};
 use std::alloc::Global;
 use std::test::Fail;
-use trace_format::TraceLine;
 
 /// Causes, and the lines that refuse a feed for them.
 const FAULTS: [(u64, Cause, &str); 9] = [
@@ -27,11 +27,20 @@ const FAULTS: [(u64, Cause, &str); 9] = [
     ),
 ];
 
+fn put_out<P: Port>(port: &mut P, out: &mut Output, line: &LaneOut) -> Result<(), Failed>
+    requires { HasNumerals line.now }
+{
+    let mut text = BackLine::new();
+    write_out(line, &mut text);
+    out.put(port, text.bytes())
+}
+
 fn put_all_lines<P: Port>(port: &mut P, k: Ratio) -> Result<(), Failed> {
     let mut out = Output::new();
-    put_header(port, &mut out, Version::Two, k)?;
-    put_event(port, &mut out, &Event::Run { at: 5, number: 3 })?;
-    let refused = TraceLine::Refused {
+    put_out(port, &mut out, &LaneOut::Header(Version::Two, k))?;
+    let run = Event::Run { at: 5, number: 3 };
+    put_out(port, &mut out, &LaneOut::Step(run))?;
+    let refused = LaneOut::Refuse {
         at: 5,
         release: 6,
         work: 7,
@@ -39,7 +48,7 @@ fn put_all_lines<P: Port>(port: &mut P, k: Ratio) -> Result<(), Failed> {
         value: 9,
         cause: Refusal::Total,
     };
-    put_refused(port, &mut out, &refused)?;
+    put_out(port, &mut out, &refused)?;
     put_numbers(port, &mut out, b"window", &[0, 18_446_744_073_709_551_615])?;
     put_numbers(port, &mut out, b"jobs", &[])?;
     let mut line = LineBuf::new();

@@ -8,19 +8,17 @@ use Rattle.std.proofs.lemmas.Bool.{cases_lt, cases_eq, lt-ltb, le-ltb}
 use Rattle.std.proofs.lemmas.List.{append-nil, map-append, take_all, take_more, take-append-drop, get_or-set_same}
 use Rattle.std.proofs.lemmas.List.{get_or-set_other, length-set, set-set}
 use Rattle.std.proofs.lemmas.List.Elements.{filter-append}
-use Rattle.dover_model.specs.declared.events.Entry.{Entry}
-use Rattle.dover_model.specs.declared.events.Version.TheVariants.{One}
-use Rattle.dover_model.specs.Entries.{is_due_before}
 use Rattle.dover_model.specs.JobFacts.{JobFacts, IsJob}
+use Rattle.dover_model.specs.Limits.{last_tick}
 use Rattle.dover_model.specs.Orders.{first}
-use Rattle.rank_heap.specs.Table.{Members, members_of, without_member}
-use Rattle.rank_heap.specs.declared.rank.ByDeadline.{ByDeadline}
+use Rattle.place_heap.specs.Items.{ItemFacts, is_before}
+use Rattle.place_heap.specs.Table.{items_of}
 use Rattle.periodic_tasks.specs.Limits.{IsTask}
 use Rattle.periodic_tasks.specs.Tasks.{releases, job_at, released_at, jobs_before}
 use Rattle.periodic_tasks.specs.Merging.{Merge, merge, blank_task, IsNextRelease, IsNext, from_tick}
 use Rattle.periodic_tasks.specs.Merging.{kept_release, StandsBehind}
 use Rattle.periodic_tasks.specs.declared.task.PeriodicTask.{PeriodicTask}
-use Rattle.periodic_tasks.proofs.Firsts.{IsFirst, first_is, none_first}
+use Rattle.periodic_tasks.proofs.Firsts.{IsFirst, first_is, none_first, lead_by}
 use Rattle.periodic_tasks.proofs.Released.{job_within}
 use Rattle.periodic_tasks.proofs.Releases.{follows_short}
 
@@ -153,20 +151,20 @@ module _ (m : Merge) (done : List JobFacts) (s : StandsBehind m done) where
   tasks = m.tasks
 
   -- a task that is not kept is quiet to the end, and one that is to its next release
-  quiet_none : (n x : ℕ) (o : Option Entry) → o ≡ None
+  quiet_none : (n x : ℕ) (o : Option ItemFacts) → o ≡ None
       → IsNext m.until n (task_at tasks n) (from_tick s.tick s.place n) o
       → from_tick s.tick s.place n ≤ x → x < m.until → releases (task_at tasks n) x ≡ false
   quiet_none n x None is next low high = next x low high
   quiet_none n x (Some f) is next low high = absurd (let e : Some f ≡ None = is in cc)
 
   -- where nothing is kept, all jobs came
-  pub all_done : ((n : ℕ) → get_or m.next.table n None ≡ None) → jobs_before m.until tasks ≡ done
+  pub all_done : ((n : ℕ) → get_or m.next n None ≡ None) → jobs_before m.until tasks ≡ done
   all_done none =
       let quiet : AreQuiet tasks s.tick s.place m.until 0 = record {
         onward = ends (cases_lt s.tick m.until);
         within = s.within;
         ends = omega arith;
-        quiet = λ n x there low which. quiet_none n x (get_or m.next.table n None) (none n) (s.next n there) low
+        quiet = λ n x there low which. quiet_none n x (get_or m.next n None) (none n) (s.next n there) low
             (early n x which);
       } in sym (s.done_is ∙ quiet_between tasks s.tick s.place m.until 0 quiet
       ∙ append-nil (jobs_before m.until tasks)) where
@@ -179,176 +177,179 @@ module _ (m : Merge) (done : List JobFacts) (s : StandsBehind m done) where
         early n x (inl before) = before
         early n x (inr never) = absurd (omega (arith, never.1))
 
-  module _ (e : Entry) (it : IsFirst e m.next.table) where
+  module _ (e : ItemFacts) (it : IsFirst e m.next) where
     -- its task
     abbrev pub task : PeriodicTask
-    task = task_at tasks e.number
+    task = task_at tasks e.place
 
     -- what is known of an entry that is there
-    next_is : (n : ℕ) (o : Option Entry) (f : Entry) → o ≡ Some f
+    next_is : (n : ℕ) (o : Option ItemFacts) (f : ItemFacts) → o ≡ Some f
         → IsNext m.until n (task_at tasks n) (from_tick s.tick s.place n) o
         → IsNextRelease m.until n (task_at tasks n) (from_tick s.tick s.place n) f
     next_is n None f is next = absurd (let h : None ≡ Some f = is in cc)
     next_is n (Some g) f is next =
         subst (IsNextRelease m.until n (task_at tasks n) (from_tick s.tick s.place n)) (same g f is) next where
-          same : (g f : Entry) → Some g ≡ Some f → g ≡ f
+          same : (g f : ItemFacts) → Some g ≡ Some f → g ≡ f
           same g f h = let k : Some g ≡ Some f = h in cc
 
     at_place : IsNextRelease m.until it.place.at (task_at tasks it.place.at) (from_tick s.tick s.place it.place.at) e
-    at_place = next_is it.place.at (get_or m.next.table it.place.at None) e it.place.is
+    at_place = next_is it.place.at (get_or m.next it.place.at None) e it.place.is
         (s.next it.place.at (omega (arith, it.place.within, s.size)))
 
     -- it is kept at its own number
-    pub within : e.number < length tasks
-    within = omega (arith, at_place.number_is, it.place.within, s.size)
+    own_place : e.place ≡ it.place.at
+    own_place = ap (λ (i : ItemFacts). i.place) at_place.item_is
 
-    here : IsNextRelease m.until e.number task (from_tick s.tick s.place e.number) e
+    pub within : e.place < length tasks
+    within = omega (arith, own_place, it.place.within, s.size)
+
+    here : IsNextRelease m.until e.place task (from_tick s.tick s.place e.place) e
     here = subst (λ n. IsNextRelease m.until n (task_at tasks n) (from_tick s.tick s.place n) e)
-        (sym at_place.number_is) at_place
+        (sym own_place) at_place
 
-    pub late : e.deadline < m.until
+    pub late : e.key < m.until
     late = here.late
 
-    pub released : releases task e.deadline ≡ true
+    pub released : releases task e.key ≡ true
     released = here.released
 
     -- none is released before it
-    none_between : (n x : ℕ) → n < length tasks → from_tick s.tick s.place n ≤ x → (x < e.deadline)
-        ⊎ ((x ≡ e.deadline) × (n < e.number))
+    none_between : (n x : ℕ) → n < length tasks → from_tick s.tick s.place n ≤ x → (x < e.key)
+        ⊎ ((x ≡ e.key) × (n < e.place))
         → releases (task_at tasks n) x ≡ false
-    none_between n x there low which = of (get_or m.next.table n None) refl (s.next n there) where
-      before : (f : Entry) → f.number ≡ n → (x < e.deadline) ⊎ ((x ≡ e.deadline) × (n < e.number))
-          → (e.deadline < f.deadline) ⊎ ((e.deadline ≡ f.deadline) × (e.number ≤ f.number)) → x < f.deadline
-      before f is (inl less) (inl lead) = omega (arith, less, lead)
-      before f is (inl less) (inr lead) = omega (arith, less, lead.0)
-      before f is (inr same) (inl lead) = omega (arith, same.0, lead)
-      before f is (inr same) (inr lead) = absurd (omega (arith, same.1, lead.1, is))
+    none_between n x there low which = of (get_or m.next n None) refl (s.next n there) where
+      before : (f : ItemFacts) → (x < e.key) ⊎ ((x ≡ e.key) × (n < e.place))
+          → (e.key < f.key) ⊎ ((e.key ≡ f.key) × (e.place ≤ n)) → x < f.key
+      before f (inl less) (inl lead) = omega (arith, less, lead)
+      before f (inl less) (inr lead) = omega (arith, less, lead.0)
+      before f (inr same) (inl lead) = omega (arith, same.0, lead)
+      before f (inr same) (inr lead) = absurd (omega (arith, same.1, lead.1))
 
-      up_to : (x < e.deadline) ⊎ ((x ≡ e.deadline) × (n < e.number)) → x < m.until
+      up_to : (x < e.key) ⊎ ((x ≡ e.key) × (n < e.place)) → x < m.until
       up_to (inl less) = omega (arith, less, late)
       up_to (inr same) = omega (arith, same.0, late)
 
-      of : (o : Option Entry) → get_or m.next.table n None ≡ o
+      of : (o : Option ItemFacts) → get_or m.next n None ≡ o
           → IsNext m.until n (task_at tasks n) (from_tick s.tick s.place n) o
           → releases (task_at tasks n) x ≡ false
       of None is next = next x low (up_to which)
-      of (Some f) is next = next.quiet x low (before f next.number_is which (it.leads n f is).by)
+      of (Some f) is next = next.quiet x low (before f which
+          (lead_by e f e.place n here.item_is next.item_is (it.leads n f is)))
 
     -- it doesn't lie before the place
-    onward : (s.tick < e.deadline) ⊎ ((s.tick ≡ e.deadline) × (s.place ≤ e.number))
-    onward = of (cases_lt e.number s.place) (cases_lt s.tick e.deadline) where
-      of : (e.number < s.place) ⊎ (s.place ≤ e.number) → (s.tick < e.deadline) ⊎ (e.deadline ≤ s.tick)
-          → (s.tick < e.deadline) ⊎ ((s.tick ≡ e.deadline) × (s.place ≤ e.number))
+    onward : (s.tick < e.key) ⊎ ((s.tick ≡ e.key) × (s.place ≤ e.place))
+    onward = of (cases_lt e.place s.place) (cases_lt s.tick e.key) where
+      of : (e.place < s.place) ⊎ (s.place ≤ e.place) → (s.tick < e.key) ⊎ (e.key ≤ s.tick)
+          → (s.tick < e.key) ⊎ ((s.tick ≡ e.key) × (s.place ≤ e.place))
       of which (inl less) = inl less
-      of (inl low) (inr past) = absurd (omega (arith, here.early, from_early s.tick s.place e.number low, past))
-      of (inr high) (inr past) = inr (omega (arith, here.early, from_late s.tick s.place e.number high, past), high)
+      of (inl low) (inr past) = absurd (omega (arith, here.early, from_early s.tick s.place e.place low, past))
+      of (inr high) (inr past) = inr (omega (arith, here.early, from_late s.tick s.place e.place high, past), high)
 
     -- the jobs with it
-    done_more : done ++ job_at task e.deadline ∷ [] ≡ jobs_up_to tasks e.deadline (e.number + 1)
+    done_more : done ++ job_at task e.key ∷ [] ≡ jobs_up_to tasks e.key (e.place + 1)
     done_more =
-        let quiet : AreQuiet tasks s.tick s.place e.deadline e.number =
+        let quiet : AreQuiet tasks s.tick s.place e.key e.place =
         record { onward = onward; within = s.within; ends = omega (arith, within); quiet = none_between } in
-        ap (λ js. js ++ job_at task e.deadline ∷ [])
-        (s.done_is ∙ quiet_between tasks s.tick s.place e.deadline e.number quiet)
-        ∙ append_assoc (jobs_before e.deadline tasks) (released_at e.deadline (take e.number tasks))
-        (job_at task e.deadline ∷ [])
-        ∙ ap (λ js. jobs_before e.deadline tasks ++ js)
-        (sym (released_more e.deadline e.number tasks true within released))
+        ap (λ js. js ++ job_at task e.key ∷ [])
+        (s.done_is ∙ quiet_between tasks s.tick s.place e.key e.place quiet)
+        ∙ append_assoc (jobs_before e.key tasks) (released_at e.key (take e.place tasks))
+        (job_at task e.key ∷ [])
+        ∙ ap (λ js. jobs_before e.key tasks ++ js)
+        (sym (released_more e.key e.place tasks true within released))
 
     -- the place later on
-    later : (n : ℕ) → from_tick s.tick s.place n ≤ from_tick e.deadline (e.number + 1) n
-    later n = of onward (cases_lt n s.place) (cases_lt n (e.number + 1)) where
-      of : (s.tick < e.deadline) ⊎ ((s.tick ≡ e.deadline) × (s.place ≤ e.number)) → (n < s.place) ⊎ (s.place ≤ n)
-          → (n < e.number + 1) ⊎ (e.number + 1 ≤ n) → from_tick s.tick s.place n ≤ from_tick e.deadline (e.number + 1) n
+    later : (n : ℕ) → from_tick s.tick s.place n ≤ from_tick e.key (e.place + 1) n
+    later n = of onward (cases_lt n s.place) (cases_lt n (e.place + 1)) where
+      of : (s.tick < e.key) ⊎ ((s.tick ≡ e.key) × (s.place ≤ e.place)) → (n < s.place) ⊎ (s.place ≤ n)
+          → (n < e.place + 1) ⊎ (e.place + 1 ≤ n) → from_tick s.tick s.place n ≤ from_tick e.key (e.place + 1) n
       of (inl less) (inl a) (inl b) =
-          omega (arith, less, from_early s.tick s.place n a, from_early e.deadline (e.number + 1) n b)
+          omega (arith, less, from_early s.tick s.place n a, from_early e.key (e.place + 1) n b)
       of (inl less) (inl a) (inr b) =
-          omega (arith, less, from_early s.tick s.place n a, from_late e.deadline (e.number + 1) n b)
+          omega (arith, less, from_early s.tick s.place n a, from_late e.key (e.place + 1) n b)
       of (inl less) (inr a) (inl b) =
-          omega (arith, less, from_late s.tick s.place n a, from_early e.deadline (e.number + 1) n b)
+          omega (arith, less, from_late s.tick s.place n a, from_early e.key (e.place + 1) n b)
       of (inl less) (inr a) (inr b) =
-          omega (arith, less, from_late s.tick s.place n a, from_late e.deadline (e.number + 1) n b)
+          omega (arith, less, from_late s.tick s.place n a, from_late e.key (e.place + 1) n b)
       of (inr same) (inl a) (inl b) =
-          omega (arith, same.0, from_early s.tick s.place n a, from_early e.deadline (e.number + 1) n b)
+          omega (arith, same.0, from_early s.tick s.place n a, from_early e.key (e.place + 1) n b)
       of (inr same) (inl a) (inr b) = absurd (omega (arith, same.1, a, b))
       of (inr same) (inr a) (inl b) =
-          omega (arith, same.0, from_late s.tick s.place n a, from_early e.deadline (e.number + 1) n b)
+          omega (arith, same.0, from_late s.tick s.place n a, from_early e.key (e.place + 1) n b)
       of (inr same) (inr a) (inr b) =
-          omega (arith, same.0, from_late s.tick s.place n a, from_late e.deadline (e.number + 1) n b)
+          omega (arith, same.0, from_late s.tick s.place n a, from_late e.key (e.place + 1) n b)
 
     -- the other tasks stay
-    other_next : (n : ℕ) → n ≢ e.number → n < length tasks
-        → IsNext m.until n (task_at tasks n) (from_tick e.deadline (e.number + 1) n) (get_or m.next.table n None)
-    other_next n apart there = of (get_or m.next.table n None) refl (s.next n there) where
-      high : (f : Entry) → f.number ≡ n → (e.deadline < f.deadline)
-          ⊎ ((e.deadline ≡ f.deadline) × (e.number ≤ f.number))
-          → (n < e.number + 1) ⊎ (e.number + 1 ≤ n) → from_tick e.deadline (e.number + 1) n ≤ f.deadline
-      high f is (inl lead) (inl low) = omega (arith, lead, from_early e.deadline (e.number + 1) n low)
-      high f is (inl lead) (inr past) = omega (arith, lead, from_late e.deadline (e.number + 1) n past)
-      high f is (inr lead) (inl low) = absurd (apart (omega (arith, lead.1, is, low)))
-      high f is (inr lead) (inr past) = omega (arith, lead.0, from_late e.deadline (e.number + 1) n past)
+    other_next : (n : ℕ) → n ≢ e.place → n < length tasks
+        → IsNext m.until n (task_at tasks n) (from_tick e.key (e.place + 1) n) (get_or m.next n None)
+    other_next n apart there = of (get_or m.next n None) refl (s.next n there) where
+      high : (f : ItemFacts) → (e.key < f.key) ⊎ ((e.key ≡ f.key) × (e.place ≤ n))
+          → (n < e.place + 1) ⊎ (e.place + 1 ≤ n) → from_tick e.key (e.place + 1) n ≤ f.key
+      high f (inl lead) (inl low) = omega (arith, lead, from_early e.key (e.place + 1) n low)
+      high f (inl lead) (inr past) = omega (arith, lead, from_late e.key (e.place + 1) n past)
+      high f (inr lead) (inl low) = absurd (apart (omega (arith, lead.1, low)))
+      high f (inr lead) (inr past) = omega (arith, lead.0, from_late e.key (e.place + 1) n past)
 
-      of : (o : Option Entry) → get_or m.next.table n None ≡ o
+      of : (o : Option ItemFacts) → get_or m.next n None ≡ o
           → IsNext m.until n (task_at tasks n) (from_tick s.tick s.place n) o
-          → IsNext m.until n (task_at tasks n) (from_tick e.deadline (e.number + 1) n) o
+          → IsNext m.until n (task_at tasks n) (from_tick e.key (e.place + 1) n) o
       of None is next = λ x low before. next x (omega (arith, later n, low)) before
       of (Some f) is next = record {
-        number_is = next.number_is;
-        early = high f next.number_is (it.leads n f is).by (cases_lt n (e.number + 1));
+        item_is = next.item_is;
+        early = high f (lead_by e f e.place n here.item_is next.item_is (it.leads n f is)) (cases_lt n (e.place + 1));
         late = next.late;
         released = next.released;
         quiet = λ x low before. next.quiet x (omega (arith, later n, low)) before;
       }
 
     -- the release of its task that follows is kept in its place
-    pub stands_more : (w : Merge) (o : Option Entry) → w.tasks ≡ tasks → w.until ≡ m.until → w.next.order ≡ m.next.order
-        → w.next.table ≡ set m.next.table e.number o → IsNext m.until e.number task (suc e.deadline) o
-        → StandsBehind w (done ++ job_at task e.deadline ∷ [])
-    stands_more w o tasks_are until_is order_is table_is next = record {
-      order = order_is ∙ s.order;
+    pub stands_more : (w : Merge) (o : Option ItemFacts) → w.tasks ≡ tasks → w.until ≡ m.until
+        → w.next ≡ set m.next e.place o → IsNext m.until e.place task (suc e.key) o
+        → StandsBehind w (done ++ job_at task e.key ∷ [])
+    stands_more w o tasks_are until_is table_is next = record {
+      limit = omega (arith, s.limit, until_is);
       size = omega (
         arith,
-        ap (λ (t : List (Option Entry)). length t) table_is,
-        length-set m.next.table e.number o,
+        ap (λ (t : List (Option ItemFacts)). length t) table_is,
+        length-set m.next e.place o,
         s.size,
         ap (λ (t : List PeriodicTask). length t) tasks_are,
       );
-      tick = e.deadline;
-      place = e.number + 1;
+      tick = e.key;
+      place = e.place + 1;
       known = omega (arith, late, until_is);
       within = omega (arith, within, ap (λ (t : List PeriodicTask). length t) tasks_are);
       begun = λ at_end. absurd (omega (arith, late, until_is, at_end));
-      done_is = subst (λ ts. done ++ job_at task e.deadline ∷ [] ≡ jobs_up_to ts e.deadline (e.number + 1))
+      done_is = subst (λ ts. done ++ job_at task e.key ∷ [] ≡ jobs_up_to ts e.key (e.place + 1))
           (sym tasks_are) done_more;
-      next = λ n there. subst (λ u. IsNext u n (task_at w.tasks n) (from_tick e.deadline (e.number + 1) n)
-          (get_or w.next.table n None))
-          (sym until_is) (subst (λ ts. IsNext m.until n (task_at ts n) (from_tick e.deadline (e.number + 1) n)
-          (get_or w.next.table n None))
-          (sym tasks_are) (subst (λ t. IsNext m.until n (task_at tasks n) (from_tick e.deadline (e.number + 1) n)
+      next = λ n there. subst (λ u. IsNext u n (task_at w.tasks n) (from_tick e.key (e.place + 1) n)
+          (get_or w.next n None))
+          (sym until_is) (subst (λ ts. IsNext m.until n (task_at ts n) (from_tick e.key (e.place + 1) n)
+          (get_or w.next n None))
+          (sym tasks_are) (subst (λ t. IsNext m.until n (task_at tasks n) (from_tick e.key (e.place + 1) n)
           (get_or t n None))
           (sym table_is) (of n (omega (arith, there, ap (λ (t : List PeriodicTask). length t) tasks_are))
-          (cases_eq n e.number))));
+          (cases_eq n e.place))));
     } where
-      of : (n : ℕ) → n < length tasks → (n ≡ e.number) ⊎ (n ≡ e.number → ⊥)
-          → IsNext m.until n (task_at tasks n) (from_tick e.deadline (e.number + 1) n)
-          (get_or (set m.next.table e.number o) n None)
-      of n there (inl same) = subst (λ k. IsNext m.until k (task_at tasks k) (from_tick e.deadline (e.number + 1) k)
-          (get_or (set m.next.table e.number o) k None)) (sym same)
-          (subst (λ f. IsNext m.until e.number task f (get_or (set m.next.table e.number o) e.number None))
-          (sym (from_early e.deadline (e.number + 1) e.number (omega arith)))
-          (subst (IsNext m.until e.number task (suc e.deadline))
-          (sym (get_or-set_same m.next.table e.number o None (omega (arith, within, s.size)))) next))
-      of n there (inr apart) = subst (IsNext m.until n (task_at tasks n) (from_tick e.deadline (e.number + 1) n))
-          (sym (get_or-set_other m.next.table e.number n o None apart)) (other_next n apart there)
+      of : (n : ℕ) → n < length tasks → (n ≡ e.place) ⊎ (n ≡ e.place → ⊥)
+          → IsNext m.until n (task_at tasks n) (from_tick e.key (e.place + 1) n)
+          (get_or (set m.next e.place o) n None)
+      of n there (inl same) = subst (λ k. IsNext m.until k (task_at tasks k) (from_tick e.key (e.place + 1) k)
+          (get_or (set m.next e.place o) k None)) (sym same)
+          (subst (λ f. IsNext m.until e.place task f (get_or (set m.next e.place o) e.place None))
+          (sym (from_early e.key (e.place + 1) e.place (omega arith)))
+          (subst (IsNext m.until e.place task (suc e.key))
+          (sym (get_or-set_same m.next e.place o None (omega (arith, within, s.size)))) next))
+      of n there (inr apart) = subst (IsNext m.until n (task_at tasks n) (from_tick e.key (e.place + 1) n))
+          (sym (get_or-set_other m.next e.place n o None apart)) (other_next n apart there)
 
 -- ---- nothing came yet
 
 -- the first releases are kept
-pub starts : (m : Merge) → m.next.order ≡ record { version = One } → length m.next.table ≡ length m.tasks
-    → ((n : ℕ) → n < length m.tasks → IsNext m.until n (task_at m.tasks n) 0 (get_or m.next.table n None))
+pub starts : (m : Merge) → m.until ≤ last_tick → length m.next ≡ length m.tasks
+    → ((n : ℕ) → n < length m.tasks → IsNext m.until n (task_at m.tasks n) 0 (get_or m.next n None))
     → StandsBehind m []
-starts m order size next = record {
-  order = order;
+starts m limit size next = record {
+  limit = limit;
   size = size;
   tick = 0;
   place = 0;
@@ -356,7 +357,7 @@ starts m order size next = record {
   within = omega arith;
   begun = λ at_end. refl;
   done_is = refl;
-  next = λ n there. subst (λ f. IsNext m.until n (task_at m.tasks n) f (get_or m.next.table n None))
+  next = λ n there. subst (λ f. IsNext m.until n (task_at m.tasks n) f (get_or m.next n None))
       (sym (from_late 0 0 n (omega arith))) (next n there);
 }
 
@@ -373,29 +374,23 @@ given P None j is holds = tt
 given P (Some i) j is holds = subst P (sym is) holds
 
 module _ (m : Merge) (done : List JobFacts) (s : StandsBehind m done) where
-  -- in the order that is kept
-  in_order : (o : Option Entry) → o ≡ first (is_due_before m.next.order.version) (members_of m.next.table)
-      → first (is_due_before One) (members_of m.next.table) ≡ o
-  in_order o is = sym (is ∙ ap (λ (d : ByDeadline). first (is_due_before d.version) (members_of m.next.table)) s.order)
-
   -- where it gives none, all jobs came
-  pub none_given : None ≡ first (is_due_before m.next.order.version) (members_of m.next.table)
-      → jobs_before m.until m.tasks ≡ done
-  none_given is = all_done m done s (none_first m.next.table (in_order None is))
+  pub none_given : None ≡ first is_before (items_of m.next) → jobs_before m.until m.tasks ≡ done
+  none_given is = all_done m done s (none_first m.next (sym is))
 
-  module _ (each : AllByRecursion (IsTask m.until) m.tasks) (e : Entry)
-      (is : Some e ≡ first (is_due_before m.next.order.version) (members_of m.next.table)) where
-    pub it : IsFirst e m.next.table
-    it = first_is m.next.table e (in_order (Some e) is)
+  module _ (each : AllByRecursion (IsTask m.until) m.tasks) (e : ItemFacts)
+      (is : Some e ≡ first is_before (items_of m.next)) where
+    pub it : IsFirst e m.next
+    it = first_is m.next e (sym is)
 
     -- its task is there
-    pub given_within : e.number < length m.tasks
+    pub given_within : e.place < length m.tasks
     given_within = within m done s e it
 
     module _ (t : PeriodicTask) (task_is : t ≡ task m done s e it) where
       its : IsTask m.until t
       its = subst (IsTask m.until) (sym task_is)
-          (all_of (IsTask m.until) m.tasks e.number blank_task each given_within) where
+          (all_of (IsTask m.until) m.tasks e.place blank_task each given_within) where
             all_of : (P : PeriodicTask → Type 0) (xs : List PeriodicTask) (i : ℕ) (d : PeriodicTask)
                 → AllByRecursion P xs
                 → i < length xs
@@ -404,77 +399,98 @@ module _ (m : Merge) (done : List JobFacts) (s : StandsBehind m done) where
             all_of P (x ∷ xs) zero d all there = all.0
             all_of P (x ∷ xs) (suc i) d all there = all_of P xs i d all.1 (omega (arith, there))
 
-      released_then : releases t e.deadline ≡ true
-      released_then = subst (λ u. releases u e.deadline ≡ true) (sym task_is) (released m done s e it)
+      released_then : releases t e.key ≡ true
+      released_then = subst (λ u. releases u e.key ≡ true) (sym task_is) (released m done s e it)
 
       -- its job is within the limits
-      pub given_job : IsJob (job_at t e.deadline)
-      given_job = job_within m.until t its e.deadline (late m done s e it) released_then
+      pub given_job : IsJob (job_at t e.key)
+      given_job = job_within m.until t its e.key (late m done s e it) released_then
 
       -- the release that follows is kept, and the jobs are those so far with it
-      pub given_next : (w : Merge) (release : ℕ) → m.until < 2 ^ 64 → release ≡ min (e.deadline + t.period) (2 ^ 64 - 1)
-          → w.tasks ≡ m.tasks → w.until ≡ m.until → w.next.order ≡ m.next.order
-          → w.next.table ≡ set m.next.table e.number (kept_release m.until e.number release)
-          → (r : Option JobFacts) → IfSome r (λ i. i ≡ job_at t e.deadline)
+      pub given_next : (w : Merge) (release : ℕ) → m.until < 2 ^ 64 → release ≡ min (e.key + t.period) (2 ^ 64 - 1)
+          → w.tasks ≡ m.tasks → w.until ≡ m.until
+          → w.next ≡ set m.next e.place (kept_release m.until e.place release)
+          → (r : Option JobFacts) → IfSome r (λ i. i ≡ job_at t e.key)
           → IfSome r (λ job. StandsBehind w (done ++ job ∷ []))
-      given_next w release fits short tasks_are until_is order_is table_is r job_is =
-          given (λ job. StandsBehind w (done ++ job ∷ [])) r (job_at t e.deadline) job_is
-          (subst (λ u. StandsBehind w (done ++ job_at u e.deadline ∷ [])) (sym task_is)
-          (stands_more m done s e it w (kept_release m.until e.number release) tasks_are until_is order_is table_is
-          (subst (λ u. IsNext m.until e.number u (suc e.deadline) (kept_release m.until e.number release)) task_is
-          (follows_short t e.deadline its.period released_then m.until e.number release fits short))))
+      given_next w release fits short tasks_are until_is table_is r job_is =
+          given (λ job. StandsBehind w (done ++ job ∷ [])) r (job_at t e.key) job_is
+          (subst (λ u. StandsBehind w (done ++ job_at u e.key ∷ [])) (sym task_is)
+          (stands_more m done s e it w (kept_release m.until e.place release) tasks_are until_is table_is
+          (subst (λ u. IsNext m.until e.place u (suc e.key) (kept_release m.until e.place release)) task_is
+          (follows_short t e.key its.period released_then m.until e.place release fits short))))
 
       -- a job came
-      pub given_some : (r : Option JobFacts) → (IsSome r ↔ IsJob (job_at t e.deadline)) → IsNone r → ⊥
+      pub given_some : (r : Option JobFacts) → (IsSome r ↔ IsJob (job_at t e.key)) → IsNone r → ⊥
       given_some r allowed none = absent r (allowed.1 given_job) none
 
 -- ---- what a call gives, by its parts
 
--- a table that an entry was taken from, and in which another then stands
-set_again : (m : Merge) (e : Entry) (o : Option Entry) (n w : Members ByDeadline) → n ≡ without_member m.next (Some e)
-    → w.table ≡ set n.table e.number o → w.table ≡ set m.next.table e.number o
-set_again m e o n w taken put = put ∙ ap (λ (x : Members ByDeadline). set x.table e.number o) taken
-    ∙ set-set m.next.table e.number None o
-
-module _ (tasks : List PeriodicTask) (until : ℕ) (old : Members ByDeadline) (each : AllByRecursion (IsTask until) tasks)
-    (e : Entry)
-    (is : Some e ≡ first (is_due_before old.order.version) (members_of old.table)) where
-  -- the heap has the number
-  pub room_given : (done : List JobFacts) → StandsBehind (merge tasks until old) done → (n : Members ByDeadline)
-      → n ≡ without_member old (Some e) → e.number < length n.table
+module _ (tasks : List PeriodicTask) (until : ℕ) (old : List (Option ItemFacts))
+    (each : AllByRecursion (IsTask until) tasks) (e : ItemFacts) (is : Some e ≡ first is_before (items_of old)) where
+  -- the heap has the place
+  pub room_given : (done : List JobFacts) → StandsBehind (merge tasks until old) done → (n : List (Option ItemFacts))
+      → n ≡ set old e.place None → e.place < length n
   room_given done s n taken = omega (
     arith,
     given_within (merge tasks until old) done s each e is,
     s.size,
-    ap (λ (x : Members ByDeadline). length x.table) taken,
-    length-set old.table e.number None,
+    ap (λ (t : List (Option ItemFacts)). length t) taken,
+    length-set old e.place None,
   )
+
+  -- which is free then
+  pub free_given : (done : List JobFacts) → StandsBehind (merge tasks until old) done → (n : List (Option ItemFacts))
+      → n ≡ set old e.place None → get_or n e.place None ≡ None
+  free_given done s n taken = ap (λ t. get_or t e.place None) taken
+      ∙ get_or-set_same old e.place None None
+      (omega (arith, given_within (merge tasks until old) done s each e is, s.size))
 
   -- the deadline fits
   pub due_given : (done : List JobFacts) → StandsBehind (merge tasks until old) done
-      → e.deadline + (get_or tasks e.number blank_task).deadline ≤ 1_000_000_000_000
-  due_given done s = (given_job (merge tasks until old) done s each e is (get_or tasks e.number blank_task) refl).due
+      → e.key + (get_or tasks e.place blank_task).deadline ≤ 1_000_000_000_000
+  due_given done s = (given_job (merge tasks until old) done s each e is (get_or tasks e.place blank_task) refl).due
 
   -- the next job
-  pub next_given : (n w : Members ByDeadline) (release : ℕ) → until < 2 ^ 64
-      → release ≡ min (e.deadline + (get_or tasks e.number blank_task).period) (2 ^ 64 - 1)
-      → n ≡ without_member old (Some e)
-      → w.order ≡ n.order → w.table ≡ set n.table e.number (kept_release until e.number release) → (r : Option JobFacts)
-      → IfSome r (λ i. i ≡ job_at (get_or tasks e.number blank_task) e.deadline) → (done : List JobFacts)
+  pub next_given : (n w : List (Option ItemFacts)) (release : ℕ) → until < 2 ^ 64
+      → release ≡ min (e.key + (get_or tasks e.place blank_task).period) (2 ^ 64 - 1)
+      → n ≡ set old e.place None → w ≡ set n e.place (kept_release until e.place release) → (r : Option JobFacts)
+      → IfSome r (λ i. i ≡ job_at (get_or tasks e.place blank_task) e.key) → (done : List JobFacts)
       → StandsBehind (merge tasks until old) done
       → IfSome r (λ job. StandsBehind (merge tasks until w) (done ++ job ∷ []))
-  next_given n w release fits short taken order_is table_is r job_is done s =
-      given_next (merge tasks until old) done s each e is (get_or tasks e.number blank_task) refl
-      (merge tasks until w) release fits short
-      refl refl (order_is ∙ ap (λ (x : Members ByDeadline). x.order) taken)
-      (set_again (merge tasks until old) e (kept_release until e.number release) n w taken table_is) r job_is
+  next_given n w release fits short taken put r job_is done s =
+      given_next (merge tasks until old) done s each e is (get_or tasks e.place blank_task) refl
+      (merge tasks until w) release fits short refl refl
+      (put ∙ ap (λ t. set t e.place (kept_release until e.place release)) taken ∙ set-set old e.place None
+      (kept_release until e.place release)) r job_is
 
   -- a job is given
-  pub some_given : (r : Option JobFacts) → (IsSome r ↔ IsJob (job_at (get_or tasks e.number blank_task) e.deadline))
+  pub some_given : (r : Option JobFacts) → (IsSome r ↔ IsJob (job_at (get_or tasks e.place blank_task) e.key))
       → (done : List JobFacts) → StandsBehind (merge tasks until old) done → IsNone r → jobs_before until tasks ≡ done
   some_given r allowed done s none =
       absurd (given_some (merge tasks until old) done s each e is
-      (get_or tasks e.number blank_task) refl r allowed none)
+      (get_or tasks e.place blank_task) refl r allowed none)
+
+  -- the same where the place and the key were read
+  module _ (p k : ℕ) (p_is : p ≡ e.place) (k_is : k ≡ e.key) where
+    pub read_next : (n w : List (Option ItemFacts)) (release : ℕ) → until < 2 ^ 64
+        → release ≡ min (k + (get_or tasks p blank_task).period) (2 ^ 64 - 1)
+        → n ≡ set old p None → w ≡ set n p (kept_release until p release) → (r : Option JobFacts)
+        → IfSome r (λ i. i ≡ job_at (get_or tasks p blank_task) k) → (done : List JobFacts)
+        → StandsBehind (merge tasks until old) done
+        → IfSome r (λ job. StandsBehind (merge tasks until w) (done ++ job ∷ []))
+    read_next n w release fits short taken put r job_is = next_given n w release fits
+        (short ∙ ap (λ j. min (j + (get_or tasks p blank_task).period) (2 ^ 64 - 1)) k_is
+        ∙ ap (λ q. min (e.key + (get_or tasks q blank_task).period) (2 ^ 64 - 1)) p_is)
+        (taken ∙ ap (λ q. set old q None) p_is) (put ∙ ap (λ q. set n q (kept_release until q release)) p_is) r
+        (subst (λ q. IfSome r (λ i. i ≡ job_at (get_or tasks q blank_task) e.key)) p_is
+        (subst (λ j. IfSome r (λ i. i ≡ job_at (get_or tasks p blank_task) j)) k_is job_is))
+
+    pub read_some : (r : Option JobFacts) → (IsSome r ↔ IsJob (job_at (get_or tasks p blank_task) k))
+        → (done : List JobFacts) → StandsBehind (merge tasks until old) done → IsNone r
+        → jobs_before until tasks ≡ done
+    read_some r allowed = some_given r
+        (subst (λ q. IsSome r ↔ IsJob (job_at (get_or tasks q blank_task) e.key)) p_is
+        (subst (λ j. IsSome r ↔ IsJob (job_at (get_or tasks p blank_task) j)) k_is allowed))
 
 -- the same of equal parts
 pub same_end : (m w : Merge) (ts : List PeriodicTask) (done : List JobFacts) (P : Type 0) → w ≡ m → ts ≡ w.tasks

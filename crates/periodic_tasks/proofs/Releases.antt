@@ -7,18 +7,14 @@ use Rattle.std.proofs.Math.Nat.{zero-mod}
 use Rattle.std.proofs.lemmas.Nat.{div-add-mod', mod-mul-add}
 use Rattle.std.proofs.lemmas.Bool.{leb-true, le-leb, lt-leb, ltb-true, ltb-false, eqb-true, eq-eqb}
 use Rattle.std.proofs.lemmas.Bool.{ne_eqb, and_parts}
-use Rattle.dover_model.specs.declared.events.Entry.{Entry}
+use Rattle.place_heap.specs.Items.{ItemFacts}
 use Rattle.periodic_tasks.specs.Tasks.{releases}
-use Rattle.periodic_tasks.specs.Merging.{IsNext, kept_release}
+use Rattle.periodic_tasks.specs.Merging.{IsNext, kept_release, release_item}
 use Rattle.periodic_tasks.specs.declared.task.PeriodicTask.{PeriodicTask}
 
--- the release of the task of this number
-abbrev entry : (number release : ℕ) → Entry
-entry number release = record { number = number; deadline = release; latest = 0; left = 0; value = 0 }
-
 -- whether one is kept
-abbrev kept_by : Bool → (number release : ℕ) → Option Entry
-kept_by b number release = cond b (Some (entry number release)) None
+abbrev kept_by : Bool → (number release : ℕ) → Option ItemFacts
+kept_by b number release = cond b (Some (release_item number release)) None
 
 -- ---- the first release
 
@@ -39,7 +35,7 @@ pub first_kept : (until number : ℕ) (task : PeriodicTask)
 first_kept until number task = by (nat_lt task.offset until) refl where
   by : (b : Bool) → nat_lt task.offset until ≡ b → IsNext until number task 0 (kept_by b number task.offset)
   by true early = record {
-    number_is = refl;
+    item_is = refl;
     early = omega arith;
     late = ltb-true _ _ early;
     released = begins task;
@@ -92,7 +88,7 @@ module _ (task : PeriodicTask) (at : ℕ) (period : 1 ≤ task.period) (is : rel
     by true early =
         let low : release < until = ltb-true _ _ early in
         let same : release ≡ at + task.period = omega (arith, low, fits, is_min) in record {
-          number_is = refl;
+          item_is = refl;
           early = omega (arith, same, period);
           late = low;
           released = ap (releases task) same ∙ again;

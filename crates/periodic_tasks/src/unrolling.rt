@@ -1,16 +1,16 @@
 //! The jobs of tasks, one by one in order of release.
-ghost use Rattle.std.specs.Prelude.{◌≡◌, ◌≤◌, ◌<◌, ◌+◌, ◌∷◌, ◌++◌, List, [], None, length, slice_index_or, slice_set};
+ghost use Rattle.std.specs.Prelude.{◌≡◌, ◌≤◌, ◌<◌, ◌^◌, ◌∷◌, ◌++◌, List, [], None, length, slice_index_or, slice_set};
 ghost use Rattle.std.specs.Prelude.{IfOk, IfSome, IsNone};
 ghost use Rattle.std.specs.List.{AllByRecursion};
 ghost use Rattle.dover_model.specs.JobFacts.{JobFacts};
-ghost use Rattle.dover_model.specs.Limits.{most_jobs};
+ghost use Rattle.dover_model.specs.Limits.{last_tick, most_jobs};
 ghost use Rattle.periodic_tasks.specs.Limits.{IsTask};
 ghost use Rattle.periodic_tasks.specs.Merging.{StandsBehind, kept_release, merge};
 ghost use Rattle.periodic_tasks.specs.Tasks.{jobs_before};
 
 use crate::task::PeriodicTask;
-use dover_model::{Entry, Job, Memory, Version};
-use rank_heap::{ByDeadline, Heap};
+use dover_model::{Job, Memory};
+use place_heap::{Heap, Item};
 use std::alloc::Global;
 use std::marker::Model;
 use std::sync::ledger::Ledger;
@@ -22,7 +22,7 @@ use step_count::Steps;
 pub struct Unrolling {
     tasks: Vec<PeriodicTask>,
     until: u64,
-    next: Heap<ByDeadline>,
+    next: Heap,
 }
 
 impl Model for Unrolling {
@@ -35,28 +35,20 @@ impl Model for Unrolling {
 
 // Keeps a release of the task of this number, if it is before a tick.
 fn keep_release<L: Ledger>(
-    next: &mut Heap<ByDeadline>,
+    next: &mut Heap,
     number: u32,
     release: u64,
     until: u64,
     steps: &mut Steps<L>,
 )
-    requires room { 1 ≤ next.old.spare }
-    requires number { number < length next.old.table }
-    requires none { slice_index_or next.old.table number None ≡ None }
-    ensures table { next.new.table ≡ slice_set next.old.table number (kept_release until number release) }
-    ensures order { next.new.order ≡ next.old.order }
-    ensures room { next.old.spare ≤ next.new.spare + 1 }
+    requires known { until ≤ last_tick }
+    requires number { number < 2 ^ 20 }
+    requires ready { number < length next.old }
+    requires none { slice_index_or next.old number None ≡ None }
+    ensures { next.new ≡ slice_set next.old number (kept_release until number release) }
 {
     if release < until {
-        let entry = Entry {
-            number,
-            deadline: release,
-            latest: 0,
-            left: 0,
-            value: 0,
-        };
-        next.insert(entry, steps);
+        next.insert(Item::new(release, 0, number, number), steps);
     }
 }
 
@@ -66,15 +58,13 @@ fn first_releases<L: Ledger>(
     tasks: &[PeriodicTask],
     until: u64,
     steps: &mut Steps<L>,
-) -> Result<Heap<ByDeadline>, Memory>
-    requires { length tasks.now ≤ most_jobs }
+) -> Result<Heap, Memory>
+    requires few { length tasks.now ≤ most_jobs }
+    requires known { until ≤ last_tick }
     ensures { IfOk result (λ next. StandsBehind (merge tasks.now until next) []) }
 {
-    let version = Version::One;
-    let count = tasks.len() as u32;
-    let mut next = Heap::new(alloc, ByDeadline { version })?;
-    next.reserve(count)?;
-    next.reserve_numbers(count)?;
+    let mut next = Heap::new(alloc);
+    next.reserve(tasks.len() as u32)?;
     let mut number = 0u32;
     for task in tasks {
         keep_release(&mut next, number, task.offset, until, steps);
@@ -85,7 +75,7 @@ fn first_releases<L: Ledger>(
 
 // Takes the first of the next releases, keeps the one that follows it, and answers its job.
 fn take_job<L: Ledger>(
-    next: &mut Heap<ByDeadline>,
+    next: &mut Heap,
     tasks: &[PeriodicTask],
     until: u64,
     steps: &mut Steps<L>,
@@ -97,25 +87,28 @@ fn take_job<L: Ledger>(
     ensures end { (done : List JobFacts) → StandsBehind (merge tasks.now until next.old) done → IsNone result →
         jobs_before until tasks.now ≡ done }
 {
-    let Some(first) = next.pop(steps) else {
+    let Some(first) = next.first() else {
         return None;
     };
-    let task = tasks[first.number as usize];
-    let again = first.deadline.saturating_add(task.period);
-    keep_release(next, first.number, again, until, steps);
-    Job::new(
-        first.deadline,
-        task.work,
-        first.deadline + task.deadline,
-        task.value,
-    )
+    let number = first.place();
+    let release = first.key();
+    let task = tasks[number as usize];
+    next.remove(number, steps);
+    keep_release(
+        next,
+        number,
+        release.saturating_add(task.period),
+        until,
+        steps,
+    );
+    Job::new(release, task.work, release + task.deadline, task.value)
 }
 
 impl Unrolling {
     ghost use Rattle.std.specs.Prelude.{◌≡◌, ◌≤◌, ◌∷◌, ◌++◌, List, [], length, IfOk, IfSome, IsNone};
     ghost use Rattle.std.specs.List.{AllByRecursion};
     ghost use Rattle.dover_model.specs.JobFacts.{JobFacts};
-    ghost use Rattle.dover_model.specs.Limits.{most_jobs};
+    ghost use Rattle.dover_model.specs.Limits.{last_tick, most_jobs};
     ghost use Rattle.periodic_tasks.specs.Limits.{IsTask};
     ghost use Rattle.periodic_tasks.specs.Merging.{StandsBehind};
     ghost use Rattle.periodic_tasks.specs.Tasks.{jobs_before};
@@ -128,6 +121,7 @@ impl Unrolling {
         steps: &mut Steps<L>,
     ) -> Result<Unrolling, Memory>
         requires few { length tasks.items ≤ most_jobs }
+        requires known { until ≤ last_tick }
         ensures stands { IfOk result (λ u. StandsBehind u []) }
         ensures tasks { IfOk result (λ u. u.tasks ≡ tasks.items) }
         ensures until { IfOk result (λ u. u.until ≡ until) }

@@ -14,10 +14,10 @@ use Rattle.dialogue.specs.declared.talker.Stop.{Stop}
 use Rattle.dialogue.specs.declared.talker.Stop.TheVariants.{NoMemory, Unwritten}
 use Rattle.event_feed.specs.Kept.{cause_of_fault}
 use Rattle.event_feed.specs.declared.faults.FeedFault.{FeedFault}
-use Rattle.feed_list.specs.Listing.{listed_instance}
-use Rattle.feed_list.specs.Record.{IsEnded, IsRefusedBy}
-use Rattle.feed_list.specs.declared.listed.Listed.{Listed}
-use Rattle.feed_list.proofs.Listing.{goes_on}
+use Rattle.event_feed.specs.Listing.{listed_instance}
+use Rattle.event_feed.specs.Record.{IsEnded, IsRefusedBy}
+use Rattle.event_feed.specs.declared.listed.Listed.{Listed}
+use Rattle.event_feed.proofs.Listing.{goes_on}
 use Rattle.question_words.specs.Talk.{Says, IsRefusal, IsSaid, ask_talk}
 use Rattle.question_words.specs.Texts.{PutsBy, text_of}
 use Rattle.question_words.specs.declared.answer.Answer.{Answer}

@@ -3,11 +3,11 @@ use Rattle.std.proofs.Common.{◌≡◌, ℕ, List, length, sym, ap, ◌∙◌, 
 use Rattle.dover_model.specs.Feed.{account}
 use Rattle.dover_model.specs.Instance.{Instance}
 use Rattle.dover_model.specs.Session.{Session, instance_of}
-use Rattle.queued_jobs.specs.Spending.{CostsAtMost}
+use Rattle.dover_model.specs.Spending.{CostsAtMost}
 use Rattle.event_feed.specs.Answers.{admitted_in}
 use Rattle.event_feed.proofs.Admitting.{admitted_by}
-use Rattle.feed_list.specs.Record.{IsEnded}
-use Rattle.feed_list.specs.declared.listed.Listed.{Listed}
+use Rattle.event_feed.specs.Record.{IsEnded}
+use Rattle.event_feed.specs.declared.listed.Listed.{Listed}
 
 -- as many jobs are admitted as are listed
 pub listed_count : (x : List ℕ) (listed : Listed) → IsEnded listed (account x)

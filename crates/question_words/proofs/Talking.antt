@@ -5,10 +5,10 @@ use Rattle.dover_model.specs.Feed.{Account, account, is_open, is_ended}
 use Rattle.dover_port.specs.declared.status.Status.{Status}
 use Rattle.dialogue.specs.Talk.{IsSteady}
 use Rattle.event_feed.proofs.GoingOn.{closed_account, open_bytes}
-use Rattle.feed_list.specs.Keeping.{StandsFor}
-use Rattle.feed_list.specs.declared.reader.FeedReader.{FeedReader}
-use Rattle.feed_list.proofs.Ending.{going_is, going_read}
-use Rattle.feed_list.proofs.Listing.{open_by_test}
+use Rattle.event_feed.specs.Keeping.{StandsFor}
+use Rattle.event_feed.specs.declared.reader.FeedReader.{FeedReader}
+use Rattle.event_feed.proofs.Ending.{going_is, going_read}
+use Rattle.event_feed.proofs.Listing.{open_by_test}
 use Rattle.question_words.specs.Talk.{Says, IsRefusal, IsSaid, ask_talk}
 
 module _ (says : Says) (x y : List ℕ) (over : is_open (account x) ≡ false) where

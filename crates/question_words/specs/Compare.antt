@@ -13,7 +13,7 @@ use Rattle.dover_port.specs.declared.status.Status.TheVariants.{Done, Refused}
 use Rattle.policy_lab.specs.Picks.{Picks}
 use Rattle.policy_lab.specs.PolicyRun.{policy_run, AreTooLarge}
 use Rattle.policy_lab.specs.Standard.{earliest_deadline, greatest_density}
-use Rattle.queued_jobs.specs.Spending.{CostsAtMost}
+use Rattle.dover_model.specs.Spending.{CostsAtMost}
 use Rattle.question_words.specs.Texts.{size_text}
 
 -- what the schedule of a policy is worth

@@ -1,10 +1,10 @@
 -- What is kept of a feed on whose jobs a question is asked.
 use Rattle.std.specs.Prelude.{◌≡◌, ℕ, List, []}
-use Rattle.queued_jobs.specs.Spending.{CostsAtMost}
+use Rattle.dover_model.specs.Spending.{CostsAtMost}
 use Rattle.dover_model.specs.Feed.{account}
 use Rattle.event_feed.specs.Answers.{admitted_in}
-use Rattle.feed_list.specs.Keeping as feed
-use Rattle.feed_list.specs.declared.reader.FeedReader.{FeedReader}
+use Rattle.event_feed.specs.Keeping as feed
+use Rattle.event_feed.specs.declared.reader.FeedReader.{FeedReader}
 use Rattle.question_words.specs.declared.question.Question.{Question}
 
 -- what a call is about: the question, and how many comparisons were counted before it

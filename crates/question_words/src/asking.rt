@@ -1,9 +1,9 @@
 //! What the reading loop calls: a reader of the feed, which is asked a question on its jobs at the end.
 ghost use Rattle.std.specs.Prelude.{IfOk, length};
 ghost use Rattle.dialogue.specs.Talk.{IsFinal};
-ghost use Rattle.queued_jobs.specs.Spending.{CostsAtMost};
+ghost use Rattle.dover_model.specs.Spending.{CostsAtMost};
 ghost use Rattle.dover_model.specs.Instance.{IsValid};
-ghost use Rattle.feed_list.specs.Listing.{listed_instance};
+ghost use Rattle.event_feed.specs.Listing.{listed_instance};
 ghost use Rattle.question_words.specs.Questions.{says};
 ghost use Rattle.question_words.specs.Talk.{ask_talk};
 ghost use Rattle.question_words.specs.Keeping.{Asked, Stands, IsAt, Costs};
@@ -14,7 +14,7 @@ use crate::{Question, best, compare, feasible, loss};
 use dialogue::{Stop, Talker};
 use dover_model::Memory;
 use dover_port::{Output, Port, Status};
-use feed_list::{FeedReader, Listed};
+use event_feed::{FeedReader, Listed};
 use line_output::fault_text;
 use line_text::BackLine;
 use std::alloc::Global;

@@ -2,8 +2,8 @@
 ghost use Rattle.std.specs.Prelude.{IfOk, length};
 ghost use Rattle.dover_model.specs.Instance.{IsValid};
 ghost use Rattle.dialogue.specs.Talk.{IsFinal};
-ghost use Rattle.feed_list.specs.Listing.{listed_instance};
-ghost use Rattle.queued_jobs.specs.Spending.{CostsAtMost};
+ghost use Rattle.event_feed.specs.Listing.{listed_instance};
+ghost use Rattle.dover_model.specs.Spending.{CostsAtMost};
 ghost use Rattle.question_words.specs.Best.{SaysBest};
 ghost use Rattle.question_words.specs.Texts.{text_of};
 
@@ -12,7 +12,7 @@ use crate::completing::completed;
 use best_set::{BestFault, best};
 use dover_model::Memory;
 use dover_port::Status;
-use feed_list::Listed;
+use event_feed::Listed;
 use line_output::write_numbers;
 use line_text::BackLine;
 use root_compare::bound;

@@ -2,14 +2,13 @@
 ghost use Rattle.std.specs.Prelude.{◌≡◌, ◌<◌, ℕ, IfOk, length, get_or, set, false, true};
 ghost use Rattle.dover_model.specs.Instance.{IsValid};
 ghost use Rattle.dover_model.specs.Run.{completed_value};
-ghost use Rattle.feed_list.specs.Listing.{listed_instance};
-ghost use Rattle.queued_jobs.specs.Spending.{CostsAtMost};
+ghost use Rattle.event_feed.specs.Listing.{listed_instance};
+ghost use Rattle.dover_model.specs.Spending.{CostsAtMost};
 ghost use Rattle.question_words.specs.Loss.{is_completed};
 
 use dover_model::{Event, Job, Memory};
-use feed_list::Listed;
-use list_run::{Watcher, run_list};
-use ready_server::ReadyServer;
+use event_feed::Listed;
+use ready_server::{Watcher, run_list};
 use std::alloc::Global;
 use std::sync::ledger::Ledger;
 use step_count::Steps;
@@ -49,7 +48,7 @@ pub(crate) fn completed<L: Ledger>(
 {
     let mut jobs = listed.jobs.as_slice();
     let mut end = EndValue { value: 0 };
-    run_list::<ReadyServer, &[Job], EndValue, L>(
+    run_list::<&[Job], EndValue, L>(
         alloc,
         listed.version,
         listed.ratio,
@@ -123,7 +122,7 @@ pub(crate) fn completed_jobs<L: Ledger>(
         value: 0,
         done: flags(alloc, MOST_JOBS)?,
     };
-    run_list::<ReadyServer, &[Job], Completion, L>(
+    run_list::<&[Job], Completion, L>(
         alloc,
         listed.version,
         listed.ratio,

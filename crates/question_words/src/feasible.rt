@@ -2,15 +2,15 @@
 ghost use Rattle.std.specs.Prelude.{IfOk};
 ghost use Rattle.dover_model.specs.Instance.{IsValid};
 ghost use Rattle.dialogue.specs.Talk.{IsFinal};
-ghost use Rattle.feed_list.specs.Listing.{listed_instance};
+ghost use Rattle.event_feed.specs.Listing.{listed_instance};
 ghost use Rattle.question_words.specs.Feasible.{SaysFeasible};
 ghost use Rattle.question_words.specs.Texts.{text_of};
 
 use crate::answer::{Answer, Rows};
 use dover_model::Memory;
 use dover_port::Status;
+use event_feed::Listed;
 use feasibility::{Feasible, judge_feasible};
-use feed_list::Listed;
 use line_output::write_numbers;
 use line_text::BackLine;
 use std::alloc::Global;

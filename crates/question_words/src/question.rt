@@ -10,7 +10,7 @@ ghost use Rattle.question_words.specs.Talk.{ask_talk};
 use crate::asking::Asking;
 use dialogue::converse;
 use dover_port::{Port, Status};
-use feed_list::FeedReader;
+use event_feed::FeedReader;
 use std::alloc::Global;
 use std::marker::PhantomData;
 use std::sync::ledger::Ledger;

@@ -16,46 +16,9 @@ use Rattle.dover_model.specs.WaitingMoves.{waits_then, enters, leaves}
 use Rattle.dover_model.specs.Sound.{IsMember, Each, IsNumberedFrom}
 use Rattle.dover_model.proofs.Members.{sum_le, sum_plus, sum_map, term_le_sum}
 use Rattle.dover_model.proofs.Roles.{passes, one_number}
-use Rattle.queued_jobs.specs.Roles.{with_role_at, all_displaced}
-
--- one where it is true
-abbrev one_when : Bool → ℕ
-one_when b = cond b 1 0
-
--- a member that passes counts
-counts_one : (p : Task → Bool) (tasks : List Task) (t : Task) → IsMember t tasks → p t ≡ true → 1 ≤ count_by p tasks
-counts_one p tasks t member pass =
-    subst (λ n. n ≤ count_by p tasks) (ap one_when pass) (term_le_sum (λ u. one_when (p u)) tasks t member)
-
-module _ (s : State) (t : Task) (member : IsMember t s.tasks) where
-  -- a waiting job that doesn't wait after the move ceases to
-  leaves_one : (m : Move) → t.role ≡ Waiting → waits_then m t ≡ false → 1 ≤ leaves s m
-  leaves_one m role out = counts_one (λ u. is_waiting u && not (waits_then m u)) s.tasks t member
-      (ap (λ b. b && not (waits_then m t)) (passes is_waiting t Waiting true role refl) ∙ ap not out)
-
-  -- a job that runs ceases to wait
-  pub run_leaves : (at n : ℕ) → t.role ≡ Waiting → t.number ≡ n → 1 ≤ leaves s (Prints (Run at n))
-  run_leaves at n role same =
-      leaves_one (Prints (Run at n)) role
-      (ap (λ b. is_waiting (with_role t (cond b Running t.role))) (eq-eqb t.number n same))
-
-  -- so does one that is abandoned
-  pub abandon_leaves : (at n : ℕ) → t.role ≡ Waiting → t.number ≡ n → 1 ≤ leaves s (Prints (Abandon at n))
-  abandon_leaves at n role same =
-      leaves_one (Prints (Abandon at n)) role
-      (ap (λ b. is_waiting (with_role t (cond b Gone t.role))) (eq-eqb t.number n same))
-
-  -- so does one that takes the processor
-  pub take_leaves : (at stops starts : ℕ) → t.role ≡ Waiting → t.number ≡ starts
-      → 1 ≤ leaves s (Prints (Take at stops starts))
-  take_leaves at stops starts role same = leaves_one (Prints (Take at stops starts)) role
-      (ap (λ b. is_waiting (with_role t (cond b Running (displaced t.role)))) (eq-eqb t.number starts same))
-
-  -- a fresh job begins to wait
-  pub wait_enters : (n : ℕ) → t.role ≡ Fresh → t.number ≡ n → 1 ≤ enters s (Waits n)
-  wait_enters n role same = counts_one (λ u. waits_then (Waits n) u && not (is_waiting u)) s.tasks t member
-      (ap (λ b. is_waiting (with_role t (cond b Waiting t.role)) && not (is_waiting t)) (eq-eqb t.number n same)
-      ∙ ap not (passes is_waiting t Fresh false role refl))
+use Rattle.room_ledger.specs.Roles.{with_role_at, all_displaced}
+use Rattle.dover_model.specs.Weights.{one_if as one_when}
+use Rattle.dover_model.proofs.Spending.{counts_one}
 
 -- a held or running job that is displaced begins to wait
 displaced_enters : (t : Task) (role : Role)
@@ -120,11 +83,6 @@ same_length xs ys same = sym (length-map xs (λ t. with_role t (displaced t.role
     ∙ length-map ys (λ t. with_role t (displaced t.role))
 
 -- ---- sums
-
--- one ceases to wait at least
-pub one_leaves : (d enters leaves before after : ℕ) → after ≤ before + 6 * d → 1 ≤ leaves
-    → after ≤ before + (2 * d * enters + 6 * d * leaves)
-one_leaves d enters leaves before after cost some = omega (arith, mul-le-mul_left (6 * d) some)
 
 -- one begins to wait at least
 pub one_enters : (d enters leaves before after : ℕ) → after ≤ before + 2 * d → 1 ≤ enters

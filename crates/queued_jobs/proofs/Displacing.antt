@@ -14,31 +14,10 @@ use Rattle.dover_model.specs.Sound.{IsMember, Each, IsNumberedFrom}
 use Rattle.dover_model.proofs.Members.{some_same, map_map, map_same, on_map, member_filter, filter_member, not_found}
 use Rattle.dover_model.proofs.Roles.{one_number, passes, is_held_role}
 use Rattle.dover_model.proofs.Tests.{none_is_some, never}
-use Rattle.queued_jobs.specs.Roles.{with_role_at, all_displaced}
+use Rattle.room_ledger.specs.Roles.{with_role_at, all_displaced}
 use Rattle.queued_jobs.specs.Queued.{Queued, in_state}
-use Rattle.queued_jobs.proofs.Firsts.{first_member}
+use Rattle.dover_model.proofs.FirstOfTasks.{first_member}
 use Rattle.queued_jobs.proofs.Inverting.{none_of}
-
--- a job that waits already is displaced as before
-pub displaced_same : (tasks : List Task) (p : Task) → IsNumberedFrom 0 tasks → IsMember p tasks
-    → displaced p.role ≡ Waiting
-    → all_displaced (with_role_at p.number Waiting tasks) ≡ all_displaced tasks
-displaced_same tasks p all member waits =
-    map_map (λ t. with_role t (displaced t.role)) (λ t. with_role t (cond (t.number == p.number) Waiting t.role)) tasks
-    ∙ map_same (λ t. with_role t (displaced (cond (t.number == p.number) Waiting t.role)))
-    (λ t. with_role t (displaced t.role)) tasks each where
-      equal : (a b : ℕ) → (a == b) ≡ true → a ≡ b
-      equal a b e = grind arith
-
-      each : (t : Task) → IsMember t tasks
-          → with_role t (displaced (cond (t.number == p.number) Waiting t.role)) ≡ with_role t (displaced t.role)
-      each t m = by_test (t.number == p.number) refl where
-        by_test : (b : Bool) → (t.number == p.number) ≡ b
-            → with_role t (displaced (cond b Waiting t.role)) ≡ with_role t (displaced t.role)
-        by_test true e =
-            let same : t ≡ p = one_number 0 tasks all t p m member (equal t.number p.number e) in
-            ap (with_role t) (sym (ap (λ (x : Task). displaced x.role) same ∙ waits))
-        by_test false e = refl
 
 -- other jobs stay
 stays_displaced : (t : Task) → (t.role ≡ Held → ⊥) → (t.role ≡ Running → ⊥) → with_role t (displaced t.role) ≡ t

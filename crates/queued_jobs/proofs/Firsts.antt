@@ -11,32 +11,7 @@ use Rattle.dover_model.specs.Orders.{earlier, first}
 use Rattle.dover_model.specs.Sound.{IsMember, Each, EachTwo}
 use Rattle.dover_model.proofs.Members.{some_same, each_cons}
 use Rattle.dover_model.proofs.Tests.{none_is_some}
-
--- the better of two is one of them
-earlier_pick : {X : Type 0} (before : X → X → Bool) (acc x : X) (b : Bool) → before x acc ≡ b
-    → earlier before acc x ≡ earlier (λ _ _. b) acc x
-earlier_pick before acc x b h = ap (λ c. earlier (λ _ _. c) acc x) h
-
--- what a fold keeps is one of the elements
-fold_member : {X : Type 0} (before : X → X → Bool) (acc : X) (xs : List X)
-    → IsMember (fold (earlier before) acc xs) (acc ∷ xs)
-fold_member before acc [] = inl refl
-fold_member before acc (x ∷ xs) =
-    by_test (before x acc) refl (fold_member before x xs) (fold_member before acc xs) where
-      by_test : (b : Bool) → before x acc ≡ b → IsMember (fold (earlier before) x xs) (x ∷ xs)
-          → IsMember (fold (earlier before) acc xs) (acc ∷ xs)
-          → IsMember (fold (earlier before) (earlier before acc x) xs) (acc ∷ x ∷ xs)
-      by_test true h at_x at_acc =
-          subst (λ y. IsMember (fold (earlier before) y xs) (acc ∷ x ∷ xs)) (sym (earlier_pick before acc x true h))
-          (inr at_x)
-      by_test false h at_x at_acc =
-          subst (λ y. IsMember (fold (earlier before) y xs) (acc ∷ x ∷ xs)) (sym (earlier_pick before acc x false h))
-          (elim at_acc [ inl e ↦ inl e | inr m ↦ inr (inr m) ])
-
--- the first is one of the elements
-pub first_member : {X : Type 0} (before : X → X → Bool) (xs : List X) (y : X) → first before xs ≡ Some y → IsMember y xs
-first_member before [] y is = none_is_some is
-first_member before (x ∷ xs) y is = subst (λ z. IsMember z (x ∷ xs)) (some_same _ _ is) (fold_member before x xs)
+use Rattle.dover_model.proofs.FirstOfTasks.{earlier_pick, fold_member}
 
 module _ (before : Entry → Entry → Bool) (strict : IsStrictOrder before) where
   -- none comes before itself
@@ -105,10 +80,4 @@ module _ (before : Entry → Entry → Bool) (strict : IsStrictOrder before) whe
 pub key_most : (key : Entry → ℕ) (v : Version) (a b : Entry) → comes_first_by key v a b ≡ true → key a ≤ key b
 key_most key v a b h = by_numbers (key a) (key b) (wins_tie v a b) h where
   by_numbers : (k l : ℕ) (t : Bool) → (nat_lt k l || ((k == l) && t)) ≡ true → k ≤ l
-  by_numbers k l t h = grind arith
-
--- what has a lesser key comes before
-pub key_less : (key : Entry → ℕ) (v : Version) (a b : Entry) → key a < key b → comes_first_by key v a b ≡ true
-key_less key v a b h = by_numbers (key a) (key b) (wins_tie v a b) h where
-  by_numbers : (k l : ℕ) (t : Bool) → k < l → (nat_lt k l || ((k == l) && t)) ≡ true
   by_numbers k l t h = grind arith

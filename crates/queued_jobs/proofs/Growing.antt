@@ -1,7 +1,6 @@
 -- One job more, and more room.
-use Rattle.std.proofs.Common.{◌≡◌, ℕ, zero, suc, ◌+◌, ◌-◌, ◌≤◌, List, [], ◌∷◌, ◌++◌, length, map, replicate}
-use Rattle.std.proofs.Common.{refl, sym, ap, ◌∙◌}
-use Rattle.std.proofs.Common.{Bool, true, false, arith, cond}
+use Rattle.std.proofs.Common.{◌≡◌, ℕ, zero, suc, ◌+◌, ◌-◌, ◌≤◌, List, [], ◌∷◌, ◌++◌, length, map, replicate, refl, sym}
+use Rattle.std.proofs.Common.{ap, ◌∙◌, Bool, true, false, arith, cond}
 use Rattle.std.specs.Prelude.{Option, Some, None, nat_le}
 use Rattle.std.specs.List.{filter}
 use Rattle.std.proofs.lemmas.List.{append_assoc, replicate-append-replicate, map-append, length_push, length-append}
@@ -15,7 +14,8 @@ use Rattle.dover_model.specs.Sound.{IsNumberedFrom}
 use Rattle.dover_model.proofs.Tests.{never}
 use Rattle.dover_model.proofs.Roles.{passes}
 use Rattle.dover_model.proofs.Members.{each_behind}
-use Rattle.queued_jobs.specs.Queued.{Agrees, turn_of, waiting_entry, by_deadline}
+use Rattle.queued_jobs.specs.Queued.{Agrees, turn_of, waiting_entry}
+use Rattle.held_queue.specs.Stack.{by_deadline}
 
 -- a job that fails a test adds nothing
 pub filter_push : (p : Task → Bool) (ts : List Task) (t : Task) → p t ≡ false → filter p (ts ++ t ∷ []) ≡ filter p ts

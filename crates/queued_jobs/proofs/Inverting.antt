@@ -1,14 +1,13 @@
 -- What a step says of the jobs that it names.
 use Rattle.std.proofs.Common.{◌≡◌, ℕ, ◌+◌, ◌-◌, ◌≤◌, ◌⊎◌, inl, inr, List, map, refl, sym, ap, ◌∙◌, subst, Bool, true}
-use Rattle.std.proofs.Common.{false, arith, zero, suc, cond}
-use Rattle.std.proofs.Common.{[], ◌∷◌}
+use Rattle.std.proofs.Common.{false, arith, zero, suc, cond, [], ◌∷◌}
 use Rattle.std.specs.Prelude.{Option, Some, None, ◌==◌}
 use Rattle.std.proofs.lemmas.Bool.{false≢true}
+use Rattle.std.specs.List.{filter, find, slice_get, sum_by}
 use Rattle.dover_model.specs.declared.events.Role.{Role}
 use Rattle.dover_model.specs.JobFacts.{JobFacts}
 use Rattle.queued_jobs.specs.Queued.{Queued, IsNext, instance_of}
-use Rattle.queued_jobs.specs.Roles.{with_role_at}
-use Rattle.std.specs.List.{filter, find, slice_get, sum_by}
+use Rattle.room_ledger.specs.Roles.{with_role_at}
 use Rattle.dover_model.specs.declared.events.Version.{Version}
 use Rattle.dover_model.specs.declared.events.Role.TheVariants.{Coming, Fresh, Waiting, Held, Running}
 use Rattle.dover_model.specs.declared.events.Event.TheVariants.{Release, Run, Preempt, Take, Complete, Abandon, End}
@@ -32,16 +31,10 @@ use Rattle.dover_model.proofs.Tests.{none_is_some, never}
 use Rattle.dover_model.proofs.Deeds.{Deed, Completed, Resumed, Started, Began, Preempted, Stayed, Arrived, Taken}
 use Rattle.dover_model.proofs.Deeds.{Abandoned, Rested}
 use Rattle.queued_jobs.proofs.Firsts.{first_only, key_most, not_itself}
-use Rattle.queued_jobs.proofs.Lookup.{at_number, found_first, own_entries, of_entry}
+use Rattle.room_ledger.proofs.Changing.{at_number, of_entry, task_at}
+use Rattle.queued_jobs.proofs.Lookup.{found_first, own_entries}
 
 -- ---- what is found
-
--- a job stands at its number
-pub task_at : (tasks : List Task) (t : Task) → IsNumberedFrom 0 tasks → IsMember t tasks
-    → slice_get tasks t.number ≡ Some t
-task_at tasks t all member = ap (slice_get tasks) (off t.number) ∙ at_number 0 tasks t all member where
-  off : (m : ℕ) → m ≡ m - 0
-  off m = omega arith
 
 -- none of a role is found where none has it
 pub none_of : (p : Task → Bool) (tasks : List Task) → Each (λ t. p t ≡ true → ⊥) tasks → find p tasks ≡ None

@@ -1,11 +1,9 @@
 pub mod Firsts
 pub mod Lookup
-pub mod Deadlines
 pub mod Looking
 pub mod Growing
 pub mod Replacing
 pub mod Stepping
-pub mod Changing
 pub mod Steps
 pub mod Inverting
 pub mod Displacing
@@ -13,4 +11,3 @@ pub mod Ticking
 pub mod Silent
 pub mod Over
 pub mod Costs
-pub mod Spending

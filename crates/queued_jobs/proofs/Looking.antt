@@ -1,7 +1,6 @@
 -- What the heads of the queues say of the jobs.
 use Rattle.std.proofs.Common.{◌≡◌, ◌≢◌, ℕ, ◌+◌, ◌≤◌, ◌<◌, ◌⊎◌, inl, inr, List, [], ◌∷◌, ◌++◌, map, replicate, refl, sym}
-use Rattle.std.proofs.Common.{ap, ◌∙◌, subst, Bool, true}
-use Rattle.std.proofs.Common.{false, arith, cond, add-zero}
+use Rattle.std.proofs.Common.{ap, ◌∙◌, subst, Bool, true, false, arith, cond, add-zero}
 use Rattle.std.specs.Prelude.{Option, Some, None, option_map, unwrap_or, ◌||◌, ◌==◌, nat_lt}
 use Rattle.std.specs.Option.{option_to_list}
 use Rattle.std.specs.List.{filter, find, slice_get, sum_by}
@@ -19,20 +18,22 @@ use Rattle.dover_model.specs.Entries.{IsStrictOrder, entry_of, room_of, is_due_b
 use Rattle.dover_model.specs.Orders.{due_first, starts_before, first}
 use Rattle.dover_model.specs.Step.{is_at_latest_start}
 use Rattle.dover_model.specs.Sound.{IsMember, Each, IsNumberedFrom, IsSound, jobs_of}
-use Rattle.dover_model.proofs.EntryOrders.{strict_by}
+use Rattle.dover_model.proofs.EntryOrders.{strict_by, key_less}
 use Rattle.dover_model.proofs.Members.{some_same, member_filter, filter_member, all_member, map_member, map_map, sum_le}
-use Rattle.dover_model.proofs.Members.{sum_filter, sum_same}
-use Rattle.dover_model.proofs.Members.{sum_plus, sum_map, filter_none}
+use Rattle.dover_model.proofs.Members.{sum_filter, sum_same, sum_plus, sum_map, filter_none, find_head, find_none}
 use Rattle.dover_model.proofs.Roles.{is_running_role, is_held_role, is_waiting_role}
 use Rattle.dover_model.proofs.Tests.{none_is_some}
 use Rattle.dover_model.proofs.Moves.{says}
 use Rattle.rank_heap.specs.Table.{members_of}
 use Rattle.rank_heap.proofs.Tables.{grown_members}
-use Rattle.held_queue.specs.Stack.{top_of, value_of, IsByDeadline, room_at}
-use Rattle.queued_jobs.specs.Queued.{turn_of, waiting_entry, put_in, by_deadline, held_entries}
-use Rattle.queued_jobs.proofs.Firsts.{first_best, first_only, first_member, not_itself, key_most, key_less}
-use Rattle.queued_jobs.proofs.Lookup.{found_first, found_first_none, find_head, find_none, own_entries, of_entry}
-use Rattle.queued_jobs.proofs.Deadlines.{sorted_member, member_sorted, sum_sorted, room_sorted, room_map}
+use Rattle.held_queue.specs.Stack.{top_of, value_of, IsByDeadline, room_at, put_in, by_deadline, held_entries}
+use Rattle.queued_jobs.specs.Queued.{turn_of, waiting_entry}
+use Rattle.queued_jobs.proofs.Firsts.{first_best, first_only, not_itself, key_most}
+use Rattle.dover_model.proofs.FirstOfTasks.{first_member}
+use Rattle.queued_jobs.proofs.Lookup.{found_first, found_first_none, own_entries}
+use Rattle.room_ledger.proofs.Changing.{of_entry}
+use Rattle.held_queue.proofs.Deadlines.{sorted_member, member_sorted, sum_sorted, room_sorted, room_map}
+use Rattle.room_ledger.proofs.Held.{apart, held_value}
 
 -- those that pass are jobs
 passing : (p : Task → Bool) (tasks : List Task) → Each (λ t. IsMember t tasks) (filter p tasks)
@@ -227,10 +228,6 @@ only_running tasks o r one found = by_list (filter is_running tasks) refl one wh
     no_two None e = cc
     no_two (Some j) e = cc
 
--- the running and the held jobs are apart
-apart : (t : Task) → is_running t ≡ true → is_held t ≡ true → ⊥
-apart t runs held = let e : Running ≡ Held = sym (is_running_role t runs) ∙ is_held_role t held in cc
-
 -- a sum over both
 both_sum : (f : Task → ℕ) (tasks : List Task)
     → sum_by f (filter is_privileged tasks) ≡ sum_by f (filter is_running tasks) + sum_by f (filter is_held tasks)
@@ -248,13 +245,6 @@ both_sum f tasks =
       by_test t false true runs held = omega arith
       by_test t false false runs held = omega arith
 
--- the value of the held jobs
-pub held_value : (tasks : List Task) (held : List Entry) → held ≡ held_entries tasks
-    → value_of held ≡ value_sum (filter is_held tasks)
-held_value tasks held is =
-    ap value_of is ∙ sum_sorted (λ e. e.value) (map entry_of (filter is_held tasks))
-    ∙ sum_map entry_of (λ e. e.value) (filter is_held tasks)
-
 -- and that of the running job with it
 pub busy_value : (tasks : List Task) (held : List Entry) (r : Task) → held ≡ held_entries tasks
     → filter is_running tasks ≡ r ∷ []
@@ -265,87 +255,12 @@ busy_value tasks held r is runs =
     ap (λ ts. sum_by (λ t. t.job.value) ts) runs ∙ sum_by-cons (λ t. t.job.value) r [] ∙ add-zero r.job.value in
     omega (arith, both, one, held_value tasks held is)
 
--- where none runs, the running and the held jobs are the held ones
-pub free_privileged : (tasks : List Task) → filter is_running tasks ≡ []
-    → filter is_privileged tasks ≡ filter is_held tasks
-free_privileged [] none = refl
-free_privileged (x ∷ tasks) none = by_test (is_running x) (is_held x) none (free_privileged tasks) where
-  by_test : (b c : Bool) → cond b (x ∷ filter is_running tasks) (filter is_running tasks) ≡ []
-      → (filter is_running tasks ≡ [] → filter is_privileged tasks ≡ filter is_held tasks)
-      → cond (b || c) (x ∷ filter is_privileged tasks) (filter is_privileged tasks) ≡ cond c (x ∷ filter is_held tasks)
-      (filter is_held tasks)
-  by_test true c none rest = absurd (cons_none none) where
-    cons_none : x ∷ filter is_running tasks ≡ [] → ⊥
-    cons_none e = cc
-  by_test false true none rest = ap (λ ts. x ∷ ts) (rest none)
-  by_test false false none rest = rest none
-
--- an entry that is due before all goes to the front
-pub put_first : (e : Entry) (xs : List Entry) → Each (λ f. e.deadline < f.deadline) xs → put_in e xs ≡ e ∷ xs
-put_first e [] less = refl
-put_first e (x ∷ xs) less = by_test (nat_lt x.deadline e.deadline) refl where
-  not_less : (m n : ℕ) → n < m → nat_lt m n ≡ true → ⊥
-  not_less m n h at = grind arith
-
-  by_test : (b : Bool) → nat_lt x.deadline e.deadline ≡ b → cond b (x ∷ put_in e xs) (e ∷ x ∷ xs) ≡ e ∷ x ∷ xs
-  by_test true h = absurd (not_less x.deadline e.deadline (less x (inl refl)) h)
-  by_test false h = refl
-
--- what is due before the held jobs is due before their entries
-pub entries_later : (d : ℕ) (tasks : List Task) → Each (λ t. is_held t ≡ true → d < t.job.deadline) tasks
-    → Each (λ e. d < e.deadline) (held_entries tasks)
-entries_later d tasks later y m =
-    let it = of_entry (filter is_held tasks) y (member_sorted (map entry_of (filter is_held tasks)) y m) in
-    let held = member_filter is_held tasks it.0 it.1 in
-    subst (λ (x : Entry). d < x.deadline) (sym it.2) (later it.0 held.0 held.1)
-
--- the entries of the running and the held jobs
-both_entries : (tasks : List Task) (r : Task) → filter is_running tasks ≡ r ∷ []
-    → Each (λ t. is_held t ≡ true → r.job.deadline < t.job.deadline) tasks
-    → by_deadline (map entry_of (filter is_privileged tasks)) ≡ entry_of r ∷ held_entries tasks
-both_entries [] r runs later = absurd (none_cons runs) where
-  none_cons : [] ≡ r ∷ [] → ⊥
-  none_cons e = cc
-both_entries (x ∷ tasks) r runs later = by_test (is_running x) (is_held x) refl refl runs
-    (λ one. both_entries tasks r one (λ t m. later t (inr m))) where
-      by_test : (b c : Bool) → is_running x ≡ b → is_held x ≡ c
-          → cond b (x ∷ filter is_running tasks) (filter is_running tasks) ≡ r ∷ []
-          → (filter is_running tasks ≡ r ∷ []
-          → by_deadline (map entry_of (filter is_privileged tasks)) ≡ entry_of r ∷ held_entries tasks)
-          → by_deadline (map entry_of (cond (b || c) (x ∷ filter is_privileged tasks) (filter is_privileged tasks)))
-          ≡ entry_of r ∷ by_deadline (map entry_of (cond c (x ∷ filter is_held tasks) (filter is_held tasks)))
-      by_test true true is held one rest = absurd (apart x is held)
-      by_test true false is held one rest =
-          let same : x ≡ r = cc in
-          let none : filter is_running tasks ≡ [] = cc in
-          ap (λ ts. put_in (entry_of x) (by_deadline (map entry_of ts))) (free_privileged tasks none)
-          ∙ put_first (entry_of x) (held_entries tasks)
-          (subst (λ z. Each (λ e. z.job.deadline < e.deadline) (held_entries tasks)) (sym same)
-          (entries_later r.job.deadline tasks (λ t m. later t (inr m))))
-          ∙ ap (λ z. entry_of z ∷ held_entries tasks) same
-      by_test false true is held one rest =
-          ap (put_in (entry_of x)) (rest one) ∙ ap (λ b. cond b (entry_of r ∷ put_in (entry_of x) (held_entries tasks))
-          (entry_of x ∷ entry_of r ∷ held_entries tasks))
-          (is_less r.job.deadline x.job.deadline (later x (inl refl) held)) where
-            is_less : (m n : ℕ) → m < n → nat_lt m n ≡ true
-            is_less m n h = grind arith
-      by_test false false is held one rest = rest one
-
 -- the room of the held jobs
 pub held_room : (clock : ℕ) (tasks : List Task) (held : List Entry) → held ≡ held_entries tasks
     → room_of clock held ≡ room clock (filter is_held tasks)
 held_room clock tasks held is =
     ap (room_of clock) is ∙ room_sorted clock (map entry_of (filter is_held tasks))
     ∙ room_map clock (filter is_held tasks)
-
--- and that of the running job with it
-pub busy_room : (clock : ℕ) (tasks : List Task) (held : List Entry) (r : Task) → held ≡ held_entries tasks
-    → filter is_running tasks ≡ r ∷ []
-    → Each (λ t. is_held t ≡ true → r.job.deadline < t.job.deadline) tasks
-    → room_of clock (entry_of r ∷ held) ≡ room clock (filter is_privileged tasks)
-busy_room clock tasks held r is runs later =
-    ap (λ es. room_of clock (entry_of r ∷ es)) is ∙ ap (room_of clock) (sym (both_entries tasks r runs later))
-    ∙ room_sorted clock (map entry_of (filter is_privileged tasks)) ∙ room_map clock (filter is_privileged tasks)
 
 -- the running job is due before the held ones
 pub running_before : (s : State) → IsSound s → (r : Task) → filter is_running s.tasks ≡ r ∷ []
@@ -368,11 +283,6 @@ turn_numbers ts None n is at = none_is_some at
 turn_numbers ts (Some j) n is at =
     sym (map_map (λ (i : ℕ × ℕ). i.0) turn_of ts) ∙ ap (map (λ (i : ℕ × ℕ). i.0)) is
     ∙ ap (λ k. k ∷ []) (some_same j.0 n at)
-
--- the room at the top of the stack
-pub room_or_none : (clock : ℕ) (held : List Entry) → unwrap_or (room_at clock held) 0 ≡ room_of clock held
-room_or_none clock [] = refl
-room_or_none clock (e ∷ held) = refl
 
 -- ---- where no job runs
 

@@ -1,7 +1,6 @@
 -- Jobs that are found by their numbers.
 use Rattle.std.proofs.Common.{◌≡◌, ℕ, suc, ◌-◌, ◌≤◌, ◌<◌, ◌⊎◌, inl, inr, List, [], ◌∷◌, map, refl, sym, ap, ◌∙◌, subst}
-use Rattle.std.proofs.Common.{Bool, true, false, arith}
-use Rattle.std.proofs.Common.{cond}
+use Rattle.std.proofs.Common.{Bool, true, false, arith, cond}
 use Rattle.std.specs.Prelude.{Option, Some, None, option_map, nat_le}
 use Rattle.std.specs.List.{filter, find, slice_get}
 use Rattle.std.proofs.lemmas.Bool.{cases_eq}
@@ -11,48 +10,11 @@ use Rattle.dover_model.specs.State.{is_coming}
 use Rattle.dover_model.specs.Entries.{entry_of}
 use Rattle.dover_model.specs.Orders.{first}
 use Rattle.dover_model.specs.Sound.{IsMember, Each, EachTwo, IsNumberedFrom}
-use Rattle.dover_model.proofs.Members.{some_same, member_filter}
+use Rattle.dover_model.proofs.Members.{some_same, member_filter, find_none, find_head}
 use Rattle.dover_model.proofs.Roles.{numbers_above, one_number}
-use Rattle.dover_model.proofs.FirstOfTasks.{first-map}
+use Rattle.dover_model.proofs.FirstOfTasks.{first-map, first_member}
 use Rattle.dover_model.proofs.Tests.{none_is_some}
-use Rattle.queued_jobs.proofs.Firsts.{first_member}
-
--- a job stands at its number
-pub at_number : (n : ℕ) (tasks : List Task) (t : Task) → IsNumberedFrom n tasks → IsMember t tasks
-    → slice_get tasks (t.number - n) ≡ Some t
-at_number n [] t all member = absurd member
-at_number n (x ∷ tasks) t all (inl e) =
-    let here : t.number - n ≡ 0 = let same : t.number ≡ n = ap (λ (y : Task). y.number) e ∙ all.0 in omega arith in
-    ap (slice_get (x ∷ tasks)) here ∙ ap Some (sym e)
-at_number n (x ∷ tasks) t all (inr member) =
-    let past : t.number - n ≡ suc (t.number - suc n) = let above : suc n ≤ t.number =
-    numbers_above (suc n) tasks all.1 t member in omega arith in
-    ap (slice_get (x ∷ tasks)) past ∙ at_number (suc n) tasks t all.1 member
-
--- where none passes, none is found
-pub find_none : {X : Type 0} (p : X → Bool) (xs : List X) → filter p xs ≡ [] → find p xs ≡ None
-find_none p [] none = refl
-find_none p (x ∷ xs) none = by_test (p x) none (find_none p xs) where
-  by_test : (b : Bool) → cond b (x ∷ filter p xs) (filter p xs) ≡ [] → (filter p xs ≡ [] → find p xs ≡ None)
-      → cond b (Some x) (find p xs) ≡ None
-  by_test true none rest = absurd (cons_none none) where
-    cons_none : x ∷ filter p xs ≡ [] → ⊥
-    cons_none e = cc
-  by_test false none rest = rest none
-
--- the first that passes is found
-pub find_head : {X : Type 0} (p : X → Bool) (xs : List X) (y : X) (ys : List X) → filter p xs ≡ y ∷ ys
-    → find p xs ≡ Some y
-find_head p [] y ys is = absurd (none_cons is) where
-  none_cons : [] ≡ y ∷ ys → ⊥
-  none_cons e = cc
-find_head p (x ∷ xs) y ys is = by_test (p x) is (find_head p xs y ys) where
-  by_test : (b : Bool) → cond b (x ∷ filter p xs) (filter p xs) ≡ y ∷ ys → (filter p xs ≡ y ∷ ys → find p xs ≡ Some y)
-      → cond b (Some x) (find p xs) ≡ Some y
-  by_test true is rest = ap Some (same_head is) where
-    same_head : x ∷ filter p xs ≡ y ∷ ys → x ≡ y
-    same_head e = cc
-  by_test false is rest = rest is
+use Rattle.room_ledger.proofs.Changing.{at_number, of_entry}
 
 -- none passes where the numbers of those that pass are none
 pub found_none : {A : Type 0} (f : Task → A) (p : Task → Bool) (tasks : List Task) → map f (filter p tasks) ≡ []
@@ -141,13 +103,6 @@ found_first_none before ts is =
       by_first : (o : Option Task) → option_map entry_of o ≡ None → o ≡ None
       by_first None at = refl
       by_first (Some t) at = none_is_some (sym at)
-
--- the job of an entry
-pub of_entry : (ts : List Task) (y : Entry) → IsMember y (map entry_of ts) → (t : Task) × IsMember t ts
-    × (y ≡ entry_of t)
-of_entry [] y m = absurd m
-of_entry (u ∷ us) y (inl e) = (u, inl refl, e)
-of_entry (u ∷ us) y (inr m) = let rest = of_entry us y m in (rest.0, inr rest.1, rest.2)
 
 -- entries of jobs are known by their numbers
 pub own_entries : (tasks ts : List Task) → IsNumberedFrom 0 tasks → Each (λ t. IsMember t tasks) ts

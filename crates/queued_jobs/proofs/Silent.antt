@@ -59,11 +59,3 @@ next_release J valid s keeps c is =
       λ x m comes. (realistic J valid s keeps).in_order c x it.0 m
           (coming_least 0 s.tasks c keeps.sound.numbered is x m comes),
     )
-
--- a waiting job that isn't at its latest start is before it
-pub early_waits : (s : State) → IsSound s → Each (λ t. t.role ≡ Waiting → latest_start t ≡ s.clock → ⊥) s.tasks
-    → Each (λ t. t.role ≡ Waiting → s.clock < latest_start t) s.tasks
-early_waits s sound early t m waits =
-    let fits = says s sound t m Waiting waits in
-    let other : latest_start t ≡ s.clock → ⊥ = early t m waits in
-    omega (arith, fits.2, other)

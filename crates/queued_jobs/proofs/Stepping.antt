@@ -1,7 +1,6 @@
 -- How the queues follow a change of one job's role.
 use Rattle.std.proofs.Common.{◌≡◌, ℕ, suc, ◌+◌, ◌<◌, ◌⊎◌, inl, inr, List, [], ◌∷◌, ◌++◌, length, map, set, replicate}
-use Rattle.std.proofs.Common.{refl, sym, ap, ◌∙◌}
-use Rattle.std.proofs.Common.{subst, true, false, arith, cond}
+use Rattle.std.proofs.Common.{refl, sym, ap, ◌∙◌, subst, true, false, arith, cond}
 use Rattle.std.specs.Prelude.{Option, Some, None, nat_le}
 use Rattle.std.specs.List.{filter}
 use Rattle.dover_model.specs.declared.events.Role.{Role}
@@ -15,12 +14,12 @@ use Rattle.dover_model.specs.Sound.{IsMember, Each, IsNumberedFrom}
 use Rattle.dover_model.proofs.Roles.{passes, one_number, numbers_above}
 use Rattle.dover_model.proofs.Tests.{never}
 use Rattle.dover_model.proofs.Members.{all_member, filter_member, member_filter, map_member}
-use Rattle.held_queue.specs.Stack.{IsByDeadline}
-use Rattle.queued_jobs.specs.Queued.{Agrees, turn_of, waiting_entry, by_deadline, held_entries}
-use Rattle.queued_jobs.proofs.Lookup.{of_entry}
-use Rattle.queued_jobs.proofs.Deadlines.{sorted_member, member_sorted}
-use Rattle.queued_jobs.proofs.Replacing.{each_other, in_front, in_back, in_middle, numbered_other, place_number}
-use Rattle.queued_jobs.proofs.Replacing.{filter_same, filter_in, filter_out, done_in, table_same, table_set, held_in}
+use Rattle.held_queue.specs.Stack.{IsByDeadline, by_deadline, held_entries}
+use Rattle.queued_jobs.specs.Queued.{Agrees, turn_of, waiting_entry}
+use Rattle.room_ledger.proofs.Changing.{of_entry, in_middle, place_number, filter_same, held_in, front_less, back_more}
+use Rattle.held_queue.proofs.Deadlines.{sorted_member, member_sorted}
+use Rattle.queued_jobs.proofs.Replacing.{each_other, in_front, in_back, numbered_other, filter_in, filter_out, done_in}
+use Rattle.queued_jobs.proofs.Replacing.{table_same, table_set}
 
 -- a job that doesn't wait has no entry
 entry_none : (t : Task) → is_waiting t ≡ false → waiting_entry t ≡ None
@@ -29,21 +28,6 @@ entry_none t fails = ap (λ b. cond b (Some (entry_of t)) None) fails
 length_other : {X : Type 0} (front back : List X) (t u : X) → length (front ++ u ∷ back) ≡ length (front ++ t ∷ back)
 length_other [] back t u = refl
 length_other (x ∷ front) back t u = ap suc (length_other front back t u)
-
--- other jobs have other numbers
-pub front_less : (n : ℕ) (front back : List Task) (t x : Task) → IsNumberedFrom n (front ++ t ∷ back) → IsMember x front
-    → x.number < t.number
-front_less n [] back t x all m = absurd m
-front_less n (y ∷ front) back t x all (inl e) =
-    let here : x.number ≡ n = ap (λ (z : Task). z.number) e ∙ all.0 in
-    let later : t.number ≡ suc n + length front = place_number (suc n) front back t all.1 in
-    omega arith
-front_less n (y ∷ front) back t x all (inr m) = front_less (suc n) front back t x all.1 m
-
-pub back_more : (n : ℕ) (front back : List Task) (t x : Task) → IsNumberedFrom n (front ++ t ∷ back) → IsMember x back
-    → t.number < x.number
-back_more n [] back t x all m = let later = numbers_above (suc n) back all.1 x m in omega (arith, all.0, later)
-back_more n (y ∷ front) back t x all m = back_more (suc n) front back t x all.1 m
 
 module _ (front back : List Task) (t : Task) (table : List (Option Entry)) (k : ℕ) where
   no_more : (n : ℕ) → 0 + n ≡ n

@@ -1,14 +1,12 @@
 -- The queues before and after a change of the role of one job.
 use Rattle.std.proofs.Common.{◌≡◌, ℕ, zero, suc, ◌+◌, ◌<◌, ◌≤◌, inl, inr, Bool, nat_lt, false, cond, arith, List, []}
-use Rattle.std.proofs.Common.{◌∷◌, ◌++◌, length, get_or}
-use Rattle.std.proofs.Common.{replicate, map, set, sym, ap, ◌∙◌, subst, true, refl}
-use Rattle.std.specs.Prelude.{Option, Some, None}
-use Rattle.std.specs.List.{filter, sum_by, slice_get}
+use Rattle.std.proofs.Common.{◌∷◌, ◌++◌, length, get_or, replicate, map, set, sym, ap, ◌∙◌, subst, true, refl}
+use Rattle.std.specs.Prelude.{Option, Some, None, is_some}
+use Rattle.std.specs.List.{filter, sum_by, slice_get, count_by, find}
 use Rattle.std.specs.Option.{option_to_list}
-use Rattle.std.specs.Prelude.{is_some}
-use Rattle.std.specs.List.{count_by, find}
 use Rattle.std.proofs.lemmas.List.{length-map}
 use Rattle.std.proofs.lemmas.List.Sums.{sum_by-cons, count_by-le-length}
+use Rattle.std.proofs.lemmas.Option.{slice_get_within}
 use Rattle.dover_model.specs.declared.events.Role.{Role}
 use Rattle.dover_model.specs.Instance.{Rules}
 use Rattle.dover_model.proofs.Members.{some_same, member_filter, sum_filter, sum_le}
@@ -20,21 +18,17 @@ use Rattle.dover_model.specs.State.{is_fresh, is_running, is_held, is_waiting, v
 use Rattle.dover_model.specs.Entries.{entry_of}
 use Rattle.dover_model.specs.Sound.{IsMember, Each, IsNumberedFrom}
 use Rattle.dover_model.proofs.Roles.{passes, is_held_role}
-use Rattle.held_queue.specs.Stack.{IsByDeadline}
-use Rattle.queued_jobs.specs.Queued.{Queued, Agrees, turn_of, waiting_entry, put_in, by_deadline, held_entries}
-use Rattle.queued_jobs.specs.Queued.{in_state, with_job_in}
-use Rattle.queued_jobs.specs.Roles.{with_role_at}
+use Rattle.held_queue.specs.Stack.{IsByDeadline, put_in, by_deadline, held_entries, Stack, popped, without_top, top_of}
+use Rattle.queued_jobs.specs.Queued.{Queued, Agrees, turn_of, waiting_entry, in_state, with_job_in}
+use Rattle.room_ledger.specs.Roles.{with_role_at}
 use Rattle.rank_heap.proofs.Tables.{grown_count}
 use Rattle.waiting_queue.specs.Queue.{Queue, without}
-use Rattle.std.proofs.lemmas.Option.{slice_get_within}
 use Rattle.dover_model.specs.declared.events.Version.{Version}
 use Rattle.dover_model.specs.Orders.{due_first, first}
-use Rattle.held_queue.specs.Stack.{Stack, popped, without_top, top_of}
 use Rattle.queued_jobs.proofs.Growing.{table_len}
-use Rattle.queued_jobs.proofs.Firsts.{first_member}
+use Rattle.dover_model.proofs.FirstOfTasks.{first_member}
 use Rattle.queued_jobs.proofs.Looking.{none_found, held_found, held_none}
-use Rattle.queued_jobs.proofs.Replacing.{in_middle}
-use Rattle.queued_jobs.proofs.Changing.{Splits, only_one}
+use Rattle.room_ledger.proofs.Changing.{in_middle, Splits, only_one}
 use Rattle.queued_jobs.proofs.Stepping.{agrees_release, agrees_complete, agrees_resume, agrees_start, agrees_begin}
 use Rattle.queued_jobs.proofs.Stepping.{agrees_wait, agrees_hold, agrees_stop, agrees_displace, agrees_abandon}
 
@@ -204,34 +198,6 @@ found_member [] n t found = none_is_some found
 found_member (x ∷ tasks) zero t found = inl (sym (some_same x t found))
 found_member (x ∷ tasks) (suc n) t found = inr (found_member tasks n t found)
 
--- the value of a job that fails a test fits beside that of those that pass
-pub value_room : (p : Task → Bool) (tasks : List Task) (t : Task) → IsMember t tasks → p t ≡ false
-    → value_sum (filter p tasks) + t.job.value ≤ value_sum tasks
-value_room p tasks t member fails =
-    let all = sum_filter p (λ x. x.job.value) tasks in
-    let room = below tasks member in
-    omega (arith, all, room) where
-      some : (b : Bool) (n : ℕ) → cond b n 0 ≤ n
-      some true n = omega arith
-      some false n = omega arith
-
-      below : (ts : List Task) → IsMember t ts
-          → sum_by (λ x. cond (p x) x.job.value 0) ts + t.job.value ≤ sum_by (λ x. x.job.value) ts
-      below [] m = absurd m
-      below (x ∷ ts) (inl e) =
-          let one = sum_by-cons (λ y. cond (p y) y.job.value 0) x ts in
-          let other = sum_by-cons (λ y. y.job.value) x ts in
-          let none : cond (p x) x.job.value 0 ≡ 0 = ap (λ b. cond b x.job.value 0) (ap p (sym e) ∙ fails) in
-          let rest = sum_le (λ y. cond (p y) y.job.value 0) (λ y. y.job.value) ts (λ y m. some (p y) y.job.value) in
-          let same : t.job.value ≡ x.job.value = ap (λ (y : Task). y.job.value) e in
-          omega (arith, one, other, none, rest, same)
-      below (x ∷ ts) (inr m) =
-          let one = sum_by-cons (λ y. cond (p y) y.job.value 0) x ts in
-          let other = sum_by-cons (λ y. y.job.value) x ts in
-          let rest = below ts m in
-          let here = some (p x) x.job.value in
-          omega (arith, one, other, rest, here)
-
 -- a job that fails a test leaves fewer that pass
 pub fewer_pass : (p : Task → Bool) (tasks : List Task) (t : Task) → IsMember t tasks → p t ≡ false
     → length (filter p tasks) + 1 ≤ length tasks
@@ -271,12 +237,6 @@ pub stack_length : (tasks : List Task) (stack : List Entry) → stack ≡ held_e
     → length stack ≡ length (filter is_held tasks)
 stack_length tasks stack is = ap length is ∙ length_sorted (map entry_of (filter is_held tasks))
     ∙ length-map (filter is_held tasks) entry_of
-
--- what holds of each entry holds of the top
-pub top_later : (d : ℕ) (stack : List Entry) (x : Entry) → Each (λ f. d < f.deadline) stack → top_of stack ≡ Some x
-    → d < x.deadline
-top_later d [] x all top = none_is_some top
-top_later d (e ∷ stack) x all top = subst (λ y. d < y.deadline) (some_same e x top) (all e (inl refl))
 
 -- a job that is found has the number at which it is found
 pub found_number : (m : ℕ) (tasks : List Task) (n : ℕ) (t : Task) → IsNumberedFrom m tasks → slice_get tasks n ≡ Some t

@@ -1,12 +1,12 @@
 -- Silent ticks: the running job has had so many more.
 use Rattle.std.proofs.Common.{◌≡◌, ℕ, zero, suc, ◌+◌, ◌-◌, ◌≤◌, inl, inr, List, [], ◌∷◌, ◌++◌, length, map, set}
-use Rattle.std.proofs.Common.{replicate, refl, sym, ap, ◌∙◌}
-use Rattle.std.proofs.Common.{subst, Bool, true, false, cond, arith}
+use Rattle.std.proofs.Common.{replicate, refl, sym, ap, ◌∙◌, subst, Bool, true, false, cond, arith}
 use Rattle.std.specs.Prelude.{Option, Some, None, option_map, nat_le}
 use Rattle.std.specs.Option.{option_to_list}
 use Rattle.std.specs.List.{filter, slice_get}
-use Rattle.queued_jobs.proofs.Lookup.{found_one, find_head}
 use Rattle.std.proofs.lemmas.List.{length-map}
+use Rattle.queued_jobs.proofs.Lookup.{found_one}
+use Rattle.dover_model.proofs.Members.{find_head, some_same, map_map, map_same, on_map, member_filter, sum_map}
 use Rattle.dover_model.specs.declared.events.Role.TheVariants.{Waiting, Held, Running}
 use Rattle.dover_model.specs.declared.events.Task.{Task}
 use Rattle.dover_model.specs.declared.events.Entry.{Entry}
@@ -14,12 +14,12 @@ use Rattle.dover_model.specs.State.{is_coming, is_fresh, is_waiting, is_held, is
 use Rattle.dover_model.specs.Entries.{entry_of}
 use Rattle.dover_model.specs.Jumps.{ticked_by}
 use Rattle.dover_model.specs.Sound.{IsMember, Each, IsNumberedFrom}
-use Rattle.dover_model.proofs.Members.{some_same, map_map, map_same, on_map, member_filter, sum_map}
 use Rattle.dover_model.proofs.Roles.{is_running_role, is_waiting_role, is_held_role, numbered_map}
 use Rattle.dover_model.proofs.Tests.{none_is_some, never}
 use Rattle.tick_cpu.specs.Processor.{Processor, after_ticks}
 use Rattle.tick_cpu.proofs.Ticks.{jump_busy, jump_free}
-use Rattle.queued_jobs.specs.Queued.{Agrees, turn_of, waiting_entry, by_deadline}
+use Rattle.queued_jobs.specs.Queued.{Agrees, turn_of, waiting_entry}
+use Rattle.held_queue.specs.Stack.{by_deadline}
 
 module _ (n : ℕ) where
   -- a job that doesn't run stays

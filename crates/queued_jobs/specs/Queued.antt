@@ -1,7 +1,6 @@
 -- Jobs by number, with queues of those that wait or are held.
 use Rattle.std.specs.Prelude.{◌≡◌, ℕ, ◌+◌, ◌≤◌, List, [], ◌∷◌, ◌++◌, length, map, replicate, nat_le, nat_lt, Option}
-use Rattle.std.specs.Prelude.{Some, None, if◌then◌else◌}
-use Rattle.std.specs.Prelude.{vec_len, vec_capacity}
+use Rattle.std.specs.Prelude.{Some, None, if◌then◌else◌, vec_len, vec_capacity}
 use Rattle.std.specs.Option.{option_to_list}
 use Rattle.std.specs.List.{filter}
 use Rattle.dover_model.specs.declared.events.Task.{Task}
@@ -14,8 +13,9 @@ use Rattle.dover_model.specs.State.{value_sum}
 use Rattle.dover_model.specs.Entries.{entry_of}
 use Rattle.dover_model.specs.Sound.{Each, IsNumberedFrom, IsSound, jobs_of}
 use Rattle.dover_model.specs.declared.events.Role.{Role}
-use Rattle.queued_jobs.specs.Roles.{with_role_at}
+use Rattle.room_ledger.specs.Roles.{with_role_at}
 use Rattle.queued_jobs.specs.declared.queues.Queues.TheInside.{Inside}
+use Rattle.held_queue.specs.Stack.{held_entries}
 
 -- the jobs in their state, and for how many more there is room
 pub record Queued : Type 0 where
@@ -60,20 +60,6 @@ turn_of t = (t.number, left t)
 -- the entry of a job that waits
 abbrev pub waiting_entry : Task → Option Entry
 waiting_entry t = if is_waiting t then Some (entry_of t) else None
-
--- the entries with e at its place in the order of deadlines
-abbrev pub put_in : Entry → List Entry → List Entry
-put_in e [] = e ∷ []
-put_in e (f ∷ more) = if nat_lt f.deadline e.deadline then f ∷ put_in e more else e ∷ f ∷ more
-
--- the entries in the order of deadlines
-abbrev pub by_deadline : List Entry → List Entry
-by_deadline [] = []
-by_deadline (e ∷ more) = put_in e (by_deadline more)
-
--- the entries of the held jobs in the order of deadlines
-abbrev pub held_entries : List Task → List Entry
-held_entries tasks = by_deadline (map entry_of (filter is_held tasks))
 
 -- the queues agree with the tasks; k numbers more are ready than there are tasks
 pub record Agrees (tasks : List Task) (table : List (Option Entry)) (k : ℕ) (stack : List Entry) (job : Option (ℕ × ℕ))

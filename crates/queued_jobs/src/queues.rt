@@ -8,19 +8,19 @@ ghost use Rattle.dover_model.specs.declared.events.Role.TheVariants.{Coming, Fre
 ghost use Rattle.dover_model.specs.declared.events.Role.TheVariants.{Done, Gone};
 ghost use Rattle.dover_model.specs.Instance.{IsValid, with_jobs};
 ghost use Rattle.dover_model.specs.State.{State, opening, with_later, is_over, is_done, is_fresh, is_coming, is_held};
-ghost use Rattle.dover_model.specs.State.{is_running, left, latest_start, value_sum};
-ghost use Rattle.dover_model.specs.State.{running, held, waiting, privileged, room};
+ghost use Rattle.dover_model.specs.State.{is_running, left, latest_start, value_sum, running, held, waiting};
+ghost use Rattle.dover_model.specs.State.{privileged, room};
 ghost use Rattle.dover_model.specs.Orders.{due_first, starts_before, first};
-ghost use Rattle.dover_model.specs.Step.{open_step, view, after, is_at_latest_start, resumed, runs};
+ghost use Rattle.dover_model.specs.Step.{open_step, view, after, is_at_latest_start, resumed, runs, Prints};
+ghost use Rattle.dover_model.specs.Step.{Waits as WaitsFor, Ticks as TicksOn};
 ghost use Rattle.dover_model.specs.Sound.{IsSound, Each, IsNumberedFrom};
 ghost use Rattle.dover_model.specs.Jumps.{NothingDue, later_by, ticked_by};
 ghost use Rattle.dover_model.specs.Entries.{entry_of};
 ghost use Rattle.queued_jobs.specs.Cases.{decision_of, arrival_of, alarm_of};
 ghost use Rattle.queued_jobs.specs.Moves.{step_of};
-ghost use Rattle.queued_jobs.specs.Roles.{Changes, all_displaced};
-ghost use Rattle.dover_model.specs.Step.{Prints, Waits as WaitsFor, Ticks as TicksOn};
+ghost use Rattle.room_ledger.specs.Roles.{Changes, all_displaced};
 ghost use Rattle.dover_model.specs.declared.events.Event.TheVariants.{Release, Run, Preempt, Take, Complete, Abandon};
-ghost use Rattle.queued_jobs.specs.Costs.{cost_of};
+ghost use Rattle.dover_model.specs.Spending.{cost_of};
 ghost use Rattle.queued_jobs.specs.Queued.{Queued, instance_of, in_state, with_job_in, IsNext, stepped};
 
 use crate::moves::Move;

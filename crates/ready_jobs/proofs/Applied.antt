@@ -1,6 +1,6 @@
 -- What a printed step leaves of the ready jobs, by which jobs it names.
-use Rattle.std.proofs.Common.{◌≡◌, ℕ, ◌≤◌, ◌⊎◌, inl, inr, List, [], ◌∷◌, ◌++◌, length, map, refl, sym, ap, ◌∙◌}
-use Rattle.std.proofs.Common.{subst, Bool, true, false, cond, arith}
+use Rattle.std.proofs.Common.{◌≡◌, ℕ, ◌≤◌, ◌⊎◌, inl, inr, List, [], ◌∷◌, ◌++◌, length, map, refl, sym, ap, ◌∙◌, subst}
+use Rattle.std.proofs.Common.{Bool, true, false, cond, arith}
 use Rattle.std.specs.Prelude.{Option, Some, None, ◌&&◌, nat_lt, nat_le}
 use Rattle.std.specs.Option.{option_to_list, option_map}
 use Rattle.std.specs.List.{filter, sum_by}
@@ -17,14 +17,14 @@ use Rattle.dover_model.specs.Step.{View, view, with_role, is_at_latest_start}
 use Rattle.dover_model.specs.Sound.{Each}
 use Rattle.dover_model.proofs.Members.{some_same, sum_map}
 use Rattle.dover_model.proofs.Tests.{none_is_some}
-use Rattle.scanned_step.specs.Cases.{next_of}
-use Rattle.trace_reading.specs.Ready.{is_ready}
+use Rattle.ready_jobs.specs.Cases.{next_of}
+use Rattle.dover_model.specs.Ready.{is_ready}
 use Rattle.ready_jobs.specs.Reordered.{IsReordered}
 use Rattle.ready_jobs.specs.Parts.{Parted, HaveRoles, AreSound, ready_of, state_of, head_of, tail_of}
 use Rattle.ready_jobs.specs.Changed.{named, AreOnce, Leaves, IsNext, printed, made_wait}
 use Rattle.ready_jobs.proofs.Reordering.{as_many}
-use Rattle.ready_jobs.proofs.Seeing.{seen_running, seen_fresh, seen_coming, waiting_list}
-use Rattle.ready_jobs.proofs.Seeing.{late_none, late_later, late_found}
+use Rattle.ready_jobs.proofs.Seeing.{seen_running, seen_fresh, seen_coming, waiting_list, late_none, late_later}
+use Rattle.ready_jobs.proofs.Seeing.{late_found}
 use Rattle.ready_jobs.proofs.Changes.{completes, resumes, starts, begins, abandons, preempts, takes}
 use Rattle.ready_jobs.proofs.Naming.{Says, says}
 

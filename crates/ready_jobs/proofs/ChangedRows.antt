@@ -9,7 +9,7 @@ use Rattle.dover_model.specs.declared.events.Task.{Task}
 use Rattle.dover_model.specs.declared.events.Version.TheVariants.{One}
 use Rattle.dover_model.specs.State.{is_done, value_sum}
 use Rattle.dover_model.specs.Step.{Prints, open_step}
-use Rattle.trace_reading.specs.Ready.{is_ready}
+use Rattle.dover_model.specs.Ready.{is_ready}
 use Rattle.ready_jobs.specs.Parts.{Parted, ready_of, state_of}
 use Rattle.ready_jobs.specs.Changed.{printed}
 

@@ -1,6 +1,6 @@
 -- What a step does to the ready jobs, by their roles.
-use Rattle.std.proofs.Common.{◌≡◌, ℕ, suc, ◌≤◌, inl, inr, List, [], ◌∷◌, ◌++◌, map, refl, sym}
-use Rattle.std.proofs.Common.{ap, ◌∙◌, subst, Bool, true, false, cond, arith}
+use Rattle.std.proofs.Common.{◌≡◌, ℕ, suc, ◌≤◌, inl, inr, List, [], ◌∷◌, ◌++◌, map, refl, sym, ap, ◌∙◌, subst, Bool}
+use Rattle.std.proofs.Common.{true, false, cond, arith}
 use Rattle.std.specs.Prelude.{Some, None, ◌==◌}
 use Rattle.std.specs.Option.{option_to_list}
 use Rattle.std.specs.List.{filter, sum_by}
@@ -16,12 +16,11 @@ use Rattle.dover_model.specs.Sound.{IsMember, Each, IsNumberedFrom}
 use Rattle.dover_model.proofs.Members.{sum_filter, sum_zero, sum_le, term_le_sum, map_map, map_same}
 use Rattle.dover_model.proofs.Roles.{passes, numbers_above}
 use Rattle.dover_model.proofs.Tests.{never}
-use Rattle.trace_reading.specs.Ready.{is_ready}
+use Rattle.dover_model.specs.Ready.{is_ready}
 use Rattle.ready_jobs.specs.Reordered.{IsReordered}
 use Rattle.ready_jobs.specs.Parts.{Parted, HaveRole, HaveRoles, HaveOwnNumbers, ready_of}
 use Rattle.ready_jobs.specs.Changed.{named, AreOnce, made_wait, Leaves}
-use Rattle.ready_jobs.proofs.Reordering.{same_order, both_parts, turned, further, filtered, mapped}
-use Rattle.ready_jobs.proofs.Reordering.{each_both}
+use Rattle.ready_jobs.proofs.Reordering.{same_order, both_parts, turned, further, filtered, mapped, each_both}
 use Rattle.ready_jobs.proofs.Pooling.{between}
 use Rattle.ready_jobs.proofs.Seeing.{filter_each, filter_none}
 

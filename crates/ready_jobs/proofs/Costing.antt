@@ -19,10 +19,10 @@ use Rattle.dover_model.specs.Step.{Move, Prints, Waits, Ticks, open_step, with_r
 use Rattle.dover_model.specs.WaitingMoves.{waits_then, enters, leaves}
 use Rattle.dover_model.proofs.Members.{term_le_sum, sum_filter, sum_same}
 use Rattle.dover_model.proofs.Roles.{passes, is_over_role}
-use Rattle.queued_jobs.specs.Costs.{cost_of}
-use Rattle.queued_jobs.proofs.Costs.{one_leaves, run_leaves, abandon_leaves, take_leaves}
-use Rattle.trace_reading.specs.Ready.{is_ready}
-use Rattle.trace_reading.proofs.ReadyParts.{change, over_stays}
+use Rattle.dover_model.specs.Spending.{cost_of}
+use Rattle.dover_model.proofs.Spending.{one_leaves, run_leaves, abandon_leaves, take_leaves}
+use Rattle.dover_model.specs.Ready.{is_ready}
+use Rattle.dover_model.proofs.ReadyParts.{change, over_stays}
 use Rattle.ready_jobs.specs.Following.{PartOf}
 use Rattle.ready_jobs.specs.Changed.{named, AreOnce}
 use Rattle.ready_jobs.specs.Parts.{Parted, HaveRoles, ready_of, state_of}

@@ -1,6 +1,6 @@
 -- What is kept of a run, step by step.
-use Rattle.std.proofs.Common.{◌≡◌, ℕ, ◌+◌, ◌≤◌, ◌<◌, inl, List, [], ◌∷◌, ◌++◌, length, refl, sym, ap}
-use Rattle.std.proofs.Common.{◌∙◌, subst, Bool, true, false, cond, not, arith}
+use Rattle.std.proofs.Common.{◌≡◌, ℕ, ◌+◌, ◌≤◌, ◌<◌, inl, List, [], ◌∷◌, ◌++◌, length, refl, sym, ap, ◌∙◌, subst, Bool}
+use Rattle.std.proofs.Common.{true, false, cond, not, arith}
 use Rattle.std.specs.Prelude.{Option, nat_le, ◌&&◌, Some, None}
 use Rattle.std.specs.Option.{option_to_list}
 use Rattle.std.specs.List.{filter, list_all, sum_by}
@@ -29,16 +29,16 @@ use Rattle.dover_model.proofs.Resting.{tick_keeps}
 use Rattle.dover_model.proofs.Settling.{at_barrier}
 use Rattle.dover_model.proofs.ShortNumbers.{deadline_known, ticks_early}
 use Rattle.dover_model.proofs.Tests.{not_true, never}
-use Rattle.trace_reading.specs.Leading.{GoesOn, IsSilent, Idles, WaitsUntil, PrintsNext}
-use Rattle.trace_reading.specs.Ready.{is_ready}
-use Rattle.trace_reading.proofs.Leading.{late_silent, over_ends}
-use Rattle.trace_reading.proofs.ReadyParts.{change}
-use Rattle.trace_reading.proofs.Waiting.{some_goes_on, settles_idles, over_waits_until}
+use Rattle.dover_model.specs.Leading.{GoesOn, IsSilent, Idles, WaitsUntil, PrintsNext}
+use Rattle.dover_model.specs.Ready.{is_ready}
+use Rattle.dover_model.proofs.Leading.{late_silent, over_ends}
+use Rattle.dover_model.proofs.ReadyParts.{change}
+use Rattle.dover_model.proofs.Waiting.{some_goes_on, settles_idles, over_waits_until}
 use Rattle.ready_jobs.specs.Reordered.{IsReordered}
 use Rattle.ready_jobs.specs.Parts.{Parted, HaveRoles, ready_of, state_of}
 use Rattle.ready_jobs.specs.Following.{PartOf, IsPart, SettlesTo}
-use Rattle.ready_jobs.specs.Course.{Course, Follows, IsCourse, new_course, course_of, fresh_job}
-use Rattle.ready_jobs.specs.Course.{with_release, Reached, Settled, ComesNext, Takes, IsDue}
+use Rattle.ready_jobs.specs.Course.{Course, Follows, IsCourse, new_course, course_of, fresh_job, with_release, Reached}
+use Rattle.ready_jobs.specs.Course.{Settled, ComesNext, Takes, IsDue}
 use Rattle.ready_jobs.specs.Deeds.{Does}
 use Rattle.ready_jobs.specs.declared.deeds.Deed.{Deed}
 use Rattle.ready_jobs.proofs.Reordering.{same_order, further, exchanged, as_many, in_left, in_right}

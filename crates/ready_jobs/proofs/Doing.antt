@@ -1,9 +1,10 @@
 -- What a deed does to the ready jobs.
 use Rattle.std.proofs.Common.{◌≡◌, ap, sym, ◌∙◌, subst}
+use Rattle.std.specs.Prelude.{Some, None}
 use Rattle.dover_model.specs.declared.events.Event.{Event}
-use Rattle.dover_model.specs.Step.{Move, Prints, view}
-use Rattle.std.specs.Prelude.{None}
+use Rattle.dover_model.specs.Step.{Move, Prints, Waits, Ticks, view}
 use Rattle.dover_model.specs.Run.{event_of}
+use Rattle.dover_model.proofs.Members.{some_same}
 use Rattle.dover_model.proofs.Tests.{none_is_some}
 use Rattle.ready_jobs.specs.declared.deeds.Deed.{Deed}
 use Rattle.ready_jobs.specs.Parts.{Parted, state_of}
@@ -28,3 +29,9 @@ pub silent_does : (p : Parted) (deed : Deed) (m : Move) (e : Event) → step_at 
     → Does p deed e → ⊥
 silent_does p deed m e step silent does =
     none_is_some (sym silent ∙ ap event_of (sym step ∙ does.prints))
+
+-- a step that prints this event
+pub prints_event : (m : Move) (e : Event) → event_of m ≡ Some e → m ≡ Prints e
+prints_event (Prints f) e is = ap Prints (some_same f e is)
+prints_event (Waits n) e is = none_is_some is
+prints_event Ticks e is = none_is_some is

@@ -1,6 +1,6 @@
 -- The ready jobs of a whole run, step by step.
-use Rattle.std.proofs.Common.{◌≡◌, ℕ, zero, suc, ◌+◌, ◌-◌, ◌≤◌, ◌<◌, inl, inr, List, [], ◌∷◌, ◌++◌, map}
-use Rattle.std.proofs.Common.{refl, sym, ap, ◌∙◌, subst, Bool, true, false, cond, arith, eqb}
+use Rattle.std.proofs.Common.{◌≡◌, ℕ, zero, suc, ◌+◌, ◌-◌, ◌≤◌, ◌<◌, inl, inr, List, [], ◌∷◌, ◌++◌, map, refl, sym, ap}
+use Rattle.std.proofs.Common.{◌∙◌, subst, Bool, true, false, cond, arith, eqb}
 use Rattle.std.specs.Prelude.{Option, Some, None, ◌&&◌, nat_le, nat_lt}
 use Rattle.std.specs.Option.{option_to_list, option_map}
 use Rattle.std.specs.List.{AllByRecursion, filter}
@@ -25,18 +25,16 @@ use Rattle.dover_model.proofs.Jumping.{later_by-zero, after-later_by}
 use Rattle.dover_model.proofs.Deeds.{tick_quiet}
 use Rattle.dover_model.proofs.Ticking.{Quiet}
 use Rattle.dover_model.proofs.Kept.{open_deed, open_kept, each_job}
-use Rattle.queued_jobs.proofs.Silent.{early_waits}
-use Rattle.dover_model.proofs.Members.{member_filter, filter_member, on_map, sum_filter, sum_le}
-use Rattle.dover_model.proofs.Members.{sum_map}
-use Rattle.dover_model.proofs.Moves.{says}
+use Rattle.dover_model.proofs.Moves.{early_waits, says}
+use Rattle.dover_model.proofs.Members.{member_filter, filter_member, on_map, sum_filter, sum_le, sum_map}
 use Rattle.dover_model.proofs.Roles.{passes, is_running_role, is_fresh_role}
 use Rattle.dover_model.proofs.Tests.{never, none_is_some}
-use Rattle.scanned_step.specs.Dues.{still_ticks}
-use Rattle.scanned_step.proofs.Jumping.{silent as still_silent, due as still_due, within as still_within}
-use Rattle.trace_reading.specs.Leading.{IsSilent, Settles}
-use Rattle.trace_reading.specs.Ready.{is_ready, ready_part}
-use Rattle.trace_reading.proofs.Leading.{settles_append}
-use Rattle.trace_reading.proofs.ReadyParts.{change, after_change, step_ready, ready_after, done_after}
+use Rattle.ready_jobs.specs.Dues.{still_ticks}
+use Rattle.ready_jobs.proofs.Jumping.{silent as still_silent, due as still_due, within as still_within}
+use Rattle.dover_model.specs.Leading.{IsSilent, Settles}
+use Rattle.dover_model.specs.Ready.{is_ready, ready_part}
+use Rattle.dover_model.proofs.Leading.{settles_append}
+use Rattle.dover_model.proofs.ReadyParts.{change, after_change, step_ready, ready_after, done_after}
 use Rattle.ready_jobs.specs.Reordered.{IsReordered}
 use Rattle.ready_jobs.specs.Parts.{Parted, HaveRole, HaveRoles, AreSound, ready_of, state_of}
 use Rattle.ready_jobs.specs.Following.{PartOf, SettlesTo}

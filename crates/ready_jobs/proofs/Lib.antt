@@ -1,3 +1,5 @@
+pub mod Deciding
+pub mod Jumping
 pub mod Reordering
 pub mod Views
 pub mod Pooling

@@ -11,7 +11,7 @@ use Rattle.dover_model.specs.Orders.{is_heavy}
 use Rattle.dover_model.specs.State.{left}
 use Rattle.dover_model.specs.Step.{View, Move, Prints, Waits, Ticks, completion, dispatch, decision, arrival, alarm}
 use Rattle.dover_model.specs.Step.{◌or_else◌, resumed, preempts, urgent_or}
-use Rattle.scanned_step.specs.Cases.{next_of}
+use Rattle.ready_jobs.specs.Cases.{next_of}
 
 -- the jobs that the step names, as they are seen
 abbrev pub Says : View → Event → Type 0

@@ -7,12 +7,10 @@ use Rattle.std.proofs.lemmas.List.Elements.{filter-append}
 use Rattle.dover_model.specs.Limits.{last_tick}
 use Rattle.dover_model.specs.JobFacts.{JobFacts}
 use Rattle.dover_model.specs.Instance.{Rules, Instance, IsValid}
-use Rattle.dover_model.specs.State.{State, is_coming, is_done, value_sum}
+use Rattle.dover_model.specs.State.{State, is_coming, is_done, value_sum, state_at}
 use Rattle.dover_model.specs.Step.{open_step}
 use Rattle.dover_model.specs.Sound.{Each, Keeps}
-use Rattle.scanned_step.specs.Moves.{state_at}
-use Rattle.trace_reading.specs.Ready.{is_ready}
-use Rattle.trace_reading.specs.Reading.{with_fresh}
+use Rattle.dover_model.specs.Ready.{is_ready, with_fresh}
 use Rattle.ready_jobs.specs.Reordered.{IsReordered}
 use Rattle.ready_jobs.specs.Parts.{Parted}
 use Rattle.ready_jobs.specs.Course.{Course, Follows, fresh_job, with_release}

@@ -1,6 +1,6 @@
 -- What is seen of the ready jobs by their roles.
-use Rattle.std.proofs.Common.{◌≡◌, ℕ, ◌-◌, ◌≤◌, ◌<◌, inl, inr, List, [], ◌∷◌, ◌++◌, map, min}
-use Rattle.std.proofs.Common.{refl, sym, ap, ◌∙◌, subst, Bool, true, false, cond, arith, nat_le}
+use Rattle.std.proofs.Common.{◌≡◌, ℕ, ◌-◌, ◌≤◌, ◌<◌, inl, inr, List, [], ◌∷◌, ◌++◌, map, min, refl, sym, ap, ◌∙◌, subst}
+use Rattle.std.proofs.Common.{Bool, true, false, cond, arith, nat_le}
 use Rattle.std.specs.Prelude.{Option, Some, None, option_map}
 use Rattle.std.specs.Option.{option_to_list}
 use Rattle.std.specs.List.{filter, find, fold}
@@ -18,14 +18,12 @@ use Rattle.dover_model.specs.State.{latest_start, running}
 use Rattle.dover_model.specs.Orders.{due_first, starts_before, first, earlier}
 use Rattle.dover_model.specs.Step.{with_role, is_at_latest_start}
 use Rattle.dover_model.specs.Sound.{IsMember, Each}
-use Rattle.dover_model.proofs.EntryOrders.{strict_by}
-use Rattle.dover_model.proofs.Members.{reduce_none, filter_member, member_filter, some_same}
+use Rattle.dover_model.proofs.EntryOrders.{strict_by, key_less}
+use Rattle.dover_model.proofs.Members.{reduce_none, filter_member, member_filter, some_same, find_none, find_head}
 use Rattle.dover_model.proofs.Roles.{passes}
 use Rattle.dover_model.proofs.Tests.{none_is_some}
-use Rattle.scanned_step.specs.Dues.{until_latest, until_done, until_release, still_ticks}
+use Rattle.ready_jobs.specs.Dues.{until_latest, until_done, until_release, still_ticks}
 use Rattle.held_queue.specs.Stack.{IsByDeadline, IsDueBeforeAll}
-use Rattle.queued_jobs.proofs.Firsts.{key_less}
-use Rattle.queued_jobs.proofs.Lookup.{find_none, find_head}
 use Rattle.ready_jobs.specs.Parts.{Parted, HaveRole, HaveRoles, HaveOwnNumbers, ready_of, state_of, head_of}
 use Rattle.ready_jobs.proofs.Reordering.{first_is, first_only}
 use Rattle.ready_jobs.proofs.Views.{apart_or_one, own_some}

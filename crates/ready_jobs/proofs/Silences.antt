@@ -1,6 +1,6 @@
 -- The silent steps of the ready jobs, as the program takes them.
-use Rattle.std.proofs.Common.{◌≡◌, ℕ, List, [], suc, ◌+◌, ◌-◌, ◌*◌, ◌≤◌, ◌<◌, ◌∷◌, ◌++◌, length, refl, sym}
-use Rattle.std.proofs.Common.{ap, ◌∙◌, subst, arith, Bool, true, false, cond, zero}
+use Rattle.std.proofs.Common.{◌≡◌, ℕ, List, [], suc, ◌+◌, ◌-◌, ◌*◌, ◌≤◌, ◌<◌, ◌∷◌, ◌++◌, length, refl, sym, ap, ◌∙◌}
+use Rattle.std.proofs.Common.{subst, arith, Bool, true, false, cond, zero}
 use Rattle.std.specs.Prelude.{Option, Some, None}
 use Rattle.std.specs.Option.{option_to_list, option_map}
 use Rattle.std.specs.List.{filter}
@@ -12,11 +12,11 @@ use Rattle.dover_model.specs.declared.events.Task.{Task}
 use Rattle.dover_model.specs.Sound.{Each}
 use Rattle.dover_model.specs.State.{left, latest_start, is_running}
 use Rattle.dover_model.specs.Orders.{starts_before, first}
-use Rattle.trace_reading.specs.Leading.{IsSilent}
+use Rattle.dover_model.specs.Leading.{IsSilent}
 use Rattle.dover_model.specs.Step.{Move, Prints, Waits, Ticks, view, open_step, with_role, is_at_latest_start}
 use Rattle.dover_model.specs.Jumps.{ticked_by, later_by}
-use Rattle.scanned_step.specs.Dues.{still_ticks}
-use Rattle.trace_reading.proofs.ReadyParts.{change}
+use Rattle.ready_jobs.specs.Dues.{still_ticks}
+use Rattle.dover_model.proofs.ReadyParts.{change}
 use Rattle.ready_jobs.specs.Reordered.{IsReordered}
 use Rattle.ready_jobs.specs.Parts.{Parted, HaveRoles, AreSound, ready_of, state_of}
 use Rattle.ready_jobs.specs.Following.{IsPart, SettlesTo, SettlesFrom}

@@ -10,18 +10,17 @@ use Rattle.dover_model.specs.Fraction.{Fraction}
 use Rattle.dover_model.specs.JobFacts.{JobFacts}
 use Rattle.dover_model.specs.Instance.{Instance, IsValid}
 use Rattle.dover_model.specs.Sound.{Keeps}
-use Rattle.dover_model.specs.State.{State, is_waiting, is_over}
+use Rattle.dover_model.specs.State.{State, is_waiting, is_over, state_at}
 use Rattle.dover_model.specs.Step.{Move, Prints, open_step, after, with_role}
 use Rattle.dover_model.specs.Run.{Step}
 use Rattle.dover_model.proofs.Kept.{open_kept}
-use Rattle.dover_model.proofs.Potential.{one_if, weight, weight_in, standing, stands}
+use Rattle.dover_model.specs.Weights.{one_if, weight, weight_in, standing, stands}
 use Rattle.dover_model.proofs.Roles.{is_over_role}
-use Rattle.dover_model.proofs.WaitingMoves.{exits_scale, waiting_count, open_leaves}
-use Rattle.scanned_step.specs.Moves.{state_at}
-use Rattle.queued_jobs.specs.Costs.{cost_of}
-use Rattle.queued_jobs.specs.Spending.{exits, waits_among, HasSpentFor, CostsAtMost}
-use Rattle.queued_jobs.proofs.Spending.{so_far_for, spent_few, spent_on, spent_more, open_falls, open_pays}
-use Rattle.trace_reading.specs.Leading.{Idles}
+use Rattle.dover_model.specs.Spending.{exits_scale, waiting_count, cost_of, exits, waits_among, HasSpentFor}
+use Rattle.dover_model.specs.Spending.{CostsAtMost}
+use Rattle.dover_model.proofs.WaitingMoves.{open_leaves}
+use Rattle.dover_model.proofs.Spending.{so_far_for, spent_few, spent_on, spent_more, open_falls, open_pays}
+use Rattle.dover_model.specs.Leading.{Idles}
 use Rattle.ready_jobs.specs.Reordered.{IsReordered}
 use Rattle.ready_jobs.specs.Parts.{Parted, HaveRoles, ready_of, state_of}
 use Rattle.ready_jobs.specs.Changed.{Leaves}
@@ -30,7 +29,7 @@ use Rattle.ready_jobs.specs.Spending.{HasPaid}
 use Rattle.ready_jobs.proofs.Costing.{sum_ready, over_not_waiting, fewer_wait, cost_whole}
 use Rattle.ready_jobs.proofs.Courses.{follows_count, follows_fewer, follows_part, follows_step, course_takes}
 use Rattle.ready_jobs.proofs.Seeing.{waiting_list}
-use Rattle.trace_reading.proofs.ReadyParts.{change}
+use Rattle.dover_model.proofs.ReadyParts.{change}
 
 -- ---- in all
 

@@ -9,15 +9,14 @@ use Rattle.dover_model.specs.declared.events.Task.{Task}
 use Rattle.dover_model.specs.Fraction.{Fraction}
 use Rattle.dover_model.specs.JobFacts.{JobFacts}
 use Rattle.dover_model.specs.Instance.{Rules, Instance, IsValid}
-use Rattle.dover_model.specs.State.{State, is_coming, is_done, value_sum}
+use Rattle.dover_model.specs.State.{State, is_coming, is_done, value_sum, state_at}
 use Rattle.dover_model.specs.Step.{Move, Prints, open_step, after, view}
 use Rattle.dover_model.specs.Run.{Step}
 use Rattle.dover_model.specs.Settled.{waits_for_mark}
 use Rattle.dover_model.specs.Sound.{Each, Keeps}
 use Rattle.dover_model.specs.WholeRun.{IsBefore}
-use Rattle.scanned_step.specs.Moves.{state_at}
-use Rattle.trace_reading.specs.Leading.{Idles, IsSilent, GoesOn, WaitsUntil, PrintsNext}
-use Rattle.trace_reading.specs.Ready.{is_ready}
+use Rattle.dover_model.specs.Leading.{Idles, IsSilent, GoesOn, WaitsUntil, PrintsNext}
+use Rattle.dover_model.specs.Ready.{is_ready}
 use Rattle.ready_jobs.specs.Reordered.{IsReordered}
 use Rattle.ready_jobs.specs.Parts.{Parted, ready_of}
 use Rattle.ready_jobs.specs.Deeds.{Finds, step_at}

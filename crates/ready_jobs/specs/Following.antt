@@ -6,8 +6,8 @@ use Rattle.dover_model.specs.Instance.{Rules, Instance, IsValid}
 use Rattle.dover_model.specs.State.{State, is_coming, is_done, value_sum}
 use Rattle.dover_model.specs.Run.{Step}
 use Rattle.dover_model.specs.Sound.{Each, Keeps}
-use Rattle.trace_reading.specs.Leading.{Settles}
-use Rattle.trace_reading.specs.Ready.{is_ready}
+use Rattle.dover_model.specs.Leading.{Settles}
+use Rattle.dover_model.specs.Ready.{is_ready}
 use Rattle.ready_jobs.specs.Reordered.{IsReordered}
 use Rattle.ready_jobs.specs.Parts.{Parted, ready_of}
 

@@ -3,6 +3,8 @@ pub mod Short
 pub mod Slots
 pub mod Pools
 pub mod Parts
+pub mod Cases
+pub mod Dues
 pub mod Kept
 pub mod Changed
 pub mod Deeds

@@ -2,11 +2,10 @@
 ghost use Rattle.std.specs.Prelude.{◌≡◌, ◌↔◌, IsTrue};
 ghost use Rattle.dover_model.specs.declared.events.Event.TheVariants.{Run, Preempt, Take, Complete, Abandon};
 ghost use Rattle.dover_model.specs.Step.{Prints};
-ghost use Rattle.scanned_step.specs.Moves.{step_of};
+ghost use Rattle.dover_model.specs.Run.{event_of};
 ghost use Rattle.ready_jobs.specs.Deeds.{step_at};
 
 use dover_model::Event;
-use scanned_step::Move;
 
 /// What the ready jobs do next, with the numbers of the jobs that do it. It is a step once the clock is known, and no
 /// job comes by it.
@@ -116,20 +115,20 @@ pub(crate) fn prints(tick: u64, deed: Deed, event: &Event) -> bool
     }
 }
 
-// The step at this tick.
+// The step at this tick, if the deed prints one.
 #[inline(always)]
-pub(crate) fn step_at(at: u64, deed: Deed) -> Move
-    ensures { step_of result ≡ step_at at deed }
+pub(crate) fn event_at(at: u64, deed: Deed) -> Option<Event>
+    ensures { result ≡ event_of (step_at at deed) }
 {
     match deed {
-        Deed::Resume { number } => Move::Prints(Event::Run { at, number }),
-        Deed::Start { number } => Move::Prints(Event::Run { at, number }),
-        Deed::Begin { number } => Move::Prints(Event::Run { at, number }),
-        Deed::Preempt { stops, starts } => Move::Prints(Event::Preempt { at, stops, starts }),
-        Deed::Take { stops, starts } => Move::Prints(Event::Take { at, stops, starts }),
-        Deed::Complete { number } => Move::Prints(Event::Complete { at, number }),
-        Deed::Abandon { number } => Move::Prints(Event::Abandon { at, number }),
-        Deed::Wait { number } => Move::Waits(number),
-        Deed::Tick => Move::Ticks,
+        Deed::Resume { number } => Some(Event::Run { at, number }),
+        Deed::Start { number } => Some(Event::Run { at, number }),
+        Deed::Begin { number } => Some(Event::Run { at, number }),
+        Deed::Preempt { stops, starts } => Some(Event::Preempt { at, stops, starts }),
+        Deed::Take { stops, starts } => Some(Event::Take { at, stops, starts }),
+        Deed::Complete { number } => Some(Event::Complete { at, number }),
+        Deed::Abandon { number } => Some(Event::Abandon { at, number }),
+        Deed::Wait { .. } => None,
+        Deed::Tick => None,
     }
 }

@@ -1,25 +1,23 @@
 //! The run of the jobs that were released so far, over those that are ready.
-ghost use Rattle.std.specs.Prelude.{◌≡◌, ◌≢◌, ◌↔◌, ◌≤◌, ◌<◌, ◌+◌, ◌∷◌, [], ◌++◌, ℕ, ◌&&◌, nat_le, min, length};
-ghost use Rattle.std.specs.Prelude.{true, false, IsTrue, IfOk, IsOk, OnOk, OnErr, IfSome, option_map};
+ghost use Rattle.std.specs.Prelude.{◌≡◌, ◌≢◌, ◌↔◌, ◌≤◌, ◌<◌, ◌+◌, ◌∷◌, [], ◌++◌, ℕ, ◌&&◌, nat_le, min, max, length, true};
+ghost use Rattle.std.specs.Prelude.{false, IsTrue, IfOk, IsOk, OnOk, OnErr, IfSome, option_map};
 ghost use Rattle.dover_model.specs.declared.events.Event.{Event};
 ghost use Rattle.dover_model.specs.declared.events.Event.TheVariants.{End};
 ghost use Rattle.dover_model.specs.Limits.{last_tick, most_jobs, most_total};
 ghost use Rattle.dover_model.specs.Instance.{Instance};
-ghost use Rattle.dover_model.specs.State.{State};
+ghost use Rattle.dover_model.specs.State.{State, state_at};
 ghost use Rattle.dover_model.specs.Step.{Prints, open_step, view};
 ghost use Rattle.dover_model.specs.Settled.{waits_for_mark};
-ghost use Rattle.scanned_step.specs.Moves.{state_at};
 ghost use Rattle.ready_jobs.specs.Reordered.{IsReordered};
-ghost use Rattle.ready_jobs.specs.Course.{Course, Follows, IsCourse, Reached, Settled, new_course, fresh_job};
-ghost use Rattle.ready_jobs.specs.Course.{IsDue, SettlesAt, StepsBefore, ComesNext, Passes, Takes, with_release};
+ghost use Rattle.ready_jobs.specs.Course.{Course, Follows, IsCourse, Reached, Settled, new_course, fresh_job, IsDue};
+ghost use Rattle.ready_jobs.specs.Course.{SettlesAt, StepsBefore, ComesNext, Passes, Takes, with_release};
 ghost use Rattle.ready_jobs.specs.Deeds.{Finds, step_at};
 ghost use Rattle.ready_jobs.specs.Spending.{HasPaid};
 
-use crate::deeds::{Deed, Due, prints, step_at};
+use crate::deeds::{Deed, Due, event_at, prints};
 use crate::parts::Parts;
 use dover_model::jobs::LAST_TICK;
 use dover_model::{Event, Job, Memory, Ratio, Version};
-use scanned_step::Move;
 use std::alloc::Global;
 use std::marker::Model;
 use std::sync::ledger::Ledger;
@@ -77,6 +75,7 @@ impl Ready {
         ensures same { self.new ≡ record self.old { room = self.new.room } }
         ensures room { OnOk result (min (length self.old.ready + more) most_jobs ≤ self.new.room) }
         ensures grows { self.old.room ≤ self.new.room }
+        ensures few { self.new.room ≤ max self.old.room (min (length self.old.ready + more) most_jobs) }
         ensures err { OnErr result (self.new.room ≡ self.old.room) }
         ensures enough { length self.old.ready + more ≤ self.old.room → IsOk result }
         ensures paid { (start now : ℕ) → HasPaid self.old start now → HasPaid self.new start now }
@@ -203,16 +202,15 @@ impl Ready {
         }
         let deed = self.go_on(mark, steps);
         let clock = self.parts.clock();
-        match step_at(clock, deed) {
-            Move::Prints(event) => {
+        match event_at(clock, deed) {
+            Some(event) => {
                 if is_late_at(&event, mark, clock) {
                     None
                 } else {
                     Some(Due { deed, event })
                 }
             }
-            Move::Waits(_) => None,
-            Move::Ticks => None,
+            None => None,
         }
     }
 
@@ -228,10 +226,9 @@ impl Ready {
     {
         self.parts.laws();
         let deed = self.go_on(LAST_TICK, steps);
-        match step_at(self.parts.clock(), deed) {
-            Move::Prints(event) => Due { deed, event },
-            Move::Waits(_) => unreachable!(),
-            Move::Ticks => unreachable!(),
+        match event_at(self.parts.clock(), deed) {
+            Some(event) => Due { deed, event },
+            None => unreachable!(),
         }
     }
 

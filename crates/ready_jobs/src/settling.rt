@@ -5,7 +5,7 @@ ghost use Rattle.dover_model.specs.declared.events.Task.{Task};
 ghost use Rattle.dover_model.specs.Instance.{Rules};
 ghost use Rattle.dover_model.specs.Limits.{last_tick};
 ghost use Rattle.dover_model.specs.Step.{open_step, view, with_role, Waits, Ticks};
-ghost use Rattle.trace_reading.specs.Leading.{IsSilent};
+ghost use Rattle.dover_model.specs.Leading.{IsSilent};
 ghost use Rattle.ready_jobs.specs.Deeds.{step_at, Finds};
 ghost use Rattle.ready_jobs.specs.Reordered.{IsReordered};
 ghost use Rattle.ready_jobs.specs.Parts.{Parted, ready_of, state_of};

@@ -1,3 +1,5 @@
 pub mod Stepping
 pub mod Releasing
 pub mod Renewing
+pub mod Feeding
+pub mod Showing

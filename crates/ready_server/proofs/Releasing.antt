@@ -10,7 +10,7 @@ use Rattle.dover_model.specs.declared.events.Task.{Task}
 use Rattle.dover_model.specs.JobFacts.{JobFacts, IsJob}
 use Rattle.dover_model.specs.Limits.{last_tick}
 use Rattle.dover_model.specs.Instance.{Instance, IsValid, with_jobs}
-use Rattle.dover_model.specs.State.{State, opening, with_later, is_coming}
+use Rattle.dover_model.specs.State.{State, opening, with_later, is_coming, state_at}
 use Rattle.dover_model.specs.Step.{Prints, open_step}
 use Rattle.dover_model.specs.Settled.{waits_for_mark, settled}
 use Rattle.dover_model.specs.WholeRun.{IsBefore}
@@ -22,10 +22,9 @@ use Rattle.dover_model.proofs.Releasing.{coming_task, barrier_releases}
 use Rattle.dover_model.proofs.Roles.{passes}
 use Rattle.dover_model.proofs.Settling.{at_barrier}
 use Rattle.dover_model.proofs.Tests.{never}
-use Rattle.scanned_step.specs.Moves.{state_at}
-use Rattle.trace_reading.specs.Reading.{with_fresh}
-use Rattle.trace_reading.proofs.Released.{after_release}
-use Rattle.dover_server.specs.declared.horizon.Horizon.TheVariants.{Mark}
+use Rattle.dover_model.specs.Ready.{with_fresh}
+use Rattle.dover_model.proofs.Released.{after_release}
+use Rattle.dover_model.specs.declared.horizon.Horizon.TheVariants.{Mark}
 use Rattle.ready_jobs.specs.Reordered.{IsReordered}
 use Rattle.ready_jobs.specs.Course.{Course, Follows, IsCourse, fresh_job, with_release}
 use Rattle.ready_jobs.proofs.Courses.{follows_count, follows_order}

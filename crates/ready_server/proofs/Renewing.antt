@@ -15,7 +15,7 @@ use Rattle.dover_model.proofs.Deeds.{over_rests}
 use Rattle.dover_model.proofs.Kept.{open_deed}
 use Rattle.dover_model.proofs.Paths.{printed_more, printed_settled}
 use Rattle.dover_model.proofs.Resting.{printed_none}
-use Rattle.dover_server.specs.declared.horizon.Horizon.TheVariants.{Mark}
+use Rattle.dover_model.specs.declared.horizon.Horizon.TheVariants.{Mark}
 use Rattle.ready_jobs.specs.Course.{Course, Follows}
 use Rattle.ready_jobs.proofs.Courses.{none_keeps, renewed_follows}
 use Rattle.ready_server.specs.Serving.{Rests}

@@ -10,7 +10,7 @@ use Rattle.dover_model.specs.declared.events.Event.TheVariants as events
 use Rattle.dover_model.specs.declared.Memory.{Memory}
 use Rattle.dover_model.specs.Limits.{last_tick, most_jobs}
 use Rattle.dover_model.specs.Instance.{Rules, Instance, IsValid}
-use Rattle.dover_model.specs.State.{State, opening}
+use Rattle.dover_model.specs.State.{State, opening, state_at}
 use Rattle.dover_model.specs.Step.{Prints, step, open_step, after}
 use Rattle.dover_model.specs.Run.{Step, is_end, event_of, printed, printed_of, last_deadline}
 use Rattle.dover_model.specs.Settled.{settled}
@@ -22,14 +22,11 @@ use Rattle.dover_model.proofs.Kept.{open_kept}
 use Rattle.dover_model.proofs.Paths.{printed_more, printed_settled, printed_then_run, printed_begins, path_low}
 use Rattle.dover_model.proofs.Prefixes.{step_open, open_goes_on}
 use Rattle.dover_model.proofs.ShortNumbers.{step_short, IsShortMove}
-use Rattle.scanned_step.specs.Moves.{state_at}
-use Rattle.trace_reading.specs.Leading.{Settles, Idles, GoesOn, WaitsUntil, PrintsNext}
-use Rattle.trace_reading.proofs.Leading.{idles_settles, settles_silent}
-use Rattle.dover_server.specs.declared.horizon.Horizon.{Horizon}
-use Rattle.dover_server.specs.declared.horizon.Horizon.TheVariants.{Mark, End}
-use Rattle.dover_server.specs.Service.{MayFollow}
-use Rattle.dover_server.specs.Leading.{is_end_given}
-use Rattle.dispatcher.specs.Dispatch.{due_by, Gives}
+use Rattle.dover_model.specs.Leading.{Settles, Idles, GoesOn, WaitsUntil, PrintsNext}
+use Rattle.dover_model.proofs.Leading.{idles_settles, settles_silent}
+use Rattle.dover_model.specs.declared.horizon.Horizon.{Horizon}
+use Rattle.dover_model.specs.declared.horizon.Horizon.TheVariants.{Mark, End}
+use Rattle.dover_model.specs.Horizons.{MayFollow, is_end_given, due_by, Gives}
 use Rattle.ready_jobs.specs.Course.{Course, Follows, Comes, ComesNext, Settled, StepsBefore}
 use Rattle.ready_jobs.proofs.Courses.{follows_count, follows_fewer}
 use Rattle.ready_server.specs.Serving.{LeavesRest, HasGiven, Serves, Rests, HasShortValue}

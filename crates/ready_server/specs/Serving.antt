@@ -4,14 +4,13 @@ use Rattle.std.specs.Bool.{MatchBool}
 use Rattle.dover_model.specs.declared.events.Event.{Event}
 use Rattle.dover_model.specs.declared.events.Event.TheVariants as events
 use Rattle.dover_model.specs.Instance.{Instance}
-use Rattle.dover_model.specs.State.{State}
+use Rattle.dover_model.specs.State.{State, state_at}
 use Rattle.dover_model.specs.Run.{Step, printed, printed_of}
 use Rattle.dover_model.specs.Settled.{settled}
 use Rattle.dover_model.specs.WholeRun.{IsWholeRun, IsBarrier}
 use Rattle.dover_model.specs.Paths.{HasPrinted}
-use Rattle.scanned_step.specs.Moves.{state_at}
-use Rattle.dover_server.specs.declared.horizon.Horizon.{Horizon}
-use Rattle.dover_server.specs.declared.horizon.Horizon.TheVariants.{Mark, End}
+use Rattle.dover_model.specs.declared.horizon.Horizon.{Horizon}
+use Rattle.dover_model.specs.declared.horizon.Horizon.TheVariants.{Mark, End}
 use Rattle.ready_jobs.specs.Course.{Follows}
 use Rattle.ready_jobs.specs.Spending as spending
 use Rattle.ready_server.specs.declared.server.ReadyServer.{ReadyServer}

@@ -1,6 +1,14 @@
-//! The on-line server that forgets each job as it is over.
+//! The on-line server that forgets each job as it is over, and lists of jobs that are served to the end.
 #![tactic(auto)]
 
-mod server;
+pub mod dispatcher;
+mod running;
+pub mod server;
+mod source;
+mod watcher;
 
+pub use dispatcher::Dispatcher;
+pub use running::run_list;
 pub use server::ReadyServer;
+pub use source::JobSource;
+pub use watcher::Watcher;

@@ -1,22 +1,22 @@
 //! The server over the jobs that are ready.
-ghost use Rattle.std.specs.Prelude.{◌≡◌, ◌≤◌, ◌+◌, ◌∷◌, [], ◌++◌, ◌||◌, ◌↔◌, ℕ, List, length, min, IfOk, OnOk, IfSome, IsTrue, false};
+ghost use Rattle.std.specs.Prelude.{◌≡◌, ◌≤◌, ◌+◌, ◌∷◌, [], ◌++◌, ◌||◌, ◌↔◌, ◌*◌, ℕ, List, length, min, max, IfOk};
+ghost use Rattle.std.specs.Prelude.{IsOk, OnOk, IfSome, IsTrue, false};
 ghost use Rattle.dover_model.specs.declared.events.Event.{Event};
 ghost use Rattle.dover_model.specs.Instance.{Instance, IsValid, with_jobs};
 ghost use Rattle.dover_model.specs.Limits.{most_jobs, most_total, last_tick};
 ghost use Rattle.dover_model.specs.Rest.{instead};
 ghost use Rattle.dover_model.specs.Settled.{settled};
 ghost use Rattle.dover_model.specs.Run.{is_end};
+ghost use Rattle.dover_model.specs.Spending.{CostsAtMost};
 ghost use Rattle.dover_model.specs.Step.{Prints};
-ghost use Rattle.dover_server.specs.declared.horizon.Horizon.{Horizon};
-ghost use Rattle.dover_server.specs.declared.horizon.Horizon.TheVariants.{Mark, End};
-ghost use Rattle.dover_server.specs.Service.{MayFollow};
-ghost use Rattle.dover_server.specs.Leading.{is_end_given};
-ghost use Rattle.dispatcher.specs.Dispatch.{no_jobs, due_by, Gives};
+ghost use Rattle.dover_model.specs.WholeRun.{Begins};
+ghost use Rattle.dover_model.specs.declared.horizon.Horizon.{Horizon};
+ghost use Rattle.dover_model.specs.declared.horizon.Horizon.TheVariants.{Mark, End};
+ghost use Rattle.dover_model.specs.Horizons.{MayFollow, is_end_given, no_jobs, due_by, Gives};
 ghost use Rattle.ready_server.specs.Serving.{Serves, Rests, HasPlace, HasPaid, spare_of, HasShortValue};
 
-use dispatcher::Dispatcher;
-use dover_model::{Event, Job, Memory, Ratio, Version};
-use dover_server::Horizon;
+use crate::dispatcher::Dispatcher;
+use dover_model::{Event, Horizon, Job, Memory, Ratio, Version};
 use ready_jobs::Ready;
 use std::alloc::Global;
 use std::sync::ledger::Ledger;
@@ -48,6 +48,19 @@ fn is_end(event: &Event) -> bool
 }
 
 impl ReadyServer {
+    ghost use Rattle.ready_server.specs.declared.server.ReadyServer.{ReadyServer};
+
+    /// What holds of each. It does nothing.
+    pub fn laws()
+        ensures valid { (s : ReadyServer) (J : Instance) (to : Horizon) (events : List Event) → Serves s J to events
+            → IsValid J }
+        ensures begins { (s : ReadyServer) (J : Instance) (to : Horizon) (events : List Event) → Serves s J to events
+            → Begins events (due_by J to) }
+        ensures rested { (s : ReadyServer) (J : Instance) (to : Horizon) → Rests s J to → Serves s J to (due_by J to) }
+        ensures few { (s : ReadyServer) (J : Instance) (to : Horizon) (events : List Event) (start now : ℕ) →
+            Serves s J to events → HasPaid s start now → CostsAtMost (length J.jobs) start now }
+    {}
+
     /// No job is admitted yet, there is room for none, and the clock is 0.
     ///
     /// # Errors
@@ -75,10 +88,35 @@ impl ReadyServer {
         ensures serves { (J : Instance) (to : Horizon) (events : List Event) → Serves self.old J to events
             → Serves self.new J to events }
         ensures room { OnOk result (min (length self.old.ready.ready + more) most_jobs ≤ self.new.ready.room) }
+        ensures few { self.new.ready.room
+            ≤ max self.old.ready.room (min (length self.old.ready.ready + more) most_jobs) }
         ensures same { self.new.ready.ready ≡ self.old.ready.ready }
         ensures paid { (start now : ℕ) → HasPaid self.old start now → HasPaid self.new start now }
     {
         self.ready.reserve(more)
+    }
+
+    /// Makes room for one job more: for at most twice as many as are ready, where there wasn't room for more before.
+    /// Where there is room, it takes no memory.
+    ///
+    /// # Errors
+    ///
+    /// `Memory` where there is none. It has come as far as before, and room can be asked for again.
+    pub fn make_room(&mut self) -> Result<(), Memory>
+        requires { (J : Instance) × (to : Horizon) × (events : List Event) × Serves self.old J to events
+            × (length J.jobs + 1 ≤ most_jobs) }
+        ensures serves { (J : Instance) (to : Horizon) (events : List Event) → Serves self.old J to events
+            → Serves self.new J to events }
+        ensures room { OnOk result (HasPlace self.new) }
+        ensures enough { HasPlace self.old → IsOk result × (self.new ≡ self.old) }
+        ensures few { self.new.ready.room ≤ max self.old.ready.room (max 1 (2 * length self.old.ready.ready)) }
+        ensures paid { (start now : ℕ) → HasPaid self.old start now → HasPaid self.new start now }
+    {
+        let ready = self.ready.count();
+        if ready < self.ready.room() {
+            return Ok(());
+        }
+        self.ready.reserve(ready.max(1))
     }
 
     /// For how many ready jobs more there is room.
@@ -138,6 +176,7 @@ impl ReadyServer {
         ensures ended { self.new.ended ≡ self.old.ended }
         ensures spare { spare_of self.old ≤ spare_of self.new }
         ensures room { HasPlace self.old → HasPlace self.new }
+        ensures room_stays { self.new.ready.room ≡ self.old.ready.room }
         ensures paid { (start : ℕ) → HasPaid self.old start steps.old → HasPaid self.new start steps.new }
     {
         self.ready.step(mark, steps)
@@ -153,6 +192,7 @@ impl ReadyServer {
         ensures short { IfSome result HasShortValue }
         ensures spare { spare_of self.old ≤ spare_of self.new }
         ensures room { HasPlace self.old → HasPlace self.new }
+        ensures room_stays { self.new.ready.room ≡ self.old.ready.room }
         ensures paid { (start : ℕ) → HasPaid self.old start steps.old → HasPaid self.new start steps.new }
     {
         if self.ended {
@@ -166,7 +206,11 @@ impl ReadyServer {
         Some(event)
     }
 
-    /// The next printed step of the run of the admitted jobs, up to the horizon. It makes no room less.
+    /// The next printed step of the run of the admitted jobs. At a mark it is None where none comes before the first
+    /// decision at a latest start, or silent tick, at the mark or after it. At the end it is None where End was given
+    /// before. No memory is taken. Comparisons of jobs are counted in `steps`.
+    ///
+    /// A mark is a tick, at most 1,000,000,000,000. Marks never fall, and none comes behind `Horizon::End`.
     #[inline(always)]
     pub fn step<L: Ledger>(&mut self, to: Horizon, steps: &mut Steps<L>) -> Option<Event>
         requires { (J : Instance) × (from : Horizon) × (events : List Event) × Serves self.old J from events
@@ -178,6 +222,7 @@ impl ReadyServer {
         ensures short { IfSome result HasShortValue }
         ensures spare { spare_of self.old ≤ spare_of self.new }
         ensures room { HasPlace self.old → HasPlace self.new }
+        ensures room_stays { self.new.ready.room ≡ self.old.ready.room }
         ensures paid { (start : ℕ) → HasPaid self.old start steps.old → HasPaid self.new start steps.new }
     {
         match to {
@@ -195,6 +240,7 @@ impl ReadyServer {
             Serves self.new (with_jobs J (job ∷ [])) (Mark job.release) (settled J job.release ++ result ∷ []) }
         ensures open { is_end (Prints result) ≡ false }
         ensures spare { spare_of self.old ≤ spare_of self.new + 1 }
+        ensures room_stays { self.new.ready.room ≡ self.old.ready.room }
         ensures paid { (start now : ℕ) → HasPaid self.old start now → HasPaid self.new start now }
     {
         let number = self.ready.jobs();
@@ -212,18 +258,16 @@ impl Dispatcher for ReadyServer {
 
     ghost paid = { HasPaid };
 
-    fn laws() {}
+    fn laws() {
+        ReadyServer::laws();
+    }
 
     fn new(alloc: Global, version: Version, k: Ratio) -> Result<ReadyServer, Memory> {
         ReadyServer::new(alloc, version, k)
     }
 
     fn make_room(&mut self) -> Result<(), Memory> {
-        let ready = self.ready.count();
-        if ready < self.ready.room() {
-            return Ok(());
-        }
-        self.ready.reserve(ready.max(1))
+        ReadyServer::make_room(self)
     }
 
     #[inline(always)]

@@ -2,7 +2,7 @@
 use Rattle.std.proofs.Common.{◌≡◌, ◌<◌, ◌^◌, ◌-◌, ℕ, List, ◌++◌, length, ap, sym, subst, ◌∙◌, true, arith}
 use Rattle.dover_model.specs.Feed.{account}
 use Rattle.dover_model.proofs.Tests.{never}
-use Rattle.dispatcher.specs.Serving.{Serves, HasRoom, HasPaid}
+use Rattle.dover_server.specs.Serving.{Serves, HasRoom, HasPaid}
 use Rattle.dover_server.specs.Service.{Service}
 use Rattle.event_feed.proofs.GoingOn.{open_bytes, open_short}
 use Rattle.lane_server.proofs.Adding.{open_stands}

@@ -1,7 +1,7 @@
 -- The comparisons of a snapshot that is read, by its jobs.
 use Rattle.std.proofs.Common.{ℕ, ◌*◌, ◌≤◌, length, arith, Option, Some, None}
-use Rattle.queued_jobs.specs.Spending.{waits_so_far, CostsAtMost}
-use Rattle.queued_jobs.proofs.Spending.{among_most, all_few}
+use Rattle.dover_model.specs.Spending.{waits_so_far, CostsAtMost}
+use Rattle.dover_model.proofs.Spending.{among_most, all_few}
 use Rattle.snapshot.specs.Spending.{jobs_kept, HasSpentOn}
 use Rattle.snapshot.specs.declared.resuming.Resuming.{Resuming}
 

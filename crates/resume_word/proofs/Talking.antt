@@ -1,8 +1,6 @@
 -- A snapshot that is read, and its feed behind it, as a talk.
-use Rattle.std.proofs.Common.{◌≡◌, ◌<◌, ◌≤◌, ◌*◌, ◌^◌, ◌-◌, ℕ, List, [], ◌∷◌, ◌++◌, length, refl}
-use Rattle.std.proofs.Common.{sym, ap}
-use Rattle.std.proofs.Common.{◌∙◌, subst, append_assoc, length-append, arith, true, false, inl}
-use Rattle.std.proofs.Common.{inr, codes}
+use Rattle.std.proofs.Common.{◌≡◌, ◌<◌, ◌≤◌, ◌*◌, ◌^◌, ◌-◌, ℕ, List, [], ◌∷◌, ◌++◌, length, refl, sym, ap, ◌∙◌, subst}
+use Rattle.std.proofs.Common.{append_assoc, length-append, arith, true, false, inl, inr, codes}
 use Rattle.std.proofs.lemmas.List.{length-map}
 use Rattle.dover_model.specs.declared.events.Task.{Task}
 use Rattle.dover_model.specs.Lines.{in_lines, lines_of}
@@ -13,8 +11,8 @@ use Rattle.dover_model.proofs.Tests.{never}
 use Rattle.line_text.proofs.Lengths.{AreNotTooLong}
 use Rattle.dover_port.specs.declared.status.Status.{Status}
 use Rattle.dialogue.specs.Talk.{IsSteady}
-use Rattle.queued_jobs.specs.Spending.{CostsAtMost}
-use Rattle.queued_jobs.proofs.Spending.{few_more}
+use Rattle.dover_model.specs.Spending.{CostsAtMost}
+use Rattle.dover_model.proofs.Spending.{few_more}
 use Rattle.event_feed.specs.Answers.{admitted_in}
 use Rattle.event_feed.proofs.Admitting.{admitted_front}
 use Rattle.snapshot.specs.Snapshot.{MayPause, Head, state_line, snapshot}

@@ -3,7 +3,7 @@ use Rattle.std.specs.Prelude.{◌≡◌, Bool, ℕ, suc, List, [], ◌∷◌, �
 use Rattle.dover_model.specs.Lines.{in_lines, lines_of, whole_lines, line_of}
 use Rattle.dover_model.specs.WholeRun.{Begins}
 use Rattle.dover_model.specs.Feed.{account}
-use Rattle.queued_jobs.specs.Spending.{CostsAtMost}
+use Rattle.dover_model.specs.Spending.{CostsAtMost}
 use Rattle.event_feed.specs.Answers.{admitted_in}
 use Rattle.dover_port.specs.Moves.{Move, ins, outs, has_ended, EachRead, IsProperPrefix}
 use Rattle.dover_port.specs.declared.status.Status.{Status}

@@ -1,3 +1,5 @@
+pub mod Changing
+pub mod Held
 pub mod Follows
 pub mod Roles
 pub mod Steps

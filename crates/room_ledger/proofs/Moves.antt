@@ -1,6 +1,6 @@
 -- The page follows each step of the machine.
-use Rattle.std.proofs.Common.{◌≡◌, ℕ, ◌+◌, ◌≤◌, ◌<◌, ◌⊎◌, inl, inr, List, ◌∷◌, length, refl, sym, ap, ◌∙◌, subst}
-use Rattle.std.proofs.Common.{Bool, true, false, cond, arith}
+use Rattle.std.proofs.Common.{◌≡◌, ℕ, ◌+◌, ◌≤◌, ◌<◌, ◌⊎◌, inl, inr, List, ◌∷◌, length, refl, sym, ap, ◌∙◌, subst, Bool}
+use Rattle.std.proofs.Common.{true, false, cond, arith}
 use Rattle.std.proofs.lemmas.Bool.{eq-eqb, ne_eqb}
 use Rattle.std.proofs.lemmas.List.Sums.{sum_by-cons}
 use Rattle.std.specs.Prelude.{Option, Some, None, ◌==◌, nat_lt}
@@ -24,14 +24,12 @@ use Rattle.dover_model.proofs.Roles.{one_number, passes, is_held_role, is_runnin
 use Rattle.dover_model.proofs.Roles.{numbered_map}
 use Rattle.dover_model.proofs.Tests.{never}
 use Rattle.dover_model.proofs.Ticking.{Quiet}
-use Rattle.held_queue.specs.Stack.{Stack, top_of, popped, IsByDeadline}
-use Rattle.queued_jobs.specs.Queued.{held_entries}
-use Rattle.queued_jobs.specs.Roles.{with_role_at, all_displaced}
-use Rattle.queued_jobs.proofs.Displacing.{displaced_same}
-use Rattle.queued_jobs.proofs.Looking.{busy_room, entries_later, held_value}
-use Rattle.queued_jobs.proofs.Steps.{value_room}
-use Rattle.room_ledger.specs.Pages.{Page, empty, turn_at, stopped, started, with_hold, without, room_with}
-use Rattle.room_ledger.specs.Pages.{CanHold, CanStop}
+use Rattle.held_queue.specs.Stack.{Stack, top_of, popped, IsByDeadline, held_entries}
+use Rattle.room_ledger.specs.Roles.{with_role_at, all_displaced}
+use Rattle.room_ledger.proofs.Changing.{displaced_same, entries_later}
+use Rattle.room_ledger.proofs.Held.{busy_room, held_value, value_room}
+use Rattle.room_ledger.specs.Pages.{Page, empty, turn_at, stopped, started, with_hold, without, room_with, CanHold}
+use Rattle.room_ledger.specs.Pages.{CanStop}
 use Rattle.room_ledger.proofs.Follows.{IsTurn, Follows, Next}
 use Rattle.room_ledger.proofs.Roles.{held_same, held_more, held_less, none_pass, top_held, one_runner, each_all}
 use Rattle.room_ledger.proofs.Steps.{at_clock, within, the_turn, turned, halted, passed, starts, displaces}

@@ -1,6 +1,6 @@
 -- Jobs whose roles change: which stand in the held stack, and which runs.
-use Rattle.std.proofs.Common.{◌≡◌, ℕ, suc, ◌+◌, ◌-◌, ◌<◌, inl, inr, List, [], ◌∷◌, map, refl, sym, ap, ◌∙◌}
-use Rattle.std.proofs.Common.{subst, Bool, true, false, cond, arith}
+use Rattle.std.proofs.Common.{◌≡◌, ℕ, suc, ◌+◌, ◌-◌, ◌<◌, inl, inr, List, [], ◌∷◌, map, refl, sym, ap, ◌∙◌, subst, Bool}
+use Rattle.std.proofs.Common.{true, false, cond, arith}
 use Rattle.std.specs.Prelude.{Some}
 use Rattle.std.specs.List.{filter, AllByRecursion}
 use Rattle.std.proofs.lemmas.Option.{slice_get_within}
@@ -15,14 +15,10 @@ use Rattle.dover_model.specs.Step.{with_role, displaced, ticked}
 use Rattle.dover_model.proofs.Members.{on_map, member_filter, by_bool}
 use Rattle.dover_model.proofs.Roles.{is_held_role, is_running_role, numbers_above}
 use Rattle.dover_model.proofs.Tests.{never, none_is_some}
-use Rattle.held_queue.specs.Stack.{top_of}
-use Rattle.queued_jobs.specs.Queued.{by_deadline, held_entries}
-use Rattle.queued_jobs.specs.Roles.{Changes, with_role_at, all_displaced}
-use Rattle.queued_jobs.proofs.Changing.{Splits, changes_at, is_map, splits}
-use Rattle.queued_jobs.proofs.Deadlines.{member_sorted}
-use Rattle.queued_jobs.proofs.Inverting.{task_at}
-use Rattle.queued_jobs.proofs.Lookup.{of_entry}
-use Rattle.queued_jobs.proofs.Replacing.{filter_same, held_in}
+use Rattle.held_queue.specs.Stack.{top_of, by_deadline, held_entries}
+use Rattle.room_ledger.specs.Roles.{Changes, with_role_at, all_displaced}
+use Rattle.room_ledger.proofs.Changing.{Splits, changes_at, is_map, splits, task_at, of_entry, filter_same, held_in}
+use Rattle.held_queue.proofs.Deadlines.{member_sorted}
 
 -- the tasks around one whose role changes
 pub split_of : (tasks : List Task) → IsNumberedFrom 0 tasks → (t : Task) → IsMember t tasks → (new : Role)

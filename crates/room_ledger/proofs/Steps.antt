@@ -1,8 +1,7 @@
 -- The page follows each change of roles.
-use Rattle.std.proofs.Common.{◌≡◌, ℕ, ◌+◌, ◌-◌, ◌<◌, List, length, map, set, refl, sym, ap, ◌∙◌, subst}
-use Rattle.std.proofs.Common.{Bool, true, false, cond, arith}
+use Rattle.std.proofs.Common.{◌≡◌, ℕ, ◌+◌, ◌-◌, ◌<◌, List, length, map, set, refl, sym, ap, ◌∙◌, subst, Bool, true}
+use Rattle.std.proofs.Common.{false, cond, arith, length-set, get_or-set_other}
 use Rattle.std.proofs.lemmas.Bool.{eqb-true, eq-eqb, ne_eqb}
-use Rattle.std.proofs.Common.{length-set, get_or-set_other}
 use Rattle.std.proofs.lemmas.List.{get_or-set_same, length-map}
 use Rattle.std.proofs.lemmas.Option.{slice_get_within}
 use Rattle.std.specs.Prelude.{Option, Some, None, ◌==◌, option_map, slice_index_or}
@@ -17,10 +16,9 @@ use Rattle.dover_model.specs.Step.{with_role, displaced, ticked, after, Ticks}
 use Rattle.dover_model.proofs.Members.{on_map, map_member}
 use Rattle.dover_model.proofs.Roles.{one_number, is_running_role, passes}
 use Rattle.dover_model.proofs.Tests.{never}
-use Rattle.held_queue.specs.Stack.{Stack, IsByDeadline}
-use Rattle.queued_jobs.specs.Queued.{held_entries}
-use Rattle.queued_jobs.specs.Roles.{with_role_at, all_displaced}
-use Rattle.queued_jobs.proofs.Inverting.{task_at}
+use Rattle.held_queue.specs.Stack.{Stack, IsByDeadline, held_entries}
+use Rattle.room_ledger.specs.Roles.{with_role_at, all_displaced}
+use Rattle.room_ledger.proofs.Changing.{task_at}
 use Rattle.room_ledger.specs.Pages.{Page, nobody, empty, ran, turn_at, stored, stopped, started}
 use Rattle.room_ledger.proofs.Follows.{IsTurn, AreStored, Follows}
 use Rattle.room_ledger.proofs.Roles.{held_same, held_ticked, none_held}

@@ -1,7 +1,6 @@
 -- The steps of a run are read: the page follows its states, up to the end.
 use Rattle.std.proofs.Common.{◌≡◌, ℕ, suc, ◌+◌, ◌-◌, ◌≤◌, ◌<◌, ◌⊎◌, inl, inr, List, [], ◌∷◌, ◌++◌, length, map, drop}
-use Rattle.std.proofs.Common.{get_or, refl, sym}
-use Rattle.std.proofs.Common.{ap, ◌∙◌, subst, Bool, true, false, arith, append_assoc, append-nil}
+use Rattle.std.proofs.Common.{get_or, refl, sym, ap, ◌∙◌, subst, Bool, true, false, arith, append_assoc, append-nil}
 use Rattle.std.proofs.lemmas.List.{drop_all, length-map}
 use Rattle.std.specs.Prelude.{None}
 use Rattle.std.specs.Bool.{MatchBool}
@@ -25,7 +24,7 @@ use Rattle.dover_model.proofs.Members.{sum_map}
 use Rattle.dover_model.proofs.Roles.{passes}
 use Rattle.intervals.specs.Rows.{IsRunOf}
 use Rattle.intervals.proofs.Charges.{item_next}
-use Rattle.queued_jobs.specs.Queued.{by_deadline}
+use Rattle.held_queue.specs.Stack.{by_deadline}
 use Rattle.room_ledger.specs.Pages.{Page, nobody, empty, with_event, room_on, IsReadable}
 use Rattle.room_ledger.specs.Rooms.{room_of_step}
 use Rattle.room_ledger.specs.Rooms as tests

@@ -1,14 +1,15 @@
 -- A feed that goes on from its snapshot, one that is paused, and the lines of a snapshot, put one behind another.
 use Rattle.std.proofs.Common.{◌≡◌, ℕ, [], append-nil, sym, ap, ◌∙◌, subst, Some, true, ◌<◌, ◌+◌, ◌-◌, List, ◌∷◌, ◌++◌}
 use Rattle.std.proofs.Common.{length, take, drop, get_or, Option, arith, inl, inr, Err}
+use Rattle.std.proofs.lemmas.List.{append-nil, take_more, take-append-drop}
 use Rattle.dover_model.specs.Session.{instance_of, Session}
 use Rattle.dover_model.specs.State.{State}
 use Rattle.dover_model.specs.Lines.{lines_of, in_lines}
 use Rattle.dover_model.specs.Feed.{account}
 use Rattle.dover_model.proofs.Barriers.{settled_at_barrier}
 use Rattle.dover_server.specs.Service.{Service, Stands}
-use Rattle.queued_jobs.specs.Spending.{HasSpent}
-use Rattle.dispatcher.specs.Serving.{Serves, HasRoom, HasPaid as HasSpentBy}
+use Rattle.dover_model.specs.Spending.{HasSpent}
+use Rattle.dover_server.specs.Serving.{Serves, HasRoom, HasPaid as HasSpentBy}
 use Rattle.event_feed.specs.Kept as feed
 use Rattle.lane_server.specs.Lane.{IsQuiet, Stands as LaneStands}
 use Rattle.lane_server.specs.Feeding.{FeedRests}
@@ -21,13 +22,12 @@ use Rattle.snapshot.specs.Snapshot.{MayPause}
 use Rattle.snapshot.specs.Feeds.{ResumesFeed}
 use Rattle.snapshot.proofs.Feeds.{opened, holds}
 use Rattle.serve_word.specs.Keeping.{Call, IsReady}
-use Rattle.std.proofs.lemmas.List.{append-nil, take_more, take-append-drop}
 use Rattle.dover_model.specs.Paths.{HasPrinted}
 use Rattle.dover_model.specs.Settled.{settled}
 use Rattle.dover_model.proofs.Beginnings.{in_lines-append}
 use Rattle.dover_port.specs.Moves.{Move, Passes, CutsShort}
 use Rattle.dover_port.proofs.Through.{passes_then, passes_then_cut, cut_longer}
-use Rattle.dover_server.specs.declared.horizon.Horizon.TheVariants.{Mark}
+use Rattle.dover_model.specs.declared.horizon.Horizon.TheVariants.{Mark}
 use Rattle.event_feed.specs.Answers.{EndAnswers}
 use Rattle.event_feed.specs.declared.faults.FeedFault.{FeedFault}
 use Rattle.event_feed.proofs.Counting.{lines_counted}

@@ -1,7 +1,7 @@
 -- A feed that is served, as a talk.
 use Rattle.std.proofs.Common.{◌≡◌, ◌<◌, ◌^◌, ◌-◌, ℕ, suc, List, [], ◌∷◌, ◌++◌, length, map, take, refl, sym, ap, ◌∙◌}
-use Rattle.std.proofs.Common.{arith, append_assoc, append-nil, length-append, Bool, true, false, cond, inl, inr}
-use Rattle.std.proofs.Common.{Result, Ok, Err, Option, subst}
+use Rattle.std.proofs.Common.{arith, append_assoc, append-nil, length-append, Bool, true, false, cond, inl, inr, Result}
+use Rattle.std.proofs.Common.{Ok, Err, Option, subst}
 use Rattle.std.specs.Prelude.{OnOk}
 use Rattle.std.proofs.lemmas.List.{length-map}
 use Rattle.std.proofs.lemmas.List.Folds.{flat_map-map}
@@ -26,14 +26,14 @@ use Rattle.dialogue.proofs.Behind as beyond
 use Rattle.dialogue.specs.declared.talker.Stop.{Stop}
 use Rattle.dialogue.specs.declared.talker.Stop.TheVariants.{NoMemory, Unwritten}
 use Rattle.dover_port.specs.Moves.{Move}
-use Rattle.queued_jobs.specs.Spending.{CostsAtMost}
+use Rattle.dover_model.specs.Spending.{CostsAtMost}
 use Rattle.lane_server.specs.Lane.{IsDeclared, IsFaulty, Serving, Having}
 use Rattle.lane_server.specs.Feeding.{FeedStands, Takes}
 use Rattle.lane_server.specs.Spending.{HasPaid}
 use Rattle.lane_server.specs.declared.feed.Feed.{Feed}
 use Rattle.lane_server.proofs.Adding.{open_stands, opens_by}
 use Rattle.lane_server.proofs.Few.{owes_few}
-use Rattle.queued_jobs.proofs.Spending.{few_more}
+use Rattle.dover_model.proofs.Spending.{few_more}
 use Rattle.serve_word.specs.Keeping.{Call, due_behind, serve_talk, Costs, IsGiving}
 use Rattle.serve_word.specs.Talk.{PausesAt, IsServedAs, feed_talk}
 use Rattle.serve_word.specs.declared.at_end.AtEnd.{AtEnd}

@@ -2,8 +2,8 @@
 ghost use Rattle.std.specs.Prelude.{◌≡◌, ◌↔◌, ℕ, List, IsTrue};
 ghost use Rattle.dover_model.specs.Feed.{account};
 ghost use Rattle.dover_model.specs.Lines.{in_lines};
-ghost use Rattle.dispatcher.specs.Serving as kept;
-ghost use Rattle.queued_jobs.specs.Spending.{CostsAtMost};
+ghost use Rattle.dover_server.specs.Serving as kept;
+ghost use Rattle.dover_model.specs.Spending.{CostsAtMost};
 ghost use Rattle.event_feed.specs.Answers.{admitted_in};
 ghost use Rattle.dover_port.specs.Causes.{HasCause, StopsAtFailure};
 ghost use Rattle.dover_port.specs.Moves.{PutsThrough};

@@ -1,6 +1,6 @@
 //! What the reading loop calls: a feed that is served, and may be paused.
 ghost use Rattle.std.specs.Prelude.{◌≡◌};
-ghost use Rattle.dispatcher.specs.Serving.{Serves, HasRoom, HasPaid};
+ghost use Rattle.dover_server.specs.Serving.{Serves, HasRoom, HasPaid};
 ghost use Rattle.serve_word.specs.Keeping.{Call, serve_talk, IsGiving, IsReady, Costs};
 ghost use Rattle.serve_word.specs.declared.at_end.AtEnd.TheVariants.{Pause};
 

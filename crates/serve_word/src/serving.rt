@@ -1,21 +1,20 @@
 //! What the reading loop calls: a feed that is served.
 ghost use Rattle.std.specs.Prelude.{ℕ, []};
-ghost use Rattle.queued_jobs.specs.Spending.{HasSpent};
-ghost use Rattle.dispatcher.specs.Serving.{Serves, HasRoom, HasPaid};
+ghost use Rattle.dover_model.specs.Spending.{HasSpent};
+ghost use Rattle.dover_server.specs.Serving.{Serves, HasRoom, HasPaid};
 ghost use Rattle.snapshot.specs.Snapshot.{MayPause};
 ghost use Rattle.snapshot.specs.Feeds.{ResumesFeed};
 ghost use Rattle.serve_word.specs.Keeping.{Call, whole_call, serve_talk, IsGiving, IsReady, Costs};
 ghost use Rattle.serve_word.specs.declared.at_end.AtEnd.TheVariants.{Refuse};
 
 use dialogue::{Stop, Talker};
-use dispatcher::Dispatcher;
+use ready_server::Dispatcher;
 use dover_model::Memory;
 use dover_port::{Output, Port, Status};
 use dover_server::Server;
 use event_feed::Intake;
-use lane_lines::write_next;
 use lane_server::{Feed, Lane};
-use line_output::put_fault;
+use line_output::{put_fault, write_next};
 use line_text::BackLine;
 use std::alloc::Global;
 use std::marker::PhantomData;

@@ -2,11 +2,10 @@
 ghost use Rattle.std.specs.Prelude.{◌≡◌, ◌<◌, ℕ, List, [], Ok, true, false};
 ghost use Rattle.lane_server.specs.Kept.{StandsFor, IsReady, is_closed};
 
-use dispatcher::Dispatcher;
 use dover_model::{Event, Job, Memory, Ratio, Refusal, Version};
-use dover_server::Server;
 use event_feed::Cause;
 use lane_server::{LaneFault, LaneOut, LaneStep, Lanes};
+use ready_server::{Dispatcher, ReadyServer};
 use std::marker::Brand;
 use std::process::Abort;
 use std::sync::ledger::{Blank, Ledger};
@@ -93,7 +92,7 @@ fn outcome_in<D: Dispatcher, L: Ledger>(
 }
 
 fn run(rt: &HostRuntime, lines: &[&[u8]]) -> Result<Outcome, Memory> {
-    outcome_in::<Server, Brand>(rt, lines, Blank::new(1))
+    outcome_in::<ReadyServer, Brand>(rt, lines, Blank::new(1))
 }
 
 // Whether the lines up to `close` give these, and whether all lanes are ended then is as it should be.

@@ -1,20 +1,18 @@
-//! The server by its own calls, and the worked examples.
-ghost use Rattle.std.specs.Prelude.{◌≡◌, ◌≤◌, ◌<◌, ◌∷◌, [], nat_le, replicate, None, OnOk};
+//! Lists of jobs that are served to the end: the worked examples, and a million jobs.
+ghost use Rattle.std.specs.Prelude.{◌≡◌, ◌≤◌, ◌<◌, nat_le, replicate};
 ghost use Rattle.std.specs.List.{list_all};
 ghost use Rattle.dover_model.specs.JobFacts.{is_job};
-ghost use Rattle.dover_model.specs.Instance.{IsValid, with_jobs, is_within_ratio, is_in_order, jobs_under};
-ghost use Rattle.dover_model.specs.declared.events.Version.{Version};
+ghost use Rattle.dover_model.specs.Instance.{IsValid, is_within_ratio, is_in_order, jobs_under};
 ghost use Rattle.dover_model.specs.declared.events.Version.TheVariants.{One};
-ghost use Rattle.dover_server.specs.declared.horizon.Horizon.TheVariants.{Mark, End};
-ghost use Rattle.dover_server.specs.Service.{list_of, MayFollow};
-ghost use Rattle.dover_server.specs.Leading.{is_ready_after};
 
 use dover_model::jobs::{LAST_TICK, MOST_VALUE};
-use dover_model::{Event, Job, Memory, Ratio, Role, Version};
-use dover_server::{Horizon, Server};
+use dover_model::{Event, Job, Memory, Ratio, Version};
 use itoa::Buffer;
+use ready_server::{JobSource, Watcher, run_list};
+use std::alloc::Global;
 use std::marker::Brand;
 use std::process::Abort;
+use std::rt::Memory as HeapMemory;
 use std::sync::ledger::{Blank, Ledger};
 use std::test::Fail;
 use step_count::Steps;
@@ -93,6 +91,47 @@ pub(crate) fn assert_valid(rt: &impl Abort, k: Ratio, jobs: &[Job])
 
 // ---- the run
 
+// The printed steps that were seen, as far as there was memory.
+#[derive(Drop)]
+struct Seen {
+    events: Vec<Event>,
+}
+
+impl Watcher for Seen {
+    ghost seen = { λ s events. Unit {0} };
+
+    fn see(&mut self, event: &Event) {
+        let _ = self.events.push(*event);
+    }
+}
+
+// What is printed of a valid list.
+fn printed<L: Ledger>(
+    alloc: Global,
+    memory: HeapMemory,
+    version: Version,
+    k: Ratio,
+    jobs: &[Job],
+    blank: Blank,
+) -> Result<String, Memory>
+    requires valid { IsValid (jobs_under version k jobs.now) }
+    requires name { blank.name ≡ L.name }
+    requires parts { blank.parts ≡ L.parts }
+    requires some { 0 < blank.parts }
+{
+    let mut steps: Steps<L> = Steps::new(memory, blank);
+    let mut seen = Seen {
+        events: Vec::new(alloc),
+    };
+    let mut left = jobs;
+    run_list::<&[Job], Seen, L>(alloc, version, k, &mut left, &mut seen, &mut steps)?;
+    let mut text = String::new(alloc);
+    for event in &seen.events {
+        put_line(&mut text, event)?;
+    }
+    Ok(text)
+}
+
 // Appends a word and numbers, up to a slash.
 fn put_text(text: &mut String, word: &str, numbers: &[u64]) -> Result<(), Memory> {
     text.push_str(word)?;
@@ -104,8 +143,8 @@ fn put_text(text: &mut String, word: &str, numbers: &[u64]) -> Result<(), Memory
     Ok(())
 }
 
-/// Appends the text of a printed step, up to a slash.
-pub(crate) fn put_line(text: &mut String, e: &Event) -> Result<(), Memory> {
+// Appends the text of a printed step, up to a slash.
+fn put_line(text: &mut String, e: &Event) -> Result<(), Memory> {
     match *e {
         Event::Release { number, job } => put_text(
             text,
@@ -132,10 +171,7 @@ pub(crate) fn put_line(text: &mut String, e: &Event) -> Result<(), Memory> {
 }
 
 // The jobs of these numbers.
-pub(crate) fn jobs(
-    rt: &(impl Abort + AllocGlobal),
-    numbers: &[[u64; 4]],
-) -> Result<Vec<Job>, Memory> {
+fn jobs(rt: &(impl Abort + AllocGlobal), numbers: &[[u64; 4]]) -> Result<Vec<Job>, Memory> {
     let mut jobs = Vec::new(rt.alloc());
     for n in numbers {
         jobs.push(Job::new(n[0], n[1], n[2], n[3]).expect(rt, "a job"))?;
@@ -143,11 +179,11 @@ pub(crate) fn jobs(
     Ok(jobs)
 }
 
-/// A version, a ratio, the numbers of jobs, and what is printed of them.
-pub(crate) type Worked = (Version, (u32, u32), &'static [[u64; 4]], &'static str);
+// A version, a ratio, the numbers of jobs, and what is printed of them.
+type Worked = (Version, (u32, u32), &'static [[u64; 4]], &'static str);
 
-/// The worked examples.
-pub(crate) const WORKED: [Worked; 19] = [
+// The worked examples.
+const WORKED: [Worked; 19] = [
     (
         Version::One,
         (1, 1),
@@ -309,6 +345,19 @@ pub(crate) const WORKED: [Worked; 19] = [
     ),
 ];
 
+#[test]
+fn the_worked_examples_are_printed(rt: HostRuntime) -> Result<(), Fail> {
+    for (version, ratio, numbers, want) in &WORKED {
+        let k = Ratio::new(ratio.0, ratio.1).expect(&rt, "a ratio");
+        let list = jobs(&rt, *numbers)?;
+        let jobs = list.as_slice();
+        assert_valid(&rt, k, jobs);
+        let text = printed::<Brand>(rt.alloc(), rt.memory(), *version, k, jobs, Blank::new(1))?;
+        assert!(rt; text.as_str() == *want);
+    }
+    Ok(())
+}
+
 // ---- equal jobs
 
 fn assert_equal_valid(rt: &impl Abort, k: Ratio, job: &Job, count: u32)
@@ -324,142 +373,69 @@ fn assert_equal_valid(rt: &impl Abort, k: Ratio, job: &Job, count: u32)
     assert!(rt; is_within_ratio(k, job, job));
 }
 
-// What was printed.
+// So many jobs of one kind are left.
 #[derive(Drop)]
-struct Seen {
+struct Copies {
+    job: Job,
+    left: u32,
+}
+
+impl JobSource for Copies {
+    ghost jobs = { λ c. replicate c.left c.job };
+
+    fn next_job(&mut self) -> Option<Job> {
+        if self.left == 0 {
+            return None;
+        }
+        self.left -= 1;
+        Some(self.job)
+    }
+}
+
+// How many steps were printed, and the last of them.
+#[derive(Drop)]
+struct Count {
     events: u64,
     last: Option<Event>,
 }
 
-fn nothing_seen() -> Seen {
-    Seen {
-        events: 0,
-        last: None,
+impl Watcher for Count {
+    ghost seen = { λ c events. Unit {0} };
+
+    fn see(&mut self, event: &Event) {
+        self.events = self.events.saturating_add(1);
+        self.last = Some(*event);
     }
 }
 
-// The events up to the horizon are seen.
-fn see<L: Ledger>(server: &mut Server, to: Horizon, steps: &mut Steps<L>, seen: &mut Seen)
-    requires { MayFollow server.old.last to }
-    ensures list { list_of server.new ≡ list_of server.old }
-    ensures last { server.new.last ≡ to }
-    ensures ready { server.new.ready ≡ is_ready_after to None }
-{
-    while let Some(e) = server.step(to, steps) {
-        seen.events = seen.events.saturating_add(1);
-        seen.last = Some(e);
-    }
-}
-
-// Whether the server stands as it should with this one job, which is still to come.
-fn has_one(server: &Server, job: Job) -> bool {
-    let counts = (
-        server.admitted(),
-        server.clock(),
-        server.value(),
-        server.spare(),
-    );
-    let first = (server.role(0), server.job(0), server.had(0));
-    let second = (server.role(1), server.job(1), server.had(1));
-    counts == (1, 3, 0, 0)
-        && !server.ready_for(3)
-        && first == (Some(Role::Coming), Some(job), Some(0))
-        && second == (None, None, None)
-}
-
-// Room is made for one job, and it is admitted.
-fn admit_one<L: Ledger>(server: &mut Server, job: Job, steps: &mut Steps<L>) -> Result<bool, Memory>
-    requires valid { IsValid (with_jobs (list_of server.old) (job ∷ [])) }
-    requires follow { MayFollow server.old.last (Mark job.release) }
-{
-    server.reserve(1)?;
-    see(
-        server,
-        Horizon::Mark(job.release()),
-        steps,
-        &mut nothing_seen(),
-    );
-    server.admit(job)?;
-    Ok(has_one(server, job))
-}
-
-// What is reserved for one job serves for one, and the job is what it was made of.
-fn is_admitted<L: Ledger>(
-    rt: &HostRuntime,
-    k: Ratio,
-    job: Job,
-    blank: Blank,
-) -> Result<bool, Memory>
-    requires valid { IsValid (record { rules = record { ratio = k; version = One }; jobs = job ∷ [] }) }
-    requires name { blank.name ≡ L.name }
-    requires parts { blank.parts ≡ L.parts }
-    requires some { 0 < blank.parts }
-{
-    let mut steps: Steps<L> = Steps::new(rt.memory(), blank);
-    let mut server = Server::new(rt.alloc(), Version::One, k)?;
-    admit_one(&mut server, job, &mut steps)
-}
-
-#[test]
-fn a_reserved_job_is_admitted(rt: HostRuntime) -> Result<(), Fail> {
-    let k = Ratio::new(1, 1).expect(&rt, "a ratio");
-    let job = Job::new(3, 2, 9, 5).expect(&rt, "a job");
-    assert_valid(&rt, k, &[job]);
-    assert!(rt; is_admitted::<Brand>(&rt, k, job, Blank::new(1))?);
-    Ok(())
-}
-
-// So many equal jobs, each admitted at its release.
-fn admit_equal<L: Ledger>(
-    server: &mut Server,
-    job: Job,
-    count: u32,
-    steps: &mut Steps<L>,
-    seen: &mut Seen,
-) -> Result<(), Memory>
-    requires valid { IsValid (with_jobs (list_of server.old) (replicate count job)) }
-    requires follow { MayFollow server.old.last (Mark job.release) }
-    ensures open { OnOk result (MayFollow server.new.last End) }
-{
-    for i in 0..count {
-        see(server, Horizon::Mark(job.release()), steps, seen);
-        server.admit(job)?;
-    }
-    Ok(())
-}
-
-// So many equal jobs, with room made for them at once, and no further one.
-fn serve_all<L: Ledger>(
-    server: &mut Server,
-    job: Job,
-    count: u32,
-    steps: &mut Steps<L>,
-) -> Result<Seen, Memory>
-    requires valid { IsValid (with_jobs (list_of server.old) (replicate count job)) }
-    requires follow { MayFollow server.old.last (Mark job.release) }
-{
-    server.reserve(count)?;
-    let mut seen = nothing_seen();
-    admit_equal(server, job, count, steps, &mut seen)?;
-    see(server, Horizon::End, steps, &mut seen);
-    Ok(seen)
-}
-
+// So many equal jobs, and no further one.
 fn serve_equal<L: Ledger>(
     rt: &HostRuntime,
     k: Ratio,
     job: Job,
-    count: u32,
+    left: u32,
     blank: Blank,
-) -> Result<Seen, Memory>
-    requires valid { IsValid (jobs_under One k (replicate count job)) }
+) -> Result<Count, Memory>
+    requires valid { IsValid (jobs_under One k (replicate left job)) }
     requires name { blank.name ≡ L.name }
     requires parts { blank.parts ≡ L.parts }
     requires some { 0 < blank.parts }
 {
     let mut steps: Steps<L> = Steps::new(rt.memory(), blank);
-    let mut server = Server::new(rt.alloc(), Version::One, k)?;
-    serve_all(&mut server, job, count, &mut steps)
+    let mut count = Count {
+        events: 0,
+        last: None,
+    };
+    let mut copies = Copies { job, left };
+    run_list::<Copies, Count, L>(
+        rt.alloc(),
+        Version::One,
+        k,
+        &mut copies,
+        &mut count,
+        &mut steps,
+    )?;
+    Ok(count)
 }
 
 // The proof of the test doesn't see the number, so that it counts none of the jobs.
@@ -471,9 +447,9 @@ fn a_million() -> u32 {
 fn a_million_jobs_are_served(rt: HostRuntime) -> Result<(), Fail> {
     let k = Ratio::new(1, 1).expect(&rt, "a ratio");
     let job = Job::new(0, 1, 1_000_000, 1).expect(&rt, "a job");
-    let count = a_million();
-    assert_equal_valid(&rt, k, &job, count);
-    let seen = serve_equal::<Brand>(&rt, k, job, count, Blank::new(1))?;
-    assert!(rt; (seen.events, seen.last) == (3_000_001, Some(Event::End { value: 1_000_000 })));
+    let left = a_million();
+    assert_equal_valid(&rt, k, &job, left);
+    let count = serve_equal::<Brand>(&rt, k, job, left, Blank::new(1))?;
+    assert!(rt; (count.events, count.last) == (3_000_001, Some(Event::End { value: 1_000_000 })));
     Ok(())
 }

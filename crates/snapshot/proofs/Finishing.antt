@@ -10,8 +10,9 @@ use Rattle.dover_model.specs.State.{State}
 use Rattle.dover_model.specs.Settled.{settled_state}
 use Rattle.dover_model.specs.WholeRun.{IsBarrier}
 use Rattle.dover_model.specs.Feed.{Account, account_of_lines}
-use Rattle.dover_server.specs.declared.horizon.Horizon.TheVariants.{Mark}
-use Rattle.dover_server.specs.Service.{Service, list_of, MayFollow}
+use Rattle.dover_model.specs.declared.horizon.Horizon.TheVariants.{Mark}
+use Rattle.dover_server.specs.Service.{Service, list_of}
+use Rattle.dover_model.specs.Horizons.{MayFollow}
 use Rattle.event_feed.specs.Kept as feed
 use Rattle.snapshot.specs.Snapshot.{Head}
 use Rattle.snapshot.specs.Reading.{Refused, stored, last_release, has_reached_mark, is_settled, reading_of}

@@ -1,6 +1,6 @@
 -- The lines of a paused feed are those of its snapshot.
-use Rattle.std.proofs.Common.{◌≡◌, ◌≤◌, ℕ, zero, suc, List, [], ◌∷◌, ◌++◌, length, map, get_or, refl, sym}
-use Rattle.std.proofs.Common.{ap, ◌∙◌, subst, Bool, true, false, Some, arith, codes}
+use Rattle.std.proofs.Common.{◌≡◌, ◌≤◌, ℕ, zero, suc, List, [], ◌∷◌, ◌++◌, length, map, get_or, refl, sym, ap, ◌∙◌}
+use Rattle.std.proofs.Common.{subst, Bool, true, false, Some, arith, codes}
 use Rattle.std.specs.List.{slice_get}
 use Rattle.std.specs.Option.{option_map}
 use Rattle.dover_model.specs.declared.events.Task.{Task}
@@ -17,12 +17,13 @@ use Rattle.dover_model.proofs.Accounts.{Holds}
 use Rattle.dover_model.proofs.Honest.{count_jobs}
 use Rattle.dover_model.proofs.Members.{some_same}
 use Rattle.dover_model.proofs.Tests.{none_is_some}
-use Rattle.dover_server.specs.declared.horizon.Horizon.TheVariants.{Mark, End}
-use Rattle.dover_server.specs.Service.{Service, Stands, list_of, MayFollow}
+use Rattle.dover_model.specs.declared.horizon.Horizon.TheVariants.{Mark, End}
+use Rattle.dover_server.specs.Service.{Service, Stands, list_of}
+use Rattle.dover_model.specs.Horizons.{MayFollow}
 use Rattle.dover_server.proofs.Spending.{spent_all}
 use Rattle.event_feed.specs.Answers.{admitted_in}
 use Rattle.event_feed.proofs.Admitting.{admitted_by}
-use Rattle.queued_jobs.specs.Spending.{HasSpent, CostsAtMost}
+use Rattle.dover_model.specs.Spending.{HasSpent, CostsAtMost}
 use Rattle.snapshot.specs.Snapshot.{head_line, state_line, snapshot}
 use Rattle.snapshot.specs.Pausing.{IsTakenTo, lines_in}
 use Rattle.snapshot.specs.Taken.{HasTaken}

@@ -1,6 +1,6 @@
 -- How the run of a server's jobs is taken to a mark, and what it comes to there.
-use Rattle.std.proofs.Common.{◌≡◌, ◌≤◌, ℕ, List, [], ◌∷◌, ◌++◌, length, refl, sym, ap, ◌∙◌, subst, arith}
-use Rattle.std.proofs.Common.{false, ◌||◌, inl, inr}
+use Rattle.std.proofs.Common.{◌≡◌, ◌≤◌, ℕ, List, [], ◌∷◌, ◌++◌, length, refl, sym, ap, ◌∙◌, subst, arith, false, ◌||◌}
+use Rattle.std.proofs.Common.{inl, inr}
 use Rattle.std.specs.List.{fold}
 use Rattle.std.proofs.lemmas.List.{append-nil, length-map}
 use Rattle.dover_model.specs.declared.events.Event.{Event}
@@ -20,7 +20,7 @@ use Rattle.dover_model.proofs.Paths.{printed_more, printed_nothing}
 use Rattle.dover_model.proofs.Prefixes.{open_not_end}
 use Rattle.dover_model.proofs.Settling.{settled_is_run}
 use Rattle.dover_model.proofs.Runs.{printed_append}
-use Rattle.dover_server.specs.declared.horizon.Horizon.TheVariants.{Mark}
+use Rattle.dover_model.specs.declared.horizon.Horizon.TheVariants.{Mark}
 use Rattle.dover_server.specs.Service.{Service, list_of, with_job, admitted_task, fresh_service}
 use Rattle.dover_server.specs.Leading.{GivesNext, ReachesBarrier}
 use Rattle.dover_server.proofs.Admission.{jobs_more}

@@ -1,11 +1,11 @@
 -- The jobs that a reader serves again, and what they have cost.
-use Rattle.std.proofs.Common.{ℕ, ◌≤◌, List, [], ◌∷◌, ◌++◌, length, length-append, sym, ap, ◌∙◌, subst}
-use Rattle.std.proofs.Common.{Bool, true, false, cond, ◌&&◌, Option, Some, None, codes, arith}
+use Rattle.std.proofs.Common.{ℕ, ◌≤◌, List, [], ◌∷◌, ◌++◌, length, length-append, sym, ap, ◌∙◌, subst, Bool, true}
+use Rattle.std.proofs.Common.{false, cond, ◌&&◌, Option, Some, None, codes, arith}
 use Rattle.std.specs.Prelude.{nat_lt, bytes_eq}
 use Rattle.std.proofs.lemmas.List.Sums.{fold-append}
 use Rattle.dover_model.specs.declared.events.Task.{Task}
 use Rattle.dover_server.specs.Service.{Service}
-use Rattle.queued_jobs.specs.Spending.{HasSpent}
+use Rattle.dover_model.specs.Spending.{HasSpent}
 use Rattle.snapshot.specs.Snapshot.{Head}
 use Rattle.snapshot.specs.Reading.{Begun, Going, Taken, read_task, with_task, with_last, may_follow, has_reached_mark}
 use Rattle.snapshot.specs.Reading.{is_settled, refused_behind, next_line, reading_of}

@@ -4,7 +4,7 @@ use Rattle.dover_model.specs.Feed.{account}
 use Rattle.dover_model.specs.Paths.{HasPrinted}
 use Rattle.dover_model.specs.Session.{Session, instance_of}
 use Rattle.dover_model.specs.Settled.{settled}
-use Rattle.dover_server.specs.declared.horizon.Horizon.TheVariants.{Mark}
+use Rattle.dover_model.specs.declared.horizon.Horizon.TheVariants.{Mark}
 use Rattle.dover_server.specs.Service.{Service, list_of}
 use Rattle.snapshot.specs.Snapshot.{MayPause, head_line, state_line}
 

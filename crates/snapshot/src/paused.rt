@@ -3,7 +3,7 @@ ghost use Rattle.std.specs.Prelude.{◌≡◌, ◌<◌, ℕ, List, [], length, g
 ghost use Rattle.dover_model.specs.Feed.{account};
 ghost use Rattle.dover_model.specs.Lines.{in_lines};
 ghost use Rattle.event_feed.specs.Answers.{admitted_in};
-ghost use Rattle.queued_jobs.specs.Spending.{HasSpent, CostsAtMost};
+ghost use Rattle.dover_model.specs.Spending.{HasSpent, CostsAtMost};
 ghost use Rattle.snapshot.specs.Snapshot.{snapshot};
 ghost use Rattle.snapshot.specs.Pausing.{IsTakenTo};
 

@@ -1,6 +1,6 @@
 //! A snapshot read line by line.
 ghost use Rattle.std.specs.Prelude.{◌≡◌, ◌≤◌, ℕ, List, [], ◌∷◌, ◌++◌};
-ghost use Rattle.queued_jobs.specs.Spending.{HasSpent};
+ghost use Rattle.dover_model.specs.Spending.{HasSpent};
 ghost use Rattle.snapshot.specs.Kept.{IsReading, IsReady, Answers};
 ghost use Rattle.snapshot.specs.Feeds.{Gives};
 ghost use Rattle.snapshot.specs.Reading.{reading_of};

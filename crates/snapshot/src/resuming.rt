@@ -1,12 +1,12 @@
 //! The jobs of a snapshot, as they are fed again.
 ghost use Rattle.std.specs.Prelude.{◌≡◌, ◌≤◌, ◌<◌, ◌+◌, ◌^◌, ◌||◌, ◌↔◌, nat_le, nat_lt, ℕ, List, [], ◌∷◌, ◌++◌, length};
-ghost use Rattle.std.specs.Prelude.{true, Some};
-ghost use Rattle.std.specs.Prelude.{IsTrue, OnOk, OnErr};
+ghost use Rattle.std.specs.Prelude.{true, Some, IsTrue, OnOk, OnErr};
 ghost use Rattle.dover_model.specs.declared.events.Task.{Task};
 ghost use Rattle.dover_model.specs.WholeRun.{IsBarrier};
-ghost use Rattle.dover_server.specs.declared.horizon.Horizon.TheVariants.{Mark};
-ghost use Rattle.dover_server.specs.Service.{MayFollow, list_of};
-ghost use Rattle.queued_jobs.specs.Spending.{HasSpent};
+ghost use Rattle.dover_model.specs.declared.horizon.Horizon.TheVariants.{Mark};
+ghost use Rattle.dover_model.specs.Horizons.{MayFollow};
+ghost use Rattle.dover_server.specs.Service.{list_of};
+ghost use Rattle.dover_model.specs.Spending.{HasSpent};
 ghost use Rattle.snapshot.specs.Snapshot as model;
 ghost use Rattle.snapshot.specs.Kept.{IsServed, MayAdmit, IsAt, AreAt, IsReading, Begins, Answers};
 ghost use Rattle.snapshot.specs.Reading.{reading_of};
@@ -16,8 +16,8 @@ ghost use Rattle.snapshot.specs.Taken.{HasTaken};
 use crate::feeding::{begin, hand_job, hand_ticks};
 use crate::forms::{Head, is_within_limits, read_head, read_state};
 use crate::reader::{Got, SnapFault};
-use dover_model::{Job, Memory, Role};
-use dover_server::{Horizon, Server};
+use dover_model::{Horizon, Job, Memory, Role};
+use dover_server::Server;
 use event_feed::Intake;
 use std::alloc::Global;
 use std::sync::ledger::Ledger;

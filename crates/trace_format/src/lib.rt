@@ -8,4 +8,4 @@ mod writing;
 
 pub use lines::TraceLine;
 pub use reading::read_trace_line;
-pub use writing::{refusal_word, write_event, write_header, write_refused};
+pub use writing::{refusal_word, write_event};

@@ -1,26 +1,11 @@
 //! A trace's line as bytes.
-ghost use Rattle.std.specs.Prelude.{◌≡◌, ◌<◌, ◌∷◌, ◌++◌, [], length};
+ghost use Rattle.std.specs.Prelude.{◌≡◌, ◌∷◌, ◌++◌, []};
 ghost use Rattle.dover_model.specs.Numerals.{AreShort};
 ghost use Rattle.dover_model.specs.Text as form;
-ghost use Rattle.trace_format.specs.Form.{IsRefusedLine, trace_text};
 ghost use Rattle.dover_model.specs.Text.{step_numbers};
 
-use crate::lines::TraceLine;
-use dover_model::{Event, Ratio, Refusal, Version};
-use line_text::{BackLine, LineBuf};
-
-/// Writes the first line of a trace, without its line feed.
-pub fn write_header(version: Version, k: Ratio, to: &mut LineBuf)
-    requires { to.old ≡ [] }
-    ensures text { to.new ≡ form.header (record { ratio = k; version = version }) }
-    ensures fits { length to.new < 129 }
-{
-    let number = match version {
-        Version::One => 1,
-        Version::Two => 2,
-    };
-    to.put_with_numbers(b"dover", &[number, u64::from(k.p()), u64::from(k.q())]);
-}
+use dover_model::{Event, Refusal};
+use line_text::BackLine;
 
 /// Writes the line of a printed step before its line feed.
 #[inline(always)]
@@ -62,26 +47,4 @@ pub fn refusal_word(cause: Refusal) -> &'static [u8]
         Refusal::Total => b"total",
         Refusal::Ratio => b"ratio",
     }
-}
-
-/// Writes the line of a refused job line, without its line feed.
-pub fn write_refused(line: &TraceLine, to: &mut LineBuf)
-    requires refused { IsRefusedLine line.now }
-    requires empty { to.old ≡ [] }
-    ensures text { to.new ≡ trace_text line.now }
-    ensures fits { length to.new < 129 }
-{
-    let TraceLine::Refused {
-        at,
-        release,
-        work,
-        deadline,
-        value,
-        cause,
-    } = line
-    else {
-        unreachable!();
-    };
-    to.put_with_numbers(b"refuse", &[*at, *release, *work, *deadline, *value]);
-    to.put_word(refusal_word(*cause));
 }

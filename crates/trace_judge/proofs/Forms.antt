@@ -27,10 +27,10 @@ use Rattle.trace_format.specs.Reading.{line_of_fields}
 use Rattle.trace_format.proofs.Spelled.{text_read}
 use Rattle.dover_model.specs.Lines.{fields_of}
 use Rattle.dover_model.specs.Text.{step_numbers}
-use Rattle.trace_reading.specs.Leading.{PrintsNext}
-use Rattle.trace_reading.specs.Reading.{Sees}
-use Rattle.trace_reading.proofs.Leading.{leads_passes, idles_leads, passes_keeps}
-use Rattle.trace_reading.proofs.Seeing.{sees_keeps, sees_next}
+use Rattle.dover_model.specs.Leading.{PrintsNext}
+use Rattle.trace_judge.specs.Reading.{Sees}
+use Rattle.dover_model.proofs.Leading.{leads_passes, idles_leads, passes_keeps}
+use Rattle.trace_judge.proofs.Seeing.{sees_keeps, sees_next}
 
 -- a line has one form
 pub one_form : (x y : TraceLine) → HasForm x → HasForm y → trace_text x ≡ trace_text y → x ≡ y

@@ -1,14 +1,13 @@
 -- What the judge finds of a text, byte by byte.
 use Rattle.std.proofs.Common.{◌≡◌, ℕ, suc, ◌+◌, ◌-◌, ◌*◌, ◌≤◌, ◌<◌, max, min, List, [], ◌∷◌, ◌++◌, length}
-use Rattle.std.proofs.Common.{length-append, map, take, drop, refl, sym, ap, ◌∙◌, subst}
-use Rattle.std.proofs.Common.{Bool, true, false, cond, ◌||◌, ◌&&◌, arith, take-append-drop}
-use Rattle.std.specs.Prelude.{nat_lt, ◌==◌}
+use Rattle.std.proofs.Common.{length-append, map, take, drop, refl, sym, ap, ◌∙◌, subst, Bool, true, false, cond, ◌||◌}
+use Rattle.std.proofs.Common.{◌&&◌, arith, take-append-drop}
+use Rattle.std.specs.Prelude.{nat_lt, ◌==◌, Result, Ok, Err, OnOk, OnErr, IsErr}
 use Rattle.std.specs.List.{filter}
 use Rattle.std.proofs.lemmas.Bool.{lt-ltb}
-use Rattle.std.specs.Prelude.{Result, Ok, Err, OnOk, OnErr, IsErr}
-use Rattle.dover_model.specs.declared.Memory.{Memory}
 use Rattle.std.proofs.lemmas.List.{length-map, append_assoc}
 use Rattle.std.proofs.lemmas.List.Elements.{filter-append}
+use Rattle.dover_model.specs.declared.Memory.{Memory}
 use Rattle.dover_model.specs.declared.events.Event.{Event}
 use Rattle.dover_model.specs.Instance.{Rules}
 use Rattle.dover_model.specs.JobFacts.{JobFacts}
@@ -32,9 +31,8 @@ use Rattle.line_text.specs.Cutting as cutting
 use Rattle.line_text.specs.Cutting.{Cutting, with_byte, after_byte, goes_on, most_count, HasCut}
 use Rattle.line_text.specs.declared.cutting.Step.{Step}
 use Rattle.line_text.specs.declared.cutting.Step.TheVariants.{More, Line, TooLong}
-use Rattle.trace_reading.proofs.Judging.{good_text, wrong_rest, accepted_text, short_text}
-use Rattle.trace_reading.proofs.Seeing.{sees_begins}
-use Rattle.trace_reading.proofs.Waiting.{sees_not_ended}
+use Rattle.trace_judge.proofs.Texts.{good_text, wrong_rest, accepted_text, short_text}
+use Rattle.trace_judge.proofs.Seeing.{sees_begins, sees_not_ended}
 use Rattle.trace_judge.specs.declared.stage.Stage.{Stage}
 use Rattle.trace_judge.specs.declared.stage.Stage.TheVariants.{Opening, Going, Ended}
 use Rattle.trace_judge.specs.declared.verdict.Expected.{Expected}

@@ -1,3 +1,10 @@
+pub mod Counts
+pub mod Items
+pub mod Seeing
+pub mod Continuing
+pub mod Only
+pub mod Finishing
+pub mod Texts
 pub mod Forms
 pub mod Readings
 pub mod Taking

@@ -1,6 +1,6 @@
 -- What the judge keeps of the lines of a trace, line by line.
-use Rattle.std.proofs.Common.{◌≡◌, ℕ, ◌+◌, ◌*◌, ◌≤◌, List, [], ◌∷◌, ◌++◌, length, min, sym, ap, ◌∙◌, subst, true}
-use Rattle.std.proofs.Common.{cond, arith}
+use Rattle.std.proofs.Common.{◌≡◌, ℕ, ◌+◌, ◌*◌, ◌≤◌, List, [], ◌∷◌, ◌++◌, length, min, sym, ap, ◌∙◌, subst, true, cond}
+use Rattle.std.proofs.Common.{arith}
 use Rattle.std.specs.Option.{option_map_or, option_and_then}
 use Rattle.dover_model.specs.declared.events.Event.{Event}
 use Rattle.dover_model.specs.Instance.{Instance}
@@ -9,9 +9,9 @@ use Rattle.dover_model.specs.Session.{Session, instance_of}
 use Rattle.dover_model.specs.Trace.{trace_lines}
 use Rattle.dover_model.specs.Verdict as model
 use Rattle.dover_model.proofs.TraceEnds.{trace_ends}
-use Rattle.trace_reading.specs.Leading.{PrintsNext}
-use Rattle.trace_reading.proofs.Leading.{idles_append}
-use Rattle.trace_reading.proofs.Seeing.{sees_expects}
+use Rattle.dover_model.specs.Leading.{PrintsNext}
+use Rattle.dover_model.proofs.Leading.{idles_append}
+use Rattle.trace_judge.proofs.Seeing.{sees_expects}
 use Rattle.trace_judge.specs.declared.stage.Stage.{Stage}
 use Rattle.trace_judge.specs.declared.stage.Stage.TheVariants.{Opening, Going, Ended}
 use Rattle.ready_jobs.specs.Course.{Course, Follows, GoesOnFrom}

@@ -17,10 +17,10 @@ use Rattle.dover_model.proofs.Growing.{refused_instance}
 use Rattle.trace_format.specs.declared.lines.TraceLine.TheVariants.{Refused}
 use Rattle.trace_format.specs.Form.{HasForm, refused_job}
 use Rattle.trace_format.proofs.Spelled.{text_read, read_IsRead}
-use Rattle.trace_reading.specs.Leading.{WaitsUntil}
-use Rattle.trace_reading.specs.Reading.{Sees, MayRefuse}
-use Rattle.trace_reading.proofs.Continuing.{sees_refused, sees_refused_prints, sees_idles, sees_idles_prints}
-use Rattle.trace_reading.proofs.Only.{only_refused}
+use Rattle.dover_model.specs.Leading.{WaitsUntil}
+use Rattle.trace_judge.specs.Reading.{Sees, MayRefuse}
+use Rattle.trace_judge.proofs.Continuing.{sees_refused, sees_refused_prints, sees_idles, sees_idles_prints}
+use Rattle.trace_judge.proofs.Only.{only_refused}
 use Rattle.trace_judge.specs.declared.stage.Stage.TheVariants.{Going}
 use Rattle.ready_jobs.specs.Course.{Follows}
 use Rattle.trace_judge.specs.Reads.{Reading, Goes, ReadsAhead, StaysAhead, IsReader, kept_steps, Took, Waited, at_tick}

@@ -22,11 +22,12 @@ use Rattle.dover_model.proofs.Ending.{few_printed}
 use Rattle.trace_format.specs.declared.lines.TraceLine.TheVariants.{Step as StepLine}
 use Rattle.trace_format.specs.Form.{HasForm}
 use Rattle.trace_format.proofs.Spelled.{text_read, read_IsRead}
-use Rattle.trace_reading.specs.Leading.{WaitsUntil}
-use Rattle.trace_reading.specs.Reading.{Sees, MayRelease, with_fresh, release_text}
-use Rattle.trace_reading.proofs.Continuing.{sees_release, sees_release_prints}
-use Rattle.trace_reading.proofs.Seeing.{sees_keeps, sees_rest}
-use Rattle.trace_reading.proofs.Only.{only_release}
+use Rattle.dover_model.specs.Leading.{WaitsUntil}
+use Rattle.trace_judge.specs.Reading.{Sees, MayRelease, release_text}
+use Rattle.dover_model.specs.Ready.{with_fresh}
+use Rattle.trace_judge.proofs.Continuing.{sees_release, sees_release_prints}
+use Rattle.trace_judge.proofs.Seeing.{sees_keeps, sees_rest}
+use Rattle.trace_judge.proofs.Only.{only_release}
 use Rattle.trace_judge.specs.declared.stage.Stage.TheVariants.{Going}
 use Rattle.ready_jobs.specs.Course.{Course, Follows, IsCourse, with_release, fresh_job}
 use Rattle.ready_jobs.specs.Reordered.{IsReordered}

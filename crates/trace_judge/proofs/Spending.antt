@@ -1,8 +1,8 @@
 -- What the judging of a text costs.
 use Rattle.std.proofs.Common.{◌++◌, ℕ, List, subst, arith}
 use Rattle.std.proofs.lemmas.List.{append_assoc}
-use Rattle.queued_jobs.specs.Spending.{CostsAtMost}
-use Rattle.queued_jobs.proofs.Spending.{few_more}
+use Rattle.dover_model.specs.Spending.{CostsAtMost}
+use Rattle.dover_model.proofs.Spending.{few_more}
 use Rattle.ready_jobs.proofs.Spending.{paid_jobs}
 use Rattle.trace_judge.specs.Judging.{Judged, Fed, HasPaidFor, PaysFor, jobs_named}
 use Rattle.trace_judge.proofs.Judging.{named_more}

@@ -26,13 +26,13 @@ use Rattle.trace_format.specs.declared.lines.TraceLine.TheVariants.{Header, Step
 use Rattle.trace_format.specs.Form.{HasForm, item_in, trace_text}
 use Rattle.trace_format.proofs.Spelled.{text_read, read_IsRead}
 use Rattle.admission.specs.Kept as admission
-use Rattle.trace_reading.specs.Leading.{Idles, WaitsUntil, PrintsNext}
-use Rattle.trace_reading.specs.Reading.{Sees, floor_after}
-use Rattle.trace_reading.proofs.Leading.{idles_append, idles_settles, settles_append, settles_or_prints}
-use Rattle.trace_reading.proofs.Seeing.{sees_next}
-use Rattle.trace_reading.proofs.Continuing.{sees_step, sees_step_prints, sees_header, sees_header_prints}
-use Rattle.trace_reading.proofs.Finishing.{ended_run, ended_trace, ended_value}
-use Rattle.trace_reading.proofs.Only.{only_headers, only_step}
+use Rattle.dover_model.specs.Leading.{Idles, WaitsUntil, PrintsNext, floor_after}
+use Rattle.trace_judge.specs.Reading.{Sees}
+use Rattle.dover_model.proofs.Leading.{idles_append, idles_settles, settles_append, settles_or_prints}
+use Rattle.trace_judge.proofs.Seeing.{sees_next}
+use Rattle.trace_judge.proofs.Continuing.{sees_step, sees_step_prints, sees_header, sees_header_prints}
+use Rattle.trace_judge.proofs.Finishing.{ended_run, ended_trace, ended_value}
+use Rattle.trace_judge.proofs.Only.{only_headers, only_step}
 use Rattle.trace_judge.specs.declared.stage.Stage.TheVariants.{Opening, Going, Ended}
 use Rattle.ready_jobs.specs.Course.{Course, Follows, Settled, GoesOnFrom}
 use Rattle.trace_judge.specs.Reads.{Reading, Opens, Goes, Ends, ReadsAhead, Reads, StaysAhead, HasSpare, IsReader}

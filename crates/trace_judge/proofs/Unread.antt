@@ -17,10 +17,10 @@ use Rattle.dover_model.proofs.WrongStays.{after_end_fails}
 use Rattle.trace_format.specs.declared.lines.TraceLine.{TraceLine}
 use Rattle.trace_format.specs.declared.lines.TraceLine.TheVariants.{Header, Step, Refused}
 use Rattle.trace_format.specs.Form.{HasForm, item_in, trace_text}
-use Rattle.trace_reading.specs.Leading.{PrintsNext}
-use Rattle.trace_reading.specs.Reading.{IsReleaseNext, IsRefusedNext}
-use Rattle.trace_reading.proofs.Only.{only_headers, only_step, continues_only}
-use Rattle.trace_reading.proofs.Waiting.{sees_some_next}
+use Rattle.dover_model.specs.Leading.{PrintsNext}
+use Rattle.trace_judge.specs.Reading.{IsReleaseNext, IsRefusedNext}
+use Rattle.trace_judge.proofs.Only.{only_headers, only_step, continues_only}
+use Rattle.trace_judge.proofs.Seeing.{sees_some_next}
 use Rattle.trace_judge.specs.declared.stage.Stage.{Stage}
 use Rattle.trace_judge.specs.declared.stage.Stage.TheVariants.{Opening, Going, Ended}
 use Rattle.trace_judge.specs.Reads.{Reading, Goes, Ends, Reads, Took, jobs_in, job_lines_in, is_job_item}

@@ -14,8 +14,8 @@ use Rattle.dover_model.specs.declared.events.Task.{Task}
 use Rattle.dover_model.specs.declared.events.Event.TheVariants.{Release}
 use Rattle.trace_format.specs.declared.lines.TraceLine.{TraceLine}
 use Rattle.trace_format.specs.declared.lines.TraceLine.TheVariants as format
-use Rattle.trace_reading.specs.Leading.{Idles, WaitsUntil}
-use Rattle.trace_reading.specs.Reading.{Sees, MayRelease}
+use Rattle.dover_model.specs.Leading.{Idles, WaitsUntil}
+use Rattle.trace_judge.specs.Reading.{Sees, MayRelease}
 use Rattle.trace_judge.specs.declared.stage.Stage.{Stage}
 use Rattle.trace_judge.specs.declared.stage.Stage.TheVariants.{Opening, Going, Ended}
 use Rattle.trace_judge.specs.declared.verdict.Expected.{Expected}

@@ -1,7 +1,6 @@
 //! What the judge keeps of the lines of a trace.
 ghost use Rattle.std.specs.Prelude.{◌≡◌, ◌≤◌, ◌<◌, ◌+◌, ◌∷◌, ◌++◌, ◌↔◌, ℕ, List, [], Bool, true, false, IsTrue, IfOk};
-ghost use Rattle.std.specs.Prelude.{OnOk, OnErr, IsOk, Some, None, vec_len, vec_capacity, length};
-ghost use Rattle.std.specs.Prelude.{if◌then◌else◌};
+ghost use Rattle.std.specs.Prelude.{OnOk, OnErr, IsOk, Some, None, vec_len, vec_capacity, length, if◌then◌else◌};
 ghost use Rattle.dover_model.specs.Limits.{last_tick, most_items};
 ghost use Rattle.dover_model.specs.declared.events.Version.TheVariants.{Two};
 ghost use Rattle.dover_model.specs.Step.{Prints};
@@ -73,7 +72,7 @@ impl Model for Reader {
 
 impl Reader {
     ghost use Rattle.dover_model.specs.State.{State};
-    ghost use Rattle.dover_model.specs.Session.{Session};
+    ghost use Rattle.dover_model.specs.Session.{Session, instance_of, admitted_jobs};
     ghost use Rattle.dover_model.specs.Verdict.{expected_after};
     ghost use Rattle.trace_judge.specs.declared.stage.Stage.TheVariants.{Opening, Going, Ended};
     ghost use Rattle.trace_format.specs.Form.{HasForm, item_in, trace_text};
@@ -85,14 +84,12 @@ impl Reader {
     ghost use Rattle.admission.specs.Kept.{StandsFor, HasRoom};
     ghost use Rattle.dover_model.specs.Bound.{bound};
     ghost use Rattle.dover_model.specs.Run.{completed_value};
-    ghost use Rattle.dover_model.specs.Session.{instance_of, admitted_jobs};
     ghost use Rattle.trace_judge.specs.declared.verdict.Verdict.TheVariants.{Accepted};
-    ghost use Rattle.trace_reading.specs.Leading.{WaitsUntil};
+    ghost use Rattle.dover_model.specs.Leading.{WaitsUntil};
     ghost use Rattle.ready_jobs.specs.Course.{GoesOnFrom};
     ghost use Rattle.ready_jobs.specs.Spending.{HasPaid};
     ghost use Rattle.trace_judge.specs.Reads.{Reads, ReadsAhead, StaysAhead, Goes, Ends, Waited, CanRelease, Took};
-    ghost use Rattle.trace_judge.specs.Reads.{IsUnchangedFor, expected_of, releases_in, jobs_in};
-    ghost use Rattle.trace_judge.specs.Reads.{job_lines_in};
+    ghost use Rattle.trace_judge.specs.Reads.{IsUnchangedFor, expected_of, releases_in, jobs_in, job_lines_in};
 
     /// No line. Where `keep` is true, the steps of the run are kept.
     pub fn new(alloc: Global, keep: bool) -> Result<Reader, Memory>

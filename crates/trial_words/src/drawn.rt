@@ -1,6 +1,6 @@
 //! The jobs of a seed, as a list that is run.
 use dover_model::Job;
-use list_run::JobSource;
+use ready_server::JobSource;
 use trial_jobs::Gen;
 
 /// The jobs of a seed that are still to come.

@@ -2,7 +2,7 @@
 ghost use Rattle.std.specs.Prelude.{◌≡◌};
 
 use dover_model::{Event, Memory, Ratio};
-use list_run::Watcher;
+use ready_server::Watcher;
 use root_compare::bound;
 use run_view::template::put;
 use std::alloc::Global;

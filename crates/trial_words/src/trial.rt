@@ -7,14 +7,13 @@ ghost use Rattle.dover_port.specs.Causes.{Causes, StopsWith};
 ghost use Rattle.dover_port.specs.Moves.{Since};
 ghost use Rattle.trial_words.specs.Lists.{trial_instance};
 ghost use Rattle.trial_words.specs.Record.{Writes};
-ghost use Rattle.queued_jobs.specs.Spending.{CostsAtMost};
+ghost use Rattle.dover_model.specs.Spending.{CostsAtMost};
 
 use crate::drawn::Drawn;
 use crate::tally::Tally;
 use dover_model::{Ratio, Version};
 use dover_port::{Port, Status, put_all};
-use list_run::run_list;
-use ready_server::ReadyServer;
+use ready_server::run_list;
 use std::alloc::Global;
 use std::sync::ledger::Ledger;
 use step_count::Steps;
@@ -45,14 +44,8 @@ pub fn trial_word<P: Port, L: Ledger>(
     let _ = k.p();
     let mut jobs = Drawn(Gen::new(seed, count, k));
     let mut tally = Tally::new();
-    let Ok(()) = run_list::<ReadyServer, Drawn, Tally, L>(
-        alloc,
-        Version::One,
-        k,
-        &mut jobs,
-        &mut tally,
-        steps,
-    ) else {
+    let Ok(()) = run_list::<Drawn, Tally, L>(alloc, Version::One, k, &mut jobs, &mut tally, steps)
+    else {
         return Status::Memory;
     };
     let Ok(text) = tally.summary(alloc, count, k) else {

@@ -6,13 +6,14 @@ use Rattle.dover_port.specs.declared.status.Status.{Status}
 use Rattle.dialogue.specs.declared.talker.Stop.{Stop}
 use Rattle.dialogue.specs.declared.talker.Stop.TheVariants.{NoMemory, Unwritten}
 use Rattle.periodic_tasks.specs.declared.task.PeriodicTask.{PeriodicTask}
-use Rattle.task_reading.specs.Keeping.{StandsFor}
+use Rattle.task_reading.specs.Keeping.{IsKnown, StandsFor}
 use Rattle.task_reading.specs.declared.reader.TaskReader.{TaskReader}
 use Rattle.unroll_word.specs.Talk.{Says}
 
 -- the reader stands for the bytes, and their tasks release jobs before this tick
 pub record Stands (until kept : ℕ) (reader : TaskReader) (bytes : List ℕ) : Type 0 where
   pub asks : kept ≡ until
+  pub known : IsKnown until
   pub reads : StandsFor until reader bytes
 
 -- and nothing is left to give

@@ -3,6 +3,7 @@ ghost use Rattle.std.specs.Prelude.{◌≡◌, []};
 ghost use Rattle.dialogue.specs.Turns.{StopCause, StopsOn};
 ghost use Rattle.dover_model.specs.Fraction.{IsRatio};
 ghost use Rattle.periodic_tasks.specs.Limits.{AreTasks};
+ghost use Rattle.task_reading.specs.Keeping.{IsKnown};
 ghost use Rattle.task_reading.specs.Record.{listed_rules};
 ghost use Rattle.unroll_word.specs.Keeping.{SaysBy};
 
@@ -25,6 +26,7 @@ pub(crate) fn answer<P: Port, L: Ledger>(
     steps: &mut Steps<L>,
 ) -> Result<Status, Stop>
     requires empty { out.old ≡ [] }
+    requires known { IsKnown until }
     requires ratio { IsRatio (listed_rules listed).ratio }
     requires are { AreTasks until (listed_rules listed).ratio listed.tasks.items }
     ensures says { SaysBy until (listed_rules listed) listed.tasks.items

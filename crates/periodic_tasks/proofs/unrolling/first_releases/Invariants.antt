@@ -1,5 +1,4 @@
 use Rattle.std.proofs.Common.{◌≡◌, ◌≤◌, ◌<◌, ◌+◌, ℕ, length, get_or, None}
-use Rattle.dover_model.specs.declared.events.Version.TheVariants.{One}
 use Rattle.periodic_tasks.specs.Merging.{IsNext, blank_task}
 use Rattle.periodic_tasks.proofs.unrolling.first_releases.Given as goal
 
@@ -7,9 +6,7 @@ use Rattle.periodic_tasks.proofs.unrolling.first_releases.Given as goal
 abbrev pub invariant-loop-task : goal.invariant-loop-task
 invariant-loop-task g l = record {
   number_is : l.number ≡ l.task-index;
-  order : l.next.order ≡ record { version = One };
-  size : length l.next.table ≡ length l.tasks;
-  room : length l.tasks ≤ l.next.spare + l.task-index;
-  kept : (n : ℕ) → n < l.task-index → IsNext l.until n (get_or l.tasks n blank_task) 0 (get_or l.next.table n None);
-  rest : (n : ℕ) → l.task-index ≤ n → get_or l.next.table n None ≡ None;
+  size : length l.next ≡ length l.tasks;
+  kept : (n : ℕ) → n < l.task-index → IsNext l.until n (get_or l.tasks n blank_task) 0 (get_or l.next n None);
+  rest : (n : ℕ) → l.task-index ≤ n → get_or l.next n None ≡ None;
 }

@@ -1,6 +1,6 @@
 use Rattle.std.proofs.Common.{◌≡◌, ◌<◌, List, length, sym, subst, codes, arith}
 use Rattle.dover_model.specs.JobFacts.{JobFacts}
-use Rattle.feed_list.specs.Listing.{listed_instance}
+use Rattle.event_feed.specs.Listing.{listed_instance}
 use Rattle.question_words.specs.Texts.{piece_lines}
 use Rattle.question_words.proofs.Comparing.{value_low}
 use Rattle.question_words.proofs.Finding.{found}

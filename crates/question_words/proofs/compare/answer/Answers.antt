@@ -1,7 +1,7 @@
 use Rattle.std.proofs.Common.{◌++◌, ◌∙◌, [], sym, ap, subst, codes}
 use Rattle.dover_model.specs.Lines.{in_lines}
 use Rattle.dover_model.specs.Schedules.{worth}
-use Rattle.feed_list.specs.Listing.{listed_instance}
+use Rattle.event_feed.specs.Listing.{listed_instance}
 use Rattle.policy_lab.specs.PolicyRun.{AreTooLarge, policy_run}
 use Rattle.policy_lab.specs.Standard.{greatest_density}
 use Rattle.question_words.specs.Texts.{piece_lines}

@@ -2,7 +2,7 @@ use Rattle.std.proofs.Common.{◌∙◌, ap, subst, sym, codes, get_or, false}
 use Rattle.dover_model.specs.JobFacts.{IsJob}
 use Rattle.dover_model.specs.Sound.{Each}
 use Rattle.dover_model.proofs.Members.{all_member}
-use Rattle.feed_list.specs.Listing.{listed_instance}
+use Rattle.event_feed.specs.Listing.{listed_instance}
 use Rattle.question_words.specs.Texts.{stretch_lines}
 use Rattle.question_words.proofs.Comparing.{value_low}
 use Rattle.question_words.proofs.Lines.{four_written}

@@ -1,7 +1,7 @@
 use Rattle.std.proofs.Common.{subst, set, sym}
 use Rattle.dover_model.specs.Step.{with_role}
-use Rattle.queued_jobs.specs.Roles.{Changes}
-use Rattle.queued_jobs.proofs.Changing.{changes_at}
+use Rattle.room_ledger.specs.Roles.{Changes}
+use Rattle.room_ledger.proofs.Changing.{changes_at}
 use Rattle.queued_jobs.proofs.queues.set_role.Goals as goal
 
 pub returns-clause-changes : goal.returns-clause-changes

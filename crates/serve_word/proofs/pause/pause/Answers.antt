@@ -1,5 +1,5 @@
 use Rattle.std.proofs.Common.{sym, ap, ◌∙◌, subst}
-use Rattle.dispatcher.specs.Serving as kept
+use Rattle.dover_server.specs.Serving as kept
 use Rattle.lane_server.specs.Spending.{HasPaid}
 use Rattle.lane_server.specs.declared.lane.Lane.{Lane}
 use Rattle.dover_server.specs.Service.{Service}

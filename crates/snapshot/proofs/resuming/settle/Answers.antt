@@ -1,6 +1,6 @@
 use Rattle.std.proofs.Common.{refl, ◌∙◌, subst, sym}
 use Rattle.dover_model.specs.WholeRun.{IsBarrier}
-use Rattle.dover_server.specs.declared.horizon.Horizon.TheVariants.{Mark}
+use Rattle.dover_model.specs.declared.horizon.Horizon.TheVariants.{Mark}
 use Rattle.dover_server.proofs.Passing.{again}
 use Rattle.dover_server.proofs.Spending.{spent_next}
 use Rattle.snapshot.proofs.Serving.{taken_next, taken_ends, taken_keeps}

@@ -1,7 +1,8 @@
 use Rattle.std.proofs.Common.{◌≡◌, ℕ}
-use Rattle.dover_server.specs.declared.horizon.Horizon.TheVariants.{Mark}
-use Rattle.dover_server.specs.Service.{MayFollow, list_of, steps_left}
-use Rattle.queued_jobs.specs.Spending.{HasSpent}
+use Rattle.dover_model.specs.declared.horizon.Horizon.TheVariants.{Mark}
+use Rattle.dover_model.specs.Horizons.{MayFollow}
+use Rattle.dover_server.specs.Service.{list_of, steps_left}
+use Rattle.dover_model.specs.Spending.{HasSpent}
 use Rattle.snapshot.specs.Taken.{HasTaken}
 use Rattle.snapshot.proofs.resuming.settle.Given as goal
 

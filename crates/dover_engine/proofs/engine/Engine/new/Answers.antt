@@ -1,6 +1,6 @@
 use Rattle.std.proofs.Common.{[], arith}
-use Rattle.dover_server.specs.declared.horizon.Horizon.TheVariants.{Mark}
-use Rattle.dispatcher.specs.Dispatch.{no_jobs}
+use Rattle.dover_model.specs.declared.horizon.Horizon.TheVariants.{Mark}
+use Rattle.dover_model.specs.Horizons.{no_jobs}
 use Rattle.dover_engine.proofs.Lives.{new_gave}
 use Rattle.dover_engine.proofs.engine.Engine.new.Goals as goal
 

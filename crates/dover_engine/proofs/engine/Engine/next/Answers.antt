@@ -6,8 +6,7 @@ use Rattle.dover_model.specs.Instance.{Instance}
 use Rattle.dover_model.specs.Step.{Prints}
 use Rattle.dover_model.specs.Rest.{behind, instead}
 use Rattle.dover_model.specs.Run.{is_end}
-use Rattle.dover_server.specs.Service.{MayFollow}
-use Rattle.dover_server.specs.Leading.{is_ready_after}
+use Rattle.dover_model.specs.Horizons.{MayFollow, is_ready_after}
 use Rattle.ready_server.proofs.Stepping.{open_short}
 use Rattle.dover_engine.specs.Kept.{life_of}
 use Rattle.dover_engine.specs.Life.{life_with, Life, HasPaid, has_ended}

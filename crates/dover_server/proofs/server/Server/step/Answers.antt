@@ -2,7 +2,8 @@ use Rattle.std.proofs.Common.{ℕ, ◌+◌, ◌^◌, ◌<◌, length, cond, sym,
 use Rattle.std.specs.Prelude.{OnSome}
 use Rattle.dover_model.proofs.Potential.{weights}
 use Rattle.queued_jobs.specs.Queued.{Queued}
-use Rattle.dover_server.specs.Service.{Service, MayFollow, Stands, steps_left}
+use Rattle.dover_server.specs.Service.{Service, Stands, steps_left}
+use Rattle.dover_model.specs.Horizons.{MayFollow}
 use Rattle.dover_server.proofs.Counted.{counted_none}
 use Rattle.dover_server.specs.Counting.{IsCounted}
 use Rattle.dover_server.specs.Kept.{service_of}

@@ -1,9 +1,8 @@
 use Rattle.std.proofs.Common.{◌≡◌, ◌++◌, ◌∷◌, [], sym, subst}
 use Rattle.dover_model.specs.Session.{instance_of}
 use Rattle.dover_model.specs.Feed.{account_of_lines}
-use Rattle.dover_server.specs.declared.horizon.Horizon.TheVariants.{Mark}
-use Rattle.dover_server.specs.Service.{MayFollow}
-use Rattle.dispatcher.specs.Dispatch.{due_by}
+use Rattle.dover_model.specs.declared.horizon.Horizon.TheVariants.{Mark}
+use Rattle.dover_model.specs.Horizons.{MayFollow, due_by}
 use Rattle.lane_server.specs.Lane.{Admitting, Running}
 use Rattle.lane_server.specs.declared.lane.Work.TheVariants.{Run, Admit}
 use Rattle.lane_server.proofs.Owing.{admit_gives, joined_gives, joined_none, lane_owes, lane_stands, lane_turns}

@@ -1,5 +1,5 @@
 use Rattle.std.proofs.Common.{Some, subst}
-use Rattle.dover_server.specs.declared.horizon.Horizon.TheVariants.{Mark}
+use Rattle.dover_model.specs.declared.horizon.Horizon.TheVariants.{Mark}
 use Rattle.lane_server.specs.Lane.{Fits}
 use Rattle.lane_server.specs.Spending.{HasPaid}
 use Rattle.lane_server.proofs.Adding.{open_serves, job_room}

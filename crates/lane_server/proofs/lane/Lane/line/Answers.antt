@@ -53,3 +53,8 @@ pub returns-in-Ok-clause-lacks : goal.returns-in-Ok-clause-lacks
 returns-in-Ok-clause-lacks g c = λ ls it.
     c.take.ensures.lacks (account_of_lines ls) (account_of_lines (ls ++ c.args.line.now ∷ []))
     (c.in-Ok.ensures.answer ls it.stands.intake).1
+
+pub returns-in-Ok-clause-asks : goal.returns-in-Ok-clause-asks
+returns-in-Ok-clause-asks g c = λ ls it.
+    c.take.ensures.asks (account_of_lines ls) (account_of_lines (ls ++ c.args.line.now ∷ []))
+    (c.in-Ok.ensures.answer ls it.stands.intake).1

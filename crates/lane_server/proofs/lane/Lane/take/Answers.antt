@@ -1,6 +1,6 @@
-use Rattle.std.proofs.Common.{subst}
+use Rattle.std.proofs.Common.{inl, inr, subst}
 use Rattle.event_feed.specs.Answers.{IsFed, counted}
-use Rattle.lane_server.specs.Lane.{IsDeclared}
+use Rattle.lane_server.specs.Lane.{IsDeclared, AsksForMemory}
 use Rattle.lane_server.proofs.Taking.{tick_adds, over_adds, refused_adds, err_any, ratio_declares, job_declared}
 use Rattle.lane_server.proofs.lane.Lane.take.Goals as goal
 
@@ -33,3 +33,12 @@ returns-in_err-arrive-in-Job-clause-lacks g c = λ a b it.
 pub returns-in_ok-declare-in-Ratio-clause-paid : goal.returns-in_ok-declare-in-Ratio-clause-paid
 returns-in_ok-declare-in-Ratio-clause-paid g c = λ a b start now at it paid.
     c.in_ok-declare-in-Ratio.ensures.paid a b start now at (subst (λ x. IsFed (counted a) b x) c.in-Ratio.is it) paid
+
+pub returns-in_err-declare-in-Ratio-clause-asks : goal.returns-in_err-declare-in-Ratio-clause-asks
+returns-in_err-declare-in-Ratio-clause-asks g c = λ a b it. err_any c.from_residual.result (AsksForMemory a b)
+    (inl (_, _, subst (λ x. IsFed (counted a) b x) c.in-Ratio.is it))
+
+pub returns-in_err-arrive-in-Job-clause-asks : goal.returns-in_err-arrive-in-Job-clause-asks
+returns-in_err-arrive-in-Job-clause-asks g c = λ a b it.
+    err_any c.from_residual-in_err-arrive-in-Job.result (AsksForMemory a b)
+    (inr (_, _, subst (λ x. IsFed (counted a) b x) c.in-Job.is it))

@@ -1,6 +1,6 @@
 use Rattle.std.proofs.Common.{refl, arith, [], ◌++◌, ℕ, List, sym, subst}
 use Rattle.std.proofs.Math.Seq.{take-length}
-use Rattle.feed_list.specs.Keeping.{StandsFor}
+use Rattle.event_feed.specs.Keeping.{StandsFor}
 use Rattle.question_words.proofs.asking.AskingTalker.take.Goals as goal
 
 pub take-requires : goal.take-requires

@@ -3,7 +3,7 @@ use Rattle.std.specs.List.{slice_get}
 use Rattle.std.proofs.lemmas.Option.{slice_get_within}
 use Rattle.dover_model.specs.declared.events.Role.TheVariants.{Gone}
 use Rattle.queued_jobs.specs.Queued.{Agrees, queued_of}
-use Rattle.queued_jobs.proofs.Changing.{splits, is_map}
+use Rattle.room_ledger.proofs.Changing.{splits, is_map}
 use Rattle.queued_jobs.proofs.Steps.{abandon_step, changed_view, few_wait, taken_out}
 use Rattle.queued_jobs.proofs.queues.Queues.abandon.Goals as goal
 

@@ -2,7 +2,7 @@ use Rattle.std.proofs.Common.{ap, ◌∙◌}
 use Rattle.dover_model.specs.declared.events.Role.TheVariants.{Gone, Waiting}
 use Rattle.queued_jobs.specs.Queued.{with_job_in}
 use Rattle.queued_jobs.proofs.Inverting.{abandons_next, there, found_there, own_role, own_number}
-use Rattle.queued_jobs.proofs.Costs.{abandon_leaves, one_leaves}
+use Rattle.dover_model.proofs.Spending.{abandon_leaves, one_leaves}
 use Rattle.queued_jobs.proofs.queues.Queues.abandon_next.Goals as goal
 
 pub known-t-requires : goal.known-t-requires

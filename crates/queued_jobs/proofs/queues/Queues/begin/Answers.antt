@@ -5,7 +5,7 @@ use Rattle.std.proofs.lemmas.Option.{slice_get_within}
 use Rattle.dover_model.specs.declared.events.Role.TheVariants.{Running}
 use Rattle.dover_model.specs.State.{running}
 use Rattle.queued_jobs.specs.Queued.{Agrees, queued_of}
-use Rattle.queued_jobs.proofs.Changing.{splits, is_map}
+use Rattle.room_ledger.proofs.Changing.{splits, is_map}
 use Rattle.queued_jobs.proofs.Steps.{begin_step, changed_view, free_job}
 use Rattle.queued_jobs.proofs.queues.Queues.begin.Goals as goal
 

@@ -6,8 +6,9 @@ use Rattle.dover_model.specs.declared.events.Role.TheVariants.{Running, Done}
 use Rattle.dover_model.specs.State.{is_running, is_done, value_sum}
 use Rattle.dover_model.proofs.Roles.{passes}
 use Rattle.queued_jobs.specs.Queued.{Agrees, turn_of, queued_of}
-use Rattle.queued_jobs.proofs.Changing.{splits, only_one, is_map}
-use Rattle.queued_jobs.proofs.Steps.{complete_step, changed_view, found_member, value_room}
+use Rattle.room_ledger.proofs.Changing.{splits, only_one, is_map}
+use Rattle.queued_jobs.proofs.Steps.{complete_step, changed_view, found_member}
+use Rattle.room_ledger.proofs.Held.{value_room}
 use Rattle.queued_jobs.proofs.queues.Queues.complete.Goals as goal
 
 pub stop-requires : goal.stop-requires

@@ -8,9 +8,9 @@ use Rattle.dover_model.specs.Orders.{due_first, first}
 use Rattle.dover_model.proofs.Roles.{passes}
 use Rattle.held_queue.specs.Stack.{IsByDeadline}
 use Rattle.queued_jobs.specs.Queued.{Agrees, queued_of}
-use Rattle.queued_jobs.proofs.Changing.{splits, is_map}
-use Rattle.queued_jobs.proofs.Steps.{displace_step, changed_view, few_wait, number_free, number_ready}
-use Rattle.queued_jobs.proofs.Steps.{top_job, without_first}
+use Rattle.room_ledger.proofs.Changing.{splits, is_map}
+use Rattle.queued_jobs.proofs.Steps.{displace_step, changed_view, few_wait, number_free, number_ready, top_job}
+use Rattle.queued_jobs.proofs.Steps.{without_first}
 use Rattle.queued_jobs.proofs.queues.Queues.displace.Goals as goal
 
 pub add-requires-clause-number : goal.add-requires-clause-number

@@ -5,10 +5,10 @@ use Rattle.dover_model.specs.declared.events.Role.TheVariants.{Waiting}
 use Rattle.dover_model.specs.State.{is_held}
 use Rattle.dover_model.specs.Step.{with_role, displaced}
 use Rattle.dover_model.proofs.Roles.{numbered_map}
-use Rattle.queued_jobs.specs.Roles.{all_displaced}
-use Rattle.queued_jobs.proofs.Displacing.{Displaces, displaced_same, all_stay, none_running, first_held_is, none_held}
-use Rattle.queued_jobs.proofs.Displacing.{still_none, fewer_held}
-use Rattle.queued_jobs.proofs.Displacing.{same_queued}
+use Rattle.room_ledger.specs.Roles.{all_displaced}
+use Rattle.queued_jobs.proofs.Displacing.{Displaces, all_stay, none_running, first_held_is, none_held, still_none}
+use Rattle.queued_jobs.proofs.Displacing.{fewer_held, same_queued}
+use Rattle.room_ledger.proofs.Changing.{displaced_same}
 use Rattle.queued_jobs.proofs.Costs.{one_displaced, same_length}
 use Rattle.queued_jobs.proofs.queues.Queues.displace_held.Goals as goal
 

@@ -2,18 +2,16 @@ use Rattle.std.proofs.Common.{◌≡◌, ◌+◌, ◌≤◌, ◌<◌, ◌∷◌,
 use Rattle.std.specs.Prelude.{IsSome, vec_len}
 use Rattle.std.specs.List.{slice_get, filter}
 use Rattle.std.proofs.lemmas.Option.{slice_get_within}
+use Rattle.std.proofs.lemmas.List.Sums.{sum_by-cons}
 use Rattle.dover_model.specs.declared.events.Role.TheVariants.{Held, Running}
-use Rattle.dover_model.specs.State.{is_running, is_held}
+use Rattle.dover_model.specs.State.{is_running, is_held, value_sum}
 use Rattle.dover_model.specs.Entries.{entry_of}
 use Rattle.dover_model.proofs.Roles.{passes}
 use Rattle.queued_jobs.specs.Queued.{Agrees, turn_of, queued_of}
-use Rattle.queued_jobs.proofs.Changing.{splits, only_one, is_map}
-use Rattle.queued_jobs.proofs.Steps.{hold_step, changed_view, found_member}
-use Rattle.queued_jobs.proofs.Steps.{value_room, fewer_pass, stack_length, top_later}
-use Rattle.queued_jobs.proofs.Looking.{entries_later, held_value}
-use Rattle.std.proofs.lemmas.List.Sums.{sum_by-cons}
+use Rattle.room_ledger.proofs.Changing.{splits, only_one, is_map, entries_later}
+use Rattle.queued_jobs.proofs.Steps.{hold_step, changed_view, found_member, fewer_pass, stack_length}
+use Rattle.room_ledger.proofs.Held.{value_room, top_later, held_value}
 use Rattle.dover_model.specs.Sound.{Each}
-use Rattle.dover_model.specs.State.{value_sum}
 use Rattle.held_queue.specs.Stack.{value_of}
 use Rattle.queued_jobs.proofs.queues.Queues.hold.Goals as goal
 

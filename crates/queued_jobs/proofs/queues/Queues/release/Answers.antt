@@ -7,7 +7,7 @@ use Rattle.dover_model.proofs.Roles.{is_coming_role}
 use Rattle.dover_model.proofs.Members.{found as found_passes}
 use Rattle.queued_jobs.specs.Queued.{Agrees, queued_of}
 use Rattle.queued_jobs.proofs.Lookup.{found_coming}
-use Rattle.queued_jobs.proofs.Changing.{splits, is_map}
+use Rattle.room_ledger.proofs.Changing.{splits, is_map}
 use Rattle.queued_jobs.proofs.Steps.{release_step, changed_view, found_number, stale_number}
 use Rattle.queued_jobs.proofs.queues.Queues.release.Goals as goal
 

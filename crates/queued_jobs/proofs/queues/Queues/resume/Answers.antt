@@ -6,9 +6,8 @@ use Rattle.dover_model.specs.State.{running, held}
 use Rattle.dover_model.specs.Orders.{due_first, first}
 use Rattle.held_queue.specs.Stack.{IsByDeadline}
 use Rattle.queued_jobs.specs.Queued.{Agrees, queued_of}
-use Rattle.queued_jobs.proofs.Changing.{splits, is_map}
-use Rattle.queued_jobs.proofs.Steps.{resume_step, changed_view, free_job}
-use Rattle.queued_jobs.proofs.Steps.{top_job, without_first}
+use Rattle.room_ledger.proofs.Changing.{splits, is_map}
+use Rattle.queued_jobs.proofs.Steps.{resume_step, changed_view, free_job, top_job, without_first}
 use Rattle.queued_jobs.proofs.queues.Queues.resume.Goals as goal
 
 pub start-requires-clause-free : goal.start-requires-clause-free

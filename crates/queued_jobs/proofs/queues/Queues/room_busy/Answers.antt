@@ -4,7 +4,9 @@ use Rattle.dover_model.specs.State.{room, privileged, running}
 use Rattle.dover_model.specs.Entries.{entry_of, room_of}
 use Rattle.dover_model.specs.Sound.{Each, IsSound}
 use Rattle.queued_jobs.specs.Queued.{queued_of}
-use Rattle.queued_jobs.proofs.Looking.{only_running, running_before, entries_later, busy_room}
+use Rattle.queued_jobs.proofs.Looking.{only_running, running_before}
+use Rattle.room_ledger.proofs.Changing.{entries_later}
+use Rattle.room_ledger.proofs.Held.{busy_room}
 use Rattle.queued_jobs.proofs.queues.Queues.room_busy.Goals as goal
 
 pub room_with-requires : goal.room_with-requires

@@ -2,7 +2,8 @@ use Rattle.std.proofs.Common.{◌∙◌, ap}
 use Rattle.std.specs.Prelude.{unwrap_or}
 use Rattle.dover_model.specs.State.{room, held}
 use Rattle.held_queue.specs.Stack.{room_at}
-use Rattle.queued_jobs.proofs.Looking.{room_or_none, held_room}
+use Rattle.held_queue.proofs.Deadlines.{room_or_none}
+use Rattle.queued_jobs.proofs.Looking.{held_room}
 use Rattle.queued_jobs.proofs.queues.Queues.room_held.Goals as goal
 
 pub returns : goal.returns

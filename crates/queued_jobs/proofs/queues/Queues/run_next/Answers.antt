@@ -7,7 +7,7 @@ use Rattle.dover_model.specs.Step.{Prints}
 use Rattle.dover_model.specs.declared.events.Event.TheVariants.{Run}
 use Rattle.queued_jobs.specs.Queued.{Queued, IsNext, with_job_in}
 use Rattle.queued_jobs.proofs.Inverting.{Known, runs_next, there, is_same, found_there, own_number, in_time_next}
-use Rattle.queued_jobs.proofs.Costs.{run_leaves, one_leaves}
+use Rattle.dover_model.proofs.Spending.{run_leaves, one_leaves}
 use Rattle.queued_jobs.proofs.queues.Queues.run_next.Goals as goal
 
 -- a job in one of these roles can be done by the last tick

@@ -4,7 +4,7 @@ use Rattle.dover_model.specs.Sound.{Keeps}
 use Rattle.dover_model.proofs.Kept.{open_deed}
 use Rattle.dover_model.proofs.Deeds.{tick_quiet}
 use Rattle.queued_jobs.specs.Queued.{instance_of}
-use Rattle.queued_jobs.proofs.Silent.{early_waits}
+use Rattle.dover_model.proofs.Moves.{early_waits}
 use Rattle.queued_jobs.proofs.queues.Queues.silent_ticks.Goals as goal
 
 pub returns-clause-due : goal.returns-clause-due

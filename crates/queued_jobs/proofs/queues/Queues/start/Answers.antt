@@ -5,7 +5,7 @@ use Rattle.std.proofs.lemmas.Option.{slice_get_within}
 use Rattle.dover_model.specs.declared.events.Role.TheVariants.{Running}
 use Rattle.dover_model.specs.State.{running}
 use Rattle.queued_jobs.specs.Queued.{Agrees, turn_of, queued_of}
-use Rattle.queued_jobs.proofs.Changing.{splits, is_map}
+use Rattle.room_ledger.proofs.Changing.{splits, is_map}
 use Rattle.queued_jobs.proofs.Steps.{start_step, changed_view, few_wait, free_job, taken_out}
 use Rattle.queued_jobs.proofs.queues.Queues.start.Goals as goal
 

@@ -8,7 +8,7 @@ use Rattle.dover_model.specs.declared.events.Role.TheVariants.{Waiting, Running}
 use Rattle.dover_model.specs.State.{is_running, is_waiting}
 use Rattle.dover_model.proofs.Roles.{passes}
 use Rattle.queued_jobs.specs.Queued.{Agrees, turn_of, queued_of}
-use Rattle.queued_jobs.proofs.Changing.{splits, only_one, is_map}
+use Rattle.room_ledger.proofs.Changing.{splits, only_one, is_map}
 use Rattle.queued_jobs.proofs.Steps.{stop_step, changed_view, found_member, few_wait, number_free, number_ready}
 use Rattle.queued_jobs.proofs.queues.Queues.stop.Goals as goal
 

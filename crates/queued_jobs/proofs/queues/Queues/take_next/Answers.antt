@@ -11,12 +11,14 @@ use Rattle.dover_model.specs.Limits.{last_tick}
 use Rattle.dover_model.specs.Sound.{IsMember, IsNumberedFrom}
 use Rattle.dover_model.proofs.Members.{map_map}
 use Rattle.dover_model.proofs.Roles.{numbered_map}
-use Rattle.queued_jobs.specs.Roles.{with_role_at, all_displaced}
+use Rattle.room_ledger.specs.Roles.{with_role_at, all_displaced}
 use Rattle.queued_jobs.specs.Queued.{in_state, with_job_in}
 use Rattle.queued_jobs.proofs.Inverting.{takes_next, there, is_same, own_number, own_role, found_there, in_time_next}
 use Rattle.queued_jobs.proofs.Inverting.{other_stays, none_after}
-use Rattle.queued_jobs.proofs.Displacing.{displaced_same, waiting_stays, none_displaced, two_numbers}
-use Rattle.queued_jobs.proofs.Costs.{no_more_held, take_enters, take_leaves, take_costs}
+use Rattle.room_ledger.proofs.Changing.{displaced_same}
+use Rattle.queued_jobs.proofs.Displacing.{waiting_stays, none_displaced, two_numbers}
+use Rattle.queued_jobs.proofs.Costs.{no_more_held, take_enters, take_costs}
+use Rattle.dover_model.proofs.Spending.{take_leaves}
 use Rattle.queued_jobs.proofs.queues.Queues.take_next.Goals as goal
 
 pub known-r-requires : goal.known-r-requires

@@ -6,7 +6,7 @@ use Rattle.dover_model.specs.declared.events.Role.TheVariants.{Fresh, Waiting}
 use Rattle.dover_model.specs.State.{is_waiting}
 use Rattle.dover_model.proofs.Roles.{passes}
 use Rattle.queued_jobs.specs.Queued.{Agrees, queued_of}
-use Rattle.queued_jobs.proofs.Changing.{splits, is_map}
+use Rattle.room_ledger.proofs.Changing.{splits, is_map}
 use Rattle.queued_jobs.proofs.Steps.{wait_step, changed_view, few_wait, number_free, number_ready}
 use Rattle.queued_jobs.proofs.queues.Queues.wait.Goals as goal
 

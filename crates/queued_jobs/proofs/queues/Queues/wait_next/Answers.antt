@@ -2,7 +2,8 @@ use Rattle.std.proofs.Common.{ap, ◌∙◌}
 use Rattle.dover_model.specs.declared.events.Role.TheVariants.{Waiting, Fresh}
 use Rattle.queued_jobs.specs.Queued.{with_job_in}
 use Rattle.queued_jobs.proofs.Inverting.{stays_next, there, found_there, own_role, own_number}
-use Rattle.queued_jobs.proofs.Costs.{wait_enters, one_enters}
+use Rattle.dover_model.proofs.Spending.{wait_enters}
+use Rattle.queued_jobs.proofs.Costs.{one_enters}
 use Rattle.queued_jobs.proofs.queues.Queues.wait_next.Goals as goal
 
 pub known-t-requires : goal.known-t-requires

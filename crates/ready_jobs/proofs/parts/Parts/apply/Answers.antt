@@ -1,7 +1,7 @@
 use Rattle.std.proofs.Common.{◌+◌, ◌≤◌, refl, subst}
 use Rattle.dover_model.specs.declared.events.Event.TheVariants.{Run, Preempt, Take, Complete, Abandon}
 use Rattle.dover_model.specs.Step.{Prints}
-use Rattle.queued_jobs.specs.Costs.{cost_of}
+use Rattle.dover_model.specs.Spending.{cost_of}
 use Rattle.ready_jobs.specs.Parts.{state_of}
 use Rattle.ready_jobs.specs.declared.deeds.Deed.TheVariants as deeds
 use Rattle.ready_jobs.proofs.Applied.{leaves_fewer}

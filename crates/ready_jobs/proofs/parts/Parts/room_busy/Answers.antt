@@ -6,7 +6,7 @@ use Rattle.dover_model.specs.Sound.{IsMember}
 use Rattle.dover_model.proofs.Members.{on_map}
 use Rattle.held_queue.specs.Stack.{IsDueBeforeTop}
 use Rattle.held_queue.proofs.Holding.{before_top}
-use Rattle.queued_jobs.proofs.Deadlines.{room_map}
+use Rattle.held_queue.proofs.Deadlines.{room_map}
 use Rattle.ready_jobs.specs.Parts.{Parted, AreSound, state_of}
 use Rattle.ready_jobs.specs.Kept.{parted_of}
 use Rattle.ready_jobs.proofs.Seeing.{privileged_list}

@@ -1,16 +1,14 @@
-use Rattle.std.proofs.Common.{◌≡◌, ◌<◌, min, sym, ap, arith}
-use Rattle.std.proofs.Common.{◌∙◌, subst}
+use Rattle.std.proofs.Common.{◌≡◌, ◌<◌, min, sym, ap, arith, ◌∙◌, subst}
 use Rattle.std.specs.Prelude.{option_map}
 use Rattle.dover_model.specs.State.{running, latest_start}
 use Rattle.dover_model.specs.Orders.{starts_before, first}
 use Rattle.dover_model.specs.Sound.{Each}
 use Rattle.dover_model.proofs.Members.{some_same}
 use Rattle.dover_model.proofs.Tests.{none_is_some}
-use Rattle.scanned_step.specs.Dues.{still_ticks, until_done}
+use Rattle.ready_jobs.specs.Dues.{still_ticks, until_done}
 use Rattle.ready_jobs.specs.Parts.{Parted, AreSound, state_of}
 use Rattle.ready_jobs.specs.Kept.{parted_of}
-use Rattle.ready_jobs.proofs.Seeing.{before_start, before_none}
-use Rattle.ready_jobs.proofs.Seeing.{still_is}
+use Rattle.ready_jobs.proofs.Seeing.{before_start, before_none, still_is}
 use Rattle.ready_jobs.proofs.parts.Parts.silent_ticks.Goals as goal
 
 pub first_start-requires-clause-modest : goal.first_start-requires-clause-modest

@@ -5,7 +5,7 @@ use Rattle.ready_jobs.specs.Parts.{ready_of}
 use Rattle.ready_jobs.specs.Slots.{seen}
 use Rattle.ready_jobs.proofs.Applied.{taken_leaves, taken_named}
 use Rattle.dover_model.specs.Orders.{starts_before}
-use Rattle.queued_jobs.proofs.Firsts.{first_member}
+use Rattle.dover_model.proofs.FirstOfTasks.{first_member}
 use Rattle.ready_jobs.proofs.Costing.{take_costs}
 use Rattle.ready_jobs.proofs.parts.Parts.take_next.Goals as goal
 

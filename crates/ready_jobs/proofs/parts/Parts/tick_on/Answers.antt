@@ -1,12 +1,12 @@
 use Rattle.std.proofs.Common.{◌-◌, refl, sym, ap, ◌∙◌, subst, arith}
 use Rattle.dover_model.specs.Step.{open_step}
-use Rattle.scanned_step.specs.Dues.{still_ticks}
+use Rattle.ready_jobs.specs.Dues.{still_ticks}
 use Rattle.ready_jobs.specs.Deeds.{step_at}
 use Rattle.ready_jobs.specs.Parts.{Parted, AreSound, state_of}
 use Rattle.ready_jobs.specs.Following.{SettlesFrom}
 use Rattle.ready_jobs.proofs.Following.{parts_later, roles_later}
-use Rattle.ready_jobs.proofs.Silences.{part_after, known_sound, known_fits, jump, jump_settles, jump_stops}
-use Rattle.ready_jobs.proofs.Silences.{ticks_count, Jump}
+use Rattle.ready_jobs.proofs.Silences.{part_after, known_sound, known_fits, jump, jump_settles, jump_stops, ticks_count}
+use Rattle.ready_jobs.proofs.Silences.{Jump}
 use Rattle.ready_jobs.proofs.parts.Parts.tick_on.Goals as goal
 
 pub silent_ticks-count-requires : goal.silent_ticks-count-requires

@@ -1,14 +1,13 @@
 use Rattle.std.proofs.Common.{sym, ap, ◌∙◌, subst, refl}
 use Rattle.std.specs.Prelude.{option_map}
-use Rattle.scanned_step.specs.Moves.{step_of}
-use Rattle.dover_model.specs.Step.{Waits, Ticks}
+use Rattle.dover_model.specs.Run.{event_of}
 use Rattle.ready_jobs.specs.declared.deeds.Due.{Due}
 use Rattle.ready_jobs.specs.Course.{Course, Settled}
 use Rattle.ready_jobs.specs.Deeds.{step_at}
 use Rattle.ready_jobs.proofs.Courses.{over_settled, tested_late, tested_early, silent_settled}
+use Rattle.ready_jobs.proofs.Doing.{prints_event}
 use Rattle.ready_jobs.proofs.ready.Ready.due_before.Goals as goal
-use Rattle.ready_jobs.proofs.ready.Ready.due_before.Goals.{in-Prints+then-is_late_at, in-Prints+else-is_late_at}
-use Rattle.ready_jobs.proofs.ready.Ready.due_before.Goals.{in-Waits, in-Ticks}
+use Rattle.ready_jobs.proofs.ready.Ready.due_before.Goals.{in-Some+then-is_late_at, in-Some+else-is_late_at, in-None}
 
 pub returns-then-is_empty-clause-settled : goal.returns-then-is_empty-clause-settled
 returns-then-is_empty-clause-settled g c J z follows =
@@ -21,22 +20,20 @@ returns-clause-settled g c J z follows =
     let d = c.go_on-deed.new.self in
     let reached = c.go_on-deed.ensures.reached J z follows in
     let at = c.clock-clock.ensures ∙ ap (λ (d : Course). d.clock) c.self-2.view_is in
-    let step = ap (λ n. step_at n c.go_on-deed.result) (sym at) ∙ sym c.step_at.ensures in
-    elim c.match-step_at.branch [
-      | in-Prints+then-is_late_at w ↦
+    let step = ap (λ n. event_of (step_at n c.go_on-deed.result)) (sym at) ∙ sym c.event_at.ensures in
+    elim c.match-event_at.branch [
+      | in-Some+then-is_late_at w ↦
           subst (λ o. Settled d J z c.args.mark (option_map (λ (due : Due). due.event) o)) (sym w.result-is)
-          (tested_late d J z c.args.mark (step_at d.clock c.go_on-deed.result) w.in-Prints.event c.clock-clock.result
-          w.is_late_at.result reached (step ∙ ap step_of w.in-Prints.is) at w.is_late_at.ensures w.if-is_late_at.true)
-      | in-Prints+else-is_late_at w ↦
+          (tested_late d J z c.args.mark (step_at d.clock c.go_on-deed.result) w.in-Some.event c.clock-clock.result
+          w.is_late_at.result reached (prints_event _ _ (step ∙ w.in-Some.is)) at w.is_late_at.ensures
+          w.if-is_late_at.true)
+      | in-Some+else-is_late_at w ↦
           subst (λ o. Settled d J z c.args.mark (option_map (λ (due : Due). due.event) o)) (sym w.result-is)
-          (tested_early d J z c.args.mark (step_at d.clock c.go_on-deed.result) w.in-Prints.event c.clock-clock.result
-          w.is_late_at.result reached (step ∙ ap step_of w.in-Prints.is) at w.is_late_at.ensures w.if-is_late_at.false)
-      | in-Waits w ↦
+          (tested_early d J z c.args.mark (step_at d.clock c.go_on-deed.result) w.in-Some.event c.clock-clock.result
+          w.is_late_at.result reached (prints_event _ _ (step ∙ w.in-Some.is)) at w.is_late_at.ensures
+          w.if-is_late_at.false)
+      | in-None w ↦
           subst (λ o. Settled d J z c.args.mark (option_map (λ (due : Due). due.event) o)) (sym w.result-is)
-          (silent_settled d J z c.args.mark (step_at d.clock c.go_on-deed.result) (Waits w.in-Waits.field-0) reached
-          (step ∙ ap step_of w.in-Waits.is) refl)
-      | in-Ticks w ↦
-          subst (λ o. Settled d J z c.args.mark (option_map (λ (due : Due). due.event) o)) (sym w.result-is)
-          (silent_settled d J z c.args.mark (step_at d.clock c.go_on-deed.result) Ticks reached
-          (step ∙ ap step_of w.in-Ticks.is) refl)
+          (silent_settled d J z c.args.mark (step_at d.clock c.go_on-deed.result) (step_at d.clock c.go_on-deed.result)
+          reached refl (step ∙ w.in-None.is))
     ]

@@ -1,10 +1,10 @@
 use Rattle.std.proofs.Common.{sym, ap, ◌∙◌, subst, arith}
-use Rattle.scanned_step.specs.Moves.{step_of}
 use Rattle.dover_model.specs.Run.{event_of}
 use Rattle.dover_model.specs.Step.{Prints}
 use Rattle.ready_jobs.specs.Course.{Course, Follows, Reached}
 use Rattle.ready_jobs.specs.Deeds.{step_at}
 use Rattle.ready_jobs.proofs.Courses.{reached_next, reached_last}
+use Rattle.ready_jobs.proofs.Doing.{prints_event}
 use Rattle.ready_jobs.proofs.ready.Ready.due_next.Goals as goal
 
 pub go_on-deed-requires-clause-low : goal.go_on-deed-requires-clause-low
@@ -22,23 +22,15 @@ unreachable-requires g c =
     reached_last d c.self.invariant.0 c.self.invariant.1 (step_at d.clock c.go_on-deed.result)
     (c.go_on-deed.ensures.reached c.self.invariant.0 c.self.invariant.1
     (subst (λ d. Follows d c.self.invariant.0 c.self.invariant.1) c.self.view_is c.self.invariant.2))
-    (ap event_of (ap (λ n. step_at n c.go_on-deed.result) (sym at) ∙ sym c.step_at.ensures ∙ ap step_of c.in-Waits.is))
-
-pub unreachable-requires-in-Ticks : goal.unreachable-requires-in-Ticks
-unreachable-requires-in-Ticks g c =
-    let d = c.go_on-deed.new.self in
-    let at = c.clock.ensures ∙ ap (λ (d : Course). d.clock) c.self-2.view_is in
-    reached_last d c.self.invariant.0 c.self.invariant.1 (step_at d.clock c.go_on-deed.result)
-    (c.go_on-deed.ensures.reached c.self.invariant.0 c.self.invariant.1
-    (subst (λ d. Follows d c.self.invariant.0 c.self.invariant.1) c.self.view_is c.self.invariant.2))
-    (ap event_of (ap (λ n. step_at n c.go_on-deed.result) (sym at) ∙ sym c.step_at.ensures ∙ ap step_of c.in-Ticks.is))
+    (ap (λ n. event_of (step_at n c.go_on-deed.result)) (sym at) ∙ sym c.event_at.ensures ∙ c.in-None.is)
 
 pub returns-clause-comes : goal.returns-clause-comes
 returns-clause-comes g c J z follows =
     let d = c.go_on-deed.new.self in
     let at = c.clock.ensures ∙ ap (λ (d : Course). d.clock) c.self-2.view_is in
-    let reached : Reached d J z 1_000_000_000_000 (Prints c.in-Prints.event) =
+    let reached : Reached d J z 1_000_000_000_000 (Prints c.in-Some.event) =
     subst (Reached d J z 1_000_000_000_000)
-    (ap (λ n. step_at n c.go_on-deed.result) (sym at) ∙ sym c.step_at.ensures ∙ ap step_of c.in-Prints.is)
+    (prints_event _ _ (ap (λ n. event_of (step_at n c.go_on-deed.result)) (sym at) ∙ sym c.event_at.ensures
+    ∙ c.in-Some.is))
     (c.go_on-deed.ensures.reached J z follows) in
-    (reached.state, reached.follows, reached_next d J z 1_000_000_000_000 c.in-Prints.event reached)
+    (reached.state, reached.follows, reached_next d J z 1_000_000_000_000 c.in-Some.event reached)

@@ -1,6 +1,6 @@
 use Rattle.std.proofs.Common.{◌≤◌, ◌+◌, ◌++◌, ◌∷◌, [], sym, ap, subst}
-use Rattle.scanned_step.specs.Moves.{state_at}
-use Rattle.queued_jobs.specs.Spending.{HasSpentFor}
+use Rattle.dover_model.specs.State.{state_at}
+use Rattle.dover_model.specs.Spending.{HasSpentFor}
 use Rattle.ready_jobs.specs.Reordered.{IsReordered}
 use Rattle.ready_jobs.specs.Parts.{Parted, ready_of}
 use Rattle.ready_jobs.specs.Course.{Course, IsCourse, course_of, with_release, fresh_job}

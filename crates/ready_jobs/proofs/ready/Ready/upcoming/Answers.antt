@@ -1,6 +1,6 @@
 use Rattle.std.proofs.Common.{sym, ap, ◌∙◌, subst}
 use Rattle.dover_model.specs.declared.events.Event.TheVariants.{End}
-use Rattle.trace_reading.specs.Leading.{PrintsNext}
+use Rattle.dover_model.specs.Leading.{PrintsNext}
 use Rattle.ready_jobs.specs.Course.{Course}
 use Rattle.ready_jobs.proofs.Courses.{over_next}
 use Rattle.ready_jobs.proofs.ready.Ready.upcoming.Goals as goal

@@ -2,7 +2,7 @@ use Rattle.std.proofs.Common.{◌++◌, ◌∷◌, [], length-append, sym, subst
 use Rattle.dover_model.specs.declared.events.Event.TheVariants.{Release}
 use Rattle.dover_model.specs.Instance.{with_jobs}
 use Rattle.dover_model.specs.Settled.{settled}
-use Rattle.dover_server.specs.declared.horizon.Horizon.TheVariants.{Mark}
+use Rattle.dover_model.specs.declared.horizon.Horizon.TheVariants.{Mark}
 use Rattle.ready_jobs.specs.Course.{Course, fresh_job}
 use Rattle.ready_jobs.proofs.Reordering.{as_many}
 use Rattle.ready_server.specs.Serving.{Serves}

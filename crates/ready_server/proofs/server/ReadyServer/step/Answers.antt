@@ -1,6 +1,5 @@
 use Rattle.std.proofs.Common.{sym, subst, ◌∙◌, Bool, true, false, ◌||◌, refl, ◌≡◌}
-use Rattle.dover_server.specs.Service.{MayFollow}
-use Rattle.dispatcher.specs.Dispatch.{due_by, Gives}
+use Rattle.dover_model.specs.Horizons.{MayFollow, due_by, Gives}
 use Rattle.ready_server.specs.Serving.{Serves, Rests}
 use Rattle.ready_server.proofs.Stepping.{open_shorts}
 use Rattle.ready_server.proofs.server.ReadyServer.step.Goals as goal

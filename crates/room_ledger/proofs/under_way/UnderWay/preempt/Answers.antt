@@ -1,7 +1,7 @@
 use Rattle.std.proofs.Common.{◌<◌, sym, subst}
 use Rattle.dover_model.specs.Sound.{Each}
 use Rattle.held_queue.specs.Stack.{Stack}
-use Rattle.queued_jobs.proofs.Steps.{top_later}
+use Rattle.room_ledger.proofs.Held.{top_later}
 use Rattle.room_ledger.proofs.under_way.UnderWay.preempt.Goals as goal
 
 pub hold-requires-clause-first : goal.hold-requires-clause-first

@@ -1,9 +1,9 @@
 use Rattle.std.proofs.Common.{◌≡◌, [], ◌∷◌, ◌++◌, sym, ap, ◌∙◌, subst}
 use Rattle.dover_model.specs.JobFacts.{JobFacts}
 use Rattle.dover_model.specs.Instance.{IsValid, with_jobs}
-use Rattle.dover_server.specs.declared.horizon.Horizon.TheVariants.{Mark}
+use Rattle.dover_model.specs.declared.horizon.Horizon.TheVariants.{Mark}
 use Rattle.dover_server.specs.Service.{Service, with_job}
-use Rattle.queued_jobs.specs.Spending.{HasSpent}
+use Rattle.dover_model.specs.Spending.{HasSpent}
 use Rattle.dover_server.proofs.Spending.{spent_job}
 use Rattle.snapshot.specs.Reading.{stored}
 use Rattle.snapshot.specs.Taken.{HasTaken}

@@ -1,7 +1,7 @@
 use Rattle.std.proofs.Common.{◌≤◌, ℕ, List, ◌∙◌, sym, ap, subst}
 use Rattle.dover_model.specs.Session.{Session}
 use Rattle.dover_model.specs.State.{State}
-use Rattle.trace_reading.specs.Leading.{WaitsUntil}
+use Rattle.dover_model.specs.Leading.{WaitsUntil}
 use Rattle.trace_judge.specs.Reads.{Reading, ReadsAhead, Goes, Waited, CanRelease}
 use Rattle.trace_judge.proofs.Readings.{goes_of}
 use Rattle.trace_judge.proofs.Releases.{not_admitted, not_waited, reserved_can, reserved_took}

@@ -1,4 +1,4 @@
-use Rattle.std.proofs.Common.{◌++◌, ◌∷◌, []}
+use Rattle.std.proofs.Common.{◌++◌, ◌∷◌, [], arith}
 use Rattle.dover_model.specs.Due.{fault_text}
 use Rattle.dover_port.specs.declared.status.Status.TheVariants.{Refused}
 use Rattle.event_feed.specs.Kept.{cause_of_fault}
@@ -14,6 +14,9 @@ answer-requires-clause-ratio g c = (c.in-Ok.ensures.tasks _ _ c.requires.ready.2
 pub answer-requires-clause-are : goal.answer-requires-clause-are
 answer-requires-clause-are g c = let at = c.requires.ready.2 in
     rw at.asks (c.in-Ok.ensures.tasks c.requires.ready.0 c.requires.ready.1 at.reads).are
+
+pub answer-requires-clause-known : goal.answer-requires-clause-known
+answer-requires-clause-known g c = omega (arith, c.requires.ready.2.asks, c.requires.ready.2.known)
 
 pub returns-in-Ok-clause-answers : goal.returns-in-Ok-clause-answers
 returns-in-Ok-clause-answers g c = λ until x at over. answered until x c.args._ended over c.in-Ok.listed

@@ -1,7 +1,0 @@
-//! What a feed asks of the server that it is handed to.
-#![tactic(auto)]
-
-mod dispatcher;
-mod server;
-
-pub use dispatcher::Dispatcher;

@@ -1,0 +1,35 @@
+use Rattle.std.proofs.Common.{◌≡◌, ◌++◌, ◌∷◌, [], ◌∙◌, Some, None, sym, ap, subst}
+use Rattle.dover_model.specs.Feed.{account_of_lines, is_open}
+use Rattle.event_feed.specs.Answers.{IsFed, counted}
+use Rattle.event_feed.proofs.Listing.{job_listed, job_admitted, refused_listed}
+use Rattle.event_feed.proofs.gathering.Gathering.take_line.Goals as goal
+
+pub returns-in-Err-push-clause-memory : goal.returns-in-Err-push-clause-memory
+returns-in-Err-push-clause-memory c = λ ls keeps on.
+    let a = account_of_lines ls in
+    let b = account_of_lines (ls ++ c.args.line.now ∷ []) in
+    job_admitted a b _ _ (subst (IsFed (counted a) b) c.in-Job.is (c.in-Ok.ensures.answer ls keeps.intake).1)
+
+pub returns-in-Ok-push-clause-keeps : goal.returns-in-Ok-push-clause-keeps
+returns-in-Ok-push-clause-keeps c = λ ls keeps on.
+    let a = account_of_lines ls in
+    let b = account_of_lines (ls ++ c.args.line.now ∷ []) in
+    let adds = subst (IsFed (counted a) b) c.in-Job.is (c.in-Ok.ensures.answer ls keeps.intake).1 in
+    record {
+      intake = c.in-Ok.ensures.stands ls keeps.intake;
+      lists = rw c.in-Ok-push.ensures.items (job_listed a b _ _ keeps.lists _ _ adds);
+      goes_on = keeps.goes_on ∙ sym (ap is_open adds.after_is);
+      names = λ fault is. absurd (let e : None ≡ Some fault = sym c.in-Ok.ensures.fault ∙ is in cc);
+    }
+
+pub returns-in-Refused-clause-keeps : goal.returns-in-Refused-clause-keeps
+returns-in-Refused-clause-keeps c = λ ls keeps on.
+    let a = account_of_lines ls in
+    let b = account_of_lines (ls ++ c.args.line.now ∷ []) in
+    let adds = subst (IsFed (counted a) b) c.in-Refused.is (c.in-Ok.ensures.answer ls keeps.intake).1 in
+    record {
+      intake = c.in-Ok.ensures.stands ls keeps.intake;
+      lists = refused_listed a b _ _ keeps.lists _ _ adds;
+      goes_on = keeps.goes_on ∙ sym (ap is_open adds.after_is);
+      names = λ fault is. absurd (let e : None ≡ Some fault = sym c.in-Ok.ensures.fault ∙ is in cc);
+    }

@@ -1,0 +1,32 @@
+-- What is kept of a feed.
+use Rattle.std.specs.Prelude.{◌≡◌, ℕ, List, [], ◌++◌, Some, true, false}
+use Rattle.dover_model.specs.Feed.{account_of_lines, is_open}
+use Rattle.dover_model.specs.Lines.{lines_of, rest_of, is_too_long}
+use Rattle.line_text.specs.Cutting as cutting
+use Rattle.event_feed.specs.Faults.{IsFirstFault}
+use Rattle.event_feed.specs.Kept as feed
+use Rattle.event_feed.specs.declared.faults.FeedFault.{FeedFault}
+use Rattle.event_feed.specs.Listing.{Lists}
+use Rattle.event_feed.specs.declared.gathering.Gathering.{Gathering}
+use Rattle.event_feed.specs.declared.reader.FeedReader.{FeedReader}
+
+-- this is kept of these lines: what they said, the rules and the jobs, and whether the feed goes on
+pub record Keeps (gathering : Gathering) (ls : List (List ℕ)) : Type 0 where
+  pub intake : feed.StandsFor gathering.intake ls
+  pub lists : Lists gathering.declared gathering.jobs.items (account_of_lines ls).session
+  pub goes_on : gathering.going ≡ is_open (account_of_lines ls)
+  pub names : (fault : FeedFault) → feed.fault_of gathering.intake ≡ Some fault → IsFirstFault fault ls
+
+-- this is kept of these bytes, of which the last may have ended the feed
+pub record HasRead (reader : FeedReader) (bytes : List ℕ) : Type 0 where
+  pub cut : cutting.StandsFor reader.lines bytes
+  pub keeps : Keeps reader.gathering (lines_of bytes)
+  pub short : reader.gathering.going ≡ true → is_too_long (rest_of bytes) ≡ false
+
+-- The reader stands for the bytes: it has read them, or a front of them that ended the feed.
+pub record StandsFor (reader : FeedReader) (bytes : List ℕ) : Type 0 where
+  pub read : List ℕ
+  pub rest : List ℕ
+  pub front : bytes ≡ read ++ rest
+  pub reads : HasRead reader read
+  pub all : reader.gathering.going ≡ true → rest ≡ []

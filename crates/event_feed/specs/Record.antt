@@ -1,0 +1,26 @@
+-- What is known of a feed whose reading has ended.
+use Rattle.std.specs.Prelude.{◌≡◌, ◌⊎◌, ℕ, List, true, Some, length}
+use Rattle.dover_model.specs.Feed.{Account, Ended, Faulty, is_open, account}
+use Rattle.dover_model.specs.Lines.{whole_lines}
+use Rattle.dover_model.specs.Session.{Session, IsValidSession, instance_of}
+use Rattle.event_feed.specs.Answers.{short_after}
+use Rattle.event_feed.specs.Faults.{IsFaultIn}
+use Rattle.event_feed.specs.Kept.{cause_of_fault}
+use Rattle.event_feed.specs.declared.faults.FeedFault.{FeedFault}
+use Rattle.event_feed.specs.Listing.{listed_instance}
+use Rattle.event_feed.specs.declared.listed.Listed.{Listed}
+
+-- the feed of this account ended without a fault, and these are the jobs of its session
+pub record IsEnded (listed : Listed) (a : Account) : Type 0 where
+  pub ended : a.standing ≡ Ended
+  pub session : Session
+  pub session_is : a.session ≡ Some session
+  pub valid : IsValidSession session
+  pub jobs : listed_instance listed ≡ instance_of session
+
+-- this is the fault of the feed, with the other job named where the ratio is broken, or the feed goes on and this says
+-- that it is short
+abbrev pub IsRefusedBy : FeedFault → List ℕ → Type 0
+IsRefusedBy fault bytes =
+    (((account bytes).standing ≡ Faulty fault.line (cause_of_fault fault.cause)) × IsFaultIn fault bytes)
+    ⊎ ((is_open (account bytes) ≡ true) × (fault ≡ short_after (length (whole_lines bytes))))

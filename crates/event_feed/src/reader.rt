@@ -1,0 +1,140 @@
+//! A feed that comes in pieces.
+ghost use Rattle.std.specs.Prelude.{◌≡◌, ◌<◌, ◌∷◌, ◌++◌, ℕ, List, [], true, length, OnOk, OnErr, IfOk, IfErr};
+ghost use Rattle.dover_model.specs.Feed as feeds;
+ghost use Rattle.dover_model.specs.Feed.{account, account_of_lines, is_open};
+ghost use Rattle.event_feed.specs.Answers.{admitted_in};
+ghost use Rattle.line_text.specs.Cutting.{IsWholeLine};
+ghost use Rattle.event_feed.specs.Keeping.{HasRead, StandsFor};
+ghost use Rattle.event_feed.specs.Listing.{Lists};
+ghost use Rattle.event_feed.specs.Record.{IsEnded, IsRefusedBy};
+
+use crate::faults::FeedFault;
+use crate::gathering::Gathering;
+use crate::intake::Intake;
+use crate::listed::Listed;
+use dover_model::{Job, Memory, Ratio, Version};
+use line_text::{Lines, Step};
+use std::alloc::Global;
+
+/// What is kept of a feed that comes in pieces: the line that has begun, and what the lines before it said. Refused job
+/// lines of version Two are passed over.
+#[derive(Drop)]
+pub struct FeedReader {
+    lines: Lines,
+    gathering: Gathering,
+}
+
+/// The jobs of a feed whose `end` line was read.
+fn listed(declared: Option<(Ratio, Version)>, jobs: Vec<Job>) -> Listed
+    requires { (ls : List (List ℕ)) × ((account_of_lines ls).standing ≡ feeds.Ended)
+        × Lists declared jobs.items (account_of_lines ls).session }
+    ensures { (ls : List (List ℕ)) → (account_of_lines ls).standing ≡ feeds.Ended
+        → Lists declared jobs.items (account_of_lines ls).session → IsEnded result (account_of_lines ls) }
+{
+    match declared {
+        Some(rules) => Listed {
+            ratio: rules.0,
+            version: rules.1,
+            jobs,
+        },
+        None => unreachable!(),
+    }
+}
+
+impl FeedReader {
+    /// Nothing was read yet.
+    pub fn new(alloc: Global) -> FeedReader
+        ensures { StandsFor result [] }
+    {
+        FeedReader {
+            lines: Lines::new(),
+            gathering: Gathering {
+                intake: Intake::new(),
+                declared: None,
+                jobs: Vec::new(alloc),
+                going: true,
+            },
+        }
+    }
+
+    /// Takes a byte of the feed.
+    #[inline(never)]
+    fn take_byte(&mut self, byte: u8) -> Result<(), Memory>
+        requires { (x : List ℕ) × HasRead self.old x × (self.old.gathering.going ≡ true) }
+        ensures reads { (x : List ℕ) → HasRead self.old x → self.old.gathering.going ≡ true →
+            OnOk result (HasRead self.new (x ++ byte ∷ [])) }
+        ensures memory { (x : List ℕ) → HasRead self.old x → self.old.gathering.going ≡ true →
+            OnErr result (0 < admitted_in (account (x ++ byte ∷ []))) }
+    {
+        match self.lines.push(byte) {
+            Step::More => Ok(()),
+            Step::Line => self.gathering.take_line(self.lines.line()),
+            Step::TooLong => self.gathering.take_line(self.lines.line()),
+        }
+    }
+
+    /// Takes a byte, or a whole line with its line feed where no line has begun.
+    #[inline(always)]
+    fn take_front(&mut self, bytes: &[u8]) -> Result<(), Memory>
+        requires some { 0 < length bytes.now }
+        requires whole { 1 < length bytes.now → IsWholeLine self.old.lines bytes.now }
+        requires reads { (x : List ℕ) × HasRead self.old x × (self.old.gathering.going ≡ true) }
+        ensures reads { (x : List ℕ) → HasRead self.old x → self.old.gathering.going ≡ true →
+            OnOk result (HasRead self.new (x ++ bytes.now)) }
+        ensures memory { (x : List ℕ) → HasRead self.old x → self.old.gathering.going ≡ true →
+            OnErr result (0 < admitted_in (account (x ++ bytes.now))) }
+    {
+        if bytes.len() > 1 {
+            return self.gathering.take_line(self.lines.pass(bytes));
+        }
+        self.take_byte(bytes[0])
+    }
+
+    /// The feed goes on by the piece, up to a line that ends it or is faulty. Memory is taken for each admitted job
+    /// alone.
+    ///
+    /// # Errors
+    ///
+    /// `Memory` where there is none for an admitted job; the reader isn't called again.
+    pub fn take(&mut self, piece: &[u8]) -> Result<(), Memory>
+        requires { (x : List ℕ) × StandsFor self.old x × (is_open (account x) ≡ true) }
+        ensures stands { (x : List ℕ) → StandsFor self.old x → is_open (account x) ≡ true →
+            OnOk result (StandsFor self.new (x ++ piece.now)) }
+        ensures memory { (x : List ℕ) → StandsFor self.old x → is_open (account x) ≡ true →
+            OnErr result (0 < admitted_in (account (x ++ piece.now))) }
+    {
+        let mut rest = piece;
+        while !rest.is_empty() {
+            let count = self.lines.front(rest);
+            match self.take_front(&rest[..count]) {
+                Ok(()) => {}
+                Err(error) => return Err(error),
+            }
+            if !self.gathering.going {
+                return Ok(());
+            }
+            rest = &rest[count..];
+        }
+        Ok(())
+    }
+
+    /// Whether the feed goes on: no line has ended it, and none is faulty.
+    pub fn goes_on(&self) -> bool
+        ensures { (x : List ℕ) → StandsFor self.now x → result ≡ is_open (account x) }
+    {
+        self.gathering.going
+    }
+
+    /// The jobs of a feed whose `end` line was read, or its fault: that of its first faulty line, where the cause names
+    /// the other job if the line breaks the ratio, or that it is short.
+    pub fn close(self) -> Result<Listed, FeedFault>
+        requires { (x : List ℕ) × StandsFor self x }
+        ensures jobs { (x : List ℕ) → StandsFor self x → IfOk result (λ listed. IsEnded listed (account x)) }
+        ensures fault { (x : List ℕ) → StandsFor self x → IfErr result (λ fault. IsRefusedBy fault x) }
+    {
+        match self.gathering.intake.end() {
+            Ok(()) => Ok(listed(self.gathering.declared, self.gathering.jobs)),
+            Err(fault) => Err(fault),
+        }
+    }
+}

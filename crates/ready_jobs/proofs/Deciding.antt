@@ -1,0 +1,67 @@
+-- The open step of a state, where a job runs and where none does.
+use Rattle.std.proofs.Common.{Bool, ◌≡◌, ◌∙◌, ap, sym, refl}
+use Rattle.std.specs.Prelude.{Option, Some, None, ◌==◌}
+use Rattle.std.specs.Bool.{then_some}
+use Rattle.std.specs.List.{find}
+use Rattle.dover_model.specs.declared.events.Event.TheVariants.{Complete}
+use Rattle.dover_model.specs.declared.events.Task.{Task}
+use Rattle.dover_model.specs.Fraction.{Fraction}
+use Rattle.dover_model.specs.Step.{View, Move, Prints, decision, alarm, ◌or_else◌, runs, view, completion, dispatch}
+use Rattle.dover_model.specs.Step.{urgent_or}
+use Rattle.dover_model.specs.declared.events.Version.{Version}
+use Rattle.dover_model.specs.State.{State, is_running, is_fresh, left}
+use Rattle.ready_jobs.specs.Cases.{next_of, next_ready, arrival_of}
+
+-- what is done while r runs
+abbrev pub busy : Fraction → View → Task → Bool → Option Task → Option Move → Option Task → Move → Move
+busy k v r done f a x other =
+    then_some done (Prints (Complete v.clock r.number)) or_else decision v (Some r) f or_else a or_else alarm k v
+    (Some r)
+    x or_else other
+
+-- what is done while none runs
+abbrev pub free : View → Option Task → Option Task → Option Move → Move → Move
+free v (Some t) f a other = runs v t
+free v None (Some f) a other = runs v f
+free v None None a other = a or_else other
+
+module _ (k : Fraction) (version : Version) (s : State) (other : Move) where
+  abbrev v : View
+  v = view version s
+
+  -- while r runs
+  pub busy_is : (r : Task) (done : Bool) (f : Option Task) (a : Option Move) (x : Option Task)
+      → find is_running s.tasks ≡ Some r
+      → (left r == 0) ≡ done → find is_fresh s.tasks ≡ f → arrival_of v ≡ a → v.must_start ≡ x
+      → busy k v r done f a x other ≡ urgent_or k v other
+  busy_is r done f a x runs left_is fresh arrives late = sym (
+      ap (λ o. completion v o or_else dispatch v o v.first_held v.first_waiting or_else decision v o v.fresh or_else
+      arrival_of v
+      or_else alarm k v o v.must_start
+      or_else other) runs
+      ∙ ap (λ b. busy k v r b v.fresh (arrival_of v) v.must_start other) left_is
+      ∙ ap (λ o. busy k v r done o (arrival_of v) v.must_start other) fresh
+      ∙ ap (λ o. busy k v r done f o v.must_start other) arrives
+      ∙ ap (λ o. busy k v r done f a o other) late)
+
+  -- while none does
+  pub free_is : (next f : Option Task) (a : Option Move) → find is_running s.tasks ≡ None → next_ready version s ≡ next
+      → find is_fresh s.tasks ≡ f
+      → arrival_of v ≡ a → free v next f a other ≡ urgent_or k v other
+  free_is next f a none ready fresh arrives = sym (
+      ap (λ o. completion v o or_else dispatch v o v.first_held v.first_waiting or_else decision v o v.fresh or_else
+      arrival_of v
+      or_else alarm k v o v.must_start
+      or_else other) none
+      ∙ by_ready v.first_held v.first_waiting v.fresh (arrival_of v) v.must_start
+      ∙ ap (λ o. free v o v.fresh (arrival_of v) other) ready
+      ∙ ap (λ o. free v next o (arrival_of v) other) fresh
+      ∙ ap (λ o. free v next f o other) arrives) where
+        by_ready : (p o f : Option Task) (a : Option Move) (x : Option Task)
+            → (dispatch v None p o or_else decision v None f or_else a or_else alarm k v None x or_else other) ≡ free v
+            (next_of v p o) f a other
+        by_ready (Some p) o f a x = refl
+        by_ready None (Some o) f a x = refl
+        by_ready None None (Some f) a x = refl
+        by_ready None None None a (Some x) = refl
+        by_ready None None None a None = refl

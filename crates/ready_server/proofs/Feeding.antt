@@ -1,0 +1,119 @@
+-- A valid list of jobs, as it is served job by job.
+use Rattle.std.proofs.Common.{◌≡◌, ◌+◌, ◌≤◌, ℕ, List, [], ◌∷◌, ◌++◌, length, false, refl, sym, ap, ◌∙◌, subst, arith}
+use Rattle.std.proofs.lemmas.List.{append_assoc, append-nil, length-append}
+use Rattle.std.specs.List.{AllByRecursion}
+use Rattle.dover_model.specs.declared.events.Event.{Event}
+use Rattle.dover_model.specs.declared.events.Version.{Version}
+use Rattle.dover_model.specs.Fraction.{Fraction}
+use Rattle.dover_model.specs.JobFacts.{JobFacts, IsJob}
+use Rattle.dover_model.specs.Limits.{last_tick, most_jobs}
+use Rattle.dover_model.specs.Instance.{Instance, IsValid, with_jobs, jobs_under}
+use Rattle.dover_model.proofs.Valid.{valid_front, all_back, order_back}
+use Rattle.dover_model.specs.declared.horizon.Horizon.{Horizon}
+use Rattle.dover_model.specs.declared.horizon.Horizon.TheVariants.{Mark, End}
+use Rattle.dover_model.specs.Horizons.{MayFollow, no_jobs}
+use Rattle.dover_model.proofs.Horizons.{may_follow}
+use Rattle.dover_model.specs.Spending.{CostsAtMost}
+use Rattle.dover_model.proofs.Spending.{few_more}
+use Rattle.ready_server.specs.Running.{HasShown}
+use Rattle.ready_server.specs.Serving.{Serves}
+use Rattle.ready_server.specs.declared.server.ReadyServer.{ReadyServer}
+
+-- these jobs may be fed behind those of J, where the horizon is this one
+pub record CanFeed (J : Instance) (to : Horizon) (jobs : List JobFacts) : Type 0 where
+  pub valid : IsValid (with_jobs J jobs)
+  pub follow : AllByRecursion (λ j. MayFollow to (Mark j.release)) jobs
+  pub ends : MayFollow to End
+
+-- each release may follow the tick 0
+follow_first : (jobs : List JobFacts) → AllByRecursion IsJob jobs
+    → AllByRecursion (λ j. MayFollow (Mark 0) (Mark j.release)) jobs
+follow_first [] each = tt
+follow_first (j ∷ jobs) each =
+    let window : j.release + j.work ≤ j.deadline = each.0.window in let due : j.deadline ≤ last_tick = each.0.due in
+    ((omega arith, omega arith), follow_first jobs each.1)
+
+-- all jobs of a valid list may be fed
+pub can_first : (k : Fraction) (version : Version) (jobs : List JobFacts)
+    → IsValid (jobs_under version k jobs)
+    → CanFeed (no_jobs version k) (Mark 0) jobs
+can_first k version jobs valid = record { valid = valid; follow = follow_first jobs valid.each; ends = tt }
+
+module _ (J : Instance) (to : Horizon) (j : JobFacts) (rest : List JobFacts) (can : CanFeed J to (j ∷ rest)) where
+  -- all jobs, with the first one apart
+  apart : IsValid (with_jobs (with_jobs J (j ∷ [])) rest)
+  apart = subst (λ jobs. IsValid (record { rules = J.rules; jobs = jobs })) (sym (append_assoc J.jobs (j ∷ []) rest))
+      can.valid
+
+  -- the list with it is valid
+  pub can_admit : IsValid (with_jobs J (j ∷ []))
+  can_admit = valid_front (with_jobs J (j ∷ [])) rest apart
+
+  -- and the others may be fed behind it
+  pub can_further : CanFeed (with_jobs J (j ∷ [])) (Mark j.release) rest
+  can_further = record {
+    valid = apart;
+    follow = may_follow j.release rest (order_back J.jobs (j ∷ rest) can.valid.in_order).0
+        (all_back IsJob J.jobs (j ∷ rest) can.valid.each).1;
+    ends = tt;
+  }
+
+-- ---- of a server and a watcher
+
+-- The server has taken the run of some jobs of the list, the watcher has seen what it printed, and the others may be
+-- fed behind them.
+pub record IsUnderWay {W : Type 0} (seen : W → List Event → Type 0) (server : ReadyServer) (watcher : W) (all : Instance) (rest : List JobFacts) : Type 0 where
+  pub served : Instance
+  pub to : Horizon
+  pub shown : HasShown seen server watcher served to
+  pub can : CanFeed served to rest
+  pub whole : with_jobs served rest ≡ all
+
+module _ {W : Type 0} {seen : W → List Event → Type 0} where
+  -- at first
+  pub under_way : (version : Version) (k : Fraction) (jobs : List JobFacts) (v : ReadyServer) (w : W)
+      → IsValid (jobs_under version k jobs) → Serves v (no_jobs version k) (Mark 0) [] → seen w []
+      → IsUnderWay seen v w (jobs_under version k jobs) jobs
+  under_way version k jobs v w valid served shown = record {
+    served = no_jobs version k;
+    to = Mark 0;
+    shown = record { events = []; served = served; shown = shown };
+    can = can_first k version jobs valid;
+    whole = refl;
+  }
+
+  -- another server that has printed the same
+  pub served_by : (v u : ReadyServer) (w : W) (J : Instance) (to : Horizon) (it : HasShown seen v w J to)
+      → Serves u J to it.events → HasShown seen u w J to
+  served_by v u w J to it served = record { events = it.events; served = served; shown = it.shown }
+
+  module _ (v : ReadyServer) (w : W) (all : Instance) (j : JobFacts) (rest : List JobFacts)
+      (it : IsUnderWay seen v w all (j ∷ rest)) where
+    -- with the next job
+    pub one_further : (u : ReadyServer) (x : W) → HasShown seen u x (with_jobs it.served (j ∷ [])) (Mark j.release)
+        → IsUnderWay seen u x all rest
+    one_further u x shown = record {
+      served = with_jobs it.served (j ∷ []);
+      to = Mark j.release;
+      shown = shown;
+      can = can_further it.served it.to j rest it.can;
+      whole = ap (λ jobs. record { rules = it.served.rules; jobs = jobs })
+          (append_assoc it.served.jobs (j ∷ []) rest) ∙ it.whole;
+    }
+
+  module _ (v : ReadyServer) (w : W) (all : Instance) (rest : List JobFacts) (it : IsUnderWay seen v w all rest) where
+    -- some jobs are no more than all
+    pub some_few : (start now : ℕ) → CostsAtMost (length it.served.jobs) start now
+        → CostsAtMost (length all.jobs) start now
+    some_few start now few = few_more (length it.served.jobs) (length all.jobs) start now
+        (omega (arith, length-append it.served.jobs rest, ap (λ (J : Instance). length J.jobs) it.whole)) few
+
+  -- all jobs are served
+  pub all_served : (v : ReadyServer) (w : W) (all : Instance) (it : IsUnderWay seen v w all []) → it.served ≡ all
+  all_served v w all it =
+      ap (λ jobs. record { rules = it.served.rules; jobs = jobs }) (sym (append-nil it.served.jobs)) ∙ it.whole
+
+-- there may be one job more, where the list with it is valid
+pub few_with : (J : Instance) (j : JobFacts) → IsValid (with_jobs J (j ∷ [])) → length J.jobs + 1 ≤ most_jobs
+few_with J j valid = let few : length (J.jobs ++ j ∷ []) ≤ 1_000_000 = valid.count in
+    omega (arith, length-append J.jobs (j ∷ []))

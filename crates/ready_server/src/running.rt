@@ -1,0 +1,92 @@
+//! A list of jobs, served to the end.
+ghost use Rattle.std.specs.Prelude.{◌≡◌, ℕ, List, [], ◌∷◌, length, OnOk};
+ghost use Rattle.dover_model.specs.declared.events.Event.{Event};
+ghost use Rattle.dover_model.specs.Instance.{Instance, IsValid, with_jobs, jobs_under};
+ghost use Rattle.dover_model.specs.Run.{printed};
+ghost use Rattle.dover_model.specs.declared.horizon.Horizon.{Horizon};
+ghost use Rattle.dover_model.specs.declared.horizon.Horizon.TheVariants.{Mark};
+ghost use Rattle.dover_model.specs.Horizons.{MayFollow, due_by};
+ghost use Rattle.dover_model.specs.Spending.{CostsAtMost};
+ghost use Rattle.ready_server.specs.Running.{HasShown};
+ghost use Rattle.ready_server.specs.Serving.{Serves, Rests, HasPlace, HasPaid};
+
+use crate::server::ReadyServer;
+use crate::source::JobSource;
+use crate::watcher::Watcher;
+use dover_model::{Horizon, Job, Memory, Ratio, Version};
+use std::alloc::Global;
+use std::sync::ledger::Ledger;
+use step_count::Steps;
+
+/// Takes the run to a horizon, and shows each step that is printed on the way.
+fn show_to<W: Watcher, L: Ledger>(
+    server: &mut ReadyServer,
+    to: Horizon,
+    watcher: &mut W,
+    steps: &mut Steps<L>,
+)
+    requires { (J : Instance) × (from : Horizon) × HasShown W.seen server.old watcher.old J from
+        × MayFollow from to }
+    ensures shown { (J : Instance) (from : Horizon) → HasShown W.seen server.old watcher.old J from
+        → MayFollow from to → Rests server.new J to × W.seen watcher.new (due_by J to) }
+    ensures room { HasPlace server.old → HasPlace server.new }
+    ensures paid { (start : ℕ) → HasPaid server.old start steps.old → HasPaid server.new start steps.new }
+{
+    ReadyServer::laws();
+    for _ in 0..u64::MAX {
+        match server.step(to, steps) {
+            Some(event) => watcher.see(&event),
+            None => return,
+        }
+    }
+    unreachable!()
+}
+
+/// Takes the run to a job's release, admits the job, for which there is room, and shows each step that is printed.
+fn serve_job<W: Watcher, L: Ledger>(
+    server: &mut ReadyServer,
+    job: Job,
+    watcher: &mut W,
+    steps: &mut Steps<L>,
+)
+    requires room { HasPlace server.old }
+    requires shown { (J : Instance) × (from : Horizon) × HasShown W.seen server.old watcher.old J from
+        × MayFollow from (Mark job.release) × IsValid (with_jobs J (job ∷ [])) }
+    ensures shown { (J : Instance) (from : Horizon) → HasShown W.seen server.old watcher.old J from
+        → MayFollow from (Mark job.release) → IsValid (with_jobs J (job ∷ []))
+        → HasShown W.seen server.new watcher.new (with_jobs J (job ∷ [])) (Mark job.release) }
+    ensures paid { (start : ℕ) → HasPaid server.old start steps.old → HasPaid server.new start steps.new }
+{
+    ReadyServer::laws();
+    show_to(server, Horizon::Mark(job.release()), watcher, steps);
+    watcher.see(&server.admit(job));
+}
+
+/// Serves the jobs of a list, which are valid, to the end, and shows each printed step of their run. Memory is taken
+/// for the jobs that are ready at once.
+///
+/// # Errors
+///
+/// `Memory` where there is none.
+pub fn run_list<S: JobSource, W: Watcher, L: Ledger>(
+    alloc: Global,
+    version: Version,
+    k: Ratio,
+    jobs: &mut S,
+    watcher: &mut W,
+    steps: &mut Steps<L>,
+) -> Result<(), Memory>
+    requires valid { IsValid (jobs_under version k (S.jobs jobs.old)) }
+    requires unseen { W.seen watcher.old [] }
+    ensures seen { OnOk result (W.seen watcher.new (printed (jobs_under version k (S.jobs jobs.old)))) }
+    ensures count { CostsAtMost (length (S.jobs jobs.old)) steps.old steps.new }
+{
+    ReadyServer::laws();
+    let mut server = ReadyServer::new(alloc, version, k)?;
+    while let Some(job) = jobs.next_job() {
+        server.make_room()?;
+        serve_job(&mut server, job, watcher, steps);
+    }
+    show_to(&mut server, Horizon::End, watcher, steps);
+    Ok(())
+}

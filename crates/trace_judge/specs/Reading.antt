@@ -1,0 +1,65 @@
+-- What the lines of a trace so far have come to, and which line may come next.
+use Rattle.std.specs.Prelude.{◌≡◌, ◌≤◌, ◌<◌, ◌+◌, ℕ, List, length, false, Some, suc, if◌then◌else◌, None, ◌∷◌, ◌++◌}
+use Rattle.std.specs.List.{AllByRecursion}
+use Rattle.dover_model.specs.State.{State, opening, is_coming}
+use Rattle.dover_model.specs.Run.{Step, printed_of}
+use Rattle.dover_model.specs.Sound.{Each}
+use Rattle.dover_model.specs.Settled.{settled, waits_for_mark}
+use Rattle.dover_model.specs.Session.{Session, instance_of, admitted_jobs, IsValidSession, mark_after, RefusedJob}
+use Rattle.dover_model.specs.Session.{MayBeRefused}
+use Rattle.dover_model.specs.Trace.{places_of, texts_among}
+use Rattle.dover_model.specs.Verdict.{named_session}
+use Rattle.dover_model.specs.Leading.{Leads, WaitsUntil}
+use Rattle.dover_model.specs.declared.events.Event.{Event}
+use Rattle.dover_model.specs.Step.{Prints}
+use Rattle.dover_model.specs.Limits.{most_items}
+use Rattle.dover_model.specs.JobFacts.{JobFacts}
+use Rattle.dover_model.specs.Admission.{refusal_of}
+use Rattle.dover_model.specs.declared.events.Role.TheVariants.{Fresh}
+use Rattle.dover_model.specs.declared.events.Event.TheVariants.{Release}
+use Rattle.dover_model.specs.Text.{text_of, refused_text}
+
+-- The lines begin the trace of the valid session that they name. The steps printed among them lead to the state z, in
+-- which no job is to come.
+-- They are settled at each tick from the floor on, and at no tick below it at which an item could come.
+pub record Sees (ls : List (List ℕ)) (S : Session) (floor : ℕ) (z : State) : Type 0 where
+  pub valid : IsValidSession S
+  pub named : named_session ls ≡ Some S
+  pub steps : List Step
+  pub leads : Leads S.rules floor (opening (admitted_jobs S.items)) steps z
+  pub lines : ls ≡ texts_among S (printed_of steps)
+  pub within : AllByRecursion (λ p. p.place ≤ 0 + length (printed_of steps)) (places_of S)
+  pub released : Each (λ t. is_coming t ≡ false) z.tasks
+  pub clock : z.clock ≤ floor
+  pub mark : mark_after 0 S.items ≤ floor
+  pub tight : (t : ℕ) → mark_after 0 S.items ≤ t → t < floor
+      → length (settled (instance_of S) t) < length (printed_of steps)
+
+-- the session may have one item more
+abbrev pub HasRoom : Session → Type 0
+HasRoom S = length S.items < most_items
+
+-- the release of the job may come next, and the silent steps before it lead to z
+pub record MayRelease (S : Session) (floor : ℕ) (s : State) (j : JobFacts) (z : State) : Type 0 where
+  pub room : HasRoom S
+  pub admitted : refusal_of S.rules.ratio (admitted_jobs S.items) j ≡ None
+  pub no_fall : floor ≤ j.release
+  pub waits : WaitsUntil S.rules j.release s z
+
+-- the refused line may come next, and the silent steps before it lead to z
+pub record MayRefuse (S : Session) (floor : ℕ) (s : State) (r : RefusedJob) (z : State) : Type 0 where
+  pub room : HasRoom S
+  pub refused : MayBeRefused S.rules (admitted_jobs S.items) floor r
+  pub waits : WaitsUntil S.rules r.at s z
+
+-- the text of the release of the session's next job
+abbrev pub release_text : Session → JobFacts → List ℕ
+release_text S j = text_of (Release (length (admitted_jobs S.items)) j)
+
+-- the line is the text of the release of a job that may come next
+abbrev pub IsReleaseNext : Session → ℕ → State → List ℕ → Type 0
+IsReleaseNext S floor s line = (j : JobFacts) × (line ≡ release_text S j) × (z : State) × MayRelease S floor s j z
+
+-- the line is the text of a refused line that may come next
+abbrev pub IsRefusedNext : Session → ℕ → State → List ℕ → Type 0
+IsRefusedNext S floor s line = (r : RefusedJob) × (line ≡ refused_text r) × (z : State) × MayRefuse S floor s r z
