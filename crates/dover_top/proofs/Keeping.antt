@@ -94,9 +94,9 @@ resumed_so at_end moves (inr it) = record {
 pub accepted : (moves : List Move) → IsTrace (ins moves) → IsAccepted moves
 accepted moves it = record {
   session = it.0;
-  valid = it.2.valid;
-  accepted = it.1;
-  promises = promises_of (instance_of it.0) it.2.valid.jobs;
+  valid = it.1;
+  accepted = it.2;
+  promises = promises_of (instance_of it.0) it.1.jobs;
 }
 
 pub ran : (says : asked.Says) (ended : Bool) (text : List ℕ) (moves : List Move)

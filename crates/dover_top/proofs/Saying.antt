@@ -1,18 +1,16 @@
 -- What a call says and keeps, for each row of words.
-use Rattle.std.proofs.Common.{◌≡◌, ℕ, List, refl, sym, subst, ◌∙◌, ◌⊎◌, inl, inr, Option, String}
+use Rattle.std.proofs.Common.{◌≡◌, ℕ, List, sym, subst, ◌∙◌, ◌⊎◌, inl, inr, Option, String}
 use Rattle.std.specs.declared.alloc.Global.{Global}
 use Rattle.dover_model.specs.Fraction.{Fraction}
 use Rattle.dover_port.specs.Moves.{Move, Since, ins, outs, has_ended}
 use Rattle.dover_port.specs.declared.status.Status.{Status}
-use Rattle.dover_port.specs.declared.status.Status.TheVariants.{Done, No, Refused, ReadFault, WriteFault, Memory, Usage}
+use Rattle.dover_port.specs.declared.status.Status.TheVariants.{Done, Refused, WriteFault, Memory, Usage}
 use Rattle.dover_port.proofs.Made.{since_weaker}
 use Rattle.dialogue.specs.Talk.{Talks, CanEnd}
 use Rattle.adversary.specs.Baiting.{FitsLimits}
 use Rattle.serve_word.specs.declared.at_end.AtEnd.TheVariants as ends
 use Rattle.trial_words.specs.Baited.{Baits}
 use Rattle.question_words.specs.Questions.{says}
-use Rattle.question_words.specs.Compare as compared
-use Rattle.question_words.specs.declared.question.Question.{Question}
 use Rattle.lanes_word.specs.Record as laned
 use Rattle.lanes_word.specs.Talk.{lanes_talk}
 use Rattle.dover_top.specs.Says.{Says}
@@ -96,22 +94,11 @@ module _ (moves : List Move) where
       resumed_so at_end moves (at (Resume at_end) status s done).ends
   keeps_of words (Unroll until) asks status s = tt
 
--- a question at Done has made few comparisons
-pub asked_frugal : (question : Question) (status : Status) (before now : ℕ) (moves : List Move)
-    → (status ≡ Done → compared.IsFrugal before now moves) → IsFrugal (Ask question) status before now moves
-asked_frugal question Done before now moves few = few refl
-asked_frugal question No before now moves few = tt
-asked_frugal question Refused before now moves few = tt
-asked_frugal question ReadFault before now moves few = tt
-asked_frugal question WriteFault before now moves few = tt
-asked_frugal question Memory before now moves few = tt
-asked_frugal question Usage before now moves few = tt
-
 -- ---- of a call
 
 -- what is said of a request that is this one
 pub carried : (request r : Request) (status : Status) (old new : Option (List Move)) (before now : ℕ) → request ≡ r
-    → Since old new (Says r status) → CanEnd (Says r) status → Since old new (IsFrugal r status before now)
+    → Since old new (Says r status) → CanEnd (Says r) status → Since old new (IsFrugal r before now)
     → (status ≡ Done → IsFrugalAsAsked r before now) → CarriesOut request status old new before now
 carried request r status old new before now is talks ends comparisons stated =
     subst (λ q. CarriesOut q status old new before now) (sym is)

@@ -13,5 +13,5 @@ pub record CarriesOut (request : Request) (status : Status) (old new : Option (L
   where
     pub talks : Since old new (Says request status)
     pub ends : CanEnd (Says request) status
-    pub comparisons : Since old new (IsFrugal request status before now)
+    pub comparisons : Since old new (IsFrugal request before now)
     pub stated : status ≡ Done → IsFrugalAsAsked request before now

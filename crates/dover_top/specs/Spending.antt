@@ -2,24 +2,21 @@
 use Rattle.std.specs.Prelude.{◌≡◌, ℕ, List}
 use Rattle.dover_model.specs.Spending.{CostsAtMost}
 use Rattle.dover_port.specs.Moves.{Move}
-use Rattle.dover_port.specs.declared.status.Status.{Status}
-use Rattle.dover_port.specs.declared.status.Status.TheVariants.{Done}
 use Rattle.serve_word.specs.Spending as served
 use Rattle.resume_word.specs.Record as resumed
 use Rattle.judge_word.specs.Spending as judged
-use Rattle.question_words.specs.Compare as compared
 use Rattle.dover_top.specs.declared.request.Request.{Request}
 use Rattle.dover_top.specs.declared.request.Request.TheVariants.{Serve, Judge, Report, Trial, Bait, Ask, Pause, Resume}
 
--- how few comparisons it made, with so many before and now, for the jobs of what was read; for some words at Done alone
-abbrev pub IsFrugal : Request → Status → (before now : ℕ) → List Move → Type 0
-IsFrugal Serve status before now = served.IsFrugal before now
-IsFrugal Judge status before now = judged.IsFrugal before now
-IsFrugal (Report form) status before now = judged.IsFrugal before now
-IsFrugal Pause status before now = served.IsFrugal before now
-IsFrugal (Resume at_end) status before now = resumed.IsFrugal before now
-IsFrugal (Ask question) Done before now = compared.IsFrugal before now
-IsFrugal _ _ before now = λ moves. Unit {0}
+-- how few comparisons it made, with so many before and now, for the jobs of what was read, at whatever status
+abbrev pub IsFrugal : Request → (before now : ℕ) → List Move → Type 0
+IsFrugal Serve before now = served.IsFrugal before now
+IsFrugal Judge before now = judged.IsFrugal before now
+IsFrugal (Report form) before now = judged.IsFrugal before now
+IsFrugal Pause before now = served.IsFrugal before now
+IsFrugal (Resume at_end) before now = resumed.IsFrugal before now
+IsFrugal (Ask question) before now = served.IsFrugal before now
+IsFrugal _ before now = λ moves. Unit {0}
 
 -- the same where the words alone tell how many jobs there are, and where none are served
 abbrev pub IsFrugalAsAsked : Request → (before now : ℕ) → Type 0

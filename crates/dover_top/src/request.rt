@@ -24,7 +24,7 @@ pub enum Request {
     Report(Form),
     /// The jobs of a seed are served.
     Trial { seed: u32, count: u32, k: Ratio },
-    /// The baiting jobs of so many rounds are served.
+    /// What the run of the baiting jobs of so many rounds comes to is told; nothing is served.
     Bait { k: Ratio, rounds: u32 },
     /// A question on a feed is answered.
     Ask(Question),

@@ -26,8 +26,8 @@ use step_count::Steps;
 ///   that `judge` writes.
 /// - `report chrome` does the same, with the run as events for a viewer of traces, and `report why N` with what
 ///   happened to the job of number N and by which test.
-/// - `report timeline [FROM UNTIL]` and `report svg [FROM UNTIL]` do the same, with the run, or what lies in this
-///   window of it, as a picture for a terminal or a browser.
+/// - `report timeline [FROM UNTIL]` and `report svg [FROM UNTIL]` do the same, with the run, or its ticks from FROM on and
+///   before UNTIL, as a picture for a terminal or a browser.
 /// - `trial SEED COUNT P Q` reads nothing, and writes the summary of the run of so many stated jobs of a seed, within
 ///   the ratio P/Q.
 /// - `bait P Q N` reads nothing, and writes what the run of the baiting jobs comes to, and what another schedule of
@@ -37,6 +37,8 @@ use step_count::Steps;
 /// - `best` reads a feed of at most 20 jobs, and writes what the best schedule is worth, beside what the rules complete
 ///   and guarantee, and such a schedule.
 /// - `compare` reads a feed, and writes what the rules complete, and what two other policies do.
+/// - `loss` reads a feed, and writes what no schedule is worth more than, beside what the rules complete, and where there
+///   is too much work.
 /// - `lanes` reads up to 64 feeds in one input, each line with its lane's number in front, and serves each on its own:
 ///   each line that is settled for a lane is written with the number in front, before the next read.
 /// - `pause` does what `serve` does, but where the input ends behind whole lines, with the ratio declared and neither
@@ -69,13 +71,12 @@ pub fn dover<P: Port, L: Ledger>(
     // Whatever the port tells, it is a status with which what these words ask for may end.
     ensures ends { (request : Request) → Asks words.now request → CanEnd (Says request) result }
 
-    // How many comparisons a call makes: for n jobs at most 80 * (n + 1) * d, where n + 1 has at most d binary digits;
-    // serve and pause at every status, for the jobs that were admitted, none before a ratio line; judge and report at
-    // every status, for the whole lines that name a job; resume and resume pause at every status, for the jobs of the
-    // snapshot and those admitted behind it together, and before its last line for those of its lines so far; the
-    // questions at Done.
+    // How many comparisons a call makes, at every status: for n jobs at most 80 * (n + 1) * d, where n + 1 has at most d
+    // binary digits; serve, pause and the questions for the jobs that were admitted, none before a ratio line; judge and
+    // report for the whole lines that name a job; resume and resume pause for the jobs of the snapshot and those
+    // admitted behind it together, and before its last line for those of its lines so far.
     ensures comparisons { (request : Request) → Asks words.now request →
-        Since (P.moves port.old) (P.moves port.new) (IsFrugal request result steps.old steps.new) }
+        Since (P.moves port.old) (P.moves port.new) (IsFrugal request steps.old steps.new) }
     // trial at Done, where the words alone tell how many jobs there are; bait makes none.
     ensures stated { (request : Request) → Asks words.now request → result ≡ Status.Done →
         IsFrugalAsAsked request steps.old steps.new }

@@ -1,13 +1,13 @@
 -- What a word says that judges a text: its laws.
-use Rattle.std.proofs.Common.{◌≡◌, ◌<◌, ◌^◌, ◌-◌, ℕ, List, ◌++◌, [], length, refl, sym, ap, ◌∙◌, subst, arith, Bool}
-use Rattle.std.proofs.Common.{true, false, not, inl, inr, Option, Ok, Err}
+use Rattle.std.proofs.Common.{◌≡◌, ◌<◌, ◌^◌, ◌-◌, ℕ, List, ◌++◌, [], length, refl, sym, ap, ◌∙◌, arith, Bool, true}
+use Rattle.std.proofs.Common.{false, not, inl, inr, Option, Ok, Err}
 use Rattle.dover_model.specs.Verdict as model
 use Rattle.dover_model.specs.Verdict.{verdict}
 use Rattle.dover_model.proofs.WrongStays.{wrong_verdict_stays}
 use Rattle.dover_port.specs.declared.status.Status.{Status}
 use Rattle.dover_port.specs.declared.status.Status.TheVariants.{Done, No, Refused, ReadFault, WriteFault, Memory, Usage}
 use Rattle.dover_model.proofs.Spending.{few_more}
-use Rattle.trace_judge.specs.Judging.{StandsFor, HasPaidFor, Fed, PaysFor, Tells, IsEarned, is_wrong, jobs_named, keeps}
+use Rattle.trace_judge.specs.Judging.{StandsFor, HasPaidFor, Fed, PaysFor, Tells, is_wrong, jobs_named, keeps}
 use Rattle.trace_judge.specs.Judging.{Judged}
 use Rattle.trace_judge.proofs.Judging.{named_more}
 use Rattle.trace_judge.proofs.Lengths.{few_bytes}
@@ -44,7 +44,7 @@ wrong_same x y over = by_verdict (verdict x) refl (not_not (is_wrong (verdict x)
 -- what is told of a verdict
 module _ (x y : List ℕ) (same : verdict (x ++ y) ≡ verdict x) where
   told_same : (status : Status) → IsToldBy status x → IsToldBy status (x ++ y)
-  told_same Done it = (it.0, same ∙ it.1, it.2)
+  told_same Done it = (it.0, it.1, same ∙ it.2)
   told_same No (inl wrong) = inl (ap is_wrong same ∙ wrong)
   told_same No (inr short) = inr (short.0, same ∙ short.1)
   told_same Refused it = absurd it
@@ -91,14 +91,7 @@ spent_behind start steps x y costs =
 
 -- by the judge's verdict
 pub by_verdict : (v : Verdict) (x : List ℕ) → Tells v x → IsFinal (status_of v) × IsToldBy (status_of v) x
-by_verdict (Accepted k version value most jobs) x tells = (
-  tt,
-  (
-    tells.0,
-    tells.1,
-    subst (IsEarned tells.0 tells.0.rules.ratio) tells.4 (subst (λ r. IsEarned tells.0 r value) tells.2 tells.7),
-  ),
-)
+by_verdict (Accepted k version value most jobs) x tells = (tt, (tells.0, tells.7.valid, tells.1))
 by_verdict (Wrong line due) x tells = (tt, inl (ap is_wrong tells))
 by_verdict (Short lines) x tells = (tt, inr (lines, tells))
 

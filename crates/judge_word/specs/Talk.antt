@@ -1,19 +1,16 @@
 -- What a word says that judges a text, by the bytes got so far.
 use Rattle.std.specs.Prelude.{◌≡◌, ◌⊎◌, ℕ, List, [], Bool, true, false, not}
-use Rattle.dover_model.specs.Run.{completed_value}
-use Rattle.dover_model.specs.Session.{Session, instance_of}
+use Rattle.dover_model.specs.Session.{Session, IsValidSession}
 use Rattle.dover_model.specs.Verdict.{Verdict, Accepted, Short, verdict}
 use Rattle.dover_port.specs.declared.status.Status.{Status}
 use Rattle.dover_port.specs.declared.status.Status.TheVariants.{Done, No}
 use Rattle.dialogue.specs.Talk.{Talk}
-use Rattle.trace_judge.specs.Judging.{IsEarned, is_wrong}
+use Rattle.trace_judge.specs.Judging.{is_wrong}
 use Rattle.judge_word.specs.Line.{verdict_text}
 
--- The bytes are the trace of a valid session. Its run completes a value that no schedule of its jobs beats by more than
--- the ratio allows, and which the run's own schedule is worth.
+-- the bytes are the trace of a valid session
 abbrev pub IsTrace : List ℕ → Type 0
-IsTrace bytes = (S : Session) × (verdict bytes ≡ Accepted S)
-    × IsEarned S S.rules.ratio (completed_value (instance_of S))
+IsTrace bytes = (S : Session) × IsValidSession S × (verdict bytes ≡ Accepted S)
 
 -- the bytes aren't a trace, whatever follows, or stop before its end
 abbrev pub IsNoTrace : List ℕ → Type 0

@@ -1,8 +1,10 @@
 //! One lane: a feed, the server that it feeds, and the lines that are due and not yet given.
-ghost use Rattle.std.specs.Prelude.{◌≡◌, ◌↔◌, ℕ, List, [], ◌∷◌, ◌++◌, Some, true, IsTrue, IsSome, OnOk, OnErr};
+ghost use Rattle.std.specs.Prelude.{◌≡◌, ◌↔◌, ℕ, List, [], ◌∷◌, ◌++◌, Some, Err, true, IsTrue, IsSome, OnOk, OnErr};
 ghost use Rattle.dover_model.specs.Feed.{Account, account_of_lines, is_open};
 ghost use Rattle.dover_model.specs.Spending.{CostsAtMost};
 ghost use Rattle.event_feed.specs.Answers.{DeclaresRatio, AddsJob, IsFed, EndAnswers, counted, admitted_in};
+ghost use Rattle.event_feed.specs.Kept.{fault_of};
+ghost use Rattle.event_feed.specs.declared.faults.FeedFault.{FeedFault};
 ghost use Rattle.lane_server.specs.Lanes.{lines_added, feed_short, is_fine};
 ghost use Rattle.lane_server.specs.Lane.{IsDeclared, AsksForMemory, Stands, IsQuiet, Gives, IsOpenAt, Adds};
 ghost use Rattle.lane_server.specs.Spending.{HasPaid};
@@ -321,9 +323,11 @@ impl<D: Dispatcher> Lane<D> {
     ///
     /// # Errors
     ///
-    /// The first fault, with its line; where there is none, that the feed is short.
+    /// The first fault, with its line, as the intake gave it; where there is none, that the feed is short.
     pub fn end(&self) -> Result<(), FeedFault>
-        ensures { (ls rest : List (List ℕ)) → Stands D.serves D.has_room self.now ls rest → EndAnswers ls result }
+        ensures answer { (ls rest : List (List ℕ)) → Stands D.serves D.has_room self.now ls rest
+            → EndAnswers ls result }
+        ensures fault { (fault : FeedFault) → fault_of self.now.intake ≡ Some fault → result ≡ Err fault }
     {
         self.intake.end()
     }

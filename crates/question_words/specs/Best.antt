@@ -9,7 +9,8 @@ use Rattle.dover_model.specs.Run.{completed_value}
 use Rattle.dover_model.specs.Schedules.{worth}
 use Rattle.dover_port.specs.declared.status.Status.{Status}
 use Rattle.dover_port.specs.declared.status.Status.TheVariants.{Done, Refused}
-use Rattle.question_words.specs.Texts.{piece_lines, size_text}
+use Rattle.dialogue.specs.Sizes.{size_text}
+use Rattle.question_words.specs.Texts.{piece_lines}
 
 -- how many jobs there are, what the chosen ones are worth, what the run completes, the bound on what any schedule is
 -- worth, and the schedule of the chosen jobs

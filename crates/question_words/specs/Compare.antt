@@ -1,20 +1,16 @@
 -- What the word `compare` says of the jobs of a feed.
-use Rattle.std.specs.Prelude.{◌≡◌, ◌≤◌, ℕ, List, [], ◌∷◌, codes, Some, length}
+use Rattle.std.specs.Prelude.{◌≡◌, ◌≤◌, ℕ, List, [], ◌∷◌, codes}
 use Rattle.dover_model.specs.Bound.{bound}
 use Rattle.dover_model.specs.Instance.{Instance}
 use Rattle.dover_model.specs.Lines.{with_numbers, in_lines}
 use Rattle.dover_model.specs.Run.{completed_value}
 use Rattle.dover_model.specs.Schedules.{worth}
-use Rattle.dover_model.specs.Session.{Session, instance_of}
-use Rattle.dover_model.specs.Feed.{account}
-use Rattle.dover_port.specs.Moves.{Move, ins}
 use Rattle.dover_port.specs.declared.status.Status.{Status}
 use Rattle.dover_port.specs.declared.status.Status.TheVariants.{Done, Refused}
 use Rattle.policy_lab.specs.Picks.{Picks}
 use Rattle.policy_lab.specs.PolicyRun.{policy_run, AreTooLarge}
 use Rattle.policy_lab.specs.Standard.{earliest_deadline, greatest_density}
-use Rattle.dover_model.specs.Spending.{CostsAtMost}
-use Rattle.question_words.specs.Texts.{size_text}
+use Rattle.dialogue.specs.Sizes.{size_text}
 
 -- what the schedule of a policy is worth
 abbrev pub worth_of : Picks → Instance → ℕ
@@ -40,9 +36,3 @@ abbrev pub SaysCompare : Instance → Status → List ℕ → Type 0
 SaysCompare J Done text = (AreTooLarge J.jobs → ⊥) × AreWithin J × (text ≡ compare_text J)
 SaysCompare J Refused text = AreTooLarge J.jobs × (text ≡ size_text)
 SaysCompare J _ text = ⊥
-
--- the comparisons of a call whose feed admits n jobs are few: at most 80 * (n + 1) * d, where n + 1 has at most d
--- binary digits
-abbrev pub IsFrugal : (before after : ℕ) → List Move → Type 0
-IsFrugal before after moves = (S : Session) → (account (ins moves)).session ≡ Some S
-    → CostsAtMost (length (instance_of S).jobs) before after

@@ -32,10 +32,6 @@ abbrev pub row_lines : Rows → List (List ℕ)
 row_lines (Pieces pieces) = piece_lines pieces.items
 row_lines (Stretches xs) = stretch_lines xs.items
 
--- what is said of jobs that are too many or too late
-abbrev pub size_text : List ℕ
-size_text = in_lines (codes "refused size" ∷ [])
-
 -- the text of an answer
 abbrev pub text_of : Answer → List ℕ
 text_of answer = answer.head ++ in_lines (row_lines answer.rows)

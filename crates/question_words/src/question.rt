@@ -1,9 +1,10 @@
 //! The questions, each by its word.
-ghost use Rattle.std.specs.Prelude.{◌≡◌};
 ghost use Rattle.dover_port.specs.Causes.{Causes, StopsWith};
-ghost use Rattle.dover_port.specs.Moves.{Since};
+ghost use Rattle.dover_port.specs.Moves.{Since, ins};
+ghost use Rattle.dover_model.specs.Feed.{account};
+ghost use Rattle.event_feed.specs.Answers.{admitted_in};
+ghost use Rattle.dover_model.specs.Spending.{CostsAtMost};
 ghost use Rattle.dialogue.specs.Talk.{Talks, CanEnd};
-ghost use Rattle.question_words.specs.Compare.{IsFrugal};
 ghost use Rattle.question_words.specs.Questions.{says};
 ghost use Rattle.question_words.specs.Talk.{ask_talk};
 
@@ -41,7 +42,7 @@ pub fn question_word<P: Port, L: Ledger>(
     ensures talks { Since (P.moves port.old) (P.moves port.new) (Talks (ask_talk (says question)) result) }
     ensures ends { CanEnd (Talks (ask_talk (says question))) result }
     ensures count { Since (P.moves port.old) (P.moves port.new)
-        (λ moves. result ≡ Status.Done → IsFrugal steps.old steps.new moves) }
+        (λ moves. CostsAtMost (admitted_in (account (ins moves))) steps.old steps.new) }
     ensures causes { Causes result
         (P.read_faults port.old) (P.read_faults port.new) (P.write_faults port.old) (P.write_faults port.new) }
     ensures stops { StopsWith result (P.calls port.old) (P.calls port.new) }

@@ -9,7 +9,7 @@ use Rattle.run_view.specs.declared.window.Window.{Window}
 use Rattle.run_picture.specs.declared.outline.Measure.{Measure}
 use Rattle.run_picture.specs.declared.outline.Outline.{Outline}
 
--- the left pixel of the column of a step, and never before pixel x; the end of the window is in the last column
+-- the left pixel of the column of a step, and never before pixel x; what comes behind the window stands in the last one
 abbrev pub column_of : Window → (x : ℕ) → Event → ℕ
 column_of w x e = max x (min 1284 (column_at w (tick_of e)))
 

@@ -5,8 +5,8 @@ use Rattle.std.specs.List.{flat_map}
 use Rattle.dover_report.specs.declared.counts.Counts.{Counts}
 use Rattle.intervals.specs.declared.interval.Interval.{Interval}
 use Rattle.run_view.specs.Templates.{Text, filled}
-use Rattle.run_picture.specs.Sizes.{room}
-use Rattle.run_picture.specs.Plot.{x_at, meets, has, pixels, bar}
+use Rattle.run_picture.specs.Sizes.{digits_of, room}
+use Rattle.run_picture.specs.Plot.{x_at, meets, pixels, bar}
 use Rattle.run_picture.specs.Legends.{styles, legend}
 use Rattle.run_view.specs.declared.window.Window.{Window}
 
@@ -59,9 +59,13 @@ abbrev pub mark_at : (x bottom tick : ℕ) → Text
 mark_at x bottom tick = filled (codes "<path class='a' d='M@ 76V@'/><text class='s m' x='@' y='@'>@</text>\n")
     (x ∷ bottom ∷ x ∷ (bottom + 14) ∷ tick ∷ [])
 
--- the mark of a tick that the window has
+-- a tick has its mark from the window's first on up to the one behind its last
+abbrev pub is_marked : Window → ℕ → Bool
+is_marked w tick = nat_le w.from tick && nat_le tick w.until
+
+-- the mark of such a tick
 abbrev pub mark : Window → (bottom tick : ℕ) → Text
-mark w bottom tick = if has w tick then mark_at (x_at w tick) bottom tick else []
+mark w bottom tick = if is_marked w tick then mark_at (x_at w tick) bottom tick else []
 
 -- so many marks, from this tick on
 unfoldable pub marks_from : Window → (bottom step tick count : ℕ) → Text
@@ -82,9 +86,9 @@ axis w bottom = axis_by w bottom (step_of (w.until - w.from))
 
 -- ---- the bands
 
--- the window shows an interval that lost value
+-- the window shows an interval in which value was abandoned
 abbrev pub is_loss : Window → Interval → Bool
-is_loss w i = (not (i.displaced == 0) || not (i.abandoned == 0)) && meets w i.from i.until
+is_loss w i = not (i.abandoned == 0) && meets w i.from i.until
 
 -- its band, so long at least, around this height
 abbrev pub band : Window → (least y : ℕ) → Interval → Text
@@ -98,9 +102,29 @@ lost_at x value = filled (codes "<text class='v' x='@' y='70'>lost @</text>\n") 
 abbrev pub lost_in : (x long value : ℕ) → Text
 lost_in x long value = if nat_le (room 5 value) long then lost_at x value else []
 
--- what an interval abandoned
+-- a value lost between two ticks, at pixel x
+abbrev pub lost_between_at : (x value from until : ℕ) → Text
+lost_between_at x value from until = filled (codes "<text class='v' x='@' y='70'>lost @ from @ to @</text>\n")
+    ((x + 3) ∷ value ∷ from ∷ until ∷ [])
+
+-- the same where there is room
+abbrev pub lost_between : (x long value from until : ℕ) → Text
+lost_between x long value from until =
+    if nat_le (room 15 value + 6 * digits_of from + 6 * digits_of until) long
+    then lost_between_at x value from until else []
+
+-- the window has all ticks of an interval
+abbrev pub is_inside : Window → Interval → Bool
+is_inside w i = nat_le w.from i.from && nat_le i.until w.until
+
+-- what an interval abandoned; where the window has a part of it alone, its ticks stand there too
+abbrev pub lost_word : Window → (long : ℕ) → Interval → Text
+lost_word w long i = if is_inside w i then lost_in (x_at w i.from) long i.abandoned
+    else lost_between (x_at w i.from) long i.abandoned i.from i.until
+
+-- the same of an interval that lost value
 abbrev pub band_word : Window → Interval → Text
-band_word w i = if is_loss w i then lost_in (x_at w i.from) (pixels w 0 i.from i.until) i.abandoned else []
+band_word w i = if is_loss w i then lost_word w (pixels w 0 i.from i.until) i else []
 
 -- the front of bars of this class, so high
 abbrev pub bars_front : (class high : ℕ) → Text

@@ -23,13 +23,31 @@ abbrev pub weighed_at : (x y value against : ℕ) → Text
 weighed_at x y value against = filled (codes "<text class='v' x='@' y='@'>-@ against @</text>\n")
     ((x + 6) ∷ (y + 4) ∷ value ∷ against ∷ [])
 
--- the pixel up to which there is room for the job's number: its fate where it is abandoned, and else its deadline
-abbrev pub number_end : Seen → ℕ
-number_end s = if is_gone s then fate_tick s else s.deadline
+-- a number behind a cross at pixel x
+abbrev pub named_at : (x y n : ℕ) → Text
+named_at x y n = filled (codes "<text x='@' y='@'>@</text>\n") ((x + 6) ∷ (y + 4) ∷ n ∷ [])
+
+-- the same with a lost value
+abbrev pub named_lost_at : (x y n value : ℕ) → Text
+named_lost_at x y n value = filled (codes "<text class='v' x='@' y='@'>@: -@</text>\n")
+    ((x + 6) ∷ (y + 4) ∷ n ∷ value ∷ [])
+
+-- and what it was weighed against
+abbrev pub named_weighed_at : (x y n value against : ℕ) → Text
+named_weighed_at x y n value against = filled (codes "<text class='v' x='@' y='@'>@: -@ against @</text>\n")
+    ((x + 6) ∷ (y + 4) ∷ n ∷ value ∷ against ∷ [])
+
+-- the window has the tick at which the job is abandoned
+abbrev pub has_loss : Window → Seen → Bool
+has_loss w s = is_gone s && has w (fate_tick s)
+
+-- the tick up to which there is room for the job's number: that of its cross, and else its deadline
+abbrev pub number_end : Window → Seen → ℕ
+number_end w s = if has_loss w s then fate_tick s else s.deadline
 
 -- there is room for the job's number
 abbrev pub has_number : Window → Seen → Bool
-has_number w s = has w s.release && nat_le (room 1 s.number) (pixels w 0 s.release (number_end s))
+has_number w s = nat_le (room 1 s.number) (pixels w 0 s.release (number_end w s))
 
 -- the job's number
 abbrev pub number_of : Window → (y : ℕ) → Seen → Text
@@ -41,10 +59,22 @@ loss_in x y long value against = if nat_le (room 12 value + 6 * digits_of agains
     then weighed_at x y value against
     else (if nat_le (room 2 value) long then lost_at x y value else [])
 
+-- the same with the job's number, which has no room before the cross
+abbrev pub named_loss_in : (x y long n value against : ℕ) → Text
+named_loss_in x y long n value against = if nat_le (room 14 n + 6 * digits_of value + 6 * digits_of against) long
+    then named_weighed_at x y n value against
+    else (if nat_le (room 5 n + 6 * digits_of value) long then named_lost_at x y n value
+    else (if nat_le (room 2 n) long then named_at x y n else []))
+
+-- what stands behind the cross of a job, in so many pixels behind x
+abbrev pub behind_cross : (x y long : ℕ) → (named : Bool) → Seen → Text
+behind_cross x y long named s =
+    if named then loss_in x y long s.value s.against else named_loss_in x y long s.number s.value s.against
+
 -- what the job's loss weighed, if it is abandoned in the window
 abbrev pub loss_of : Window → (y : ℕ) → Seen → Text
-loss_of w y s = if is_gone s && has w (fate_tick s)
-    then loss_in (x_at w (fate_tick s)) y (pixels w 0 (fate_tick s) s.deadline) s.value s.against else []
+loss_of w y s = if has_loss w s
+    then behind_cross (x_at w (fate_tick s)) y (pixels w 0 (fate_tick s) s.deadline) (has_number w s) s else []
 
 -- what is written in a lane
 abbrev pub label : Window → (unit : ℕ) → Lane → Text

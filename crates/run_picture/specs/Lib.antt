@@ -9,6 +9,7 @@ pub mod Labels
 pub mod Marks
 pub mod Outlines
 pub mod Columns
+pub mod Ready
 pub mod Panels
 pub mod Legends
 pub mod Frame

@@ -1,12 +1,12 @@
 -- Marks in the lanes, step by step: where a job is held, where one is abandoned, and who takes the processor from whom.
-use Rattle.std.specs.Prelude.{ℕ, ◌-◌, ◌/◌, List, [], ◌∷◌, ◌++◌, Bool, nat_lt, if◌then◌else◌, codes}
+use Rattle.std.specs.Prelude.{ℕ, ◌-◌, ◌/◌, List, [], ◌∷◌, ◌++◌, Bool, ◌&&◌, nat_lt, if◌then◌else◌, codes}
 use Rattle.std.specs.List.{flat_map}
 use Rattle.dover_model.specs.declared.events.Event.{Event}
 use Rattle.dover_model.specs.declared.events.Event.TheVariants.{Preempt, Take, Abandon}
 use Rattle.run_view.specs.Templates.{Text, filled}
 use Rattle.run_picture.specs.Plot.{x_at, meets, has, bar}
 use Rattle.run_picture.specs.Seen.{fate_tick}
-use Rattle.run_picture.specs.Lanes.{lane_at, middle}
+use Rattle.run_picture.specs.Lanes.{shows, lane_at, middle}
 use Rattle.run_view.specs.declared.window.Window.{Window}
 use Rattle.run_picture.specs.declared.lanes.Lane.{Lane}
 
@@ -36,9 +36,9 @@ cross_from x y high = filled (codes "M@ @l6 @m0-@l-6 @") (x ∷ y ∷ high ∷ h
 abbrev pub cross : (x y high : ℕ) → Text
 cross x y high = cross_from (x - 3) (y - high / 2) high
 
--- the cross of a job that is abandoned at this tick, if the window has it
+-- the cross of a job that is abandoned at this tick, if the window has the tick and shows the job
 abbrev pub cross_in : Window → (unit at : ℕ) → Lane → Text
-cross_in w unit at lane = if has w at then cross (x_at w at) (middle unit lane) (unit / 2) else []
+cross_in w unit at lane = if has w at && shows w lane.seen then cross (x_at w at) (middle unit lane) (unit / 2) else []
 
 -- the cross of a step
 abbrev pub cross_of : Window → (unit : ℕ) → List Lane → Event → Text
@@ -55,10 +55,14 @@ abbrev pub arrow : (x from until : ℕ) → Text
 arrow x from until = filled (codes "M@ @V@") (x ∷ from ∷ until ∷ [])
     ++ (if nat_lt from until then codes "m-2-4h4l-2 4" else codes "m-2 4h4l-2-4")
 
--- the arrow from one job to another, if the tick is in the window
+-- the arrow from one lane to another at a tick, if the window has the tick and shows both jobs
+abbrev pub arrow_in : Window → (unit at : ℕ) → (stops starts : Lane) → Text
+arrow_in w unit at stops starts = if has w at && shows w stops.seen && shows w starts.seen
+    then arrow (x_at w at) (middle unit stops) (middle unit starts) else []
+
+-- the same from the lane of one job to that of another
 abbrev pub arrow_at : Window → (unit : ℕ) → List Lane → (at stops starts : ℕ) → Text
-arrow_at w unit lanes at stops starts = if has w at
-    then arrow (x_at w at) (middle unit (lane_at lanes stops)) (middle unit (lane_at lanes starts)) else []
+arrow_at w unit lanes at stops starts = arrow_in w unit at (lane_at lanes stops) (lane_at lanes starts)
 
 -- the arrow of a preemption, or else of a take
 abbrev pub arrow_of : Window → (unit : ℕ) → (takes : Bool) → List Lane → Event → Text

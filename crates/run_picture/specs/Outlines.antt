@@ -1,4 +1,4 @@
--- Outlines of numbers that grow and fall with the steps: the ready jobs, and the values so far.
+-- Outlines of the values so far, which grow with the steps.
 use Rattle.std.specs.Prelude.{ℕ, ◌+◌, ◌-◌, max, List, [], ◌∷◌, ◌++◌, ◌==◌, if◌then◌else◌, codes}
 use Rattle.dover_model.specs.declared.events.Event.{Event}
 use Rattle.dover_model.specs.declared.events.Event.TheVariants.{Release, Run, Preempt, Take, Complete, Abandon, End}
@@ -8,17 +8,10 @@ use Rattle.run_view.specs.Templates.{Text, filled}
 use Rattle.run_picture.specs.Plot.{scaled, x_at, column_at, has}
 use Rattle.run_view.specs.declared.window.Window.{Window}
 use Rattle.run_picture.specs.declared.outline.Measure.{Measure}
-use Rattle.run_picture.specs.declared.outline.Measure.TheVariants.{Ready, Completed, Decided}
+use Rattle.run_picture.specs.declared.outline.Measure.TheVariants.{Completed, Decided}
 use Rattle.run_picture.specs.declared.outline.Outline.{Outline}
 
 -- ---- what is measured
-
--- the jobs that are released and neither done nor gone, after a step
-abbrev pub ready_after : Event → ℕ → ℕ
-ready_after (Release n job) count = count + 1
-ready_after (Complete at n) count = count - 1
-ready_after (Abandon at n) count = count - 1
-ready_after _ count = count
 
 -- the value of a job that is decided at this tick, if the window has it
 abbrev pub worth_at : Window → List JobFacts → (at n : ℕ) → ℕ
@@ -37,7 +30,6 @@ decided_after w jobs _ value = value
 
 -- by what is measured
 abbrev pub after : Measure → Window → List JobFacts → Event → ℕ → ℕ
-after Ready w jobs e number = ready_after e number
 after Completed w jobs e number = completed_after w jobs e number
 after Decided w jobs e number = decided_after w jobs e number
 

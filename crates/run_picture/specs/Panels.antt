@@ -1,13 +1,15 @@
 -- Panels: the values so far, and the jobs that are ready, as outlines of 110 pixels down to a base.
-use Rattle.std.specs.Prelude.{ℕ, ◌+◌, ◌-◌, List, [], ◌∷◌, ◌++◌, Bool, true, codes}
+use Rattle.std.specs.Prelude.{ℕ, ◌+◌, ◌-◌, ◌/◌, min, max, List, [], ◌∷◌, ◌++◌, Bool, true, codes}
 use Rattle.dover_model.specs.declared.events.Event.{Event}
 use Rattle.dover_model.specs.JobFacts.{JobFacts}
 use Rattle.run_view.specs.Templates.{Text, filled}
 use Rattle.run_picture.specs.Columns.{fullest, towers}
 use Rattle.run_picture.specs.Outlines.{greatest, outline}
+use Rattle.run_picture.specs.Plot.{scaled}
+use Rattle.run_picture.specs.Ready.{most_ready, peaks}
 use Rattle.run_view.specs.declared.window.Window.{Window}
 use Rattle.run_picture.specs.declared.outline.Measure.{Measure}
-use Rattle.run_picture.specs.declared.outline.Measure.TheVariants.{Ready, Completed, Decided}
+use Rattle.run_picture.specs.declared.outline.Measure.TheVariants.{Completed, Decided}
 use Rattle.run_picture.specs.declared.outline.Outline.{Outline}
 
 -- the front of an area of this class
@@ -52,10 +54,21 @@ abbrev pub values_areas : Window → (coarse : Bool) → (decided base : ℕ) �
 values_areas w coarse decided base jobs run = area 76 (measured w Decided coarse decided base) jobs run
     ++ area 67 (measured w Completed coarse decided base) jobs run
 
--- both numbers
+-- how many pixels above the base the words stand, where the value completed is so high: at the middle of what they
+-- name, and within the panel
+abbrev pub lost_height : (high : ℕ) → ℕ
+lost_height high = min (high / 2 + 57) 100
+
+abbrev pub completed_height : (high : ℕ) → ℕ
+completed_height high = max (high / 2 + 2) 14
+
+-- both numbers, where the value completed is so high
+abbrev pub numbers_at : (decided completed base high : ℕ) → Text
+numbers_at decided completed base high = lost_number (base - lost_height high) (decided - completed)
+    ++ completed_number (base - completed_height high) completed
+
 abbrev pub values_numbers : (decided completed base : ℕ) → Text
-values_numbers decided completed base = lost_number (base - 100) (decided - completed)
-    ++ completed_number (base - 14) completed
+values_numbers decided completed base = numbers_at decided completed base (scaled completed decided 110)
 
 -- the panel, where so much value is decided, and so much of it completed
 unfoldable pub values_by : Window → (coarse : Bool) → (decided completed base : ℕ) → List JobFacts → List Event → Text
@@ -75,13 +88,17 @@ ready_border most = codes "<text class='r' x='82' y='125'>ready jobs</text>\n"
     ++ codes "<rect class='f' x='90' y='112' width='1200' height='110'/>\n"
     ++ filled (codes "<text class='s' x='1296' y='122'>at most @</text>\n") (most ∷ [])
 
+-- the outline of the ready jobs as an area, up to this number
+unfoldable pub ready_area : Window → (most : ℕ) → List Event → Text
+ready_area w most run = area_front 81 ++ peaks w most run ++ codes "'/>\n"
+
 -- the panel, where so many jobs are ready at most
-unfoldable pub ready_by : Window → (most : ℕ) → List JobFacts → List Event → Text
-ready_by w most jobs run = area 81 (measured w Ready true most 222) jobs run ++ ready_border most
+unfoldable pub ready_by : Window → (most : ℕ) → List Event → Text
+ready_by w most run = ready_area w most run ++ ready_border most
 
 -- the panel of the jobs that are ready, in columns
-unfoldable pub ready : Window → List JobFacts → List Event → Text
-ready w jobs run = ready_by w (greatest Ready w jobs run) jobs run
+unfoldable pub ready : Window → List Event → Text
+ready w run = ready_by w (most_ready w run) run
 
 -- ---- the values by column
 

@@ -1,5 +1,5 @@
 -- The picture of a run, as SVG in whole pixels: what a window of ticks shows of the processor, the jobs and the values.
-use Rattle.std.specs.Prelude.{ℕ, ◌+◌, ◌-◌, ◌*◌, ◌/◌, min, max, List, [], ◌∷◌, ◌++◌, length, Bool, true, false, nat_le}
+use Rattle.std.specs.Prelude.{ℕ, ◌+◌, ◌-◌, ◌*◌, ◌/◌, min, List, [], ◌∷◌, ◌++◌, length, Bool, true, false, nat_le}
 use Rattle.std.specs.Prelude.{codes}
 use Rattle.std.specs.Prelude.{if◌then◌else◌}
 use Rattle.std.specs.Prelude.{Option, Some, None}
@@ -137,7 +137,7 @@ by_lanes w c lanes jobs run pieces rows =
 
 -- the processor, the ready jobs, and the values by column
 unfoldable pub load : Window → List Lane → List JobFacts → List Event → List Piece → Text
-load w lanes jobs run pieces = strip w 0 lanes pieces ++ ready w jobs run ++ columns w jobs run
+load w lanes jobs run pieces = strip w 0 lanes pieces ++ ready w run ++ columns w jobs run
 
 -- the load in columns
 unfoldable pub by_load : Window → Counts → List Lane → List JobFacts → List Event → List Piece → List Interval → Text
@@ -160,14 +160,14 @@ drawn most w c seen jobs run pieces rows = if nat_le (shown w seen) most
     (by_load w c (lanes_from nothing [] seen) jobs run pieces rows)
     else by_load w c (lanes_from nothing [] seen) jobs run pieces rows
 
--- all of the run
+-- all of the run, so that the last deadline is its last tick
 abbrev pub whole : List JobFacts → Window
-whole jobs = record { from = 0; until = max 1 (last_deadline jobs) }
+whole jobs = record { from = 0; until = last_deadline jobs + 1 }
 
 -- the window that is asked for, up to the last tick that a job may name, or all of the run
 abbrev pub window_of : Option Window → List JobFacts → Window
 window_of None jobs = whole jobs
-window_of (Some w) jobs = record { from = min w.from last_tick; until = min w.until last_tick }
+window_of (Some w) jobs = record { from = min w.from (last_tick + 1); until = min w.until (last_tick + 1) }
 
 -- the picture, with lanes for so many jobs at most
 abbrev pub picture_by : (most : ℕ) → Option Window → Instance → Text

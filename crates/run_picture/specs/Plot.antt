@@ -20,9 +20,9 @@ column_at w t = 90 + 6 * scaled (t - w.from) (w.until - w.from) 200
 abbrev pub meets : Window → (from until : ℕ) → Bool
 meets w from until = nat_lt from w.until && nat_lt w.from until
 
--- a tick is in the window
+-- a tick is in the window: it is from its first on and before the one behind its last
 abbrev pub has : Window → ℕ → Bool
-has w t = nat_le w.from t && nat_le t w.until
+has w t = nat_le w.from t && nat_lt t w.until
 
 -- how many pixels the ticks from one to another take, at least so many
 abbrev pub pixels : Window → (least from until : ℕ) → ℕ

@@ -9,8 +9,9 @@ use dover_model::{Event, Job, Memory};
 use run_view::template::put;
 
 /// The left pixel of the column of a step, never before pixel x.
-fn column_of(window: Window, x: u64, event: &Event) -> u64
-    ensures { result ≡ columns.column_of window x event.now }
+pub fn column_of(window: Window, x: u64, event: &Event) -> u64
+    ensures is { result ≡ columns.column_of window x event.now }
+    ensures modest { x ≤ 1_284 → result ≤ 1_284 }
 {
     x.max(column_at(window, tick_of(event)).min(1_284))
 }

@@ -1,5 +1,5 @@
 //! The picture as a whole.
-ghost use Rattle.std.specs.Prelude.{◌≡◌, ◌≤◌, ◌++◌, ◌^◌, [], length, OnOk, IfOk, Option};
+ghost use Rattle.std.specs.Prelude.{◌≡◌, ◌≤◌, ◌+◌, ◌++◌, ◌^◌, [], length, OnOk, IfOk, Option};
 ghost use Rattle.intervals.specs.Rows.{IsRunOf};
 ghost use Rattle.dover_model.specs.Instance.{Instance};
 ghost use Rattle.dover_model.specs.Limits.{last_tick};
@@ -60,23 +60,24 @@ pub fn picture(
 /// The window that is asked for, or all of the run.
 fn window_of(asked: Option<Window>, jobs: &[Job]) -> Window
     ensures is { result ≡ pictures.window_of asked jobs.now }
-    ensures from { result.from ≤ last_tick }
+    ensures from { result.from ≤ last_tick + 1 }
 {
     match asked {
         None => Window {
             from: 0,
-            until: last_deadline(jobs).max(1),
+            until: last_deadline(jobs) + 1,
         },
         Some(window) => Window {
-            from: window.from.min(LAST_TICK),
-            until: window.until.min(LAST_TICK),
+            from: window.from.min(LAST_TICK + 1),
+            until: window.until.min(LAST_TICK + 1),
         },
     }
 }
 
 /// The greatest deadline.
 fn last_deadline(jobs: &[Job]) -> u64
-    ensures { result ≡ runs.last_deadline jobs.now }
+    ensures is { result ≡ runs.last_deadline jobs.now }
+    ensures known { result ≤ last_tick }
 {
     let mut last = 0;
     for job in jobs {
@@ -102,7 +103,7 @@ fn drawn(
 ) -> Result<Vec<u8>, Memory>
     requires steps { length run.now ≤ 5_000_001 }
     requires jobs { length seen.now ≤ 5_000_001 }
-    requires from { window.from ≤ last_tick }
+    requires from { window.from ≤ last_tick + 1 }
     ensures { IfOk result (λ text. text.items
         ≡ pictures.drawn 400 window counts.now seen.now jobs.now run.now pieces.now rows.now) }
 {
@@ -131,7 +132,7 @@ fn loaded(
 ) -> Result<Vec<u8>, Memory>
     requires steps { length run.now ≤ 5_000_001 }
     requires jobs { length seen.now ≤ 5_000_001 }
-    requires from { window.from ≤ last_tick }
+    requires from { window.from ≤ last_tick + 1 }
     ensures { IfOk result (λ text. text.items ≡ pictures.by_load
         window counts.now (lanes_from pictures.nothing [] seen.now) jobs.now run.now pieces.now rows.now) }
 {
@@ -154,7 +155,7 @@ fn put_by_lanes(
     rows: &[Interval],
 ) -> Result<(), Memory>
     requires steps { length run.now ≤ 5_000_001 }
-    requires from { window.from ≤ last_tick }
+    requires from { window.from ≤ last_tick + 1 }
     ensures { OnOk result (text.new.items
         ≡ text.old.items ++ pictures.by_lanes window counts.now lanes.now jobs.now run.now pieces.now rows.now) }
 {
@@ -175,7 +176,7 @@ fn put_under(
     bottom: u64,
     rows: &[Interval],
 ) -> Result<(), Memory>
-    requires from { window.from ≤ last_tick }
+    requires from { window.from ≤ last_tick + 1 }
     requires bottom { bottom ≤ 2 ^ 39 }
     ensures { OnOk result (text.new.items ≡ text.old.items ++ pictures.under window counts.now bottom rows.now) }
 {
@@ -193,7 +194,7 @@ fn put_under_load(
     counts: &Counts,
     rows: &[Interval],
 ) -> Result<(), Memory>
-    requires { window.from ≤ last_tick }
+    requires { window.from ≤ last_tick + 1 }
     ensures { OnOk result (text.new.items ≡ text.old.items ++ pictures.under_load window counts.now rows.now) }
 {
     put_page(text, 510, counts)?;
@@ -253,7 +254,7 @@ fn put_by_load(
     rows: &[Interval],
 ) -> Result<(), Memory>
     requires steps { length run.now ≤ 5_000_001 }
-    requires from { window.from ≤ last_tick }
+    requires from { window.from ≤ last_tick + 1 }
     ensures { OnOk result (text.new.items
         ≡ text.old.items ++ pictures.by_load window counts.now lanes.now jobs.now run.now pieces.now rows.now) }
 {
@@ -278,7 +279,7 @@ fn put_load(
         ≡ text.old.items ++ pictures.load window lanes.now jobs.now run.now pieces.now) }
 {
     put_strip(text, window, 0, lanes, pieces)?;
-    put_ready(text, window, jobs, run)?;
+    put_ready(text, window, run)?;
     put_columns(text, window, jobs, run)?;
     Ok(())
 }

@@ -4,8 +4,8 @@ ghost use Rattle.dover_model.specs.Limits.{last_tick};
 ghost use Rattle.run_picture.specs.Frame as frame;
 
 use crate::legends::{put_legend, put_styles};
-use crate::plot::{Window, has, meets, pixels, put_bar, x_at};
-use crate::sizes::room;
+use crate::plot::{Window, meets, pixels, put_bar, x_at};
+use crate::sizes::{digits_of, room};
 use dover_model::Memory;
 use dover_report::Counts;
 use intervals::Interval;
@@ -103,7 +103,7 @@ fn step_of(span: u64) -> u64
 #[tactic(auto, unfolding(crate::specs::Frame::axis))]
 pub fn put_axis(text: &mut Vec<u8>, window: Window, bottom: u64) -> Result<(), Memory>
     requires bottom { bottom ≤ 2 ^ 40 }
-    requires from { window.from ≤ last_tick }
+    requires from { window.from ≤ last_tick + 1 }
     ensures { OnOk result (text.new.items ≡ text.old.items ++ frame.axis window bottom) }
 {
     put_axis_by(
@@ -117,7 +117,7 @@ pub fn put_axis(text: &mut Vec<u8>, window: Window, bottom: u64) -> Result<(), M
 /// Appends the axis, with marks so far apart.
 fn put_axis_by(text: &mut Vec<u8>, window: Window, bottom: u64, step: u64) -> Result<(), Memory>
     requires bottom { bottom ≤ 2 ^ 40 }
-    requires from { window.from ≤ last_tick }
+    requires from { window.from ≤ last_tick + 1 }
     requires least { 1 ≤ step }
     requires modest { step ≤ 5_000_000_000_000 }
     ensures { OnOk result (text.new.items ≡ text.old.items ++ frame.axis_by window bottom step) }
@@ -150,7 +150,7 @@ fn put_marks(
 ) -> Result<(), Memory>
     requires bottom { bottom ≤ 2 ^ 40 }
     requires modest { step ≤ 5_000_000_000_000 }
-    requires first { first ≤ last_tick }
+    requires first { first ≤ last_tick + 1 }
     ensures { OnOk result (text.new.items ≡ text.old.items ++ frame.marks_from window bottom step first 14) }
 {
     let mut tick = first;
@@ -163,12 +163,19 @@ fn put_marks(
     Ok(())
 }
 
-/// Appends the mark of a tick that the window has: a line down to the bottom, and the tick below.
+/// A tick has its mark, from the window's first on up to the one behind its last.
+fn is_marked(window: Window, tick: u64) -> bool
+    ensures { result ≡ frame.is_marked window tick }
+{
+    window.from <= tick && tick <= window.until
+}
+
+/// Appends the mark of such a tick: a line down to the bottom, and the tick below.
 fn put_mark(text: &mut Vec<u8>, window: Window, bottom: u64, tick: u64) -> Result<(), Memory>
     requires { bottom ≤ 2 ^ 40 }
     ensures { OnOk result (text.new.items ≡ text.old.items ++ frame.mark window bottom tick) }
 {
-    if has(window, tick) {
+    if is_marked(window, tick) {
         let x = x_at(window, tick);
         return put(
             text,
@@ -179,11 +186,11 @@ fn put_mark(text: &mut Vec<u8>, window: Window, bottom: u64, tick: u64) -> Resul
     Ok(())
 }
 
-/// The window shows an interval that lost value.
+/// The window shows an interval in which value was abandoned.
 fn is_loss(window: Window, row: &Interval) -> bool
     ensures { result ≡ frame.is_loss window row.now }
 {
-    (row.displaced != 0 || row.abandoned != 0) && meets(window, row.from, row.until)
+    row.abandoned != 0 && meets(window, row.from, row.until)
 }
 
 /// Appends the front of bars of this class, so high.
@@ -264,7 +271,47 @@ fn put_band_word(text: &mut Vec<u8>, window: Window, row: &Interval) -> Result<(
 {
     if is_loss(window, row) {
         let long = pixels(window, 0, row.from, row.until);
-        return put_lost_in(text, x_at(window, row.from), long, row.abandoned);
+        return put_lost_word(text, window, long, row);
+    }
+    Ok(())
+}
+
+/// The window has all ticks of an interval.
+fn is_inside(window: Window, row: &Interval) -> bool
+    ensures { result ≡ frame.is_inside window row.now }
+{
+    window.from <= row.from && row.until <= window.until
+}
+
+/// Appends what an interval abandoned, with its ticks where the window has a part of it alone.
+fn put_lost_word(
+    text: &mut Vec<u8>,
+    window: Window,
+    long: u64,
+    row: &Interval,
+) -> Result<(), Memory>
+    ensures { OnOk result (text.new.items ≡ text.old.items ++ frame.lost_word window long row.now) }
+{
+    let x = x_at(window, row.from);
+    if is_inside(window, row) {
+        return put_lost_in(text, x, long, row.abandoned);
+    }
+    put_lost_between(text, x, long, row)
+}
+
+/// Appends what an interval abandoned and its ticks, in so many pixels behind x.
+fn put_lost_between(text: &mut Vec<u8>, x: u64, long: u64, row: &Interval) -> Result<(), Memory>
+    requires { x ≤ 1_290 }
+    ensures { OnOk result (text.new.items
+        ≡ text.old.items ++ frame.lost_between x long row.now.abandoned row.now.from row.now.until) }
+{
+    let ticks = 6 * digits_of(row.from) + 6 * digits_of(row.until);
+    if room(15, row.abandoned) + ticks <= long {
+        return put(
+            text,
+            b"<text class='v' x='@' y='70'>lost @ from @ to @</text>\n",
+            &[x + 3, row.abandoned, row.from, row.until],
+        );
     }
     Ok(())
 }

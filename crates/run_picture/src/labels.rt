@@ -61,11 +61,18 @@ fn put_label(text: &mut Vec<u8>, window: Window, unit: u64, lane: &Lane) -> Resu
     Ok(())
 }
 
-/// The pixel up to which there is room for the job's number.
-fn number_end(seen: &Seen) -> u64
-    ensures { result ≡ labels.number_end seen.now }
+/// The window has the tick at which the job is abandoned.
+fn has_loss(window: Window, seen: &Seen) -> bool
+    ensures { result ≡ labels.has_loss window seen.now }
 {
-    if seen.is_gone() {
+    seen.is_gone() && has(window, seen.fate_tick())
+}
+
+/// The tick up to which there is room for the job's number.
+fn number_end(window: Window, seen: &Seen) -> u64
+    ensures { result ≡ labels.number_end window seen.now }
+{
+    if has_loss(window, seen) {
         seen.fate_tick()
     } else {
         seen.deadline
@@ -76,8 +83,8 @@ fn number_end(seen: &Seen) -> u64
 fn has_number(window: Window, seen: &Seen) -> bool
     ensures { result ≡ labels.has_number window seen.now }
 {
-    let long = pixels(window, 0, seen.release, number_end(seen));
-    has(window, seen.release) && room(1, u64::from(seen.number)) <= long
+    let long = pixels(window, 0, seen.release, number_end(window, seen));
+    room(1, u64::from(seen.number)) <= long
 }
 
 /// Appends the job's number around the height y, where there is room.
@@ -102,10 +109,69 @@ fn put_loss(text: &mut Vec<u8>, window: Window, y: u64, seen: &Seen) -> Result<(
     requires { y ≤ 2 ^ 40 }
     ensures { OnOk result (text.new.items ≡ text.old.items ++ labels.loss_of window y seen.now) }
 {
-    let tick = seen.fate_tick();
-    if seen.is_gone() && has(window, tick) {
+    if has_loss(window, seen) {
+        let tick = seen.fate_tick();
         let long = pixels(window, 0, tick, seen.deadline);
-        put_loss_in(text, x_at(window, tick), y, long, seen.value, seen.against)?;
+        let named = has_number(window, seen);
+        put_behind_cross(text, x_at(window, tick), y, long, named, seen)?;
+    }
+    Ok(())
+}
+
+/// Appends what stands behind the cross of a job, by whether its number stands before it.
+fn put_behind_cross(
+    text: &mut Vec<u8>,
+    x: u64,
+    y: u64,
+    long: u64,
+    named: bool,
+    seen: &Seen,
+) -> Result<(), Memory>
+    requires x { x ≤ 1_290 }
+    requires y { y ≤ 2 ^ 40 }
+    ensures { OnOk result (text.new.items ≡ text.old.items ++ labels.behind_cross x y long named seen.now) }
+{
+    if named {
+        return put_loss_in(text, x, y, long, seen.value, seen.against);
+    }
+    put_named_loss_in(text, x, y, long, seen)
+}
+
+/// Appends a job's number and what its loss weighed, in so many pixels behind x.
+fn put_named_loss_in(
+    text: &mut Vec<u8>,
+    x: u64,
+    y: u64,
+    long: u64,
+    seen: &Seen,
+) -> Result<(), Memory>
+    requires x { x ≤ 1_290 }
+    requires y { y ≤ 2 ^ 40 }
+    ensures { OnOk result (text.new.items ≡ text.old.items
+        ++ labels.named_loss_in x y long seen.now.number seen.now.value seen.now.against) }
+{
+    let number = u64::from(seen.number);
+    let value = 6 * digits_of(seen.value);
+    if room(14, number) + value + 6 * digits_of(seen.against) <= long {
+        return put(
+            text,
+            b"<text class='v' x='@' y='@'>@: -@ against @</text>\n",
+            &[x + 6, y + 4, number, seen.value, seen.against],
+        );
+    }
+    if room(5, number) + value <= long {
+        return put(
+            text,
+            b"<text class='v' x='@' y='@'>@: -@</text>\n",
+            &[x + 6, y + 4, number, seen.value],
+        );
+    }
+    if room(2, number) <= long {
+        return put(
+            text,
+            b"<text x='@' y='@'>@</text>\n",
+            &[x + 6, y + 4, number],
+        );
     }
     Ok(())
 }

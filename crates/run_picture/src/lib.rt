@@ -12,6 +12,7 @@ mod outline;
 mod panels;
 mod plot;
 mod processor;
+mod ready;
 mod seen;
 mod sizes;
 mod strip;

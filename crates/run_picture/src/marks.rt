@@ -2,7 +2,7 @@
 ghost use Rattle.std.specs.Prelude.{◌≡◌, ◌≤◌, ◌++◌, ◌^◌, OnOk, codes, if◌then◌else◌};
 ghost use Rattle.run_picture.specs.Marks as marks;
 
-use crate::lanes::{Lane, lane_at, middle};
+use crate::lanes::{Lane, lane_at, middle, shows};
 use crate::plot::{Window, has, meets, put_bar, x_at};
 use dover_model::{Event, Memory};
 use run_view::template::put;
@@ -106,7 +106,7 @@ fn put_cross_of(
     }
 }
 
-/// Appends the cross of a job that is abandoned at this tick, if the window has it.
+/// Appends the cross of a job that is abandoned at this tick, if the window has the tick and shows the job.
 fn put_cross_in(
     text: &mut Vec<u8>,
     window: Window,
@@ -117,7 +117,7 @@ fn put_cross_in(
     requires { unit ≤ 18 }
     ensures { OnOk result (text.new.items ≡ text.old.items ++ marks.cross_in window unit at lane.now) }
 {
-    if has(window, at) {
+    if has(window, at) && shows(window, &lane.seen) {
         return put_cross(text, x_at(window, at), middle(unit, lane), unit / 2);
     }
     Ok(())
@@ -179,7 +179,7 @@ fn put_arrow_of(
     }
 }
 
-/// Appends the arrow from one job to another, if the tick is in the window.
+/// Appends the arrow from the lane of one job to that of another.
 fn put_arrow_at(
     text: &mut Vec<u8>,
     window: Window,
@@ -192,10 +192,30 @@ fn put_arrow_at(
     requires { unit ≤ 18 }
     ensures { OnOk result (text.new.items ≡ text.old.items ++ marks.arrow_at window unit lanes.now at stops starts) }
 {
-    if has(window, at) {
-        let from = middle(unit, &lane_at(lanes, stops));
-        let until = middle(unit, &lane_at(lanes, starts));
-        put_arrow(text, x_at(window, at), from, until)?;
+    let from = lane_at(lanes, stops);
+    let until = lane_at(lanes, starts);
+    put_arrow_in(text, window, unit, at, &from, &until)
+}
+
+/// Appends the arrow from one lane to another, if the window has the tick and shows both jobs.
+fn put_arrow_in(
+    text: &mut Vec<u8>,
+    window: Window,
+    unit: u64,
+    at: u64,
+    stops: &Lane,
+    starts: &Lane,
+) -> Result<(), Memory>
+    requires { unit ≤ 18 }
+    ensures { OnOk result (text.new.items ≡ text.old.items ++ marks.arrow_in window unit at stops.now starts.now) }
+{
+    if has(window, at) && shows(window, &stops.seen) && shows(window, &starts.seen) {
+        return put_arrow(
+            text,
+            x_at(window, at),
+            middle(unit, stops),
+            middle(unit, starts),
+        );
     }
     Ok(())
 }

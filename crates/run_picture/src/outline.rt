@@ -1,4 +1,4 @@
-//! Outlines of numbers that grow and fall with the steps.
+//! Outlines of the values so far.
 ghost use Rattle.std.specs.Prelude.{◌≡◌, ◌≤◌, ◌+◌, ◌++◌, length, OnOk};
 ghost use Rattle.dover_model.specs.Limits.{most_value};
 ghost use Rattle.run_picture.specs.Outlines as outlines;
@@ -11,7 +11,6 @@ use run_view::template::put;
 /// What is measured.
 #[derive(Clone, Copy)]
 pub enum Measure {
-    Ready,
     Completed,
     Decided,
 }
@@ -27,20 +26,6 @@ pub struct Outline {
     pub most: u64,
     /// The pixel of 0.
     pub base: u64,
-}
-
-/// The jobs that are released and neither done nor gone, after a step.
-fn ready_after(event: &Event, count: u64) -> u64
-    requires { count ≤ 6_000_000_000_000_000 }
-    ensures is { result ≡ outlines.ready_after event.now count }
-    ensures modest { result ≤ count + 1 }
-{
-    match event {
-        Event::Release { .. } => count + 1,
-        Event::Complete { .. } => count.saturating_sub(1),
-        Event::Abandon { .. } => count.saturating_sub(1),
-        _ => count,
-    }
 }
 
 /// The value of a job that is decided at this tick, if the window has it.
@@ -87,7 +72,6 @@ pub fn after(measure: Measure, window: Window, jobs: &[Job], event: &Event, numb
     ensures modest { result ≤ number + most_value }
 {
     match measure {
-        Measure::Ready => ready_after(event, number),
         Measure::Completed => completed_after(window, jobs, event, number),
         Measure::Decided => decided_after(window, jobs, event, number),
     }
@@ -193,12 +177,18 @@ fn put_stair_to(
     if x == next {
         return Ok(());
     }
-    let y = rise(outline, number);
+    put_stair(text, rise(outline, number), next)
+}
+
+/// Appends a stair up to a height and right to a pixel.
+pub fn put_stair(text: &mut Vec<u8>, y: u64, next: u64) -> Result<(), Memory>
+    ensures { OnOk result (text.new.items ≡ text.old.items ++ outlines.stair y next) }
+{
     put(text, b"V@H@", &[y, next])
 }
 
 /// Appends the last stair, up to a height, right to the end and down.
-fn put_last(text: &mut Vec<u8>, y: u64, base: u64) -> Result<(), Memory>
+pub fn put_last(text: &mut Vec<u8>, y: u64, base: u64) -> Result<(), Memory>
     ensures { OnOk result (text.new.items ≡ text.old.items ++ outlines.last_stair y base) }
 {
     put(text, b"V@H1290V@Z", &[y, base])

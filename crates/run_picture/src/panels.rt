@@ -4,7 +4,8 @@ ghost use Rattle.run_picture.specs.Panels as panels;
 
 use crate::columns::{fullest, put_towers};
 use crate::outline::{Measure, Outline, greatest, put_outline};
-use crate::plot::Window;
+use crate::plot::{Window, scaled};
+use crate::ready::{most_ready, put_peaks};
 use dover_model::{Event, Job, Memory};
 use run_view::template::put;
 
@@ -101,35 +102,66 @@ fn put_values_numbers(
     requires { base ≤ 2 ^ 40 }
     ensures { OnOk result (text.new.items ≡ text.old.items ++ panels.values_numbers decided completed base) }
 {
+    put_numbers_at(
+        text,
+        decided,
+        completed,
+        base,
+        scaled(completed, decided, 110),
+    )
+}
+
+/// How many pixels above the base what is lost is named, where the value completed is so high.
+fn lost_height(high: u64) -> u64
+    requires { high ≤ 110 }
+    ensures { result ≡ panels.lost_height high }
+{
+    (high / 2 + 57).min(100)
+}
+
+/// The same of what is completed.
+fn completed_height(high: u64) -> u64
+    requires { high ≤ 110 }
+    ensures { result ≡ panels.completed_height high }
+{
+    (high / 2 + 2).max(14)
+}
+
+/// The same, where the value completed is so high: each number at the middle of what it names, and within the panel.
+fn put_numbers_at(
+    text: &mut Vec<u8>,
+    decided: u64,
+    completed: u64,
+    base: u64,
+    high: u64,
+) -> Result<(), Memory>
+    requires base { base ≤ 2 ^ 40 }
+    requires high { high ≤ 110 }
+    ensures { OnOk result (text.new.items ≡ text.old.items ++ panels.numbers_at decided completed base high) }
+{
     let lost = decided.saturating_sub(completed);
-    let high = base.saturating_sub(100);
-    let low = base.saturating_sub(14);
+    let upper = base.saturating_sub(lost_height(high));
+    let lower = base.saturating_sub(completed_height(high));
     put(
         text,
         b"<text class='s' x='1296' y='@'>lost</text><text class='s' x='1296' y='@'>@</text>\n",
-        &[high, high + 12, lost],
+        &[upper, upper + 12, lost],
     )?;
     put(
         text,
         b"<text class='s' x='1296' y='@'>completed</text><text class='s' x='1296' y='@'>@</text>\n",
-        &[low, low + 12, completed],
+        &[lower, lower + 12, completed],
     )?;
     Ok(())
 }
 
 /// Appends the panel of the jobs that are ready, in columns: the outline, the words beside it, and its border.
-pub fn put_ready(
-    text: &mut Vec<u8>,
-    window: Window,
-    jobs: &[Job],
-    run: &[Event],
-) -> Result<(), Memory>
+pub fn put_ready(text: &mut Vec<u8>, window: Window, run: &[Event]) -> Result<(), Memory>
     requires { length run.now ≤ 5_000_001 }
-    ensures { OnOk result (text.new.items ≡ text.old.items ++ panels.ready window jobs.now run.now) }
+    ensures { OnOk result (text.new.items ≡ text.old.items ++ panels.ready window run.now) }
 {
-    let most = greatest(Measure::Ready, window, jobs, run);
-    let outline = measured(window, Measure::Ready, true, most, 222);
-    put_area(text, b'Q', &outline, jobs, run)?;
+    let most = most_ready(window, run);
+    put_ready_area(text, window, most, run)?;
     put(
         text,
         b"<text class='r' x='82' y='125'>ready jobs</text>\n\
@@ -137,6 +169,22 @@ pub fn put_ready(
         <text class='s' x='1296' y='122'>at most @</text>\n",
         &[most],
     )?;
+    Ok(())
+}
+
+/// Appends the outline of the ready jobs as an area.
+fn put_ready_area(
+    text: &mut Vec<u8>,
+    window: Window,
+    most: u64,
+    run: &[Event],
+) -> Result<(), Memory>
+    requires { length run.now ≤ 5_000_001 }
+    ensures { OnOk result (text.new.items ≡ text.old.items ++ panels.ready_area window most run.now) }
+{
+    put_area_front(text, b'Q')?;
+    put_peaks(text, window, most, run)?;
+    text.extend_from_slice(b"'/>\n")?;
     Ok(())
 }
 

@@ -50,7 +50,7 @@ pub fn meets(window: Window, from: u64, until: u64) -> bool
 pub fn has(window: Window, tick: u64) -> bool
     ensures { result ≡ plot.has window tick }
 {
-    window.from <= tick && tick <= window.until
+    window.from <= tick && tick < window.until
 }
 
 /// How many pixels the ticks from one to another take, at least so many.

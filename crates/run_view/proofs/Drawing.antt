@@ -17,7 +17,7 @@ use Rattle.intervals.specs.Rows.{IsRunOf}
 use Rattle.run_view.specs.Templates.{filled}
 use Rattle.run_view.specs.Stays.{stays_of}
 use Rattle.run_view.proofs.Joining.{whole}
-use Rattle.run_view.specs.Timeline.{window_or, first_tick, padded, labels_from, frame, meets, sign, signs_from}
+use Rattle.run_view.specs.Timeline.{window_or, first_tick, end_tick, padded, labels_from, frame, meets, sign, signs_from}
 use Rattle.run_view.specs.Timeline.{summed_up, job_line, job_lines, timeline}
 use Rattle.run_view.specs.declared.stays.Stay.{Stay}
 use Rattle.run_view.specs.declared.window.Window.{Window}
@@ -100,12 +100,12 @@ labels_all w more i text whole at before =
 module _ (w : Window) (own : List Stay) (ending : Option Ending) where
   -- one sign more
   pub signs_more : (behind column : ℕ) (text longer whole : List ℕ) → column < behind
-      → longer ≡ text ++ sign (first_tick w column) (first_tick w (column + 1)) own ending ∷ []
+      → longer ≡ text ++ sign (first_tick w column) (end_tick w column) own ending ∷ []
       → text ++ signs_from w own ending (behind - column) column ≡ whole
       → longer ++ signs_from w own ending (behind - (column + 1)) (column + 1) ≡ whole
   signs_more behind column text longer whole less grows before =
       let one : behind - column ≡ suc (behind - (column + 1)) = omega (arith, less) in
-      let mark = sign (first_tick w column) (first_tick w (column + 1)) own ending in
+      let mark = sign (first_tick w column) (end_tick w column) own ending in
       let rest = signs_from w own ending (behind - (column + 1)) (column + 1) in
       ap (λ t. t ++ rest) grows ∙ append_assoc text (mark ∷ []) rest
       ∙ ap (λ n. text ++ signs_from w own ending n column) (sym one) ∙ before

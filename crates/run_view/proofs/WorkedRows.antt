@@ -98,12 +98,25 @@ drawn_run = refl
 -- in a window, of which a column has many ticks
 drawn_window : timeline (Some (record { from = 5; until = 1_000 })) take_over ≡
     codes "jobs 3, completed 2 15, abandoned 1 2, taken 1, bound 60\n"
-    ++ codes "       ticks of a column: 13\n"
-    ++ codes "       5                   265                 525                 785\n"
+    ++ codes "       ticks of a column: 17\n"
+    ++ codes "       5                   345                 685\n"
     ++ codes "     0 #. 3\n"
     ++ codes "     2 # 12\n"
 unfolding digits filled
 drawn_window = refl
+
+-- the last column ends with its window, here behind tick 60: that job 1 runs at tick 61 isn't shown
+abbrev late : Instance
+late = one 1 1 (job 0 61 61 61 ∷ job 0 2 300 2 ∷ [])
+
+drawn_last : timeline (Some (record { from = 0; until = 61 })) late ≡
+    codes "jobs 2, completed 2 63, abandoned 0 0, taken 0, bound 252\n"
+    ++ codes "       ticks of a column: 2\n"
+    ++ codes "       0                   40\n"
+    ++ codes "     0 ############################### 61\n"
+    ++ codes "     1 ............................... 2\n"
+unfolding digits filled
+drawn_last = refl
 
 -- no job has a tick there
 drawn_nothing : timeline (Some (record { from = 40; until = 50 })) take_over ≡
@@ -116,8 +129,8 @@ drawn_nothing = refl
 -- a window of all ticks that a number may name
 drawn_wide : timeline (Some (record { from = 0; until = 18_446_744_073_709_551_615 })) take_over ≡
     codes "jobs 3, completed 2 15, abandoned 1 2, taken 1, bound 60\n"
-    ++ codes "       ticks of a column: 230584300921369396\n"
-    ++ codes "       0                   4611686018427387920 9223372036854775840 13835058055282163760\n"
+    ++ codes "       ticks of a column: 307445734561825861\n"
+    ++ codes "       0                   6148914691236517220 12297829382473034440\n"
     ++ codes "     0 # 3\n"
     ++ codes "     1 X -2\n"
     ++ codes "     2 ! 12\n"

@@ -22,9 +22,9 @@ abbrev pub window_or : Option Window → List JobFacts → Window
 window_or None jobs = record { from = 0; until = max 1 (last_deadline jobs) }
 window_or (Some w) jobs = w
 
--- the ticks of a column: as few as make it at most 80 columns
+-- the ticks of a column: as few as make it at most 60 columns, so that no line of a job has more than 80 signs
 abbrev pub column_ticks : Window → ℕ
-column_ticks w = (w.until - w.from - 1) / 80 + 1
+column_ticks w = (w.until - w.from - 1) / 60 + 1
 
 -- the column of a tick, and the first column for a tick before the window
 abbrev pub column_of : Window → ℕ → ℕ
@@ -33,6 +33,10 @@ column_of w t = (t - w.from) / column_ticks w
 -- the first tick of a column
 abbrev pub first_tick : Window → ℕ → ℕ
 first_tick w column = w.from + column * column_ticks w
+
+-- the tick behind the last one of a column, which is the window's at the latest
+abbrev pub end_tick : Window → ℕ → ℕ
+end_tick w column = min (first_tick w (column + 1)) w.until
 
 -- ---- the frame
 
@@ -110,7 +114,7 @@ meets w j = nat_lt (max j.release w.from) (min j.deadline w.until)
 abbrev pub signs_from : Window → List Stay → Option Ending → (more column : ℕ) → Text
 signs_from w stays ending zero column = []
 signs_from w stays ending (suc more) column =
-    sign (first_tick w column) (first_tick w (column + 1)) stays ending ∷ signs_from w stays ending more (column + 1)
+    sign (first_tick w column) (end_tick w column) stays ending ∷ signs_from w stays ending more (column + 1)
 
 -- a sign for each column from that of its release to that of the tick before its deadline
 abbrev pub signs : Window → JobFacts → List Stay → Option Ending → Text

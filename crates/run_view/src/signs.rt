@@ -35,7 +35,7 @@ pub fn put_signs(
     put_blanks(text, first)?;
     for column in first..last + 1 {
         let from = window.first_tick(column);
-        let until = window.first_tick(column + 1);
+        let until = window.end_tick(column);
         text.push(sign(from, until, own, ending))?;
     }
     Ok(())

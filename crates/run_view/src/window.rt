@@ -1,5 +1,5 @@
 //! A part of a run's time, and its columns.
-ghost use Rattle.std.specs.Prelude.{◌≡◌, ◌≤◌};
+ghost use Rattle.std.specs.Prelude.{◌≡◌, ◌≤◌, ◌<◌, ◌+◌, ◌^◌};
 ghost use Rattle.run_view.specs.Timeline as picture;
 
 use dover_model::Job;
@@ -14,11 +14,11 @@ pub struct Window {
 }
 
 impl Window {
-    /// The ticks of a column of its picture for a terminal: as few as make it at most 80 columns.
+    /// The ticks of a column of its picture for a terminal: as few as make it at most 60 columns.
     pub(crate) fn column_ticks(&self) -> u64
         ensures { result ≡ picture.column_ticks self.now }
     {
-        self.until.saturating_sub(self.from).saturating_sub(1) / 80 + 1
+        self.until.saturating_sub(self.from).saturating_sub(1) / 60 + 1
     }
 
     /// The column of a tick, the first one for a tick before the window.
@@ -34,6 +34,14 @@ impl Window {
         ensures { result ≡ picture.first_tick self.now column }
     {
         u128::from(self.from) + u128::from(column) * u128::from(self.column_ticks())
+    }
+
+    /// The tick behind the last one of a column, which is the window's at the latest.
+    pub(crate) fn end_tick(&self, column: u64) -> u128
+        requires { column + 1 < 2 ^ 64 }
+        ensures { result ≡ picture.end_tick self.now column }
+    {
+        self.first_tick(column + 1).min(u128::from(self.until))
     }
 
     /// Whether some tick of the job's, from its release on and before its deadline, is in the window.

@@ -34,7 +34,7 @@ pub going_is : (until : ℕ) (p : Progress) (text : TaskText) (x : List ℕ) →
     → is_going p ≡ is_open (account until x)
 going_is until progress.Open text x it = sym (ap goes_on it.keeps.stands)
 going_is until progress.Ended text x it = sym (ap goes_on it.0)
-going_is until (progress.Refused cause) text x it = sym (ap goes_on it)
+going_is until (progress.Refused cause) text x it = sym (ap goes_on it.0)
 going_is until progress.NoMemory text x it = absurd it
 
 -- what is kept of a text that goes on
@@ -43,5 +43,5 @@ pub going_stands : (until : ℕ) (p : Progress) (text : TaskText) (x : List ℕ)
 going_stands until progress.Open text x it on = it
 going_stands until progress.Ended text x it on = absurd (let e : false ≡ true = ap goes_on (sym it.0) ∙ on in cc)
 going_stands until (progress.Refused cause) text x it on =
-    absurd (let e : false ≡ true = ap goes_on (sym it) ∙ on in cc)
+    absurd (let e : false ≡ true = ap goes_on (sym it.0) ∙ on in cc)
 going_stands until progress.NoMemory text x it on = absurd it

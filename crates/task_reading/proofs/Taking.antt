@@ -8,6 +8,7 @@ use Rattle.std.proofs.lemmas.List.{map-append}
 use Rattle.dover_model.specs.declared.events.Refusal.{Refusal}
 use Rattle.dover_model.specs.declared.events.Refusal.TheVariants as refusal
 use Rattle.dover_model.specs.Limits.{most_lines}
+use Rattle.dover_model.specs.Lines.{lines_of}
 use Rattle.dover_model.specs.Fraction.{Fraction}
 use Rattle.dover_model.specs.JobFacts.{JobFacts, job_of_numbers}
 use Rattle.dover_model.specs.Instance.{Rules}
@@ -16,7 +17,8 @@ use Rattle.dover_model.specs.Feed as feed
 use Rattle.dover_model.specs.Feed.{Open, Faulty, NotAdmitted, declared_rules, rules_with}
 use Rattle.dover_model.proofs.Accounts.{declared_ratio}
 use Rattle.admission.specs.Kept as admission
-use Rattle.admission.specs.Answers.{refusal_of_refused}
+use Rattle.admission.specs.Answers as admitting
+use Rattle.admission.specs.Answers.{refusal_of_refused, IsOther}
 use Rattle.admission.specs.declared.refused.Refused.{Refused}
 use Rattle.admission.specs.declared.refused.Refused.TheVariants as refused
 use Rattle.event_feed.specs.Kept.{cause_of_fault, cause_of_refused}
@@ -28,6 +30,7 @@ use Rattle.periodic_tasks.specs.declared.task.PeriodicTask.{PeriodicTask}
 use Rattle.periodic_tasks.proofs.Together.{no_tasks, tasks_more}
 use Rattle.task_reading.specs.Account.{TaskAccount, fraction, with_line, cause_of, cause_under, account_of_lines}
 use Rattle.task_reading.specs.Account.{account}
+use Rattle.task_reading.specs.Faults.{NamesOther, NamesAt, NamesIn}
 use Rattle.task_reading.specs.Lines.{task_line}
 use Rattle.task_reading.specs.Keeping.{IsKnown, Keeps, KeepsDeclared, KeepsRules, KeepsAccount, StandsAt}
 use Rattle.task_reading.specs.declared.intake.Declaration.{Declaration}
@@ -108,6 +111,36 @@ module _ (until : ℕ) (task : PeriodicTask) (rules : Rules) (tasks : List Perio
             (job_is ∙ tested) stands)
             same version,
       )
+
+module _ (until : ℕ) (task : PeriodicTask) (rules : Rules) (tasks : List PeriodicTask) (old : Declaration)
+    (keeps : KeepsDeclared until old rules tasks) where
+  -- a tested job that isn't admitted names the other one
+  pub named : (release : ℕ) → release ≡ task.offset + (count_before until task - 1) * task.period → (r : Refused)
+      → admitting.NamesOther old.admission.ratio (map (tested_job until) tasks)
+      (job_of_numbers release task.work (release + task.deadline) task.value) r
+      → NamesOther until (Some (Task task)) (Some rules) tasks (cause_of_refused r)
+  named release is refused.BadJob names = tt
+  named release is refused.Count names = tt
+  named release is refused.Total names = tt
+  named release is (refused.Ratio other) names = record {
+    under = rules;
+    rules_are = refl;
+    task = task;
+    line_is = refl;
+    earlier = subst (λ k. IsOther k (map (tested_job until) tasks) (tested_job until task) other)
+        (sym (ap (λ (r : Rules). r.ratio) keeps.rules_are))
+        (subst (λ j. IsOther old.admission.ratio (map (tested_job until) tasks) j other)
+        (ap (λ r. job_of_numbers r task.work (r + task.deadline) task.value) is) names);
+  }
+
+-- where the ratio is declared, the task that it is taken behind is named, whatever the rules are
+pub named_in : (until : ℕ) (task : PeriodicTask) (d : Declaration) (cause : Fault) (rules : Option Rules)
+    (tasks : List PeriodicTask) → KeepsRules until (Some d) rules tasks
+    → ((r : Rules) (ts : List PeriodicTask) → KeepsDeclared until d r ts
+    → NamesOther until (Some (Task task)) (Some r) ts cause)
+    → NamesOther until (Some (Task task)) rules tasks cause
+named_in until task d cause None tasks keeps names = absurd keeps
+named_in until task d cause (Some rules) tasks keeps names = names rules tasks keeps
 
 -- ---- the end line
 
@@ -306,6 +339,24 @@ module _ (until : ℕ) (old mid : TaskIntake) (ls : List (List ℕ)) (l : List �
         ∙ many_lines until a l (omega (arith, many, lines_are, keeps.keeps.counted)))
         ∙ ap (λ n. Faulty n feed.Lines)
         (let e : a.lines ≡ mid.lines = omega (arith, lines_are, keeps.keeps.counted) in e)
+
+-- that a line is counted changes nothing of what it names
+pub named_before : (until : ℕ) (l : Option TaskLine) (a : TaskAccount) (p : Progress) → NamesAt until l (counted a) p
+    → NamesAt until l a p
+named_before until l a progress.Open names = tt
+named_before until l a progress.Ended names = tt
+named_before until l a (progress.Refused cause) names = names
+named_before until l a progress.NoMemory names = tt
+
+-- the last line of a text names the other task
+pub named_at : (until : ℕ) (p : Progress) (bytes : List ℕ) (ls : List (List ℕ)) (l : List ℕ)
+    → lines_of bytes ≡ ls ++ l ∷ [] → (account_of_lines until ls).standing ≡ Open
+    → NamesAt until (task_line l) (account_of_lines until ls) p → NamesIn until p bytes
+named_at until progress.Open bytes ls l is good names = tt
+named_at until progress.Ended bytes ls l is good names = tt
+named_at until (progress.Refused cause) bytes ls l is good names =
+    record { before = ls; line = l; lines = is; good = good; other = names }
+named_at until progress.NoMemory bytes ls l is good names = tt
 
 -- a text that goes on behind a line
 pub keeps_more : (until : ℕ) (new : TaskIntake) (ls : List (List ℕ)) → new.lines ≤ most_lines

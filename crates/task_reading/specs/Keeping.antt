@@ -14,6 +14,7 @@ use Rattle.periodic_tasks.specs.Tasks.{tested_job}
 use Rattle.periodic_tasks.specs.Limits.{AreTasks}
 use Rattle.periodic_tasks.specs.declared.task.PeriodicTask.{PeriodicTask}
 use Rattle.task_reading.specs.Account.{TaskAccount, account_of_lines, account, cause_under}
+use Rattle.task_reading.specs.Faults.{NamesFault}
 use Rattle.task_reading.specs.declared.lines.TaskLine.TheVariants.{Task}
 use Rattle.task_reading.specs.declared.intake.Declaration.{Declaration}
 use Rattle.task_reading.specs.declared.intake.TaskIntake.{TaskIntake}
@@ -80,7 +81,7 @@ abbrev pub IsSo : (until : ℕ) → Progress → TaskText → List ℕ → Type 
 IsSo until progress.Open text bytes = TextStands until text bytes
 IsSo until progress.Ended text bytes = StandsAt until progress.Ended text.intake (account until bytes)
 IsSo until (progress.Refused cause) text bytes =
-    StandsAt until (progress.Refused cause) text.intake (account until bytes)
+    StandsAt until (progress.Refused cause) text.intake (account until bytes) × NamesFault until cause bytes
 IsSo until progress.NoMemory text bytes = ⊥
 
 -- the reader stands for the bytes

@@ -1,4 +1,5 @@
 pub mod Lines
 pub mod Account
+pub mod Faults
 pub mod Keeping
 pub mod Record

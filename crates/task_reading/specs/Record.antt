@@ -9,6 +9,7 @@ use Rattle.event_feed.specs.Kept.{cause_of_fault}
 use Rattle.event_feed.specs.declared.faults.FeedFault.{FeedFault}
 use Rattle.periodic_tasks.specs.Limits.{AreTasks}
 use Rattle.task_reading.specs.Account.{account, is_open}
+use Rattle.task_reading.specs.Faults.{NamesFault}
 use Rattle.task_reading.specs.declared.listed.ListedTasks.{ListedTasks}
 
 -- the rules that were declared
@@ -23,7 +24,10 @@ pub record IsEnded (until : ℕ) (listed : ListedTasks) (bytes : List ℕ) : Typ
   pub ratio : IsRatio (listed_rules listed).ratio
   pub are : AreTasks until (listed_rules listed).ratio listed.tasks.items
 
--- this is the fault of the text, or the text goes on and this says that it is short
+-- this is the fault of the text, with the other task named where the ratio is broken, or the text goes on and this says
+-- that it is short
 abbrev pub IsRefusedBy : (until : ℕ) → FeedFault → List ℕ → Type 0
-IsRefusedBy until fault bytes = ((account until bytes).standing ≡ Faulty fault.line (cause_of_fault fault.cause))
+IsRefusedBy until fault bytes =
+    (((account until bytes).standing ≡ Faulty fault.line (cause_of_fault fault.cause))
+    × NamesFault until fault.cause bytes)
     ⊎ ((is_open (account until bytes) ≡ true) × (fault ≡ short_after (length (whole_lines bytes))))

@@ -1,11 +1,12 @@
 //! What is kept of a task text between its lines.
-ghost use Rattle.std.specs.Prelude.{◌≡◌, ℕ, List, ◌∷◌, ◌++◌, [], Option, Some};
+ghost use Rattle.std.specs.Prelude.{◌≡◌, ℕ, List, ◌∷◌, ◌++◌, [], Option, Some, IfErr};
 ghost use Rattle.dover_model.specs.Instance.{Rules};
 ghost use Rattle.dover_model.specs.Feed as feed;
 ghost use Rattle.periodic_tasks.specs.declared.task.PeriodicTask.{PeriodicTask};
 ghost use Rattle.task_reading.specs.Account.{TaskAccount, account_of_lines, cause_of, with_line};
 ghost use Rattle.task_reading.specs.Keeping.{IsKnown, Keeps, KeepsAccount, KeepsDeclared, KeepsRules, StandsAt, Takes};
-ghost use Rattle.task_reading.specs.Lines.{HasNumerals};
+ghost use Rattle.task_reading.specs.Faults.{NamesOther, NamesAt};
+ghost use Rattle.task_reading.specs.Lines.{HasNumerals, task_line};
 ghost use Rattle.task_reading.specs.declared.lines.TaskLine.{TaskLine};
 ghost use Rattle.task_reading.specs.declared.intake.Progress.TheVariants as progress;
 ghost use Rattle.task_reading.specs.declared.lines.TaskLine.TheVariants as line;
@@ -46,8 +47,10 @@ impl Declaration {
     fn take(&mut self, task: &PeriodicTask, until: u64) -> Result<(), Cause>
         requires known { IsKnown until }
         requires short { HasNumerals (line.Task task.now) }
-        ensures { (rules : Rules) (tasks : List PeriodicTask) → KeepsDeclared until self.old rules tasks →
+        ensures takes { (rules : Rules) (tasks : List PeriodicTask) → KeepsDeclared until self.old rules tasks →
             Takes until task.now (Some rules) tasks (Some self.new) result }
+        ensures names { (rules : Rules) (tasks : List PeriodicTask) → KeepsDeclared until self.old rules tasks →
+            IfErr result (λ cause. NamesOther until (Some (line.Task task.now)) (Some rules) tasks cause) }
     {
         if task.period == 0 {
             return Err(Cause::BadJob);
@@ -70,8 +73,10 @@ impl Declaration {
 fn take_in(declared: &mut Option<Declaration>, task: &PeriodicTask, until: u64) -> Result<(), Cause>
     requires known { IsKnown until }
     requires short { HasNumerals (line.Task task.now) }
-    ensures { (rules : Option Rules) (tasks : List PeriodicTask) → KeepsRules until declared.old rules tasks →
+    ensures takes { (rules : Option Rules) (tasks : List PeriodicTask) → KeepsRules until declared.old rules tasks →
         Takes until task.now rules tasks declared.new result }
+    ensures names { (rules : Option Rules) (tasks : List PeriodicTask) → KeepsRules until declared.old rules tasks →
+        IfErr result (λ cause. NamesOther until (Some (line.Task task.now)) rules tasks cause) }
 {
     match declared {
         Some(declared) => declared.take(task, until),
@@ -108,6 +113,7 @@ impl TaskIntake {
         ensures stands { (until : ℕ) (a : TaskAccount) → a.standing ≡ feed.Open → KeepsAccount until self.old a →
             StandsAt until result self.new
             (with_line a (line.Declared p q version) (cause_of until a (line.Declared p q version))) }
+        ensures names { (until : ℕ) (line : Option TaskLine) (a : TaskAccount) → NamesAt until line a result }
         ensures lines { self.new.lines ≡ self.old.lines }
     {
         if self.declared.is_some() {
@@ -131,6 +137,8 @@ impl TaskIntake {
         requires short { HasNumerals (line.Task task) }
         ensures stands { (until : ℕ) (a : TaskAccount) → a.standing ≡ feed.Open → KeepsAccount until self.old a →
             StandsAt until result self.new (with_line a (line.Task task) (cause_of until a (line.Task task))) }
+        ensures names { (until : ℕ) (a : TaskAccount) → KeepsAccount until self.old a →
+            NamesAt until (Some (line.Task task)) a result }
         ensures lines { self.new.lines ≡ self.old.lines }
     {
         match take_in(&mut self.declared, &task, self.until) {
@@ -145,8 +153,9 @@ impl TaskIntake {
 
     /// The line of the end, which is counted.
     fn end(&self) -> Progress
-        ensures { (until : ℕ) (a : TaskAccount) → a.standing ≡ feed.Open → KeepsAccount until self.now a →
+        ensures stands { (until : ℕ) (a : TaskAccount) → a.standing ≡ feed.Open → KeepsAccount until self.now a →
             StandsAt until result self.now (with_line a line.End (cause_of until a line.End)) }
+        ensures names { (until : ℕ) (line : Option TaskLine) (a : TaskAccount) → NamesAt until line a result }
     {
         if self.declared.is_none() {
             return Progress::Refused(Cause::Declared);
@@ -160,6 +169,8 @@ impl TaskIntake {
         requires short { HasNumerals read }
         ensures stands { (until : ℕ) (a : TaskAccount) → a.standing ≡ feed.Open → KeepsAccount until self.old a →
             StandsAt until result self.new (with_line a read (cause_of until a read)) }
+        ensures names { (until : ℕ) (a : TaskAccount) → KeepsAccount until self.old a →
+            NamesAt until (Some read) a result }
         ensures lines { self.new.lines ≡ self.old.lines }
     {
         match read {
@@ -176,6 +187,8 @@ impl TaskIntake {
             StandsAt until result self.new (account_of_lines until (ls ++ line.now ∷ [])) }
         ensures keeps { (until : ℕ) (ls : List (List ℕ)) → Keeps until self.old ls → result ≡ progress.Open →
             Keeps until self.new (ls ++ line.now ∷ []) }
+        ensures names { (until : ℕ) (ls : List (List ℕ)) → Keeps until self.old ls →
+            NamesAt until (task_line line.now) (account_of_lines until ls) result }
     {
         self.lines += 1;
         if self.lines > MOST_LINES {

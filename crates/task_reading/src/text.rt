@@ -2,6 +2,7 @@
 ghost use Rattle.std.specs.Prelude.{◌≡◌, ◌<◌, ◌∷◌, ◌++◌, ℕ, List, [], length};
 ghost use Rattle.line_text.specs.Cutting.{IsWholeLine};
 ghost use Rattle.task_reading.specs.Account.{account};
+ghost use Rattle.task_reading.specs.Faults.{NamesIn};
 ghost use Rattle.task_reading.specs.Keeping.{IsKnown, StandsAt, TextStands};
 ghost use Rattle.task_reading.specs.declared.intake.Progress.TheVariants.{Open};
 
@@ -35,6 +36,8 @@ impl TaskText {
             StandsAt until result self.new.intake (account until (x ++ byte ∷ [])) }
         ensures stands { (until : ℕ) (x : List ℕ) → TextStands until self.old x → result ≡ Open
             → TextStands until self.new (x ++ byte ∷ []) }
+        ensures names { (until : ℕ) (x : List ℕ) → TextStands until self.old x →
+            NamesIn until result (x ++ byte ∷ []) }
     {
         match self.lines.push(byte) {
             Step::More => Progress::Open,
@@ -52,6 +55,8 @@ impl TaskText {
             StandsAt until result self.new.intake (account until (x ++ bytes.now)) }
         ensures stands { (until : ℕ) (x : List ℕ) → TextStands until self.old x → result ≡ Open
             → TextStands until self.new (x ++ bytes.now) }
+        ensures names { (until : ℕ) (x : List ℕ) → TextStands until self.old x →
+            NamesIn until result (x ++ bytes.now) }
     {
         if bytes.len() > 1 {
             return self.intake.take_line(self.lines.pass(bytes));

@@ -14,6 +14,10 @@ const TAKEN: &str =
     "dover 1 1 1\njob 0 0 3 30 3\nrun 0 0\njob 1 0 2 4 2\npreempt 0 0 1\njob 2 0 12 12 12\ntake 0 1 2\n\
     abandon 2 1\ncomplete 12 2\nrun 12 0\ncomplete 15 0\nend 15\n";
 
+/// The trace of a run in which a job waits until tick 61.
+const LATE: &str =
+    "dover 1 1 1\njob 0 0 61 61 61\nrun 0 0\njob 1 0 2 300 2\ncomplete 61 0\nrun 61 1\ncomplete 63 1\nend 63\n";
+
 /// The trace of a minute of frames, telemetry, alarms and one upload, by tenths of a second.
 const MINUTE: &str = "dover 1 5 1\njob 0 0 60 90 60\nrun 0 0\njob 1 10 5 30 25\npreempt 10 0 1\n\
     complete 15 1\nrun 15 0\n\
@@ -33,7 +37,7 @@ const MINUTE: &str = "dover 1 5 1\njob 0 0 60 90 60\nrun 0 0\njob 1 10 5 30 25\n
     run 575 22\ncomplete 595 22\nend 995\n";
 
 /// Traces, and what is written for each form that is asked for.
-const RUNS: [(&str, &[(&[&str], &str)]); 4] = [
+const RUNS: [(&str, &[(&[&str], &str)]); 5] = [
     (
         EMPTY,
         &[
@@ -152,8 +156,8 @@ const RUNS: [(&str, &[(&[&str], &str)]); 4] = [
             (
                 &["report", "timeline", "5", "1000"],
                 r#"jobs 3, completed 2 15, abandoned 1 2, taken 1, bound 60
-       ticks of a column: 13
-       5                   265                 525                 785
+       ticks of a column: 17
+       5                   345                 685
      0 #. 3
      2 # 12
 "#,
@@ -166,6 +170,19 @@ const RUNS: [(&str, &[(&[&str], &str)]); 4] = [
 "#,
             ),
         ],
+    ),
+    (
+        LATE,
+        &[(
+            // the last column has no tick behind its window
+            &["report", "timeline", "0", "61"],
+            r#"jobs 2, completed 2 63, abandoned 0 0, taken 0, bound 252
+       ticks of a column: 2
+       0                   40
+     0 ############################### 61
+     1 ............................... 2
+"#,
+        )],
     ),
     (
         MINUTE,
@@ -221,32 +238,32 @@ const RUNS: [(&str, &[(&[&str], &str)]); 4] = [
             (
                 &["report", "timeline"],
                 r#"jobs 24, completed 19 995, abandoned 5 275, taken 1, bound 10419
-       ticks of a column: 8
-       0                   160                 320                 480
-     0 ##########.. 60
-     1  #.. 25
-     2       #.. 25
-     3         ## 50
-     4             #######-###. 60
-     5              ##.. 25
-     6                .X..... -40
-     7                ##.. 25
-     8                   ## 50
-     9                          ###########. 80
-    10                           X.. -100
-    11                           ##.. 25
-    12                                      -#########.. 60
-    13                                      ##. 25
-    14                                      .#. 25
-    15                                              .######. 30
-    16                                                ## 50
-    17                                                   .######-X... -60
-    18                                                     ##. 25
-    19                                                         !############ 300
-    20                                                         ..X. -25
-    21                                                          X. -50
-    22                                                                       ##### 30
-    23                                                                        #.. 25
+       ticks of a column: 10
+       0                   200                 400
+     0 ########. 60
+     1  #. 25
+     2      #. 25
+     3       ## 50
+     4           #####-##. 60
+     5            #. 25
+     6             .X... -40
+     7             #.. 25
+     8                # 50
+     9                     ######### 80
+    10                      X. -100
+    11                      #.. 25
+    12                               -######.. 60
+    13                               #. 25
+    14                               #. 25
+    15                                     .#-##. 30
+    16                                       # 50
+    17                                         .####-X.. -60
+    18                                           #. 25
+    19                                              !######### 300
+    20                                              ..X -25
+    21                                               X -50
+    22                                                         #### 30
+    23                                                          #. 25
 "#,
             ),
             (

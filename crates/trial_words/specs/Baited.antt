@@ -10,6 +10,7 @@ use Rattle.dover_model.specs.Schedules.{worth}
 use Rattle.dover_model.specs.Lines.{with_numbers, in_lines}
 use Rattle.dover_port.specs.Moves.{Move}
 use Rattle.dover_port.specs.declared.status.Status.{Status}
+use Rattle.dialogue.specs.Sizes.{size_text}
 use Rattle.adversary.specs.Baiting.{FitsLimits}
 use Rattle.adversary.specs.BaitingRuns.{baiting}
 use Rattle.trial_words.specs.Record.{Writes, Refuses}
@@ -28,10 +29,6 @@ bait_text k rounds = let value = completed_value (bait_instance k rounds) in in_
     ∷ with_numbers (codes "bound") (bound k value ∷ [])
     ∷ []
     )
-
--- what is written of any other
-abbrev pub size_text : List ℕ
-size_text = in_lines (codes "refused size" ∷ [])
 
 -- Of baiting jobs that fit the limits, what their run comes to was put, and of others that they don't.
 abbrev pub Baits : Fraction → (rounds : ℕ) → Status → List Move → Type 0

@@ -36,7 +36,7 @@ use Rattle.unroll_word.proofs.Feeding.{feed_is}
 refusal_is : (until : ℕ) (fault : FeedFault) (x : List ℕ) → IsRefusedBy until fault x
     → fault_text fault.line (cause_of_fault fault.cause) ++ 10 ∷ [] ≡ refusal_text until x
 refusal_is until fault x (inl faulty) =
-    sym (append-nil _) ∙ sym (ap (λ s. in_lines (refusal_lines (length (whole_lines x)) s)) faulty)
+    sym (append-nil _) ∙ sym (ap (λ s. in_lines (refusal_lines (length (whole_lines x)) s)) faulty.0)
 refusal_is until fault x (inr short) =
     ap (λ (f : FeedFault). fault_text f.line (cause_of_fault f.cause) ++ 10 ∷ []) short.1 ∙ sym (append-nil _)
     ∙ sym (ap (λ s. in_lines (refusal_lines (length (whole_lines x)) s)) (open_by_test (account until x) short.0))
@@ -44,7 +44,7 @@ refusal_is until fault x (inr short) =
 -- a line is at fault, or the input has ended
 refused_at : (until : ℕ) (fault : FeedFault) (x : List ℕ) (ended : Bool) → IsRefusedBy until fault x
     → IsOver (unroll_talk until) x ended → IsRefusedAt until x ended
-refused_at until fault x ended (inl faulty) over = inl (fault.line, cause_of_fault fault.cause, faulty)
+refused_at until fault x ended (inl faulty) over = inl (fault.line, cause_of_fault fault.cause, faulty.0)
 refused_at until fault x ended (inr short) over = inr (sym over ∙ short.0, short.0)
 
 -- this line is an answer

@@ -5,12 +5,13 @@ use Rattle.dover_model.specs.Instance.{Rules}
 use Rattle.dover_port.specs.declared.status.Status.{Status}
 use Rattle.dover_port.specs.declared.status.Status.TheVariants.{Done, Refused}
 use Rattle.dialogue.specs.Talk.{Talk}
+use Rattle.dialogue.specs.Sizes.{size_text}
 use Rattle.periodic_tasks.specs.Tasks.{unrolled}
 use Rattle.periodic_tasks.specs.Limits.{Fits}
 use Rattle.periodic_tasks.specs.declared.task.PeriodicTask.{PeriodicTask}
 use Rattle.task_reading.specs.Account.{account, is_open}
 use Rattle.unroll_word.specs.Feeds.{IsFeedOf}
-use Rattle.unroll_word.specs.Texts.{refusal_text, size_text}
+use Rattle.unroll_word.specs.Texts.{refusal_text}
 
 -- what is said of tasks: Done with the feed of all jobs that they release before a tick, and Refused exactly where
 -- these are too many for a feed, or worth too much

@@ -1,5 +1,5 @@
 -- The texts that are put where tasks are refused.
-use Rattle.std.specs.Prelude.{ℕ, suc, List, [], ◌∷◌, length, codes}
+use Rattle.std.specs.Prelude.{ℕ, suc, List, [], ◌∷◌, length}
 use Rattle.dover_model.specs.Due.{fault_text}
 use Rattle.dover_model.specs.Feed.{Standing, Open, Ended, Faulty, Short}
 use Rattle.dover_model.specs.Lines.{whole_lines, in_lines}
@@ -14,7 +14,3 @@ refusal_lines whole (Faulty line cause) = fault_text line cause ∷ []
 -- what refuses the task text of these bytes where the input ends behind them
 abbrev pub refusal_text : (until : ℕ) → List ℕ → List ℕ
 refusal_text until bytes = in_lines (refusal_lines (length (whole_lines bytes)) (account until bytes).standing)
-
--- what is said of tasks with too many jobs, or whose jobs are worth too much
-abbrev pub size_text : List ℕ
-size_text = in_lines (codes "refused size" ∷ [])

@@ -1,6 +1,6 @@
 use Rattle.std.proofs.Common.{refl}
 use Rattle.dover_port.proofs.Made.{since_weaker}
-use Rattle.dover_top.proofs.Saying.{asked_frugal, carried}
+use Rattle.dover_top.proofs.Saying.{carried}
 use Rattle.dover_top.proofs.carrying.carry_out.Goals as goal
 
 pub returns-in-Serve-clause-carries : goal.returns-in-Serve-clause-carries
@@ -25,8 +25,7 @@ returns-in-Bait-clause-carries g c = let w = c.bait_word.ensures in
 
 pub returns-in-Ask-clause-carries : goal.returns-in-Ask-clause-carries
 returns-in-Ask-clause-carries g c = let w = c.question_word.ensures in
-    carried _ _ _ _ _ _ _ c.in-Ask.is w.talks w.ends (since_weaker _ _ _ _ w.count
-    (λ moves few. asked_frugal c.in-Ask.question c.question_word.result _ _ moves few)) (λ _. tt)
+    carried _ _ _ _ _ _ _ c.in-Ask.is w.talks w.ends w.count (λ _. tt)
 
 pub returns-in-Lanes-clause-carries : goal.returns-in-Lanes-clause-carries
 returns-in-Lanes-clause-carries g c = let w = c.lanes_word.ensures in

@@ -1,7 +1,5 @@
 use Rattle.std.proofs.Common.{refl}
 use Rattle.dover_port.proofs.Made.{since_weaker}
-use Rattle.dover_port.specs.Moves.{ins}
-use Rattle.question_words.proofs.Counts.{frugal}
 use Rattle.question_words.proofs.question.question_word.Goals as goal
 
 pub converse-requires : goal.converse-requires
@@ -25,4 +23,4 @@ pub returns-clause-count : goal.returns-clause-count
 returns-clause-count g c = since_weaker _ _ _ _ (c.converse.ensures.talks
     (record { question = c.args.question; before = c.args.steps.now })
     (record { asks = refl; reads = c.new.ensures; counts = refl }))
-    (λ moves it done S is. frugal (ins moves) c.args.steps.now c.converse.new.meter it.1 S is)
+    (λ moves it. it.1)

@@ -19,7 +19,7 @@ loop-event-preserved c =
           c.loop-event-test.true
           (ap (λ n. tower_before o x number n
           ++ towers_from o jobs n (in_column o.measure o.window jobs x n number e) rest)
-          (sym c.column_of-next.ensures)
+          (sym c.column_of-next.ensures.is)
           ∙ ap (λ s. tower_before o x number next ++ towers_from o jobs next s rest)
           (sym c.in_column-number.ensures.is))
           c.in_ok-put_tower_before.ensures c.loop-event.invariant.is;

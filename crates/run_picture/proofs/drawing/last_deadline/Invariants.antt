@@ -1,12 +1,15 @@
-use Rattle.std.proofs.Common.{◌≡◌, drop}
+use Rattle.std.proofs.Common.{◌≡◌, ◌≤◌, drop}
 use Rattle.std.specs.Prelude.{nat_le, if◌then◌else◌}
 use Rattle.std.specs.List.{fold}
 use Rattle.dover_model.specs.JobFacts.{JobFacts}
+use Rattle.dover_model.specs.Limits.{last_tick}
 use Rattle.dover_model.specs.Run.{last_deadline}
 use Rattle.run_picture.proofs.drawing.last_deadline.Given as goal
 
 -- the greatest deadline so far, and those to come
 abbrev pub invariant-loop-job : goal.invariant-loop-job
-invariant-loop-job l =
-    fold (λ d (j : JobFacts). if nat_le d j.deadline then j.deadline else d) l.last (drop l.job-index l.jobs)
-    ≡ last_deadline l.jobs
+invariant-loop-job l = record {
+  is : fold (λ d (j : JobFacts). if nat_le d j.deadline then j.deadline else d) l.last (drop l.job-index l.jobs)
+      ≡ last_deadline l.jobs;
+  known : l.last ≤ last_tick;
+}

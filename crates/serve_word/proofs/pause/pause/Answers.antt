@@ -10,19 +10,21 @@ pub new-requires : goal.new-requires
 new-requires g c = (
   c.requires.0,
   taken_to c.args.feed c.requires.0 c.requires.1 c.requires.2 c.into_lane-lane.result c.into_lane-lane.ensures
-      c.in-Some.server (sym c.into_server.ensures ∙ c.in-Some.is) c.in-Err.fault c.in-Err.ensures
+      c.in-Some.server (sym c.into_server.ensures ∙ c.in-Some.is) c.in-Err.fault c.in-Err.ensures.answer
       c.mark-mark.result c.mark-mark.ensures,
 )
 
 pub returns-clause-text : goal.returns-clause-text
 returns-clause-text g c = λ x rests may. c.new.ensures.text x
     (taken_to c.args.feed x rests may c.into_lane-lane.result c.into_lane-lane.ensures c.in-Some.server
-    (sym c.into_server.ensures ∙ c.in-Some.is) c.in-Err.fault c.in-Err.ensures c.mark-mark.result c.mark-mark.ensures)
+    (sym c.into_server.ensures ∙ c.in-Some.is) c.in-Err.fault c.in-Err.ensures.answer
+    c.mark-mark.result c.mark-mark.ensures)
 
 pub returns-clause-paid : goal.returns-clause-paid
 returns-clause-paid g c = λ x start rests may paid. c.new.ensures.paid x start
     (taken_to c.args.feed x rests may c.into_lane-lane.result c.into_lane-lane.ensures c.in-Some.server
-    (sym c.into_server.ensures ∙ c.in-Some.is) c.in-Err.fault c.in-Err.ensures c.mark-mark.result c.mark-mark.ensures)
+    (sym c.into_server.ensures ∙ c.in-Some.is) c.in-Err.fault c.in-Err.ensures.answer
+    c.mark-mark.result c.mark-mark.ensures)
     (subst (λ o. HasPaid kept.HasPaid o start c.args.steps.now)
     (ap (λ (l : Lane Service). l.server) (sym c.into_lane-lane.ensures)
     ∙ (sym c.into_server.ensures ∙ c.in-Some.is)) paid)

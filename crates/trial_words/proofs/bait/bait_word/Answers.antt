@@ -5,7 +5,8 @@ use Rattle.dover_port.specs.declared.status.Status.TheVariants.{Done, WriteFault
 use Rattle.dover_port.proofs.Made.{since_weaker}
 use Rattle.adversary.specs.Baiting.{Baiting}
 use Rattle.adversary.specs.BaitingRuns.{CompletesLastAlone}
-use Rattle.trial_words.specs.Baited.{bait_instance, bait_text, size_text}
+use Rattle.dialogue.specs.Sizes.{size_text}
+use Rattle.trial_words.specs.Baited.{bait_instance, bait_text}
 use Rattle.trial_words.proofs.Summing.{of_text}
 use Rattle.trial_words.proofs.bait.bait_word.Goals as goal
 

@@ -3,7 +3,7 @@ use Rattle.dover_port.specs.declared.status.Status.TheVariants.{Done, Refused}
 use Rattle.periodic_tasks.specs.Tasks.{unrolled}
 use Rattle.task_reading.specs.Record.{listed_rules}
 use Rattle.unroll_word.specs.Feeds.{feed_of}
-use Rattle.unroll_word.specs.Texts.{size_text}
+use Rattle.dialogue.specs.Sizes.{size_text}
 use Rattle.unroll_word.proofs.Ending.{says_feed, passed, not_passed}
 use Rattle.unroll_word.proofs.answering.answer.Goals as goal
 

@@ -10,12 +10,14 @@ use Rattle.serve_word.proofs.serving.ServingTalker.answer.Goals as goal
 
 pub returns-in_default-clause-answers : goal.returns-in_default-clause-answers
 returns-in_default-clause-answers g c = λ a x at over.
-    let ended = (rw c.into_lane-lane.ensures at (c.in_default.ensures (lines_of (a.feed ++ x)) [])) at.rests.lane.stands
+    let ended = (rw c.into_lane-lane.ensures at (c.in_default.ensures.answer (lines_of (a.feed ++ x)) []))
+        at.rests.lane.stands
     in (tt, ([], done a Refuse x c.args._ended ended, rw c.requires.empty (passes_nothing _ [])))
 
 pub returns-then-not-goes_on-clause-answers : goal.returns-then-not-goes_on-clause-answers
 returns-then-not-goes_on-clause-answers g c = λ a x at over.
-    let why = (rw c.into_lane-lane.ensures at (c.in-Err.ensures (lines_of (a.feed ++ x)) [])) at.rests.lane.stands in
+    let why = (rw c.into_lane-lane.ensures at (c.in-Err.ensures.answer (lines_of (a.feed ++ x)) []))
+        at.rests.lane.stands in
     let goes = (rw c.into_lane-lane.ensures at (c.goes_on.ensures (lines_of (a.feed ++ x)) [])) at.rests.lane.stands
     in (
       tt,
@@ -28,7 +30,8 @@ returns-then-not-goes_on-clause-answers g c = λ a x at over.
 
 pub returns-in-Ok-clause-answers : goal.returns-in-Ok-clause-answers
 returns-in-Ok-clause-answers g c = λ a x at over.
-    let why = (rw c.into_lane-lane.ensures at (c.in-Err.ensures (lines_of (a.feed ++ x)) [])) at.rests.lane.stands in
+    let why = (rw c.into_lane-lane.ensures at (c.in-Err.ensures.answer (lines_of (a.feed ++ x)) []))
+        at.rests.lane.stands in
     let goes = (rw c.into_lane-lane.ensures at (c.goes_on.ensures (lines_of (a.feed ++ x)) [])) at.rests.lane.stands
     in (
       tt,
@@ -41,7 +44,8 @@ returns-in-Ok-clause-answers g c = λ a x at over.
 
 pub returns-clause-answers : goal.returns-clause-answers
 returns-clause-answers g c = λ a x at over.
-    let why = (rw c.into_lane-lane.ensures at (c.in-Err.ensures (lines_of (a.feed ++ x)) [])) at.rests.lane.stands in
+    let why = (rw c.into_lane-lane.ensures at (c.in-Err.ensures.answer (lines_of (a.feed ++ x)) []))
+        at.rests.lane.stands in
     let goes = (rw c.into_lane-lane.ensures at (c.goes_on.ensures (lines_of (a.feed ++ x)) [])) at.rests.lane.stands
     in (
       Refused,

@@ -1,7 +1,8 @@
-use Rattle.std.proofs.Common.{◌+◌, ◌∷◌, ◌++◌, [], refl, subst, arith}
+use Rattle.std.proofs.Common.{◌+◌, ◌∷◌, ◌++◌, [], refl, sym, subst, arith}
 use Rattle.task_reading.specs.Account.{account_of_lines}
 use Rattle.task_reading.specs.Keeping.{StandsAt}
-use Rattle.task_reading.proofs.Taking.{keeps_counted, line_taken, keeps_more}
+use Rattle.task_reading.specs.Faults.{NamesAt}
+use Rattle.task_reading.proofs.Taking.{keeps_counted, line_taken, keeps_more, named_before}
 use Rattle.task_reading.proofs.intake.TaskIntake.take_line.Goals as goal
 
 pub returns-in-Ok-clause-stands : goal.returns-in-Ok-clause-stands
@@ -22,3 +23,10 @@ returns-in-Ok-clause-keeps c = λ until ls keeps open_still.
     c.if-self-gt-MOST_LINES.false c.in-Ok.ensures.ok
     (c.take.ensures.stands until _ keeps.stands
     (keeps_counted until c.args.self.now mid ls c.args.line.now keeps refl refl refl refl))))
+
+pub returns-in-Ok-clause-names : goal.returns-in-Ok-clause-names
+returns-in-Ok-clause-names c = λ until ls keeps.
+    let mid = record c.args.self.now { lines = c.args.self.now.lines + 1 } in
+    subst (λ l. NamesAt until l (account_of_lines until ls) c.take.result) (sym c.in-Ok.ensures.ok)
+    (named_before until _ (account_of_lines until ls) c.take.result (c.take.ensures.names until _
+    (keeps_counted until c.args.self.now mid ls c.args.line.now keeps refl refl refl refl)))
