@@ -7,18 +7,23 @@
    Jobs    1 <= work, release + work <= deadline <= 1,000,000,000,000, 1 <= value <= 1,000,000,000. The ratio p/q is
            an upper bound of how often the densest job (value for each tick of work) is worth the least dense one:
            1 <= q <= 1,000, q <= p <= 1,000,000.
-   Limits  At once: `capacity` open jobs, which are released and not over; at most 1,000,000. Since the last moment of
-           rest: 1,000,000 jobs, and 10,000,000,000,000 in value. Rest is where dover_step answers DOVER_NONE and no
-           job is open: dover_room is then the room that there was at first. From there on these limits and that of
-           densities start anew; the clock and the numbers go on.
+   Limits  At once: `capacity` open jobs, which are admitted and not over; at most 1,000,000. A job is over at its
+           deadline at the latest, so as many are enough as can come within the longest time from a release to its
+           deadline. Since the last moment of rest: 1,000,000 jobs, and 10,000,000,000,000 in value. Rest is where
+           dover_step answers DOVER_NONE and no job is open: dover_room is then the room that there was at first. From
+           there on these two limits and that of densities start anew; the clock and the numbers go on. An engine that
+           never rests answers DOVER_COUNT or DOVER_TOTAL from such a limit on till the open jobs are over.
    Memory  dover_init takes all of it: 116 bytes for each job of the capacity and a little more. No later call takes
            or gives back any, but dover_drop, which gives all back.
-   Errors  Every call but dover_init answers whatever it is asked, in any order. A refused call leaves the engine as
-           it was.
+   Errors  Every call answers whatever it is asked, in any order, of a place that dover_init was called for, and of one
+           of zeros: behind dover_drop, and where none was made, it says that there is no engine. A refused call leaves
+           the engine as it was.
    Threads One engine is used by one call at a time. Two engines are independent. No call is made from a signal
            handler, or from the forked child of a process with threads. No call blocks, waits, locks or reads a clock.
-   Time    A step costs at most 20 comparisons, times the binary digits of the count of jobs since the last moment of
-           rest, for each job that begins or ceases to wait. A take moves all held jobs at once: the capacity bounds them. */
+   Time    With d the binary digits of one more than the open jobs, a step costs at most 12 * d comparisons, and a take
+           2 * d more for each job that is held: it moves all of them at once, and the capacity bounds them. All steps
+           together cost at most 1,600 for each job: 20 for each binary digit of their count since the last moment of
+           rest, 20 digits at most, and each of the four times at most that a job begins or ceases to wait. */
 #ifndef DOVER_H
 #define DOVER_H
 #include <stddef.h>
@@ -27,21 +32,22 @@
 extern "C" {
 #endif
 
-/* A place for an engine: static, on a stack or in an arena, at a multiple of 8 bytes. From dover_init to dover_drop
-   nobody but these calls reads or writes it. It isn't moved or copied. */
+/* A place for an engine: static, on a stack or in an arena, at a multiple of 8 bytes. From dover_init on nobody but
+   these calls reads or writes it. It isn't moved or copied. */
 #define DOVER_WORDS 80
 typedef struct { uint64_t opaque[DOVER_WORDS]; } dover;
 
 /* How many bytes an engine takes: at most sizeof(dover). Test it once, at the start. */
 size_t dover_size(void);
 
-/* Makes an engine in the place. dover_status says whether there is one. Called again without a dover_drop it leaks the
-   first one's memory. */
+/* Makes an engine in the place, whatever its bytes are. dover_status says whether there is one. Called again without a
+   dover_drop it leaks the first one's memory. */
 void dover_init(dover *, uint32_t p, uint32_t q, uint32_t version, uint32_t capacity);
 
-/* Whether there is an engine, and else the first of these causes that held. */
+/* Whether there is an engine, and else why not: of the causes for which none was made the first that held. */
 enum {
-    DOVER_MADE = 0,
+    DOVER_MADE = 5,
+    DOVER_EMPTY = 0,        /* dover_drop was called, or never dover_init, for a place of zeros */
     DOVER_BAD_VERSION = 4,  /* the version is neither 1 nor 2; version 2 breaks ties of deadlines by value */
     DOVER_BAD_RATIO = 1,    /* p/q is out of its limits */
     DOVER_BAD_CAPACITY = 2, /* above 1,000,000 */
@@ -49,33 +55,36 @@ enum {
 };
 uint32_t dover_status(dover *);
 
-/* Hands in a job under the next number, 0 at first. Numbers are never used twice.
-   The status is the first of these causes that holds, in this order, and 0 where none does. */
+/* Hands in a job. The status is the first of these causes that holds, in this order, and 0 where none does: then the
+   job has the next number, 0 at first. Numbers are never used twice. Since dover_step goes to the release before, the
+   clock has gone there also where the job is refused then. */
 typedef struct { uint64_t number; uint32_t status; } dover_admitted;
 enum {
     DOVER_ADMITTED = 0,
     DOVER_NOT_MADE = 7,  /* there is no engine */
-    DOVER_UNSETTLED = 1, /* dover_step to the release has to answer DOVER_NONE first, also between two jobs of one */
+    DOVER_UNSETTLED = 1, /* dover_step to the release has to answer DOVER_NONE first, also between two jobs of one
+                            release; so it is too for a release below the clock, and behind dover_finish */
     DOVER_BAD_JOB = 2,   /* a limit of a job */
     DOVER_COUNT = 3,     /* 1,000,000 jobs since the last moment of rest */
     DOVER_TOTAL = 4,     /* too much value since then */
-    DOVER_DENSITY = 5,   /* its density and that of a job since then break the ratio */
+    DOVER_DENSITY = 5,   /* its density and that of a job since then, which `number` names, break the ratio */
     DOVER_FULL = 6       /* as many jobs are open as the capacity allows: wait till one is over, or drop the job */
 };
 dover_admitted dover_admit(dover *, uint64_t release, uint64_t work, uint64_t deadline, uint64_t value);
 
 /* The next decision that no job can change that is released at the mark or later, or DOVER_NONE where all of these were
-   given. Marks don't fall. */
+   given. Marks don't fall. What the fields say goes by the kind; all others are 0. */
 typedef struct { uint64_t tick, job, other; uint32_t kind; } dover_decision;
-enum {
+enum {                  /* fields */
     DOVER_NONE = 0,
-    DOVER_RELEASE = 1,  /* the job came */
-    DOVER_RUN = 2,      /* at the tick the processor begins or goes on with the job */
-    DOVER_PREEMPT = 3,  /* the job runs, and `other` stops, to go on later */
-    DOVER_TAKE = 4,     /* the job runs, at its latest start; `other` stops: it and all that are held may be lost */
-    DOVER_COMPLETE = 5, /* the job is done */
-    DOVER_ABANDON = 6,  /* the job is given up */
-    DOVER_END = 7,      /* all jobs are over; `tick` is the value of all that completed */
+    DOVER_RELEASE = 1,  /* tick, job: it came */
+    DOVER_RUN = 2,      /* tick, job: there the processor begins or goes on with it */
+    DOVER_PREEMPT = 3,  /* tick, job, other: it runs, and `other` stops, to go on later */
+    DOVER_TAKE = 4,     /* tick, job, other: it runs, at its latest start, and `other` stops, which may be lost with all
+                           that are held */
+    DOVER_COMPLETE = 5, /* tick, job: it is done */
+    DOVER_ABANDON = 6,  /* tick, job: it is given up */
+    DOVER_END = 7,      /* tick, which is the value of all jobs that completed: all are over */
     DOVER_FALLS = 8,    /* the mark is below the last one */
     DOVER_LATE = 9,     /* the mark is above 1,000,000,000,000 */
     DOVER_FINISHED = 10, /* dover_finish was called */
@@ -93,7 +102,8 @@ uint64_t dover_value(dover *);
 /* For how many open jobs more there is room. 0 where there is no engine. */
 uint32_t dover_room(dover *);
 
-/* Gives back the memory. The place is free again. */
+/* Gives back the memory. There is no engine then: each call says so, another dover_drop does nothing, and dover_init
+   may make one anew. */
 void dover_drop(dover *);
 
 #ifdef __cplusplus

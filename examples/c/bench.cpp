@@ -1,6 +1,6 @@
 // Nanoseconds of dover_admit and dover_step with jobs waiting, and of a take over held jobs, beside a heap of the C++
-// library that does earliest deadline first on the same jobs. Prints the median, the 99.9% point and the greatest, and
-// how many bytes of stack the calls take.
+// library that does earliest deadline first on the same jobs. Prints the median, the 99.9% point and the greatest, how
+// many bytes of stack the calls take, and what an overload of 2 that never rests comes to.
 #include <algorithm>
 #include <chrono>
 #include <cinttypes>
@@ -142,6 +142,32 @@ static void plain_settle(uint64_t mark) {
     while (d.kind != DOVER_NONE && d.kind <= DOVER_END);
 }
 
+// So many jobs, for which there is half the time that they want, to an engine for 1,000 open ones. Nothing is refused
+// but 1,000,000 jobs behind the last moment of rest, till the open ones are over.
+static void lasting(uint64_t jobs) {
+    std::minstd_rand random(1);
+    uint64_t t = 0, refused = 0, gaps = 0, from = nanoseconds();
+    uint32_t last = DOVER_ADMITTED, least = 1000;
+    dover_init(&engine, 16, 1, 1, 1000);
+    unsigned long before = taken;
+    for (uint64_t i = 0; i < jobs; i++) {
+        t += random() % 16;
+        plain_settle(t);
+        least = std::min(least, dover_room(&engine));
+        uint64_t work = 1 + random() % 29, deadline = t + work + 20 + random() % 12000;
+        uint32_t status = dover_admit(&engine, t, work, deadline, work * (1 + random() % 16)).status;
+        if (status != DOVER_ADMITTED && status != DOVER_COUNT) fail("status", status);
+        refused += status == DOVER_COUNT;
+        gaps += status == DOVER_COUNT && last != status;
+        last = status;
+    }
+    if (taken != before) fail("calls for memory", static_cast<uint32_t>(taken - before));
+    uint64_t each = (nanoseconds() - from) / jobs;
+    std::printf("overload of 2: %" PRIu64 " jobs in %" PRIu64 " ticks, %" PRIu64 " refused for their count in %" PRIu64
+                " gaps, at most %" PRIu32 " open, %" PRIu64 " ns a job\n", jobs, t, refused, gaps, 1000 - least, each);
+    dover_drop(&engine);
+}
+
 // Preemptions, a take, an abandonment and the end, with no calls but the engine's.
 static void all_calls() {
     uint64_t t = 0;
@@ -204,5 +230,6 @@ int main(int words, char **) {
     take(1000, words > 1 ? 3 : 200);
     if (words == 1) take(100000, 20);
     if (!watched) show_stack();
+    lasting(words > 1 ? 100000 : 10000000);
     return 0;
 }

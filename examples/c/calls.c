@@ -1,19 +1,23 @@
-/* Each cause of each call, rest, two engines, and no memory after dover_init. Prints a line for each row that
-   fails, and ends with 0 where none does. */
+/* Each cause of each call, calls where there is no engine, rest, two engines, and no memory after dover_init. Prints a
+   line for each row that fails, and ends with 0 where none does. */
 #include <stdio.h>
 #include <string.h>
 #include "dover.h"
 
 static unsigned long taken; /* calls for memory */
-static int none;            /* whether there is none */
+static unsigned long given_back;
+static int none; /* whether there is none */
 void *__real_malloc(size_t);
 void *__real_realloc(void *, size_t);
+void __real_free(void *);
 void *__wrap_malloc(size_t n);
 void *__wrap_realloc(void *p, size_t n);
+void __wrap_free(void *p);
+void __wrap_free(void *p) { given_back++; __real_free(p); }
 void *__wrap_malloc(size_t n) { taken++; return none ? NULL : __real_malloc(n); }
 void *__wrap_realloc(void *p, size_t n) { taken++; return none ? NULL : __real_realloc(p, n); }
 
-static dover a, b;
+static dover a, b, never; /* for the last one no engine is made: it is zeros */
 static int rows, failed;
 #define ROW(holds) do { rows++; if (!(holds)) { failed++; printf("calls.c:%d: " #holds "\n", __LINE__); } } while (0)
 
@@ -55,6 +59,39 @@ static void making(void) {
     dover_drop(&b);
 }
 
+/* Each call says that there is no engine. */
+static int is_none(dover *d) {
+    const uint64_t big = UINT64_C(1) << 63;
+    dover_admitted x = dover_admit(d, 1, 1, 9, 1);
+    dover_decision e = dover_step(d, 3), f = dover_step(d, big), g = dover_finish(d);
+    return dover_status(d) == DOVER_EMPTY && x.status == DOVER_NOT_MADE && x.number == 0 &&
+           e.kind == DOVER_NO_ENGINE && f.kind == DOVER_NO_ENGINE && g.kind == DOVER_NO_ENGINE &&
+           e.tick + e.job + e.other == 0 && dover_value(d) == 0 && dover_room(d) == 0;
+}
+
+static void without_one(void) {
+    ROW(is_none(&never));
+    dover_drop(&never);
+    dover_drop(&never);
+    ROW(is_none(&never));
+    dover_init(&a, 1, 1, 1, 10);
+    ROW(settle(&a, 0) == DOVER_NONE && admit(&a, 0, 2, 5, 2) == DOVER_ADMITTED && settle(&a, 1) == DOVER_NONE);
+    unsigned long before = given_back;
+    dover_drop(&a); /* with a job open */
+    ROW(given_back > before && is_none(&a));
+    before = given_back;
+    dover_drop(&a);
+    ROW(given_back == before && is_none(&a));
+    dover_init(&a, 1, 1, 2, 10);
+    ROW(dover_status(&a) == DOVER_MADE && dover_room(&a) == 10 && dover_finish(&a).kind == DOVER_END);
+    dover_drop(&a);
+    ROW(is_none(&a));
+    dover_init(&a, 1, 2, 2, 10);
+    ROW(dover_status(&a) == DOVER_BAD_RATIO);
+    dover_drop(&a);
+    ROW(is_none(&a));
+}
+
 static void one_by_one(void) {
     const uint64_t big = UINT64_C(1) << 63, last = UINT64_C(1000000000000);
     dover_init(&a, 2, 1, 1, 3);
@@ -73,7 +110,7 @@ static void one_by_one(void) {
     ROW(first.status == DOVER_ADMITTED && first.number == 0);
     ROW(admit(&a, 0, 2, 9, 2) == DOVER_UNSETTLED);
     ROW(settle(&a, 0) == DOVER_NONE && admit(&a, 0, 2, 9, 5) == DOVER_DENSITY &&
-        admit(&a, 0, 2, 9, 4) == DOVER_ADMITTED);
+        admit(&a, 0, 2, 9, 4) == DOVER_ADMITTED && dover_admit(&a, 0, 2, 9, 4).number == 0);
     ROW(settle(&a, 1) == DOVER_NONE && dover_value(&a) == 0 && dover_room(&a) == 1);
     ROW(dover_step(&a, 0).kind == DOVER_FALLS && dover_step(&a, last + 1).kind == DOVER_LATE &&
         dover_step(&a, big).kind == DOVER_LATE);
@@ -83,6 +120,8 @@ static void one_by_one(void) {
     ROW(third.status == DOVER_ADMITTED && third.number == 2);
     dover_decision e = dover_step(&a, 4);
     ROW(e.kind == DOVER_RELEASE && e.job == 2 && e.tick == 4);
+    third = dover_admit(&a, 4, 1, 9, 1); /* the release was given, and not yet what is settled there */
+    ROW(third.status == DOVER_UNSETTLED && third.number == 0);
     ROW((e = dover_finish(&a)).kind == DOVER_RUN && e.job == 2 && e.tick == 4);
     ROW(dover_step(&a, 4).kind == DOVER_FINISHED && admit(&a, 4, 1, 5, 1000) == DOVER_UNSETTLED);
     ROW((e = dover_finish(&a)).kind == DOVER_COMPLETE && e.job == 2 && e.tick == 5);
@@ -92,6 +131,24 @@ static void one_by_one(void) {
     ROW(taken == before);
     dover_drop(&a);
     dover_drop(&b);
+}
+
+/* The job that breaks the ratio is named by its number over the whole life, also where others were forgotten. A refused
+   job has moved the clock. */
+static void renumbered(void) {
+    dover_init(&a, 2, 1, 1, 3);
+    for (uint64_t i = 0; i < 5; i++) {
+        settle(&a, 10 * i);
+        ROW(dover_admit(&a, 10 * i, 1, 10 * i + 1, i + 1).number == i); /* each at rest before the next */
+    }
+    ROW(settle(&a, 50) == DOVER_NONE && dover_admit(&a, 50, 2, 60, 4).number == 5);
+    ROW(settle(&a, 50) == DOVER_NONE && dover_admit(&a, 50, 2, 60, 8).number == 6);
+    ROW(settle(&a, 51) == DOVER_NONE);
+    dover_admitted dense = dover_admit(&a, 51, 1, 60, 5), light = dover_admit(&a, 51, 1, 60, 1);
+    ROW(dense.status == DOVER_DENSITY && dense.number == 5);
+    ROW(light.status == DOVER_DENSITY && light.number == 6);
+    ROW(admit(&a, 50, 1, 60, 2) == DOVER_UNSETTLED && dover_step(&a, 50).kind == DOVER_FALLS);
+    dover_drop(&a);
 }
 
 /* An engine for four open jobs serves 400,000, beside one whose jobs stay open. */
@@ -150,7 +207,9 @@ static void limits(void) {
 int main(void) {
     ROW(dover_size() <= sizeof a);
     making();
+    without_one();
     one_by_one();
+    renumbered();
     for_long();
     limits();
     printf("%d rows, %d failed, %zu bytes a place\n", rows, failed, dover_size());

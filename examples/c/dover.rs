@@ -2,12 +2,14 @@
 //! is on the heap and in nobody else's hands; it holds an engine from `new` to `drop`; and `&mut self` gives it to one
 //! call at a time.
 use std::mem::MaybeUninit;
-use std::num::NonZeroU32;
+
+/// The status of a place with an engine.
+const MADE: u32 = 5;
 
 #[repr(C, align(8))]
 struct Place([u64; 80]);
 
-/// The answer to a job: status 0 and its number, or why it wasn't admitted.
+/// The answer to a job: status 0 and its number, or why it wasn't admitted, with the job that breaks the ratio.
 #[repr(C)]
 #[derive(Clone, Copy, Debug, PartialEq, Eq)]
 pub struct Admitted {
@@ -45,14 +47,14 @@ pub struct Dover(*mut Place);
 
 impl Dover {
     /// An engine, or the status that says why there is none.
-    pub fn new(p: u32, q: u32, version: u32, capacity: u32) -> Result<Dover, NonZeroU32> {
+    pub fn new(p: u32, q: u32, version: u32, capacity: u32) -> Result<Dover, u32> {
         assert!(unsafe { dover_size() } <= size_of::<Place>(), "the place is too small");
         let place = Box::into_raw(Box::new(MaybeUninit::<Place>::uninit())).cast::<Place>();
         unsafe { dover_init(place, p, q, version, capacity) };
         let engine = Dover(place);
-        match NonZeroU32::new(unsafe { dover_status(place) }) {
-            None => Ok(engine),
-            Some(status) => Err(status),
+        match unsafe { dover_status(place) } {
+            MADE => Ok(engine),
+            status => Err(status),
         }
     }
 

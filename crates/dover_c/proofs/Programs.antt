@@ -2,6 +2,9 @@
 use Rattle.std.proofs.Common.{◌≡◌, ℕ, ◌≤◌, List, [], ◌∷◌, ◌++◌, map, refl, sym, ap, ◌∙◌, subst, cond, append-nil, Bool}
 use Rattle.std.proofs.Common.{true, false, inl, inr}
 use Rattle.std.specs.Prelude.{Option, Some, None, ◌==◌, ◌||◌, not, nat_lt, Result, Ok, Err}
+use Rattle.std.proofs.Common.{◌≡◌, ℕ, ◌≤◌, List, [], ◌∷◌, ◌++◌, map, refl, sym, ap, ◌∙◌, subst, cond, append-nil}
+use Rattle.std.proofs.Common.{Bool, true, false, inl, inr}
+use Rattle.std.specs.Prelude.{Option, Some, None, ◌⊎◌, ◌==◌, ◌||◌, ◌&&◌, not, nat_lt, nat_le, Result, Ok, Err}
 use Rattle.std.specs.List.{filter, enumerate_from}
 use Rattle.std.proofs.lemmas.Bool.{eqb-true, eq-eqb}
 use Rattle.std.proofs.lemmas.List.{map-append}
@@ -37,10 +40,12 @@ use Rattle.dover_engine.proofs.LifeLaws as life
 use Rattle.dover_c.specs.declared.Admitted.{Admitted}
 use Rattle.dover_c.specs.declared.Decided.{Decided}
 use Rattle.dover_c.specs.declared.slot.Slot.{Slot}
-use Rattle.dover_c.specs.Codes.{version_number, mark_code, numbers_of, IsStepOf, Stands, IsMade, IsFresh, CallsOn}
+use Rattle.dover_c.specs.Codes.{version_number, made_status, mark_code, numbers_of, IsStepOf, Stands, IsMade, IsFresh, CallsOn}
 use Rattle.dover_c.specs.Codes.{Admits, Steps, Finishes}
 use Rattle.dover_c.specs.Program.{Act, Admit, Step, Finish, Ask, Does, DoesAll, IsProgram, told, jobs_told, all_told}
 use Rattle.dover_c.specs.Program.{is_decision, answers, given, shown}
+use Rattle.dover_c.specs.Program.{Act, Admit, Step, Finish, Ask, Drop, Does, DoesAll, IsProgram, told, jobs_told}
+use Rattle.dover_c.specs.Program.{all_told, is_decision, answers, given, shown}
 
 -- ---- decisions that lose no job
 
@@ -73,6 +78,7 @@ answers_append (Admit job answer ∷ acts) more = answers_append acts more
 answers_append (Step mark answer ∷ acts) more = ap (λ es. answer ∷ es) (answers_append acts more)
 answers_append (Finish answer ∷ acts) more = ap (λ es. answer ∷ es) (answers_append acts more)
 answers_append (Ask ∷ acts) more = answers_append acts more
+answers_append (Drop ∷ acts) more = answers_append acts more
 
 -- a filter of two lists
 filter_append : (test : Decided → Bool) (xs ys : List Decided)
@@ -125,18 +131,18 @@ kind_none (Some (End value)) e = absurd (let f : 7 ≡ 0 = e in cc)
 
 -- ---- from calls in C to calls of the engine
 
--- where an engine was, calls of it say what was done, and an engine is
+-- where an engine was, calls of it say what was done, and it is there, or was dropped
 record Turned (v : Life) (acts : List Act) (t : Slot) : Type 0 where
   pub calls : List engine.Call
   pub w : Life
-  pub there : t.engine ≡ Some w
+  pub there : (t.engine ≡ Some w) ⊎ (t.engine ≡ None)
   pub leads : engine.LeadsAll calls v w
   pub jobs : engine.admitted calls ≡ told acts
   pub decisions : map shown (engine.decided calls) ≡ given acts
 
 -- nothing was done
-nothing : (v : Life) (act : Act) (t : Slot) → t.engine ≡ Some v → told (act ∷ []) ≡ [] → given (act ∷ []) ≡ []
-    → Turned v (act ∷ []) t
+nothing : (v : Life) (act : Act) (t : Slot) → (t.engine ≡ Some v) ⊎ (t.engine ≡ None) → told (act ∷ []) ≡ []
+    → given (act ∷ []) ≡ [] → Turned v (act ∷ []) t
 nothing v act t there jobs none =
     record { calls = []; w = v; there = there; leads = refl; jobs = sym jobs; decisions = sym none }
 
@@ -145,7 +151,7 @@ one_call : (v w : Life) (act : Act) (call : engine.Call) (t : Slot) → t.engine
     → engine.admitted (call ∷ []) ≡ told (act ∷ []) → map shown (engine.decided (call ∷ [])) ≡ given (act ∷ [])
     → Turned v (act ∷ []) t
 one_call v w act call t there leads jobs decisions =
-    record { calls = call ∷ []; w = w; there = there; leads = (w, leads, refl); jobs = jobs; decisions = decisions }
+    record { calls = call ∷ []; w = w; there = inl there; leads = (w, leads, refl); jobs = jobs; decisions = decisions }
 
 -- a cause is no decision
 no_decision : (cause : NotStepped)
@@ -178,7 +184,7 @@ turn_admit v job answer s t it = by_status (answer.status == 0) refl where
       (it.2.ok (eqb-true answer.status 0 is)) (sym (ap (λ b. cond b ((answer.number, job) ∷ []) []) is)) refl
   by_status false is =
       let same : it.0 ≡ v = (it.2.refused (λ e. never (sym is ∙ eq-eqb answer.status 0 e))).same in
-      nothing v (Admit job answer) t (ap (λ (x : Slot). x.engine) it.1 ∙ ap Some same)
+      nothing v (Admit job answer) t (inl (ap (λ (x : Slot). x.engine) it.1 ∙ ap Some same))
       (ap (λ b. cond b ((answer.number, job) ∷ []) []) is) refl
 
 -- a step to a mark
@@ -195,7 +201,8 @@ turn_step v mark answer s t (w, is, it) = by_says it.says it.step it.shown where
       (ap (λ (x : Slot). x.engine) is) step refl
       (ap (map shown) (append-nil (events_in decision)) ∙ sym (given_of decision)
       ∙ ap (λ a. filter is_decision (a ∷ [])) (sym so))
-  by_says (Err cause) step so = nothing v (Step mark answer) t (ap (λ (x : Slot). x.engine) is ∙ ap Some step.1) refl
+  by_says (Err cause) step so =
+      nothing v (Step mark answer) t (inl (ap (λ (x : Slot). x.engine) is ∙ ap Some step.1)) refl
       (ap (λ a. filter is_decision (a ∷ [])) so ∙ no_decision cause)
 
 -- a step to the end
@@ -215,7 +222,8 @@ turn_one v (Step mark answer) s t there does =
     turn_step v mark answer s t (subst (λ o. CallsOn o s t (answer.kind ≡ 11) (Steps mark answer)) there does)
 turn_one v (Finish answer) s t there does =
     turn_finish v answer s t (subst (λ o. CallsOn o s t (answer.kind ≡ 11) (Finishes answer)) there does)
-turn_one v Ask s t there does = nothing v Ask t (ap (λ (x : Slot). x.engine) does ∙ there) refl refl
+turn_one v Ask s t there does = nothing v Ask t (inl (ap (λ (x : Slot). x.engine) does ∙ there)) refl refl
+turn_one v Drop s t there does = nothing v Drop t (inr (ap (λ (x : Slot). x.engine) does)) refl refl
 
 -- two lists
 told_append : (acts more : List Act) → told (acts ++ more) ≡ told acts ++ told more
@@ -229,46 +237,114 @@ told_append (Admit job answer ∷ acts) more = by_test (answer.status == 0) (tol
 told_append (Step mark answer ∷ acts) more = told_append acts more
 told_append (Finish answer ∷ acts) more = told_append acts more
 told_append (Ask ∷ acts) more = told_append acts more
+told_append (Drop ∷ acts) more = told_append acts more
 
 leads_append : (xs ys : List engine.Call) (v u w : Life) → engine.LeadsAll xs v u → engine.LeadsAll ys u w
     → engine.LeadsAll (xs ++ ys) v w
 leads_append [] ys v u w here more = subst (λ z. engine.LeadsAll ys z w) here more
 leads_append (x ∷ xs) ys v u w it more = (it.0, it.1, leads_append xs ys it.0 u w it.2 more)
 
--- many calls
+-- ---- behind a drop
+
+-- where no engine is, calls do nothing
+record Idle (acts : List Act) (t : Slot) : Type 0 where
+  pub there : t.engine ≡ None
+  pub jobs : told acts ≡ []
+  pub decisions : given acts ≡ []
+
+-- an answer of kind 11 is no decision
+kind_idle : (answer : Decided) → answer.kind ≡ 11 → filter is_decision (answer ∷ []) ≡ []
+kind_idle answer is = ap (λ n. cond (nat_le 1 n && nat_le n 7) (answer ∷ []) []) is
+
+idle_one : (act : Act) (s t : Slot) → s.engine ≡ None → Does act s t → Idle (act ∷ []) t
+idle_one (Admit job answer) s t none does =
+    let it : (answer.status ≡ 7) × (t ≡ s) =
+    subst (λ o. CallsOn o s t (answer.status ≡ 7) (Admits job answer)) none does in record {
+      there = ap (λ (x : Slot). x.engine) it.1 ∙ none;
+      jobs = ap (λ n. cond (n == 0) ((answer.number, job) ∷ []) []) it.0;
+      decisions = refl;
+    }
+idle_one (Step mark answer) s t none does =
+    let it : (answer.kind ≡ 11) × (t ≡ s) =
+    subst (λ o. CallsOn o s t (answer.kind ≡ 11) (Steps mark answer)) none does in record {
+      there = ap (λ (x : Slot). x.engine) it.1 ∙ none;
+      jobs = refl;
+      decisions = kind_idle answer it.0;
+    }
+idle_one (Finish answer) s t none does =
+    let it : (answer.kind ≡ 11) × (t ≡ s) =
+    subst (λ o. CallsOn o s t (answer.kind ≡ 11) (Finishes answer)) none does in record {
+      there = ap (λ (x : Slot). x.engine) it.1 ∙ none;
+      jobs = refl;
+      decisions = kind_idle answer it.0;
+    }
+idle_one Ask s t none does =
+    record { there = ap (λ (x : Slot). x.engine) does ∙ none; jobs = refl; decisions = refl }
+idle_one Drop s t none does =
+    record { there = ap (λ (x : Slot). x.engine) does; jobs = refl; decisions = refl }
+
+idle_all : (acts : List Act) (s t : Slot) → s.engine ≡ None → DoesAll acts s t → Idle acts t
+idle_all [] s t none here =
+    record { there = ap (λ (x : Slot). x.engine) here ∙ none; jobs = refl; decisions = refl }
+idle_all (act ∷ acts) s t none it =
+    let one = idle_one act s it.0 none it.1 in
+    let rest = idle_all acts it.0 t one.there it.2 in record {
+      there = rest.there;
+      jobs = told_append (act ∷ []) acts ∙ ap (λ js. js ++ told acts) one.jobs ∙ rest.jobs;
+      decisions = given_append (act ∷ []) acts ∙ ap (λ es. es ++ given acts) one.decisions ∙ rest.decisions;
+    }
+
+-- ---- many calls
+
+-- calls of an engine, and some that come when none is there
+turn_idle : (v : Life) (act : Act) (acts : List Act) (u t : Slot) → Turned v (act ∷ []) u → Idle acts t
+    → Turned v (act ∷ acts) t
+turn_idle v act acts u t one rest = record {
+  calls = one.calls;
+  w = one.w;
+  there = inr rest.there;
+  leads = one.leads;
+  jobs = one.jobs ∙ sym (append-nil (told (act ∷ []))) ∙ ap (λ js. told (act ∷ []) ++ js) (sym rest.jobs)
+      ∙ sym (told_append (act ∷ []) acts);
+  decisions = one.decisions ∙ sym (append-nil (given (act ∷ []))) ∙ ap (λ es. given (act ∷ []) ++ es)
+      (sym rest.decisions)
+      ∙ sym (given_append (act ∷ []) acts);
+}
+
 turn_all : (acts : List Act) (v : Life) (s t : Slot) → s.engine ≡ Some v → DoesAll acts s t → Turned v acts t
 turn_all [] v s t there here = record {
   calls = [];
   w = v;
-  there = ap (λ (x : Slot). x.engine) here ∙ there;
+  there = inl (ap (λ (x : Slot). x.engine) here ∙ there);
   leads = refl;
   jobs = refl;
   decisions = refl;
 }
-turn_all (act ∷ acts) v s t there it =
-    let one = turn_one v act s it.0 there it.1 in
-    let rest = turn_all acts one.w it.0 t one.there it.2 in record {
-      calls = one.calls ++ rest.calls;
-      w = rest.w;
-      there = rest.there;
-      leads = leads_append one.calls rest.calls v one.w rest.w one.leads rest.leads;
-      jobs = life.admitted_append one.calls rest.calls ∙ ap (λ js. js ++ engine.admitted rest.calls) one.jobs
-          ∙ ap (λ js. told (act ∷ []) ++ js) rest.jobs ∙ sym (told_append (act ∷ []) acts);
-      decisions = ap (map shown) (life.decided_append one.calls rest.calls)
-          ∙ map-append shown (engine.decided one.calls) (engine.decided rest.calls)
-          ∙ ap (λ es. es ++ map shown (engine.decided rest.calls)) one.decisions
-          ∙ ap (λ es. given (act ∷ []) ++ es) rest.decisions
-          ∙ sym (given_append (act ∷ []) acts);
-    }
+turn_all (act ∷ acts) v s t there it = let one = turn_one v act s it.0 there it.1 in elim one.there [
+  | inl here ↦ let rest = turn_all acts one.w it.0 t here it.2 in record {
+    calls = one.calls ++ rest.calls;
+    w = rest.w;
+    there = rest.there;
+    leads = leads_append one.calls rest.calls v one.w rest.w one.leads rest.leads;
+    jobs = life.admitted_append one.calls rest.calls ∙ ap (λ js. js ++ engine.admitted rest.calls) one.jobs
+        ∙ ap (λ js. told (act ∷ []) ++ js) rest.jobs ∙ sym (told_append (act ∷ []) acts);
+    decisions = ap (map shown) (life.decided_append one.calls rest.calls)
+        ∙ map-append shown (engine.decided one.calls) (engine.decided rest.calls)
+        ∙ ap (λ es. es ++ map shown (engine.decided rest.calls)) one.decisions
+        ∙ ap (λ es. given (act ∷ []) ++ es) rest.decisions
+        ∙ sym (given_append (act ∷ []) acts);
+  }
+  | inr gone ↦ turn_idle v act acts it.0 t one (idle_all acts it.0 t gone it.2)
+]
 
 -- ---- from dover_init on
 
--- no cause is 0
-some_status : (a b c : Bool) → cond {A = ℕ} a 4 (cond b 1 (cond c 2 3)) ≡ 0 → ⊥
-some_status true b c e = absurd (let f : 4 ≡ 0 = e in cc)
-some_status false true c e = absurd (let f : 1 ≡ 0 = e in cc)
-some_status false false true e = absurd (let f : 2 ≡ 0 = e in cc)
-some_status false false false e = absurd (let f : 3 ≡ 0 = e in cc)
+-- no cause is the status of an engine
+some_status : (a b c : Bool) → cond {A = ℕ} a 4 (cond b 1 (cond c 2 3)) ≡ 5 → ⊥
+some_status true b c e = absurd (let f : 4 ≡ 5 = e in cc)
+some_status false true c e = absurd (let f : 1 ≡ 5 = e in cc)
+some_status false false true e = absurd (let f : 2 ≡ 5 = e in cc)
+some_status false false false e = absurd (let f : 3 ≡ 5 = e in cc)
 
 -- versions have different numbers
 same_version : (v w : Version) → version_number v ≡ version_number w → v ≡ w
@@ -277,8 +353,8 @@ same_version One Two e = absurd (let f : 1 ≡ 2 = e in cc)
 same_version Two One e = absurd (let f : 2 ≡ 1 = e in cc)
 same_version Two Two e = refl
 
--- status 0 is an engine
-engine_made : (p q version capacity : ℕ) (made : Slot) → IsMade p q version capacity made → made.status ≡ 0
+-- its status is an engine
+engine_made : (p q version capacity : ℕ) (made : Slot) → IsMade p q version capacity made → made.status ≡ made_status
     → (v : Life) × (made.engine ≡ Some v) × IsFresh p q version capacity v
 engine_made p q version capacity made is_made none = by_engine made.engine refl is_made where
   by_engine : (o : Option Life) → made.engine ≡ o → Stands p q version capacity made.status o → (v : Life)
@@ -296,7 +372,7 @@ module _ (version : Version) (p q capacity : ℕ) where
   record Living (acts : List Act) (t : Slot) : Type 0 where
     pub calls : List engine.Call
     pub w : Life
-    pub there : t.engine ≡ Some w
+    pub there : (t.engine ≡ Some w) ⊎ (t.engine ≡ None)
     pub lives : engine.Lives version k calls w
     pub jobs : engine.admitted calls ≡ told acts
     pub decisions : map shown (engine.decided calls) ≡ given acts
@@ -350,37 +426,53 @@ module _ (version : Version) (p q capacity : ℕ) where
   pub settled_given : (acts : List Act) (mark : ℕ) (answer : Decided) (t : Slot)
       → IsProgram version p q capacity (acts ++ (Step mark answer ∷ [])) t
       → answer.kind ≡ 0 → given acts ≡ map shown (settled (all_told version p q acts) mark)
-  settled_given acts mark answer t program none =
-      by_step (subst (λ o. CallsOn o u t (answer.kind ≡ 11) (Steps mark answer)) it.there does) where
-        it : Living acts (parts acts (Step mark answer) t program).0
-        it = front acts (Step mark answer) t program
+  settled_given acts mark answer t program none = elim it.there [
+    | inl here ↦ by_step (subst (λ o. CallsOn o u t (answer.kind ≡ 11) (Steps mark answer)) here does)
+    | inr gone ↦
+        let idle = subst (λ o. CallsOn o u t (answer.kind ≡ 11) (Steps mark answer)) gone does in
+        absurd (let f : 0 ≡ 11 = sym none ∙ idle.0 in cc)
+  ] where
+    it : Living acts (parts acts (Step mark answer) t program).0
+    it = front acts (Step mark answer) t program
 
-        u : Slot
-        u = (parts acts (Step mark answer) t program).0
+    u : Slot
+    u = (parts acts (Step mark answer) t program).0
 
-        does : Does (Step mark answer) u t
-        does = (parts acts (Step mark answer) t program).2
+    does : Does (Step mark answer) u t
+    does = (parts acts (Step mark answer) t program).2
 
-        by_step : CallsOn (Some it.w) u t (answer.kind ≡ 11) (Steps mark answer)
-            → given acts ≡ map shown (settled (all_told version p q acts) mark)
-        by_step (w, is, step) = by_says step.says step.step step.shown where
-          by_says : (says : Result (Option Decision) NotStepped) → IsStepOf mark it.w w says → answer ≡ elim says [
-            | Ok decision ↦ numbers_of decision
-            | Err cause ↦ record { tick = 0; job = 0; other = 0; kind = mark_code cause }
-          ] → given acts ≡ map shown (settled (all_told version p q acts) mark)
-          by_says (Err cause) leads so = absurd (not_none cause (sym (ap (λ (d : Decided). d.kind) so) ∙ none))
-          by_says (Ok decision) leads so =
-              let is_none : decision ≡ None = kind_none decision (sym (ap (λ (d : Decided). d.kind) so) ∙ none) in
-              let further : engine.Lives version k (it.calls ++ (engine.Stepped (horizon.Mark mark) None ∷ [])) w
-              = record {
-                made = it.lives.made;
-                fresh = it.lives.fresh;
-                lives = leads_append it.calls (engine.Stepped (horizon.Mark mark) None ∷ []) it.lives.made it.w w
-                    it.lives.lives
-                    (w, subst (λ d. engine.Leads (engine.Stepped (horizon.Mark mark) d) it.w w) is_none leads, refl);
-              } in
-              sym it.decisions ∙ ap (map shown) (life.settled_all version k it.calls mark w further
-              ∙ ap (λ J. settled J mark) (all_are it.calls acts it.jobs))
+    by_step : CallsOn (Some it.w) u t (answer.kind ≡ 11) (Steps mark answer)
+        → given acts ≡ map shown (settled (all_told version p q acts) mark)
+    by_step (w, is, step) = by_says step.says step.step step.shown where
+      by_says : (says : Result (Option Decision) NotStepped) → IsStepOf mark it.w w says → answer ≡ elim says [
+        | Ok decision ↦ numbers_of decision
+        | Err cause ↦ record { tick = 0; job = 0; other = 0; kind = mark_code cause }
+      ] → given acts ≡ map shown (settled (all_told version p q acts) mark)
+      by_says (Err cause) leads so = absurd (not_none cause (sym (ap (λ (d : Decided). d.kind) so) ∙ none))
+      by_says (Ok decision) leads so =
+          let is_none : decision ≡ None = kind_none decision (sym (ap (λ (d : Decided). d.kind) so) ∙ none) in
+          let further : engine.Lives version k (it.calls ++ (engine.Stepped (horizon.Mark mark) None ∷ [])) w
+          = record {
+            made = it.lives.made;
+            fresh = it.lives.fresh;
+            lives = leads_append it.calls (engine.Stepped (horizon.Mark mark) None ∷ []) it.lives.made it.w w
+                it.lives.lives
+                (w, subst (λ d. engine.Leads (engine.Stepped (horizon.Mark mark) d) it.w w) is_none leads, refl);
+          } in
+          sym it.decisions ∙ ap (map shown) (life.settled_all version k it.calls mark w further
+          ∙ ap (λ J. settled J mark) (all_are it.calls acts it.jobs))
+
+  -- what was given begins the run
+  pub begins_given : (acts : List Act) (t : Slot) → IsProgram version p q capacity acts t → (later : List Decided)
+      × (map shown (printed (all_told version p q acts)) ≡ given acts ++ later)
+  begins_given acts t program =
+      let it = living acts t program in
+      let begins = life.begins_all version k it.calls it.w it.lives in (
+        map shown begins.0,
+        ap (λ J. map shown (printed J)) (sym (all_are it.calls acts it.jobs)) ∙ ap (map shown) begins.1
+            ∙ map-append shown (engine.decided it.calls) begins.0
+            ∙ ap (λ es. es ++ map shown begins.0) it.decisions,
+      )
 
   pub within_given : (acts : List Act) (t : Slot) → IsProgram version p q capacity acts t → (s : List ℕ)
       → IsWithin k (worth (all_told version p q acts) s) (completed_value (all_told version p q acts))
@@ -428,38 +520,42 @@ module _ (version : Version) (p q capacity : ℕ) where
   pub ended_given : (acts : List Act) (answer : Decided) (t : Slot)
       → IsProgram version p q capacity (acts ++ (Finish answer ∷ [])) t
       → answer.kind ≡ 7 → given (acts ++ (Finish answer ∷ [])) ≡ map shown (printed (all_told version p q acts))
-  ended_given acts answer t program seven =
-      by_finish (subst (λ o. CallsOn o u t (answer.kind ≡ 11) (Finishes answer)) it.there does) where
-        it : Living acts (parts acts (Finish answer) t program).0
-        it = front acts (Finish answer) t program
+  ended_given acts answer t program seven = elim it.there [
+    | inl here ↦ by_finish (subst (λ o. CallsOn o u t (answer.kind ≡ 11) (Finishes answer)) here does)
+    | inr gone ↦
+        let idle = subst (λ o. CallsOn o u t (answer.kind ≡ 11) (Finishes answer)) gone does in
+        absurd (let f : 7 ≡ 11 = sym seven ∙ idle.0 in cc)
+  ] where
+    it : Living acts (parts acts (Finish answer) t program).0
+    it = front acts (Finish answer) t program
 
-        u : Slot
-        u = (parts acts (Finish answer) t program).0
+    u : Slot
+    u = (parts acts (Finish answer) t program).0
 
-        does : Does (Finish answer) u t
-        does = (parts acts (Finish answer) t program).2
+    does : Does (Finish answer) u t
+    does = (parts acts (Finish answer) t program).2
 
-        by_finish : CallsOn (Some it.w) u t (answer.kind ≡ 11) (Finishes answer)
-            → given (acts ++ (Finish answer ∷ [])) ≡ map shown (printed (all_told version p q acts))
-        by_finish (w, is, fin) =
-            let last : engine.Call = engine.Stepped horizon.End fin.says in
-            let further : engine.Lives version k (it.calls ++ (last ∷ [])) w = record {
-              made = it.lives.made;
-              fresh = it.lives.fresh;
-              lives = leads_append it.calls (last ∷ []) it.lives.made it.w w it.lives.lives
-                  (w, (may_end it.w, fin.step), refl);
-            } in
-            let is_end = kind_end fin.says (sym (ap (λ (d : Decided). d.kind) fin.shown) ∙ seven) in
-            let ended : has_ended w ≡ true = fin.step.ended
-            ∙ or_holds (has_ended it.w) (is_end_given (event_in fin.says)) (ap is_end_given is_end.1) in
-            let jobs : engine.admitted (it.calls ++ (last ∷ [])) ≡ told acts =
-            life.admitted_append it.calls (last ∷ []) ∙ append-nil (engine.admitted it.calls) ∙ it.jobs in
-            given_append acts (Finish answer ∷ [])
-            ∙ ap (λ es. es ++ given (Finish answer ∷ [])) (sym it.decisions)
-            ∙ ap (λ es. map shown (engine.decided it.calls) ++ es)
-            (ap (λ a. filter is_decision (a ∷ [])) fin.shown ∙ given_of fin.says
-            ∙ ap (map shown) (sym (append-nil (events_in fin.says))))
-            ∙ sym (map-append shown (engine.decided it.calls) (engine.decided (last ∷ [])))
-            ∙ ap (map shown) (sym (life.decided_append it.calls (last ∷ []))
-            ∙ life.ended_all version k (it.calls ++ (last ∷ [])) w further ended
-            ∙ ap printed (all_are (it.calls ++ (last ∷ [])) acts jobs))
+    by_finish : CallsOn (Some it.w) u t (answer.kind ≡ 11) (Finishes answer)
+        → given (acts ++ (Finish answer ∷ [])) ≡ map shown (printed (all_told version p q acts))
+    by_finish (w, is, fin) =
+        let last : engine.Call = engine.Stepped horizon.End fin.says in
+        let further : engine.Lives version k (it.calls ++ (last ∷ [])) w = record {
+          made = it.lives.made;
+          fresh = it.lives.fresh;
+          lives = leads_append it.calls (last ∷ []) it.lives.made it.w w it.lives.lives
+              (w, (may_end it.w, fin.step), refl);
+        } in
+        let is_end = kind_end fin.says (sym (ap (λ (d : Decided). d.kind) fin.shown) ∙ seven) in
+        let ended : has_ended w ≡ true = fin.step.ended
+        ∙ or_holds (has_ended it.w) (is_end_given (event_in fin.says)) (ap is_end_given is_end.1) in
+        let jobs : engine.admitted (it.calls ++ (last ∷ [])) ≡ told acts =
+        life.admitted_append it.calls (last ∷ []) ∙ append-nil (engine.admitted it.calls) ∙ it.jobs in
+        given_append acts (Finish answer ∷ [])
+        ∙ ap (λ es. es ++ given (Finish answer ∷ [])) (sym it.decisions)
+        ∙ ap (λ es. map shown (engine.decided it.calls) ++ es)
+        (ap (λ a. filter is_decision (a ∷ [])) fin.shown ∙ given_of fin.says
+        ∙ ap (map shown) (sym (append-nil (events_in fin.says))))
+        ∙ sym (map-append shown (engine.decided it.calls) (engine.decided (last ∷ [])))
+        ∙ ap (map shown) (sym (life.decided_append it.calls (last ∷ []))
+        ∙ life.ended_all version k (it.calls ++ (last ∷ [])) w further ended
+        ∙ ap printed (all_are (it.calls ++ (last ∷ [])) acts jobs))

@@ -9,8 +9,9 @@ use Rattle.dover_model.specs.JobFacts.{JobFacts}
 use Rattle.dover_model.specs.declared.horizon.Horizon.TheVariants as horizon
 use Rattle.dover_model.specs.Horizons.{MayFollow, no_jobs}
 use Rattle.admission.specs.declared.refused.Refused.TheVariants as refused
+use Rattle.dover_model.specs.declared.horizon.Horizon.TheVariants as horizon
 use Rattle.dover_engine.specs.declared.causes.NotAdmitted.{NotAdmitted}
-use Rattle.dover_engine.specs.declared.causes.NotAdmitted.TheVariants.{Unsettled, Refused, Full}
+use Rattle.dover_engine.specs.declared.causes.NotAdmitted.TheVariants.{Unsettled, BadJob, Count, Total, Ratio, Full}
 use Rattle.dover_engine.specs.declared.causes.NotMade.{NotMade}
 use Rattle.dover_engine.specs.declared.causes.NotMade.TheVariants as not_made
 use Rattle.dover_engine.specs.declared.causes.NotStepped.{NotStepped}
@@ -53,10 +54,14 @@ pub record IsFresh (p q version capacity : ℕ) (v : Life) : Type 0 where
   pub last : v.last ≡ horizon.Mark 0
   pub room : capacity ≤ spare_of v
 
--- status 0 stands by an engine as it was asked for, and with none the status says why
+-- the status of a place with an engine
+abbrev pub made_status : ℕ
+made_status = 5
+
+-- that status stands by an engine as it was asked for, and with none the status says why
 abbrev pub Stands : (p q version capacity : ℕ) → (status : ℕ) → Option Life → Type 0
 Stands p q version capacity status None = status ≡ status_of p q version capacity
-Stands p q version capacity status (Some v) = (status ≡ 0) × IsFresh p q version capacity v
+Stands p q version capacity status (Some v) = (status ≡ made_status) × IsFresh p q version capacity v
 
 abbrev pub IsMade : (p q version capacity : ℕ) → Slot → Type 0
 IsMade p q version capacity s = Stands p q version capacity s.status s.engine
@@ -64,6 +69,10 @@ IsMade p q version capacity s = Stands p q version capacity s.status s.engine
 -- the status stands there, and nothing changed
 abbrev pub StatusAnswers : Slot → Slot → ℕ → Type 0
 StatusAnswers s t answer = (answer ≡ s.status) × (t ≡ s)
+
+-- whatever there was, there is no engine, and the status is 0
+abbrev pub DropAnswers : Slot → Slot → Type 0
+DropAnswers s t = t ≡ record { status = 0; engine = None }
 
 -- ---- a call of an engine, where there is one
 
@@ -80,23 +89,29 @@ Calls s t none Says = CallsOn s.engine s t none Says
 -- the number of a cause
 abbrev pub cause_code : NotAdmitted → ℕ
 cause_code Unsettled = 1
-cause_code (Refused refused.BadJob) = 2
-cause_code (Refused refused.Count) = 3
-cause_code (Refused refused.Total) = 4
-cause_code (Refused (refused.Ratio other)) = 5
+cause_code BadJob = 2
+cause_code Count = 3
+cause_code Total = 4
+cause_code (Ratio other) = 5
 cause_code Full = 6
 
+-- the job that it names, and 0 where it names none
+abbrev pub other_in : NotAdmitted → ℕ
+other_in (Ratio other) = other
+other_in cause = 0
+
 -- it wasn't admitted, for this cause, and nothing changed
-pub record IsRefused (v w : Life) (job : JobFacts) (code : ℕ) : Type 0 where
+pub record IsRefused (v w : Life) (job : JobFacts) (answer : Admitted) : Type 0 where
   pub cause : NotAdmitted
-  pub code_is : code ≡ cause_code cause
+  pub code : answer.status ≡ cause_code cause
+  pub other : answer.number ≡ other_in cause
   pub holds : IsCause v job cause
   pub same : w ≡ v
 
 -- what the answer to a job says
 pub record Admits (job : JobFacts) (answer : Admitted) (v w : Life) : Type 0 where
   pub ok : answer.status ≡ 0 → IsAdmitted v w job answer.number
-  pub refused : (answer.status ≡ 0 → ⊥) → IsRefused v w job answer.status
+  pub refused : (answer.status ≡ 0 → ⊥) → IsRefused v w job answer
 
 abbrev pub AdmitAnswers : Slot → Slot → JobFacts → Admitted → Type 0
 AdmitAnswers s t job answer = Calls s t (answer.status ≡ 7) (Admits job answer)

@@ -9,14 +9,16 @@ use Rattle.dover_model.specs.Instance.{Instance}
 use Rattle.dover_c.specs.declared.Admitted.{Admitted}
 use Rattle.dover_c.specs.declared.Decided.{Decided}
 use Rattle.dover_c.specs.declared.slot.Slot.{Slot}
-use Rattle.dover_c.specs.Codes.{version_number, IsMade, AdmitAnswers, StepAnswers, FinishAnswers}
+use Rattle.dover_c.specs.Codes.{version_number, made_status, IsMade, AdmitAnswers, StepAnswers, FinishAnswers}
+use Rattle.dover_c.specs.Codes.{DropAnswers}
 
--- a call between dover_init and dover_drop, with its answer
+-- a call behind dover_init, with its answer
 pub data Act : Type 0 where
   Admit : JobFacts → Admitted → Act
   Step : ℕ → Decided → Act
   Finish : Decided → Act
   Ask : Act  -- for the status, the value or the room
+  Drop : Act
 
 -- it leads from s to t
 abbrev pub Does : Act → Slot → Slot → Type 0
@@ -24,6 +26,7 @@ Does (Admit job answer) s t = AdmitAnswers s t job answer
 Does (Step mark answer) s t = StepAnswers mark s t answer
 Does (Finish answer) s t = FinishAnswers s t answer
 Does Ask s t = t ≡ s
+Does Drop s t = DropAnswers s t
 
 -- these lead from s to t, one after another
 abbrev pub DoesAll : List Act → Slot → Slot → Type 0
@@ -34,7 +37,7 @@ DoesAll (act ∷ acts) s t = (u : Slot) × Does act s u × DoesAll acts u t
 pub record IsProgram (version : Version) (p q capacity : ℕ) (acts : List Act) (t : Slot) : Type 0 where
   pub made : Slot
   pub is_made : IsMade p q (version_number version) capacity made
-  pub status : made.status ≡ 0
+  pub status : made.status ≡ made_status
   pub does : DoesAll acts made t
 
 -- the jobs that it was told were admitted, with the numbers that it was told
@@ -44,6 +47,7 @@ told (Admit job answer ∷ acts) = if answer.status == 0 then (answer.number, jo
 told (Step mark answer ∷ acts) = told acts
 told (Finish answer ∷ acts) = told acts
 told (Ask ∷ acts) = told acts
+told (Drop ∷ acts) = told acts
 
 -- the jobs alone, and their instance
 abbrev pub jobs_told : List Act → List JobFacts
@@ -64,6 +68,7 @@ answers (Admit job answer ∷ acts) = answers acts
 answers (Step mark answer ∷ acts) = answer ∷ answers acts
 answers (Finish answer ∷ acts) = answer ∷ answers acts
 answers (Ask ∷ acts) = answers acts
+answers (Drop ∷ acts) = answers acts
 
 -- the decisions that it was given
 abbrev pub given : List Act → List Decided

@@ -1,6 +1,6 @@
-//! What a program in C is given, whatever calls it makes and in whatever order, from `dover_init` to `dover_drop`: the
-//! contract of a function that does nothing. The contracts of the calls are its premises, so it rests on the program's
-//! keeping what they require.
+//! What a program in C is given, whatever calls it makes and in whatever order, from `dover_init` on: the contract of a
+//! function that does nothing. The contracts of the calls are its premises, so it rests on the program's keeping what
+//! they require.
 ghost use Rattle.std.specs.Prelude.{◌≡◌, ◌≤◌, ◌++◌, ℕ, List, [], ◌∷◌, map};
 ghost use Rattle.std.specs.List.{enumerate_from};
 ghost use Rattle.dover_model.specs.declared.events.Version.{Version};
@@ -14,12 +14,12 @@ ghost use Rattle.dover_c.specs.declared.slot.Slot.{Slot};
 ghost use Rattle.dover_c.specs.declared.Decided.{Decided};
 ghost use Rattle.dover_c.specs.Program.{Act, Step, Finish, IsProgram, told, jobs_told, all_told, given, shown};
 
-/// The jobs that the program was told were admitted have the numbers 0, 1, 2 and so on. Where a step
-/// to a mark answers that none comes, the decisions that were given are all that is settled there of the run of
-/// all those jobs; with the End they are the whole run; and none that was given is changed by what comes later. No
-/// schedule of all those jobs is worth more than the ratio allows that run, some schedule is worth as much as it
-/// completes, and where one schedule serves all of them, it completes all, and no decision that was given is a take or
-/// an abandonment.
+/// The jobs that the program was told were admitted have the numbers 0, 1, 2 and so on. Where a step to a mark answers
+/// that none comes, the decisions that were given are all that is settled there of the run of all those jobs; with the
+/// End they are the whole run; at any moment, also behind a drop, they begin it; and none that was given is changed by
+/// what comes later. No schedule of all those jobs is worth more than the ratio allows that run, some schedule is worth
+/// as much as it completes, and where one schedule serves all of them, it completes all, and no decision that was given
+/// is a take or an abandonment.
 pub fn a_program_is_given_one_run()
     ensures numbers { (version : Version) (p q capacity : ℕ) (acts : List Act) (t : Slot) →
         IsProgram version p q capacity acts t →
@@ -32,6 +32,9 @@ pub fn a_program_is_given_one_run()
         IsProgram version p q capacity (acts ++ (Finish answer ∷ [])) t → answer.kind ≡ 7 →
         given (acts ++ (Finish answer ∷ [])) ≡ map shown (printed (all_told version p q acts)) }
     ensures online { (acts more : List Act) → given (acts ++ more) ≡ given acts ++ given more }
+    ensures begins { (version : Version) (p q capacity : ℕ) (acts : List Act) (t : Slot) →
+        IsProgram version p q capacity acts t → (later : List Decided)
+        × (map shown (printed (all_told version p q acts)) ≡ given acts ++ later) }
     ensures within { (version : Version) (p q capacity : ℕ) (acts : List Act) (t : Slot) (s : List ℕ) →
         IsProgram version p q capacity acts t →
         IsWithin (record { p = p; q = q }) (worth (all_told version p q acts) s)

@@ -1,5 +1,6 @@
-//! The engine for a program in C. A program hands in the address of a place of `dover_size` bytes, which holds an
-//! engine from `dover_init` to `dover_drop`, and is neither read nor written by it between the two.
+//! The engine for a program in C. A program hands in the address of a place of `dover_size` bytes, which it neither
+//! reads nor writes from `dover_init` on. Behind `dover_drop`, and where none was made, each call says that there is no
+//! engine.
 #![tactic(auto)]
 
 pub mod laws;
@@ -15,7 +16,7 @@ ghost use Rattle.dover_model.specs.JobFacts.{job_of_numbers};
 ghost use Rattle.dover_c.specs.declared.slot.Slot.{Slot};
 ghost use Rattle.dover_c.specs.contracts.slot.Slot.{the_row};
 ghost use Rattle.dover_c.specs.Codes.{IsMade, AdmitAnswers, StepAnswers, FinishAnswers, StatusAnswers};
-ghost use Rattle.dover_c.specs.Codes.{ValueAnswers, RoomAnswers};
+ghost use Rattle.dover_c.specs.Codes.{ValueAnswers, RoomAnswers, DropAnswers};
 ghost use Rattle.dover_c.specs.Places.{after_at};
 
 use crate::slot::Slot;
@@ -29,7 +30,8 @@ pub struct Place {
     byte: u8,
 }
 
-/// The answer to a job: status 0 and its number, or why it wasn't admitted.
+/// The answer to a job: status 0 and its number, or why it wasn't admitted, with the number of the job that breaks the
+/// ratio with it where one does.
 #[repr(C)]
 #[derive(Clone, Copy)]
 pub struct Admitted {
@@ -67,7 +69,7 @@ pub unsafe extern "C" fn dover_init(
     at.write(made);
 }
 
-/// 0 where there is an engine, else why there is none.
+/// 5 where there is an engine, else why there is none: 0 where it was dropped.
 #[unsafe(no_mangle)]
 pub unsafe extern "C" fn dover_status(place: *mut Place) -> u32
     ghost v: { Slot }
@@ -133,15 +135,14 @@ pub unsafe extern "C" fn dover_room(place: *mut Place) -> u32
     slot::room(&mut *(place as *mut Slot))
 }
 
-/// Gives back the engine's memory. The place is free again.
+/// Gives back the engine's memory. There is no engine then, so that this may be called again, and so may all others.
 #[unsafe(no_mangle)]
 pub unsafe extern "C" fn dover_drop(place: *mut Place)
     ghost v: { Slot }
     requires* { sem 𝓛 (lies_at the_row full_share place v) }
-    ensures* { sem 𝓛 (room_at the_row place) }
+    ensures* { sem 𝓛 (after_at place (λ w. DropAnswers v w)) }
 {
-    let at = place as *mut Slot;
-    slot::end(at.read());
+    slot::end(&mut *(place as *mut Slot));
 }
 
 /// How many bytes a place has. It lies at a multiple of 8.

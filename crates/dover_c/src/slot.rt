@@ -5,9 +5,11 @@ ghost use Rattle.dover_model.specs.declared.horizon.Horizon.TheVariants.{End};
 ghost use Rattle.dover_engine.specs.Calls.{Decides};
 ghost use Rattle.dover_c.specs.Codes.{IsMade, AdmitAnswers, StepAnswers, FinishAnswers, StatusAnswers, ValueAnswers};
 ghost use Rattle.dover_c.specs.Codes.{RoomAnswers, cause_code, made_code, mark_code, numbers_of, IsStepOf};
+ghost use Rattle.dover_c.specs.Codes.{IsMade, AdmitAnswers, StepAnswers, FinishAnswers, StatusAnswers, DropAnswers};
+ghost use Rattle.dover_c.specs.Codes.{ValueAnswers, RoomAnswers};
+ghost use Rattle.dover_c.specs.Codes.{cause_code, other_in, made_code, mark_code, numbers_of, IsStepOf};
 
 use crate::{Admitted, Decided};
-use admission::Refused;
 use dover_engine::{Decision, Engine, NotAdmitted, NotMade, NotStepped};
 use dover_model::{Ratio, Version};
 use std::alloc::Global;
@@ -16,7 +18,7 @@ use std::rt::Memory;
 use std::sync::ledger::{Blank, Ledger};
 use step_count::Steps;
 
-/// An engine, or why there is none.
+/// An engine, or why there is none. Zeros say that there is none, as after a drop.
 #[derive(Drop)]
 pub struct Slot {
     status: u32,
@@ -54,15 +56,17 @@ pub(crate) fn make(alloc: Global, p: u32, q: u32, version: u32, capacity: u32) -
     };
     match Engine::new(alloc, version, k, capacity) {
         Ok(engine) => Slot {
-            status: 0,
+            status: 5,
             engine: Some(engine),
         },
         Err(cause) => none(made_code(cause)),
     }
 }
 
-pub(crate) fn end(slot: Slot) {
-    let Slot { .. } = slot;
+pub(crate) fn end(slot: &mut Slot)
+    ensures { DropAnswers slot.old slot.new }
+{
+    *slot = none(0);
 }
 
 pub(crate) fn status(slot: &mut Slot) -> u32
@@ -76,11 +80,25 @@ fn cause_code(cause: NotAdmitted) -> u32
 {
     match cause {
         NotAdmitted::Unsettled => 1,
-        NotAdmitted::Refused(Refused::BadJob) => 2,
-        NotAdmitted::Refused(Refused::Count) => 3,
-        NotAdmitted::Refused(Refused::Total) => 4,
-        NotAdmitted::Refused(Refused::Ratio { .. }) => 5,
+        NotAdmitted::BadJob => 2,
+        NotAdmitted::Count => 3,
+        NotAdmitted::Total => 4,
+        NotAdmitted::Ratio { .. } => 5,
         NotAdmitted::Full => 6,
+    }
+}
+
+// The job that it names, and 0 where it names none.
+fn other_in(cause: NotAdmitted) -> u64
+    ensures { result ≡ other_in cause }
+{
+    match cause {
+        NotAdmitted::Ratio { other } => other,
+        NotAdmitted::Unsettled => 0,
+        NotAdmitted::BadJob => 0,
+        NotAdmitted::Count => 0,
+        NotAdmitted::Total => 0,
+        NotAdmitted::Full => 0,
     }
 }
 
@@ -96,7 +114,7 @@ pub(crate) fn admit(slot: &mut Slot, release: u64, work: u64, deadline: u64, val
     match engine.admit(release, work, deadline, value) {
         Ok(number) => Admitted { number, status: 0 },
         Err(cause) => Admitted {
-            number: 0,
+            number: other_in(cause),
             status: cause_code(cause),
         },
     }

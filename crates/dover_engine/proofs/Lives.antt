@@ -1,13 +1,18 @@
 -- What an engine gives of all jobs that were ever admitted, call by call.
 use Rattle.std.proofs.Common.{◌≡◌, ℕ, ◌+◌, ◌*◌, ◌≤◌, ◌<◌, ◌^◌, List, [], ◌∷◌, ◌++◌, length, map, refl, sym, ap, ◌∙◌}
 use Rattle.std.proofs.Common.{subst, arith, inl, inr, Bool, true, false, append-nil, append_assoc, length-append}
-use Rattle.std.specs.Prelude.{Option, Some, None, IsNone, is_some, option_to_list}
+use Rattle.std.specs.Prelude.{Option, Some, None, IsNone, is_some, option_to_list, drop}
 use Rattle.std.specs.Option.{option_map}
-use Rattle.std.proofs.lemmas.List.{map-append}
+use Rattle.std.specs.List.{filter}
+use Rattle.std.proofs.lemmas.List.{map-append, drop_at}
 use Rattle.std.proofs.lemmas.Nat.{mul-le}
 use Rattle.std.proofs.lemmas.List.Sums.{sum_by-cons}
 use Rattle.dover_model.specs.declared.events.Event.{Event}
 use Rattle.dover_model.specs.declared.events.Event.TheVariants as events
+use Rattle.dover_model.specs.declared.events.Task.{Task}
+use Rattle.dover_model.specs.State.{is_held, state_at}
+use Rattle.dover_model.specs.declared.events.Refusal.{Refusal}
+use Rattle.dover_model.specs.declared.events.Refusal.TheVariants as plain
 use Rattle.dover_model.specs.declared.events.Version.{Version}
 use Rattle.dover_model.specs.Fraction.{Fraction}
 use Rattle.dover_model.specs.JobFacts.{JobFacts}
@@ -20,19 +25,24 @@ use Rattle.dover_model.specs.Rest.{NoneBefore, behind, before_end, instead, in_t
 use Rattle.dover_model.proofs.Apart.{runs_in_turn, behind_last, end_at_rest}
 use Rattle.dover_model.proofs.Turns.{over_more, jobs_append, completed_append, settled_behind, printed_behind}
 use Rattle.dover_model.proofs.Turns.{before_end_behind}
+use Rattle.dover_model.specs.Admission.{refusal_of}
+use Rattle.admission.specs.declared.refused.Refused.{Refused}
+use Rattle.admission.specs.declared.refused.Refused.TheVariants as refused
+use Rattle.admission.specs.Answers.{refusal_of_refused, NamesOther, IsOther}
 use Rattle.admission.specs.Kept.{Kept, StandsFor}
 use Rattle.dover_model.specs.declared.horizon.Horizon.{Horizon}
 use Rattle.dover_model.specs.declared.horizon.Horizon.TheVariants.{Mark, End}
 use Rattle.dover_model.specs.Horizons.{MayFollow, is_ready_after, is_end_given, no_jobs, due_by}
 use Rattle.dover_model.specs.Spending.{waits_among}
-use Rattle.dover_model.specs.State.{state_at}
+use Rattle.ready_jobs.specs.Spending.{wait_again_by}
 use Rattle.ready_jobs.proofs.Courses.{follows_count}
 use Rattle.ready_server.specs.Serving.{Serves, Rests}
 use Rattle.ready_server.specs.declared.server.ReadyServer.{ReadyServer}
 use Rattle.dover_engine.specs.declared.decision.Decision.{Decision}
 use Rattle.dover_engine.specs.Decisions.{event_in}
-use Rattle.dover_engine.specs.Life.{life_with, Life, IsReadyFor, IsAtRest, HasPaid, done_value, has_ended}
+use Rattle.dover_engine.specs.Life.{life_with, Life, IsReadyFor, IsAtRest, HasPaid, CostsOnce, done_value, has_ended}
 use Rattle.dover_engine.specs.Given.{GaveSince, Gave, IsSince, IsPrompt}
+use Rattle.dover_engine.specs.Calls.{since_rest, HasCause, IsBreaker, IsCause, cause_behind}
 use Rattle.dover_engine.proofs.Giving.{fresh_gave}
 use Rattle.dover_engine.proofs.Since as since
 
@@ -62,6 +72,40 @@ new_gave version k s kept serves stands ratio = record {
 }
 
 -- ---- a job
+
+-- those since the last moment of rest
+pub since_given : (v : Life) (J : Instance) (es : List Event) (g : Gave v J es) → since_rest v J ≡ g.since
+since_given v J es g = ap (drop v.forgotten) g.all_jobs ∙ drop_at (in_turn g.lists) g.since v.forgotten (sym g.forgotten)
+
+module _ (v : Life) (job : JobFacts) where
+  -- why it may not follow them
+  pub has_cause : (cause : Option Refusal) → ((jobs : List JobFacts) → StandsFor v.admission jobs
+      → refusal_of v.admission.ratio jobs job ≡ cause) → HasCause v job cause
+  has_cause cause it J es g = ap (λ js. refusal_of J.rules.ratio js job) (since_given v J es g)
+      ∙ ap (λ k. refusal_of k g.since job) (sym g.gave.ratio) ∙ it g.since g.gave.admission
+
+  -- the job that is named
+  breaker : (other : ℕ) → ((jobs : List JobFacts) → StandsFor v.admission jobs
+      → IsOther v.admission.ratio jobs job other) → (J : Instance) (es : List Event) → Gave v J es
+      → IsBreaker v J job (v.forgotten + other)
+  breaker other it J es g = record {
+    number = other;
+    numbered = refl;
+    is = subst (λ js. IsOther J.rules.ratio js job other) (sym (since_given v J es g))
+        (subst (λ k. IsOther k g.since job other) g.gave.ratio (it g.since g.gave.admission));
+  }
+
+  -- a refusal is a cause
+  pub refused_cause : (refused : Refused) → IsReadyFor v job.release
+      → ((jobs : List JobFacts) → StandsFor v.admission jobs
+      → refusal_of v.admission.ratio jobs job ≡ Some (refusal_of_refused refused))
+      → ((jobs : List JobFacts) → StandsFor v.admission jobs → NamesOther v.admission.ratio jobs job refused)
+      → IsCause v job (cause_behind v.forgotten refused)
+  refused_cause refused.BadJob ready why other = (ready, has_cause (Some plain.BadJob) why)
+  refused_cause refused.Count ready why other = (ready, has_cause (Some plain.Count) why)
+  refused_cause refused.Total ready why other = (ready, has_cause (Some plain.Total) why)
+  refused_cause (refused.Ratio number) ready why other =
+      (ready, has_cause (Some plain.Ratio) why, breaker number other)
 
 -- none of these jobs comes before, nor one more
 one_later : (tick : ℕ) (jobs : List JobFacts) (job : JobFacts) → NoneBefore tick jobs → tick ≤ job.release
@@ -319,6 +363,25 @@ module _ (v : Life) (J : Instance) (es : List Event) (g : Gave v J es) (none : v
         ≤ 4 * v.admission.count
     waits = subst (λ ts. waits_among v.server.ready.jobs (state_at v.server.ready.clock ts) ≤ 4 * v.admission.count)
         (sym none) (omega (arith, count))
+
+-- numbers are nothing to what a step costs
+same_wait : (n value : ℕ) (o : Option Event) (held : List Task)
+    → wait_again_by (option_map (behind n value) o) held ≡ wait_again_by o held
+same_wait n value None held = refl
+same_wait n value (Some (events.Release m job)) held = refl
+same_wait n value (Some (events.Run at m)) held = refl
+same_wait n value (Some (events.Preempt at stops starts)) held = refl
+same_wait n value (Some (events.Take at stops starts)) held = refl
+same_wait n value (Some (events.Complete at m)) held = refl
+same_wait n value (Some (events.Abandon at m)) held = refl
+same_wait n value (Some (events.End more)) held = refl
+
+pub shown_once : (v : Life) (n value : ℕ) (o p : Option Event) (before now : ℕ) → p ≡ option_map (behind n value) o
+    → CostsOnce v o before now → CostsOnce v p before now
+shown_once v n value o p before now same cost d fits = subst (λ w. now ≤ before + 2 * d * (6 + w))
+    (sym (ap (λ q. wait_again_by q (filter is_held v.server.ready.ready)) same
+    ∙ same_wait n value o (filter is_held v.server.ready.ready)))
+    (cost d fits)
 
 -- the engine's answer says that none is withheld
 pub answer_prompt : (to : Horizon) (J : Instance) (es : List Event) (n value : ℕ) (answer : Option Decision)

@@ -1,9 +1,10 @@
 -- What the calls of an engine say.
 use Rattle.std.specs.Prelude.{◌≡◌, ℕ, ◌+◌, ◌≤◌, ◌||◌, List, [], ◌∷◌, ◌++◌, map, Option, Some, None, true, nat_lt}
-use Rattle.std.specs.Prelude.{if◌then◌else◌}
+use Rattle.std.specs.Prelude.{if◌then◌else◌, drop}
 use Rattle.dover_model.specs.declared.events.Version.{Version}
 use Rattle.dover_model.specs.declared.events.Event.{Event}
 use Rattle.dover_model.specs.declared.events.Refusal.{Refusal}
+use Rattle.dover_model.specs.declared.events.Refusal.TheVariants as plain
 use Rattle.dover_model.specs.JobFacts.{JobFacts}
 use Rattle.dover_model.specs.Fraction.{Fraction}
 use Rattle.dover_model.specs.Limits.{most_jobs, last_tick}
@@ -11,19 +12,22 @@ use Rattle.dover_model.specs.Instance.{Instance, with_jobs, jobs_under}
 use Rattle.dover_model.specs.Admission.{refusal_of}
 use Rattle.dover_model.specs.Run.{printed}
 use Rattle.admission.specs.Kept.{Kept, StandsFor}
-use Rattle.admission.specs.Answers.{refusal_of_refused}
+use Rattle.admission.specs.Answers.{refusal_of_refused, IsOther}
 use Rattle.dover_model.specs.declared.horizon.Horizon.{Horizon}
 use Rattle.dover_model.specs.declared.horizon.Horizon.TheVariants.{Mark, End}
 use Rattle.dover_model.specs.Horizons.{MayFollow, is_ready_after, is_end_given, no_jobs}
+use Rattle.admission.specs.declared.refused.Refused.{Refused}
+use Rattle.admission.specs.declared.refused.Refused.TheVariants as refused
 use Rattle.dover_engine.specs.declared.causes.NotMade.{NotMade}
 use Rattle.dover_engine.specs.declared.causes.NotMade.TheVariants.{Capacity, Memory}
 use Rattle.dover_engine.specs.declared.causes.NotAdmitted.{NotAdmitted}
-use Rattle.dover_engine.specs.declared.causes.NotAdmitted.TheVariants.{Unsettled, Refused, Full}
+use Rattle.dover_engine.specs.declared.causes.NotAdmitted.TheVariants.{Unsettled, BadJob, Count, Total, Ratio, Full}
 use Rattle.dover_engine.specs.declared.causes.NotStepped.{NotStepped}
 use Rattle.dover_engine.specs.declared.causes.NotStepped.TheVariants.{Falls, Late, Finished}
 use Rattle.dover_engine.specs.declared.decision.Decision.{Decision}
 use Rattle.dover_engine.specs.Decisions.{event_in, events_in}
-use Rattle.dover_engine.specs.Life.{Life, IsReadyFor, IsAtRest, most_forgotten, done_value, spare_of, has_ended}
+use Rattle.dover_engine.specs.Life.{Life, IsReadyFor, IsAtRest, most_forgotten, done_value, spare_of, room_of}
+use Rattle.dover_engine.specs.Life.{has_ended}
 use Rattle.dover_engine.specs.Given.{Gave, IsPrompt}
 
 -- ---- making
@@ -45,17 +49,40 @@ pub record IsAdmitted (v w : Life) (job : JobFacts) (number : ℕ) : Type 0 wher
   pub gave : TakesJob v w job
   pub last : w.last ≡ v.last
   pub spare : spare_of v ≤ spare_of w + 1
+  pub room : room_of w ≡ room_of v
 
--- why the job may not follow the admitted ones, if so
-abbrev pub HasCause : Kept → JobFacts → Option Refusal → Type 0
-HasCause kept job cause = (jobs : List JobFacts) → StandsFor kept jobs → refusal_of kept.ratio jobs job ≡ cause
+-- the jobs that were admitted since the last moment of rest
+abbrev pub since_rest : Life → Instance → List JobFacts
+since_rest v J = drop v.forgotten J.jobs
+
+-- why the job may not follow those, if so
+abbrev pub HasCause : Life → JobFacts → Option Refusal → Type 0
+HasCause v job cause = (J : Instance) (events : List Event) → Gave v J events
+    → refusal_of J.rules.ratio (since_rest v J) job ≡ cause
+
+-- the job of this number breaks the ratio with it: of those since the last moment of rest the least dense one, or else
+-- the densest
+pub record IsBreaker (v : Life) (J : Instance) (job : JobFacts) (other : ℕ) : Type 0 where
+  pub number : ℕ  -- among those jobs
+  pub numbered : other ≡ v.forgotten + number
+  pub is : IsOther J.rules.ratio (since_rest v J) job number
 
 -- the cause holds, and none before it
 abbrev pub IsCause : Life → JobFacts → NotAdmitted → Type 0
 IsCause v job Unsettled = IsReadyFor v job.release → ⊥
-IsCause v job (Refused refused) = IsReadyFor v job.release
-    × HasCause v.admission job (Some (refusal_of_refused refused))
-IsCause v job Full = IsReadyFor v job.release × HasCause v.admission job None × (spare_of v ≡ 0)
+IsCause v job BadJob = IsReadyFor v job.release × HasCause v job (Some plain.BadJob)
+IsCause v job Count = IsReadyFor v job.release × HasCause v job (Some plain.Count)
+IsCause v job Total = IsReadyFor v job.release × HasCause v job (Some plain.Total)
+IsCause v job (Ratio other) = IsReadyFor v job.release × HasCause v job (Some plain.Ratio)
+    × ((J : Instance) (events : List Event) → Gave v J events → IsBreaker v J job other)
+IsCause v job Full = IsReadyFor v job.release × HasCause v job None × (spare_of v ≡ 0)
+
+-- the cause of a refusal among the jobs behind these
+abbrev pub cause_behind : ℕ → Refused → NotAdmitted
+cause_behind forgotten refused.BadJob = BadJob
+cause_behind forgotten refused.Count = Count
+cause_behind forgotten refused.Total = Total
+cause_behind forgotten (refused.Ratio other) = Ratio (forgotten + other)
 
 -- ---- steps
 
@@ -80,6 +107,7 @@ pub record Decides (to : Horizon) (v w : Life) (answer : Option Decision) : Type
   pub settled : w.settled ≡ is_ready_after to (event_in answer)
   pub ended : has_ended w ≡ (has_ended v || is_end_given (event_in answer))
   pub spare : spare_of v ≤ spare_of w
+  pub room : room_of w ≡ room_of v
   pub anew : BeginsAnew w
 
 -- ---- a life

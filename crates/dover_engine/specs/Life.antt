@@ -34,6 +34,10 @@ life_with server admission last settled coming forgotten earned = record {
 abbrev pub spare_of : Life → ℕ
 spare_of v = serving.spare_of v.server
 
+-- for how many open jobs there is room in all
+abbrev pub room_of : Life → ℕ
+room_of v = v.server.ready.room
+
 -- the value of the jobs that completed
 abbrev pub done_value : Life → ℕ
 done_value v = v.earned + v.server.ready.done
@@ -58,6 +62,11 @@ pub record HasPaid (v : Life) (start now : ℕ) : Type 0 where
   pub since : ℕ
   pub before : (d : ℕ) → most_jobs + 1 < 2 ^ d → since ≤ start + 80 * d * v.forgotten
   pub paid : serving.HasPaid v.server since now
+
+-- the comparisons of one call: at most 12 * d, and by a take 2 * d more for each job that was held, with d the binary
+-- digits of how many jobs are open
+abbrev pub CostsOnce : Life → Option Event → (before now : ℕ) → Type 0
+CostsOnce v answer before now = serving.CostsOnce v.server answer before now
 
 -- all that is settled at this mark was given, so that a job of this release may be admitted
 abbrev pub IsReadyFor : Life → ℕ → Type 0

@@ -1,10 +1,14 @@
 //! Why a call of an engine did nothing.
+ghost use Rattle.std.specs.Prelude.{◌≡◌, ◌≤◌};
+ghost use Rattle.dover_engine.specs.Calls.{cause_behind};
+ghost use Rattle.dover_engine.specs.Life.{most_forgotten};
+
 use admission::Refused;
 
 /// Why no engine was made.
 #[derive(Clone, Copy, Debug, PartialEq, Eq)]
 pub enum NotMade {
-    /// There is room for at most 1,000,000 jobs between two moments of rest.
+    /// There is room for at most 1,000,000 open jobs.
     Capacity,
     /// There was no memory.
     Memory,
@@ -15,10 +19,32 @@ pub enum NotMade {
 pub enum NotAdmitted {
     /// The run wasn't taken to the job's release: `step` to it has to answer None first.
     Unsettled,
-    /// A limit is broken.
-    Refused(Refused),
-    /// There is no room left for a job.
+    /// A limit of one job is broken.
+    BadJob,
+    /// 1,000,000 jobs were admitted since the last moment of rest.
+    Count,
+    /// The sum of the values since the last moment of rest would pass 10,000,000,000,000.
+    Total,
+    /// The job of this number and the job break the ratio, in one direction or the other. It is the first of the least
+    /// dense jobs since the last moment of rest, or else the first of the densest.
+    Ratio { other: u64 },
+    /// As many jobs are open as there is room for.
     Full,
+}
+
+// The cause of a refusal among the jobs behind others that were forgotten.
+pub(crate) fn cause_behind(forgotten: u64, refused: Refused) -> NotAdmitted
+    requires { forgotten ≤ most_forgotten }
+    ensures { result ≡ cause_behind forgotten refused }
+{
+    match refused {
+        Refused::BadJob => NotAdmitted::BadJob,
+        Refused::Count => NotAdmitted::Count,
+        Refused::Total => NotAdmitted::Total,
+        Refused::Ratio { other } => NotAdmitted::Ratio {
+            other: forgotten + u64::from(other),
+        },
+    }
 }
 
 /// Why no step was taken to a mark. The first of these causes that holds is the one that is answered.

@@ -9,13 +9,14 @@ ghost use Rattle.dover_model.specs.Instance.{Instance};
 ghost use Rattle.dover_model.specs.declared.events.Event.{Event};
 ghost use Rattle.dover_model.specs.declared.horizon.Horizon.TheVariants.{Mark, End};
 ghost use Rattle.dover_model.specs.Horizons.{MayFollow, is_ready_after, is_end_given, no_jobs, due_by};
-ghost use Rattle.dover_engine.specs.Life.{spare_of, done_value, clock_of, has_ended, HasPaid, IsReadyFor};
+ghost use Rattle.dover_engine.specs.Life.{spare_of, done_value, clock_of, has_ended, HasPaid, IsReadyFor, room_of};
+ghost use Rattle.dover_engine.specs.Life.{CostsOnce};
 ghost use Rattle.ready_server.specs.Serving.{HasShortValue};
 ghost use Rattle.dover_engine.specs.Decisions.{event_in};
 ghost use Rattle.dover_engine.specs.Given.{Gave};
 ghost use Rattle.dover_engine.specs.Calls.{not_made, mark_refusal, IsAdmitted, IsCause, BeginsAnew, Decides};
 
-use crate::causes::{NotAdmitted, NotMade, NotStepped};
+use crate::causes::{NotAdmitted, NotMade, NotStepped, cause_behind};
 use crate::decision::{Decision, decision_in};
 use admission::Admission;
 use dover_model::jobs::LAST_TICK;
@@ -32,7 +33,9 @@ const MOST_FORGOTTEN: u64 = 1_000_000_000_000_000_000;
 // How many jobs there may be.
 const MOST_JOBS: u32 = 1_000_000;
 
-/// A server with its admission, which takes all its memory when it is made, and forgets each job as it is over.
+/// A server with its admission, which takes all its memory when it is made, and forgets each job as it is over. Its
+/// capacity is for open jobs, and a job is over at its deadline at the latest: as many are enough as can come within the
+/// longest time from a release to its deadline.
 #[derive(Drop)]
 pub struct Engine {
     server: ReadyServer,
@@ -78,6 +81,10 @@ fn mark_refusal(last: Horizon, mark: u64) -> Option<NotStepped>
 impl Engine {
     /// No job is admitted yet, and there is room for so many open ones: jobs that are released and not over. No later
     /// call takes memory.
+    ///
+    /// # Errors
+    ///
+    /// `Capacity` above 1,000,000, and else `Memory` where there is none.
     pub fn new(alloc: Global, version: Version, k: Ratio, capacity: u32) -> Result<Engine, NotMade>
         ensures gave { IfOk result (λ engine. Gave engine (no_jobs version k) []) }
         ensures begins { IfOk result (λ engine. engine.last ≡ Mark 0) }
@@ -116,7 +123,13 @@ impl Engine {
     /// order in which they are admitted. Its release is the next decision. No memory is taken.
     ///
     /// The limits of count, total and ratio are those of the jobs since the last moment of rest: a tick at which `step`
-    /// answered None and no job was open. Then the jobs before are forgotten.
+    /// answered None and no job was open. Then the jobs before are forgotten. An engine that never rests refuses jobs
+    /// from such a limit on till the open ones are over.
+    ///
+    /// # Errors
+    ///
+    /// `NotAdmitted`, with the first cause that holds, and all as before. Since `step` goes to the release before, the
+    /// clock has gone there also where the job is refused then.
     pub fn admit(
         &mut self,
         release: u64,
@@ -136,7 +149,7 @@ impl Engine {
         }
         let job = match self.admission.check(release, work, deadline, value) {
             Ok(job) => job,
-            Err(refused) => return Err(NotAdmitted::Refused(refused)),
+            Err(refused) => return Err(cause_behind(self.forgotten, refused)),
         };
         if self.server.spare() == 0 {
             return Err(NotAdmitted::Full);
@@ -163,7 +176,9 @@ impl Engine {
         ensures earned { self.new.earned ≡ self.old.earned }
         ensures short { IfSome result HasShortValue }
         ensures spare { spare_of self.old ≤ spare_of self.new }
+        ensures room { room_of self.new ≡ room_of self.old }
         ensures paid { (start : ℕ) → HasPaid self.old start steps.old → HasPaid self.new start steps.new }
+        ensures once { CostsOnce self.old result steps.old steps.new }
     {
         self.last = to;
         match self.coming {
@@ -199,6 +214,7 @@ impl Engine {
         ensures anew { BeginsAnew self.new }
         ensures value { done_value self.new ≡ done_value self.old }
         ensures spare { spare_of self.new ≡ spare_of self.old }
+        ensures room { room_of self.new ≡ room_of self.old }
         ensures paid { (start now : ℕ) → HasPaid self.old start now → HasPaid self.new start now }
     {
         if !self.settled || !self.server.is_idle() {
@@ -220,6 +236,7 @@ impl Engine {
         requires { MayFollow self.old.last to }
         ensures decides { Decides to self.old self.new result }
         ensures paid { (start : ℕ) → HasPaid self.old start steps.old → HasPaid self.new start steps.new }
+        ensures once { CostsOnce self.old (event_in result) steps.old steps.new }
     {
         let event = self.next(to, steps);
         let decision = self.shown(&event);
@@ -229,6 +246,10 @@ impl Engine {
 
     /// The next decision that no job can change that is released at the mark or later. None where all that are settled
     /// at the mark were given: then jobs of this release may be admitted. No memory is taken.
+    ///
+    /// # Errors
+    ///
+    /// `NotStepped`, with the first cause that holds, and all as before.
     pub fn step<L: Ledger>(
         &mut self,
         mark: u64,
@@ -240,6 +261,7 @@ impl Engine {
         ensures may { OnOk result (MayFollow self.old.last (Mark mark)) }
         ensures decides { IfOk result (λ answer. Decides (Mark mark) self.old self.new answer) }
         ensures paid { (start : ℕ) → HasPaid self.old start steps.old → HasPaid self.new start steps.new }
+        ensures once { IfOk result (λ answer. CostsOnce self.old (event_in answer) steps.old steps.new) }
     {
         if let Some(cause) = mark_refusal(self.last, mark) {
             return Err(cause);
@@ -252,6 +274,7 @@ impl Engine {
     pub fn finish<L: Ledger>(&mut self, steps: &mut Steps<L>) -> Option<Decision>
         ensures decides { Decides End self.old self.new result }
         ensures paid { (start : ℕ) → HasPaid self.old start steps.old → HasPaid self.new start steps.new }
+        ensures once { CostsOnce self.old (event_in result) steps.old steps.new }
     {
         self.decide(Horizon::End, steps)
     }

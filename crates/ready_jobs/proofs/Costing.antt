@@ -1,7 +1,7 @@
 -- What printed steps cost, by the jobs that begin and cease to wait.
-use Rattle.std.proofs.Common.{◌≡◌, ℕ, ◌+◌, ◌*◌, ◌≤◌, inl, inr, List, [], ◌∷◌, ◌++◌, length, refl, sym, ap, ◌∙◌, subst}
+use Rattle.std.proofs.Common.{◌≡◌, ℕ, ◌+◌, ◌-◌, ◌*◌, ◌≤◌, inl, inr, List, [], ◌∷◌, ◌++◌, length, refl, sym, ap, ◌∙◌, subst}
 use Rattle.std.proofs.Common.{Bool, true, false, cond, not, arith}
-use Rattle.std.specs.Prelude.{Some, ◌&&◌}
+use Rattle.std.specs.Prelude.{Option, Some, None, ◌&&◌}
 use Rattle.std.specs.Option.{option_to_list}
 use Rattle.std.specs.List.{filter, sum_by, count_by}
 use Rattle.std.proofs.lemmas.Bool.{eq-eqb, ne_eqb}
@@ -77,6 +77,43 @@ fewer_wait p = omega (
   length-append (option_to_list p.fresh) (p.held ++ p.waiting),
   length-append p.held p.waiting,
 )
+
+-- what one job costs that begins or ceases to wait
+pub one_at_most : (d x before now : ℕ) → now ≤ before + 6 * d → now ≤ before + 2 * d * (4 + x)
+one_at_most d x before now cost = omega (arith, cost)
+
+-- what a take costs
+pub take_at_most : (d held before now : ℕ) → now ≤ before + 6 * d + 2 * d * (held + 1)
+    → now ≤ before + 2 * d * (4 + held)
+take_at_most d held before now cost = omega (arith, cost)
+
+-- the silent steps of a call, and the printed one
+pub both_at_most : (d x before mid now : ℕ) → mid ≤ before + 4 * d → now ≤ mid + 2 * d * (4 + x)
+    → now ≤ before + 2 * d * (6 + x)
+both_at_most d x before mid now first then = omega (arith, first, then)
+
+few_jobs : (o : Option Task) → length (option_to_list o) ≤ 1
+few_jobs None = omega arith
+few_jobs (Some t) = omega arith
+
+-- silent steps let two jobs wait at most
+pub silent_at_most : (p q : Parted) → q.held ≡ p.held → length (ready_of q) ≡ length (ready_of p)
+    → (d before now : ℕ) → now ≤ before + 2 * d * (length q.waiting - length p.waiting) → now ≤ before + 4 * d
+silent_at_most p q held same d before now cost = omega (arith, cost, most) where
+  lengths : (r : Parted) → length (ready_of r)
+      ≡ length (option_to_list r.running) + (length (option_to_list r.fresh) + (length r.held + length r.waiting))
+  lengths r = omega (
+    arith,
+    length-append (option_to_list r.running) (option_to_list r.fresh ++ (r.held ++ r.waiting)),
+    length-append (option_to_list r.fresh) (r.held ++ r.waiting),
+    length-append r.held r.waiting,
+  )
+
+  two : length q.waiting - length p.waiting ≤ 2
+  two = omega (arith, ap length held, same, lengths p, lengths q, few_jobs p.running, few_jobs p.fresh)
+
+  most : 2 * d * (length q.waiting - length p.waiting) ≤ 2 * d * 2
+  most = mul-le-mul_left (2 * d) two
 
 module _ (p : Parted) (roles : HaveRoles p) (d before after at : ℕ) where
   abbrev A : List Task

@@ -1,9 +1,29 @@
 -- What the comparisons of a course are for.
-use Rattle.std.specs.Prelude.{ℕ}
-use Rattle.dover_model.specs.State.{state_at}
+use Rattle.std.specs.Prelude.{ℕ, ◌≤◌, ◌<◌, ◌+◌, ◌*◌, ◌^◌, List, length, Option, Some, None}
+use Rattle.dover_model.specs.State.{state_at, is_held}
 use Rattle.dover_model.specs.Spending.{HasSpentFor}
+use Rattle.std.specs.List.{filter}
+use Rattle.dover_model.specs.declared.events.Event.{Event}
+use Rattle.dover_model.specs.declared.events.Event.TheVariants.{Take}
+use Rattle.dover_model.specs.declared.events.Task.{Task}
 use Rattle.ready_jobs.specs.Course.{Course}
 
 -- up to here each time that one of the jobs released so far began or ceased to wait cost 20 * d comparisons at most
 abbrev pub HasPaid : Course → (start now : ℕ) → Type 0
 HasPaid c start now = HasSpentFor c.jobs (state_at c.clock c.ready) start now
+
+-- how many held jobs wait again by a step: all of them by a take
+abbrev pub wait_again : Event → List Task → ℕ
+wait_again (Take at stops starts) held = length held
+wait_again e held = 0
+
+-- the same of what a call answers
+abbrev pub wait_again_by : Option Event → List Task → ℕ
+wait_again_by (Some e) held = wait_again e held
+wait_again_by None held = 0
+
+-- the comparisons of one call: at most 12 * d, and by a take 2 * d more for each job that was held, with d the binary
+-- digits of how many jobs are ready
+abbrev pub CostsOnce : Course → Option Event → (before now : ℕ) → Type 0
+CostsOnce c answer before now = (d : ℕ) → length c.ready + 1 < 2 ^ d
+    → now ≤ before + 2 * d * (6 + wait_again_by answer (filter is_held c.ready))

@@ -1,5 +1,5 @@
 //! What a printed step does to the ready jobs.
-ghost use Rattle.std.specs.Prelude.{◌≡◌, ℕ, ◌+◌, ◌^◌, ◌<◌, ◌≤◌, length};
+ghost use Rattle.std.specs.Prelude.{◌≡◌, ℕ, ◌+◌, ◌*◌, ◌^◌, ◌<◌, ◌≤◌, length};
 ghost use Rattle.dover_model.specs.declared.events.Event.{Event};
 ghost use Rattle.dover_model.specs.declared.events.Event.TheVariants.{Run, Preempt, Take, Complete, Abandon};
 ghost use Rattle.dover_model.specs.Step.{Prints, view};
@@ -7,6 +7,7 @@ ghost use Rattle.dover_model.specs.Spending.{cost_of};
 ghost use Rattle.ready_jobs.specs.Parts.{AreSound, ready_of, state_of};
 ghost use Rattle.ready_jobs.specs.Changed.{AreOnce, Leaves, IsNext, printed};
 ghost use Rattle.ready_jobs.specs.Deeds.{Finds, Does};
+ghost use Rattle.ready_jobs.specs.Spending.{wait_again};
 ghost use Rattle.ready_jobs.specs.declared.deeds.Deed.TheVariants.{Resume, Start, Begin};
 
 use crate::deeds::Deed;
@@ -61,6 +62,7 @@ impl Parts {
         ensures kept { self.new ≡ record self.old { running = self.new.running; waiting = self.new.waiting } }
         ensures cost { (at d : ℕ) → length (ready_of self.old) + 1 < 2 ^ d →
             steps.new ≤ steps.old + cost_of d (state_of self.old) (Prints (Run at number)) }
+        ensures once { (d : ℕ) → length (ready_of self.old) + 1 < 2 ^ d → steps.new ≤ steps.old + 6 * d }
     {
         self.laws();
         self.start(steps);
@@ -114,6 +116,8 @@ impl Parts {
         } }
         ensures cost { (at d : ℕ) → length (ready_of self.old) + 1 < 2 ^ d →
             steps.new ≤ steps.old + cost_of d (state_of self.old) (Prints (Take at stops starts)) }
+        ensures once { (d : ℕ) → length (ready_of self.old) + 1 < 2 ^ d →
+            steps.new ≤ steps.old + 6 * d + 2 * d * (length self.old.held + 1) }
     {
         self.laws();
         if let Some(r) = self.running() {
@@ -134,6 +138,7 @@ impl Parts {
         ensures kept { self.new ≡ record self.old { waiting = self.new.waiting } }
         ensures cost { (at d : ℕ) → length (ready_of self.old) + 1 < 2 ^ d →
             steps.new ≤ steps.old + cost_of d (state_of self.old) (Prints (Abandon at number)) }
+        ensures once { (d : ℕ) → length (ready_of self.old) + 1 < 2 ^ d → steps.new ≤ steps.old + 6 * d }
     {
         self.laws();
         self.abandon(steps);
@@ -157,6 +162,8 @@ impl Parts {
         ensures fewer { length (ready_of self.new) ≤ length (ready_of self.old) }
         ensures cost { (e : Event) (d : ℕ) → Does self.old deed e → length (ready_of self.old) + 1 < 2 ^ d →
             steps.new ≤ steps.old + cost_of d (state_of self.old) (Prints e) }
+        ensures once { (e : Event) (d : ℕ) → Does self.old deed e → length (ready_of self.old) + 1 < 2 ^ d →
+            steps.new ≤ steps.old + 2 * d * (4 + wait_again e self.old.held) }
     {
         match deed {
             Deed::Resume { number } => self.resume_next(number),

@@ -1,18 +1,22 @@
 //! The run of the jobs that were released so far, over those that are ready.
 ghost use Rattle.std.specs.Prelude.{◌≡◌, ◌≢◌, ◌↔◌, ◌≤◌, ◌<◌, ◌+◌, ◌∷◌, [], ◌++◌, ℕ, ◌&&◌, nat_le, min, max, length, true};
 ghost use Rattle.std.specs.Prelude.{false, IsTrue, IfOk, IsOk, OnOk, OnErr, IfSome, option_map};
+ghost use Rattle.std.specs.Prelude.{◌≡◌, ◌≢◌, ◌↔◌, ◌≤◌, ◌<◌, ◌+◌, ◌*◌, ◌^◌, ◌∷◌, [], ◌++◌, ℕ, ◌&&◌, nat_le, min};
+ghost use Rattle.std.specs.Prelude.{length, true, false, IsTrue, IfOk, IsOk, OnOk, OnErr, IfSome, Some, option_map};
 ghost use Rattle.dover_model.specs.declared.events.Event.{Event};
 ghost use Rattle.dover_model.specs.declared.events.Event.TheVariants.{End};
 ghost use Rattle.dover_model.specs.Limits.{last_tick, most_jobs, most_total};
 ghost use Rattle.dover_model.specs.Instance.{Instance};
 ghost use Rattle.dover_model.specs.State.{State, state_at};
+ghost use Rattle.std.specs.List.{filter};
+ghost use Rattle.dover_model.specs.State.{State, is_held};
 ghost use Rattle.dover_model.specs.Step.{Prints, open_step, view};
 ghost use Rattle.dover_model.specs.Settled.{waits_for_mark};
 ghost use Rattle.ready_jobs.specs.Reordered.{IsReordered};
 ghost use Rattle.ready_jobs.specs.Course.{Course, Follows, IsCourse, Reached, Settled, new_course, fresh_job, IsDue};
 ghost use Rattle.ready_jobs.specs.Course.{SettlesAt, StepsBefore, ComesNext, Passes, Takes, with_release};
 ghost use Rattle.ready_jobs.specs.Deeds.{Finds, step_at};
-ghost use Rattle.ready_jobs.specs.Spending.{HasPaid};
+ghost use Rattle.ready_jobs.specs.Spending.{HasPaid, CostsOnce, wait_again};
 
 use crate::deeds::{Deed, Due, event_at, prints};
 use crate::parts::Parts;
@@ -178,6 +182,8 @@ impl Ready {
         ensures fewer { length self.new.ready ≡ length self.old.ready }
         ensures low { self.new.clock ≤ mark }
         ensures paid { (start : ℕ) → HasPaid self.old start steps.old → HasPaid self.new start steps.new }
+        ensures once { (d : ℕ) → length self.old.ready + 1 < 2 ^ d → steps.new ≤ steps.old + 4 * d }
+        ensures held { filter is_held self.new.ready ≡ filter is_held self.old.ready }
     {
         self.parts.laws();
         let deed = self.parts.settle(self.ratio, mark, steps);
@@ -196,6 +202,8 @@ impl Ready {
         ensures fewer { length self.new.ready ≡ length self.old.ready }
         ensures low { self.new.clock ≤ mark }
         ensures paid { (start : ℕ) → HasPaid self.old start steps.old → HasPaid self.new start steps.new }
+        ensures once { (d : ℕ) → length self.old.ready + 1 < 2 ^ d → steps.new ≤ steps.old + 4 * d }
+        ensures held { filter is_held self.new.ready ≡ filter is_held self.old.ready }
     {
         if self.parts.is_empty() {
             return None;
@@ -223,6 +231,8 @@ impl Ready {
         ensures kept { self.new ≡ record self.old { clock = self.new.clock; ready = self.new.ready } }
         ensures fewer { length self.new.ready ≡ length self.old.ready }
         ensures paid { (start : ℕ) → HasPaid self.old start steps.old → HasPaid self.new start steps.new }
+        ensures once { (d : ℕ) → length self.old.ready + 1 < 2 ^ d → steps.new ≤ steps.old + 4 * d }
+        ensures held { filter is_held self.new.ready ≡ filter is_held self.old.ready }
     {
         self.parts.laws();
         let deed = self.go_on(LAST_TICK, steps);
@@ -240,6 +250,8 @@ impl Ready {
         ensures kept { self.new ≡ record self.old { ready = self.new.ready; done = self.new.done } }
         ensures fewer { length self.new.ready ≤ length self.old.ready }
         ensures paid { (start : ℕ) → HasPaid self.old start steps.old → HasPaid self.new start steps.new }
+        ensures once { (d : ℕ) → length self.old.ready + 1 < 2 ^ d →
+            steps.new ≤ steps.old + 2 * d * (4 + wait_again due.now.event (filter is_held self.old.ready)) }
     {
         self.parts.laws();
         let worth = self.parts.apply(due.deed, steps);
@@ -276,6 +288,7 @@ impl Ready {
         } }
         ensures fewer { length self.new.ready ≤ length self.old.ready }
         ensures paid { (start : ℕ) → HasPaid self.old start steps.old → HasPaid self.new start steps.new }
+        ensures once { CostsOnce self.old result steps.old steps.new }
     {
         match self.due_before(mark, steps) {
             Some(due) => {
@@ -311,6 +324,7 @@ impl Ready {
         } }
         ensures fewer { length self.new.ready ≤ length self.old.ready }
         ensures paid { (start : ℕ) → HasPaid self.old start steps.old → HasPaid self.new start steps.new }
+        ensures once { CostsOnce self.old (Some result) steps.old steps.new }
     {
         if self.parts.is_empty() {
             return Event::End { value: self.done };

@@ -1,5 +1,5 @@
 -- How far a server has come.
-use Rattle.std.specs.Prelude.{◌≡◌, ◌<◌, ◌-◌, ◌^◌, ℕ, List, ◌++◌, length, Bool, true, false}
+use Rattle.std.specs.Prelude.{◌≡◌, ◌<◌, ◌-◌, ◌^◌, ℕ, List, ◌++◌, length, Bool, true, false, Option}
 use Rattle.std.specs.Bool.{MatchBool}
 use Rattle.dover_model.specs.declared.events.Event.{Event}
 use Rattle.dover_model.specs.declared.events.Event.TheVariants as events
@@ -56,6 +56,10 @@ HasPlace s = length s.ready.ready < s.ready.room
 -- no more comparisons were made than its jobs so far have called for
 abbrev pub HasPaid : ReadyServer → (start now : ℕ) → Type 0
 HasPaid s start now = spending.HasPaid s.ready start now
+
+-- the comparisons of one call are few
+abbrev pub CostsOnce : ReadyServer → Option Event → (before now : ℕ) → Type 0
+CostsOnce s answer before now = spending.CostsOnce s.ready answer before now
 
 -- for how many ready jobs more there is room
 abbrev pub spare_of : ReadyServer → ℕ

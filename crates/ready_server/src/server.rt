@@ -13,7 +13,7 @@ ghost use Rattle.dover_model.specs.WholeRun.{Begins};
 ghost use Rattle.dover_model.specs.declared.horizon.Horizon.{Horizon};
 ghost use Rattle.dover_model.specs.declared.horizon.Horizon.TheVariants.{Mark, End};
 ghost use Rattle.dover_model.specs.Horizons.{MayFollow, is_end_given, no_jobs, due_by, Gives};
-ghost use Rattle.ready_server.specs.Serving.{Serves, Rests, HasPlace, HasPaid, spare_of, HasShortValue};
+ghost use Rattle.ready_server.specs.Serving.{Serves, Rests, HasPlace, HasPaid, spare_of, HasShortValue, CostsOnce};
 
 use crate::dispatcher::Dispatcher;
 use dover_model::{Event, Horizon, Job, Memory, Ratio, Version};
@@ -178,6 +178,7 @@ impl ReadyServer {
         ensures room { HasPlace self.old → HasPlace self.new }
         ensures room_stays { self.new.ready.room ≡ self.old.ready.room }
         ensures paid { (start : ℕ) → HasPaid self.old start steps.old → HasPaid self.new start steps.new }
+        ensures once { CostsOnce self.old result steps.old steps.new }
     {
         self.ready.step(mark, steps)
     }
@@ -194,6 +195,7 @@ impl ReadyServer {
         ensures room { HasPlace self.old → HasPlace self.new }
         ensures room_stays { self.new.ready.room ≡ self.old.ready.room }
         ensures paid { (start : ℕ) → HasPaid self.old start steps.old → HasPaid self.new start steps.new }
+        ensures once { CostsOnce self.old result steps.old steps.new }
     {
         if self.ended {
             return None;
@@ -224,6 +226,7 @@ impl ReadyServer {
         ensures room { HasPlace self.old → HasPlace self.new }
         ensures room_stays { self.new.ready.room ≡ self.old.ready.room }
         ensures paid { (start : ℕ) → HasPaid self.old start steps.old → HasPaid self.new start steps.new }
+        ensures once { CostsOnce self.old result steps.old steps.new }
     {
         match to {
             Horizon::Mark(mark) => self.step_to(mark, steps),

@@ -1,5 +1,5 @@
-use Rattle.dover_c.proofs.Programs.{numbers, settled_given, ended_given, given_append, within_given, honest_given}
-use Rattle.dover_c.proofs.Programs.{underload_given, unlost_given}
+use Rattle.dover_c.proofs.Programs.{numbers, settled_given, ended_given, given_append, begins_given, within_given}
+use Rattle.dover_c.proofs.Programs.{honest_given, underload_given, unlost_given}
 use Rattle.dover_c.proofs.laws.a_program_is_given_one_run.Goals as goal
 
 pub returns-clause-numbers : goal.returns-clause-numbers
@@ -13,6 +13,9 @@ returns-clause-ended c = ended_given
 
 pub returns-clause-online : goal.returns-clause-online
 returns-clause-online c = given_append
+
+pub returns-clause-begins : goal.returns-clause-begins
+returns-clause-begins c = begins_given
 
 pub returns-clause-within : goal.returns-clause-within
 returns-clause-within c = λ version p q capacity acts t s program. within_given version p q capacity acts t program s

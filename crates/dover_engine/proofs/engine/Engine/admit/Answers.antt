@@ -7,9 +7,9 @@ use Rattle.dover_model.specs.Admission.{refusal_of}
 use Rattle.dover_engine.specs.Kept.{life_of}
 use Rattle.dover_engine.specs.Life.{life_with, Life, IsReadyFor, HasPaid}
 use Rattle.dover_engine.specs.Given.{Gave}
-use Rattle.dover_engine.specs.Calls.{IsAdmitted}
+use Rattle.dover_engine.specs.Calls.{IsAdmitted, IsCause}
 use Rattle.dover_engine.proofs.Giving.{rests_there, may_admit, job_gave}
-use Rattle.dover_engine.proofs.Lives.{admit_gave}
+use Rattle.dover_engine.proofs.Lives.{admit_gave, refused_cause}
 use Rattle.dover_engine.proofs.engine.Engine.admit.Goals as goal
 
 pub admit-event-requires-clause-valid : goal.admit-event-requires-clause-valid
@@ -49,7 +49,18 @@ returns-clause-ok c =
           (c.admit.ensures.stands g.since g.gave.admission) c.admit.ensures.ratio c.admit-event.ensures.open);
       last = refl;
       spare = c.admit-event.ensures.spare;
+      room = c.admit-event.ensures.room_stays;
     }))
+
+pub returns-in-Err-clause-cause : goal.returns-in-Err-clause-cause
+returns-in-Err-clause-cause c =
+    let v : Life = life_of c.self.inside in
+    let job : JobFacts = job_of_numbers c.args.release c.args.work c.args.deadline c.args.value in
+    let ready = subst (λ u. IsReadyFor u c.args.release) (sym c.self.view_is)
+    (c.is_ready_for.ensures.0 c.if-not-is_ready_for.false) in
+    subst (λ u. IsCause u job c.cause_behind.result) c.self.view_is
+    (subst (IsCause v job) (sym c.cause_behind.ensures)
+    (refused_cause v job c.in-Err.refused ready c.in-Err.ensures.refusal c.in-Err.ensures.other))
 
 pub invariant_of-self : goal.invariant_of-self
 invariant_of-self c =

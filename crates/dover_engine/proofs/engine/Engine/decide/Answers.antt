@@ -3,10 +3,10 @@ use Rattle.std.specs.Prelude.{option_to_list, ◌||◌}
 use Rattle.std.specs.Option.{option_map}
 use Rattle.dover_model.specs.Rest.{behind}
 use Rattle.dover_model.specs.Horizons.{is_ready_after, is_end_given}
-use Rattle.dover_engine.specs.Decisions.{events_in}
+use Rattle.dover_engine.specs.Decisions.{events_in, event_in}
 use Rattle.dover_engine.specs.Life.{has_ended}
 use Rattle.dover_engine.specs.Given.{Gave}
-use Rattle.dover_engine.proofs.Lives.{answer_prompt, ended_given, ready_behind, end_behind}
+use Rattle.dover_engine.proofs.Lives.{answer_prompt, ended_given, ready_behind, end_behind, shown_once}
 use Rattle.dover_engine.proofs.engine.Engine.decide.Goals as goal
 
 pub returns-clause-decides : goal.returns-clause-decides
@@ -32,4 +32,15 @@ returns-clause-decides g c =
           ∙ ap (λ b. has_ended v || b) (end_behind v.forgotten v.earned o ∙ ap is_end_given (sym same));
       anew = c.renew.ensures.anew;
       spare = omega (arith, c.next-event.ensures.spare, c.renew.ensures.spare);
+      room = c.renew.ensures.room ∙ c.next-event.ensures.room;
     }
+
+pub returns-clause-once : goal.returns-clause-once
+returns-clause-once g c =
+    let v = c.args.self.now in
+    let o = c.next-event.result in
+    let same = c.shown-decision.ensures
+    ∙ ap (λ n. option_map (behind n c.next-event.new.self.earned) o) c.next-event.ensures.forgotten
+    ∙ ap (λ value. option_map (behind v.forgotten value) o) c.next-event.ensures.earned in
+    shown_once v v.forgotten v.earned o (event_in c.shown-decision.result) c.args.steps.now c.next-event.new.steps same
+    c.next-event.ensures.once

@@ -1,10 +1,12 @@
-use Rattle.std.proofs.Common.{◌+◌, ◌≤◌, refl, subst}
+use Rattle.std.proofs.Common.{◌+◌, ◌*◌, ◌≤◌, length, refl, subst}
 use Rattle.dover_model.specs.declared.events.Event.TheVariants.{Run, Preempt, Take, Complete, Abandon}
 use Rattle.dover_model.specs.Step.{Prints}
 use Rattle.dover_model.specs.Spending.{cost_of}
 use Rattle.ready_jobs.specs.Parts.{state_of}
+use Rattle.ready_jobs.specs.Spending.{wait_again}
 use Rattle.ready_jobs.specs.declared.deeds.Deed.TheVariants as deeds
 use Rattle.ready_jobs.proofs.Applied.{leaves_fewer}
+use Rattle.ready_jobs.proofs.Costing.{one_at_most, take_at_most}
 use Rattle.ready_jobs.proofs.Doing.{does_print, does_next}
 use Rattle.ready_jobs.proofs.parts.Parts.apply.Goals as goal
 
@@ -110,3 +112,21 @@ returns-in-Abandon-clause-cost g c e d does fits =
     (does_print p c.args.deed (deeds.Abandon c.in-Abandon.number) c.in-Abandon.is
     (Abandon p.clock c.in-Abandon.number) e refl does)
     (c.abandon_next.ensures.cost p.clock d fits)
+
+pub returns-in-Start-clause-once : goal.returns-in-Start-clause-once
+returns-in-Start-clause-once g c e d does fits =
+    one_at_most d (wait_again e c.args.self.now.held) c.args.steps.now c.start_next.new.steps
+    (c.start_next.ensures.once d fits)
+
+pub returns-in-Take-clause-once : goal.returns-in-Take-clause-once
+returns-in-Take-clause-once g c e d does fits =
+    let p = c.args.self.now in
+    subst (λ x. c.take_next.new.steps ≤ c.args.steps.now + 2 * d * (4 + wait_again x p.held))
+    (does_print p c.args.deed (deeds.Take c.in-Take.stops c.in-Take.starts) c.in-Take.is
+    (Take p.clock c.in-Take.stops c.in-Take.starts) e refl does)
+    (take_at_most d (length p.held) c.args.steps.now c.take_next.new.steps (c.take_next.ensures.once d fits))
+
+pub returns-in-Abandon-clause-once : goal.returns-in-Abandon-clause-once
+returns-in-Abandon-clause-once g c e d does fits =
+    one_at_most d (wait_again e c.args.self.now.held) c.args.steps.now c.abandon_next.new.steps
+    (c.abandon_next.ensures.once d fits)

@@ -35,3 +35,7 @@ returns-clause-cost g c at d fits =
     run_costs p c.laws.ensures.roles d _ _ at c.args.number it.0
     ((c.start.ensures.rest it.0 first_is).back it.0 (inl refl)) it.2
     (c.start.ensures.count d (let few = fewer_wait p in omega (arith, fits, few)))
+
+pub returns-clause-once : goal.returns-clause-once
+returns-clause-once g c d fits =
+    c.start.ensures.count d (let few = fewer_wait c.args.self.now in omega (arith, fits, few))

@@ -31,3 +31,6 @@ returns-in-Some-first_late-clause-cost g c at d fits =
     (taken_named p c.laws.ensures.roles c.requires.once c.args.stops c.args.starts c.requires.next x
     (sym c.first_late.ensures.seen ∙ late))
     (c.take.ensures.count d fits)
+
+pub returns-in-Some-first_late-clause-once : goal.returns-in-Some-first_late-clause-once
+returns-in-Some-first_late-clause-once g c = c.take.ensures.count

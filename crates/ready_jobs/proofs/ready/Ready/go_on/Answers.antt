@@ -1,9 +1,13 @@
-use Rattle.std.proofs.Common.{◌<◌, length, ap, sym, subst}
+use Rattle.std.proofs.Common.{◌<◌, length, ap, sym, ◌∙◌, subst, arith}
+use Rattle.std.specs.List.{filter}
+use Rattle.dover_model.specs.State.{is_held}
 use Rattle.ready_jobs.specs.Deeds.{step_at}
 use Rattle.ready_jobs.specs.Parts.{Parted}
 use Rattle.ready_jobs.specs.Course.{Course, Follows}
 use Rattle.ready_jobs.specs.Spending.{HasPaid}
+use Rattle.ready_jobs.proofs.Costing.{fewer_wait, silent_at_most}
 use Rattle.ready_jobs.proofs.Courses.{course_part, course_reaches, reaches_course}
+use Rattle.ready_jobs.proofs.Seeing.{held_list}
 use Rattle.ready_jobs.proofs.Spending.{silent_pays}
 use Rattle.ready_jobs.proofs.ready.Ready.go_on.Goals as goal
 
@@ -48,3 +52,17 @@ returns-clause-paid g c start paid =
     c.self.invariant.0 c.self.invariant.1 c.self.invariant.2)
     c.args.steps.now c.settle-deed.new.steps c.settle-deed.ensures.count start
     (subst (λ d. HasPaid d start c.args.steps.now) (sym c.self.view_is) paid)
+
+pub returns-clause-once : goal.returns-clause-once
+returns-clause-once g c d fits =
+    let p : Parted = c.self.inside.parts in
+    let few = fewer_wait p in
+    silent_at_most p c.settle-deed.new.self (ap (λ (q : Parted). q.held) c.settle-deed.ensures.kept)
+    c.settle-deed.ensures.fewer d c.args.steps.now c.settle-deed.new.steps
+    (c.settle-deed.ensures.count d (omega (arith, fits, few, ap (λ (d : Course). length d.ready) c.self.view_is)))
+
+pub returns-clause-held : goal.returns-clause-held
+returns-clause-held g c = held_list c.settle-deed.new.self c.laws-2.ensures.roles
+    ∙ ap (λ (q : Parted). q.held) c.settle-deed.ensures.kept
+    ∙ sym (held_list c.self.inside.parts c.laws.ensures.roles)
+    ∙ ap (λ (d : Course). filter is_held d.ready) c.self.view_is

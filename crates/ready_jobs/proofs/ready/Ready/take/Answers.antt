@@ -1,9 +1,12 @@
-use Rattle.std.proofs.Common.{◌+◌, ap, sym, subst, arith}
+use Rattle.std.proofs.Common.{◌+◌, ◌*◌, ◌≤◌, length, ap, sym, ◌∙◌, subst, arith}
+use Rattle.std.specs.List.{filter}
+use Rattle.dover_model.specs.State.{is_held}
 use Rattle.ready_jobs.specs.Parts.{Parted}
-use Rattle.ready_jobs.specs.Course.{Follows, IsDue, course_of}
+use Rattle.ready_jobs.specs.Course.{Course, Follows, IsDue, course_of}
 use Rattle.ready_jobs.specs.Deeds.{Does}
-use Rattle.ready_jobs.specs.Spending.{HasPaid}
+use Rattle.ready_jobs.specs.Spending.{HasPaid, wait_again}
 use Rattle.ready_jobs.proofs.Courses.{course_part, course_takes, takes_course, due_does, follows_modest}
+use Rattle.ready_jobs.proofs.Seeing.{held_list}
 use Rattle.ready_jobs.proofs.Silences.{known_sound, known_once}
 use Rattle.ready_jobs.proofs.Spending.{printed_pays}
 use Rattle.ready_jobs.proofs.ready.Ready.take.Goals as goal
@@ -82,3 +85,15 @@ returns-clause-paid g c start paid =
     c.self.invariant c.args.steps.now c.apply-worth.new.steps
     (λ d fits. c.apply-worth.ensures.cost c.args.due.now.event d does fits) start
     (subst (λ d. HasPaid d start c.args.steps.now) (sym c.self.view_is) paid)
+
+pub returns-clause-once : goal.returns-clause-once
+returns-clause-once g c d fits =
+    let i = c.self.inside in
+    let e = c.args.due.now.event in
+    let does : Does i.parts c.args.due.now.deed e =
+    due_does i.ratio i.parts i.jobs i.done c.args.due.now.deed e
+    (subst (λ d. IsDue d c.args.due.now.deed c.args.due.now.event) (sym c.self.view_is) c.requires) in
+    subst (λ hs. c.apply-worth.new.steps ≤ c.args.steps.now + 2 * d * (4 + wait_again e hs))
+    (sym (held_list i.parts c.laws.ensures.roles) ∙ ap (λ (d : Course). filter is_held d.ready) c.self.view_is)
+    (c.apply-worth.ensures.once e d does
+    (omega (arith, fits, ap (λ (d : Course). length d.ready) c.self.view_is)))
