@@ -5,6 +5,8 @@ use Rattle.std.specs.Prelude.{codes, bytes_eq, unwrap_or, if◌then◌else◌}
 use Rattle.std.specs.declared.alloc.Global.{Global}
 use Rattle.report_word.specs.declared.form.Form.{Form}
 use Rattle.report_word.specs.declared.form.Form.TheVariants.{Text, Table, Chrome, Why, Timeline, Svg}
+use Rattle.duel.specs.declared.links.Share.{Share}
+use Rattle.duel.specs.Kept.{IsShare}
 use Rattle.run_view.specs.declared.window.Window.{Window}
 use Rattle.dover_model.specs.Fraction.{Fraction, IsRatio}
 use Rattle.dover_model.specs.Numerals.{numeral}
@@ -13,7 +15,7 @@ use Rattle.dover_top.specs.Requests.{Asks}
 use Rattle.dover_top.specs.Words.{spelled}
 use Rattle.dover_top.specs.declared.request.Request.{Request}
 use Rattle.dover_top.specs.declared.request.Request.TheVariants.{Serve, Judge, Report, Trial, Bait, Ask, Lanes, Pause}
-use Rattle.dover_top.specs.declared.request.Request.TheVariants.{Resume, Unroll}
+use Rattle.dover_top.specs.declared.request.Request.TheVariants.{Resume, Unroll, Duel}
 use Rattle.serve_word.specs.declared.at_end.AtEnd.{AtEnd}
 use Rattle.serve_word.specs.declared.at_end.AtEnd.TheVariants as ends
 use Rattle.question_words.specs.declared.question.Question.TheVariants.{Feasible, Best, Compare, Loss}
@@ -31,6 +33,15 @@ number_of word = unwrap_or (numeral word) 0
 -- the ratio whose numbers are spelled from this place on
 abbrev ratio_at : ℕ → List (List ℕ) → Fraction
 ratio_at n words = record { p = number_of (word_at n words); q = number_of (word_at (n + 1) words) }
+
+-- the share whose numbers are spelled from this place on
+abbrev share_at : ℕ → List (List ℕ) → Share
+share_at n words = record { part = number_of (word_at n words); whole = number_of (word_at (n + 1) words) }
+
+-- the front that words spell, if there is one
+abbrev front_of : List (List ℕ) → Option ℕ
+front_of [] = None
+front_of (count ∷ more) = Some (number_of count)
 
 -- the window whose ticks words spell, if there are some
 abbrev window_of : List (List ℕ) → Option Window
@@ -64,8 +75,10 @@ request_of words =
     if bytes_eq (word_at 0 words) (codes "loss") then Ask Loss else (
     if bytes_eq (word_at 0 words) (codes "lanes") then Lanes else (
     if bytes_eq (word_at 0 words) (codes "pause") then Pause else (
-    if bytes_eq (word_at 0 words) (codes "resume") then Resume (end_of (word_at 1 words)) else Unroll
-    (number_of (word_at 1 words)))))))))))))
+    if bytes_eq (word_at 0 words) (codes "resume") then Resume (end_of (word_at 1 words)) else (
+    if bytes_eq (word_at 0 words) (codes "duel")
+    then Duel (ratio_at 1 words) (share_at 3 words) (front_of (drop 5 words)) else Unroll
+    (number_of (word_at 1 words))))))))))))))
 
 -- a number is read back
 number_same : (n : ℕ) → n < 10 ^ 18 → number_of (decimal n) ≡ n
@@ -80,6 +93,18 @@ ratio_same k r = both (number_same k.p (omega (arith, r.small_p))) (number_same 
   both : number_of (decimal k.p) ≡ k.p → number_of (decimal k.q) ≡ k.q
       → make (number_of (decimal k.p)) (number_of (decimal k.q)) ≡ k
   both e f = ap (λ p. make p (number_of (decimal k.q))) e ∙ ap (λ q. make k.p q) f
+
+-- so is a share
+share_same : (s : Share) → IsShare s → record { part = number_of (decimal s.part); whole = number_of
+    (decimal s.whole) } ≡ s
+share_same s r = both (number_same s.part (omega (arith, r.few_parts))) (number_same s.whole (omega
+    (arith, r.few))) where
+  make : ℕ → ℕ → Share
+  make part whole = record { part = part; whole = whole }
+
+  both : number_of (decimal s.part) ≡ s.part → number_of (decimal s.whole) ≡ s.whole
+      → make (number_of (decimal s.part)) (number_of (decimal s.whole)) ≡ s
+  both e f = ap (λ part. make part (number_of (decimal s.whole))) e ∙ ap (λ whole. make s.part whole) f
 
 -- so is a window
 window_same : (w : Window) → w.from < w.until → w.until < 10 ^ 18
@@ -125,6 +150,14 @@ is_read words (Resume ends.Refuse) asks = ap request_of asks
 is_read words (Resume ends.Pause) asks = ap request_of asks
 is_read words (Unroll until) asks = ap request_of asks.row
     ∙ ap (λ n. Unroll n) (number_same until (omega (arith, asks.known)))
+is_read words (Duel k share None) asks = ap request_of asks.row
+    ∙ ap (λ l. Duel l (share_at 0 (decimal share.part ∷ decimal share.whole ∷ [])) None) (ratio_same k asks.allowed)
+    ∙ ap (λ s. Duel k s None) (share_same share asks.share_is)
+is_read words (Duel k share (Some count)) asks = ap request_of asks.row
+    ∙ ap (λ l. Duel l (share_at 0 (decimal share.part ∷ decimal share.whole ∷ [])) (Some (number_of (decimal count))))
+    (ratio_same k asks.allowed)
+    ∙ ap (λ s. Duel k s (Some (number_of (decimal count)))) (share_same share asks.share_is)
+    ∙ ap (λ n. Duel k share (Some n)) (number_same count (omega (arith, asks.formed.1)))
 
 -- words that ask for two things ask for one
 pub asks_one : (words : List (String Global)) (r other : Request) → Asks words r → Asks words other → r ≡ other

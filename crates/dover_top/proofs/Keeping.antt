@@ -1,6 +1,9 @@
 -- What is promised of what was read and written.
-use Rattle.std.proofs.Common.{◌≡◌, ◌≤◌, ℕ, List, ◌++◌, Bool, true, sym, ap, ◌∙◌, inl, inr}
-use Rattle.dover_model.specs.Instance.{Instance, IsValid}
+use Rattle.std.proofs.Common.{◌≡◌, ◌≤◌, ℕ, List, ◌++◌, Bool, true, sym, ap, ◌∙◌, inl, inr, subst, take, drop}
+use Rattle.std.proofs.Common.{Option, Some, None}
+use Rattle.std.proofs.lemmas.List.{take-append-drop}
+use Rattle.dover_model.specs.Instance.{Instance, IsValid, jobs_under}
+use Rattle.dover_model.specs.JobFacts.{JobFacts}
 use Rattle.dover_model.specs.Session.{instance_of}
 use Rattle.dover_model.specs.Verdict.{verdict}
 use Rattle.dover_model.specs.Due.{due}
@@ -14,6 +17,7 @@ use Rattle.dover_model.proofs.Honest.{honest}
 use Rattle.dover_model.proofs.Onlines.{on_line}
 use Rattle.dover_model.proofs.Runs.{none_lost, all_value}
 use Rattle.dover_model.proofs.Tests.{never}
+use Rattle.dover_model.proofs.Valid.{valid_front}
 use Rattle.dover_port.specs.Moves.{Move, ins, outs, has_ended}
 use Rattle.dover_port.specs.declared.status.Status.TheVariants.{Done, Refused}
 use Rattle.serve_word.specs.Talk.{PausesAt, IsServedAs}
@@ -28,9 +32,17 @@ use Rattle.adversary.proofs.Completions.{completes_last_alone}
 use Rattle.adversary.specs.Baiting.{FitsLimits}
 use Rattle.adversary.proofs.Validity.{some_bait, valid as bait_valid}
 use Rattle.adversary.proofs.Plans.{plan_worth}
+use Rattle.duel.specs.declared.links.Share.{Share}
+use Rattle.duel.specs.Kept.{IsShare}
+use Rattle.duel.specs.Answers.{jobs_for, front_of, IsDuel}
+use Rattle.duel.specs.Game.{AreValid}
+use Rattle.duel.proofs.Losing.{each_loses}
+use Rattle.unroll_word.specs.Feeds.{IsFeedOf, feed_of}
+use Rattle.unroll_word.proofs.Feeding.{feed_is}
+use Rattle.trial_words.specs.Dueled.{duel_front}
 use Rattle.trial_words.specs.Lists.{trial_instance}
 use Rattle.trial_words.specs.Baited.{bait_instance}
-use Rattle.dover_top.specs.Promises.{KeepsPromises, IsTraceOf, IsResumed, IsAccepted, KeepsBaits, IsRun}
+use Rattle.dover_top.specs.Promises.{KeepsPromises, IsTraceOf, IsResumed, IsAccepted, KeepsBaits, IsRun, KeepsDuel}
 
 -- the run of a valid list keeps the promises
 promises_of : (J : Instance) → IsValid J → KeepsPromises J
@@ -121,3 +133,18 @@ baited k rounds allowed some fits =
       last = completes_last_alone k One rounds some valid;
       promises = promises_of (bait_instance k rounds) valid;
     }
+
+-- a front of valid jobs is valid
+front_valid : (k : Fraction) (front : Option ℕ) (jobs : List JobFacts) → AreValid One k jobs
+    → AreValid One k (front_of front jobs)
+front_valid k None jobs valid = valid
+front_valid k (Some count) jobs valid = valid_front (jobs_under One k (take count jobs)) (drop count jobs)
+    (subst (λ js. AreValid One k js) (sym (take-append-drop count jobs)) valid)
+
+pub dueled : (k : Fraction) (share : Share) (front : Option ℕ) (moves : List Move) → IsShare share
+    → IsDuel k share front → outs moves ≡ feed_of (duel_front k share front) → KeepsDuel k share front moves
+dueled k share front moves is it written = record {
+  loses = λ scheduler online. each_loses One k share.whole share.part scheduler is.some_part it.valid online;
+  feed = subst (IsFeedOf (duel_front k share front)) (sym written)
+      (feed_is (duel_front k share front) (front_valid k front (jobs_for k share) it.valid));
+}

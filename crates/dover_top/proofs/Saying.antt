@@ -9,21 +9,24 @@ use Rattle.dover_port.proofs.Made.{since_weaker}
 use Rattle.dialogue.specs.Talk.{Talks, CanEnd}
 use Rattle.adversary.specs.Baiting.{FitsLimits}
 use Rattle.serve_word.specs.declared.at_end.AtEnd.TheVariants as ends
+use Rattle.duel.specs.declared.links.Share.{Share}
+use Rattle.duel.specs.Kept.{IsShare}
 use Rattle.trial_words.specs.Baited.{Baits}
+use Rattle.trial_words.specs.Dueled.{Duels}
 use Rattle.question_words.specs.Questions.{says}
 use Rattle.lanes_word.specs.Record as laned
 use Rattle.lanes_word.specs.Talk.{lanes_talk}
 use Rattle.dover_top.specs.Says.{Says}
 use Rattle.dover_top.specs.Keeps.{Keeps}
-use Rattle.dover_top.specs.Promises.{AreServed, HaveEnded, KeepsBaits}
+use Rattle.dover_top.specs.Promises.{AreServed, HaveEnded, KeepsBaits, KeepsDuel}
 use Rattle.dover_top.specs.Requests.{Asks}
 use Rattle.dover_top.specs.Carrying.{CarriesOut}
 use Rattle.dover_top.specs.Spending.{IsFrugal, IsFrugalAsAsked}
 use Rattle.dover_top.specs.declared.request.Request.{Request}
 use Rattle.dover_top.specs.declared.request.Request.TheVariants.{Serve, Judge, Report, Trial, Bait, Ask, Lanes, Pause}
-use Rattle.dover_top.specs.declared.request.Request.TheVariants.{Resume, Unroll}
+use Rattle.dover_top.specs.declared.request.Request.TheVariants.{Resume, Unroll, Duel}
 use Rattle.dover_top.proofs.Asking.{asks_one}
-use Rattle.dover_top.proofs.Keeping.{served, traced, resumed_so, accepted, ran, generated, baited}
+use Rattle.dover_top.proofs.Keeping.{served, traced, resumed_so, accepted, ran, generated, baited, dueled}
 use Rattle.dover_top.proofs.ServedLanes.{are_served, have_ended}
 
 -- ---- Usage
@@ -45,6 +48,8 @@ no_usage (Resume at_end) moves s = elim s.ends [
   | inr it ↦ it.each it.feed it.more it.may it.read
 ]
 no_usage (Unroll until) moves s = s.ends
+no_usage (Duel k share front) moves (inl s) = s.1
+no_usage (Duel k share front) moves (inr s) = s.2.1
 
 -- so none ends with it
 pub never_usage : (r : Request) → CanEnd (Says r) Usage → ⊥
@@ -62,6 +67,11 @@ module _ (moves : List Move) where
       → KeepsBaits k rounds
   bait_kept k rounds kept (inl it) = kept it.0
   bait_kept k rounds kept (inr it) = absurd it.1
+
+  duel_kept : (k : Fraction) (share : Share) (front : Option ℕ) → IsShare share → Duels k share front Done moves
+      → KeepsDuel k share front moves
+  duel_kept k share front is (inl it) = dueled k share front moves is it.0 it.1.1
+  duel_kept k share front is (inr it) = absurd it.2.1
 
   lanes_served : (status : Status) → (status ≡ Done) ⊎ (status ≡ Refused) → laned.Serves status moves → AreServed moves
   lanes_served status (inl is) (inl it) = are_served Done moves (subst (λ s. Talks lanes_talk s moves) is it).ends
@@ -93,6 +103,8 @@ module _ (moves : List Move) where
   keeps_of words (Resume at_end) asks status s = λ done.
       resumed_so at_end moves (at (Resume at_end) status s done).ends
   keeps_of words (Unroll until) asks status s = tt
+  keeps_of words (Duel k share front) asks status s = λ done.
+      duel_kept k share front asks.share_is (at (Duel k share front) status s done)
 
 -- ---- of a call
 

@@ -5,10 +5,10 @@ use Rattle.dover_port.specs.declared.status.Status.{Status}
 use Rattle.dover_port.specs.declared.status.Status.TheVariants.{Done, Refused}
 use Rattle.trial_words.specs.Lists.{trial_instance}
 use Rattle.dover_top.specs.Promises.{KeepsPromises, IsTraced, IsTracedIfEnded, IsResumed, IsAccepted, KeepsBaits, IsRun}
-use Rattle.dover_top.specs.Promises.{AreServed, HaveEnded}
+use Rattle.dover_top.specs.Promises.{AreServed, HaveEnded, KeepsDuel}
 use Rattle.dover_top.specs.declared.request.Request.{Request}
 use Rattle.dover_top.specs.declared.request.Request.TheVariants.{Serve, Judge, Report, Trial, Bait, Ask, Lanes, Pause}
-use Rattle.dover_top.specs.declared.request.Request.TheVariants.{Resume, Unroll}
+use Rattle.dover_top.specs.declared.request.Request.TheVariants.{Resume, Unroll, Duel}
 
 -- by the status
 abbrev pub Keeps : Request → Status → List Move → Type 0
@@ -23,3 +23,4 @@ Keeps Lanes status moves =
 Keeps Pause status moves = status ≡ Done → IsTracedIfEnded moves
 Keeps (Resume at_end) status moves = status ≡ Done → IsResumed moves
 Keeps (Unroll until) status moves = Unit {0}
+Keeps (Duel k share front) status moves = status ≡ Done → KeepsDuel k share front moves

@@ -1,5 +1,5 @@
 -- What is promised of what was read and written.
-use Rattle.std.specs.Prelude.{◌≡◌, ◌≢◌, ◌<◌, ℕ, List, [], ◌++◌, true, false, Some}
+use Rattle.std.specs.Prelude.{◌≡◌, ◌≢◌, ◌<◌, ℕ, List, [], ◌++◌, true, false, Option, Some}
 use Rattle.std.specs.List.{sum_by}
 use Rattle.dover_model.specs.Instance.{Instance, IsValid}
 use Rattle.dover_model.specs.Session.{Session, IsValidSession, instance_of}
@@ -7,6 +7,7 @@ use Rattle.dover_model.specs.Bait.{bait_plan, plan_value}
 use Rattle.dover_model.specs.Bound.{IsWithin}
 use Rattle.dover_model.specs.Due.{due}
 use Rattle.dover_model.specs.Feed.{account, is_ended}
+use Rattle.dover_model.specs.declared.events.Version.TheVariants.{One}
 use Rattle.dover_model.specs.Fraction.{Fraction}
 use Rattle.dover_model.specs.Online.{printed_up_to, known_at}
 use Rattle.dover_model.specs.Run.{run, ran, completed_value}
@@ -17,7 +18,12 @@ use Rattle.dover_model.specs.Underload.{takes_or_abandons}
 use Rattle.dover_model.specs.Verdict.{Accepted, verdict}
 use Rattle.dover_port.specs.Moves.{Move, ins, outs}
 use Rattle.adversary.specs.BaitingRuns.{CompletesLastAlone}
+use Rattle.duel.specs.declared.links.Share.{Share}
+use Rattle.duel.specs.Answers.{jobs_for}
+use Rattle.duel.specs.Game.{Scheduler, IsOnline, AreValid, LosesOnFront}
+use Rattle.unroll_word.specs.Feeds.{IsFeedOf}
 use Rattle.trial_words.specs.Baited.{bait_instance}
+use Rattle.trial_words.specs.Dueled.{duel_front}
 use Rattle.lane_server.specs.Lanes.{Closed, lane_count, input}
 use Rattle.lane_server.specs.Alone.{lane_feed, text_of_lane, served_alone}
 use Rattle.resume_word.specs.Record.{Behind}
@@ -74,6 +80,15 @@ pub record KeepsBaits (k : Fraction) (rounds : ℕ) : Type 0 where
   -- The run completes the last job of the chain, and no other.
   pub last : CompletesLastAlone k rounds (bait_instance k rounds)
   pub promises : KeepsPromises (bait_instance k rounds)
+
+-- what stands of the duel for a share
+pub record KeepsDuel (k : Fraction) (share : Share) (front : Option ℕ) (moves : List Move) : Type 0 where
+  -- Each scheduler that is on-line for valid jobs is worth less than this share of some schedule on a front of its
+  -- jobs.
+  pub loses : (scheduler : Scheduler) → IsOnline (AreValid One k) scheduler
+      → LosesOnFront k share.whole share.part scheduler (jobs_for k share)
+  -- What was written is a feed without a fault, of the front that was asked for.
+  pub feed : IsFeedOf (duel_front k share front) (outs moves)
 
 -- the feed that was read has a session, and this stands of its run
 pub record IsRun (moves : List Move) : Type 0 where

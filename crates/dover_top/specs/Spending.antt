@@ -6,7 +6,8 @@ use Rattle.serve_word.specs.Spending as served
 use Rattle.resume_word.specs.Record as resumed
 use Rattle.judge_word.specs.Spending as judged
 use Rattle.dover_top.specs.declared.request.Request.{Request}
-use Rattle.dover_top.specs.declared.request.Request.TheVariants.{Serve, Judge, Report, Trial, Bait, Ask, Pause, Resume}
+use Rattle.dover_top.specs.declared.request.Request.TheVariants.{Serve, Judge, Report, Trial, Bait, Ask, Pause}
+use Rattle.dover_top.specs.declared.request.Request.TheVariants.{Resume, Duel}
 
 -- how few comparisons it made, with so many before and now, for the jobs of what was read, at whatever status
 abbrev pub IsFrugal : Request → (before now : ℕ) → List Move → Type 0
@@ -22,4 +23,5 @@ IsFrugal _ before now = λ moves. Unit {0}
 abbrev pub IsFrugalAsAsked : Request → (before now : ℕ) → Type 0
 IsFrugalAsAsked (Trial seed count k) before now = CostsAtMost count before now
 IsFrugalAsAsked (Bait k rounds) before now = now ≡ before
+IsFrugalAsAsked (Duel k share front) before now = now ≡ before
 IsFrugalAsAsked _ before now = Unit {0}

@@ -4,6 +4,8 @@ use Rattle.std.specs.Prelude.{Option, Some, None}
 use Rattle.std.specs.declared.alloc.Global.{Global}
 use Rattle.dover_model.specs.Fraction.{Fraction, IsRatio}
 use Rattle.dover_model.specs.Limits.{most_digits, most_jobs, last_tick}
+use Rattle.duel.specs.declared.links.Share.{Share}
+use Rattle.duel.specs.Kept.{IsShare}
 use Rattle.report_word.specs.declared.form.Form.{Form}
 use Rattle.report_word.specs.declared.form.Form.TheVariants.{Text, Table, Chrome, Why, Timeline, Svg}
 use Rattle.run_view.specs.declared.window.Window.{Window}
@@ -68,6 +70,24 @@ pub record AsksBait (words : List (String Global)) (k : Fraction) (rounds : ℕ)
   pub some : 1 ≤ rounds
   pub few : rounds ≤ most_jobs
   pub allowed : IsRatio k
+
+-- the word for a front, if there is one
+abbrev pub front_words : Option ℕ → List (List ℕ)
+front_words None = []
+front_words (Some count) = decimal count ∷ []
+
+-- a front that is asked for has some job, and no more than a feed may have
+abbrev pub IsFront : Option ℕ → Type 0
+IsFront None = Unit {0}
+IsFront (Some count) = (1 ≤ count) × (count ≤ most_jobs)
+
+-- the words that ask for the duel for a share, or for a front of it
+pub record AsksDuel (words : List (String Global)) (k : Fraction) (share : Share) (front : Option ℕ) : Type 0 where
+  pub row : spelled words ≡ codes "duel" ∷ decimal k.p ∷ decimal k.q ∷ decimal share.part ∷ decimal share.whole
+      ∷ front_words front
+  pub allowed : IsRatio k
+  pub share_is : IsShare share
+  pub formed : IsFront front
 
 -- the word for a question
 abbrev pub question_word : Question → List ℕ

@@ -1,5 +1,7 @@
 //! What the words of the command line ask for.
 ghost use Rattle.std.specs.Prelude.{◌≡◌, ◌≤◌, ◌<◌, ◌∷◌, [], ◌^◌, ℕ, IfSome, IsNone, Some, decimal, map, string_bytes};
+ghost use Rattle.duel.specs.declared.links.Share.{Share};
+ghost use Rattle.duel.specs.Kept.{IsShare};
 ghost use Rattle.run_view.specs.declared.window.Window.{Window};
 ghost use Rattle.dover_top.specs.Words.{IsWindow, window_words};
 ghost use Rattle.dover_model.specs.Fraction.{Fraction, IsRatio};
@@ -7,6 +9,7 @@ ghost use Rattle.dover_top.specs.Requests.{Asks};
 ghost use Rattle.dover_top.specs.declared.request.Request.{Request};
 
 use dover_model::Ratio;
+use duel::Share;
 use line_text::numeral;
 use question_words::Question;
 use report_word::Form;
@@ -36,6 +39,12 @@ pub enum Request {
     Resume(AtEnd),
     /// The feed of tasks is written, up to a tick.
     Unroll { until: u64 },
+    /// The feed of the duel for a share is written, or of a front of so many of its jobs.
+    Duel {
+        k: Ratio,
+        share: Share,
+        front: Option<u32>,
+    },
 }
 
 /// The most jobs, and the most rounds.
@@ -73,6 +82,18 @@ fn ratio(p: &String, q: &String) -> Option<Ratio>
     let p = number(p, 0, MOST)?;
     let q = number(q, 0, MOST)?;
     Ratio::new(p as u32, q as u32)
+}
+
+/// The share whose numbers these words spell, if it is one.
+fn share(part: &String, whole: &String) -> Option<Share>
+    ensures some { IfSome result (λ s. (string_bytes part.now ≡ decimal s.part)
+        × (string_bytes whole.now ≡ decimal s.whole) × IsShare s) }
+    ensures none { IsNone result → (s : Share) → IsShare s → string_bytes part.now ≡ decimal s.part →
+        string_bytes whole.now ≡ decimal s.whole → ⊥ }
+{
+    let part = number(part, 1, MOST)?;
+    let whole = number(whole, 1, MOST)?;
+    Some(Share { part, whole })
 }
 
 /// The window that these words spell: two numerals, of which the first is below the second.
@@ -164,25 +185,56 @@ fn four_words(word: &String, second: &String, third: &String, last: &String) -> 
     }
 }
 
-/// The word `trial` and its numbers.
+/// The words `trial SEED COUNT P Q`, or `duel P Q A B`.
 fn five_words(
     word: &String,
-    seed: &String,
-    count: &String,
-    p: &String,
-    q: &String,
+    second: &String,
+    third: &String,
+    fourth: &String,
+    last: &String,
 ) -> Option<Request>
     ensures some { IfSome result (λ r.
-        Asks (word.now ∷ seed.now ∷ count.now ∷ p.now ∷ q.now ∷ []) r) }
+        Asks (word.now ∷ second.now ∷ third.now ∷ fourth.now ∷ last.now ∷ []) r) }
     ensures none { IsNone result → (r : Request) →
-        Asks (word.now ∷ seed.now ∷ count.now ∷ p.now ∷ q.now ∷ []) r → ⊥ }
+        Asks (word.now ∷ second.now ∷ third.now ∷ fourth.now ∷ last.now ∷ []) r → ⊥ }
 {
     match word.as_str() {
         "trial" => {
-            let seed = number(seed, 0, MOST_SEED)? as u32;
-            let count = number(count, 0, MOST)? as u32;
-            let k = ratio(p, q)?;
+            let seed = number(second, 0, MOST_SEED)? as u32;
+            let count = number(third, 0, MOST)? as u32;
+            let k = ratio(fourth, last)?;
             Some(Request::Trial { seed, count, k })
+        }
+        "duel" => {
+            let k = ratio(second, third)?;
+            let share = share(fourth, last)?;
+            let front = None;
+            Some(Request::Duel { k, share, front })
+        }
+        _ => None,
+    }
+}
+
+/// The words `duel P Q A B L`.
+fn six_words(
+    word: &String,
+    p: &String,
+    q: &String,
+    part: &String,
+    whole: &String,
+    front: &String,
+) -> Option<Request>
+    ensures some { IfSome result (λ r.
+        Asks (word.now ∷ p.now ∷ q.now ∷ part.now ∷ whole.now ∷ front.now ∷ []) r) }
+    ensures none { IsNone result → (r : Request) →
+        Asks (word.now ∷ p.now ∷ q.now ∷ part.now ∷ whole.now ∷ front.now ∷ []) r → ⊥ }
+{
+    match word.as_str() {
+        "duel" => {
+            let k = ratio(p, q)?;
+            let share = share(part, whole)?;
+            let front = Some(number(front, 1, MOST)? as u32);
+            Some(Request::Duel { k, share, front })
         }
         _ => None,
     }
@@ -198,7 +250,8 @@ pub(crate) fn asked(words: &[String]) -> Option<Request>
         [word, last] => two_words(word, last),
         [word, form, job] => three_words(word, form, job),
         [word, second, third, last] => four_words(word, second, third, last),
-        [word, seed, count, p, q] => five_words(word, seed, count, p, q),
+        [word, second, third, fourth, last] => five_words(word, second, third, fourth, last),
+        [word, p, q, part, whole, front] => six_words(word, p, q, part, whole, front),
         _ => None,
     }
 }

@@ -1,4 +1,4 @@
-//! Stated lists: `trial` and `bait`.
+//! Stated lists: `trial`, `bait` and `duel`.
 use crate::calls::{AT_ONCE, Called, Cut, Failing, Row, all_fail, are_called, call, call_over};
 use dover_port::Status;
 use std::test::Fail;
@@ -22,6 +22,46 @@ const BAITS: [Row; 3] = [
         "",
         Status::Done,
         "jobs 13\nvalue 8\nschedule 37\nbound 46\n",
+    ),
+];
+
+/// Ratios, shares and fronts of duels, and what is written.
+const DUELS: [Row; 6] = [
+    (
+        &["duel", "1", "1", "1", "2"],
+        "",
+        Status::Done,
+        "k 1 1\njob 0 3 3 3\njob 0 1 1 1\njob 1 1 2 1\njob 2 5 7 5\njob 2 3 5 3\njob 5 1 6 1\njob 6 5 11 5\nend\n",
+    ),
+    (
+        &["duel", "3", "2", "2", "5", "3"],
+        "",
+        Status::Done,
+        "k 3 2\njob 0 4 4 8\njob 0 1 1 3\njob 1 1 2 3\nend\n",
+    ),
+    (
+        &["duel", "1", "1", "1", "1", "1"],
+        "",
+        Status::Done,
+        "k 1 1\njob 0 2 2 2\nend\n",
+    ),
+    (
+        &["duel", "4", "1", "1", "9"],
+        "",
+        Status::Refused,
+        "refused share\n",
+    ),
+    (
+        &["duel", "1", "1", "1000", "3999"],
+        "",
+        Status::Refused,
+        "refused size\n",
+    ),
+    (
+        &["duel", "1", "1", "1", "2", "8"],
+        "",
+        Status::Refused,
+        "refused front\n",
     ),
 ];
 
@@ -50,6 +90,16 @@ fn has_one_summary(rt: &HostRuntime, words: &[&'static str], front: &[u8]) -> Re
     let first = call(rt, words, b"", 1)?;
     let second = call_over(rt, words, b"", cut)?;
     Ok(are_equal(&first, &second, front))
+}
+
+#[test]
+fn duels_and_their_fronts(rt: HostRuntime) -> Result<(), Fail> {
+    let words = ["duel", "1", "1", "1", "2"];
+    assert!(rt;
+        are_called(&rt, &DUELS, &[(1, 0)])?
+            && all_fail(&rt, &words, &FAILING)?
+    );
+    Ok(())
 }
 
 #[test]

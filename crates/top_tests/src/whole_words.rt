@@ -500,7 +500,7 @@ fn a_baiting_feed_is_served(rt: HostRuntime) -> Result<(), Fail> {
 }
 
 /// Words that ask for nothing.
-const WRONG: [&[&str]; 16] = [
+const WRONG: [&[&str]; 20] = [
     &[],
     &["now"],
     &["serve", "now"],
@@ -511,6 +511,10 @@ const WRONG: [&[&str]; 16] = [
     &["bait", "1", "1", "0"],
     &["bait", "1", "2", "1"],
     &["bait", "1", "1", "1000001"],
+    &["duel", "1", "1", "0", "2"],
+    &["duel", "1", "1", "1", "1000001"],
+    &["duel", "1", "1", "1", "2", "0"],
+    &["duel", "1", "2", "1", "2"],
     &["trial", "01", "2", "1", "1"],
     &["trial", "2147483648", "2", "1", "1"],
     &["trial", "1", "1000001", "1", "1"],

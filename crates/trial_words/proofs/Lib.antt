@@ -1,3 +1,4 @@
 mod Baiting
 mod Counting
 mod Summing
+pub mod Putting

@@ -24,7 +24,7 @@ use step_count::Steps;
 const MORE_JOBS: u32 = 1_000_001;
 
 /// Puts the line that declares the ratio and the version.
-fn put_rules<P: Port>(
+pub fn put_rules<P: Port>(
     port: &mut P,
     out: &mut Output,
     ratio: Ratio,
@@ -46,7 +46,7 @@ fn put_rules<P: Port>(
 
 /// Puts the line of a job.
 #[inline(always)]
-fn put_job<P: Port>(port: &mut P, out: &mut Output, job: &Job) -> Result<(), Failed>
+pub fn put_job<P: Port>(port: &mut P, out: &mut Output, job: &Job) -> Result<(), Failed>
     ensures text { PutsThrough (P.moves port.old) (P.moves port.new) result out.old out.new
         (job_text job.now ++ 10 ∷ []) }
     ensures cause { HasCause (P.write_faults port.old) (P.write_faults port.new) (P.read_faults port.old)

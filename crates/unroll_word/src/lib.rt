@@ -6,5 +6,5 @@ mod asking;
 mod feeds;
 mod word;
 
-pub use feeds::feeds_of_jobs_are_read;
+pub use feeds::{feeds_of_jobs_are_read, put_job, put_rules};
 pub use word::unroll_word;

@@ -42,3 +42,7 @@ returns-in-Resume-clause-carries g c = let w = c.resume_word.ensures in
 pub returns-in-Unroll-clause-carries : goal.returns-in-Unroll-clause-carries
 returns-in-Unroll-clause-carries g c = let w = c.unroll_word.ensures in
     carried _ _ _ _ _ _ _ c.in-Unroll.is w.talks w.ends (since_weaker _ _ _ _ w.talks (λ _ _. tt)) (λ _. tt)
+
+pub returns-in-Duel-clause-carries : goal.returns-in-Duel-clause-carries
+returns-in-Duel-clause-carries g c = let w = c.duel_word.ensures in
+    carried _ _ _ _ _ _ _ c.in-Duel.is w.duels w.ends (since_weaker _ _ _ _ w.duels (λ _ _. tt)) (λ _. refl)

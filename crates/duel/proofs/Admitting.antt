@@ -1,0 +1,107 @@
+-- The jobs of a duel are admitted one by one, where they are valid.
+use Rattle.std.proofs.Common.{◌≡◌, ℕ, suc, ◌+◌, ◌*◌, ◌≤◌, ◌<◌, List, [], ◌∷◌, ◌++◌, refl, sym, ap, ◌∙◌, subst, length}
+use Rattle.std.proofs.Common.{append_assoc, arith, Some, None}
+use Rattle.std.specs.List.{AllByRecursion}
+use Rattle.std.proofs.lemmas.List.{append-nil}
+use Rattle.dover_model.specs.declared.events.Version.TheVariants.{One}
+use Rattle.dover_model.specs.Fraction.{Fraction, IsRatio}
+use Rattle.dover_model.specs.JobFacts.{JobFacts, IsJob, job_of_numbers}
+use Rattle.dover_model.specs.Instance.{IsInOrder, jobs_under}
+use Rattle.dover_model.specs.Admission.{refusal_of}
+use Rattle.dover_model.proofs.Admitting.{admits, valid_admitted}
+use Rattle.dover_model.proofs.Valid.{all_back, valid_front}
+use Rattle.admission.specs.Kept.{Kept, StandsFor}
+use Rattle.duel.specs.Game.{AreValid}
+use Rattle.duel.specs.Jobs.{jobs_of_links, first_link, duel_jobs}
+use Rattle.duel.proofs.Plain.{order}
+use Rattle.duel.proofs.Chain.{phases_of, last_of, as_phases}
+
+-- the job of its own numbers
+pub same_job : (j : JobFacts) (r c d v : ℕ) → r ≡ j.release → c ≡ j.work → d ≡ j.deadline → v ≡ j.value
+    → job_of_numbers r c d v ≡ j
+same_job j r c d v release work deadline value =
+    ap (λ x. job_of_numbers x c d v) release ∙ ap (λ x. job_of_numbers j.release x d v) work
+    ∙ ap (λ x. job_of_numbers j.release j.work x v) deadline
+    ∙ ap (λ x. job_of_numbers j.release j.work j.deadline x) value
+
+-- the jobs of links are in order of release
+pub links_order : (k : Fraction) (a b more : ℕ) (l : ℕ × ℕ) → k.q ≤ k.p → 1 ≤ l.1
+    → IsInOrder (jobs_of_links k a b more l)
+links_order k a b more l ratio some = subst IsInOrder (sym (as_phases k a b more l some))
+    (order k ratio a b l.0 (phases_of k a b more l) (last_of k a b more l))
+
+-- each job before one is released no later
+before_it : (xs ys : List JobFacts) (j : JobFacts) → IsInOrder (xs ++ j ∷ ys)
+    → AllByRecursion (λ i. i.release ≤ j.release) xs
+before_it [] ys j order = tt
+before_it (x ∷ xs) ys j order = (
+  (all_back (λ later. x.release ≤ later.release) xs (j ∷ ys) order.0).0,
+  before_it xs ys j order.1,
+)
+
+-- these of the jobs were admitted, and those are left
+pub record HasAdmitted (k : Fraction) (jobs : List JobFacts) (kept : Kept) (left : List JobFacts) : Type 0 where
+  pub done : List JobFacts
+  pub whole : jobs ≡ done ++ left
+  pub stands : StandsFor kept done
+  pub ratio : kept.ratio ≡ k
+  pub valid : AreValid One k done
+
+pub none_admitted : (k : Fraction) (jobs left : List JobFacts) (kept : Kept) → IsRatio k → left ≡ jobs
+    → StandsFor kept []
+    → kept.ratio ≡ k → HasAdmitted k jobs kept left
+none_admitted k jobs left kept ratio is stands same = record {
+  done = [];
+  whole = sym is;
+  stands = stands;
+  ratio = same;
+  valid = record {
+    ratio = ratio;
+    each = tt;
+    in_order = tt;
+    count = omega arith;
+    total = omega arith;
+    densities = tt;
+  };
+}
+
+module _ (k : Fraction) (jobs : List JobFacts) (kept : Kept) (left : List JobFacts)
+    (it : HasAdmitted k jobs kept left) where
+  -- all were
+  pub all_admitted : left ≡ [] → (kept.count ≡ length jobs) × AreValid One k jobs
+  all_admitted none = (
+    it.stands.count ∙ ap (λ (js : List JobFacts). length js) (sym all),
+    subst (λ js. AreValid One k js) (sym all) it.valid,
+  ) where
+    all : jobs ≡ it.done
+    all = it.whole ∙ ap (λ js. it.done ++ js) none ∙ append-nil it.done
+
+  -- one is too large
+  pub too_large : ((j : JobFacts) × (rest : List JobFacts) × (left ≡ j ∷ rest) × (IsJob j → ⊥))
+      → AreValid One k jobs → ⊥
+  too_large (j, rest, is, large) valid = large (all_back IsJob it.done (j ∷ rest)
+      (subst (λ js. AllByRecursion IsJob js) (it.whole ∙ ap (λ js. it.done ++ js) is) valid.each)).0
+
+  module _ (j : JobFacts) (rest : List JobFacts) (is : left ≡ j ∷ rest) where
+    whole_now : jobs ≡ (it.done ++ j ∷ []) ++ rest
+    whole_now = it.whole ∙ ap (λ js. it.done ++ js) is ∙ sym (append_assoc it.done (j ∷ []) rest)
+
+    -- one isn't admitted
+    pub one_refused : (refusal_of kept.ratio it.done j ≡ None → ⊥) → AreValid One k jobs → ⊥
+    one_refused refused valid = refused (subst (λ r. refusal_of r it.done j ≡ None) (sym it.ratio)
+        (valid_admitted (jobs_under One k it.done) j
+        (valid_front (jobs_under One k (it.done ++ j ∷ [])) rest
+        (subst (λ js. AreValid One k js) whole_now valid))))
+
+    -- one more is
+    pub one_admitted : (then : Kept) → IsInOrder jobs → StandsFor then (it.done ++ j ∷ [])
+        → refusal_of kept.ratio it.done j ≡ None → then.ratio ≡ kept.ratio → HasAdmitted k jobs then rest
+    one_admitted then order stands none same = record {
+      done = it.done ++ j ∷ [];
+      whole = whole_now;
+      stands = stands;
+      ratio = same ∙ it.ratio;
+      valid = admits (record { ratio = k; version = One }) it.done j it.valid
+          (before_it it.done rest j (subst IsInOrder (it.whole ∙ ap (λ js. it.done ++ js) is) order))
+          (subst (λ r. refusal_of r it.done j ≡ None) it.ratio none);
+    }

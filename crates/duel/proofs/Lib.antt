@@ -1,0 +1,17 @@
+pub mod Phases
+pub mod Rising
+pub mod Ends
+pub mod Served
+pub mod Fronts
+pub mod Judging
+pub mod Planning
+pub mod Plain
+pub mod Duel
+pub mod Rules
+pub mod Policies
+pub mod Chain
+pub mod Giving
+pub mod Admitting
+pub mod Losing
+pub mod Seeing
+pub mod Rowing

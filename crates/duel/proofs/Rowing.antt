@@ -1,0 +1,107 @@
+-- Duels within the limits, by computation.
+use Rattle.std.proofs.Common.{◌≡◌, ℕ, ◌≤◌, List, refl, sym, subst, length, arith, Bool, true, false}
+use Rattle.std.specs.Prelude.{◌&&◌, nat_le}
+use Rattle.std.specs.List.{list_all}
+use Rattle.std.proofs.lemmas.Bool.{leb-true}
+use Rattle.dover_model.specs.declared.events.Version.TheVariants.{One}
+use Rattle.dover_model.specs.Fraction.{Fraction, IsRatio}
+use Rattle.dover_model.specs.JobFacts.{JobFacts, is_job, IsJob}
+use Rattle.dover_model.specs.Instance.{total_value}
+use Rattle.dover_model.specs.Limits.{most_jobs, most_total}
+use Rattle.dover_model.proofs.Agreement.{is_job-agrees}
+use Rattle.dover_model.proofs.Tests.{each}
+use Rattle.duel.specs.Game.{Scheduler, IsOnline, ArePlain, AreValid, LosesOnFront}
+use Rattle.duel.specs.Jobs.{jobs_of_links, first_link, duel_jobs}
+use Rattle.duel.specs.Rows.{k_of}
+use Rattle.duel.proofs.Phases.{jobs_from}
+use Rattle.duel.proofs.Plain.{plain_whole}
+use Rattle.duel.proofs.Chain.{phases_of, last_of, as_phases, traps_of, first_cheap}
+use Rattle.duel.proofs.Losing.{each_loses}
+
+-- jobs that are few, not worth too much, and each within its limits
+abbrev fits : List JobFacts → Bool
+fits jobs = (nat_le (length jobs) most_jobs && nat_le (total_value jobs) most_total) && list_all is_job jobs
+
+both : (x y : Bool) → (x && y) ≡ true → (x ≡ true) × (y ≡ true)
+both true true is = (refl, refl)
+both true false is = absurd (cc)
+both false y is = absurd (cc)
+
+module _ (k : Fraction) (a b : ℕ) (ratio : IsRatio k) (some_b : 1 ≤ b) where
+  valid_links : (more : ℕ) → more ≤ most_jobs → length (jobs_of_links k a b more (first_link k a b)) ≤ more
+      → fits (jobs_of_links k a b more (first_link k a b)) ≡ true
+      → AreValid One k (jobs_of_links k a b more (first_link k a b))
+  valid_links more low few test =
+      let one = both (nat_le (length (jobs_of_links k a b more (first_link k a b))) most_jobs
+      && nat_le (total_value (jobs_of_links k a b more (first_link k a b))) most_total)
+      (list_all is_job (jobs_of_links k a b more (first_link k a b))) test in
+      let two = both (nat_le (length (jobs_of_links k a b more (first_link k a b))) most_jobs)
+      (nat_le (total_value (jobs_of_links k a b more (first_link k a b))) most_total) one.0 in
+      let plain = plain_whole k ratio.above_one a b (phases_of k a b more (first_link k a b))
+      (last_of k a b more (first_link k a b))
+      (traps_of k a b ratio.least some_b more (first_link k a b) (omega arith)
+          (first_cheap k a b ratio.least some_b) few) in
+      let here = subst (λ js. ArePlain k js) (sym same) plain in
+      record {
+        ratio = ratio;
+        each = (each is_job IsJob is_job-agrees (jobs_of_links k a b more (first_link k a b))).0 one.1;
+        in_order = here.in_order;
+        count = leb-true _ _ two.0;
+        total = leb-true _ _ two.1;
+        densities = here.densities;
+      } where
+        same : jobs_of_links k a b more (first_link k a b) ≡ jobs_from k.p k.q 0
+            (phases_of k a b more (first_link k a b)) (last_of k a b more (first_link k a b))
+        same = as_phases k a b more (first_link k a b) (omega arith)
+
+-- the jobs of the duel for a share, which fit
+fitting : (p a b : ℕ) (scheduler : Scheduler) → IsRatio (k_of p) → 1 ≤ b → fits (duel_jobs (k_of p) a b) ≡ true
+    → IsOnline (AreValid One (k_of p)) scheduler → LosesOnFront (k_of p) a b scheduler (duel_jobs (k_of p) a b)
+fitting p a b scheduler ratio some_b test online = each_loses One (k_of p) a b scheduler some_b
+    (valid_links (k_of p) a b ratio some_b 1_000_000 (omega arith) (leb-true _ _ few) test) online where
+      few : nat_le (length (duel_jobs (k_of p) a b)) most_jobs ≡ true
+      few = (both (nat_le (length (duel_jobs (k_of p) a b)) most_jobs)
+          (nat_le (total_value (duel_jobs (k_of p) a b)) most_total)
+          (both (nat_le (length (duel_jobs (k_of p) a b)) most_jobs
+          && nat_le (total_value (duel_jobs (k_of p) a b)) most_total) (list_all is_job (duel_jobs
+              (k_of p) a b)) test).0).0
+
+one_fits : fits (duel_jobs (k_of 1) 393 100) ≡ true
+unfolding jobs_of_links
+one_fits = refl
+
+pub one_loses : (scheduler : Scheduler) → IsOnline (AreValid One (k_of 1)) scheduler
+    → LosesOnFront (k_of 1) 393 100 scheduler (duel_jobs (k_of 1) 393 100)
+one_loses scheduler online = fitting 1 393 100 scheduler
+    (record { least = omega arith; above_one = omega arith; small_q = omega arith; small_p = omega arith })
+    (omega arith) one_fits online
+
+two_fits : fits (duel_jobs (k_of 2) 143 25) ≡ true
+unfolding jobs_of_links
+two_fits = refl
+
+pub two_loses : (scheduler : Scheduler) → IsOnline (AreValid One (k_of 2)) scheduler
+    → LosesOnFront (k_of 2) 143 25 scheduler (duel_jobs (k_of 2) 143 25)
+two_loses scheduler online = fitting 2 143 25 scheduler
+    (record { least = omega arith; above_one = omega arith; small_q = omega arith; small_p = omega arith })
+    (omega arith) two_fits online
+
+four_fits : fits (duel_jobs (k_of 4) 221 25) ≡ true
+unfolding jobs_of_links
+four_fits = refl
+
+pub four_loses : (scheduler : Scheduler) → IsOnline (AreValid One (k_of 4)) scheduler
+    → LosesOnFront (k_of 4) 221 25 scheduler (duel_jobs (k_of 4) 221 25)
+four_loses scheduler online = fitting 4 221 25 scheduler
+    (record { least = omega arith; above_one = omega arith; small_q = omega arith; small_p = omega arith })
+    (omega arith) four_fits online
+
+hundred_fits : fits (duel_jobs (k_of 100) 118 1) ≡ true
+unfolding jobs_of_links
+hundred_fits = refl
+
+pub hundred_loses : (scheduler : Scheduler) → IsOnline (AreValid One (k_of 100)) scheduler
+    → LosesOnFront (k_of 100) 118 1 scheduler (duel_jobs (k_of 100) 118 1)
+hundred_loses scheduler online = fitting 100 118 1 scheduler
+    (record { least = omega arith; above_one = omega arith; small_q = omega arith; small_p = omega arith })
+    (omega arith) hundred_fits online

@@ -1,0 +1,20 @@
+use Rattle.std.proofs.Common.{sym, subst}
+use Rattle.dover_model.specs.Bound.{IsWithin}
+use Rattle.dover_model.specs.Instance.{jobs_under}
+use Rattle.dover_model.specs.Schedules.{worth}
+use Rattle.dover_model.proofs.BoundLaws.{bound}
+use Rattle.dover_model.proofs.Honest.{honest}
+use Rattle.duel.proofs.Duel.{every_one_loses}
+use Rattle.duel.proofs.Rules.{online}
+use Rattle.duel.proofs.laws.the_rules_save_the_most.Goals as goal
+
+pub returns-clause-on_line : goal.returns-clause-on_line
+returns-clause-on_line c = online
+
+pub returns-clause-saved : goal.returns-clause-saved
+returns-clause-saved c = λ version k jobs s valid.
+    subst (λ a. IsWithin k (worth (jobs_under version k jobs) s) a) (sym (honest (jobs_under version k jobs) valid))
+    (bound (jobs_under version k jobs) s valid)
+
+pub returns-clause-no_more : goal.returns-clause-no_more
+returns-clause-no_more c = every_one_loses

@@ -1,0 +1,11 @@
+use Rattle.std.proofs.Common.{arith}
+use Rattle.duel.proofs.Giving.{root_small}
+use Rattle.duel.proofs.links.is_too_much.Goals as goal
+
+pub overflow_mul-result-5 : goal.overflow_mul-result-5
+overflow_mul-result-5 c =
+    omega (
+      arith,
+      root_small c.from-p.result c.from-q.result c.from-part.result (omega arith) (omega arith)
+          (omega arith),
+    )

@@ -1,8 +1,0 @@
-pub mod Rising
-pub mod Ends
-pub mod Served
-pub mod Fronts
-pub mod Judging
-pub mod Planning
-pub mod Plain
-pub mod Duel

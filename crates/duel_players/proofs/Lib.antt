@@ -1,3 +1,0 @@
-pub mod Policies
-pub mod Rows
-pub mod Dover

@@ -1,0 +1,159 @@
+-- The lines of so many jobs, one behind another.
+use Rattle.std.proofs.Common.{◌≡◌, ℕ, zero, suc, ◌+◌, ◌-◌, ◌≤◌, ◌<◌, List, [], ◌∷◌, ◌++◌, length, length-append, map}
+use Rattle.std.proofs.Common.{append_assoc, refl, sym, ap, ◌∙◌, subst, take, Option, Some, None, Result, arith}
+use Rattle.std.specs.List.{AllByRecursion}
+use Rattle.std.proofs.lemmas.List.{append-nil, map-append}
+use Rattle.dover_model.specs.JobFacts.{JobFacts, IsJob}
+use Rattle.dover_model.specs.Lines.{in_lines}
+use Rattle.dover_model.proofs.Valid.{all_back}
+use Rattle.dover_port.specs.Moves.{Move, Passes, CutsShort, PutsThrough, IsProperPrefix}
+use Rattle.dover_port.proofs.Through.{passes_then, passes_then_cut, cut_longer, passes_nothing}
+use Rattle.duel.specs.declared.coming.Next.{Next}
+use Rattle.duel.specs.declared.coming.Next.TheVariants as next
+use Rattle.duel.specs.Kept.{Gives}
+use Rattle.duel.specs.Answers.{front_of}
+use Rattle.dover_model.specs.FeedLine.{EndLine, feed_text}
+use Rattle.dover_model.specs.declared.events.Version.TheVariants.{One}
+use Rattle.dover_model.specs.Fraction.{Fraction}
+use Rattle.dover_model.specs.Instance.{Instance, jobs_under}
+use Rattle.unroll_word.specs.Feeds.{job_text, rules_text, feed_of}
+use Rattle.unroll_word.proofs.Putting.{texts, text_more, in_lines-append, feed_through}
+
+texts_behind : (xs ys : List JobFacts) → texts (xs ++ ys) ≡ texts xs ++ texts ys
+texts_behind xs ys = ap in_lines (map-append job_text xs ys) ∙ in_lines-append (map job_text xs) (map job_text ys)
+
+-- the first of two lists, by its length
+take_front : (count : ℕ) (xs ys : List JobFacts) → count ≡ length xs → take count (xs ++ ys) ≡ xs
+take_front zero [] ys is = refl
+take_front zero (x ∷ xs) ys is = absurd (omega (arith, is))
+take_front (suc count) [] ys is = absurd (omega (arith, is))
+take_front (suc count) (x ∷ xs) ys is = ap (λ zs. x ∷ zs) (take_front count xs ys (omega (arith, is)))
+
+-- the first of two lists is within what is taken
+take_more : (count : ℕ) (xs ys : List JobFacts) → length xs ≤ count
+    → (rest : List JobFacts) × (take count (xs ++ ys) ≡ xs ++ rest)
+take_more count [] ys low = (take count ys, refl)
+take_more zero (x ∷ xs) ys low = absurd (omega (arith, low))
+take_more (suc count) (x ∷ xs) ys low = let it = take_more count xs ys (omega (arith, low)) in
+    (it.0, ap (λ zs. x ∷ zs) it.1)
+
+-- these of the jobs were put, and those are left
+pub record HasPut (jobs left : List JobFacts) (count put : ℕ) (a b : Option (List Move)) (p q : List ℕ) : Type 0 where
+  pub done : List JobFacts
+  pub whole : jobs ≡ done ++ left
+  pub so_many : put ≡ length done
+  pub low : put ≤ count
+  pub passes : Passes a b p q (texts done)
+
+pub none_put : (jobs : List JobFacts) (count : ℕ) (a : Option (List Move)) (p : List ℕ)
+    → HasPut jobs jobs count 0 a a p p
+none_put jobs count a p = record {
+  done = [];
+  whole = refl;
+  so_many = refl;
+  low = omega arith;
+  passes = passes_nothing a p;
+}
+
+module _ (jobs left : List JobFacts) (count put : ℕ) (a b : Option (List Move)) (p q : List ℕ)
+    (it : HasPut jobs left count put a b p q) where
+  -- all that were asked for
+  pub all_put : count ≤ put → Passes a b p q (in_lines (map job_text (take count jobs)))
+  all_put high = subst (λ js. Passes a b p q (texts js)) (sym (ap (λ js. take count js) it.whole
+      ∙ take_front count it.done left (omega (arith, high, it.low, it.so_many)))) it.passes
+
+  module _ (few : count ≤ length jobs) (each : AllByRecursion IsJob jobs) (less : put < count) where
+    -- there is a next one
+    pub not_over : left ≡ [] → ⊥
+    not_over none = level (length jobs) (length it.done)
+        (ap (λ (js : List JobFacts). length js) (it.whole ∙ ap (λ js. it.done ++ js) none ∙ append-nil it.done))
+        few it.so_many where
+          level : (m n : ℕ) → m ≡ n → count ≤ m → put ≡ n → ⊥
+          level m n is few so_many = omega (arith, is, few, so_many, less)
+
+    -- which keeps its limits
+    pub not_too_large : (j : JobFacts) × (rest : List JobFacts) × (left ≡ j ∷ rest) × (IsJob j → ⊥) → ⊥
+    not_too_large (j, rest, is, large) = large (all_back IsJob it.done (j ∷ rest)
+        (subst (λ js. AllByRecursion IsJob js) (it.whole ∙ ap (λ js. it.done ++ js) is) each)).0
+
+    -- so there is a job
+    pub some_job : (given : Next) (after : List JobFacts) → Gives given left after
+        → ((x : JobFacts) → given ≡ next.Job x → ⊥) → ⊥
+    some_job (next.Job j) after is not_job = not_job j refl
+    some_job next.Over after none not_job = not_over none
+    some_job next.TooLarge after large not_job = not_too_large large
+
+  module _ (j : JobFacts) (after : List JobFacts) (is : left ≡ j ∷ after) (low : put < count)
+      (c : Option (List Move)) (r : List ℕ) where
+    whole_now : jobs ≡ (it.done ++ j ∷ []) ++ after
+    whole_now = it.whole ∙ ap (λ js. it.done ++ js) is ∙ sym (append_assoc it.done (j ∷ []) after)
+
+    longer : length (it.done ++ j ∷ []) ≡ put + 1
+    longer = omega (arith, it.so_many, length-append it.done (j ∷ []))
+
+    -- it is put
+    pub one_put : Passes b c q r (job_text j ++ 10 ∷ []) → HasPut jobs after count (put + 1) a c p r
+    one_put further = record {
+      done = it.done ++ j ∷ [];
+      whole = whole_now;
+      so_many = sym longer;
+      low = omega (arith, low);
+      passes = subst (Passes a c p r) (text_more it.done j) (passes_then a b c p q r _ _ it.passes further);
+    }
+
+    -- or cut short
+    pub one_cut : CutsShort b c q (job_text j ++ 10 ∷ []) → CutsShort a c p (in_lines (map job_text (take count jobs)))
+    one_cut further =
+        let more = take_more count (it.done ++ j ∷ []) after (omega (arith, longer, low)) in
+        subst (CutsShort a c p) (ap (λ l. l ++ texts more.0) (text_more it.done j)
+        ∙ sym (texts_behind (it.done ++ j ∷ []) more.0)
+        ∙ ap (λ js. texts js) (sym more.1 ∙ ap (λ js. take count js) (sym whole_now)))
+        (cut_longer a c p (texts it.done ++ (job_text j ++ 10 ∷ [])) (texts more.0)
+        (passes_then_cut a b c p q r (texts it.done) (job_text j ++ 10 ∷ []) it.passes further))
+
+-- a feed is put, and what was kept back of it
+pub feed_flushed : {T E : Type 0} (a b : Option (List Move)) (result : Result T E) (p q : List ℕ) (J : Instance)
+    → PutsThrough a b result p q ((rules_text J.rules ++ 10 ∷ []) ++ (texts J.jobs ++ ((feed_text EndLine ++ 10
+        ∷ []) ++ [])))
+    → PutsThrough a b result p q (feed_of J)
+feed_flushed a b result p q J it = feed_through a b result p q J
+    (subst (λ e. PutsThrough a b result p q ((rules_text J.rules ++ 10 ∷ []) ++ (texts J.jobs ++ e)))
+    (append-nil (feed_text EndLine ++ 10 ∷ [])) it)
+
+-- a front is so many of the jobs as it has
+take_again : (n : ℕ) (xs : List JobFacts) → take (length (take n xs)) xs ≡ take n xs
+take_again zero xs = refl
+take_again (suc n) [] = refl
+take_again (suc n) (x ∷ xs) = ap (λ ys. x ∷ ys) (take_again n xs)
+
+take_all : (xs : List JobFacts) → take (length xs) xs ≡ xs
+take_all [] = refl
+take_all (x ∷ xs) = ap (λ ys. x ∷ ys) (take_all xs)
+
+pub front_taken : (front : Option ℕ) (jobs : List JobFacts) (count : ℕ) → count ≡ length (front_of front jobs)
+    → take count jobs ≡ front_of front jobs
+front_taken None jobs count is = ap (λ n. take n jobs) is ∙ take_all jobs
+front_taken (Some n) jobs count is = ap (λ m. take m jobs) is ∙ take_again n jobs
+
+-- and no more than there are
+take_low : (n : ℕ) (xs : List JobFacts) → length (take n xs) ≤ length xs
+take_low zero xs = omega arith
+take_low (suc n) [] = omega arith
+take_low (suc n) (x ∷ xs) = omega (arith, take_low n xs)
+
+pub front_low : (front : Option ℕ) (jobs : List JobFacts) → length (front_of front jobs) ≤ length jobs
+front_low None jobs = omega arith
+front_low (Some n) jobs = take_low n jobs
+
+-- the feed of so many of the jobs is that of the front
+pub is_front : (k : Fraction) (front : Option ℕ) (jobs coming : List JobFacts) (count : ℕ) → coming ≡ jobs
+    → count ≡ length (front_of front jobs)
+    → feed_of (jobs_under One k (take count coming)) ≡ feed_of (jobs_under One k (front_of front jobs))
+is_front k front jobs coming count same is = ap (λ js. feed_of (jobs_under One k js))
+    (ap (λ js. take count js) same ∙ front_taken front jobs count is)
+
+-- a front of a text behind nothing is one of the same text
+pub none_before : (put before text other : List ℕ) → before ≡ [] → text ≡ other → IsProperPrefix put (before ++ text)
+    → IsProperPrefix put other
+none_before put before text other none same it =
+    (it.0, it.1, sym (ap (λ b. b ++ text) none ∙ same) ∙ it.2)

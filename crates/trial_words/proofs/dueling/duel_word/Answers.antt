@@ -1,0 +1,24 @@
+use Rattle.std.proofs.Common.{◌∷◌, [], inl, inr, append-nil}
+use Rattle.dover_port.specs.Moves.Move.{Put}
+use Rattle.dover_port.proofs.Made.{since_weaker}
+use Rattle.unroll_word.specs.Feeds.{feed_of}
+use Rattle.trial_words.specs.Dueled.{duel_front, no_duel_text}
+use Rattle.trial_words.proofs.Putting.{is_front, none_before}
+use Rattle.trial_words.proofs.dueling.duel_word.Goals as goal
+
+pub returns-in-Ok-put_all-clause-ends : goal.returns-in-Ok-put_all-clause-ends
+returns-in-Ok-put_all-clause-ends g c = inr (
+  Put (no_duel_text c.in-Err.cause) ∷ [],
+  inr (c.in-Err.cause, c.in-Err.ensures, (tt, append-nil (no_duel_text c.in-Err.cause))),
+)
+
+pub returns-in-Ok-put_feed-clause-ends : goal.returns-in-Ok-put_feed-clause-ends
+returns-in-Ok-put_feed-clause-ends g c = inr (
+  Put (feed_of (duel_front c.args.k c.args.share c.args.front)) ∷ [],
+  inl (c.in-Ok.ensures.0, (tt, append-nil (feed_of (duel_front c.args.k c.args.share c.args.front)))),
+)
+
+pub returns-in-Err-put_feed-clause-duels : goal.returns-in-Err-put_feed-clause-duels
+returns-in-Err-put_feed-clause-duels g c = since_weaker _ _ _ _ c.in-Err-put_feed.ensures.text.part
+    (λ moves put. inl (c.in-Ok.ensures.0, (put.0, none_before _ _ _ _ c.new-out.ensures
+    (is_front c.args.k c.args.front _ _ _ c.new-coming.ensures.jobs c.in-Ok.ensures.1) put.1)))
