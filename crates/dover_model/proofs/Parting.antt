@@ -125,7 +125,7 @@ rises_less low low2 [] less rise = tt
 rises_less low low2 (n_j ∷ ns) less rise = (let from : low ≤ n_j.0 = rise.0 in omega arith, rise.1)
 
 -- jobs under their numbers rise
-numbers_rise : (k : ℕ) (jobs : List JobFacts) → Rises k (enumerate_from k jobs)
+pub numbers_rise : (k : ℕ) (jobs : List JobFacts) → Rises k (enumerate_from k jobs)
 numbers_rise k [] = tt
 numbers_rise k (j ∷ jobs) = (
   omega arith,
@@ -134,7 +134,7 @@ numbers_rise k (j ∷ jobs) = (
 )
 
 -- so do some of them
-filter_rises : (p : Job → Bool) (low : ℕ) (ns : List Job) → Rises low ns → Rises low (filter p ns)
+pub filter_rises : (p : Job → Bool) (low : ℕ) (ns : List Job) → Rises low ns → Rises low (filter p ns)
 filter_rises p low [] rise = tt
 filter_rises p low (n_j ∷ ns) rise = by_test (p n_j) (filter_rises p (suc n_j.0) ns rise.1) where
   by_test : (b : Bool) → Rises (suc n_j.0) (filter p ns) → Rises low (cond b (n_j ∷ filter p ns) (filter p ns))
@@ -152,7 +152,7 @@ placed_same f g k low (n_j ∷ ns) rise same placed = (
 )
 
 -- the places of rising numbers
-places : (k low : ℕ) (ns : List Job) → Rises low ns → AllPlaced (place k ns) k ns
+pub places : (k low : ℕ) (ns : List Job) → Rises low ns → AllPlaced (place k ns) k ns
 places k low [] rise = tt
 places k low (n_j ∷ ns) rise = (
   ap (λ b. cond b k (place (k + 1) ns n_j.0)) (eq-eqb n_j.0 n_j.0 refl),

@@ -12,3 +12,4 @@ mod window;
 pub use answer::Feasible;
 pub use judging::judge_feasible;
 pub use laws::an_overfull_window_excludes_meeting;
+pub use window::work_inside;

@@ -16,6 +16,26 @@ use Rattle.overload.specs.Stretches.{value_inside}
 use Rattle.overload.specs.Collecting.{IsCut}
 use Rattle.overload.proofs.Near.{early_out, late_out, in_rest}
 
+module _ (f : Job → ℕ) where
+  -- a sum over the jobs of two lists
+  two_lists : (xs ys : List JobFacts) → sum_by f (enumerate_from 0 (xs ++ ys))
+      ≡ sum_by f (enumerate_from 0 xs) + sum_by f (enumerate_from (length xs) ys)
+  two_lists xs ys = ap (sum_by f) (enumerate_append 0 xs ys)
+      ∙ sum_by-append f (enumerate_from 0 xs) (enumerate_from (0 + length xs) ys)
+      ∙ ap (λ k. sum_by f (enumerate_from 0 xs) + sum_by f (enumerate_from k ys))
+      (let e : 0 + length xs ≡ length xs = omega arith in e)
+
+  -- one job more
+  pub job_more : (jobs : List JobFacts) (i : ℕ) (j : JobFacts) → i < length jobs → j ≡ get_or jobs i j
+      → sum_by f (enumerate_from 0 (take (i + 1) jobs)) ≡ sum_by f (enumerate_from 0 (take i jobs)) + f (i, j)
+  job_more jobs i j short is = ap (λ js. sum_by f (enumerate_from 0 js)) (take_more jobs i j short)
+      ∙ two_lists (take i jobs) (get_or jobs i j ∷ [])
+      ∙ ap (λ k. sum_by f (enumerate_from 0 (take i jobs)) + sum_by f (enumerate_from k (get_or jobs i j ∷ [])))
+      (let e : length (take i jobs) ≡ i = omega (arith, length-take i jobs, short) in e)
+      ∙ ap (λ x. sum_by f (enumerate_from 0 (take i jobs)) + sum_by f ((i, x) ∷ [])) (sym is)
+      ∙ let e : sum_by f (enumerate_from 0 (take i jobs)) + sum_by f ((i, j) ∷ [])
+      ≡ sum_by f (enumerate_from 0 (take i jobs)) + f (i, j) = omega (arith, sum_by-cons f (i, j) []) in e
+
 module _ (jobs : List JobFacts) (done : ℕ → Bool) (a b : ℕ) where
   -- what a job adds
   abbrev pub adds : Job → ℕ
@@ -36,34 +56,20 @@ module _ (jobs : List JobFacts) (done : ℕ → Bool) (a b : ℕ) where
     nothing (k + 1) js (λ i member. out i (inr member)),
   )
 
-  -- those of two lists
-  adds_append : (xs ys : List JobFacts) → sum_by adds (enumerate_from 0 (xs ++ ys))
-      ≡ sum_by adds (enumerate_from 0 xs) + sum_by adds (enumerate_from (length xs) ys)
-  adds_append xs ys = ap (sum_by adds) (enumerate_append 0 xs ys)
-      ∙ sum_by-append adds (enumerate_from 0 xs) (enumerate_from (0 + length xs) ys)
-      ∙ ap (λ k. sum_by adds (enumerate_from 0 xs) + sum_by adds (enumerate_from k ys))
-      (let e : 0 + length xs ≡ length xs = omega arith in e)
-
   -- those before the window add nothing
   pub none_before : (m : ℕ) → IsCut jobs a m → so_far m ≡ 0
   none_before m first = nothing 0 (take m jobs) (λ j member. early_out a b j (first.before j member))
 
   -- one more
   pub one_more : (i : ℕ) (j : JobFacts) → i < length jobs → j ≡ get_or jobs i j → so_far (i + 1) ≡ so_far i + adds (i, j)
-  one_more i j short is = ap (λ js. sum_by adds (enumerate_from 0 js)) (take_more jobs i j short)
-      ∙ adds_append (take i jobs) (get_or jobs i j ∷ [])
-      ∙ ap (λ k. so_far i + sum_by adds (enumerate_from k (get_or jobs i j ∷ [])))
-      (let e : length (take i jobs) ≡ i = omega (arith, length-take i jobs, short) in e)
-      ∙ ap (λ x. so_far i + sum_by adds ((i, x) ∷ [])) (sym is)
-      ∙ let e : so_far i + sum_by adds ((i, j) ∷ []) ≡ so_far i + adds (i, j) =
-      omega (arith, sum_by-cons adds (i, j) []) in e
+  one_more i j short is = job_more adds jobs i j short is
 
   -- and those behind it
   pub all_added : (n i : ℕ) → Each IsJob jobs → IsCut jobs b n → n ≤ i → so_far i ≡ value_inside jobs done a b
   all_added n i good second more = omega (
     arith,
     ap (λ js. sum_by adds (enumerate_from 0 js)) (sym (take-append-drop i jobs)),
-    adds_append (take i jobs) (drop i jobs),
+    two_lists adds (take i jobs) (drop i jobs),
     nothing (length (take i jobs)) (drop i jobs) (λ j member. late_out a b j (good j (in_rest i jobs j member))
         (second.behind j (in_rest (i - n) (drop n jobs) j (subst (IsMember j) (sym (drop-drop (i - n) n jobs
         ∙ ap (λ k. drop k jobs) (let e : n + (i - n) ≡ i = omega (arith, more) in e))) member)))),

@@ -1,6 +1,7 @@
 pub mod Prices
 pub mod Stretching
-pub mod Costs
+pub mod Paying
 pub mod Outside
 pub mod Near
 pub mod Inside
+pub mod NoneMet

@@ -3,14 +3,14 @@ use Rattle.std.proofs.Common.{◌≡◌, ℕ, zero, suc, ◌+◌, ◌-◌, ◌/�
 use Rattle.std.proofs.Common.{◌∙◌, subst, take-append-drop, get_or}
 use Rattle.std.proofs.Common.{Bool, true, false, cond, arith}
 use Rattle.std.specs.Prelude.{◌&&◌, nat_le}
-use Rattle.std.specs.List.{filter}
+use Rattle.std.specs.List.{filter, sum_by}
 use Rattle.std.proofs.lemmas.Bool.{lt-leb}
-use Rattle.std.proofs.lemmas.List.{append-nil, drop-drop, drop_more, drop_all}
+use Rattle.std.proofs.lemmas.List.{append-nil, drop-drop, drop_more, drop_all, length-take, length-drop}
 use Rattle.std.proofs.lemmas.List.Elements.{filter-append}
 use Rattle.dover_model.specs.JobFacts.{JobFacts, IsJob}
 use Rattle.dover_model.specs.Instance.{IsInOrder}
 use Rattle.dover_model.specs.Sound.{IsMember, Each}
-use Rattle.dover_model.specs.Windows.{is_inside}
+use Rattle.dover_model.specs.Windows.{is_inside, work_inside}
 use Rattle.dover_model.proofs.Members.{filter_none, member_filter, member_behind, all_member, each_all}
 use Rattle.dover_model.proofs.Valid.{order_back}
 use Rattle.overload.specs.Stretches.{jobs_inside}
@@ -131,3 +131,18 @@ pub found_inside : (jobs : List JobFacts) (a b : ℕ) → Each IsJob jobs → (n
     → found ≡ got → got ≡ jobs_inside near a b → IsNear jobs a b near → found ≡ jobs_inside jobs a b
 found_inside jobs a b good near got found is filtered cut = is ∙ filtered ∙ ap (λ js. jobs_inside js a b) cut.4
     ∙ near_inside jobs a b cut.0 cut.1 good cut.2 cut.3
+
+-- nor have they more work, or less
+pub near_work : (jobs near : List JobFacts) (a b : ℕ) → Each IsJob jobs → IsNear jobs a b near
+    → work_inside near a b ≡ work_inside jobs a b
+near_work jobs near a b good cut = ap (sum_by (λ (j : JobFacts). j.work))
+    (ap (λ js. jobs_inside js a b) cut.4 ∙ near_inside jobs a b cut.0 cut.1 good cut.2 cut.3)
+
+-- they are no more than all
+pub near_few : (jobs near : List JobFacts) (a b : ℕ) → IsNear jobs a b near → length near ≤ length jobs
+near_few jobs near a b cut = omega (
+  arith,
+  ap length cut.4,
+  length-take (cut.1 - cut.0) (drop cut.0 jobs),
+  length-drop cut.0 jobs,
+)

@@ -14,6 +14,11 @@ use Rattle.dover_model.proofs.Tests.{never}
 use Rattle.overload.specs.declared.stretch.Stretch.{Stretch}
 use Rattle.overload.specs.Stretches.{AreInOrder, IsStretch, is_inside_some, jobs_inside, value_outside}
 
+-- with one behind them there is some
+pub never_empty : {Z : Type 0} (xs : List Stretch) (y : Stretch) → xs ++ y ∷ [] ≡ [] → Z
+never_empty [] y none = absurd (cc)
+never_empty (x ∷ xs) y none = absurd (cc)
+
 -- the stretches with one behind them that begins late enough are in order
 pub order_behind : (xs : List Stretch) (y : Stretch) (at : ℕ) → AreInOrder xs → Each (λ x. x.until ≤ at) xs
     → at ≤ y.from → AreInOrder (xs ++ y ∷ [])

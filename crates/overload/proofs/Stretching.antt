@@ -1,9 +1,8 @@
 -- Caps of stretches add up.
-use Rattle.std.proofs.Common.{◌≡◌, ℕ, suc, ◌+◌, ◌≤◌, List, [], ◌∷◌, map, refl, ap, ◌∙◌, subst}
+use Rattle.std.proofs.Common.{◌≡◌, ℕ, ◌+◌, ◌≤◌, List, [], ◌∷◌, map, refl, ap}
 use Rattle.std.proofs.Common.{Bool, true, false, cond, arith}
 use Rattle.std.specs.Prelude.{◌||◌}
 use Rattle.std.specs.List.{sum_by, filter, enumerate_from}
-use Rattle.std.proofs.lemmas.Bool.{eq-eqb, ne_eqb}
 use Rattle.std.proofs.lemmas.List.Sums.{sum_by-cons}
 use Rattle.dover_model.specs.JobFacts.{JobFacts}
 use Rattle.dover_model.specs.Instance.{Rules}
@@ -13,48 +12,9 @@ use Rattle.dover_model.specs.Windows.{is_inside}
 use Rattle.dover_model.specs.Books.{Job}
 use Rattle.dover_model.proofs.Members.{sum_le, sum_plus, sum_zero, sum_filter, cond_le}
 use Rattle.dover_model.proofs.Serving.{sum_numbered}
-use Rattle.dover_model.proofs.Parting.{worth_to, AllPlaced, worth_placed, Rises, place}
+use Rattle.dover_model.proofs.Parting.{worth_to, worth_placed, place, places, filter_rises, numbers_rise}
 use Rattle.overload.specs.declared.stretch.Stretch.{Stretch}
 use Rattle.overload.specs.Stretches.{jobs_inside, Caps, is_inside_some, value_outside, IsCapped}
-
--- ---- places of rising numbers (these stand in Parting, not yet pub)
-
-rises_less : (low low2 : ℕ) (ns : List Job) → low2 ≤ low → Rises low ns → Rises low2 ns
-rises_less low low2 [] less rise = tt
-rises_less low low2 (n_j ∷ ns) less rise = (let from : low ≤ n_j.0 = rise.0 in omega arith, rise.1)
-
-numbers_rise : (k : ℕ) (jobs : List JobFacts) → Rises k (enumerate_from k jobs)
-numbers_rise k [] = tt
-numbers_rise k (j ∷ jobs) = (
-  omega arith,
-  subst (λ l. Rises l (enumerate_from (k + 1) jobs)) (let e : k + 1 ≡ suc k = omega arith in e)
-      (numbers_rise (k + 1) jobs),
-)
-
-filter_rises : (p : Job → Bool) (low : ℕ) (ns : List Job) → Rises low ns → Rises low (filter p ns)
-filter_rises p low [] rise = tt
-filter_rises p low (n_j ∷ ns) rise = by_test (p n_j) (filter_rises p (suc n_j.0) ns rise.1) where
-  by_test : (b : Bool) → Rises (suc n_j.0) (filter p ns) → Rises low (cond b (n_j ∷ filter p ns) (filter p ns))
-  by_test true rest = (rise.0, rest)
-  by_test false rest = rises_less (suc n_j.0) low (filter p ns) (let from : low ≤ n_j.0 = rise.0 in omega arith) rest
-
-placed_same : (f g : ℕ → ℕ) (k low : ℕ) (ns : List Job) → Rises low ns → ((m : ℕ) → low ≤ m → f m ≡ g m)
-    → AllPlaced g k ns → AllPlaced f k ns
-placed_same f g k low [] rise same placed = tt
-placed_same f g k low (n_j ∷ ns) rise same placed = (
-  same n_j.0 rise.0 ∙ placed.0,
-  placed_same f g (k + 1) (suc n_j.0) ns rise.1
-      (λ m above. same m (let from : low ≤ n_j.0 = rise.0 in omega arith)) placed.1,
-)
-
-places : (k low : ℕ) (ns : List Job) → Rises low ns → AllPlaced (place k ns) k ns
-places k low [] rise = tt
-places k low (n_j ∷ ns) rise = (
-  ap (λ b. cond b k (place (k + 1) ns n_j.0)) (eq-eqb n_j.0 n_j.0 refl),
-  placed_same (place k (n_j ∷ ns)) (place (k + 1) ns) (k + 1) (suc n_j.0) ns rise.1
-      (λ m above. ap (λ b. cond b k (place (k + 1) ns m)) (ne_eqb m n_j.0 (λ same. omega arith)))
-      (places (k + 1) (suc n_j.0) ns rise.1),
-)
 
 -- ---- the jobs inside, under their numbers among all
 
@@ -72,7 +32,7 @@ inside_numbered a b k (j ∷ jobs) = by_test (is_inside a b j) (inside_numbered 
   by_test false same = same
 
 -- what a schedule of all jobs earns by those inside is at most a cap on them
-earned_inside : (jobs : List JobFacts) (rules : Rules) (s : List ℕ) (a b cap : ℕ) → Caps (jobs_inside jobs a b) cap
+pub earned_inside : (jobs : List JobFacts) (rules : Rules) (s : List ℕ) (a b cap : ℕ) → Caps (jobs_inside jobs a b) cap
     → sum_by (worth_to s) (filter (λ n_j. is_inside a b n_j.1) (enumerate_from 0 jobs)) ≤ cap
 earned_inside jobs rules s a b cap caps =
     let ns : List Job = filter (λ n_j. is_inside a b n_j.1) (enumerate_from 0 jobs) in

@@ -1,11 +1,12 @@
 -- Stretches of ticks, with what the jobs inside are worth at most.
-use Rattle.std.specs.Prelude.{◌≡◌, ℕ, ◌≤◌, ◌<◌, ◌+◌, List, [], ◌∷◌, Bool, false, ◌||◌, ◌&&◌, cond}
+use Rattle.std.specs.Prelude.{◌≡◌, ◌↔◌, ℕ, ◌≤◌, ◌<◌, ◌+◌, ◌-◌, List, [], ◌∷◌, Bool, false, ◌||◌, ◌&&◌, cond}
 use Rattle.std.specs.List.{filter, sum_by, enumerate_from, AllByRecursion}
 use Rattle.dover_model.specs.JobFacts.{JobFacts}
 use Rattle.dover_model.specs.Instance.{Rules, total_value}
 use Rattle.dover_model.specs.Schedules.{worth}
 use Rattle.dover_model.specs.Sound.{Each}
-use Rattle.dover_model.specs.Windows.{is_inside}
+use Rattle.dover_model.specs.Windows.{is_inside, work_inside}
+use Rattle.feasibility.specs.Feasibility.{CanMeet}
 use Rattle.overload.specs.declared.stretch.Costed.{Costed}
 use Rattle.overload.specs.declared.stretch.Stretch.{Stretch}
 
@@ -30,9 +31,10 @@ value_outside jobs xs = sum_by (λ j. cond (is_inside_some xs j) 0 j.value) jobs
 abbrev pub IsCapped : List JobFacts → Stretch → Type 0
 IsCapped jobs x = Caps (jobs_inside jobs x.from x.until) x.cap
 
--- what is known of a stretch of these jobs
+-- what is known of a stretch of these jobs: they have more work in it than it has ticks
 pub record IsStretch (jobs : List JobFacts) (x : Stretch) : Type 0 where
   pub some : x.from < x.until
+  pub overfull : x.until - x.from < work_inside jobs x.from x.until
   pub total : x.total ≡ total_value (jobs_inside jobs x.from x.until)
   pub cap : IsCapped jobs x
   pub less : x.cap ≤ x.total
@@ -43,13 +45,14 @@ AreInOrder [] = Unit {0}
 AreInOrder (x ∷ xs) = AllByRecursion (λ y. x.until ≤ y.from) xs × AreInOrder xs
 
 -- The stretches are apart, and what no schedule is worth more than is the value of the jobs outside of them, and their
--- caps.
+-- caps. There is none exactly where some schedule serves every job.
 pub record IsCosted (jobs : List JobFacts) (costed : Costed) : Type 0 where
   pub total : costed.total ≡ total_value jobs
   pub in_order : AreInOrder costed.stretches.items
   pub each : Each (IsStretch jobs) costed.stretches.items
   pub sum : costed.cap ≡ value_outside jobs costed.stretches.items + sum_by (λ x. x.cap) costed.stretches.items
   pub most : Caps jobs costed.cap
+  pub none : (costed.stretches.items ≡ []) ↔ CanMeet jobs
 
 -- the value of the jobs inside that are done, by whether the job of each number is
 abbrev pub value_inside : List JobFacts → (done : ℕ → Bool) → (from until : ℕ) → ℕ

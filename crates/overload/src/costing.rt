@@ -1,18 +1,21 @@
 //! What an overload costs at most, stretch by stretch.
-ghost use Rattle.std.specs.Prelude.{◌≡◌, ◌≤◌, ◌<◌, ◌&&◌, cond, false, get_or, length, OnOk, IfOk};
+ghost use Rattle.std.specs.Prelude.{◌≡◌, ◌≤◌, ◌<◌, ◌-◌, ◌&&◌, [], cond, false, get_or, length, OnOk, IfOk};
 ghost use Rattle.dover_model.specs.Instance.{IsInOrder, total_value};
 ghost use Rattle.dover_model.specs.JobFacts.{IsJob};
 ghost use Rattle.dover_model.specs.Limits.{last_tick, most_jobs, most_value};
 ghost use Rattle.dover_model.specs.Sound.{Each};
-ghost use Rattle.dover_model.specs.Windows.{is_inside};
+ghost use Rattle.dover_model.specs.Windows.{is_inside, work_inside};
+ghost use Rattle.feasibility.specs.Feasibility.{CanMeet};
 ghost use Rattle.overload.specs.Stretches.{IsStretch, IsCosted, jobs_inside, value_inside};
 ghost use Rattle.overload.specs.Collecting.{HasCosted, IsCut, IsNear};
 
-use crate::caps::cap;
+use crate::caps::{MOST_SETS, cap};
 use crate::overfull::{Ticks, overfull};
+use crate::released::released;
 use crate::stretch::{Costed, Stretch};
 use dover_model::jobs::LAST_TICK;
 use dover_model::{Job, Memory};
+use feasibility::{Feasible, judge_feasible, work_inside};
 use std::alloc::Global;
 
 /// The sum of the values of these jobs.
@@ -26,24 +29,6 @@ fn total_value(jobs: &[Job]) -> u64
         value += job.value();
     }
     value
-}
-
-/// How many jobs are released before a tick.
-fn released(jobs: &[Job], tick: u64) -> usize
-    requires { IsInOrder jobs.now }
-    ensures { IsCut jobs.now tick result }
-{
-    let mut low = 0;
-    let mut high = jobs.len();
-    while low < high {
-        let middle = low + (high - low) / 2;
-        if jobs[middle].release() < tick {
-            low = middle + 1;
-        } else {
-            high = middle;
-        }
-    }
-    low
 }
 
 /// Those of the jobs that are released and due in some ticks.
@@ -69,13 +54,15 @@ fn near(jobs: &[Job], from: u64, until: u64) -> &[Job]
     jobs.get(first..second).unwrap_or(&[])
 }
 
-/// What is known of the jobs inside some ticks.
-fn stretch(alloc: Global, jobs: &[Job], ticks: Ticks) -> Result<Stretch, Memory>
+/// What is known of the jobs inside some ticks, which have more work than these are. The best set of them is sought where
+/// there are few, out of the sets that may still be looked at.
+fn stretch(alloc: Global, jobs: &[Job], ticks: Ticks, sets: &mut u64) -> Result<Stretch, Memory>
     requires in_order { IsInOrder jobs.now }
     requires count { length jobs.now ≤ most_jobs }
     requires each { Each IsJob jobs.now }
     requires some { ticks.from < ticks.until }
     requires due { ticks.until ≤ last_tick }
+    requires overfull { ticks.until - ticks.from < work_inside jobs.now ticks.from ticks.until }
     ensures from { IfOk result (λ x. x.from ≡ ticks.from) }
     ensures until { IfOk result (λ x. x.until ≡ ticks.until) }
     ensures stretch { IfOk result (IsStretch jobs.now) }
@@ -83,7 +70,7 @@ fn stretch(alloc: Global, jobs: &[Job], ticks: Ticks) -> Result<Stretch, Memory>
     let Ticks { from, until } = ticks;
     let inside = inside(alloc, near(jobs, from, until), from, until)?;
     let total = total_value(&inside);
-    let cap = cap(alloc, &inside, from, until, total)?;
+    let cap = cap(alloc, &inside, total, sets)?;
     Ok(Stretch {
         from,
         until,
@@ -92,15 +79,36 @@ fn stretch(alloc: Global, jobs: &[Job], ticks: Ticks) -> Result<Stretch, Memory>
     })
 }
 
-/// The stretches so far, and where the last ends.
+/// The stretches so far, where the last ends, and how many sets of jobs may still be looked at.
 #[derive(Drop)]
 struct Costing {
     costed: Costed,
     at: u64,
+    sets: u64,
 }
 
 impl Costing {
-    /// Adds a stretch with these ticks, unless it begins too early or ends too late.
+    /// Puts a stretch behind the others.
+    fn push(&mut self, alloc: Global, jobs: &[Job], ticks: Ticks) -> Result<(), Memory>
+        requires in_order { IsInOrder jobs.now }
+        requires count { length jobs.now ≤ most_jobs }
+        requires each { Each IsJob jobs.now }
+        requires costed { HasCosted jobs.now self.old }
+        requires later { self.old.at ≤ ticks.from }
+        requires some { ticks.from < ticks.until }
+        requires due { ticks.until ≤ last_tick }
+        requires overfull { ticks.until - ticks.from < work_inside jobs.now ticks.from ticks.until }
+        ensures costed { OnOk result (HasCosted jobs.now self.new) }
+        ensures some { OnOk result (self.new.costed.stretches.items ≡ [] → ⊥) }
+    {
+        let x = stretch(alloc, jobs, ticks, &mut self.sets)?;
+        self.costed.stretches.push(x)?;
+        self.costed.cap -= x.total - x.cap;
+        self.at = ticks.until;
+        Ok(())
+    }
+
+    /// Adds a stretch with these ticks, unless it begins too early or ends too late, or the jobs inside have no more work.
     fn add(&mut self, alloc: Global, jobs: &[Job], ticks: Ticks) -> Result<(), Memory>
         requires in_order { IsInOrder jobs.now }
         requires count { length jobs.now ≤ most_jobs }
@@ -108,14 +116,32 @@ impl Costing {
         requires costed { HasCosted jobs.now self.old }
         ensures { OnOk result (HasCosted jobs.now self.new) }
     {
-        if ticks.from < self.at || ticks.until <= ticks.from || LAST_TICK < ticks.until {
+        let Ticks { from, until } = ticks;
+        if from < self.at || until <= from || LAST_TICK < until {
             return Ok(());
         }
-        let x = stretch(alloc, jobs, ticks)?;
-        self.costed.stretches.push(x)?;
-        self.costed.cap -= x.total - x.cap;
-        self.at = ticks.until;
-        Ok(())
+        if work_inside(near(jobs, from, until), from, until) <= until - from {
+            return Ok(());
+        }
+        self.push(alloc, jobs, ticks)
+    }
+
+    /// Makes sure that there is a stretch where the jobs can't all be served.
+    fn complete(&mut self, alloc: Global, jobs: &[Job]) -> Result<(), Memory>
+        requires in_order { IsInOrder jobs.now }
+        requires count { length jobs.now ≤ most_jobs }
+        requires each { Each IsJob jobs.now }
+        requires costed { HasCosted jobs.now self.old }
+        ensures costed { OnOk result (HasCosted jobs.now self.new) }
+        ensures met { OnOk result (self.new.costed.stretches.items ≡ [] → CanMeet jobs.now) }
+    {
+        if !self.costed.stretches.is_empty() {
+            return Ok(());
+        }
+        match judge_feasible(alloc, jobs)? {
+            Feasible::All { .. } => Ok(()),
+            Feasible::Window { a, b, .. } => self.push(alloc, jobs, Ticks { from: a, until: b }),
+        }
     }
 }
 
@@ -137,10 +163,12 @@ pub fn cost_of(alloc: Global, jobs: &[Job]) -> Result<Costed, Memory>
             stretches: Vec::new(alloc),
         },
         at: 0,
+        sets: MOST_SETS,
     };
     for ticks in overfull(alloc, jobs)?.iter() {
         costing.add(alloc, jobs, *ticks)?;
     }
+    costing.complete(alloc, jobs)?;
     Ok(costing.costed)
 }
 

@@ -4,4 +4,6 @@ pub mod Counts
 pub mod Finding
 pub mod Lines
 pub mod Losing
+pub mod RowLines
+pub mod Served
 pub mod Talking

@@ -1,20 +1,30 @@
 -- What the word `loss` says is what was found.
-use Rattle.std.proofs.Common.{◌≡◌, ◌≤◌, ◌<◌, ℕ, List, length, map, ap, ◌∙◌, subst, codes, Bool, refl}
+use Rattle.std.proofs.Common.{◌≡◌, ◌≤◌, ◌<◌, ◌+◌, ℕ, List, length, map, ap, ◌∙◌, sym, subst, codes, Bool, true, false, refl}
+use Rattle.std.proofs.Common.{cond, arith}
+use Rattle.std.specs.Prelude.{◌&&◌}
+use Rattle.std.specs.List.{sum_by}
 use Rattle.dover_model.specs.Bound.{bound}
 use Rattle.dover_model.specs.Instance.{Instance, IsValid, total_value}
 use Rattle.dover_model.specs.JobFacts.{JobFacts}
 use Rattle.dover_model.specs.Run.{completed_value, ran}
 use Rattle.dover_model.proofs.Honest.{honest}
-use Rattle.dover_model.proofs.Members.{map_same}
+use Rattle.dover_model.proofs.Members.{map_same, sum_le, sum_filter}
+use Rattle.dover_model.proofs.Parting.{worth_to}
+use Rattle.dover_model.proofs.Runs.{all_value}
+use Rattle.dover_model.specs.Books.{Job}
+use Rattle.dover_model.specs.Schedules.{is_served, numbered}
+use Rattle.dover_model.specs.Windows.{is_inside}
 use Rattle.dover_port.specs.declared.status.Status.TheVariants.{Done}
-use Rattle.overload.specs.Stretches.{IsCosted}
+use Rattle.overload.specs.Stretches.{IsCosted, IsCapped, value_inside, value_outside}
 use Rattle.overload.specs.declared.stretch.Costed.{Costed}
 use Rattle.overload.specs.declared.stretch.Stretch.{Stretch}
 use Rattle.overload.proofs.Inside.{value_same}
+use Rattle.overload.proofs.Stretching.{earned_inside}
 use Rattle.question_words.specs.Loss.{SaysLoss, is_completed, row_of}
 use Rattle.question_words.specs.Texts.{stretch_lines}
 use Rattle.question_words.specs.declared.answer.StretchRow.{StretchRow}
 use Rattle.question_words.proofs.Lines.{four, four_same}
+use Rattle.question_words.proofs.Served.{completed_served}
 
 -- rows of the same jobs done are the same
 rows_same : (jobs : List JobFacts) (f g : ℕ → Bool) → ((n : ℕ) → n < length jobs → f n ≡ g n) → (xs : List Stretch)
@@ -23,6 +33,27 @@ rows_same jobs f g same xs = map_same (row_of jobs f) (row_of jobs g) xs
     (λ x member. ap (with_value x) (value_same jobs f g x.from x.until same)) where
       with_value : Stretch → ℕ → StretchRow
       with_value x v = record { from = x.from; until = x.until; total = x.total; cap = x.cap; value = v }
+
+-- what a run completes inside a stretch is at most its cap
+value_below : (J : Instance) → IsValid J → (x : Stretch) → IsCapped J.jobs x
+    → value_inside J.jobs (is_completed J) x.from x.until ≤ x.cap
+value_below J valid x capped =
+    let inside : Job → Bool = λ n_j. is_inside x.from x.until n_j.1 in
+    let done : Job → ℕ = λ n_j. cond (inside n_j && is_completed J n_j.0) n_j.1.value 0 in
+    let less : sum_by done (numbered J) ≤ sum_by (λ n_j. cond (inside n_j) (worth_to (ran J) n_j) 0) (numbered J) =
+    sum_le done (λ n_j. cond (inside n_j) (worth_to (ran J) n_j) 0) (numbered J)
+    (λ n_j member. by_tests n_j (inside n_j) (is_completed J n_j.0) (completed_served J valid n_j member)) in
+    omega (
+      arith,
+      less,
+      sum_filter inside (worth_to (ran J)) (numbered J),
+      earned_inside J.jobs J.rules (ran J) x.from x.until x.cap capped,
+    ) where
+      by_tests : (n_j : Job) (b c : Bool) → (c ≡ true → is_served (ran J) n_j ≡ true)
+          → cond (b && c) n_j.1.value 0 ≤ cond b (worth_to (ran J) n_j) 0
+      by_tests n_j false c served = omega arith
+      by_tests n_j true false served = omega arith
+      by_tests n_j true true served = subst (λ d. n_j.1.value ≤ cond d n_j.1.value 0) (sym (served refl)) (omega arith)
 
 module _ (J : Instance) (valid : IsValid J) (costed : Costed) where
   -- the rows of what was found, as they are said
@@ -46,6 +77,12 @@ module _ (J : Instance) (valid : IsValid J) (costed : Costed) where
         record {
           costed = it;
           above = subst (λ v. v ≤ costed.cap) (honest J valid) (it.most J.rules (ran J));
+          each = λ x member. value_below J valid x ((it.each x member).cap);
+          all = λ none. (
+            it.sum ∙ ap (λ xs. value_outside J.jobs xs + sum_by (λ (x : Stretch). x.cap) xs) none
+                ∙ let e : total_value J.jobs + 0 ≡ total_value J.jobs = omega arith in e,
+            all_value J valid (it.none.0 none J.rules),
+          );
         },
         written ∙ ap (λ rs. four (codes "total") (codes "value") (codes "ceiling") (codes "bound") costed.total value
             costed.cap most (stretch_lines rs)) are

@@ -6,6 +6,7 @@ use Rattle.dover_model.specs.Instance.{Instance, total_value}
 use Rattle.dover_model.specs.JobFacts.{JobFacts}
 use Rattle.dover_model.specs.Lines.{with_numbers, in_lines}
 use Rattle.dover_model.specs.Run.{completed_value, printed}
+use Rattle.dover_model.specs.Sound.{Each}
 use Rattle.dover_model.specs.declared.events.Event.{Event}
 use Rattle.dover_model.specs.declared.events.Event.TheVariants.{Complete}
 use Rattle.dover_port.specs.declared.status.Status.{Status}
@@ -46,10 +47,12 @@ loss_text J costed = in_lines (
     ∷ stretch_lines (map (row_of J.jobs (is_completed J)) costed.stretches.items))
 
 -- No schedule is worth more than the ceiling, which is the value of the jobs outside of the stretches, and their caps. The
--- run completes no more.
+-- run completes no more, nor more of a stretch than its cap. Where there is no stretch it completes all.
 pub record IsCeiling (J : Instance) (it : Costed) : Type 0 where
   pub costed : IsCosted J.jobs it
   pub above : completed_value J ≤ it.cap
+  pub each : Each (λ x. value_inside J.jobs (is_completed J) x.from x.until ≤ x.cap) it.stretches.items
+  pub all : it.stretches.items ≡ [] → (it.cap ≡ total_value J.jobs) × (completed_value J ≡ total_value J.jobs)
 
 -- Done with some stretches that show a ceiling
 abbrev pub SaysLoss : Instance → Status → List ℕ → Type 0

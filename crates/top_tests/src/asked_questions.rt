@@ -96,9 +96,9 @@ const BEST: [(&str, Status, &str); 4] = [
     ),
 ];
 
-/// The same of `loss`: no stretch, one with a job that is due in it and released before, one at the price of a job, and
-/// a feed that is refused.
-const LOST: [(&str, Status, &str); 5] = [
+/// The same of `loss`: no stretch, two of few jobs, of which the second has a job that is due in it and released before,
+/// one at one price, one at prices in layers, and a feed that is refused.
+const LOST: [(&str, Status, &str); 6] = [
     (
         "k 1 1\njob 0 2 2 2\nend\n",
         Status::Done,
@@ -122,6 +122,15 @@ end
 ",
         Status::Done,
         "total 80\nvalue 50\nceiling 50\nbound 291\nstretch 0 30 80 50 50\n",
+    ),
+    (
+        "k 4 1
+job 0 10 20 10\njob 0 10 20 10\njob 0 5 20 10\njob 0 10 20 40\njob 5 10 25 20\njob 5 5 20 20
+job 5 10 25 40\njob 5 10 20 40\njob 10 5 30 10\njob 10 10 25 10\njob 10 5 30 10
+end
+",
+        Status::Done,
+        "total 220\nvalue 70\nceiling 110\nbound 630\nstretch 0 30 220 110 70\n",
     ),
     ("k 1 1\nx\nend\n", Status::Refused, "refused 2 line\n"),
 ];

@@ -1,8 +1,6 @@
 use Rattle.std.proofs.Common.{◌≤◌, ◌∙◌, length, sym, ap, subst, arith}
 use Rattle.dover_model.specs.Instance.{IsInOrder, total_value}
-use Rattle.dover_model.specs.Sound.{IsMember}
 use Rattle.dover_model.specs.Windows.{is_inside}
-use Rattle.dover_model.proofs.Members.{member_filter}
 use Rattle.overload.specs.Stretches.{Caps}
 use Rattle.overload.proofs.Near.{found_inside, filter_few, filter_in_order}
 use Rattle.overload.proofs.costing.stretch.Goals as goal
@@ -11,11 +9,6 @@ pub total_value-total-requires : goal.total_value-total-requires
 total_value-total-requires c = subst (λ js. length js ≤ 1_000_000) (sym (found_inside c.args.jobs.now c.args.ticks.from c.args.ticks.until c.requires.each c.near.result.now
     c.in_ok-inside.inside.items c.deref.result.now c.deref.ensures.value c.in_ok-inside.ensures c.near.ensures))
     (omega (arith, filter_few (is_inside c.args.ticks.from c.args.ticks.until) c.args.jobs.now, c.requires.count))
-
-pub cap-requires-clause-inside : goal.cap-requires-clause-inside
-cap-requires-clause-inside c = λ j member. (member_filter (is_inside c.args.ticks.from c.args.ticks.until)
-    c.args.jobs.now j (subst (IsMember j) (found_inside c.args.jobs.now c.args.ticks.from c.args.ticks.until c.requires.each c.near.result.now
-    c.in_ok-inside.inside.items c.deref-2.result.now c.deref-2.ensures.value c.in_ok-inside.ensures c.near.ensures) member)).1
 
 pub cap-requires-clause-in_order : goal.cap-requires-clause-in_order
 cap-requires-clause-in_order c = subst IsInOrder (sym (found_inside c.args.jobs.now c.args.ticks.from c.args.ticks.until c.requires.each c.near.result.now
@@ -30,6 +23,7 @@ cap-requires-clause-count c = subst (λ js. length js ≤ 1_000_000) (sym (found
 pub returns-clause-stretch : goal.returns-clause-stretch
 returns-clause-stretch c = record {
   some = c.requires.some;
+  overfull = c.requires.overfull;
   total = c.total_value-total.ensures.is ∙ ap total_value (found_inside c.args.jobs.now c.args.ticks.from c.args.ticks.until c.requires.each c.near.result.now
       c.in_ok-inside.inside.items c.deref.result.now c.deref.ensures.value c.in_ok-inside.ensures c.near.ensures);
   cap = subst (λ js. Caps js c.in_ok-cap.cap) (found_inside c.args.jobs.now c.args.ticks.from c.args.ticks.until c.requires.each c.near.result.now

@@ -1,32 +1,19 @@
-use Rattle.std.proofs.Common.{◌≤◌, ◌+◌, ◌∙◌, sym, ap, subst, arith}
-use Rattle.std.specs.List.{sum_by}
-use Rattle.dover_model.specs.Sound.{Each}
-use Rattle.dover_model.proofs.Members.{each_behind}
-use Rattle.overload.specs.declared.stretch.Stretch.{Stretch}
-use Rattle.overload.specs.Stretches.{AreInOrder, IsStretch, value_outside}
-use Rattle.overload.proofs.Outside.{order_behind, less_left, sum_less, ended_later}
+use Rattle.std.proofs.Common.{arith}
+use Rattle.overload.proofs.Near.{near_few, near_work}
 use Rattle.overload.proofs.costing.Costing.add.Goals as goal
 
-pub overflow_sub-self-2 : goal.overflow_sub-self-2
-overflow_sub-self-2 c = less_left c.args.jobs.now c.args.self.now.costed.stretches.items c.in_ok-x.x c.args.self.now.at
-    c.requires.each c.requires.costed.ended (omega (arith, c.in_ok-x.ensures.from, c.if-ticks-self.false)) c.args.self.now.costed.cap c.in_ok-x.ensures.stretch
-    c.requires.costed.sum
+pub work_inside-requires : goal.work_inside-requires
+work_inside-requires c = omega (
+  arith,
+  near_few c.args.jobs.now c.near.result.now c.args.ticks.from c.args.ticks.until
+      c.near.ensures,
+  c.requires.count,
+)
 
-pub returns : goal.returns
-returns c =
-    let xs = c.args.self.now.costed.stretches.items in
-    let y = c.in_ok-x.x in
-    let it = c.in_ok-x.ensures.stretch in
-    let same = c.in_ok-push.ensures.items in record {
-      total = c.requires.costed.total;
-      in_order = subst AreInOrder (sym same)
-          (order_behind xs y c.args.self.now.at c.requires.costed.in_order c.requires.costed.ended (omega (arith, c.in_ok-x.ensures.from, c.if-ticks-self.false)));
-      ended = subst (λ t. Each (λ (x : Stretch). x.until ≤ t) c.push.new.self.items) c.in_ok-x.ensures.until
-          (subst (Each (λ (x : Stretch). x.until ≤ y.until)) (sym same) (ended_later c.args.jobs.now xs y
-          c.args.self.now.at c.requires.each c.requires.costed.ended (omega (arith, c.in_ok-x.ensures.from, c.if-ticks-self.false)) it.some));
-      each = subst (Each (IsStretch c.args.jobs.now)) (sym same)
-          (each_behind (IsStretch c.args.jobs.now) xs y c.requires.costed.each it);
-      sum = sum_less c.args.jobs.now xs y c.args.self.now.at c.requires.each c.requires.costed.ended (omega (arith, c.in_ok-x.ensures.from, c.if-ticks-self.false))
-          c.args.self.now.costed.cap it c.requires.costed.sum
-          ∙ ap (λ l. value_outside c.args.jobs.now l + sum_by (λ x. x.cap) l) (sym same);
-    }
+pub push-requires-clause-overfull : goal.push-requires-clause-overfull
+push-requires-clause-overfull c = omega (
+  arith,
+  c.if-work_inside-until.false,
+  c.work_inside.ensures,
+  near_work c.args.jobs.now c.near.result.now c.args.ticks.from c.args.ticks.until c.requires.each c.near.ensures,
+)

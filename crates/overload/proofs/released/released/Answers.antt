@@ -1,7 +1,7 @@
 use Rattle.std.proofs.Common.{◌≡◌, ◌≤◌, ◌+◌, ◌-◌, ◌/◌, drop, subst, arith}
 use Rattle.dover_model.specs.Sound.{Each}
 use Rattle.overload.proofs.Near.{all_early, all_late, halved}
-use Rattle.overload.proofs.costing.released.Goals as goal
+use Rattle.overload.proofs.released.released.Goals as goal
 
 pub loop-low-preserved-then-release-tick : goal.loop-low-preserved-then-release-tick
 loop-low-preserved-then-release-tick c =

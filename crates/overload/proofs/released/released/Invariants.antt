@@ -1,6 +1,6 @@
 use Rattle.std.proofs.Common.{◌≤◌, ◌<◌, ◌-◌, take, drop, length}
 use Rattle.dover_model.specs.Sound.{Each}
-use Rattle.overload.proofs.costing.released.Given as goal
+use Rattle.overload.proofs.released.released.Given as goal
 
 abbrev pub decreases-loop-low : goal.decreases-loop-low
 decreases-loop-low l = l.high - l.low

@@ -1,0 +1,23 @@
+//! Where in a list of jobs those begin that are released at a tick or later.
+ghost use Rattle.dover_model.specs.Instance.{IsInOrder};
+ghost use Rattle.overload.specs.Collecting.{IsCut};
+
+use dover_model::Job;
+
+/// How many jobs are released before a tick.
+pub(crate) fn released(jobs: &[Job], tick: u64) -> usize
+    requires { IsInOrder jobs.now }
+    ensures { IsCut jobs.now tick result }
+{
+    let mut low = 0;
+    let mut high = jobs.len();
+    while low < high {
+        let middle = low + (high - low) / 2;
+        if jobs[middle].release() < tick {
+            low = middle + 1;
+        } else {
+            high = middle;
+        }
+    }
+    low
+}
