@@ -40,7 +40,8 @@ use Rattle.dover_engine.proofs.LifeLaws as life
 use Rattle.dover_c.specs.declared.Admitted.{Admitted}
 use Rattle.dover_c.specs.declared.Decided.{Decided}
 use Rattle.dover_c.specs.declared.slot.Slot.{Slot}
-use Rattle.dover_c.specs.Codes.{version_number, made_status, mark_code, numbers_of, IsStepOf, Stands, IsMade, IsFresh, CallsOn}
+use Rattle.dover_c.specs.Codes.{version_number, made_status, mark_code, numbers_of, IsStepOf, Stands, IsMade, IsFresh}
+use Rattle.dover_c.specs.Codes.{CallsOn}
 use Rattle.dover_c.specs.Codes.{Admits, Steps, Finishes}
 use Rattle.dover_c.specs.Program.{Act, Admit, Step, Finish, Ask, Does, DoesAll, IsProgram, told, jobs_told, all_told}
 use Rattle.dover_c.specs.Program.{is_decision, answers, given, shown}
