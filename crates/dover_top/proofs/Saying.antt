@@ -49,7 +49,7 @@ no_usage (Resume at_end) moves s = elim s.ends [
 ]
 no_usage (Unroll until) moves s = s.ends
 no_usage (Duel k share front) moves (inl s) = s.1
-no_usage (Duel k share front) moves (inr s) = s.2.1
+no_usage (Duel k share front) moves (inr s) = s.2
 
 -- so none ends with it
 pub never_usage : (r : Request) → CanEnd (Says r) Usage → ⊥
@@ -71,7 +71,7 @@ module _ (moves : List Move) where
   duel_kept : (k : Fraction) (share : Share) (front : Option ℕ) → IsShare share → Duels k share front Done moves
       → KeepsDuel k share front moves
   duel_kept k share front is (inl it) = dueled k share front moves is it.0 it.1.1
-  duel_kept k share front is (inr it) = absurd it.2.1
+  duel_kept k share front is (inr it) = absurd it.2
 
   lanes_served : (status : Status) → (status ≡ Done) ⊎ (status ≡ Refused) → laned.Serves status moves → AreServed moves
   lanes_served status (inl is) (inl it) = are_served Done moves (subst (λ s. Talks lanes_talk s moves) is it).ends

@@ -1,6 +1,6 @@
 -- The jobs of a duel are admitted one by one, where they are valid.
-use Rattle.std.proofs.Common.{◌≡◌, ℕ, suc, ◌+◌, ◌*◌, ◌≤◌, ◌<◌, List, [], ◌∷◌, ◌++◌, refl, sym, ap, ◌∙◌, subst, length}
-use Rattle.std.proofs.Common.{append_assoc, arith, Some, None}
+use Rattle.std.proofs.Common.{◌≡◌, ℕ, ◌≤◌, List, [], ◌∷◌, ◌++◌, sym, ap, ◌∙◌, subst, length}
+use Rattle.std.proofs.Common.{append_assoc, arith, None}
 use Rattle.std.specs.List.{AllByRecursion}
 use Rattle.std.proofs.lemmas.List.{append-nil}
 use Rattle.dover_model.specs.declared.events.Version.TheVariants.{One}
@@ -12,7 +12,7 @@ use Rattle.dover_model.proofs.Admitting.{admits, valid_admitted}
 use Rattle.dover_model.proofs.Valid.{all_back, valid_front}
 use Rattle.admission.specs.Kept.{Kept, StandsFor}
 use Rattle.duel.specs.Game.{AreValid}
-use Rattle.duel.specs.Jobs.{jobs_of_links, first_link, duel_jobs}
+use Rattle.duel.specs.Jobs.{jobs_of_links}
 use Rattle.duel.proofs.Plain.{order}
 use Rattle.duel.proofs.Chain.{phases_of, last_of, as_phases}
 

@@ -1,19 +1,19 @@
 -- The jobs of a duel as phases: traps, where they aren't too many.
 use Rattle.std.proofs.Common.{◌≡◌, ℕ, zero, suc, ◌+◌, ◌-◌, ◌*◌, ◌/◌, ◌≤◌, ◌<◌, ◌⊎◌, inl, inr, List, [], ◌∷◌, ◌++◌, cond}
-use Rattle.std.proofs.Common.{refl, sym, ap, ◌∙◌, subst, length, length-append, arith, Bool, true, false, eqb}
-use Rattle.std.specs.Prelude.{min, max, ◌==◌, nat_lt}
+use Rattle.std.proofs.Common.{refl, sym, ap, ◌∙◌, subst, length, length-append, arith, Bool, true, false}
+use Rattle.std.specs.Prelude.{min}
 use Rattle.std.specs.List.{sum, AllByRecursion}
-use Rattle.std.proofs.lemmas.Bool.{cases_lt, le-leb, lt-leb, leb-true, leb-false}
+use Rattle.std.proofs.lemmas.Bool.{cases_lt, leb-true, leb-false}
 use Rattle.std.proofs.lemmas.Nat.{mul-le}
 use Rattle.std.proofs.Math.Nat.{mul-div-le, lt-mul-div-succ, min-eq_left, min-eq_right, max-eq_left, max-eq_right}
 use Rattle.dover_model.specs.Fraction.{Fraction}
 use Rattle.dover_model.specs.JobFacts.{JobFacts}
 use Rattle.dover_model.specs.Bait.{tight_job}
 use Rattle.dover_model.proofs.Calculus.{cancel}
-use Rattle.duel.specs.Links.{next_link, staying, leaving, IsLast}
+use Rattle.duel.specs.Links.{next_link, staying, leaving}
 use Rattle.duel.specs.Jobs.{smalls, pieces_for, pieces, small_work, is_last, jobs_of_links, first_link}
 use Rattle.duel.proofs.Phases.{jobs_from, first_of, AreTraps}
-use Rattle.duel.proofs.Fronts.{sum_cons, length_smalls}
+use Rattle.duel.proofs.Fronts.{sum_cons}
 use Rattle.duel.proofs.Ends.{loses}
 
 -- ---- pieces
@@ -169,7 +169,7 @@ module _ (k : Fraction) (a b : ℕ) where
         by_test false further = ap (λ w. tight_job l.0 w k.q ∷ (smalls k.p l.0 gs ++ rest)) work
             ∙ ap (λ js. tight_job l.0 (sum gs + 1) k.q ∷ (smalls k.p l.0 gs ++ js)) (further
             ∙ ap (λ t. jobs_from k.p k.q t (phases_of more (next_link k a b l)) (last_of more
-                (next_link k a b l))) tick)
+            (next_link k a b l))) tick)
 
   pub first_is : (more : ℕ) (l : ℕ × ℕ) → 1 ≤ l.1 → first_of (phases_of more l) (last_of more l) ≡ l.1
   first_is zero l some = refl

@@ -146,7 +146,7 @@ module _ (k : Fraction) (a b : ℕ) (some_q : 1 ≤ k.q) (ratio : k.q ≤ k.p) (
     n,
     top (link k a b (first_work k b) n).0 (link k a b (first_work k b) n).1
         (subst (λ m. Climbs m (link k a b (first_work k b) n).0 (link k a b (first_work k b) n).1) (omega
-            (arith, count))
+        (arith, count))
         climbs),
     before,
   )

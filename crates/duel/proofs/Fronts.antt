@@ -179,7 +179,7 @@ path_known p q o t (gs ∷ rest) last u tick late early =
           (level (length (known_at tick (smalls p t gs ++ jobs_from p q (t + sum gs) rest last))))
       by_order (inr more) later = subst (λ m. m < o + suc (length
           (known_at tick (smalls p t gs ++ jobs_from p q (t + sum gs) rest last)))) (sym
-              (path_later o t gs rest u more))
+          (path_later o t gs rest u more))
           (add (path (o + 1 + length gs) (t + sum gs) rest u) (length gs)
           (length (known_at tick (jobs_from p q (t + sum gs) rest last)))
           (length (known_at tick (smalls p t gs ++ jobs_from p q (t + sum gs) rest last))) (later more)

@@ -1,6 +1,6 @@
 -- The jobs that are given, one by one.
-use Rattle.std.proofs.Common.{◌≡◌, ℕ, zero, suc, ◌+◌, ◌-◌, ◌*◌, ◌≤◌, ◌<◌, List, [], ◌∷◌, ◌++◌, cond}
-use Rattle.std.proofs.Common.{refl, sym, ap, ◌∙◌, subst, arith, Bool, true, false}
+use Rattle.std.proofs.Common.{◌≡◌, ℕ, zero, suc, ◌+◌, ◌-◌, ◌*◌, ◌≤◌, List, [], ◌∷◌, ◌++◌, cond}
+use Rattle.std.proofs.Common.{refl, sym, ap, ◌∙◌, arith, Bool, true, false}
 use Rattle.std.specs.Prelude.{min}
 use Rattle.std.proofs.lemmas.Nat.{mul-le}
 use Rattle.dover_model.specs.Fraction.{Fraction}
@@ -79,13 +79,13 @@ module _ (k : Fraction) (a b : ℕ) where
     -- a small job
     small_comes : over ≡ false → 1 ≤ size → 1 ≤ left
         → now ≡ tight_job tick (min size left) k.p ∷ to_come more (tick + min size left)
-            (left - min size left) size work
+        (left - min size left) size work
     small_comes on some left_some = comes on ∙ ap (λ gs. smalls k.p tick gs
         ++ jobs_of_links k a b more (tick + left, work))
         (piece_by_piece size left some left_some)
         ∙ ap (λ t. tight_job tick (min size left) k.p
         ∷ (smalls k.p (tick + min size left) (pieces size (left - min size left))
-            ++ jobs_of_links k a b more (t, work)))
+        ++ jobs_of_links k a b more (t, work)))
         (level (min size left) (piece size left some left_some).within) where
           level : (m : ℕ) → m ≤ left → tick + left ≡ tick + m + (left - m)
           level m within = omega (arith, within)
@@ -123,7 +123,7 @@ module _ (k : Fraction) (a b : ℕ) where
     pub link_given : (job : JobFacts) (still : Bool) (fewer left_then size_then work_then : ℕ) → over ≡ false → left ≡ 0
         → job ≡ tight_job tick work k.q → GoesOn k a b more (tick, work) → still ≡ false → fewer ≡ more - 1
         → left_then ≡ work - 1 → size_then ≡ small_work k a b (tick, work)
-            → work_then ≡ (next_link k a b (tick, work)).1
+        → work_then ≡ (next_link k a b (tick, work)).1
         → 1 ≤ work → now ≡ job ∷ cond still [] (to_come fewer tick left_then size_then work_then)
     link_given job still fewer left_then size_then work_then on none job_is goes not_over fewer_is left_is size_is
         work_is

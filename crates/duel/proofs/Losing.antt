@@ -1,8 +1,7 @@
 -- Within the limits each on-line scheduler loses on a front of the duel's jobs.
-use Rattle.std.proofs.Common.{◌≡◌, ℕ, ◌≤◌, ◌<◌, List, sym, subst, length, arith}
+use Rattle.std.proofs.Common.{◌≡◌, ℕ, ◌≤◌, sym, subst, length, arith}
 use Rattle.dover_model.specs.declared.events.Version.{Version}
 use Rattle.dover_model.specs.Fraction.{Fraction}
-use Rattle.dover_model.specs.JobFacts.{JobFacts}
 use Rattle.duel.specs.Game.{Scheduler, IsOnline, AreValid, LosesOnFront}
 use Rattle.duel.specs.Jobs.{jobs_of_links, first_link, duel_jobs}
 use Rattle.duel.proofs.Phases.{jobs_from}

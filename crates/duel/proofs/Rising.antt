@@ -42,7 +42,7 @@ module _ (p q a b x y z w s : ℕ) (some_q : 1 ≤ q) (ratio : q ≤ p) (some_b 
       let factor : (q * a) * (y * z) ≤ ((p + q) * b + x) * (y * z) =
       mul-le (q * a) (y * z) ((p + q) * b + x) (y * z) over (omega arith) in
       let shift : (b * q) * s ≤ (b * q) * (y + z) = mul-le (b * q) s (b * q) (y + z) (omega arith) (omega
-          (arith, next)) in
+      (arith, next)) in
       omega (arith, times, back, factor, shift, form)
 
   -- all in terms of a number that is above both

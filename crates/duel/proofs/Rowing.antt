@@ -40,7 +40,7 @@ module _ (k : Fraction) (a b : ℕ) (ratio : IsRatio k) (some_b : 1 ≤ b) where
       let plain = plain_whole k ratio.above_one a b (phases_of k a b more (first_link k a b))
       (last_of k a b more (first_link k a b))
       (traps_of k a b ratio.least some_b more (first_link k a b) (omega arith)
-          (first_cheap k a b ratio.least some_b) few) in
+      (first_cheap k a b ratio.least some_b) few) in
       let here = subst (λ js. ArePlain k js) (sym same) plain in
       record {
         ratio = ratio;
@@ -64,7 +64,7 @@ fitting p a b scheduler ratio some_b test online = each_loses One (k_of p) a b s
           (nat_le (total_value (duel_jobs (k_of p) a b)) most_total)
           (both (nat_le (length (duel_jobs (k_of p) a b)) most_jobs
           && nat_le (total_value (duel_jobs (k_of p) a b)) most_total) (list_all is_job (duel_jobs
-              (k_of p) a b)) test).0).0
+          (k_of p) a b)) test).0).0
 
 one_fits : fits (duel_jobs (k_of 1) 393 100) ≡ true
 unfolding jobs_of_links

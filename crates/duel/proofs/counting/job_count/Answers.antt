@@ -1,4 +1,4 @@
-use Rattle.std.proofs.Common.{◌≡◌, ◌≤◌, true, false, refl, arith}
+use Rattle.std.proofs.Common.{refl, arith}
 use Rattle.duel.specs.Jobs.{first_link, duel_jobs}
 use Rattle.duel.proofs.Admitting.{links_order, too_large, one_refused, one_admitted}
 use Rattle.duel.proofs.counting.job_count.Goals as goal
