@@ -61,7 +61,8 @@ module _ (jobs : List JobFacts) (done : ℕ → Bool) (a b : ℕ) where
   none_before m first = nothing 0 (take m jobs) (λ j member. early_out a b j (first.before j member))
 
   -- one more
-  pub one_more : (i : ℕ) (j : JobFacts) → i < length jobs → j ≡ get_or jobs i j → so_far (i + 1) ≡ so_far i + adds (i, j)
+  pub one_more : (i : ℕ) (j : JobFacts) → i < length jobs → j ≡ get_or jobs i j
+      → so_far (i + 1) ≡ so_far i + adds (i, j)
   one_more i j short is = job_more adds jobs i j short is
 
   -- and those behind it
@@ -81,7 +82,8 @@ numbers_low : (k : ℕ) (jobs : List JobFacts)
 numbers_low k [] n_j member = absurd member
 numbers_low k (j ∷ jobs) n_j (inl e) =
     subst (λ (x : Job). x.0 < k + length (j ∷ jobs)) (sym e) (let low : k < k + length (j ∷ jobs) = omega arith in low)
-numbers_low k (j ∷ jobs) n_j (inr member) = let low : n_j.0 < k + 1 + length jobs = numbers_low (k + 1) jobs n_j member in
+numbers_low k (j ∷ jobs) n_j (inr member) = let low : n_j.0 < k + 1 + length jobs = numbers_low
+    (k + 1) jobs n_j member in
     omega (arith, low)
 
 -- what is done of the jobs tells the value

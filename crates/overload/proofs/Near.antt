@@ -1,5 +1,7 @@
 -- The jobs inside a window, among those that are released in it.
-use Rattle.std.proofs.Common.{◌≡◌, ℕ, zero, suc, ◌+◌, ◌-◌, ◌/◌, ◌≤◌, ◌<◌, List, [], ◌∷◌, ◌++◌, length, take, drop, inl, inr, refl, sym, ap}
+use Rattle.std.proofs.Common.{◌≡◌, ℕ, zero, suc, ◌+◌, ◌-◌, ◌/◌, ◌≤◌, ◌<◌, List, [], ◌∷◌, ◌++◌, length, take, drop}
+use Rattle.std.proofs.Common.{inl, inr}
+use Rattle.std.proofs.Common.{refl, sym, ap}
 use Rattle.std.proofs.Common.{◌∙◌, subst, take-append-drop, get_or}
 use Rattle.std.proofs.Common.{Bool, true, false, cond, arith}
 use Rattle.std.specs.Prelude.{◌&&◌, nat_le}
@@ -24,7 +26,8 @@ filter_in_order p (j ∷ jobs) order = by_test (p j) (filter_in_order p jobs ord
   by_test false rest = rest
   by_test true rest = (
     each_all (λ i. j.release ≤ i.release) (filter p jobs)
-        (λ i member. all_member (λ (k : JobFacts). j.release ≤ k.release) jobs order.0 i (member_filter p jobs i member).0),
+        (λ i member. all_member (λ (k : JobFacts). j.release ≤ k.release) jobs order.0 i
+        (member_filter p jobs i member).0),
     rest,
   )
 
@@ -46,7 +49,8 @@ pub in_rest : {X : Type 0} (n : ℕ) (xs : List X) (x : X) → IsMember x (drop 
 in_rest n xs x member = subst (IsMember x) (take-append-drop n xs) (member_behind (take n xs) (drop n xs) x member)
 
 -- where the next job is late, all are
-pub all_late : (tick n : ℕ) (jobs : List JobFacts) (j : JobFacts) → IsInOrder jobs → n < length jobs → j ≡ get_or jobs n j
+pub all_late : (tick n : ℕ) (jobs : List JobFacts) (j : JobFacts) → IsInOrder jobs → n < length jobs
+    → j ≡ get_or jobs n j
     → tick ≤ j.release → Each (λ i. tick ≤ i.release) (drop n jobs)
 all_late tick n jobs j order short is late =
     subst (Each (λ (i : JobFacts). tick ≤ i.release)) (sym rest_is) (λ i member. by_member i member) where
@@ -78,7 +82,8 @@ all_before tick (suc n) (k ∷ jobs) j order short is early i (inl e) =
 all_before tick (suc n) (k ∷ jobs) j order short is early i (inr member) =
     all_before tick n jobs j order.1 (omega (arith, short)) is early i member
 
-pub all_early : (tick n : ℕ) (jobs : List JobFacts) (j : JobFacts) → IsInOrder jobs → n < length jobs → j ≡ get_or jobs n j
+pub all_early : (tick n : ℕ) (jobs : List JobFacts) (j : JobFacts) → IsInOrder jobs → n < length jobs
+    → j ≡ get_or jobs n j
     → j.release < tick → Each (λ i. i.release < tick) (take (n + 1) jobs)
 all_early tick n jobs j order short is early = subst (λ m. Each (λ (i : JobFacts). i.release < tick) (take m jobs))
     (let e : suc n ≡ n + 1 = omega arith in e) (all_before tick n jobs j order short is early)
@@ -110,7 +115,8 @@ module _ (jobs : List JobFacts) (a b m n : ℕ) (good : Each IsJob jobs) (first 
 
   -- what is behind the place, at the second cut or later
   behind : drop (n - m) (drop m jobs) ≡ drop (m + (n - m) - n) (drop n jobs)
-  behind = drop-drop (n - m) m jobs ∙ ap (λ k. drop k jobs) (let e : m + (n - m) ≡ n + (m + (n - m) - n) = omega arith in e)
+  behind = drop-drop (n - m) m jobs ∙ ap (λ k. drop k jobs) (let e : m + (n - m) ≡ n + (m +
+      (n - m) - n) = omega arith in e)
       ∙ sym (drop-drop (m + (n - m) - n) n jobs)
 
   none : (k : ℕ) → within (drop k (drop n jobs)) ≡ []

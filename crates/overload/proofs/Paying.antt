@@ -44,7 +44,8 @@ module _ (jobs : List JobFacts) (a b more : ℕ) (old new : List ℕ) (raised : 
   pays_more : (n_j : Job) → IsMember n_j (enumerate_from 0 jobs)
       → paid new s n_j ≤ paid old s n_j + more * cond (is_inside a b n_j.1) (work_served s n_j) 0
   pays_more n_j member =
-      let at : (i : ℕ) × (n_j.0 ≡ 0 + i) × (i < length jobs) × (n_j.1 ≡ get_or jobs i n_j.1) = stands_at 0 jobs n_j member in
+      let at : (i : ℕ) × (n_j.0 ≡ 0 + i) × (i < length jobs) ×
+      (n_j.1 ≡ get_or jobs i n_j.1) = stands_at 0 jobs n_j member in
       let same : at.0 ≡ n_j.0 = omega (arith, at.1) in
       let up : get_or new n_j.0 0 ≤ get_or old n_j.0 0 + cond (is_inside a b n_j.1) more 0 =
       raised n_j.0 n_j.1 (omega (arith, at.2, same)) (subst (λ i. n_j.1 ≡ get_or jobs i n_j.1) same at.3) in

@@ -54,8 +54,8 @@ fn near(jobs: &[Job], from: u64, until: u64) -> &[Job]
     jobs.get(first..second).unwrap_or(&[])
 }
 
-/// What is known of the jobs inside some ticks, which have more work than these are. The best set of them is sought where
-/// there are few, out of the sets that may still be looked at.
+/// What is known of the jobs inside some ticks, which have more work than these are. The best set of them is sought
+/// where there are few, out of the sets that may still be looked at.
 fn stretch(alloc: Global, jobs: &[Job], ticks: Ticks, sets: &mut u64) -> Result<Stretch, Memory>
     requires in_order { IsInOrder jobs.now }
     requires count { length jobs.now ≤ most_jobs }
@@ -108,7 +108,8 @@ impl Costing {
         Ok(())
     }
 
-    /// Adds a stretch with these ticks, unless it begins too early or ends too late, or the jobs inside have no more work.
+    /// Adds a stretch with these ticks, unless it begins too early or ends too late, or the jobs inside have no more
+    /// work.
     fn add(&mut self, alloc: Global, jobs: &[Job], ticks: Ticks) -> Result<(), Memory>
         requires in_order { IsInOrder jobs.now }
         requires count { length jobs.now ≤ most_jobs }
@@ -145,7 +146,8 @@ impl Costing {
     }
 }
 
-/// Where jobs have more work than there are ticks, what they are worth at most there, and what all jobs are worth at most.
+/// Where jobs have more work than there are ticks, what they are worth at most there, and what all jobs are worth at
+/// most.
 ///
 /// # Errors
 ///

@@ -16,7 +16,7 @@ use std::alloc::Global;
 /// How many units of price one of value has.
 const SCALE: u128 = 1_000_000_000_000_000;
 
-/// How many layers of prices there are.
+/// How many rounds of layers there are.
 const LAYERS: u32 = 6;
 
 /// A layer of prices costs no more than this, and no layer is put on what costs more.
@@ -50,7 +50,8 @@ fn rest(alloc: Global, jobs: &[Job], prices: &[u128]) -> Result<Vec<Job>, Memory
     Ok(rest)
 }
 
-/// The work of the jobs that are worth more than its price inside some ticks, each by how much a tick of it is worth more.
+/// The work of the jobs that are worth more than its price inside some ticks, each by how much a tick of it is worth
+/// more.
 fn offers(
     alloc: Global,
     jobs: &[Job],
@@ -72,8 +73,8 @@ fn offers(
     Ok(offers)
 }
 
-/// How much a tick is to cost more: by falling offers, that with which there is more work than ticks. Nothing is claimed
-/// of it.
+/// How much a tick is to cost more: by falling offers, that with which there is more work than ticks. Nothing is
+/// claimed of it.
 fn dearer(offers: &mut [(u128, u64)], ticks: u64) -> u128 {
     offers.sort_unstable();
     let mut work: u64 = 0;
@@ -132,8 +133,8 @@ impl Priced {
         raise(&mut self.prices, jobs, ticks, more);
     }
 
-    /// Puts layers where the jobs that are worth more than their price are too many, at half of what would be best if it
-    /// were the last.
+    /// Puts layers where the jobs that are worth more than their price are too many, at half of what would be best if
+    /// it were the last.
     fn round(&mut self, alloc: Global, jobs: &[Job], is_last: bool) -> Result<(), Memory>
         requires in_order { IsInOrder jobs.now }
         requires priced { HasPriced jobs.now self.old }

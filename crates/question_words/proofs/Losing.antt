@@ -1,5 +1,6 @@
 -- What the word `loss` says is what was found.
-use Rattle.std.proofs.Common.{◌≡◌, ◌≤◌, ◌<◌, ◌+◌, ℕ, List, length, map, ap, ◌∙◌, sym, subst, codes, Bool, true, false, refl}
+use Rattle.std.proofs.Common.{◌≡◌, ◌≤◌, ◌<◌, ◌+◌, ℕ, List, length, map, ap, ◌∙◌, sym, subst, codes, Bool, true, false}
+use Rattle.std.proofs.Common.{refl}
 use Rattle.std.proofs.Common.{cond, arith}
 use Rattle.std.specs.Prelude.{◌&&◌}
 use Rattle.std.specs.List.{sum_by}
@@ -86,7 +87,8 @@ module _ (J : Instance) (valid : IsValid J) (costed : Costed) where
         },
         written ∙ ap (λ rs. four (codes "total") (codes "value") (codes "ceiling") (codes "bound") costed.total value
             costed.cap most (stretch_lines rs)) are
-            ∙ four_same (codes "total") (codes "value") (codes "ceiling") (codes "bound") costed.total value costed.cap most
+            ∙ four_same (codes "total") (codes "value") (codes "ceiling")
+            (codes "bound") costed.total value costed.cap most
             (total_value J.jobs) (completed_value J) costed.cap (bound J.rules.ratio (completed_value J))
             (stretch_lines (map (row_of J.jobs (is_completed J)) costed.stretches.items)) it.total run refl
             (is ∙ ap (bound J.rules.ratio) run),

@@ -16,7 +16,8 @@ use Rattle.dover_model.specs.Run.{Step, is_end, run, ran, event_of, printed_of, 
 use Rattle.dover_model.specs.WholeRun.{step_at, IsWholeRun}
 use Rattle.dover_model.specs.Sound.{IsMember, Each, Keeps}
 use Rattle.dover_model.specs.Books.{Job}
-use Rattle.dover_model.proofs.Deeds.{Deed, Completed, Resumed, Started, Began, Preempted, Stayed, Arrived, Taken, Abandoned, Rested}
+use Rattle.dover_model.proofs.Deeds.{Deed, Completed, Resumed, Started, Began, Preempted, Stayed, Arrived, Taken}
+use Rattle.dover_model.proofs.Deeds.{Abandoned, Rested}
 use Rattle.dover_model.proofs.Ending.{run_is_whole}
 use Rattle.dover_model.proofs.Honest.{Gave, gave_after, all_ticks}
 use Rattle.dover_model.proofs.Kept.{step_deed, step_kept, opening_keeps, come_coming}
@@ -50,7 +51,8 @@ module _ (n : ℕ) (k : Fraction) (s : State) (other : Move) where
 -- the end completes none
 ends_none : (n : ℕ) (s : State) → finishes n (ending s or_else Ticks) ≡ false
 ends_none n s = by_end (list_all is_over s.tasks) where
-  by_end : (b : Bool) → finishes n (then_some b (Prints (End (value_sum (filter is_done s.tasks)))) or_else Ticks) ≡ false
+  by_end : (b : Bool) → finishes n (then_some b (Prints (End (value_sum
+      (filter is_done s.tasks)))) or_else Ticks) ≡ false
   by_end true = refl
   by_end false = refl
 
@@ -73,9 +75,11 @@ module _ (J : Instance) (valid : IsValid J) (rules : Rules) (n : ℕ) where
       let r : (r : Task) × IsMember r s.tasks × (r.number ≡ n) × (left r ≡ 0) =
       nothing_left n rules.ratio s (ending s or_else Ticks) (step rules s) (step_deed J valid s keeps rules)
       (ends_none n s) now in
-      subst (λ jobs. Each (λ (n_j : Job). n_j.0 ≡ n → n_j.1.work ≤ ticks_given past n_j.0 n_j.1) (enumerate_from 0 jobs))
+      subst (λ jobs. Each (λ (n_j : Job). n_j.0 ≡ n → n_j.1.work ≤ ticks_given past n_j.0 n_j.1)
+      (enumerate_from 0 jobs))
       keeps.jobs
-      (each_numbered (λ (n_j : Job). n_j.0 ≡ n → n_j.1.work ≤ ticks_given past n_j.0 n_j.1) 0 s.tasks keeps.sound.numbered
+      (each_numbered (λ (n_j : Job). n_j.0 ≡ n → n_j.1.work ≤ ticks_given past n_j.0 n_j.1) 0 s.tasks
+      keeps.sound.numbered
       (λ t member same.
       let is : r.0 ≡ t = one_number 0 s.tasks keeps.sound.numbered r.0 t r.1 member (r.2 ∙ sym same) in
       let none : left t ≡ 0 = subst (λ (x : Task). left x ≡ 0) is r.3 in
@@ -94,7 +98,8 @@ module _ (J : Instance) (valid : IsValid J) (rules : Rules) (n : ℕ) where
             → list_any (completes n) (printed_of xs) ≡ true → IsGiven (past2 ++ all_ticks xs)
 
         here : list_any (completes n) (cons_option (event_of (step rules s)) (printed_of xs)) ≡ true
-        here = subst (λ (y : Step). list_any (completes n) (cons_option (event_of y.move) (printed_of xs)) ≡ true) whole.0 some
+        here = subst (λ (y : Step). list_any (completes n) (cons_option (event_of y.move)
+            (printed_of xs)) ≡ true) whole.0 some
 
         later : (m : Move) → finishes n m ≡ false
             → list_any (completes n) (cons_option (event_of m) (printed_of xs)) ≡ true

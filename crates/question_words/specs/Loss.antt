@@ -36,8 +36,8 @@ row_of jobs done x = record {
   value = value_inside jobs done x.from x.until;
 }
 
--- what all jobs are worth, what the run completes, what no schedule is worth more than, and the bound; and each stretch,
--- with what the run completes of the jobs inside
+-- what all jobs are worth, what the run completes, what no schedule is worth more than, and the bound; and each
+-- stretch, with what the run completes of the jobs inside
 abbrev pub loss_text : Instance → Costed → List ℕ
 loss_text J costed = in_lines (
     with_numbers (codes "total") (total_value J.jobs ∷ [])
@@ -46,8 +46,8 @@ loss_text J costed = in_lines (
     ∷ with_numbers (codes "bound") (bound J.rules.ratio (completed_value J) ∷ [])
     ∷ stretch_lines (map (row_of J.jobs (is_completed J)) costed.stretches.items))
 
--- No schedule is worth more than the ceiling, which is the value of the jobs outside of the stretches, and their caps. The
--- run completes no more, nor more of a stretch than its cap. Where there is no stretch it completes all.
+-- No schedule is worth more than the ceiling, which is the value of the jobs outside of the stretches, and their caps.
+-- The run completes no more, nor more of a stretch than its cap. Where there is no stretch it completes all.
 pub record IsCeiling (J : Instance) (it : Costed) : Type 0 where
   pub costed : IsCosted J.jobs it
   pub above : completed_value J ≤ it.cap

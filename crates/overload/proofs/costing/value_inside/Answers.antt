@@ -5,7 +5,8 @@ use Rattle.overload.proofs.costing.value_inside.Goals as goal
 pub loop-place-init : goal.loop-place-init
 loop-place-init c = record {
   few = c.released-place.ensures.few;
-  value = sym (none_before c.args.jobs.now (λ n. get_or c.args.done.now n false) c.args.from c.args.until c.released-place.result
+  value = sym (none_before c.args.jobs.now (λ n. get_or c.args.done.now n false) c.args.from c.args.until
+      c.released-place.result
       c.released-place.ensures);
   most = omega arith;
 }
@@ -14,7 +15,8 @@ pub loop-place-preserved : goal.loop-place-preserved
 loop-place-preserved c = record {
   few = omega (arith, c.loop-place-test.true, c.released-second.ensures.few);
   value = ap (λ v. v + c.value_if-value.result) c.loop-place.invariant.value
-      ∙ ap (λ v. so_far c.args.jobs.now (λ n. get_or c.args.done.now n false) c.args.from c.args.until c.loop-place.place + v)
+      ∙ ap (λ v. so_far c.args.jobs.now (λ n. get_or c.args.done.now n false) c.args.from c.args.until
+      c.loop-place.place + v)
       (rw c.is_done.ensures at c.value_if-value.ensures.is)
       ∙ sym (one_more c.args.jobs.now (λ n. get_or c.args.done.now n false) c.args.from c.args.until c.loop-place.place
       c.index-jobs-place.result (omega (arith, c.loop-place-test.true, c.released-second.ensures.few))
@@ -23,6 +25,7 @@ loop-place-preserved c = record {
 }
 
 pub returns : goal.returns
-returns c = c.loop-place.invariant.value ∙ all_added c.args.jobs.now (λ n. get_or c.args.done.now n false) c.args.from c.args.until
+returns c = c.loop-place.invariant.value ∙ all_added c.args.jobs.now
+    (λ n. get_or c.args.done.now n false) c.args.from c.args.until
     c.released-second.result c.loop-place.place c.requires.each c.released-second.ensures
     (omega (arith, c.loop-place-test.false))

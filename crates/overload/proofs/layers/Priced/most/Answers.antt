@@ -17,7 +17,8 @@ loop-place-preserved c =
         c.loop-place.invariant.sum,
         c.beyond-most.ensures.is,
         ap (λ p. 1_000_000_000_000_000 * c.index-jobs-place.result.value - p * c.index-jobs-place.result.work) price,
-        job_more (beyond_by 1_000_000_000_000_000 prices) c.args.jobs.now c.loop-place.place c.index-jobs-place.result c.loop-place-test.true
+        job_more (beyond_by 1_000_000_000_000_000 prices) c.args.jobs.now c.loop-place.place c.index-jobs-place.result
+            c.loop-place-test.true
             c.index-jobs-place.is,
       );
       small = omega (arith, c.loop-place.invariant.small, c.beyond-most.ensures.small);
