@@ -16,3 +16,4 @@ pub use deeds::Deed;
 pub use parts::Parts;
 pub use pool::Pool;
 pub use ready::Ready;
+pub use short::ShortTask;

@@ -16,7 +16,7 @@ const HIGH: u64 = 1 << 32;
 
 /// A job at a moment, in 32 bytes.
 #[derive(Drop)]
-pub(crate) struct ShortTask {
+pub struct ShortTask {
     had: u64,
     number: u32,
     value: u32,
@@ -90,7 +90,7 @@ impl ShortTask {
 
     /// The same job.
     #[inline(always)]
-    pub(crate) fn of(t: &Task) -> ShortTask
+    pub fn of(t: &Task) -> ShortTask
         ensures { result ≡ t.now }
     {
         ShortTask {
@@ -109,7 +109,7 @@ impl ShortTask {
 
     /// Its number.
     #[inline(always)]
-    pub(crate) fn number(&self) -> u32
+    pub fn number(&self) -> u32
         ensures { result ≡ self.now.number }
     {
         self.number
@@ -142,7 +142,7 @@ impl ShortTask {
 
     /// The job.
     #[inline(always)]
-    pub(crate) fn task(&self) -> Task
+    pub fn task(&self) -> Task
         ensures { result ≡ self.now }
     {
         let job = Job::new(

@@ -142,6 +142,20 @@ impl ReadyServer {
         self.ready.clock()
     }
 
+    /// The version under which the jobs run.
+    pub fn version(&self) -> Version
+        ensures { result ≡ self.now.ready.rules.version }
+    {
+        self.ready.version()
+    }
+
+    /// The ratio.
+    pub fn ratio(&self) -> Ratio
+        ensures { result ≡ self.now.ready.rules.ratio }
+    {
+        self.ready.ratio()
+    }
+
     /// Whether no job is ready.
     pub fn is_idle(&self) -> bool
         ensures { IsTrue result ↔ (length self.now.ready.ready ≡ 0) }

@@ -1,7 +1,8 @@
 -- The comparisons of a snapshot that is read, by its jobs.
-use Rattle.std.proofs.Common.{ℕ, ◌*◌, ◌≤◌, length, arith, Option, Some, None}
-use Rattle.dover_model.specs.Spending.{waits_so_far, CostsAtMost}
-use Rattle.dover_model.proofs.Spending.{among_most, all_few}
+use Rattle.std.proofs.Common.{ℕ, ◌≤◌, arith, Option, Some, None}
+use Rattle.dover_model.specs.Spending.{CostsAtMost}
+use Rattle.dover_model.proofs.Spending.{few_more}
+use Rattle.ready_jobs.proofs.Spending.{paid_jobs}
 use Rattle.snapshot.specs.Spending.{jobs_kept, HasSpentOn}
 use Rattle.snapshot.specs.declared.resuming.Resuming.{Resuming}
 
@@ -9,8 +10,5 @@ use Rattle.snapshot.specs.declared.resuming.Resuming.{Resuming}
 pub few_kept : (o : Option Resuming) (start now n : ℕ) → HasSpentOn o start now → jobs_kept o ≤ n
     → CostsAtMost n start now
 few_kept None start now n none few = λ d enough. omega (arith, none)
-few_kept (Some r) start now n spent few = λ d enough.
-    let most : waits_so_far r.server.state ≤ 4 * length r.server.state.tasks =
-    among_most (length r.server.state.tasks) r.server.state in
-    all_few n d (waits_so_far r.server.state) start now (omega (arith, most, few))
-    (spent d (omega (arith, few, enough)))
+few_kept (Some r) start now n spent few =
+    few_more r.server.server.ready.jobs n start now few (paid_jobs r.server.server.ready start now spent)

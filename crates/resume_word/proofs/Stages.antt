@@ -9,7 +9,7 @@ use Rattle.dover_model.specs.Lines.{in_lines, lines_of, whole_lines}
 use Rattle.dover_model.specs.Feed.{account, is_open}
 use Rattle.dover_model.specs.WholeRun.{Begins}
 use Rattle.dover_model.proofs.Tests.{never}
-use Rattle.dover_server.specs.Service.{Service}
+use Rattle.snapshot.specs.declared.server.RosterServer.{RosterServer}
 use Rattle.dover_port.specs.Moves.{Move}
 use Rattle.dover_port.specs.declared.status.Status.{Status}
 use Rattle.dover_port.specs.declared.status.Status.TheVariants as status
@@ -17,7 +17,7 @@ use Rattle.dialogue.specs.Talk.{IsOver}
 use Rattle.dialogue.specs.Turns.{joined, Standing, Takes, TakesBy, GivesBy, AnswersBy}
 use Rattle.dialogue.specs.declared.talker.Stop.{Stop}
 use Rattle.dialogue.specs.declared.talker.Stop.TheVariants.{NoMemory, Unwritten}
-use Rattle.dover_server.specs.Serving.{Serves, HasRoom, HasPaid}
+use Rattle.snapshot.specs.Serving.{Serves, HasRoom, HasPaid}
 use Rattle.snapshot.specs.Snapshot.{Head, snapshot}
 use Rattle.snapshot.specs.Reading.{Reading, Begun, Going, Taken, Refused, reading_of}
 use Rattle.snapshot.specs.Kept.{IsReady, IsWhole}
@@ -202,7 +202,7 @@ some_used o new x piece was zero it =
 some_used o new x piece was (suc n) it = omega arith
 
 -- nothing is left to give
-giving_none : (c : Call) (f : Feed Service) (now : ℕ) (x : List ℕ) → serve.IsReady Serves HasRoom HasPaid c f now x
+giving_none : (c : Call) (f : Feed RosterServer) (now : ℕ) (x : List ℕ) → serve.IsReady Serves HasRoom HasPaid c f now x
     → serve.IsGiving Serves HasRoom HasPaid c f now x []
 giving_none c f now x it = record {
   left = [];
@@ -220,7 +220,7 @@ module _ (a : Asked) (y : List ℕ) (it : IsOpened y) where
   opened_due = due_at a y (Taken it.head it.tasks) it.reads ∙ ap (due_behind (feed_of it.head it.tasks)) it.behind
       ∙ (steady opened_call a.at_end).nothing
 
-  pub opened_giving : (f : Feed Service) (now : ℕ) → serve.IsReady Serves HasRoom HasPaid opened_call f now []
+  pub opened_giving : (f : Feed RosterServer) (now : ℕ) → serve.IsReady Serves HasRoom HasPaid opened_call f now []
       → IsPast a.start y (λ c H. serve.IsGiving Serves HasRoom HasPaid c f now H [])
   opened_giving f now ready = record {
     head = it.head;
@@ -233,7 +233,7 @@ module _ (a : Asked) (y : List ℕ) (it : IsOpened y) where
 
   -- it was read
   pub whole_took : (o : Opening) (x : List ℕ) → OpeningStands o x → (E : Type 0) → E → (piece : List ℕ) (n : ℕ) → 0 < n
-      → n ≤ length piece → y ≡ x ++ take n piece → (f : Feed Service) (now : ℕ)
+      → n ≤ length piece → y ≡ x ++ take n piece → (f : Feed RosterServer) (now : ℕ)
       → serve.IsReady Serves HasRoom HasPaid opened_call f now []
       → Takes (resume_talk a)
       (λ z parts. E × IsPast a.start z (λ c H. serve.IsGiving Serves HasRoom HasPaid c f now H parts)) x piece n
@@ -270,7 +270,7 @@ module _ (a : Asked) (x : List ℕ) (T : Call → List ℕ → Type 0) (at : IsP
   past_spent now it = past_costs x at.head at.tasks at.reads a.start now it
 
   -- a piece more
-  module _ (piece : List ℕ) (f : Feed Service) (now : ℕ) (E : Type 0) (e : E) where
+  module _ (piece : List ℕ) (f : Feed RosterServer) (now : ℕ) (E : Type 0) (e : E) where
     behind_more : (more : List ℕ) → behind_snapshot at.head at.tasks (x ++ more) ≡ past_bytes ++ more
     behind_more more = behind_on x at.head at.tasks at.reads more
 
@@ -312,7 +312,7 @@ module _ (a : Asked) (x : List ℕ) (T : Call → List ℕ → Type 0) (at : IsP
     )
 
   -- a part
-  pub past_gives : (E : Type 0) → E → (f : Feed Service) (now : ℕ) (rest : List (List ℕ)) (part : List ℕ) (given : Bool)
+  pub past_gives : (E : Type 0) → E → (f : Feed RosterServer) (now : ℕ) (rest : List (List ℕ)) (part : List ℕ) (given : Bool)
       → GivesBy (λ H parts. serve.IsGiving Serves HasRoom HasPaid past_call f now H parts)
       (λ H. serve.IsReady Serves HasRoom HasPaid past_call f now H) past_bytes rest part given
       → GivesBy (λ y parts. E × IsPast a.start y (λ c H. serve.IsGiving Serves HasRoom HasPaid c f now H parts))

@@ -3,7 +3,7 @@ use Rattle.std.specs.Prelude.{◌≡◌, true, ℕ, List, []}
 use Rattle.dover_model.specs.declared.events.Task.{Task}
 use Rattle.dover_model.specs.Lines.{lines_of}
 use Rattle.dover_model.specs.Feed.{account, is_open}
-use Rattle.dover_server.specs.Serving.{Serves, HasRoom, HasPaid}
+use Rattle.snapshot.specs.Serving.{Serves, HasRoom, HasPaid}
 use Rattle.snapshot.specs.Snapshot.{Head}
 use Rattle.snapshot.specs.Reading.{Taken, Refused, reading_of}
 use Rattle.snapshot.specs.Spending.{HasSpentOn}

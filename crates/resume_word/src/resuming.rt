@@ -10,11 +10,10 @@ use crate::opening::{Opening, open_piece};
 use dialogue::{Stop, Talker};
 use dover_model::Memory;
 use dover_port::{Output, Port, Status};
-use dover_server::Server;
 use line_output::put_line;
 use line_text::{BackLine, LineBuf};
 use serve_word::{AtEnd, Pausing, Serving};
-use snapshot::{Reader, SnapFault};
+use snapshot::{Reader, RosterServer, SnapFault};
 use std::alloc::Global;
 use std::mem::replace;
 use std::sync::ledger::Ledger;
@@ -28,7 +27,7 @@ pub(crate) enum Stage<L: Ledger> {
     /// This line of it is refused.
     Refused(u64),
     /// It was whole, and its feed goes on.
-    Serving(Serving<Server, L>),
+    Serving(Serving<RosterServer, L>),
 }
 
 /// A snapshot that is read, and then its feed, with what is done where the input ends.
@@ -73,18 +72,19 @@ impl<L: Ledger> Talker for Resuming<L> {
     ghost costs = { λ a now x. IsFrugalFor a.start now x };
 
     fn laws() {
-        Serving::<Server, L>::laws();
+        Serving::<RosterServer, L>::laws();
     }
 
     fn take(&mut self, meter: &mut Steps<L>, piece: &[u8]) -> Result<usize, Memory> {
-        Serving::<Server, L>::laws();
+        Serving::<RosterServer, L>::laws();
         match &mut self.stage {
             Stage::Opening(opening) => match open_piece(opening, piece, meter) {
                 Ok(None) => Ok(piece.len()),
                 Ok(Some(used)) => {
                     let reader = replace(&mut opening.reader, Reader::new(self.alloc));
-                    let (server, intake) = reader.take();
-                    self.stage = Stage::Serving(Serving::resumed(self.alloc, server, intake));
+                    let (server, intake, mark) = reader.take();
+                    self.stage =
+                        Stage::Serving(Serving::resumed(self.alloc, server, intake, mark));
                     Ok(used)
                 }
                 Err(SnapFault::BadSnapshot { line }) => {

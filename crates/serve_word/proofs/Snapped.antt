@@ -3,13 +3,11 @@ use Rattle.std.proofs.Common.{◌≡◌, ℕ, [], append-nil, sym, ap, ◌∙◌
 use Rattle.std.proofs.Common.{length, take, drop, get_or, Option, arith, inl, inr, Err}
 use Rattle.std.proofs.lemmas.List.{append-nil, take_more, take-append-drop}
 use Rattle.dover_model.specs.Session.{instance_of, Session}
-use Rattle.dover_model.specs.State.{State}
 use Rattle.dover_model.specs.Lines.{lines_of, in_lines}
 use Rattle.dover_model.specs.Feed.{account}
-use Rattle.dover_model.proofs.Barriers.{settled_at_barrier}
-use Rattle.dover_server.specs.Service.{Service, Stands}
-use Rattle.dover_model.specs.Spending.{HasSpent}
-use Rattle.dover_server.specs.Serving.{Serves, HasRoom, HasPaid as HasSpentBy}
+use Rattle.snapshot.specs.Serving.{Serves, HasRoom, HasPaid as HasSpentBy}
+use Rattle.snapshot.specs.declared.server.RosterServer.{RosterServer}
+use Rattle.snapshot.proofs.Rostered.{roster_rests}
 use Rattle.event_feed.specs.Kept as feed
 use Rattle.lane_server.specs.Lane.{IsQuiet, Stands as LaneStands}
 use Rattle.lane_server.specs.Feeding.{FeedRests}
@@ -20,9 +18,9 @@ use Rattle.lane_server.specs.declared.lane.Work.TheVariants.{Nothing}
 use Rattle.lane_server.proofs.Feeding.{quiet_on, AtMark, quiet_serves}
 use Rattle.snapshot.specs.Snapshot.{MayPause}
 use Rattle.snapshot.specs.Feeds.{ResumesFeed}
-use Rattle.snapshot.proofs.Feeds.{opened, holds}
+use Rattle.snapshot.proofs.Feeds.{opened}
 use Rattle.serve_word.specs.Keeping.{Call, IsReady}
-use Rattle.dover_model.specs.Paths.{HasPrinted}
+use Rattle.std.proofs.lemmas.List.{append-nil, take_more, take-append-drop}
 use Rattle.dover_model.specs.Settled.{settled}
 use Rattle.dover_model.proofs.Beginnings.{in_lines-append}
 use Rattle.dover_port.specs.Moves.{Move, Passes, CutsShort}
@@ -35,30 +33,28 @@ use Rattle.snapshot.specs.Pausing.{IsTakenTo}
 
 -- ---- it goes on
 
--- it is ready for a call that goes on with it, from the server's clock, which is the mark
-pub ready_on : (c : Call) (now : ℕ) (may : MayPause c.feed) (v : Service) (stands : Stands v) (i : feed.Kept)
-    (it : ResumesFeed v i c.feed) (l : Lane Service)
-    → l ≡ record { intake = i; server = Some v; mark = v.state.clock; is_open = true; work = Nothing }
-    → (f : Feed Service) → f.lane ≡ l
+-- it is ready for a call that goes on with it, from its mark
+pub ready_on : (c : Call) (now : ℕ) (may : MayPause c.feed) (v : RosterServer) (i : feed.Kept) (mark : ℕ)
+    (it : ResumesFeed v i mark c.feed) (l : Lane RosterServer)
+    → l ≡ record { intake = i; server = Some v; mark = mark; is_open = true; work = Nothing }
+    → (f : Feed RosterServer) → f.lane ≡ l
     → (IsQuiet Serves HasRoom l (lines_of c.feed) → FeedRests Serves HasRoom f c.feed)
-    → HasSpent v.state c.start now → IsReady Serves HasRoom HasSpentBy c f now []
-ready_on c now may v stands i it l is f there rests spent = record {
+    → HasSpentBy v c.start now → IsReady Serves HasRoom HasSpentBy c f now []
+ready_on c now may v i mark it l is f there rests spent = record {
   rests = subst (FeedRests Serves HasRoom f) (sym (append-nil c.feed))
       (rests (subst (λ l. IsQuiet Serves HasRoom l (lines_of c.feed)) (sym is)
-      (quiet_on Serves HasRoom (lines_of c.feed) (opened c.feed may) i v it.session v.state.clock it.stands it.going
-      it.named
-      (ap (λ (s : State). s.clock) it.state
-      ∙ (settled_at_barrier (instance_of it.session) (holds c.feed may it.session it.named).reads.valid
-      (account c.feed).mark).clock)
-      (record { stands = stands; jobs = it.list; last = it.ready.1; come = it.printed }))));
-  paid = subst (λ (l : Lane Service). HasPaid HasSpentBy l.server c.start now) (sym (there ∙ is)) spent;
+      (quiet_on Serves HasRoom (lines_of c.feed) (opened c.feed may) i v it.session mark it.stands it.going
+      it.named it.marked
+      (subst (λ m. Serves v (instance_of it.session) (Mark m) (settled (instance_of it.session) m)) it.marked
+      (roster_rests v (instance_of it.session) (Mark mark) it.rests)))));
+  paid = subst (λ (l : Lane RosterServer). HasPaid HasSpentBy l.server c.start now) (sym (there ∙ is)) spent;
 }
 
 -- ---- it is paused
 
 -- the server has taken the feed to its mark, and its lines are those before the fault that says that it is short
-pub taken_to : (feed : Feed Service) (x : List ℕ) → FeedRests Serves HasRoom feed x → MayPause x → (lane : Lane Service)
-    → lane ≡ feed.lane → (v : Service) → lane.server ≡ Some v → (fault : FeedFault)
+pub taken_to : (feed : Feed RosterServer) (x : List ℕ) → FeedRests Serves HasRoom feed x → MayPause x
+    → (lane : Lane RosterServer) → lane ≡ feed.lane → (v : RosterServer) → lane.server ≡ Some v → (fault : FeedFault)
     → ((ls rest : List (List ℕ)) → LaneStands Serves HasRoom lane ls rest → EndAnswers {X = Unit {0}} ls (Err fault))
     → (mark : ℕ) → mark ≡ lane.mark → IsTakenTo v (fault.line - 1) mark x
 taken_to feed x rests may lane is v there fault answers mark marked = record {
@@ -67,10 +63,8 @@ taken_to feed x rests may lane is v there fault answers mark marked = record {
   mark_is = marked ∙ quiet.stands.marked;
   session = at.0;
   named = at.1;
-  list = at.2.jobs;
-  last = at.2.last ∙ ap Mark (sym (marked ∙ quiet.stands.marked));
-  printed = subst (λ m. HasPrinted (instance_of at.0) m v.state (settled (instance_of at.0) m))
-      (sym (marked ∙ quiet.stands.marked)) at.2.come;
+  served = subst (λ m. Serves v (instance_of at.0) (Mark m) (settled (instance_of at.0) m))
+      (sym (marked ∙ quiet.stands.marked)) at.2;
 } where
   quiet : IsQuiet Serves HasRoom lane (lines_of x)
   quiet = subst (λ l. IsQuiet Serves HasRoom l (lines_of x)) (sym is) rests.lane

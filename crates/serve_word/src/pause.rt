@@ -2,7 +2,7 @@
 ghost use Rattle.std.specs.Prelude.{◌≡◌, ◌↔◌, ℕ, List, IsTrue};
 ghost use Rattle.dover_model.specs.Feed.{account};
 ghost use Rattle.dover_model.specs.Lines.{in_lines};
-ghost use Rattle.dover_server.specs.Serving as kept;
+ghost use Rattle.snapshot.specs.Serving as kept;
 ghost use Rattle.dover_model.specs.Spending.{CostsAtMost};
 ghost use Rattle.event_feed.specs.Answers.{admitted_in};
 ghost use Rattle.dover_port.specs.Causes.{HasCause, StopsAtFailure};
@@ -12,13 +12,9 @@ ghost use Rattle.lane_server.specs.Spending.{HasPaid};
 ghost use Rattle.snapshot.specs.Snapshot.{MayPause, snapshot};
 
 use dover_port::{Failed, Output, Port};
-use dover_server::Server;
-use lane_server::Feed;
-use line_output::put_line;
-use line_text::LineBuf;
-use snapshot::Paused;
-use std::sync::ledger::Ledger;
-use step_count::Steps;
+use lane_server::{Feed, Lane};
+use line_text::BackLine;
+use snapshot::{Paused, RosterServer};
 
 /// Puts the lines of a snapshot.
 pub(crate) fn put_lines<P: Port>(
@@ -31,10 +27,10 @@ pub(crate) fn put_lines<P: Port>(
         (P.read_faults port.new) result }
     ensures stops { StopsAtFailure (P.calls port.old) (P.calls port.new) result }
 {
+    let mut line = BackLine::new();
     for number in 0..paused.count() {
-        let mut line = LineBuf::new();
         paused.line(number, &mut line);
-        match put_line(port, out, line) {
+        match out.put(port, line.bytes()) {
             Ok(()) => {}
             Err(failed) => return Err(failed),
         }
@@ -43,21 +39,22 @@ pub(crate) fn put_lines<P: Port>(
 }
 
 /// Whether a feed is paused where its input ends: its ratio was declared, it goes on, and no line has begun.
-pub(crate) fn is_paused(feed: &Feed<Server>) -> bool
+pub(crate) fn is_paused(feed: &Feed<RosterServer>) -> bool
     ensures { (x : List ℕ) → FeedRests kept.Serves kept.HasRoom feed.now x → IsTrue result ↔ MayPause x }
 {
     feed.lane().goes_on() && feed.lane().has_server() && feed.rest() == 0
 }
 
 /// A feed that may pause, as the lines of its snapshot.
-pub(crate) fn pause<L: Ledger>(feed: Feed<Server>, steps: &mut Steps<L>) -> Paused
+pub(crate) fn pause(feed: Feed<RosterServer>) -> Paused
     requires { (x : List ℕ) × FeedRests kept.Serves kept.HasRoom feed x × MayPause x }
     ensures text { (x : List ℕ) → FeedRests kept.Serves kept.HasRoom feed x → MayPause x →
         in_lines result ≡ snapshot x }
-    ensures paid { (x : List ℕ) (start : ℕ) → FeedRests kept.Serves kept.HasRoom feed x → MayPause x →
-        HasPaid kept.HasPaid feed.lane.server start steps.old →
-        CostsAtMost (admitted_in (account x)) start steps.new }
+    ensures paid { (x : List ℕ) (start now : ℕ) → FeedRests kept.Serves kept.HasRoom feed x → MayPause x →
+        HasPaid kept.HasPaid feed.lane.server start now →
+        CostsAtMost (admitted_in (account x)) start now }
 {
+    Lane::<RosterServer>::laws();
     let lane = feed.into_lane();
     let Err(fault) = lane.end() else {
         unreachable!();
@@ -66,5 +63,5 @@ pub(crate) fn pause<L: Ledger>(feed: Feed<Server>, steps: &mut Steps<L>) -> Paus
     let Some(server) = lane.into_server() else {
         unreachable!();
     };
-    Paused::new(server, fault.line - 1, mark, steps)
+    Paused::new(server, fault.line - 1, mark)
 }

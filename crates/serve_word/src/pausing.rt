@@ -1,6 +1,6 @@
 //! What the reading loop calls: a feed that is served, and may be paused.
 ghost use Rattle.std.specs.Prelude.{◌≡◌};
-ghost use Rattle.dover_server.specs.Serving.{Serves, HasRoom, HasPaid};
+ghost use Rattle.snapshot.specs.Serving.{Serves, HasRoom, HasPaid};
 ghost use Rattle.serve_word.specs.Keeping.{Call, serve_talk, IsGiving, IsReady, Costs};
 ghost use Rattle.serve_word.specs.declared.at_end.AtEnd.TheVariants.{Pause};
 
@@ -9,20 +9,20 @@ use crate::serving::Serving;
 use dialogue::{Stop, Talker};
 use dover_model::Memory;
 use dover_port::{Output, Port, Status};
-use dover_server::Server;
 use line_text::BackLine;
+use snapshot::RosterServer;
 use std::sync::ledger::Ledger;
 use step_count::Steps;
 
 /// A feed that is served, and is paused where its input ends, if its ratio was declared and no line has begun.
 #[derive(Drop)]
 pub struct Pausing<L: Ledger> {
-    pub(crate) serving: Serving<Server, L>,
+    pub(crate) serving: Serving<RosterServer, L>,
 }
 
 impl<L: Ledger> Pausing<L> {
     /// The same feed, to be paused where its input ends.
-    pub fn new(serving: Serving<Server, L>) -> Pausing<L>
+    pub fn new(serving: Serving<RosterServer, L>) -> Pausing<L>
         ensures { result.serving ≡ serving }
     {
         Pausing { serving }
@@ -43,7 +43,7 @@ impl<L: Ledger> Talker for Pausing<L> {
     ghost costs = { λ call steps. Costs call steps };
 
     fn laws() {
-        Serving::<Server, L>::laws();
+        Serving::<RosterServer, L>::laws();
     }
 
     fn take(&mut self, meter: &mut Steps<L>, piece: &[u8]) -> Result<usize, Memory> {
@@ -68,7 +68,7 @@ impl<L: Ledger> Talker for Pausing<L> {
         if !is_paused(&self.serving.feed) {
             return self.serving.answer(meter, port, out, ended);
         }
-        match put_lines(port, out, &pause(self.serving.feed, meter)) {
+        match put_lines(port, out, &pause(self.serving.feed)) {
             Ok(()) => Ok(Status::Done),
             Err(_) => Err(Stop::Unwritten),
         }

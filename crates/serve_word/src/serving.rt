@@ -1,7 +1,6 @@
 //! What the reading loop calls: a feed that is served.
 ghost use Rattle.std.specs.Prelude.{ℕ, []};
-ghost use Rattle.dover_model.specs.Spending.{HasSpent};
-ghost use Rattle.dover_server.specs.Serving.{Serves, HasRoom, HasPaid};
+ghost use Rattle.snapshot.specs.Serving.{Serves, HasRoom, HasPaid};
 ghost use Rattle.snapshot.specs.Snapshot.{MayPause};
 ghost use Rattle.snapshot.specs.Feeds.{ResumesFeed};
 ghost use Rattle.serve_word.specs.Keeping.{Call, whole_call, serve_talk, IsGiving, IsReady, Costs};
@@ -11,11 +10,11 @@ use dialogue::{Stop, Talker};
 use ready_server::Dispatcher;
 use dover_model::Memory;
 use dover_port::{Output, Port, Status};
-use dover_server::Server;
 use event_feed::Intake;
 use lane_server::{Feed, Lane};
 use line_output::{put_fault, write_next};
 use line_text::BackLine;
+use snapshot::RosterServer;
 use std::alloc::Global;
 use std::marker::PhantomData;
 use std::sync::ledger::Ledger;
@@ -28,14 +27,13 @@ pub struct Serving<D, L: Ledger> {
     pub(crate) counts: PhantomData<L>,
 }
 
-impl<L: Ledger> Serving<Server, L> {
-    /// A feed that goes on from its snapshot, which gave the server and the intake. Nothing is given that was due
-    /// before the pause.
-    pub fn resumed(alloc: Global, server: Server, intake: Intake) -> Serving<Server, L>
-        ensures { (c : Call) (now : ℕ) → MayPause c.feed → ResumesFeed server intake c.feed →
-            HasSpent server.state c.start now → IsReady Serves HasRoom HasPaid c result.feed now [] }
+impl<L: Ledger> Serving<RosterServer, L> {
+    /// A feed that goes on from its snapshot, which gave the server, the intake and the mark. Nothing is given that was
+    /// due before the pause.
+    pub fn resumed(alloc: Global, server: RosterServer, intake: Intake, mark: u64) -> Serving<RosterServer, L>
+        ensures { (c : Call) (now : ℕ) → MayPause c.feed → ResumesFeed server intake mark c.feed →
+            HasPaid server c.start now → IsReady Serves HasRoom HasPaid c result.feed now [] }
     {
-        let mark = server.clock();
         Serving {
             feed: Feed::behind(alloc, Lane::resumed(intake, server, mark)),
             counts: PhantomData,

@@ -3,45 +3,29 @@ ghost use Rattle.std.specs.Prelude.{◌≡◌, ◌<◌, ℕ, List, Ok};
 ghost use Rattle.snapshot.specs.Kept.{IsReading, IsReady};
 ghost use Rattle.server_tests.specs.declared.snapshots.Outcome.TheVariants.{Taken};
 
-use dover_model::{Memory, Ratio, Version};
-use dover_server::Server;
-use line_text::LineBuf;
-use snapshot::{Got, Reader, SnapFault, head, state};
+use dover_model::{Memory, Role};
+use snapshot::{Got, Reader, RosterServer, SnapFault};
 use std::marker::Brand;
 use std::sync::ledger::{Blank, Ledger};
 use std::test::Fail;
 use step_count::Steps;
 
-// The first line of a feed with no job.
-#[test]
-fn a_head_is_written(rt: HostRuntime) -> Result<(), Fail> {
-    let k = Ratio::new(9, 4).unwrap();
-    let server = Server::new(rt.alloc(), Version::Two, k)?;
-    let mut line = LineBuf::new();
-    head(3, 5, Version::Two, k, &server, &mut line);
-    assert!(rt; line.bytes() == b"snapshot 2 9 4 3 5 0".as_slice());
-    Ok(())
-}
-
 // What the lines of a snapshot come to.
 #[derive(Clone, Copy, PartialEq, Eq)]
 enum Outcome {
     Open,
-    // The last lines are those of this many jobs, written again.
     Taken,
-    Written,
+    // The first job runs, and has had two ticks.
+    Runs,
     Refused(u64),
 }
 
-// Writes the line of the last job again, if there is one, and compares it.
-fn is_written_again(server: &Server, wanted: &[u8]) -> bool {
-    let clock = server.clock();
-    if server.admitted() == 0 || !server.ready_for(clock) {
-        return false;
+// Whether the first job runs where the feed pauses, and has had two ticks.
+fn has_run(server: &RosterServer, mark: u64) -> bool {
+    match server.roster().job(0, mark) {
+        Some(job) => job.role == Role::Running && job.had == 2,
+        None => false,
     }
-    let mut line = LineBuf::new();
-    state(server, server.admitted() - 1, &mut line);
-    line.bytes() == wanted
 }
 
 // What the lines come to, without a look at what is taken.
@@ -67,7 +51,6 @@ fn read_all<L: Ledger>(
 fn outcome_in<L: Ledger>(
     rt: &HostRuntime,
     lines: &[&[u8]],
-    last_job: &[u8],
     blank: Blank,
 ) -> Result<Outcome, Memory>
     requires name { blank.name ≡ L.name }
@@ -78,9 +61,9 @@ fn outcome_in<L: Ledger>(
     let mut reader = Reader::new(rt.alloc());
     match read_all(&mut reader, lines, &mut steps) {
         Ok(Outcome::Taken) => {
-            let (server, _) = reader.take();
-            Ok(if is_written_again(&server, last_job) {
-                Outcome::Written
+            let (server, _, mark) = reader.take();
+            Ok(if has_run(&server, mark) {
+                Outcome::Runs
             } else {
                 Outcome::Taken
             })
@@ -89,8 +72,8 @@ fn outcome_in<L: Ledger>(
     }
 }
 
-fn answer(rt: &HostRuntime, lines: &[&[u8]], last_job: &[u8]) -> Result<Outcome, Memory> {
-    outcome_in::<Brand>(rt, lines, last_job, Blank::new(1))
+fn answer(rt: &HostRuntime, lines: &[&[u8]]) -> Result<Outcome, Memory> {
+    outcome_in::<Brand>(rt, lines, Blank::new(1))
 }
 
 /// A head, the line of a job, and a last line.
@@ -102,7 +85,7 @@ const LAST: &[u8] = b"resume";
 
 /// Lines, and what they come to.
 const SNAPSHOTS: [(&[&[u8]], Outcome); 11] = [
-    (&[HEAD, JOB, LAST], Outcome::Written),
+    (&[HEAD, JOB, LAST], Outcome::Runs),
     (&[HEAD, JOB], Outcome::Open),
     (&[b"snapshot 2 9 4 1 0 0", LAST], Outcome::Taken),
     (
@@ -133,7 +116,7 @@ const SNAPSHOTS: [(&[&[u8]], Outcome); 11] = [
 /// Whether the lines of each row come to what is beside them.
 fn are_read(rt: &HostRuntime, rows: &[(&[&[u8]], Outcome)]) -> Result<bool, Memory> {
     for (lines, wanted) in rows {
-        if answer(rt, *lines, JOB)? != *wanted {
+        if answer(rt, *lines)? != *wanted {
             return Ok(false);
         }
     }

@@ -1,7 +1,8 @@
 -- Two lists that agree at each place, and two lists of jobs that are alike.
 use Rattle.std.proofs.Common.{◌≡◌, ℕ, zero, suc, ◌+◌, ◌≤◌, ◌<◌, List, [], ◌∷◌, length, map, refl, sym, ap, ◌∙◌, subst}
 use Rattle.std.proofs.Common.{true, false, ◌&&◌}
-use Rattle.std.proofs.Common.{arith, Some, inl, inr, ◌⊎◌}
+use Rattle.std.proofs.Common.{arith, Option, Some, inl, inr, ◌⊎◌}
+use Rattle.std.specs.Option.{option_map}
 use Rattle.std.specs.Prelude.{bytes_eq, ◌==◌, if◌then◌else◌}
 use Rattle.std.specs.List.{slice_get}
 use Rattle.std.proofs.lemmas.Bool.{eq-eqb, eqb-true, and_parts}
@@ -12,7 +13,6 @@ use Rattle.dover_model.specs.declared.events.Role.TheVariants.{Coming, Fresh, Wa
 use Rattle.dover_model.specs.declared.events.Task.{Task}
 use Rattle.dover_model.specs.Sound.{IsNumberedFrom, jobs_of}
 use Rattle.dover_model.proofs.Members.{some_same}
-use Rattle.dover_server.specs.Service.{Service}
 use Rattle.snapshot.specs.Snapshot.{role_word}
 use Rattle.snapshot.specs.Reading.{is_alike, are_alike}
 use Rattle.snapshot.specs.Kept.{stance_of, IsAt, AreAt}
@@ -31,13 +31,13 @@ same_places (x ∷ xs) (y ∷ ys) long at =
     let rest : xs ≡ ys = same_places xs ys (omega (arith, long)) (λ j low. at (suc j) (omega (arith, low))) in cc
 
 -- the jobs before this one are as stored
-abbrev pub AreAtUpTo : Service → List Stance → ℕ → Type 0
-AreAtUpTo v stances n = (j : ℕ) → j < n → slice_get (map stance_of v.state.tasks) j ≡ slice_get stances j
+abbrev pub AreAtUpTo : List Task → List Stance → ℕ → Type 0
+AreAtUpTo tasks stances n = (j : ℕ) → j < n → slice_get (map stance_of tasks) j ≡ slice_get stances j
 
-module _ (v : Service) (stances : List Stance) (n : ℕ) (stance : Stance)
+module _ (tasks : List Task) (stances : List Stance) (n : ℕ) (stance : Stance)
     (there : slice_get stances n ≡ Some stance) where
   -- so is this one
-  pub up_to_next : AreAtUpTo v stances n → IsAt v n stance → AreAtUpTo v stances (n + 1)
+  pub up_to_next : AreAtUpTo tasks stances n → IsAt tasks n stance → AreAtUpTo tasks stances (n + 1)
   up_to_next so_far at j low = by_place (nat_cases j n (omega (arith, low))) where
     nat_cases : (j n : ℕ) → j < n + 1 → (j < n) ⊎ (j ≡ n)
     nat_cases zero zero low = inr refl
@@ -48,25 +48,25 @@ module _ (v : Service) (stances : List Stance) (n : ℕ) (stance : Stance)
       by (inl less) = inl (omega (arith, less))
       by (inr same) = inr (ap suc same)
 
-    by_place : (j < n) ⊎ (j ≡ n) → slice_get (map stance_of v.state.tasks) j ≡ slice_get stances j
+    by_place : (j < n) ⊎ (j ≡ n) → slice_get (map stance_of tasks) j ≡ slice_get stances j
     by_place (inl less) = so_far j less
-    by_place (inr same) = subst (λ m. slice_get (map stance_of v.state.tasks) m ≡ slice_get stances m) (sym same)
-        (slice_get-map stance_of v.state.tasks n ∙ at ∙ sym there)
+    by_place (inr same) = subst (λ m. slice_get (map stance_of tasks) m ≡ slice_get stances m) (sym same)
+        (slice_get-map stance_of tasks n ∙ at ∙ sym there)
 
   -- where it isn't, not all are
-  pub not_all : (IsAt v n stance → ⊥) → AreAt v stances → ⊥
-  not_all other all = other (sym (slice_get-map stance_of v.state.tasks n) ∙ ap (λ xs. slice_get xs n) all ∙ there)
+  pub not_all : (IsAt tasks n stance → ⊥) → AreAt tasks stances → ⊥
+  not_all other all = other (sym (slice_get-map stance_of tasks n) ∙ ap (λ xs. slice_get xs n) all ∙ there)
 
 -- where each is, all are
-pub all_at : (v : Service) (stances : List Stance) → length stances ≡ length v.state.tasks → (n : ℕ)
-    → length v.state.tasks ≤ n
-    → AreAtUpTo v stances n → AreAt v stances
-all_at v stances long n most at =
-    same_places (map stance_of v.state.tasks) stances (omega (arith, long, length_map v.state.tasks))
-    (λ j low. at j (omega (arith, low, length_map v.state.tasks))) where
-      length_map : (tasks : List Task) → length (map stance_of tasks) ≡ length tasks
+pub all_at : (tasks : List Task) (stances : List Stance) → length stances ≡ length tasks → (n : ℕ)
+    → length tasks ≤ n
+    → AreAtUpTo tasks stances n → AreAt tasks stances
+all_at tasks stances long n most at =
+    same_places (map stance_of tasks) stances (omega (arith, long, length_map tasks))
+    (λ j low. at j (omega (arith, low, length_map tasks))) where
+      length_map : (ts : List Task) → length (map stance_of ts) ≡ length ts
       length_map [] = refl
-      length_map (t ∷ tasks) = ap suc (length_map tasks)
+      length_map (t ∷ ts) = ap suc (length_map ts)
 
 -- ---- jobs that are alike
 
@@ -155,3 +155,8 @@ same_tasks n (t ∷ tasks) (u ∷ others) numbered other jobs stances =
     ∙ ap (λ (s : Stance). let x : Task = record { number = u.number; job = u.job; role = s.role; had = s.had } in x)
     stance in
     let later : tasks ≡ others = same_tasks (suc n) tasks others numbered.1 other.1 rest more in cc
+
+-- the stance of a job of a mapped list
+pub at_place : {X : Type 0} (f : X → Task) (xs : List X) (n : ℕ) (o : Option Task) → o ≡ option_map f (slice_get xs n)
+    → option_map stance_of (slice_get (map f xs) n) ≡ option_map stance_of o
+at_place f xs n o is = ap (option_map stance_of) (slice_get-map f xs n ∙ sym is)

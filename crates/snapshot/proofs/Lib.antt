@@ -6,7 +6,12 @@ pub mod Storing
 pub mod Admitted
 pub mod Handing
 pub mod Formed
-pub mod Serving
+pub mod Rolls
+pub mod RollMoves
+pub mod RollRuns
+pub mod RollSettled
+pub mod Rostered
+pub mod Settling
 pub mod Handed
 pub mod Beginning
 pub mod Comparing

@@ -1,43 +1,31 @@
 -- The lines of a paused feed are those of its snapshot.
-use Rattle.std.proofs.Common.{◌≡◌, ◌≤◌, ℕ, zero, suc, List, [], ◌∷◌, ◌++◌, length, map, get_or, refl, sym, ap, ◌∙◌}
-use Rattle.std.proofs.Common.{subst, Bool, true, false, Some, arith, codes}
+use Rattle.std.proofs.Common.{◌≡◌, ◌≤◌, ℕ, zero, suc, List, [], ◌∷◌, ◌++◌, length, map, get_or, refl, sym}
+use Rattle.std.proofs.Common.{ap, ◌∙◌, subst, Some, None, arith, codes, ◌<◌, ◌-◌, length-append}
 use Rattle.std.specs.List.{slice_get}
 use Rattle.std.specs.Option.{option_map}
+use Rattle.std.proofs.lemmas.List.{length-map}
 use Rattle.dover_model.specs.declared.events.Task.{Task}
-use Rattle.dover_model.specs.Limits.{most_lines, last_tick}
-use Rattle.dover_model.specs.Feed.{account}
-use Rattle.dover_model.specs.Instance.{Instance}
+use Rattle.dover_model.specs.Limits.{most_jobs, most_lines, last_tick}
+use Rattle.dover_model.specs.Feed.{account, rules_with}
+use Rattle.dover_model.specs.Instance.{Rules, Instance}
 use Rattle.dover_model.specs.Lines.{in_lines}
-use Rattle.dover_model.specs.Paths.{HasPrinted}
 use Rattle.dover_model.specs.Session.{instance_of}
 use Rattle.dover_model.specs.Settled.{settled, settled_state}
-use Rattle.dover_model.specs.State.{State}
-use Rattle.dover_model.specs.WholeRun.{IsBarrier}
 use Rattle.dover_model.proofs.Accounts.{Holds}
+use Rattle.dover_model.proofs.Barriers.{settled_at_barrier}
 use Rattle.dover_model.proofs.Honest.{count_jobs}
 use Rattle.dover_model.proofs.Members.{some_same}
-use Rattle.dover_model.proofs.Tests.{none_is_some}
-use Rattle.dover_model.specs.declared.horizon.Horizon.TheVariants.{Mark, End}
-use Rattle.dover_server.specs.Service.{Service, Stands, list_of}
-use Rattle.dover_model.specs.Horizons.{MayFollow}
-use Rattle.dover_server.proofs.Spending.{spent_all}
-use Rattle.event_feed.specs.Answers.{admitted_in}
-use Rattle.event_feed.proofs.Admitting.{admitted_by}
-use Rattle.dover_model.specs.Spending.{HasSpent, CostsAtMost}
+use Rattle.snapshot.specs.Roster.{Roll, Listed, job_at, roll_of}
 use Rattle.snapshot.specs.Snapshot.{head_line, state_line, snapshot}
 use Rattle.snapshot.specs.Pausing.{IsTakenTo, lines_in}
-use Rattle.snapshot.specs.Taken.{HasTaken}
+use Rattle.snapshot.specs.declared.server.RosterServer.{RosterServer}
 use Rattle.snapshot.proofs.Feeds.{holds, few, snapshot_is}
-use Rattle.snapshot.proofs.Serving.{settled_there}
+use Rattle.snapshot.proofs.RollSettled.{settled_jobs}
 
--- before the end no End was given
-still_open : (v : Service) (mark : ℕ) → Stands v → v.last ≡ Mark mark → v.ended ≡ false
-still_open v mark stands last = by v.ended stands.ended where
-  by : (b : Bool) → (b ≡ true → v.last ≡ End) → b ≡ false
-  by true over = absurd (let e : Mark mark ≡ End = sym last ∙ over refl in cc)
-  by false over = refl
+module _ (v : RosterServer) (lines mark : ℕ) (F : List ℕ) (it : IsTakenTo v lines mark F) where
+  abbrev J : Instance
+  J = instance_of it.session
 
-module _ (v : Service) (lines mark : ℕ) (F : List ℕ) (it : IsTakenTo v lines mark F) where
   -- what its account keeps
   kept : Holds it.session (account F).mark (account F).lines
   kept = holds F it.may it.session it.named
@@ -50,52 +38,81 @@ module _ (v : Service) (lines mark : ℕ) (F : List ℕ) (it : IsTakenTo v lines
   pub mark_known : mark ≤ last_tick
   mark_known = subst (λ m. m ≤ last_tick) (sym it.mark_is) kept.known
 
-  -- the run may be taken to the mark once more
-  pub follows : MayFollow v.last (Mark mark)
-  follows = subst (λ h. MayFollow h (Mark mark)) (sym it.last) (omega arith, mark_known)
+  -- its jobs as they stand
+  jobs_are : map (job_at v.roster.roll mark) v.roster.roll.jobs ≡ (settled_state J mark).tasks
+  jobs_are = ap (λ (p : Roll). map (job_at p mark) p.jobs) it.served.read
+      ∙ subst (λ m. map (job_at (roll_of (settled J m)) m) (roll_of (settled J m)).jobs ≡ (settled_state J m).tasks)
+      (sym it.mark_is) (settled_jobs J kept.reads.valid (account F).mark kept.reads.known)
 
-  -- as far as it was taken
-  pub taken : Stands v → HasTaken v mark
-  taken stands = record {
-    valid = stands.valid;
-    goes_on = still_open v mark stands it.last;
-    events = settled (instance_of it.session) mark;
-    printed = subst (λ J. HasPrinted J mark v.state (settled (instance_of it.session) mark)) (sym it.list) it.printed;
-  }
+  count : length v.roster.roll.jobs ≡ length J.jobs
+  count = omega (
+    arith,
+    length-map v.roster.roll.jobs (job_at v.roster.roll mark),
+    ap length jobs_are,
+    count_jobs (settled_state J mark).tasks,
+    ap length (settled_at_barrier J kept.reads.valid mark).keeps.jobs,
+  )
 
-  module _ (u : Service) (same : list_of u ≡ list_of v) where
-    -- the lines are those of the snapshot, where the mark is reached
-    pub text_is : HasTaken u mark → IsBarrier u.rules mark u.state → in_lines (lines_in u lines mark) ≡ snapshot F
-    text_is reached barrier =
-        ap (λ n. in_lines (head_line (record { rules = u.rules; lines = lines; mark = mark; jobs = n })
-        ∷ map state_line u.state.tasks ++ codes "resume" ∷ [])) (sym (count_jobs u.state.tasks))
-        ∙ ap (λ (s : State). text (list_of u) lines mark s) (settled_there u (list_of u) mark reached refl barrier)
-        ∙ ap (λ (J : Instance). text J lines mark (settled_state J mark)) (same ∙ it.list)
-        ∙ ap (λ n. text (instance_of it.session) n mark (settled_state (instance_of it.session) mark)) it.lines_are
-        ∙ ap (λ m. text (instance_of it.session) (account F).lines m (settled_state (instance_of it.session) m))
-        it.mark_is
-        ∙ sym (snapshot_is F it.may it.session it.named)
-      where
-        text : Instance → ℕ → ℕ → State → List ℕ
-        text J n m s = in_lines (head_line (record { rules = J.rules; lines = n; mark = m; jobs = length J.jobs })
-            ∷ map state_line s.tasks ++ codes "resume" ∷ [])
+  -- they are few
+  pub jobs_few : length v.roster.roll.jobs ≤ most_jobs
+  jobs_few = subst (λ n. n ≤ most_jobs) (sym count) kept.reads.valid.count
 
-    -- few comparisons were made
-    pub all_paid : (start now : ℕ) → HasSpent u.state start now → CostsAtMost (admitted_in (account F)) start now
-    all_paid start now spent = subst (λ n. CostsAtMost n start now) (sym (ap admitted_by it.named))
-        (spent_all (instance_of it.session) u start now (same ∙ it.list) spent)
+  -- the lines are those of the snapshot
+  pub text_is : in_lines (lines_in v.roster.roll v.server.ready.rules lines mark) ≡ snapshot F
+  text_is = ap (λ n. text v.server.ready.rules n lines mark (map (job_at v.roster.roll mark) v.roster.roll.jobs)) count
+      ∙ ap (λ ts. text v.server.ready.rules (length J.jobs) lines mark ts) jobs_are
+      ∙ ap (λ r. text r (length J.jobs) lines mark (settled_state J mark).tasks) (sym it.served.served.follows.rules)
+      ∙ ap (λ n. text J.rules (length J.jobs) n mark (settled_state J mark).tasks) it.lines_are
+      ∙ ap (λ m. text J.rules (length J.jobs) (account F).lines m (settled_state J m).tasks) it.mark_is
+      ∙ sym (snapshot_is F it.may it.session it.named)
+    where
+      text : Rules → (jobs lines mark : ℕ) → List Task → List ℕ
+      text rules jobs n m tasks = in_lines (head_line (record { rules = rules; lines = n; mark = m; jobs = jobs })
+          ∷ map state_line tasks ++ codes "resume" ∷ [])
 
 -- ---- one line
 
 -- the line of a job
-pub line_of_job : (tasks : List Task) (last : List ℕ) (n : ℕ) (line : List ℕ)
-    → option_map state_line (slice_get tasks n) ≡ Some line → line ≡ get_or (map state_line tasks ++ last ∷ []) n []
-line_of_job [] last n line e = none_is_some e
-line_of_job (t ∷ tasks) last zero line e = sym (some_same (state_line t) line e)
-line_of_job (t ∷ tasks) last (suc n) line e = line_of_job tasks last n line e
+pub line_of_job : (f : Listed → Task) (jobs : List Listed) (last : List ℕ) (n : ℕ) (t : Task)
+    → option_map f (slice_get jobs n) ≡ Some t → get_or (map state_line (map f jobs) ++ last ∷ []) n [] ≡ state_line t
+line_of_job f [] last n t e = absurd (let no : None ≡ Some t = e in cc)
+line_of_job f (x ∷ jobs) last zero t e = ap state_line (some_same (f x) t e)
+line_of_job f (x ∷ jobs) last (suc n) t e = line_of_job f jobs last n t e
 
 -- the last line
-pub last_line : (tasks : List Task) (last : List ℕ)
-    → get_or (map state_line tasks ++ last ∷ []) (length tasks) [] ≡ last
-last_line [] last = refl
-last_line (t ∷ tasks) last = last_line tasks last
+pub last_line : (f : Listed → Task) (jobs : List Listed) (last : List ℕ) (n : ℕ)
+    → option_map f (slice_get jobs n) ≡ None → n ≤ length jobs
+    → get_or (map state_line (map f jobs) ++ last ∷ []) n [] ≡ last
+last_line f [] last zero e low = refl
+last_line f [] last (suc n) e low = absurd (omega (arith, low))
+last_line f (x ∷ jobs) last zero e low = absurd (let no : Some (f x) ≡ None = e in cc)
+last_line f (x ∷ jobs) last (suc n) e low = last_line f jobs last n e (omega (arith, low))
+
+module _ (p : Roll) (rules : Rules) (lines mark : ℕ) (ls : List (List ℕ)) (are : ls ≡ lines_in p rules lines mark) where
+  -- the lines behind the first
+  behind_first : (n : ℕ) → (n ≡ 0 → ⊥)
+      → get_or ls n [] ≡ get_or (map state_line (map (job_at p mark) p.jobs) ++ codes "resume" ∷ []) (n - 1) []
+  behind_first zero some = absurd (some refl)
+  behind_first (suc n) some =
+      let off : n ≡ suc n - 1 = omega arith in
+      ap (λ l. get_or l (suc n) []) are
+      ∙ ap (λ m. get_or (map state_line (map (job_at p mark) p.jobs) ++ codes "resume" ∷ []) m []) off
+
+  -- the line of a job
+  pub next_line : (n : ℕ) → (n ≡ 0 → ⊥) → (t : Task) → option_map (job_at p mark) (slice_get p.jobs (n - 1)) ≡ Some t
+      → get_or ls n [] ≡ state_line t
+  next_line n some t is = behind_first n some ∙ line_of_job (job_at p mark) p.jobs (codes "resume") (n - 1) t is
+
+  -- the last line
+  pub last_next : (n : ℕ) → (n ≡ 0 → ⊥) → n < length ls
+      → option_map (job_at p mark) (slice_get p.jobs (n - 1)) ≡ None → get_or ls n [] ≡ codes "resume"
+  last_next n some there none = behind_first n some
+      ∙ last_line (job_at p mark) p.jobs (codes "resume") (n - 1) none (omega (
+        arith,
+        there,
+        ap length are,
+        length-append (map state_line (map (job_at p mark) p.jobs)) (codes "resume" ∷ []),
+        length-map (map (job_at p mark) p.jobs) state_line,
+        length-map p.jobs (job_at p mark),
+        some,
+      ))

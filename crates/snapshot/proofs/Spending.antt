@@ -1,18 +1,21 @@
 -- The jobs that a reader serves again, and what they have cost.
-use Rattle.std.proofs.Common.{ℕ, ◌≤◌, List, [], ◌∷◌, ◌++◌, length, length-append, sym, ap, ◌∙◌, subst, Bool, true}
+use Rattle.std.proofs.Common.{◌≡◌, ℕ, ◌≤◌, List, [], ◌∷◌, ◌++◌, length, length-append, sym, ap, ◌∙◌, subst, Bool, true}
 use Rattle.std.proofs.Common.{false, cond, ◌&&◌, Option, Some, None, codes, arith}
 use Rattle.std.specs.Prelude.{nat_lt, bytes_eq}
 use Rattle.std.proofs.lemmas.List.Sums.{fold-append}
 use Rattle.dover_model.specs.declared.events.Task.{Task}
-use Rattle.dover_server.specs.Service.{Service}
-use Rattle.dover_model.specs.Spending.{HasSpent}
 use Rattle.snapshot.specs.Snapshot.{Head}
 use Rattle.snapshot.specs.Reading.{Begun, Going, Taken, read_task, with_task, with_last, may_follow, has_reached_mark}
-use Rattle.snapshot.specs.Reading.{is_settled, refused_behind, next_line, reading_of}
-use Rattle.snapshot.specs.Kept.{IsReading}
+use Rattle.snapshot.specs.Reading.{is_settled, refused_behind, next_line, reading_of, stored, last_release}
+use Rattle.dover_model.proofs.Honest.{count_jobs}
+use Rattle.ready_jobs.proofs.Courses.{follows_count}
+use Rattle.dover_model.specs.declared.horizon.Horizon.TheVariants.{Mark}
+use Rattle.snapshot.specs.Stored.{HasRead}
+use Rattle.snapshot.specs.Serving.{Rests}
+use Rattle.snapshot.specs.Kept.{IsReading, IsServed}
+use Rattle.snapshot.specs.declared.server.RosterServer.{RosterServer}
 use Rattle.snapshot.specs.Spending.{jobs_read, jobs_kept}
 use Rattle.snapshot.specs.declared.resuming.Resuming.{Resuming}
-use Rattle.snapshot.proofs.Stepping.{served_count}
 
 -- a line more takes no job away
 jobs_next : (h : Head) (tasks : List Task) (line : List ℕ) → length tasks ≤ jobs_read (next_line (Going h tasks) line)
@@ -33,24 +36,53 @@ jobs_next h tasks line = by (nat_lt (length tasks) h.jobs) where
   by true = with_one (read_task line)
   by false = at_last (bytes_eq line (codes "resume") && has_reached_mark h tasks && is_settled h tasks)
 
+-- a server has as many jobs as it was handed
+pub jobs_served : (v : RosterServer) (h : Head) (tasks : List Task) (mark : ℕ) → IsServed v h tasks mark
+    → v.server.ready.jobs ≡ length tasks
+jobs_served v h tasks mark it = omega (
+  arith,
+  follows_count v.server.ready (stored h tasks) it.served.served.state it.served.served.follows,
+  count_jobs tasks,
+)
+
+-- where no more are, there are as many in the lines
+pub jobs_left : (r : Resuming) (ls : List (List ℕ)) → IsReading (Some r) ls → (line : List ℕ) (n : ℕ)
+    → ((h : Head) (tasks : List Task) → IsServed r.server h tasks r.last → n ≡ length tasks)
+    → n ≤ jobs_read (reading_of (ls ++ line ∷ []))
+jobs_left r ls (h, tasks, read, it) line n same = subst (λ reading. n ≤ jobs_read reading)
+    (sym (fold-append next_line Begun ls (line ∷ []) ∙ ap (λ reading. next_line reading line) read.reads))
+    (omega (arith, same h tasks (subst (IsServed r.server h tasks) (sym it.released) it.served), jobs_next h tasks line))
+
+-- at rest it has as many
+pub jobs_rested : (v : RosterServer) (h : Head) (tasks : List Task) (mark : ℕ) → Rests v (stored h tasks) (Mark mark)
+    → v.server.ready.jobs ≡ length tasks
+jobs_rested v h tasks mark it = omega (
+  arith,
+  follows_count v.server.ready (stored h tasks) it.rests.state it.rests.follows,
+  count_jobs tasks,
+)
+
+-- a line more has no fewer jobs
+pub jobs_lines : (ls : List (List ℕ)) (h : Head) (tasks : List Task) → HasRead h tasks ls → (line : List ℕ) (n : ℕ)
+    → n ≡ length tasks → n ≤ jobs_read (reading_of (ls ++ line ∷ []))
+jobs_lines ls h tasks read line n same = subst (λ reading. n ≤ jobs_read reading)
+    (sym (fold-append next_line Begun ls (line ∷ []) ∙ ap (λ reading. next_line reading line) read.reads))
+    (omega (arith, same, jobs_next h tasks line))
+
 -- so where no job is served that wasn't, there are as many in the lines
 pub jobs_stay : (r : Resuming) (ls : List (List ℕ)) → IsReading (Some r) ls → (line : List ℕ) (n : ℕ)
-    → n ≤ length r.server.state.tasks → n ≤ jobs_read (reading_of (ls ++ line ∷ []))
+    → n ≤ r.server.server.ready.jobs → n ≤ jobs_read (reading_of (ls ++ line ∷ []))
 jobs_stay r ls (h, tasks, read, it) line n few = subst (λ reading. n ≤ jobs_read reading)
     (sym (fold-append next_line Begun ls (line ∷ []) ∙ ap (λ reading. next_line reading line) read.reads))
-    (omega (arith, few, served_count h tasks ls read r it, jobs_next h tasks line))
+    (omega (arith, few, jobs_served r.server h tasks (last_release tasks) it.served, jobs_next h tasks line))
 
 -- while the lines are read, each of their jobs is served
 pub jobs_now : (r : Resuming) (ls : List (List ℕ)) → IsReading (Some r) ls
-    → length r.server.state.tasks ≤ jobs_read (reading_of ls)
+    → r.server.server.ready.jobs ≤ jobs_read (reading_of ls)
 jobs_now r ls (h, tasks, read, it) =
-    subst (λ reading. length r.server.state.tasks ≤ jobs_read reading) (sym read.reads)
-    (omega (arith, served_count h tasks ls read r it))
+    subst (λ reading. r.server.server.ready.jobs ≤ jobs_read reading) (sym read.reads)
+    (omega (arith, jobs_served r.server h tasks (last_release tasks) it.served))
 
 pub jobs_reading : (o : Option Resuming) (ls : List (List ℕ)) → IsReading o ls → jobs_kept o ≤ jobs_read (reading_of ls)
 jobs_reading None ls none = omega arith
 jobs_reading (Some r) ls it = jobs_now r ls it
-
--- a server that was made just now has spent nothing
-pub spent_fresh : (v : Service) (start now : ℕ) → now ≤ start → HasSpent v.state start now
-spent_fresh v start now none = λ d enough. omega (arith, none)

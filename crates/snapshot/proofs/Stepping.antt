@@ -4,13 +4,12 @@ use Rattle.std.proofs.Common.{false, ◌&&◌, arith}
 use Rattle.std.proofs.Common.{Some, None}
 use Rattle.std.specs.Prelude.{nat_le, ◌==◌}
 use Rattle.std.proofs.lemmas.Bool.{eq-eqb, eqb-true, le-leb, leb-true, and_parts}
-use Rattle.std.proofs.lemmas.List.{map-append}
+use Rattle.std.proofs.lemmas.List.{map-append, length-map}
 use Rattle.dover_model.specs.declared.events.Task.{Task}
 use Rattle.dover_model.specs.JobFacts.{JobFacts, job_numbers}
 use Rattle.dover_model.specs.Instance.{IsValid, is_valid}
 use Rattle.dover_model.specs.Numerals.{AreShort}
 use Rattle.dover_model.proofs.Agreement.{is_valid-agrees}
-use Rattle.dover_model.proofs.Honest.{count_jobs}
 use Rattle.snapshot.specs.Snapshot.{Head}
 use Rattle.snapshot.specs.Reading.{Refused, stored, may_follow, refused_behind, read_task, reading_of}
 use Rattle.snapshot.specs.Stored.{HasRead}
@@ -24,21 +23,16 @@ use Rattle.snapshot.proofs.Storing.{no_task, task_beyond, task_stands}
 
 module _ (h : Head) (tasks : List Task) (ls : List (List ℕ)) (read : HasRead h tasks ls) (r : Resuming)
     (it : Holds r h tasks) where
-  -- as many jobs are served as were read
-  pub served_count : length r.server.state.tasks ≡ length tasks
-  served_count = omega (
-    arith,
-    ap (λ J. length J.jobs) it.served.list,
-    count_jobs r.server.state.tasks,
-    count_jobs tasks,
-  )
+  -- as many jobs are kept as were read
+  pub served_count : length r.stances.items ≡ length tasks
+  served_count = omega (arith, ap length it.stances, length-map tasks stance_of)
 
   -- how many there are to be
   pub jobs_count : r.head.jobs ≡ h.jobs
   jobs_count = ap (λ (g : Head). g.jobs) it.head
 
   -- the number of a refused line
-  pub refused_here : (l : List (List ℕ)) (n : ℕ) → n ≡ length r.server.state.tasks → reading_of l ≡ refused_behind tasks
+  pub refused_here : (l : List (List ℕ)) (n : ℕ) → n ≡ length r.stances.items → reading_of l ≡ refused_behind tasks
       → reading_of l ≡ Refused (n + 2)
   refused_here l n is refused = refused ∙ ap (λ m. Refused (m + 2)) (sym (is ∙ served_count))
 
@@ -49,7 +43,7 @@ module _ (h : Head) (tasks : List Task) (ls : List (List ℕ)) (read : HasRead h
 
   module _ (line : List ℕ) (more : length tasks < h.jobs) where
     -- a line that is no job's
-    pub none_refused : (n : ℕ) → n ≡ length r.server.state.tasks → read_task line ≡ None
+    pub none_refused : (n : ℕ) → n ≡ length r.stances.items → read_task line ≡ None
         → reading_of (ls ++ line ∷ []) ≡ Refused (n + 2)
     none_refused n is none = refused_here (ls ++ line ∷ []) n is (no_task h tasks ls read line more none)
 
@@ -59,7 +53,7 @@ module _ (h : Head) (tasks : List Task) (ls : List (List ℕ)) (read : HasRead h
       job_short = (state_line-read_task line t spelled).1.short.1.1
 
       -- a job that may not follow
-      pub beyond_refused : (n : ℕ) → n ≡ length r.server.state.tasks
+      pub beyond_refused : (n : ℕ) → n ≡ length r.stances.items
           → (t.number ≡ length tasks → IsValid (stored h (tasks ++ t ∷ [])) → t.job.release ≤ h.mark → ⊥)
           → reading_of (ls ++ line ∷ []) ≡ Refused (n + 2)
       beyond_refused n is never = refused_here (ls ++ line ∷ []) n is (task_beyond h tasks ls read line more t spelled

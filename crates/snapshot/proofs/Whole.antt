@@ -1,7 +1,7 @@
 -- A snapshot that is taken is that of a feed, and what is given for it stands for each feed of which it is.
 use Rattle.std.proofs.Common.{◌≡◌, ℕ, ◌+◌, ◌-◌, ◌≤◌, List, [], ◌∷◌, ◌++◌, length, length-append, append_assoc}
-use Rattle.std.proofs.Common.{append-nil, map, replicate, zero, suc}
-use Rattle.std.proofs.Common.{refl, sym, ap, ◌∙◌, subst, arith, Option, Some, None, codes}
+use Rattle.std.proofs.Common.{append-nil, map, replicate, zero, suc, refl, sym, ap, ◌∙◌, subst, arith, Option, Some}
+use Rattle.std.proofs.Common.{None, codes}
 use Rattle.std.specs.Prelude.{IsSome}
 use Rattle.std.specs.List.{AllByRecursion, fold}
 use Rattle.std.proofs.lemmas.List.{map-append}
@@ -26,7 +26,9 @@ use Rattle.dover_model.proofs.Honest.{count_jobs}
 use Rattle.dover_model.proofs.JobSessions.{jobs_back}
 use Rattle.dover_model.proofs.Settling.{settled_is_run}
 use Rattle.dover_model.proofs.Valid.{valid_front}
-use Rattle.dover_server.specs.Service.{Service, IsReadyFor}
+use Rattle.dover_model.specs.declared.horizon.Horizon.TheVariants.{Mark}
+use Rattle.snapshot.specs.Serving.{Rests}
+use Rattle.snapshot.specs.declared.server.RosterServer.{RosterServer}
 use Rattle.admission.specs.Kept as admission
 use Rattle.event_feed.specs.Kept as feed
 use Rattle.event_feed.specs.declared.kept_session.KeptSession.{KeptSession}
@@ -63,27 +65,6 @@ last_low most from (t ∷ tasks) all low = last_low most t.job.release tasks all
 feedless_jobs : (tasks : List Task) → AllByRecursion HasNoFeed (map (λ (t : Task). feed_text (JobLine t.job)) tasks)
 feedless_jobs [] = tt
 feedless_jobs (t ∷ tasks) = (feedless_feed (JobLine t.job), feedless_jobs tasks)
-
--- a settled run leads to the state behind its steps
-settled_path : (rules : Rules) (mark : ℕ) (xs : List Step) (s : State) → IsSettledRun rules mark s xs
-    → IsOpenPath rules mark s xs (fold (λ (z : State) (x : Step). after x.before x.move) s xs)
-settled_path rules mark [] s here = refl
-settled_path rules mark (x ∷ xs) s run = (
-  run.0,
-  run.1,
-  subst (λ u. IsOpenPath rules mark (after s (open_step rules s)) xs
-      (fold (λ (z : State) (x : Step). after x.before x.move) u xs))
-      (sym (ap (λ (y : Step). after y.before y.move) run.0))
-      (settled_path rules mark xs (after s (open_step rules s)) run.2),
-)
-
--- at the barrier all that is settled was printed
-printed_at_barrier : (J : Instance) (mark : ℕ) → IsValid J → HasPrinted J mark (settled_state J mark) (settled J mark)
-printed_at_barrier J mark valid = record {
-  steps = settled_steps J mark;
-  path = settled_path J.rules mark (settled_steps J mark) (opening J.jobs) (settled_is_run J mark valid);
-  prints = refl;
-}
 
 module _ (h : Head) (tasks : List Task) (ls : List (List ℕ)) (it : IsWhole h tasks ls) where
   -- ---- the shortest feed
@@ -203,8 +184,9 @@ module _ (h : Head) (tasks : List Task) (ls : List (List ℕ)) (it : IsWhole h t
         marked = some.marked ∙ sym alike.1;
       }
 
-    pub resumes_feed : (v : Service) (i : feed.Kept) → Resumes v i h tasks → ResumesFeed v i F
-    resumes_feed v i resumes =
+    pub resumes_feed : (v : RosterServer) (i : feed.Kept) (mark : ℕ) → mark ≡ h.mark → Resumes v i h tasks
+        → ResumesFeed v i mark F
+    resumes_feed v i mark same resumes =
         let both = both_there (Some (stored_session h tasks)) (account F).session alike.3 in
         let first : stored_session h tasks ≡ both.0 =
         let e : Some (stored_session h tasks) ≡ Some both.0 = both.2 in cc in
@@ -216,14 +198,7 @@ module _ (h : Head) (tasks : List Task) (ls : List (List ℕ)) (it : IsWhole h t
             by_account = keeps_alike i (subst (feed.KeepsAccount i) resumes.account resumes.stands.by_account);
           };
           going = resumes.going;
-          list = resumes.list ∙ sym jobs;
-          state = resumes.state ∙ ap (λ J. settled_state J h.mark) (sym jobs)
-              ∙ ap (settled_state (instance_of both.1)) (sym alike.1);
-          printed = subst (λ mark. HasPrinted (instance_of both.1) mark v.state (settled (instance_of both.1) mark))
-              (sym alike.1)
-              (subst (λ J. HasPrinted J h.mark v.state (settled J h.mark)) (sym jobs) (subst
-              (λ s. HasPrinted (stored h tasks) h.mark s (settled (stored h tasks) h.mark)) (sym resumes.state)
-              (printed_at_barrier (stored h tasks) h.mark it.read.valid)));
-          ready = subst (IsReadyFor v) (sym alike.1) resumes.ready;
-          goes_on = resumes.goes_on;
+          marked = same ∙ sym alike.1;
+          rests = subst (λ m. Rests v (instance_of both.1) (Mark m)) (sym same)
+              (subst (λ J. Rests v J (Mark h.mark)) (sym jobs) resumes.rests);
         }

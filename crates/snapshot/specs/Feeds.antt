@@ -2,13 +2,13 @@
 use Rattle.std.specs.Prelude.{◌≡◌, ℕ, List, ◌++◌, false, Some}
 use Rattle.dover_model.specs.Lines.{in_lines, lines_of}
 use Rattle.dover_model.specs.Session.{Session, instance_of}
-use Rattle.dover_model.specs.Settled.{settled, settled_state}
-use Rattle.dover_model.specs.Paths.{HasPrinted}
 use Rattle.dover_model.specs.Feed.{account}
 use Rattle.dover_model.specs.Due.{due, closed}
-use Rattle.dover_server.specs.Service.{Service, list_of, IsReadyFor}
+use Rattle.dover_model.specs.declared.horizon.Horizon.TheVariants.{Mark}
 use Rattle.event_feed.specs.Kept as feed
 use Rattle.snapshot.specs.Snapshot.{MayPause, snapshot}
+use Rattle.snapshot.specs.Serving.{Rests}
+use Rattle.snapshot.specs.declared.server.RosterServer.{RosterServer}
 
 -- these lines are the snapshot of a feed
 pub record IsSnapshot (ls : List (List ℕ)) : Type 0 where
@@ -28,21 +28,17 @@ pub record GoOnEqually (F G H : List ℕ) : Type 0 where
   pub standing : (account (G ++ H)).standing ≡ (account (F ++ H)).standing
   pub again : MayPause (F ++ H) → MayPause (G ++ H) × (snapshot (G ++ H) ≡ snapshot (F ++ H))
 
--- The intake stands for the lines of the feed, and the server for its jobs in the state in which it paused.
-pub record ResumesFeed (v : Service) (i : feed.Kept) (F : List ℕ) : Type 0 where
+-- The intake stands for the lines of the feed, and the server rests where it paused, at this mark.
+pub record ResumesFeed (v : RosterServer) (i : feed.Kept) (mark : ℕ) (F : List ℕ) : Type 0 where
   pub session : Session
   pub named : (account F).session ≡ Some session
   pub stands : feed.StandsFor i (lines_of F)
   pub going : feed.IsGoing i
-  pub list : list_of v ≡ instance_of session
-  pub state : v.state ≡ settled_state (instance_of session) (account F).mark
-  pub printed : HasPrinted (instance_of session) (account F).mark v.state
-      (settled (instance_of session) (account F).mark)
-  pub ready : IsReadyFor v (account F).mark
-  pub goes_on : v.ended ≡ false
+  pub marked : mark ≡ (account F).mark
+  pub rests : Rests v (instance_of session) (Mark mark)
 
 -- What is given for a whole snapshot: its lines are those of some feed's, and for each feed with this snapshot the
 -- server and the intake go on from where it paused.
-pub record Gives (v : Service) (i : feed.Kept) (ls : List (List ℕ)) : Type 0 where
+pub record Gives (v : RosterServer) (i : feed.Kept) (mark : ℕ) (ls : List (List ℕ)) : Type 0 where
   pub is : IsSnapshot ls
-  pub each : (F : List ℕ) → MayPause F → snapshot F ≡ in_lines ls → ResumesFeed v i F
+  pub each : (F : List ℕ) → MayPause F → snapshot F ≡ in_lines ls → ResumesFeed v i mark F

@@ -3,15 +3,14 @@ use Rattle.std.specs.Prelude.{◌≡◌, ℕ, ◌+◌, ◌-◌, List, [], ◌∷
 use Rattle.std.specs.Prelude.{Some, None, Result, Ok, Err, codes}
 use Rattle.std.specs.List.{slice_get}
 use Rattle.std.specs.Option.{option_map}
+use Rattle.dover_model.specs.declared.events.Event.{Event}
 use Rattle.dover_model.specs.declared.events.Task.{Task}
 use Rattle.dover_model.specs.JobFacts.{JobFacts}
 use Rattle.dover_model.specs.Limits.{most_lines}
 use Rattle.dover_model.specs.Instance.{IsValid, with_jobs}
-use Rattle.dover_model.specs.Settled.{settled_state}
 use Rattle.dover_model.specs.FeedLine.{TickLine, feed_text}
 use Rattle.dover_model.specs.Feed.{Account, Open, account_of_lines}
 use Rattle.dover_model.specs.declared.horizon.Horizon.TheVariants.{Mark}
-use Rattle.dover_server.specs.Service.{Service, list_of, IsReadyFor}
 use Rattle.event_feed.specs.declared.fed.Fed.{Fed}
 use Rattle.event_feed.specs.declared.fed.Fed.TheVariants as fed
 use Rattle.event_feed.specs.Kept as feed
@@ -20,7 +19,8 @@ use Rattle.snapshot.specs.Reading.{Going, Taken, Refused, is_within_limits, stor
 use Rattle.snapshot.specs.Reading.{is_settled, reading_of}
 use Rattle.snapshot.specs.Stored.{HasRead, job_lines, stored_session, stored_account}
 use Rattle.snapshot.specs.Forms.{head_in}
-use Rattle.snapshot.specs.Taken.{HasTaken}
+use Rattle.snapshot.specs.Serving.{Serves, Rests}
+use Rattle.snapshot.specs.declared.server.RosterServer.{RosterServer}
 use Rattle.snapshot.specs.declared.resuming.Stance.{Stance}
 use Rattle.snapshot.specs.declared.resuming.Resuming.{Resuming}
 use Rattle.snapshot.specs.declared.reader.Got.{Got}
@@ -71,10 +71,9 @@ feed_lines h tasks = job_lines h tasks ++ tick_lines h
 -- ---- the run
 
 -- its jobs are those of the snapshot, and the mark is the last that it was taken to
-pub record IsServed (v : Service) (h : Head) (tasks : List Task) (mark : ℕ) : Type 0 where
-  pub taken : HasTaken v mark
-  pub list : list_of v ≡ stored h tasks
-  pub last : v.last ≡ Mark mark
+pub record IsServed (v : RosterServer) (h : Head) (tasks : List Task) (mark : ℕ) : Type 0 where
+  pub events : List Event
+  pub served : Serves v (stored h tasks) (Mark mark) events
 
 -- what a job is, and how many ticks it has had
 abbrev pub stance_of : Task → Stance
@@ -86,12 +85,12 @@ pub record MayAdmit (last : ℕ) (h : Head) (tasks : List Task) (job : JobFacts)
   pub valid : IsValid (with_jobs (stored h tasks) (job ∷ []))
 
 -- what the job of this number is, and how many ticks it has had
-abbrev pub IsAt : Service → ℕ → Stance → Type 0
-IsAt v n stance = option_map stance_of (slice_get v.state.tasks n) ≡ Some stance
+abbrev pub IsAt : List Task → ℕ → Stance → Type 0
+IsAt tasks n stance = option_map stance_of (slice_get tasks n) ≡ Some stance
 
 -- what each job is, and how many ticks it has had
-abbrev pub AreAt : Service → List Stance → Type 0
-AreAt v stances = map stance_of v.state.tasks ≡ stances
+abbrev pub AreAt : List Task → List Stance → Type 0
+AreAt tasks stances = map stance_of tasks ≡ stances
 
 -- ---- what is kept
 
@@ -125,20 +124,18 @@ abbrev pub paused_account : Head → List Task → Account
 paused_account h tasks =
     record { lines = h.lines; session = Some (stored_session h tasks); mark = h.mark; standing = Open }
 
--- The intake stands for the lines of that feed, and the server for its jobs in the state in which it paused.
-pub record Resumes (v : Service) (i : feed.Kept) (h : Head) (tasks : List Task) : Type 0 where
+-- The intake stands for the lines of that feed, and the server rests where it paused.
+pub record Resumes (v : RosterServer) (i : feed.Kept) (h : Head) (tasks : List Task) : Type 0 where
   pub stands : feed.StandsFor i (feed_lines h tasks)
   pub account : account_of_lines (feed_lines h tasks) ≡ paused_account h tasks
   pub going : feed.IsGoing i
-  pub list : list_of v ≡ stored h tasks
-  pub state : v.state ≡ settled_state (stored h tasks) h.mark
-  pub ready : IsReadyFor v h.mark
-  pub goes_on : v.ended ≡ false
+  pub rests : Rests v (stored h tasks) (Mark h.mark)
 
 -- these lines are a whole snapshot, and its run can be gone on with
 abbrev pub IsReady : Option Resuming → List (List ℕ) → Type 0
 IsReady None ls = ⊥
-IsReady (Some r) ls = (h : Head) × (tasks : List Task) × IsWhole h tasks ls × Resumes r.server r.intake h tasks
+IsReady (Some r) ls =
+    (h : Head) × (tasks : List Task) × IsWhole h tasks ls × (head_in r.head ≡ h) × Resumes r.server r.intake h tasks
 
 -- ---- what callers are told
 

@@ -2,7 +2,8 @@ pub mod Snapshot
 pub mod Reading
 pub mod Stored
 pub mod Forms
-pub mod Taken
+pub mod Roster
+pub mod Serving
 pub mod Pausing
 pub mod Kept
 pub mod Spending

@@ -1,13 +1,13 @@
 //! A snapshot read line by line.
 ghost use Rattle.std.specs.Prelude.{◌≡◌, ◌≤◌, ℕ, List, [], ◌∷◌, ◌++◌};
-ghost use Rattle.dover_model.specs.Spending.{HasSpent};
+ghost use Rattle.snapshot.specs.Serving.{HasPaid};
 ghost use Rattle.snapshot.specs.Kept.{IsReading, IsReady, Answers};
 ghost use Rattle.snapshot.specs.Feeds.{Gives};
 ghost use Rattle.snapshot.specs.Reading.{reading_of};
 ghost use Rattle.snapshot.specs.Spending.{jobs_read, jobs_kept, HasSpentOn};
 
 use crate::resuming::Resuming;
-use dover_server::Server;
+use crate::server::RosterServer;
 use event_feed::Intake;
 use std::alloc::Global;
 use std::marker::Model;
@@ -81,13 +81,12 @@ impl Reader {
         Ok(Got::More)
     }
 
-    /// The server in the state that was stored, ready to go on from its mark, and an intake that was handed as many
-    /// lines as the paused feed had.
-    /// `line` has answered `Ready`. Takes no memory.
-    pub fn take(self) -> (Server, Intake)
+    /// The server in the state that was stored, an intake that was handed as many lines as the paused feed had, and the
+    /// mark from which they go on. `line` has answered `Ready`. Takes no memory.
+    pub fn take(self) -> (RosterServer, Intake, u64)
         requires { (ls : List (List ℕ)) × IsReady self ls }
-        ensures gives { (ls : List (List ℕ)) → IsReady self ls → Gives result.0 result.1 ls }
-        ensures count { (start now : ℕ) → HasSpentOn self start now → HasSpent result.0.state start now }
+        ensures gives { (ls : List (List ℕ)) → IsReady self ls → Gives result.0 result.1 result.2 ls }
+        ensures count { (start now : ℕ) → HasSpentOn self start now → HasPaid result.0 start now }
     {
         let Some(resuming) = self.resuming else {
             unreachable!();

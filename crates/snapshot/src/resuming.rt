@@ -1,23 +1,25 @@
 //! The jobs of a snapshot, as they are fed again.
 ghost use Rattle.std.specs.Prelude.{◌≡◌, ◌≤◌, ◌<◌, ◌+◌, ◌^◌, ◌||◌, ◌↔◌, nat_le, nat_lt, ℕ, List, [], ◌∷◌, ◌++◌, length};
-ghost use Rattle.std.specs.Prelude.{true, Some, IsTrue, OnOk, OnErr};
+ghost use Rattle.std.specs.Prelude.{map, true, Some, IsTrue, OnOk, OnErr};
+ghost use Rattle.dover_model.specs.declared.events.Event.{Event};
 ghost use Rattle.dover_model.specs.declared.events.Task.{Task};
-ghost use Rattle.dover_model.specs.WholeRun.{IsBarrier};
+ghost use Rattle.dover_model.specs.Instance.{Instance};
 ghost use Rattle.dover_model.specs.declared.horizon.Horizon.TheVariants.{Mark};
 ghost use Rattle.dover_model.specs.Horizons.{MayFollow};
-ghost use Rattle.dover_server.specs.Service.{list_of};
-ghost use Rattle.dover_model.specs.Spending.{HasSpent};
 ghost use Rattle.snapshot.specs.Snapshot as model;
-ghost use Rattle.snapshot.specs.Kept.{IsServed, MayAdmit, IsAt, AreAt, IsReading, Begins, Answers};
+ghost use Rattle.snapshot.specs.Kept.{stance_of, IsServed, MayAdmit, IsAt, AreAt, IsReading, Begins, Answers};
 ghost use Rattle.snapshot.specs.Reading.{reading_of};
 ghost use Rattle.snapshot.specs.Spending.{jobs_read, jobs_kept, HasSpentOn};
-ghost use Rattle.snapshot.specs.Taken.{HasTaken};
+ghost use Rattle.snapshot.specs.Roster.{job_at};
+ghost use Rattle.snapshot.specs.Serving.{Serves, Rests, HasRoom, HasPaid};
 
 use crate::feeding::{begin, hand_job, hand_ticks};
 use crate::forms::{Head, is_within_limits, read_head, read_state};
 use crate::reader::{Got, SnapFault};
-use dover_model::{Horizon, Job, Memory, Role};
-use dover_server::Server;
+use crate::roster::Roster;
+use crate::server::RosterServer;
+use dover_model::{Horizon, Job, Memory, Role, Task};
+use ready_server::Dispatcher;
 use event_feed::Intake;
 use std::alloc::Global;
 use std::sync::ledger::Ledger;
@@ -30,35 +32,51 @@ pub(crate) struct Stance {
     pub(crate) had: u64,
 }
 
+/// More printed steps than a run has.
+const MOST_STEPS: u32 = 5_000_002;
+
 /// Takes the run to a mark.
-pub(crate) fn settle<L: Ledger>(server: &mut Server, mark: u64, steps: &mut Steps<L>)
-    requires taken { HasTaken server.old mark }
-    requires follows { MayFollow server.old.last (Mark mark) }
-    ensures taken { HasTaken server.new mark }
-    ensures barrier { IsBarrier server.new.rules mark server.new.state }
-    ensures list { list_of server.new ≡ list_of server.old }
-    ensures last { server.new.last ≡ Mark mark }
-    ensures ready { server.new.ready ≡ true }
-    ensures count { (start : ℕ) → HasSpent server.old.state start steps.old →
-        HasSpent server.new.state start steps.new }
+fn settle<L: Ledger>(server: &mut RosterServer, mark: u64, steps: &mut Steps<L>)
+    requires serves { (J : Instance) × (m : ℕ) × (events : List Event) × Serves server.old J (Mark m) events
+        × MayFollow (Mark m) (Mark mark) }
+    ensures rests { (J : Instance) (m : ℕ) (events : List Event) → Serves server.old J (Mark m) events
+        → MayFollow (Mark m) (Mark mark) → Rests server.new J (Mark mark) }
+    ensures room { HasRoom server.old → HasRoom server.new }
+    ensures paid { (start : ℕ) → HasPaid server.old start steps.old → HasPaid server.new start steps.new }
 {
-    while let Some(_) = server.step(Horizon::Mark(mark), steps) {}
+    for _step in 0..MOST_STEPS {
+        match server.step(Horizon::Mark(mark), steps) {
+            Some(_) => {}
+            None => return,
+        }
+    }
+    unreachable!();
+}
+
+/// What a job is, and how many ticks it has had, are as stored.
+fn has_stance(job: &Task, stance: &Stance) -> bool
+    ensures { IsTrue result ↔ (stance_of job.now ≡ stance.now) }
+{
+    job.role == stance.role && job.had == stance.had
 }
 
 /// What the job of this number is, and how many ticks it has had, are as stored.
-fn is_at(server: &Server, number: u32, stance: &Stance) -> bool
-    ensures { IsTrue result ↔ IsAt server.now number stance.now }
+fn is_at(roster: &Roster, mark: u64, number: usize, stance: &Stance) -> bool
+    ensures { IsTrue result ↔ IsAt (map (job_at roster.now.roll mark) roster.now.roll.jobs) number stance.now }
 {
-    server.role(number) == Some(stance.role) && server.had(number) == Some(stance.had)
+    match roster.job(number, mark) {
+        Some(job) => has_stance(&job, stance),
+        None => false,
+    }
 }
 
 /// Each job is as stored.
-fn are_at(server: &Server, stances: &[Stance]) -> bool
-    requires { length stances.now ≡ length server.now.state.tasks }
-    ensures { IsTrue result ↔ AreAt server.now stances.now }
+fn are_at(roster: &Roster, mark: u64, stances: &[Stance]) -> bool
+    requires { length stances.now ≡ length roster.now.roll.jobs }
+    ensures { IsTrue result ↔ AreAt (map (job_at roster.now.roll mark) roster.now.roll.jobs) stances.now }
 {
-    for number in 0..server.admitted() {
-        if !is_at(server, number, &stances[number as usize]) {
+    for number in 0..stances.len() {
+        if !is_at(roster, mark, number, &stances[number]) {
             return false;
         }
     }
@@ -71,7 +89,7 @@ pub struct Resuming {
     head: Head,
     last: u64,
     intake: Intake,
-    server: Server,
+    server: RosterServer,
     stances: Vec<Stance>,
 }
 
@@ -87,7 +105,7 @@ impl Resuming {
         if !is_within_limits(&head) {
             return Err(bad);
         }
-        let Ok(server) = Server::new(alloc, head.version, head.ratio) else {
+        let Ok(server) = RosterServer::new(alloc, head.version, head.ratio) else {
             return Err(SnapFault::Memory);
         };
         Ok(Resuming {
@@ -99,6 +117,13 @@ impl Resuming {
         })
     }
 
+    /// How many jobs were read.
+    fn count(&self) -> u64
+        ensures { result ≡ length self.now.stances.items }
+    {
+        self.stances.len() as u64
+    }
+
     /// Admits a job at its release, as a feed would.
     fn admit<L: Ledger>(&mut self, job: Job, steps: &mut Steps<L>) -> Result<(), Memory>
         requires { (h : model.Head) × (tasks : List Task) × IsServed self.old.server h tasks self.old.last
@@ -107,21 +132,22 @@ impl Resuming {
             → IsServed self.old.server h tasks self.old.last →
             MayAdmit self.old.last h tasks job → t.job ≡ job
             → OnOk result (IsServed self.new.server h (tasks ++ t ∷ []) job.release) }
-        ensures same { self.new ≡ record self.old { server = self.new.server; last = job.release } }
-        ensures err { OnErr result (list_of self.new.server ≡ list_of self.old.server) }
-        ensures count { (start : ℕ) → HasSpent self.old.server.state start steps.old →
-            HasSpent self.new.server.state start steps.new }
+        ensures same { OnOk result (self.new ≡ record self.old { server = self.new.server; last = job.release }) }
+        ensures err { (h : model.Head) (tasks : List Task) → IsServed self.old.server h tasks self.old.last →
+            OnErr result (self.new.server.server.ready.jobs ≡ length tasks) }
+        ensures count { (start : ℕ) → HasPaid self.old.server start steps.old → HasPaid self.new.server start steps.new }
     {
+        self.server.make_room()?;
         self.last = job.release();
         settle(&mut self.server, self.last, steps);
-        self.server.admit(job)?;
+        let _release = self.server.admit(job, steps);
         Ok(())
     }
 
     /// Takes the line of the next job.
     fn job<L: Ledger>(&mut self, line: &[u8], steps: &mut Steps<L>) -> Result<Got, SnapFault>
         requires reading { (ls : List (List ℕ)) × IsReading (Some self.old) ls }
-        requires more { length self.old.server.state.tasks < self.old.head.jobs }
+        requires more { length self.old.stances.items < self.old.head.jobs }
         ensures answers { (ls : List (List ℕ)) → IsReading (Some self.old) ls →
             Answers result (Some self.new) (ls ++ line.now ∷ []) }
         ensures jobs { (ls : List (List ℕ)) → IsReading (Some self.old) ls →
@@ -129,7 +155,7 @@ impl Resuming {
         ensures count { (start : ℕ) → HasSpentOn (Some self.old) start steps.old →
             HasSpentOn (Some self.new) start steps.new }
     {
-        let number = u64::from(self.server.admitted());
+        let number = self.count();
         let bad = SnapFault::BadSnapshot { line: number + 2 };
         let Some(state) = read_state(line) else {
             return Err(bad);
@@ -169,7 +195,7 @@ impl Resuming {
     /// Takes the last line.
     fn finish<L: Ledger>(&mut self, line: &[u8], steps: &mut Steps<L>) -> Result<Got, SnapFault>
         requires reading { (ls : List (List ℕ)) × IsReading (Some self.old) ls }
-        requires all { self.old.head.jobs ≤ length self.old.server.state.tasks }
+        requires all { self.old.head.jobs ≤ length self.old.stances.items }
         ensures answers { (ls : List (List ℕ)) → IsReading (Some self.old) ls →
             Answers result (Some self.new) (ls ++ line.now ∷ []) }
         ensures jobs { (ls : List (List ℕ)) → IsReading (Some self.old) ls →
@@ -178,7 +204,7 @@ impl Resuming {
             HasSpentOn (Some self.new) start steps.new }
     {
         let bad = SnapFault::BadSnapshot {
-            line: u64::from(self.server.admitted()) + 2,
+            line: self.count() + 2,
         };
         if line != b"resume".as_slice() {
             return Err(bad);
@@ -187,7 +213,7 @@ impl Resuming {
             return Err(bad);
         }
         settle(&mut self.server, self.head.mark, steps);
-        if !are_at(&self.server, self.stances.as_slice()) {
+        if !are_at(self.server.roster(), self.head.mark, self.stances.as_slice()) {
             return Err(bad);
         }
         hand_ticks(&mut self.intake, &self.head);
@@ -204,17 +230,17 @@ impl Resuming {
         ensures count { (start : ℕ) → HasSpentOn (Some self.old) start steps.old →
             HasSpentOn (Some self.new) start steps.new }
     {
-        if u64::from(self.server.admitted()) < self.head.jobs {
+        if self.count() < self.head.jobs {
             self.job(line, steps)
         } else {
             self.finish(line, steps)
         }
     }
 
-    /// The server and the intake.
-    pub fn into_parts(self) -> (Server, Intake)
-        ensures { result ≡ (self.server, self.intake) }
+    /// The server, the intake and the mark.
+    pub fn into_parts(self) -> (RosterServer, Intake, u64)
+        ensures { result ≡ (self.server, self.intake, self.head.mark) }
     {
-        (self.server, self.intake)
+        (self.server, self.intake, self.head.mark)
     }
 }

@@ -1,45 +1,29 @@
 //! The lines of a snapshot, as they are written.
-ghost use Rattle.std.specs.Prelude.{◌≡◌, ◌≤◌, ◌<◌, ◌+◌, ◌^◌, [], length, Some, decimal};
-ghost use Rattle.std.specs.List.{slice_get};
-ghost use Rattle.std.specs.Option.{option_map};
-ghost use Rattle.dover_model.specs.Limits.{last_tick, most_lines};
+ghost use Rattle.std.specs.Prelude.{◌≡◌, ◌≤◌, ◌++◌, ◌∷◌, [], length, codes};
+ghost use Rattle.dover_model.specs.Lines.{with_numbers};
+ghost use Rattle.dover_model.specs.Limits.{last_tick, most_jobs, most_lines};
 ghost use Rattle.dover_model.specs.Feed.{rules_with};
-ghost use Rattle.dover_server.specs.Service.{Stands};
-ghost use Rattle.line_text.specs.Writing.{with_field, most_written};
 ghost use Rattle.snapshot.specs.Snapshot as model;
 
-use dover_model::{Ratio, Role, Version};
-use dover_server::Server;
-use line_text::LineBuf;
+use dover_model::{Ratio, Role, Task, Version};
+use line_text::BackLine;
 
-/// Writes the first line, without its line feed, for a feed of so many lines (at most 4,000,000), at this mark (a tick)
-/// and with the jobs that are admitted. The buffer is empty before, and has at most 128 bytes after.
-pub fn head(lines: u64, mark: u64, version: Version, k: Ratio, server: &Server, to: &mut LineBuf)
+/// Writes the first line with its line feed, for a feed of so many lines, at this mark and with so many jobs.
+pub(crate) fn head(version: Version, k: Ratio, lines: u64, mark: u64, jobs: u64, to: &mut BackLine)
     requires lines { lines ≤ most_lines }
     requires mark { mark ≤ last_tick }
-    requires empty { to.old ≡ [] }
-    ensures text { to.new ≡ model.head_line (record {
-      rules = rules_with k version;
-      lines = lines;
-      mark = mark;
-      jobs = length server.now.state.tasks;
-    }) }
-    ensures fits { length to.new < 129 }
+    requires jobs { jobs ≤ most_jobs }
+    ensures { to.new ≡ model.head_line (record { rules = rules_with k version; lines = lines; mark = mark; jobs = jobs })
+        ++ 10 ∷ [] }
 {
     let number = match version {
         Version::One => 1,
         Version::Two => 2,
     };
+    to.clear();
     to.put_with_numbers(
         b"snapshot",
-        &[
-            number,
-            u64::from(k.p()),
-            u64::from(k.q()),
-            lines,
-            mark,
-            u64::from(server.admitted()),
-        ],
+        &[number, u64::from(k.p()), u64::from(k.q()), lines, mark, jobs],
     );
 }
 
@@ -57,38 +41,36 @@ fn role_word(role: Role) -> &'static [u8]
     }
 }
 
-/// Writes one more number behind a line that has begun.
-fn put_short(to: &mut LineBuf, number: u64)
-    requires short { number < 10 ^ 18 }
-    requires fits { length to.old + 19 ≤ most_written }
-    ensures text { to.new ≡ with_field to.old (decimal number) }
-    ensures size { length to.new ≤ length to.old + 19 }
+/// Writes the first fields of the line of the job of this number, in front of the others.
+fn first_fields(number: u32, to: &mut BackLine)
+    requires { length to.old ≤ 105 }
+    ensures { to.new ≡ with_numbers (codes "state") (number ∷ []) ++ to.old }
 {
-    to.put_number(number);
+    to.put_with_numbers(b"state", &[u64::from(number)]);
 }
 
-/// Writes the line of the job of this number, which is below the count of admitted jobs, without its line feed. The
-/// buffer is empty before, and has at most 128 bytes after.
-pub fn state(server: &Server, number: u32, to: &mut LineBuf)
-    requires stands { Stands server.now }
-    requires there { number < length server.now.state.tasks }
-    requires empty { to.old ≡ [] }
-    ensures text { option_map model.state_line (slice_get server.now.state.tasks number) ≡ Some to.new }
-    ensures fits { length to.new < 129 }
+/// Writes the line of a job with its line feed.
+pub(crate) fn state(task: &Task, to: &mut BackLine)
+    requires { task.now.had ≤ task.now.job.work }
+    ensures { to.new ≡ model.state_line task.now ++ 10 ∷ [] }
 {
-    let (Some(role), Some(had), Some(job)) = (
-        server.role(number),
-        server.had(number),
-        server.job(number),
-    ) else {
-        unreachable!();
-    };
-    to.put_word(b"state");
-    put_short(to, u64::from(number));
-    to.put_word(role_word(role));
-    put_short(to, had);
-    put_short(to, job.release());
-    put_short(to, job.work());
-    put_short(to, job.deadline());
-    put_short(to, job.value());
+    to.clear();
+    to.put_numbers(&[
+        task.had,
+        task.job.release(),
+        task.job.work(),
+        task.job.deadline(),
+        task.job.value(),
+    ]);
+    to.put_word(role_word(task.role));
+    to.put_word(b" ");
+    first_fields(task.number, to);
+}
+
+/// Writes the last line with its line feed.
+pub(crate) fn last(to: &mut BackLine)
+    ensures { to.new ≡ codes "resume" ++ 10 ∷ [] }
+{
+    to.clear();
+    to.put_word(b"resume");
 }

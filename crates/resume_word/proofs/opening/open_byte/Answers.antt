@@ -34,10 +34,10 @@ returns-in-More-clause-jobs g c = λ x stands.
 
 pub returns-in-Line-clause-jobs : goal.returns-in-Line-clause-jobs
 returns-in-Line-clause-jobs g c = λ x stands. let cut = c.in-Line.ensures.cut x stands.cut stands.short in
-    line_jobs _ x (x ++ c.args.byte ∷ []) c.push.new.self.line cut.2
+    line_jobs c.line-in-Line.new.self x (x ++ c.args.byte ∷ []) c.push.new.self.line cut.2
     (rw c.line.ensures at (c.line-in-Line.ensures.jobs _ stands.reads))
 
 pub returns-in-TooLong-clause-jobs : goal.returns-in-TooLong-clause-jobs
 returns-in-TooLong-clause-jobs g c = λ x stands. let cut = c.in-TooLong.ensures.cut x stands.cut stands.short in
-    line_jobs _ x (x ++ c.args.byte ∷ []) c.push.new.self.line cut.2
+    line_jobs c.line-in-TooLong-2.new.self x (x ++ c.args.byte ∷ []) c.push.new.self.line cut.2
     (rw c.line-in-TooLong.ensures at (c.line-in-TooLong-2.ensures.jobs _ stands.reads))

@@ -1,4 +1,4 @@
-use Rattle.std.proofs.Common.{◌∙◌, arith}
+use Rattle.std.proofs.Common.{◌∙◌, arith, refl, get_or, []}
 use Rattle.std.proofs.lemmas.List.{take_all}
 use Rattle.serve_word.proofs.Snapped.{passes_line, cuts_line}
 use Rattle.serve_word.proofs.pause.put_lines.Goals as goal
@@ -6,8 +6,10 @@ use Rattle.serve_word.proofs.pause.put_lines.Goals as goal
 pub loop-number-preserved : goal.loop-number-preserved
 loop-number-preserved g c = record {
   passes = passes_line c.args.paused.now c.loop-number.number
-      (omega (arith, c.loop-number-test.true, c.count-number-end.ensures)) _ c.line.ensures.text
-      _ _ _ _ _ _ c.loop-number.invariant.passes c.in-Ok.ensures.text.all;
+      (omega (arith, c.loop-number-test.true, c.count-number-end.ensures))
+      (get_or c.args.paused.now c.loop-number.number []) refl
+      _ _ _ _ _ _ c.loop-number.invariant.passes
+      (rw (c.bytes.ensures.is, c.line.ensures) at c.in-Ok.ensures.text.all);
   writes = c.in-Ok.ensures.cause.ok ∙ c.loop-number.invariant.writes;
   reads = c.in-Ok.ensures.cause.other ∙ c.loop-number.invariant.reads;
   calls = λ well. c.in-Ok.ensures.stops.well (c.loop-number.invariant.calls well);
@@ -17,8 +19,10 @@ pub returns-in-Err-clause-text : goal.returns-in-Err-clause-text
 returns-in-Err-clause-text g c = record {
   all = tt;
   part = cuts_line c.args.paused.now c.loop-number.number
-      (omega (arith, c.loop-number-test.true, c.count-number-end.ensures)) _ c.line.ensures.text
-      _ _ _ _ _ c.put_line.new.out c.loop-number.invariant.passes c.in-Err.ensures.text.part;
+      (omega (arith, c.loop-number-test.true, c.count-number-end.ensures))
+      (get_or c.args.paused.now c.loop-number.number []) refl
+      _ _ _ _ _ c.put.new.self c.loop-number.invariant.passes
+      (rw (c.bytes.ensures.is, c.line.ensures) at c.in-Err.ensures.text.part);
 }
 
 pub returns-clause-text : goal.returns-clause-text

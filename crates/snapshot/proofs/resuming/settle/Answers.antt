@@ -1,40 +1,33 @@
-use Rattle.std.proofs.Common.{refl, ◌∙◌, subst, sym}
-use Rattle.dover_model.specs.WholeRun.{IsBarrier}
 use Rattle.dover_model.specs.declared.horizon.Horizon.TheVariants.{Mark}
-use Rattle.dover_server.proofs.Passing.{again}
-use Rattle.dover_server.proofs.Spending.{spent_next}
-use Rattle.snapshot.proofs.Serving.{taken_next, taken_ends, taken_keeps}
+use Rattle.snapshot.proofs.Settling.{one_further, too_many}
 use Rattle.snapshot.proofs.resuming.settle.Goals as goal
 
-pub loop-init : goal.loop-init
-loop-init g c = record {
-  taken = c.requires.taken;
-  follows = c.requires.follows;
-  list = refl;
-  count = λ start spent. spent;
+pub step-requires : goal.step-requires
+step-requires g c =
+    let r = c.requires.serves in
+    let it = c.loop-step.invariant.on r.0 r.1 r.2 r.3 r.4 in
+    (r.0, Mark it.from, it.events, it.served, it.follows)
+
+pub returns-in-None-clause-rests : goal.returns-in-None-clause-rests
+returns-in-None-clause-rests g c = λ J m events it may.
+    let on = c.loop-step.invariant.on J m events it may in
+    (c.in-None.ensures.gives J (Mark on.from) on.events on.served on.follows).1
+
+pub returns-in-None-clause-paid : goal.returns-in-None-clause-paid
+returns-in-None-clause-paid g c = λ start paid. c.in-None.ensures.paid start (c.loop-step.invariant.paid start paid)
+
+pub loop-step-preserved : goal.loop-step-preserved
+loop-step-preserved g c = record {
+  on = λ J m events it may.
+      let on = c.loop-step.invariant.on J m events it may in
+      one_further c.loop-step.server c.step.new.self J c.args.mark c.loop-step._step on c.in-Some.field-0
+      (c.in-Some.ensures.gives J (Mark on.from) on.events on.served on.follows);
+  room = λ room. c.in-Some.ensures.room (c.loop-step.invariant.room room);
+  paid = λ start paid. c.in-Some.ensures.paid start (c.loop-step.invariant.paid start paid);
 }
 
-pub loop-preserved : goal.loop-preserved
-loop-preserved g c = record {
-  taken = taken_next _ c.loop.server c.step.new.self c.loop.invariant.taken
-      c.in-Some.ensures.list _ c.in-Some.ensures.some c.in-Some.ensures.ended;
-  follows = again _ _ _ c.requires.follows c.in-Some.ensures.last;
-  list = c.in-Some.ensures.list ∙ c.loop.invariant.list;
-  count = λ start spent. spent_next (Mark c.args.mark) c.loop.server c.step.new.self start _ _
-      c.loop.invariant.taken.valid (taken_keeps _ _ c.loop.invariant.taken).sound c.in-Some.ensures.list
-      c.in-Some.ensures.count (c.loop.invariant.count start spent);
-}
-
-pub returns-clause-taken : goal.returns-clause-taken
-returns-clause-taken g c = taken_ends _ c.loop.server c.step.new.self c.loop.invariant.taken c.in_default.ensures.list
-    (c.in_default.ensures.none refl) c.in_default.ensures.ended
-
-pub returns-clause-barrier : goal.returns-clause-barrier
-returns-clause-barrier g c =
-    subst (λ rules. IsBarrier rules c.args.mark c.step.new.self.state) (sym c.in_default.ensures.rules)
-    (c.in_default.ensures.none refl).barrier
-
-pub returns-clause-count : goal.returns-clause-count
-returns-clause-count g c = λ start spent. spent_next (Mark c.args.mark) c.loop.server c.step.new.self start _ _
-    c.loop.invariant.taken.valid (taken_keeps _ _ c.loop.invariant.taken).sound c.in_default.ensures.list
-    c.in_default.ensures.count (c.loop.invariant.count start spent)
+pub unreachable-requires : goal.unreachable-requires
+unreachable-requires g c =
+    let r = c.requires.serves in
+    too_many c.loop-step.server r.0 c.args.mark c.loop-step._step (c.loop-step.invariant.on r.0 r.1 r.2 r.3 r.4)
+    c.loop-step-test.false

@@ -1,7 +1,7 @@
 use Rattle.std.proofs.Common.{sym, ◌∙◌, subst, refl, ap, ◌+◌}
 use Rattle.dialogue.specs.Turns.{AnswersBy}
 use Rattle.dover_port.specs.declared.status.Status.TheVariants as status
-use Rattle.dover_server.specs.Serving.{Serves, HasRoom, HasPaid}
+use Rattle.snapshot.specs.Serving.{Serves, HasRoom, HasPaid}
 use Rattle.serve_word.specs.Keeping as serve
 use Rattle.serve_word.specs.Keeping.{serve_talk}
 use Rattle.snapshot.specs.Reading.{Refused}

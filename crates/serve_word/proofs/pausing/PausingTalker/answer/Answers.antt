@@ -29,7 +29,7 @@ returns-in-Ok-clause-answers g c = λ a x at over.
 
 pub returns-in-Ok-clause-spent : goal.returns-in-Ok-clause-spent
 returns-in-Ok-clause-spent g c = λ a x at.
-    c.pause.ensures.paid (a.feed ++ x) a.start at.rests
+    c.pause.ensures.paid (a.feed ++ x) a.start _ at.rests
     ((c.is_paused.ensures (a.feed ++ x) at.rests).0 c.if-not-is_paused.false) at.paid
 
 pub returns-clause-answers : goal.returns-clause-answers
@@ -43,5 +43,5 @@ returns-clause-answers g c = λ a x at over.
 
 pub returns-clause-spent : goal.returns-clause-spent
 returns-clause-spent g c = λ a x at.
-    c.pause.ensures.paid (a.feed ++ x) a.start at.rests
+    c.pause.ensures.paid (a.feed ++ x) a.start _ at.rests
     ((c.is_paused.ensures (a.feed ++ x) at.rests).0 c.if-not-is_paused.false) at.paid

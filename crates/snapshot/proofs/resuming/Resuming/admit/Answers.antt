@@ -1,38 +1,64 @@
-use Rattle.std.proofs.Common.{◌≡◌, [], ◌∷◌, ◌++◌, sym, ap, ◌∙◌, subst}
-use Rattle.dover_model.specs.JobFacts.{JobFacts}
-use Rattle.dover_model.specs.Instance.{IsValid, with_jobs}
+use Rattle.std.proofs.Common.{arith, sym, subst, ◌∙◌}
 use Rattle.dover_model.specs.declared.horizon.Horizon.TheVariants.{Mark}
-use Rattle.dover_server.specs.Service.{Service, with_job}
-use Rattle.dover_model.specs.Spending.{HasSpent}
-use Rattle.dover_server.proofs.Spending.{spent_job}
 use Rattle.snapshot.specs.Reading.{stored}
-use Rattle.snapshot.specs.Taken.{HasTaken}
-use Rattle.snapshot.specs.Kept.{IsServed}
-use Rattle.snapshot.proofs.Serving.{taken_later, served_job}
+use Rattle.snapshot.specs.Serving.{Rests}
+use Rattle.snapshot.proofs.Settling.{may_more, served_with, release_known, on_err}
+use Rattle.snapshot.proofs.Spending.{jobs_served}
 use Rattle.snapshot.proofs.resuming.Resuming.admit.Goals as goal
 
-pub settle-requires-clause-taken : goal.settle-requires-clause-taken
-settle-requires-clause-taken g c = subst (HasTaken c.args.self.now.server) (sym c.release-self.ensures.is)
-    (taken_later c.args.self.now.server c.args.self.now.last c.args.job.release c.requires.3.ordered c.requires.2.taken)
+pub make_room-requires : goal.make_room-requires
+make_room-requires g c =
+    let r = c.requires in
+    (stored r.0 r.1, Mark c.args.self.now.last, r.2.events, r.2.served, may_more r.0 r.1 c.args.self.now.last c.args.job r.3)
+
+pub returns-in_err-make_room-clause-err : goal.returns-in_err-make_room-clause-err
+returns-in_err-make_room-clause-err g c = λ h tasks it. on_err c.from_residual.result _
+    (jobs_served c.make_room.new.self h tasks c.args.self.now.last (record {
+      events = it.events;
+      served = c.make_room.ensures.serves (stored h tasks) (Mark c.args.self.now.last) it.events it.served;
+    }))
+
+pub returns-in_err-make_room-clause-count : goal.returns-in_err-make_room-clause-count
+returns-in_err-make_room-clause-count g c = λ start paid. c.make_room.ensures.paid start _ paid
+
+pub settle-requires : goal.settle-requires
+settle-requires g c =
+    let r = c.requires in record {
+      serves = (
+        stored r.0 r.1,
+        c.args.self.now.last,
+        r.2.events,
+        c.make_room.ensures.serves (stored r.0 r.1) (Mark c.args.self.now.last) r.2.events r.2.served,
+        (
+          omega (arith, r.3.ordered, c.release-self.ensures.is),
+          omega (arith, release_known r.0 r.1 c.args.self.now.last c.args.job r.3, c.release-self.ensures.is),
+        ),
+      );
+    }
+
+pub admit-release-requires-clause-valid : goal.admit-release-requires-clause-valid
+admit-release-requires-clause-valid g c =
+    let r = c.requires in (
+      stored r.0 r.1,
+      subst (λ m. Rests c.settle.new.server (stored r.0 r.1) (Mark m)) c.release-self.ensures.is
+          (c.settle.ensures.rests (stored r.0 r.1) c.args.self.now.last r.2.events
+          (c.make_room.ensures.serves (stored r.0 r.1) (Mark c.args.self.now.last) r.2.events r.2.served)
+          (omega (arith, r.3.ordered, c.release-self.ensures.is),
+          omega (arith, release_known r.0 r.1 c.args.self.now.last c.args.job r.3, c.release-self.ensures.is))),
+      r.3.valid,
+    )
 
 pub returns-clause-served : goal.returns-clause-served
-returns-clause-served g c = λ h tasks t served may same.
-    let release : c.release-self.result ≡ t.job.release = c.release-self.ensures.is
-    ∙ sym (ap (λ (j : JobFacts). j.release) same) in
-    subst (λ (j : JobFacts). IsServed c.admit.new.self h (tasks ++ t ∷ []) j.release) same
-    (served_job c.args.self.now.server c.settle.new.server c.admit.new.self h tasks t c.admit.new.self.spare served.list
-    (subst (HasTaken c.settle.new.server) release c.settle.ensures.taken) c.settle.ensures.list
-    (c.settle.ensures.last ∙ ap Mark release)
-    (subst (λ (j : JobFacts). IsValid (with_jobs (stored h tasks) (j ∷ []))) (sym same) may.valid)
-    (c.in_ok-admit.ensures.ok
-    ∙ ap (λ (j : JobFacts). with_job c.settle.new.server j c.admit.new.self.spare) (sym same)))
+returns-clause-served g c = λ h tasks t it may same. served_with c.admit-release.new.self h tasks t c.args.job
+    c.admit-release.result same
+    (c.admit-release.ensures.gives (stored h tasks)
+    (subst (λ m. Rests c.settle.new.server (stored h tasks) (Mark m)) c.release-self.ensures.is
+    (c.settle.ensures.rests (stored h tasks) c.args.self.now.last it.events
+    (c.make_room.ensures.serves (stored h tasks) (Mark c.args.self.now.last) it.events it.served)
+    (omega (arith, may.ordered, c.release-self.ensures.is),
+    omega (arith, release_known h tasks c.args.self.now.last c.args.job may, c.release-self.ensures.is))))
+    may.valid)
 
 pub returns-clause-count : goal.returns-clause-count
-returns-clause-count g c = λ start spent.
-    spent_job c.settle.new.server c.admit.new.self _ _ c.in_ok-admit.ensures.ok start _
-    (c.settle.ensures.count start spent)
-
-pub returns-in_err-admit-clause-count : goal.returns-in_err-admit-clause-count
-returns-in_err-admit-clause-count g c = λ start spent.
-    subst (λ (v : Service). HasSpent v.state start c.settle.new.steps) (sym c.in_err-admit.ensures.same)
-    (c.settle.ensures.count start spent)
+returns-clause-count g c = λ start paid. c.admit-release.ensures.paid start
+    (c.settle.ensures.paid start (c.make_room.ensures.paid start _ paid))

@@ -3,7 +3,6 @@ use Rattle.std.specs.Option.{option_map}
 use Rattle.snapshot.specs.Forms.{head_in}
 use Rattle.snapshot.specs.Stored.{HasRead}
 use Rattle.snapshot.proofs.Storing.{head_stands}
-use Rattle.snapshot.proofs.Serving.{served_none}
 use Rattle.snapshot.proofs.resuming.Resuming.begin.Goals as goal
 
 pub returns : goal.returns
@@ -20,7 +19,7 @@ returns c =
         released = refl;
         stances = c.new-2.ensures.items;
         fed = c.begin.ensures;
-        served = served_none (head_in c.in-Some.head) c.in-Ok.server c.in-Ok.server.spare read.valid c.in-Ok.ensures;
+        served = record { events = []; served = c.in-Ok.ensures.serves };
       },
     )
 

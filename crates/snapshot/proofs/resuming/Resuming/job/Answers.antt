@@ -7,7 +7,7 @@ use Rattle.snapshot.specs.declared.resuming.Resuming.{Resuming}
 use Rattle.snapshot.specs.Kept.{IsFed, IsServed}
 use Rattle.snapshot.proofs.Stepping.{served_count, jobs_count, room, none_refused, job_short, beyond_refused, may_admit}
 use Rattle.snapshot.proofs.Stepping.{served_at, read_more, holds_more}
-use Rattle.snapshot.proofs.Spending.{jobs_now}
+use Rattle.snapshot.proofs.Spending.{jobs_now, jobs_left, jobs_stay}
 use Rattle.snapshot.proofs.resuming.Resuming.job.Goals as goal
 
 pub hand_job-requires-clause-numerals : goal.hand_job-requires-clause-numerals
@@ -45,7 +45,7 @@ returns-in_default-clause-answers g c = λ ls it. none_refused it.0 it.1 ls it.2
       served_count it.0 it.1 ls it.2 c.args.self.now it.3,
       jobs_count it.0 it.1 ls it.2 c.args.self.now it.3,
     ))
-    c.from-number.result (c.from-number.ensures ∙ c.admitted.ensures)
+    c.count-number.result c.count-number.ensures
     (sym c.read_state.ensures ∙ ap (option_map task_in) c.in_default.is)
 
 pub returns-in_default-hand_job-clause-answers : goal.returns-in_default-hand_job-clause-answers
@@ -58,8 +58,7 @@ returns-in_default-hand_job-clause-answers g c = λ ls it.
       jobs_count it.0 it.1 ls it.2 c.args.self.now it.3,
     ) in
     beyond_refused it.0 it.1 ls it.2 c.args.self.now it.3 c.args.line.now more (task_in c.in-Some.state)
-    (sym c.read_state.ensures ∙ ap (option_map task_in) c.in-Some.is) c.from-number.result
-    (c.from-number.ensures ∙ c.admitted.ensures)
+    (sym c.read_state.ensures ∙ ap (option_map task_in) c.in-Some.is) c.count-number.result c.count-number.ensures
     (λ number valid low. c.in_default-hand_job.ensures.none it.0 it.1 it.3.fed
     (room it.0 it.1 ls it.2 c.args.self.now it.3 more) refl valid)
 
@@ -103,7 +102,7 @@ returns-in-Ok-admit-clause-answers g c = λ ls it.
       h,
       tasks ++ task_in c.in-Some.state ∷ [],
       read_more h tasks ls it.2 c.args.self.now it.3 c.args.line.now more (task_in c.in-Some.state) spelled some.1
-          (c.if-state-number.false ∙ c.from-number.ensures ∙ c.admitted.ensures
+          (c.if-state-number.false ∙ c.count-number.ensures
           ∙ served_count h tasks ls it.2 c.args.self.now it.3)
           (omega (arith, c.if-state-self.false, ap (λ (x : Head). x.mark) it.3.head)),
       holds_more h tasks ls it.2 c.args.self.now it.3 c.args.line.now more
@@ -132,7 +131,7 @@ returns-in-Err-clause-answers g c = λ ls it.
     let spelled = sym c.read_state.ensures ∙ ap (option_map task_in) c.in-Some.is in
     let read = read_more h tasks ls it.2 c.args.self.now it.3 c.args.line.now more
     (task_in c.in-Some.state) spelled some.1
-    (c.if-state-number.false ∙ c.from-number.ensures ∙ c.admitted.ensures
+    (c.if-state-number.false ∙ c.count-number.ensures
     ∙ served_count h tasks ls it.2 c.args.self.now it.3)
     (omega (arith, c.if-state-self.false, ap (λ (x : Head). x.mark) it.3.head)) in
     (h, tasks ++ task_in c.in-Some.state ∷ [], read.reads)
@@ -151,7 +150,7 @@ returns-in-Err-admit-clause-answers g c = λ ls it.
     let spelled = sym c.read_state.ensures ∙ ap (option_map task_in) c.in-Some.is in
     let read = read_more h tasks ls it.2 c.args.self.now it.3 c.args.line.now more
     (task_in c.in-Some.state) spelled some.1
-    (c.if-state-number.false ∙ c.from-number.ensures ∙ c.admitted.ensures
+    (c.if-state-number.false ∙ c.count-number.ensures
     ∙ served_count h tasks ls it.2 c.args.self.now it.3)
     (omega (arith, c.if-state-self.false, ap (λ (x : Head). x.mark) it.3.head)) in
     (h, tasks ++ task_in c.in-Some.state ∷ [], read.reads)
@@ -159,3 +158,37 @@ returns-in-Err-admit-clause-answers g c = λ ls it.
 pub returns-in-Ok-admit-clause-jobs : goal.returns-in-Ok-admit-clause-jobs
 returns-in-Ok-admit-clause-jobs g c = λ ls it.
     jobs_now c.admit.new.self (ls ++ c.args.line.now ∷ []) (returns-in-Ok-admit-clause-answers g c ls it)
+
+pub returns-in-Err-admit-clause-jobs : goal.returns-in-Err-admit-clause-jobs
+returns-in-Err-admit-clause-jobs g c = λ ls it. jobs_left c.args.self.now ls it c.args.line.now
+    c.admit.new.self.server.server.ready.jobs c.in-Err-admit.ensures.err
+
+pub returns-then-state-self-clause-answers : goal.returns-then-state-self-clause-answers
+returns-then-state-self-clause-answers g c = λ ls it.
+    let more : length it.1 < it.0.jobs =
+    omega (
+      arith,
+      c.requires.more,
+      served_count it.0 it.1 ls it.2 c.args.self.now it.3,
+      jobs_count it.0 it.1 ls it.2 c.args.self.now it.3,
+    ) in
+    beyond_refused it.0 it.1 ls it.2 c.args.self.now it.3 c.args.line.now more (task_in c.in-Some.state)
+    (sym c.read_state.ensures ∙ ap (option_map task_in) c.in-Some.is) c.count-number.result c.count-number.ensures
+    (λ number valid low. absurd (omega (
+      arith,
+      low,
+      c.if-state-self.true,
+      ap (λ (x : Head). x.mark) it.3.head,
+    )))
+
+pub returns-then-state-self-clause-jobs : goal.returns-then-state-self-clause-jobs
+returns-then-state-self-clause-jobs g c = λ ls it. jobs_stay c.args.self.now ls it c.args.line.now
+    c.args.self.now.server.server.ready.jobs (omega arith)
+
+pub returns-in_default-hand_job-clause-jobs : goal.returns-in_default-hand_job-clause-jobs
+returns-in_default-hand_job-clause-jobs g c = λ ls it. jobs_stay c.args.self.now ls it c.args.line.now
+    c.args.self.now.server.server.ready.jobs (omega arith)
+
+pub returns-in-Err-clause-jobs : goal.returns-in-Err-clause-jobs
+returns-in-Err-clause-jobs g c = λ ls it. jobs_stay c.args.self.now ls it c.args.line.now
+    c.args.self.now.server.server.ready.jobs (omega arith)

@@ -1,6 +1,0 @@
-pub mod Service
-pub mod Leading
-pub mod Ways
-pub mod Kept
-pub mod Counting
-pub mod Serving

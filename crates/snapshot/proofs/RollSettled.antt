@@ -1,0 +1,247 @@
+-- A roll at a mark has all jobs as they stand, and what a server has printed can be read into it.
+use Rattle.std.proofs.Common.{◌≡◌, inl, inr, ℕ, zero, suc, ◌+◌, ◌-◌, ◌≤◌, ◌<◌, ◌^◌, List, [], ◌∷◌, ◌++◌, length}
+use Rattle.std.proofs.Common.{length-append, map, set, refl, sym, ap, ◌∙◌, subst, Option, Some, None, Bool, true, false}
+use Rattle.std.proofs.Common.{arith}
+use Rattle.std.proofs.lemmas.Bool.{ltb-true, ltb-false}
+use Rattle.std.specs.Prelude.{nat_lt}
+use Rattle.std.specs.List.{slice_get, fold, AllByRecursion}
+use Rattle.std.proofs.lemmas.List.Sums.{fold-append}
+use Rattle.std.proofs.lemmas.Option.{slice_get_within}
+use Rattle.dover_model.specs.declared.events.Event.{Event}
+use Rattle.dover_model.specs.declared.events.Event.TheVariants.{Release, Run, Preempt, Take, Complete, Abandon, End}
+use Rattle.dover_model.specs.declared.events.Role.{Role}
+use Rattle.dover_model.specs.declared.events.Role.TheVariants.{Coming, Fresh, Waiting, Held, Running, Done, Gone}
+use Rattle.dover_model.specs.declared.events.Task.{Task}
+use Rattle.dover_model.specs.JobFacts.{JobFacts}
+use Rattle.dover_model.specs.Instance.{Rules, Instance, IsValid}
+use Rattle.dover_model.specs.Paths.{IsOpenPath, HasPrinted}
+use Rattle.dover_model.specs.Run.{Step, printed_of}
+use Rattle.dover_model.specs.Settled.{settled, settled_state, settled_steps}
+use Rattle.dover_model.specs.WholeRun.{IsSettledRun, Begins}
+use Rattle.dover_model.specs.Sound.{IsMember, Each, IsNumberedFrom, Keeps}
+use Rattle.dover_model.specs.State.{State, opening, is_coming}
+use Rattle.dover_model.specs.Step.{open_step, after, with_role}
+use Rattle.dover_model.proofs.Barriers.{AtBarrier, settled_at_barrier, state_after}
+use Rattle.dover_model.proofs.Honest.{count_jobs}
+use Rattle.dover_model.proofs.Members.{some_same}
+use Rattle.dover_model.proofs.Roles.{passes, numbers_above}
+use Rattle.dover_model.proofs.Settling.{settled_is_run}
+use Rattle.dover_model.proofs.Tests.{never}
+use Rattle.dover_model.specs.declared.horizon.Horizon.{Horizon}
+use Rattle.dover_model.specs.declared.horizon.Horizon.TheVariants.{Mark, End}
+use Rattle.dover_model.specs.Horizons.{MayFollow, due_by}
+use Rattle.dover_model.proofs.Horizons.{due_few}
+use Rattle.ready_server.specs.Serving as ready
+use Rattle.ready_server.specs.declared.server.ReadyServer.{ReadyServer}
+use Rattle.ready_server.proofs.Stepping.{serves_begins}
+use Rattle.snapshot.specs.Roster.{Roll, Listed, stopped, released, job_at, with_event, empty_roll, roll_of, with_stop}
+use Rattle.snapshot.specs.Roster.{halted}
+use Rattle.snapshot.specs.Serving.{HasRead}
+use Rattle.snapshot.proofs.Present.{none_to_come}
+use Rattle.snapshot.proofs.Rolls.{calm, calm_role, length_set, Lists, Follows}
+use Rattle.snapshot.proofs.RollRuns.{numbered_task, roll_follows}
+
+-- ---- all jobs at a mark
+
+-- a list that has each task under its number has all of them
+all_listed : (f : Listed → Task) (n : ℕ) (tasks : List Task) (jobs : List Listed) → IsNumberedFrom n tasks
+    → ((t : Task) → IsMember t tasks → (e : Listed) × (slice_get jobs (t.number - n) ≡ Some e) × (f e ≡ t))
+    → length jobs ≤ length tasks → map f jobs ≡ tasks
+all_listed f n [] [] numbered there few = refl
+all_listed f n [] (e ∷ jobs) numbered there few = absurd (omega (arith, few))
+all_listed f n (t ∷ tasks) [] numbered there few =
+    let it = there t (inl refl) in absurd (let no : None ≡ Some it.0 = it.1 in cc)
+all_listed f n (t ∷ tasks) (e ∷ jobs) numbered there few =
+    let it = there t (inl refl) in
+    let first : t.number - n ≡ 0 = omega (arith, numbered.0) in
+    let same : e ≡ it.0 = some_same e it.0 (sym (ap (slice_get (e ∷ jobs)) first) ∙ it.1) in
+    ap (λ u. u ∷ map f jobs) (ap f same ∙ it.2)
+    ∙ ap (λ ts. t ∷ ts) (all_listed f (suc n) tasks jobs numbered.1 (λ u m. later u m (there u (inr m)))
+    (omega (arith, few))) where
+      later : (u : Task) → IsMember u tasks → (x : Listed) × (slice_get (e ∷ jobs) (u.number - n) ≡ Some x) × (f x ≡ u)
+          → (x : Listed) × (slice_get jobs (u.number - suc n) ≡ Some x) × (f x ≡ u)
+      later u m (x, at, is) =
+          let low : suc n ≤ u.number = numbers_above (suc n) tasks numbered.1 u m in
+          let next : u.number - n ≡ suc (u.number - suc n) = omega (arith, low) in
+          (x, sym (ap (slice_get (e ∷ jobs)) next) ∙ at, is)
+
+-- a settled run is a path
+settled_path : (rules : Rules) (mark : ℕ) (xs : List Step) (s : State) → IsSettledRun rules mark s xs
+    → IsOpenPath rules mark s xs (state_after s xs)
+settled_path rules mark [] s run = refl
+settled_path rules mark (x ∷ xs) s run = (
+  run.0,
+  run.1,
+  subst (λ z. IsOpenPath rules mark (after s (open_step rules s)) xs (state_after z xs))
+      (sym (ap (λ (y : Step). after y.before y.move) run.0))
+      (settled_path rules mark xs (after s (open_step rules s)) run.2),
+)
+
+-- a job that isn't fresh is in the roll as it is
+calm_is : (t : Task) → (t.role ≡ Fresh → ⊥) → calm t ≡ t
+calm_is t stale = ap (with_role t) (by t.role refl) where
+  by : (role : Role) → t.role ≡ role → calm_role role ≡ role
+  by Coming e = refl
+  by Fresh e = absurd (stale e)
+  by Waiting e = refl
+  by Held e = refl
+  by Running e = refl
+  by Done e = refl
+  by Gone e = refl
+
+module _ (J : Instance) (valid : IsValid J) (mark : ℕ) (known : AllByRecursion (λ j. j.release ≤ mark) J.jobs) where
+  abbrev s : State
+  s = settled_state J mark
+
+  bar : AtBarrier J mark s
+  bar = settled_at_barrier J valid mark
+
+  printed_there : HasPrinted J mark s (settled J mark)
+  printed_there = record {
+    steps = settled_steps J mark;
+    path = settled_path J.rules mark (settled_steps J mark) (opening J.jobs) (settled_is_run J mark valid);
+    prints = refl;
+  }
+
+  follows : Follows s (roll_of (settled J mark))
+  follows = roll_follows J valid mark s (settled J mark) printed_there
+
+  -- the roll of the settled steps has the jobs in the state that they lead to
+  pub settled_jobs : map (job_at (roll_of (settled J mark)) mark) (roll_of (settled J mark)).jobs ≡ s.tasks
+  settled_jobs = all_listed (job_at (roll_of (settled J mark)) mark) 0 s.tasks (roll_of (settled J mark)).jobs
+      bar.keeps.sound.numbered there follows.few where
+        there : (t : Task) → IsMember t s.tasks
+            → (e : Listed) × (slice_get (roll_of (settled J mark)).jobs (t.number - 0) ≡ Some e)
+            × (job_at (roll_of (settled J mark)) mark e ≡ t)
+        there t m =
+            let it = follows.here t m (none_to_come J valid mark known t m) in
+            let off : t.number - 0 ≡ t.number = omega arith in (
+              it.listed,
+              ap (slice_get (roll_of (settled J mark)).jobs) off ∙ it.there,
+              ap (λ c. job_at (roll_of (settled J mark)) c it.listed) (sym bar.clock) ∙ it.is
+                  ∙ calm_is t (bar.none_fresh t m),
+            )
+
+-- ---- a server's events
+
+-- one event more
+pub roll_more : (events : List Event) (e : Event) → roll_of (events ++ e ∷ []) ≡ with_event (roll_of events) e
+roll_more events e = fold-append with_event empty_roll events (e ∷ [])
+
+-- a stop is no take
+stop_takes : (p : Roll) (n ticks : ℕ) (role : Role) → (with_stop p n ticks role).takes ≡ p.takes
+stop_takes p n ticks role = by (slice_get p.jobs n) where
+  by : (o : Option Listed) → (let q : Roll = elim o
+      [ None ↦ p | Some e ↦ record p { jobs = set p.jobs n (stopped ticks role p.takes e) } ] in q.takes) ≡ p.takes
+  by None = refl
+  by (Some x) = refl
+
+halt_takes : (p : Roll) (at : ℕ) (role : Role) → (halted p at role).takes ≡ p.takes
+halt_takes p at role = by p.turn where
+  by : (o : Option ℕ) → (let q : Roll = elim o
+      [ None ↦ p | Some n ↦ record (with_stop p n (at - p.since) role) { turn = None } ] in q.takes) ≡ p.takes
+  by None = refl
+  by (Some n) = stop_takes p n (at - p.since) role
+
+-- each step is at most one
+one_take : (p : Roll) (e : Event) → (with_event p e).takes ≤ suc p.takes
+one_take p (Release n job) = omega arith
+one_take p (Run at n) = omega arith
+one_take p (Preempt at stops starts) = omega (arith, halt_takes p at Held)
+one_take p (Take at stops starts) = omega (arith, halt_takes p at Waiting)
+one_take p (Complete at n) = omega (arith, halt_takes p at Done)
+one_take p (Abandon at n) = omega (arith, stop_takes p n 0 Gone)
+one_take p (End value) = omega arith
+
+takes_from : (events : List Event) (p : Roll) → (fold with_event p events).takes ≤ p.takes + length events
+takes_from [] p = omega arith
+takes_from (e ∷ events) p = omega (arith, takes_from events (with_event p e), one_take p e)
+
+-- a stop leaves as many jobs
+stop_count : (p : Roll) (n ticks : ℕ) (role : Role) → length (with_stop p n ticks role).jobs ≡ length p.jobs
+stop_count p n ticks role = by (slice_get p.jobs n) where
+  by : (o : Option Listed) → (let q : Roll = elim o
+      [ None ↦ p | Some e ↦ record p { jobs = set p.jobs n (stopped ticks role p.takes e) } ] in length q.jobs)
+      ≡ length p.jobs
+  by None = refl
+  by (Some x) = length_set p.jobs n (stopped ticks role p.takes x)
+
+halt_count : (p : Roll) (at : ℕ) (role : Role) → length (halted p at role).jobs ≡ length p.jobs
+halt_count p at role = by p.turn where
+  by : (o : Option ℕ) → (let q : Roll = elim o
+      [ None ↦ p | Some n ↦ record (with_stop p n (at - p.since) role) { turn = None } ] in length q.jobs)
+      ≡ length p.jobs
+  by None = refl
+  by (Some n) = stop_count p n (at - p.since) role
+
+-- so does each step that isn't a release
+pub same_count : (p : Roll) (e : Event) → ((n : ℕ) (job : JobFacts) → e ≡ Release n job → ⊥)
+    → length (with_event p e).jobs ≡ length p.jobs
+same_count p (Release n job) other = absurd (other n job refl)
+same_count p (Run at n) other = refl
+same_count p (Preempt at stops starts) other = halt_count p at Held
+same_count p (Take at stops starts) other = halt_count p at Waiting
+same_count p (Complete at n) other = halt_count p at Done
+same_count p (Abandon at n) other = stop_count p n 0 Gone
+same_count p (End value) other = refl
+
+-- there are few takes
+pub takes_low : (J : Instance) (to : Horizon) (events : List Event) → IsValid J → Begins events (due_by J to)
+    → (roll_of events).takes < 2 ^ 32 - 1
+takes_low J to events valid begins = omega (
+  arith,
+  takes_from events empty_roll,
+  due_few J to valid,
+  ap length begins.1,
+  length-append events begins.0,
+)
+
+-- where all jobs were released, the roll has as many
+all_here : (z : State) (p : Roll) → IsNumberedFrom 0 z.tasks → Follows z p → Each (λ t. is_coming t ≡ false) z.tasks
+    → length z.tasks ≤ length p.jobs
+all_here z p numbered follows came = by_test (nat_lt (length p.jobs) (length z.tasks)) refl where
+  by_test : (b : Bool) → nat_lt (length p.jobs) (length z.tasks) ≡ b → length z.tasks ≤ length p.jobs
+  by_test false e = ltb-false _ _ e
+  by_test true e =
+      let less : length p.jobs < length z.tasks = ltb-true _ _ e in
+      let t = numbered_task 0 (length p.jobs) z.tasks numbered (omega arith) (omega (arith, less)) in
+      let out : t.0.role ≡ Coming → ⊥ = λ is. never (sym (came t.0 t.1) ∙ passes is_coming t.0 Coming true is refl) in
+      let it = follows.here t.0 t.1 out in
+      absurd (omega (arith, slice_get_within p.jobs t.0.number it.listed it.there, t.2))
+
+-- as many jobs as the instance
+tasks_count : (J : Instance) (z : State) → Keeps J z → length z.tasks ≡ length J.jobs
+tasks_count J z keeps = omega (arith, count_jobs z.tasks, ap length keeps.jobs)
+
+-- no release comes by a step
+pub no_release : (v w : ReadyServer) (J : Instance) (m mark : ℕ) (events : List Event) (n : ℕ) (job : JobFacts)
+    → ready.Serves v J (Mark m) events → ready.Serves w J (Mark mark) (events ++ Release n job ∷ []) → ⊥
+no_release v w J m mark events n job served next =
+    let p = roll_of events in
+    let before = roll_follows J served.follows.valid m served.state events served.given.1 in
+    let behind = roll_follows J next.follows.valid mark next.state (events ++ Release n job ∷ []) next.given.1 in
+    let more : length (roll_of (events ++ Release n job ∷ [])).jobs ≡ length p.jobs + 1 =
+    ap (λ (q : Roll). length q.jobs) (roll_more events (Release n job)) ∙ length-append p.jobs (released n job ∷ []) in
+    absurd (omega (
+      arith,
+      all_here served.state p served.follows.keeps.sound.numbered before served.follows.released,
+      behind.few,
+      more,
+      tasks_count J served.state served.follows.keeps,
+      tasks_count J next.state next.follows.keeps,
+    ))
+
+-- ---- towards a horizon
+
+-- what was read towards one was read towards a later one
+pub read_later : (from to : Horizon) (p : Roll) (events : List Event) → MayFollow from to → HasRead from p events
+    → HasRead to p events
+read_later (Mark m) (Mark t) p events may read = read
+read_later (Mark m) End p events may read = tt
+read_later End (Mark t) p events may read = absurd may
+read_later End End p events may read = tt
+
+-- a mark comes behind a mark
+pub from_mark : (from : Horizon) (t : ℕ) → MayFollow from (Mark t) → (m : ℕ) × (from ≡ Mark m)
+from_mark (Mark m) t may = (m, refl)
+from_mark End t may = absurd may

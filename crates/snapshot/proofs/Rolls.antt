@@ -1,0 +1,152 @@
+-- A roll follows the states of a run.
+use Rattle.std.proofs.Common.{◌≡◌, ℕ, zero, suc, ◌+◌, ◌-◌, ◌≤◌, ◌<◌, List, [], ◌∷◌, ◌++◌, length, map, set, refl, sym}
+use Rattle.std.proofs.Common.{ap, ◌∙◌, subst, Bool, true, false, cond, arith, not, ◌&&◌}
+use Rattle.std.proofs.lemmas.Bool.{eq-eqb, ne_eqb, eqb-true}
+use Rattle.std.specs.Prelude.{Option, Some, None, ◌==◌}
+use Rattle.std.specs.List.{slice_get}
+use Rattle.dover_model.specs.declared.events.Role.{Role}
+use Rattle.dover_model.specs.declared.events.Role.TheVariants.{Coming, Fresh, Waiting, Held, Running, Done, Gone}
+use Rattle.dover_model.specs.declared.events.Task.{Task}
+use Rattle.dover_model.specs.Sound.{IsMember, Each, IsSound, NoneRuns}
+use Rattle.dover_model.specs.State.{State, is_held}
+use Rattle.dover_model.specs.Step.{with_role, displaced}
+use Rattle.dover_model.proofs.Members.{on_map, map_member, some_same}
+use Rattle.dover_model.proofs.Roles.{one_number}
+use Rattle.dover_model.proofs.Tests.{never}
+use Rattle.room_ledger.specs.Roles.{with_role_at, all_displaced}
+use Rattle.snapshot.specs.Roster.{Roll, Listed, had_with, stopped, is_turn, is_displaced, job_at, with_stop, halted}
+use Rattle.snapshot.specs.Roster.{started}
+
+-- the role of a job in a roll: what is fresh there waits
+abbrev pub calm_role : Role → Role
+calm_role Coming = Coming
+calm_role Fresh = Waiting
+calm_role Waiting = Waiting
+calm_role Held = Held
+calm_role Running = Running
+calm_role Done = Done
+calm_role Gone = Gone
+
+abbrev pub calm : Task → Task
+calm t = with_role t (calm_role t.role)
+
+-- the roll has this job as it is
+pub record Lists (p : Roll) (clock : ℕ) (t : Task) : Type 0 where
+  pub listed : Listed
+  pub there : slice_get p.jobs t.number ≡ Some listed
+  pub is : job_at p clock listed ≡ calm t
+  pub before : listed.takes ≤ p.takes
+
+-- the roll has the jobs of the state that were released
+pub record Follows (s : State) (p : Roll) : Type 0 where
+  pub since : p.since ≤ s.clock
+  pub turn : (n : ℕ) → p.turn ≡ Some n → (r : Task) × IsMember r s.tasks × (r.role ≡ Running) × (r.number ≡ n)
+  pub runs : Each (λ t. t.role ≡ Running → p.turn ≡ Some t.number) s.tasks
+  pub here : Each (λ t. (t.role ≡ Coming → ⊥) → Lists p s.clock t) s.tasks
+  pub ahead : Each (λ t. t.role ≡ Coming → length p.jobs ≤ t.number) s.tasks
+  pub few : length p.jobs ≤ length s.tasks
+
+-- ---- lists
+
+pub set_here : {X : Type 0} (xs : List X) (n : ℕ) (x y : X) → slice_get xs n ≡ Some y → slice_get (set xs n x) n ≡ Some x
+set_here [] n x y there = absurd (let e : None ≡ Some y = there in cc)
+set_here (z ∷ xs) zero x y there = refl
+set_here (z ∷ xs) (suc n) x y there = set_here xs n x y there
+
+pub set_there : {X : Type 0} (xs : List X) (n m : ℕ) (x : X) → (m ≡ n → ⊥) → slice_get (set xs n x) m ≡ slice_get xs m
+set_there [] n m x other = refl
+set_there (z ∷ xs) zero zero x other = absurd (other refl)
+set_there (z ∷ xs) zero (suc m) x other = refl
+set_there (z ∷ xs) (suc n) zero x other = refl
+set_there (z ∷ xs) (suc n) (suc m) x other = set_there xs n m x (λ e. other (ap suc e))
+
+pub get_front : {X : Type 0} (xs ys : List X) (n : ℕ) (x : X) → slice_get xs n ≡ Some x → slice_get (xs ++ ys) n ≡ Some x
+get_front [] ys n x there = absurd (let e : None ≡ Some x = there in cc)
+get_front (z ∷ xs) ys zero x there = there
+get_front (z ∷ xs) ys (suc n) x there = get_front xs ys n x there
+
+pub get_last : {X : Type 0} (xs : List X) (x : X) → slice_get (xs ++ x ∷ []) (length xs) ≡ Some x
+get_last [] x = refl
+get_last (z ∷ xs) x = get_last xs x
+
+pub length_set : {X : Type 0} (xs : List X) (n : ℕ) (x : X) → length (set xs n x) ≡ length xs
+length_set [] n x = refl
+length_set (z ∷ xs) zero x = refl
+length_set (z ∷ xs) (suc n) x = ap suc (length_set xs n x)
+
+-- these tasks at the same clock
+abbrev pub at_clock : State → List Task → State
+at_clock s tasks = record { clock = s.clock; tasks = tasks }
+
+-- ---- one job
+
+-- a job that isn't the one that runs
+module _ (p : Roll) (clock : ℕ) (t : Task) (it : Lists p clock t) where
+  pub number_is : it.listed.task.number ≡ t.number
+  number_is = ap (λ (u : Task). u.number) it.is
+
+  pub job_is : it.listed.task.job ≡ t.job
+  job_is = ap (λ (u : Task). u.job) it.is
+
+  -- where it runs
+  module _ (turns : p.turn ≡ Some t.number) where
+    pub turn_here : is_turn p.turn it.listed.task.number ≡ true
+    turn_here = ap (λ o. is_turn o it.listed.task.number) turns ∙ eq-eqb t.number it.listed.task.number (sym number_is)
+
+    pub had_ran : had_with (clock - p.since) it.listed.task ≡ t.had
+    had_ran = ap (λ b. cond b (had_with (clock - p.since) it.listed.task) it.listed.task.had) (sym turn_here)
+        ∙ ap (λ (u : Task). u.had) it.is
+
+  -- where another runs, or none
+  module _ (idle : is_turn p.turn t.number ≡ false) where
+    pub idle_here : is_turn p.turn it.listed.task.number ≡ false
+    idle_here = ap (is_turn p.turn) number_is ∙ idle
+
+    pub had_is : it.listed.task.had ≡ t.had
+    had_is = ap (λ b. cond b (had_with (clock - p.since) it.listed.task) it.listed.task.had) (sym idle_here)
+        ∙ ap (λ (u : Task). u.had) it.is
+
+    pub role_is : cond (is_displaced p.takes it.listed) Waiting it.listed.task.role ≡ calm_role t.role
+    role_is = ap (λ b. cond b Running (cond (is_displaced p.takes it.listed) Waiting it.listed.task.role))
+        (sym idle_here) ∙ ap (λ (u : Task). u.role) it.is
+
+    -- another roll, in which it doesn't run either, has it in another role
+    pub lists_other : (q : Roll) (role : Role) (e : Listed) → slice_get q.jobs t.number ≡ Some e
+        → e.task.number ≡ t.number → e.task.job ≡ t.job → e.task.had ≡ t.had → is_turn q.turn t.number ≡ false
+        → cond (is_displaced q.takes e) Waiting e.task.role ≡ calm_role role → e.takes ≤ q.takes
+        → (clock2 : ℕ) → Lists q clock2 (with_role t role)
+    lists_other q role e there number job had idle_too same low clock2 = record {
+      listed = e;
+      there = there;
+      is = ap (λ b. record {
+        number = e.task.number;
+        job = e.task.job;
+        role = cond b Running (cond (is_displaced q.takes e) Waiting e.task.role);
+        had = cond b (had_with (clock2 - q.since) e.task) e.task.had;
+      }) (ap (is_turn q.turn) number ∙ idle_too)
+          ∙ ap (λ n. let u : Task = record { number = n; job = e.task.job; role = cond (is_displaced q.takes e) Waiting e.task.role; had = e.task.had } in u) number
+          ∙ ap (λ j. let u : Task = record { number = t.number; job = j; role = cond (is_displaced q.takes e) Waiting e.task.role; had = e.task.had } in u) job
+          ∙ ap (λ h. let u : Task = record { number = t.number; job = t.job; role = cond (is_displaced q.takes e) Waiting e.task.role; had = h } in u) had
+          ∙ ap (λ r. let u : Task = record { number = t.number; job = t.job; role = r; had = t.had } in u) same;
+      before = low;
+    }
+
+    -- with the same list, takes and role it is as before
+    pub lists_same : (q : Roll) (role : Role) → slice_get q.jobs t.number ≡ slice_get p.jobs t.number
+        → q.takes ≡ p.takes → is_turn q.turn t.number ≡ false → calm_role role ≡ calm_role t.role
+        → (clock2 : ℕ) → Lists q clock2 (with_role t role)
+    lists_same q role same takes idle_too calm_too = lists_other q role it.listed (same ∙ it.there) number_is job_is
+        had_is idle_too
+        (ap (λ n. cond (is_displaced n it.listed) Waiting it.listed.task.role) takes ∙ role_is ∙ sym calm_too)
+        (subst (λ n. it.listed.takes ≤ n) (sym takes) it.before)
+
+-- no more ticks
+pub had_none : (t : Task) (n : ℕ) → t.had ≤ t.job.work → had_with (n - n) t ≡ t.had
+had_none t n most = omega arith
+
+-- a number that isn't that of the job which runs
+pub not_turn : (turn : Option ℕ) (n m : ℕ) → turn ≡ Some m → (n ≡ m → ⊥) → is_turn turn n ≡ false
+not_turn turn n m is other = ap (λ o. is_turn o n) is ∙ ne_eqb m n (λ e. other (sym e))
+
+pub none_turn : (turn : Option ℕ) (n : ℕ) → turn ≡ None → is_turn turn n ≡ false
+none_turn turn n is = ap (λ o. is_turn o n) is

@@ -1,0 +1,98 @@
+-- How a server is taken to a mark, step by step, and a job more is admitted there.
+use Rattle.std.proofs.Common.{◌≡◌, ◌≤◌, ◌<◌, ◌+◌, ℕ, List, [], ◌∷◌, ◌++◌, length, length-append, subst, sym, ap, ◌∙◌}
+use Rattle.std.proofs.Common.{arith}
+use Rattle.std.specs.Prelude.{Option, Some, None, Result, Ok, Err, OnErr}
+use Rattle.dover_model.specs.declared.events.Event.{Event}
+use Rattle.dover_model.specs.declared.events.Task.{Task}
+use Rattle.dover_model.specs.JobFacts.{JobFacts, IsJob}
+use Rattle.dover_model.specs.Instance.{Instance, IsValid, with_jobs}
+use Rattle.dover_model.specs.Limits.{last_tick, most_jobs}
+use Rattle.dover_model.proofs.Members.{all_last}
+use Rattle.dover_model.specs.declared.horizon.Horizon.TheVariants.{Mark}
+use Rattle.dover_model.specs.Horizons.{MayFollow, due_by, Gives}
+use Rattle.dover_model.proofs.Horizons.{due_few}
+use Rattle.ready_server.proofs.Stepping.{serves_begins}
+use Rattle.snapshot.specs.Snapshot.{Head}
+use Rattle.snapshot.specs.Reading.{stored}
+use Rattle.snapshot.specs.Kept.{IsServed, MayAdmit}
+use Rattle.snapshot.specs.Serving.{Serves, Rests}
+use Rattle.snapshot.specs.declared.server.RosterServer.{RosterServer}
+use Rattle.snapshot.proofs.Admitted.{with_this}
+use Rattle.snapshot.proofs.Rostered.{roster_rests}
+
+-- so many steps at least were printed on the way to a mark
+pub record IsOnTheWay (v : RosterServer) (J : Instance) (mark steps : ℕ) : Type 0 where
+  pub from : ℕ
+  pub events : List Event
+  pub served : Serves v J (Mark from) events
+  pub follows : MayFollow (Mark from) (Mark mark)
+  pub many : steps ≤ length events
+
+-- a step more
+pub one_further : (v w : RosterServer) (J : Instance) (mark steps : ℕ) (it : IsOnTheWay v J mark steps) (e : Event)
+    → Gives (Serves w J (Mark mark)) (Rests w J (Mark mark)) (due_by J (Mark mark)) it.events (Some e)
+    → IsOnTheWay w J mark (steps + 1)
+one_further v w J mark steps it e next = record {
+  from = mark;
+  events = it.events ++ e ∷ [];
+  served = next;
+  follows = (omega arith, it.follows.1);
+  many = omega (arith, it.many, length-append it.events (e ∷ []));
+}
+
+-- there are not so many
+pub too_many : (v : RosterServer) (J : Instance) (mark steps : ℕ) → IsOnTheWay v J mark steps → 5_000_002 ≤ steps → ⊥
+too_many v J mark steps it many =
+    let begins = serves_begins v.server J (Mark it.from) it.events it.served.served in
+    absurd (omega (
+      arith,
+      many,
+      it.many,
+      due_few J (Mark it.from) it.served.served.follows.valid,
+      ap length begins.1,
+      length-append it.events begins.0,
+    ))
+
+-- there may be one job more
+pub may_more : (h : Head) (tasks : List Task) (last : ℕ) (job : JobFacts) → MayAdmit last h tasks job
+    → length (stored h tasks).jobs + 1 ≤ most_jobs
+may_more h tasks last job may =
+    let few : length ((stored h tasks).jobs ++ job ∷ []) ≤ 1_000_000 = may.valid.count in
+    omega (arith, few, length-append (stored h tasks).jobs (job ∷ []))
+
+-- with the job the snapshot's jobs are served
+pub served_with : (w : RosterServer) (h : Head) (tasks : List Task) (t : Task) (job : JobFacts) (o : Option Event)
+    → t.job ≡ job
+    → Gives (Serves w (with_jobs (stored h tasks) (job ∷ [])) (Mark job.release))
+    (Rests w (with_jobs (stored h tasks) (job ∷ [])) (Mark job.release))
+    (due_by (with_jobs (stored h tasks) (job ∷ [])) (Mark job.release)) (due_by (stored h tasks) (Mark job.release)) o
+    → IsServed w h (tasks ++ t ∷ []) job.release
+served_with w h tasks t job o same gives =
+    let it = subst (λ J. (events : List Event) × Serves w J (Mark job.release) events) with_it (by o gives) in
+    record { events = it.0; served = it.1 } where
+      with_it : with_jobs (stored h tasks) (job ∷ []) ≡ stored h (tasks ++ t ∷ [])
+      with_it = ap (λ (j : JobFacts). with_jobs (stored h tasks) (j ∷ [])) (sym same) ∙ sym (with_this h tasks t)
+
+      by : (o : Option Event)
+          → Gives (Serves w (with_jobs (stored h tasks) (job ∷ [])) (Mark job.release))
+          (Rests w (with_jobs (stored h tasks) (job ∷ [])) (Mark job.release))
+          (due_by (with_jobs (stored h tasks) (job ∷ [])) (Mark job.release))
+          (due_by (stored h tasks) (Mark job.release)) o
+          → (events : List Event) × Serves w (with_jobs (stored h tasks) (job ∷ [])) (Mark job.release) events
+      by (Some e) it = (due_by (stored h tasks) (Mark job.release) ++ e ∷ [], it)
+      by None it = (due_by (with_jobs (stored h tasks) (job ∷ [])) (Mark job.release),
+          roster_rests w (with_jobs (stored h tasks) (job ∷ [])) (Mark job.release) it.1)
+
+-- its release is a tick
+pub release_known : (h : Head) (tasks : List Task) (last : ℕ) (job : JobFacts) → MayAdmit last h tasks job
+    → job.release ≤ last_tick
+release_known h tasks last job may =
+    let it : IsJob job = all_last IsJob (stored h tasks).jobs job may.valid.each in
+    let window : job.release + job.work ≤ job.deadline = it.window in
+    let due : job.deadline ≤ 1_000_000_000_000 = it.due in
+    omega arith
+
+-- what is said of an error
+pub on_err : {X E : Type 0} (r : Result X E) (P : Type 0) → P → OnErr r P
+on_err (Ok x) P it = tt
+on_err (Err e) P it = it

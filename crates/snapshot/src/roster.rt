@@ -1,0 +1,219 @@
+//! The jobs of a run by number, kept from its printed steps alone.
+ghost use Rattle.std.specs.Prelude.{◌≡◌, ◌≤◌, ◌<◌, ◌-◌, ◌^◌, ℕ, length, OnOk, IsOk, IfSome, None};
+ghost use Rattle.std.specs.List.{slice_get};
+ghost use Rattle.std.specs.Option.{option_map};
+ghost use Rattle.dover_model.specs.declared.events.Event.TheVariants.{Release};
+ghost use Rattle.dover_model.specs.JobFacts.{JobFacts};
+ghost use Rattle.snapshot.specs.Roster as model;
+ghost use Rattle.snapshot.specs.Roster.{empty_roll, with_event, job_at};
+
+use dover_model::{Event, Job, Memory, Role, Task};
+use ready_jobs::ShortTask;
+use std::alloc::Global;
+use std::marker::Model;
+
+/// A job as it was when it last had the processor.
+#[derive(Drop)]
+pub struct Listed {
+    task: ShortTask,
+    /// How many takes there were when it stopped: with one more, a held job waits.
+    takes: u32,
+}
+
+impl Model for Listed {
+    ghost use Rattle.std.specs.Prelude.{◌≤◌};
+    ghost use Rattle.snapshot.specs.Roster.{Listed};
+
+    ghost Value = { Listed };
+
+    ghost view = { λ l. record { task = l.task; takes = l.takes } };
+
+    ghost invariant = { λ l. l.task.had ≤ l.task.job.work };
+}
+
+/// The ticks that a job has had with so many more, at most its work.
+fn had_with(ticks: u64, task: &Task) -> u64
+    ensures { result ≡ model.had_with ticks task.now }
+{
+    let work = task.job.work();
+    work.saturating_sub(work.saturating_sub(task.had).saturating_sub(ticks))
+}
+
+impl Listed {
+    /// A job that is released.
+    fn released(number: u32, job: Job) -> Listed
+        ensures { result ≡ model.released number job }
+    {
+        Listed {
+            task: ShortTask::of(&Task {
+                number,
+                job,
+                role: Role::Waiting,
+                had: 0,
+            }),
+            takes: 0,
+        }
+    }
+
+    /// A job that stops after so many ticks more in this role, where there were so many takes.
+    fn stopped(&self, ticks: u64, role: Role, takes: u32) -> Listed
+        ensures { result ≡ model.stopped ticks role takes self.now }
+    {
+        let task = self.task.task();
+        Listed {
+            task: ShortTask::of(&Task {
+                number: task.number,
+                job: task.job,
+                role,
+                had: had_with(ticks, &task),
+            }),
+            takes,
+        }
+    }
+
+    /// Whether a take since it stopped displaces it.
+    fn is_displaced(&self, role: Role, takes: u32) -> bool
+        requires { role ≡ self.now.task.role }
+        ensures { result ≡ model.is_displaced takes self.now }
+    {
+        role == Role::Held && self.takes != takes
+    }
+}
+
+/// The jobs of a run that were released so far by number, as far as a snapshot names them: what each asks for, what it
+/// is, and the ticks that it has had, kept from the printed steps of the run alone.
+#[derive(Drop)]
+pub struct Roster {
+    jobs: Vec<Listed>,
+    takes: u32,
+    turn: Option<u32>,
+    since: u64,
+}
+
+impl Model for Roster {
+    ghost use Rattle.std.specs.Prelude.{vec_capacity};
+    ghost use Rattle.snapshot.specs.Roster.{Kept};
+
+    ghost Value = { Kept };
+
+    ghost view = { λ r. record {
+      roll = record { jobs = r.jobs.items; takes = r.takes; turn = r.turn; since = r.since };
+      room = vec_capacity r.jobs;
+    } };
+}
+
+impl Roster {
+    /// No job was released yet. Takes no memory.
+    pub fn new(alloc: Global) -> Roster
+        ensures { result.roll ≡ empty_roll }
+    {
+        Roster {
+            jobs: Vec::new(alloc),
+            takes: 0,
+            turn: None,
+            since: 0,
+        }
+    }
+
+    /// How many jobs were released.
+    pub fn count(&self) -> usize
+        ensures { result ≡ length self.now.roll.jobs }
+    {
+        self.jobs.len()
+    }
+
+    /// Makes room for one job more. Where there is room, it takes no memory.
+    pub fn make_room(&mut self) -> Result<(), Memory>
+        ensures same { self.new.roll ≡ self.old.roll }
+        ensures room { OnOk result (length self.new.roll.jobs < self.new.room) }
+        ensures enough { length self.old.roll.jobs < self.old.room → IsOk result }
+    {
+        let count = self.jobs.len();
+        if count < self.jobs.capacity() {
+            return Ok(());
+        }
+        self.jobs.reserve(count.max(1))?;
+        Ok(())
+    }
+
+    /// Takes the next printed step into account. No memory is taken.
+    pub fn read(&mut self, event: &Event)
+        requires few { self.old.roll.takes < 2 ^ 32 - 1 }
+        requires room { (n : ℕ) (job : JobFacts) → event.now ≡ Release n job → length self.old.roll.jobs < self.old.room }
+        ensures roll { self.new.roll ≡ with_event self.old.roll event.now }
+        ensures room { self.new.room ≡ self.old.room }
+    {
+        match *event {
+            Event::Release { number, job } => self.jobs.push_reserved(Listed::released(number, job)),
+            Event::Run { at, number } => self.start(at, number),
+            Event::Preempt { at, starts, .. } => {
+                self.halt(at, Role::Held);
+                self.start(at, starts);
+            }
+            Event::Take { at, starts, .. } => {
+                self.halt(at, Role::Waiting);
+                self.takes += 1;
+                self.start(at, starts);
+            }
+            Event::Complete { at, .. } => self.halt(at, Role::Done),
+            Event::Abandon { number, .. } => self.stop(number, 0, Role::Gone),
+            Event::End { .. } => {}
+        }
+    }
+
+    /// The job of this number stops after so many ticks more, in this role.
+    fn stop(&mut self, number: u32, ticks: u64, role: Role)
+        ensures roll { self.new.roll ≡ model.with_stop self.old.roll number ticks role }
+        ensures room { self.new.room ≡ self.old.room }
+    {
+        let Some(job) = self.jobs.get(number as usize) else {
+            return;
+        };
+        let stopped = job.stopped(ticks, role, self.takes);
+        self.jobs[number as usize] = stopped;
+    }
+
+    /// The job that runs stops in this role.
+    fn halt(&mut self, at: u64, role: Role)
+        ensures roll { self.new.roll ≡ model.halted self.old.roll at role }
+        ensures room { self.new.room ≡ self.old.room }
+    {
+        if let Some(number) = self.turn {
+            self.stop(number, at.saturating_sub(self.since), role);
+            self.turn = None;
+        }
+    }
+
+    /// The job of this number runs from this tick on.
+    fn start(&mut self, at: u64, number: u32)
+        ensures roll { self.new.roll ≡ model.started self.old.roll at number }
+        ensures room { self.new.room ≡ self.old.room }
+    {
+        self.turn = Some(number);
+        self.since = at;
+    }
+
+    /// The job of this number, as it is at a tick. None where it wasn't released.
+    pub fn job(&self, number: usize, clock: u64) -> Option<Task>
+        ensures modest { IfSome result (λ t. t.had ≤ t.job.work) }
+        ensures is { result ≡ option_map (job_at self.now.roll clock) (slice_get self.now.roll.jobs number) }
+    {
+        let listed = self.jobs.get(number)?;
+        let task = listed.task.task();
+        if self.turn == Some(task.number) {
+            return Some(Task {
+                number: task.number,
+                job: task.job,
+                role: Role::Running,
+                had: had_with(clock.saturating_sub(self.since), &task),
+            });
+        }
+        let displaced = listed.is_displaced(task.role, self.takes);
+        Some(Task {
+            number: task.number,
+            job: task.job,
+            role: if displaced { Role::Waiting } else { task.role },
+            had: task.had,
+        })
+    }
+}
