@@ -83,8 +83,7 @@ impl<L: Ledger> Talker for Resuming<L> {
                 Ok(Some(used)) => {
                     let reader = replace(&mut opening.reader, Reader::new(self.alloc));
                     let (server, intake, mark) = reader.take();
-                    self.stage =
-                        Stage::Serving(Serving::resumed(self.alloc, server, intake, mark));
+                    self.stage = Stage::Serving(Serving::resumed(self.alloc, server, intake, mark));
                     Ok(used)
                 }
                 Err(SnapFault::BadSnapshot { line }) => {

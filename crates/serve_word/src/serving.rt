@@ -30,7 +30,12 @@ pub struct Serving<D, L: Ledger> {
 impl<L: Ledger> Serving<RosterServer, L> {
     /// A feed that goes on from its snapshot, which gave the server, the intake and the mark. Nothing is given that was
     /// due before the pause.
-    pub fn resumed(alloc: Global, server: RosterServer, intake: Intake, mark: u64) -> Serving<RosterServer, L>
+    pub fn resumed(
+        alloc: Global,
+        server: RosterServer,
+        intake: Intake,
+        mark: u64,
+    ) -> Serving<RosterServer, L>
         ensures { (c : Call) (now : ℕ) → MayPause c.feed → ResumesFeed server intake mark c.feed →
             HasPaid server c.start now → IsReady Serves HasRoom HasPaid c result.feed now [] }
     {

@@ -48,11 +48,7 @@ fn read_all<L: Ledger>(
     Ok(Outcome::Open)
 }
 
-fn outcome_in<L: Ledger>(
-    rt: &HostRuntime,
-    lines: &[&[u8]],
-    blank: Blank,
-) -> Result<Outcome, Memory>
+fn outcome_in<L: Ledger>(rt: &HostRuntime, lines: &[&[u8]], blank: Blank) -> Result<Outcome, Memory>
     requires name { blank.name ≡ L.name }
     requires parts { blank.parts ≡ L.parts }
     requires some { 0 < blank.parts }

@@ -84,84 +84,84 @@ module _ (h : Head) (tasks : List Task) (ls : List (List ℕ)) (read : HasRead h
         (mark_beyond h tasks ls read line all_read (sym reached_is ∙ beyond))
 
     module _ (v : RosterServer) (rests : Rests v (stored h tasks) (Mark r.head.mark)) where
-        -- it rests at the mark
-        rests_there : Rests v (stored h tasks) (Mark h.mark)
-        rests_there = subst (λ m. Rests v (stored h tasks) (Mark m)) mark_is rests
+      -- it rests at the mark
+      rests_there : Rests v (stored h tasks) (Mark h.mark)
+      rests_there = subst (λ m. Rests v (stored h tasks) (Mark m)) mark_is rests
 
-        -- the jobs that were reached
-        abbrev pub reached_tasks : List Task
-        reached_tasks = map (job_at v.roster.roll r.head.mark) v.roster.roll.jobs
+      -- the jobs that were reached
+      abbrev pub reached_tasks : List Task
+      reached_tasks = map (job_at v.roster.roll r.head.mark) v.roster.roll.jobs
 
-        tasks_are : reached_tasks ≡ (settled_state (stored h tasks) h.mark).tasks
-        tasks_are = ap (λ m. map (job_at v.roster.roll m) v.roster.roll.jobs) mark_is
-            ∙ ap (λ (p : Roll). map (job_at p h.mark) p.jobs) rests_there.read
-            ∙ settled_jobs (stored h tasks) read.valid h.mark (known_jobs h.mark tasks read.known)
+      tasks_are : reached_tasks ≡ (settled_state (stored h tasks) h.mark).tasks
+      tasks_are = ap (λ m. map (job_at v.roster.roll m) v.roster.roll.jobs) mark_is
+          ∙ ap (λ (p : Roll). map (job_at p h.mark) p.jobs) rests_there.read
+          ∙ settled_jobs (stored h tasks) read.valid h.mark (known_jobs h.mark tasks read.known)
 
-        -- they are as many as were read
-        pub reached_count : length r.stances.items ≡ length v.roster.roll.jobs
-        reached_count = omega (
-          arith,
-          served_count h tasks ls read r it,
-          length-map v.roster.roll.jobs (job_at v.roster.roll r.head.mark),
-          ap length tasks_are,
-          count_jobs (settled_state (stored h tasks) h.mark).tasks,
-          ap length (settled_at_barrier (stored h tasks) read.valid h.mark).keeps.jobs,
-          count_jobs tasks,
-        )
+      -- they are as many as were read
+      pub reached_count : length r.stances.items ≡ length v.roster.roll.jobs
+      reached_count = omega (
+        arith,
+        served_count h tasks ls read r it,
+        length-map v.roster.roll.jobs (job_at v.roster.roll r.head.mark),
+        ap length tasks_are,
+        count_jobs (settled_state (stored h tasks) h.mark).tasks,
+        ap length (settled_at_barrier (stored h tasks) read.valid h.mark).keeps.jobs,
+        count_jobs tasks,
+      )
 
-        -- where the jobs aren't as stored, the line is refused
-        pub state_refused : (n : ℕ) (stances : List Stance) → n ≡ length r.stances.items
-            → stances ≡ r.stances.items → (AreAt reached_tasks stances → ⊥)
-            → reading_of (ls ++ line ∷ []) ≡ Refused (n + 2)
-        state_refused n stances is kept other = refused_here h tasks ls read r it (ls ++ line ∷ []) n is
-            (other_state h tasks ls read line all_read (by (is_settled h tasks) refl)) where
-              by : (b : Bool) → is_settled h tasks ≡ b → is_settled h tasks ≡ false
-              by false fails = fails
-              by true passes = absurd (other (ap (map stance_of) tasks_are
-                  ∙ sym (alike_all tasks (settled_state (stored h tasks) h.mark).tasks passes) ∙ sym it.stances
-                  ∙ sym kept))
+      -- where the jobs aren't as stored, the line is refused
+      pub state_refused : (n : ℕ) (stances : List Stance) → n ≡ length r.stances.items
+          → stances ≡ r.stances.items → (AreAt reached_tasks stances → ⊥)
+          → reading_of (ls ++ line ∷ []) ≡ Refused (n + 2)
+      state_refused n stances is kept other = refused_here h tasks ls read r it (ls ++ line ∷ []) n is
+          (other_state h tasks ls read line all_read (by (is_settled h tasks) refl)) where
+            by : (b : Bool) → is_settled h tasks ≡ b → is_settled h tasks ≡ false
+            by false fails = fails
+            by true passes = absurd (other (ap (map stance_of) tasks_are
+                ∙ sym (alike_all tasks (settled_state (stored h tasks) h.mark).tasks passes) ∙ sym it.stances
+                ∙ sym kept))
 
-        module _ (stances : List Stance) (kept : stances ≡ r.stances.items) (at : AreAt reached_tasks stances) where
-          -- they are
-          settled_is : is_settled h tasks ≡ true
-          settled_is = all_alike tasks (settled_state (stored h tasks) h.mark).tasks
-              (sym it.stances ∙ sym kept ∙ sym at ∙ ap (map stance_of) tasks_are)
+      module _ (stances : List Stance) (kept : stances ≡ r.stances.items) (at : AreAt reached_tasks stances) where
+        -- they are
+        settled_is : is_settled h tasks ≡ true
+        settled_is = all_alike tasks (settled_state (stored h tasks) h.mark).tasks
+            (sym it.stances ∙ sym kept ∙ sym at ∙ ap (map stance_of) tasks_are)
 
-          -- all jobs were read
-          all_is : length tasks ≡ h.jobs
-          all_is = omega (arith, all_read, read.count)
+        -- all jobs were read
+        all_is : length tasks ≡ h.jobs
+        all_is = omega (arith, all_read, read.count)
 
-          -- the feed may pause there
-          pub can_pause : has_reached_mark h tasks ≡ true → CanPause h tasks
-          can_pause reached = record { limits = read.limits; all = all_is; known = known; reached = reached }
+        -- the feed may pause there
+        pub can_pause : has_reached_mark h tasks ≡ true → CanPause h tasks
+        can_pause reached = record { limits = read.limits; all = all_is; known = known; reached = reached }
 
-          -- the snapshot is whole
-          pub is_whole : bytes_eq line (codes "resume") ≡ true → has_reached_mark h tasks ≡ true → line ≡ codes "resume"
-              → IsWhole h tasks (ls ++ line ∷ [])
-          is_whole last reached same = record {
-            front = ls;
-            read = read;
-            text = ap (λ l. ls ++ l ∷ []) same;
-            reads = last_stands h tasks ls read line all_read last reached settled_is;
-            all = all_is;
-            reached = reached;
-            settled = settled_is;
-          }
+        -- the snapshot is whole
+        pub is_whole : bytes_eq line (codes "resume") ≡ true → has_reached_mark h tasks ≡ true → line ≡ codes "resume"
+            → IsWhole h tasks (ls ++ line ∷ [])
+        is_whole last reached same = record {
+          front = ls;
+          read = read;
+          text = ap (λ l. ls ++ l ∷ []) same;
+          reads = last_stands h tasks ls read line all_read last reached settled_is;
+          all = all_is;
+          reached = reached;
+          settled = settled_is;
+        }
 
-          -- its run goes on
-          pub resumes : (i : feed.Kept) → has_reached_mark h tasks ≡ true → feed.StandsFor i (feed_lines h tasks)
-              → Resumes v i h tasks
-          resumes i reached stands =
-              let account : account_of_lines (feed_lines h tasks) ≡ paused_account h tasks =
-              all_account h tasks (can_pause reached) it.fed.account in
-              record {
-                stands = stands;
-                account = account;
-                going = goes_on i (feed_lines h tasks) (stored_session h tasks) stands
-                    (ap (λ (a : Account). a.standing) account)
-                    (ap (λ (a : Account). a.session) account);
-                rests = rests_there;
-              }
+        -- its run goes on
+        pub resumes : (i : feed.Kept) → has_reached_mark h tasks ≡ true → feed.StandsFor i (feed_lines h tasks)
+            → Resumes v i h tasks
+        resumes i reached stands =
+            let account : account_of_lines (feed_lines h tasks) ≡ paused_account h tasks =
+            all_account h tasks (can_pause reached) it.fed.account in
+            record {
+              stands = stands;
+              account = account;
+              going = goes_on i (feed_lines h tasks) (stored_session h tasks) stands
+                  (ap (λ (a : Account). a.standing) account)
+                  (ap (λ (a : Account). a.session) account);
+              rests = rests_there;
+            }
 
 -- a line that isn't another one is the last line
 pub last_same : (line other : List ℕ) → other ≡ codes "resume" → not (bytes_eq line other) ≡ false

@@ -51,11 +51,14 @@ module _ (v : RosterServer) (J : Instance) (from : Horizon) (events : List Event
   -- nothing more was read at rest
   pub rests_now : (to : Horizon) → MayFollow from to → (w : RosterServer) → w.roster ≡ v.roster
       → (events ≡ due_by J to) × ready.Rests w.server J to → (events ≡ due_by J to) × Rests w J to
-  rests_now to may w same (all, rests) = (all, record {
-    rests = rests;
-    read = subst (HasRead to w.roster.roll) all
-        (subst (λ k. HasRead to k.roll events) (sym same) (read_later from to v.roster.roll events may it.read));
-  })
+  rests_now to may w same (all, rests) = (
+    all,
+    record {
+      rests = rests;
+      read = subst (HasRead to w.roster.roll) all
+          (subst (λ k. HasRead to k.roll events) (sym same) (read_later from to v.roster.roll events may it.read));
+    },
+  )
 
 -- there were few takes where it rests
 pub few_at_rest : (v : RosterServer) (J : Instance) (t : ℕ) → Rests v J (Mark t) → v.roster.roll.takes < 2 ^ 32 - 1

@@ -80,8 +80,10 @@ served_with w h tasks t job o same gives =
           (due_by (stored h tasks) (Mark job.release)) o
           → (events : List Event) × Serves w (with_jobs (stored h tasks) (job ∷ [])) (Mark job.release) events
       by (Some e) it = (due_by (stored h tasks) (Mark job.release) ++ e ∷ [], it)
-      by None it = (due_by (with_jobs (stored h tasks) (job ∷ [])) (Mark job.release),
-          roster_rests w (with_jobs (stored h tasks) (job ∷ [])) (Mark job.release) it.1)
+      by None it = (
+        due_by (with_jobs (stored h tasks) (job ∷ [])) (Mark job.release),
+        roster_rests w (with_jobs (stored h tasks) (job ∷ [])) (Mark job.release) it.1,
+      )
 
 -- its release is a tick
 pub release_known : (h : Head) (tasks : List Task) (last : ℕ) (job : JobFacts) → MayAdmit last h tasks job

@@ -213,7 +213,11 @@ impl Resuming {
             return Err(bad);
         }
         settle(&mut self.server, self.head.mark, steps);
-        if !are_at(self.server.roster(), self.head.mark, self.stances.as_slice()) {
+        if !are_at(
+            self.server.roster(),
+            self.head.mark,
+            self.stances.as_slice(),
+        ) {
             return Err(bad);
         }
         hand_ticks(&mut self.intake, &self.head);

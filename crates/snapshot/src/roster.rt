@@ -144,7 +144,9 @@ impl Roster {
         ensures room { self.new.room ≡ self.old.room }
     {
         match *event {
-            Event::Release { number, job } => self.jobs.push_reserved(Listed::released(number, job)),
+            Event::Release { number, job } => self
+                .jobs
+                .push_reserved(Listed::released(number, job)),
             Event::Run { at, number } => self.start(at, number),
             Event::Preempt { at, starts, .. } => {
                 self.halt(at, Role::Held);

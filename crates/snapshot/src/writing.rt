@@ -23,7 +23,14 @@ pub(crate) fn head(version: Version, k: Ratio, lines: u64, mark: u64, jobs: u64,
     to.clear();
     to.put_with_numbers(
         b"snapshot",
-        &[number, u64::from(k.p()), u64::from(k.q()), lines, mark, jobs],
+        &[
+            number,
+            u64::from(k.p()),
+            u64::from(k.q()),
+            lines,
+            mark,
+            jobs,
+        ],
     );
 }
 

@@ -42,9 +42,10 @@ admit-release-requires-clause-valid g c =
       stored r.0 r.1,
       subst (λ m. Rests c.settle.new.server (stored r.0 r.1) (Mark m)) c.release-self.ensures.is
           (c.settle.ensures.rests (stored r.0 r.1) c.args.self.now.last r.2.events
-          (c.make_room.ensures.serves (stored r.0 r.1) (Mark c.args.self.now.last) r.2.events r.2.served)
-          (omega (arith, r.3.ordered, c.release-self.ensures.is),
-          omega (arith, release_known r.0 r.1 c.args.self.now.last c.args.job r.3, c.release-self.ensures.is))),
+          (c.make_room.ensures.serves (stored r.0 r.1) (Mark c.args.self.now.last) r.2.events r.2.served) (
+            omega (arith, r.3.ordered, c.release-self.ensures.is),
+            omega (arith, release_known r.0 r.1 c.args.self.now.last c.args.job r.3, c.release-self.ensures.is),
+          )),
       r.3.valid,
     )
 
@@ -54,9 +55,10 @@ returns-clause-served g c = λ h tasks t it may same. served_with c.admit-releas
     (c.admit-release.ensures.gives (stored h tasks)
     (subst (λ m. Rests c.settle.new.server (stored h tasks) (Mark m)) c.release-self.ensures.is
     (c.settle.ensures.rests (stored h tasks) c.args.self.now.last it.events
-    (c.make_room.ensures.serves (stored h tasks) (Mark c.args.self.now.last) it.events it.served)
-    (omega (arith, may.ordered, c.release-self.ensures.is),
-    omega (arith, release_known h tasks c.args.self.now.last c.args.job may, c.release-self.ensures.is))))
+    (c.make_room.ensures.serves (stored h tasks) (Mark c.args.self.now.last) it.events it.served) (
+      omega (arith, may.ordered, c.release-self.ensures.is),
+      omega (arith, release_known h tasks c.args.self.now.last c.args.job may, c.release-self.ensures.is),
+    )))
     may.valid)
 
 pub returns-clause-count : goal.returns-clause-count
