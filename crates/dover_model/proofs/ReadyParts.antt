@@ -264,34 +264,3 @@ module _ (J : Instance) (valid : IsValid J) (rules : Rules) where
     parts (Prints e) same = ap (λ ts. record { clock = s.clock; tasks = ts }) same
     parts (Waits n) same = ap (λ ts. record { clock = s.clock; tasks = ts }) same
     parts Ticks same = ap (λ ts. record { clock = s.clock + 1; tasks = ts }) same
-
-  -- a silent step leaves the value of the jobs done
-  pub done_silent : (s : State) → Keeps J s → IsSilent (open_step rules s)
-      → value_sum (filter is_done (after s (open_step rules s)).tasks) ≡ value_sum (filter is_done s.tasks)
-  done_silent s keeps silent =
-      let part : List Task = (after (ready_part s) (open_step rules s)).tasks in
-      let none : sum_by done_value part ≡ 0 = sum_zero done_value part
-      (subst (Each (λ t. done_value t ≡ 0)) (sym (after_change (ready_part s) (open_step rules s)))
-      (on_map (change (open_step rules s)) (λ t. done_value t ≡ 0) (filter is_ready s.tasks)
-      (λ t m. ap (λ b. cond b (change (open_step rules s) t).job.value 0) (silent_done (open_step rules s) silent t
-      (not-true (is_over t) (member_filter is_ready s.tasks t m).1))))) in
-      omega (arith, done_after J valid rules s keeps, sum_filter is_done (λ t. t.job.value) part)
-
-  -- silent steps of the part are silent steps of the state
-  pub part_settles : (mark : ℕ) (xs : List Step) (s r : State) → Keeps J s → Settles rules mark (ready_part s) xs r
-      → (ys : List Step) × (z : State) × Settles rules mark s ys z × Keeps J z × (r ≡ ready_part z) ×
-      (value_sum (filter is_done z.tasks) ≡ value_sum (filter is_done s.tasks))
-  part_settles mark [] s r keeps settles = ([], s, refl, keeps, sym settles, refl)
-  part_settles mark (x ∷ xs) s r keeps settles =
-      let same : open_step rules (ready_part s) ≡ open_step rules s = step_ready rules s in
-      let silent : IsSilent (open_step rules s) = sym (ap event_of same) ∙ settles.2 in
-      let rest = part_settles mark xs (after s (open_step rules s)) r (open_kept J valid s keeps rules)
-      (subst (λ u. Settles rules mark u xs r) (ap (after (ready_part s)) same ∙ part_after s keeps silent)
-      settles.3) in (
-        open_at rules s ∷ rest.0,
-        rest.1,
-        (refl, subst (λ m. (waits_for_mark m && nat_le mark s.clock) ≡ false) same settles.1, silent, rest.2),
-        rest.3,
-        rest.4,
-        rest.5 ∙ done_silent s keeps silent,
-      )

@@ -79,10 +79,6 @@ among_most n s = by_numbers (waiting_count s) (exits s) (waiting_least s) where
 
 -- ---- what a run has cost so far
 
--- nothing is spent yet
-pub spent_none : (s : State) (now : ℕ) → HasSpent s now now
-spent_none s now = λ d enough. omega arith
-
 -- what all that has come costs is few
 pub all_few : (n d waits start now : ℕ) → waits ≤ 4 * n → now ≤ start + 20 * d * waits → now ≤ start + 80 * (n + 1) * d
 all_few n d waits start now most few =
@@ -245,7 +241,7 @@ module _ (n : ℕ) (s : State) (clock : ℕ) (t : Task) (later : s.clock ≤ clo
         joins was is first second = omega (arith, first, second)
 
 -- a member that passes counts
-pub counts_one : (p : Task → Bool) (tasks : List Task) (t : Task) → IsMember t tasks → p t ≡ true → 1 ≤ count_by p tasks
+counts_one : (p : Task → Bool) (tasks : List Task) (t : Task) → IsMember t tasks → p t ≡ true → 1 ≤ count_by p tasks
 counts_one p tasks t member pass =
     subst (λ n. n ≤ count_by p tasks) (ap one_if pass) (term_le_sum (λ u. one_if (p u)) tasks t member)
 
@@ -272,12 +268,6 @@ module _ (s : State) (t : Task) (member : IsMember t s.tasks) where
       → 1 ≤ leaves s (Prints (Take at stops starts))
   take_leaves at stops starts role same = leaves_one (Prints (Take at stops starts)) role
       (ap (λ b. is_waiting (with_role t (cond b Running (displaced t.role)))) (eq-eqb t.number starts same))
-
-  -- a fresh job begins to wait
-  pub wait_enters : (n : ℕ) → t.role ≡ Fresh → t.number ≡ n → 1 ≤ enters s (Waits n)
-  wait_enters n role same = counts_one (λ u. waits_then (Waits n) u && not (is_waiting u)) s.tasks t member
-      (ap (λ b. is_waiting (with_role t (cond b Waiting t.role)) && not (is_waiting t)) (eq-eqb t.number n same)
-      ∙ ap not (passes is_waiting t Fresh false role refl))
 
 -- one ceases to wait at least
 pub one_leaves : (d enters leaves before after : ℕ) → after ≤ before + 6 * d → 1 ≤ leaves

@@ -15,22 +15,6 @@ use Rattle.dover_model.specs.declared.events.Task.{Task}
 
 -- ---- members
 
-put_member : (e : Entry) (xs : List Entry) (y : Entry) → (y ≡ e) ⊎ IsMember y xs → IsMember y (put_in e xs)
-put_member e [] y m = m
-put_member e (x ∷ xs) y m = by_test (nat_lt x.deadline e.deadline) m (put_member e xs y) where
-  by_test : (b : Bool) → (y ≡ e) ⊎ ((y ≡ x) ⊎ IsMember y xs) → ((y ≡ e) ⊎ IsMember y xs → IsMember y (put_in e xs))
-      → IsMember y (cond b (x ∷ put_in e xs) (e ∷ x ∷ xs))
-  by_test true (inl is) rest = inr (rest (inl is))
-  by_test true (inr (inl is)) rest = inl is
-  by_test true (inr (inr m)) rest = inr (rest (inr m))
-  by_test false m rest = m
-
--- each member stays
-pub sorted_member : (xs : List Entry) (y : Entry) → IsMember y xs → IsMember y (by_deadline xs)
-sorted_member [] y m = absurd m
-sorted_member (x ∷ xs) y (inl is) = put_member x (by_deadline xs) y (inl is)
-sorted_member (x ∷ xs) y (inr m) = put_member x (by_deadline xs) y (inr (sorted_member xs y m))
-
 member_put : (e : Entry) (xs : List Entry) (y : Entry) → IsMember y (put_in e xs) → (y ≡ e) ⊎ IsMember y xs
 member_put e [] y m = m
 member_put e (x ∷ xs) y m = by_test (nat_lt x.deadline e.deadline) m (member_put e xs y) where

@@ -438,13 +438,6 @@ module _ (tasks : List PeriodicTask) (until : ℕ) (old : List (Option ItemFacts
     length-set old e.place None,
   )
 
-  -- which is free then
-  pub free_given : (done : List JobFacts) → StandsBehind (merge tasks until old) done → (n : List (Option ItemFacts))
-      → n ≡ set old e.place None → get_or n e.place None ≡ None
-  free_given done s n taken = ap (λ t. get_or t e.place None) taken
-      ∙ get_or-set_same old e.place None None
-      (omega (arith, given_within (merge tasks until old) done s each e is, s.size))
-
   -- the deadline fits
   pub due_given : (done : List JobFacts) → StandsBehind (merge tasks until old) done
       → e.key + (get_or tasks e.place blank_task).deadline ≤ 1_000_000_000_000

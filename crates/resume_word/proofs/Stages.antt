@@ -1,6 +1,8 @@
 -- What is kept of a snapshot, and then of its feed, as more bytes come.
-use Rattle.std.proofs.Common.{◌≡◌, ◌<◌, ◌≤◌, ◌+◌, ℕ, suc, List, [], ◌∷◌, ◌++◌, length, take, drop, refl, sym, ap, ◌∙◌}
-use Rattle.std.proofs.Common.{subst, append_assoc, append-nil, arith, Bool, true, false, inl, Option, Some, None}
+use Rattle.std.proofs.Common.{◌≡◌, ◌<◌, ◌≤◌, ◌+◌, ℕ, suc, List, [], ◌∷◌, ◌++◌, length, take, drop, refl}
+use Rattle.std.proofs.Common.{sym, ap}
+use Rattle.std.proofs.Common.{◌∙◌, subst, append_assoc, append-nil, arith, Bool, true, false, inl, Option, Some}
+use Rattle.std.proofs.Common.{None}
 use Rattle.std.proofs.Common.{Result, Ok, Err, zero}
 use Rattle.std.proofs.lemmas.List.{take-append-drop}
 use Rattle.dover_model.specs.declared.Memory.{Memory as Lacking}
@@ -35,9 +37,10 @@ use Rattle.serve_word.specs.declared.at_end.AtEnd.TheVariants.{Refuse}
 use Rattle.serve_word.proofs.Talking.{steady}
 use Rattle.resume_word.specs.Opening.{OpeningStands, IsWholeAt, TakesFront, HasFewOf}
 use Rattle.resume_word.specs.Record.{is_part, IsFrugalFor, refused_text}
-use Rattle.resume_word.specs.Talk.{Asked, feed_of, behind_snapshot, goes_by, due_by, HasBegun, LacksBy, IsAnsweredBy}
-use Rattle.resume_word.specs.Talk.{resume_talk}
-use Rattle.resume_word.specs.Keeping.{IsPast, IsOpen, IsStopped}
+use Rattle.resume_word.specs.Talk.{Asked, feed_of, behind_snapshot, goes_by, due_by, HasBegun, LacksBy}
+use Rattle.resume_word.specs.Keeping.{IsPast}
+use Rattle.resume_word.specs.Keeping.{IsOpen, IsStopped}
+use Rattle.resume_word.specs.Talk.{IsAnsweredBy, resume_talk}
 use Rattle.resume_word.specs.declared.opening.Opening.{Opening}
 use Rattle.resume_word.proofs.Bounds.{next_number}
 use Rattle.resume_word.proofs.Onward.{taken_on, refused_on, feed_may, behind_on}

@@ -18,7 +18,7 @@ use Rattle.room_ledger.proofs.Changing.{put_first, entries_later}
 use Rattle.dover_model.proofs.Tests.{none_is_some}
 
 -- the running and the held jobs are apart
-pub apart : (t : Task) → is_running t ≡ true → is_held t ≡ true → ⊥
+apart : (t : Task) → is_running t ≡ true → is_held t ≡ true → ⊥
 apart t runs held = let e : Running ≡ Held = sym (is_running_role t runs) ∙ is_held_role t held in cc
 
 -- the value of the held jobs

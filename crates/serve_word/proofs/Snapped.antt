@@ -1,7 +1,6 @@
 -- A feed that goes on from its snapshot, one that is paused, and the lines of a snapshot, put one behind another.
 use Rattle.std.proofs.Common.{◌≡◌, ℕ, [], append-nil, sym, ap, ◌∙◌, subst, Some, true, ◌<◌, ◌+◌, ◌-◌, List, ◌∷◌, ◌++◌}
 use Rattle.std.proofs.Common.{length, take, drop, get_or, Option, arith, inl, inr, Err}
-use Rattle.std.proofs.lemmas.List.{append-nil, take_more, take-append-drop}
 use Rattle.dover_model.specs.Session.{instance_of, Session}
 use Rattle.dover_model.specs.Lines.{lines_of, in_lines}
 use Rattle.dover_model.specs.Feed.{account}

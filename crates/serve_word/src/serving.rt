@@ -7,7 +7,6 @@ ghost use Rattle.serve_word.specs.Keeping.{Call, whole_call, serve_talk, IsGivin
 ghost use Rattle.serve_word.specs.declared.at_end.AtEnd.TheVariants.{Refuse};
 
 use dialogue::{Stop, Talker};
-use ready_server::Dispatcher;
 use dover_model::Memory;
 use dover_port::{Output, Port, Status};
 use event_feed::Intake;

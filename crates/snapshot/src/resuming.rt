@@ -21,6 +21,7 @@ use crate::server::RosterServer;
 use dover_model::{Horizon, Job, Memory, Role, Task};
 use ready_server::Dispatcher;
 use event_feed::Intake;
+use ready_server::Dispatcher;
 use std::alloc::Global;
 use std::sync::ledger::Ledger;
 use step_count::Steps;
