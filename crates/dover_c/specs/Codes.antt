@@ -8,7 +8,6 @@ use Rattle.dover_model.specs.declared.events.Version.TheVariants.{One, Two}
 use Rattle.dover_model.specs.JobFacts.{JobFacts}
 use Rattle.dover_model.specs.declared.horizon.Horizon.TheVariants as horizon
 use Rattle.dover_model.specs.Horizons.{MayFollow, no_jobs}
-use Rattle.admission.specs.declared.refused.Refused.TheVariants as refused
 use Rattle.dover_model.specs.declared.horizon.Horizon.TheVariants as horizon
 use Rattle.dover_engine.specs.declared.causes.NotAdmitted.{NotAdmitted}
 use Rattle.dover_engine.specs.declared.causes.NotAdmitted.TheVariants.{Unsettled, BadJob, Count, Total, Ratio, Full}

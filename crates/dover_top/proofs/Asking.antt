@@ -95,16 +95,19 @@ ratio_same k r = both (number_same k.p (omega (arith, r.small_p))) (number_same 
   both e f = ap (λ p. make p (number_of (decimal k.q))) e ∙ ap (λ q. make k.p q) f
 
 -- so is a share
-share_same : (s : Share) → IsShare s → record { part = number_of (decimal s.part); whole = number_of
-    (decimal s.whole) } ≡ s
+share_same : (s : Share) → IsShare s → record {
+  part = number_of (decimal s.part);
+  whole = number_of
+      (decimal s.whole);
+} ≡ s
 share_same s r = both (number_same s.part (omega (arith, r.few_parts))) (number_same s.whole (omega
     (arith, r.few))) where
-  make : ℕ → ℕ → Share
-  make part whole = record { part = part; whole = whole }
+      make : ℕ → ℕ → Share
+      make part whole = record { part = part; whole = whole }
 
-  both : number_of (decimal s.part) ≡ s.part → number_of (decimal s.whole) ≡ s.whole
-      → make (number_of (decimal s.part)) (number_of (decimal s.whole)) ≡ s
-  both e f = ap (λ part. make part (number_of (decimal s.whole))) e ∙ ap (λ whole. make s.part whole) f
+      both : number_of (decimal s.part) ≡ s.part → number_of (decimal s.whole) ≡ s.whole
+          → make (number_of (decimal s.part)) (number_of (decimal s.whole)) ≡ s
+      both e f = ap (λ part. make part (number_of (decimal s.whole))) e ∙ ap (λ whole. make s.part whole) f
 
 -- so is a window
 window_same : (w : Window) → w.from < w.until → w.until < 10 ^ 18

@@ -26,9 +26,16 @@ pub enum Request {
     /// A report is made on a text.
     Report(Form),
     /// The jobs of a seed are served.
-    Trial { seed: u32, count: u32, k: Ratio },
+    Trial {
+        seed: u32,
+        count: u32,
+        k: Ratio,
+    },
     /// What the run of the baiting jobs of so many rounds comes to is told; nothing is served.
-    Bait { k: Ratio, rounds: u32 },
+    Bait {
+        k: Ratio,
+        rounds: u32,
+    },
     /// A question on a feed is answered.
     Ask(Question),
     /// Many feeds in one input are served.
@@ -38,7 +45,9 @@ pub enum Request {
     /// A feed is served on from its snapshot, and where its input ends it is refused or paused again.
     Resume(AtEnd),
     /// The feed of tasks is written, up to a tick.
-    Unroll { until: u64 },
+    Unroll {
+        until: u64,
+    },
     /// The feed of the duel for a share is written, or of a front of so many of its jobs.
     Duel {
         k: Ratio,

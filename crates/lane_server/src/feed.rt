@@ -9,9 +9,9 @@ ghost use Rattle.lane_server.specs.Spending.{HasPaid};
 
 use crate::lane::Lane;
 use crate::out::LaneOut;
-use ready_server::Dispatcher;
 use dover_model::Memory;
 use line_text::{Lines, Step};
+use ready_server::Dispatcher;
 use std::alloc::Global;
 use std::sync::ledger::Ledger;
 use step_count::Steps;

@@ -12,10 +12,10 @@ ghost use Rattle.lane_server.specs.Shorts.{short_texts};
 ghost use Rattle.lane_server.specs.declared.lane.Work.TheVariants.{Nothing, Run, Admit};
 
 use crate::out::LaneOut;
-use ready_server::Dispatcher;
 use dover_model::{Horizon, Job, Memory, Ratio, Version};
 use event_feed::{Fed, FeedFault, Intake};
 use line_text::Spelled;
+use ready_server::Dispatcher;
 use std::alloc::Global;
 use std::sync::ledger::Ledger;
 use step_count::Steps;

@@ -8,9 +8,9 @@ ghost use Rattle.lane_server.specs.LaneInput.{standing_of, Stands, Rests, Hands,
 use crate::lanes::{LaneFault, LaneStep, Lanes};
 use crate::out::LaneOut;
 use crate::refusal::Refusal;
-use ready_server::Dispatcher;
 use dover_model::Memory;
 use line_text::{Lines, Step};
+use ready_server::Dispatcher;
 use std::alloc::Global;
 use std::sync::ledger::Ledger;
 use step_count::Steps;

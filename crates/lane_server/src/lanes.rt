@@ -8,9 +8,9 @@ ghost use Rattle.lane_server.specs.declared.lanes.Phase.TheVariants.{Giving, Clo
 use crate::lane::Lane;
 use crate::out::LaneOut;
 use crate::reading::{LANES, LaneLine, lane_line};
-use ready_server::Dispatcher;
 use dover_model::Memory;
 use event_feed::Cause;
+use ready_server::Dispatcher;
 use std::alloc::Global;
 use std::marker::Model;
 use std::sync::ledger::Ledger;

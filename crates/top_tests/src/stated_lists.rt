@@ -95,10 +95,7 @@ fn has_one_summary(rt: &HostRuntime, words: &[&'static str], front: &[u8]) -> Re
 #[test]
 fn duels_and_their_fronts(rt: HostRuntime) -> Result<(), Fail> {
     let words = ["duel", "1", "1", "1", "2"];
-    assert!(rt;
-        are_called(&rt, &DUELS, &[(1, 0)])?
-            && all_fail(&rt, &words, &FAILING)?
-    );
+    assert!(rt; are_called(&rt, &DUELS, &[(1, 0)])? && all_fail(&rt, &words, &FAILING)?);
     Ok(())
 }
 

@@ -114,7 +114,7 @@ module _ (jobs left : List JobFacts) (count put : ℕ) (a b : Option (List Move)
 -- a feed is put, and what was kept back of it
 pub feed_flushed : {T E : Type 0} (a b : Option (List Move)) (result : Result T E) (p q : List ℕ) (J : Instance)
     → PutsThrough a b result p q ((rules_text J.rules ++ 10 ∷ []) ++ (texts J.jobs ++ ((feed_text EndLine ++ 10
-        ∷ []) ++ [])))
+    ∷ []) ++ [])))
     → PutsThrough a b result p q (feed_of J)
 feed_flushed a b result p q J it = feed_through a b result p q J
     (subst (λ e. PutsThrough a b result p q ((rules_text J.rules ++ 10 ∷ []) ++ (texts J.jobs ++ e)))

@@ -20,5 +20,11 @@ returns-in-Ok-put_feed-clause-ends g c = inr (
 
 pub returns-in-Err-put_feed-clause-duels : goal.returns-in-Err-put_feed-clause-duels
 returns-in-Err-put_feed-clause-duels g c = since_weaker _ _ _ _ c.in-Err-put_feed.ensures.text.part
-    (λ moves put. inl (c.in-Ok.ensures.0, (put.0, none_before _ _ _ _ c.new-out.ensures
-    (is_front c.args.k c.args.front _ _ _ c.new-coming.ensures.jobs c.in-Ok.ensures.1) put.1)))
+    (λ moves put. inl (
+      c.in-Ok.ensures.0,
+      (
+        put.0,
+        none_before _ _ _ _ c.new-out.ensures
+            (is_front c.args.k c.args.front _ _ _ c.new-coming.ensures.jobs c.in-Ok.ensures.1) put.1,
+      ),
+    ))

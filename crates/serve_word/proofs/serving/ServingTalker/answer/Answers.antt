@@ -11,13 +11,13 @@ use Rattle.serve_word.proofs.serving.ServingTalker.answer.Goals as goal
 pub returns-in_default-clause-answers : goal.returns-in_default-clause-answers
 returns-in_default-clause-answers g c = λ a x at over.
     let ended = (rw c.into_lane-lane.ensures at (c.in_default.ensures.answer (lines_of (a.feed ++ x)) []))
-        at.rests.lane.stands
+    at.rests.lane.stands
     in (tt, ([], done a Refuse x c.args._ended ended, rw c.requires.empty (passes_nothing _ [])))
 
 pub returns-then-not-goes_on-clause-answers : goal.returns-then-not-goes_on-clause-answers
 returns-then-not-goes_on-clause-answers g c = λ a x at over.
     let why = (rw c.into_lane-lane.ensures at (c.in-Err.ensures.answer (lines_of (a.feed ++ x)) []))
-        at.rests.lane.stands in
+    at.rests.lane.stands in
     let goes = (rw c.into_lane-lane.ensures at (c.goes_on.ensures (lines_of (a.feed ++ x)) [])) at.rests.lane.stands
     in (
       tt,
@@ -31,7 +31,7 @@ returns-then-not-goes_on-clause-answers g c = λ a x at over.
 pub returns-in-Ok-clause-answers : goal.returns-in-Ok-clause-answers
 returns-in-Ok-clause-answers g c = λ a x at over.
     let why = (rw c.into_lane-lane.ensures at (c.in-Err.ensures.answer (lines_of (a.feed ++ x)) []))
-        at.rests.lane.stands in
+    at.rests.lane.stands in
     let goes = (rw c.into_lane-lane.ensures at (c.goes_on.ensures (lines_of (a.feed ++ x)) [])) at.rests.lane.stands
     in (
       tt,
@@ -45,7 +45,7 @@ returns-in-Ok-clause-answers g c = λ a x at over.
 pub returns-clause-answers : goal.returns-clause-answers
 returns-clause-answers g c = λ a x at over.
     let why = (rw c.into_lane-lane.ensures at (c.in-Err.ensures.answer (lines_of (a.feed ++ x)) []))
-        at.rests.lane.stands in
+    at.rests.lane.stands in
     let goes = (rw c.into_lane-lane.ensures at (c.goes_on.ensures (lines_of (a.feed ++ x)) [])) at.rests.lane.stands
     in (
       Refused,
