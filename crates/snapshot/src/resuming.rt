@@ -20,7 +20,7 @@ use crate::roster::Roster;
 use crate::server::RosterServer;
 use dover_model::{Horizon, Job, Memory, Role, Task};
 use event_feed::Intake;
-use ready_server::{Dispatcher, Dispatcher};
+use ready_server::Dispatcher;
 use std::alloc::Global;
 use std::sync::ledger::Ledger;
 use step_count::Steps;
