@@ -13,6 +13,7 @@ use event_feed::Intake;
 use lane_server::{Feed, Lane};
 use line_output::{put_fault, write_next};
 use line_text::BackLine;
+use ready_server::Dispatcher;
 use snapshot::RosterServer;
 use std::alloc::Global;
 use std::marker::PhantomData;
