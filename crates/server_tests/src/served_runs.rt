@@ -345,16 +345,34 @@ const WORKED: [Worked; 19] = [
     ),
 ];
 
+fn assert_printed(
+    rt: &(impl Abort + AllocGlobal),
+    memory: HeapMemory,
+    row: &Worked,
+) -> Result<(), Memory> {
+    let k = Ratio::new(row.1.0, row.1.1).expect(rt, "a ratio");
+    let list = jobs(rt, row.2)?;
+    let jobs = list.as_slice();
+    assert_valid(rt, k, jobs);
+    let text = printed::<Brand>(rt.alloc(), memory, row.0, k, jobs, Blank::new(1))?;
+    assert!(rt; text.as_str() == row.3);
+    Ok(())
+}
+
+fn assert_all_printed(
+    rt: &HostRuntime,
+    by: &(impl Abort + AllocGlobal),
+    rows: &[Worked],
+) -> Result<(), Memory> {
+    for row in rows {
+        assert_printed(by, rt.memory(), row)?;
+    }
+    Ok(())
+}
+
 #[test]
 fn the_worked_examples_are_printed(rt: HostRuntime) -> Result<(), Fail> {
-    for (version, ratio, numbers, want) in &WORKED {
-        let k = Ratio::new(ratio.0, ratio.1).expect(&rt, "a ratio");
-        let list = jobs(&rt, *numbers)?;
-        let jobs = list.as_slice();
-        assert_valid(&rt, k, jobs);
-        let text = printed::<Brand>(rt.alloc(), rt.memory(), *version, k, jobs, Blank::new(1))?;
-        assert!(rt; text.as_str() == *want);
-    }
+    assert_all_printed(&rt, &rt, &WORKED)?;
     Ok(())
 }
 
