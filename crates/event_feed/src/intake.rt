@@ -1,6 +1,6 @@
 //! The lines of a feed, taken in one by one.
 ghost use Rattle.std.specs.Prelude.{◌≡◌, ℕ, List, [], ◌∷◌, ◌++◌, ◌↔◌, true, false, Option, IsOk, IfOk, OnOk, IsSome};
-ghost use Rattle.std.specs.Prelude.{◌≤◌, ◌+◌, replicate};
+ghost use Rattle.std.specs.Prelude.{IfSome, ◌≤◌, ◌+◌, replicate};
 ghost use Rattle.std.specs.Option.{option_map};
 ghost use Rattle.dover_model.specs.Limits.{most_lines};
 ghost use Rattle.dover_model.specs.Session.{Session};
@@ -87,28 +87,22 @@ fn keep_numbers(spelled: &mut Spelled, line: &[u8], read: &FeedLine)
     }
 }
 
-/// A line, which is counted already.
+/// A line of one of the forms or of none, which is counted already.
 #[inline(always)]
-fn read(
-    session: &mut Option<KeptSession>,
-    spelled: &mut Spelled,
-    lines: u64,
-    line: &[u8],
-) -> Result<Fed, Cause>
+fn read(session: &mut Option<KeptSession>, lines: u64, line: Option<FeedLine>) -> Result<Fed, Cause>
+    requires { IfSome line (λ l. form.HasNumerals (form_of l)) }
     ensures few { OnOk result (lines ≤ most_lines) }
     ensures declared { OnOk result (IsSome session.new) }
-    ensures taken { (a : Account) → a.standing ≡ Open → a.lines ≡ lines → KeepsSession session.old a.session a.mark →
-        IsTaken session.new (form.feed_line line.now) a (read_line a line.now) result }
+    ensures taken { (a : Account) (text : List ℕ) → form.feed_line text ≡ option_map form_of line →
+        a.standing ≡ Open → a.lines ≡ lines → KeepsSession session.old a.session a.mark →
+        IsTaken session.new (form.feed_line text) a (read_line a text) result }
 {
     if lines > MOST_LINES {
         return Err(Cause::Lines);
     }
-    match read_feed_line(line) {
-        Ok(read) => {
-            keep_numbers(spelled, line, &read);
-            formed_line(session, read)
-        }
-        Err(_) => Err(Cause::Line),
+    match line {
+        Some(line) => formed_line(session, line),
+        None => Err(Cause::Line),
     }
 }
 
@@ -151,6 +145,43 @@ impl Intake {
         }
     }
 
+    /// Takes the next line, which has this form, or none.
+    #[inline(always)]
+    fn take(&mut self, line: Option<FeedLine>) -> Result<Fed, FeedFault>
+        requires numerals { IfSome line (λ l. form.HasNumerals (form_of l)) }
+        requires unended { has_ended self.old ≡ false }
+        ensures stands { (ls : List (List ℕ)) (text : List ℕ) → form.feed_line text ≡ option_map form_of line →
+            StandsFor self.old ls → StandsFor self.new (ls ++ text ∷ []) }
+        ensures answer { (ls : List (List ℕ)) (text : List ℕ) → form.feed_line text ≡ option_map form_of line →
+            StandsFor self.old ls → Answers text (account_of_lines ls) (account_of_lines (ls ++ text ∷ [])) result }
+        ensures going { IfOk result (λ fed. (fed ≡ Fed.Over → ⊥) → IsGoing self.new) }
+        ensures ended { (has_ended self.new ≡ true) ↔ (result ≡ Ok Fed.Over) }
+        ensures fault { fault_of self.new ≡ fault_in result }
+        ensures counted { self.new.lines ≤ self.old.lines + 1 }
+        ensures again { (fault : FeedFault) → fault_of self.old ≡ Some fault → (result ≡ Err fault)
+            × (self.new ≡ self.old) }
+    {
+        if let Standing::Faulty(fault) = self.standing {
+            return Err(fault);
+        }
+        self.lines += 1;
+        match read(&mut self.session, self.lines, line) {
+            Ok(Fed::Over) => {
+                self.standing = Standing::Over;
+                Ok(Fed::Over)
+            }
+            Ok(fed) => Ok(fed),
+            Err(cause) => {
+                let fault = FeedFault {
+                    line: self.lines,
+                    cause,
+                };
+                self.standing = Standing::Faulty(fault);
+                Err(fault)
+            }
+        }
+    }
+
     /// Takes the next line, without its line feed. No line is kept. After `Fed::Over` no line may come.
     ///
     /// # Errors
@@ -180,28 +211,38 @@ impl Intake {
         ensures again { (fault : FeedFault) → fault_of self.old ≡ Some fault → (result ≡ Err fault)
             × (self.new ≡ self.old) }
     {
-        if let Standing::Faulty(fault) = self.standing {
-            return Err(fault);
-        }
-        self.lines += 1;
-        match read(&mut self.session, &mut self.spelled, self.lines, line) {
-            Ok(Fed::Over) => {
-                self.standing = Standing::Over;
-                Ok(Fed::Over)
+        match read_feed_line(line) {
+            Ok(read) => {
+                keep_numbers(&mut self.spelled, line, &read);
+                self.take(Some(read))
             }
-            Ok(fed) => Ok(fed),
-            Err(cause) => {
-                let fault = FeedFault {
-                    line: self.lines,
-                    cause,
-                };
-                self.standing = Standing::Faulty(fault);
-                Err(fault)
-            }
+            Err(_) => self.take(None),
         }
     }
 
-    /// The numbers of the last job line that had the form of one, with their text; before it four zeros.
+    /// Takes the next line by its form, as `line` takes its text. Its numbers aren't kept for `spelled`.
+    ///
+    /// # Errors
+    ///
+    /// Those of `line`.
+    #[inline(always)]
+    pub fn form(&mut self, line: FeedLine) -> Result<Fed, FeedFault>
+        requires numerals { form.HasNumerals (form_of line) }
+        requires unended { has_ended self.old ≡ false }
+        ensures stands { (ls : List (List ℕ)) → StandsFor self.old ls →
+            StandsFor self.new (ls ++ form.feed_text (form_of line) ∷ []) }
+        ensures answer { (ls : List (List ℕ)) → StandsFor self.old ls →
+            Answers (form.feed_text (form_of line)) (account_of_lines ls)
+            (account_of_lines (ls ++ form.feed_text (form_of line) ∷ [])) result }
+        ensures going { IfOk result (λ fed. (fed ≡ Fed.Over → ⊥) → IsGoing self.new) }
+        ensures ended { (has_ended self.new ≡ true) ↔ (result ≡ Ok Fed.Over) }
+        ensures fault { fault_of self.new ≡ fault_in result }
+    {
+        self.take(Some(line))
+    }
+
+    /// The numbers of the last job line that `line` took and that had the form of one, with their text; before it four
+    /// zeros.
     #[inline(always)]
     pub fn spelled(&self) -> &Spelled {
         &self.spelled

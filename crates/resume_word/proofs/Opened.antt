@@ -1,5 +1,5 @@
 -- A snapshot as it is read, byte by byte.
-use Rattle.std.proofs.Common.{◌≡◌, ◌<◌, ◌≤◌, ◌+◌, ℕ, List, [], ◌∷◌, ◌++◌, length, take, get_or, refl, sym, ap, ◌∙◌}
+use Rattle.std.proofs.Common.{◌≡◌, ◌<◌, ◌≤◌, ◌+◌, ℕ, List, [], ◌∷◌, ◌++◌, length, refl, sym, ap, ◌∙◌}
 use Rattle.std.proofs.Common.{subst, Bool, true, false, cond, ◌&&◌, arith}
 use Rattle.std.proofs.Common.{Option, Some, None, Result, Ok, Err, codes}
 use Rattle.std.specs.Prelude.{nat_lt, bytes_eq}
@@ -9,7 +9,6 @@ use Rattle.std.proofs.lemmas.List.Sums.{fold-append}
 use Rattle.std.proofs.lemmas.Slice.Eq.{bytes_eq-Decides}
 use Rattle.dover_model.specs.declared.events.Task.{Task}
 use Rattle.dover_model.specs.Lines.{lines_of, rest_of, is_too_long, fields_of, numbers_of}
-use Rattle.line_text.proofs.Pieces.{next_bytes}
 use Rattle.snapshot.specs.Snapshot.{Head}
 use Rattle.snapshot.specs.Reading.{Reading, Begun, Going, Taken, Refused, head_from, task_of_fields, read_task}
 use Rattle.snapshot.specs.Reading.{with_head, with_task, with_last}
@@ -23,7 +22,7 @@ use Rattle.snapshot.specs.declared.reader.SnapFault.{SnapFault}
 use Rattle.snapshot.specs.declared.reader.SnapFault.TheVariants.{BadSnapshot, Memory}
 use Rattle.snapshot.specs.declared.resuming.Resuming.{Resuming}
 use Rattle.line_text.specs.Cutting.{Cutting, StandsFor, with_byte}
-use Rattle.resume_word.specs.Opening.{OpeningStands, IsWholeAt, Takes, TakesFront, HasFewOf}
+use Rattle.resume_word.specs.Opening.{OpeningStands, Takes}
 use Rattle.resume_word.specs.declared.opening.Opening.{Opening}
 
 -- ---- a line that is too long
@@ -152,39 +151,3 @@ pub line_jobs : (reader : Option Resuming) (x y line : List ℕ) → lines_of y 
     → jobs_kept reader ≤ jobs_read (reading_of (lines_of x ++ line ∷ []))
     → jobs_kept reader ≤ jobs_read (reading_of (lines_of y))
 line_jobs reader x y line lines few = subst (λ ls. jobs_kept reader ≤ jobs_read (reading_of ls)) (sym lines) few
-
--- ---- a piece
-
-module _ (o : Opening) (x bytes : List ℕ) (i : ℕ) (before : i < length bytes) where
-  -- the byte was the last of the snapshot
-  pub piece_ready : IsWholeAt o ((x ++ take i bytes) ++ get_or bytes i 0 ∷ [])
-      → TakesFront (Ok (Some (i + 1))) o x bytes
-  piece_ready it = (omega arith, subst (IsWholeAt o) (next_bytes x bytes i before) it)
-
-  -- at a fault
-  pub piece_fault : (fault : SnapFault) → Takes (Err fault) o ((x ++ take i bytes) ++ get_or bytes i 0 ∷ [])
-      → TakesFront (Err fault) o x bytes
-  piece_fault (BadSnapshot at) it =
-      (i + 1, omega arith, subst (λ y. reading_of (lines_of y) ≡ Refused at) (next_bytes x bytes i before) it)
-  piece_fault Memory it = (i + 1, omega arith, subst (λ y. IsGoing (lines_of y)) (next_bytes x bytes i before) it)
-
-  -- the snapshot goes on
-  pub piece_more : OpeningStands o ((x ++ take i bytes) ++ get_or bytes i 0 ∷ [])
-      → OpeningStands o (x ++ take (i + 1) bytes)
-  piece_more it = subst (OpeningStands o) (next_bytes x bytes i before) it
-
-  -- the jobs that are served again are in a front of the piece
-  pub piece_jobs : (kept : Option Resuming)
-      → jobs_kept kept ≤ jobs_read (reading_of (lines_of ((x ++ take i bytes) ++ get_or bytes i 0 ∷ [])))
-      → HasFewOf kept x bytes
-  piece_jobs kept few = (
-    i + 1,
-    omega arith,
-    subst (λ y. jobs_kept kept ≤ jobs_read (reading_of (lines_of y))) (next_bytes x bytes i before) few,
-  )
-
--- they are in the whole piece, where the snapshot goes on
-pub whole_jobs : (o : Opening) (x bytes : List ℕ) (n : ℕ) → n ≡ length bytes → OpeningStands o (x ++ take n bytes)
-    → HasFewOf o.reader x bytes
-whole_jobs o x bytes n all stands =
-    (n, omega (arith, all), jobs_reading o.reader (lines_of (x ++ take n bytes)) stands.reads)

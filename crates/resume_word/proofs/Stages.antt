@@ -3,7 +3,7 @@ use Rattle.std.proofs.Common.{◌≡◌, ◌<◌, ◌≤◌, ◌+◌, ℕ, suc, 
 use Rattle.std.proofs.Common.{sym, ap}
 use Rattle.std.proofs.Common.{◌∙◌, subst, append_assoc, append-nil, arith, Bool, true, false, inl, Option, Some}
 use Rattle.std.proofs.Common.{None}
-use Rattle.std.proofs.Common.{Result, Ok, Err, zero}
+use Rattle.std.proofs.Common.{Result, Ok, Err}
 use Rattle.std.proofs.lemmas.List.{take-append-drop}
 use Rattle.dover_model.specs.declared.Memory.{Memory as Lacking}
 use Rattle.dover_model.specs.declared.events.Task.{Task}
@@ -147,11 +147,12 @@ module _ (a : Asked) (o : Opening) (x : List ℕ) (was : OpeningStands o x) wher
 
 -- the snapshot goes on
 pub opening_took : (a : Asked) (o : Opening) (x : List ℕ) → OpeningStands o x → (E : Type 0) → E → (piece : List ℕ)
-    → 0 < length piece → (new : Opening) (now : ℕ) → OpeningStands new (x ++ piece) → HasSpentOn new.reader a.start now
-    → Takes (resume_talk a) (λ y parts. E × ((parts ≡ []) × IsOpen a new now y)) x piece (length piece)
-opening_took a o x was E e piece some new now stands spent =
-    took_all a (λ y parts. E × ((parts ≡ []) × IsOpen a new now y)) x piece some (opening_due a o x was)
-    (opening_due a new (x ++ piece) stands) (e, (refl, (stands, spent)))
+    (n : ℕ) → 0 < n → n ≤ length piece → (new : Opening) (now : ℕ) → OpeningStands new (x ++ take n piece)
+    → HasSpentOn new.reader a.start now
+    → Takes (resume_talk a) (λ y parts. E × ((parts ≡ []) × IsOpen a new now y)) x piece n
+opening_took a o x was E e piece n some fits new now stands spent =
+    took a (λ y parts. E × ((parts ≡ []) × IsOpen a new now y)) x piece n some fits (opening_due a o x was)
+    (opening_due a new (x ++ take n piece) stands) (e, (refl, (stands, spent)))
 
 -- a line of it is refused
 pub refused_took : (a : Asked) (o : Opening) (x : List ℕ) → OpeningStands o x → (E : Type 0) → E → (piece : List ℕ)
@@ -194,15 +195,6 @@ opened_is o y it =
       text = text;
       behind = ap (λ l. drop (length l) y) (text ∙ lines_again y it.0) ∙ all_dropped y;
     }
-
--- no line but the last makes it whole
-pub some_used : (o new : Opening) (x piece : List ℕ) → OpeningStands o x → (n : ℕ)
-    → TakesFront (Ok (Some n)) new x piece → 0 < n
-some_used o new x piece was zero it =
-    let opened : IsOpened (x ++ []) = opened_is new (x ++ []) it.1 in
-    never (sym (ap is_part (ap (λ y. reading_of (lines_of y)) (sym (append-nil x)) ∙ opened.reads))
-    ∙ stands_part o x was)
-some_used o new x piece was (suc n) it = omega arith
 
 -- nothing is left to give
 giving_none : (c : Call) (f : Feed RosterServer) (now : ℕ) (x : List ℕ) → serve.IsReady Serves HasRoom HasPaid c f now x
@@ -315,7 +307,8 @@ module _ (a : Asked) (x : List ℕ) (T : Call → List ℕ → Type 0) (at : IsP
     )
 
   -- a part
-  pub past_gives : (E : Type 0) → E → (f : Feed RosterServer) (now : ℕ) (rest : List (List ℕ)) (part : List ℕ) (given : Bool)
+  pub past_gives : (E : Type 0) → E → (f : Feed RosterServer) (now : ℕ) (rest : List (List ℕ)) (part : List ℕ)
+      (given : Bool)
       → GivesBy (λ H parts. serve.IsGiving Serves HasRoom HasPaid past_call f now H parts)
       (λ H. serve.IsReady Serves HasRoom HasPaid past_call f now H) past_bytes rest part given
       → GivesBy (λ y parts. E × IsPast a.start y (λ c H. serve.IsGiving Serves HasRoom HasPaid c f now H parts))

@@ -1,5 +1,5 @@
 -- What is kept of a snapshot while it is read, and how far a piece leads.
-use Rattle.std.specs.Prelude.{◌≡◌, ◌≤◌, ℕ, List, [], ◌++◌, length, take, false, Option, Some, None, Result, Ok, Err}
+use Rattle.std.specs.Prelude.{◌≡◌, ◌≤◌, ◌<◌, ℕ, List, [], ◌++◌, length, take, false, Option, Result, Ok, Err}
 use Rattle.dover_model.specs.Lines.{lines_of, rest_of, is_too_long}
 use Rattle.snapshot.specs.Reading.{Refused, reading_of}
 use Rattle.snapshot.specs.Kept.{IsReading, IsReady, IsGoing}
@@ -29,13 +29,11 @@ Takes (Ok Ready) o x = IsWholeAt o x
 Takes (Err (BadSnapshot at)) o x = reading_of (lines_of x) ≡ Refused at
 Takes (Err Memory) o x = IsGoing (lines_of x)
 
--- by how far a piece led behind x
-abbrev pub TakesFront : Result (Option ℕ) SnapFault → Opening → List ℕ → List ℕ → Type 0
-TakesFront (Ok None) o x bytes = OpeningStands o (x ++ bytes)
-TakesFront (Ok (Some n)) o x bytes = (n ≤ length bytes) × IsWholeAt o (x ++ take n bytes)
-TakesFront (Err (BadSnapshot at)) o x bytes = (n : ℕ) × (n ≤ length bytes)
-    × (reading_of (lines_of (x ++ take n bytes)) ≡ Refused at)
-TakesFront (Err Memory) o x bytes = (n : ℕ) × (n ≤ length bytes) × IsGoing (lines_of (x ++ take n bytes))
+-- by the front of a piece behind x that was taken
+abbrev pub TakesFront : Result (ℕ × Got) SnapFault → Opening → List ℕ → List ℕ → Type 0
+TakesFront (Ok front) o x bytes =
+    (0 < front.0) × (front.0 ≤ length bytes) × Takes (Ok front.1) o (x ++ take front.0 bytes)
+TakesFront (Err fault) o x bytes = (n : ℕ) × (n ≤ length bytes) × Takes (Err fault) o (x ++ take n bytes)
 
 -- no more jobs are served again than a front of these bytes behind x has
 abbrev pub HasFewOf : Option Resuming → List ℕ → List ℕ → Type 0

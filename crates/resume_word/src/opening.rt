@@ -1,6 +1,7 @@
 //! What is read first of a feed that goes on: its snapshot.
-ghost use Rattle.std.specs.Prelude.{◌≤◌, ℕ, List, [], ◌∷◌, ◌++◌};
+ghost use Rattle.std.specs.Prelude.{◌≤◌, ◌<◌, ℕ, List, [], ◌∷◌, ◌++◌, length};
 ghost use Rattle.dover_model.specs.Lines.{lines_of};
+ghost use Rattle.line_text.specs.Cutting.{IsWholeLine};
 ghost use Rattle.snapshot.specs.Reading.{reading_of};
 ghost use Rattle.snapshot.specs.Spending.{jobs_read, jobs_kept, HasSpentOn};
 ghost use Rattle.resume_word.specs.Opening.{OpeningStands, Takes, TakesFront, HasFewOf};
@@ -29,47 +30,61 @@ impl Opening {
             reader: Reader::new(alloc),
         }
     }
-}
 
-/// Takes a byte.
-fn open_byte<L: Ledger>(
-    opening: &mut Opening,
-    byte: u8,
-    steps: &mut Steps<L>,
-) -> Result<Got, SnapFault>
-    requires { (x : List ℕ) × OpeningStands opening.old x }
-    ensures takes { (x : List ℕ) → OpeningStands opening.old x → Takes result opening.new (x ++ byte ∷ []) }
-    ensures jobs { (x : List ℕ) → OpeningStands opening.old x →
-        jobs_kept opening.new.reader ≤ jobs_read (reading_of (lines_of (x ++ byte ∷ []))) }
-    ensures count { (start : ℕ) → HasSpentOn opening.old.reader start steps.old →
-        HasSpentOn opening.new.reader start steps.new }
-{
-    match opening.lines.push(byte) {
-        Step::More => Ok(Got::More),
-        Step::Line => opening.reader.line(opening.lines.line(), steps),
-        Step::TooLong => opening.reader.line(opening.lines.line(), steps),
-    }
-}
-
-/// Takes a piece, up to the end of the snapshot, or to a line that is refused. Some with how many bytes the snapshot
-/// has of the piece.
-pub(crate) fn open_piece<L: Ledger>(
-    opening: &mut Opening,
-    bytes: &[u8],
-    steps: &mut Steps<L>,
-) -> Result<Option<usize>, SnapFault>
-    requires { (x : List ℕ) × OpeningStands opening.old x }
-    ensures takes { (x : List ℕ) → OpeningStands opening.old x → TakesFront result opening.new x bytes.now }
-    ensures jobs { (x : List ℕ) → OpeningStands opening.old x → HasFewOf opening.new.reader x bytes.now }
-    ensures count { (start : ℕ) → HasSpentOn opening.old.reader start steps.old →
-        HasSpentOn opening.new.reader start steps.new }
-{
-    for index in 0..bytes.len() {
-        match open_byte(opening, bytes[index], steps) {
-            Ok(Got::More) => {}
-            Ok(Got::Ready) => return Ok(Some(index + 1)),
-            Err(fault) => return Err(fault),
+    /// Takes a byte.
+    fn open_byte<L: Ledger>(&mut self, byte: u8, steps: &mut Steps<L>) -> Result<Got, SnapFault>
+        requires { (x : List ℕ) × OpeningStands self.old x }
+        ensures takes { (x : List ℕ) → OpeningStands self.old x → Takes result self.new (x ++ byte ∷ []) }
+        ensures jobs { (x : List ℕ) → OpeningStands self.old x →
+            jobs_kept self.new.reader ≤ jobs_read (reading_of (lines_of (x ++ byte ∷ []))) }
+        ensures count { (start : ℕ) → HasSpentOn self.old.reader start steps.old →
+            HasSpentOn self.new.reader start steps.new }
+    {
+        match self.lines.push(byte) {
+            Step::More => Ok(Got::More),
+            Step::Line => self.reader.line(self.lines.line(), steps),
+            Step::TooLong => self.reader.line(self.lines.line(), steps),
         }
     }
-    Ok(None)
+
+    /// Takes a byte, or a whole line with its line feed where no line has begun.
+    fn open_front<L: Ledger>(
+        &mut self,
+        bytes: &[u8],
+        steps: &mut Steps<L>,
+    ) -> Result<Got, SnapFault>
+        requires some { 0 < length bytes.now }
+        requires whole { 1 < length bytes.now → IsWholeLine self.old.lines bytes.now }
+        requires stands { (x : List ℕ) × OpeningStands self.old x }
+        ensures takes { (x : List ℕ) → OpeningStands self.old x → Takes result self.new (x ++ bytes.now) }
+        ensures jobs { (x : List ℕ) → OpeningStands self.old x →
+            jobs_kept self.new.reader ≤ jobs_read (reading_of (lines_of (x ++ bytes.now))) }
+        ensures count { (start : ℕ) → HasSpentOn self.old.reader start steps.old →
+            HasSpentOn self.new.reader start steps.new }
+    {
+        if bytes.len() > 1 {
+            return self.reader.line(self.lines.pass(bytes), steps);
+        }
+        self.open_byte(bytes[0], steps)
+    }
+
+    /// Takes a front of a piece, at least a byte, and says how many bytes, and whether the snapshot is whole.
+    pub(crate) fn take<L: Ledger>(
+        &mut self,
+        piece: &[u8],
+        steps: &mut Steps<L>,
+    ) -> Result<(usize, Got), SnapFault>
+        requires some { 0 < length piece.now }
+        requires stands { (x : List ℕ) × OpeningStands self.old x }
+        ensures takes { (x : List ℕ) → OpeningStands self.old x → TakesFront result self.new x piece.now }
+        ensures jobs { (x : List ℕ) → OpeningStands self.old x → HasFewOf self.new.reader x piece.now }
+        ensures count { (start : ℕ) → HasSpentOn self.old.reader start steps.old →
+            HasSpentOn self.new.reader start steps.new }
+    {
+        let count = self.lines.front(piece);
+        match self.open_front(&piece[..count], steps) {
+            Ok(got) => Ok((count, got)),
+            Err(fault) => Err(fault),
+        }
+    }
 }

@@ -6,14 +6,14 @@ ghost use Rattle.resume_word.specs.Record.{refused_text, IsFrugalFor};
 ghost use Rattle.resume_word.specs.Talk.{Asked, resume_talk};
 ghost use Rattle.resume_word.specs.Keeping.{IsReady, IsGiving};
 
-use crate::opening::{Opening, open_piece};
+use crate::opening::Opening;
 use dialogue::{Stop, Talker};
 use dover_model::Memory;
 use dover_port::{Output, Port, Status};
 use line_output::put_line;
 use line_text::{BackLine, LineBuf};
 use serve_word::{AtEnd, Pausing, Serving};
-use snapshot::{Reader, RosterServer, SnapFault};
+use snapshot::{Got, Reader, RosterServer, SnapFault};
 use std::alloc::Global;
 use std::mem::replace;
 use std::sync::ledger::Ledger;
@@ -78,9 +78,9 @@ impl<L: Ledger> Talker for Resuming<L> {
     fn take(&mut self, meter: &mut Steps<L>, piece: &[u8]) -> Result<usize, Memory> {
         Serving::<RosterServer, L>::laws();
         match &mut self.stage {
-            Stage::Opening(opening) => match open_piece(opening, piece, meter) {
-                Ok(None) => Ok(piece.len()),
-                Ok(Some(used)) => {
+            Stage::Opening(opening) => match opening.take(piece, meter) {
+                Ok((used, Got::More)) => Ok(used),
+                Ok((used, Got::Ready)) => {
                     let reader = replace(&mut opening.reader, Reader::new(self.alloc));
                     let (server, intake, mark) = reader.take();
                     self.stage = Stage::Serving(Serving::resumed(self.alloc, server, intake, mark));

@@ -233,45 +233,27 @@ module _ (h : Head) (tasks : List Task) (t : Task) (i new : feed.Kept) (it : IsF
   IsHandedOn job = (job ≡ t.job) × IsValid (stored h (tasks ++ t ∷ [])) × IsFed new h (tasks ++ t ∷ [])
 
   -- it is the line's, and valid
-  pub handed_on : (bytes : List ℕ) (answer : Fed) (result : Option JobFacts) → bytes ≡ line → result ≡ job_in answer
-      → feed.StandsFor new (job_lines h tasks ++ bytes ∷ [])
-      → Answers bytes (account_of_lines (job_lines h tasks)) (account_of_lines (job_lines h tasks ++ bytes ∷ []))
+  pub handed_on : (answer : Fed) (result : Option JobFacts) → result ≡ job_in answer
+      → feed.StandsFor new (job_lines h tasks ++ line ∷ [])
+      → Answers line (account_of_lines (job_lines h tasks)) (account_of_lines (job_lines h tasks ++ line ∷ []))
       (Ok answer)
       → IfSome result IsHandedOn
-  handed_on bytes answer result spelled is stands said = subst (λ o. IfSome o IsHandedOn) (sym is) (by answer
-      (subst (λ bs. Answers bs (account_of_lines (job_lines h tasks)) (account_of_lines (job_lines h tasks ++ bs ∷ []))
-      (Ok answer)) spelled said))
-    where
-      by : (x : Fed) → Answers line (account_of_lines (job_lines h tasks))
-          (account_of_lines (job_lines h tasks ++ line ∷ [])) (Ok x)
-          → IfSome (job_in x) IsHandedOn
-      by (fed.Ratio k version) s = tt
-      by (fed.Job n job) s =
-          let it = added n job (subst (λ bs. feed.StandsFor new (job_lines h tasks ++ bs ∷ [])) spelled stands) s in
-          (it.same, it.valid, it.fed)
-      by (fed.Tick tick) s = tt
-      by fed.Over s = tt
-      by (fed.Refused r c d v refusal) s = tt
+  handed_on answer result is stands said = subst (λ o. IfSome o IsHandedOn) (sym is) (by answer said) where
+    by : (x : Fed) → Answers line (account_of_lines (job_lines h tasks))
+        (account_of_lines (job_lines h tasks ++ line ∷ [])) (Ok x)
+        → IfSome (job_in x) IsHandedOn
+    by (fed.Ratio k version) s = tt
+    by (fed.Job n job) s = let it = added n job stands s in (it.same, it.valid, it.fed)
+    by (fed.Tick tick) s = tt
+    by fed.Over s = tt
+    by (fed.Refused r c d v refusal) s = tt
 
   -- none is handed on where it isn't valid
-  pub none_handed_on : (bytes : List ℕ) (answer : Fed) (result : Option JobFacts) → bytes ≡ line
-      → result ≡ job_in answer → IsNone result
-      → Answers bytes (account_of_lines (job_lines h tasks)) (account_of_lines (job_lines h tasks ++ bytes ∷ []))
+  pub none_handed_on : (answer : Fed) (result : Option JobFacts) → result ≡ job_in answer → IsNone result
+      → Answers line (account_of_lines (job_lines h tasks)) (account_of_lines (job_lines h tasks ++ line ∷ []))
       (Ok answer)
       → IsValid (stored h (tasks ++ t ∷ [])) → ⊥
-  none_handed_on bytes answer result spelled is none said = no_job answer (sym is ∙ by result none)
-      (subst (λ bs. Answers bs (account_of_lines (job_lines h tasks)) (account_of_lines (job_lines h tasks ++ bs ∷ []))
-      (Ok answer)) spelled said)
-    where
-      by : (o : Option JobFacts) → IsNone o → o ≡ None
-      by None n = refl
-      by (Some j) n = absurd (let clash : true ≡ false = n in cc)
-
-  -- nor at a fault
-  pub none_at_fault_on : (bytes : List ℕ) (fault : FeedFault) → bytes ≡ line
-      → Answers bytes (account_of_lines (job_lines h tasks)) (account_of_lines (job_lines h tasks ++ bytes ∷ []))
-      (Err fault)
-      → IsValid (stored h (tasks ++ t ∷ [])) → ⊥
-  none_at_fault_on bytes fault spelled said = no_fault fault
-      (subst (λ bs. Answers bs (account_of_lines (job_lines h tasks)) (account_of_lines (job_lines h tasks ++ bs ∷ []))
-      (Err fault)) spelled said)
+  none_handed_on answer result is none said = no_job answer (sym is ∙ by result none) said where
+    by : (o : Option JobFacts) → IsNone o → o ≡ None
+    by None n = refl
+    by (Some j) n = absurd (let clash : true ≡ false = n in cc)

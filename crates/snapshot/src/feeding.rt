@@ -17,20 +17,17 @@ ghost use Rattle.snapshot.specs.Kept.{IsFed, feed_lines, HasRoom, IsGoodNext, Ca
 use crate::forms::{Head, StateLine};
 use dover_model::{Job, Version};
 use event_feed::{Fed, Intake};
-use job_format::{FeedLine, write_feed_line};
-use line_text::LineBuf;
+use job_format::FeedLine;
 
 /// Hands in a line that isn't at fault and doesn't end the feed.
-fn hand(intake: &mut Intake, line: &FeedLine)
-    requires numerals { HasNumerals (form_of line.now) }
+fn hand(intake: &mut Intake, line: FeedLine)
+    requires numerals { HasNumerals (form_of line) }
     requires unended { has_ended intake.old ≡ false }
-    requires good { (ls : List (List ℕ)) × IsGoodNext intake.old ls (feed_text (form_of line.now)) }
+    requires good { (ls : List (List ℕ)) × IsGoodNext intake.old ls (feed_text (form_of line)) }
     ensures stands { (ls : List (List ℕ)) → StandsFor intake.old ls
-        → StandsFor intake.new (ls ++ feed_text (form_of line.now) ∷ []) }
+        → StandsFor intake.new (ls ++ feed_text (form_of line) ∷ []) }
 {
-    let mut text = LineBuf::new();
-    write_feed_line(line, &mut text);
-    match intake.line(text.bytes()) {
+    match intake.form(line) {
         Ok(_) => {}
         Err(_) => unreachable!(),
     }
@@ -57,7 +54,7 @@ pub(crate) fn begin(head: &Head) -> Intake
     ensures { IsFed result (head_in head.now) [] }
 {
     let mut intake = Intake::new();
-    hand(&mut intake, &ratio_line(head));
+    hand(&mut intake, ratio_line(head));
     intake
 }
 
@@ -88,9 +85,7 @@ pub(crate) fn hand_job(intake: &mut Intake, state: &StateLine) -> Option<Job>
         deadline: state.deadline,
         value: state.value,
     };
-    let mut text = LineBuf::new();
-    write_feed_line(&line, &mut text);
-    match intake.line(text.bytes()) {
+    match intake.form(line) {
         Ok(fed) => job_in(fed),
         Err(_) => None,
     }
@@ -104,7 +99,7 @@ pub(crate) fn hand_ticks(intake: &mut Intake, head: &Head)
         StandsFor intake.new (feed_lines (head_in head.now) tasks) }
 {
     if head.lines > head.jobs + 1 {
-        hand(intake, &FeedLine::Tick { at: head.mark });
+        hand(intake, FeedLine::Tick { at: head.mark });
         intake.skip(head.lines - head.jobs - 2);
     }
 }

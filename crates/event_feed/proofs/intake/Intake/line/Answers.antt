@@ -1,56 +1,11 @@
--- A fault is kept and answered.
-use Rattle.std.proofs.Common.{◌≡◌, ℕ, suc, ◌+◌, List, sym, ap, ◌∙◌, subst, refl, arith, Err, None, Some}
-use Rattle.dover_model.specs.Feed.{Open, account_of_lines, read_line}
-use Rattle.dover_model.specs.FeedLine.{feed_line}
-use Rattle.event_feed.specs.declared.intake.Standing.TheVariants as standings
-use Rattle.event_feed.specs.Kept.{StandsFor, standing_of, has_ended, fault_of}
-use Rattle.event_feed.specs.Answers.{counted}
-use Rattle.event_feed.specs.Reading.{IsTaken}
-use Rattle.event_feed.proofs.Taking.{goes_on, is_going, keeps_fault, answers_fault}
+-- What is kept of the numbers changes nothing of what stands for the lines.
+use Rattle.std.proofs.Common.{ap, ◌∙◌}
+use Rattle.event_feed.specs.Kept.{has_ended, fault_of}
 use Rattle.event_feed.proofs.intake.Intake.line.Goals as goal
 
-pub returns-in-Err : goal.returns-in-Err
-returns-in-Err c = record {
-  stands = λ ls it. keeps_fault ls c.args.line.now c.read.new.session (c.self.inside.lines + 1) c.in-Err.cause
-      (opened ls it) (counts ls it)
-      (taken ls it);
-  answer = λ ls it. answers_fault ls c.args.line.now c.read.new.session (c.self.inside.lines + 1) c.in-Err.cause
-      (opened ls it) (counts ls it)
-      (taken ls it);
-  going = tt;
-  ended = (λ e. cc, λ e. cc);
-  fault = refl;
-  counted = omega (arith, ap (λ k. k.lines) c.self.view_is);
-  again = λ fault is. absurd (let e : None ≡ Some fault =
-      ap (λ s. fault_of (record { lines = c.self.inside.lines; session = c.self.inside.session; standing = s }))
-      (sym still_open)
-      ∙ ap fault_of c.self.view_is ∙ is in cc);
-} where
-  still_open : c.self.inside.standing ≡ standings.Open
-  still_open = goes_on c.self.inside.standing (ap has_ended c.self.view_is ∙ c.requires) c.in_default.not-Faulty
+pub take-requires-clause-unended : goal.take-requires-clause-unended
+take-requires-clause-unended c = ap has_ended c.self.view_is ∙ c.requires
 
-  of_view : (ls : List (List ℕ)) → StandsFor c.args.self.now ls
-      → StandsFor (record {
-        lines = c.self.inside.lines;
-        session = c.self.inside.session;
-        standing =
-            c.self.inside.standing;
-      }) ls
-  of_view ls it = subst (λ k. StandsFor k ls) (sym c.self.view_is) it
-
-  opened : (ls : List (List ℕ)) → StandsFor c.args.self.now ls → (account_of_lines ls).standing ≡ Open
-  opened ls it = sym (of_view ls it).by_account.standing ∙ ap standing_of still_open
-
-  counts : (ls : List (List ℕ)) → StandsFor c.args.self.now ls
-      → c.self.inside.lines + 1 ≡ suc (account_of_lines ls).lines
-  counts ls it = omega (arith, (of_view ls it).by_account.counted)
-
-  taken : (ls : List (List ℕ)) → StandsFor c.args.self.now ls → IsTaken c.read.new.session (feed_line c.args.line.now)
-      (counted (account_of_lines ls)) (read_line (counted (account_of_lines ls)) c.args.line.now) (Err c.in-Err.cause)
-  taken ls it = c.in-Err.ensures.taken (counted (account_of_lines ls)) (opened ls it) (sym (counts ls it))
-      (of_view ls it).by_account.session
-
-pub returns-in-Ok-clause-going : goal.returns-in-Ok-clause-going
-returns-in-Ok-clause-going c not_over =
-    is_going (c.self.inside.lines + 1) c.read.new.session c.self.inside.standing c.in-Ok.ensures.declared
-    (goes_on c.self.inside.standing (ap has_ended c.self.view_is ∙ c.requires) c.in_default.not-Faulty)
+pub returns-in-Ok-clause-again : goal.returns-in-Ok-clause-again
+returns-in-Ok-clause-again c = λ fault is.
+    let it = c.take.ensures.again fault (ap fault_of c.self.view_is ∙ is) in (it.0, it.1 ∙ c.self.view_is)

@@ -5,36 +5,36 @@ use Rattle.resume_word.specs.Keeping.{IsReady}
 use Rattle.dover_model.proofs.Tests.{never}
 use Rattle.resume_word.proofs.Talking.{goes_at}
 use Rattle.resume_word.proofs.Onward.{feed_may}
-use Rattle.resume_word.proofs.Stages.{front_costs, line_refused, line_lacks, opened_is, some_used}
+use Rattle.resume_word.proofs.Stages.{front_costs, line_refused, line_lacks, opened_is}
 use Rattle.resume_word.proofs.Stages.{opened_call, past_call, past_bytes, past_takes, past_goes, opening_took}
 use Rattle.resume_word.proofs.Stages.{refused_took, whole_took}
 use Rattle.snapshot.specs.Kept.{IsReady as Ready}
 use Rattle.snapshot.specs.Spending.{HasSpentOn}
 use Rattle.resume_word.proofs.resuming.ResumingTalker.take.Goals as goal
 
-pub open_piece-requires : goal.open_piece-requires
-open_piece-requires g c =
+pub take-requires-clause-stands : goal.take-requires-clause-stands
+take-requires-clause-stands g c =
     let at = c.requires.stands.2 in (
       c.requires.stands.1,
       (subst (λ s. IsReady c.requires.stands.0 s c.args.meter.now c.requires.stands.1) c.in-Opening.is at.1).0,
     )
 
-pub returns-in-Ok-None : goal.returns-in-Ok-None
-returns-in-Ok-None g c = record {
+pub returns-in-Ok-default-More : goal.returns-in-Ok-default-More
+returns-in-Ok-default-More g c = record {
   takes = λ a x at goes.
       let it = subst (λ s. IsReady a s c.args.meter.now x) c.in-Opening.is at.1 in
-      let stands = rw c.in-Ok-None.field-0-is at (c.in-Ok-None.ensures.takes x it.0) in
-      opening_took a _ x it.0 _ at.0 c.args.piece.now c.requires.some c.open_piece.new.opening _ stands
-      (c.in-Ok-None.ensures.count a.start it.1);
+      let front = rw c.in-Ok-default-More.field-0-1-is at (c.in-Ok-default-More.ensures.takes x it.0) in
+      opening_took a _ x it.0 _ at.0 c.args.piece.now c.in-Ok-default-More.used front.0 front.1 c.take.new.self _ front.2
+      (c.in-Ok-default-More.ensures.count a.start it.1);
 }
 
 pub returns-in-Err-Memory : goal.returns-in-Err-Memory
 returns-in-Err-Memory g c = record {
   takes = λ a x at goes.
       let it = subst (λ s. IsReady a s c.args.meter.now x) c.in-Opening.is at.1 in (
-        line_lacks a _ x it.0 c.args.piece.now c.open_piece.new.opening
+        line_lacks a _ x it.0 c.args.piece.now c.take.new.self
             (rw c.in-Err-Memory.field-0-is at (c.in-Err-Memory.ensures.takes x it.0)),
-        front_costs a _ x it.0 c.args.piece.now c.open_piece.new.opening _
+        front_costs a _ x it.0 c.args.piece.now c.take.new.self _
             (c.in-Err-Memory.ensures.count a.start it.1) (c.in-Err-Memory.ensures.jobs x it.0),
       );
 }
@@ -43,11 +43,11 @@ pub returns-in-Err-BadSnapshot : goal.returns-in-Err-BadSnapshot
 returns-in-Err-BadSnapshot g c = record {
   takes = λ a x at goes.
       let it = subst (λ s. IsReady a s c.args.meter.now x) c.in-Opening.is at.1 in
-      let refused = line_refused a _ x it.0 c.args.piece.now c.open_piece.new.opening c.in-Err-BadSnapshot.line
+      let refused = line_refused a _ x it.0 c.args.piece.now c.take.new.self c.in-Err-BadSnapshot.line
       (rw c.in-Err-BadSnapshot.field-0-is at (c.in-Err-BadSnapshot.ensures.takes x it.0)) in
       rw c.in-Err-BadSnapshot.line-is
       (refused_took a _ x it.0 _ at.0 c.args.piece.now c.requires.some c.in-Err-BadSnapshot.line _ refused
-      (front_costs a _ x it.0 c.args.piece.now c.open_piece.new.opening _
+      (front_costs a _ x it.0 c.args.piece.now c.take.new.self _
       (c.in-Err-BadSnapshot.ensures.count a.start it.1) (c.in-Err-BadSnapshot.ensures.jobs x it.0)));
 }
 
@@ -56,25 +56,25 @@ take-server-requires g c =
     let a = c.requires.stands.0 in
     let x = c.requires.stands.1 in
     let it = subst (λ s. IsReady a s c.args.meter.now x) c.in-Opening.is c.requires.stands.2.1 in
-    let front = rw c.in-Ok-Some.field-0-is at (c.in-Ok-Some.ensures.takes x it.0) in
-    let ls : List (List ℕ) = lines_of (x ++ take c.in-Ok-Some.used c.args.piece.now) in
-    (ls, subst (λ r. Ready r ls) (sym c.replace-reader.ensures.value) front.1.1)
+    let front = rw c.in-Ok-default-Ready.field-0-1-is at (c.in-Ok-default-Ready.ensures.takes x it.0) in
+    let ls : List (List ℕ) = lines_of (x ++ take c.in-Ok-default-Ready.used c.args.piece.now) in
+    (ls, subst (λ r. Ready r ls) (sym c.replace-reader.ensures.value) front.2.1)
 
-pub returns-in-Ok-Some : goal.returns-in-Ok-Some
-returns-in-Ok-Some g c = record {
+pub returns-in-Ok-default-Ready : goal.returns-in-Ok-default-Ready
+returns-in-Ok-default-Ready g c = record {
   takes = λ a x at goes.
       let it = subst (λ s. IsReady a s c.args.meter.now x) c.in-Opening.is at.1 in
-      let front = rw c.in-Ok-Some.field-0-is at (c.in-Ok-Some.ensures.takes x it.0) in
-      let y : List ℕ = x ++ take c.in-Ok-Some.used c.args.piece.now in
-      let opened = opened_is c.open_piece.new.opening y front.1 in
+      let front = rw c.in-Ok-default-Ready.field-0-1-is at (c.in-Ok-default-Ready.ensures.takes x it.0) in
+      let y : List ℕ = x ++ take c.in-Ok-default-Ready.used c.args.piece.now in
+      let opened = opened_is c.take.new.self y front.2 in
       let gives = c.take-server.ensures.gives (lines_of y)
-      (subst (λ r. Ready r (lines_of y)) (sym c.replace-reader.ensures.value) front.1.1) in
+      (subst (λ r. Ready r (lines_of y)) (sym c.replace-reader.ensures.value) front.2.1) in
       let may = feed_may y opened.head opened.tasks opened.reads in
-      whole_took a y opened _ x it.0 _ at.0 c.args.piece.now c.in-Ok-Some.used
-      (some_used _ c.open_piece.new.opening x c.args.piece.now it.0 c.in-Ok-Some.used front) front.0 refl _ _
+      whole_took a y opened _ x it.0 _ at.0 c.args.piece.now c.in-Ok-default-Ready.used
+      front.0 front.1 refl _ _
       (c.resumed.ensures (opened_call a y opened) _ may (gives.each _ may opened.text)
-      (c.take-server.ensures.count a.start _ (subst (λ r. HasSpentOn r a.start c.open_piece.new.steps)
-      (sym c.replace-reader.ensures.value) (c.in-Ok-Some.ensures.count a.start it.1))));
+      (c.take-server.ensures.count a.start _ (subst (λ r. HasSpentOn r a.start c.take.new.steps)
+      (sym c.replace-reader.ensures.value) (c.in-Ok-default-Ready.ensures.count a.start it.1))));
 }
 
 pub unreachable-requires : goal.unreachable-requires
@@ -84,8 +84,8 @@ unreachable-requires g c =
     let it = subst (λ s. IsReady a s c.args.meter.now x) c.in-Refused.is c.requires.stands.2.1 in
     never (sym (goes_at a x (Refused _) it.0) ∙ c.requires.stands.3)
 
-pub take-requires-clause-stands : goal.take-requires-clause-stands
-take-requires-clause-stands g c =
+pub take-requires-in-Serving-clause-stands : goal.take-requires-in-Serving-clause-stands
+take-requires-in-Serving-clause-stands g c =
     let a = c.requires.stands.0 in
     let x = c.requires.stands.1 in
     let it = subst (λ s. IsReady a s c.args.meter.now x) c.in-Serving.is c.requires.stands.2.1 in
@@ -95,6 +95,6 @@ pub returns-in-Serving : goal.returns-in-Serving
 returns-in-Serving g c = record {
   takes = λ a x at goes.
       let it = subst (λ s. IsReady a s c.args.meter.now x) c.in-Serving.is at.1 in
-      past_takes a x _ it c.args.piece.now _ _ _ at.0 c.take.result
-      (c.take.ensures.takes (past_call a x _ it) (past_bytes a x _ it) it.holds (sym (past_goes a x _ it) ∙ goes));
+      past_takes a x _ it c.args.piece.now _ _ _ at.0 c.take-in-Serving.result
+      (c.take-in-Serving.ensures.takes (past_call a x _ it) (past_bytes a x _ it) it.holds (sym (past_goes a x _ it) ∙ goes));
 }
