@@ -35,8 +35,10 @@ use Rattle.event_feed.specs.Answers.{DeclaresRatio, AddsJob, MovesMark, EndsFeed
 use Rattle.event_feed.specs.Answers.{counted}
 use Rattle.event_feed.specs.declared.faults.FeedFault.{FeedFault}
 use Rattle.lane_server.specs.Lanes.{lines_added}
-use Rattle.lane_server.specs.Lane.{Serving, Having, Fits, Running, Admitting, reach}
+use Rattle.lane_server.specs.Lane.{Fits, Running, Admitting, reach}
 use Rattle.lane_server.proofs.Printing.{due_before}
+use Rattle.ready_server.specs.Rostering.{Serves, HasPlace}
+use Rattle.ready_server.specs.declared.roster_server.RosterServer.{RosterServer}
 
 -- ---- accounts
 
@@ -143,24 +145,23 @@ reach_by a x e = ap (λ (y : Standing).
 pub reach_open : (a : Account) → a.standing ≡ Open → reach a ≡ Mark a.mark
 reach_open a stands = reach_by a Open stands
 
-module _ {D : Type 0} (serves : Serving D) where
-  -- the server of an account's session has printed what is settled
-  pub open_serves : (a : Account) (S : Session) (v : D) → Fits serves a (Some v) → a.session ≡ Some S
-      → a.standing ≡ Open → serves v (instance_of S) (Mark a.mark) (settled (instance_of S) a.mark)
-  open_serves a S v fits there stands =
-      subst (λ h. serves v (instance_of S) h (due_by (instance_of S) h)) (reach_open a stands)
-      (subst (λ (T : Session). serves v (instance_of T) (reach a) (due_by (instance_of T) (reach a)))
-      (one_session fits.0 S a fits.1 there) fits.2)
+-- the server of an account's session has printed what is settled
+pub open_serves : (a : Account) (S : Session) (v : RosterServer) → Fits a (Some v) → a.session ≡ Some S
+    → a.standing ≡ Open → Serves v (instance_of S) (Mark a.mark) (settled (instance_of S) a.mark)
+open_serves a S v fits there stands =
+    subst (λ h. Serves v (instance_of S) h (due_by (instance_of S) h)) (reach_open a stands)
+    (subst (λ (T : Session). Serves v (instance_of T) (reach a) (due_by (instance_of T) (reach a)))
+    (one_session fits.0 S a fits.1 there) fits.2)
 
-  -- it fits another account for which as much is due
-  pub fits_same : (a b : Account) (server : Option D) → b.session ≡ a.session → reach b ≡ reach a
-      → Fits serves a server → Fits serves b server
-  fits_same a b None same far fits = same ∙ fits
-  fits_same a b (Some v) same far fits = (
-    fits.0,
-    same ∙ fits.1,
-    subst (λ h. serves v (instance_of fits.0) h (due_by (instance_of fits.0) h)) (sym far) fits.2,
-  )
+-- it fits another account for which as much is due
+pub fits_same : (a b : Account) (server : Option RosterServer) → b.session ≡ a.session → reach b ≡ reach a
+    → Fits a server → Fits b server
+fits_same a b None same far fits = same ∙ fits
+fits_same a b (Some v) same far fits = (
+  fits.0,
+  same ∙ fits.1,
+  subst (λ h. Serves v (instance_of fits.0) h (due_by (instance_of fits.0) h)) (sym far) fits.2,
+)
 
 -- ---- the ratio line
 
@@ -195,14 +196,14 @@ module _ (a b : Account) (k : Fraction) (version : Version) (stands : a.standing
       ∙ ap (λ ls. ls ++ header (rules_with k version) ∷ []) (sym (due_nothing a it.first stands))
 
   -- a new server has served all that is settled
-  pub header_fits : {D : Type 0} (serves : Serving D) (v : D) → serves v (no_jobs version k) (Mark 0) []
-      → Fits serves b (Some v)
-  header_fits serves v new = (
+  pub header_fits : (v : RosterServer) → Serves v (no_jobs version k) (Mark 0) []
+      → Fits b (Some v)
+  header_fits v new = (
     started,
     header_session,
-    subst (λ h. serves v (instance_of started) h (due_by (instance_of started) h))
+    subst (λ h. Serves v (instance_of started) h (due_by (instance_of started) h))
         (sym (reach_open b header_stands ∙ ap Mark (header_mark ∙ it.no_mark)))
-        (subst (serves v (instance_of started) (Mark 0)) (sym (nothing_settled (rules_with k version))) new),
+        (subst (Serves v (instance_of started) (Mark 0)) (sym (nothing_settled (rules_with k version))) new),
   )
 
 -- ---- a fault
@@ -214,10 +215,10 @@ new_fault_due bytes fault a b it = due_fault a b (suc a.lines) (cause_of_fault f
     ∙ ap (λ n. due_lines a ++ fault_text n (cause_of_fault fault.cause) ∷ []) (sym it.line)
 
 -- and as much of the session is due as before
-pub new_fault_fits : {D : Type 0} (serves : Serving D) (bytes : List ℕ) (fault : FeedFault) (a b : Account)
-    (server : Option D) → NewFault bytes fault a b → Fits serves a server → Fits serves b server
-new_fault_fits serves bytes fault a b server it fits =
-    fits_same serves a b server (ap (λ (x : Account). x.session) it.after_is)
+pub new_fault_fits : (bytes : List ℕ) (fault : FeedFault) (a b : Account)
+    (server : Option RosterServer) → NewFault bytes fault a b → Fits a server → Fits b server
+new_fault_fits bytes fault a b server it fits =
+    fits_same a b server (ap (λ (x : Account). x.session) it.after_is)
     (reach_by b _ (ap (λ (x : Account). x.standing) it.after_is)
     ∙ ap (λ (x : Account). Mark x.mark) it.after_is ∙ sym (reach_open a it.opened)) fits
 
@@ -275,9 +276,9 @@ module _ (a b : Account) (t : ℕ) (kept : IsKept a) (stands : a.standing ≡ Op
       tick_begins.1
 
   -- they are left
-  pub tick_owes : {D : Type 0} (serves : Serving D) (v : D) → Fits serves a (Some v)
-      → Running serves (Mark t) v b tick_rest
-  tick_owes serves v fits = record {
+  pub tick_owes : (v : RosterServer) → Fits a (Some v)
+      → Running (Mark t) v b tick_rest
+  tick_owes v fits = record {
     session = it.session;
     there = tick_session;
     reached = reach_open b tick_stands ∙ ap Mark tick_mark;
@@ -285,7 +286,7 @@ module _ (a b : Account) (t : ℕ) (kept : IsKept a) (stands : a.standing ≡ Op
     from = Mark a.mark;
     follows = (it.no_fall, it.known);
     events = settled (instance_of it.session) a.mark;
-    served = open_serves serves a it.session v fits it.before_is stands;
+    served = open_serves a it.session v fits it.before_is stands;
     left = tick_begins.0;
     due = tick_begins.1;
     texts = refl;
@@ -350,10 +351,10 @@ module _ (a b : Account) (n : ℕ) (j : JobFacts) (kept : IsKept a) (stands : a.
       ∙ ap (λ J. texts_among it.session (settled J j.release)) (job_instance it.session j)) job_begins.1
 
   -- they are left, once there is room for the job
-  pub job_owes : {D : Type 0} (serves : Serving D) (having : Having D) (v u : D) → Fits serves a (Some v)
-      → ((J : Instance) (to : Horizon) (events : List Event) → serves v J to events → serves u J to events) → having u
-      → Admitting serves having j u b job_rest
-  job_owes serves having v u fits still room = record {
+  pub job_owes : (v u : RosterServer) → Fits a (Some v)
+      → ((J : Instance) (to : Horizon) (events : List Event) → Serves v J to events → Serves u J to events) → HasPlace u
+      → Admitting j u b job_rest
+  job_owes v u fits still room = record {
     session = it.session;
     there = job_session;
     reached = reach_open b job_stands ∙ ap Mark job_mark;
@@ -363,7 +364,7 @@ module _ (a b : Account) (n : ℕ) (j : JobFacts) (kept : IsKept a) (stands : a.
     follows = (it.no_fall, job_known);
     events = settled (instance_of it.session) a.mark;
     served = still (instance_of it.session) (Mark a.mark) (settled (instance_of it.session) a.mark)
-        (open_serves serves a it.session v fits it.before_is stands);
+        (open_serves a it.session v fits it.before_is stands);
     left = job_begins.0;
     due = job_begins.1;
     texts = refl;
@@ -398,8 +399,8 @@ module _ (a b : Account) (kept : IsKept a) (stands : a.standing ≡ Open) (it : 
       (due_ended b it.session (ap (λ (x : Account). x.session) it.after_is ∙ it.before_is) end_stands) end_begins.1
 
   -- they are left
-  pub end_owes : {D : Type 0} (serves : Serving D) (v : D) → Fits serves a (Some v) → Running serves End v b end_rest
-  end_owes serves v fits = record {
+  pub end_owes : (v : RosterServer) → Fits a (Some v) → Running End v b end_rest
+  end_owes v fits = record {
     session = it.session;
     there = ap (λ (x : Account). x.session) it.after_is ∙ it.before_is;
     reached = reach_by b Ended end_stands;
@@ -407,7 +408,7 @@ module _ (a b : Account) (kept : IsKept a) (stands : a.standing ≡ Open) (it : 
     from = Mark a.mark;
     follows = tt;
     events = settled (instance_of it.session) a.mark;
-    served = open_serves serves a it.session v fits it.before_is stands;
+    served = open_serves a it.session v fits it.before_is stands;
     left = end_begins.0;
     due = end_begins.1;
     texts = refl;
@@ -447,15 +448,15 @@ module _ (a b : Account) (j : JobFacts) (cause : Refusal) (kept : IsKept a) (sta
       ∙ ap (λ ls. ls ++ refused_text refused ∷ []) (sym (due_open a it.session it.before_is stands))
 
   -- the server has served the session with it
-  pub refused_fits : {D : Type 0} (serves : Serving D) (server : Option D) → Fits serves a server
-      → Fits serves b server
-  refused_fits serves None fits = absurd (let e : None ≡ Some it.session = sym fits ∙ it.before_is in cc)
-  refused_fits serves (Some v) fits = (
+  pub refused_fits : (server : Option RosterServer) → Fits a server
+      → Fits b server
+  refused_fits None fits = absurd (let e : None ≡ Some it.session = sym fits ∙ it.before_is in cc)
+  refused_fits (Some v) fits = (
     with_item it.session (RefusedItem refused),
     refused_session,
-    subst (λ h. serves v (instance_of (with_item it.session (RefusedItem refused))) h
+    subst (λ h. Serves v (instance_of (with_item it.session (RefusedItem refused))) h
         (due_by (instance_of (with_item it.session (RefusedItem refused))) h))
         (sym (reach_open b refused_stands ∙ ap Mark refused_mark))
-        (subst (λ J. serves v J (Mark a.mark) (settled J a.mark)) (sym (refused_instance it.session refused))
-        (open_serves serves a it.session v fits it.before_is stands)),
+        (subst (λ J. Serves v J (Mark a.mark) (settled J a.mark)) (sym (refused_instance it.session refused))
+        (open_serves a it.session v fits it.before_is stands)),
   )

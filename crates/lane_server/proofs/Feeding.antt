@@ -1,5 +1,5 @@
 -- What bytes of a feed hand to its lane, and what is left to give then.
-use Rattle.std.proofs.Common.{◌≡◌, ℕ, List, [], ◌∷◌, ◌++◌, sym, ap, ◌∙◌, subst, refl, true, false, cond, Some, Result}
+use Rattle.std.proofs.Common.{Bool, ◌≡◌, ℕ, List, [], ◌∷◌, ◌++◌, sym, ap, ◌∙◌, subst, refl, true, false, cond, Some, Result}
 use Rattle.std.proofs.Common.{Ok, Err}
 use Rattle.std.proofs.lemmas.List.{append-nil}
 use Rattle.std.specs.Prelude.{OnOk, OnErr}
@@ -17,7 +17,7 @@ use Rattle.dover_model.specs.Horizons.{due_by}
 use Rattle.dover_model.specs.declared.horizon.Horizon.TheVariants.{Mark}
 use Rattle.event_feed.specs.Kept as feed
 use Rattle.event_feed.proofs.GoingOn.{open_short}
-use Rattle.lane_server.specs.Lane.{IsDeclared, Serving, Having, Fits, Owes, Stands, IsQuiet}
+use Rattle.lane_server.specs.Lane.{IsDeclared, Fits, Owes, Stands, IsQuiet}
 use Rattle.lane_server.specs.Lanes.{lines_added}
 use Rattle.lane_server.specs.Feeding.{Hands}
 use Rattle.lane_server.specs.declared.feed.Feed.{Feed}
@@ -25,6 +25,8 @@ use Rattle.lane_server.specs.declared.lane.Lane.{Lane}
 use Rattle.lane_server.specs.declared.lane.Work.TheVariants.{Nothing}
 use Rattle.lane_server.proofs.Adding.{account_next, added_is, lines_kept, open_serves, open_stands, opens_by}
 use Rattle.lane_server.proofs.Adding.{reach_open}
+use Rattle.ready_server.specs.Rostering.{Serves}
+use Rattle.ready_server.specs.declared.roster_server.RosterServer.{RosterServer}
 
 -- a feed that has ended doesn't go on
 pub ended_over : (a : Account) → is_ended a ≡ true → is_open a ≡ false
@@ -54,54 +56,55 @@ module _ (x : List ℕ) (goes : is_open (account x) ≡ true) where
   pub byte_kept : (c : Cutting) (byte : ℕ) → StandsFor c (with_byte x byte) → StandsFor c (x ++ byte ∷ [])
   byte_kept c byte it = subst (StandsFor c) (ap (λ b. cond b x (x ++ byte ∷ [])) begun_short) it
 
-module _ {D : Type 0} (serves : Serving D) (has_room : Having D) (feed : Feed D) (x bytes : List ℕ)
+module _ (feed : Feed) (x bytes : List ℕ)
     (cut : StandsFor feed.lines (x ++ bytes)) where
   -- no line has ended
-  pub hands_none : (y : Unit {0}) → lines_of (x ++ bytes) ≡ lines_of x → IsQuiet serves has_room feed.lane (lines_of x)
-      → Hands serves has_room feed x bytes (Ok y)
+  pub hands_none : (y : Unit {0}) → lines_of (x ++ bytes) ≡ lines_of x → IsQuiet feed.lane (lines_of x)
+      → Hands feed x bytes (Ok y)
   hands_none y same quiet = (
     [],
     ap (λ ls. due_lines (account_of_lines ls)) same ∙ sym (append-nil (due_lines (account x))),
-    record { cut = cut; lane = subst (λ ls. Stands serves has_room feed.lane ls []) (sym same) quiet.stands },
+    record { cut = cut; lane = subst (λ ls. Stands feed.lane ls []) (sym same) quiet.stands },
   )
 
   -- a line has ended
   pub hands_line : (r : Result (Unit {0}) Memory) (line : List ℕ) → lines_of (x ++ bytes) ≡ lines_of x ++ line ∷ []
-      → OnOk r (Stands serves has_room feed.lane (lines_of x ++ line ∷ []) (lines_added (lines_of x) line))
-      → OnErr r (IsDeclared (account_of_lines (lines_of x ++ line ∷ []))) → Hands serves has_room feed x bytes r
+      → OnOk r (Stands feed.lane (lines_of x ++ line ∷ []) (lines_added (lines_of x) line))
+      → OnErr r (IsDeclared (account_of_lines (lines_of x ++ line ∷ []))) → Hands feed x bytes r
   hands_line (Ok y) line more stands lacks = (
     lines_added (lines_of x) line,
     ap (λ ls. due_lines (account_of_lines ls)) more ∙ due_added (lines_of x) line,
     record {
       cut = cut;
-      lane = subst (λ ls. Stands serves has_room feed.lane ls (lines_added (lines_of x) line)) (sym more) stands;
+      lane = subst (λ ls. Stands feed.lane ls (lines_added (lines_of x) line)) (sym more) stands;
     },
   )
   hands_line (Err e) line more stands lacks = subst (λ ls. IsDeclared (account_of_lines ls)) (sym more) lacks
 
 -- ---- a lane that goes on and has given all
 
-module _ {D : Type 0} (serves : Serving D) (has_room : Having D) (ls : List (List ℕ))
+module _ (ls : List (List ℕ))
     (stands : (account_of_lines ls).standing ≡ Open) where
   -- the server has taken the run of this session to the mark
-  abbrev pub AtMark : D → Session → ℕ → Type 0
-  AtMark v S mark = serves v (instance_of S) (Mark mark) (settled (instance_of S) mark)
+  abbrev pub AtMark : RosterServer → Session → ℕ → Type 0
+  AtMark v S mark = Serves v (instance_of S) (Mark mark) (settled (instance_of S) mark)
 
   -- its server has
-  pub quiet_serves : (lane : Lane D) → IsQuiet serves has_room lane ls → (v : D) → lane.server ≡ Some v
+  pub quiet_serves : (lane : Lane) → IsQuiet lane ls → (v : RosterServer) → lane.server ≡ Some v
       → (S : Session) × ((account_of_lines ls).session ≡ Some S) × AtMark v S (account_of_lines ls).mark
   quiet_serves lane it v there =
-      let owes = subst (λ w. Owes serves has_room w lane.server (account_of_lines ls) []) it.quiet it.stands.owes in
-      let fits : Fits serves (account_of_lines ls) (Some v) = subst (Fits serves (account_of_lines ls)) there owes.1 in
-      (fits.0, fits.1, open_serves serves (account_of_lines ls) fits.0 v fits fits.1 stands)
+      let owes = subst (λ w. Owes w lane.server (account_of_lines ls) []) it.quiet it.stands.owes in
+      let fits : Fits (account_of_lines ls) (Some v) = subst (Fits (account_of_lines ls)) there owes.1 in
+      (fits.0, fits.1, open_serves (account_of_lines ls) fits.0 v fits fits.1 stands)
 
   -- so a lane is quiet that goes on with such a server
-  pub quiet_on : (intake : feed.Kept) (v : D) (S : Session) (mark : ℕ) → feed.StandsFor intake ls → feed.IsGoing intake
+  pub quiet_on : (intake : feed.Kept) (v : RosterServer) (listed : Bool) (S : Session) (mark : ℕ)
+      → feed.StandsFor intake ls → feed.IsGoing intake
       → (account_of_lines ls).session ≡ Some S → mark ≡ (account_of_lines ls).mark
       → AtMark v S (account_of_lines ls).mark
-      → IsQuiet serves has_room
-      (record { intake = intake; server = Some v; mark = mark; is_open = true; work = Nothing }) ls
-  quiet_on intake v S mark it going there marked served = record {
+      → IsQuiet
+      (record { intake = intake; server = Some v; mark = mark; is_open = true; work = Nothing; listed = listed }) ls
+  quiet_on intake v listed S mark it going there marked served = record {
     stands = record {
       intake = it;
       opened = sym (opens_by (account_of_lines ls) Open stands);
@@ -112,7 +115,7 @@ module _ {D : Type 0} (serves : Serving D) (has_room : Having D) (ls : List (Lis
         (
           S,
           there,
-          subst (λ h. serves v (instance_of S) h (due_by (instance_of S) h))
+          subst (λ h. Serves v (instance_of S) h (due_by (instance_of S) h))
               (sym (reach_open (account_of_lines ls) stands)) served,
         ),
       );

@@ -15,12 +15,13 @@ use Rattle.dover_model.specs.Horizons.{due_by}
 use Rattle.dover_model.proofs.Horizons.{due_few}
 use Rattle.lane_server.specs.Lanes.{lane_count, Handed, input_of_lines, lane_lines, in_lane, feed_short, lane_short}
 use Rattle.lane_server.specs.Lanes.{shorts_from}
-use Rattle.lane_server.specs.Lane.{Serving, Having, Owes}
+use Rattle.lane_server.specs.Lane.{Owes}
 use Rattle.lane_server.specs.Kept.{Kept, Leaves, StandsFor}
 use Rattle.lane_server.specs.declared.lane.Work.{Work}
 use Rattle.lane_server.specs.declared.lane.Work.TheVariants.{Nothing, Give, Run, Admit}
 use Rattle.lane_server.specs.declared.lanes.Phase.{Phase}
 use Rattle.lane_server.specs.declared.lanes.Phase.TheVariants.{Ready, Giving, Closing}
+use Rattle.ready_server.specs.declared.roster_server.RosterServer.{RosterServer}
 
 -- what is left of what is due
 left_few : (J : Instance) (to : Horizon) (events left : List Event) → IsValid J → due_by J to ≡ events ++ left
@@ -28,19 +29,19 @@ left_few : (J : Instance) (to : Horizon) (events left : List Event) → IsValid 
 left_few J to events left valid is = omega (arith, due_few J to valid, ap length is, length-append events left)
 
 -- what the work under way still gives
-pub owes_few : {D : Type 0} (serves : Serving D) (having : Having D) (work : Work) (server : Option D) (a : Account)
-    (rest : List (List ℕ)) → Owes serves having work server a rest → length rest ≤ 5_000_001
-owes_few serves having Nothing server a rest owes = omega (arith, ap length owes.0)
-owes_few serves having (Give out) server a rest owes = omega (arith, ap length owes.0)
-owes_few serves having (Run to) None a rest owes = absurd owes
-owes_few serves having (Run to) (Some v) a rest owes = omega (
+pub owes_few : (work : Work) (server : Option RosterServer) (a : Account)
+    (rest : List (List ℕ)) → Owes work server a rest → length rest ≤ 5_000_001
+owes_few Nothing server a rest owes = omega (arith, ap length owes.0)
+owes_few (Give out) server a rest owes = omega (arith, ap length owes.0)
+owes_few (Run to) None a rest owes = absurd owes
+owes_few (Run to) (Some v) a rest owes = omega (
   arith,
   ap length owes.texts,
   length-map owes.left text_of,
   left_few (instance_of owes.session) to owes.events owes.left owes.valid owes.due,
 )
-owes_few serves having (Admit job) None a rest owes = absurd owes
-owes_few serves having (Admit job) (Some v) a rest owes = omega (
+owes_few (Admit job) None a rest owes = absurd owes
+owes_few (Admit job) (Some v) a rest owes = omega (
   arith,
   ap length owes.texts,
   length-map owes.left text_of,
@@ -79,22 +80,21 @@ element [] i low = absurd (omega arith)
 element (x ∷ xs) zero low = (x, refl)
 element (x ∷ xs) (suc i) low = element xs i (omega arith)
 
-module _ {D : Type 0} {serves : Serving D} {having : Having D} where
-  -- whatever is under way
-  pub few_left : (kept : Kept D) (ls rest : List (List ℕ)) → StandsFor serves having kept ls rest
-      → length rest ≤ 5_000_001
-  few_left kept ls rest it = by_phase kept.phase it.left where
-    by_phase : (p : Phase) → Leaves serves having p kept.lanes (input_of_lines ls) rest → length rest ≤ 5_000_001
-    by_phase Ready left = omega (arith, ap length left.1)
-    by_phase (Giving lane) left =
-        let there = element kept.lanes lane (omega (arith, it.count, left.3.within)) in
-        let stands = left.3.gives there.0 there.1 in
-        omega (
-          arith,
-          ap length left.2,
-          length-map left.0 (in_lane lane),
-          owes_few serves having there.0.work there.0.server
-              (account_of_lines (lane_lines (input_of_lines ls).handed lane)) left.0 stands.owes,
-        )
-    by_phase (Closing next) left =
-        omega (arith, ap length left.2, shorts_few (input_of_lines ls).handed next (lane_count - next))
+-- whatever is under way
+pub few_left : (kept : Kept) (ls rest : List (List ℕ)) → StandsFor kept ls rest
+    → length rest ≤ 5_000_001
+few_left kept ls rest it = by_phase kept.phase it.left where
+  by_phase : (p : Phase) → Leaves p kept.lanes (input_of_lines ls) rest → length rest ≤ 5_000_001
+  by_phase Ready left = omega (arith, ap length left.1)
+  by_phase (Giving lane) left =
+      let there = element kept.lanes lane (omega (arith, it.count, left.3.within)) in
+      let stands = left.3.gives there.0 there.1 in
+      omega (
+        arith,
+        ap length left.2,
+        length-map left.0 (in_lane lane),
+        owes_few there.0.work there.0.server
+            (account_of_lines (lane_lines (input_of_lines ls).handed lane)) left.0 stands.owes,
+      )
+  by_phase (Closing next) left =
+      omega (arith, ap length left.2, shorts_few (input_of_lines ls).handed next (lane_count - next))

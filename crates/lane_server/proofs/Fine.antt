@@ -6,39 +6,38 @@ use Rattle.std.specs.List.{slice_get, list_all, range_with_len}
 use Rattle.std.proofs.lemmas.Option.{slice_get_read}
 use Rattle.std.proofs.lemmas.Bool.{cases_eq}
 use Rattle.lane_server.specs.Lanes.{lane_count, Handed, input_of_lines, lane_lines, is_fine, all_ended}
-use Rattle.lane_server.specs.Lane.{Serving, Having, Stands}
+use Rattle.lane_server.specs.Lane.{Stands}
 use Rattle.lane_server.specs.Kept.{Kept, AllStand, Leaves, StandsFor}
 use Rattle.lane_server.specs.declared.lane.Lane.{Lane}
 use Rattle.lane_server.specs.declared.lanes.Phase.{Phase}
 use Rattle.lane_server.specs.declared.lanes.Phase.TheVariants.{Ready, Giving, Closing}
 
-module _ {D : Type 0} {serves : Serving D} {having : Having D} where
-  -- whatever is under way, each lane was handed its lines
-  pub all_stand : (kept : Kept D) (ls rest : List (List ℕ)) → StandsFor serves having kept ls rest
-      → AllStand serves having kept.lanes (input_of_lines ls).handed
-  all_stand kept ls rest it = by_phase kept.phase it.left where
-    by_phase : (p : Phase) → Leaves serves having p kept.lanes (input_of_lines ls) rest
-        → AllStand serves having kept.lanes (input_of_lines ls).handed
-    by_phase Ready left = λ i lane there. ([], (left.2 i lane there).stands)
-    by_phase (Giving giving) left = λ i lane there. by_lane i lane there (cases_eq i giving) where
-      by_lane : (i : ℕ) (lane : Lane D) → slice_get kept.lanes i ≡ Some lane → (i ≡ giving) ⊎ (i ≡ giving → ⊥)
-          → (more : List (List ℕ)) × Stands serves having lane (lane_lines (input_of_lines ls).handed i) more
-      by_lane i lane there (inl same) = (
-        left.0,
-        subst (λ j. Stands serves having lane (lane_lines (input_of_lines ls).handed j) left.0) (sym same)
-            (left.3.gives lane (subst (λ j. slice_get kept.lanes j ≡ Some lane) same there)),
-      )
-      by_lane i lane there (inr other) = ([], (left.3.others i lane other there).stands)
-    by_phase (Closing next) left = λ i lane there. ([], (left.3 i lane there).stands)
+-- whatever is under way, each lane was handed its lines
+pub all_stand : (kept : Kept) (ls rest : List (List ℕ)) → StandsFor kept ls rest
+    → AllStand kept.lanes (input_of_lines ls).handed
+all_stand kept ls rest it = by_phase kept.phase it.left where
+  by_phase : (p : Phase) → Leaves p kept.lanes (input_of_lines ls) rest
+      → AllStand kept.lanes (input_of_lines ls).handed
+  by_phase Ready left = λ i lane there. ([], (left.2 i lane there).stands)
+  by_phase (Giving giving) left = λ i lane there. by_lane i lane there (cases_eq i giving) where
+    by_lane : (i : ℕ) (lane : Lane) → slice_get kept.lanes i ≡ Some lane → (i ≡ giving) ⊎ (i ≡ giving → ⊥)
+        → (more : List (List ℕ)) × Stands lane (lane_lines (input_of_lines ls).handed i) more
+    by_lane i lane there (inl same) = (
+      left.0,
+      subst (λ j. Stands lane (lane_lines (input_of_lines ls).handed j) left.0) (sym same)
+          (left.3.gives lane (subst (λ j. slice_get kept.lanes j ≡ Some lane) same there)),
+    )
+    by_lane i lane there (inr other) = ([], (left.3.others i lane other there).stands)
+  by_phase (Closing next) left = λ i lane there. ([], (left.3 i lane there).stands)
 
-  -- one of them
-  pub one_stands : (lanes : List (Lane D)) (handed : List Handed) (i at : ℕ) (l : Lane D)
-      → AllStand serves having lanes handed
-      → length lanes ≡ lane_count
-      → i < lane_count → at ≡ i → l ≡ get_or lanes at l
-      → (more : List (List ℕ)) × Stands serves having l (lane_lines handed i) more
-  one_stands lanes handed i at l all count low same is =
-      all i l (slice_get_read lanes lane_count i l (sym count) low (subst (λ k. l ≡ get_or lanes k l) same is))
+-- one of them
+pub one_stands : (lanes : List Lane) (handed : List Handed) (i at : ℕ) (l : Lane)
+    → AllStand lanes handed
+    → length lanes ≡ lane_count
+    → i < lane_count → at ≡ i → l ≡ get_or lanes at l
+    → (more : List (List ℕ)) × Stands l (lane_lines handed i) more
+one_stands lanes handed i at l all count low same is =
+    all i l (slice_get_read lanes lane_count i l (sym count) low (subst (λ k. l ≡ get_or lanes k l) same is))
 
 -- ---- from one lane on
 

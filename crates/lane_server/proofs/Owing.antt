@@ -15,11 +15,13 @@ use Rattle.dover_model.specs.declared.horizon.Horizon.{Horizon}
 use Rattle.dover_model.specs.declared.horizon.Horizon.TheVariants.{Mark}
 use Rattle.dover_model.specs.Horizons.{MayFollow, due_by}
 use Rattle.dover_model.proofs.Horizons.{follows_on}
-use Rattle.lane_server.specs.Lane.{Serving, Having, Fits, Running, Admitting, Owes, GivesFault, Stands, IsQuiet, reach}
+use Rattle.lane_server.specs.Lane.{Fits, Running, Admitting, Owes, GivesFault, Stands, IsQuiet, reach}
 use Rattle.lane_server.specs.declared.lane.Lane.{Lane}
 use Rattle.lane_server.specs.declared.lane.Work.{Work}
 use Rattle.lane_server.specs.declared.lane.Work.TheVariants.{Nothing}
 use Rattle.lane_server.proofs.Printing.{due_before, event_short}
+use Rattle.ready_server.specs.Rostering.{Serves, Rests, HasPlace}
+use Rattle.ready_server.specs.declared.roster_server.RosterServer.{RosterServer}
 
 -- what is left begins with the event
 first_left : (events left all : List Event) (e : Event) → all ≡ events ++ left
@@ -39,13 +41,12 @@ joined S job = with_item S (JobItem job)
 abbrev jobs_with : Session → JobFacts → Instance
 jobs_with S job = with_jobs (instance_of S) (job ∷ [])
 
-module _ {D : Type 0} {serves : Serving D}
-    (begins : (s : D) (J : Instance) (to : Horizon) (events : List Event) → serves s J to events
+module _ (begins : (s : RosterServer) (J : Instance) (to : Horizon) (events : List Event) → Serves s J to events
     → Begins events (due_by J to)) where
   -- a step to the horizon gives the first line that is left, and its numbers have numerals
-  pub run_gives : (to : Horizon) (v u : D) (a : Account) (rest : List (List ℕ)) (it : Running serves to v a rest)
-      (e : Event) → serves u (instance_of it.session) to (it.events ++ e ∷ [])
-      → (more : List (List ℕ)) × (rest ≡ text_of e ∷ more) × Running serves to u a more × AreShort (step_numbers e)
+  pub run_gives : (to : Horizon) (v u : RosterServer) (a : Account) (rest : List (List ℕ)) (it : Running to v a rest)
+      (e : Event) → Serves u (instance_of it.session) to (it.events ++ e ∷ [])
+      → (more : List (List ℕ)) × (rest ≡ text_of e ∷ more) × Running to u a more × AreShort (step_numbers e)
   run_gives to v u a rest it e served =
       let front : Begins (it.events ++ e ∷ []) (due_by (instance_of it.session) to) =
       begins u (instance_of it.session) to (it.events ++ e ∷ []) served in (
@@ -69,10 +70,10 @@ module _ {D : Type 0} {serves : Serving D}
       )
 
   -- with a job that comes, a step without it does
-  pub admit_gives : {having : Having D} (job : JobFacts) (v u : D) (a : Account) (rest : List (List ℕ))
-      (it : Admitting serves having job v a rest) (e : Event)
-      → serves u (instance_of it.session) (Mark job.release) (it.events ++ e ∷ []) → having u
-      → (more : List (List ℕ)) × (rest ≡ text_of e ∷ more) × Admitting serves having job u a more
+  pub admit_gives : (job : JobFacts) (v u : RosterServer) (a : Account) (rest : List (List ℕ))
+      (it : Admitting job v a rest) (e : Event)
+      → Serves u (instance_of it.session) (Mark job.release) (it.events ++ e ∷ []) → HasPlace u
+      → (more : List (List ℕ)) × (rest ≡ text_of e ∷ more) × Admitting job u a more
       × AreShort (step_numbers e)
   admit_gives job v u a rest it e served room =
       let all : List Event = due_by (jobs_with it.session job) (Mark job.release) in
@@ -100,19 +101,19 @@ module _ {D : Type 0} {serves : Serving D}
       )
 
   -- and where nothing is left without it, the step with it
-  pub joined_gives : {having : Having D} (job : JobFacts) (v y : D) (a : Account) (rest : List (List ℕ))
-      (it : Admitting serves having job v a rest) (e : Event)
+  pub joined_gives : (job : JobFacts) (v y : RosterServer) (a : Account) (rest : List (List ℕ))
+      (it : Admitting job v a rest) (e : Event)
       → it.events ≡ due_by (instance_of it.session) (Mark job.release)
-      → serves y (jobs_with it.session job) (Mark job.release)
+      → Serves y (jobs_with it.session job) (Mark job.release)
       (due_by (instance_of it.session) (Mark job.release) ++ e ∷ [])
-      → (more : List (List ℕ)) × (rest ≡ text_of e ∷ more) × Running serves (Mark job.release) y a more
+      → (more : List (List ℕ)) × (rest ≡ text_of e ∷ more) × Running (Mark job.release) y a more
       × AreShort (step_numbers e)
   joined_gives job v y a rest it e same served =
       let S : Session = joined it.session job in
       let all : List Event = due_by (jobs_with it.session job) (Mark job.release) in
       let is : instance_of S ≡ jobs_with it.session job = job_instance it.session job in
-      let next : serves y (jobs_with it.session job) (Mark job.release) (it.events ++ e ∷ []) =
-      subst (λ es. serves y (jobs_with it.session job) (Mark job.release) (es ++ e ∷ [])) (sym same) served in
+      let next : Serves y (jobs_with it.session job) (Mark job.release) (it.events ++ e ∷ []) =
+      subst (λ es. Serves y (jobs_with it.session job) (Mark job.release) (es ++ e ∷ [])) (sym same) served in
       let front : Begins (it.events ++ e ∷ []) all =
       begins y (jobs_with it.session job) (Mark job.release) (it.events ++ e ∷ []) next in (
         map text_of front.0,
@@ -125,7 +126,7 @@ module _ {D : Type 0} {serves : Serving D}
           from = Mark job.release;
           follows = follows_on it.from (Mark job.release) it.follows;
           events = it.events ++ e ∷ [];
-          served = subst (λ J. serves y J (Mark job.release) (it.events ++ e ∷ [])) (sym is) next;
+          served = subst (λ J. Serves y J (Mark job.release) (it.events ++ e ∷ [])) (sym is) next;
           left = front.0;
           due = ap (λ J. due_by J (Mark job.release)) is ∙ front.1;
           texts = refl;
@@ -134,86 +135,66 @@ module _ {D : Type 0} {serves : Serving D}
       )
 
 -- what a step to the job's release says, at the release as it was read
-pub admit_steps : {D : Type 0} {serves : Serving D} {having : Having D} (job : JobFacts) (v : D) (a : Account)
-    (rest : List (List ℕ)) (it : Admitting serves having job v a rest) (t : ℕ) → t ≡ job.release → (P : ℕ → Type 0)
+pub admit_steps : (job : JobFacts) (v : RosterServer) (a : Account)
+    (rest : List (List ℕ)) (it : Admitting job v a rest) (t : ℕ) → t ≡ job.release → (P : ℕ → Type 0)
     → (MayFollow it.from (Mark t) → P t) → P job.release
 admit_steps job v a rest it t same P says =
     subst P same (says (subst (λ m. MayFollow it.from (Mark m)) (sym same) it.follows))
 
 -- what is printed up to a horizon is what is due of an account
-fits_at : {D : Type 0} (serves : Serving D) (to : Horizon) (u : D) (a : Account) (S : Session) → a.session ≡ Some S
-    → reach a ≡ to → serves u (instance_of S) to (due_by (instance_of S) to) → Fits serves a (Some u)
-fits_at serves to u a S there reached served =
-    (S, there, subst (λ h. serves u (instance_of S) h (due_by (instance_of S) h)) (sym reached) served)
+fits_at : (to : Horizon) (u : RosterServer) (a : Account) (S : Session) → a.session ≡ Some S
+    → reach a ≡ to → Serves u (instance_of S) to (due_by (instance_of S) to) → Fits a (Some u)
+fits_at to u a S there reached served =
+    (S, there, subst (λ h. Serves u (instance_of S) h (due_by (instance_of S) h)) (sym reached) served)
 
--- where a server rests
-abbrev RestsServing : {D : Type 0} → Serving D → (D → Instance → Horizon → Type 0) → Type 0
-RestsServing {D = D} serves rests = (s : D) (J : Instance) (to : Horizon) → rests s J to → serves s J to (due_by J to)
-
-module _ {D : Type 0} {serves : Serving D} {rests : D → Instance → Horizon → Type 0}
-    (rested : RestsServing serves rests) where
+module _ (rested : (s : RosterServer) (J : Instance) (to : Horizon) → Rests s J to → Serves s J to (due_by J to)) where
   -- at the horizon nothing is left
-  pub run_none : (to : Horizon) (v u : D) (a : Account) (rest : List (List ℕ)) (it : Running serves to v a rest)
-      → it.events ≡ due_by (instance_of it.session) to → rests u (instance_of it.session) to
-      → (rest ≡ []) × Fits serves a (Some u)
+  pub run_none : (to : Horizon) (v u : RosterServer) (a : Account) (rest : List (List ℕ)) (it : Running to v a rest)
+      → it.events ≡ due_by (instance_of it.session) to → Rests u (instance_of it.session) to
+      → (rest ≡ []) × Fits a (Some u)
   run_none to v u a rest it all rest_there = (
     it.texts ∙ ap (map text_of) (none_left it.events it.left (due_by (instance_of it.session) to) it.due all),
-    fits_at serves to u a it.session it.there it.reached (rested u (instance_of it.session) to rest_there),
+    fits_at to u a it.session it.there it.reached (rested u (instance_of it.session) to rest_there),
   )
-
-  -- with a job that came
-  pub joined_none : {having : Having D} (job : JobFacts) (v y : D) (a : Account) (rest : List (List ℕ))
-      (it : Admitting serves having job v a rest) → it.events ≡ due_by (instance_of it.session) (Mark job.release)
-      → due_by (instance_of it.session) (Mark job.release) ≡ due_by (jobs_with it.session job) (Mark job.release)
-      → rests y (jobs_with it.session job) (Mark job.release) → (rest ≡ []) × Fits serves a (Some y)
-  joined_none job v y a rest it same all rest_there =
-      let is : instance_of (joined it.session job) ≡ jobs_with it.session job = job_instance it.session job in (
-        it.texts ∙ ap (map text_of)
-            (none_left it.events it.left (due_by (jobs_with it.session job) (Mark job.release)) it.due (same ∙ all)),
-        fits_at serves (Mark job.release) y a (joined it.session job) it.there it.reached
-            (subst (λ J. serves y J (Mark job.release) (due_by J (Mark job.release))) (sym is)
-            (rested y (jobs_with it.session job) (Mark job.release) rest_there)),
-      )
 
 -- ---- of a lane
 
 -- what the lane owes, by its work and its server
-pub lane_owes : {D : Type 0} (serves : Serving D) (having : Having D) (lane : Lane D) (w : Work) (v : D) (a : Account)
-    (rest : List (List ℕ)) → lane.work ≡ w → lane.server ≡ Some v → Owes serves having lane.work lane.server a rest
-    → Owes serves having w (Some v) a rest
-lane_owes serves having lane w v a rest is there owes =
-    subst (λ o. Owes serves having w o a rest) there (subst (λ x. Owes serves having x lane.server a rest) is owes)
+pub lane_owes : (lane : Lane) (w : Work) (v : RosterServer) (a : Account)
+    (rest : List (List ℕ)) → lane.work ≡ w → lane.server ≡ Some v → Owes lane.work lane.server a rest
+    → Owes w (Some v) a rest
+lane_owes lane w v a rest is there owes =
+    subst (λ o. Owes w o a rest) there (subst (λ x. Owes x lane.server a rest) is owes)
 
-module _ {D : Type 0} {serves : Serving D} {having : Having D} where
-  -- the lane with its server taken further
-  pub lane_stands : (lane : Lane D) (w : Work) (u : D) (ls rest more : List (List ℕ))
-      → Stands serves having lane ls rest → lane.work ≡ w → Owes serves having w (Some u) (account_of_lines ls) more
-      → Stands serves having (record lane { server = Some u }) ls more
-  lane_stands lane w u ls rest more it is owes = record {
-    intake = it.intake;
-    opened = it.opened;
-    unended = it.unended;
-    marked = it.marked;
-    owes = subst (λ x. Owes serves having x (Some u) (account_of_lines ls) more) (sym is) owes;
-    names = it.names;
-  }
+-- the lane with its server taken further
+pub lane_stands : (lane : Lane) (w : Work) (u : RosterServer) (ls rest more : List (List ℕ))
+    → Stands lane ls rest → lane.work ≡ w → Owes w (Some u) (account_of_lines ls) more
+    → Stands (record lane { server = Some u }) ls more
+lane_stands lane w u ls rest more it is owes = record {
+  intake = it.intake;
+  opened = it.opened;
+  unended = it.unended;
+  marked = it.marked;
+  owes = subst (λ x. Owes x (Some u) (account_of_lines ls) more) (sym is) owes;
+  names = it.names;
+}
 
-  -- the lane with its server taken further, and other work
-  pub lane_turns : (lane : Lane D) (w : Work) (u : D) (ls rest more : List (List ℕ)) → Stands serves having lane ls rest
-      → Owes serves having w (Some u) (account_of_lines ls) more → GivesFault w ls
-      → Stands serves having (record lane { server = Some u; work = w }) ls more
-  lane_turns lane w u ls rest more it owes names = record {
-    intake = it.intake;
-    opened = it.opened;
-    unended = it.unended;
-    marked = it.marked;
-    owes = owes;
-    names = names;
-  }
+-- the lane with its server taken further, and other work
+pub lane_turns : (lane : Lane) (w : Work) (u : RosterServer) (ls rest more : List (List ℕ)) → Stands lane ls rest
+    → Owes w (Some u) (account_of_lines ls) more → GivesFault w ls
+    → Stands (record lane { server = Some u; work = w }) ls more
+lane_turns lane w u ls rest more it owes names = record {
+  intake = it.intake;
+  opened = it.opened;
+  unended = it.unended;
+  marked = it.marked;
+  owes = owes;
+  names = names;
+}
 
-  -- the lane is at rest
-  pub lane_rests : (lane : Lane D) (u : D) (ls rest : List (List ℕ)) → Stands serves having lane ls rest
-      → Fits serves (account_of_lines ls) (Some u)
-      → IsQuiet serves having (record lane { server = Some u; work = Nothing }) ls
-  lane_rests lane u ls rest it fits =
-      record { stands = lane_turns lane Nothing u ls rest [] it (refl, fits) tt; quiet = refl }
+-- the lane is at rest
+pub lane_rests : (lane : Lane) (u : RosterServer) (ls rest : List (List ℕ)) → Stands lane ls rest
+    → Fits (account_of_lines ls) (Some u)
+    → IsQuiet (record lane { server = Some u; work = Nothing }) ls
+lane_rests lane u ls rest it fits =
+    record { stands = lane_turns lane Nothing u ls rest [] it (refl, fits) tt; quiet = refl }

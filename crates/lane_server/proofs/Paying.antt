@@ -9,39 +9,40 @@ use Rattle.dover_model.specs.Spending.{CostsAtMost}
 use Rattle.dover_model.proofs.Spending.{few_more}
 use Rattle.event_feed.specs.Answers.{admitted_in}
 use Rattle.event_feed.proofs.Admitting.{job_more, admitted_by}
-use Rattle.lane_server.specs.Lane.{Serving, Having, Fits, Owes}
+use Rattle.lane_server.specs.Lane.{Fits, Owes}
 use Rattle.lane_server.specs.Spending.{HasPaid}
 use Rattle.lane_server.specs.declared.lane.Work.{Work}
 use Rattle.lane_server.specs.declared.lane.Work.TheVariants.{Nothing, Give, Run, Admit}
+use Rattle.ready_server.specs.Rostering.{Serves, HasPaid as HasServed}
+use Rattle.ready_server.specs.declared.roster_server.RosterServer.{RosterServer}
 
 -- before the ratio line there is no server, and nothing was paid
-pub none_paid : {D : Type 0} (serves : Serving D) (paid : D → (start now : ℕ) → Type 0) (a : Account)
-    (server : Option D) → Fits serves a server → a.session ≡ None → (start now : ℕ) → HasPaid paid server start now
+pub none_paid : (a : Account)
+    (server : Option RosterServer) → Fits a server → a.session ≡ None → (start now : ℕ) → HasPaid server start now
     → now ≤ start
-none_paid serves paid a None fits none start now has_paid = has_paid
-none_paid serves paid a (Some v) fits none start now has_paid =
+none_paid a None fits none start now has_paid = has_paid
+none_paid a (Some v) fits none start now has_paid =
     absurd (let e : None ≡ Some fits.0 = sym none ∙ fits.1 in cc)
 
-module _ {D : Type 0} {serves : Serving D} {paid : D → (start now : ℕ) → Type 0}
-    (few : (s : D) (J : Instance) (to : Horizon) (events : List Event) (start now : ℕ) → serves s J to events
-    → paid s start now → CostsAtMost (length J.jobs) start now) where
+module _ (few : (s : RosterServer) (J : Instance) (to : Horizon) (events : List Event) (start now : ℕ) → Serves s J to events
+    → HasServed s start now → CostsAtMost (length J.jobs) start now) where
   -- a server that fits has the account's jobs
-  fits_few : (a : Account) (v : D) → Fits serves a (Some v) → (start now : ℕ) → paid v start now
+  fits_few : (a : Account) (v : RosterServer) → Fits a (Some v) → (start now : ℕ) → HasServed v start now
       → CostsAtMost (admitted_in a) start now
   fits_few a v fits start now has_paid = subst (λ n. CostsAtMost n start now) (sym (ap admitted_by fits.1))
       (few v (instance_of fits.0) _ _ start now fits.2 has_paid)
 
   -- whatever is under way, what was paid is little for the account's jobs
-  pub owes_few_paid : (having : Having D) (work : Work) (server : Option D) (a : Account) (rest : List (List ℕ))
-      → Owes serves having work server a rest → (start now : ℕ) → HasPaid paid server start now
+  pub owes_few_paid : (work : Work) (server : Option RosterServer) (a : Account) (rest : List (List ℕ))
+      → Owes work server a rest → (start now : ℕ) → HasPaid server start now
       → CostsAtMost (admitted_in a) start now
-  owes_few_paid having work None a rest owes start now none = λ d enough. omega (arith, none)
-  owes_few_paid having Nothing (Some v) a rest owes start now has_paid = fits_few a v owes.1 start now has_paid
-  owes_few_paid having (Give out) (Some v) a rest owes start now has_paid = fits_few a v owes.1 start now has_paid
-  owes_few_paid having (Run to) (Some v) a rest owes start now has_paid =
+  owes_few_paid work None a rest owes start now none = λ d enough. omega (arith, none)
+  owes_few_paid Nothing (Some v) a rest owes start now has_paid = fits_few a v owes.1 start now has_paid
+  owes_few_paid (Give out) (Some v) a rest owes start now has_paid = fits_few a v owes.1 start now has_paid
+  owes_few_paid (Run to) (Some v) a rest owes start now has_paid =
       subst (λ n. CostsAtMost n start now) (sym (ap admitted_by owes.there))
       (few v (instance_of owes.session) owes.from owes.events start now owes.served has_paid)
-  owes_few_paid having (Admit job) (Some v) a rest owes start now has_paid =
+  owes_few_paid (Admit job) (Some v) a rest owes start now has_paid =
       few_more (length (instance_of owes.session).jobs) (admitted_in a) start now
       (omega (arith, ap admitted_by owes.there, job_more owes.session.items job))
       (few v (instance_of owes.session) owes.from owes.events start now owes.served has_paid)

@@ -22,7 +22,7 @@ use Rattle.event_feed.specs.declared.faults.FeedFault.{FeedFault}
 use Rattle.event_feed.specs.declared.fed.Fed.{Fed}
 use Rattle.event_feed.specs.declared.fed.Fed.TheVariants.{Over}
 use Rattle.lane_server.specs.Lanes.{lines_added}
-use Rattle.lane_server.specs.Lane.{IsDeclared, Serving, Having, Fits, IsOpenAt, Owes, GivesFault, Adds, Stands, IsQuiet}
+use Rattle.lane_server.specs.Lane.{IsDeclared, Fits, IsOpenAt, Owes, GivesFault, Adds, Stands, IsQuiet}
 use Rattle.lane_server.specs.declared.lane.Lane.{Lane}
 use Rattle.lane_server.specs.declared.lane.Work.TheVariants.{Nothing, Give, Run, Admit}
 use Rattle.lane_server.specs.declared.out.LaneOut.TheVariants.{Header, Refuse, Refused}
@@ -31,100 +31,101 @@ use Rattle.lane_server.proofs.Adding.{job_rest, job_due, job_owes, tick_stands, 
 use Rattle.lane_server.proofs.Adding.{tick_owes, end_stands, end_mark, end_rest, end_due, end_owes, refused_stands}
 use Rattle.lane_server.proofs.Adding.{refused_mark, refused_due, refused_mark_short, refused_fits, new_fault_due}
 use Rattle.lane_server.proofs.Adding.{new_fault_fits, opens_by, open_stands, lines_kept, added_is, account_over}
+use Rattle.ready_server.specs.Rostering.{Serves, HasPlace}
+use Rattle.ready_server.specs.declared.roster_server.RosterServer.{RosterServer}
 
-module _ {D : Type 0} {serves : Serving D} {having : Having D} where
-  -- the ratio line
-  pub declare_adds : (lane : Lane D) (k : Fraction) (version : Version) (v : D) (a b : Account)
-      → IsOpenAt serves lane a → DeclaresRatio k version (counted a) b → serves v (no_jobs version k) (Mark 0) []
-      → Adds serves having (record lane { server = Some v; work = Give (Header version k) }) a b
-  declare_adds lane k version v a b at it new = record {
-    opened = at.opened ∙ sym (opens_by b Open (header_stands a b k version at.stands it));
-    rest = header (rules_with k version) ∷ [];
-    due = header_due a b k version at.stands it;
-    marked = at.marked ∙ sym (header_mark a b k version at.stands it);
-    owes = (refl, header_fits a b k version at.stands it serves v new, tt);
+-- the ratio line
+pub declare_adds : (lane : Lane) (k : Fraction) (version : Version) (v : RosterServer) (a b : Account)
+    → IsOpenAt lane a → DeclaresRatio k version (counted a) b → Serves v (no_jobs version k) (Mark 0) []
+    → Adds (record lane { server = Some v; work = Give (Header version k) }) a b
+declare_adds lane k version v a b at it new = record {
+  opened = at.opened ∙ sym (opens_by b Open (header_stands a b k version at.stands it));
+  rest = header (rules_with k version) ∷ [];
+  due = header_due a b k version at.stands it;
+  marked = at.marked ∙ sym (header_mark a b k version at.stands it);
+  owes = (refl, header_fits a b k version at.stands it v new, tt);
+  names = λ ls. tt;
+}
+
+-- a job
+pub arrive_adds : (lane : Lane) (n : ℕ) (job : JobFacts) (v u : RosterServer) (t : ℕ) (a b : Account)
+    → IsOpenAt lane a → AddsJob n job (counted a) b → lane.server ≡ Some v
+    → ((J : Instance) (to : Horizon) (events : List Event) → Serves v J to events → Serves u J to events)
+    → HasPlace u → t ≡ job.release
+    → Adds (record lane { server = Some u; mark = t; work = Admit job }) a b
+arrive_adds lane n job v u t a b at it there still room same =
+    let fits : Fits a (Some v) = subst (Fits a) there at.fits in record {
+      opened = at.opened ∙ sym (opens_by b Open (job_stands a b n job at.kept at.stands it));
+      rest = job_rest a b n job at.kept at.stands it;
+      due = job_due a b n job at.kept at.stands it;
+      marked = same ∙ sym (job_mark a b n job at.kept at.stands it);
+      owes = job_owes a b n job at.kept at.stands it v u fits still room;
+      names = λ ls. tt;
+    }
+
+-- a tick
+pub tick_adds : (lane : Lane) (t : ℕ) (a b : Account) → IsOpenAt lane a → MovesMark t (counted a) b
+    → Adds (record lane { mark = t; work = Run (Mark t) }) a b
+tick_adds lane t a b at it = by_server lane.server at.fits where
+  by_server : (o : Option RosterServer) → Fits a o
+      → Adds (record lane { server = o; mark = t; work = Run (Mark t) }) a b
+  by_server None fits = absurd (let e : None ≡ Some it.session = sym fits ∙ it.before_is in cc)
+  by_server (Some v) fits = record {
+    opened = at.opened ∙ sym (opens_by b Open (tick_stands a b t at.kept at.stands it));
+    rest = tick_rest a b t at.kept at.stands it;
+    due = tick_due a b t at.kept at.stands it;
+    marked = sym (tick_mark a b t at.kept at.stands it);
+    owes = tick_owes a b t at.kept at.stands it v fits;
     names = λ ls. tt;
   }
 
-  -- a job
-  pub arrive_adds : (lane : Lane D) (n : ℕ) (job : JobFacts) (v u : D) (t : ℕ) (a b : Account)
-      → IsOpenAt serves lane a → AddsJob n job (counted a) b → lane.server ≡ Some v
-      → ((J : Instance) (to : Horizon) (events : List Event) → serves v J to events → serves u J to events)
-      → having u → t ≡ job.release
-      → Adds serves having (record lane { server = Some u; mark = t; work = Admit job }) a b
-  arrive_adds lane n job v u t a b at it there still room same =
-      let fits : Fits serves a (Some v) = subst (Fits serves a) there at.fits in record {
-        opened = at.opened ∙ sym (opens_by b Open (job_stands a b n job at.kept at.stands it));
-        rest = job_rest a b n job at.kept at.stands it;
-        due = job_due a b n job at.kept at.stands it;
-        marked = same ∙ sym (job_mark a b n job at.kept at.stands it);
-        owes = job_owes a b n job at.kept at.stands it serves having v u fits still room;
-        names = λ ls. tt;
-      }
+-- the end
+pub over_adds : (lane : Lane) (a b : Account) → IsOpenAt lane a → EndsFeed (counted a) b
+    → Adds (record lane { is_open = false; work = Run End }) a b
+over_adds lane a b at it = by_server lane.server at.fits where
+  by_server : (o : Option RosterServer) → Fits a o
+      → Adds (record lane { server = o; is_open = false; work = Run End }) a b
+  by_server None fits = absurd (let e : None ≡ Some it.session = sym fits ∙ it.before_is in cc)
+  by_server (Some v) fits = record {
+    opened = sym (opens_by b Ended (end_stands a b at.kept at.stands it));
+    rest = end_rest a b at.kept at.stands it;
+    due = end_due a b at.kept at.stands it;
+    marked = at.marked ∙ sym (end_mark a b at.kept at.stands it);
+    owes = end_owes a b at.kept at.stands it v fits;
+    names = λ ls. tt;
+  }
 
-  -- a tick
-  pub tick_adds : (lane : Lane D) (t : ℕ) (a b : Account) → IsOpenAt serves lane a → MovesMark t (counted a) b
-      → Adds serves having (record lane { mark = t; work = Run (Mark t) }) a b
-  tick_adds lane t a b at it = by_server lane.server at.fits where
-    by_server : (o : Option D) → Fits serves a o
-        → Adds serves having (record lane { server = o; mark = t; work = Run (Mark t) }) a b
-    by_server None fits = absurd (let e : None ≡ Some it.session = sym fits ∙ it.before_is in cc)
-    by_server (Some v) fits = record {
-      opened = at.opened ∙ sym (opens_by b Open (tick_stands a b t at.kept at.stands it));
-      rest = tick_rest a b t at.kept at.stands it;
-      due = tick_due a b t at.kept at.stands it;
-      marked = sym (tick_mark a b t at.kept at.stands it);
-      owes = tick_owes a b t at.kept at.stands it serves v fits;
+-- a refused job line
+pub refused_adds : (lane : Lane) (release work deadline value : ℕ) (cause : Refusal) (a b : Account)
+    → IsOpenAt lane a → AddsRefused (job_of_numbers release work deadline value) cause (counted a) b
+    → Adds (record lane { work = Give (Refuse lane.mark release work deadline value cause) }) a b
+refused_adds lane release work deadline value cause a b at it =
+    let job = job_of_numbers release work deadline value in record {
+      opened = at.opened ∙ sym (opens_by b Open (refused_stands a b job cause at.kept at.stands it));
+      rest = refused_text (record { at = a.mark; job = job; refusal = cause }) ∷ [];
+      due = refused_due a b job cause at.kept at.stands it;
+      marked = at.marked ∙ sym (refused_mark a b job cause at.kept at.stands it);
+      owes = (
+        ap (λ m. refused_text (record { at = m; job = job; refusal = cause }) ∷ []) (sym at.marked),
+        refused_fits a b job cause at.kept at.stands it lane.server at.fits,
+        (
+          subst (λ m. m < 10 ^ 18) (sym at.marked)
+              (refused_mark_short a b job cause at.kept at.stands it),
+          it.numerals,
+        ),
+      );
       names = λ ls. tt;
     }
-
-  -- the end
-  pub over_adds : (lane : Lane D) (a b : Account) → IsOpenAt serves lane a → EndsFeed (counted a) b
-      → Adds serves having (record lane { is_open = false; work = Run End }) a b
-  over_adds lane a b at it = by_server lane.server at.fits where
-    by_server : (o : Option D) → Fits serves a o
-        → Adds serves having (record lane { server = o; is_open = false; work = Run End }) a b
-    by_server None fits = absurd (let e : None ≡ Some it.session = sym fits ∙ it.before_is in cc)
-    by_server (Some v) fits = record {
-      opened = sym (opens_by b Ended (end_stands a b at.kept at.stands it));
-      rest = end_rest a b at.kept at.stands it;
-      due = end_due a b at.kept at.stands it;
-      marked = at.marked ∙ sym (end_mark a b at.kept at.stands it);
-      owes = end_owes a b at.kept at.stands it serves v fits;
-      names = λ ls. tt;
-    }
-
-  -- a refused job line
-  pub refused_adds : (lane : Lane D) (release work deadline value : ℕ) (cause : Refusal) (a b : Account)
-      → IsOpenAt serves lane a → AddsRefused (job_of_numbers release work deadline value) cause (counted a) b
-      → Adds serves having (record lane { work = Give (Refuse lane.mark release work deadline value cause) }) a b
-  refused_adds lane release work deadline value cause a b at it =
-      let job = job_of_numbers release work deadline value in record {
-        opened = at.opened ∙ sym (opens_by b Open (refused_stands a b job cause at.kept at.stands it));
-        rest = refused_text (record { at = a.mark; job = job; refusal = cause }) ∷ [];
-        due = refused_due a b job cause at.kept at.stands it;
-        marked = at.marked ∙ sym (refused_mark a b job cause at.kept at.stands it);
-        owes = (
-          ap (λ m. refused_text (record { at = m; job = job; refusal = cause }) ∷ []) (sym at.marked),
-          refused_fits a b job cause at.kept at.stands it serves lane.server at.fits,
-          (
-            subst (λ m. m < 10 ^ 18) (sym at.marked)
-                (refused_mark_short a b job cause at.kept at.stands it),
-            it.numerals,
-          ),
-        );
-        names = λ ls. tt;
-      }
 
 -- ---- a line of a lane
 
 -- a lane that goes on, and has nothing under way
-pub open_at : {D : Type 0} {serves : Serving D} {having : Having D} (lane : Lane D) (i : feed.Kept)
-    (ls : List (List ℕ)) → IsQuiet serves having lane ls → lane.is_open ≡ true
-    → IsOpenAt serves (record lane { intake = i }) (account_of_lines ls)
-open_at {serves = serves} {having = having} lane i ls it opened =
-    let owes : Owes serves having Nothing lane.server (account_of_lines ls) [] =
-    subst (λ w. Owes serves having w lane.server (account_of_lines ls) []) it.quiet it.stands.owes in record {
+pub open_at : (lane : Lane) (i : feed.Kept)
+    (ls : List (List ℕ)) → IsQuiet lane ls → lane.is_open ≡ true
+    → IsOpenAt (record lane { intake = i }) (account_of_lines ls)
+open_at lane i ls it opened =
+    let owes : Owes Nothing lane.server (account_of_lines ls) [] =
+    subst (λ w. Owes w lane.server (account_of_lines ls) []) it.quiet it.stands.owes in record {
       opened = opened;
       kept = lines_kept ls;
       stands = open_stands (account_of_lines ls) (sym it.stands.opened ∙ opened);
@@ -142,61 +143,60 @@ not_over fed a b true opened it over is goes_on =
     absurd (let e : true ≡ false = sym goes_on ∙ is
     ∙ opens_by b Ended (ap (λ (x : Account). x.standing) ends.after_is) in cc)
 
-module _ {D : Type 0} {serves : Serving D} {having : Having D} where
-  -- the lane after a good line
-  pub taken_stands : (lane : Lane D) (ls : List (List ℕ)) (line : List ℕ) (fed : Fed)
-      → feed.StandsFor lane.intake (ls ++ line ∷ [])
-      → IsFed (counted (account_of_lines ls)) (account_of_lines (ls ++ line ∷ [])) fed
-      → (feed.has_ended lane.intake ≡ true → fed ≡ Over)
-      → Adds serves having lane (account_of_lines ls) (account_of_lines (ls ++ line ∷ []))
-      → Stands serves having lane (ls ++ line ∷ []) (lines_added ls line)
-  taken_stands lane ls line fed intake is over it = record {
-    intake = intake;
-    opened = it.opened;
-    unended = not_over fed (account_of_lines ls) (account_of_lines (ls ++ line ∷ []))
-        (feed.has_ended lane.intake) lane.is_open is over it.opened;
-    marked = it.marked;
-    owes = subst (Owes serves having lane.work lane.server (account_of_lines (ls ++ line ∷ [])))
-        (added_is ls line it.rest it.due) it.owes;
-    names = it.names (ls ++ line ∷ []);
-  }
+-- the lane after a good line
+pub taken_stands : (lane : Lane) (ls : List (List ℕ)) (line : List ℕ) (fed : Fed)
+    → feed.StandsFor lane.intake (ls ++ line ∷ [])
+    → IsFed (counted (account_of_lines ls)) (account_of_lines (ls ++ line ∷ [])) fed
+    → (feed.has_ended lane.intake ≡ true → fed ≡ Over)
+    → Adds lane (account_of_lines ls) (account_of_lines (ls ++ line ∷ []))
+    → Stands lane (ls ++ line ∷ []) (lines_added ls line)
+taken_stands lane ls line fed intake is over it = record {
+  intake = intake;
+  opened = it.opened;
+  unended = not_over fed (account_of_lines ls) (account_of_lines (ls ++ line ∷ []))
+      (feed.has_ended lane.intake) lane.is_open is over it.opened;
+  marked = it.marked;
+  owes = subst (Owes lane.work lane.server (account_of_lines (ls ++ line ∷ [])))
+      (added_is ls line it.rest it.due) it.owes;
+  names = it.names (ls ++ line ∷ []);
+}
 
-  -- the lane after a faulty line
-  pub fault_stands : (lane : Lane D) (i : feed.Kept) (ls : List (List ℕ)) (line : List ℕ) (fault : FeedFault)
-      → feed.StandsFor i (ls ++ line ∷ []) → IsOpenAt serves (record lane { intake = i }) (account_of_lines ls)
-      → NewFault line fault (account_of_lines ls) (account_of_lines (ls ++ line ∷ []))
-      → Stands serves having (record lane { intake = i; is_open = false; work = Give (Refused fault.line fault.cause) })
-      (ls ++ line ∷ []) (lines_added ls line)
-  fault_stands lane i ls line fault intake at it = record {
-    intake = intake;
-    opened = sym (opens_by (account_of_lines (ls ++ line ∷ [])) _ (ap (λ (x : Account). x.standing) it.after_is));
-    unended = λ e. absurd (let f : false ≡ true = e in cc);
-    marked = at.marked ∙ sym (ap (λ (x : Account). x.mark) it.after_is);
-    owes = (
-      sym (added_is ls line _ (new_fault_due line fault (account_of_lines ls)
-          (account_of_lines (ls ++ line ∷ [])) it)),
-      new_fault_fits serves line fault (account_of_lines ls)
-          (account_of_lines (ls ++ line ∷ [])) lane.server it at.fits,
-      tt,
-    );
-    names = record { before = ls; line = line; more = []; lines = refl; new = it };
-  }
+-- the lane after a faulty line
+pub fault_stands : (lane : Lane) (i : feed.Kept) (ls : List (List ℕ)) (line : List ℕ) (fault : FeedFault)
+    → feed.StandsFor i (ls ++ line ∷ []) → IsOpenAt (record lane { intake = i }) (account_of_lines ls)
+    → NewFault line fault (account_of_lines ls) (account_of_lines (ls ++ line ∷ []))
+    → Stands (record lane { intake = i; is_open = false; work = Give (Refused fault.line fault.cause) })
+    (ls ++ line ∷ []) (lines_added ls line)
+fault_stands lane i ls line fault intake at it = record {
+  intake = intake;
+  opened = sym (opens_by (account_of_lines (ls ++ line ∷ [])) _ (ap (λ (x : Account). x.standing) it.after_is));
+  unended = λ e. absurd (let f : false ≡ true = e in cc);
+  marked = at.marked ∙ sym (ap (λ (x : Account). x.mark) it.after_is);
+  owes = (
+    sym (added_is ls line _ (new_fault_due line fault (account_of_lines ls)
+        (account_of_lines (ls ++ line ∷ [])) it)),
+    new_fault_fits line fault (account_of_lines ls)
+        (account_of_lines (ls ++ line ∷ [])) lane.server it at.fits,
+    tt,
+  );
+  names = record { before = ls; line = line; more = []; lines = refl; new = it };
+}
 
-  -- the lane after a line that is disregarded
-  pub over_stands : (lane : Lane D) (ls : List (List ℕ)) (line : List ℕ) → IsQuiet serves having lane ls
-      → lane.is_open ≡ false → Stands serves having lane (ls ++ line ∷ []) (lines_added ls line)
-  over_stands lane ls line it over =
-      let same : account_of_lines (ls ++ line ∷ []) ≡ account_of_lines ls =
-      account_over ls line (sym it.stands.opened ∙ over) in record {
-        intake = record { by_account = subst (feed.KeepsAccount lane.intake) (sym same) it.stands.intake.by_account };
-        opened = it.stands.opened ∙ ap is_open (sym same);
-        unended = it.stands.unended;
-        marked = it.stands.marked ∙ ap (λ (x : Account). x.mark) (sym same);
-        owes = subst (Owes serves having lane.work lane.server (account_of_lines (ls ++ line ∷ [])))
-            (added_is ls line [] (ap due_lines same ∙ sym (append-nil (due_lines (account_of_lines ls)))))
-            (subst (λ a. Owes serves having lane.work lane.server a []) (sym same) it.stands.owes);
-        names = subst (λ w. GivesFault w (ls ++ line ∷ [])) (sym it.quiet) tt;
-      }
+-- the lane after a line that is disregarded
+pub over_stands : (lane : Lane) (ls : List (List ℕ)) (line : List ℕ) → IsQuiet lane ls
+    → lane.is_open ≡ false → Stands lane (ls ++ line ∷ []) (lines_added ls line)
+over_stands lane ls line it over =
+    let same : account_of_lines (ls ++ line ∷ []) ≡ account_of_lines ls =
+    account_over ls line (sym it.stands.opened ∙ over) in record {
+      intake = record { by_account = subst (feed.KeepsAccount lane.intake) (sym same) it.stands.intake.by_account };
+      opened = it.stands.opened ∙ ap is_open (sym same);
+      unended = it.stands.unended;
+      marked = it.stands.marked ∙ ap (λ (x : Account). x.mark) (sym same);
+      owes = subst (Owes lane.work lane.server (account_of_lines (ls ++ line ∷ [])))
+          (added_is ls line [] (ap due_lines same ∙ sym (append-nil (due_lines (account_of_lines ls)))))
+          (subst (λ a. Owes lane.work lane.server a []) (sym same) it.stands.owes);
+      names = subst (λ w. GivesFault w (ls ++ line ∷ [])) (sym it.quiet) tt;
+    }
 
 -- the line that was answered so is the end
 pub over_fed : {E : Type 0} (fed : Fed) (r : Result Fed E) → r ≡ Ok fed → r ≡ Ok Over → fed ≡ Over

@@ -7,7 +7,7 @@ use Rattle.lane_server.specs.Lanes.{lane_count, OfLane, Close, lane_line, Handed
 use Rattle.lane_server.specs.Lanes.{lane_lines, in_lane}
 use Rattle.lane_server.specs.Lanes.{newly_due, shorts_from}
 use Rattle.event_feed.specs.declared.faults.Cause.TheVariants.{Short}
-use Rattle.lane_server.specs.Lane.{Serving, Having, Stands, IsQuiet, out_text, HasNumerals, NamesFault}
+use Rattle.lane_server.specs.Lane.{Stands, IsQuiet, out_text, HasNumerals, NamesFault}
 use Rattle.lane_server.specs.declared.out.LaneOut.{LaneOut}
 use Rattle.lane_server.specs.declared.out.LaneOut.TheVariants.{Refused}
 use Rattle.lane_server.specs.declared.lane.Lane.{Lane}
@@ -19,53 +19,53 @@ use Rattle.lane_server.specs.declared.lanes.LaneFault.{LaneFault}
 use Rattle.lane_server.specs.declared.lanes.LaneFault.TheVariants as fault
 
 -- how many lines came, the lanes, and what is under way
-pub record Kept (D : Type 0) : Type 0 where
+pub record Kept : Type 0 where
   pub lines : ℕ
-  pub lanes : List (Lane D)
+  pub lanes : List Lane
   pub phase : Phase
 
 -- every lane has given all that is due for its lines
-abbrev pub AllQuiet : {D : Type 0} → Serving D → Having D → List (Lane D) → List Handed → Type 0
-AllQuiet {D = D} serves has_room lanes handed = (i : ℕ) (lane : Lane D) → slice_get lanes i ≡ Some lane
-    → IsQuiet serves has_room lane (lane_lines handed i)
+abbrev pub AllQuiet : List Lane → List Handed → Type 0
+AllQuiet lanes handed = (i : ℕ) (lane : Lane) → slice_get lanes i ≡ Some lane
+    → IsQuiet lane (lane_lines handed i)
 
 -- every lane was handed its lines
-abbrev pub AllStand : {D : Type 0} → Serving D → Having D → List (Lane D) → List Handed → Type 0
-AllStand {D = D} serves has_room lanes handed = (i : ℕ) (lane : Lane D) → slice_get lanes i ≡ Some lane
-    → (rest : List (List ℕ)) × Stands serves has_room lane (lane_lines handed i) rest
+abbrev pub AllStand : List Lane → List Handed → Type 0
+AllStand lanes handed = (i : ℕ) (lane : Lane) → slice_get lanes i ≡ Some lane
+    → (rest : List (List ℕ)) × Stands lane (lane_lines handed i) rest
 
 -- this lane has lines left, and every other has given all
-pub record OneGives {D : Type 0} (serves : Serving D) (has_room : Having D) (lanes : List (Lane D))
+pub record OneGives (lanes : List Lane)
     (handed : List Handed) (giving : ℕ) (left : List (List ℕ)) : Type 0 where
   pub within : giving < lane_count
-  pub gives : (lane : Lane D) → slice_get lanes giving ≡ Some lane
-      → Stands serves has_room lane (lane_lines handed giving) left
-  pub others : (i : ℕ) (lane : Lane D) → (i ≡ giving → ⊥) → slice_get lanes i ≡ Some lane
-      → IsQuiet serves has_room lane (lane_lines handed i)
+  pub gives : (lane : Lane) → slice_get lanes giving ≡ Some lane
+      → Stands lane (lane_lines handed giving) left
+  pub others : (i : ℕ) (lane : Lane) → (i ≡ giving → ⊥) → slice_get lanes i ≡ Some lane
+      → IsQuiet lane (lane_lines handed i)
 
 -- by what is under way, these lines are left
-abbrev pub Leaves : {D : Type 0} → Serving D → Having D → Phase → List (Lane D) → Input → List (List ℕ) → Type 0
-Leaves serves has_room Ready lanes a rest = (a.standing ≡ Open) × (rest ≡ []) × AllQuiet serves has_room lanes a.handed
-Leaves serves has_room (Giving lane) lanes a rest =
+abbrev pub Leaves : Phase → List Lane → Input → List (List ℕ) → Type 0
+Leaves Ready lanes a rest = (a.standing ≡ Open) × (rest ≡ []) × AllQuiet lanes a.handed
+Leaves (Giving lane) lanes a rest =
     (left : List (List ℕ)) × (a.standing ≡ Open) × (rest ≡ map (in_lane lane) left)
-    × OneGives serves has_room lanes a.handed lane left
-Leaves serves has_room (Closing next) lanes a rest =
+    × OneGives lanes a.handed lane left
+Leaves (Closing next) lanes a rest =
     (a.standing ≡ Closed) × (next ≤ lane_count) × (rest ≡ shorts_from a.handed next (lane_count - next))
-    × AllQuiet serves has_room lanes a.handed
+    × AllQuiet lanes a.handed
 
 -- These lines were handed in, and these are left to give of what is due for them.
-pub record StandsFor {D : Type 0} (serves : Serving D) (has_room : Having D) (kept : Kept D) (ls rest : List (List ℕ))
+pub record StandsFor (kept : Kept) (ls rest : List (List ℕ))
     : Type 0 where
   pub counted : kept.lines ≡ (input_of_lines ls).lines
   pub count : length kept.lanes ≡ lane_count
-  pub left : Leaves serves has_room kept.phase kept.lanes (input_of_lines ls) rest
+  pub left : Leaves kept.phase kept.lanes (input_of_lines ls) rest
 
 -- all that is due was given, and `close` didn't come
-abbrev pub IsReady : {D : Type 0} → Kept D → Type 0
+abbrev pub IsReady : Kept → Type 0
 IsReady kept = kept.phase ≡ Ready
 
 -- `close` came
-abbrev pub is_closed : {D : Type 0} → Kept D → Bool
+abbrev pub is_closed : Kept → Bool
 is_closed kept = elim kept.phase [ Ready ↦ false | Giving lane ↦ false | Closing next ↦ true ]
 
 -- the input may have one line more
@@ -73,31 +73,31 @@ abbrev pub HasRoom : List (List ℕ) → Type 0
 HasRoom ls = suc (input_of_lines ls).lines ≤ most_lines
 
 -- the line is one of this lane, and what is newly due for it is left to give
-pub record IsFed {D : Type 0} (serves : Serving D) (has_room : Having D) (lane : ℕ) (kept : Kept D)
+pub record IsFed (lane : ℕ) (kept : Kept)
     (ls : List (List ℕ)) (bytes : List ℕ) : Type 0 where
   pub room : HasRoom ls
   pub line : List ℕ
   pub reads : lane_line bytes ≡ Some (OfLane lane line)
-  pub stands : StandsFor serves has_room kept (ls ++ bytes ∷ [])
+  pub stands : StandsFor kept (ls ++ bytes ∷ [])
       (newly_due (input_of_lines ls).handed (record { lane = lane; line = line }))
   pub going : is_closed kept ≡ false
 
 -- the line is `close`, and a short line is left for each lane that has a line and is neither ended nor faulty
-pub record IsClosed {D : Type 0} (serves : Serving D) (has_room : Having D) (kept : Kept D) (ls : List (List ℕ))
+pub record IsClosed (kept : Kept) (ls : List (List ℕ))
     (bytes : List ℕ) : Type 0 where
   pub room : HasRoom ls
   pub reads : lane_line bytes ≡ Some Close
-  pub stands : StandsFor serves has_room kept (ls ++ bytes ∷ []) (shorts_from (input_of_lines ls).handed 0 lane_count)
+  pub stands : StandsFor kept (ls ++ bytes ∷ []) (shorts_from (input_of_lines ls).handed 0 lane_count)
   pub closed : is_closed kept ≡ true
 
 -- the answer to a line behind these
-abbrev pub Answers : {D : Type 0} → Serving D → Having D → Result LaneStep LaneFault → Kept D → Kept D
+abbrev pub Answers : Result LaneStep LaneFault → Kept → Kept
     → List (List ℕ) → List ℕ → Type 0
-Answers serves has_room (Ok (step.Fed lane)) old new ls bytes = IsFed serves has_room lane new ls bytes
-Answers serves has_room (Ok step.Closed) old new ls bytes = IsClosed serves has_room new ls bytes
-Answers serves has_room (Err fault.Lines) old new ls bytes = (most_lines < suc (input_of_lines ls).lines) × (new ≡ old)
-Answers serves has_room (Err fault.BadLane) old new ls bytes = HasRoom ls × (lane_line bytes ≡ None) × (new ≡ old)
-Answers serves has_room (Err fault.Memory) old new ls bytes =
+Answers (Ok (step.Fed lane)) old new ls bytes = IsFed lane new ls bytes
+Answers (Ok step.Closed) old new ls bytes = IsClosed new ls bytes
+Answers (Err fault.Lines) old new ls bytes = (most_lines < suc (input_of_lines ls).lines) × (new ≡ old)
+Answers (Err fault.BadLane) old new ls bytes = HasRoom ls × (lane_line bytes ≡ None) × (new ≡ old)
+Answers (Err fault.Memory) old new ls bytes =
     HasRoom ls × ((lane : ℕ) × (line : List ℕ) × (lane_line bytes ≡ Some (OfLane lane line)))
 
 -- it says that the feed is short
@@ -107,11 +107,11 @@ SaysShort _ = ⊥
 
 -- The next line is the first of those left, can be written, and names the fault for which it refuses a feed that isn't
 -- short. There is none exactly where none is left.
-abbrev pub GivesNext : {D : Type 0} → Serving D → Having D → Option (ℕ × LaneOut) → Kept D → List (List ℕ)
+abbrev pub GivesNext : Option (ℕ × LaneOut) → Kept → List (List ℕ)
     → List (List ℕ) → Type 0
-GivesNext serves has_room None kept ls rest = (rest ≡ []) × StandsFor serves has_room kept ls []
-GivesNext serves has_room (Some given) kept ls rest =
+GivesNext None kept ls rest = (rest ≡ []) × StandsFor kept ls []
+GivesNext (Some given) kept ls rest =
     (more : List (List ℕ)) × (rest ≡ in_lane given.0 (out_text given.1) ∷ more)
-    × StandsFor serves has_room kept ls more
+    × StandsFor kept ls more
     × HasNumerals given.1
     × (NamesFault given.1 (lane_lines (input_of_lines ls).handed given.0) ⊎ SaysShort given.1)

@@ -2,7 +2,7 @@
 use Rattle.std.specs.Prelude.{◌≡◌, ◌⊎◌, ℕ, List, [], ◌∷◌, ◌++◌, map, true, false, if◌then◌else◌, Option, Some, None}
 use Rattle.dover_model.specs.declared.events.Event.{Event}
 use Rattle.dover_model.specs.JobFacts.{JobFacts, job_of_numbers}
-use Rattle.dover_model.specs.Instance.{Instance, IsValid, with_jobs}
+use Rattle.dover_model.specs.Instance.{IsValid, with_jobs}
 use Rattle.dover_model.specs.Session.{JobItem, Session, instance_of, with_item}
 use Rattle.dover_model.specs.Text.{header, text_of, refused_text, step_numbers}
 use Rattle.dover_model.specs.Feed.{Account, Cause, Open, Faulty, account_of_lines, is_open, is_ended, rules_with}
@@ -23,6 +23,8 @@ use Rattle.lane_server.specs.declared.out.LaneOut.TheVariants.{Header, Step as P
 use Rattle.lane_server.specs.declared.lane.Lane.{Lane}
 use Rattle.lane_server.specs.declared.lane.Work.{Work}
 use Rattle.lane_server.specs.declared.lane.Work.TheVariants.{Nothing, Give, Run, Admit}
+use Rattle.ready_server.specs.Rostering.{Serves, HasPlace}
+use Rattle.ready_server.specs.declared.roster_server.RosterServer.{RosterServer}
 
 -- ---- how a feed stands
 
@@ -64,28 +66,20 @@ NamesFault _ ls = Unit {0}
 
 -- ---- how far a server is
 
--- what is said of a server: that it has taken the run of these jobs towards a horizon, and has printed these events
-abbrev pub Serving : Type 0 → Type 1
-Serving D = D → Instance → Horizon → List Event → Type 0
-
--- that it has room for one job more
-abbrev pub Having : Type 0 → Type 1
-Having D = D → Type 0
-
 -- up to where the run of a feed's jobs is due: to its mark, or to its end
 abbrev pub reach : Account → Horizon
 reach a = if is_ended a then End else Mark a.mark
 
 -- the server has printed all that is due of the account's session, or there is neither
-abbrev pub Fits : {D : Type 0} → Serving D → Account → Option D → Type 0
-Fits serves a None = a.session ≡ None
-Fits serves a (Some server) = (S : Session) × (a.session ≡ Some S)
-    × serves server (instance_of S) (reach a) (due_by (instance_of S) (reach a))
+abbrev pub Fits : Account → Option RosterServer → Type 0
+Fits a None = a.session ≡ None
+Fits a (Some server) = (S : Session) × (a.session ≡ Some S)
+    × Serves server (instance_of S) (reach a) (due_by (instance_of S) (reach a))
 
 -- ---- what is still to give
 
 -- of what is due of the session up to the horizon these lines are left
-pub record Running {D : Type 0} (serves : Serving D) (to : Horizon) (server : D) (a : Account)
+pub record Running (to : Horizon) (server : RosterServer) (a : Account)
     (rest : List (List ℕ)) : Type 0 where
   pub session : Session
   pub there : a.session ≡ Some session
@@ -94,36 +88,36 @@ pub record Running {D : Type 0} (serves : Serving D) (to : Horizon) (server : D)
   pub from : Horizon
   pub follows : MayFollow from to
   pub events : List Event
-  pub served : serves server (instance_of session) from events
+  pub served : Serves server (instance_of session) from events
   pub left : List Event
   pub due : due_by (instance_of session) to ≡ events ++ left
   pub texts : rest ≡ map text_of left
 
 -- The server serves the session without its last job, for which there is room, and these lines are left up to the job's
 -- release with it.
-pub record Admitting {D : Type 0} (serves : Serving D) (has_room : Having D) (job : JobFacts) (server : D) (a : Account)
+pub record Admitting (job : JobFacts) (server : RosterServer) (a : Account)
     (rest : List (List ℕ)) : Type 0 where
   pub session : Session
   pub there : a.session ≡ Some (with_item session (JobItem job))
   pub reached : reach a ≡ Mark job.release
   pub valid : IsValid (with_jobs (instance_of session) (job ∷ []))
-  pub room : has_room server
+  pub room : HasPlace server
   pub from : Horizon
   pub follows : MayFollow from (Mark job.release)
   pub events : List Event
-  pub served : serves server (instance_of session) from events
+  pub served : Serves server (instance_of session) from events
   pub left : List Event
   pub due : due_by (with_jobs (instance_of session) (job ∷ [])) (Mark job.release) ≡ events ++ left
   pub texts : rest ≡ map text_of left
 
 -- what the work under way still gives
-abbrev pub Owes : {D : Type 0} → Serving D → Having D → Work → Option D → Account → List (List ℕ) → Type 0
-Owes serves has_room Nothing server a rest = (rest ≡ []) × Fits serves a server
-Owes serves has_room (Give out) server a rest = (rest ≡ out_text out ∷ []) × Fits serves a server × HasNumerals out
-Owes serves has_room (Run to) None a rest = ⊥
-Owes serves has_room (Run to) (Some server) a rest = Running serves to server a rest
-Owes serves has_room (Admit job) None a rest = ⊥
-Owes serves has_room (Admit job) (Some server) a rest = Admitting serves has_room job server a rest
+abbrev pub Owes : Work → Option RosterServer → Account → List (List ℕ) → Type 0
+Owes Nothing server a rest = (rest ≡ []) × Fits a server
+Owes (Give out) server a rest = (rest ≡ out_text out ∷ []) × Fits a server × HasNumerals out
+Owes (Run to) None a rest = ⊥
+Owes (Run to) (Some server) a rest = Running to server a rest
+Owes (Admit job) None a rest = ⊥
+Owes (Admit job) (Some server) a rest = Admitting job server a rest
 
 -- a line that refuses the feed, and is left to give, names its fault
 abbrev pub GivesFault : Work → List (List ℕ) → Type 0
@@ -133,41 +127,41 @@ GivesFault _ ls = Unit {0}
 -- ---- a lane
 
 -- The lane was handed these lines, and these are left to give.
-pub record Stands {D : Type 0} (serves : Serving D) (has_room : Having D) (lane : Lane D) (ls rest : List (List ℕ))
+pub record Stands (lane : Lane) (ls rest : List (List ℕ))
     : Type 0 where
   pub intake : feed.StandsFor lane.intake ls
   pub opened : lane.is_open ≡ is_open (account_of_lines ls)
   pub unended : lane.is_open ≡ true → feed.has_ended lane.intake ≡ false
   pub marked : lane.mark ≡ (account_of_lines ls).mark
-  pub owes : Owes serves has_room lane.work lane.server (account_of_lines ls) rest
+  pub owes : Owes lane.work lane.server (account_of_lines ls) rest
   pub names : GivesFault lane.work ls
 
 -- it was handed these lines, and all that is due for them was given
-pub record IsQuiet {D : Type 0} (serves : Serving D) (has_room : Having D) (lane : Lane D) (ls : List (List ℕ)) : Type 0
+pub record IsQuiet (lane : Lane) (ls : List (List ℕ)) : Type 0
   where
-    pub stands : Stands serves has_room lane ls []
+    pub stands : Stands lane ls []
     pub quiet : lane.work ≡ Nothing
 
 -- it gives the first of the lines that are left, if one is
-abbrev pub Gives : {D : Type 0} → Serving D → Having D → Option LaneOut → Lane D → List (List ℕ) → List (List ℕ)
+abbrev pub Gives : Option LaneOut → Lane → List (List ℕ) → List (List ℕ)
     → Type 0
-Gives serves has_room None lane ls rest = (rest ≡ []) × IsQuiet serves has_room lane ls
-Gives serves has_room (Some out) lane ls rest = (more : List (List ℕ)) × (rest ≡ out_text out ∷ more)
-    × Stands serves has_room lane ls more × HasNumerals out × NamesFault out ls
+Gives None lane ls rest = (rest ≡ []) × IsQuiet lane ls
+Gives (Some out) lane ls rest = (more : List (List ℕ)) × (rest ≡ out_text out ∷ more)
+    × Stands lane ls more × HasNumerals out × NamesFault out ls
 
 -- the account goes on, and the lane's server has taken its session to its mark
-pub record IsOpenAt {D : Type 0} (serves : Serving D) (lane : Lane D) (a : Account) : Type 0 where
+pub record IsOpenAt (lane : Lane) (a : Account) : Type 0 where
   pub opened : lane.is_open ≡ true
   pub kept : IsKept a
   pub stands : a.standing ≡ Open
-  pub fits : Fits serves a lane.server
+  pub fits : Fits a lane.server
   pub marked : lane.mark ≡ a.mark
 
 -- what is due for b beyond a is left to give
-pub record Adds {D : Type 0} (serves : Serving D) (has_room : Having D) (lane : Lane D) (a b : Account) : Type 0 where
+pub record Adds (lane : Lane) (a b : Account) : Type 0 where
   pub opened : lane.is_open ≡ is_open b
   pub rest : List (List ℕ)
   pub due : due_lines b ≡ due_lines a ++ rest
   pub marked : lane.mark ≡ b.mark
-  pub owes : Owes serves has_room lane.work lane.server b rest
+  pub owes : Owes lane.work lane.server b rest
   pub names : (ls : List (List ℕ)) → GivesFault lane.work ls

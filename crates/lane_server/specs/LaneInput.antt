@@ -9,7 +9,7 @@ use Rattle.lane_server.specs.Lanes as lanes
 use Rattle.lane_server.specs.Lanes.{lane_count, Handed, InputStanding, Open, Closed, Faulty, HasLine, goes_on, input}
 use Rattle.lane_server.specs.Lanes.{input_of_lines, lane_lines, in_lane, due_after, shorts_from, fault_word}
 use Rattle.lane_server.specs.Lanes.{refused_line, closing_lines}
-use Rattle.lane_server.specs.Lane.{Serving, Having, out_text, HasNumerals, NamesFault}
+use Rattle.lane_server.specs.Lane.{out_text, HasNumerals, NamesFault}
 use Rattle.lane_server.specs.Kept.{Kept, StandsFor, IsReady, SaysShort}
 use Rattle.lane_server.specs.declared.out.LaneOut.{LaneOut}
 use Rattle.lane_server.specs.declared.refusal.Refusal.{Refusal}
@@ -35,28 +35,28 @@ standing_of lines (Some BadLane) = Faulty (suc lines) lanes.BadLane
 -- ---- what is kept
 
 -- These lines are left to give, by how the input stands. Where it was closed, the short lines are besides.
-abbrev pub LeavesAt : {D : Type 0} → Serving D → Having D → InputStanding → Kept D → List (List ℕ) → List (List ℕ)
+abbrev pub LeavesAt : InputStanding → Kept → List (List ℕ) → List (List ℕ)
     → Type 0
-LeavesAt serves has_room Open kept ls left = StandsFor serves has_room kept ls left
-LeavesAt serves has_room Closed kept ls left =
-    (left ≡ []) × StandsFor serves has_room kept ls (shorts_from (input_of_lines ls).handed 0 lane_count)
-LeavesAt serves has_room (Faulty line fault) kept ls left = (left ≡ []) × (kept.lines ≤ most_lines)
+LeavesAt Open kept ls left = StandsFor kept ls left
+LeavesAt Closed kept ls left =
+    (left ≡ []) × StandsFor kept ls (shorts_from (input_of_lines ls).handed 0 lane_count)
+LeavesAt (Faulty line fault) kept ls left = (left ≡ []) × (kept.lines ≤ most_lines)
 
 -- These lines came, of which the lanes took the good ones, and these are left to give of what is due for them.
-pub record Holds {D : Type 0} (serves : Serving D) (has_room : Having D) (refusal : Option Refusal) (kept : Kept D)
+pub record Holds (refusal : Option Refusal) (kept : Kept)
     (ls left : List (List ℕ)) : Type 0 where
   pub stands : (input_of_lines ls).standing ≡ standing_of kept.lines refusal
-  pub leaves : LeavesAt serves has_room (input_of_lines ls).standing kept ls left
+  pub leaves : LeavesAt (input_of_lines ls).standing kept ls left
 
 -- These bytes came, and these lines are left to give of what is due for them.
-pub record Stands {D : Type 0} (serves : Serving D) (has_room : Having D) (i : LaneInput D) (x : List ℕ)
+pub record Stands (i : LaneInput) (x : List ℕ)
     (left : List (List ℕ)) : Type 0 where
   pub cut : cuts.StandsFor i.lines x
-  pub holds : Holds serves has_room i.refusal i.lanes (lines_of x) left
+  pub holds : Holds i.refusal i.lanes (lines_of x) left
 
 -- all was given
-pub record Rests {D : Type 0} (serves : Serving D) (has_room : Having D) (i : LaneInput D) (x : List ℕ) : Type 0 where
-  pub stands : Stands serves has_room i x []
+pub record Rests (i : LaneInput) (x : List ℕ) : Type 0 where
+  pub stands : Stands i x []
   pub ready : goes_on (input x) ≡ true → IsReady i.lanes
 
 -- ---- what the calls do
@@ -66,43 +66,43 @@ abbrev pub Grows : List Handed → List Handed → List (List ℕ) → Type 0
 Grows before after left = due_after [] after ≡ due_after [] before ++ left
 
 -- What a line behind these adds to what is due is left to give; or there was no memory for a line of a lane.
-abbrev pub Hands : {D : Type 0} → Serving D → Having D → Kept D → List (List ℕ) → List ℕ
+abbrev pub Hands : Kept → List (List ℕ) → List ℕ
     → Result (Option Refusal) Memory → Type 0
-Hands serves has_room kept ls line (Ok refusal) = (left : List (List ℕ))
+Hands kept ls line (Ok refusal) = (left : List (List ℕ))
     × Grows (input_of_lines ls).handed (input_of_lines (ls ++ line ∷ [])).handed left
-    × Holds serves has_room refusal kept (ls ++ line ∷ []) left
-Hands serves has_room kept ls line (Err e) = HasLine (input_of_lines (ls ++ line ∷ [])).handed
+    × Holds refusal kept (ls ++ line ∷ []) left
+Hands kept ls line (Err e) = HasLine (input_of_lines (ls ++ line ∷ [])).handed
 
 -- What bytes behind x add to what is due is left to give.
-abbrev pub HasMore : {D : Type 0} → Serving D → Having D → LaneInput D → List ℕ → List ℕ → Type 0
-HasMore serves has_room i x bytes = (left : List (List ℕ))
-    × Grows (input x).handed (input (x ++ bytes)).handed left × Stands serves has_room i (x ++ bytes) left
+abbrev pub HasMore : LaneInput → List ℕ → List ℕ → Type 0
+HasMore i x bytes = (left : List (List ℕ))
+    × Grows (input x).handed (input (x ++ bytes)).handed left × Stands i (x ++ bytes) left
 
 -- So it is once this is why the input would be refused; or there was no memory for a line of a lane.
-abbrev pub Adds : {D : Type 0} → Serving D → Having D → LaneInput D → List ℕ → List ℕ
+abbrev pub Adds : LaneInput → List ℕ → List ℕ
     → Result (Option Refusal) Memory → Type 0
-Adds serves has_room i x bytes (Ok refusal) = HasMore serves has_room (record i { refusal = refusal }) x bytes
-Adds serves has_room i x bytes (Err e) = HasLine (input (x ++ bytes)).handed
+Adds i x bytes (Ok refusal) = HasMore (record i { refusal = refusal }) x bytes
+Adds i x bytes (Err e) = HasLine (input (x ++ bytes)).handed
 
 -- so many bytes of the piece were taken, or there was no memory for a line of a lane
-abbrev pub Takes : {D : Type 0} → Serving D → Having D → LaneInput D → List ℕ → List ℕ → Result ℕ Memory → Type 0
-Takes serves has_room i x piece (Ok count) =
-    (0 < count) × (count ≤ length piece) × HasMore serves has_room i x (take count piece)
-Takes serves has_room i x piece (Err e) = HasLine (input (x ++ piece)).handed
+abbrev pub Takes : LaneInput → List ℕ → List ℕ → Result ℕ Memory → Type 0
+Takes i x piece (Ok count) =
+    (0 < count) × (count ≤ length piece) × HasMore i x (take count piece)
+Takes i x piece (Err e) = HasLine (input (x ++ piece)).handed
 
 -- The next line is the first of those left, can be written, and names the fault for which it refuses a feed that isn't
 -- short. There is none exactly where none is left.
-abbrev pub GivesDue : {D : Type 0} → Serving D → Having D → Option (ℕ × LaneOut) → LaneInput D → List ℕ
+abbrev pub GivesDue : Option (ℕ × LaneOut) → LaneInput → List ℕ
     → List (List ℕ) → Type 0
-GivesDue serves has_room None i x left = (left ≡ []) × Rests serves has_room i x
-GivesDue serves has_room (Some given) i x left =
-    (more : List (List ℕ)) × (left ≡ in_lane given.0 (out_text given.1) ∷ more) × Stands serves has_room i x more
+GivesDue None i x left = (left ≡ []) × Rests i x
+GivesDue (Some given) i x left =
+    (more : List (List ℕ)) × (left ≡ in_lane given.0 (out_text given.1) ∷ more) × Stands i x more
     × HasNumerals given.1
     × (NamesFault given.1 (lane_lines (input x).handed given.0) ⊎ SaysShort given.1)
 
 -- the lanes with the short lines that `close` added, or the line that refuses the input
-abbrev pub Ends : {D : Type 0} → Serving D → Having D → Result (Kept D) Refused → List ℕ → Type 0
-Ends serves has_room (Ok kept) x = ((input x).standing ≡ Closed)
-    × StandsFor serves has_room kept (lines_of x) (shorts_from (input x).handed 0 lane_count)
-Ends serves has_room (Err refused) x = ((input x).standing ≡ Closed → ⊥)
+abbrev pub Ends : Result Kept Refused → List ℕ → Type 0
+Ends (Ok kept) x = ((input x).standing ≡ Closed)
+    × StandsFor kept (lines_of x) (shorts_from (input x).handed 0 lane_count)
+Ends (Err refused) x = ((input x).standing ≡ Closed → ⊥)
     × (closing_lines (length (whole_lines x)) (input x) ≡ refused_line refused.line (word_of refused.cause) ∷ [])

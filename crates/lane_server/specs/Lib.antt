@@ -7,3 +7,4 @@ pub mod Shorts
 pub mod Alone
 pub mod LaneInput
 pub mod Spending
+pub mod Rosters

@@ -1,17 +1,17 @@
 //! One feed, byte by byte: its intake and its server.
-ghost use Rattle.std.specs.Prelude.{◌≡◌, ◌<◌, ◌∷◌, ℕ, List, [], true, length, OnOk};
+ghost use Rattle.std.specs.Prelude.{◌≡◌, ◌<◌, ◌∷◌, ℕ, List, [], Bool, true, length, OnOk};
 ghost use Rattle.dover_model.specs.Feed.{account, is_open};
 ghost use Rattle.dover_model.specs.Lines.{lines_of, rest_of};
 ghost use Rattle.line_text.specs.Cutting.{IsWholeLine, begun_line};
 ghost use Rattle.lane_server.specs.Lane.{IsQuiet};
 ghost use Rattle.lane_server.specs.Feeding.{FeedStands, FeedRests, FeedGives, Hands, Takes};
+ghost use Rattle.lane_server.specs.Rosters.{KeepsRoster};
 ghost use Rattle.lane_server.specs.Spending.{HasPaid};
 
 use crate::lane::Lane;
 use crate::out::LaneOut;
 use dover_model::Memory;
 use line_text::{Lines, Step};
-use ready_server::Dispatcher;
 use std::alloc::Global;
 use std::sync::ledger::Ledger;
 use step_count::Steps;
@@ -30,7 +30,7 @@ use step_count::Steps;
 /// Each piece goes in front by front, and behind each front come the lines that are due for it:
 ///
 /// ```
-/// let mut feed = Feed::<ReadyServer>::new(alloc);
+/// let mut feed = Feed::new(alloc, false);
 /// while feed.lane().goes_on() {
 ///     let Some(mut piece) = next_piece() else {
 ///         return feed.lane().end();
@@ -46,29 +46,30 @@ use step_count::Steps;
 /// feed.lane().end()
 /// ```
 #[derive(Drop)]
-pub struct Feed<D> {
+pub struct Feed {
     alloc: Global,
     lines: Lines,
-    lane: Lane<D>,
+    lane: Lane,
 }
 
-impl<D: Dispatcher> Feed<D> {
-    /// No byte came yet. Takes no memory.
-    pub fn new(alloc: Global) -> Feed<D>
-        ensures rests { FeedRests D.serves D.has_room result [] }
-        ensures paid { (start : ℕ) → HasPaid D.paid result.lane.server start start }
+impl Feed {
+    /// No byte came yet. Its server is to keep a roster of its jobs where one is asked for. Takes no memory.
+    pub fn new(alloc: Global, listed: bool) -> Feed
+        ensures rests { FeedRests result [] }
+        ensures paid { (start : ℕ) → HasPaid result.lane.server start start }
+        ensures roster { KeepsRoster result.lane listed }
     {
         Feed {
             alloc,
             lines: Lines::new(),
-            lane: Lane::new(),
+            lane: Lane::new(listed),
         }
     }
 
     /// Goes on behind whole lines, all of which this lane was handed.
-    pub fn behind(alloc: Global, lane: Lane<D>) -> Feed<D>
+    pub fn behind(alloc: Global, lane: Lane) -> Feed
         ensures rests { (x : List ℕ) → rest_of x ≡ [] → is_open (account x) ≡ true →
-            IsQuiet D.serves D.has_room lane (lines_of x) → FeedRests D.serves D.has_room result x }
+            IsQuiet lane (lines_of x) → FeedRests result x }
         ensures lane { result.lane ≡ lane }
     {
         let count = match lane.end() {
@@ -84,12 +85,13 @@ impl<D: Dispatcher> Feed<D> {
 
     /// Takes a byte.
     fn take_byte(&mut self, byte: u8) -> Result<(), Memory>
-        requires { (x : List ℕ) × FeedRests D.serves D.has_room self.old x × (is_open (account x) ≡ true) }
-        ensures hands { (x : List ℕ) → FeedRests D.serves D.has_room self.old x → is_open (account x) ≡ true →
-            Hands D.serves D.has_room self.new x (byte ∷ []) result }
-        ensures paid { (x : List ℕ) (start now : ℕ) → FeedRests D.serves D.has_room self.old x →
-            HasPaid D.paid self.old.lane.server start now →
-            OnOk result (HasPaid D.paid self.new.lane.server start now) }
+        requires { (x : List ℕ) × FeedRests self.old x × (is_open (account x) ≡ true) }
+        ensures hands { (x : List ℕ) → FeedRests self.old x → is_open (account x) ≡ true →
+            Hands self.new x (byte ∷ []) result }
+        ensures paid { (x : List ℕ) (start now : ℕ) → FeedRests self.old x →
+            HasPaid self.old.lane.server start now →
+            OnOk result (HasPaid self.new.lane.server start now) }
+        ensures roster { (listed : Bool) → KeepsRoster self.old.lane listed → KeepsRoster self.new.lane listed }
     {
         match self.lines.push(byte) {
             Step::More => Ok(()),
@@ -102,12 +104,13 @@ impl<D: Dispatcher> Feed<D> {
     fn take_front(&mut self, bytes: &[u8]) -> Result<(), Memory>
         requires some { 0 < length bytes.now }
         requires whole { 1 < length bytes.now → IsWholeLine self.old.lines bytes.now }
-        requires rests { (x : List ℕ) × FeedRests D.serves D.has_room self.old x × (is_open (account x) ≡ true) }
-        ensures hands { (x : List ℕ) → FeedRests D.serves D.has_room self.old x → is_open (account x) ≡ true →
-            Hands D.serves D.has_room self.new x bytes.now result }
-        ensures paid { (x : List ℕ) (start now : ℕ) → FeedRests D.serves D.has_room self.old x →
-            HasPaid D.paid self.old.lane.server start now →
-            OnOk result (HasPaid D.paid self.new.lane.server start now) }
+        requires rests { (x : List ℕ) × FeedRests self.old x × (is_open (account x) ≡ true) }
+        ensures hands { (x : List ℕ) → FeedRests self.old x → is_open (account x) ≡ true →
+            Hands self.new x bytes.now result }
+        ensures paid { (x : List ℕ) (start now : ℕ) → FeedRests self.old x →
+            HasPaid self.old.lane.server start now →
+            OnOk result (HasPaid self.new.lane.server start now) }
+        ensures roster { (listed : Bool) → KeepsRoster self.old.lane listed → KeepsRoster self.new.lane listed }
     {
         if bytes.len() > 1 {
             return self.lane.line(self.alloc, self.lines.pass(bytes));
@@ -124,12 +127,13 @@ impl<D: Dispatcher> Feed<D> {
     #[inline(always)]
     pub fn take(&mut self, piece: &[u8]) -> Result<usize, Memory>
         requires some { 0 < length piece.now }
-        requires rests { (x : List ℕ) × FeedRests D.serves D.has_room self.old x × (is_open (account x) ≡ true) }
-        ensures takes { (x : List ℕ) → FeedRests D.serves D.has_room self.old x → is_open (account x) ≡ true →
-            Takes D.serves D.has_room self.new x piece.now result }
-        ensures paid { (x : List ℕ) (start now : ℕ) → FeedRests D.serves D.has_room self.old x →
-            HasPaid D.paid self.old.lane.server start now →
-            OnOk result (HasPaid D.paid self.new.lane.server start now) }
+        requires rests { (x : List ℕ) × FeedRests self.old x × (is_open (account x) ≡ true) }
+        ensures takes { (x : List ℕ) → FeedRests self.old x → is_open (account x) ≡ true →
+            Takes self.new x piece.now result }
+        ensures paid { (x : List ℕ) (start now : ℕ) → FeedRests self.old x →
+            HasPaid self.old.lane.server start now →
+            OnOk result (HasPaid self.new.lane.server start now) }
+        ensures roster { (listed : Bool) → KeepsRoster self.old.lane listed → KeepsRoster self.new.lane listed }
     {
         let count = self.lines.front(piece);
         match self.take_front(&piece[..count]) {
@@ -141,11 +145,12 @@ impl<D: Dispatcher> Feed<D> {
     /// The next line due. None exactly where all that is due was given.
     #[inline(always)]
     pub fn next_out<L: Ledger>(&mut self, steps: &mut Steps<L>) -> Option<LaneOut>
-        requires { (x : List ℕ) × (left : List (List ℕ)) × FeedStands D.serves D.has_room self.old x left }
-        ensures gives { (x : List ℕ) (left : List (List ℕ)) → FeedStands D.serves D.has_room self.old x left →
-            FeedGives D.serves D.has_room result self.new x left }
-        ensures paid { (start : ℕ) → HasPaid D.paid self.old.lane.server start steps.old →
-            HasPaid D.paid self.new.lane.server start steps.new }
+        requires { (x : List ℕ) × (left : List (List ℕ)) × FeedStands self.old x left }
+        ensures gives { (x : List ℕ) (left : List (List ℕ)) → FeedStands self.old x left →
+            FeedGives result self.new x left }
+        ensures paid { (start : ℕ) → HasPaid self.old.lane.server start steps.old →
+            HasPaid self.new.lane.server start steps.new }
+        ensures roster { (listed : Bool) → KeepsRoster self.old.lane listed → KeepsRoster self.new.lane listed }
     {
         self.lane.next_out(steps)
     }
@@ -159,14 +164,14 @@ impl<D: Dispatcher> Feed<D> {
 
     /// The lane that its lines are handed to: whether it goes on, why it is refused where no more comes, its mark.
     #[inline(always)]
-    pub fn lane(&self) -> &Lane<D>
+    pub fn lane(&self) -> &Lane
         ensures { result.now ≡ self.now.lane }
     {
         &self.lane
     }
 
     /// The lane, where no more bytes come.
-    pub fn into_lane(self) -> Lane<D>
+    pub fn into_lane(self) -> Lane
         ensures { result ≡ self.lane }
     {
         self.lane

@@ -1,5 +1,5 @@
 //! One lane: a feed, the server that it feeds, and the lines that are due and not yet given.
-ghost use Rattle.std.specs.Prelude.{◌≡◌, ◌↔◌, ℕ, List, [], ◌∷◌, ◌++◌, Some, Err, true, IsTrue, IsSome, OnOk, OnErr};
+ghost use Rattle.std.specs.Prelude.{◌≡◌, ◌↔◌, ℕ, List, [], ◌∷◌, ◌++◌, Bool, Some, Err, true, IsTrue, IsSome, OnOk, OnErr};
 ghost use Rattle.dover_model.specs.Feed.{Account, account_of_lines, is_open};
 ghost use Rattle.dover_model.specs.Spending.{CostsAtMost};
 ghost use Rattle.event_feed.specs.Answers.{DeclaresRatio, AddsJob, IsFed, EndAnswers, counted, admitted_in};
@@ -7,7 +7,9 @@ ghost use Rattle.event_feed.specs.Kept.{fault_of};
 ghost use Rattle.event_feed.specs.declared.faults.FeedFault.{FeedFault};
 ghost use Rattle.lane_server.specs.Lanes.{lines_added, feed_short, is_fine};
 ghost use Rattle.lane_server.specs.Lane.{IsDeclared, AsksForMemory, Stands, IsQuiet, Gives, IsOpenAt, Adds};
+ghost use Rattle.lane_server.specs.Rosters.{KeepsRoster};
 ghost use Rattle.lane_server.specs.Spending.{HasPaid};
+ghost use Rattle.ready_server.specs.Rostering.{has_roster};
 ghost use Rattle.lane_server.specs.Shorts.{short_texts};
 ghost use Rattle.lane_server.specs.declared.lane.Work.TheVariants.{Nothing, Run, Admit};
 
@@ -15,7 +17,7 @@ use crate::out::LaneOut;
 use dover_model::{Horizon, Job, Memory, Ratio, Version};
 use event_feed::{Fed, FeedFault, Intake};
 use line_text::Spelled;
-use ready_server::Dispatcher;
+use ready_server::RosterServer;
 use std::alloc::Global;
 use std::sync::ledger::Ledger;
 use step_count::Steps;
@@ -41,7 +43,7 @@ pub(crate) enum Work {
 /// A line of a feed goes in, and the lines that are due for it come out. The next line goes in when none is left:
 ///
 /// ```
-/// let mut lane = Lane::<Server>::new();
+/// let mut lane = Lane::new(false);
 /// while let Some(line) = next_line() {
 ///     lane.line(alloc, line)?;
 ///     while let Some(out) = lane.next_out(&mut steps) {
@@ -51,30 +53,32 @@ pub(crate) enum Work {
 /// lane.end()
 /// ```
 #[derive(Drop)]
-pub struct Lane<D> {
+pub struct Lane {
     intake: Intake,
-    server: Option<D>,
+    server: Option<RosterServer>,
     mark: u64,
     is_open: bool,
     work: Work,
+    listed: bool,
 }
 
-impl<D: Dispatcher> Lane<D> {
+impl Lane {
     ghost use Rattle.lane_server.specs.declared.lane.Lane.{Lane};
 
     /// What holds of each lane. It does nothing.
     pub fn laws()
-        ensures few { (lane : Lane D) (ls rest : List (List ℕ)) (start now : ℕ) →
-            Stands D.serves D.has_room lane ls rest → HasPaid D.paid lane.server start now
+        ensures few { (lane : Lane) (ls rest : List (List ℕ)) (start now : ℕ) →
+            Stands lane ls rest → HasPaid lane.server start now
             → CostsAtMost (admitted_in (account_of_lines ls)) start now }
     {
-        D::laws();
+        RosterServer::laws();
     }
 
-    /// No line came yet.
-    pub fn new() -> Lane<D>
-        ensures quiet { IsQuiet D.serves D.has_room result [] }
-        ensures paid { (start : ℕ) → HasPaid D.paid result.server start start }
+    /// No line came yet. Its server is to keep a roster of its jobs where one is asked for.
+    pub fn new(listed: bool) -> Lane
+        ensures quiet { IsQuiet result [] }
+        ensures paid { (start : ℕ) → HasPaid result.server start start }
+        ensures roster { KeepsRoster result listed }
     {
         Lane {
             intake: Intake::new(),
@@ -82,48 +86,54 @@ impl<D: Dispatcher> Lane<D> {
             mark: 0,
             is_open: true,
             work: Work::Nothing,
+            listed,
         }
     }
 
     /// Goes on from where a feed was paused, at this mark, with the intake and the server that stood there.
-    pub fn resumed(intake: Intake, server: D, mark: u64) -> Lane<D>
+    pub fn resumed(intake: Intake, server: RosterServer, mark: u64) -> Lane
         ensures { result ≡ record {
           intake = intake;
           server = Some server;
           mark = mark;
           is_open = true;
           work = Nothing;
+          listed = has_roster server;
         } }
     {
+        let listed = server.has_roster();
         Lane {
             intake,
             server: Some(server),
             mark,
             is_open: true,
             work: Work::Nothing,
+            listed,
         }
     }
 
     fn declare(&mut self, alloc: Global, version: Version, k: Ratio) -> Result<(), Memory>
-        ensures adds { (a b : Account) → IsOpenAt D.serves self.old a → DeclaresRatio k version (counted a) b
-            → OnOk result (Adds D.serves D.has_room self.new a b) }
-        ensures paid { (a b : Account) (start now : ℕ) → IsOpenAt D.serves self.old a
-            → DeclaresRatio k version (counted a) b → HasPaid D.paid self.old.server start now
-            → OnOk result (HasPaid D.paid self.new.server start now) }
+        ensures adds { (a b : Account) → IsOpenAt self.old a → DeclaresRatio k version (counted a) b
+            → OnOk result (Adds self.new a b) }
+        ensures paid { (a b : Account) (start now : ℕ) → IsOpenAt self.old a
+            → DeclaresRatio k version (counted a) b → HasPaid self.old.server start now
+            → OnOk result (HasPaid self.new.server start now) }
+        ensures roster { (listed : Bool) → KeepsRoster self.old listed → KeepsRoster self.new listed }
         ensures intake { self.new.intake ≡ self.old.intake }
     {
-        self.server = Some(D::new(alloc, version, k)?);
+        self.server = Some(RosterServer::new(alloc, version, k, self.listed)?);
         self.work = Work::Give(LaneOut::Header(version, k));
         Ok(())
     }
 
     fn arrive(&mut self, job: Job) -> Result<(), Memory>
-        requires { (n : ℕ) × (a : Account) × (b : Account) × IsOpenAt D.serves self.old a
+        requires { (n : ℕ) × (a : Account) × (b : Account) × IsOpenAt self.old a
             × AddsJob n job (counted a) b }
-        ensures adds { (n : ℕ) (a b : Account) → IsOpenAt D.serves self.old a → AddsJob n job (counted a) b
-            → OnOk result (Adds D.serves D.has_room self.new a b) }
-        ensures paid { (start now : ℕ) → HasPaid D.paid self.old.server start now
-            → OnOk result (HasPaid D.paid self.new.server start now) }
+        ensures adds { (n : ℕ) (a b : Account) → IsOpenAt self.old a → AddsJob n job (counted a) b
+            → OnOk result (Adds self.new a b) }
+        ensures paid { (start now : ℕ) → HasPaid self.old.server start now
+            → OnOk result (HasPaid self.new.server start now) }
+        ensures roster { (listed : Bool) → KeepsRoster self.old listed → KeepsRoster self.new listed }
         ensures intake { self.new.intake ≡ self.old.intake }
     {
         let Some(server) = &mut self.server else {
@@ -136,11 +146,12 @@ impl<D: Dispatcher> Lane<D> {
     }
 
     fn take(&mut self, alloc: Global, fed: Fed) -> Result<(), Memory>
-        requires { (a : Account) × (b : Account) × IsOpenAt D.serves self.old a × IsFed (counted a) b fed }
-        ensures adds { (a b : Account) → IsOpenAt D.serves self.old a → IsFed (counted a) b fed
-            → OnOk result (Adds D.serves D.has_room self.new a b) }
-        ensures paid { (a b : Account) (start now : ℕ) → IsOpenAt D.serves self.old a → IsFed (counted a) b fed
-            → HasPaid D.paid self.old.server start now → OnOk result (HasPaid D.paid self.new.server start now) }
+        requires { (a : Account) × (b : Account) × IsOpenAt self.old a × IsFed (counted a) b fed }
+        ensures adds { (a b : Account) → IsOpenAt self.old a → IsFed (counted a) b fed
+            → OnOk result (Adds self.new a b) }
+        ensures paid { (a b : Account) (start now : ℕ) → IsOpenAt self.old a → IsFed (counted a) b fed
+            → HasPaid self.old.server start now → OnOk result (HasPaid self.new.server start now) }
+        ensures roster { (listed : Bool) → KeepsRoster self.old listed → KeepsRoster self.new listed }
         ensures lacks { (a b : Account) → IsFed (counted a) b fed → OnErr result (IsDeclared b) }
         ensures asks { (a b : Account) → IsFed (counted a) b fed → OnErr result (AsksForMemory a b) }
         ensures intake { self.new.intake ≡ self.old.intake }
@@ -185,14 +196,15 @@ impl<D: Dispatcher> Lane<D> {
     /// `Memory` where there is none for the server, at a ratio line, or for the job, at the line of one that is
     /// admitted; then the lane is no longer of use.
     pub fn line(&mut self, alloc: Global, line: &[u8]) -> Result<(), Memory>
-        requires { (ls : List (List ℕ)) × IsQuiet D.serves D.has_room self.old ls }
-        ensures stands { (ls : List (List ℕ)) → IsQuiet D.serves D.has_room self.old ls
-            → OnOk result (Stands D.serves D.has_room self.new (ls ++ line.now ∷ []) (lines_added ls line.now)) }
-        ensures paid { (ls : List (List ℕ)) (start now : ℕ) → IsQuiet D.serves D.has_room self.old ls
-            → HasPaid D.paid self.old.server start now → OnOk result (HasPaid D.paid self.new.server start now) }
-        ensures lacks { (ls : List (List ℕ)) → IsQuiet D.serves D.has_room self.old ls
+        requires { (ls : List (List ℕ)) × IsQuiet self.old ls }
+        ensures stands { (ls : List (List ℕ)) → IsQuiet self.old ls
+            → OnOk result (Stands self.new (ls ++ line.now ∷ []) (lines_added ls line.now)) }
+        ensures paid { (ls : List (List ℕ)) (start now : ℕ) → IsQuiet self.old ls
+            → HasPaid self.old.server start now → OnOk result (HasPaid self.new.server start now) }
+        ensures roster { (listed : Bool) → KeepsRoster self.old listed → KeepsRoster self.new listed }
+        ensures lacks { (ls : List (List ℕ)) → IsQuiet self.old ls
             → OnErr result (IsDeclared (account_of_lines (ls ++ line.now ∷ []))) }
-        ensures asks { (ls : List (List ℕ)) → IsQuiet D.serves D.has_room self.old ls
+        ensures asks { (ls : List (List ℕ)) → IsQuiet self.old ls
             → OnErr result (AsksForMemory (account_of_lines ls) (account_of_lines (ls ++ line.now ∷ []))) }
     {
         if !self.is_open {
@@ -213,13 +225,14 @@ impl<D: Dispatcher> Lane<D> {
 
     fn run<L: Ledger>(&mut self, to: Horizon, steps: &mut Steps<L>) -> Option<LaneOut>
         requires work { self.old.work ≡ Run to }
-        requires stands { (ls : List (List ℕ)) × (rest : List (List ℕ)) × Stands D.serves D.has_room self.old ls rest }
-        ensures gives { (ls rest : List (List ℕ)) → Stands D.serves D.has_room self.old ls rest
-            → Gives D.serves D.has_room result self.new ls rest }
-        ensures paid { (start : ℕ) → HasPaid D.paid self.old.server start steps.old
-            → HasPaid D.paid self.new.server start steps.new }
+        requires stands { (ls : List (List ℕ)) × (rest : List (List ℕ)) × Stands self.old ls rest }
+        ensures gives { (ls rest : List (List ℕ)) → Stands self.old ls rest
+            → Gives result self.new ls rest }
+        ensures paid { (start : ℕ) → HasPaid self.old.server start steps.old
+            → HasPaid self.new.server start steps.new }
+        ensures roster { (listed : Bool) → KeepsRoster self.old listed → KeepsRoster self.new listed }
     {
-        D::laws();
+        RosterServer::laws();
         let Some(server) = &mut self.server else {
             unreachable!();
         };
@@ -234,13 +247,14 @@ impl<D: Dispatcher> Lane<D> {
 
     fn admit<L: Ledger>(&mut self, job: Job, steps: &mut Steps<L>) -> Option<LaneOut>
         requires work { self.old.work ≡ Admit job }
-        requires stands { (ls : List (List ℕ)) × (rest : List (List ℕ)) × Stands D.serves D.has_room self.old ls rest }
-        ensures gives { (ls rest : List (List ℕ)) → Stands D.serves D.has_room self.old ls rest
-            → Gives D.serves D.has_room result self.new ls rest }
-        ensures paid { (start : ℕ) → HasPaid D.paid self.old.server start steps.old
-            → HasPaid D.paid self.new.server start steps.new }
+        requires stands { (ls : List (List ℕ)) × (rest : List (List ℕ)) × Stands self.old ls rest }
+        ensures gives { (ls rest : List (List ℕ)) → Stands self.old ls rest
+            → Gives result self.new ls rest }
+        ensures paid { (start : ℕ) → HasPaid self.old.server start steps.old
+            → HasPaid self.new.server start steps.new }
+        ensures roster { (listed : Bool) → KeepsRoster self.old listed → KeepsRoster self.new listed }
     {
-        D::laws();
+        RosterServer::laws();
         let Some(server) = &mut self.server else {
             unreachable!();
         };
@@ -248,25 +262,19 @@ impl<D: Dispatcher> Lane<D> {
         if let Some(event) = server.step(release, steps) {
             return Some(LaneOut::Step(event));
         }
-        match server.admit(job, steps) {
-            Some(event) => {
-                self.work = Work::Run(release);
-                Some(LaneOut::Step(event))
-            }
-            None => {
-                self.work = Work::Nothing;
-                None
-            }
-        }
+        let event = server.admit(job);
+        self.work = Work::Run(release);
+        Some(LaneOut::Step(event))
     }
 
     /// The next line due. None exactly where all that is due was given.
     pub fn next_out<L: Ledger>(&mut self, steps: &mut Steps<L>) -> Option<LaneOut>
-        requires { (ls : List (List ℕ)) × (rest : List (List ℕ)) × Stands D.serves D.has_room self.old ls rest }
-        ensures gives { (ls rest : List (List ℕ)) → Stands D.serves D.has_room self.old ls rest
-            → Gives D.serves D.has_room result self.new ls rest }
-        ensures paid { (start : ℕ) → HasPaid D.paid self.old.server start steps.old
-            → HasPaid D.paid self.new.server start steps.new }
+        requires { (ls : List (List ℕ)) × (rest : List (List ℕ)) × Stands self.old ls rest }
+        ensures gives { (ls rest : List (List ℕ)) → Stands self.old ls rest
+            → Gives result self.new ls rest }
+        ensures paid { (start : ℕ) → HasPaid self.old.server start steps.old
+            → HasPaid self.new.server start steps.new }
+        ensures roster { (listed : Bool) → KeepsRoster self.old listed → KeepsRoster self.new listed }
     {
         match &self.work {
             Work::Nothing => None,
@@ -289,7 +297,7 @@ impl<D: Dispatcher> Lane<D> {
     /// The line at which the feed is short where no more comes: one behind its lines. None where it has no line, or was
     /// ended or at fault.
     pub(crate) fn short(&self) -> Option<u64>
-        ensures { (ls : List (List ℕ)) → IsQuiet D.serves D.has_room self.now ls
+        ensures { (ls : List (List ℕ)) → IsQuiet self.now ls
             → feed_short ls ≡ short_texts result }
     {
         if !self.is_open {
@@ -303,7 +311,7 @@ impl<D: Dispatcher> Lane<D> {
 
     /// Whether the feed has no line, or was ended without a fault.
     pub(crate) fn is_fine(&self) -> bool
-        ensures { (ls rest : List (List ℕ)) → Stands D.serves D.has_room self.now ls rest → result ≡ is_fine ls }
+        ensures { (ls rest : List (List ℕ)) → Stands self.now ls rest → result ≡ is_fine ls }
     {
         match self.intake.end() {
             Ok(()) => true,
@@ -313,7 +321,7 @@ impl<D: Dispatcher> Lane<D> {
 
     /// Whether the feed was neither ended nor at fault.
     pub fn goes_on(&self) -> bool
-        ensures { (ls rest : List (List ℕ)) → Stands D.serves D.has_room self.now ls rest
+        ensures { (ls rest : List (List ℕ)) → Stands self.now ls rest
             → result ≡ is_open (account_of_lines ls) }
     {
         self.is_open
@@ -325,7 +333,7 @@ impl<D: Dispatcher> Lane<D> {
     ///
     /// The first fault, with its line, as the intake gave it; where there is none, that the feed is short.
     pub fn end(&self) -> Result<(), FeedFault>
-        ensures answer { (ls rest : List (List ℕ)) → Stands D.serves D.has_room self.now ls rest
+        ensures answer { (ls rest : List (List ℕ)) → Stands self.now ls rest
             → EndAnswers ls result }
         ensures fault { (fault : FeedFault) → fault_of self.now.intake ≡ Some fault → result ≡ Err fault }
     {
@@ -353,7 +361,7 @@ impl<D: Dispatcher> Lane<D> {
     }
 
     /// The server, from the ratio line on.
-    pub fn into_server(self) -> Option<D>
+    pub fn into_server(self) -> Option<RosterServer>
         ensures { result ≡ self.server }
     {
         self.server

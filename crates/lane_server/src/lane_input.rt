@@ -10,7 +10,6 @@ use crate::out::LaneOut;
 use crate::refusal::Refusal;
 use dover_model::Memory;
 use line_text::{Lines, Step};
-use ready_server::Dispatcher;
 use std::alloc::Global;
 use std::sync::ledger::Ledger;
 use step_count::Steps;
@@ -25,17 +24,17 @@ pub struct Refused {
 /// Up to 64 feeds that come in one input, piece by piece: the line that has begun, the lanes, and why the input is
 /// refused if no more of it comes. It isn't where `close` came, and while it goes on, it is short.
 #[derive(Drop)]
-pub struct LaneInput<D> {
+pub struct LaneInput {
     lines: Lines,
-    lanes: Lanes<D>,
+    lanes: Lanes,
     refusal: Option<Refusal>,
 }
 
 /// Hands a line to the lanes, and says why the input is then refused if no more of it comes.
-fn hand<D: Dispatcher>(lanes: &mut Lanes<D>, line: &[u8]) -> Result<Option<Refusal>, Memory>
-    requires { (ls : List (List ℕ)) × kept.StandsFor D.serves D.has_room lanes.old ls [] × kept.IsReady lanes.old }
-    ensures { (ls : List (List ℕ)) → kept.StandsFor D.serves D.has_room lanes.old ls []
-        → Hands D.serves D.has_room lanes.new ls line.now result }
+fn hand(lanes: &mut Lanes, line: &[u8]) -> Result<Option<Refusal>, Memory>
+    requires { (ls : List (List ℕ)) × kept.StandsFor lanes.old ls [] × kept.IsReady lanes.old }
+    ensures { (ls : List (List ℕ)) → kept.StandsFor lanes.old ls []
+        → Hands lanes.new ls line.now result }
 {
     match lanes.line(line) {
         Ok(LaneStep::Fed(_)) => Ok(Some(Refusal::Short)),
@@ -55,10 +54,10 @@ fn is_short(refusal: Option<Refusal>) -> bool
     }
 }
 
-impl<D: Dispatcher> LaneInput<D> {
+impl LaneInput {
     /// No byte came yet. Err where there is no memory.
-    pub fn new(alloc: Global) -> Result<LaneInput<D>, Memory>
-        ensures { IfOk result (λ i. Rests D.serves D.has_room i []) }
+    pub fn new(alloc: Global) -> Result<LaneInput, Memory>
+        ensures { IfOk result (λ i. Rests i []) }
     {
         Ok(LaneInput {
             lines: Lines::new(),
@@ -69,9 +68,9 @@ impl<D: Dispatcher> LaneInput<D> {
 
     /// Takes a byte, and says why the input is then refused if no more of it comes.
     fn take_byte(&mut self, byte: u8) -> Result<Option<Refusal>, Memory>
-        requires { (x : List ℕ) × Rests D.serves D.has_room self.old x × (goes_on (input x) ≡ true) }
-        ensures { (x : List ℕ) → Rests D.serves D.has_room self.old x → goes_on (input x) ≡ true
-            → Adds D.serves D.has_room self.new x (byte ∷ []) result }
+        requires { (x : List ℕ) × Rests self.old x × (goes_on (input x) ≡ true) }
+        ensures { (x : List ℕ) → Rests self.old x → goes_on (input x) ≡ true
+            → Adds self.new x (byte ∷ []) result }
     {
         match self.lines.push(byte) {
             Step::More => Ok(Some(Refusal::Short)),
@@ -84,9 +83,9 @@ impl<D: Dispatcher> LaneInput<D> {
     fn take_front(&mut self, bytes: &[u8]) -> Result<Option<Refusal>, Memory>
         requires some { 0 < length bytes.now }
         requires whole { 1 < length bytes.now → IsWholeLine self.old.lines bytes.now }
-        requires rests { (x : List ℕ) × Rests D.serves D.has_room self.old x × (goes_on (input x) ≡ true) }
-        ensures { (x : List ℕ) → Rests D.serves D.has_room self.old x → goes_on (input x) ≡ true
-            → Adds D.serves D.has_room self.new x bytes.now result }
+        requires rests { (x : List ℕ) × Rests self.old x × (goes_on (input x) ≡ true) }
+        ensures { (x : List ℕ) → Rests self.old x → goes_on (input x) ≡ true
+            → Adds self.new x bytes.now result }
     {
         if bytes.len() > 1 {
             return hand(&mut self.lanes, self.lines.pass(bytes));
@@ -102,9 +101,9 @@ impl<D: Dispatcher> LaneInput<D> {
     /// `Memory` where there is none for a lane's server or for its job; then the input is no longer of use.
     pub fn take(&mut self, piece: &[u8]) -> Result<usize, Memory>
         requires some { 0 < length piece.now }
-        requires rests { (x : List ℕ) × Rests D.serves D.has_room self.old x × (goes_on (input x) ≡ true) }
-        ensures { (x : List ℕ) → Rests D.serves D.has_room self.old x → goes_on (input x) ≡ true
-            → Takes D.serves D.has_room self.new x piece.now result }
+        requires rests { (x : List ℕ) × Rests self.old x × (goes_on (input x) ≡ true) }
+        ensures { (x : List ℕ) → Rests self.old x → goes_on (input x) ≡ true
+            → Takes self.new x piece.now result }
     {
         let count = self.lines.front(piece);
         match self.take_front(&piece[..count]) {
@@ -119,9 +118,9 @@ impl<D: Dispatcher> LaneInput<D> {
     /// The next line due, and the lane that it is of. None where all that is due was given. The short lines that
     /// `close` adds aren't among them: the lanes give those at the end.
     pub fn next_out<L: Ledger>(&mut self, steps: &mut Steps<L>) -> Option<(u8, LaneOut)>
-        requires { (x : List ℕ) × (left : List (List ℕ)) × Stands D.serves D.has_room self.old x left }
-        ensures { (x : List ℕ) (left : List (List ℕ)) → Stands D.serves D.has_room self.old x left
-            → GivesDue D.serves D.has_room result self.new x left }
+        requires { (x : List ℕ) × (left : List (List ℕ)) × Stands self.old x left }
+        ensures { (x : List ℕ) (left : List (List ℕ)) → Stands self.old x left
+            → GivesDue result self.new x left }
     {
         if !is_short(self.refusal) {
             return None;
@@ -131,7 +130,7 @@ impl<D: Dispatcher> LaneInput<D> {
 
     /// Whether neither `close` nor a fault of the whole input came.
     pub fn goes_on(&self) -> bool
-        ensures { (x : List ℕ) (left : List (List ℕ)) → Stands D.serves D.has_room self.now x left
+        ensures { (x : List ℕ) (left : List (List ℕ)) → Stands self.now x left
             → result ≡ goes_on (input x) }
     {
         is_short(self.refusal)
@@ -142,9 +141,9 @@ impl<D: Dispatcher> LaneInput<D> {
     /// # Errors
     ///
     /// Else why the input is refused where no more of it comes, and at which line.
-    pub fn end(self) -> Result<Lanes<D>, Refused>
-        requires { (x : List ℕ) × Rests D.serves D.has_room self x }
-        ensures { (x : List ℕ) → Rests D.serves D.has_room self x → Ends D.serves D.has_room result x }
+    pub fn end(self) -> Result<Lanes, Refused>
+        requires { (x : List ℕ) × Rests self x }
+        ensures { (x : List ℕ) → Rests self x → Ends result x }
     {
         match self.refusal {
             None => Ok(self.lanes),

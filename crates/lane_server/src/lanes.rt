@@ -10,7 +10,6 @@ use crate::out::LaneOut;
 use crate::reading::{LANES, LaneLine, lane_line};
 use dover_model::Memory;
 use event_feed::Cause;
-use ready_server::Dispatcher;
 use std::alloc::Global;
 use std::marker::Model;
 use std::sync::ledger::Ledger;
@@ -52,37 +51,37 @@ enum Phase {
 
 /// Up to 64 feeds that come in one input, and what is due for them.
 #[derive(Drop)]
-pub struct Lanes<D> {
+pub struct Lanes {
     alloc: Global,
-    lanes: Vec<Lane<D>>,
+    lanes: Vec<Lane>,
     lines: u64,
     phase: Phase,
 }
 
-impl<D> Model for Lanes<D> {
+impl Model for Lanes {
     ghost use Rattle.lane_server.specs.Kept.{Kept};
 
-    ghost Value = { Kept D };
+    ghost Value = { Kept };
 
     ghost view = { λ l. record { lines = l.lines; lanes = l.lanes.items; phase = l.phase } };
 }
 
-fn new_lanes<D: Dispatcher>(alloc: Global) -> Result<Vec<Lane<D>>, Memory>
+fn new_lanes(alloc: Global) -> Result<Vec<Lane>, Memory>
     ensures count { IfOk result (λ lanes. length lanes.items ≡ lane_count) }
-    ensures quiet { IfOk result (λ lanes. AllQuiet D.serves D.has_room lanes.items []) }
+    ensures quiet { IfOk result (λ lanes. AllQuiet lanes.items []) }
 {
     let mut lanes = Vec::with_capacity(alloc, usize::from(LANES))?;
     for _ in 0..LANES {
-        lanes.push(Lane::new())?;
+        lanes.push(Lane::new(false))?;
     }
     Ok(lanes)
 }
 
 /// The first lane from this one on that is short, and the line at which it is.
-fn next_short<D: Dispatcher>(lanes: &[Lane<D>], from: u8) -> Option<(u8, u64)>
+fn next_short(lanes: &[Lane], from: u8) -> Option<(u8, u64)>
     requires { length lanes.now ≡ lane_count }
     ensures within { IfSome result (λ short. short.0 < lane_count) }
-    ensures first { (handed : List Handed) → AllQuiet D.serves D.has_room lanes.now handed
+    ensures first { (handed : List Handed) → AllQuiet lanes.now handed
         → IsFirstShort result handed from }
 {
     for lane in from..LANES {
@@ -94,9 +93,9 @@ fn next_short<D: Dispatcher>(lanes: &[Lane<D>], from: u8) -> Option<(u8, u64)>
 }
 
 /// Whether each lane that has a line is ended without a fault.
-fn all_fine<D: Dispatcher>(lanes: &[Lane<D>]) -> bool
+fn all_fine(lanes: &[Lane]) -> bool
     requires { length lanes.now ≡ lane_count }
-    ensures { (handed : List Handed) → AllStand D.serves D.has_room lanes.now handed → result ≡ all_ended handed }
+    ensures { (handed : List Handed) → AllStand lanes.now handed → result ≡ all_ended handed }
 {
     for lane in 0..LANES {
         if !lanes[usize::from(lane)].is_fine() {
@@ -106,13 +105,13 @@ fn all_fine<D: Dispatcher>(lanes: &[Lane<D>]) -> bool
     true
 }
 
-impl<D: Dispatcher> Lanes<D> {
+impl Lanes {
     ghost use Rattle.lane_server.specs.Kept.{StandsFor, IsReady, is_closed, Answers, GivesNext};
 
     /// No line came yet. Err where there is no memory.
-    pub fn new(alloc: Global) -> Result<Lanes<D>, Memory>
+    pub fn new(alloc: Global) -> Result<Lanes, Memory>
         ensures ready { IfOk result (λ lanes. IsReady lanes) }
-        ensures stands { IfOk result (λ lanes. StandsFor D.serves D.has_room lanes [] []) }
+        ensures stands { IfOk result (λ lanes. StandsFor lanes [] []) }
     {
         Ok(Lanes {
             alloc,
@@ -124,12 +123,12 @@ impl<D: Dispatcher> Lanes<D> {
 
     fn feed(&mut self, lane: u8, line: &[u8]) -> Result<LaneStep, LaneFault>
         requires ready { IsReady self.old }
-        requires stands { (ls : List (List ℕ)) × StandsFor D.serves D.has_room self.old ls [] }
+        requires stands { (ls : List (List ℕ)) × StandsFor self.old ls [] }
         requires room { self.old.lines < 4_000_000 }
         requires lane { lane < lane_count }
-        ensures { (ls : List (List ℕ)) (bytes : List ℕ) → StandsFor D.serves D.has_room self.old ls []
+        ensures { (ls : List (List ℕ)) (bytes : List ℕ) → StandsFor self.old ls []
             → lane_line bytes ≡ Some (OfLane lane line.now) →
-            Answers D.serves D.has_room result self.old self.new ls bytes }
+            Answers result self.old self.new ls bytes }
     {
         match self.lanes[usize::from(lane)].line(self.alloc, line) {
             Ok(()) => {
@@ -144,9 +143,9 @@ impl<D: Dispatcher> Lanes<D> {
     fn close(&mut self) -> LaneStep
         requires ready { IsReady self.old }
         requires room { self.old.lines < 4_000_000 }
-        ensures { (ls : List (List ℕ)) (bytes : List ℕ) → StandsFor D.serves D.has_room self.old ls []
+        ensures { (ls : List (List ℕ)) (bytes : List ℕ) → StandsFor self.old ls []
             → lane_line bytes ≡ Some Close →
-            Answers D.serves D.has_room (Ok result) self.old self.new ls bytes }
+            Answers (Ok result) self.old self.new ls bytes }
     {
         self.lines += 1;
         self.phase = Phase::Closing(0);
@@ -157,9 +156,9 @@ impl<D: Dispatcher> Lanes<D> {
     /// first, and then where `next_out` has answered None.
     pub fn line(&mut self, line: &[u8]) -> Result<LaneStep, LaneFault>
         requires ready { IsReady self.old }
-        requires stands { (ls : List (List ℕ)) × StandsFor D.serves D.has_room self.old ls [] }
-        ensures { (ls : List (List ℕ)) → StandsFor D.serves D.has_room self.old ls []
-            → Answers D.serves D.has_room result self.old self.new ls line.now }
+        requires stands { (ls : List (List ℕ)) × StandsFor self.old ls [] }
+        ensures { (ls : List (List ℕ)) → StandsFor self.old ls []
+            → Answers result self.old self.new ls line.now }
     {
         if self.lines >= MOST_LINES {
             return Err(LaneFault::Lines);
@@ -174,9 +173,9 @@ impl<D: Dispatcher> Lanes<D> {
     fn give<L: Ledger>(&mut self, lane: u8, steps: &mut Steps<L>) -> Option<(u8, LaneOut)>
         requires phase { self.old.phase ≡ Giving lane }
         requires stands { (ls : List (List ℕ)) × (rest : List (List ℕ))
-            × StandsFor D.serves D.has_room self.old ls rest }
-        ensures gives { (ls rest : List (List ℕ)) → StandsFor D.serves D.has_room self.old ls rest
-            → GivesNext D.serves D.has_room result self.new ls rest }
+            × StandsFor self.old ls rest }
+        ensures gives { (ls rest : List (List ℕ)) → StandsFor self.old ls rest
+            → GivesNext result self.new ls rest }
         ensures ready { IsNone result → is_closed self.old ≡ false → IsReady self.new }
         ensures closed { is_closed self.new ≡ is_closed self.old }
     {
@@ -192,9 +191,9 @@ impl<D: Dispatcher> Lanes<D> {
     fn give_short(&mut self, from: u8) -> Option<(u8, LaneOut)>
         requires phase { self.old.phase ≡ Closing from }
         requires stands { (ls : List (List ℕ)) × (rest : List (List ℕ))
-            × StandsFor D.serves D.has_room self.old ls rest }
-        ensures gives { (ls rest : List (List ℕ)) → StandsFor D.serves D.has_room self.old ls rest
-            → GivesNext D.serves D.has_room result self.new ls rest }
+            × StandsFor self.old ls rest }
+        ensures gives { (ls rest : List (List ℕ)) → StandsFor self.old ls rest
+            → GivesNext result self.new ls rest }
         ensures ready { IsNone result → is_closed self.old ≡ false → IsReady self.new }
         ensures closed { is_closed self.new ≡ is_closed self.old }
     {
@@ -214,9 +213,9 @@ impl<D: Dispatcher> Lanes<D> {
     /// The next line due, and the lane that it is of.
     pub fn next_out<L: Ledger>(&mut self, steps: &mut Steps<L>) -> Option<(u8, LaneOut)>
         requires stands { (ls : List (List ℕ)) × (rest : List (List ℕ))
-            × StandsFor D.serves D.has_room self.old ls rest }
-        ensures gives { (ls rest : List (List ℕ)) → StandsFor D.serves D.has_room self.old ls rest
-            → GivesNext D.serves D.has_room result self.new ls rest }
+            × StandsFor self.old ls rest }
+        ensures gives { (ls rest : List (List ℕ)) → StandsFor self.old ls rest
+            → GivesNext result self.new ls rest }
         ensures ready { IsNone result → is_closed self.old ≡ false → IsReady self.new }
         ensures closed { is_closed self.new ≡ is_closed self.old }
     {
@@ -236,8 +235,8 @@ impl<D: Dispatcher> Lanes<D> {
 
     /// Whether each lane that has a line is ended without a fault.
     pub fn all_ended(&self) -> bool
-        requires { (ls : List (List ℕ)) × (rest : List (List ℕ)) × StandsFor D.serves D.has_room self.now ls rest }
-        ensures { (ls rest : List (List ℕ)) → StandsFor D.serves D.has_room self.now ls rest
+        requires { (ls : List (List ℕ)) × (rest : List (List ℕ)) × StandsFor self.now ls rest }
+        ensures { (ls rest : List (List ℕ)) → StandsFor self.now ls rest
             → result ≡ all_ended (input_of_lines ls).handed }
     {
         all_fine(&self.lanes)

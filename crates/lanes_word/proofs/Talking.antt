@@ -13,7 +13,6 @@ use Rattle.dialogue.specs.Turns.{joined, Standing, TakesBy}
 use Rattle.lane_server.specs.Lanes.{Input, InputStanding, Open, Closed, Faulty, Handed, input, goes_on_at, goes_on}
 use Rattle.lane_server.specs.Lanes.{due_after, lane_due, lane_count, shorts_from, closing_lines, lanes_closed}
 use Rattle.lane_server.specs.Lanes.{all_ended}
-use Rattle.lane_server.specs.Lane.{Serving, Having}
 use Rattle.lane_server.specs.Kept.{Kept, StandsFor}
 use Rattle.lane_server.specs.LaneInput.{Grows, Takes}
 use Rattle.lane_server.specs.declared.lane_input.LaneInput.{LaneInput}
@@ -78,15 +77,15 @@ due_parts before after left grows = ap in_lines grows ∙ in_lines-append (due_a
     ∙ ap (λ l. in_lines (due_after [] before) ++ l) (sym (joined_lines left))
 
 -- the lanes took these lines, and these parts are left to give, whatever came before
-abbrev pub left_in : {D : Type 0} → Serving D → Having D → Kept D → List (List ℕ) → Standing
-left_in serves having kept ls = λ x parts. (left : List (List ℕ)) × (parts ≡ parts_of left)
-    × StandsFor serves having kept ls left
+abbrev pub left_in : Kept → List (List ℕ) → Standing
+left_in kept ls = λ x parts. (left : List (List ℕ)) × (parts ≡ parts_of left)
+    × StandsFor kept ls left
 
 -- the talk goes on behind a front of a piece
-pub takes : {D : Type 0} (serves : Serving D) (having : Having D) (i : LaneInput D) (x piece : List ℕ)
-    (result : Result ℕ Memory) → Takes serves having i x piece result
-    → TakesBy lanes_talk (Gives serves having i) (λ y. Unit {0}) x piece result
-takes serves having i x piece (Ok count) it = (
+pub takes : (i : LaneInput) (x piece : List ℕ)
+    (result : Result ℕ Memory) → Takes i x piece result
+    → TakesBy lanes_talk (Gives i) (λ y. Unit {0}) x piece result
+takes i x piece (Ok count) it = (
   it.0,
   it.1,
   (
@@ -95,7 +94,7 @@ takes serves having i x piece (Ok count) it = (
     (it.2.0, refl, it.2.2),
   ),
 )
-takes serves having i x piece (Err e) it = ((refl, it), tt)
+takes i x piece (Err e) it = ((refl, it), tt)
 
 -- ---- the answer
 

@@ -1,6 +1,5 @@
 -- What is left to give, in parts.
 use Rattle.std.specs.Prelude.{◌≡◌, ℕ, List, [], ◌∷◌, ◌++◌, map}
-use Rattle.lane_server.specs.Lane.{Serving, Having}
 use Rattle.lane_server.specs.LaneInput.{Stands}
 use Rattle.lane_server.specs.declared.lane_input.LaneInput.{LaneInput}
 
@@ -9,6 +8,6 @@ abbrev pub parts_of : List (List ℕ) → List (List ℕ)
 parts_of ls = map (λ line. line ++ 10 ∷ []) ls
 
 -- These bytes came, and these parts are left to give of what is due for them.
-abbrev pub Gives : {D : Type 0} → Serving D → Having D → LaneInput D → List ℕ → List (List ℕ) → Type 0
-Gives serves has_room input x parts = (left : List (List ℕ)) × (parts ≡ parts_of left)
-    × Stands serves has_room input x left
+abbrev pub Gives : LaneInput → List ℕ → List (List ℕ) → Type 0
+Gives input x parts = (left : List (List ℕ)) × (parts ≡ parts_of left)
+    × Stands input x left

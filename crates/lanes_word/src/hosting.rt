@@ -14,27 +14,26 @@ use dover_model::Memory;
 use dover_port::{Failed, Output, Port, Status};
 use lane_server::{LaneInput, Lanes};
 use line_text::BackLine;
-use ready_server::Dispatcher;
 use std::marker::PhantomData;
 use std::sync::ledger::Ledger;
 use step_count::Steps;
 
 /// Lanes that are served.
 #[derive(Drop)]
-pub(crate) struct Hosting<D, L: Ledger> {
-    pub(crate) input: LaneInput<D>,
+pub(crate) struct Hosting<L: Ledger> {
+    pub(crate) input: LaneInput,
     pub(crate) counts: PhantomData<L>,
 }
 
 /// Puts the lines that are left to give.
-fn put_left<P: Port, D: Dispatcher, L: Ledger>(
+fn put_left<P: Port, L: Ledger>(
     port: &mut P,
     out: &mut Output,
-    lanes: &mut Lanes<D>,
+    lanes: &mut Lanes,
     steps: &mut Steps<L>,
 ) -> Result<(), Failed>
-    requires { (ls left : List (List ℕ)) × StandsFor D.serves D.has_room lanes.old ls left }
-    ensures text { (ls left : List (List ℕ)) → StandsFor D.serves D.has_room lanes.old ls left →
+    requires { (ls left : List (List ℕ)) × StandsFor lanes.old ls left }
+    ensures text { (ls left : List (List ℕ)) → StandsFor lanes.old ls left →
         PutsThrough (P.moves port.old) (P.moves port.new) result out.old out.new (joined (parts_of left)) }
     ensures cause { HasCause (P.write_faults port.old) (P.write_faults port.new) (P.read_faults port.old)
         (P.read_faults port.new) result }
@@ -65,16 +64,16 @@ fn closed_status(all_ended: bool) -> Status
     }
 }
 
-impl<D: Dispatcher, L: Ledger> Talker for Hosting<D, L> {
+impl<L: Ledger> Talker for Hosting<L> {
     type Meter = Steps<L>;
 
     ghost about = { Unit {0} };
 
     ghost talk = { λ about. lanes_talk };
 
-    ghost stands = { λ about h steps. Gives D.serves D.has_room h.input };
+    ghost stands = { λ about h steps. Gives h.input };
 
-    ghost ready = { λ about h steps. Rests D.serves D.has_room h.input };
+    ghost ready = { λ about h steps. Rests h.input };
 
     ghost costs = { λ about steps bytes. Unit {0} };
 

@@ -8,7 +8,6 @@ use crate::hosting::Hosting;
 use dialogue::converse;
 use dover_port::{Port, Status};
 use lane_server::LaneInput;
-use ready_server::ReadyServer;
 use std::alloc::Global;
 use std::marker::PhantomData;
 use std::sync::ledger::Ledger;
@@ -24,7 +23,7 @@ pub fn lanes_word<P: Port, L: Ledger>(alloc: Global, port: &mut P, steps: &mut S
         (P.write_faults port.new) }
     ensures stops { StopsWith result (P.calls port.old) (P.calls port.new) }
 {
-    match LaneInput::<ReadyServer>::new(alloc) {
+    match LaneInput::new(alloc) {
         Ok(input) => {
             let hosting = Hosting {
                 input,

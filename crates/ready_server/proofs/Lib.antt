@@ -3,3 +3,9 @@ pub mod Releasing
 pub mod Renewing
 pub mod Feeding
 pub mod Showing
+pub mod Rolls
+pub mod RollMoves
+pub mod RollRuns
+pub mod Present
+pub mod RollSettled
+pub mod Rostered

@@ -1,2 +1,4 @@
 pub mod Serving
 pub mod Running
+pub mod Roster
+pub mod Rostering

@@ -1,13 +1,15 @@
 //! The on-line server that forgets each job as it is over, and lists of jobs that are served to the end.
 #![tactic(auto)]
 
-pub mod dispatcher;
+pub mod roster;
+pub mod roster_server;
 mod running;
 pub mod server;
 mod source;
 mod watcher;
 
-pub use dispatcher::Dispatcher;
+pub use roster::Roster;
+pub use roster_server::RosterServer;
 pub use running::run_list;
 pub use server::ReadyServer;
 pub use source::JobSource;

@@ -15,7 +15,6 @@ ghost use Rattle.dover_model.specs.declared.horizon.Horizon.TheVariants.{Mark, E
 ghost use Rattle.dover_model.specs.Horizons.{MayFollow, is_end_given, no_jobs, due_by, Gives};
 ghost use Rattle.ready_server.specs.Serving.{Serves, Rests, HasPlace, HasPaid, spare_of, HasShortValue, CostsOnce};
 
-use crate::dispatcher::Dispatcher;
 use dover_model::{Event, Horizon, Job, Memory, Ratio, Version};
 use ready_jobs::Ready;
 use std::alloc::Global;
@@ -263,36 +262,5 @@ impl ReadyServer {
         let number = self.ready.jobs();
         self.ready.release(job);
         Event::Release { number, job }
-    }
-}
-
-impl Dispatcher for ReadyServer {
-    ghost serves = { Serves };
-
-    ghost rests = { Rests };
-
-    ghost has_room = { HasPlace };
-
-    ghost paid = { HasPaid };
-
-    fn laws() {
-        ReadyServer::laws();
-    }
-
-    fn new(alloc: Global, version: Version, k: Ratio) -> Result<ReadyServer, Memory> {
-        ReadyServer::new(alloc, version, k)
-    }
-
-    fn make_room(&mut self) -> Result<(), Memory> {
-        ReadyServer::make_room(self)
-    }
-
-    #[inline(always)]
-    fn step<L: Ledger>(&mut self, to: Horizon, steps: &mut Steps<L>) -> Option<Event> {
-        ReadyServer::step(self, to, steps)
-    }
-
-    fn admit<L: Ledger>(&mut self, job: Job, _steps: &mut Steps<L>) -> Option<Event> {
-        Some(ReadyServer::admit(self, job))
     }
 }

@@ -11,7 +11,6 @@ use Rattle.dover_model.specs.Lines.{in_lines, lines_of, whole_lines}
 use Rattle.dover_model.specs.Feed.{account, is_open}
 use Rattle.dover_model.specs.WholeRun.{Begins}
 use Rattle.dover_model.proofs.Tests.{never}
-use Rattle.snapshot.specs.declared.server.RosterServer.{RosterServer}
 use Rattle.dover_port.specs.Moves.{Move}
 use Rattle.dover_port.specs.declared.status.Status.{Status}
 use Rattle.dover_port.specs.declared.status.Status.TheVariants as status
@@ -19,7 +18,6 @@ use Rattle.dialogue.specs.Talk.{IsOver}
 use Rattle.dialogue.specs.Turns.{joined, Standing, Takes, TakesBy, GivesBy, AnswersBy}
 use Rattle.dialogue.specs.declared.talker.Stop.{Stop}
 use Rattle.dialogue.specs.declared.talker.Stop.TheVariants.{NoMemory, Unwritten}
-use Rattle.snapshot.specs.Serving.{Serves, HasRoom, HasPaid}
 use Rattle.snapshot.specs.Snapshot.{Head, snapshot}
 use Rattle.snapshot.specs.Reading.{Reading, Begun, Going, Taken, Refused, reading_of}
 use Rattle.snapshot.specs.Kept.{IsReady, IsWhole}
@@ -197,13 +195,14 @@ opened_is o y it =
     }
 
 -- nothing is left to give
-giving_none : (c : Call) (f : Feed RosterServer) (now : ℕ) (x : List ℕ) → serve.IsReady Serves HasRoom HasPaid c f now x
-    → serve.IsGiving Serves HasRoom HasPaid c f now x []
+giving_none : (c : Call) (f : Feed) (now : ℕ) (x : List ℕ) → serve.IsReady c f now x
+    → serve.IsGiving c f now x []
 giving_none c f now x it = record {
   left = [];
   parts_are = refl;
   stands = record { cut = it.rests.cut; lane = it.rests.lane.stands };
   paid = it.paid;
+  roster = it.roster;
 }
 
 module _ (a : Asked) (y : List ℕ) (it : IsOpened y) where
@@ -215,29 +214,29 @@ module _ (a : Asked) (y : List ℕ) (it : IsOpened y) where
   opened_due = due_at a y (Taken it.head it.tasks) it.reads ∙ ap (due_behind (feed_of it.head it.tasks)) it.behind
       ∙ (steady opened_call a.at_end).nothing
 
-  pub opened_giving : (f : Feed RosterServer) (now : ℕ) → serve.IsReady Serves HasRoom HasPaid opened_call f now []
-      → IsPast a.start y (λ c H. serve.IsGiving Serves HasRoom HasPaid c f now H [])
+  pub opened_giving : (f : Feed) (now : ℕ) → serve.IsReady opened_call f now []
+      → IsPast a.start y (λ c H. serve.IsGiving c f now H [])
   opened_giving f now ready = record {
     head = it.head;
     tasks = it.tasks;
     reads = it.reads;
     goes = (feed_may y it.head it.tasks it.reads).going_on;
     holds = giving_none opened_call f now (behind_snapshot it.head it.tasks y)
-        (subst (serve.IsReady Serves HasRoom HasPaid opened_call f now) (sym it.behind) ready);
+        (subst (serve.IsReady opened_call f now) (sym it.behind) ready);
   }
 
   -- it was read
   pub whole_took : (o : Opening) (x : List ℕ) → OpeningStands o x → (E : Type 0) → E → (piece : List ℕ) (n : ℕ) → 0 < n
-      → n ≤ length piece → y ≡ x ++ take n piece → (f : Feed RosterServer) (now : ℕ)
-      → serve.IsReady Serves HasRoom HasPaid opened_call f now []
+      → n ≤ length piece → y ≡ x ++ take n piece → (f : Feed) (now : ℕ)
+      → serve.IsReady opened_call f now []
       → Takes (resume_talk a)
-      (λ z parts. E × IsPast a.start z (λ c H. serve.IsGiving Serves HasRoom HasPaid c f now H parts)) x piece n
+      (λ z parts. E × IsPast a.start z (λ c H. serve.IsGiving c f now H parts)) x piece n
   whole_took o x was E e piece n some fits is f now ready = took a
-      (λ z parts. E × IsPast a.start z (λ c H. serve.IsGiving Serves HasRoom HasPaid c f now H parts))
+      (λ z parts. E × IsPast a.start z (λ c H. serve.IsGiving c f now H parts))
       x piece n some fits
       (opening_due a o x was) (subst (λ z. (resume_talk a).due z ≡ []) is opened_due) (
         e,
-        subst (λ z. IsPast a.start z (λ c H. serve.IsGiving Serves HasRoom HasPaid c f now H [])) is
+        subst (λ z. IsPast a.start z (λ c H. serve.IsGiving c f now H [])) is
             (opened_giving f now ready),
       )
 
@@ -246,7 +245,7 @@ module _ (a : Asked) (y : List ℕ) (it : IsOpened y) where
 module _ (a : Asked) (x : List ℕ) (T : Call → List ℕ → Type 0) (at : IsPast a.start x T) where
   -- the call, and the bytes behind the snapshot
   abbrev pub past_call : Call
-  past_call = record { feed = feed_of at.head at.tasks; goes_on = at.goes; start = a.start }
+  past_call = record { feed = feed_of at.head at.tasks; goes_on = at.goes; start = a.start; listed = true }
 
   abbrev pub past_bytes : List ℕ
   past_bytes = behind_snapshot at.head at.tasks x
@@ -265,7 +264,7 @@ module _ (a : Asked) (x : List ℕ) (T : Call → List ℕ → Type 0) (at : IsP
   past_spent now it = past_costs x at.head at.tasks at.reads a.start now it
 
   -- a piece more
-  module _ (piece : List ℕ) (f : Feed RosterServer) (now : ℕ) (E : Type 0) (e : E) where
+  module _ (piece : List ℕ) (f : Feed) (now : ℕ) (E : Type 0) (e : E) where
     behind_more : (more : List ℕ) → behind_snapshot at.head at.tasks (x ++ more) ≡ past_bytes ++ more
     behind_more more = behind_on x at.head at.tasks at.reads more
 
@@ -274,10 +273,10 @@ module _ (a : Asked) (x : List ℕ) (T : Call → List ℕ → Type 0) (at : IsP
 
     pub past_takes : (r : Result ℕ Lacking)
         → TakesBy (serve_talk Refuse past_call.feed)
-        (λ H parts. serve.IsGiving Serves HasRoom HasPaid past_call f now H parts)
+        (λ H parts. serve.IsGiving past_call f now H parts)
         (λ H. Costs past_call now H) past_bytes piece r
         → TakesBy (resume_talk a)
-        (λ y parts. E × IsPast a.start y (λ c H. serve.IsGiving Serves HasRoom HasPaid c f now H parts))
+        (λ y parts. E × IsPast a.start y (λ c H. serve.IsGiving c f now H parts))
         (λ y. IsFrugalFor a.start now y) x piece r
     past_takes (Ok n) it = (
       it.0,
@@ -294,7 +293,7 @@ module _ (a : Asked) (x : List ℕ) (T : Call → List ℕ → Type 0) (at : IsP
             tasks = at.tasks;
             reads = reads_more (take n piece);
             goes = at.goes;
-            holds = subst (λ H. serve.IsGiving Serves HasRoom HasPaid past_call f now H it.2.0)
+            holds = subst (λ H. serve.IsGiving past_call f now H it.2.0)
                 (sym (behind_more (take n piece))) it.2.2;
           },
         ),
@@ -307,19 +306,18 @@ module _ (a : Asked) (x : List ℕ) (T : Call → List ℕ → Type 0) (at : IsP
     )
 
   -- a part
-  pub past_gives : (E : Type 0) → E → (f : Feed RosterServer) (now : ℕ) (rest : List (List ℕ)) (part : List ℕ)
-      (given : Bool)
-      → GivesBy (λ H parts. serve.IsGiving Serves HasRoom HasPaid past_call f now H parts)
-      (λ H. serve.IsReady Serves HasRoom HasPaid past_call f now H) past_bytes rest part given
-      → GivesBy (λ y parts. E × IsPast a.start y (λ c H. serve.IsGiving Serves HasRoom HasPaid c f now H parts))
-      (λ y. E × IsPast a.start y (λ c H. serve.IsReady Serves HasRoom HasPaid c f now H)) x rest part given
+  pub past_gives : (E : Type 0) → E → (f : Feed) (now : ℕ) (rest : List (List ℕ)) (part : List ℕ) (given : Bool)
+      → GivesBy (λ H parts. serve.IsGiving past_call f now H parts)
+      (λ H. serve.IsReady past_call f now H) past_bytes rest part given
+      → GivesBy (λ y parts. E × IsPast a.start y (λ c H. serve.IsGiving c f now H parts))
+      (λ y. E × IsPast a.start y (λ c H. serve.IsReady c f now H)) x rest part given
   past_gives E e f now rest part true it = (
     it.0,
     it.1,
-    (e, past_with (λ c H. serve.IsGiving Serves HasRoom HasPaid c f now H it.0) it.2),
+    (e, past_with (λ c H. serve.IsGiving c f now H it.0) it.2),
   )
   past_gives E e f now rest part false it =
-      (it.0, (e, past_with (λ c H. serve.IsReady Serves HasRoom HasPaid c f now H) it.1))
+      (it.0, (e, past_with (λ c H. serve.IsReady c f now H) it.1))
 
   -- the answer
   served_answer : (status : Status) (text : List ℕ) (ended : Bool)

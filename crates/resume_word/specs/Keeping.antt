@@ -3,7 +3,6 @@ use Rattle.std.specs.Prelude.{◌≡◌, true, ℕ, List, []}
 use Rattle.dover_model.specs.declared.events.Task.{Task}
 use Rattle.dover_model.specs.Lines.{lines_of}
 use Rattle.dover_model.specs.Feed.{account, is_open}
-use Rattle.snapshot.specs.Serving.{Serves, HasRoom, HasPaid}
 use Rattle.snapshot.specs.Snapshot.{Head}
 use Rattle.snapshot.specs.Reading.{Taken, Refused, reading_of}
 use Rattle.snapshot.specs.Spending.{HasSpentOn}
@@ -22,7 +21,7 @@ pub record IsPast (start : ℕ) (x : List ℕ) (T : Call → List ℕ → Type 0
   pub tasks : List Task
   pub reads : reading_of (lines_of x) ≡ Taken head tasks
   pub goes : is_open (account (feed_of head tasks)) ≡ true
-  pub holds : T (record { feed = feed_of head tasks; goes_on = goes; start = start }) (behind_snapshot head tasks x)
+  pub holds : T (record { feed = feed_of head tasks; goes_on = goes; start = start; listed = true }) (behind_snapshot head tasks x)
 
 -- the snapshot is still to be read on
 abbrev pub IsOpen : Asked → Opening → ℕ → List ℕ → Type 0
@@ -36,11 +35,11 @@ IsStopped a at now x = (reading_of (lines_of x) ≡ Refused at) × IsFrugalFor a
 abbrev pub IsReady : {L : Type 0} → Asked → Stage L → ℕ → List ℕ → Type 0
 IsReady a (stage.Opening o) now x = IsOpen a o now x
 IsReady a (stage.Refused at) now x = IsStopped a at now x
-IsReady a (stage.Serving s) now x = IsPast a.start x (λ c H. serve.IsReady Serves HasRoom HasPaid c s.feed now H)
+IsReady a (stage.Serving s) now x = IsPast a.start x (λ c H. serve.IsReady c s.feed now H)
 
 -- these parts are left to give
 abbrev pub IsGiving : {L : Type 0} → Asked → Stage L → ℕ → List ℕ → List (List ℕ) → Type 0
 IsGiving a (stage.Opening o) now x parts = (parts ≡ []) × IsOpen a o now x
 IsGiving a (stage.Refused at) now x parts = (parts ≡ []) × IsStopped a at now x
 IsGiving a (stage.Serving s) now x parts =
-    IsPast a.start x (λ c H. serve.IsGiving Serves HasRoom HasPaid c s.feed now H parts)
+    IsPast a.start x (λ c H. serve.IsGiving c s.feed now H parts)

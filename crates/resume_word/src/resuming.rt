@@ -13,7 +13,7 @@ use dover_port::{Output, Port, Status};
 use line_output::put_line;
 use line_text::{BackLine, LineBuf};
 use serve_word::{AtEnd, Pausing, Serving};
-use snapshot::{Got, Reader, RosterServer, SnapFault};
+use snapshot::{Got, Reader, SnapFault};
 use std::alloc::Global;
 use std::mem::replace;
 use std::sync::ledger::Ledger;
@@ -27,7 +27,7 @@ pub(crate) enum Stage<L: Ledger> {
     /// This line of it is refused.
     Refused(u64),
     /// It was whole, and its feed goes on.
-    Serving(Serving<RosterServer, L>),
+    Serving(Serving<L>),
 }
 
 /// A snapshot that is read, and then its feed, with what is done where the input ends.
@@ -72,11 +72,11 @@ impl<L: Ledger> Talker for Resuming<L> {
     ghost costs = { λ a now x. IsFrugalFor a.start now x };
 
     fn laws() {
-        Serving::<RosterServer, L>::laws();
+        Serving::<L>::laws();
     }
 
     fn take(&mut self, meter: &mut Steps<L>, piece: &[u8]) -> Result<usize, Memory> {
-        Serving::<RosterServer, L>::laws();
+        Serving::<L>::laws();
         match &mut self.stage {
             Stage::Opening(opening) => match opening.take(piece, meter) {
                 Ok((used, Got::More)) => Ok(used),

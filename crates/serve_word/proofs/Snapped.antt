@@ -1,15 +1,17 @@
 -- A feed that goes on from its snapshot, one that is paused, and the lines of a snapshot, put one behind another.
 use Rattle.std.proofs.Common.{◌≡◌, ℕ, [], append-nil, sym, ap, ◌∙◌, subst, Some, true, ◌<◌, ◌+◌, ◌-◌, List, ◌∷◌, ◌++◌}
 use Rattle.std.proofs.Common.{length, take, drop, get_or, Option, arith, inl, inr, Err}
+use Rattle.std.specs.Prelude.{IfSome}
 use Rattle.dover_model.specs.Session.{instance_of, Session}
 use Rattle.dover_model.specs.Lines.{lines_of, in_lines}
 use Rattle.dover_model.specs.Feed.{account}
-use Rattle.snapshot.specs.Serving.{Serves, HasRoom, HasPaid as HasSpentBy}
-use Rattle.snapshot.specs.declared.server.RosterServer.{RosterServer}
-use Rattle.snapshot.proofs.Rostered.{roster_rests}
+use Rattle.ready_server.specs.Rostering.{Serves, HasPaid as HasSpentBy, has_roster}
+use Rattle.ready_server.specs.declared.roster_server.RosterServer.{RosterServer}
+use Rattle.ready_server.proofs.Rostered.{roster_rests}
 use Rattle.event_feed.specs.Kept as feed
 use Rattle.lane_server.specs.Lane.{IsQuiet, Stands as LaneStands}
 use Rattle.lane_server.specs.Feeding.{FeedRests}
+use Rattle.lane_server.specs.Rosters.{KeepsRoster}
 use Rattle.lane_server.specs.Spending.{HasPaid}
 use Rattle.lane_server.specs.declared.feed.Feed.{Feed}
 use Rattle.lane_server.specs.declared.lane.Lane.{Lane}
@@ -34,29 +36,32 @@ use Rattle.snapshot.specs.Pausing.{IsTakenTo}
 
 -- it is ready for a call that goes on with it, from its mark
 pub ready_on : (c : Call) (now : ℕ) (may : MayPause c.feed) (v : RosterServer) (i : feed.Kept) (mark : ℕ)
-    (it : ResumesFeed v i mark c.feed) (l : Lane RosterServer)
-    → l ≡ record { intake = i; server = Some v; mark = mark; is_open = true; work = Nothing }
-    → (f : Feed RosterServer) → f.lane ≡ l
-    → (IsQuiet Serves HasRoom l (lines_of c.feed) → FeedRests Serves HasRoom f c.feed)
-    → HasSpentBy v c.start now → IsReady Serves HasRoom HasSpentBy c f now []
-ready_on c now may v i mark it l is f there rests spent = record {
-  rests = subst (FeedRests Serves HasRoom f) (sym (append-nil c.feed))
-      (rests (subst (λ l. IsQuiet Serves HasRoom l (lines_of c.feed)) (sym is)
-      (quiet_on Serves HasRoom (lines_of c.feed) (opened c.feed may) i v it.session mark it.stands it.going
+    (it : ResumesFeed v i mark c.feed) (l : Lane)
+    → l ≡ record { intake = i; server = Some v; mark = mark; is_open = true; work = Nothing; listed = has_roster v }
+    → (f : Feed) → f.lane ≡ l
+    → (IsQuiet l (lines_of c.feed) → FeedRests f c.feed)
+    → HasSpentBy v c.start now → c.listed ≡ true → IsReady c f now []
+ready_on c now may v i mark it l is f there rests spent listed = record {
+  rests = subst (FeedRests f) (sym (append-nil c.feed))
+      (rests (subst (λ l. IsQuiet l (lines_of c.feed)) (sym is)
+      (quiet_on (lines_of c.feed) (opened c.feed may) i v (has_roster v) it.session mark it.stands it.going
       it.named it.marked
       (subst (λ m. Serves v (instance_of it.session) (Mark m) (settled (instance_of it.session) m)) it.marked
       (roster_rests v (instance_of it.session) (Mark mark) it.rests)))));
-  paid = subst (λ (l : Lane RosterServer). HasPaid HasSpentBy l.server c.start now) (sym (there ∙ is)) spent;
+  paid = subst (λ (l : Lane). HasPaid l.server c.start now) (sym (there ∙ is)) spent;
+  roster = subst (λ (l : Lane). KeepsRoster l c.listed) (sym (there ∙ is))
+      (record { asked = it.listed ∙ sym listed; kept = it.listed ∙ sym listed });
 }
 
 -- ---- it is paused
 
 -- the server has taken the feed to its mark, and its lines are those before the fault that says that it is short
-pub taken_to : (feed : Feed RosterServer) (x : List ℕ) → FeedRests Serves HasRoom feed x → MayPause x
-    → (lane : Lane RosterServer) → lane ≡ feed.lane → (v : RosterServer) → lane.server ≡ Some v → (fault : FeedFault)
-    → ((ls rest : List (List ℕ)) → LaneStands Serves HasRoom lane ls rest → EndAnswers {X = Unit {0}} ls (Err fault))
+pub taken_to : (feed : Feed) (x : List ℕ) → FeedRests feed x → MayPause x
+    → KeepsRoster feed.lane true
+    → (lane : Lane) → lane ≡ feed.lane → (v : RosterServer) → lane.server ≡ Some v → (fault : FeedFault)
+    → ((ls rest : List (List ℕ)) → LaneStands lane ls rest → EndAnswers {X = Unit {0}} ls (Err fault))
     → (mark : ℕ) → mark ≡ lane.mark → IsTakenTo v (fault.line - 1) mark x
-taken_to feed x rests may lane is v there fault answers mark marked = record {
+taken_to feed x rests may roster lane is v there fault answers mark marked = record {
   may = may;
   lines_are = by (answers (lines_of x) [] quiet.stands);
   mark_is = marked ∙ quiet.stands.marked;
@@ -64,13 +69,15 @@ taken_to feed x rests may lane is v there fault answers mark marked = record {
   named = at.1;
   served = subst (λ m. Serves v (instance_of at.0) (Mark m) (settled (instance_of at.0) m))
       (sym (marked ∙ quiet.stands.marked)) at.2;
+  listed = subst (λ o. IfSome o (λ (w : RosterServer). has_roster w ≡ true))
+      (sym (ap (λ (l : Lane). l.server) is) ∙ there) roster.kept;
 } where
-  quiet : IsQuiet Serves HasRoom lane (lines_of x)
-  quiet = subst (λ l. IsQuiet Serves HasRoom l (lines_of x)) (sym is) rests.lane
+  quiet : IsQuiet lane (lines_of x)
+  quiet = subst (λ l. IsQuiet l (lines_of x)) (sym is) rests.lane
 
-  at : (S : Session) × ((account x).session ≡ Some S) × AtMark Serves HasRoom (lines_of x) (opened x may) v S
+  at : (S : Session) × ((account x).session ≡ Some S) × AtMark (lines_of x) (opened x may) v S
       (account x).mark
-  at = quiet_serves Serves HasRoom (lines_of x) (opened x may) lane quiet v there
+  at = quiet_serves (lines_of x) (opened x may) lane quiet v there
 
   by : EndAnswers {X = Unit {0}} (lines_of x) (Err fault) → fault.line - 1 ≡ (account x).lines
   by (inl it) = omega (arith, ap (λ (f : FeedFault). f.line) it.1, lines_counted (lines_of x) (opened x may))

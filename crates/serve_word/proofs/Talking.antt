@@ -27,8 +27,9 @@ use Rattle.dialogue.specs.declared.talker.Stop.{Stop}
 use Rattle.dialogue.specs.declared.talker.Stop.TheVariants.{NoMemory, Unwritten}
 use Rattle.dover_port.specs.Moves.{Move}
 use Rattle.dover_model.specs.Spending.{CostsAtMost}
-use Rattle.lane_server.specs.Lane.{IsDeclared, IsFaulty, Serving, Having}
+use Rattle.lane_server.specs.Lane.{IsDeclared, IsFaulty}
 use Rattle.lane_server.specs.Feeding.{FeedStands, Takes}
+use Rattle.lane_server.specs.Rosters.{KeepsRoster}
 use Rattle.lane_server.specs.Spending.{HasPaid}
 use Rattle.lane_server.specs.declared.feed.Feed.{Feed}
 use Rattle.lane_server.proofs.Adding.{open_stands, opens_by}
@@ -121,24 +122,23 @@ module _ (c : Call) where
       (few_more (admitted_in (account (c.feed ++ x))) (admitted_in (account ((c.feed ++ x) ++ y))) c.start steps
       (admitted_front (c.feed ++ x) y) it)
 
-  module _ {D : Type 0} (serves : Serving D) (has_room : Having D) (pays : D → (start now : ℕ) → Type 0) (feed : Feed D)
-      (steps : ℕ) (x : List ℕ) where
+  module _ (feed : Feed) (steps : ℕ) (x : List ℕ) where
     -- few lines are left to give
-    pub few_parts : (parts : List (List ℕ)) → IsGiving serves has_room pays c feed steps x parts
+    pub few_parts : (parts : List (List ℕ)) → IsGiving c feed steps x parts
         → length parts < 2 ^ 64 - 1
     few_parts parts at = omega (
       arith,
       ap (λ (l : List (List ℕ)). length l) at.parts_are,
       length-map at.left (λ (l : List ℕ). l ++ 10 ∷ []),
-      owes_few serves has_room feed.lane.work feed.lane.server (account (c.feed ++ x)) at.left at.stands.lane.owes,
+      owes_few feed.lane.work feed.lane.server (account (c.feed ++ x)) at.left at.stands.lane.owes,
     )
 
     -- a front of a piece was taken, or there was no memory
     pub taken : (at_end : AtEnd) (piece : List ℕ) (r : Result ℕ Lacking)
-        → Takes serves has_room feed (c.feed ++ x) piece r
-        → OnOk r (HasPaid pays feed.lane.server c.start steps) → Costs c steps x
-        → TakesBy (serve_talk at_end c.feed) (IsGiving serves has_room pays c feed steps) (Costs c steps) x piece r
-    taken at_end piece (Ok n) it paid costs = (
+        → Takes feed (c.feed ++ x) piece r
+        → OnOk r (HasPaid feed.lane.server c.start steps) → KeepsRoster feed.lane c.listed → Costs c steps x
+        → TakesBy (serve_talk at_end c.feed) (IsGiving c feed steps) (Costs c steps) x piece r
+    taken at_end piece (Ok n) it paid roster costs = (
       it.0,
       it.1,
       (
@@ -152,12 +152,13 @@ module _ (c : Call) where
         record {
           left = it.2.0;
           parts_are = refl;
-          stands = subst (λ z. FeedStands serves has_room feed z it.2.0) (sym (joins x (take n piece))) it.2.2;
+          stands = subst (λ z. FeedStands feed z it.2.0) (sym (joins x (take n piece))) it.2.2;
           paid = paid;
+          roster = roster;
         },
       ),
     )
-    taken at_end piece (Err e) it paid costs =
+    taken at_end piece (Err e) it paid roster costs =
         ((refl, subst (λ z. IsDeclared (account z)) (sym (joins x piece)) it), costs_more steps x piece costs)
 
   -- ---- the answer

@@ -1,27 +1,32 @@
 -- What is kept of a feed that is served on behind bytes that were read before.
-use Rattle.std.specs.Prelude.{◌≡◌, ℕ, List, ◌∷◌, ◌++◌, [], length, drop, map, true, refl}
+use Rattle.std.specs.Prelude.{◌≡◌, ℕ, List, ◌∷◌, ◌++◌, [], length, drop, map, Bool, true, refl}
 use Rattle.dover_model.specs.Due.{due}
 use Rattle.dover_model.specs.Feed.{account, is_open}
 use Rattle.dover_model.specs.Spending.{CostsAtMost}
 use Rattle.event_feed.specs.Answers.{admitted_in}
 use Rattle.dialogue.specs.Talk.{Talk, talk_behind}
-use Rattle.lane_server.specs.Lane.{Serving, Having}
+use Rattle.lane_server.specs.Rosters.{KeepsRoster}
 use Rattle.lane_server.specs.Feeding.{FeedStands, FeedRests}
 use Rattle.lane_server.specs.Spending.{HasPaid}
 use Rattle.lane_server.specs.declared.feed.Feed.{Feed}
 use Rattle.serve_word.specs.Talk.{feed_talk}
 use Rattle.serve_word.specs.declared.at_end.AtEnd.{AtEnd}
 
--- What a call is about: the bytes of a feed that goes on, of which all that is due was put before, and the comparisons
--- from which those of the call count.
+-- What a call is about: the bytes of a feed that goes on, of which all that is due was put before, the comparisons from
+-- which those of the call count, and whether a roster of its jobs is kept.
 pub record Call : Type 0 where
   pub feed : List ℕ
   pub goes_on : is_open (account feed) ≡ true
   pub start : ℕ
+  pub listed : Bool
 
 -- a call that is about a whole feed
-abbrev pub whole_call : ℕ → Call
-whole_call start = record { feed = []; goes_on = refl; start = start }
+abbrev pub whole_call : Bool → ℕ → Call
+whole_call listed start = record { feed = []; goes_on = refl; start = start; listed = listed }
+
+-- the call with a roster
+abbrev pub with_roster : Call → Call
+with_roster c = record c { listed = true }
 
 -- what is due for the bytes behind the feed, beyond what was due for the feed
 abbrev pub due_behind : List ℕ → List ℕ → List ℕ
@@ -36,15 +41,15 @@ abbrev pub Costs : Call → ℕ → List ℕ → Type 0
 Costs c steps x = CostsAtMost (admitted_in (account (c.feed ++ x))) c.start steps
 
 -- The feed stands for these bytes behind those of the call, and these parts are left to give, each a line.
-pub record IsGiving {D : Type 0} (serves : Serving D) (has_room : Having D) (pays : D → (start now : ℕ) → Type 0)
-    (c : Call) (feed : Feed D) (steps : ℕ) (x : List ℕ) (parts : List (List ℕ)) : Type 0 where
+pub record IsGiving (c : Call) (feed : Feed) (steps : ℕ) (x : List ℕ) (parts : List (List ℕ)) : Type 0 where
   pub left : List (List ℕ)
   pub parts_are : parts ≡ map (λ line. line ++ 10 ∷ []) left
-  pub stands : FeedStands serves has_room feed (c.feed ++ x) left
-  pub paid : HasPaid pays feed.lane.server c.start steps
+  pub stands : FeedStands feed (c.feed ++ x) left
+  pub paid : HasPaid feed.lane.server c.start steps
+  pub roster : KeepsRoster feed.lane c.listed
 
 -- all was given
-pub record IsReady {D : Type 0} (serves : Serving D) (has_room : Having D) (pays : D → (start now : ℕ) → Type 0)
-    (c : Call) (feed : Feed D) (steps : ℕ) (x : List ℕ) : Type 0 where
-  pub rests : FeedRests serves has_room feed (c.feed ++ x)
-  pub paid : HasPaid pays feed.lane.server c.start steps
+pub record IsReady (c : Call) (feed : Feed) (steps : ℕ) (x : List ℕ) : Type 0 where
+  pub rests : FeedRests feed (c.feed ++ x)
+  pub paid : HasPaid feed.lane.server c.start steps
+  pub roster : KeepsRoster feed.lane c.listed

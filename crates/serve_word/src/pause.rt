@@ -1,20 +1,20 @@
 //! The snapshot of a feed that is paused where its input ends.
-ghost use Rattle.std.specs.Prelude.{◌≡◌, ◌↔◌, ℕ, List, IsTrue};
+ghost use Rattle.std.specs.Prelude.{◌≡◌, ◌↔◌, ℕ, List, IsTrue, true};
 ghost use Rattle.dover_model.specs.Feed.{account};
 ghost use Rattle.dover_model.specs.Lines.{in_lines};
-ghost use Rattle.snapshot.specs.Serving as kept;
 ghost use Rattle.dover_model.specs.Spending.{CostsAtMost};
 ghost use Rattle.event_feed.specs.Answers.{admitted_in};
 ghost use Rattle.dover_port.specs.Causes.{HasCause, StopsAtFailure};
 ghost use Rattle.dover_port.specs.Moves.{PutsThrough};
 ghost use Rattle.lane_server.specs.Feeding.{FeedRests};
+ghost use Rattle.lane_server.specs.Rosters.{KeepsRoster};
 ghost use Rattle.lane_server.specs.Spending.{HasPaid};
 ghost use Rattle.snapshot.specs.Snapshot.{MayPause, snapshot};
 
 use dover_port::{Failed, Output, Port};
 use lane_server::{Feed, Lane};
 use line_text::BackLine;
-use snapshot::{Paused, RosterServer};
+use snapshot::Paused;
 
 /// Puts the lines of a snapshot.
 pub(crate) fn put_lines<P: Port>(
@@ -39,22 +39,23 @@ pub(crate) fn put_lines<P: Port>(
 }
 
 /// Whether a feed is paused where its input ends: its ratio was declared, it goes on, and no line has begun.
-pub(crate) fn is_paused(feed: &Feed<RosterServer>) -> bool
-    ensures { (x : List ℕ) → FeedRests kept.Serves kept.HasRoom feed.now x → IsTrue result ↔ MayPause x }
+pub(crate) fn is_paused(feed: &Feed) -> bool
+    ensures { (x : List ℕ) → FeedRests feed.now x → IsTrue result ↔ MayPause x }
 {
     feed.lane().goes_on() && feed.lane().has_server() && feed.rest() == 0
 }
 
 /// A feed that may pause, as the lines of its snapshot.
-pub(crate) fn pause(feed: Feed<RosterServer>) -> Paused
-    requires { (x : List ℕ) × FeedRests kept.Serves kept.HasRoom feed x × MayPause x }
-    ensures text { (x : List ℕ) → FeedRests kept.Serves kept.HasRoom feed x → MayPause x →
+pub(crate) fn pause(feed: Feed) -> Paused
+    requires feed { (x : List ℕ) × FeedRests feed x × MayPause x }
+    requires roster { KeepsRoster feed.lane true }
+    ensures text { (x : List ℕ) → FeedRests feed x → MayPause x →
         in_lines result ≡ snapshot x }
-    ensures paid { (x : List ℕ) (start now : ℕ) → FeedRests kept.Serves kept.HasRoom feed x → MayPause x →
-        HasPaid kept.HasPaid feed.lane.server start now →
+    ensures paid { (x : List ℕ) (start now : ℕ) → FeedRests feed x → MayPause x →
+        HasPaid feed.lane.server start now →
         CostsAtMost (admitted_in (account x)) start now }
 {
-    Lane::<RosterServer>::laws();
+    Lane::laws();
     let lane = feed.into_lane();
     let Err(fault) = lane.end() else {
         unreachable!();

@@ -1,7 +1,6 @@
 //! What the reading loop calls: a feed that is served, and may be paused.
 ghost use Rattle.std.specs.Prelude.{◌≡◌};
-ghost use Rattle.snapshot.specs.Serving.{Serves, HasRoom, HasPaid};
-ghost use Rattle.serve_word.specs.Keeping.{Call, serve_talk, IsGiving, IsReady, Costs};
+ghost use Rattle.serve_word.specs.Keeping.{Call, with_roster, serve_talk, IsGiving, IsReady, Costs};
 ghost use Rattle.serve_word.specs.declared.at_end.AtEnd.TheVariants.{Pause};
 
 use crate::pause::{is_paused, pause, put_lines};
@@ -10,19 +9,18 @@ use dialogue::{Stop, Talker};
 use dover_model::Memory;
 use dover_port::{Output, Port, Status};
 use line_text::BackLine;
-use snapshot::RosterServer;
 use std::sync::ledger::Ledger;
 use step_count::Steps;
 
 /// A feed that is served, and is paused where its input ends, if its ratio was declared and no line has begun.
 #[derive(Drop)]
 pub struct Pausing<L: Ledger> {
-    pub(crate) serving: Serving<RosterServer, L>,
+    pub(crate) serving: Serving<L>,
 }
 
 impl<L: Ledger> Pausing<L> {
     /// The same feed, to be paused where its input ends.
-    pub fn new(serving: Serving<RosterServer, L>) -> Pausing<L>
+    pub fn new(serving: Serving<L>) -> Pausing<L>
         ensures { result.serving ≡ serving }
     {
         Pausing { serving }
@@ -36,14 +34,14 @@ impl<L: Ledger> Talker for Pausing<L> {
 
     ghost talk = { λ call. serve_talk Pause call.feed };
 
-    ghost stands = { λ call s steps. IsGiving Serves HasRoom HasPaid call s.serving.feed steps };
+    ghost stands = { λ call s steps. IsGiving (with_roster call) s.serving.feed steps };
 
-    ghost ready = { λ call s steps. IsReady Serves HasRoom HasPaid call s.serving.feed steps };
+    ghost ready = { λ call s steps. IsReady (with_roster call) s.serving.feed steps };
 
     ghost costs = { λ call steps. Costs call steps };
 
     fn laws() {
-        Serving::<RosterServer, L>::laws();
+        Serving::<L>::laws();
     }
 
     fn take(&mut self, meter: &mut Steps<L>, piece: &[u8]) -> Result<usize, Memory> {

@@ -1,6 +1,6 @@
 //! What the reading loop calls: a feed that is served.
-ghost use Rattle.std.specs.Prelude.{ℕ, []};
-ghost use Rattle.snapshot.specs.Serving.{Serves, HasRoom, HasPaid};
+ghost use Rattle.std.specs.Prelude.{◌≡◌, ℕ, [], true};
+ghost use Rattle.ready_server.specs.Rostering.{HasPaid};
 ghost use Rattle.snapshot.specs.Snapshot.{MayPause};
 ghost use Rattle.snapshot.specs.Feeds.{ResumesFeed};
 ghost use Rattle.serve_word.specs.Keeping.{Call, whole_call, serve_talk, IsGiving, IsReady, Costs};
@@ -13,8 +13,7 @@ use event_feed::Intake;
 use lane_server::{Feed, Lane};
 use line_output::{put_fault, write_next};
 use line_text::BackLine;
-use ready_server::Dispatcher;
-use snapshot::RosterServer;
+use ready_server::RosterServer;
 use std::alloc::Global;
 use std::marker::PhantomData;
 use std::sync::ledger::Ledger;
@@ -22,61 +21,54 @@ use step_count::Steps;
 
 /// A feed that is served, and is refused as short where its input ends.
 #[derive(Drop)]
-pub struct Serving<D, L: Ledger> {
-    pub(crate) feed: Feed<D>,
+pub struct Serving<L: Ledger> {
+    pub(crate) feed: Feed,
     pub(crate) counts: PhantomData<L>,
 }
 
-impl<L: Ledger> Serving<RosterServer, L> {
+impl<L: Ledger> Serving<L> {
     /// A feed that goes on from its snapshot, which gave the server, the intake and the mark. Nothing is given that was
     /// due before the pause.
-    pub fn resumed(
-        alloc: Global,
-        server: RosterServer,
-        intake: Intake,
-        mark: u64,
-    ) -> Serving<RosterServer, L>
+    pub fn resumed(alloc: Global, server: RosterServer, intake: Intake, mark: u64) -> Serving<L>
         ensures { (c : Call) (now : ℕ) → MayPause c.feed → ResumesFeed server intake mark c.feed →
-            HasPaid server c.start now → IsReady Serves HasRoom HasPaid c result.feed now [] }
+            HasPaid server c.start now → c.listed ≡ true → IsReady c result.feed now [] }
     {
         Serving {
             feed: Feed::behind(alloc, Lane::resumed(intake, server, mark)),
             counts: PhantomData,
         }
     }
-}
 
-impl<D: Dispatcher, L: Ledger> Serving<D, L> {
-    /// A feed of which nothing was read yet.
-    pub fn new(alloc: Global) -> Serving<D, L>
-        ensures { (start : ℕ) → IsReady D.serves D.has_room D.paid (whole_call start) result.feed start [] }
+    /// A feed of which nothing was read yet, with a roster of its jobs where one is asked for.
+    pub fn new(alloc: Global, listed: bool) -> Serving<L>
+        ensures { (start : ℕ) → IsReady (whole_call listed start) result.feed start [] }
     {
         Serving {
-            feed: Feed::new(alloc),
+            feed: Feed::new(alloc, listed),
             counts: PhantomData,
         }
     }
 }
 
-impl<D: Dispatcher, L: Ledger> Talker for Serving<D, L> {
+impl<L: Ledger> Talker for Serving<L> {
     type Meter = Steps<L>;
 
     ghost about = { Call };
 
     ghost talk = { λ call. serve_talk Refuse call.feed };
 
-    ghost stands = { λ call s steps. IsGiving D.serves D.has_room D.paid call s.feed steps };
+    ghost stands = { λ call s steps. IsGiving call s.feed steps };
 
-    ghost ready = { λ call s steps. IsReady D.serves D.has_room D.paid call s.feed steps };
+    ghost ready = { λ call s steps. IsReady call s.feed steps };
 
     ghost costs = { λ call steps. Costs call steps };
 
     fn laws() {
-        Lane::<D>::laws();
+        Lane::laws();
     }
 
     fn take(&mut self, _meter: &mut Steps<L>, piece: &[u8]) -> Result<usize, Memory> {
-        Lane::<D>::laws();
+        Lane::laws();
         self.feed.take(piece)
     }
 
@@ -101,7 +93,7 @@ impl<D: Dispatcher, L: Ledger> Talker for Serving<D, L> {
         out: &mut Output,
         _ended: bool,
     ) -> Result<Status, Stop> {
-        Lane::<D>::laws();
+        Lane::laws();
         let lane = self.feed.into_lane();
         let Err(fault) = lane.end() else {
             return Ok(Status::Done);

@@ -10,7 +10,6 @@ use crate::pausing::Pausing;
 use crate::serving::Serving;
 use dialogue::converse;
 use dover_port::{Port, Status};
-use ready_server::ReadyServer;
 use std::alloc::Global;
 use std::sync::ledger::Ledger;
 use step_count::Steps;
@@ -25,7 +24,7 @@ pub fn serve_word<P: Port, L: Ledger>(alloc: Global, port: &mut P, steps: &mut S
         (P.write_faults port.new) }
     ensures stops { StopsWith result (P.calls port.old) (P.calls port.new) }
 {
-    converse(port, Serving::<ReadyServer, L>::new(alloc), steps)
+    converse(port, Serving::<L>::new(alloc, false), steps)
 }
 
 /// Serves a feed, as `serve_word` does, but for the end of an input behind whole lines: there the feed's snapshot is
@@ -38,6 +37,6 @@ pub fn pause_word<P: Port, L: Ledger>(alloc: Global, port: &mut P, steps: &mut S
         (P.write_faults port.new) }
     ensures stops { StopsWith result (P.calls port.old) (P.calls port.new) }
 {
-    let serving = Serving::new(alloc);
+    let serving = Serving::new(alloc, true);
     converse(port, Pausing { serving }, steps)
 }

@@ -5,7 +5,6 @@ ghost use Rattle.lane_server.specs.Kept.{StandsFor, IsReady, is_closed};
 use dover_model::{Event, Job, Memory, Ratio, Refusal, Version};
 use event_feed::Cause;
 use lane_server::{LaneFault, LaneOut, LaneStep, Lanes};
-use ready_server::{Dispatcher, ReadyServer};
 use std::marker::Brand;
 use std::process::Abort;
 use std::sync::ledger::{Blank, Ledger};
@@ -16,13 +15,13 @@ use step_count::Steps;
 const MANY: u32 = 100;
 
 // Gives the lines that are left, and says whether that were all.
-fn drain<D: Dispatcher, L: Ledger>(
-    lanes: &mut Lanes<D>,
+fn drain<L: Ledger>(
+    lanes: &mut Lanes,
     steps: &mut Steps<L>,
     outs: &mut Vec<(u8, LaneOut)>,
 ) -> Result<bool, Memory>
-    requires { (ls : List (List ℕ)) × (rest : List (List ℕ)) × StandsFor D.serves D.has_room lanes.old ls rest }
-    ensures stands { result ≡ Ok true → (ls : List (List ℕ)) × StandsFor D.serves D.has_room lanes.new ls [] }
+    requires { (ls : List (List ℕ)) × (rest : List (List ℕ)) × StandsFor lanes.old ls rest }
+    ensures stands { result ≡ Ok true → (ls : List (List ℕ)) × StandsFor lanes.new ls [] }
     ensures ready { result ≡ Ok true → is_closed lanes.old ≡ false → IsReady lanes.new }
 {
     for _ in 0..MANY {
@@ -43,14 +42,14 @@ struct Outcome {
 }
 
 // Takes the lines up to `close` or to one that isn't taken.
-fn take_lines<D: Dispatcher, L: Ledger>(
-    lanes: &mut Lanes<D>,
+fn take_lines<L: Ledger>(
+    lanes: &mut Lanes,
     lines: &[&[u8]],
     steps: &mut Steps<L>,
     seen: &mut Outcome,
 ) -> Result<(), Memory>
     requires ready { IsReady lanes.old }
-    requires stands { (ls : List (List ℕ)) × StandsFor D.serves D.has_room lanes.old ls [] }
+    requires stands { (ls : List (List ℕ)) × StandsFor lanes.old ls [] }
 {
     for line in lines {
         let answer = lanes.line(line);
@@ -71,17 +70,13 @@ fn take_lines<D: Dispatcher, L: Ledger>(
     Ok(())
 }
 
-fn outcome_in<D: Dispatcher, L: Ledger>(
-    rt: &HostRuntime,
-    lines: &[&[u8]],
-    blank: Blank,
-) -> Result<Outcome, Memory>
+fn outcome_in<L: Ledger>(rt: &HostRuntime, lines: &[&[u8]], blank: Blank) -> Result<Outcome, Memory>
     requires name { blank.name ≡ L.name }
     requires parts { blank.parts ≡ L.parts }
     requires some { 0 < blank.parts }
 {
     let mut steps: Steps<L> = Steps::new(rt.memory(), blank);
-    let mut lanes = Lanes::<D>::new(rt.alloc())?;
+    let mut lanes = Lanes::new(rt.alloc())?;
     let mut seen = Outcome {
         outs: Vec::new(rt.alloc()),
         last: None,
@@ -92,7 +87,7 @@ fn outcome_in<D: Dispatcher, L: Ledger>(
 }
 
 fn run(rt: &HostRuntime, lines: &[&[u8]]) -> Result<Outcome, Memory> {
-    outcome_in::<ReadyServer, Brand>(rt, lines, Blank::new(1))
+    outcome_in::<Brand>(rt, lines, Blank::new(1))
 }
 
 // Whether the lines up to `close` give these, and whether all lanes are ended then is as it should be.

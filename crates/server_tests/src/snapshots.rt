@@ -4,7 +4,8 @@ ghost use Rattle.snapshot.specs.Kept.{IsReading, IsReady};
 ghost use Rattle.server_tests.specs.declared.snapshots.Outcome.TheVariants.{Taken};
 
 use dover_model::{Memory, Role};
-use snapshot::{Got, Reader, RosterServer, SnapFault};
+use ready_server::RosterServer;
+use snapshot::{Got, Reader, SnapFault};
 use std::marker::Brand;
 use std::sync::ledger::{Blank, Ledger};
 use std::test::Fail;
@@ -22,6 +23,9 @@ enum Outcome {
 
 // Whether the first job runs where the feed pauses, and has had two ticks.
 fn has_run(server: &RosterServer, mark: u64) -> bool {
+    if !server.has_roster() {
+        return false;
+    }
     match server.roster().job(0, mark) {
         Some(job) => job.role == Role::Running && job.had == 2,
         None => false,

@@ -1,6 +1,6 @@
 -- What a reader keeps at the last line, and when that is refused.
 use Rattle.std.proofs.Common.{◌≡◌, ℕ, ◌+◌, ◌≤◌, List, [], ◌∷◌, ◌++◌, length, map, refl, sym, ap, ◌∙◌, subst, Bool, true}
-use Rattle.std.proofs.Common.{false, not, ◌||◌, arith, codes}
+use Rattle.std.proofs.Common.{false, not, ◌||◌, arith, codes, Some}
 use Rattle.std.specs.Prelude.{nat_le, nat_lt, bytes_eq}
 use Rattle.std.specs.List.{AllByRecursion, fold}
 use Rattle.std.proofs.lemmas.Slice.Eq.{bytes_eq-Decides}
@@ -11,7 +11,7 @@ use Rattle.dover_model.specs.JobFacts.{JobFacts}
 use Rattle.dover_model.specs.Sound.{jobs_of}
 use Rattle.dover_model.specs.declared.events.Task.{Task}
 use Rattle.dover_model.specs.Limits.{last_tick}
-use Rattle.dover_model.specs.Settled.{settled_state}
+use Rattle.dover_model.specs.Settled.{settled, settled_state}
 use Rattle.dover_model.specs.Feed.{Account, account_of_lines}
 use Rattle.dover_model.specs.declared.horizon.Horizon.TheVariants.{Mark}
 use Rattle.dover_model.specs.Horizons.{MayFollow}
@@ -19,9 +19,9 @@ use Rattle.event_feed.specs.Kept as feed
 use Rattle.snapshot.specs.Snapshot.{Head}
 use Rattle.snapshot.specs.Reading.{Refused, stored, last_release, has_reached_mark, is_settled, reading_of}
 use Rattle.snapshot.specs.Stored.{HasRead, stored_session}
-use Rattle.snapshot.specs.Roster.{Roll, job_at}
-use Rattle.snapshot.specs.Serving.{Rests}
-use Rattle.snapshot.specs.declared.server.RosterServer.{RosterServer}
+use Rattle.ready_server.specs.Roster.{Roll, job_at, Kept, IsRollOf}
+use Rattle.ready_server.specs.Rostering.{Rests, has_roster}
+use Rattle.ready_server.specs.declared.roster_server.RosterServer.{RosterServer}
 use Rattle.snapshot.specs.Kept.{CanPause, Holds, IsWhole, Resumes, AreAt, stance_of, feed_lines, paused_account}
 use Rattle.snapshot.specs.declared.resuming.Resuming.{Resuming}
 use Rattle.snapshot.specs.declared.resuming.Stance.{Stance}
@@ -29,7 +29,7 @@ use Rattle.snapshot.proofs.Beginning.{within, all_account}
 use Rattle.snapshot.proofs.Comparing.{all_alike, alike_all}
 use Rattle.snapshot.proofs.Formed.{denied}
 use Rattle.snapshot.proofs.Handed.{goes_on}
-use Rattle.snapshot.proofs.RollSettled.{settled_jobs}
+use Rattle.ready_server.proofs.RollSettled.{settled_jobs}
 use Rattle.snapshot.proofs.Stepping.{served_count, refused_here}
 use Rattle.snapshot.proofs.Storing.{no_last, mark_beyond, other_state, last_stands}
 
@@ -83,26 +83,28 @@ module _ (h : Head) (tasks : List Task) (ls : List (List ℕ)) (read : HasRead h
     mark_refused n is beyond = refused_here h tasks ls read r it (ls ++ line ∷ []) n is
         (mark_beyond h tasks ls read line all_read (sym reached_is ∙ beyond))
 
-    module _ (v : RosterServer) (rests : Rests v (stored h tasks) (Mark r.head.mark)) where
+    module _ (v : RosterServer) (rests : Rests v (stored h tasks) (Mark r.head.mark)) (k : Kept)
+        (kept_in : v.roster ≡ Some k) where
       -- it rests at the mark
       rests_there : Rests v (stored h tasks) (Mark h.mark)
       rests_there = subst (λ m. Rests v (stored h tasks) (Mark m)) mark_is rests
 
       -- the jobs that were reached
       abbrev pub reached_tasks : List Task
-      reached_tasks = map (job_at v.roster.roll r.head.mark) v.roster.roll.jobs
+      reached_tasks = map (job_at k.roll r.head.mark) k.roll.jobs
 
       tasks_are : reached_tasks ≡ (settled_state (stored h tasks) h.mark).tasks
-      tasks_are = ap (λ m. map (job_at v.roster.roll m) v.roster.roll.jobs) mark_is
-          ∙ ap (λ (p : Roll). map (job_at p h.mark) p.jobs) rests_there.read
+      tasks_are = ap (λ m. map (job_at k.roll m) k.roll.jobs) mark_is
+          ∙ ap (λ (p : Roll). map (job_at p h.mark) p.jobs)
+          (subst (IsRollOf (settled (stored h tasks) h.mark)) kept_in rests_there.read)
           ∙ settled_jobs (stored h tasks) read.valid h.mark (known_jobs h.mark tasks read.known)
 
       -- they are as many as were read
-      pub reached_count : length r.stances.items ≡ length v.roster.roll.jobs
+      pub reached_count : length r.stances.items ≡ length k.roll.jobs
       reached_count = omega (
         arith,
         served_count h tasks ls read r it,
-        length-map v.roster.roll.jobs (job_at v.roster.roll r.head.mark),
+        length-map k.roll.jobs (job_at k.roll r.head.mark),
         ap length tasks_are,
         count_jobs (settled_state (stored h tasks) h.mark).tasks,
         ap length (settled_at_barrier (stored h tasks) read.valid h.mark).keeps.jobs,
@@ -149,9 +151,9 @@ module _ (h : Head) (tasks : List Task) (ls : List (List ℕ)) (read : HasRead h
         }
 
         -- its run goes on
-        pub resumes : (i : feed.Kept) → has_reached_mark h tasks ≡ true → feed.StandsFor i (feed_lines h tasks)
-            → Resumes v i h tasks
-        resumes i reached stands =
+        pub resumes : (i : feed.Kept) → has_roster v ≡ true → has_reached_mark h tasks ≡ true
+            → feed.StandsFor i (feed_lines h tasks) → Resumes v i h tasks
+        resumes i listed reached stands =
             let account : account_of_lines (feed_lines h tasks) ≡ paused_account h tasks =
             all_account h tasks (can_pause reached) it.fed.account in
             record {
@@ -161,6 +163,7 @@ module _ (h : Head) (tasks : List Task) (ls : List (List ℕ)) (read : HasRead h
                   (ap (λ (a : Account). a.standing) account)
                   (ap (λ (a : Account). a.session) account);
               rests = rests_there;
+              listed = listed;
             }
 
 -- a line that isn't another one is the last line

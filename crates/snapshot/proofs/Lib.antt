@@ -6,11 +6,6 @@ pub mod Storing
 pub mod Admitted
 pub mod Handing
 pub mod Formed
-pub mod Rolls
-pub mod RollMoves
-pub mod RollRuns
-pub mod RollSettled
-pub mod Rostered
 pub mod Settling
 pub mod Handed
 pub mod Beginning
@@ -18,7 +13,6 @@ pub mod Comparing
 pub mod Stepping
 pub mod Spending
 pub mod Finishing
-pub mod Present
 pub mod Reached
 pub mod Takeable
 pub mod Alike

@@ -6,7 +6,7 @@ use Rattle.std.specs.Option.{option_map}
 use Rattle.std.proofs.lemmas.List.{length-map}
 use Rattle.dover_model.specs.declared.events.Task.{Task}
 use Rattle.dover_model.specs.Limits.{most_jobs, most_lines, last_tick}
-use Rattle.dover_model.specs.Feed.{account, rules_with}
+use Rattle.dover_model.specs.Feed.{account}
 use Rattle.dover_model.specs.Instance.{Rules, Instance}
 use Rattle.dover_model.specs.Lines.{in_lines}
 use Rattle.dover_model.specs.Session.{instance_of}
@@ -15,14 +15,15 @@ use Rattle.dover_model.proofs.Accounts.{Holds}
 use Rattle.dover_model.proofs.Barriers.{settled_at_barrier}
 use Rattle.dover_model.proofs.Honest.{count_jobs}
 use Rattle.dover_model.proofs.Members.{some_same}
-use Rattle.snapshot.specs.Roster.{Roll, Listed, job_at, roll_of}
+use Rattle.ready_server.specs.Roster.{Roll, Listed, job_at, roll_of, Kept, IsRollOf}
 use Rattle.snapshot.specs.Snapshot.{head_line, state_line, snapshot}
 use Rattle.snapshot.specs.Pausing.{IsTakenTo, lines_in}
-use Rattle.snapshot.specs.declared.server.RosterServer.{RosterServer}
+use Rattle.ready_server.specs.declared.roster_server.RosterServer.{RosterServer}
 use Rattle.snapshot.proofs.Feeds.{holds, few, snapshot_is}
-use Rattle.snapshot.proofs.RollSettled.{settled_jobs}
+use Rattle.ready_server.proofs.RollSettled.{settled_jobs}
 
-module _ (v : RosterServer) (lines mark : ℕ) (F : List ℕ) (it : IsTakenTo v lines mark F) where
+module _ (v : RosterServer) (lines mark : ℕ) (F : List ℕ) (it : IsTakenTo v lines mark F) (k : Kept)
+    (there : v.roster ≡ Some k) where
   abbrev J : Instance
   J = instance_of it.session
 
@@ -39,27 +40,27 @@ module _ (v : RosterServer) (lines mark : ℕ) (F : List ℕ) (it : IsTakenTo v 
   mark_known = subst (λ m. m ≤ last_tick) (sym it.mark_is) kept.known
 
   -- its jobs as they stand
-  jobs_are : map (job_at v.roster.roll mark) v.roster.roll.jobs ≡ (settled_state J mark).tasks
-  jobs_are = ap (λ (p : Roll). map (job_at p mark) p.jobs) it.served.read
+  jobs_are : map (job_at k.roll mark) k.roll.jobs ≡ (settled_state J mark).tasks
+  jobs_are = ap (λ (p : Roll). map (job_at p mark) p.jobs) (subst (IsRollOf (settled J mark)) there it.served.read)
       ∙ subst (λ m. map (job_at (roll_of (settled J m)) m) (roll_of (settled J m)).jobs ≡ (settled_state J m).tasks)
       (sym it.mark_is) (settled_jobs J kept.reads.valid (account F).mark kept.reads.known)
 
-  count : length v.roster.roll.jobs ≡ length J.jobs
+  count : length k.roll.jobs ≡ length J.jobs
   count = omega (
     arith,
-    length-map v.roster.roll.jobs (job_at v.roster.roll mark),
+    length-map k.roll.jobs (job_at k.roll mark),
     ap length jobs_are,
     count_jobs (settled_state J mark).tasks,
     ap length (settled_at_barrier J kept.reads.valid mark).keeps.jobs,
   )
 
   -- they are few
-  pub jobs_few : length v.roster.roll.jobs ≤ most_jobs
+  pub jobs_few : length k.roll.jobs ≤ most_jobs
   jobs_few = subst (λ n. n ≤ most_jobs) (sym count) kept.reads.valid.count
 
   -- the lines are those of the snapshot
-  pub text_is : in_lines (lines_in v.roster.roll v.server.ready.rules lines mark) ≡ snapshot F
-  text_is = ap (λ n. text v.server.ready.rules n lines mark (map (job_at v.roster.roll mark) v.roster.roll.jobs)) count
+  pub text_is : in_lines (lines_in k.roll v.server.ready.rules lines mark) ≡ snapshot F
+  text_is = ap (λ n. text v.server.ready.rules n lines mark (map (job_at k.roll mark) k.roll.jobs)) count
       ∙ ap (λ ts. text v.server.ready.rules (length J.jobs) lines mark ts) jobs_are
       ∙ ap (λ r. text r (length J.jobs) lines mark (settled_state J mark).tasks) (sym it.served.served.follows.rules)
       ∙ ap (λ n. text J.rules (length J.jobs) n mark (settled_state J mark).tasks) it.lines_are

@@ -1,11 +1,12 @@
 -- How a server is taken to a mark, step by step, and a job more is admitted there.
-use Rattle.std.proofs.Common.{◌≡◌, ◌≤◌, ◌<◌, ◌+◌, ℕ, List, [], ◌∷◌, ◌++◌, length, length-append, subst, sym, ap, ◌∙◌}
-use Rattle.std.proofs.Common.{arith}
-use Rattle.std.specs.Prelude.{Option, Some, None, Result, Ok, Err, OnErr}
+use Rattle.std.proofs.Common.{◌≡◌, ◌≤◌, ◌+◌, ℕ, List, [], ◌∷◌, ◌++◌, length, length-append, subst, sym, ap, ◌∙◌}
+use Rattle.std.proofs.Common.{arith, true}
+use Rattle.std.specs.Prelude.{Some, Result, Ok, Err, OnErr}
 use Rattle.dover_model.specs.declared.events.Event.{Event}
 use Rattle.dover_model.specs.declared.events.Task.{Task}
 use Rattle.dover_model.specs.JobFacts.{JobFacts, IsJob}
-use Rattle.dover_model.specs.Instance.{Instance, IsValid, with_jobs}
+use Rattle.dover_model.specs.Instance.{Instance, with_jobs}
+use Rattle.dover_model.specs.Settled.{settled}
 use Rattle.dover_model.specs.Limits.{last_tick, most_jobs}
 use Rattle.dover_model.proofs.Members.{all_last}
 use Rattle.dover_model.specs.declared.horizon.Horizon.TheVariants.{Mark}
@@ -15,10 +16,9 @@ use Rattle.ready_server.proofs.Stepping.{serves_begins}
 use Rattle.snapshot.specs.Snapshot.{Head}
 use Rattle.snapshot.specs.Reading.{stored}
 use Rattle.snapshot.specs.Kept.{IsServed, MayAdmit}
-use Rattle.snapshot.specs.Serving.{Serves, Rests}
-use Rattle.snapshot.specs.declared.server.RosterServer.{RosterServer}
+use Rattle.ready_server.specs.Rostering.{Serves, Rests, has_roster}
+use Rattle.ready_server.specs.declared.roster_server.RosterServer.{RosterServer}
 use Rattle.snapshot.proofs.Admitted.{with_this}
-use Rattle.snapshot.proofs.Rostered.{roster_rests}
 
 -- so many steps at least were printed on the way to a mark
 pub record IsOnTheWay (v : RosterServer) (J : Instance) (mark steps : ℕ) : Type 0 where
@@ -61,29 +61,17 @@ may_more h tasks last job may =
     omega (arith, few, length-append (stored h tasks).jobs (job ∷ []))
 
 -- with the job the snapshot's jobs are served
-pub served_with : (w : RosterServer) (h : Head) (tasks : List Task) (t : Task) (job : JobFacts) (o : Option Event)
-    → t.job ≡ job
-    → Gives (Serves w (with_jobs (stored h tasks) (job ∷ [])) (Mark job.release))
-    (Rests w (with_jobs (stored h tasks) (job ∷ [])) (Mark job.release))
-    (due_by (with_jobs (stored h tasks) (job ∷ [])) (Mark job.release)) (due_by (stored h tasks) (Mark job.release)) o
+pub served_with : (w : RosterServer) (h : Head) (tasks : List Task) (t : Task) (job : JobFacts) (e : Event)
+    → t.job ≡ job → has_roster w ≡ true
+    → Serves w (with_jobs (stored h tasks) (job ∷ [])) (Mark job.release)
+    (settled (stored h tasks) job.release ++ e ∷ [])
     → IsServed w h (tasks ++ t ∷ []) job.release
-served_with w h tasks t job o same gives =
-    let it = subst (λ J. (events : List Event) × Serves w J (Mark job.release) events) with_it (by o gives) in
-    record { events = it.0; served = it.1 } where
-      with_it : with_jobs (stored h tasks) (job ∷ []) ≡ stored h (tasks ++ t ∷ [])
-      with_it = ap (λ (j : JobFacts). with_jobs (stored h tasks) (j ∷ [])) (sym same) ∙ sym (with_this h tasks t)
-
-      by : (o : Option Event)
-          → Gives (Serves w (with_jobs (stored h tasks) (job ∷ [])) (Mark job.release))
-          (Rests w (with_jobs (stored h tasks) (job ∷ [])) (Mark job.release))
-          (due_by (with_jobs (stored h tasks) (job ∷ [])) (Mark job.release))
-          (due_by (stored h tasks) (Mark job.release)) o
-          → (events : List Event) × Serves w (with_jobs (stored h tasks) (job ∷ [])) (Mark job.release) events
-      by (Some e) it = (due_by (stored h tasks) (Mark job.release) ++ e ∷ [], it)
-      by None it = (
-        due_by (with_jobs (stored h tasks) (job ∷ [])) (Mark job.release),
-        roster_rests w (with_jobs (stored h tasks) (job ∷ [])) (Mark job.release) it.1,
-      )
+served_with w h tasks t job e same listed served = record {
+  events = settled (stored h tasks) job.release ++ e ∷ [];
+  served = subst (λ J. Serves w J (Mark job.release) (settled (stored h tasks) job.release ++ e ∷ []))
+      (ap (λ (j : JobFacts). with_jobs (stored h tasks) (j ∷ [])) (sym same) ∙ sym (with_this h tasks t)) served;
+  listed = listed;
+}
 
 -- its release is a tick
 pub release_known : (h : Head) (tasks : List Task) (last : ℕ) (job : JobFacts) → MayAdmit last h tasks job

@@ -11,9 +11,9 @@ use Rattle.dover_model.proofs.Honest.{count_jobs}
 use Rattle.ready_jobs.proofs.Courses.{follows_count}
 use Rattle.dover_model.specs.declared.horizon.Horizon.TheVariants.{Mark}
 use Rattle.snapshot.specs.Stored.{HasRead}
-use Rattle.snapshot.specs.Serving.{Rests}
+use Rattle.ready_server.specs.Rostering.{Rests}
 use Rattle.snapshot.specs.Kept.{IsReading, IsServed}
-use Rattle.snapshot.specs.declared.server.RosterServer.{RosterServer}
+use Rattle.ready_server.specs.declared.roster_server.RosterServer.{RosterServer}
 use Rattle.snapshot.specs.Spending.{jobs_read, jobs_kept}
 use Rattle.snapshot.specs.declared.resuming.Resuming.{Resuming}
 

@@ -29,7 +29,7 @@ use Rattle.snapshot.specs.Reading.{is_settled, reading_of}
 use Rattle.snapshot.specs.Stored.{HasRead}
 use Rattle.snapshot.specs.Kept.{IsWhole, stance_of}
 use Rattle.snapshot.proofs.Comparing.{all_alike}
-use Rattle.snapshot.proofs.Present.{none_to_come}
+use Rattle.ready_server.proofs.Present.{none_to_come}
 use Rattle.snapshot.proofs.Reached.{last_of, Reached, Reaches, ReachesBy}
 use Rattle.snapshot.proofs.Spelled.{read_head-head_line, read_task-state_line}
 use Rattle.snapshot.proofs.Storing.{head_stands, task_stands, last_stands}

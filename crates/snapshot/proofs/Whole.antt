@@ -7,14 +7,9 @@ use Rattle.std.specs.List.{AllByRecursion, fold}
 use Rattle.std.proofs.lemmas.List.{map-append}
 use Rattle.std.proofs.lemmas.List.Sums.{fold-append}
 use Rattle.dover_model.specs.declared.events.Task.{Task}
-use Rattle.dover_model.specs.Instance.{Rules, Instance, IsValid}
+use Rattle.dover_model.specs.Instance.{Instance, IsValid}
 use Rattle.dover_model.specs.Session.{Session, instance_of}
-use Rattle.dover_model.specs.State.{State, opening}
-use Rattle.dover_model.specs.Step.{open_step, after}
-use Rattle.dover_model.specs.Run.{Step}
-use Rattle.dover_model.specs.Settled.{settled, settled_steps, settled_state}
-use Rattle.dover_model.specs.WholeRun.{IsSettledRun}
-use Rattle.dover_model.specs.Paths.{IsOpenPath, HasPrinted}
+use Rattle.dover_model.specs.Settled.{settled_state}
 use Rattle.dover_model.specs.Sound.{jobs_of}
 use Rattle.dover_model.specs.Lines.{in_lines}
 use Rattle.dover_model.specs.FeedLine.{RatioLine, JobLine, TickLine, feed_text}
@@ -24,11 +19,10 @@ use Rattle.dover_model.proofs.Cuts.{HasNoFeed}
 use Rattle.dover_model.proofs.Growing.{instance_with}
 use Rattle.dover_model.proofs.Honest.{count_jobs}
 use Rattle.dover_model.proofs.JobSessions.{jobs_back}
-use Rattle.dover_model.proofs.Settling.{settled_is_run}
 use Rattle.dover_model.proofs.Valid.{valid_front}
 use Rattle.dover_model.specs.declared.horizon.Horizon.TheVariants.{Mark}
-use Rattle.snapshot.specs.Serving.{Rests}
-use Rattle.snapshot.specs.declared.server.RosterServer.{RosterServer}
+use Rattle.ready_server.specs.Rostering.{Rests}
+use Rattle.ready_server.specs.declared.roster_server.RosterServer.{RosterServer}
 use Rattle.admission.specs.Kept as admission
 use Rattle.event_feed.specs.Kept as feed
 use Rattle.event_feed.specs.declared.kept_session.KeptSession.{KeptSession}
@@ -201,4 +195,5 @@ module _ (h : Head) (tasks : List Task) (ls : List (List ℕ)) (it : IsWhole h t
           marked = same ∙ sym alike.1;
           rests = subst (λ m. Rests v (instance_of both.1) (Mark m)) (sym same)
               (subst (λ J. Rests v J (Mark h.mark)) (sym jobs) resumes.rests);
+          listed = resumes.listed;
         }

@@ -1,6 +1,5 @@
 -- The line of a job, as it is written.
 use Rattle.std.proofs.Common.{◌≡◌, List, [], ◌∷◌, ◌++◌, ℕ, append_assoc, append-nil, map, sym, ap, ◌∙◌, decimal, codes}
-use Rattle.dover_model.specs.declared.events.Role.{Role}
 use Rattle.dover_model.specs.declared.events.Task.{Task}
 use Rattle.dover_model.specs.JobFacts.{job_numbers}
 use Rattle.dover_model.specs.Lines.{line_of, with_numbers}

@@ -1,5 +1,5 @@
 -- The feeds of which a snapshot may be, and how they go on.
-use Rattle.std.specs.Prelude.{◌≡◌, ℕ, List, ◌++◌, false, Some}
+use Rattle.std.specs.Prelude.{true, ◌≡◌, ℕ, List, ◌++◌, Some}
 use Rattle.dover_model.specs.Lines.{in_lines, lines_of}
 use Rattle.dover_model.specs.Session.{Session, instance_of}
 use Rattle.dover_model.specs.Feed.{account}
@@ -7,8 +7,8 @@ use Rattle.dover_model.specs.Due.{due, closed}
 use Rattle.dover_model.specs.declared.horizon.Horizon.TheVariants.{Mark}
 use Rattle.event_feed.specs.Kept as feed
 use Rattle.snapshot.specs.Snapshot.{MayPause, snapshot}
-use Rattle.snapshot.specs.Serving.{Rests}
-use Rattle.snapshot.specs.declared.server.RosterServer.{RosterServer}
+use Rattle.ready_server.specs.Rostering.{Rests, has_roster}
+use Rattle.ready_server.specs.declared.roster_server.RosterServer.{RosterServer}
 
 -- these lines are the snapshot of a feed
 pub record IsSnapshot (ls : List (List ℕ)) : Type 0 where
@@ -28,7 +28,7 @@ pub record GoOnEqually (F G H : List ℕ) : Type 0 where
   pub standing : (account (G ++ H)).standing ≡ (account (F ++ H)).standing
   pub again : MayPause (F ++ H) → MayPause (G ++ H) × (snapshot (G ++ H) ≡ snapshot (F ++ H))
 
--- The intake stands for the lines of the feed, and the server rests where it paused, at this mark.
+-- The intake stands for the lines of the feed, and the server rests where it paused, at this mark, and keeps a roster.
 pub record ResumesFeed (v : RosterServer) (i : feed.Kept) (mark : ℕ) (F : List ℕ) : Type 0 where
   pub session : Session
   pub named : (account F).session ≡ Some session
@@ -36,6 +36,7 @@ pub record ResumesFeed (v : RosterServer) (i : feed.Kept) (mark : ℕ) (F : List
   pub going : feed.IsGoing i
   pub marked : mark ≡ (account F).mark
   pub rests : Rests v (instance_of session) (Mark mark)
+  pub listed : has_roster v ≡ true
 
 -- What is given for a whole snapshot: its lines are those of some feed's, and for each feed with this snapshot the
 -- server and the intake go on from where it paused.

@@ -1,5 +1,5 @@
 -- What a reader keeps of a snapshot, and for which lines it stands.
-use Rattle.std.specs.Prelude.{◌≡◌, ℕ, ◌+◌, ◌-◌, List, [], ◌∷◌, ◌++◌, length, map, replicate, ◌≤◌, true, false, Option}
+use Rattle.std.specs.Prelude.{◌≡◌, ℕ, ◌+◌, ◌-◌, List, [], ◌∷◌, ◌++◌, length, map, replicate, ◌≤◌, true, Option}
 use Rattle.std.specs.Prelude.{Some, None, Result, Ok, Err, codes}
 use Rattle.std.specs.List.{slice_get}
 use Rattle.std.specs.Option.{option_map}
@@ -19,8 +19,8 @@ use Rattle.snapshot.specs.Reading.{Going, Taken, Refused, is_within_limits, stor
 use Rattle.snapshot.specs.Reading.{is_settled, reading_of}
 use Rattle.snapshot.specs.Stored.{HasRead, job_lines, stored_session, stored_account}
 use Rattle.snapshot.specs.Forms.{head_in}
-use Rattle.snapshot.specs.Serving.{Serves, Rests}
-use Rattle.snapshot.specs.declared.server.RosterServer.{RosterServer}
+use Rattle.ready_server.specs.Rostering.{Serves, Rests, has_roster}
+use Rattle.ready_server.specs.declared.roster_server.RosterServer.{RosterServer}
 use Rattle.snapshot.specs.declared.resuming.Stance.{Stance}
 use Rattle.snapshot.specs.declared.resuming.Resuming.{Resuming}
 use Rattle.snapshot.specs.declared.reader.Got.{Got}
@@ -70,10 +70,11 @@ feed_lines h tasks = job_lines h tasks ++ tick_lines h
 
 -- ---- the run
 
--- its jobs are those of the snapshot, and the mark is the last that it was taken to
+-- its jobs are those of the snapshot, the mark is the last that it was taken to, and it keeps a roster
 pub record IsServed (v : RosterServer) (h : Head) (tasks : List Task) (mark : ℕ) : Type 0 where
   pub events : List Event
   pub served : Serves v (stored h tasks) (Mark mark) events
+  pub listed : has_roster v ≡ true
 
 -- what a job is, and how many ticks it has had
 abbrev pub stance_of : Task → Stance
@@ -124,12 +125,13 @@ abbrev pub paused_account : Head → List Task → Account
 paused_account h tasks =
     record { lines = h.lines; session = Some (stored_session h tasks); mark = h.mark; standing = Open }
 
--- The intake stands for the lines of that feed, and the server rests where it paused.
+-- The intake stands for the lines of that feed, and the server rests where it paused, and keeps a roster.
 pub record Resumes (v : RosterServer) (i : feed.Kept) (h : Head) (tasks : List Task) : Type 0 where
   pub stands : feed.StandsFor i (feed_lines h tasks)
   pub account : account_of_lines (feed_lines h tasks) ≡ paused_account h tasks
   pub going : feed.IsGoing i
   pub rests : Rests v (stored h tasks) (Mark h.mark)
+  pub listed : has_roster v ≡ true
 
 -- these lines are a whole snapshot, and its run can be gone on with
 abbrev pub IsReady : Option Resuming → List (List ℕ) → Type 0

@@ -2,8 +2,6 @@ pub mod Snapshot
 pub mod Reading
 pub mod Stored
 pub mod Forms
-pub mod Roster
-pub mod Serving
 pub mod Pausing
 pub mod Kept
 pub mod Spending

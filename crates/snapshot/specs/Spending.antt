@@ -1,6 +1,6 @@
 -- What a snapshot that is read has cost so far: the comparisons of its jobs, which are served again.
 use Rattle.std.specs.Prelude.{ℕ, ◌-◌, ◌≤◌, length, Option, Some, None}
-use Rattle.snapshot.specs.Serving.{HasPaid}
+use Rattle.ready_server.specs.Rostering.{HasPaid}
 use Rattle.snapshot.specs.Reading.{Reading, Begun, Going, Taken, Refused}
 use Rattle.snapshot.specs.declared.resuming.Resuming.{Resuming}
 

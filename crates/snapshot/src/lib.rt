@@ -7,11 +7,7 @@ pub mod laws;
 mod paused;
 mod reader;
 mod resuming;
-mod roster;
-mod server;
 mod writing;
 
 pub use paused::Paused;
 pub use reader::{Got, Reader, SnapFault};
-pub use roster::Roster;
-pub use server::RosterServer;

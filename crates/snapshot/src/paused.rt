@@ -4,11 +4,10 @@ ghost use Rattle.dover_model.specs.Lines.{in_lines};
 ghost use Rattle.snapshot.specs.Snapshot.{snapshot};
 ghost use Rattle.snapshot.specs.Pausing.{IsTakenTo};
 
-use crate::roster::Roster;
-use crate::server::RosterServer;
 use crate::writing::{head, last, state};
 use dover_model::{Ratio, Version};
 use line_text::BackLine;
+use ready_server::{Roster, RosterServer};
 use std::marker::Model;
 
 /// A paused feed, seen as the lines of its snapshot.

@@ -1,14 +1,14 @@
 //! A snapshot read line by line.
 ghost use Rattle.std.specs.Prelude.{◌≡◌, ◌≤◌, ℕ, List, [], ◌∷◌, ◌++◌};
-ghost use Rattle.snapshot.specs.Serving.{HasPaid};
+ghost use Rattle.ready_server.specs.Rostering.{HasPaid};
 ghost use Rattle.snapshot.specs.Kept.{IsReading, IsReady, Answers};
 ghost use Rattle.snapshot.specs.Feeds.{Gives};
 ghost use Rattle.snapshot.specs.Reading.{reading_of};
 ghost use Rattle.snapshot.specs.Spending.{jobs_read, jobs_kept, HasSpentOn};
 
 use crate::resuming::Resuming;
-use crate::server::RosterServer;
 use event_feed::Intake;
+use ready_server::RosterServer;
 use std::alloc::Global;
 use std::marker::Model;
 use std::sync::ledger::Ledger;

@@ -10,17 +10,15 @@ ghost use Rattle.snapshot.specs.Snapshot as model;
 ghost use Rattle.snapshot.specs.Kept.{stance_of, IsServed, MayAdmit, IsAt, AreAt, IsReading, Begins, Answers};
 ghost use Rattle.snapshot.specs.Reading.{reading_of};
 ghost use Rattle.snapshot.specs.Spending.{jobs_read, jobs_kept, HasSpentOn};
-ghost use Rattle.snapshot.specs.Roster.{job_at};
-ghost use Rattle.snapshot.specs.Serving.{Serves, Rests, HasRoom, HasPaid};
+ghost use Rattle.ready_server.specs.Roster.{job_at};
+ghost use Rattle.ready_server.specs.Rostering.{Serves, Rests, HasPlace, HasPaid, has_roster};
 
 use crate::feeding::{begin, hand_job, hand_ticks};
 use crate::forms::{Head, is_within_limits, read_head, read_state};
 use crate::reader::{Got, SnapFault};
-use crate::roster::Roster;
-use crate::server::RosterServer;
 use dover_model::{Horizon, Job, Memory, Role, Task};
 use event_feed::Intake;
-use ready_server::Dispatcher;
+use ready_server::{Roster, RosterServer};
 use std::alloc::Global;
 use std::sync::ledger::Ledger;
 use step_count::Steps;
@@ -41,8 +39,9 @@ fn settle<L: Ledger>(server: &mut RosterServer, mark: u64, steps: &mut Steps<L>)
         × MayFollow (Mark m) (Mark mark) }
     ensures rests { (J : Instance) (m : ℕ) (events : List Event) → Serves server.old J (Mark m) events
         → MayFollow (Mark m) (Mark mark) → Rests server.new J (Mark mark) }
-    ensures room { HasRoom server.old → HasRoom server.new }
+    ensures room { HasPlace server.old → HasPlace server.new }
     ensures paid { (start : ℕ) → HasPaid server.old start steps.old → HasPaid server.new start steps.new }
+    ensures roster { has_roster server.new ≡ has_roster server.old }
 {
     for _step in 0..MOST_STEPS {
         match server.step(Horizon::Mark(mark), steps) {
@@ -105,7 +104,7 @@ impl Resuming {
         if !is_within_limits(&head) {
             return Err(bad);
         }
-        let Ok(server) = RosterServer::new(alloc, head.version, head.ratio) else {
+        let Ok(server) = RosterServer::new(alloc, head.version, head.ratio, true) else {
             return Err(SnapFault::Memory);
         };
         Ok(Resuming {
@@ -140,7 +139,7 @@ impl Resuming {
         self.server.make_room()?;
         self.last = job.release();
         settle(&mut self.server, self.last, steps);
-        let _release = self.server.admit(job, steps);
+        let _release = self.server.admit(job);
         Ok(())
     }
 

@@ -4,10 +4,10 @@ use Rattle.lane_server.proofs.Fine.{one_stands, all_fine, fine_next, fine_not, f
 use Rattle.lane_server.proofs.lanes.all_fine.Goals as goal
 
 pub loop-lane-init : goal.loop-lane-init
-loop-lane-init g c = λ handed all. all_fine handed
+loop-lane-init c = λ handed all. all_fine handed
 
 pub loop-lane-preserved : goal.loop-lane-preserved
-loop-lane-preserved g c = λ handed all.
+loop-lane-preserved c = λ handed all.
     let stands = one_stands c.args.lanes.now handed c.loop-lane.lane c.from.result c.index-lanes-from.result all
     c.requires c.loop-lane-test.true
     c.from.ensures c.index-lanes-from.is in
@@ -15,7 +15,7 @@ loop-lane-preserved g c = λ handed all.
     (sym (c.is_fine.ensures (lane_lines handed c.loop-lane.lane) stands.0 stands.1) ∙ c.if-not-is_fine.false)
 
 pub returns-then-not-is_fine : goal.returns-then-not-is_fine
-returns-then-not-is_fine g c = λ handed all.
+returns-then-not-is_fine c = λ handed all.
     let stands = one_stands c.args.lanes.now handed c.loop-lane.lane c.from.result c.index-lanes-from.result all
     c.requires c.loop-lane-test.true
     c.from.ensures c.index-lanes-from.is in
@@ -23,5 +23,5 @@ returns-then-not-is_fine g c = λ handed all.
     (sym (c.is_fine.ensures (lane_lines handed c.loop-lane.lane) stands.0 stands.1) ∙ c.if-not-is_fine.true))
 
 pub returns : goal.returns
-returns g c = λ handed all. sym (c.loop-lane.invariant handed all
+returns c = λ handed all. sym (c.loop-lane.invariant handed all
     ∙ fine_over handed c.loop-lane.lane (lane_count - c.loop-lane.lane) (omega (arith, c.loop-lane-test.false)))

@@ -5,5 +5,5 @@ use Rattle.lane_server.proofs.Fine.{fine_from}
 use Rattle.lane_server.proofs.lanes.all_fine.Given as goal
 
 abbrev pub invariant-loop-lane : goal.invariant-loop-lane
-invariant-loop-lane g l = (handed : List Handed) → AllStand g.D.Dispatcher.serves g.D.Dispatcher.has_room l.lanes handed
+invariant-loop-lane l = (handed : List Handed) → AllStand l.lanes handed
     → all_ended handed ≡ fine_from handed l.lane (lane_count - l.lane)

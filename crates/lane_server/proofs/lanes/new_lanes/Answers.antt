@@ -4,22 +4,22 @@ use Rattle.lane_server.proofs.Keeping.{none_quiet, more_quiet}
 use Rattle.lane_server.proofs.lanes.new_lanes.Goals as goal
 
 pub loop-init : goal.loop-init
-loop-init g c = (
+loop-init c = (
   subst (λ xs. length xs ≡ 0) (sym c.in_ok-lanes.ensures.items) refl,
-  subst (λ xs. AllQuiet g.D.Dispatcher.serves g.D.Dispatcher.has_room xs []) (sym c.in_ok-lanes.ensures.items)
+  subst (λ xs. AllQuiet xs []) (sym c.in_ok-lanes.ensures.items)
       (none_quiet []),
 )
 
 pub loop-preserved : goal.loop-preserved
-loop-preserved g c = (
+loop-preserved c = (
   subst (λ xs. length xs ≡ c.loop.counter + 1) (sym c.in_ok-push.ensures.items)
       (omega (arith, length-append c.loop.lanes.items (c.new.result ∷ []), c.loop.invariant.0)),
-  subst (λ xs. AllQuiet g.D.Dispatcher.serves g.D.Dispatcher.has_room xs []) (sym c.in_ok-push.ensures.items)
+  subst (λ xs. AllQuiet xs []) (sym c.in_ok-push.ensures.items)
       (more_quiet c.loop.lanes.items c.new.result c.loop.invariant.1 c.new.ensures.quiet),
 )
 
 pub returns-clause-count : goal.returns-clause-count
-returns-clause-count g c = omega (arith, c.loop.invariant.0)
+returns-clause-count c = omega (arith, c.loop.invariant.0)
 
 pub returns-clause-quiet : goal.returns-clause-quiet
-returns-clause-quiet g c = c.loop.invariant.1
+returns-clause-quiet c = c.loop.invariant.1

@@ -3,5 +3,5 @@ use Rattle.lane_server.specs.Kept.{AllQuiet}
 use Rattle.lane_server.proofs.lanes.new_lanes.Given as goal
 
 abbrev pub invariant-loop : goal.invariant-loop
-invariant-loop g l = (length l.lanes.items ≡ l.counter)
-    × AllQuiet g.D.Dispatcher.serves g.D.Dispatcher.has_room l.lanes.items []
+invariant-loop l = (length l.lanes.items ≡ l.counter)
+    × AllQuiet l.lanes.items []

@@ -5,7 +5,7 @@ use Rattle.lane_server.proofs.Keeping.{one_quiet}
 use Rattle.lane_server.proofs.lanes.next_short.Goals as goal
 
 pub loop-lane-preserved : goal.loop-lane-preserved
-loop-lane-preserved g c = λ handed all. c.loop-lane.invariant handed all
+loop-lane-preserved c = λ handed all. c.loop-lane.invariant handed all
     ∙ shorts_skip handed c.loop-lane.lane c.loop-lane-test.true
     (c.in_default.ensures (lane_lines handed c.loop-lane.lane)
     (one_quiet c.args.lanes.now handed c.loop-lane.lane c.from.result c.index-lanes-from.result all c.requires
@@ -13,7 +13,7 @@ loop-lane-preserved g c = λ handed all. c.loop-lane.invariant handed all
     c.index-lanes-from.is))
 
 pub returns-in-Some : goal.returns-in-Some
-returns-in-Some g c = record {
+returns-in-Some c = record {
   within = c.loop-lane-test.true;
   first = λ handed all. (
     c.loop-lane-test.true,
@@ -26,7 +26,7 @@ returns-in-Some g c = record {
 }
 
 pub returns : goal.returns
-returns g c = record {
+returns c = record {
   within = tt;
   first = λ handed all. c.loop-lane.invariant handed all
       ∙ shorts_over handed c.loop-lane.lane (lane_count - c.loop-lane.lane) (omega (arith, c.loop-lane-test.false));

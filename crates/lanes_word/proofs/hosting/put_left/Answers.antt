@@ -7,7 +7,7 @@ use Rattle.lanes_word.proofs.hosting.put_left.Goals as goal
 
 pub loop-init : goal.loop-init
 loop-init g c = record {
-  given = λ ls left it. given_none (left_in g.D.Dispatcher.serves g.D.Dispatcher.has_room c.args.lanes.now ls)
+  given = λ ls left it. given_none (left_in c.args.lanes.now ls)
       _ _ [] (parts_of left) (left, refl, it);
   writes = refl;
   reads = refl;
@@ -29,7 +29,7 @@ loop-preserved g c = record {
   given = λ ls left it.
       let given = c.loop.invariant.given ls left it in
       let next = c.in-Some.ensures.gives ls given.stands.0 given.stands.2 in
-      let now = left_in g.D.Dispatcher.serves g.D.Dispatcher.has_room c.next_out.new.self ls in
+      let now = left_in c.next_out.new.self ls in
       given_more _ now (λ x. now x []) _ _ _ _ [] (parts_of left) _ given c.write_in_lane.new.line
       (rw c.write_in_lane.ensures (parts_of next.0, given.stands.1 ∙ ap parts_of next.1, (next.0, refl, next.2))) _ _
       (rw c.bytes.ensures.is at c.in-Ok.ensures.text.all);
@@ -42,7 +42,7 @@ pub returns-in-Err-clause-text : goal.returns-in-Err-clause-text
 returns-in-Err-clause-text g c = λ ls left it.
     let given = c.loop.invariant.given ls left it in
     let next = c.in-Some.ensures.gives ls given.stands.0 given.stands.2 in
-    let now = left_in g.D.Dispatcher.serves g.D.Dispatcher.has_room c.next_out.new.self ls in
+    let now = left_in c.next_out.new.self ls in
     given_cut _ now (λ x. now x []) _ _ _ _ [] (parts_of left) _ given c.write_in_lane.new.line
     (rw c.write_in_lane.ensures (parts_of next.0, given.stands.1 ∙ ap parts_of next.1, (next.0, refl, next.2))) _ _
     c.in-Err.failed (rw c.bytes.ensures.is at c.in-Err.ensures.text.part)
@@ -51,14 +51,14 @@ pub returns-in_default-clause-text : goal.returns-in_default-clause-text
 returns-in_default-clause-text g c = λ ls left it.
     let given = c.loop.invariant.given ls left it in
     let next = c.in_default.ensures.gives ls given.stands.0 given.stands.2 in
-    let now = left_in g.D.Dispatcher.serves g.D.Dispatcher.has_room c.next_out.new.self ls in
+    let now = left_in c.next_out.new.self ls in
     given_all _ now (λ x. now x []) _ _ _ _ [] (parts_of left) _ given []
     (given.stands.1 ∙ ap parts_of next.0, ([], refl, next.1))
 
 pub unreachable-requires : goal.unreachable-requires
 unreachable-requires g c =
     let given = c.loop.invariant.given c.requires.0 c.requires.1 c.requires.2 in
-    let now = left_in g.D.Dispatcher.serves g.D.Dispatcher.has_room c.loop.lanes c.requires.0 in
+    let now = left_in c.loop.lanes c.requires.0 in
     omega (
       arith,
       given_few _ now (λ x. now x []) _ _ _ _ [] (parts_of c.requires.1) _ given

@@ -9,8 +9,8 @@ use Rattle.lanes_word.proofs.hosting.put_left.Given as goal
 -- Some of the lines were given and put, and the others are left.
 abbrev pub invariant-loop : goal.invariant-loop
 invariant-loop g l = record {
-  given : (ls left : List (List ℕ)) → StandsFor g.D.Dispatcher.serves g.D.Dispatcher.has_room l.initial.lanes ls left
-      → HasGiven (left_in g.D.Dispatcher.serves g.D.Dispatcher.has_room l.lanes ls)
+  given : (ls left : List (List ℕ)) → StandsFor l.initial.lanes ls left
+      → HasGiven (left_in l.lanes ls)
       (g.P.Port.moves l.initial.port) (g.P.Port.moves l.port) l.initial.out l.out [] (parts_of left) l.counter;
   writes : g.P.Port.write_faults l.port ≡ g.P.Port.write_faults l.initial.port;
   reads : g.P.Port.read_faults l.port ≡ g.P.Port.read_faults l.initial.port;

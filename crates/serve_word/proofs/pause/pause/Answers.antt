@@ -5,15 +5,17 @@ use Rattle.serve_word.proofs.pause.pause.Goals as goal
 
 pub new-requires : goal.new-requires
 new-requires c = (
-  c.requires.0,
-  taken_to c.args.feed c.requires.0 c.requires.1 c.requires.2 c.into_lane-lane.result c.into_lane-lane.ensures
+  c.requires.feed.0,
+  taken_to c.args.feed c.requires.feed.0 c.requires.feed.1 c.requires.feed.2 c.requires.roster
+      c.into_lane-lane.result c.into_lane-lane.ensures
       c.in-Some.server (sym c.into_server.ensures ∙ c.in-Some.is) c.in-Err.fault c.in-Err.ensures.answer
       c.mark-mark.result c.mark-mark.ensures,
 )
 
 pub returns-clause-text : goal.returns-clause-text
 returns-clause-text c = λ x rests may. c.new.ensures x
-    (taken_to c.args.feed x rests may c.into_lane-lane.result c.into_lane-lane.ensures c.in-Some.server
+    (taken_to c.args.feed x rests may c.requires.roster c.into_lane-lane.result c.into_lane-lane.ensures
+    c.in-Some.server
     (sym c.into_server.ensures ∙ c.in-Some.is) c.in-Err.fault c.in-Err.ensures.answer
     c.mark-mark.result c.mark-mark.ensures)
 

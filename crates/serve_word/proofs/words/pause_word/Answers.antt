@@ -1,17 +1,21 @@
+use Rattle.std.specs.Prelude.{true}
 use Rattle.dover_port.proofs.Made.{since_weaker}
 use Rattle.serve_word.specs.Keeping.{whole_call}
 use Rattle.serve_word.proofs.words.pause_word.Goals as goal
 
 pub converse-requires : goal.converse-requires
-converse-requires g c = (whole_call c.args.steps.now, (c.new-serving.ensures c.args.steps.now))
+converse-requires g c = (whole_call true c.args.steps.now, (c.new-serving.ensures c.args.steps.now))
 
 pub returns-clause-talks : goal.returns-clause-talks
 returns-clause-talks g c = since_weaker _ _ _ _
-    (c.converse.ensures.talks (whole_call c.args.steps.now) (c.new-serving.ensures c.args.steps.now)) (λ moves it. it.0)
+    (c.converse.ensures.talks (whole_call true c.args.steps.now) (c.new-serving.ensures c.args.steps.now))
+    (λ moves it. it.0)
 
 pub returns-clause-count : goal.returns-clause-count
 returns-clause-count g c = since_weaker _ _ _ _
-    (c.converse.ensures.talks (whole_call c.args.steps.now) (c.new-serving.ensures c.args.steps.now)) (λ moves it. it.1)
+    (c.converse.ensures.talks (whole_call true c.args.steps.now) (c.new-serving.ensures c.args.steps.now))
+    (λ moves it. it.1)
 
 pub returns-clause-ends : goal.returns-clause-ends
-returns-clause-ends g c = c.converse.ensures.ends (whole_call c.args.steps.now) (c.new-serving.ensures c.args.steps.now)
+returns-clause-ends g c =
+    c.converse.ensures.ends (whole_call true c.args.steps.now) (c.new-serving.ensures c.args.steps.now)

@@ -5,6 +5,6 @@ use Rattle.server_tests.proofs.many_lanes.drain.Given as goal
 abbrev pub invariant-loop : goal.invariant-loop
 invariant-loop g l = record {
   stands : (ls : List (List ℕ)) × (rest : List (List ℕ))
-      × StandsFor g.D.Dispatcher.serves g.D.Dispatcher.has_room l.lanes ls rest;
+      × StandsFor l.lanes ls rest;
   closed : is_closed l.lanes ≡ is_closed l.initial.lanes;
 }

@@ -1,19 +1,18 @@
 use Rattle.std.proofs.Common.{ℕ, List, ◌∷◌, ◌++◌, [], Ok}
-use Rattle.lane_server.specs.Lane.{Serving, Having}
 use Rattle.lane_server.specs.Kept.{Kept, StandsFor, Answers}
 use Rattle.lane_server.specs.declared.lanes.LaneStep.{LaneStep}
 use Rattle.lane_server.specs.declared.lanes.LaneStep.TheVariants.{Fed, Closed}
 use Rattle.server_tests.proofs.many_lanes.take_lines.Goals as goal
 
 -- after a good line the lanes stand for the lines with it
-answered : {D : Type 0} (serves : Serving D) (having : Having D) (step : LaneStep) (old new : Kept D) (ls : List
+answered : (step : LaneStep) (old new : Kept) (ls : List
     (List ℕ))
-    (bytes : List ℕ) → Answers serves having (Ok step) old new ls bytes
-    → (ms : List (List ℕ)) × (rest : List (List ℕ)) × StandsFor serves having new ms rest
-answered serves having (Fed lane) old new ls bytes it = (ls ++ bytes ∷ [], _, it.stands)
-answered serves having Closed old new ls bytes it = (ls ++ bytes ∷ [], _, it.stands)
+    (bytes : List ℕ) → Answers (Ok step) old new ls bytes
+    → (ms : List (List ℕ)) × (rest : List (List ℕ)) × StandsFor new ms rest
+answered (Fed lane) old new ls bytes it = (ls ++ bytes ∷ [], _, it.stands)
+answered Closed old new ls bytes it = (ls ++ bytes ∷ [], _, it.stands)
 
 pub drain-requires : goal.drain-requires
-drain-requires g c = answered g.D.Dispatcher.serves g.D.Dispatcher.has_room c.in-Ok.step
+drain-requires g c = answered c.in-Ok.step
     c.loop-line.lanes c.line-answer.new.self c.loop-line.invariant.stands.0 _
     (c.in-Ok.ensures c.loop-line.invariant.stands.0 c.loop-line.invariant.stands.1)

@@ -5,5 +5,5 @@ use Rattle.server_tests.proofs.many_lanes.take_lines.Given as goal
 abbrev pub invariant-loop-line : goal.invariant-loop-line
 invariant-loop-line g l = record {
   ready : IsReady l.lanes;
-  stands : (ls : List (List ℕ)) × StandsFor g.D.Dispatcher.serves g.D.Dispatcher.has_room l.lanes ls [];
+  stands : (ls : List (List ℕ)) × StandsFor l.lanes ls [];
 }

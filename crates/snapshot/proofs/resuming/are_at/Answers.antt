@@ -1,6 +1,6 @@
 use Rattle.std.proofs.Common.{refl, arith, map}
 use Rattle.std.proofs.lemmas.List.{length-map}
-use Rattle.snapshot.specs.Roster.{job_at}
+use Rattle.ready_server.specs.Roster.{job_at}
 use Rattle.snapshot.proofs.Comparing.{all_at}
 use Rattle.snapshot.proofs.resuming.are_at.Goals as goal
 

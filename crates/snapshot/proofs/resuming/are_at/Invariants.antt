@@ -1,5 +1,5 @@
 use Rattle.std.proofs.Common.{map}
-use Rattle.snapshot.specs.Roster.{job_at}
+use Rattle.ready_server.specs.Roster.{job_at}
 use Rattle.snapshot.proofs.Comparing.{AreAtUpTo}
 use Rattle.snapshot.proofs.resuming.are_at.Given as goal
 

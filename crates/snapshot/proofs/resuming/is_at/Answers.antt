@@ -1,8 +1,7 @@
-use Rattle.std.proofs.Common.{◌≡◌, Option, Some, None, true, false, sym, ap, ◌∙◌}
+use Rattle.std.proofs.Common.{◌≡◌, Some, None, true, false, sym, ap, ◌∙◌}
 use Rattle.dover_model.proofs.Members.{some_same}
-use Rattle.snapshot.specs.Roster.{job_at}
+use Rattle.ready_server.specs.Roster.{job_at}
 use Rattle.snapshot.specs.Kept.{stance_of}
-use Rattle.snapshot.specs.declared.resuming.Stance.{Stance}
 use Rattle.snapshot.proofs.Comparing.{at_place}
 use Rattle.snapshot.proofs.resuming.is_at.Goals as goal
 

@@ -1,3 +1,4 @@
+use Rattle.std.proofs.Common.{◌∙◌}
 use Rattle.dover_model.specs.declared.horizon.Horizon.TheVariants.{Mark}
 use Rattle.snapshot.proofs.Settling.{one_further, too_many}
 use Rattle.snapshot.proofs.resuming.settle.Goals as goal
@@ -16,6 +17,9 @@ returns-in-None-clause-rests g c = λ J m events it may.
 pub returns-in-None-clause-paid : goal.returns-in-None-clause-paid
 returns-in-None-clause-paid g c = λ start paid. c.in-None.ensures.paid start (c.loop-step.invariant.paid start paid)
 
+pub returns-in-None-clause-roster : goal.returns-in-None-clause-roster
+returns-in-None-clause-roster g c = c.in-None.ensures.roster ∙ c.loop-step.invariant.roster
+
 pub loop-step-preserved : goal.loop-step-preserved
 loop-step-preserved g c = record {
   on = λ J m events it may.
@@ -23,6 +27,7 @@ loop-step-preserved g c = record {
       one_further c.loop-step.server c.step.new.self J c.args.mark c.loop-step._step on c.in-Some.field-0
       (c.in-Some.ensures.gives J (Mark on.from) on.events on.served on.follows);
   room = λ room. c.in-Some.ensures.room (c.loop-step.invariant.room room);
+  roster = c.in-Some.ensures.roster ∙ c.loop-step.invariant.roster;
   paid = λ start paid. c.in-Some.ensures.paid start (c.loop-step.invariant.paid start paid);
 }
 

@@ -1,9 +1,9 @@
-use Rattle.std.proofs.Common.{ℕ, List}
+use Rattle.std.proofs.Common.{◌≡◌, ℕ, List}
 use Rattle.dover_model.specs.declared.events.Event.{Event}
 use Rattle.dover_model.specs.Instance.{Instance}
 use Rattle.dover_model.specs.declared.horizon.Horizon.TheVariants.{Mark}
 use Rattle.dover_model.specs.Horizons.{MayFollow}
-use Rattle.snapshot.specs.Serving.{Serves, HasRoom, HasPaid}
+use Rattle.ready_server.specs.Rostering.{Serves, HasPlace, HasPaid, has_roster}
 use Rattle.snapshot.proofs.Settling.{IsOnTheWay}
 use Rattle.snapshot.proofs.resuming.settle.Given as goal
 
@@ -12,6 +12,7 @@ abbrev pub invariant-loop-step : goal.invariant-loop-step
 invariant-loop-step g l = record {
   on : (J : Instance) (m : ℕ) (events : List Event) → Serves l.initial.server J (Mark m) events
       → MayFollow (Mark m) (Mark l.mark) → IsOnTheWay l.server J l.mark l._step;
-  room : HasRoom l.initial.server → HasRoom l.server;
+  room : HasPlace l.initial.server → HasPlace l.server;
+  roster : has_roster l.server ≡ has_roster l.initial.server;
   paid : (start : ℕ) → HasPaid l.initial.server start l.initial.steps → HasPaid l.server start l.steps;
 }

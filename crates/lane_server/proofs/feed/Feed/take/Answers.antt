@@ -6,7 +6,7 @@ use Rattle.lane_server.specs.Lane.{IsDeclared}
 use Rattle.lane_server.proofs.feed.Feed.take.Goals as goal
 
 pub returns-in-Err-clause-takes : goal.returns-in-Err-clause-takes
-returns-in-Err-clause-takes g c = λ x at goes.
+returns-in-Err-clause-takes c = λ x at goes.
     let n = c.front-count.result in
     let piece = c.args.piece.now in
     subst (λ z. IsDeclared (account z))

@@ -9,7 +9,7 @@ use Rattle.lane_server.proofs.Taking.{taken_stands, fault_stands, over_stands, o
 use Rattle.lane_server.proofs.lane.Lane.line.Goals as goal
 
 pub take-requires : goal.take-requires
-take-requires g c = (
+take-requires c = (
   account_of_lines c.requires.0,
   account_of_lines (c.requires.0 ++ c.args.line.now ∷ []),
   open_at c.args.self.now c.line.new.self c.requires.0 c.requires.1 c.if-not-self.false,
@@ -17,8 +17,8 @@ take-requires g c = (
 )
 
 pub returns-in-Ok-clause-stands : goal.returns-in-Ok-clause-stands
-returns-in-Ok-clause-stands g c = λ ls it.
-    let at : IsOpenAt g.D.Dispatcher.serves (record c.args.self.now { intake = c.line.new.self })
+returns-in-Ok-clause-stands c = λ ls it.
+    let at : IsOpenAt (record c.args.self.now { intake = c.line.new.self })
     (account_of_lines ls) =
     open_at c.args.self.now c.line.new.self ls it c.if-not-self.false in
     let is = (c.in-Ok.ensures.answer ls it.stands.intake).1 in
@@ -31,8 +31,8 @@ returns-in-Ok-clause-stands g c = λ ls it.
     (c.take.ensures.adds (account_of_lines ls) (account_of_lines (ls ++ c.args.line.now ∷ [])) at is)
 
 pub returns-in-Err-clause-stands : goal.returns-in-Err-clause-stands
-returns-in-Err-clause-stands g c = λ ls it.
-    let at : IsOpenAt g.D.Dispatcher.serves (record c.args.self.now { intake = c.line.new.self })
+returns-in-Err-clause-stands c = λ ls it.
+    let at : IsOpenAt (record c.args.self.now { intake = c.line.new.self })
     (account_of_lines ls) =
     open_at c.args.self.now c.line.new.self ls it c.if-not-self.false in
     fault_stands c.args.self.now c.line.new.self ls c.args.line.now c.in-Err.fault
@@ -41,20 +41,20 @@ returns-in-Err-clause-stands g c = λ ls it.
     at.stands (c.in-Err.ensures.answer ls it.stands.intake))
 
 pub returns-then-not-self-clause-stands : goal.returns-then-not-self-clause-stands
-returns-then-not-self-clause-stands g c = λ ls it. over_stands c.args.self.now ls c.args.line.now it c.if-not-self.true
+returns-then-not-self-clause-stands c = λ ls it. over_stands c.args.self.now ls c.args.line.now it c.if-not-self.true
 
 pub returns-in-Ok-clause-paid : goal.returns-in-Ok-clause-paid
-returns-in-Ok-clause-paid g c = λ ls start now it paid.
+returns-in-Ok-clause-paid c = λ ls start now it paid.
     c.take.ensures.paid (account_of_lines ls) (account_of_lines (ls ++ c.args.line.now ∷ [])) start now
     (open_at c.args.self.now c.line.new.self ls it c.if-not-self.false)
     (c.in-Ok.ensures.answer ls it.stands.intake).1 paid
 
 pub returns-in-Ok-clause-lacks : goal.returns-in-Ok-clause-lacks
-returns-in-Ok-clause-lacks g c = λ ls it.
+returns-in-Ok-clause-lacks c = λ ls it.
     c.take.ensures.lacks (account_of_lines ls) (account_of_lines (ls ++ c.args.line.now ∷ []))
     (c.in-Ok.ensures.answer ls it.stands.intake).1
 
 pub returns-in-Ok-clause-asks : goal.returns-in-Ok-clause-asks
-returns-in-Ok-clause-asks g c = λ ls it.
+returns-in-Ok-clause-asks c = λ ls it.
     c.take.ensures.asks (account_of_lines ls) (account_of_lines (ls ++ c.args.line.now ∷ []))
     (c.in-Ok.ensures.answer ls it.stands.intake).1

@@ -1,22 +1,24 @@
+use Rattle.std.proofs.Common.{subst}
 use Rattle.dover_model.specs.Feed.{account_of_lines}
 use Rattle.lane_server.specs.Lane.{Running}
+use Rattle.lane_server.specs.Spending.{HasPaid}
 use Rattle.lane_server.specs.declared.lane.Work.TheVariants.{Run}
 use Rattle.lane_server.proofs.Owing.{run_gives, run_none, lane_owes, lane_stands, lane_rests}
 use Rattle.lane_server.proofs.lane.Lane.run.Goals as goal
 
 pub step-requires : goal.step-requires
 step-requires g c =
-    let owes : Running g.D.Dispatcher.serves c.args.to c.in-Some.server
+    let owes : Running c.args.to c.in-Some.server
     (account_of_lines c.requires.stands.0) c.requires.stands.1 =
-    lane_owes g.D.Dispatcher.serves g.D.Dispatcher.has_room c.args.self.now (Run c.args.to) c.in-Some.server
+    lane_owes c.args.self.now (Run c.args.to) c.in-Some.server
     (account_of_lines c.requires.stands.0)
     c.requires.stands.1 c.requires.work c.in-Some.is c.requires.stands.2.owes in
     (_, owes.from, owes.events, owes.served, owes.follows)
 
 pub returns-in-Some-step-clause-gives : goal.returns-in-Some-step-clause-gives
 returns-in-Some-step-clause-gives g c = λ ls rest it.
-    let owes : Running g.D.Dispatcher.serves c.args.to c.in-Some.server (account_of_lines ls) rest =
-    lane_owes g.D.Dispatcher.serves g.D.Dispatcher.has_room c.args.self.now (Run c.args.to) c.in-Some.server
+    let owes : Running c.args.to c.in-Some.server (account_of_lines ls) rest =
+    lane_owes c.args.self.now (Run c.args.to) c.in-Some.server
     (account_of_lines ls) rest c.requires.work c.in-Some.is
     it.owes in
     let given = run_gives c.laws.ensures.begins c.args.to c.in-Some.server c.step.new.self
@@ -32,10 +34,18 @@ returns-in-Some-step-clause-gives g c = λ ls rest it.
 
 pub returns-in-None-clause-gives : goal.returns-in-None-clause-gives
 returns-in-None-clause-gives g c = λ ls rest it.
-    let owes : Running g.D.Dispatcher.serves c.args.to c.in-Some.server (account_of_lines ls) rest =
-    lane_owes g.D.Dispatcher.serves g.D.Dispatcher.has_room c.args.self.now (Run c.args.to) c.in-Some.server
+    let owes : Running c.args.to c.in-Some.server (account_of_lines ls) rest =
+    lane_owes c.args.self.now (Run c.args.to) c.in-Some.server
     (account_of_lines ls) rest c.requires.work c.in-Some.is
     it.owes in
     let all = c.in-None.ensures.gives _ owes.from owes.events owes.served owes.follows in
     let none = run_none c.laws.ensures.rested c.args.to c.in-Some.server c.step.new.self (account_of_lines ls) rest owes
     all.0 all.1 in (none.0, lane_rests c.args.self.now c.step.new.self ls rest it none.1)
+
+pub returns-in-Some-step-clause-paid : goal.returns-in-Some-step-clause-paid
+returns-in-Some-step-clause-paid g c = λ start paid. c.in-Some-step.ensures.paid start
+    (subst (λ o. HasPaid o start c.args.steps.now) c.in-Some.is paid)
+
+pub returns-in-None-clause-paid : goal.returns-in-None-clause-paid
+returns-in-None-clause-paid g c = λ start paid. c.in-None.ensures.paid start
+    (subst (λ o. HasPaid o start c.args.steps.now) c.in-Some.is paid)

@@ -5,7 +5,7 @@ use Rattle.lane_server.proofs.Fine.{all_stand}
 use Rattle.lane_server.proofs.lanes.Lanes.all_ended.Goals as goal
 
 pub returns : goal.returns
-returns g c = λ ls rest it. c.all_fine.ensures (input_of_lines ls).handed
-    (subst (λ xs. AllStand g.D.Dispatcher.serves g.D.Dispatcher.has_room xs (input_of_lines ls).handed)
-    (sym (c.deref.ensures.value ∙ ap (λ (k : Kept _). k.lanes) c.self.view_is))
+returns c = λ ls rest it. c.all_fine.ensures (input_of_lines ls).handed
+    (subst (λ xs. AllStand xs (input_of_lines ls).handed)
+    (sym (c.deref.ensures.value ∙ ap (λ (k : Kept). k.lanes) c.self.view_is))
     (all_stand c.args.self.now ls rest it))

@@ -7,17 +7,17 @@ use Rattle.lane_server.proofs.lanes.Lanes.give.Goals as goal
 pub next_out-requires : goal.next_out-requires
 next_out-requires g c =
     let it =
-    subst (λ k. StandsFor g.D.Dispatcher.serves g.D.Dispatcher.has_room k c.requires.stands.0 c.requires.stands.1)
+    subst (λ k. StandsFor k c.requires.stands.0 c.requires.stands.1)
     (sym c.self.view_is) c.requires.stands.2 in
     let given = lane_gives _ c.requires.stands.0 c.requires.stands.1 c.args.lane c.from.result c.index_mut.result.now it
-    (ap (λ (k : Kept _). k.phase) c.self.view_is ∙ c.requires.phase) c.from.ensures c.index_mut.ensures.value in
+    (ap (λ (k : Kept). k.phase) c.self.view_is ∙ c.requires.phase) c.from.ensures c.index_mut.ensures.value in
     (lane_lines (input_of_lines c.requires.stands.0).handed c.args.lane, given.0, given.1)
 
 pub returns-in-Some-clause-gives : goal.returns-in-Some-clause-gives
 returns-in-Some-clause-gives g c =
     λ ls rest it. give_some _ ls rest c.args.lane c.from.result c.index_mut.result.now c.next_out.new.self
-    (subst (λ k. StandsFor g.D.Dispatcher.serves g.D.Dispatcher.has_room k ls rest) (sym c.self.view_is) it)
-    (ap (λ (k : Kept _). k.phase) c.self.view_is ∙ c.requires.phase) c.from.ensures
+    (subst (λ k. StandsFor k ls rest) (sym c.self.view_is) it)
+    (ap (λ (k : Kept). k.phase) c.self.view_is ∙ c.requires.phase) c.from.ensures
     c.index_mut.ensures.value c.in-Some.out c.in-Some.ensures.gives
 
 pub returns-in-Some-clause-closed : goal.returns-in-Some-clause-closed
@@ -26,8 +26,8 @@ returns-in-Some-clause-closed g c = ap is_closed c.self.view_is
 pub returns-in-None-clause-gives : goal.returns-in-None-clause-gives
 returns-in-None-clause-gives g c =
     λ ls rest it. give_none _ ls rest c.args.lane c.from.result c.index_mut.result.now c.next_out.new.self
-    (subst (λ k. StandsFor g.D.Dispatcher.serves g.D.Dispatcher.has_room k ls rest) (sym c.self.view_is) it)
-    (ap (λ (k : Kept _). k.phase) c.self.view_is ∙ c.requires.phase) c.from.ensures
+    (subst (λ k. StandsFor k ls rest) (sym c.self.view_is) it)
+    (ap (λ (k : Kept). k.phase) c.self.view_is ∙ c.requires.phase) c.from.ensures
     c.index_mut.ensures.value c.in-None.ensures.gives
 
 pub returns-in-None-clause-closed : goal.returns-in-None-clause-closed

@@ -6,6 +6,6 @@ take-requires-clause-rests g c = (c.requires.stands.1, c.requires.stands.2, c.re
 
 pub returns : goal.returns
 returns g c = record {
-  takes = λ a x at on. takes g.D.Dispatcher.serves g.D.Dispatcher.has_room c.take.new.self x c.args.piece.now
+  takes = λ a x at on. takes c.take.new.self x c.args.piece.now
       c.take.result (c.take.ensures x at on);
 }

@@ -1,7 +1,6 @@
 use Rattle.std.proofs.Common.{sym, ◌∙◌, subst, refl, ap, ◌+◌}
 use Rattle.dialogue.specs.Turns.{AnswersBy}
 use Rattle.dover_port.specs.declared.status.Status.TheVariants as status
-use Rattle.snapshot.specs.Serving.{Serves, HasRoom, HasPaid}
 use Rattle.serve_word.specs.Keeping as serve
 use Rattle.serve_word.specs.Keeping.{serve_talk}
 use Rattle.snapshot.specs.Reading.{Refused}
@@ -73,7 +72,7 @@ answer-requires-in-Pause-clause-ready g c =
     c.requires.ready.2.1 in (
       past_call a x _ it,
       past_bytes a x _ it,
-      subst (λ s. serve.IsReady Serves HasRoom HasPaid (past_call a x _ it) s.feed c.args.meter.now
+      subst (λ s. serve.IsReady (past_call a x _ it) s.feed c.args.meter.now
           (past_bytes a x _ it))
           (sym (rw c.in-Serving.is at c.new.ensures)) it.holds,
       sym (past_goes a x _ it) ∙ c.requires.ready.3,
@@ -88,7 +87,7 @@ returns-in-Pause-clause-answers g c = λ a x at over.
     c.answer-in-Pause.result)
     (sym c.in-Pause.is ∙ at.0)
     (c.answer-in-Pause.ensures.answers (past_call a x _ it) (past_bytes a x _ it)
-    (subst (λ s. serve.IsReady Serves HasRoom HasPaid (past_call a x _ it) s.feed c.args.meter.now
+    (subst (λ s. serve.IsReady (past_call a x _ it) s.feed c.args.meter.now
     (past_bytes a x _ it))
     (sym (rw c.in-Serving.is at c.new.ensures)) it.holds)
     (sym (past_goes a x _ it) ∙ over)))
@@ -98,6 +97,6 @@ returns-in-Pause-clause-spent g c = λ a x at.
     let it = at_serving a c.args.self.stage c.in-Serving.serving c.args.meter.now x c.in-Serving.is at.1 in
     past_spent a x _ it _
     (c.answer-in-Pause.ensures.spent (past_call a x _ it) (past_bytes a x _ it)
-    (subst (λ s. serve.IsReady Serves HasRoom HasPaid (past_call a x _ it) s.feed c.args.meter.now
+    (subst (λ s. serve.IsReady (past_call a x _ it) s.feed c.args.meter.now
     (past_bytes a x _ it))
     (sym (rw c.in-Serving.is at c.new.ensures)) it.holds))

@@ -74,7 +74,7 @@ returns-in-Ok-default-Ready g c = record {
       front.0 front.1 refl _ _
       (c.resumed.ensures (opened_call a y opened) _ may (gives.each _ may opened.text)
       (c.take-server.ensures.count a.start _ (subst (λ r. HasSpentOn r a.start c.take.new.steps)
-      (sym c.replace-reader.ensures.value) (c.in-Ok-default-Ready.ensures.count a.start it.1))));
+      (sym c.replace-reader.ensures.value) (c.in-Ok-default-Ready.ensures.count a.start it.1))) refl);
 }
 
 pub unreachable-requires : goal.unreachable-requires

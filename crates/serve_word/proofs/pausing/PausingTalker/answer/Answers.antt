@@ -2,6 +2,7 @@ use Rattle.std.proofs.Common.{◌++◌, sym, ◌∙◌}
 use Rattle.dover_model.proofs.Tests.{never}
 use Rattle.dover_port.specs.declared.status.Status.TheVariants.{Done}
 use Rattle.snapshot.specs.Snapshot.{snapshot}
+use Rattle.serve_word.specs.Keeping.{with_roster}
 use Rattle.serve_word.proofs.Talking.{paused, unpaused_answer}
 use Rattle.serve_word.proofs.pausing.PausingTalker.answer.Goals as goal
 
@@ -10,11 +11,14 @@ returns-then-not-is_paused-clause-answers g c = λ a x at over.
     unpaused_answer a x c.args.ended
     (λ may. never (sym c.if-not-is_paused.true ∙ (c.is_paused.ensures (a.feed ++ x) at.rests).1 may))
     _ _ _ c.answer.result
-    (c.answer.ensures.answers a x at over)
+    (c.answer.ensures.answers (with_roster a) x at over)
 
 pub pause-requires : goal.pause-requires
 pause-requires g c = let x = c.requires.ready.0.feed ++ c.requires.ready.1 in
-    let rests = c.requires.ready.2.rests in (x, rests, (c.is_paused.ensures x rests).0 c.if-not-is_paused.false)
+    let rests = c.requires.ready.2.rests in record {
+      feed = (x, rests, (c.is_paused.ensures x rests).0 c.if-not-is_paused.false);
+      roster = c.requires.ready.2.roster;
+    }
 
 pub returns-in-Ok-clause-answers : goal.returns-in-Ok-clause-answers
 returns-in-Ok-clause-answers g c = λ a x at over.
@@ -45,3 +49,6 @@ pub returns-clause-spent : goal.returns-clause-spent
 returns-clause-spent g c = λ a x at.
     c.pause.ensures.paid (a.feed ++ x) a.start _ at.rests
     ((c.is_paused.ensures (a.feed ++ x) at.rests).0 c.if-not-is_paused.false) at.paid
+
+pub returns-then-not-is_paused-clause-spent : goal.returns-then-not-is_paused-clause-spent
+returns-then-not-is_paused-clause-spent g c = λ a x at. c.answer.ensures.spent (with_roster a) x at

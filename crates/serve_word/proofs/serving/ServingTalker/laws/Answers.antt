@@ -11,9 +11,7 @@ pub returns-clause-few : goal.returns-clause-few
 returns-clause-few g c = λ a t m x at goes. few a x goes
 
 pub returns-clause-parts : goal.returns-clause-parts
-returns-clause-parts g c = λ a t m x rest at. few_parts a g.D.Dispatcher.serves g.D.Dispatcher.has_room
-    g.D.Dispatcher.paid t.feed m x
-    rest at
+returns-clause-parts g c = λ a t m x rest at. few_parts a t.feed m x rest at
 
 pub returns-clause-spent : goal.returns-clause-spent
 returns-clause-spent g c = λ a t m x rest at.

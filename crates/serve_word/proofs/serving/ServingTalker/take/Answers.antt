@@ -7,8 +7,8 @@ use Rattle.serve_word.proofs.serving.ServingTalker.take.Goals as goal
 pub returns : goal.returns
 returns g c = record {
   takes = λ a x at goes.
-      taken a g.D.Dispatcher.serves g.D.Dispatcher.has_room g.D.Dispatcher.paid c.take.new.self c.args._meter.now x
-      Refuse c.args.piece.now c.take.result (c.take.ensures.takes (a.feed ++ x) at.rests goes)
-      (c.take.ensures.paid (a.feed ++ x) a.start _ at.rests at.paid)
+      taken a c.take.new.self c.args._meter.now x Refuse c.args.piece.now c.take.result
+      (c.take.ensures.takes (a.feed ++ x) at.rests goes)
+      (c.take.ensures.paid (a.feed ++ x) a.start _ at.rests at.paid) (c.take.ensures.roster a.listed at.roster)
       (c.laws.ensures.few c.args.self.now.feed.lane (lines_of (a.feed ++ x)) [] a.start _ at.rests.lane.stands at.paid);
 }

@@ -1,7 +1,4 @@
-use Rattle.std.proofs.Common.{[], ◌∷◌, ◌++◌, ◌≡◌, ◌-◌, suc, get_or, sym, ap, ◌∙◌, arith, codes, length, length-append}
-use Rattle.std.proofs.lemmas.List.{length-map}
-use Rattle.snapshot.specs.Roster.{job_at}
-use Rattle.snapshot.specs.Snapshot.{state_line}
+use Rattle.std.proofs.Common.{[], ◌∷◌, ◌++◌, sym, ap, ◌∙◌}
 use Rattle.snapshot.proofs.Pausing.{next_line, last_next}
 use Rattle.snapshot.proofs.paused.Paused.line.Goals as goal
 

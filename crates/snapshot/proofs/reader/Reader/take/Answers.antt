@@ -1,6 +1,6 @@
 use Rattle.std.proofs.Common.{ℕ, sym, subst, ap, ◌∙◌, Some}
 use Rattle.snapshot.specs.Snapshot.{Head}
-use Rattle.snapshot.specs.declared.server.RosterServer.{RosterServer}
+use Rattle.ready_server.specs.declared.roster_server.RosterServer.{RosterServer}
 use Rattle.event_feed.specs.Kept.{Kept}
 use Rattle.snapshot.specs.Kept.{IsReady}
 use Rattle.snapshot.specs.Feeds.{Gives}

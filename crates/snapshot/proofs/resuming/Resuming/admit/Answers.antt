@@ -1,7 +1,7 @@
-use Rattle.std.proofs.Common.{arith, sym, subst, ◌∙◌}
+use Rattle.std.proofs.Common.{arith, subst, ◌∙◌}
 use Rattle.dover_model.specs.declared.horizon.Horizon.TheVariants.{Mark}
 use Rattle.snapshot.specs.Reading.{stored}
-use Rattle.snapshot.specs.Serving.{Rests}
+use Rattle.ready_server.specs.Rostering.{Rests}
 use Rattle.snapshot.proofs.Settling.{may_more, served_with, release_known, on_err}
 use Rattle.snapshot.proofs.Spending.{jobs_served}
 use Rattle.snapshot.proofs.resuming.Resuming.admit.Goals as goal
@@ -16,6 +16,7 @@ returns-in_err-make_room-clause-err g c = λ h tasks it. on_err c.from_residual.
     (jobs_served c.make_room.new.self h tasks c.args.self.now.last (record {
       events = it.events;
       served = c.make_room.ensures.serves (stored h tasks) (Mark c.args.self.now.last) it.events it.served;
+      listed = c.make_room.ensures.roster ∙ it.listed;
     }))
 
 pub returns-in_err-make_room-clause-count : goal.returns-in_err-make_room-clause-count
@@ -52,7 +53,8 @@ admit-release-requires-clause-valid g c =
 pub returns-clause-served : goal.returns-clause-served
 returns-clause-served g c = λ h tasks t it may same. served_with c.admit-release.new.self h tasks t c.args.job
     c.admit-release.result same
-    (c.admit-release.ensures.gives (stored h tasks)
+    (c.admit-release.ensures.roster ∙ c.settle.ensures.roster ∙ c.make_room.ensures.roster ∙ it.listed)
+    (c.admit-release.ensures.serves (stored h tasks)
     (subst (λ m. Rests c.settle.new.server (stored h tasks) (Mark m)) c.release-self.ensures.is
     (c.settle.ensures.rests (stored h tasks) c.args.self.now.last it.events
     (c.make_room.ensures.serves (stored h tasks) (Mark c.args.self.now.last) it.events it.served) (
@@ -62,5 +64,5 @@ returns-clause-served g c = λ h tasks t it may same. served_with c.admit-releas
     may.valid)
 
 pub returns-clause-count : goal.returns-clause-count
-returns-clause-count g c = λ start paid. c.admit-release.ensures.paid start
+returns-clause-count g c = λ start paid. c.admit-release.ensures.paid start _
     (c.settle.ensures.paid start (c.make_room.ensures.paid start _ paid))

@@ -19,7 +19,7 @@ returns c =
         released = refl;
         stances = c.new-2.ensures.items;
         fed = c.begin.ensures;
-        served = record { events = []; served = c.in-Ok.ensures.serves };
+        served = record { events = []; served = c.in-Ok.ensures.serves; listed = c.in-Ok.ensures.roster };
       },
     )
 

@@ -3,8 +3,8 @@ use Rattle.dover_model.specs.declared.horizon.Horizon.TheVariants.{Mark}
 use Rattle.event_feed.specs.Kept.{StandsFor}
 use Rattle.snapshot.specs.Snapshot.{Head}
 use Rattle.snapshot.specs.Reading.{has_reached_mark, last_release, stored}
-use Rattle.snapshot.specs.Roster.{Kept, job_at}
-use Rattle.snapshot.specs.Serving.{Rests}
+use Rattle.ready_server.specs.Roster.{job_at}
+use Rattle.ready_server.specs.Rostering.{Rests}
 use Rattle.snapshot.specs.Kept.{AreAt, IsFed, CanPause, feed_lines}
 use Rattle.snapshot.proofs.Finishing.{finish_follows, reached_count, state_refused, can_pause, is_whole, resumes}
 use Rattle.snapshot.proofs.Finishing.{reached_is, last_same}
@@ -23,6 +23,9 @@ settle-requires g c =
       );
     }
 
+pub roster-requires : goal.roster-requires
+roster-requires g c = c.settle.ensures.roster ∙ c.requires.reading.1.3.served.listed
+
 pub are_at-requires : goal.are_at-requires
 are_at-requires g c =
     let ls = c.requires.reading.0 in let h = c.requires.reading.1.0 in let tasks = c.requires.reading.1.1 in
@@ -30,19 +33,16 @@ are_at-requires g c =
     ap length c.as_slice-2.ensures.value
     ∙ reached_count h tasks ls read c.args.self.now it c.args.line.now c.requires.all c.settle.new.server
     (c.settle.ensures.rests (stored h tasks) (last_release tasks) it.served.events it.served.served
-    (finish_follows h tasks ls read c.args.self.now it))
-    ∙ ap (λ (k : Kept). length k.roll.jobs) (sym c.roster.ensures)
+    (finish_follows h tasks ls read c.args.self.now it)) c.roster.result.now c.roster.ensures
 
 pub returns-then-not-are_at-clause-answers : goal.returns-then-not-are_at-clause-answers
 returns-then-not-are_at-clause-answers g c =
     λ ls it. state_refused it.0 it.1 ls it.2 c.args.self.now it.3 c.args.line.now c.requires.all c.settle.new.server
     (c.settle.ensures.rests (stored it.0 it.1) (last_release it.1) it.3.served.events it.3.served.served
-    (finish_follows it.0 it.1 ls it.2 c.args.self.now it.3))
+    (finish_follows it.0 it.1 ls it.2 c.args.self.now it.3)) c.roster.result.now c.roster.ensures
     c.count.result c.as_slice-2.result.now c.count.ensures
     c.as_slice-2.ensures.value
-    (λ at. let passes : c.are_at.result ≡ true = c.are_at.ensures.1
-    (subst (λ (k : Kept). AreAt (map (job_at k.roll c.args.self.now.head.mark) k.roll.jobs) c.as_slice-2.result.now)
-    (sym c.roster.ensures) at) in
+    (λ at. let passes : c.are_at.result ≡ true = c.are_at.ensures.1 at in
     absurd (let clash : true ≡ false = sym passes ∙ c.if-not-are_at.true in cc))
 
 pub hand_ticks-requires : goal.hand_ticks-requires
@@ -55,10 +55,8 @@ hand_ticks-requires g c =
     let can : CanPause h tasks =
     can_pause h tasks ls read c.args.self.now it c.args.line.now c.requires.all c.settle.new.server
     (c.settle.ensures.rests (stored h tasks) (last_release tasks) it.served.events it.served.served
-    (finish_follows h tasks ls read c.args.self.now it)) c.as_slice-2.result.now
-    c.as_slice-2.ensures.value
-    (subst (λ (k : Kept). AreAt (map (job_at k.roll c.args.self.now.head.mark) k.roll.jobs) c.as_slice-2.result.now)
-    c.roster.ensures (c.are_at.ensures.0 c.if-not-are_at.false)) reached in (
+    (finish_follows h tasks ls read c.args.self.now it)) c.roster.result.now c.roster.ensures c.as_slice-2.result.now
+    c.as_slice-2.ensures.value (c.are_at.ensures.0 c.if-not-are_at.false) reached in (
       tasks,
       subst (λ (x : Head). IsFed c.args.self.now.intake x tasks) (sym it.head) it.fed,
       subst (λ (x : Head). CanPause x tasks) (sym it.head) can,
@@ -73,26 +71,26 @@ returns-clause-answers g c = λ ls it.
     let rests : Rests c.settle.new.server (stored h tasks) (Mark c.args.self.now.head.mark) =
     c.settle.ensures.rests (stored h tasks) (last_release tasks) it.3.served.events it.3.served.served
     (finish_follows h tasks ls it.2 c.args.self.now it.3) in
-    let at : AreAt (map (job_at c.settle.new.server.roster.roll c.args.self.now.head.mark)
-    c.settle.new.server.roster.roll.jobs) c.as_slice-2.result.now =
-    subst (λ (k : Kept). AreAt (map (job_at k.roll c.args.self.now.head.mark) k.roll.jobs) c.as_slice-2.result.now)
-    c.roster.ensures (c.are_at.ensures.0 c.if-not-are_at.false) in
+    let k = c.roster.result.now in
+    let at : AreAt (map (job_at k.roll c.args.self.now.head.mark) k.roll.jobs) c.as_slice-2.result.now =
+    c.are_at.ensures.0 c.if-not-are_at.false in
     let can : CanPause h tasks =
     can_pause h tasks ls it.2 c.args.self.now it.3 c.args.line.now c.requires.all c.settle.new.server
-    rests c.as_slice-2.result.now
+    rests k c.roster.ensures c.as_slice-2.result.now
     c.as_slice-2.ensures.value at reached in
     let last = last_same c.args.line.now c.as_slice.result.now c.as_slice.ensures
     (sym c.ne.ensures ∙ c.if-ne.false) in (
       h,
       tasks,
       is_whole h tasks ls it.2 c.args.self.now it.3 c.args.line.now c.requires.all c.settle.new.server
-          rests c.as_slice-2.result.now
+          rests k c.roster.ensures c.as_slice-2.result.now
           c.as_slice-2.ensures.value at
           last.0 reached last.1,
       it.3.head,
       resumes h tasks ls it.2 c.args.self.now it.3 c.args.line.now c.requires.all c.settle.new.server
-          rests c.as_slice-2.result.now
-          c.as_slice-2.ensures.value at c.hand_ticks.new.intake reached
+          rests k c.roster.ensures c.as_slice-2.result.now
+          c.as_slice-2.ensures.value at c.hand_ticks.new.intake
+          (c.settle.ensures.roster ∙ it.3.served.listed) reached
           (subst (λ (x : Head). StandsFor c.hand_ticks.new.intake (feed_lines x tasks)) it.3.head
           (c.hand_ticks.ensures.stands tasks
           (subst (λ (x : Head). IsFed c.args.self.now.intake x tasks) (sym it.3.head) it.3.fed)

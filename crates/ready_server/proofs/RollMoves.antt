@@ -1,25 +1,23 @@
 -- A roll follows each change of roles.
-use Rattle.std.proofs.Common.{◌≡◌, ℕ, zero, suc, ◌+◌, ◌-◌, ◌≤◌, ◌<◌, List, [], ◌∷◌, ◌++◌, length, length-append, map}
-use Rattle.std.proofs.Common.{set, refl, sym, ap, ◌∙◌, subst, Bool, true, false, cond, arith, not, ◌&&◌, inl, inr}
+use Rattle.std.proofs.Common.{◌≡◌, ℕ, suc, ◌-◌, ◌≤◌, length}
+use Rattle.std.proofs.Common.{set, refl, sym, ap, ◌∙◌, subst, Bool, true, false, cond, arith, not, ◌&&◌}
 use Rattle.std.proofs.lemmas.Bool.{eq-eqb, ne_eqb, eqb-true, eqb-false}
 use Rattle.std.proofs.lemmas.List.{length-map}
 use Rattle.std.specs.Prelude.{Option, Some, None, ◌==◌}
-use Rattle.std.specs.List.{slice_get}
 use Rattle.dover_model.specs.declared.events.Role.{Role}
 use Rattle.dover_model.specs.declared.events.Role.TheVariants.{Coming, Fresh, Waiting, Held, Running, Done, Gone}
 use Rattle.dover_model.specs.declared.events.Task.{Task}
-use Rattle.dover_model.specs.Sound.{IsMember, Each, IsNumberedFrom, IsSound, NoneRuns}
+use Rattle.dover_model.specs.Sound.{IsMember, IsNumberedFrom, IsSound, NoneRuns}
 use Rattle.dover_model.specs.State.{State, is_held}
 use Rattle.dover_model.specs.Step.{with_role, displaced}
 use Rattle.dover_model.proofs.Members.{on_map, map_member, some_same}
 use Rattle.dover_model.proofs.Roles.{one_number, by_role}
-use Rattle.dover_model.proofs.Tests.{never}
 use Rattle.room_ledger.specs.Roles.{with_role_at, all_displaced}
-use Rattle.snapshot.specs.Roster.{Roll, Listed, had_with, stopped, is_turn, is_displaced, job_at, with_stop, halted}
-use Rattle.snapshot.specs.Roster.{started}
-use Rattle.snapshot.proofs.Rolls.{calm_role, Lists, Follows, set_here, set_there, length_set, at_clock, number_is}
-use Rattle.snapshot.proofs.Rolls.{job_is, had_ran, had_is, role_is, lists_other, lists_same, had_none, not_turn}
-use Rattle.snapshot.proofs.Rolls.{none_turn}
+use Rattle.ready_server.specs.Roster.{Roll, Listed, had_with, stopped, is_turn, is_displaced, with_stop, halted}
+use Rattle.ready_server.specs.Roster.{started}
+use Rattle.ready_server.proofs.Rolls.{calm_role, Lists, Follows, set_here, set_there, length_set, at_clock, number_is}
+use Rattle.ready_server.proofs.Rolls.{job_is, had_ran, had_is, role_is, lists_other, lists_same, had_none, not_turn}
+use Rattle.ready_server.proofs.Rolls.{none_turn}
 
 -- a held job that stopped just now isn't displaced
 fresh_held : (role : Role) (takes : ℕ) (t : Task) → t.role ≡ role

@@ -1,21 +1,16 @@
 -- A roll follows the states of a run.
-use Rattle.std.proofs.Common.{◌≡◌, ℕ, zero, suc, ◌+◌, ◌-◌, ◌≤◌, ◌<◌, List, [], ◌∷◌, ◌++◌, length, map, set, refl, sym}
-use Rattle.std.proofs.Common.{ap, ◌∙◌, subst, Bool, true, false, cond, arith, not, ◌&&◌}
-use Rattle.std.proofs.lemmas.Bool.{eq-eqb, ne_eqb, eqb-true}
-use Rattle.std.specs.Prelude.{Option, Some, None, ◌==◌}
+use Rattle.std.proofs.Common.{◌≡◌, ℕ, zero, suc, ◌-◌, ◌≤◌, List, [], ◌∷◌, ◌++◌, length, set, refl, sym}
+use Rattle.std.proofs.Common.{ap, ◌∙◌, subst, true, false, cond, arith}
+use Rattle.std.proofs.lemmas.Bool.{eq-eqb, ne_eqb}
+use Rattle.std.specs.Prelude.{Option, Some, None}
 use Rattle.std.specs.List.{slice_get}
 use Rattle.dover_model.specs.declared.events.Role.{Role}
 use Rattle.dover_model.specs.declared.events.Role.TheVariants.{Coming, Fresh, Waiting, Held, Running, Done, Gone}
 use Rattle.dover_model.specs.declared.events.Task.{Task}
-use Rattle.dover_model.specs.Sound.{IsMember, Each, IsSound, NoneRuns}
-use Rattle.dover_model.specs.State.{State, is_held}
-use Rattle.dover_model.specs.Step.{with_role, displaced}
-use Rattle.dover_model.proofs.Members.{on_map, map_member, some_same}
-use Rattle.dover_model.proofs.Roles.{one_number}
-use Rattle.dover_model.proofs.Tests.{never}
-use Rattle.room_ledger.specs.Roles.{with_role_at, all_displaced}
-use Rattle.snapshot.specs.Roster.{Roll, Listed, had_with, stopped, is_turn, is_displaced, job_at, with_stop, halted}
-use Rattle.snapshot.specs.Roster.{started}
+use Rattle.dover_model.specs.Sound.{IsMember, Each}
+use Rattle.dover_model.specs.State.{State}
+use Rattle.dover_model.specs.Step.{with_role}
+use Rattle.ready_server.specs.Roster.{Roll, Listed, had_with, is_turn, is_displaced, job_at}
 
 -- the role of a job in a roll: what is fresh there waits
 abbrev pub calm_role : Role → Role

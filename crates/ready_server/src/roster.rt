@@ -4,8 +4,8 @@ ghost use Rattle.std.specs.List.{slice_get};
 ghost use Rattle.std.specs.Option.{option_map};
 ghost use Rattle.dover_model.specs.declared.events.Event.TheVariants.{Release};
 ghost use Rattle.dover_model.specs.JobFacts.{JobFacts};
-ghost use Rattle.snapshot.specs.Roster as model;
-ghost use Rattle.snapshot.specs.Roster.{empty_roll, with_event, job_at};
+ghost use Rattle.ready_server.specs.Roster as model;
+ghost use Rattle.ready_server.specs.Roster.{empty_roll, with_event, job_at};
 
 use dover_model::{Event, Job, Memory, Role, Task};
 use ready_jobs::ShortTask;
@@ -22,7 +22,7 @@ pub struct Listed {
 
 impl Model for Listed {
     ghost use Rattle.std.specs.Prelude.{◌≤◌};
-    ghost use Rattle.snapshot.specs.Roster.{Listed};
+    ghost use Rattle.ready_server.specs.Roster.{Listed};
 
     ghost Value = { Listed };
 
@@ -92,7 +92,7 @@ pub struct Roster {
 
 impl Model for Roster {
     ghost use Rattle.std.specs.Prelude.{vec_capacity};
-    ghost use Rattle.snapshot.specs.Roster.{Kept};
+    ghost use Rattle.ready_server.specs.Roster.{Kept};
 
     ghost Value = { Kept };
 

@@ -1,39 +1,38 @@
 -- A roll follows each step of a run, and at a mark it has all jobs as they stand.
-use Rattle.std.proofs.Common.{◌≡◌, ◌⊎◌, inl, inr, ℕ, zero, suc, ◌+◌, ◌-◌, ◌≤◌, ◌<◌, List, [], ◌∷◌, ◌++◌, length}
+use Rattle.std.proofs.Common.{◌≡◌, inl, inr, ℕ, suc, ◌+◌, ◌-◌, ◌≤◌, ◌<◌, List, [], ◌∷◌, ◌++◌, length}
 use Rattle.std.proofs.Common.{length-append, map, set, refl, sym, ap, ◌∙◌, subst, Bool, true, false, cond, arith}
-use Rattle.std.proofs.lemmas.Bool.{eq-eqb, ne_eqb, eqb-true, eqb-false}
+use Rattle.std.proofs.lemmas.Bool.{ne_eqb, eqb-true, eqb-false}
 use Rattle.std.proofs.lemmas.List.{length-map}
 use Rattle.std.proofs.lemmas.Option.{slice_get_within}
 use Rattle.std.specs.Prelude.{Option, Some, None, ◌==◌}
 use Rattle.std.specs.List.{slice_get, fold, cons_option}
 use Rattle.dover_model.specs.declared.events.Event.{Event}
-use Rattle.dover_model.specs.declared.events.Event.TheVariants.{Release, Run, Preempt, Take, Complete, Abandon, End}
+use Rattle.dover_model.specs.declared.events.Event.TheVariants.{Release, Run, Preempt, Take, Complete, Abandon}
 use Rattle.dover_model.specs.declared.events.Role.{Role}
 use Rattle.dover_model.specs.declared.events.Role.TheVariants.{Coming, Fresh, Waiting, Held, Running, Done, Gone}
 use Rattle.dover_model.specs.declared.events.Task.{Task}
 use Rattle.dover_model.specs.Fraction.{Fraction}
-use Rattle.dover_model.specs.Instance.{Rules, Instance, IsValid}
+use Rattle.dover_model.specs.Instance.{Instance, IsValid}
 use Rattle.dover_model.specs.Paths.{IsOpenPath, HasPrinted}
 use Rattle.dover_model.specs.Run.{Step, event_of, printed_of}
 use Rattle.dover_model.specs.Sound.{IsMember, Each, IsNumberedFrom, IsSound, Keeps, NoneRuns}
-use Rattle.dover_model.specs.State.{State, opening, to_come, is_running, left}
+use Rattle.dover_model.specs.State.{State, opening, is_running, left}
 use Rattle.dover_model.specs.Step.{Move, Prints, Waits, Ticks, open_step, after, with_role, ticked, displaced}
 use Rattle.dover_model.proofs.Deeds.{Deed, Completed, Resumed, Started, Began, Preempted, Stayed, Arrived, Taken}
 use Rattle.dover_model.proofs.Deeds.{Abandoned, Rested}
 use Rattle.dover_model.proofs.Kept.{open_deed, open_kept, opening_keeps, come_coming}
-use Rattle.dover_model.proofs.Members.{on_map, map_member, map_map, some_same}
+use Rattle.dover_model.proofs.Members.{on_map, map_member, map_map}
 use Rattle.dover_model.proofs.Moves.{says}
-use Rattle.dover_model.proofs.Roles.{one_number, numbers_above, numbered_map, passes, is_running_role}
+use Rattle.dover_model.proofs.Roles.{one_number, numbered_map, passes, is_running_role}
 use Rattle.dover_model.proofs.Tests.{never}
-use Rattle.dover_model.proofs.Ticking.{Quiet}
 use Rattle.room_ledger.specs.Roles.{with_role_at, all_displaced}
 use Rattle.room_ledger.proofs.Changing.{displaced_same, task_at}
-use Rattle.snapshot.specs.Roster.{Roll, Listed, had_with, stopped, released, is_turn, is_displaced, job_at, with_stop}
-use Rattle.snapshot.specs.Roster.{halted, started, with_event, empty_roll, roll_of}
-use Rattle.snapshot.proofs.Rolls.{calm, calm_role, Lists, Follows, set_here, set_there, length_set, get_front, get_last}
-use Rattle.snapshot.proofs.Rolls.{at_clock, number_is, job_is, had_ran, had_is, role_is, lists_other, lists_same}
-use Rattle.snapshot.proofs.Rolls.{had_none, turn_here}
-use Rattle.snapshot.proofs.RollMoves.{no_turn, idle_turn, turn_other, halts, starts, displaces}
+use Rattle.ready_server.specs.Roster.{Roll, Listed, had_with, stopped, released, is_displaced, job_at, with_stop}
+use Rattle.ready_server.specs.Roster.{halted, started, with_event, empty_roll, roll_of}
+use Rattle.ready_server.proofs.Rolls.{calm_role, Lists, Follows, set_here, set_there, length_set, get_front, get_last}
+use Rattle.ready_server.proofs.Rolls.{at_clock, number_is, job_is, had_ran, had_is, lists_other, lists_same}
+use Rattle.ready_server.proofs.Rolls.{turn_here}
+use Rattle.ready_server.proofs.RollMoves.{no_turn, idle_turn, halts, starts, displaces}
 
 -- the roll after a step
 abbrev pub roll_after : Roll → Move → Roll

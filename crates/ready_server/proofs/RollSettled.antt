@@ -1,5 +1,5 @@
 -- A roll at a mark has all jobs as they stand, and what a server has printed can be read into it.
-use Rattle.std.proofs.Common.{◌≡◌, inl, inr, ℕ, zero, suc, ◌+◌, ◌-◌, ◌≤◌, ◌<◌, ◌^◌, List, [], ◌∷◌, ◌++◌, length}
+use Rattle.std.proofs.Common.{◌≡◌, inl, inr, ℕ, suc, ◌+◌, ◌-◌, ◌≤◌, ◌<◌, ◌^◌, List, [], ◌∷◌, ◌++◌, length}
 use Rattle.std.proofs.Common.{length-append, map, set, refl, sym, ap, ◌∙◌, subst, Option, Some, None, Bool, true, false}
 use Rattle.std.proofs.Common.{arith}
 use Rattle.std.proofs.lemmas.Bool.{ltb-true, ltb-false}
@@ -15,7 +15,7 @@ use Rattle.dover_model.specs.declared.events.Task.{Task}
 use Rattle.dover_model.specs.JobFacts.{JobFacts}
 use Rattle.dover_model.specs.Instance.{Rules, Instance, IsValid}
 use Rattle.dover_model.specs.Paths.{IsOpenPath, HasPrinted}
-use Rattle.dover_model.specs.Run.{Step, printed_of}
+use Rattle.dover_model.specs.Run.{Step}
 use Rattle.dover_model.specs.Settled.{settled, settled_state, settled_steps}
 use Rattle.dover_model.specs.WholeRun.{IsSettledRun, Begins}
 use Rattle.dover_model.specs.Sound.{IsMember, Each, IsNumberedFrom, Keeps}
@@ -29,17 +29,15 @@ use Rattle.dover_model.proofs.Settling.{settled_is_run}
 use Rattle.dover_model.proofs.Tests.{never}
 use Rattle.dover_model.specs.declared.horizon.Horizon.{Horizon}
 use Rattle.dover_model.specs.declared.horizon.Horizon.TheVariants.{Mark, End}
-use Rattle.dover_model.specs.Horizons.{MayFollow, due_by}
+use Rattle.dover_model.specs.Horizons.{due_by}
 use Rattle.dover_model.proofs.Horizons.{due_few}
 use Rattle.ready_server.specs.Serving as ready
 use Rattle.ready_server.specs.declared.server.ReadyServer.{ReadyServer}
-use Rattle.ready_server.proofs.Stepping.{serves_begins}
-use Rattle.snapshot.specs.Roster.{Roll, Listed, stopped, released, job_at, with_event, empty_roll, roll_of, with_stop}
-use Rattle.snapshot.specs.Roster.{halted}
-use Rattle.snapshot.specs.Serving.{HasRead}
-use Rattle.snapshot.proofs.Present.{none_to_come}
-use Rattle.snapshot.proofs.Rolls.{calm, calm_role, length_set, Lists, Follows}
-use Rattle.snapshot.proofs.RollRuns.{numbered_task, roll_follows}
+use Rattle.ready_server.specs.Roster.{Roll, Listed, stopped, released, job_at, with_event, empty_roll, roll_of, with_stop}
+use Rattle.ready_server.specs.Roster.{halted}
+use Rattle.ready_server.proofs.Present.{none_to_come}
+use Rattle.ready_server.proofs.Rolls.{calm, calm_role, length_set, Follows}
+use Rattle.ready_server.proofs.RollRuns.{numbered_task, roll_follows}
 
 -- ---- all jobs at a mark
 
@@ -230,18 +228,3 @@ no_release v w J m mark events n job served next =
       tasks_count J served.state served.follows.keeps,
       tasks_count J next.state next.follows.keeps,
     ))
-
--- ---- towards a horizon
-
--- what was read towards one was read towards a later one
-pub read_later : (from to : Horizon) (p : Roll) (events : List Event) → MayFollow from to → HasRead from p events
-    → HasRead to p events
-read_later (Mark m) (Mark t) p events may read = read
-read_later (Mark m) End p events may read = tt
-read_later End (Mark t) p events may read = absurd may
-read_later End End p events may read = tt
-
--- a mark comes behind a mark
-pub from_mark : (from : Horizon) (t : ℕ) → MayFollow from (Mark t) → (m : ℕ) × (from ≡ Mark m)
-from_mark (Mark m) t may = (m, refl)
-from_mark End t may = absurd may

@@ -1,4 +1,4 @@
-use Rattle.snapshot.proofs.server.RosterServerDispatcher.laws.Goals as goal
+use Rattle.ready_server.proofs.roster_server.RosterServer.laws.Goals as goal
 
 pub returns-clause-begins : goal.returns-clause-begins
 returns-clause-begins c s J to events it = c.laws.ensures.begins s.server J to events it.served
