@@ -21,7 +21,8 @@ pub record IsPast (start : ℕ) (x : List ℕ) (T : Call → List ℕ → Type 0
   pub tasks : List Task
   pub reads : reading_of (lines_of x) ≡ Taken head tasks
   pub goes : is_open (account (feed_of head tasks)) ≡ true
-  pub holds : T (record { feed = feed_of head tasks; goes_on = goes; start = start; listed = true }) (behind_snapshot head tasks x)
+  pub holds : T (record { feed = feed_of head tasks; goes_on = goes; start = start; listed = true })
+      (behind_snapshot head tasks x)
 
 -- the snapshot is still to be read on
 abbrev pub IsOpen : Asked → Opening → ℕ → List ℕ → Type 0
