@@ -75,7 +75,7 @@ unfolding shorts_from
 shorts_few handed from more = range_few handed from more
 
 -- a place of a list has an element
-element : {X : Type 0} (xs : List X) (i : ℕ) → i < length xs → (x : X) × (slice_get xs i ≡ Some x)
+pub element : {X : Type 0} (xs : List X) (i : ℕ) → i < length xs → (x : X) × (slice_get xs i ≡ Some x)
 element [] i low = absurd (omega arith)
 element (x ∷ xs) zero low = (x, refl)
 element (x ∷ xs) (suc i) low = element xs i (omega arith)

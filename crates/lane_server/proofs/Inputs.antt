@@ -104,7 +104,7 @@ due_fed handed h = due_after-append [] handed (h ∷ [])
 -- ---- more bytes
 
 -- more lines hand in more lines or none
-abbrev Grows : Input → Input → Type 0
+abbrev pub Grows : Input → Input → Type 0
 Grows a b = (more : List Handed) × (b.handed ≡ a.handed ++ more)
 
 -- a line
@@ -147,7 +147,7 @@ module _ (F G : List ℕ) where
   input_append = read_append next_line no_input too_long_same F G
 
   -- it has the lines of the text, and maybe more
-  input_grows : Grows (input F) (input (F ++ G))
+  pub input_grows : Grows (input F) (input (F ++ G))
   input_grows = let it = input_append in subst (Grows (input F)) (sym it.1) (lines_grow it.0 (input F))
 
   -- what is due only grows

@@ -26,13 +26,13 @@ use Rattle.lane_server.proofs.Handing.{lines_same, lines_other, shorts_over}
 -- ---- elements
 
 -- the element that was written
-get_same : {X : Type 0} (xs : List X) (i : ℕ) (u l : X) → slice_get (set xs i u) i ≡ Some l → u ≡ l
+pub get_same : {X : Type 0} (xs : List X) (i : ℕ) (u l : X) → slice_get (set xs i u) i ≡ Some l → u ≡ l
 get_same xs i u l there =
     let low : i < length xs = omega (arith, slice_get_within (set xs i u) i l there, length-set xs i u) in
     sym (get_or-set_same xs i u l low) ∙ get_or_from_slice_get (set xs i u) i l l there
 
 -- another one
-get_other : {X : Type 0} (xs : List X) (i j : ℕ) (u l : X) → (j ≡ i → ⊥) → slice_get (set xs i u) j ≡ Some l
+pub get_other : {X : Type 0} (xs : List X) (i j : ℕ) (u l : X) → (j ≡ i → ⊥) → slice_get (set xs i u) j ≡ Some l
     → slice_get xs j ≡ Some l
 get_other xs i j u l other there =
     let low : j < length xs = omega (arith, slice_get_within (set xs i u) j l there, length-set xs i u) in
@@ -40,7 +40,7 @@ get_other xs i j u l other there =
     (sym (get_or_from_slice_get (set xs i u) j l l there) ∙ get_or-set_other xs i j u l other)
 
 -- the element behind a list, or one of the list
-get_behind : {X : Type 0} (xs : List X) (y : X) (i : ℕ) (l : X) → slice_get (xs ++ y ∷ []) i ≡ Some l
+pub get_behind : {X : Type 0} (xs : List X) (y : X) (i : ℕ) (l : X) → slice_get (xs ++ y ∷ []) i ≡ Some l
     → (slice_get xs i ≡ Some l) ⊎ (y ≡ l)
 get_behind [] y zero l there = inr (let e : Some y ≡ Some l = there in cc)
 get_behind [] y (suc i) l there = absurd (let e : None ≡ Some l = there in cc)

@@ -13,3 +13,4 @@ pub mod Fine
 pub mod Few
 pub mod Paying
 pub mod Feeding
+pub mod Sharing

@@ -12,7 +12,7 @@ use Rattle.lane_server.specs.Lanes.{OfLane, lane_line, Handed, Input, InputStand
 use Rattle.lane_server.specs.Lanes.{HasLine, goes_on_at, goes_on, input, input_of_lines, newly_due, due_after}
 use Rattle.lane_server.specs.Lanes.{lane_count, shorts_from, refused_line, closing_lines, fault_word}
 use Rattle.lane_server.specs.Kept as keeping
-use Rattle.lane_server.specs.Kept.{Kept, StandsFor, Answers, IsReady, is_closed, GivesNext}
+use Rattle.lane_server.specs.Kept.{Kept, StandsFor, AllStand, Answers, IsReady, is_closed, GivesNext}
 use Rattle.lane_server.specs.LaneInput.{word_of, standing_of, LeavesAt, Holds, Stands, Rests, Hands, Adds}
 use Rattle.lane_server.specs.LaneInput.{GivesDue, Ends}
 use Rattle.lane_server.specs.declared.lanes.Phase.{Phase}
@@ -22,8 +22,18 @@ use Rattle.lane_server.specs.declared.refusal.Refusal.{Refusal}
 use Rattle.lane_server.specs.declared.refusal.Refusal.TheVariants.{Short, TooManyLines, BadLane}
 use Rattle.lane_server.specs.declared.lane_input.LaneInput.{LaneInput}
 use Rattle.lane_server.proofs.Few.{few_left}
+use Rattle.lane_server.proofs.Fine.{all_stand}
 use Rattle.lane_server.proofs.Inputs.{is_open, due_fed, input_fed, input_closed, few_lines}
 use Rattle.lane_server.proofs.Inputs.{short_rest, whole_counted}
+
+-- lanes that are as they were
+module _ (old new : Kept) (ls : List (List ℕ)) (stands : StandsFor old ls []) (same : new ≡ old) where
+  pub same_count : length new.lanes ≡ lane_count
+  same_count = ap (λ (k : Kept). length k.lanes) same ∙ stands.count
+
+  pub same_stand : AllStand new.lanes (input_of_lines ls).handed
+  same_stand = subst (λ (k : Kept). AllStand k.lanes (input_of_lines ls).handed) (sym same)
+      (all_stand old ls [] stands)
 
 -- the bytes with one more, behind a line that may still go on
 pub with_it : (x : List ℕ) (byte : ℕ) → goes_on (input x) ≡ true → cuts.with_byte x byte ≡ x ++ byte ∷ []
@@ -75,7 +85,7 @@ module _ (r : Option Refusal) (kept : Kept) (ls left : List (List ℕ))
             → (left ≡ []) × LeavesAt s kept ls []
         by Open over it = never (sym over)
         by Closed over it = (it.0, (refl, it.1))
-        by (Faulty line fault) over it = (it.0, (refl, it.1))
+        by (Faulty line fault) over it = (it.0, (refl, it.1, it.2, it.3))
 
 -- the input is refused one line behind those that the lanes took, with this word
 abbrev pub IsRefused : Kept → List ℕ → List ℕ → Type 0
@@ -115,13 +125,19 @@ module _ (ls : List (List ℕ)) (bytes : List ℕ) (opened : (input_of_lines ls)
 
     -- a line at fault
     pub hands_fault : (r : Refusal) (fault : InputFault) → kept.lines ≡ a.lines
+        → length kept.lanes ≡ lane_count → AllStand kept.lanes a.handed
         → standing_of kept.lines (Some r) ≡ Faulty (suc kept.lines) fault
         → b ≡ record a { lines = suc a.lines; standing = Faulty (suc a.lines) fault }
         → Hands kept ls bytes (Ok (Some r))
-    hands_fault r fault counted named is = hands_none (Some r) (ap (λ (c : Input). c.handed) is)
+    hands_fault r fault counted count stand named is = hands_none (Some r) (ap (λ (c : Input). c.handed) is)
         (ap (λ (c : Input). c.standing) is ∙ ap (λ n. Faulty (suc n) fault) (sym counted) ∙ sym named)
         (subst (λ s. LeavesAt s kept (ls ++ bytes ∷ []) []) (sym named)
-        (refl, omega (arith, counted, few_lines ls (ap goes_on_at opened))))
+        (
+          refl,
+          omega (arith, counted, few_lines ls (ap goes_on_at opened)),
+          count,
+          subst (AllStand kept.lanes) (sym (ap (λ (c : Input). c.handed) is)) stand,
+        ))
 
     -- a line of a lane
     pub hands_fed : (lane : ℕ) → keeping.IsFed lane kept ls bytes
@@ -151,6 +167,15 @@ module _ (ls : List (List ℕ)) (bytes : List ℕ) (opened : (input_of_lines ls)
 
 module _ (i : LaneInput) (x : List ℕ) where
   module _ (left : List (List ℕ)) (at : Stands i x left) where
+    -- each lane was handed its lines
+    pub lanes_handed : (length i.lanes.lanes ≡ lane_count) × AllStand i.lanes.lanes (input x).handed
+    lanes_handed = by (input x).standing at.holds.leaves where
+      by : (s : InputStanding) → LeavesAt s i.lanes (lines_of x) left
+          → (length i.lanes.lanes ≡ lane_count) × AllStand i.lanes.lanes (input x).handed
+      by Open leaves = (leaves.count, all_stand i.lanes (lines_of x) left leaves)
+      by Closed leaves = (leaves.1.count, all_stand i.lanes (lines_of x) _ leaves.1)
+      by (Faulty line fault) leaves = (leaves.2, leaves.3)
+
     -- few lines are left
     pub few_stand : length left ≤ 5_000_001
     few_stand = by (goes_on (input x)) refl where
@@ -230,6 +255,16 @@ module _ (i : LaneInput) (x : List ℕ) where
 pub ends_closed : (kept : Kept) (x : List ℕ) → Holds None kept (lines_of x) []
     → Ends (Ok kept) x
 ends_closed kept x it = (it.stands, (leaves_so None kept (lines_of x) [] it).1)
+
+-- where it came, the lanes are closing
+pub closing_lanes : (kept : Kept) (ls rest : List (List ℕ)) → StandsFor kept ls rest
+    → (input_of_lines ls).standing ≡ Closed → is_closed kept ≡ true
+closing_lanes kept ls rest it closed = by kept.phase it.left where
+  by : (p : Phase) → keeping.Leaves p kept.lanes (input_of_lines ls) rest
+      → elim p [ Ready ↦ false | Giving lane ↦ false | Closing next ↦ true ] ≡ true
+  by Ready left = absurd (let e : Open ≡ Closed = sym left.0 ∙ closed in cc)
+  by (Giving lane) left = absurd (let e : Open ≡ Closed = sym left.1 ∙ closed in cc)
+  by (Closing next) left = refl
 
 -- the line that refuses the input
 pub refuses : (r : Refusal) (kept : Kept) (x : List ℕ) → Holds (Some r) kept (lines_of x) []

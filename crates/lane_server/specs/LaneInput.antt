@@ -10,7 +10,7 @@ use Rattle.lane_server.specs.Lanes.{lane_count, Handed, InputStanding, Open, Clo
 use Rattle.lane_server.specs.Lanes.{input_of_lines, lane_lines, in_lane, due_after, shorts_from, fault_word}
 use Rattle.lane_server.specs.Lanes.{refused_line, closing_lines}
 use Rattle.lane_server.specs.Lane.{out_text, HasNumerals, NamesFault}
-use Rattle.lane_server.specs.Kept.{Kept, StandsFor, IsReady, SaysShort}
+use Rattle.lane_server.specs.Kept.{Kept, StandsFor, AllStand, IsReady, SaysShort}
 use Rattle.lane_server.specs.declared.out.LaneOut.{LaneOut}
 use Rattle.lane_server.specs.declared.refusal.Refusal.{Refusal}
 use Rattle.lane_server.specs.declared.refusal.Refusal.TheVariants.{Short, TooManyLines, BadLane}
@@ -34,13 +34,15 @@ standing_of lines (Some BadLane) = Faulty (suc lines) lanes.BadLane
 
 -- ---- what is kept
 
--- These lines are left to give, by how the input stands. Where it was closed, the short lines are besides.
+-- These lines are left to give, by how the input stands. Where it was closed, the short lines are besides. At a fault
+-- each lane was handed its lines.
 abbrev pub LeavesAt : InputStanding → Kept → List (List ℕ) → List (List ℕ)
     → Type 0
 LeavesAt Open kept ls left = StandsFor kept ls left
 LeavesAt Closed kept ls left =
     (left ≡ []) × StandsFor kept ls (shorts_from (input_of_lines ls).handed 0 lane_count)
 LeavesAt (Faulty line fault) kept ls left = (left ≡ []) × (kept.lines ≤ most_lines)
+    × (length kept.lanes ≡ lane_count) × AllStand kept.lanes (input_of_lines ls).handed
 
 -- These lines came, of which the lanes took the good ones, and these are left to give of what is due for them.
 pub record Holds (refusal : Option Refusal) (kept : Kept)

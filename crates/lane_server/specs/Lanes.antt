@@ -151,7 +151,7 @@ abbrev pub fault_word : InputFault → List ℕ
 fault_word TooManyLines = codes "lines"
 fault_word BadLane = codes "lane"
 
--- the line that refuses the input
+-- the line that refuses an input at this line, for this word
 abbrev pub refused_line : ℕ → List ℕ → List ℕ
 refused_line line word = line_of (codes "refused" ∷ decimal line ∷ word ∷ [])
 

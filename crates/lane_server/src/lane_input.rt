@@ -1,10 +1,13 @@
 //! The bytes of many feeds that come in one input.
-ghost use Rattle.std.specs.Prelude.{◌≡◌, ◌<◌, ◌∷◌, ℕ, List, [], true, length, IfOk};
+ghost use Rattle.std.specs.Prelude.{◌≡◌, ◌<◌, ◌∷◌, ℕ, List, [], true, length, IfOk, OnOk};
 ghost use Rattle.line_text.specs.Cutting.{IsWholeLine};
 ghost use Rattle.lane_server.specs.Kept as kept;
 ghost use Rattle.lane_server.specs.Lanes.{goes_on, goes_on_at, input};
 ghost use Rattle.lane_server.specs.LaneInput.{standing_of, Stands, Rests, Hands, Adds, Takes, GivesDue, Ends};
+ghost use Rattle.lane_server.specs.Spending.{HavePaid, AreFew};
+ghost use Rattle.lane_server.specs.declared.lane_input.LaneInput.{LaneInput};
 
+use crate::lane::Lane;
 use crate::lanes::{LaneFault, LaneStep, Lanes};
 use crate::out::LaneOut;
 use crate::refusal::Refusal;
@@ -33,8 +36,10 @@ pub struct LaneInput {
 /// Hands a line to the lanes, and says why the input is then refused if no more of it comes.
 fn hand(lanes: &mut Lanes, line: &[u8]) -> Result<Option<Refusal>, Memory>
     requires { (ls : List (List ℕ)) × kept.StandsFor lanes.old ls [] × kept.IsReady lanes.old }
-    ensures { (ls : List (List ℕ)) → kept.StandsFor lanes.old ls []
+    ensures hands { (ls : List (List ℕ)) → kept.StandsFor lanes.old ls []
         → Hands lanes.new ls line.now result }
+    ensures paid { (start now : ℕ) → HavePaid lanes.old.lanes start now
+        → OnOk result (HavePaid lanes.new.lanes start now) }
 {
     match lanes.line(line) {
         Ok(LaneStep::Fed(_)) => Ok(Some(Refusal::Short)),
@@ -55,9 +60,18 @@ fn is_short(refusal: Option<Refusal>) -> bool
 }
 
 impl LaneInput {
+    /// What holds of each input of lanes. It does nothing.
+    pub fn laws()
+        ensures few { (i : LaneInput) (x : List ℕ) (left : List (List ℕ)) (start now : ℕ) → Stands i x left
+            → HavePaid i.lanes.lanes start now → AreFew (input x).handed start now }
+    {
+        Lane::laws();
+    }
+
     /// No byte came yet. Err where there is no memory.
     pub fn new(alloc: Global) -> Result<LaneInput, Memory>
-        ensures { IfOk result (λ i. Rests i []) }
+        ensures rests { IfOk result (λ i. Rests i []) }
+        ensures paid { IfOk result (λ i. (start : ℕ) → HavePaid i.lanes.lanes start start) }
     {
         Ok(LaneInput {
             lines: Lines::new(),
@@ -69,8 +83,10 @@ impl LaneInput {
     /// Takes a byte, and says why the input is then refused if no more of it comes.
     fn take_byte(&mut self, byte: u8) -> Result<Option<Refusal>, Memory>
         requires { (x : List ℕ) × Rests self.old x × (goes_on (input x) ≡ true) }
-        ensures { (x : List ℕ) → Rests self.old x → goes_on (input x) ≡ true
+        ensures adds { (x : List ℕ) → Rests self.old x → goes_on (input x) ≡ true
             → Adds self.new x (byte ∷ []) result }
+        ensures paid { (start now : ℕ) → HavePaid self.old.lanes.lanes start now
+            → OnOk result (HavePaid self.new.lanes.lanes start now) }
     {
         match self.lines.push(byte) {
             Step::More => Ok(Some(Refusal::Short)),
@@ -84,8 +100,10 @@ impl LaneInput {
         requires some { 0 < length bytes.now }
         requires whole { 1 < length bytes.now → IsWholeLine self.old.lines bytes.now }
         requires rests { (x : List ℕ) × Rests self.old x × (goes_on (input x) ≡ true) }
-        ensures { (x : List ℕ) → Rests self.old x → goes_on (input x) ≡ true
+        ensures adds { (x : List ℕ) → Rests self.old x → goes_on (input x) ≡ true
             → Adds self.new x bytes.now result }
+        ensures paid { (start now : ℕ) → HavePaid self.old.lanes.lanes start now
+            → OnOk result (HavePaid self.new.lanes.lanes start now) }
     {
         if bytes.len() > 1 {
             return hand(&mut self.lanes, self.lines.pass(bytes));
@@ -102,8 +120,10 @@ impl LaneInput {
     pub fn take(&mut self, piece: &[u8]) -> Result<usize, Memory>
         requires some { 0 < length piece.now }
         requires rests { (x : List ℕ) × Rests self.old x × (goes_on (input x) ≡ true) }
-        ensures { (x : List ℕ) → Rests self.old x → goes_on (input x) ≡ true
+        ensures takes { (x : List ℕ) → Rests self.old x → goes_on (input x) ≡ true
             → Takes self.new x piece.now result }
+        ensures paid { (start now : ℕ) → HavePaid self.old.lanes.lanes start now
+            → OnOk result (HavePaid self.new.lanes.lanes start now) }
     {
         let count = self.lines.front(piece);
         match self.take_front(&piece[..count]) {
@@ -119,8 +139,10 @@ impl LaneInput {
     /// `close` adds aren't among them: the lanes give those at the end.
     pub fn next_out<L: Ledger>(&mut self, steps: &mut Steps<L>) -> Option<(u8, LaneOut)>
         requires { (x : List ℕ) × (left : List (List ℕ)) × Stands self.old x left }
-        ensures { (x : List ℕ) (left : List (List ℕ)) → Stands self.old x left
+        ensures gives { (x : List ℕ) (left : List (List ℕ)) → Stands self.old x left
             → GivesDue result self.new x left }
+        ensures paid { (start : ℕ) → HavePaid self.old.lanes.lanes start steps.old
+            → HavePaid self.new.lanes.lanes start steps.new }
     {
         if !is_short(self.refusal) {
             return None;

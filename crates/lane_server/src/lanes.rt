@@ -1,7 +1,9 @@
 //! The lanes of one input.
-ghost use Rattle.std.specs.Prelude.{◌≡◌, ◌<◌, ℕ, List, [], length, IfOk, IfSome, IsNone, Some, Ok, false};
+ghost use Rattle.std.specs.Prelude.{◌≡◌, ◌<◌, ℕ, List, [], length, IfOk, IfSome, IsNone, OnOk, Some, Ok};
+ghost use Rattle.std.specs.Prelude.{true, false};
 ghost use Rattle.lane_server.specs.Lanes.{lane_count, OfLane, Close, lane_line, Handed, input_of_lines, all_ended};
 ghost use Rattle.lane_server.specs.Kept.{AllQuiet, AllStand};
+ghost use Rattle.lane_server.specs.Spending.{HavePaid};
 ghost use Rattle.lane_server.specs.Shorts.{IsFirstShort};
 ghost use Rattle.lane_server.specs.declared.lanes.Phase.TheVariants.{Giving, Closing};
 
@@ -69,6 +71,7 @@ impl Model for Lanes {
 fn new_lanes(alloc: Global) -> Result<Vec<Lane>, Memory>
     ensures count { IfOk result (λ lanes. length lanes.items ≡ lane_count) }
     ensures quiet { IfOk result (λ lanes. AllQuiet lanes.items []) }
+    ensures paid { IfOk result (λ lanes. (start : ℕ) → HavePaid lanes.items start start) }
 {
     let mut lanes = Vec::with_capacity(alloc, usize::from(LANES))?;
     for _ in 0..LANES {
@@ -112,6 +115,7 @@ impl Lanes {
     pub fn new(alloc: Global) -> Result<Lanes, Memory>
         ensures ready { IfOk result (λ lanes. IsReady lanes) }
         ensures stands { IfOk result (λ lanes. StandsFor lanes [] []) }
+        ensures paid { IfOk result (λ lanes. (start : ℕ) → HavePaid lanes.lanes start start) }
     {
         Ok(Lanes {
             alloc,
@@ -126,9 +130,11 @@ impl Lanes {
         requires stands { (ls : List (List ℕ)) × StandsFor self.old ls [] }
         requires room { self.old.lines < 4_000_000 }
         requires lane { lane < lane_count }
-        ensures { (ls : List (List ℕ)) (bytes : List ℕ) → StandsFor self.old ls []
+        ensures answers { (ls : List (List ℕ)) (bytes : List ℕ) → StandsFor self.old ls []
             → lane_line bytes ≡ Some (OfLane lane line.now) →
             Answers result self.old self.new ls bytes }
+        ensures paid { (start now : ℕ) → HavePaid self.old.lanes start now
+            → OnOk result (HavePaid self.new.lanes start now) }
     {
         match self.lanes[usize::from(lane)].line(self.alloc, line) {
             Ok(()) => {
@@ -143,9 +149,10 @@ impl Lanes {
     fn close(&mut self) -> LaneStep
         requires ready { IsReady self.old }
         requires room { self.old.lines < 4_000_000 }
-        ensures { (ls : List (List ℕ)) (bytes : List ℕ) → StandsFor self.old ls []
+        ensures answers { (ls : List (List ℕ)) (bytes : List ℕ) → StandsFor self.old ls []
             → lane_line bytes ≡ Some Close →
             Answers (Ok result) self.old self.new ls bytes }
+        ensures lanes { self.new.lanes ≡ self.old.lanes }
     {
         self.lines += 1;
         self.phase = Phase::Closing(0);
@@ -153,12 +160,14 @@ impl Lanes {
     }
 
     /// Takes the next line of the input, without its line feed, where all lines that were due before were given: at
-    /// first, and then where `next_out` has answered None.
+    /// first, and then where `next_out` has answered None. No jobs are compared.
     pub fn line(&mut self, line: &[u8]) -> Result<LaneStep, LaneFault>
         requires ready { IsReady self.old }
         requires stands { (ls : List (List ℕ)) × StandsFor self.old ls [] }
-        ensures { (ls : List (List ℕ)) → StandsFor self.old ls []
+        ensures answers { (ls : List (List ℕ)) → StandsFor self.old ls []
             → Answers result self.old self.new ls line.now }
+        ensures paid { (start now : ℕ) → HavePaid self.old.lanes start now
+            → OnOk result (HavePaid self.new.lanes start now) }
     {
         if self.lines >= MOST_LINES {
             return Err(LaneFault::Lines);
@@ -178,6 +187,8 @@ impl Lanes {
             → GivesNext result self.new ls rest }
         ensures ready { IsNone result → is_closed self.old ≡ false → IsReady self.new }
         ensures closed { is_closed self.new ≡ is_closed self.old }
+        ensures paid { (start : ℕ) → HavePaid self.old.lanes start steps.old
+            → HavePaid self.new.lanes start steps.new }
     {
         match self.lanes[usize::from(lane)].next_out(steps) {
             Some(out) => Some((lane, out)),
@@ -196,6 +207,7 @@ impl Lanes {
             → GivesNext result self.new ls rest }
         ensures ready { IsNone result → is_closed self.old ≡ false → IsReady self.new }
         ensures closed { is_closed self.new ≡ is_closed self.old }
+        ensures lanes { self.new.lanes ≡ self.old.lanes }
     {
         match next_short(&self.lanes, from) {
             Some((lane, line)) => {
@@ -210,7 +222,7 @@ impl Lanes {
         }
     }
 
-    /// The next line due, and the lane that it is of.
+    /// The next line due, and the lane that it is of. Behind `close` no jobs are compared.
     pub fn next_out<L: Ledger>(&mut self, steps: &mut Steps<L>) -> Option<(u8, LaneOut)>
         requires stands { (ls : List (List ℕ)) × (rest : List (List ℕ))
             × StandsFor self.old ls rest }
@@ -218,6 +230,9 @@ impl Lanes {
             → GivesNext result self.new ls rest }
         ensures ready { IsNone result → is_closed self.old ≡ false → IsReady self.new }
         ensures closed { is_closed self.new ≡ is_closed self.old }
+        ensures paid { (start : ℕ) → HavePaid self.old.lanes start steps.old
+            → HavePaid self.new.lanes start steps.new }
+        ensures idle { is_closed self.old ≡ true → steps.new ≡ steps.old }
     {
         match self.phase {
             Phase::Ready => None,

@@ -1,6 +1,6 @@
 -- Lanes that are served, as a talk.
 use Rattle.std.proofs.Common.{◌≡◌, ◌<◌, ◌≤◌, ◌^◌, ◌-◌, ℕ, List, [], ◌∷◌, ◌++◌, length, refl, sym, ap, ◌∙◌, arith}
-use Rattle.std.proofs.Common.{Bool, true, false, cond, append-nil, take, Result, Ok, Err}
+use Rattle.std.proofs.Common.{Bool, true, false, cond, append-nil, take, Result, Ok, Err, OnOk}
 use Rattle.std.proofs.lemmas.List.{length-map}
 use Rattle.std.proofs.lemmas.List.Folds.{flat_map-map}
 use Rattle.dover_model.specs.declared.Memory.{Memory}
@@ -18,7 +18,8 @@ use Rattle.lane_server.specs.LaneInput.{Grows, Takes}
 use Rattle.lane_server.specs.declared.lane_input.LaneInput.{LaneInput}
 use Rattle.lane_server.proofs.Inputs.{input_stays, due_grows, line_grows_on}
 use Rattle.lanes_word.specs.Talk.{closing_status, lanes_talk}
-use Rattle.lanes_word.specs.Keeping.{parts_of, Gives}
+use Rattle.lane_server.specs.Spending.{HavePaid}
+use Rattle.lanes_word.specs.Keeping.{parts_of, IsGiving, Costs}
 
 -- ---- bytes behind the end
 
@@ -82,19 +83,19 @@ left_in kept ls = λ x parts. (left : List (List ℕ)) × (parts ≡ parts_of le
     × StandsFor kept ls left
 
 -- the talk goes on behind a front of a piece
-pub takes : (i : LaneInput) (x piece : List ℕ)
-    (result : Result ℕ Memory) → Takes i x piece result
-    → TakesBy lanes_talk (Gives i) (λ y. Unit {0}) x piece result
-takes i x piece (Ok count) it = (
+pub takes : (start : ℕ) (i : LaneInput) (steps : ℕ) (x piece : List ℕ) (result : Result ℕ Memory)
+    → Takes i x piece result → OnOk result (HavePaid i.lanes.lanes start steps) → Costs start steps (x ++ piece)
+    → TakesBy lanes_talk (IsGiving start i steps) (Costs start steps) x piece result
+takes start i steps x piece (Ok count) it paid costs = (
   it.0,
   it.1,
   (
     parts_of it.2.0,
     due_parts (input x).handed (input (x ++ take count piece)).handed it.2.0 it.2.1,
-    (it.2.0, refl, it.2.2),
+    record { gives = (it.2.0, refl, it.2.2); paid = paid },
   ),
 )
-takes i x piece (Err e) it = ((refl, it), tt)
+takes start i steps x piece (Err e) it paid costs = ((refl, it), costs)
 
 -- ---- the answer
 

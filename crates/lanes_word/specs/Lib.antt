@@ -1,3 +1,4 @@
 pub mod Talk
 pub mod Record
 pub mod Keeping
+pub mod Spending

@@ -1,12 +1,11 @@
 //! What the reading loop calls: lanes that are served.
-ghost use Rattle.std.specs.Prelude.{◌≡◌, ℕ, List, if◌then◌else◌};
+ghost use Rattle.std.specs.Prelude.{◌≡◌, ℕ, List, true, if◌then◌else◌};
 ghost use Rattle.dialogue.specs.Turns.{joined};
 ghost use Rattle.dover_port.specs.Causes.{HasCause, StopsAtFailure};
 ghost use Rattle.dover_port.specs.Moves.{PutsThrough};
-ghost use Rattle.lane_server.specs.Kept.{StandsFor};
-ghost use Rattle.lane_server.specs.LaneInput.{Rests};
+ghost use Rattle.lane_server.specs.Kept.{StandsFor, is_closed};
 ghost use Rattle.lanes_word.specs.Talk.{lanes_talk};
-ghost use Rattle.lanes_word.specs.Keeping.{parts_of, Gives};
+ghost use Rattle.lanes_word.specs.Keeping.{parts_of, IsGiving, IsReady, Costs};
 
 use crate::lines::{put_refusal, write_in_lane};
 use dialogue::{Stop, Talker};
@@ -25,16 +24,18 @@ pub(crate) struct Hosting<L: Ledger> {
     pub(crate) counts: PhantomData<L>,
 }
 
-/// Puts the lines that are left to give.
+/// Puts the lines that are left to give behind `close`.
 fn put_left<P: Port, L: Ledger>(
     port: &mut P,
     out: &mut Output,
     lanes: &mut Lanes,
     steps: &mut Steps<L>,
 ) -> Result<(), Failed>
-    requires { (ls left : List (List ℕ)) × StandsFor lanes.old ls left }
+    requires stands { (ls left : List (List ℕ)) × StandsFor lanes.old ls left }
+    requires closed { is_closed lanes.old ≡ true }
     ensures text { (ls left : List (List ℕ)) → StandsFor lanes.old ls left →
         PutsThrough (P.moves port.old) (P.moves port.new) result out.old out.new (joined (parts_of left)) }
+    ensures idle { steps.new ≡ steps.old }
     ensures cause { HasCause (P.write_faults port.old) (P.write_faults port.new) (P.read_faults port.old)
         (P.read_faults port.new) result }
     ensures stops { StopsAtFailure (P.calls port.old) (P.calls port.new) result }
@@ -67,19 +68,22 @@ fn closed_status(all_ended: bool) -> Status
 impl<L: Ledger> Talker for Hosting<L> {
     type Meter = Steps<L>;
 
-    ghost about = { Unit {0} };
+    ghost about = { ℕ };
 
-    ghost talk = { λ about. lanes_talk };
+    ghost talk = { λ start. lanes_talk };
 
-    ghost stands = { λ about h steps. Gives h.input };
+    ghost stands = { λ start h steps. IsGiving start h.input steps };
 
-    ghost ready = { λ about h steps. Rests h.input };
+    ghost ready = { λ start h steps. IsReady start h.input steps };
 
-    ghost costs = { λ about steps bytes. Unit {0} };
+    ghost costs = { λ start steps. Costs start steps };
 
-    fn laws() {}
+    fn laws() {
+        LaneInput::laws();
+    }
 
     fn take(&mut self, _meter: &mut Steps<L>, piece: &[u8]) -> Result<usize, Memory> {
+        LaneInput::laws();
         self.input.take(piece)
     }
 
@@ -104,6 +108,7 @@ impl<L: Ledger> Talker for Hosting<L> {
         out: &mut Output,
         _ended: bool,
     ) -> Result<Status, Stop> {
+        LaneInput::laws();
         match self.input.end() {
             Ok(mut lanes) => {
                 let status = closed_status(lanes.all_ended());

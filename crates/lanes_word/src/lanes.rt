@@ -3,6 +3,7 @@ ghost use Rattle.dover_port.specs.Causes.{Causes, StopsWith};
 ghost use Rattle.dover_port.specs.Moves.{Since};
 ghost use Rattle.dialogue.specs.Talk.{CanEnd};
 ghost use Rattle.lanes_word.specs.Record.{Serves};
+ghost use Rattle.lanes_word.specs.Spending.{IsFrugal};
 
 use crate::hosting::Hosting;
 use dialogue::converse;
@@ -18,6 +19,7 @@ use step_count::Steps;
 /// at the start and at lines of lanes alone.
 pub fn lanes_word<P: Port, L: Ledger>(alloc: Global, port: &mut P, steps: &mut Steps<L>) -> Status
     ensures serves { Since (P.moves port.old) (P.moves port.new) (Serves result) }
+    ensures count { Since (P.moves port.old) (P.moves port.new) (IsFrugal steps.old steps.new) }
     ensures ends { CanEnd Serves result }
     ensures causes { Causes result (P.read_faults port.old) (P.read_faults port.new) (P.write_faults port.old)
         (P.write_faults port.new) }

@@ -9,6 +9,8 @@ pub loop-init : goal.loop-init
 loop-init g c = record {
   given = λ ls left it. given_none (left_in c.args.lanes.now ls)
       _ _ [] (parts_of left) (left, refl, it);
+  closed = c.requires.closed;
+  idle = refl;
   writes = refl;
   reads = refl;
   calls = λ well. well;
@@ -16,13 +18,13 @@ loop-init g c = record {
 
 pub next_out-requires : goal.next_out-requires
 next_out-requires g c =
-    let given = c.loop.invariant.given c.requires.0 c.requires.1 c.requires.2 in
-    record { stands = (c.requires.0, given.stands.0, given.stands.2) }
+    let given = c.loop.invariant.given c.requires.stands.0 c.requires.stands.1 c.requires.stands.2 in
+    record { stands = (c.requires.stands.0, given.stands.0, given.stands.2) }
 
 pub write_in_lane-requires : goal.write_in_lane-requires
 write_in_lane-requires g c =
-    let given = c.loop.invariant.given c.requires.0 c.requires.1 c.requires.2 in
-    (c.in-Some.ensures.gives c.requires.0 given.stands.0 given.stands.2).3
+    let given = c.loop.invariant.given c.requires.stands.0 c.requires.stands.1 c.requires.stands.2 in
+    (c.in-Some.ensures.gives c.requires.stands.0 given.stands.0 given.stands.2).3
 
 pub loop-preserved : goal.loop-preserved
 loop-preserved g c = record {
@@ -33,6 +35,8 @@ loop-preserved g c = record {
       given_more _ now (λ x. now x []) _ _ _ _ [] (parts_of left) _ given c.write_in_lane.new.line
       (rw c.write_in_lane.ensures (parts_of next.0, given.stands.1 ∙ ap parts_of next.1, (next.0, refl, next.2))) _ _
       (rw c.bytes.ensures.is at c.in-Ok.ensures.text.all);
+  closed = c.next_out.ensures.closed ∙ c.loop.invariant.closed;
+  idle = c.next_out.ensures.idle c.loop.invariant.closed ∙ c.loop.invariant.idle;
   writes = c.in-Ok.ensures.cause.ok ∙ c.loop.invariant.writes;
   reads = c.in-Ok.ensures.cause.other ∙ c.loop.invariant.reads;
   calls = λ well. c.in-Ok.ensures.stops.well (c.loop.invariant.calls well);
@@ -57,11 +61,17 @@ returns-in_default-clause-text g c = λ ls left it.
 
 pub unreachable-requires : goal.unreachable-requires
 unreachable-requires g c =
-    let given = c.loop.invariant.given c.requires.0 c.requires.1 c.requires.2 in
-    let now = left_in c.loop.lanes c.requires.0 in
+    let given = c.loop.invariant.given c.requires.stands.0 c.requires.stands.1 c.requires.stands.2 in
+    let now = left_in c.loop.lanes c.requires.stands.0 in
     omega (
       arith,
-      given_few _ now (λ x. now x []) _ _ _ _ [] (parts_of c.requires.1) _ given
-          (few_parts c.requires.1 (parts_of c.requires.1) refl
-          (few_left c.args.lanes.now c.requires.0 c.requires.1 c.requires.2)),
+      given_few _ now (λ x. now x []) _ _ _ _ [] (parts_of c.requires.stands.1) _ given
+          (few_parts c.requires.stands.1 (parts_of c.requires.stands.1) refl
+          (few_left c.args.lanes.now c.requires.stands.0 c.requires.stands.1 c.requires.stands.2)),
     )
+
+pub returns-in-Err-clause-idle : goal.returns-in-Err-clause-idle
+returns-in-Err-clause-idle g c = c.next_out.ensures.idle c.loop.invariant.closed ∙ c.loop.invariant.idle
+
+pub returns-in_default-clause-idle : goal.returns-in_default-clause-idle
+returns-in_default-clause-idle g c = c.next_out.ensures.idle c.loop.invariant.closed ∙ c.loop.invariant.idle

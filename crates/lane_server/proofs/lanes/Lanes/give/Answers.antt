@@ -1,7 +1,9 @@
-use Rattle.std.proofs.Common.{subst, sym, ap, ◌∙◌}
+use Rattle.std.proofs.Common.{subst, sym, ap, ◌∙◌, arith}
 use Rattle.lane_server.specs.Lanes.{lane_lines, input_of_lines}
 use Rattle.lane_server.specs.Kept.{Kept, StandsFor, is_closed}
+use Rattle.lane_server.specs.Spending.{HavePaid}
 use Rattle.lane_server.proofs.Keeping.{lane_gives, give_some, give_none, closed_giving}
+use Rattle.lane_server.proofs.Sharing.{lane_there, giving_low, paid_step}
 use Rattle.lane_server.proofs.lanes.Lanes.give.Goals as goal
 
 pub next_out-requires : goal.next_out-requires
@@ -32,3 +34,27 @@ returns-in-None-clause-gives g c =
 
 pub returns-in-None-clause-closed : goal.returns-in-None-clause-closed
 returns-in-None-clause-closed g c = sym (closed_giving c.args.self.now c.args.lane c.requires.phase)
+
+pub returns-in-Some-clause-paid : goal.returns-in-Some-clause-paid
+returns-in-Some-clause-paid g c = λ start paid.
+    let ls = c.requires.stands.0 in
+    let rest = c.requires.stands.1 in
+    let low = giving_low c.args.self.now ls rest c.args.lane c.requires.stands.2 c.requires.phase in
+    let it = subst (λ k. StandsFor k ls rest) (sym c.self.view_is) c.requires.stands.2 in
+    paid_step _ c.from.result c.index_mut.result.now c.next_out.new.self
+    (lane_there _ c.from.result c.index_mut.result.now it.count (omega (arith, c.from.ensures, low))
+    c.index_mut.ensures.value) start (omega (arith, c.from.ensures, low)) _ _
+    (λ from has. c.in-Some.ensures.paid from has)
+    (subst (λ (k : Kept). HavePaid k.lanes start c.args.steps.now) (sym c.self.view_is) paid)
+
+pub returns-in-None-clause-paid : goal.returns-in-None-clause-paid
+returns-in-None-clause-paid g c = λ start paid.
+    let ls = c.requires.stands.0 in
+    let rest = c.requires.stands.1 in
+    let low = giving_low c.args.self.now ls rest c.args.lane c.requires.stands.2 c.requires.phase in
+    let it = subst (λ k. StandsFor k ls rest) (sym c.self.view_is) c.requires.stands.2 in
+    paid_step _ c.from.result c.index_mut.result.now c.next_out.new.self
+    (lane_there _ c.from.result c.index_mut.result.now it.count (omega (arith, c.from.ensures, low))
+    c.index_mut.ensures.value) start (omega (arith, c.from.ensures, low)) _ _
+    (λ from has. c.in-None.ensures.paid from has)
+    (subst (λ (k : Kept). HavePaid k.lanes start c.args.steps.now) (sym c.self.view_is) paid)

@@ -1,28 +1,34 @@
-use Rattle.std.proofs.Common.{◌++◌, ◌∷◌, []}
+use Rattle.std.proofs.Common.{◌++◌, ◌∷◌, [], sym, subst}
 use Rattle.dover_model.specs.Lines.{lines_of}
 use Rattle.dialogue.specs.Turns.{joined}
 use Rattle.dover_port.specs.declared.status.Status.TheVariants.{Refused}
 use Rattle.lane_server.specs.Lanes.{input, shorts_from, lane_count, refused_line}
-use Rattle.lanes_word.specs.Keeping.{parts_of}
+use Rattle.lane_server.proofs.Receiving.{closing_lanes}
+use Rattle.lanes_word.specs.Keeping.{parts_of, Costs}
 use Rattle.lanes_word.proofs.Talking.{final, closed_status, closed_text, refused_status, refused_text}
 use Rattle.lanes_word.proofs.hosting.HostingTalker.answer.Goals as goal
 
 pub end-requires : goal.end-requires
-end-requires g c = (c.requires.ready.1, c.requires.ready.2)
+end-requires g c = (c.requires.ready.1, c.requires.ready.2.rests)
 
 pub all_ended-requires : goal.all_ended-requires
 all_ended-requires g c =
     let x = c.requires.ready.1 in
-    (lines_of x, _, (c.in-Ok.ensures x c.requires.ready.2).1)
+    (lines_of x, _, (c.in-Ok.ensures x c.requires.ready.2.rests).1)
 
-pub put_left-requires : goal.put_left-requires
-put_left-requires g c =
+pub put_left-requires-clause-stands : goal.put_left-requires-clause-stands
+put_left-requires-clause-stands g c =
     let x = c.requires.ready.1 in
-    (lines_of x, _, (c.in-Ok.ensures x c.requires.ready.2).1)
+    (lines_of x, _, (c.in-Ok.ensures x c.requires.ready.2.rests).1)
+
+pub put_left-requires-clause-closed : goal.put_left-requires-clause-closed
+put_left-requires-clause-closed g c =
+    let ended = c.in-Ok.ensures c.requires.ready.1 c.requires.ready.2.rests in
+    closing_lanes _ (lines_of c.requires.ready.1) _ ended.1 ended.0
 
 pub returns-in-Ok-put_left-clause-answers : goal.returns-in-Ok-put_left-clause-answers
 returns-in-Ok-put_left-clause-answers g c = λ a x at over.
-    let ended = c.in-Ok.ensures x at in
+    let ended = c.in-Ok.ensures x at.rests in
     rw c.closed_status-status.ensures (
       final c.all_ended.result,
       (
@@ -37,7 +43,7 @@ returns-in-Ok-put_left-clause-answers g c = λ a x at over.
 
 pub returns-in-Ok-clause-answers : goal.returns-in-Ok-clause-answers
 returns-in-Ok-clause-answers g c = λ a x at over.
-    let ended = c.in-Ok.ensures x at in (
+    let ended = c.in-Ok.ensures x at.rests in (
       c.closed_status-status.result,
       joined (parts_of (shorts_from (input x).handed 0 lane_count)),
       (
@@ -50,7 +56,7 @@ returns-in-Ok-clause-answers g c = λ a x at over.
 
 pub returns-in-Ok-put_refusal-clause-answers : goal.returns-in-Ok-put_refusal-clause-answers
 returns-in-Ok-put_refusal-clause-answers g c = λ a x at over.
-    let ended = c.in-Err.ensures x at in (
+    let ended = c.in-Err.ensures x at.rests in (
       tt,
       (
         refused_line c.in-Err.refused.line c.word.result.now ++ 10 ∷ [],
@@ -64,7 +70,7 @@ returns-in-Ok-put_refusal-clause-answers g c = λ a x at over.
 
 pub returns-clause-answers : goal.returns-clause-answers
 returns-clause-answers g c = λ a x at over.
-    let ended = c.in-Err.ensures x at in (
+    let ended = c.in-Err.ensures x at.rests in (
       Refused,
       refused_line c.in-Err.refused.line c.word.result.now ++ 10 ∷ [],
       (
@@ -73,3 +79,17 @@ returns-clause-answers g c = λ a x at over.
       ),
       rw c.requires.empty at c.in-Err-put_refusal.ensures.text.part,
     )
+
+pub returns-in-Ok-put_left-clause-spent : goal.returns-in-Ok-put_left-clause-spent
+returns-in-Ok-put_left-clause-spent g c = λ a x at. subst (λ n. Costs a n x) (sym c.put_left.ensures.idle)
+    (c.laws.ensures.few c.args.self.input x _ a _ at.rests.stands at.paid)
+
+pub returns-in-Ok-clause-spent : goal.returns-in-Ok-clause-spent
+returns-in-Ok-clause-spent g c = λ a x at. subst (λ n. Costs a n x) (sym c.put_left.ensures.idle)
+    (c.laws.ensures.few c.args.self.input x _ a _ at.rests.stands at.paid)
+
+pub returns-in-Ok-put_refusal-clause-spent : goal.returns-in-Ok-put_refusal-clause-spent
+returns-in-Ok-put_refusal-clause-spent g c = λ a x at. c.laws.ensures.few c.args.self.input x _ a _ at.rests.stands at.paid
+
+pub returns-clause-spent : goal.returns-clause-spent
+returns-clause-spent g c = λ a x at. c.laws.ensures.few c.args.self.input x _ a _ at.rests.stands at.paid
