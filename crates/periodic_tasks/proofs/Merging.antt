@@ -458,10 +458,9 @@ module _ (tasks : List PeriodicTask) (until : ℕ) (old : List (Option ItemFacts
 
   -- a job is given
   pub some_given : (r : Option JobFacts) → (IsSome r ↔ IsJob (job_at (get_or tasks e.place blank_task) e.key))
-      → (done : List JobFacts) → StandsBehind (merge tasks until old) done → IsNone r → jobs_before until tasks ≡ done
+      → (done : List JobFacts) → StandsBehind (merge tasks until old) done → IsNone r → ⊥
   some_given r allowed done s none =
-      absurd (given_some (merge tasks until old) done s each e is
-      (get_or tasks e.place blank_task) refl r allowed none)
+      given_some (merge tasks until old) done s each e is (get_or tasks e.place blank_task) refl r allowed none
 
   -- the same where the place and the key were read
   module _ (p k : ℕ) (p_is : p ≡ e.place) (k_is : k ≡ e.key) where
@@ -479,8 +478,7 @@ module _ (tasks : List PeriodicTask) (until : ℕ) (old : List (Option ItemFacts
         (subst (λ j. IfSome r (λ i. i ≡ job_at (get_or tasks p blank_task) j)) k_is job_is))
 
     pub read_some : (r : Option JobFacts) → (IsSome r ↔ IsJob (job_at (get_or tasks p blank_task) k))
-        → (done : List JobFacts) → StandsBehind (merge tasks until old) done → IsNone r
-        → jobs_before until tasks ≡ done
+        → (done : List JobFacts) → StandsBehind (merge tasks until old) done → IsNone r → ⊥
     read_some r allowed = some_given r
         (subst (λ q. IsSome r ↔ IsJob (job_at (get_or tasks q blank_task) e.key)) p_is
         (subst (λ j. IsSome r ↔ IsJob (job_at (get_or tasks p blank_task) j)) k_is allowed))

@@ -1,7 +1,7 @@
 //! The jobs of tasks, one by one in order of release.
-ghost use Rattle.std.specs.Prelude.{◌≡◌, ◌≤◌, ◌<◌, ◌^◌, ◌∷◌, ◌++◌, List, [], None, length, slice_index_or, slice_set};
-ghost use Rattle.std.specs.Prelude.{IfOk, IfSome, IsNone};
-ghost use Rattle.std.specs.List.{AllByRecursion};
+ghost use Rattle.std.specs.Prelude.{◌≡◌, ◌≤◌, ◌<◌, ◌^◌, ◌+◌, ◌*◌, ◌∷◌, ◌++◌, ℕ, List, [], None, length, is_some};
+ghost use Rattle.std.specs.Prelude.{slice_index_or, slice_set, IfOk, IfSome, IsNone};
+ghost use Rattle.std.specs.List.{AllByRecursion, count_by};
 ghost use Rattle.dover_model.specs.JobFacts.{JobFacts};
 ghost use Rattle.dover_model.specs.Limits.{last_tick, most_jobs};
 ghost use Rattle.periodic_tasks.specs.Limits.{IsTask};
@@ -45,7 +45,8 @@ fn keep_release<L: Ledger>(
     requires number { number < 2 ^ 20 }
     requires ready { number < length next.old }
     requires none { slice_index_or next.old number None ≡ None }
-    ensures { next.new ≡ slice_set next.old number (kept_release until number release) }
+    ensures keeps { next.new ≡ slice_set next.old number (kept_release until number release) }
+    ensures count { (d : ℕ) → count_by is_some next.old + 1 < 2 ^ d → steps.new ≤ steps.old + d }
 {
     if release < until {
         next.insert(Item::new(release, 0, number, number), steps);
@@ -61,7 +62,8 @@ fn first_releases<L: Ledger>(
 ) -> Result<Heap, Memory>
     requires few { length tasks.now ≤ most_jobs }
     requires known { until ≤ last_tick }
-    ensures { IfOk result (λ next. StandsBehind (merge tasks.now until next) []) }
+    ensures stands { IfOk result (λ next. StandsBehind (merge tasks.now until next) []) }
+    ensures count { (d : ℕ) → length tasks.now + 1 < 2 ^ d → steps.new ≤ steps.old + d * length tasks.now }
 {
     let mut next = Heap::new(alloc);
     next.reserve(tasks.len() as u32)?;
@@ -86,6 +88,8 @@ fn take_job<L: Ledger>(
         IfSome result (λ job. StandsBehind (merge tasks.now until next.new) (done ++ job ∷ [])) }
     ensures end { (done : List JobFacts) → StandsBehind (merge tasks.now until next.old) done → IsNone result →
         jobs_before until tasks.now ≡ done }
+    ensures count { (d : ℕ) → length tasks.now + 1 < 2 ^ d → steps.new ≤ steps.old + 4 * d }
+    ensures idle { IsNone result → steps.new ≡ steps.old }
 {
     let Some(first) = next.first() else {
         return None;
@@ -105,7 +109,8 @@ fn take_job<L: Ledger>(
 }
 
 impl Unrolling {
-    ghost use Rattle.std.specs.Prelude.{◌≡◌, ◌≤◌, ◌∷◌, ◌++◌, List, [], length, IfOk, IfSome, IsNone};
+    ghost use Rattle.std.specs.Prelude.{◌≡◌, ◌≤◌, ◌<◌, ◌^◌, ◌+◌, ◌*◌, ◌∷◌, ◌++◌, ℕ, List, [], length};
+    ghost use Rattle.std.specs.Prelude.{IfOk, IfSome, IsNone};
     ghost use Rattle.std.specs.List.{AllByRecursion};
     ghost use Rattle.dover_model.specs.JobFacts.{JobFacts};
     ghost use Rattle.dover_model.specs.Limits.{last_tick, most_jobs};
@@ -113,7 +118,7 @@ impl Unrolling {
     ghost use Rattle.periodic_tasks.specs.Merging.{StandsBehind};
     ghost use Rattle.periodic_tasks.specs.Tasks.{jobs_before};
 
-    /// No job was given yet.
+    /// No job was given yet. Of the t tasks each costs at most d comparisons, where t + 1 has at most d binary digits.
     pub fn new<L: Ledger>(
         alloc: Global,
         tasks: Vec<PeriodicTask>,
@@ -125,12 +130,13 @@ impl Unrolling {
         ensures stands { IfOk result (λ u. StandsBehind u []) }
         ensures tasks { IfOk result (λ u. u.tasks ≡ tasks.items) }
         ensures until { IfOk result (λ u. u.until ≡ until) }
+        ensures count { (d : ℕ) → length tasks.items + 1 < 2 ^ d → steps.new ≤ steps.old + d * length tasks.items }
     {
         let next = first_releases(alloc, &tasks, until, steps)?;
         Ok(Unrolling { tasks, until, next })
     }
 
-    /// The next job, if there is one.
+    /// The next job, if there is one. It costs at most 4 * d comparisons, and that there is none costs none.
     pub fn next_job<L: Ledger>(&mut self, steps: &mut Steps<L>) -> Option<Job>
         requires stands { (done : List JobFacts) × StandsBehind self.old done }
         requires each { AllByRecursion (IsTask self.old.until) self.old.tasks }
@@ -140,6 +146,8 @@ impl Unrolling {
             → jobs_before self.old.until self.old.tasks ≡ done }
         ensures tasks { self.new.tasks ≡ self.old.tasks }
         ensures until { self.new.until ≡ self.old.until }
+        ensures count { (d : ℕ) → length self.old.tasks + 1 < 2 ^ d → steps.new ≤ steps.old + 4 * d }
+        ensures idle { IsNone result → steps.new ≡ steps.old }
     {
         take_job(&mut self.next, &self.tasks, self.until, steps)
     }

@@ -10,15 +10,21 @@ use Rattle.task_reading.specs.Keeping.{IsKnown, StandsFor}
 use Rattle.task_reading.specs.declared.reader.TaskReader.{TaskReader}
 use Rattle.unroll_word.specs.Talk.{Says}
 
--- the reader stands for the bytes, and their tasks release jobs before this tick
-pub record Stands (until kept : ℕ) (reader : TaskReader) (bytes : List ℕ) : Type 0 where
-  pub asks : kept ≡ until
-  pub known : IsKnown until
-  pub reads : StandsFor until reader bytes
+-- what a call is about: the tick before which jobs are asked for, and how many comparisons were counted before it
+pub record Asked : Type 0 where
+  pub until : ℕ
+  pub before : ℕ
+
+-- the reader stands for the bytes, their tasks release jobs before this tick, and none was counted since
+pub record Stands (asked : Asked) (kept : ℕ) (reader : TaskReader) (count : ℕ) (bytes : List ℕ) : Type 0 where
+  pub asks : kept ≡ asked.until
+  pub known : IsKnown asked.until
+  pub reads : StandsFor asked.until reader bytes
+  pub counts : count ≡ asked.before
 
 -- and nothing is left to give
-abbrev pub IsAt : (until kept : ℕ) → TaskReader → List ℕ → List (List ℕ) → Type 0
-IsAt until kept reader bytes rest = Stands until kept reader bytes × (rest ≡ [])
+abbrev pub IsAt : Asked → (kept : ℕ) → TaskReader → (count : ℕ) → List ℕ → List (List ℕ) → Type 0
+IsAt asked kept reader count bytes rest = Stands asked kept reader count bytes × (rest ≡ [])
 
 -- what is to be said of these tasks was put, or a front of it that isn't all, or there was no memory for it
 abbrev pub SaysBy : (until : ℕ) → Rules → List PeriodicTask → (old new : Option (List Move)) → (after : List ℕ)

@@ -1,4 +1,5 @@
 pub mod Feeds
 pub mod Texts
 pub mod Talk
+pub mod Spending
 pub mod Keeping

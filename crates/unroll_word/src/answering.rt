@@ -6,6 +6,7 @@ ghost use Rattle.periodic_tasks.specs.Limits.{AreTasks};
 ghost use Rattle.task_reading.specs.Keeping.{IsKnown};
 ghost use Rattle.task_reading.specs.Record.{listed_rules};
 ghost use Rattle.unroll_word.specs.Keeping.{SaysBy};
+ghost use Rattle.unroll_word.specs.Spending.{UnrollsAtMost};
 
 use crate::feeds::put_feed;
 use dialogue::Stop;
@@ -31,6 +32,7 @@ pub(crate) fn answer<P: Port, L: Ledger>(
     requires are { AreTasks until (listed_rules listed).ratio listed.tasks.items }
     ensures says { SaysBy until (listed_rules listed) listed.tasks.items
         (P.moves port.old) (P.moves port.new) out.new result }
+    ensures count { UnrollsAtMost until listed.tasks.items steps.old steps.new }
     ensures cause { StopCause result
         (P.write_faults port.old) (P.write_faults port.new) (P.read_faults port.old) (P.read_faults port.new) }
     ensures stops { StopsOn result (P.calls port.old) (P.calls port.new) }

@@ -1,7 +1,7 @@
 //! What the reading loop calls: a reader of the tasks, whose jobs are asked for at the end.
-ghost use Rattle.std.specs.Prelude.{ℕ};
 ghost use Rattle.unroll_word.specs.Talk.{unroll_talk};
-ghost use Rattle.unroll_word.specs.Keeping.{Stands, IsAt};
+ghost use Rattle.unroll_word.specs.Keeping.{Asked, Stands, IsAt};
+ghost use Rattle.unroll_word.specs.Spending.{Costs};
 
 use crate::answering::answer;
 use dialogue::{Stop, Talker};
@@ -28,15 +28,15 @@ pub(crate) struct AskingTasks<L: Ledger> {
 impl<L: Ledger> Talker for AskingTasks<L> {
     type Meter = Steps<L>;
 
-    ghost about = { ℕ };
+    ghost about = { Asked };
 
-    ghost talk = { λ until. unroll_talk until };
+    ghost talk = { λ asked. unroll_talk asked.until };
 
-    ghost stands = { λ until a steps. IsAt until a.until a.reader };
+    ghost stands = { λ asked a steps. IsAt asked a.until a.reader steps };
 
-    ghost ready = { λ until a steps. Stands until a.until a.reader };
+    ghost ready = { λ asked a steps. Stands asked a.until a.reader steps };
 
-    ghost costs = { λ until steps bytes. Unit {0} };
+    ghost costs = { λ asked steps. Costs asked.until asked.before steps };
 
     fn laws() {}
 

@@ -1,5 +1,5 @@
 //! The lines of a feed of jobs, on their way out.
-ghost use Rattle.std.specs.Prelude.{◌≡◌, ◌≤◌, ◌++◌, ◌∷◌, [], List, length, map};
+ghost use Rattle.std.specs.Prelude.{◌≡◌, ◌≤◌, ◌<◌, ◌^◌, ◌+◌, ◌*◌, ◌++◌, ◌∷◌, [], ℕ, List, length, map};
 ghost use Rattle.std.specs.List.{AllByRecursion};
 ghost use Rattle.dover_model.specs.Instance.{Instance, IsValid};
 ghost use Rattle.dover_model.specs.Limits.{most_jobs};
@@ -71,6 +71,8 @@ fn put_jobs<P: Port, L: Ledger>(
     requires few { length (jobs_before unrolling.old.until unrolling.old.tasks) ≤ most_jobs }
     ensures text { PutsThrough (P.moves port.old) (P.moves port.new) result out.old out.new
         (in_lines (map job_text (jobs_before unrolling.old.until unrolling.old.tasks))) }
+    ensures count { (d : ℕ) → length unrolling.old.tasks + 1 < 2 ^ d →
+        steps.new ≤ steps.old + 4 * d * length (jobs_before unrolling.old.until unrolling.old.tasks) }
     ensures cause { HasCause (P.write_faults port.old) (P.write_faults port.new) (P.read_faults port.old)
         (P.read_faults port.new) result }
     ensures stops { StopsAtFailure (P.calls port.old) (P.calls port.new) result }
@@ -102,6 +104,8 @@ pub(crate) fn put_feed<P: Port, L: Ledger>(
     requires few { length (jobs_before unrolling.old.until unrolling.old.tasks) ≤ most_jobs }
     ensures text { PutsThrough (P.moves port.old) (P.moves port.new) result out.old out.new
         (feed_of (unrolled unrolling.old.until (rules_with rules.0 rules.1) unrolling.old.tasks)) }
+    ensures count { (d : ℕ) → length unrolling.old.tasks + 1 < 2 ^ d →
+        steps.new ≤ steps.old + 4 * d * length (jobs_before unrolling.old.until unrolling.old.tasks) }
     ensures cause { HasCause (P.write_faults port.old) (P.write_faults port.new) (P.read_faults port.old)
         (P.read_faults port.new) result }
     ensures stops { StopsAtFailure (P.calls port.old) (P.calls port.new) result }

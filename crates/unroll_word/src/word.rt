@@ -3,6 +3,7 @@ ghost use Rattle.dover_port.specs.Causes.{Causes, StopsWith};
 ghost use Rattle.dover_port.specs.Moves.{Since};
 ghost use Rattle.dialogue.specs.Talk.{Talks, CanEnd};
 ghost use Rattle.task_reading.specs.Keeping.{IsKnown};
+ghost use Rattle.unroll_word.specs.Spending.{IsFrugal};
 ghost use Rattle.unroll_word.specs.Talk.{unroll_talk};
 
 use crate::asking::AskingTasks;
@@ -26,6 +27,7 @@ pub fn unroll_word<P: Port, L: Ledger>(
 ) -> Status
     requires { IsKnown until }
     ensures talks { Since (P.moves port.old) (P.moves port.new) (Talks (unroll_talk until) result) }
+    ensures count { Since (P.moves port.old) (P.moves port.new) (IsFrugal until steps.old steps.new) }
     ensures ends { CanEnd (Talks (unroll_talk until)) result }
     ensures causes { Causes result (P.read_faults port.old) (P.read_faults port.new) (P.write_faults port.old)
         (P.write_faults port.new) }

@@ -1,4 +1,4 @@
-use Rattle.std.proofs.Common.{◌≡◌, ◌≤◌, ◌<◌, ◌+◌, ℕ, length, get_or, None}
+use Rattle.std.proofs.Common.{◌≡◌, ◌≤◌, ◌<◌, ◌+◌, ◌*◌, ◌^◌, ℕ, length, get_or, None}
 use Rattle.periodic_tasks.specs.Merging.{IsNext, blank_task}
 use Rattle.periodic_tasks.proofs.unrolling.first_releases.Given as goal
 
@@ -9,4 +9,5 @@ invariant-loop-task g l = record {
   size : length l.next ≡ length l.tasks;
   kept : (n : ℕ) → n < l.task-index → IsNext l.until n (get_or l.tasks n blank_task) 0 (get_or l.next n None);
   rest : (n : ℕ) → l.task-index ≤ n → get_or l.next n None ≡ None;
+  count : (d : ℕ) → length l.tasks + 1 < 2 ^ d → l.steps ≤ l.initial.steps + d * l.task-index;
 }

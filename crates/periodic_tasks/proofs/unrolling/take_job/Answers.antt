@@ -1,4 +1,5 @@
-use Rattle.std.proofs.Common.{◌∙◌, ap, None, set, arith}
+use Rattle.std.proofs.Common.{◌∙◌, ap, None, set, length, length-set, is_some, arith}
+use Rattle.std.proofs.lemmas.List.Sums.{count_by-le-length}
 use Rattle.periodic_tasks.specs.Merging.{merge}
 use Rattle.periodic_tasks.proofs.Merging.{none_given, given_within, room_given, read_next, read_some}
 use Rattle.periodic_tasks.proofs.unrolling.take_job.Goals as goal
@@ -29,10 +30,29 @@ returns-clause-next g c =
     read_next c.args.tasks.now c.args.until c.args.next.now c.requires.each c.in-Some.first c.in-Some.ensures
     c.place-number.result c.key-release.result c.place-number.ensures.is c.key-release.ensures
     c.remove.new.self c.keep_release.new.next c.saturating_add.result c.ranges.until.fits
-    c.saturating_add.ensures c.remove.ensures.out c.keep_release.ensures c.new.result c.new.ensures.facts
+    c.saturating_add.ensures c.remove.ensures.out c.keep_release.ensures.keeps c.new.result c.new.ensures.facts
 
 pub returns-clause-end : goal.returns-clause-end
-returns-clause-end g c =
-    read_some c.args.tasks.now c.args.until c.args.next.now c.requires.each c.in-Some.first c.in-Some.ensures
+returns-clause-end g c = λ done stands none. absurd
+    (read_some c.args.tasks.now c.args.until c.args.next.now c.requires.each c.in-Some.first c.in-Some.ensures
     c.place-number.result c.key-release.result c.place-number.ensures.is c.key-release.ensures
-    c.new.result c.new.ensures.allowed
+    c.new.result c.new.ensures.allowed done stands none)
+
+pub returns-clause-idle : goal.returns-clause-idle
+returns-clause-idle g c = λ none. absurd
+    (read_some c.args.tasks.now c.args.until c.args.next.now c.requires.each c.in-Some.first c.in-Some.ensures
+    c.place-number.result c.key-release.result c.place-number.ensures.is c.key-release.ensures
+    c.new.result c.new.ensures.allowed c.requires.stands.0 c.requires.stands.1 none)
+
+pub returns-clause-count : goal.returns-clause-count
+returns-clause-count g c = λ d enough.
+    let old = c.args.next.now in
+    let size = c.requires.stands.1.size in
+    let before = count_by-le-length is_some old in
+    let behind = count_by-le-length is_some c.remove.new.self in
+    let same = ap length c.remove.ensures.out ∙ length-set old c.place-number.result None in
+    omega (
+      arith,
+      c.remove.ensures.count d (omega (arith, enough, size, before)),
+      c.keep_release.ensures.count d (omega (arith, enough, size, behind, same)),
+    )

@@ -1,10 +1,11 @@
-use Rattle.std.proofs.Common.{refl}
+use Rattle.std.proofs.Common.{refl, arith}
 use Rattle.dover_port.specs.declared.status.Status.TheVariants.{Done, Refused}
 use Rattle.periodic_tasks.specs.Tasks.{unrolled}
 use Rattle.task_reading.specs.Record.{listed_rules}
 use Rattle.unroll_word.specs.Feeds.{feed_of}
 use Rattle.dialogue.specs.Sizes.{size_text}
 use Rattle.unroll_word.proofs.Ending.{says_feed, passed, not_passed}
+use Rattle.unroll_word.proofs.Spending.{unroll_costs}
 use Rattle.unroll_word.proofs.answering.answer.Goals as goal
 
 pub returns-in-Ok-clause-says : goal.returns-in-Ok-clause-says
@@ -40,3 +41,13 @@ returns-clause-says g c = (
       c.in-Ok-new.unrolling.until c.in-Ok-new.unrolling.tasks c.in-Ok-new.ensures.until c.in-Ok-new.ensures.tasks,
   rw c.requires.empty at c.in-Err-put_feed.ensures.text.part,
 )
+
+pub returns-in-Ok-put_feed-clause-count : goal.returns-in-Ok-put_feed-clause-count
+returns-in-Ok-put_feed-clause-count g c = unroll_costs c.args.until c.args.listed.tasks.items
+    c.in-Ok-new.unrolling.until c.in-Ok-new.unrolling.tasks c.in-Ok-new.ensures.until c.in-Ok-new.ensures.tasks _ _ _
+    c.new.ensures.count c.put_feed.ensures.count
+
+pub returns-clause-count : goal.returns-clause-count
+returns-clause-count g c = unroll_costs c.args.until c.args.listed.tasks.items
+    c.in-Ok-new.unrolling.until c.in-Ok-new.unrolling.tasks c.in-Ok-new.ensures.until c.in-Ok-new.ensures.tasks _ _ _
+    c.new.ensures.count c.put_feed.ensures.count

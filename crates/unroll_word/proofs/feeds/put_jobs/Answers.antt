@@ -1,5 +1,6 @@
-use Rattle.std.proofs.Common.{refl, ◌∙◌, arith}
+use Rattle.std.proofs.Common.{refl, ap, ◌∙◌, ◌∷◌, ◌++◌, [], ◌+◌, length, length-append, arith}
 use Rattle.unroll_word.proofs.Putting.{put_all, put_few, put_more, put_cut, same_jobs}
+use Rattle.unroll_word.proofs.Spending.{came_few, all_cost}
 use Rattle.unroll_word.proofs.feeds.put_jobs.Goals as goal
 
 pub returns-in_default-clause-text : goal.returns-in_default-clause-text
@@ -14,6 +15,11 @@ pub loop-count-preserved : goal.loop-count-preserved
 loop-count-preserved g c = let kept = c.loop-count.invariant in record {
   put = put_more c.loop-count.unrolling c.next_job.new.self _ _ _ _ _ _ c.loop-count.count kept.put c.in-Some.job
       (c.in-Some.ensures.next kept.put.done kept.put.stands) _ refl c.in-Ok.ensures.text.all;
+  spent = λ d enough. omega (
+    arith,
+    kept.spent d enough,
+    c.next_job.ensures.count d (omega (arith, enough, ap length kept.tasks)),
+  );
   tasks = c.next_job.ensures.tasks ∙ kept.tasks;
   until = c.next_job.ensures.until ∙ kept.until;
   writes = c.in-Ok.ensures.cause.ok ∙ kept.writes;
@@ -40,3 +46,34 @@ unreachable-requires g c = let kept = c.loop-count.invariant in
       put_few c.loop-count.unrolling _ _ _ _ c.loop-count.count kept.put _
           (same_jobs c.loop-count.unrolling c.args.unrolling.now kept.tasks kept.until) c.requires.few,
     )
+
+-- no job is left
+pub returns-in_default-clause-count : goal.returns-in_default-clause-count
+returns-in_default-clause-count g c = λ d enough. let kept = c.loop-count.invariant in
+    all_cost d _ _ c.loop-count.count _
+    (omega (
+      arith,
+      kept.put.count_is,
+      came_few c.loop-count.unrolling kept.put.done kept.put.stands _
+          (same_jobs c.loop-count.unrolling c.args.unrolling.now kept.tasks kept.until),
+    ))
+    (omega (arith, kept.spent d enough, c.in_default.ensures.idle refl))
+
+-- the line of a job is cut short
+pub returns-in-Err-clause-count : goal.returns-in-Err-clause-count
+returns-in-Err-clause-count g c = λ d enough. let kept = c.loop-count.invariant in
+    all_cost d _ _ (c.loop-count.count + 1) _
+    (omega (
+      arith,
+      kept.put.count_is,
+      length-append kept.put.done (c.in-Some.job ∷ []),
+      came_few c.next_job.new.self (kept.put.done ++ c.in-Some.job ∷ [])
+          (c.in-Some.ensures.next kept.put.done kept.put.stands) _
+          (same_jobs c.next_job.new.self c.args.unrolling.now (c.next_job.ensures.tasks ∙ kept.tasks)
+          (c.next_job.ensures.until ∙ kept.until)),
+    ))
+    (omega (
+      arith,
+      kept.spent d enough,
+      c.next_job.ensures.count d (omega (arith, enough, ap length kept.tasks)),
+    ))
