@@ -131,8 +131,7 @@ module _ (ls : List (List ℕ)) (bytes : List ℕ) (opened : (input_of_lines ls)
         → Hands kept ls bytes (Ok (Some r))
     hands_fault r fault counted count stand named is = hands_none (Some r) (ap (λ (c : Input). c.handed) is)
         (ap (λ (c : Input). c.standing) is ∙ ap (λ n. Faulty (suc n) fault) (sym counted) ∙ sym named)
-        (subst (λ s. LeavesAt s kept (ls ++ bytes ∷ []) []) (sym named)
-        (
+        (subst (λ s. LeavesAt s kept (ls ++ bytes ∷ []) []) (sym named) (
           refl,
           omega (arith, counted, few_lines ls (ap goes_on_at opened)),
           count,

@@ -1,6 +1,6 @@
 -- The comparisons of many lanes, by those of each.
-use Rattle.std.proofs.Common.{◌≡◌, ◌≤◌, ◌<◌, ◌+◌, ◌-◌, ◌*◌, ◌^◌, ◌⊎◌, inl, inr, ℕ, zero, suc, List, [], ◌∷◌, ◌++◌, length}
-use Rattle.std.proofs.Common.{refl, sym, ap, ◌∙◌, subst, arith, Option, Some, None, Bool, cond, ◌==◌, get_or, map}
+use Rattle.std.proofs.Common.{◌≡◌, ◌≤◌, ◌<◌, ◌+◌, ◌-◌, ◌⊎◌, inl, inr, ℕ, zero, suc, List, [], ◌∷◌, ◌++◌}
+use Rattle.std.proofs.Common.{length, refl, sym, ap, ◌∙◌, subst, arith, Option, Some, None, cond, ◌==◌, get_or, map}
 use Rattle.std.proofs.Math.ListN.{set}
 use Rattle.std.specs.List.{slice_get, sum_by, range_with_len, filter}
 use Rattle.std.proofs.lemmas.Bool.{cases_eq, cases_lt, ne_eqb, eq-eqb}
@@ -32,7 +32,8 @@ use Rattle.ready_server.specs.declared.roster_server.RosterServer.{RosterServer}
 
 module _ (f g : ℕ → ℕ) (i : ℕ) (same : (j : ℕ) → (j ≡ i → ⊥) → f j ≡ g j) where
   -- numbers that differ at one lane alone have the same sum behind it
-  same_behind : (from count : ℕ) → i < from → sum_by f (range_with_len from count) ≡ sum_by g (range_with_len from count)
+  same_behind : (from count : ℕ) → i < from
+      → sum_by f (range_with_len from count) ≡ sum_by g (range_with_len from count)
   same_behind from zero low = refl
   same_behind from (suc count) low = omega (
     arith,
@@ -151,43 +152,44 @@ module _ (lanes : List Lane) (at : ℕ) (l u : Lane) (there : slice_get lanes at
 
   module _ (low : at < lane_count) (before now : ℕ)
       (goes : (from : ℕ) → HasPaid l.server from before → HasPaid u.server from now) (it : HavePaid lanes start before)
-      where
-    -- from where its comparisons count
-    abbrev from : ℕ
-    from = before - it.own at
+    where
+      -- from where its comparisons count
+      abbrev from : ℕ
+      from = before - it.own at
 
-    -- the numbers of all lanes behind a step of one
-    abbrev own_then : ℕ → ℕ
-    own_then i = cond (i == at) (now - from) (it.own i)
+      -- the numbers of all lanes behind a step of one
+      abbrev own_then : ℕ → ℕ
+      own_then i = cond (i == at) (now - from) (it.own i)
 
-    own_others : (i : ℕ) → (i ≡ at → ⊥) → it.own i ≡ own_then i
-    own_others i other = sym (ap (λ b. cond b (now - from) (it.own i)) (ne_eqb i at other))
+      own_others : (i : ℕ) → (i ≡ at → ⊥) → it.own i ≡ own_then i
+      own_others i other = sym (ap (λ b. cond b (now - from) (it.own i)) (ne_eqb i at other))
 
-    own_one : own_then at ≡ now - from
-    own_one = ap (λ b. cond b (now - from) (it.own at)) (eq-eqb at at refl)
+      own_one : own_then at ≡ now - from
+      own_one = ap (λ b. cond b (now - from) (it.own at)) (eq-eqb at at refl)
 
-    -- a lane that has paid for its step
-    pub paid_step : HavePaid (set lanes at u) start now
-    paid_step = record {
-      own = own_then;
-      paid = λ i x here. by_place i x here (cases_eq i at);
-      all = let parts = all_differ it.own own_then at own_others low in
-          by_numbers (it.own at) (own_then at) parts.0 (omega (arith, it.all, parts.1)) own_one (omega (arith, parts.2));
-    } where
-      by_place : (i : ℕ) (x : Lane) → slice_get (set lanes at u) i ≡ Some x → (i ≡ at) ⊎ (i ≡ at → ⊥)
-          → HasPaid x.server 0 (own_then i)
-      by_place i x here (inl e) = subst (λ j. HasPaid x.server 0 (own_then j)) (sym e)
-          (subst (λ n. HasPaid x.server 0 n) (sym own_one)
-          (subst (λ (y : Lane). HasPaid y.server 0 (now - from))
-          (get_same lanes at u x (subst (λ j. slice_get (set lanes at u) j ≡ Some x) e here))
-          (paid_since u.server from now
-          (goes from (paid_to l.server (it.own at) before (it.paid at l there))))))
-      by_place i x here (inr other) = subst (λ n. HasPaid x.server 0 n) (own_others i other)
-          (it.paid i x (get_other lanes at i u x other here))
+      -- a lane that has paid for its step
+      pub paid_step : HavePaid (set lanes at u) start now
+      paid_step = record {
+        own = own_then;
+        paid = λ i x here. by_place i x here (cases_eq i at);
+        all = let parts = all_differ it.own own_then at own_others low in
+            by_numbers (it.own at) (own_then at) parts.0 (omega (arith, it.all, parts.1)) own_one
+            (omega (arith, parts.2));
+      } where
+        by_place : (i : ℕ) (x : Lane) → slice_get (set lanes at u) i ≡ Some x → (i ≡ at) ⊎ (i ≡ at → ⊥)
+            → HasPaid x.server 0 (own_then i)
+        by_place i x here (inl e) = subst (λ j. HasPaid x.server 0 (own_then j)) (sym e)
+            (subst (λ n. HasPaid x.server 0 n) (sym own_one)
+            (subst (λ (y : Lane). HasPaid y.server 0 (now - from))
+            (get_same lanes at u x (subst (λ j. slice_get (set lanes at u) j ≡ Some x) e here))
+            (paid_since u.server from now
+            (goes from (paid_to l.server (it.own at) before (it.paid at l there))))))
+        by_place i x here (inr other) = subst (λ n. HasPaid x.server 0 n) (own_others i other)
+            (it.paid i x (get_other lanes at i u x other here))
 
-      by_numbers : (was is rest : ℕ) → before ≤ start + (rest + was) → is ≡ now - (before - was)
-          → over_lanes own_then ≡ rest + is → now ≤ start + over_lanes own_then
-      by_numbers was is rest spent is_now all = omega (arith, spent, is_now, all)
+        by_numbers : (was is rest : ℕ) → before ≤ start + (rest + was) → is ≡ now - (before - was)
+            → over_lanes own_then ≡ rest + is → now ≤ start + over_lanes own_then
+        by_numbers was is rest spent is_now all = omega (arith, spent, is_now, all)
 
 -- ---- few for the jobs
 

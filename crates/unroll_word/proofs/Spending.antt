@@ -72,6 +72,10 @@ pub unroll_costs : (until : ℕ) (tasks : List PeriodicTask) (u : ℕ) (ts : Lis
     → ((d : ℕ) → length ts + 1 < 2 ^ d → after ≤ mid + 4 * d * length (jobs_before u ts))
     → UnrollsAtMost until tasks before after
 unroll_costs until tasks u ts u_is ts_are before mid after first rest = λ d enough.
-    omega (arith, first d enough, (subst (λ n. after ≤ mid + 4 * d * length (jobs_before n tasks)) u_is
-    (subst (λ xs. after ≤ mid + 4 * d * length (jobs_before u xs)) ts_are
-    (rest d (omega (arith, enough, ap length ts_are))))))
+    omega (
+      arith,
+      first d enough,
+      (subst (λ n. after ≤ mid + 4 * d * length (jobs_before n tasks)) u_is
+          (subst (λ xs. after ≤ mid + 4 * d * length (jobs_before u xs)) ts_are
+          (rest d (omega (arith, enough, ap length ts_are))))),
+    )

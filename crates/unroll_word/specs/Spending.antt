@@ -4,7 +4,7 @@ use Rattle.dover_model.specs.Feed.{Standing, Open, Ended, Faulty}
 use Rattle.dover_port.specs.Moves.{Move, ins}
 use Rattle.periodic_tasks.specs.Tasks.{jobs_before}
 use Rattle.periodic_tasks.specs.declared.task.PeriodicTask.{PeriodicTask}
-use Rattle.task_reading.specs.Account.{TaskAccount, account}
+use Rattle.task_reading.specs.Account.{account}
 
 -- tasks cost at most d comparisons each, and each job that they release before a tick 4 * d, where how many tasks there
 -- are, plus one, has at most d binary digits

@@ -23,9 +23,9 @@ returns-in-Ok-clause-count g c = since_weaker _ _ _ _ (c.converse.ensures.talks 
 pub returns-in-Ok-clause-ends : goal.returns-in-Ok-clause-ends
 returns-in-Ok-clause-ends g c = elim (c.converse.ensures.ends c.args.steps.now
     (record { rests = c.in-Ok.ensures.rests; paid = c.in-Ok.ensures.paid c.args.steps.now })) [
-  | inl cut ↦ inl cut
-  | inr it ↦ inr (it.0, inl it.1)
-]
+      | inl cut ↦ inl cut
+      | inr it ↦ inr (it.0, inl it.1)
+    ]
 
 pub returns-in-Err-clause-serves : goal.returns-in-Err-clause-serves
 returns-in-Err-clause-serves g c = since_none _ _ (inr (refl, refl))

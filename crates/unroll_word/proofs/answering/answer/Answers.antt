@@ -1,4 +1,4 @@
-use Rattle.std.proofs.Common.{refl, arith}
+use Rattle.std.proofs.Common.{refl}
 use Rattle.dover_port.specs.declared.status.Status.TheVariants.{Done, Refused}
 use Rattle.periodic_tasks.specs.Tasks.{unrolled}
 use Rattle.task_reading.specs.Record.{listed_rules}

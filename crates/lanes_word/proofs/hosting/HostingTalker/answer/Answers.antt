@@ -89,7 +89,8 @@ returns-in-Ok-clause-spent g c = λ a x at. subst (λ n. Costs a n x) (sym c.put
     (c.laws.ensures.few c.args.self.input x _ a _ at.rests.stands at.paid)
 
 pub returns-in-Ok-put_refusal-clause-spent : goal.returns-in-Ok-put_refusal-clause-spent
-returns-in-Ok-put_refusal-clause-spent g c = λ a x at. c.laws.ensures.few c.args.self.input x _ a _ at.rests.stands at.paid
+returns-in-Ok-put_refusal-clause-spent g c = λ a x at.
+    c.laws.ensures.few c.args.self.input x _ a _ at.rests.stands at.paid
 
 pub returns-clause-spent : goal.returns-clause-spent
 returns-clause-spent g c = λ a x at. c.laws.ensures.few c.args.self.input x _ a _ at.rests.stands at.paid
