@@ -1,6 +1,6 @@
 -- What the moves of a call come to that reads a snapshot, and serves the feed of which it is on.
-use Rattle.std.specs.Prelude.{◌≡◌, Bool, ℕ, suc, List, [], ◌∷◌, ◌++◌, length, true, false, ◌⊎◌, codes, decimal}
-use Rattle.dover_model.specs.Lines.{in_lines, lines_of, whole_lines, line_of}
+use Rattle.std.specs.Prelude.{◌≡◌, Bool, ℕ, suc, List, [], ◌∷◌, ◌++◌, length, true, false, ◌⊎◌, codes}
+use Rattle.dover_model.specs.Lines.{in_lines, lines_of, whole_lines}
 use Rattle.dover_model.specs.WholeRun.{Begins}
 use Rattle.dover_model.specs.Feed.{account}
 use Rattle.dover_model.specs.Spending.{CostsAtMost}
@@ -9,6 +9,7 @@ use Rattle.dover_port.specs.Moves.{Move, ins, outs, has_ended, EachRead, IsPrope
 use Rattle.dover_port.specs.declared.status.Status.{Status}
 use Rattle.dover_port.specs.declared.status.Status.TheVariants.{Refused, ReadFault, WriteFault, Memory}
 use Rattle.dialogue.specs.Talk as talk
+use Rattle.lane_server.specs.Lanes.{refused_line}
 use Rattle.snapshot.specs.Snapshot.{MayPause, snapshot}
 use Rattle.snapshot.specs.Reading as reading
 use Rattle.snapshot.specs.Reading.{Reading, Begun, Going, Taken, reading_of}
@@ -46,7 +47,7 @@ MayRead at_end got put =
 
 -- the line that refuses a snapshot
 abbrev pub refused_text : ℕ → List ℕ
-refused_text at = in_lines (line_of (codes "refused" ∷ decimal at ∷ codes "snapshot" ∷ []) ∷ [])
+refused_text at = in_lines (refused_line at (codes "snapshot") ∷ [])
 
 -- This line is the first that no snapshot has there, or it is missing where the input ended.
 abbrev pub IsRefusedFor : ℕ → List Move → Type 0

@@ -4,6 +4,7 @@ use Rattle.dover_model.specs.declared.events.Version.TheVariants.{One}
 use Rattle.dover_model.specs.Fraction.{Fraction}
 use Rattle.dover_model.specs.Instance.{Instance, jobs_under}
 use Rattle.dover_model.specs.Lines.{in_lines}
+use Rattle.dialogue.specs.Sizes.{size_text}
 use Rattle.dover_port.specs.Moves.{Move}
 use Rattle.dover_port.specs.declared.status.Status.{Status}
 use Rattle.duel.specs.declared.links.Share.{Share}
@@ -20,7 +21,7 @@ duel_front k share front = jobs_under One k (front_of front (jobs_for k share))
 -- what is written where there is no duel
 abbrev pub no_duel_text : NoDuel → List ℕ
 no_duel_text no.Share = in_lines (codes "refused share" ∷ [])
-no_duel_text no.Size = in_lines (codes "refused size" ∷ [])
+no_duel_text no.Size = size_text
 no_duel_text no.Front = in_lines (codes "refused front" ∷ [])
 
 -- Of a duel the feed of its front was put, and where there is none, why.
