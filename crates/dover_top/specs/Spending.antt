@@ -5,9 +5,11 @@ use Rattle.dover_port.specs.Moves.{Move}
 use Rattle.serve_word.specs.Spending as served
 use Rattle.resume_word.specs.Record as resumed
 use Rattle.judge_word.specs.Spending as judged
+use Rattle.lanes_word.specs.Spending as hosted
+use Rattle.unroll_word.specs.Spending as unrolled
 use Rattle.dover_top.specs.declared.request.Request.{Request}
-use Rattle.dover_top.specs.declared.request.Request.TheVariants.{Serve, Judge, Report, Trial, Bait, Ask, Pause}
-use Rattle.dover_top.specs.declared.request.Request.TheVariants.{Resume, Duel}
+use Rattle.dover_top.specs.declared.request.Request.TheVariants.{Serve, Judge, Report, Trial, Bait, Ask, Lanes, Pause}
+use Rattle.dover_top.specs.declared.request.Request.TheVariants.{Resume, Unroll, Duel}
 
 -- how few comparisons it made, with so many before and now, for the jobs of what was read, at whatever status
 abbrev pub IsFrugal : Request → (before now : ℕ) → List Move → Type 0
@@ -17,6 +19,8 @@ IsFrugal (Report form) before now = judged.IsFrugal before now
 IsFrugal Pause before now = served.IsFrugal before now
 IsFrugal (Resume at_end) before now = resumed.IsFrugal before now
 IsFrugal (Ask question) before now = served.IsFrugal before now
+IsFrugal Lanes before now = hosted.IsFrugal before now
+IsFrugal (Unroll until) before now = unrolled.IsFrugal until before now
 IsFrugal _ before now = λ moves. Unit {0}
 
 -- the same where the words alone tell how many jobs there are, and where none are served

@@ -29,7 +29,7 @@ returns-in-Ask-clause-carries g c = let w = c.question_word.ensures in
 
 pub returns-in-Lanes-clause-carries : goal.returns-in-Lanes-clause-carries
 returns-in-Lanes-clause-carries g c = let w = c.lanes_word.ensures in
-    carried _ _ _ _ _ _ _ c.in-Lanes.is w.serves w.ends (since_weaker _ _ _ _ w.serves (λ _ _. tt)) (λ _. tt)
+    carried _ _ _ _ _ _ _ c.in-Lanes.is w.serves w.ends w.count (λ _. tt)
 
 pub returns-in-Pause-clause-carries : goal.returns-in-Pause-clause-carries
 returns-in-Pause-clause-carries g c = let w = c.pause_word.ensures in
@@ -41,7 +41,7 @@ returns-in-Resume-clause-carries g c = let w = c.resume_word.ensures in
 
 pub returns-in-Unroll-clause-carries : goal.returns-in-Unroll-clause-carries
 returns-in-Unroll-clause-carries g c = let w = c.unroll_word.ensures in
-    carried _ _ _ _ _ _ _ c.in-Unroll.is w.talks w.ends (since_weaker _ _ _ _ w.talks (λ _ _. tt)) (λ _. tt)
+    carried _ _ _ _ _ _ _ c.in-Unroll.is w.talks w.ends w.count (λ _. tt)
 
 pub returns-in-Duel-clause-carries : goal.returns-in-Duel-clause-carries
 returns-in-Duel-clause-carries g c = let w = c.duel_word.ensures in
