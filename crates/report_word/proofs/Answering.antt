@@ -2,7 +2,7 @@
 use Rattle.std.proofs.Common.{◌≡◌, ℕ, List, [], refl, sym, ap, ◌∙◌, subst, Option, Bool, true, Ok, Err}
 use Rattle.intervals.specs.Rows.{IsRunOf}
 use Rattle.dover_model.specs.Fraction.{Fraction}
-use Rattle.dover_model.specs.Session.{instance_of}
+use Rattle.dover_model.specs.Session.{Session, instance_of}
 use Rattle.dover_model.specs.Verdict as model
 use Rattle.dover_model.specs.declared.events.Event.{Event}
 use Rattle.dover_model.specs.declared.events.Version.{Version}
@@ -23,9 +23,14 @@ use Rattle.report_word.specs.Talking.{IsClosed, Puts}
 
 -- the judge kept the steps of the run
 pub closed_with : (closed : Closed) (keep : Bool) (text : List ℕ) → keep ≡ true → Tells closed.verdict text
-    → closed.steps.items ≡ steps_told keep (model.verdict text) → IsClosed closed text
-closed_with closed keep text kept tells steps =
-    record { tells = tells; steps = steps ∙ ap (λ k. steps_told k (model.verdict text)) kept }
+    → closed.steps.items ≡ steps_told keep (model.verdict text)
+    → ((S : Session) → model.verdict text ≡ model.Accepted S → closed.refused ≡ model.refused_count S)
+    → IsClosed closed text
+closed_with closed keep text kept tells steps refused = record {
+  tells = tells;
+  steps = steps ∙ ap (λ k. steps_told k (model.verdict text)) kept;
+  refused = refused;
+}
 
 module _ (k : Fraction) (version : Version) (value most jobs : ℕ) (text : List ℕ)
     (tells : Tells (Accepted k version value most jobs) text) where
@@ -38,19 +43,20 @@ module _ (k : Fraction) (version : Version) (value most jobs : ℕ) (text : List
     prints = sym (are ∙ ap (steps_told true) tells.1);
   }
 
-  module _ (form : Form) (ended : Bool) (a b : Option (List Move)) (q : List ℕ) (none : q ≡ []) where
+  module _ (refused : ℕ) (refused_is : refused ≡ model.refused_count tells.0) (form : Form) (ended : Bool)
+      (a b : Option (List Move)) (q : List ℕ) (none : q ≡ []) where
     -- what is told of it is the report
-    told_report : report_text form (instance_of tells.0) ≡ told form (model.verdict text)
-    told_report = sym (ap (told form) tells.1)
+    told_report : report_text form refused (instance_of tells.0) ≡ told form (model.verdict text)
+    told_report = ap (λ n. report_text form n (instance_of tells.0)) refused_is ∙ sym (ap (told form) tells.1)
 
     -- the report was put
-    pub reported : (x : Unit {0}) → Puts (Ok x) a b (report_text form (instance_of tells.0))
+    pub reported : (x : Unit {0}) → Puts (Ok x) a b (report_text form refused (instance_of tells.0))
         → AnswersBy (report_talk form) text ended a b q (Ok Done)
     reported x put = told_put (told form) (report_talk form).lacks (Accepted k version value most jobs) text ended tells
         a b q (subst (Passes a b [] q) told_report (rw none put))
 
     -- it wasn't
-    pub unreported : (stop : Stop) → Puts {T = Unit {0}} (Err stop) a b (report_text form (instance_of tells.0))
+    pub unreported : (stop : Stop) → Puts {T = Unit {0}} (Err stop) a b (report_text form refused (instance_of tells.0))
         → AnswersBy (report_talk form) text ended a b q (Err stop)
     unreported NoMemory none_put =
         (λ _. (by_verdict (Accepted k version value most jobs) text tells).1, rw none none_put)

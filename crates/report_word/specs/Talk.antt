@@ -15,18 +15,18 @@ use Rattle.report_word.specs.declared.form.Form.{Form}
 use Rattle.report_word.specs.declared.form.Form.TheVariants.{Text, Table, Chrome, Why, Timeline, Svg}
 
 -- the report on the run of these jobs, the table of it, its events for a viewer, the story of one job, or a picture
--- for a terminal or as SVG
-abbrev pub report_text : Form → Instance → List ℕ
-report_text Text J = report J
-report_text Table J = table J
-report_text Chrome J = chrome J
-report_text (Why n) J = why n J
-report_text (Timeline window) J = timeline window J
-report_text (Svg window) J = picture window J
+-- for a terminal or as SVG, whose title says how many refused lines there are
+abbrev pub report_text : Form → (refused : ℕ) → Instance → List ℕ
+report_text Text refused J = report J
+report_text Table refused J = table J
+report_text Chrome refused J = chrome J
+report_text (Why n) refused J = why n J
+report_text (Timeline window) refused J = timeline window J
+report_text (Svg window) refused J = picture window refused J
 
 -- what is told of a text by its verdict: the report on the run of an accepted trace, and else the line of the verdict
 abbrev pub told : Form → model.Verdict → List ℕ
-told form (model.Accepted S) = report_text form (instance_of S)
+told form (model.Accepted S) = report_text form (model.refused_count S) (instance_of S)
 told form (model.Wrong line due) = verdict_text (model.Wrong line due)
 told form (model.Short lines) = verdict_text (model.Short lines)
 

@@ -25,10 +25,17 @@ use std::sync::ledger::Ledger;
 use step_count::Steps;
 use trace_judge::{Closed, Judge, Verdict};
 
-/// The report on the run that prints these steps.
-fn report(alloc: Global, form: Form, ratio: Ratio, steps: &[Event]) -> Result<Vec<u8>, Memory>
+/// The report on the run that prints these steps, and on how many lines were refused.
+fn report(
+    alloc: Global,
+    form: Form,
+    ratio: Ratio,
+    steps: &[Event],
+    refused: u32,
+) -> Result<Vec<u8>, Memory>
     requires { (J : Instance) × IsRunOf ratio steps.now J }
-    ensures { (J : Instance) → IsRunOf ratio steps.now J → IfOk result (λ text. text.items ≡ report_text form J) }
+    ensures { (J : Instance) → IsRunOf ratio steps.now J → IfOk result
+        (λ text. text.items ≡ report_text form refused J) }
 {
     match form {
         Form::Text => text(alloc, ratio, steps),
@@ -36,7 +43,7 @@ fn report(alloc: Global, form: Form, ratio: Ratio, steps: &[Event]) -> Result<Ve
         Form::Chrome => chrome(alloc, ratio, steps),
         Form::Why(number) => why(alloc, ratio, steps, number),
         Form::Timeline(window) => timeline(alloc, ratio, steps, window),
-        Form::Svg(window) => picture(alloc, ratio, steps, window),
+        Form::Svg(window) => picture(alloc, ratio, steps, refused, window),
     }
 }
 
@@ -47,15 +54,16 @@ fn put_report<P: Port>(
     form: Form,
     ratio: Ratio,
     steps: &[Event],
+    refused: u32,
 ) -> Result<(), Stop>
     requires { (J : Instance) × IsRunOf ratio steps.now J }
     ensures puts { (J : Instance) → IsRunOf ratio steps.now J →
-        Puts result (P.moves port.old) (P.moves port.new) (report_text form J) }
+        Puts result (P.moves port.old) (P.moves port.new) (report_text form refused J) }
     ensures cause { StopCause result
         (P.write_faults port.old) (P.write_faults port.new) (P.read_faults port.old) (P.read_faults port.new) }
     ensures stops { StopsOn result (P.calls port.old) (P.calls port.new) }
 {
-    let Ok(text) = report(alloc, form, ratio, steps) else {
+    let Ok(text) = report(alloc, form, ratio, steps, refused) else {
         return Err(Stop::NoMemory);
     };
     match put_all(port, &text) {
@@ -82,7 +90,7 @@ pub(crate) fn tell<P: Port>(
 {
     match closed.verdict {
         Verdict::Accepted { ratio, .. } => {
-            match put_report(alloc, port, form, ratio, &closed.steps) {
+            match put_report(alloc, port, form, ratio, &closed.steps, closed.refused) {
                 Ok(()) => Ok(Status::Done),
                 Err(stop) => Err(stop),
             }

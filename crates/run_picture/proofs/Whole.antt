@@ -15,12 +15,12 @@ use Rattle.dover_model.specs.Run.{completed_value}
 use Rattle.intervals.specs.Rows.{IsRunOf, rows_of, weights}
 use Rattle.intervals.specs.declared.interval.Interval.{Interval}
 use Rattle.dover_report.specs.Counts.{counts_of, jobs_released}
-use Rattle.dover_report.specs.declared.counts.Counts.{Counts}
+use Rattle.run_picture.specs.declared.frame.Totals.{Totals}
 use Rattle.dover_report.proofs.Counting.{jobs_are}
 use Rattle.run_view.specs.Templates.{Text}
 use Rattle.run_picture.specs.Seen.{fresh, taking, done, gone, seen_at, told_of, with_step, told_by}
 use Rattle.run_picture.specs.Processor.{pieces_from}
-use Rattle.run_picture.specs.Pictures.{window_of, drawn, picture}
+use Rattle.run_picture.specs.Pictures.{window_of, drawn, totals, picture}
 use Rattle.run_view.specs.declared.window.Window.{Window}
 use Rattle.run_picture.specs.declared.seen.Seen.{Seen}
 
@@ -66,28 +66,29 @@ few_seen run worths seen same are few = omega (
 -- ---- the picture
 
 -- what is drawn is the picture, where all that it is drawn from is that of the run
-pub pictured : (k : Fraction) (run : List Event) (J : Instance) → IsRunOf k run J → (asked : Option Window)
-    (jobs : List JobFacts) (worths : List ℕ) (rows : List Interval) (value : ℕ) (c : Counts) (seen : List Seen)
+pub pictured : (k : Fraction) (run : List Event) (J : Instance) → IsRunOf k run J → (asked : Option Window) (n : ℕ)
+    (jobs : List JobFacts) (worths : List ℕ) (rows : List Interval) (value : ℕ) (c : Totals) (seen : List Seen)
     (pieces : List Piece) (w : Window) (b : Text)
     → jobs ≡ jobs_released run → worths ≡ weights J → rows ≡ rows_of J → value ≡ completed_value J
-    → c ≡ counts_of k run jobs value → seen ≡ told_by [] (zip run worths) → pieces ≡ pieces_from None run
-    → w ≡ window_of asked jobs → b ≡ drawn 400 w c seen jobs run pieces rows → b ≡ picture asked J
-pictured k run J of asked jobs worths rows value c seen pieces w b released weighed charged adds counts tells runs
+    → c ≡ totals (counts_of k run jobs value) n → seen ≡ told_by [] (zip run worths)
+    → pieces ≡ pieces_from None run
+    → w ≡ window_of asked jobs → b ≡ drawn 400 w c seen jobs run pieces rows → b ≡ picture asked n J
+pictured k run J of asked n jobs worths rows value c seen pieces w b released weighed charged adds counts tells runs
     views last =
     last ∙ ap (λ x. drawn 400 x c seen jobs run pieces rows) views
     ∙ ap (λ x. drawn 400 (window_of asked jobs) x seen jobs run pieces rows) counts
-    ∙ ap (λ x. drawn 400 (window_of asked jobs) (counts_of k run jobs value) x jobs run pieces rows) tells
-    ∙ ap (λ x. drawn 400 (window_of asked jobs) (counts_of k run jobs value) (told_by [] (zip run worths)) jobs run x
-    rows) runs
-    ∙ ap (λ x. drawn 400 (window_of asked jobs) (counts_of k run jobs value) (told_by [] (zip run worths)) jobs run
-    (pieces_from None run) x) charged
-    ∙ ap (λ x. drawn 400 (window_of asked jobs) (counts_of k run jobs x) (told_by [] (zip run worths)) jobs run
-    (pieces_from None run) (rows_of J)) adds
-    ∙ ap (λ x. drawn 400 (window_of asked jobs) (counts_of k run jobs (completed_value J)) (told_by [] (zip run x))
-    jobs run (pieces_from None run) (rows_of J)) weighed
-    ∙ ap (λ x. drawn 400 (window_of asked x) (counts_of k run x (completed_value J)) (told_by [] (zip run (weights J)))
-    x run (pieces_from None run) (rows_of J)) (released ∙ jobs_are k run J of)
-    ∙ ap (λ x. drawn 400 (window_of asked J.jobs) (counts_of x run J.jobs (completed_value J))
+    ∙ ap (λ x. drawn 400 (window_of asked jobs) (totals (counts_of k run jobs value) n) x jobs run pieces rows) tells
+    ∙ ap (λ x. drawn 400 (window_of asked jobs) (totals (counts_of k run jobs value) n) (told_by [] (zip run worths))
+    jobs run x rows) runs
+    ∙ ap (λ x. drawn 400 (window_of asked jobs) (totals (counts_of k run jobs value) n) (told_by [] (zip run worths))
+    jobs run (pieces_from None run) x) charged
+    ∙ ap (λ x. drawn 400 (window_of asked jobs) (totals (counts_of k run jobs x) n) (told_by [] (zip run worths))
+    jobs run (pieces_from None run) (rows_of J)) adds
+    ∙ ap (λ x. drawn 400 (window_of asked jobs) (totals (counts_of k run jobs (completed_value J)) n)
+    (told_by [] (zip run x)) jobs run (pieces_from None run) (rows_of J)) weighed
+    ∙ ap (λ x. drawn 400 (window_of asked x) (totals (counts_of k run x (completed_value J)) n)
+    (told_by [] (zip run (weights J))) x run (pieces_from None run) (rows_of J)) (released ∙ jobs_are k run J of)
+    ∙ ap (λ x. drawn 400 (window_of asked J.jobs) (totals (counts_of x run J.jobs (completed_value J)) n)
     (told_by [] (zip run (weights J))) J.jobs run (pieces_from None run) (rows_of J)) (sym of.ratio)
-    ∙ ap (λ x. drawn 400 (window_of asked J.jobs) (counts_of J.rules.ratio x J.jobs (completed_value J))
+    ∙ ap (λ x. drawn 400 (window_of asked J.jobs) (totals (counts_of J.rules.ratio x J.jobs (completed_value J)) n)
     (told_by [] (zip x (weights J))) J.jobs x (pieces_from None x) (rows_of J)) (sym of.prints)

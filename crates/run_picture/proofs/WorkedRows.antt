@@ -10,7 +10,7 @@ use Rattle.run_picture.specs.Legends.{styles}
 use Rattle.run_picture.specs.Legends.{legend_bars, legend_words, legend, load_legend, lanes_colors, lanes_words}
 use Rattle.run_picture.specs.Legends.{losses_words}
 use Rattle.run_picture.specs.Legends.{lanes_legend}
-use Rattle.run_picture.specs.Frame.{blank, page, tens, marks_from, axis_by, axis, bands}
+use Rattle.run_picture.specs.Frame.{title_end, blank, page, tens, marks_from, axis_by, axis, bands}
 use Rattle.run_picture.specs.Panels.{area, values_by, values, ready_area, ready_by, ready, towers_area, columns_by, columns}
 use Rattle.run_picture.specs.Pictures.{bars_of, all_bars, strip, windows, holds_bars, lanes_bars, arrows_lines}
 use Rattle.run_picture.specs.Pictures.{crosses_lines, lanes_lines, lanes_of, ground_of, all_bands, under, under_load}
@@ -22,7 +22,7 @@ abbrev take_over : Instance
 take_over = one 1 1 (job 0 3 30 3 ∷ job 0 2 4 2 ∷ job 0 12 12 12 ∷ [])
 
 -- all of it
-all_of_it : picture None take_over ≡
+all_of_it : picture None 0 take_over ≡
     codes "<svg xmlns='http://www.w3.org/2000/svg' width='1400' height='326' viewBox='0 0 1400 326'>\n"
     ++ codes "<style>text{font:12px sans-serif;fill:#222}.s{font-size:10px}.r{text-anchor:end}\n"
     ++ codes ".m{text-anchor:middle}.b{font-weight:bold;font-size:14px}\n"
@@ -104,7 +104,7 @@ unfolding digits filled texts_style labels_style bars_style lines_style legend_b
 all_of_it = refl
 
 -- its ticks from 1 on and before 11: the completion at tick 12 isn't among them, and the interval that lost value goes on
-some_of_it : picture (Some (record { from = 1; until = 11 })) take_over ≡
+some_of_it : picture (Some (record { from = 1; until = 11 })) 0 take_over ≡
     codes "<svg xmlns='http://www.w3.org/2000/svg' width='1400' height='326' viewBox='0 0 1400 326'>\n"
     ++ codes "<style>text{font:12px sans-serif;fill:#222}.s{font-size:10px}.r{text-anchor:end}\n"
     ++ codes ".m{text-anchor:middle}.b{font-weight:bold;font-size:14px}\n"
@@ -189,7 +189,7 @@ unfolding digits filled texts_style labels_style bars_style lines_style legend_b
 some_of_it = refl
 
 -- its load
-its_load : picture_by 2 None take_over ≡
+its_load : picture_by 2 None 0 take_over ≡
     codes "<svg xmlns='http://www.w3.org/2000/svg' width='1400' height='510' viewBox='0 0 1400 510'>\n"
     ++ codes "<style>text{font:12px sans-serif;fill:#222}.s{font-size:10px}.r{text-anchor:end}\n"
     ++ codes ".m{text-anchor:middle}.b{font-weight:bold;font-size:14px}\n"
@@ -252,3 +252,8 @@ unfolding digits filled texts_style labels_style bars_style lines_style legend_b
     all_bars strip windows holds_bars lanes_bars arrows_lines crosses_lines lanes_lines lanes_of ground_of all_bands
     under under_load middle_of over lanes_to by_lanes load by_load drawn
 its_load = refl
+
+-- the end of its title where two lines were refused
+two_refused : title_end 2 ≡ codes ", lines refused 2</text>\n"
+unfolding digits filled
+two_refused = refl

@@ -5,6 +5,7 @@ use Rattle.std.specs.List.{flat_map}
 use Rattle.dover_report.specs.declared.counts.Counts.{Counts}
 use Rattle.intervals.specs.declared.interval.Interval.{Interval}
 use Rattle.run_view.specs.Templates.{Text, filled}
+use Rattle.run_picture.specs.declared.frame.Totals.{Totals}
 use Rattle.run_picture.specs.Sizes.{digits_of, room}
 use Rattle.run_picture.specs.Plot.{x_at, meets, pixels, bar}
 use Rattle.run_picture.specs.Legends.{styles, legend}
@@ -22,18 +23,23 @@ abbrev pub ground : (high : ℕ) → Text
 ground high = filled (codes "<rect width='1400' height='@' fill='#fff'/>\n") (high ∷ [])
 
 -- the numbers of the summary
-abbrev pub title : Counts → Text
-title c = filled (codes
-    "<text class='b' x='90' y='22'>jobs @, completed @ worth @, abandoned @ worth @, taken @, bound @</text>\n")
+abbrev pub title_front : Counts → Text
+title_front c = filled (codes
+    "<text class='b' x='90' y='22'>jobs @, completed @ worth @, abandoned @ worth @, taken @, bound @")
     (c.jobs ∷ c.completed ∷ c.value ∷ c.abandoned ∷ c.lost ∷ c.taken ∷ c.bound ∷ [])
+
+-- how many lines were refused, where some were
+abbrev pub title_end : (refused : ℕ) → Text
+title_end refused =
+    if refused == 0 then codes "</text>\n" else filled (codes ", lines refused @</text>\n") (refused ∷ [])
 
 -- a page so high that has nothing on it
 unfoldable pub blank : (high : ℕ) → Text
 blank high = front high ++ styles ++ ground high
 
 -- a page with its title, and the legend of the processor
-unfoldable pub page : (high : ℕ) → Counts → Text
-page high c = blank high ++ title c ++ legend
+unfoldable pub page : (high : ℕ) → Totals → Text
+page high t = blank high ++ title_front t.counts ++ title_end t.refused ++ legend
 
 -- ---- the axis
 

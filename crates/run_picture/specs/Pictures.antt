@@ -26,6 +26,7 @@ use Rattle.run_picture.specs.Panels.{values, ready, columns}
 use Rattle.run_picture.specs.Legends.{lanes_legend, load_legend}
 use Rattle.run_picture.specs.Frame.{page, axis, bands, band_words, bars_front, bars_end}
 use Rattle.run_view.specs.declared.window.Window.{Window}
+use Rattle.run_picture.specs.declared.frame.Totals.{Totals}
 use Rattle.run_picture.specs.declared.seen.Seen.{Seen}
 use Rattle.run_picture.specs.declared.lanes.Lane.{Lane}
 use Rattle.run_picture.specs.declared.strip.Bars.{Bars}
@@ -100,20 +101,20 @@ lanes_of w unit lanes run pieces = lanes_bars w unit lanes run pieces ++ lanes_l
 -- ---- the whole
 
 -- a page up to its axis
-unfoldable pub ground_of : Window → Counts → (bottom : ℕ) → Text
-ground_of w c bottom = page (bottom + 36) c ++ axis w bottom
+unfoldable pub ground_of : Window → Totals → (bottom : ℕ) → Text
+ground_of w t bottom = page (bottom + 36) t ++ axis w bottom
 
 -- the bands, so long at least, and their words
 unfoldable pub all_bands : Window → (least bottom : ℕ) → List Interval → Text
 all_bands w least bottom rows = bands w least bottom rows ++ band_words w rows
 
 -- what stands under the lanes
-unfoldable pub under : Window → Counts → (bottom : ℕ) → List Interval → Text
-under w c bottom rows = ground_of w c bottom ++ lanes_legend ++ all_bands w 1 bottom rows
+unfoldable pub under : Window → Totals → (bottom : ℕ) → List Interval → Text
+under w t bottom rows = ground_of w t bottom ++ lanes_legend ++ all_bands w 1 bottom rows
 
 -- what stands under the load
-unfoldable pub under_load : Window → Counts → List Interval → Text
-under_load w c rows = ground_of w c 474 ++ load_legend ++ all_bands w 0 474 rows
+unfoldable pub under_load : Window → Totals → List Interval → Text
+under_load w t rows = ground_of w t 474 ++ load_legend ++ all_bands w 0 474 rows
 
 -- the processor and the lanes
 unfoldable pub middle_of : Window → (unit : ℕ) → List Lane → List Event → List Piece → Text
@@ -124,24 +125,24 @@ unfoldable pub over : Window → (coarse : Bool) → (bottom : ℕ) → List Job
 over w coarse bottom jobs run = values w coarse bottom jobs run ++ codes "</svg>\n"
 
 -- lanes, where rows are so high and the panel of values ends at this pixel
-unfoldable pub lanes_to : Window → Counts → (unit bottom : ℕ) → List Lane → List JobFacts → List Event → List Piece
+unfoldable pub lanes_to : Window → Totals → (unit bottom : ℕ) → List Lane → List JobFacts → List Event → List Piece
     → List Interval → Text
-lanes_to w c unit bottom lanes jobs run pieces rows = under w c bottom rows ++ middle_of w unit lanes run pieces
+lanes_to w t unit bottom lanes jobs run pieces rows = under w t bottom rows ++ middle_of w unit lanes run pieces
     ++ over w false bottom jobs run
 
 -- a lane for each job that the window shows
-unfoldable pub by_lanes : Window → Counts → List Lane → List JobFacts → List Event → List Piece → List Interval → Text
-by_lanes w c lanes jobs run pieces rows =
+unfoldable pub by_lanes : Window → Totals → List Lane → List JobFacts → List Event → List Piece → List Interval → Text
+by_lanes w t lanes jobs run pieces rows =
     let unit = unit_of (height lanes) in
-    lanes_to w c unit (236 + unit * height lanes) lanes jobs run pieces rows
+    lanes_to w t unit (236 + unit * height lanes) lanes jobs run pieces rows
 
 -- the processor, the ready jobs, and the values by column
 unfoldable pub load : Window → List Lane → List JobFacts → List Event → List Piece → Text
 load w lanes jobs run pieces = strip w 0 lanes pieces ++ ready w run ++ columns w jobs run
 
 -- the load in columns
-unfoldable pub by_load : Window → Counts → List Lane → List JobFacts → List Event → List Piece → List Interval → Text
-by_load w c lanes jobs run pieces rows = under_load w c rows ++ load w lanes jobs run pieces
+unfoldable pub by_load : Window → Totals → List Lane → List JobFacts → List Event → List Piece → List Interval → Text
+by_load w t lanes jobs run pieces rows = under_load w t rows ++ load w lanes jobs run pieces
     ++ over w true 474 jobs run
 
 -- a window that shows no job
@@ -153,12 +154,12 @@ abbrev pub fitting : (lanes load : Text) → Text
 fitting lanes load = if nat_le (length lanes) 75_000 then lanes else load
 
 -- the same where the window shows so many jobs at most, and else the load
-unfoldable pub drawn : (most : ℕ) → Window → Counts → List Seen → List JobFacts → List Event → List Piece
+unfoldable pub drawn : (most : ℕ) → Window → Totals → List Seen → List JobFacts → List Event → List Piece
     → List Interval → Text
-drawn most w c seen jobs run pieces rows = if nat_le (shown w seen) most
-    then fitting (by_lanes w c (lanes_from w [] seen) jobs run pieces rows)
-    (by_load w c (lanes_from nothing [] seen) jobs run pieces rows)
-    else by_load w c (lanes_from nothing [] seen) jobs run pieces rows
+drawn most w t seen jobs run pieces rows = if nat_le (shown w seen) most
+    then fitting (by_lanes w t (lanes_from w [] seen) jobs run pieces rows)
+    (by_load w t (lanes_from nothing [] seen) jobs run pieces rows)
+    else by_load w t (lanes_from nothing [] seen) jobs run pieces rows
 
 -- all of the run, so that the last deadline is its last tick
 abbrev pub whole : List JobFacts → Window
@@ -169,12 +170,16 @@ abbrev pub window_of : Option Window → List JobFacts → Window
 window_of None jobs = whole jobs
 window_of (Some w) jobs = record { from = min w.from (last_tick + 1); until = min w.until (last_tick + 1) }
 
--- the picture, with lanes for so many jobs at most
-abbrev pub picture_by : (most : ℕ) → Option Window → Instance → Text
-picture_by most asked J = drawn most (window_of asked J.jobs)
-    (counts_of J.rules.ratio (printed J) J.jobs (completed_value J))
+-- the numbers of its title: those of the summary, and how many lines were refused
+abbrev pub totals : Counts → (refused : ℕ) → Totals
+totals c refused = record { counts = c; refused = refused }
+
+-- the picture of a run with so many refused lines, with lanes for so many jobs at most
+abbrev pub picture_by : (most : ℕ) → Option Window → (refused : ℕ) → Instance → Text
+picture_by most asked refused J = drawn most (window_of asked J.jobs)
+    (totals (counts_of J.rules.ratio (printed J) J.jobs (completed_value J)) refused)
     (told_by [] (moments J)) J.jobs (printed J) (pieces_from None (printed J)) (rows_of J)
 
 -- the picture
-abbrev pub picture : Option Window → Instance → Text
-picture asked J = picture_by 400 asked J
+abbrev pub picture : Option Window → (refused : ℕ) → Instance → Text
+picture asked refused J = picture_by 400 asked refused J

@@ -7,7 +7,7 @@ ghost use Rattle.dover_model.specs.Run as runs;
 ghost use Rattle.run_picture.specs.Lanes.{lanes_from};
 ghost use Rattle.run_picture.specs.Pictures as pictures;
 
-use crate::frame::{put_axis, put_band_words, put_bands, put_bars_front, put_page};
+use crate::frame::{Totals, put_axis, put_band_words, put_bands, put_bars_front, put_page};
 use crate::labels::put_labels;
 use crate::lanes::{Lane, height, lanes, shown, unit_of};
 use crate::legends::{put_lanes_legend, put_load_legend};
@@ -20,34 +20,38 @@ use crate::strip::{Bars, put_numbers, put_pieces};
 use crate::windows::put_windows;
 use dover_model::jobs::LAST_TICK;
 use dover_model::{Event, Job, Memory, Piece, Ratio};
-use dover_report::{Counts, count, released};
+use dover_report::{count, released};
 use intervals::{Charge, Interval, weights};
 use run_view::template::put;
 use std::alloc::Global;
 
 /// The run that prints these steps as SVG: the processor, a lane for each job that the window shows, or above 400 of
 /// them, or above 75,000 bytes, the load in columns, and the values so far. Without a window all of the run is shown.
+/// The title says how many lines were refused.
 /// The jobs of the run are valid for the ratio `k`. Want of memory is the only error.
 pub fn picture(
     alloc: Global,
     k: Ratio,
     run: &[Event],
+    refused: u32,
     asked: Option<Window>,
 ) -> Result<Vec<u8>, Memory>
     requires { (J : Instance) × IsRunOf k run.now J }
-    ensures { (J : Instance) → IsRunOf k run.now J → IfOk result (λ written. written.items ≡ pictures.picture asked J) }
+    ensures { (J : Instance) → IsRunOf k run.now J → IfOk result
+        (λ written. written.items ≡ pictures.picture asked refused J) }
 {
     let jobs = released(alloc, run)?;
     let worths = weights(alloc, k, run)?;
     let charge = Charge::of(alloc, k, run)?;
     let counts = count(k, run, &jobs, charge.value());
+    let totals = Totals { counts, refused };
     let seen = told_by(alloc, run, &worths)?;
     let pieces = pieces(alloc, run)?;
     let window = window_of(asked, &jobs);
     let text = drawn(
         alloc,
         window,
-        &counts,
+        &totals,
         &seen,
         &jobs,
         run,
@@ -94,7 +98,7 @@ fn last_deadline(jobs: &[Job]) -> u64
 fn drawn(
     alloc: Global,
     window: Window,
-    counts: &Counts,
+    totals: &Totals,
     seen: &[Seen],
     jobs: &[Job],
     run: &[Event],
@@ -105,25 +109,25 @@ fn drawn(
     requires jobs { length seen.now ≤ 5_000_001 }
     requires from { window.from ≤ last_tick + 1 }
     ensures { IfOk result (λ text. text.items
-        ≡ pictures.drawn 400 window counts.now seen.now jobs.now run.now pieces.now rows.now) }
+        ≡ pictures.drawn 400 window totals.now seen.now jobs.now run.now pieces.now rows.now) }
 {
     if shown(window, seen) > 400 {
-        return loaded(alloc, window, counts, seen, jobs, run, pieces, rows);
+        return loaded(alloc, window, totals, seen, jobs, run, pieces, rows);
     }
     let lanes = lanes(alloc, window, seen)?;
     let mut text = Vec::new(alloc);
-    put_by_lanes(&mut text, window, counts, &lanes, jobs, run, pieces, rows)?;
+    put_by_lanes(&mut text, window, totals, &lanes, jobs, run, pieces, rows)?;
     if text.len() <= 75_000 {
         return Ok(text);
     }
-    loaded(alloc, window, counts, seen, jobs, run, pieces, rows)
+    loaded(alloc, window, totals, seen, jobs, run, pieces, rows)
 }
 
 /// The load.
 fn loaded(
     alloc: Global,
     window: Window,
-    counts: &Counts,
+    totals: &Totals,
     seen: &[Seen],
     jobs: &[Job],
     run: &[Event],
@@ -134,12 +138,12 @@ fn loaded(
     requires jobs { length seen.now ≤ 5_000_001 }
     requires from { window.from ≤ last_tick + 1 }
     ensures { IfOk result (λ text. text.items ≡ pictures.by_load
-        window counts.now (lanes_from pictures.nothing [] seen.now) jobs.now run.now pieces.now rows.now) }
+        window totals.now (lanes_from pictures.nothing [] seen.now) jobs.now run.now pieces.now rows.now) }
 {
     let nothing = Window { from: 0, until: 0 };
     let lanes = lanes(alloc, nothing, seen)?;
     let mut text = Vec::new(alloc);
-    put_by_load(&mut text, window, counts, &lanes, jobs, run, pieces, rows)?;
+    put_by_load(&mut text, window, totals, &lanes, jobs, run, pieces, rows)?;
     Ok(text)
 }
 
@@ -147,7 +151,7 @@ fn loaded(
 fn put_by_lanes(
     text: &mut Vec<u8>,
     window: Window,
-    counts: &Counts,
+    totals: &Totals,
     lanes: &[Lane],
     jobs: &[Job],
     run: &[Event],
@@ -157,12 +161,12 @@ fn put_by_lanes(
     requires steps { length run.now ≤ 5_000_001 }
     requires from { window.from ≤ last_tick + 1 }
     ensures { OnOk result (text.new.items
-        ≡ text.old.items ++ pictures.by_lanes window counts.now lanes.now jobs.now run.now pieces.now rows.now) }
+        ≡ text.old.items ++ pictures.by_lanes window totals.now lanes.now jobs.now run.now pieces.now rows.now) }
 {
     let high = height(lanes);
     let unit = unit_of(high);
     let bottom = 236 + unit * high;
-    put_under(text, window, counts, bottom, rows)?;
+    put_under(text, window, totals, bottom, rows)?;
     put_middle(text, window, unit, lanes, run, pieces)?;
     put_over(text, window, false, bottom, jobs, run)?;
     Ok(())
@@ -172,15 +176,15 @@ fn put_by_lanes(
 fn put_under(
     text: &mut Vec<u8>,
     window: Window,
-    counts: &Counts,
+    totals: &Totals,
     bottom: u64,
     rows: &[Interval],
 ) -> Result<(), Memory>
     requires from { window.from ≤ last_tick + 1 }
     requires bottom { bottom ≤ 2 ^ 39 }
-    ensures { OnOk result (text.new.items ≡ text.old.items ++ pictures.under window counts.now bottom rows.now) }
+    ensures { OnOk result (text.new.items ≡ text.old.items ++ pictures.under window totals.now bottom rows.now) }
 {
-    put_page(text, bottom + 36, counts)?;
+    put_page(text, bottom + 36, totals)?;
     put_axis(text, window, bottom)?;
     put_lanes_legend(text)?;
     put_all_bands(text, window, 1, bottom, rows)?;
@@ -191,13 +195,13 @@ fn put_under(
 fn put_under_load(
     text: &mut Vec<u8>,
     window: Window,
-    counts: &Counts,
+    totals: &Totals,
     rows: &[Interval],
 ) -> Result<(), Memory>
     requires { window.from ≤ last_tick + 1 }
-    ensures { OnOk result (text.new.items ≡ text.old.items ++ pictures.under_load window counts.now rows.now) }
+    ensures { OnOk result (text.new.items ≡ text.old.items ++ pictures.under_load window totals.now rows.now) }
 {
-    put_page(text, 510, counts)?;
+    put_page(text, 510, totals)?;
     put_axis(text, window, 474)?;
     put_load_legend(text)?;
     put_all_bands(text, window, 0, 474, rows)?;
@@ -246,7 +250,7 @@ fn put_over(
 fn put_by_load(
     text: &mut Vec<u8>,
     window: Window,
-    counts: &Counts,
+    totals: &Totals,
     lanes: &[Lane],
     jobs: &[Job],
     run: &[Event],
@@ -256,9 +260,9 @@ fn put_by_load(
     requires steps { length run.now ≤ 5_000_001 }
     requires from { window.from ≤ last_tick + 1 }
     ensures { OnOk result (text.new.items
-        ≡ text.old.items ++ pictures.by_load window counts.now lanes.now jobs.now run.now pieces.now rows.now) }
+        ≡ text.old.items ++ pictures.by_load window totals.now lanes.now jobs.now run.now pieces.now rows.now) }
 {
-    put_under_load(text, window, counts, rows)?;
+    put_under_load(text, window, totals, rows)?;
     put_load(text, window, lanes, jobs, run, pieces)?;
     put_over(text, window, true, 474, jobs, run)?;
     Ok(())

@@ -11,9 +11,27 @@ use dover_report::Counts;
 use intervals::Interval;
 use run_view::template::put;
 
+/// The numbers of a title: those of the summary, and how many lines were refused.
+#[derive(Clone, Copy)]
+pub struct Totals {
+    pub counts: Counts,
+    pub refused: u32,
+}
+
+/// Appends how many lines were refused, where some were, and the end of the title.
+fn put_title_end(text: &mut Vec<u8>, refused: u32) -> Result<(), Memory>
+    ensures { OnOk result (text.new.items ≡ text.old.items ++ frame.title_end refused) }
+{
+    if refused == 0 {
+        text.extend_from_slice(b"</text>\n")?;
+        return Ok(());
+    }
+    put(text, b", lines refused @</text>\n", &[u64::from(refused)])
+}
+
 /// Appends a page with its title, and the legend of the processor.
-pub fn put_page(text: &mut Vec<u8>, high: u64, counts: &Counts) -> Result<(), Memory>
-    ensures { OnOk result (text.new.items ≡ text.old.items ++ frame.page high counts.now) }
+pub fn put_page(text: &mut Vec<u8>, high: u64, totals: &Totals) -> Result<(), Memory>
+    ensures { OnOk result (text.new.items ≡ text.old.items ++ frame.page high totals.now) }
 {
     put(
         text,
@@ -28,17 +46,18 @@ pub fn put_page(text: &mut Vec<u8>, high: u64, counts: &Counts) -> Result<(), Me
     )?;
     put(
         text,
-        b"<text class='b' x='90' y='22'>jobs @, completed @ worth @, abandoned @ worth @, taken @, bound @</text>\n",
+        b"<text class='b' x='90' y='22'>jobs @, completed @ worth @, abandoned @ worth @, taken @, bound @",
         &[
-            counts.jobs,
-            counts.completed,
-            counts.value,
-            counts.abandoned,
-            counts.lost,
-            counts.taken,
-            counts.bound,
+            totals.counts.jobs,
+            totals.counts.completed,
+            totals.counts.value,
+            totals.counts.abandoned,
+            totals.counts.lost,
+            totals.counts.taken,
+            totals.counts.bound,
         ],
     )?;
+    put_title_end(text, totals.refused)?;
     put_legend(text)?;
     Ok(())
 }

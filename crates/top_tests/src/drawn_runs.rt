@@ -19,14 +19,17 @@ const STYLE: &str =
 
 /// Words, traces, and what stands in the picture before and behind its styles.
 const PICTURES: [(&[&str], &str, &str, &str); 6] = [
-    // no job
+    // no job, and two lines that were refused
     (
         &["report", "svg"],
-        "dover 1 1 1\n\
+        "dover 2 1 1\n\
+         refuse 0 0 0 1 1 job\n\
+         refuse 0 0 0 1 1 job\n\
          end 0\n",
         "<svg xmlns='http://www.w3.org/2000/svg' width='1400' height='290' viewBox='0 0 1400 290'>\n",
         "<rect width='1400' height='290' fill='#fff'/>\n\
-         <text class='b' x='90' y='22'>jobs 0, completed 0 worth 0, abandoned 0 worth 0, taken 0, bound 0</text>\n\
+         <text class='b' x='90' y='22'>jobs 0, completed 0 worth 0, abandoned 0 worth 0, taken 0, bound 0, lines \
+         refused 2</text>\n\
          <g stroke-width='12'><path class='c' d='M90 40h14'/><path class='t' d='M205 40h14'/>\n\
          <path class='l' d='M385 40h14'/></g><text class='s' x='109' y='44'>ran, completed</text>\n\
          <text class='s' x='224' y='44'>ran, completed, after a take</text>\n\

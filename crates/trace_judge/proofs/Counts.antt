@@ -7,7 +7,7 @@ use Rattle.dover_model.specs.declared.events.Event.{Event}
 use Rattle.dover_model.specs.Trace.{Printed, Refuses, Placed, put_in, places_after, places_of, lines_among}
 use Rattle.dover_model.specs.JobFacts.{JobFacts}
 use Rattle.dover_model.specs.Instance.{Rules}
-use Rattle.dover_model.specs.Session.{Item, JobItem, RefusedItem, refused_of_item, Session}
+use Rattle.dover_model.specs.Session.{Item, JobItem, RefusedItem, admitted_jobs, refused_of_item, Session}
 use Rattle.dover_model.specs.Verdict.{refused_count}
 
 -- with refused lines put in, there are so many lines more
@@ -32,6 +32,13 @@ length-places : (rules : Rules) (jobs : List JobFacts) (items : List Item)
 length-places rules jobs [] = refl
 length-places rules jobs (JobItem j ∷ items) = length-places rules (jobs ++ j ∷ []) items
 length-places rules jobs (RefusedItem r ∷ items) = ap suc (length-places rules jobs items)
+
+-- each item is a job or a refused line
+pub items_count : (items : List Item)
+    → length items ≡ length (admitted_jobs items) + length (filter_map refused_of_item items)
+items_count [] = refl
+items_count (JobItem j ∷ items) = omega (arith, items_count items)
+items_count (RefusedItem r ∷ items) = omega (arith, items_count items)
 
 -- a line for each step and each refused line
 pub length-lines : (S : Session) (steps : List Event) → length (lines_among S steps) ≡ length steps + refused_count S

@@ -389,13 +389,11 @@ stands_not_wrong j text stands none = by_found j.found refl stands where
   by_found (Bad line due) is wrong = absurd (none line due is)
   by_found NoMemory is there = absurd there
 
--- the steps of an accepted run were kept
-pub steps_accepted : (j : Judged) (text : List ℕ) → StandsFor j text → (S : Session)
-    → model.verdict text ≡ model.Accepted S
-    → j.reader.steps ≡ kept_steps j.reader.keep (printed (instance_of S))
-steps_accepted j text stands S told = by_found j.found refl stands where
-  by_stage : IsGood j text → (s : Stage) → j.reader.stage ≡ s
-      → j.reader.steps ≡ kept_steps j.reader.keep (printed (instance_of S))
+-- behind an accepted text stands the end of its session
+pub ends_accepted : (j : Judged) (text : List ℕ) → StandsFor j text → (S : Session)
+    → model.verdict text ≡ model.Accepted S → Ends j.reader (whole_lines text) S
+ends_accepted j text stands S told = by_found j.found refl stands where
+  by_stage : IsGood j text → (s : Stage) → j.reader.stage ≡ s → Ends j.reader (whole_lines text) S
   by_stage good Opening is = absurd (let clash : model.Short (length (whole_lines text)) ≡ model.Accepted S =
       sym (reads_short j.reader text good.reads (ap is_ended is) good.counts) ∙ told in cc)
   by_stage good Going is = absurd (let clash : model.Short (length (whole_lines text)) ≡ model.Accepted S =
@@ -405,14 +403,19 @@ steps_accepted j text stands S told = by_found j.found refl stands where
       let same : model.Accepted end.0 ≡ model.Accepted S =
       sym (reads_accepted j.reader text good.reads (ap is_ended is) good.counts end.0 end.1) ∙ told in
       let one : end.0 ≡ S = cc in
-      end.1.steps ∙ ap (λ (T : Session). kept_steps j.reader.keep (printed (instance_of T))) one
+      subst (Ends j.reader (whole_lines text)) one end.1
 
-  by_found : (f : Found) → j.found ≡ f → StandsBy f j text
-      → j.reader.steps ≡ kept_steps j.reader.keep (printed (instance_of S))
+  by_found : (f : Found) → j.found ≡ f → StandsBy f j text → Ends j.reader (whole_lines text) S
   by_found Good is good = by_stage good j.reader.stage refl
   by_found (Bad line due) is wrong =
       absurd (let clash : model.Wrong line (expected_of due) ≡ model.Accepted S = sym wrong ∙ told in cc)
   by_found NoMemory is there = absurd there
+
+-- its steps are those that were kept
+pub steps_accepted : (j : Judged) (text : List ℕ) → StandsFor j text → (S : Session)
+    → model.verdict text ≡ model.Accepted S
+    → j.reader.steps ≡ kept_steps j.reader.keep (printed (instance_of S))
+steps_accepted j text stands S told = (ends_accepted j text stands S told).steps
 
 -- what is left of the steps
 pub steps_left : (j : Judged) (text : List ℕ) → StandsFor j text → (v : Verdict) → Tells v text

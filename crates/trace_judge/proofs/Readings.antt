@@ -103,6 +103,7 @@ module _ (r : Reading) (ready spare room : ℕ) (ls : List (List ℕ)) where
     rules = it.rules;
     value = it.value;
     jobs = it.jobs;
+    items = it.items;
     steps = it.steps;
   }
 

@@ -395,6 +395,7 @@ module _ (r w : Reading) (same : r ≡ w) (going_w : w.stage ≡ Going) (d : Cou
               rules = new.1.follows.rules;
               value = ended_value ls S r.floor z goes.sees v.0 new.0 next_end ∙ value;
               jobs = sym (follows_count d J new.0 new.1.follows);
+              items = goes.items;
               steps = kept ∙ kept_more r.keep (printed_of goes.sees.steps) r.steps due goes.steps
                   ∙ ap (λ e. kept_steps r.keep (printed_of goes.sees.steps ++ e ∷ [])) v.1
                   ∙ ap (kept_steps r.keep) (sym (ended_run ls S r.floor z goes.sees v.0 new.0 next_end));

@@ -64,6 +64,7 @@ pub record Ends (r : Reading) (ls : List (List ℕ)) (S : Session) : Type 0 wher
   pub rules : S.rules ≡ r.course.rules
   pub value : completed_value (instance_of S) ≡ r.course.done
   pub jobs : length (admitted_jobs S.items) ≡ r.course.jobs
+  pub items : r.items ≡ length S.items
   pub steps : r.steps ≡ kept_steps r.keep (printed (instance_of S))
 
 -- this is kept of these lines, and the run may have gone on behind them

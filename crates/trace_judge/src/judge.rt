@@ -48,14 +48,17 @@ impl Model for Judge {
     ghost view = { λ j. record { lines = j.lines; reader = j.reader; found = j.found } };
 }
 
-/// What a text is, and the steps of its run where it is accepted and they were kept.
+/// What a text is, and where it is accepted, the steps of its run if they were kept, and how many refused lines it has.
 #[derive(Drop)]
 pub struct Closed {
     pub verdict: Verdict,
     pub steps: Vec<Event>,
+    pub refused: u32,
 }
 
 impl Judge {
+    ghost use Rattle.dover_model.specs.Session.{Session};
+
     /// No text yet. Where `keep` is true, the steps of the run are kept.
     ///
     /// # Errors
@@ -360,14 +363,21 @@ impl Judge {
         ensures tells { IfOk result (λ closed. (text : List ℕ) → StandsFor self text → Tells closed.verdict text) }
         ensures steps { IfOk result (λ closed. (text : List ℕ) → StandsFor self text →
             closed.steps.items ≡ steps_told (keeps self) (model.verdict text)) }
+        ensures refused { IfOk result (λ closed. (text : List ℕ) (S : Session) → StandsFor self text →
+            model.verdict text ≡ model.Accepted S → closed.refused ≡ model.refused_count S) }
         ensures ok { (text : List ℕ) → StandsFor self text → IsOk result }
         ensures failed { OnOk result (self.found ≢ NoMemory) }
     {
         let verdict = self.verdict()?;
+        let refused = self.reader.refused();
         let mut steps = self.reader.into_steps();
         if !matches!(verdict, Verdict::Accepted { .. }) {
             steps.clear();
         }
-        Ok(Closed { verdict, steps })
+        Ok(Closed {
+            verdict,
+            steps,
+            refused,
+        })
     }
 }

@@ -73,7 +73,7 @@ impl Model for Reader {
 impl Reader {
     ghost use Rattle.dover_model.specs.State.{State};
     ghost use Rattle.dover_model.specs.Session.{Session, instance_of, admitted_jobs};
-    ghost use Rattle.dover_model.specs.Verdict.{expected_after};
+    ghost use Rattle.dover_model.specs.Verdict.{expected_after, refused_count};
     ghost use Rattle.trace_judge.specs.declared.stage.Stage.TheVariants.{Opening, Going, Ended};
     ghost use Rattle.trace_format.specs.Form.{HasForm, item_in, trace_text};
     ghost use Rattle.trace_format.specs.declared.lines.TraceLine.TheVariants.{Header, Step, Refused};
@@ -186,6 +186,13 @@ impl Reader {
             bound: bound(value, ratio),
             jobs: self.course.jobs(),
         }
+    }
+
+    /// How many refused lines a whole trace has.
+    pub fn refused(&self) -> u32
+        ensures { (ls : List (List ℕ)) (S : Session) → Ends self.now ls S → result ≡ refused_count S }
+    {
+        self.items.saturating_sub(self.course.jobs())
     }
 
     /// The steps that were kept.

@@ -12,13 +12,15 @@ put_report-requires g c = let tells = rw c.in-Accepted.is at c.requires.closed.1
 pub returns-in-Ok-clause-answers : goal.returns-in-Ok-clause-answers
 returns-in-Ok-clause-answers g c = λ text ended closed.
     let tells = rw c.in-Accepted.is at closed.tells in
-    reported _ _ _ _ _ text tells c.args.form ended _ _ _ c.requires.empty _ (c.in-Ok.ensures.puts (instance_of tells.0)
+    reported _ _ _ _ _ text tells c.args.closed.now.refused (closed.refused tells.0 tells.1) c.args.form ended _ _ _
+    c.requires.empty _ (c.in-Ok.ensures.puts (instance_of tells.0)
     (run_of _ _ _ _ _ text tells _ (c.deref.ensures.value ∙ closed.steps)))
 
 pub returns-in-Err-clause-answers : goal.returns-in-Err-clause-answers
 returns-in-Err-clause-answers g c = λ text ended closed.
     let tells = rw c.in-Accepted.is at closed.tells in
-    unreported _ _ _ _ _ text tells c.args.form ended _ _ _ c.requires.empty c.in-Err.stop
+    unreported _ _ _ _ _ text tells c.args.closed.now.refused (closed.refused tells.0 tells.1) c.args.form ended _ _ _
+    c.requires.empty c.in-Err.stop
     (c.in-Err.ensures.puts (instance_of tells.0)
     (run_of _ _ _ _ _ text tells _ (c.deref.ensures.value ∙ closed.steps)))
 

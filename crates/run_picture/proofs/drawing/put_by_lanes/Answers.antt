@@ -11,7 +11,7 @@ returns c =
     let unit = unit_of high in
     let bottom = 236 + unit * high in
     joined c.args.text.now.items
-    (under c.args.window c.args.counts.now bottom c.args.rows.now
+    (under c.args.window c.args.totals.now bottom c.args.rows.now
     ∷ middle_of c.args.window unit c.args.lanes.now c.args.run.now c.args.pieces.now
     ∷ over c.args.window false bottom c.args.jobs.now c.args.run.now
     ∷ []) _ (

@@ -8,7 +8,7 @@ use Rattle.run_picture.proofs.drawing.put_under.Goals as goal
 pub returns : goal.returns
 unfolding ground_of under
 returns c = joined c.args.text.now.items
-    (page (c.args.bottom + 36) c.args.counts.now
+    (page (c.args.bottom + 36) c.args.totals.now
     ∷ axis c.args.window c.args.bottom
     ∷ lanes_legend
     ∷ all_bands c.args.window 1 c.args.bottom c.args.rows.now

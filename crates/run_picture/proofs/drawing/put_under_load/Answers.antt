@@ -8,7 +8,7 @@ use Rattle.run_picture.proofs.drawing.put_under_load.Goals as goal
 pub returns : goal.returns
 unfolding ground_of under_load
 returns c = joined c.args.text.now.items
-    (page 510 c.args.counts.now
+    (page 510 c.args.totals.now
     ∷ axis c.args.window 474
     ∷ load_legend
     ∷ all_bands c.args.window 0 474 c.args.rows.now

@@ -1,7 +1,7 @@
 use Rattle.std.proofs.Common.{[], ◌∷◌, refl}
 use Rattle.run_view.proofs.Joining.{joined}
 use Rattle.run_picture.specs.Legends.{styles, legend}
-use Rattle.run_picture.specs.Frame.{front, ground, title, blank, page}
+use Rattle.run_picture.specs.Frame.{front, ground, title_front, title_end, blank, page}
 use Rattle.run_picture.proofs.frame.put_page.Goals as goal
 
 pub returns : goal.returns
@@ -10,7 +10,8 @@ returns c = joined c.args.text.now.items
     (front c.args.high
     ∷ styles
     ∷ ground c.args.high
-    ∷ title c.args.counts.now
+    ∷ title_front c.args.totals.now.counts
+    ∷ title_end c.args.totals.now.refused
     ∷ legend
     ∷ []) _ (
       _,
@@ -18,6 +19,14 @@ returns c = joined c.args.text.now.items
       (
         _,
         c.in_ok-put_styles.ensures,
-        (_, c.in_ok-put-2.ensures, (_, c.in_ok-put-3.ensures, (_, c.in_ok-put_legend.ensures, refl))),
+        (
+          _,
+          c.in_ok-put-2.ensures,
+          (
+            _,
+            c.in_ok-put-3.ensures,
+            (_, c.in_ok-put_title_end.ensures, (_, c.in_ok-put_legend.ensures, refl)),
+          ),
+        ),
       ),
     )

@@ -2,7 +2,9 @@ use Rattle.std.proofs.Common.{sym, ap, ◌∙◌, subst, Vec, Global}
 use Rattle.dover_model.specs.declared.events.Event.{Event}
 use Rattle.dover_model.proofs.Tests.{never}
 use Rattle.trace_judge.specs.Judging.{Judged, Tells, steps_told}
-use Rattle.trace_judge.proofs.Judging.{steps_accepted, steps_left}
+use Rattle.dover_model.specs.Lines.{whole_lines}
+use Rattle.trace_judge.specs.Reads.{Ends}
+use Rattle.trace_judge.proofs.Judging.{ends_accepted, steps_accepted, steps_left}
 use Rattle.trace_judge.proofs.judge.Judge.close.Goals as goal
 use Rattle.trace_judge.proofs.judge.Judge.close.Goals.{in-Accepted, in_default, then-not-matches, else-not-matches}
 
@@ -26,3 +28,8 @@ returns-clause-steps c text stands = elim c.if-not-matches.branch [
     | in_default x ↦ never (sym x.matches-is ∙ w.if-not-matches.false)
   ]
 ]
+
+pub returns-clause-refused : goal.returns-clause-refused
+returns-clause-refused c text S stands told = c.refused-refused.ensures (whole_lines text) S
+    (subst (λ (j : Judged). Ends j.reader (whole_lines text) S) (sym c.self.view_is)
+    (ends_accepted c.args.self text stands S told))
