@@ -1,21 +1,25 @@
 -- Stretches, and whether all jobs can be served.
-use Rattle.std.proofs.Common.{◌≡◌, ℕ, ◌≤◌, ◌<◌, List, [], ◌∷◌, inl, refl, ap, subst}
+use Rattle.std.proofs.Common.{◌≡◌, ℕ, ◌≤◌, ◌<◌, List, [], ◌∷◌, inl, inr, refl, ap, subst, sym, cond}
 use Rattle.std.proofs.Common.{Bool, true, false, arith}
-use Rattle.std.specs.Prelude.{◌&&◌, nat_le}
-use Rattle.std.specs.List.{sum_by}
+use Rattle.std.specs.Prelude.{◌&&◌, ◌+◌, nat_le, IsTrue}
+use Rattle.std.specs.List.{sum_by, enumerate_from, AllByRecursion}
+use Rattle.std.proofs.lemmas.List.Sums.{sum_by-cons}
 use Rattle.std.proofs.lemmas.Bool.{leb-true, leb-false, lt-leb}
 use Rattle.dover_model.specs.JobFacts.{JobFacts, IsJob}
 use Rattle.dover_model.specs.Limits.{last_tick}
 use Rattle.dover_model.specs.Sound.{Each}
 use Rattle.dover_model.specs.Windows.{IsOverfull, is_inside, work_inside}
 use Rattle.dover_model.specs.declared.events.Version.TheVariants.{One}
-use Rattle.dover_model.proofs.Members.{filter_none}
+use Rattle.dover_model.specs.Instance.{total_value}
+use Rattle.dover_model.specs.Schedules.{is_served}
+use Rattle.dover_model.proofs.Members.{filter_none, cond_le}
+use Rattle.dover_model.proofs.Parting.{worth_to}
 use Rattle.feasibility.specs.declared.answer.Feasible.{Feasible}
 use Rattle.feasibility.specs.declared.answer.Feasible.TheVariants.{Window}
 use Rattle.feasibility.specs.Feasibility.{CanMeet, IsAnswer, IsDeadline, ShowsWindow}
 use Rattle.feasibility.proofs.Overfull.{overfull_excludes}
 use Rattle.overload.specs.declared.stretch.Stretch.{Stretch}
-use Rattle.overload.specs.Stretches.{IsStretch}
+use Rattle.overload.specs.Stretches.{IsStretch, IsWorth}
 
 -- no job is inside a window without ticks
 empty_out : (a b : ℕ) (j : JobFacts) → IsJob j → b ≤ a → is_inside a b j ≡ false
@@ -55,3 +59,55 @@ none_met jobs (x ∷ xs) each can =
     (work_inside jobs x.from x.until)
     (record { window = omega (arith, it.some); work = refl; too_much = it.overfull })
     (can (record { ratio = record { p = 1; q = 1 }; version = One })))
+
+-- ---- what is worth all serves all
+
+module _ (s : List ℕ) where
+  -- jobs are worth at most their values
+  earned_most : (k : ℕ) (jobs : List JobFacts) → sum_by (worth_to s) (enumerate_from k jobs) ≤ total_value jobs
+  earned_most k [] = omega arith
+  earned_most k (j ∷ jobs) = omega (
+    arith,
+    sum_by-cons (worth_to s) (k, j) (enumerate_from (k + 1) jobs),
+    sum_by-cons (λ (i : JobFacts). i.value) j jobs,
+    cond_le (is_served s (k, j)) j.value,
+    earned_most (k + 1) jobs,
+  )
+
+  -- where they are worth no less, each is served
+  all_served : (k : ℕ) (jobs : List JobFacts) → Each IsJob jobs
+      → total_value jobs ≤ sum_by (worth_to s) (enumerate_from k jobs)
+      → AllByRecursion (λ n_j. IsTrue (is_served s n_j)) (enumerate_from k jobs)
+  all_served k [] good all = tt
+  all_served k (j ∷ jobs) good all = by_test (is_served s (k, j)) refl (all_served (k + 1) jobs
+      (λ i member. good i (inr member))) where
+        by_test : (c : Bool) → is_served s (k, j) ≡ c
+            → (total_value jobs ≤ sum_by (worth_to s) (enumerate_from (k + 1) jobs)
+            → AllByRecursion (λ n_j. IsTrue (is_served s n_j)) (enumerate_from (k + 1) jobs))
+            → AllByRecursion (λ n_j. IsTrue (is_served s n_j)) (enumerate_from k (j ∷ jobs))
+        by_test true e others = (
+          e,
+          others (omega (
+            arith,
+            all,
+            sum_by-cons (worth_to s) (k, j) (enumerate_from (k + 1) jobs),
+            sum_by-cons (λ (i : JobFacts). i.value) j jobs,
+            cond_le (is_served s (k, j)) j.value,
+          )),
+        )
+        by_test false e others =
+            let nothing : worth_to s (k, j) ≡ 0 = ap (λ c. cond c j.value 0) e in
+            absurd (omega (
+              arith,
+              all,
+              nothing,
+              (good j (inl refl)).worth,
+              sum_by-cons (worth_to s) (k, j) (enumerate_from (k + 1) jobs),
+              sum_by-cons (λ (i : JobFacts). i.value) j jobs,
+              earned_most (k + 1) jobs,
+            ))
+
+-- where some schedule is worth all, all can be served
+pub all_met : (jobs : List JobFacts) → Each IsJob jobs → (value : ℕ) → IsWorth jobs value → total_value jobs ≤ value
+    → CanMeet jobs
+all_met jobs good value it all rules = (it.1, all_served it.1 0 jobs good (omega (arith, all, it.2)))

@@ -18,6 +18,10 @@ jobs_inside jobs a b = filter (is_inside a b) jobs
 abbrev pub Caps : List JobFacts → ℕ → Type 0
 Caps jobs cap = (rules : Rules) (s : List ℕ) → worth (record { rules = rules; jobs = jobs }) s ≤ cap
 
+-- some schedule of these jobs is worth this, whatever ratio and version are declared
+abbrev pub IsWorth : List JobFacts → ℕ → Type 0
+IsWorth jobs value = (rules : Rules) × (s : List ℕ) × (worth (record { rules = rules; jobs = jobs }) s ≡ value)
+
 -- the job is inside one of the stretches
 abbrev pub is_inside_some : List Stretch → JobFacts → Bool
 is_inside_some [] j = false

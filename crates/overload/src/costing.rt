@@ -6,7 +6,7 @@ ghost use Rattle.dover_model.specs.Limits.{last_tick, most_jobs, most_value};
 ghost use Rattle.dover_model.specs.Sound.{Each};
 ghost use Rattle.dover_model.specs.Windows.{is_inside, work_inside};
 ghost use Rattle.feasibility.specs.Feasibility.{CanMeet};
-ghost use Rattle.overload.specs.Stretches.{IsStretch, IsCosted, jobs_inside, value_inside};
+ghost use Rattle.overload.specs.Stretches.{IsStretch, IsCosted, IsWorth, jobs_inside, value_inside};
 ghost use Rattle.overload.specs.Collecting.{HasCosted, IsCut, IsNear};
 
 use crate::caps::{MOST_SETS, cap};
@@ -144,17 +144,37 @@ impl Costing {
             Feasible::Window { a, b, .. } => self.push(alloc, jobs, Ticks { from: a, until: b }),
         }
     }
+
+    /// Finds the stretches, where some schedule of the jobs has this value. Where that is all, there is none.
+    fn find(&mut self, alloc: Global, jobs: &[Job], value: u64) -> Result<(), Memory>
+        requires in_order { IsInOrder jobs.now }
+        requires count { length jobs.now ≤ most_jobs }
+        requires each { Each IsJob jobs.now }
+        requires costed { HasCosted jobs.now self.old }
+        requires value { IsWorth jobs.now value }
+        ensures costed { OnOk result (HasCosted jobs.now self.new) }
+        ensures met { OnOk result (self.new.costed.stretches.items ≡ [] → CanMeet jobs.now) }
+    {
+        if self.costed.total <= value {
+            return Ok(());
+        }
+        for ticks in overfull(alloc, jobs)?.iter() {
+            self.add(alloc, jobs, *ticks)?;
+        }
+        self.complete(alloc, jobs)
+    }
 }
 
 /// Where jobs have more work than there are ticks, what they are worth at most there, and what all jobs are worth at
-/// most.
+/// most, by the jobs and what some schedule of them is worth: where that is all, there is nothing to look for.
 ///
 /// # Errors
 ///
 /// `Memory` where there is none, and nothing else.
-pub fn cost_of(alloc: Global, jobs: &[Job]) -> Result<Costed, Memory>
+pub fn cost_of(alloc: Global, jobs: &[Job], value: u64) -> Result<Costed, Memory>
     requires in_order { IsInOrder jobs.now }
     requires count { length jobs.now ≤ most_jobs }
+    requires value { IsWorth jobs.now value }
     ensures { IfOk result (IsCosted jobs.now) }
 {
     let total = total_value(jobs);
@@ -167,10 +187,7 @@ pub fn cost_of(alloc: Global, jobs: &[Job]) -> Result<Costed, Memory>
         at: 0,
         sets: MOST_SETS,
     };
-    for ticks in overfull(alloc, jobs)?.iter() {
-        costing.add(alloc, jobs, *ticks)?;
-    }
-    costing.complete(alloc, jobs)?;
+    costing.find(alloc, jobs, value)?;
     Ok(costing.costed)
 }
 

@@ -63,8 +63,8 @@ pub(crate) fn answer<L: Ledger>(
     ensures ends { IfOk result (λ answer. IsFinal answer.status) }
     ensures count { CostsAtMost (length listed.now.jobs.items) steps.old steps.new }
 {
-    let costed = cost_of(alloc, &listed.jobs)?;
     let completed = completed_jobs(alloc, listed, steps)?;
+    let costed = cost_of(alloc, &listed.jobs, completed.value)?;
     let rows = rows(alloc, &listed.jobs, &costed.stretches, &completed.done)?;
     let mut head = BackLine::new();
     write_numbers(

@@ -7,13 +7,13 @@ use Rattle.overload.proofs.costing.cost_of.Goals as goal
 pub returns : goal.returns
 returns c =
     let jobs = c.args.jobs.now in
-    let it = c.complete.new.self in
-    let has = c.in_ok-complete.ensures.costed in record {
+    let it = c.find.new.self in
+    let has = c.in_ok-find.ensures.costed in record {
       total = has.total;
       in_order = has.in_order;
       each = has.each;
       sum = has.sum;
       most = subst (Caps jobs) (sym has.sum) (caps_all jobs it.costed.stretches.items (λ x member.
           (has.each x member).cap));
-      none = (c.in_ok-complete.ensures.met, none_met jobs it.costed.stretches.items has.each);
+      none = (c.in_ok-find.ensures.met, none_met jobs it.costed.stretches.items has.each);
     }

@@ -1,13 +1,23 @@
 use Rattle.std.proofs.Common.{◌∙◌, ap, subst, sym, codes, get_or, false}
 use Rattle.dover_model.specs.JobFacts.{IsJob}
 use Rattle.dover_model.specs.Sound.{Each}
+use Rattle.dover_model.specs.Run.{ran}
+use Rattle.dover_model.proofs.Honest.{honest}
 use Rattle.dover_model.proofs.Members.{all_member}
 use Rattle.event_feed.specs.Listing.{listed_instance}
+use Rattle.overload.specs.Stretches.{IsWorth}
 use Rattle.question_words.specs.Texts.{stretch_lines}
 use Rattle.question_words.proofs.Comparing.{value_low}
 use Rattle.question_words.proofs.Lines.{four_written}
 use Rattle.question_words.proofs.Losing.{rows_said, lost}
 use Rattle.question_words.proofs.loss.answer.Goals as goal
+
+-- what the run completes is what its schedule is worth
+pub cost_of-requires-clause-value : goal.cost_of-requires-clause-value
+cost_of-requires-clause-value g c =
+    let J = listed_instance c.args.listed.now in
+    subst (λ js. IsWorth js c.in_ok-completed.completed.value) (sym c.deref.ensures.value)
+    (J.rules, ran J, honest J c.requires ∙ sym c.in_ok-completed.ensures.value)
 
 pub bound-requires : goal.bound-requires
 bound-requires g c = record {
