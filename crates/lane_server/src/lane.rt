@@ -268,6 +268,7 @@ impl Lane {
     }
 
     /// The next line due. None exactly where all that is due was given.
+    #[inline(always)]
     pub fn next_out<L: Ledger>(&mut self, steps: &mut Steps<L>) -> Option<LaneOut>
         requires { (ls : List (List ℕ)) × (rest : List (List ℕ)) × Stands self.old ls rest }
         ensures gives { (ls rest : List (List ℕ)) → Stands self.old ls rest

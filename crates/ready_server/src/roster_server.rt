@@ -63,7 +63,9 @@ fn read_into(roster: &mut Option<Roster>, event: &Event)
     ensures { roster.new ≡ option_map (with_step event.now) roster.old }
 {
     if let Some(kept) = roster {
-        kept.read(event);
+        // A copy, so that the step itself needn't stand in memory where there is none.
+        let step = *event;
+        kept.read(&step);
     }
 }
 

@@ -67,11 +67,13 @@ impl<L: Ledger> Talker for Serving<L> {
         Lane::laws();
     }
 
+    #[inline(always)]
     fn take(&mut self, _meter: &mut Steps<L>, piece: &[u8]) -> Result<usize, Memory> {
         Lane::laws();
         self.feed.take(piece)
     }
 
+    #[inline(always)]
     fn next_part(&mut self, meter: &mut Steps<L>, part: &mut BackLine) -> bool {
         match self.feed.next_out(meter) {
             Some(out) => {
