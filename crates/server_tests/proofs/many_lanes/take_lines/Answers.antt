@@ -15,4 +15,4 @@ answered Closed old new ls bytes it = (ls ++ bytes ∷ [], _, it.stands)
 pub drain-requires : goal.drain-requires
 drain-requires g c = answered c.in-Ok.step
     c.loop-line.lanes c.line-answer.new.self c.loop-line.invariant.stands.0 _
-    (c.in-Ok.ensures c.loop-line.invariant.stands.0 c.loop-line.invariant.stands.1)
+    (c.in-Ok.ensures.answers c.loop-line.invariant.stands.0 c.loop-line.invariant.stands.1)
