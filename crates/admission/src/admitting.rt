@@ -78,8 +78,12 @@ impl Admission {
         }
     }
 
-    /// The job of these numbers, release, work and deadline in ticks, where it may be admitted next, or why it may not.
-    /// The numbers may be out of the limits of a job.
+    /// The job of these numbers, release, work and deadline in ticks, where it may be admitted next. The numbers may be
+    /// out of the limits of a job.
+    ///
+    /// # Errors
+    ///
+    /// The first cause, of those of `Refused` in their order, for which it may not.
     #[inline(always)]
     pub fn check(&self, release: u64, work: u64, deadline: u64, value: u64) -> Result<Job, Refused>
         ensures job { IfOk result (λ job. job ≡ job_of_numbers release work deadline value) }

@@ -8,7 +8,9 @@ use dover_model::{Job, Ratio};
 /// A job under its number.
 #[derive(Clone, Copy)]
 pub struct Numbered {
+    /// Its number, in the order of admission.
     pub number: u32,
+    /// The job.
     pub job: Job,
 }
 
@@ -35,7 +37,9 @@ fn keep_denser(kept: &mut Numbered, next: &Numbered)
 /// The least dense and the densest of some jobs, and of equally dense ones the first.
 #[derive(Clone, Copy)]
 pub struct Extremes {
+    /// The first of those of the least value per tick of work.
     pub least: Numbered,
+    /// The first of those of the greatest.
     pub densest: Numbered,
     /// Whether the two keep the ratio. A job between them then keeps it with all.
     pub keep_ratio: bool,

@@ -16,6 +16,7 @@ use std::alloc::Global;
 pub struct Choice {
     /// Their numbers, in rising order.
     pub numbers: Vec<u32>,
+    /// These jobs, in the order of their numbers.
     pub jobs: Vec<Job>,
     /// The sum of their values.
     pub value: u64,
@@ -38,6 +39,10 @@ impl Choice {
     }
 
     /// This set and the job of the next number. None exactly where no schedule serves each of these.
+    ///
+    /// # Errors
+    ///
+    /// `Memory` where there is none.
     pub fn with(&self, alloc: Global, number: u32, all: &[Job]) -> Result<Option<Choice>, Memory>
         requires choice { IsChoice all.now number self.now }
         requires number { number < length all.now }

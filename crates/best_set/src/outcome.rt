@@ -19,6 +19,7 @@ pub enum BestFault {
     /// More than 20 jobs.
     #[error("too many jobs")]
     TooMany,
+    /// There was no memory.
     #[error("out of memory")]
     Memory,
 }

@@ -10,8 +10,12 @@ use dover_model::{Job, Memory};
 use std::alloc::Global;
 
 /// Of the sets that extend this choice by jobs from number `next` on, and are worth at least `wanted`, the earliest of
-/// greatest value. Each
-/// job is put in before it is left out. `left` is the sum of the values of the jobs from `next` on.
+/// greatest value. Each job is put in before it is left out. `left` is the sum of the values of the jobs from `next`
+/// on.
+///
+/// # Errors
+///
+/// `Memory` where there is none.
 pub fn search(
     alloc: Global,
     jobs: &[Job],

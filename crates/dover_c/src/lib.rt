@@ -35,7 +35,9 @@ pub struct Place {
 #[repr(C)]
 #[derive(Clone, Copy)]
 pub struct Admitted {
+    /// The number of the job, or of the one that breaks the ratio with it; else 0.
     pub number: u64,
+    /// 0 where it was admitted, else the cause, by the numbers of the header.
     pub status: u32,
 }
 
@@ -44,14 +46,18 @@ pub struct Admitted {
 #[repr(C)]
 #[derive(Clone, Copy)]
 pub struct Decided {
+    /// The tick of the decision, and at the end the value of all jobs that completed.
     pub tick: u64,
+    /// The number of its job.
     pub job: u64,
+    /// The number of the job that it stops.
     pub other: u64,
+    /// Which decision it is, or why there is none, by the numbers of the header.
     pub kind: u32,
 }
 
-/// Makes an engine of this ratio and version with room for so many open jobs, and puts it at the address. `dover_status`
-/// says whether there is one.
+/// Makes an engine of this ratio and version with room for so many open jobs, and puts it at the address.
+/// `dover_status` says whether there is one.
 #[unsafe(no_mangle)]
 pub unsafe extern "C" fn dover_init(
     alloc: Global,

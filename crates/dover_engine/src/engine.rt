@@ -34,8 +34,8 @@ const MOST_FORGOTTEN: u64 = 1_000_000_000_000_000_000;
 const MOST_JOBS: u32 = 1_000_000;
 
 /// A server with its admission, which takes all its memory when it is made, and forgets each job as it is over. Its
-/// capacity is for open jobs, and a job is over at its deadline at the latest: as many are enough as can come within the
-/// longest time from a release to its deadline.
+/// capacity is for open jobs, and a job is over at its deadline at the latest: as many are enough as can come within
+/// the longest time from a release to its deadline.
 #[derive(Drop)]
 pub struct Engine {
     server: ReadyServer,

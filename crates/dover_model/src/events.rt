@@ -4,7 +4,9 @@ use crate::jobs::Job;
 /// The version of a feed: how ties are broken, and whether a job that isn't admitted ends the feed.
 #[derive(Clone, Copy, Debug, PartialEq, Eq)]
 pub enum Version {
+    /// Ties by the smaller number; a job that isn't admitted ends the feed.
     One,
+    /// Ties by the greater value, and then by the smaller number; a job that isn't admitted is passed over.
     Two,
 }
 
@@ -27,51 +29,78 @@ impl Version {
 /// Why a job isn't admitted.
 #[derive(Clone, Copy, PartialEq, Eq)]
 pub enum Refusal {
+    /// Its release, work, deadline or value is out of the limits, or it can't be done from its release on.
     BadJob,
+    /// There are 1,000,000 admitted jobs already.
     Count,
+    /// With it the values of the admitted jobs would sum up to more than 10^13.
     Total,
+    /// Its value per tick of work and that of an admitted job differ by more than the declared ratio.
     Ratio,
 }
 
 /// What a job is at a moment.
 #[derive(Clone, Copy, PartialEq, Eq)]
 pub enum Role {
+    /// It isn't released yet.
     Coming,
+    /// It was released in this tick, and isn't decided on yet.
     Fresh,
+    /// It is ready and not begun, or was displaced by a take.
     Waiting,
+    /// It was preempted by a job of earlier deadline, and goes on behind it.
     Held,
+    /// It has the processor.
     Running,
+    /// It completed by its deadline.
     Done,
+    /// It was abandoned at its latest start.
     Gone,
 }
 
 /// A job at a moment, under its number: its role, and the ticks that it has had.
 #[derive(Clone, Copy)]
 pub struct Task {
+    /// Its number: the jobs of a run are numbered from 0 on as they are admitted.
     pub number: u32,
+    /// What it asks for.
     pub job: Job,
+    /// What it is now.
     pub role: Role,
+    /// The ticks that it has had.
     pub had: u64,
 }
 
-/// A printed step.
+/// A printed step. `at` is its tick, and the other fields but `job` and `value` are numbers of jobs.
 #[derive(Clone, Copy, PartialEq, Eq)]
 pub enum Event {
+    /// The job of this number is released, at the tick that the job names.
     Release { number: u32, job: Job },
+    /// The job begins or goes on from the tick `at` on, where the processor is free.
     Run { at: u64, number: u32 },
+    /// From the tick `at` on `starts`, which is fresh and due earlier, has the processor, and `stops` is held.
     Preempt { at: u64, stops: u32, starts: u32 },
+    /// At its latest start `starts` takes the processor from the tick `at` on; `stops` and all held jobs wait again.
     Take { at: u64, stops: u32, starts: u32 },
+    /// The job has had all its work by the tick `at`, which is at or before its deadline.
     Complete { at: u64, number: u32 },
+    /// The job is given up at the tick `at`, its latest start.
     Abandon { at: u64, number: u32 },
+    /// The run is over. `value` is the sum of the values of the jobs that completed.
     End { value: u64 },
 }
 
 /// A job that doesn't run at the moment.
 #[derive(Clone, Copy, PartialEq, Eq)]
 pub struct Entry {
+    /// Its number.
     pub number: u32,
+    /// The tick by which it is due.
     pub deadline: u64,
+    /// The tick of its latest start: `deadline - left`.
     pub latest: u64,
+    /// The ticks of work that it still needs.
     pub left: u64,
+    /// What it is worth if it completes.
     pub value: u64,
 }

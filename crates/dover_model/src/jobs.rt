@@ -54,6 +54,7 @@ impl Job {
         })
     }
 
+    /// The tick from which it may run, and at which it becomes known: at most 10^12.
     pub fn release(&self) -> u64
         ensures is { result ≡ self.now.release }
         ensures job { IsJob self.now }
@@ -61,6 +62,7 @@ impl Job {
         self.release
     }
 
+    /// The ticks of work that it needs: at least 1.
     pub fn work(&self) -> u64
         ensures is { result ≡ self.now.work }
         ensures job { IsJob self.now }
@@ -68,6 +70,7 @@ impl Job {
         self.work
     }
 
+    /// The tick by which it is due: at most 10^12, and late enough for all its work behind its release.
     pub fn deadline(&self) -> u64
         ensures is { result ≡ self.now.deadline }
         ensures job { IsJob self.now }
@@ -75,6 +78,7 @@ impl Job {
         self.deadline
     }
 
+    /// What it is worth if it completes in time: 1 to 10^9.
     pub fn value(&self) -> u64
         ensures is { result ≡ self.now.value }
         ensures job { IsJob self.now }

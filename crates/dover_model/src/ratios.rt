@@ -54,6 +54,7 @@ impl Ratio {
         }
     }
 
+    /// The numerator: at least the denominator, and at most 1,000,000.
     pub fn p(&self) -> u32
         ensures is { result ≡ self.now.p }
         ensures ratio { IsRatio self.now }
@@ -61,6 +62,7 @@ impl Ratio {
         self.p
     }
 
+    /// The denominator: 1 to 1,000.
     pub fn q(&self) -> u32
         ensures is { result ≡ self.now.q }
         ensures ratio { IsRatio self.now }

@@ -122,6 +122,10 @@ impl MemoryPort {
 
     /// Reads give the pieces of the script in order, each cut where the buffer is shorter. A call whose number is in
     /// a list of failing calls fails. At most `room` moves, bytes got and bytes put are kept.
+    ///
+    /// # Errors
+    ///
+    /// `Memory` where there is none.
     pub fn new(
         alloc: Global,
         script: Vec<Vec<u8>>,

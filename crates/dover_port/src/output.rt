@@ -40,6 +40,10 @@ impl Output {
     }
 
     /// Puts all that is kept back.
+    ///
+    /// # Errors
+    ///
+    /// `Failed` where a write failed: a front of it was put, and not all.
     #[inline(never)]
     pub fn flush<P: Port>(&mut self, port: &mut P) -> Result<(), Failed>
         ensures text { PutsThrough (P.moves port.old) (P.moves port.new) result self.old [] [] }
@@ -77,6 +81,10 @@ impl Output {
     }
 
     /// Puts the bytes, or keeps them back for later. There may be at most `OUTPUT_BYTES`.
+    ///
+    /// # Errors
+    ///
+    /// `Failed` where a write failed: a front of what was kept back and of the bytes was put, and not all.
     #[inline(always)]
     pub fn put<P: Port>(&mut self, port: &mut P, bytes: &[u8]) -> Result<(), Failed>
         requires { length bytes.now ≤ OUTPUT_BYTES }

@@ -13,12 +13,19 @@ use std::alloc::Global;
 /// What the summary of a run says: counts of jobs and of takes, and sums of values.
 #[derive(Clone, Copy)]
 pub struct Counts {
+    /// How many jobs were released.
     pub jobs: u64,
+    /// How many completed.
     pub completed: u64,
+    /// The value of those.
     pub value: u64,
+    /// How many were abandoned.
     pub abandoned: u64,
+    /// The value of those.
     pub lost: u64,
+    /// How many took the processor.
     pub taken: u64,
+    /// What no schedule of the jobs is worth more than.
     pub bound: u64,
 }
 

@@ -26,8 +26,8 @@ use step_count::Steps;
 ///   that `judge` writes.
 /// - `report chrome` does the same, with the run as events for a viewer of traces, and `report why N` with what
 ///   happened to the job of number N and by which test.
-/// - `report timeline [FROM UNTIL]` and `report svg [FROM UNTIL]` do the same, with the run, or its ticks from FROM on and
-///   before UNTIL, as a picture for a terminal or a browser.
+/// - `report timeline [FROM UNTIL]` and `report svg [FROM UNTIL]` do the same, with the run, or its ticks from FROM on
+///   and before UNTIL, as a picture for a terminal or a browser.
 /// - `trial SEED COUNT P Q` reads nothing, and writes the summary of the run of so many stated jobs of a seed, within
 ///   the ratio P/Q.
 /// - `bait P Q N` reads nothing, and writes what the run of the baiting jobs comes to, and what another schedule of
@@ -39,8 +39,8 @@ use step_count::Steps;
 /// - `best` reads a feed of at most 20 jobs, and writes what the best schedule is worth, beside what the rules complete
 ///   and guarantee, and such a schedule.
 /// - `compare` reads a feed, and writes what the rules complete, and what two other policies do.
-/// - `loss` reads a feed, and writes what no schedule is worth more than, beside what the rules complete, and where there
-///   is too much work.
+/// - `loss` reads a feed, and writes what no schedule is worth more than, beside what the rules complete, and where
+///   there is too much work.
 /// - `lanes` reads up to 64 feeds in one input, each line with its lane's number in front, and serves each on its own:
 ///   each line that is settled for a lane is written with the number in front, before the next read.
 /// - `pause` does what `serve` does, but where the input ends behind whole lines, with the ratio declared and neither

@@ -18,6 +18,10 @@ pub enum NoDuel {
 }
 
 /// How many jobs the front of the duel has: so many as are asked for, or all.
+///
+/// # Errors
+///
+/// The first cause of `NoDuel`, in their order, for which there is none.
 pub fn front_count(k: Ratio, share: Share, front: Option<u32>) -> Result<u32, NoDuel>
     requires { IsShare share }
     ensures { Answers k share front result }

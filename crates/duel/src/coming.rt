@@ -16,6 +16,7 @@ const MORE_LINKS: u32 = 1_000_000;
 /// What comes next.
 #[derive(Drop)]
 pub enum Next {
+    /// This job.
     Job(Job),
     /// All jobs were given.
     Over,

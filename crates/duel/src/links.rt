@@ -9,7 +9,9 @@ use dover_model::Ratio;
 /// A part of a whole, both from 1 to 1,000,000: what no on-line scheduler is to get of the best schedule.
 #[derive(Clone, Copy)]
 pub struct Share {
+    /// The numerator.
     pub part: u64,
+    /// The denominator.
     pub whole: u64,
 }
 

@@ -46,6 +46,8 @@ impl Cause {
 #[derive(Clone, Copy, Debug, PartialEq, Eq, Error)]
 #[error("a line of the feed is at fault")]
 pub struct FeedFault {
+    /// The number of the line, from 1 on.
     pub line: u64,
+    /// Why it is at fault.
     pub cause: Cause,
 }

@@ -248,8 +248,11 @@ impl Intake {
         &self.spelled
     }
 
-    /// The input ends here. The fault is that of an earlier line, or that there was no end line. It leaves all as
-    /// before.
+    /// The input ends here. It leaves all as before.
+    ///
+    /// # Errors
+    ///
+    /// The fault of an earlier line, or that there was no end line.
     pub fn end(&self) -> Result<(), FeedFault>
         ensures ended { IsOk result ↔ (has_ended self.now ≡ true) }
         ensures fault { (fault : FeedFault) → fault_of self.now ≡ Some fault → result ≡ Err fault }

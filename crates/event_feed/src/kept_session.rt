@@ -98,6 +98,10 @@ impl KeptSession {
     }
 
     /// A line after the first.
+    ///
+    /// # Errors
+    ///
+    /// Why it is at fault. In version Two a job that isn't admitted is no fault.
     #[inline(always)]
     pub fn line(&mut self, line: FeedLine) -> Result<Fed, Cause>
         requires { HasNumerals (form_of line) }

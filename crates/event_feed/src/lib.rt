@@ -1,5 +1,5 @@
-//! What a feed says, line by line, and which line is at fault; and a feed in pieces, read to its end, with its jobs as a
-//! list.
+//! What a feed says, line by line, and which line is at fault; and a feed in pieces, read to its end, with its jobs as
+//! a list.
 #![tactic(auto)]
 
 mod declaring;

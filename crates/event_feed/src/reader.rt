@@ -125,8 +125,12 @@ impl FeedReader {
         self.gathering.going
     }
 
-    /// The jobs of a feed whose `end` line was read, or its fault: that of its first faulty line, where the cause names
-    /// the other job if the line breaks the ratio, or that it is short.
+    /// The jobs of a feed whose `end` line was read.
+    ///
+    /// # Errors
+    ///
+    /// The fault of the first faulty line, where the cause names the other job if the line breaks the ratio, or that
+    /// the feed is short.
     pub fn close(self) -> Result<Listed, FeedFault>
         requires { (x : List ℕ) × StandsFor self x }
         ensures jobs { (x : List ℕ) → StandsFor self x → IfOk result (λ listed. IsEnded listed (account x)) }

@@ -6,6 +6,10 @@ ghost use Rattle.dover_model.specs.Pieces.{stretches};
 use dover_model::{Memory, Piece};
 
 /// Puts a stretch behind the others: where the last one ends as it begins and is of the same job, the two are one.
+///
+/// # Errors
+///
+/// `Memory` where there is none.
 pub fn add_piece(pieces: &mut Vec<Piece>, piece: Piece) -> Result<(), Memory>
     requires some { piece.from < piece.until }
     requires job { piece.number ≡ idle → ⊥ }

@@ -9,8 +9,11 @@ use std::marker::Model;
 /// A job that is released and not done: its deadline and number, and how many of its ticks are left.
 #[derive(Clone, Copy)]
 pub struct DueJob {
+    /// The tick by which it is due.
     pub deadline: u64,
+    /// Its number.
     pub number: u32,
+    /// The ticks that it still needs.
     pub left: u64,
 }
 
@@ -59,6 +62,10 @@ impl DueQueue {
     }
 
     /// Releases the next job.
+    ///
+    /// # Errors
+    ///
+    /// `Memory` where there is none.
     pub fn release(&mut self, deadline: u64, work: u64) -> Result<(), Memory>
         requires { self.old.released < 2 ^ 32 }
         ensures released { OnOk result (self.new.released ≡ self.old.released + 1) }

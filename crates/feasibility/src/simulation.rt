@@ -127,6 +127,10 @@ fn with_late(late: Option<u64>, deadline: u64, done: u64) -> Option<u64>
 }
 
 /// The whole schedule.
+///
+/// # Errors
+///
+/// `Memory` where there is none.
 pub fn simulate(alloc: Global, jobs: &[Job]) -> Result<Simulation, Memory>
     requires order { IsInOrder jobs.now }
     requires count { length jobs.now ≤ most_jobs }

@@ -52,7 +52,11 @@ impl Rooms {
         }
     }
 
-    /// Makes room for `more` holds. Where there is room for them, it takes no memory; want of it leaves all as before.
+    /// Makes room for `more` holds. Where there is room for them, it takes no memory.
+    ///
+    /// # Errors
+    ///
+    /// `Memory` where there is none, and all is as before. It doesn't come where there is room.
     pub fn reserve(&mut self, more: u32) -> Result<(), Memory>
         ensures ok { OnOk result (self.new ≡ record self.old { spare = max self.old.spare more }) }
         ensures err { OnErr result (self.new ≡ self.old) }

@@ -20,7 +20,9 @@ pub struct Interval {
 /// The interval under way, and whether a job was taken in it.
 #[derive(Clone, Copy)]
 pub struct UnderWay {
+    /// The interval as far as it has come.
     pub interval: Interval,
+    /// Whether a job was taken in it.
     pub took: bool,
 }
 

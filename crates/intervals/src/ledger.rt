@@ -12,7 +12,9 @@ use std::marker::Model;
 /// A released job: its value, and the era in which it last came to run. An era ends with each take.
 #[derive(Clone, Copy)]
 pub struct Known {
+    /// Its value.
     pub value: u64,
+    /// The era in which it last came to run.
     pub era: u64,
 }
 

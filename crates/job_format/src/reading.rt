@@ -117,8 +117,11 @@ fn read(line: &[u8]) -> Result<FeedLine, BadLine>
     }
 }
 
-/// Reads a line without its line feed. `BadLine` comes exactly where the bytes have none of the forms, with one space
-/// between fields, or are more than 128.
+/// Reads a line without its line feed.
+///
+/// # Errors
+///
+/// `BadLine` exactly where the bytes have none of the forms, with one space between fields, or are more than 128.
 #[inline(always)]
 pub fn read_feed_line(line: &[u8]) -> Result<FeedLine, BadLine>
     ensures ok { IfOk result (λ read. model.feed_line line.now ≡ Some (form_of read)) }

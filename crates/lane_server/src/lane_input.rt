@@ -20,7 +20,9 @@ use step_count::Steps;
 /// The line at which an input is refused, and why.
 #[derive(Clone, Copy, PartialEq, Eq)]
 pub struct Refused {
+    /// The number of the line, from 1 on.
     pub line: u64,
+    /// Why the input is refused there.
     pub cause: Refusal,
 }
 
@@ -68,7 +70,11 @@ impl LaneInput {
         Lane::laws();
     }
 
-    /// No byte came yet. Err where there is no memory.
+    /// No byte came yet.
+    ///
+    /// # Errors
+    ///
+    /// `Memory` where there is none.
     pub fn new(alloc: Global) -> Result<LaneInput, Memory>
         ensures rests { IfOk result (λ i. Rests i []) }
         ensures paid { IfOk result (λ i. (start : ℕ) → HavePaid i.lanes.lanes start start) }

@@ -111,7 +111,11 @@ fn all_fine(lanes: &[Lane]) -> bool
 impl Lanes {
     ghost use Rattle.lane_server.specs.Kept.{StandsFor, IsReady, is_closed, Answers, GivesNext};
 
-    /// No line came yet. Err where there is no memory.
+    /// No line came yet.
+    ///
+    /// # Errors
+    ///
+    /// `Memory` where there is none.
     pub fn new(alloc: Global) -> Result<Lanes, Memory>
         ensures ready { IfOk result (λ lanes. IsReady lanes) }
         ensures stands { IfOk result (λ lanes. StandsFor lanes [] []) }
@@ -161,6 +165,10 @@ impl Lanes {
 
     /// Takes the next line of the input, without its line feed, where all lines that were due before were given: at
     /// first, and then where `next_out` has answered None. No jobs are compared.
+    ///
+    /// # Errors
+    ///
+    /// `Lines`, `BadLane` and `Memory`, as they say. After the first two the lanes are as before.
     pub fn line(&mut self, line: &[u8]) -> Result<LaneStep, LaneFault>
         requires ready { IsReady self.old }
         requires stands { (ls : List (List ℕ)) × StandsFor self.old ls [] }

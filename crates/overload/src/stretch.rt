@@ -1,7 +1,9 @@
 /// Some ticks, and what is known of the jobs that are released and due in them.
 #[derive(Clone, Copy)]
 pub struct Stretch {
+    /// The first of the ticks.
     pub from: u64,
+    /// The tick behind the last one.
     pub until: u64,
     /// What they are worth together.
     pub total: u64,
@@ -16,5 +18,6 @@ pub struct Costed {
     pub total: u64,
     /// No schedule is worth more.
     pub cap: u64,
+    /// The stretches.
     pub stretches: Vec<Stretch>,
 }

@@ -119,6 +119,10 @@ impl Unrolling {
     ghost use Rattle.periodic_tasks.specs.Tasks.{jobs_before};
 
     /// No job was given yet. Of the t tasks each costs at most d comparisons, where t + 1 has at most d binary digits.
+    ///
+    /// # Errors
+    ///
+    /// `Memory` where there is none.
     pub fn new<L: Ledger>(
         alloc: Global,
         tasks: Vec<PeriodicTask>,

@@ -49,7 +49,11 @@ impl Heap {
     }
 
     /// Makes the places below `places` ready for use, with room for an item at each. Where they are, it takes no
-    /// memory; want of it leaves all as before.
+    /// memory.
+    ///
+    /// # Errors
+    ///
+    /// `Memory` where there is none, and all is as before. It doesn't come where there is room.
     #[cold]
     pub fn reserve(&mut self, places: u32) -> Result<(), Memory>
         ensures ok { OnOk result (self.new ≡ self.old ++ replicate (places - length self.old) None) }

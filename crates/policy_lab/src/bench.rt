@@ -121,6 +121,10 @@ impl Bench {
 }
 
 /// The value and the stretches of the policy's schedule of so many ticks.
+///
+/// # Errors
+///
+/// `Memory` where there is none.
 pub fn run_ticks<P: Policy>(
     alloc: Global,
     policy: &P,

@@ -34,13 +34,17 @@ pub enum LabFault {
     /// More than 10,000 jobs, or a deadline above 100,000.
     #[error("too many jobs, or a deadline too late")]
     TooLarge,
+    /// There was no memory.
     #[error("out of memory")]
     Memory,
 }
 
 /// Runs the policy over these jobs, whose releases never fall along the list and whose values sum to at most 10^13.
-/// TooLarge exactly where there are more than 10,000 jobs or a deadline is above 100,000. Otherwise want of memory is
-/// the only error.
+///
+/// # Errors
+///
+/// `TooLarge` exactly where there are more than 10,000 jobs or a deadline is above 100,000. Otherwise `Memory` where
+/// there is none, and nothing else.
 pub fn run_policy<P: Policy>(alloc: Global, policy: &P, jobs: &[Job]) -> Result<Outcome, LabFault>
     requires in_order { IsInOrder jobs.now }
     requires total { total_value jobs.now ≤ most_total }

@@ -10,7 +10,9 @@ use std::alloc::Global;
 /// What is told of a job, and its row.
 #[derive(Clone, Copy)]
 pub struct Lane {
+    /// What is told of it.
     pub seen: Seen,
+    /// Its row, from 0 on.
     pub row: u32,
 }
 

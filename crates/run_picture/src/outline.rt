@@ -11,14 +11,18 @@ use run_view::template::put;
 /// What is measured.
 #[derive(Clone, Copy)]
 pub enum Measure {
+    /// The value of the jobs that completed so far.
     Completed,
+    /// The value of the jobs that completed or were abandoned so far.
     Decided,
 }
 
 /// How an outline is drawn.
 #[derive(Clone, Copy)]
 pub struct Outline {
+    /// The ticks that it shows.
     pub window: Window,
+    /// What it shows of them.
     pub measure: Measure,
     /// In 200 columns, and not by pixels.
     pub coarse: bool,

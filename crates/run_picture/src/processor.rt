@@ -8,7 +8,9 @@ use std::alloc::Global;
 /// The job that has the processor, from this tick on.
 #[derive(Clone, Copy)]
 pub struct Runner {
+    /// Its number.
     pub number: u32,
+    /// The tick from which it has the processor.
     pub from: u64,
 }
 

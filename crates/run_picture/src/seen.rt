@@ -9,23 +9,32 @@ use std::alloc::Global;
 /// How a job ended, and at which tick.
 #[derive(Clone, Copy)]
 pub enum Fate {
+    /// These steps end it nowhere.
     Open,
+    /// It completed at this tick.
     Completed(u64),
+    /// It was abandoned at this tick.
     Abandoned(u64),
 }
 
 /// What is told of a job.
 #[derive(Clone, Copy)]
 pub struct Seen {
+    /// Its number.
     pub number: u32,
+    /// The tick of its release.
     pub release: u64,
+    /// The ticks of work that it needs.
     pub work: u64,
+    /// The tick by which it is due.
     pub deadline: u64,
+    /// What it is worth.
     pub value: u64,
     /// Whether it takes the processor at its latest start.
     pub took: bool,
     /// What the jobs under way are worth when it is weighed.
     pub against: u64,
+    /// How it ended.
     pub fate: Fate,
 }
 

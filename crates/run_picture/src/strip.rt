@@ -11,6 +11,7 @@ use run_view::template::put;
 /// Where bars are drawn.
 #[derive(Clone, Copy)]
 pub struct Bars {
+    /// The ticks that are shown.
     pub window: Window,
     /// How many pixels a row is high; 0 for the strip.
     pub unit: u64,

@@ -11,7 +11,9 @@ use std::marker::Model;
 /// The ticks from `from` on and before `until`, in which a job has the processor.
 #[derive(Clone, Copy)]
 pub struct Stay {
+    /// The first of the ticks.
     pub from: u64,
+    /// The tick behind the last one.
     pub until: u64,
     /// Whether it began with a take.
     pub took: bool,
@@ -20,7 +22,9 @@ pub struct Stay {
 /// A stay, and one more than the place of the job's next one, 0 for none.
 #[derive(Clone, Copy)]
 pub struct Link {
+    /// The stay.
     pub stay: Stay,
+    /// One more than the place of the next one, or 0.
     pub next: usize,
 }
 

@@ -21,7 +21,9 @@ use std::alloc::Global;
 pub struct Asked {
     /// The ratio of its run.
     pub k: Ratio,
+    /// Its number.
     pub number: u32,
+    /// Its value.
     pub value: u64,
 }
 

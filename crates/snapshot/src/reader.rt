@@ -63,10 +63,12 @@ impl Reader {
         }
     }
 
-    /// Takes the next line, without its line feed. Err `BadSnapshot` at the first line that doesn't stand where it is,
-    /// `Memory` where there was none
-    /// for the run or for the line's job, and the line stands where it is. After `Ready` or a fault no further line may
-    /// be handed in.
+    /// Takes the next line, without its line feed. After `Ready` or a fault no further line may be handed in.
+    ///
+    /// # Errors
+    ///
+    /// `BadSnapshot` at the first line that doesn't stand where it is, and `Memory` where there was none for the run or
+    /// for the line's job, and the line stands where it is.
     pub fn line<L: Ledger>(&mut self, line: &[u8], steps: &mut Steps<L>) -> Result<Got, SnapFault>
         requires { (ls : List (List ℕ)) × IsReading self.old ls }
         ensures answers { (ls : List (List ℕ)) → IsReading self.old ls → Answers result self.new (ls ++ line.now ∷ []) }

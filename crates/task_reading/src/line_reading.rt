@@ -81,8 +81,11 @@ fn read(line: &[u8]) -> Result<TaskLine, BadLine>
     }
 }
 
-/// Reads a line without its line feed. `BadLine` comes exactly where the bytes have none of the forms, with one space
-/// between fields, or are more than 128.
+/// Reads a line without its line feed.
+///
+/// # Errors
+///
+/// `BadLine` exactly where the bytes have none of the forms, with one space between fields, or are more than 128.
 pub fn read_task_line(line: &[u8]) -> Result<TaskLine, BadLine>
     ensures ok { IfOk result (λ read. model.task_line line.now ≡ Some read) }
     ensures err { OnErr result (model.task_line line.now ≡ None) }

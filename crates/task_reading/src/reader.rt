@@ -95,8 +95,12 @@ impl TaskReader {
         matches!(self.progress, Progress::Open)
     }
 
-    /// The tasks of a text whose `end` line was read, or its fault: that of its first faulty line, which names the
-    /// earlier task that breaks the ratio with it, by its number from 0 on, or that the text is short.
+    /// The tasks of a text whose `end` line was read.
+    ///
+    /// # Errors
+    ///
+    /// The fault of the first faulty line, which names the earlier task that breaks the ratio with it, by its number
+    /// from 0 on, or that the text is short.
     pub fn close(self) -> Result<ListedTasks, FeedFault>
         requires { (until : ℕ) × (x : List ℕ) × StandsFor until self x }
         ensures tasks { (until : ℕ) (x : List ℕ) → StandsFor until self x → IfOk result

@@ -70,7 +70,7 @@ fn end_with(numbers: &[u64]) -> Option<Event>
     }
 }
 
-/// The release that fields spell behind its word. So it is with the steps below.
+/// The release that fields spell behind its word.
 #[inline(always)]
 #[tactic(auto, using(crate::proofs::NoLine::no_release))]
 pub fn release_of(fields: &[u8]) -> Option<Event>
@@ -80,6 +80,7 @@ pub fn release_of(fields: &[u8]) -> Option<Event>
     release_with(&numbers)
 }
 
+/// The end that fields spell behind its word.
 #[inline(always)]
 #[tactic(auto, using(crate::proofs::NoLine::no_end))]
 pub fn end_of(fields: &[u8]) -> Option<Event>
@@ -89,6 +90,7 @@ pub fn end_of(fields: &[u8]) -> Option<Event>
     end_with(&numbers)
 }
 
+/// The run that fields spell behind its word.
 #[inline(always)]
 #[tactic(auto, using(crate::proofs::NoLine::no_run))]
 pub fn run_of(fields: &[u8]) -> Option<Event>
@@ -99,6 +101,7 @@ pub fn run_of(fields: &[u8]) -> Option<Event>
     Some(Event::Run { at, number })
 }
 
+/// The completion that fields spell behind its word.
 #[inline(always)]
 #[tactic(auto, using(crate::proofs::NoLine::no_complete))]
 pub fn complete_of(fields: &[u8]) -> Option<Event>
@@ -109,6 +112,7 @@ pub fn complete_of(fields: &[u8]) -> Option<Event>
     Some(Event::Complete { at, number })
 }
 
+/// The abandonment that fields spell behind its word.
 #[inline(always)]
 #[tactic(auto, using(crate::proofs::NoLine::no_abandon))]
 pub fn abandon_of(fields: &[u8]) -> Option<Event>
@@ -119,6 +123,7 @@ pub fn abandon_of(fields: &[u8]) -> Option<Event>
     Some(Event::Abandon { at, number })
 }
 
+/// The preemption that fields spell behind its word.
 #[inline(always)]
 #[tactic(auto, using(crate::proofs::NoLine::no_preempt))]
 pub fn preempt_of(fields: &[u8]) -> Option<Event>
@@ -129,6 +134,7 @@ pub fn preempt_of(fields: &[u8]) -> Option<Event>
     Some(Event::Preempt { at, stops, starts })
 }
 
+/// The take that fields spell behind its word.
 #[inline(always)]
 #[tactic(auto, using(crate::proofs::NoLine::no_take))]
 pub fn take_of(fields: &[u8]) -> Option<Event>

@@ -51,7 +51,9 @@ impl Model for Judge {
 /// What a text is, and where it is accepted, the steps of its run if they were kept, and how many refused lines it has.
 #[derive(Drop)]
 pub struct Closed {
+    /// What the text is.
     pub verdict: Verdict,
+    /// The printed steps of the run, or none.
     pub steps: Vec<Event>,
     pub refused: u32,
 }

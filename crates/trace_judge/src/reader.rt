@@ -92,6 +92,10 @@ impl Reader {
     ghost use Rattle.trace_judge.specs.Reads.{IsUnchangedFor, expected_of, releases_in, jobs_in, job_lines_in};
 
     /// No line. Where `keep` is true, the steps of the run are kept.
+    ///
+    /// # Errors
+    ///
+    /// `Memory` where there is none.
     pub fn new(alloc: Global, keep: bool) -> Result<Reader, Memory>
         ensures stage { IfOk result (λ reader. reader.stage ≡ Opening) }
         ensures reads { IfOk result (λ reader. Reads reader []) }
@@ -117,6 +121,10 @@ impl Reader {
     }
 
     /// Room for so many jobs more, and for their steps where they are kept.
+    ///
+    /// # Errors
+    ///
+    /// `Memory` where there is none.
     pub fn reserve(&mut self, more: u32) -> Result<(), Memory>
         ensures same { self.new ≡ record self.old {
           course = record self.old.course { room = self.new.course.room };
@@ -521,6 +529,10 @@ impl Reader {
 
     /// The next line. Where it doesn't go on as a trace does, `due` gives what is due in its place, and further lines
     /// aren't to be taken.
+    ///
+    /// # Errors
+    ///
+    /// `Memory` where there is none for the line's job or step.
     pub fn take<L: Ledger>(&mut self, line: &[u8], steps: &mut Steps<L>) -> Result<bool, Memory>
         ensures took { IfOk result (Took self.old self.new line.now) }
         ensures room { job_lines_in line.now ≤ self.old.spare → IsOk result }

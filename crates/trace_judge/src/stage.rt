@@ -1,9 +1,12 @@
-//! How far a trace has come.
+//! The stages of a trace.
 
-/// No line yet, lines behind the header, or the line of the end.
+/// How far a trace has come.
 #[derive(Clone, Copy)]
 pub enum Stage {
+    /// No line came yet.
     Opening,
+    /// The header came, and not the line of the end.
     Going,
+    /// The line of the end came.
     Ended,
 }

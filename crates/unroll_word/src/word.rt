@@ -16,9 +16,10 @@ use step_count::Steps;
 use task_reading::TaskReader;
 
 /// Unrolls periodic tasks: reads a task text to its end, and then writes the feed of all jobs that its tasks release
-/// before the tick `until`, at most 10^12, in order of release, and those of one tick in the order of the tasks. The feed
-/// has no fault. A text with a fault, or that ends too early, is refused, and so are tasks with more than 1,000,000 jobs,
-/// or whose jobs are worth more than 10^13. Memory is taken for each task alone, and none once the first byte is written.
+/// before the tick `until`, at most 10^12, in order of release, and those of one tick in the order of the tasks. The
+/// feed has no fault. A text with a fault, or that ends too early, is refused, and so are tasks with more than
+/// 1,000,000 jobs, or whose jobs are worth more than 10^13. Memory is taken for each task alone, and none once the
+/// first byte is written.
 pub fn unroll_word<P: Port, L: Ledger>(
     alloc: Global,
     port: &mut P,
