@@ -1,3 +1,5 @@
 pub mod Comparing
 pub mod Firsts
+pub mod Joining
 pub mod Refusing
+pub mod Versions

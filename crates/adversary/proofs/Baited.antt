@@ -28,7 +28,7 @@ use Rattle.adversary.proofs.RunLinks.{AreSmall, links_above, last_above}
 use Rattle.adversary.proofs.RunLinks.{last_small, last_more, links_most, links_heavier, HasNext, links_next, links_last}
 use Rattle.adversary.proofs.RunLinks.{links_one}
 use Rattle.adversary.proofs.RunFeeds.{in_back, unit_at, IsUnit, bait, feed_is, link_in_feed, feed_begins, feed_sum}
-use Rattle.adversary.proofs.Steady.{IsLast, IsChained, Stands, IsSteady, step_steady, value_of_steady}
+use Rattle.adversary.proofs.Steady.{IsLast, IsChained, Stands, IsSteady, done_at_end, step_steady, value_of_steady}
 
 module _ (k : Fraction) (version : Version) (n : ℕ) (valid : IsValid (baiting k version (suc n))) where
   -- the feed
@@ -197,7 +197,7 @@ module _ (k : Fraction) (version : Version) (n : ℕ) (valid : IsValid (baiting 
       × IsSteady most Link Light x.before) (run J)
   each_steady = run_states J valid J.rules (IsSteady most Link Light)
       (λ s keeps steady on. step_steady k (bait_jobs k (suc n)) most Link Light chained s keeps.sound keeps.jobs steady
-      (step J.rules s) (step_deed J valid s keeps J.rules))
+      (step J.rules s) (step_deed J valid s keeps J.rules) (done_at_end s keeps.sound J.rules refl))
       (run J) (opening (bait_jobs k (suc n))) (opening_keeps J) opening_steady
       (run_is_whole J valid)
 

@@ -33,7 +33,7 @@ use Rattle.dover_model.proofs.Ending.{end_over, run_is_whole}
 use Rattle.dover_model.specs.Weights.{one_if}
 use Rattle.adversary.specs.BaitingRuns.{baiting, CompletesLastAlone}
 use Rattle.adversary.proofs.Steady.{IsLast, IsChained, IsSteady, alone, stands_as, differ, completes, no_preemption}
-use Rattle.adversary.proofs.Steady.{taken, on_taken, step_steady, value_of_steady}
+use Rattle.adversary.proofs.Steady.{DoneAtEnd, done_at_end, taken, on_taken, step_steady, value_of_steady}
 use Rattle.adversary.proofs.RunLinks.{links_ends}
 use Rattle.adversary.proofs.Baited.{bait_completes, most, Link, Light, ratio, small, chained, opening_steady}
 use Rattle.adversary.proofs.Baited.{each_steady}
@@ -117,48 +117,48 @@ module _ (k : Fraction) (jobs : List JobFacts) (most : ℕ) (Link Light : JobFac
 
   -- each deed completes a job, or leaves it as it is
   deed_counts : (other : Move) (done : Bool) → SomeDone done s.tasks → (Quiet s → Counts done s other) → (m : Move)
-      → Deed k s other m
+      → Deed k s other m → DoneAtEnd s m
       → Counts done s m
-  deed_counts other done it rested m (Completed r member runs none_left) =
-      completed_counts done it r member runs none_left
-  deed_counts other done it rested m (Resumed p member is_h none least why) = record {
+  deed_counts other done it rested m (Completed r member runs) ends =
+      completed_counts done it r member runs (ends refl r member runs)
+  deed_counts other done it rested m (Resumed p member is_h none least why) _ = record {
     then_done = done;
     some = still_done s sound done p member Running (not_done p Held is_h (λ e. cc)) (λ e. cc) it;
     balance = omega arith;
   }
-  deed_counts other done it rested m (Started o member waiting none before fits next) = record {
+  deed_counts other done it rested m (Started o member waiting none before fits next) _ = record {
     then_done = done;
     some = still_done s sound done o member Running (not_done o Waiting waiting (λ e. cc)) (λ e. cc) it;
     balance = omega arith;
   }
-  deed_counts other done it rested m (Began f member fresh none) = record {
+  deed_counts other done it rested m (Began f member fresh none free) _ = record {
     then_done = done;
     some = still_done s sound done f member Running (not_done f Fresh fresh (λ e. cc)) (λ e. cc) it;
     balance = omega arith;
   }
-  deed_counts other done it rested m (Preempted r f member runs some f_member fresh before fits) =
+  deed_counts other done it rested m (Preempted r f member runs some f_member fresh before fits) _ =
       absurd (no_preemption k jobs most Link Light chained s sound are steady r f member runs f_member fresh fits)
-  deed_counts other done it rested m (Stayed r f member runs some f_member fresh why) = record {
+  deed_counts other done it rested m (Stayed r f member runs some f_member fresh why) _ = record {
     then_done = done;
     some = still_done s sound done f f_member Waiting (not_done f Fresh fresh (λ e. cc)) (λ e. cc) it;
     balance = omega arith;
   }
-  deed_counts other done it rested m (Arrived c member comes now least stale busy free) = record {
+  deed_counts other done it rested m (Arrived c member comes now least stale busy free) _ = record {
     then_done = done;
     some = still_done s sound done c member Fresh (not_done c Coming comes (λ e. cc)) (λ e. cc) it;
     balance = omega arith;
   }
-  deed_counts other done it rested m (Taken r x member runs some x_member waiting now stale heavy) = record {
+  deed_counts other done it rested m (Taken r x member runs some x_member waiting now stale heavy) _ = record {
     then_done = done;
     some = taken_counts done it r x member runs some x_member waiting heavy;
     balance = omega arith;
   }
-  deed_counts other done it rested m (Abandoned r x member runs some x_member waiting now stale light) = record {
+  deed_counts other done it rested m (Abandoned r x member runs some x_member waiting now stale light) _ = record {
     then_done = done;
     some = still_done s sound done x x_member Gone (not_done x Waiting waiting (λ e. cc)) (λ e. cc) it;
     balance = omega arith;
   }
-  deed_counts other done it rested m (Rested quiet) = rested quiet
+  deed_counts other done it rested m (Rested quiet) _ = rested quiet
 
   -- a silent tick changes nothing of it
   ticks_counts : (done : Bool) → SomeDone done s.tasks → SomeDone done (map ticked s.tasks)
@@ -166,10 +166,10 @@ module _ (k : Fraction) (jobs : List JobFacts) (most : ℕ) (Link Light : JobFac
   ticks_counts false none = on_map ticked (λ t. t.role ≡ Done → ⊥) s.tasks none
 
   -- nor does a step but a completion
-  step_counts : (done : Bool) → SomeDone done s.tasks → (m : Move) → Deed k s (ending s or_else Ticks) m
+  step_counts : (done : Bool) → SomeDone done s.tasks → (m : Move) → Deed k s (ending s or_else Ticks) m → DoneAtEnd s m
       → Counts done s m
-  step_counts done it m deed =
-      deed_counts (ending s or_else Ticks) done it (by_end (list_all is_over s.tasks)) m deed where
+  step_counts done it m deed ends =
+      deed_counts (ending s or_else Ticks) done it (by_end (list_all is_over s.tasks)) m deed ends where
         by_end : (b : Bool) → Quiet s
             → Counts done s (then_some b (Prints (End (value_sum (filter is_done s.tasks)))) or_else Ticks)
         by_end true quiet = record {
@@ -213,7 +213,7 @@ module _ (k : Fraction) (version : Version) (n : ℕ) (valid : IsValid (baiting 
   then_steady s keeps steady =
       step_steady k (bait_jobs k (suc n)) (most k version n valid) (Link k version n valid) (Light k version n valid)
       (chained k version n valid) s keeps.sound keeps.jobs steady (step feed.rules s)
-      (step_deed feed valid s keeps feed.rules)
+      (step_deed feed valid s keeps feed.rules) (done_at_end s keeps.sound feed.rules refl)
 
   -- from a state on one job completes, if none has
   one_completes : (xs : List Step) (s : State) → Keeps feed s → Steady s → (done : Bool) → SomeDone done s.tasks
@@ -229,7 +229,7 @@ module _ (k : Fraction) (version : Version) (n : ℕ) (valid : IsValid (baiting 
         it = step_counts k (bait_jobs k (suc n)) (most k version n valid) (Link k version n valid)
             (Light k version n valid)
             (chained k version n valid) s keeps.sound keeps.jobs steady done some (step feed.rules s)
-            (step_deed feed valid s keeps feed.rules)
+            (step_deed feed valid s keeps feed.rules) (done_at_end s keeps.sound feed.rules refl)
 
         first_counted : completions (x ∷ xs) ≡ one_if (is_complete (step feed.rules s)) + completions xs
         first_counted = sum_by-cons (λ y. one_if (is_complete y.move)) x xs

@@ -12,6 +12,7 @@ use Rattle.dover_model.specs.declared.events.Version.{Version}
 use Rattle.dover_model.specs.Fraction.{Fraction}
 use Rattle.dover_model.specs.JobFacts.{JobFacts}
 use Rattle.dover_model.specs.Schedules.{ticks_given, is_served, worth}
+use Rattle.dover_model.specs.Instance.{jobs_under}
 use Rattle.dover_model.specs.Bait.{unit_value, first_link, chain, bait_value, tight_job, chain_jobs_from, chain_jobs}
 use Rattle.dover_model.specs.Bait.{bait_tick}
 use Rattle.dover_model.specs.Bait.{bait_jobs, unit_number, bait_plan, plan_value}
@@ -258,7 +259,7 @@ module _ (unit bait : ℕ) where
 
 -- the schedule is worth its value
 pub plan_worth : (k : Fraction) (rounds : ℕ) (version : Version)
-    → worth (record { rules = record { ratio = k; version = version }; jobs = bait_jobs k rounds }) (bait_plan k rounds)
+    → worth (jobs_under version k (bait_jobs k rounds)) (bait_plan k rounds)
     ≡ plan_value k rounds
 plan_worth k rounds version =
     parts_are (unit_value k) (bait_value k rounds) (bait_plan k rounds) 0 0 (bait_tick k rounds) 0 (chain k rounds)

@@ -3,18 +3,22 @@ use Rattle.std.proofs.Common.{◌≡◌, ℕ, ◌+◌, ◌≤◌, ◌<◌, ◌�
 use Rattle.std.proofs.Common.{true, false, cond}
 use Rattle.std.proofs.Common.{arith, eqb, ◌-◌, ◌*◌}
 use Rattle.std.specs.List.{sum_by, filter, list_all}
-use Rattle.std.specs.Prelude.{nat_lt}
+use Rattle.std.specs.Prelude.{nat_lt, ◌&&◌}
 use Rattle.std.specs.Bool.{then_some}
-use Rattle.std.proofs.lemmas.Bool.{eqb-true, eq-eqb, ne_eqb, cases_lt, ltb-true, and_parts}
+use Rattle.std.proofs.lemmas.Bool.{eqb-true, eq-eqb, ne_eqb, cases_lt, ltb-true, ltb-false, and_parts}
 use Rattle.dover_model.specs.JobFacts.{JobFacts}
 use Rattle.dover_model.specs.Fraction.{Fraction}
+use Rattle.dover_model.specs.Instance.{Rules}
+use Rattle.dover_model.specs.Finishes.{goes_on}
+use Rattle.dover_model.specs.Processor.{is_complete}
+use Rattle.dover_model.proofs.Readiness.{step_decides}
 use Rattle.dover_model.specs.declared.events.Role.{Role}
 use Rattle.dover_model.specs.declared.events.Role.TheVariants.{Coming, Fresh, Waiting, Held, Running, Done, Gone}
 use Rattle.dover_model.specs.declared.events.Event.TheVariants.{Take, End}
 use Rattle.dover_model.specs.declared.events.Task.{Task}
 use Rattle.dover_model.specs.State.{State, is_privileged, is_over, is_done, privileged, left, value_sum}
 use Rattle.dover_model.specs.Orders.{is_heavy}
-use Rattle.dover_model.specs.Step.{Move, Prints, Ticks, after, with_role, displaced, ticked, ending, ◌or_else◌}
+use Rattle.dover_model.specs.Step.{Move, Prints, Ticks, step, after, with_role, displaced, ticked, ending, ◌or_else◌}
 use Rattle.dover_model.specs.Sound.{IsMember, Each, EachTwo, FitsRole, IsNumberedFrom, NoneRuns, IsSound, jobs_of}
 use Rattle.dover_model.proofs.Members.{on_map, map_member, sum_filter, sum_zero, sum_map, sum_same, term_le_sum}
 use Rattle.dover_model.proofs.Roles.{one_number, numbers_above, passes, is_privileged_role, is_over_role}
@@ -26,6 +30,18 @@ use Rattle.dover_model.proofs.Deeds.{Deed, Completed, Resumed, Started, Began, P
 use Rattle.dover_model.proofs.Deeds.{Abandoned, Rested}
 use Rattle.dover_model.proofs.Kept.{end_same}
 use Rattle.dover_model.proofs.Tests.{never}
+
+-- where the move completes the job that runs, that has no work left
+abbrev pub DoneAtEnd : State → Move → Type 0
+DoneAtEnd s m = is_complete m ≡ true → Each (λ t. t.role ≡ Running → left t ≡ 0) s.tasks
+
+-- so it is where no job finishes early
+pub done_at_end : (s : State) → IsSound s → (rules : Rules) → rules.finishes ≡ [] → DoneAtEnd s (step rules s)
+done_at_end s sound rules plain ends t member runs = by_left (nat_lt 0 (left t)) refl
+    (subst (λ fs. goes_on fs t ≡ false) plain ((step_decides s sound rules).ends ends t member runs)) where
+      by_left : (b : Bool) → nat_lt 0 (left t) ≡ b → (b && true) ≡ false → left t ≡ 0
+      by_left true some stops = never (sym stops)
+      by_left false none stops = let low : left t ≤ 0 = ltb-false 0 (left t) none in omega arith
 
 -- a link of the greatest value, which is the last
 abbrev pub IsLast : ℕ → (JobFacts → Type 0) → JobFacts → Type 0
@@ -554,11 +570,11 @@ module _ (k : Fraction) (jobs : List JobFacts) (most : ℕ) (Link Light : JobFac
 
       -- each deed keeps a steady state
       deed_steady : (other : Move) → (Quiet s → IsSteady most Link Light (after s other)) → (m : Move)
-          → Deed k s other m
+          → Deed k s other m → DoneAtEnd s m
           → IsSteady most Link Light (after s m)
-      deed_steady other rested m (Completed r member runs done) = completes r member runs done
-      deed_steady other rested m (Resumed p member is_h none least why) = absurd (stands_as p member Held is_h)
-      deed_steady other rested m (Started o member waiting none first fits next) =
+      deed_steady other rested m (Completed r member runs) done = completes r member runs (done refl r member runs)
+      deed_steady other rested m (Resumed p member is_h none least why) _ = absurd (stands_as p member Held is_h)
+      deed_steady other rested m (Started o member waiting none first fits next) _ =
           absurd (by_idle (steady.idle none)) where
             by_unbegun : IsUnbegun o → ⊥
             by_unbegun (inl comes) = let e : Waiting ≡ Coming = sym waiting ∙ comes in cc
@@ -567,28 +583,31 @@ module _ (k : Fraction) (jobs : List JobFacts) (most : ℕ) (Link Light : JobFac
             by_idle : Each IsUnbegun s.tasks ⊎ Each (λ t. is_over t ≡ true) s.tasks → ⊥
             by_idle (inl unbegun) = by_unbegun (unbegun o member)
             by_idle (inr over) = not_over o Waiting refl waiting (over o member)
-      deed_steady other rested m (Began f member fresh none) = begins f member fresh none
-      deed_steady other rested m (Preempted r f member runs some f_member fresh before fits) =
+      deed_steady other rested m (Began f member fresh none free) _ = begins f member fresh none
+      deed_steady other rested m (Preempted r f member runs some f_member fresh before fits) _ =
           absurd (no_preemption r f member runs f_member fresh fits)
-      deed_steady other rested m (Stayed r f member runs some f_member fresh why) = stays r f member runs f_member fresh
-      deed_steady other rested m (Arrived c member comes now first stale busy free) =
+      deed_steady other rested m (Stayed r f member runs some f_member fresh why) _ =
+          stays r f member runs f_member fresh
+      deed_steady other rested m (Arrived c member comes now first stale busy free) _ =
           arrives c member comes now first stale
-      deed_steady other rested m (Taken r x member runs some x_member waiting now stale heavy) =
+      deed_steady other rested m (Taken r x member runs some x_member waiting now stale heavy) _ =
           takes r x member runs some x_member waiting heavy
-      deed_steady other rested m (Abandoned r x member runs some x_member waiting now stale light) =
+      deed_steady other rested m (Abandoned r x member runs some x_member waiting now stale light) _ =
           abandons r x member runs x_member waiting light
-      deed_steady other rested m (Rested quiet) = rested quiet
+      deed_steady other rested m (Rested quiet) _ = rested quiet
 
       -- a step keeps a steady state
-      pub step_steady : (m : Move) → Deed k s (ending s or_else Ticks) m → IsSteady most Link Light (after s m)
-      step_steady m deed = deed_steady (ending s or_else Ticks) (by_end (list_all is_over s.tasks)) m deed where
-        by_end : (b : Bool) → Quiet s
-            → IsSteady most Link Light
-            (after s (then_some b (Prints (End (value_sum (filter is_done s.tasks)))) or_else Ticks))
-        by_end true quiet = subst
-            (λ (tasks : List Task). IsSteady most Link Light (record { clock = s.clock; tasks = tasks }))
-            (sym (end_same s (value_sum (filter is_done s.tasks)))) steady
-        by_end false quiet = ticks quiet
+      pub step_steady : (m : Move) → Deed k s (ending s or_else Ticks) m → DoneAtEnd s m
+          → IsSteady most Link Light (after s m)
+      step_steady m deed done =
+          deed_steady (ending s or_else Ticks) (by_end (list_all is_over s.tasks)) m deed done where
+            by_end : (b : Bool) → Quiet s
+                → IsSteady most Link Light
+                (after s (then_some b (Prints (End (value_sum (filter is_done s.tasks)))) or_else Ticks))
+            by_end true quiet = subst
+                (λ (tasks : List Task). IsSteady most Link Light (record { clock = s.clock; tasks = tasks }))
+                (sym (end_same s (value_sum (filter is_done s.tasks)))) steady
+            by_end false quiet = ticks quiet
 
       -- where all jobs are over, those that are done are worth the last link
       pub value_of_steady : Each (λ t. is_over t ≡ true) s.tasks → value_sum (filter is_done s.tasks) ≡ most

@@ -8,7 +8,7 @@ use Rattle.dover_model.specs.Limits.{most_jobs, most_value, most_total}
 use Rattle.dover_model.specs.declared.events.Version.{Version}
 use Rattle.dover_model.specs.Fraction.{Fraction, IsRatio}
 use Rattle.dover_model.specs.JobFacts.{IsJob}
-use Rattle.dover_model.specs.Instance.{IsValid, IsWithinRatio, total_value}
+use Rattle.dover_model.specs.Instance.{IsValid, IsWithinRatio, jobs_under, total_value}
 use Rattle.dover_model.specs.Bait.{unit_value, most_light, first_link, chain_from, chain, last_link, bait_value}
 use Rattle.dover_model.specs.Bait.{tight_job, chain_jobs}
 use Rattle.dover_model.specs.Bait.{bait_tick, bait_jobs}
@@ -128,7 +128,7 @@ module _ (k : Fraction) (rounds : ℕ) (ratio : IsRatio k) (fits : FitsLimits k 
             omega (arith, is, few, product, modest)
 
   pub valid : (version : Version)
-      → IsValid (record { rules = record { ratio = k; version = version }; jobs = bait_jobs k rounds })
+      → IsValid (jobs_under version k (bait_jobs k rounds))
   valid version = record {
     ratio = ratio;
     each = each_is_job;

@@ -4,7 +4,7 @@ use Rattle.std.specs.List.{count_by, last_or}
 use Rattle.dover_model.specs.declared.events.Version.{Version}
 use Rattle.dover_model.specs.declared.events.Event.TheVariants.{Complete}
 use Rattle.dover_model.specs.Fraction.{Fraction}
-use Rattle.dover_model.specs.Instance.{Instance}
+use Rattle.dover_model.specs.Instance.{Instance, jobs_under}
 use Rattle.dover_model.specs.Bait.{bait_jobs, chain_jobs, last_link}
 use Rattle.dover_model.specs.Step.{Prints}
 use Rattle.dover_model.specs.Run.{run, completed_value}
@@ -13,7 +13,7 @@ use Rattle.dover_model.specs.Sound.{Each}
 
 -- the jobs of a baiting feed, and the rules that it declares
 abbrev pub baiting : Fraction → Version → (rounds : ℕ) → Instance
-baiting k version rounds = record { rules = record { ratio = k; version = version }; jobs = bait_jobs k rounds }
+baiting k version rounds = jobs_under version k (bait_jobs k rounds)
 
 -- the run of J completes the last job of the chain, and no other
 pub record CompletesLastAlone (k : Fraction) (rounds : ℕ) (J : Instance) : Type 0 where

@@ -2,7 +2,7 @@
 ghost use Rattle.std.specs.Prelude.{◌≡◌, ◌≤◌, ◌+◌, ◌*◌, ◌^◌, ℕ, List, ◌∷◌, ◌++◌};
 ghost use Rattle.dover_model.specs.declared.events.Version.{Version};
 ghost use Rattle.dover_model.specs.Fraction.{Fraction, IsRatio};
-ghost use Rattle.dover_model.specs.Instance.{IsValid};
+ghost use Rattle.dover_model.specs.Instance.{IsValid, jobs_under};
 ghost use Rattle.dover_model.specs.Schedules.{worth};
 ghost use Rattle.dover_model.specs.Bait.{unit_value, chain, last_link, bait_value, bait_jobs, bait_plan, plan_value};
 ghost use Rattle.adversary.specs.Baiting.{FitsLimits};
@@ -12,13 +12,13 @@ ghost use Rattle.adversary.specs.Links.{IsLeastUnmoved, IsLeastHeavy, IsMostLigh
 /// The jobs of a baiting feed within the limits are valid for its ratio.
 pub fn baiting_jobs_are_valid()
     ensures { (k : Fraction) (rounds : ℕ) (version : Version) → IsRatio k → 1 ≤ rounds → FitsLimits k rounds →
-        IsValid (record { rules = record { ratio = k; version = version }; jobs = bait_jobs k rounds }) }
+        IsValid (jobs_under version k (bait_jobs k rounds)) }
 {}
 
 /// The schedule that runs each unit job in its tick, and then the bait, serves exactly these.
 pub fn the_plan_is_worth_its_value()
     ensures { (k : Fraction) (rounds : ℕ) (version : Version) →
-        worth (record { rules = record { ratio = k; version = version }; jobs = bait_jobs k rounds })
+        worth (jobs_under version k (bait_jobs k rounds))
         (bait_plan k rounds) ≡ plan_value k rounds }
 {}
 

@@ -10,7 +10,7 @@ use Rattle.dover_model.proofs.Agreement.{is_valid-agrees}
 -- three jobs, of which the last has this work and value and no slack
 abbrev pub three : ℕ → Instance
 three n = record {
-  rules = record { ratio = record { p = 1; q = 1 }; version = One };
+  rules = record { ratio = record { p = 1; q = 1 }; version = One; finishes = [] };
   jobs = job_of_numbers 0 3 30 3 ∷ job_of_numbers 0 2 4 2 ∷ job_of_numbers 0 n n n ∷ [];
 }
 

@@ -67,7 +67,7 @@ good_meets all chosen good = λ rules. (
 
 -- some rules
 abbrev some_rules : Rules
-some_rules = record { ratio = record { p = 1; q = 1 }; version = One }
+some_rules = record { ratio = record { p = 1; q = 1 }; version = One; finishes = [] }
 
 -- a set of jobs that can't all be served is not good
 pub not_good : (all : List JobFacts) (chosen : List ℕ) (jobs : List JobFacts) → jobs ≡ jobs_at all chosen

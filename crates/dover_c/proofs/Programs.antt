@@ -11,7 +11,7 @@ use Rattle.std.proofs.lemmas.List.{map-append}
 use Rattle.dover_model.specs.declared.events.Event.{Event}
 use Rattle.dover_model.specs.declared.events.Event.TheVariants as events
 use Rattle.dover_model.specs.declared.events.Version.{Version}
-use Rattle.dover_model.specs.declared.events.Version.TheVariants.{One, Two}
+use Rattle.dover_model.specs.declared.events.Version.TheVariants.{One, Two, Three}
 use Rattle.dover_model.specs.Fraction.{Fraction, is_ratio}
 use Rattle.dover_model.specs.JobFacts.{JobFacts}
 use Rattle.dover_model.specs.Limits.{most_jobs}
@@ -353,6 +353,11 @@ same_version One One e = refl
 same_version One Two e = absurd (let f : 1 ≡ 2 = e in cc)
 same_version Two One e = absurd (let f : 2 ≡ 1 = e in cc)
 same_version Two Two e = refl
+same_version One Three e = absurd (let f : 1 ≡ 3 = e in cc)
+same_version Two Three e = absurd (let f : 2 ≡ 3 = e in cc)
+same_version Three One e = absurd (let f : 3 ≡ 1 = e in cc)
+same_version Three Two e = absurd (let f : 3 ≡ 2 = e in cc)
+same_version Three Three e = refl
 
 -- its status is an engine
 engine_made : (p q version capacity : ℕ) (made : Slot) → IsMade p q version capacity made → made.status ≡ made_status
@@ -414,7 +419,7 @@ module _ (version : Version) (p q capacity : ℕ) where
   all_are : (calls : List engine.Call) (acts : List Act) → engine.admitted calls ≡ told acts
       → engine.all_jobs version k calls ≡ all_told version p q acts
   all_are calls acts jobs = ap (λ (js : List (ℕ × JobFacts)). let J : Instance = record {
-    rules = record { ratio = k; version = version };
+    rules = record { ratio = k; version = version; finishes = [] };
     jobs = map (λ (n_j : ℕ × JobFacts). n_j.1) js;
   } in J) jobs
 

@@ -4,7 +4,7 @@ use Rattle.std.specs.Prelude.{Err}
 use Rattle.dover_model.specs.Limits.{most_jobs}
 use Rattle.dover_model.specs.Fraction.{is_ratio, IsRatio}
 use Rattle.dover_model.specs.declared.events.Version.{Version}
-use Rattle.dover_model.specs.declared.events.Version.TheVariants.{One, Two}
+use Rattle.dover_model.specs.declared.events.Version.TheVariants.{One, Two, Three}
 use Rattle.dover_model.specs.JobFacts.{JobFacts}
 use Rattle.dover_model.specs.declared.horizon.Horizon.TheVariants as horizon
 use Rattle.dover_model.specs.Horizons.{MayFollow, no_jobs}
@@ -43,6 +43,7 @@ status_of p q version capacity =
 abbrev pub version_number : Version → ℕ
 version_number One = 1
 version_number Two = 2
+version_number Three = 3
 
 -- an engine of this ratio and version, with no jobs and room for so many open ones
 pub record IsFresh (p q version capacity : ℕ) (v : Life) : Type 0 where

@@ -5,7 +5,7 @@ use Rattle.dover_model.specs.declared.events.Event.{Event}
 use Rattle.dover_model.specs.declared.events.Event.TheVariants.{Release, Run, Preempt, Take, Complete, Abandon, End}
 use Rattle.dover_model.specs.declared.events.Version.{Version}
 use Rattle.dover_model.specs.JobFacts.{JobFacts}
-use Rattle.dover_model.specs.Instance.{Instance}
+use Rattle.dover_model.specs.Instance.{Instance, jobs_under}
 use Rattle.dover_c.specs.declared.Admitted.{Admitted}
 use Rattle.dover_c.specs.declared.Decided.{Decided}
 use Rattle.dover_c.specs.declared.slot.Slot.{Slot}
@@ -55,7 +55,7 @@ jobs_told acts = map (λ n_j. n_j.1) (told acts)
 
 abbrev pub all_told : Version → (p q : ℕ) → List Act → Instance
 all_told version p q acts =
-    record { rules = record { ratio = record { p = p; q = q }; version = version }; jobs = jobs_told acts }
+    jobs_under version (record { p = p; q = q }) (jobs_told acts)
 
 -- an answer that is a decision
 abbrev pub is_decision : Decided → Bool

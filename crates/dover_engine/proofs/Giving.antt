@@ -14,7 +14,7 @@ use Rattle.dover_model.specs.Step.{Prints}
 use Rattle.dover_model.specs.Run.{is_end}
 use Rattle.dover_model.specs.Settled.{settled}
 use Rattle.dover_model.specs.Sound.{Each, jobs_of}
-use Rattle.dover_model.proofs.Admitting.{admits}
+use Rattle.admission.proofs.Joining.{admitted_valid}
 use Rattle.admission.specs.Kept.{Kept, StandsFor}
 use Rattle.dover_model.specs.declared.horizon.Horizon.{Horizon}
 use Rattle.dover_model.specs.declared.horizon.Horizon.TheVariants.{Mark, End}
@@ -71,7 +71,7 @@ module _ (v : Life) (J : Instance) (events : List Event) (g : GaveSince v J even
 
   -- a job that isn't refused may be admitted
   pub may_admit : refusal_of v.admission.ratio J.jobs job ≡ None → IsValid (with_jobs J (job ∷ []))
-  may_admit none = admits J.rules J.jobs job rests_there.follows.valid
+  may_admit none = admitted_valid J job rests_there.follows.valid
       (known_at v.server J job.release (settled J job.release) (rests_serves v.server J (Mark job.release) rests_there))
       (ap (λ k. refusal_of k J.jobs job) (sym g.ratio) ∙ none)
 

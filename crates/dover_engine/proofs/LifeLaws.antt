@@ -189,7 +189,7 @@ module _ (version : Version) (k : Fraction) where
       parts.2.1.1.prompt (all_jobs version k calls) (decided calls) (stood calls parts.0 front)
 
   abbrev the_rules : Rules
-  the_rules = record { ratio = k; version = version }
+  the_rules = record { ratio = k; version = version; finishes = [] }
 
   module _ (calls : List Call) (w : Life) (life : Lives version k calls w) where
     abbrev J : Instance
@@ -215,7 +215,7 @@ module _ (version : Version) (k : Fraction) where
     turns = it.lists ++ (it.since ∷ [])
 
     turns_jobs : in_turn turns ≡ jobs_in calls
-    turns_jobs = jobs_append the_rules it.lists (it.since ∷ [])
+    turns_jobs = jobs_append the_rules refl it.lists (it.since ∷ [])
         ∙ ap (λ js. in_turn it.lists ++ js) (append-nil it.since) ∙ sym it.all_jobs
 
     in_turns : IsInTurn the_rules 0 turns
@@ -223,7 +223,7 @@ module _ (version : Version) (k : Fraction) where
         let K : Instance = of_rules the_rules it.since in
         let valid : IsValid K = it.gave.serves.follows.valid in
         let rest : ℕ = it.tick + end_tick K in
-        turn_append the_rules it.lists (it.since ∷ []) 0 it.tick it.over (
+        turn_append the_rules refl it.lists (it.since ∷ []) 0 it.tick it.over (
           valid,
           it.later,
           (rest, omega arith, rests_from K valid rest (omega arith), tt),
@@ -234,26 +234,26 @@ module _ (version : Version) (k : Fraction) where
 
     pub within_all : (s : List ℕ) → IsWithin k (worth J s) (completed_value J)
     within_all s = subst (λ (I : Instance). IsWithin I.rules.ratio (worth I s) (completed_value I)) all_are
-        (within_in_turn the_rules turns s in_turns)
+        (within_in_turn the_rules refl turns s in_turns)
 
     pub honest_all : (s : List ℕ) × (completed_value J ≤ worth J s)
-    honest_all = let found = honest_in_turn the_rules turns 0 in_turns in (
+    honest_all = let found = honest_in_turn the_rules refl turns 0 in_turns in (
       found.0,
       subst (λ (I : Instance). completed_value I ≤ worth I found.0) all_are
-          (omega (arith, found.1, value_in_turn the_rules turns in_turns)),
+          (omega (arith, found.1, value_in_turn the_rules refl turns in_turns)),
     )
 
     pub underload_all : Meets J → completed_value J ≡ total_value (jobs_in calls)
-    underload_all meets = ap completed_value (sym all_are) ∙ value_in_turn the_rules turns in_turns
-        ∙ all_value_in_turn the_rules turns (turn_valid the_rules turns 0 in_turns)
+    underload_all meets = ap completed_value (sym all_are) ∙ value_in_turn the_rules refl turns in_turns
+        ∙ all_value_in_turn the_rules turns (turn_valid the_rules refl turns 0 in_turns)
         (subst Meets (sym all_are) meets)
         ∙ ap total_value turns_jobs
 
     pub none_lost_all : Meets J → Each (λ e. takes_or_abandons (Prints e) ≡ false) (decided calls)
     none_lost_all meets =
         let unlost : Each (IsUnlost the_rules) turns = none_lost_in_turn the_rules turns
-        (turn_valid the_rules turns 0 in_turns) (subst Meets (sym all_are) meets) in
-        let all : LoseNone (printed J) = subst LoseNone (sym (runs_in_turn the_rules turns in_turns) ∙ ap printed all_are)
+        (turn_valid the_rules refl turns 0 in_turns) (subst Meets (sym all_are) meets) in
+        let all : LoseNone (printed J) = subst LoseNone (sym (runs_in_turn the_rules refl turns in_turns) ∙ ap printed all_are)
         (none_in_turn the_rules turns unlost) in
         each_none (decided calls) (none_front (decided calls) begins_all.0 (subst LoseNone begins_all.1 all))
 

@@ -17,7 +17,7 @@ use Rattle.dover_model.specs.declared.events.Version.{Version}
 use Rattle.dover_model.specs.Fraction.{Fraction}
 use Rattle.dover_model.specs.JobFacts.{JobFacts}
 use Rattle.dover_model.specs.Limits.{most_jobs}
-use Rattle.dover_model.specs.Instance.{Instance, IsValid, with_jobs}
+use Rattle.dover_model.specs.Instance.{Rules, Instance, IsValid, with_jobs}
 use Rattle.dover_model.specs.Run.{printed, completed_value}
 use Rattle.dover_model.specs.Settled.{settled}
 use Rattle.dover_model.specs.WholeRun.{Begins}
@@ -68,7 +68,7 @@ new_gave version k s kept serves stands ratio = record {
   earned = refl;
   told = [];
   gave = fresh_gave version k s kept serves stands ratio;
-  all_events = ap (λ es. before_end es ++ []) (sym (runs_in_turn (record { ratio = k; version = version }) no_lists tt));
+  all_events = ap (λ es. before_end es ++ []) (sym (runs_in_turn (record { ratio = k; version = version; finishes = [] }) refl no_lists tt));
 }
 
 -- ---- a job
@@ -193,16 +193,20 @@ module _ (v : Life) (J : Instance) (es : List Event) (g : Gave v J es) where
   valid : IsValid K
   valid = g.gave.serves.follows.valid
 
+  -- none finishes early
+  none_early : J.rules.finishes ≡ []
+  none_early = ap (λ (r : Rules). r.finishes) g.gave.serves.follows.rules
+
   -- all that is printed is what the lists print, and what those since do
   printed_all : printed J ≡ before ++ map (behind v.forgotten v.earned) (printed K)
   printed_all = ap (λ js. printed (instead J js)) g.all_jobs
-      ∙ printed_behind J.rules g.since valid g.tick g.later g.lists g.over
+      ∙ printed_behind J.rules none_early g.since valid g.tick g.later g.lists g.over
       ∙ joins (printed K)
 
   settled_all : (t : ℕ) → IsSince g.tick (Mark t)
       → settled J t ≡ before ++ map (behind v.forgotten v.earned) (settled K t)
   settled_all t low = ap (λ js. settled (instead J js) t) g.all_jobs
-      ∙ settled_behind J.rules g.since valid g.tick g.later g.lists g.over t low
+      ∙ settled_behind J.rules none_early g.since valid g.tick g.later g.lists g.over t low
       ∙ joins (settled K t)
 
   -- all that is due was given, where it was of the jobs since
@@ -261,7 +265,7 @@ module _ (v : Life) (J : Instance) (es : List Event) (g : Gave v J es) where
 
     -- their jobs are all
     all_of_them : in_turn lists ≡ in_turn g.lists ++ g.since
-    all_of_them = jobs_append J.rules g.lists (g.since ∷ []) ∙ ap (λ js. in_turn g.lists ++ js) (append-nil g.since)
+    all_of_them = jobs_append J.rules none_early g.lists (g.since ∷ []) ∙ ap (λ js. in_turn g.lists ++ js) (append-nil g.since)
 
     one : completed_in_turn J.rules (g.since ∷ []) ≡ completed_value K
     one = sum_by-cons (λ js. completed_value (record { rules = J.rules; jobs = js })) g.since [] ∙ omega arith
@@ -280,7 +284,7 @@ module _ (v : Life) (J : Instance) (es : List Event) (g : Gave v J es) where
         (v.earned + v.server.ready.done)) J t rests stands (ratio ∙ g.gave.ratio) last none g.gave.known in record {
           lists = lists;
           tick = t;
-          over = over_more J.rules g.lists g.since 0 g.tick t g.over valid g.later
+          over = over_more J.rules none_early g.lists g.since 0 g.tick t g.over valid g.later
               (subst (IsSince g.tick) last g.passed) (since.rests_at v K g.told g.gave still t last);
           since = [];
           later = λ j member. absurd member;
@@ -297,13 +301,13 @@ module _ (v : Life) (J : Instance) (es : List Event) (g : Gave v J es) where
             arith,
             g.earned,
             since.done_at v K g.told g.gave still t last,
-            completed_append J.rules g.lists (g.since ∷ []),
+            completed_append J.rules none_early g.lists (g.since ∷ []),
             one,
           );
           told = [];
           gave = gives;
           all_events = told_but_end ∙ sym (joins (before_end (printed K)))
-              ∙ sym (before_end_behind J.rules g.since valid g.tick g.later g.lists g.over)
+              ∙ sym (before_end_behind J.rules none_early g.since valid g.tick g.later g.lists g.over)
               ∙ ap (λ js. before_end (printed (instead J js))) (sym all_of_them)
               ∙ sym (append-nil (before_end (printed (instead J (in_turn lists)))));
         }

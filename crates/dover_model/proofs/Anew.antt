@@ -1,9 +1,8 @@
 -- Runs one after another, each in a time of its own.
 use Rattle.std.proofs.Common.{◌≡◌, ℕ, zero, suc, ◌+◌, ◌-◌, ◌*◌, ◌≤◌, inl, inr, List, [], ◌∷◌, ◌++◌, length, drop, take}
-use Rattle.std.proofs.Common.{map, refl}
-use Rattle.std.proofs.Common.{sym, ap, ◌∙◌, subst, arith, cond, Bool, true, false, append_assoc}
+use Rattle.std.proofs.Common.{map, refl, sym, ap, ◌∙◌, subst, arith, cond, Bool, true, false, append_assoc}
 use Rattle.std.specs.Prelude.{nat_le, ◌==◌}
-use Rattle.std.specs.List.{count_by, sum_by, fold, enumerate_from}
+use Rattle.std.specs.List.{count_by, sum_by, fold, enumerate_from, cons_option}
 use Rattle.std.proofs.lemmas.List.Sums.{sum_by-cons}
 use Rattle.dover_model.specs.JobFacts.{JobFacts, IsJob}
 use Rattle.dover_model.specs.declared.events.Event.{Event}
@@ -11,7 +10,9 @@ use Rattle.dover_model.specs.declared.events.Event.TheVariants.{End}
 use Rattle.dover_model.specs.declared.events.Role.TheVariants.{Coming}
 use Rattle.dover_model.specs.Instance.{Rules, Instance, IsValid}
 use Rattle.dover_model.specs.State.{State, to_come}
-use Rattle.dover_model.specs.Run.{printed_of, printed, last_deadline, completed_value}
+use Rattle.dover_model.specs.Run.{Step, is_end, event_of, printed_of, printed, last_deadline, completed_value}
+use Rattle.dover_model.specs.Step.{Prints, step, after}
+use Rattle.std.specs.Bool.{MatchBool}
 use Rattle.dover_model.specs.WholeRun.{step_at, IsWholeRun}
 use Rattle.dover_model.specs.Schedules.{worth}
 use Rattle.dover_model.specs.Bound.{IsWithin}
@@ -23,9 +24,12 @@ use Rattle.dover_model.proofs.BoundLaws.{bound as no_more}
 use Rattle.dover_model.proofs.RunLaws.{one_run}
 use Rattle.dover_model.proofs.Moving.{moved_task, moved_state, IsFitting, whole_later}
 use Rattle.dover_model.proofs.Runs.{last_value, value_last}
-use Rattle.dover_model.proofs.Resting.{at_tick, RunsFrom, alone, joined, runs_all, later_due, due_least, dues_mono}
+use Rattle.dover_model.proofs.Resting.{at_tick, RunsFrom, alone, joined_plain, runs_all, later_due, due_least}
+use Rattle.dover_model.proofs.Resting.{dues_mono}
 use Rattle.dover_model.proofs.Apart.{settled_at_rest, behind_last}
-use Rattle.dover_model.proofs.Parting.{worth_to, worth_append, within_add, within_less}
+use Rattle.dover_model.proofs.Finishing.{plain_step}
+use Rattle.dover_model.proofs.Calculus.{within_less}
+use Rattle.dover_model.proofs.Parting.{worth_to, worth_append, within_add}
 
 -- ---- jobs to come, moved in time
 
@@ -109,7 +113,7 @@ module _ (c : ℕ) where
 
 -- ---- lists in turn, each in its own time
 
-module _ (rules : Rules) where
+module _ (rules : Rules) (plain : rules.finishes ≡ []) where
   -- the instance of one list
   abbrev of_rules : List JobFacts → Instance
   of_rules jobs = record { rules = rules; jobs = jobs }
@@ -127,13 +131,27 @@ module _ (rules : Rules) where
   -- from the opening on
   anew_runs : (lists : List (ℕ × List JobFacts)) → AreAnew rules lists
       → RunsFrom rules 0 (anew lists) (printed_anew rules lists)
-  anew_runs [] all = (step_at rules (at_tick 0 []) ∷ [], (refl, refl), omega arith, refl)
+  anew_runs [] all = (
+    step_at rules (at_tick 0 []) ∷ [],
+    (
+      refl,
+      subst (λ x. MatchBool (is_end x) (no_steps ≡ []) (IsWholeRun rules (after (at_tick 0 []) x) [])) (sym ends)
+          refl,
+    ),
+    omega arith,
+    ap (λ x. cons_option (event_of x) []) ends,
+  ) where
+    no_steps : List Step
+    no_steps = []
+
+    ends : step rules (at_tick 0 []) ≡ Prints (End 0)
+    ends = plain_step rules (at_tick 0 []) plain
   anew_runs (t_jobs ∷ lists) all =
       subst (λ es. RunsFrom rules 0 (t_jobs.1 ++ map (later_job t_jobs.0) (anew lists))
       (es ++ map (behind (length t_jobs.1) (completed_value (of_rules t_jobs.1)))
       (map (later_event t_jobs.0) (printed_anew rules lists))))
       (settled_at_rest (of_rules t_jobs.1) t_jobs.0 all.0 all.1)
-      (joined (of_rules t_jobs.1) all.0 0 t_jobs.0 (λ j member. omega arith) (omega arith) all.1
+      (joined_plain (of_rules t_jobs.1) all.0 0 t_jobs.0 (λ j member. omega arith) (omega arith) all.1 plain
       (map (later_job t_jobs.0) (anew lists))
       (map (later_event t_jobs.0) (printed_anew rules lists))
       (on_map (later_job t_jobs.0) (λ j. t_jobs.0 ≤ j.release) (anew lists) (λ j member. omega arith))

@@ -1,7 +1,6 @@
 -- What is settled falls apart at rest, and so do runs of many lists in turn.
-use Rattle.std.proofs.Common.{◌≡◌, ℕ, length-append, ◌+◌, ◌-◌, ◌*◌, ◌≤◌, List, [], ◌∷◌, ◌++◌, length, map}
-use Rattle.std.proofs.Common.{refl, sym, ap, ◌∙◌, subst}
-use Rattle.std.proofs.Common.{Bool, true, false, cond, arith, not, append-nil, append_assoc}
+use Rattle.std.proofs.Common.{◌≡◌, ℕ, length-append, ◌+◌, ◌-◌, ◌*◌, ◌≤◌, List, [], ◌∷◌, ◌++◌, length, map, refl, sym}
+use Rattle.std.proofs.Common.{ap, ◌∙◌, subst, Bool, true, false, cond, arith, not, append-nil, append_assoc}
 use Rattle.std.specs.Prelude.{◌&&◌, nat_le}
 use Rattle.std.specs.List.{filter, cons_option}
 use Rattle.std.proofs.lemmas.List.Sums.{sum_by-cons}
@@ -9,16 +8,16 @@ use Rattle.dover_model.specs.JobFacts.{JobFacts}
 use Rattle.dover_model.specs.declared.events.Event.{Event}
 use Rattle.dover_model.specs.declared.events.Event.TheVariants.{Release, Run, Preempt, Take, Complete, Abandon, End}
 use Rattle.dover_model.specs.declared.events.Task.{Task}
-use Rattle.dover_model.specs.Instance.{Rules, Instance, IsValid, with_jobs}
+use Rattle.dover_model.specs.Instance.{Rules, Instance, IsValid, having}
 use Rattle.dover_model.specs.State.{State, with_later, opening, to_come, is_done, value_sum}
-use Rattle.dover_model.specs.Step.{Move, Prints, Waits, Ticks, open_step, after}
+use Rattle.dover_model.specs.Step.{Move, Prints, Waits, Ticks, step, open_step, after, finish_or, declared_open_step}
 use Rattle.dover_model.specs.Run.{Step, is_end, event_of, printed_of, printed, run, completed_value}
 use Rattle.dover_model.specs.Settled.{waits_for_mark, settled, settled_steps, AllComeFrom}
-use Rattle.dover_model.specs.WholeRun.{open_at, step_at, EndsOver, IsSettledRun}
+use Rattle.dover_model.specs.WholeRun.{open_at, step_at, EndsOver, IsSettledRun, IsWholeRun}
 use Rattle.dover_model.specs.Paths.{IsOpenPath}
-use Rattle.dover_model.specs.Sound.{Each, Keeps}
-use Rattle.dover_model.specs.Rest.{instead, NoneBefore, IsAtRest, behind, names_end, before_end, IsInTurn, in_turn}
-use Rattle.dover_model.specs.Rest.{printed_in_turn, completed_in_turn}
+use Rattle.dover_model.specs.Sound.{Each, Keeps, IsMember}
+use Rattle.dover_model.specs.Rest.{NoneBefore, IsAtRest, behind, names_end, before_end, IsInTurn, in_turn}
+use Rattle.dover_model.specs.Rest.{printed_in_turn, completed_in_turn, AreOwn, instead_with, followed_by}
 use Rattle.dover_model.proofs.Kept.{open_deed, open_kept, opening_keeps}
 use Rattle.dover_model.proofs.Ending.{run_over}
 use Rattle.dover_model.proofs.Settling.{late_early, settled_is_run, enough_settled}
@@ -28,11 +27,13 @@ use Rattle.dover_model.proofs.Runs.{printed_append, value_of_run, last_value, va
 use Rattle.dover_model.proofs.Paths.{path_later, one_settled_run, path_then_settled}
 use Rattle.dover_model.proofs.Shifting.{beside, came_to, settled_beside}
 use Rattle.dover_model.proofs.Resting.{at_tick, RunsFrom, Rests, at_rest, settles_from, ticks_path, tick_keeps}
-use Rattle.dover_model.proofs.Resting.{come_shift}
-use Rattle.dover_model.proofs.Resting.{numbers_below, numbers_apart, value_there, printed_at_rest, joined, runs_all}
-use Rattle.dover_model.proofs.Resting.{due_later, printed_apart}
+use Rattle.dover_model.proofs.Resting.{come_shift, numbers_below, numbers_apart, value_there, printed_at_rest, runs_all}
+use Rattle.dover_model.proofs.Resting.{due_later, printed_apart, joined_plain, behind_rules, foreign_due}
+use Rattle.dover_model.specs.Finishes.{Finish}
+use Rattle.dover_model.proofs.Finishing.{plain_step}
 use Rattle.dover_model.proofs.Tests.{never}
 use Rattle.dover_model.proofs.Members.{each_append}
+use Rattle.std.specs.Bool.{MatchBool}
 
 -- from the tick on, with all these jobs to come, these events are settled at the mark
 abbrev pub SettlesFrom : Rules → ℕ → ℕ → List JobFacts → List Event → Type 0
@@ -41,7 +42,8 @@ SettlesFrom rules mark m jobs events = (xs : List Step) × IsSettledRun rules ma
 
 -- ---- with jobs to come behind, the open steps are the same
 
-module _ (J : Instance) (valid : IsValid J) (mark : ℕ) (more : List JobFacts) (late : NoneBefore mark more) where
+module _ (J : Instance) (valid : IsValid J) (mark : ℕ) (more : List JobFacts) (late : NoneBefore mark more)
+    (fs : List Finish) where
   -- the jobs behind
   abbrev ks : List Task
   ks = to_come (length J.jobs) more
@@ -52,24 +54,27 @@ module _ (J : Instance) (valid : IsValid J) (mark : ℕ) (more : List JobFacts) 
 
   -- all steps of a path
   open_behind : (xs : List Step) (s t : State) → Keeps J s → IsOpenPath J.rules mark s xs t
-      → (ys : List Step) × IsOpenPath J.rules mark (with_later s ks) ys (with_later t ks) × (length ys ≡ length xs)
+      → (ys : List Step) × IsOpenPath (behind_rules J fs) mark (with_later s ks) ys (with_later t ks) × (length ys
+      ≡ length xs)
       × (printed_of ys ≡ printed_of xs)
   open_behind [] s t keeps here = ([], ap (λ z. with_later z ks) here, refl, refl)
   open_behind (x ∷ xs) s t keeps path =
-      let same : open_step J.rules (with_later s ks) ≡ open_step J.rules s =
-      same_step J.rules s ks mark come.0 come.1 (late_early (waits_for_mark (open_step J.rules s)) mark s.clock path.1)
+      let same : open_step (behind_rules J fs) (with_later s ks) ≡ open_step J.rules s =
+      ap (λ o. finish_or s.clock o (declared_open_step J.rules (with_later s ks))) (foreign_due J s keeps fs ks come.0)
+      ∙ same_step J.rules s ks mark come.0 come.1 (late_early (waits_for_mark
+      (open_step J.rules s)) mark s.clock path.1)
       in
-      let next : after (with_later s ks) (open_step J.rules (with_later s ks)) ≡ with_later
+      let next : after (with_later s ks) (open_step (behind_rules J fs) (with_later s ks)) ≡ with_later
       (after s (open_step J.rules s)) ks =
       ap (after (with_later s ks)) same
       ∙ same_after J.rules.ratio s ks come.0 (numbers_apart J s keeps more) (open_step J.rules s)
       (open_deed J valid s keeps J.rules) in
       let rest = open_behind xs (after s (open_step J.rules s)) t (open_kept J valid s keeps J.rules) path.2 in (
-        open_at J.rules (with_later s ks) ∷ rest.0,
+        open_at (behind_rules J fs) (with_later s ks) ∷ rest.0,
         (
           refl,
           ap (λ m. waits_for_mark m && nat_le mark s.clock) same ∙ path.1,
-          subst (λ z. IsOpenPath J.rules mark z rest.0 (with_later t ks)) (sym next) rest.1,
+          subst (λ z. IsOpenPath (behind_rules J fs) mark z rest.0 (with_later t ks)) (sym next) rest.1,
         ),
         omega (arith, rest.2),
         ap (λ m. cons_option (event_of m) (printed_of rest.0)) same
@@ -95,19 +100,19 @@ settles_alone J valid m mark late low =
 
 -- and one with jobs behind, once it is at rest
 module _ (J : Instance) (valid : IsValid J) (m0 m mark : ℕ) (late0 : NoneBefore m0 J.jobs) (later : m0 ≤ m)
-    (on : m ≤ mark) (rest : IsAtRest J m) where
+    (on : m ≤ mark) (rest : IsAtRest J m) (fs : List Finish) (own : AreOwn J) where
   pub settles_joined : (more : List JobFacts) (events : List Event) → NoneBefore m more
-      → SettlesFrom J.rules mark m more events
-      → SettlesFrom J.rules mark m0 (J.jobs ++ more)
+      → SettlesFrom (having J.rules fs) mark m more events
+      → SettlesFrom (behind_rules J fs) mark m0 (J.jobs ++ more)
       (settled J m ++ map (behind (length J.jobs) (completed_value J)) events)
   settles_joined more events late it = (
     before.0 ++ behind_them.0,
-    subst (λ s. IsSettledRun J.rules mark s (before.0 ++ behind_them.0)) (sym begins)
-        (path_then_settled J.rules mark before.0 behind_them.0 (with_later (at_tick m0 J.jobs) ks_there)
+    subst (λ s. IsSettledRun (behind_rules J fs) mark s (before.0 ++ behind_them.0)) (sym begins)
+        (path_then_settled (behind_rules J fs) mark before.0 behind_them.0 (with_later (at_tick m0 J.jobs) ks_there)
         (with_later r.last ks_there)
-        (path_later J.rules m mark on before.0 (with_later (at_tick m0 J.jobs) ks_there)
+        (path_later (behind_rules J fs) m mark on before.0 (with_later (at_tick m0 J.jobs) ks_there)
         (with_later r.last ks_there) before.1)
-        (subst (λ s. IsSettledRun J.rules mark s behind_them.0) (sym joins) behind_them.1)),
+        (subst (λ s. IsSettledRun (behind_rules J fs) mark s behind_them.0) (sym joins) behind_them.1)),
     omega (
       arith,
       length-append before.0 behind_them.0,
@@ -119,7 +124,8 @@ module _ (J : Instance) (valid : IsValid J) (m0 m mark : ℕ) (late0 : NoneBefor
     ),
     printed_append before.0 behind_them.0 ∙ ap (λ es. es ++ printed_of behind_them.0) (before.3 ∙ r.prints)
         ∙ ap (λ es. settled J m ++ es)
-        (behind_them.3 ∙ ap (λ es. map (behind n (came_to J.rules n r.last.tasks r.over)) es) it.3
+        (behind_them.3 ∙ ap (λ es. map (behind n (came_to
+        (having J.rules fs) n J.rules.finishes own r.last.tasks r.over)) es) it.3
         ∙ ap (λ v. map (behind n v) events) came),
   ) where
     n : ℕ
@@ -132,15 +138,17 @@ module _ (J : Instance) (valid : IsValid J) (m0 m mark : ℕ) (late0 : NoneBefor
     ks_there = to_come (length J.jobs) more
 
     before : (ys : List Step)
-        × IsOpenPath J.rules m (with_later (at_tick m0 J.jobs) ks_there) ys (with_later r.last ks_there)
+        × IsOpenPath (behind_rules J fs) m (with_later (at_tick m0 J.jobs) ks_there) ys (with_later r.last ks_there)
         × (length ys ≡ length r.steps) × (printed_of ys ≡ printed_of r.steps)
-    before = open_behind J valid m more late r.steps (at_tick m0 J.jobs) r.last
+    before = open_behind J valid m more late fs r.steps (at_tick m0 J.jobs) r.last
         (tick_keeps J valid m0 late0 m0 (omega arith)) r.path
 
-    behind_them : (ys : List Step) × IsSettledRun J.rules mark (beside n r.last.tasks (at_tick m more)) ys
+    behind_them : (ys : List Step) × IsSettledRun (behind_rules J fs) mark (beside n r.last.tasks (at_tick m more)) ys
         × (length ys ≡ length it.0)
-        × (printed_of ys ≡ map (behind n (came_to J.rules n r.last.tasks r.over)) (printed_of it.0))
-    behind_them = settled_beside J.rules n r.last.tasks r.over (numbers_below J r.last r.keeps) mark it.0
+        × (printed_of ys ≡ map (behind n (came_to (having J.rules fs) n J.rules.finishes own r.last.tasks r.over))
+        (printed_of it.0))
+    behind_them = settled_beside (having J.rules fs) n J.rules.finishes own r.last.tasks r.over
+        (numbers_below J r.last r.keeps) mark it.0
         (at_tick m more) it.1
 
     joins : with_later r.last ks_there ≡ beside n r.last.tasks (at_tick m more)
@@ -152,8 +160,24 @@ module _ (J : Instance) (valid : IsValid J) (m0 m mark : ℕ) (late0 : NoneBefor
     begins = ap (λ ts. let s : State = record { clock = m0; tasks = ts } in s)
         (come_append 0 J.jobs more ∙ ap (λ k. to_come 0 J.jobs ++ to_come k more) (omega arith))
 
-    came : came_to J.rules n r.last.tasks r.over ≡ completed_value J
+    came : came_to (having J.rules fs) n J.rules.finishes own r.last.tasks r.over ≡ completed_value J
     came = ap (λ (z : State). value_sum (filter is_done z.tasks)) r.is ∙ sym (value_there J valid m rest)
+
+-- where no job finishes early
+pub settles_joined_plain : (J : Instance) (valid : IsValid J) (m0 m mark : ℕ) (late0 : NoneBefore m0 J.jobs)
+    (later : m0 ≤ m)
+    (on : m ≤ mark) (rest : IsAtRest J m) → J.rules.finishes ≡ [] → (more : List JobFacts) (events : List Event)
+    → NoneBefore m more → SettlesFrom J.rules mark m more events
+    → SettlesFrom J.rules mark m0 (J.jobs ++ more)
+    (settled J m ++ map (behind (length J.jobs) (completed_value J)) events)
+settles_joined_plain J valid m0 m mark late0 later on rest plain more events late it =
+    subst (λ rules. SettlesFrom rules mark m0 (J.jobs ++ more)
+    (settled J m ++ map (behind (length J.jobs) (completed_value J)) events))
+    (ap (having J.rules) (append-nil J.rules.finishes))
+    (settles_joined J valid m0 m mark late0 later on rest [] own more events late
+    (subst (λ fs. SettlesFrom (having J.rules fs) mark m more events) plain it)) where
+      own : AreOwn J
+      own f member = absurd (subst (IsMember f) plain member)
 
 -- from the opening on, it is what is settled
 pub settled_all : (rules : Rules) (mark : ℕ) (jobs : List JobFacts) (events : List Event)
@@ -164,14 +188,15 @@ settled_all rules mark jobs events it =
     (omega (arith, it.2))) ∙ it.3
 
 -- what is settled falls apart at rest
-pub settled_apart : (J : Instance) (more : List JobFacts) (m mark : ℕ) → IsValid J → IsValid (instead J more)
-    → IsAtRest J m → NoneBefore m more → m ≤ mark
-    → settled (with_jobs J more) mark ≡ settled J m ++ map (behind (length J.jobs) (completed_value J))
-    (settled (instead J more) mark)
-settled_apart J more m mark valid valid_more rest late on = settled_all J.rules mark (J.jobs ++ more) _
-    (settles_joined J valid 0 m mark (λ j member. omega arith) (omega arith) on rest more
-    (settled (instead J more) mark) late
-    (settles_alone (instead J more) valid_more m mark late on))
+pub settled_apart : (J : Instance) (more : List JobFacts) (fs : List Finish) (m mark : ℕ) → AreOwn J → IsValid J
+    → IsValid (instead_with J more fs) → IsAtRest J m → NoneBefore m more → m ≤ mark
+    → settled (followed_by J more fs) mark ≡ settled J m ++ map (behind (length J.jobs) (completed_value J))
+    (settled (instead_with J more fs) mark)
+settled_apart J more fs m mark own valid valid_more rest late on = settled_all (behind_rules J fs) mark
+    (J.jobs ++ more) _
+    (settles_joined J valid 0 m mark (λ j member. omega arith) (omega arith) on rest fs own more
+    (settled (instead_with J more fs) mark) late
+    (settles_alone (instead_with J more fs) valid_more m mark late on))
 
 -- ---- before End
 
@@ -221,23 +246,22 @@ end_at_rest J m valid rest = printed_at_rest J valid m rest
     ∙ ap (λ es. es ++ (End (completed_value J) ∷ [])) (settled_at_rest J m valid rest)
 
 -- a run falls apart at rest
-pub falls_apart : (J : Instance) (more : List JobFacts) (m : ℕ) → IsValid J → IsValid (instead J more) → IsAtRest J m
-    → NoneBefore m more
-    → printed (with_jobs J more) ≡ before_end (printed J) ++ map (behind (length J.jobs) (completed_value J))
-    (printed (instead J more))
-falls_apart J more m valid valid_more rest late = printed_apart J more m valid valid_more rest late
-    ∙ ap (λ es. es ++ map (behind (length J.jobs) (completed_value J)) (printed (instead J more)))
+pub falls_apart : (J : Instance) (more : List JobFacts) (fs : List Finish) (m : ℕ) → AreOwn J → IsValid J
+    → IsValid (instead_with J more fs) → IsAtRest J m → NoneBefore m more
+    → printed (followed_by J more fs) ≡ before_end (printed J) ++ map (behind (length J.jobs) (completed_value J))
+    (printed (instead_with J more fs))
+falls_apart J more fs m own valid valid_more rest late = printed_apart J more fs m own valid valid_more rest late
+    ∙ ap (λ es. es ++ map (behind (length J.jobs) (completed_value J)) (printed (instead_with J more fs)))
     (settled_at_rest J m valid rest)
 
 -- so does what is settled
-pub settled_falls_apart : (J : Instance) (more : List JobFacts) (m mark : ℕ) → IsValid J → IsValid (instead J more)
-    → IsAtRest J m → NoneBefore m more
-    → m ≤ mark
-    → settled (with_jobs J more) mark ≡ before_end (printed J) ++ map (behind (length J.jobs) (completed_value J))
-    (settled (instead J more) mark)
-settled_falls_apart J more m mark valid valid_more rest late on =
-    settled_apart J more m mark valid valid_more rest late on
-    ∙ ap (λ es. es ++ map (behind (length J.jobs) (completed_value J)) (settled (instead J more) mark))
+pub settled_falls_apart : (J : Instance) (more : List JobFacts) (fs : List Finish) (m mark : ℕ) → AreOwn J → IsValid J
+    → IsValid (instead_with J more fs) → IsAtRest J m → NoneBefore m more → m ≤ mark
+    → settled (followed_by J more fs) mark ≡ before_end (printed J) ++ map (behind (length J.jobs) (completed_value J))
+    (settled (instead_with J more fs) mark)
+settled_falls_apart J more fs m mark own valid valid_more rest late on =
+    settled_apart J more fs m mark own valid valid_more rest late on
+    ∙ ap (λ es. es ++ map (behind (length J.jobs) (completed_value J)) (settled (instead_with J more fs) mark))
     (settled_at_rest J m valid rest)
 
 -- ---- the value
@@ -260,23 +284,24 @@ run_ends J valid = (
   over = run_over J valid
 
 -- what runs complete adds up at rest
-pub value_apart : (J : Instance) (more : List JobFacts) (m : ℕ) → IsValid J → IsValid (instead J more) → IsAtRest J m
+pub value_apart : (J : Instance) (more : List JobFacts) (fs : List Finish) (m : ℕ) → AreOwn J → IsValid J
+    → IsValid (instead_with J more fs) → IsAtRest J m
     → NoneBefore m more
-    → completed_value (with_jobs J more) ≡ completed_value J + completed_value (instead J more)
-value_apart J more m valid valid_more rest late =
-    let it = run_ends (instead J more) valid_more in
-    ap (last_value 0) (falls_apart J more m valid valid_more rest late
+    → completed_value (followed_by J more fs) ≡ completed_value J + completed_value (instead_with J more fs)
+value_apart J more fs m own valid valid_more rest late =
+    let it = run_ends (instead_with J more fs) valid_more in
+    ap (last_value 0) (falls_apart J more fs m own valid valid_more rest late
     ∙ ap (λ es. before_end (printed J) ++ map (behind (length J.jobs) (completed_value J)) es) it.1
     ∙ ap (λ es. before_end (printed J) ++ es)
-    (behind_last (length J.jobs) (completed_value J) (completed_value (instead J more)) it.0)
+    (behind_last (length J.jobs) (completed_value J) (completed_value (instead_with J more fs)) it.0)
     ∙ sym (append_assoc (before_end (printed J)) (map (behind (length J.jobs) (completed_value J)) it.0)
-    (End (completed_value J + completed_value (instead J more)) ∷ [])))
-    ∙ value_last 0 (completed_value J + completed_value (instead J more))
+    (End (completed_value J + completed_value (instead_with J more fs)) ∷ [])))
+    ∙ value_last 0 (completed_value J + completed_value (instead_with J more fs))
     (before_end (printed J) ++ map (behind (length J.jobs) (completed_value J)) it.0)
 
 -- ---- many lists in turn
 
-module _ (rules : Rules) where
+module _ (rules : Rules) (plain : rules.finishes ≡ []) where
   -- the instance of one list
   abbrev of_rules : List JobFacts → Instance
   of_rules jobs = record { rules = rules; jobs = jobs }
@@ -301,12 +326,26 @@ module _ (rules : Rules) where
   -- from a tick on
   turn_runs : (lists : List (List JobFacts)) (from : ℕ) → IsInTurn rules from lists
       → RunsFrom rules from (in_turn lists) (printed_in_turn rules lists)
-  turn_runs [] from turn = (step_at rules (at_tick from []) ∷ [], (refl, refl), omega arith, refl)
+  turn_runs [] from turn = (
+    step_at rules (at_tick from []) ∷ [],
+    (
+      refl,
+      subst (λ x. MatchBool (is_end x) (no_steps ≡ []) (IsWholeRun rules (after (at_tick from []) x) [])) (sym ends)
+          refl,
+    ),
+    omega arith,
+    ap (λ x. cons_option (event_of x) []) ends,
+  ) where
+    no_steps : List Step
+    no_steps = []
+
+    ends : step rules (at_tick from []) ≡ Prints (End 0)
+    ends = plain_step rules (at_tick from []) plain
   turn_runs (jobs ∷ lists) from turn =
       subst (λ es. RunsFrom rules from (jobs ++ in_turn lists)
       (es ++ map (behind (length jobs) (completed_value (of_rules jobs))) (printed_in_turn rules lists)))
       (settled_at_rest (of_rules jobs) turn.2.0 turn.0 turn.2.2)
-      (joined (of_rules jobs) turn.0 from turn.2.0 turn.1 turn.2.1 turn.2.2 (in_turn lists)
+      (joined_plain (of_rules jobs) turn.0 from turn.2.0 turn.1 turn.2.1 turn.2.2 plain (in_turn lists)
       (printed_in_turn rules lists)
       (turn_late lists turn.2.0 turn.2.3) (turn_due lists turn.2.0 turn.2.3) (turn_runs lists turn.2.0 turn.2.3))
 

@@ -20,10 +20,10 @@ use Rattle.dover_model.proofs.Tests.{never}
 -- no job is fresh where a late step is taken
 late_none_fresh : (k : Fraction) (s : State) (m : Move) → Deed k s Ticks m → waits_for_mark m ≡ true
     → Each (λ t. t.role ≡ Fresh → ⊥) s.tasks
-late_none_fresh k s m (Completed r member runs done) late = never late
+late_none_fresh k s m (Completed r member runs) late = never late
 late_none_fresh k s m (Resumed p member held none least why) late = never late
 late_none_fresh k s m (Started o member waiting none first fits next) late = never late
-late_none_fresh k s m (Began f member fresh none) late = never late
+late_none_fresh k s m (Began f member fresh none free) late = never late
 late_none_fresh k s m (Preempted r f member runs some f_member fresh before fits) late = never late
 late_none_fresh k s m (Stayed r f member runs some f_member fresh why) late = never late
 late_none_fresh k s m (Arrived c member comes now first stale busy free) late = never late

@@ -12,8 +12,8 @@ use Rattle.dover_model.specs.declared.events.Event.TheVariants.{Release, Run, Pr
 use Rattle.dover_model.specs.declared.events.Version.{Version}
 use Rattle.dover_model.specs.declared.events.Task.{Task}
 use Rattle.dover_model.specs.State.{State, is_coming, is_fresh, is_waiting, is_held, is_running, is_privileged}
-use Rattle.dover_model.specs.State.{is_ready_behind, is_over, waiting}
-use Rattle.dover_model.specs.State.{held, privileged, running, left, latest_start, room, demand_up_to, value_sum}
+use Rattle.dover_model.specs.State.{is_ready_behind, is_over, waiting, held, privileged, running, left, latest_start}
+use Rattle.dover_model.specs.State.{room, demand_up_to, value_sum}
 use Rattle.dover_model.specs.Run.{is_end}
 use Rattle.dover_model.specs.declared.events.Entry.{Entry}
 use Rattle.dover_model.specs.Entries.{entry_of, wins_tie, comes_first_by}
@@ -24,15 +24,13 @@ use Rattle.dover_model.specs.Sound.{IsMember, Each, EachTwo, IsNumberedFrom, Non
 use Rattle.dover_model.proofs.Members.{filter_member, member_filter, found, not_found, reduce_least, reduce_none}
 use Rattle.dover_model.proofs.Members.{sum_le}
 use Rattle.dover_model.proofs.Roles.{passes, fails, is_coming_role, is_fresh_role, is_waiting_role, is_held_role}
-use Rattle.dover_model.proofs.Roles.{is_running_role}
-use Rattle.dover_model.proofs.Roles.{is_privileged_role, is_behind_role, numbers_above, one_number}
+use Rattle.dover_model.proofs.Roles.{is_running_role, is_privileged_role, is_behind_role, numbers_above, one_number}
 use Rattle.dover_model.proofs.Loads.{Fits, demand_is, share, share_le, load}
 use Rattle.dover_model.proofs.Moves.{says}
 use Rattle.dover_model.proofs.Ticking.{Quiet}
 use Rattle.dover_model.proofs.Rooms.{room_fits, room_crowded}
 use Rattle.dover_model.proofs.Cases.{Settles, Busy, Free, NoneArrives, Case, Completes, Resumes, Starts, Begins}
-use Rattle.dover_model.proofs.Cases.{Preempts, Stays, Arrives, Takes}
-use Rattle.dover_model.proofs.Cases.{Abandons, Rests}
+use Rattle.dover_model.proofs.Cases.{Preempts, Stays, Arrives, Takes, Abandons, Rests}
 use Rattle.dover_model.proofs.Tests.{never}
 
 -- the jobs keep the limits of one job, and no release falls below one before it
@@ -56,7 +54,7 @@ pub data Passes (s : State) (p : Task) : Type 0 where
 
 -- Each case of a step, with what holds there; `other` is what is done where none of the first six applies.
 pub data Deed (k : Fraction) (s : State) (other : Move) : Move → Type 0 where
-  Completed : (r : Task) → IsMember r s.tasks → r.role ≡ Running → left r ≡ 0
+  Completed : (r : Task) → IsMember r s.tasks → r.role ≡ Running
       → Deed k s other (Prints (Complete s.clock r.number))
   Resumed : (p : Task) → IsMember p s.tasks → p.role ≡ Held → NoneRuns s.tasks
       → Each (λ t. t.role ≡ Held → p.job.deadline ≤ t.job.deadline) s.tasks → Passes s p
@@ -66,6 +64,7 @@ pub data Deed (k : Fraction) (s : State) (other : Move) : Move → Type 0 where
       → Each (λ w. w.role ≡ Waiting → o.job.deadline ≤ w.job.deadline) s.tasks
       → Deed k s other (Prints (Run s.clock o.number))
   Began : (f : Task) → IsMember f s.tasks → f.role ≡ Fresh → NoneRuns s.tasks
+      → Each (λ t. is_ready_behind t ≡ true → ⊥) s.tasks
       → Deed k s other (Prints (Run s.clock f.number))
   Preempted : (r f : Task) → IsMember r s.tasks → r.role ≡ Running → 1 ≤ left r → IsMember f s.tasks → f.role ≡ Fresh
       → f.job.deadline < r.job.deadline → Fits (left f) s → Deed k s other (Prints (Preempt s.clock r.number f.number))
@@ -390,7 +389,7 @@ module _ (k : Fraction) (version : Version) (s : State) (other : Move) (sound : 
 
   -- the deed of each case
   pub deed_of : (m : Move) → Case k v other m → Deed k s other m
-  deed_of m (Completes r some done) = Completed r (it_runs r some).0 (it_runs r some).1 (eqb-true _ _ done)
+  deed_of m (Completes r some done) = Completed r (it_runs r some).0 (it_runs r some).1
   deed_of m (Resumes p none is_p) = deed_resumes p v.first_waiting none is_p refl
   deed_of m (Starts o none no_held is_o) =
       Started o (is_first_waiting o is_o).0 (is_first_waiting o is_o).1 (none_runs none)
@@ -399,6 +398,7 @@ module _ (k : Fraction) (version : Version) (s : State) (other : Move) (sound : 
       (passes is_held t Held true (only_held (none_runs none) t mt is_in) refl)))
       (is_first_waiting o is_o).2
   deed_of m (Begins f settles is_fr) = Began f (is_f f is_fr).0 (is_f f is_fr).1 (settled_none settles)
+      (settled_free None settles (settled_none settles))
   deed_of m (Preempts r f settles is_fr fits) =
       let it : IsMember f s.tasks × (f.role ≡ Fresh) = is_f f is_fr in
       let low : f.job.work ≤ room s.clock (privileged s) =
@@ -434,10 +434,10 @@ module _ (k : Fraction) (version : Version) (s : State) (other : Move) (sound : 
 module _ (k : Fraction) (s : State) (other : Move) where
   -- only a rest can be the end
   pub end_rests : (m : Move) → Deed k s other m → is_end m ≡ true → m ≡ other
-  end_rests m (Completed r member runs done) e = never e
+  end_rests m (Completed r member runs) e = never e
   end_rests m (Resumed p member held none least why) e = never e
   end_rests m (Started o member waiting none first fits next) e = never e
-  end_rests m (Began f member fresh none) e = never e
+  end_rests m (Began f member fresh none free) e = never e
   end_rests m (Preempted r f member runs some f_member fresh before fits) e = never e
   end_rests m (Stayed r f member runs some f_member fresh why) e = never e
   end_rests m (Arrived c member comes now first stale busy free) e = never e
@@ -447,10 +447,10 @@ module _ (k : Fraction) (s : State) (other : Move) where
 
   -- a silent tick is taken in a quiet state
   pub tick_quiet : (m : Move) → Deed k s other m → m ≡ Ticks → Quiet s
-  tick_quiet m (Completed r member runs done) e = absurd (cc)
+  tick_quiet m (Completed r member runs) e = absurd (cc)
   tick_quiet m (Resumed p member held none least why) e = absurd (cc)
   tick_quiet m (Started o member waiting none first fits next) e = absurd (cc)
-  tick_quiet m (Began f member fresh none) e = absurd (cc)
+  tick_quiet m (Began f member fresh none free) e = absurd (cc)
   tick_quiet m (Preempted r f member runs some f_member fresh before fits) e = absurd (cc)
   tick_quiet m (Stayed r f member runs some f_member fresh why) e = absurd (cc)
   tick_quiet m (Arrived c member comes now first stale busy free) e = absurd (cc)
@@ -464,10 +464,10 @@ module _ (k : Fraction) (s : State) (other : Move) where
     not_over t m role out e = never (sym (passes is_over t role false e out) ∙ over t m)
 
     pub over_rests : (m : Move) → Deed k s other m → m ≡ other
-    over_rests m (Completed r member runs done) = absurd (not_over r member Running refl runs)
+    over_rests m (Completed r member runs) = absurd (not_over r member Running refl runs)
     over_rests m (Resumed p member held none least why) = absurd (not_over p member Held refl held)
     over_rests m (Started o member waiting none first fits next) = absurd (not_over o member Waiting refl waiting)
-    over_rests m (Began f member fresh none) = absurd (not_over f member Fresh refl fresh)
+    over_rests m (Began f member fresh none free) = absurd (not_over f member Fresh refl fresh)
     over_rests m (Preempted r f member runs some f_member fresh before fits) =
         absurd (not_over r member Running refl runs)
     over_rests m (Stayed r f member runs some f_member fresh why) = absurd (not_over r member Running refl runs)

@@ -4,7 +4,7 @@ use Rattle.std.proofs.lemmas.List.{append-nil, map-append}
 use Rattle.dover_model.specs.declared.events.Event.{Event}
 use Rattle.dover_model.specs.JobFacts.{JobFacts}
 use Rattle.dover_model.specs.Settled.{settled}
-use Rattle.dover_model.specs.Session.{JobItem, RefusedItem, RefusedJob, Session, instance_of, with_item}
+use Rattle.dover_model.specs.Session.{JobItem, RefusedItem, Refused, Session, instance_of, with_item}
 use Rattle.dover_model.specs.Text.{header, text_of, refused_text}
 use Rattle.dover_model.specs.Trace.{Printed, lines_among, text_of_line, texts_among, places_of, put_in}
 use Rattle.dover_model.proofs.PutIn.{RefusesWithin, put_in-more_steps, places_after-append}
@@ -30,7 +30,7 @@ texts_job S j steps = ap (λ ps. header S.rules ∷ map text_of_line (put_in ps 
     (places_after-append S.rules [] S.items (JobItem j ∷ []) ∙ append-nil (places_of S))
 
 -- a refused line adds its text behind what is settled at its tick
-pub texts_refused : (S : Session) (r : RefusedJob) → Reads S r.at
+pub texts_refused : (S : Session) (r : Refused) → Reads S r.at
     → texts_among (with_item S (RefusedItem r)) (settled (instance_of (with_item S (RefusedItem r))) r.at)
     ≡ texts_among S
     (settled (instance_of S) r.at) ++ refused_text r ∷ []

@@ -1,19 +1,19 @@
 -- Silent ticks taken at once.
-use Rattle.std.proofs.Common.{◌≡◌, ℕ, zero, suc, ◌+◌, ◌-◌, ◌≤◌, ◌<◌, List, map, refl, sym, ap, ◌∙◌, subst, Bool, true}
-use Rattle.std.proofs.Common.{false, cond}
-use Rattle.std.proofs.Common.{arith, add-zero, add_assoc}
+use Rattle.std.proofs.Common.{◌≡◌, ℕ, zero, suc, ◌+◌, ◌-◌, ◌≤◌, ◌<◌, List, [], map, None, refl, sym, ap, ◌∙◌, subst}
+use Rattle.std.proofs.Common.{Bool, true, false, cond, arith, add-zero, add_assoc}
 use Rattle.dover_model.specs.Fraction.{Fraction}
 use Rattle.dover_model.specs.declared.events.Role.TheVariants.{Coming, Fresh, Waiting, Held, Running}
 use Rattle.dover_model.specs.declared.events.Task.{Task}
-use Rattle.dover_model.specs.Instance.{Instance, IsValid}
+use Rattle.dover_model.specs.Instance.{Instance, IsValid, bare}
 use Rattle.dover_model.specs.State.{State, is_ready_behind, is_running, left, latest_start}
-use Rattle.dover_model.specs.Step.{Move, Ticks, after, open_step, ticked}
+use Rattle.dover_model.specs.Step.{Move, Ticks, after, open_step, ticked, due_finish, finish_or, declared_open_step}
 use Rattle.dover_model.specs.Sound.{Keeps}
 use Rattle.dover_model.specs.Jumps.{ticked_by, later_by, NothingDue}
 use Rattle.dover_model.proofs.Members.{on_map, map_map, map_same, map_self, map_member}
 use Rattle.dover_model.proofs.Roles.{passes}
 use Rattle.dover_model.proofs.Deeds.{Deed, Completed, Resumed, Started, Began, Preempted, Stayed, Arrived, Taken}
 use Rattle.dover_model.proofs.Deeds.{Abandoned, Rested}
+use Rattle.dover_model.proofs.Readiness.{going, Decides, open_decides}
 use Rattle.dover_model.proofs.Kept.{open_deed, open_kept}
 use Rattle.dover_model.proofs.Tests.{never}
 
@@ -102,39 +102,45 @@ module _ (s : State) (n i : ℕ) (due : NothingDue n s) (before : i < n) where
 
 module _ (k : Fraction) (s : State) (due : NothingDue 1 s) where
   -- where nothing is due, the step is a rest
-  pub due_rests : (m : Move) → Deed k s Ticks m → m ≡ Ticks
-  due_rests m (Completed r member runs done) =
-      absurd (let some : 1 ≤ left r = due.running r member runs in omega (arith, done))
-  due_rests m (Resumed p member held none least why) =
+  pub due_rests : (m : Move) → Deed k s Ticks m → Decides [] s m → m ≡ Ticks
+  due_rests m (Completed r member runs) told = let some : 1 ≤ left r = due.running r member runs in
+      never (sym (told.ends refl r member runs) ∙ going [] r some refl)
+  due_rests m (Resumed p member held none least why) told =
       absurd (due.busy none p member (passes is_ready_behind p Held true held refl))
-  due_rests m (Started o member waiting none first fits next) =
+  due_rests m (Started o member waiting none first fits next) told =
       absurd (due.busy none o member (passes is_ready_behind o Waiting true waiting refl))
-  due_rests m (Began f member fresh none) = absurd (due.none_fresh f member fresh)
-  due_rests m (Preempted r f member runs some f_member fresh before fits) = absurd (due.none_fresh f f_member fresh)
-  due_rests m (Stayed r f member runs some f_member fresh why) = absurd (due.none_fresh f f_member fresh)
-  due_rests m (Arrived c member comes now first stale busy free) =
+  due_rests m (Began f member fresh none free) told = absurd (due.none_fresh f member fresh)
+  due_rests m (Preempted r f member runs some f_member fresh before fits) told =
+      absurd (due.none_fresh f f_member fresh)
+  due_rests m (Stayed r f member runs some f_member fresh why) told = absurd (due.none_fresh f f_member fresh)
+  due_rests m (Arrived c member comes now first stale busy free) told =
       absurd (let later : s.clock + 1 ≤ c.job.release = due.coming c member comes in omega (arith, now))
-  due_rests m (Taken r x member runs some x_member waiting now stale heavy) =
+  due_rests m (Taken r x member runs some x_member waiting now stale heavy) told =
       absurd (let later : s.clock + 1 ≤ latest_start x = due.waiting x x_member waiting in omega (arith, now))
-  due_rests m (Abandoned r x member runs some x_member waiting now stale light) =
+  due_rests m (Abandoned r x member runs some x_member waiting now stale light) told =
       absurd (let later : s.clock + 1 ≤ latest_start x = due.waiting x x_member waiting in omega (arith, now))
-  due_rests m (Rested quiet) = refl
+  due_rests m (Rested quiet) told = refl
 
 module _ (J : Instance) (valid : IsValid J) (s : State) (keeps : Keeps J s) (n : ℕ) (due : NothingDue n s) where
+  -- the declared step of a state in which nothing is due
+  rests_here : (i : ℕ) → i < n → Keeps J (later_by i s) → open_step (bare J.rules) (later_by i s) ≡ Ticks
+  rests_here i before sound = due_rests J.rules.ratio (later_by i s) (nothing_later s n i due before) _
+      (open_deed J valid (later_by i s) sound (bare J.rules)) (open_decides (later_by i s) sound.sound (bare J.rules))
+
   -- the state is sound as long as nothing is due
   pub later_keeps : (i : ℕ) → i ≤ n → Keeps J (later_by i s)
   later_keeps zero before = subst (Keeps J) (sym (later_by-zero s)) keeps
   later_keeps (suc i) before =
       let sound : Keeps J (later_by i s) = later_keeps i (omega arith) in
-      let ticks : open_step J.rules (later_by i s) ≡ Ticks =
-      due_rests J.rules.ratio (later_by i s)
-      (nothing_later s n i due (omega arith)) _ (open_deed J valid (later_by i s) sound J.rules) in
+      let ticks : open_step (bare J.rules) (later_by i s) ≡ Ticks = rests_here i (omega arith) sound in
       let one : i + 1 ≡ suc i = omega arith in
       subst (λ m. Keeps J (later_by m s)) one
       (subst (Keeps J) (ap (after (later_by i s)) ticks ∙ after-later_by i s)
-      (open_kept J valid (later_by i s) sound J.rules))
+      (open_kept J valid (later_by i s) sound (bare J.rules)))
 
-  -- and the open steps are silent ticks
-  pub later_ticks : (i : ℕ) → i < n → open_step J.rules (later_by i s) ≡ Ticks
-  later_ticks i before = due_rests J.rules.ratio (later_by i s) (nothing_later s n i due before) _
-      (open_deed J valid (later_by i s) (later_keeps i (omega arith)) J.rules)
+  -- and the open steps are silent ticks, where the running job comes to no finish
+  pub later_ticks : (i : ℕ) → i < n → due_finish J.rules.finishes (later_by i s) ≡ None
+      → open_step J.rules (later_by i s) ≡ Ticks
+  later_ticks i before none =
+      ap (λ o. finish_or (s.clock + i) o (declared_open_step J.rules (later_by i s))) none
+      ∙ rests_here i before (later_keeps i (omega arith))

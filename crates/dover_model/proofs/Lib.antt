@@ -12,6 +12,8 @@ pub mod PieceRows
 pub mod GeneratorRows
 pub mod BaitRows
 pub mod RestRows
+pub mod FinishRows
+pub mod ThreeRows
 pub mod Tests
 pub mod Calculus
 pub mod Agreement
@@ -29,8 +31,11 @@ pub mod Moves
 pub mod Ticking
 pub mod Rooms
 pub mod Deeds
+pub mod Finishing
 pub mod Preempting
 pub mod Kept
+pub mod Readiness
+pub mod Needing
 pub mod Jumping
 pub mod Leaving
 pub mod Potential
@@ -46,6 +51,8 @@ pub mod GrowingTexts
 pub mod Releasing
 pub mod ReleaseCounts
 pub mod Onlines
+pub mod Meeting
+pub mod Further
 pub mod Serving
 pub mod Orderly
 pub mod Underload
@@ -63,9 +70,13 @@ pub mod Turns
 pub mod RestTick
 pub mod Parting
 pub mod TurnSchedules
+pub mod InTurns
 pub mod Anew
 pub mod WaitingMoves
 pub mod Spending
+pub mod PathCosts
+pub mod OverFor
+pub mod Early
 pub mod Once
 pub mod Honest
 pub mod Numerals
@@ -95,3 +106,5 @@ pub mod TraceEnds
 pub mod Accepting
 pub mod WrongStays
 pub mod JobSessions
+pub mod Former
+pub mod RunSessions

@@ -1,7 +1,6 @@
 -- The steps of jobs that are moved in time.
 use Rattle.std.proofs.Common.{◌≡◌, ℕ, ◌+◌, ◌-◌, ◌≤◌, ◌<◌, inl, inr, List, [], ◌∷◌, length, map, refl, sym, ap, ◌∙◌}
-use Rattle.std.proofs.Common.{subst, Bool, true, false, cond, arith}
-use Rattle.std.proofs.Common.{eqb, Option, Some, None}
+use Rattle.std.proofs.Common.{subst, Bool, true, false, cond, arith, eqb, Option, Some, None}
 use Rattle.std.specs.Prelude.{nat_lt, nat_le, ◌&&◌, ◌||◌}
 use Rattle.std.specs.Bool.{MatchBool, then_some}
 use Rattle.std.specs.List.{find, filter, fold, sum_by, list_all, cons_option}
@@ -10,16 +9,16 @@ use Rattle.dover_model.specs.Fraction.{Fraction}
 use Rattle.dover_model.specs.declared.events.Event.{Event}
 use Rattle.dover_model.specs.declared.events.Event.TheVariants.{Release, Run, Preempt, Take, Complete, Abandon, End}
 use Rattle.dover_model.specs.declared.events.Version.{Version}
-use Rattle.dover_model.specs.declared.events.Version.TheVariants.{One, Two}
+use Rattle.dover_model.specs.declared.events.Version.TheVariants.{One, Two, Three}
 use Rattle.dover_model.specs.declared.events.Task.{Task}
 use Rattle.dover_model.specs.Instance.{Rules}
 use Rattle.dover_model.specs.State.{State, is_coming, is_fresh, is_waiting, is_held, is_running, is_privileged, is_done}
-use Rattle.dover_model.specs.State.{is_over, left, latest_start}
-use Rattle.dover_model.specs.State.{room, demand_by, least, value_sum}
+use Rattle.dover_model.specs.State.{is_over, left, latest_start, running, room, demand_by, least, value_sum}
 use Rattle.dover_model.specs.Orders.{is_heavy, first, earlier, due_first, starts_before}
 use Rattle.dover_model.specs.Step.{Move, Prints, Waits, Ticks, View, view, ◌or_else◌, completion, dispatch, decision}
-use Rattle.dover_model.specs.Step.{arrival, alarm}
-use Rattle.dover_model.specs.Step.{urgent_or, step, ending, after, ticked, runs, preempts, is_at_latest_start}
+use Rattle.dover_model.specs.Step.{arrival, alarm, urgent_or, step, ending, after, ticked, runs, preempts}
+use Rattle.dover_model.specs.Step.{is_at_latest_start, declared_step, due_finish, finish_or}
+use Rattle.dover_model.specs.Finishes.{Finish, is_finish_of}
 use Rattle.dover_model.specs.Run.{Step, is_end, event_of, printed_of}
 use Rattle.dover_model.specs.WholeRun.{step_at, IsWholeRun}
 use Rattle.dover_model.specs.Sound.{Each}
@@ -147,6 +146,12 @@ module _ (c : ℕ) where
       ∙ ap (λ same. nat_lt a.job.deadline b.job.deadline || (same
       && (nat_lt b.job.value a.job.value || (eqb a.job.value b.job.value && nat_lt a.number b.number))))
       (eq_later c a.job.deadline b.job.deadline)
+  due_later Three a b fit fit2 = ap (λ less. less || (eqb (a.job.deadline + c) (b.job.deadline + c)
+      && (nat_lt b.job.value a.job.value || (eqb a.job.value b.job.value && nat_lt a.number b.number))))
+      (lt_later c a.job.deadline b.job.deadline)
+      ∙ ap (λ same. nat_lt a.job.deadline b.job.deadline || (same
+      && (nat_lt b.job.value a.job.value || (eqb a.job.value b.job.value && nat_lt a.number b.number))))
+      (eq_later c a.job.deadline b.job.deadline)
 
   -- two keys c later
   keys_later : (x y a b : ℕ) (rest : Bool) → x ≡ a + c → y ≡ b + c
@@ -163,6 +168,10 @@ module _ (c : ℕ) where
       keys_later (latest_start (moved_task c a)) (latest_start (moved_task c b)) (latest_start a) (latest_start b)
       (nat_lt a.number b.number) (latest_later c a fit) (latest_later c b fit2)
   start_later Two a b fit fit2 =
+      keys_later (latest_start (moved_task c a)) (latest_start (moved_task c b)) (latest_start a) (latest_start b)
+      (nat_lt b.job.value a.job.value || (eqb a.job.value b.job.value && nat_lt a.number b.number))
+      (latest_later c a fit) (latest_later c b fit2)
+  start_later Three a b fit fit2 =
       keys_later (latest_start (moved_task c a)) (latest_start (moved_task c b)) (latest_start a) (latest_start b)
       (nat_lt b.job.value a.job.value || (eqb a.job.value b.job.value && nat_lt a.number b.number))
       (latest_later c a fit) (latest_later c b fit2)
@@ -399,12 +408,32 @@ module _ (c : ℕ) where
         by_test false = refl
 
   module _ (rules : Rules) where
-    -- the step of a moved state
-    pub step_later : (s : State) → Each IsFitting s.tasks → step rules (moved_state c s) ≡ moved_move (step rules s)
-    step_later s fits = ap (λ v. urgent_or rules.ratio v (ending (moved_state c s) or_else Ticks))
+    -- the step of a moved state, where no job finishes early
+    declared_later : (s : State) → Each IsFitting s.tasks
+        → declared_step rules (moved_state c s) ≡ moved_move (declared_step rules s)
+    declared_later s fits = ap (λ v. urgent_or rules.ratio v (ending (moved_state c s) or_else Ticks))
         (view_later rules.version s fits)
         ∙ ap (urgent_or rules.ratio (moved_view (view rules.version s))) (ending_later s)
         ∙ urgent_later rules.ratio (view rules.version s) (ending s or_else Ticks)
+
+    -- the finish that is due then
+    finish_later : (s : State) → due_finish rules.finishes (moved_state c s) ≡ due_finish rules.finishes s
+    finish_later s = ap (λ o. find (is_finish_of o) rules.finishes) (find_later c is_running (λ _. refl) s.tasks)
+        ∙ by_running (running s) where
+          by_running : (o : Option Task)
+              → find (is_finish_of (moved_option c o)) rules.finishes ≡ find (is_finish_of o) rules.finishes
+          by_running None = refl
+          by_running (Some r) = refl
+
+    -- the step of a moved state
+    pub step_later : (s : State) → Each IsFitting s.tasks → step rules (moved_state c s) ≡ moved_move (step rules s)
+    step_later s fits = ap (λ o. finish_or (s.clock + c) o (declared_step rules (moved_state c s))) (finish_later s)
+        ∙ ap (finish_or (s.clock + c) (due_finish rules.finishes s)) (declared_later s fits)
+        ∙ by_due (due_finish rules.finishes s) where
+          by_due : (o : Option Finish) → finish_or (s.clock + c) o (moved_move (declared_step rules s))
+              ≡ moved_move (finish_or s.clock o (declared_step rules s))
+          by_due None = refl
+          by_due (Some f) = refl
 
     -- a state
     abbrev state_of : ℕ → List Task → State

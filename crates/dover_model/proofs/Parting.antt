@@ -1,7 +1,6 @@
 -- What schedules of all jobs give to the jobs of a part, and sums of bounds.
 use Rattle.std.proofs.Common.{◌≡◌, ℕ, suc, ◌+◌, ◌-◌, ◌*◌, ◌≤◌, inl, inr, List, [], ◌∷◌, ◌++◌, length, drop, take, map}
-use Rattle.std.proofs.Common.{refl}
-use Rattle.std.proofs.Common.{sym, ap, ◌∙◌, subst, arith, cond, eqb, Bool, true, false, IsTrue}
+use Rattle.std.proofs.Common.{refl, sym, ap, ◌∙◌, subst, arith, cond, eqb, Bool, true, false, IsTrue}
 use Rattle.std.specs.List.{count_by, sum_by, filter, enumerate_from, AllByRecursion}
 use Rattle.std.proofs.lemmas.Bool.{le-leb, leb-true, eqb-true, eq-eqb, ne_eqb}
 use Rattle.std.proofs.lemmas.List.{take-map, drop-map}
@@ -22,7 +21,7 @@ use Rattle.dover_model.proofs.Members.{sum_le, sum_plus, term_le_sum, all_member
 use Rattle.dover_model.proofs.GreatestLaws.{bound-is}
 use Rattle.dover_model.proofs.Runs.{none_lost, all_value}
 use Rattle.dover_model.proofs.BoundLaws.{bound as no_more, intervals_abandon}
-use Rattle.dover_model.proofs.Calculus.{below_add}
+use Rattle.dover_model.proofs.Calculus.{below_add, within_less}
 use Rattle.dover_model.specs.Books.{Job}
 
 -- ---- a schedule under other numbers
@@ -225,15 +224,6 @@ module _ (owner : ℕ → ℕ) (jobs : List JobFacts) where
 
 -- ---- bounds
 
--- less of what is within is within
-pub within_less : (k : Fraction) (c c2 a : ℕ) → c ≤ c2 → IsWithin k c2 a → IsWithin k c a
-within_less k c c2 a less within =
-    let times : k.q * c ≤ k.q * c2 = mul-le k.q c k.q c2 (omega arith) less in
-    let low : k.q * c - (k.p + k.q) * a ≤ k.q * c2 - (k.p + k.q) * a = omega arith in
-    let square : (k.q * c - (k.p + k.q) * a) * (k.q * c - (k.p + k.q) * a) ≤ (k.q * c2 - (k.p + k.q) * a)
-    * (k.q * c2 - (k.p + k.q) * a) =
-    mul-le _ _ _ _ low low in omega (arith, within, square)
-
 -- what is within two values is together within their sum
 pub within_add : (k : Fraction) (c c2 a a2 : ℕ) → IsWithin k c a → IsWithin k c2 a2 → IsWithin k (c + c2) (a + a2)
 within_add k c c2 a a2 one other =
@@ -382,7 +372,7 @@ module _ (rules : Rules) where
       omega arith
 
   -- a schedule that serves both serves each
-  meets_append : (jobs more : List JobFacts) → Meets (of_rules (jobs ++ more)) → Meets (of_rules jobs)
+  pub meets_append : (jobs more : List JobFacts) → Meets (of_rules (jobs ++ more)) → Meets (of_rules jobs)
       × Meets (of_rules more)
   meets_append jobs more meets =
       let both = all_append (λ n_j. IsTrue (is_served meets.0 n_j)) (enumerate_from 0 jobs)

@@ -1,7 +1,6 @@
 -- Paths of open steps: how they go on, what they come to at a barrier, with a job more, and at the end.
 use Rattle.std.proofs.Common.{◌≡◌, ℕ, ◌+◌, ◌≤◌, ◌<◌, ◌⊎◌, inl, inr, List, [], ◌∷◌, ◌++◌, length, map, refl, sym, ap}
-use Rattle.std.proofs.Common.{◌∙◌, subst, append_assoc}
-use Rattle.std.proofs.Common.{Bool, true, false, cond, arith}
+use Rattle.std.proofs.Common.{◌∙◌, subst, append_assoc, Bool, true, false, cond, arith}
 use Rattle.std.specs.Prelude.{◌&&◌, nat_le, Option, Some, None}
 use Rattle.std.specs.Bool.{MatchBool, then_some}
 use Rattle.std.specs.List.{list_all, filter, cons_option}
@@ -24,6 +23,7 @@ use Rattle.dover_model.proofs.Roles.{passes, is_over_role}
 use Rattle.dover_model.proofs.Deeds.{over_rests}
 use Rattle.dover_model.proofs.Kept.{open_kept, step_kept, opening_keeps, step_deed, open_deed}
 use Rattle.dover_model.proofs.Ending.{potential, ends, run_is_whole}
+use Rattle.dover_model.proofs.Readiness.{IsReady, open_ready, step_ready, opening_ready}
 use Rattle.dover_model.proofs.RunLaws.{one_run}
 use Rattle.dover_model.proofs.Barriers.{clock_stays}
 use Rattle.dover_model.proofs.Settling.{settles, settled_is_run}
@@ -271,6 +271,14 @@ printed_then_run J mark s events zs valid it whole =
 
 -- ---- what is printed begins what will be
 
+-- a path keeps the jobs behind from all finishes
+pub path_ready : (J : Instance) → IsValid J → (mark : ℕ) (xs : List Step) (s t : State) → Keeps J s
+    → IsReady J.rules.finishes s → IsOpenPath J.rules mark s xs t → IsReady J.rules.finishes t
+path_ready J valid mark [] s t keeps ready here = subst (IsReady J.rules.finishes) (sym here) ready
+path_ready J valid mark (x ∷ xs) s t keeps ready path =
+    path_ready J valid mark xs (after s (open_step J.rules s)) t (open_kept J valid s keeps J.rules)
+    (open_ready J valid s keeps J.rules ready) path.2
+
 -- a path, and what settles behind it
 pub path_then_settled : (rules : Rules) (mark : ℕ) (xs ys : List Step) (s t : State) → IsOpenPath rules mark s xs t
     → IsSettledRun rules mark t ys
@@ -285,7 +293,10 @@ pub printed_begins : (J : Instance) (mark : ℕ) (s : State) (events : List Even
     → Begins events (settled J mark)
 printed_begins J mark s events valid it =
     let keeps : Keeps J s = path_keeps J valid mark it.steps (opening J.jobs) s (opening_keeps J) it.path in
-    let rest = settles J valid J.rules mark (potential mark s) s keeps (omega arith) in (
+    let ready : IsReady J.rules.finishes s =
+    path_ready J valid mark it.steps (opening J.jobs) s (opening_keeps J)
+    (opening_ready J.rules.finishes J.jobs) it.path in
+    let rest = settles J valid J.rules mark (potential J.rules.finishes mark s) s keeps ready (omega arith) in (
       printed_of rest.0,
       ap printed_of (one_settled_run J.rules mark (settled_steps J mark) (it.steps ++ rest.0) (opening J.jobs)
           (settled_is_run J mark valid)
@@ -310,14 +321,25 @@ closed_keeps J valid [] s t keeps here = subst (Keeps J) (sym here) keeps
 closed_keeps J valid (x ∷ xs) s t keeps path =
     closed_keeps J valid xs (after s (step J.rules s)) t (step_kept J valid s keeps J.rules) path.2
 
+-- they keep the jobs behind from all finishes
+pub closed_ready : (J : Instance) → IsValid J → (xs : List Step) (s t : State) → Keeps J s → IsReady J.rules.finishes s
+    → IsPath J.rules s xs t → IsReady J.rules.finishes t
+closed_ready J valid [] s t keeps ready here = subst (IsReady J.rules.finishes) (sym here) ready
+closed_ready J valid (x ∷ xs) s t keeps ready path = closed_ready J valid xs (after s (step J.rules s)) t
+    (step_kept J valid s keeps J.rules) (step_ready J valid s keeps J.rules ready) path.2
+
 -- what was printed before the barrier, and by closed steps behind, begins what the run prints
 pub printed_begins_run : (J : Instance) (mark : ℕ) (s t : State) (events : List Event) (xs : List Step) → IsValid J
     → HasPrinted J mark s events
     → IsPath J.rules s xs t → Begins (events ++ printed_of xs) (printed J)
 printed_begins_run J mark s t events xs valid it path =
-    let keeps : Keeps J t = closed_keeps J valid xs s t
-    (path_keeps J valid mark it.steps (opening J.jobs) s (opening_keeps J) it.path) path in
-    let rest = ends J valid J.rules (potential (last_deadline J.jobs) t) t keeps (omega arith) in (
+    let before : Keeps J s = path_keeps J valid mark it.steps (opening J.jobs) s (opening_keeps J) it.path in
+    let keeps : Keeps J t = closed_keeps J valid xs s t before path in
+    let ready : IsReady J.rules.finishes t = closed_ready J valid xs s t before
+    (path_ready J valid mark it.steps (opening J.jobs) s (opening_keeps J) (opening_ready J.rules.finishes J.jobs)
+    it.path) path in
+    let rest = ends J valid J.rules (potential J.rules.finishes (last_deadline J.jobs) t) t keeps ready
+    (omega arith) in (
       printed_of rest.0,
       printed_then_run J mark s events (xs ++ rest.0) valid it (closed_then_run J.rules xs rest.0 s t path rest.1)
           ∙ ap (λ es. events ++ es) (printed_append xs rest.0)

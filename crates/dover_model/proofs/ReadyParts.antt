@@ -1,7 +1,7 @@
 -- The steps of a state are those of its jobs that aren't over.
 use Rattle.std.proofs.Common.{◌≡◌, List, ◌∷◌, refl, sym, ap, ◌∙◌, Bool, true, false, cond, ◌⊎◌, inl, inr, eqb, map, []}
 use Rattle.std.proofs.Common.{subst, not, ℕ, ◌+◌, arith}
-use Rattle.std.specs.Prelude.{Some, None, ◌&&◌, nat_le}
+use Rattle.std.specs.Prelude.{Some, None}
 use Rattle.std.specs.List.{filter, find, sum_by}
 use Rattle.std.proofs.lemmas.Bool.{not-false, ne_eqb, not-true}
 use Rattle.std.proofs.lemmas.List.Sums.{sum_by-cons}
@@ -11,7 +11,7 @@ use Rattle.dover_model.specs.declared.events.Task.{Task}
 use Rattle.dover_model.specs.State.{is_over, State, is_coming, is_fresh, is_waiting, is_held, is_running, is_privileged}
 use Rattle.dover_model.specs.State.{is_done, value_sum}
 use Rattle.dover_model.specs.Step.{with_role, view, Ticks, open_step, urgent_or, Move, Prints, Waits, role_after}
-use Rattle.dover_model.specs.Step.{ticked, after, displaced}
+use Rattle.dover_model.specs.Step.{ticked, after, displaced, due_finish, finish_or, declared_open_step}
 use Rattle.dover_model.specs.Ready.{is_ready, ready_part}
 use Rattle.dover_model.specs.declared.events.Version.{Version}
 use Rattle.dover_model.specs.Instance.{Rules, Instance, IsValid}
@@ -21,12 +21,10 @@ use Rattle.dover_model.proofs.Tests.{never}
 use Rattle.dover_model.specs.Fraction.{Fraction}
 use Rattle.dover_model.proofs.Deeds.{Deed, Completed, Resumed, Started, Began, Preempted, Stayed, Arrived, Taken}
 use Rattle.dover_model.proofs.Deeds.{Abandoned, Rested}
-use Rattle.dover_model.proofs.Members.{sum_filter, sum_zero, on_map, member_filter}
-use Rattle.dover_model.proofs.Kept.{open_deed, open_kept}
-use Rattle.dover_model.specs.Leading.{IsSilent, Settles}
-use Rattle.dover_model.specs.Run.{Step, event_of}
-use Rattle.dover_model.specs.Settled.{waits_for_mark}
-use Rattle.dover_model.specs.WholeRun.{open_at}
+use Rattle.dover_model.proofs.Members.{sum_filter, on_map, member_filter}
+use Rattle.dover_model.proofs.Kept.{open_deed}
+use Rattle.dover_model.specs.Leading.{IsSilent}
+use Rattle.dover_model.specs.Finishes.{is_finish_of}
 
 -- ---- what is seen
 
@@ -71,7 +69,11 @@ view_ready version s = rw (
 
 -- so is the open step
 pub step_ready : (rules : Rules) (s : State) → open_step rules (ready_part s) ≡ open_step rules s
-step_ready rules s = ap (λ v. urgent_or rules.ratio v Ticks) (view_ready rules.version s)
+step_ready rules s = ap (λ o. finish_or s.clock (find (is_finish_of o) rules.finishes) (declared_open_step rules
+    (ready_part s)))
+    (find_part is_running is_ready (over_fails is_running (λ _. refl) (λ _. refl)) s.tasks)
+    ∙ ap (λ v. finish_or s.clock (due_finish rules.finishes s) (urgent_or rules.ratio v Ticks))
+    (view_ready rules.version s)
 
 -- ---- what is done
 
@@ -119,10 +121,10 @@ module _ (k : Fraction) (s : State) (sound : IsSound s) (t : Task) (mt : IsMembe
 
   -- no deed changes it
   deed_over : (m : Move) → Deed k s Ticks m → change m t ≡ t
-  deed_over m (Completed r member runs done) = unnamed r Running Done member runs refl
+  deed_over m (Completed r member runs) = unnamed r Running Done member runs refl
   deed_over m (Resumed p member held none least why) = unnamed p Held Running member held refl
   deed_over m (Started o member waiting none first fits next) = unnamed o Waiting Running member waiting refl
-  deed_over m (Began f member fresh none) = unnamed f Fresh Running member fresh refl
+  deed_over m (Began f member fresh none free) = unnamed f Fresh Running member fresh refl
   deed_over m (Preempted r f member runs some f_member fresh before fits) =
       ap (λ b. with_role t (cond b Running (cond (eqb t.number r.number) Held t.role)))
       (ne_eqb t.number f.number (apart s sound t f Fresh mt f_member over fresh refl))

@@ -93,10 +93,10 @@ is_release _ = false
 
 -- no deed releases a job, where none is to come
 deed_no_release : (k : Fraction) (s : State) (m : Move) → NoneComes s.tasks → Deed k s Ticks m → is_release m ≡ false
-deed_no_release k s m none (Completed r member runs done) = refl
+deed_no_release k s m none (Completed r member runs) = refl
 deed_no_release k s m none (Resumed p member held free least why) = refl
 deed_no_release k s m none (Started o member waiting free first fits next) = refl
-deed_no_release k s m none (Began f member fresh free) = refl
+deed_no_release k s m none (Began f member fresh free behind) = refl
 deed_no_release k s m none (Preempted r f member runs some f_member fresh before fits) = refl
 deed_no_release k s m none (Stayed r f member runs some f_member fresh why) = refl
 deed_no_release k s m none (Arrived c member comes now first stale busy free) =

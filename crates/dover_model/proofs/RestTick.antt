@@ -1,7 +1,6 @@
 -- A run is at rest from the tick on at which it ends, and not before.
 use Rattle.std.proofs.Common.{◌≡◌, ℕ, ◌+◌, ◌≤◌, ◌<◌, ◌⊎◌, ◌↔◌, inl, inr, List, [], ◌∷◌, ◌++◌, map, refl, sym, ap, ◌∙◌}
-use Rattle.std.proofs.Common.{subst}
-use Rattle.std.proofs.Common.{Bool, true, false, cond, arith, eqb}
+use Rattle.std.proofs.Common.{subst, Bool, true, false, cond, arith, eqb}
 use Rattle.std.specs.Prelude.{◌&&◌, nat_le}
 use Rattle.std.specs.Bool.{MatchBool}
 use Rattle.std.specs.List.{list_all, fold}
@@ -11,13 +10,14 @@ use Rattle.dover_model.specs.declared.events.Role.{Role}
 use Rattle.dover_model.specs.declared.events.Role.TheVariants.{Coming, Fresh, Waiting, Held, Running, Gone}
 use Rattle.dover_model.specs.declared.events.Task.{Task}
 use Rattle.dover_model.specs.Instance.{Rules, Instance, IsValid}
-use Rattle.dover_model.specs.State.{State, opening, is_over, is_running, left}
+use Rattle.dover_model.specs.State.{State, opening, is_over, is_running, is_ready_behind}
 use Rattle.dover_model.specs.Step.{Move, Ticks, step, open_step, after, with_role, displaced}
 use Rattle.dover_model.specs.Run.{Step, is_end, run}
 use Rattle.dover_model.specs.Settled.{waits_for_mark, settled_steps, settled_state}
 use Rattle.dover_model.specs.WholeRun.{open_at, IsWholeRun, IsBefore, IsSettledRun}
 use Rattle.dover_model.specs.Paths.{IsOpenPath}
-use Rattle.dover_model.specs.Sound.{IsMember, Each, IsSound, Keeps}
+use Rattle.dover_model.specs.Sound.{IsMember, Each, FitsRole, IsSound, Keeps}
+use Rattle.dover_model.specs.Finishes.{Finish, goes_on}
 use Rattle.dover_model.specs.Rest.{IsAtRest, end_tick}
 use Rattle.dover_model.proofs.Members.{all_each, map_member}
 use Rattle.dover_model.proofs.Roles.{passes, one_number}
@@ -27,7 +27,9 @@ use Rattle.dover_model.proofs.Kept.{open_deed, open_kept, step_kept, opening_kee
 use Rattle.dover_model.proofs.Ending.{potential, end_over, run_is_whole, later_clock}
 use Rattle.dover_model.proofs.Settling.{settles, settled_is_run}
 use Rattle.dover_model.proofs.Prefixes.{step_open, over_ticked}
-use Rattle.dover_model.proofs.Paths.{one_settled_run, path_keeps, path_then_settled}
+use Rattle.dover_model.proofs.Paths.{one_settled_run, path_keeps, path_ready, path_then_settled}
+use Rattle.dover_model.proofs.Readiness.{going, IsReady, Decides, step_decides, open_decides, step_ready, opening_ready}
+use Rattle.dover_model.proofs.Readiness.{none_due}
 use Rattle.dover_model.proofs.Resting.{path_state, end_step, Rests, at_rest}
 use Rattle.dover_model.proofs.Tests.{never}
 use Rattle.dover_model.proofs.Barriers.{state_after}
@@ -51,13 +53,13 @@ whole_clock rules (z ∷ zs) s from whole = subst (λ (y : Step). s.clock ≤ en
 -- ---- a job that runs on
 
 -- some job runs and isn't done
-abbrev RunsOn : State → Type 0
-RunsOn s = (r : Task) × IsMember r s.tasks × (r.role ≡ Running) × (1 ≤ left r)
+abbrev RunsOn : List Finish → State → Type 0
+RunsOn finishes s = (r : Task) × IsMember r s.tasks × (r.role ≡ Running) × (goes_on finishes r ≡ true)
 
-module _ (k : Fraction) (s : State) (sound : IsSound s) where
+module _ (finishes : List Finish) (k : Fraction) (s : State) (sound : IsSound s) (ready : IsReady finishes s) where
   -- a change of another job's role leaves it so
-  still : (x : Task) (new : Role) → IsMember x s.tasks → is_running x ≡ false → RunsOn s
-      → RunsOn (record {
+  still : (x : Task) (new : Role) → IsMember x s.tasks → is_running x ≡ false → RunsOn finishes s
+      → RunsOn finishes (record {
         clock = s.clock;
         tasks =
             map (λ t. with_role t (cond (eqb t.number x.number) new t.role)) s.tasks;
@@ -73,8 +75,8 @@ module _ (k : Fraction) (s : State) (sound : IsSound s) where
         never (sym out ∙ ap is_running (sym one) ∙ passes is_running it.0 Running true it.2 refl)
 
   -- what takes the processor runs on
-  taker : (x : Task) (others : Task → Role) → IsMember x s.tasks → 1 ≤ left x
-      → RunsOn (record {
+  taker : (x : Task) (others : Task → Role) → IsMember x s.tasks → goes_on finishes x ≡ true
+      → RunsOn finishes (record {
         clock = s.clock;
         tasks =
             map (λ t. with_role t (cond (eqb t.number x.number) Running (others t))) s.tasks;
@@ -86,51 +88,53 @@ module _ (k : Fraction) (s : State) (sound : IsSound s) where
     some,
   )
 
-  -- a fresh job has something left
-  fresh_left : (f : Task) → IsMember f s.tasks → f.role ≡ Fresh → 1 ≤ left f
-  fresh_left f member fresh =
-      (subst (λ role. Rattle.dover_model.specs.Sound.FitsRole s.clock role f) fresh (sound.roles f member)).1
+  -- a fresh job goes on
+  fresh_goes : (f : Task) → IsMember f s.tasks → f.role ≡ Fresh → goes_on finishes f ≡ true
+  fresh_goes f member fresh = let fits : FitsRole s.clock Fresh f =
+      subst (λ role. FitsRole s.clock role f) fresh (sound.roles f member) in
+      going finishes f fits.1 (none_due finishes f fits.0)
 
-  -- so has a waiting one
-  waiting_left : (x : Task) → IsMember x s.tasks → x.role ≡ Waiting → 1 ≤ left x
-  waiting_left x member waits =
-      (subst (λ role. Rattle.dover_model.specs.Sound.FitsRole s.clock role x) waits (sound.roles x member)).0
+  -- so does a waiting one
+  waiting_goes : (x : Task) → IsMember x s.tasks → x.role ≡ Waiting → goes_on finishes x ≡ true
+  waiting_goes x member waits = going finishes x
+      (subst (λ role. FitsRole s.clock role x) waits (sound.roles x member)).0
+      (ready x member (passes is_ready_behind x Waiting true waits refl))
 
   -- where a job runs on, it goes on, or a job runs on after the step
-  goes_on : (other m : Move) → Deed k s other m → RunsOn s → (m ≡ other) ⊎ RunsOn (after s m)
-  goes_on other m (Completed r member runs done) it = absurd (
-      let one : r ≡ it.0 = one_number 0 s.tasks sound.numbered r it.0 member it.1
-      (sound.one_runs r it.0 member it.1 runs it.2) in
-      let some : 1 ≤ left r = subst (λ t. 1 ≤ left t) (sym one) it.3 in omega arith)
-  goes_on other m (Resumed p member held none least why) it = absurd (none it.0 it.1 it.2)
-  goes_on other m (Started o member waiting none first fits next) it = absurd (none it.0 it.1 it.2)
-  goes_on other m (Began f member fresh none) it = absurd (none it.0 it.1 it.2)
-  goes_on other m (Preempted r f member runs some f_member fresh before fits) it =
-      inr (taker f (λ t. cond (eqb t.number r.number) Held t.role) f_member (fresh_left f f_member fresh))
-  goes_on other m (Stayed r f member runs some f_member fresh why) it =
+  runs_on : (other m : Move) → Deed k s other m → Decides finishes s m → RunsOn finishes s
+      → (m ≡ other) ⊎ RunsOn finishes (after s m)
+  runs_on other m (Completed r member runs) told it = never (sym (told.ends refl it.0 it.1 it.2) ∙ it.3)
+  runs_on other m (Resumed p member held none least why) told it = absurd (none it.0 it.1 it.2)
+  runs_on other m (Started o member waiting none first fits next) told it = absurd (none it.0 it.1 it.2)
+  runs_on other m (Began f member fresh none free) told it = absurd (none it.0 it.1 it.2)
+  runs_on other m (Preempted r f member runs some f_member fresh before fits) told it =
+      inr (taker f (λ t. cond (eqb t.number r.number) Held t.role) f_member (fresh_goes f f_member fresh))
+  runs_on other m (Stayed r f member runs some f_member fresh why) told it =
       inr (still f Waiting f_member (passes is_running f Fresh false fresh refl) it)
-  goes_on other m (Arrived c member comes now first stale busy free) it =
+  runs_on other m (Arrived c member comes now first stale busy free) told it =
       inr (still c Fresh member (passes is_running c Coming false comes refl) it)
-  goes_on other m (Taken r x member runs some x_member waiting now stale heavy) it =
-      inr (taker x (λ t. displaced t.role) x_member (waiting_left x x_member waiting))
-  goes_on other m (Abandoned r x member runs some x_member waiting now stale light) it =
+  runs_on other m (Taken r x member runs some x_member waiting now stale heavy) told it =
+      inr (taker x (λ t. displaced t.role) x_member (waiting_goes x x_member waiting))
+  runs_on other m (Abandoned r x member runs some x_member waiting now stale light) told it =
       inr (still x Gone x_member (passes is_running x Waiting false waiting refl) it)
-  goes_on other m (Rested quiet) it = inl refl
+  runs_on other m (Rested quiet) told it = inl refl
 
   -- a late step is a silent tick, or a job runs on after it
-  late_goes : (m : Move) → Deed k s Ticks m → waits_for_mark m ≡ true → (m ≡ Ticks) ⊎ RunsOn (after s m)
-  late_goes m (Completed r member runs done) late = never late
-  late_goes m (Resumed p member held none least why) late = never late
-  late_goes m (Started o member waiting none first fits next) late = never late
-  late_goes m (Began f member fresh none) late = never late
-  late_goes m (Preempted r f member runs some f_member fresh before fits) late = never late
-  late_goes m (Stayed r f member runs some f_member fresh why) late = never late
-  late_goes m (Arrived c member comes now first stale busy free) late = never late
-  late_goes m (Taken r x member runs some x_member waiting now stale heavy) late =
-      inr (taker x (λ t. displaced t.role) x_member (waiting_left x x_member waiting))
-  late_goes m (Abandoned r x member runs some x_member waiting now stale light) late =
-      inr (still x Gone x_member (passes is_running x Waiting false waiting refl) (r, member, runs, some))
-  late_goes m (Rested quiet) late = inl refl
+  late_goes : (m : Move) → Deed k s Ticks m → Decides finishes s m → waits_for_mark m ≡ true
+      → (m ≡ Ticks) ⊎ RunsOn finishes (after s m)
+  late_goes m (Completed r member runs) told late = never late
+  late_goes m (Resumed p member held none least why) told late = never late
+  late_goes m (Started o member waiting none first fits next) told late = never late
+  late_goes m (Began f member fresh none free) told late = never late
+  late_goes m (Preempted r f member runs some f_member fresh before fits) told late = never late
+  late_goes m (Stayed r f member runs some f_member fresh why) told late = never late
+  late_goes m (Arrived c member comes now first stale busy free) told late = never late
+  late_goes m (Taken r x member runs some x_member waiting now stale heavy) told late =
+      inr (taker x (λ t. displaced t.role) x_member (waiting_goes x x_member waiting))
+  late_goes m (Abandoned r x member runs some x_member waiting now stale light) told late =
+      inr (still x Gone x_member (passes is_running x Waiting false waiting refl)
+      (r, member, runs, going finishes r some (told.goes refl r member runs)))
+  late_goes m (Rested quiet) told late = inl refl
 
 module _ (J : Instance) (valid : IsValid J) where
   -- a step that isn't End is an open step
@@ -141,23 +145,27 @@ module _ (J : Instance) (valid : IsValid J) where
     by_all false some = step_open J.rules s some
 
   -- where a job runs on, the run ends at a later tick
-  ends_later : (zs : List Step) (s : State) (from : ℕ) → Keeps J s → RunsOn s → IsWholeRun J.rules s zs
+  ends_later : (zs : List Step) (s : State) (from : ℕ) → Keeps J s → IsReady J.rules.finishes s
+      → RunsOn J.rules.finishes s → IsWholeRun J.rules s zs
       → s.clock + 1 ≤ end_clock from zs
-  ends_later [] s from keeps it whole = absurd whole
-  ends_later (z ∷ zs) s from keeps it whole =
+  ends_later [] s from keeps ready it whole = absurd whole
+  ends_later (z ∷ zs) s from keeps ready it whole =
       subst (λ (y : Step). s.clock + 1 ≤ end_clock y.before.clock zs) (sym whole.0)
       (by_end (is_end (step J.rules s)) refl whole.1
-      (λ runs. ends_later zs (after s (step J.rules s)) s.clock (step_kept J valid s keeps J.rules) runs)) where
+      (λ runs. ends_later zs (after s (step J.rules s)) s.clock (step_kept J valid s keeps J.rules)
+      (step_ready J valid s keeps J.rules ready) runs)) where
         by_end : (b : Bool) → is_end (step J.rules s) ≡ b
             → MatchBool b (zs ≡ []) (IsWholeRun J.rules (after s (step J.rules s)) zs)
-            → (RunsOn (after s (step J.rules s)) → IsWholeRun J.rules (after s (step J.rules s)) zs
+            → (RunsOn J.rules.finishes (after s (step J.rules s)) → IsWholeRun J.rules (after s (step J.rules s)) zs
             → (after s (step J.rules s)).clock + 1 ≤ end_clock s.clock zs) → s.clock + 1 ≤ end_clock s.clock zs
         by_end true last none more =
             never (sym (passes is_over it.0 Running false it.2 refl)
             ∙ (end_over J valid s keeps J.rules last).1 it.0 it.1)
-        by_end false on rest more = by_goes (goes_on J.rules.ratio s keeps.sound Ticks (step J.rules s)
-            (subst (Deed J.rules.ratio s Ticks) (sym (goes s keeps on)) (open_deed J valid s keeps J.rules)) it) where
-              by_goes : (step J.rules s ≡ Ticks) ⊎ RunsOn (after s (step J.rules s))
+        by_end false on rest more = by_goes (runs_on J.rules.finishes J.rules.ratio s keeps.sound ready Ticks
+            (step J.rules s)
+            (subst (Deed J.rules.ratio s Ticks) (sym (goes s keeps on)) (open_deed J valid s keeps J.rules))
+            (step_decides s keeps.sound J.rules) it) where
+              by_goes : (step J.rules s ≡ Ticks) ⊎ RunsOn J.rules.finishes (after s (step J.rules s))
                   → s.clock + 1 ≤ end_clock s.clock zs
               by_goes (inl ticks) =
                   let next : (after s (step J.rules s)).clock ≡ s.clock + 1 = ap (λ m. (after s m).clock) ticks in
@@ -165,12 +173,14 @@ module _ (J : Instance) (valid : IsValid J) where
               by_goes (inr runs) = omega (arith, later_clock s (step J.rules s), more runs rest)
 
   -- a run that ends by the mark is a path of open steps to where all jobs are over
-  comes_to_rest : (mark : ℕ) (zs : List Step) (s : State) (from : ℕ) → Keeps J s → IsWholeRun J.rules s zs
+  comes_to_rest : (mark : ℕ) (zs : List Step) (s : State) (from : ℕ) → Keeps J s → IsReady J.rules.finishes s
+      → IsWholeRun J.rules s zs
       → end_clock from zs ≤ mark
       → (t : State) × (xs : List Step) × IsOpenPath J.rules mark s xs t × Each (λ u. is_over u ≡ true) t.tasks
-  comes_to_rest mark [] s from keeps whole low = absurd whole
-  comes_to_rest mark (z ∷ zs) s from keeps whole low = by_end (is_end (step J.rules s)) refl whole.1
-      (comes_to_rest mark zs (after s (step J.rules s)) s.clock (step_kept J valid s keeps J.rules)) where
+  comes_to_rest mark [] s from keeps ready whole low = absurd whole
+  comes_to_rest mark (z ∷ zs) s from keeps ready whole low = by_end (is_end (step J.rules s)) refl whole.1
+      (comes_to_rest mark zs (after s (step J.rules s)) s.clock (step_kept J valid s keeps J.rules)
+      (step_ready J valid s keeps J.rules ready)) where
         ends : end_clock s.clock zs ≤ mark
         ends = subst (λ (y : Step). end_clock y.before.clock zs ≤ mark) whole.0 low
 
@@ -188,9 +198,10 @@ module _ (J : Instance) (valid : IsValid J) where
           it.3,
         ) where
           early : waits_for_mark (open_step J.rules s) ≡ true → s.clock < mark
-          early late = by_goes (late_goes J.rules.ratio s keeps.sound (open_step J.rules s)
-              (open_deed J valid s keeps J.rules) late) where
-                by_goes : (open_step J.rules s ≡ Ticks) ⊎ RunsOn (after s (open_step J.rules s)) → s.clock < mark
+          early late = by_goes (late_goes J.rules.finishes J.rules.ratio s keeps.sound ready (open_step J.rules s)
+              (open_deed J valid s keeps J.rules) (open_decides s keeps.sound J.rules) late) where
+                by_goes : (open_step J.rules s ≡ Ticks) ⊎ RunsOn J.rules.finishes (after s (open_step J.rules s))
+                    → s.clock < mark
                 by_goes (inl ticks) =
                     let next : (after s (step J.rules s)).clock ≡ s.clock + 1 =
                     ap (λ m. (after s m).clock) (goes s keeps on ∙ ticks) in
@@ -200,8 +211,8 @@ module _ (J : Instance) (valid : IsValid J) where
                   later_clock s (step J.rules s),
                   ends,
                   ends_later zs (after s (step J.rules s)) s.clock
-                      (step_kept J valid s keeps J.rules)
-                      (subst (λ m. RunsOn (after s m)) (sym (goes s keeps on)) runs) rest,
+                      (step_kept J valid s keeps J.rules) (step_ready J valid s keeps J.rules ready)
+                      (subst (λ m. RunsOn J.rules.finishes (after s m)) (sym (goes s keeps on)) runs) rest,
                 )
 
           before : IsBefore J.rules mark s
@@ -230,9 +241,12 @@ module _ (J : Instance) (valid : IsValid J) where
   -- from the tick of its End on, the run is at rest
   pub rests_from : (m : ℕ) → end_tick J ≤ m → IsAtRest J m
   rests_from m low =
-      let it = comes_to_rest m (run J) (opening J.jobs) 0 (opening_keeps J) (run_is_whole J valid) low in
+      let it = comes_to_rest m (run J) (opening J.jobs) 0 (opening_keeps J) (opening_ready J.rules.finishes J.jobs)
+      (run_is_whole J valid) low in
       let keeps : Keeps J it.0 = path_keeps J valid m it.1 (opening J.jobs) it.0 (opening_keeps J) it.2 in
-      let rest = settles J valid J.rules m (potential m it.0) it.0 keeps (omega arith) in
+      let ready : IsReady J.rules.finishes it.0 = path_ready J valid m it.1 (opening J.jobs) it.0 (opening_keeps J)
+      (opening_ready J.rules.finishes J.jobs) it.2 in
+      let rest = settles J valid J.rules m (potential J.rules.finishes m it.0) it.0 keeps ready (omega arith) in
       let all : settled_steps J m ≡ it.1 ++ rest.0 =
       one_settled_run J.rules m (settled_steps J m) (it.1 ++ rest.0) (opening J.jobs)
       (settled_is_run J m valid) (path_then_settled J.rules m it.1 rest.0 (opening J.jobs) it.0 it.2 rest.1) in

@@ -1,19 +1,20 @@
 -- A run falls apart at a moment of rest.
 use Rattle.std.proofs.Common.{◌≡◌, ℕ, zero, suc, length-append, ◌+◌, ◌-◌, ◌*◌, ◌≤◌, ◌<◌, inl, inr, List, [], ◌∷◌, ◌++◌}
 use Rattle.std.proofs.Common.{length, map, refl, sym, ap, ◌∙◌, subst, append-nil, Bool, true, false, cond, arith}
-use Rattle.std.specs.Prelude.{◌&&◌, nat_le}
+use Rattle.std.specs.Prelude.{◌&&◌, nat_le, Option, Some, nat_lt, ◌==◌, None}
 use Rattle.std.specs.Bool.{MatchBool, then_some}
-use Rattle.std.specs.List.{list_all, filter, fold, cons_option}
-use Rattle.std.proofs.lemmas.Bool.{lt-leb, leb-true, leb-false, and_right}
+use Rattle.std.specs.List.{list_all, filter, fold, cons_option, find}
+use Rattle.std.proofs.lemmas.Bool.{lt-leb, leb-true, leb-false, and_right, ne_eqb}
 use Rattle.dover_model.specs.JobFacts.{JobFacts, IsJob}
 use Rattle.dover_model.specs.declared.events.Event.{Event}
 use Rattle.dover_model.specs.declared.events.Event.TheVariants.{End}
 use Rattle.dover_model.specs.declared.events.Role.TheVariants.{Coming, Fresh, Waiting, Running}
 use Rattle.dover_model.specs.declared.events.Task.{Task}
-use Rattle.dover_model.specs.Instance.{Rules, Instance, IsValid, with_jobs}
+use Rattle.dover_model.specs.Instance.{Rules, Instance, IsValid, having}
 use Rattle.dover_model.specs.State.{State, with_later, opening, to_come, is_over, is_done, is_ready_behind, is_running}
-use Rattle.dover_model.specs.State.{is_fresh, is_waiting, value_sum}
-use Rattle.dover_model.specs.Step.{Prints, Ticks, step, open_step, after, ending, ◌or_else◌, ticked}
+use Rattle.dover_model.specs.State.{is_fresh, is_waiting, value_sum, running}
+use Rattle.dover_model.specs.Step.{Prints, Ticks, step, open_step, after, ending, ◌or_else◌, ticked, due_finish}
+use Rattle.dover_model.specs.Step.{finish_or, declared_step}
 use Rattle.dover_model.specs.Run.{Step, is_end, event_of, printed_of, printed, run, last_deadline, enough}
 use Rattle.dover_model.specs.Run.{completed_value}
 use Rattle.dover_model.specs.Settled.{waits_for_mark, settled, settled_steps, settled_state, AllComeFrom}
@@ -21,24 +22,29 @@ use Rattle.dover_model.specs.WholeRun.{open_at, step_at, IsWholeRun, IsBarrier, 
 use Rattle.dover_model.specs.Paths.{IsOpenPath, IsPath, HasPrinted}
 use Rattle.dover_model.specs.Jumps.{ticked_by, later_by, NothingDue}
 use Rattle.dover_model.specs.Sound.{IsMember, Each, Keeps}
-use Rattle.dover_model.specs.Rest.{instead, NoneBefore, IsAtRest, behind}
-use Rattle.dover_model.proofs.Members.{all_member}
+use Rattle.dover_model.specs.Rest.{NoneBefore, IsAtRest, behind, AreOwn, behind_finish, instead_with, followed_by}
+use Rattle.dover_model.proofs.Members.{all_member, found}
 use Rattle.dover_model.proofs.Roles.{passes}
 use Rattle.dover_model.proofs.Deeds.{over_rests}
-use Rattle.dover_model.proofs.Kept.{open_deed, open_kept, step_deed, opening_keeps, come_coming}
+use Rattle.dover_model.proofs.Kept.{open_deed, open_kept, step_kept, step_deed, opening_keeps, come_coming}
 use Rattle.dover_model.proofs.Jumping.{later_keeps, later_ticks}
 use Rattle.dover_model.proofs.Potential.{steps_scale, weights}
 use Rattle.dover_model.specs.Weights.{weight, weight_in, standing}
 use Rattle.dover_model.proofs.Ending.{potential, ends, sum_each}
+use Rattle.dover_model.proofs.Readiness.{opening_ready}
 use Rattle.dover_model.proofs.RunLaws.{enough_fuel}
 use Rattle.dover_model.proofs.Settling.{late_early, settles, settled_is_run}
 use Rattle.dover_model.proofs.Barriers.{AtBarrier, settled_at_barrier, state_after}
-use Rattle.dover_model.proofs.Later.{same_step}
+use Rattle.dover_model.proofs.Later.{same_step, find_front, role_passes}
 use Rattle.dover_model.proofs.Prefixes.{same_after, step_open, open_goes_on, come_from, come_append}
 use Rattle.dover_model.proofs.Runs.{printed_append, last_value, value_last}
 use Rattle.dover_model.proofs.Honest.{numbers_low, count_jobs}
 use Rattle.dover_model.proofs.Paths.{path_append, path_settles, one_settled_run, printed_then_run, closed_then_run}
 use Rattle.dover_model.proofs.Shifting.{shifted, beside, came_to, whole_beside}
+use Rattle.dover_model.proofs.Finishing.{none_without}
+use Rattle.dover_model.specs.Finishes.{Finish, is_finish_of}
+use Rattle.std.specs.Option.{option_or}
+use Rattle.std.proofs.lemmas.List.Folds.{find-append}
 use Rattle.dover_model.proofs.Tests.{never}
 
 -- the jobs to come, at a tick
@@ -169,10 +175,20 @@ module _ (J : Instance) (valid : IsValid J) (m : ℕ) (late : NoneBefore m J.job
   tick_keeps i low = subst (Keeps J) (later_opening i)
       (later_keeps J valid (opening J.jobs) (opening_keeps J) m nothing_due i low)
 
+  -- no job to come runs
+  none_run : (n : ℕ) (jobs : List JobFacts) → find is_running (to_come n jobs) ≡ None
+  none_run n [] = refl
+  none_run n (j ∷ jobs) = none_run (suc n) jobs
+
+  -- so no finish is due
+  none_due_yet : (i : ℕ) → due_finish J.rules.finishes (later_by i (opening J.jobs)) ≡ None
+  none_due_yet i = ap (λ o. find (is_finish_of o) J.rules.finishes)
+      (ap (find is_running) (come_ticked i 0 J.jobs) ∙ none_run 0 J.jobs) ∙ none_without J.rules.finishes
+
   -- its step is a silent tick
   tick_ticks : (i : ℕ) → i < m → open_step J.rules (at_tick i J.jobs) ≡ Ticks
   tick_ticks i low = subst (λ s. open_step J.rules s ≡ Ticks) (later_opening i)
-      (later_ticks J valid (opening J.jobs) (opening_keeps J) m nothing_due i low)
+      (later_ticks J valid (opening J.jobs) (opening_keeps J) m nothing_due i low (none_due_yet i))
 
   -- silent ticks lead on to m
   pub ticks_path : (mark : ℕ) → m ≤ mark → (k i : ℕ) → i + k ≡ m
@@ -201,15 +217,17 @@ module _ (J : Instance) (valid : IsValid J) (m : ℕ) (late : NoneBefore m J.job
       record { steps = it.0; path = it.1; prints = it.2 }
 
   -- all jobs weigh five, at each tick
-  come_weighs : weights (at_tick m J.jobs) ≡ 5 * length J.jobs
-  come_weighs = sum_each 5 (weight steps_scale m (standing (to_come 0 J.jobs))) 0 J.jobs
-      (λ t member. ap (λ role. weight_in steps_scale role m (standing (to_come 0 J.jobs)) t) (come_not t member))
+  come_weighs : weights J.rules.finishes (at_tick m J.jobs) ≡ 5 * length J.jobs
+  come_weighs = sum_each 5 (weight steps_scale m (standing J.rules.finishes (to_come 0 J.jobs))) 0 J.jobs
+      (λ t member. ap (λ role. weight_in steps_scale role m (standing J.rules.finishes (to_come 0 J.jobs)) t)
+      (come_not t member))
 
   -- a valid instance by itself
   pub alone : RunsFrom J.rules m J.jobs (printed J)
   alone =
-      let it = ends J valid J.rules (potential (last_deadline J.jobs) (at_tick m J.jobs)) (at_tick m J.jobs)
-      (tick_keeps m (omega arith)) (omega arith) in (
+      let it = ends J valid J.rules (potential J.rules.finishes (last_deadline J.jobs) (at_tick m J.jobs))
+      (at_tick m J.jobs)
+      (tick_keeps m (omega arith)) (opening_ready J.rules.finishes J.jobs) (omega arith) in (
         it.0,
         it.1,
         omega (arith, it.2, come_weighs),
@@ -221,8 +239,8 @@ module _ (J : Instance) (valid : IsValid J) (m : ℕ) (late : NoneBefore m J.job
       → (xs : List Step) × IsSettledRun J.rules mark (at_tick m J.jobs) xs
       × (length xs ≤ (mark - m) + 5 * length J.jobs)
   settles_from mark low =
-      let it = settles J valid J.rules mark (potential mark (at_tick m J.jobs)) (at_tick m J.jobs)
-      (tick_keeps m (omega arith)) (omega arith) in
+      let it = settles J valid J.rules mark (potential J.rules.finishes mark (at_tick m J.jobs)) (at_tick m J.jobs)
+      (tick_keeps m (omega arith)) (opening_ready J.rules.finishes J.jobs) (omega arith) in
       (it.0, it.1, omega (arith, it.2, come_weighs))
 
 -- ---- a settled run is a path to its barrier
@@ -250,8 +268,72 @@ not_over [] k more out = ap (λ b. b && list_all is_over more) out
 not_over (t ∷ tasks) k more out =
     ap (λ b. is_over t && b) (not_over tasks k more out) ∙ and_right (is_over t) false refl
 
+-- ---- finishes of other jobs
+
+-- of jobs behind those of an instance
+abbrev pub behind_rules : Instance → List Finish → Rules
+behind_rules J fs = having J.rules (J.rules.finishes ++ map (behind_finish (length J.jobs)) fs)
+
+-- none of them comes to a job before
+foreign_none : (n : ℕ) (fs : List Finish) (t : Task) → t.number < n
+    → find (is_finish_of (Some t)) (map (behind_finish n) fs) ≡ None
+foreign_none n [] t low = refl
+foreign_none n (f ∷ fs) t low =
+    ap (λ b. cond ((b && (f.had == t.had)) && nat_lt 0 t.had) (Some (behind_finish n f))
+    (find (is_finish_of (Some t)) (map (behind_finish n) fs))) (ne_eqb (n + f.number) t.number (λ same. omega arith))
+    ∙ foreign_none n fs t low
+
+-- so they change no step of such jobs
+foreign_same : (J : Instance) (s : State) → Keeps J s → (fs : List Finish)
+    → find (is_finish_of (running s)) (J.rules.finishes ++ map (behind_finish (length J.jobs)) fs)
+    ≡ due_finish J.rules.finishes s
+foreign_same J s keeps fs = find-append (is_finish_of (running s)) J.rules.finishes (map (behind_finish
+    (length J.jobs)) fs)
+    ∙ ap (option_or (due_finish J.rules.finishes s)) (by_running (running s) refl)
+    ∙ or_none (due_finish J.rules.finishes s) where
+      by_running : (o : Option Task) → running s ≡ o
+          → find (is_finish_of o) (map (behind_finish (length J.jobs)) fs) ≡ None
+      by_running None e = none_without (map (behind_finish (length J.jobs)) fs)
+      by_running (Some r) e = foreign_none (length J.jobs) fs r
+          (numbers_below J s keeps r (found is_running s.tasks r e).0)
+
+      or_none : (o : Option Finish) → option_or o None ≡ o
+      or_none None = refl
+      or_none (Some f) = refl
+
+-- with others behind
+pub foreign_due : (J : Instance) (s : State) → Keeps J s → (fs : List Finish) (ks : List Task)
+    → Each (λ t. t.role ≡ Coming) ks
+    → due_finish (behind_rules J fs).finishes (with_later s ks) ≡ due_finish J.rules.finishes (with_later s ks)
+foreign_due J s keeps fs ks come =
+    let same : running (with_later s ks) ≡ running s =
+    find_front is_running s.tasks ks (role_passes is_running (λ _. refl) ks come) in
+    ap (λ o. find (is_finish_of o) (behind_rules J fs).finishes) same
+    ∙ foreign_same J s keeps fs
+    ∙ ap (λ o. find (is_finish_of o) J.rules.finishes) (sym same)
+
+-- a whole run is one with them
+foreign_run : (J : Instance) → IsValid J → (fs : List Finish) (zs : List Step) (s : State) → Keeps J s
+    → IsWholeRun J.rules s zs → IsWholeRun (behind_rules J fs) s zs
+foreign_run J valid fs [] s keeps whole = whole
+foreign_run J valid fs (z ∷ zs) s keeps whole = (
+  whole.0 ∙ ap (λ m. let y : Step = record { before = s; move = m } in y) (sym same),
+  subst (λ m. MatchBool (is_end m) (zs ≡ []) (IsWholeRun (behind_rules J fs) (after s m) zs)) (sym same)
+      (by_end (is_end (step J.rules s)) whole.1
+      (foreign_run J valid fs zs (after s (step J.rules s)) (step_kept J valid s keeps J.rules))),
+) where
+  same : step (behind_rules J fs) s ≡ step J.rules s
+  same = ap (λ o. finish_or s.clock o (declared_step J.rules s)) (foreign_same J s keeps fs)
+
+  by_end : (b : Bool) → MatchBool b (zs ≡ []) (IsWholeRun J.rules (after s (step J.rules s)) zs)
+      → (IsWholeRun J.rules (after s (step J.rules s)) zs
+      → IsWholeRun (behind_rules J fs) (after s (step J.rules s)) zs)
+      → MatchBool b (zs ≡ []) (IsWholeRun (behind_rules J fs) (after s (step J.rules s)) zs)
+  by_end true none more = none
+  by_end false rest more = more rest
+
 module _ (J : Instance) (valid : IsValid J) (mark : ℕ) (j : JobFacts) (js : List JobFacts)
-    (late : NoneBefore mark (j ∷ js)) where
+    (late : NoneBefore mark (j ∷ js)) (fs : List Finish) where
   -- the jobs behind
   abbrev ks : List Task
   ks = to_come (length J.jobs) (j ∷ js)
@@ -261,29 +343,33 @@ module _ (J : Instance) (valid : IsValid J) (mark : ℕ) (j : JobFacts) (js : Li
   come = come_from mark (length J.jobs) (j ∷ js) late
 
   -- one step
-  step_behind : (s : State) → Keeps J s → IsBefore J.rules mark s → step J.rules (with_later s ks) ≡ open_step J.rules s
-  step_behind s keeps before = step_open J.rules (with_later s ks) (not_over s.tasks _ _ refl)
+  step_behind : (s : State) → Keeps J s → IsBefore J.rules mark s
+      → step (behind_rules J fs) (with_later s ks) ≡ open_step J.rules s
+  step_behind s keeps before =
+      ap (λ o. finish_or s.clock o (declared_step J.rules (with_later s ks)))
+      (foreign_due J s keeps fs ks come.0)
+      ∙ step_open J.rules (with_later s ks) (not_over s.tasks _ _ refl)
       ∙ same_step J.rules s ks mark come.0 come.1
       (late_early (waits_for_mark (open_step J.rules s)) mark s.clock before)
 
   -- all steps of a path
   pub path_behind : (xs : List Step) (s t : State) → Keeps J s → IsOpenPath J.rules mark s xs t
-      → (ys : List Step) × IsPath J.rules (with_later s ks) ys (with_later t ks) × (length ys ≡ length xs)
+      → (ys : List Step) × IsPath (behind_rules J fs) (with_later s ks) ys (with_later t ks) × (length ys ≡ length xs)
       × (printed_of ys ≡ printed_of xs)
   path_behind [] s t keeps here = ([], ap (λ z. with_later z ks) here, refl, refl)
   path_behind (x ∷ xs) s t keeps path =
-      let same : step J.rules (with_later s ks) ≡ open_step J.rules s = step_behind s keeps path.1 in
-      let next : after (with_later s ks) (step J.rules (with_later s ks)) ≡ with_later
+      let same : step (behind_rules J fs) (with_later s ks) ≡ open_step J.rules s = step_behind s keeps path.1 in
+      let next : after (with_later s ks) (step (behind_rules J fs) (with_later s ks)) ≡ with_later
       (after s (open_step J.rules s)) ks =
       ap (after (with_later s ks)) same
       ∙ same_after J.rules.ratio s ks come.0 (numbers_apart J s keeps (j ∷ js)) (open_step J.rules s)
       (open_deed J valid s keeps J.rules) in
       let rest = path_behind xs (after s (open_step J.rules s)) t (open_kept J valid s keeps J.rules) path.2 in (
-        step_at J.rules (with_later s ks) ∷ rest.0,
+        step_at (behind_rules J fs) (with_later s ks) ∷ rest.0,
         (
           refl,
           ap is_end same ∙ open_goes_on J valid J.rules s keeps,
-          subst (λ z. IsPath J.rules z rest.0 (with_later t ks)) (sym next) rest.1,
+          subst (λ z. IsPath (behind_rules J fs) z rest.0 (with_later t ks)) (sym next) rest.1,
         ),
         omega (arith, rest.2),
         ap (λ m. cons_option (event_of m) (printed_of rest.0)) same
@@ -397,42 +483,61 @@ module _ (J : Instance) (valid : IsValid J) (m : ℕ) (rest : IsAtRest J m) wher
 -- ---- the jobs behind
 
 module _ (J : Instance) (valid : IsValid J) (m0 m : ℕ) (late0 : NoneBefore m0 J.jobs) (later : m0 ≤ m)
-    (rest : IsAtRest J m) where
-  -- none behind
-  joined_none : (events : List Event) → RunsFrom J.rules m [] events
-      → RunsFrom J.rules m0 (J.jobs ++ []) (settled J m ++ map (behind (length J.jobs) (completed_value J)) events)
-  joined_none events it = subst
-      (λ jobs. RunsFrom J.rules m0 jobs (settled J m ++ map (behind (length J.jobs) (completed_value J)) events))
-      (sym (append-nil J.jobs))
-      (subst (RunsFrom J.rules m0 J.jobs) (printed_at_rest J valid m rest ∙ ends_too (alone J valid m0 late0))
-      (alone J valid m0 late0)) where
-        only_end : (zs : List Step) → IsWholeRun J.rules (at_tick m []) zs → printed_of zs ≡ End 0 ∷ []
-        only_end [] whole = absurd whole
-        only_end (z ∷ zs) whole = ap (λ (y : Step). cons_option (event_of y.move) (printed_of zs)) whole.0
-            ∙ ap (λ ys. End 0 ∷ printed_of ys) whole.1
+    (rest : IsAtRest J m) (fs : List Finish) (own : AreOwn J) where
+  -- the rules of the run alone, and of both
+  abbrev rules1 : Rules
+  rules1 = having J.rules fs
 
-        ends_too : RunsFrom J.rules m0 J.jobs (printed J)
-            → settled J m ++ (End (completed_value J) ∷ []) ≡ settled J m ++ map
+  -- of both
+  abbrev rules2 : Rules
+  rules2 = behind_rules J fs
+
+  -- none behind
+  joined_none : (events : List Event) → RunsFrom rules1 m [] events
+      → RunsFrom rules2 m0 (J.jobs ++ []) (settled J m ++ map (behind (length J.jobs) (completed_value J)) events)
+  joined_none events it = subst
+      (λ jobs. RunsFrom rules2 m0 jobs (settled J m ++ map (behind (length J.jobs) (completed_value J)) events))
+      (sym (append-nil J.jobs))
+      (subst (RunsFrom rules2 m0 J.jobs) (printed_at_rest J valid m rest ∙ ends_too) alone_too) where
+        alone_too : RunsFrom rules2 m0 J.jobs (printed J)
+        alone_too = let a = alone J valid m0 late0 in (
+          a.0,
+          foreign_run J valid fs a.0 (at_tick m0 J.jobs) (tick_keeps J valid m0 late0 m0 (omega arith)) a.1,
+          a.2,
+          a.3,
+        )
+
+        only_end : (zs : List Step) → IsWholeRun rules1 (at_tick m []) zs → printed_of zs ≡ End 0 ∷ []
+        only_end [] whole = absurd whole
+        only_end (z ∷ zs) whole =
+            let ends : step rules1 (at_tick m []) ≡ Prints (End 0) =
+            ap (λ o. finish_or m o (Prints (End 0))) (none_without fs) in
+            ap (λ (y : Step). cons_option (event_of y.move) (printed_of zs)) whole.0
+            ∙ ap (λ x. cons_option (event_of x) (printed_of zs)) ends
+            ∙ ap (λ ys. End 0 ∷ printed_of ys) (subst (λ x. MatchBool (is_end x) (zs ≡ [])
+            (IsWholeRun rules1 (after (at_tick m []) x) zs)) ends whole.1)
+
+        ends_too : settled J m ++ (End (completed_value J) ∷ []) ≡ settled J m ++ map
             (behind (length J.jobs) (completed_value J)) events
-        ends_too alone_it = ap (λ v. settled J m ++ (End v ∷ [])) (omega arith)
+        ends_too = ap (λ v. settled J m ++ (End v ∷ [])) (omega arith)
             ∙ ap (λ es. settled J m ++ map (behind (length J.jobs) (completed_value J)) es)
             (sym (only_end it.0 it.1) ∙ it.3)
 
   -- some behind
   joined_some : (j : JobFacts) (js : List JobFacts) (events : List Event) → NoneBefore m (j ∷ js) → m ≤ j.deadline
-      → RunsFrom J.rules m (j ∷ js) events
-      → RunsFrom J.rules m0 (J.jobs ++ (j ∷ js))
+      → RunsFrom rules1 m (j ∷ js) events
+      → RunsFrom rules2 m0 (J.jobs ++ (j ∷ js))
       (settled J m ++ map (behind (length J.jobs) (completed_value J)) events)
   joined_some j js events late due it = (
     before.0 ++ behind_them.0,
-    subst (λ s. IsWholeRun J.rules s (before.0 ++ behind_them.0)) (sym begins)
-        (closed_then_run J.rules before.0 behind_them.0 (with_later (at_tick m0 J.jobs) ks_there)
+    subst (λ s. IsWholeRun rules2 s (before.0 ++ behind_them.0)) (sym begins)
+        (closed_then_run rules2 before.0 behind_them.0 (with_later (at_tick m0 J.jobs) ks_there)
         (with_later r.last ks_there) before.1
-        (subst (λ s. IsWholeRun J.rules s behind_them.0) (sym joins) behind_them.1)),
+        (subst (λ s. IsWholeRun rules2 s behind_them.0) (sym joins) behind_them.1)),
     few_steps,
     printed_append before.0 behind_them.0 ∙ ap (λ es. es ++ printed_of behind_them.0) (before.3 ∙ r.prints)
         ∙ ap (λ es. settled J m ++ es)
-        (behind_them.3 ∙ ap (λ es. map (behind n (came_to J.rules n r.last.tasks r.over)) es) it.3
+        (behind_them.3 ∙ ap (λ es. map (behind n (came_to rules1 n J.rules.finishes own r.last.tasks r.over)) es) it.3
         ∙ ap (λ v. map (behind n v) events) came),
   ) where
     n : ℕ
@@ -444,15 +549,15 @@ module _ (J : Instance) (valid : IsValid J) (m0 m : ℕ) (late0 : NoneBefore m0 
     ks_there : List Task
     ks_there = to_come (length J.jobs) (j ∷ js)
 
-    before : (ys : List Step) × IsPath J.rules (with_later (at_tick m0 J.jobs) ks_there) ys (with_later r.last ks_there)
+    before : (ys : List Step) × IsPath rules2 (with_later (at_tick m0 J.jobs) ks_there) ys (with_later r.last ks_there)
         × (length ys ≡ length r.steps) × (printed_of ys ≡ printed_of r.steps)
-    before = path_behind J valid m j js late r.steps (at_tick m0 J.jobs) r.last
+    before = path_behind J valid m j js late fs r.steps (at_tick m0 J.jobs) r.last
         (tick_keeps J valid m0 late0 m0 (omega arith)) r.path
 
-    behind_them : (ys : List Step) × IsWholeRun J.rules (beside n r.last.tasks (at_tick m (j ∷ js))) ys
+    behind_them : (ys : List Step) × IsWholeRun rules2 (beside n r.last.tasks (at_tick m (j ∷ js))) ys
         × (length ys ≡ length it.0)
-        × (printed_of ys ≡ map (behind n (came_to J.rules n r.last.tasks r.over)) (printed_of it.0))
-    behind_them = whole_beside J.rules n r.last.tasks r.over (numbers_below J r.last r.keeps) it.0
+        × (printed_of ys ≡ map (behind n (came_to rules1 n J.rules.finishes own r.last.tasks r.over)) (printed_of it.0))
+    behind_them = whole_beside rules1 n J.rules.finishes own r.last.tasks r.over (numbers_below J r.last r.keeps) it.0
         (at_tick m (j ∷ js)) it.1
 
     joins : with_later r.last ks_there ≡ beside n r.last.tasks (at_tick m (j ∷ js))
@@ -464,7 +569,7 @@ module _ (J : Instance) (valid : IsValid J) (m0 m : ℕ) (late0 : NoneBefore m0 
     begins = ap (λ ts. let s : State = record { clock = m0; tasks = ts } in s)
         (come_append 0 J.jobs (j ∷ js) ∙ ap (λ k. to_come 0 J.jobs ++ to_come k (j ∷ js)) (omega arith))
 
-    came : came_to J.rules n r.last.tasks r.over ≡ completed_value J
+    came : came_to rules1 n J.rules.finishes own r.last.tasks r.over ≡ completed_value J
     came = ap (λ (z : State). value_sum (filter is_done z.tasks)) r.is ∙ sym (value_there J valid m rest)
 
     few_steps : length (before.0 ++ behind_them.0) ≤ (last_deadline (J.jobs ++ (j ∷ js)) - m0) + 6 * length
@@ -485,10 +590,24 @@ module _ (J : Instance) (valid : IsValid J) (m0 m : ℕ) (late0 : NoneBefore m0 
 
   -- any
   pub joined : (more : List JobFacts) (events : List Event) → NoneBefore m more → Each (λ j. m ≤ j.deadline) more
-      → RunsFrom J.rules m more events
-      → RunsFrom J.rules m0 (J.jobs ++ more) (settled J m ++ map (behind (length J.jobs) (completed_value J)) events)
+      → RunsFrom rules1 m more events
+      → RunsFrom rules2 m0 (J.jobs ++ more) (settled J m ++ map (behind (length J.jobs) (completed_value J)) events)
   joined [] events late due it = joined_none events it
   joined (j ∷ js) events late due it = joined_some j js events late (due j (inl refl)) it
+
+-- where no job finishes early
+pub joined_plain : (J : Instance) (valid : IsValid J) (m0 m : ℕ) (late0 : NoneBefore m0 J.jobs) (later : m0 ≤ m)
+    (rest : IsAtRest J m) → J.rules.finishes ≡ [] → (more : List JobFacts) (events : List Event) → NoneBefore m more
+    → Each (λ j. m ≤ j.deadline) more → RunsFrom J.rules m more events
+    → RunsFrom J.rules m0 (J.jobs ++ more) (settled J m ++ map (behind (length J.jobs) (completed_value J)) events)
+joined_plain J valid m0 m late0 later rest plain more events late due it =
+    subst (λ rules. RunsFrom rules m0 (J.jobs ++ more)
+    (settled J m ++ map (behind (length J.jobs) (completed_value J)) events))
+    (ap (having J.rules) (append-nil J.rules.finishes))
+    (joined J valid m0 m late0 later rest [] own more events late due
+    (subst (λ fs. RunsFrom (having J.rules fs) m more events) plain it)) where
+      own : AreOwn J
+      own f member = absurd (subst (IsMember f) plain member)
 
 -- from the opening on, it is the run
 pub runs_all : (rules : Rules) (jobs : List JobFacts) (events : List Event) → RunsFrom rules 0 jobs events
@@ -504,11 +623,11 @@ due_later J valid m late j member =
     let at : m ≤ j.release = late j member in omega arith
 
 -- a run falls apart at rest
-pub printed_apart : (J : Instance) (more : List JobFacts) (m : ℕ) → IsValid J → IsValid (instead J more) → IsAtRest J m
-    → NoneBefore m more
-    → printed (with_jobs J more) ≡ settled J m ++ map (behind (length J.jobs) (completed_value J))
-    (printed (instead J more))
-printed_apart J more m valid valid_more rest late = runs_all J.rules (J.jobs ++ more) _
-    (joined J valid 0 m (λ j member. omega arith) (omega arith) rest more (printed (instead J more)) late
-    (due_later (instead J more) valid_more m late)
-    (alone (instead J more) valid_more m late))
+pub printed_apart : (J : Instance) (more : List JobFacts) (fs : List Finish) (m : ℕ) → AreOwn J → IsValid J
+    → IsValid (instead_with J more fs) → IsAtRest J m → NoneBefore m more
+    → printed (followed_by J more fs) ≡ settled J m ++ map (behind (length J.jobs) (completed_value J))
+    (printed (instead_with J more fs))
+printed_apart J more fs m own valid valid_more rest late = runs_all (behind_rules J fs) (J.jobs ++ more) _
+    (joined J valid 0 m (λ j member. omega arith) (omega arith) rest fs own more (printed (instead_with J more fs)) late
+    (due_later (instead_with J more fs) valid_more m late)
+    (alone (instead_with J more fs) valid_more m late))

@@ -1,8 +1,7 @@
 -- The steps of tasks that stand behind tasks that are over, under greater numbers.
 use Rattle.std.proofs.Common.{◌≡◌, ℕ, ◌+◌, ◌-◌, ◌≤◌, ◌<◌, ◌⊎◌, inl, inr, List, [], ◌∷◌, ◌++◌, length, map, refl, sym}
-use Rattle.std.proofs.Common.{ap, ◌∙◌, subst, Bool, true, false, cond, arith}
-use Rattle.std.proofs.Common.{eqb, Option, Some, None}
-use Rattle.std.specs.Prelude.{nat_lt, nat_le, ◌&&◌, ◌||◌}
+use Rattle.std.proofs.Common.{ap, ◌∙◌, subst, Bool, true, false, cond, arith, eqb, Option, Some, None}
+use Rattle.std.specs.Prelude.{nat_lt, nat_le, ◌&&◌, ◌||◌, ◌==◌}
 use Rattle.std.specs.Bool.{MatchBool, then_some}
 use Rattle.std.specs.List.{find, filter, fold, sum_by, list_all, cons_option}
 use Rattle.std.proofs.lemmas.Bool.{ne_eqb, eq-eqb, eqb-true, eqb-false, lt-ltb, ltb-true, ltb-false, le-ltb}
@@ -13,23 +12,27 @@ use Rattle.dover_model.specs.declared.events.Event.TheVariants.{Release, Run, Pr
 use Rattle.dover_model.specs.declared.events.Role.{Role}
 use Rattle.dover_model.specs.declared.events.Role.TheVariants.{Fresh, Waiting, Held, Running, Done, Gone}
 use Rattle.dover_model.specs.declared.events.Version.{Version}
-use Rattle.dover_model.specs.declared.events.Version.TheVariants.{One, Two}
+use Rattle.dover_model.specs.declared.events.Version.TheVariants.{One, Two, Three}
 use Rattle.dover_model.specs.declared.events.Task.{Task}
-use Rattle.dover_model.specs.Instance.{Rules}
+use Rattle.dover_model.specs.Instance.{Rules, having}
 use Rattle.dover_model.specs.State.{State, is_coming, is_fresh, is_waiting, is_held, is_running, is_privileged, is_done}
-use Rattle.dover_model.specs.State.{is_over, left, latest_start}
-use Rattle.dover_model.specs.State.{room, demand_by, least, value_sum}
+use Rattle.dover_model.specs.State.{is_over, left, latest_start, room, demand_by, least, value_sum}
 use Rattle.dover_model.specs.Orders.{is_heavy, first, earlier, due_first, starts_before}
 use Rattle.dover_model.specs.Step.{Move, Prints, Waits, Ticks, View, view, with_role, ticked, displaced, ◌or_else◌}
-use Rattle.dover_model.specs.Step.{completion, dispatch, decision, arrival, alarm}
-use Rattle.dover_model.specs.Step.{urgent_or, step, open_step, ending, after, preempts, runs, is_at_latest_start}
+use Rattle.dover_model.specs.Step.{completion, dispatch, decision, arrival, alarm, urgent_or, step, open_step, ending}
+use Rattle.dover_model.specs.Step.{after, preempts, runs, is_at_latest_start, due_finish, finish_or, declared_step}
+use Rattle.dover_model.specs.Step.{declared_open_step}
 use Rattle.dover_model.specs.Run.{Step, is_end, event_of, printed_of}
 use Rattle.dover_model.specs.Settled.{waits_for_mark}
 use Rattle.dover_model.specs.WholeRun.{step_at, open_at, IsWholeRun, IsSettledRun}
 use Rattle.dover_model.specs.Sound.{Each}
-use Rattle.dover_model.specs.Rest.{behind}
+use Rattle.dover_model.specs.Rest.{behind, behind_finish}
 use Rattle.dover_model.proofs.Members.{map_map, map_same, sum_map}
 use Rattle.dover_model.proofs.Roles.{passes, is_over_role}
+use Rattle.dover_model.proofs.Finishing.{none_without}
+use Rattle.std.specs.Option.{option_or}
+use Rattle.std.proofs.lemmas.List.Folds.{find-append}
+use Rattle.dover_model.specs.Finishes.{Finish, is_finish_of, has_come_to}
 
 -- the task under a number that is greater by n
 abbrev pub shifted : ℕ → Task → Task
@@ -161,6 +164,8 @@ module _ (n : ℕ) where
       (lt_shift n a.number b.number)
   due_shift Two a b = ap (λ less. nat_lt a.job.deadline b.job.deadline || (eqb a.job.deadline b.job.deadline
       && (nat_lt b.job.value a.job.value || (eqb a.job.value b.job.value && less)))) (lt_shift n a.number b.number)
+  due_shift Three a b = ap (λ less. nat_lt a.job.deadline b.job.deadline || (eqb a.job.deadline b.job.deadline
+      && (nat_lt b.job.value a.job.value || (eqb a.job.value b.job.value && less)))) (lt_shift n a.number b.number)
 
   -- the order by latest start
   latest_shift : (v : Version) (a b : Task) → starts_before v (shifted n a) (shifted n b) ≡ starts_before v a b
@@ -168,6 +173,9 @@ module _ (n : ℕ) where
       ap (λ less. nat_lt (latest_start a) (latest_start b) || (eqb (latest_start a) (latest_start b) && less))
       (lt_shift n a.number b.number)
   latest_shift Two a b = ap (λ less. nat_lt (latest_start a) (latest_start b) || (eqb (latest_start a) (latest_start b)
+      && (nat_lt b.job.value a.job.value || (eqb a.job.value b.job.value && less)))) (lt_shift n a.number b.number)
+  latest_shift Three a b = ap (λ less. nat_lt (latest_start a) (latest_start b) || (eqb (latest_start a)
+      (latest_start b)
       && (nat_lt b.job.value a.job.value || (eqb a.job.value b.job.value && less)))) (lt_shift n a.number b.number)
 
   -- the demand up to a task
@@ -430,7 +438,45 @@ module _ (n value : ℕ) where
       (arrival v v.coming)
       (alarm k v v.running v.must_start) m
 
-module _ (rules : Rules) (n : ℕ) (overs : List Task) (over : Each (λ t. is_over t ≡ true) overs) where
+-- ---- finishes
+
+-- of a job behind others no finish comes that is one of theirs
+first_none : (n : ℕ) (first : List Finish) → Each (λ f. f.number < n) first → (t : Task)
+    → find (is_finish_of (Some (shifted n t))) first ≡ None
+first_none n [] own t = refl
+first_none n (f ∷ first) own t = ap (λ b. cond b (Some f) (find (is_finish_of (Some (shifted n t))) first))
+    (ap (λ b. (b && (f.had == t.had)) && nat_lt 0 t.had)
+    (ne_eqb f.number (n + t.number) (λ same. let low : f.number < n = own f (inl refl) in omega arith)))
+    ∙ first_none n first (λ g member. own g (inr member)) t
+
+-- the option's finish behind others
+abbrev behind_option : ℕ → Option Finish → Option Finish
+behind_option n None = None
+behind_option n (Some f) = Some (behind_finish n f)
+
+-- and its own finishes come as before
+behind_same : (n : ℕ) (finishes : List Finish) (t : Task)
+    → find (is_finish_of (Some (shifted n t))) (map (behind_finish n) finishes)
+    ≡ behind_option n (find (is_finish_of (Some t)) finishes)
+behind_same n [] t = refl
+behind_same n (f ∷ finishes) t =
+    ap (λ b. cond ((b && (f.had == t.had)) && nat_lt 0 t.had) (Some (behind_finish n f))
+    (find (is_finish_of (Some (shifted n t))) (map (behind_finish n) finishes))) (eq_shift n f.number t.number)
+    ∙ by_test (has_come_to t f) (behind_same n finishes t) where
+      by_test : (b : Bool) → find (is_finish_of (Some (shifted n t))) (map (behind_finish n) finishes)
+          ≡ behind_option n (find (is_finish_of (Some t)) finishes)
+          → cond b (Some (behind_finish n f))
+          (find (is_finish_of (Some (shifted n t))) (map (behind_finish n) finishes))
+          ≡ behind_option n (cond b (Some f) (find (is_finish_of (Some t)) finishes))
+      by_test true same = refl
+      by_test false same = same
+
+module _ (rules : Rules) (n : ℕ) (first : List Finish) (own : Each (λ f. f.number < n) first) (overs : List Task)
+    (over : Each (λ t. is_over t ≡ true) overs) where
+  -- the rules of the whole run
+  abbrev pub joint : Rules
+  joint = having rules (first ++ map (behind_finish n) rules.finishes)
+
   -- what those that are over came to
   abbrev pub came_to : ℕ
   came_to = value_sum (filter is_done overs)
@@ -454,17 +500,47 @@ module _ (rules : Rules) (n : ℕ) (overs : List Task) (over : Each (λ t. is_ov
         by_test true = refl
         by_test false = refl
 
+  -- the finish that is due behind
+  due_beside : (s : State) → due_finish joint.finishes (beside n overs s)
+      ≡ behind_option n (due_finish rules.finishes s)
+  due_beside s = ap (λ o. find (is_finish_of o) joint.finishes)
+      (find_there n overs over is_running (λ _. refl) (λ _. refl) (λ _. refl) s.tasks)
+      ∙ by_running (find is_running s.tasks) where
+        by_running : (o : Option Task) → find (is_finish_of (shift_option n o)) joint.finishes
+            ≡ behind_option n (find (is_finish_of o) rules.finishes)
+        by_running None = none_without joint.finishes ∙ ap (behind_option n) (sym (none_without rules.finishes))
+        by_running (Some r) = find-append (is_finish_of (Some (shifted n r))) first (map
+            (behind_finish n) rules.finishes)
+            ∙ ap (λ o. option_or o (find (is_finish_of (Some (shifted n r))) (map (behind_finish n) rules.finishes)))
+            (first_none n first own r)
+            ∙ behind_same n rules.finishes r
+
+  -- the step with it
+  finish_beside : (s : State) (m : Move)
+      → finish_or s.clock (due_finish joint.finishes (beside n overs s)) (moved n came_to m)
+      ≡ moved n came_to (finish_or s.clock (due_finish rules.finishes s) m)
+  finish_beside s m = ap (λ o. finish_or s.clock o (moved n came_to m)) (due_beside s)
+      ∙ by_due (due_finish rules.finishes s) where
+        by_due : (o : Option Finish) → finish_or s.clock (behind_option n o) (moved n came_to m)
+            ≡ moved n came_to (finish_or s.clock o m)
+        by_due None = refl
+        by_due (Some f) = refl
+
   -- the step of a state behind
-  pub step_beside : (s : State) → step rules (beside n overs s) ≡ moved n came_to (step rules s)
-  step_beside s = ap (λ v. urgent_or rules.ratio v (ending (beside n overs s) or_else Ticks))
+  pub step_beside : (s : State) → step joint (beside n overs s) ≡ moved n came_to (step rules s)
+  step_beside s = ap (finish_or s.clock (due_finish joint.finishes (beside n overs s)))
+      (ap (λ v. urgent_or rules.ratio v (ending (beside n overs s) or_else Ticks))
       (view_beside n overs over rules.version s)
       ∙ ap (urgent_or rules.ratio (shifted_view n (view rules.version s))) (ending_beside s)
-      ∙ urgent_shift n came_to rules.ratio (view rules.version s) (ending s or_else Ticks)
+      ∙ urgent_shift n came_to rules.ratio (view rules.version s) (ending s or_else Ticks))
+      ∙ finish_beside s (declared_step rules s)
 
   -- the open step of a state behind
-  pub open_beside : (s : State) → open_step rules (beside n overs s) ≡ moved n came_to (open_step rules s)
-  open_beside s = ap (λ v. urgent_or rules.ratio v Ticks) (view_beside n overs over rules.version s)
-      ∙ urgent_shift n came_to rules.ratio (view rules.version s) Ticks
+  pub open_beside : (s : State) → open_step joint (beside n overs s) ≡ moved n came_to (open_step rules s)
+  open_beside s = ap (finish_or s.clock (due_finish joint.finishes (beside n overs s)))
+      (ap (λ v. urgent_or rules.ratio v Ticks) (view_beside n overs over rules.version s)
+      ∙ urgent_shift n came_to rules.ratio (view rules.version s) Ticks)
+      ∙ finish_beside s (declared_open_step rules s)
 
   module _ (low : Each (λ t. t.number < n) overs) where
     -- a change that leaves what is over, and is one behind
@@ -572,7 +648,7 @@ module _ (rules : Rules) (n : ℕ) (overs : List Task) (over : Each (λ t. is_ov
 
     -- the whole run of a state behind
     pub whole_beside : (zs : List Step) (s : State) → IsWholeRun rules s zs
-        → (ys : List Step) × IsWholeRun rules (beside n overs s) ys × (length ys ≡ length zs)
+        → (ys : List Step) × IsWholeRun joint (beside n overs s) ys × (length ys ≡ length zs)
         × (printed_of ys ≡ map (behind n came_to) (printed_of zs))
     whole_beside [] s whole = absurd whole
     whole_beside (z ∷ zs) s whole =
@@ -581,7 +657,7 @@ module _ (rules : Rules) (n : ℕ) (overs : List Task) (over : Each (λ t. is_ov
           there = beside n overs s
 
           shown : (ys : List Step) → printed_of ys ≡ map (behind n came_to) (printed_of zs)
-              → printed_of (step_at rules there ∷ ys) ≡ map (behind n came_to) (printed_of (z ∷ zs))
+              → printed_of (step_at joint there ∷ ys) ≡ map (behind n came_to) (printed_of (z ∷ zs))
           shown ys same = ap (λ m. cons_option (event_of m) (printed_of ys)) (step_beside s)
               ∙ ap (λ e. cons_option e (printed_of ys)) (event_moved (step rules s))
               ∙ cons_moved (event_of (step rules s)) (printed_of zs) (printed_of ys) same
@@ -593,27 +669,27 @@ module _ (rules : Rules) (n : ℕ) (overs : List Task) (over : Each (λ t. is_ov
           by_end : (b : Bool) → is_end (step rules s) ≡ b
               → MatchBool b (zs ≡ []) (IsWholeRun rules (after s (step rules s)) zs)
               → (IsWholeRun rules (after s (step rules s)) zs → (ys : List Step)
-              × IsWholeRun rules (beside n overs (after s (step rules s))) ys
+              × IsWholeRun joint (beside n overs (after s (step rules s))) ys
               × (length ys ≡ length zs) × (printed_of ys ≡ map (behind n came_to) (printed_of zs)))
-              → (ys : List Step) × IsWholeRun rules there ys × (length ys ≡ length (z ∷ zs))
+              → (ys : List Step) × IsWholeRun joint there ys × (length ys ≡ length (z ∷ zs))
               × (printed_of ys ≡ map (behind n came_to) (printed_of (z ∷ zs)))
           by_end true last none more = (
-            step_at rules there ∷ [],
+            step_at joint there ∷ [],
             (
               refl,
-              subst (λ b. MatchBool b (no_steps ≡ []) (IsWholeRun rules (after there (step rules there)) []))
+              subst (λ b. MatchBool b (no_steps ≡ []) (IsWholeRun joint (after there (step joint there)) []))
                   (sym (ap is_end (step_beside s) ∙ moved_end n came_to (step rules s) ∙ last)) refl,
             ),
             ap (λ xs. length (z ∷ xs)) (sym none),
             shown [] (ap (λ xs. map (behind n came_to) (printed_of xs)) (sym none)),
           )
           by_end false on rest more = let it = more rest in (
-            step_at rules there ∷ it.0,
+            step_at joint there ∷ it.0,
             (
               refl,
-              subst (λ b. MatchBool b (it.0 ≡ []) (IsWholeRun rules (after there (step rules there)) it.0))
+              subst (λ b. MatchBool b (it.0 ≡ []) (IsWholeRun joint (after there (step joint there)) it.0))
                   (sym (ap is_end (step_beside s) ∙ moved_end n came_to (step rules s) ∙ on))
-                  (subst (λ t. IsWholeRun rules t it.0)
+                  (subst (λ t. IsWholeRun joint t it.0)
                   (sym (ap (after there) (step_beside s) ∙ after_beside s (step rules s))) it.1),
             ),
             omega (arith, it.2),
@@ -622,7 +698,7 @@ module _ (rules : Rules) (n : ℕ) (overs : List Task) (over : Each (λ t. is_ov
 
     -- the settled run of a state behind
     pub settled_beside : (mark : ℕ) (xs : List Step) (s : State) → IsSettledRun rules mark s xs
-        → (ys : List Step) × IsSettledRun rules mark (beside n overs s) ys × (length ys ≡ length xs)
+        → (ys : List Step) × IsSettledRun joint mark (beside n overs s) ys × (length ys ≡ length xs)
         × (printed_of ys ≡ map (behind n came_to) (printed_of xs))
     settled_beside mark [] s run = (
       [],
@@ -632,12 +708,12 @@ module _ (rules : Rules) (n : ℕ) (overs : List Task) (over : Each (λ t. is_ov
       refl,
     )
     settled_beside mark (x ∷ xs) s run = let it = settled_beside mark xs (after s (open_step rules s)) run.2 in (
-      open_at rules (beside n overs s) ∷ it.0,
+      open_at joint (beside n overs s) ∷ it.0,
       (
         refl,
         ap (λ m. waits_for_mark m && nat_le mark s.clock) (open_beside s)
             ∙ ap (λ b. b && nat_le mark s.clock) (moved_late n came_to (open_step rules s)) ∙ run.1,
-        subst (λ t. IsSettledRun rules mark t it.0)
+        subst (λ t. IsSettledRun joint mark t it.0)
             (sym (ap (after (beside n overs s)) (open_beside s) ∙ after_beside s (open_step rules s))) it.1,
       ),
       omega (arith, it.2),

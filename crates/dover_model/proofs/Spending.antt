@@ -13,12 +13,12 @@ use Rattle.dover_model.specs.declared.events.Task.{Task}
 use Rattle.dover_model.specs.State.{latest_start, State, is_waiting}
 use Rattle.dover_model.proofs.Potential.{one_most, lower_test}
 use Rattle.dover_model.specs.Weights.{weight_in, weight, standing, one_if, stands}
-use Rattle.dover_model.specs.Spending.{exits_scale, waiting_count, exits, waits_so_far, waits_among, HasSpent}
-use Rattle.dover_model.specs.Spending.{HasSpentFor, CostsAtMost, cost_of}
+use Rattle.dover_model.specs.Spending.{exits_scale, waiting_count, exits, waits_so_far, waits_among, HasSpentFor}
+use Rattle.dover_model.specs.Spending.{CostsAtMost, cost_of}
 use Rattle.dover_model.proofs.WaitingMoves.{counts_balance, open_leaves}
 use Rattle.dover_model.specs.Step.{with_role, after, Move, Prints, Waits, Ticks, open_step, displaced}
 use Rattle.dover_model.proofs.Members.{sum_le, term_le_sum}
-use Rattle.dover_model.specs.Instance.{Rules, Instance, IsValid}
+use Rattle.dover_model.specs.Instance.{Rules, Instance, IsValid, bare}
 use Rattle.dover_model.specs.Sound.{Keeps, IsMember}
 use Rattle.dover_model.specs.WaitingMoves.{enters, leaves, waits_then}
 use Rattle.dover_model.proofs.Tests.{never}
@@ -43,8 +43,8 @@ sum_twice f most [] = omega arith
 sum_twice f most (t ∷ ts) = omega (arith, sum_by-cons f t ts, most t, sum_twice f most ts)
 
 exits_most : (s : State) → exits s ≤ 2 * length s.tasks
-exits_most s = sum_twice (weight exits_scale s.clock (standing s.tasks))
-    (λ t. exits_each s.clock (standing s.tasks) t t.role) s.tasks
+exits_most s = sum_twice (weight exits_scale s.clock (standing [] s.tasks))
+    (λ t. exits_each s.clock (standing [] s.tasks) t t.role) s.tasks
 
 -- a job that waits may cease to
 waits_least : (clock w : ℕ) (t : Task) (role : Role)
@@ -58,8 +58,8 @@ waits_least clock w t Done = omega arith
 waits_least clock w t Gone = omega arith
 
 waiting_least : (s : State) → waiting_count s ≤ exits s
-waiting_least s = sum_le (λ t. one_if (is_waiting t)) (weight exits_scale s.clock (standing s.tasks)) s.tasks
-    (λ t m. waits_least s.clock (standing s.tasks) t t.role)
+waiting_least s = sum_le (λ t. one_if (is_waiting t)) (weight exits_scale s.clock (standing [] s.tasks)) s.tasks
+    (λ t m. waits_least s.clock (standing [] s.tasks) t t.role)
 
 -- what has come, and what may still come
 pub so_far : (s : State) → waits_so_far s + 2 * exits s ≡ 4 * length s.tasks + waiting_count s
@@ -137,14 +137,14 @@ after_count s Ticks = length-map s.tasks _
 module _ (J : Instance) (valid : IsValid J) (rules : Rules) (s : State) (keeps : Keeps J s) where
   -- the step, and the state that it leaves
   abbrev m : Move
-  m = open_step rules s
+  m = open_step (bare rules) s
 
   abbrev u : State
   u = after s m
 
   -- what a step lets cease to wait is taken from what may still come
   pub open_falls : exits u + waiting_count s ≤ exits s + waiting_count u
-  open_falls = omega (arith, open_leaves J valid rules s keeps, counts_balance s m)
+  open_falls = omega (arith, open_leaves J valid (bare rules) s keeps (λ _ _ _. refl), counts_balance s m)
 
   -- an open step pays for what has come by it
   pub open_pays : (d before later : ℕ) → later ≤ before + cost_of d s m
@@ -155,7 +155,7 @@ module _ (J : Instance) (valid : IsValid J) (rules : Rules) (s : State) (keeps :
       (so_far_for (length s.tasks) u (after_count s m))
       (cost_paid (20 * d) (enters s m + leaves s m) (2 * exits u) (2 * exits s) (waiting_count s) (waiting_count u)
       before later
-      (omega (arith, open_leaves J valid rules s keeps, counts_balance s m))
+      (omega (arith, open_leaves J valid (bare rules) s keeps (λ _ _ _. refl), counts_balance s m))
       (omega (arith, cost, twenty d (enters s m) (leaves s m))))
 
 -- ---- a job more
@@ -165,9 +165,9 @@ two_each : (clock w : ℕ) (t : Task) → (t.role ≡ Coming) ⊎ (t.role ≡ Fr
 two_each clock w t (inl e) = ap (λ role. weight_in exits_scale role clock w t) e
 two_each clock w t (inr e) = ap (λ role. weight_in exits_scale role clock w t) e
 
-none_stands : (t : Task) → (t.role ≡ Coming) ⊎ (t.role ≡ Fresh) → stands t ≡ 0
-none_stands t (inl e) = ap (λ role. stands (with_role t role)) e
-none_stands t (inr e) = ap (λ role. stands (with_role t role)) e
+none_stands : (t : Task) → (t.role ≡ Coming) ⊎ (t.role ≡ Fresh) → stands [] t ≡ 0
+none_stands t (inl e) = ap (λ role. stands [] (with_role t role)) e
+none_stands t (inr e) = ap (λ role. stands [] (with_role t role)) e
 
 none_waits : (t : Task) → (t.role ≡ Coming) ⊎ (t.role ≡ Fresh) → one_if (is_waiting t) ≡ 0
 none_waits t (inl e) = ap (λ role. one_if (is_waiting (with_role t role))) e
@@ -211,17 +211,18 @@ module _ (n : ℕ) (s : State) (clock : ℕ) (t : Task) (later : s.clock ≤ clo
   one_more f a is = omega (arith, is, sum_by-append f s.tasks (t ∷ []), sum_by-cons f t [])
 
   -- it doesn't stand against a take
-  more_standing : standing more.tasks ≡ standing s.tasks
-  more_standing = let all = one_more stands 0 (none_stands t new) in omega (arith, all)
+  more_standing : standing [] more.tasks ≡ standing [] s.tasks
+  more_standing = let all = one_more (stands []) 0 (none_stands t new) in omega (arith, all)
 
   -- it may cease to wait twice
   more_exits : exits more ≤ exits s + 2
   more_exits = subst (λ w. sum_by (weight exits_scale clock w) (s.tasks ++ t ∷ []) ≤ exits s + 2) (sym more_standing)
       (omega (
         arith,
-        one_more (weight exits_scale clock (standing s.tasks)) 2 (two_each clock (standing s.tasks) t new),
-        sum_le (weight exits_scale clock (standing s.tasks)) (weight exits_scale s.clock (standing s.tasks)) s.tasks
-            (λ u m. weight_later s.clock clock (standing s.tasks) u u.role later),
+        one_more (weight exits_scale clock (standing [] s.tasks)) 2 (two_each clock (standing [] s.tasks) t new),
+        sum_le (weight exits_scale clock (standing [] s.tasks)) (weight exits_scale s.clock
+            (standing [] s.tasks)) s.tasks
+            (λ u m. weight_later s.clock clock (standing [] s.tasks) u u.role later),
       ))
 
   -- nothing that came goes by that

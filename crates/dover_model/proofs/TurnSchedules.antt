@@ -1,7 +1,6 @@
 -- What runs in turn complete is what one schedule of all their jobs is worth.
 use Rattle.std.proofs.Common.{◌≡◌, ℕ, zero, suc, ◌+◌, ◌-◌, ◌≤◌, inl, inr, List, [], ◌∷◌, ◌++◌, length, drop, take, map}
-use Rattle.std.proofs.Common.{refl}
-use Rattle.std.proofs.Common.{sym, ap, ◌∙◌, subst, arith, cond, eqb, Bool, true, false, replicate, length-append}
+use Rattle.std.proofs.Common.{refl, sym, ap, ◌∙◌, subst, arith, cond, eqb, Bool, true, false, replicate, length-append}
 use Rattle.std.specs.Prelude.{None}
 use Rattle.std.specs.Bool.{MatchBool}
 use Rattle.std.specs.List.{count_by, sum_by, filter_map, cons_option, enumerate_from}
@@ -20,7 +19,7 @@ use Rattle.dover_model.specs.Bound.{IsWithin}
 use Rattle.dover_model.specs.Sound.{Each}
 use Rattle.dover_model.specs.Rest.{NoneBefore, end_tick, IsInTurn, in_turn, completed_in_turn}
 use Rattle.dover_model.proofs.Ending.{run_is_whole}
-use Rattle.dover_model.proofs.Honest.{honest}
+use Rattle.dover_model.proofs.Honest.{plain_honest}
 use Rattle.dover_model.proofs.RestTick.{ended_by, end_clock}
 use Rattle.dover_model.proofs.Apart.{turn_late, value_in_turn}
 use Rattle.dover_model.proofs.Parting.{worth_to, count_map, enumerate_append, bound_in_turn}
@@ -57,7 +56,7 @@ ticks_most rules (z ∷ zs) s from whole =
       by_end false on rest more = omega (arith, (tick_or_not s (step rules s)).1 (filter_map tick_of zs), more rest)
 
 -- it is over by the tick of its End
-ran_short : (J : Instance) → IsValid J → length (ran J) ≤ end_tick J
+pub ran_short : (J : Instance) → IsValid J → length (ran J) ≤ end_tick J
 ran_short J valid = omega (arith, ticks_most J.rules (run J) (opening J.jobs) 0 (run_is_whole J valid))
 
 -- ---- one schedule after another
@@ -119,7 +118,7 @@ one_then n rest a b = (a ++ replicate (rest - length a) idle) ++ map (λ m. n + 
     (drop (length (a ++ replicate (rest - length a) idle)) b)
 
 -- the first jobs are worth as much to it
-worth_first : (n rest k : ℕ) (a b : List ℕ) (jobs : List JobFacts)
+pub worth_first : (n rest k : ℕ) (a b : List ℕ) (jobs : List JobFacts)
     → sum_by (worth_to a) (enumerate_from k jobs) ≤ sum_by (worth_to (one_then n rest a b)) (enumerate_from k jobs)
 worth_first n rest k a b [] = omega arith
 worth_first n rest k a b (j ∷ jobs) = omega (
@@ -138,7 +137,7 @@ worth_first n rest k a b (j ∷ jobs) = omega (
       (map (λ m. n + m) (drop (length (a ++ replicate (rest - length a) idle)) b)) in omega arith
 
 -- so are the others, where none is released before the tick
-worth_others : (n rest k : ℕ) (a b : List ℕ) (jobs : List JobFacts) → length a ≤ rest → NoneBefore rest jobs
+pub worth_others : (n rest k : ℕ) (a b : List ℕ) (jobs : List JobFacts) → length a ≤ rest → NoneBefore rest jobs
     → sum_by (worth_to b) (enumerate_from k jobs) ≤ sum_by (worth_to (one_then n rest a b))
     (enumerate_from (n + k) jobs)
 worth_others n rest k a b [] short late = omega arith
@@ -160,7 +159,7 @@ worth_others n rest k a b (j ∷ jobs) short late =
           (let at : rest ≤ j.release = late j (inl refl) in
           omega (arith, length-append a (replicate (rest - length a) idle), length-replicate (rest - length a) idle))
 
-module _ (rules : Rules) where
+module _ (rules : Rules) (plain : rules.finishes ≡ []) where
   -- the instance of one list
   abbrev of_rules : List JobFacts → Instance
   of_rules jobs = record { rules = rules; jobs = jobs }
@@ -183,7 +182,7 @@ module _ (rules : Rules) where
         both b more =
             let s : List ℕ = one_then (length jobs) turn.2.0 (ran (of_rules jobs)) b in
             let own : worth (of_rules jobs) (ran (of_rules jobs)) ≡ completed_value (of_rules jobs) =
-            honest (of_rules jobs) turn.0 in
+            plain_honest (of_rules jobs) turn.0 plain in
             let first : sum_by (worth_to (ran (of_rules jobs))) (enumerate_from 0 jobs) ≤ sum_by
             (worth_to (one_then (length jobs) turn.2.0 (ran (of_rules jobs)) b)) (enumerate_from 0 jobs) =
             worth_first (length jobs) turn.2.0 0 (ran (of_rules jobs)) b jobs in
@@ -193,7 +192,7 @@ module _ (rules : Rules) where
             (worth_to (one_then (length jobs) turn.2.0 (ran (of_rules jobs)) b))
             (enumerate_from (length jobs + 0) (in_turn lists)) =
             worth_others (length jobs) turn.2.0 0 (ran (of_rules jobs)) b (in_turn lists) (omega arith)
-            (turn_late rules lists turn.2.0 turn.2.3) in
+            (turn_late rules plain lists turn.2.0 turn.2.3) in
             let split : worth (of_rules (jobs ++ in_turn lists))
             (one_then (length jobs) turn.2.0 (ran (of_rules jobs)) b)
             ≡ sum_by (worth_to (one_then (length jobs) turn.2.0 (ran (of_rules jobs)) b)) (enumerate_from 0 jobs)
@@ -217,5 +216,5 @@ module _ (rules : Rules) where
   pub within_in_turn : (lists : List (List JobFacts)) (s : List ℕ) → IsInTurn rules 0 lists
       → IsWithin rules.ratio (worth (of_rules (in_turn lists)) s) (completed_value (of_rules (in_turn lists)))
   within_in_turn lists s turn =
-      subst (IsWithin rules.ratio (worth (of_rules (in_turn lists)) s)) (sym (value_in_turn rules lists turn))
+      subst (IsWithin rules.ratio (worth (of_rules (in_turn lists)) s)) (sym (value_in_turn rules plain lists turn))
       (bound_in_turn rules lists s (turn_valid lists 0 turn))

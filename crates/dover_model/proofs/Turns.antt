@@ -1,7 +1,6 @@
 -- What runs behind lists in turn that are over.
 use Rattle.std.proofs.Common.{◌≡◌, ℕ, length-append, ◌+◌, ◌≤◌, List, [], ◌∷◌, ◌++◌, length, map, refl, sym, ap, ◌∙◌}
-use Rattle.std.proofs.Common.{subst, Bool, true, false, cond, not}
-use Rattle.std.proofs.Common.{arith, append-nil, append_assoc}
+use Rattle.std.proofs.Common.{subst, Bool, true, false, cond, not, arith, append-nil, append_assoc}
 use Rattle.std.proofs.lemmas.List.{map-append}
 use Rattle.std.proofs.lemmas.List.Sums.{sum_by-cons}
 use Rattle.dover_model.specs.JobFacts.{JobFacts}
@@ -13,15 +12,15 @@ use Rattle.dover_model.specs.Settled.{settled}
 use Rattle.dover_model.specs.Sound.{Each}
 use Rattle.dover_model.specs.Rest.{NoneBefore, IsAtRest, behind, names_end, before_end, IsInTurn, AreOverAt, in_turn}
 use Rattle.dover_model.specs.Rest.{printed_in_turn, completed_in_turn}
-use Rattle.dover_model.proofs.Resting.{RunsFrom, alone, joined, runs_all, due_later}
-use Rattle.dover_model.proofs.Apart.{SettlesFrom, settles_alone, settles_joined, settled_all, settled_at_rest}
+use Rattle.dover_model.proofs.Resting.{RunsFrom, alone, joined_plain, runs_all, due_later}
+use Rattle.dover_model.proofs.Apart.{SettlesFrom, settles_alone, settles_joined_plain, settled_all, settled_at_rest}
 use Rattle.dover_model.proofs.Apart.{before_append, runs_in_turn}
 use Rattle.dover_model.proofs.Members.{each_append}
 
 -- ---- numbered behind, twice
 
 -- behind n others that are behind m
-behind_twice : (n a m b : ℕ) (es : List Event)
+pub behind_twice : (n a m b : ℕ) (es : List Event)
     → map (behind n a) (map (behind m b) es) ≡ map (behind (n + m) (a + b)) es
 behind_twice n a m b [] = refl
 behind_twice n a m b (e ∷ es) = ap (λ f. f ∷ map (behind n a) (map (behind m b) es)) (once e)
@@ -41,7 +40,7 @@ behind_twice n a m b (e ∷ es) = ap (λ f. f ∷ map (behind n a) (map (behind 
       once (End value) = ap End (let e : a + (b + value) ≡ a + b + value = omega arith in e)
 
 -- behind none
-behind_none : (es : List Event) → map (behind 0 0) es ≡ es
+pub behind_none : (es : List Event) → map (behind 0 0) es ≡ es
 behind_none [] = refl
 behind_none (e ∷ es) = ap (λ f. f ∷ map (behind 0 0) es) (same e) ∙ ap (λ fs. e ∷ fs) (behind_none es) where
   none : (k : ℕ) → 0 + k ≡ k
@@ -92,7 +91,7 @@ before_behind n a (e ∷ es) =
 
 -- ---- lists that are over
 
-module _ (rules : Rules) where
+module _ (rules : Rules) (plain : rules.finishes ≡ []) where
   -- the instance of one list
   abbrev of_rules : List JobFacts → Instance
   of_rules jobs = record { rules = rules; jobs = jobs }
@@ -244,8 +243,9 @@ module _ (rules : Rules) where
         (ap (λ es. es ++ map (behind (length jobs) (completed_value (of_rules jobs)))
         (behind_lists lists (settled (of_rules more) mark)))
         (settled_at_rest (of_rules jobs) over.2.0 over.0 over.2.2) ∙ one_more jobs lists (settled (of_rules more) mark))
-        (settles_joined (of_rules jobs) over.0 from over.2.0 mark over.1 over.2.1
-        (let rest : over.2.0 ≤ m = over_from lists over.2.0 m over.2.3 in omega arith) over.2.2 (in_turn lists ++ more)
+        (settles_joined_plain (of_rules jobs) over.0 from over.2.0 mark over.1 over.2.1
+        (let rest : over.2.0 ≤ m = over_from lists over.2.0 m over.2.3 in omega arith) over.2.2 plain
+        (in_turn lists ++ more)
         (behind_lists lists (settled (of_rules more) mark)) (late_behind lists over.2.0 over.2.3)
         (settles_behind mark on lists over.2.0 over.2.3)))
 
@@ -261,7 +261,7 @@ module _ (rules : Rules) where
         (ap (λ es. es ++ map (behind (length jobs) (completed_value (of_rules jobs)))
         (behind_lists lists (printed (of_rules more))))
         (settled_at_rest (of_rules jobs) over.2.0 over.0 over.2.2) ∙ one_more jobs lists (printed (of_rules more)))
-        (joined (of_rules jobs) over.0 from over.2.0 over.1 over.2.1 over.2.2 (in_turn lists ++ more)
+        (joined_plain (of_rules jobs) over.0 from over.2.0 over.1 over.2.1 over.2.2 plain (in_turn lists ++ more)
         (behind_lists lists (printed (of_rules more))) (late_behind lists over.2.0 over.2.3)
         (due_behind lists over.2.0 over.2.3)
         (runs_behind lists over.2.0 over.2.3)))
@@ -273,7 +273,7 @@ module _ (rules : Rules) where
           (behind (length (in_turn lists)) (completed_in_turn rules lists)) events
       front events = ap (λ es. before_end es ++ map
           (behind (length (in_turn lists)) (completed_in_turn rules lists)) events)
-          (sym (runs_in_turn rules lists (over_turn lists 0 m over)))
+          (sym (runs_in_turn rules plain lists (over_turn lists 0 m over)))
 
       pub settled_behind : (mark : ℕ) → m ≤ mark → settled (of_rules (in_turn lists ++ more)) mark
           ≡ before_end (printed (of_rules (in_turn lists)))

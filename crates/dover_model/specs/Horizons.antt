@@ -5,7 +5,7 @@ use Rattle.dover_model.specs.declared.horizon.Horizon.{Horizon}
 use Rattle.dover_model.specs.declared.horizon.Horizon.TheVariants.{Mark, End}
 use Rattle.dover_model.specs.declared.events.Version.{Version}
 use Rattle.dover_model.specs.Fraction.{Fraction}
-use Rattle.dover_model.specs.Instance.{Instance}
+use Rattle.dover_model.specs.Instance.{Instance, jobs_under}
 use Rattle.dover_model.specs.declared.events.Event.{Event}
 use Rattle.dover_model.specs.Run.{printed, is_end}
 use Rattle.dover_model.specs.Settled.{settled}
@@ -20,7 +20,7 @@ MayFollow End End = Unit {0}
 
 -- no jobs, under these rules
 abbrev pub no_jobs : Version → Fraction → Instance
-no_jobs version k = record { rules = record { ratio = k; version = version }; jobs = [] }
+no_jobs version k = jobs_under version k []
 
 -- what the run of these jobs prints up to a horizon: what is settled at the mark, or all
 abbrev pub due_by : Instance → Horizon → List Event

@@ -1,6 +1,7 @@
 pub mod Limits
 pub mod JobFacts
 pub mod Fraction
+pub mod Finishes
 pub mod Instance
 pub mod Schedules
 pub mod State
@@ -13,6 +14,7 @@ pub mod Sound
 pub mod Jumps
 pub mod Settled
 pub mod Horizons
+pub mod Observed
 pub mod Rest
 pub mod WholeRun
 pub mod Paths
@@ -30,6 +32,7 @@ pub mod Numerals
 pub mod Lines
 pub mod Admission
 pub mod Session
+pub mod Taken
 pub mod Text
 pub mod Trace
 pub mod FeedLine

@@ -1,5 +1,5 @@
 -- The jobs of a state that aren't over: all that the next steps depend on.
-use Rattle.std.specs.Prelude.{Bool, not, ◌+◌, ℕ, ◌∷◌, ◌++◌, []}
+use Rattle.std.specs.Prelude.{Bool, not, ℕ, ◌∷◌, ◌++◌, []}
 use Rattle.std.specs.List.{filter}
 use Rattle.dover_model.specs.declared.events.Task.{Task}
 use Rattle.dover_model.specs.State.{is_over, State}

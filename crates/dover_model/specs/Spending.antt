@@ -1,5 +1,5 @@
 -- What comparisons are for: the times that jobs begin and cease to wait.
-use Rattle.std.specs.Prelude.{ℕ, ◌+◌, ◌-◌, ◌*◌, length, ◌^◌, ◌≤◌, ◌<◌}
+use Rattle.std.specs.Prelude.{ℕ, [], ◌+◌, ◌-◌, ◌*◌, length, ◌^◌, ◌≤◌, ◌<◌}
 use Rattle.std.specs.List.{sum_by}
 use Rattle.dover_model.specs.State.{State, is_waiting}
 use Rattle.dover_model.specs.Weights.{weights_by, Scale, one_if}
@@ -17,7 +17,7 @@ waiting_count s = sum_by (λ t. one_if (is_waiting t)) s.tasks
 
 -- how often jobs may still cease to wait
 abbrev pub exits : State → ℕ
-exits s = weights_by exits_scale s
+exits s = weights_by [] exits_scale s
 
 -- how often n jobs have begun and ceased to wait so far, at most, where the state has those that aren't over: four
 -- times each, but for what may still come

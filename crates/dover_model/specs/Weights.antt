@@ -2,17 +2,18 @@
 use Rattle.std.specs.Prelude.{ℕ, ◌+◌, List, Bool, ◌||◌, ◌&&◌, nat_lt, if◌then◌else◌}
 use Rattle.std.specs.List.{sum_by}
 use Rattle.dover_model.specs.declared.events.Task.{Task}
-use Rattle.dover_model.specs.State.{is_running, is_held, left, latest_start, State}
+use Rattle.dover_model.specs.Finishes.{Finish, goes_on}
+use Rattle.dover_model.specs.State.{is_running, is_held, latest_start, State}
 use Rattle.dover_model.specs.declared.events.Role.{Role}
 use Rattle.dover_model.specs.declared.events.Role.TheVariants.{Coming, Fresh, Waiting, Held, Running, Done, Gone}
 
 -- what the job adds to the value that a take has to beat, where it goes on
-abbrev pub stands : Task → ℕ
-stands t = if is_held t || (is_running t && nat_lt 0 (left t)) then t.job.value else 0
+abbrev pub stands : List Finish → Task → ℕ
+stands finishes t = if is_held t || (is_running t && goes_on finishes t) then t.job.value else 0
 
 -- what stands against a take
-abbrev pub standing : List Task → ℕ
-standing tasks = sum_by stands tasks
+abbrev pub standing : List Finish → List Task → ℕ
+standing finishes tasks = sum_by (stands finishes) tasks
 
 -- one where it is true
 abbrev pub one_if : Bool → ℕ
@@ -40,5 +41,5 @@ abbrev pub weight : Scale → ℕ → ℕ → Task → ℕ
 weight z clock w t = weight_in z t.role clock w t
 
 -- of all jobs
-abbrev pub weights_by : Scale → State → ℕ
-weights_by z s = sum_by (weight z s.clock (standing s.tasks)) s.tasks
+abbrev pub weights_by : List Finish → Scale → State → ℕ
+weights_by finishes z s = sum_by (weight z s.clock (standing finishes s.tasks)) s.tasks

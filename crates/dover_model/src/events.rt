@@ -1,20 +1,22 @@
 //! What the machine prints, and what a job is to it.
 use crate::jobs::Job;
 
-/// The version of a feed: how ties are broken, and whether a job that isn't admitted ends the feed.
+/// The version of a feed: how ties are broken, whether a job that isn't admitted ends the feed, and whether jobs may
+/// finish early.
 #[derive(Clone, Copy, Debug, PartialEq, Eq)]
 pub enum Version {
     /// Ties by the smaller number; a job that isn't admitted ends the feed.
     One,
     /// Ties by the greater value, and then by the smaller number; a job that isn't admitted is passed over.
     Two,
+    Three,
 }
 
 impl Version {
     ghost use Rattle.std.specs.Prelude.{◌≡◌};
     ghost use Rattle.dover_model.specs.Verdict.{version_of_number};
 
-    /// The version of this number, if it has one.
+    /// The version of this number, if it has one that is taken.
     pub fn from_number(number: u64) -> Option<Version>
         ensures { result ≡ version_of_number number }
     {
@@ -26,7 +28,7 @@ impl Version {
     }
 }
 
-/// Why a job isn't admitted.
+/// Why a job isn't admitted. One that comes too late is refused in version Three alone: before it, that ends the feed.
 #[derive(Clone, Copy, PartialEq, Eq)]
 pub enum Refusal {
     /// Its release, work, deadline or value is out of the limits, or it can't be done from its release on.
@@ -37,6 +39,7 @@ pub enum Refusal {
     Total,
     /// Its value per tick of work and that of an admitted job differ by more than the declared ratio.
     Ratio,
+    Late,
 }
 
 /// What a job is at a moment.

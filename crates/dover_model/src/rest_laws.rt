@@ -1,5 +1,6 @@
 //! Laws of runs that come to rest, and of jobs in parts, each the contract of a function that does nothing.
 ghost use Rattle.std.specs.Prelude.{◌≡◌, ◌≤◌, ◌+◌, ◌++◌, ◌↔◌, ℕ, List, [], ◌∷◌, map, length, false};
+ghost use Rattle.dover_model.specs.Finishes.{Finish};
 ghost use Rattle.dover_model.specs.JobFacts.{JobFacts};
 ghost use Rattle.dover_model.specs.declared.events.Event.TheVariants.{End};
 ghost use Rattle.dover_model.specs.Instance.{Rules, Instance, IsValid, with_jobs, total_value};
@@ -9,9 +10,11 @@ ghost use Rattle.dover_model.specs.Schedules.{Meets, worth};
 ghost use Rattle.dover_model.specs.Bound.{IsWithin};
 ghost use Rattle.dover_model.specs.Underload.{takes_or_abandons};
 ghost use Rattle.dover_model.specs.Sound.{Each};
-ghost use Rattle.dover_model.specs.Rest.{instead, NoneBefore, IsAtRest, end_tick, behind, before_end, IsInTurn};
-ghost use Rattle.dover_model.specs.Rest.{AreOverAt, in_turn, printed_in_turn, completed_in_turn};
-ghost use Rattle.dover_model.specs.Rest.{later_job, later_event, AreAnew, anew, printed_anew, completed_anew};
+ghost use Rattle.dover_model.specs.Rest.{AreOwn, instead_with, followed_by, NoneBefore, IsAtRest, end_tick, behind};
+ghost use Rattle.dover_model.specs.Rest.{before_end, IsInTurn, Turn, turn_under, turns_jobs, turns_observed, one_run};
+ghost use Rattle.dover_model.specs.Rest.{TurnsEnd, printed_turns, completed_turns, AreOverAt, in_turn, printed_in_turn};
+ghost use Rattle.dover_model.specs.Rest.{completed_in_turn, later_job, later_event, AreAnew, anew, printed_anew};
+ghost use Rattle.dover_model.specs.Rest.{completed_anew};
 ghost use Rattle.dover_model.specs.Parts.{part_of, IsParted, part_under, completed_in_parts, bounds_of_parts};
 
 /// From the tick of its End on a run is at rest, and then all that it prints is settled but its End.
@@ -22,32 +25,33 @@ pub fn all_is_settled_at_rest()
         → printed J ≡ before_end (printed J) ++ (End (completed_value J) ∷ []) }
 {}
 
-/// A run falls apart at rest: with jobs that are released then or later it prints what it prints without them, and then
-/// what they print alone, numbered behind.
+/// A run falls apart at rest: with jobs that are released then or later, and their finishes, it prints what it prints
+/// without them, and then what they print alone, numbered behind.
 pub fn runs_fall_apart_at_rest()
-    ensures printed { (J : Instance) (more : List JobFacts) (m : ℕ) → IsValid J → IsValid (instead J more)
-        → IsAtRest J m → NoneBefore m more →
-        printed (with_jobs J more) ≡ before_end (printed J) ++ map (behind (length J.jobs) (completed_value J))
-        (printed (instead J more)) }
-    ensures settled { (J : Instance) (more : List JobFacts) (m mark : ℕ) → IsValid J → IsValid (instead J more)
-        → IsAtRest J m → NoneBefore m more →
-        m ≤ mark →
-        settled (with_jobs J more) mark ≡ before_end (printed J) ++ map (behind (length J.jobs) (completed_value J))
-        (settled (instead J more) mark) }
-    ensures value { (J : Instance) (more : List JobFacts) (m : ℕ) → IsValid J → IsValid (instead J more) → IsAtRest J m
-        → NoneBefore m more →
-        completed_value (with_jobs J more) ≡ completed_value J + completed_value (instead J more) }
+    ensures printed { (J : Instance) (more : List JobFacts) (finishes : List Finish) (m : ℕ) → AreOwn J → IsValid J
+        → IsValid (instead_with J more finishes) → IsAtRest J m → NoneBefore m more →
+        printed (followed_by J more finishes) ≡ before_end (printed J)
+        ++ map (behind (length J.jobs) (completed_value J)) (printed (instead_with J more finishes)) }
+    ensures settled { (J : Instance) (more : List JobFacts) (finishes : List Finish) (m mark : ℕ) → AreOwn J → IsValid J
+        → IsValid (instead_with J more finishes) → IsAtRest J m → NoneBefore m more → m ≤ mark →
+        settled (followed_by J more finishes) mark ≡ before_end (printed J)
+        ++ map (behind (length J.jobs) (completed_value J)) (settled (instead_with J more finishes) mark) }
+    ensures value { (J : Instance) (more : List JobFacts) (finishes : List Finish) (m : ℕ) → AreOwn J → IsValid J
+        → IsValid (instead_with J more finishes) → IsAtRest J m → NoneBefore m more →
+        completed_value (followed_by J more finishes) ≡ completed_value J
+        + completed_value (instead_with J more finishes) }
 {}
 
 /// So does the run of many lists in turn, which may have more jobs together, and be worth more, than one run may.
 pub fn runs_in_turn_are_one_run()
-    ensures printed { (rules : Rules) (lists : List (List JobFacts)) → IsInTurn rules 0 lists →
+    ensures printed { (rules : Rules) (lists : List (List JobFacts)) → rules.finishes ≡ [] → IsInTurn rules 0 lists →
         printed (record { rules = rules; jobs = in_turn lists }) ≡ printed_in_turn rules lists }
-    ensures value { (rules : Rules) (lists : List (List JobFacts)) → IsInTurn rules 0 lists →
+    ensures value { (rules : Rules) (lists : List (List JobFacts)) → rules.finishes ≡ [] → IsInTurn rules 0 lists →
         completed_value (record { rules = rules; jobs = in_turn lists }) ≡ completed_in_turn rules lists }
-    ensures honest { (rules : Rules) (lists : List (List JobFacts)) → IsInTurn rules 0 lists →
+    ensures honest { (rules : Rules) (lists : List (List JobFacts)) → rules.finishes ≡ [] → IsInTurn rules 0 lists →
         (s : List ℕ) × (completed_in_turn rules lists ≤ worth (record { rules = rules; jobs = in_turn lists }) s) }
-    ensures within { (rules : Rules) (lists : List (List JobFacts)) (s : List ℕ) → IsInTurn rules 0 lists →
+    ensures within { (rules : Rules) (lists : List (List JobFacts)) (s : List ℕ) → rules.finishes ≡ []
+        → IsInTurn rules 0 lists →
         IsWithin rules.ratio (worth (record { rules = rules; jobs = in_turn lists }) s)
         (completed_value (record { rules = rules; jobs = in_turn lists })) }
 {}
@@ -56,19 +60,40 @@ pub fn runs_in_turn_are_one_run()
 /// of them.
 pub fn runs_go_on_in_turn()
     ensures settled { (rules : Rules) (lists : List (List JobFacts)) (more : List JobFacts) (m mark : ℕ)
-        → AreOverAt rules 0 lists m →
+        → rules.finishes ≡ [] → AreOverAt rules 0 lists m →
         IsValid (record { rules = rules; jobs = more }) → NoneBefore m more → m ≤ mark →
         settled (record { rules = rules; jobs = in_turn lists ++ more }) mark ≡ before_end
         (printed (record { rules = rules; jobs = in_turn lists }))
         ++ map (behind (length (in_turn lists)) (completed_in_turn rules lists))
         (settled (record { rules = rules; jobs = more }) mark) }
     ensures printed { (rules : Rules) (lists : List (List JobFacts)) (more : List JobFacts) (m : ℕ)
-        → AreOverAt rules 0 lists m →
+        → rules.finishes ≡ [] → AreOverAt rules 0 lists m →
         IsValid (record { rules = rules; jobs = more }) → NoneBefore m more →
         printed (record { rules = rules; jobs = in_turn lists ++ more }) ≡ before_end
         (printed (record { rules = rules; jobs = in_turn lists }))
         ++ map (behind (length (in_turn lists)) (completed_in_turn rules lists))
         (printed (record { rules = rules; jobs = more })) }
+{}
+
+/// So it is with lists whose jobs may finish early, each under finishes of its own: all of them are one run, and what
+/// is
+/// settled of the last one is what is settled of it alone. No schedule of all the jobs is worth more than the one run
+/// allows, as they are declared and as each list's run observed them.
+pub fn turns_with_finishes_are_one_run()
+    ensures printed { (rules : Rules) (turns : List Turn) (last : ℕ) → TurnsEnd rules 0 turns last →
+        printed (one_run rules turns) ≡ printed_turns rules turns }
+    ensures value { (rules : Rules) (turns : List Turn) (last : ℕ) → TurnsEnd rules 0 turns last →
+        completed_value (one_run rules turns) ≡ completed_turns rules turns }
+    ensures settled { (rules : Rules) (turns : List Turn) (more : Turn) (last mark : ℕ) → TurnsEnd rules 0 turns last →
+        IsValid (turn_under rules more) → NoneBefore last more.jobs → last ≤ mark →
+        settled (one_run rules (turns ++ more ∷ [])) mark ≡ before_end (printed (one_run rules turns))
+        ++ map (behind (length (turns_jobs turns)) (completed_turns rules turns))
+        (settled (turn_under rules more) mark) }
+    ensures declared { (rules : Rules) (turns : List Turn) (last : ℕ) (s : List ℕ) → TurnsEnd rules 0 turns last →
+        IsWithin rules.ratio (worth (one_run rules turns) s) (completed_value (one_run rules turns)) }
+    ensures observed { (rules : Rules) (turns : List Turn) (last : ℕ) (s : List ℕ) → TurnsEnd rules 0 turns last →
+        IsWithin rules.ratio (worth (record { rules = rules; jobs = turns_observed rules turns }) s)
+        (completed_value (one_run rules turns)) }
 {}
 
 /// A run of jobs moved in time is the run, moved in time.
@@ -81,11 +106,12 @@ pub fn runs_move_in_time()
 /// So runs one after another, each in a time of its own, are one run, of any length: its jobs together keep no limit of
 /// count, sum, ratio or time.
 pub fn runs_anew_are_one_run()
-    ensures printed { (rules : Rules) (lists : List (ℕ × List JobFacts)) → AreAnew rules lists →
+    ensures printed { (rules : Rules) (lists : List (ℕ × List JobFacts)) → rules.finishes ≡ [] → AreAnew rules lists →
         printed (record { rules = rules; jobs = anew lists }) ≡ printed_anew rules lists }
-    ensures value { (rules : Rules) (lists : List (ℕ × List JobFacts)) → AreAnew rules lists →
+    ensures value { (rules : Rules) (lists : List (ℕ × List JobFacts)) → rules.finishes ≡ [] → AreAnew rules lists →
         completed_value (record { rules = rules; jobs = anew lists }) ≡ completed_anew rules lists }
-    ensures within { (rules : Rules) (lists : List (ℕ × List JobFacts)) (s : List ℕ) → AreAnew rules lists →
+    ensures within { (rules : Rules) (lists : List (ℕ × List JobFacts)) (s : List ℕ) → rules.finishes ≡ []
+        → AreAnew rules lists →
         IsWithin rules.ratio (worth (record { rules = rules; jobs = anew lists }) s) (completed_anew rules lists) }
 {}
 

@@ -1,11 +1,12 @@
 -- Counts among the printed steps of a run are those of its report.
 use Rattle.std.proofs.Common.{◌≡◌, ℕ, ◌+◌, ◌*◌, ◌≤◌, ◌<◌, List, [], ◌∷◌, ◌++◌, length, map, take, get_or, refl}
-use Rattle.std.proofs.Common.{sym, ap, ◌∙◌}
+use Rattle.std.proofs.Common.{sym, ap, ◌∙◌, subst}
 use Rattle.std.proofs.Common.{cond, arith, append_assoc}
 use Rattle.std.proofs.lemmas.List.{length-take, length-take-le}
 use Rattle.std.specs.Prelude.{Option, Some, None, option_to_list, codes}
-use Rattle.std.specs.List.{filter_map, sum_by, count_by, cons_option, enumerate_from}
-use Rattle.std.proofs.lemmas.List.{take_more}
+use Rattle.std.specs.List.{filter_map, fold, sum_by, count_by, cons_option, enumerate_from}
+use Rattle.std.specs.Option.{option_map}
+use Rattle.std.proofs.lemmas.List.{take_more, append-nil}
 use Rattle.std.proofs.lemmas.List.Sums.{sum_by-cons, sum_by_more, count_by-le-length}
 use Rattle.std.proofs.lemmas.List.Elements.{filter_map-append}
 use Rattle.std.proofs.lemmas.List.Concat.{flat_map-append}
@@ -13,8 +14,9 @@ use Rattle.dover_model.specs.declared.events.Event.{Event}
 use Rattle.dover_model.specs.declared.events.Event.TheVariants.{Release, Run, Preempt, Take, Complete, Abandon, End}
 use Rattle.dover_model.specs.Fraction.{Fraction}
 use Rattle.dover_model.specs.JobFacts.{JobFacts}
-use Rattle.dover_model.specs.Instance.{Instance, IsValid}
-use Rattle.dover_model.specs.Session.{JobItem, admitted_jobs}
+use Rattle.dover_model.specs.Instance.{Declaration, declared_by, Instance, IsValid}
+use Rattle.dover_model.specs.Session.{Session, Item, JobItem, FinishItem, EarlyFinish, job_of_item, admitted_jobs}
+use Rattle.dover_model.specs.Session.{instance_of, new_session, with_item, with_named, early_at}
 use Rattle.dover_model.specs.Trace.{Printed, places_after, put_in, session_of}
 use Rattle.dover_model.specs.Run.{printed, completed_value}
 use Rattle.dover_model.specs.Intervals as model
@@ -22,10 +24,9 @@ use Rattle.dover_model.specs.Bound.{bound}
 use Rattle.dover_model.specs.Lines.{with_numbers, in_lines}
 use Rattle.dover_model.specs.Reports.{fate_of_event, is_completed, abandoned_number, is_take}
 use Rattle.dover_model.specs.Reports.{Completed, Abandoned, summary_lines, interval_line, report}
-use Rattle.dover_model.proofs.TraceLines.{item_of_line}
 use Rattle.dover_model.proofs.Ending.{few_printed}
 use Rattle.dover_model.proofs.BoundLaws.{intervals_abandon}
-use Rattle.dover_model.proofs.Growing.{items_of_steps}
+use Rattle.dover_model.proofs.Growing.{all_lines, with_line_named}
 use Rattle.dover_model.proofs.ReleaseCounts.{releases}
 use Rattle.dover_model.proofs.JobSessions.{jobs_back, instance_back, session_of_valid}
 use Rattle.dover_model.proofs.Walks.{session_names}
@@ -64,23 +65,50 @@ as_released (Abandon at n ∷ run) = as_released run
 as_released (End value ∷ run) = as_released run
 
 -- no refused lines have places
-no_places : (J : Instance) (before jobs : List JobFacts) → places_after J.rules before (map JobItem jobs) ≡ []
-no_places J before [] = refl
-no_places J before (j ∷ jobs) = no_places J (before ++ j ∷ []) jobs
+no_places : (rules : Declaration) (before : List Item) (jobs : List JobFacts)
+    → places_after rules before (map JobItem jobs) ≡ []
+no_places rules before [] = refl
+no_places rules before (j ∷ jobs) = no_places rules (before ++ JobItem j ∷ []) jobs
+
+-- the jobs with one item more
+jobs_with : (items : List Item) (x : Item)
+    → admitted_jobs (items ++ x ∷ []) ≡ admitted_jobs items ++ cons_option (job_of_item x) []
+jobs_with items x = filter_map-append job_of_item items (x ∷ [])
+
+-- printed steps name the jobs that they release
+jobs_named : (es : List Event) (S : Session)
+    → admitted_jobs (fold with_line_named S (map Printed es)).items ≡ admitted_jobs S.items ++ releases es
+jobs_named [] S = sym (append-nil (admitted_jobs S.items))
+jobs_named (Release n j ∷ es) S = jobs_named es (with_item S (JobItem j))
+    ∙ ap (λ js. js ++ releases es) (jobs_with S.items (JobItem j))
+    ∙ append_assoc (admitted_jobs S.items) (j ∷ []) (releases es)
+jobs_named (Run at n ∷ es) S = jobs_named es S
+jobs_named (Preempt at stops starts ∷ es) S = jobs_named es S
+jobs_named (Take at stops starts ∷ es) S = jobs_named es S
+jobs_named (Complete at n ∷ es) S = by_finish (early_at S at n) (jobs_named es) where
+  by_finish : (o : Option EarlyFinish)
+      → ((T : Session) → admitted_jobs (fold with_line_named T (map Printed es)).items
+      ≡ admitted_jobs T.items ++ releases es)
+      → admitted_jobs (fold with_line_named (with_named S (option_map FinishItem o)) (map Printed es)).items
+      ≡ admitted_jobs S.items ++ releases es
+  by_finish None rest = rest S
+  by_finish (Some f) rest = rest (with_item S (FinishItem f))
+      ∙ ap (λ js. js ++ releases es) (jobs_with S.items (FinishItem f) ∙ append-nil (admitted_jobs S.items))
+jobs_named (Abandon at n ∷ es) S = jobs_named es S
+jobs_named (End value ∷ es) S = jobs_named es S
 
 -- a run releases its jobs, in their order
-pub releases_are : (J : Instance) → IsValid J → releases (printed J) ≡ J.jobs
-releases_are J valid = sym (jobs_back (releases (printed J)))
-    ∙ ap admitted_jobs (sym (items_of_steps (printed J)) ∙ named) ∙ jobs_back J.jobs where
-      named : filter_map item_of_line (map Printed (printed J)) ≡ map JobItem J.jobs
-      named =
-          let lines : put_in (places_after J.rules [] (map JobItem J.jobs)) 0 (printed J) ≡ map Printed (printed J) =
-          ap (λ places. put_in places 0 (printed J)) (no_places J [] J.jobs) in
-          ap (filter_map item_of_line) (sym lines)
-          ∙ ap (λ (K : Instance). filter_map item_of_line
-          (put_in (places_after J.rules [] (map JobItem J.jobs)) 0 (printed K)))
-          (sym (instance_back J))
-          ∙ session_names (session_of J) (session_of_valid J valid)
+pub releases_are : (J : Instance) → J.rules.finishes ≡ [] → IsValid J → releases (printed J) ≡ J.jobs
+releases_are J plain valid = sym (jobs_named (printed J) (new_session (declared_by J.rules)))
+    ∙ ap (λ (S : Session). admitted_jobs S.items) named ∙ jobs_back J.jobs where
+      lines : all_lines (session_of J) ≡ map Printed (printed J)
+      lines = ap (λ places. put_in places 0 (printed (instance_of (session_of J))))
+          (no_places (declared_by J.rules) [] J.jobs)
+          ∙ ap (λ (K : Instance). map Printed (printed K)) (instance_back J plain)
+
+      named : fold with_line_named (new_session (declared_by J.rules)) (map Printed (printed J)) ≡ session_of J
+      named = subst (λ ls. fold with_line_named (new_session (declared_by J.rules)) ls ≡ session_of J) lines
+          (session_names (session_of J) (session_of_valid J plain valid))
 
 -- ---- counts
 
@@ -234,7 +262,7 @@ rows_more rows i d there =
 module _ (k : Fraction) (run : List Event) (J : Instance) (of : IsRunOf k run J) where
   -- the jobs are those that the steps release
   pub jobs_are : jobs_released run ≡ J.jobs
-  jobs_are = as_released run ∙ ap releases (sym of.prints) ∙ releases_are J of.valid
+  jobs_are = as_released run ∙ ap releases (sym of.prints) ∙ releases_are J of.plain of.valid
 
   -- the summary's lines are those of the counts
   pub summary_is : (jobs : List JobFacts) (value : ℕ) → jobs ≡ jobs_released run → value ≡ completed_value J

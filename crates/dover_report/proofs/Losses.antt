@@ -150,13 +150,13 @@ module _ (J : Instance) (valid : IsValid J) where
 
     by_deed : (m : Move) → Deed rules.ratio s (ending s or_else Ticks) m
         → kept_values (after s m).tasks + lost_in J.jobs m ≡ kept_values s.tasks
-    by_deed m (Completed r member runs done) =
+    by_deed m (Completed r member runs) =
         omega (arith, one_stays s keeps.sound.numbered r member Running Done runs refl refl)
     by_deed m (Resumed p member held none least why) =
         omega (arith, one_stays s keeps.sound.numbered p member Held Running held refl refl)
     by_deed m (Started o member waiting none first fits next) =
         omega (arith, one_stays s keeps.sound.numbered o member Waiting Running waiting refl refl)
-    by_deed m (Began f member fresh none) =
+    by_deed m (Began f member fresh none free) =
         omega (arith, one_stays s keeps.sound.numbered f member Fresh Running fresh refl refl)
     by_deed m (Preempted r f member runs some f_member fresh before fits) =
         omega (arith, preempt_stays s keeps.sound.numbered r f member runs f_member fresh)

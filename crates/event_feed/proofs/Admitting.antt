@@ -1,19 +1,22 @@
 -- How many jobs the account of a feed has admitted, as it is read.
 use Rattle.std.proofs.Common.{◌≡◌, ◌≤◌, ◌+◌, ℕ, suc, List, ◌∷◌, ◌++◌, [], length, refl, sym, ap, subst}
 use Rattle.std.proofs.Common.{Option, Some, None, Bool, true, false, cond, arith}
-use Rattle.std.specs.Prelude.{nat_lt, ◌||◌}
+use Rattle.std.specs.Prelude.{nat_lt, max, ◌||◌}
 use Rattle.std.specs.List.{fold}
-use Rattle.std.specs.Option.{option_map}
+use Rattle.std.specs.Option.{option_map, option_map_or}
 use Rattle.dover_model.specs.Limits.{most_lines, last_tick}
 use Rattle.dover_model.specs.JobFacts.{JobFacts}
 use Rattle.dover_model.specs.declared.events.Refusal.{Refusal}
 use Rattle.dover_model.specs.Admission.{refusal_of}
-use Rattle.dover_model.specs.Session.{Session, Item, JobItem, RefusedItem, RefusedJob, refused_at, with_item}
+use Rattle.dover_model.specs.Session.{Session, Item, JobItem, RefusedItem, FinishItem, Refused, EarlyFinish, RefusedJob}
+use Rattle.dover_model.specs.Session.{RefusedDone, refused_at, refused_done_at, with_item, with_named, early_at, is_right}
+use Rattle.dover_model.specs.Session.{late_refusal, may_finish_early}
 use Rattle.dover_model.specs.Session.{admitted_jobs}
-use Rattle.dover_model.specs.Session.{is_two}
-use Rattle.dover_model.specs.FeedLine.{FeedLine, RatioLine, JobLine, TickLine, EndLine, feed_line}
+use Rattle.dover_model.specs.Session.{refuses_lines}
+use Rattle.dover_model.specs.FeedLine.{FeedLine, RatioLine, JobLine, TickLine, DoneLine, EndLine, feed_line}
+use Rattle.dover_model.specs.Taken.{two_versions}
 use Rattle.dover_model.specs.Feed.{Account, Standing, Lines, Line, is_open, next_line, read_line, with_line, with_fault}
-use Rattle.dover_model.specs.Feed.{with_item_in, later_line_cause, Order, NotAdmitted, account}
+use Rattle.dover_model.specs.Feed.{with_item_in, later_line_cause, late_cause, Order, NotAdmitted, NotDone, account}
 use Rattle.dover_model.proofs.Accounts.{account_append}
 use Rattle.event_feed.specs.Answers.{admitted_in}
 
@@ -25,13 +28,23 @@ pub job_more : (items : List Item) (j : JobFacts)
 job_more [] j = refl
 job_more (JobItem i ∷ items) j = omega (arith, job_more items j)
 job_more (RefusedItem r ∷ items) j = job_more items j
+job_more (FinishItem f ∷ items) j = job_more items j
 
 -- a refused line more
-pub refused_more : (items : List Item) (r : RefusedJob)
+pub refused_more : (items : List Item) (r : Refused)
     → length (admitted_jobs (items ++ RefusedItem r ∷ [])) ≡ length (admitted_jobs items)
 refused_more [] r = refl
 refused_more (JobItem i ∷ items) r = omega (arith, refused_more items r)
 refused_more (RefusedItem s ∷ items) r = refused_more items r
+refused_more (FinishItem f ∷ items) r = refused_more items r
+
+-- an early finish more
+finish_more : (items : List Item) (f : EarlyFinish)
+    → length (admitted_jobs (items ++ FinishItem f ∷ [])) ≡ length (admitted_jobs items)
+finish_more [] f = refl
+finish_more (JobItem i ∷ items) f = omega (arith, finish_more items f)
+finish_more (RefusedItem r ∷ items) f = finish_more items f
+finish_more (FinishItem g ∷ items) f = finish_more items f
 
 -- how many a session has admitted
 abbrev pub admitted_by : Option Session → ℕ
@@ -64,19 +77,49 @@ module _ (lines : ℕ) (S : Session) (mark : ℕ) (standing : Standing) where
     by_two refusal true = (
       with_item S (refused_at mark j refusal),
       refl,
-      omega (arith, refused_more S.items (record { at = mark; job = j; refusal = refusal })),
+      omega (arith, refused_more S.items (record { at = mark; line = RefusedJob j refusal })),
     )
     by_two refusal false = (S, refl, omega arith)
 
     by_refusal : (o : Option Refusal) → HasAtLeast n (with_line at (JobLine j) (option_map NotAdmitted o))
     by_refusal None = (with_item S (JobItem j), refl, omega (arith, job_more S.items j))
-    by_refusal (Some refusal) = by_two refusal (is_two S.rules.version)
+    by_refusal (Some refusal) = by_two refusal (refuses_lines S.rules.version)
+
+    by_late : (o : Option Refusal) → HasAtLeast n (with_line at (JobLine j) (Some (option_map_or NotAdmitted o Order)))
+    by_late None = (S, refl, omega arith)
+    by_late (Some refusal) = by_two refusal (refuses_lines S.rules.version)
 
     by_order : (b : Bool) → HasAtLeast n
         (with_line at (JobLine j)
-        (cond b (Some Order) (option_map NotAdmitted (refusal_of S.rules.ratio (admitted_jobs S.items) j))))
-    by_order true = (S, refl, omega arith)
+        (cond b (Some (late_cause S.rules.version)) (option_map NotAdmitted (refusal_of S.rules.ratio (admitted_jobs S.items) j))))
+    by_order true = by_late (late_refusal S.rules.version)
     by_order false = by_refusal (refusal_of S.rules.ratio (admitted_jobs S.items) j)
+
+  -- a done line
+  done_keeps : (t m : ℕ) → HasAtLeast n (with_line at (DoneLine t m) (later_line_cause S mark (DoneLine t m)))
+  done_keeps t m = by_version (may_finish_early S.rules.version) where
+    by_finish : (o : Option EarlyFinish) → (T : Session) × (Some (with_named S (option_map FinishItem o)) ≡ Some T)
+        × (n ≤ length (admitted_jobs T.items))
+    by_finish None = (S, refl, omega arith)
+    by_finish (Some f) = (with_item S (FinishItem f), refl, omega (arith, finish_more S.items f))
+
+    by_right : (b : Bool) → HasAtLeast n (with_line at (DoneLine t m) (cond b None (Some NotDone)))
+    by_right true = by_finish (early_at S t m)
+    by_right false = (
+      with_item S (refused_done_at (max mark t) t m),
+      refl,
+      omega (arith, refused_more S.items (record { at = max mark t; line = RefusedDone t m })),
+    )
+
+    by_tick : (b : Bool)
+        → HasAtLeast n (with_line at (DoneLine t m) (cond b (Some Order) (cond (is_right S mark t m) None (Some NotDone))))
+    by_tick true = (S, refl, omega arith)
+    by_tick false = by_right (is_right S mark t m)
+
+    by_version : (b : Bool) → HasAtLeast n (with_line at (DoneLine t m) (cond b
+        (cond (nat_lt last_tick t) (Some Order) (cond (is_right S mark t m) None (Some NotDone))) (Some Line)))
+    by_version true = by_tick (nat_lt last_tick t)
+    by_version false = (S, refl, omega arith)
 
   -- any line that has a form
   form_keeps : (line : FeedLine) → HasAtLeast n (with_line at line (later_line_cause S mark line))
@@ -86,6 +129,7 @@ module _ (lines : ℕ) (S : Session) (mark : ℕ) (standing : Standing) where
     by_tests : (b : Bool) → HasAtLeast n (with_line at (TickLine t) (cond b (Some Order) None))
     by_tests true = (S, refl, omega arith)
     by_tests false = (S, refl, omega arith)
+  form_keeps (DoneLine t m) = done_keeps t m
   form_keeps EndLine = (S, refl, omega arith)
 
   -- any line
@@ -116,7 +160,7 @@ keeps_lines n (l ∷ ls) a it = keeps_lines n ls (next_line a l) (keeps_next n a
 
 -- more bytes
 keeps_front : (n : ℕ) (F G : List ℕ) → HasAtLeast n (account F) → HasAtLeast n (account (F ++ G))
-keeps_front n F G it = let more = account_append F G in
+keeps_front n F G it = let more = account_append two_versions F G in
     subst (HasAtLeast n) (sym more.1) (keeps_lines n more.0 (account F) it)
 
 -- a session that is there stays, whatever bytes follow

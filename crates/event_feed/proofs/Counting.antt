@@ -6,8 +6,8 @@ use Rattle.std.specs.Prelude.{nat_lt}
 use Rattle.dover_model.specs.Limits.{most_lines}
 use Rattle.dover_model.specs.declared.events.Refusal.{Refusal}
 use Rattle.dover_model.specs.JobFacts.{JobFacts}
-use Rattle.dover_model.specs.Session.{Session, is_two, refused_at}
-use Rattle.dover_model.specs.FeedLine.{FeedLine, RatioLine, JobLine, TickLine, EndLine, feed_line}
+use Rattle.dover_model.specs.Session.{Session, refuses_lines, refused_at}
+use Rattle.dover_model.specs.FeedLine.{FeedLine, RatioLine, JobLine, TickLine, DoneLine, EndLine, feed_line}
 use Rattle.dover_model.specs.Feed as model
 use Rattle.dover_model.specs.Feed.{Account, Cause, Standing, Open, Ended, Faulty}
 use Rattle.dover_model.specs.Feed.{cause_of, with_line, with_fault, with_item_in, with_refused_job, read_line}
@@ -17,13 +17,13 @@ use Rattle.dover_model.specs.Feed.{next_line, no_lines, account_of_lines, NotAdm
 abbrev after_refusal : Account → JobFacts → Refusal → Option Session → Account
 after_refusal a j refusal None = a
 after_refusal a j refusal (Some S) =
-    cond (is_two S.rules.version) (with_item_in a (refused_at a.mark j refusal)) (with_fault a (NotAdmitted refusal))
+    cond (refuses_lines S.rules.version) (with_item_in a (refused_at a.mark j refusal)) (with_fault a (NotAdmitted refusal))
 
 -- a refused job changes no count
 refused_lines : (a : Account) (j : JobFacts) (refusal : Refusal) (session : Option Session)
     → (after_refusal a j refusal session).lines ≡ a.lines
 refused_lines a j refusal None = refl
-refused_lines a j refusal (Some S) = by_version (is_two S.rules.version) where
+refused_lines a j refusal (Some S) = by_version (refuses_lines S.rules.version) where
   by_version : (two : Bool)
       → (cond two (with_item_in a (refused_at a.mark j refusal)) (with_fault a (NotAdmitted refusal))).lines ≡ a.lines
   by_version true = refl
@@ -34,6 +34,7 @@ formed_lines : (a : Account) (line : FeedLine) (cause : Option Cause) → (with_
 formed_lines a (RatioLine p q version) None = refl
 formed_lines a (JobLine j) None = refl
 formed_lines a (TickLine t) None = refl
+formed_lines a (DoneLine t n) None = refl
 formed_lines a EndLine None = refl
 formed_lines a (RatioLine p q version) (Some cause) = refl
 formed_lines a (JobLine j) (Some (NotAdmitted refusal)) = refused_lines a j refusal a.session
@@ -41,8 +42,16 @@ formed_lines a (JobLine j) (Some model.Lines) = refl
 formed_lines a (JobLine j) (Some model.Line) = refl
 formed_lines a (JobLine j) (Some model.Declared) = refl
 formed_lines a (JobLine j) (Some model.Order) = refl
+formed_lines a (JobLine j) (Some model.NotDone) = refl
 formed_lines a (JobLine j) (Some model.Short) = refl
 formed_lines a (TickLine t) (Some cause) = refl
+formed_lines a (DoneLine t n) (Some model.NotDone) = refl
+formed_lines a (DoneLine t n) (Some (NotAdmitted refusal)) = refl
+formed_lines a (DoneLine t n) (Some model.Lines) = refl
+formed_lines a (DoneLine t n) (Some model.Line) = refl
+formed_lines a (DoneLine t n) (Some model.Declared) = refl
+formed_lines a (DoneLine t n) (Some model.Order) = refl
+formed_lines a (DoneLine t n) (Some model.Short) = refl
 formed_lines a EndLine (Some cause) = refl
 
 -- the account after a line that has one of the forms, if it does

@@ -1,17 +1,20 @@
 -- A job line in a session that goes on: admitted, refused, or at fault.
 use Rattle.std.proofs.Common.{◌≡◌, ℕ, ◌≤◌, List, [], ◌∷◌, ◌++◌, refl, sym, ap, ◌∙◌, subst, cond, Option, Some, None, Ok}
-use Rattle.std.proofs.Common.{Err}
+use Rattle.std.proofs.Common.{Err, true, ◌⊎◌, inl, inr}
 use Rattle.std.specs.Option.{option_map}
 use Rattle.std.proofs.lemmas.Bool.{le-ltb}
+use Rattle.dover_model.specs.Taken.{two_versions, is_taken}
 use Rattle.dover_model.specs.Numerals.{AreShort}
-use Rattle.dover_model.specs.declared.events.Version.TheVariants.{One, Two}
+use Rattle.dover_model.specs.declared.events.Version.{Version}
+use Rattle.dover_model.specs.declared.events.Version.TheVariants.{One, Two, Three}
 use Rattle.dover_model.specs.declared.events.Refusal.{Refusal}
 use Rattle.dover_model.specs.JobFacts.{JobFacts, job_numbers}
 use Rattle.dover_model.specs.Admission.{refusal_of}
-use Rattle.dover_model.specs.Session.{Session, refused_at, admitted_jobs, is_two}
+use Rattle.dover_model.specs.Session.{Session, RefusedJob, refused_at, admitted_jobs, refuses_lines}
 use Rattle.dover_model.specs.FeedLine.{JobLine}
-use Rattle.dover_model.specs.Feed.{Account, NotAdmitted, Order, cause_of, with_fault, with_line, with_item_in}
+use Rattle.dover_model.specs.Feed.{Account, NotAdmitted, late_cause, cause_of, with_fault, with_line, with_item_in}
 use Rattle.dover_model.specs.Feed.{rules_with}
+use Rattle.dover_model.proofs.Tests.{never}
 use Rattle.dover_model.proofs.Growing.{job_instance, refused_instance}
 use Rattle.admission.specs.Kept as admission
 use Rattle.admission.specs.Answers as answers
@@ -23,6 +26,11 @@ use Rattle.event_feed.specs.Kept.{cause_of_fault, cause_of_refused, IsKeptOf}
 use Rattle.event_feed.specs.Answers.{NamesOther}
 use Rattle.event_feed.specs.Reading.{open_account, IsTaken, Takes}
 
+-- of the versions that refuse job lines alone, Two is taken
+pub two_taken : (v : Version) → is_taken two_versions v ≡ true → (v ≡ Two) ⊎ (v ≡ Three) → v ≡ Two
+two_taken v taken (inl two) = two
+two_taken v taken (inr three) = never (sym (ap (is_taken two_versions) three) ∙ taken)
+
 module _ (lines : ℕ) (S : Session) (mark : ℕ) (j : JobFacts) (no_fall : mark ≤ j.release) where
   -- the account, with the line counted
   abbrev before : Account
@@ -32,7 +40,7 @@ module _ (lines : ℕ) (S : Session) (mark : ℕ) (j : JobFacts) (no_fall : mark
   job_cause : (refusal : Option Refusal) → refusal_of S.rules.ratio (admitted_jobs S.items) j ≡ refusal
       → cause_of before (JobLine j) ≡ option_map NotAdmitted refusal
   job_cause refusal is =
-      ap (λ b. cond b (Some Order) (option_map NotAdmitted (refusal_of S.rules.ratio (admitted_jobs S.items) j)))
+      ap (λ b. cond b (Some (late_cause S.rules.version)) (option_map NotAdmitted (refusal_of S.rules.ratio (admitted_jobs S.items) j)))
       (le-ltb _ _ no_fall)
       ∙ ap (option_map NotAdmitted) is
 
@@ -49,6 +57,7 @@ module _ (lines : ℕ) (S : Session) (mark : ℕ) (j : JobFacts) (no_fall : mark
         keeps = record {
           rules = it.rules ∙ ap (λ k. rules_with k kept.version) (sym ratio)
               ∙ ap (rules_with new.admission.ratio) (sym version);
+          version_taken = ap (is_taken two_versions) version ∙ it.version_taken;
           jobs = subst (admission.StandsFor new.admission) (sym (ap (λ J. J.jobs) (job_instance S j)))
               (stands (admitted_jobs S.items) it.jobs);
           marked = marked;
@@ -72,12 +81,13 @@ module _ (lines : ℕ) (S : Session) (mark : ℕ) (j : JobFacts) (no_fall : mark
       subst (λ b. IsTaken (Some kept) (Some (JobLine j)) before b
       (Ok (fed.Refused j.release j.work j.deadline j.value refusal)))
       (sym (ap (with_line before (JobLine j)) (job_cause (Some refusal) is)
-      ∙ ap (λ v. cond (is_two v) (with_item_in before (refused_at mark j refusal))
+      ∙ ap (λ v. cond (refuses_lines v) (with_item_in before (refused_at mark j refusal))
       (with_fault before (NotAdmitted refusal))) version)) (record {
         keeps = record {
           rules = it.rules;
+          version_taken = it.version_taken;
           jobs = subst (admission.StandsFor kept.admission)
-              (sym (ap (λ J. J.jobs) (refused_instance S (record { at = mark; job = j; refusal = refusal })))) it.jobs;
+              (sym (ap (λ J. J.jobs) (refused_instance S (record { at = mark; line = RefusedJob j refusal })))) it.jobs;
           marked = it.marked;
         };
         gives = record {
@@ -116,7 +126,7 @@ module _ (lines : ℕ) (S : Session) (mark : ℕ) (j : JobFacts) (no_fall : mark
       let refusal : Refusal = answers.refusal_of_refused refused in
       subst (λ b. IsTaken (Some kept) (Some (JobLine j)) before b (Err (cause_of_refused refused)))
       (sym (ap (with_line before (JobLine j)) (job_cause (Some refusal) is)
-      ∙ ap (λ v. cond (is_two v) (with_item_in before (refused_at mark j refusal))
+      ∙ ap (λ v. cond (refuses_lines v) (with_item_in before (refused_at mark j refusal))
       (with_fault before (NotAdmitted refusal))) version)) (record {
         keeps = it;
         gives = record {

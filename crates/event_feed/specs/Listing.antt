@@ -3,14 +3,13 @@ use Rattle.std.specs.Prelude.{◌≡◌, List, [], Option, Some, None}
 use Rattle.dover_model.specs.declared.events.Version.{Version}
 use Rattle.dover_model.specs.Fraction.{Fraction}
 use Rattle.dover_model.specs.JobFacts.{JobFacts}
-use Rattle.dover_model.specs.Instance.{Instance}
+use Rattle.dover_model.specs.Instance.{Instance, jobs_under}
 use Rattle.dover_model.specs.Session.{Session, instance_of}
-use Rattle.dover_model.specs.Feed.{rules_with}
 use Rattle.event_feed.specs.declared.listed.Listed.{Listed}
 
 -- these jobs, under the ratio and the version
 abbrev pub instance_with : Fraction × Version → List JobFacts → Instance
-instance_with declared jobs = record { rules = rules_with declared.0 declared.1; jobs = jobs }
+instance_with declared jobs = jobs_under declared.1 declared.0 jobs
 
 -- the jobs, under the rules that were declared
 abbrev pub listed_instance : Listed → Instance

@@ -2,10 +2,10 @@
 use Rattle.std.specs.Prelude.{◌≡◌, ℕ, ◌≤◌, Option, Some, None, Result, Ok, Err}
 use Rattle.dover_model.specs.Numerals.{AreShort}
 use Rattle.dover_model.specs.JobFacts.{JobFacts, job_numbers}
-use Rattle.dover_model.specs.Instance.{Rules}
+use Rattle.dover_model.specs.Instance.{Declaration}
 use Rattle.dover_model.specs.Admission.{refusal_of}
 use Rattle.dover_model.specs.Session.{Session, admitted_jobs}
-use Rattle.dover_model.specs.FeedLine.{FeedLine, RatioLine, JobLine, TickLine, EndLine}
+use Rattle.dover_model.specs.FeedLine.{FeedLine, RatioLine, JobLine, TickLine, DoneLine, EndLine}
 use Rattle.dover_model.specs.Feed.{Account, Open, declared_rules, cause_of, with_fault, with_line}
 use Rattle.admission.specs.Answers as admission
 use Rattle.admission.specs.Answers.{refusal_of_refused}
@@ -17,10 +17,11 @@ use Rattle.event_feed.specs.Kept.{cause_of_fault, IsKeptOf, KeepsSession}
 use Rattle.event_feed.specs.Answers.{IsFed, NamesOther}
 
 -- the rules that a first line declares, if it may
-abbrev pub first_rules : FeedLine → Option Rules
+abbrev pub first_rules : FeedLine → Option Declaration
 first_rules (RatioLine p q version) = declared_rules (record { p = p; q = q }) version
 first_rules (JobLine j) = None
 first_rules (TickLine t) = None
+first_rules (DoneLine t n) = None
 first_rules EndLine = None
 
 -- the line is at fault

@@ -1,13 +1,14 @@
 //! The lines of a feed, taken in one by one.
 ghost use Rattle.std.specs.Prelude.{◌≡◌, ℕ, List, [], ◌∷◌, ◌++◌, ◌↔◌, true, false, Option, IsOk, IfOk, OnOk, IsSome};
-ghost use Rattle.std.specs.Prelude.{IfSome, ◌≤◌, ◌+◌, replicate};
+ghost use Rattle.std.specs.Prelude.{IfSome, Some, None, ◌≤◌, ◌+◌, replicate};
 ghost use Rattle.std.specs.Option.{option_map};
 ghost use Rattle.dover_model.specs.Limits.{most_lines};
 ghost use Rattle.dover_model.specs.Session.{Session};
 ghost use Rattle.dover_model.specs.FeedLine as form;
-ghost use Rattle.dover_model.specs.Feed.{Account, Open, account_of_lines, read_line, rules_with};
+ghost use Rattle.dover_model.specs.Feed.{Account, Open, account_of_lines, read_line, rules_with, first_line_cause};
 ghost use Rattle.job_format.specs.Form.{form_of};
-ghost use Rattle.event_feed.specs.Kept.{KeepsSession};
+ghost use Rattle.event_feed.specs.Kept.{KeepsSession, cause_of_fault};
+ghost use Rattle.event_feed.specs.Answers.{NamesOther};
 ghost use Rattle.event_feed.specs.Reading.{first_rules, open_account, TakesIn, IsTaken};
 
 use crate::declaring::declared;
@@ -40,6 +41,18 @@ fn declared_in(line: FeedLine) -> Option<(Ratio, Version)>
     declared(p, q, version)
 }
 
+/// What is wrong with a first line that declares nothing. In the versions that are taken no done line has a form.
+fn undeclared(line: FeedLine) -> Cause
+    ensures cause { first_rules (form_of line) ≡ None
+        → first_line_cause (form_of line) ≡ Some (cause_of_fault result) }
+    ensures other { (read : Option form.FeedLine) (a : Account) → NamesOther read a result }
+{
+    match line {
+        FeedLine::Done { .. } => Cause::Line,
+        _ => Cause::Declared,
+    }
+}
+
 /// The first line, which has to declare the ratio.
 #[inline(never)]
 fn first_line(session: &mut Option<KeptSession>, line: FeedLine) -> Result<Fed, Cause>
@@ -52,7 +65,7 @@ fn first_line(session: &mut Option<KeptSession>, line: FeedLine) -> Result<Fed, 
             *session = Some(KeptSession::new(ratio, version));
             Ok(Fed::Ratio(ratio, version))
         }
-        None => Err(Cause::Declared),
+        None => Err(undeclared(line)),
     }
 }
 

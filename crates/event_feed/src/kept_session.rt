@@ -1,8 +1,9 @@
 //! What is kept of a feed once its ratio is declared.
-ghost use Rattle.std.specs.Prelude.{◌≡◌, ℕ};
+ghost use Rattle.std.specs.Prelude.{◌≡◌, ℕ, true};
 ghost use Rattle.dover_model.specs.Numerals.{AreShort};
 ghost use Rattle.dover_model.specs.JobFacts.{job_of_numbers, job_numbers};
 ghost use Rattle.dover_model.specs.Session.{Session, new_session};
+ghost use Rattle.dover_model.specs.Taken.{two_versions, is_taken};
 ghost use Rattle.dover_model.specs.Feed.{rules_with};
 ghost use Rattle.dover_model.specs.FeedLine.{JobLine, TickLine, HasNumerals};
 ghost use Rattle.job_format.specs.Form.{form_of};
@@ -29,6 +30,7 @@ pub struct KeptSession {
 impl KeptSession {
     /// No line came yet.
     pub fn new(ratio: Ratio, version: Version) -> KeptSession
+        requires { is_taken two_versions version ≡ true }
         ensures { IsKeptOf result (new_session (rules_with ratio version)) 0 }
     {
         KeptSession {
@@ -54,7 +56,7 @@ impl KeptSession {
     {
         match self.version {
             Version::One => Err(Cause::of(refused)),
-            Version::Two => Ok(Fed::Refused {
+            Version::Two | Version::Three => Ok(Fed::Refused {
                 release,
                 work,
                 deadline,
@@ -117,6 +119,7 @@ impl KeptSession {
                 value,
             } => self.job(release, work, deadline, value),
             FeedLine::Tick { at } => self.tick(at),
+            FeedLine::Done { .. } => Err(Cause::Line),
             FeedLine::End => Ok(Fed::Over),
         }
     }

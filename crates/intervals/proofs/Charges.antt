@@ -18,7 +18,7 @@ use Rattle.dover_model.proofs.Members.{on_map, sum_map}
 use Rattle.dover_model.proofs.BoundLaws.{bound, interval_ordered, interval_displaced, interval_paid, interval_light}
 use Rattle.dover_model.proofs.BoundLaws.{intervals_complete}
 use Rattle.dover_model.proofs.BoundLaws.{intervals_abandon}
-use Rattle.dover_model.proofs.Honest.{honest}
+use Rattle.dover_model.proofs.Honest.{plain_honest}
 use Rattle.intervals.specs.declared.interval.Interval.{Interval}
 use Rattle.intervals.specs.Pages.{Page}
 use Rattle.intervals.specs.Rows.{IsRunOf, numbers_of, rows_of}
@@ -52,7 +52,7 @@ module _ (k : Fraction) (run : List Event) (J : Instance) (of : IsRunOf k run J)
       (bound J s of.valid))
 
   pub rows_honest : worth J (ran J) ≡ value
-  rows_honest = honest J of.valid ∙ sym is
+  rows_honest = plain_honest J of.valid of.plain ∙ sym is
 
   pub rows_ordered : Each (λ i. i.from ≤ i.until) rows
   rows_ordered = each_row (λ i. i.from ≤ i.until) (interval_ordered J of.valid)

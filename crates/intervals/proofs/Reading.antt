@@ -47,14 +47,14 @@ module _ (k : Fraction) (some_q : 1 ≤ k.q) (ratio : k.q ≤ k.p) (s : State) (
   -- the page follows each deed
   deed_next : (other : Move) → (Quiet s → Next k s l current other) → (m : Move) → Deed k s other m
       → Next k s l current m
-  deed_next other rested m (Completed r member runs done) =
+  deed_next other rested m (Completed r member runs) =
       completes_next k some_q ratio s sound l few total count r member runs current follows
   deed_next other rested m (Resumed p member held none least why) =
       resumes_next k some_q ratio s sound l few total count current follows p member
       held
   deed_next other rested m (Started o member waiting none first fits next) =
       enters_next k some_q ratio s sound l few total count current follows o member (waiting_idle o waiting)
-  deed_next other rested m (Began f member fresh none) =
+  deed_next other rested m (Began f member fresh none free) =
       enters_next k some_q ratio s sound l few total count current follows f member (fresh_idle f fresh)
   deed_next other rested m (Preempted r f member runs some f_member fresh before fits) =
       preempts_next k some_q ratio s sound l few total count current follows r f member runs f_member fresh

@@ -36,6 +36,13 @@ not_one [] other = refl
 not_one (a ∷ []) other = absurd (other refl)
 not_one (a ∷ b ∷ ns) other = refl
 
+-- of a job that is done
+not_two : (ns : List ℕ) → length ns ≢ 2 → model.done_line ns ≡ None
+not_two [] other = refl
+not_two (a ∷ []) other = refl
+not_two (a ∷ b ∷ []) other = absurd (other refl)
+not_two (a ∷ b ∷ c ∷ ns) other = refl
+
 -- of a ratio
 not_two_or_three : (ns : List ℕ) → length ns ≢ 2 → length ns ≢ 3 → model.ratio_line ns ≡ None
 not_two_or_three [] other more = refl
@@ -50,6 +57,9 @@ no_job = uncounted model.job_line 4 not_four
 pub no_tick : (o : Option (List ℕ)) → IsNot 1 o → None ≡ option_and_then model.tick_line o
 no_tick = uncounted model.tick_line 1 not_one
 
+pub no_done : (o : Option (List ℕ)) → IsNot 2 o → None ≡ option_and_then model.done_line o
+no_done = uncounted model.done_line 2 not_two
+
 pub no_ratio : (o : Option (List ℕ)) → IsNot 2 o → IsNot 3 o → None ≡ option_and_then model.ratio_line o
 no_ratio None other more = refl
 no_ratio (Some ns) other more = sym (not_two_or_three ns (other ns refl) (more ns refl))
@@ -61,12 +71,13 @@ pub record IsNoLine (word ns : List ℕ) : Type 0 where
   pub ratio : bytes_eq word (codes "k") ≡ true → model.ratio_line ns ≡ None
   pub job : bytes_eq word (codes "job") ≡ true → model.job_line ns ≡ None
   pub tick : bytes_eq word (codes "tick") ≡ true → model.tick_line ns ≡ None
+  pub done : bytes_eq word (codes "done") ≡ true → model.done_line ns ≡ None
   pub end : bytes_eq word (codes "end") ≡ true → model.end_line ns ≡ None
 
 -- then there is no line
 no_word : (word ns : List ℕ) → IsNoLine word ns → model.line_of_word word ns ≡ None
 no_word word ns it =
-    skip _ _ _ it.ratio (skip _ _ _ it.job (skip _ _ _ it.tick (skip _ _ _ it.end refl)))
+    skip _ _ _ it.ratio (skip _ _ _ it.job (skip _ _ _ it.tick (skip _ _ _ it.done (skip _ _ _ it.end refl))))
 
 no_numbers : (word : List ℕ) (o : Option (List ℕ)) → ((ns : List ℕ) → o ≡ Some ns → IsNoLine word ns)
     → option_and_then (model.line_of_word word) o ≡ None
@@ -78,6 +89,7 @@ pub record LacksAll (line : List ℕ) : Type 0 where
   pub ratio : Lacks line (codes "k")
   pub job : Lacks line (codes "job")
   pub tick : Lacks line (codes "tick")
+  pub done : Lacks line (codes "done")
   pub end : (line ≡ codes "end") → ⊥
 
 -- it is no line of a feed
@@ -98,6 +110,7 @@ no_line line it = sym (by_fields (fields_of line) refl) where
     ratio = λ same. refl;
     job = λ same. refl;
     tick = λ same. refl;
+    done = λ same. refl;
     end = λ same. absurd (it.end
         (sym (line_of-fields_of line) ∙ ap line_of is ∙ (bytes_eq-Decides word (codes "end")).0 same));
   }
@@ -107,6 +120,7 @@ no_line line it = sym (by_fields (fields_of line) refl) where
         ratio = λ same. absurd (other (codes "k") it.ratio same);
         job = λ same. absurd (other (codes "job") it.job same);
         tick = λ same. absurd (other (codes "tick") it.tick same);
+        done = λ same. absurd (other (codes "done") it.done same);
         end = λ same. some_numbers field fields ns read;
       })
 

@@ -2,11 +2,12 @@
 use Rattle.dover_model.specs.JobFacts.{job_of_numbers}
 use Rattle.dover_model.specs.FeedLine as form
 use Rattle.job_format.specs.declared.lines.FeedLine.{FeedLine}
-use Rattle.job_format.specs.declared.lines.FeedLine.TheVariants.{Declared, Job, Tick, End}
+use Rattle.job_format.specs.declared.lines.FeedLine.TheVariants.{Declared, Job, Tick, Done, End}
 
 -- the line of the grammar that this is
 abbrev pub form_of : FeedLine → form.FeedLine
 form_of (Declared p q version) = form.RatioLine p q version
 form_of (Job release work deadline value) = form.JobLine (job_of_numbers release work deadline value)
 form_of (Tick at) = form.TickLine at
+form_of (Done at number) = form.DoneLine at number
 form_of End = form.EndLine

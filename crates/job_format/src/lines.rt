@@ -20,6 +20,11 @@ pub enum FeedLine {
     Tick {
         at: u64,
     },
+    /// `done T N`: the job of number N is done at tick T. It is a line of version Three alone.
+    Done {
+        at: u64,
+        number: u64,
+    },
     /// `end`: no more jobs.
     End,
 }

@@ -49,6 +49,18 @@ fn tick_line(numbers: &[u64]) -> Option<FeedLine>
     }
 }
 
+fn done_line(numbers: &[u64]) -> Option<FeedLine>
+    ensures { option_map form_of result ≡ model.done_line numbers.now }
+{
+    match numbers {
+        [at, number] => Some(FeedLine::Done {
+            at: *at,
+            number: *number,
+        }),
+        _ => None,
+    }
+}
+
 /// The ratio that fields spell behind its word, with a version or without.
 #[inline(never)]
 #[tactic(auto, using(crate::proofs::WhatIsRead::no_ratio))]
@@ -82,6 +94,16 @@ fn tick_of(fields: &[u8]) -> Option<FeedLine>
     tick_line(&numbers)
 }
 
+/// The job that is done, which fields spell behind its word.
+#[inline(never)]
+#[tactic(auto, using(crate::proofs::WhatIsRead::no_done))]
+fn done_of(fields: &[u8]) -> Option<FeedLine>
+    ensures { option_map form_of result ≡ option_and_then model.done_line (numerals (fields_of fields.now)) }
+{
+    let numbers = numbers_in::<2>(fields)?;
+    done_line(&numbers)
+}
+
 /// The line of the fields, by their word.
 #[inline(always)]
 fn line_of(line: &[u8]) -> Option<FeedLine>
@@ -95,6 +117,9 @@ fn line_of(line: &[u8]) -> Option<FeedLine>
     }
     if let Some(fields) = behind_word(line, b"k") {
         return ratio_of(fields);
+    }
+    if let Some(fields) = behind_word(line, b"done") {
+        return done_of(fields);
     }
     if line == b"end".as_slice() {
         return Some(FeedLine::End);

@@ -30,6 +30,7 @@ fn write(line: &FeedLine, to: &mut LineBuf)
             value,
         } => to.put_with_numbers(b"job", &[*release, *work, *deadline, *value]),
         FeedLine::Tick { at } => to.put_with_numbers(b"tick", &[*at]),
+        FeedLine::Done { at, number } => to.put_with_numbers(b"done", &[*at, *number]),
         FeedLine::End => to.put_word(b"end"),
     }
 }

@@ -10,9 +10,10 @@ use Rattle.dover_model.specs.declared.events.Refusal.{Refusal}
 use Rattle.dover_model.specs.Limits.{last_tick, most_jobs}
 use Rattle.dover_model.specs.JobFacts.{JobFacts}
 use Rattle.dover_model.specs.Fraction.{Fraction}
-use Rattle.dover_model.specs.Instance.{Rules, Instance, IsValid, with_jobs}
-use Rattle.dover_model.specs.Session.{JobItem, RefusedItem, RefusedJob, Session, instance_of, new_session, with_item}
+use Rattle.dover_model.specs.Instance.{Declaration, Instance, IsValid, with_jobs}
+use Rattle.dover_model.specs.Session.{JobItem, RefusedItem, Refused, RefusedJob, Session, instance_of, new_session, with_item}
 use Rattle.dover_model.specs.Session.{admitted_jobs}
+use Rattle.dover_model.specs.Taken.{two_versions}
 use Rattle.dover_model.specs.Run.{printed}
 use Rattle.dover_model.specs.Settled.{settled}
 use Rattle.dover_model.specs.WholeRun.{Begins}
@@ -22,7 +23,8 @@ use Rattle.dover_model.specs.Feed.{read_line, Account, Standing, Open, Ended, Fa
 use Rattle.dover_model.specs.Feed.{next_line, account_of_lines, is_open}
 use Rattle.dover_model.specs.Due.{due_lines, fault_text}
 use Rattle.dover_model.proofs.Accounts.{Holds, HoldsBy, IsKept, lines_goes, account_with}
-use Rattle.dover_model.proofs.Admitting.{admits, not_refused}
+use Rattle.admission.proofs.Joining.{admitted_valid}
+use Rattle.dover_model.proofs.Admitting.{not_refused}
 use Rattle.dover_model.proofs.Beginnings.{begins_onward}
 use Rattle.dover_model.proofs.Emitting.{texts_more, texts_job, texts_refused}
 use Rattle.dover_model.proofs.Growing.{Reads, reads_later, settled_later, settled_of_run, job_instance}
@@ -43,13 +45,13 @@ use Rattle.ready_server.specs.declared.roster_server.RosterServer.{RosterServer}
 -- ---- accounts
 
 -- an account that goes on keeps what open accounts keep of their session
-pub holds_of : (a : Account) (S : Session) → IsKept a → a.standing ≡ Open → a.session ≡ Some S → Holds S a.mark a.lines
+pub holds_of : (a : Account) (S : Session) → IsKept two_versions a → a.standing ≡ Open → a.session ≡ Some S → Holds two_versions S a.mark a.lines
 holds_of a S kept stands there =
-    subst (λ o. HoldsBy Open o a.mark a.lines) there (subst (λ x. HoldsBy x a.session a.mark a.lines) stands kept)
+    subst (λ o. HoldsBy two_versions Open o a.mark a.lines) there (subst (λ x. HoldsBy two_versions x a.session a.mark a.lines) stands kept)
 
 -- each account of lines keeps what accounts keep
-pub lines_kept : (ls : List (List ℕ)) → IsKept (account_of_lines ls)
-lines_kept ls = (lines_goes ls no_lines zero_mark).0 where
+pub lines_kept : (ls : List (List ℕ)) → IsKept two_versions (account_of_lines ls)
+lines_kept ls = (lines_goes two_versions ls no_lines zero_mark).0 where
   zero_mark : no_lines.mark ≡ 0
   zero_mark = refl
 
@@ -166,7 +168,7 @@ fits_same a b (Some v) same far fits = (
 -- ---- the ratio line
 
 -- nothing is settled where no job is admitted
-nothing_settled : (rules : Rules) → settled (instance_of (new_session rules)) 0 ≡ []
+nothing_settled : (rules : Declaration) → settled (instance_of (new_session rules)) 0 ≡ []
 nothing_settled rules = refl
 
 module _ (a b : Account) (k : Fraction) (version : Version) (stands : a.standing ≡ Open)
@@ -231,9 +233,9 @@ new_fault bytes fault a b stands (inr was) = absurd (let e = sym stands ∙ was.
 
 -- ---- lines of a feed with a session
 
-module _ (a : Account) (S : Session) (kept : IsKept a) (stands : a.standing ≡ Open) (there : a.session ≡ Some S) where
+module _ (a : Account) (S : Session) (kept : IsKept two_versions a) (stands : a.standing ≡ Open) (there : a.session ≡ Some S) where
   -- what the account keeps
-  holds : Holds S a.mark a.lines
+  holds : Holds two_versions S a.mark a.lines
   holds = holds_of a S kept stands there
 
   -- what is printed behind what is due for a
@@ -246,7 +248,7 @@ module _ (a : Account) (S : Session) (kept : IsKept a) (stands : a.standing ≡ 
 
 -- ---- a tick
 
-module _ (a b : Account) (t : ℕ) (kept : IsKept a) (stands : a.standing ≡ Open) (it : MovesMark t (counted a) b) where
+module _ (a b : Account) (t : ℕ) (kept : IsKept two_versions a) (stands : a.standing ≡ Open) (it : MovesMark t (counted a) b) where
   -- what is settled further
   pub tick_begins : Begins (settled (instance_of it.session) a.mark) (settled (instance_of it.session) t)
   tick_begins = settled_later (instance_of it.session) a.mark t
@@ -294,7 +296,7 @@ module _ (a b : Account) (t : ℕ) (kept : IsKept a) (stands : a.standing ≡ Op
 
 -- ---- a job
 
-module _ (a b : Account) (n : ℕ) (j : JobFacts) (kept : IsKept a) (stands : a.standing ≡ Open)
+module _ (a b : Account) (n : ℕ) (j : JobFacts) (kept : IsKept two_versions a) (stands : a.standing ≡ Open)
     (it : AddsJob n j (counted a) b) where
   -- the session with the job
   abbrev joined : Session
@@ -306,7 +308,7 @@ module _ (a b : Account) (n : ℕ) (j : JobFacts) (kept : IsKept a) (stands : a.
 
   -- the jobs are valid with the job
   job_valid : IsValid (with_jobs (instance_of it.session) (j ∷ []))
-  job_valid = admits it.session.rules (admitted_jobs it.session.items) j job_reads.valid job_reads.known it.admitted
+  job_valid = admitted_valid (instance_of it.session) j job_reads.valid job_reads.known it.admitted
 
   -- there are few jobs so far
   pub job_room : length (instance_of it.session).jobs + 1 ≤ most_jobs
@@ -372,7 +374,7 @@ module _ (a b : Account) (n : ℕ) (j : JobFacts) (kept : IsKept a) (stands : a.
 
 -- ---- the end
 
-module _ (a b : Account) (kept : IsKept a) (stands : a.standing ≡ Open) (it : EndsFeed (counted a) b) where
+module _ (a b : Account) (kept : IsKept two_versions a) (stands : a.standing ≡ Open) (it : EndsFeed (counted a) b) where
   -- the session's jobs are valid
   end_valid : IsValid (instance_of it.session)
   end_valid = (holds_of a it.session kept stands it.before_is).reads.valid
@@ -416,11 +418,11 @@ module _ (a b : Account) (kept : IsKept a) (stands : a.standing ≡ Open) (it : 
 
 -- ---- a refused job line
 
-module _ (a b : Account) (j : JobFacts) (cause : Refusal) (kept : IsKept a) (stands : a.standing ≡ Open)
+module _ (a b : Account) (j : JobFacts) (cause : Refusal) (kept : IsKept two_versions a) (stands : a.standing ≡ Open)
     (it : AddsRefused j cause (counted a) b) where
   -- the refused line
-  abbrev refused : RefusedJob
-  refused = record { at = a.mark; job = j; refusal = cause }
+  abbrev refused : Refused
+  refused = record { at = a.mark; line = RefusedJob j cause }
 
   -- the session is there
   refused_session : b.session ≡ Some (with_item it.session (RefusedItem refused))

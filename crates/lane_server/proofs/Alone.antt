@@ -29,7 +29,8 @@ use Rattle.lane_server.specs.Lanes.{Input, InputStanding, Open, Closed, Faulty}
 use Rattle.lane_server.specs.Lanes.{TooManyLines, BadLane, no_input, next_line, goes_on}
 use Rattle.lane_server.specs.Lanes.{input, lane_lines, lane_account}
 use Rattle.lane_server.specs.Lanes.{in_lane, lines_added, newly_due, due_after, feed_short, lane_short, shorts_from}
-use Rattle.lane_server.specs.Lanes.{fault_word, refused_line}
+use Rattle.lane_server.specs.Lanes.{fault_word}
+use Rattle.dover_model.specs.Text.{refused_line}
 use Rattle.lane_server.specs.Lanes.{closing_lines, lanes_closed}
 use Rattle.lane_server.specs.Alone.{behind_number, text_of_lane, lane_feed, closed_feed, served_alone}
 use Rattle.lane_server.proofs.Feeding.{due_added}

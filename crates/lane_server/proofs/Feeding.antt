@@ -7,6 +7,7 @@ use Rattle.dover_model.specs.declared.Memory.{Memory}
 use Rattle.dover_model.specs.Due.{due_lines}
 use Rattle.dover_model.specs.Feed.{Account, Standing, Open, Ended, Faulty, account, account_of_lines, is_open, is_ended}
 use Rattle.dover_model.specs.Feed.{next_line}
+use Rattle.dover_model.specs.Taken.{two_versions}
 use Rattle.dover_model.specs.Lines.{lines_of, rest_of, is_too_long}
 use Rattle.dover_model.specs.Session.{Session, instance_of}
 use Rattle.dover_model.specs.Settled.{settled}
@@ -42,7 +43,7 @@ pub due_added : (ls : List (List ℕ)) (l : List ℕ)
     → due_lines (account_of_lines (ls ++ l ∷ [])) ≡ due_lines (account_of_lines ls) ++ lines_added ls l
 due_added ls l =
     let grows : Begins (due_lines (account_of_lines ls)) (due_lines (next_line (account_of_lines ls) l)) =
-    (lines_goes (l ∷ []) (account_of_lines ls) (lines_kept ls)).1 in
+    (lines_goes two_versions (l ∷ []) (account_of_lines ls) (lines_kept ls)).1 in
     let whole : due_lines (account_of_lines (ls ++ l ∷ [])) ≡ due_lines (account_of_lines ls) ++ grows.0 =
     ap due_lines (account_next ls l) ∙ grows.1 in
     whole ∙ ap (λ ms. due_lines (account_of_lines ls) ++ ms) (added_is ls l grows.0 whole)

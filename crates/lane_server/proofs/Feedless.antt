@@ -11,7 +11,7 @@ use Rattle.dover_model.specs.Run.{printed}
 use Rattle.dover_model.specs.Settled.{settled}
 use Rattle.dover_model.specs.Trace.{texts_among}
 use Rattle.dover_model.specs.Feed.{Account, Standing, Open, Ended, Faulty, Cause, Lines, Line, Declared, Order}
-use Rattle.dover_model.specs.Feed.{NotAdmitted, Short, is_ended, is_open}
+use Rattle.dover_model.specs.Feed.{NotAdmitted, NotDone, Short, is_ended, is_open}
 use Rattle.dover_model.specs.Due.{due_lines, decided_lines, fault_lines, fault_text, cause_word, short_lines}
 use Rattle.dover_model.proofs.Cuts.{is_feed, HasNoFeed}
 use Rattle.dover_model.proofs.Members.{all_append}
@@ -27,6 +27,7 @@ feedless_cause Line = refl
 feedless_cause Declared = refl
 feedless_cause Order = refl
 feedless_cause (NotAdmitted refusal) = feedless_refusal refusal
+feedless_cause NotDone = refl
 feedless_cause Short = refl
 
 -- the line of a fault

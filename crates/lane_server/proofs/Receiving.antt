@@ -10,7 +10,8 @@ use Rattle.line_text.specs.Cutting as cuts
 use Rattle.lane_server.specs.Lanes as lanes
 use Rattle.lane_server.specs.Lanes.{OfLane, lane_line, Handed, Input, InputStanding, InputFault, Open, Closed, Faulty}
 use Rattle.lane_server.specs.Lanes.{HasLine, goes_on_at, goes_on, input, input_of_lines, newly_due, due_after}
-use Rattle.lane_server.specs.Lanes.{lane_count, shorts_from, refused_line, closing_lines, fault_word}
+use Rattle.lane_server.specs.Lanes.{lane_count, shorts_from, closing_lines, fault_word}
+use Rattle.dover_model.specs.Text.{refused_line}
 use Rattle.lane_server.specs.Kept as keeping
 use Rattle.lane_server.specs.Kept.{Kept, StandsFor, AllStand, Answers, IsReady, is_closed, GivesNext}
 use Rattle.lane_server.specs.LaneInput.{word_of, standing_of, LeavesAt, Holds, Stands, Rests, Hands, Adds}

@@ -7,7 +7,7 @@ use Rattle.dover_model.specs.declared.events.Version.{Version}
 use Rattle.dover_model.specs.declared.events.Refusal.{Refusal}
 use Rattle.dover_model.specs.JobFacts.{JobFacts, job_of_numbers}
 use Rattle.dover_model.specs.Fraction.{Fraction}
-use Rattle.dover_model.specs.Session.{JobItem, new_session, with_item}
+use Rattle.dover_model.specs.Session.{JobItem, RefusedJob, new_session, with_item}
 use Rattle.dover_model.specs.Feed.{Account, Open, Ended, account_of_lines, is_open, rules_with}
 use Rattle.dover_model.specs.Due.{due_lines}
 use Rattle.dover_model.specs.Text.{header, refused_text}
@@ -102,11 +102,11 @@ pub refused_adds : (lane : Lane) (release work deadline value : ℕ) (cause : Re
 refused_adds lane release work deadline value cause a b at it =
     let job = job_of_numbers release work deadline value in record {
       opened = at.opened ∙ sym (opens_by b Open (refused_stands a b job cause at.kept at.stands it));
-      rest = refused_text (record { at = a.mark; job = job; refusal = cause }) ∷ [];
+      rest = refused_text (record { at = a.mark; line = RefusedJob job cause }) ∷ [];
       due = refused_due a b job cause at.kept at.stands it;
       marked = at.marked ∙ sym (refused_mark a b job cause at.kept at.stands it);
       owes = (
-        ap (λ m. refused_text (record { at = m; job = job; refusal = cause }) ∷ []) (sym at.marked),
+        ap (λ m. refused_text (record { at = m; line = RefusedJob job cause }) ∷ []) (sym at.marked),
         refused_fits a b job cause at.kept at.stands it lane.server at.fits,
         (
           subst (λ m. m < 10 ^ 18) (sym at.marked)

@@ -3,7 +3,8 @@ use Rattle.std.specs.Prelude.{◌≡◌, ◌⊎◌, ℕ, List, [], ◌∷◌, �
 use Rattle.dover_model.specs.declared.events.Event.{Event}
 use Rattle.dover_model.specs.JobFacts.{JobFacts, job_of_numbers}
 use Rattle.dover_model.specs.Instance.{IsValid, with_jobs}
-use Rattle.dover_model.specs.Session.{JobItem, Session, instance_of, with_item}
+use Rattle.dover_model.specs.Taken.{two_versions}
+use Rattle.dover_model.specs.Session.{JobItem, RefusedJob, Session, instance_of, with_item}
 use Rattle.dover_model.specs.Text.{header, text_of, refused_text, step_numbers}
 use Rattle.dover_model.specs.Feed.{Account, Cause, Open, Faulty, account_of_lines, is_open, is_ended, rules_with}
 use Rattle.dover_model.specs.Due.{due_lines, fault_text}
@@ -48,7 +49,7 @@ abbrev pub out_text : LaneOut → List ℕ
 out_text (Header version k) = header (rules_with k version)
 out_text (Printed e) = text_of e
 out_text (Refuse at release work deadline value cause) =
-    refused_text (record { at = at; job = job_of_numbers release work deadline value; refusal = cause })
+    refused_text (record { at = at; line = RefusedJob (job_of_numbers release work deadline value) cause })
 out_text (Refused line cause) = fault_text line (cause_of_fault cause)
 
 -- its numbers have numerals
@@ -152,7 +153,7 @@ Gives (Some out) lane ls rest = (more : List (List ℕ)) × (rest ≡ out_text o
 -- the account goes on, and the lane's server has taken its session to its mark
 pub record IsOpenAt (lane : Lane) (a : Account) : Type 0 where
   pub opened : lane.is_open ≡ true
-  pub kept : IsKept a
+  pub kept : IsKept two_versions a
   pub stands : a.standing ≡ Open
   pub fits : Fits a lane.server
   pub marked : lane.mark ≡ a.mark

@@ -8,7 +8,8 @@ use Rattle.line_text.specs.Cutting as cuts
 use Rattle.lane_server.specs.Lanes as lanes
 use Rattle.lane_server.specs.Lanes.{lane_count, Handed, InputStanding, Open, Closed, Faulty, HasLine, goes_on, input}
 use Rattle.lane_server.specs.Lanes.{input_of_lines, lane_lines, in_lane, due_after, shorts_from, fault_word}
-use Rattle.lane_server.specs.Lanes.{refused_line, closing_lines}
+use Rattle.lane_server.specs.Lanes.{closing_lines}
+use Rattle.dover_model.specs.Text.{refused_line}
 use Rattle.lane_server.specs.Lane.{out_text, HasNumerals, NamesFault}
 use Rattle.lane_server.specs.Kept.{Kept, StandsFor, AllStand, IsReady, SaysShort}
 use Rattle.lane_server.specs.declared.out.LaneOut.{LaneOut}

@@ -4,6 +4,7 @@ use Rattle.std.specs.Prelude.{if◌then◌else◌, Option}
 use Rattle.std.specs.Prelude.{Some, None, codes, decimal, bytes_eq}
 use Rattle.std.specs.List.{fold, filter, flat_map, list_all, range_with_len}
 use Rattle.std.specs.Option.{option_and_then}
+use Rattle.dover_model.specs.Text.{refused_line}
 use Rattle.dover_model.specs.Limits.{most_lines}
 use Rattle.dover_model.specs.Numerals.{numeral}
 use Rattle.dover_model.specs.Lines.{lines_of, whole_lines, is_too_long, fields_of, in_lines, line_of}
@@ -150,10 +151,6 @@ shorts_from handed lane more = flat_map (lane_short handed) (range_with_len lane
 abbrev pub fault_word : InputFault → List ℕ
 fault_word TooManyLines = codes "lines"
 fault_word BadLane = codes "lane"
-
--- the line that refuses an input at this line, for this word
-abbrev pub refused_line : ℕ → List ℕ → List ℕ
-refused_line line word = line_of (codes "refused" ∷ decimal line ∷ word ∷ [])
 
 -- the last lines, where the input has so many whole lines
 abbrev pub closing_lines : ℕ → Input → List (List ℕ)

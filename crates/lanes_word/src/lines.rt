@@ -3,7 +3,8 @@ ghost use Rattle.std.specs.Prelude.{◌≡◌, ◌≤◌, ◌++◌, ◌∷◌, [
 ghost use Rattle.dover_port.specs.Causes.{HasCause, StopsAtFailure};
 ghost use Rattle.dover_port.specs.Moves.{PutsThrough};
 ghost use Rattle.lane_server.specs.Lane.{out_text, HasNumerals};
-ghost use Rattle.lane_server.specs.Lanes.{in_lane, refused_line};
+ghost use Rattle.dover_model.specs.Text.{refused_line};
+ghost use Rattle.lane_server.specs.Lanes.{in_lane};
 
 use dover_port::{Failed, Output, Port};
 use lane_server::LaneOut;

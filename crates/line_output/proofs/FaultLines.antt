@@ -2,8 +2,8 @@
 use Rattle.std.proofs.Common.{◌≤◌, ◌<◌, ◌^◌, ◌∷◌, ℕ, length, codes, decimal, length-append, arith}
 use Rattle.std.proofs.lemmas.Fmt.{length-decimal-le}
 use Rattle.line_text.specs.Writing.{with_field}
-use Rattle.dover_model.specs.Feed.{Cause, Lines, Line, Declared, Order, NotAdmitted, Short}
-use Rattle.dover_model.specs.declared.events.Refusal.TheVariants.{BadJob, Count, Total, Ratio}
+use Rattle.dover_model.specs.Feed.{Cause, Lines, Line, Declared, Order, NotAdmitted, NotDone, Short}
+use Rattle.dover_model.specs.declared.events.Refusal.TheVariants.{BadJob, Count, Total, Ratio, Late}
 use Rattle.dover_model.specs.Due.{cause_word}
 
 -- a number of 64 bits has at most twenty digits
@@ -24,6 +24,8 @@ word_size (NotAdmitted BadJob) = omega arith
 word_size (NotAdmitted Count) = omega arith
 word_size (NotAdmitted Total) = omega arith
 word_size (NotAdmitted Ratio) = omega arith
+word_size (NotAdmitted Late) = omega arith
+word_size NotDone = omega arith
 word_size Short = omega arith
 
 -- the whole line

@@ -5,7 +5,7 @@ use Rattle.std.proofs.lemmas.Fmt.{length-decimal-le}
 use Rattle.dover_model.specs.declared.events.Event.{Event}
 use Rattle.dover_model.specs.declared.events.Event.TheVariants as event
 use Rattle.dover_model.specs.declared.events.Refusal.{Refusal}
-use Rattle.dover_model.specs.declared.events.Refusal.TheVariants.{BadJob, Count, Total, Ratio}
+use Rattle.dover_model.specs.declared.events.Refusal.TheVariants.{BadJob, Count, Total, Ratio, Late}
 use Rattle.dover_model.specs.JobFacts.{job_numbers}
 use Rattle.dover_model.specs.Lines.{line_of}
 use Rattle.dover_model.specs.Numerals.{AreShort}
@@ -28,6 +28,7 @@ pub word_size : (r : Refusal) → length (refusal_word r) ≤ 5
 word_size BadJob = omega arith
 word_size Count = omega arith
 word_size Total = omega arith
+word_size Late = omega arith
 word_size Ratio = omega arith
 
 -- a refused job line

@@ -26,6 +26,7 @@ fn header_line(version: Version, k: Ratio, line: &mut BackLine)
     let number = match version {
         Version::One => 1,
         Version::Two => 2,
+        Version::Three => 3,
     };
     line.put_with_numbers(b"dover", &[number, u64::from(k.p()), u64::from(k.q())]);
 }

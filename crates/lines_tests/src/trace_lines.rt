@@ -20,6 +20,7 @@ const TRACE: &[u8] =
     job 22 530 5 550 25\npreempt 530 21 22\ncomplete 535 22\nrun 535 21\njob 23 560 20 580 2000\n\
     preempt 560 21 23\ncomplete 580 23\nrun 580 21\ncomplete 585 21\nend 8555\ntake 0 0 2\n\
     refuse 0 0 1 5 3 ratio\nrefuse 0 3 9 5 9 job\nrefuse 2 2 5 6 5 count\n\
+    refuse 5 2 5 9 5 order\n\
     refuse 1000000000000 999999999999999999 0 0 0 total\n\
     job 999999 999999999999 1 1000000000000 1000000000\nend 10000000000000\n";
 
@@ -44,7 +45,7 @@ fn lines_are_read_and_written(rt: HostRuntime) {
             assert!(rt; is_taken(lines.line()));
         }
     }
-    let holds = lines.count() == 90 && lines.rest() == 0;
+    let holds = lines.count() == 91 && lines.rest() == 0;
     assert!(rt; holds);
 }
 
@@ -151,7 +152,7 @@ const REFUSED: [&[u8]; 30] = [
     b"job 0 0 1 5 1000000001",
     b"job 0 0 1 5",
     b"refuse 0 0 1 5 3",
-    b"refuse 0 0 1 5 3 order",
+    b"refuse 0 0 1 5 3 short",
     b"refuse 0 0 1 5 3 ratio ",
 ];
 

@@ -5,6 +5,7 @@ use Rattle.std.specs.Prelude.{◌&&◌, ◌+◌, nat_le, IsTrue}
 use Rattle.std.specs.List.{sum_by, enumerate_from, AllByRecursion}
 use Rattle.std.proofs.lemmas.List.Sums.{sum_by-cons}
 use Rattle.std.proofs.lemmas.Bool.{leb-true, leb-false, lt-leb}
+use Rattle.dover_model.specs.Instance.{Rules}
 use Rattle.dover_model.specs.JobFacts.{JobFacts, IsJob}
 use Rattle.dover_model.specs.Limits.{last_tick}
 use Rattle.dover_model.specs.Sound.{Each}
@@ -49,16 +50,20 @@ pub window_shown : (jobs : List JobFacts) (answer : Feasible) (a b work : ℕ) �
     → IsAnswer jobs answer → ShowsWindow jobs a b work
 window_shown jobs answer a b work is shown = subst (λ (given : Feasible). IsAnswer jobs given) is shown
 
+-- some rules
+abbrev some_rules : Rules
+some_rules = record { ratio = record { p = 1; q = 1 }; version = One; finishes = [] }
+
 -- where there is a stretch, no schedule serves all jobs
 pub none_met : (jobs : List JobFacts) (xs : List Stretch) → Each (IsStretch jobs) xs → CanMeet jobs → xs ≡ []
 none_met jobs [] each can = refl
 none_met jobs (x ∷ xs) each can =
     let it : IsStretch jobs x = each x (inl refl) in
     absurd (overfull_excludes
-    (record { rules = record { ratio = record { p = 1; q = 1 }; version = One }; jobs = jobs }) x.from x.until
+    (record { rules = some_rules; jobs = jobs }) x.from x.until
     (work_inside jobs x.from x.until)
     (record { window = omega (arith, it.some); work = refl; too_much = it.overfull })
-    (can (record { ratio = record { p = 1; q = 1 }; version = One })))
+    (can some_rules))
 
 -- ---- what is worth all serves all
 

@@ -10,7 +10,7 @@ use Rattle.std.proofs.lemmas.Nat.{div-add-mod'}
 use Rattle.std.proofs.lemmas.Bool.{leb-true, eqb-true, and_parts}
 use Rattle.dover_model.specs.JobFacts.{JobFacts, IsJob}
 use Rattle.dover_model.specs.Fraction.{Fraction, IsRatio}
-use Rattle.dover_model.specs.Instance.{Rules, IsInOrder, IsWithinRatio, IsValid}
+use Rattle.dover_model.specs.Instance.{Declaration, IsInOrder, IsWithinRatio, IsValid}
 use Rattle.dover_model.proofs.Valid.{all_from}
 use Rattle.dover_model.proofs.Members.{all_append}
 use Rattle.periodic_tasks.specs.Tasks.{releases, job_at, released_at, jobs_before, count_before, tested_job, unrolled}
@@ -128,7 +128,7 @@ job_within until task it tick early is =
 
 -- ---- all
 
-pub unrolled_valid : (until : ℕ) (rules : Rules) (tasks : List PeriodicTask) → IsRatio rules.ratio
+pub unrolled_valid : (until : ℕ) (rules : Declaration) (tasks : List PeriodicTask) → IsRatio rules.ratio
     → AreTasks until rules.ratio tasks
     → Fits until tasks → IsValid (unrolled until rules tasks)
 unrolled_valid until rules tasks ratio are fits =

@@ -3,7 +3,7 @@ use Rattle.std.specs.Prelude.{ℕ, zero, suc, ◌+◌, ◌-◌, ◌*◌, ◌%◌
 use Rattle.std.specs.Int.{div_ceil}
 use Rattle.std.specs.List.{filter}
 use Rattle.dover_model.specs.JobFacts.{JobFacts, job_of_numbers}
-use Rattle.dover_model.specs.Instance.{Rules, Instance}
+use Rattle.dover_model.specs.Instance.{Declaration, under, Instance}
 use Rattle.periodic_tasks.specs.declared.task.PeriodicTask.{PeriodicTask}
 
 -- ---- the jobs of tasks
@@ -36,5 +36,5 @@ abbrev pub tested_job : (until : ℕ) → PeriodicTask → JobFacts
 tested_job until task = job_at task (task.offset + (count_before until task - 1) * task.period)
 
 -- the jobs that the tasks release before a tick, under these rules
-abbrev pub unrolled : (until : ℕ) → Rules → List PeriodicTask → Instance
-unrolled until rules tasks = record { rules = rules; jobs = jobs_before until tasks }
+abbrev pub unrolled : (until : ℕ) → Declaration → List PeriodicTask → Instance
+unrolled until rules tasks = record { rules = under rules []; jobs = jobs_before until tasks }

@@ -4,7 +4,7 @@ use Rattle.std.specs.Prelude.{◌||◌, ◌&&◌, ◌==◌}
 use Rattle.dover_model.specs.Limits.{most_value}
 use Rattle.dover_model.specs.declared.events.Entry.{Entry}
 use Rattle.dover_model.specs.declared.events.Version.{Version}
-use Rattle.dover_model.specs.declared.events.Version.TheVariants.{One, Two}
+use Rattle.dover_model.specs.declared.events.Version.TheVariants.{One, Two, Three}
 use Rattle.dover_model.specs.Entries.{wins_tie}
 use Rattle.place_heap.specs.Items.{less_or}
 use Rattle.place_heap.specs.Orders.{tie_of, AreOrderedAs}
@@ -20,6 +20,7 @@ ties_agree : (v : Version) (a b : Entry) (t : Bool) → a.number ≢ b.number �
     → less_or (tie_of v a.value) (tie_of v b.value) (less_or a.number b.number t) ≡ wins_tie v a b
 ties_agree One a b t apart a_fits b_fits = tie_one a.number b.number t apart
 ties_agree Two a b t apart a_fits b_fits = tie_two most_value a.value b.value a.number b.number t a_fits b_fits apart
+ties_agree Three a b t apart a_fits b_fits = tie_two most_value a.value b.value a.number b.number t a_fits b_fits apart
 
 pub ordered_as : (v : Version) (a b : Entry) (p q : ℕ) → a.number ≢ b.number → a.value ≤ most_value
     → b.value ≤ most_value

@@ -1,5 +1,5 @@
 -- What the word `best` says is what was found.
-use Rattle.std.proofs.Common.{◌≡◌, ◌≤◌, ◌<◌, ℕ, List, length, sym, ap, ◌∙◌, subst, codes}
+use Rattle.std.proofs.Common.{◌≡◌, ◌≤◌, ◌<◌, ℕ, List, [], length, sym, ap, ◌∙◌, subst, codes}
 use Rattle.best_set.specs.BestSet.{IsBestSet, value_of, pieces_of}
 use Rattle.dover_model.specs.Bound.{bound}
 use Rattle.dover_model.specs.Instance.{Rules, Instance, IsValid}
@@ -8,7 +8,7 @@ use Rattle.dover_model.specs.Pieces.{spread}
 use Rattle.dover_model.specs.Run.{completed_value, ran}
 use Rattle.dover_model.specs.Schedules.{worth}
 use Rattle.dover_model.specs.declared.pieces.Piece.{Piece}
-use Rattle.dover_model.proofs.Honest.{honest}
+use Rattle.dover_model.proofs.Honest.{plain_honest}
 use Rattle.dover_port.specs.declared.status.Status.TheVariants.{Done}
 use Rattle.question_words.specs.Best.{SaysBest, IsOptimum}
 use Rattle.question_words.specs.Texts.{piece_lines}
@@ -24,7 +24,7 @@ pub record Finds (jobs : List JobFacts) (chosen : List ℕ) (optimum : ℕ) (pie
   pub earned : (rules : Rules) → worth (record { rules = rules; jobs = jobs }) (spread pieces) ≡ optimum
   pub most : (rules : Rules) (s : List ℕ) → worth (record { rules = rules; jobs = jobs }) s ≤ optimum
 
-module _ (J : Instance) (valid : IsValid J) where
+module _ (J : Instance) (valid : IsValid J) (plain : J.rules.finishes ≡ []) where
   module _ (chosen : List ℕ) (optimum : ℕ) (pieces : List Piece) (it : Finds J.jobs chosen optimum pieces) where
     -- the schedule of the pieces is worth what the set is
     worth_is : worth J (spread (pieces_of J.jobs chosen)) ≡ value_of J.jobs chosen
@@ -40,7 +40,7 @@ module _ (J : Instance) (valid : IsValid J) where
       best = it.best;
       earned = worth_is;
       most = most_is;
-      above = subst (λ v. v ≤ value_of J.jobs chosen) (honest J valid) (most_is (ran J));
+      above = subst (λ v. v ≤ value_of J.jobs chosen) (plain_honest J valid plain) (most_is (ran J));
       within = subst (λ v. v ≤ bound J.rules.ratio (completed_value J)) worth_is
           (worth_low J valid (spread (pieces_of J.jobs chosen)));
     }

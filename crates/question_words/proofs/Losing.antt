@@ -1,6 +1,6 @@
 -- What the word `loss` says is what was found.
 use Rattle.std.proofs.Common.{◌≡◌, ◌≤◌, ◌<◌, ◌+◌, ℕ, List, length, map, ap, ◌∙◌, sym, subst, codes, Bool, true, false}
-use Rattle.std.proofs.Common.{refl}
+use Rattle.std.proofs.Common.{refl, []}
 use Rattle.std.proofs.Common.{cond, arith}
 use Rattle.std.specs.Prelude.{◌&&◌}
 use Rattle.std.specs.List.{sum_by}
@@ -8,7 +8,7 @@ use Rattle.dover_model.specs.Bound.{bound}
 use Rattle.dover_model.specs.Instance.{Instance, IsValid, total_value}
 use Rattle.dover_model.specs.JobFacts.{JobFacts}
 use Rattle.dover_model.specs.Run.{completed_value, ran}
-use Rattle.dover_model.proofs.Honest.{honest}
+use Rattle.dover_model.proofs.Honest.{plain_honest}
 use Rattle.dover_model.proofs.Members.{map_same, sum_le, sum_filter}
 use Rattle.dover_model.proofs.Parting.{worth_to}
 use Rattle.dover_model.proofs.Runs.{all_value}
@@ -36,14 +36,14 @@ rows_same jobs f g same xs = map_same (row_of jobs f) (row_of jobs g) xs
       with_value x v = record { from = x.from; until = x.until; total = x.total; cap = x.cap; value = v }
 
 -- what a run completes inside a stretch is at most its cap
-value_below : (J : Instance) → IsValid J → (x : Stretch) → IsCapped J.jobs x
+value_below : (J : Instance) → IsValid J → J.rules.finishes ≡ [] → (x : Stretch) → IsCapped J.jobs x
     → value_inside J.jobs (is_completed J) x.from x.until ≤ x.cap
-value_below J valid x capped =
+value_below J valid plain x capped =
     let inside : Job → Bool = λ n_j. is_inside x.from x.until n_j.1 in
     let done : Job → ℕ = λ n_j. cond (inside n_j && is_completed J n_j.0) n_j.1.value 0 in
     let less : sum_by done (numbered J) ≤ sum_by (λ n_j. cond (inside n_j) (worth_to (ran J) n_j) 0) (numbered J) =
     sum_le done (λ n_j. cond (inside n_j) (worth_to (ran J) n_j) 0) (numbered J)
-    (λ n_j member. by_tests n_j (inside n_j) (is_completed J n_j.0) (completed_served J valid n_j member)) in
+    (λ n_j member. by_tests n_j (inside n_j) (is_completed J n_j.0) (completed_served J valid plain n_j member)) in
     omega (
       arith,
       less,
@@ -56,7 +56,7 @@ value_below J valid x capped =
       by_tests n_j true false served = omega arith
       by_tests n_j true true served = subst (λ d. n_j.1.value ≤ cond d n_j.1.value 0) (sym (served refl)) (omega arith)
 
-module _ (J : Instance) (valid : IsValid J) (costed : Costed) where
+module _ (J : Instance) (valid : IsValid J) (plain : J.rules.finishes ≡ []) (costed : Costed) where
   -- the rows of what was found, as they are said
   pub rows_said : (jobs : List JobFacts) → jobs ≡ J.jobs → (xs : List Stretch) → xs ≡ costed.stretches.items
       → (done : ℕ → Bool) → ((n : ℕ) → n < length J.jobs → done n ≡ is_completed J n)
@@ -77,8 +77,8 @@ module _ (J : Instance) (valid : IsValid J) (costed : Costed) where
         costed,
         record {
           costed = it;
-          above = subst (λ v. v ≤ costed.cap) (honest J valid) (it.most J.rules (ran J));
-          each = λ x member. value_below J valid x ((it.each x member).cap);
+          above = subst (λ v. v ≤ costed.cap) (plain_honest J valid plain) (it.most J.rules (ran J));
+          each = λ x member. value_below J valid plain x ((it.each x member).cap);
           all = λ none. (
             it.sum ∙ ap (λ xs. value_outside J.jobs xs + sum_by (λ (x : Stretch). x.cap) xs) none
                 ∙ let e : total_value J.jobs + 0 ≡ total_value J.jobs = omega arith in e,

@@ -34,7 +34,7 @@ worked = record {
   room = 4;
 }
 
-takes_next : open_step (record { ratio = record { p = 1; q = 1 }; version = One }) (state_of worked)
+takes_next : open_step (record { ratio = record { p = 1; q = 1 }; version = One; finishes = [] }) (state_of worked)
     ≡ Prints (Take 2 1 2)
 takes_next = refl
 

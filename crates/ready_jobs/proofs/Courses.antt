@@ -14,7 +14,7 @@ use Rattle.dover_model.specs.declared.events.Role.TheVariants.{Fresh}
 use Rattle.dover_model.specs.declared.events.Event.{Event}
 use Rattle.dover_model.specs.declared.events.Event.TheVariants.{Release, Run, Preempt, Take, Complete, Abandon, End}
 use Rattle.dover_model.specs.declared.events.Task.{Task}
-use Rattle.dover_model.specs.Instance.{Rules, Instance, IsValid, total_value}
+use Rattle.dover_model.specs.Instance.{Rules, Declaration, under, Instance, IsValid, total_value}
 use Rattle.dover_model.specs.State.{State, opening, is_over, is_done, value_sum}
 use Rattle.dover_model.specs.Step.{Move, Prints, Waits, Ticks, step, open_step, after, with_role}
 use Rattle.dover_model.specs.Run.{event_of, is_end, last_deadline}
@@ -55,11 +55,11 @@ no_items [] none = refl
 no_items (x ∷ xs) none = absurd (omega arith)
 
 -- the course of no jobs
-pub new_follows : (rules : Rules) (room : ℕ) → IsRatio rules.ratio
-    → Follows (new_course rules room) (record { rules = rules; jobs = [] }) (opening [])
+pub new_follows : (rules : Declaration) (room : ℕ) → IsRatio rules.ratio
+    → Follows (new_course rules room) (record { rules = under rules []; jobs = [] }) (opening [])
 new_follows rules room ratio = record {
   valid = record { ratio = ratio; each = tt; in_order = tt; count = omega arith; total = omega arith; densities = tt };
-  keeps = opening_keeps (record { rules = rules; jobs = [] });
+  keeps = opening_keeps (record { rules = under rules []; jobs = [] });
   rules = refl;
   clock = refl;
   ready = same_order [];
@@ -154,17 +154,17 @@ follows_order c ready J z follows same = record {
 }
 
 -- with other rules, where no job was released
-pub declared_course : (c : Course) (rules : Rules) → IsCourse c → c.jobs ≡ 0 → IsRatio rules.ratio
+pub declared_course : (c : Course) (rules : Declaration) → IsCourse c → c.jobs ≡ 0 → IsRatio rules.ratio
     → IsCourse (record c { rules = rules })
 declared_course c rules old none ratio =
     let J : Instance = old.0 in
     let z : State = old.1 in
     let follows : Follows c J z = old.2 in
     let empty : [] ≡ J.jobs = sym (no_items J.jobs (sym (follows_count c J z follows) ∙ none)) in (
-      record { rules = rules; jobs = J.jobs },
+      record { rules = under rules []; jobs = J.jobs },
       z,
       record {
-        valid = subst (λ jobs. IsValid (record { rules = rules; jobs = jobs })) empty (new_follows rules 0 ratio).valid;
+        valid = subst (λ jobs. IsValid (record { rules = under rules []; jobs = jobs })) empty (new_follows rules 0 ratio).valid;
         keeps = record { sound = follows.keeps.sound; jobs = follows.keeps.jobs };
         rules = refl;
         clock = follows.clock;
@@ -184,14 +184,14 @@ none_keeps rules valid clock =
 
 -- where none is ready, the course is also kept of no jobs
 pub renewed_follows : (c : Course) → IsCourse c → length c.ready ≡ 0
-    → Follows (record c { jobs = 0; done = 0 }) (record { rules = c.rules; jobs = [] })
+    → Follows (record c { jobs = 0; done = 0 }) (record { rules = under c.rules []; jobs = [] })
     (record { clock = c.clock; tasks = [] })
 renewed_follows c old none =
     let ratio : IsRatio c.rules.ratio =
     subst (λ (rules : Rules). IsRatio rules.ratio) old.2.rules old.2.valid.ratio in
-    let valid : IsValid (record { rules = c.rules; jobs = [] }) = (new_follows c.rules 0 ratio).valid in record {
+    let valid : IsValid (record { rules = under c.rules []; jobs = [] }) = (new_follows c.rules 0 ratio).valid in record {
       valid = valid;
-      keeps = none_keeps c.rules valid c.clock;
+      keeps = none_keeps (under c.rules []) valid c.clock;
       rules = refl;
       clock = refl;
       ready = subst (λ (ts : List Task). IsReordered ts c.ready) (no_items c.ready none) (same_order c.ready);
@@ -203,7 +203,7 @@ renewed_follows c old none =
 
 pub renewed_course : (c : Course) → IsCourse c → length c.ready ≡ 0 → IsCourse (record c { jobs = 0; done = 0 })
 renewed_course c old none = (
-  record { rules = c.rules; jobs = [] },
+  record { rules = under c.rules []; jobs = [] },
   record { clock = c.clock; tasks = [] },
   renewed_follows c old none,
 )
@@ -253,7 +253,7 @@ module _ (k : Fraction) (p : Parted) (jobs done : ℕ) (J : Instance) (z : State
   }
 
   -- with the next open step
-  pub follows_step : open_step (record { ratio = k; version = p.version }) (state_of p) ≡ open_step J.rules z
+  pub follows_step : open_step (record { ratio = k; version = p.version; finishes = [] }) (state_of p) ≡ open_step J.rules z
   follows_step = ap (λ r. open_step r (state_of p)) (sym follows.rules) ∙ part_step p J z follows_part
 
   module _ (q : Parted) (more : ℕ) (y : State) (part : PartOf q J y) (version : q.version ≡ p.version)
@@ -264,7 +264,7 @@ module _ (k : Fraction) (p : Parted) (jobs done : ℕ) (J : Instance) (z : State
     follows_on = record {
       valid = follows.valid;
       keeps = part.keeps;
-      rules = follows.rules ∙ ap (λ v. record { ratio = k; version = v }) (sym version);
+      rules = follows.rules ∙ ap (λ v. record { ratio = k; version = v; finishes = [] }) (sym version);
       clock = part.clock;
       ready = part.ready;
       jobs = sym (count_jobs y.tasks) ∙ ap length (part.keeps.jobs ∙ sym follows.keeps.jobs) ∙ count_jobs z.tasks
@@ -276,7 +276,7 @@ module _ (k : Fraction) (p : Parted) (jobs done : ℕ) (J : Instance) (z : State
 
 -- they are a part of some whole
 pub course_part : (k : Fraction) (p : Parted) (jobs done : ℕ) → IsCourse (course_of k p jobs done)
-    → IsPart (record { ratio = k; version = p.version }) p
+    → IsPart (record { ratio = k; version = p.version; finishes = [] }) p
 course_part k p jobs done old =
     (old.0, old.1, follows_part k p jobs done old.0 old.1 old.2, old.2.rules)
 
@@ -290,9 +290,9 @@ same_done k q jobs done J y follows =
 
 module _ (k : Fraction) (p q : Parted) (jobs done mark : ℕ) (m : Move) (version : q.version ≡ p.version)
     (some : 0 < length (ready_of p))
-    (settles : (J : Instance) (z : State) → J.rules ≡ record { ratio = k; version = p.version } → PartOf p J z
+    (settles : (J : Instance) (z : State) → J.rules ≡ record { ratio = k; version = p.version; finishes = [] } → PartOf p J z
     → SettlesTo q J z mark)
-    (comes : m ≡ open_step (record { ratio = k; version = q.version }) (state_of q))
+    (comes : m ≡ open_step (record { ratio = k; version = q.version; finishes = [] }) (state_of q))
     (stops : IsSilent m → (m ≡ Ticks) × (mark ≤ q.clock))
     (low : q.clock ≤ mark) (known : mark ≤ last_tick) where
   -- the silent steps of the ready jobs are those of all
@@ -456,7 +456,7 @@ silent_settled c J z mark m n reached is silent =
 -- ---- printed steps
 
 module _ (k : Fraction) (p q : Parted) (jobs done worth : ℕ) (e : Event)
-    (prints : open_step (record { ratio = k; version = p.version }) (state_of p) ≡ Prints e)
+    (prints : open_step (record { ratio = k; version = p.version; finishes = [] }) (state_of p) ≡ Prints e)
     (version : q.version ≡ p.version) (clock : q.clock ≡ p.clock)
     (leaves : Leaves (change (Prints e)) (ready_of p) (ready_of q) worth) where
   -- the course after a printed step

@@ -6,6 +6,8 @@ use Rattle.std.specs.Option.{option_to_list, option_map}
 use Rattle.std.specs.List.{AllByRecursion, filter}
 use Rattle.std.proofs.lemmas.Bool.{lt-leb, ltb-true, ltb-false}
 use Rattle.std.proofs.lemmas.List.{map-append}
+use Rattle.dover_model.specs.Step.{due_finish, declared_open_step}
+use Rattle.dover_model.proofs.Finishing.{not_complete}
 use Rattle.dover_model.specs.JobFacts.{IsJob}
 use Rattle.dover_model.specs.declared.events.Event.{Event}
 use Rattle.dover_model.specs.declared.events.Role.{Role}
@@ -436,7 +438,8 @@ module _ (p : Parted) (roles : HaveRoles p) where
   -- where no job is fresh, no step is a wait
   pub stale_no_wait : (rules : Rules) → p.fresh ≡ None → (n : ℕ) → open_step rules (state_of p) ≡ Waits n → ⊥
   stale_no_wait rules stale n is =
-      let it = waits_says rules.ratio (view rules.version (state_of p)) n is in
+      let it = waits_says rules.ratio (view rules.version (state_of p)) n
+      (not_complete p.clock (due_finish rules.finishes (state_of p)) _ (Waits n) is refl) in
       none_is_some (sym (seen_fresh p roles ∙ stale) ∙ it.1)
 
   -- so a silent step is a tick
@@ -453,15 +456,15 @@ module _ (p : Parted) (roles : HaveRoles p) (rules : Rules) (mark n : ℕ) (low 
   jump_low = let most : still_ticks (mark - p.clock) (state_of p) ≤ mark - p.clock =
       still_within (state_of p) (mark - p.clock) in omega (arith, low, is, most)
 
-  pub jump_silent : open_step rules (state_of p) ≡ Ticks → (k : ℕ) → k < n
-      → open_step rules (later_by k (state_of p)) ≡ Ticks
+  pub jump_silent : declared_open_step rules (state_of p) ≡ Ticks → (k : ℕ) → k < n
+      → declared_open_step rules (later_by k (state_of p)) ≡ Ticks
   jump_silent ticks k less = still_silent rules (state_of p) (mark - p.clock) ticks k (omega (arith, less, is))
 
-  pub jump_reaches : open_step rules (state_of (parts_later n p)) ≡ Ticks → mark ≤ p.clock + n
+  pub jump_reaches : declared_open_step rules (state_of (parts_later n p)) ≡ Ticks → mark ≤ p.clock + n
   jump_reaches again = by_test (nat_lt n (mark - p.clock)) refl where
     by_test : (b : Bool) → nat_lt n (mark - p.clock) ≡ b → mark ≤ p.clock + n
     by_test true below = absurd
         (still_due rules (state_of p) (mark - p.clock) (subst (λ m. m < mark - p.clock) is (ltb-true _ _ below))
-        (subst (λ m. open_step rules (later_by m (state_of p)) ≡ Ticks) is
-        (ap (open_step rules) (sym (later_parts n p roles)) ∙ again)))
+        (subst (λ m. declared_open_step rules (later_by m (state_of p)) ≡ Ticks) is
+        (ap (declared_open_step rules) (sym (later_parts n p roles)) ∙ again)))
     by_test false above = let far : mark - p.clock ≤ n = ltb-false _ _ above in omega arith

@@ -13,7 +13,7 @@ use Rattle.dover_model.specs.Sound.{Each, IsMember}
 use Rattle.ready_jobs.proofs.Deciding.{busy, free, busy_is, free_is}
 use Rattle.dover_model.specs.declared.events.Event.TheVariants.{Preempt, Release}
 use Rattle.dover_model.specs.Step.{View, Prints, Waits, Ticks, Move, ◌or_else◌, arrival, alarm, preempts, view, runs}
-use Rattle.dover_model.specs.Step.{open_step, urgent_or, is_at_latest_start, completion, dispatch, decision}
+use Rattle.dover_model.specs.Step.{declared_open_step, urgent_or, is_at_latest_start, completion, dispatch, decision}
 use Rattle.dover_model.specs.Fraction.{Fraction}
 use Rattle.dover_model.proofs.Members.{some_same, by_bool, filter_member, member_filter, reduce_none, filter_none}
 use Rattle.dover_model.proofs.Members.{found, on_map, map_member}
@@ -106,7 +106,7 @@ module _ (rules : Rules) (s : State) where
   v = view rules.version s
 
   -- where a tick is next, nothing is due
-  tick_still : open_step rules s ≡ Ticks → Still s
+  tick_still : declared_open_step rules s ≡ Ticks → Still s
   tick_still ticks = by_running (running s) refl where
     by_running : (o : Option Task) → running s ≡ o → Still s
     by_running (Some r) runs =
@@ -167,7 +167,7 @@ module _ (rules : Rules) (s : State) where
         still.stale (none_arrives (find is_coming s.tasks) refl))
 
 -- where an open step is a tick, nothing else is next
-pub tick_rests : (rules : Rules) (s : State) (other : Move) → open_step rules s ≡ Ticks
+pub tick_rests : (rules : Rules) (s : State) (other : Move) → declared_open_step rules s ≡ Ticks
     → urgent_or rules.ratio (view rules.version s) other ≡ other
 tick_rests rules s other ticks = still_rests rules s other (tick_still rules s ticks)
 
@@ -183,14 +183,14 @@ or_same None None None None (Some m) x y = inl refl
 or_same None None None None None x y = inr refl
 
 -- where an open step is none, it is next whatever else may be done
-pub urgent_is : (rules : Rules) (s : State) (other : Move) → (open_step rules s ≡ Ticks → ⊥)
-    → urgent_or rules.ratio (view rules.version s) other ≡ open_step rules s
+pub urgent_is : (rules : Rules) (s : State) (other : Move) → (declared_open_step rules s ≡ Ticks → ⊥)
+    → urgent_or rules.ratio (view rules.version s) other ≡ declared_open_step rules s
 urgent_is rules s other some = let v = view rules.version s in by_case
     (or_same (completion v v.running) (dispatch v v.running v.first_held v.first_waiting) (decision v v.running v.fresh)
     (arrival_of v)
     (alarm rules.ratio v v.running v.must_start) Ticks other) where
-      by_case : (open_step rules s ≡ urgent_or rules.ratio (view rules.version s) other) ⊎ (open_step rules s ≡ Ticks)
-          → urgent_or rules.ratio (view rules.version s) other ≡ open_step rules s
+      by_case : (declared_open_step rules s ≡ urgent_or rules.ratio (view rules.version s) other) ⊎ (declared_open_step rules s ≡ Ticks)
+          → urgent_or rules.ratio (view rules.version s) other ≡ declared_open_step rules s
       by_case (inl same) = sym same
       by_case (inr ticks) = absurd (some ticks)
 
@@ -471,12 +471,12 @@ module _ (s : State) (n : ℕ) where
 
 module _ (rules : Rules) (s : State) (most : ℕ) where
   -- before the jump ends a silent tick is next
-  pub silent : open_step rules s ≡ Ticks → (n : ℕ) → n < still_ticks most s → open_step rules (later_by n s) ≡ Ticks
+  pub silent : declared_open_step rules s ≡ Ticks → (n : ℕ) → n < still_ticks most s → declared_open_step rules (later_by n s) ≡ Ticks
   silent ticks n early = still_rests rules (later_by n s) Ticks
       (still_on s n most (still_ticks most s) (dues s most) (tick_still rules s ticks) early)
 
   -- where it ends early, another step is next
-  pub due : still_ticks most s < most → open_step rules (later_by (still_ticks most s) s) ≡ Ticks → ⊥
+  pub due : still_ticks most s < most → declared_open_step rules (later_by (still_ticks most s) s) ≡ Ticks → ⊥
   due less ticks = due_on s (still_ticks most s) most (dues s most)
       (tick_still rules (later_by (still_ticks most s) s) ticks) less
 

@@ -6,7 +6,7 @@ use Rattle.std.proofs.lemmas.List.{append-nil, length-append}
 use Rattle.std.proofs.lemmas.List.Elements.{filter-append}
 use Rattle.dover_model.specs.Limits.{last_tick}
 use Rattle.dover_model.specs.JobFacts.{JobFacts}
-use Rattle.dover_model.specs.Instance.{Rules, Instance, IsValid}
+use Rattle.dover_model.specs.Instance.{Rules, under, Instance, IsValid}
 use Rattle.dover_model.specs.State.{State, is_coming, is_done, value_sum, state_at}
 use Rattle.dover_model.specs.Step.{open_step}
 use Rattle.dover_model.specs.Sound.{Each, Keeps}
@@ -31,7 +31,7 @@ module _ (c : Course) (J : Instance) (z : State) (follows : Follows c J z) where
   }
 
   -- the next open step is that of all jobs
-  pub follows_opens : open_step c.rules (state_at c.clock c.ready) ≡ open_step J.rules z
+  pub follows_opens : open_step (under c.rules []) (state_at c.clock c.ready) ≡ open_step J.rules z
   follows_opens = ap (λ r. open_step r (state_at c.clock c.ready)) (sym follows.rules)
       ∙ part_step together J z (record {
         valid = follows.valid;

@@ -5,6 +5,8 @@ use Rattle.std.specs.Prelude.{Option, Some, None}
 use Rattle.std.specs.Option.{option_to_list, option_map}
 use Rattle.std.specs.List.{filter}
 use Rattle.std.proofs.lemmas.List.{length-append}
+use Rattle.dover_model.specs.Step.{due_finish}
+use Rattle.dover_model.proofs.Finishing.{not_complete}
 use Rattle.dover_model.specs.Fraction.{Fraction}
 use Rattle.dover_model.specs.Instance.{Rules}
 use Rattle.dover_model.specs.declared.events.Role.TheVariants.{Waiting}
@@ -33,10 +35,10 @@ use Rattle.ready_jobs.proofs.Following.{ticks_early, had_fits, stale_ticks, role
 
 -- what holds in some state holds where silent steps lead
 pub part_after : (k : Fraction) (mark : ℕ) (p q : Parted) → q.version ≡ p.version → SettlesFrom k mark p q
-    → IsPart (record { ratio = k; version = p.version }) p → IsPart (record { ratio = k; version = q.version }) q
+    → IsPart (record { ratio = k; version = p.version; finishes = [] }) p → IsPart (record { ratio = k; version = q.version; finishes = [] }) q
 part_after k mark p q version settles old =
     let it : SettlesTo q old.0 old.1 mark = settles old.0 old.1 old.3 old.2 in
-    (old.0, it.state, it.part, old.3 ∙ ap (λ v. record { ratio = k; version = v }) (sym version))
+    (old.0, it.state, it.part, old.3 ∙ ap (λ v. record { ratio = k; version = v; finishes = [] }) (sym version))
 
 -- what the machine has to know of the jobs
 pub known_sound : (rules : Rules) (p : Parted) → HaveRoles p → IsPart rules p → AreSound p
@@ -55,7 +57,7 @@ pub from_on : (k : Fraction) (mark : ℕ) (p q r : Parted) → q.version ≡ p.v
 from_on k mark p q r version one next J z rules part =
     let it : SettlesTo q J z mark = one J z rules part in
     settles_on q r J z mark it
-    (next J it.state (rules ∙ ap (λ v. record { ratio = k; version = v }) (sym version)) it.part)
+    (next J it.state (rules ∙ ap (λ v. record { ratio = k; version = v; finishes = [] }) (sym version)) it.part)
 
 -- ---- the fresh job waits
 
@@ -66,7 +68,8 @@ module _ (p : Parted) (roles : HaveRoles p) (rules : Rules) (n : ℕ)
     (waits : open_step rules (state_of p) ≡ Waits n) where
   -- one is fresh, of that number
   pub waits_fresh : (g : Task) × (p.fresh ≡ Some g) × (g.number ≡ n)
-  waits_fresh = let it = waits_says rules.ratio (view rules.version (state_of p)) n waits in
+  waits_fresh = let it = waits_says rules.ratio (view rules.version (state_of p)) n
+      (not_complete p.clock (due_finish rules.finishes (state_of p)) _ (Waits n) waits refl) in
       (it.0, sym (seen_fresh p roles) ∙ it.1, it.2)
 
   pub fresh_named : (f : Task) → p.fresh ≡ Some f → f.number ≡ n
@@ -78,32 +81,32 @@ abbrev pub Stayed : Parted → Parted → Type 0
 Stayed p q = (f : Task) × (p.fresh ≡ Some f) × IsReordered (with_role f Waiting ∷ p.waiting) q.waiting
 
 pub waits_settles : (k : Fraction) (mark : ℕ) (p q : Parted) (n : ℕ) → HaveRoles p
-    → open_step (record { ratio = k; version = p.version }) (state_of p) ≡ Waits n → Stayed p q
+    → open_step (record { ratio = k; version = p.version; finishes = [] }) (state_of p) ≡ Waits n → Stayed p q
     → q ≡ record p { fresh = None; waiting = q.waiting } → SettlesFrom k mark p q
 waits_settles k mark p q n roles waits it kept J z rules part =
     settles_one p q J z mark (Waits n) part
     (sym (part_step p J z part) ∙ ap (λ r. open_step r (state_of p)) rules ∙ waits) refl refl
     (ap (λ (r : Parted). r.version) kept) (part.clock ∙ sym (ap (λ (r : Parted). r.clock) kept))
     (subst (λ m. Leaves (change (Waits m)) (ready_of p) (ready_of q) 0)
-    (fresh_named p roles (record { ratio = k; version = p.version }) n waits it.0 it.1)
+    (fresh_named p roles (record { ratio = k; version = p.version; finishes = [] }) n waits it.0 it.1)
     (subst (λ r. Leaves (change (Waits it.0.number)) (ready_of p) (ready_of r) 0) (sym kept)
     (stays p roles (ready_once p J z part) it.0 q.waiting it.1 it.2)))
 
 -- ---- silent ticks
 
 pub ticks_settle : (k : Fraction) (mark n : ℕ) (p q : Parted) → HaveRoles p
-    → open_step (record { ratio = k; version = p.version }) (state_of p) ≡ Ticks
+    → open_step (record { ratio = k; version = p.version; finishes = [] }) (state_of p) ≡ Ticks
     → n ≡ still_ticks (mark - p.clock) (state_of p) → p.clock ≤ mark → q ≡ parts_later n p → SettlesFrom k mark p q
 ticks_settle k mark n p q roles ticks is low later J z rules part =
     subst (λ r. SettlesTo r J z mark) (sym later)
     (jumps p roles J z part n mark
     (λ i less. ap (λ r. open_step r (later_by i (state_of p))) rules
-    ∙ jump_silent p roles (record { ratio = k; version = p.version }) mark n low is ticks i less)
-    (jump_low p roles (record { ratio = k; version = p.version }) mark n low is))
+    ∙ jump_silent p roles (record { ratio = k; version = p.version; finishes = [] }) mark n low is ticks i less)
+    (jump_low p roles (record { ratio = k; version = p.version; finishes = [] }) mark n low is))
 
 -- what is known of the jobs where a silent tick is next
-module _ (k : Fraction) (p : Parted) (roles : HaveRoles p) (old : IsPart (record { ratio = k; version = p.version }) p)
-    (ticks : open_step (record { ratio = k; version = p.version }) (state_of p) ≡ Ticks) where
+module _ (k : Fraction) (p : Parted) (roles : HaveRoles p) (old : IsPart (record { ratio = k; version = p.version; finishes = [] }) p)
+    (ticks : open_step (record { ratio = k; version = p.version; finishes = [] }) (state_of p) ≡ Ticks) where
   next_ticks : open_step old.0.rules (state_of p) ≡ Ticks
   next_ticks = ap (λ r. open_step r (state_of p)) old.3 ∙ ticks
 
@@ -129,7 +132,7 @@ module _ (p : Parted) (roles : HaveRoles p) (sound : AreSound p) (n : ℕ) (some
       (λ same. let far = ahead x at in omega (arith, same, some, far))
 
   busy_ticks : (k : Fraction) (r : Task) → p.running ≡ Some r → p.fresh ≡ None → n ≤ left r
-      → open_step (record { ratio = k; version = p.version }) (state_of p) ≡ Ticks
+      → open_step (record { ratio = k; version = p.version; finishes = [] }) (state_of p) ≡ Ticks
   busy_ticks k r runs stale busy =
       ticks_next k (view p.version (state_of p)) r (seen_running p roles ∙ runs) (omega (arith, some, busy))
       (seen_fresh p roles ∙ stale) (seen_coming p roles)
@@ -153,7 +156,7 @@ zero_later p =
 
 module _ (k : Fraction) (mark n : ℕ) (p : Parted) (roles : HaveRoles p) where
   abbrev rules_here : Rules
-  rules_here = record { ratio = k; version = p.version }
+  rules_here = record { ratio = k; version = p.version; finishes = [] }
 
   -- as many ticks as come, where one does, otherwise none
   pub data Jump : Type 0 where

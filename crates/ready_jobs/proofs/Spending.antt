@@ -4,11 +4,14 @@ use Rattle.std.proofs.Common.{refl, ◌∙◌, subst, true, arith}
 use Rattle.std.specs.List.{sum_by}
 use Rattle.std.proofs.lemmas.List.Sums.{length-filter}
 use Rattle.std.proofs.lemmas.Nat.{mul-le}
+use Rattle.dover_model.specs.Instance.{bare}
+use Rattle.dover_model.specs.WaitingMoves.{leaves}
+use Rattle.dover_model.proofs.Finishing.{plain_open_step}
 use Rattle.dover_model.specs.declared.events.Event.{Event}
 use Rattle.dover_model.specs.declared.events.Task.{Task}
 use Rattle.dover_model.specs.Fraction.{Fraction}
 use Rattle.dover_model.specs.JobFacts.{JobFacts}
-use Rattle.dover_model.specs.Instance.{Instance, IsValid}
+use Rattle.dover_model.specs.Instance.{Rules, Instance, IsValid}
 use Rattle.dover_model.specs.Sound.{Keeps}
 use Rattle.dover_model.specs.State.{State, is_waiting, is_over, state_at}
 use Rattle.dover_model.specs.Step.{Move, Prints, open_step, after, with_role}
@@ -50,10 +53,10 @@ over_weighs clock w t over = elim (is_over_role t over) [
   | inr e ↦ ap (λ role. weight_in exits_scale role clock w t) e
 ]
 
-over_stands : (t : Task) → is_over t ≡ true → stands t ≡ 0
+over_stands : (t : Task) → is_over t ≡ true → stands [] t ≡ 0
 over_stands t over = elim (is_over_role t over) [
-  | inl e ↦ ap (λ role. stands (with_role t role)) e
-  | inr e ↦ ap (λ role. stands (with_role t role)) e
+  | inl e ↦ ap (λ role. stands [] (with_role t role)) e
+  | inr e ↦ ap (λ role. stands [] (with_role t role)) e
 ]
 
 over_waits : (t : Task) → is_over t ≡ true → one_if (is_waiting t) ≡ 0
@@ -70,9 +73,9 @@ module _ (c : Course) (J : Instance) (z : State) (follows : Follows c J z) where
   weighs_same f none = follows.ready.weighs f ∙ sum_ready f z.tasks (λ t m. none t)
 
   same_exits : exits here ≡ exits z
-  same_exits = ap (λ w. sum_by (weight exits_scale c.clock w) c.ready) (weighs_same stands over_stands)
-      ∙ ap (λ n. sum_by (weight exits_scale n (standing z.tasks)) c.ready) (sym follows.clock)
-      ∙ weighs_same (weight exits_scale z.clock (standing z.tasks)) (over_weighs z.clock (standing z.tasks))
+  same_exits = ap (λ w. sum_by (weight exits_scale c.clock w) c.ready) (weighs_same (stands []) over_stands)
+      ∙ ap (λ n. sum_by (weight exits_scale n (standing [] z.tasks)) c.ready) (sym follows.clock)
+      ∙ weighs_same (weight exits_scale z.clock (standing [] z.tasks)) (over_weighs z.clock (standing [] z.tasks))
 
   same_waiting : waiting_count here ≡ waiting_count z
   same_waiting = weighs_same (λ t. one_if (is_waiting t)) over_waits
@@ -92,18 +95,24 @@ module _ (c : Course) (J : Instance) (z : State) (follows : Follows c J z) where
 -- ---- silent steps
 
 -- what may still come falls, by each job that ceases to wait
-idles_fall : (J : Instance) → IsValid J → (xs : List Step) (s u : State) → Keeps J s → Idles J.rules s xs u
+idles_fall : (J : Instance) → J.rules.finishes ≡ [] → IsValid J → (xs : List Step) (s u : State) → Keeps J s → Idles J.rules s xs u
     → (exits u ≤ exits s) × (exits u + waiting_count s ≤ exits s + waiting_count u)
-idles_fall J valid [] s u keeps same =
+idles_fall J plain valid [] s u keeps same =
     subst (λ v. (exits v ≤ exits s) × (exits v + waiting_count s ≤ exits s + waiting_count v)) same
     (omega arith, omega arith)
-idles_fall J valid (x ∷ xs) s u keeps idles =
+idles_fall J plain valid (x ∷ xs) s u keeps idles =
     let y : State = after s (open_step J.rules s) in
     let rest : (exits u ≤ exits y) × (exits u + waiting_count y ≤ exits y + waiting_count u) =
-    idles_fall J valid xs y u (open_kept J valid s keeps J.rules) idles.3 in (
-      omega (arith, open_leaves J valid J.rules s keeps, rest.0),
-      omega (arith, open_falls J valid J.rules s keeps, rest.1),
-    )
+    idles_fall J plain valid xs y u (open_kept J valid s keeps J.rules) idles.3 in (
+      omega (arith, here.0, rest.0),
+      omega (arith, here.1, rest.1),
+    ) where
+      here : (leaves s (open_step J.rules s) + exits (after s (open_step J.rules s)) ≤ exits s)
+          × (exits (after s (open_step J.rules s)) + waiting_count s ≤ exits s + waiting_count (after s (open_step J.rules s)))
+      here = subst (λ m. (leaves s m + exits (after s m) ≤ exits s)
+          × (exits (after s m) + waiting_count s ≤ exits s + waiting_count (after s m)))
+          (sym (plain_open_step J.rules s plain))
+          (open_leaves J valid (bare J.rules) s keeps (λ _ _ _. refl), open_falls J valid J.rules s keeps)
 
 -- 2 * d for each that waits more is paid by that
 more_pays : (d n ev eu wv wu mv mu t before now : ℕ) → eu ≤ ev → eu + wv ≤ ev + wu → t ≡ wu - wv
@@ -127,7 +136,7 @@ module _ (k : Fraction) (p q : Parted) (jobs done mark : ℕ) (m : Move) (roles 
   silent_pays before now cost start paid =
       let c : Course = course_of k p jobs done in
       let u : State = reached.state in
-      let falls = idles_fall old.0 old.2.valid reached.idles.0 old.1 u old.2.keeps reached.idles.1 in
+      let falls = idles_fall old.0 (ap (λ (r : Rules). r.finishes) old.2.rules) old.2.valid reached.idles.0 old.1 u old.2.keeps reached.idles.1 in
       spent_paid (course_of k q jobs done) old.0 u reached.follows start now
       (spent_on jobs old.1 u start before now
       (λ d enough. more_pays d jobs (exits old.1) (exits u) (waiting_count old.1) (waiting_count u)
@@ -144,7 +153,7 @@ module _ (k : Fraction) (p q : Parted) (jobs done mark : ℕ) (m : Move) (roles 
 -- ---- printed steps
 
 module _ (k : Fraction) (p q : Parted) (jobs done worth : ℕ) (e : Event)
-    (prints : open_step (record { ratio = k; version = p.version }) (state_of p) ≡ Prints e)
+    (prints : open_step (record { ratio = k; version = p.version; finishes = [] }) (state_of p) ≡ Prints e)
     (version : q.version ≡ p.version) (clock : q.clock ≡ p.clock)
     (leaves : Leaves (change (Prints e)) (ready_of p) (ready_of q) worth)
     (old : IsCourse (course_of k p jobs done)) where
@@ -157,17 +166,18 @@ module _ (k : Fraction) (p q : Parted) (jobs done worth : ℕ) (e : Event)
       let c : Course = course_of k p jobs done in
       let J : Instance = old.0 in
       let z : State = old.1 in
-      let is : open_step J.rules z ≡ Prints e = sym (follows_step k p jobs done J z old.2) ∙ prints in
+      let plain : J.rules.finishes ≡ [] = ap (λ (r : Rules). r.finishes) old.2.rules in
+      let is : open_step (bare J.rules) z ≡ Prints e = sym (plain_open_step J.rules z plain) ∙ sym (follows_step k p jobs done J z old.2) ∙ prints in
       spent_paid (course_of k q jobs (done + worth)) J (after z (Prints e))
       (course_takes k p q jobs done worth e prints version clock leaves J z old.2) start now
       (subst (λ m. HasSpentFor jobs (after z m) start now) is
-      (spent_on jobs z (after z (open_step J.rules z)) start before now
+      (spent_on jobs z (after z (open_step (bare J.rules) z)) start before now
       (λ d enough. subst (λ n. now + 20 * d * waits_among n z
-      ≤ before + 20 * d * waits_among n (after z (open_step J.rules z))) old.2.jobs
+      ≤ before + 20 * d * waits_among n (after z (open_step (bare J.rules) z))) old.2.jobs
       (open_pays J old.2.valid J.rules z old.2.keeps d before now
       (subst (λ n. now ≤ before + n)
       (ap (cost_of d (state_of p)) (sym is)
-      ∙ cost_whole p J z (follows_part k p jobs done J z old.2) J.rules d)
+      ∙ cost_whole p J z (follows_part k p jobs done J z old.2) (bare J.rules) d)
       (cost d (let fewer = follows_fewer c J z old.2 in omega (arith, enough, fewer))))))
       (paid_spent c J z old.2 start before paid)))
 
@@ -178,14 +188,14 @@ spent_order : (n clock : ℕ) (xs ys : List Task) → IsReordered xs ys → (sta
     → HasSpentFor n (state_at clock xs) start now → HasSpentFor n (state_at clock ys) start now
 spent_order n clock xs ys same start now spent = λ d enough.
     subst (λ m. now ≤ start + 20 * d * m) (sym waits) (spent d enough) where
-      stood : standing ys ≡ standing xs
-      stood = same.weighs stands
+      stood : standing [] ys ≡ standing [] xs
+      stood = same.weighs (stands [])
 
       waits : waits_among n (state_at clock ys) ≡ waits_among n (state_at clock xs)
       waits = ap (λ w. (4 * n + w) - 2 * exits (state_at clock ys)) (same.weighs (λ t. one_if (is_waiting t)))
           ∙ ap (λ e. (4 * n + waiting_count (state_at clock xs)) - 2 * e)
           (ap (λ w. sum_by (weight exits_scale clock w) ys) stood
-          ∙ same.weighs (weight exits_scale clock (standing xs)))
+          ∙ same.weighs (weight exits_scale clock (standing [] xs)))
 
 -- a release costs nothing
 pub release_pays : (c : Course) (j : JobFacts) (ready : List Task) → c.clock ≤ j.release

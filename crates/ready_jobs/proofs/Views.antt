@@ -1,8 +1,10 @@
 -- The view of jobs in another order.
 use Rattle.std.proofs.Common.{◌≡◌, ℕ, ◌+◌, ◌-◌, inl, inr, List, map, sym, ap, ◌∙◌, Bool, true, false}
 use Rattle.std.proofs.Common.{nat_lt}
-use Rattle.std.specs.List.{filter, sum_by}
+use Rattle.std.specs.List.{filter, find, sum_by}
 use Rattle.std.proofs.lemmas.Bool.{cases_eq}
+use Rattle.dover_model.specs.Finishes.{is_finish_of}
+use Rattle.dover_model.specs.Step.{finish_or, declared_open_step}
 use Rattle.dover_model.specs.declared.events.Version.{Version}
 use Rattle.dover_model.specs.declared.events.Entry.{Entry}
 use Rattle.dover_model.specs.declared.events.Task.{Task}
@@ -95,4 +97,8 @@ module _ (version : Version) (clock : ℕ) (xs ys : List Task) (same : IsReorder
 pub step_still : (rules : Rules) (clock : ℕ) (xs ys : List Task) → IsReordered xs ys → AreApart xs
     → open_step rules (record { clock = clock; tasks = ys }) ≡ open_step rules (record { clock = clock; tasks = xs })
 step_still rules clock xs ys same known =
-    ap (λ v. urgent_or rules.ratio v Ticks) (view_still rules.version clock xs ys same known)
+    ap (λ o. finish_or clock (find (is_finish_of o) rules.finishes)
+    (declared_open_step rules (record { clock = clock; tasks = ys })))
+    (found_same xs ys same is_running known.one_runs)
+    ∙ ap (λ v. finish_or clock (find (is_finish_of (find is_running xs)) rules.finishes) (urgent_or rules.ratio v Ticks))
+    (view_still rules.version clock xs ys same known)

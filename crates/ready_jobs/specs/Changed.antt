@@ -1,5 +1,5 @@
 -- What a step makes of the ready jobs.
-use Rattle.std.specs.Prelude.{◌≡◌, ◌≤◌, ◌==◌, ℕ, List, map, if◌then◌else◌}
+use Rattle.std.specs.Prelude.{[], ◌≡◌, ◌≤◌, ◌==◌, ℕ, List, map, if◌then◌else◌}
 use Rattle.std.specs.List.{filter, sum_by}
 use Rattle.dover_model.specs.declared.events.Event.{Event}
 use Rattle.dover_model.specs.declared.events.Role.TheVariants.{Waiting}
@@ -34,4 +34,4 @@ pub record Leaves (f : Task → Task) (xs ys : List Task) (worth : ℕ) : Type 0
 
 -- the open step of these jobs, for some ratio, is printed
 abbrev pub IsNext : Parted → Event → Type 0
-IsNext p e = (k : Fraction) × (open_step (record { ratio = k; version = p.version }) (state_of p) ≡ Prints e)
+IsNext p e = (k : Fraction) × (open_step (record { ratio = k; version = p.version; finishes = [] }) (state_of p) ≡ Prints e)

@@ -8,7 +8,7 @@ use Rattle.dover_model.specs.declared.events.Role.TheVariants.{Fresh}
 use Rattle.dover_model.specs.declared.events.Task.{Task}
 use Rattle.dover_model.specs.Fraction.{Fraction}
 use Rattle.dover_model.specs.JobFacts.{JobFacts}
-use Rattle.dover_model.specs.Instance.{Rules, Instance, IsValid}
+use Rattle.dover_model.specs.Instance.{Declaration, under, Instance, IsValid}
 use Rattle.dover_model.specs.State.{State, is_coming, is_done, value_sum, state_at}
 use Rattle.dover_model.specs.Step.{Move, Prints, open_step, after, view}
 use Rattle.dover_model.specs.Run.{Step}
@@ -25,7 +25,7 @@ use Rattle.ready_jobs.specs.declared.deeds.Deed.{Deed}
 -- what is kept of a run: the clock, the jobs that aren't over, in no told order, how many there are in all, what those
 -- done are worth, and how many ready jobs there is room for
 pub record Course : Type 0 where
-  pub rules : Rules
+  pub rules : Declaration
   pub clock : ℕ
   pub ready : List Task
   pub jobs : ℕ
@@ -47,7 +47,7 @@ course_of ratio p jobs done = record {
 pub record Follows (c : Course) (J : Instance) (z : State) : Type 0 where
   pub valid : IsValid J
   pub keeps : Keeps J z
-  pub rules : J.rules ≡ c.rules
+  pub rules : J.rules ≡ under c.rules []
   pub clock : z.clock ≡ c.clock
   pub ready : IsReordered (filter is_ready z.tasks) c.ready
   pub jobs : length z.tasks ≡ c.jobs
@@ -60,7 +60,7 @@ abbrev pub IsCourse : Course → Type 0
 IsCourse c = (J : Instance) × (z : State) × Follows c J z
 
 -- the course of no jobs
-abbrev pub new_course : Rules → ℕ → Course
+abbrev pub new_course : Declaration → ℕ → Course
 new_course rules room = record { rules = rules; clock = 0; ready = []; jobs = 0; done = 0; room = room }
 
 -- the job that was released last
@@ -131,7 +131,7 @@ StepsBefore c mark d (Some e) = (there : Course) × SettlesAt c mark there (Some
 -- the deed is the open step of the ready jobs, which prints e
 pub record IsDue (c : Course) (deed : Deed) (e : Event) : Type 0 where
   pub prints : step_at c.clock deed ≡ Prints e
-  pub opens : open_step c.rules (state_at c.clock c.ready) ≡ Prints e
+  pub opens : open_step (under c.rules []) (state_at c.clock c.ready) ≡ Prints e
   pub finds : Finds (view c.rules.version (state_at c.clock c.ready)) deed
 
 -- the course is one that goes on from the other: it has the same rules, jobs and room, and no more ready jobs

@@ -1,5 +1,5 @@
 -- The ready jobs of a whole run.
-use Rattle.std.specs.Prelude.{◌≡◌, ℕ, List, false}
+use Rattle.std.specs.Prelude.{[], ◌≡◌, ℕ, List, false}
 use Rattle.std.specs.List.{filter}
 use Rattle.dover_model.specs.Fraction.{Fraction}
 use Rattle.dover_model.specs.Instance.{Rules, Instance, IsValid}
@@ -35,5 +35,5 @@ pub record SettlesTo (p : Parted) (J : Instance) (z : State) (mark : ℕ) : Type
 
 -- they do from whatever state these are the jobs of, to where those are
 abbrev pub SettlesFrom : Fraction → ℕ → (p q : Parted) → Type 0
-SettlesFrom k mark p q = (J : Instance) (z : State) → J.rules ≡ record { ratio = k; version = p.version }
+SettlesFrom k mark p q = (J : Instance) (z : State) → J.rules ≡ record { ratio = k; version = p.version; finishes = [] }
     → PartOf p J z → SettlesTo q J z mark

@@ -321,7 +321,7 @@ impl Parts {
         requires running { self.now.running ≡ Some r.now }
         requires runs { running (state_of self.now) ≡ Some r.now }
         ensures is { step_at self.now.clock result
-            ≡ open_step (record { ratio = k; version = self.now.version }) (state_of self.now) }
+            ≡ open_step (record { ratio = k; version = self.now.version; finishes = [] }) (state_of self.now) }
         ensures finds { Finds (view self.now.version (state_of self.now)) result }
     {
         if left(r) == 0 {
@@ -362,7 +362,7 @@ impl Parts {
         requires sound { AreSound self.now }
         requires free { running (state_of self.now) ≡ None }
         ensures is { step_at self.now.clock result
-            ≡ open_step (record { ratio = k; version = self.now.version }) (state_of self.now) }
+            ≡ open_step (record { ratio = k; version = self.now.version; finishes = [] }) (state_of self.now) }
         ensures finds { Finds (view self.now.version (state_of self.now)) result }
     {
         // A ratio is known to be one where it is read.
@@ -387,7 +387,7 @@ impl Parts {
     pub fn open_step(&self, k: Ratio) -> Deed
         requires { AreSound self.now }
         ensures is { step_at self.now.clock result
-            ≡ open_step (record { ratio = k; version = self.now.version }) (state_of self.now) }
+            ≡ open_step (record { ratio = k; version = self.now.version; finishes = [] }) (state_of self.now) }
         ensures finds { Finds (view self.now.version (state_of self.now)) result }
     {
         match self.running() {

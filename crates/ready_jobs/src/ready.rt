@@ -6,7 +6,7 @@ ghost use Rattle.std.specs.Prelude.{length, true, false, IsTrue, IfOk, IsOk, OnO
 ghost use Rattle.dover_model.specs.declared.events.Event.{Event};
 ghost use Rattle.dover_model.specs.declared.events.Event.TheVariants.{End};
 ghost use Rattle.dover_model.specs.Limits.{last_tick, most_jobs, most_total};
-ghost use Rattle.dover_model.specs.Instance.{Instance};
+ghost use Rattle.dover_model.specs.Instance.{Instance, under};
 ghost use Rattle.dover_model.specs.State.{State, state_at};
 ghost use Rattle.std.specs.List.{filter};
 ghost use Rattle.dover_model.specs.State.{State, is_held};
@@ -176,7 +176,7 @@ impl Ready {
         ensures reached { (J : Instance) (z : State) → Follows self.old J z
             → Reached self.new J z mark (step_at self.new.clock result) }
         ensures step { step_at self.new.clock result
-            ≡ open_step self.new.rules (state_at self.new.clock self.new.ready) }
+            ≡ open_step (under self.new.rules []) (state_at self.new.clock self.new.ready) }
         ensures finds { Finds (view self.new.rules.version (state_at self.new.clock self.new.ready)) result }
         ensures kept { self.new ≡ record self.old { clock = self.new.clock; ready = self.new.ready } }
         ensures fewer { length self.new.ready ≡ length self.old.ready }

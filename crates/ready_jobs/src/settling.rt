@@ -1,5 +1,5 @@
 //! The silent steps of the ready jobs: those that print nothing.
-ghost use Rattle.std.specs.Prelude.{◌≡◌, ◌≤◌, ◌<◌, ◌+◌, ◌-◌, ◌*◌, ◌^◌, ◌∷◌, ℕ, length, Some, None, IfSome, IfNone};
+ghost use Rattle.std.specs.Prelude.{[], ◌≡◌, ◌≤◌, ◌<◌, ◌+◌, ◌-◌, ◌*◌, ◌^◌, ◌∷◌, ℕ, length, Some, None, IfSome, IfNone};
 ghost use Rattle.dover_model.specs.declared.events.Role.TheVariants.{Waiting};
 ghost use Rattle.dover_model.specs.declared.events.Task.{Task};
 ghost use Rattle.dover_model.specs.Instance.{Rules};
@@ -36,10 +36,10 @@ impl Parts {
     // The fresh job, if there is one, gives a printed step, or it waits: no job is fresh any more.
     #[inline(always)]
     fn place<L: Ledger>(&mut self, k: Ratio, steps: &mut Steps<L>) -> Option<Deed>
-        requires { IsPart (record { ratio = k; version = self.old.version }) self.old }
+        requires { IsPart (record { ratio = k; version = self.old.version; finishes = [] }) self.old }
         ensures settles { (mark : ℕ) → SettlesFrom k mark self.old self.new }
         ensures some { IfSome result (λ deed. step_at self.new.clock deed
-            ≡ open_step (record { ratio = k; version = self.new.version }) (state_of self.new)) }
+            ≡ open_step (record { ratio = k; version = self.new.version; finishes = [] }) (state_of self.new)) }
         ensures finds { IfSome result (λ deed. Finds (view self.new.version (state_of self.new)) deed) }
         ensures prints { IfSome result (λ deed. IsSilent (step_at self.new.clock deed) → ⊥) }
         ensures none { IfNone result (self.new.fresh ≡ None) }
@@ -66,15 +66,15 @@ impl Parts {
     // a tick is next.
     #[inline(always)]
     fn tick_on(&mut self, k: Ratio, mark: u64) -> Deed
-        requires part { IsPart (record { ratio = k; version = self.old.version }) self.old }
+        requires part { IsPart (record { ratio = k; version = self.old.version; finishes = [] }) self.old }
         requires stale { self.old.fresh ≡ None }
         requires ticks { self.old.running ≡ None →
-            open_step (record { ratio = k; version = self.old.version }) (state_of self.old) ≡ Ticks }
+            open_step (record { ratio = k; version = self.old.version; finishes = [] }) (state_of self.old) ≡ Ticks }
         requires low { self.old.clock ≤ mark }
         requires known { mark ≤ last_tick }
         ensures settles { SettlesFrom k mark self.old self.new }
         ensures step { step_at self.new.clock result
-            ≡ open_step (record { ratio = k; version = self.new.version }) (state_of self.new) }
+            ≡ open_step (record { ratio = k; version = self.new.version; finishes = [] }) (state_of self.new) }
         ensures finds { Finds (view self.new.version (state_of self.new)) result }
         ensures stops { let step = step_at self.new.clock result in
             IsSilent step → (step ≡ Ticks) × (mark ≤ self.new.clock) }
@@ -92,13 +92,13 @@ impl Parts {
     // Takes the silent ticks up to the next other step, or to the mark. No job is fresh.
     #[inline(always)]
     fn tick_to(&mut self, k: Ratio, mark: u64) -> Deed
-        requires part { IsPart (record { ratio = k; version = self.old.version }) self.old }
+        requires part { IsPart (record { ratio = k; version = self.old.version; finishes = [] }) self.old }
         requires stale { self.old.fresh ≡ None }
         requires low { self.old.clock ≤ mark }
         requires known { mark ≤ last_tick }
         ensures settles { SettlesFrom k mark self.old self.new }
         ensures step { step_at self.new.clock result
-            ≡ open_step (record { ratio = k; version = self.new.version }) (state_of self.new) }
+            ≡ open_step (record { ratio = k; version = self.new.version; finishes = [] }) (state_of self.new) }
         ensures finds { Finds (view self.new.version (state_of self.new)) result }
         ensures stops { let step = step_at self.new.clock result in
             IsSilent step → (step ≡ Ticks) × (mark ≤ self.new.clock) }
@@ -120,12 +120,12 @@ impl Parts {
     /// Takes the silent steps up to the next printed one, which it gives, or up to the barrier of the mark.
     #[inline(always)]
     pub fn settle<L: Ledger>(&mut self, k: Ratio, mark: u64, steps: &mut Steps<L>) -> Deed
-        requires part { IsPart (record { ratio = k; version = self.old.version }) self.old }
+        requires part { IsPart (record { ratio = k; version = self.old.version; finishes = [] }) self.old }
         requires low { self.old.clock ≤ mark }
         requires known { mark ≤ last_tick }
         ensures settles { SettlesFrom k mark self.old self.new }
         ensures step { step_at self.new.clock result
-            ≡ open_step (record { ratio = k; version = self.new.version }) (state_of self.new) }
+            ≡ open_step (record { ratio = k; version = self.new.version; finishes = [] }) (state_of self.new) }
         ensures finds { Finds (view self.new.version (state_of self.new)) result }
         ensures stops { let step = step_at self.new.clock result in
             IsSilent step → (step ≡ Ticks) × (mark ≤ self.new.clock) }

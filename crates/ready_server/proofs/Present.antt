@@ -6,12 +6,13 @@ use Rattle.dover_model.specs.declared.events.Role.TheVariants.{Coming}
 use Rattle.dover_model.specs.declared.events.Task.{Task}
 use Rattle.dover_model.specs.Instance.{Instance, IsValid}
 use Rattle.dover_model.specs.State.{State, is_coming}
-use Rattle.dover_model.specs.Step.{Move, Ticks, View, view, open_step}
+use Rattle.dover_model.specs.Step.{Move, Ticks, View, view, due_finish, declared_open_step, open_step}
 use Rattle.dover_model.specs.Settled.{waits_for_mark, settled_state}
 use Rattle.dover_model.specs.Sound.{IsMember, Each}
 use Rattle.dover_model.proofs.Barriers.{AtBarrier, settled_at_barrier}
 use Rattle.dover_model.proofs.Cases.{Case, Completes, Resumes, Starts, Begins, Preempts, Stays, Arrives, Takes}
 use Rattle.dover_model.proofs.Cases.{Abandons, Rests, NoneArrives, step_case}
+use Rattle.dover_model.proofs.Finishing.{late_unfinished}
 use Rattle.dover_model.proofs.Kept.{each_job}
 use Rattle.dover_model.proofs.Members.{found, not_found}
 use Rattle.dover_model.proofs.Moves.{says}
@@ -65,5 +66,6 @@ module _ (J : Instance) (valid : IsValid J) (mark : ℕ) (known : AllByRecursion
 
   -- at the barrier none is to come
   pub none_to_come : Each (λ t. t.role ≡ Coming → ⊥) s.tasks
-  none_to_come = none_left (late_none (open_step J.rules s) (step_case J.rules.ratio v Ticks)
-      (at_barrier (waits_for_mark (open_step J.rules s)) mark s.clock bar.barrier).0)
+  none_to_come = none_left (late_none (declared_open_step J.rules s) (step_case J.rules.ratio v Ticks)
+      (late_unfinished s.clock (due_finish J.rules.finishes s) (declared_open_step J.rules s)
+      (at_barrier (waits_for_mark (open_step J.rules s)) mark s.clock bar.barrier).0).1)

@@ -42,7 +42,7 @@ not_ahead s sound t member came = by_role t.role refl (sound.roles t member) whe
   by_role Waiting is fits = fits.1
   by_role Held is fits = fits.1
   by_role Running is fits = fits
-  by_role Done is fits = fits.1
+  by_role Done is fits = fits
   by_role Gone is fits = fits.1
 
 -- what holds of each job holds of the last

@@ -353,12 +353,12 @@ module _ (s : State) (sound : IsSound s) (p : Roll) (follows : Follows s p) wher
 
   -- the roll follows each deed
   deed_next : (k : Fraction) (m : Move) → Deed k s Ticks m → Follows (after s m) (roll_after p m)
-  deed_next k m (Completed r member runs done) = completes r member runs
+  deed_next k m (Completed r member runs) = completes r member runs
   deed_next k m (Resumed q member holds none least why) =
       runs_on q member (not_coming q Held holds (λ e. cc)) none
   deed_next k m (Started o member waits none first fits next) =
       runs_on o member (not_coming o Waiting waits (λ e. cc)) none
-  deed_next k m (Began f member fresh none) = runs_on f member (not_coming f Fresh fresh (λ e. cc)) none
+  deed_next k m (Began f member fresh none behind) = runs_on f member (not_coming f Fresh fresh (λ e. cc)) none
   deed_next k m (Preempted r f member runs some f_member fresh before fits) = preempts r member runs f f_member fresh
   deed_next k m (Stayed r f member runs some f_member fresh why) = stays f f_member fresh
   deed_next k m (Arrived c member comes now first stale busy free) = releases c member comes first

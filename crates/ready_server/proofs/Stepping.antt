@@ -17,6 +17,7 @@ use Rattle.dover_model.specs.Settled.{settled}
 use Rattle.dover_model.specs.WholeRun.{open_at, IsBefore, IsWholeRun, Begins}
 use Rattle.dover_model.specs.Paths.{IsOpenPath, HasPrinted}
 use Rattle.dover_model.specs.Sound.{Keeps}
+use Rattle.dover_model.proofs.Readiness.{plain_ready}
 use Rattle.dover_model.proofs.Ending.{potential, ends}
 use Rattle.dover_model.proofs.Kept.{open_kept}
 use Rattle.dover_model.proofs.Paths.{printed_more, printed_settled, printed_then_run, printed_begins, path_low}
@@ -193,10 +194,11 @@ runs_on J valid rules e (x ∷ xs) (y ∷ ys) s z keeps idles prints whole =
     )
 
 -- behind what was printed before a mark, the run leaves a rest
-marked_rest : (J : Instance) (mark : ℕ) (z : State) (events : List Event) → IsValid J → Keeps J z
+marked_rest : (J : Instance) (mark : ℕ) (z : State) (events : List Event) → IsValid J → J.rules.finishes ≡ [] → Keeps J z
     → HasPrinted J mark z events → LeavesRest J z events
-marked_rest J mark z events valid keeps it =
-    let rest = ends J valid J.rules (potential (last_deadline J.jobs) z) z keeps (omega arith) in record {
+marked_rest J mark z events valid plain keeps it =
+    let rest = ends J valid J.rules (potential J.rules.finishes (last_deadline J.jobs) z) z keeps
+    (plain_ready J.rules.finishes z (omega (arith, ap length plain))) (omega arith) in record {
       steps = rest.0;
       whole = rest.1;
       prints = printed_then_run J mark z events rest.0 valid it rest.1;
@@ -208,7 +210,8 @@ module _ (s : ReadyServer) (J : Instance) (from : Horizon) (events : List Event)
   rest_left goes_on = by_horizon from serves.given where
     by_horizon : (to : Horizon) → HasGiven s.ended J serves.state to events → LeavesRest J serves.state events
     by_horizon (Mark m) given =
-        marked_rest J m serves.state events serves.follows.valid serves.follows.keeps given.1
+        marked_rest J m serves.state events serves.follows.valid (ap (λ (r : Rules). r.finishes) serves.follows.rules)
+        serves.follows.keeps given.1
     by_horizon End given =
         subst (λ b. MatchBool b (events ≡ printed J) (LeavesRest J serves.state events)) goes_on given
 
@@ -306,7 +309,8 @@ serves_later s J (Mark m) End events serves may = record {
   state = serves.state;
   follows = serves.follows;
   given = subst (λ b. MatchBool b (events ≡ printed J) (LeavesRest J serves.state events)) (sym serves.given.0)
-      (marked_rest J m serves.state events serves.follows.valid serves.follows.keeps serves.given.1);
+      (marked_rest J m serves.state events serves.follows.valid (ap (λ (r : Rules). r.finishes) serves.follows.rules)
+      serves.follows.keeps serves.given.1);
 }
 serves_later s J End (Mark t) events serves may = absurd may
 serves_later s J End End events serves may = serves

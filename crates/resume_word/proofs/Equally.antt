@@ -17,6 +17,7 @@ use Rattle.snapshot.specs.Snapshot.{MayPause, snapshot}
 use Rattle.snapshot.specs.Feeds.{GoOnEqually}
 use Rattle.dover_model.specs.Lines.{lines_of}
 use Rattle.dover_model.specs.Feed.{next_line}
+use Rattle.dover_model.specs.Taken.{two_versions}
 use Rattle.dover_model.proofs.Accounts.{account_kept}
 use Rattle.std.specs.List.{fold}
 use Rattle.snapshot.proofs.Alike.{Alike, SameRun, GoAlike, lines_alike}
@@ -61,8 +62,9 @@ module _ (G F H : List ℕ) (may : MayPause G) (may_other : MayPause F) (same : 
   -- line by line
   step : GoAlike (account G) (account F) (fold next_line (account G) (lines_of H))
       (fold next_line (account F) (lines_of H))
-  step = lines_alike (lines_of H) (account G) (account F) (same_alike G F may may_other same) (account_kept G)
-      (account_kept F)
+  step = lines_alike (lines_of H) (account G) (account F) (same_alike G F may may_other same)
+      (account_kept two_versions G)
+      (account_kept two_versions F)
 
   alike_behind : Alike (account (G ++ H)) (account (F ++ H))
   alike_behind = subst (λ a. Alike a (account (F ++ H))) (sym (account_behind G may.whole H))

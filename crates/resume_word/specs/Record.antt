@@ -9,7 +9,7 @@ use Rattle.dover_port.specs.Moves.{Move, ins, outs, has_ended, EachRead, IsPrope
 use Rattle.dover_port.specs.declared.status.Status.{Status}
 use Rattle.dover_port.specs.declared.status.Status.TheVariants.{Refused, ReadFault, WriteFault, Memory}
 use Rattle.dialogue.specs.Talk as talk
-use Rattle.lane_server.specs.Lanes.{refused_line}
+use Rattle.dover_model.specs.Text.{refused_line}
 use Rattle.snapshot.specs.Snapshot.{MayPause, snapshot}
 use Rattle.snapshot.specs.Reading as reading
 use Rattle.snapshot.specs.Reading.{Reading, Begun, Going, Taken, reading_of}

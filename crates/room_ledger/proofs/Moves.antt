@@ -342,11 +342,11 @@ module _ (s : State) (sound : IsSound s) (p : Page) (follows : Follows s p)
   -- the page follows each deed
   pub deed_next : (k : Fraction) (other : Move) → (Quiet s → Next s p other) → (m : Move) → Deed k s other m
       → Next s p m
-  deed_next k other rested m (Completed r member runs done) = completes r member runs
+  deed_next k other rested m (Completed r member runs) = completes r member runs
   deed_next k other rested m (Resumed q member holds none least why) = resumes q member holds least
   deed_next k other rested m (Started o member waits none first fits next) =
       begins o member (not_running_waiting o waits) (passes is_held o Waiting false waits refl)
-  deed_next k other rested m (Began f member fresh none) =
+  deed_next k other rested m (Began f member fresh none free) =
       begins f member (not_running_fresh f fresh) (passes is_held f Fresh false fresh refl)
   deed_next k other rested m (Preempted r f member runs some f_member fresh before fits) =
       preempts r member runs f f_member fresh

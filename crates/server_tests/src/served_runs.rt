@@ -77,10 +77,7 @@ fn are_jobs(jobs: &[Job]) -> bool
 }
 
 pub(crate) fn assert_valid(rt: &impl Abort, k: Ratio, jobs: &[Job])
-    ensures { (version : Version) → IsValid (record {
-      rules = record { ratio = k; version = version };
-      jobs = jobs.now;
-    }) }
+    ensures { (version : Version) → IsValid (jobs_under version k jobs.now) }
 {
     assert!(rt; k.p() > 0);
     assert!(rt; jobs.len() <= 100);
@@ -379,10 +376,7 @@ fn the_worked_examples_are_printed(rt: HostRuntime) -> Result<(), Fail> {
 // ---- equal jobs
 
 fn assert_equal_valid(rt: &impl Abort, k: Ratio, job: &Job, count: u32)
-    ensures { (version : Version) → IsValid (record {
-      rules = record { ratio = k; version = version };
-      jobs = replicate count job.now;
-    }) }
+    ensures { (version : Version) → IsValid (jobs_under version k (replicate count job.now)) }
 {
     assert!(rt; k.p() > 0);
     assert!(rt; count <= 1_000_000);

@@ -9,12 +9,12 @@ use Rattle.std.proofs.lemmas.List.Sums.{fold-append, sum_by-append, sum_by-cons}
 use Rattle.dover_model.specs.declared.events.Refusal.{Refusal}
 use Rattle.dover_model.specs.declared.events.Task.{Task}
 use Rattle.dover_model.specs.JobFacts.{JobFacts, IsJob}
-use Rattle.dover_model.specs.Instance.{Instance, IsInOrder, IsWithinRatio, IsValid, with_jobs, total_value}
+use Rattle.dover_model.specs.Instance.{under, Instance, IsInOrder, IsWithinRatio, IsValid, with_jobs, total_value}
 use Rattle.dover_model.specs.Admission.{is_within_ratio_both_ways, refusal_of}
 use Rattle.dover_model.specs.Session.{admitted_jobs}
 use Rattle.dover_model.specs.Sound.{jobs_of}
 use Rattle.dover_model.specs.FeedLine.{JobLine}
-use Rattle.dover_model.specs.Feed.{Cause, Order, NotAdmitted, later_line_cause}
+use Rattle.dover_model.specs.Feed.{Cause, NotAdmitted, late_cause, later_line_cause}
 use Rattle.dover_model.proofs.Tests.{both}
 use Rattle.dover_model.proofs.Agreement.{is_within_ratio-agrees}
 use Rattle.dover_model.proofs.Admitting.{admits}
@@ -117,14 +117,14 @@ module _ (h : Head) (tasks : List Task) (t : Task) where
   cause_in_order : last_release tasks ≤ t.job.release
       → job_cause ≡ option_map NotAdmitted (refusal_of h.rules.ratio (jobs_of tasks) t.job)
   cause_in_order ordered =
-      ap (λ b. cond b (Some Order)
+      ap (λ b. cond b (Some (late_cause h.rules.version))
       (option_map NotAdmitted (refusal_of h.rules.ratio (admitted_jobs (stored_session h tasks).items) t.job)))
       (le-ltb t.job.release (last_release tasks) ordered)
       ∙ ap (λ jobs. option_map NotAdmitted (refusal_of h.rules.ratio jobs t.job)) (jobs_back (jobs_of tasks))
 
   -- the jobs with this one
   pub with_this : stored h (tasks ++ t ∷ []) ≡ with_jobs (stored h tasks) (t.job ∷ [])
-  with_this = ap (λ jobs. record { rules = h.rules; jobs = jobs }) (jobs_more tasks t)
+  with_this = ap (λ jobs. record { rules = under h.rules []; jobs = jobs }) (jobs_more tasks t)
 
   -- where they are valid, the last release isn't above its own
   pub valid_ordered : IsValid (stored h (tasks ++ t ∷ [])) → last_release tasks ≤ t.job.release
@@ -147,9 +147,9 @@ module _ (h : Head) (tasks : List Task) (t : Task) where
     not_any (Some r) e = absurd (let clash : Some (NotAdmitted r) ≡ None = e in cc)
 
     by_order : (b : Bool) → nat_lt t.job.release (last_release tasks) ≡ b
-        → cond b (Some Order) (option_map NotAdmitted refusal) ≡ None
+        → cond b (Some (late_cause h.rules.version)) (option_map NotAdmitted refusal) ≡ None
         → IsValid (stored h (tasks ++ t ∷ []))
-    by_order true falls e = absurd (let clash : Some Order ≡ None = e in cc)
+    by_order true falls e = absurd (let clash : Some (late_cause h.rules.version) ≡ None = e in cc)
     by_order false ordered e =
         let last : last_release tasks ≤ t.job.release = ltb-false _ _ ordered in
         let all : AllByRecursion (λ (j : JobFacts). j.release ≤ last_release tasks) (jobs_of tasks) =

@@ -13,21 +13,23 @@ use Rattle.dover_model.specs.declared.events.Refusal.{Refusal}
 use Rattle.dover_model.specs.JobFacts.{JobFacts}
 use Rattle.dover_model.specs.Instance.{Instance, IsValid, with_jobs}
 use Rattle.dover_model.specs.Admission.{refusal_of}
-use Rattle.dover_model.specs.Session.{Session, JobItem, RefusedItem, RefusedJob, refused_at, with_item, instance_of}
-use Rattle.dover_model.specs.Session.{admitted_jobs, is_two}
+use Rattle.dover_model.specs.Session.{Session, JobItem, RefusedItem, Refused, RefusedJob, refused_at, with_item, instance_of}
+use Rattle.dover_model.specs.Session.{admitted_jobs, refuses_lines, may_finish_early, is_right}
 use Rattle.dover_model.specs.Run.{printed}
 use Rattle.dover_model.specs.Settled.{settled}
 use Rattle.dover_model.specs.Text.{text_of, refused_text}
 use Rattle.dover_model.specs.Trace.{texts_among}
-use Rattle.dover_model.specs.FeedLine.{FeedLine, RatioLine, JobLine, TickLine, EndLine, feed_line}
+use Rattle.dover_model.specs.FeedLine.{FeedLine, RatioLine, JobLine, TickLine, DoneLine, EndLine, feed_line}
 use Rattle.dover_model.specs.Feed.{Cause, Lines, Line, Declared, Order, NotAdmitted, Standing, Open, Ended, Faulty}
-use Rattle.dover_model.specs.Feed.{Account}
+use Rattle.dover_model.specs.Feed.{Account, NotDone, late_cause}
 use Rattle.dover_model.specs.Feed.{later_line_cause, with_fault, with_item_in, with_line, next_line}
 use Rattle.dover_model.specs.Due.{due_lines, fault_text}
 use Rattle.dover_model.specs.WholeRun.{Begins}
 use Rattle.dover_model.specs.Sound.{IsMember}
 use Rattle.dover_model.proofs.Accounts.{Holds, IsKept, lines_goes}
-use Rattle.dover_model.proofs.Admitting.{admits}
+use Rattle.admission.proofs.Versions.{none_early, late_order}
+use Rattle.dover_model.specs.Taken.{two_versions}
+use Rattle.admission.proofs.Joining.{admitted_valid}
 use Rattle.dover_model.proofs.Emitting.{texts_more, texts_job, texts_refused}
 use Rattle.dover_model.proofs.Growing.{Reads, reads_later, job_instance, refused_instance, settled_later}
 use Rattle.dover_model.proofs.Growing.{settled_of_run}
@@ -37,6 +39,11 @@ use Rattle.event_feed.proofs.Counting.{after_form}
 -- an account
 abbrev account_with : ℕ → Option Session → ℕ → Standing → Account
 account_with lines session mark standing = record { lines = lines; session = session; mark = mark; standing = standing }
+
+-- the cause of a done line, by whether jobs may finish early
+abbrev done_cause : Session → (mark tick number : ℕ) → Bool → Option Cause
+done_cause S mark t n early = cond early
+    (cond (nat_lt last_tick t) (Some Order) (cond (is_right S mark t n) None (Some NotDone))) (Some Line)
 
 -- both are declared, with the same jobs under the same rules
 abbrev pub SameRun : Option Session → Option Session → Type 0
@@ -57,7 +64,7 @@ pub record GoAlike (a b c d : Account) : Type 0 where
 
 -- ---- what a line adds for one session, as it depends on its jobs
 
-module _ (X : Session) (mark lines : ℕ) (holds : Holds X mark lines) where
+module _ (X : Session) (mark lines : ℕ) (holds : Holds two_versions X mark lines) where
   -- before the line
   abbrev before : Account
   before = account_with lines (Some X) mark Open
@@ -104,16 +111,16 @@ module _ (X : Session) (mark lines : ℕ) (holds : Holds X mark lines) where
   -- a refused line
   refused_adds : (j : JobFacts) (refusal : Refusal)
       → due_lines (account_with (suc lines) (Some (with_item X (refused_at mark j refusal))) mark Open)
-      ≡ due_lines before ++ refused_text (record { at = mark; job = j; refusal = refusal }) ∷ []
+      ≡ due_lines before ++ refused_text (record { at = mark; line = RefusedJob j refusal }) ∷ []
   refused_adds j refusal =
-      let r : RefusedJob = record { at = mark; job = j; refusal = refusal } in
+      let r : Refused = record { at = mark; line = RefusedJob j refusal } in
       append-nil (texts_among (with_item X (RefusedItem r)) (settled (instance_of (with_item X (RefusedItem r))) mark))
       ∙ texts_refused X r holds.reads
       ∙ ap (λ ls. ls ++ refused_text r ∷ []) (sym (append-nil (texts_among X (settled (instance_of X) mark))))
 
 -- ---- a line behind two feeds that are alike
 
-module _ (S T : Session) (mark lines : ℕ) (holds : Holds S mark lines) (holds_other : Holds T mark lines)
+module _ (S T : Session) (mark lines : ℕ) (holds : Holds two_versions S mark lines) (holds_other : Holds two_versions T mark lines)
     (same : instance_of T ≡ instance_of S) where
   abbrev a : Account
   a = account_with lines (Some S) mark Open
@@ -165,7 +172,7 @@ module _ (S T : Session) (mark lines : ℕ) (holds : Holds S mark lines) (holds_
   jobs_alike j ordered none =
       let later : Reads S j.release = reads_later S mark j.release holds.reads ordered in
       let valid : IsValid (with_jobs J (j ∷ [])) =
-      admits S.rules (admitted_jobs S.items) j later.valid later.known none in
+      admitted_valid J j later.valid later.known none in
       let it : Begins (settled J mark) (settled (with_jobs J (j ∷ [])) j.release) =
       settled_prefix J (j ∷ []) mark valid (λ i m. only i m) j.release ordered in
       record {
@@ -182,7 +189,7 @@ module _ (S T : Session) (mark lines : ℕ) (holds : Holds S mark lines) (holds_
       → GoAlike a b (with_item_in counted_a (refused_at mark j refusal))
       (with_item_in counted_b (refused_at mark j refusal))
   refusals_alike j refusal =
-      let r : RefusedJob = record { at = mark; job = j; refusal = refusal } in
+      let r : Refused = record { at = mark; line = RefusedJob j refusal } in
       record {
         alike = (refl, refl, refl, refused_instance T r ∙ same ∙ sym (refused_instance S r));
         text = refused_text r ∷ [];
@@ -199,8 +206,8 @@ module _ (S T : Session) (mark lines : ℕ) (holds : Holds S mark lines) (holds_
         (admitted_jobs S.items) j
     refusal_of_both = ap (λ (K : Instance). refusal_of K.rules.ratio K.jobs j) same
 
-    version_of_both : is_two T.rules.version ≡ is_two S.rules.version
-    version_of_both = ap (λ (K : Instance). is_two K.rules.version) same
+    version_of_both : refuses_lines T.rules.version ≡ refuses_lines S.rules.version
+    version_of_both = ap (λ (K : Instance). refuses_lines K.rules.version) same
 
     by_version : (refusal : Refusal) (two : Bool)
         → GoAlike a b (cond two (with_item_in counted_a (refused_at mark j refusal))
@@ -215,19 +222,25 @@ module _ (S T : Session) (mark lines : ℕ) (holds : Holds S mark lines) (holds_
     by_refusal None ordered none = jobs_alike j ordered none
     by_refusal (Some refusal) ordered cause =
         subst (λ two. GoAlike a b
-        (cond (is_two S.rules.version) (with_item_in counted_a (refused_at mark j refusal))
+        (cond (refuses_lines S.rules.version) (with_item_in counted_a (refused_at mark j refusal))
         (with_fault counted_a (NotAdmitted refusal)))
         (cond two (with_item_in counted_b (refused_at mark j refusal)) (with_fault counted_b (NotAdmitted refusal))))
         (sym version_of_both)
-        (by_version refusal (is_two S.rules.version))
+        (by_version refusal (refuses_lines S.rules.version))
 
     by_order : (c : Bool) → nat_lt j.release mark ≡ c
         → GoAlike a b
         (with_line counted_a (JobLine j)
-        (cond c (Some Order) (option_map NotAdmitted (refusal_of S.rules.ratio (admitted_jobs S.items) j))))
+        (cond c (Some (late_cause S.rules.version)) (option_map NotAdmitted (refusal_of S.rules.ratio (admitted_jobs S.items) j))))
         (with_line counted_b (JobLine j)
-        (cond c (Some Order) (option_map NotAdmitted (refusal_of T.rules.ratio (admitted_jobs T.items) j))))
-    by_order true falls = faults_alike Order
+        (cond c (Some (late_cause T.rules.version)) (option_map NotAdmitted (refusal_of T.rules.ratio (admitted_jobs T.items) j))))
+    by_order true falls =
+        subst (λ cause. GoAlike a b (with_line counted_a (JobLine j) (Some cause))
+        (with_line counted_b (JobLine j) (Some (late_cause T.rules.version))))
+        (sym (late_order S.rules.version holds.version))
+        (subst (λ cause. GoAlike a b (with_line counted_a (JobLine j) (Some Order))
+        (with_line counted_b (JobLine j) (Some cause))) (sym (late_order T.rules.version holds_other.version))
+        (faults_alike Order))
     by_order false ordered =
         subst (λ o. GoAlike a b (with_line counted_a (JobLine j)
         (option_map NotAdmitted (refusal_of S.rules.ratio (admitted_jobs S.items) j)))
@@ -247,6 +260,13 @@ module _ (S T : Session) (mark lines : ℕ) (holds : Holds S mark lines) (holds_
     by_tests true d falls = faults_alike Order
     by_tests false true ordered = faults_alike Order
     by_tests false false ordered = ticks_alike t (ltb-false _ _ ordered)
+  formed_alike (DoneLine t n) =
+      subst (λ v. GoAlike a b (with_line counted_a (DoneLine t n) (done_cause S mark t n v))
+      (with_line counted_b (DoneLine t n) (done_cause T mark t n (may_finish_early T.rules.version))))
+      (sym (none_early S.rules.version holds.version))
+      (subst (λ v. GoAlike a b (with_line counted_a (DoneLine t n) (Some Line))
+      (with_line counted_b (DoneLine t n) (done_cause T mark t n v)))
+      (sym (none_early T.rules.version holds_other.version)) (faults_alike Line))
   formed_alike EndLine = ends_alike
 
   -- any line
@@ -267,8 +287,8 @@ stay_alike a b alike = record
     { alike = alike; text = []; first = sym (append-nil (due_lines a)); other = sym (append-nil (due_lines b)) }
 
 step_alike : (lines mark : ℕ) (standing : Standing) (s t : Option Session) → SameRun s t
-    → IsKept (account_with lines s mark standing)
-    → IsKept (account_with lines t mark standing) → (bytes : List ℕ)
+    → IsKept two_versions (account_with lines s mark standing)
+    → IsKept two_versions (account_with lines t mark standing) → (bytes : List ℕ)
     → GoAlike (account_with lines s mark standing) (account_with lines t mark standing)
     (next_line (account_with lines s mark standing) bytes)
     (next_line (account_with lines t mark standing) bytes)
@@ -288,21 +308,21 @@ module _ (a b : Account) (alike : Alike a b) where
       ∙ ap (λ m. account_with a.lines b.session m b.standing) alike.1
       ∙ ap (λ s. account_with a.lines b.session a.mark s) alike.2
 
-  next_alike : IsKept a → IsKept b → (bytes : List ℕ) → GoAlike a b (next_line a bytes) (next_line b bytes)
+  next_alike : IsKept two_versions a → IsKept two_versions b → (bytes : List ℕ) → GoAlike a b (next_line a bytes) (next_line b bytes)
   next_alike kept other bytes =
       subst (λ (c : Account). GoAlike a c (next_line a bytes) (next_line c bytes)) (sym other_is)
-      (step_alike a.lines a.mark a.standing a.session b.session alike.3 kept (subst IsKept other_is other) bytes)
+      (step_alike a.lines a.mark a.standing a.session b.session alike.3 kept (subst (IsKept two_versions) other_is other) bytes)
 
 -- lines behind two feeds that are alike
-pub lines_alike : (ls : List (List ℕ)) (a b : Account) → Alike a b → IsKept a → IsKept b
+pub lines_alike : (ls : List (List ℕ)) (a b : Account) → Alike a b → IsKept two_versions a → IsKept two_versions b
     → GoAlike a b (fold next_line a ls) (fold next_line b ls)
 lines_alike [] a b alike kept other = stay_alike a b alike
 lines_alike (l ∷ ls) a b alike kept other =
     let one : GoAlike a b (next_line a l) (next_line b l) = next_alike a b alike kept other l in
     let rest : GoAlike (next_line a l) (next_line b l) (fold next_line (next_line a l) ls)
     (fold next_line (next_line b l) ls) =
-    lines_alike ls (next_line a l) (next_line b l) one.alike (lines_goes (l ∷ []) a kept).0
-    (lines_goes (l ∷ []) b other).0 in
+    lines_alike ls (next_line a l) (next_line b l) one.alike (lines_goes two_versions (l ∷ []) a kept).0
+    (lines_goes two_versions (l ∷ []) b other).0 in
     record {
       alike = rest.alike;
       text = one.text ++ rest.text;

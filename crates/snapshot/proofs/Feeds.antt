@@ -7,12 +7,13 @@ use Rattle.std.specs.List.{AllByRecursion, fold}
 use Rattle.std.proofs.lemmas.Grind.{flat_map-append}
 use Rattle.dover_model.specs.Limits.{most_lines}
 use Rattle.dover_model.specs.declared.events.Task.{Task}
-use Rattle.dover_model.specs.Instance.{Instance}
+use Rattle.dover_model.specs.Instance.{Instance, declared_by}
 use Rattle.dover_model.specs.Session.{Session, instance_of, admitted_jobs}
 use Rattle.dover_model.specs.Settled.{settled_state}
 use Rattle.dover_model.specs.Lines.{in_lines, lines_of, whole_lines, rest_of}
 use Rattle.dover_model.specs.Feed.{Standing, Open, Ended, Faulty, Short, no_lines, next_line, account}
 use Rattle.dover_model.specs.Due.{due_lines, due, short_lines, fault_text}
+use Rattle.dover_model.specs.Taken.{two_versions}
 use Rattle.dover_model.proofs.Accounts.{Holds, account_kept}
 use Rattle.dover_model.proofs.Cuts.{HasNoFeed}
 use Rattle.event_feed.proofs.Counting.{lines_counted}
@@ -46,8 +47,8 @@ module _ (F : List ℕ) (may : MayPause F) where
 
   module _ (S : Session) (there : (account F).session ≡ Some S) where
     -- what its account keeps
-    pub holds : Holds S (account F).mark (account F).lines
-    holds = holds_open (account F) S (account_kept F) opened there
+    pub holds : Holds two_versions S (account F).mark (account F).lines
+    holds = holds_open (account F) S (account_kept two_versions F) opened there
 
     pub few : (account F).lines ≤ most_lines
     few = lines_few (lines_of F) no_lines (λ o. omega arith) opened
@@ -125,7 +126,7 @@ module _ (F G : List ℕ) (may : MayPause F) (may_other : MayPause G) (same : sn
 
 -- the lines of a snapshot
 abbrev lines_from : Instance → ℕ → ℕ → List (List ℕ)
-lines_from J lines mark = head_line (record { rules = J.rules; lines = lines; mark = mark; jobs = length J.jobs })
+lines_from J lines mark = head_line (record { rules = declared_by J.rules; lines = lines; mark = mark; jobs = length J.jobs })
     ∷ map state_line (settled_state J mark).tasks ++ codes "resume" ∷ []
 
 -- the line that refuses a feed that is too short
@@ -165,8 +166,8 @@ module _ (F G H : List ℕ) (may : MayPause F) (may_other : MayPause G) (same : 
   -- line by line
   step : GoAlike (account F) (account G) (fold next_line (account F) (lines_of H))
       (fold next_line (account G) (lines_of H))
-  step = lines_alike (lines_of H) (account F) (account G) (same_alike F G may may_other same) (account_kept F)
-      (account_kept G)
+  step = lines_alike (lines_of H) (account F) (account G) (same_alike F G may may_other same) (account_kept two_versions F)
+      (account_kept two_versions G)
 
   alike_behind : Alike (account (F ++ H)) (account (G ++ H))
   alike_behind = subst (λ a. Alike a (account (G ++ H))) (sym (account_behind F may.whole H))

@@ -10,7 +10,7 @@ use Rattle.dover_model.specs.declared.events.Task.{Task}
 use Rattle.dover_model.specs.JobFacts.{JobFacts, job_numbers, job_of_numbers}
 use Rattle.dover_model.specs.Instance.{IsValid}
 use Rattle.dover_model.specs.Numerals.{AreShort}
-use Rattle.dover_model.specs.Session.{Session, JobItem, with_item, admitted_jobs, is_two, refused_at}
+use Rattle.dover_model.specs.Session.{Session, JobItem, RefusedJob, with_item, admitted_jobs, refuses_lines, refused_at}
 use Rattle.dover_model.specs.Sound.{jobs_of}
 use Rattle.dover_model.specs.FeedLine.{JobLine, feed_text}
 use Rattle.dover_model.specs.Feed as model
@@ -93,7 +93,7 @@ none_added bytes a b S (fed.Tick t) there none it = ap count it.after_is
 none_added bytes a b S fed.Over there none it = ap count it.after_is
 none_added bytes a b S (fed.Refused r c d v refusal) there none it = ap count it.after_is
     ∙ ap (λ J. length J.jobs)
-    (refused_instance it.session (record { at = a.mark; job = job_of_numbers r c d v; refusal = refusal }))
+    (refused_instance it.session (record { at = a.mark; line = RefusedJob (job_of_numbers r c d v) refusal }))
     ∙ ap (λ o. length (jobs_in_session o)) (sym it.before_is)
 
 -- nor does a fault
@@ -113,17 +113,18 @@ cause_adds_none a j (NotAdmitted refusal) = by_session a.session where
       → count (cond two (with_item_in (account_in a (Some S)) (refused_at a.mark j refusal))
       (with_fault (account_in a (Some S)) (NotAdmitted refusal)))
       ≡ length (admitted_jobs S.items)
-  by_version S true = ap (λ J. length J.jobs) (refused_instance S (record { at = a.mark; job = j; refusal = refusal }))
+  by_version S true = ap (λ J. length J.jobs) (refused_instance S (record { at = a.mark; line = RefusedJob j refusal }))
   by_version S false = refl
 
   by_session : (o : Option Session)
       → count (with_line (account_in a o) (JobLine j) (Some (NotAdmitted refusal))) ≡ count (account_in a o)
   by_session None = refl
-  by_session (Some S) = by_version S (is_two S.rules.version)
+  by_session (Some S) = by_version S (refuses_lines S.rules.version)
 cause_adds_none a j model.Lines = refl
 cause_adds_none a j model.Line = refl
 cause_adds_none a j model.Declared = refl
 cause_adds_none a j model.Order = refl
+cause_adds_none a j model.NotDone = refl
 cause_adds_none a j model.Short = refl
 
 -- ---- the line of a job

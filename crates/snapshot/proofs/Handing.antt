@@ -1,7 +1,7 @@
 -- What the shortest feed with a snapshot says: a line of the ratio, and a line for each job.
 use Rattle.std.proofs.Common.{◌≡◌, ℕ, suc, ◌+◌, ◌≤◌, ◌<◌, ◌^◌, List, [], ◌∷◌, ◌++◌, length, length-append, map, sym, ap}
 use Rattle.std.proofs.Common.{◌∙◌, subst}
-use Rattle.std.proofs.Common.{cond, arith, Some, None, is_some, ◌||◌}
+use Rattle.std.proofs.Common.{cond, arith, Some, None, is_some, true, ◌||◌}
 use Rattle.std.specs.Prelude.{nat_lt}
 use Rattle.std.specs.List.{AllByRecursion}
 use Rattle.std.specs.Option.{option_map}
@@ -9,7 +9,7 @@ use Rattle.std.proofs.lemmas.Bool.{le-ltb}
 use Rattle.std.proofs.lemmas.List.{map-append}
 use Rattle.dover_model.specs.declared.events.Task.{Task}
 use Rattle.dover_model.specs.declared.events.Version.{Version}
-use Rattle.dover_model.specs.declared.events.Version.TheVariants.{One, Two}
+use Rattle.dover_model.specs.declared.events.Version.TheVariants.{One, Two, Three}
 use Rattle.dover_model.specs.Limits.{last_tick, most_lines}
 use Rattle.dover_model.specs.JobFacts.{JobFacts, IsJob, job_numbers}
 use Rattle.dover_model.specs.Fraction.{Fraction, IsRatio}
@@ -20,6 +20,8 @@ use Rattle.dover_model.specs.Sound.{jobs_of}
 use Rattle.dover_model.specs.FeedLine.{FeedLine, RatioLine, JobLine, TickLine, HasNumerals, feed_line, feed_text}
 use Rattle.dover_model.specs.Feed.{Account, Lines, Declared, Order, rules_with, declared_rules, cause_of, with_line}
 use Rattle.dover_model.specs.Feed.{with_fault, next_line, no_lines}
+use Rattle.dover_model.specs.Taken.{two_versions, is_taken}
+use Rattle.dover_model.proofs.Tests.{never}
 use Rattle.dover_model.proofs.Agreement.{is_ratio-agrees}
 use Rattle.dover_model.proofs.FeedLines.{feed_line-feed_text}
 use Rattle.event_feed.specs.Reading.{open_account}
@@ -43,22 +45,24 @@ module _ (p q : ℕ) (ratio : IsRatio (record { p = p; q = q })) where
         by_version : (v : Version) → p < 10 ^ 18 → q < 10 ^ 18 → HasNumerals (RatioLine p q (declared_number v))
         by_version One p_short q_short = (p_short, (q_short, tt))
         by_version Two p_short q_short = (p_short, (q_short, (omega arith, tt)))
+        by_version Three p_short q_short = (p_short, (q_short, (omega arith, tt)))
 
   -- it declares the rules
-  declares : (v : Version) → declared_rules k (declared_number v) ≡ Some (rules_with k v)
-  declares One = ap (λ b. cond b (Some (rules_with k One)) None) ((is_ratio-agrees k).1 ratio)
-  declares Two = ap (λ b. cond b (Some (rules_with k Two)) None) ((is_ratio-agrees k).1 ratio)
+  declares : (v : Version) → is_taken two_versions v ≡ true → declared_rules k (declared_number v) ≡ Some (rules_with k v)
+  declares One taken = ap (λ b. cond b (Some (rules_with k One)) None) ((is_ratio-agrees k).1 ratio)
+  declares Two taken = ap (λ b. cond b (Some (rules_with k Two)) None) ((is_ratio-agrees k).1 ratio)
+  declares Three taken = never taken
 
   -- what it says as the first line
-  pub ratio_account : (v : Version)
+  pub ratio_account : (v : Version) → is_taken two_versions v ≡ true
       → next_line no_lines (feed_text (RatioLine p q (declared_number v))) ≡ open_account 1
       (Some (new_session (rules_with k v))) 0
-  ratio_account v =
+  ratio_account v taken =
       let line : FeedLine = RatioLine p q (declared_number v) in
       let a : Account = open_account 1 None 0 in
       ap (after_form a) (feed_line-feed_text line (ratio_numerals v))
-      ∙ ap (λ o. with_line a line (cond (is_some o) None (Some Declared))) (declares v)
-      ∙ ap (λ o. record a { session = option_map new_session o }) (declares v)
+      ∙ ap (λ o. with_line a line (cond (is_some o) None (Some Declared))) (declares v taken)
+      ∙ ap (λ o. record a { session = option_map new_session o }) (declares v taken)
 
 -- ---- the line of a job
 

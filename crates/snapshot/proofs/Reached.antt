@@ -2,23 +2,24 @@
 use Rattle.std.proofs.Common.{◌≡◌, ◌⊎◌, inl, inr, ℕ, suc, ◌+◌, ◌≤◌, ◌<◌, List, [], ◌∷◌, ◌++◌, length, length-append}
 use Rattle.std.proofs.Common.{refl, sym, ap, subst}
 use Rattle.std.proofs.Common.{Bool, true, false, cond, ◌||◌, arith, Option, Some, None, is_some}
-use Rattle.std.specs.Prelude.{nat_lt}
+use Rattle.std.specs.Prelude.{nat_lt, max}
 use Rattle.std.specs.List.{fold}
-use Rattle.std.specs.Option.{option_map}
+use Rattle.std.specs.Option.{option_map, option_map_or}
 use Rattle.std.proofs.lemmas.Bool.{ltb-false}
 use Rattle.std.proofs.lemmas.List.Sums.{fold-append}
 use Rattle.dover_model.specs.Limits.{last_tick, most_lines}
 use Rattle.dover_model.specs.JobFacts.{JobFacts}
 use Rattle.dover_model.specs.declared.events.Refusal.{Refusal}
-use Rattle.dover_model.specs.Instance.{Instance, Rules}
+use Rattle.dover_model.specs.Instance.{Instance, Declaration}
 use Rattle.dover_model.specs.Admission.{refusal_of}
-use Rattle.dover_model.specs.Session.{Session, JobItem, RefusedItem, RefusedJob, refused_at, with_item, new_session}
-use Rattle.dover_model.specs.Session.{admitted_jobs, is_two}
-use Rattle.dover_model.specs.FeedLine.{FeedLine, RatioLine, JobLine, TickLine, EndLine, feed_line}
-use Rattle.dover_model.specs.Feed.{Lines, Declared, Order, NotAdmitted, Standing, Open, Ended, Faulty, Account}
-use Rattle.dover_model.specs.Feed.{declared_rules, first_line_cause, later_line_cause, with_fault, with_item_in}
+use Rattle.dover_model.specs.Session.{Session, JobItem, RefusedItem, FinishItem, Refused, RefusedJob, RefusedDone, EarlyFinish}
+use Rattle.dover_model.specs.Session.{refused_at, refused_done_at, with_item, with_named, new_session, early_at, is_right}
+use Rattle.dover_model.specs.Session.{admitted_jobs, refuses_lines, may_finish_early, late_refusal}
+use Rattle.dover_model.specs.FeedLine.{FeedLine, RatioLine, JobLine, TickLine, DoneLine, EndLine, feed_line}
+use Rattle.dover_model.specs.Feed.{Lines, Line, Declared, Order, NotAdmitted, NotDone, Standing, Open, Ended, Faulty, Account}
+use Rattle.dover_model.specs.Feed.{declared_rules, first_line_cause, late_cause, later_line_cause, with_fault, with_item_in}
 use Rattle.dover_model.specs.Feed.{with_line, next_line}
-use Rattle.dover_model.proofs.Growing.{job_instance, refused_instance}
+use Rattle.dover_model.proofs.Growing.{job_instance, refused_instance, finish_instance}
 use Rattle.event_feed.proofs.Counting.{after_form, next_counted}
 
 -- the release of the last of these jobs, or 0
@@ -50,7 +51,7 @@ first_reaches : (lines mark : ℕ) → mark ≡ 0 → (line : FeedLine)
     → Reaches (with_line (account_with (suc lines) None mark Open) line (first_line_cause line))
 first_reaches lines mark zero_mark (RatioLine p q version) =
     by_rules (declared_rules (record { p = p; q = q }) version) refl where
-      by_rules : (o : Option Rules) → declared_rules (record { p = p; q = q }) version ≡ o
+      by_rules : (o : Option Declaration) → declared_rules (record { p = p; q = q }) version ≡ o
           → Reaches (with_line (account_with (suc lines) None mark Open) (RatioLine p q version)
           (cond (is_some o) None (Some Declared)))
       by_rules None e = tt
@@ -59,6 +60,7 @@ first_reaches lines mark zero_mark (RatioLine p q version) =
           (record { enough = omega arith; by = inl (omega (arith, zero_mark)) })
 first_reaches lines mark zero_mark (JobLine j) = tt
 first_reaches lines mark zero_mark (TickLine t) = tt
+first_reaches lines mark zero_mark (DoneLine t n) = tt
 first_reaches lines mark zero_mark EndLine = tt
 
 -- ---- later lines
@@ -81,8 +83,8 @@ module _ (S : Session) (mark lines : ℕ) (it : Reached (admitted_jobs S.items) 
       })
 
   -- a refused line is a line more
-  refused_reaches : (r : RefusedJob) → Reached (admitted_jobs (S.items ++ RefusedItem r ∷ [])) mark (suc lines)
-  refused_reaches r = subst (λ (J : Instance). Reached J.jobs mark (suc lines)) (sym (refused_instance S r))
+  refused_reaches : (t : ℕ) (r : Refused) → Reached (admitted_jobs (S.items ++ RefusedItem r ∷ [])) t (suc lines)
+  refused_reaches t r = subst (λ (J : Instance). Reached J.jobs t (suc lines)) (sym (refused_instance S r))
       (record { enough = omega (arith, it.enough); by = inr (omega (arith, it.enough)) })
 
   -- so is a tick
@@ -95,18 +97,47 @@ module _ (S : Session) (mark lines : ℕ) (it : Reached (admitted_jobs S.items) 
     by_version : (refusal : Refusal) (two : Bool)
         → Reaches (cond two (with_item_in counted (refused_at mark j refusal))
         (with_fault counted (NotAdmitted refusal)))
-    by_version refusal true = refused_reaches (record { at = mark; job = j; refusal = refusal })
+    by_version refusal true = refused_reaches mark (record { at = mark; line = RefusedJob j refusal })
     by_version refusal false = tt
 
     by_refusal : (o : Option Refusal) → Reaches (with_line counted (JobLine j) (option_map NotAdmitted o))
     by_refusal None = job_reaches j
-    by_refusal (Some refusal) = by_version refusal (is_two S.rules.version)
+    by_refusal (Some refusal) = by_version refusal (refuses_lines S.rules.version)
+
+    by_late : (o : Option Refusal) → Reaches (with_line counted (JobLine j) (Some (option_map_or NotAdmitted o Order)))
+    by_late None = tt
+    by_late (Some refusal) = by_version refusal (refuses_lines S.rules.version)
 
     by_order : (b : Bool)
         → Reaches (with_line counted (JobLine j)
-        (cond b (Some Order) (option_map NotAdmitted (refusal_of S.rules.ratio (admitted_jobs S.items) j))))
-    by_order true = tt
+        (cond b (Some (late_cause S.rules.version)) (option_map NotAdmitted (refusal_of S.rules.ratio (admitted_jobs S.items) j))))
+    by_order true = by_late (late_refusal S.rules.version)
     by_order false = by_refusal (refusal_of S.rules.ratio (admitted_jobs S.items) j)
+
+  -- an early finish is a line more
+  finish_reaches : (t : ℕ) (o : Option EarlyFinish)
+      → Reaches (account_with (suc lines) (Some (with_named S (option_map FinishItem o))) t Open)
+  finish_reaches t None = tick_reaches t
+  finish_reaches t (Some f) = subst (λ (J : Instance). Reached J.jobs t (suc lines)) (sym (finish_instance S f))
+      (tick_reaches t)
+
+  -- a done line
+  done_reaches : (t n : ℕ) → Reaches (with_line counted (DoneLine t n) (later_line_cause S mark (DoneLine t n)))
+  done_reaches t n = by_version (may_finish_early S.rules.version) where
+    by_right : (b : Bool) → Reaches (with_line counted (DoneLine t n) (cond b None (Some NotDone)))
+    by_right true = finish_reaches t (early_at S t n)
+    by_right false = refused_reaches (max mark t) (record { at = max mark t; line = RefusedDone t n })
+
+    by_tick : (b : Bool)
+        → Reaches (with_line counted (DoneLine t n)
+        (cond b (Some Order) (cond (is_right S mark t n) None (Some NotDone))))
+    by_tick true = tt
+    by_tick false = by_right (is_right S mark t n)
+
+    by_version : (b : Bool) → Reaches (with_line counted (DoneLine t n) (cond b
+        (cond (nat_lt last_tick t) (Some Order) (cond (is_right S mark t n) None (Some NotDone))) (Some Line)))
+    by_version true = by_tick (nat_lt last_tick t)
+    by_version false = tt
 
   -- a line of any form
   later_reaches : (line : FeedLine) → Reaches (with_line counted line (later_line_cause S mark line))
@@ -116,6 +147,7 @@ module _ (S : Session) (mark lines : ℕ) (it : Reached (admitted_jobs S.items) 
     by_tests : (b : Bool) → Reaches (with_line counted (TickLine t) (cond b (Some Order) None))
     by_tests true = tt
     by_tests false = tick_reaches t
+  later_reaches (DoneLine t n) = done_reaches t n
   later_reaches EndLine = tt
 
 -- ---- each line

@@ -15,7 +15,9 @@ use Rattle.dover_model.specs.declared.events.Task.{Task}
 use Rattle.dover_model.specs.declared.events.Version.{Version}
 use Rattle.dover_model.specs.declared.events.Version.TheVariants.{One, Two}
 use Rattle.dover_model.specs.Fraction.{IsRatio, is_ratio}
-use Rattle.dover_model.specs.Instance.{Rules}
+use Rattle.dover_model.specs.Instance.{Declaration}
+use Rattle.dover_model.specs.Taken.{two_versions, is_taken}
+use Rattle.dover_model.proofs.TraceLines.{version_back, version_from}
 use Rattle.dover_model.specs.JobFacts.{job_of_numbers, job_numbers}
 use Rattle.dover_model.specs.Numerals.{numerals, AreShort}
 use Rattle.dover_model.specs.Lines.{is_too_long, fields_of, line_of, with_numbers, numbers_after, numbers_of}
@@ -66,28 +68,15 @@ numbers_from word line ns = by (fields_of line) refl where
 
 -- ---- the first line
 
--- a version is read from its number
-version_back : (v : Version) → version_of_number (version_number v) ≡ Some v
-version_back One = refl
-version_back Two = refl
-
--- and its number from it
-version_from : (n : ℕ) (v : Version) → version_of_number n ≡ Some v → version_number v ≡ n
-version_from n v = by (n == 1) (n == 2) refl refl where
-  by : (a b : Bool) → (n == 1) ≡ a → (n == 2) ≡ b → cond a (Some One) (cond b (Some Two) None) ≡ Some v
-      → version_number v ≡ n
-  by true b one x read = ap version_number (sym (some_same One v read)) ∙ sym (eqb-true n 1 one)
-  by false true x two read = ap version_number (sym (some_same Two v read)) ∙ sym (eqb-true n 2 two)
-  by false false x y read = none_is_some read
-
 -- its numbers are read as the first line
-numbers_head : (h : Head) → IsRatio h.rules.ratio → head_from (head_numbers h) ≡ Some h
-numbers_head h ratio =
-    let head : Rules → Head = λ rules. record { rules = rules; lines = h.lines; mark = h.mark; jobs = h.jobs } in
+numbers_head : (h : Head) → is_taken two_versions h.rules.version ≡ true → IsRatio h.rules.ratio
+    → head_from (head_numbers h) ≡ Some h
+numbers_head h taken ratio =
+    let head : Declaration → Head = λ rules. record { rules = rules; lines = h.lines; mark = h.mark; jobs = h.jobs } in
     ap (λ o. option_map head (option_and_then (λ version. then_some (is_ratio h.rules.ratio) (record {
       ratio = h.rules.ratio;
       version = version;
-    })) o)) (version_back h.rules.version)
+    })) o)) (version_back two_versions h.rules.version taken)
     ∙ ap (λ b. option_map head (then_some b h.rules)) ((is_ratio-agrees h.rules.ratio).1 ratio)
 
 -- the first line is short
@@ -100,45 +89,56 @@ read_head-head_line h it =
     ap (λ b. cond b None (option_and_then head_from (numbers_of (codes "snapshot") (head_line h))))
     (le-ltb 128 (length (head_line h)) (omega (arith, head_fits h it.short)))
     ∙ ap (option_and_then head_from) (numbers_back (codes "snapshot") (head_numbers h) refl it.short)
-    ∙ numbers_head h it.ratio
+    ∙ numbers_head h it.version it.ratio
 
 -- what rules are read from
-rules_read : (n p q : ℕ) (rules : Rules) → rules_from n p q ≡ Some rules
+rules_read : (n p q : ℕ) (rules : Declaration) → rules_from n p q ≡ Some rules
     → (version_number rules.version ∷ rules.ratio.p ∷ rules.ratio.q ∷ [] ≡ n ∷ p ∷ q ∷ []) × IsRatio rules.ratio
+    × (is_taken two_versions rules.version ≡ true)
 rules_read n p q rules = by (version_of_number n) refl where
-  rules_in : Version → Rules
+  rules_in : Version → Declaration
   rules_in version = record { ratio = record { p = p; q = q }; version = version }
 
   by_ratio : (b : Bool) (v : Version) → is_ratio (record { p = p; q = q }) ≡ b → version_of_number n ≡ Some v
       → then_some b (rules_in v) ≡ Some rules
       → (version_number rules.version ∷ rules.ratio.p ∷ rules.ratio.q ∷ [] ≡ n ∷ p ∷ q ∷ []) × IsRatio rules.ratio
+      × (is_taken two_versions rules.version ≡ true)
   by_ratio false v fails version read = none_is_some read
   by_ratio true v passes version read =
-      subst (λ (r : Rules). (version_number r.version ∷ r.ratio.p ∷ r.ratio.q ∷ [] ≡ n ∷ p ∷ q ∷ []) × IsRatio r.ratio)
-      (some_same (rules_in v) rules read)
-      (ap (λ m. m ∷ p ∷ q ∷ []) (version_from n v version), (is_ratio-agrees (record { p = p; q = q })).0 passes)
+      subst (λ (r : Declaration). (version_number r.version ∷ r.ratio.p ∷ r.ratio.q ∷ [] ≡ n ∷ p ∷ q ∷ []) × IsRatio r.ratio
+      × (is_taken two_versions r.version ≡ true))
+      (some_same (rules_in v) rules read) (
+        ap (λ m. m ∷ p ∷ q ∷ []) (version_from two_versions n v version).0,
+        (is_ratio-agrees (record { p = p; q = q })).0 passes,
+        (version_from two_versions n v version).1,
+      )
 
   by : (o : Option Version) → version_of_number n ≡ o
       → option_and_then (λ version. then_some (is_ratio (record { p = p; q = q })) (rules_in version)) o ≡ Some rules
       → (version_number rules.version ∷ rules.ratio.p ∷ rules.ratio.q ∷ [] ≡ n ∷ p ∷ q ∷ []) × IsRatio rules.ratio
+      × (is_taken two_versions rules.version ≡ true)
   by None version read = none_is_some read
   by (Some v) version read = by_ratio (is_ratio (record { p = p; q = q })) v refl version read
 
 -- what a first line is read from
 head_read : (ns : List ℕ) (h : Head) → head_from ns ≡ Some h → (head_numbers h ≡ ns) × IsRatio h.rules.ratio
+    × (is_taken two_versions h.rules.version ≡ true)
 head_read (n ∷ p ∷ q ∷ lines ∷ mark ∷ jobs ∷ []) h = by (rules_from n p q) (rules_read n p q) where
-  head_in : Rules → Head
+  head_in : Declaration → Head
   head_in rules = record { rules = rules; lines = lines; mark = mark; jobs = jobs }
 
-  by : (o : Option Rules)
-      → ((rules : Rules) → o ≡ Some rules
-      → (version_number rules.version ∷ rules.ratio.p ∷ rules.ratio.q ∷ [] ≡ n ∷ p ∷ q ∷ []) × IsRatio rules.ratio)
+  by : (o : Option Declaration)
+      → ((rules : Declaration) → o ≡ Some rules
+      → (version_number rules.version ∷ rules.ratio.p ∷ rules.ratio.q ∷ [] ≡ n ∷ p ∷ q ∷ []) × IsRatio rules.ratio
+      × (is_taken two_versions rules.version ≡ true))
       → option_map head_in o ≡ Some h → (head_numbers h ≡ n ∷ p ∷ q ∷ lines ∷ mark ∷ jobs ∷ []) × IsRatio h.rules.ratio
+      × (is_taken two_versions h.rules.version ≡ true)
   by None it read = none_is_some read
   by (Some rules) it read =
-      subst (λ (g : Head). (head_numbers g ≡ n ∷ p ∷ q ∷ lines ∷ mark ∷ jobs ∷ []) × IsRatio g.rules.ratio)
+      subst (λ (g : Head). (head_numbers g ≡ n ∷ p ∷ q ∷ lines ∷ mark ∷ jobs ∷ []) × IsRatio g.rules.ratio
+      × (is_taken two_versions g.rules.version ≡ true))
       (some_same (head_in rules) h read)
-      (ap (λ ns. ns ++ lines ∷ mark ∷ jobs ∷ []) (it rules refl).0, (it rules refl).1)
+      (ap (λ ns. ns ++ lines ∷ mark ∷ jobs ∷ []) (it rules refl).0, (it rules refl).1, (it rules refl).2)
 head_read [] h = λ read. none_is_some read
 head_read (a ∷ []) h = λ read. none_is_some read
 head_read (a ∷ b ∷ []) h = λ read. none_is_some read
@@ -159,7 +159,7 @@ head_line-read_head line h = by (is_too_long line) (numbers_of (codes "snapshot"
       let numbers = numbers_from (codes "snapshot") line ns cut in
       let it = head_read ns h read in (
         ap (with_numbers (codes "snapshot")) it.0 ∙ numbers.0,
-        record { ratio = it.1; short = subst AreShort (sym it.0) numbers.1 },
+        record { version = it.2; ratio = it.1; short = subst AreShort (sym it.0) numbers.1 },
       )
 
 -- ---- the line of a job

@@ -7,7 +7,7 @@ use Rattle.std.proofs.lemmas.Bool.{lt-ltb, le-ltb, leb-true, eqb-true, and_parts
 use Rattle.std.proofs.lemmas.List.{map-append}
 use Rattle.std.proofs.lemmas.List.Sums.{fold-append}
 use Rattle.dover_model.specs.declared.events.Task.{Task}
-use Rattle.dover_model.specs.Instance.{Rules, IsValid, is_valid}
+use Rattle.dover_model.specs.Instance.{Declaration, under, IsValid, is_valid}
 use Rattle.dover_model.specs.Fraction.{IsRatio}
 use Rattle.dover_model.specs.Sound.{IsNumberedFrom}
 use Rattle.dover_model.proofs.Agreement.{is_valid-agrees}
@@ -32,7 +32,7 @@ pub head_beyond : (line : List ℕ) (h : Head) → read_head line ≡ Some h →
 head_beyond line h read beyond = ap with_head read ∙ ap (λ b. cond b (Going h []) (Refused 1)) beyond
 
 -- no job is valid under rules with a ratio
-none_valid : (rules : Rules) → IsRatio rules.ratio → IsValid (record { rules = rules; jobs = [] })
+none_valid : (rules : Declaration) → IsRatio rules.ratio → IsValid (record { rules = under rules []; jobs = [] })
 none_valid rules ratio = (reads_new rules ratio).valid
 
 -- it is one within the limits
@@ -41,6 +41,7 @@ pub head_stands : (line : List ℕ) (h : Head) → read_head line ≡ Some h →
 head_stands line h read within =
     let it = head_line-read_head line h read in
     record {
+      version = it.1.version;
       reads = ap with_head read ∙ ap (λ b. cond b (Going h []) (Refused 1)) within;
       text = ap (λ l. l ∷ []) (sym it.0);
       limits = within;
@@ -92,6 +93,7 @@ module _ (h : Head) (tasks : List Task) (ls : List (List ℕ)) (it : HasRead h t
       let all = and_parts ((t.number == length tasks) && is_valid (stored h (tasks ++ t ∷ []))) _ follows in
       let both = and_parts (t.number == length tasks) (is_valid (stored h (tasks ++ t ∷ []))) all.0 in
       record {
+        version = it.version;
         reads = next_job more ∙ ap (with_task h tasks) read
             ∙ ap (λ b. cond b (Going h (tasks ++ t ∷ [])) (refused_behind tasks)) follows;
         text = ap (λ l. ls ++ l ∷ []) (sym (state_line-read_task line t read).0)

@@ -11,11 +11,14 @@ use Rattle.dover_model.specs.declared.events.Role.{Role}
 use Rattle.dover_model.specs.declared.events.Role.TheVariants.{Coming, Fresh, Waiting, Held, Running, Done, Gone}
 use Rattle.dover_model.specs.declared.events.Task.{Task}
 use Rattle.dover_model.specs.JobFacts.{JobFacts, IsJob}
-use Rattle.dover_model.specs.Instance.{Instance, IsValid, is_valid}
-use Rattle.dover_model.specs.Session.{Session, instance_of, admitted_jobs}
+use Rattle.dover_model.specs.Instance.{Instance, under, IsValid, is_valid}
+use Rattle.dover_model.specs.Session.{Session, instance_of, admitted_jobs, early_finishes}
 use Rattle.dover_model.specs.Settled.{settled_state}
 use Rattle.dover_model.specs.Sound.{IsMember, IsNumberedFrom, jobs_of}
 use Rattle.dover_model.specs.Feed.{Account, Open}
+use Rattle.admission.proofs.Versions.{plain_items}
+use Rattle.dover_model.proofs.Meeting.{finishing_valid}
+use Rattle.dover_model.specs.Taken.{two_versions}
 use Rattle.dover_model.proofs.Accounts.{Holds, HoldsBy, HoldsOpen, IsKept}
 use Rattle.dover_model.proofs.Agreement.{is_valid-agrees}
 use Rattle.dover_model.proofs.Barriers.{AtBarrier, settled_at_barrier}
@@ -52,7 +55,7 @@ in_middle : (front : List Task) (t : Task) (back : List Task) → IsMember t (fr
 in_middle [] t back = inl refl
 in_middle (u ∷ front) t back = inr (in_middle front t back)
 
-module _ (S : Session) (mark lines : ℕ) (holds : Holds S mark lines) (few : lines ≤ most_lines)
+module _ (S : Session) (mark lines : ℕ) (holds : Holds two_versions S mark lines) (few : lines ≤ most_lines)
     (reached : Reached (admitted_jobs S.items) mark lines)
   where
     -- its jobs
@@ -70,11 +73,16 @@ module _ (S : Session) (mark lines : ℕ) (holds : Holds S mark lines) (few : li
     bar : AtBarrier J mark (settled_state J mark)
     bar = settled_at_barrier J holds.reads.valid mark
 
+    -- no job finishes early
+    plain : early_finishes S.items ≡ []
+    plain = plain_items S.rules holds.version [] 0 S.items holds.follows
+
     jobs_same : jobs_of tasks ≡ J.jobs
     jobs_same = bar.keeps.jobs
 
     pub stored_is : stored h tasks ≡ J
-    stored_is = ap (λ jobs. record { rules = S.rules; jobs = jobs }) jobs_same
+    stored_is = ap (λ jobs. record { rules = under S.rules []; jobs = jobs }) jobs_same
+        ∙ ap (λ fs. record { rules = under S.rules fs; jobs = J.jobs }) (sym plain)
 
     count : length tasks ≡ length J.jobs
     count = omega (arith, count_jobs tasks, ap length jobs_same)
@@ -90,6 +98,7 @@ module _ (S : Session) (mark lines : ℕ) (holds : Holds S mark lines) (few : li
         let known : mark ≤ 1_000_000_000_000 = holds.known in
         let most : lines ≤ 4_000_000 = few in
         record {
+          version = holds.version;
           ratio = holds.reads.valid.ratio;
           short =
               (rules.0, (rules.1.0, (rules.1.1.0, (omega arith, (omega arith, (omega (arith, jobs_few), tt))))));
@@ -139,7 +148,8 @@ module _ (S : Session) (mark lines : ℕ) (holds : Holds S mark lines) (few : li
       -- the jobs up to this one are the first of the feed's
       valid_up_to : IsValid (stored h (front ++ t ∷ []))
       valid_up_to = valid_front (stored h (front ++ t ∷ [])) (jobs_of back)
-          (subst (λ jobs. IsValid (record { rules = S.rules; jobs = jobs })) (sym jobs) holds.reads.valid) where
+          (subst (λ jobs. IsValid (record { rules = under S.rules []; jobs = jobs })) (sym jobs)
+          (finishing_valid J [] holds.reads.valid)) where
             jobs : jobs_of (front ++ t ∷ []) ++ jobs_of back ≡ J.jobs
             jobs = sym (map-append (λ (u : Task). u.job) (front ++ t ∷ []) back)
                 ∙ ap jobs_of (append_assoc front (t ∷ []) back) ∙ ap jobs_of split ∙ jobs_same
@@ -218,10 +228,10 @@ module _ (S : Session) (mark lines : ℕ) (holds : Holds S mark lines) (few : li
     }
 
 -- what an account keeps that goes on
-pub holds_open : (a : Account) (S : Session) → IsKept a → a.standing ≡ Open → a.session ≡ Some S
-    → Holds S a.mark a.lines
+pub holds_open : (a : Account) (S : Session) → IsKept two_versions a → a.standing ≡ Open → a.session ≡ Some S
+    → Holds two_versions S a.mark a.lines
 holds_open a S kept opened there =
-    subst (λ o. HoldsOpen o a.mark a.lines) there (subst (λ s. HoldsBy s a.session a.mark a.lines) opened kept)
+    subst (λ o. HoldsOpen two_versions o a.mark a.lines) there (subst (λ s. HoldsBy two_versions s a.session a.mark a.lines) opened kept)
 
 -- how its mark was reached
 pub reaches_open : (a : Account) (S : Session) → Reaches a → a.standing ≡ Open → a.session ≡ Some S

@@ -7,7 +7,7 @@ use Rattle.std.specs.List.{AllByRecursion, fold}
 use Rattle.std.proofs.lemmas.List.{map-append}
 use Rattle.std.proofs.lemmas.List.Sums.{fold-append}
 use Rattle.dover_model.specs.declared.events.Task.{Task}
-use Rattle.dover_model.specs.Instance.{Instance, IsValid}
+use Rattle.dover_model.specs.Instance.{Instance, under, declared_by, IsValid}
 use Rattle.dover_model.specs.Session.{Session, instance_of}
 use Rattle.dover_model.specs.Settled.{settled_state}
 use Rattle.dover_model.specs.Sound.{jobs_of}
@@ -16,9 +16,8 @@ use Rattle.dover_model.specs.FeedLine.{RatioLine, JobLine, TickLine, feed_text}
 use Rattle.dover_model.specs.Feed.{Account, no_lines, next_line, account_of_lines, account, is_open}
 use Rattle.dover_model.proofs.Barriers.{AtBarrier, settled_at_barrier}
 use Rattle.dover_model.proofs.Cuts.{HasNoFeed}
-use Rattle.dover_model.proofs.Growing.{instance_with}
 use Rattle.dover_model.proofs.Honest.{count_jobs}
-use Rattle.dover_model.proofs.JobSessions.{jobs_back}
+use Rattle.dover_model.proofs.JobSessions.{instance_back}
 use Rattle.dover_model.proofs.Valid.{valid_front}
 use Rattle.dover_model.specs.declared.horizon.Horizon.TheVariants.{Mark}
 use Rattle.ready_server.specs.Rostering.{Rests}
@@ -90,13 +89,13 @@ module _ (h : Head) (tasks : List Task) (ls : List (List ℕ)) (it : IsWhole h t
       (omega (arith, ap length split, length-append front (t ∷ back), it.all, limits.enough, limits.lines))) where
         valid_up_to : IsValid (stored h (front ++ t ∷ []))
         valid_up_to = valid_front (stored h (front ++ t ∷ [])) (jobs_of back)
-            (subst (λ jobs. IsValid (record { rules = h.rules; jobs = jobs }))
+            (subst (λ jobs. IsValid (record { rules = under h.rules []; jobs = jobs }))
             (sym (sym (map-append (λ (u : Task). u.job) (front ++ t ∷ []) back)
             ∙ ap jobs_of (append_assoc front (t ∷ []) back) ∙ ap jobs_of split)) it.read.valid)
 
   all_lines_account : account_of_lines (feed_lines h tasks) ≡ paused_account h tasks
   all_lines_account = all_account h tasks can
-      (jobs_account [] tasks refl (ratio_account h.rules.ratio.p h.rules.ratio.q it.read.valid.ratio h.rules.version))
+      (jobs_account [] tasks refl (ratio_account h.rules.ratio.p h.rules.ratio.q it.read.valid.ratio h.rules.version it.read.version))
 
   -- its lines have no line feed
   feedless : AllByRecursion HasNoFeed (feed_lines h tasks)
@@ -131,11 +130,11 @@ module _ (h : Head) (tasks : List Task) (ls : List (List ℕ)) (it : IsWhole h t
       (alike_all tasks (settled_state (stored h tasks) h.mark).tasks it.settled)
 
   instance_is : instance_of (stored_session h tasks) ≡ stored h tasks
-  instance_is = ap (instance_with h.rules) (jobs_back (jobs_of tasks))
+  instance_is = instance_back (stored h tasks) refl
 
   -- the lines of a snapshot
   abbrev lines_from : Instance → List (List ℕ)
-  lines_from J = head_line (record { rules = J.rules; lines = h.lines; mark = h.mark; jobs = length J.jobs })
+  lines_from J = head_line (record { rules = declared_by J.rules; lines = h.lines; mark = h.mark; jobs = length J.jobs })
       ∷ map state_line (settled_state J h.mark).tasks ++ codes "resume" ∷ []
 
   lines_are : snapshot_lines (paused_account h tasks) (stored_session h tasks) ≡ ls
@@ -173,7 +172,8 @@ module _ (h : Head) (tasks : List Task) (ls : List (List ℕ)) (it : IsWhole h t
       by None t none same = absurd none
       by (Some k) None some same = absurd same
       by (Some k) (Some T) some same = record {
-        rules = ap (λ (J : Instance). J.rules) same ∙ some.rules;
+        rules = ap (λ (J : Instance). declared_by J.rules) same ∙ some.rules;
+        version_taken = some.version_taken;
         jobs = subst (admission.StandsFor k.admission) (sym (ap (λ (J : Instance). J.jobs) same)) some.jobs;
         marked = some.marked ∙ sym alike.1;
       }

@@ -1,7 +1,7 @@
 -- A feed that is paused, and the lines of its snapshot.
 use Rattle.std.specs.Prelude.{true, ◌≡◌, ℕ, List, [], ◌∷◌, ◌++◌, length, map, Some, codes}
 use Rattle.dover_model.specs.Feed.{account}
-use Rattle.dover_model.specs.Instance.{Rules}
+use Rattle.dover_model.specs.Instance.{Declaration}
 use Rattle.dover_model.specs.Session.{Session, instance_of}
 use Rattle.dover_model.specs.Settled.{settled}
 use Rattle.dover_model.specs.declared.horizon.Horizon.TheVariants.{Mark}
@@ -22,6 +22,6 @@ pub record IsTakenTo (v : RosterServer) (lines mark : ℕ) (F : List ℕ) : Type
   pub listed : has_roster v ≡ true
 
 -- the lines of a snapshot, of the jobs of a roster at a mark
-abbrev pub lines_in : Roll → Rules → (lines mark : ℕ) → List (List ℕ)
+abbrev pub lines_in : Roll → Declaration → (lines mark : ℕ) → List (List ℕ)
 lines_in p rules lines mark = head_line (record { rules = rules; lines = lines; mark = mark; jobs = length p.jobs })
     ∷ map state_line (map (job_at p mark) p.jobs) ++ codes "resume" ∷ []

@@ -11,7 +11,7 @@ use Rattle.dover_model.specs.declared.events.Task.{Task}
 use Rattle.dover_model.specs.Limits.{last_tick, most_jobs, most_lines}
 use Rattle.dover_model.specs.JobFacts.{job_of_numbers}
 use Rattle.dover_model.specs.Fraction.{is_ratio}
-use Rattle.dover_model.specs.Instance.{Instance, Rules, is_valid}
+use Rattle.dover_model.specs.Instance.{Instance, Declaration, under, is_valid}
 use Rattle.dover_model.specs.Numerals.{numerals}
 use Rattle.dover_model.specs.Lines.{is_too_long, fields_of, numbers_of}
 use Rattle.dover_model.specs.Settled.{settled_state}
@@ -22,7 +22,7 @@ use Rattle.snapshot.specs.Snapshot.{Head, role_word}
 -- ---- the forms of its lines
 
 -- the rules of a version's number and a ratio, if they are within the limits
-abbrev pub rules_from : (version p q : ℕ) → Option Rules
+abbrev pub rules_from : (version p q : ℕ) → Option Declaration
 rules_from n p q = option_and_then (λ version. then_some (is_ratio (record { p = p; q = q })) (record {
   ratio = record { p = p; q = q };
   version = version;
@@ -68,7 +68,7 @@ is_within_limits h = nat_le h.mark last_tick && nat_le h.jobs most_jobs && nat_l
 
 -- the jobs so far, under the rules of the first line
 abbrev pub stored : Head → List Task → Instance
-stored h tasks = record { rules = h.rules; jobs = jobs_of tasks }
+stored h tasks = record { rules = under h.rules []; jobs = jobs_of tasks }
 
 -- the job has the next number, is valid with those before it, and isn't released after the mark
 abbrev pub may_follow : Head → List Task → Task → Bool

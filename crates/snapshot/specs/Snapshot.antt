@@ -1,15 +1,16 @@
 -- The state of a feed that is paused, as a text.
-use Rattle.std.specs.Prelude.{◌≡◌, ℕ, List, [], ◌∷◌, ◌++◌, length, map, IsTrue, IsSome, codes, decimal, None, Some}
+use Rattle.std.specs.Prelude.{◌≡◌, ℕ, List, [], ◌∷◌, ◌++◌, length, map, true, IsTrue, IsSome, codes, decimal, None, Some}
 use Rattle.dover_model.specs.declared.events.Role.{Role}
 use Rattle.dover_model.specs.declared.events.Role.TheVariants.{Coming, Fresh, Waiting, Held, Running, Done, Gone}
 use Rattle.dover_model.specs.declared.events.Task.{Task}
 use Rattle.dover_model.specs.Fraction.{IsRatio}
-use Rattle.dover_model.specs.Instance.{Rules}
+use Rattle.dover_model.specs.Instance.{Declaration}
 use Rattle.dover_model.specs.Numerals.{AreShort}
 use Rattle.dover_model.specs.Session.{Session, instance_of}
 use Rattle.dover_model.specs.Settled.{settled_state}
 use Rattle.dover_model.specs.Lines.{rest_of, in_lines, line_of, with_numbers}
 use Rattle.dover_model.specs.JobFacts.{job_numbers}
+use Rattle.dover_model.specs.Taken.{two_versions, is_taken}
 use Rattle.dover_model.specs.Text.{version_number}
 use Rattle.dover_model.specs.Feed.{Account, account, is_open}
 
@@ -54,7 +55,7 @@ pub record IsState (t : Task) : Type 0 where
 
 -- what the first line names
 pub record Head : Type 0 where
-  pub rules : Rules
+  pub rules : Declaration
   pub lines : ℕ  -- how many the feed has so far
   pub mark : ℕ
   pub jobs : ℕ  -- how many were admitted
@@ -67,8 +68,9 @@ head_numbers h = version_number h.rules.version ∷ h.rules.ratio.p ∷ h.rules.
 abbrev pub head_line : Head → List ℕ
 head_line h = with_numbers (codes "snapshot") (head_numbers h)
 
--- the ratio is one, and the numbers have numerals
+-- the version is taken, the ratio is one, and the numbers have numerals
 pub record IsHead (h : Head) : Type 0 where
+  pub version : is_taken two_versions h.rules.version ≡ true
   pub ratio : IsRatio h.rules.ratio
   pub short : AreShort (head_numbers h)
 

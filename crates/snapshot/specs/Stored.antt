@@ -3,9 +3,10 @@ use Rattle.std.specs.Prelude.{◌≡◌, ℕ, ◌+◌, ◌≤◌, List, ◌∷�
 use Rattle.std.specs.List.{AllByRecursion}
 use Rattle.dover_model.specs.declared.events.Task.{Task}
 use Rattle.dover_model.specs.declared.events.Version.{Version}
-use Rattle.dover_model.specs.declared.events.Version.TheVariants.{One, Two}
+use Rattle.dover_model.specs.declared.events.Version.TheVariants.{One, Two, Three}
 use Rattle.dover_model.specs.Instance.{IsValid}
 use Rattle.dover_model.specs.Session.{Session, JobItem}
+use Rattle.dover_model.specs.Taken.{two_versions, is_taken}
 use Rattle.dover_model.specs.Sound.{IsNumberedFrom, jobs_of}
 use Rattle.dover_model.specs.FeedLine.{RatioLine, JobLine, feed_text}
 use Rattle.dover_model.specs.Feed.{Account, Open}
@@ -14,6 +15,7 @@ use Rattle.snapshot.specs.Reading.{Going, is_within_limits, stored, last_release
 
 -- these lines are a first line within the limits, and the lines of the first jobs, which are valid
 pub record HasRead (h : Head) (tasks : List Task) (ls : List (List ℕ)) : Type 0 where
+  pub version : is_taken two_versions h.rules.version ≡ true
   pub reads : reading_of ls ≡ Going h tasks
   pub text : ls ≡ head_line h ∷ map state_line tasks
   pub limits : is_within_limits h ≡ true
@@ -28,6 +30,7 @@ pub record HasRead (h : Head) (tasks : List Task) (ls : List (List ℕ)) : Type 
 abbrev pub declared_number : Version → Option ℕ
 declared_number One = None
 declared_number Two = Some 2
+declared_number Three = Some 3
 
 -- the line of the ratio
 abbrev pub ratio_text : Head → List ℕ

@@ -1,11 +1,12 @@
 //! The lines of a feed, handed in again.
-ghost use Rattle.std.specs.Prelude.{◌≡◌, ℕ, List, [], ◌∷◌, ◌++◌, false, IfSome, IsNone};
+ghost use Rattle.std.specs.Prelude.{◌≡◌, ℕ, List, [], ◌∷◌, ◌++◌, true, false, IfSome, IsNone};
 ghost use Rattle.dover_model.specs.declared.events.Task.{Task};
 ghost use Rattle.dover_model.specs.Fraction.{IsRatio};
 ghost use Rattle.dover_model.specs.Instance.{IsValid};
 ghost use Rattle.dover_model.specs.JobFacts.{job_numbers};
 ghost use Rattle.dover_model.specs.Numerals.{AreShort};
 ghost use Rattle.dover_model.specs.FeedLine.{HasNumerals, RatioLine, feed_text};
+ghost use Rattle.dover_model.specs.Taken.{two_versions, is_taken};
 ghost use Rattle.job_format.specs.Form.{form_of};
 ghost use Rattle.event_feed.specs.Kept.{StandsFor, IsGoing, has_ended};
 ghost use Rattle.snapshot.specs.Snapshot as model;
@@ -45,12 +46,14 @@ fn ratio_line(head: &Head) -> FeedLine
         version: match head.version {
             Version::One => None,
             Version::Two => Some(2),
+            Version::Three => Some(3),
         },
     }
 }
 
 /// An intake that was handed the line of the ratio.
 pub(crate) fn begin(head: &Head) -> Intake
+    requires { is_taken two_versions head.now.version ≡ true }
     ensures { IsFed result (head_in head.now) [] }
 {
     let mut intake = Intake::new();

@@ -19,6 +19,7 @@ pub(crate) fn head(version: Version, k: Ratio, lines: u64, mark: u64, jobs: u64,
     let number = match version {
         Version::One => 1,
         Version::Two => 2,
+        Version::Three => 3,
     };
     to.clear();
     to.put_with_numbers(

@@ -11,11 +11,12 @@ use Rattle.dover_model.specs.Limits.{most_lines}
 use Rattle.dover_model.specs.Lines.{lines_of}
 use Rattle.dover_model.specs.Fraction.{Fraction}
 use Rattle.dover_model.specs.JobFacts.{JobFacts, job_of_numbers}
-use Rattle.dover_model.specs.Instance.{Rules}
+use Rattle.dover_model.specs.Instance.{Declaration as Rules}
 use Rattle.dover_model.specs.Admission.{refusal_of}
 use Rattle.dover_model.specs.Feed as feed
 use Rattle.dover_model.specs.Feed.{Open, Faulty, NotAdmitted, declared_rules, rules_with}
-use Rattle.dover_model.proofs.Accounts.{declared_ratio}
+use Rattle.dover_model.proofs.Accounts.{declared_good}
+use Rattle.dover_model.specs.Taken.{two_versions}
 use Rattle.admission.specs.Kept as admission
 use Rattle.admission.specs.Answers as admitting
 use Rattle.admission.specs.Answers.{refusal_of_refused, IsOther}
@@ -84,6 +85,7 @@ module _ (until : ℕ) (task : PeriodicTask) (rules : Rules) (tasks : List Perio
       let above : rules.ratio.q ≤ rules.ratio.p = keeps.ratio.above_one in record {
         rules_are = keeps.rules_are ∙ ap (λ k. rules_with k old.version) (sym same)
             ∙ ap (rules_with new.admission.ratio) (sym version);
+        version = keeps.version;
         ratio = keeps.ratio;
         tested = subst (admission.StandsFor new.admission)
             (sym (map-append (tested_job until) tasks (task ∷ []))) stands;
@@ -200,7 +202,8 @@ module _ (until : ℕ) (intake : TaskIntake) (a : TaskAccount) (p q : ℕ) (vers
         tasks_are = tasks_are ∙ keeps.tasks_are;
         rules = subst (λ o. KeepsRules until o (Some rules) a.tasks) (sym new_is) (record {
           rules_are = refl;
-          ratio = declared_ratio (fraction p q) version rules some;
+          version = (declared_good two_versions (fraction p q) version rules some).1;
+          ratio = (declared_good two_versions (fraction p q) version rules some).0;
           tested = subst (λ ts. admission.StandsFor d.admission (map (tested_job until) ts)) (sym none) stands;
           are = subst (AreTasks until rules.ratio) (sym none) (no_tasks until rules.ratio);
         });

@@ -1,7 +1,7 @@
 -- Which line of a task text is at fault, and with which task before it its ratio is broken.
 use Rattle.std.specs.Prelude.{◌≡◌, ℕ, List, [], ◌∷◌, ◌++◌, map, Option, Some}
 use Rattle.dover_model.specs.Lines.{lines_of}
-use Rattle.dover_model.specs.Instance.{Rules}
+use Rattle.dover_model.specs.Instance.{Declaration as Rules}
 use Rattle.dover_model.specs.Feed.{Open}
 use Rattle.admission.specs.Answers.{IsOther}
 use Rattle.event_feed.specs.declared.faults.Cause.{Cause}

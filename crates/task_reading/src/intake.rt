@@ -1,6 +1,6 @@
 //! What is kept of a task text between its lines.
 ghost use Rattle.std.specs.Prelude.{◌≡◌, ℕ, List, ◌∷◌, ◌++◌, [], Option, Some, IfErr};
-ghost use Rattle.dover_model.specs.Instance.{Rules};
+ghost use Rattle.dover_model.specs.Instance.{Declaration as Rules};
 ghost use Rattle.dover_model.specs.Feed as feed;
 ghost use Rattle.periodic_tasks.specs.declared.task.PeriodicTask.{PeriodicTask};
 ghost use Rattle.task_reading.specs.Account.{TaskAccount, account_of_lines, cause_of, with_line};

@@ -107,6 +107,7 @@ fn put_line(text: &mut Vec<u8>, line: &FeedLine) -> Result<(), AllocError> {
             value,
         } => put_numbers(text, b"job", &[release, work, deadline, value]),
         FeedLine::Tick { at } => put_numbers(text, b"tick", &[at]),
+        FeedLine::Done { at, number } => put_numbers(text, b"done", &[at, number]),
         FeedLine::End => put_numbers(text, b"end", &[]),
     }
 }

@@ -12,11 +12,11 @@ use Rattle.std.proofs.lemmas.Slice.Eq.{bytes_eq-Decides}
 use Rattle.dover_model.specs.declared.events.Event.{Event}
 use Rattle.dover_model.specs.declared.events.Event.TheVariants.{Release, Run, Preempt, Take, Complete, Abandon, End}
 use Rattle.dover_model.specs.declared.events.Refusal.{Refusal}
-use Rattle.dover_model.specs.declared.events.Refusal.TheVariants.{BadJob, Count, Total, Ratio}
+use Rattle.dover_model.specs.declared.events.Refusal.TheVariants.{BadJob, Count, Total, Ratio, Late}
 use Rattle.dover_model.specs.JobFacts.{JobFacts, IsJob, is_job, job_of_numbers, job_numbers}
 use Rattle.dover_model.specs.Numerals.{numeral, numerals, AreShort}
 use Rattle.dover_model.specs.Lines.{fields_of, line_of, with_numbers, numbers_after}
-use Rattle.dover_model.specs.Instance.{Rules}
+use Rattle.dover_model.specs.Instance.{Declaration}
 use Rattle.dover_model.specs.Session.{Item}
 use Rattle.dover_model.specs.Text.{text_of, refusal_word, step_numbers}
 use Rattle.dover_model.specs.Trace.{Printed, Refuses}
@@ -296,7 +296,7 @@ first_from (field ∷ fields) f read =
 
 -- the word of a refusal
 named_from : (word : List ℕ) (cause : Refusal) → verdict.refusal_of_word word ≡ Some cause → refusal_word cause ≡ word
-named_from word cause = next BadJob _ (next Count _ (next Total _ (next Ratio _ none_is_some))) where
+named_from word cause = next BadJob _ (next Count _ (next Total _ (next Ratio _ (next Late _ none_is_some)))) where
   next : (refusal : Refusal) (other : Option Refusal) → (other ≡ Some cause → refusal_word cause ≡ word)
       → (if bytes_eq word (refusal_word refusal) then Some refusal else other) ≡ Some cause → refusal_word cause ≡ word
   next refusal other = by_word word (refusal_word refusal) (λ w. refusal_word cause ≡ w) (Some refusal) other cause
@@ -376,6 +376,7 @@ word_named BadJob = refl
 word_named Count = refl
 word_named Total = refl
 word_named Ratio = refl
+word_named Late = refl
 
 -- the fields of a refused line are read as it
 refused_read : (t r c d v : ℕ) (cause : Refusal) → AreShort (t ∷ r ∷ c ∷ d ∷ v ∷ [])
@@ -471,7 +472,7 @@ text_item (Step (End value)) form = item_of-text_of_line (Printed (End value)) f
 text_item (Refused t r c d v cause) form = item_of-text_of_line (Refuses (refused_job t r c d v cause)) form
 
 -- what the fields of a line declare
-abbrev rules_of_fields : List (List ℕ) → Option Rules
+abbrev rules_of_fields : List (List ℕ) → Option Declaration
 rules_of_fields fields = option_and_then verdict.rules_from (numbers_after (codes "dover") fields)
 
 -- the text of a header declares its rules, and no other text does

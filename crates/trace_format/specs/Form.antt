@@ -6,8 +6,9 @@ use Rattle.dover_model.specs.declared.events.Refusal.{Refusal}
 use Rattle.dover_model.specs.JobFacts.{IsJob, job_of_numbers}
 use Rattle.dover_model.specs.Numerals.{AreShort}
 use Rattle.dover_model.specs.Lines.{with_numbers}
-use Rattle.dover_model.specs.Instance.{Rules}
+use Rattle.dover_model.specs.Instance.{Declaration}
 use Rattle.dover_model.specs.Session.{Item, JobItem, RefusedItem, RefusedJob}
+use Rattle.dover_model.specs.Session as session
 use Rattle.dover_model.specs.Text.{text_of, refused_text, step_numbers}
 use Rattle.dover_model.specs.Verdict.{rules_from}
 use Rattle.trace_format.specs.declared.lines.TraceLine.{TraceLine}
@@ -18,9 +19,9 @@ abbrev pub last_number : ℕ
 last_number = 999_999
 
 -- the refused line of these numbers
-abbrev pub refused_job : (at release work deadline value : ℕ) → Refusal → RefusedJob
+abbrev pub refused_job : (at release work deadline value : ℕ) → Refusal → session.Refused
 refused_job at release work deadline value cause =
-    record { at = at; job = job_of_numbers release work deadline value; refusal = cause }
+    record { at = at; line = RefusedJob (job_of_numbers release work deadline value) cause }
 
 -- the bytes of a line
 abbrev pub trace_text : TraceLine → List ℕ
@@ -58,7 +59,7 @@ item_in (Step _) = None
 item_in (Refused at r c d v cause) = Some (RefusedItem (refused_job at r c d v cause))
 
 -- the rules that the line declares
-abbrev pub rules_in : TraceLine → Option Rules
+abbrev pub rules_in : TraceLine → Option Declaration
 rules_in (Header version p q) = rules_from (version ∷ p ∷ q ∷ [])
 rules_in (Step e) = None
 rules_in (Refused at r c d v cause) = None

@@ -67,6 +67,8 @@ fn refusal_of_word(word: &[u8]) -> Option<Refusal>
         Some(Refusal::Total)
     } else if word == b"ratio".as_slice() {
         Some(Refusal::Ratio)
+    } else if word == b"order".as_slice() {
+        Some(Refusal::Late)
     } else {
         None
     }

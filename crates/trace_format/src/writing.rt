@@ -46,5 +46,6 @@ pub fn refusal_word(cause: Refusal) -> &'static [u8]
         Refusal::Count => b"count",
         Refusal::Total => b"total",
         Refusal::Ratio => b"ratio",
+        Refusal::Late => b"order",
     }
 }

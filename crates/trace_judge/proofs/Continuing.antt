@@ -1,12 +1,13 @@
 -- Lines that continue a trace, and what they come to.
 use Rattle.std.proofs.Common.{◌≡◌, ◌+◌, List, ◌∷◌, ◌++◌, map, ap, ℕ, suc, ◌≤◌, max, Bool, true, false, cond, arith, []}
-use Rattle.std.proofs.Common.{refl, ◌<◌, length, length-append, sym, ◌∙◌, subst, inl, inr, filter_map}
+use Rattle.std.proofs.Common.{refl, ◌<◌, length, length-append, sym, ◌∙◌, subst, inl, inr}
 use Rattle.std.proofs.lemmas.List.{map-append, append-nil}
 use Rattle.std.specs.Prelude.{nat_le, ◌&&◌, nat_lt}
 use Rattle.std.proofs.lemmas.Bool.{lt-leb, ltb-true, ltb-false}
-use Rattle.std.specs.List.{AllByRecursion, cons_option}
-use Rattle.std.proofs.lemmas.List.Elements.{filter_map-append}
-use Rattle.dover_model.specs.Instance.{Rules, Instance, IsValid, with_jobs}
+use Rattle.std.specs.List.{AllByRecursion, fold}
+use Rattle.std.proofs.lemmas.List.Sums.{fold-append}
+use Rattle.dover_model.specs.Instance.{Declaration, Instance, IsValid, with_jobs}
+use Rattle.dover_model.specs.Taken.{two_versions, is_taken}
 use Rattle.dover_model.specs.Text.{header, text_of, refused_text}
 use Rattle.dover_model.specs.Trace.{TraceLine, text_of_line, Printed, Refuses, Placed, places_of, lines_among}
 use Rattle.dover_model.specs.Trace.{texts_among, put_in}
@@ -21,10 +22,11 @@ use Rattle.dover_model.specs.Run.{Step, is_end, printed_of}
 use Rattle.dover_model.specs.Settled.{waits_for_mark, settled, settled_steps}
 use Rattle.dover_model.specs.Sound.{Each, Keeps}
 use Rattle.dover_model.specs.WholeRun.{open_at, IsSettledRun}
-use Rattle.dover_model.specs.Session.{JobItem, RefusedItem, RefusedJob, Session, instance_of, admitted_jobs}
-use Rattle.dover_model.specs.Session.{IsValidSession, with_item, mark_after, new_session}
+use Rattle.dover_model.specs.Session.{JobItem, RefusedItem, Refused, Session, instance_of, admitted_jobs}
+use Rattle.dover_model.specs.Session.{IsValidSession, with_item, with_named, mark_after, new_session}
 use Rattle.dover_model.specs.Verdict.{named_session}
 use Rattle.dover_model.proofs.Kept.{opening_keeps, each_job}
+use Rattle.dover_model.proofs.Readiness.{plain_ready}
 use Rattle.dover_model.proofs.Ending.{potential}
 use Rattle.dover_model.proofs.Settling.{Settles as Reaches, settles, settled_is_run, at_barrier}
 use Rattle.dover_model.proofs.Valid.{all_from}
@@ -32,9 +34,9 @@ use Rattle.dover_model.proofs.Prefixes.{step_open, come_from, opening_later, lat
 use Rattle.dover_model.proofs.Releasing.{coming_task, barrier_releases}
 use Rattle.dover_model.proofs.PutIn.{RefusesWithin, AllPlacedWithin, put_in-more_steps, put_in-more_refused}
 use Rattle.dover_model.proofs.PutIn.{places_after-append}
-use Rattle.dover_model.proofs.Growing.{Reads, LinesName, job_instance, refused_instance, all_behind}
-use Rattle.dover_model.proofs.Admitting.{admits}
-use Rattle.dover_model.proofs.TraceLines.{item_of_line}
+use Rattle.dover_model.proofs.Growing.{Reads, LinesName, item_in, with_line_named, one_named}
+use Rattle.dover_model.proofs.Growing.{job_instance, refused_instance, all_behind}
+use Rattle.admission.proofs.Joining.{admitted_valid}
 use Rattle.dover_model.proofs.Accounts.{follows_behind, mark_behind}
 use Rattle.dover_model.proofs.Members.{each_behind}
 use Rattle.dover_model.proofs.Runs.{printed_append}
@@ -43,6 +45,7 @@ use Rattle.dover_model.specs.Leading.{GoesOn, Leads, Passes, Idles, PrintsNext, 
 use Rattle.trace_judge.specs.Reading.{Sees, MayRelease, MayRefuse, release_text}
 use Rattle.dover_model.specs.Ready.{with_fresh}
 use Rattle.trace_judge.proofs.Items.{reads_mark}
+use Rattle.trace_judge.proofs.Plainly.{no_finishes, line_names}
 use Rattle.dover_model.proofs.Leading.{leads_later_mark, leads_append, leads_passes, settles_passes, passes_append}
 use Rattle.dover_model.proofs.Leading.{passes_settled, settles_silent, idles_silent, idles_leads, settles_clock}
 use Rattle.dover_model.proofs.Leading.{passes_keeps, prints_goes_on, stops_before, Later, passes_later, coming_goes_on}
@@ -52,7 +55,7 @@ use Rattle.trace_judge.proofs.Seeing.{led_named, sees_keeps, sees_names}
 use Rattle.dover_model.specs.Fraction.{IsRatio}
 
 -- texts with further lines behind
-texts_behind : (rules : Rules) (front more : List TraceLine)
+texts_behind : (rules : Declaration) (front more : List TraceLine)
     → header rules ∷ map text_of_line (front ++ more) ≡ (header rules ∷ map text_of_line front) ++ map text_of_line more
 texts_behind rules front more = ap (λ xs. header rules ∷ xs) (map-append text_of_line front more)
 
@@ -83,35 +86,36 @@ module _ (ls : List (List ℕ)) (S : Session) (floor : ℕ) (z : State) (sees : 
       (λ p low. omega (arith, length-append so_far es)) sees.within
 
   -- what is settled at a tick from the floor on
-  pub settled_from_floor : (t : ℕ) → floor ≤ t → (ys : List Step) × IsSettledRun S.rules t z ys
+  pub settled_from_floor : (t : ℕ) → floor ≤ t → (ys : List Step) × IsSettledRun J.rules t z ys
       × (settled_steps J t ≡ sees.steps ++ ys)
   settled_from_floor t later =
-      let it : Reaches S.rules t z (potential t z) =
-      settles J sees.valid.jobs S.rules t (potential t z) z (sees_keeps ls S floor z sees) (omega arith) in (
+      let it : Reaches J.rules t z (potential J.rules.finishes t z) =
+      settles J sees.valid.jobs J.rules t (potential J.rules.finishes t z) z (sees_keeps ls S floor z sees)
+      (plain_ready J.rules.finishes z (omega (arith, ap length (no_finishes S sees.version sees.valid)))) (omega arith) in (
         it.0,
         it.1,
-        one_settled_run S.rules t (settled_steps J t) (sees.steps ++ it.0) (opening J.jobs)
+        one_settled_run J.rules t (settled_steps J t) (sees.steps ++ it.0) (opening J.jobs)
             (settled_is_run J t sees.valid.jobs)
-            (passes_settled S.rules t sees.steps it.0 (opening J.jobs) z
-            (leads_passes S.rules t sees.steps (opening J.jobs) z
-            (leads_later_mark S.rules floor t later sees.steps (opening J.jobs) z sees.leads)) it.1),
+            (passes_settled J.rules t sees.steps it.0 (opening J.jobs) z
+            (leads_passes J.rules t sees.steps (opening J.jobs) z
+            (leads_later_mark J.rules floor t later sees.steps (opening J.jobs) z sees.leads)) it.1),
       )
 
   -- ---- a printed step
 
-  module _ (e : Event) (y : State) (next : PrintsNext S.rules z e y) (more : is_end (Prints e) ≡ false) where
+  module _ (e : Event) (y : State) (next : PrintsNext J.rules z e y) (more : is_end (Prints e) ≡ false) where
     -- the state before the step is a sound one
     keeps_y : Keeps J y
-    keeps_y = passes_keeps J sees.valid.jobs S.rules y.clock next.steps z y (sees_keeps ls S floor z sees)
-        (leads_passes S.rules y.clock next.steps z y (idles_leads S.rules next.steps z y next.idles))
+    keeps_y = passes_keeps J sees.valid.jobs J.rules y.clock next.steps z y (sees_keeps ls S floor z sees)
+        (leads_passes J.rules y.clock next.steps z y (idles_leads J.rules next.steps z y next.idles))
 
     -- some job isn't over
     goes_on : GoesOn y
-    goes_on = prints_goes_on J sees.valid.jobs S.rules y e keeps_y next.prints more
+    goes_on = prints_goes_on J sees.valid.jobs J.rules y e keeps_y next.prints more
 
     -- so the step is an open one
-    opens : open_step S.rules y ≡ Prints e
-    opens = sym (step_open S.rules y goes_on) ∙ next.prints
+    opens : open_step J.rules y ≡ Prints e
+    opens = sym (step_open J.rules y goes_on) ∙ next.prints
 
     -- the floor after it
     abbrev new_floor : ℕ
@@ -119,30 +123,30 @@ module _ (ls : List (List ℕ)) (S : Session) (floor : ℕ) (z : State) (sees : 
 
     -- no job is to come
     none_y : NoneComes y.tasks
-    none_y = none_comes_passes S.rules y.clock next.steps z y
-        (leads_passes S.rules y.clock next.steps z y (idles_leads S.rules next.steps z y next.idles)) sees.released
+    none_y = none_comes_passes J.rules y.clock next.steps z y
+        (leads_passes J.rules y.clock next.steps z y (idles_leads J.rules next.steps z y next.idles)) sees.released
 
     -- the steps with it
     abbrev steps_more : List Step
-    steps_more = sees.steps ++ (next.steps ++ open_at S.rules y ∷ [])
+    steps_more = sees.steps ++ (next.steps ++ open_at J.rules y ∷ [])
 
     -- what they print
     print_more : printed_of steps_more ≡ so_far ++ e ∷ []
-    print_more = printed_append sees.steps (next.steps ++ open_at S.rules y ∷ [])
-        ∙ ap (λ es. so_far ++ es) (printed_append next.steps (open_at S.rules y ∷ [])
-        ∙ ap (λ es. es ++ printed_of (open_at S.rules y ∷ [])) (idles_silent S.rules next.steps z y next.idles)
+    print_more = printed_append sees.steps (next.steps ++ open_at J.rules y ∷ [])
+        ∙ ap (λ es. so_far ++ es) (printed_append next.steps (open_at J.rules y ∷ [])
+        ∙ ap (λ es. es ++ printed_of (open_at J.rules y ∷ [])) (idles_silent J.rules next.steps z y next.idles)
         ∙ ap (λ m. printed_of (record { before = y; move = m } ∷ [])) opens)
 
     -- they lead to the state after it
-    lead_more : Leads S.rules new_floor (opening J.jobs) steps_more (after y (Prints e))
+    lead_more : Leads J.rules new_floor (opening J.jobs) steps_more (after y (Prints e))
     lead_more =
-        leads_append S.rules new_floor sees.steps (next.steps ++ open_at S.rules y ∷ []) (opening J.jobs) z
+        leads_append J.rules new_floor sees.steps (next.steps ++ open_at J.rules y ∷ []) (opening J.jobs) z
         (after y (Prints e))
-        (leads_later_mark S.rules floor new_floor (omega arith) sees.steps (opening J.jobs) z sees.leads)
-        (leads_append S.rules new_floor next.steps (open_at S.rules y ∷ []) z y (after y (Prints e))
-        (leads_later_mark S.rules y.clock new_floor (clock_below floor (waits_for_mark (Prints e)) y.clock) next.steps z
+        (leads_later_mark J.rules floor new_floor (omega arith) sees.steps (opening J.jobs) z sees.leads)
+        (leads_append J.rules new_floor next.steps (open_at J.rules y ∷ []) z y (after y (Prints e))
+        (leads_later_mark J.rules y.clock new_floor (clock_below floor (waits_for_mark (Prints e)) y.clock) next.steps z
         y
-        (idles_leads S.rules next.steps z y next.idles)) (
+        (idles_leads J.rules next.steps z y next.idles)) (
           refl,
           subst (λ m. (waits_for_mark m && nat_le new_floor y.clock) ≡ false) (sym opens)
               (late_before floor (waits_for_mark (Prints e)) y.clock),
@@ -159,13 +163,14 @@ module _ (ls : List (List ℕ)) (S : Session) (floor : ℕ) (z : State) (sees : 
         ∙ ap (texts_among S) (sym print_more)
 
     -- no further item is named
-    names_more : LinesName (lines_among S (printed_of steps_more)) S.items
-    names_more = ap (λ es. filter_map item_of_line (lines_among S es)) print_more
-        ∙ ap (filter_map item_of_line) (put_in-more_steps (places_of S) 0 so_far (e ∷ []) sees.within)
-        ∙ filter_map-append item_of_line (lines_among S so_far) (Printed e ∷ [])
-        ∙ ap (λ xs. xs ++ filter_map item_of_line (Printed e ∷ [])) (sees_names ls S floor z sees)
-        ∙ ap (λ o. S.items ++ cons_option o []) (printed_names_none J sees.valid.jobs y keeps_y S.rules none_y e opens)
-        ∙ append-nil S.items
+    names_more : LinesName (lines_among S (printed_of steps_more)) S
+    names_more = ap (λ es. fold with_line_named (new_session S.rules) (lines_among S es)) print_more
+        ∙ ap (fold with_line_named (new_session S.rules))
+        (put_in-more_steps (places_of S) 0 so_far (e ∷ []) sees.within)
+        ∙ fold-append with_line_named (new_session S.rules) (lines_among S so_far) (Printed e ∷ [])
+        ∙ ap (λ T. with_named T (item_in T (Printed e))) (sees_names ls S floor z sees)
+        ∙ ap (with_named S) (line_names S sees.version (Printed e)
+        ∙ printed_names_none J sees.valid.jobs y keeps_y J.rules none_y e opens)
 
     -- they are within as well
     within_printed : RefusesWithin S (printed_of steps_more)
@@ -182,10 +187,10 @@ module _ (ls : List (List ℕ)) (S : Session) (floor : ℕ) (z : State) (sees : 
           by_floor false above =
               let from_floor : floor ≤ t = ltb-false _ _ above in
               let early : t < floor_after y e = omega arith in
-              let it : (ys : List Step) × IsSettledRun S.rules t z ys × (settled_steps J t ≡ sees.steps ++ ys) =
+              let it : (ys : List Step) × IsSettledRun J.rules t z ys × (settled_steps J t ≡ sees.steps ++ ys) =
               settled_from_floor t from_floor in
               let none : printed_of it.0 ≡ [] =
-              stops_before J sees.valid.jobs S.rules t next.steps it.0 z y e (sees_keeps ls S floor z sees)
+              stops_before J sees.valid.jobs J.rules t next.steps it.0 z y e (sees_keeps ls S floor z sees)
               (let low_z : z.clock ≤ floor = sees.clock in omega arith) next.idles opens early it.1 in
               omega (
                 arith,
@@ -196,9 +201,10 @@ module _ (ls : List (List ℕ)) (S : Session) (floor : ℕ) (z : State) (sees : 
     -- the text of the next printed step comes to the state after it
     pub sees_step : Sees (ls ++ text_of e ∷ []) S new_floor (after y (Prints e))
     sees_step = record {
+      version = sees.version;
       valid = sees.valid;
       named = ap named_session lines_more
-          ∙ led_named S sees.valid new_floor (after y (Prints e)) steps_more lead_more within_printed names_more;
+          ∙ led_named S sees.version sees.valid new_floor (after y (Prints e)) steps_more lead_more within_printed names_more;
       steps = steps_more;
       leads = lead_more;
       lines = lines_more;
@@ -217,21 +223,22 @@ module _ (ls : List (List ℕ)) (S : Session) (floor : ℕ) (z : State) (sees : 
   -- ---- silent steps
 
   -- silent steps that don't pass the floor change nothing else
-  pub sees_idles : (xs : List Step) (y : State) → Idles S.rules z xs y → y.clock ≤ floor → Sees ls S floor y
+  pub sees_idles : (xs : List Step) (y : State) → Idles J.rules z xs y → y.clock ≤ floor → Sees ls S floor y
   sees_idles xs y idles low =
       let print_same : printed_of (sees.steps ++ xs) ≡ so_far = printed_append sees.steps xs
-      ∙ ap (λ es. so_far ++ es) (idles_silent S.rules xs z y idles) ∙ append-nil so_far in
-      let leads_on : Leads S.rules y.clock z xs y = idles_leads S.rules xs z y idles in
+      ∙ ap (λ es. so_far ++ es) (idles_silent J.rules xs z y idles) ∙ append-nil so_far in
+      let leads_on : Leads J.rules y.clock z xs y = idles_leads J.rules xs z y idles in
       record {
+        version = sees.version;
         valid = sees.valid;
         named = sees.named;
         steps = sees.steps ++ xs;
-        leads = leads_append S.rules floor sees.steps xs (opening J.jobs) z y sees.leads
-            (leads_later_mark S.rules y.clock floor low xs z y leads_on);
+        leads = leads_append J.rules floor sees.steps xs (opening J.jobs) z y sees.leads
+            (leads_later_mark J.rules y.clock floor low xs z y leads_on);
         lines = sees.lines ∙ ap (texts_among S) (sym print_same);
         within = subst (λ es. AllPlacedWithin 0 es (places_of S)) (sym print_same) sees.within;
-        released = none_comes_passes S.rules y.clock xs z y
-            (leads_passes S.rules y.clock xs z y leads_on) sees.released;
+        released = none_comes_passes J.rules y.clock xs z y
+            (leads_passes J.rules y.clock xs z y leads_on) sees.released;
         clock = low;
         mark = sees.mark;
         tight = subst (λ es. (t : ℕ) → mark_after 0 S.items ≤ t → t < floor → length (settled J t) < length es)
@@ -239,11 +246,11 @@ module _ (ls : List (List ℕ)) (S : Session) (floor : ℕ) (z : State) (sees : 
       }
 
   -- they print nothing
-  pub sees_idles_prints : (xs : List Step) (y : State) (idles : Idles S.rules z xs y) (low : y.clock ≤ floor)
+  pub sees_idles_prints : (xs : List Step) (y : State) (idles : Idles J.rules z xs y) (low : y.clock ≤ floor)
       → printed_of (sees_idles xs y idles low).steps ≡ so_far
   unfolding sees_idles
   sees_idles_prints xs y idles low = printed_append sees.steps xs
-      ∙ ap (λ es. so_far ++ es) (idles_silent S.rules xs z y idles) ∙ append-nil so_far
+      ∙ ap (λ es. so_far ++ es) (idles_silent J.rules xs z y idles) ∙ append-nil so_far
 
   -- ---- a job
 
@@ -272,22 +279,22 @@ module _ (ls : List (List ℕ)) (S : Session) (floor : ℕ) (z : State) (sees : 
 
     -- they are valid
     valid_K : IsValid K
-    valid_K = admits S.rules J.jobs j sees.valid.jobs known may.admitted
+    valid_K = admitted_valid J j sees.valid.jobs known may.admitted
 
     -- the job, to come
     abbrev coming : List Task
     coming = coming_task n j ∷ []
 
     -- the steps before the release
-    passes_y : Passes S.rules j.release (opening J.jobs) (sees.steps ++ may.waits.steps) y
-    passes_y = passes_append S.rules j.release sees.steps may.waits.steps (opening J.jobs) z y
-        (leads_passes S.rules j.release sees.steps (opening J.jobs) z
-        (leads_later_mark S.rules floor j.release may.no_fall sees.steps (opening J.jobs) z sees.leads))
-        (settles_passes S.rules j.release may.waits.steps z y may.waits.settles)
+    passes_y : Passes J.rules j.release (opening J.jobs) (sees.steps ++ may.waits.steps) y
+    passes_y = passes_append J.rules j.release sees.steps may.waits.steps (opening J.jobs) z y
+        (leads_passes J.rules j.release sees.steps (opening J.jobs) z
+        (leads_later_mark J.rules floor j.release may.no_fall sees.steps (opening J.jobs) z sees.leads))
+        (settles_passes J.rules j.release may.waits.steps z y may.waits.settles)
 
     -- the state before it
     keeps_before : Keeps J y
-    keeps_before = passes_keeps J sees.valid.jobs S.rules j.release (sees.steps ++ may.waits.steps) (opening J.jobs) y
+    keeps_before = passes_keeps J sees.valid.jobs J.rules j.release (sees.steps ++ may.waits.steps) (opening J.jobs) y
         (opening_keeps J) passes_y
 
     -- the job comes at its release
@@ -298,26 +305,26 @@ module _ (ls : List (List ℕ)) (S : Session) (floor : ℕ) (z : State) (sees : 
     -- the clock is there
     at_release : y.clock ≡ j.release
     at_release =
-        let here : (waits_for_mark (open_step S.rules y) ≡ true) × (j.release ≤ y.clock) =
-        at_barrier (waits_for_mark (open_step S.rules y)) j.release y.clock may.waits.barrier in
+        let here : (waits_for_mark (open_step J.rules y) ≡ true) × (j.release ≤ y.clock) =
+        at_barrier (waits_for_mark (open_step J.rules y)) j.release y.clock may.waits.barrier in
         let high : j.release ≤ y.clock = here.1 in
         let low_z : z.clock ≤ floor = sees.clock in
         let ordered : floor ≤ j.release = may.no_fall in
         let low : y.clock ≤ j.release =
-        settles_clock S.rules j.release may.waits.steps z y may.waits.settles (omega arith) in
+        settles_clock J.rules j.release may.waits.steps z y may.waits.settles (omega arith) in
         omega arith
 
     -- the steps before it, with the job behind
-    behind : Later S.rules j.release (opening J.jobs) y coming (sees.steps ++ may.waits.steps)
-    behind = passes_later J sees.valid.jobs K valid_K S.rules j.release coming (come_from j.release n (j ∷ []) late)
+    behind : Later J.rules j.release (opening J.jobs) y coming (sees.steps ++ may.waits.steps)
+    behind = passes_later J sees.valid.jobs K valid_K J.rules j.release coming (come_from j.release n (j ∷ []) late)
         (coming_task n j) (inl refl)
         (sees.steps ++ may.waits.steps) (opening J.jobs) y (opening_keeps J)
         (later_keeps J (j ∷ []) j.release valid_K late) passes_y
 
     -- the release
-    releases : open_step S.rules (with_later y coming) ≡ Prints (Release n j)
-    releases = barrier_releases J y keeps_before S.rules known_y
-        (at_barrier (waits_for_mark (open_step S.rules y)) j.release y.clock may.waits.barrier).0
+    releases : open_step J.rules (with_later y coming) ≡ Prints (Release n j)
+    releases = barrier_releases J y keeps_before J.rules known_y
+        (at_barrier (waits_for_mark (open_step J.rules y)) j.release y.clock may.waits.barrier).0
         n j (sym at_release) where
           known_y : Each (λ (t : Task). t.job.release ≤ y.clock) y.tasks
           known_y t m =
@@ -327,7 +334,7 @@ module _ (ls : List (List ℕ)) (S : Session) (floor : ℕ) (z : State) (sees : 
 
     -- the steps with it
     abbrev steps_job : List Step
-    steps_job = behind.steps ++ open_at S.rules (with_later y coming) ∷ []
+    steps_job = behind.steps ++ open_at J.rules (with_later y coming) ∷ []
 
     -- the state after it
     abbrev fresh : State
@@ -338,10 +345,10 @@ module _ (ls : List (List ℕ)) (S : Session) (floor : ℕ) (z : State) (sees : 
     jobs_more = job_instance S j
 
     -- they lead to it
-    lead_job : Leads S.rules j.release (opening K.jobs) steps_job fresh
-    lead_job = subst (λ u. Leads S.rules j.release u steps_job fresh)
+    lead_job : Leads J.rules j.release (opening K.jobs) steps_job fresh
+    lead_job = subst (λ u. Leads J.rules j.release u steps_job fresh)
         (sym (opening_later J (j ∷ []) j.release valid_K late))
-        (leads_append S.rules j.release behind.steps (open_at S.rules (with_later y coming) ∷ [])
+        (leads_append J.rules j.release behind.steps (open_at J.rules (with_later y coming) ∷ [])
         (with_later (opening J.jobs) coming)
         (with_later y coming) fresh behind.leads (
           refl,
@@ -352,10 +359,10 @@ module _ (ls : List (List ℕ)) (S : Session) (floor : ℕ) (z : State) (sees : 
 
     -- what they print
     print_job : printed_of steps_job ≡ so_far ++ Release n j ∷ []
-    print_job = printed_append behind.steps (open_at S.rules (with_later y coming) ∷ [])
-        ∙ ap (λ es. es ++ printed_of (open_at S.rules (with_later y coming) ∷ []))
+    print_job = printed_append behind.steps (open_at J.rules (with_later y coming) ∷ [])
+        ∙ ap (λ es. es ++ printed_of (open_at J.rules (with_later y coming) ∷ []))
         (behind.printed ∙ printed_append sees.steps may.waits.steps
-        ∙ ap (λ es. so_far ++ es) (settles_silent S.rules j.release may.waits.steps z y may.waits.settles)
+        ∙ ap (λ es. so_far ++ es) (settles_silent J.rules j.release may.waits.steps z y may.waits.settles)
         ∙ append-nil so_far)
         ∙ ap (λ m. so_far ++ printed_of (record { before = with_later y coming; move = m } ∷ [])) releases
 
@@ -393,8 +400,8 @@ module _ (ls : List (List ℕ)) (S : Session) (floor : ℕ) (z : State) (sees : 
     }
 
     -- the lines lead there
-    leads_job : Leads S.rules j.release (opening (admitted_jobs S_more.items)) steps_job fresh
-    leads_job = subst (λ (I : Instance). Leads S.rules j.release (opening I.jobs) steps_job fresh)
+    leads_job : Leads (instance_of S_more).rules j.release (opening (admitted_jobs S_more.items)) steps_job fresh
+    leads_job = subst (λ (I : Instance). Leads I.rules j.release (opening I.jobs) steps_job fresh)
         (sym jobs_more) lead_job
 
     -- the mark is at the release
@@ -406,19 +413,19 @@ module _ (ls : List (List ℕ)) (S : Session) (floor : ℕ) (z : State) (sees : 
     -- the text of the job's release comes to the state after it
     pub sees_release : Sees (ls ++ release_text S j ∷ []) S_more j.release fresh
     sees_release = record {
+      version = sees.version;
       valid = valid_job;
       named = ap named_session lines_job
-          ∙ led_named S_more valid_job j.release fresh steps_job leads_job within_job
-          (ap (filter_map item_of_line) among_job
-          ∙ filter_map-append item_of_line (lines_among S so_far) (Printed (Release n j) ∷ [])
-          ∙ ap (λ xs. xs ++ JobItem j ∷ []) (sees_names ls S floor z sees));
+          ∙ led_named S_more sees.version valid_job j.release fresh steps_job leads_job within_job
+          (ap (fold with_line_named (new_session S.rules)) among_job
+          ∙ one_named (lines_among S so_far) S (Printed (Release n j)) (JobItem j) (sees_names ls S floor z sees) refl);
       steps = steps_job;
       leads = leads_job;
       lines = lines_job;
       within = within_job;
       released = each_behind (λ t. is_coming t ≡ false) y.tasks (record { number = n; job = j; role = Fresh; had = 0 })
-          (none_comes_passes S.rules j.release may.waits.steps z y
-          (settles_passes S.rules j.release may.waits.steps z y may.waits.settles) sees.released) refl;
+          (none_comes_passes J.rules j.release may.waits.steps z y
+          (settles_passes J.rules j.release may.waits.steps z y may.waits.settles) sees.released) refl;
       clock = omega arith;
       mark = omega (arith, mark_job);
       tight = λ t marked low. absurd (omega (arith, mark_job));
@@ -431,7 +438,7 @@ module _ (ls : List (List ℕ)) (S : Session) (floor : ℕ) (z : State) (sees : 
 
   -- ---- a refused line
 
-  module _ (r : RefusedJob) (y : State) (may : MayRefuse S floor z r y) where
+  module _ (r : Refused) (y : State) (may : MayRefuse S floor z r y) where
     -- the session with the refused line
     abbrev S_refused : Session
     S_refused = with_item S (RefusedItem r)
@@ -443,13 +450,13 @@ module _ (ls : List (List ℕ)) (S : Session) (floor : ℕ) (z : State) (sees : 
     -- no more is settled at its tick
     all_settled : length (settled J r.at) ≡ length so_far
     all_settled =
-        let it : (ys : List Step) × IsSettledRun S.rules r.at z ys × (settled_steps J r.at ≡ sees.steps ++ ys) =
+        let it : (ys : List Step) × IsSettledRun J.rules r.at z ys × (settled_steps J r.at ≡ sees.steps ++ ys) =
         settled_from_floor r.at may.refused.no_fall in
         let none : printed_of it.0 ≡ [] = ap printed_of
-        (one_settled_run S.rules r.at it.0 (may.waits.steps ++ []) z it.1
-        (passes_settled S.rules r.at may.waits.steps [] z y
-        (settles_passes S.rules r.at may.waits.steps z y may.waits.settles) may.waits.barrier)
-        ∙ append-nil may.waits.steps) ∙ settles_silent S.rules r.at may.waits.steps z y may.waits.settles in
+        (one_settled_run J.rules r.at it.0 (may.waits.steps ++ []) z it.1
+        (passes_settled J.rules r.at may.waits.steps [] z y
+        (settles_passes J.rules r.at may.waits.steps z y may.waits.settles) may.waits.barrier)
+        ∙ append-nil may.waits.steps) ∙ settles_silent J.rules r.at may.waits.steps z y may.waits.settles in
         ap length (ap printed_of it.2 ∙ printed_append sees.steps it.0 ∙ ap (λ es. so_far ++ es) none
         ∙ append-nil so_far)
 
@@ -491,21 +498,18 @@ module _ (ls : List (List ℕ)) (S : Session) (floor : ℕ) (z : State) (sees : 
           omega (arith, length-append S.items (RefusedItem r ∷ []));
       items = follows_behind S.rules [] 0 S.items (RefusedItem r ∷ []) sees.valid.items (
         record {
-          version = may.refused.version;
-          numerals = may.refused.numerals;
           no_fall = mark_low;
           known = may.refused.known;
-          not_late = may.refused.not_late;
-          cause = may.refused.cause;
+          line = may.refused.line;
         },
         tt,
       );
     }
 
     -- the same steps lead on
-    leads_refused : Leads S.rules r.at (opening (admitted_jobs S_refused.items)) sees.steps z
-    leads_refused = subst (λ (I : Instance). Leads S.rules r.at (opening I.jobs) sees.steps z) (sym jobs_same)
-        (leads_later_mark S.rules floor r.at may.refused.no_fall sees.steps (opening J.jobs) z sees.leads)
+    leads_refused : Leads (instance_of S_refused).rules r.at (opening (admitted_jobs S_refused.items)) sees.steps z
+    leads_refused = subst (λ (I : Instance). Leads I.rules r.at (opening I.jobs) sees.steps z) (sym jobs_same)
+        (leads_later_mark J.rules floor r.at may.refused.no_fall sees.steps (opening J.jobs) z sees.leads)
 
     -- the mark is at its tick
     mark_refused : mark_after 0 S_refused.items ≡ r.at
@@ -516,12 +520,12 @@ module _ (ls : List (List ℕ)) (S : Session) (floor : ℕ) (z : State) (sees : 
     -- the text of the refused line leaves the state as it is
     pub sees_refused : Sees (ls ++ refused_text r ∷ []) S_refused r.at z
     sees_refused = record {
+      version = sees.version;
       valid = valid_refused;
       named = ap named_session lines_refused
-          ∙ led_named S_refused valid_refused r.at z sees.steps leads_refused within_refused
-          (ap (filter_map item_of_line) among_refused
-          ∙ filter_map-append item_of_line (lines_among S so_far) (Refuses r ∷ [])
-          ∙ ap (λ xs. xs ++ RefusedItem r ∷ []) (sees_names ls S floor z sees));
+          ∙ led_named S_refused sees.version valid_refused r.at z sees.steps leads_refused within_refused
+          (ap (fold with_line_named (new_session S.rules)) among_refused
+          ∙ one_named (lines_among S so_far) S (Refuses r) (RefusedItem r) (sees_names ls S floor z sees) refl);
       steps = sees.steps;
       leads = leads_refused;
       lines = lines_refused;
@@ -540,10 +544,12 @@ module _ (ls : List (List ℕ)) (S : Session) (floor : ℕ) (z : State) (sees : 
 -- ---- the header
 
 -- the header comes to the opening state of no jobs
-pub sees_header : (rules : Rules) → IsRatio rules.ratio → Sees (header rules ∷ []) (new_session rules) 0 (opening [])
-sees_header rules ratio = record {
+pub sees_header : (rules : Declaration) → is_taken two_versions rules.version ≡ true → IsRatio rules.ratio
+    → Sees (header rules ∷ []) (new_session rules) 0 (opening [])
+sees_header rules version ratio = record {
+  version = version;
   valid = valid_new;
-  named = led_named (new_session rules) valid_new 0 (opening []) [] refl tt refl;
+  named = led_named (new_session rules) version valid_new 0 (opening []) [] refl tt refl;
   steps = [];
   leads = refl;
   lines = refl;
@@ -561,6 +567,7 @@ sees_header rules ratio = record {
   }
 
 -- no step is printed
-pub sees_header_prints : (rules : Rules) (ratio : IsRatio rules.ratio) → printed_of (sees_header rules ratio).steps ≡ []
+pub sees_header_prints : (rules : Declaration) (version : is_taken two_versions rules.version ≡ true)
+    (ratio : IsRatio rules.ratio) → printed_of (sees_header rules version ratio).steps ≡ []
 unfolding sees_header
-sees_header_prints rules ratio = refl
+sees_header_prints rules version ratio = refl

@@ -5,9 +5,9 @@ use Rattle.std.proofs.lemmas.List.{length-map, length-take, length-drop}
 use Rattle.std.specs.Prelude.{filter_map, slice_get, Some}
 use Rattle.dover_model.specs.declared.events.Event.{Event}
 use Rattle.dover_model.specs.Trace.{Printed, Refuses, Placed, put_in, places_after, places_of, lines_among}
-use Rattle.dover_model.specs.JobFacts.{JobFacts}
-use Rattle.dover_model.specs.Instance.{Rules}
-use Rattle.dover_model.specs.Session.{Item, JobItem, RefusedItem, admitted_jobs, refused_of_item, Session}
+use Rattle.dover_model.specs.Instance.{Declaration}
+use Rattle.dover_model.specs.Session.{Item, JobItem, RefusedItem, FinishItem, admitted_jobs, early_finishes}
+use Rattle.dover_model.specs.Session.{refused_of_item, Session}
 use Rattle.dover_model.specs.Verdict.{refused_count}
 
 -- with refused lines put in, there are so many lines more
@@ -27,18 +27,20 @@ length-put_in (p ∷ ps) before steps =
     )
 
 -- each refused line has a place
-length-places : (rules : Rules) (jobs : List JobFacts) (items : List Item)
-    → length (places_after rules jobs items) ≡ length (filter_map refused_of_item items)
-length-places rules jobs [] = refl
-length-places rules jobs (JobItem j ∷ items) = length-places rules (jobs ++ j ∷ []) items
-length-places rules jobs (RefusedItem r ∷ items) = ap suc (length-places rules jobs items)
+length-places : (rules : Declaration) (before items : List Item)
+    → length (places_after rules before items) ≡ length (filter_map refused_of_item items)
+length-places rules before [] = refl
+length-places rules before (JobItem j ∷ items) = length-places rules (before ++ JobItem j ∷ []) items
+length-places rules before (RefusedItem r ∷ items) = ap suc (length-places rules (before ++ RefusedItem r ∷ []) items)
+length-places rules before (FinishItem f ∷ items) = length-places rules (before ++ FinishItem f ∷ []) items
 
--- each item is a job or a refused line
-pub items_count : (items : List Item)
+-- each item is a job, a refused line or an early finish
+pub items_count : (items : List Item) → early_finishes items ≡ []
     → length items ≡ length (admitted_jobs items) + length (filter_map refused_of_item items)
-items_count [] = refl
-items_count (JobItem j ∷ items) = omega (arith, items_count items)
-items_count (RefusedItem r ∷ items) = omega (arith, items_count items)
+items_count [] none = refl
+items_count (JobItem j ∷ items) none = omega (arith, items_count items none)
+items_count (RefusedItem r ∷ items) none = omega (arith, items_count items none)
+items_count (FinishItem f ∷ items) none = cc
 
 -- a line for each step and each refused line
 pub length-lines : (S : Session) (steps : List Event) → length (lines_among S steps) ≡ length steps + refused_count S

@@ -1,7 +1,8 @@
 -- What is found where a line has ended.
 use Rattle.std.proofs.Common.{◌≡◌, ℕ, ◌+◌, ◌≤◌, ◌<◌, List, [], ◌∷◌, ◌++◌, length, length-append, sym, ap, ◌∙◌, subst}
 use Rattle.std.proofs.Common.{refl, arith, Bool, true, false, take, drop, take-append-drop, append_assoc}
-use Rattle.std.specs.Prelude.{Result, Ok, Err, IsOk, IsErr, IfOk}
+use Rattle.std.specs.Prelude.{nat_lt, Result, Ok, Err, IsOk, IsErr, IfOk}
+use Rattle.std.proofs.lemmas.Bool.{ltb-true, ltb-false}
 use Rattle.dover_model.specs.declared.Memory.{Memory}
 use Rattle.dover_model.specs.Lines.{whole_lines}
 use Rattle.dover_model.specs.Verdict as model
@@ -65,6 +66,13 @@ module _ (j mid new : Judged) (line bytes : List ℕ) (good : j.found ≡ Good) 
 pub ok_not_err : {A : Type 0} (r : Result A Memory) → IsOk r → IsErr r → ⊥
 ok_not_err (Ok x) ok err = never err
 ok_not_err (Err e) ok err = never ok
+
+-- where a small size is enough, one that failed was larger
+pub unroomed : {A : Type 0} (r : Result A Memory) (m n : ℕ) → (m ≤ n → IsOk r) → IsErr r → n < m
+unroomed r m n ok err = by_less (nat_lt n m) refl where
+  by_less : (b : Bool) → nat_lt n m ≡ b → n < m
+  by_less true less = ltb-true n m less
+  by_less false not_less = absurd (ok_not_err r (ok (ltb-false n m not_less)) err)
 
 -- ---- a piece, front by front
 

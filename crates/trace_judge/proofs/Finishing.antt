@@ -47,14 +47,14 @@ module _ (J : Instance) (valid : IsValid J) (rules : Rules) (value : ℕ) where
       (subst (λ m. IsWholeRun rules (after s m) ys) same on)
 
 module _ (ls : List (List ℕ)) (S : Session) (floor : ℕ) (z : State) (sees : Sees ls S floor z) (value : ℕ) (y : State)
-    (next : PrintsNext S.rules z (End value) y) where
+    (next : PrintsNext (instance_of S).rules z (End value) y) where
   -- the run prints what it has printed, and End
   pub ended_run : printed (instance_of S) ≡ printed_of sees.steps ++ End value ∷ []
-  ended_run = let it : (ys : List Step) × IsWholeRun S.rules z ys
+  ended_run = let it : (ys : List Step) × IsWholeRun (instance_of S).rules z ys
       × (printed (instance_of S) ≡ printed_of sees.steps ++ printed_of ys) =
       sees_rest ls S floor z sees in
       it.2 ∙ ap (λ es. printed_of sees.steps ++ es)
-      (prints_last (instance_of S) sees.valid.jobs S.rules value next.steps it.0 z y
+      (prints_last (instance_of S) sees.valid.jobs (instance_of S).rules value next.steps it.0 z y
       (sees_keeps ls S floor z sees) next.idles next.prints it.1)
 
   -- with its text the trace is whole

@@ -51,10 +51,10 @@ module _ (J : Instance) (valid : IsValid J) (s : State) (keeps : Keeps J s) wher
 
   -- each deed names jobs
   deed_names : (k : Fraction) (other m : Move) → MoveNames other → Deed k s other m → MoveNames m
-  deed_names k other m rests (Completed r member runs done) = low r member
+  deed_names k other m rests (Completed r member runs) = low r member
   deed_names k other m rests (Resumed p member held none least why) = low p member
   deed_names k other m rests (Started o member waiting none first fits next) = low o member
-  deed_names k other m rests (Began f member fresh none) = low f member
+  deed_names k other m rests (Began f member fresh none free) = low f member
   deed_names k other m rests (Preempted r f member runs some f_member fresh before fits) =
       (low r member, low f f_member)
   deed_names k other m rests (Stayed r f member runs some f_member fresh why) = tt
@@ -75,15 +75,15 @@ module _ (J : Instance) (valid : IsValid J) (s : State) (keeps : Keeps J s) wher
 
 -- what is printed next has the form of a trace's line
 pub next_form : (ls : List (List ℕ)) (S : Session) (floor : ℕ) (z : State) → Sees ls S floor z → (e : Event) (y : State)
-    → PrintsNext S.rules z e y → HasForm (Step e)
+    → PrintsNext (instance_of S).rules z e y → HasForm (Step e)
 next_form ls S floor z sees e y next =
     let it : (more : List Event) × (printed (instance_of S) ≡ printed_of sees.steps ++ e ∷ more) =
     sees_next ls S floor z sees e y next in
     let keeps_y : Keeps (instance_of S) y =
-    passes_keeps (instance_of S) sees.valid.jobs S.rules y.clock next.steps z y (sees_keeps ls S floor z sees)
-    (leads_passes S.rules y.clock next.steps z y (idles_leads S.rules next.steps z y next.idles)) in (
+    passes_keeps (instance_of S) sees.valid.jobs (instance_of S).rules y.clock next.steps z y (sees_keeps ls S floor z sees)
+    (leads_passes (instance_of S).rules y.clock next.steps z y (idles_leads (instance_of S).rules next.steps z y next.idles)) in (
       all_at (λ e. AreShort (step_numbers e)) (printed_of sees.steps) e it.0
           (subst (AllByRecursion (λ e. AreShort (step_numbers e))) it.1
           (printed_short (instance_of S) sees.valid.jobs)),
-      subst MoveNames next.prints (step_names (instance_of S) sees.valid.jobs y keeps_y S.rules),
+      subst MoveNames next.prints (step_names (instance_of S) sees.valid.jobs y keeps_y (instance_of S).rules),
     )

@@ -1,41 +1,49 @@
 -- Items of a session, one after another.
 use Rattle.std.proofs.Common.{ℕ, max, List, ◌∷◌, ◌++◌, sym, subst, ◌≡◌, ◌≤◌, ap, arith, []}
 use Rattle.std.proofs.lemmas.List.{append_assoc, append-nil}
-use Rattle.dover_model.specs.JobFacts.{JobFacts}
-use Rattle.dover_model.specs.Instance.{Rules, IsValid}
-use Rattle.dover_model.specs.Session.{Item, JobItem, RefusedItem, admitted_jobs, FollowsItems, mark_after, instance_of}
-use Rattle.dover_model.specs.Session.{Session, IsValidSession}
-use Rattle.dover_model.proofs.Walks.{tick_of_item, Takes, takes, session_with, follows_next, jobs_append}
+use Rattle.dover_model.specs.Instance.{Declaration, IsValid}
+use Rattle.dover_model.specs.Session.{Item, JobItem, RefusedItem, FinishItem, FollowsItems, mark_after, instance_of}
+use Rattle.dover_model.specs.Session.{Session, IsValidSession, session_with}
+use Rattle.dover_model.proofs.Walks.{tick_of_item, Takes, takes, follows_next, jobs_append}
 use Rattle.dover_model.proofs.Growing.{Reads, reads_new}
 
 -- and the other way round
-pub behind_follows : (rules : Rules) (jobs : List JobFacts) (mark : ℕ) (items more : List Item)
-    → FollowsItems rules jobs mark (items ++ more)
-    → FollowsItems rules (jobs ++ admitted_jobs items) (mark_after mark items) more
-behind_follows rules jobs mark [] more follows =
-    subst (λ js. FollowsItems rules js mark more) (sym (append-nil jobs)) follows
-behind_follows rules jobs mark (JobItem j ∷ items) more follows =
-    subst (λ js. FollowsItems rules js (mark_after (max mark j.release) items) more)
-    (append_assoc jobs (j ∷ []) (admitted_jobs items))
-    (behind_follows rules (jobs ++ j ∷ []) (max mark j.release) items more follows.1)
-behind_follows rules jobs mark (RefusedItem r ∷ items) more follows =
-    behind_follows rules jobs (max mark r.at) items more follows.1
+pub behind_follows : (rules : Declaration) (before : List Item) (mark : ℕ) (items more : List Item)
+    → FollowsItems rules before mark (items ++ more)
+    → FollowsItems rules (before ++ items) (mark_after mark items) more
+behind_follows rules before mark [] more follows =
+    subst (λ is. FollowsItems rules is mark more) (sym (append-nil before)) follows
+behind_follows rules before mark (JobItem j ∷ items) more follows =
+    subst (λ is. FollowsItems rules is (mark_after (max mark j.release) items) more)
+    (append_assoc before (JobItem j ∷ []) items)
+    (behind_follows rules (before ++ JobItem j ∷ []) (max mark j.release) items more follows.1)
+behind_follows rules before mark (RefusedItem r ∷ items) more follows =
+    subst (λ is. FollowsItems rules is (mark_after (max mark r.at) items) more)
+    (append_assoc before (RefusedItem r ∷ []) items)
+    (behind_follows rules (before ++ RefusedItem r ∷ []) (max mark r.at) items more follows.1)
+behind_follows rules before mark (FinishItem f ∷ items) more follows =
+    subst (λ is. FollowsItems rules is (mark_after (max mark f.at) items) more)
+    (append_assoc before (FinishItem f ∷ []) items)
+    (behind_follows rules (before ++ FinishItem f ∷ []) (max mark f.at) items more follows.1)
+
+-- the greater of two ordered ticks
+later : (mark t : ℕ) → mark ≤ t → max mark t ≡ t
+later mark t ordered = omega arith
 
 -- the mark after a first item that may follow
-mark_next : (rules : Rules) (jobs : List JobFacts) (mark : ℕ) (x : Item) (more : List Item)
-    → FollowsItems rules jobs mark (x ∷ more)
+mark_next : (rules : Declaration) (before : List Item) (mark : ℕ) (x : Item) (more : List Item)
+    → FollowsItems rules before mark (x ∷ more)
     → mark_after (tick_of_item x) more ≡ mark_after mark (x ∷ more)
-mark_next rules jobs mark (JobItem j) more follows = ap (λ m. mark_after m more) (sym (later j.release follows.0)) where
-  later : (t : ℕ) → mark ≤ t → max mark t ≡ t
-  later t ordered = omega arith
-mark_next rules jobs mark (RefusedItem r) more follows =
-    ap (λ m. mark_after m more) (sym (later r.at follows.0.no_fall)) where
-      later : (t : ℕ) → mark ≤ t → max mark t ≡ t
-      later t ordered = omega arith
+mark_next rules before mark (JobItem j) more follows =
+    ap (λ m. mark_after m more) (sym (later mark j.release follows.0))
+mark_next rules before mark (RefusedItem r) more follows =
+    ap (λ m. mark_after m more) (sym (later mark r.at follows.0.no_fall))
+mark_next rules before mark (FinishItem f) more follows =
+    ap (λ m. mark_after m more) (sym (later mark f.at follows.0.no_fall))
 
 -- a valid session is read up to its mark, item by item
-reads_items : (rules : Rules) (more items : List Item) (mark : ℕ) → Reads (session_with rules items) mark
-    → FollowsItems rules (admitted_jobs items) mark more → IsValid (instance_of (session_with rules (items ++ more)))
+reads_items : (rules : Declaration) (more items : List Item) (mark : ℕ) → Reads (session_with rules items) mark
+    → FollowsItems rules items mark more → IsValid (instance_of (session_with rules (items ++ more)))
     → Reads (session_with rules (items ++ more)) (mark_after mark more)
 reads_items rules [] items mark reads follows valid =
     subst (λ xs. Reads (session_with rules xs) mark) (sym (append-nil items)) reads
@@ -43,7 +51,7 @@ reads_items rules (x ∷ more) items mark reads follows valid =
     let one : Takes (session_with rules items) x =
     takes rules items mark reads x more follows (jobs_append rules items (x ∷ more) valid) in
     let same : (items ++ x ∷ []) ++ more ≡ items ++ (x ∷ more) = append_assoc items (x ∷ []) more in
-    subst (Reads (session_with rules (items ++ (x ∷ more)))) (mark_next rules (admitted_jobs items) mark x more follows)
+    subst (Reads (session_with rules (items ++ (x ∷ more)))) (mark_next rules items mark x more follows)
     (subst (λ xs. Reads (session_with rules xs) (mark_after (tick_of_item x) more)) same
     (reads_items rules more (items ++ x ∷ []) (tick_of_item x) one.reads (follows_next rules items mark x more follows)
     (subst (λ xs. IsValid (instance_of (session_with rules xs))) (sym same) valid)))

@@ -1,3 +1,4 @@
+pub mod Plainly
 pub mod Counts
 pub mod Items
 pub mod Seeing

@@ -3,6 +3,7 @@ use Rattle.std.proofs.Common.{◌≡◌, ◌+◌, ◌⊎◌, inl, inr, List, ◌
 use Rattle.std.proofs.Common.{[], filter_map, sym, ◌∙◌, map, refl, ℕ, true, false, None, ◌≤◌, ◌<◌, subst, Bool}
 use Rattle.std.specs.List.{cons_option, starts_with, AllByRecursion}
 use Rattle.std.proofs.lemmas.List.Elements.{filter_map-append}
+use Rattle.std.proofs.lemmas.List.Sums.{fold-append}
 use Rattle.std.proofs.lemmas.List.{append-nil, append_assoc, length-map, nil_from_length}
 use Rattle.std.specs.Prelude.{bytes_eq, nat_lt}
 use Rattle.std.specs.Option.{option_map_or, option_map}
@@ -11,17 +12,19 @@ use Rattle.std.proofs.lemmas.Slice.Eq.{bytes_eq-Decides, starts_is}
 use Rattle.dover_model.specs.WholeRun.{Begins, IsBarrier, IsSettledRun}
 use Rattle.dover_model.proofs.Beginnings.{begins_either, begins_onward}
 use Rattle.dover_model.proofs.Members.{tails, heads, some_same, all_last}
-use Rattle.dover_model.specs.Session.{Session, IsValidSession, is_valid_session, Item, JobItem, RefusedItem, RefusedJob}
+use Rattle.dover_model.specs.Session.{Session, IsValidSession, is_valid_session, Item, JobItem, RefusedItem, FinishItem}
+use Rattle.dover_model.specs.Session.{Refused, EarlyFinish, new_session, session_with, with_named}
+use Rattle.dover_model.specs.Taken.{two_versions, is_taken}
 use Rattle.dover_model.specs.Session.{FollowsItems, instance_of, admitted_jobs, with_item, mark_after}
 use Rattle.dover_model.specs.Trace.{trace_lines, text_of_line, TraceLine, Printed, Refuses, lines_among}
-use Rattle.dover_model.specs.Verdict.{named_session, begins_trace, begins_trace_of, rules_of, item_of}
+use Rattle.dover_model.specs.Verdict.{named_session, named_behind, named_item, begins_trace, begins_trace_of, rules_of, item_of}
 use Rattle.dover_model.proofs.Agreement.{is_valid_session-agrees}
 use Rattle.dover_model.proofs.Tests.{never}
 use Rattle.dover_model.specs.Fraction.{IsRatio}
 use Rattle.dover_model.specs.Text.{header, text_of, refused_text}
-use Rattle.dover_model.proofs.Walks.{session_with}
-use Rattle.dover_model.proofs.Named.{header_names, texts_name, first_texts}
-use Rattle.dover_model.specs.Instance.{Rules, IsValid, with_jobs}
+use Rattle.dover_model.proofs.Named.{header_names, first_texts}
+use Rattle.dover_model.proofs.WrongStays.{named_taken}
+use Rattle.dover_model.specs.Instance.{Declaration, IsValid, with_jobs}
 use Rattle.dover_model.proofs.Growing.{all_lines, Reads, lines_at, job_instance, reads_later, reads_job, lines_job}
 use Rattle.dover_model.proofs.Growing.{reads_refused, lines_refused, lines_of_trace}
 use Rattle.dover_model.specs.JobFacts.{JobFacts}
@@ -36,6 +39,8 @@ use Rattle.dover_model.proofs.ShortNumbers.{lines_short}
 use Rattle.dover_model.proofs.Admitting.{valid_admitted}
 use Rattle.dover_model.specs.Leading.{Settles, WaitsUntil, PrintsNext}
 use Rattle.trace_judge.specs.Reading.{Sees, HasRoom, MayRelease, MayRefuse, release_text, IsReleaseNext, IsRefusedNext}
+use Rattle.admission.proofs.Versions.{none_finishes}
+use Rattle.trace_judge.proofs.Plainly.{text_names, named_as, names_items, texts_items}
 use Rattle.trace_judge.proofs.Items.{behind_follows, reads_mark}
 use Rattle.trace_judge.proofs.Seeing.{sees_next_text, sees_names, sees_short}
 use Rattle.dover_model.proofs.Leading.{settled_settles}
@@ -121,6 +126,7 @@ pub record Starts (ls : List (List ℕ)) : Type 0 where
   pub session : Session
   pub named : named_session ls ≡ Some session
   pub valid : IsValidSession session
+  pub version : is_taken two_versions session.rules.version ≡ true
   pub begins : Begins ls (trace_lines session)
 
 -- lines that begin a trace
@@ -135,6 +141,7 @@ starts l ls passes = by_named (named_session (l ∷ ls)) refl passes where
         session = S;
         named = named;
         valid = (is_valid_session-agrees S).0 both_hold.0;
+        version = named_taken two_versions l ls S named;
         begins = (
           _,
           (starts_is bytes_eq-Decides (trace_lines S) (l ∷ ls)
@@ -143,29 +150,31 @@ starts l ls passes = by_named (named_session (l ∷ ls)) refl passes where
       }
 
 -- the session that a header and lines name, with one line more
-named_more : (S T : Session) (l : List ℕ) (ls : List (List ℕ)) → IsRatio S.rules.ratio
-    → named_session (header S.rules ∷ ls) ≡ Some S
+named_more : (S T : Session) (l : List ℕ) (ls : List (List ℕ)) → is_taken two_versions S.rules.version ≡ true
+    → IsRatio S.rules.ratio → named_session (header S.rules ∷ ls) ≡ Some S
     → named_session (header S.rules ∷ (ls ++ l ∷ [])) ≡ Some T
     → T ≡ session_with S.rules (S.items ++ cons_option (item_of l) [])
-named_more S T l ls ratio one other =
-    let rules : rules_of (header S.rules) ≡ Some S.rules = header_names S.rules ratio in
-    let here : session_with S.rules (filter_map item_of ls) ≡ S = some_same _ _
-    (sym (ap (option_map (λ r. session_with r (filter_map item_of ls))) rules) ∙ one) in
-    let there : session_with S.rules (filter_map item_of (ls ++ l ∷ [])) ≡ T = some_same _ _
-    (sym (ap (option_map (λ r. session_with r (filter_map item_of (ls ++ l ∷ [])))) rules) ∙ other) in
-    sym there ∙ ap (session_with S.rules) (filter_map-append item_of ls (l ∷ []))
-    ∙ ap (λ xs. session_with S.rules (xs ++ cons_option (item_of l) [])) (ap (λ (V : Session). V.items) here)
+named_more S T l ls version ratio one other =
+    let rules : rules_of (header S.rules) ≡ Some S.rules = header_names two_versions S.rules version ratio in
+    let here : named_behind (new_session S.rules) ls ≡ S = some_same _ _
+    (sym (ap (option_map (λ r. named_behind (new_session r) ls)) rules) ∙ one) in
+    let there : named_behind (new_session S.rules) (ls ++ l ∷ []) ≡ T = some_same _ _
+    (sym (ap (option_map (λ r. named_behind (new_session r) (ls ++ l ∷ []))) rules) ∙ other) in
+    sym there ∙ fold-append (λ V k. with_named V (named_item V k)) (new_session S.rules) ls (l ∷ [])
+    ∙ ap (λ V. with_named V (named_item V l)) here ∙ ap (with_named S) (text_names S version l)
+    ∙ named_as S (item_of l)
 
 -- ---- the first line
 
 -- only headers begin a trace
-pub only_headers : (l : List ℕ) → begins_trace (l ∷ []) ≡ true → (rules : Rules) × IsRatio rules.ratio
-    × (l ≡ header rules)
+pub only_headers : (l : List ℕ) → begins_trace (l ∷ []) ≡ true → (rules : Declaration) × IsRatio rules.ratio
+    × (l ≡ header rules) × (is_taken two_versions rules.version ≡ true)
 only_headers l passes =
     let it : Starts (l ∷ []) = starts l [] passes in (
       it.session.rules,
       it.valid.jobs.ratio,
       sym (heads (header it.session.rules) l (map text_of_line (all_lines it.session)) it.begins.0 it.begins.1),
+      it.version,
     )
 
 -- ---- later lines
@@ -190,10 +199,11 @@ module _ (ls : List (List ℕ)) (S : Session) (floor : ℕ) (z : State) (sees : 
 
   -- the session that they name
   same : it.session ≡ session_with S.rules (S.items ++ cons_option (item_of l) [])
-  same = named_more S it.session l texts sees.valid.jobs.ratio (ap named_session (sym sees.lines) ∙ sees.named) it.named
+  same = named_more S it.session l texts sees.version sees.valid.jobs.ratio
+      (ap named_session (sym sees.lines) ∙ sees.named) it.named
 
   -- a line that names no item is the text of the next printed step
-  pub only_step : (e : Event) (y : State) → PrintsNext S.rules z e y → item_of l ≡ None → l ≡ text_of e
+  pub only_step : (e : Event) (y : State) → PrintsNext (instance_of S).rules z e y → item_of l ≡ None → l ≡ text_of e
   only_step e y next none =
       let unchanged : it.session ≡ S = same ∙ ap (λ o. session_with S.rules (S.items ++ cons_option o [])) none
       ∙ ap (session_with S.rules) (append-nil S.items) in
@@ -218,7 +228,7 @@ module _ (ls : List (List ℕ)) (S : Session) (floor : ℕ) (z : State) (sees : 
     valid_more = subst IsValidSession is_more it.valid
 
     -- the item may follow
-    follows_more : FollowsItems S.rules (admitted_jobs S.items) (mark_after 0 S.items) (x ∷ [])
+    follows_more : FollowsItems S.rules S.items (mark_after 0 S.items) (x ∷ [])
     follows_more = behind_follows S.rules [] 0 S.items (x ∷ []) valid_more.items
 
     -- there is room for it
@@ -252,9 +262,13 @@ module _ (ls : List (List ℕ)) (S : Session) (floor : ℕ) (z : State) (sees : 
 
       -- those before the last name the items so far
       front_names : filter_map item_of_line last.front ≡ S.items
-      front_names = sym (texts_name last.front (all_front HasShortNumbers last.front (last.last ∷ []) last_short))
-          ∙ ap (filter_map item_of) last.texts ∙ texts_name (lines_among S so_far) (sees_short ls S floor z sees)
-          ∙ sees_names ls S floor z sees
+      front_names = sym (texts_items last.front (all_front HasShortNumbers last.front (last.last ∷ []) last_short))
+          ∙ ap (filter_map item_of) last.texts ∙ texts_items (lines_among S so_far) (sees_short ls S floor z sees)
+          ∙ names_items S sees.version (lines_among S so_far) (sees_names ls S floor z sees)
+
+      -- so do those that are settled
+      before_names : filter_map item_of_line (lines_at S t) ≡ S.items
+      before_names = names_items S sees.version (lines_at S t) before.names
 
       -- the last names the item
       last_names : item_of_line last.last ≡ Some x
@@ -265,10 +279,10 @@ module _ (ls : List (List ℕ)) (S : Session) (floor : ℕ) (z : State) (sees : 
       front_is : last.front ≡ lines_at S t
       front_is = begin_both last.front (lines_at S t)
           (no_longer item_of_line x last.front (lines_at S t) last.last line (all_lines S_more)
-          (front_names ∙ sym before.names) is
+          (front_names ∙ sym before_names) is
           (last.last ∷ last_begins.0, last_begins.1 ∙ append_assoc last.front (last.last ∷ []) last_begins.0) begins)
           (no_longer item_of_line x (lines_at S t) last.front line last.last (all_lines S_more)
-          (before.names ∙ sym front_names) last_names
+          (before_names ∙ sym front_names) last_names
           (line ∷ begins.0, begins.1 ∙ append_assoc (lines_at S t) (line ∷ []) begins.0) last_begins)
 
       -- and the last is the item's
@@ -302,24 +316,24 @@ module _ (ls : List (List ℕ)) (S : Session) (floor : ℕ) (z : State) (sees : 
         by_floor false above = ltb-false _ _ above
 
       -- no more is settled then
-      pub only_waits : (y : State) × WaitsUntil S.rules t z y
+      pub only_waits : (y : State) × WaitsUntil (instance_of S).rules t z y
       only_waits =
-          let rest : (ys : List Step) × IsSettledRun S.rules t z ys
+          let rest : (ys : List Step) × IsSettledRun (instance_of S).rules t z ys
           × (settled_steps (instance_of S) t ≡ sees.steps ++ ys) =
           settled_from_floor ls S floor z sees t only_later in
           let counted : length (printed_of (sees.steps ++ rest.0)) ≡ length so_far + length (printed_of rest.0) =
           ap length (filter_map-append _ sees.steps rest.0) ∙ length-append so_far (printed_of rest.0) in
           let silent : printed_of rest.0 ≡ [] =
           nil_from_length (printed_of rest.0) (omega (arith, all_printed, ap length (ap printed_of rest.2))) in
-          let found : (y : State) × Settles S.rules t z rest.0 y × IsBarrier S.rules t y =
-          settled_settles S.rules t rest.0 z rest.1 silent in
+          let found : (y : State) × Settles (instance_of S).rules t z rest.0 y × IsBarrier (instance_of S).rules t y =
+          settled_settles (instance_of S).rules t rest.0 z rest.1 silent in
           (found.0, record { steps = rest.0; settles = found.1; barrier = found.2 })
 
   -- a line that names a job is the text of its release, which may come next
   pub only_release : (j : JobFacts) → item_of l ≡ Some (JobItem j) → (l ≡ release_text S j) × (y : State)
       × MayRelease S floor z j y
   only_release j names =
-      let follows : FollowsItems S.rules (admitted_jobs S.items) (mark_after 0 S.items) (JobItem j ∷ []) =
+      let follows : FollowsItems S.rules S.items (mark_after 0 S.items) (JobItem j ∷ []) =
       follows_more (JobItem j) names in
       let valid_K : IsValid (with_jobs (instance_of S) (j ∷ [])) =
       subst IsValid (job_instance S j) (valid_more (JobItem j) names).jobs in
@@ -331,7 +345,7 @@ module _ (ls : List (List ℕ)) (S : Session) (floor : ℕ) (z : State) (sees : 
       (all_lines (with_item S (JobItem j)))
       (lines_job S j before valid_K)
       (lines_of_trace (with_item S (JobItem j)) j.release (reads_job S j before valid_K)) in
-      let waits : (y : State) × WaitsUntil S.rules j.release z y =
+      let waits : (y : State) × WaitsUntil (instance_of S).rules j.release z y =
       only_waits (JobItem j) names j.release follows.0 line refl before begins in (
         only_text (JobItem j) names j.release follows.0 line refl before begins,
         waits.0,
@@ -344,10 +358,10 @@ module _ (ls : List (List ℕ)) (S : Session) (floor : ℕ) (z : State) (sees : 
       )
 
   -- a line that names a refused line is its text, and it may come next
-  pub only_refused : (r : RefusedJob) → item_of l ≡ Some (RefusedItem r) → (l ≡ refused_text r) × (y : State)
+  pub only_refused : (r : Refused) → item_of l ≡ Some (RefusedItem r) → (l ≡ refused_text r) × (y : State)
       × MayRefuse S floor z r y
   only_refused r names =
-      let follows : FollowsItems S.rules (admitted_jobs S.items) (mark_after 0 S.items) (RefusedItem r ∷ []) =
+      let follows : FollowsItems S.rules S.items (mark_after 0 S.items) (RefusedItem r ∷ []) =
       follows_more (RefusedItem r) names in
       let ordered : mark_after 0 S.items ≤ r.at = follows.0.no_fall in
       let before : Reads S r.at = reads_later S (mark_after 0 S.items) r.at (reads_mark S sees.valid) ordered in
@@ -355,29 +369,31 @@ module _ (ls : List (List ℕ)) (S : Session) (floor : ℕ) (z : State) (sees : 
       let begins : Begins (lines_at S r.at ++ line ∷ []) (all_lines (with_item S (RefusedItem r))) =
       subst (λ xs. Begins xs (all_lines (with_item S (RefusedItem r)))) (lines_refused S r before)
       (lines_of_trace (with_item S (RefusedItem r)) r.at (reads_refused S r before)) in
-      let waits : (y : State) × WaitsUntil S.rules r.at z y =
+      let waits : (y : State) × WaitsUntil (instance_of S).rules r.at z y =
       only_waits (RefusedItem r) names r.at ordered line refl before begins in (
         only_text (RefusedItem r) names r.at ordered line refl before begins,
         waits.0,
         record {
           room = room_more (RefusedItem r) names;
           refused = record {
-            version = follows.0.version;
-            numerals = follows.0.numerals;
             no_fall = only_later (RefusedItem r) names r.at ordered line refl before begins;
             known = follows.0.known;
-            not_late = follows.0.not_late;
-            cause = follows.0.cause;
+            line = follows.0.line;
           };
           waits = waits.1;
         },
       )
 
+  -- no line names a finish
+  pub only_no_finish : (f : EarlyFinish) → item_of l ≡ Some (FinishItem f) → ⊥
+  only_no_finish f names =
+      none_finishes S (mark_after 0 S.items) f sees.version (follows_more (FinishItem f) names).0
+
 -- a line that continues a trace is the text of the next printed step, of a job that may be released, or of a refused
 -- line that may come
 pub continues_only : (ls : List (List ℕ)) (S : Session) (floor : ℕ) (z : State) → Sees ls S floor z
     → (e : Event) (y : State)
-    → PrintsNext S.rules z e y → (l : List ℕ) → begins_trace (ls ++ l ∷ []) ≡ true
+    → PrintsNext (instance_of S).rules z e y → (l : List ℕ) → begins_trace (ls ++ l ∷ []) ≡ true
     → (l ≡ text_of e) ⊎ (IsReleaseNext S floor z l ⊎ IsRefusedNext S floor z l)
 continues_only ls S floor z sees e y next l passes = by_item (item_of l) refl where
   by_item : (o : Option Item) → item_of l ≡ o → (l ≡ text_of e)
@@ -385,5 +401,6 @@ continues_only ls S floor z sees e y next l passes = by_item (item_of l) refl wh
   by_item None none = inl (only_step ls S floor z sees l passes e y next none)
   by_item (Some (JobItem j)) names = let it = only_release ls S floor z sees l passes j names in
       inr (inl (j, it.0, it.1, it.2))
+  by_item (Some (FinishItem f)) names = absurd (only_no_finish ls S floor z sees l passes f names)
   by_item (Some (RefusedItem r)) names = let it = only_refused ls S floor z sees l passes r names in
       inr (inr (r, it.0, it.1, it.2))

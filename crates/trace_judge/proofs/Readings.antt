@@ -98,6 +98,7 @@ module _ (r : Reading) (ready spare room : ℕ) (ls : List (List ℕ)) where
   -- and behind the end
   pub room_ends : (S : Session) → Ends r ls S → Ends (with_room r ready spare room) ls S
   room_ends S it = record {
+    version = it.version;
     valid = it.valid;
     lines = it.lines;
     rules = it.rules;
@@ -131,16 +132,16 @@ module _ (r : Reading) (d : Course) (e : Event) (going : r.stage ≡ Going)
     × PrintsNext J.rules z e y) where
   -- the step that is printed next, and the run that has gone on to it
   pub next_goes : (ls : List (List ℕ)) (S : Session) (z y : State) → Goes r ls S z y
-      → (x : State) × Goes (record r { course = d }) ls S z x × PrintsNext S.rules z e x
+      → (x : State) × Goes (record r { course = d }) ls S z x × PrintsNext (instance_of S).rules z e x
   next_goes ls S z y goes =
-      let it : (x : State) × Follows d (instance_of S) x × PrintsNext S.rules y e x =
+      let it : (x : State) × Follows d (instance_of S) x × PrintsNext (instance_of S).rules y e x =
       next (instance_of S) y goes.follows in (
         it.0,
         record {
           sees = goes.sees;
           idles = (
             goes.idles.0 ++ it.2.steps,
-            idles_append S.rules goes.idles.0 it.2.steps z y it.0 goes.idles.1 it.2.idles,
+            idles_append (instance_of S).rules goes.idles.0 it.2.steps z y it.0 goes.idles.1 it.2.idles,
           );
           follows = it.1;
           kept = goes.kept;
@@ -150,7 +151,7 @@ module _ (r : Reading) (d : Course) (e : Event) (going : r.stage ≡ Going)
         },
         record {
           steps = goes.idles.0 ++ it.2.steps;
-          idles = idles_append S.rules goes.idles.0 it.2.steps z y it.0 goes.idles.1 it.2.idles;
+          idles = idles_append (instance_of S).rules goes.idles.0 it.2.steps z y it.0 goes.idles.1 it.2.idles;
           prints = it.2.prints;
         },
       )
@@ -159,7 +160,7 @@ module _ (r : Reading) (d : Course) (e : Event) (going : r.stage ≡ Going)
   pub next_ahead : (ls : List (List ℕ)) → ReadsAhead r ls → ReadsAhead (record r { course = d }) ls
   next_ahead ls reads =
       let old : (S : Session) × (z : State) × (y : State) × Goes r ls S z y = goes_of r ls going reads in
-      let new : (x : State) × Goes (record r { course = d }) ls old.0 old.1 x × PrintsNext old.0.rules old.1 e x =
+      let new : (x : State) × Goes (record r { course = d }) ls old.0 old.1 x × PrintsNext (instance_of old.0).rules old.1 e x =
       next_goes ls old.0 old.1 old.2 old.3 in
       ahead_of (record r { course = d }) ls going old.0 old.1 new.0 new.1
 
@@ -167,7 +168,7 @@ module _ (r : Reading) (d : Course) (e : Event) (going : r.stage ≡ Going)
   pub next_due : (ls : List (List ℕ)) → ReadsAhead r ls → model.expected_after ls ≡ model.Step e
   next_due ls reads =
       let old : (S : Session) × (z : State) × (y : State) × Goes r ls S z y = goes_of r ls going reads in
-      let new : (x : State) × Goes (record r { course = d }) ls old.0 old.1 x × PrintsNext old.0.rules old.1 e x =
+      let new : (x : State) × Goes (record r { course = d }) ls old.0 old.1 x × PrintsNext (instance_of old.0).rules old.1 e x =
       next_goes ls old.0 old.1 old.2 old.3 in
       sees_expects ls old.0 r.floor old.1 old.3.sees e new.0 new.2
 

@@ -8,18 +8,20 @@ use Rattle.dover_model.specs.JobFacts.{JobFacts, job_of_numbers}
 use Rattle.dover_model.specs.Admission.{refusal_of}
 use Rattle.dover_model.specs.declared.events.Refusal.{Refusal}
 use Rattle.dover_model.specs.declared.events.Version.TheVariants.{Two}
-use Rattle.dover_model.specs.Instance.{Rules, Instance}
+use Rattle.dover_model.specs.Instance.{Rules, Declaration, Instance}
 use Rattle.dover_model.specs.State.{State}
-use Rattle.dover_model.specs.Session.{RefusedItem, RefusedJob, Session, instance_of, admitted_jobs, with_item}
+use Rattle.dover_model.specs.Session.{RefusedItem, Refused as RefusedAt, Session, instance_of, admitted_jobs, with_item}
+use Rattle.dover_model.specs.Session.{refuses_lines}
 use Rattle.dover_model.specs.Text.{refused_text}
 use Rattle.dover_model.specs.Verdict.{item_of, begins_trace}
 use Rattle.dover_model.proofs.Growing.{refused_instance}
 use Rattle.trace_format.specs.declared.lines.TraceLine.TheVariants.{Refused}
 use Rattle.trace_format.specs.Form.{HasForm, refused_job}
 use Rattle.trace_format.proofs.Spelled.{text_read, read_IsRead}
-use Rattle.dover_model.specs.Leading.{WaitsUntil}
+use Rattle.dover_model.specs.Leading.{Idles, WaitsUntil}
 use Rattle.trace_judge.specs.Reading.{Sees, MayRefuse}
 use Rattle.trace_judge.proofs.Continuing.{sees_refused, sees_refused_prints, sees_idles, sees_idles_prints}
+use Rattle.trace_judge.proofs.Plainly.{two_refuses, refused_then, refused_so}
 use Rattle.trace_judge.proofs.Only.{only_refused}
 use Rattle.trace_judge.specs.declared.stage.Stage.TheVariants.{Going}
 use Rattle.ready_jobs.specs.Course.{Follows}
@@ -28,7 +30,7 @@ use Rattle.trace_judge.proofs.Readings.{goes_of, ahead_of, here_of, reads_of, re
 
 module _ (at r c d v : ℕ) (cause : Refusal) (form : HasForm (Refused at r c d v cause)) where
   -- the refused line
-  abbrev line : RefusedJob
+  abbrev line : RefusedAt
   line = refused_job at r c d v cause
 
   -- its text names it
@@ -56,11 +58,14 @@ module _ (at r c d v : ℕ) (cause : Refusal) (form : HasForm (Refused at r c d 
                 let it : (y : State) × MayRefuse here.0 w.floor here.1 line y =
                 refused_only w ls here.0 here.1 here.2 passes in
                 let room : length here.0.items < 3_999_998 = it.1.room in
-                none (ap (λ (k : Rules). k.version) (sym here.2.follows.rules) ∙ it.1.refused.version)
-                it.1.refused.known it.1.refused.not_late
+                let two : here.0.rules.version ≡ Two =
+                two_refuses here.0.rules.version here.2.sees.version it.1.refused.line.version in
+                let refused = refused_then here.0 at (job_of_numbers r c d v) cause two it.1.refused.line.cause in
+                none (ap (λ (k : Rules). k.version) (sym here.2.follows.rules) ∙ two)
+                it.1.refused.known refused.0
                 (omega (arith, here.2.items)) (admitted_jobs here.0.items) here.2.kept
                 (subst (λ k. refusal_of k (admitted_jobs here.0.items) (job_of_numbers r c d v) ≡ Some cause)
-                (sym here.2.ratio) it.1.refused.cause)),
+                (sym here.2.ratio) refused.1)),
             reads_ahead w ls reads,
           );
     }
@@ -68,7 +73,7 @@ module _ (at r c d v : ℕ) (cause : Refusal) (form : HasForm (Refused at r c d 
     -- something comes before its tick
     pub not_waited : (v2 : Reading)
         → (w.floor ≤ at → (ls : List (List ℕ)) (S : Session) (z : State) → Goes w ls S z z → (x : State)
-        → WaitsUntil S.rules at z x → ⊥) → StaysAhead w v2 → Took w v2 (refused_text line) false
+        → WaitsUntil (instance_of S).rules at z x → ⊥) → StaysAhead w v2 → Took w v2 (refused_text line) false
     not_waited v2 none ahead = record {
       yes = λ e. absurd (let clash : false ≡ true = e in cc);
       no = λ _ ls reads.
@@ -105,17 +110,20 @@ module _ (at r c d v : ℕ) (cause : Refusal) (form : HasForm (Refused at r c d 
           let items : u.items ≡ w.items = ap (λ (t : Reading). t.items) unchanged in
           let floor : u.floor ≡ w.floor = ap (λ (t : Reading). t.floor) unchanged in
           let least : w.items < 3_999_998 = yes.3 in
+          let two : S.rules.version ≡ Two = ap (λ (k : Rules). k.version) here.follows.rules
+          ∙ ap (λ (k : Declaration). k.version) (ap (λ (t : Reading). t.course.rules) same ∙ rules_kept) ∙ yes.0 in
           let may : MayRefuse S u.floor z line (at_tick at x.tasks) = record {
             room = omega (arith, here.items);
             refused = record {
-              version = ap (λ (k : Rules). k.version)
-                  (here.follows.rules ∙ ap (λ (t : Reading). t.course.rules) same ∙ rules_kept) ∙ yes.0;
-              numerals = form.1;
               no_fall = waited.1.no_fall;
               known = yes.1;
-              not_late = yes.2;
-              cause = subst (λ k. refusal_of k (admitted_jobs S.items) (job_of_numbers r c d v) ≡ Some cause) goes.ratio
-                  (refuses (admitted_jobs S.items) goes.kept);
+              line = record {
+                version = ap refuses_lines two;
+                numerals = form.1;
+                cause = refused_so S at (job_of_numbers r c d v) cause two yes.2
+                    (subst (λ k. refusal_of k (admitted_jobs S.items) (job_of_numbers r c d v) ≡ Some cause) goes.ratio
+                    (refuses (admitted_jobs S.items) goes.kept));
+              };
             };
             waits = waited.1.waits;
           } in
@@ -123,10 +131,12 @@ module _ (at r c d v : ℕ) (cause : Refusal) (form : HasForm (Refused at r c d 
           let J_same : instance_of S_more ≡ instance_of S = refused_instance S line in
           let sees : Sees (ls ++ refused_text line ∷ []) S_more at z =
           sees_refused ls S u.floor z here.sees line (at_tick at x.tasks) may in
+          let idles : Idles (instance_of S_more).rules z here.idles.0 x =
+          subst (λ (J : Instance). Idles J.rules z here.idles.0 x) (sym J_same) here.idles.1 in
           let low : x.clock ≤ at = omega (arith, here.follows.clock, waited.1.low) in (
             x,
             record {
-              sees = sees_idles (ls ++ refused_text line ∷ []) S_more at z sees here.idles.0 x here.idles.1 low;
+              sees = sees_idles (ls ++ refused_text line ∷ []) S_more at z sees here.idles.0 x idles low;
               idles = ([], refl);
               follows = subst (λ J. Follows u.course J x) (sym J_same) here.follows;
               kept = subst (λ (J : Instance). admission.StandsFor u.kept J.jobs) (sym J_same) here.kept;
@@ -134,7 +144,7 @@ module _ (at r c d v : ℕ) (cause : Refusal) (form : HasForm (Refused at r c d 
               items = omega (arith, here.items, length-append S.items (RefusedItem line ∷ []));
               steps = here.steps ∙ ap (kept_steps u.keep)
                   (sym (sees_idles_prints (ls ++ refused_text line ∷ []) S_more at z sees here.idles.0 x
-                  here.idles.1 low ∙ sees_refused_prints ls S u.floor z here.sees line (at_tick at x.tasks) may));
+                  idles low ∙ sees_refused_prints ls S u.floor z here.sees line (at_tick at x.tasks) may));
             },
           )
 

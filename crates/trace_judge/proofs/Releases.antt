@@ -5,6 +5,7 @@ use Rattle.std.specs.Prelude.{Some, None}
 use Rattle.std.proofs.lemmas.Bool.{false_from_ne_true}
 use Rattle.std.proofs.lemmas.List.Elements.{filter_map-append}
 use Rattle.admission.specs.Kept as admission
+use Rattle.dover_model.specs.Instance.{Instance}
 use Rattle.dover_model.specs.Limits.{last_tick, most_items}
 use Rattle.dover_model.specs.JobFacts.{JobFacts}
 use Rattle.dover_model.specs.Admission.{refusal_of}
@@ -18,6 +19,7 @@ use Rattle.dover_model.specs.Session.{JobItem, Session, instance_of, admitted_jo
 use Rattle.dover_model.specs.Text.{text_of}
 use Rattle.dover_model.specs.Verdict.{item_of, begins_trace}
 use Rattle.dover_model.proofs.Admitting.{Admitted, not_refused}
+use Rattle.dover_model.proofs.Growing.{job_instance}
 use Rattle.dover_model.proofs.Ending.{few_printed}
 use Rattle.trace_format.specs.declared.lines.TraceLine.TheVariants.{Step as StepLine}
 use Rattle.trace_format.specs.Form.{HasForm}
@@ -139,7 +141,7 @@ module _ (r : Reading) (j : JobFacts) (room : ℕ) (ls : List (List ℕ)) (can :
   release_follows = subst (λ m. Follows (with_release r.course j room) (instance_of S_more) (with_fresh y m j))
       next_number
       (course.release_follows r.course (instance_of S) can.state can.waited.goes.follows (instance_of S_more) j room
-      refl sees.valid.jobs
+      (ap (λ (I : Instance). I.rules) (job_instance S j)) sees.valid.jobs
       (subst (λ m. Keeps (instance_of S_more) (with_fresh y m j)) (sym next_number)
       (sees_keeps (ls ++ release_text S j ∷ []) S_more j.release (with_fresh y n j) sees)) known) where
         known : j.release ≤ last_tick
@@ -321,7 +323,7 @@ module _ (w : Reading) (going : w.stage ≡ Going) (n : ℕ) (j : JobFacts) (for
   -- something comes before its release
   pub not_waited : (v : Reading)
       → (w.floor ≤ j.release → (ls : List (List ℕ)) (S : Session) (z : State) → Goes w ls S z z → (x : State)
-      → WaitsUntil S.rules j.release z x → ⊥) → StaysAhead w v → Took w v (text_of (Release n j)) false
+      → WaitsUntil (instance_of S).rules j.release z x → ⊥) → StaysAhead w v → Took w v (text_of (Release n j)) false
   not_waited v none ahead = record {
     yes = λ e. absurd (let clash : false ≡ true = e in cc);
     no = λ _ ls reads.

@@ -11,9 +11,10 @@ use Rattle.dover_model.specs.State.{State, opening}
 use Rattle.dover_model.specs.Run.{Step, printed_of, printed, run, last_deadline}
 use Rattle.dover_model.specs.Sound.{Keeps}
 use Rattle.dover_model.specs.WholeRun.{IsWholeRun, Begins}
-use Rattle.dover_model.specs.Session.{Session, instance_of, admitted_jobs, IsValidSession}
+use Rattle.dover_model.specs.Session.{Session, instance_of, admitted_jobs, IsValidSession, new_session}
+use Rattle.dover_model.specs.Taken.{two_versions, is_taken}
 use Rattle.dover_model.specs.Trace.{lines_among, texts_among, Printed, text_of_line, places_of, trace_lines}
-use Rattle.dover_model.specs.Verdict.{named_session, Step as Due, Nothing, item_of, begins_trace, ends_with_end}
+use Rattle.dover_model.specs.Verdict.{named_session, named_behind, Step as Due, Nothing, begins_trace, ends_with_end}
 use Rattle.dover_model.specs.Verdict.{refused_count, step_after, expected_after}
 use Rattle.dover_model.proofs.Kept.{opening_keeps}
 use Rattle.dover_model.proofs.Ending.{potential, Ends, ends, run_is_whole}
@@ -30,32 +31,35 @@ use Rattle.dover_model.specs.declared.events.Event.{Event}
 use Rattle.dover_model.specs.Text.{header, text_of}
 use Rattle.dover_model.proofs.Members.{some_same}
 use Rattle.dover_model.proofs.Beginnings.{begins_behind, begins_map}
-use Rattle.dover_model.proofs.Walks.{session_with}
+use Rattle.dover_model.proofs.Readiness.{plain_ready}
 use Rattle.dover_model.proofs.WrongStays.{after_end_fails}
 use Rattle.dover_model.proofs.Tests.{never}
 use Rattle.trace_judge.specs.Reading.{Sees}
+use Rattle.trace_judge.proofs.Plainly.{no_finishes}
 use Rattle.trace_judge.proofs.Counts.{length-lines, get_behind}
 use Rattle.dover_model.proofs.Waiting.{next_exists}
 
-module _ (S : Session) (valid : IsValidSession S) (floor : ℕ) (z : State) (steps : List Step)
-    (leads : Leads S.rules floor (opening (admitted_jobs S.items)) steps z) where
+module _ (S : Session) (version : is_taken two_versions S.rules.version ≡ true) (valid : IsValidSession S) (floor : ℕ)
+    (z : State) (steps : List Step)
+    (leads : Leads (instance_of S).rules floor (opening (admitted_jobs S.items)) steps z) where
   -- the state is a sound one of the jobs
   pub led_keeps : Keeps (instance_of S) z
-  led_keeps = passes_keeps (instance_of S) valid.jobs S.rules floor steps (opening (admitted_jobs S.items)) z
+  led_keeps = passes_keeps (instance_of S) valid.jobs (instance_of S).rules floor steps (opening (admitted_jobs S.items)) z
       (opening_keeps (instance_of S))
-      (leads_passes S.rules floor steps (opening (admitted_jobs S.items)) z leads)
+      (leads_passes (instance_of S).rules floor steps (opening (admitted_jobs S.items)) z leads)
 
   -- the rest of the run
-  pub led_rest : (ys : List Step) × IsWholeRun S.rules z ys
+  pub led_rest : (ys : List Step) × IsWholeRun (instance_of S).rules z ys
       × (printed (instance_of S) ≡ printed_of steps ++ printed_of ys)
   led_rest =
       let J : Instance = instance_of S in
-      let it : Ends S.rules z (potential (last_deadline J.jobs) z + 1) =
-      ends J valid.jobs S.rules (potential (last_deadline J.jobs) z) z led_keeps (omega arith) in (
+      let it : Ends (instance_of S).rules z (potential J.rules.finishes (last_deadline J.jobs) z + 1) =
+      ends J valid.jobs (instance_of S).rules (potential J.rules.finishes (last_deadline J.jobs) z) z led_keeps
+      (plain_ready J.rules.finishes z (omega (arith, ap length (no_finishes S version valid)))) (omega arith) in (
         it.0,
         it.1,
-        ap printed_of (one_run S.rules (opening J.jobs) (run J) (steps ++ it.0) (run_is_whole J valid.jobs)
-            (leads_whole J valid.jobs S.rules floor steps it.0 (opening J.jobs) z (opening_keeps J) leads it.1))
+        ap printed_of (one_run (instance_of S).rules (opening J.jobs) (run J) (steps ++ it.0) (run_is_whole J valid.jobs)
+            (leads_whole J valid.jobs (instance_of S).rules floor steps it.0 (opening J.jobs) z (opening_keeps J) leads it.1))
             ∙ filter_map-append _ steps it.0,
       )
 
@@ -70,9 +74,10 @@ module _ (S : Session) (valid : IsValidSession S) (floor : ℕ) (z : State) (ste
         (subst (AllByRecursion HasShortNumbers) led_lines.1 (lines_short S valid))
 
     -- where they name the items, their texts name the session
-    pub led_named : LinesName (lines_among S (printed_of steps)) S.items
+    pub led_named : LinesName (lines_among S (printed_of steps)) S
         → named_session (texts_among S (printed_of steps)) ≡ Some S
-    led_named names = lines_name S.rules (lines_among S (printed_of steps)) S.items valid.jobs.ratio led_short names
+    led_named names =
+        lines_name two_versions S.rules (lines_among S (printed_of steps)) S.items version valid.jobs.ratio led_short names
 
 module _ (ls : List (List ℕ)) (S : Session) (floor : ℕ) (z : State) (sees : Sees ls S floor z) where
   -- the jobs of the session
@@ -85,41 +90,41 @@ module _ (ls : List (List ℕ)) (S : Session) (floor : ℕ) (z : State) (sees : 
 
   -- the state is a sound one of the jobs
   pub sees_keeps : Keeps J z
-  sees_keeps = led_keeps S sees.valid floor z sees.steps sees.leads
+  sees_keeps = led_keeps S sees.version sees.valid floor z sees.steps sees.leads
 
   -- the rest of the run
-  pub sees_rest : (ys : List Step) × IsWholeRun S.rules z ys × (printed J ≡ so_far ++ printed_of ys)
-  sees_rest = led_rest S sees.valid floor z sees.steps sees.leads
+  pub sees_rest : (ys : List Step) × IsWholeRun (instance_of S).rules z ys × (printed J ≡ so_far ++ printed_of ys)
+  sees_rest = led_rest S sees.version sees.valid floor z sees.steps sees.leads
 
   -- the lines begin those of the session's trace
   pub sees_lines : Begins (lines_among S so_far) (all_lines S)
-  sees_lines = led_lines S sees.valid floor z sees.steps sees.leads sees.within
+  sees_lines = led_lines S sees.version sees.valid floor z sees.steps sees.leads sees.within
 
   -- so they begin a trace
   pub sees_begins : begins_trace ls ≡ true
   sees_begins = subst (λ xs. begins_trace xs ≡ true) (sym sees.lines)
-      (beginnings_pass S (texts_among S so_far) sees.valid
+      (beginnings_pass two_versions S (texts_among S so_far) sees.version sees.valid
       (begins_behind (header S.rules ∷ []) (map text_of_line (lines_among S so_far)) (map text_of_line (all_lines S))
       (begins_map text_of_line (lines_among S so_far) (all_lines S) sees_lines)))
 
   -- they have short numbers
   pub sees_short : AllByRecursion HasShortNumbers (lines_among S so_far)
-  sees_short = led_short S sees.valid floor z sees.steps sees.leads sees.within
+  sees_short = led_short S sees.version sees.valid floor z sees.steps sees.leads sees.within
 
   -- they name the items
-  pub sees_names : LinesName (lines_among S so_far) S.items
-  sees_names = sym (texts_name (lines_among S so_far) sees_short)
-      ∙ ap (λ (T : Session). T.items)
-      (some_same _ _ (ap (option_map
-      (λ r. session_with r (filter_map item_of (map text_of_line (lines_among S so_far)))))
-      (sym (header_names S.rules sees.valid.jobs.ratio)) ∙ ap named_session (sym sees.lines) ∙ sees.named))
+  pub sees_names : LinesName (lines_among S so_far) S
+  sees_names = sym (texts_name (new_session S.rules) (lines_among S so_far) sees_short)
+      ∙ some_same _ _ (ap (option_map
+      (λ r. named_behind (new_session r) (map text_of_line (lines_among S so_far))))
+      (sym (header_names two_versions S.rules sees.version sees.valid.jobs.ratio)) ∙ ap named_session (sym sees.lines)
+      ∙ sees.named)
 
-  module _ (e : Event) (y : State) (next : PrintsNext S.rules z e y) where
+  module _ (e : Event) (y : State) (next : PrintsNext (instance_of S).rules z e y) where
     -- what the run prints next
     pub sees_next : (more : List Event) × (printed J ≡ so_far ++ e ∷ more)
     sees_next =
         let it : (more : List Event) × (printed_of sees_rest.0 ≡ e ∷ more) =
-        prints_first J sees.valid.jobs S.rules next.steps sees_rest.0 z y e sees_keeps next.idles next.prints
+        prints_first J sees.valid.jobs (instance_of S).rules next.steps sees_rest.0 z y e sees_keeps next.idles next.prints
         sees_rest.1 in
         (it.0, sees_rest.2 ∙ ap (λ es. so_far ++ es) it.1)
 
@@ -137,14 +142,14 @@ module _ (ls : List (List ℕ)) (S : Session) (floor : ℕ) (z : State) (sees : 
 
     -- with it the lines begin a trace
     pub next_begins : begins_trace (ls ++ text_of e ∷ []) ≡ true
-    next_begins = beginnings_pass S (ls ++ text_of e ∷ []) sees.valid
+    next_begins = beginnings_pass two_versions S (ls ++ text_of e ∷ []) sees.version sees.valid
         (sees_next_text.0, sees_next_text.1 ∙ sym (append_assoc ls (text_of e ∷ []) sees_next_text.0))
 
     -- so the trace has not ended
     pub sees_goes_on : ends_with_end ls ≡ false
     sees_goes_on = by_end (ends_with_end ls) refl where
       by_end : (b : Bool) → ends_with_end ls ≡ b → ends_with_end ls ≡ false
-      by_end true ended = never (sym (after_end_fails ls (text_of e) ended) ∙ next_begins)
+      by_end true ended = never (sym (after_end_fails two_versions ls (text_of e) ended) ∙ next_begins)
       by_end false on = on
 
     -- the step that is due is that one
@@ -167,14 +172,14 @@ module _ (ls : List (List ℕ)) (S : Session) (floor : ℕ) (z : State) (sees : 
 
 -- some step is printed next
 pub sees_some_next : (ls : List (List ℕ)) (S : Session) (floor : ℕ) (z : State) → Sees ls S floor z → (e : Event)
-    × (y : State) × PrintsNext S.rules z e y
+    × (y : State) × PrintsNext (instance_of S).rules z e y
 sees_some_next ls S floor z sees =
-    next_exists (instance_of S) sees.valid.jobs S.rules (sees_rest ls S floor z sees).0 z (sees_keeps ls S floor z sees)
+    next_exists (instance_of S) sees.valid.jobs (instance_of S).rules (sees_rest ls S floor z sees).0 z (sees_keeps ls S floor z sees)
     (sees_rest ls S floor z sees).1
 
 -- lines whose steps lead to a state have not ended
 pub sees_not_ended : (ls : List (List ℕ)) (S : Session) (floor : ℕ) (z : State) → Sees ls S floor z
     → ends_with_end ls ≡ false
 sees_not_ended ls S floor z sees =
-    let it : (e : Event) × (y : State) × PrintsNext S.rules z e y = sees_some_next ls S floor z sees in
+    let it : (e : Event) × (y : State) × PrintsNext (instance_of S).rules z e y = sees_some_next ls S floor z sees in
     sees_goes_on ls S floor z sees it.0 it.1 it.2

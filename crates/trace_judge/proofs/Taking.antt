@@ -1,15 +1,15 @@
 -- How the judge takes the lines of a trace.
 use Rattle.std.proofs.Common.{◌≡◌, ℕ, suc, ◌+◌, ◌*◌, ◌≤◌, ◌<◌, min, max, List, [], ◌∷◌, ◌++◌, length, length-append}
 use Rattle.std.proofs.Common.{refl, sym, ap, ◌∙◌, subst, Bool, true, false, cond, arith}
-use Rattle.std.specs.Prelude.{Option, Some, None, ◌==◌, is_some, not}
+use Rattle.std.specs.Prelude.{Option, Some, None, is_some, not}
 use Rattle.std.specs.List.{filter}
-use Rattle.std.proofs.lemmas.Bool.{false_from_ne_true, eqb-true}
+use Rattle.std.proofs.lemmas.Bool.{false_from_ne_true}
 use Rattle.dover_model.specs.Fraction.{Fraction, IsRatio}
 use Rattle.dover_model.specs.declared.events.Event.{Event}
 use Rattle.dover_model.specs.declared.events.Event.TheVariants.{Release, Run, Preempt, Take, Complete, Abandon, End}
 use Rattle.dover_model.specs.declared.events.Version.{Version}
-use Rattle.dover_model.specs.declared.events.Version.TheVariants.{One, Two}
-use Rattle.dover_model.specs.Instance.{Rules, Instance}
+use Rattle.dover_model.specs.Instance.{Rules, Declaration, declared_by, Instance}
+use Rattle.dover_model.specs.Taken.{two_versions, is_taken}
 use Rattle.dover_model.specs.State.{State, opening, is_done, value_sum}
 use Rattle.dover_model.specs.Step.{Prints, step, after}
 use Rattle.dover_model.specs.Run.{Step, is_end, printed, printed_of}
@@ -17,7 +17,7 @@ use Rattle.dover_model.specs.Settled.{waits_for_mark}
 use Rattle.dover_model.specs.Session.{Session, instance_of, new_session}
 use Rattle.dover_model.specs.Text.{header, text_of, version_number}
 use Rattle.dover_model.specs.Verdict.{item_of, begins_trace, version_of_number}
-use Rattle.dover_model.proofs.Members.{some_same}
+use Rattle.dover_model.proofs.TraceLines.{version_back, version_from}
 use Rattle.dover_model.proofs.Ending.{end_over, few_printed}
 use Rattle.dover_model.proofs.NoFeeds.{header_short}
 use Rattle.dover_model.proofs.Tests.{never}
@@ -65,7 +65,7 @@ module _ (r w : Reading) (same : r ≡ w) (d : Course) (tick : ℕ) (o : Option 
         sees = goes.sees;
         idles = (
           goes.idles.0 ++ it.idles.0,
-          idles_append S.rules goes.idles.0 it.idles.0 z y it.state goes.idles.1 it.idles.1,
+          idles_append (instance_of S).rules goes.idles.0 it.idles.0 z y it.state goes.idles.1 it.idles.1,
         );
         follows = it.follows;
         kept = goes.kept;
@@ -97,7 +97,7 @@ module _ (r w : Reading) (same : r ≡ w) (d : Course) (tick : ℕ) (o : Option 
             sees = goes.sees;
             idles = (
               goes.idles.0 ++ it.idles.0,
-              idles_append S.rules goes.idles.0 it.idles.0 z y it.state goes.idles.1 it.idles.1,
+              idles_append (instance_of S).rules goes.idles.0 it.idles.0 z y it.state goes.idles.1 it.idles.1,
             );
             follows = it.follows;
             kept = goes.kept;
@@ -107,21 +107,21 @@ module _ (r w : Reading) (same : r ≡ w) (d : Course) (tick : ℕ) (o : Option 
           };
           no_fall = floor;
           low = low;
-          waits = wait_behind S.rules tick goes.idles.0 z y (at_tick tick it.state.tasks) goes.idles.1 at it.comes;
+          waits = wait_behind (instance_of S).rules tick goes.idles.0 z y (at_tick tick it.state.tasks) goes.idles.1 at it.comes;
         },
       )
 
   -- something was
   pub settled_no : (e : Event) → o ≡ Some e → (ls : List (List ℕ)) (S : Session) (z : State) → Goes w ls S z z
       → (x : State)
-      → WaitsUntil S.rules tick z x → ⊥
+      → WaitsUntil (instance_of S).rules tick z x → ⊥
   settled_no e some ls S z goes_w x waits =
       let goes : Goes r ls S z z = subst (λ v. Goes v ls S z z) (sym same) goes_w in
       let it : Settled d (instance_of S) z tick (Some e) =
       subst (Settled d (instance_of S) z tick) some (settled (instance_of S) z goes.follows) in
       let at : it.state.clock ≤ tick = omega (arith, it.follows.clock) in
-      settles_or_prints S.rules tick it.idles.0 waits.steps z it.state x e
-      (idles_settles S.rules tick it.idles.0 z it.state it.idles.1 at)
+      settles_or_prints (instance_of S).rules tick it.idles.0 waits.steps z it.state x e
+      (idles_settles (instance_of S).rules tick it.idles.0 z it.state it.idles.1 at)
       it.comes.1 it.comes.0 waits.settles waits.barrier
 
 -- what is kept, with the run gone on
@@ -146,38 +146,25 @@ is_something (Some e) b test is = (e, refl)
 
 -- ---- the header
 
--- the version of a version's number
-version_back : (n : ℕ) (v : Version) → version_of_number n ≡ Some v → version_number v ≡ n
-version_back n v is = by_one (n == 1) refl is where
-  by_two : (b : Bool) → (n == 2) ≡ b → cond b (Some Two) None ≡ Some v → version_number v ≡ n
-  by_two true two e = let same : Two ≡ v = some_same Two v e in ap version_number (sym same) ∙ sym (eqb-true n 2 two)
-  by_two false other e = absurd (let clash : None ≡ Some v = e in cc)
-
-  by_one : (b : Bool) → (n == 1) ≡ b → cond b (Some One) (cond (n == 2) (Some Two) None) ≡ Some v → version_number v ≡ n
-  by_one true one e = let same : One ≡ v = some_same One v e in ap version_number (sym same) ∙ sym (eqb-true n 1 one)
-  by_one false other e = by_two (n == 2) refl e
-
--- and the other way round
-number_back : (v : Version) → version_of_number (version_number v) ≡ Some v
-number_back One = refl
-number_back Two = refl
-
 -- a header that begins a trace
 header_only : (v p q : ℕ) → HasForm (Header v p q) → begins_trace (trace_text (Header v p q) ∷ []) ≡ true
-    → (rules : Rules) × IsRatio rules.ratio
+    → (rules : Declaration) × IsRatio rules.ratio
     × (Header v p q ≡ Header (version_number rules.version) rules.ratio.p rules.ratio.q)
+    × (is_taken two_versions rules.version ≡ true)
 header_only v p q form passes =
-    let it : (rules : Rules) × IsRatio rules.ratio × (trace_text (Header v p q) ≡ header rules) =
+    let it : (rules : Declaration) × IsRatio rules.ratio × (trace_text (Header v p q) ≡ header rules)
+    × (is_taken two_versions rules.version ≡ true) =
     only_headers (trace_text (Header v p q)) passes in (
       it.0,
       it.1,
       one_form (Header v p q) (Header (version_number it.0.version) it.0.ratio.p it.0.ratio.q) form
           (header_short it.0 it.1) it.2,
+      it.3,
     )
 
 module _ (r : Reading) (opening_stage : r.stage ≡ Opening) (v p q : ℕ) (form : HasForm (Header v p q)) where
   -- a header that isn't one of a trace
-  not_header : ((rules : Rules) → IsRatio rules.ratio
+  not_header : ((rules : Declaration) → IsRatio rules.ratio → is_taken two_versions rules.version ≡ true
       → Header v p q ≡ Header (version_number rules.version) rules.ratio.p rules.ratio.q → ⊥)
       → Took r r (trace_text (Header v p q)) false
   not_header none = record {
@@ -187,23 +174,23 @@ module _ (r : Reading) (opening_stage : r.stage ≡ Opening) (v p q : ℕ) (form
           let opens : Opens r ls = opens_of r ls opening_stage (reads_ahead r ls reads) in
           let it = header_only v p q form
           (subst (λ xs. begins_trace (xs ++ trace_text (Header v p q) ∷ []) ≡ true) opens.lines passes) in
-          none it.0 it.1 it.2),
+          none it.0 it.1 it.3 it.2),
       reads_ahead r ls reads,
     );
   }
 
   -- its number is no version
   pub no_version : version_of_number v ≡ None → Took r r (trace_text (Header v p q)) false
-  no_version none = not_header (λ rules ratio same.
+  no_version none = not_header (λ rules ratio taken same.
       let number : v ≡ version_number rules.version = numbers same in
-      let clash : None ≡ Some rules.version = sym none ∙ ap version_of_number number ∙ number_back rules.version in
+      let clash : None ≡ Some rules.version = sym none ∙ ap version_of_number number ∙ version_back two_versions rules.version taken in
       cc) where
         numbers : {a b c d e f : ℕ} → Header a b c ≡ Header d e f → a ≡ d
         numbers e = cc
 
   -- its ratio is none
   pub no_ratio : (IsRatio (record { p = p; q = q }) → ⊥) → Took r r (trace_text (Header v p q)) false
-  no_ratio none = not_header (λ rules ratio same. none (subst IsRatio (sym (fraction same)) ratio)) where
+  no_ratio none = not_header (λ rules ratio taken same. none (subst IsRatio (sym (fraction same)) ratio)) where
     fraction : {a b c d e f : ℕ} → Header a b c ≡ Header d e f
         → ◌≡◌ {A = Fraction} (record { p = b; q = c }) (record { p = e; q = f })
     fraction {b} {c} {e} {f} same = let one : b ≡ e = cc in let two : c ≡ f = cc in
@@ -216,16 +203,20 @@ module _ (r : Reading) (opening_stage : r.stage ≡ Opening) (v p q : ℕ) (form
       (kept_ratio : kept.ratio ≡ ratio)
       (stands : admission.StandsFor kept []) where
     -- the rules
-    abbrev rules : Rules
+    abbrev rules : Declaration
     rules = record { ratio = ratio; version = version }
 
     -- the reading behind the header
     abbrev opened : Reading
     opened = record r { stage = Going; course = d; kept = kept }
 
+    -- its version is taken
+    taken : is_taken two_versions rules.version ≡ true
+    taken = (version_from two_versions v version is_version).1
+
     -- the text is that of the rules
     text_is : trace_text (Header v p q) ≡ header rules
-    text_is = ap (λ n. trace_text (Header n p q)) (sym (version_back v version is_version))
+    text_is = ap (λ n. trace_text (Header n p q)) (sym (version_from two_versions v version is_version).0)
         ∙ ap (λ (k : Fraction). trace_text (Header (version_number version) k.p k.q)) (sym is_ratio.0)
 
     -- the header is kept
@@ -240,7 +231,7 @@ module _ (r : Reading) (opening_stage : r.stage ≡ Opening) (v p q : ℕ) (form
         subst (λ xs. (s : Sees xs (new_session rules) r.floor (opening [])) × (printed_of s.steps ≡ [])) lines
         (subst (λ n. (s : Sees (header rules ∷ []) (new_session rules) n (opening [])) × (printed_of s.steps ≡ []))
         floor
-        (sees_header rules is_ratio.1, sees_header_prints rules is_ratio.1)) in
+        (sees_header rules taken is_ratio.1, sees_header_prints rules taken is_ratio.1)) in
         record {
           sees = sees.0;
           idles = ([], refl);
@@ -383,16 +374,17 @@ module _ (r w : Reading) (same : r ≡ w) (going_w : w.stage ≡ Going) (d : Cou
             let new = next_goes r d due going next ls S z y goes in
             let J : Instance = instance_of S in
             let v : (n : ℕ) × (due ≡ End n) = end_is due last in
-            let next_end : PrintsNext S.rules z (End v.0) new.0 = subst (λ e. PrintsNext S.rules z e new.0) v.1 new.2 in
+            let next_end : PrintsNext (instance_of S).rules z (End v.0) new.0 = subst (λ e. PrintsNext (instance_of S).rules z e new.0) v.1 new.2 in
             let over : step J.rules new.0 ≡ Prints (End (value_sum (filter is_done new.0.tasks))) =
             (end_over J goes.sees.valid.jobs new.0 new.1.follows.keeps J.rules (ap is_end new.2.prints ∙ last)).0 in
             let value : v.0 ≡ d.done =
             ends_same v.0 (value_sum (filter is_done new.0.tasks)) (sym next_end.prints ∙ over) ∙ new.1.follows.done in
             record {
+              version = goes.sees.version;
               valid = goes.sees.valid;
               lines = ap (λ e. ls ++ text_of e ∷ []) (sym is_event ∙ v.1)
                   ∙ ended_trace ls S r.floor z goes.sees v.0 new.0 next_end;
-              rules = new.1.follows.rules;
+              rules = ap (λ (k : Rules). declared_by k) new.1.follows.rules;
               value = ended_value ls S r.floor z goes.sees v.0 new.0 next_end ∙ value;
               jobs = sym (follows_count d J new.0 new.1.follows);
               items = goes.items;

@@ -5,10 +5,12 @@ use Rattle.std.proofs.lemmas.Bool.{false_from_ne_true}
 use Rattle.dover_model.specs.Fraction.{IsRatio}
 use Rattle.dover_model.specs.declared.events.Event.{Event}
 use Rattle.dover_model.specs.declared.events.Event.TheVariants.{Release, Run, Preempt, Take, Complete, Abandon, End}
-use Rattle.dover_model.specs.Instance.{Rules}
+use Rattle.dover_model.specs.Instance.{Declaration}
 use Rattle.dover_model.specs.State.{State}
-use Rattle.dover_model.specs.Session.{Session, admitted_jobs}
-use Rattle.dover_model.specs.Text.{header, text_of, version_number}
+use Rattle.dover_model.specs.Session.{Session, RefusedLine, RefusedJob, RefusedDone, instance_of, admitted_jobs}
+use Rattle.dover_model.specs.Session as lines
+use Rattle.dover_model.specs.Taken.{two_versions, is_taken}
+use Rattle.dover_model.specs.Text.{header, text_of, refused_text, version_number}
 use Rattle.dover_model.specs.Verdict.{item_of, begins_trace, ends_with_end}
 use Rattle.dover_model.proofs.Admitting.{Admitted, not_refused}
 use Rattle.dover_model.proofs.NoFeeds.{header_short}
@@ -19,6 +21,7 @@ use Rattle.trace_format.specs.declared.lines.TraceLine.TheVariants.{Header, Step
 use Rattle.trace_format.specs.Form.{HasForm, item_in, trace_text}
 use Rattle.dover_model.specs.Leading.{PrintsNext}
 use Rattle.trace_judge.specs.Reading.{IsReleaseNext, IsRefusedNext}
+use Rattle.trace_judge.proofs.Plainly.{none_done}
 use Rattle.trace_judge.proofs.Only.{only_headers, only_step, continues_only}
 use Rattle.trace_judge.proofs.Seeing.{sees_some_next}
 use Rattle.trace_judge.specs.declared.stage.Stage.{Stage}
@@ -31,7 +34,7 @@ use Rattle.trace_judge.proofs.Taking.{text_item}
 -- behind the end no line continues the trace
 ended_fails : (r : Reading) (ls : List (List ℕ)) (S : Session) → Ends r ls S → (l : List ℕ)
     → begins_trace (ls ++ l ∷ []) ≡ false
-ended_fails r ls S ends l = after_end_fails ls l (ap ends_with_end ends.lines ∙ trace_ends S ends.valid)
+ended_fails r ls S ends l = after_end_fails two_versions ls l (ap ends_with_end ends.lines ∙ trace_ends S ends.valid)
 
 -- so each is wrong
 pub ended_took_none : (w : Reading) → w.stage ≡ Ended → (l : List ℕ) → Took w w l false
@@ -50,7 +53,7 @@ header_took_none w going v p q form = record {
   no = λ _ ls reads.
       let here : (S : Session) × (z : State) × Goes w ls S z z = here_of w ls going reads in (
         false_from_ne_true _ (λ passes.
-            let next : (e : Event) × (y : State) × PrintsNext here.0.rules here.1 e y =
+            let next : (e : Event) × (y : State) × PrintsNext (instance_of here.0).rules here.1 e y =
             sees_some_next ls here.0 w.floor here.1 here.2.sees in
             let text : trace_text (Header v p q) ≡ text_of next.0 =
             only_step ls here.0 w.floor here.1 here.2.sees (trace_text (Header v p q)) passes next.0 next.1 next.2
@@ -77,33 +80,42 @@ release_form S floor z l it =
     )
 
 -- so has a refused line that may come next
-refused_form : (S : Session) (floor : ℕ) (z : State) (l : List ℕ) → IsRefusedNext S floor z l → (x : TraceLine)
+refused_form : (S : Session) → is_taken two_versions S.rules.version ≡ true → (floor : ℕ) (z : State) (l : List ℕ)
+    → IsRefusedNext S floor z l → (x : TraceLine)
     × HasForm x × (trace_text x ≡ l)
-refused_form S floor z l it =
-    let known : it.0.at ≤ 1_000_000_000_000 = it.3.refused.known in (
-      Refused it.0.at it.0.job.release it.0.job.work it.0.job.deadline it.0.job.value it.0.refusal,
-      (omega arith, it.3.refused.numerals),
-      sym it.1,
-    )
+refused_form S version floor z l it =
+    by_line it.0.line it.1 it.3.refused.line where
+      known : it.0.at ≤ 1_000_000_000_000
+      known = it.3.refused.known
+
+      by_line : (line : RefusedLine) → l ≡ refused_text (record { at = it.0.at; line = line })
+          → lines.MayRefuse S it.0.at line → (x : TraceLine) × HasForm x × (trace_text x ≡ l)
+      by_line (RefusedJob j cause) is may = (
+        Refused it.0.at j.release j.work j.deadline j.value cause,
+        (omega (arith, known), may.numerals),
+        sym is,
+      )
+      by_line (RefusedDone tick n) is may = absurd (none_done S it.0.at tick n version may)
 
 -- a line without a form continues no trace
 unread_fails : (w : Reading) (l : List ℕ) → ((x : TraceLine) → HasForm x → trace_text x ≡ l → ⊥)
     → (ls : List (List ℕ)) → Reads w ls
     → begins_trace (ls ++ l ∷ []) ≡ false
 unread_fails w l none ls reads = false_from_ne_true _ (by_stage w.stage reads) where
-  by_line : (S : Session) (z : State) (goes : Goes w ls S z z) (e : Event) (y : State) → PrintsNext S.rules z e y
+  by_line : (S : Session) (z : State) (goes : Goes w ls S z z) (e : Event) (y : State) → PrintsNext (instance_of S).rules z e y
       → (l ≡ text_of e) ⊎ (IsReleaseNext S w.floor z l ⊎ IsRefusedNext S w.floor z l) → ⊥
   by_line S z goes e y next (inl is) = none (Step e) (next_form ls S w.floor z goes.sees e y next) (sym is)
   by_line S z goes e y next (inr (inl it)) = let form = release_form S w.floor z l it in none form.0 form.1 form.2
-  by_line S z goes e y next (inr (inr it)) = let form = refused_form S w.floor z l it in none form.0 form.1 form.2
+  by_line S z goes e y next (inr (inr it)) = let form = refused_form S goes.sees.version w.floor z l it in none form.0 form.1 form.2
 
   by_stage : (s : Stage) → HereBy s w ls → begins_trace (ls ++ l ∷ []) ≡ true → ⊥
   by_stage Opening opens passes =
-      let it : (rules : Rules) × IsRatio rules.ratio × (l ≡ header rules) =
+      let it : (rules : Declaration) × IsRatio rules.ratio × (l ≡ header rules)
+      × (is_taken two_versions rules.version ≡ true) =
       only_headers l (subst (λ xs. begins_trace (xs ++ l ∷ []) ≡ true) opens.lines passes) in
       none (Header (version_number it.0.version) it.0.ratio.p it.0.ratio.q) (header_short it.0 it.1) (sym it.2)
   by_stage Going here passes =
-      let next : (e : Event) × (y : State) × PrintsNext here.0.rules here.1 e y =
+      let next : (e : Event) × (y : State) × PrintsNext (instance_of here.0).rules here.1 e y =
       sees_some_next ls here.0 w.floor here.1 here.2.sees in
       by_line here.0 here.1 here.2 next.0 next.1 next.2
       (continues_only ls here.0 w.floor here.1 here.2.sees next.0 next.1 next.2 l passes)

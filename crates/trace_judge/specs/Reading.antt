@@ -1,12 +1,13 @@
 -- What the lines of a trace so far have come to, and which line may come next.
-use Rattle.std.specs.Prelude.{◌≡◌, ◌≤◌, ◌<◌, ◌+◌, ℕ, List, length, false, Some, suc, if◌then◌else◌, None, ◌∷◌, ◌++◌}
+use Rattle.std.specs.Prelude.{◌≡◌, ◌≤◌, ◌<◌, ◌+◌, ℕ, List, length, true, false, Some, suc, if◌then◌else◌, None, ◌∷◌, ◌++◌}
 use Rattle.std.specs.List.{AllByRecursion}
 use Rattle.dover_model.specs.State.{State, opening, is_coming}
 use Rattle.dover_model.specs.Run.{Step, printed_of}
 use Rattle.dover_model.specs.Sound.{Each}
 use Rattle.dover_model.specs.Settled.{settled, waits_for_mark}
-use Rattle.dover_model.specs.Session.{Session, instance_of, admitted_jobs, IsValidSession, mark_after, RefusedJob}
+use Rattle.dover_model.specs.Session.{Session, instance_of, admitted_jobs, IsValidSession, mark_after, Refused}
 use Rattle.dover_model.specs.Session.{MayBeRefused}
+use Rattle.dover_model.specs.Taken.{two_versions, is_taken}
 use Rattle.dover_model.specs.Trace.{places_of, texts_among}
 use Rattle.dover_model.specs.Verdict.{named_session}
 use Rattle.dover_model.specs.Leading.{Leads, WaitsUntil}
@@ -19,14 +20,15 @@ use Rattle.dover_model.specs.declared.events.Role.TheVariants.{Fresh}
 use Rattle.dover_model.specs.declared.events.Event.TheVariants.{Release}
 use Rattle.dover_model.specs.Text.{text_of, refused_text}
 
--- The lines begin the trace of the valid session that they name. The steps printed among them lead to the state z, in
+-- The lines begin the trace of the valid session that they name, and its version is taken. The steps printed among them lead to the state z, in
 -- which no job is to come.
 -- They are settled at each tick from the floor on, and at no tick below it at which an item could come.
 pub record Sees (ls : List (List ℕ)) (S : Session) (floor : ℕ) (z : State) : Type 0 where
+  pub version : is_taken two_versions S.rules.version ≡ true
   pub valid : IsValidSession S
   pub named : named_session ls ≡ Some S
   pub steps : List Step
-  pub leads : Leads S.rules floor (opening (admitted_jobs S.items)) steps z
+  pub leads : Leads (instance_of S).rules floor (opening (admitted_jobs S.items)) steps z
   pub lines : ls ≡ texts_among S (printed_of steps)
   pub within : AllByRecursion (λ p. p.place ≤ 0 + length (printed_of steps)) (places_of S)
   pub released : Each (λ t. is_coming t ≡ false) z.tasks
@@ -44,13 +46,13 @@ pub record MayRelease (S : Session) (floor : ℕ) (s : State) (j : JobFacts) (z 
   pub room : HasRoom S
   pub admitted : refusal_of S.rules.ratio (admitted_jobs S.items) j ≡ None
   pub no_fall : floor ≤ j.release
-  pub waits : WaitsUntil S.rules j.release s z
+  pub waits : WaitsUntil (instance_of S).rules j.release s z
 
 -- the refused line may come next, and the silent steps before it lead to z
-pub record MayRefuse (S : Session) (floor : ℕ) (s : State) (r : RefusedJob) (z : State) : Type 0 where
+pub record MayRefuse (S : Session) (floor : ℕ) (s : State) (r : Refused) (z : State) : Type 0 where
   pub room : HasRoom S
-  pub refused : MayBeRefused S.rules (admitted_jobs S.items) floor r
-  pub waits : WaitsUntil S.rules r.at s z
+  pub refused : MayBeRefused S floor r
+  pub waits : WaitsUntil (instance_of S).rules r.at s z
 
 -- the text of the release of the session's next job
 abbrev pub release_text : Session → JobFacts → List ℕ
@@ -62,4 +64,4 @@ IsReleaseNext S floor s line = (j : JobFacts) × (line ≡ release_text S j) × 
 
 -- the line is the text of a refused line that may come next
 abbrev pub IsRefusedNext : Session → ℕ → State → List ℕ → Type 0
-IsRefusedNext S floor s line = (r : RefusedJob) × (line ≡ refused_text r) × (z : State) × MayRefuse S floor s r z
+IsRefusedNext S floor s line = (r : Refused) × (line ≡ refused_text r) × (z : State) × MayRefuse S floor s r z

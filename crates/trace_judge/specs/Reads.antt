@@ -8,6 +8,7 @@ use Rattle.dover_model.specs.declared.events.Event.{Event}
 use Rattle.dover_model.specs.State.{State}
 use Rattle.dover_model.specs.Run.{Step, printed, printed_of, completed_value}
 use Rattle.dover_model.specs.Session.{Item, JobItem, Session, instance_of, admitted_jobs, IsValidSession}
+use Rattle.dover_model.specs.Taken.{two_versions, is_taken}
 use Rattle.dover_model.specs.Trace.{trace_lines}
 use Rattle.dover_model.specs.Verdict as model
 use Rattle.dover_model.specs.declared.events.Task.{Task}
@@ -50,15 +51,16 @@ pub record Opens (r : Reading) (ls : List (List ℕ)) : Type 0 where
 -- the lines come to the state z of the session's jobs, and the run that is kept has gone on to y
 pub record Goes (r : Reading) (ls : List (List ℕ)) (S : Session) (z y : State) : Type 0 where
   pub sees : Sees ls S r.floor z
-  pub idles : (xs : List Step) × Idles S.rules z xs y
+  pub idles : (xs : List Step) × Idles (instance_of S).rules z xs y
   pub follows : Follows r.course (instance_of S) y
   pub kept : admission.StandsFor r.kept (admitted_jobs S.items)
   pub ratio : r.kept.ratio ≡ S.rules.ratio
   pub items : r.items ≡ length S.items
   pub steps : r.steps ≡ kept_steps r.keep (printed_of sees.steps)
 
--- the lines are a whole trace
+-- the lines are a whole trace, of a version that is taken
 pub record Ends (r : Reading) (ls : List (List ℕ)) (S : Session) : Type 0 where
+  pub version : is_taken two_versions S.rules.version ≡ true
   pub valid : IsValidSession S
   pub lines : ls ≡ trace_lines S
   pub rules : S.rules ≡ r.course.rules
@@ -121,7 +123,7 @@ pub record Waited (r : Reading) (tick : ℕ) (ls : List (List ℕ)) (S : Session
   pub goes : Goes r ls S z y
   pub no_fall : r.floor ≤ tick
   pub low : r.course.clock ≤ tick
-  pub waits : WaitsUntil S.rules tick z (at_tick tick y.tasks)
+  pub waits : WaitsUntil (instance_of S).rules tick z (at_tick tick y.tasks)
 
 -- the job may be released next
 pub record CanRelease (r : Reading) (j : JobFacts) (ls : List (List ℕ)) : Type 0 where

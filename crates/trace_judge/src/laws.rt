@@ -2,7 +2,7 @@
 //! function that does nothing.
 ghost use Rattle.std.specs.Prelude.{◌≡◌, ◌⊎◌, ◌∷◌, ◌++◌, [], ℕ, List, true};
 ghost use Rattle.dover_model.specs.declared.events.Event.{Event};
-ghost use Rattle.dover_model.specs.Session.{Session};
+ghost use Rattle.dover_model.specs.Session.{Session, instance_of};
 ghost use Rattle.dover_model.specs.State.{State};
 ghost use Rattle.dover_model.specs.Text.{text_of};
 ghost use Rattle.dover_model.specs.Verdict.{begins_trace};
@@ -14,12 +14,12 @@ pub fn lines_seen_begin_a_trace()
     ensures begins { (ls : List (List ℕ)) (S : Session) (floor : ℕ) (z : State) → Sees ls S floor z
         → begins_trace ls ≡ true }
     ensures next { (ls : List (List ℕ)) (S : Session) (floor : ℕ) (z : State) → Sees ls S floor z →
-        (e : Event) × (y : State) × PrintsNext S.rules z e y }
+        (e : Event) × (y : State) × PrintsNext (instance_of S).rules z e y }
 {}
 
 /// Only the text of the step that is printed next goes on with them, or a release or a refused line that may come.
 pub fn only_these_lines_go_on()
     ensures { (ls : List (List ℕ)) (S : Session) (floor : ℕ) (z : State) → Sees ls S floor z → (e : Event) (y : State) →
-        PrintsNext S.rules z e y → (l : List ℕ) → begins_trace (ls ++ l ∷ []) ≡ true →
+        PrintsNext (instance_of S).rules z e y → (l : List ℕ) → begins_trace (ls ++ l ∷ []) ≡ true →
         (l ≡ text_of e) ⊎ (IsReleaseNext S floor z l ⊎ IsRefusedNext S floor z l) }
 {}

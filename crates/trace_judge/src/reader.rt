@@ -262,7 +262,7 @@ impl Reader {
             (x : State) × Waited self.new tick ls S z x }
         ensures no { result ≡ false → self.old.floor ≤ tick → (ls : List (List ℕ)) (S : Session) (z : State)
             → Goes self.old ls S z z →
-            (x : State) → WaitsUntil S.rules tick z x → ⊥ }
+            (x : State) → WaitsUntil (instance_of S).rules tick z x → ⊥ }
         ensures ahead { StaysAhead self.old self.new }
         ensures kept { self.new ≡ record self.old { course = self.new.course } }
         ensures course { GoesOnFrom self.old.course self.new.course }
@@ -554,7 +554,7 @@ fn is_two(version: Version) -> bool
     ensures { IsTrue result ↔ (version ≡ Two) }
 {
     match version {
-        Version::One => false,
+        Version::One | Version::Three => false,
         Version::Two => true,
     }
 }

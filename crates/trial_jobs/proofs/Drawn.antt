@@ -7,7 +7,7 @@ use Rattle.std.proofs.lemmas.List.Sums.{sum_by-cons}
 use Rattle.dover_model.specs.declared.events.Version.{Version}
 use Rattle.dover_model.specs.Fraction.{Fraction, IsRatio}
 use Rattle.dover_model.specs.JobFacts.{JobFacts, IsJob}
-use Rattle.dover_model.specs.Instance.{IsValid, IsWithinRatio, IsInOrder, total_value}
+use Rattle.dover_model.specs.Instance.{IsValid, IsWithinRatio, IsInOrder, jobs_under, total_value}
 use Rattle.dover_model.specs.Generator.{next_state, high_bits, most_density, job_of_draws, generated_jobs_from}
 use Rattle.dover_model.specs.Generator.{generated_jobs}
 use Rattle.dover_model.proofs.Calculus.{dense_within}
@@ -135,7 +135,7 @@ module _ (k : Fraction) (ratio : IsRatio k) where
 
   -- the list is valid
   pub valid : (seed count : ℕ) (version : Version) → count ≤ 1_000_000
-      → IsValid (record { rules = record { ratio = k; version = version }; jobs = generated_jobs seed count k })
+      → IsValid (jobs_under version k (generated_jobs seed count k))
   valid seed count version few = record {
     ratio = ratio;
     each = all_drawn IsJob is_job count seed 0 (omega (arith, few));

@@ -15,7 +15,7 @@ use Rattle.duel.specs.Answers.{front_of}
 use Rattle.dover_model.specs.FeedLine.{EndLine, feed_text}
 use Rattle.dover_model.specs.declared.events.Version.TheVariants.{One}
 use Rattle.dover_model.specs.Fraction.{Fraction}
-use Rattle.dover_model.specs.Instance.{Instance, jobs_under}
+use Rattle.dover_model.specs.Instance.{Instance, declared_by, jobs_under}
 use Rattle.unroll_word.specs.Feeds.{job_text, rules_text, feed_of}
 use Rattle.unroll_word.proofs.Putting.{texts, text_more, in_lines-append, feed_through}
 
@@ -113,11 +113,12 @@ module _ (jobs left : List JobFacts) (count put : ℕ) (a b : Option (List Move)
 
 -- a feed is put, and what was kept back of it
 pub feed_flushed : {T E : Type 0} (a b : Option (List Move)) (result : Result T E) (p q : List ℕ) (J : Instance)
-    → PutsThrough a b result p q ((rules_text J.rules ++ 10 ∷ []) ++ (texts J.jobs ++ ((feed_text EndLine ++ 10
+    → PutsThrough a b result p q ((rules_text (declared_by J.rules) ++ 10 ∷ [])
+    ++ (texts J.jobs ++ ((feed_text EndLine ++ 10
     ∷ []) ++ [])))
     → PutsThrough a b result p q (feed_of J)
 feed_flushed a b result p q J it = feed_through a b result p q J
-    (subst (λ e. PutsThrough a b result p q ((rules_text J.rules ++ 10 ∷ []) ++ (texts J.jobs ++ e)))
+    (subst (λ e. PutsThrough a b result p q ((rules_text (declared_by J.rules) ++ 10 ∷ []) ++ (texts J.jobs ++ e)))
     (append-nil (feed_text EndLine ++ 10 ∷ [])) it)
 
 -- a front is so many of the jobs as it has

@@ -1,7 +1,7 @@
 -- The feed of valid jobs is read as these jobs.
 use Rattle.std.proofs.Common.{◌≡◌, ℕ, suc, ◌+◌, ◌≤◌, List, [], ◌∷◌, ◌++◌, length, map, refl, sym}
 use Rattle.std.proofs.Common.{ap, ◌∙◌, subst, append_assoc, cond}
-use Rattle.std.proofs.Common.{Some, None, arith}
+use Rattle.std.proofs.Common.{Some, None, true, arith}
 use Rattle.std.specs.List.{AllByRecursion, fold}
 use Rattle.std.specs.Option.{option_map}
 use Rattle.std.proofs.lemmas.Bool.{le-ltb}
@@ -9,11 +9,13 @@ use Rattle.std.proofs.lemmas.List.{append-nil, map-append}
 use Rattle.std.proofs.lemmas.List.Sums.{fold-append}
 use Rattle.dover_model.specs.Limits.{most_lines}
 use Rattle.dover_model.specs.JobFacts.{JobFacts, IsJob}
-use Rattle.dover_model.specs.Instance.{Rules, Instance, IsInOrder, IsValid}
+use Rattle.dover_model.specs.Instance.{Declaration, declared_by, Instance, IsInOrder, IsValid}
+use Rattle.dover_model.specs.Taken.{two_versions, is_taken}
+use Rattle.dover_model.proofs.Meeting.{finishing_valid}
 use Rattle.dover_model.specs.Admission.{refusal_of}
 use Rattle.dover_model.specs.Session.{JobItem, admitted_jobs}
 use Rattle.dover_model.specs.FeedLine.{RatioLine, JobLine, EndLine, feed_line, feed_text}
-use Rattle.dover_model.specs.Feed.{Account, Ended, Lines, Order, NotAdmitted, with_line, with_fault}
+use Rattle.dover_model.specs.Feed.{Account, Ended, Lines, NotAdmitted, late_cause, with_line, with_fault}
 use Rattle.dover_model.specs.Feed.{next_line, account_of_lines, account}
 use Rattle.dover_model.proofs.Cuts.{HasNoFeed}
 use Rattle.dover_model.proofs.FeedLines.{feed_line-feed_text}
@@ -30,7 +32,7 @@ use Rattle.unroll_word.specs.Feeds.{IsFeedOf, feed_of, feed_lines, job_text}
 
 -- ---- line by line
 
-module _ (rules : Rules) where
+module _ (rules : Declaration) where
   -- the account of the ratio line and of the lines of these jobs
   abbrev told : (lines : ℕ) → List JobFacts → (mark : ℕ) → Account
   told lines jobs mark = open_account lines (Some (record { rules = rules; items = map JobItem jobs })) mark
@@ -45,7 +47,7 @@ module _ (rules : Rules) where
       ap (λ b. cond b (with_fault c Lines) (after_form c (feed_line (job_text j)))) (le-ltb most_lines (suc lines) few)
       ∙ ap (after_form c) (feed_line-feed_text (JobLine j) (job_numerals j job))
       ∙ ap (with_line c (JobLine j))
-      (ap (λ b. cond b (Some Order)
+      (ap (λ b. cond b (Some (late_cause rules.version))
       (option_map NotAdmitted (refusal_of rules.ratio (admitted_jobs (map JobItem done)) j)))
       (le-ltb j.release mark later)
       ∙ ap (λ jobs. option_map NotAdmitted (refusal_of rules.ratio jobs j)) (jobs_back done)
@@ -102,7 +104,12 @@ from_zero : (jobs : List JobFacts) → AllByRecursion (λ j. 0 ≤ j.release) jo
 from_zero [] = tt
 from_zero (j ∷ jobs) = (omega arith, from_zero jobs)
 
-module _ (J : Instance) (valid : IsValid J) where
+module _ (J : Instance) (valid : IsValid J) (plain : J.rules.finishes ≡ [])
+    (version : is_taken two_versions J.rules.version ≡ true) where
+  -- what is declared
+  abbrev declared : Declaration
+  declared = declared_by J.rules
+
   -- no line has one
   feedless : AllByRecursion HasNoFeed (feed_lines J)
   feedless = (
@@ -114,19 +121,20 @@ module _ (J : Instance) (valid : IsValid J) where
   few = valid.count
 
   -- the jobs
-  jobs_told : (last : ℕ) × (fold next_line (told J.rules 1 [] 0) (map job_text J.jobs) ≡ told J.rules
+  jobs_told : (last : ℕ) × (fold next_line (told declared 1 [] 0) (map job_text J.jobs) ≡ told declared
       (1 + length J.jobs) J.jobs last)
-  jobs_told = all_more J.rules J.jobs [] 1 0 valid (omega (arith, few)) valid.each valid.in_order (from_zero J.jobs)
+  jobs_told = all_more declared J.jobs [] 1 0 (finishing_valid J [] valid)
+      (omega (arith, few)) valid.each valid.in_order (from_zero J.jobs)
 
   -- the account of the whole feed
-  told_all : account (feed_of J) ≡ record (told J.rules (suc (1 + length J.jobs)) J.jobs jobs_told.0)
+  told_all : account (feed_of J) ≡ record (told declared (suc (1 + length J.jobs)) J.jobs jobs_told.0)
       { standing = Ended }
   told_all = ap account_of_lines (lines_joined (feed_lines J) feedless)
       ∙ ap (λ a. fold next_line a (map job_text J.jobs ++ feed_text EndLine ∷ []))
-      (ratio_account J.rules.ratio.p J.rules.ratio.q valid.ratio J.rules.version)
-      ∙ fold-append next_line (told J.rules 1 [] 0) (map job_text J.jobs) (feed_text EndLine ∷ [])
+      (ratio_account J.rules.ratio.p J.rules.ratio.q valid.ratio J.rules.version version)
+      ∙ fold-append next_line (told declared 1 [] 0) (map job_text J.jobs) (feed_text EndLine ∷ [])
       ∙ ap (λ a. next_line a (feed_text EndLine)) jobs_told.1
-      ∙ ends J.rules (1 + length J.jobs) J.jobs jobs_told.0 (omega (arith, few))
+      ∙ ends declared (1 + length J.jobs) J.jobs jobs_told.0 (omega (arith, few))
 
   pub feed_is : IsFeedOf J (feed_of J)
   feed_is = record {
@@ -134,5 +142,5 @@ module _ (J : Instance) (valid : IsValid J) where
     text_is = refl;
     ended = ap (λ (a : Account). a.standing) told_all;
     session = ap (λ (a : Account). a.session) told_all;
-    valid_session = session_of_valid J valid;
+    valid_session = session_of_valid J plain valid;
   }

@@ -4,9 +4,9 @@ use Rattle.std.proofs.Common.{◌∙◌, subst, Option, Result, codes, arith}
 use Rattle.std.proofs.lemmas.List.{append-nil, map-append}
 use Rattle.std.proofs.lemmas.Grind.{flat_map-append}
 use Rattle.dover_model.specs.declared.events.Version.{Version}
-use Rattle.dover_model.specs.declared.events.Version.TheVariants.{One, Two}
+use Rattle.dover_model.specs.declared.events.Version.TheVariants.{One, Two, Three}
 use Rattle.dover_model.specs.Fraction.{Fraction}
-use Rattle.dover_model.specs.Instance.{Instance}
+use Rattle.dover_model.specs.Instance.{Instance, declared_by}
 use Rattle.dover_model.specs.JobFacts.{JobFacts}
 use Rattle.dover_model.specs.Feed.{rules_with}
 use Rattle.dover_model.specs.FeedLine.{EndLine, feed_text}
@@ -100,6 +100,13 @@ two_line k v m n two p q = ap (λ x. with_numbers (codes "k") (x ∷ n ∷ 2 ∷
     ∙ ap (λ x. with_numbers (codes "k") (k.p ∷ x ∷ 2 ∷ [])) q
     ∙ ap (λ w. rules_text (rules_with k w)) (sym two)
 
+-- the line that declares version Three
+pub three_line : (k : Fraction) (v : Version) (m n : ℕ) → v ≡ Three → m ≡ k.p → n ≡ k.q
+    → with_numbers (codes "k") (m ∷ n ∷ 3 ∷ []) ≡ rules_text (rules_with k v)
+three_line k v m n three p q = ap (λ x. with_numbers (codes "k") (x ∷ n ∷ 3 ∷ [])) p
+    ∙ ap (λ x. with_numbers (codes "k") (k.p ∷ x ∷ 3 ∷ [])) q
+    ∙ ap (λ w. rules_text (rules_with k w)) (sym three)
+
 -- a line is put under another name
 pub line_as : {T E : Type 0} (a b : Option (List Move)) (result : Result T E) (p q line other : List ℕ) → line ≡ other
     → PutsThrough a b result p q (line ++ 10 ∷ []) → PutsThrough a b result p q (other ++ 10 ∷ [])
@@ -107,13 +114,14 @@ line_as a b result p q line other same it = subst (λ l. PutsThrough a b result 
 
 -- the parts of a feed
 feed_parts : (J : Instance)
-    → feed_of J ≡ (rules_text J.rules ++ 10 ∷ []) ++ (texts J.jobs ++ (feed_text EndLine ++ 10 ∷ []))
-feed_parts J = ap (λ t. (rules_text J.rules ++ 10 ∷ []) ++ t)
+    → feed_of J ≡ (rules_text (declared_by J.rules) ++ 10 ∷ []) ++ (texts J.jobs ++ (feed_text EndLine ++ 10 ∷ []))
+feed_parts J = ap (λ t. (rules_text (declared_by J.rules) ++ 10 ∷ []) ++ t)
     (in_lines-append (map job_text J.jobs) (feed_text EndLine ∷ [])
     ∙ ap (λ t. texts J.jobs ++ t) (append-nil (feed_text EndLine ++ 10 ∷ [])))
 
 -- its parts are put
 pub feed_through : {T E : Type 0} (a b : Option (List Move)) (result : Result T E) (p q : List ℕ) (J : Instance)
-    → PutsThrough a b result p q ((rules_text J.rules ++ 10 ∷ []) ++ (texts J.jobs ++ (feed_text EndLine ++ 10 ∷ [])))
+    → PutsThrough a b result p q ((rules_text (declared_by J.rules) ++ 10 ∷ [])
+    ++ (texts J.jobs ++ (feed_text EndLine ++ 10 ∷ [])))
     → PutsThrough a b result p q (feed_of J)
 feed_through a b result p q J it = subst (PutsThrough a b result p q) (sym (feed_parts J)) it

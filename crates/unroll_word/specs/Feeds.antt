@@ -1,7 +1,7 @@
 -- The feed of some jobs.
 use Rattle.std.specs.Prelude.{◌≡◌, ℕ, List, [], ◌∷◌, ◌++◌, map, Some}
 use Rattle.dover_model.specs.JobFacts.{JobFacts}
-use Rattle.dover_model.specs.Instance.{Rules, Instance, IsValid}
+use Rattle.dover_model.specs.Instance.{Declaration, declared_by, Instance, IsValid}
 use Rattle.dover_model.specs.FeedLine.{RatioLine, JobLine, EndLine, feed_text}
 use Rattle.dover_model.specs.Feed as feed
 use Rattle.dover_model.specs.Feed.{account}
@@ -11,7 +11,7 @@ use Rattle.dover_model.specs.Trace.{session_of}
 use Rattle.snapshot.specs.Stored.{declared_number}
 
 -- the line that declares the rules
-abbrev pub rules_text : Rules → List ℕ
+abbrev pub rules_text : Declaration → List ℕ
 rules_text rules = feed_text (RatioLine rules.ratio.p rules.ratio.q (declared_number rules.version))
 
 -- the line of a job
@@ -20,7 +20,7 @@ job_text job = feed_text (JobLine job)
 
 -- the lines of a feed: its rules, each job, and the end
 abbrev pub feed_lines : Instance → List (List ℕ)
-feed_lines J = rules_text J.rules ∷ (map job_text J.jobs ++ feed_text EndLine ∷ [])
+feed_lines J = rules_text (declared_by J.rules) ∷ (map job_text J.jobs ++ feed_text EndLine ∷ [])
 
 -- a feed of these jobs alone
 abbrev pub feed_of : Instance → List ℕ

@@ -1,6 +1,6 @@
 -- What is kept of a task text, and what is put of the answer.
 use Rattle.std.specs.Prelude.{◌≡◌, ℕ, List, [], Option, Result, Ok, Err}
-use Rattle.dover_model.specs.Instance.{Rules}
+use Rattle.dover_model.specs.Instance.{Declaration}
 use Rattle.dover_port.specs.Moves.{Move, Passes, CutsShort}
 use Rattle.dover_port.specs.declared.status.Status.{Status}
 use Rattle.dialogue.specs.declared.talker.Stop.{Stop}
@@ -27,7 +27,7 @@ abbrev pub IsAt : Asked → (kept : ℕ) → TaskReader → (count : ℕ) → Li
 IsAt asked kept reader count bytes rest = Stands asked kept reader count bytes × (rest ≡ [])
 
 -- what is to be said of these tasks was put, or a front of it that isn't all, or there was no memory for it
-abbrev pub SaysBy : (until : ℕ) → Rules → List PeriodicTask → (old new : Option (List Move)) → (after : List ℕ)
+abbrev pub SaysBy : (until : ℕ) → Declaration → List PeriodicTask → (old new : Option (List Move)) → (after : List ℕ)
     → Result Status Stop → Type 0
 SaysBy until rules tasks old new after (Ok status) =
     (text : List ℕ) × Says until rules tasks status text × Passes old new [] after text

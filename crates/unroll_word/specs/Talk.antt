@@ -1,7 +1,7 @@
 -- What the word says, by the bytes got so far.
 use Rattle.std.specs.Prelude.{◌≡◌, ◌⊎◌, ℕ, List, [], Bool, true, false, Some}
 use Rattle.dover_model.specs.Feed.{Cause, Ended, Faulty}
-use Rattle.dover_model.specs.Instance.{Rules}
+use Rattle.dover_model.specs.Instance.{Declaration}
 use Rattle.dover_port.specs.declared.status.Status.{Status}
 use Rattle.dover_port.specs.declared.status.Status.TheVariants.{Done, Refused}
 use Rattle.dialogue.specs.Talk.{Talk}
@@ -15,7 +15,7 @@ use Rattle.unroll_word.specs.Texts.{refusal_text}
 
 -- what is said of tasks: Done with the feed of all jobs that they release before a tick, and Refused exactly where
 -- these are too many for a feed, or worth too much
-abbrev pub Says : (until : ℕ) → Rules → List PeriodicTask → Status → List ℕ → Type 0
+abbrev pub Says : (until : ℕ) → Declaration → List PeriodicTask → Status → List ℕ → Type 0
 Says until rules tasks Done text = Fits until tasks × IsFeedOf (unrolled until rules tasks) text
 Says until rules tasks Refused text = (Fits until tasks → ⊥) × (text ≡ size_text)
 Says until rules tasks _ text = ⊥
@@ -28,7 +28,7 @@ IsRefusedAt until bytes ended = ((line : ℕ) × (cause : Cause) × ((account un
 -- the task text of these bytes ended without a fault, and this is said of its tasks
 pub record IsSaid (until : ℕ) (status : Status) (text bytes : List ℕ) : Type 0 where
   pub ended : (account until bytes).standing ≡ Ended
-  pub rules : Rules
+  pub rules : Declaration
   pub rules_are : (account until bytes).rules ≡ Some rules
   pub said : Says until rules (account until bytes).tasks status text
 

@@ -1,10 +1,11 @@
 //! The lines of a feed of jobs, on their way out.
-ghost use Rattle.std.specs.Prelude.{◌≡◌, ◌≤◌, ◌<◌, ◌^◌, ◌+◌, ◌*◌, ◌++◌, ◌∷◌, [], ℕ, List, length, map};
+ghost use Rattle.std.specs.Prelude.{◌≡◌, ◌≤◌, ◌<◌, ◌^◌, ◌+◌, ◌*◌, ◌++◌, ◌∷◌, [], ℕ, List, length, map, true};
 ghost use Rattle.std.specs.List.{AllByRecursion};
 ghost use Rattle.dover_model.specs.Instance.{Instance, IsValid};
 ghost use Rattle.dover_model.specs.Limits.{most_jobs};
 ghost use Rattle.dover_model.specs.Lines.{in_lines};
 ghost use Rattle.dover_model.specs.Feed.{rules_with};
+ghost use Rattle.dover_model.specs.Taken.{two_versions, is_taken};
 ghost use Rattle.dover_port.specs.Causes.{HasCause, StopsAtFailure};
 ghost use Rattle.dover_port.specs.Moves.{PutsThrough};
 ghost use Rattle.periodic_tasks.specs.Limits.{IsTask};
@@ -41,6 +42,7 @@ pub fn put_rules<P: Port>(
     match version {
         Version::One => put_numbers(port, out, b"k", &[p, q]),
         Version::Two => put_numbers(port, out, b"k", &[p, q, 2]),
+        Version::Three => put_numbers(port, out, b"k", &[p, q, 3]),
     }
 }
 
@@ -121,7 +123,9 @@ pub(crate) fn put_feed<P: Port, L: Ledger>(
     put_numbers(port, out, b"end", &[])
 }
 
-/// The feed of valid jobs ends without a fault, and says these jobs and no others.
+/// The feed of valid jobs, of which none finishes early, in a version that is taken, ends without a fault, and says
+/// these jobs and no others.
 pub fn feeds_of_jobs_are_read()
-    ensures { (J : Instance) → IsValid J → IsFeedOf J (feed_of J) }
+    ensures { (J : Instance) → IsValid J → J.rules.finishes ≡ [] → is_taken two_versions J.rules.version ≡ true
+        → IsFeedOf J (feed_of J) }
 {}

@@ -1,4 +1,4 @@
-use Rattle.std.proofs.Common.{sym}
+use Rattle.std.proofs.Common.{refl, sym}
 use Rattle.answers_tests.proofs.TestRuns.{three, taken_valid, taken_printed}
 use Rattle.answers_tests.proofs.charges.a_take_displaces_the_running_and_the_held_job.Goals as goal
 
@@ -8,6 +8,7 @@ of-requires g c = (
   record {
     valid = taken_valid;
     ratio = sym c.ratio-k.ensures;
+    plain = refl;
     prints = taken_printed c.job.result c.job-2.result c.job-3.result c.job.ensures c.job-2.ensures c.job-3.ensures;
   },
 )

@@ -3,7 +3,8 @@ use Rattle.dover_model.proofs.rest_laws.runs_go_on_in_turn.Goals as goal
 
 pub returns-clause-settled : goal.returns-clause-settled
 returns-clause-settled c =
-    λ rules lists more m mark over valid late on. settled_behind rules more valid m late lists over mark on
+    λ rules lists more m mark plain over valid late on. settled_behind rules plain more valid m late lists over mark on
 
 pub returns-clause-printed : goal.returns-clause-printed
-returns-clause-printed c = λ rules lists more m over valid late. printed_behind rules more valid m late lists over
+returns-clause-printed c = λ rules lists more m plain over valid late. printed_behind rules plain more valid m late
+    lists over

@@ -1,9 +1,9 @@
-use Rattle.std.proofs.Common.{sym, subst}
+use Rattle.std.proofs.Common.{refl, sym, subst}
 use Rattle.dover_model.specs.Bound.{IsWithin}
 use Rattle.dover_model.specs.Instance.{jobs_under}
 use Rattle.dover_model.specs.Schedules.{worth}
 use Rattle.dover_model.proofs.BoundLaws.{bound}
-use Rattle.dover_model.proofs.Honest.{honest}
+use Rattle.dover_model.proofs.Honest.{plain_honest}
 use Rattle.duel.proofs.Duel.{every_one_loses}
 use Rattle.duel.proofs.Rules.{online}
 use Rattle.duel.proofs.laws.the_rules_save_the_most.Goals as goal
@@ -13,7 +13,8 @@ returns-clause-on_line c = online
 
 pub returns-clause-saved : goal.returns-clause-saved
 returns-clause-saved c = λ version k jobs s valid.
-    subst (λ a. IsWithin k (worth (jobs_under version k jobs) s) a) (sym (honest (jobs_under version k jobs) valid))
+    subst (λ a. IsWithin k (worth (jobs_under version k jobs) s) a)
+    (sym (plain_honest (jobs_under version k jobs) valid refl))
     (bound (jobs_under version k jobs) s valid)
 
 pub returns-clause-no_more : goal.returns-clause-no_more

@@ -18,6 +18,7 @@ returns c = no_line c.args.line.now record {
   job = c.in_default.ensures.none;
   tick = c.in_default-behind_word.ensures.none;
   ratio = c.in_default-behind_word-2.ensures.none;
+  done = c.in_default-behind_word-3.ensures.none;
   end = λ same.
       let other : bytes_eq c.args.line.now (codes "end") ≡ false =
       sym (ap (bytes_eq c.args.line.now) c.as_slice.ensures) ∙ sym c.eq.ensures ∙ c.if-eq.false in

@@ -1,4 +1,4 @@
-use Rattle.std.proofs.Common.{◌≡◌, ◌<◌, List, length, sym, subst, codes, arith}
+use Rattle.std.proofs.Common.{◌≡◌, ◌<◌, List, length, refl, sym, subst, codes, arith}
 use Rattle.dover_model.specs.JobFacts.{JobFacts}
 use Rattle.event_feed.specs.Listing.{listed_instance}
 use Rattle.question_words.specs.Texts.{piece_lines}
@@ -17,7 +17,7 @@ returns-clause-says g c =
     let best = c.in-Ok.best in
     let count : c.len.result ≡ length c.args.listed.now.jobs.items =
     omega (arith, c.len.ensures, c.args.listed.now.jobs.ok.0) in
-    found (listed_instance c.args.listed.now) c.requires c.deref.result.now c.deref.ensures.value best.chosen.items
+    found (listed_instance c.args.listed.now) c.requires refl c.deref.result.now c.deref.ensures.value best.chosen.items
     c.len.result best.value c.in_ok-value.value c.bound.result best.pieces.items
     (record {
       best = c.in-Ok.ensures.chosen;

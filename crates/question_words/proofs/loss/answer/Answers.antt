@@ -1,8 +1,8 @@
-use Rattle.std.proofs.Common.{◌∙◌, ap, subst, sym, codes, get_or, false}
+use Rattle.std.proofs.Common.{◌∙◌, ap, subst, refl, sym, codes, get_or, false}
 use Rattle.dover_model.specs.JobFacts.{IsJob}
 use Rattle.dover_model.specs.Sound.{Each}
 use Rattle.dover_model.specs.Run.{ran}
-use Rattle.dover_model.proofs.Honest.{honest}
+use Rattle.dover_model.proofs.Honest.{plain_honest}
 use Rattle.dover_model.proofs.Members.{all_member}
 use Rattle.event_feed.specs.Listing.{listed_instance}
 use Rattle.overload.specs.Stretches.{IsWorth}
@@ -17,7 +17,7 @@ pub cost_of-requires-clause-value : goal.cost_of-requires-clause-value
 cost_of-requires-clause-value g c =
     let J = listed_instance c.args.listed.now in
     subst (λ js. IsWorth js c.in_ok-completed.completed.value) (sym c.deref.ensures.value)
-    (J.rules, ran J, honest J c.requires ∙ sym c.in_ok-completed.ensures.value)
+    (J.rules, ran J, plain_honest J c.requires refl ∙ sym c.in_ok-completed.ensures.value)
 
 pub bound-requires : goal.bound-requires
 bound-requires g c = record {
@@ -33,9 +33,9 @@ returns-clause-says g c =
     let J = listed_instance c.args.listed.now in
     let costed = c.in_ok-costed.costed in
     let rows = c.in_ok-rows.rows.items in
-    lost J c.requires costed c.deref.result.now c.deref.ensures.value c.in_ok-costed.ensures
+    lost J c.requires refl costed c.deref.result.now c.deref.ensures.value c.in_ok-costed.ensures
     c.in_ok-completed.completed.value c.bound.result c.in_ok-completed.ensures.value c.bound.ensures.is rows
-    (rows_said J c.requires costed c.deref-2.result.now c.deref-2.ensures.value c.deref-3.result.now
+    (rows_said J c.requires refl costed c.deref-2.result.now c.deref-2.ensures.value c.deref-3.result.now
     c.deref-3.ensures.value (λ n. get_or c.deref-4.result.now n false)
     (λ n low. ap (λ flags. get_or flags n false) c.deref-4.ensures.value ∙ c.in_ok-completed.ensures.done n low)
     rows c.in_ok-rows.ensures) _

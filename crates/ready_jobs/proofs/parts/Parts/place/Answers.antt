@@ -1,4 +1,4 @@
-use Rattle.std.proofs.Common.{refl, sym, ap, ◌∙◌}
+use Rattle.std.proofs.Common.{[], refl, sym, ap, ◌∙◌}
 use Rattle.ready_jobs.specs.Deeds.{step_at}
 use Rattle.ready_jobs.proofs.Silences.{known_sound, waits_settles, waits_count, waits_cost}
 use Rattle.ready_jobs.proofs.parts.Parts.place.Goals as goal
@@ -8,7 +8,7 @@ open_step-deed-requires g c = known_sound _ c.args.self.now c.laws.ensures.roles
 
 pub wait-requires : goal.wait-requires
 wait-requires g c = (
-  record { ratio = c.args.k; version = c.args.self.now.version },
+  record { ratio = c.args.k; version = c.args.self.now.version; finishes = [] },
   c.in-Wait.number,
   sym c.open_step-deed.ensures.is ∙ ap (step_at c.args.self.now.clock) c.in-Wait.is,
 )

@@ -3,8 +3,8 @@ use Rattle.line_text.specs.declared.cutting.Step.TheVariants.{Line}
 use Rattle.ready_jobs.specs.Spending.{HasPaid}
 use Rattle.trace_judge.specs.Reads.{job_lines_in}
 use Rattle.trace_judge.specs.Judging.{Judged, IsCut}
-use Rattle.trace_judge.proofs.Judging.{ok_onto}
-use Rattle.trace_judge.proofs.EndedLines.{noted_stands}
+use Rattle.trace_judge.proofs.Judging.{ok_onto, err_onto}
+use Rattle.trace_judge.proofs.EndedLines.{noted_stands, unroomed}
 use Rattle.trace_judge.proofs.judge.Judge.take_line.Goals as goal
 
 pub returns-clause-stands : goal.returns-clause-stands
@@ -24,6 +24,15 @@ returns-clause-spare g c = omega (
   ap (λ (j : Judged). j.reader.spare) c.self.view_is,
   ap (λ (j : Judged). job_lines_in j.lines.line) c.self.view_is,
 )
+
+pub returns-clause-room : goal.returns-clause-room
+returns-clause-room g c = err_onto c.note.result c.note.ensures.err (λ failed.
+    let more = unroomed c.take-taken.result _ _ c.take-taken.ensures.room failed in omega (
+      arith,
+      rw c.line.ensures at more,
+      ap (λ (j : Judged). j.reader.spare) c.self.view_is,
+      ap (λ (j : Judged). job_lines_in j.lines.line) c.self.view_is,
+    ))
 
 pub returns-clause-jobs : goal.returns-clause-jobs
 returns-clause-jobs g c = omega (

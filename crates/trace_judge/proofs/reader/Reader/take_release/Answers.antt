@@ -1,5 +1,5 @@
 use Rattle.std.proofs.Common.{◌≤◌, ℕ, List, ◌∙◌, sym, ap, subst}
-use Rattle.dover_model.specs.Session.{Session}
+use Rattle.dover_model.specs.Session.{Session, instance_of}
 use Rattle.dover_model.specs.State.{State}
 use Rattle.dover_model.specs.Leading.{WaitsUntil}
 use Rattle.trace_judge.specs.Reads.{Reading, ReadsAhead, Goes, Waited, CanRelease}
@@ -20,7 +20,7 @@ returns-then-not-waits_until-clause-took g c =
     c.waits_until.new.self
     (subst (λ tick. c.args.self.now.floor ≤ tick → (ls : List (List ℕ)) (S : Session) (z : State)
     → Goes c.args.self.now ls S z z → (x : State)
-    → WaitsUntil S.rules tick z x → ⊥) c.release.ensures.is (c.waits_until.ensures.no c.if-not-waits_until.true))
+    → WaitsUntil (instance_of S).rules tick z x → ⊥) c.release.ensures.is (c.waits_until.ensures.no c.if-not-waits_until.true))
     c.waits_until.ensures.ahead
 
 -- the job may be released, with room

@@ -1,0 +1,19 @@
+use Rattle.dover_model.proofs.InTurns.{one_run_prints, one_run_completes, settled_of_last, declared_within}
+use Rattle.dover_model.proofs.InTurns.{observed_within}
+use Rattle.dover_model.proofs.rest_laws.turns_with_finishes_are_one_run.Goals as goal
+
+pub returns-clause-printed : goal.returns-clause-printed
+returns-clause-printed c = one_run_prints
+
+pub returns-clause-value : goal.returns-clause-value
+returns-clause-value c = one_run_completes
+
+pub returns-clause-settled : goal.returns-clause-settled
+returns-clause-settled c =
+    λ rules turns more last mark ends valid late on. settled_of_last rules more valid last late turns mark ends on
+
+pub returns-clause-declared : goal.returns-clause-declared
+returns-clause-declared c = declared_within
+
+pub returns-clause-observed : goal.returns-clause-observed
+returns-clause-observed c = observed_within

@@ -1,0 +1,8 @@
+use Rattle.dover_model.proofs.Former.{no_finishes, job_refused}
+use Rattle.dover_model.proofs.trace_laws.sessions_of_one_and_two_are_as_they_were.Goals as goal
+
+pub returns-clause-finishes : goal.returns-clause-finishes
+returns-clause-finishes c = no_finishes
+
+pub returns-clause-refused : goal.returns-clause-refused
+returns-clause-refused c = job_refused
