@@ -223,6 +223,7 @@ impl Lane {
         }
     }
 
+    #[inline(always)]
     fn run<L: Ledger>(&mut self, to: Horizon, steps: &mut Steps<L>) -> Option<LaneOut>
         requires work { self.old.work ≡ Run to }
         requires stands { (ls : List (List ℕ)) × (rest : List (List ℕ)) × Stands self.old ls rest }
@@ -245,6 +246,7 @@ impl Lane {
         }
     }
 
+    #[inline(always)]
     fn admit<L: Ledger>(&mut self, job: Job, steps: &mut Steps<L>) -> Option<LaneOut>
         requires work { self.old.work ≡ Admit job }
         requires stands { (ls : List (List ℕ)) × (rest : List (List ℕ)) × Stands self.old ls rest }
