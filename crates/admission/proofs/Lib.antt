@@ -2,4 +2,3 @@ pub mod Comparing
 pub mod Firsts
 pub mod Joining
 pub mod Refusing
-pub mod Versions

@@ -18,7 +18,7 @@ use Rattle.dover_model.proofs.Settling.{late_early, at_barrier, settled_is_run}
 use Rattle.dover_model.proofs.Tests.{never}
 
 -- no job is fresh where a late step is taken
-late_none_fresh : (k : Fraction) (s : State) (m : Move) → Deed k s Ticks m → waits_for_mark m ≡ true
+pub late_none_fresh : (k : Fraction) (s : State) (m : Move) → Deed k s Ticks m → waits_for_mark m ≡ true
     → Each (λ t. t.role ≡ Fresh → ⊥) s.tasks
 late_none_fresh k s m (Completed r member runs) late = never late
 late_none_fresh k s m (Resumed p member held none least why) late = never late

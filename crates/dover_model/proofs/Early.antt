@@ -1,10 +1,9 @@
 -- A completion is the first step of its clock, so at the barrier of its tick its job is over.
 use Rattle.std.proofs.Common.{◌≡◌, ℕ, ◌+◌, ◌≤◌, ◌<◌, ◌⊎◌, inl, inr, List, [], ◌∷◌, ◌++◌, refl, sym, ap, ◌∙◌, subst}
 use Rattle.std.proofs.Common.{Bool, true, false, cond, arith, eqb, append_assoc}
-use Rattle.std.specs.Prelude.{Option, Some, None, nat_le, nat_lt, ◌&&◌, ◌==◌}
-use Rattle.std.specs.List.{AllByRecursion, cons_option, list_all}
-use Rattle.std.specs.Bool.{then_some}
-use Rattle.std.specs.Option.{option_and_then, option_map}
+use Rattle.std.specs.Prelude.{Option, None, nat_le, ◌&&◌}
+use Rattle.std.specs.List.{AllByRecursion, cons_option}
+use Rattle.std.specs.Option.{option_map}
 use Rattle.std.proofs.lemmas.Bool.{eqb-true, eq-eqb, leb-true}
 use Rattle.dover_model.specs.Fraction.{Fraction}
 use Rattle.dover_model.specs.Instance.{Rules, Instance, IsValid}
@@ -14,17 +13,16 @@ use Rattle.dover_model.specs.declared.events.Event.TheVariants.{Release, Run, Pr
 use Rattle.dover_model.specs.declared.events.Role.{Role}
 use Rattle.dover_model.specs.declared.events.Role.TheVariants.{Coming, Fresh, Waiting, Held, Running, Done, Gone}
 use Rattle.dover_model.specs.declared.events.Task.{Task}
-use Rattle.dover_model.specs.State.{State, opening, running, is_running, is_ready_behind, is_over, left}
+use Rattle.dover_model.specs.State.{State, opening, is_running, is_ready_behind, is_over, left}
 use Rattle.dover_model.specs.Step.{Move, Prints, Waits, Ticks, open_step, after, with_role, displaced}
 use Rattle.dover_model.specs.Processor.{is_complete}
 use Rattle.dover_model.specs.Run.{Step, event_of, printed_of, printed}
-use Rattle.dover_model.specs.Settled.{waits_for_mark, settled, settled_steps, settled_state, AreOverFor, finish_now}
+use Rattle.dover_model.specs.Settled.{waits_for_mark, settled, settled_steps, settled_state, AreOverFor}
 use Rattle.dover_model.specs.WholeRun.{open_at, IsBarrier}
 use Rattle.dover_model.specs.Paths.{IsOpenPath}
 use Rattle.dover_model.specs.Rest.{end_tick, before_end}
 use Rattle.dover_model.specs.Sound.{IsMember, Each, IsSound, Keeps}
-use Rattle.dover_model.specs.Session.{Item, Session, instance_of, FinishItem, early_at, finishing_at, may_finish_early}
-use Rattle.dover_model.specs.Session.{EarlyFinish}
+use Rattle.dover_model.specs.Session.{Item, Session, instance_of, FinishItem, early_at, finish_at, may_finish_early}
 use Rattle.dover_model.proofs.Members.{found, on_map}
 use Rattle.dover_model.proofs.Roles.{passes, one_number, is_running_role}
 use Rattle.dover_model.proofs.Moves.{says}
@@ -40,6 +38,7 @@ use Rattle.dover_model.proofs.Resting.{settled_path, path_state}
 use Rattle.dover_model.proofs.OverFor.{over_after}
 use Rattle.dover_model.proofs.RestTick.{rests_where_ended}
 use Rattle.dover_model.proofs.Apart.{settled_at_rest, end_at_rest}
+use Rattle.dover_model.proofs.RightFinishes.{none_other}
 use Rattle.dover_model.proofs.Tests.{never}
 
 -- ---- behind a step that is no tick, the running job goes on
@@ -338,24 +337,15 @@ NameNone S es = AllByRecursion (λ e. finish_in S e ≡ None) es
 over_names_none : (S : Session) (at n : ℕ)
     → Each (λ t. t.number ≡ n → is_over t ≡ true) (settled_state (instance_of S) at).tasks
     → option_map FinishItem (early_at S at n) ≡ None
-over_names_none S at n over = ap (option_map FinishItem) (by_test (may_finish_early S.rules.version
-    && list_all (λ x. nat_lt x.before.clock at) (settled_steps (instance_of S) at))) where
-      by_number : (r : Task) → IsMember r (settled_state (instance_of S) at).tasks → is_running r ≡ true → (a : Bool)
-          → (r.number == n) ≡ a → then_some {T = EarlyFinish} a (record { at = at; finish = finish_now r }) ≡ None
-      by_number r member runs false e = refl
-      by_number r member runs true e = never (sym (passes is_over r Running false (is_running_role r runs) refl)
-          ∙ over r member (eqb-true _ _ e))
+over_names_none S at n over = by_version (may_finish_early S.rules.version) where
+  none_there : finish_at (instance_of S) at n ≡ None
+  none_there = none_other (instance_of S) at n (λ r some same.
+      let it = found is_running (settled_state (instance_of S) at).tasks r some in
+      never (sym (passes is_over r Running false (is_running_role r it.1) refl) ∙ over r it.0 same))
 
-      by_runner : (o : Option Task) → running (settled_state (instance_of S) at) ≡ o
-          → option_and_then (finishing_at at n) o ≡ None
-      by_runner None e = refl
-      by_runner (Some r) e = let it = found is_running (settled_state (instance_of S) at).tasks r e in
-          by_number r it.0 it.1 (r.number == n) refl
-
-      by_test : (b : Bool)
-          → cond b (option_and_then (finishing_at at n) (running (settled_state (instance_of S) at))) None ≡ None
-      by_test true = by_runner (running (settled_state (instance_of S) at)) refl
-      by_test false = refl
+  by_version : (b : Bool) → option_map FinishItem (cond b (finish_at (instance_of S) at n) None) ≡ None
+  by_version false = refl
+  by_version true = ap (option_map FinishItem) none_there
 
 -- of what is settled
 pub settled_names_none : (S : Session) (mark : ℕ) → IsValid (instance_of S) → NameNone S (settled (instance_of S) mark)

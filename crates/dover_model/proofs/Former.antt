@@ -1,8 +1,6 @@
 -- Sessions of versions One and Two are what they were before version Three.
-use Rattle.std.proofs.Common.{◌≡◌, ℕ, ◌≤◌, max, List, [], ◌∷◌, ◌++◌, refl, sym, ap, ◌∙◌, Bool, true, false, cond, ◌&&◌}
+use Rattle.std.proofs.Common.{◌≡◌, ℕ, ◌≤◌, max, List, [], ◌∷◌, ◌++◌, refl, sym, ap, ◌∙◌, Bool, true, false, cond}
 use Rattle.std.specs.Prelude.{Some, None, nat_lt}
-use Rattle.std.specs.List.{list_all}
-use Rattle.std.specs.Option.{option_and_then}
 use Rattle.std.proofs.lemmas.Bool.{ltb-false}
 use Rattle.dover_model.specs.declared.events.Version.{Version}
 use Rattle.dover_model.specs.declared.events.Version.TheVariants.{One, Two, Three}
@@ -10,22 +8,18 @@ use Rattle.dover_model.specs.declared.events.Refusal.{Refusal}
 use Rattle.dover_model.specs.JobFacts.{JobFacts}
 use Rattle.dover_model.specs.Instance.{Declaration}
 use Rattle.dover_model.specs.Admission.{refusal_of}
-use Rattle.dover_model.specs.State.{running}
-use Rattle.dover_model.specs.Settled.{settled_steps, settled_state}
 use Rattle.dover_model.specs.Session.{Item, JobItem, RefusedItem, FinishItem, Session, instance_of, session_with}
-use Rattle.dover_model.specs.Session.{admitted_jobs, early_finishes, may_finish_early, late_refusal, finishing_at}
+use Rattle.dover_model.specs.Session.{admitted_jobs, early_finishes, may_finish_early, late_refusal, finish_at}
 use Rattle.dover_model.specs.Session.{early_at, RefusedLine, RefusedJob, RefusedDone, Refused, MayRefuse, MayBeRefused}
 use Rattle.dover_model.specs.Session.{FollowsItems, IsValidSession}
 use Rattle.dover_model.proofs.Tests.{never, none_is_some}
 
 -- no finish is right
 none_right : (S : Session) (t n : ℕ) → may_finish_early S.rules.version ≡ false → early_at S t n ≡ None
-none_right S t n former =
-    ap (λ b. cond (b && list_all (λ x. nat_lt x.before.clock t) (settled_steps (instance_of S) t))
-    (option_and_then (finishing_at t n) (running (settled_state (instance_of S) t))) None) former
+none_right S t n former = ap (λ b. cond b (finish_at (instance_of S) t n) None) former
 
 -- so none stands among the items
-none_early : (rules : Declaration) (before : List Item) (mark : ℕ) (items : List Item)
+pub none_early : (rules : Declaration) (before : List Item) (mark : ℕ) (items : List Item)
     → may_finish_early rules.version ≡ false → FollowsItems rules before mark items → early_finishes items ≡ []
 none_early rules before mark [] former follows = refl
 none_early rules before mark (JobItem j ∷ items) former follows =
@@ -40,7 +34,7 @@ pub no_finishes : (S : Session) → may_finish_early S.rules.version ≡ false �
 no_finishes S former valid = none_early S.rules [] 0 S.items former valid.items
 
 -- no late job line is refused alone
-late_none : (v : Version) → may_finish_early v ≡ false → late_refusal v ≡ None
+pub late_none : (v : Version) → may_finish_early v ≡ false → late_refusal v ≡ None
 late_none One former = refl
 late_none Two former = refl
 late_none Three former = never (sym former)

@@ -18,7 +18,7 @@ use Rattle.dover_model.specs.Run.{Step, printed, event_of}
 use Rattle.dover_model.specs.Settled.{waits_for_mark, settled_steps, settled_state, settled, finish_now, RunsAtMark}
 use Rattle.dover_model.specs.Settled.{AreOverFor}
 use Rattle.dover_model.specs.WholeRun.{open_at, IsBarrier, Begins}
-use Rattle.dover_model.specs.Paths.{IsOpenPath}
+use Rattle.dover_model.specs.Paths.{IsOpenPath, HasPrinted}
 use Rattle.dover_model.specs.Sound.{IsMember, Each, Keeps}
 use Rattle.dover_model.proofs.Members.{not_found, map_member, member_behind, some_same}
 use Rattle.dover_model.proofs.Roles.{passes, one_number}
@@ -54,7 +54,7 @@ module _ (J : Instance) (valid : IsValid J) (more : List Finish) (mark : ℕ) wh
   J2 = with_finishes J more
 
   -- an open step is the same
-  same_open : (s : State) → due_finish more s ≡ None → open_step J2.rules s ≡ open_step J.rules s
+  pub same_open : (s : State) → due_finish more s ≡ None → open_step J2.rules s ≡ open_step J.rules s
   same_open s none = ap (λ o. finish_or s.clock o (declared_open_step J.rules s))
       (further_due J.rules.finishes more s none)
 
@@ -238,7 +238,7 @@ module _ (J : Instance) (valid : IsValid J) (mark : ℕ) (r : Task) (at : RunsAt
   clock_there = sym (ap (λ (z : State). z.clock) is_there) ∙ barrier.clock
 
   -- no settled step comes to the finish
-  none_due_before : Each (λ x. due_finish (finish_now r ∷ []) x.before ≡ None) (settled_steps J mark)
+  pub none_due_before : Each (λ x. due_finish (finish_now r ∷ []) x.before ≡ None) (settled_steps J mark)
   none_due_before x member = not_due r x.before (less_all J valid mark r at.runs (settled_steps J mark) (opening J.jobs)
       there.0 (opening_keeps J) there.1 (subst (λ (z : State). IsMember r z.tasks) is_there at.member)
       (λ y here. subst (λ c. y.before.clock < c) (sym clock_there) (at.before y here)) x member)
@@ -288,11 +288,11 @@ module _ (J : Instance) (valid : IsValid J) (mark : ℕ) (r : Task) (at : RunsAt
                 all_three true false c ea eb ec = never eb
                 all_three true true false ea eb ec = never ec
 
-  -- so with the finish the completion is settled right behind
-  pub completes_at_mark : Begins (settled J mark ++ Complete mark r.number ∷ [])
-      (settled (with_finishes J (finish_now r ∷ [])) mark)
-  completes_at_mark = printed_begins J2 mark (after s (open_step J2.rules s)) _
-      (finishing_valid J (J.rules.finishes ++ finish_now r ∷ []) valid) (record {
+  -- so with the finish the completion is printed right behind what is settled
+  pub printed_at_mark : HasPrinted (with_finishes J (finish_now r ∷ [])) mark
+      (after (settled_state J mark) (Prints (Complete mark r.number))) (settled J mark ++ Complete mark r.number ∷ [])
+  printed_at_mark = subst (λ m. HasPrinted J2 mark (after s m) (settled J mark ++ Complete mark r.number ∷ []))
+      next_at_mark (record {
         steps = settled_steps J mark ++ open_at J2.rules s ∷ [];
         path = path_append J2.rules mark (settled_steps J mark) (open_at J2.rules s ∷ []) (opening J.jobs) s
             (after s (open_step J2.rules s))
@@ -307,6 +307,12 @@ module _ (J : Instance) (valid : IsValid J) (mark : ℕ) (r : Task) (at : RunsAt
 
         J2 : Instance
         J2 = with_finishes J (finish_now r ∷ [])
+
+  -- and settled
+  pub completes_at_mark : Begins (settled J mark ++ Complete mark r.number ∷ [])
+      (settled (with_finishes J (finish_now r ∷ [])) mark)
+  completes_at_mark = printed_begins (with_finishes J (finish_now r ∷ [])) mark _ _
+      (finishing_valid J (J.rules.finishes ++ finish_now r ∷ []) valid) printed_at_mark
 
 -- the job that runs at a barrier has work left
 pub barrier_left : (J : Instance) → IsValid J → (mark : ℕ) (r : Task) → IsMember r (settled_state J mark).tasks

@@ -33,7 +33,7 @@ module _ (rules : Rules) where
   of_turn turn = turn_under rules turn
 
   -- what a turn completes, in front of others
-  completed_more : (turn : Turn) (turns : List Turn)
+  pub completed_more : (turn : Turn) (turns : List Turn)
       → completed_turns rules (turn ∷ turns) ≡ completed_value (of_turn turn) + completed_turns rules turns
   completed_more turn turns = sum_by-cons (λ t. completed_value (of_turn t)) turn turns
 
@@ -101,12 +101,12 @@ module _ (rules : Rules) where
   -- ---- what is settled of the last turn
 
   -- these events, behind what the turns print
-  abbrev behind_turns : List Turn → List Event → List Event
+  abbrev pub behind_turns : List Turn → List Event → List Event
   behind_turns turns events = before_end (printed_turns rules turns)
       ++ map (behind (length (turns_jobs turns)) (completed_turns rules turns)) events
 
   -- with one turn in front
-  one_more : (turn : Turn) (turns : List Turn) (events : List Event)
+  pub one_more : (turn : Turn) (turns : List Turn) (events : List Event)
       → before_end (printed (of_turn turn)) ++ map (behind (length turn.jobs) (completed_value (of_turn turn)))
       (behind_turns turns events)
       ≡ behind_turns (turn ∷ turns) events

@@ -53,6 +53,9 @@ pub mod ReleaseCounts
 pub mod Onlines
 pub mod Meeting
 pub mod Further
+pub mod LastSteps
+pub mod OverPaths
+pub mod FreelySpending
 pub mod Serving
 pub mod Orderly
 pub mod Underload
@@ -71,11 +74,13 @@ pub mod RestTick
 pub mod Parting
 pub mod TurnSchedules
 pub mod InTurns
+pub mod TurnsGrowing
 pub mod Anew
 pub mod WaitingMoves
 pub mod Spending
 pub mod PathCosts
 pub mod OverFor
+pub mod RightFinishes
 pub mod Early
 pub mod Once
 pub mod Honest
@@ -107,4 +112,6 @@ pub mod Accepting
 pub mod WrongStays
 pub mod JobSessions
 pub mod Former
+pub mod Shown
+pub mod EarlyEnds
 pub mod RunSessions

@@ -132,8 +132,13 @@ module _ (n : ℕ) (s : State) (sound : IsSound s) (over : Each (λ t. t.number 
       one_over x x_member Waiting Gone waiting refl
   deed_over k m (Rested quiet) = on_map ticked Over s.tasks over
 
--- after an open step each finish is still of a job that is over
+-- after a deed each finish is still of a job that is over
+pub over_then : (k : Fraction) (s : State) → IsSound s → (m : Move) → Deed k s Ticks m → (finishes : List Finish)
+    → AreOverFor finishes s → AreOverFor finishes (after s m)
+over_then k s sound m deed finishes over f member = deed_over f.number s sound (over f member) k m deed
+
+-- so it is after an open step
 pub over_after : (J : Instance) → IsValid J → (s : State) → Keeps J s → (rules : Rules) (finishes : List Finish)
     → AreOverFor finishes s → AreOverFor finishes (after s (open_step rules s))
-over_after J valid s keeps rules finishes over f member =
-    deed_over f.number s keeps.sound (over f member) rules.ratio _ (open_deed J valid s keeps rules)
+over_after J valid s keeps rules finishes over =
+    over_then rules.ratio s keeps.sound _ (open_deed J valid s keeps rules) finishes over

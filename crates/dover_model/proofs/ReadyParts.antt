@@ -192,36 +192,42 @@ done_map f (x ∷ xs) stays = by_test (is_over x) refl (done_map f xs (λ t m. s
     rest,
   )
 
--- ---- of the states of an instance
+-- ---- after a deed
+
+module _ (k : Fraction) (s : State) (sound : IsSound s) (m : Move) (deed : Deed k s Ticks m) where
+  -- it leaves the jobs that are over
+  over_still : Each (λ t. is_over t ≡ true → change m t ≡ t) s.tasks
+  over_still t mt over = deed_over k s sound t mt over m deed
+
+  -- the jobs that aren't over are those of the part
+  pub ready_then : filter is_ready (after s m).tasks ≡ filter is_ready (after (ready_part s) m).tasks
+  ready_then = ap (filter is_ready) (after_change s m) ∙ ready_map (change m) s.tasks over_still
+      ∙ ap (filter is_ready) (sym (after_change (ready_part s) m))
+
+  -- what the jobs done are worth: those done before, and those done by it
+  pub done_then : value_sum (filter is_done (after s m).tasks)
+      ≡ value_sum (filter is_done s.tasks) + value_sum (filter is_done (after (ready_part s) m).tasks)
+  done_then =
+      let part : List Task = (after (ready_part s) m).tasks in
+      omega (
+        arith,
+        sum_filter is_done (λ t. t.job.value) (after s m).tasks,
+        sum_filter is_done (λ t. t.job.value) s.tasks,
+        sum_filter is_done (λ t. t.job.value) part,
+        ap (sum_by done_value) (after_change s m),
+        ap (sum_by done_value) (after_change (ready_part s) m),
+        done_map (change m) s.tasks over_still,
+      )
 
 module _ (J : Instance) (valid : IsValid J) (rules : Rules) (s : State) (keeps : Keeps J s) where
   -- an open step leaves the jobs that are over
   pub over_stays : Each (λ t. is_over t ≡ true → change (open_step rules s) t ≡ t) s.tasks
-  over_stays t m over = deed_over rules.ratio s keeps.sound t m over (open_step rules s)
-      (open_deed J valid s keeps rules)
+  over_stays = over_still rules.ratio s keeps.sound _ (open_deed J valid s keeps rules)
 
   -- after an open step the jobs that aren't over are those of its part
-  pub ready_after : filter is_ready (after s (open_step rules s)).tasks ≡ filter is_ready
-      (after (ready_part s) (open_step rules s)).tasks
-  ready_after = ap (filter is_ready) (after_change s (open_step rules s))
-      ∙ ready_map (change (open_step rules s)) s.tasks over_stays
-      ∙ ap (filter is_ready) (sym (after_change (ready_part s) (open_step rules s)))
-
-  -- what the jobs done are worth after an open step: those done before, and those done by it
-  pub done_after : value_sum (filter is_done (after s (open_step rules s)).tasks) ≡ value_sum (filter is_done s.tasks)
-      + value_sum
-      (filter is_done (after (ready_part s) (open_step rules s)).tasks)
-  done_after =
-      let part : List Task = (after (ready_part s) (open_step rules s)).tasks in
-      omega (
-        arith,
-        sum_filter is_done (λ t. t.job.value) (after s (open_step rules s)).tasks,
-        sum_filter is_done (λ t. t.job.value) s.tasks,
-        sum_filter is_done (λ t. t.job.value) part,
-        ap (sum_by done_value) (after_change s (open_step rules s)),
-        ap (sum_by done_value) (after_change (ready_part s) (open_step rules s)),
-        done_map (change (open_step rules s)) s.tasks over_stays,
-      )
+  pub ready_after : filter is_ready (after s (open_step rules s)).tasks
+      ≡ filter is_ready (after (ready_part s) (open_step rules s)).tasks
+  ready_after = ready_then rules.ratio s keeps.sound _ (open_deed J valid s keeps rules)
 
 -- ---- silent steps
 

@@ -28,7 +28,7 @@ use Rattle.dover_model.proofs.Roles.{passes}
 -- ---- what may still come
 
 -- a job ceases to wait twice at most
-exits_each : (clock w : ℕ) (t : Task) (role : Role) → weight_in exits_scale role clock w t ≤ 2
+pub exits_each : (clock w : ℕ) (t : Task) (role : Role) → weight_in exits_scale role clock w t ≤ 2
 exits_each clock w t Coming = omega arith
 exits_each clock w t Fresh = omega arith
 exits_each clock w t Waiting = omega (arith, one_most (nat_lt clock (latest_start t) || nat_lt w t.job.value))
@@ -38,7 +38,7 @@ exits_each clock w t Done = omega arith
 exits_each clock w t Gone = omega arith
 
 -- two each
-sum_twice : (f : Task → ℕ) → ((t : Task) → f t ≤ 2) → (ts : List Task) → sum_by f ts ≤ 2 * length ts
+pub sum_twice : (f : Task → ℕ) → ((t : Task) → f t ≤ 2) → (ts : List Task) → sum_by f ts ≤ 2 * length ts
 sum_twice f most [] = omega arith
 sum_twice f most (t ∷ ts) = omega (arith, sum_by-cons f t ts, most t, sum_twice f most ts)
 

@@ -6,18 +6,17 @@ use Rattle.dover_model.specs.declared.events.Event.TheVariants.{Abandon, Complet
 use Rattle.dover_model.specs.Session.{instance_of}
 use Rattle.dover_model.specs.Run.{completed_value}
 use Rattle.dover_model.specs.Bound.{bound}
-use Rattle.dover_model.specs.Taken.{three_versions}
-use Rattle.dover_model.specs.Verdict.{verdict, verdict_for, Verdict, Accepted, Wrong, Step, Header}
-use Rattle.dover_model.specs.Due.{closed, closed_for, due_for}
+use Rattle.dover_model.specs.Verdict.{verdict, verdict, Verdict, Accepted, Wrong, Step}
+use Rattle.dover_model.specs.Due.{closed, closed, due}
 use Rattle.dover_model.proofs.Written.{bytes}
 
 -- the feed is answered by the text
 abbrev Serves : List ℕ → List ℕ → Type 0
-Serves feed trace = closed_for three_versions (bytes feed) ≡ bytes trace
+Serves feed trace = closed (bytes feed) ≡ bytes trace
 
 -- what the text is, as a trace
 abbrev judged : List ℕ → Verdict
-judged trace = verdict_for three_versions (bytes trace)
+judged trace = verdict (bytes trace)
 
 -- what an accepted trace is worth, and its bound
 abbrev worth_and_bound : Verdict → List ℕ
@@ -238,7 +237,7 @@ unfolding digits
 waiting_or_over = refl
 
 -- a finish is settled at once
-settled_at_once : due_for three_versions (bytes (codes "k 1 1 3/job 0 4 4 4/job 0 3 5 3/done 2 0/")) ≡ bytes
+settled_at_once : due (bytes (codes "k 1 1 3/job 0 4 4 4/job 0 3 5 3/done 2 0/")) ≡ bytes
     (codes "dover 3 1 1/job 0 0 4 4 4/run 0 0/job 1 0 3 5 3/complete 2 0/run 2 1/")
 unfolding digits
 settled_at_once = refl
@@ -355,13 +354,3 @@ not_late_in_two = refl
 not_done_in_two : judged (codes "dover 2 1 1/refuse 5 5 0 done/") ≡ Wrong 2 (Step (End 0))
 unfolding digits
 not_done_in_two = refl
-
--- ---- where One and Two alone are taken
-
-not_taken : closed (bytes (codes "k 1 1 3/job 0 4 8 4/end/")) ≡ bytes (codes "refused 1 declared/")
-unfolding digits
-not_taken = refl
-
-no_header : verdict (bytes (codes "dover 3 1 1/end 0/")) ≡ Wrong 1 Header
-unfolding digits
-no_header = refl

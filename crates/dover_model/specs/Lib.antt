@@ -32,7 +32,6 @@ pub mod Numerals
 pub mod Lines
 pub mod Admission
 pub mod Session
-pub mod Taken
 pub mod Text
 pub mod Trace
 pub mod FeedLine

@@ -2,7 +2,7 @@
 use Rattle.std.specs.Prelude.{ℕ, [], ◌+◌, ◌-◌, ◌*◌, length, ◌^◌, ◌≤◌, ◌<◌}
 use Rattle.std.specs.List.{sum_by}
 use Rattle.dover_model.specs.State.{State, is_waiting}
-use Rattle.dover_model.specs.Weights.{weights_by, Scale, one_if}
+use Rattle.dover_model.specs.Weights.{weights_by, weight, Scale, one_if}
 use Rattle.dover_model.specs.Step.{Move}
 use Rattle.dover_model.specs.WaitingMoves.{enters, leaves}
 
@@ -31,6 +31,15 @@ waits_so_far s = waits_among (length s.tasks) s
 -- up to here each time that one of n jobs began or ceased to wait cost 20 * d comparisons at most
 abbrev pub HasSpentFor : ℕ → State → (start now : ℕ) → Type 0
 HasSpentFor n s start now = (d : ℕ) → n + 1 < 2 ^ d → now ≤ start + 20 * d * waits_among n s
+
+-- how often jobs may still cease to wait, whatever finishes now: nothing stands against a take
+abbrev pub exits_freely : State → ℕ
+exits_freely s = sum_by (weight exits_scale s.clock 0) s.tasks
+
+-- the same as HasSpentFor, whatever finishes now
+abbrev pub HasSpentFreely : ℕ → State → (start now : ℕ) → Type 0
+HasSpentFreely n s start now =
+    (d : ℕ) → n + 1 < 2 ^ d → now ≤ start + 20 * d * ((4 * n + waiting_count s) - 2 * exits_freely s)
 
 -- the same where the state has all jobs
 abbrev pub HasSpent : State → (start now : ℕ) → Type 0

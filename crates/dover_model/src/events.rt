@@ -9,6 +9,7 @@ pub enum Version {
     One,
     /// Ties by the greater value, and then by the smaller number; a job that isn't admitted is passed over.
     Two,
+    /// As Two, and jobs may finish early; a job that comes too late, and a done line that isn't right, are passed over.
     Three,
 }
 
@@ -16,13 +17,14 @@ impl Version {
     ghost use Rattle.std.specs.Prelude.{◌≡◌};
     ghost use Rattle.dover_model.specs.Verdict.{version_of_number};
 
-    /// The version of this number, if it has one that is taken.
+    /// The version of this number, if it has one.
     pub fn from_number(number: u64) -> Option<Version>
         ensures { result ≡ version_of_number number }
     {
         match number {
             1 => Some(Version::One),
             2 => Some(Version::Two),
+            3 => Some(Version::Three),
             _ => None,
         }
     }
@@ -39,6 +41,7 @@ pub enum Refusal {
     Total,
     /// Its value per tick of work and that of an admitted job differ by more than the declared ratio.
     Ratio,
+    /// Its release is below the mark.
     Late,
 }
 

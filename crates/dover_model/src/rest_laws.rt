@@ -14,7 +14,7 @@ ghost use Rattle.dover_model.specs.Rest.{AreOwn, instead_with, followed_by, None
 ghost use Rattle.dover_model.specs.Rest.{before_end, IsInTurn, Turn, turn_under, turns_jobs, turns_observed, one_run};
 ghost use Rattle.dover_model.specs.Rest.{TurnsEnd, printed_turns, completed_turns, AreOverAt, in_turn, printed_in_turn};
 ghost use Rattle.dover_model.specs.Rest.{completed_in_turn, later_job, later_event, AreAnew, anew, printed_anew};
-ghost use Rattle.dover_model.specs.Rest.{completed_anew};
+ghost use Rattle.dover_model.specs.Rest.{completed_anew, IsTurn};
 ghost use Rattle.dover_model.specs.Parts.{part_of, IsParted, part_under, completed_in_parts, bounds_of_parts};
 
 /// From the tick of its End on a run is at rest, and then all that it prints is settled but its End.
@@ -76,9 +76,8 @@ pub fn runs_go_on_in_turn()
 {}
 
 /// So it is with lists whose jobs may finish early, each under finishes of its own: all of them are one run, and what
-/// is
-/// settled of the last one is what is settled of it alone. No schedule of all the jobs is worth more than the one run
-/// allows, as they are declared and as each list's run observed them.
+/// is settled or printed of the last one is what is settled or printed of it alone. No schedule of all the
+/// jobs is worth more than the one run allows, as they are declared and as each list's run observed them.
 pub fn turns_with_finishes_are_one_run()
     ensures printed { (rules : Rules) (turns : List Turn) (last : ℕ) → TurnsEnd rules 0 turns last →
         printed (one_run rules turns) ≡ printed_turns rules turns }
@@ -89,6 +88,10 @@ pub fn turns_with_finishes_are_one_run()
         settled (one_run rules (turns ++ more ∷ [])) mark ≡ before_end (printed (one_run rules turns))
         ++ map (behind (length (turns_jobs turns)) (completed_turns rules turns))
         (settled (turn_under rules more) mark) }
+    ensures further { (rules : Rules) (turns : List Turn) (more : Turn) (last : ℕ) → TurnsEnd rules 0 turns last →
+        IsTurn rules last more →
+        printed (one_run rules (turns ++ more ∷ [])) ≡ before_end (printed (one_run rules turns))
+        ++ map (behind (length (turns_jobs turns)) (completed_turns rules turns)) (printed (turn_under rules more)) }
     ensures declared { (rules : Rules) (turns : List Turn) (last : ℕ) (s : List ℕ) → TurnsEnd rules 0 turns last →
         IsWithin rules.ratio (worth (one_run rules turns) s) (completed_value (one_run rules turns)) }
     ensures observed { (rules : Rules) (turns : List Turn) (last : ℕ) (s : List ℕ) → TurnsEnd rules 0 turns last →

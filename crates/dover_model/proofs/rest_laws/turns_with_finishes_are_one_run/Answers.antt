@@ -1,5 +1,6 @@
 use Rattle.dover_model.proofs.InTurns.{one_run_prints, one_run_completes, settled_of_last, declared_within}
 use Rattle.dover_model.proofs.InTurns.{observed_within}
+use Rattle.dover_model.proofs.TurnsGrowing.{printed_of_last}
 use Rattle.dover_model.proofs.rest_laws.turns_with_finishes_are_one_run.Goals as goal
 
 pub returns-clause-printed : goal.returns-clause-printed
@@ -11,6 +12,9 @@ returns-clause-value c = one_run_completes
 pub returns-clause-settled : goal.returns-clause-settled
 returns-clause-settled c =
     λ rules turns more last mark ends valid late on. settled_of_last rules more valid last late turns mark ends on
+
+pub returns-clause-further : goal.returns-clause-further
+returns-clause-further c = λ rules turns more last ends turn. printed_of_last rules more last turn turns ends
 
 pub returns-clause-declared : goal.returns-clause-declared
 returns-clause-declared c = declared_within
