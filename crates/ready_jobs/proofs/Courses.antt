@@ -1,6 +1,7 @@
 -- What is kept of a run, step by step.
-use Rattle.std.proofs.Common.{◌≡◌, ℕ, ◌+◌, ◌≤◌, ◌<◌, inl, List, [], ◌∷◌, ◌++◌, length, refl, sym, ap, ◌∙◌, subst, Bool}
-use Rattle.std.proofs.Common.{true, false, cond, not, arith}
+use Rattle.std.proofs.Common.{◌≡◌, ℕ, ◌+◌, ◌≤◌, ◌<◌, ◌⊎◌, inl, inr, List, [], ◌∷◌, ◌++◌, length, refl, sym, ap}
+use Rattle.std.proofs.Common.{◌∙◌, subst}
+use Rattle.std.proofs.Common.{Bool, true, false, cond, not, arith, eqb}
 use Rattle.std.specs.Prelude.{Option, nat_le, ◌&&◌, Some, None}
 use Rattle.std.specs.Option.{option_to_list}
 use Rattle.std.specs.List.{filter, list_all, sum_by}
@@ -10,26 +11,37 @@ use Rattle.std.proofs.lemmas.List.Sums.{sum_by-cons, sum_by-append, length-filte
 use Rattle.dover_model.specs.Limits.{last_tick}
 use Rattle.dover_model.specs.Fraction.{Fraction, IsRatio}
 use Rattle.dover_model.specs.JobFacts.{JobFacts}
-use Rattle.dover_model.specs.declared.events.Role.TheVariants.{Fresh}
+use Rattle.dover_model.specs.declared.events.Role.TheVariants.{Fresh, Running, Done}
 use Rattle.dover_model.specs.declared.events.Event.{Event}
 use Rattle.dover_model.specs.declared.events.Event.TheVariants.{Release, Run, Preempt, Take, Complete, Abandon, End}
 use Rattle.dover_model.specs.declared.events.Task.{Task}
-use Rattle.dover_model.specs.Instance.{Rules, Declaration, under, Instance, IsValid, total_value}
-use Rattle.dover_model.specs.State.{State, opening, is_over, is_done, value_sum}
+use Rattle.dover_model.specs.Instance.{Rules, Declaration, under, Instance, IsValid, total_value, finishing}
+use Rattle.dover_model.specs.Instance.{with_finishes}
+use Rattle.dover_model.specs.Finishes.{Finish}
+use Rattle.dover_model.specs.State.{State, opening, is_over, is_done, is_running, running, value_sum}
 use Rattle.dover_model.specs.Step.{Move, Prints, Waits, Ticks, step, open_step, after, with_role}
 use Rattle.dover_model.specs.Run.{event_of, is_end, last_deadline}
-use Rattle.dover_model.specs.Settled.{waits_for_mark}
-use Rattle.dover_model.specs.Sound.{IsMember, Keeps}
+use Rattle.dover_model.specs.Settled.{waits_for_mark, AreOverFor, finish_now}
+use Rattle.dover_model.specs.Sound.{IsMember, Each, Keeps}
 use Rattle.dover_model.specs.WholeRun.{IsBarrier}
-use Rattle.dover_model.proofs.Members.{sum_filter, sum_le, sum_map, member_filter, term_le_sum}
+use Rattle.dover_model.proofs.Members.{sum_filter, sum_le, sum_map, member_filter, term_le_sum, member_either, on_map}
+use Rattle.dover_model.proofs.Members.{found}
+use Rattle.dover_model.proofs.Members.{filter_member, some_same}
+use Rattle.dover_model.proofs.Roles.{passes, is_running_role}
+use Rattle.dover_model.proofs.Readiness.{runner}
+use Rattle.dover_model.proofs.Deeds.{Deed as RunDeed, Completed}
 use Rattle.dover_model.proofs.Kept.{opening_keeps}
 use Rattle.dover_model.proofs.Honest.{count_jobs}
 use Rattle.dover_model.proofs.Prefixes.{step_open}
-use Rattle.dover_model.proofs.Resting.{tick_keeps}
+use Rattle.dover_model.proofs.Resting.{tick_keeps, numbers_below}
 use Rattle.dover_model.proofs.Settling.{at_barrier}
 use Rattle.dover_model.proofs.ShortNumbers.{deadline_known, ticks_early}
-use Rattle.dover_model.proofs.Tests.{not_true, never}
-use Rattle.dover_model.specs.Leading.{GoesOn, IsSilent, Idles, WaitsUntil, PrintsNext}
+use Rattle.dover_model.proofs.Tests.{not_true, never, none_is_some}
+use Rattle.dover_model.specs.Leading.{GoesOn, IsSilent, Idles, Settles, WaitsUntil, PrintsNext}
+use Rattle.dover_model.proofs.Meeting.{finishing_valid}
+use Rattle.dover_model.proofs.Further.{over_open}
+use Rattle.dover_model.proofs.OverFor.{over_after, over_then}
+use Rattle.dover_model.proofs.OverPaths.{settles_over}
 use Rattle.dover_model.specs.Ready.{is_ready}
 use Rattle.dover_model.proofs.Leading.{late_silent, over_ends}
 use Rattle.dover_model.proofs.ReadyParts.{change}
@@ -38,14 +50,15 @@ use Rattle.ready_jobs.specs.Reordered.{IsReordered}
 use Rattle.ready_jobs.specs.Parts.{Parted, HaveRoles, ready_of, state_of}
 use Rattle.ready_jobs.specs.Following.{PartOf, IsPart, SettlesTo}
 use Rattle.ready_jobs.specs.Course.{Course, Follows, IsCourse, new_course, course_of, fresh_job, with_release, Reached}
-use Rattle.ready_jobs.specs.Course.{Settled, ComesNext, Takes, IsDue}
+use Rattle.ready_jobs.specs.Course.{Settled, ComesNext, Takes, IsDue, Finishes, RunsNowhere}
 use Rattle.ready_jobs.specs.Deeds.{Does}
 use Rattle.ready_jobs.specs.declared.deeds.Deed.{Deed}
 use Rattle.ready_jobs.proofs.Reordering.{same_order, further, exchanged, as_many, in_left, in_right}
 use Rattle.ready_jobs.proofs.Pooling.{between}
 use Rattle.ready_jobs.specs.Changed.{Leaves, AreOnce, named}
-use Rattle.ready_jobs.proofs.Changes.{once_numbered, once_some, once_still, map_each}
-use Rattle.ready_jobs.proofs.Following.{part_step, part_moves}
+use Rattle.ready_jobs.proofs.Changes.{once_numbered, once_some, once_still, map_each, completes}
+use Rattle.ready_jobs.proofs.Seeing.{running_list}
+use Rattle.ready_jobs.proofs.Following.{part_step, part_moves, part_does, there, ready_once}
 
 -- ---- what is kept
 
@@ -61,6 +74,8 @@ new_follows rules room ratio = record {
   valid = record { ratio = ratio; each = tt; in_order = tt; count = omega arith; total = omega arith; densities = tt };
   keeps = opening_keeps (record { rules = under rules []; jobs = [] });
   rules = refl;
+  own = λ f m. absurd m;
+  over = λ f m. absurd m;
   clock = refl;
   ready = same_order [];
   jobs = refl;
@@ -130,6 +145,8 @@ follows_room c room J z follows = record {
   valid = follows.valid;
   keeps = follows.keeps;
   rules = follows.rules;
+  own = follows.own;
+  over = follows.over;
   clock = follows.clock;
   ready = follows.ready;
   jobs = follows.jobs;
@@ -145,6 +162,8 @@ follows_order c ready J z follows same = record {
   valid = follows.valid;
   keeps = follows.keeps;
   rules = follows.rules;
+  own = follows.own;
+  over = follows.over;
   clock = follows.clock;
   ready = further (filter is_ready z.tasks) c.ready ready follows.ready same;
   jobs = follows.jobs;
@@ -164,9 +183,12 @@ declared_course c rules old none ratio =
       record { rules = under rules []; jobs = J.jobs },
       z,
       record {
-        valid = subst (λ jobs. IsValid (record { rules = under rules []; jobs = jobs })) empty (new_follows rules 0 ratio).valid;
+        valid = subst (λ jobs. IsValid (record { rules = under rules []; jobs = jobs })) empty
+            (new_follows rules 0 ratio).valid;
         keeps = record { sound = follows.keeps.sound; jobs = follows.keeps.jobs };
         rules = refl;
+        own = λ f m. absurd m;
+        over = λ f m. absurd m;
         clock = follows.clock;
         ready = follows.ready;
         jobs = follows.jobs;
@@ -189,10 +211,13 @@ pub renewed_follows : (c : Course) → IsCourse c → length c.ready ≡ 0
 renewed_follows c old none =
     let ratio : IsRatio c.rules.ratio =
     subst (λ (rules : Rules). IsRatio rules.ratio) old.2.rules old.2.valid.ratio in
-    let valid : IsValid (record { rules = under c.rules []; jobs = [] }) = (new_follows c.rules 0 ratio).valid in record {
+    let valid : IsValid (record { rules = under c.rules []; jobs = [] }) =
+    (new_follows c.rules 0 ratio).valid in record {
       valid = valid;
       keeps = none_keeps (under c.rules []) valid c.clock;
       rules = refl;
+      own = λ f m. absurd m;
+      over = λ f m. absurd m;
       clock = refl;
       ready = subst (λ (ts : List Task). IsReordered ts c.ready) (no_items c.ready none) (same_order c.ready);
       jobs = refl;
@@ -241,11 +266,15 @@ more_ready c j more = omega (
 
 module _ (k : Fraction) (p : Parted) (jobs done : ℕ) (J : Instance) (z : State)
     (follows : Follows (course_of k p jobs done) J z) where
-  -- they are a part of the whole
-  pub follows_part : PartOf p J z
+  -- the jobs, where none finishes early
+  abbrev plain : Instance
+  plain = finishing J []
+
+  -- the ready jobs are a part of the whole, whatever finished before
+  pub follows_part : PartOf p plain z
   follows_part = record {
-    valid = follows.valid;
-    keeps = follows.keeps;
+    valid = finishing_valid J [] follows.valid;
+    keeps = record { sound = follows.keeps.sound; jobs = follows.keeps.jobs };
     version = ap (λ (r : Rules). r.version) follows.rules;
     clock = follows.clock;
     ready = follows.ready;
@@ -253,17 +282,22 @@ module _ (k : Fraction) (p : Parted) (jobs done : ℕ) (J : Instance) (z : State
   }
 
   -- with the next open step
-  pub follows_step : open_step (record { ratio = k; version = p.version; finishes = [] }) (state_of p) ≡ open_step J.rules z
-  follows_step = ap (λ r. open_step r (state_of p)) (sym follows.rules) ∙ part_step p J z follows_part
+  pub follows_step : open_step (record { ratio = k; version = p.version; finishes = [] }) (state_of p)
+      ≡ open_step J.rules z
+  follows_step = ap (λ r. open_step r (state_of p)) (sym follows.rules) ∙ part_step p plain z follows_part
+      ∙ sym (over_open J.rules z follows.over)
 
-  module _ (q : Parted) (more : ℕ) (y : State) (part : PartOf q J y) (version : q.version ≡ p.version)
+  module _ (q : Parted) (more : ℕ) (y : State) (part : PartOf q plain y) (over : AreOverFor J.rules.finishes y)
+      (version : q.version ≡ p.version)
       (worth : value_sum (filter is_done y.tasks) ≡ value_sum (filter is_done z.tasks) + more)
       (known : y.clock ≤ last_tick) where
     -- the course goes on
     pub follows_on : Follows (course_of k q jobs (done + more)) J y
     follows_on = record {
       valid = follows.valid;
-      keeps = part.keeps;
+      keeps = record { sound = part.keeps.sound; jobs = part.keeps.jobs };
+      own = follows.own;
+      over = over;
       rules = follows.rules ∙ ap (λ v. record { ratio = k; version = v; finishes = [] }) (sym version);
       clock = part.clock;
       ready = part.ready;
@@ -278,7 +312,7 @@ module _ (k : Fraction) (p : Parted) (jobs done : ℕ) (J : Instance) (z : State
 pub course_part : (k : Fraction) (p : Parted) (jobs done : ℕ) → IsCourse (course_of k p jobs done)
     → IsPart (record { ratio = k; version = p.version; finishes = [] }) p
 course_part k p jobs done old =
-    (old.0, old.1, follows_part k p jobs done old.0 old.1 old.2, old.2.rules)
+    (finishing old.0 [], old.1, follows_part k p jobs done old.0 old.1 old.2, old.2.rules)
 
 -- a course that has done no more
 same_done : (k : Fraction) (q : Parted) (jobs done : ℕ) (J : Instance) (y : State)
@@ -290,8 +324,8 @@ same_done k q jobs done J y follows =
 
 module _ (k : Fraction) (p q : Parted) (jobs done mark : ℕ) (m : Move) (version : q.version ≡ p.version)
     (some : 0 < length (ready_of p))
-    (settles : (J : Instance) (z : State) → J.rules ≡ record { ratio = k; version = p.version; finishes = [] } → PartOf p J z
-    → SettlesTo q J z mark)
+    (settles : (J : Instance) (z : State) → J.rules ≡ record { ratio = k; version = p.version; finishes = [] }
+    → PartOf p J z → SettlesTo q J z mark)
     (comes : m ≡ open_step (record { ratio = k; version = q.version; finishes = [] }) (state_of q))
     (stops : IsSilent m → (m ≡ Ticks) × (mark ≤ q.clock))
     (low : q.clock ≤ mark) (known : mark ≤ last_tick) where
@@ -299,14 +333,18 @@ module _ (k : Fraction) (p q : Parted) (jobs done mark : ℕ) (m : Move) (versio
   pub course_reaches : (J : Instance) (z : State) → Follows (course_of k p jobs done) J z
       → Reached (course_of k q jobs done) J z mark m
   course_reaches J z follows =
-      let it : SettlesTo q J z mark = settles J z follows.rules (follows_part k p jobs done J z follows) in
+      let it : SettlesTo q (finishing J []) z mark =
+      settles (finishing J []) z follows.rules (follows_part k p jobs done J z follows) in
       let y : State = it.state in
       let clock_y : y.clock ≡ q.clock = it.part.clock in
+      let with_finishes : Settles J.rules mark z it.steps y × AreOverFor J.rules.finishes y =
+      settles_over J follows.valid mark it.steps z y follows.keeps follows.over it.settles in
       let kept : Follows (course_of k q jobs done) J y =
-      same_done k q jobs done J y (follows_on k p jobs done J z follows q 0 y it.part version
+      same_done k q jobs done J y (follows_on k p jobs done J z follows q 0 y it.part with_finishes.1 version
       (let same = it.done in omega (arith, same)) (omega arith)) in
       let idles : Idles J.rules z it.steps y × GoesOn y =
-      settles_idles J.rules mark it.steps z y (follows_goes_on (course_of k p jobs done) J z follows some) it.settles in
+      settles_idles J.rules mark it.steps z y (follows_goes_on (course_of k p jobs done) J z follows some)
+      with_finishes.0 in
       let step_y : open_step J.rules y ≡ m = sym (follows_step k q jobs done J y kept) ∙ sym comes in
       record {
         state = y;
@@ -320,7 +358,7 @@ module _ (k : Fraction) (p q : Parted) (jobs done mark : ℕ) (m : Move) (versio
             let now : y.clock ≡ mark = omega (arith, at.1) in
             subst (λ t. WaitsUntil J.rules mark z (record { clock = t; tasks = y.tasks })) now (record {
               steps = it.steps;
-              settles = it.settles;
+              settles = with_finishes.0;
               barrier = ap (λ n. waits_for_mark n && nat_le mark y.clock) step_y
                   ∙ ap (λ t. waits_for_mark m && nat_le mark t) clock_y
                   ∙ here;
@@ -348,9 +386,17 @@ no_last_barrier J valid z keeps on silent here =
 
 -- what has reached the mark
 pub reached_settled : (c : Course) (J : Instance) (z : State) (mark : ℕ) (m : Move) (reached : Reached c J z mark m)
-    → (waits_for_mark m && nat_le mark c.clock) ≡ true → Settled c J z mark None
-reached_settled c J z mark m reached here =
-    record { state = reached.state; follows = reached.follows; idles = reached.idles; comes = reached.waits here }
+    → (waits_for_mark m && nat_le mark c.clock) ≡ true → c.clock ≤ mark → Settled c J z mark None
+reached_settled c J z mark m reached here low = record {
+  state = reached.state;
+  follows = reached.follows;
+  idles = reached.idles;
+  comes = (
+    reached.waits here,
+    λ _. let at : (waits_for_mark m ≡ true) × (mark ≤ c.clock) = at_barrier (waits_for_mark m) mark c.clock here in
+        omega (arith, reached.follows.clock, at.1, low),
+  );
+}
 
 -- or a printed step before it
 pub reached_prints : (c : Course) (J : Instance) (z : State) (mark : ℕ) (e : Event)
@@ -375,8 +421,11 @@ over_settled c J z mark follows none low = record {
   state = z;
   follows = follows;
   idles = ([], refl);
-  comes = over_waits_until J follows.valid J.rules mark z follows.keeps (follows_over c J z follows none)
-      (omega (arith, follows.clock));
+  comes = (
+    over_waits_until J follows.valid J.rules mark z follows.keeps (follows_over c J z follows none)
+        (omega (arith, follows.clock)),
+    λ on. never (sym on ∙ follows_over c J z follows none),
+  );
 }
 
 -- where no job is ready, End is printed next
@@ -433,13 +482,14 @@ reached_comes c d m reaches some = by_move m refl where
 -- a printed step was reached, and whether it is a barrier was tested
 module _ (c : Course) (J : Instance) (z : State) (mark : ℕ) (m : Move) (e : Event) (clock : ℕ) (b : Bool)
     (reached : Reached c J z mark m)
-    (is : m ≡ Prints e) (at : clock ≡ c.clock) (test : b ≡ (waits_for_mark (Prints e) && nat_le mark clock)) where
+    (is : m ≡ Prints e) (at : clock ≡ c.clock) (low : c.clock ≤ mark)
+    (test : b ≡ (waits_for_mark (Prints e) && nat_le mark clock)) where
   -- it is
   pub tested_late : b ≡ true → Settled c J z mark None
   tested_late late = reached_settled c J z mark m reached
       (ap (λ n. waits_for_mark n && nat_le mark c.clock) is
       ∙ ap (λ t. waits_for_mark (Prints e) && nat_le mark t) (sym at) ∙ sym test
-      ∙ late)
+      ∙ late) low
 
   -- it isn't
   pub tested_early : b ≡ false → Settled c J z mark (Some e)
@@ -448,10 +498,10 @@ module _ (c : Course) (J : Instance) (z : State) (mark : ℕ) (m : Move) (e : Ev
 
 -- a silent step was reached
 pub silent_settled : (c : Course) (J : Instance) (z : State) (mark : ℕ) (m n : Move) → Reached c J z mark m → m ≡ n
-    → IsSilent n
+    → IsSilent n → c.clock ≤ mark
     → Settled c J z mark None
-silent_settled c J z mark m n reached is silent =
-    reached_settled c J z mark m reached (reached.stops (ap event_of is ∙ silent))
+silent_settled c J z mark m n reached is silent low =
+    reached_settled c J z mark m reached (reached.stops (ap event_of is ∙ silent)) low
 
 -- ---- printed steps
 
@@ -464,13 +514,142 @@ module _ (k : Fraction) (p q : Parted) (jobs done worth : ℕ) (e : Event)
       → Follows (course_of k q jobs (done + worth)) J (after z (Prints e))
   course_takes J z follows =
       let is : open_step J.rules z ≡ Prints e = sym (follows_step k p jobs done J z follows) ∙ prints in
-      let it = part_moves p J z (follows_part k p jobs done J z follows) q (Prints e) worth is version
-      (follows.clock ∙ sym clock) leaves in
-      follows_on k p jobs done J z follows q worth (after z (Prints e)) it.0 version it.1 follows.known
+      let it = part_moves p (finishing J []) z (follows_part k p jobs done J z follows) q (Prints e) worth
+      (sym (over_open J.rules z follows.over) ∙ is) version (follows.clock ∙ sym clock) leaves in
+      follows_on k p jobs done J z follows q worth (after z (Prints e)) it.0
+      (subst (λ m. AreOverFor J.rules.finishes (after z m)) is
+      (over_after J follows.valid z follows.keeps J.rules J.rules.finishes follows.over)) version it.1 follows.known
 
   -- is a course again
   pub takes_course : IsCourse (course_of k p jobs done) → IsCourse (course_of k q jobs (done + worth))
   takes_course old = (old.0, after old.1 (Prints e), course_takes old.0 old.1 old.2)
+
+-- ---- a finish
+
+module _ (k : Fraction) (p : Parted) (jobs done : ℕ) (roles : HaveRoles p) (r : Task) (runs : p.running ≡ Some r)
+    (J : Instance) (z : State) (follows : Follows (course_of k p jobs done) J z) where
+  -- the job is among all
+  runs_there : IsMember r z.tasks
+  runs_there = there p (finishing J []) z (follows_part k p jobs done J z follows) r
+      (in_left (option_to_list p.running) (option_to_list p.fresh ++ (p.held ++ p.waiting)) r here) where
+        here : IsMember r (option_to_list p.running)
+        here = subst (λ o. IsMember r (option_to_list o)) (sym runs) (inl refl)
+
+  -- in its role
+  runs_so : r.role ≡ Running
+  runs_so = roles.running r (subst (λ o. IsMember r (option_to_list o)) (sym runs) (inl refl))
+
+  -- so it is the one that runs
+  pub runs_now : running z ≡ Some r
+  runs_now = runner z follows.keeps.sound r runs_there runs_so
+
+  -- the parts without it
+  abbrev rest : Parted
+  rest = record p { running = None }
+
+  -- the state in which it is done
+  abbrev done_then : State
+  done_then = after z (Prints (Complete z.clock r.number))
+
+  -- the jobs, with its finish
+  abbrev finished : Instance
+  finished = with_finishes J (finish_now r ∷ [])
+
+  -- the course without it
+  pub finish_follows : Follows (course_of k rest jobs (done + r.job.value)) finished done_then
+  finish_follows = record {
+    valid = finishing_valid J finished.rules.finishes follows.valid;
+    keeps = record { sound = it.keeps.sound; jobs = it.keeps.jobs };
+    rules = it.rules;
+    own = λ f m. by_finish f (member_either J.rules.finishes (finish_now r ∷ []) f m);
+    over = λ f m. over_finish f (member_either J.rules.finishes (finish_now r ∷ []) f m);
+    clock = it.clock;
+    ready = it.ready;
+    jobs = it.jobs;
+    done = it.done;
+    known = it.known;
+    released = it.released;
+  } where
+    part : PartOf p (finishing J []) z
+    part = follows_part k p jobs done J z follows
+
+    deed : RunDeed k z Ticks (Prints (Complete z.clock r.number))
+    deed = Completed r runs_there runs_so
+
+    moved : PartOf rest (finishing J []) done_then
+        × (value_sum (filter is_done done_then.tasks) ≡ value_sum (filter is_done z.tasks) + r.job.value)
+    moved = part_does p (finishing J []) z part k rest (Prints (Complete z.clock r.number)) r.job.value deed refl
+        follows.clock (completes p roles (ready_once p (finishing J []) z part) r runs)
+
+    it : Follows (course_of k rest jobs (done + r.job.value)) J done_then
+    it = follows_on k p jobs done J z follows rest r.job.value done_then moved.0
+        (over_then k z follows.keeps.sound _ deed J.rules.finishes follows.over) refl moved.1 follows.known
+
+    by_finish : (f : Finish) → IsMember f J.rules.finishes ⊎ IsMember f (finish_now r ∷ []) → f.number < length J.jobs
+    by_finish f (inl m) = follows.own f m
+    by_finish f (inr (inl e)) = subst (λ (g : Finish). g.number < length J.jobs) (sym e)
+        (numbers_below J z follows.keeps r runs_there)
+    by_finish f (inr (inr m)) = absurd m
+
+    is_done_then : (t : Task) → t.number ≡ r.number → (b : Bool) → eqb t.number r.number ≡ b
+        → is_over (with_role t (cond b Done t.role)) ≡ true
+    is_done_then t same true e = refl
+    is_done_then t same false e = never (sym e ∙ eq-eqb t.number r.number same)
+
+    over_finish : (f : Finish) → IsMember f J.rules.finishes ⊎ IsMember f (finish_now r ∷ [])
+        → Each (λ t. t.number ≡ f.number → is_over t ≡ true) done_then.tasks
+    over_finish f (inl m) = it.over f m
+    over_finish f (inr (inl e)) = subst (λ (g : Finish). Each (λ t. t.number ≡ g.number → is_over t ≡ true)
+        done_then.tasks) (sym e) (on_map (λ t. with_role t (cond (eqb t.number r.number) Done t.role))
+        (λ t. t.number ≡ r.number → is_over t ≡ true) z.tasks
+        (λ t m same. is_done_then t same (eqb t.number r.number) refl))
+    over_finish f (inr (inr m)) = absurd m
+
+-- where no job runs in these parts, none runs
+pub none_runs_now : (k : Fraction) (p : Parted) (jobs done : ℕ) → HaveRoles p → p.running ≡ None
+    → (J : Instance) (z : State) → Follows (course_of k p jobs done) J z → running z ≡ None
+none_runs_now k p jobs done roles none J z follows = by_running (running z) refl where
+  by_running : (o : Option Task) → running z ≡ o → o ≡ None
+  by_running None e = refl
+  by_running (Some r) e =
+      let it : IsMember r z.tasks × (is_running r ≡ true) = found is_running z.tasks r e in
+      let here : IsMember r (ready_of p) = follows.ready.there r (filter_member is_ready z.tasks r it.0
+      (passes is_ready r Running true (is_running_role r it.1) refl)) in
+      let one : IsMember r (filter is_running (ready_of p)) = filter_member is_running (ready_of p) r here it.1 in
+      absurd (subst (λ o. IsMember r (option_to_list o)) none (subst (IsMember r) (running_list p roles) one))
+
+module _ (k : Fraction) (p q : Parted) (jobs done worth : ℕ) (roles : HaveRoles p) (r : Task)
+    (runs : p.running ≡ Some r) (rests : q ≡ record p { running = None }) (is : worth ≡ r.job.value) where
+  -- wherever the course is kept of, the job may finish, and the other is kept
+  pub course_finishes : (n : ℕ) → r.number ≡ n
+      → Finishes (course_of k p jobs done) n (course_of k q jobs (done + worth))
+  course_finishes n named J z follows = (
+    r,
+    runs_now k p jobs done roles r runs J z follows,
+    named,
+    subst (λ m. Follows (course_of k q jobs (done + worth)) (with_finishes J (finish_now r ∷ []))
+        (after z (Prints (Complete z.clock m)))) named
+        (subst (λ o. Follows (course_of k o jobs (done + worth)) (with_finishes J (finish_now r ∷ []))
+        (after z (Prints (Complete z.clock r.number)))) (sym rests)
+        (subst (λ v. Follows (course_of k (record p { running = None }) jobs (done + v))
+        (with_finishes J (finish_now r ∷ []))
+        (after z (Prints (Complete z.clock r.number)))) (sym is)
+        (finish_follows k p jobs done roles r runs J z follows))),
+  )
+
+  -- which is a course again
+  pub finished_course : IsCourse (course_of k p jobs done) → IsCourse (course_of k q jobs (done + worth))
+  finished_course old = let it = course_finishes r.number refl old.0 old.1 old.2 in
+      (with_finishes old.0 (finish_now it.0 ∷ []), after old.1 (Prints (Complete old.1.clock r.number)), it.3)
+
+-- no job but the running one runs
+pub runs_nowhere : (k : Fraction) (p : Parted) (jobs done : ℕ) → HaveRoles p → (n : ℕ)
+    → ((r : Task) → p.running ≡ Some r → r.number ≡ n → ⊥) → RunsNowhere (course_of k p jobs done) n
+runs_nowhere k p jobs done roles n other J z follows r runs named = by_running p.running refl where
+  by_running : (o : Option Task) → p.running ≡ o → ⊥
+  by_running None none = none_is_some (sym (none_runs_now k p jobs done roles none J z follows) ∙ runs)
+  by_running (Some s) is = other s is
+      (ap (λ (t : Task). t.number) (some_same s r (sym (runs_now k p jobs done roles s is J z follows) ∙ runs)) ∙ named)
 
 -- the end changes nothing
 end_stays : (s : State) (value : ℕ) → after s (Prints (End value)) ≡ s

@@ -8,6 +8,7 @@ use Rattle.std.proofs.lemmas.Bool.{lt-leb, ltb-true, ltb-false}
 use Rattle.std.proofs.lemmas.List.{map-append}
 use Rattle.dover_model.specs.Step.{due_finish, declared_open_step}
 use Rattle.dover_model.proofs.Finishing.{not_complete}
+use Rattle.dover_model.specs.Fraction.{Fraction}
 use Rattle.dover_model.specs.JobFacts.{IsJob}
 use Rattle.dover_model.specs.declared.events.Event.{Event}
 use Rattle.dover_model.specs.declared.events.Role.{Role}
@@ -24,9 +25,9 @@ use Rattle.dover_model.specs.State.{latest_start, value_sum}
 use Rattle.dover_model.specs.Step.{Move, Prints, Waits, Ticks, view, open_step, after, with_role, role_after, displaced}
 use Rattle.dover_model.specs.WholeRun.{open_at}
 use Rattle.dover_model.proofs.Jumping.{later_by-zero, after-later_by}
-use Rattle.dover_model.proofs.Deeds.{tick_quiet}
+use Rattle.dover_model.proofs.Deeds.{Deed, tick_quiet}
 use Rattle.dover_model.proofs.Ticking.{Quiet}
-use Rattle.dover_model.proofs.Kept.{open_deed, open_kept, each_job}
+use Rattle.dover_model.proofs.Kept.{open_deed, open_kept, deed_kept, each_job}
 use Rattle.dover_model.proofs.Moves.{early_waits, says}
 use Rattle.dover_model.proofs.Members.{member_filter, filter_member, on_map, sum_filter, sum_le, sum_map}
 use Rattle.dover_model.proofs.Roles.{passes, is_running_role, is_fresh_role}
@@ -36,7 +37,7 @@ use Rattle.ready_jobs.proofs.Jumping.{silent as still_silent, due as still_due, 
 use Rattle.dover_model.specs.Leading.{IsSilent, Settles}
 use Rattle.dover_model.specs.Ready.{is_ready, ready_part}
 use Rattle.dover_model.proofs.Leading.{settles_append}
-use Rattle.dover_model.proofs.ReadyParts.{change, after_change, step_ready, ready_after, done_after}
+use Rattle.dover_model.proofs.ReadyParts.{change, after_change, step_ready, ready_then, done_then}
 use Rattle.ready_jobs.specs.Reordered.{IsReordered}
 use Rattle.ready_jobs.specs.Parts.{Parted, HaveRole, HaveRoles, AreSound, ready_of, state_of}
 use Rattle.ready_jobs.specs.Following.{PartOf, SettlesTo}
@@ -183,16 +184,16 @@ module _ (p : Parted) (J : Instance) (z : State) (part : PartOf p J z) where
 
   -- ---- a step that isn't a tick
 
-  -- the ready jobs after it
-  pub part_moves : (q : Parted) (m : Move) (worth : ℕ) → open_step J.rules z ≡ m → q.version ≡ p.version
+  -- the ready jobs after a deed
+  pub part_does : (k : Fraction) (q : Parted) (m : Move) (worth : ℕ) → Deed k z Ticks m → q.version ≡ p.version
       → (after z m).clock ≡ q.clock
       → Leaves (change m) (ready_of p) (ready_of q) worth
       → PartOf q J (after z m)
       × (value_sum (filter is_done (after z m).tasks) ≡ value_sum (filter is_done z.tasks) + worth)
-  part_moves q m worth is version clock leaves = (
+  part_does k q m worth deed version clock leaves = (
     record {
       valid = part.valid;
-      keeps = subst (λ n. Keeps J (after z n)) is (open_kept J part.valid z part.keeps J.rules);
+      keeps = deed_kept J part.valid z part.keeps k m deed;
       version = part.version ∙ sym version;
       clock = clock;
       ready = subst (λ l. IsReordered l (ready_of q)) (sym ready_is)
@@ -209,14 +210,21 @@ module _ (p : Parted) (J : Instance) (z : State) (part : PartOf p J z) where
     moved = mapped whole (ready_of p) part.ready (change m)
 
     ready_is : filter is_ready (after z m).tasks ≡ filter is_ready (map (change m) whole)
-    ready_is = subst (λ n. filter is_ready (after z n).tasks ≡ filter is_ready (after (ready_part z) n).tasks) is
-        (ready_after J part.valid J.rules z part.keeps) ∙ ap (filter is_ready) (after_change (ready_part z) m)
+    ready_is = ready_then k z part.keeps.sound m deed ∙ ap (filter is_ready) (after_change (ready_part z) m)
 
     done_is : value_sum (filter is_done (after z m).tasks) ≡ value_sum (filter is_done z.tasks) + value_sum
         (filter is_done (map (change m) whole))
-    done_is = subst (λ n. value_sum (filter is_done (after z n).tasks) ≡ value_sum (filter is_done z.tasks) + value_sum
-        (filter is_done (after (ready_part z) n).tasks)) is (done_after J part.valid J.rules z part.keeps)
+    done_is = done_then k z part.keeps.sound m deed
         ∙ ap (λ l. value_sum (filter is_done z.tasks) + value_sum (filter is_done l)) (after_change (ready_part z) m)
+
+  -- so after a step
+  pub part_moves : (q : Parted) (m : Move) (worth : ℕ) → open_step J.rules z ≡ m → q.version ≡ p.version
+      → (after z m).clock ≡ q.clock
+      → Leaves (change m) (ready_of p) (ready_of q) worth
+      → PartOf q J (after z m)
+      × (value_sum (filter is_done (after z m).tasks) ≡ value_sum (filter is_done z.tasks) + worth)
+  part_moves q m worth is = part_does J.rules.ratio q m worth
+      (subst (Deed J.rules.ratio z Ticks) is (open_deed J part.valid z part.keeps J.rules))
 
 -- ---- silent ticks
 

@@ -14,6 +14,8 @@ mod ChangedRows
 pub mod Following
 pub mod Silences
 pub mod Courses
+pub mod NextTicks
 pub mod Spending
 pub mod Keeping
 pub mod Releasing
+pub mod Runners

@@ -1,21 +1,28 @@
 -- The ready jobs at any place of a run: what step comes, and a job that is released.
-use Rattle.std.proofs.Common.{◌≡◌, ℕ, ◌≤◌, [], ◌∷◌, ◌++◌, inl, inr, refl, sym, ap, ◌∙◌, subst, false, arith}
+use Rattle.std.proofs.Common.{◌≡◌, ℕ, ◌≤◌, ◌<◌, [], ◌∷◌, ◌++◌, inl, inr, length, refl, sym, ap, ◌∙◌, subst, true, false}
+use Rattle.std.proofs.Common.{arith}
 use Rattle.std.specs.Prelude.{None}
 use Rattle.std.specs.List.{filter}
 use Rattle.std.proofs.lemmas.List.{append-nil, length-append}
 use Rattle.std.proofs.lemmas.List.Elements.{filter-append}
 use Rattle.dover_model.specs.Limits.{last_tick}
 use Rattle.dover_model.specs.JobFacts.{JobFacts}
-use Rattle.dover_model.specs.Instance.{Rules, under, Instance, IsValid}
-use Rattle.dover_model.specs.State.{State, is_coming, is_done, value_sum, state_at}
+use Rattle.dover_model.specs.Finishes.{Finish}
+use Rattle.dover_model.specs.declared.events.Task.{Task}
+use Rattle.dover_model.specs.Instance.{Rules, under, bare, Instance, IsValid, finishing}
+use Rattle.dover_model.specs.State.{State, is_coming, is_done, is_over, value_sum, state_at}
 use Rattle.dover_model.specs.Step.{open_step}
-use Rattle.dover_model.specs.Sound.{Each, Keeps}
+use Rattle.dover_model.specs.Sound.{IsMember, Each, Keeps}
+use Rattle.dover_model.proofs.Honest.{count_jobs}
+use Rattle.dover_model.proofs.Meeting.{finishing_valid}
+use Rattle.dover_model.proofs.Further.{over_open}
 use Rattle.dover_model.specs.Ready.{is_ready, with_fresh}
 use Rattle.ready_jobs.specs.Reordered.{IsReordered}
 use Rattle.ready_jobs.specs.Parts.{Parted}
 use Rattle.ready_jobs.specs.Course.{Course, Follows, fresh_job, with_release}
 use Rattle.ready_jobs.proofs.Reordering.{same_order, both_parts, each_both}
 use Rattle.ready_jobs.proofs.Following.{part_step}
+use Rattle.ready_jobs.proofs.Courses.{follows_count}
 
 module _ (c : Course) (J : Instance) (z : State) (follows : Follows c J z) where
   -- the ready jobs, all in one part
@@ -33,14 +40,15 @@ module _ (c : Course) (J : Instance) (z : State) (follows : Follows c J z) where
   -- the next open step is that of all jobs
   pub follows_opens : open_step (under c.rules []) (state_at c.clock c.ready) ≡ open_step J.rules z
   follows_opens = ap (λ r. open_step r (state_at c.clock c.ready)) (sym follows.rules)
-      ∙ part_step together J z (record {
-        valid = follows.valid;
-        keeps = follows.keeps;
+      ∙ part_step together (finishing J []) z (record {
+        valid = finishing_valid J [] follows.valid;
+        keeps = record { sound = follows.keeps.sound; jobs = follows.keeps.jobs };
         version = ap (λ (r : Rules). r.version) follows.rules;
         clock = follows.clock;
         ready = follows.ready;
         released = follows.released;
       })
+      ∙ sym (over_open J.rules z follows.over)
 
   module _ (K : Instance) (j : JobFacts) (room : ℕ) (rules : K.rules ≡ J.rules) (valid : IsValid K)
       (keeps : Keeps K (with_fresh (state_at j.release z.tasks) c.jobs j)) (known : j.release ≤ last_tick) where
@@ -49,7 +57,20 @@ module _ (c : Course) (J : Instance) (z : State) (follows : Follows c J z) where
     release_follows = record {
       valid = valid;
       keeps = keeps;
-      rules = rules ∙ follows.rules;
+      rules = ap bare rules ∙ follows.rules;
+      own = λ f m.
+          let of_before : f.number < c.jobs = own_before f m in
+          omega (
+            arith,
+            count_jobs (z.tasks ++ fresh_job c j ∷ []),
+            ap length keeps.jobs,
+            length-append z.tasks (fresh_job c j ∷ []),
+            follows.jobs,
+          );
+      over = λ f m.
+          let of_before : f.number < c.jobs = own_before f m in
+          each_both (λ t. t.number ≡ f.number → is_over t ≡ true) z.tasks (fresh_job c j ∷ [])
+          (follows.over f (subst (λ (r : Rules). IsMember f r.finishes) rules m)) (not_fresh f of_before);
       clock = refl;
       ready = subst (λ ts. IsReordered ts (c.ready ++ fresh_job c j ∷ []))
           (sym (filter-append is_ready z.tasks (fresh_job c j ∷ [])))
@@ -61,6 +82,21 @@ module _ (c : Course) (J : Instance) (z : State) (follows : Follows c J z) where
       known = known;
       released = each_both (λ t. is_coming t ≡ false) z.tasks (fresh_job c j ∷ []) follows.released one_fresh;
     } where
+      -- each finish is of a job that was there before
+      own_before : (f : Finish) → IsMember f K.rules.finishes → f.number < c.jobs
+      own_before f m = omega (
+        arith,
+        follows.own f (subst (λ (r : Rules). IsMember f r.finishes) rules m),
+        follows_count c J z follows,
+      )
+
+      -- so none is of the new one
+      not_fresh : (f : Finish) → f.number < c.jobs
+          → Each (λ t. t.number ≡ f.number → is_over t ≡ true) (fresh_job c j ∷ [])
+      not_fresh f low t (inr m) same = absurd m
+      not_fresh f low t (inl e) same =
+          let is : t.number ≡ c.jobs = ap (λ (u : Task). u.number) e in absurd (omega (arith, same, low, is))
+
       one_fresh : Each (λ t. is_coming t ≡ false) (fresh_job c j ∷ [])
       one_fresh t (inl e) = subst (λ u. is_coming u ≡ false) (sym e) refl
       one_fresh t (inr m) = absurd m

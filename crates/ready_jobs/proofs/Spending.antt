@@ -1,25 +1,33 @@
 -- What a course has cost: as much as the run that it is kept of.
 use Rattle.std.proofs.Common.{◌≡◌, ℕ, ◌+◌, ◌-◌, ◌*◌, ◌≤◌, ◌<◌, ◌^◌, inl, inr, List, [], ◌∷◌, ◌++◌, length, sym, ap}
-use Rattle.std.proofs.Common.{refl, ◌∙◌, subst, true, arith}
+use Rattle.std.proofs.Common.{refl, ◌∙◌, subst, Bool, true, false, arith}
 use Rattle.std.specs.List.{sum_by}
-use Rattle.std.proofs.lemmas.List.Sums.{length-filter}
+use Rattle.std.specs.Prelude.{◌==◌, None}
+use Rattle.std.specs.Option.{option_to_list}
+use Rattle.std.proofs.lemmas.Bool.{eqb-true, eq-eqb}
+use Rattle.std.proofs.lemmas.List.Sums.{length-filter, sum_by-append}
 use Rattle.std.proofs.lemmas.Nat.{mul-le}
 use Rattle.dover_model.specs.Instance.{bare}
-use Rattle.dover_model.specs.WaitingMoves.{leaves}
-use Rattle.dover_model.proofs.Finishing.{plain_open_step}
+use Rattle.dover_model.proofs.Further.{over_open}
+use Rattle.dover_model.proofs.OverPaths.{idles_over}
+use Rattle.dover_model.proofs.FreelySpending.{exits_least, freely_so_far, freely_spent, idles_free, idles_wait}
+use Rattle.dover_model.proofs.Members.{sum_zero}
+use Rattle.dover_model.proofs.Tests.{never}
 use Rattle.dover_model.specs.declared.events.Event.{Event}
 use Rattle.dover_model.specs.declared.events.Task.{Task}
 use Rattle.dover_model.specs.Fraction.{Fraction}
 use Rattle.dover_model.specs.JobFacts.{JobFacts}
-use Rattle.dover_model.specs.Instance.{Rules, Instance, IsValid}
+use Rattle.dover_model.specs.declared.events.Role.TheVariants.{Running}
+use Rattle.dover_model.specs.Instance.{Instance, IsValid, finishing}
 use Rattle.dover_model.specs.Sound.{Keeps}
 use Rattle.dover_model.specs.State.{State, is_waiting, is_over, state_at}
 use Rattle.dover_model.specs.Step.{Move, Prints, open_step, after, with_role}
 use Rattle.dover_model.specs.Run.{Step}
 use Rattle.dover_model.proofs.Kept.{open_kept}
 use Rattle.dover_model.specs.Weights.{one_if, weight, weight_in, standing, stands}
-use Rattle.dover_model.proofs.Roles.{is_over_role}
+use Rattle.dover_model.proofs.Roles.{is_over_role, passes}
 use Rattle.dover_model.specs.Spending.{exits_scale, waiting_count, cost_of, exits, waits_among, HasSpentFor}
+use Rattle.dover_model.specs.Spending.{exits_freely, HasSpentFreely}
 use Rattle.dover_model.specs.Spending.{CostsAtMost}
 use Rattle.dover_model.proofs.WaitingMoves.{open_leaves}
 use Rattle.dover_model.proofs.Spending.{so_far_for, spent_few, spent_on, spent_more, open_falls, open_pays}
@@ -28,7 +36,7 @@ use Rattle.ready_jobs.specs.Reordered.{IsReordered}
 use Rattle.ready_jobs.specs.Parts.{Parted, HaveRoles, ready_of, state_of}
 use Rattle.ready_jobs.specs.Changed.{Leaves}
 use Rattle.ready_jobs.specs.Course.{Course, Follows, IsCourse, Reached, course_of, fresh_job, with_release}
-use Rattle.ready_jobs.specs.Spending.{HasPaid}
+use Rattle.ready_jobs.specs.Spending.{HasPaid, HasPaidFreely}
 use Rattle.ready_jobs.proofs.Costing.{sum_ready, over_not_waiting, fewer_wait, cost_whole}
 use Rattle.ready_jobs.proofs.Courses.{follows_count, follows_fewer, follows_part, follows_step, course_takes}
 use Rattle.ready_jobs.proofs.Seeing.{waiting_list}
@@ -95,24 +103,18 @@ module _ (c : Course) (J : Instance) (z : State) (follows : Follows c J z) where
 -- ---- silent steps
 
 -- what may still come falls, by each job that ceases to wait
-idles_fall : (J : Instance) → J.rules.finishes ≡ [] → IsValid J → (xs : List Step) (s u : State) → Keeps J s → Idles J.rules s xs u
+idles_fall : (J : Instance) → IsValid J → (xs : List Step) (s u : State) → Keeps J s → Idles (bare J.rules) s xs u
     → (exits u ≤ exits s) × (exits u + waiting_count s ≤ exits s + waiting_count u)
-idles_fall J plain valid [] s u keeps same =
+idles_fall J valid [] s u keeps same =
     subst (λ v. (exits v ≤ exits s) × (exits v + waiting_count s ≤ exits s + waiting_count v)) same
     (omega arith, omega arith)
-idles_fall J plain valid (x ∷ xs) s u keeps idles =
-    let y : State = after s (open_step J.rules s) in
+idles_fall J valid (x ∷ xs) s u keeps idles =
+    let y : State = after s (open_step (bare J.rules) s) in
     let rest : (exits u ≤ exits y) × (exits u + waiting_count y ≤ exits y + waiting_count u) =
-    idles_fall J plain valid xs y u (open_kept J valid s keeps J.rules) idles.3 in (
-      omega (arith, here.0, rest.0),
-      omega (arith, here.1, rest.1),
-    ) where
-      here : (leaves s (open_step J.rules s) + exits (after s (open_step J.rules s)) ≤ exits s)
-          × (exits (after s (open_step J.rules s)) + waiting_count s ≤ exits s + waiting_count (after s (open_step J.rules s)))
-      here = subst (λ m. (leaves s m + exits (after s m) ≤ exits s)
-          × (exits (after s m) + waiting_count s ≤ exits s + waiting_count (after s m)))
-          (sym (plain_open_step J.rules s plain))
-          (open_leaves J valid (bare J.rules) s keeps (λ _ _ _. refl), open_falls J valid J.rules s keeps)
+    idles_fall J valid xs y u (open_kept J valid s keeps (bare J.rules)) idles.3 in (
+      omega (arith, open_leaves J valid (bare J.rules) s keeps (λ _ _ _. refl), rest.0),
+      omega (arith, open_falls J valid J.rules s keeps, rest.1),
+    )
 
 -- 2 * d for each that waits more is paid by that
 more_pays : (d n ev eu wv wu mv mu t before now : ℕ) → eu ≤ ev → eu + wv ≤ ev + wu → t ≡ wu - wv
@@ -136,7 +138,8 @@ module _ (k : Fraction) (p q : Parted) (jobs done mark : ℕ) (m : Move) (roles 
   silent_pays before now cost start paid =
       let c : Course = course_of k p jobs done in
       let u : State = reached.state in
-      let falls = idles_fall old.0 (ap (λ (r : Rules). r.finishes) old.2.rules) old.2.valid reached.idles.0 old.1 u old.2.keeps reached.idles.1 in
+      let falls = idles_fall old.0 old.2.valid reached.idles.0 old.1 u old.2.keeps
+      (idles_over old.0 old.2.valid reached.idles.0 old.1 u old.2.keeps old.2.over reached.idles.1) in
       spent_paid (course_of k q jobs done) old.0 u reached.follows start now
       (spent_on jobs old.1 u start before now
       (λ d enough. more_pays d jobs (exits old.1) (exits u) (waiting_count old.1) (waiting_count u)
@@ -149,6 +152,119 @@ module _ (k : Fraction) (p q : Parted) (jobs done mark : ℕ) (m : Move) (roles 
       (cost d (let fewer = fewer_wait p in let ready = follows_fewer c old.0 old.1 old.2 in
       omega (arith, enough, fewer, ready))))
       (paid_spent c old.0 old.1 old.2 start before paid))
+
+-- ---- whatever finishes
+
+-- what is paid freely is paid
+pub freely_paid : (c : Course) (start now : ℕ) → HasPaidFreely c start now → HasPaid c start now
+freely_paid c start now paid = freely_spent c.jobs (state_at c.clock c.ready) start now paid
+
+module _ (c : Course) (J : Instance) (z : State) (follows : Follows c J z) where
+  -- what may still come is that of all jobs
+  same_freely : exits_freely (state_at c.clock c.ready) ≡ exits_freely z
+  same_freely = ap (λ n. sum_by (weight exits_scale n 0) c.ready) (sym follows.clock)
+      ∙ weighs_same c J z follows (weight exits_scale z.clock 0) (over_weighs z.clock 0)
+
+  -- so is what has come
+  freely_same : (4 * c.jobs + waiting_count (state_at c.clock c.ready)) - 2 * exits_freely (state_at c.clock c.ready)
+      ≡ (4 * c.jobs + waiting_count z) - 2 * exits_freely z
+  freely_same = ap (λ w. (4 * c.jobs + w) - 2 * exits_freely (state_at c.clock c.ready)) (same_waiting c J z follows)
+      ∙ ap (λ e. (4 * c.jobs + waiting_count z) - 2 * e) same_freely
+
+  module _ (start now : ℕ) where
+    paid_freely : HasPaidFreely c start now → HasSpentFreely c.jobs z start now
+    paid_freely paid = λ d enough. subst (λ m. now ≤ start + 20 * d * m) freely_same (paid d enough)
+
+    freely_then : HasSpentFreely c.jobs z start now → HasPaidFreely c start now
+    freely_then spent = λ d enough. subst (λ m. now ≤ start + 20 * d * m) (sym freely_same) (spent d enough)
+
+module _ (k : Fraction) (p q : Parted) (jobs done mark : ℕ) (m : Move) (roles : HaveRoles p) (roles_then : HaveRoles q)
+    (old : IsCourse (course_of k p jobs done)) (reached : Reached (course_of k q jobs done) old.0 old.1 mark m)
+    (before now : ℕ)
+    (cost : (d : ℕ) → length p.waiting + 1 < 2 ^ d → now ≤ before + 2 * d * (length q.waiting - length p.waiting)) where
+  abbrev then : State
+  then = reached.state
+
+  -- silent steps, where so much had come before them
+  module _ (start was most : ℕ) (so_far : was + 2 * most ≡ 4 * jobs + waiting_count old.1)
+      (low : exits_freely then ≤ most)
+      (spent : (d : ℕ) → jobs + 1 < 2 ^ d → before ≤ start + 20 * d * was) where
+    by_silence : HasPaidFreely (course_of k q jobs done) start now
+    by_silence =
+        let c : Course = course_of k p jobs done in
+        let grown : waiting_count old.1 ≤ waiting_count then =
+        idles_wait old.0 old.2.valid old.0.rules reached.idles.0 old.1 then reached.idles.1 in
+        freely_then (course_of k q jobs done) old.0 then reached.follows start now
+        (λ d enough. joins (20 * d * was) (20 * d * ((4 * jobs + waiting_count then) - 2 * exits_freely then))
+        (spent d enough) (more_pays d jobs most (exits_freely then) (waiting_count old.1) (waiting_count then)
+        was ((4 * jobs + waiting_count then) - 2 * exits_freely then) (length q.waiting - length p.waiting) before now
+        low (omega (arith, low, grown))
+        (ap (λ n. n - length p.waiting) (sym (count_waiting q roles_then)
+        ∙ same_waiting (course_of k q jobs done) old.0 then reached.follows)
+        ∙ ap (λ n. waiting_count then - n) (sym (count_waiting p roles) ∙ same_waiting c old.0 old.1 old.2))
+        so_far (freely_so_far jobs then reached.follows.jobs)
+        (cost d (let fewer = fewer_wait p in let ready = follows_fewer c old.0 old.1 old.2 in
+        omega (arith, enough, fewer, ready))))) where
+          joins : (a b : ℕ) → before ≤ start + a → now + a ≤ before + b → now ≤ start + b
+          joins a b first second = omega (arith, first, second)
+
+  -- where a tick was the last of them, or none was taken and it held before, they are paid for whatever finishes now
+  pub silent_frees : (start : ℕ) → HasPaid (course_of k p jobs done) start before
+      → (q.clock ≡ p.clock → HasPaidFreely (course_of k p jobs done) start before)
+      → HasPaidFreely (course_of k q jobs done) start now
+  silent_frees start paid freely = by_clock (q.clock == p.clock) refl where
+    c : Course
+    c = course_of k p jobs done
+
+    idles : Idles (bare old.0.rules) old.1 reached.idles.0 then
+    idles = idles_over old.0 old.2.valid reached.idles.0 old.1 then old.2.keeps old.2.over reached.idles.1
+
+    by_clock : (b : Bool) → (q.clock == p.clock) ≡ b → HasPaidFreely (course_of k q jobs done) start now
+    by_clock true e =
+        let spent : HasSpentFreely jobs old.1 start before =
+        paid_freely c old.0 old.1 old.2 start before (freely (eqb-true _ _ e)) in
+        by_silence start ((4 * jobs + waiting_count old.1) - 2 * exits_freely old.1) (exits_freely old.1)
+        (freely_so_far jobs old.1 old.2.jobs)
+        (idles_free old.0 old.2.valid old.0.rules reached.idles.0 old.1 then old.2.keeps idles (exits_freely old.1)
+        (exits_least old.1) (λ _. omega arith)) spent
+    by_clock false e =
+        let spent : HasSpentFor jobs old.1 start before = paid_spent c old.0 old.1 old.2 start before paid in
+        by_silence start (waits_among jobs old.1) (exits old.1) (so_far_for jobs old.1 old.2.jobs)
+        (idles_free old.0 old.2.valid old.0.rules reached.idles.0 old.1 then old.2.keeps idles (exits old.1)
+        (omega arith) (λ same. never (sym e ∙ eq-eqb q.clock p.clock
+        (sym reached.follows.clock ∙ same ∙ old.2.clock)))) spent
+
+-- a job that finishes costs nothing
+pub finish_pays : (k : Fraction) (p : Parted) (jobs done worth : ℕ) → HaveRoles p → (start now : ℕ)
+    → HasPaidFreely (course_of k p jobs done) start now
+    → HasPaid (course_of k (record p { running = None }) jobs (done + worth)) start now
+finish_pays k p jobs done worth roles start now paid =
+    freely_paid (course_of k (record p { running = None }) jobs (done + worth)) start now
+    (λ d enough. joins (20 * d * was) (20 * d * is) (paid d enough)
+    (mul-le (20 * d) was (20 * d) is (omega arith) grows)) where
+      rest : List Task
+      rest = option_to_list p.fresh ++ (p.held ++ p.waiting)
+
+      was : ℕ
+      was = (4 * jobs + waiting_count (state_of p)) - 2 * exits_freely (state_of p)
+
+      is : ℕ
+      is = (4 * jobs + waiting_count (state_at p.clock rest)) - 2 * exits_freely (state_at p.clock rest)
+
+      none_waits : sum_by (λ t. one_if (is_waiting t)) (option_to_list p.running) ≡ 0
+      none_waits = sum_zero (λ t. one_if (is_waiting t)) (option_to_list p.running)
+          (λ t m. ap one_if (passes is_waiting t Running false (roles.running t m) refl))
+
+      grows : was ≤ is
+      grows = by_numbers (waiting_count (state_of p)) (waiting_count (state_at p.clock rest))
+          (exits_freely (state_of p)) (exits_freely (state_at p.clock rest))
+          (omega (arith, none_waits, sum_by-append (λ t. one_if (is_waiting t)) (option_to_list p.running) rest))
+          (omega (arith, sum_by-append (weight exits_scale p.clock 0) (option_to_list p.running) rest)) where
+            by_numbers : (w v e f : ℕ) → w ≡ v → f ≤ e → (4 * jobs + w) - 2 * e ≤ (4 * jobs + v) - 2 * f
+            by_numbers w v e f same less = omega (arith, same, less)
+
+      joins : (a b : ℕ) → now ≤ start + a → a ≤ b → now ≤ start + b
+      joins a b first second = omega (arith, first, second)
 
 -- ---- printed steps
 
@@ -166,8 +282,8 @@ module _ (k : Fraction) (p q : Parted) (jobs done worth : ℕ) (e : Event)
       let c : Course = course_of k p jobs done in
       let J : Instance = old.0 in
       let z : State = old.1 in
-      let plain : J.rules.finishes ≡ [] = ap (λ (r : Rules). r.finishes) old.2.rules in
-      let is : open_step (bare J.rules) z ≡ Prints e = sym (plain_open_step J.rules z plain) ∙ sym (follows_step k p jobs done J z old.2) ∙ prints in
+      let is : open_step (bare J.rules) z ≡ Prints e =
+      sym (over_open J.rules z old.2.over) ∙ sym (follows_step k p jobs done J z old.2) ∙ prints in
       spent_paid (course_of k q jobs (done + worth)) J (after z (Prints e))
       (course_takes k p q jobs done worth e prints version clock leaves J z old.2) start now
       (subst (λ m. HasSpentFor jobs (after z m) start now) is
@@ -177,7 +293,7 @@ module _ (k : Fraction) (p q : Parted) (jobs done worth : ℕ) (e : Event)
       (open_pays J old.2.valid J.rules z old.2.keeps d before now
       (subst (λ n. now ≤ before + n)
       (ap (cost_of d (state_of p)) (sym is)
-      ∙ cost_whole p J z (follows_part k p jobs done J z old.2) (bare J.rules) d)
+      ∙ cost_whole p (finishing J []) z (follows_part k p jobs done J z old.2) (bare J.rules) d)
       (cost d (let fewer = follows_fewer c J z old.2 in omega (arith, enough, fewer))))))
       (paid_spent c J z old.2 start before paid)))
 

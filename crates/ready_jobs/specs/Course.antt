@@ -4,15 +4,17 @@ use Rattle.std.specs.Prelude.{None}
 use Rattle.std.specs.List.{filter}
 use Rattle.dover_model.specs.Limits.{last_tick}
 use Rattle.dover_model.specs.declared.events.Event.{Event}
+use Rattle.dover_model.specs.declared.events.Event.TheVariants as event
 use Rattle.dover_model.specs.declared.events.Role.TheVariants.{Fresh}
 use Rattle.dover_model.specs.declared.events.Task.{Task}
 use Rattle.dover_model.specs.Fraction.{Fraction}
 use Rattle.dover_model.specs.JobFacts.{JobFacts}
-use Rattle.dover_model.specs.Instance.{Declaration, under, Instance, IsValid}
-use Rattle.dover_model.specs.State.{State, is_coming, is_done, value_sum, state_at}
+use Rattle.dover_model.specs.Instance.{Declaration, under, bare, Instance, IsValid, with_finishes}
+use Rattle.dover_model.specs.State.{State, is_coming, is_done, running, value_sum, state_at}
 use Rattle.dover_model.specs.Step.{Move, Prints, open_step, after, view}
+use Rattle.dover_model.specs.Rest.{AreOwn}
 use Rattle.dover_model.specs.Run.{Step}
-use Rattle.dover_model.specs.Settled.{waits_for_mark}
+use Rattle.dover_model.specs.Settled.{waits_for_mark, AreOverFor, finish_now}
 use Rattle.dover_model.specs.Sound.{Each, Keeps}
 use Rattle.dover_model.specs.WholeRun.{IsBefore}
 use Rattle.dover_model.specs.Leading.{Idles, IsSilent, GoesOn, WaitsUntil, PrintsNext}
@@ -43,11 +45,13 @@ course_of ratio p jobs done = record {
   room = p.room;
 }
 
--- it is kept of these jobs in this state, in which none is to come
+-- it is kept of these jobs in this state, in which none is to come; those that finish early are some of them, and over
 pub record Follows (c : Course) (J : Instance) (z : State) : Type 0 where
   pub valid : IsValid J
   pub keeps : Keeps J z
-  pub rules : J.rules ≡ under c.rules []
+  pub rules : bare J.rules ≡ under c.rules []
+  pub own : AreOwn J
+  pub over : AreOverFor J.rules.finishes z
   pub clock : z.clock ≡ c.clock
   pub ready : IsReordered (filter is_ready z.tasks) c.ready
   pub jobs : length z.tasks ≡ c.jobs
@@ -91,10 +95,10 @@ pub record Reached (c : Course) (J : Instance) (z : State) (mark : ℕ) (m : Mov
   pub waits : (waits_for_mark m && nat_le mark c.clock) ≡ true
       → WaitsUntil J.rules mark z (record { clock = mark; tasks = state.tasks })
 
--- what comes before the mark: this printed step, or nothing
+-- what comes before the mark: this printed step, or nothing, and then the clock is at the mark if some job isn't over
 abbrev pub Comes : Instance → State → ℕ → State → Option Event → Type 0
 Comes J z mark y (Some e) = (open_step J.rules y ≡ Prints e) × IsBefore J.rules mark y × GoesOn y
-Comes J z mark y None = WaitsUntil J.rules mark z (record { clock = mark; tasks = y.tasks })
+Comes J z mark y None = WaitsUntil J.rules mark z (state_at mark y.tasks) × (GoesOn y → y.clock ≡ mark)
 
 -- the state to which silent steps have led, and what comes there before the mark
 pub record Settled (c : Course) (J : Instance) (z : State) (mark : ℕ) (next : Option Event) : Type 0 where
@@ -127,6 +131,21 @@ abbrev pub StepsBefore : Course → ℕ → Course → Option Event → Type 0
 StepsBefore c mark d None = SettlesAt c mark d None × (d.clock ≤ mark)
 StepsBefore c mark d (Some e) = (there : Course) × SettlesAt c mark there (Some e) × (there.clock ≤ mark)
     × Passes there e d
+
+-- wherever the course is kept of, the job of this number runs; where it finishes there, the other course is kept
+abbrev pub Finishes : Course → (number : ℕ) → Course → Type 0
+Finishes c number d = (J : Instance) (z : State) → Follows c J z →
+    (r : Task) × (running z ≡ Some r) × (r.number ≡ number)
+    × Follows d (with_finishes J (finish_now r ∷ [])) (after z (Prints (event.Complete z.clock number)))
+
+-- nowhere does the job of this number run
+abbrev pub RunsNowhere : Course → (number : ℕ) → Type 0
+RunsNowhere c number = (J : Instance) (z : State) → Follows c J z → (r : Task) → running z ≡ Some r
+    → r.number ≡ number → ⊥
+
+-- wherever the course is kept of, the job of this number runs
+abbrev pub Runs : Course → (number : ℕ) → Type 0
+Runs c number = (J : Instance) (z : State) → Follows c J z → (r : Task) × (running z ≡ Some r) × (r.number ≡ number)
 
 -- the deed is the open step of the ready jobs, which prints e
 pub record IsDue (c : Course) (deed : Deed) (e : Event) : Type 0 where

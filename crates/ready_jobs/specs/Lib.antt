@@ -10,4 +10,5 @@ pub mod Changed
 pub mod Deeds
 pub mod Following
 pub mod Course
+pub mod NextTick
 pub mod Spending

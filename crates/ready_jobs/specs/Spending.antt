@@ -1,7 +1,7 @@
 -- What the comparisons of a course are for.
 use Rattle.std.specs.Prelude.{ℕ, ◌≤◌, ◌<◌, ◌+◌, ◌*◌, ◌^◌, List, length, Option, Some, None}
 use Rattle.dover_model.specs.State.{state_at, is_held}
-use Rattle.dover_model.specs.Spending.{HasSpentFor}
+use Rattle.dover_model.specs.Spending.{HasSpentFor, HasSpentFreely}
 use Rattle.std.specs.List.{filter}
 use Rattle.dover_model.specs.declared.events.Event.{Event}
 use Rattle.dover_model.specs.declared.events.Event.TheVariants.{Take}
@@ -11,6 +11,15 @@ use Rattle.ready_jobs.specs.Course.{Course}
 -- up to here each time that one of the jobs released so far began or ceased to wait cost 20 * d comparisons at most
 abbrev pub HasPaid : Course → (start now : ℕ) → Type 0
 HasPaid c start now = HasSpentFor c.jobs (state_at c.clock c.ready) start now
+
+-- the same, even where the running job finishes now
+abbrev pub HasPaidFreely : Course → (start now : ℕ) → Type 0
+HasPaidFreely c start now = HasSpentFreely c.jobs (state_at c.clock c.ready) start now
+
+-- the same where the last step was printed at this tick: the running job may finish till one is printed at the clock
+pub record HasPaidSince (c : Course) (last start now : ℕ) : Type 0 where
+  pub paid : HasPaid c start now
+  pub freely : last < c.clock → HasPaidFreely c start now
 
 -- how many held jobs wait again by a step: all of them by a take
 abbrev pub wait_again : Event → List Task → ℕ

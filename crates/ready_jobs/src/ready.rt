@@ -1,22 +1,22 @@
 //! The run of the jobs that were released so far, over those that are ready.
-ghost use Rattle.std.specs.Prelude.{◌≡◌, ◌≢◌, ◌↔◌, ◌≤◌, ◌<◌, ◌+◌, ◌∷◌, [], ◌++◌, ℕ, ◌&&◌, nat_le, min, max, length, true};
-ghost use Rattle.std.specs.Prelude.{false, IsTrue, IfOk, IsOk, OnOk, OnErr, IfSome, option_map};
 ghost use Rattle.std.specs.Prelude.{◌≡◌, ◌≢◌, ◌↔◌, ◌≤◌, ◌<◌, ◌+◌, ◌*◌, ◌^◌, ◌∷◌, [], ◌++◌, ℕ, ◌&&◌, nat_le, min};
-ghost use Rattle.std.specs.Prelude.{length, true, false, IsTrue, IfOk, IsOk, OnOk, OnErr, IfSome, Some, option_map};
+ghost use Rattle.std.specs.Prelude.{max, length, true, false, IsTrue, IfOk, IsOk, OnOk, OnErr, IfSome, IsNone, Some};
+ghost use Rattle.std.specs.Prelude.{None, option_map};
 ghost use Rattle.dover_model.specs.declared.events.Event.{Event};
 ghost use Rattle.dover_model.specs.declared.events.Event.TheVariants.{End};
 ghost use Rattle.dover_model.specs.Limits.{last_tick, most_jobs, most_total};
 ghost use Rattle.dover_model.specs.Instance.{Instance, under};
-ghost use Rattle.dover_model.specs.State.{State, state_at};
 ghost use Rattle.std.specs.List.{filter};
-ghost use Rattle.dover_model.specs.State.{State, is_held};
+ghost use Rattle.dover_model.specs.State.{State, state_at, is_held};
 ghost use Rattle.dover_model.specs.Step.{Prints, open_step, view};
 ghost use Rattle.dover_model.specs.Settled.{waits_for_mark};
 ghost use Rattle.ready_jobs.specs.Reordered.{IsReordered};
 ghost use Rattle.ready_jobs.specs.Course.{Course, Follows, IsCourse, Reached, Settled, new_course, fresh_job, IsDue};
 ghost use Rattle.ready_jobs.specs.Course.{SettlesAt, StepsBefore, ComesNext, Passes, Takes, with_release};
+ghost use Rattle.ready_jobs.specs.Course.{Finishes, Runs, RunsNowhere};
 ghost use Rattle.ready_jobs.specs.Deeds.{Finds, step_at};
-ghost use Rattle.ready_jobs.specs.Spending.{HasPaid, CostsOnce, wait_again};
+ghost use Rattle.ready_jobs.specs.NextTick.{IsUnderWay, PrintsAt};
+ghost use Rattle.ready_jobs.specs.Spending.{HasPaid, HasPaidFreely, CostsOnce, wait_again};
 
 use crate::deeds::{Deed, Due, event_at, prints};
 use crate::parts::Parts;
@@ -146,6 +146,20 @@ impl Ready {
         self.done
     }
 
+    /// The tick at which the run prints its next step, where no further job comes. None where no job is ready. It is
+    /// known where no job is fresh, and one runs where any is ready.
+    pub fn next(&self) -> Option<u64>
+        ensures none { IsNone result ↔ (self.now.ready ≡ []) }
+        ensures at { IfSome result (λ tick. IsUnderWay self.now → PrintsAt self.now tick) }
+    {
+        if self.parts.is_empty() {
+            return None;
+        }
+        self.parts.laws();
+        let clock = self.parts.clock();
+        Some(clock + self.parts.silent_ticks(LAST_TICK - clock))
+    }
+
     /// The rules, where no job was released yet.
     pub fn declare(&mut self, version: Version, ratio: Ratio)
         requires { self.old.jobs ≡ 0 }
@@ -182,6 +196,9 @@ impl Ready {
         ensures fewer { length self.new.ready ≡ length self.old.ready }
         ensures low { self.new.clock ≤ mark }
         ensures paid { (start : ℕ) → HasPaid self.old start steps.old → HasPaid self.new start steps.new }
+        ensures freely { (start : ℕ) → HasPaid self.old start steps.old
+            → (self.new.clock ≡ self.old.clock → HasPaidFreely self.old start steps.old)
+            → HasPaidFreely self.new start steps.new }
         ensures once { (d : ℕ) → length self.old.ready + 1 < 2 ^ d → steps.new ≤ steps.old + 4 * d }
         ensures held { filter is_held self.new.ready ≡ filter is_held self.old.ready }
     {
@@ -202,6 +219,9 @@ impl Ready {
         ensures fewer { length self.new.ready ≡ length self.old.ready }
         ensures low { self.new.clock ≤ mark }
         ensures paid { (start : ℕ) → HasPaid self.old start steps.old → HasPaid self.new start steps.new }
+        ensures freely { (start : ℕ) → HasPaid self.old start steps.old
+            → (self.new.clock ≡ self.old.clock → HasPaidFreely self.old start steps.old)
+            → HasPaidFreely self.new start steps.new }
         ensures once { (d : ℕ) → length self.old.ready + 1 < 2 ^ d → steps.new ≤ steps.old + 4 * d }
         ensures held { filter is_held self.new.ready ≡ filter is_held self.old.ready }
     {
@@ -231,6 +251,9 @@ impl Ready {
         ensures kept { self.new ≡ record self.old { clock = self.new.clock; ready = self.new.ready } }
         ensures fewer { length self.new.ready ≡ length self.old.ready }
         ensures paid { (start : ℕ) → HasPaid self.old start steps.old → HasPaid self.new start steps.new }
+        ensures freely { (start : ℕ) → HasPaid self.old start steps.old
+            → (self.new.clock ≡ self.old.clock → HasPaidFreely self.old start steps.old)
+            → HasPaidFreely self.new start steps.new }
         ensures once { (d : ℕ) → length self.old.ready + 1 < 2 ^ d → steps.new ≤ steps.old + 4 * d }
         ensures held { filter is_held self.new.ready ≡ filter is_held self.old.ready }
     {
@@ -268,6 +291,9 @@ impl Ready {
         ensures fewer { length self.new.ready ≡ length self.old.ready }
         ensures low { self.new.clock ≤ mark }
         ensures paid { (start : ℕ) → HasPaid self.old start steps.old → HasPaid self.new start steps.new }
+        ensures freely { (start : ℕ) → HasPaid self.old start steps.old
+            → (self.new.clock ≡ self.old.clock → HasPaidFreely self.old start steps.old)
+            → HasPaidFreely self.new start steps.new }
     {
         match self.due_before(mark, steps) {
             Some(due) => Some(due.event),
@@ -288,6 +314,9 @@ impl Ready {
         } }
         ensures fewer { length self.new.ready ≤ length self.old.ready }
         ensures paid { (start : ℕ) → HasPaid self.old start steps.old → HasPaid self.new start steps.new }
+        ensures freely { result ≡ None → (start : ℕ) → HasPaid self.old start steps.old
+            → (self.new.clock ≡ self.old.clock → HasPaidFreely self.old start steps.old)
+            → HasPaidFreely self.new start steps.new }
         ensures once { CostsOnce self.old result steps.old steps.new }
     {
         match self.due_before(mark, steps) {
@@ -306,6 +335,9 @@ impl Ready {
         ensures kept { self.new ≡ record self.old { clock = self.new.clock; ready = self.new.ready } }
         ensures fewer { length self.new.ready ≡ length self.old.ready }
         ensures paid { (start : ℕ) → HasPaid self.old start steps.old → HasPaid self.new start steps.new }
+        ensures freely { (start : ℕ) → HasPaid self.old start steps.old
+            → (self.new.clock ≡ self.old.clock → HasPaidFreely self.old start steps.old)
+            → HasPaidFreely self.new start steps.new }
     {
         if self.parts.is_empty() {
             return Event::End { value: self.done };
@@ -347,6 +379,9 @@ impl Ready {
         } }
         ensures fewer { length self.new.ready ≤ length self.old.ready }
         ensures paid { (start : ℕ) → HasPaid self.old start steps.old → HasPaid self.new start steps.new }
+        ensures freely { result ≡ false → (start : ℕ) → HasPaid self.old start steps.old
+            → (self.new.clock ≡ self.old.clock → HasPaidFreely self.old start steps.old)
+            → HasPaidFreely self.new start steps.new }
     {
         if self.parts.is_empty() {
             return is_end_with(event, self.done);
@@ -358,6 +393,39 @@ impl Ready {
         let event = *event;
         self.take(&Due { deed, event }, steps);
         true
+    }
+
+    /// The job of this number finishes now, whatever work it has left: it is done, if it runs. Otherwise all is as
+    /// before.
+    pub fn finish(&mut self, number: u64) -> bool
+        ensures yes { result ≡ true → Finishes self.old number self.new }
+        ensures no { result ≡ false → RunsNowhere self.old number × (self.new ≡ self.old) }
+        ensures kept { self.new ≡ record self.old { ready = self.new.ready; done = self.new.done } }
+        ensures fewer { length self.new.ready ≤ length self.old.ready }
+        ensures paid { (start now : ℕ) → HasPaid self.old start now
+            → (result ≡ true → HasPaidFreely self.old start now) → HasPaid self.new start now }
+    {
+        self.parts.laws();
+        let Some(r) = self.parts.running() else {
+            return false;
+        };
+        if u64::from(r.number) != number {
+            return false;
+        }
+        self.parts.complete();
+        self.done += r.job.value();
+        true
+    }
+
+    /// Whether the job of this number runs.
+    pub fn runs(&self, number: u64) -> bool
+        ensures yes { result ≡ true → Runs self.now number }
+        ensures no { result ≡ false → RunsNowhere self.now number }
+    {
+        match self.parts.running() {
+            Some(r) => u64::from(r.number) == number,
+            None => false,
+        }
     }
 
     /// Takes the release of the next job, to which the clock goes on.

@@ -1,5 +1,7 @@
 pub mod Stepping
+pub mod NextSteps
 pub mod Releasing
+pub mod Finishing
 pub mod Renewing
 pub mod Feeding
 pub mod Showing

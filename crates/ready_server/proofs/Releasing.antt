@@ -31,10 +31,11 @@ use Rattle.ready_jobs.proofs.Courses.{follows_count, follows_order}
 use Rattle.ready_jobs.proofs.Releasing.{release_follows}
 use Rattle.ready_server.specs.Serving.{Serves, Rests}
 use Rattle.ready_server.specs.declared.server.ReadyServer.{ReadyServer}
-use Rattle.ready_server.proofs.Stepping.{printed_event, printed_low}
+use Rattle.ready_server.proofs.Stepping.{printed_event, printed_low, last_more}
 
 -- a job that isn't to come was released
-pub not_ahead : (s : State) → IsSound s → (t : Task) → IsMember t s.tasks → is_coming t ≡ false → t.job.release ≤ s.clock
+pub not_ahead : (s : State) → IsSound s → (t : Task) → IsMember t s.tasks → is_coming t ≡ false
+    → t.job.release ≤ s.clock
 not_ahead s sound t member came = by_role t.role refl (sound.roles t member) where
   by_role : (r : Role) → t.role ≡ r → FitsRole s.clock r t → t.job.release ≤ s.clock
   by_role Coming is fits = never (sym came ∙ passes is_coming t Coming true is refl)
@@ -126,11 +127,13 @@ module _ (s : ReadyServer) (J : Instance) (j : JobFacts) (rests : Rests s J (Mar
   -- once it is taken, it was given
   pub release_given : (d : Course) → d ≡ record (with_release s.ready j s.ready.room) { ready = d.ready }
       → IsReordered (s.ready.ready ++ fresh_job s.ready j ∷ []) d.ready
-      → Serves (record s { ready = d }) K (Mark j.release) (settled J j.release ++ Release s.ready.jobs j ∷ [])
-  release_given d is order = record {
+      → (last : ℕ) → last ≡ j.release → Serves (record s { ready = d; last = last }) K (Mark j.release)
+      (settled J j.release ++ Release s.ready.jobs j ∷ [])
+  release_given d is order last now = record {
     state = with_fresh there s.ready.jobs j;
     follows = subst (λ c. Follows c K (with_fresh there s.ready.jobs j)) (sym is)
         (follows_order (with_release s.ready j s.ready.room) d.ready K (with_fresh there s.ready.jobs j) follows_next
         order);
     given = (rests.given.0, printed_next);
+    last = now ∙ sym (last_more (settled J j.release) (Release s.ready.jobs j));
   }

@@ -3,13 +3,13 @@ use Rattle.std.proofs.Common.{◌≡◌, ℕ, List, [], length, refl, sym, ap, �
 use Rattle.std.specs.Prelude.{nat_le, ◌&&◌}
 use Rattle.std.proofs.lemmas.Bool.{le-leb}
 use Rattle.dover_model.specs.declared.events.Event.{Event}
-use Rattle.dover_model.specs.Instance.{Rules, Instance, IsValid}
+use Rattle.dover_model.specs.Instance.{Rules, Instance, IsValid, bare}
 use Rattle.dover_model.specs.State.{State, is_over}
 use Rattle.dover_model.specs.Step.{Ticks, open_step}
-use Rattle.dover_model.specs.Settled.{waits_for_mark, settled}
+use Rattle.dover_model.specs.Settled.{waits_for_mark, settled, last_of}
 use Rattle.dover_model.specs.WholeRun.{IsBarrier}
 use Rattle.dover_model.specs.Paths.{HasPrinted}
-use Rattle.dover_model.specs.Rest.{instead}
+use Rattle.dover_model.specs.Rest.{instead_with}
 use Rattle.dover_model.specs.Sound.{Each}
 use Rattle.dover_model.proofs.Deeds.{over_rests}
 use Rattle.dover_model.proofs.Kept.{open_deed}
@@ -21,6 +21,7 @@ use Rattle.ready_jobs.proofs.Courses.{none_keeps, renewed_follows}
 use Rattle.ready_server.specs.Serving.{Rests}
 use Rattle.ready_server.specs.declared.server.ReadyServer.{ReadyServer}
 use Rattle.ready_server.proofs.Stepping.{printed_low}
+use Rattle.dover_model.proofs.Tests.{never}
 
 -- no events
 abbrev none : List Event
@@ -55,7 +56,7 @@ module _ (rules : Rules) (valid : IsValid (record { rules = rules; jobs = [] }))
 module _ (s : ReadyServer) (J : Instance) (mark : ℕ) (rests : Rests s J (Mark mark)) (idle : length s.ready.ready ≡ 0)
   where
     abbrev K : Instance
-    K = instead J []
+    K = instead_with J [] []
 
     follows : Follows (record s.ready { jobs = 0; done = 0 }) K (at s.ready.clock)
     follows = subst (λ (rules : Rules). Follows (record s.ready { jobs = 0; done = 0 })
@@ -67,7 +68,7 @@ module _ (s : ReadyServer) (J : Instance) (mark : ℕ) (rests : Rests s J (Mark 
 
     here : HasPrinted K mark (at s.ready.clock) none
     here = printed_more K s.ready.clock mark (at s.ready.clock) (at s.ready.clock) none []
-        (printed_to J.rules valid s.ready.clock)
+        (printed_to (bare J.rules) valid s.ready.clock)
         (omega (
           arith,
           printed_low J rests.follows.valid mark rests.state (settled J mark) rests.given.1.here,
@@ -75,16 +76,20 @@ module _ (s : ReadyServer) (J : Instance) (mark : ℕ) (rests : Rests s J (Mark 
         )) refl
 
     -- all that is settled of it was given
-    pub rests_anew : (d : Course) → d ≡ record s.ready { jobs = 0; done = 0 } → Rests (record s { ready = d }) K (Mark mark)
+    pub rests_anew : (d : Course) → d ≡ record s.ready { jobs = 0; done = 0 }
+        → Rests (record s { ready = d; last = 0 }) K (Mark mark)
     rests_anew d is = record {
       state = at s.ready.clock;
       follows = subst (λ c. Follows c K (at s.ready.clock)) (sym is) follows;
       given = (
         rests.given.0,
         record {
-          here = subst (HasPrinted K mark (at s.ready.clock)) (none_settled J.rules valid mark) here;
-          waits = subst (HasPrinted K mark (at mark)) (none_settled J.rules valid mark) (printed_to J.rules valid mark);
-          barrier = barrier J.rules valid mark;
+          here = subst (HasPrinted K mark (at s.ready.clock)) (none_settled (bare J.rules) valid mark) here;
+          waits = subst (HasPrinted K mark (at mark)) (none_settled (bare J.rules) valid mark)
+              (printed_to (bare J.rules) valid mark);
+          barrier = barrier (bare J.rules) valid mark;
+          clock = λ on. never (sym on);
         },
       );
+      last = ap last_of (none_settled (bare J.rules) valid mark);
     }

@@ -3,7 +3,7 @@ use Rattle.std.proofs.Common.{◌≡◌, ◌<◌, ◌-◌, ◌^◌, ℕ, List, [
 use Rattle.std.specs.Prelude.{Option, Some, None, is_some}
 use Rattle.std.specs.Option.{option_map}
 use Rattle.dover_model.specs.declared.events.Event.{Event}
-use Rattle.dover_model.specs.declared.events.Event.TheVariants.{Release}
+use Rattle.dover_model.specs.declared.events.Event.TheVariants.{Release, Complete}
 use Rattle.dover_model.specs.JobFacts.{JobFacts}
 use Rattle.dover_model.specs.Instance.{Instance}
 use Rattle.dover_model.specs.Settled.{settled}
@@ -14,7 +14,7 @@ use Rattle.ready_server.specs.Serving as ready
 use Rattle.ready_server.specs.declared.server.ReadyServer.{ReadyServer}
 use Rattle.ready_server.proofs.Stepping.{serves_begins, rests_serves}
 use Rattle.ready_server.specs.Roster.{Roll, Kept, with_event, roll_of, with_step, HasLine, HasFewTakes, IsRollOf}
-use Rattle.ready_server.specs.Rostering.{HasRead, Serves, Rests}
+use Rattle.ready_server.specs.Rostering.{HasRead, Serves, Rests, Finishes}
 use Rattle.ready_server.specs.declared.roster_server.RosterServer.{RosterServer}
 use Rattle.ready_server.proofs.RollSettled.{roll_more, takes_low, no_release, same_count}
 
@@ -140,3 +140,32 @@ release_read v w J K t e it served is = record {
 -- a server at rest has printed all that is due
 pub roster_rests : (v : RosterServer) (J : Instance) (to : Horizon) → Rests v J to → Serves v J to (due_by J to)
 roster_rests v J to it = record { served = rests_serves v.server J to it.rests; read = it.read }
+
+-- ---- a finish
+
+module _ (v : RosterServer) (J : Instance) (t n : ℕ) (it : Rests v J (Mark t)) (w : ReadyServer) where
+  -- where no finish is right, all is as before
+  pub finish_wrong : ready.Finishes v.server w J t n None → Finishes v (record v { server = w }) J t n None
+  finish_wrong wrong = (wrong.0, ap (λ (s : ReadyServer). record v { server = s }) wrong.1)
+
+  module _ (e : Event) (right : ready.Finishes v.server w J t n (Some e)) where
+    -- the answer is a completion
+    pub is_completion : (m : ℕ) (job : JobFacts) → e ≡ Release m job → ⊥
+    is_completion m job is = absurd (let clash : Complete t n ≡ Release m job = sym right.2 ∙ is in cc)
+
+    -- so there is as much room behind it
+    pub finish_room : HasLine v.roster → HasLine (option_map (with_step e) v.roster)
+    finish_room = room_in v.roster e is_completion
+
+    -- and it was read
+    pub finish_read : (o : Option Kept) → o ≡ option_map (with_step e) v.roster
+        → Finishes v (record { server = w; roster = o }) J t n (Some e)
+    finish_read o is = (
+      right.0,
+      right.1,
+      right.2,
+      record {
+        served = right.3;
+        read = subst (IsRollOf (settled J t ++ e ∷ [])) (sym is) (more_in v.roster (settled J t) e it.read);
+      },
+    )

@@ -5,6 +5,7 @@ use Rattle.std.specs.Prelude.{Option, Some, None, Result, Ok, Err, OnOk, IfSome}
 use Rattle.std.specs.Bool.{MatchBool}
 use Rattle.std.specs.List.{cons_option}
 use Rattle.std.proofs.lemmas.List.{append-nil}
+use Rattle.std.proofs.lemmas.List.Sums.{fold-append}
 use Rattle.dover_model.specs.declared.events.Event.{Event}
 use Rattle.dover_model.specs.declared.events.Event.TheVariants as events
 use Rattle.dover_model.specs.declared.Memory.{Memory}
@@ -13,11 +14,14 @@ use Rattle.dover_model.specs.Instance.{Rules, Instance, IsValid}
 use Rattle.dover_model.specs.State.{State, opening, state_at}
 use Rattle.dover_model.specs.Step.{Prints, step, open_step, after}
 use Rattle.dover_model.specs.Run.{Step, is_end, event_of, printed, printed_of, last_deadline}
-use Rattle.dover_model.specs.Settled.{settled}
+use Rattle.dover_model.specs.Settled.{settled, AreOverFor, tick_of_event, last_of}
 use Rattle.dover_model.specs.WholeRun.{open_at, IsBefore, IsWholeRun, Begins}
 use Rattle.dover_model.specs.Paths.{IsOpenPath, HasPrinted}
 use Rattle.dover_model.specs.Sound.{Keeps}
-use Rattle.dover_model.proofs.Readiness.{plain_ready}
+use Rattle.dover_model.proofs.OverFor.{over_ready}
+use Rattle.dover_model.proofs.LastSteps.{open_clock}
+use Rattle.dover_model.proofs.Members.{some_same}
+use Rattle.dover_model.proofs.Tests.{none_is_some}
 use Rattle.dover_model.proofs.Ending.{potential, ends}
 use Rattle.dover_model.proofs.Kept.{open_kept}
 use Rattle.dover_model.proofs.Paths.{printed_more, printed_settled, printed_then_run, printed_begins, path_low}
@@ -30,7 +34,7 @@ use Rattle.dover_model.specs.declared.horizon.Horizon.TheVariants.{Mark, End}
 use Rattle.dover_model.specs.Horizons.{MayFollow, is_end_given, due_by, Gives}
 use Rattle.ready_jobs.specs.Course.{Course, Follows, Comes, ComesNext, Settled, StepsBefore}
 use Rattle.ready_jobs.proofs.Courses.{follows_count, follows_fewer}
-use Rattle.ready_server.specs.Serving.{LeavesRest, HasGiven, Serves, Rests, HasShortValue}
+use Rattle.ready_server.specs.Serving.{LeavesRest, HasGiven, IsLastOf, Serves, Rests, HasShortValue}
 use Rattle.ready_server.specs.declared.server.ReadyServer.{ReadyServer}
 
 -- ---- to a mark
@@ -48,6 +52,10 @@ printed_still : (J : Instance) (mark mark2 : ℕ) (s z : State) (events : List E
 printed_still J mark mark2 s z events xs it later settles = subst (HasPrinted J mark2 z)
     (ap (λ es. events ++ es) (settles_silent J.rules mark2 xs s z settles) ∙ append-nil events)
     (printed_more J mark mark2 s z events xs it later (settles_path J.rules mark2 xs s z settles))
+
+-- the tick of the last event, with one event more
+pub last_more : (events : List Event) (e : Event) → last_of (events ++ e ∷ []) ≡ tick_of_event e
+last_more events e = fold-append (λ tick x. tick_of_event x) 0 events (e ∷ [])
 
 -- an event more by a step that prints it
 pub printed_event : (J : Instance) (mark : ℕ) (s : State) (events : List Event) (e : Event)
@@ -113,15 +121,24 @@ module _ (s : ReadyServer) (d : Course) (mark : ℕ) (o : Option Event)
           here = subst (HasPrinted J mark it.state) all still;
           waits = subst (HasPrinted J mark there) all waits;
           barrier = comes.barrier;
+          clock = comes_now.1;
         },
       );
+      last = subst (λ es. s.last ≡ last_of es) all (last_before from serves.last follows);
     },
   ) where
     there : State
     there = state_at mark it.state.tasks
 
+    comes_now : WaitsUntil J.rules mark serves.state there × (GoesOn it.state → it.state.clock ≡ mark)
+    comes_now = subst (Comes J serves.state mark it.state) none it.comes
+
     comes : WaitsUntil J.rules mark serves.state there
-    comes = subst (Comes J serves.state mark it.state) none it.comes
+    comes = comes_now.0
+
+    last_before : (h : Horizon) → IsLastOf h s.last events → MayFollow h (Mark mark) → s.last ≡ last_of events
+    last_before (Mark m) is may = is
+    last_before End is may = absurd may
 
     waits : HasPrinted J mark there events
     waits = printed_still J way.1 mark serves.state there events comes.steps way.2 way.3 comes.settles
@@ -135,31 +152,47 @@ module _ (s : ReadyServer) (d : Course) (mark : ℕ) (o : Option Event)
     comes_now = subst (Comes J serves.state mark it.state) some it.comes
 
     -- once it is taken, it was given
-    mark_given : (f : Course)
+    mark_given : (f : Course) (last : ℕ) → last ≡ f.clock
         → ((I : Instance) (z : State) → Follows d I z → Follows f I (after z (Prints e)))
-        → Serves (record s { ready = f }) J (Mark mark) (events ++ e ∷ [])
-    mark_given f takes = record {
+        → Serves (record s { ready = f; last = last }) J (Mark mark) (events ++ e ∷ [])
+    mark_given f last now takes = record {
       state = after it.state (Prints e);
       follows = takes J it.state it.follows;
       given = (way.0, printed_event J mark it.state events e still comes_now.1 comes_now.0);
+      last = now ∙ sym (takes J it.state it.follows).clock
+          ∙ sym (open_clock J serves.follows.valid J.rules it.state it.follows.keeps e comes_now.0)
+          ∙ sym (last_more events e);
     }
 
--- the answer at a mark
-pub mark_stepped : (s : ReadyServer) (d : Course) (mark : ℕ) (o : Option Event) → StepsBefore s.ready mark d o
+-- where nothing comes before a mark, all was given
+pub mark_rested : (s : ReadyServer) (d : Course) (mark : ℕ) (o : Option Event) → o ≡ None
+    → StepsBefore s.ready mark d o
     → (J : Instance) (from : Horizon) (events : List Event) → Serves s J from events → MayFollow from (Mark mark)
     → Gives (Serves (record s { ready = d }) J (Mark mark)) (Rests (record s { ready = d }) J (Mark mark))
-    (due_by J (Mark mark)) events o
-mark_stepped s d mark None it J from events serves follows =
-    mark_reached s d mark None it.0 it.1 J from events serves follows refl
-mark_stepped s d mark (Some e) it J from events serves follows =
-    mark_given s it.0 mark (Some e) it.1 it.2 J from events serves follows e refl d it.3
+    (due_by J (Mark mark)) events None
+mark_rested s d mark None none steps J from events serves follows =
+    mark_reached s d mark None steps.0 steps.1 J from events serves follows refl
+mark_rested s d mark (Some e) none steps J from events serves follows = none_is_some (sym none)
+
+-- a step that comes before it was given
+pub mark_stepped : (s : ReadyServer) (d : Course) (mark : ℕ) (o : Option Event) (e : Event) → o ≡ Some e
+    → StepsBefore s.ready mark d o → (last : ℕ) → last ≡ d.clock
+    → (J : Instance) (from : Horizon) (events : List Event) → Serves s J from events → MayFollow from (Mark mark)
+    → Gives (Serves (record s { ready = d; last = last }) J (Mark mark))
+    (Rests (record s { ready = d; last = last }) J (Mark mark)) (due_by J (Mark mark)) events (Some e)
+mark_stepped s d mark None e some steps last now J from events serves follows = none_is_some some
+mark_stepped s d mark (Some f) e some steps last now J from events serves follows =
+    subst (λ x. Gives (Serves (record s { ready = d; last = last }) J (Mark mark))
+    (Rests (record s { ready = d; last = last }) J (Mark mark)) (due_by J (Mark mark)) events (Some x))
+    (some_same f e some)
+    (mark_given s steps.0 mark (Some f) steps.1 steps.2 J from events serves follows f refl d last now steps.3)
 
 -- no End comes before a mark
 pub no_end_before : (s : ReadyServer) (J : Instance) (from : Horizon) (events : List Event) → Serves s J from events
     → (mark : ℕ) (d : Course) (o : Option Event) → StepsBefore s.ready mark d o → is_end_given o ≡ false
-no_end_before s J from events serves mark d None it = refl
-no_end_before s J from events serves mark d (Some e) it =
-    let at : Settled it.0 J serves.state mark (Some e) = it.1 J serves.state serves.follows in
+no_end_before s J from events serves mark d None steps = refl
+no_end_before s J from events serves mark d (Some e) steps =
+    let at : Settled steps.0 J serves.state mark (Some e) = steps.1 J serves.state serves.follows in
     ap is_end (sym at.comes.0)
     ∙ open_goes_on J serves.follows.valid J.rules at.state at.follows.keeps
 
@@ -194,11 +227,11 @@ runs_on J valid rules e (x ∷ xs) (y ∷ ys) s z keeps idles prints whole =
     )
 
 -- behind what was printed before a mark, the run leaves a rest
-marked_rest : (J : Instance) (mark : ℕ) (z : State) (events : List Event) → IsValid J → J.rules.finishes ≡ [] → Keeps J z
-    → HasPrinted J mark z events → LeavesRest J z events
-marked_rest J mark z events valid plain keeps it =
+marked_rest : (J : Instance) (mark : ℕ) (z : State) (events : List Event) → IsValid J → AreOverFor J.rules.finishes z
+    → Keeps J z → HasPrinted J mark z events → LeavesRest J z events
+marked_rest J mark z events valid over keeps it =
     let rest = ends J valid J.rules (potential J.rules.finishes (last_deadline J.jobs) z) z keeps
-    (plain_ready J.rules.finishes z (omega (arith, ap length plain))) (omega arith) in record {
+    (over_ready J.rules.finishes z over) (omega arith) in record {
       steps = rest.0;
       whole = rest.1;
       prints = printed_then_run J mark z events rest.0 valid it rest.1;
@@ -210,8 +243,7 @@ module _ (s : ReadyServer) (J : Instance) (from : Horizon) (events : List Event)
   rest_left goes_on = by_horizon from serves.given where
     by_horizon : (to : Horizon) → HasGiven s.ended J serves.state to events → LeavesRest J serves.state events
     by_horizon (Mark m) given =
-        marked_rest J m serves.state events serves.follows.valid (ap (λ (r : Rules). r.finishes) serves.follows.rules)
-        serves.follows.keeps given.1
+        marked_rest J m serves.state events serves.follows.valid serves.follows.over serves.follows.keeps given.1
     by_horizon End given =
         subst (λ b. MatchBool b (events ≡ printed J) (LeavesRest J serves.state events)) goes_on given
 
@@ -233,21 +265,23 @@ module _ (s : ReadyServer) (J : Instance) (from : Horizon) (events : List Event)
         (it.0, it.1, left.prints ∙ ap (λ es. events ++ es) it.2)
 
     -- where it is End, all was given
-    pub end_given : is_end (Prints e) ≡ true → Serves (record s { ready = d; ended = true }) J End (events ++ e ∷ [])
-    end_given is = record {
+    pub end_given : is_end (Prints e) ≡ true → (last : ℕ)
+        → Serves (record s { ready = d; ended = true; last = last }) J End (events ++ e ∷ [])
+    end_given is last_tick_given = record {
       state = now.0;
       follows = now.1;
       given =
           let last : behind.0 ≡ [] = subst
           (λ b. MatchBool b (behind.0 ≡ []) (IsWholeRun J.rules (after now.0 (Prints e)) behind.0)) is behind.1 in
           sym (behind.2 ∙ ap (λ zs. events ++ e ∷ printed_of zs) last);
+      last = tt;
     }
 
     -- where it isn't, it was given once it is taken
-    pub event_given : is_end (Prints e) ≡ false → (f : Course)
+    pub event_given : is_end (Prints e) ≡ false → (f : Course) (last : ℕ)
         → ((I : Instance) (z : State) → Follows d I z → Follows f I (after z (Prints e)))
-        → Serves (record s { ready = f }) J End (events ++ e ∷ [])
-    event_given is f takes = record {
+        → Serves (record s { ready = f; last = last }) J End (events ++ e ∷ [])
+    event_given is f last takes = record {
       state = after now.0 (Prints e);
       follows = takes J now.0 now.1;
       given = subst (λ b. MatchBool b (events ++ e ∷ [] ≡ printed J)
@@ -257,6 +291,7 @@ module _ (s : ReadyServer) (J : Instance) (from : Horizon) (events : List Event)
                 (λ b. MatchBool b (behind.0 ≡ []) (IsWholeRun J.rules (after now.0 (Prints e)) behind.0)) is behind.1;
             prints = behind.2 ∙ sym (append_assoc events (e ∷ []) (printed_of behind.0));
           });
+      last = tt;
     }
 
 -- the value that the next step names at the end is short
@@ -304,13 +339,15 @@ serves_later s J (Mark m) (Mark t) events serves may = record {
     subst (HasPrinted J t serves.state) (append-nil events)
         (printed_more J m t serves.state serves.state events [] serves.given.1 may.0 refl),
   );
+  last = serves.last;
 }
 serves_later s J (Mark m) End events serves may = record {
   state = serves.state;
   follows = serves.follows;
   given = subst (λ b. MatchBool b (events ≡ printed J) (LeavesRest J serves.state events)) (sym serves.given.0)
-      (marked_rest J m serves.state events serves.follows.valid (ap (λ (r : Rules). r.finishes) serves.follows.rules)
-      serves.follows.keeps serves.given.1);
+      (marked_rest J m serves.state events serves.follows.valid serves.follows.over serves.follows.keeps
+      serves.given.1);
+  last = tt;
 }
 serves_later s J End (Mark t) events serves may = absurd may
 serves_later s J End End events serves may = serves
@@ -328,13 +365,18 @@ serves_begins s J End events serves = by_ended s.ended serves.given where
 
 -- a server at rest has given all
 pub rests_serves : (s : ReadyServer) (J : Instance) (to : Horizon) → Rests s J to → Serves s J to (due_by J to)
-rests_serves s J (Mark t) rests =
-    record { state = rests.state; follows = rests.follows; given = (rests.given.0, rests.given.1.here) }
+rests_serves s J (Mark t) rests = record {
+  state = rests.state;
+  follows = rests.follows;
+  given = (rests.given.0, rests.given.1.here);
+  last = rests.last;
+}
 rests_serves s J End rests = record {
   state = rests.state;
   follows = rests.follows;
   given = subst (λ b. MatchBool b (printed J ≡ printed J) (LeavesRest J rests.state (printed J))) (sym rests.given)
       refl;
+  last = tt;
 }
 
 -- ---- room

@@ -1,4 +1,5 @@
 pub mod Serving
+pub mod NextStep
 pub mod Running
 pub mod Roster
 pub mod Rostering

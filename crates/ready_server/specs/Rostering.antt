@@ -1,7 +1,10 @@
 -- How a server serves a run, where it may keep a roster of its jobs.
-use Rattle.std.specs.Prelude.{ℕ, List, Bool, is_some, Option}
+use Rattle.std.specs.Prelude.{◌≡◌, ℕ, List, [], ◌∷◌, ◌++◌, Bool, is_some, Option, Some, None}
 use Rattle.dover_model.specs.declared.events.Event.{Event}
-use Rattle.dover_model.specs.Instance.{Instance}
+use Rattle.dover_model.specs.declared.events.Event.TheVariants.{Complete}
+use Rattle.dover_model.specs.Session.{EarlyFinish, finish_at}
+use Rattle.dover_model.specs.Settled.{settled}
+use Rattle.dover_model.specs.Instance.{Instance, with_finishes}
 use Rattle.dover_model.specs.declared.horizon.Horizon.{Horizon}
 use Rattle.dover_model.specs.declared.horizon.Horizon.TheVariants.{Mark, End}
 use Rattle.dover_model.specs.Horizons.{due_by}
@@ -23,6 +26,14 @@ pub record Serves (v : RosterServer) (J : Instance) (to : Horizon) (events : Lis
 pub record Rests (v : RosterServer) (J : Instance) (to : Horizon) : Type 0 where
   pub rests : ready.Rests v.server J to
   pub read : HasRead to v.roster (due_by J to)
+
+-- The answer to the finish of a job at a mark up to which all is given: its completion, if it is right. If it isn't,
+-- all is as before.
+abbrev pub Finishes : (old new : RosterServer) → Instance → (at number : ℕ) → Option Event → Type 0
+Finishes old new J at number (Some e) = (f : EarlyFinish) × (finish_at J at number ≡ Some f)
+    × (e ≡ Complete at number)
+    × Serves new (with_finishes J (f.finish ∷ [])) (Mark at) (settled J at ++ e ∷ [])
+Finishes old new J at number None = (finish_at J at number ≡ None) × (new ≡ old)
 
 -- there is room for one job more, ready and in the roster
 pub record HasPlace (v : RosterServer) : Type 0 where

@@ -1,16 +1,20 @@
 -- How far a server has come.
-use Rattle.std.specs.Prelude.{◌≡◌, ◌<◌, ◌-◌, ◌^◌, ℕ, List, ◌++◌, length, Bool, true, false, Option}
+use Rattle.std.specs.Prelude.{◌≡◌, ◌<◌, ◌-◌, ◌^◌, ℕ, List, [], ◌∷◌, ◌++◌, length, Bool, true, false, Option}
+use Rattle.std.specs.Prelude.{Some, None}
+use Rattle.dover_model.specs.Session.{EarlyFinish, finish_at}
 use Rattle.std.specs.Bool.{MatchBool}
 use Rattle.dover_model.specs.declared.events.Event.{Event}
 use Rattle.dover_model.specs.declared.events.Event.TheVariants as events
-use Rattle.dover_model.specs.Instance.{Instance}
+use Rattle.dover_model.specs.Instance.{Instance, with_finishes}
 use Rattle.dover_model.specs.State.{State, state_at}
 use Rattle.dover_model.specs.Run.{Step, printed, printed_of}
-use Rattle.dover_model.specs.Settled.{settled}
+use Rattle.dover_model.specs.Settled.{settled, last_of}
+use Rattle.dover_model.specs.Leading.{GoesOn}
 use Rattle.dover_model.specs.WholeRun.{IsWholeRun, IsBarrier}
 use Rattle.dover_model.specs.Paths.{HasPrinted}
 use Rattle.dover_model.specs.declared.horizon.Horizon.{Horizon}
 use Rattle.dover_model.specs.declared.horizon.Horizon.TheVariants.{Mark, End}
+use Rattle.dover_model.specs.Horizons.{due_by}
 use Rattle.ready_jobs.specs.Course.{Follows}
 use Rattle.ready_jobs.specs.Spending as spending
 use Rattle.ready_server.specs.declared.server.ReadyServer.{ReadyServer}
@@ -26,17 +30,25 @@ abbrev pub HasGiven : Bool → Instance → State → Horizon → List Event →
 HasGiven ended J z (Mark t) events = (ended ≡ false) × HasPrinted J t z events
 HasGiven ended J z End events = MatchBool ended (events ≡ printed J) (LeavesRest J z events)
 
+-- up to a mark, this is the tick of the last of these events
+abbrev pub IsLastOf : Horizon → (last : ℕ) → List Event → Type 0
+IsLastOf (Mark t) last events = last ≡ last_of events
+IsLastOf End last events = Unit {0}
+
 -- its jobs are those of J that are ready in some state, up to which these events were given
 pub record Serves (s : ReadyServer) (J : Instance) (to : Horizon) (events : List Event) : Type 0 where
   pub state : State
   pub follows : Follows s.ready J state
   pub given : HasGiven s.ended J state to events
+  pub last : IsLastOf to s.last events
 
--- all that is settled at the mark was printed up to this state, and nothing more is till the clock is at the mark
+-- all that is settled at the mark was printed up to this state, and nothing more is till the clock is at the mark;
+-- there it is now if some job isn't over
 pub record IsThrough (J : Instance) (z : State) (mark : ℕ) : Type 0 where
   pub here : HasPrinted J mark z (settled J mark)
   pub waits : HasPrinted J mark (state_at mark z.tasks) (settled J mark)
   pub barrier : IsBarrier J.rules mark (state_at mark z.tasks)
+  pub clock : GoesOn z → z.clock ≡ mark
 
 -- all that is due by the horizon was printed up to this state
 abbrev pub HasGivenAll : Bool → Instance → State → Horizon → Type 0
@@ -48,6 +60,15 @@ pub record Rests (s : ReadyServer) (J : Instance) (to : Horizon) : Type 0 where
   pub state : State
   pub follows : Follows s.ready J state
   pub given : HasGivenAll s.ended J state to
+  pub last : IsLastOf to s.last (due_by J to)
+
+-- The answer to the finish of a job at a mark up to which all is given: its completion, if it is right. If it isn't,
+-- all is as before.
+abbrev pub Finishes : (old new : ReadyServer) → Instance → (at number : ℕ) → Option Event → Type 0
+Finishes old new J at number (Some e) = (f : EarlyFinish) × (finish_at J at number ≡ Some f)
+    × (e ≡ events.Complete at number)
+    × Serves new (with_finishes J (f.finish ∷ [])) (Mark at) (settled J at ++ e ∷ [])
+Finishes old new J at number None = (finish_at J at number ≡ None) × (new ≡ old)
 
 -- there is room for one ready job more
 abbrev pub HasPlace : ReadyServer → Type 0
@@ -55,7 +76,7 @@ HasPlace s = length s.ready.ready < s.ready.room
 
 -- no more comparisons were made than its jobs so far have called for
 abbrev pub HasPaid : ReadyServer → (start now : ℕ) → Type 0
-HasPaid s start now = spending.HasPaid s.ready start now
+HasPaid s start now = spending.HasPaidSince s.ready s.last start now
 
 -- the comparisons of one call are few
 abbrev pub CostsOnce : ReadyServer → Option Event → (before now : ℕ) → Type 0

@@ -14,7 +14,7 @@ ghost use Rattle.dover_model.specs.declared.horizon.Horizon.{Horizon};
 ghost use Rattle.dover_model.specs.declared.horizon.Horizon.TheVariants.{Mark};
 ghost use Rattle.dover_model.specs.Horizons.{MayFollow, no_jobs, due_by, Gives};
 ghost use Rattle.ready_server.specs.Roster.{empty_roll, with_step, HasLine, HasFewTakes};
-ghost use Rattle.ready_server.specs.Rostering.{Serves, Rests, HasPlace, HasPaid, has_roster};
+ghost use Rattle.ready_server.specs.Rostering.{Serves, Rests, HasPlace, HasPaid, Finishes, has_roster};
 
 use crate::roster::Roster;
 use crate::server::ReadyServer;
@@ -165,6 +165,23 @@ impl RosterServer {
         let event = self.server.admit(job);
         read_into(&mut self.roster, &event);
         event
+    }
+
+    /// Finishes the job of this number at a mark up to which all was given: it has had the tick that ends there, which
+    /// was the last that it needed. Gives its completion, or None where that isn't right: where the job doesn't run, or
+    /// a step of the mark's tick was given before. No memory is taken.
+    pub fn finish(&mut self, at: u64, number: u64) -> Option<Event>
+        requires rests { (J : Instance) × Rests self.old J (Mark at) }
+        ensures finishes { (J : Instance) → Rests self.old J (Mark at) → Finishes self.old self.new J at number result }
+        ensures room { HasPlace self.old → HasPlace self.new }
+        ensures paid { (start now : ℕ) → HasPaid self.old start now → HasPaid self.new start now }
+        ensures roster { has_roster self.new ≡ has_roster self.old }
+    {
+        let Some(event) = self.server.finish(at, number) else {
+            return None;
+        };
+        read_into(&mut self.roster, &event);
+        Some(event)
     }
 
     /// The version under which the jobs run.

@@ -1,10 +1,10 @@
 //! The server over the jobs that are ready.
 ghost use Rattle.std.specs.Prelude.{◌≡◌, ◌≤◌, ◌+◌, ◌∷◌, [], ◌++◌, ◌||◌, ◌↔◌, ◌*◌, ℕ, List, length, min, max, IfOk};
-ghost use Rattle.std.specs.Prelude.{IsOk, OnOk, IfSome, IsTrue, false};
+ghost use Rattle.std.specs.Prelude.{IsOk, OnOk, IfSome, IsNone, IsTrue, false};
 ghost use Rattle.dover_model.specs.declared.events.Event.{Event};
 ghost use Rattle.dover_model.specs.Instance.{Instance, IsValid, with_jobs};
 ghost use Rattle.dover_model.specs.Limits.{most_jobs, most_total, last_tick};
-ghost use Rattle.dover_model.specs.Rest.{instead};
+ghost use Rattle.dover_model.specs.Rest.{instead_with};
 ghost use Rattle.dover_model.specs.Settled.{settled};
 ghost use Rattle.dover_model.specs.Run.{is_end};
 ghost use Rattle.dover_model.specs.Spending.{CostsAtMost};
@@ -14,6 +14,8 @@ ghost use Rattle.dover_model.specs.declared.horizon.Horizon.{Horizon};
 ghost use Rattle.dover_model.specs.declared.horizon.Horizon.TheVariants.{Mark, End};
 ghost use Rattle.dover_model.specs.Horizons.{MayFollow, is_end_given, no_jobs, due_by, Gives};
 ghost use Rattle.ready_server.specs.Serving.{Serves, Rests, HasPlace, HasPaid, spare_of, HasShortValue, CostsOnce};
+ghost use Rattle.ready_server.specs.Serving.{Finishes};
+ghost use Rattle.ready_server.specs.NextStep.{ComesAt};
 
 use dover_model::{Event, Horizon, Job, Memory, Ratio, Version};
 use ready_jobs::Ready;
@@ -37,6 +39,7 @@ use step_count::Steps;
 pub struct ReadyServer {
     ready: Ready,
     ended: bool,
+    last: u64,
 }
 
 // The event is the last.
@@ -75,6 +78,7 @@ impl ReadyServer {
         Ok(ReadyServer {
             ready: Ready::new(alloc, version, k)?,
             ended: false,
+            last: 0,
         })
     }
 
@@ -162,18 +166,29 @@ impl ReadyServer {
         self.ready.count() == 0
     }
 
+    /// The tick at which the run prints its next step, where all is given up to a mark and no further job comes. None
+    /// where no job is ready.
+    pub fn next(&self) -> Option<u64>
+        ensures none { IsNone result ↔ (self.now.ready.ready ≡ []) }
+        ensures at { (J : Instance) (mark : ℕ) → Rests self.now J (Mark mark)
+            → IfSome result (λ tick. ComesAt J mark (settled J mark) tick) }
+    {
+        self.ready.next()
+    }
+
     /// Forgets how many jobs there were, and what those done were worth, where none is ready: what is left at rest is
-    /// the run of no jobs. The clock goes on.
+    /// the run of no jobs, none of which finishes early. The clock goes on.
     pub fn renew(&mut self)
         requires { length self.old.ready.ready ≡ 0 }
         ensures rests { (J : Instance) (mark : ℕ) → Rests self.old J (Mark mark)
-            → Rests self.new (instead J []) (Mark mark) }
+            → Rests self.new (instead_with J [] []) (Mark mark) }
         ensures done { self.new.ready.done ≡ 0 }
         ensures ended { self.new.ended ≡ self.old.ended }
         ensures spare { spare_of self.new ≡ spare_of self.old }
         ensures renewed { self.new.ready ≡ record self.old.ready { jobs = 0; done = 0 } }
     {
         self.ready.renew();
+        self.last = 0;
     }
 
     // The next printed step before the barrier of the mark.
@@ -193,7 +208,11 @@ impl ReadyServer {
         ensures paid { (start : ℕ) → HasPaid self.old start steps.old → HasPaid self.new start steps.new }
         ensures once { CostsOnce self.old result steps.old steps.new }
     {
-        self.ready.step(mark, steps)
+        let Some(event) = self.ready.step(mark, steps) else {
+            return None;
+        };
+        self.last = self.ready.clock();
+        Some(event)
     }
 
     // The next printed step of the run, where no further job comes.
@@ -214,6 +233,7 @@ impl ReadyServer {
             return None;
         }
         let event = self.ready.step_on(steps);
+        self.last = self.ready.clock();
         if is_end(&event) {
             self.ended = true;
             return Some(event);
@@ -261,6 +281,30 @@ impl ReadyServer {
     {
         let number = self.ready.jobs();
         self.ready.release(job);
+        self.last = job.release();
         Event::Release { number, job }
+    }
+
+    /// Finishes the job of this number at a mark up to which all was given: it has had the tick that ends there, which
+    /// was the last that it needed. Gives its completion, or None where that isn't right: where the job doesn't run, or
+    /// a step of the mark's tick was given before. No memory is taken.
+    pub fn finish(&mut self, at: u64, number: u64) -> Option<Event>
+        requires rests { (J : Instance) × Rests self.old J (Mark at) }
+        ensures finishes { (J : Instance) → Rests self.old J (Mark at) → Finishes self.old self.new J at number result }
+        ensures room { HasPlace self.old → HasPlace self.new }
+        ensures room_stays { self.new.ready.room ≡ self.old.ready.room }
+        ensures paid { (start now : ℕ) → HasPaid self.old start now → HasPaid self.new start now }
+    {
+        if self.last >= at {
+            return None;
+        }
+        if !self.ready.finish(number) {
+            return None;
+        }
+        self.last = at;
+        Some(Event::Complete {
+            at,
+            number: number as u32,
+        })
     }
 }

@@ -1,4 +1,4 @@
-use Rattle.std.proofs.Common.{[], ap, ◌∙◌, sym, subst}
+use Rattle.std.proofs.Common.{ap, ◌∙◌, sym, subst}
 use Rattle.ready_jobs.specs.Course.{Course, IsCourse, course_of}
 use Rattle.ready_jobs.proofs.Courses.{declared_course, none_ready}
 use Rattle.ready_jobs.proofs.Silences.{none_waits}

@@ -25,15 +25,17 @@ returns-clause-settled g c J z follows =
       | in-Some+then-is_late_at w ↦
           subst (λ o. Settled d J z c.args.mark (option_map (λ (due : Due). due.event) o)) (sym w.result-is)
           (tested_late d J z c.args.mark (step_at d.clock c.go_on-deed.result) w.in-Some.event c.clock-clock.result
-          w.is_late_at.result reached (prints_event _ _ (step ∙ w.in-Some.is)) at w.is_late_at.ensures
+          w.is_late_at.result reached (prints_event _ _ (step ∙ w.in-Some.is)) at c.go_on-deed.ensures.low
+          w.is_late_at.ensures
           w.if-is_late_at.true)
       | in-Some+else-is_late_at w ↦
           subst (λ o. Settled d J z c.args.mark (option_map (λ (due : Due). due.event) o)) (sym w.result-is)
           (tested_early d J z c.args.mark (step_at d.clock c.go_on-deed.result) w.in-Some.event c.clock-clock.result
-          w.is_late_at.result reached (prints_event _ _ (step ∙ w.in-Some.is)) at w.is_late_at.ensures
+          w.is_late_at.result reached (prints_event _ _ (step ∙ w.in-Some.is)) at c.go_on-deed.ensures.low
+          w.is_late_at.ensures
           w.if-is_late_at.false)
       | in-None w ↦
           subst (λ o. Settled d J z c.args.mark (option_map (λ (due : Due). due.event) o)) (sym w.result-is)
           (silent_settled d J z c.args.mark (step_at d.clock c.go_on-deed.result) (step_at d.clock c.go_on-deed.result)
-          reached refl (step ∙ w.in-None.is))
+          reached refl (step ∙ w.in-None.is) c.go_on-deed.ensures.low)
     ]

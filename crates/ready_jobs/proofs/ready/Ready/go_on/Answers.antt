@@ -4,11 +4,11 @@ use Rattle.dover_model.specs.State.{is_held}
 use Rattle.ready_jobs.specs.Deeds.{step_at}
 use Rattle.ready_jobs.specs.Parts.{Parted}
 use Rattle.ready_jobs.specs.Course.{Course, Follows}
-use Rattle.ready_jobs.specs.Spending.{HasPaid}
+use Rattle.ready_jobs.specs.Spending.{HasPaid, HasPaidFreely}
 use Rattle.ready_jobs.proofs.Costing.{fewer_wait, silent_at_most}
 use Rattle.ready_jobs.proofs.Courses.{course_part, course_reaches, reaches_course}
 use Rattle.ready_jobs.proofs.Seeing.{held_list}
-use Rattle.ready_jobs.proofs.Spending.{silent_pays}
+use Rattle.ready_jobs.proofs.Spending.{silent_pays, silent_frees}
 use Rattle.ready_jobs.proofs.ready.Ready.go_on.Goals as goal
 
 pub settle-deed-requires-clause-part : goal.settle-deed-requires-clause-part
@@ -52,6 +52,24 @@ returns-clause-paid g c start paid =
     c.self.invariant.0 c.self.invariant.1 c.self.invariant.2)
     c.args.steps.now c.settle-deed.new.steps c.settle-deed.ensures.count start
     (subst (λ d. HasPaid d start c.args.steps.now) (sym c.self.view_is) paid)
+
+pub returns-clause-freely : goal.returns-clause-freely
+returns-clause-freely g c start paid freely =
+    let i = c.self.inside in
+    silent_frees i.ratio i.parts c.settle-deed.new.self i.jobs i.done c.args.mark
+    (step_at c.settle-deed.new.self.clock c.settle-deed.result)
+    c.laws.ensures.roles c.laws-2.ensures.roles c.self.invariant
+    (course_reaches i.ratio i.parts c.settle-deed.new.self i.jobs i.done c.args.mark
+    (step_at c.settle-deed.new.self.clock c.settle-deed.result)
+    (ap (λ (q : Parted). q.version) c.settle-deed.ensures.kept)
+    (subst (λ (d : Course). 0 < length d.ready) (sym c.self.view_is) c.requires.some)
+    c.settle-deed.ensures.settles c.settle-deed.ensures.step c.settle-deed.ensures.stops c.settle-deed.ensures.low
+    c.requires.known
+    c.self.invariant.0 c.self.invariant.1 c.self.invariant.2)
+    c.args.steps.now c.settle-deed.new.steps c.settle-deed.ensures.count start
+    (subst (λ d. HasPaid d start c.args.steps.now) (sym c.self.view_is) paid)
+    (λ same. subst (λ d. HasPaidFreely d start c.args.steps.now) (sym c.self.view_is)
+    (freely (same ∙ ap (λ (d : Course). d.clock) c.self.view_is)))
 
 pub returns-clause-once : goal.returns-clause-once
 returns-clause-once g c d fits =

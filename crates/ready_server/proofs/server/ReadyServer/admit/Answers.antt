@@ -19,11 +19,12 @@ release-requires-clause-ahead c =
 
 pub returns-clause-serves : goal.returns-clause-serves
 returns-clause-serves c J rests valid =
-    subst (λ n. Serves (record c.args.self.now { ready = c.release.new.self }) (with_jobs J (c.args.job ∷ []))
+    subst (λ n. Serves (record c.args.self.now { ready = c.release.new.self; last = c.release-self.result })
+    (with_jobs J (c.args.job ∷ []))
     (Mark c.args.job.release) (settled J c.args.job.release ++ Release n c.args.job ∷ []))
     (sym c.jobs-number.ensures.is)
     (release_given c.args.self.now J c.args.job rests valid c.release.new.self c.release.ensures.kept
-    c.release.ensures.ready)
+    c.release.ensures.ready c.release-self.result c.release-self.ensures.is)
 
 pub returns-clause-spare : goal.returns-clause-spare
 returns-clause-spare c =
@@ -35,3 +36,14 @@ returns-clause-spare c =
       length-append old.ready (fresh_job old c.args.job ∷ []),
       c.requires.room,
     )
+
+pub returns-clause-paid : goal.returns-clause-paid
+returns-clause-paid c start now paid = record {
+  paid = c.release.ensures.paid start now paid.paid;
+  freely = λ less. absurd (omega (
+    arith,
+    less,
+    ap (λ (d : Course). d.clock) c.release.ensures.kept,
+    c.release-self.ensures.is,
+  ));
+}

@@ -7,4 +7,4 @@ returns-clause-begins c = serves_begins
 
 pub returns-clause-few : goal.returns-clause-few
 returns-clause-few c s J to events start now serves paid =
-    paid_few s.ready J serves.state serves.follows start now paid
+    paid_few s.ready J serves.state serves.follows start now paid.paid
