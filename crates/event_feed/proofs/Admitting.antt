@@ -9,12 +9,12 @@ use Rattle.dover_model.specs.JobFacts.{JobFacts}
 use Rattle.dover_model.specs.declared.events.Refusal.{Refusal}
 use Rattle.dover_model.specs.Admission.{refusal_of}
 use Rattle.dover_model.specs.Session.{Session, Item, JobItem, RefusedItem, FinishItem, Refused, EarlyFinish, RefusedJob}
-use Rattle.dover_model.specs.Session.{RefusedDone, refused_at, refused_done_at, with_item, with_named, early_at, is_right}
+use Rattle.dover_model.specs.Session.{RefusedDone, refused_at, refused_done_at, with_item, with_named, early_at}
+use Rattle.dover_model.specs.Session.{is_right}
 use Rattle.dover_model.specs.Session.{late_refusal, may_finish_early}
 use Rattle.dover_model.specs.Session.{admitted_jobs}
 use Rattle.dover_model.specs.Session.{refuses_lines}
 use Rattle.dover_model.specs.FeedLine.{FeedLine, RatioLine, JobLine, TickLine, DoneLine, EndLine, feed_line}
-use Rattle.dover_model.specs.Taken.{two_versions}
 use Rattle.dover_model.specs.Feed.{Account, Standing, Lines, Line, is_open, next_line, read_line, with_line, with_fault}
 use Rattle.dover_model.specs.Feed.{with_item_in, later_line_cause, late_cause, Order, NotAdmitted, NotDone, account}
 use Rattle.dover_model.proofs.Accounts.{account_append}
@@ -39,7 +39,7 @@ refused_more (RefusedItem s ∷ items) r = refused_more items r
 refused_more (FinishItem f ∷ items) r = refused_more items r
 
 -- an early finish more
-finish_more : (items : List Item) (f : EarlyFinish)
+pub finish_more : (items : List Item) (f : EarlyFinish)
     → length (admitted_jobs (items ++ FinishItem f ∷ [])) ≡ length (admitted_jobs items)
 finish_more [] f = refl
 finish_more (JobItem i ∷ items) f = omega (arith, finish_more items f)
@@ -91,7 +91,8 @@ module _ (lines : ℕ) (S : Session) (mark : ℕ) (standing : Standing) where
 
     by_order : (b : Bool) → HasAtLeast n
         (with_line at (JobLine j)
-        (cond b (Some (late_cause S.rules.version)) (option_map NotAdmitted (refusal_of S.rules.ratio (admitted_jobs S.items) j))))
+        (cond b (Some (late_cause S.rules.version)) (option_map NotAdmitted (refusal_of S.rules.ratio
+        (admitted_jobs S.items) j))))
     by_order true = by_late (late_refusal S.rules.version)
     by_order false = by_refusal (refusal_of S.rules.ratio (admitted_jobs S.items) j)
 
@@ -112,7 +113,8 @@ module _ (lines : ℕ) (S : Session) (mark : ℕ) (standing : Standing) where
     )
 
     by_tick : (b : Bool)
-        → HasAtLeast n (with_line at (DoneLine t m) (cond b (Some Order) (cond (is_right S mark t m) None (Some NotDone))))
+        → HasAtLeast n (with_line at (DoneLine t m) (cond b (Some Order) (cond (is_right S mark t m) None
+        (Some NotDone))))
     by_tick true = (S, refl, omega arith)
     by_tick false = by_right (is_right S mark t m)
 
@@ -160,7 +162,7 @@ keeps_lines n (l ∷ ls) a it = keeps_lines n ls (next_line a l) (keeps_next n a
 
 -- more bytes
 keeps_front : (n : ℕ) (F G : List ℕ) → HasAtLeast n (account F) → HasAtLeast n (account (F ++ G))
-keeps_front n F G it = let more = account_append two_versions F G in
+keeps_front n F G it = let more = account_append F G in
     subst (HasAtLeast n) (sym more.1) (keeps_lines n more.0 (account F) it)
 
 -- a session that is there stays, whatever bytes follow

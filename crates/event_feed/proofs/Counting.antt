@@ -17,7 +17,8 @@ use Rattle.dover_model.specs.Feed.{next_line, no_lines, account_of_lines, NotAdm
 abbrev after_refusal : Account → JobFacts → Refusal → Option Session → Account
 after_refusal a j refusal None = a
 after_refusal a j refusal (Some S) =
-    cond (refuses_lines S.rules.version) (with_item_in a (refused_at a.mark j refusal)) (with_fault a (NotAdmitted refusal))
+    cond (refuses_lines S.rules.version) (with_item_in a (refused_at a.mark j refusal)) (with_fault a
+    (NotAdmitted refusal))
 
 -- a refused job changes no count
 refused_lines : (a : Account) (j : JobFacts) (refusal : Refusal) (session : Option Session)

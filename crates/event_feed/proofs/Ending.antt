@@ -5,10 +5,11 @@ use Rattle.std.proofs.lemmas.List.{append-nil, take-append-drop}
 use Rattle.dover_model.specs.Feed as feeds
 use Rattle.dover_model.specs.Feed.{no_lines, account, account_of_lines, is_open}
 use Rattle.dover_model.specs.Instance.{IsValid}
+use Rattle.dover_model.specs.Session.{instance_of}
 use Rattle.dover_model.specs.JobFacts.{JobFacts}
-use Rattle.dover_model.specs.Taken.{two_versions}
 use Rattle.dover_model.specs.Lines.{lines_of, whole_lines, rest_of}
 use Rattle.dover_model.proofs.Accounts.{Closes, HoldsBy, lines_goes}
+use Rattle.dover_model.proofs.Meeting.{finishing_valid}
 use Rattle.event_feed.specs.Answers.{EndAnswers, short_after}
 use Rattle.event_feed.specs.Kept.{Kept, standing_of, fault_of, cause_of_fault}
 use Rattle.event_feed.specs.declared.faults.FeedFault.{FeedFault}
@@ -26,13 +27,15 @@ use Rattle.event_feed.proofs.Listing.{goes_on}
 
 module _ (ls : List (List ℕ)) (ended : (account_of_lines ls).standing ≡ feeds.Ended) where
   -- what an account keeps at its end
-  ended_keeps : HoldsBy two_versions feeds.Ended (account_of_lines ls).session (account_of_lines ls).mark (account_of_lines ls).lines
-  ended_keeps = subst (λ s. HoldsBy two_versions s (account_of_lines ls).session (account_of_lines ls).mark
-      (account_of_lines ls).lines) ended (lines_goes two_versions ls no_lines refl).0
+  ended_keeps : HoldsBy feeds.Ended (account_of_lines ls).session (account_of_lines ls).mark
+      (account_of_lines ls).lines
+  ended_keeps = subst (λ s. HoldsBy s (account_of_lines ls).session (account_of_lines ls).mark
+      (account_of_lines ls).lines) ended (lines_goes ls no_lines refl).0
 
   -- a feed that is ended has a session
   pub none_ended : (jobs : List JobFacts) → Lists None jobs (account_of_lines ls).session → ⊥
-  none_ended jobs it = subst (λ s. HoldsBy two_versions feeds.Ended s (account_of_lines ls).mark (account_of_lines ls).lines) it.1
+  none_ended jobs it = subst (λ s. HoldsBy feeds.Ended s (account_of_lines ls).mark
+      (account_of_lines ls).lines) it.1
       ended_keeps
 
   -- its jobs are those listed
@@ -40,13 +43,14 @@ module _ (ls : List (List ℕ)) (ended : (account_of_lines ls).standing ≡ feed
       → Lists (Some (listed.ratio, listed.version)) listed.jobs.items (account_of_lines ls).session
       → IsEnded listed (account_of_lines ls)
   ended_jobs listed it =
-      let closes : Closes two_versions it.0 =
-      subst (λ s. HoldsBy two_versions feeds.Ended s (account_of_lines ls).mark (account_of_lines ls).lines) it.1 ended_keeps in
+      let closes : Closes it.0 =
+      subst (λ s. HoldsBy feeds.Ended s (account_of_lines ls).mark
+      (account_of_lines ls).lines) it.1 ended_keeps in
       record { ended = ended; session = it.0; session_is = it.1; valid = closes.valid; jobs = it.2 }
 
 -- they are valid
 pub jobs_valid : (a : feeds.Account) (listed : Listed) → IsEnded listed a → IsValid (listed_instance listed)
-jobs_valid a listed it = subst IsValid (sym it.jobs) it.valid.jobs
+jobs_valid a listed it = subst IsValid (sym it.jobs) (finishing_valid (instance_of it.session) [] it.valid.jobs)
 
 -- ---- a reader
 

@@ -12,7 +12,6 @@ use Rattle.dover_model.specs.FeedLine.{FeedLine, feed_line, line_of_fields}
 use Rattle.dover_model.specs.Session.{Session}
 use Rattle.dover_model.specs.Feed.{Account, Standing, Open, Ended, Faulty, Lines, Short, Cause, no_lines, is_open}
 use Rattle.dover_model.specs.Feed.{next_line, read_line, with_fault, account}
-use Rattle.dover_model.specs.Taken.{two_versions}
 use Rattle.dover_model.specs.Due.{due, closed, fault_text}
 use Rattle.dover_model.proofs.Accounts.{account_append}
 use Rattle.line_text.proofs.Lengths.{AreNotTooLong, text_few}
@@ -29,7 +28,7 @@ closed_stays (l ∷ ls) a closed =
 
 -- so does that of more bytes
 pub closed_account : (F G : List ℕ) → is_open (account F) ≡ false → account (F ++ G) ≡ account F
-closed_account F G closed = let it = account_append two_versions F G in it.1 ∙ closed_stays it.0 (account F) closed
+closed_account F G closed = let it = account_append F G in it.1 ∙ closed_stays it.0 (account F) closed
 
 -- where it doesn't go on, the end of the input adds nothing to what is due
 pub closed_due : (x : List ℕ) → is_open (account x) ≡ false → closed x ≡ due x

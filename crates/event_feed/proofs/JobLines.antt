@@ -1,46 +1,120 @@
 -- A job line in a session that goes on: admitted, refused, or at fault.
-use Rattle.std.proofs.Common.{◌≡◌, ℕ, ◌≤◌, List, [], ◌∷◌, ◌++◌, refl, sym, ap, ◌∙◌, subst, cond, Option, Some, None, Ok}
+use Rattle.std.proofs.Common.{◌≡◌, ℕ, ◌≤◌, ◌<◌, List, [], ◌∷◌, ◌++◌, refl, sym, ap, ◌∙◌, subst, cond, Option, Some}
+use Rattle.std.proofs.Common.{None, Ok}
 use Rattle.std.proofs.Common.{Err, true, ◌⊎◌, inl, inr}
 use Rattle.std.specs.Option.{option_map}
-use Rattle.std.proofs.lemmas.Bool.{le-ltb}
-use Rattle.dover_model.specs.Taken.{two_versions, is_taken}
+use Rattle.std.proofs.lemmas.Bool.{le-ltb, lt-ltb}
 use Rattle.dover_model.specs.Numerals.{AreShort}
 use Rattle.dover_model.specs.declared.events.Version.{Version}
 use Rattle.dover_model.specs.declared.events.Version.TheVariants.{One, Two, Three}
 use Rattle.dover_model.specs.declared.events.Refusal.{Refusal}
+use Rattle.dover_model.specs.declared.events.Refusal.TheVariants.{Late}
 use Rattle.dover_model.specs.JobFacts.{JobFacts, job_numbers}
 use Rattle.dover_model.specs.Admission.{refusal_of}
-use Rattle.dover_model.specs.Session.{Session, RefusedJob, refused_at, admitted_jobs, refuses_lines}
+use Rattle.dover_model.specs.Session.{Session, RefusedJob, refused_at, admitted_jobs, refuses_lines, refusal_at}
+use Rattle.dover_model.specs.Session.{late_refusal}
 use Rattle.dover_model.specs.FeedLine.{JobLine}
-use Rattle.dover_model.specs.Feed.{Account, NotAdmitted, late_cause, cause_of, with_fault, with_line, with_item_in}
+use Rattle.dover_model.specs.Feed.{Account, NotAdmitted, Order, late_cause, cause_of, with_fault, with_line}
+use Rattle.dover_model.specs.Feed.{with_item_in}
 use Rattle.dover_model.specs.Feed.{rules_with}
-use Rattle.dover_model.proofs.Tests.{never}
 use Rattle.dover_model.proofs.Growing.{job_instance, refused_instance}
 use Rattle.admission.specs.Kept as admission
 use Rattle.admission.specs.Answers as answers
 use Rattle.admission.specs.declared.refused.Refused.{Refused}
 use Rattle.admission.specs.declared.refused.Refused.TheVariants.{BadJob, Count, Total, Ratio}
+use Rattle.event_feed.specs.declared.faults.Cause.TheVariants as fault
 use Rattle.event_feed.specs.declared.fed.Fed.TheVariants as fed
 use Rattle.event_feed.specs.declared.kept_session.KeptSession.{KeptSession}
 use Rattle.event_feed.specs.Kept.{cause_of_fault, cause_of_refused, IsKeptOf}
 use Rattle.event_feed.specs.Answers.{NamesOther}
 use Rattle.event_feed.specs.Reading.{open_account, IsTaken, Takes}
 
--- of the versions that refuse job lines alone, Two is taken
-pub two_taken : (v : Version) → is_taken two_versions v ≡ true → (v ≡ Two) ⊎ (v ≡ Three) → v ≡ Two
-two_taken v taken (inl two) = two
-two_taken v taken (inr three) = never (sym (ap (is_taken two_versions) three) ∙ taken)
+-- from Two on job lines are refused alone
+pub refuses_alone : (v : Version) → (v ≡ Two) ⊎ (v ≡ Three) → refuses_lines v ≡ true
+refuses_alone v (inl two) = ap refuses_lines two
+refuses_alone v (inr three) = ap refuses_lines three
 
-module _ (lines : ℕ) (S : Session) (mark : ℕ) (j : JobFacts) (no_fall : mark ≤ j.release) where
+-- before Three a late one ends the feed
+order_late : (v : Version) → (v ≡ One) ⊎ (v ≡ Two) → late_cause v ≡ Order
+order_late v (inl one) = ap late_cause one
+order_late v (inr two) = ap late_cause two
+
+module _ (lines : ℕ) (S : Session) (mark : ℕ) (j : JobFacts) where
   -- the account, with the line counted
   abbrev before : Account
   before = open_account lines (Some S) mark
 
+  -- the line that is refused alone is handed in
+  takes_alone : (kept : KeptSession) → IsKeptOf kept S mark → refuses_lines S.rules.version ≡ true
+      → AreShort (job_numbers j) → (refusal : Refusal)
+      → refusal_at S.rules (admitted_jobs S.items) mark j ≡ Some refusal
+      → cause_of before (JobLine j) ≡ Some (NotAdmitted refusal)
+      → Takes (JobLine j) lines S mark kept (Ok (fed.Refused j.release j.work j.deadline j.value refusal))
+  takes_alone kept it alone numerals refusal is cause =
+      subst (λ b. IsTaken (Some kept) (Some (JobLine j)) before b
+      (Ok (fed.Refused j.release j.work j.deadline j.value refusal)))
+      (sym (ap (with_line before (JobLine j)) cause
+      ∙ ap (λ b. cond b (with_item_in before (refused_at mark j refusal))
+      (with_fault before (NotAdmitted refusal))) alone)) (record {
+        keeps = record {
+          rules = it.rules;
+          jobs = subst (admission.StandsFor kept.admission)
+              (sym (ap (λ J. J.jobs) (refused_instance S (record { at = mark; line = RefusedJob j refusal })))) it.jobs;
+          marked = it.marked;
+        };
+        gives = record {
+          session = S;
+          before_is = refl;
+          version = alone;
+          after_is = refl;
+          numerals = numerals;
+          refused = is;
+        };
+      })
+
+  -- ---- a late line
+
+  -- its cause
+  late_line_cause : j.release < mark → cause_of before (JobLine j) ≡ Some (late_cause S.rules.version)
+  late_line_cause late =
+      ap (λ b. cond b (Some (late_cause S.rules.version)) (option_map NotAdmitted (refusal_of S.rules.ratio
+      (admitted_jobs S.items) j)))
+      (lt-ltb _ _ late)
+
+  -- from version Three on it is handed in
+  pub takes_late : (kept : KeptSession) → IsKeptOf kept S mark → j.release < mark → S.rules.version ≡ Three
+      → AreShort (job_numbers j)
+      → Takes (JobLine j) lines S mark kept (Ok (fed.Refused j.release j.work j.deadline j.value Late))
+  takes_late kept it late version numerals =
+      takes_alone kept it (ap refuses_lines version) numerals Late
+      (ap (λ b. cond b (late_refusal S.rules.version) (refusal_of S.rules.ratio (admitted_jobs S.items) j))
+      (lt-ltb _ _ late)
+      ∙ ap late_refusal version)
+      (late_line_cause late ∙ ap (λ v. Some (late_cause v)) version)
+
+  -- before it is at fault
+  pub takes_order : (kept : KeptSession) → IsKeptOf kept S mark → j.release < mark
+      → (S.rules.version ≡ One) ⊎ (S.rules.version ≡ Two)
+      → Takes (JobLine j) lines S mark kept (Err fault.Order)
+  takes_order kept it late version =
+      subst (λ b. IsTaken (Some kept) (Some (JobLine j)) before b (Err fault.Order))
+      (sym (ap (with_line before (JobLine j)) (late_line_cause late ∙ ap (λ c. Some c)
+      (order_late S.rules.version version)))) (record {
+        keeps = it;
+        gives = record { after_is = refl; other = tt };
+      })
+
+module _ (lines : ℕ) (S : Session) (mark : ℕ) (j : JobFacts) (no_fall : mark ≤ j.release) where
+  -- the account, with the line counted
+  abbrev on_time : Account
+  on_time = open_account lines (Some S) mark
+
   -- its cause is that of the admission
   job_cause : (refusal : Option Refusal) → refusal_of S.rules.ratio (admitted_jobs S.items) j ≡ refusal
-      → cause_of before (JobLine j) ≡ option_map NotAdmitted refusal
+      → cause_of on_time (JobLine j) ≡ option_map NotAdmitted refusal
   job_cause refusal is =
-      ap (λ b. cond b (Some (late_cause S.rules.version)) (option_map NotAdmitted (refusal_of S.rules.ratio (admitted_jobs S.items) j)))
+      ap (λ b. cond b (Some (late_cause S.rules.version)) (option_map NotAdmitted (refusal_of S.rules.ratio
+      (admitted_jobs S.items) j)))
       (le-ltb _ _ no_fall)
       ∙ ap (option_map NotAdmitted) is
 
@@ -52,12 +126,11 @@ module _ (lines : ℕ) (S : Session) (mark : ℕ) (j : JobFacts) (no_fall : mark
       → refusal_of S.rules.ratio (admitted_jobs S.items) j ≡ None → number ≡ kept.admission.count
       → Takes (JobLine j) lines S mark new (Ok (fed.Job number j))
   takes_job kept new number it version ratio marked stands none counts =
-      subst (λ b. IsTaken (Some new) (Some (JobLine j)) before b (Ok (fed.Job number j)))
-      (sym (ap (with_line before (JobLine j)) (job_cause None none))) (record {
+      subst (λ b. IsTaken (Some new) (Some (JobLine j)) on_time b (Ok (fed.Job number j)))
+      (sym (ap (with_line on_time (JobLine j)) (job_cause None none))) (record {
         keeps = record {
           rules = it.rules ∙ ap (λ k. rules_with k kept.version) (sym ratio)
               ∙ ap (rules_with new.admission.ratio) (sym version);
-          version_taken = ap (is_taken two_versions) version ∙ it.version_taken;
           jobs = subst (admission.StandsFor new.admission) (sym (ap (λ J. J.jobs) (job_instance S j)))
               (stands (admitted_jobs S.items) it.jobs);
           marked = marked;
@@ -72,38 +145,20 @@ module _ (lines : ℕ) (S : Session) (mark : ℕ) (j : JobFacts) (no_fall : mark
         };
       })
 
-  -- the line of a refused job is handed in, in version Two
-  pub takes_refused : (kept : KeptSession) → IsKeptOf kept S mark → S.rules.version ≡ Two → AreShort (job_numbers j)
-      → (refusal : Refusal)
+  -- the line of a refused job is handed in, from version Two on
+  pub takes_refused : (kept : KeptSession) → IsKeptOf kept S mark → refuses_lines S.rules.version ≡ true
+      → AreShort (job_numbers j) → (refusal : Refusal)
       → refusal_of S.rules.ratio (admitted_jobs S.items) j ≡ Some refusal
       → Takes (JobLine j) lines S mark kept (Ok (fed.Refused j.release j.work j.deadline j.value refusal))
-  takes_refused kept it version numerals refusal is =
-      subst (λ b. IsTaken (Some kept) (Some (JobLine j)) before b
-      (Ok (fed.Refused j.release j.work j.deadline j.value refusal)))
-      (sym (ap (with_line before (JobLine j)) (job_cause (Some refusal) is)
-      ∙ ap (λ v. cond (refuses_lines v) (with_item_in before (refused_at mark j refusal))
-      (with_fault before (NotAdmitted refusal))) version)) (record {
-        keeps = record {
-          rules = it.rules;
-          version_taken = it.version_taken;
-          jobs = subst (admission.StandsFor kept.admission)
-              (sym (ap (λ J. J.jobs) (refused_instance S (record { at = mark; line = RefusedJob j refusal })))) it.jobs;
-          marked = it.marked;
-        };
-        gives = record {
-          session = S;
-          before_is = refl;
-          version = version;
-          after_is = refl;
-          numerals = numerals;
-          refused = is;
-          no_fall = no_fall;
-        };
-      })
+  takes_refused kept it alone numerals refusal is =
+      takes_alone lines S mark j kept it alone numerals refusal
+      (ap (λ b. cond b (late_refusal S.rules.version) (refusal_of S.rules.ratio (admitted_jobs S.items) j))
+      (le-ltb _ _ no_fall) ∙ is)
+      (job_cause (Some refusal) is)
 
   -- the fault of a refused job names the other job
   names_other : (refused : Refused) → answers.NamesOther S.rules.ratio (admitted_jobs S.items) j refused
-      → NamesOther (Some (JobLine j)) before (cause_of_refused refused)
+      → NamesOther (Some (JobLine j)) on_time (cause_of_refused refused)
   names_other BadJob other = tt
   names_other Count other = tt
   names_other Total other = tt
@@ -124,13 +179,13 @@ module _ (lines : ℕ) (S : Session) (mark : ℕ) (j : JobFacts) (no_fall : mark
       → Takes (JobLine j) lines S mark kept (Err (cause_of_refused refused))
   takes_fault kept it version refused is other =
       let refusal : Refusal = answers.refusal_of_refused refused in
-      subst (λ b. IsTaken (Some kept) (Some (JobLine j)) before b (Err (cause_of_refused refused)))
-      (sym (ap (with_line before (JobLine j)) (job_cause (Some refusal) is)
-      ∙ ap (λ v. cond (refuses_lines v) (with_item_in before (refused_at mark j refusal))
-      (with_fault before (NotAdmitted refusal))) version)) (record {
+      subst (λ b. IsTaken (Some kept) (Some (JobLine j)) on_time b (Err (cause_of_refused refused)))
+      (sym (ap (with_line on_time (JobLine j)) (job_cause (Some refusal) is)
+      ∙ ap (λ v. cond (refuses_lines v) (with_item_in on_time (refused_at mark j refusal))
+      (with_fault on_time (NotAdmitted refusal))) version)) (record {
         keeps = it;
         gives = record {
-          after_is = ap (with_fault before) (sym (fault_of_refused refused));
+          after_is = ap (with_fault on_time) (sym (fault_of_refused refused));
           other =
               names_other refused other;
         };

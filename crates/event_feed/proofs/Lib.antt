@@ -1,4 +1,5 @@
 pub mod JobLines
+pub mod DoneLines
 pub mod Taking
 pub mod Counting
 pub mod Skipping

@@ -6,7 +6,6 @@ use Rattle.std.specs.Prelude.{nat_lt, IsSome}
 use Rattle.std.proofs.lemmas.Bool.{le-ltb}
 use Rattle.std.proofs.lemmas.List.Sums.{fold-append}
 use Rattle.dover_model.specs.Limits.{most_lines, last_tick}
-use Rattle.dover_model.specs.Taken.{two_versions}
 use Rattle.dover_model.specs.Session.{Session}
 use Rattle.dover_model.specs.FeedLine.{TickLine, feed_line, feed_text}
 use Rattle.dover_model.specs.Feed.{Account, Open, Order, Lines, with_fault, with_line, next_line, no_lines}
@@ -26,9 +25,10 @@ pub mark_known : (ls : List (List ℕ)) (S : Session) → (account_of_lines ls).
     → (account_of_lines ls).mark ≤ last_tick
 mark_known ls S opened session =
     let a : Account = account_of_lines ls in
-    let kept : IsKept two_versions a = (lines_goes two_versions ls no_lines zero_mark).0 in
-    let holds : Holds two_versions S a.mark a.lines =
-    subst (λ o. HoldsOpen two_versions o a.mark a.lines) session (subst (λ s. HoldsBy two_versions s a.session a.mark a.lines) opened kept) in
+    let kept : IsKept a = (lines_goes ls no_lines zero_mark).0 in
+    let holds : Holds S a.mark a.lines =
+    subst (λ o. HoldsOpen o a.mark a.lines) session (subst
+    (λ s. HoldsBy s a.session a.mark a.lines) opened kept) in
     holds.known where
       zero_mark : no_lines.mark ≡ 0
       zero_mark = refl

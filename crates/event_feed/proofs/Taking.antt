@@ -1,6 +1,6 @@
 -- A line that is taken in, from the account in which it is counted to that of all lines.
 use Rattle.std.proofs.Common.{◌≡◌, ℕ, suc, ◌≤◌, List, [], ◌∷◌, ◌++◌, refl, sym, ap}
-use Rattle.std.proofs.Common.{◌∙◌, subst, cond, true, false, Option, Some, None, Err, inl, Result}
+use Rattle.std.proofs.Common.{◌∙◌, subst, cond, true, false, Option, Some, None, Ok, Err, inl, Result}
 use Rattle.std.specs.Prelude.{IsSome}
 use Rattle.std.proofs.lemmas.Bool.{le-ltb}
 use Rattle.std.proofs.lemmas.List.Sums.{fold-append}
@@ -15,8 +15,10 @@ use Rattle.event_feed.specs.declared.intake.Standing as standings
 use Rattle.event_feed.specs.declared.intake.Standing.TheVariants as kept
 use Rattle.event_feed.specs.declared.kept_session.KeptSession.{KeptSession}
 use Rattle.event_feed.specs.declared.fed.Fed.{Fed}
-use Rattle.event_feed.specs.Kept.{KeepsAccount, StandsFor, IsGoing, cause_of_fault, fault_of, has_ended}
-use Rattle.event_feed.specs.Answers.{counted, Answers}
+use Rattle.event_feed.specs.declared.fed.Fed.TheVariants as feds
+use Rattle.event_feed.specs.Kept.{KeepsAccount, StandsFor, IsGoing, cause_of_fault, fault_of, has_ended, standing_of}
+use Rattle.event_feed.specs.Answers.{counted, Answers, IsFed}
+use Rattle.event_feed.proofs.DoneLines.{done_standing, done_lines}
 use Rattle.event_feed.specs.Reading.{open_account, IsTaken, TakesIn}
 
 -- what is taken of a line's form is taken of the line
@@ -81,6 +83,48 @@ answers_fault ls bytes session lines cause opened counts it =
       other =
           it.gives.other;
     })
+
+-- ---- a line that isn't at fault
+
+-- how the account stands, and how many lines it has
+abbrev pub Stays : Account → Account → Type 0
+Stays a after = (after.standing ≡ a.standing) × (after.lines ≡ a.lines)
+
+-- one that isn't the end leaves both
+fed_stays : (fed : Fed) (a after : Account) → (fed ≡ feds.Over → ⊥) → IsFed a after fed → Stays a after
+fed_stays (feds.Ratio k version) a after more it =
+    (ap (λ (x : Account). x.standing) it.after_is, ap (λ (x : Account). x.lines) it.after_is)
+fed_stays (feds.Job number job) a after more it =
+    (ap (λ (x : Account). x.standing) it.after_is, ap (λ (x : Account). x.lines) it.after_is)
+fed_stays (feds.Tick tick) a after more it =
+    (ap (λ (x : Account). x.standing) it.after_is, ap (λ (x : Account). x.lines) it.after_is)
+fed_stays feds.Over a after more it = absurd (more refl)
+fed_stays (feds.Refused release work deadline value cause) a after more it =
+    (ap (λ (x : Account). x.standing) it.after_is, ap (λ (x : Account). x.lines) it.after_is)
+fed_stays (feds.Done tick number) a after more it = (
+  ap (λ (x : Account). x.standing) it.after_is ∙ done_standing it.session tick number a,
+  ap (λ (x : Account). x.lines) it.after_is ∙ done_lines it.session tick number a,
+)
+
+-- what is kept then
+pub keeps_fed : (ls : List (List ℕ)) (bytes : List ℕ) (session : Option KeptSession) (lines : ℕ) (fed : Fed)
+    → (account_of_lines ls).standing ≡ Open → lines ≡ suc (account_of_lines ls).lines → (fed ≡ feds.Over → ⊥)
+    → IsTaken session (feed_line bytes) (counted (account_of_lines ls))
+    (read_line (counted (account_of_lines ls)) bytes) (Ok fed)
+    → (standing : standings.Standing) → standing ≡ kept.Open
+    → StandsFor (record { lines = lines; session = session; standing = standing }) (ls ++ bytes ∷ [])
+keeps_fed ls bytes session lines fed opened counts more it standing on =
+    let a : Account = account_of_lines ls in
+    let stays : Stays (counted a) (read_line (counted a) bytes) =
+    fed_stays fed (counted a) (read_line (counted a) bytes) more it.gives in
+    record {
+      by_account = subst (KeepsAccount (record { lines = lines; session = session; standing = standing }))
+          (sym (next_account ls bytes opened)) (record {
+            counted = counts ∙ sym stays.1;
+            session = it.keeps;
+            standing = ap standing_of on ∙ sym (stays.0 ∙ opened);
+          });
+    }
 
 -- where neither the end nor a fault came, the feed goes on
 pub goes_on : (standing : standings.Standing)

@@ -1,16 +1,18 @@
 -- What the answers to the lines of a feed say of its account.
-use Rattle.std.specs.Prelude.{◌≡◌, ℕ, suc, ◌≤◌, ◌⊎◌, List, length, Option, Some, None, Result, Ok, Err}
+use Rattle.std.specs.Prelude.{◌≡◌, ℕ, suc, ◌≤◌, ◌⊎◌, List, [], ◌∷◌, length, true, if◌then◌else◌, Option, Some, None}
+use Rattle.std.specs.Prelude.{Result, Ok, Err}
 use Rattle.dover_model.specs.Limits.{last_tick}
 use Rattle.dover_model.specs.Numerals.{AreShort}
 use Rattle.dover_model.specs.declared.events.Version.{Version}
-use Rattle.dover_model.specs.declared.events.Version.TheVariants.{Two}
 use Rattle.dover_model.specs.declared.events.Refusal.{Refusal}
 use Rattle.dover_model.specs.JobFacts.{JobFacts, job_numbers, job_of_numbers}
 use Rattle.dover_model.specs.Fraction.{Fraction}
 use Rattle.dover_model.specs.Admission.{refusal_of}
 use Rattle.dover_model.specs.Session.{Session, JobItem, refused_at, with_item, new_session, admitted_jobs}
-use Rattle.dover_model.specs.FeedLine.{FeedLine, JobLine, feed_line}
+use Rattle.dover_model.specs.Session.{refuses_lines, refusal_at, may_finish_early, is_right}
+use Rattle.dover_model.specs.FeedLine.{FeedLine, JobLine, DoneLine, feed_line}
 use Rattle.dover_model.specs.Feed.{Account, Open, Ended, Faulty, rules_with, with_fault, account_of_lines}
+use Rattle.dover_model.specs.Feed.{with_good_line, with_refused_done}
 use Rattle.admission.specs.Answers.{IsOther}
 use Rattle.event_feed.specs.declared.faults.Cause.{Cause}
 use Rattle.event_feed.specs.declared.faults.Cause.TheVariants as cause
@@ -62,11 +64,24 @@ pub record EndsFeed (a after : Account) : Type 0 where
 pub record AddsRefused (job : JobFacts) (refusal : Refusal) (a after : Account) : Type 0 where
   pub session : Session
   pub before_is : a.session ≡ Some session
-  pub version : session.rules.version ≡ Two
+  pub version : refuses_lines session.rules.version ≡ true
   pub after_is : after ≡ record a { session = Some (with_item session (refused_at a.mark job refusal)) }
   pub numerals : AreShort (job_numbers job)
-  pub refused : refusal_of session.rules.ratio (admitted_jobs session.items) job ≡ Some refusal
-  pub no_fall : a.mark ≤ job.release
+  pub refused : refusal_at session.rules (admitted_jobs session.items) a.mark job ≡ Some refusal
+
+-- the account with a done line: a finish where it is right behind the session, and a refused line where it isn't
+abbrev pub with_done : Session → (tick number : ℕ) → Account → Account
+with_done S tick number a =
+    if is_right S a.mark tick number then with_good_line a (DoneLine tick number) else with_refused_done a tick number
+
+-- a done line is handed in
+pub record AddsDone (tick number : ℕ) (a after : Account) : Type 0 where
+  pub session : Session
+  pub before_is : a.session ≡ Some session
+  pub version : may_finish_early session.rules.version ≡ true
+  pub after_is : after ≡ with_done session tick number a
+  pub numerals : AreShort (number ∷ [])
+  pub known : tick ≤ last_tick
 
 -- what the answer says
 abbrev pub IsFed : Account → Account → Fed → Type 0
@@ -76,6 +91,7 @@ IsFed a after (fed.Tick tick) = MovesMark tick a after
 IsFed a after fed.Over = EndsFeed a after
 IsFed a after (fed.Refused release work deadline value refusal) =
     AddsRefused (job_of_numbers release work deadline value) refusal a after
+IsFed a after (fed.Done tick number) = AddsDone tick number a after
 
 -- ---- faults
 

@@ -3,7 +3,6 @@ use Rattle.std.specs.Prelude.{◌≡◌, ℕ, ◌+◌, ◌≤◌, List, Bool, tr
 use Rattle.dover_model.specs.Limits.{most_lines}
 use Rattle.dover_model.specs.declared.events.Refusal.TheVariants as refusal
 use Rattle.dover_model.specs.Session.{Session, admitted_jobs}
-use Rattle.dover_model.specs.Taken.{two_versions, is_taken}
 use Rattle.dover_model.specs.Feed as model
 use Rattle.dover_model.specs.Feed.{Account, rules_with, account_of_lines}
 use Rattle.admission.specs.Kept as admission
@@ -46,10 +45,9 @@ pub record Kept : Type 0 where
   pub session : Option KeptSession
   pub standing : Standing
 
--- the ratio and the version, which is taken, the admitted jobs, and the mark
+-- the ratio and the version, the admitted jobs, and the mark
 pub record IsKeptOf (kept : KeptSession) (S : Session) (mark : ℕ) : Type 0 where
   pub rules : S.rules ≡ rules_with kept.admission.ratio kept.version
-  pub version_taken : is_taken two_versions kept.version ≡ true
   pub jobs : admission.StandsFor kept.admission (admitted_jobs S.items)
   pub marked : kept.mark ≡ mark
 

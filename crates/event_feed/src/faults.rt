@@ -7,11 +7,12 @@ use thiserror::Error;
 pub enum Cause {
     /// The line's number is above 4,000,000.
     Lines,
-    /// The line is longer than 128 bytes, or has none of the forms.
+    /// The line is longer than 128 bytes, or has none of the forms. A done line has one in version Three alone.
     Line,
     /// The first line doesn't declare the ratio, or does so out of the limits, or a later line declares it again.
     Declared,
-    /// A release or a tick is below the mark, or a tick is above 10^12.
+    /// A release or the tick of a tick line is below the mark, or a tick is above 10^12. In version Three a release
+    /// below the mark is no fault.
     Order,
     /// A limit of one job is broken.
     BadJob,

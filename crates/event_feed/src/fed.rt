@@ -12,12 +12,18 @@ pub enum Fed {
     Tick(u64),
     /// The feed is ended.
     Over,
-    /// A job of these numbers isn't admitted, which in version Two is no fault.
+    /// A job of these numbers isn't admitted, which from version Two on is no fault.
     Refused {
         release: u64,
         work: u64,
         deadline: u64,
         value: u64,
         cause: Refusal,
+    },
+    /// The tick that ends at this one is said to be the last that the job of this number needed. Whether that is right,
+    /// its run says. The mark is this tick, if it was below.
+    Done {
+        at: u64,
+        number: u64,
     },
 }

@@ -44,6 +44,7 @@ impl Gathering {
             Fed::Over => self.going = false,
             Fed::Tick(_) => {}
             Fed::Refused { .. } => {}
+            Fed::Done { .. } => {}
         }
         Ok(())
     }

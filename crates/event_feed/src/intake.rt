@@ -200,7 +200,8 @@ impl Intake {
     /// # Errors
     ///
     /// The first faulty line, numbered from 1, with its cause. After a fault every line is answered by that same
-    /// fault. In version Two a job that isn't admitted is no fault: it is answered as `Fed::Refused`.
+    /// fault. From version Two on a job that isn't admitted is no fault, and in version Three neither is one that comes
+    /// late: it is answered as `Fed::Refused`. Nor is a done line whose finish isn't right.
     ///
     /// # Examples
     ///

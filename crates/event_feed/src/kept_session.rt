@@ -1,11 +1,10 @@
 //! What is kept of a feed once its ratio is declared.
-ghost use Rattle.std.specs.Prelude.{◌≡◌, ℕ, true};
+ghost use Rattle.std.specs.Prelude.{◌≡◌, ◌<◌, ℕ, [], ◌∷◌, true};
 ghost use Rattle.dover_model.specs.Numerals.{AreShort};
 ghost use Rattle.dover_model.specs.JobFacts.{job_of_numbers, job_numbers};
-ghost use Rattle.dover_model.specs.Session.{Session, new_session};
-ghost use Rattle.dover_model.specs.Taken.{two_versions, is_taken};
+ghost use Rattle.dover_model.specs.Session.{Session, new_session, may_finish_early};
 ghost use Rattle.dover_model.specs.Feed.{rules_with};
-ghost use Rattle.dover_model.specs.FeedLine.{JobLine, TickLine, HasNumerals};
+ghost use Rattle.dover_model.specs.FeedLine.{JobLine, TickLine, DoneLine, HasNumerals};
 ghost use Rattle.job_format.specs.Form.{form_of};
 ghost use Rattle.event_feed.specs.Kept.{IsKeptOf};
 ghost use Rattle.event_feed.specs.Reading.{Refuses, Takes};
@@ -13,7 +12,7 @@ ghost use Rattle.event_feed.specs.Reading.{Refuses, Takes};
 use crate::faults::Cause;
 use crate::fed::Fed;
 use admission::{Admission, Refused};
-use dover_model::{Ratio, Version};
+use dover_model::{Ratio, Refusal, Version};
 use job_format::FeedLine;
 
 /// The last tick that a tick line may name.
@@ -30,7 +29,6 @@ pub struct KeptSession {
 impl KeptSession {
     /// No line came yet.
     pub fn new(ratio: Ratio, version: Version) -> KeptSession
-        requires { is_taken two_versions version ≡ true }
         ensures { IsKeptOf result (new_session (rules_with ratio version)) 0 }
     {
         KeptSession {
@@ -66,6 +64,25 @@ impl KeptSession {
         }
     }
 
+    /// The job line of these numbers, whose release is below the mark.
+    #[inline(never)]
+    fn late(&self, release: u64, work: u64, deadline: u64, value: u64) -> Result<Fed, Cause>
+        requires { AreShort (job_numbers (job_of_numbers release work deadline value)) }
+        ensures { (lines : ℕ) (S : Session) (mark : ℕ) → IsKeptOf self.now S mark → release < mark →
+            Takes (JobLine (job_of_numbers release work deadline value)) lines S mark self.now result }
+    {
+        match self.version {
+            Version::One | Version::Two => Err(Cause::Order),
+            Version::Three => Ok(Fed::Refused {
+                release,
+                work,
+                deadline,
+                value,
+                cause: Refusal::Late,
+            }),
+        }
+    }
+
     /// The job line of these numbers.
     #[inline(always)]
     fn job(&mut self, release: u64, work: u64, deadline: u64, value: u64) -> Result<Fed, Cause>
@@ -74,7 +91,7 @@ impl KeptSession {
             Takes (JobLine (job_of_numbers release work deadline value)) lines S mark self.new result }
     {
         if release < self.mark {
-            return Err(Cause::Order);
+            return self.late(release, work, deadline, value);
         }
         match self.admission.check(release, work, deadline, value) {
             Ok(job) => {
@@ -99,11 +116,38 @@ impl KeptSession {
         Ok(Fed::Tick(at))
     }
 
+    /// The done line of this tick and this number, where jobs may finish early.
+    fn finish(&mut self, at: u64, number: u64) -> Result<Fed, Cause>
+        requires { AreShort (number ∷ []) }
+        ensures { (lines : ℕ) (S : Session) (mark : ℕ) → IsKeptOf self.old S mark
+            → may_finish_early S.rules.version ≡ true → Takes (DoneLine at number) lines S mark self.new result }
+    {
+        if at > LAST_TICK {
+            return Err(Cause::Order);
+        }
+        self.mark = self.mark.max(at);
+        Ok(Fed::Done { at, number })
+    }
+
+    /// The done line of this tick and this number.
+    #[inline(never)]
+    fn done(&mut self, at: u64, number: u64) -> Result<Fed, Cause>
+        requires { AreShort (number ∷ []) }
+        ensures { (lines : ℕ) (S : Session) (mark : ℕ) → IsKeptOf self.old S mark
+            → Takes (DoneLine at number) lines S mark self.new result }
+    {
+        match self.version {
+            Version::One | Version::Two => Err(Cause::Line),
+            Version::Three => self.finish(at, number),
+        }
+    }
+
     /// A line after the first.
     ///
     /// # Errors
     ///
-    /// Why it is at fault. In version Two a job that isn't admitted is no fault.
+    /// Why it is at fault. From version Two on a job that isn't admitted is no fault, and in version Three neither is
+    /// one that comes late, nor a done line whose finish isn't right.
     #[inline(always)]
     pub fn line(&mut self, line: FeedLine) -> Result<Fed, Cause>
         requires { HasNumerals (form_of line) }
@@ -119,7 +163,7 @@ impl KeptSession {
                 value,
             } => self.job(release, work, deadline, value),
             FeedLine::Tick { at } => self.tick(at),
-            FeedLine::Done { .. } => Err(Cause::Line),
+            FeedLine::Done { at, number } => self.done(at, number),
             FeedLine::End => Ok(Fed::Over),
         }
     }

@@ -17,7 +17,7 @@ use line_text::{Lines, Step};
 use std::alloc::Global;
 
 /// What is kept of a feed that comes in pieces: the line that has begun, and what the lines before it said. Refused job
-/// lines of version Two are passed over.
+/// lines and done lines are passed over.
 #[derive(Drop)]
 pub struct FeedReader {
     lines: Lines,

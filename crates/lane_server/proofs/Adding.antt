@@ -6,14 +6,13 @@ use Rattle.std.specs.Prelude.{drop}
 use Rattle.std.proofs.lemmas.List.Sums.{fold-append}
 use Rattle.dover_model.specs.declared.events.Event.{Event}
 use Rattle.dover_model.specs.declared.events.Version.{Version}
-use Rattle.dover_model.specs.declared.events.Refusal.{Refusal}
 use Rattle.dover_model.specs.Limits.{last_tick, most_jobs}
 use Rattle.dover_model.specs.JobFacts.{JobFacts}
 use Rattle.dover_model.specs.Fraction.{Fraction}
 use Rattle.dover_model.specs.Instance.{Declaration, Instance, IsValid, with_jobs}
-use Rattle.dover_model.specs.Session.{JobItem, RefusedItem, Refused, RefusedJob, Session, instance_of, new_session, with_item}
+use Rattle.dover_model.specs.Session.{JobItem, RefusedItem, Refused, RefusedLine, Session, instance_of, new_session}
+use Rattle.dover_model.specs.Session.{with_item}
 use Rattle.dover_model.specs.Session.{admitted_jobs}
-use Rattle.dover_model.specs.Taken.{two_versions}
 use Rattle.dover_model.specs.Run.{printed}
 use Rattle.dover_model.specs.Settled.{settled}
 use Rattle.dover_model.specs.WholeRun.{Begins}
@@ -33,7 +32,7 @@ use Rattle.dover_model.specs.declared.horizon.Horizon.{Horizon}
 use Rattle.dover_model.specs.declared.horizon.Horizon.TheVariants.{Mark, End}
 use Rattle.dover_model.specs.Horizons.{no_jobs, due_by}
 use Rattle.event_feed.specs.Kept.{cause_of_fault}
-use Rattle.event_feed.specs.Answers.{DeclaresRatio, AddsJob, MovesMark, EndsFeed, AddsRefused, NewFault, OldFault}
+use Rattle.event_feed.specs.Answers.{DeclaresRatio, AddsJob, MovesMark, EndsFeed, NewFault, OldFault}
 use Rattle.event_feed.specs.Answers.{counted}
 use Rattle.event_feed.specs.declared.faults.FeedFault.{FeedFault}
 use Rattle.lane_server.specs.Lanes.{lines_added}
@@ -45,13 +44,15 @@ use Rattle.ready_server.specs.declared.roster_server.RosterServer.{RosterServer}
 -- ---- accounts
 
 -- an account that goes on keeps what open accounts keep of their session
-pub holds_of : (a : Account) (S : Session) → IsKept two_versions a → a.standing ≡ Open → a.session ≡ Some S → Holds two_versions S a.mark a.lines
+pub holds_of : (a : Account) (S : Session) → IsKept a → a.standing ≡ Open → a.session ≡ Some S
+    → Holds S a.mark a.lines
 holds_of a S kept stands there =
-    subst (λ o. HoldsBy two_versions Open o a.mark a.lines) there (subst (λ x. HoldsBy two_versions x a.session a.mark a.lines) stands kept)
+    subst (λ o. HoldsBy Open o a.mark a.lines) there (subst
+    (λ x. HoldsBy x a.session a.mark a.lines) stands kept)
 
 -- each account of lines keeps what accounts keep
-pub lines_kept : (ls : List (List ℕ)) → IsKept two_versions (account_of_lines ls)
-lines_kept ls = (lines_goes two_versions ls no_lines zero_mark).0 where
+pub lines_kept : (ls : List (List ℕ)) → IsKept (account_of_lines ls)
+lines_kept ls = (lines_goes ls no_lines zero_mark).0 where
   zero_mark : no_lines.mark ≡ 0
   zero_mark = refl
 
@@ -84,7 +85,7 @@ account_over ls l over = account_next ls l ∙ by_open (is_open (account_of_line
   by_open false e = refl
 
 -- what comes behind a list, without that list
-drop_front : {X : Type 0} (xs ys : List X) → drop (length xs) (xs ++ ys) ≡ ys
+pub drop_front : {X : Type 0} (xs ys : List X) → drop (length xs) (xs ++ ys) ≡ ys
 drop_front [] ys = refl
 drop_front (x ∷ xs) ys = drop_front xs ys
 
@@ -104,7 +105,7 @@ parts a session standing e f =
     ∙ ap (λ x. due_lines (account_with a.lines session a.mark x)) f
 
 -- of one that goes on
-due_open : (a : Account) (S : Session) → a.session ≡ Some S → a.standing ≡ Open
+pub due_open : (a : Account) (S : Session) → a.session ≡ Some S → a.standing ≡ Open
     → due_lines a ≡ texts_among S (settled (instance_of S) a.mark)
 due_open a S e f = parts a (Some S) Open e f ∙ append-nil (texts_among S (settled (instance_of S) a.mark))
 
@@ -233,9 +234,10 @@ new_fault bytes fault a b stands (inr was) = absurd (let e = sym stands ∙ was.
 
 -- ---- lines of a feed with a session
 
-module _ (a : Account) (S : Session) (kept : IsKept two_versions a) (stands : a.standing ≡ Open) (there : a.session ≡ Some S) where
+module _ (a : Account) (S : Session) (kept : IsKept a) (stands : a.standing ≡ Open)
+    (there : a.session ≡ Some S) where
   -- what the account keeps
-  holds : Holds two_versions S a.mark a.lines
+  holds : Holds S a.mark a.lines
   holds = holds_of a S kept stands there
 
   -- what is printed behind what is due for a
@@ -248,7 +250,8 @@ module _ (a : Account) (S : Session) (kept : IsKept two_versions a) (stands : a.
 
 -- ---- a tick
 
-module _ (a b : Account) (t : ℕ) (kept : IsKept two_versions a) (stands : a.standing ≡ Open) (it : MovesMark t (counted a) b) where
+module _ (a b : Account) (t : ℕ) (kept : IsKept a) (stands : a.standing ≡ Open) (it : MovesMark t
+    (counted a) b) where
   -- what is settled further
   pub tick_begins : Begins (settled (instance_of it.session) a.mark) (settled (instance_of it.session) t)
   tick_begins = settled_later (instance_of it.session) a.mark t
@@ -296,7 +299,7 @@ module _ (a b : Account) (t : ℕ) (kept : IsKept two_versions a) (stands : a.st
 
 -- ---- a job
 
-module _ (a b : Account) (n : ℕ) (j : JobFacts) (kept : IsKept two_versions a) (stands : a.standing ≡ Open)
+module _ (a b : Account) (n : ℕ) (j : JobFacts) (kept : IsKept a) (stands : a.standing ≡ Open)
     (it : AddsJob n j (counted a) b) where
   -- the session with the job
   abbrev joined : Session
@@ -374,7 +377,7 @@ module _ (a b : Account) (n : ℕ) (j : JobFacts) (kept : IsKept two_versions a)
 
 -- ---- the end
 
-module _ (a b : Account) (kept : IsKept two_versions a) (stands : a.standing ≡ Open) (it : EndsFeed (counted a) b) where
+module _ (a b : Account) (kept : IsKept a) (stands : a.standing ≡ Open) (it : EndsFeed (counted a) b) where
   -- the session's jobs are valid
   end_valid : IsValid (instance_of it.session)
   end_valid = (holds_of a it.session kept stands it.before_is).reads.valid
@@ -416,49 +419,39 @@ module _ (a b : Account) (kept : IsKept two_versions a) (stands : a.standing ≡
     texts = refl;
   }
 
--- ---- a refused job line
+-- ---- a refused line, at the mark as it is
 
-module _ (a b : Account) (j : JobFacts) (cause : Refusal) (kept : IsKept two_versions a) (stands : a.standing ≡ Open)
-    (it : AddsRefused j cause (counted a) b) where
+module _ (a b : Account) (S : Session) (line : RefusedLine) (kept : IsKept a) (stands : a.standing ≡ Open)
+    (there : a.session ≡ Some S) (open_still : b.standing ≡ Open) (same_mark : b.mark ≡ a.mark)
+    (behind : b.session ≡ Some (with_item S (RefusedItem (record { at = a.mark; line = line })))) where
   -- the refused line
   abbrev refused : Refused
-  refused = record { at = a.mark; line = RefusedJob j cause }
-
-  -- the session is there
-  refused_session : b.session ≡ Some (with_item it.session (RefusedItem refused))
-  refused_session = ap (λ (x : Account). x.session) it.after_is
-
-  -- the account goes on
-  pub refused_stands : b.standing ≡ Open
-  refused_stands = ap (λ (x : Account). x.standing) it.after_is ∙ stands
-
-  -- the mark stays
-  pub refused_mark : b.mark ≡ a.mark
-  refused_mark = ap (λ (x : Account). x.mark) it.after_is
-
-  -- the mark has a numeral
-  pub refused_mark_short : a.mark < 10 ^ 18
-  refused_mark_short = omega (arith, (holds_of a it.session kept stands it.before_is).known)
+  refused = record { at = a.mark; line = line }
 
   -- its line is due
   pub refused_due : due_lines b ≡ due_lines a ++ refused_text refused ∷ []
-  refused_due = due_open b (with_item it.session (RefusedItem refused)) refused_session refused_stands
-      ∙ ap (λ m. texts_among (with_item it.session (RefusedItem refused))
-      (settled (instance_of (with_item it.session (RefusedItem refused))) m))
-      refused_mark
-      ∙ texts_refused it.session refused (holds_of a it.session kept stands it.before_is).reads
-      ∙ ap (λ ls. ls ++ refused_text refused ∷ []) (sym (due_open a it.session it.before_is stands))
+  refused_due = due_open b (with_item S (RefusedItem refused)) behind open_still
+      ∙ ap (λ m. texts_among (with_item S (RefusedItem refused))
+      (settled (instance_of (with_item S (RefusedItem refused))) m))
+      same_mark
+      ∙ texts_refused S refused (holds_of a S kept stands there).reads
+      ∙ ap (λ ls. ls ++ refused_text refused ∷ []) (sym (due_open a S there stands))
 
   -- the server has served the session with it
   pub refused_fits : (server : Option RosterServer) → Fits a server
       → Fits b server
-  refused_fits None fits = absurd (let e : None ≡ Some it.session = sym fits ∙ it.before_is in cc)
+  refused_fits None fits = absurd (let e : None ≡ Some S = sym fits ∙ there in cc)
   refused_fits (Some v) fits = (
-    with_item it.session (RefusedItem refused),
-    refused_session,
-    subst (λ h. Serves v (instance_of (with_item it.session (RefusedItem refused))) h
-        (due_by (instance_of (with_item it.session (RefusedItem refused))) h))
-        (sym (reach_open b refused_stands ∙ ap Mark refused_mark))
-        (subst (λ J. Serves v J (Mark a.mark) (settled J a.mark)) (sym (refused_instance it.session refused))
-        (open_serves a it.session v fits it.before_is stands)),
+    with_item S (RefusedItem refused),
+    behind,
+    subst (λ h. Serves v (instance_of (with_item S (RefusedItem refused))) h
+        (due_by (instance_of (with_item S (RefusedItem refused))) h))
+        (sym (reach_open b open_still ∙ ap Mark same_mark))
+        (subst (λ J. Serves v J (Mark a.mark) (settled J a.mark)) (sym (refused_instance S refused))
+        (open_serves a S v fits there stands)),
   )
+
+-- the mark has a numeral
+pub mark_short : (a : Account) (S : Session) → IsKept a → a.standing ≡ Open → a.session ≡ Some S
+    → a.mark < 10 ^ 18
+mark_short a S kept stands there = omega (arith, (holds_of a S kept stands there).known)

@@ -1,15 +1,19 @@
 -- What bytes of a feed hand to its lane, and what is left to give then.
-use Rattle.std.proofs.Common.{Bool, ◌≡◌, ℕ, List, [], ◌∷◌, ◌++◌, sym, ap, ◌∙◌, subst, refl, true, false, cond, Some, Result}
+use Rattle.std.proofs.Common.{Bool, ◌≡◌, ℕ, List, [], ◌∷◌, ◌++◌, sym, ap, ◌∙◌, subst, refl, true, false, cond, Some}
+use Rattle.std.proofs.Common.{Result}
 use Rattle.std.proofs.Common.{Ok, Err}
 use Rattle.std.proofs.lemmas.List.{append-nil}
-use Rattle.std.specs.Prelude.{OnOk, OnErr}
+use Rattle.std.specs.Prelude.{OnOk, OnErr, IsTrue, ◌↔◌, not, None, Option}
+use Rattle.dover_model.specs.declared.events.Version.{Version}
+use Rattle.dover_model.specs.Instance.{Rules}
+use Rattle.event_feed.specs.Listing.{IsPlain}
+use Rattle.dover_model.proofs.Tests.{never}
 use Rattle.dover_model.specs.declared.Memory.{Memory}
 use Rattle.dover_model.specs.Due.{due_lines}
 use Rattle.dover_model.specs.Feed.{Account, Standing, Open, Ended, Faulty, account, account_of_lines, is_open, is_ended}
 use Rattle.dover_model.specs.Feed.{next_line}
-use Rattle.dover_model.specs.Taken.{two_versions}
 use Rattle.dover_model.specs.Lines.{lines_of, rest_of, is_too_long}
-use Rattle.dover_model.specs.Session.{Session, instance_of}
+use Rattle.dover_model.specs.Session.{Session, instance_of, may_finish_early}
 use Rattle.dover_model.specs.Settled.{settled}
 use Rattle.dover_model.specs.WholeRun.{Begins}
 use Rattle.dover_model.proofs.Accounts.{lines_goes}
@@ -43,7 +47,7 @@ pub due_added : (ls : List (List ℕ)) (l : List ℕ)
     → due_lines (account_of_lines (ls ++ l ∷ [])) ≡ due_lines (account_of_lines ls) ++ lines_added ls l
 due_added ls l =
     let grows : Begins (due_lines (account_of_lines ls)) (due_lines (next_line (account_of_lines ls) l)) =
-    (lines_goes two_versions (l ∷ []) (account_of_lines ls) (lines_kept ls)).1 in
+    (lines_goes (l ∷ []) (account_of_lines ls) (lines_kept ls)).1 in
     let whole : due_lines (account_of_lines (ls ++ l ∷ [])) ≡ due_lines (account_of_lines ls) ++ grows.0 =
     ap due_lines (account_next ls l) ∙ grows.1 in
     whole ∙ ap (λ ms. due_lines (account_of_lines ls) ++ ms) (added_is ls l grows.0 whole)
@@ -81,6 +85,31 @@ module _ (feed : Feed) (x bytes : List ℕ)
     },
   )
   hands_line (Err e) line more stands lacks = subst (λ ls. IsDeclared (account_of_lines ls)) (sym more) lacks
+
+-- ---- a lane that has given all, by its version
+
+module _ (lane : Lane) (ls : List (List ℕ)) (it : IsQuiet lane ls) where
+  -- its server, if it has one, has taken the session
+  fits_there : Fits (account_of_lines ls) lane.server
+  fits_there = (subst (λ w. Owes w lane.server (account_of_lines ls) []) it.quiet it.stands.owes).1
+
+  -- where it has none, none is declared
+  pub plain_nowhere : lane.server ≡ None → IsTrue false ↔ IsPlain (account_of_lines ls).session
+  plain_nowhere none = subst (λ o. IsTrue false ↔ IsPlain o)
+      (sym (subst (Fits (account_of_lines ls)) none fits_there)) ((λ t. never t), (λ none. absurd none))
+
+  -- otherwise the server's version says so
+  pub plain_where : (v : RosterServer) → lane.server ≡ Some v → (b : Bool)
+      → b ≡ may_finish_early v.server.ready.rules.version → IsTrue (not b) ↔ IsPlain (account_of_lines ls).session
+  plain_where v there b is =
+      let fits : Fits (account_of_lines ls) (Some v) = subst (Fits (account_of_lines ls)) there fits_there in
+      let version : fits.0.rules.version ≡ v.server.ready.rules.version =
+      ap (λ (r : Rules). r.version) fits.2.served.follows.rules in
+      subst (λ o. IsTrue (not b) ↔ IsPlain o) (sym fits.1)
+      (by fits.0.rules.version b (is ∙ ap may_finish_early (sym version))) where
+        by : (v : Version) (b : Bool) → b ≡ may_finish_early v → IsTrue (not b) ↔ (may_finish_early v ≡ false)
+        by v true e = ((λ t. never t), (λ f. never (sym (e ∙ f))))
+        by v false e = ((λ t. sym e), (λ f. refl))
 
 -- ---- a lane that goes on and has given all
 

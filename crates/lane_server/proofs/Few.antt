@@ -1,11 +1,12 @@
 -- Few lines are left to give at any time.
+use Rattle.std.proofs.Common.{map, drop, length-drop}
 use Rattle.std.proofs.Common.{◌≡◌, ◌≤◌, ◌<◌, ◌+◌, ◌-◌, ℕ, zero, suc, List, [], ◌∷◌, ◌++◌, length, refl, ap, Bool, true}
 use Rattle.std.proofs.Common.{false, Option, Some, None, cond, arith, length-append}
 use Rattle.std.specs.List.{flat_map, range_with_len, slice_get}
 use Rattle.std.proofs.lemmas.List.{length-map}
 use Rattle.dover_model.specs.declared.events.Event.{Event}
-use Rattle.dover_model.specs.Instance.{Instance, IsValid, with_jobs}
-use Rattle.dover_model.specs.Session.{instance_of}
+use Rattle.dover_model.specs.Instance.{Instance, IsValid, with_jobs, with_finishes}
+use Rattle.dover_model.specs.Session.{Session, EarlyFinish, instance_of, finish_at}
 use Rattle.dover_model.specs.Text.{text_of}
 use Rattle.dover_model.specs.Feed.{Account, Short, account_of_lines, is_open}
 use Rattle.dover_model.specs.Due.{fault_text}
@@ -13,12 +14,15 @@ use Rattle.dover_model.specs.declared.horizon.Horizon.{Horizon}
 use Rattle.dover_model.specs.declared.horizon.Horizon.TheVariants.{Mark}
 use Rattle.dover_model.specs.Horizons.{due_by}
 use Rattle.dover_model.proofs.Horizons.{due_few}
+use Rattle.dover_model.proofs.Meeting.{finishing_valid}
+use Rattle.dover_model.specs.Settled.{settled}
+use Rattle.lane_server.proofs.Finishing.{lines_by}
 use Rattle.lane_server.specs.Lanes.{lane_count, Handed, input_of_lines, lane_lines, in_lane, feed_short, lane_short}
 use Rattle.lane_server.specs.Lanes.{shorts_from}
-use Rattle.lane_server.specs.Lane.{Owes}
+use Rattle.lane_server.specs.Lane.{Owes, done_lines}
 use Rattle.lane_server.specs.Kept.{Kept, Leaves, StandsFor}
 use Rattle.lane_server.specs.declared.lane.Work.{Work}
-use Rattle.lane_server.specs.declared.lane.Work.TheVariants.{Nothing, Give, Run, Admit}
+use Rattle.lane_server.specs.declared.lane.Work.TheVariants.{Nothing, Give, Run, Admit, Finish}
 use Rattle.lane_server.specs.declared.lanes.Phase.{Phase}
 use Rattle.lane_server.specs.declared.lanes.Phase.TheVariants.{Ready, Giving, Closing}
 use Rattle.ready_server.specs.declared.roster_server.RosterServer.{RosterServer}
@@ -28,9 +32,30 @@ left_few : (J : Instance) (to : Horizon) (events left : List Event) → IsValid 
     → length left ≤ 5_000_001
 left_few J to events left valid is = omega (arith, due_few J to valid, ap length is, length-append events left)
 
+-- what is left up to a done line, and what it adds
+done_few : (S : Session) (t n : ℕ) (events left : List Event) → IsValid (instance_of S)
+    → settled (instance_of S) t ≡ events ++ left
+    → length left + length (done_lines S t n) ≤ 5_000_002
+done_few S t n events left valid is = by_finish (finish_at (instance_of S) t n) where
+  by_finish : (o : Option EarlyFinish) → length left + length (lines_by S t n o) ≤ 5_000_002
+  by_finish None = omega (arith, left_few (instance_of S) (Mark t) events left valid is)
+  by_finish (Some f) =
+      let K : Instance = with_finishes (instance_of S) (f.finish ∷ []) in
+      let all : length (settled K t) ≤ 5_000_001 = due_few K (Mark t)
+      (finishing_valid (instance_of S) ((instance_of S).rules.finishes ++ f.finish ∷ []) valid) in
+      omega (
+        arith,
+        length-map (drop (length (settled (instance_of S) t)) (settled K t)) text_of,
+        length-drop (length (settled (instance_of S) t)) (settled K t),
+        all,
+        left_few (instance_of S) (Mark t) events left valid is,
+        ap length is,
+        length-append events left,
+      )
+
 -- what the work under way still gives
 pub owes_few : (work : Work) (server : Option RosterServer) (a : Account)
-    (rest : List (List ℕ)) → Owes work server a rest → length rest ≤ 5_000_001
+    (rest : List (List ℕ)) → Owes work server a rest → length rest ≤ 5_000_002
 owes_few Nothing server a rest owes = omega (arith, ap length owes.0)
 owes_few (Give out) server a rest owes = omega (arith, ap length owes.0)
 owes_few (Run to) None a rest owes = absurd owes
@@ -47,6 +72,14 @@ owes_few (Admit job) (Some v) a rest owes = omega (
   length-map owes.left text_of,
   left_few (with_jobs (instance_of owes.session) (job ∷ [])) (Mark job.release) owes.events owes.left owes.valid
       owes.due,
+)
+owes_few (Finish at number) None a rest owes = absurd owes
+owes_few (Finish at number) (Some v) a rest owes = omega (
+  arith,
+  ap length owes.texts,
+  length-append (map text_of owes.left) (done_lines owes.session at number),
+  length-map owes.left text_of,
+  done_few owes.session at number owes.events owes.left owes.valid owes.due,
 )
 
 -- a feed is short once at most
@@ -82,9 +115,9 @@ element (x ∷ xs) (suc i) low = element xs i (omega arith)
 
 -- whatever is under way
 pub few_left : (kept : Kept) (ls rest : List (List ℕ)) → StandsFor kept ls rest
-    → length rest ≤ 5_000_001
+    → length rest ≤ 5_000_002
 few_left kept ls rest it = by_phase kept.phase it.left where
-  by_phase : (p : Phase) → Leaves p kept.lanes (input_of_lines ls) rest → length rest ≤ 5_000_001
+  by_phase : (p : Phase) → Leaves p kept.lanes (input_of_lines ls) rest → length rest ≤ 5_000_002
   by_phase Ready left = omega (arith, ap length left.1)
   by_phase (Giving lane) left =
       let there = element kept.lanes lane (omega (arith, it.count, left.3.within)) in

@@ -1,5 +1,6 @@
 pub mod Printing
 pub mod Owing
+pub mod Finishing
 pub mod Adding
 pub mod Taking
 pub mod Inputs

@@ -24,13 +24,13 @@ use Rattle.ready_server.specs.Rostering.{Serves, Rests, HasPlace}
 use Rattle.ready_server.specs.declared.roster_server.RosterServer.{RosterServer}
 
 -- what is left begins with the event
-first_left : (events left all : List Event) (e : Event) → all ≡ events ++ left
+pub first_left : (events left all : List Event) (e : Event) → all ≡ events ++ left
     → (begins : Begins (events ++ e ∷ []) all) → left ≡ e ∷ begins.0
 first_left events left all e due begins =
     append_cancel_left events left (e ∷ begins.0) (sym due ∙ begins.1 ∙ append_assoc events (e ∷ []) begins.0)
 
 -- nothing is left
-none_left : (events left all : List Event) → all ≡ events ++ left → events ≡ all → left ≡ []
+pub none_left : (events left all : List Event) → all ≡ events ++ left → events ≡ all → left ≡ []
 none_left events left all due same = append_cancel_left events left [] (sym due ∙ sym same ∙ sym (append-nil events))
 
 -- the session with the job that comes
@@ -142,7 +142,7 @@ admit_steps job v a rest it t same P says =
     subst P same (says (subst (λ m. MayFollow it.from (Mark m)) (sym same) it.follows))
 
 -- what is printed up to a horizon is what is due of an account
-fits_at : (to : Horizon) (u : RosterServer) (a : Account) (S : Session) → a.session ≡ Some S
+pub fits_at : (to : Horizon) (u : RosterServer) (a : Account) (S : Session) → a.session ≡ Some S
     → reach a ≡ to → Serves u (instance_of S) to (due_by (instance_of S) to) → Fits a (Some u)
 fits_at to u a S there reached served =
     (S, there, subst (λ h. Serves u (instance_of S) h (due_by (instance_of S) h)) (sym reached) served)

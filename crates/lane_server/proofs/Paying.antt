@@ -3,16 +3,18 @@ use Rattle.std.proofs.Common.{◌≡◌, ℕ, ◌≤◌, List, length, sym, ap, 
 use Rattle.dover_model.specs.declared.events.Event.{Event}
 use Rattle.dover_model.specs.Feed.{Account}
 use Rattle.dover_model.specs.Instance.{Instance}
-use Rattle.dover_model.specs.Session.{instance_of}
+use Rattle.dover_model.specs.Session.{Session, EarlyFinish, FinishItem, RefusedDone, instance_of, with_item, finish_at}
+use Rattle.dover_model.specs.Session.{admitted_jobs, refused_done_at}
+use Rattle.std.specs.Option.{option_map_or}
 use Rattle.dover_model.specs.declared.horizon.Horizon.{Horizon}
 use Rattle.dover_model.specs.Spending.{CostsAtMost}
 use Rattle.dover_model.proofs.Spending.{few_more}
 use Rattle.event_feed.specs.Answers.{admitted_in}
-use Rattle.event_feed.proofs.Admitting.{job_more, admitted_by}
-use Rattle.lane_server.specs.Lane.{Fits, Owes}
+use Rattle.event_feed.proofs.Admitting.{job_more, refused_more, finish_more, admitted_by}
+use Rattle.lane_server.specs.Lane.{Fits, Owes, done_item}
 use Rattle.lane_server.specs.Spending.{HasPaid}
 use Rattle.lane_server.specs.declared.lane.Work.{Work}
-use Rattle.lane_server.specs.declared.lane.Work.TheVariants.{Nothing, Give, Run, Admit}
+use Rattle.lane_server.specs.declared.lane.Work.TheVariants.{Nothing, Give, Run, Admit, Finish}
 use Rattle.ready_server.specs.Rostering.{Serves, HasPaid as HasServed}
 use Rattle.ready_server.specs.declared.roster_server.RosterServer.{RosterServer}
 
@@ -24,7 +26,18 @@ none_paid a None fits none start now has_paid = has_paid
 none_paid a (Some v) fits none start now has_paid =
     absurd (let e : None ≡ Some fits.0 = sym none ∙ fits.1 in cc)
 
-module _ (few : (s : RosterServer) (J : Instance) (to : Horizon) (events : List Event) (start now : ℕ) → Serves s J to events
+-- a done line admits no job
+done_admits : (S : Session) (t n : ℕ)
+    → length (admitted_jobs (with_item S (done_item S t n)).items) ≡ length (admitted_jobs S.items)
+done_admits S t n = by_finish (finish_at (instance_of S) t n) where
+  by_finish : (o : Option EarlyFinish)
+      → length (admitted_jobs (with_item S (option_map_or FinishItem o (refused_done_at t t n))).items)
+      ≡ length (admitted_jobs S.items)
+  by_finish None = refused_more S.items (record { at = t; line = RefusedDone t n })
+  by_finish (Some f) = finish_more S.items f
+
+module _ (few : (s : RosterServer) (J : Instance) (to : Horizon) (events : List Event) (start now : ℕ)
+    → Serves s J to events
     → HasServed s start now → CostsAtMost (length J.jobs) start now) where
   -- a server that fits has the account's jobs
   fits_few : (a : Account) (v : RosterServer) → Fits a (Some v) → (start now : ℕ) → HasServed v start now
@@ -45,4 +58,8 @@ module _ (few : (s : RosterServer) (J : Instance) (to : Horizon) (events : List 
   owes_few_paid (Admit job) (Some v) a rest owes start now has_paid =
       few_more (length (instance_of owes.session).jobs) (admitted_in a) start now
       (omega (arith, ap admitted_by owes.there, job_more owes.session.items job))
+      (few v (instance_of owes.session) owes.from owes.events start now owes.served has_paid)
+  owes_few_paid (Finish at number) (Some v) a rest owes start now has_paid =
+      subst (λ n. CostsAtMost n start now)
+      (sym (ap admitted_by owes.there ∙ done_admits owes.session at number))
       (few v (instance_of owes.session) owes.from owes.events start now owes.served has_paid)

@@ -177,9 +177,9 @@ module _ (i : LaneInput) (x : List ℕ) where
       by (Faulty line fault) leaves = (leaves.2, leaves.3)
 
     -- few lines are left
-    pub few_stand : length left ≤ 5_000_001
+    pub few_stand : length left ≤ 5_000_002
     few_stand = by (goes_on (input x)) refl where
-      by : (b : Bool) → goes_on (input x) ≡ b → length left ≤ 5_000_001
+      by : (b : Bool) → goes_on (input x) ≡ b → length left ≤ 5_000_002
       by true on = few_left i.lanes (lines_of x) left (holds_open i.refusal i.lanes (lines_of x) left at.holds on)
       by false over = omega (
         arith,

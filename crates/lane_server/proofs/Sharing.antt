@@ -90,14 +90,20 @@ module _ (f g : ℕ → ℕ) (i : ℕ) (same : (j : ℕ) → (j ≡ i → ⊥) �
 -- what a server has paid of nothing, it has paid up to now
 paid_to : (server : Option RosterServer) (own now : ℕ) → HasPaid server 0 own → HasPaid server (now - own) now
 paid_to None own now none = omega (arith, none)
-paid_to (Some v) own now paid = λ d enough. by_numbers _ (paid d enough) where
+paid_to (Some v) own now paid = record {
+  paid = λ d enough. by_numbers _ (paid.paid d enough);
+  freely = λ later d enough. by_numbers _ (paid.freely later d enough);
+} where
   by_numbers : (w : ℕ) → own ≤ 0 + w → now ≤ (now - own) + w
   by_numbers w most = omega (arith, most)
 
 -- and what it has paid since then, of nothing
 paid_since : (server : Option RosterServer) (start now : ℕ) → HasPaid server start now → HasPaid server 0 (now - start)
 paid_since None start now none = omega (arith, none)
-paid_since (Some v) start now paid = λ d enough. by_numbers _ (paid d enough) where
+paid_since (Some v) start now paid = record {
+  paid = λ d enough. by_numbers _ (paid.paid d enough);
+  freely = λ later d enough. by_numbers _ (paid.freely later d enough);
+} where
   by_numbers : (w : ℕ) → now ≤ start + w → now - start ≤ 0 + w
   by_numbers w most = omega (arith, most)
 

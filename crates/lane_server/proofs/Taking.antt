@@ -1,13 +1,14 @@
 -- How a lane comes to owe what a line of its feed adds.
 use Rattle.std.proofs.Common.{◌≡◌, ◌<◌, ◌^◌, ℕ, List, [], ◌∷◌, ◌++◌, refl, sym, ap, ◌∙◌, subst, Option, Some, None}
-use Rattle.std.proofs.Common.{Bool, true, false, Result, Ok, Err}
+use Rattle.std.proofs.Common.{Bool, true, false, Result, Ok, Err, arith, max, ◌≤◌}
 use Rattle.std.specs.Prelude.{OnErr}
 use Rattle.std.proofs.lemmas.List.{append-nil}
 use Rattle.dover_model.specs.declared.events.Version.{Version}
 use Rattle.dover_model.specs.declared.events.Refusal.{Refusal}
 use Rattle.dover_model.specs.JobFacts.{JobFacts, job_of_numbers}
 use Rattle.dover_model.specs.Fraction.{Fraction}
-use Rattle.dover_model.specs.Session.{JobItem, RefusedJob, new_session, with_item}
+use Rattle.dover_model.specs.Session.{JobItem, RefusedItem, RefusedLine, RefusedJob, RefusedDone, Session}
+use Rattle.dover_model.specs.Session.{new_session, with_item}
 use Rattle.dover_model.specs.Feed.{Account, Open, Ended, account_of_lines, is_open, rules_with}
 use Rattle.dover_model.specs.Due.{due_lines}
 use Rattle.dover_model.specs.Text.{header, refused_text}
@@ -17,19 +18,24 @@ use Rattle.dover_model.specs.declared.horizon.Horizon.{Horizon}
 use Rattle.dover_model.specs.declared.horizon.Horizon.TheVariants.{Mark, End}
 use Rattle.dover_model.specs.Horizons.{no_jobs}
 use Rattle.event_feed.specs.Kept as feed
-use Rattle.event_feed.specs.Answers.{DeclaresRatio, AddsJob, MovesMark, EndsFeed, AddsRefused, NewFault, IsFed, counted}
+use Rattle.event_feed.specs.Answers.{DeclaresRatio, AddsJob, MovesMark, EndsFeed, AddsRefused, AddsDone, NewFault}
+use Rattle.event_feed.specs.Answers.{IsFed, counted}
+use Rattle.event_feed.proofs.DoneLines.{done_standing, done_mark, done_session, late_session}
 use Rattle.event_feed.specs.declared.faults.FeedFault.{FeedFault}
 use Rattle.event_feed.specs.declared.fed.Fed.{Fed}
 use Rattle.event_feed.specs.declared.fed.Fed.TheVariants.{Over}
 use Rattle.lane_server.specs.Lanes.{lines_added}
-use Rattle.lane_server.specs.Lane.{IsDeclared, Fits, IsOpenAt, Owes, GivesFault, Adds, Stands, IsQuiet}
+use Rattle.lane_server.specs.Lane.{IsDeclared, Fits, IsOpenAt, Owes, GivesFault, Adds, Stands, IsQuiet, HasNumerals}
+use Rattle.lane_server.specs.Lane.{out_text, NamesFault}
 use Rattle.lane_server.specs.declared.lane.Lane.{Lane}
-use Rattle.lane_server.specs.declared.lane.Work.TheVariants.{Nothing, Give, Run, Admit}
-use Rattle.lane_server.specs.declared.out.LaneOut.TheVariants.{Header, Refuse, Refused}
+use Rattle.lane_server.specs.declared.lane.Work.TheVariants.{Nothing, Give, Run, Admit, Finish}
+use Rattle.lane_server.specs.declared.out.LaneOut.{LaneOut}
+use Rattle.lane_server.specs.declared.out.LaneOut.TheVariants.{Header, Refuse, RefuseDone, Refused}
 use Rattle.lane_server.proofs.Adding.{header_stands, header_mark, header_due, header_fits, job_stands, job_mark}
 use Rattle.lane_server.proofs.Adding.{job_rest, job_due, job_owes, tick_stands, tick_mark, tick_rest, tick_due}
-use Rattle.lane_server.proofs.Adding.{tick_owes, end_stands, end_mark, end_rest, end_due, end_owes, refused_stands}
-use Rattle.lane_server.proofs.Adding.{refused_mark, refused_due, refused_mark_short, refused_fits, new_fault_due}
+use Rattle.lane_server.proofs.Adding.{tick_owes, end_stands, end_mark, end_rest, end_due, end_owes, mark_short}
+use Rattle.lane_server.proofs.Adding.{refused_due, refused_fits, new_fault_due}
+use Rattle.lane_server.proofs.Finishing.{done_rest, done_due, done_at, done_owes}
 use Rattle.lane_server.proofs.Adding.{new_fault_fits, opens_by, open_stands, lines_kept, added_is, account_over}
 use Rattle.ready_server.specs.Rostering.{Serves, HasPlace}
 use Rattle.ready_server.specs.declared.roster_server.RosterServer.{RosterServer}
@@ -95,25 +101,72 @@ over_adds lane a b at it = by_server lane.server at.fits where
     names = λ ls. tt;
   }
 
--- a refused job line
-pub refused_adds : (lane : Lane) (release work deadline value : ℕ) (cause : Refusal) (a b : Account)
+-- a line that is refused at the mark as it is
+module _ (lane : Lane) (a b : Account) (S : Session) (line : RefusedLine) (at : IsOpenAt lane a)
+    (there : a.session ≡ Some S) (open_still : b.standing ≡ Open) (same_mark : b.mark ≡ a.mark)
+    (behind : b.session ≡ Some (with_item S (RefusedItem (record { at = a.mark; line = line })))) where
+  refused_adds : (out : LaneOut) → HasNumerals out → refused_text (record { at = a.mark; line = line }) ≡ out_text out
+      → ((ls : List (List ℕ)) → NamesFault out ls)
+      → Adds (record lane { work = Give out }) a b
+  refused_adds out numerals text names = record {
+    opened = at.opened ∙ sym (opens_by b Open open_still);
+    rest = refused_text (record { at = a.mark; line = line }) ∷ [];
+    due = refused_due a b S line at.kept at.stands there open_still same_mark behind;
+    marked = at.marked ∙ sym same_mark;
+    owes = (
+      ap (λ l. l ∷ []) text,
+      refused_fits a b S line at.kept at.stands there open_still same_mark behind lane.server at.fits,
+      numerals,
+    );
+    names = names;
+  }
+
+-- a job line that is refused
+pub refused_job_adds : (lane : Lane) (release work deadline value : ℕ) (cause : Refusal) (a b : Account)
     → IsOpenAt lane a → AddsRefused (job_of_numbers release work deadline value) cause (counted a) b
     → Adds (record lane { work = Give (Refuse lane.mark release work deadline value cause) }) a b
-refused_adds lane release work deadline value cause a b at it =
-    let job = job_of_numbers release work deadline value in record {
-      opened = at.opened ∙ sym (opens_by b Open (refused_stands a b job cause at.kept at.stands it));
-      rest = refused_text (record { at = a.mark; line = RefusedJob job cause }) ∷ [];
-      due = refused_due a b job cause at.kept at.stands it;
-      marked = at.marked ∙ sym (refused_mark a b job cause at.kept at.stands it);
-      owes = (
-        ap (λ m. refused_text (record { at = m; line = RefusedJob job cause }) ∷ []) (sym at.marked),
-        refused_fits a b job cause at.kept at.stands it lane.server at.fits,
-        (
-          subst (λ m. m < 10 ^ 18) (sym at.marked)
-              (refused_mark_short a b job cause at.kept at.stands it),
-          it.numerals,
-        ),
-      );
+refused_job_adds lane release work deadline value cause a b at it =
+    let job = job_of_numbers release work deadline value in
+    refused_adds lane a b it.session (RefusedJob job cause) at it.before_is
+    (ap (λ (x : Account). x.standing) it.after_is ∙ at.stands) (ap (λ (x : Account). x.mark) it.after_is)
+    (ap (λ (x : Account). x.session) it.after_is)
+    (Refuse lane.mark release work deadline value cause)
+    (subst (λ m. m < 10 ^ 18) (sym at.marked) (mark_short a it.session at.kept at.stands it.before_is), it.numerals)
+    (ap (λ m. refused_text (record { at = m; line = RefusedJob job cause })) (sym at.marked)) (λ ls. tt)
+
+-- ---- a done line
+
+module _ (lane : Lane) (t n : ℕ) (a b : Account) (at : IsOpenAt lane a) (it : AddsDone t n (counted a) b) where
+  -- the account goes on
+  done_open : b.standing ≡ Open
+  done_open = ap (λ (x : Account). x.standing) it.after_is ∙ done_standing it.session t n (counted a) ∙ at.stands
+
+  -- below the mark it is refused at once
+  pub late_done_adds : t < a.mark → Adds (record lane { work = Give (RefuseDone lane.mark t n) }) a b
+  late_done_adds late =
+      refused_adds lane a b it.session (RefusedDone t n) at it.before_is done_open
+      (ap (λ (x : Account). x.mark) it.after_is ∙ done_mark it.session t n (counted a)
+      ∙ (let e : max a.mark t ≡ a.mark = omega arith in e))
+      (ap (λ (x : Account). x.session) it.after_is ∙ done_session it.session t n (counted a) it.before_is
+      ∙ ap (λ S. Some S) (late_session it.session a.mark t n late))
+      (RefuseDone lane.mark t n) (
+        subst (λ m. m < 10 ^ 18) (sym at.marked) (mark_short a it.session at.kept at.stands it.before_is),
+        (omega (arith, it.known), it.numerals),
+      )
+      (ap (λ m. refused_text (record { at = m; line = RefusedDone t n })) (sym at.marked)) (λ ls. tt)
+
+  -- and otherwise it is left to finish at its tick
+  pub done_adds : a.mark ≤ t → Adds (record lane { mark = t; work = Finish t n }) a b
+  done_adds later = by_server lane.server at.fits where
+    by_server : (o : Option RosterServer) → Fits a o
+        → Adds (record lane { server = o; mark = t; work = Finish t n }) a b
+    by_server None fits = absurd (let e : None ≡ Some it.session = sym fits ∙ it.before_is in cc)
+    by_server (Some v) fits = record {
+      opened = at.opened ∙ sym (opens_by b Open done_open);
+      rest = done_rest a b t n at.kept at.stands it later;
+      due = done_due a b t n at.kept at.stands it later;
+      marked = sym (done_at a b t n at.kept at.stands it later);
+      owes = done_owes a b t n at.kept at.stands it later v fits;
       names = λ ls. tt;
     }
 

@@ -1,10 +1,13 @@
 -- What a lane keeps of its feed, and what it still has to give.
-use Rattle.std.specs.Prelude.{◌≡◌, ◌⊎◌, ℕ, List, [], ◌∷◌, ◌++◌, map, true, false, if◌then◌else◌, Option, Some, None}
+use Rattle.std.specs.Prelude.{◌≡◌, ◌⊎◌, ℕ, List, [], ◌∷◌, ◌++◌, length, map, drop, true, false, if◌then◌else◌}
+use Rattle.std.specs.Prelude.{Option, Some, None}
+use Rattle.std.specs.Option.{option_map_or}
 use Rattle.dover_model.specs.declared.events.Event.{Event}
 use Rattle.dover_model.specs.JobFacts.{JobFacts, job_of_numbers}
-use Rattle.dover_model.specs.Instance.{IsValid, with_jobs}
-use Rattle.dover_model.specs.Taken.{two_versions}
-use Rattle.dover_model.specs.Session.{JobItem, RefusedJob, Session, instance_of, with_item}
+use Rattle.dover_model.specs.Instance.{IsValid, with_jobs, with_finishes}
+use Rattle.dover_model.specs.Session.{Item, JobItem, FinishItem, RefusedJob, RefusedDone, Session}
+use Rattle.dover_model.specs.Session.{instance_of, with_item, finish_at, refused_done_at}
+use Rattle.dover_model.specs.Settled.{settled}
 use Rattle.dover_model.specs.Text.{header, text_of, refused_text, step_numbers}
 use Rattle.dover_model.specs.Feed.{Account, Cause, Open, Faulty, account_of_lines, is_open, is_ended, rules_with}
 use Rattle.dover_model.specs.Due.{due_lines, fault_text}
@@ -20,10 +23,10 @@ use Rattle.event_feed.specs.Kept as feed
 use Rattle.event_feed.specs.Kept.{cause_of_fault}
 use Rattle.event_feed.specs.Faults.{IsFirstFault}
 use Rattle.lane_server.specs.declared.out.LaneOut.{LaneOut}
-use Rattle.lane_server.specs.declared.out.LaneOut.TheVariants.{Header, Step as Printed, Refuse, Refused}
+use Rattle.lane_server.specs.declared.out.LaneOut.TheVariants.{Header, Step as Printed, Refuse, RefuseDone, Refused}
 use Rattle.lane_server.specs.declared.lane.Lane.{Lane}
 use Rattle.lane_server.specs.declared.lane.Work.{Work}
-use Rattle.lane_server.specs.declared.lane.Work.TheVariants.{Nothing, Give, Run, Admit}
+use Rattle.lane_server.specs.declared.lane.Work.TheVariants.{Nothing, Give, Run, Admit, Finish}
 use Rattle.ready_server.specs.Rostering.{Serves, HasPlace}
 use Rattle.ready_server.specs.declared.roster_server.RosterServer.{RosterServer}
 
@@ -50,6 +53,7 @@ out_text (Header version k) = header (rules_with k version)
 out_text (Printed e) = text_of e
 out_text (Refuse at release work deadline value cause) =
     refused_text (record { at = at; line = RefusedJob (job_of_numbers release work deadline value) cause })
+out_text (RefuseDone at tick number) = refused_text (record { at = at; line = RefusedDone tick number })
 out_text (Refused line cause) = fault_text line (cause_of_fault cause)
 
 -- its numbers have numerals
@@ -57,6 +61,7 @@ abbrev pub HasNumerals : LaneOut → Type 0
 HasNumerals (Header version k) = Unit {0}
 HasNumerals (Printed e) = AreShort (step_numbers e)
 HasNumerals (Refuse at release work deadline value cause) = AreShort (at ∷ release ∷ work ∷ deadline ∷ value ∷ [])
+HasNumerals (RefuseDone at tick number) = AreShort (at ∷ tick ∷ number ∷ [])
 HasNumerals (Refused line cause) = Unit {0}
 
 -- where it refuses the feed of these lines, it does so for the first that is at fault, and names the job with which its
@@ -111,6 +116,37 @@ pub record Admitting (job : JobFacts) (server : RosterServer) (a : Account)
   pub due : due_by (with_jobs (instance_of session) (job ∷ [])) (Mark job.release) ≡ events ++ left
   pub texts : rest ≡ map text_of left
 
+-- what a done line hands in at a mark that isn't above its tick: the finish, where it is right, or the refused line
+abbrev pub done_item : Session → (at number : ℕ) → Item
+done_item S at number =
+    option_map_or FinishItem (finish_at (instance_of S) at number) (refused_done_at at at number)
+
+-- the lines that it adds behind what is settled at its tick without it: what is settled further there with the finish,
+-- or the line that refuses it
+abbrev pub done_lines : Session → (at number : ℕ) → List (List ℕ)
+done_lines S at number = elim (finish_at (instance_of S) at number) [
+  | None ↦ refused_text (record { at = at; line = RefusedDone at number }) ∷ []
+  | Some f ↦ map text_of (drop (length (settled (instance_of S) at))
+      (settled (with_finishes (instance_of S) (f.finish ∷ [])) at))
+]
+
+-- The server serves the session without its last item, the done line, and these lines are left: what is settled at the
+-- line's tick without it, and what it adds.
+pub record Finishing (at number : ℕ) (server : RosterServer) (a : Account)
+    (rest : List (List ℕ)) : Type 0 where
+  pub session : Session
+  pub there : a.session ≡ Some (with_item session (done_item session at number))
+  pub reached : reach a ≡ Mark at
+  pub valid : IsValid (instance_of session)
+  pub numerals : AreShort (at ∷ at ∷ number ∷ [])
+  pub from : Horizon
+  pub follows : MayFollow from (Mark at)
+  pub events : List Event
+  pub served : Serves server (instance_of session) from events
+  pub left : List Event
+  pub due : settled (instance_of session) at ≡ events ++ left
+  pub texts : rest ≡ map text_of left ++ done_lines session at number
+
 -- what the work under way still gives
 abbrev pub Owes : Work → Option RosterServer → Account → List (List ℕ) → Type 0
 Owes Nothing server a rest = (rest ≡ []) × Fits a server
@@ -119,6 +155,8 @@ Owes (Run to) None a rest = ⊥
 Owes (Run to) (Some server) a rest = Running to server a rest
 Owes (Admit job) None a rest = ⊥
 Owes (Admit job) (Some server) a rest = Admitting job server a rest
+Owes (Finish at number) None a rest = ⊥
+Owes (Finish at number) (Some server) a rest = Finishing at number server a rest
 
 -- a line that refuses the feed, and is left to give, names its fault
 abbrev pub GivesFault : Work → List (List ℕ) → Type 0
@@ -153,7 +191,7 @@ Gives (Some out) lane ls rest = (more : List (List ℕ)) × (rest ≡ out_text o
 -- the account goes on, and the lane's server has taken its session to its mark
 pub record IsOpenAt (lane : Lane) (a : Account) : Type 0 where
   pub opened : lane.is_open ≡ true
-  pub kept : IsKept two_versions a
+  pub kept : IsKept a
   pub stands : a.standing ≡ Open
   pub fits : Fits a lane.server
   pub marked : lane.mark ≡ a.mark

@@ -1,8 +1,28 @@
 //! One lane: a feed, the server that it feeds, and the lines that are due and not yet given.
-ghost use Rattle.std.specs.Prelude.{◌≡◌, ◌↔◌, ℕ, List, [], ◌∷◌, ◌++◌, Bool, Some, Err, true, IsTrue, IsSome, OnOk, OnErr};
+ghost use Rattle.std.specs.Prelude.{
+  ◌≡◌,
+  ◌↔◌,
+  ◌≤◌,
+  ◌<◌,
+  ℕ,
+  List,
+  [],
+  ◌∷◌,
+  ◌++◌,
+  Bool,
+  Some,
+  Err,
+  true,
+  IsTrue,
+  IsSome,
+  OnOk,
+  OnErr,
+};
 ghost use Rattle.dover_model.specs.Feed.{Account, account_of_lines, is_open};
+ghost use Rattle.dover_model.specs.Session.{may_finish_early};
 ghost use Rattle.dover_model.specs.Spending.{CostsAtMost};
-ghost use Rattle.event_feed.specs.Answers.{DeclaresRatio, AddsJob, IsFed, EndAnswers, counted, admitted_in};
+ghost use Rattle.event_feed.specs.Listing.{IsPlain};
+ghost use Rattle.event_feed.specs.Answers.{DeclaresRatio, AddsJob, AddsDone, IsFed, EndAnswers, counted, admitted_in};
 ghost use Rattle.event_feed.specs.Kept.{fault_of};
 ghost use Rattle.event_feed.specs.declared.faults.FeedFault.{FeedFault};
 ghost use Rattle.lane_server.specs.Lanes.{lines_added, feed_short, is_fine};
@@ -11,7 +31,7 @@ ghost use Rattle.lane_server.specs.Rosters.{KeepsRoster};
 ghost use Rattle.lane_server.specs.Spending.{HasPaid};
 ghost use Rattle.ready_server.specs.Rostering.{has_roster};
 ghost use Rattle.lane_server.specs.Shorts.{short_texts};
-ghost use Rattle.lane_server.specs.declared.lane.Work.TheVariants.{Nothing, Run, Admit};
+ghost use Rattle.lane_server.specs.declared.lane.Work.TheVariants.{Nothing, Run, Admit, Finish};
 
 use crate::out::LaneOut;
 use dover_model::{Horizon, Job, Memory, Ratio, Version};
@@ -33,6 +53,9 @@ pub(crate) enum Work {
     Run(Horizon),
     /// The run goes up to the job's release, then the job is admitted, and the run goes up to its release with it.
     Admit(Job),
+    /// The run goes up to this tick, then the job of this number finishes there, and the run goes up to the tick with
+    /// that finish; or the line that says so is refused, where that isn't right.
+    Finish { at: u64, number: u64 },
 }
 
 /// A feed, its server from the ratio line on, and what is under way: each line of the feed goes in, and then each line
@@ -60,6 +83,16 @@ pub struct Lane {
     is_open: bool,
     work: Work,
     listed: bool,
+}
+
+// Whether a job may finish early in the version.
+fn may_finish_early(version: Version) -> bool
+    ensures { result ≡ may_finish_early version }
+{
+    match version {
+        Version::One | Version::Two => false,
+        Version::Three => true,
+    }
 }
 
 impl Lane {
@@ -145,6 +178,24 @@ impl Lane {
         Ok(())
     }
 
+    fn finish_at(&mut self, at: u64, number: u64)
+        ensures adds { (a b : Account) → IsOpenAt self.old a → AddsDone at number (counted a) b → Adds self.new a b }
+        ensures server { self.new.server ≡ self.old.server }
+        ensures listed { self.new.listed ≡ self.old.listed }
+        ensures intake { self.new.intake ≡ self.old.intake }
+    {
+        if at < self.mark {
+            self.work = Work::Give(LaneOut::RefuseDone {
+                at: self.mark,
+                tick: at,
+                number,
+            });
+            return;
+        }
+        self.mark = at;
+        self.work = Work::Finish { at, number };
+    }
+
     fn take(&mut self, alloc: Global, fed: Fed) -> Result<(), Memory>
         requires { (a : Account) × (b : Account) × IsOpenAt self.old a × IsFed (counted a) b fed }
         ensures adds { (a b : Account) → IsOpenAt self.old a → IsFed (counted a) b fed
@@ -183,6 +234,7 @@ impl Lane {
                     cause,
                 });
             }
+            Fed::Done { at, number } => self.finish_at(at, number),
         }
         Ok(())
     }
@@ -269,6 +321,39 @@ impl Lane {
         Some(LaneOut::Step(event))
     }
 
+    #[inline(never)]
+    fn finish<L: Ledger>(&mut self, at: u64, number: u64, steps: &mut Steps<L>) -> Option<LaneOut>
+        requires work { self.old.work ≡ Finish at number }
+        requires stands { (ls : List (List ℕ)) × (rest : List (List ℕ)) × Stands self.old ls rest }
+        ensures gives { (ls rest : List (List ℕ)) → Stands self.old ls rest
+            → Gives result self.new ls rest }
+        ensures paid { (start : ℕ) → HasPaid self.old.server start steps.old
+            → HasPaid self.new.server start steps.new }
+        ensures roster { (listed : Bool) → KeepsRoster self.old listed → KeepsRoster self.new listed }
+    {
+        RosterServer::laws();
+        let Some(server) = &mut self.server else {
+            unreachable!();
+        };
+        if let Some(event) = server.step(Horizon::Mark(at), steps) {
+            return Some(LaneOut::Step(event));
+        }
+        match server.finish(at, number) {
+            Some(event) => {
+                self.work = Work::Run(Horizon::Mark(at));
+                Some(LaneOut::Step(event))
+            }
+            None => {
+                self.work = Work::Nothing;
+                Some(LaneOut::RefuseDone {
+                    at,
+                    tick: at,
+                    number,
+                })
+            }
+        }
+    }
+
     /// The next line due. None exactly where all that is due was given.
     #[inline(always)]
     pub fn next_out<L: Ledger>(&mut self, steps: &mut Steps<L>) -> Option<LaneOut>
@@ -293,6 +378,11 @@ impl Lane {
             Work::Admit(job) => {
                 let job = *job;
                 self.admit(job, steps)
+            }
+            Work::Finish { at, number } => {
+                let at = *at;
+                let number = *number;
+                self.finish(at, number, steps)
             }
         }
     }
@@ -343,11 +433,15 @@ impl Lane {
         self.intake.end()
     }
 
-    /// Whether the ratio line came, and there is a server.
-    pub fn has_server(&self) -> bool
-        ensures { IsTrue result ↔ IsSome self.now.server }
+    /// Whether the ratio was declared, in a version in which no job finishes early, where all that is due was given.
+    #[tactic(auto, using(crate::proofs::Feeding::plain_where, crate::proofs::Feeding::plain_nowhere))]
+    pub fn is_plain(&self) -> bool
+        ensures { (ls : List (List ℕ)) → IsQuiet self.now ls → IsTrue result ↔ IsPlain (account_of_lines ls).session }
     {
-        self.server.is_some()
+        match &self.server {
+            Some(server) => !may_finish_early(server.version()),
+            None => false,
+        }
     }
 
     /// The numbers of the last job line with their text.

@@ -18,6 +18,12 @@ pub enum LaneOut {
         value: u64,
         cause: Refusal,
     },
+    /// A done line whose finish isn't right, with the mark behind it.
+    RefuseDone {
+        at: u64,
+        tick: u64,
+        number: u64,
+    },
     /// The feed is refused at this line of its own, numbered from 1. Where the line breaks the ratio, the cause names
     /// the other job.
     Refused {

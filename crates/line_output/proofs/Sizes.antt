@@ -11,7 +11,7 @@ use Rattle.dover_model.specs.Lines.{line_of}
 use Rattle.dover_model.specs.Numerals.{AreShort}
 use Rattle.dover_model.specs.Text.{text_of, refused_text, refusal_word, step_numbers}
 use Rattle.dover_model.proofs.Fields.{length-with_numbers}
-use Rattle.trace_format.specs.Form.{refused_job}
+use Rattle.trace_format.specs.Form.{refused_job, refused_done}
 
 -- a word, numbers and a word
 numbers_size : (word : List ℕ) (ns : List ℕ) (last : List ℕ) → AreShort ns
@@ -40,6 +40,12 @@ refuse_size at release work deadline value cause short = omega (
   numbers_size (codes "refuse") (at ∷ release ∷ work ∷ deadline ∷ value ∷ []) (refusal_word cause) short,
   word_size cause,
 )
+
+-- a refused done line
+pub refuse_done_size : (at tick number : ℕ) → AreShort (at ∷ tick ∷ number ∷ [])
+    → length (refused_text (refused_done at tick number)) ≤ 107
+refuse_done_size at tick number short =
+    omega (arith, numbers_size (codes "refuse") (at ∷ tick ∷ number ∷ []) (codes "done") short)
 
 -- a printed step
 pub event_size : (e : Event) → AreShort (step_numbers e) → length (text_of e) ≤ 103

@@ -7,7 +7,7 @@ ghost use Rattle.dover_model.specs.Lines.{line_of, with_numbers};
 ghost use Rattle.dover_model.specs.JobFacts.{job_numbers};
 ghost use Rattle.event_feed.specs.Kept.{cause_of_fault};
 ghost use Rattle.lane_server.specs.Lane.{out_text, HasNumerals};
-ghost use Rattle.trace_format.specs.Form.{refused_job};
+ghost use Rattle.trace_format.specs.Form.{refused_job, refused_done};
 
 use crate::faults::fault_text;
 use dover_model::{Event, Job, Ratio, Refusal, Version};
@@ -51,6 +51,18 @@ fn refuse_line(
     line.put_word(b" ");
     line.put_numbers(&[work, deadline, value]);
     line.put_with_numbers(b"refuse", &[at, release]);
+}
+
+/// Writes the line of a refused done line before its line feed.
+#[inline(never)]
+fn refuse_done_line(at: u64, tick: u64, number: u64, line: &mut BackLine)
+    requires short { AreShort (at ∷ tick ∷ number ∷ []) }
+    requires empty { line.old ≡ 10 ∷ [] }
+    ensures text { line.new ≡ refused_text (refused_done at tick number) ++ 10 ∷ [] }
+    ensures fits { length line.new ≤ 108 }
+{
+    line.put_word(b" done");
+    line.put_with_numbers(b"refuse", &[at, tick, number]);
 }
 
 /// Writes the line of a refused job line before its line feed, with the text of its numbers.
@@ -120,6 +132,7 @@ pub fn write_out(out: &LaneOut, line: &mut BackLine)
             value,
             cause,
         } => refuse_line(*at, *release, *work, *deadline, *value, *cause, line),
+        LaneOut::RefuseDone { at, tick, number } => refuse_done_line(*at, *tick, *number, line),
         LaneOut::Refused {
             line: number,
             cause,

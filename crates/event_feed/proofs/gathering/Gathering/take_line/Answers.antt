@@ -1,7 +1,8 @@
 use Rattle.std.proofs.Common.{◌≡◌, ◌++◌, ◌∷◌, [], ◌∙◌, Some, None, sym, ap, subst}
 use Rattle.dover_model.specs.Feed.{account_of_lines, is_open}
 use Rattle.event_feed.specs.Answers.{IsFed, counted}
-use Rattle.event_feed.proofs.Listing.{job_listed, job_admitted, refused_listed}
+use Rattle.event_feed.proofs.Listing.{goes_on, job_listed, job_admitted, refused_listed, done_listed}
+use Rattle.event_feed.proofs.DoneLines.{done_standing}
 use Rattle.event_feed.proofs.gathering.Gathering.take_line.Goals as goal
 
 pub returns-in-Err-push-clause-memory : goal.returns-in-Err-push-clause-memory
@@ -31,5 +32,18 @@ returns-in-Refused-clause-keeps c = λ ls keeps on.
       intake = c.in-Ok.ensures.stands ls keeps.intake;
       lists = refused_listed a b _ _ keeps.lists _ _ adds;
       goes_on = keeps.goes_on ∙ sym (ap is_open adds.after_is);
+      names = λ fault is. absurd (let e : None ≡ Some fault = sym c.in-Ok.ensures.fault ∙ is in cc);
+    }
+
+pub returns-in-Done-clause-keeps : goal.returns-in-Done-clause-keeps
+returns-in-Done-clause-keeps c = λ ls keeps on.
+    let a = account_of_lines ls in
+    let b = account_of_lines (ls ++ c.args.line.now ∷ []) in
+    let adds = subst (IsFed (counted a) b) c.in-Done.is (c.in-Ok.ensures.answer ls keeps.intake).1 in
+    record {
+      intake = c.in-Ok.ensures.stands ls keeps.intake;
+      lists = done_listed a b _ _ keeps.lists _ _ adds;
+      goes_on = keeps.goes_on ∙ sym (ap is_open adds.after_is
+          ∙ ap goes_on (done_standing adds.session c.in-Done.at c.in-Done.number (counted a)));
       names = λ fault is. absurd (let e : None ≡ Some fault = sym c.in-Ok.ensures.fault ∙ is in cc);
     }

@@ -1,5 +1,5 @@
 -- A fault is kept and answered.
-use Rattle.std.proofs.Common.{◌≡◌, ℕ, suc, ◌+◌, List, sym, ap, ◌∙◌, subst, refl, arith, Err, None, Some}
+use Rattle.std.proofs.Common.{◌≡◌, ℕ, suc, ◌+◌, List, sym, ap, ◌∙◌, subst, refl, arith, Err, None, Some, rules}
 use Rattle.std.specs.Option.{option_map}
 use Rattle.dover_model.specs.Feed.{Open, account_of_lines, read_line}
 use Rattle.dover_model.specs.FeedLine.{feed_line}
@@ -8,8 +8,23 @@ use Rattle.event_feed.specs.declared.intake.Standing.TheVariants as standings
 use Rattle.event_feed.specs.Kept.{StandsFor, standing_of, has_ended, fault_of}
 use Rattle.event_feed.specs.Answers.{counted}
 use Rattle.event_feed.specs.Reading.{IsTaken}
-use Rattle.event_feed.proofs.Taking.{goes_on, is_going, keeps_fault, answers_fault}
+use Rattle.event_feed.proofs.Taking.{goes_on, is_going, keeps_fault, keeps_fed, answers_fault}
 use Rattle.event_feed.proofs.intake.Intake.take.Goals as goal
+
+pub returns-in-Ok-clause-stands : goal.returns-in-Ok-clause-stands
+returns-in-Ok-clause-stands c ls text is it =
+    let going_on : c.self.inside.standing ≡ standings.Open =
+    goes_on c.self.inside.standing (ap has_ended c.self.view_is ∙ c.requires.unended) c.in_default.not-Faulty in
+    let before : StandsFor (record {
+      lines = c.self.inside.lines;
+      session = c.self.inside.session;
+      standing = c.self.inside.standing;
+    }) ls = subst (λ k. StandsFor k ls) (sym c.self.view_is) it in
+    let opened : (account_of_lines ls).standing ≡ Open = sym before.by_account.standing ∙ ap standing_of going_on in
+    let counts : c.self.inside.lines + 1 ≡ suc (account_of_lines ls).lines = omega (arith, before.by_account.counted) in
+    keeps_fed ls text c.read.new.session (c.self.inside.lines + 1) c.in-Ok.fed opened counts (search rules)
+    (c.in-Ok.ensures.taken (counted (account_of_lines ls)) text is opened (sym counts) before.by_account.session)
+    c.self.inside.standing going_on
 
 pub returns-in-Err : goal.returns-in-Err
 returns-in-Err c = record {

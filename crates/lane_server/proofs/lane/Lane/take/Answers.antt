@@ -1,7 +1,7 @@
 use Rattle.std.proofs.Common.{inl, inr, subst}
 use Rattle.event_feed.specs.Answers.{IsFed, counted}
 use Rattle.lane_server.specs.Lane.{IsDeclared, AsksForMemory}
-use Rattle.lane_server.proofs.Taking.{tick_adds, over_adds, refused_adds, err_any, ratio_declares, job_declared}
+use Rattle.lane_server.proofs.Taking.{tick_adds, over_adds, refused_job_adds, err_any, ratio_declares, job_declared}
 use Rattle.lane_server.proofs.lane.Lane.take.Goals as goal
 
 pub returns-in_ok-declare-in-Ratio-clause-adds : goal.returns-in_ok-declare-in-Ratio-clause-adds
@@ -18,7 +18,7 @@ returns-in-Over-clause-adds c =
 
 pub returns-in-Refused-clause-adds : goal.returns-in-Refused-clause-adds
 returns-in-Refused-clause-adds c =
-    λ a b at it. refused_adds c.args.self.now c.in-Refused.release c.in-Refused.work c.in-Refused.deadline
+    λ a b at it. refused_job_adds c.args.self.now c.in-Refused.release c.in-Refused.work c.in-Refused.deadline
     c.in-Refused.value c.in-Refused.cause a b at (subst (λ x. IsFed (counted a) b x) c.in-Refused.is it)
 
 pub returns-in_err-declare-in-Ratio-clause-lacks : goal.returns-in_err-declare-in-Ratio-clause-lacks
