@@ -3,7 +3,6 @@ use Rattle.std.proofs.Common.{◌≡◌, ◌<◌, ◌^◌, ◌-◌, ℕ, List, �
 use Rattle.std.proofs.Common.{false, not, inl, inr, Option, Ok, Err}
 use Rattle.dover_model.specs.Verdict as model
 use Rattle.dover_model.specs.Verdict.{verdict}
-use Rattle.dover_model.specs.Taken.{two_versions}
 use Rattle.dover_model.proofs.WrongStays.{wrong_verdict_stays}
 use Rattle.dover_port.specs.declared.status.Status.{Status}
 use Rattle.dover_port.specs.declared.status.Status.TheVariants.{Done, No, Refused, ReadFault, WriteFault, Memory, Usage}
@@ -39,7 +38,7 @@ wrong_same : (x y : List ℕ) → not (is_wrong (verdict x)) ≡ false → verdi
 wrong_same x y over = by_verdict (verdict x) refl (not_not (is_wrong (verdict x)) over) where
   by_verdict : (v : model.Verdict) → verdict x ≡ v → is_wrong v ≡ true → verdict (x ++ y) ≡ v
   by_verdict (model.Accepted S) is wrong = absurd (let e : false ≡ true = wrong in cc)
-  by_verdict (model.Wrong line due) is wrong = wrong_verdict_stays two_versions x y line due is
+  by_verdict (model.Wrong line due) is wrong = wrong_verdict_stays x y line due is
   by_verdict (model.Short lines) is wrong = absurd (let e : false ≡ true = wrong in cc)
 
 -- what is told of a verdict

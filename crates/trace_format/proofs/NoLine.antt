@@ -10,7 +10,9 @@ use Rattle.dover_model.specs.Numerals.{numerals}
 use Rattle.line_text.proofs.Words.{IsNot, uncounted, skip, Lacks, differs}
 use Rattle.trace_format.specs.declared.lines.TraceLine.TheVariants.{Step}
 use Rattle.trace_format.specs.Reading.{◌>>=◌, release_of, one_job, two_jobs, run_of, complete_of, abandon_of}
-use Rattle.trace_format.specs.Reading.{preempt_of, take_of, end_of, header_of, line_of_word, refused_of, line_of_fields}
+use Rattle.trace_format.specs.Reading.{preempt_of, take_of, end_of, header_of, line_of_word, refused_of}
+use Rattle.trace_format.specs.Reading.{refused_done_of}
+use Rattle.trace_format.specs.Reading.{line_of_fields}
 
 -- ---- another count of numbers
 
@@ -114,7 +116,7 @@ no_numbers word (Some ns) it = no_word word ns (it ns refl)
 
 -- a word alone is none
 lone : (word : List ℕ) → line_of_fields (word ∷ []) ≡ None
-unfolding refused_of
+unfolding refused_of refused_done_of
 lone word = skip (bytes_eq word (codes "refuse")) _ _ (λ same. refl) (no_word word [] record {
   job = λ same. refl;
   run = λ same. refl;

@@ -21,7 +21,7 @@ use Rattle.dover_model.specs.Session.{Item}
 use Rattle.dover_model.specs.Text.{text_of, refusal_word, step_numbers}
 use Rattle.dover_model.specs.Trace.{Printed, Refuses}
 use Rattle.dover_model.specs.Verdict as verdict
-use Rattle.dover_model.proofs.Tests.{none_is_some}
+use Rattle.dover_model.proofs.Tests.{never, none_is_some}
 use Rattle.dover_model.proofs.Members.{some_same}
 use Rattle.dover_model.proofs.Agreement.{is_job-agrees}
 use Rattle.dover_model.proofs.Numerals.{numeral-decimal, decimal-numeral}
@@ -31,12 +31,12 @@ use Rattle.dover_model.proofs.ReadShort.{numerals_short}
 use Rattle.dover_model.proofs.TraceLines.{word_HasNoSpace, then_word, item_of-text_of_line}
 use Rattle.line_text.specs.Reading.{number_of_first}
 use Rattle.trace_format.specs.declared.lines.TraceLine.{TraceLine}
-use Rattle.trace_format.specs.declared.lines.TraceLine.TheVariants.{Header, Step, Refused}
+use Rattle.trace_format.specs.declared.lines.TraceLine.TheVariants.{Header, Step, Refused, RefusedDone}
 use Rattle.trace_format.specs.Form.{last_number, trace_text, NamesJobs, HasForm, item_in, rules_in}
-use Rattle.trace_format.specs.Form.{refused_job}
+use Rattle.trace_format.specs.Form.{refused_job, refused_done}
 use Rattle.trace_format.specs.Reading.{◌>>=◌, job_number, new_job, release_of, one_job, two_jobs}
 use Rattle.trace_format.specs.Reading.{end_of, step_of_word, header_of, line_of_word, last_word, refused_of}
-use Rattle.trace_format.specs.Reading.{line_of_fields}
+use Rattle.trace_format.specs.Reading.{line_of_fields, is_done_left, refused_done_of, refusal_of}
 
 -- ---- steps
 
@@ -366,6 +366,49 @@ refused_from fields x read =
     (decimal v.0.0) mark.0 release.0 work.0 deadline.0 value.0
     (last_from v.0.1 cause.0 cause.1)) (mark.1, (release.1, (work.1, (deadline.1, (value.1, tt))))) cause.2
 
+-- the word of a refused done line
+done_from : (fields : List (List ℕ)) → is_done_left fields ≡ true → fields ≡ codes "done" ∷ []
+done_from [] is = never is
+done_from (word ∷ []) is = ap (λ w. w ∷ []) ((bytes_eq-Decides word (codes "done")).0 is)
+done_from (word ∷ next ∷ fields) is = never is
+
+-- what is read behind each of its numbers
+abbrev behind_number : (t u n : ℕ) → List (List ℕ) → Option TraceLine
+behind_number t u n fields = then_some (is_done_left fields) (RefusedDone t u n)
+
+abbrev behind_tick : (t u : ℕ) → List (List ℕ) → Option TraceLine
+behind_tick t u fields = number_of_first fields >>= λ n. behind_number t u n.0 n.1
+
+abbrev behind_done_mark : (t : ℕ) → List (List ℕ) → Option TraceLine
+behind_done_mark t fields = number_of_first fields >>= λ u. behind_tick t u.0 u.1
+
+-- a refused done line
+done_line_from : (fields : List (List ℕ)) (x : TraceLine) → refused_done_of fields ≡ Some x → RefusedBy fields x
+unfolding refused_done_of
+done_line_from fields x read =
+    let t = bind_some (number_of_first fields) (λ t. behind_done_mark t.0 t.1) x read in
+    let u = bind_some (number_of_first t.0.1) (λ u. behind_tick t.0.0 u.0 u.1) x t.2 in
+    let n = bind_some (number_of_first u.0.1) (λ n. behind_number t.0.0 u.0.0 n.0 n.1) x u.2 in
+    let done = tested (is_done_left n.0.1) (RefusedDone t.0.0 u.0.0 n.0.0) x n.2 in
+    let mark = first_from fields t.0 t.1 in
+    let tick = first_from t.0.1 u.0 u.1 in
+    let number = first_from u.0.1 n.0 n.1 in
+    let whole : fields ≡ decimal t.0.0 ∷ decimal u.0.0 ∷ decimal n.0.0 ∷ codes "done" ∷ [] =
+    mark.0 ∙ ap (λ xs. decimal t.0.0 ∷ xs) (tick.0
+    ∙ ap (λ xs. decimal u.0.0 ∷ xs) (number.0 ∙ ap (λ xs. decimal n.0.0 ∷ xs) (done_from n.0.1 done.0))) in
+    subst (RefusedBy fields) done.1 (record {
+      text = ap (λ fs. line_of (codes "refuse" ∷ fs)) (sym whole);
+      form = (mark.1, (tick.1, (number.1, tt)));
+    })
+
+-- a refused line of either kind
+refusal_from : (fields : List (List ℕ)) (x : TraceLine) → refusal_of fields ≡ Some x → RefusedBy fields x
+refusal_from fields x = by_job (refused_of fields) refl where
+  by_job : (o : Option TraceLine) → refused_of fields ≡ o → option_or o (refused_done_of fields) ≡ Some x
+      → RefusedBy fields x
+  by_job None none read = done_line_from fields x read
+  by_job (Some y) is read = refused_from fields x (is ∙ read)
+
 -- a number is read
 first_ok : (n : ℕ) (fields : List (List ℕ)) → n < 10 ^ 18 → number_of_first (decimal n ∷ fields) ≡ Some (n, fields)
 first_ok n fields short = ap (option_map (λ m. let g : ℕ × List (List ℕ) = (m, fields) in g)) (numeral-decimal n short)
@@ -390,6 +433,31 @@ refused_read t r c d v cause short =
     ∙ ap (λ o. o >>= λ f. behind_value t r c d f.0 f.1) (first_ok v (refusal_word cause ∷ []) short.1.1.1.1.0)
     ∙ ap (λ o. o >>= λ w. Some (Refused t r c d v w)) (word_named cause)
 
+-- so are they of a refused line
+refusal_read : (t r c d v : ℕ) (cause : Refusal) → AreShort (t ∷ r ∷ c ∷ d ∷ v ∷ [])
+    → refusal_of (map decimal (t ∷ r ∷ c ∷ d ∷ v ∷ []) ++ refusal_word cause ∷ []) ≡ Some (Refused t r c d v cause)
+refusal_read t r c d v cause short =
+    let fields : List (List ℕ) = map decimal (t ∷ r ∷ c ∷ d ∷ v ∷ []) ++ refusal_word cause ∷ [] in
+    ap (λ o. option_or o (refused_done_of fields)) (refused_read t r c d v cause short)
+
+-- the fields of a refused done line are those of no job's
+no_job_read : (t u n : ℕ) → AreShort (t ∷ u ∷ n ∷ [])
+    → refused_of (map decimal (t ∷ u ∷ n ∷ []) ++ codes "done" ∷ []) ≡ None
+unfolding refused_of
+no_job_read t u n short =
+    ap (λ o. o >>= λ f. behind_mark f.0 f.1) (first_ok t _ short.0)
+    ∙ ap (λ o. o >>= λ f. behind_release t f.0 f.1) (first_ok u _ short.1.0)
+    ∙ ap (λ o. o >>= λ f. behind_work t u f.0 f.1) (first_ok n (codes "done" ∷ []) short.1.1.0)
+
+-- and are read as it
+done_read : (t u n : ℕ) → AreShort (t ∷ u ∷ n ∷ [])
+    → refused_done_of (map decimal (t ∷ u ∷ n ∷ []) ++ codes "done" ∷ []) ≡ Some (RefusedDone t u n)
+unfolding refused_done_of
+done_read t u n short =
+    ap (λ o. o >>= λ f. behind_done_mark f.0 f.1) (first_ok t _ short.0)
+    ∙ ap (λ o. o >>= λ f. behind_tick t f.0 f.1) (first_ok u _ short.1.0)
+    ∙ ap (λ o. o >>= λ f. behind_number t u f.0 f.1) (first_ok n (codes "done" ∷ []) short.1.1.0)
+
 -- ---- lines
 
 -- what is read has a form, and its text is the line of the fields
@@ -397,9 +465,9 @@ pub line_from : (fields : List (List ℕ)) (x : TraceLine) → line_of_fields fi
     × (trace_text x ≡ line_of fields)
 line_from [] x read = none_is_some read
 line_from (word ∷ fields) x read =
-    by_word word (codes "refuse") (λ w. HasForm x × (trace_text x ≡ line_of (w ∷ fields))) (refused_of fields)
+    by_word word (codes "refuse") (λ w. HasForm x × (trace_text x ≡ line_of (w ∷ fields))) (refusal_of fields)
     (option_and_then (line_of_word word) (numerals fields)) x
-    (λ refused. let it = refused_from fields x refused in (it.form, it.text))
+    (λ refused. let it = refusal_from fields x refused in (it.form, it.text))
     (by_numbers (numerals fields) refl) read where
       by_numbers : (o : Option (List ℕ)) → numerals fields ≡ o → option_and_then (line_of_word word) o ≡ Some x
           → HasForm x × (trace_text x ≡ line_of (word ∷ fields))
@@ -415,6 +483,7 @@ abbrev fields_in : TraceLine → List (List ℕ)
 fields_in (Header version p q) = codes "dover" ∷ map decimal (version ∷ p ∷ q ∷ [])
 fields_in (Step e) = word_of e ∷ map decimal (step_numbers e)
 fields_in (Refused t r c d v cause) = codes "refuse" ∷ map decimal (t ∷ r ∷ c ∷ d ∷ v ∷ []) ++ refusal_word cause ∷ []
+fields_in (RefusedDone t u n) = codes "refuse" ∷ map decimal (t ∷ u ∷ n ∷ []) ++ codes "done" ∷ []
 
 -- the text is cut into them
 text_cut : (x : TraceLine) → HasForm x → fields_of (trace_text x) ≡ fields_in x
@@ -427,6 +496,9 @@ text_cut (Step e) form = ap fields_of (text_is e)
 text_cut (Refused t r c d v cause) form =
     fields_of-line_of (codes "refuse") (map decimal (t ∷ r ∷ c ∷ d ∷ v ∷ []) ++ refusal_word cause ∷ []) refl
     (then_word (refusal_word cause) (t ∷ r ∷ c ∷ d ∷ v ∷ []) (word_HasNoSpace cause) form)
+text_cut (RefusedDone t u n) form =
+    fields_of-line_of (codes "refuse") (map decimal (t ∷ u ∷ n ∷ []) ++ codes "done" ∷ []) refl
+    (then_word (codes "done") (t ∷ u ∷ n ∷ []) refl form)
 
 -- a step's fields are read as a word and numbers
 step_line : (e : Event) (ns : List ℕ) → line_of_fields (word_of e ∷ map decimal ns)
@@ -446,7 +518,10 @@ fields_read (Step e) form = step_line e (step_numbers e)
     ∙ ap (option_and_then (λ ms. option_map Step (step_of_word (word_of e) ms)))
     (numerals-decimals (step_numbers e) form.0)
     ∙ ap (option_map Step) (step_read e form.1)
-fields_read (Refused t r c d v cause) form = refused_read t r c d v cause form
+fields_read (Refused t r c d v cause) form = refusal_read t r c d v cause form
+fields_read (RefusedDone t u n) form =
+    let fields : List (List ℕ) = map decimal (t ∷ u ∷ n ∷ []) ++ codes "done" ∷ [] in
+    ap (λ o. option_or o (refused_done_of fields)) (no_job_read t u n form) ∙ done_read t u n form
 
 -- the text of what has a form is read as it
 pub text_read : (x : TraceLine) → HasForm x → line_of_fields (fields_of (trace_text x)) ≡ Some x
@@ -470,6 +545,7 @@ text_item (Step (Complete at n)) form = item_of-text_of_line (Printed (Complete 
 text_item (Step (Abandon at n)) form = item_of-text_of_line (Printed (Abandon at n)) form.0
 text_item (Step (End value)) form = item_of-text_of_line (Printed (End value)) form.0
 text_item (Refused t r c d v cause) form = item_of-text_of_line (Refuses (refused_job t r c d v cause)) form
+text_item (RefusedDone t u n) form = item_of-text_of_line (Refuses (refused_done t u n)) form
 
 -- what the fields of a line declare
 abbrev rules_of_fields : List (List ℕ) → Option Declaration
@@ -489,6 +565,7 @@ text_rules (Step e) form = ap rules_of_fields (text_cut (Step e) form) ∙ no_ru
   no_rules (Abandon at n) fields = refl
   no_rules (End value) fields = refl
 text_rules (Refused t r c d v cause) form = ap rules_of_fields (text_cut (Refused t r c d v cause) form)
+text_rules (RefusedDone t u n) form = ap rules_of_fields (text_cut (RefusedDone t u n) form)
 
 -- ---- a line that is read
 
@@ -522,6 +599,11 @@ only_read line x form same = ap (λ bs. line_of_fields (fields_of bs)) (sym same
 pub no_last_word : (word : List ℕ) (fields : List (List ℕ)) → 0 < length fields → last_word (word ∷ fields) ≡ None
 no_last_word word [] some = absurd (omega arith)
 no_last_word word (next ∷ fields) some = refl
+
+-- nor behind the word of a refused done line
+pub no_done_left : (word : List ℕ) (fields : List (List ℕ)) → 0 < length fields → is_done_left (word ∷ fields) ≡ false
+no_done_left word [] some = absurd (omega arith)
+no_done_left word (next ∷ fields) some = refl
 
 -- a line has a field
 pub some_field : (line : List ℕ) → 0 < length (fields_of line)

@@ -1,7 +1,7 @@
 -- How a line of a trace is read, field by field.
-use Rattle.std.specs.Prelude.{ℕ, List, [], ◌∷◌, nat_le, if◌then◌else◌, Option, Some, None, codes, bytes_eq}
+use Rattle.std.specs.Prelude.{ℕ, List, [], ◌∷◌, Bool, false, nat_le, if◌then◌else◌, Option, Some, None, codes, bytes_eq}
 use Rattle.std.specs.Bool.{then_some}
-use Rattle.std.specs.Option.{option_and_then, option_map}
+use Rattle.std.specs.Option.{option_and_then, option_map, option_or}
 use Rattle.dover_model.specs.declared.events.Event.{Event}
 use Rattle.dover_model.specs.declared.events.Event.TheVariants.{Release, Run, Preempt, Take, Complete, Abandon, End}
 use Rattle.dover_model.specs.declared.events.Refusal.{Refusal}
@@ -10,7 +10,7 @@ use Rattle.dover_model.specs.Numerals.{numerals}
 use Rattle.dover_model.specs.Verdict.{refusal_of_word}
 use Rattle.line_text.specs.Reading.{number_of_first}
 use Rattle.trace_format.specs.declared.lines.TraceLine.{TraceLine}
-use Rattle.trace_format.specs.declared.lines.TraceLine.TheVariants.{Header, Step, Refused}
+use Rattle.trace_format.specs.declared.lines.TraceLine.TheVariants.{Header, Step, Refused, RefusedDone}
 use Rattle.trace_format.specs.Form.{last_number}
 
 -- what follows from a value, if there is one
@@ -98,8 +98,22 @@ refused_of fields = number_of_first fields >>= λ t. number_of_first t.1 >>= λ 
     number_of_first c.1 >>= λ d.
     number_of_first d.1 >>= λ v. last_word v.1 >>= λ cause. Some (Refused t.0 r.0 c.0 d.0 v.0 cause)
 
+-- whether one field is the word of a refused done line
+abbrev pub is_done_left : List (List ℕ) → Bool
+is_done_left (word ∷ []) = bytes_eq word (codes "done")
+is_done_left _ = false
+
+-- the refused done line of three numbers and its word
+unfoldable pub refused_done_of : List (List ℕ) → Option TraceLine
+refused_done_of fields = number_of_first fields >>= λ t. number_of_first t.1 >>= λ u. number_of_first u.1 >>= λ n.
+    then_some (is_done_left n.1) (RefusedDone t.0 u.0 n.0)
+
+-- the refused line of these fields, of a job or of a done line
+abbrev pub refusal_of : List (List ℕ) → Option TraceLine
+refusal_of fields = option_or (refused_of fields) (refused_done_of fields)
+
 -- the line of these fields
 abbrev pub line_of_fields : List (List ℕ) → Option TraceLine
 line_of_fields [] = None
 line_of_fields (word ∷ fields) =
-    if bytes_eq word (codes "refuse") then refused_of fields else option_and_then (line_of_word word) (numerals fields)
+    if bytes_eq word (codes "refuse") then refusal_of fields else option_and_then (line_of_word word) (numerals fields)

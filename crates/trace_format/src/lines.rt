@@ -21,4 +21,10 @@ pub enum TraceLine {
         value: u64,
         cause: Refusal,
     },
+    /// `refuse T U N done`: a line `done U N` that was not right, with the mark behind it.
+    RefusedDone {
+        at: u64,
+        tick: u64,
+        number: u64,
+    },
 }

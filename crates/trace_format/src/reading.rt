@@ -105,6 +105,43 @@ fn refused_of(fields: Option<&[u8]>) -> Option<TraceLine>
     })
 }
 
+/// The one field left is the word of a refused done line.
+fn is_done_left(fields: Option<&[u8]>) -> bool
+    ensures { result ≡ model.is_done_left (fields_left fields.entry) }
+{
+    let Some(fields) = fields else {
+        return false;
+    };
+    let (word, rest) = cut_field(fields);
+    match rest {
+        None => word == b"done".as_slice(),
+        Some(_) => false,
+    }
+}
+
+#[tactic(auto, unfolding(crate::specs::Reading::refused_done_of))]
+fn refused_done_of(fields: Option<&[u8]>) -> Option<TraceLine>
+    ensures { result ≡ model.refused_done_of (fields_left fields.entry) }
+{
+    let (at, rest) = next_number(fields)?;
+    let (tick, rest) = next_number(rest)?;
+    let (number, rest) = next_number(rest)?;
+    if !is_done_left(rest) {
+        return None;
+    }
+    Some(TraceLine::RefusedDone { at, tick, number })
+}
+
+/// A refused line, of a job or of a done line.
+fn refusal_of(fields: &[u8]) -> Option<TraceLine>
+    ensures { result ≡ model.refusal_of (fields_of fields.now) }
+{
+    match refused_of(Some(fields)) {
+        Some(line) => Some(line),
+        None => refused_done_of(Some(fields)),
+    }
+}
+
 /// The line of the fields, by their word.
 fn line_of(line: &[u8]) -> Option<TraceLine>
     ensures { result ≡ model.line_of_fields (fields_of line.now) }
@@ -128,7 +165,7 @@ fn line_of(line: &[u8]) -> Option<TraceLine>
         return line_of_step(take_of(fields));
     }
     if let Some(fields) = behind_word(line, b"refuse") {
-        return refused_of(Some(fields));
+        return refusal_of(fields);
     }
     if let Some(fields) = behind_word(line, b"end") {
         return line_of_step(end_of(fields));

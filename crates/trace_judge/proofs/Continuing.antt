@@ -2,31 +2,31 @@
 use Rattle.std.proofs.Common.{◌≡◌, ◌+◌, List, ◌∷◌, ◌++◌, map, ap, ℕ, suc, ◌≤◌, max, Bool, true, false, cond, arith, []}
 use Rattle.std.proofs.Common.{refl, ◌<◌, length, length-append, sym, ◌∙◌, subst, inl, inr}
 use Rattle.std.proofs.lemmas.List.{map-append, append-nil}
-use Rattle.std.specs.Prelude.{nat_le, ◌&&◌, nat_lt}
-use Rattle.std.proofs.lemmas.Bool.{lt-leb, ltb-true, ltb-false}
+use Rattle.std.specs.Prelude.{nat_le, ◌&&◌, nat_lt, Some, None}
+use Rattle.std.specs.Option.{option_or}
+use Rattle.std.proofs.lemmas.Bool.{lt-leb, ltb-true, ltb-false, false_from_ne_true}
 use Rattle.std.specs.List.{AllByRecursion, fold}
 use Rattle.std.proofs.lemmas.List.Sums.{fold-append}
-use Rattle.dover_model.specs.Instance.{Declaration, Instance, IsValid, with_jobs}
-use Rattle.dover_model.specs.Taken.{two_versions, is_taken}
+use Rattle.dover_model.specs.Instance.{Declaration, Rules, Instance, IsValid, with_jobs, with_finishes}
 use Rattle.dover_model.specs.Text.{header, text_of, refused_text}
 use Rattle.dover_model.specs.Trace.{TraceLine, text_of_line, Printed, Refuses, Placed, places_of, lines_among}
 use Rattle.dover_model.specs.Trace.{texts_among, put_in}
 use Rattle.dover_model.specs.JobFacts.{JobFacts}
 use Rattle.dover_model.specs.declared.events.Event.{Event}
-use Rattle.dover_model.specs.declared.events.Event.TheVariants.{Release}
-use Rattle.dover_model.specs.declared.events.Role.TheVariants.{Fresh}
+use Rattle.dover_model.specs.declared.events.Event.TheVariants.{Release, Complete}
+use Rattle.dover_model.specs.declared.events.Role.TheVariants.{Fresh, Running}
 use Rattle.dover_model.specs.declared.events.Task.{Task}
-use Rattle.dover_model.specs.State.{State, opening, with_later, is_coming}
-use Rattle.dover_model.specs.Step.{Prints, open_step, after}
-use Rattle.dover_model.specs.Run.{Step, is_end, printed_of}
-use Rattle.dover_model.specs.Settled.{waits_for_mark, settled, settled_steps}
+use Rattle.dover_model.specs.State.{State, opening, with_later, is_coming, is_over}
+use Rattle.dover_model.specs.Step.{Prints, open_step, after, due_finish}
+use Rattle.dover_model.specs.Run.{Step, is_end, printed_of, printed}
+use Rattle.dover_model.specs.Settled.{waits_for_mark, settled, settled_steps, settled_state}
 use Rattle.dover_model.specs.Sound.{Each, Keeps}
-use Rattle.dover_model.specs.WholeRun.{open_at, IsSettledRun}
+use Rattle.dover_model.specs.WholeRun.{open_at, IsSettledRun, IsBarrier}
 use Rattle.dover_model.specs.Session.{JobItem, RefusedItem, Refused, Session, instance_of, admitted_jobs}
+use Rattle.dover_model.specs.Session.{FinishItem, EarlyFinish, MayFinish}
 use Rattle.dover_model.specs.Session.{IsValidSession, with_item, with_named, mark_after, new_session}
 use Rattle.dover_model.specs.Verdict.{named_session}
 use Rattle.dover_model.proofs.Kept.{opening_keeps, each_job}
-use Rattle.dover_model.proofs.Readiness.{plain_ready}
 use Rattle.dover_model.proofs.Ending.{potential}
 use Rattle.dover_model.proofs.Settling.{Settles as Reaches, settles, settled_is_run, at_barrier}
 use Rattle.dover_model.proofs.Valid.{all_from}
@@ -34,30 +34,46 @@ use Rattle.dover_model.proofs.Prefixes.{step_open, come_from, opening_later, lat
 use Rattle.dover_model.proofs.Releasing.{coming_task, barrier_releases}
 use Rattle.dover_model.proofs.PutIn.{RefusesWithin, AllPlacedWithin, put_in-more_steps, put_in-more_refused}
 use Rattle.dover_model.proofs.PutIn.{places_after-append}
-use Rattle.dover_model.proofs.Growing.{Reads, LinesName, item_in, with_line_named, one_named}
+use Rattle.dover_model.proofs.Growing.{Reads, LinesName, item_in, with_line_named, one_named, reads_later, Finishes}
+use Rattle.dover_model.proofs.Growing.{finishing_job, finish_instance, finish_is_named}
 use Rattle.dover_model.proofs.Growing.{job_instance, refused_instance, all_behind}
 use Rattle.admission.proofs.Joining.{admitted_valid}
 use Rattle.dover_model.proofs.Accounts.{follows_behind, mark_behind}
-use Rattle.dover_model.proofs.Members.{each_behind}
+use Rattle.dover_model.proofs.Members.{each_behind, all_at, all_each}
+use Rattle.dover_model.proofs.Early.{finish_in, NameNone, run_names_none}
+use Rattle.dover_model.proofs.TraceLines.{item_of_line}
 use Rattle.dover_model.proofs.Runs.{printed_append}
 use Rattle.dover_model.proofs.Paths.{one_settled_run}
+use Rattle.dover_model.proofs.Resting.{path_state}
+use Rattle.dover_model.proofs.Meeting.{finishing_valid}
+use Rattle.dover_model.proofs.Further.{none_due_before, same_open, next_at_mark}
+use Rattle.dover_model.proofs.Roles.{passes}
+use Rattle.dover_model.proofs.Tests.{never}
+use Rattle.dover_model.specs.Finishes.{Finish}
+use Rattle.dover_model.specs.Paths.{IsOpenPath}
 use Rattle.dover_model.specs.Leading.{GoesOn, Leads, Passes, Idles, PrintsNext, floor_after}
-use Rattle.trace_judge.specs.Reading.{Sees, MayRelease, MayRefuse, release_text}
+use Rattle.trace_judge.specs.Reading.{Sees, HasRoom, MayRelease, MayRefuse, release_text, completion_text}
 use Rattle.dover_model.specs.Ready.{with_fresh}
 use Rattle.trace_judge.proofs.Items.{reads_mark}
-use Rattle.trace_judge.proofs.Plainly.{no_finishes, line_names}
 use Rattle.dover_model.proofs.Leading.{leads_later_mark, leads_append, leads_passes, settles_passes, passes_append}
 use Rattle.dover_model.proofs.Leading.{passes_settled, settles_silent, idles_silent, idles_leads, settles_clock}
 use Rattle.dover_model.proofs.Leading.{passes_keeps, prints_goes_on, stops_before, Later, passes_later, coming_goes_on}
 use Rattle.dover_model.proofs.Released.{NoneComes, none_comes_passes, none_comes_after, printed_names_none}
 use Rattle.dover_model.proofs.Released.{after_release}
-use Rattle.trace_judge.proofs.Seeing.{led_named, sees_keeps, sees_names}
+use Rattle.trace_judge.proofs.Seeing.{led_named, sees_keeps, sees_ready, sees_names, sees_next}
 use Rattle.dover_model.specs.Fraction.{IsRatio}
 
 -- texts with further lines behind
 texts_behind : (rules : Declaration) (front more : List TraceLine)
     → header rules ∷ map text_of_line (front ++ more) ≡ (header rules ∷ map text_of_line front) ++ map text_of_line more
 texts_behind rules front more = ap (λ xs. header rules ∷ xs) (map-append text_of_line front more)
+
+-- steps that pass are a path
+pub passes_path : (rules : Rules) (mark : ℕ) (xs : List Step) (s z : State) → Passes rules mark s xs z
+    → IsOpenPath rules mark s xs z
+passes_path rules mark [] s z passes = sym passes
+passes_path rules mark (x ∷ xs) s z passes =
+    (passes.0, passes.1, passes_path rules mark xs (after s (open_step rules s)) z passes.2)
 
 -- the clock isn't above the floor after an event
 clock_below : (floor : ℕ) (late : Bool) (clock : ℕ) → clock ≤ max floor (cond late (suc clock) clock)
@@ -69,6 +85,15 @@ late_before : (floor : ℕ) (late : Bool) (clock : ℕ)
     → (late && nat_le (max floor (cond late (suc clock) clock)) clock) ≡ false
 late_before floor true clock = lt-leb (max floor (suc clock)) clock (omega arith)
 late_before floor false clock = refl
+
+-- a printed step names no finish
+pub printed_unfinished : (ls : List (List ℕ)) (S : Session) (floor : ℕ) (z : State) (sees : Sees ls S floor z)
+    (e : Event) (y : State) → PrintsNext (instance_of S).rules z e y → finish_in S e ≡ None
+printed_unfinished ls S floor z sees e y next =
+    let it : (more : List Event) × (printed (instance_of S) ≡ printed_of sees.steps ++ e ∷ more) =
+    sees_next ls S floor z sees e y next in
+    all_at (λ e. finish_in S e ≡ None) (printed_of sees.steps) e it.0
+    (subst (NameNone S) it.1 (run_names_none S sees.valid.jobs))
 
 module _ (ls : List (List ℕ)) (S : Session) (floor : ℕ) (z : State) (sees : Sees ls S floor z) where
   -- the jobs of the session
@@ -91,7 +116,7 @@ module _ (ls : List (List ℕ)) (S : Session) (floor : ℕ) (z : State) (sees : 
   settled_from_floor t later =
       let it : Reaches J.rules t z (potential J.rules.finishes t z) =
       settles J sees.valid.jobs J.rules t (potential J.rules.finishes t z) z (sees_keeps ls S floor z sees)
-      (plain_ready J.rules.finishes z (omega (arith, ap length (no_finishes S sees.version sees.valid)))) (omega arith) in (
+      (sees_ready ls S floor z sees) (omega arith) in (
         it.0,
         it.1,
         one_settled_run J.rules t (settled_steps J t) (sees.steps ++ it.0) (opening J.jobs)
@@ -169,8 +194,8 @@ module _ (ls : List (List ℕ)) (S : Session) (floor : ℕ) (z : State) (sees : 
         (put_in-more_steps (places_of S) 0 so_far (e ∷ []) sees.within)
         ∙ fold-append with_line_named (new_session S.rules) (lines_among S so_far) (Printed e ∷ [])
         ∙ ap (λ T. with_named T (item_in T (Printed e))) (sees_names ls S floor z sees)
-        ∙ ap (with_named S) (line_names S sees.version (Printed e)
-        ∙ printed_names_none J sees.valid.jobs y keeps_y J.rules none_y e opens)
+        ∙ ap (with_named S) (ap (option_or (item_of_line (Printed e))) (printed_unfinished ls S floor z sees e y next)
+        ∙ ap (λ o. option_or o None) (printed_names_none J sees.valid.jobs y keeps_y J.rules none_y e opens))
 
     -- they are within as well
     within_printed : RefusesWithin S (printed_of steps_more)
@@ -201,10 +226,10 @@ module _ (ls : List (List ℕ)) (S : Session) (floor : ℕ) (z : State) (sees : 
     -- the text of the next printed step comes to the state after it
     pub sees_step : Sees (ls ++ text_of e ∷ []) S new_floor (after y (Prints e))
     sees_step = record {
-      version = sees.version;
       valid = sees.valid;
       named = ap named_session lines_more
-          ∙ led_named S sees.version sees.valid new_floor (after y (Prints e)) steps_more lead_more within_printed names_more;
+          ∙ led_named S sees.valid new_floor (after y (Prints e)) steps_more lead_more within_printed
+          names_more;
       steps = steps_more;
       leads = lead_more;
       lines = lines_more;
@@ -229,7 +254,6 @@ module _ (ls : List (List ℕ)) (S : Session) (floor : ℕ) (z : State) (sees : 
       ∙ ap (λ es. so_far ++ es) (idles_silent J.rules xs z y idles) ∙ append-nil so_far in
       let leads_on : Leads J.rules y.clock z xs y = idles_leads J.rules xs z y idles in
       record {
-        version = sees.version;
         valid = sees.valid;
         named = sees.named;
         steps = sees.steps ++ xs;
@@ -413,10 +437,9 @@ module _ (ls : List (List ℕ)) (S : Session) (floor : ℕ) (z : State) (sees : 
     -- the text of the job's release comes to the state after it
     pub sees_release : Sees (ls ++ release_text S j ∷ []) S_more j.release fresh
     sees_release = record {
-      version = sees.version;
       valid = valid_job;
       named = ap named_session lines_job
-          ∙ led_named S_more sees.version valid_job j.release fresh steps_job leads_job within_job
+          ∙ led_named S_more valid_job j.release fresh steps_job leads_job within_job
           (ap (fold with_line_named (new_session S.rules)) among_job
           ∙ one_named (lines_among S so_far) S (Printed (Release n j)) (JobItem j) (sees_names ls S floor z sees) refl);
       steps = steps_job;
@@ -520,10 +543,9 @@ module _ (ls : List (List ℕ)) (S : Session) (floor : ℕ) (z : State) (sees : 
     -- the text of the refused line leaves the state as it is
     pub sees_refused : Sees (ls ++ refused_text r ∷ []) S_refused r.at z
     sees_refused = record {
-      version = sees.version;
       valid = valid_refused;
       named = ap named_session lines_refused
-          ∙ led_named S_refused sees.version valid_refused r.at z sees.steps leads_refused within_refused
+          ∙ led_named S_refused valid_refused r.at z sees.steps leads_refused within_refused
           (ap (fold with_line_named (new_session S.rules)) among_refused
           ∙ one_named (lines_among S so_far) S (Refuses r) (RefusedItem r) (sees_names ls S floor z sees) refl);
       steps = sees.steps;
@@ -541,15 +563,201 @@ module _ (ls : List (List ℕ)) (S : Session) (floor : ℕ) (z : State) (sees : 
     unfolding sees_refused
     sees_refused_prints = refl
 
+  -- ---- an early completion
+
+  module _ (f : EarlyFinish) (xs : List Step) (y : State) (room : HasRoom S) (may : MayFinish S floor f)
+      (idles : Idles J.rules z xs y) (now : y.clock ≡ f.at) (barrier : IsBarrier J.rules f.at y) where
+    -- the session with the finish
+    abbrev S_done : Session
+    S_done = with_item S (FinishItem f)
+
+    -- the jobs, with the finish
+    abbrev J_done : Instance
+    J_done = with_finishes J (f.finish ∷ [])
+
+    -- the completion
+    abbrev done : Event
+    done = Complete f.at f.finish.number
+
+    -- the mark before it
+    mark_before : mark_after 0 S.items ≤ f.at
+    mark_before = let low : mark_after 0 S.items ≤ floor = sees.mark in let ordered : floor ≤ f.at = may.no_fall in
+        omega arith
+
+    -- the session so far is read up to its tick
+    reads_f : Reads S f.at
+    reads_f = reads_later S (mark_after 0 S.items) f.at (reads_mark S sees.valid) mark_before
+
+    -- the job that finishes
+    it : Finishes S f
+    it = finishing_job S f may.right
+
+    -- its number
+    number_is : it.job.number ≡ f.finish.number
+    number_is = sym (ap (λ (g : Finish). g.number) it.is)
+
+    -- the steps so far lead there
+    leads_y : Leads J.rules f.at (opening J.jobs) (sees.steps ++ xs) y
+    leads_y = leads_append J.rules f.at sees.steps xs (opening J.jobs) z y
+        (leads_later_mark J.rules floor f.at may.no_fall sees.steps (opening J.jobs) z sees.leads)
+        (leads_later_mark J.rules y.clock f.at (omega (arith, now)) xs z y (idles_leads J.rules xs z y idles))
+
+    -- they are the settled ones
+    settled_are : settled_steps J f.at ≡ sees.steps ++ xs
+    settled_are = one_settled_run J.rules f.at (settled_steps J f.at) (sees.steps ++ xs) (opening J.jobs)
+        (settled_is_run J f.at sees.valid.jobs)
+        (subst (IsSettledRun J.rules f.at (opening J.jobs)) (append-nil (sees.steps ++ xs))
+        (passes_settled J.rules f.at (sees.steps ++ xs) [] (opening J.jobs) y
+        (leads_passes J.rules f.at (sees.steps ++ xs) (opening J.jobs) y leads_y) barrier))
+
+    -- and the state there is the settled one
+    state_is : settled_state J f.at ≡ y
+    state_is = path_state J.rules f.at (settled_steps J f.at) (opening J.jobs) y
+        (subst (λ steps. IsOpenPath J.rules f.at (opening J.jobs) steps y) (sym settled_are)
+        (passes_path J.rules f.at (sees.steps ++ xs) (opening J.jobs) y
+        (leads_passes J.rules f.at (sees.steps ++ xs) (opening J.jobs) y leads_y)))
+
+    -- the finish is due in none of them
+    none_due : Each (λ x. due_finish (f.finish ∷ []) x.before ≡ None) (sees.steps ++ xs)
+    none_due = subst (λ steps. Each (λ x. due_finish (f.finish ∷ []) x.before ≡ None) steps) settled_are
+        (subst (λ g. Each (λ x. due_finish (g ∷ []) x.before ≡ None) (settled_steps J f.at)) (sym it.is)
+        (none_due_before J sees.valid.jobs f.at it.job it.runs))
+
+    -- so they lead there with the finish as well
+    leads_same : (steps : List Step) (s : State) → Each (λ x. due_finish (f.finish ∷ []) x.before ≡ None) steps
+        → Leads J.rules f.at s steps y → Leads J_done.rules f.at s steps y
+    leads_same [] s none leads = leads
+    leads_same (x ∷ steps) s none leads =
+        let same : open_step J_done.rules s ≡ open_step J.rules s = same_open J sees.valid.jobs (f.finish ∷ []) f.at s
+        (subst (λ (v : Step). due_finish (f.finish ∷ []) v.before ≡ None) leads.0 (none x (inl refl))) in (
+          leads.0 ∙ ap (λ m. let v : Step = record { before = s; move = m } in v) (sym same),
+          ap (λ m. waits_for_mark m && nat_le f.at s.clock) same ∙ leads.1,
+          leads.2,
+          subst (λ m. Leads J_done.rules f.at (after s m) steps y) (sym same)
+              (leads_same steps (after s (open_step J.rules s)) (λ v member. none v (inr member)) leads.3),
+        )
+
+    -- its completion is next
+    completes : open_step J_done.rules y ≡ Prints done
+    completes = subst (λ (s : State). open_step J_done.rules s ≡ Prints done) state_is
+        (subst (λ g. open_step (with_finishes J (g ∷ [])).rules (settled_state J f.at) ≡ Prints done) (sym it.is)
+        (next_at_mark J sees.valid.jobs f.at it.job it.runs ∙ ap (λ n. Prints (Complete f.at n)) number_is))
+
+    -- some job isn't over
+    runs_y : GoesOn y
+    runs_y = subst GoesOn state_is (false_from_ne_true _ (λ over.
+        never (sym (passes is_over it.job Running false it.runs.runs refl)
+        ∙ all_each is_over (settled_state J f.at).tasks over it.job it.runs.member)))
+
+    -- the steps with it
+    abbrev steps_done : List Step
+    steps_done = (sees.steps ++ xs) ++ open_at J_done.rules y ∷ []
+
+    -- the state after it
+    abbrev y_done : State
+    y_done = after y (Prints done)
+
+    -- they lead to it
+    lead_done : Leads J_done.rules f.at (opening J.jobs) steps_done y_done
+    lead_done = leads_append J_done.rules f.at (sees.steps ++ xs) (open_at J_done.rules y ∷ []) (opening J.jobs) y
+        y_done
+        (leads_same (sees.steps ++ xs) (opening J.jobs) none_due leads_y) (
+          refl,
+          ap (λ m. waits_for_mark m && nat_le f.at y.clock) completes,
+          runs_y,
+          ap (after y) completes,
+        )
+
+    -- what they print
+    print_done : printed_of steps_done ≡ so_far ++ done ∷ []
+    print_done = printed_append (sees.steps ++ xs) (open_at J_done.rules y ∷ [])
+        ∙ ap (λ es. es ++ printed_of (open_at J_done.rules y ∷ []))
+        (printed_append sees.steps xs ∙ ap (λ es. so_far ++ es) (idles_silent J.rules xs z y idles)
+        ∙ append-nil so_far)
+        ∙ ap (λ m. so_far ++ printed_of (record { before = y; move = m } ∷ [])) completes
+
+    -- the jobs of the session
+    jobs_done : instance_of S_done ≡ J_done
+    jobs_done = finish_instance S f
+
+    -- a finish has no place
+    places_done : places_of S_done ≡ places_of S
+    places_done = places_after-append S.rules [] S.items (FinishItem f ∷ []) ∙ append-nil (places_of S)
+
+    -- the lines with the completion
+    among_done : lines_among S_done (printed_of steps_done) ≡ lines_among S so_far ++ Printed done ∷ []
+    among_done = ap (λ es. put_in (places_of S_done) 0 es) print_done
+        ∙ ap (λ ps. put_in ps 0 (so_far ++ done ∷ [])) places_done
+        ∙ put_in-more_steps (places_of S) 0 so_far (done ∷ []) sees.within
+
+    -- as texts
+    lines_done : ls ++ completion_text f ∷ [] ≡ texts_among S_done (printed_of steps_done)
+    lines_done = ap (λ xs. xs ++ completion_text f ∷ []) sees.lines
+        ∙ sym (texts_behind S.rules (lines_among S so_far) (Printed done ∷ []))
+        ∙ ap (λ xs. header S.rules ∷ map text_of_line xs) (sym among_done)
+
+    -- they are within
+    within_done : RefusesWithin S_done (printed_of steps_done)
+    within_done = subst (λ es. AllPlacedWithin 0 es (places_of S_done)) (sym print_done)
+        (subst (AllPlacedWithin 0 (so_far ++ done ∷ [])) (sym places_done) (within_more (done ∷ [])))
+
+    -- the session is valid
+    valid_done : IsValidSession S_done
+    valid_done = record {
+      jobs = subst IsValid (sym jobs_done)
+          (finishing_valid J (J.rules.finishes ++ f.finish ∷ []) sees.valid.jobs);
+      count = let some : length S.items < 3_999_998 = room in omega (arith, length-append S.items (FinishItem f ∷ []));
+      items = follows_behind S.rules [] 0 S.items (FinishItem f ∷ []) sees.valid.items
+          (record { no_fall = mark_before; known = may.known; right = may.right }, tt);
+    }
+
+    -- the lines lead there
+    leads_done : Leads (instance_of S_done).rules f.at (opening (admitted_jobs S_done.items)) steps_done y_done
+    leads_done = subst (λ (I : Instance). Leads I.rules f.at (opening I.jobs) steps_done y_done)
+        (sym jobs_done) lead_done
+
+    -- the mark is at its tick
+    mark_done : mark_after 0 S_done.items ≡ f.at
+    mark_done = let last : mark_after 0 S_done.items ≡ max (mark_after 0 S.items) f.at =
+        mark_behind 0 S.items (FinishItem f) in omega (arith, mark_before)
+
+    -- the completion names the finish
+    named_done : item_in S (Printed done) ≡ Some (FinishItem f)
+    named_done = ap (λ n. item_in S (Printed (Complete f.at n))) (sym number_is) ∙ finish_is_named S f reads_f it
+
+    -- the text of the completion comes to the state after it
+    pub sees_completion : Sees (ls ++ completion_text f ∷ []) S_done f.at y_done
+    sees_completion = record {
+      valid = valid_done;
+      named = ap named_session lines_done
+          ∙ led_named S_done valid_done f.at y_done steps_done leads_done within_done
+          (ap (fold with_line_named (new_session S.rules)) among_done
+          ∙ one_named (lines_among S so_far) S (Printed done) (FinishItem f) (sees_names ls S floor z sees) named_done);
+      steps = steps_done;
+      leads = leads_done;
+      lines = lines_done;
+      within = within_done;
+      released = none_comes_after y (Prints done)
+          (none_comes_passes J.rules y.clock xs z y
+          (leads_passes J.rules y.clock xs z y (idles_leads J.rules xs z y idles)) sees.released);
+      clock = omega (arith, now);
+      mark = omega (arith, mark_done);
+      tight = λ t marked low. absurd (omega (arith, mark_done));
+    }
+
+    -- it is printed behind the others
+    pub sees_completion_prints : printed_of sees_completion.steps ≡ so_far ++ done ∷ []
+    unfolding sees_completion
+    sees_completion_prints = print_done
+
 -- ---- the header
 
 -- the header comes to the opening state of no jobs
-pub sees_header : (rules : Declaration) → is_taken two_versions rules.version ≡ true → IsRatio rules.ratio
+pub sees_header : (rules : Declaration) → IsRatio rules.ratio
     → Sees (header rules ∷ []) (new_session rules) 0 (opening [])
-sees_header rules version ratio = record {
-  version = version;
+sees_header rules ratio = record {
   valid = valid_new;
-  named = led_named (new_session rules) version valid_new 0 (opening []) [] refl tt refl;
+  named = led_named (new_session rules) valid_new 0 (opening []) [] refl tt refl;
   steps = [];
   leads = refl;
   lines = refl;
@@ -567,7 +775,7 @@ sees_header rules version ratio = record {
   }
 
 -- no step is printed
-pub sees_header_prints : (rules : Declaration) (version : is_taken two_versions rules.version ≡ true)
-    (ratio : IsRatio rules.ratio) → printed_of (sees_header rules version ratio).steps ≡ []
+pub sees_header_prints : (rules : Declaration) (ratio : IsRatio rules.ratio)
+    → printed_of (sees_header rules ratio).steps ≡ []
 unfolding sees_header
-sees_header_prints rules version ratio = refl
+sees_header_prints rules ratio = refl

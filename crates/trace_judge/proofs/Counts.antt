@@ -6,7 +6,7 @@ use Rattle.std.specs.Prelude.{filter_map, slice_get, Some}
 use Rattle.dover_model.specs.declared.events.Event.{Event}
 use Rattle.dover_model.specs.Trace.{Printed, Refuses, Placed, put_in, places_after, places_of, lines_among}
 use Rattle.dover_model.specs.Instance.{Declaration}
-use Rattle.dover_model.specs.Session.{Item, JobItem, RefusedItem, FinishItem, admitted_jobs, early_finishes}
+use Rattle.dover_model.specs.Session.{Item, JobItem, RefusedItem, FinishItem}
 use Rattle.dover_model.specs.Session.{refused_of_item, Session}
 use Rattle.dover_model.specs.Verdict.{refused_count}
 
@@ -33,14 +33,6 @@ length-places rules before [] = refl
 length-places rules before (JobItem j ∷ items) = length-places rules (before ++ JobItem j ∷ []) items
 length-places rules before (RefusedItem r ∷ items) = ap suc (length-places rules (before ++ RefusedItem r ∷ []) items)
 length-places rules before (FinishItem f ∷ items) = length-places rules (before ++ FinishItem f ∷ []) items
-
--- each item is a job, a refused line or an early finish
-pub items_count : (items : List Item) → early_finishes items ≡ []
-    → length items ≡ length (admitted_jobs items) + length (filter_map refused_of_item items)
-items_count [] none = refl
-items_count (JobItem j ∷ items) none = omega (arith, items_count items none)
-items_count (RefusedItem r ∷ items) none = omega (arith, items_count items none)
-items_count (FinishItem f ∷ items) none = cc
 
 -- a line for each step and each refused line
 pub length-lines : (S : Session) (steps : List Event) → length (lines_among S steps) ≡ length steps + refused_count S

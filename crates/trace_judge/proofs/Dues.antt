@@ -11,7 +11,6 @@ use Rattle.dover_model.specs.Lines.{whole_lines, rest_of}
 use Rattle.dover_model.specs.Run.{printed}
 use Rattle.dover_model.specs.Session.{Session, instance_of}
 use Rattle.dover_model.specs.Numerals.{AreShort}
-use Rattle.dover_model.specs.Taken.{two_versions}
 use Rattle.dover_model.specs.Text.{step_numbers}
 use Rattle.dover_model.specs.Verdict.{Expected, Header, Step, Nothing, Verdict, Accepted, Wrong, Short, named_session}
 use Rattle.dover_model.specs.Verdict.{begins_trace, begins_trace_of}
@@ -58,7 +57,7 @@ before_wrong : (before ls : List (List ℕ)) (n : ℕ) → begins_trace before �
 before_wrong before [] n passes wrong = absurd (let e : None ≡ Some n = wrong in cc)
 before_wrong before (l ∷ ls) n passes wrong = by_test (begins_trace (before ++ l ∷ [])) refl wrong
     (λ more h. before_wrong (before ++ l ∷ []) ls n more h) where
-      by_test : (b : Bool) → begins_trace (before ++ l ∷ []) ≡ b → next_wrong two_versions b before l ls ≡ Some n
+      by_test : (b : Bool) → begins_trace (before ++ l ∷ []) ≡ b → next_wrong b before l ls ≡ Some n
           → (begins_trace (before ++ l ∷ []) ≡ true → first_wrong (before ++ l ∷ []) ls ≡ Some n
           → begins_trace (take (n - 1) ((before ++ l ∷ []) ++ ls)) ≡ true)
           → begins_trace (take (n - 1) (before ++ l ∷ ls)) ≡ true

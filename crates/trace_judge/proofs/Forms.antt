@@ -80,8 +80,10 @@ next_form ls S floor z sees e y next =
     let it : (more : List Event) × (printed (instance_of S) ≡ printed_of sees.steps ++ e ∷ more) =
     sees_next ls S floor z sees e y next in
     let keeps_y : Keeps (instance_of S) y =
-    passes_keeps (instance_of S) sees.valid.jobs (instance_of S).rules y.clock next.steps z y (sees_keeps ls S floor z sees)
-    (leads_passes (instance_of S).rules y.clock next.steps z y (idles_leads (instance_of S).rules next.steps z y next.idles)) in (
+    passes_keeps (instance_of S) sees.valid.jobs (instance_of S).rules y.clock next.steps z y
+    (sees_keeps ls S floor z sees)
+    (leads_passes (instance_of S).rules y.clock next.steps z y
+    (idles_leads (instance_of S).rules next.steps z y next.idles)) in (
       all_at (λ e. AreShort (step_numbers e)) (printed_of sees.steps) e it.0
           (subst (AllByRecursion (λ e. AreShort (step_numbers e))) it.1
           (printed_short (instance_of S) sees.valid.jobs)),

@@ -12,8 +12,8 @@ use Rattle.dover_model.specs.declared.events.Event.{Event}
 use Rattle.dover_model.specs.Instance.{Declaration}
 use Rattle.dover_model.specs.Lines.{whole_lines, rest_of, is_too_long, cut}
 use Rattle.dover_model.specs.Run.{printed, completed_value}
-use Rattle.dover_model.specs.Session.{Item, JobItem, RefusedItem, FinishItem, Session, instance_of, admitted_jobs, IsValidSession}
-use Rattle.dover_model.specs.Taken.{two_versions, is_taken}
+use Rattle.dover_model.specs.Session.{Item, JobItem, RefusedItem, FinishItem, Session, instance_of, admitted_jobs}
+use Rattle.dover_model.specs.Session.{IsValidSession}
 use Rattle.dover_model.specs.Trace.{Printed, Refuses, Placed, put_in, places_after, places_of, lines_among}
 use Rattle.dover_model.specs.Trace.{text_of_line, trace_lines}
 use Rattle.dover_model.specs.Verdict as model
@@ -21,7 +21,7 @@ use Rattle.dover_model.proofs.Beginnings.{begins_length}
 use Rattle.dover_model.proofs.Cuts.{onto, cut_append}
 use Rattle.dover_model.proofs.BoundLaws.{bound as none_worth_more}
 use Rattle.dover_model.proofs.Ending.{few_printed}
-use Rattle.dover_model.proofs.Honest.{plain_honest}
+use Rattle.dover_model.proofs.Honest.{observed_honest, observed_all}
 use Rattle.dover_model.proofs.Named.{beginnings_pass}
 use Rattle.dover_model.proofs.Runs.{none_lost, all_value}
 use Rattle.dover_model.proofs.Tests.{never}
@@ -31,7 +31,8 @@ use Rattle.line_text.specs.Cutting as cutting
 use Rattle.line_text.specs.Cutting.{Cutting, with_byte, after_byte, goes_on, most_count, HasCut}
 use Rattle.line_text.specs.declared.cutting.Step.{Step}
 use Rattle.line_text.specs.declared.cutting.Step.TheVariants.{More, Line, TooLong}
-use Rattle.trace_judge.proofs.Plainly.{no_finishes}
+use Rattle.dover_model.proofs.Former.{no_finishes}
+use Rattle.dover_model.proofs.BoundLaws.{observed_bound}
 use Rattle.trace_judge.proofs.Texts.{good_text, wrong_rest, accepted_text, short_text}
 use Rattle.trace_judge.proofs.Seeing.{sees_begins, sees_not_ended}
 use Rattle.trace_judge.specs.declared.stage.Stage.{Stage}
@@ -76,7 +77,7 @@ few_places rules before (FinishItem f ∷ items) = omega (arith, few_places rule
 pub few_lines : (ls : List (List ℕ)) → model.begins_trace ls ≡ true → length ls ≤ 20_000_000
 few_lines [] passes = omega arith
 few_lines (l ∷ ls) passes =
-    let it : Starts two_versions (l ∷ ls) = begun two_versions l ls passes in
+    let it : Starts (l ∷ ls) = begun l ls passes in
     let S : Session = it.session in
     let steps : length (printed (instance_of S)) ≤ 5 * length (admitted_jobs S.items) + 1 =
     few_printed (instance_of S) it.valid.jobs in
@@ -114,7 +115,11 @@ module _ (r : Reading) (ls : List (List ℕ)) (reads : Reads r ls) where
     by_stage : (s : Stage) → HereBy s r ls → model.begins_trace ls ≡ true
     by_stage Opening it = ap model.begins_trace it.lines
     by_stage Going it = sees_begins ls it.0 r.floor it.1 it.2.sees
-    by_stage Ended it = beginnings_pass two_versions it.0 ls it.1.version it.1.valid ([], sym (append_nothing ls ∙ it.1.lines)) where
+    by_stage Ended it = beginnings_pass it.0 ls it.1.valid (
+      [],
+      sym (append_nothing ls
+          ∙ it.1.lines),
+    ) where
       append_nothing : (xs : List (List ℕ)) → xs ++ [] ≡ xs
       append_nothing [] = refl
       append_nothing (x ∷ xs) = ap (λ ys. x ∷ ys) (append_nothing xs)
@@ -188,7 +193,7 @@ module _ (r : Reading) (text : List ℕ) (reads : Reads r (whole_lines text)) wh
       → Ends r (whole_lines text) S
       → model.verdict text ≡ model.Accepted S
   reads_accepted ended none S ends = good_text text (reads_begins r (whole_lines text) reads) none
-      ∙ accepted_text text S ends.version ends.valid ends.lines (rest_none ended none)
+      ∙ accepted_text text S ends.valid ends.lines (rest_none ended none)
 
 -- ---- the lines that name jobs
 
@@ -315,7 +320,8 @@ pub wrong_fed : (j : Judged) (line : ℕ) (due : Expected) (piece : List ℕ) �
 wrong_fed j line due piece is = record {
   stands = λ text stands.
       let wrong : StandsBy (Bad line due) j text = subst (λ f. StandsBy f j text) is stands in
-      subst (λ f. StandsBy f j (text ++ piece)) (sym is) (wrong_verdict_stays two_versions text piece line (expected_of due) wrong);
+      subst (λ f. StandsBy f j (text ++ piece)) (sym is)
+      (wrong_verdict_stays text piece line (expected_of due) wrong);
   spare = λ text stands. omega (arith, named_more text piece);
   keep = refl;
 }
@@ -444,12 +450,13 @@ room_stands j ready spare room text stands = by_found j.found stands where
   by_found NoMemory there = there
 
 -- what the run of a valid session earns
-pub earned : (S : Session) → is_taken two_versions S.rules.version ≡ true → IsValidSession S
-    → IsEarned S S.rules.ratio (completed_value (instance_of S))
-earned S version valid = record {
+pub earned : (S : Session) → IsValidSession S → IsEarned S S.rules.ratio (completed_value (instance_of S))
+earned S valid = record {
   valid = valid;
   within = λ s. none_worth_more (instance_of S) s valid.jobs;
-  honest = plain_honest (instance_of S) valid.jobs (no_finishes S version valid);
+  within_observed = λ s. observed_bound (instance_of S) s valid.jobs;
+  honest = observed_honest (instance_of S) valid.jobs;
+  as_declared = λ former. observed_all (instance_of S) valid.jobs (no_finishes S former valid);
   none_lost = none_lost (instance_of S) valid.jobs;
   whole = all_value (instance_of S) valid.jobs;
 }

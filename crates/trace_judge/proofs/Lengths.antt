@@ -4,7 +4,6 @@ use Rattle.std.proofs.Common.{arith, append_assoc, ◌||◌}
 use Rattle.std.specs.Prelude.{nat_lt, ◌&&◌}
 use Rattle.std.proofs.lemmas.Bool.{ltb-false}
 use Rattle.dover_model.specs.Lines.{whole_lines, rest_of, is_too_long}
-use Rattle.dover_model.specs.Taken.{two_versions}
 use Rattle.dover_model.specs.Trace.{trace_lines}
 use Rattle.dover_model.specs.Verdict.{Wrong, begins_trace, ends_with_end, verdict}
 use Rattle.dover_model.specs.WholeRun.{Begins}
@@ -28,8 +27,8 @@ fronts_pass : (ls : List (List ℕ)) → begins_trace ls ≡ true → (l : List 
 fronts_pass [] passes l [] begins = absurd (let e : [] ≡ l ∷ begins.0 = begins.1 in cc)
 fronts_pass [] passes l (x ∷ front) begins = absurd (let e : [] ≡ x ∷ ((front ++ l ∷ []) ++ begins.0) = begins.1 in cc)
 fronts_pass (x ∷ ls) passes l front begins =
-    let it : Starts two_versions (x ∷ ls) = begun two_versions x ls passes in
-    beginnings_pass two_versions it.session (front ++ l ∷ []) it.version it.valid
+    let it : Starts (x ∷ ls) = begun x ls passes in
+    beginnings_pass it.session (front ++ l ∷ []) it.valid
     (begins_onward (front ++ l ∷ []) (x ∷ ls) (trace_lines it.session) begins it.begins)
 
 -- no line of them is too long
@@ -40,7 +39,7 @@ lines_short before (l ∷ ls) passes = (
   lines_short (before ++ l ∷ []) ls (ap begins_trace (append_assoc before (l ∷ []) ls) ∙ passes),
 ) where
   by_length : (b : Bool) → is_too_long l ≡ b → length l ≤ 128
-  by_length true long = never (sym (too_long_fails two_versions before l long)
+  by_length true long = never (sym (too_long_fails before l long)
       ∙ fronts_pass (before ++ l ∷ ls) passes l before (ls, sym (append_assoc before (l ∷ []) ls)))
   by_length false fits = ltb-false _ _ fits
 

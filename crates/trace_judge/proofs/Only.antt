@@ -1,7 +1,7 @@
 -- No other lines continue a trace.
 use Rattle.std.proofs.Common.{◌≡◌, ◌+◌, ◌⊎◌, inl, inr, List, ◌∷◌, ◌++◌, length, length-append, ap, arith, Option, Some}
-use Rattle.std.proofs.Common.{[], filter_map, sym, ◌∙◌, map, refl, ℕ, true, false, None, ◌≤◌, ◌<◌, subst, Bool}
-use Rattle.std.specs.List.{cons_option, starts_with, AllByRecursion}
+use Rattle.std.proofs.Common.{[], sym, ◌∙◌, map, refl, ℕ, true, false, None, ◌≤◌, ◌<◌, subst, Bool}
+use Rattle.std.specs.List.{starts_with, AllByRecursion, fold}
 use Rattle.std.proofs.lemmas.List.Elements.{filter_map-append}
 use Rattle.std.proofs.lemmas.List.Sums.{fold-append}
 use Rattle.std.proofs.lemmas.List.{append-nil, append_assoc, length-map, nil_from_length}
@@ -13,34 +13,36 @@ use Rattle.dover_model.specs.WholeRun.{Begins, IsBarrier, IsSettledRun}
 use Rattle.dover_model.proofs.Beginnings.{begins_either, begins_onward}
 use Rattle.dover_model.proofs.Members.{tails, heads, some_same, all_last}
 use Rattle.dover_model.specs.Session.{Session, IsValidSession, is_valid_session, Item, JobItem, RefusedItem, FinishItem}
-use Rattle.dover_model.specs.Session.{Refused, EarlyFinish, new_session, session_with, with_named}
-use Rattle.dover_model.specs.Taken.{two_versions, is_taken}
+use Rattle.dover_model.specs.Session.{Refused, EarlyFinish, new_session, with_named}
 use Rattle.dover_model.specs.Session.{FollowsItems, instance_of, admitted_jobs, with_item, mark_after}
 use Rattle.dover_model.specs.Trace.{trace_lines, text_of_line, TraceLine, Printed, Refuses, lines_among}
-use Rattle.dover_model.specs.Verdict.{named_session, named_behind, named_item, begins_trace, begins_trace_of, rules_of, item_of}
+use Rattle.dover_model.specs.Verdict.{named_session, named_behind, named_item, begins_trace, begins_trace_of}
+use Rattle.dover_model.specs.Verdict.{rules_of}
 use Rattle.dover_model.proofs.Agreement.{is_valid_session-agrees}
 use Rattle.dover_model.proofs.Tests.{never}
 use Rattle.dover_model.specs.Fraction.{IsRatio}
 use Rattle.dover_model.specs.Text.{header, text_of, refused_text}
-use Rattle.dover_model.proofs.Named.{header_names, first_texts}
-use Rattle.dover_model.proofs.WrongStays.{named_taken}
+use Rattle.dover_model.proofs.Named.{header_names, first_texts, texts_name, named_text}
+use Rattle.dover_model.proofs.Walks.{lines_append}
 use Rattle.dover_model.specs.Instance.{Declaration, IsValid, with_jobs}
 use Rattle.dover_model.proofs.Growing.{all_lines, Reads, lines_at, job_instance, reads_later, reads_job, lines_job}
-use Rattle.dover_model.proofs.Growing.{reads_refused, lines_refused, lines_of_trace}
+use Rattle.dover_model.proofs.Growing.{reads_refused, lines_refused, lines_of_trace, LinesName, item_in}
+use Rattle.dover_model.proofs.Growing.{with_line_named}
+use Rattle.dover_model.proofs.Growing.{one_named, Finishes, finishing_job, reads_finish, lines_finish, finish_is_named}
+use Rattle.dover_model.specs.Finishes.{Finish}
 use Rattle.dover_model.specs.JobFacts.{JobFacts}
 use Rattle.dover_model.specs.declared.events.Event.{Event}
-use Rattle.dover_model.specs.declared.events.Event.TheVariants.{Release}
+use Rattle.dover_model.specs.declared.events.Event.TheVariants.{Release, Complete}
 use Rattle.dover_model.specs.State.{State}
 use Rattle.dover_model.specs.Run.{Step, printed_of}
 use Rattle.dover_model.specs.Settled.{settled, settled_steps}
 use Rattle.dover_model.proofs.Valid.{all_front}
-use Rattle.dover_model.proofs.TraceLines.{HasShortNumbers, item_of_line, item_of-text_of_line}
+use Rattle.dover_model.proofs.TraceLines.{HasShortNumbers}
 use Rattle.dover_model.proofs.ShortNumbers.{lines_short}
 use Rattle.dover_model.proofs.Admitting.{valid_admitted}
 use Rattle.dover_model.specs.Leading.{Settles, WaitsUntil, PrintsNext}
-use Rattle.trace_judge.specs.Reading.{Sees, HasRoom, MayRelease, MayRefuse, release_text, IsReleaseNext, IsRefusedNext}
-use Rattle.admission.proofs.Versions.{none_finishes}
-use Rattle.trace_judge.proofs.Plainly.{text_names, named_as, names_items, texts_items}
+use Rattle.trace_judge.specs.Reading.{Sees, HasRoom, MayRelease, MayRefuse, MayComplete, release_text, completion_text}
+use Rattle.trace_judge.specs.Reading.{IsReleaseNext, IsRefusedNext, IsCompletionNext}
 use Rattle.trace_judge.proofs.Items.{behind_follows, reads_mark}
 use Rattle.trace_judge.proofs.Seeing.{sees_next_text, sees_names, sees_short}
 use Rattle.dover_model.proofs.Leading.{settled_settles}
@@ -49,28 +51,26 @@ use Rattle.trace_judge.proofs.Counts.{length-lines}
 
 -- ---- lists
 
-module _ {X Y : Type 0} (f : X → Option Y) (y : Y) where
-  -- of two beginnings that name as many elements and end in one that names another, none is longer
-  no_longer : (xs ys : List X) (a b : X) (zs : List X) → filter_map f xs ≡ filter_map f ys → f b ≡ Some y
-      → Begins xs zs → Begins (ys ++ b ∷ []) zs → Begins xs ys
-  no_longer xs ys a b zs same names one other = by_either (begins_either xs ys b zs one other) where
+module _ (S : Session) (x : Item) where
+  -- of two beginnings that name the session, of which the second is followed by a line of a further item, the first
+  -- isn't longer
+  no_longer : (xs ys : List TraceLine) (b : TraceLine) (zs : List TraceLine) → LinesName xs S → LinesName ys S
+      → item_in S b ≡ Some x → Begins xs zs → Begins (ys ++ b ∷ []) zs → Begins xs ys
+  no_longer xs ys b zs names_xs names_ys names one other = by_either (begins_either xs ys b zs one other) where
     by_either : Begins xs ys ⊎ Begins (ys ++ b ∷ []) xs → Begins xs ys
     by_either (inl it) = it
     by_either (inr it) = absurd (
-        let all : filter_map f xs ≡ filter_map f ((ys ++ b ∷ []) ++ it.0) = ap (filter_map f) it.1 in
-        let parts : filter_map f ((ys ++ b ∷ []) ++ it.0) ≡ filter_map f (ys ++ b ∷ []) ++ filter_map f it.0 =
-        filter_map-append f (ys ++ b ∷ []) it.0 in
-        let last : filter_map f (ys ++ b ∷ []) ≡ filter_map f ys ++ cons_option (f b) [] =
-        filter_map-append f ys (b ∷ []) in
-        let counted : length (cons_option (f b) []) ≡ 1 = ap (λ o. length (cons_option o [])) names in
+        let all : fold with_line_named (with_item S x) it.0 ≡ S =
+        ap (λ T. fold with_line_named T it.0) (sym (one_named ys S b x names_ys names))
+        ∙ sym (fold-append with_line_named (new_session S.rules) (ys ++ b ∷ []) it.0)
+        ∙ ap (fold with_line_named (new_session S.rules)) (sym it.1) ∙ names_xs in
+        let more = lines_append (with_item S x) it.0 in
+        let same : S.items ≡ (S.items ++ x ∷ []) ++ more.0 = ap (λ (T : Session). T.items) (sym all ∙ more.1) in
         omega (
           arith,
-          ap length all,
-          ap length parts,
-          length-append (filter_map f (ys ++ b ∷ [])) (filter_map f it.0),
-          ap length last,
-          length-append (filter_map f ys) (cons_option (f b) []),
           ap length same,
+          length-append (S.items ++ x ∷ []) more.0,
+          length-append S.items (x ∷ []),
         ))
 
 -- lists that begin each other are the same
@@ -126,7 +126,6 @@ pub record Starts (ls : List (List ℕ)) : Type 0 where
   pub session : Session
   pub named : named_session ls ≡ Some session
   pub valid : IsValidSession session
-  pub version : is_taken two_versions session.rules.version ≡ true
   pub begins : Begins ls (trace_lines session)
 
 -- lines that begin a trace
@@ -141,7 +140,6 @@ starts l ls passes = by_named (named_session (l ∷ ls)) refl passes where
         session = S;
         named = named;
         valid = (is_valid_session-agrees S).0 both_hold.0;
-        version = named_taken two_versions l ls S named;
         begins = (
           _,
           (starts_is bytes_eq-Decides (trace_lines S) (l ∷ ls)
@@ -150,31 +148,29 @@ starts l ls passes = by_named (named_session (l ∷ ls)) refl passes where
       }
 
 -- the session that a header and lines name, with one line more
-named_more : (S T : Session) (l : List ℕ) (ls : List (List ℕ)) → is_taken two_versions S.rules.version ≡ true
+named_more : (S T : Session) (l : List ℕ) (ls : List (List ℕ))
     → IsRatio S.rules.ratio → named_session (header S.rules ∷ ls) ≡ Some S
     → named_session (header S.rules ∷ (ls ++ l ∷ [])) ≡ Some T
-    → T ≡ session_with S.rules (S.items ++ cons_option (item_of l) [])
-named_more S T l ls version ratio one other =
-    let rules : rules_of (header S.rules) ≡ Some S.rules = header_names two_versions S.rules version ratio in
+    → T ≡ with_named S (named_item S l)
+named_more S T l ls ratio one other =
+    let rules : rules_of (header S.rules) ≡ Some S.rules = header_names S.rules ratio in
     let here : named_behind (new_session S.rules) ls ≡ S = some_same _ _
     (sym (ap (option_map (λ r. named_behind (new_session r) ls)) rules) ∙ one) in
     let there : named_behind (new_session S.rules) (ls ++ l ∷ []) ≡ T = some_same _ _
     (sym (ap (option_map (λ r. named_behind (new_session r) (ls ++ l ∷ []))) rules) ∙ other) in
     sym there ∙ fold-append (λ V k. with_named V (named_item V k)) (new_session S.rules) ls (l ∷ [])
-    ∙ ap (λ V. with_named V (named_item V l)) here ∙ ap (with_named S) (text_names S version l)
-    ∙ named_as S (item_of l)
+    ∙ ap (λ V. with_named V (named_item V l)) here
 
 -- ---- the first line
 
 -- only headers begin a trace
 pub only_headers : (l : List ℕ) → begins_trace (l ∷ []) ≡ true → (rules : Declaration) × IsRatio rules.ratio
-    × (l ≡ header rules) × (is_taken two_versions rules.version ≡ true)
+    × (l ≡ header rules)
 only_headers l passes =
     let it : Starts (l ∷ []) = starts l [] passes in (
       it.session.rules,
       it.valid.jobs.ratio,
       sym (heads (header it.session.rules) l (map text_of_line (all_lines it.session)) it.begins.0 it.begins.1),
-      it.version,
     )
 
 -- ---- later lines
@@ -198,15 +194,15 @@ module _ (ls : List (List ℕ)) (S : Session) (floor : ℕ) (z : State) (sees : 
   it = starts (header S.rules) (texts ++ l ∷ []) (ap begins_trace (sym split) ∙ passes)
 
   -- the session that they name
-  same : it.session ≡ session_with S.rules (S.items ++ cons_option (item_of l) [])
-  same = named_more S it.session l texts sees.version sees.valid.jobs.ratio
+  same : it.session ≡ with_named S (named_item S l)
+  same = named_more S it.session l texts sees.valid.jobs.ratio
       (ap named_session (sym sees.lines) ∙ sees.named) it.named
 
   -- a line that names no item is the text of the next printed step
-  pub only_step : (e : Event) (y : State) → PrintsNext (instance_of S).rules z e y → item_of l ≡ None → l ≡ text_of e
+  pub only_step : (e : Event) (y : State) → PrintsNext (instance_of S).rules z e y → named_item S l ≡ None
+      → l ≡ text_of e
   only_step e y next none =
-      let unchanged : it.session ≡ S = same ∙ ap (λ o. session_with S.rules (S.items ++ cons_option o [])) none
-      ∙ ap (session_with S.rules) (append-nil S.items) in
+      let unchanged : it.session ≡ S = same ∙ ap (with_named S) none in
       let here : (more : List (List ℕ)) × (trace_lines S ≡ ls ++ text_of e ∷ more) =
       sees_next_text ls S floor z sees e y next in
       let whole : trace_lines S ≡ (ls ++ l ∷ []) ++ it.begins.0 = ap trace_lines (sym unchanged) ∙ it.begins.1
@@ -214,14 +210,14 @@ module _ (ls : List (List ℕ)) (S : Session) (floor : ℕ) (z : State) (sees : 
       same_end ls l (text_of e) (trace_lines S) (it.begins.0, whole)
       (here.0, here.1 ∙ sym (append_assoc ls (text_of e ∷ []) here.0))
 
-  module _ (x : Item) (names : item_of l ≡ Some x) where
+  module _ (x : Item) (names : named_item S l ≡ Some x) where
     -- the session with the item
     abbrev S_more : Session
-    S_more = session_with S.rules (S.items ++ x ∷ [])
+    S_more = with_item S x
 
     -- it is the one that the lines name
     is_more : it.session ≡ S_more
-    is_more = same ∙ ap (λ o. session_with S.rules (S.items ++ cons_option o [])) names
+    is_more = same ∙ ap (with_named S) names
 
     -- it is valid
     valid_more : IsValidSession S_more
@@ -237,7 +233,7 @@ module _ (ls : List (List ℕ)) (S : Session) (floor : ℕ) (z : State) (sees : 
         omega (arith, length-append S.items (x ∷ []))
 
     -- a line of the item behind what is settled at a tick, which begin the session's lines
-    module _ (t : ℕ) (later : mark_after 0 S.items ≤ t) (line : TraceLine) (is : item_of_line line ≡ Some x)
+    module _ (t : ℕ) (later : mark_after 0 S.items ≤ t) (line : TraceLine) (is : item_in S line ≡ Some x)
         (before : Reads S t) (begins : Begins (lines_at S t ++ line ∷ []) (all_lines S_more)) where
       -- the lines behind the header
       here : (front : List TraceLine) × (texts ++ l ∷ [] ≡ map text_of_line front) × Begins front (all_lines S_more)
@@ -260,29 +256,25 @@ module _ (ls : List (List ℕ)) (S : Session) (floor : ℕ) (z : State) (sees : 
       last_short = all_front HasShortNumbers (last.front ++ last.last ∷ []) last_begins.0
           (subst (AllByRecursion HasShortNumbers) last_begins.1 (lines_short S_more valid_more))
 
-      -- those before the last name the items so far
-      front_names : filter_map item_of_line last.front ≡ S.items
-      front_names = sym (texts_items last.front (all_front HasShortNumbers last.front (last.last ∷ []) last_short))
-          ∙ ap (filter_map item_of) last.texts ∙ texts_items (lines_among S so_far) (sees_short ls S floor z sees)
-          ∙ names_items S sees.version (lines_among S so_far) (sees_names ls S floor z sees)
-
-      -- so do those that are settled
-      before_names : filter_map item_of_line (lines_at S t) ≡ S.items
-      before_names = names_items S sees.version (lines_at S t) before.names
+      -- those before the last name the session so far, as those that are settled do
+      front_names : LinesName last.front S
+      front_names = sym (texts_name (new_session S.rules) last.front
+          (all_front HasShortNumbers last.front (last.last ∷ []) last_short))
+          ∙ ap (named_behind (new_session S.rules)) last.texts
+          ∙ texts_name (new_session S.rules) (lines_among S so_far) (sees_short ls S floor z sees)
+          ∙ sees_names ls S floor z sees
 
       -- the last names the item
-      last_names : item_of_line last.last ≡ Some x
-      last_names = sym (item_of-text_of_line last.last (all_last HasShortNumbers last.front last.last last_short))
-          ∙ ap item_of last.text ∙ names
+      last_names : item_in S last.last ≡ Some x
+      last_names = sym (named_text S last.last (all_last HasShortNumbers last.front last.last last_short))
+          ∙ ap (named_item S) last.text ∙ names
 
       -- so the lines so far are all that is settled
       front_is : last.front ≡ lines_at S t
       front_is = begin_both last.front (lines_at S t)
-          (no_longer item_of_line x last.front (lines_at S t) last.last line (all_lines S_more)
-          (front_names ∙ sym before_names) is
+          (no_longer S x last.front (lines_at S t) line (all_lines S_more) front_names before.names is
           (last.last ∷ last_begins.0, last_begins.1 ∙ append_assoc last.front (last.last ∷ []) last_begins.0) begins)
-          (no_longer item_of_line x (lines_at S t) last.front line last.last (all_lines S_more)
-          (before_names ∙ sym front_names) last_names
+          (no_longer S x (lines_at S t) last.front last.last (all_lines S_more) before.names front_names last_names
           (line ∷ begins.0, begins.1 ∙ append_assoc (lines_at S t) (line ∷ []) begins.0) last_begins)
 
       -- and the last is the item's
@@ -330,7 +322,7 @@ module _ (ls : List (List ℕ)) (S : Session) (floor : ℕ) (z : State) (sees : 
           (found.0, record { steps = rest.0; settles = found.1; barrier = found.2 })
 
   -- a line that names a job is the text of its release, which may come next
-  pub only_release : (j : JobFacts) → item_of l ≡ Some (JobItem j) → (l ≡ release_text S j) × (y : State)
+  pub only_release : (j : JobFacts) → named_item S l ≡ Some (JobItem j) → (l ≡ release_text S j) × (y : State)
       × MayRelease S floor z j y
   only_release j names =
       let follows : FollowsItems S.rules S.items (mark_after 0 S.items) (JobItem j ∷ []) =
@@ -358,7 +350,7 @@ module _ (ls : List (List ℕ)) (S : Session) (floor : ℕ) (z : State) (sees : 
       )
 
   -- a line that names a refused line is its text, and it may come next
-  pub only_refused : (r : Refused) → item_of l ≡ Some (RefusedItem r) → (l ≡ refused_text r) × (y : State)
+  pub only_refused : (r : Refused) → named_item S l ≡ Some (RefusedItem r) → (l ≡ refused_text r) × (y : State)
       × MayRefuse S floor z r y
   only_refused r names =
       let follows : FollowsItems S.rules S.items (mark_after 0 S.items) (RefusedItem r ∷ []) =
@@ -384,23 +376,50 @@ module _ (ls : List (List ℕ)) (S : Session) (floor : ℕ) (z : State) (sees : 
         },
       )
 
-  -- no line names a finish
-  pub only_no_finish : (f : EarlyFinish) → item_of l ≡ Some (FinishItem f) → ⊥
-  only_no_finish f names =
-      none_finishes S (mark_after 0 S.items) f sees.version (follows_more (FinishItem f) names).0
+  -- a line that names a finish is the text of its completion, which may come next
+  pub only_completion : (f : EarlyFinish) → named_item S l ≡ Some (FinishItem f)
+      → (l ≡ completion_text f) × (y : State) × MayComplete S floor z f y
+  only_completion f names =
+      let follows : FollowsItems S.rules S.items (mark_after 0 S.items) (FinishItem f ∷ []) =
+      follows_more (FinishItem f) names in
+      let ordered : mark_after 0 S.items ≤ f.at = follows.0.no_fall in
+      let before : Reads S f.at = reads_later S (mark_after 0 S.items) f.at (reads_mark S sees.valid) ordered in
+      let it : Finishes S f = finishing_job S f follows.0.right in
+      let line : TraceLine = Printed (Complete f.at it.job.number) in
+      let begins : Begins (lines_at S f.at ++ line ∷ []) (all_lines (with_item S (FinishItem f))) =
+      begins_onward (lines_at S f.at ++ line ∷ []) (lines_at (with_item S (FinishItem f)) f.at)
+      (all_lines (with_item S (FinishItem f))) (lines_finish S f before it)
+      (lines_of_trace (with_item S (FinishItem f)) f.at (reads_finish S f before it)) in
+      let is : item_in S line ≡ Some (FinishItem f) = finish_is_named S f before it in
+      let waits : (y : State) × WaitsUntil (instance_of S).rules f.at z y =
+      only_waits (FinishItem f) names f.at ordered line is before begins in (
+        only_text (FinishItem f) names f.at ordered line is before begins
+            ∙ ap (λ (g : Finish). text_of (Complete f.at g.number)) (sym it.is),
+        waits.0,
+        record {
+          room = room_more (FinishItem f) names;
+          finishes = record {
+            no_fall = only_later (FinishItem f) names f.at ordered line is before begins;
+            known = follows.0.known;
+            right = follows.0.right;
+          };
+          waits = waits.1;
+        },
+      )
 
--- a line that continues a trace is the text of the next printed step, of a job that may be released, or of a refused
--- line that may come
+-- a line that continues a trace is the text of the next printed step, of a job that may be released, of a refused line
+-- that may come, or of an early completion that may come
 pub continues_only : (ls : List (List ℕ)) (S : Session) (floor : ℕ) (z : State) → Sees ls S floor z
     → (e : Event) (y : State)
     → PrintsNext (instance_of S).rules z e y → (l : List ℕ) → begins_trace (ls ++ l ∷ []) ≡ true
-    → (l ≡ text_of e) ⊎ (IsReleaseNext S floor z l ⊎ IsRefusedNext S floor z l)
-continues_only ls S floor z sees e y next l passes = by_item (item_of l) refl where
-  by_item : (o : Option Item) → item_of l ≡ o → (l ≡ text_of e)
-      ⊎ (IsReleaseNext S floor z l ⊎ IsRefusedNext S floor z l)
+    → (l ≡ text_of e) ⊎ (IsReleaseNext S floor z l ⊎ (IsRefusedNext S floor z l ⊎ IsCompletionNext S floor z l))
+continues_only ls S floor z sees e y next l passes = by_item (named_item S l) refl where
+  by_item : (o : Option Item) → named_item S l ≡ o → (l ≡ text_of e)
+      ⊎ (IsReleaseNext S floor z l ⊎ (IsRefusedNext S floor z l ⊎ IsCompletionNext S floor z l))
   by_item None none = inl (only_step ls S floor z sees l passes e y next none)
   by_item (Some (JobItem j)) names = let it = only_release ls S floor z sees l passes j names in
       inr (inl (j, it.0, it.1, it.2))
-  by_item (Some (FinishItem f)) names = absurd (only_no_finish ls S floor z sees l passes f names)
   by_item (Some (RefusedItem r)) names = let it = only_refused ls S floor z sees l passes r names in
-      inr (inr (r, it.0, it.1, it.2))
+      inr (inr (inl (r, it.0, it.1, it.2)))
+  by_item (Some (FinishItem f)) names = let it = only_completion ls S floor z sees l passes f names in
+      inr (inr (inr (f, it.0, it.1, it.2)))

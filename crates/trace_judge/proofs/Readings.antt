@@ -3,7 +3,7 @@ use Rattle.std.proofs.Common.{◌≡◌, ℕ, ◌+◌, ◌*◌, ◌≤◌, List,
 use Rattle.std.proofs.Common.{arith}
 use Rattle.std.specs.Option.{option_map_or, option_and_then}
 use Rattle.dover_model.specs.declared.events.Event.{Event}
-use Rattle.dover_model.specs.Instance.{Instance}
+use Rattle.dover_model.specs.Instance.{Instance, Declaration, Rules}
 use Rattle.dover_model.specs.State.{State}
 use Rattle.dover_model.specs.Session.{Session, instance_of}
 use Rattle.dover_model.specs.Trace.{trace_lines}
@@ -16,6 +16,7 @@ use Rattle.trace_judge.specs.declared.stage.Stage.{Stage}
 use Rattle.trace_judge.specs.declared.stage.Stage.TheVariants.{Opening, Going, Ended}
 use Rattle.ready_jobs.specs.Course.{Course, Follows, GoesOnFrom}
 use Rattle.trace_judge.specs.Reads.{Reading, Opens, Goes, Ends, ReadsAhead, Reads, StaysAhead, HasSpare, IsReader}
+use Rattle.trace_judge.specs.Reads.{rules_kept}
 use Rattle.ready_jobs.proofs.Courses.{follows_room}
 
 -- ---- by the stage
@@ -66,6 +67,19 @@ module _ (r : Reading) (ls : List (List ℕ)) where
     by_stage Going it = (it.0, it.1, it.1, it.2)
     by_stage Ended it = it
 
+-- the version of the session is the one kept
+pub version_kept : (r : Reading) (ls : List (List ℕ)) (S : Session) (z y : State) → Goes r ls S z y
+    → S.rules.version ≡ r.course.rules.version
+version_kept r ls S z y goes = ap (λ (k : Rules). k.version) goes.follows.rules
+
+-- and what it declares is what is kept
+pub rules_are : (r : Reading) (ls : List (List ℕ)) (S : Session) (z y : State) → Goes r ls S z y
+    → rules_kept r ≡ S.rules
+rules_are r ls S z y goes =
+    ap (λ k. let d : Declaration = record { ratio = k; version = r.course.rules.version } in d) goes.ratio
+    ∙ ap (λ v. let d : Declaration = record { ratio = S.rules.ratio; version = v } in d)
+    (sym (version_kept r ls S z y goes))
+
 -- ---- room
 
 -- the reading with other room
@@ -81,6 +95,8 @@ module _ (r : Reading) (ready spare room : ℕ) (ls : List (List ℕ)) where
     items = it.items;
     floor = it.floor;
     steps = it.steps;
+    refused = it.refused;
+    last = it.last;
   }
 
   -- behind it
@@ -93,19 +109,20 @@ module _ (r : Reading) (ready spare room : ℕ) (ls : List (List ℕ)) where
     ratio = it.ratio;
     items = it.items;
     steps = it.steps;
+    refused = it.refused;
+    last = it.last;
   }
 
   -- and behind the end
   pub room_ends : (S : Session) → Ends r ls S → Ends (with_room r ready spare room) ls S
   room_ends S it = record {
-    version = it.version;
     valid = it.valid;
     lines = it.lines;
     rules = it.rules;
     value = it.value;
     jobs = it.jobs;
-    items = it.items;
     steps = it.steps;
+    refused = it.refused;
   }
 
   pub room_ahead : ReadsAhead r ls → ReadsAhead (with_room r ready spare room) ls
@@ -148,6 +165,8 @@ module _ (r : Reading) (d : Course) (e : Event) (going : r.stage ≡ Going)
           ratio = goes.ratio;
           items = goes.items;
           steps = goes.steps;
+          refused = goes.refused;
+          last = goes.last;
         },
         record {
           steps = goes.idles.0 ++ it.2.steps;
@@ -160,7 +179,8 @@ module _ (r : Reading) (d : Course) (e : Event) (going : r.stage ≡ Going)
   pub next_ahead : (ls : List (List ℕ)) → ReadsAhead r ls → ReadsAhead (record r { course = d }) ls
   next_ahead ls reads =
       let old : (S : Session) × (z : State) × (y : State) × Goes r ls S z y = goes_of r ls going reads in
-      let new : (x : State) × Goes (record r { course = d }) ls old.0 old.1 x × PrintsNext (instance_of old.0).rules old.1 e x =
+      let new : (x : State) × Goes (record r { course = d }) ls old.0 old.1 x
+      × PrintsNext (instance_of old.0).rules old.1 e x =
       next_goes ls old.0 old.1 old.2 old.3 in
       ahead_of (record r { course = d }) ls going old.0 old.1 new.0 new.1
 
@@ -168,7 +188,8 @@ module _ (r : Reading) (d : Course) (e : Event) (going : r.stage ≡ Going)
   pub next_due : (ls : List (List ℕ)) → ReadsAhead r ls → model.expected_after ls ≡ model.Step e
   next_due ls reads =
       let old : (S : Session) × (z : State) × (y : State) × Goes r ls S z y = goes_of r ls going reads in
-      let new : (x : State) × Goes (record r { course = d }) ls old.0 old.1 x × PrintsNext (instance_of old.0).rules old.1 e x =
+      let new : (x : State) × Goes (record r { course = d }) ls old.0 old.1 x
+      × PrintsNext (instance_of old.0).rules old.1 e x =
       next_goes ls old.0 old.1 old.2 old.3 in
       sees_expects ls old.0 r.floor old.1 old.3.sees e new.0 new.2
 

@@ -1,150 +1,136 @@
--- How the judge takes the line of a job line that was refused.
+-- How the judge takes a refused line: of a job, or a done line.
 use Rattle.std.proofs.Common.{◌≡◌, ℕ, ◌+◌, ◌≤◌, ◌<◌, List, [], ◌∷◌, ◌++◌, length, length-append, refl, sym, ap, ◌∙◌}
-use Rattle.std.proofs.Common.{subst, true, false, arith, Some}
+use Rattle.std.proofs.Common.{subst, true, false, arith, Some, None, cond}
+use Rattle.std.specs.Prelude.{◌&&◌, nat_le, is_some, filter_map}
 use Rattle.std.proofs.lemmas.Bool.{false_from_ne_true}
+use Rattle.std.proofs.lemmas.List.Elements.{filter_map-append}
 use Rattle.admission.specs.Kept as admission
 use Rattle.dover_model.specs.Limits.{last_tick, most_items}
 use Rattle.dover_model.specs.JobFacts.{JobFacts, job_of_numbers}
-use Rattle.dover_model.specs.Admission.{refusal_of}
 use Rattle.dover_model.specs.declared.events.Refusal.{Refusal}
-use Rattle.dover_model.specs.declared.events.Version.TheVariants.{Two}
-use Rattle.dover_model.specs.Instance.{Rules, Declaration, Instance}
+use Rattle.dover_model.specs.Instance.{Instance}
 use Rattle.dover_model.specs.State.{State}
+use Rattle.dover_model.specs.Run.{printed_of}
+use Rattle.dover_model.specs.Settled.{last_of}
 use Rattle.dover_model.specs.Session.{RefusedItem, Refused as RefusedAt, Session, instance_of, admitted_jobs, with_item}
-use Rattle.dover_model.specs.Session.{refuses_lines}
+use Rattle.dover_model.specs.Session.{refuses_lines, refusal_at, may_finish_early, finish_at, refused_of_item}
+use Rattle.dover_model.specs.Session as session
 use Rattle.dover_model.specs.Text.{refused_text}
-use Rattle.dover_model.specs.Verdict.{item_of, begins_trace}
+use Rattle.dover_model.specs.Verdict.{named_item, begins_trace}
 use Rattle.dover_model.proofs.Growing.{refused_instance}
-use Rattle.trace_format.specs.declared.lines.TraceLine.TheVariants.{Refused}
-use Rattle.trace_format.specs.Form.{HasForm, refused_job}
-use Rattle.trace_format.proofs.Spelled.{text_read, read_IsRead}
+use Rattle.trace_format.specs.declared.lines.TraceLine.TheVariants.{Refused, RefusedDone}
+use Rattle.trace_format.specs.Form.{HasForm, refused_job, refused_done}
 use Rattle.dover_model.specs.Leading.{Idles, WaitsUntil}
 use Rattle.trace_judge.specs.Reading.{Sees, MayRefuse}
 use Rattle.trace_judge.proofs.Continuing.{sees_refused, sees_refused_prints, sees_idles, sees_idles_prints}
-use Rattle.trace_judge.proofs.Plainly.{two_refuses, refused_then, refused_so}
+use Rattle.trace_judge.proofs.Naming.{item_named}
 use Rattle.trace_judge.proofs.Only.{only_refused}
 use Rattle.trace_judge.specs.declared.stage.Stage.TheVariants.{Going}
 use Rattle.ready_jobs.specs.Course.{Follows}
 use Rattle.trace_judge.specs.Reads.{Reading, Goes, ReadsAhead, StaysAhead, IsReader, kept_steps, Took, Waited, at_tick}
-use Rattle.trace_judge.proofs.Readings.{goes_of, ahead_of, here_of, reads_of, reads_ahead}
+use Rattle.trace_judge.specs.Reads.{rules_kept}
+use Rattle.trace_judge.proofs.Readings.{goes_of, ahead_of, here_of, reads_of, reads_ahead, version_kept, rules_are}
+use Rattle.dover_model.proofs.Tests.{never}
 
-module _ (at r c d v : ℕ) (cause : Refusal) (form : HasForm (Refused at r c d v cause)) where
-  -- the refused line
-  abbrev line : RefusedAt
-  line = refused_job at r c d v cause
+-- no more lines are refused than there are items
+few_refused : (items : List session.Item) → length (filter_map refused_of_item items) ≤ length items
+few_refused [] = omega arith
+few_refused (session.JobItem j ∷ items) = omega (arith, few_refused items)
+few_refused (RefusedItem r ∷ items) = omega (arith, few_refused items)
+few_refused (session.FinishItem f ∷ items) = omega (arith, few_refused items)
 
-  -- its text names it
-  names : item_of (refused_text line) ≡ Some (RefusedItem line)
-  names = (read_IsRead (refused_text line) (Refused at r c d v cause) (text_read (Refused at r c d v cause) form)).item
-
+module _ (line : RefusedAt) (named : (S : Session) → named_item S (refused_text line) ≡ Some (RefusedItem line)) where
   -- where its text continues a trace, it may come next
   refused_only : (w : Reading) (ls : List (List ℕ)) (S : Session) (z : State) → Goes w ls S z z
       → begins_trace (ls ++ refused_text line ∷ []) ≡ true
       → (y : State) × MayRefuse S w.floor z line y
   refused_only w ls S z goes passes =
-      let it = only_refused ls S w.floor z goes.sees (refused_text line) passes line names in (it.1, it.2)
+      let it = only_refused ls S w.floor z goes.sees (refused_text line) passes line (named S) in (it.1, it.2)
 
   module _ (w : Reading) (going : w.stage ≡ Going) where
-    -- the jobs and the limits don't refuse it so
-    pub not_refusable : (w.course.rules.version ≡ Two → at ≤ last_tick → at ≤ r → w.items < most_items
-        → (jobs : List JobFacts)
-        → admission.StandsFor w.kept jobs → refusal_of w.kept.ratio jobs (job_of_numbers r c d v) ≡ Some cause → ⊥)
-        → Took w w (refused_text line) false
-    not_refusable none = record {
+    -- it may not come, as far as the run has gone on
+    pub not_refused : (v2 : Reading) → StaysAhead w v2
+        → ((ls : List (List ℕ)) (S : Session) (z : State) → Goes w ls S z z → (y : State)
+        → MayRefuse S w.floor z line y → ⊥)
+        → Took w v2 (refused_text line) false
+    not_refused v2 ahead none = record {
       yes = λ e. absurd (let clash : false ≡ true = e in cc);
       no = λ _ ls reads.
           let here : (S : Session) × (z : State) × Goes w ls S z z = here_of w ls going reads in (
             false_from_ne_true _ (λ passes.
                 let it : (y : State) × MayRefuse here.0 w.floor here.1 line y =
                 refused_only w ls here.0 here.1 here.2 passes in
-                let room : length here.0.items < 3_999_998 = it.1.room in
-                let two : here.0.rules.version ≡ Two =
-                two_refuses here.0.rules.version here.2.sees.version it.1.refused.line.version in
-                let refused = refused_then here.0 at (job_of_numbers r c d v) cause two it.1.refused.line.cause in
-                none (ap (λ (k : Rules). k.version) (sym here.2.follows.rules) ∙ two)
-                it.1.refused.known refused.0
-                (omega (arith, here.2.items)) (admitted_jobs here.0.items) here.2.kept
-                (subst (λ k. refusal_of k (admitted_jobs here.0.items) (job_of_numbers r c d v) ≡ Some cause)
-                (sym here.2.ratio) refused.1)),
-            reads_ahead w ls reads,
+                none ls here.0 here.1 here.2 it.0 it.1),
+            ahead ls (reads_ahead w ls reads),
           );
     }
 
     -- something comes before its tick
     pub not_waited : (v2 : Reading)
-        → (w.floor ≤ at → (ls : List (List ℕ)) (S : Session) (z : State) → Goes w ls S z z → (x : State)
-        → WaitsUntil (instance_of S).rules at z x → ⊥) → StaysAhead w v2 → Took w v2 (refused_text line) false
-    not_waited v2 none ahead = record {
-      yes = λ e. absurd (let clash : false ≡ true = e in cc);
-      no = λ _ ls reads.
-          let here : (S : Session) × (z : State) × Goes w ls S z z = here_of w ls going reads in (
-            false_from_ne_true _ (λ passes.
-                let it : (y : State) × MayRefuse here.0 w.floor here.1 line y =
-                refused_only w ls here.0 here.1 here.2 passes in
-                none it.1.refused.no_fall ls here.0 here.1 here.2 it.0 it.1.waits),
-            ahead ls (reads_ahead w ls reads),
-          );
-    }
+        → (w.floor ≤ line.at → (ls : List (List ℕ)) (S : Session) (z : State) → Goes w ls S z z → (x : State)
+        → WaitsUntil (instance_of S).rules line.at z x → ⊥) → StaysAhead w v2 → Took w v2 (refused_text line) false
+    not_waited v2 none ahead = not_refused v2 ahead
+        (λ ls S z goes y may. none may.refused.no_fall ls S z goes y may.waits)
 
     -- it may come
     module _ (u v2 : Reading) (same : u ≡ v2) (kept : v2 ≡ record w { course = v2.course })
-        (rules_kept : v2.course.rules ≡ w.course.rules)
-        (yes : (w.course.rules.version ≡ Two) × (at ≤ last_tick) × (at ≤ r) × (w.items < most_items))
-        (refuses : (jobs : List JobFacts) → admission.StandsFor w.kept jobs
-        → refusal_of w.kept.ratio jobs (job_of_numbers r c d v) ≡ Some cause)
+        (known : line.at ≤ last_tick) (few : w.items < most_items)
+        (may_line : (ls : List (List ℕ)) (S : Session) (z y x : State) → Goes w ls S z y
+        → Waited v2 line.at ls S z x → session.MayRefuse S line.at line.line)
         (waits : (ls : List (List ℕ)) (S : Session) (z y : State) → Goes w ls S z y → (x : State)
-        × Waited v2 at ls S z x) where
+        × Waited v2 line.at ls S z x) where
       -- the reading with it
       abbrev refused : Reading
-      refused = record u { items = u.items + 1; floor = at }
+      refused = record u { items = u.items + 1; floor = line.at; refused = u.refused + 1 }
 
       -- it is kept of the lines with its text
       refused_goes : (ls : List (List ℕ)) (S : Session) (z y : State) → Goes w ls S z y
           → (x : State) × Goes refused (ls ++ refused_text line ∷ []) (with_item S (RefusedItem line)) x x
       refused_goes ls S z y goes =
-          let waited : (x : State) × Waited u at ls S z x =
-          subst (λ t. (x : State) × Waited t at ls S z x) (sym same) (waits ls S z y goes) in
-          let x : State = waited.0 in
-          let here : Goes u ls S z x = waited.1.goes in
+          let there : (x : State) × Waited v2 line.at ls S z x = waits ls S z y goes in
+          let waited : Waited u line.at ls S z there.0 =
+          subst (λ t. Waited t line.at ls S z there.0) (sym same) there.1 in
+          let x : State = there.0 in
+          let here : Goes u ls S z x = waited.goes in
           let unchanged : u ≡ record w { course = v2.course } = same ∙ kept in
           let items : u.items ≡ w.items = ap (λ (t : Reading). t.items) unchanged in
-          let floor : u.floor ≡ w.floor = ap (λ (t : Reading). t.floor) unchanged in
-          let least : w.items < 3_999_998 = yes.3 in
-          let two : S.rules.version ≡ Two = ap (λ (k : Rules). k.version) here.follows.rules
-          ∙ ap (λ (k : Declaration). k.version) (ap (λ (t : Reading). t.course.rules) same ∙ rules_kept) ∙ yes.0 in
-          let may : MayRefuse S u.floor z line (at_tick at x.tasks) = record {
+          let least : w.items < 3_999_998 = few in
+          let may : MayRefuse S u.floor z line (at_tick line.at x.tasks) = record {
             room = omega (arith, here.items);
             refused = record {
-              no_fall = waited.1.no_fall;
-              known = yes.1;
-              line = record {
-                version = ap refuses_lines two;
-                numerals = form.1;
-                cause = refused_so S at (job_of_numbers r c d v) cause two yes.2
-                    (subst (λ k. refusal_of k (admitted_jobs S.items) (job_of_numbers r c d v) ≡ Some cause) goes.ratio
-                    (refuses (admitted_jobs S.items) goes.kept));
-              };
+              no_fall = waited.no_fall;
+              known = known;
+              line = may_line ls S z y x goes there.1;
             };
-            waits = waited.1.waits;
+            waits = waited.waits;
           } in
           let S_more : Session = with_item S (RefusedItem line) in
           let J_same : instance_of S_more ≡ instance_of S = refused_instance S line in
-          let sees : Sees (ls ++ refused_text line ∷ []) S_more at z =
-          sees_refused ls S u.floor z here.sees line (at_tick at x.tasks) may in
+          let sees : Sees (ls ++ refused_text line ∷ []) S_more line.at z =
+          sees_refused ls S u.floor z here.sees line (at_tick line.at x.tasks) may in
           let idles : Idles (instance_of S_more).rules z here.idles.0 x =
           subst (λ (J : Instance). Idles J.rules z here.idles.0 x) (sym J_same) here.idles.1 in
-          let low : x.clock ≤ at = omega (arith, here.follows.clock, waited.1.low) in (
+          let low : x.clock ≤ line.at = omega (arith, here.follows.clock, waited.low) in
+          let prints : printed_of (sees_idles (ls ++ refused_text line ∷ []) S_more line.at z sees here.idles.0 x
+          idles low).steps ≡ printed_of here.sees.steps =
+          sees_idles_prints (ls ++ refused_text line ∷ []) S_more line.at z sees here.idles.0 x idles low
+          ∙ sees_refused_prints ls S u.floor z here.sees line (at_tick line.at x.tasks) may in (
             x,
             record {
-              sees = sees_idles (ls ++ refused_text line ∷ []) S_more at z sees here.idles.0 x idles low;
+              sees = sees_idles (ls ++ refused_text line ∷ []) S_more line.at z sees here.idles.0 x idles low;
               idles = ([], refl);
               follows = subst (λ J. Follows u.course J x) (sym J_same) here.follows;
               kept = subst (λ (J : Instance). admission.StandsFor u.kept J.jobs) (sym J_same) here.kept;
               ratio = here.ratio;
               items = omega (arith, here.items, length-append S.items (RefusedItem line ∷ []));
-              steps = here.steps ∙ ap (kept_steps u.keep)
-                  (sym (sees_idles_prints (ls ++ refused_text line ∷ []) S_more at z sees here.idles.0 x
-                  idles low ∙ sees_refused_prints ls S u.floor z here.sees line (at_tick at x.tasks) may));
+              steps = here.steps ∙ ap (kept_steps u.keep) (sym prints);
+              refused = omega (
+                arith,
+                here.refused,
+                ap length (filter_map-append refused_of_item S.items (RefusedItem line ∷ [])),
+                length-append (filter_map refused_of_item S.items) (line ∷ []),
+              );
+              last = here.last ∙ ap last_of (sym prints);
             },
           )
 
@@ -174,3 +160,98 @@ module _ (at r c d v : ℕ) (cause : Refusal) (form : HasForm (Refused at r c d 
             reads = ahead_of refused (before.lines ++ refused_text line ∷ []) going_u
                 (with_item it.0 (RefusedItem line)) new.0 new.0 new.1;
           }
+
+-- fewer lines were refused than there are items
+pub refused_few : (r : Reading) → IsReader r → r.stage ≡ Going → r.refused ≤ r.items
+refused_few r old going =
+    let it : (S : Session) × (z : State) × (y : State) × Goes r old.lines S z y =
+    goes_of r old.lines going old.reads in
+    omega (arith, it.3.refused, it.3.items, few_refused it.0.items)
+
+-- ---- of a job
+
+module _ (at r c d v : ℕ) (cause : Refusal) (form : HasForm (Refused at r c d v cause)) where
+  -- the refused line
+  abbrev pub job_line : RefusedAt
+  job_line = refused_job at r c d v cause
+
+  -- its text names it
+  pub job_named : (S : Session) → named_item S (refused_text job_line) ≡ Some (RefusedItem job_line)
+  job_named S = item_named S (Refused at r c d v cause) (RefusedItem job_line) form refl
+
+  -- the jobs and the limits don't refuse it so
+  pub job_not : (w : Reading) → w.stage ≡ Going
+      → (refuses_lines w.course.rules.version ≡ true → at ≤ last_tick → w.items < most_items → (jobs : List JobFacts)
+      → admission.StandsFor w.kept jobs
+      → refusal_at (rules_kept w) jobs at (job_of_numbers r c d v) ≡ Some cause → ⊥)
+      → Took w w (refused_text job_line) false
+  job_not w going none = not_refused job_line job_named w going w (λ ls reads. reads) (λ ls S z goes y may.
+      let room : length S.items < 3_999_998 = may.room in
+      none (ap refuses_lines (sym (version_kept w ls S z z goes)) ∙ may.refused.line.version) may.refused.known
+      (omega (arith, goes.items)) (admitted_jobs S.items) goes.kept
+      (ap (λ k. refusal_at k (admitted_jobs S.items) at (job_of_numbers r c d v)) (rules_are w ls S z z goes)
+      ∙ may.refused.line.cause))
+
+  -- they refuse it so
+  pub job_may : (w v2 : Reading) → refuses_lines w.course.rules.version ≡ true
+      → ((jobs : List JobFacts) → admission.StandsFor w.kept jobs
+      → refusal_at (rules_kept w) jobs at (job_of_numbers r c d v) ≡ Some cause)
+      → (ls : List (List ℕ)) (S : Session) (z y x : State) → Goes w ls S z y → Waited v2 at ls S z x
+      → session.MayRefuse S at job_line.line
+  job_may w v2 version refuses ls S z y x goes waited = record {
+    version = ap refuses_lines (version_kept w ls S z y goes) ∙ version;
+    numerals = form.1;
+    cause = ap (λ k. refusal_at k (admitted_jobs S.items) at (job_of_numbers r c d v))
+        (sym (rules_are w ls S z y goes)) ∙ refuses (admitted_jobs S.items) goes.kept;
+  }
+
+-- ---- of a done line
+
+module _ (at tick number : ℕ) (form : HasForm (RefusedDone at tick number)) where
+  -- the refused line
+  abbrev pub done_line : RefusedAt
+  done_line = refused_done at tick number
+
+  -- its text names it
+  pub done_named : (S : Session) → named_item S (refused_text done_line) ≡ Some (RefusedItem done_line)
+  done_named S = item_named S (RefusedDone at tick number) (RefusedItem done_line) form refl
+
+  -- the version, the ticks and the limits don't allow it
+  pub done_not : (w : Reading) → w.stage ≡ Going
+      → (may_finish_early w.course.rules.version ≡ true → at ≤ last_tick → tick ≤ at → w.items < most_items → ⊥)
+      → Took w w (refused_text done_line) false
+  done_not w going none = not_refused done_line done_named w going w (λ ls reads. reads) (λ ls S z goes y may.
+      let room : length S.items < 3_999_998 = may.room in
+      none (ap may_finish_early (sym (version_kept w ls S z z goes)) ∙ may.refused.line.version) may.refused.known
+      may.refused.line.no_later (omega (arith, goes.items)))
+
+  -- whether the finish is right, where jobs may finish early
+  right_is : (S : Session) → may_finish_early S.rules.version ≡ true
+      → session.is_right S at tick number ≡ (nat_le at tick && is_some (finish_at (instance_of S) tick number))
+  right_is S early = ap (λ b. nat_le at tick && is_some (cond b (finish_at (instance_of S) tick number) None)) early
+
+  -- it is right
+  pub done_right : (w v2 : Reading) → w.stage ≡ Going → StaysAhead w v2
+      → ((ls : List (List ℕ)) (S : Session) (z y : State) → Goes w ls S z y → (x : State) × Waited v2 at ls S z x)
+      → ((ls : List (List ℕ)) (S : Session) (z y : State) → Waited v2 at ls S z y
+      → true ≡ (nat_le at tick && is_some (finish_at (instance_of S) tick number)))
+      → Took w v2 (refused_text done_line) false
+  done_right w v2 going ahead waits right = not_refused done_line done_named w going v2 ahead (λ ls S z goes y may.
+      let there = waits ls S z z goes in
+      never (sym may.refused.line.cause ∙ right_is S may.refused.line.version ∙ sym (right ls S z there.0 there.1)))
+
+  -- it isn't
+  pub done_may : (w v2 : Reading) → may_finish_early w.course.rules.version ≡ true → tick ≤ at
+      → ((ls : List (List ℕ)) (S : Session) (z y : State) → Waited v2 at ls S z y
+      → false ≡ (nat_le at tick && is_some (finish_at (instance_of S) tick number)))
+      → (ls : List (List ℕ)) (S : Session) (z y x : State) → Goes w ls S z y → Waited v2 at ls S z x
+      → session.MayRefuse S at done_line.line
+  done_may w v2 version low right ls S z y x goes waited =
+      let early : may_finish_early S.rules.version ≡ true =
+      ap may_finish_early (version_kept w ls S z y goes) ∙ version in
+      record {
+        version = early;
+        numerals = form.1.1;
+        no_later = low;
+        cause = right_is S early ∙ sym (right ls S z x waited);
+      }

@@ -1,7 +1,8 @@
 -- How the judge takes the line of a release.
 use Rattle.std.proofs.Common.{◌≡◌, ℕ, ◌+◌, ◌*◌, ◌≤◌, ◌<◌, List, [], ◌∷◌, ◌++◌, length, length-append, refl, sym, ap}
 use Rattle.std.proofs.Common.{◌∙◌, subst, true, false, cond, min, arith}
-use Rattle.std.specs.Prelude.{Some, None}
+use Rattle.std.specs.Prelude.{None, filter_map}
+use Rattle.std.proofs.lemmas.List.{append-nil}
 use Rattle.std.proofs.lemmas.Bool.{false_from_ne_true}
 use Rattle.std.proofs.lemmas.List.Elements.{filter_map-append}
 use Rattle.admission.specs.Kept as admission
@@ -17,13 +18,12 @@ use Rattle.dover_model.specs.State.{State}
 use Rattle.dover_model.specs.Run.{printed_of}
 use Rattle.dover_model.specs.Session.{JobItem, Session, instance_of, admitted_jobs, with_item, job_of_item}
 use Rattle.dover_model.specs.Text.{text_of}
-use Rattle.dover_model.specs.Verdict.{item_of, begins_trace}
+use Rattle.dover_model.specs.Verdict.{begins_trace}
 use Rattle.dover_model.proofs.Admitting.{Admitted, not_refused}
 use Rattle.dover_model.proofs.Growing.{job_instance}
 use Rattle.dover_model.proofs.Ending.{few_printed}
 use Rattle.trace_format.specs.declared.lines.TraceLine.TheVariants.{Step as StepLine}
 use Rattle.trace_format.specs.Form.{HasForm}
-use Rattle.trace_format.proofs.Spelled.{text_read, read_IsRead}
 use Rattle.dover_model.specs.Leading.{WaitsUntil}
 use Rattle.trace_judge.specs.Reading.{Sees, MayRelease, release_text}
 use Rattle.dover_model.specs.Ready.{with_fresh}
@@ -40,15 +40,12 @@ use Rattle.ready_jobs.proofs.Courses.{follows_count, follows_room, follows_order
 use Rattle.ready_jobs.proofs.Releasing as course
 use Rattle.trace_judge.proofs.Forms.{one_form}
 use Rattle.trace_judge.proofs.Readings.{ahead_of, here_of, reads_of, reads_ahead, with_room}
-use Rattle.trace_judge.proofs.Taking.{kept_more, kept_length}
+use Rattle.trace_judge.proofs.Taking.{kept_more, kept_length, last_more}
+use Rattle.trace_judge.proofs.Naming.{item_named}
+use Rattle.dover_model.specs.Settled.{last_of}
+use Rattle.dover_model.specs.Session.{refused_of_item}
 
 -- ---- the line alone
-
--- the text of a release names its job
-release_item : (n : ℕ) (j : JobFacts) → HasForm (StepLine (Release n j))
-    → item_of (text_of (Release n j)) ≡ Some (JobItem j)
-release_item n j form = (read_IsRead (text_of (Release n j)) (StepLine (Release n j))
-    (text_read (StepLine (Release n j)) form)).item
 
 -- where the text of a release continues a trace, the job may be released, under the next number
 pub release_only : (r : Reading) (ls : List (List ℕ)) (S : Session) (z : State) → Goes r ls S z z
@@ -57,7 +54,8 @@ pub release_only : (r : Reading) (ls : List (List ℕ)) (S : Session) (z : State
     → (n ≡ r.course.jobs) × (y : State) × MayRelease S r.floor z j y
 release_only r ls S z goes n j form passes =
     let it : (text_of (Release n j) ≡ release_text S j) × (y : State) × MayRelease S r.floor z j y =
-    only_release ls S r.floor z goes.sees (text_of (Release n j)) passes j (release_item n j form) in
+    only_release ls S r.floor z goes.sees (text_of (Release n j)) passes j
+    (item_named S (StepLine (Release n j)) (JobItem j) form refl) in
     let admitted : Admitted S.rules.ratio (admitted_jobs S.items) j =
     not_refused S.rules.ratio (admitted_jobs S.items) j it.2.admitted in
     let few : length (admitted_jobs S.items) < 1_000_000 = admitted.count in
@@ -103,9 +101,12 @@ room_release r j ls ready spare room can = record {
       ratio = can.waited.goes.ratio;
       items = can.waited.goes.items;
       steps = can.waited.goes.steps;
+      refused = can.waited.goes.refused;
+      last = can.waited.goes.last;
     };
     no_fall = can.waited.no_fall;
     low = can.waited.low;
+    there = can.waited.there;
     waits = can.waited.waits;
   };
   may = can.may;
@@ -192,6 +193,7 @@ module _ (r : Reading) (j : JobFacts) (room : ℕ) (ls : List (List ℕ)) (can :
           steps;
       spare = spare;
       room = steps_room;
+      last = j.release;
     }
 
     -- it is kept of the lines with its text
@@ -217,6 +219,10 @@ module _ (r : Reading) (j : JobFacts) (room : ℕ) (ls : List (List ℕ)) (can :
               (Release r.course.jobs j) can.waited.goes.steps
               ∙ ap (λ m. kept_steps r.keep (printed_of can.waited.goes.sees.steps ++ Release m j ∷ [])) next_number
               ∙ ap (kept_steps r.keep) (sym text.1);
+          refused = can.waited.goes.refused
+              ∙ ap length (sym (filter_map-append refused_of_item S.items (JobItem j ∷ [])
+              ∙ append-nil (filter_map refused_of_item S.items)));
+          last = sym (last_more (printed_of can.waited.goes.sees.steps) (Release n j)) ∙ ap last_of (sym text.1);
         }
 
     -- so the trace goes on
@@ -266,6 +272,7 @@ module _ (r w : Reading) (same : r ≡ w) (old : IsReader r) (going_w : w.stage 
     spare = spare;
     room =
         steps_room;
+    last = f;
   }
 
   -- the steps, by the next number

@@ -1,22 +1,21 @@
 -- What follows from what the lines of a trace so far have come to.
 use Rattle.std.proofs.Common.{◌≡◌, ℕ, ◌+◌, ◌-◌, List, ◌++◌, ap, ◌∙◌, subst, arith, ◌∷◌, length, map, refl, sym, Bool}
 use Rattle.std.proofs.Common.{[], true, false, cond}
-use Rattle.std.specs.Prelude.{Some, slice_get, filter_map}
+use Rattle.std.specs.Prelude.{Some, slice_get}
 use Rattle.std.specs.List.{AllByRecursion}
 use Rattle.std.proofs.lemmas.List.Elements.{filter_map-append}
 use Rattle.std.specs.Option.{option_map, option_map_or, option_and_then}
 use Rattle.std.proofs.lemmas.List.{append_assoc, map-append, length-map}
-use Rattle.dover_model.specs.Instance.{Instance}
+use Rattle.dover_model.specs.Instance.{Instance, IsValid}
 use Rattle.dover_model.specs.State.{State, opening}
 use Rattle.dover_model.specs.Run.{Step, printed_of, printed, run, last_deadline}
 use Rattle.dover_model.specs.Sound.{Keeps}
 use Rattle.dover_model.specs.WholeRun.{IsWholeRun, Begins}
 use Rattle.dover_model.specs.Session.{Session, instance_of, admitted_jobs, IsValidSession, new_session}
-use Rattle.dover_model.specs.Taken.{two_versions, is_taken}
 use Rattle.dover_model.specs.Trace.{lines_among, texts_among, Printed, text_of_line, places_of, trace_lines}
 use Rattle.dover_model.specs.Verdict.{named_session, named_behind, Step as Due, Nothing, begins_trace, ends_with_end}
 use Rattle.dover_model.specs.Verdict.{refused_count, step_after, expected_after}
-use Rattle.dover_model.proofs.Kept.{opening_keeps}
+use Rattle.dover_model.proofs.Kept.{opening_keeps, open_kept}
 use Rattle.dover_model.proofs.Ending.{potential, Ends, ends, run_is_whole}
 use Rattle.dover_model.proofs.RunLaws.{one_run}
 use Rattle.dover_model.proofs.Valid.{all_front}
@@ -25,27 +24,42 @@ use Rattle.dover_model.proofs.Growing.{all_lines, LinesName, begins_more}
 use Rattle.dover_model.proofs.TraceLines.{HasShortNumbers}
 use Rattle.dover_model.proofs.ShortNumbers.{lines_short}
 use Rattle.dover_model.proofs.Named.{lines_name, header_names, texts_name, beginnings_pass}
-use Rattle.dover_model.specs.Leading.{Leads, PrintsNext}
+use Rattle.dover_model.specs.Leading.{Leads, Passes, PrintsNext}
+use Rattle.dover_model.specs.Step.{open_step, after}
 use Rattle.dover_model.proofs.Leading.{leads_passes, passes_keeps, leads_whole, prints_first}
 use Rattle.dover_model.specs.declared.events.Event.{Event}
 use Rattle.dover_model.specs.Text.{header, text_of}
 use Rattle.dover_model.proofs.Members.{some_same}
 use Rattle.dover_model.proofs.Beginnings.{begins_behind, begins_map}
-use Rattle.dover_model.proofs.Readiness.{plain_ready}
+use Rattle.dover_model.proofs.Readiness.{IsReady, opening_ready, open_ready}
 use Rattle.dover_model.proofs.WrongStays.{after_end_fails}
 use Rattle.dover_model.proofs.Tests.{never}
 use Rattle.trace_judge.specs.Reading.{Sees}
-use Rattle.trace_judge.proofs.Plainly.{no_finishes}
 use Rattle.trace_judge.proofs.Counts.{length-lines, get_behind}
 use Rattle.dover_model.proofs.Waiting.{next_exists}
 
-module _ (S : Session) (version : is_taken two_versions S.rules.version ≡ true) (valid : IsValidSession S) (floor : ℕ)
+-- steps that pass leave no job that waits or is held at a finish
+pub passes_ready : (J : Instance) → IsValid J → (mark : ℕ) (xs : List Step) (s z : State) → Keeps J s
+    → IsReady J.rules.finishes s → Passes J.rules mark s xs z → IsReady J.rules.finishes z
+passes_ready J valid mark [] s z keeps ready passes = subst (IsReady J.rules.finishes) passes ready
+passes_ready J valid mark (x ∷ xs) s z keeps ready passes =
+    passes_ready J valid mark xs (after s (open_step J.rules s)) z (open_kept J valid s keeps J.rules)
+    (open_ready J valid s keeps J.rules ready) passes.2
+
+module _ (S : Session) (valid : IsValidSession S) (floor : ℕ)
     (z : State) (steps : List Step)
     (leads : Leads (instance_of S).rules floor (opening (admitted_jobs S.items)) steps z) where
   -- the state is a sound one of the jobs
   pub led_keeps : Keeps (instance_of S) z
-  led_keeps = passes_keeps (instance_of S) valid.jobs (instance_of S).rules floor steps (opening (admitted_jobs S.items)) z
+  led_keeps = passes_keeps (instance_of S) valid.jobs (instance_of S).rules floor steps
+      (opening (admitted_jobs S.items)) z
       (opening_keeps (instance_of S))
+      (leads_passes (instance_of S).rules floor steps (opening (admitted_jobs S.items)) z leads)
+
+  -- no job that waits or is held has come to a finish
+  pub led_ready : IsReady (instance_of S).rules.finishes z
+  led_ready = passes_ready (instance_of S) valid.jobs floor steps (opening (admitted_jobs S.items)) z
+      (opening_keeps (instance_of S)) (opening_ready (instance_of S).rules.finishes (admitted_jobs S.items))
       (leads_passes (instance_of S).rules floor steps (opening (admitted_jobs S.items)) z leads)
 
   -- the rest of the run
@@ -55,11 +69,13 @@ module _ (S : Session) (version : is_taken two_versions S.rules.version ≡ true
       let J : Instance = instance_of S in
       let it : Ends (instance_of S).rules z (potential J.rules.finishes (last_deadline J.jobs) z + 1) =
       ends J valid.jobs (instance_of S).rules (potential J.rules.finishes (last_deadline J.jobs) z) z led_keeps
-      (plain_ready J.rules.finishes z (omega (arith, ap length (no_finishes S version valid)))) (omega arith) in (
+      led_ready (omega arith) in (
         it.0,
         it.1,
-        ap printed_of (one_run (instance_of S).rules (opening J.jobs) (run J) (steps ++ it.0) (run_is_whole J valid.jobs)
-            (leads_whole J valid.jobs (instance_of S).rules floor steps it.0 (opening J.jobs) z (opening_keeps J) leads it.1))
+        ap printed_of
+            (one_run (instance_of S).rules (opening J.jobs) (run J) (steps ++ it.0) (run_is_whole J valid.jobs)
+            (leads_whole J valid.jobs (instance_of S).rules floor steps it.0 (opening J.jobs) z (opening_keeps J)
+            leads it.1))
             ∙ filter_map-append _ steps it.0,
       )
 
@@ -77,7 +93,8 @@ module _ (S : Session) (version : is_taken two_versions S.rules.version ≡ true
     pub led_named : LinesName (lines_among S (printed_of steps)) S
         → named_session (texts_among S (printed_of steps)) ≡ Some S
     led_named names =
-        lines_name two_versions S.rules (lines_among S (printed_of steps)) S.items version valid.jobs.ratio led_short names
+        lines_name S.rules (lines_among S (printed_of steps)) S.items valid.jobs.ratio led_short
+        names
 
 module _ (ls : List (List ℕ)) (S : Session) (floor : ℕ) (z : State) (sees : Sees ls S floor z) where
   -- the jobs of the session
@@ -90,33 +107,37 @@ module _ (ls : List (List ℕ)) (S : Session) (floor : ℕ) (z : State) (sees : 
 
   -- the state is a sound one of the jobs
   pub sees_keeps : Keeps J z
-  sees_keeps = led_keeps S sees.version sees.valid floor z sees.steps sees.leads
+  sees_keeps = led_keeps S sees.valid floor z sees.steps sees.leads
+
+  -- no job that waits or is held has come to a finish
+  pub sees_ready : IsReady J.rules.finishes z
+  sees_ready = led_ready S sees.valid floor z sees.steps sees.leads
 
   -- the rest of the run
   pub sees_rest : (ys : List Step) × IsWholeRun (instance_of S).rules z ys × (printed J ≡ so_far ++ printed_of ys)
-  sees_rest = led_rest S sees.version sees.valid floor z sees.steps sees.leads
+  sees_rest = led_rest S sees.valid floor z sees.steps sees.leads
 
   -- the lines begin those of the session's trace
   pub sees_lines : Begins (lines_among S so_far) (all_lines S)
-  sees_lines = led_lines S sees.version sees.valid floor z sees.steps sees.leads sees.within
+  sees_lines = led_lines S sees.valid floor z sees.steps sees.leads sees.within
 
   -- so they begin a trace
   pub sees_begins : begins_trace ls ≡ true
   sees_begins = subst (λ xs. begins_trace xs ≡ true) (sym sees.lines)
-      (beginnings_pass two_versions S (texts_among S so_far) sees.version sees.valid
+      (beginnings_pass S (texts_among S so_far) sees.valid
       (begins_behind (header S.rules ∷ []) (map text_of_line (lines_among S so_far)) (map text_of_line (all_lines S))
       (begins_map text_of_line (lines_among S so_far) (all_lines S) sees_lines)))
 
   -- they have short numbers
   pub sees_short : AllByRecursion HasShortNumbers (lines_among S so_far)
-  sees_short = led_short S sees.version sees.valid floor z sees.steps sees.leads sees.within
+  sees_short = led_short S sees.valid floor z sees.steps sees.leads sees.within
 
   -- they name the items
   pub sees_names : LinesName (lines_among S so_far) S
   sees_names = sym (texts_name (new_session S.rules) (lines_among S so_far) sees_short)
       ∙ some_same _ _ (ap (option_map
       (λ r. named_behind (new_session r) (map text_of_line (lines_among S so_far))))
-      (sym (header_names two_versions S.rules sees.version sees.valid.jobs.ratio)) ∙ ap named_session (sym sees.lines)
+      (sym (header_names S.rules sees.valid.jobs.ratio)) ∙ ap named_session (sym sees.lines)
       ∙ sees.named)
 
   module _ (e : Event) (y : State) (next : PrintsNext (instance_of S).rules z e y) where
@@ -124,7 +145,8 @@ module _ (ls : List (List ℕ)) (S : Session) (floor : ℕ) (z : State) (sees : 
     pub sees_next : (more : List Event) × (printed J ≡ so_far ++ e ∷ more)
     sees_next =
         let it : (more : List Event) × (printed_of sees_rest.0 ≡ e ∷ more) =
-        prints_first J sees.valid.jobs (instance_of S).rules next.steps sees_rest.0 z y e sees_keeps next.idles next.prints
+        prints_first J sees.valid.jobs (instance_of S).rules next.steps sees_rest.0 z y e sees_keeps next.idles
+        next.prints
         sees_rest.1 in
         (it.0, sees_rest.2 ∙ ap (λ es. so_far ++ es) it.1)
 
@@ -142,14 +164,14 @@ module _ (ls : List (List ℕ)) (S : Session) (floor : ℕ) (z : State) (sees : 
 
     -- with it the lines begin a trace
     pub next_begins : begins_trace (ls ++ text_of e ∷ []) ≡ true
-    next_begins = beginnings_pass two_versions S (ls ++ text_of e ∷ []) sees.version sees.valid
+    next_begins = beginnings_pass S (ls ++ text_of e ∷ []) sees.valid
         (sees_next_text.0, sees_next_text.1 ∙ sym (append_assoc ls (text_of e ∷ []) sees_next_text.0))
 
     -- so the trace has not ended
     pub sees_goes_on : ends_with_end ls ≡ false
     sees_goes_on = by_end (ends_with_end ls) refl where
       by_end : (b : Bool) → ends_with_end ls ≡ b → ends_with_end ls ≡ false
-      by_end true ended = never (sym (after_end_fails two_versions ls (text_of e) ended) ∙ next_begins)
+      by_end true ended = never (sym (after_end_fails ls (text_of e) ended) ∙ next_begins)
       by_end false on = on
 
     -- the step that is due is that one
@@ -174,7 +196,8 @@ module _ (ls : List (List ℕ)) (S : Session) (floor : ℕ) (z : State) (sees : 
 pub sees_some_next : (ls : List (List ℕ)) (S : Session) (floor : ℕ) (z : State) → Sees ls S floor z → (e : Event)
     × (y : State) × PrintsNext (instance_of S).rules z e y
 sees_some_next ls S floor z sees =
-    next_exists (instance_of S) sees.valid.jobs (instance_of S).rules (sees_rest ls S floor z sees).0 z (sees_keeps ls S floor z sees)
+    next_exists (instance_of S) sees.valid.jobs (instance_of S).rules (sees_rest ls S floor z sees).0 z
+    (sees_keeps ls S floor z sees)
     (sees_rest ls S floor z sees).1
 
 -- lines whose steps lead to a state have not ended

@@ -11,7 +11,7 @@ use Rattle.trace_judge.proofs.Judging.{named_more}
 pub costs_few : (j : Judged) (text : List ℕ) (start now : ℕ) → HasPaidFor j text start now
     → CostsAtMost (jobs_named text) start now
 costs_few j text start now it = few_more j.reader.course.jobs (jobs_named text) start now it.few
-    (paid_jobs j.reader.course start now it.paid)
+    (paid_jobs j.reader.course start now it.paid.paid)
 
 -- bytes that cost nothing
 pub pays_none : (j : Judged) (piece : List ℕ) (now : ℕ) → PaysFor j j piece now now

@@ -8,27 +8,29 @@ use Rattle.dover_model.specs.Fraction.{Fraction, IsRatio}
 use Rattle.dover_model.specs.declared.events.Event.{Event}
 use Rattle.dover_model.specs.declared.events.Event.TheVariants.{Release, Run, Preempt, Take, Complete, Abandon, End}
 use Rattle.dover_model.specs.declared.events.Version.{Version}
-use Rattle.dover_model.specs.Instance.{Rules, Declaration, declared_by, Instance}
-use Rattle.dover_model.specs.Taken.{two_versions, is_taken}
+use Rattle.dover_model.specs.Instance.{Rules, Declaration, declared_by, Instance, IsValid}
 use Rattle.dover_model.specs.State.{State, opening, is_done, value_sum}
-use Rattle.dover_model.specs.Step.{Prints, step, after}
+use Rattle.dover_model.specs.Step.{Prints, step, open_step, after}
 use Rattle.dover_model.specs.Run.{Step, is_end, printed, printed_of}
-use Rattle.dover_model.specs.Settled.{waits_for_mark}
+use Rattle.dover_model.specs.Settled.{waits_for_mark, last_of, tick_of_event}
+use Rattle.dover_model.specs.Sound.{Keeps}
+use Rattle.dover_model.proofs.LastSteps.{prints_clock}
+use Rattle.dover_model.proofs.Kept.{open_deed}
+use Rattle.dover_model.proofs.Prefixes.{step_open}
+use Rattle.std.proofs.lemmas.List.Sums.{fold-append}
 use Rattle.dover_model.specs.Session.{Session, instance_of, new_session}
 use Rattle.dover_model.specs.Text.{header, text_of, version_number}
-use Rattle.dover_model.specs.Verdict.{item_of, begins_trace, version_of_number}
+use Rattle.dover_model.specs.Verdict.{begins_trace, named_item, version_of_number}
 use Rattle.dover_model.proofs.TraceLines.{version_back, version_from}
 use Rattle.dover_model.proofs.Ending.{end_over, few_printed}
 use Rattle.dover_model.proofs.NoFeeds.{header_short}
 use Rattle.dover_model.proofs.Tests.{never}
-use Rattle.trace_format.specs.declared.lines.TraceLine.{TraceLine}
 use Rattle.trace_format.specs.declared.lines.TraceLine.TheVariants.{Header, Step as StepLine}
-use Rattle.trace_format.specs.Form.{HasForm, item_in, trace_text}
-use Rattle.trace_format.proofs.Spelled.{text_read, read_IsRead}
+use Rattle.trace_format.specs.Form.{HasForm, trace_text}
 use Rattle.admission.specs.Kept as admission
-use Rattle.dover_model.specs.Leading.{Idles, WaitsUntil, PrintsNext, floor_after}
+use Rattle.dover_model.specs.Leading.{Idles, GoesOn, WaitsUntil, PrintsNext, floor_after}
 use Rattle.trace_judge.specs.Reading.{Sees}
-use Rattle.dover_model.proofs.Leading.{idles_append, idles_settles, settles_append, settles_or_prints}
+use Rattle.dover_model.proofs.Leading.{idles_append, idles_settles, settles_append, settles_or_prints, prints_goes_on}
 use Rattle.trace_judge.proofs.Seeing.{sees_next}
 use Rattle.trace_judge.proofs.Continuing.{sees_step, sees_step_prints, sees_header, sees_header_prints}
 use Rattle.trace_judge.proofs.Finishing.{ended_run, ended_trace, ended_value}
@@ -36,11 +38,11 @@ use Rattle.trace_judge.proofs.Only.{only_headers, only_step}
 use Rattle.trace_judge.specs.declared.stage.Stage.TheVariants.{Opening, Going, Ended}
 use Rattle.ready_jobs.specs.Course.{Course, Follows, Settled, GoesOnFrom}
 use Rattle.trace_judge.specs.Reads.{Reading, Opens, Goes, Ends, ReadsAhead, Reads, StaysAhead, HasSpare, IsReader}
-use Rattle.trace_judge.specs.Reads.{kept_steps, Took, Waited, at_tick}
+use Rattle.trace_judge.specs.Reads.{kept_steps, Took, Followed, Waited, at_tick}
 use Rattle.ready_jobs.proofs.Courses.{new_follows, follows_count}
 use Rattle.trace_judge.proofs.Forms.{one_form, next_form}
 use Rattle.trace_judge.proofs.Readings.{goes_of, ahead_of, here_of, reads_of, opens_of, reads_ahead, next_goes}
-use Rattle.trace_judge.proofs.Readings.{spare_stays}
+use Rattle.trace_judge.proofs.Readings.{spare_stays, next_ahead}
 
 -- ---- silent steps up to a tick
 
@@ -72,6 +74,8 @@ module _ (r w : Reading) (same : r ≡ w) (d : Course) (tick : ℕ) (o : Option 
         ratio = goes.ratio;
         items = goes.items;
         steps = goes.steps;
+        refused = goes.refused;
+        last = goes.last;
       }
 
   -- they stay kept
@@ -83,8 +87,8 @@ module _ (r w : Reading) (same : r ≡ w) (d : Course) (tick : ℕ) (o : Option 
       (settled_goes ls old.0 old.1 old.2 old.3)
 
   -- nothing was printed
-  pub settled_yes : o ≡ None → r.floor ≤ tick → r.course.clock ≤ tick → (ls : List (List ℕ)) (S : Session) (z y : State)
-      → Goes w ls S z y
+  pub settled_yes : o ≡ None → r.floor ≤ tick → r.course.clock ≤ tick
+      → (ls : List (List ℕ)) (S : Session) (z y : State) → Goes w ls S z y
       → (x : State) × Waited (record r { course = d }) tick ls S z x
   settled_yes none floor clock ls S z y goes_w =
       let goes : Goes r ls S z y = subst (λ v. Goes v ls S z y) (sym same) goes_w in
@@ -104,10 +108,14 @@ module _ (r w : Reading) (same : r ≡ w) (d : Course) (tick : ℕ) (o : Option 
             ratio = goes.ratio;
             items = goes.items;
             steps = goes.steps;
+            refused = goes.refused;
+            last = goes.last;
           };
           no_fall = floor;
           low = low;
-          waits = wait_behind (instance_of S).rules tick goes.idles.0 z y (at_tick tick it.state.tasks) goes.idles.1 at it.comes;
+          there = it.comes.1;
+          waits = wait_behind (instance_of S).rules tick goes.idles.0 z y (at_tick tick it.state.tasks) goes.idles.1
+              at it.comes.0;
         },
       )
 
@@ -150,22 +158,19 @@ is_something (Some e) b test is = (e, refl)
 header_only : (v p q : ℕ) → HasForm (Header v p q) → begins_trace (trace_text (Header v p q) ∷ []) ≡ true
     → (rules : Declaration) × IsRatio rules.ratio
     × (Header v p q ≡ Header (version_number rules.version) rules.ratio.p rules.ratio.q)
-    × (is_taken two_versions rules.version ≡ true)
 header_only v p q form passes =
-    let it : (rules : Declaration) × IsRatio rules.ratio × (trace_text (Header v p q) ≡ header rules)
-    × (is_taken two_versions rules.version ≡ true) =
+    let it : (rules : Declaration) × IsRatio rules.ratio × (trace_text (Header v p q) ≡ header rules) =
     only_headers (trace_text (Header v p q)) passes in (
       it.0,
       it.1,
       one_form (Header v p q) (Header (version_number it.0.version) it.0.ratio.p it.0.ratio.q) form
           (header_short it.0 it.1) it.2,
-      it.3,
     )
 
 module _ (r : Reading) (opening_stage : r.stage ≡ Opening) (v p q : ℕ) (form : HasForm (Header v p q)) where
   -- a header that isn't one of a trace
-  not_header : ((rules : Declaration) → IsRatio rules.ratio → is_taken two_versions rules.version ≡ true
-      → Header v p q ≡ Header (version_number rules.version) rules.ratio.p rules.ratio.q → ⊥)
+  not_header : ((rules : Declaration) → IsRatio rules.ratio → Header v p q
+      ≡ Header (version_number rules.version) rules.ratio.p rules.ratio.q → ⊥)
       → Took r r (trace_text (Header v p q)) false
   not_header none = record {
     yes = λ e. absurd (let clash : false ≡ true = e in cc);
@@ -174,23 +179,24 @@ module _ (r : Reading) (opening_stage : r.stage ≡ Opening) (v p q : ℕ) (form
           let opens : Opens r ls = opens_of r ls opening_stage (reads_ahead r ls reads) in
           let it = header_only v p q form
           (subst (λ xs. begins_trace (xs ++ trace_text (Header v p q) ∷ []) ≡ true) opens.lines passes) in
-          none it.0 it.1 it.3 it.2),
+          none it.0 it.1 it.2),
       reads_ahead r ls reads,
     );
   }
 
   -- its number is no version
   pub no_version : version_of_number v ≡ None → Took r r (trace_text (Header v p q)) false
-  no_version none = not_header (λ rules ratio taken same.
+  no_version none = not_header (λ rules ratio same.
       let number : v ≡ version_number rules.version = numbers same in
-      let clash : None ≡ Some rules.version = sym none ∙ ap version_of_number number ∙ version_back two_versions rules.version taken in
+      let clash : None ≡ Some rules.version = sym none ∙ ap version_of_number number
+      ∙ version_back rules.version in
       cc) where
         numbers : {a b c d e f : ℕ} → Header a b c ≡ Header d e f → a ≡ d
         numbers e = cc
 
   -- its ratio is none
   pub no_ratio : (IsRatio (record { p = p; q = q }) → ⊥) → Took r r (trace_text (Header v p q)) false
-  no_ratio none = not_header (λ rules ratio taken same. none (subst IsRatio (sym (fraction same)) ratio)) where
+  no_ratio none = not_header (λ rules ratio same. none (subst IsRatio (sym (fraction same)) ratio)) where
     fraction : {a b c d e f : ℕ} → Header a b c ≡ Header d e f
         → ◌≡◌ {A = Fraction} (record { p = b; q = c }) (record { p = e; q = f })
     fraction {b} {c} {e} {f} same = let one : b ≡ e = cc in let two : c ≡ f = cc in
@@ -210,13 +216,9 @@ module _ (r : Reading) (opening_stage : r.stage ≡ Opening) (v p q : ℕ) (form
     abbrev opened : Reading
     opened = record r { stage = Going; course = d; kept = kept }
 
-    -- its version is taken
-    taken : is_taken two_versions rules.version ≡ true
-    taken = (version_from two_versions v version is_version).1
-
     -- the text is that of the rules
     text_is : trace_text (Header v p q) ≡ header rules
-    text_is = ap (λ n. trace_text (Header n p q)) (sym (version_from two_versions v version is_version).0)
+    text_is = ap (λ n. trace_text (Header n p q)) (sym (version_from v version is_version))
         ∙ ap (λ (k : Fraction). trace_text (Header (version_number version) k.p k.q)) (sym is_ratio.0)
 
     -- the header is kept
@@ -231,7 +233,7 @@ module _ (r : Reading) (opening_stage : r.stage ≡ Opening) (v p q : ℕ) (form
         subst (λ xs. (s : Sees xs (new_session rules) r.floor (opening [])) × (printed_of s.steps ≡ [])) lines
         (subst (λ n. (s : Sees (header rules ∷ []) (new_session rules) n (opening [])) × (printed_of s.steps ≡ []))
         floor
-        (sees_header rules taken is_ratio.1, sees_header_prints rules taken is_ratio.1)) in
+        (sees_header rules is_ratio.1, sees_header_prints rules is_ratio.1)) in
         record {
           sees = sees.0;
           idles = ([], refl);
@@ -242,6 +244,8 @@ module _ (r : Reading) (opening_stage : r.stage ≡ Opening) (v p q : ℕ) (form
           ratio = kept_ratio;
           items = opens.items;
           steps = opens.steps ∙ sym (no_steps r.keep) ∙ ap (kept_steps r.keep) (sym sees.1);
+          refused = opens.refused;
+          last = opens.last ∙ ap last_of (sym sees.1);
         } where
           no_steps : (b : Bool) → kept_steps b [] ≡ []
           no_steps true = refl
@@ -278,10 +282,6 @@ module _ (r : Reading) (opening_stage : r.stage ≡ Opening) (v p q : ℕ) (form
 
 -- ---- a printed step
 
--- the text of a line that names no item names none
-pub text_item : (x : TraceLine) → HasForm x → item_in x ≡ None → item_of (trace_text x) ≡ None
-text_item x form none = (read_IsRead (trace_text x) x (text_read x form)).item ∙ none
-
 -- the steps that are kept, with one more
 pub kept_more : (b : Bool) (es kept : List Event) (e : Event) → kept ≡ kept_steps b es
     → cond b (kept ++ e ∷ []) kept ≡ kept_steps b (es ++ e ∷ [])
@@ -303,6 +303,10 @@ end_is (Take at stops starts) is = never is
 end_is (Complete at n) is = never is
 end_is (Abandon at n) is = never is
 
+-- the tick of the last of steps, with one more
+pub last_more : (es : List Event) (e : Event) → last_of (es ++ e ∷ []) ≡ tick_of_event e
+last_more es e = fold-append (λ tick e. tick_of_event e) 0 es (e ∷ [])
+
 -- the floor after an event, as it is computed
 floor_is : (z : State) (e : Event) (clock : ℕ) → clock ≡ z.clock
     → cond (waits_for_mark (Prints e)) (clock + 1) clock ≡ floor_after z e
@@ -310,6 +314,14 @@ floor_is z e clock at = by_late (waits_for_mark (Prints e)) where
   by_late : (b : Bool) → cond b (clock + 1) clock ≡ cond b (suc z.clock) z.clock
   by_late true = omega arith
   by_late false = at
+
+-- a printed step is one of the clock's tick
+next_tick : (J : Instance) → IsValid J → (x : State) (e : Event) → Keeps J x → step J.rules x ≡ Prints e
+    → is_end (Prints e) ≡ false → tick_of_event e ≡ x.clock
+next_tick J valid x e keeps prints more =
+    let on : GoesOn x = prints_goes_on J valid J.rules x e keeps prints more in
+    prints_clock J.rules.ratio x (open_step J.rules x) (open_deed J valid x keeps J.rules) e
+    (sym (step_open J.rules x on) ∙ prints)
 
 module _ (r w : Reading) (same : r ≡ w) (going_w : w.stage ≡ Going) (d : Course) (due : Event)
     (next : (J : Instance) (z : State) → Follows r.course J z → (y : State) × Follows d J y
@@ -339,33 +351,29 @@ module _ (r w : Reading) (same : r ≡ w) (going_w : w.stage ≡ Going) (d : Cou
 
   module _ (event : Event) (form : HasForm (StepLine event)) where
     -- another step
-    pub not_due : item_in (StepLine event) ≡ None → (due ≡ event → ⊥)
-        → Took w (record r { course = d }) (text_of event) false
-    not_due none differs = record {
+    pub not_due : (due ≡ event → ⊥) → Followed w (record r { course = d }) event false
+    not_due differs = record {
       yes = λ e. absurd (let clash : false ≡ true = e in cc);
-      no = λ _ ls reads.
-          let here : (S : Session) × (z : State) × Goes r ls S z z =
-          here_of r ls going (subst (λ v. Reads v ls) (sym same) reads) in
-          let new = next_goes r d due going next ls here.0 here.1 here.1 here.2 in (
-            false_from_ne_true _ (λ passes.
-                let text : text_of event ≡ text_of due =
-                only_step ls here.0 r.floor here.1 here.2.sees (text_of event) passes due new.0 new.2
-                (text_item (StepLine event) form none) in
-                let lines : StepLine event ≡ StepLine due = one_form (StepLine event) (StepLine due) form
-                (next_form ls here.0 r.floor here.1 here.2.sees due new.0 new.2) text in
-                differs (let e : due ≡ event = cc in e)),
-            ahead_of (record r { course = d }) ls going here.0 here.1 new.0 new.1,
-          );
+      no = λ _ ls S z y goes_w none.
+          let goes : Goes r ls S z y = subst (λ v. Goes v ls S z y) (sym same) goes_w in
+          let new = next_goes r d due going next ls S z y goes in
+          false_from_ne_true _ (λ passes.
+          let text : text_of event ≡ text_of due =
+          only_step ls S r.floor z goes.sees (text_of event) passes due new.0 new.2 none in
+          let lines : StepLine event ≡ StepLine due = one_form (StepLine event) (StepLine due) form
+          (next_form ls S r.floor z goes.sees due new.0 new.2) text in
+          differs (let e : due ≡ event = cc in e));
+      ahead = λ _ ls reads. next_ahead r d due going next ls (subst (λ v. ReadsAhead v ls) (sym same) reads);
     }
 
     module _ (is_event : due ≡ event) (steps : List Event) (room : ℕ)
         (kept : steps ≡ cond r.keep (r.steps ++ due ∷ []) r.steps)
         (same_room : room ≡ r.room) where
       -- the end
-      module _ (last : is_end (Prints due) ≡ true) where
+      module _ (last : is_end (Prints due) ≡ true) (clock : ℕ) where
         -- the reading at the end
         abbrev ended : Reading
-        ended = record r { stage = Ended; course = d; steps = steps; room = room }
+        ended = record r { stage = Ended; course = d; steps = steps; room = room; last = clock }
 
         -- the trace is whole
         ended_ends : (ls : List (List ℕ)) (S : Session) (z y : State) → Goes r ls S z y
@@ -374,20 +382,20 @@ module _ (r w : Reading) (same : r ≡ w) (going_w : w.stage ≡ Going) (d : Cou
             let new = next_goes r d due going next ls S z y goes in
             let J : Instance = instance_of S in
             let v : (n : ℕ) × (due ≡ End n) = end_is due last in
-            let next_end : PrintsNext (instance_of S).rules z (End v.0) new.0 = subst (λ e. PrintsNext (instance_of S).rules z e new.0) v.1 new.2 in
+            let next_end : PrintsNext (instance_of S).rules z (End v.0) new.0 = subst
+            (λ e. PrintsNext (instance_of S).rules z e new.0) v.1 new.2 in
             let over : step J.rules new.0 ≡ Prints (End (value_sum (filter is_done new.0.tasks))) =
             (end_over J goes.sees.valid.jobs new.0 new.1.follows.keeps J.rules (ap is_end new.2.prints ∙ last)).0 in
             let value : v.0 ≡ d.done =
             ends_same v.0 (value_sum (filter is_done new.0.tasks)) (sym next_end.prints ∙ over) ∙ new.1.follows.done in
             record {
-              version = goes.sees.version;
               valid = goes.sees.valid;
               lines = ap (λ e. ls ++ text_of e ∷ []) (sym is_event ∙ v.1)
                   ∙ ended_trace ls S r.floor z goes.sees v.0 new.0 next_end;
               rules = ap (λ (k : Rules). declared_by k) new.1.follows.rules;
               value = ended_value ls S r.floor z goes.sees v.0 new.0 next_end ∙ value;
               jobs = sym (follows_count d J new.0 new.1.follows);
-              items = goes.items;
+              refused = goes.refused;
               steps = kept ∙ kept_more r.keep (printed_of goes.sees.steps) r.steps due goes.steps
                   ∙ ap (λ e. kept_steps r.keep (printed_of goes.sees.steps ++ e ∷ [])) v.1
                   ∙ ap (kept_steps r.keep) (sym (ended_run ls S r.floor z goes.sees v.0 new.0 next_end));
@@ -396,13 +404,14 @@ module _ (r w : Reading) (same : r ≡ w) (going_w : w.stage ≡ Going) (d : Cou
               ends_same m n e = cc
 
         -- it goes on so
-        pub ended_took : Took w ended (text_of event) true
+        pub ended_took : Followed w ended event true
         ended_took = record {
           yes = λ _ ls reads.
-              let here : (S : Session) × (z : State) × Goes r ls S z z =
-              here_of r ls going (subst (λ v. Reads v ls) (sym same) reads) in
-              (here.0, ended_ends ls here.0 here.1 here.1 here.2);
+              let here : (S : Session) × (z : State) × (y : State) × Goes r ls S z y =
+              goes_of r ls going (subst (λ v. ReadsAhead v ls) (sym same) reads) in
+              (here.0, ended_ends ls here.0 here.1 here.2 here.3);
           no = λ e. absurd (let clash : true ≡ false = e in cc);
+          ahead = λ e. absurd (let clash : true ≡ false = e in cc);
         }
 
         -- what is kept at the end
@@ -430,7 +439,7 @@ module _ (r w : Reading) (same : r ≡ w) (going_w : w.stage ≡ Going) (d : Cou
           (floor_at : floor ≡ max r.floor (cond (waits_for_mark (Prints due)) (clock + 1) clock)) where
         -- the reading behind it
         abbrev stepped : Reading
-        stepped = record r { course = d2; floor = floor; steps = steps; room = room }
+        stepped = record r { course = d2; floor = floor; steps = steps; room = room; last = clock }
 
         -- the lines with its text
         stepped_goes : (ls : List (List ℕ)) (S : Session) (z y : State) (goes : Goes r ls S z y)
@@ -459,18 +468,23 @@ module _ (r w : Reading) (same : r ≡ w) (going_w : w.stage ≡ Going) (d : Cou
                 items = goes.items;
                 steps = kept ∙ kept_more r.keep (printed_of goes.sees.steps) r.steps due goes.steps
                     ∙ ap (kept_steps r.keep) (sym sees.1);
+                refused = goes.refused;
+                last = at ∙ sym new.1.follows.clock
+                    ∙ sym (next_tick (instance_of S) goes.sees.valid.jobs x due new.1.follows.keeps new.2.prints more)
+                    ∙ sym (last_more (printed_of goes.sees.steps) due) ∙ ap last_of (sym sees.1);
               },
             )
 
         -- it goes on so
-        pub stepped_took : Took w stepped (text_of event) true
+        pub stepped_took : Followed w stepped event true
         stepped_took = record {
           yes = λ _ ls reads.
-              let here : (S : Session) × (z : State) × Goes r ls S z z =
-              here_of r ls going (subst (λ v. Reads v ls) (sym same) reads) in
-              let new = stepped_goes ls here.0 here.1 here.1 here.2 in
+              let here : (S : Session) × (z : State) × (y : State) × Goes r ls S z y =
+              goes_of r ls going (subst (λ v. ReadsAhead v ls) (sym same) reads) in
+              let new = stepped_goes ls here.0 here.1 here.2 here.3 in
               reads_of stepped (ls ++ text_of event ∷ []) going here.0 (after new.0 (Prints due)) new.1;
           no = λ e. absurd (let clash : true ≡ false = e in cc);
+          ahead = λ e. absurd (let clash : true ≡ false = e in cc);
         }
 
         -- what is kept behind it
@@ -490,3 +504,12 @@ module _ (r w : Reading) (same : r ≡ w) (going_w : w.stage ≡ Going) (d : Cou
               reads = ahead_of stepped (old.lines ++ text_of event ∷ []) going it.0 (after new.0 (Prints due))
                   (after new.0 (Prints due)) new.1;
             }
+
+-- a step whose text names nothing behind any session is taken so
+pub followed_took : (w new : Reading) (e : Event) (good : Bool) → w.stage ≡ Going → Followed w new e good
+    → ((S : Session) → named_item S (text_of e) ≡ None) → Took w new (text_of e) good
+followed_took w new e good going it none = record {
+  yes = λ is ls reads. it.yes is ls (reads_ahead w ls reads);
+  no = λ is ls reads. let here : (S : Session) × (z : State) × Goes w ls S z z = here_of w ls going reads in
+      (it.no is ls here.0 here.1 here.1 here.2 (none here.0), it.ahead is ls (reads_ahead w ls reads));
+}

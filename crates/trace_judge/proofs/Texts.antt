@@ -6,7 +6,6 @@ use Rattle.std.proofs.lemmas.List.{append-nil, take-append-le}
 use Rattle.std.proofs.Math.Seq.{take-length}
 use Rattle.std.specs.Prelude.{nat_lt, ◌&&◌, ◌||◌}
 use Rattle.std.proofs.lemmas.Bool.{and_right}
-use Rattle.dover_model.specs.Taken.{two_versions, is_taken}
 use Rattle.dover_model.specs.Trace.{trace_lines}
 use Rattle.dover_model.specs.Verdict.{begins_trace, first_wrong, rest_counts, text_lines, good_verdict, wrong_verdict}
 use Rattle.dover_model.specs.Verdict.{verdict, Wrong, expected_after, ends_with_end, Accepted, Short, is_empty}
@@ -24,8 +23,9 @@ use Rattle.dover_model.proofs.TraceEnds.{trace_ends}
 pub begun_not_wrong : (ls : List (List ℕ)) → begins_trace ls ≡ true → first_wrong [] ls ≡ None
 begun_not_wrong [] passes = refl
 begun_not_wrong (l ∷ ls) passes =
-    let it : Starts two_versions (l ∷ ls) = begun two_versions l ls passes in
-    none_wrong two_versions [] (l ∷ ls) (λ front begins. beginnings_pass two_versions it.session front it.version it.valid
+    let it : Starts (l ∷ ls) = begun l ls passes in
+    none_wrong [] (l ∷ ls)
+    (λ front begins. beginnings_pass it.session front it.valid
     (begins_onward front (l ∷ ls) (trace_lines it.session) begins it.begins))
 
 -- a text whose lines begin a trace isn't wrong
@@ -41,7 +41,8 @@ pub wrong_text : (T : List ℕ) (ls : List (List ℕ)) (l : List ℕ) → text_l
     → begins_trace (ls ++ l ∷ []) ≡ false → verdict T ≡ Wrong (suc (length ls)) (expected_after ls)
 wrong_text T ls l lines passes fails =
     let first : first_wrong [] (text_lines T) ≡ Some (suc (length ls)) = ap (first_wrong []) lines
-    ∙ wrong_next two_versions [] ls l [] (begun_not_wrong ls passes) ∙ ap (λ b. next_wrong two_versions b ls l []) fails in
+    ∙ wrong_next [] ls l [] (begun_not_wrong ls passes)
+    ∙ ap (λ b. next_wrong b ls l []) fails in
     let before : take (suc (length ls) - 1) (text_lines T) ≡ ls = ap (take (suc (length ls) - 1)) lines
     ∙ take-append-le (suc (length ls) - 1) ls (l ∷ []) (omega arith) ∙ ap (λ n. take n ls) (omega arith)
     ∙ take-length ls in
@@ -66,15 +67,14 @@ wrong_rest T counts passes =
       by_tests : (a b : Bool) → is_too_long (rest_of T) ≡ a → ends_with_end (whole_lines T) ≡ b
           → (a || (nat_lt 0 (length (rest_of T)) && b)) ≡ true
           → begins_trace (whole_lines T ++ rest_of T ∷ []) ≡ false
-      by_tests true b long e h = too_long_fails two_versions (whole_lines T) (rest_of T) long
-      by_tests false true short ended h = after_end_fails two_versions (whole_lines T) (rest_of T) ended
+      by_tests true b long e h = too_long_fails (whole_lines T) (rest_of T) long
+      by_tests false true short ended h = after_end_fails (whole_lines T) (rest_of T) ended
       by_tests false false short goes_on h = never (sym (and_right (nat_lt 0 (length (rest_of T))) false refl) ∙ h)
 
 -- a trace with nothing behind it is accepted
-pub accepted_text : (T : List ℕ) (S : Session) → is_taken two_versions S.rules.version ≡ true → IsValidSession S
-    → whole_lines T ≡ trace_lines S → rest_of T ≡ []
+pub accepted_text : (T : List ℕ) (S : Session) → IsValidSession S → whole_lines T ≡ trace_lines S → rest_of T ≡ []
     → good_verdict T ≡ Accepted S
-accepted_text T S version valid lines empty =
+accepted_text T S valid lines empty =
     ap (λ r. cond (ends_with_end (whole_lines T) && is_empty r)
     (option_map_or Accepted (named_session (whole_lines T)) (Short (length (whole_lines T))))
     (Short (length (whole_lines T)))) empty
@@ -84,7 +84,8 @@ accepted_text T S version valid lines empty =
     (option_map_or Accepted (named_session (trace_lines S)) (Short (length (trace_lines S))))
     (Short (length (trace_lines S))))
     (trace_ends S valid)
-    ∙ ap (λ o. option_map_or Accepted o (Short (length (trace_lines S)))) (trace_names_session two_versions S version valid)
+    ∙ ap (λ o. option_map_or Accepted o (Short (length (trace_lines S))))
+    (trace_names_session S valid)
 
 -- a text that hasn't ended is short
 pub short_text : (T : List ℕ) → ends_with_end (whole_lines T) ≡ false → good_verdict T ≡ Short (length (whole_lines T))

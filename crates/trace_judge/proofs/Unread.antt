@@ -1,5 +1,5 @@
 -- Lines that continue no trace, and lines that continue one have a form.
-use Rattle.std.proofs.Common.{◌≡◌, ℕ, ◌+◌, ◌≤◌, ◌<◌, ◌⊎◌, inl, inr, List, [], ◌∷◌, ◌++◌, length, refl, sym, ap, ◌∙◌}
+use Rattle.std.proofs.Common.{◌≡◌, ℕ, ◌+◌, ◌≤◌, ◌<◌, ◌⊎◌, inl, inr, List, [], ◌∷◌, ◌++◌, length, sym, ap, ◌∙◌}
 use Rattle.std.proofs.Common.{subst, true, false, cond, arith}
 use Rattle.std.proofs.lemmas.Bool.{false_from_ne_true}
 use Rattle.dover_model.specs.Fraction.{IsRatio}
@@ -9,7 +9,12 @@ use Rattle.dover_model.specs.Instance.{Declaration}
 use Rattle.dover_model.specs.State.{State}
 use Rattle.dover_model.specs.Session.{Session, RefusedLine, RefusedJob, RefusedDone, instance_of, admitted_jobs}
 use Rattle.dover_model.specs.Session as lines
-use Rattle.dover_model.specs.Taken.{two_versions, is_taken}
+use Rattle.dover_model.specs.Finishes.{Finish}
+use Rattle.dover_model.specs.Settled.{settled_state}
+use Rattle.dover_model.specs.Sound.{Keeps}
+use Rattle.dover_model.proofs.Growing.{Finishes, finishing_job}
+use Rattle.dover_model.proofs.Barriers.{settled_at_barrier}
+use Rattle.dover_model.proofs.Honest.{numbers_low, count_jobs}
 use Rattle.dover_model.specs.Text.{header, text_of, refused_text, version_number}
 use Rattle.dover_model.specs.Verdict.{item_of, begins_trace, ends_with_end}
 use Rattle.dover_model.proofs.Admitting.{Admitted, not_refused}
@@ -18,10 +23,11 @@ use Rattle.dover_model.proofs.TraceEnds.{trace_ends}
 use Rattle.dover_model.proofs.WrongStays.{after_end_fails}
 use Rattle.trace_format.specs.declared.lines.TraceLine.{TraceLine}
 use Rattle.trace_format.specs.declared.lines.TraceLine.TheVariants.{Header, Step, Refused}
+use Rattle.trace_format.specs.declared.lines.TraceLine.TheVariants as format
 use Rattle.trace_format.specs.Form.{HasForm, item_in, trace_text}
 use Rattle.dover_model.specs.Leading.{PrintsNext}
-use Rattle.trace_judge.specs.Reading.{IsReleaseNext, IsRefusedNext}
-use Rattle.trace_judge.proofs.Plainly.{none_done}
+use Rattle.trace_judge.specs.Reading.{Sees, IsReleaseNext, IsRefusedNext, IsCompletionNext}
+use Rattle.trace_judge.proofs.Naming.{header_named}
 use Rattle.trace_judge.proofs.Only.{only_headers, only_step, continues_only}
 use Rattle.trace_judge.proofs.Seeing.{sees_some_next}
 use Rattle.trace_judge.specs.declared.stage.Stage.{Stage}
@@ -29,12 +35,11 @@ use Rattle.trace_judge.specs.declared.stage.Stage.TheVariants.{Opening, Going, E
 use Rattle.trace_judge.specs.Reads.{Reading, Goes, Ends, Reads, Took, jobs_in, job_lines_in, is_job_item}
 use Rattle.trace_judge.proofs.Forms.{one_form, next_form}
 use Rattle.trace_judge.proofs.Readings.{HereBy, here_of, ends_of, reads_ahead}
-use Rattle.trace_judge.proofs.Taking.{text_item}
 
 -- behind the end no line continues the trace
 ended_fails : (r : Reading) (ls : List (List ℕ)) (S : Session) → Ends r ls S → (l : List ℕ)
     → begins_trace (ls ++ l ∷ []) ≡ false
-ended_fails r ls S ends l = after_end_fails two_versions ls l (ap ends_with_end ends.lines ∙ trace_ends S ends.valid)
+ended_fails r ls S ends l = after_end_fails ls l (ap ends_with_end ends.lines ∙ trace_ends S ends.valid)
 
 -- so each is wrong
 pub ended_took_none : (w : Reading) → w.stage ≡ Ended → (l : List ℕ) → Took w w l false
@@ -57,7 +62,7 @@ header_took_none w going v p q form = record {
             sees_some_next ls here.0 w.floor here.1 here.2.sees in
             let text : trace_text (Header v p q) ≡ text_of next.0 =
             only_step ls here.0 w.floor here.1 here.2.sees (trace_text (Header v p q)) passes next.0 next.1 next.2
-            (text_item (Header v p q) form refl) in
+            (header_named here.0 v p q form) in
             let clash : Header v p q ≡ Step next.0 = one_form (Header v p q) (Step next.0) form
             (next_form ls here.0 w.floor here.1 here.2.sees next.0 next.1 next.2) text in cc),
         reads_ahead w ls reads,
@@ -80,10 +85,9 @@ release_form S floor z l it =
     )
 
 -- so has a refused line that may come next
-refused_form : (S : Session) → is_taken two_versions S.rules.version ≡ true → (floor : ℕ) (z : State) (l : List ℕ)
-    → IsRefusedNext S floor z l → (x : TraceLine)
+refused_form : (S : Session) (floor : ℕ) (z : State) (l : List ℕ) → IsRefusedNext S floor z l → (x : TraceLine)
     × HasForm x × (trace_text x ≡ l)
-refused_form S version floor z l it =
+refused_form S floor z l it =
     by_line it.0.line it.1 it.3.refused.line where
       known : it.0.at ≤ 1_000_000_000_000
       known = it.3.refused.known
@@ -95,23 +99,51 @@ refused_form S version floor z l it =
         (omega (arith, known), may.numerals),
         sym is,
       )
-      by_line (RefusedDone tick n) is may = absurd (none_done S it.0.at tick n version may)
+      by_line (RefusedDone tick n) is may = (
+        format.RefusedDone it.0.at tick n,
+        (omega (arith, known), (let no_later : tick ≤ it.0.at = may.no_later in omega (arith, known), may.numerals)),
+        sym is,
+      )
+
+-- so has an early completion that may come next
+completion_form : (ls : List (List ℕ)) (S : Session) (floor : ℕ) (z : State) (l : List ℕ) → Sees ls S floor z
+    → IsCompletionNext S floor z l → (x : TraceLine) × HasForm x × (trace_text x ≡ l)
+completion_form ls S floor z l sees it =
+    let known : it.0.at ≤ 1_000_000_000_000 = it.3.finishes.known in
+    let job : Finishes S it.0 = finishing_job S it.0 it.3.finishes.right in
+    let number : it.0.finish.number ≡ job.job.number = ap (λ (g : Finish). g.number) job.is in
+    let keeps : Keeps (instance_of S) (settled_state (instance_of S) it.0.at) =
+    (settled_at_barrier (instance_of S) sees.valid.jobs it.0.at).keeps in
+    let low : job.job.number < length (instance_of S).jobs = omega (
+      arith,
+      numbers_low 0 (settled_state (instance_of S) it.0.at).tasks keeps.sound.numbered job.job job.runs.member,
+      count_jobs (settled_state (instance_of S) it.0.at).tasks,
+      ap length keeps.jobs,
+    ) in
+    let few : length (instance_of S).jobs ≤ 1_000_000 = sees.valid.jobs.count in (
+      Step (Complete it.0.at it.0.finish.number),
+      ((omega (arith, known), (omega (arith, number, low), tt)), omega (arith, number, low)),
+      sym it.1,
+    )
 
 -- a line without a form continues no trace
 unread_fails : (w : Reading) (l : List ℕ) → ((x : TraceLine) → HasForm x → trace_text x ≡ l → ⊥)
     → (ls : List (List ℕ)) → Reads w ls
     → begins_trace (ls ++ l ∷ []) ≡ false
 unread_fails w l none ls reads = false_from_ne_true _ (by_stage w.stage reads) where
-  by_line : (S : Session) (z : State) (goes : Goes w ls S z z) (e : Event) (y : State) → PrintsNext (instance_of S).rules z e y
-      → (l ≡ text_of e) ⊎ (IsReleaseNext S w.floor z l ⊎ IsRefusedNext S w.floor z l) → ⊥
+  by_line : (S : Session) (z : State) (goes : Goes w ls S z z) (e : Event) (y : State)
+      → PrintsNext (instance_of S).rules z e y
+      → (l ≡ text_of e)
+      ⊎ (IsReleaseNext S w.floor z l ⊎ (IsRefusedNext S w.floor z l ⊎ IsCompletionNext S w.floor z l)) → ⊥
   by_line S z goes e y next (inl is) = none (Step e) (next_form ls S w.floor z goes.sees e y next) (sym is)
   by_line S z goes e y next (inr (inl it)) = let form = release_form S w.floor z l it in none form.0 form.1 form.2
-  by_line S z goes e y next (inr (inr it)) = let form = refused_form S goes.sees.version w.floor z l it in none form.0 form.1 form.2
+  by_line S z goes e y next (inr (inr (inl it))) = let form = refused_form S w.floor z l it in none form.0 form.1 form.2
+  by_line S z goes e y next (inr (inr (inr it))) =
+      let form = completion_form ls S w.floor z l goes.sees it in none form.0 form.1 form.2
 
   by_stage : (s : Stage) → HereBy s w ls → begins_trace (ls ++ l ∷ []) ≡ true → ⊥
   by_stage Opening opens passes =
-      let it : (rules : Declaration) × IsRatio rules.ratio × (l ≡ header rules)
-      × (is_taken two_versions rules.version ≡ true) =
+      let it : (rules : Declaration) × IsRatio rules.ratio × (l ≡ header rules) =
       only_headers l (subst (λ xs. begins_trace (xs ++ l ∷ []) ≡ true) opens.lines passes) in
       none (Header (version_number it.0.version) it.0.ratio.p it.0.ratio.q) (header_short it.0 it.1) (sym it.2)
   by_stage Going here passes =
@@ -140,3 +172,4 @@ jobs_counted (Step (Complete at n)) l is = omega arith
 jobs_counted (Step (Abandon at n)) l is = omega arith
 jobs_counted (Step (End value)) l is = omega arith
 jobs_counted (Refused at r c d v cause) l is = omega arith
+jobs_counted (format.RefusedDone at tick number) l is = omega arith

@@ -11,7 +11,8 @@ use Rattle.dover_model.specs.Schedules.{Meets, worth}
 use Rattle.dover_model.specs.Run.{run, printed, ran, completed_value}
 use Rattle.dover_model.specs.Sound.{Each}
 use Rattle.dover_model.specs.Underload.{takes_or_abandons}
-use Rattle.dover_model.specs.Session.{Session, IsValidSession, instance_of, admitted_jobs}
+use Rattle.dover_model.specs.Session.{Session, IsValidSession, instance_of, admitted_jobs, may_finish_early}
+use Rattle.dover_model.specs.Observed.{observed}
 use Rattle.dover_model.specs.Lines.{whole_lines}
 use Rattle.dover_model.specs.Verdict as model
 use Rattle.line_text.specs.Cutting as cutting
@@ -22,8 +23,7 @@ use Rattle.trace_judge.specs.declared.verdict.Verdict.TheVariants.{Accepted, Wro
 use Rattle.trace_judge.specs.declared.judge.Found.{Found}
 use Rattle.trace_judge.specs.declared.judge.Found.TheVariants.{Good, Wrong as Bad, NoMemory}
 use Rattle.trace_judge.specs.declared.verdict.Expected.{Expected}
-use Rattle.ready_jobs.specs.Spending.{HasPaid}
-use Rattle.trace_judge.specs.Reads.{Reading, Reads, ReadsAhead, is_job_line, expected_of, kept_steps}
+use Rattle.trace_judge.specs.Reads.{Reading, Reads, ReadsAhead, is_job_line, expected_of, kept_steps, IsPaid}
 
 -- what is kept of a text: the line that goes on and how many have ended, what is kept of the lines, and what was found:
 -- no line wrong, the first wrong line and what is due in its place, or that memory was lacking
@@ -68,7 +68,7 @@ IsOverfed j piece = (text : List ℕ) → StandsFor j text → j.reader.spare + 
 
 -- up to here what the run cost is paid for, and its jobs are named by lines of the text
 pub record HasPaidFor (j : Judged) (text : List ℕ) (start now : ℕ) : Type 0 where
-  pub paid : HasPaid j.reader.course start now
+  pub paid : IsPaid j.reader start now
   pub few : j.reader.course.jobs ≤ jobs_named text
 
 -- what the piece costs is paid for
@@ -95,13 +95,16 @@ pub record IsCut (j : Judged) (step : Step) (before text : List ℕ) : Type 0 wh
   pub parts : cutting.HasCut step j.lines.line before text
   pub reads : Reads j.reader (whole_lines before)
 
--- the session is valid: no schedule of its jobs is worth more than the ratio allows for this value, which the run's own
--- schedule is worth; and
--- where some schedule serves every job, none is taken late or abandoned, and the value is that of all jobs
+-- the session is valid: no schedule of its jobs is worth more than the ratio allows for this value, neither by the
+-- works that were declared nor by those that the run observed, and by these the run's own schedule is worth it. Where
+-- no job may finish early these are the declared ones. And where some schedule serves every job, none is taken late or
+-- abandoned, and the value is that of all jobs
 pub record IsEarned (S : Session) (k : Fraction) (value : ℕ) : Type 0 where
   pub valid : IsValidSession S
   pub within : (s : List ℕ) → IsWithin k (worth (instance_of S) s) value
-  pub honest : worth (instance_of S) (ran (instance_of S)) ≡ value
+  pub within_observed : (s : List ℕ) → IsWithin k (worth (observed (instance_of S)) s) value
+  pub honest : worth (observed (instance_of S)) (ran (instance_of S)) ≡ value
+  pub as_declared : may_finish_early S.rules.version ≡ false → observed (instance_of S) ≡ instance_of S
   pub none_lost : Meets (instance_of S) → Each (λ x. takes_or_abandons x.move ≡ false) (run (instance_of S))
   pub whole : Meets (instance_of S) → value ≡ sum_by (λ j. j.value) (admitted_jobs S.items)
 

@@ -1,30 +1,25 @@
 -- What the lines of a trace so far have come to, and which line may come next.
-use Rattle.std.specs.Prelude.{◌≡◌, ◌≤◌, ◌<◌, ◌+◌, ℕ, List, length, true, false, Some, suc, if◌then◌else◌, None, ◌∷◌, ◌++◌}
+use Rattle.std.specs.Prelude.{◌≡◌, ◌≤◌, ◌<◌, ◌+◌, ℕ, List, length, true, false, Some, None}
 use Rattle.std.specs.List.{AllByRecursion}
 use Rattle.dover_model.specs.State.{State, opening, is_coming}
 use Rattle.dover_model.specs.Run.{Step, printed_of}
 use Rattle.dover_model.specs.Sound.{Each}
-use Rattle.dover_model.specs.Settled.{settled, waits_for_mark}
+use Rattle.dover_model.specs.Settled.{settled}
 use Rattle.dover_model.specs.Session.{Session, instance_of, admitted_jobs, IsValidSession, mark_after, Refused}
-use Rattle.dover_model.specs.Session.{MayBeRefused}
-use Rattle.dover_model.specs.Taken.{two_versions, is_taken}
+use Rattle.dover_model.specs.Session.{MayBeRefused, MayFinish, EarlyFinish}
 use Rattle.dover_model.specs.Trace.{places_of, texts_among}
 use Rattle.dover_model.specs.Verdict.{named_session}
 use Rattle.dover_model.specs.Leading.{Leads, WaitsUntil}
-use Rattle.dover_model.specs.declared.events.Event.{Event}
-use Rattle.dover_model.specs.Step.{Prints}
 use Rattle.dover_model.specs.Limits.{most_items}
 use Rattle.dover_model.specs.JobFacts.{JobFacts}
 use Rattle.dover_model.specs.Admission.{refusal_of}
-use Rattle.dover_model.specs.declared.events.Role.TheVariants.{Fresh}
-use Rattle.dover_model.specs.declared.events.Event.TheVariants.{Release}
+use Rattle.dover_model.specs.declared.events.Event.TheVariants.{Release, Complete}
 use Rattle.dover_model.specs.Text.{text_of, refused_text}
 
--- The lines begin the trace of the valid session that they name, and its version is taken. The steps printed among them lead to the state z, in
+-- The lines begin the trace of the valid session that they name. The steps printed among them lead to the state z, in
 -- which no job is to come.
 -- They are settled at each tick from the floor on, and at no tick below it at which an item could come.
 pub record Sees (ls : List (List ℕ)) (S : Session) (floor : ℕ) (z : State) : Type 0 where
-  pub version : is_taken two_versions S.rules.version ≡ true
   pub valid : IsValidSession S
   pub named : named_session ls ≡ Some S
   pub steps : List Step
@@ -54,6 +49,16 @@ pub record MayRefuse (S : Session) (floor : ℕ) (s : State) (r : Refused) (z : 
   pub refused : MayBeRefused S floor r
   pub waits : WaitsUntil (instance_of S).rules r.at s z
 
+-- the early completion may come next, and the silent steps before it lead to z
+pub record MayComplete (S : Session) (floor : ℕ) (s : State) (f : EarlyFinish) (z : State) : Type 0 where
+  pub room : HasRoom S
+  pub finishes : MayFinish S floor f
+  pub waits : WaitsUntil (instance_of S).rules f.at s z
+
+-- the text of the completion of a job that finishes early
+abbrev pub completion_text : EarlyFinish → List ℕ
+completion_text f = text_of (Complete f.at f.finish.number)
+
 -- the text of the release of the session's next job
 abbrev pub release_text : Session → JobFacts → List ℕ
 release_text S j = text_of (Release (length (admitted_jobs S.items)) j)
@@ -65,3 +70,8 @@ IsReleaseNext S floor s line = (j : JobFacts) × (line ≡ release_text S j) × 
 -- the line is the text of a refused line that may come next
 abbrev pub IsRefusedNext : Session → ℕ → State → List ℕ → Type 0
 IsRefusedNext S floor s line = (r : Refused) × (line ≡ refused_text r) × (z : State) × MayRefuse S floor s r z
+
+-- the line is the text of an early completion that may come next
+abbrev pub IsCompletionNext : Session → ℕ → State → List ℕ → Type 0
+IsCompletionNext S floor s line =
+    (f : EarlyFinish) × (line ≡ completion_text f) × (z : State) × MayComplete S floor s f z

@@ -1,30 +1,36 @@
 -- What the judge keeps of the lines of a trace.
-use Rattle.std.specs.Prelude.{◌≡◌, ◌≤◌, ◌+◌, ◌*◌, ℕ, List, [], ◌∷◌, ◌++◌, length, min, Bool, true, false, if◌then◌else◌}
-use Rattle.std.specs.Prelude.{Option, Some}
+use Rattle.std.specs.Prelude.{◌≡◌, ◌≤◌, ◌+◌, ◌*◌, ℕ, List, [], ◌∷◌, ◌++◌, length, min, Bool, true, false}
+use Rattle.std.specs.Prelude.{if◌then◌else◌}
+use Rattle.std.specs.Prelude.{Option, Some, None}
 use Rattle.admission.specs.Kept as admission
-use Rattle.dover_model.specs.Limits.{most_jobs}
+use Rattle.dover_model.specs.Limits.{most_jobs, last_tick}
 use Rattle.dover_model.specs.JobFacts.{JobFacts}
 use Rattle.dover_model.specs.declared.events.Event.{Event}
 use Rattle.dover_model.specs.State.{State}
 use Rattle.dover_model.specs.Run.{Step, printed, printed_of, completed_value}
 use Rattle.dover_model.specs.Session.{Item, JobItem, Session, instance_of, admitted_jobs, IsValidSession}
-use Rattle.dover_model.specs.Taken.{two_versions, is_taken}
+use Rattle.dover_model.specs.Session.{EarlyFinish, finish_at, may_finish_early}
+use Rattle.dover_model.specs.Instance.{Declaration}
+use Rattle.dover_model.specs.Text.{text_of}
+use Rattle.dover_model.specs.Settled.{last_of}
 use Rattle.dover_model.specs.Trace.{trace_lines}
 use Rattle.dover_model.specs.Verdict as model
 use Rattle.dover_model.specs.declared.events.Task.{Task}
 use Rattle.dover_model.specs.declared.events.Event.TheVariants.{Release}
 use Rattle.trace_format.specs.declared.lines.TraceLine.{TraceLine}
 use Rattle.trace_format.specs.declared.lines.TraceLine.TheVariants as format
-use Rattle.dover_model.specs.Leading.{Idles, WaitsUntil}
-use Rattle.trace_judge.specs.Reading.{Sees, MayRelease}
+use Rattle.dover_model.specs.Leading.{Idles, GoesOn, WaitsUntil}
+use Rattle.trace_judge.specs.Reading.{Sees, HasRoom, MayRelease, MayComplete}
 use Rattle.trace_judge.specs.declared.stage.Stage.{Stage}
 use Rattle.trace_judge.specs.declared.stage.Stage.TheVariants.{Opening, Going, Ended}
 use Rattle.trace_judge.specs.declared.verdict.Expected.{Expected}
 use Rattle.trace_judge.specs.declared.verdict.Expected.TheVariants.{Header, Step as Due, Nothing}
 use Rattle.ready_jobs.specs.Course.{Course, Follows, new_course}
+use Rattle.ready_jobs.specs.Spending.{HasPaidSince}
 
 -- what is kept of the lines: how far the trace has come, the run and the jobs admitted, how many items there are, the
--- floor, the steps where they are asked for, and for how many jobs more there is room, and for how many steps in all
+-- floor, the steps where they are asked for, for how many jobs more there is room, and for how many steps in all, how
+-- many lines were refused, and the tick of the last printed step
 pub record Reading : Type 0 where
   pub stage : Stage
   pub course : Course
@@ -35,10 +41,16 @@ pub record Reading : Type 0 where
   pub steps : List Event
   pub spare : ℕ
   pub room : ℕ
+  pub refused : ℕ
+  pub last : ℕ
 
 -- the steps that are kept
 abbrev pub kept_steps : Bool → List Event → List Event
 kept_steps keep steps = if keep then steps else []
+
+-- up to here what the run cost is paid for, where the running job may finish till a step is printed at the clock
+abbrev pub IsPaid : Reading → (start now : ℕ) → Type 0
+IsPaid r start now = HasPaidSince r.course r.last start now
 
 -- no line yet
 pub record Opens (r : Reading) (ls : List (List ℕ)) : Type 0 where
@@ -47,6 +59,8 @@ pub record Opens (r : Reading) (ls : List (List ℕ)) : Type 0 where
   pub items : r.items ≡ 0
   pub floor : r.floor ≡ 0
   pub steps : r.steps ≡ []
+  pub refused : r.refused ≡ 0
+  pub last : r.last ≡ 0
 
 -- the lines come to the state z of the session's jobs, and the run that is kept has gone on to y
 pub record Goes (r : Reading) (ls : List (List ℕ)) (S : Session) (z y : State) : Type 0 where
@@ -57,17 +71,18 @@ pub record Goes (r : Reading) (ls : List (List ℕ)) (S : Session) (z y : State)
   pub ratio : r.kept.ratio ≡ S.rules.ratio
   pub items : r.items ≡ length S.items
   pub steps : r.steps ≡ kept_steps r.keep (printed_of sees.steps)
+  pub refused : r.refused ≡ model.refused_count S
+  pub last : r.last ≡ last_of (printed_of sees.steps)
 
--- the lines are a whole trace, of a version that is taken
+-- the lines are a whole trace
 pub record Ends (r : Reading) (ls : List (List ℕ)) (S : Session) : Type 0 where
-  pub version : is_taken two_versions S.rules.version ≡ true
   pub valid : IsValidSession S
   pub lines : ls ≡ trace_lines S
   pub rules : S.rules ≡ r.course.rules
   pub value : completed_value (instance_of S) ≡ r.course.done
   pub jobs : length (admitted_jobs S.items) ≡ r.course.jobs
-  pub items : r.items ≡ length S.items
   pub steps : r.steps ≡ kept_steps r.keep (printed (instance_of S))
+  pub refused : r.refused ≡ model.refused_count S
 
 -- this is kept of these lines, and the run may have gone on behind them
 abbrev pub ReadsAhead : Reading → List (List ℕ) → Type 0
@@ -110,6 +125,14 @@ pub record Took (old new : Reading) (line : List ℕ) (good : Bool) : Type 0 whe
   pub no : good ≡ false → (ls : List (List ℕ)) → Reads old ls → (model.begins_trace (ls ++ line ∷ []) ≡ false)
       × ReadsAhead new ls
 
+-- With the text of the step the trace goes on, or it doesn't where the text names nothing, and the lines before it are
+-- kept. The run may have gone on before.
+pub record Followed (old new : Reading) (e : Event) (good : Bool) : Type 0 where
+  pub yes : good ≡ true → (ls : List (List ℕ)) → ReadsAhead old ls → Reads new (ls ++ text_of e ∷ [])
+  pub no : good ≡ false → (ls : List (List ℕ)) (S : Session) (z y : State) → Goes old ls S z y
+      → model.named_item S (text_of e) ≡ None → model.begins_trace (ls ++ text_of e ∷ []) ≡ false
+  pub ahead : good ≡ false → (ls : List (List ℕ)) → ReadsAhead old ls → ReadsAhead new ls
+
 -- what is kept now was kept of the same lines
 abbrev pub StaysAhead : Reading → Reading → Type 0
 StaysAhead old new = (ls : List (List ℕ)) → ReadsAhead old ls → ReadsAhead new ls
@@ -123,6 +146,7 @@ pub record Waited (r : Reading) (tick : ℕ) (ls : List (List ℕ)) (S : Session
   pub goes : Goes r ls S z y
   pub no_fall : r.floor ≤ tick
   pub low : r.course.clock ≤ tick
+  pub there : GoesOn y → y.clock ≡ tick
   pub waits : WaitsUntil (instance_of S).rules tick z (at_tick tick y.tasks)
 
 -- the job may be released next
@@ -132,6 +156,27 @@ pub record CanRelease (r : Reading) (j : JobFacts) (ls : List (List ℕ)) : Type
   pub state : State
   pub waited : Waited r j.release ls session from state
   pub may : MayRelease session r.floor from j (at_tick j.release state.tasks)
+
+-- the job of this number may finish early next, at this tick
+pub record CanComplete (r : Reading) (at number : ℕ) (ls : List (List ℕ)) : Type 0 where
+  pub session : Session
+  pub from : State
+  pub state : State
+  pub waited : Waited r at ls session from state
+  pub version : may_finish_early session.rules.version ≡ true
+  pub known : at ≤ last_tick
+  pub room : HasRoom session
+  pub finish : EarlyFinish
+  pub right : finish_at (instance_of session) at number ≡ Some finish
+
+-- it may not, behind whichever lines this is kept of
+abbrev pub MayNotComplete : Reading → (at number : ℕ) → Type 0
+MayNotComplete r at number = (ls : List (List ℕ)) (S : Session) (z : State) → Goes r ls S z z →
+    (f : EarlyFinish) (y : State) → MayComplete S r.floor z f y → f.at ≡ at → f.finish.number ≡ number → ⊥
+
+-- what is declared, as it is kept
+abbrev pub rules_kept : Reading → Declaration
+rules_kept r = record { ratio = r.kept.ratio; version = r.course.rules.version }
 
 -- the item is a job
 abbrev pub is_job_item : Option Item → Bool
@@ -162,3 +207,4 @@ abbrev pub jobs_in : TraceLine → ℕ
 jobs_in (format.Header v p q) = 0
 jobs_in (format.Step e) = releases_in e
 jobs_in (format.Refused at r c d v cause) = 0
+jobs_in (format.RefusedDone at tick number) = 0

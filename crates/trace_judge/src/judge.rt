@@ -5,10 +5,9 @@ ghost use Rattle.dover_model.specs.Verdict as model;
 ghost use Rattle.line_text.specs.declared.cutting.Step.TheVariants.{More, Line, TooLong};
 ghost use Rattle.line_text.specs.Cutting.{IsWholeLine};
 ghost use Rattle.trace_judge.specs.declared.judge.Found.TheVariants.{Good, NoMemory};
-ghost use Rattle.trace_judge.specs.Reads.{job_lines_in, IsUnchangedFor};
+ghost use Rattle.trace_judge.specs.Reads.{job_lines_in, IsUnchangedFor, IsPaid};
 ghost use Rattle.trace_judge.specs.Judging.{StandsFor, Fed, IsOverfed, IsCut, Tells, keeps, steps_told, is_wrong};
 ghost use Rattle.trace_judge.specs.Judging.{Misses, Notes, HasPaidFor, PaysFor};
-ghost use Rattle.ready_jobs.specs.Spending.{HasPaid};
 
 use crate::reader::Reader;
 use crate::stage::Stage;
@@ -135,8 +134,8 @@ impl Judge {
     fn miss<L: Ledger>(&mut self, line: u64, steps: &mut Steps<L>)
         ensures missed { Misses self.old self.new line }
         ensures kept { IsUnchangedFor self.old.reader self.new.reader }
-        ensures paid { (start : ℕ) → HasPaid self.old.reader.course start steps.old →
-            HasPaid self.new.reader.course start steps.new }
+        ensures paid { (start : ℕ) → IsPaid self.old.reader start steps.old →
+            IsPaid self.new.reader start steps.new }
     {
         let expected = self.reader.due(steps);
         self.found = Found::Wrong { line, expected };
@@ -147,8 +146,8 @@ impl Judge {
         requires good { self.old.found ≡ Good }
         ensures stands { (before text : List ℕ) → IsCut self.old TooLong before text → StandsFor self.new text }
         ensures kept { IsUnchangedFor self.old.reader self.new.reader }
-        ensures paid { (start : ℕ) → HasPaid self.old.reader.course start steps.old →
-            HasPaid self.new.reader.course start steps.new }
+        ensures paid { (start : ℕ) → IsPaid self.old.reader start steps.old →
+            IsPaid self.new.reader start steps.new }
     {
         let line = self.lines.count().saturating_add(1);
         self.miss(line, steps);
@@ -166,8 +165,8 @@ impl Judge {
         ensures ok { OnOk result (IsOk taken) }
         ensures err { OnErr result (IsErr taken) }
         ensures failed { OnErr result (self.new.found ≡ NoMemory) }
-        ensures paid { (start : ℕ) → HasPaid self.old.reader.course start steps.old →
-            HasPaid self.new.reader.course start steps.new }
+        ensures paid { (start : ℕ) → IsPaid self.old.reader start steps.old →
+            IsPaid self.new.reader start steps.new }
     {
         let Ok(good) = taken else {
             self.found = Found::NoMemory;
@@ -193,8 +192,8 @@ impl Judge {
         ensures failed { OnErr result (self.new.found ≡ NoMemory) }
         ensures jobs { self.new.reader.course.jobs
             ≤ self.old.reader.course.jobs + job_lines_in self.old.lines.line }
-        ensures paid { (start : ℕ) → HasPaid self.old.reader.course start steps.old →
-            HasPaid self.new.reader.course start steps.new }
+        ensures paid { (start : ℕ) → IsPaid self.old.reader start steps.old →
+            IsPaid self.new.reader start steps.new }
     {
         let taken = self.reader.take(self.lines.line(), steps);
         self.note(taken, steps)

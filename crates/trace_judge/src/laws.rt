@@ -7,7 +7,7 @@ ghost use Rattle.dover_model.specs.State.{State};
 ghost use Rattle.dover_model.specs.Text.{text_of};
 ghost use Rattle.dover_model.specs.Verdict.{begins_trace};
 ghost use Rattle.dover_model.specs.Leading.{PrintsNext};
-ghost use Rattle.trace_judge.specs.Reading.{Sees, IsReleaseNext, IsRefusedNext};
+ghost use Rattle.trace_judge.specs.Reading.{Sees, IsReleaseNext, IsRefusedNext, IsCompletionNext};
 
 /// Lines that are seen begin a trace, and some step is printed next.
 pub fn lines_seen_begin_a_trace()
@@ -17,9 +17,11 @@ pub fn lines_seen_begin_a_trace()
         (e : Event) × (y : State) × PrintsNext (instance_of S).rules z e y }
 {}
 
-/// Only the text of the step that is printed next goes on with them, or a release or a refused line that may come.
+/// Only the text of the step that is printed next goes on with them, or a release, a refused line or an early
+/// completion that may come.
 pub fn only_these_lines_go_on()
     ensures { (ls : List (List ℕ)) (S : Session) (floor : ℕ) (z : State) → Sees ls S floor z → (e : Event) (y : State) →
         PrintsNext (instance_of S).rules z e y → (l : List ℕ) → begins_trace (ls ++ l ∷ []) ≡ true →
-        (l ≡ text_of e) ⊎ (IsReleaseNext S floor z l ⊎ IsRefusedNext S floor z l) }
+        (l ≡ text_of e) ⊎ (IsReleaseNext S floor z l
+        ⊎ (IsRefusedNext S floor z l ⊎ IsCompletionNext S floor z l)) }
 {}

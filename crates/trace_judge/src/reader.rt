@@ -2,10 +2,11 @@
 ghost use Rattle.std.specs.Prelude.{◌≡◌, ◌≤◌, ◌<◌, ◌+◌, ◌∷◌, ◌++◌, ◌↔◌, ℕ, List, [], Bool, true, false, IsTrue, IfOk};
 ghost use Rattle.std.specs.Prelude.{OnOk, OnErr, IsOk, Some, None, vec_len, vec_capacity, length, if◌then◌else◌};
 ghost use Rattle.dover_model.specs.Limits.{last_tick, most_items};
-ghost use Rattle.dover_model.specs.declared.events.Version.TheVariants.{Two};
 ghost use Rattle.dover_model.specs.Step.{Prints};
 ghost use Rattle.dover_model.specs.Run.{is_end};
 ghost use Rattle.dover_model.specs.Settled.{waits_for_mark};
+ghost use Rattle.dover_model.specs.Session.{may_finish_early, refuses_lines, late_refusal};
+ghost use Rattle.std.specs.Prelude.{◌&&◌, nat_le, is_some};
 
 use crate::stage::Stage;
 use crate::verdict::{Expected, Verdict};
@@ -37,6 +38,8 @@ pub struct Reader {
     keep: bool,
     steps: Vec<Event>,
     spare: u32,
+    refused: u32,
+    last: u64,
 }
 
 impl Model for Reader {
@@ -55,6 +58,8 @@ impl Model for Reader {
       steps = r.steps.items;
       spare = r.spare;
       room = vec_capacity r.steps;
+      refused = r.refused;
+      last = r.last;
     } };
 
     ghost invariant = { λ r. reads.IsReader (record {
@@ -67,6 +72,8 @@ impl Model for Reader {
       steps = r.steps.items;
       spare = r.spare;
       room = vec_capacity r.steps;
+      refused = r.refused;
+      last = r.last;
     }) };
 }
 
@@ -76,8 +83,9 @@ impl Reader {
     ghost use Rattle.dover_model.specs.Verdict.{expected_after, refused_count};
     ghost use Rattle.trace_judge.specs.declared.stage.Stage.TheVariants.{Opening, Going, Ended};
     ghost use Rattle.trace_format.specs.Form.{HasForm, item_in, trace_text};
-    ghost use Rattle.trace_format.specs.declared.lines.TraceLine.TheVariants.{Header, Step, Refused};
-    ghost use Rattle.dover_model.specs.declared.events.Event.TheVariants.{Release};
+    ghost use Rattle.trace_format.specs.declared.lines.TraceLine.TheVariants.{Header, Step, Refused, RefusedDone};
+    ghost use Rattle.dover_model.specs.declared.events.Event.TheVariants.{Release, Complete};
+    ghost use Rattle.dover_model.specs.Session.{may_finish_early, refuses_lines, refusal_at, finish_at};
     ghost use Rattle.dover_model.specs.JobFacts.{JobFacts, job_of_numbers};
     ghost use Rattle.dover_model.specs.Admission.{refusal_of};
     ghost use Rattle.dover_model.specs.Text.{text_of};
@@ -87,9 +95,9 @@ impl Reader {
     ghost use Rattle.trace_judge.specs.declared.verdict.Verdict.TheVariants.{Accepted};
     ghost use Rattle.dover_model.specs.Leading.{WaitsUntil};
     ghost use Rattle.ready_jobs.specs.Course.{GoesOnFrom};
-    ghost use Rattle.ready_jobs.specs.Spending.{HasPaid};
     ghost use Rattle.trace_judge.specs.Reads.{Reads, ReadsAhead, StaysAhead, Goes, Ends, Waited, CanRelease, Took};
     ghost use Rattle.trace_judge.specs.Reads.{IsUnchangedFor, expected_of, releases_in, jobs_in, job_lines_in};
+    ghost use Rattle.trace_judge.specs.Reads.{Followed, CanComplete, MayNotComplete, rules_kept, IsPaid};
 
     /// No line. Where `keep` is true, the steps of the run are kept.
     ///
@@ -101,7 +109,7 @@ impl Reader {
         ensures reads { IfOk result (λ reader. Reads reader []) }
         ensures keep { IfOk result (λ reader. reader.keep ≡ keep) }
         ensures jobs { IfOk result (λ reader. reader.course.jobs ≡ 0) }
-        ensures paid { IfOk result (λ reader. (now : ℕ) → HasPaid reader.course now now) }
+        ensures paid { IfOk result (λ reader. (now : ℕ) → IsPaid reader now now) }
     {
         let one = Ratio::new(1, 1).unwrap();
         let mut steps = Vec::new(alloc);
@@ -117,6 +125,8 @@ impl Reader {
             keep,
             steps,
             spare: 0,
+            refused: 0,
+            last: 0,
         })
     }
 
@@ -135,7 +145,7 @@ impl Reader {
         ensures grows { self.old.spare ≤ self.new.spare }
         ensures err { OnErr result (self.new.spare ≡ self.old.spare) }
         ensures enough { more ≤ self.old.spare → IsOk result }
-        ensures paid { (start now : ℕ) → HasPaid self.old.course start now → HasPaid self.new.course start now }
+        ensures paid { (start now : ℕ) → IsPaid self.old start now → IsPaid self.new start now }
     {
         if more <= self.spare {
             return Ok(());
@@ -169,8 +179,8 @@ impl Reader {
         ensures ahead { StaysAhead self.old self.new }
         ensures kept { self.new ≡ record self.old { course = self.new.course } }
         ensures jobs { self.new.course.jobs ≡ self.old.course.jobs }
-        ensures paid { (start : ℕ) → HasPaid self.old.course start steps.old →
-            HasPaid self.new.course start steps.new }
+        ensures paid { (start : ℕ) → IsPaid self.old start steps.old →
+            IsPaid self.new start steps.new }
     {
         match self.stage {
             Stage::Opening => Expected::Header,
@@ -200,7 +210,7 @@ impl Reader {
     pub fn refused(&self) -> u32
         ensures { (ls : List (List ℕ)) (S : Session) → Ends self.now ls S → result ≡ refused_count S }
     {
-        self.items.saturating_sub(self.course.jobs())
+        self.refused
     }
 
     /// The steps that were kept.
@@ -216,7 +226,7 @@ impl Reader {
         requires form { HasForm (Header version p q) }
         ensures took { Took self.old self.new (trace_text (Header version p q)) result }
         ensures kept { IsUnchangedFor self.old self.new }
-        ensures paid { (start now : ℕ) → HasPaid self.old.course start now → HasPaid self.new.course start now }
+        ensures paid { (start now : ℕ) → IsPaid self.old start now → IsPaid self.new start now }
     {
         let Some(version) = Version::from_number(version) else {
             return false;
@@ -230,26 +240,27 @@ impl Reader {
         true
     }
 
-    // The next line is that of the printed step that is due.
+    // The next line is that of the printed step that is due, up to which the run may have gone on.
     #[inline(always)]
     fn follow<L: Ledger>(&mut self, event: &Event, steps: &mut Steps<L>) -> bool
         requires going { self.old.stage ≡ Going }
         requires form { HasForm (Step event.now) }
         requires none { item_in (Step event.now) ≡ None }
-        ensures took { Took self.old self.new (trace_text (Step event.now)) result }
+        ensures followed { Followed self.old self.new event.now result }
         ensures kept { IsUnchangedFor self.old self.new }
-        ensures paid { (start : ℕ) → HasPaid self.old.course start steps.old →
-            HasPaid self.new.course start steps.new }
+        ensures paid { (start : ℕ) → IsPaid self.old start steps.old →
+            IsPaid self.new start steps.new }
     {
         if !self.course.follow(event, steps) {
             return false;
         }
         keep_step(self.keep, &mut self.steps, *event);
+        self.last = self.course.clock();
         if is_end(event) {
             self.stage = Stage::Ended;
             return true;
         }
-        let floor = floor_after(event, self.course.clock());
+        let floor = floor_after(event, self.last);
         self.floor = self.floor.max(floor);
         true
     }
@@ -266,8 +277,8 @@ impl Reader {
         ensures ahead { StaysAhead self.old self.new }
         ensures kept { self.new ≡ record self.old { course = self.new.course } }
         ensures course { GoesOnFrom self.old.course self.new.course }
-        ensures paid { (start : ℕ) → HasPaid self.old.course start steps.old →
-            HasPaid self.new.course start steps.new }
+        ensures paid { (start : ℕ) → IsPaid self.old start steps.old →
+            IsPaid self.new start steps.new }
     {
         if self.floor > tick {
             return false;
@@ -276,6 +287,17 @@ impl Reader {
             return false;
         }
         self.course.settle(tick, steps).is_none()
+    }
+
+    // The finish of the job of this number is right at this tick, up to whose barrier the run has gone on.
+    fn is_right(&self, at: u64, number: u64) -> bool
+        ensures { (ls : List (List ℕ)) (S : Session) (z y : State) → Waited self.now at ls S z y →
+            result ≡ is_some (finish_at (instance_of S) at number) }
+    {
+        if self.last >= at {
+            return false;
+        }
+        self.course.runs(number)
     }
 
     // The release of this job may come next, as far as the jobs before it go.
@@ -310,7 +332,7 @@ impl Reader {
         ensures ok { OnOk result (1 ≤ self.new.spare) }
         ensures grows { self.old.spare ≤ self.new.spare }
         ensures enough { 1 ≤ self.old.spare → IsOk result }
-        ensures paid { (start now : ℕ) → HasPaid self.old.course start now → HasPaid self.new.course start now }
+        ensures paid { (start now : ℕ) → IsPaid self.old start now → IsPaid self.new start now }
     {
         if self.spare > 0 {
             return Ok(());
@@ -332,13 +354,15 @@ impl Reader {
         ensures keep { self.new.keep ≡ self.old.keep }
         ensures spare { self.new.spare + 1 ≡ self.old.spare }
         ensures jobs { self.new.course.jobs ≤ self.old.course.jobs + 1 }
-        ensures paid { (start now : ℕ) → HasPaid self.old.course start now → HasPaid self.new.course start now }
+        ensures paid { (start now : ℕ) → IsPaid self.old start now → IsPaid self.new start now }
     {
         let number = self.course.jobs();
         self.course.release(job);
         self.admission.admit(job);
         self.items += 1;
-        self.floor = job.release();
+        let release = job.release();
+        self.floor = release;
+        self.last = release;
         self.spare -= 1;
         keep_step(self.keep, &mut self.steps, Event::Release { number, job });
     }
@@ -357,8 +381,8 @@ impl Reader {
         ensures spare { self.old.spare ≤ self.new.spare + 1 }
         ensures keep { self.new.keep ≡ self.old.keep }
         ensures jobs { self.new.course.jobs ≤ self.old.course.jobs + 1 }
-        ensures paid { (start : ℕ) → HasPaid self.old.course start steps.old →
-            HasPaid self.new.course start steps.new }
+        ensures paid { (start : ℕ) → IsPaid self.old start steps.old →
+            IsPaid self.new start steps.new }
     {
         // What is kept of the lines is known where a field is read.
         let _ = &self.stage;
@@ -373,6 +397,84 @@ impl Reader {
         Ok(true)
     }
 
+    // The done line of this tick, which isn't above the mark, is right at the mark, up to whose barrier the run has
+    // gone on.
+    fn is_right_done(&self, at: u64, tick: u64, number: u64) -> bool
+        requires low { tick ≤ at }
+        ensures { (ls : List (List ℕ)) (S : Session) (z y : State) → Waited self.now at ls S z y →
+            result ≡ (nat_le at tick && is_some (finish_at (instance_of S) tick number)) }
+    {
+        if tick < at {
+            return false;
+        }
+        self.is_right(at, number)
+    }
+
+    // Takes the completion of the job, which finishes early.
+    fn finish(&mut self, at: u64, number: u32)
+        requires going { self.old.stage ≡ Going }
+        requires can { (ls : List (List ℕ)) × CanComplete self.old at number ls }
+        ensures reads { (ls : List (List ℕ)) → CanComplete self.old at number ls
+            → Reads self.new (ls ++ text_of (Complete at number) ∷ []) }
+        ensures kept { IsUnchangedFor self.old self.new }
+        ensures paid { (start now : ℕ) → IsPaid self.old start now → IsPaid self.new start now }
+    {
+        self.course.finish(u64::from(number));
+        self.items += 1;
+        self.floor = at;
+        self.last = at;
+        keep_step(self.keep, &mut self.steps, Event::Complete { at, number });
+    }
+
+    // The next line is that of a completion, by which a job finishes early.
+    #[inline(never)]
+    fn finish_early<L: Ledger>(&mut self, at: u64, number: u32, steps: &mut Steps<L>) -> bool
+        requires going { self.old.stage ≡ Going }
+        ensures yes { result ≡ true → Took self.old self.new (text_of (Complete at number)) true }
+        ensures no { result ≡ false → MayNotComplete self.old at number }
+        ensures ahead { result ≡ false → StaysAhead self.old self.new }
+        ensures stage { result ≡ false → self.new.stage ≡ Going }
+        ensures kept { IsUnchangedFor self.old self.new }
+        ensures paid { (start : ℕ) → IsPaid self.old start steps.old →
+            IsPaid self.new start steps.new }
+    {
+        // What is kept of the lines is known where a field is read.
+        let _ = &self.stage;
+        if !may_finish_early(self.course.version()) {
+            return false;
+        }
+        if at > LAST_TICK {
+            return false;
+        }
+        if self.items >= MOST_ITEMS {
+            return false;
+        }
+        if !self.waits_until(at, steps) {
+            return false;
+        }
+        if !self.is_right(at, u64::from(number)) {
+            return false;
+        }
+        self.finish(at, number);
+        true
+    }
+
+    // The next line is that of a completion, early or not.
+    #[inline(always)]
+    fn complete<L: Ledger>(&mut self, at: u64, number: u32, steps: &mut Steps<L>) -> bool
+        requires going { self.old.stage ≡ Going }
+        requires form { HasForm (Step (Complete at number)) }
+        ensures took { Took self.old self.new (text_of (Complete at number)) result }
+        ensures kept { IsUnchangedFor self.old self.new }
+        ensures paid { (start : ℕ) → IsPaid self.old start steps.old →
+            IsPaid self.new start steps.new }
+    {
+        if self.finish_early(at, number, steps) {
+            return true;
+        }
+        self.follow(&Event::Complete { at, number }, steps)
+    }
+
     // The refused line may come next, as far as the jobs before it go.
     fn may_refuse(
         &self,
@@ -383,26 +485,25 @@ impl Reader {
         value: u64,
         cause: Refusal,
     ) -> bool
-        ensures yes { result ≡ true → (self.now.course.rules.version ≡ Two) × (at ≤ last_tick) × (at ≤ release)
+        ensures yes { result ≡ true → (refuses_lines self.now.course.rules.version ≡ true) × (at ≤ last_tick)
             × (self.now.items < most_items) }
         ensures refuses { result ≡ true → (jobs : List JobFacts) → StandsFor self.now.kept jobs →
-            refusal_of self.now.kept.ratio jobs (job_of_numbers release work deadline value) ≡ Some cause }
-        ensures no { result ≡ false → self.now.course.rules.version ≡ Two → at ≤ last_tick → at ≤ release
-            → self.now.items < most_items →
-            (jobs : List JobFacts) → StandsFor self.now.kept jobs →
-            refusal_of self.now.kept.ratio jobs (job_of_numbers release work deadline value) ≡ Some cause → ⊥ }
+            refusal_at (rules_kept self.now) jobs at (job_of_numbers release work deadline value) ≡ Some cause }
+        ensures no { result ≡ false → refuses_lines self.now.course.rules.version ≡ true → at ≤ last_tick
+            → self.now.items < most_items → (jobs : List JobFacts) → StandsFor self.now.kept jobs →
+            refusal_at (rules_kept self.now) jobs at (job_of_numbers release work deadline value) ≡ Some cause → ⊥ }
     {
-        if !is_two(self.course.version()) {
+        if !refuses_lines(self.course.version()) {
             return false;
         }
         if at > LAST_TICK {
             return false;
         }
-        if at > release {
-            return false;
-        }
         if self.items >= MOST_ITEMS {
             return false;
+        }
+        if release < at {
+            return is_late_cause(self.course.version(), cause);
         }
         match self.admission.check(release, work, deadline, value) {
             Ok(_) => false,
@@ -425,8 +526,8 @@ impl Reader {
         requires form { HasForm (Refused at release work deadline value cause) }
         ensures took { Took self.old self.new (trace_text (Refused at release work deadline value cause)) result }
         ensures kept { IsUnchangedFor self.old self.new }
-        ensures paid { (start : ℕ) → HasPaid self.old.course start steps.old →
-            HasPaid self.new.course start steps.new }
+        ensures paid { (start : ℕ) → IsPaid self.old start steps.old →
+            IsPaid self.new start steps.new }
     {
         // What is kept of the lines is known where a field is read.
         let _ = &self.stage;
@@ -437,6 +538,58 @@ impl Reader {
             return false;
         }
         self.items += 1;
+        self.refused += 1;
+        self.floor = at;
+        true
+    }
+
+    // The refused done line may come next, as far as its ticks go.
+    fn may_refuse_done(&self, at: u64, tick: u64) -> bool
+        ensures yes { result ≡ true → (may_finish_early self.now.course.rules.version ≡ true) × (at ≤ last_tick)
+            × (tick ≤ at) × (self.now.items < most_items) }
+        ensures no { result ≡ false → may_finish_early self.now.course.rules.version ≡ true → at ≤ last_tick →
+            tick ≤ at → self.now.items < most_items → ⊥ }
+    {
+        if !may_finish_early(self.course.version()) {
+            return false;
+        }
+        if at > LAST_TICK {
+            return false;
+        }
+        if tick > at {
+            return false;
+        }
+        self.items < MOST_ITEMS
+    }
+
+    // The next line is that of a done line that was refused.
+    fn refuse_done<L: Ledger>(
+        &mut self,
+        at: u64,
+        tick: u64,
+        number: u64,
+        steps: &mut Steps<L>,
+    ) -> bool
+        requires going { self.old.stage ≡ Going }
+        requires form { HasForm (RefusedDone at tick number) }
+        ensures took { Took self.old self.new (trace_text (RefusedDone at tick number)) result }
+        ensures kept { IsUnchangedFor self.old self.new }
+        ensures paid { (start : ℕ) → IsPaid self.old start steps.old →
+            IsPaid self.new start steps.new }
+    {
+        // What is kept of the lines is known where a field is read.
+        let _ = &self.stage;
+        if !self.may_refuse_done(at, tick) {
+            return false;
+        }
+        if !self.waits_until(at, steps) {
+            return false;
+        }
+        if self.is_right_done(at, tick, number) {
+            return false;
+        }
+        self.items += 1;
+        self.refused += 1;
         self.floor = at;
         true
     }
@@ -447,12 +600,13 @@ impl Reader {
         requires form { HasForm read.now }
         ensures took { Took self.old self.new (trace_text read.now) result }
         ensures kept { IsUnchangedFor self.old self.new }
-        ensures paid { (start now : ℕ) → HasPaid self.old.course start now → HasPaid self.new.course start now }
+        ensures paid { (start now : ℕ) → IsPaid self.old start now → IsPaid self.new start now }
     {
         match read {
             TraceLine::Header { version, p, q } => self.open_with(*version, *p, *q),
             TraceLine::Step(_) => false,
             TraceLine::Refused { .. } => false,
+            TraceLine::RefusedDone { .. } => false,
         }
     }
 
@@ -466,11 +620,12 @@ impl Reader {
         ensures spare { self.old.spare ≤ self.new.spare + releases_in event.now }
         ensures keep { self.new.keep ≡ self.old.keep }
         ensures jobs { self.new.course.jobs ≤ self.old.course.jobs + releases_in event.now }
-        ensures paid { (start : ℕ) → HasPaid self.old.course start steps.old →
-            HasPaid self.new.course start steps.new }
+        ensures paid { (start : ℕ) → IsPaid self.old start steps.old →
+            IsPaid self.new start steps.new }
     {
         match event {
             Event::Release { number, job } => self.take_release(*number, *job, steps),
+            Event::Complete { at, number } => Ok(self.complete(*at, *number, steps)),
             _ => Ok(self.follow(event, steps)),
         }
     }
@@ -488,8 +643,8 @@ impl Reader {
         ensures spare { self.old.spare ≤ self.new.spare + jobs_in read.now }
         ensures keep { self.new.keep ≡ self.old.keep }
         ensures jobs { self.new.course.jobs ≤ self.old.course.jobs + jobs_in read.now }
-        ensures paid { (start : ℕ) → HasPaid self.old.course start steps.old →
-            HasPaid self.new.course start steps.new }
+        ensures paid { (start : ℕ) → IsPaid self.old start steps.old →
+            IsPaid self.new start steps.new }
     {
         match read {
             TraceLine::Header { .. } => Ok(false),
@@ -502,6 +657,9 @@ impl Reader {
                 value,
                 cause,
             } => { Ok(self.refuse(*at, *release, *work, *deadline, *value, *cause, steps)) }
+            TraceLine::RefusedDone { at, tick, number } => {
+                Ok(self.refuse_done(*at, *tick, *number, steps))
+            }
         }
     }
 
@@ -517,8 +675,8 @@ impl Reader {
         ensures spare { self.old.spare ≤ self.new.spare + jobs_in read.now }
         ensures keep { self.new.keep ≡ self.old.keep }
         ensures jobs { self.new.course.jobs ≤ self.old.course.jobs + jobs_in read.now }
-        ensures paid { (start : ℕ) → HasPaid self.old.course start steps.old →
-            HasPaid self.new.course start steps.new }
+        ensures paid { (start : ℕ) → IsPaid self.old start steps.old →
+            IsPaid self.new start steps.new }
     {
         match self.stage {
             Stage::Opening => Ok(self.take_first(read)),
@@ -539,8 +697,8 @@ impl Reader {
         ensures spare { self.old.spare ≤ self.new.spare + job_lines_in line.now }
         ensures keep { self.new.keep ≡ self.old.keep }
         ensures jobs { self.new.course.jobs ≤ self.old.course.jobs + job_lines_in line.now }
-        ensures paid { (start : ℕ) → HasPaid self.old.course start steps.old →
-            HasPaid self.new.course start steps.new }
+        ensures paid { (start : ℕ) → IsPaid self.old start steps.old →
+            IsPaid self.new start steps.new }
     {
         match read_trace_line(line) {
             Ok(read) => self.take_read(&read, steps),
@@ -549,13 +707,34 @@ impl Reader {
     }
 }
 
-// The version is Two.
-fn is_two(version: Version) -> bool
-    ensures { IsTrue result ↔ (version ≡ Two) }
+// Jobs may finish early.
+#[inline(always)]
+fn may_finish_early(version: Version) -> bool
+    ensures { result ≡ may_finish_early version }
 {
     match version {
-        Version::One | Version::Three => false,
-        Version::Two => true,
+        Version::One | Version::Two => false,
+        Version::Three => true,
+    }
+}
+
+// A job line that isn't admitted is refused alone.
+fn refuses_lines(version: Version) -> bool
+    ensures { result ≡ refuses_lines version }
+{
+    match version {
+        Version::One => false,
+        Version::Two | Version::Three => true,
+    }
+}
+
+// It is the cause for which a late job line is refused alone.
+fn is_late_cause(version: Version, cause: Refusal) -> bool
+    ensures { IsTrue result ↔ (late_refusal version ≡ Some cause) }
+{
+    match version {
+        Version::One | Version::Two => false,
+        Version::Three => is_same_cause(cause, Refusal::Late),
     }
 }
 

@@ -20,7 +20,7 @@ returns-in-Ended c text stands =
       refl,
       refl,
       refl,
-      earned end.0 end.1.version end.1.valid,
+      earned end.0 end.1.valid,
     )
 
 pub returns-in-Going : goal.returns-in-Going

@@ -1,7 +1,7 @@
 use Rattle.std.proofs.Common.{◌<◌, ◌++◌, ◌∷◌, [], ℕ, List, length, sym, ap, ◌∙◌, subst, arith}
 use Rattle.line_text.specs.declared.cutting.Step.TheVariants.{More, Line, TooLong}
 use Rattle.line_text.specs.Cutting.{Cutting}
-use Rattle.ready_jobs.specs.Spending.{HasPaid}
+use Rattle.trace_judge.specs.Reads.{IsPaid}
 use Rattle.trace_judge.specs.Reads.{Reading, job_lines_in}
 use Rattle.trace_judge.specs.Judging.{Judged, StandsFor, IsGood, IsCut, Fed, IsOverfed, HasPaidFor}
 use Rattle.trace_judge.proofs.Judging.{stands_good, ok_onto, err_onto, some_line, is_cut, named_ended, named_more}
@@ -104,7 +104,7 @@ pub returns-in-More-clause-paid : goal.returns-in-More-clause-paid
 returns-in-More-clause-paid g c = λ text start stands it.
     let was = subst (λ j. HasPaidFor j text start c.args.steps.now) (sym c.self.view_is) it in
     record {
-      paid = subst (λ (r : Reading). HasPaid r.course start c.args.steps.now) (sym c.go_on.ensures.reader) was.paid;
+      paid = subst (λ (r : Reading). IsPaid r start c.args.steps.now) (sym c.go_on.ensures.reader) was.paid;
       few = omega (
         arith,
         ap (λ (r : Reading). r.course.jobs) c.go_on.ensures.reader,

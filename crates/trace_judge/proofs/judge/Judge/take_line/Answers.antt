@@ -1,6 +1,6 @@
 use Rattle.std.proofs.Common.{arith, ap, sym, ◌∙◌, subst}
 use Rattle.line_text.specs.declared.cutting.Step.TheVariants.{Line}
-use Rattle.ready_jobs.specs.Spending.{HasPaid}
+use Rattle.trace_judge.specs.Reads.{IsPaid}
 use Rattle.trace_judge.specs.Reads.{job_lines_in}
 use Rattle.trace_judge.specs.Judging.{Judged, IsCut}
 use Rattle.trace_judge.proofs.Judging.{ok_onto, err_onto}
@@ -45,4 +45,4 @@ returns-clause-jobs g c = omega (
 
 pub returns-clause-paid : goal.returns-clause-paid
 returns-clause-paid g c start paid = c.note.ensures.paid start (c.take-taken.ensures.paid start
-    (subst (λ (j : Judged). HasPaid j.reader.course start c.args.steps.now) (sym c.self.view_is) paid))
+    (subst (λ (j : Judged). IsPaid j.reader start c.args.steps.now) (sym c.self.view_is) paid))

@@ -1,7 +1,9 @@
 use Rattle.std.proofs.Common.{refl, sym, ap, subst, arith}
-use Rattle.ready_jobs.specs.Spending.{HasPaid}
+use Rattle.trace_judge.specs.Reads.{IsPaid}
 use Rattle.trace_judge.specs.Reads.{Reading, CanRelease}
+use Rattle.ready_jobs.specs.Course.{Course}
 use Rattle.ready_jobs.proofs.Courses.{more_ready}
+use Rattle.trace_judge.proofs.Paying.{paid_late}
 use Rattle.trace_judge.proofs.Releases.{release_course, release_room, taken_reads, taken_reader}
 use Rattle.trace_judge.proofs.reader.Reader.admit.Goals as goal
 
@@ -36,20 +38,22 @@ keep_step-requires c keep = omega (
 
 pub invariant_of-self : goal.invariant_of-self
 invariant_of-self c = taken_reader _ _ c.self.view_is c.self.invariant c.requires.going c.args.job c.release.new.self
-    c.jobs-number.result c.release-self-inside.result
+    c.jobs-number.result c.release-release.result
     c.admit.new.self _ c.keep_step.new.steps.items _ _ c.release.ensures.kept c.release.ensures.ready
     c.jobs-number.ensures.is
-    c.release-self-inside.ensures.is c.admit.ensures.stands c.admit.ensures.ratio refl c.keep_step.ensures.items
+    c.release-release.ensures.is c.admit.ensures.stands c.admit.ensures.ratio refl c.keep_step.ensures.items
     c.requires.can.0 c.requires.can.1
     (omega (arith, c.requires.spare, ap (λ (r : Reading). r.spare) c.self.view_is)) c.keep_step.ensures.room
 
 pub returns-clause-reads : goal.returns-clause-reads
 returns-clause-reads c = taken_reads _ _ c.self.view_is c.self.invariant c.requires.going c.args.job c.release.new.self
-    c.jobs-number.result c.release-self-inside.result
+    c.jobs-number.result c.release-release.result
     c.admit.new.self _ c.keep_step.new.steps.items _ _ c.release.ensures.kept c.release.ensures.ready
     c.jobs-number.ensures.is
-    c.release-self-inside.ensures.is c.admit.ensures.stands c.admit.ensures.ratio refl c.keep_step.ensures.items
+    c.release-release.ensures.is c.admit.ensures.stands c.admit.ensures.ratio refl c.keep_step.ensures.items
 
 pub returns-clause-paid : goal.returns-clause-paid
-returns-clause-paid c start now paid = c.release.ensures.paid start now
-    (subst (λ (r : Reading). HasPaid r.course start now) (sym c.self.view_is) paid)
+returns-clause-paid c start now paid = paid_late c.release.new.self c.release-release.result start now
+    (c.release.ensures.paid start now
+    (subst (λ (r : Reading). IsPaid r start now) (sym c.self.view_is) paid).paid)
+    (omega (arith, ap (λ (d : Course). d.clock) c.release.ensures.kept, c.release-release.ensures.is))

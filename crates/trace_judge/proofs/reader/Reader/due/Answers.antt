@@ -1,6 +1,7 @@
 use Rattle.std.proofs.Common.{sym, subst}
-use Rattle.ready_jobs.specs.Spending.{HasPaid}
+use Rattle.trace_judge.specs.Reads.{IsPaid}
 use Rattle.trace_judge.specs.Reads.{Reading, ReadsAhead}
+use Rattle.trace_judge.proofs.Paying.{paid_on}
 use Rattle.trace_judge.proofs.Readings.{ends_of, ended_due, named_ahead, named_due, next_reader, kept_on}
 use Rattle.trace_judge.proofs.reader.Reader.due.Goals as goal
 
@@ -23,5 +24,7 @@ returns-in-Ended-clause-due g c ls reads =
     ended_due _ ls it.0 it.1
 
 pub returns-in-Going-clause-paid : goal.returns-in-Going-clause-paid
-returns-in-Going-clause-paid g c start paid = c.upcoming.ensures.paid start
-    (subst (λ (r : Reading). HasPaid r.course start c.args.steps.now) (sym c.self.view_is) paid)
+returns-in-Going-clause-paid g c start paid = paid_on _ c.upcoming.new.self _ start c.args.steps.now
+    c.upcoming.new.steps
+    (subst (λ (r : Reading). IsPaid r start c.args.steps.now) (sym c.self.view_is) paid)
+    (c.upcoming.ensures.paid start) (c.upcoming.ensures.freely start)

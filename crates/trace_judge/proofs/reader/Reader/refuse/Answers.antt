@@ -1,36 +1,56 @@
-use Rattle.std.proofs.Common.{sym, subst}
-use Rattle.ready_jobs.specs.Spending.{HasPaid}
+use Rattle.std.proofs.Common.{sym, subst, arith, ap, ◌∙◌}
+use Rattle.trace_judge.specs.Reads.{IsPaid}
 use Rattle.trace_judge.specs.Reads.{Reading}
-use Rattle.trace_judge.proofs.Refusals.{not_refusable, not_waited, refused_took, refused_reader}
+use Rattle.trace_judge.proofs.Refusals.{not_waited, refused_few, refused_took, refused_reader, job_line, job_named}
+use Rattle.trace_judge.proofs.Refusals.{job_not, job_may}
 use Rattle.trace_judge.proofs.reader.Reader.refuse.Goals as goal
 
 pub returns-then-not-may_refuse-clause-took : goal.returns-then-not-may_refuse-clause-took
 returns-then-not-may_refuse-clause-took g c =
-    not_refusable c.args.at c.args.release c.args.work c.args.deadline c.args.value c.args.cause c.requires.form
+    job_not c.args.at c.args.release c.args.work c.args.deadline c.args.value c.args.cause c.requires.form
     c.args.self.now c.requires.going
     (c.may_refuse.ensures.no c.if-not-may_refuse.true)
 
 pub returns-then-not-waits_until-clause-took : goal.returns-then-not-waits_until-clause-took
-returns-then-not-waits_until-clause-took g c =
-    not_waited c.args.at c.args.release c.args.work c.args.deadline c.args.value c.args.cause c.requires.form
+returns-then-not-waits_until-clause-took g c = not_waited
+    (job_line c.args.at c.args.release c.args.work c.args.deadline c.args.value c.args.cause c.requires.form)
+    (job_named c.args.at c.args.release c.args.work c.args.deadline c.args.value c.args.cause c.requires.form)
     c.args.self.now c.requires.going
     c.waits_until.new.self (c.waits_until.ensures.no c.if-not-waits_until.true) c.waits_until.ensures.ahead
 
 pub invariant_of-self : goal.invariant_of-self
-invariant_of-self g c = refused_reader c.args.at c.args.release c.args.work c.args.deadline c.args.value c.args.cause
-    c.requires.form c.args.self.now c.requires.going
-    _ c.waits_until.new.self c.self-2.view_is c.waits_until.ensures.kept c.waits_until.ensures.course.rules
-    (c.may_refuse.ensures.yes c.if-not-may_refuse.false) (c.may_refuse.ensures.refuses c.if-not-may_refuse.false)
+invariant_of-self g c = refused_reader
+    (job_line c.args.at c.args.release c.args.work c.args.deadline c.args.value c.args.cause c.requires.form)
+    (job_named c.args.at c.args.release c.args.work c.args.deadline c.args.value c.args.cause c.requires.form)
+    c.args.self.now c.requires.going _ c.waits_until.new.self c.self-2.view_is c.waits_until.ensures.kept
+    (c.may_refuse.ensures.yes c.if-not-may_refuse.false).1
+    (c.may_refuse.ensures.yes c.if-not-may_refuse.false).2
+    (job_may c.args.at c.args.release c.args.work c.args.deadline c.args.value c.args.cause c.requires.form
+    c.args.self.now c.waits_until.new.self (c.may_refuse.ensures.yes c.if-not-may_refuse.false).0
+    (c.may_refuse.ensures.refuses c.if-not-may_refuse.false))
     (c.waits_until.ensures.yes c.if-not-waits_until.false) c.self-2.invariant _ c.self.view_is c.self.invariant
 
 pub returns-clause-took : goal.returns-clause-took
-returns-clause-took g c = refused_took c.args.at c.args.release c.args.work c.args.deadline c.args.value c.args.cause
-    c.requires.form c.args.self.now c.requires.going
-    _ c.waits_until.new.self c.self-2.view_is c.waits_until.ensures.kept c.waits_until.ensures.course.rules
-    (c.may_refuse.ensures.yes c.if-not-may_refuse.false) (c.may_refuse.ensures.refuses c.if-not-may_refuse.false)
+returns-clause-took g c = refused_took
+    (job_line c.args.at c.args.release c.args.work c.args.deadline c.args.value c.args.cause c.requires.form)
+    (job_named c.args.at c.args.release c.args.work c.args.deadline c.args.value c.args.cause c.requires.form)
+    c.args.self.now c.requires.going _ c.waits_until.new.self c.self-2.view_is c.waits_until.ensures.kept
+    (c.may_refuse.ensures.yes c.if-not-may_refuse.false).1
+    (c.may_refuse.ensures.yes c.if-not-may_refuse.false).2
+    (job_may c.args.at c.args.release c.args.work c.args.deadline c.args.value c.args.cause c.requires.form
+    c.args.self.now c.waits_until.new.self (c.may_refuse.ensures.yes c.if-not-may_refuse.false).0
+    (c.may_refuse.ensures.refuses c.if-not-may_refuse.false))
     (c.waits_until.ensures.yes c.if-not-waits_until.false)
 
 pub returns-clause-paid : goal.returns-clause-paid
 returns-clause-paid g c start paid =
-    subst (λ (r : Reading). HasPaid r.course start c.waits_until.new.steps) (sym c.self-2.view_is)
+    subst (λ (r : Reading). IsPaid r start c.waits_until.new.steps) (sym c.self-2.view_is)
     (c.waits_until.ensures.paid start paid)
+
+pub overflow_add-self-2 : goal.overflow_add-self-2
+overflow_add-self-2 g c = let same = c.self-2.view_is ∙ c.waits_until.ensures.kept in omega (
+  arith,
+  refused_few _ c.self-2.invariant (ap (λ (r : Reading). r.stage) same ∙ c.requires.going),
+  ap (λ (r : Reading). r.items) same,
+  (c.may_refuse.ensures.yes c.if-not-may_refuse.false).2,
+)

@@ -27,6 +27,8 @@ KeptIn spare i = IsReader (record {
   steps = i.steps.items;
   spare = spare;
   room = vec_capacity i.steps;
+  refused = i.refused;
+  last = i.last;
 })
 
 pub invariant_of-self-2 : goal.invariant_of-self-2

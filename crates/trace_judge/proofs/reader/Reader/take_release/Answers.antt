@@ -20,7 +20,8 @@ returns-then-not-waits_until-clause-took g c =
     c.waits_until.new.self
     (subst (λ tick. c.args.self.now.floor ≤ tick → (ls : List (List ℕ)) (S : Session) (z : State)
     → Goes c.args.self.now ls S z z → (x : State)
-    → WaitsUntil (instance_of S).rules tick z x → ⊥) c.release.ensures.is (c.waits_until.ensures.no c.if-not-waits_until.true))
+    → WaitsUntil (instance_of S).rules tick z x
+    → ⊥) c.release.ensures.is (c.waits_until.ensures.no c.if-not-waits_until.true))
     c.waits_until.ensures.ahead
 
 -- the job may be released, with room

@@ -1,6 +1,7 @@
 use Rattle.std.proofs.Common.{◌∙◌, sym, ap, subst, arith}
-use Rattle.ready_jobs.specs.Spending.{HasPaid}
+use Rattle.trace_judge.specs.Reads.{IsPaid}
 use Rattle.trace_judge.specs.Reads.{Reading}
+use Rattle.trace_judge.proofs.Paying.{paid_on}
 use Rattle.trace_judge.proofs.Readings.{kept_on}
 use Rattle.trace_judge.proofs.Taking.{settled_ahead, settled_yes, settled_no, settled_reader, is_nothing, is_something}
 use Rattle.trace_judge.proofs.reader.Reader.waits_until.Goals as goal
@@ -14,7 +15,8 @@ pub returns-clause-yes : goal.returns-clause-yes
 returns-clause-yes g c quiet =
     settled_yes _ _ c.self.view_is c.settle.new.self c.args.tick c.settle.result c.settle.ensures.settled
     c.settle.ensures.low
-    (is_nothing c.settle.result c.is_none.result c.is_none.ensures quiet) (omega (arith, c.if-self-tick.false))
+    (is_nothing c.settle.result c.is_none.result c.is_none.ensures quiet)
+    (omega (arith, c.if-self-tick.false))
     (omega (arith, c.if-clock-tick.false, c.clock.ensures.is))
 
 pub returns-clause-no : goal.returns-clause-no
@@ -30,5 +32,6 @@ returns-clause-ahead g c =
     (ap (λ (r : Reading). r.stage) c.self.view_is ∙ c.requires.going)
 
 pub returns-clause-paid : goal.returns-clause-paid
-returns-clause-paid g c start paid = c.settle.ensures.paid start
-    (subst (λ (r : Reading). HasPaid r.course start c.args.steps.now) (sym c.self.view_is) paid)
+returns-clause-paid g c start paid = paid_on _ c.settle.new.self _ start c.args.steps.now c.settle.new.steps
+    (subst (λ (r : Reading). IsPaid r start c.args.steps.now) (sym c.self.view_is) paid)
+    (c.settle.ensures.paid start) (c.settle.ensures.freely start)

@@ -1,0 +1,57 @@
+-- What the text of a line names behind a session.
+use Rattle.std.proofs.Common.{◌≡◌, ℕ, ◌∷◌, [], refl, ap, ◌∙◌, Some, None, codes}
+use Rattle.std.specs.Option.{option_or, option_and_then}
+use Rattle.dover_model.specs.declared.events.Event.{Event}
+use Rattle.dover_model.specs.declared.events.Event.TheVariants.{Release, Run, Preempt, Take, Complete, Abandon, End}
+use Rattle.dover_model.specs.JobFacts.{JobFacts}
+use Rattle.dover_model.specs.Lines.{numbers_of}
+use Rattle.dover_model.specs.Session.{Session, Item}
+use Rattle.dover_model.specs.Trace.{Printed}
+use Rattle.dover_model.specs.Verdict.{named_item, item_of, finish_from}
+use Rattle.dover_model.proofs.Early.{finish_in}
+use Rattle.dover_model.proofs.Named.{named_text, first_word}
+use Rattle.trace_format.specs.declared.lines.TraceLine.{TraceLine}
+use Rattle.trace_format.specs.declared.lines.TraceLine.TheVariants.{Header, Step}
+use Rattle.trace_format.specs.Form.{HasForm, item_in, trace_text}
+use Rattle.trace_format.proofs.Spelled.{text_read, read_IsRead}
+
+-- the text of a line names its item
+pub text_item : (x : TraceLine) → HasForm x → item_of (trace_text x) ≡ item_in x
+text_item x form = (read_IsRead (trace_text x) x (text_read x form)).item
+
+-- and behind each session as well
+pub item_named : (S : Session) (x : TraceLine) (item : Item) → HasForm x → item_in x ≡ Some item
+    → named_item S (trace_text x) ≡ Some item
+item_named S x item form is =
+    ap (λ o. option_or o (option_and_then (finish_from S) (numbers_of (codes "complete") (trace_text x))))
+    (text_item x form ∙ is)
+
+-- the text of a step that is no release names what it finishes
+pub step_named : (S : Session) (e : Event) → HasForm (Step e) → item_in (Step e) ≡ None
+    → named_item S (trace_text (Step e)) ≡ finish_in S e
+step_named S (Release n j) form none = absurd (cc)
+step_named S (Run at n) form none = named_text S (Printed (Run at n)) form.0
+step_named S (Preempt at stops starts) form none = named_text S (Printed (Preempt at stops starts)) form.0
+step_named S (Take at stops starts) form none = named_text S (Printed (Take at stops starts)) form.0
+step_named S (Complete at n) form none = named_text S (Printed (Complete at n)) form.0
+step_named S (Abandon at n) form none = named_text S (Printed (Abandon at n)) form.0
+step_named S (End value) form none = named_text S (Printed (End value)) form.0
+
+-- one that is neither a release nor a completion names nothing
+pub quiet_named : (e : Event) → ((n : ℕ) (j : JobFacts) → e ≡ Release n j → ⊥)
+    → ((at n : ℕ) → e ≡ Complete at n → ⊥) → HasForm (Step e) → (S : Session)
+    → named_item S (trace_text (Step e)) ≡ None
+quiet_named (Release n j) released completed form S = absurd (released n j refl)
+quiet_named (Run at n) released completed form S = step_named S (Run at n) form refl
+quiet_named (Preempt at stops starts) released completed form S = step_named S (Preempt at stops starts) form refl
+quiet_named (Take at stops starts) released completed form S = step_named S (Take at stops starts) form refl
+quiet_named (Complete at n) released completed form S = absurd (completed at n refl)
+quiet_named (Abandon at n) released completed form S = step_named S (Abandon at n) form refl
+quiet_named (End value) released completed form S = step_named S (End value) form refl
+
+-- a header names nothing
+pub header_named : (S : Session) (v p q : ℕ) → HasForm (Header v p q) → named_item S (trace_text (Header v p q)) ≡ None
+header_named S v p q form =
+    ap (λ o. option_or o (option_and_then (finish_from S) (numbers_of (codes "complete") (trace_text (Header v p q)))))
+    (text_item (Header v p q) form)
+    ∙ ap (option_and_then (finish_from S)) (first_word (codes "dover") (v ∷ p ∷ q ∷ []) refl form)

@@ -1,0 +1,11 @@
+use Rattle.trace_judge.proofs.Completing.{completion_took}
+use Rattle.trace_judge.proofs.reader.Reader.complete.Goals as goal
+
+pub returns-clause-took : goal.returns-clause-took
+returns-clause-took g c = completion_took c.args.self.now c.requires.going c.args.at c.args.number c.requires.form
+    c.finish_early.new.self c.follow.new.self c.follow.result (c.finish_early.ensures.stage c.if-finish_early.false)
+    (c.finish_early.ensures.no c.if-finish_early.false) (c.finish_early.ensures.ahead c.if-finish_early.false)
+    c.follow.ensures.followed
+
+pub returns-clause-paid : goal.returns-clause-paid
+returns-clause-paid g c start paid = c.follow.ensures.paid start (c.finish_early.ensures.paid start paid)
