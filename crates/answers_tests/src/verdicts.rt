@@ -50,7 +50,7 @@ fn wrong_texts(rt: HostRuntime) {
     let complete = Expected::Step(Event::Complete { at: 1, number: 0 });
     let abandon = Expected::Step(Event::Abandon { at: 0, number: 1 });
     let rows: [(&[u8], u64, Expected); 7] = [
-        (b"dover 3 1 1\n", 1, Expected::Header),
+        (b"dover 4 1 1\n", 1, Expected::Header),
         (b"dover 1 1 1\njob 0 0 2 2 2\nrun  0 0\n", 3, run),
         (
             b"dover 1 2 1\njob 0 0 1 5 1\nrun 0 0\njob 1 0 1 5 3\n",

@@ -1,12 +1,12 @@
 -- Counts among the printed steps of a run are those of its report.
 use Rattle.std.proofs.Common.{◌≡◌, ℕ, ◌+◌, ◌*◌, ◌≤◌, ◌<◌, List, [], ◌∷◌, ◌++◌, length, map, take, get_or, refl}
-use Rattle.std.proofs.Common.{sym, ap, ◌∙◌, subst}
-use Rattle.std.proofs.Common.{cond, arith, append_assoc}
+use Rattle.std.proofs.Common.{sym, ap, ◌∙◌}
+use Rattle.std.proofs.Common.{cond, arith}
 use Rattle.std.proofs.lemmas.List.{length-take, length-take-le}
-use Rattle.std.specs.Prelude.{Option, Some, None, option_to_list, codes}
-use Rattle.std.specs.List.{filter_map, fold, sum_by, count_by, cons_option, enumerate_from}
-use Rattle.std.specs.Option.{option_map}
-use Rattle.std.proofs.lemmas.List.{take_more, append-nil}
+use Rattle.std.specs.Prelude.{Option, Some, None, option_to_list, codes, Bool, true, false, nat_lt}
+use Rattle.std.specs.Bool.{then_some}
+use Rattle.std.specs.List.{filter_map, sum_by, count_by, cons_option, enumerate_from}
+use Rattle.std.proofs.lemmas.List.{take_more}
 use Rattle.std.proofs.lemmas.List.Sums.{sum_by-cons, sum_by_more, count_by-le-length}
 use Rattle.std.proofs.lemmas.List.Elements.{filter_map-append}
 use Rattle.std.proofs.lemmas.List.Concat.{flat_map-append}
@@ -14,27 +14,33 @@ use Rattle.dover_model.specs.declared.events.Event.{Event}
 use Rattle.dover_model.specs.declared.events.Event.TheVariants.{Release, Run, Preempt, Take, Complete, Abandon, End}
 use Rattle.dover_model.specs.Fraction.{Fraction}
 use Rattle.dover_model.specs.JobFacts.{JobFacts}
-use Rattle.dover_model.specs.Instance.{Declaration, declared_by, Instance, IsValid}
-use Rattle.dover_model.specs.Session.{Session, Item, JobItem, FinishItem, EarlyFinish, job_of_item, admitted_jobs}
-use Rattle.dover_model.specs.Session.{instance_of, new_session, with_item, with_named, early_at}
-use Rattle.dover_model.specs.Trace.{Printed, places_after, put_in, session_of}
-use Rattle.dover_model.specs.Run.{printed, completed_value}
+use Rattle.dover_model.specs.declared.events.Task.{Task}
+use Rattle.dover_model.specs.Instance.{Instance, IsValid}
+use Rattle.dover_model.specs.Session.{Item, FinishItem, admitted_jobs, may_finish_early}
+use Rattle.dover_model.specs.Settled.{finish_now}
+use Rattle.dover_model.specs.State.{running, left}
+use Rattle.dover_model.specs.Step.{Move, Prints, Waits, Ticks}
+use Rattle.dover_model.specs.Trace.{handed_by, early_of as shown_early}
+use Rattle.dover_model.specs.Run.{Step, run, event_of, printed_of, printed, completed_value}
 use Rattle.dover_model.specs.Intervals as model
 use Rattle.dover_model.specs.Bound.{bound}
 use Rattle.dover_model.specs.Lines.{with_numbers, in_lines}
 use Rattle.dover_model.specs.Reports.{fate_of_event, is_completed, abandoned_number, is_take}
-use Rattle.dover_model.specs.Reports.{Completed, Abandoned, summary_lines, interval_line, report}
+use Rattle.dover_model.specs.Reports.{Completed, Abandoned, lines_with, summary_lines, interval_line, report}
+use Rattle.dover_model.specs.Reports as reports
+use Rattle.dover_model.specs.Observed.{hads as model_hads}
 use Rattle.dover_model.proofs.Ending.{few_printed}
 use Rattle.dover_model.proofs.BoundLaws.{intervals_abandon}
-use Rattle.dover_model.proofs.Growing.{all_lines, with_line_named}
 use Rattle.dover_model.proofs.ReleaseCounts.{releases}
-use Rattle.dover_model.proofs.JobSessions.{jobs_back, instance_back, session_of_valid}
-use Rattle.dover_model.proofs.Walks.{session_names}
+use Rattle.dover_model.proofs.RunSessions.{run_jobs}
 use Rattle.intervals.specs.Rows.{IsRunOf, numbers_of, rows_of}
 use Rattle.intervals.specs.declared.interval.Interval.{Interval}
 use Rattle.dover_report.specs.Counts.{job_released, jobs_released, is_release, is_completion, is_abandonment}
 use Rattle.dover_report.specs.Counts.{value_in, value_lost, all_lost}
-use Rattle.dover_report.specs.Counts.{counts_of, counts_lines}
+use Rattle.dover_report.specs.Counts.{counts_of, fates_lines, bound_line, counts_lines}
+use Rattle.dover_report.specs.Early.{left_in, left_at, early_of, with_left, HasRoom, early_line, early_lines}
+use Rattle.dover_report.specs.declared.early.Early.{Early}
+use Rattle.dover_report.proofs.Texts.{five_parts}
 use Rattle.dover_report.specs.Fates.{fates_of, with_fate, HasSpace}
 use Rattle.dover_report.specs.declared.counts.Fates.{Fates}
 use Rattle.dover_report.specs.Lines.{row_line, row_lines}
@@ -64,51 +70,37 @@ as_released (Complete at n ∷ run) = as_released run
 as_released (Abandon at n ∷ run) = as_released run
 as_released (End value ∷ run) = as_released run
 
--- no refused lines have places
-no_places : (rules : Declaration) (before : List Item) (jobs : List JobFacts)
-    → places_after rules before (map JobItem jobs) ≡ []
-no_places rules before [] = refl
-no_places rules before (j ∷ jobs) = no_places rules (before ++ JobItem j ∷ []) jobs
+-- steps release the jobs that they show to have been handed in
+released_shown : (xs : List Step) → releases (printed_of xs) ≡ admitted_jobs (filter_map handed_by xs)
+released_shown [] = refl
+released_shown (x ∷ xs) = by_move x.move (released_shown xs) where
+  shown : List Item
+  shown = filter_map handed_by xs
 
--- the jobs with one item more
-jobs_with : (items : List Item) (x : Item)
-    → admitted_jobs (items ++ x ∷ []) ≡ admitted_jobs items ++ cons_option (job_of_item x) []
-jobs_with items x = filter_map-append job_of_item items (x ∷ [])
+  by_early : (o : Option Task) → admitted_jobs shown ≡ admitted_jobs (cons_option (shown_early x.before.clock o) shown)
+  by_early None = refl
+  by_early (Some r) = by_left (nat_lt 0 (left r)) where
+    by_left : (b : Bool) → admitted_jobs shown ≡ admitted_jobs (cons_option
+        (then_some b (FinishItem (record { at = x.before.clock; finish = finish_now r }))) shown)
+    by_left true = refl
+    by_left false = refl
 
--- printed steps name the jobs that they release
-jobs_named : (es : List Event) (S : Session)
-    → admitted_jobs (fold with_line_named S (map Printed es)).items ≡ admitted_jobs S.items ++ releases es
-jobs_named [] S = sym (append-nil (admitted_jobs S.items))
-jobs_named (Release n j ∷ es) S = jobs_named es (with_item S (JobItem j))
-    ∙ ap (λ js. js ++ releases es) (jobs_with S.items (JobItem j))
-    ∙ append_assoc (admitted_jobs S.items) (j ∷ []) (releases es)
-jobs_named (Run at n ∷ es) S = jobs_named es S
-jobs_named (Preempt at stops starts ∷ es) S = jobs_named es S
-jobs_named (Take at stops starts ∷ es) S = jobs_named es S
-jobs_named (Complete at n ∷ es) S = by_finish (early_at S at n) (jobs_named es) where
-  by_finish : (o : Option EarlyFinish)
-      → ((T : Session) → admitted_jobs (fold with_line_named T (map Printed es)).items
-      ≡ admitted_jobs T.items ++ releases es)
-      → admitted_jobs (fold with_line_named (with_named S (option_map FinishItem o)) (map Printed es)).items
-      ≡ admitted_jobs S.items ++ releases es
-  by_finish None rest = rest S
-  by_finish (Some f) rest = rest (with_item S (FinishItem f))
-      ∙ ap (λ js. js ++ releases es) (jobs_with S.items (FinishItem f) ∙ append-nil (admitted_jobs S.items))
-jobs_named (Abandon at n ∷ es) S = jobs_named es S
-jobs_named (End value ∷ es) S = jobs_named es S
+  by_move : (m : Move) → releases (printed_of xs) ≡ admitted_jobs shown
+      → releases (cons_option (event_of m) (printed_of xs))
+      ≡ admitted_jobs (cons_option (handed_by (record { before = x.before; move = m })) shown)
+  by_move (Prints (Release n j)) rest = ap (λ js. j ∷ js) rest
+  by_move (Prints (Run at n)) rest = rest
+  by_move (Prints (Preempt at stops starts)) rest = rest
+  by_move (Prints (Take at stops starts)) rest = rest
+  by_move (Prints (Complete at n)) rest = rest ∙ by_early (running x.before)
+  by_move (Prints (Abandon at n)) rest = rest
+  by_move (Prints (End value)) rest = rest
+  by_move (Waits n) rest = rest
+  by_move Ticks rest = rest
 
 -- a run releases its jobs, in their order
-pub releases_are : (J : Instance) → J.rules.finishes ≡ [] → IsValid J → releases (printed J) ≡ J.jobs
-releases_are J plain valid = sym (jobs_named (printed J) (new_session (declared_by J.rules)))
-    ∙ ap (λ (S : Session). admitted_jobs S.items) named ∙ jobs_back J.jobs where
-      lines : all_lines (session_of J) ≡ map Printed (printed J)
-      lines = ap (λ places. put_in places 0 (printed (instance_of (session_of J))))
-          (no_places (declared_by J.rules) [] J.jobs)
-          ∙ ap (λ (K : Instance). map Printed (printed K)) (instance_back J plain)
-
-      named : fold with_line_named (new_session (declared_by J.rules)) (map Printed (printed J)) ≡ session_of J
-      named = subst (λ ls. fold with_line_named (new_session (declared_by J.rules)) ls ≡ session_of J) lines
-          (session_names (session_of J) (session_of_valid J plain valid))
+pub releases_are : (J : Instance) → IsValid J → releases (printed J) ≡ J.jobs
+releases_are J valid = released_shown (run J) ∙ run_jobs J valid
 
 -- ---- counts
 
@@ -220,17 +212,94 @@ releases_count (Abandon at n ∷ run) =
 releases_count (End value ∷ run) =
     omega (arith, sum_by-cons (λ e. cond (is_release e) 1 0) (End value) run, releases_count run)
 
+-- ---- jobs that completed with work left
+
+-- the numbers of the jobs that are done
+abbrev done : List Event → List ℕ
+done run = filter_map reports.completed_number (filter_map fate_of_event run)
+
+module _ (jobs : List JobFacts) (hads : List ℕ) where
+  -- how much is left of them
+  early_left : (run : List Event) → sum_by (left_in jobs hads) (done run) ≡ sum_by (left_at jobs hads) run
+  early_left [] = refl
+  early_left (Release n job ∷ run) = omega (arith, sum_by-cons (left_at jobs hads) (Release n job) run, early_left run)
+  early_left (Run at n ∷ run) = omega (arith, sum_by-cons (left_at jobs hads) (Run at n) run, early_left run)
+  early_left (Preempt at r n ∷ run) =
+      omega (arith, sum_by-cons (left_at jobs hads) (Preempt at r n) run, early_left run)
+  early_left (Take at r n ∷ run) = omega (arith, sum_by-cons (left_at jobs hads) (Take at r n) run, early_left run)
+  early_left (Complete at n ∷ run) = omega (
+    arith,
+    sum_by-cons (left_at jobs hads) (Complete at n) run,
+    sum_by-cons (left_in jobs hads) n (done run),
+    early_left run,
+  )
+  early_left (Abandon at n ∷ run) = omega (arith, sum_by-cons (left_at jobs hads) (Abandon at n) run, early_left run)
+  early_left (End value ∷ run) = omega (arith, sum_by-cons (left_at jobs hads) (End value) run, early_left run)
+
+  -- how many there are
+  early_count : (run : List Event)
+      → count_by (λ n. nat_lt 0 (left_in jobs hads n)) (done run) ≡ count_by (λ e. nat_lt 0 (left_at jobs hads e)) run
+  early_count [] = refl
+  early_count (Release n job ∷ run) =
+      omega (arith, sum_by-cons (λ e. cond (nat_lt 0 (left_at jobs hads e)) 1 0) (Release n job) run, early_count run)
+  early_count (Run at n ∷ run) =
+      omega (arith, sum_by-cons (λ e. cond (nat_lt 0 (left_at jobs hads e)) 1 0) (Run at n) run, early_count run)
+  early_count (Preempt at r n ∷ run) =
+      omega (arith, sum_by-cons (λ e. cond (nat_lt 0 (left_at jobs hads e)) 1 0) (Preempt at r n) run, early_count run)
+  early_count (Take at r n ∷ run) =
+      omega (arith, sum_by-cons (λ e. cond (nat_lt 0 (left_at jobs hads e)) 1 0) (Take at r n) run, early_count run)
+  early_count (Complete at n ∷ run) = omega (
+    arith,
+    sum_by-cons (λ e. cond (nat_lt 0 (left_at jobs hads e)) 1 0) (Complete at n) run,
+    sum_by-cons (λ n. cond (nat_lt 0 (left_in jobs hads n)) 1 0) n (done run),
+    early_count run,
+  )
+  early_count (Abandon at n ∷ run) =
+      omega (arith, sum_by-cons (λ e. cond (nat_lt 0 (left_at jobs hads e)) 1 0) (Abandon at n) run, early_count run)
+  early_count (End value ∷ run) =
+      omega (arith, sum_by-cons (λ e. cond (nat_lt 0 (left_at jobs hads e)) 1 0) (End value) run, early_count run)
+
+-- what one step more makes of them
+pub early_more : (jobs : List JobFacts) (hads : List ℕ) (run : List Event) (i : ℕ) (e : Event) → e ≡ get_or run i e
+    → i < length run
+    → with_left (early_of jobs hads (take i run)) (left_at jobs hads e) ≡ early_of jobs hads (take (i + 1) run)
+early_more jobs hads run i e is there =
+    sym (same_early (more (λ x. cond (nat_lt 0 (left_at jobs hads x)) 1 0)) (more (left_at jobs hads))) where
+      whole : (a b : ℕ) → Early
+      whole a b = record { jobs = a; left = b }
+
+      same_early : {a b c d : ℕ} → a ≡ c → b ≡ d → whole a b ≡ whole c d
+      same_early e1 e2 = cc
+
+      more : (f : Event → ℕ) → sum_by f (take (i + 1) run) ≡ sum_by f (take i run) + f e
+      more f = sum_by_more f run i e there ∙ ap (λ x. sum_by f (take i run) + f x) (sym is)
+
+-- there is room for one step more
+pub early_fits : (jobs : List JobFacts) (hads : List ℕ) (run : List Event) (i : ℕ) (early : Early)
+    → early ≡ early_of jobs hads (take i run)
+    → early.left ≤ 1_000_000_000_000 * i → i < length run → length run ≤ 5_000_001 → HasRoom early
+early_fits jobs hads run i early is low there few = record {
+  jobs = omega (
+    arith,
+    ap (λ (x : Early). x.jobs) is,
+    length-take-le i run (omega arith),
+    count_by-le-length (λ e. nat_lt 0 (left_at jobs hads e)) (take i run),
+  );
+  left = omega arith;
+}
+
 -- ---- lines
 
 -- equal numbers have equal lines
-same_lines : (n m x y a b g h v w t u c d : ℕ) → n ≡ m → x ≡ y → a ≡ b → g ≡ h → v ≡ w → t ≡ u → c ≡ d
+same_lines : (more : List (List ℕ)) (n m x y a b g h v w t u c d : ℕ) → n ≡ m → x ≡ y → a ≡ b → g ≡ h → v ≡ w → t ≡ u
+    → c ≡ d
     → with_numbers (codes "jobs") (n ∷ []) ∷ with_numbers (codes "completed") (x ∷ a ∷ []) ∷ with_numbers
     (codes "abandoned") (g ∷ v ∷ [])
-    ∷ with_numbers (codes "taken") (t ∷ []) ∷ with_numbers (codes "bound") (c ∷ []) ∷ []
+    ∷ with_numbers (codes "taken") (t ∷ []) ∷ (more ++ with_numbers (codes "bound") (c ∷ []) ∷ [])
     ≡ with_numbers (codes "jobs") (m ∷ []) ∷ with_numbers (codes "completed") (y ∷ b ∷ []) ∷ with_numbers
     (codes "abandoned") (h ∷ w ∷ [])
-    ∷ with_numbers (codes "taken") (u ∷ []) ∷ with_numbers (codes "bound") (d ∷ []) ∷ []
-same_lines n m x y a b g h v w t u c d e1 e2 e3 e4 e5 e6 e7 = cc
+    ∷ with_numbers (codes "taken") (u ∷ []) ∷ (more ++ with_numbers (codes "bound") (d ∷ []) ∷ [])
+same_lines more n m x y a b g h v w t u c d e1 e2 e3 e4 e5 e6 e7 = cc
 
 -- the rows have the lines of the intervals
 rows_lines : (n : ℕ) (is : List model.Interval)
@@ -262,12 +331,14 @@ rows_more rows i d there =
 module _ (k : Fraction) (run : List Event) (J : Instance) (of : IsRunOf k run J) where
   -- the jobs are those that the steps release
   pub jobs_are : jobs_released run ≡ J.jobs
-  jobs_are = as_released run ∙ ap releases (sym of.prints) ∙ releases_are J of.plain of.valid
+  jobs_are = as_released run ∙ ap releases (sym of.prints) ∙ releases_are J of.valid
 
-  -- the summary's lines are those of the counts
-  pub summary_is : (jobs : List JobFacts) (value : ℕ) → jobs ≡ jobs_released run → value ≡ completed_value J
-      → counts_lines (counts_of k run jobs value) ≡ summary_lines J
-  summary_is jobs value same worth = same_lines _ _ _ _ _ _ _ _ _ _ _ _ _ _
+  -- the summary's lines are those of the counts, with others behind the one of the takes
+  lines_are : (more : List (List ℕ)) (jobs : List JobFacts) (value : ℕ) → jobs ≡ jobs_released run
+      → value ≡ completed_value J
+      → fates_lines (counts_of k run jobs value) ++ (more ++ bound_line (counts_of k run jobs value) ∷ [])
+      ≡ lines_with J more
+  lines_are more jobs value same worth = same_lines more _ _ _ _ _ _ _ _ _ _ _ _ _ _
       (ap length jobs_same)
       (sym (completions run) ∙ ap (λ es. count_by is_completed (filter_map fate_of_event es)) (sym of.prints))
       worth
@@ -279,28 +350,58 @@ module _ (k : Fraction) (run : List Event) (J : Instance) (of : IsRunOf k run J)
         jobs_same : jobs ≡ J.jobs
         jobs_same = same ∙ jobs_are
 
+  -- and without them
+  pub summary_is : (jobs : List JobFacts) (value : ℕ) → jobs ≡ jobs_released run → value ≡ completed_value J
+      → counts_lines (counts_of k run jobs value) ≡ summary_lines J
+  summary_is = lines_are []
+
+  -- the line of those that completed early
+  early_is : (early : Bool) (jobs : List JobFacts) (hads : List ℕ) → early ≡ may_finish_early J.rules.version
+      → (early ≡ true → hads ≡ model_hads J) → jobs ≡ jobs_released run
+      → early_lines early jobs hads run ≡ reports.early_lines J
+  early_is early jobs hads is same released = by_early early is same where
+    left : ℕ → ℕ
+    left = reports.left_of_job J
+
+    of_numbers : List ℕ → List (List ℕ)
+    of_numbers ns = with_numbers (codes "early") (count_by (λ n. nat_lt 0 (left n)) ns ∷ sum_by left ns ∷ []) ∷ []
+
+    counted : (es : List Event)
+        → early_line (early_of J.jobs (model_hads J) es) ∷ []
+        ≡ of_numbers (filter_map reports.completed_number (filter_map fate_of_event es))
+    counted es = ap (λ (n : ℕ). with_numbers (codes "early")
+        (n ∷ sum_by (left_at J.jobs (model_hads J)) es ∷ []) ∷ []) (sym (early_count J.jobs (model_hads J) es))
+        ∙ ap (λ (n : ℕ). with_numbers (codes "early")
+        (count_by (λ n. nat_lt 0 (left n)) (done es) ∷ n ∷ []) ∷ []) (sym (early_left J.jobs (model_hads J) es))
+
+    by_early : (b : Bool) → b ≡ may_finish_early J.rules.version → (b ≡ true → hads ≡ model_hads J)
+        → early_lines b jobs hads run ≡ reports.early_lines J
+    by_early true three are =
+        ap (λ js. early_line (early_of js hads run) ∷ []) (released ∙ jobs_are)
+        ∙ ap (λ hs. early_line (early_of J.jobs hs run) ∷ []) (are refl)
+        ∙ counted run
+        ∙ ap (λ es. of_numbers (done es)) (sym of.prints)
+        ∙ ap (λ (c : Bool). cond c (of_numbers (done (printed J))) []) three
+    by_early false three are = ap (λ (c : Bool). cond c (of_numbers (done (printed J))) []) three
+
   -- the report, put together
-  pub report_is : (jobs : List JobFacts) (value : ℕ) (rows : List Interval) → jobs ≡ jobs_released run
-      → value ≡ completed_value J → rows ≡ rows_of J
-      → (in_lines (with_numbers (codes "ratio") (k.p ∷ k.q ∷ []) ∷ []) ++ in_lines
-      (counts_lines (counts_of k run jobs value))) ++ in_lines
-      (row_lines rows)
+  pub report_is : (early : Bool) (jobs : List JobFacts) (hads : List ℕ) (value : ℕ) (rows : List Interval)
+      → early ≡ may_finish_early J.rules.version → (early ≡ true → hads ≡ model_hads J)
+      → jobs ≡ jobs_released run → value ≡ completed_value J → rows ≡ rows_of J
+      → (((in_lines (with_numbers (codes "ratio") (k.p ∷ k.q ∷ []) ∷ []) ++ in_lines
+      (fates_lines (counts_of k run jobs value))) ++ in_lines (early_lines early jobs hads run))
+      ++ in_lines (bound_line (counts_of k run jobs value) ∷ [])) ++ in_lines (row_lines rows)
       ≡ report J
-  report_is jobs value rows same worth all =
-      append_assoc (in_lines (with_numbers (codes "ratio") (k.p ∷ k.q ∷ []) ∷ []))
-      (in_lines (counts_lines (counts_of k run jobs value)))
-      (in_lines (row_lines rows))
-      ∙ ap (λ x. in_lines (with_numbers (codes "ratio") (k.p ∷ k.q ∷ []) ∷ []) ++ x)
-      (sym (flat_map-append (λ (l : List ℕ). l ++ 10 ∷ []) (counts_lines (counts_of k run jobs value))
-      (row_lines rows)))
-      ∙ sym (flat_map-append (λ (l : List ℕ). l ++ 10 ∷ []) (with_numbers (codes "ratio") (k.p ∷ k.q ∷ []) ∷ [])
-      (counts_lines (counts_of k run jobs value) ++ row_lines rows))
+  report_is early jobs hads value rows is are same worth all =
+      five_parts (with_numbers (codes "ratio") (k.p ∷ k.q ∷ []) ∷ []) (fates_lines (counts_of k run jobs value))
+      (early_lines early jobs hads run) (bound_line (counts_of k run jobs value) ∷ []) (row_lines rows)
       ∙ ap (λ ls. in_lines (with_numbers (codes "ratio") (k.p ∷ k.q ∷ []) ∷ ls ++ row_lines rows))
-      (summary_is jobs value same worth)
-      ∙ ap (λ ls. in_lines (with_numbers (codes "ratio") (k.p ∷ k.q ∷ []) ∷ summary_lines J ++ ls))
+      (lines_are (early_lines early jobs hads run) jobs value same worth
+      ∙ ap (lines_with J) (early_is early jobs hads is are same))
+      ∙ ap (λ ls. in_lines (with_numbers (codes "ratio") (k.p ∷ k.q ∷ []) ∷ lines_with J (reports.early_lines J) ++ ls))
       (ap row_lines all ∙ rows_lines 1 (model.intervals J))
       ∙ ap (λ (r : Fraction). in_lines
-      (with_numbers (codes "ratio") (r.p ∷ r.q ∷ []) ∷ summary_lines J ++ map interval_line
+      (with_numbers (codes "ratio") (r.p ∷ r.q ∷ []) ∷ lines_with J (reports.early_lines J) ++ map interval_line
       (enumerate_from 1 (model.intervals J))))
       (sym of.ratio)
 

@@ -2,3 +2,4 @@ pub mod Texts
 pub mod Counting
 pub mod Losses
 pub mod Tables
+pub mod WorkedRows

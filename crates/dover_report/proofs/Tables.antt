@@ -1,8 +1,8 @@
 -- The table of a run, put together row by row.
 use Rattle.std.proofs.Common.{◌≡◌, ℕ, zero, suc, ◌+◌, ◌-◌, ◌≤◌, ◌<◌, List, [], ◌∷◌, ◌++◌, length, map, take, drop, set}
-use Rattle.std.proofs.Common.{refl, sym, ap, ◌∙◌, Bool, cond, arith, get_or, replicate}
+use Rattle.std.proofs.Common.{refl, sym, ap, ◌∙◌, Bool, true, false, cond, arith, get_or, replicate}
 use Rattle.std.proofs.Common.{append_assoc, append-nil, length-append, length-set}
-use Rattle.std.specs.Prelude.{Option, Some, None, ◌==◌, nat_lt, option_to_list, codes, decimal}
+use Rattle.std.specs.Prelude.{Option, Some, None, ◌==◌, nat_lt, option_to_list, codes, decimal, slice_index_or}
 use Rattle.std.specs.List.{filter_map, find, enumerate_from, join_with_byte}
 use Rattle.std.specs.Option.{option_map}
 use Rattle.std.proofs.lemmas.Bool.{eqb-true, eqb-false, lt-ltb}
@@ -19,6 +19,8 @@ use Rattle.dover_model.specs.Fraction.{Fraction}
 use Rattle.dover_model.specs.JobFacts.{JobFacts, job_numbers}
 use Rattle.dover_model.specs.Instance.{Instance}
 use Rattle.dover_model.specs.Lines.{in_lines}
+use Rattle.dover_model.specs.Observed.{hads as model_hads}
+use Rattle.dover_model.specs.Session.{may_finish_early}
 use Rattle.dover_model.specs.Reports as model
 use Rattle.dover_model.proofs.Members.{by_bool}
 use Rattle.intervals.specs.Rows.{IsRunOf}
@@ -27,7 +29,8 @@ use Rattle.dover_report.specs.declared.endings.Ending.{Ending}
 use Rattle.dover_report.specs.declared.endings.Ending.TheVariants.{Completed, Abandoned}
 use Rattle.dover_report.specs.Counts.{job_released, jobs_released, is_release}
 use Rattle.dover_report.specs.Rows.{ending_of, ending_in, ending_by, ending_at, ending_fields, after_commas, row_text}
-use Rattle.dover_report.specs.Rows.{rows_from, released_rows, with_place, with_step, CanRelease}
+use Rattle.dover_report.specs.Rows.{rows_from, released_rows, with_place, with_step, CanRelease, had_fields, names_line}
+use Rattle.dover_report.specs.Early.{had_at}
 use Rattle.dover_report.proofs.Counting.{jobs_are, released_more, releases_count}
 
 -- fields that are joined by commas
@@ -42,74 +45,118 @@ same_fields None = refl
 same_fields (Some (model.Completed n at)) = refl
 same_fields (Some (model.Abandoned n at)) = refl
 
-module _ (k : Fraction) (run : List Event) (J : Instance) (of : IsRunOf k run J) where
+-- so are those of the ticks that it had
+same_had : (early : Bool) (hads : List ℕ) (n : ℕ)
+    → had_fields (had_at early hads n) ≡ cond early (decimal (slice_index_or hads n 0) ∷ []) []
+same_had true hads n = refl
+same_had false hads n = refl
+
+module _ (k : Fraction) (run : List Event) (J : Instance) (of : IsRunOf k run J) (early : Bool) (hads : List ℕ)
+    (is_early : early ≡ may_finish_early J.rules.version) (are : early ≡ true → hads ≡ model_hads J) where
+  -- what a job had is told as the table tells it
+  had_is : (n : ℕ) → had_fields (had_at early hads n) ≡ model.had_fields J n
+  had_is n = by_early early is_early are where
+    by_early : (b : Bool) → b ≡ may_finish_early J.rules.version → (b ≡ true → hads ≡ model_hads J)
+        → had_fields (had_at b hads n) ≡ model.had_fields J n
+    by_early true is same = ap (λ hs. decimal (slice_index_or hs n 0) ∷ []) (same refl)
+        ∙ ap (λ (c : Bool). cond c (decimal (slice_index_or (model_hads J) n 0) ∷ []) []) is
+    by_early false is same = ap (λ (c : Bool). cond c (decimal (slice_index_or (model_hads J) n 0) ∷ []) []) is
+
   -- the row of a job
-  row_is : (n : ℕ) (j : JobFacts) → row_text n j (ending_in run n) ≡ model.table_row J (n, j)
-  row_is n j = sym (joined_fields (decimal n) (map decimal (job_numbers j) ++ ending_fields (ending_in run n)))
-      ∙ ap (λ fields. join_with_byte 44 (map decimal (n ∷ job_numbers j) ++ fields))
+  row_is : (n : ℕ) (j : JobFacts) → row_text n j (ending_in run n) (had_at early hads n) ≡ model.table_row J (n, j)
+  row_is n j = sym (joined_fields (decimal n) (map decimal (job_numbers j)
+      ++ (ending_fields (ending_in run n) ++ had_fields (had_at early hads n))))
+      ∙ ap (λ fields. join_with_byte 44 (map decimal (n ∷ job_numbers j)
+      ++ (fields ++ had_fields (had_at early hads n))))
       (same_fields (find (λ fate. model.number_of fate == n) (filter_map model.fate_of_event run))
       ∙ ap (λ es. model.fate_fields (find (λ fate. model.number_of fate == n) (filter_map model.fate_of_event es)))
       (sym of.prints))
+      ∙ ap (λ fields. join_with_byte 44 (map decimal (n ∷ job_numbers j)
+      ++ (model.fate_fields (find (λ fate. model.number_of fate == n) (model.fates J)) ++ fields))) (had_is n)
 
   -- all rows
-  rows_are : (n : ℕ) (jobs : List JobFacts) → rows_from run n jobs ≡ map (model.table_row J) (enumerate_from n jobs)
+  rows_are : (n : ℕ) (jobs : List JobFacts)
+      → rows_from run (had_at early hads) n jobs ≡ map (model.table_row J) (enumerate_from n jobs)
   rows_are n [] = refl
-  rows_are n (j ∷ jobs) = ap (λ r. r ∷ rows_from run (n + 1) jobs) (row_is n j)
+  rows_are n (j ∷ jobs) = ap (λ r. r ∷ rows_from run (had_at early hads) (n + 1) jobs) (row_is n j)
       ∙ ap (λ rs. model.table_row J (n, j) ∷ rs) (rows_are (n + 1) jobs)
+
+  -- the names of the fields
+  names_are : (rows : List (List ℕ))
+      → names_line early ++ in_lines rows ≡ in_lines (model.field_names J.rules.version ∷ rows)
+  names_are rows = ap (λ (b : Bool). names_line b ++ in_lines rows) is_early
+      ∙ by_early (may_finish_early J.rules.version) where
+        by_early : (b : Bool) → names_line b ++ in_lines rows
+            ≡ in_lines (cond b (codes "job,release,work,deadline,value,fate,tick,had")
+            (codes "job,release,work,deadline,value,fate,tick") ∷ rows)
+        by_early true = refl
+        by_early false = refl
 
   -- the table
   pub table_is : (jobs : List JobFacts) → jobs ≡ jobs_released run
-      → codes "job,release,work,deadline,value,fate,tick\n" ++ in_lines (rows_from run 0 jobs) ≡ model.table J
-  table_is jobs same = ap (λ js. codes "job,release,work,deadline,value,fate,tick\n" ++ in_lines (rows_from run 0 js))
+      → names_line early ++ in_lines (rows_from run (had_at early hads) 0 jobs) ≡ model.table J
+  table_is jobs same = ap (λ js. names_line early ++ in_lines (rows_from run (had_at early hads) 0 js))
       (same ∙ jobs_are k run J of)
-      ∙ ap (λ rs. codes "job,release,work,deadline,value,fate,tick\n" ++ in_lines rs) (rows_are 0 J.jobs)
+      ∙ ap (λ rs. names_line early ++ in_lines rs) (rows_are 0 J.jobs)
+      ∙ names_are (map (model.table_row J) (enumerate_from 0 J.jobs))
 
 -- one row more
-row_snoc : (run : List Event) (n : ℕ) (jobs : List JobFacts) (j : JobFacts)
-    → rows_from run n (jobs ++ j ∷ []) ≡ rows_from run n jobs ++ row_text (n + length jobs) j
-    (ending_in run (n + length jobs)) ∷ []
-row_snoc run n [] j = ap (λ m. row_text m j (ending_in run m) ∷ []) (omega arith)
-row_snoc run n (x ∷ jobs) j =
+row_snoc : (run : List Event) (had : ℕ → Option ℕ) (n : ℕ) (jobs : List JobFacts) (j : JobFacts)
+    → rows_from run had n (jobs ++ j ∷ []) ≡ rows_from run had n jobs ++ row_text (n + length jobs) j
+    (ending_in run (n + length jobs)) (had (n + length jobs)) ∷ []
+row_snoc run had n [] j = ap (λ m. row_text m j (ending_in run m) (had m) ∷ []) (omega arith)
+row_snoc run had n (x ∷ jobs) j =
     let same : n + 1 + length jobs ≡ n + length (x ∷ jobs) = omega arith in
-    ap (λ rs. row_text n x (ending_in run n) ∷ rs) (row_snoc run (n + 1) jobs j
-    ∙ ap (λ m. rows_from run (n + 1) jobs ++ row_text m j (ending_in run m) ∷ []) same)
+    ap (λ rs. row_text n x (ending_in run n) (had n) ∷ rs) (row_snoc run had (n + 1) jobs j
+    ∙ ap (λ m. rows_from run had (n + 1) jobs ++ row_text m j (ending_in run m) (had m) ∷ []) same)
 
 -- a step that releases none
-no_row : (run : List Event) (jobs : List JobFacts) (text : List ℕ)
-    → (text ++ in_lines (rows_from run 0 jobs)) ++ [] ≡ text ++ in_lines (rows_from run 0 (jobs ++ []))
-no_row run jobs text = append-nil (text ++ in_lines (rows_from run 0 jobs))
-    ∙ ap (λ js. text ++ in_lines (rows_from run 0 js)) (sym (append-nil jobs))
+no_row : (run : List Event) (had : ℕ → Option ℕ) (jobs : List JobFacts) (text : List ℕ)
+    → (text ++ in_lines (rows_from run had 0 jobs)) ++ [] ≡ text ++ in_lines (rows_from run had 0 (jobs ++ []))
+no_row run had jobs text = append-nil (text ++ in_lines (rows_from run had 0 jobs))
+    ∙ ap (λ js. text ++ in_lines (rows_from run had 0 js)) (sym (append-nil jobs))
 
 -- one step more
-released_row : (run : List Event) (jobs : List JobFacts) (text : List ℕ) (e : Event)
-    → (text ++ in_lines (rows_from run 0 jobs)) ++ in_lines (released_rows run (length jobs) e)
-    ≡ text ++ in_lines (rows_from run 0 (jobs ++ option_to_list (job_released e)))
-released_row run jobs text (Release m j) =
+released_row : (run : List Event) (had : ℕ → Option ℕ) (jobs : List JobFacts) (text : List ℕ) (e : Event)
+    → (text ++ in_lines (rows_from run had 0 jobs)) ++ in_lines (released_rows run had (length jobs) e)
+    ≡ text ++ in_lines (rows_from run had 0 (jobs ++ option_to_list (job_released e)))
+released_row run had jobs text (Release m j) =
     let number : 0 + length jobs ≡ length jobs = omega arith in
-    append_assoc text (in_lines (rows_from run 0 jobs))
-    (in_lines (row_text (length jobs) j (ending_in run (length jobs)) ∷ []))
-    ∙ ap (λ x. text ++ x) (sym (flat_map-append (λ (l : List ℕ). l ++ 10 ∷ []) (rows_from run 0 jobs)
-    (row_text (length jobs) j (ending_in run (length jobs)) ∷ []))
-    ∙ ap (λ m. in_lines (rows_from run 0 jobs ++ row_text m j (ending_in run m) ∷ [])) (sym number)
-    ∙ ap in_lines (sym (row_snoc run 0 jobs j)))
-released_row run jobs text (Run at n) = no_row run jobs text
-released_row run jobs text (Preempt at r n) = no_row run jobs text
-released_row run jobs text (Take at r n) = no_row run jobs text
-released_row run jobs text (Complete at n) = no_row run jobs text
-released_row run jobs text (Abandon at n) = no_row run jobs text
-released_row run jobs text (End value) = no_row run jobs text
+    append_assoc text (in_lines (rows_from run had 0 jobs))
+    (in_lines (row_text (length jobs) j (ending_in run (length jobs)) (had (length jobs)) ∷ []))
+    ∙ ap (λ x. text ++ x) (sym (flat_map-append (λ (l : List ℕ). l ++ 10 ∷ []) (rows_from run had 0 jobs)
+    (row_text (length jobs) j (ending_in run (length jobs)) (had (length jobs)) ∷ []))
+    ∙ ap (λ m. in_lines (rows_from run had 0 jobs ++ row_text m j (ending_in run m) (had m) ∷ [])) (sym number)
+    ∙ ap in_lines (sym (row_snoc run had 0 jobs j)))
+released_row run had jobs text (Run at n) = no_row run had jobs text
+released_row run had jobs text (Preempt at r n) = no_row run had jobs text
+released_row run had jobs text (Take at r n) = no_row run had jobs text
+released_row run had jobs text (Complete at n) = no_row run had jobs text
+released_row run had jobs text (Abandon at n) = no_row run had jobs text
+released_row run had jobs text (End value) = no_row run had jobs text
 
-pub row_more : (run : List Event) (i : ℕ) (e : Event) (number : ℕ) (text line : List ℕ) → e ≡ get_or run i e
-    → i < length run → number ≡ length (jobs_released (take i run))
-    → line ≡ text ++ in_lines (rows_from run 0 (jobs_released (take i run)))
-    → line ++ in_lines (released_rows run number e)
-    ≡ text ++ in_lines (rows_from run 0 (jobs_released (take (i + 1) run)))
-row_more run i e number text line is there count before =
-    ap (λ x. x ++ in_lines (released_rows run number e)) before
-    ∙ ap (λ n. (text ++ in_lines (rows_from run 0 (jobs_released (take i run))))
-    ++ in_lines (released_rows run n e)) count
-    ∙ released_row run (jobs_released (take i run)) text e
-    ∙ ap (λ js. text ++ in_lines (rows_from run 0 js))
+-- a row of what one job had is that of what each had
+pub same_released : (run : List Event) (had : ℕ → Option ℕ) (n : ℕ) (one : Option ℕ) (e : Event) → one ≡ had n
+    → released_rows run (λ m. one) n e ≡ released_rows run had n e
+same_released run had n one (Release m j) same = ap (λ o. row_text n j (ending_in run n) o ∷ []) same
+same_released run had n one (Run at m) same = refl
+same_released run had n one (Preempt at r m) same = refl
+same_released run had n one (Take at r m) same = refl
+same_released run had n one (Complete at m) same = refl
+same_released run had n one (Abandon at m) same = refl
+same_released run had n one (End value) same = refl
+
+pub row_more : (run : List Event) (had : ℕ → Option ℕ) (i : ℕ) (e : Event) (number : ℕ) (text line : List ℕ)
+    → e ≡ get_or run i e → i < length run → number ≡ length (jobs_released (take i run))
+    → line ≡ text ++ in_lines (rows_from run had 0 (jobs_released (take i run)))
+    → line ++ in_lines (released_rows run had number e)
+    ≡ text ++ in_lines (rows_from run had 0 (jobs_released (take (i + 1) run)))
+row_more run had i e number text line is there count before =
+    ap (λ x. x ++ in_lines (released_rows run had number e)) before
+    ∙ ap (λ n. (text ++ in_lines (rows_from run had 0 (jobs_released (take i run))))
+    ++ in_lines (released_rows run had n e)) count
+    ∙ released_row run had (jobs_released (take i run)) text e
+    ∙ ap (λ js. text ++ in_lines (rows_from run had 0 js))
     (released_more run i e (jobs_released (take i run)) is there refl)
 
 -- as many jobs more as the step releases

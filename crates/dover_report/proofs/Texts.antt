@@ -39,6 +39,12 @@ lines_are t [] y same = same ∙ sym (append-nil t)
 lines_are t (l ∷ ls) y (x, one, more) = lines_are x ls y more ∙ ap (λ s. s ++ in_lines ls) one
     ∙ append_assoc t (in_lines (l ∷ [])) (in_lines ls) ∙ ap (λ s. t ++ s) (ap (λ s. s ++ in_lines ls) (one_line l))
 
+-- fields behind commas, and others behind them
+pub joined_commas : (t : List ℕ) (xs ys : List (List ℕ))
+    → (t ++ after_commas xs) ++ after_commas ys ≡ t ++ after_commas (xs ++ ys)
+joined_commas t xs ys = append_assoc t (after_commas xs) (after_commas ys)
+    ∙ ap (λ s. t ++ s) (sym (flat_map-append (λ field. 44 ∷ field) xs ys))
+
 -- the row of a first field and two lists of others, put together
 pub row_is : (t first : List ℕ) (xs ys : List (List ℕ))
     → (((t ++ first) ++ after_commas xs) ++ after_commas ys) ++ 10 ∷ []
@@ -48,3 +54,22 @@ row_is t first xs ys = ap (λ s. s ++ 10 ∷ []) (append_assoc (t ++ first) (aft
     ∙ append_assoc t first (after_commas (xs ++ ys)))
     ∙ append_assoc t (first ++ after_commas (xs ++ ys)) (10 ∷ [])
     ∙ ap (λ s. t ++ s) (sym (one_line (first ++ after_commas (xs ++ ys))))
+
+-- lines behind lines
+joined_lines : (a b : List (List ℕ)) → in_lines a ++ in_lines b ≡ in_lines (a ++ b)
+joined_lines a b = sym (flat_map-append (λ (l : List ℕ). l ++ 10 ∷ []) a b)
+
+-- five parts put one behind another
+pub five_parts : (a b c d e : List (List ℕ))
+    → (((in_lines a ++ in_lines b) ++ in_lines c) ++ in_lines d) ++ in_lines e ≡ in_lines (a ++ ((b ++ (c ++ d)) ++ e))
+five_parts a b c d e =
+    ap (λ t. ((t ++ in_lines c) ++ in_lines d) ++ in_lines e) (joined_lines a b)
+    ∙ ap (λ t. (t ++ in_lines d) ++ in_lines e) (joined_lines (a ++ b) c)
+    ∙ ap (λ t. t ++ in_lines e) (joined_lines ((a ++ b) ++ c) d)
+    ∙ joined_lines (((a ++ b) ++ c) ++ d) e
+    ∙ ap (λ (ls : List (List ℕ)). in_lines (ls ++ e)) (append_assoc (a ++ b) c d ∙ append_assoc a b (c ++ d))
+    ∙ ap in_lines (append_assoc a (b ++ (c ++ d)) e)
+
+-- lines put behind lines
+pub behind_lines : (t : List ℕ) (a b : List (List ℕ)) → (t ++ in_lines a) ++ in_lines b ≡ t ++ in_lines (a ++ b)
+behind_lines t a b = append_assoc t (in_lines a) (in_lines b) ∙ ap (λ s. t ++ s) (joined_lines a b)

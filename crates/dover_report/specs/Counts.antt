@@ -1,5 +1,5 @@
 -- What a report counts among the printed steps.
-use Rattle.std.specs.Prelude.{ℕ, List, [], ◌∷◌, length, codes, Bool, true, false, Option, Some, None, slice_get}
+use Rattle.std.specs.Prelude.{ℕ, List, [], ◌∷◌, ◌++◌, length, codes, Bool, true, false, Option, Some, None, slice_get}
 use Rattle.std.specs.List.{filter_map, sum_by, count_by}
 use Rattle.std.specs.Option.{option_map_or}
 use Rattle.dover_model.specs.declared.events.Event.{Event}
@@ -60,12 +60,19 @@ counts_of k run jobs value = record {
   bound = bound k value;
 }
 
--- the lines of a summary
-abbrev pub counts_lines : Counts → List (List ℕ)
-counts_lines c =
+-- the lines of a summary before the one of the bound
+abbrev pub fates_lines : Counts → List (List ℕ)
+fates_lines c =
     with_numbers (codes "jobs") (c.jobs ∷ [])
     ∷ with_numbers (codes "completed") (c.completed ∷ c.value ∷ [])
     ∷ with_numbers (codes "abandoned") (c.abandoned ∷ c.lost ∷ [])
     ∷ with_numbers (codes "taken") (c.taken ∷ [])
-    ∷ with_numbers (codes "bound") (c.bound ∷ [])
     ∷ []
+
+-- the line of the bound
+abbrev pub bound_line : Counts → List ℕ
+bound_line c = with_numbers (codes "bound") (c.bound ∷ [])
+
+-- the lines of a summary
+abbrev pub counts_lines : Counts → List (List ℕ)
+counts_lines c = fates_lines c ++ bound_line c ∷ []

@@ -1,5 +1,5 @@
 -- The rows of a table: a job, and how it ended.
-use Rattle.std.specs.Prelude.{◌≡◌, ℕ, ◌+◌, ◌<◌, ◌^◌, List, [], ◌∷◌, ◌++◌, length, map, set, ◌==◌, nat_lt}
+use Rattle.std.specs.Prelude.{◌≡◌, ℕ, ◌+◌, ◌<◌, ◌^◌, List, [], ◌∷◌, ◌++◌, length, map, set, ◌==◌, nat_lt, Bool}
 use Rattle.std.specs.Prelude.{if◌then◌else◌, slice_get, slice_index_or, Option, Some, None}
 use Rattle.std.specs.Prelude.{codes, decimal}
 use Rattle.std.specs.List.{filter_map, find, enumerate_from, flat_map}
@@ -47,22 +47,34 @@ ending_fields None = []
 ending_fields (Some (Completed at)) = codes "complete" ∷ decimal at ∷ []
 ending_fields (Some (Abandoned at)) = codes "abandon" ∷ decimal at ∷ []
 
+-- the field of the ticks that a job had
+abbrev pub had_fields : Option ℕ → List (List ℕ)
+had_fields None = []
+had_fields (Some had) = decimal had ∷ []
+
+-- the names of the fields, by whether the ticks that a job had are among them
+abbrev pub names_line : Bool → List ℕ
+names_line early = if early then codes "job,release,work,deadline,value,fate,tick,had\n"
+    else codes "job,release,work,deadline,value,fate,tick\n"
+
 -- each field behind a comma
 abbrev pub after_commas : List (List ℕ) → List ℕ
 after_commas fields = flat_map (λ field. 44 ∷ field) fields
 
--- the row of a job with its number and its ending
-abbrev pub row_text : ℕ → JobFacts → Option Ending → List ℕ
-row_text n j ending = decimal n ++ after_commas (map decimal (job_numbers j) ++ ending_fields ending)
+-- the row of a job with its number, its ending, and the ticks that it had, if these are told
+abbrev pub row_text : ℕ → JobFacts → Option Ending → Option ℕ → List ℕ
+row_text n j ending had =
+    decimal n ++ after_commas (map decimal (job_numbers j) ++ (ending_fields ending ++ had_fields had))
 
--- the rows of jobs from number n on, with how they ended in these steps
-abbrev pub rows_from : List Event → ℕ → List JobFacts → List (List ℕ)
-rows_from run n jobs = map (λ n_j. row_text n_j.0 n_j.1 (ending_in run n_j.0)) (enumerate_from n jobs)
+-- the rows of jobs from number n on, with how they ended in these steps and what each had
+abbrev pub rows_from : List Event → (ℕ → Option ℕ) → ℕ → List JobFacts → List (List ℕ)
+rows_from run had n jobs =
+    map (λ n_j. row_text n_j.0 n_j.1 (ending_in run n_j.0) (had n_j.0)) (enumerate_from n jobs)
 
 -- the row of the job of number n, where the step releases it
-abbrev pub released_rows : List Event → ℕ → Event → List (List ℕ)
-released_rows run n (Release m j) = row_text n j (ending_in run n) ∷ []
-released_rows run n _ = []
+abbrev pub released_rows : List Event → (ℕ → Option ℕ) → ℕ → Event → List (List ℕ)
+released_rows run had n (Release m j) = row_text n j (ending_in run n) (had n) ∷ []
+released_rows run had n _ = []
 
 -- where the step releases the job of number n, its ending stands at its place
 abbrev pub CanRelease : List Event → List ℕ → ℕ → Event → Type 0

@@ -2,11 +2,13 @@
 #![tactic(auto)]
 
 mod counts;
+mod early;
 pub mod endings;
 mod lines;
 mod report;
 mod rows;
 
 pub use counts::{Counts, count, released, value_of};
+pub use early::{had_of, left_at, left_of};
 pub use report::{summary, text};
 pub use rows::table;

@@ -4,26 +4,34 @@ ghost use Rattle.dover_model.specs.Instance.{Instance};
 ghost use Rattle.dover_model.specs.Lines.{in_lines};
 ghost use Rattle.dover_model.specs.Reports.{report, summary};
 ghost use Rattle.intervals.specs.Rows.{IsRunOf};
-ghost use Rattle.dover_report.specs.Counts.{counts_lines};
+ghost use Rattle.dover_report.specs.Counts.{fates_lines, counts_lines};
 ghost use Rattle.dover_report.specs.Lines.{row_lines};
 
-use crate::counts::{Counts, fates_in};
+use crate::counts::{Counts, Fates, fates_in, released};
+use crate::early::{hads_where, may_finish_early, put_early};
 use crate::lines::put_line;
-use dover_model::{Event, Memory, Ratio};
+use dover_model::{Event, Memory, Ratio, Version};
 use intervals::{Charge, Interval};
 use std::alloc::Global;
 
-/// The report on the run that prints these steps: its ratio, its summary and its intervals. The jobs of the run are
-/// valid for the ratio `k`. Want of memory is the only error.
-pub fn text(alloc: Global, k: Ratio, run: &[Event]) -> Result<Vec<u8>, Memory>
+/// The report on the run of this version that prints these steps: its ratio, its summary and its intervals, and where
+/// jobs may finish early a line of those that did. The jobs of the run are valid for the ratio `k`. Want of memory is
+/// the only error.
+pub fn text(alloc: Global, version: Version, k: Ratio, run: &[Event]) -> Result<Vec<u8>, Memory>
     requires { (J : Instance) × IsRunOf k run.now J }
-    ensures { (J : Instance) → IsRunOf k run.now J → IfOk result (λ text. text.items ≡ report J) }
+    ensures { (J : Instance) → IsRunOf k run.now J → J.rules.version ≡ version
+        → IfOk result (λ text. text.items ≡ report J) }
 {
-    let fates = fates_in(alloc, run)?;
+    let early = may_finish_early(version);
+    let jobs = released(alloc, run)?;
+    let hads = hads_where(alloc, early, run)?;
     let charge = Charge::of(alloc, k, run)?;
+    let counts = Fates::of(&jobs, run).counts(k, charge.value());
     let mut text = Vec::new(alloc);
     put_line(&mut text, b"ratio", &[u64::from(k.p()), u64::from(k.q())])?;
-    put_counts(&mut text, fates.counts(k, charge.value()))?;
+    put_fates(&mut text, counts)?;
+    put_early(&mut text, early, &jobs, &hads, run)?;
+    put_line(&mut text, b"bound", &[counts.bound])?;
     put_rows(&mut text, charge.rows())?;
     Ok(text)
 }
@@ -44,11 +52,19 @@ pub fn summary(alloc: Global, k: Ratio, run: &[Event]) -> Result<Vec<u8>, Memory
 fn put_counts(text: &mut Vec<u8>, counts: Counts) -> Result<(), Memory>
     ensures { OnOk result (text.new.items ≡ text.old.items ++ in_lines (counts_lines counts)) }
 {
+    put_fates(text, counts)?;
+    put_line(text, b"bound", &[counts.bound])?;
+    Ok(())
+}
+
+/// Appends the lines of a summary before the one of the bound.
+fn put_fates(text: &mut Vec<u8>, counts: Counts) -> Result<(), Memory>
+    ensures { OnOk result (text.new.items ≡ text.old.items ++ in_lines (fates_lines counts)) }
+{
     put_line(text, b"jobs", &[counts.jobs])?;
     put_line(text, b"completed", &[counts.completed, counts.value])?;
     put_line(text, b"abandoned", &[counts.abandoned, counts.lost])?;
     put_line(text, b"taken", &[counts.taken])?;
-    put_line(text, b"bound", &[counts.bound])?;
     Ok(())
 }
 

@@ -7,52 +7,79 @@ ghost use Rattle.dover_model.specs.Reports.{table};
 ghost use Rattle.intervals.specs.Rows.{IsRunOf};
 ghost use Rattle.dover_report.specs.Counts.{job_released};
 ghost use Rattle.dover_report.specs.Rows.{CanRelease, released_rows, after_commas, ending_fields, row_text};
+ghost use Rattle.dover_report.specs.Rows.{had_fields, names_line};
 
 use crate::counts::releases;
+use crate::early::{had_at, hads_where, may_finish_early};
 use crate::endings::{Ending, ending_at, endings};
-use dover_model::{Event, Job, Memory};
+use dover_model::{Event, Job, Memory, Version};
 use itoa::Buffer;
 use std::alloc::Global;
 
-/// The table of the run that prints these steps: a row of names, and a row for each job. The jobs of the run are valid
-/// for some ratio. Want of memory is the only error.
-pub fn table(alloc: Global, run: &[Event]) -> Result<Vec<u8>, Memory>
+/// The table of the run of this version that prints these steps: a row of names, and a row for each job, which tells
+/// the ticks that it had where jobs may finish early. The jobs of the run are valid for some ratio. Want of memory is
+/// the only error.
+pub fn table(alloc: Global, version: Version, run: &[Event]) -> Result<Vec<u8>, Memory>
     requires { (k : Fraction) × ((J : Instance) × IsRunOf k run.now J) }
-    ensures { (k : Fraction) (J : Instance) → IsRunOf k run.now J → IfOk result (λ text. text.items ≡ table J) }
+    ensures { (k : Fraction) (J : Instance) → IsRunOf k run.now J → J.rules.version ≡ version
+        → IfOk result (λ text. text.items ≡ table J) }
 {
+    let early = may_finish_early(version);
+    let hads = hads_where(alloc, early, run)?;
     let places = endings(alloc, run, releases(run))?;
-    let mut text = Vec::from_slice(alloc, b"job,release,work,deadline,value,fate,tick\n")?;
+    let mut text = Vec::from_slice(alloc, names_line(early))?;
     let mut number = 0;
     for event in run {
-        number = put_released(&mut text, run, &places, number, event)?;
+        let had = had_at(early, &hads, number);
+        number = put_released(&mut text, run, &places, had, number, event)?;
     }
     Ok(text)
 }
 
-/// Appends the row of the job of this number where the step releases it. Answers how many jobs are released behind it.
+/// The names of the fields, by whether the ticks that a job had are among them.
+fn names_line(early: bool) -> &'static [u8]
+    ensures { result.now ≡ names_line early }
+{
+    if early {
+        return b"job,release,work,deadline,value,fate,tick,had\n";
+    }
+    b"job,release,work,deadline,value,fate,tick\n"
+}
+
+/// Appends the row of the job of this number where the step releases it, with the ticks that it had, if these are told.
+/// Answers how many jobs are released behind it.
 fn put_released(
     text: &mut Vec<u8>,
     run: &[Event],
     places: &[usize],
+    had: Option<u64>,
     number: usize,
     event: &Event,
 ) -> Result<usize, Memory>
     requires { CanRelease run.now places.now number event.now }
     ensures number { IfOk result (λ next. next ≡ number + length (option_to_list (job_released event.now))) }
-    ensures text { OnOk result (text.new.items ≡ text.old.items ++ in_lines (released_rows run.now number event.now)) }
+    ensures text { OnOk result (text.new.items
+        ≡ text.old.items ++ in_lines (released_rows run.now (λ n. had) number event.now)) }
 {
     match event {
         Event::Release { job, .. } => {
-            put_row(text, number as u64, job, ending_at(run, places[number]))?;
+            let ending = ending_at(run, places[number]);
+            put_row(text, number as u64, job, ending, had)?;
             Ok(number + 1)
         }
         _ => Ok(number),
     }
 }
 
-/// Appends the row of a job.
-fn put_row(text: &mut Vec<u8>, number: u64, job: &Job, ending: Option<Ending>) -> Result<(), Memory>
-    ensures { OnOk result (text.new.items ≡ text.old.items ++ in_lines (row_text number job.now ending ∷ [])) }
+/// Appends the row of a job, with the ticks that it had, if these are told.
+fn put_row(
+    text: &mut Vec<u8>,
+    number: u64,
+    job: &Job,
+    ending: Option<Ending>,
+    had: Option<u64>,
+) -> Result<(), Memory>
+    ensures { OnOk result (text.new.items ≡ text.old.items ++ in_lines (row_text number job.now ending had ∷ [])) }
 {
     put_number(text, number)?;
     put_numbers(
@@ -60,6 +87,7 @@ fn put_row(text: &mut Vec<u8>, number: u64, job: &Job, ending: Option<Ending>) -
         &[job.release(), job.work(), job.deadline(), job.value()],
     )?;
     put_fields(text, ending)?;
+    put_had(text, had)?;
     text.push(b'\n')?;
     Ok(())
 }
@@ -91,6 +119,16 @@ fn put_fields(text: &mut Vec<u8>, ending: Option<Ending>) -> Result<(), Memory>
         None => Ok(()),
         Some(Ending::Completed(at)) => put_ending(text, b",complete,", at),
         Some(Ending::Abandoned(at)) => put_ending(text, b",abandon,", at),
+    }
+}
+
+/// Appends the ticks that a job had behind a comma, if these are told.
+fn put_had(text: &mut Vec<u8>, had: Option<u64>) -> Result<(), Memory>
+    ensures { OnOk result (text.new.items ≡ text.old.items ++ after_commas (had_fields had)) }
+{
+    match had {
+        None => Ok(()),
+        Some(had) => put_ending(text, b",", had),
     }
 }
 

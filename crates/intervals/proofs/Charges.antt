@@ -9,16 +9,17 @@ use Rattle.dover_model.specs.declared.events.Event.{Event}
 use Rattle.dover_model.specs.Instance.{Instance, total_value}
 use Rattle.dover_model.specs.Run.{completed_value, ran}
 use Rattle.dover_model.specs.Schedules.{worth}
+use Rattle.dover_model.specs.Observed.{observed}
 use Rattle.dover_model.specs.Bound.{IsWithin}
 use Rattle.dover_model.specs.Books.{IsLeastDense}
 use Rattle.dover_model.specs.Orders.{IsHeavy}
 use Rattle.dover_model.specs.Intervals as model
 use Rattle.dover_model.specs.Sound.{Each}
 use Rattle.dover_model.proofs.Members.{on_map, sum_map}
-use Rattle.dover_model.proofs.BoundLaws.{bound, interval_ordered, interval_displaced, interval_paid, interval_light}
-use Rattle.dover_model.proofs.BoundLaws.{intervals_complete}
+use Rattle.dover_model.proofs.BoundLaws.{bound, observed_bound, interval_ordered, interval_displaced, interval_paid}
+use Rattle.dover_model.proofs.BoundLaws.{interval_light, intervals_complete}
 use Rattle.dover_model.proofs.BoundLaws.{intervals_abandon}
-use Rattle.dover_model.proofs.Honest.{plain_honest}
+use Rattle.dover_model.proofs.Honest.{observed_honest}
 use Rattle.intervals.specs.declared.interval.Interval.{Interval}
 use Rattle.intervals.specs.Pages.{Page}
 use Rattle.intervals.specs.Rows.{IsRunOf, numbers_of, rows_of}
@@ -51,8 +52,13 @@ module _ (k : Fraction) (run : List Event) (J : Instance) (of : IsRunOf k run J)
       (subst (λ (r : Fraction). IsWithin r (worth J s) (completed_value J)) of.ratio
       (bound J s of.valid))
 
-  pub rows_honest : worth J (ran J) ≡ value
-  rows_honest = plain_honest J of.valid of.plain ∙ sym is
+  pub rows_observed : (s : List ℕ) → IsWithin k (worth (observed J) s) value
+  rows_observed s = subst (λ a. IsWithin k (worth (observed J) s) a) (sym is)
+      (subst (λ (r : Fraction). IsWithin r (worth (observed J) s) (completed_value J)) of.ratio
+      (observed_bound J s of.valid))
+
+  pub rows_honest : worth (observed J) (ran J) ≡ value
+  rows_honest = observed_honest J of.valid ∙ sym is
 
   pub rows_ordered : Each (λ i. i.from ≤ i.until) rows
   rows_ordered = each_row (λ i. i.from ≤ i.until) (interval_ordered J of.valid)

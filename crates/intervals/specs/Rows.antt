@@ -1,5 +1,5 @@
 -- The intervals of a run as rows of six numbers.
-use Rattle.std.specs.Prelude.{◌≡◌, ℕ, List, [], map, Option}
+use Rattle.std.specs.Prelude.{◌≡◌, ℕ, List, map, Option}
 use Rattle.std.specs.List.{filter_map}
 use Rattle.std.specs.Option.{option_map}
 use Rattle.dover_model.specs.declared.events.Event.{Event}
@@ -33,11 +33,10 @@ weight_of step = option_map (λ e. value_sum (privileged step.before)) (event_of
 abbrev pub weights : Instance → List ℕ
 weights J = filter_map weight_of (run J)
 
--- the printed steps are those of the run of these jobs, which are valid for the ratio, and of which none finishes early
+-- the printed steps are those of the run of these jobs, which are valid for the ratio
 pub record IsRunOf (k : Fraction) (run : List Event) (J : Instance) : Type 0 where
   pub valid : IsValid J
   pub ratio : J.rules.ratio ≡ k
-  pub plain : J.rules.finishes ≡ []
   pub prints : printed J ≡ run
 
 -- rows, and the value that is completed

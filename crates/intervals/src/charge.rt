@@ -4,6 +4,7 @@ ghost use Rattle.std.specs.List.{sum_by};
 ghost use Rattle.dover_model.specs.Instance.{Instance, total_value};
 ghost use Rattle.dover_model.specs.Run.{ran, completed_value};
 ghost use Rattle.dover_model.specs.Schedules.{worth};
+ghost use Rattle.dover_model.specs.Observed.{observed};
 ghost use Rattle.dover_model.specs.Bound.{IsWithin};
 ghost use Rattle.dover_model.specs.Books.{IsLeastDense};
 ghost use Rattle.dover_model.specs.Intervals.{intervals};
@@ -42,7 +43,10 @@ impl Charge {
         ensures value { (J : Instance) → IsRunOf k run.now J → IfOk result (λ c. c.value ≡ completed_value J) }
         ensures bound { (J : Instance) → IsRunOf k run.now J
             → IfOk result (λ c. (s : List ℕ) → IsWithin k (worth J s) c.value) }
-        ensures honest { (J : Instance) → IsRunOf k run.now J → IfOk result (λ c. worth J (ran J) ≡ c.value) }
+        ensures observed { (J : Instance) → IsRunOf k run.now J
+            → IfOk result (λ c. (s : List ℕ) → IsWithin k (worth (observed J) s) c.value) }
+        ensures honest { (J : Instance) → IsRunOf k run.now J
+            → IfOk result (λ c. worth (observed J) (ran J) ≡ c.value) }
         ensures ordered { IfOk result (λ c. Each (λ i. i.from ≤ i.until) c.rows) }
         ensures displaced { IfOk result
             (λ c. Each (λ i. k.p * i.displaced * i.displaced ≤ k.q * i.taken * i.taken) c.rows) }

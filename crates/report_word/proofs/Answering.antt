@@ -14,7 +14,6 @@ use Rattle.dialogue.specs.declared.talker.Stop.TheVariants.{NoMemory, Unwritten}
 use Rattle.judge_word.specs.Line.{verdict_text, status_of}
 use Rattle.judge_word.proofs.Talking.{by_verdict, told_put, told_cut}
 use Rattle.trace_judge.specs.Judging.{Tells, steps_told}
-use Rattle.trace_judge.proofs.Plainly.{accepted_plain}
 use Rattle.trace_judge.specs.declared.judge.Closed.{Closed}
 use Rattle.trace_judge.specs.declared.verdict.Verdict.{Verdict}
 use Rattle.trace_judge.specs.declared.verdict.Verdict.TheVariants.{Accepted, Wrong, Short}
@@ -41,7 +40,6 @@ module _ (k : Fraction) (version : Version) (value most jobs : ℕ) (text : List
   run_of steps are = record {
     valid = tells.7.valid.jobs;
     ratio = sym tells.2;
-    plain = accepted_plain text tells.0 tells.1 tells.7.valid;
     prints = sym (are ∙ ap (steps_told true) tells.1);
   }
 

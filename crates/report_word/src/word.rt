@@ -13,7 +13,7 @@ ghost use Rattle.report_word.specs.Talking.{IsClosed, Puts};
 use crate::Form;
 use crate::reporting::Reporting;
 use dialogue::{Stop, converse};
-use dover_model::{Event, Memory, Ratio};
+use dover_model::{Event, Memory, Ratio, Version};
 use dover_port::{Output, Port, Status, put_all};
 use dover_report::{table, text};
 use judge_word::{put_verdict, status_of};
@@ -25,21 +25,22 @@ use std::sync::ledger::Ledger;
 use step_count::Steps;
 use trace_judge::{Closed, Judge, Verdict};
 
-/// The report on the run that prints these steps, and on how many lines were refused.
+/// The report on the run of this version that prints these steps, and on how many lines were refused.
 fn report(
     alloc: Global,
     form: Form,
+    version: Version,
     ratio: Ratio,
     steps: &[Event],
     refused: u32,
 ) -> Result<Vec<u8>, Memory>
     requires { (J : Instance) × IsRunOf ratio steps.now J }
-    ensures { (J : Instance) → IsRunOf ratio steps.now J → IfOk result
+    ensures { (J : Instance) → IsRunOf ratio steps.now J → J.rules.version ≡ version → IfOk result
         (λ text. text.items ≡ report_text form refused J) }
 {
     match form {
-        Form::Text => text(alloc, ratio, steps),
-        Form::Table => table(alloc, steps),
+        Form::Text => text(alloc, version, ratio, steps),
+        Form::Table => table(alloc, version, steps),
         Form::Chrome => chrome(alloc, ratio, steps),
         Form::Why(number) => why(alloc, ratio, steps, number),
         Form::Timeline(window) => timeline(alloc, ratio, steps, window),
@@ -47,23 +48,24 @@ fn report(
     }
 }
 
-/// Puts the report on the run that prints these steps, once it stands in memory as a whole.
+/// Puts the report on the run of this version that prints these steps, once it stands in memory as a whole.
 fn put_report<P: Port>(
     alloc: Global,
     port: &mut P,
     form: Form,
+    version: Version,
     ratio: Ratio,
     steps: &[Event],
     refused: u32,
 ) -> Result<(), Stop>
     requires { (J : Instance) × IsRunOf ratio steps.now J }
-    ensures puts { (J : Instance) → IsRunOf ratio steps.now J →
+    ensures puts { (J : Instance) → IsRunOf ratio steps.now J → J.rules.version ≡ version →
         Puts result (P.moves port.old) (P.moves port.new) (report_text form refused J) }
     ensures cause { StopCause result
         (P.write_faults port.old) (P.write_faults port.new) (P.read_faults port.old) (P.read_faults port.new) }
     ensures stops { StopsOn result (P.calls port.old) (P.calls port.new) }
 {
-    let Ok(text) = report(alloc, form, ratio, steps, refused) else {
+    let Ok(text) = report(alloc, form, version, ratio, steps, refused) else {
         return Err(Stop::NoMemory);
     };
     match put_all(port, &text) {
@@ -89,8 +91,9 @@ pub(crate) fn tell<P: Port>(
     ensures stops { StopsOn result (P.calls port.old) (P.calls port.new) }
 {
     match closed.verdict {
-        Verdict::Accepted { ratio, .. } => {
-            match put_report(alloc, port, form, ratio, &closed.steps, closed.refused) {
+        Verdict::Accepted { ratio, version, .. } => {
+            let (steps, refused) = (&closed.steps, closed.refused);
+            match put_report(alloc, port, form, version, ratio, steps, refused) {
                 Ok(()) => Ok(Status::Done),
                 Err(stop) => Err(stop),
             }

@@ -6,6 +6,7 @@ use Rattle.dover_model.specs.declared.events.Entry.{Entry}
 use Rattle.dover_model.specs.declared.events.Event.{Event}
 use Rattle.dover_model.specs.declared.events.Event.TheVariants.{Release, Run, Preempt, Take, Complete, Abandon, End}
 use Rattle.dover_model.specs.Entries.{room_of}
+use Rattle.dover_model.specs.JobFacts.{JobFacts}
 use Rattle.dover_model.specs.Limits.{most_total}
 use Rattle.dover_model.specs.Sound.{Each}
 use Rattle.held_queue.specs.Stack.{Stack, top_of, value_of, popped}
@@ -113,3 +114,9 @@ IsReadable p (Take at stops starts) = CanStop p at
 IsReadable p (Complete at n) = CanStop p at
 IsReadable p (Abandon at n) = Unit {0}
 IsReadable p (End value) = Unit {0}
+
+-- ---- what the jobs had
+
+-- the ticks that a job of this number has had, by what is left of it
+abbrev pub had_in : List Entry → ℕ × JobFacts → ℕ
+had_in entries (n, j) = j.work - (slice_index_or entries n nobody).left

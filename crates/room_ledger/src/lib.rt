@@ -1,7 +1,7 @@
-//! What room the running and the held jobs leave a fresh job.
+//! What room the running and the held jobs leave a fresh job, and how many ticks the jobs have had.
 #![tactic(auto)]
 
 mod reading;
 mod under_way;
 
-pub use reading::rooms;
+pub use reading::{hads, rooms};

@@ -1,11 +1,15 @@
 //! What a fresh job's work is tested against, step by step.
 ghost use Rattle.std.specs.Prelude.{◌≡◌, ◌≤◌, IfOk, length, map};
+ghost use Rattle.std.specs.List.{enumerate_from};
 ghost use Rattle.intervals.specs.Rows.{IsRunOf};
 ghost use Rattle.dover_model.specs.declared.events.Role.TheVariants.{Coming};
 ghost use Rattle.dover_model.specs.Entries.{entry_of};
+ghost use Rattle.dover_model.specs.Fraction.{Fraction};
 ghost use Rattle.dover_model.specs.Instance.{Instance};
 ghost use Rattle.dover_model.specs.Limits.{most_jobs};
+ghost use Rattle.dover_model.specs.Observed as observed;
 ghost use Rattle.dover_model.specs.State.{to_come};
+ghost use Rattle.room_ledger.specs.Pages.{had_in};
 ghost use Rattle.room_ledger.specs.Rooms as tests;
 
 use crate::under_way::UnderWay;
@@ -27,6 +31,32 @@ pub fn rooms(alloc: Global, k: Ratio, jobs: &[Job], run: &[Event]) -> Result<Vec
         under_way.read(alloc, event)?;
     }
     Ok(rooms)
+}
+
+/// How many ticks each job has had by the end of a run, by number, in one pass over its printed steps. The jobs of the
+/// run are these, and valid for some ratio. Want of memory is the only error.
+pub fn hads(alloc: Global, jobs: &[Job], run: &[Event]) -> Result<Vec<u64>, Memory>
+    requires { (k : Fraction) × ((J : Instance) × IsRunOf k run.now J × (jobs.now ≡ J.jobs)) }
+    ensures { (k : Fraction) (J : Instance) → IsRunOf k run.now J → jobs.now ≡ J.jobs
+        → IfOk result (λ hads. hads.items ≡ observed.hads J) }
+{
+    let mut under_way = UnderWay::new(alloc, entries(alloc, jobs)?)?;
+    for event in run {
+        under_way.read(alloc, event)?;
+    }
+    let hads = had_by(alloc, jobs, &under_way)?;
+    Ok(hads)
+}
+
+/// How many ticks each job has had, where none runs.
+fn had_by(alloc: Global, jobs: &[Job], under_way: &UnderWay) -> Result<Vec<u64>, Memory>
+    ensures { IfOk result (λ hads. hads.items ≡ map (had_in under_way.now.entries) (enumerate_from 0 jobs.now)) }
+{
+    let mut hads = Vec::new(alloc);
+    for (number, job) in jobs.iter().enumerate() {
+        hads.push(under_way.had(number, job))?;
+    }
+    Ok(hads)
 }
 
 /// The jobs by number, before any of them ran.

@@ -2,10 +2,10 @@
 ghost use Rattle.std.specs.Prelude.{◌≡◌, ◌<◌, OnOk, IfOk, None, slice_index_or};
 ghost use Rattle.held_queue.specs.Stack.{top_of};
 ghost use Rattle.room_ledger.specs.Pages.{Page, nobody, ran, turn_at, stopped, started, with_hold, without, with_event};
-ghost use Rattle.room_ledger.specs.Pages.{empty, room_on, CanStop, CanPreempt, CanWeigh, IsReadable};
+ghost use Rattle.room_ledger.specs.Pages.{empty, had_in, room_on, CanStop, CanPreempt, CanWeigh, IsReadable};
 ghost use Rattle.room_ledger.specs.Pages as pages;
 
-use dover_model::{Entry, Event, Memory};
+use dover_model::{Entry, Event, Job, Memory};
 use held_queue::Privileged;
 use std::alloc::Global;
 use std::marker::Model;
@@ -80,6 +80,16 @@ impl UnderWay {
             Event::Release { job, .. } => self.room_at(job.release()),
             Event::Preempt { at, .. } => self.room_at(at),
             _ => 0,
+        }
+    }
+
+    /// The ticks that the job of this number has had, where it doesn't run.
+    pub fn had(&self, number: usize, job: &Job) -> u64
+        ensures { result ≡ had_in self.now.entries (number, job.now) }
+    {
+        match self.entries.get(number) {
+            Some(entry) => job.work().saturating_sub(entry.left),
+            None => job.work(),
         }
     }
 

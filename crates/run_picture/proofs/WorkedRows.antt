@@ -1,10 +1,15 @@
 -- Pictures, by computation.
-use Rattle.std.proofs.Common.{◌≡◌, [], ◌∷◌, ◌++◌, refl}
+use Rattle.std.proofs.Common.{◌≡◌, [], ◌∷◌, ◌++◌, map, refl}
 use Rattle.std.specs.Prelude.{codes, Some, None}
 use Rattle.std.specs.Fmt.{digits}
 use Rattle.dover_model.specs.Instance.{Instance}
 use Rattle.dover_model.proofs.Written.{job, one}
+use Rattle.dover_model.specs.Run.{printed}
+use Rattle.dover_report.proofs.WorkedRows.{held_and_early, took_and_early}
+use Rattle.run_view.specs.Moments.{moments}
 use Rattle.run_view.specs.Templates.{filled}
+use Rattle.run_picture.specs.Processor.{pieces_from}
+use Rattle.run_picture.specs.Seen.{told_by, fate_tick}
 use Rattle.run_picture.specs.Legends.{texts_style, labels_style, bars_style, lines_style, texts_styles, paths_styles}
 use Rattle.run_picture.specs.Legends.{styles}
 use Rattle.run_picture.specs.Legends.{legend_bars, legend_words, legend, load_legend, lanes_colors, lanes_words}
@@ -257,3 +262,22 @@ its_load = refl
 two_refused : title_end 2 ≡ codes ", lines refused 2</text>\n"
 unfolding digits filled
 two_refused = refl
+
+-- where jobs finish early, their pieces end where they did
+early_pieces : pieces_from None (printed held_and_early) ≡
+    record { from = 0; until = 1; number = 0 }
+    ∷ record { from = 1; until = 2; number = 1 }
+    ∷ record { from = 2; until = 4; number = 0 }
+    ∷ []
+early_pieces = refl
+
+taken_pieces : pieces_from None (printed took_and_early) ≡
+    record { from = 0; until = 1; number = 2 }
+    ∷ record { from = 1; until = 3; number = 1 }
+    ∷ record { from = 3; until = 6; number = 0 }
+    ∷ []
+taken_pieces = refl
+
+-- and the ticks of their fates are those
+early_fates : map fate_tick (told_by [] (moments took_and_early)) ≡ 6 ∷ 3 ∷ 1 ∷ []
+early_fates = refl

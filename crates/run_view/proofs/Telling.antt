@@ -8,12 +8,13 @@ use Rattle.std.specs.List.{AllByRecursion}
 use Rattle.dover_model.specs.declared.events.Event.{Event}
 use Rattle.dover_model.specs.JobFacts.{JobFacts}
 use Rattle.dover_model.specs.Instance.{Instance}
+use Rattle.dover_model.specs.Observed.{hads}
 use Rattle.dover_model.specs.Fraction.{Fraction}
 use Rattle.dover_report.specs.Counts.{jobs_released}
 use Rattle.dover_report.proofs.Counting.{jobs_are}
 use Rattle.intervals.specs.Rows.{IsRunOf, weights}
 use Rattle.room_ledger.specs.Rooms.{rooms}
-use Rattle.run_view.specs.Why.{told, on_after, starts_first, work_of, story_from, asked, unknown, answer, why}
+use Rattle.run_view.specs.Why.{told, on_after, starts_first, weighed_at, story_from, asked, unknown, answer, why}
 use Rattle.run_view.specs.declared.story.Weighed.{Weighed}
 
 -- what is weighed is small
@@ -29,32 +30,39 @@ pub one_next : {X : Type 0} (xs : List X) (i : ℕ) (x : X) → x ≡ get_or xs 
 one_next xs i x is there = drop-cons xs i x there ∙ ap (λ y. y ∷ drop (suc i) xs) (sym is)
     ∙ ap (λ m. x ∷ drop m xs) (sym (add-one i))
 
-module _ (k : Fraction) (n value : ℕ) (jobs : List JobFacts) (steps : List Event) (worths rooms : List ℕ) where
+-- the same is weighed
+pub same_weighed : (worth room work work2 left left2 : ℕ) → work ≡ work2 → left ≡ left2
+    → (let x : Weighed = record { worth = worth; work = work; room = room; left = left } in x)
+    ≡ (let y : Weighed = record { worth = worth; work = work2; room = room; left = left2 } in y)
+same_weighed worth room work work2 left left2 e f = cc
+
+module _ (k : Fraction) (n value : ℕ) (jobs : List JobFacts) (had : List ℕ) (steps : List Event)
+    (worths rooms : List ℕ) where
   -- what is to be told from a place on
   abbrev pub rest : Bool → ℕ → List ℕ
-  rest on i = story_from k n value jobs on (drop i steps) (drop i worths) (drop i rooms)
+  rest on i = story_from k n value jobs had on (drop i steps) (drop i worths) (drop i rooms)
 
   -- one step more
   pub told_more : (i : ℕ) (e : Event) (w r : ℕ) (on starts turned : Bool) (x : Weighed) (text more whole : List ℕ)
       → e ≡ get_or steps i e → w ≡ get_or worths i w → r ≡ get_or rooms i r → i < length steps
       → length worths ≡ length steps → length rooms ≡ length steps
       → starts ≡ starts_first n (drop (i + 1) steps) → turned ≡ on_after n on e
-      → x ≡ record { worth = w; work = work_of jobs e; room = r }
+      → x ≡ weighed_at jobs had w r e
       → more ≡ text ++ told k n value on starts x e → text ++ rest on i ≡ whole
       → more ++ rest turned (i + 1) ≡ whole
   told_more i e w r on starts turned x text more whole is weighs leaves there same as_many begins turns about longer
       before =
       let es = drop (i + 1) steps in let ws = drop (i + 1) worths in let rs = drop (i + 1) rooms in
       ap (λ t. t ++ rest turned (i + 1)) longer ∙ append_assoc text (told k n value on starts x e) (rest turned (i + 1))
-      ∙ ap (λ b. text ++ (told k n value on starts x e ++ story_from k n value jobs b es ws rs)) turns
-      ∙ ap (λ b. text ++ (told k n value on b x e ++ story_from k n value jobs (on_after n on e) es ws rs)) begins
-      ∙ ap (λ y. text ++ (told k n value on (starts_first n es) y e ++ story_from k n value jobs (on_after n on e) es ws
-      rs)) about
-      ∙ ap (λ zs. text ++ story_from k n value jobs on (e ∷ es) (w ∷ ws) zs)
+      ∙ ap (λ b. text ++ (told k n value on starts x e ++ story_from k n value jobs had b es ws rs)) turns
+      ∙ ap (λ b. text ++ (told k n value on b x e ++ story_from k n value jobs had (on_after n on e) es ws rs)) begins
+      ∙ ap (λ y. text ++ (told k n value on (starts_first n es) y e
+      ++ story_from k n value jobs had (on_after n on e) es ws rs)) about
+      ∙ ap (λ zs. text ++ story_from k n value jobs had on (e ∷ es) (w ∷ ws) zs)
       (sym (one_next rooms i r leaves (omega (arith, there, as_many))))
-      ∙ ap (λ ys. text ++ story_from k n value jobs on (e ∷ es) ys (drop i rooms))
+      ∙ ap (λ ys. text ++ story_from k n value jobs had on (e ∷ es) ys (drop i rooms))
       (sym (one_next worths i w weighs (omega (arith, there, same))))
-      ∙ ap (λ xs. text ++ story_from k n value jobs on xs (drop i worths) (drop i rooms))
+      ∙ ap (λ xs. text ++ story_from k n value jobs had on xs (drop i worths) (drop i rooms))
       (sym (one_next steps i e is there))
       ∙ before
 
@@ -63,7 +71,8 @@ module _ (k : Fraction) (n value : ℕ) (jobs : List JobFacts) (steps : List Eve
       → text ≡ whole
   told_all i on text whole past before =
       sym (append-nil text)
-      ∙ ap (λ xs. text ++ story_from k n value jobs on xs (drop i worths) (drop i rooms)) (sym (drop_all i steps past))
+      ∙ ap (λ xs. text ++ story_from k n value jobs had on xs (drop i worths) (drop i rooms))
+      (sym (drop_all i steps past))
       ∙ before
 
 module _ (k : Fraction) (steps : List Event) (J : Instance) (of : IsRunOf k steps J) (n : ℕ) (jobs : List JobFacts)
@@ -79,15 +88,17 @@ module _ (k : Fraction) (steps : List Event) (J : Instance) (of : IsRunOf k step
       ∙ ap (answer n J) (sym (ap (λ js. slice_get js n) (sym same_jobs) ∙ none))
 
   -- the job's story
-  pub why_some : (j : JobFacts) (worths leaves a b c : List ℕ) → slice_get jobs n ≡ Some j → worths ≡ weights J
-      → leaves ≡ rooms J → a ≡ [] → b ≡ a ++ asked n j
-      → c ≡ b ++ story_from k n j.value jobs false steps worths leaves → c ≡ why n J
-  why_some j worths leaves a b c some weighed left first middle last =
-      last ∙ ap (λ t. t ++ story_from k n j.value jobs false steps worths leaves)
+  pub why_some : (j : JobFacts) (had worths leaves a b c : List ℕ) → slice_get jobs n ≡ Some j → had ≡ hads J
+      → worths ≡ weights J → leaves ≡ rooms J → a ≡ [] → b ≡ a ++ asked n j
+      → c ≡ b ++ story_from k n j.value jobs had false steps worths leaves → c ≡ why n J
+  why_some j had worths leaves a b c some ran weighed left first middle last =
+      last ∙ ap (λ t. t ++ story_from k n j.value jobs had false steps worths leaves)
       (middle ∙ ap (λ t. t ++ asked n j) first)
-      ∙ ap (λ (r : Fraction). asked n j ++ story_from r n j.value jobs false steps worths leaves) (sym of.ratio)
-      ∙ ap (λ js. asked n j ++ story_from J.rules.ratio n j.value js false steps worths leaves) same_jobs
-      ∙ ap (λ ws. asked n j ++ story_from J.rules.ratio n j.value J.jobs false steps ws leaves) weighed
-      ∙ ap (λ rs. asked n j ++ story_from J.rules.ratio n j.value J.jobs false steps (weights J) rs) left
-      ∙ ap (λ es. asked n j ++ story_from J.rules.ratio n j.value J.jobs false es (weights J) (rooms J)) (sym of.prints)
+      ∙ ap (λ (r : Fraction). asked n j ++ story_from r n j.value jobs had false steps worths leaves) (sym of.ratio)
+      ∙ ap (λ js. asked n j ++ story_from J.rules.ratio n j.value js had false steps worths leaves) same_jobs
+      ∙ ap (λ hs. asked n j ++ story_from J.rules.ratio n j.value J.jobs hs false steps worths leaves) ran
+      ∙ ap (λ ws. asked n j ++ story_from J.rules.ratio n j.value J.jobs (hads J) false steps ws leaves) weighed
+      ∙ ap (λ rs. asked n j ++ story_from J.rules.ratio n j.value J.jobs (hads J) false steps (weights J) rs) left
+      ∙ ap (λ es. asked n j ++ story_from J.rules.ratio n j.value J.jobs (hads J) false es (weights J) (rooms J))
+      (sym of.prints)
       ∙ ap (answer n J) (sym (ap (λ js. slice_get js n) (sym same_jobs) ∙ some))

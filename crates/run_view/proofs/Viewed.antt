@@ -6,6 +6,7 @@ use Rattle.std.specs.List.{zip}
 use Rattle.dover_model.specs.declared.events.Event.{Event}
 use Rattle.dover_model.specs.JobFacts.{JobFacts}
 use Rattle.dover_model.specs.Instance.{Instance}
+use Rattle.dover_model.specs.Observed.{hads}
 use Rattle.dover_model.specs.Fraction.{Fraction}
 use Rattle.dover_report.specs.Counts.{jobs_released, value_lost}
 use Rattle.dover_report.proofs.Counting.{jobs_are}
@@ -14,37 +15,40 @@ use Rattle.run_view.specs.Chrome.{value_done, events_of, events_from, chrome, op
 use Rattle.run_view.proofs.Stepping.{zip_next, zip_end}
 
 -- one step more
-pub viewed_more : (jobs : List JobFacts) (steps : List Event) (worths : List ℕ) (i : ℕ) (e : Event)
+pub viewed_more : (jobs : List JobFacts) (had : List ℕ) (steps : List Event) (worths : List ℕ) (i : ℕ) (e : Event)
     (w done lost d g : ℕ) (text more whole : List ℕ)
     → e ≡ get_or steps i e → w ≡ get_or worths i w → i < length steps → length worths ≡ length steps
-    → d ≡ value_done jobs e → g ≡ value_lost jobs e → more ≡ text ++ events_of jobs (done + d) (lost + g) w e
-    → text ++ events_from jobs done lost (drop i (zip steps worths)) ≡ whole
-    → more ++ events_from jobs (done + d) (lost + g) (drop (i + 1) (zip steps worths)) ≡ whole
-viewed_more jobs steps worths i e w done lost d g text more whole is weighs there same adds loses longer before =
+    → d ≡ value_done jobs e → g ≡ value_lost jobs e → more ≡ text ++ events_of jobs had (done + d) (lost + g) w e
+    → text ++ events_from jobs had done lost (drop i (zip steps worths)) ≡ whole
+    → more ++ events_from jobs had (done + d) (lost + g) (drop (i + 1) (zip steps worths)) ≡ whole
+viewed_more jobs had steps worths i e w done lost d g text more whole is weighs there same adds loses longer before =
     let rest = drop (i + 1) (zip steps worths) in
-    ap (λ t. t ++ events_from jobs (done + d) (lost + g) rest) longer
-    ∙ append_assoc text (events_of jobs (done + d) (lost + g) w e) (events_from jobs (done + d) (lost + g) rest)
-    ∙ ap (λ n. text ++ (events_of jobs (done + n) (lost + g) w e ++ events_from jobs (done + n) (lost + g) rest)) adds
-    ∙ ap (λ n. text ++ (events_of jobs (done + value_done jobs e) (lost + n) w e ++ events_from jobs
-    (done + value_done jobs e) (lost + n) rest)) loses
-    ∙ ap (λ l. text ++ events_from jobs done lost l) (sym (zip_next steps worths i e w is weighs there same))
+    ap (λ t. t ++ events_from jobs had (done + d) (lost + g) rest) longer
+    ∙ append_assoc text (events_of jobs had (done + d) (lost + g) w e) (events_from jobs had (done + d) (lost + g) rest)
+    ∙ ap (λ n. text ++ (events_of jobs had (done + n) (lost + g) w e
+    ++ events_from jobs had (done + n) (lost + g) rest)) adds
+    ∙ ap (λ n. text ++ (events_of jobs had (done + value_done jobs e) (lost + n) w e
+    ++ events_from jobs had (done + value_done jobs e) (lost + n) rest)) loses
+    ∙ ap (λ l. text ++ events_from jobs had done lost l) (sym (zip_next steps worths i e w is weighs there same))
     ∙ before
 
 -- all steps
-pub viewed_all : (jobs : List JobFacts) (steps : List Event) (worths : List ℕ) (i done lost : ℕ)
+pub viewed_all : (jobs : List JobFacts) (had : List ℕ) (steps : List Event) (worths : List ℕ) (i done lost : ℕ)
     (text whole : List ℕ) → length steps ≤ i
-    → text ++ events_from jobs done lost (drop i (zip steps worths)) ≡ whole → text ≡ whole
-viewed_all jobs steps worths i done lost text whole past before =
-    sym (append-nil text) ∙ ap (λ l. text ++ events_from jobs done lost l) (sym (zip_end steps worths i past)) ∙ before
+    → text ++ events_from jobs had done lost (drop i (zip steps worths)) ≡ whole → text ≡ whole
+viewed_all jobs had steps worths i done lost text whole past before =
+    sym (append-nil text)
+    ∙ ap (λ l. text ++ events_from jobs had done lost l) (sym (zip_end steps worths i past)) ∙ before
 
 -- the whole text
 pub viewed : (k : Fraction) (steps : List Event) (J : Instance) → IsRunOf k steps J → (jobs : List JobFacts)
-    (worths a b c : List ℕ)
-    → jobs ≡ jobs_released steps → worths ≡ weights J → a ≡ opening → b ≡ a ++ events_from jobs 0 0
+    (had worths a b c : List ℕ)
+    → jobs ≡ jobs_released steps → had ≡ hads J → worths ≡ weights J → a ≡ opening → b ≡ a ++ events_from jobs had 0 0
     (zip steps worths) → c ≡ b ++ codes "]}\n"
     → c ≡ chrome J
-viewed k steps J of jobs worths a b c released weighed first middle last =
-    last ∙ ap (λ t. t ++ codes "]}\n") (middle ∙ ap (λ t. t ++ events_from jobs 0 0 (zip steps worths)) first)
-    ∙ ap (λ js. opening ++ events_from js 0 0 (zip steps worths) ++ codes "]}\n") (released ∙ jobs_are k steps J of)
-    ∙ ap (λ ws. opening ++ events_from J.jobs 0 0 (zip steps ws) ++ codes "]}\n") weighed
-    ∙ ap (λ es. opening ++ events_from J.jobs 0 0 (zip es (weights J)) ++ codes "]}\n") (sym of.prints)
+viewed k steps J of jobs had worths a b c released ran weighed first middle last =
+    last ∙ ap (λ t. t ++ codes "]}\n") (middle ∙ ap (λ t. t ++ events_from jobs had 0 0 (zip steps worths)) first)
+    ∙ ap (λ js. opening ++ events_from js had 0 0 (zip steps worths) ++ codes "]}\n") (released ∙ jobs_are k steps J of)
+    ∙ ap (λ hs. opening ++ events_from J.jobs hs 0 0 (zip steps worths) ++ codes "]}\n") ran
+    ∙ ap (λ ws. opening ++ events_from J.jobs (hads J) 0 0 (zip steps ws) ++ codes "]}\n") weighed
+    ∙ ap (λ es. opening ++ events_from J.jobs (hads J) 0 0 (zip es (weights J)) ++ codes "]}\n") (sym of.prints)

@@ -4,6 +4,7 @@ use Rattle.std.specs.Prelude.{codes, Some, None}
 use Rattle.std.specs.Fmt.{digits}
 use Rattle.dover_model.specs.Instance.{Instance}
 use Rattle.dover_model.proofs.Written.{job, one}
+use Rattle.dover_report.proofs.WorkedRows.{finish, finishing, held_and_early, anomaly, took_and_early}
 use Rattle.run_view.specs.Templates.{filled}
 use Rattle.run_view.specs.Chrome.{chrome}
 use Rattle.run_view.specs.Why.{why, tested}
@@ -151,3 +152,87 @@ drawn_turned : timeline (Some (record { from = 9; until = 3 })) take_over ≡
     ++ codes "       9\n"
 unfolding digits filled
 drawn_turned = refl
+
+-- ---- jobs that finish early
+
+-- a held job, of which work is left
+held_job : why 0 held_and_early ≡
+    codes "job 0: release 0, work 4, deadline 10, value 4\n"
+    ++ codes "at 0 it runs\n"
+    ++ codes "at 1 it is preempted by job 1, which is due earlier, its work 2 within the room 6\n"
+    ++ codes "at 2 it runs\n"
+    ++ codes "at 4 it is completed, with 1 of its 4 ticks left\n"
+unfolding digits filled
+held_job = refl
+
+-- its displacer
+early_job : why 1 held_and_early ≡
+    codes "job 1: release 1, work 2, deadline 5, value 2\n"
+    ++ codes "at 1 it preempts job 0, which is due later, its work 2 within the room 6\n"
+    ++ codes "at 2 it is completed, with 1 of its 2 ticks left\n"
+unfolding digits filled
+early_job = refl
+
+-- a job that took the processor
+took_job : why 2 took_and_early ≡
+    codes "job 2: release 0, work 12, deadline 12, value 12\n"
+    ++ codes "at 0 it waits, its work 12 above the room 2\n"
+    ++ codes "at 0 it takes the processor from job 1, its value 12 against 5 under way: 1 * 7^2 = 49 above 1 * 5^2 = 25; heavy from 11 on\n"
+    ++ codes "at 1 it is completed, with 11 of its 12 ticks left\n"
+unfolding digits filled tested
+took_job = refl
+
+-- what an early completion leaves is no work under way: the held job alone counts in the room
+room_behind : why 2 (finishing (finish 1 2 ∷ []) (job 0 6 20 6 ∷ job 1 4 9 4 ∷ job 4 2 8 2 ∷ [])) ≡
+    codes "job 2: release 4, work 2, deadline 8, value 2\n"
+    ++ codes "at 4 it preempts job 0, which is due later, its work 2 within the room 12\n"
+    ++ codes "at 6 it is completed\n"
+unfolding digits filled
+room_behind = refl
+
+-- nor does it count in what a job at its latest start is weighed against
+weighed_behind : why 2 anomaly ≡
+    codes "job 2: release 0, work 3, deadline 5, value 3\n"
+    ++ codes "at 0 it waits, its work 3 above the room 0\n"
+    ++ codes "at 2 it is abandoned, its value 3 against 2 under way: 1 * 1^2 = 1 not above 1 * 2^2 = 4; heavy from 5 on\n"
+unfolding digits filled tested
+weighed_behind = refl
+
+viewed_early : chrome held_and_early ≡
+    codes "{\"traceEvents\":[\n"
+    ++ codes "{\"pid\":0,\"tid\":0,\"ph\":\"M\",\"name\":\"thread_name\",\"args\":{\"name\":\"processor\"}}\n"
+    ++ codes ",{\"pid\":0,\"tid\":0,\"ph\":\"b\",\"ts\":0,\"cat\":\"job\",\"id\":\"0\",\"name\":\"job 0\",\"args\":{\"work\":4,\"deadline\":10,\"value\":4}}\n"
+    ++ codes ",{\"pid\":0,\"tid\":0,\"ph\":\"B\",\"ts\":0,\"name\":\"job 0\"}\n"
+    ++ codes ",{\"pid\":0,\"tid\":0,\"ph\":\"b\",\"ts\":1,\"cat\":\"job\",\"id\":\"1\",\"name\":\"job 1\",\"args\":{\"work\":2,\"deadline\":5,\"value\":2}}\n"
+    ++ codes ",{\"pid\":0,\"tid\":0,\"ph\":\"E\",\"ts\":1,\"name\":\"job 0\"}\n"
+    ++ codes ",{\"pid\":0,\"tid\":0,\"ph\":\"B\",\"ts\":1,\"name\":\"job 1\"}\n"
+    ++ codes ",{\"pid\":0,\"tid\":0,\"ph\":\"E\",\"ts\":2,\"name\":\"job 1\"}\n"
+    ++ codes ",{\"pid\":0,\"tid\":0,\"ph\":\"e\",\"ts\":2,\"cat\":\"job\",\"id\":\"1\",\"name\":\"job 1\",\"args\":{\"fate\":\"complete\",\"had\":1}}\n"
+    ++ codes ",{\"pid\":0,\"tid\":0,\"ph\":\"C\",\"ts\":2,\"name\":\"value\",\"args\":{\"completed\":2,\"lost\":0}}\n"
+    ++ codes ",{\"pid\":0,\"tid\":0,\"ph\":\"B\",\"ts\":2,\"name\":\"job 0\"}\n"
+    ++ codes ",{\"pid\":0,\"tid\":0,\"ph\":\"E\",\"ts\":4,\"name\":\"job 0\"}\n"
+    ++ codes ",{\"pid\":0,\"tid\":0,\"ph\":\"e\",\"ts\":4,\"cat\":\"job\",\"id\":\"0\",\"name\":\"job 0\",\"args\":{\"fate\":\"complete\",\"had\":3}}\n"
+    ++ codes ",{\"pid\":0,\"tid\":0,\"ph\":\"C\",\"ts\":4,\"name\":\"value\",\"args\":{\"completed\":6,\"lost\":0}}\n"
+    ++ codes "]}\n"
+unfolding digits filled
+viewed_early = refl
+
+-- the pieces of a job end where it did, and nothing new is drawn
+drawn_early : timeline None held_and_early ≡
+    codes "jobs 2, completed 2 6, abandoned 0 0, taken 0, bound 24\n"
+    ++ codes "       ticks of a column: 1\n"
+    ++ codes "       0\n"
+    ++ codes "     0 #-##...... 4\n"
+    ++ codes "     1  #... 2\n"
+unfolding digits filled
+drawn_early = refl
+
+drawn_taken_early : timeline None took_and_early ≡
+    codes "jobs 3, completed 3 17, abandoned 0 0, taken 1, bound 68\n"
+    ++ codes "       ticks of a column: 1\n"
+    ++ codes "       0                   20\n"
+    ++ codes "     0 ---###........................ 3\n"
+    ++ codes "     1 -##. 2\n"
+    ++ codes "     2 !........... 12\n"
+unfolding digits filled
+drawn_taken_early = refl

@@ -1,6 +1,6 @@
 -- What happened to one job of a run, and by which test.
 use Rattle.std.specs.Prelude.{ℕ, ◌+◌, ◌-◌, ◌*◌, List, [], ◌∷◌, ◌++◌, length, Bool, false, not, ◌&&◌, ◌||◌, ◌==◌}
-use Rattle.std.specs.Prelude.{nat_le, if◌then◌else◌, Option, Some, None, slice_get, codes, decimal}
+use Rattle.std.specs.Prelude.{nat_le, nat_lt, if◌then◌else◌, Option, Some, None, slice_get, codes, decimal}
 use Rattle.std.specs.Option.{option_map_or}
 use Rattle.dover_model.specs.declared.events.Event.{Event}
 use Rattle.dover_model.specs.declared.events.Event.TheVariants.{Release, Run, Preempt, Take, Complete, Abandon, End}
@@ -8,8 +8,10 @@ use Rattle.dover_model.specs.Fraction.{Fraction}
 use Rattle.dover_model.specs.Greatest.{greatest}
 use Rattle.dover_model.specs.JobFacts.{JobFacts}
 use Rattle.dover_model.specs.Instance.{Instance}
+use Rattle.dover_model.specs.Observed.{hads}
 use Rattle.dover_model.specs.Orders.{is_heavy}
 use Rattle.dover_model.specs.Run.{printed}
+use Rattle.dover_report.specs.Early.{left_at}
 use Rattle.intervals.specs.Rows.{weights}
 use Rattle.room_ledger.specs.Rooms.{rooms}
 use Rattle.run_view.specs.declared.story.Weighed.{Weighed}
@@ -51,6 +53,15 @@ gone k n value at m worth = if m == n then goes k value at worth else []
 abbrev pub own : Bool → ℕ → Text → Text
 own mine at line = if mine then filled line (at ∷ []) else []
 
+-- it is completed, with work left or with none
+abbrev pub completed_line : (early : Bool) → Text
+completed_line early = if early
+    then codes "at @ it is completed, with @ of its @ ticks left\n" else codes "at @ it is completed\n"
+
+-- what a completion means for job n, where the step is its own
+abbrev pub completed : Bool → (at left work : ℕ) → Text
+completed mine at left work = if mine then filled (completed_line (nat_lt 0 left)) (at ∷ left ∷ work ∷ []) else []
+
 -- it preempts another job, with the test of its work against the room of the running and the held jobs
 abbrev pub preempts_line : (fits : Bool) → Text
 preempts_line fits = if fits
@@ -89,9 +100,10 @@ taken k n value on at stops starts worth = if starts == n then takes k value at 
 abbrev pub work_in : List JobFacts → ℕ → ℕ
 work_in jobs n = option_map_or (λ j. j.work) (slice_get jobs n) 0
 
--- the work that is tested at a step: that of the job that preempts
+-- the work that counts at a step: that of the job that preempts, or of the one that completes
 abbrev pub work_of : List JobFacts → Event → ℕ
 work_of jobs (Preempt at stops starts) = work_in jobs starts
+work_of jobs (Complete at n) = work_in jobs n
 work_of jobs _ = 0
 
 -- what a step means for it, which starts next or doesn't
@@ -100,7 +112,7 @@ told k n value on starts x (Release m job) = arrived n m job.release starts job.
 told k n value on starts x (Run at m) = own (m == n) at (codes "at @ it runs\n")
 told k n value on starts x (Preempt at stops new) = preempted n at stops new x.work x.room
 told k n value on starts x (Take at stops new) = taken k n value on at stops new x.worth
-told k n value on starts x (Complete at m) = own (m == n) at (codes "at @ it is completed\n")
+told k n value on starts x (Complete at m) = completed (m == n) at x.left x.work
 told k n value on starts x (Abandon at m) = gone k n value at m x.worth
 told k n value on starts x (End sum) = []
 
@@ -119,12 +131,18 @@ starts_first n (Run at m ∷ steps) = m == n
 starts_first n (Preempt at stops starts ∷ steps) = starts == n
 starts_first n (_ ∷ steps) = false
 
+-- what is weighed at a step, by the ticks that the jobs have had at the end
+abbrev pub weighed_at : List JobFacts → (hads : List ℕ) → (worth room : ℕ) → Event → Weighed
+weighed_at jobs hads worth room e =
+    record { worth = worth; work = work_of jobs e; room = room; left = left_at jobs hads e }
+
 -- what these steps mean for it, before each of which the jobs under way are worth so much and leave so much room
-abbrev pub story_from : Fraction → (n value : ℕ) → List JobFacts → Bool → List Event → (worths rooms : List ℕ) → Text
-story_from k n value jobs on (e ∷ steps) (worth ∷ worths) (room ∷ rooms) =
-    told k n value on (starts_first n steps) (record { worth = worth; work = work_of jobs e; room = room }) e
-    ++ story_from k n value jobs (on_after n on e) steps worths rooms
-story_from k n value jobs on _ _ _ = []
+abbrev pub story_from : Fraction → (n value : ℕ) → List JobFacts → (hads : List ℕ) → Bool → List Event
+    → (worths rooms : List ℕ) → Text
+story_from k n value jobs hads on (e ∷ steps) (worth ∷ worths) (room ∷ rooms) =
+    told k n value on (starts_first n steps) (weighed_at jobs hads worth room e) e
+    ++ story_from k n value jobs hads (on_after n on e) steps worths rooms
+story_from k n value jobs hads on _ _ _ = []
 
 -- there is no such job
 abbrev pub unknown : ℕ → ℕ → Text
@@ -133,7 +151,8 @@ unknown n count = filled (codes "no job @ among @\n") (n ∷ count ∷ [])
 -- the text on job n, if there is one
 abbrev pub answer : ℕ → Instance → Option JobFacts → Text
 answer n J None = unknown n (length J.jobs)
-answer n J (Some j) = asked n j ++ story_from J.rules.ratio n j.value J.jobs false (printed J) (weights J) (rooms J)
+answer n J (Some j) = asked n j ++ story_from J.rules.ratio n j.value J.jobs (hads J) false (printed J) (weights J)
+    (rooms J)
 
 -- the whole text
 abbrev pub why : ℕ → Instance → Text

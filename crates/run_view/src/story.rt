@@ -11,9 +11,9 @@ ghost use Rattle.run_view.specs.Why as story;
 use crate::template::{put, put_wide};
 use crate::threshold::least_heavy;
 use dover_model::{Event, Job, Memory, Ratio};
-use dover_report::released;
+use dover_report::{left_at, released};
 use intervals::weights;
-use room_ledger::rooms;
+use room_ledger::{hads, rooms};
 use std::alloc::Global;
 
 /// The job that is asked about.
@@ -32,10 +32,12 @@ pub struct Asked {
 pub struct Weighed {
     /// What the running and the held jobs are worth.
     pub worth: u64,
-    /// The work of the job that preempts, in ticks.
+    /// The work of the job that preempts, or of the one that completes, in ticks.
     pub work: u64,
     /// The room that the running and the held jobs leave a fresh job, in ticks.
     pub room: u64,
+    /// The work that is left of the job that completes, in ticks.
+    pub left: u64,
 }
 
 /// What happened to the job of this number in the run that prints these steps, and by which test, line by line; one
@@ -52,13 +54,14 @@ pub fn why(alloc: Global, k: Ratio, run: &[Event], number: u32) -> Result<Vec<u8
     };
     let worths = weights(alloc, k, run)?;
     let rooms = rooms(alloc, k, &jobs, run)?;
+    let hads = hads(alloc, &jobs, run)?;
     put_asked(&mut text, number, job)?;
     let asked = Asked {
         k,
         number,
         value: job.value(),
     };
-    put_story(&mut text, &asked, &jobs, run, &worths, &rooms)?;
+    put_story(&mut text, &asked, &jobs, &hads, run, &worths, &rooms)?;
     Ok(text)
 }
 
@@ -87,11 +90,12 @@ fn put_asked(text: &mut Vec<u8>, number: u32, job: &Job) -> Result<(), Memory>
 }
 
 /// Appends what these steps mean for the job, before each of which the jobs under way are worth so much and leave so
-/// much room.
+/// much room. The jobs have had so many ticks at the end.
 fn put_story(
     text: &mut Vec<u8>,
     asked: &Asked,
     jobs: &[Job],
+    hads: &[u64],
     run: &[Event],
     worths: &[u64],
     rooms: &[u64],
@@ -101,7 +105,7 @@ fn put_story(
     requires value { asked.now.value ≤ most_value }
     requires small { AllByRecursion (λ worth. worth ≤ most_total) worths.now }
     ensures { OnOk result (text.new.items ≡ text.old.items ++ story.story_from
-        asked.now.k asked.now.number asked.now.value jobs.now false run.now worths.now rooms.now) }
+        asked.now.k asked.now.number asked.now.value jobs.now hads.now false run.now worths.now rooms.now) }
 {
     let mut on = false;
     for (index, event) in run.iter().enumerate() {
@@ -109,6 +113,7 @@ fn put_story(
             worth: worths[index],
             work: work_of(jobs, event),
             room: rooms[index],
+            left: left_at(jobs, hads, event),
         };
         let starts = starts_at(asked.number, run, index + 1);
         put_told(text, asked, on, starts, &weighed, event)?;
@@ -117,12 +122,13 @@ fn put_story(
     Ok(())
 }
 
-/// The work that is tested at a step: that of the job that preempts.
+/// The work that counts at a step: that of the job that preempts, or of the one that completes.
 fn work_of(jobs: &[Job], event: &Event) -> u64
     ensures { result ≡ story.work_of jobs.now event.now }
 {
     match event {
         Event::Preempt { starts, .. } => work_in(jobs, *starts),
+        Event::Complete { number, .. } => work_in(jobs, *number),
         _ => 0,
     }
 }
@@ -212,12 +218,7 @@ fn put_told(
             starts,
             weighed.worth,
         ),
-        Event::Complete { at, number } => put_own(
-            text,
-            number == asked.number,
-            at,
-            b"at @ it is completed\n",
-        ),
+        Event::Complete { at, number } => put_completed(text, number == asked.number, at, weighed),
         Event::Abandon { at, number } => put_gone(text, asked, at, number, weighed.worth),
         Event::End { .. } => Ok(()),
     }
@@ -231,6 +232,28 @@ fn put_own(text: &mut Vec<u8>, mine: bool, at: u64, line: &[u8]) -> Result<(), M
         return put(text, line, &[at]);
     }
     Ok(())
+}
+
+/// Appends what a completion means for the job, where the step is its own.
+fn put_completed(text: &mut Vec<u8>, mine: bool, at: u64, weighed: &Weighed) -> Result<(), Memory>
+    ensures { OnOk result (text.new.items
+        ≡ text.old.items ++ story.completed mine at weighed.now.left weighed.now.work) }
+{
+    let (left, work) = (weighed.left, weighed.work);
+    if mine {
+        return put(text, completed_line(left > 0), &[at, left, work]);
+    }
+    Ok(())
+}
+
+/// The line of a job that is completed, by whether work is left of it.
+fn completed_line(early: bool) -> &'static [u8]
+    ensures { result.now ≡ story.completed_line early }
+{
+    if early {
+        return b"at @ it is completed, with @ of its @ ticks left\n";
+    }
+    b"at @ it is completed\n"
 }
 
 /// Appends what a preemption means for the job of this number.

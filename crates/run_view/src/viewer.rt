@@ -1,16 +1,18 @@
 //! A run as events for a viewer of traces.
-ghost use Rattle.std.specs.Prelude.{◌≡◌, ◌≤◌, ◌++◌, ◌+◌, ◌*◌, length, OnOk, IfOk, codes};
+ghost use Rattle.std.specs.Prelude.{◌≡◌, ◌≤◌, ◌++◌, ◌∷◌, [], ◌+◌, ◌*◌, length, OnOk, IfOk, codes};
 ghost use Rattle.std.specs.List.{zip};
 ghost use Rattle.intervals.specs.Rows.{IsRunOf};
 ghost use Rattle.dover_model.specs.Instance.{Instance};
 ghost use Rattle.dover_model.specs.Limits.{most_value};
 ghost use Rattle.dover_report.specs.Counts as counts;
 ghost use Rattle.run_view.specs.Chrome as events;
+ghost use Rattle.run_view.specs.Templates.{filled};
 
 use crate::template::put;
 use dover_model::{Event, Job, Memory, Ratio};
-use dover_report::{released, value_of};
+use dover_report::{had_of, left_of, released, value_of};
 use intervals::weights;
+use room_ledger::hads;
 use std::alloc::Global;
 
 /// The run that prints these steps as Trace Event JSON, with a tick as a microsecond: the job on the processor, each
@@ -22,28 +24,36 @@ pub fn chrome(alloc: Global, k: Ratio, run: &[Event]) -> Result<Vec<u8>, Memory>
 {
     let jobs = released(alloc, run)?;
     let worths = weights(alloc, k, run)?;
+    let hads = hads(alloc, &jobs, run)?;
     let mut text = Vec::from_slice(
         alloc,
         b"{\"traceEvents\":[\n{\"pid\":0,\"tid\":0,\"ph\":\"M\",\"name\":\"thread_name\",\"args\":{\"name\":\"processor\"}}\n",
     )?;
-    put_events(&mut text, &jobs, run, &worths)?;
+    put_events(&mut text, &jobs, &hads, run, &worths)?;
     text.extend_from_slice(b"]}\n")?;
     Ok(text)
 }
 
-/// Appends the events of these steps, each with what the jobs under way are worth before it.
-fn put_events(text: &mut Vec<u8>, jobs: &[Job], run: &[Event], worths: &[u64]) -> Result<(), Memory>
+/// Appends the events of these steps, each with what the jobs under way are worth before it. The jobs have had so many
+/// ticks at the end.
+fn put_events(
+    text: &mut Vec<u8>,
+    jobs: &[Job],
+    hads: &[u64],
+    run: &[Event],
+    worths: &[u64],
+) -> Result<(), Memory>
     requires few { length run.now ≤ 5_000_001 }
     requires same { length worths.now ≡ length run.now }
     ensures { OnOk result (text.new.items
-        ≡ text.old.items ++ events.events_from jobs.now 0 0 (zip run.now worths.now)) }
+        ≡ text.old.items ++ events.events_from jobs.now hads.now 0 0 (zip run.now worths.now)) }
 {
     let mut done = 0;
     let mut lost = 0;
     for (index, event) in run.iter().enumerate() {
         done += value_done(jobs, event);
         lost += value_lost(jobs, event);
-        put_event(text, jobs, event, done, lost, worths[index])?;
+        put_event(text, jobs, hads, event, done, lost, worths[index])?;
     }
     Ok(())
 }
@@ -74,12 +84,14 @@ fn value_lost(jobs: &[Job], event: &Event) -> u64
 fn put_event(
     text: &mut Vec<u8>,
     jobs: &[Job],
+    hads: &[u64],
     event: &Event,
     done: u64,
     lost: u64,
     worth: u64,
 ) -> Result<(), Memory>
-    ensures { OnOk result (text.new.items ≡ text.old.items ++ events.events_of jobs.now done lost worth event.now) }
+    ensures { OnOk result (text.new.items
+        ≡ text.old.items ++ events.events_of jobs.now hads.now done lost worth event.now) }
 {
     match *event {
         Event::Release { number, job } => put_opens(text, u64::from(number), &job),
@@ -98,7 +110,15 @@ fn put_event(
             value_of(jobs, starts),
             worth,
         ),
-        Event::Complete { at, number } => put_completed(text, at, u64::from(number), done, lost),
+        Event::Complete { at, number } => put_done(
+            text,
+            at,
+            u64::from(number),
+            left_of(jobs, hads, number as usize),
+            had_of(hads, number as usize),
+            done,
+            lost,
+        ),
         Event::Abandon { at, number } => put_abandoned(
             text,
             at,
@@ -172,6 +192,48 @@ fn put_taken(
         ,{\"pid\":0,\"tid\":0,\"ph\":\"B\",\"ts\":@,\"name\":\"job @\"}\n\
         ,{\"pid\":0,\"tid\":0,\"ph\":\"i\",\"ts\":@,\"s\":\"g\",\"name\":\"take job @\",\"args\":{\"value\":@,\"against\":@}}\n",
         &[at, stops, at, starts, at, starts, value, worth],
+    )
+}
+
+/// Appends that the job is done after so many ticks, with so much work left, and the values so far.
+fn put_done(
+    text: &mut Vec<u8>,
+    at: u64,
+    number: u64,
+    left: u64,
+    had: u64,
+    done: u64,
+    lost: u64,
+) -> Result<(), Memory>
+    ensures { OnOk result (text.new.items
+        ≡ text.old.items ++ (events.ends at number ++ events.completes at number left had
+        ++ events.summed at done lost)) }
+{
+    if left > 0 {
+        return put_early(text, at, number, had, done, lost);
+    }
+    put_completed(text, at, number, done, lost)
+}
+
+/// Appends that the job is done with work left, after so many ticks, and the values so far.
+fn put_early(
+    text: &mut Vec<u8>,
+    at: u64,
+    number: u64,
+    had: u64,
+    done: u64,
+    lost: u64,
+) -> Result<(), Memory>
+    ensures { OnOk result (text.new.items
+        ≡ text.old.items ++ (events.ends at number ++ filled events.closes_early_line
+        (at ∷ number ∷ number ∷ had ∷ []) ++ events.summed at done lost)) }
+{
+    put(
+        text,
+        b",{\"pid\":0,\"tid\":0,\"ph\":\"E\",\"ts\":@,\"name\":\"job @\"}\n\
+        ,{\"pid\":0,\"tid\":0,\"ph\":\"e\",\"ts\":@,\"cat\":\"job\",\"id\":\"@\",\"name\":\"job @\",\"args\":{\"fate\":\"complete\",\"had\":@}}\n\
+        ,{\"pid\":0,\"tid\":0,\"ph\":\"C\",\"ts\":@,\"name\":\"value\",\"args\":{\"completed\":@,\"lost\":@}}\n",
+        &[at, number, at, number, number, had, at, done, lost],
     )
 }
 

@@ -19,7 +19,7 @@ pub value_within : (k : Fraction) (rounds : ℕ) → IsRatio k → 1 ≤ rounds 
     → completed_value (bait_instance k rounds) ≤ most_total
 value_within k rounds ratio some fits = let J = bait_instance k rounds in
     value_small k (printed J) J
-    (own_run J k (valid k rounds ratio fits (some_bait k rounds ratio some fits) One) refl refl)
+    (own_run J k (valid k rounds ratio fits (some_bait k rounds ratio some fits) One) refl)
 
 -- the text of four numbers
 abbrev text : (jobs value schedule most : ℕ) → List ℕ

@@ -1,5 +1,5 @@
 -- What is counted of the printed steps of a run.
-use Rattle.std.specs.Prelude.{◌≡◌, ◌≤◌, ◌*◌, ℕ, List, [], length}
+use Rattle.std.specs.Prelude.{◌≡◌, ◌≤◌, ◌*◌, ℕ, List, length}
 use Rattle.std.specs.List.{fold, count_by, sum_by}
 use Rattle.dover_model.specs.declared.events.Event.{Event}
 use Rattle.dover_model.specs.declared.events.Event.TheVariants.{Release}
@@ -39,6 +39,5 @@ pub record HasCounted (tally : Tally) (events : List Event) : Type 0 where
 pub record CountsRun (J : Instance) (k : Fraction) (jobs : ℕ) (tally : Tally) : Type 0 where
   pub valid : IsValid J
   pub ratio : J.rules.ratio ≡ k
-  pub plain : J.rules.finishes ≡ []
   pub size : length J.jobs ≡ jobs
   pub counted : HasCounted tally (printed J)

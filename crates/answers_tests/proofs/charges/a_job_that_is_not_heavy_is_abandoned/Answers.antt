@@ -8,7 +8,6 @@ of-requires g c = (
   record {
     valid = abandoned_valid;
     ratio = sym c.ratio-k.ensures;
-    plain = refl;
     prints = abandoned_printed c.job.result c.job-2.result c.job-3.result c.job.ensures c.job-2.ensures c.job-3.ensures;
   },
 )

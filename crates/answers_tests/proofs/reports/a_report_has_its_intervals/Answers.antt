@@ -9,7 +9,6 @@ text-requires g c = (
   record {
     valid = taken_valid;
     ratio = sym c.ratio-k.ensures;
-    plain = refl;
     prints = taken_printed (job_of_numbers 0 3 30 3) (job_of_numbers 0 2 4 2) (job_of_numbers 0 12 12 12) refl refl refl
         ∙ sym c.steps-run.ensures;
   },

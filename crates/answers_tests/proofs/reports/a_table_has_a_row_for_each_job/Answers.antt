@@ -11,7 +11,6 @@ table-requires g c = (
     record {
       valid = taken_valid;
       ratio = refl;
-      plain = refl;
       prints = taken_printed (job_of_numbers 0 3 30 3) (job_of_numbers 0 2 4 2)
           (job_of_numbers 0 12 12 12) refl refl refl ∙ sym c.steps-run.ensures;
     },

@@ -1,19 +1,10 @@
-use Rattle.std.proofs.Common.{refl}
-use Rattle.dover_report.specs.Counts.{counts_lines}
-use Rattle.dover_report.proofs.Texts.{lines_are}
+use Rattle.std.proofs.Common.{◌++◌, ◌∷◌, [], ap, ◌∙◌}
+use Rattle.dover_model.specs.Lines.{in_lines}
+use Rattle.dover_report.specs.Counts.{fates_lines, bound_line}
+use Rattle.dover_report.proofs.Texts.{behind_lines}
 use Rattle.dover_report.proofs.report.put_counts.Goals as goal
 
 pub returns : goal.returns
-returns c = lines_are c.args.text.now.items (counts_lines c.args.counts) _ (
-  _,
-  c.in_ok-put_line.ensures,
-  (
-    _,
-    c.in_ok-put_line-2.ensures,
-    (
-      _,
-      c.in_ok-put_line-3.ensures,
-      (_, c.in_ok-put_line-4.ensures, (_, c.in_ok-put_line-5.ensures, refl)),
-    ),
-  ),
-)
+returns c = c.in_ok-put_line.ensures
+    ∙ ap (λ t. t ++ in_lines (bound_line c.args.counts ∷ [])) c.in_ok-put_fates.ensures
+    ∙ behind_lines c.args.text.now.items (fates_lines c.args.counts) (bound_line c.args.counts ∷ [])

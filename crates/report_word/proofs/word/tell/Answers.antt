@@ -1,4 +1,4 @@
-use Rattle.std.proofs.Common.{◌∙◌}
+use Rattle.std.proofs.Common.{◌∙◌, sym}
 use Rattle.dover_model.specs.Session.{instance_of}
 use Rattle.report_word.proofs.Answering.{run_of, reported, unreported, refused, unrefused}
 use Rattle.report_word.proofs.word.tell.Goals as goal
@@ -14,7 +14,7 @@ returns-in-Ok-clause-answers g c = λ text ended closed.
     let tells = rw c.in-Accepted.is at closed.tells in
     reported _ _ _ _ _ text tells c.args.closed.now.refused (closed.refused tells.0 tells.1) c.args.form ended _ _ _
     c.requires.empty _ (c.in-Ok.ensures.puts (instance_of tells.0)
-    (run_of _ _ _ _ _ text tells _ (c.deref.ensures.value ∙ closed.steps)))
+    (run_of _ _ _ _ _ text tells _ (c.deref.ensures.value ∙ closed.steps)) (sym tells.3))
 
 pub returns-in-Err-clause-answers : goal.returns-in-Err-clause-answers
 returns-in-Err-clause-answers g c = λ text ended closed.
@@ -22,7 +22,7 @@ returns-in-Err-clause-answers g c = λ text ended closed.
     unreported _ _ _ _ _ text tells c.args.closed.now.refused (closed.refused tells.0 tells.1) c.args.form ended _ _ _
     c.requires.empty c.in-Err.stop
     (c.in-Err.ensures.puts (instance_of tells.0)
-    (run_of _ _ _ _ _ text tells _ (c.deref.ensures.value ∙ closed.steps)))
+    (run_of _ _ _ _ _ text tells _ (c.deref.ensures.value ∙ closed.steps)) (sym tells.3))
 
 pub put_verdict-requires : goal.put_verdict-requires
 put_verdict-requires g c = (c.requires.closed.0, c.requires.closed.1.tells)

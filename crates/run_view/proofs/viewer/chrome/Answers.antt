@@ -1,17 +1,31 @@
 use Rattle.std.proofs.Common.{◌∙◌}
 use Rattle.run_view.proofs.Viewed.{viewed}
 use Rattle.run_view.proofs.Stepping.{same_length}
-use Rattle.dover_report.proofs.Counting.{few_steps}
+use Rattle.dover_report.proofs.Counting.{few_steps, jobs_are}
 use Rattle.run_view.proofs.viewer.chrome.Goals as goal
+
+pub hads-requires : goal.hads-requires
+hads-requires c = (
+  c.args.k,
+  (
+    c.requires.0,
+    c.requires.1,
+    c.deref.ensures.value ∙ c.in_ok-jobs.ensures ∙ jobs_are c.args.k c.args.run.now c.requires.0 c.requires.1,
+  ),
+)
 
 pub put_events-requires-clause-few : goal.put_events-requires-clause-few
 put_events-requires-clause-few c = few_steps c.args.k c.args.run.now c.requires.0 c.requires.1
 
 pub put_events-requires-clause-same : goal.put_events-requires-clause-same
-put_events-requires-clause-same c = same_length c.args.k c.args.run.now c.requires.0 c.requires.1 c.deref-2.result.now
-    (c.deref-2.ensures.value ∙ c.in_ok-worths.ensures.are c.requires.0 c.requires.1)
+put_events-requires-clause-same c = same_length c.args.k c.args.run.now c.requires.0 c.requires.1 c.deref-4.result.now
+    (c.deref-4.ensures.value ∙ c.in_ok-worths.ensures.are c.requires.0 c.requires.1)
 
 pub returns : goal.returns
-returns c J of = viewed c.args.k c.args.run.now J of c.deref.result.now c.deref-2.result.now _ _ _
-    (c.deref.ensures.value ∙ c.in_ok-jobs.ensures) (c.deref-2.ensures.value ∙ c.in_ok-worths.ensures.are J of)
+returns c J of = viewed c.args.k c.args.run.now J of c.deref-2.result.now c.deref-3.result.now c.deref-4.result.now
+    _ _ _
+    (c.deref-2.ensures.value ∙ c.in_ok-jobs.ensures)
+    (c.deref-3.ensures.value ∙ c.in_ok-hads.ensures c.args.k J of
+    (c.deref.ensures.value ∙ c.in_ok-jobs.ensures ∙ jobs_are c.args.k c.args.run.now J of))
+    (c.deref-4.ensures.value ∙ c.in_ok-worths.ensures.are J of)
     c.in_ok-text.ensures.items c.in_ok-put_events.ensures c.in_ok-extend_from_slice.ensures.items

@@ -9,7 +9,8 @@ returns-in-Take c = rw c.in-Take.is (rw (sym c.value_of.ensures.is)
     (rw (c.from-in-Take.ensures, c.from-in-Take-2.ensures) at c.put_taken.ensures))
 
 pub returns-in-Complete : goal.returns-in-Complete
-returns-in-Complete c = rw c.in-Complete.is (rw c.from-in-Complete.ensures at c.put_completed.ensures)
+returns-in-Complete c = rw c.in-Complete.is (rw (sym c.left_of.ensures.is, sym c.had_of.ensures)
+    (rw c.from-in-Complete.ensures at c.put_done.ensures))
 
 pub returns-in-Abandon : goal.returns-in-Abandon
 returns-in-Abandon c = rw c.in-Abandon.is (rw (sym c.value_of-in-Abandon.ensures.is)

@@ -11,7 +11,8 @@ loop-index-preserved c =
       c.requires.same,
       c.loop-index-test.true,
     ) in record {
-      is = viewed_more c.args.jobs.now c.args.run.now c.args.worths.now c.loop-index.index c.index-run-index.result
+      is = viewed_more c.args.jobs.now c.args.hads.now c.args.run.now c.args.worths.now c.loop-index.index
+          c.index-run-index.result
           worth c.loop-index.done
           c.loop-index.lost c.value_done-done.result c.value_lost-lost.result c.loop-index.text.items
           c.put_event.new.text.items _
@@ -24,6 +25,7 @@ loop-index-preserved c =
     }
 
 pub returns : goal.returns
-returns c = viewed_all c.args.jobs.now c.args.run.now c.args.worths.now c.loop-index.index c.loop-index.done
+returns c = viewed_all c.args.jobs.now c.args.hads.now c.args.run.now c.args.worths.now c.loop-index.index
+    c.loop-index.done
     c.loop-index.lost c.loop-index.text.items _
     (omega arith) c.loop-index.invariant.is

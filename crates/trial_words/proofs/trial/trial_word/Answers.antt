@@ -24,7 +24,6 @@ counted : (seed count : ℕ) (k : Fraction) (jobs : List JobFacts) (tally : Tall
 counted seed count k jobs tally ratio few is size seen = record {
   valid = valid k ratio seed count One few;
   ratio = refl;
-  plain = refl;
   size = ap length (sym is) ∙ size;
   counted = subst (λ js. HasCounted tally (printed (jobs_under One k js))) is seen;
 }

@@ -4,8 +4,8 @@ use Rattle.dover_model.specs.Run.{completed_value}
 use Rattle.intervals.specs.Pages.{Page, blank}
 use Rattle.intervals.specs.Rows.{IsRunOf, rows_of}
 use Rattle.intervals.proofs.Reading.{Reads, reads_next, none_read}
-use Rattle.intervals.proofs.Charges.{item_next, charged, rows_bound, rows_honest, rows_ordered, rows_displaced}
-use Rattle.intervals.proofs.Charges.{rows_paid, rows_light}
+use Rattle.intervals.proofs.Charges.{item_next, charged, rows_bound, rows_observed, rows_honest, rows_ordered}
+use Rattle.intervals.proofs.Charges.{rows_displaced, rows_paid, rows_light}
 use Rattle.intervals.proofs.Charges.{rows_completed, rows_abandoned}
 use Rattle.intervals.proofs.charge.Charge.of.Goals as goal
 
@@ -44,6 +44,11 @@ pub returns-clause-bound : goal.returns-clause-bound
 returns-clause-bound c J of =
     rows_bound c.args.k c.args.run.now J of c.into_parts-rows.result.0.items c.into_parts-rows.result.1 (done c J of).0
     (done c J of).1
+
+pub returns-clause-observed : goal.returns-clause-observed
+returns-clause-observed c J of =
+    rows_observed c.args.k c.args.run.now J of c.into_parts-rows.result.0.items c.into_parts-rows.result.1
+    (done c J of).0 (done c J of).1
 
 pub returns-clause-honest : goal.returns-clause-honest
 returns-clause-honest c J of =
