@@ -17,7 +17,6 @@ use Rattle.snapshot.specs.Snapshot.{MayPause, snapshot}
 use Rattle.snapshot.specs.Feeds.{GoOnEqually}
 use Rattle.dover_model.specs.Lines.{lines_of}
 use Rattle.dover_model.specs.Feed.{next_line}
-use Rattle.dover_model.specs.Taken.{two_versions}
 use Rattle.dover_model.proofs.Accounts.{account_kept}
 use Rattle.std.specs.List.{fold}
 use Rattle.snapshot.proofs.Alike.{Alike, SameRun, GoAlike, lines_alike}
@@ -44,7 +43,7 @@ jobs_in s = elim s [ None ↦ 0 | Some S ↦ length (admitted_jobs S.items) ]
 same_admitted : (s t : Option Session) → SameRun s t → jobs_in s ≡ jobs_in t
 same_admitted None t same = absurd same
 same_admitted (Some S) None same = absurd same
-same_admitted (Some S) (Some T) same = sym (ap (λ (J : Instance). length J.jobs) same)
+same_admitted (Some S) (Some T) same = sym (ap (λ (J : Instance). length J.jobs) same.0)
 
 -- ---- two feeds with the same snapshot
 
@@ -63,8 +62,8 @@ module _ (G F H : List ℕ) (may : MayPause G) (may_other : MayPause F) (same : 
   step : GoAlike (account G) (account F) (fold next_line (account G) (lines_of H))
       (fold next_line (account F) (lines_of H))
   step = lines_alike (lines_of H) (account G) (account F) (same_alike G F may may_other same)
-      (account_kept two_versions G)
-      (account_kept two_versions F)
+      (account_kept G)
+      (account_kept F)
 
   alike_behind : Alike (account (G ++ H)) (account (F ++ H))
   alike_behind = subst (λ a. Alike a (account (F ++ H))) (sym (account_behind G may.whole H))

@@ -10,7 +10,6 @@ use Rattle.dover_model.specs.Feed as feeds
 use Rattle.dover_model.specs.Feed.{is_open, is_ended, account}
 use Rattle.dover_model.specs.Due.{due, closed, due_lines, fault_text}
 use Rattle.dover_model.specs.Lines.{in_lines, lines_of, whole_lines, rest_of}
-use Rattle.dover_model.specs.Taken.{two_versions}
 use Rattle.dover_model.proofs.Accounts.{due_grows}
 use Rattle.dover_model.proofs.Beginnings.{in_lines-append}
 use Rattle.dover_model.proofs.Tests.{never}
@@ -87,7 +86,7 @@ pub feed_steady : (at_end : AtEnd) → IsSteady (feed_talk at_end)
 feed_steady at_end = record {
   opens = refl;
   nothing = refl;
-  grows = due_grows two_versions;
+  grows = due_grows;
   stays = λ x y over. ap is_open (same x y over) ∙ over;
   answered = λ x y status text over it. answered x y over at_end status text it;
   lacking = λ x y it. (it.0, declared_front x y it.1);

@@ -13,7 +13,8 @@ use Rattle.dover_model.specs.declared.events.Refusal.{Refusal}
 use Rattle.dover_model.specs.JobFacts.{JobFacts}
 use Rattle.dover_model.specs.Instance.{Instance, IsValid, with_jobs}
 use Rattle.dover_model.specs.Admission.{refusal_of}
-use Rattle.dover_model.specs.Session.{Session, JobItem, RefusedItem, Refused, RefusedJob, refused_at, with_item, instance_of}
+use Rattle.dover_model.specs.Session.{Session, JobItem, RefusedItem, Refused, RefusedJob, refused_at, with_item}
+use Rattle.dover_model.specs.Session.{instance_of}
 use Rattle.dover_model.specs.Session.{admitted_jobs, refuses_lines, may_finish_early, is_right}
 use Rattle.dover_model.specs.Run.{printed}
 use Rattle.dover_model.specs.Settled.{settled}
@@ -27,14 +28,15 @@ use Rattle.dover_model.specs.Due.{due_lines, fault_text}
 use Rattle.dover_model.specs.WholeRun.{Begins}
 use Rattle.dover_model.specs.Sound.{IsMember}
 use Rattle.dover_model.proofs.Accounts.{Holds, IsKept, lines_goes}
-use Rattle.admission.proofs.Versions.{none_early, late_order}
-use Rattle.dover_model.specs.Taken.{two_versions}
+use Rattle.dover_model.proofs.Former.{late_none}
 use Rattle.admission.proofs.Joining.{admitted_valid}
 use Rattle.dover_model.proofs.Emitting.{texts_more, texts_job, texts_refused}
 use Rattle.dover_model.proofs.Growing.{Reads, reads_later, job_instance, refused_instance, settled_later}
 use Rattle.dover_model.proofs.Growing.{settled_of_run}
 use Rattle.dover_model.proofs.Prefixes.{settled_prefix}
 use Rattle.event_feed.proofs.Counting.{after_form}
+use Rattle.std.specs.Option.{option_map_or}
+use Rattle.dover_model.specs.declared.events.Version.{Version}
 
 -- an account
 abbrev account_with : ℕ → Option Session → ℕ → Standing → Account
@@ -45,11 +47,15 @@ abbrev done_cause : Session → (mark tick number : ℕ) → Bool → Option Cau
 done_cause S mark t n early = cond early
     (cond (nat_lt last_tick t) (Some Order) (cond (is_right S mark t n) None (Some NotDone))) (Some Line)
 
--- both are declared, with the same jobs under the same rules
+-- a late job line is out of order where no job may finish early
+late_order : (v : Version) → may_finish_early v ≡ false → late_cause v ≡ Order
+late_order v plain = ap (λ o. option_map_or NotAdmitted o Order) (late_none v plain)
+
+-- both are declared, with the same jobs under the same rules, in a version in which none finishes early
 abbrev pub SameRun : Option Session → Option Session → Type 0
 SameRun None t = ⊥
 SameRun (Some S) None = ⊥
-SameRun (Some S) (Some T) = instance_of T ≡ instance_of S
+SameRun (Some S) (Some T) = (instance_of T ≡ instance_of S) × (may_finish_early S.rules.version ≡ false)
 
 -- what a later line depends on is the same
 abbrev pub Alike : Account → Account → Type 0
@@ -64,7 +70,7 @@ pub record GoAlike (a b c d : Account) : Type 0 where
 
 -- ---- what a line adds for one session, as it depends on its jobs
 
-module _ (X : Session) (mark lines : ℕ) (holds : Holds two_versions X mark lines) where
+module _ (X : Session) (mark lines : ℕ) (holds : Holds X mark lines) where
   -- before the line
   abbrev before : Account
   before = account_with lines (Some X) mark Open
@@ -120,8 +126,12 @@ module _ (X : Session) (mark lines : ℕ) (holds : Holds two_versions X mark lin
 
 -- ---- a line behind two feeds that are alike
 
-module _ (S T : Session) (mark lines : ℕ) (holds : Holds two_versions S mark lines) (holds_other : Holds two_versions T mark lines)
-    (same : instance_of T ≡ instance_of S) where
+module _ (S T : Session) (mark lines : ℕ) (holds : Holds S mark lines) (holds_other : Holds T mark lines)
+    (same : instance_of T ≡ instance_of S) (plain : may_finish_early S.rules.version ≡ false) where
+  -- so is the other's
+  plain_other : may_finish_early T.rules.version ≡ false
+  plain_other = ap (λ (K : Instance). may_finish_early K.rules.version) same ∙ plain
+
   abbrev a : Account
   a = account_with lines (Some S) mark Open
 
@@ -139,7 +149,7 @@ module _ (S T : Session) (mark lines : ℕ) (holds : Holds two_versions S mark l
 
   faults_alike : (cause : Cause) → GoAlike a b (with_fault counted_a cause) (with_fault counted_b cause)
   faults_alike cause = record {
-    alike = (refl, refl, refl, same);
+    alike = (refl, refl, refl, (same, plain));
     text = fault_text (suc lines) cause ∷ [];
     first = fault_adds S mark lines holds cause;
     other = fault_adds T mark lines holds_other cause;
@@ -150,7 +160,7 @@ module _ (S T : Session) (mark lines : ℕ) (holds : Holds two_versions S mark l
   ticks_alike t ordered =
       let it : Begins (settled J mark) (settled J t) = settled_later J mark t holds.reads.valid ordered in
       record {
-        alike = (refl, refl, refl, same);
+        alike = (refl, refl, refl, (same, plain));
         text = map text_of it.0;
         first = tick_adds S mark lines holds J refl it.0 t it.1;
         other = tick_adds T mark lines holds_other J same it.0 t it.1;
@@ -160,7 +170,7 @@ module _ (S T : Session) (mark lines : ℕ) (holds : Holds two_versions S mark l
   ends_alike =
       let it : Begins (settled J mark) (printed J) = settled_of_run J mark holds.reads.valid in
       record {
-        alike = (refl, refl, refl, same);
+        alike = (refl, refl, refl, (same, plain));
         text = map text_of it.0;
         first = end_adds S mark lines holds J refl it.0 it.1;
         other = end_adds T mark lines holds_other J same it.0 it.1;
@@ -176,7 +186,12 @@ module _ (S T : Session) (mark lines : ℕ) (holds : Holds two_versions S mark l
       let it : Begins (settled J mark) (settled (with_jobs J (j ∷ [])) j.release) =
       settled_prefix J (j ∷ []) mark valid (λ i m. only i m) j.release ordered in
       record {
-        alike = (refl, refl, refl, job_instance T j ∙ ap (λ K. with_jobs K (j ∷ [])) same ∙ sym (job_instance S j));
+        alike = (
+          refl,
+          refl,
+          refl,
+          (job_instance T j ∙ ap (λ K. with_jobs K (j ∷ [])) same ∙ sym (job_instance S j), plain),
+        );
         text = map text_of it.0;
         first = job_adds S mark lines holds J refl it.0 j it.1;
         other = job_adds T mark lines holds_other J same it.0 j it.1;
@@ -191,7 +206,7 @@ module _ (S T : Session) (mark lines : ℕ) (holds : Holds two_versions S mark l
   refusals_alike j refusal =
       let r : Refused = record { at = mark; line = RefusedJob j refusal } in
       record {
-        alike = (refl, refl, refl, refused_instance T r ∙ same ∙ sym (refused_instance S r));
+        alike = (refl, refl, refl, (refused_instance T r ∙ same ∙ sym (refused_instance S r), plain));
         text = refused_text r ∷ [];
         first = refused_adds S mark lines holds j refusal;
         other = refused_adds T mark lines holds_other j refusal;
@@ -231,15 +246,17 @@ module _ (S T : Session) (mark lines : ℕ) (holds : Holds two_versions S mark l
     by_order : (c : Bool) → nat_lt j.release mark ≡ c
         → GoAlike a b
         (with_line counted_a (JobLine j)
-        (cond c (Some (late_cause S.rules.version)) (option_map NotAdmitted (refusal_of S.rules.ratio (admitted_jobs S.items) j))))
+        (cond c (Some (late_cause S.rules.version))
+        (option_map NotAdmitted (refusal_of S.rules.ratio (admitted_jobs S.items) j))))
         (with_line counted_b (JobLine j)
-        (cond c (Some (late_cause T.rules.version)) (option_map NotAdmitted (refusal_of T.rules.ratio (admitted_jobs T.items) j))))
+        (cond c (Some (late_cause T.rules.version))
+        (option_map NotAdmitted (refusal_of T.rules.ratio (admitted_jobs T.items) j))))
     by_order true falls =
         subst (λ cause. GoAlike a b (with_line counted_a (JobLine j) (Some cause))
         (with_line counted_b (JobLine j) (Some (late_cause T.rules.version))))
-        (sym (late_order S.rules.version holds.version))
+        (sym (late_order S.rules.version plain))
         (subst (λ cause. GoAlike a b (with_line counted_a (JobLine j) (Some Order))
-        (with_line counted_b (JobLine j) (Some cause))) (sym (late_order T.rules.version holds_other.version))
+        (with_line counted_b (JobLine j) (Some cause))) (sym (late_order T.rules.version plain_other))
         (faults_alike Order))
     by_order false ordered =
         subst (λ o. GoAlike a b (with_line counted_a (JobLine j)
@@ -263,10 +280,10 @@ module _ (S T : Session) (mark lines : ℕ) (holds : Holds two_versions S mark l
   formed_alike (DoneLine t n) =
       subst (λ v. GoAlike a b (with_line counted_a (DoneLine t n) (done_cause S mark t n v))
       (with_line counted_b (DoneLine t n) (done_cause T mark t n (may_finish_early T.rules.version))))
-      (sym (none_early S.rules.version holds.version))
+      (sym plain)
       (subst (λ v. GoAlike a b (with_line counted_a (DoneLine t n) (Some Line))
       (with_line counted_b (DoneLine t n) (done_cause T mark t n v)))
-      (sym (none_early T.rules.version holds_other.version)) (faults_alike Line))
+      (sym plain_other) (faults_alike Line))
   formed_alike EndLine = ends_alike
 
   -- any line
@@ -287,14 +304,15 @@ stay_alike a b alike = record
     { alike = alike; text = []; first = sym (append-nil (due_lines a)); other = sym (append-nil (due_lines b)) }
 
 step_alike : (lines mark : ℕ) (standing : Standing) (s t : Option Session) → SameRun s t
-    → IsKept two_versions (account_with lines s mark standing)
-    → IsKept two_versions (account_with lines t mark standing) → (bytes : List ℕ)
+    → IsKept (account_with lines s mark standing)
+    → IsKept (account_with lines t mark standing) → (bytes : List ℕ)
     → GoAlike (account_with lines s mark standing) (account_with lines t mark standing)
     (next_line (account_with lines s mark standing) bytes)
     (next_line (account_with lines t mark standing) bytes)
 step_alike lines mark Open None t same kept other bytes = absurd same
 step_alike lines mark Open (Some S) None same kept other bytes = absurd same
-step_alike lines mark Open (Some S) (Some T) same kept other bytes = open_alike S T mark lines kept other same bytes
+step_alike lines mark Open (Some S) (Some T) same kept other bytes =
+    open_alike S T mark lines kept other same.0 same.1 bytes
 step_alike lines mark Ended s t same kept other bytes =
     stay_alike (account_with lines s mark Ended) (account_with lines t mark Ended) (refl, refl, refl, same)
 step_alike lines mark (Faulty line cause) s t same kept other bytes =
@@ -308,21 +326,21 @@ module _ (a b : Account) (alike : Alike a b) where
       ∙ ap (λ m. account_with a.lines b.session m b.standing) alike.1
       ∙ ap (λ s. account_with a.lines b.session a.mark s) alike.2
 
-  next_alike : IsKept two_versions a → IsKept two_versions b → (bytes : List ℕ) → GoAlike a b (next_line a bytes) (next_line b bytes)
+  next_alike : IsKept a → IsKept b → (bytes : List ℕ) → GoAlike a b (next_line a bytes) (next_line b bytes)
   next_alike kept other bytes =
       subst (λ (c : Account). GoAlike a c (next_line a bytes) (next_line c bytes)) (sym other_is)
-      (step_alike a.lines a.mark a.standing a.session b.session alike.3 kept (subst (IsKept two_versions) other_is other) bytes)
+      (step_alike a.lines a.mark a.standing a.session b.session alike.3 kept (subst (IsKept) other_is other) bytes)
 
 -- lines behind two feeds that are alike
-pub lines_alike : (ls : List (List ℕ)) (a b : Account) → Alike a b → IsKept two_versions a → IsKept two_versions b
+pub lines_alike : (ls : List (List ℕ)) (a b : Account) → Alike a b → IsKept a → IsKept b
     → GoAlike a b (fold next_line a ls) (fold next_line b ls)
 lines_alike [] a b alike kept other = stay_alike a b alike
 lines_alike (l ∷ ls) a b alike kept other =
     let one : GoAlike a b (next_line a l) (next_line b l) = next_alike a b alike kept other l in
     let rest : GoAlike (next_line a l) (next_line b l) (fold next_line (next_line a l) ls)
     (fold next_line (next_line b l) ls) =
-    lines_alike ls (next_line a l) (next_line b l) one.alike (lines_goes two_versions (l ∷ []) a kept).0
-    (lines_goes two_versions (l ∷ []) b other).0 in
+    lines_alike ls (next_line a l) (next_line b l) one.alike (lines_goes (l ∷ []) a kept).0
+    (lines_goes (l ∷ []) b other).0 in
     record {
       alike = rest.alike;
       text = one.text ++ rest.text;

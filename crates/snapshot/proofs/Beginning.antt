@@ -13,7 +13,6 @@ use Rattle.dover_model.specs.Feed.{Account, next_line, no_lines, account_of_line
 use Rattle.event_feed.specs.Kept as feed
 use Rattle.event_feed.specs.Reading.{open_account}
 use Rattle.event_feed.proofs.Skipping.{ticks}
-use Rattle.dover_model.specs.Taken.{two_versions, is_taken}
 use Rattle.snapshot.specs.Snapshot.{Head}
 use Rattle.snapshot.specs.Reading.{is_within_limits, last_release}
 use Rattle.snapshot.specs.Stored.{ratio_text, job_lines, stored_session, stored_account}
@@ -23,10 +22,10 @@ use Rattle.snapshot.proofs.Handed.{goes_on}
 
 -- ---- the ratio
 
-module _ (h : Head) (version : is_taken two_versions h.rules.version ≡ true) (ratio : IsRatio h.rules.ratio) where
+module _ (h : Head) (ratio : IsRatio h.rules.ratio) where
   -- the account of its line
   begun : account_of_lines (ratio_text h ∷ []) ≡ stored_account h []
-  begun = ratio_account h.rules.ratio.p h.rules.ratio.q ratio h.rules.version version
+  begun = ratio_account h.rules.ratio.p h.rules.ratio.q ratio h.rules.version
 
   -- it is a good first line
   pub begin_good : (i : feed.Kept) → feed.StandsFor i [] → IsGoodNext i [] (ratio_text h)

@@ -2,7 +2,6 @@
 -- snapshot go on alike.
 use Rattle.std.proofs.Common.{◌≡◌, ℕ, suc, ◌+◌, ◌≤◌, List, [], ◌∷◌, ◌++◌, length, length-append, append_assoc, map}
 use Rattle.std.proofs.Common.{refl, sym, ap, ◌∙◌, subst, true, false, cond, arith, Option, Some, None, codes}
-use Rattle.std.specs.Prelude.{IsSome}
 use Rattle.std.specs.List.{AllByRecursion, fold}
 use Rattle.std.proofs.lemmas.Grind.{flat_map-append}
 use Rattle.dover_model.specs.Limits.{most_lines}
@@ -13,7 +12,6 @@ use Rattle.dover_model.specs.Settled.{settled_state}
 use Rattle.dover_model.specs.Lines.{in_lines, lines_of, whole_lines, rest_of}
 use Rattle.dover_model.specs.Feed.{Standing, Open, Ended, Faulty, Short, no_lines, next_line, account}
 use Rattle.dover_model.specs.Due.{due_lines, due, short_lines, fault_text}
-use Rattle.dover_model.specs.Taken.{two_versions}
 use Rattle.dover_model.proofs.Accounts.{Holds, account_kept}
 use Rattle.dover_model.proofs.Cuts.{HasNoFeed}
 use Rattle.event_feed.proofs.Counting.{lines_counted}
@@ -26,6 +24,8 @@ use Rattle.snapshot.proofs.Behind.{feedless_head, feedless_states, same_lines, w
 use Rattle.snapshot.proofs.Behind.{account_behind}
 use Rattle.snapshot.proofs.Reached.{Reached, lines_reach, lines_few}
 use Rattle.snapshot.proofs.Takeable.{is_head, taken, stored_is, holds_open, reaches_open}
+use Rattle.dover_model.specs.Session.{may_finish_early}
+use Rattle.event_feed.specs.Listing.{IsPlain}
 
 -- ---- a feed that may pause
 
@@ -41,14 +41,18 @@ module _ (F : List ℕ) (may : MayPause F) where
   -- its session
   pub named : (S : Session) × ((account F).session ≡ Some S)
   named = by (account F).session refl may.declared where
-    by : (o : Option Session) → (account F).session ≡ o → IsSome o → (S : Session) × ((account F).session ≡ Some S)
-    by None e n = absurd (let clash : false ≡ true = n in cc)
+    by : (o : Option Session) → (account F).session ≡ o → IsPlain o → (S : Session) × ((account F).session ≡ Some S)
+    by None e none = absurd none
     by (Some S) e n = (S, e)
 
   module _ (S : Session) (there : (account F).session ≡ Some S) where
+    -- no job of it finishes early
+    pub plain : may_finish_early S.rules.version ≡ false
+    plain = subst IsPlain there may.declared
+
     -- what its account keeps
-    pub holds : Holds two_versions S (account F).mark (account F).lines
-    holds = holds_open (account F) S (account_kept two_versions F) opened there
+    pub holds : Holds S (account F).mark (account F).lines
+    holds = holds_open (account F) S (account_kept F) opened there
 
     pub few : (account F).lines ≤ most_lines
     few = lines_few (lines_of F) no_lines (λ o. omega arith) opened
@@ -62,10 +66,10 @@ module _ (F : List ℕ) (may : MayPause F) where
 
     -- its snapshot is read to its end
     pub lines_taken : reading_of (snapshot_lines (account F) S) ≡ Taken (head_of_feed (account F) S) tasks
-    lines_taken = taken S (account F).mark (account F).lines holds few reached
+    lines_taken = taken S (account F).mark (account F).lines holds few plain reached
 
     pub head_is : IsHead (head_of_feed (account F) S)
-    head_is = is_head S (account F).mark (account F).lines holds few reached
+    head_is = is_head S (account F).mark (account F).lines holds few plain reached
 
     pub lines_feedless : AllByRecursion HasNoFeed (snapshot_lines (account F) S)
     lines_feedless = (feedless_head (head_of_feed (account F) S), feedless_states tasks)
@@ -74,7 +78,7 @@ module _ (F : List ℕ) (may : MayPause F) where
     snapshot_is = ap (λ o. elim o [ None ↦ [] | Some T ↦ in_lines (snapshot_lines (account F) T) ]) there
 
     pub jobs_are : stored (head_of_feed (account F) S) tasks ≡ instance_of S
-    jobs_are = stored_is S (account F).mark (account F).lines holds few reached
+    jobs_are = stored_is S (account F).mark (account F).lines holds few plain reached
 
 -- ---- two feeds with the same snapshot
 
@@ -117,16 +121,20 @@ module _ (F G : List ℕ) (may : MayPause F) (may_other : MayPause G) (same : sn
     sym (ap (λ (h : Head). h.mark) head_same),
     opened G may_other ∙ sym (opened F may),
     subst (λ o. SameRun o (account G).session) (sym there) (subst (λ o. SameRun (Some S) o) (sym there_other)
-        (sym (jobs_are G may_other T there_other)
-        ∙ sym (ap (λ (h : Head). stored h (tasks G may_other T there_other)) head_same)
-        ∙ sym (ap (λ ts. stored (head_of_feed (account F) S) ts) tasks_same) ∙ jobs_are F may S there)),
+        ((
+          sym (jobs_are G may_other T there_other)
+              ∙ sym (ap (λ (h : Head). stored h (tasks G may_other T there_other)) head_same)
+              ∙ sym (ap (λ ts. stored (head_of_feed (account F) S) ts) tasks_same) ∙ jobs_are F may S there,
+          plain F may S there,
+        ))),
   )
 
 -- ---- what depends on what is alike
 
 -- the lines of a snapshot
 abbrev lines_from : Instance → ℕ → ℕ → List (List ℕ)
-lines_from J lines mark = head_line (record { rules = declared_by J.rules; lines = lines; mark = mark; jobs = length J.jobs })
+lines_from J lines mark = head_line
+    (record { rules = declared_by J.rules; lines = lines; mark = mark; jobs = length J.jobs })
     ∷ map state_line (settled_state J mark).tasks ++ codes "resume" ∷ []
 
 -- the line that refuses a feed that is too short
@@ -139,13 +147,15 @@ pub both_there : (s t : Option Session) → SameRun s t → (S : Session) × (T 
     × (instance_of T ≡ instance_of S)
 both_there None t same = absurd same
 both_there (Some S) None same = absurd same
-both_there (Some S) (Some T) same = (S, T, refl, refl, same)
+both_there (Some S) (Some T) same = (S, T, refl, refl, same.0)
 
 module _ (F G : List ℕ) (alike : Alike (account F) (account G)) (whole : rest_of F ≡ rest_of G) where
   -- the other may pause too
   may_pause : MayPause F → MayPause G
   may_pause may = record {
-    declared = let it = both_there (account F).session (account G).session alike.3 in subst IsSome (sym it.3) refl;
+    declared = let it = both_there (account F).session (account G).session alike.3 in
+        subst IsPlain (sym it.3)
+        (ap (λ (J : Instance). may_finish_early J.rules.version) it.4 ∙ plain F may it.0 it.2);
     going_on = ap (λ s. elim s [ Open ↦ true | Ended ↦ false | Faulty line cause ↦ false ]) (alike.2 ∙ opened F may);
     whole = sym whole ∙ may.whole;
   }
@@ -166,8 +176,8 @@ module _ (F G H : List ℕ) (may : MayPause F) (may_other : MayPause G) (same : 
   -- line by line
   step : GoAlike (account F) (account G) (fold next_line (account F) (lines_of H))
       (fold next_line (account G) (lines_of H))
-  step = lines_alike (lines_of H) (account F) (account G) (same_alike F G may may_other same) (account_kept two_versions F)
-      (account_kept two_versions G)
+  step = lines_alike (lines_of H) (account F) (account G) (same_alike F G may may_other same) (account_kept F)
+      (account_kept G)
 
   alike_behind : Alike (account (F ++ H)) (account (G ++ H))
   alike_behind = subst (λ a. Alike a (account (G ++ H))) (sym (account_behind F may.whole H))

@@ -30,6 +30,7 @@ use Rattle.event_feed.proofs.Taking.{is_going}
 use Rattle.snapshot.specs.Snapshot.{Head}
 use Rattle.snapshot.specs.Reading.{stored}
 use Rattle.snapshot.specs.Stored.{ratio_text, job_lines, stored_session, stored_account}
+use Rattle.event_feed.proofs.DoneLines.{done_session, done_jobs}
 use Rattle.snapshot.specs.Kept.{IsFed, HasRoom, job_in}
 use Rattle.snapshot.proofs.Admitted.{job_cause, no_cause_valid, valid_no_cause, jobs_more}
 use Rattle.snapshot.proofs.Handing.{counted_account, job_read, job_adds}
@@ -94,6 +95,10 @@ none_added bytes a b S fed.Over there none it = ap count it.after_is
 none_added bytes a b S (fed.Refused r c d v refusal) there none it = ap count it.after_is
     ∙ ap (λ J. length J.jobs)
     (refused_instance it.session (record { at = a.mark; line = RefusedJob (job_of_numbers r c d v) refusal }))
+    ∙ ap (λ o. length (jobs_in_session o)) (sym it.before_is)
+none_added bytes a b S (fed.Done t n) there none it = ap count it.after_is
+    ∙ ap (λ o. length (jobs_in_session o)) (done_session it.session t n (counted a) it.before_is)
+    ∙ ap length (done_jobs it.session a.mark t n)
     ∙ ap (λ o. length (jobs_in_session o)) (sym it.before_is)
 
 -- nor does a fault
@@ -248,6 +253,7 @@ module _ (h : Head) (tasks : List Task) (t : Task) (i new : feed.Kept) (it : IsF
     by (fed.Tick tick) s = tt
     by fed.Over s = tt
     by (fed.Refused r c d v refusal) s = tt
+    by (fed.Done t n) s = tt
 
   -- none is handed on where it isn't valid
   pub none_handed_on : (answer : Fed) (result : Option JobFacts) → result ≡ job_in answer → IsNone result

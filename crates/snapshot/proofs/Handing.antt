@@ -20,7 +20,6 @@ use Rattle.dover_model.specs.Sound.{jobs_of}
 use Rattle.dover_model.specs.FeedLine.{FeedLine, RatioLine, JobLine, TickLine, HasNumerals, feed_line, feed_text}
 use Rattle.dover_model.specs.Feed.{Account, Lines, Declared, Order, rules_with, declared_rules, cause_of, with_line}
 use Rattle.dover_model.specs.Feed.{with_fault, next_line, no_lines}
-use Rattle.dover_model.specs.Taken.{two_versions, is_taken}
 use Rattle.dover_model.proofs.Tests.{never}
 use Rattle.dover_model.proofs.Agreement.{is_ratio-agrees}
 use Rattle.dover_model.proofs.FeedLines.{feed_line-feed_text}
@@ -48,21 +47,21 @@ module _ (p q : ℕ) (ratio : IsRatio (record { p = p; q = q })) where
         by_version Three p_short q_short = (p_short, (q_short, (omega arith, tt)))
 
   -- it declares the rules
-  declares : (v : Version) → is_taken two_versions v ≡ true → declared_rules k (declared_number v) ≡ Some (rules_with k v)
-  declares One taken = ap (λ b. cond b (Some (rules_with k One)) None) ((is_ratio-agrees k).1 ratio)
-  declares Two taken = ap (λ b. cond b (Some (rules_with k Two)) None) ((is_ratio-agrees k).1 ratio)
-  declares Three taken = never taken
+  declares : (v : Version) → declared_rules k (declared_number v) ≡ Some (rules_with k v)
+  declares One = ap (λ b. cond b (Some (rules_with k One)) None) ((is_ratio-agrees k).1 ratio)
+  declares Two = ap (λ b. cond b (Some (rules_with k Two)) None) ((is_ratio-agrees k).1 ratio)
+  declares Three = ap (λ b. cond b (Some (rules_with k Three)) None) ((is_ratio-agrees k).1 ratio)
 
   -- what it says as the first line
-  pub ratio_account : (v : Version) → is_taken two_versions v ≡ true
-      → next_line no_lines (feed_text (RatioLine p q (declared_number v))) ≡ open_account 1
+  pub ratio_account : (v : Version) → next_line no_lines (feed_text (RatioLine p q (declared_number v)))
+      ≡ open_account 1
       (Some (new_session (rules_with k v))) 0
-  ratio_account v taken =
+  ratio_account v =
       let line : FeedLine = RatioLine p q (declared_number v) in
       let a : Account = open_account 1 None 0 in
       ap (after_form a) (feed_line-feed_text line (ratio_numerals v))
-      ∙ ap (λ o. with_line a line (cond (is_some o) None (Some Declared))) (declares v taken)
-      ∙ ap (λ o. record a { session = option_map new_session o }) (declares v taken)
+      ∙ ap (λ o. with_line a line (cond (is_some o) None (Some Declared))) (declares v)
+      ∙ ap (λ o. record a { session = option_map new_session o }) (declares v)
 
 -- ---- the line of a job
 

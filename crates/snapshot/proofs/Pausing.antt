@@ -8,7 +8,6 @@ use Rattle.dover_model.specs.declared.events.Task.{Task}
 use Rattle.dover_model.specs.Limits.{most_jobs, most_lines, last_tick}
 use Rattle.dover_model.specs.Feed.{account}
 use Rattle.dover_model.specs.Instance.{Rules, Declaration, declared_by, Instance}
-use Rattle.dover_model.specs.Taken.{two_versions}
 use Rattle.dover_model.specs.Lines.{in_lines}
 use Rattle.dover_model.specs.Session.{instance_of}
 use Rattle.dover_model.specs.Settled.{settled, settled_state}
@@ -29,7 +28,7 @@ module _ (v : RosterServer) (lines mark : ℕ) (F : List ℕ) (it : IsTakenTo v 
   J = instance_of it.session
 
   -- what its account keeps
-  kept : Holds two_versions it.session (account F).mark (account F).lines
+  kept : Holds it.session (account F).mark (account F).lines
   kept = holds F it.may it.session it.named
 
   -- it has few lines
@@ -63,7 +62,8 @@ module _ (v : RosterServer) (lines mark : ℕ) (F : List ℕ) (it : IsTakenTo v 
   pub text_is : in_lines (lines_in k.roll v.server.ready.rules lines mark) ≡ snapshot F
   text_is = ap (λ n. text v.server.ready.rules n lines mark (map (job_at k.roll mark) k.roll.jobs)) count
       ∙ ap (λ ts. text v.server.ready.rules (length J.jobs) lines mark ts) jobs_are
-      ∙ ap (λ r. text r (length J.jobs) lines mark (settled_state J mark).tasks) (ap (λ (r : Rules). declared_by r) (sym it.served.served.follows.rules))
+      ∙ ap (λ r. text r (length J.jobs) lines mark (settled_state J mark).tasks)
+      (ap (λ (r : Rules). declared_by r) (sym it.served.served.follows.rules))
       ∙ ap (λ n. text it.session.rules (length J.jobs) n mark (settled_state J mark).tasks) it.lines_are
       ∙ ap (λ m. text it.session.rules (length J.jobs) (account F).lines m (settled_state J m).tasks) it.mark_is
       ∙ sym (snapshot_is F it.may it.session it.named)
@@ -90,7 +90,8 @@ last_line f [] last (suc n) e low = absurd (omega (arith, low))
 last_line f (x ∷ jobs) last zero e low = absurd (let no : Some (f x) ≡ None = e in cc)
 last_line f (x ∷ jobs) last (suc n) e low = last_line f jobs last n e (omega (arith, low))
 
-module _ (p : Roll) (rules : Declaration) (lines mark : ℕ) (ls : List (List ℕ)) (are : ls ≡ lines_in p rules lines mark) where
+module _ (p : Roll) (rules : Declaration) (lines mark : ℕ) (ls : List (List ℕ))
+    (are : ls ≡ lines_in p rules lines mark) where
   -- the lines behind the first
   behind_first : (n : ℕ) → (n ≡ 0 → ⊥)
       → get_or ls n [] ≡ get_or (map state_line (map (job_at p mark) p.jobs) ++ codes "resume" ∷ []) (n - 1) []

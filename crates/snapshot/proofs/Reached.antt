@@ -12,12 +12,16 @@ use Rattle.dover_model.specs.JobFacts.{JobFacts}
 use Rattle.dover_model.specs.declared.events.Refusal.{Refusal}
 use Rattle.dover_model.specs.Instance.{Instance, Declaration}
 use Rattle.dover_model.specs.Admission.{refusal_of}
-use Rattle.dover_model.specs.Session.{Session, JobItem, RefusedItem, FinishItem, Refused, RefusedJob, RefusedDone, EarlyFinish}
-use Rattle.dover_model.specs.Session.{refused_at, refused_done_at, with_item, with_named, new_session, early_at, is_right}
+use Rattle.dover_model.specs.Session.{Session, JobItem, RefusedItem, FinishItem, Refused, RefusedJob, RefusedDone}
+use Rattle.dover_model.specs.Session.{EarlyFinish}
+use Rattle.dover_model.specs.Session.{refused_at, refused_done_at, with_item, with_named, new_session, early_at}
+use Rattle.dover_model.specs.Session.{is_right}
 use Rattle.dover_model.specs.Session.{admitted_jobs, refuses_lines, may_finish_early, late_refusal}
 use Rattle.dover_model.specs.FeedLine.{FeedLine, RatioLine, JobLine, TickLine, DoneLine, EndLine, feed_line}
-use Rattle.dover_model.specs.Feed.{Lines, Line, Declared, Order, NotAdmitted, NotDone, Standing, Open, Ended, Faulty, Account}
-use Rattle.dover_model.specs.Feed.{declared_rules, first_line_cause, late_cause, later_line_cause, with_fault, with_item_in}
+use Rattle.dover_model.specs.Feed.{Lines, Line, Declared, Order, NotAdmitted, NotDone, Standing, Open, Ended, Faulty}
+use Rattle.dover_model.specs.Feed.{Account}
+use Rattle.dover_model.specs.Feed.{declared_rules, first_line_cause, late_cause, later_line_cause, with_fault}
+use Rattle.dover_model.specs.Feed.{with_item_in}
 use Rattle.dover_model.specs.Feed.{with_line, next_line}
 use Rattle.dover_model.proofs.Growing.{job_instance, refused_instance, finish_instance}
 use Rattle.event_feed.proofs.Counting.{after_form, next_counted}
@@ -110,7 +114,8 @@ module _ (S : Session) (mark lines : ℕ) (it : Reached (admitted_jobs S.items) 
 
     by_order : (b : Bool)
         → Reaches (with_line counted (JobLine j)
-        (cond b (Some (late_cause S.rules.version)) (option_map NotAdmitted (refusal_of S.rules.ratio (admitted_jobs S.items) j))))
+        (cond b (Some (late_cause S.rules.version))
+        (option_map NotAdmitted (refusal_of S.rules.ratio (admitted_jobs S.items) j))))
     by_order true = by_late (late_refusal S.rules.version)
     by_order false = by_refusal (refusal_of S.rules.ratio (admitted_jobs S.items) j)
 

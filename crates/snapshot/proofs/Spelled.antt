@@ -16,7 +16,6 @@ use Rattle.dover_model.specs.declared.events.Version.{Version}
 use Rattle.dover_model.specs.declared.events.Version.TheVariants.{One, Two}
 use Rattle.dover_model.specs.Fraction.{IsRatio, is_ratio}
 use Rattle.dover_model.specs.Instance.{Declaration}
-use Rattle.dover_model.specs.Taken.{two_versions, is_taken}
 use Rattle.dover_model.proofs.TraceLines.{version_back, version_from}
 use Rattle.dover_model.specs.JobFacts.{job_of_numbers, job_numbers}
 use Rattle.dover_model.specs.Numerals.{numerals, AreShort}
@@ -33,6 +32,10 @@ use Rattle.dover_model.proofs.Fields.{length-with_numbers}
 use Rattle.snapshot.specs.Snapshot.{Head, head_numbers, head_line, IsHead, role_word, state_line, IsStored}
 use Rattle.snapshot.specs.Snapshot.{state_numbers, IsState}
 use Rattle.snapshot.specs.Reading.{rules_from, head_from, read_head, role_of_word, task_from, task_of_fields, read_task}
+use Rattle.dover_model.specs.Session.{may_finish_early}
+use Rattle.dover_model.proofs.Tests.{never}
+use Rattle.dover_model.specs.declared.events.Version.TheVariants.{Three}
+use Rattle.snapshot.specs.Reading.{plain_version}
 
 -- ---- a word and numbers
 
@@ -68,15 +71,33 @@ numbers_from word line ns = by (fields_of line) refl where
 
 -- ---- the first line
 
+-- a version in which no job finishes early is read from its number
+plain_back : (v : Version) → may_finish_early v ≡ false → plain_version (version_number v) ≡ Some v
+plain_back One plain = refl
+plain_back Two plain = refl
+plain_back Three plain = never (sym plain)
+
+-- and its number from it
+plain_from : (n : ℕ) (v : Version) → plain_version n ≡ Some v
+    → (version_number v ≡ n) × (may_finish_early v ≡ false)
+plain_from n v = by (n == 1) (n == 2) refl refl where
+  by : (a b : Bool) → (n == 1) ≡ a → (n == 2) ≡ b → cond a (Some One) (then_some b Two) ≡ Some v
+      → (version_number v ≡ n) × (may_finish_early v ≡ false)
+  by true b one two read = subst (λ w. (version_number w ≡ n) × (may_finish_early w ≡ false))
+      (some_same One v read) (sym (eqb-true n 1 one), refl)
+  by false true one two read = subst (λ w. (version_number w ≡ n) × (may_finish_early w ≡ false))
+      (some_same Two v read) (sym (eqb-true n 2 two), refl)
+  by false false one two read = none_is_some read
+
 -- its numbers are read as the first line
-numbers_head : (h : Head) → is_taken two_versions h.rules.version ≡ true → IsRatio h.rules.ratio
+numbers_head : (h : Head) → may_finish_early h.rules.version ≡ false → IsRatio h.rules.ratio
     → head_from (head_numbers h) ≡ Some h
-numbers_head h taken ratio =
+numbers_head h plain ratio =
     let head : Declaration → Head = λ rules. record { rules = rules; lines = h.lines; mark = h.mark; jobs = h.jobs } in
     ap (λ o. option_map head (option_and_then (λ version. then_some (is_ratio h.rules.ratio) (record {
       ratio = h.rules.ratio;
       version = version;
-    })) o)) (version_back two_versions h.rules.version taken)
+    })) o)) (plain_back h.rules.version plain)
     ∙ ap (λ b. option_map head (then_some b h.rules)) ((is_ratio-agrees h.rules.ratio).1 ratio)
 
 -- the first line is short
@@ -94,35 +115,36 @@ read_head-head_line h it =
 -- what rules are read from
 rules_read : (n p q : ℕ) (rules : Declaration) → rules_from n p q ≡ Some rules
     → (version_number rules.version ∷ rules.ratio.p ∷ rules.ratio.q ∷ [] ≡ n ∷ p ∷ q ∷ []) × IsRatio rules.ratio
-    × (is_taken two_versions rules.version ≡ true)
-rules_read n p q rules = by (version_of_number n) refl where
+    × (may_finish_early rules.version ≡ false)
+rules_read n p q rules = by (plain_version n) refl where
   rules_in : Version → Declaration
   rules_in version = record { ratio = record { p = p; q = q }; version = version }
 
-  by_ratio : (b : Bool) (v : Version) → is_ratio (record { p = p; q = q }) ≡ b → version_of_number n ≡ Some v
+  by_ratio : (b : Bool) (v : Version) → is_ratio (record { p = p; q = q }) ≡ b → plain_version n ≡ Some v
       → then_some b (rules_in v) ≡ Some rules
       → (version_number rules.version ∷ rules.ratio.p ∷ rules.ratio.q ∷ [] ≡ n ∷ p ∷ q ∷ []) × IsRatio rules.ratio
-      × (is_taken two_versions rules.version ≡ true)
+      × (may_finish_early rules.version ≡ false)
   by_ratio false v fails version read = none_is_some read
   by_ratio true v passes version read =
-      subst (λ (r : Declaration). (version_number r.version ∷ r.ratio.p ∷ r.ratio.q ∷ [] ≡ n ∷ p ∷ q ∷ []) × IsRatio r.ratio
-      × (is_taken two_versions r.version ≡ true))
+      subst (λ (r : Declaration). (version_number r.version ∷ r.ratio.p ∷ r.ratio.q ∷ [] ≡ n ∷ p ∷ q ∷ [])
+      × IsRatio r.ratio
+      × (may_finish_early r.version ≡ false))
       (some_same (rules_in v) rules read) (
-        ap (λ m. m ∷ p ∷ q ∷ []) (version_from two_versions n v version).0,
+        ap (λ m. m ∷ p ∷ q ∷ []) (plain_from n v version).0,
         (is_ratio-agrees (record { p = p; q = q })).0 passes,
-        (version_from two_versions n v version).1,
+        (plain_from n v version).1,
       )
 
-  by : (o : Option Version) → version_of_number n ≡ o
+  by : (o : Option Version) → plain_version n ≡ o
       → option_and_then (λ version. then_some (is_ratio (record { p = p; q = q })) (rules_in version)) o ≡ Some rules
       → (version_number rules.version ∷ rules.ratio.p ∷ rules.ratio.q ∷ [] ≡ n ∷ p ∷ q ∷ []) × IsRatio rules.ratio
-      × (is_taken two_versions rules.version ≡ true)
+      × (may_finish_early rules.version ≡ false)
   by None version read = none_is_some read
   by (Some v) version read = by_ratio (is_ratio (record { p = p; q = q })) v refl version read
 
 -- what a first line is read from
 head_read : (ns : List ℕ) (h : Head) → head_from ns ≡ Some h → (head_numbers h ≡ ns) × IsRatio h.rules.ratio
-    × (is_taken two_versions h.rules.version ≡ true)
+    × (may_finish_early h.rules.version ≡ false)
 head_read (n ∷ p ∷ q ∷ lines ∷ mark ∷ jobs ∷ []) h = by (rules_from n p q) (rules_read n p q) where
   head_in : Declaration → Head
   head_in rules = record { rules = rules; lines = lines; mark = mark; jobs = jobs }
@@ -130,13 +152,13 @@ head_read (n ∷ p ∷ q ∷ lines ∷ mark ∷ jobs ∷ []) h = by (rules_from 
   by : (o : Option Declaration)
       → ((rules : Declaration) → o ≡ Some rules
       → (version_number rules.version ∷ rules.ratio.p ∷ rules.ratio.q ∷ [] ≡ n ∷ p ∷ q ∷ []) × IsRatio rules.ratio
-      × (is_taken two_versions rules.version ≡ true))
+      × (may_finish_early rules.version ≡ false))
       → option_map head_in o ≡ Some h → (head_numbers h ≡ n ∷ p ∷ q ∷ lines ∷ mark ∷ jobs ∷ []) × IsRatio h.rules.ratio
-      × (is_taken two_versions h.rules.version ≡ true)
+      × (may_finish_early h.rules.version ≡ false)
   by None it read = none_is_some read
   by (Some rules) it read =
       subst (λ (g : Head). (head_numbers g ≡ n ∷ p ∷ q ∷ lines ∷ mark ∷ jobs ∷ []) × IsRatio g.rules.ratio
-      × (is_taken two_versions g.rules.version ≡ true))
+      × (may_finish_early g.rules.version ≡ false))
       (some_same (head_in rules) h read)
       (ap (λ ns. ns ++ lines ∷ mark ∷ jobs ∷ []) (it rules refl).0, (it rules refl).1, (it rules refl).2)
 head_read [] h = λ read. none_is_some read

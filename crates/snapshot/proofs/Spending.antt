@@ -51,7 +51,11 @@ pub jobs_left : (r : Resuming) (ls : List (List ℕ)) → IsReading (Some r) ls 
     → n ≤ jobs_read (reading_of (ls ++ line ∷ []))
 jobs_left r ls (h, tasks, read, it) line n same = subst (λ reading. n ≤ jobs_read reading)
     (sym (fold-append next_line Begun ls (line ∷ []) ∙ ap (λ reading. next_line reading line) read.reads))
-    (omega (arith, same h tasks (subst (IsServed r.server h tasks) (sym it.released) it.served), jobs_next h tasks line))
+    (omega (
+      arith,
+      same h tasks (subst (IsServed r.server h tasks) (sym it.released) it.served),
+      jobs_next h tasks line,
+    ))
 
 -- at rest it has as many
 pub jobs_rested : (v : RosterServer) (h : Head) (tasks : List Task) (mark : ℕ) → Rests v (stored h tasks) (Mark mark)

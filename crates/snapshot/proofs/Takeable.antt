@@ -16,9 +16,8 @@ use Rattle.dover_model.specs.Session.{Session, instance_of, admitted_jobs, early
 use Rattle.dover_model.specs.Settled.{settled_state}
 use Rattle.dover_model.specs.Sound.{IsMember, IsNumberedFrom, jobs_of}
 use Rattle.dover_model.specs.Feed.{Account, Open}
-use Rattle.admission.proofs.Versions.{plain_items}
+use Rattle.dover_model.proofs.Former.{none_early}
 use Rattle.dover_model.proofs.Meeting.{finishing_valid}
-use Rattle.dover_model.specs.Taken.{two_versions}
 use Rattle.dover_model.proofs.Accounts.{Holds, HoldsBy, HoldsOpen, IsKept}
 use Rattle.dover_model.proofs.Agreement.{is_valid-agrees}
 use Rattle.dover_model.proofs.Barriers.{AtBarrier, settled_at_barrier}
@@ -36,6 +35,7 @@ use Rattle.ready_server.proofs.Present.{none_to_come}
 use Rattle.snapshot.proofs.Reached.{last_of, Reached, Reaches, ReachesBy}
 use Rattle.snapshot.proofs.Spelled.{read_head-head_line, read_task-state_line}
 use Rattle.snapshot.proofs.Storing.{head_stands, task_stands, last_stands}
+use Rattle.dover_model.specs.Session.{may_finish_early}
 
 -- the last release of the jobs of tasks
 last_jobs : (from : ℕ) (tasks : List Task)
@@ -55,8 +55,8 @@ in_middle : (front : List Task) (t : Task) (back : List Task) → IsMember t (fr
 in_middle [] t back = inl refl
 in_middle (u ∷ front) t back = inr (in_middle front t back)
 
-module _ (S : Session) (mark lines : ℕ) (holds : Holds two_versions S mark lines) (few : lines ≤ most_lines)
-    (reached : Reached (admitted_jobs S.items) mark lines)
+module _ (S : Session) (mark lines : ℕ) (holds : Holds S mark lines) (few : lines ≤ most_lines)
+    (former : may_finish_early S.rules.version ≡ false) (reached : Reached (admitted_jobs S.items) mark lines)
   where
     -- its jobs
     abbrev J : Instance
@@ -75,7 +75,7 @@ module _ (S : Session) (mark lines : ℕ) (holds : Holds two_versions S mark lin
 
     -- no job finishes early
     plain : early_finishes S.items ≡ []
-    plain = plain_items S.rules holds.version [] 0 S.items holds.follows
+    plain = none_early S.rules [] 0 S.items former holds.follows
 
     jobs_same : jobs_of tasks ≡ J.jobs
     jobs_same = bar.keeps.jobs
@@ -98,7 +98,7 @@ module _ (S : Session) (mark lines : ℕ) (holds : Holds two_versions S mark lin
         let known : mark ≤ 1_000_000_000_000 = holds.known in
         let most : lines ≤ 4_000_000 = few in
         record {
-          version = holds.version;
+          version = former;
           ratio = holds.reads.valid.ratio;
           short =
               (rules.0, (rules.1.0, (rules.1.1.0, (omega arith, (omega arith, (omega (arith, jobs_few), tt))))));
@@ -228,10 +228,10 @@ module _ (S : Session) (mark lines : ℕ) (holds : Holds two_versions S mark lin
     }
 
 -- what an account keeps that goes on
-pub holds_open : (a : Account) (S : Session) → IsKept two_versions a → a.standing ≡ Open → a.session ≡ Some S
-    → Holds two_versions S a.mark a.lines
+pub holds_open : (a : Account) (S : Session) → IsKept a → a.standing ≡ Open → a.session ≡ Some S
+    → Holds S a.mark a.lines
 holds_open a S kept opened there =
-    subst (λ o. HoldsOpen two_versions o a.mark a.lines) there (subst (λ s. HoldsBy two_versions s a.session a.mark a.lines) opened kept)
+    subst (λ o. HoldsOpen o a.mark a.lines) there (subst (λ s. HoldsBy s a.session a.mark a.lines) opened kept)
 
 -- how its mark was reached
 pub reaches_open : (a : Account) (S : Session) → Reaches a → a.standing ≡ Open → a.session ≡ Some S

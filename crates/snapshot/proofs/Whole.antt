@@ -2,7 +2,6 @@
 use Rattle.std.proofs.Common.{◌≡◌, ℕ, ◌+◌, ◌-◌, ◌≤◌, List, [], ◌∷◌, ◌++◌, length, length-append, append_assoc}
 use Rattle.std.proofs.Common.{append-nil, map, replicate, zero, suc, refl, sym, ap, ◌∙◌, subst, arith, Option, Some}
 use Rattle.std.proofs.Common.{None, codes}
-use Rattle.std.specs.Prelude.{IsSome}
 use Rattle.std.specs.List.{AllByRecursion, fold}
 use Rattle.std.proofs.lemmas.List.{map-append}
 use Rattle.std.proofs.lemmas.List.Sums.{fold-append}
@@ -36,6 +35,7 @@ use Rattle.snapshot.proofs.Behind.{feedless_feed, rest_joined, lines_joined}
 use Rattle.snapshot.proofs.Comparing.{same_tasks, alike_all}
 use Rattle.snapshot.proofs.Feeds.{both_there, same_alike}
 use Rattle.snapshot.proofs.Handing.{ratio_account, job_account}
+use Rattle.event_feed.specs.Listing.{IsPlain}
 
 -- what holds of all of two lists
 all_both : {X : Type 0} (P : X → Type 0) (xs ys : List X) → AllByRecursion P xs → AllByRecursion P ys
@@ -95,7 +95,7 @@ module _ (h : Head) (tasks : List Task) (ls : List (List ℕ)) (it : IsWhole h t
 
   all_lines_account : account_of_lines (feed_lines h tasks) ≡ paused_account h tasks
   all_lines_account = all_account h tasks can
-      (jobs_account [] tasks refl (ratio_account h.rules.ratio.p h.rules.ratio.q it.read.valid.ratio h.rules.version it.read.version))
+      (jobs_account [] tasks refl (ratio_account h.rules.ratio.p h.rules.ratio.q it.read.valid.ratio h.rules.version))
 
   -- its lines have no line feed
   feedless : AllByRecursion HasNoFeed (feed_lines h tasks)
@@ -113,7 +113,7 @@ module _ (h : Head) (tasks : List Task) (ls : List (List ℕ)) (it : IsWhole h t
 
   pub shortest_may : MayPause shortest
   shortest_may = record {
-    declared = subst (λ (a : Account). IsSome a.session) (sym shortest_account) refl;
+    declared = subst (λ (a : Account). IsPlain a.session) (sym shortest_account) it.read.version;
     going_on = ap is_open shortest_account;
     whole = rest_joined (feed_lines h tasks) feedless;
   }
@@ -134,7 +134,13 @@ module _ (h : Head) (tasks : List Task) (ls : List (List ℕ)) (it : IsWhole h t
 
   -- the lines of a snapshot
   abbrev lines_from : Instance → List (List ℕ)
-  lines_from J = head_line (record { rules = declared_by J.rules; lines = h.lines; mark = h.mark; jobs = length J.jobs })
+  lines_from J = head_line (record {
+    rules = declared_by J.rules;
+    lines = h.lines;
+    mark = h.mark;
+    jobs =
+        length J.jobs;
+  })
       ∷ map state_line (settled_state J h.mark).tasks ++ codes "resume" ∷ []
 
   lines_are : snapshot_lines (paused_account h tasks) (stored_session h tasks) ≡ ls
@@ -172,9 +178,8 @@ module _ (h : Head) (tasks : List Task) (ls : List (List ℕ)) (it : IsWhole h t
       by None t none same = absurd none
       by (Some k) None some same = absurd same
       by (Some k) (Some T) some same = record {
-        rules = ap (λ (J : Instance). declared_by J.rules) same ∙ some.rules;
-        version_taken = some.version_taken;
-        jobs = subst (admission.StandsFor k.admission) (sym (ap (λ (J : Instance). J.jobs) same)) some.jobs;
+        rules = ap (λ (J : Instance). declared_by J.rules) same.0 ∙ some.rules;
+        jobs = subst (admission.StandsFor k.admission) (sym (ap (λ (J : Instance). J.jobs) same.0)) some.jobs;
         marked = some.marked ∙ sym alike.1;
       }
 

@@ -7,7 +7,8 @@ use Rattle.line_text.specs.Writing.{numbers_behind}
 use Rattle.snapshot.specs.Snapshot.{role_word, state_line}
 
 -- a word and a number, a word and numbers, in front of more
-joined : (w d r n t : List ℕ) → (w ++ (32 ∷ d ++ [])) ++ (32 ∷ (r ++ (n ++ t))) ≡ (w ++ (32 ∷ (d ++ (32 ∷ (r ++ n))))) ++ t
+joined : (w d r n t : List ℕ) → (w ++ (32 ∷ d ++ [])) ++ (32 ∷ (r ++ (n ++ t)))
+    ≡ (w ++ (32 ∷ (d ++ (32 ∷ (r ++ n))))) ++ t
 joined w d r n t =
     ap (λ x. (w ++ (32 ∷ x)) ++ (32 ∷ (r ++ (n ++ t)))) (append-nil d)
     ∙ append_assoc w (32 ∷ d) (32 ∷ (r ++ (n ++ t)))

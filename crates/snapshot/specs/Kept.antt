@@ -43,6 +43,7 @@ job_in (fed.Job number job) = Some job
 job_in (fed.Tick tick) = None
 job_in fed.Over = None
 job_in (fed.Refused release work deadline value refusal) = None
+job_in (fed.Done tick number) = None
 
 -- there is a line for one more job
 abbrev pub HasRoom : Head → List Task → Type 0

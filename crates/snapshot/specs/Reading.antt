@@ -16,17 +16,22 @@ use Rattle.dover_model.specs.Numerals.{numerals}
 use Rattle.dover_model.specs.Lines.{is_too_long, fields_of, numbers_of}
 use Rattle.dover_model.specs.Settled.{settled_state}
 use Rattle.dover_model.specs.Sound.{jobs_of}
-use Rattle.dover_model.specs.Verdict.{version_of_number}
 use Rattle.snapshot.specs.Snapshot.{Head, role_word}
+use Rattle.dover_model.specs.declared.events.Version.{Version}
+use Rattle.dover_model.specs.declared.events.Version.TheVariants.{One, Two}
 
 -- ---- the forms of its lines
+
+-- the version of this number, if no job finishes early in it
+abbrev pub plain_version : ℕ → Option Version
+plain_version n = if n == 1 then Some One else then_some (n == 2) Two
 
 -- the rules of a version's number and a ratio, if they are within the limits
 abbrev pub rules_from : (version p q : ℕ) → Option Declaration
 rules_from n p q = option_and_then (λ version. then_some (is_ratio (record { p = p; q = q })) (record {
   ratio = record { p = p; q = q };
   version = version;
-})) (version_of_number n)
+})) (plain_version n)
 
 -- the first line of these numbers, if its rules are within the limits
 abbrev pub head_from : List ℕ → Option Head

@@ -1,12 +1,11 @@
 -- What was read of a snapshot, and the feed for which it stands.
-use Rattle.std.specs.Prelude.{◌≡◌, ℕ, ◌+◌, ◌≤◌, List, ◌∷◌, length, map, true, Option, Some, None}
+use Rattle.std.specs.Prelude.{◌≡◌, ℕ, ◌+◌, ◌≤◌, List, ◌∷◌, length, map, true, false, Option, Some, None}
 use Rattle.std.specs.List.{AllByRecursion}
 use Rattle.dover_model.specs.declared.events.Task.{Task}
 use Rattle.dover_model.specs.declared.events.Version.{Version}
 use Rattle.dover_model.specs.declared.events.Version.TheVariants.{One, Two, Three}
 use Rattle.dover_model.specs.Instance.{IsValid}
-use Rattle.dover_model.specs.Session.{Session, JobItem}
-use Rattle.dover_model.specs.Taken.{two_versions, is_taken}
+use Rattle.dover_model.specs.Session.{Session, JobItem, may_finish_early}
 use Rattle.dover_model.specs.Sound.{IsNumberedFrom, jobs_of}
 use Rattle.dover_model.specs.FeedLine.{RatioLine, JobLine, feed_text}
 use Rattle.dover_model.specs.Feed.{Account, Open}
@@ -15,7 +14,7 @@ use Rattle.snapshot.specs.Reading.{Going, is_within_limits, stored, last_release
 
 -- these lines are a first line within the limits, and the lines of the first jobs, which are valid
 pub record HasRead (h : Head) (tasks : List Task) (ls : List (List ℕ)) : Type 0 where
-  pub version : is_taken two_versions h.rules.version ≡ true
+  pub version : may_finish_early h.rules.version ≡ false
   pub reads : reading_of ls ≡ Going h tasks
   pub text : ls ≡ head_line h ∷ map state_line tasks
   pub limits : is_within_limits h ≡ true

@@ -6,7 +6,6 @@ ghost use Rattle.dover_model.specs.Instance.{IsValid};
 ghost use Rattle.dover_model.specs.JobFacts.{job_numbers};
 ghost use Rattle.dover_model.specs.Numerals.{AreShort};
 ghost use Rattle.dover_model.specs.FeedLine.{HasNumerals, RatioLine, feed_text};
-ghost use Rattle.dover_model.specs.Taken.{two_versions, is_taken};
 ghost use Rattle.job_format.specs.Form.{form_of};
 ghost use Rattle.event_feed.specs.Kept.{StandsFor, IsGoing, has_ended};
 ghost use Rattle.snapshot.specs.Snapshot as model;
@@ -53,7 +52,6 @@ fn ratio_line(head: &Head) -> FeedLine
 
 /// An intake that was handed the line of the ratio.
 pub(crate) fn begin(head: &Head) -> Intake
-    requires { is_taken two_versions head.now.version ≡ true }
     ensures { IsFed result (head_in head.now) [] }
 {
     let mut intake = Intake::new();

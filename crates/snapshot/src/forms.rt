@@ -47,6 +47,17 @@ pub(crate) fn is_within_limits(head: &Head) -> bool
         && head.lines <= MOST_LINES
 }
 
+/// The version of this number, if no job finishes early in it.
+fn plain_version(number: u64) -> Option<Version>
+    ensures { result ≡ model.plain_version number }
+{
+    match number {
+        1 => Some(Version::One),
+        2 => Some(Version::Two),
+        _ => None,
+    }
+}
+
 /// The first line of a version's number and five more numbers.
 fn head_of(version: u64, numbers: &[u64]) -> Option<Head>
     ensures { option_map head_in result ≡ model.head_from (version ∷ numbers.now) }
@@ -54,7 +65,7 @@ fn head_of(version: u64, numbers: &[u64]) -> Option<Head>
     let [p, q, lines, mark, jobs] = numbers else {
         return None;
     };
-    let version = Version::from_number(version)?;
+    let version = plain_version(version)?;
     let ratio = Ratio::from_numbers(*p, *q)?;
     Some(Head {
         version,

@@ -134,7 +134,8 @@ impl Resuming {
         ensures same { OnOk result (self.new ≡ record self.old { server = self.new.server; last = job.release }) }
         ensures err { (h : model.Head) (tasks : List Task) → IsServed self.old.server h tasks self.old.last →
             OnErr result (self.new.server.server.ready.jobs ≡ length tasks) }
-        ensures count { (start : ℕ) → HasPaid self.old.server start steps.old → HasPaid self.new.server start steps.new }
+        ensures count { (start : ℕ) → HasPaid self.old.server start steps.old
+            → HasPaid self.new.server start steps.new }
     {
         self.server.make_room()?;
         self.last = job.release();

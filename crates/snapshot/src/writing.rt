@@ -13,7 +13,8 @@ pub(crate) fn head(version: Version, k: Ratio, lines: u64, mark: u64, jobs: u64,
     requires lines { lines ≤ most_lines }
     requires mark { mark ≤ last_tick }
     requires jobs { jobs ≤ most_jobs }
-    ensures { to.new ≡ model.head_line (record { rules = rules_with k version; lines = lines; mark = mark; jobs = jobs })
+    ensures { to.new
+        ≡ model.head_line (record { rules = rules_with k version; lines = lines; mark = mark; jobs = jobs })
         ++ 10 ∷ [] }
 {
     let number = match version {

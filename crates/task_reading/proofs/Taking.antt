@@ -16,7 +16,6 @@ use Rattle.dover_model.specs.Admission.{refusal_of}
 use Rattle.dover_model.specs.Feed as feed
 use Rattle.dover_model.specs.Feed.{Open, Faulty, NotAdmitted, declared_rules, rules_with}
 use Rattle.dover_model.proofs.Accounts.{declared_good}
-use Rattle.dover_model.specs.Taken.{two_versions}
 use Rattle.admission.specs.Kept as admission
 use Rattle.admission.specs.Answers as admitting
 use Rattle.admission.specs.Answers.{refusal_of_refused, IsOther}
@@ -85,7 +84,6 @@ module _ (until : ℕ) (task : PeriodicTask) (rules : Rules) (tasks : List Perio
       let above : rules.ratio.q ≤ rules.ratio.p = keeps.ratio.above_one in record {
         rules_are = keeps.rules_are ∙ ap (λ k. rules_with k old.version) (sym same)
             ∙ ap (rules_with new.admission.ratio) (sym version);
-        version = keeps.version;
         ratio = keeps.ratio;
         tested = subst (admission.StandsFor new.admission)
             (sym (map-append (tested_job until) tasks (task ∷ []))) stands;
@@ -202,8 +200,7 @@ module _ (until : ℕ) (intake : TaskIntake) (a : TaskAccount) (p q : ℕ) (vers
         tasks_are = tasks_are ∙ keeps.tasks_are;
         rules = subst (λ o. KeepsRules until o (Some rules) a.tasks) (sym new_is) (record {
           rules_are = refl;
-          version = (declared_good two_versions (fraction p q) version rules some).1;
-          ratio = (declared_good two_versions (fraction p q) version rules some).0;
+          ratio = declared_good (fraction p q) version rules some;
           tested = subst (λ ts. admission.StandsFor d.admission (map (tested_job until) ts)) (sym none) stands;
           are = subst (AreTasks until rules.ratio) (sym none) (no_tasks until rules.ratio);
         });

@@ -4,7 +4,6 @@ use Rattle.std.specs.Prelude.{None, is_some, Result, Ok, Err}
 use Rattle.dover_model.specs.Limits.{last_tick, most_lines}
 use Rattle.dover_model.specs.Fraction.{IsRatio}
 use Rattle.dover_model.specs.Instance.{Declaration as Rules}
-use Rattle.dover_model.specs.Taken.{two_versions, is_taken}
 use Rattle.dover_model.specs.Lines.{lines_of, rest_of, is_too_long}
 use Rattle.dover_model.specs.Feed.{Open, Ended, Faulty, rules_with}
 use Rattle.admission.specs.Kept as admission
@@ -28,10 +27,9 @@ use Rattle.task_reading.specs.declared.reader.TaskReader.{TaskReader}
 abbrev pub IsKnown : ℕ → Type 0
 IsKnown until = until ≤ last_tick
 
--- the rules that were declared, whose version is taken, and of the tasks so far what the next one needs
+-- the rules that were declared, and of the tasks so far what the next one needs
 pub record KeepsDeclared (until : ℕ) (d : Declaration) (rules : Rules) (tasks : List PeriodicTask) : Type 0 where
   pub rules_are : rules ≡ rules_with d.admission.ratio d.version
-  pub version : is_taken two_versions rules.version ≡ true
   pub ratio : IsRatio rules.ratio
   pub tested : admission.StandsFor d.admission (map (tested_job until) tasks)
   pub are : AreTasks until rules.ratio tasks

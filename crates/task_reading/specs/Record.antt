@@ -2,7 +2,6 @@
 use Rattle.std.specs.Prelude.{◌≡◌, ◌⊎◌, ℕ, List, true, Some, length}
 use Rattle.dover_model.specs.Fraction.{IsRatio}
 use Rattle.dover_model.specs.Instance.{Declaration as Rules}
-use Rattle.dover_model.specs.Taken.{two_versions, is_taken}
 use Rattle.dover_model.specs.Lines.{whole_lines}
 use Rattle.dover_model.specs.Feed.{Ended, Faulty, rules_with}
 use Rattle.event_feed.specs.Answers.{short_after}
@@ -22,7 +21,6 @@ pub record IsEnded (until : ℕ) (listed : ListedTasks) (bytes : List ℕ) : Typ
   pub ended : (account until bytes).standing ≡ Ended
   pub rules : (account until bytes).rules ≡ Some (listed_rules listed)
   pub tasks : (account until bytes).tasks ≡ listed.tasks.items
-  pub version : is_taken two_versions listed.version ≡ true
   pub ratio : IsRatio (listed_rules listed).ratio
   pub are : AreTasks until (listed_rules listed).ratio listed.tasks.items
 

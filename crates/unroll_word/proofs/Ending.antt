@@ -5,7 +5,6 @@ use Rattle.std.proofs.lemmas.List.{append-nil}
 use Rattle.dover_model.specs.Due.{fault_text}
 use Rattle.dover_model.specs.Fraction.{IsRatio}
 use Rattle.dover_model.specs.Instance.{Declaration}
-use Rattle.dover_model.specs.Taken.{two_versions, is_taken}
 use Rattle.dover_model.specs.Lines.{in_lines, whole_lines}
 use Rattle.dover_port.specs.Moves.{Move}
 use Rattle.dover_port.specs.declared.status.Status.{Status}
@@ -93,14 +92,14 @@ module _ (until : ℕ) (x : List ℕ) (ended : Bool) (over : IsOver (unroll_talk
 
 -- the feed of the jobs is said of the tasks
 pub says_feed : (until : ℕ) (rules : Declaration) (tasks : List PeriodicTask)
-    → is_taken two_versions rules.version ≡ true → IsRatio rules.ratio
-    → AreTasks until rules.ratio tasks → Fits until tasks → (u : ℕ) (ts : List PeriodicTask) → u ≡ until → ts ≡ tasks
+    → IsRatio rules.ratio → AreTasks until rules.ratio tasks → Fits until tasks → (u : ℕ) (ts : List PeriodicTask) → u
+    ≡ until → ts ≡ tasks
     → Says until rules tasks Done (feed_of (unrolled u rules ts))
-says_feed until rules tasks version ratio are fits u ts u_is ts_are = (
+says_feed until rules tasks ratio are fits u ts u_is ts_are = (
   fits,
   subst (λ n. IsFeedOf (unrolled until rules tasks) (feed_of (unrolled n rules ts))) (sym u_is)
       (subst (λ xs. IsFeedOf (unrolled until rules tasks) (feed_of (unrolled until rules xs))) (sym ts_are)
-      (feed_is (unrolled until rules tasks) (unrolled_valid until rules tasks ratio are fits) refl version)),
+      (feed_is (unrolled until rules tasks) (unrolled_valid until rules tasks ratio are fits) refl)),
 )
 
 -- a test that holds

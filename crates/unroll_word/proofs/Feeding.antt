@@ -10,7 +10,6 @@ use Rattle.std.proofs.lemmas.List.Sums.{fold-append}
 use Rattle.dover_model.specs.Limits.{most_lines}
 use Rattle.dover_model.specs.JobFacts.{JobFacts, IsJob}
 use Rattle.dover_model.specs.Instance.{Declaration, declared_by, Instance, IsInOrder, IsValid}
-use Rattle.dover_model.specs.Taken.{two_versions, is_taken}
 use Rattle.dover_model.proofs.Meeting.{finishing_valid}
 use Rattle.dover_model.specs.Admission.{refusal_of}
 use Rattle.dover_model.specs.Session.{JobItem, admitted_jobs}
@@ -104,8 +103,7 @@ from_zero : (jobs : List JobFacts) → AllByRecursion (λ j. 0 ≤ j.release) jo
 from_zero [] = tt
 from_zero (j ∷ jobs) = (omega arith, from_zero jobs)
 
-module _ (J : Instance) (valid : IsValid J) (plain : J.rules.finishes ≡ [])
-    (version : is_taken two_versions J.rules.version ≡ true) where
+module _ (J : Instance) (valid : IsValid J) (plain : J.rules.finishes ≡ []) where
   -- what is declared
   abbrev declared : Declaration
   declared = declared_by J.rules
@@ -131,7 +129,7 @@ module _ (J : Instance) (valid : IsValid J) (plain : J.rules.finishes ≡ [])
       { standing = Ended }
   told_all = ap account_of_lines (lines_joined (feed_lines J) feedless)
       ∙ ap (λ a. fold next_line a (map job_text J.jobs ++ feed_text EndLine ∷ []))
-      (ratio_account J.rules.ratio.p J.rules.ratio.q valid.ratio J.rules.version version)
+      (ratio_account J.rules.ratio.p J.rules.ratio.q valid.ratio J.rules.version)
       ∙ fold-append next_line (told declared 1 [] 0) (map job_text J.jobs) (feed_text EndLine ∷ [])
       ∙ ap (λ a. next_line a (feed_text EndLine)) jobs_told.1
       ∙ ends declared (1 + length J.jobs) J.jobs jobs_told.0 (omega (arith, few))

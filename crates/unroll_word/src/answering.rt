@@ -2,7 +2,6 @@
 ghost use Rattle.std.specs.Prelude.{◌≡◌, [], true};
 ghost use Rattle.dialogue.specs.Turns.{StopCause, StopsOn};
 ghost use Rattle.dover_model.specs.Fraction.{IsRatio};
-ghost use Rattle.dover_model.specs.Taken.{two_versions, is_taken};
 ghost use Rattle.periodic_tasks.specs.Limits.{AreTasks};
 ghost use Rattle.task_reading.specs.Keeping.{IsKnown};
 ghost use Rattle.task_reading.specs.Record.{listed_rules};
@@ -29,7 +28,6 @@ pub(crate) fn answer<P: Port, L: Ledger>(
 ) -> Result<Status, Stop>
     requires empty { out.old ≡ [] }
     requires known { IsKnown until }
-    requires version { is_taken two_versions listed.version ≡ true }
     requires ratio { IsRatio (listed_rules listed).ratio }
     requires are { AreTasks until (listed_rules listed).ratio listed.tasks.items }
     ensures says { SaysBy until (listed_rules listed) listed.tasks.items

@@ -5,7 +5,6 @@ ghost use Rattle.dover_model.specs.Instance.{Instance, IsValid};
 ghost use Rattle.dover_model.specs.Limits.{most_jobs};
 ghost use Rattle.dover_model.specs.Lines.{in_lines};
 ghost use Rattle.dover_model.specs.Feed.{rules_with};
-ghost use Rattle.dover_model.specs.Taken.{two_versions, is_taken};
 ghost use Rattle.dover_port.specs.Causes.{HasCause, StopsAtFailure};
 ghost use Rattle.dover_port.specs.Moves.{PutsThrough};
 ghost use Rattle.periodic_tasks.specs.Limits.{IsTask};
@@ -123,9 +122,7 @@ pub(crate) fn put_feed<P: Port, L: Ledger>(
     put_numbers(port, out, b"end", &[])
 }
 
-/// The feed of valid jobs, of which none finishes early, in a version that is taken, ends without a fault, and says
-/// these jobs and no others.
+/// The feed of valid jobs, of which none finishes early, ends without a fault, and says these jobs and no others.
 pub fn feeds_of_jobs_are_read()
-    ensures { (J : Instance) → IsValid J → J.rules.finishes ≡ [] → is_taken two_versions J.rules.version ≡ true
-        → IsFeedOf J (feed_of J) }
+    ensures { (J : Instance) → IsValid J → J.rules.finishes ≡ [] → IsFeedOf J (feed_of J) }
 {}

@@ -10,6 +10,7 @@ returns c =
     let jobs = c.args.roster.now.roll.jobs in
     let long = length-map jobs f in (
       λ e. all_at (map f jobs) c.args.stances.now (omega (arith, c.requires, long)) c.loop-number.number
-          (omega (arith, c.loop-number-test.false, c.loop-number.auto.number-end, c.requires, long)) c.loop-number.invariant,
+          (omega (arith, c.loop-number-test.false, c.loop-number.auto.number-end, c.requires, long))
+          c.loop-number.invariant,
       λ all. refl,
     )

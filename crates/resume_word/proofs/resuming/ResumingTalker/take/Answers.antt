@@ -24,7 +24,8 @@ returns-in-Ok-default-More g c = record {
   takes = λ a x at goes.
       let it = subst (λ s. IsReady a s c.args.meter.now x) c.in-Opening.is at.1 in
       let front = rw c.in-Ok-default-More.field-0-1-is at (c.in-Ok-default-More.ensures.takes x it.0) in
-      opening_took a _ x it.0 _ at.0 c.args.piece.now c.in-Ok-default-More.used front.0 front.1 c.take.new.self _ front.2
+      opening_took a _ x it.0 _ at.0 c.args.piece.now c.in-Ok-default-More.used front.0 front.1 c.take.new.self _
+      front.2
       (c.in-Ok-default-More.ensures.count a.start it.1);
 }
 
@@ -96,5 +97,6 @@ returns-in-Serving g c = record {
   takes = λ a x at goes.
       let it = subst (λ s. IsReady a s c.args.meter.now x) c.in-Serving.is at.1 in
       past_takes a x _ it c.args.piece.now _ _ _ at.0 c.take-in-Serving.result
-      (c.take-in-Serving.ensures.takes (past_call a x _ it) (past_bytes a x _ it) it.holds (sym (past_goes a x _ it) ∙ goes));
+      (c.take-in-Serving.ensures.takes (past_call a x _ it) (past_bytes a x _ it) it.holds
+      (sym (past_goes a x _ it) ∙ goes));
 }

@@ -14,7 +14,8 @@ returns-clause-gives c = λ ls it.
     subst (λ o. IsReady o ls) (sym c.self.view_is ∙ c.in-Some.is) it in
     subst (λ (p : RosterServer × Kept × ℕ). Gives p.0 p.1 p.2 ls)
     (sym (c.into_parts.ensures
-    ∙ ap (λ (r : Resuming). let p : RosterServer × Kept × ℕ = (r.server, r.intake, r.head.mark) in p) c.in-Some.resuming-is))
+    ∙ ap (λ (r : Resuming). let p : RosterServer × Kept × ℕ = (r.server, r.intake, r.head.mark) in
+    p) c.in-Some.resuming-is))
     (record {
       is = is_snapshot ready.0 ready.1 ls ready.2;
       each = λ F may text. resumes_feed ready.0 ready.1 ls ready.2 F may text c.in-Some.resuming.server

@@ -8,8 +8,13 @@ use Rattle.snapshot.proofs.resuming.Resuming.admit.Goals as goal
 
 pub make_room-requires : goal.make_room-requires
 make_room-requires g c =
-    let r = c.requires in
-    (stored r.0 r.1, Mark c.args.self.now.last, r.2.events, r.2.served, may_more r.0 r.1 c.args.self.now.last c.args.job r.3)
+    let r = c.requires in (
+      stored r.0 r.1,
+      Mark c.args.self.now.last,
+      r.2.events,
+      r.2.served,
+      may_more r.0 r.1 c.args.self.now.last c.args.job r.3,
+    )
 
 pub returns-in_err-make_room-clause-err : goal.returns-in_err-make_room-clause-err
 returns-in_err-make_room-clause-err g c = λ h tasks it. on_err c.from_residual.result _

@@ -5,13 +5,6 @@ use Rattle.snapshot.specs.Stored.{HasRead}
 use Rattle.snapshot.proofs.Storing.{head_stands}
 use Rattle.snapshot.proofs.resuming.Resuming.begin.Goals as goal
 
-pub begin-requires : goal.begin-requires
-begin-requires c =
-    let read : HasRead (head_in c.in-Some.head) [] (c.args.line.now ∷ []) =
-    head_stands c.args.line.now (head_in c.in-Some.head)
-    (sym c.read_head.ensures ∙ ap (option_map head_in) c.in-Some.is)
-    (sym c.is_within_limits.ensures ∙ c.if-not-is_within_limits.false) in read.version
-
 pub returns : goal.returns
 returns c =
     let read : HasRead (head_in c.in-Some.head) [] (c.args.line.now ∷ []) =

@@ -98,7 +98,8 @@ returns-clause-answers g c = λ ls it.
     )
 
 pub returns-then-not-are_at-clause-jobs : goal.returns-then-not-are_at-clause-jobs
-returns-then-not-are_at-clause-jobs g c = λ ls it. jobs_lines ls it.0 it.1 it.2 c.args.line.now c.settle.new.server.server.ready.jobs
+returns-then-not-are_at-clause-jobs g c =
+    λ ls it. jobs_lines ls it.0 it.1 it.2 c.args.line.now c.settle.new.server.server.ready.jobs
     (jobs_rested c.settle.new.server it.0 it.1 c.args.self.now.head.mark
     (c.settle.ensures.rests (stored it.0 it.1) (last_release it.1) it.3.served.events it.3.served.served
     (finish_follows it.0 it.1 ls it.2 c.args.self.now it.3)))

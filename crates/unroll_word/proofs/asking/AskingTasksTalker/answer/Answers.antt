@@ -12,9 +12,6 @@ close-requires g c = (c.requires.ready.0.until, c.requires.ready.1, c.requires.r
 pub answer-requires-clause-ratio : goal.answer-requires-clause-ratio
 answer-requires-clause-ratio g c = (c.in-Ok.ensures.tasks _ _ c.requires.ready.2.reads).ratio
 
-pub answer-requires-clause-version : goal.answer-requires-clause-version
-answer-requires-clause-version g c = (c.in-Ok.ensures.tasks _ _ c.requires.ready.2.reads).version
-
 pub answer-requires-clause-are : goal.answer-requires-clause-are
 answer-requires-clause-are g c = let at = c.requires.ready.2 in
     rw at.asks (c.in-Ok.ensures.tasks c.requires.ready.0.until c.requires.ready.1 at.reads).are
