@@ -96,6 +96,17 @@ dover_decision dover_step(dover *, uint64_t mark);
    admitted from then on. */
 dover_decision dover_finish(dover *);
 
+/* The tick for which to call next. Where the last dover_step answered DOVER_NONE and no job was admitted since, it is
+   that of the next decision if no job comes before: dover_step to any tick before it answers DOVER_NONE, so a program
+   sleeps till then, or till a job comes. DOVER_COMPLETE is given by dover_step to the tick, DOVER_TAKE and
+   DOVER_ABANDON by one to the tick behind it. Otherwise the tick is the clock: dover_step comes first. */
+typedef struct { uint64_t tick; uint32_t status; } dover_due;
+enum {
+    DOVER_DUE = 0,
+    DOVER_IDLE = 1 /* no job is open; or DOVER_NOT_MADE. The tick is 0 */
+};
+dover_due dover_next(dover *);
+
 /* The value of all jobs that completed. 0 where there is no engine. */
 uint64_t dover_value(dover *);
 

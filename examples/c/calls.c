@@ -36,6 +36,15 @@ static uint32_t admit(dover *d, uint64_t r, uint64_t c, uint64_t dl, uint64_t v)
     return dover_admit(d, r, c, dl, v).status;
 }
 
+static int is_due(dover *d, uint64_t tick) {
+    dover_due due = dover_next(d);
+    return due.status == DOVER_DUE && due.tick == tick;
+}
+static int is_idle(dover *d, uint32_t status) {
+    dover_due due = dover_next(d);
+    return due.status == status && due.tick == 0;
+}
+
 static void making(void) {
     const uint64_t big = UINT64_C(1) << 63;
     ROW(status_of(1, 1, 0, 10) == DOVER_BAD_VERSION);
@@ -54,7 +63,7 @@ static void making(void) {
     dover_init(&b, 0, 0, 1, 10); /* no engine */
     ROW(admit(&b, 0, 1, 1, 1) == DOVER_NOT_MADE && dover_step(&b, 0).kind == DOVER_NO_ENGINE &&
         dover_finish(&b).kind == DOVER_NO_ENGINE);
-    ROW(dover_value(&b) == 0 && dover_room(&b) == 0 &&
+    ROW(dover_value(&b) == 0 && dover_room(&b) == 0 && is_idle(&b, DOVER_NOT_MADE) &&
         dover_step(&b, big).kind == DOVER_NO_ENGINE);
     dover_drop(&b);
 }
@@ -66,7 +75,7 @@ static int is_none(dover *d) {
     dover_decision e = dover_step(d, 3), f = dover_step(d, big), g = dover_finish(d);
     return dover_status(d) == DOVER_EMPTY && x.status == DOVER_NOT_MADE && x.number == 0 &&
            e.kind == DOVER_NO_ENGINE && f.kind == DOVER_NO_ENGINE && g.kind == DOVER_NO_ENGINE &&
-           e.tick + e.job + e.other == 0 && dover_value(d) == 0 && dover_room(d) == 0;
+           e.tick + e.job + e.other == 0 && dover_value(d) == 0 && dover_room(d) == 0 && is_idle(d, DOVER_NOT_MADE);
 }
 
 static void without_one(void) {
@@ -131,6 +140,31 @@ static void one_by_one(void) {
     ROW(taken == before);
     dover_drop(&a);
     dover_drop(&b);
+}
+
+/* The tick for which to call next. Each step to one before it gives nothing, and what comes there is given by a step to
+   it, or to the one behind it where a latest start decides. */
+static void sleeping(void) {
+    dover_decision e;
+    dover_init(&a, 1, 1, 1, 10);
+    unsigned long before = taken;
+    ROW(is_idle(&a, DOVER_IDLE) && settle(&a, 0) == DOVER_NONE && is_idle(&a, DOVER_IDLE));
+    ROW(admit(&a, 0, 4, 6, 4) == DOVER_ADMITTED && is_due(&a, 0)); /* its release is to be given */
+    ROW(settle(&a, 0) == DOVER_NONE && is_due(&a, 4));             /* it will be done */
+    ROW(admit(&a, 0, 10, 12, 10) == DOVER_ADMITTED && settle(&a, 0) == DOVER_NONE && is_due(&a, 2)); /* a take */
+    ROW(settle(&a, 1) == DOVER_NONE && is_due(&a, 2));
+    ROW(settle(&a, 2) == DOVER_NONE && is_due(&a, 2)); /* a job of tick 2 may change it */
+    ROW((e = dover_step(&a, 3)).kind == DOVER_TAKE && e.tick == 2 && is_due(&a, 2)); /* more may come */
+    ROW(settle(&a, 3) == DOVER_NONE && is_due(&a, 4)); /* job 0 is given up at 4 */
+    ROW((e = dover_step(&a, 5)).kind == DOVER_ABANDON && e.tick == 4 && settle(&a, 5) == DOVER_NONE);
+    ROW(is_due(&a, 12) && settle(&a, 11) == DOVER_NONE && is_due(&a, 12));
+    ROW((e = dover_step(&a, 12)).kind == DOVER_COMPLETE && e.tick == 12);
+    ROW(is_idle(&a, DOVER_IDLE) && settle(&a, 12) == DOVER_NONE && is_idle(&a, DOVER_IDLE));
+    ROW(admit(&a, 12, 2, 20, 2) == DOVER_ADMITTED && is_due(&a, 12)); /* anew, behind rest */
+    ROW(settle(&a, 13) == DOVER_NONE && is_due(&a, 14) && dover_finish(&a).kind == DOVER_COMPLETE);
+    ROW(is_idle(&a, DOVER_IDLE) && dover_finish(&a).kind == DOVER_END && is_idle(&a, DOVER_IDLE));
+    ROW(taken == before);
+    dover_drop(&a);
 }
 
 /* The job that breaks the ratio is named by its number over the whole life, also where others were forgotten. A refused
@@ -209,6 +243,7 @@ int main(void) {
     making();
     without_one();
     one_by_one();
+    sleeping();
     renumbered();
     for_long();
     limits();

@@ -27,6 +27,15 @@ pub struct Decision {
     pub kind: u32,
 }
 
+/// The tick for which to call next, with status 0, or by its status why there is none.
+#[repr(C)]
+#[derive(Clone, Copy, Debug, PartialEq, Eq)]
+pub struct Due {
+    pub tick: u64,
+    pub status: u32,
+}
+
+const _: () = assert!(size_of::<Due>() == 16 && std::mem::offset_of!(Due, status) == 8);
 const _: () = assert!(size_of::<Admitted>() == 16 && std::mem::offset_of!(Admitted, status) == 8);
 const _: () = assert!(size_of::<Decision>() == 32 && std::mem::offset_of!(Decision, kind) == 24);
 
@@ -37,6 +46,7 @@ unsafe extern "C" {
     fn dover_admit(place: *mut Place, release: u64, work: u64, deadline: u64, value: u64) -> Admitted;
     fn dover_step(place: *mut Place, mark: u64) -> Decision;
     fn dover_finish(place: *mut Place) -> Decision;
+    fn dover_next(place: *mut Place) -> Due;
     fn dover_value(place: *mut Place) -> u64;
     fn dover_room(place: *mut Place) -> u32;
     fn dover_drop(place: *mut Place);
@@ -68,6 +78,10 @@ impl Dover {
 
     pub fn finish(&mut self) -> Decision {
         unsafe { dover_finish(self.0) }
+    }
+
+    pub fn next(&mut self) -> Due {
+        unsafe { dover_next(self.0) }
     }
 
     pub fn value(&mut self) -> u64 {

@@ -20,9 +20,10 @@ use Rattle.dover_engine.specs.declared.decision.Decision.TheVariants.{Release, R
 use Rattle.dover_engine.specs.declared.decision.Decision.TheVariants.{End}
 use Rattle.dover_engine.specs.Life.{Life, done_value, spare_of}
 use Rattle.dover_engine.specs.Given.{Gave}
-use Rattle.dover_engine.specs.Calls.{IsAdmitted, IsCause, Decides, mark_refusal}
+use Rattle.dover_engine.specs.Calls.{IsAdmitted, IsCause, Decides, IsNext, mark_refusal}
 use Rattle.dover_c.specs.declared.Admitted.{Admitted}
 use Rattle.dover_c.specs.declared.Decided.{Decided}
+use Rattle.dover_c.specs.declared.Due.{Due}
 use Rattle.dover_c.specs.declared.slot.Slot.{Slot}
 
 -- ---- making
@@ -162,6 +163,21 @@ abbrev pub FinishAnswers : Slot → Slot → Decided → Type 0
 FinishAnswers s t answer = Calls s t (answer.kind ≡ 11) (Finishes answer)
 
 -- ---- questions
+
+-- a tick for which to call next, as a caller in C sees it
+abbrev pub due_of : Option ℕ → Due
+due_of (Some tick) = record { tick = tick; status = 0 }
+due_of None = record { tick = 0; status = 1 }
+
+-- the tick for which to call next is told, or that no job is open, and nothing changed
+pub record Awaits (answer : Due) (v w : Life) : Type 0 where
+  pub says : Option ℕ
+  pub next : IsNext v says
+  pub shown : answer ≡ due_of says
+  pub same : w ≡ v
+
+abbrev pub NextAnswers : Slot → Slot → Due → Type 0
+NextAnswers s t answer = Calls s t (answer.status ≡ 7) (Awaits answer)
 
 -- the value of all jobs that completed is told, and nothing changed
 abbrev pub ValueAnswers : Slot → Slot → ℕ → Type 0

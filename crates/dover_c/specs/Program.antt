@@ -17,7 +17,7 @@ pub data Act : Type 0 where
   Admit : JobFacts → Admitted → Act
   Step : ℕ → Decided → Act
   Finish : Decided → Act
-  Ask : Act  -- for the status, the value or the room
+  Ask : Act  -- for the status, the next tick, the value or the room
   Drop : Act
 
 -- it leads from s to t

@@ -16,7 +16,7 @@ ghost use Rattle.dover_model.specs.JobFacts.{job_of_numbers};
 ghost use Rattle.dover_c.specs.declared.slot.Slot.{Slot};
 ghost use Rattle.dover_c.specs.contracts.slot.Slot.{the_row};
 ghost use Rattle.dover_c.specs.Codes.{IsMade, AdmitAnswers, StepAnswers, FinishAnswers, StatusAnswers};
-ghost use Rattle.dover_c.specs.Codes.{ValueAnswers, RoomAnswers, DropAnswers};
+ghost use Rattle.dover_c.specs.Codes.{ValueAnswers, RoomAnswers, NextAnswers, DropAnswers};
 ghost use Rattle.dover_c.specs.Places.{after_at};
 
 use crate::slot::Slot;
@@ -54,6 +54,16 @@ pub struct Decided {
     pub other: u64,
     /// Which decision it is, or why there is none, by the numbers of the header.
     pub kind: u32,
+}
+
+/// The tick for which to call next, with status 0, or why there is none.
+#[repr(C)]
+#[derive(Clone, Copy)]
+pub struct Due {
+    /// The tick; else 0.
+    pub tick: u64,
+    /// 0 where there is a tick, else the cause, by the numbers of the header.
+    pub status: u32,
 }
 
 /// Makes an engine of this ratio and version with room for so many open jobs, and puts it at the address.
@@ -119,6 +129,16 @@ pub unsafe extern "C" fn dover_finish(place: *mut Place, memory: Memory) -> Deci
     ensures* { sem 𝓛 (after_at place (λ w. FinishAnswers v w result)) }
 {
     slot::finish(&mut *(place as *mut Slot), memory)
+}
+
+/// The tick for which to call next. No memory is taken.
+#[unsafe(no_mangle)]
+pub unsafe extern "C" fn dover_next(place: *mut Place) -> Due
+    ghost v: { Slot }
+    requires* { sem 𝓛 (lies_at the_row full_share place v) }
+    ensures* { sem 𝓛 (after_at place (λ w. NextAnswers v w result)) }
+{
+    slot::next(&mut *(place as *mut Slot))
 }
 
 /// The value of all jobs that completed.

@@ -3,13 +3,11 @@ ghost use Rattle.std.specs.Prelude.{◌≡◌, ◌<◌};
 ghost use Rattle.dover_model.specs.JobFacts.{job_of_numbers};
 ghost use Rattle.dover_model.specs.declared.horizon.Horizon.TheVariants.{End};
 ghost use Rattle.dover_engine.specs.Calls.{Decides};
-ghost use Rattle.dover_c.specs.Codes.{IsMade, AdmitAnswers, StepAnswers, FinishAnswers, StatusAnswers, ValueAnswers};
-ghost use Rattle.dover_c.specs.Codes.{RoomAnswers, cause_code, made_code, mark_code, numbers_of, IsStepOf};
 ghost use Rattle.dover_c.specs.Codes.{IsMade, AdmitAnswers, StepAnswers, FinishAnswers, StatusAnswers, DropAnswers};
-ghost use Rattle.dover_c.specs.Codes.{ValueAnswers, RoomAnswers};
+ghost use Rattle.dover_c.specs.Codes.{ValueAnswers, RoomAnswers, NextAnswers, due_of};
 ghost use Rattle.dover_c.specs.Codes.{cause_code, other_in, made_code, mark_code, numbers_of, IsStepOf};
 
-use crate::{Admitted, Decided};
+use crate::{Admitted, Decided, Due};
 use dover_engine::{Decision, Engine, NotAdmitted, NotMade, NotStepped};
 use dover_model::{Ratio, Version};
 use std::alloc::Global;
@@ -203,6 +201,30 @@ pub(crate) fn finish(slot: &mut Slot, memory: Memory) -> Decided
     };
     let answer = step_to_end::<Brand>(engine, memory, Blank::new(1));
     numbers_of(&answer)
+}
+
+fn tick_of(status: u32, tick: u64) -> Due
+    ensures { result ≡ record { tick = tick; status = status } }
+{
+    Due { tick, status }
+}
+
+fn due_of(answer: Option<u64>) -> Due
+    ensures { result ≡ due_of answer }
+{
+    match answer {
+        Some(tick) => tick_of(0, tick),
+        None => tick_of(1, 0),
+    }
+}
+
+pub(crate) fn next(slot: &mut Slot) -> Due
+    ensures { NextAnswers slot.old slot.new result }
+{
+    match &slot.engine {
+        Some(engine) => due_of(engine.next()),
+        None => tick_of(7, 0),
+    }
 }
 
 pub(crate) fn value(slot: &mut Slot) -> u64

@@ -60,11 +60,16 @@ known_at s J mark events serves =
       here t low =
           omega (arith, low, printed_low J serves.follows.valid mark serves.state events serves.given.1)
 
+-- where all that is settled at a mark was given, the server rests there
+pub rests_now : (v : Life) (J : Instance) (events : List Event) (g : GaveSince v J events) {mark : ℕ}
+    → IsReadyFor v mark → Rests v.server J (Mark mark)
+rests_now v J events g ready = subst (Rests v.server J) ready.1 (g.settled ready.0).rests
+
 module _ (v : Life) (J : Instance) (events : List Event) (g : GaveSince v J events) (job : JobFacts)
     (ready : IsReadyFor v job.release) where
   -- all that is settled at the release was given
   pub rests_there : Rests v.server J (Mark job.release)
-  rests_there = subst (Rests v.server J) ready.1 (g.settled ready.0).rests
+  rests_there = rests_now v J events g ready
 
   pub all_there : events ≡ settled J job.release
   all_there = (g.settled ready.0).all ∙ ap (due_by J) ready.1

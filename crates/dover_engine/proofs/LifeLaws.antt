@@ -16,21 +16,24 @@ use Rattle.dover_model.specs.Settled.{settled}
 use Rattle.dover_model.specs.Schedules.{Meets, worth}
 use Rattle.dover_model.specs.Bound.{IsWithin}
 use Rattle.dover_model.specs.Sound.{Each}
-use Rattle.dover_model.specs.Rest.{behind, names_end, before_end, in_turn, printed_in_turn, IsInTurn, end_tick}
+use Rattle.dover_model.specs.Rest.{Turn, TurnsEnd, behind, behind_finish, names_end, before_end, in_turn}
+use Rattle.dover_model.specs.Rest.{printed_in_turn, IsInTurn, end_tick, turn_under, turns_finishes, turns_jobs}
+use Rattle.dover_model.specs.Rest as rest
+use Rattle.dover_model.specs.Finishes.{Finish}
 use Rattle.dover_model.specs.Underload.{takes_or_abandons}
 use Rattle.dover_model.specs.WholeRun.{Begins}
 use Rattle.dover_model.proofs.Apart.{runs_in_turn, value_in_turn}
 use Rattle.dover_model.proofs.Parting.{none_lost_in_turn, all_value_in_turn}
 use Rattle.dover_model.proofs.RestTick.{rests_from}
 use Rattle.dover_model.proofs.TurnSchedules.{turn_valid, honest_in_turn, within_in_turn}
-use Rattle.dover_model.proofs.Turns.{turn_append, jobs_append}
+use Rattle.dover_model.proofs.TurnsGrowing.{ends_behind}
 use Rattle.dover_model.proofs.Runs.{last_value, value_last}
 use Rattle.dover_model.specs.declared.horizon.Horizon.TheVariants.{Mark}
 use Rattle.dover_model.specs.Horizons.{no_jobs}
 use Rattle.dover_engine.specs.Decisions.{events_in}
 use Rattle.dover_engine.specs.Life.{Life, done_value, has_ended, IsAtRest}
 use Rattle.dover_engine.specs.Given.{Gave}
-use Rattle.dover_engine.proofs.Lives.{ended_given, rest_gave, given_begins}
+use Rattle.dover_engine.proofs.Lives.{ended_given, rest_gave, given_begins, jobs_given, turn}
 use Rattle.dover_engine.specs.Calls.{Call, Admitted, Stepped, Leads, LeadsAll, Lives, admitted, jobs_in, all_jobs}
 use Rattle.dover_engine.specs.Calls.{decided}
 
@@ -42,7 +45,8 @@ leads_gave : (call : Call) (v w : Life) → Leads call v w → (J : Instance) (e
 leads_gave (Admitted job number) v w it J es gave =
     subst (Gave w (with_jobs J (job ∷ []))) (sym (append-nil es)) (it.gave J es gave)
 leads_gave (Stepped to answer) v w it J es gave =
-    subst (λ js. Gave w (record { rules = J.rules; jobs = js }) (es ++ (events_in answer ++ []))) (sym (append-nil J.jobs))
+    subst (λ js. Gave w (record { rules = J.rules; jobs = js }) (es ++ (events_in answer ++ [])))
+    (sym (append-nil J.jobs))
     (subst (λ fs. Gave w J (es ++ fs)) (sym (append-nil (events_in answer))) (it.1.gave J es gave))
 
 -- two lists of calls
@@ -89,8 +93,8 @@ next_numbers (Admitted job number ∷ calls) v w it J es gave n counts =
       it.1.numbered,
       gave.forgotten,
       gave.gave.admission.count,
-      ap length gave.all_jobs,
-      length-append (in_turn gave.lists) gave.since,
+      ap length (jobs_given v J es gave),
+      length-append (turns_jobs gave.turns) gave.since.jobs,
       counts,
     ))
     ∙ ap (λ js. (n, job) ∷ js) (next_numbers calls it.0 w it.2 (with_jobs J (job ∷ [])) es
@@ -162,6 +166,49 @@ module _ (rules : Rules) where
       (none_before_end (printed (of_rules jobs)) (none_printed (run (of_rules jobs)) (each jobs (inl refl))))
       (none_behind _ _ (printed_in_turn rules lists) (none_in_turn lists (λ js member. each js (inr member))))
 
+-- ---- turns in which no job finishes early
+
+-- their jobs
+abbrev lists_of : List Turn → List (List JobFacts)
+lists_of turns = map (λ (turn : Turn). turn.jobs) turns
+
+lists_jobs : (turns : List Turn) → in_turn (lists_of turns) ≡ turns_jobs turns
+lists_jobs [] = refl
+lists_jobs (turn ∷ turns) = ap (λ js. turn.jobs ++ js) (lists_jobs turns)
+
+-- of two lists that are none together each is none
+none_of_both : (fs gs : List Finish) → fs ++ gs ≡ [] → (fs ≡ []) × (gs ≡ [])
+none_of_both [] gs none = (refl, none)
+none_of_both (f ∷ fs) gs none = absurd (cc)
+
+none_renumbered : (n : ℕ) (fs : List Finish) → map (behind_finish n) fs ≡ [] → fs ≡ []
+none_renumbered n [] none = refl
+none_renumbered n (f ∷ fs) none = absurd (cc)
+
+-- they are lists in turn
+plain_turns : (version : Version) (k : Fraction) (turns : List Turn) (from last : ℕ) → turns_finishes turns ≡ []
+    → TurnsEnd (record { ratio = k; version = version; finishes = [] }) from turns last
+    → IsInTurn (record { ratio = k; version = version; finishes = [] }) from (lists_of turns)
+plain_turns version k [] from last none ends = tt
+plain_turns version k (turn ∷ turns) from last none ends =
+    let parts = none_of_both turn.finishes (map (behind_finish (length turn.jobs)) (turns_finishes turns)) none in (
+      subst (λ (fs : List Finish). IsValid (record {
+        rules = record { ratio = k; version = version; finishes = fs };
+        jobs = turn.jobs;
+      })) parts.0 ends.0.0,
+      ends.0.2,
+      (
+        ends.1.0,
+        ends.1.1,
+        subst (λ (fs : List Finish). rest.IsAtRest (record {
+          rules = record { ratio = k; version = version; finishes = fs };
+          jobs = turn.jobs;
+        }) ends.1.0) parts.0 ends.1.2,
+        plain_turns version k turns ends.1.0 last
+            (none_renumbered (length turn.jobs) (turns_finishes turns) parts.1) ends.1.3,
+      ),
+    )
+
 -- ---- a life
 
 module _ (version : Version) (k : Fraction) where
@@ -210,27 +257,26 @@ module _ (version : Version) (k : Fraction) where
     pub begins_all : Begins (decided calls) (printed J)
     begins_all = given_begins w J (decided calls) it
 
-    -- the lists of jobs between moments of rest
-    abbrev turns : List (List JobFacts)
-    turns = it.lists ++ (it.since ∷ [])
+    -- the jobs between moments of rest
+    abbrev all_turns : List Turn
+    all_turns = it.turns ++ (it.since ∷ [])
 
-    turns_jobs : in_turn turns ≡ jobs_in calls
-    turns_jobs = jobs_append the_rules refl it.lists (it.since ∷ [])
-        ∙ ap (λ js. in_turn it.lists ++ js) (append-nil it.since) ∙ sym it.all_jobs
+    abbrev turns : List (List JobFacts)
+    turns = lists_of all_turns
+
+    turns_jobs_all : in_turn turns ≡ jobs_in calls
+    turns_jobs_all = lists_jobs all_turns ∙ ap (λ (I : Instance). I.jobs) (sym it.all)
 
     in_turns : IsInTurn the_rules 0 turns
     in_turns =
-        let K : Instance = of_rules the_rules it.since in
-        let valid : IsValid K = it.gave.serves.follows.valid in
+        let K : Instance = turn_under the_rules it.since in
         let rest : ℕ = it.tick + end_tick K in
-        turn_append the_rules refl it.lists (it.since ∷ []) 0 it.tick it.over (
-          valid,
-          it.later,
-          (rest, omega arith, rests_from K valid rest (omega arith), tt),
-        )
+        plain_turns version k all_turns 0 rest (ap (λ (I : Instance). I.rules.finishes) (sym it.all))
+        (ends_behind the_rules it.turns it.since 0 it.tick rest it.over (turn w J (decided calls) it) (omega arith)
+        (rests_from K it.gave.serves.follows.valid rest (omega arith)))
 
     all_are : of_rules the_rules (in_turn turns) ≡ J
-    all_are = ap (of_rules the_rules) turns_jobs
+    all_are = ap (of_rules the_rules) turns_jobs_all
 
     pub within_all : (s : List ℕ) → IsWithin k (worth J s) (completed_value J)
     within_all s = subst (λ (I : Instance). IsWithin I.rules.ratio (worth I s) (completed_value I)) all_are
@@ -247,13 +293,14 @@ module _ (version : Version) (k : Fraction) where
     underload_all meets = ap completed_value (sym all_are) ∙ value_in_turn the_rules refl turns in_turns
         ∙ all_value_in_turn the_rules turns (turn_valid the_rules refl turns 0 in_turns)
         (subst Meets (sym all_are) meets)
-        ∙ ap total_value turns_jobs
+        ∙ ap total_value turns_jobs_all
 
     pub none_lost_all : Meets J → Each (λ e. takes_or_abandons (Prints e) ≡ false) (decided calls)
     none_lost_all meets =
         let unlost : Each (IsUnlost the_rules) turns = none_lost_in_turn the_rules turns
         (turn_valid the_rules refl turns 0 in_turns) (subst Meets (sym all_are) meets) in
-        let all : LoseNone (printed J) = subst LoseNone (sym (runs_in_turn the_rules refl turns in_turns) ∙ ap printed all_are)
+        let all : LoseNone (printed J) =
+        subst LoseNone (sym (runs_in_turn the_rules refl turns in_turns) ∙ ap printed all_are)
         (none_in_turn the_rules turns unlost) in
         each_none (decided calls) (none_front (decided calls) begins_all.0 (subst LoseNone begins_all.1 all))
 

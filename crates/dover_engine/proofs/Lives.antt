@@ -6,7 +6,6 @@ use Rattle.std.specs.Option.{option_map}
 use Rattle.std.specs.List.{filter}
 use Rattle.std.proofs.lemmas.List.{map-append, drop_at}
 use Rattle.std.proofs.lemmas.Nat.{mul-le}
-use Rattle.std.proofs.lemmas.List.Sums.{sum_by-cons}
 use Rattle.dover_model.specs.declared.events.Event.{Event}
 use Rattle.dover_model.specs.declared.events.Event.TheVariants as events
 use Rattle.dover_model.specs.declared.events.Task.{Task}
@@ -17,14 +16,17 @@ use Rattle.dover_model.specs.declared.events.Version.{Version}
 use Rattle.dover_model.specs.Fraction.{Fraction}
 use Rattle.dover_model.specs.JobFacts.{JobFacts}
 use Rattle.dover_model.specs.Limits.{most_jobs}
-use Rattle.dover_model.specs.Instance.{Rules, Instance, IsValid, with_jobs}
-use Rattle.dover_model.specs.Run.{printed, completed_value}
-use Rattle.dover_model.specs.Settled.{settled}
+use Rattle.dover_model.specs.Instance.{Rules, Instance, IsValid, bare, having, with_jobs}
+use Rattle.dover_model.specs.Run.{is_end, printed}
+use Rattle.dover_model.specs.Settled.{settled, tick_of_event}
+use Rattle.dover_model.specs.Step.{Prints}
 use Rattle.dover_model.specs.WholeRun.{Begins}
-use Rattle.dover_model.specs.Rest.{NoneBefore, behind, before_end, instead, in_turn, completed_in_turn}
-use Rattle.dover_model.proofs.Apart.{runs_in_turn, behind_last, end_at_rest}
-use Rattle.dover_model.proofs.Turns.{over_more, jobs_append, completed_append, settled_behind, printed_behind}
-use Rattle.dover_model.proofs.Turns.{before_end_behind}
+use Rattle.dover_model.specs.Rest.{IsTurn, NoneBefore, Turn, behind, before_end, completed_turns, instead_with}
+use Rattle.dover_model.specs.Rest.{one_run, turn_under, turns_finishes, turns_jobs}
+use Rattle.dover_model.proofs.Apart.{behind_last, end_at_rest}
+use Rattle.dover_model.proofs.InTurns.{one_run_prints, settled_of_last}
+use Rattle.dover_model.proofs.TurnsGrowing.{before_end_of_last, completed_behind, ends_behind, finishes_behind}
+use Rattle.dover_model.proofs.TurnsGrowing.{jobs_behind, printed_of_last}
 use Rattle.dover_model.specs.Admission.{refusal_of}
 use Rattle.admission.specs.declared.refused.Refused.{Refused}
 use Rattle.admission.specs.declared.refused.Refused.TheVariants as refused
@@ -36,53 +38,87 @@ use Rattle.dover_model.specs.Horizons.{MayFollow, is_ready_after, is_end_given, 
 use Rattle.dover_model.specs.Spending.{waits_among}
 use Rattle.ready_jobs.specs.Spending.{wait_again_by}
 use Rattle.ready_jobs.proofs.Courses.{follows_count}
+use Rattle.ready_server.specs.NextStep.{ComesAt}
 use Rattle.ready_server.specs.Serving.{Serves, Rests}
 use Rattle.ready_server.specs.declared.server.ReadyServer.{ReadyServer}
 use Rattle.dover_engine.specs.declared.decision.Decision.{Decision}
 use Rattle.dover_engine.specs.Decisions.{event_in}
 use Rattle.dover_engine.specs.Life.{life_with, Life, IsReadyFor, IsAtRest, HasPaid, CostsOnce, done_value, has_ended}
+use Rattle.dover_engine.specs.Life.{clock_of}
+use Rattle.dover_model.proofs.Tests.{never}
 use Rattle.dover_engine.specs.Given.{GaveSince, Gave, IsSince, IsPrompt}
-use Rattle.dover_engine.specs.Calls.{since_rest, HasCause, IsBreaker, IsCause, cause_behind}
-use Rattle.dover_engine.proofs.Giving.{fresh_gave}
+use Rattle.dover_engine.specs.Calls.{since_rest, HasCause, IsBreaker, IsCause, cause_behind, IsDueAt}
+use Rattle.dover_engine.proofs.Giving.{fresh_gave, rests_now}
 use Rattle.dover_engine.proofs.Since as since
 
 -- ---- the beginning
 
--- no jobs are in turn
-abbrev no_lists : List (List JobFacts)
-no_lists = []
+-- a turn of no jobs
+abbrev no_turn : Turn
+no_turn = record { jobs = []; finishes = [] }
 
 -- a new engine gave nothing
 pub new_gave : (version : Version) (k : Fraction) (s : ReadyServer) (kept : Kept)
     → Serves s (no_jobs version k) (Mark 0) [] → StandsFor kept [] → kept.ratio ≡ k
     → Gave (life_with s kept (Mark 0) false None 0 0) (no_jobs version k) []
 new_gave version k s kept serves stands ratio = record {
-  lists = [];
+  turns = [];
   tick = 0;
   over = omega arith;
-  since = [];
+  since = no_turn;
   later = λ j member. absurd member;
   passed = omega arith;
-  all_jobs = refl;
+  all = refl;
   forgotten = refl;
   earned = refl;
   told = [];
   gave = fresh_gave version k s kept serves stands ratio;
-  all_events = ap (λ es. before_end es ++ []) (sym (runs_in_turn (record { ratio = k; version = version; finishes = [] }) refl no_lists tt));
+  all_events = ap (λ es. before_end es ++ [])
+      (sym (one_run_prints (record { ratio = k; version = version; finishes = [] }) [] 0 (omega arith)));
 }
+
+-- ---- turns
+
+-- a job more in the last turn
+abbrev with_job : Turn → JobFacts → Turn
+with_job turn job = record { jobs = turn.jobs ++ job ∷ []; finishes = turn.finishes }
+
+-- is one more of all
+one_with_job : (rules : Rules) (turns : List Turn) (turn : Turn) (job : JobFacts)
+    → with_jobs (one_run rules (turns ++ turn ∷ [])) (job ∷ []) ≡ one_run rules (turns ++ with_job turn job ∷ [])
+one_with_job rules turns turn job =
+    ap (λ js. record { rules = having rules (turns_finishes (turns ++ turn ∷ [])); jobs = js })
+    (ap (λ js. js ++ job ∷ []) (jobs_behind turns turn) ∙ append_assoc (turns_jobs turns) turn.jobs (job ∷ [])
+    ∙ sym (jobs_behind turns (with_job turn job)))
+    ∙ ap (λ fs. record { rules = having rules fs; jobs = turns_jobs (turns ++ with_job turn job ∷ []) })
+    (finishes_behind turns turn ∙ sym (finishes_behind turns (with_job turn job)))
+
+-- and a turn of none leaves all
+one_with_none : (rules : Rules) (turns : List Turn) → one_run rules (turns ++ no_turn ∷ []) ≡ one_run rules turns
+one_with_none rules turns =
+    ap (λ js. record { rules = having rules (turns_finishes (turns ++ no_turn ∷ [])); jobs = js })
+    (jobs_behind turns no_turn ∙ append-nil (turns_jobs turns))
+    ∙ ap (λ fs. record { rules = having rules fs; jobs = turns_jobs turns })
+    (finishes_behind turns no_turn ∙ append-nil (turns_finishes turns))
+
+-- all jobs are those of the turns and those since
+pub jobs_given : (v : Life) (J : Instance) (es : List Event) (g : Gave v J es)
+    → J.jobs ≡ turns_jobs g.turns ++ g.since.jobs
+jobs_given v J es g = ap (λ (I : Instance). I.jobs) g.all ∙ jobs_behind g.turns g.since
 
 -- ---- a job
 
 -- those since the last moment of rest
-pub since_given : (v : Life) (J : Instance) (es : List Event) (g : Gave v J es) → since_rest v J ≡ g.since
-since_given v J es g = ap (drop v.forgotten) g.all_jobs ∙ drop_at (in_turn g.lists) g.since v.forgotten (sym g.forgotten)
+pub since_given : (v : Life) (J : Instance) (es : List Event) (g : Gave v J es) → since_rest v J ≡ g.since.jobs
+since_given v J es g = ap (drop v.forgotten) (jobs_given v J es g)
+    ∙ drop_at (turns_jobs g.turns) g.since.jobs v.forgotten (sym g.forgotten)
 
 module _ (v : Life) (job : JobFacts) where
   -- why it may not follow them
   pub has_cause : (cause : Option Refusal) → ((jobs : List JobFacts) → StandsFor v.admission jobs
       → refusal_of v.admission.ratio jobs job ≡ cause) → HasCause v job cause
   has_cause cause it J es g = ap (λ js. refusal_of J.rules.ratio js job) (since_given v J es g)
-      ∙ ap (λ k. refusal_of k g.since job) (sym g.gave.ratio) ∙ it g.since g.gave.admission
+      ∙ ap (λ k. refusal_of k g.since.jobs job) (sym g.gave.ratio) ∙ it g.since.jobs g.gave.admission
 
   -- the job that is named
   breaker : (other : ℕ) → ((jobs : List JobFacts) → StandsFor v.admission jobs
@@ -92,7 +128,7 @@ module _ (v : Life) (job : JobFacts) where
     number = other;
     numbered = refl;
     is = subst (λ js. IsOther J.rules.ratio js job other) (sym (since_given v J es g))
-        (subst (λ k. IsOther k g.since job other) g.gave.ratio (it g.since g.gave.admission));
+        (subst (λ k. IsOther k g.since.jobs job other) g.gave.ratio (it g.since.jobs g.gave.admission));
   }
 
   -- a refusal is a cause
@@ -115,23 +151,42 @@ one_later tick [] job all low j (inr m) = absurd m
 one_later tick (i ∷ jobs) job all low j (inl e) = all j (inl e)
 one_later tick (i ∷ jobs) job all low j (inr m) = one_later tick jobs job (λ h at. all h (inr at)) low j m
 
+-- its tick stays, whatever the numbers, and End is no other
+tick_behind : (n value : ℕ) (e : Event) → tick_of_event (behind n value e) ≡ tick_of_event e
+tick_behind n value (events.Release m job) = refl
+tick_behind n value (events.Run at m) = refl
+tick_behind n value (events.Preempt at stops starts) = refl
+tick_behind n value (events.Take at stops starts) = refl
+tick_behind n value (events.Complete at m) = refl
+tick_behind n value (events.Abandon at m) = refl
+tick_behind n value (events.End more) = refl
+
+end_stays : (n value : ℕ) (e : Event) → is_end (Prints (behind n value e)) ≡ is_end (Prints e)
+end_stays n value (events.Release m job) = refl
+end_stays n value (events.Run at m) = refl
+end_stays n value (events.Preempt at stops starts) = refl
+end_stays n value (events.Take at stops starts) = refl
+end_stays n value (events.Complete at m) = refl
+end_stays n value (events.Abandon at m) = refl
+end_stays n value (events.End more) = refl
+
 module _ (v : Life) (J : Instance) (es : List Event) (g : Gave v J es) where
   -- the jobs since
   abbrev K : Instance
-  K = instead J g.since
+  K = turn_under J.rules g.since
 
   -- what was given stays with a job more
   pub admit_gave : (job : JobFacts) (ready : IsReadyFor v job.release) (s : ReadyServer) (kept : Kept) (e : Event)
       → GaveSince (life_with s kept v.last false (Some e) v.forgotten v.earned) (with_jobs K (job ∷ [])) g.told
       → Gave (life_with s kept v.last false (Some e) v.forgotten v.earned) (with_jobs J (job ∷ [])) es
   admit_gave job ready s kept e gave = record {
-    lists = g.lists;
+    turns = g.turns;
     tick = g.tick;
     over = g.over;
-    since = g.since ++ job ∷ [];
-    later = one_later g.tick g.since job g.later (subst (IsSince g.tick) ready.1 g.passed);
+    since = with_job g.since job;
+    later = one_later g.tick g.since.jobs job g.later (subst (IsSince g.tick) ready.1 g.passed);
     passed = g.passed;
-    all_jobs = ap (λ js. js ++ (job ∷ [])) g.all_jobs ∙ append_assoc (in_turn g.lists) g.since (job ∷ []);
+    all = ap (λ I. with_jobs I (job ∷ [])) g.all ∙ one_with_job J.rules g.turns g.since job;
     forgotten = g.forgotten;
     earned = g.earned;
     told = g.told;
@@ -152,7 +207,7 @@ module _ (v : Life) (J : Instance) (es : List Event) (g : Gave v J es) where
 
   -- what the lists print
   abbrev before : List Event
-  before = before_end (printed (instead J (in_turn g.lists)))
+  before = before_end (printed (one_run J.rules g.turns))
 
   -- what was given stays, with an answer more
   pub decide_gave : (to : Horizon) → MayFollow v.last to → (s : ReadyServer) (settles : Bool) (o : Option Event)
@@ -160,13 +215,13 @@ module _ (v : Life) (J : Instance) (es : List Event) (g : Gave v J es) where
       → Gave (life_with s v.admission to settles None v.forgotten v.earned) J (es ++ option_to_list (option_map
       (behind v.forgotten v.earned) o))
   decide_gave to may s settles o gave = record {
-    lists = g.lists;
+    turns = g.turns;
     tick = g.tick;
     over = g.over;
     since = g.since;
     later = g.later;
     passed = passed_to to may;
-    all_jobs = g.all_jobs;
+    all = g.all;
     forgotten = g.forgotten;
     earned = g.earned;
     told = g.told ++ option_to_list o;
@@ -185,29 +240,25 @@ module _ (v : Life) (J : Instance) (es : List Event) (g : Gave v J es) where
   -- ---- what the events of all jobs are
 
   joins : (fs : List Event) → before
-      ++ map (behind (length (in_turn g.lists)) (completed_in_turn J.rules g.lists)) fs
+      ++ map (behind (length (turns_jobs g.turns)) (completed_turns J.rules g.turns)) fs
       ≡ before ++ map (behind v.forgotten v.earned) fs
-  joins fs = ap (λ n. before ++ map (behind n (completed_in_turn J.rules g.lists)) fs) (sym g.forgotten)
+  joins fs = ap (λ n. before ++ map (behind n (completed_turns J.rules g.turns)) fs) (sym g.forgotten)
       ∙ ap (λ value. before ++ map (behind v.forgotten value) fs) (sym g.earned)
 
   valid : IsValid K
   valid = g.gave.serves.follows.valid
 
-  -- none finishes early
-  none_early : J.rules.finishes ≡ []
-  none_early = ap (λ (r : Rules). r.finishes) g.gave.serves.follows.rules
+  pub turn : IsTurn (bare J.rules) g.tick g.since
+  turn = (valid, g.gave.serves.follows.own, g.later)
 
-  -- all that is printed is what the lists print, and what those since do
+  -- all that is printed is what the turns print, and what those since do
   printed_all : printed J ≡ before ++ map (behind v.forgotten v.earned) (printed K)
-  printed_all = ap (λ js. printed (instead J js)) g.all_jobs
-      ∙ printed_behind J.rules none_early g.since valid g.tick g.later g.lists g.over
-      ∙ joins (printed K)
+  printed_all = ap printed g.all ∙ printed_of_last (bare J.rules) g.since g.tick turn g.turns g.over ∙ joins (printed K)
 
   settled_all : (t : ℕ) → IsSince g.tick (Mark t)
       → settled J t ≡ before ++ map (behind v.forgotten v.earned) (settled K t)
-  settled_all t low = ap (λ js. settled (instead J js) t) g.all_jobs
-      ∙ settled_behind J.rules none_early g.since valid g.tick g.later g.lists g.over t low
-      ∙ joins (settled K t)
+  settled_all t low = ap (λ I. settled I t) g.all
+      ∙ settled_of_last (bare J.rules) g.since valid g.tick g.later g.turns t g.over low ∙ joins (settled K t)
 
   -- all that is due was given, where it was of the jobs since
   pub due_given : (to : Horizon) → MayFollow v.last to → g.told ≡ due_by K to → es ≡ due_by J to
@@ -231,6 +282,32 @@ module _ (v : Life) (J : Instance) (es : List Event) (g : Gave v J es) where
         (map (behind v.forgotten v.earned) begins.0))
         ∙ ap (λ fs. fs ++ map (behind v.forgotten v.earned) begins.0) (sym g.all_events),
   )
+
+  -- what comes next of all jobs is what comes next of those since
+  pub comes_given : (mark tick : ℕ) → IsReadyFor v mark → ComesAt K mark (settled K mark) tick → ComesAt J mark es tick
+  comes_given mark tick ready it = record {
+    quiet = λ later on before. settled_all later (since_mark later on)
+        ∙ ap (λ fs. before_lists ++ map (behind v.forgotten v.earned) fs) (it.quiet later on before) ∙ sym here;
+    next = behind v.forgotten v.earned it.next;
+    rest = map (behind v.forgotten v.earned) it.rest;
+    prints = printed_all ∙ ap (λ fs. before_lists ++ map (behind v.forgotten v.earned) fs) it.prints
+        ∙ ap (λ fs. before_lists ++ fs) (map-append (behind v.forgotten v.earned) (settled K mark) (it.next ∷ it.rest))
+        ∙ sym (append_assoc before_lists (map (behind v.forgotten v.earned) (settled K mark))
+        (map (behind v.forgotten v.earned) (it.next ∷ it.rest)))
+        ∙ ap (λ fs. fs ++ map (behind v.forgotten v.earned) (it.next ∷ it.rest)) (sym here);
+    at = tick_behind v.forgotten v.earned it.next ∙ it.at;
+    goes_on = end_stays v.forgotten v.earned it.next ∙ it.goes_on;
+  } where
+    before_lists : List Event
+    before_lists = before
+
+    here : es ≡ before_lists ++ map (behind v.forgotten v.earned) (settled K mark)
+    here = g.all_events ∙ ap (λ fs. before_lists ++ map (behind v.forgotten v.earned) fs)
+        ((g.gave.settled ready.0).all ∙ ap (due_by K) ready.1)
+
+    since_mark : (later : ℕ) → mark ≤ later → IsSince g.tick (Mark later)
+    since_mark later on =
+        let low : g.tick ≤ mark = subst (IsSince g.tick) ready.1 g.passed in omega (arith, low, on)
 
   -- ---- rest
 
@@ -259,57 +336,48 @@ module _ (v : Life) (J : Instance) (es : List Event) (g : Gave v J es) where
         (sym (end_at_rest K t valid (since.rests_at v K g.told g.gave still t last)))
         ∙ sym printed_all
 
-    -- the lists with the one that is forgotten
-    abbrev lists : List (List JobFacts)
-    lists = g.lists ++ (g.since ∷ [])
-
-    -- their jobs are all
-    all_of_them : in_turn lists ≡ in_turn g.lists ++ g.since
-    all_of_them = jobs_append J.rules none_early g.lists (g.since ∷ []) ∙ ap (λ js. in_turn g.lists ++ js) (append-nil g.since)
-
-    one : completed_in_turn J.rules (g.since ∷ []) ≡ completed_value K
-    one = sum_by-cons (λ js. completed_value (record { rules = J.rules; jobs = js })) g.since [] ∙ omega arith
+    -- the turns with the one that is forgotten
+    abbrev turns : List Turn
+    turns = g.turns ++ (g.since ∷ [])
 
     -- and it stays, when the jobs are forgotten
     pub renew_gave : (s : ReadyServer) (kept : Kept)
-        → ((mark : ℕ) → Rests v.server K (Mark mark) → Rests s (instead K []) (Mark mark))
+        → ((mark : ℕ) → Rests v.server K (Mark mark) → Rests s (instead_with K [] []) (Mark mark))
         → StandsFor kept [] → kept.ratio ≡ v.admission.ratio
         → Gave (life_with s kept v.last v.settled v.coming (v.forgotten + v.admission.count) (v.earned +
         v.server.ready.done)) J es
     renew_gave s kept anew stands ratio =
-        let rests : Rests s (instead K []) (Mark t) =
+        let rests : Rests s (instead_with K [] []) (Mark t) =
         anew t (since.there v K g.told g.gave still t last) in
         let none : v.coming ≡ None = (since.settled_now v K g.told g.gave still).none in
         let gives = since.anew_gave (life_with s kept v.last v.settled v.coming (v.forgotten + v.admission.count)
         (v.earned + v.server.ready.done)) J t rests stands (ratio ∙ g.gave.ratio) last none g.gave.known in record {
-          lists = lists;
+          turns = turns;
           tick = t;
-          over = over_more J.rules none_early g.lists g.since 0 g.tick t g.over valid g.later
+          over = ends_behind (bare J.rules) g.turns g.since 0 g.tick t g.over turn
               (subst (IsSince g.tick) last g.passed) (since.rests_at v K g.told g.gave still t last);
-          since = [];
+          since = no_turn;
           later = λ j member. absurd member;
           passed = subst (IsSince t) (sym last) (let e : t ≤ t = omega arith in e);
-          all_jobs = g.all_jobs ∙ sym all_of_them ∙ sym (append-nil (in_turn lists));
+          all = g.all ∙ sym (one_with_none J.rules turns);
           forgotten = omega (
             arith,
             g.forgotten,
             g.gave.admission.count,
-            ap length all_of_them,
-            length-append (in_turn g.lists) g.since,
+            ap length (jobs_behind g.turns g.since),
+            length-append (turns_jobs g.turns) g.since.jobs,
           );
           earned = omega (
             arith,
             g.earned,
             since.done_at v K g.told g.gave still t last,
-            completed_append J.rules none_early g.lists (g.since ∷ []),
-            one,
+            completed_behind (bare J.rules) g.turns g.since,
           );
           told = [];
           gave = gives;
           all_events = told_but_end ∙ sym (joins (before_end (printed K)))
-              ∙ sym (before_end_behind J.rules none_early g.since valid g.tick g.later g.lists g.over)
-              ∙ ap (λ js. before_end (printed (instead J js))) (sym all_of_them)
-              ∙ sym (append-nil (before_end (printed (instead J (in_turn lists)))));
+              ∙ sym (before_end_of_last (bare J.rules) g.since g.tick turn g.turns g.over)
+              ∙ sym (append-nil (before_end (printed (one_run J.rules turns))));
         }
 
 -- a mark is reached, or the End given, whatever the numbers
@@ -349,17 +417,18 @@ module _ (v : Life) (J : Instance) (es : List Event) (g : Gave v J es) (none : v
   renew_paid start now paid w is = record {
     since = now;
     before = λ d big. subst (λ n. now ≤ start + 80 * d * n) (sym is)
-        (paid_more d v.admission.count v.forgotten start paid.since now _ (paid.before d big) (paid.paid d (few d big))
+        (paid_more d v.admission.count v.forgotten start paid.since now _ (paid.before d big)
+        (paid.paid.paid d (few d big))
         waits);
-    paid = λ d big. omega arith;
+    paid = record { paid = λ d big. omega arith; freely = λ early d big. omega arith };
   } where
     count : v.server.ready.jobs ≡ v.admission.count
-    count = follows_count v.server.ready (instead J g.since) g.gave.serves.state g.gave.serves.follows
+    count = follows_count v.server.ready (turn_under J.rules g.since) g.gave.serves.state g.gave.serves.follows
         ∙ sym g.gave.admission.count
 
     few : (d : ℕ) → most_jobs + 1 < 2 ^ d → v.server.ready.jobs + 1 < 2 ^ d
     few d big =
-        let most : length g.since ≤ 1_000_000 = g.gave.serves.follows.valid.count in
+        let most : length g.since.jobs ≤ 1_000_000 = g.gave.serves.follows.valid.count in
         let same : 1_000_001 < 2 ^ d = big in
         omega (arith, count, g.gave.admission.count)
 
@@ -394,3 +463,31 @@ pub answer_prompt : (to : Horizon) (J : Instance) (es : List Event) (n value : �
 answer_prompt to J es n value None None same given = given refl
 answer_prompt to J es n value None (Some e) same given = absurd (let f : false ≡ true = ap is_some same in cc)
 answer_prompt to J es n value (Some decision) o same given = tt
+
+-- ---- the next tick
+
+-- what comes next, where the server says so
+pub next_given : (v : Life) (J : Instance) (es : List Event) (g : Gave v J es) (mark : ℕ) → IsReadyFor v mark
+    → (tick : ℕ) → ((K : Instance) (t : ℕ) → Rests v.server K (Mark t) → ComesAt K t (settled K t) tick)
+    → ComesAt J mark es tick
+next_given v J es g mark ready tick it = comes_given v J es g mark tick ready
+    (it (turn_under J.rules g.since) mark (rests_now v (turn_under J.rules g.since) g.told g.gave ready))
+
+-- where all was given, it is due then
+pub due_settled : (v : Life) (tick : ℕ)
+    → ((K : Instance) (t : ℕ) → Rests v.server K (Mark t) → ComesAt K t (settled K t) tick) → v.settled ≡ true
+    → (v.server.ready.ready ≡ [] → ⊥) → IsDueAt v tick
+due_settled v tick it all some = record {
+  comes = λ J es mark g ready. next_given v J es g mark ready tick it;
+  unsettled = λ more. never (sym more ∙ all);
+  some = some;
+}
+
+-- otherwise now
+pub due_now : (v : Life) (tick : ℕ) → tick ≡ clock_of v → v.settled ≡ false → (v.server.ready.ready ≡ [] → ⊥)
+    → IsDueAt v tick
+due_now v tick now more some = record {
+  comes = λ J es mark g ready. never (sym more ∙ ready.0);
+  unsettled = λ _. now;
+  some = some;
+}

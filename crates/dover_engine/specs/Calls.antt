@@ -1,5 +1,5 @@
 -- What the calls of an engine say.
-use Rattle.std.specs.Prelude.{◌≡◌, ℕ, ◌+◌, ◌≤◌, ◌||◌, List, [], ◌∷◌, ◌++◌, map, Option, Some, None, true, nat_lt}
+use Rattle.std.specs.Prelude.{◌≡◌, ℕ, ◌+◌, ◌≤◌, ◌||◌, List, [], ◌∷◌, ◌++◌, map, Option, Some, None, true, false, nat_lt}
 use Rattle.std.specs.Prelude.{if◌then◌else◌, drop}
 use Rattle.dover_model.specs.declared.events.Version.{Version}
 use Rattle.dover_model.specs.declared.events.Event.{Event}
@@ -11,13 +11,14 @@ use Rattle.dover_model.specs.Limits.{most_jobs, last_tick}
 use Rattle.dover_model.specs.Instance.{Instance, with_jobs, jobs_under}
 use Rattle.dover_model.specs.Admission.{refusal_of}
 use Rattle.dover_model.specs.Run.{printed}
-use Rattle.admission.specs.Kept.{Kept, StandsFor}
-use Rattle.admission.specs.Answers.{refusal_of_refused, IsOther}
+use Rattle.admission.specs.Kept.{StandsFor}
+use Rattle.admission.specs.Answers.{IsOther}
 use Rattle.dover_model.specs.declared.horizon.Horizon.{Horizon}
 use Rattle.dover_model.specs.declared.horizon.Horizon.TheVariants.{Mark, End}
 use Rattle.dover_model.specs.Horizons.{MayFollow, is_ready_after, is_end_given, no_jobs}
 use Rattle.admission.specs.declared.refused.Refused.{Refused}
 use Rattle.admission.specs.declared.refused.Refused.TheVariants as refused
+use Rattle.ready_server.specs.NextStep.{ComesAt}
 use Rattle.dover_engine.specs.declared.causes.NotMade.{NotMade}
 use Rattle.dover_engine.specs.declared.causes.NotMade.TheVariants.{Capacity, Memory}
 use Rattle.dover_engine.specs.declared.causes.NotAdmitted.{NotAdmitted}
@@ -27,7 +28,7 @@ use Rattle.dover_engine.specs.declared.causes.NotStepped.TheVariants.{Falls, Lat
 use Rattle.dover_engine.specs.declared.decision.Decision.{Decision}
 use Rattle.dover_engine.specs.Decisions.{event_in, events_in}
 use Rattle.dover_engine.specs.Life.{Life, IsReadyFor, IsAtRest, most_forgotten, done_value, spare_of, room_of}
-use Rattle.dover_engine.specs.Life.{has_ended}
+use Rattle.dover_engine.specs.Life.{has_ended, clock_of}
 use Rattle.dover_engine.specs.Given.{Gave, IsPrompt}
 
 -- ---- making
@@ -109,6 +110,21 @@ pub record Decides (to : Horizon) (v w : Life) (answer : Option Decision) : Type
   pub spare : spare_of v ≤ spare_of w
   pub room : room_of w ≡ room_of v
   pub anew : BeginsAnew w
+
+-- ---- the next tick
+
+-- Where all that is settled at a mark was given, what is to be given next is of this tick. Otherwise it is the clock.
+-- Some job is open.
+pub record IsDueAt (v : Life) (tick : ℕ) : Type 0 where
+  pub comes : (J : Instance) (events : List Event) (mark : ℕ) → Gave v J events → IsReadyFor v mark
+      → ComesAt J mark events tick
+  pub unsettled : v.settled ≡ false → tick ≡ clock_of v
+  pub some : v.server.ready.ready ≡ [] → ⊥
+
+-- the tick for which to call next, or None where no job is open
+abbrev pub IsNext : Life → Option ℕ → Type 0
+IsNext v None = v.server.ready.ready ≡ []
+IsNext v (Some tick) = IsDueAt v tick
 
 -- ---- a life
 

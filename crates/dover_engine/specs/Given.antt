@@ -1,12 +1,12 @@
 -- What an engine has given of the run of all jobs that were ever admitted.
-use Rattle.std.specs.Prelude.{◌≡◌, ◌≤◌, ℕ, List, ◌++◌, length, map, true, false, Option, Some, None, IfSome}
+use Rattle.std.specs.Prelude.{[], ◌∷◌, ◌≡◌, ◌≤◌, ℕ, List, ◌++◌, length, map, true, false, Option, Some, None, IfSome}
 use Rattle.std.specs.Prelude.{option_to_list}
 use Rattle.dover_model.specs.declared.events.Event.{Event}
-use Rattle.dover_model.specs.Instance.{Instance}
+use Rattle.dover_model.specs.Instance.{Instance, bare}
 use Rattle.dover_model.specs.Step.{Prints}
-use Rattle.dover_model.specs.JobFacts.{JobFacts}
 use Rattle.dover_model.specs.Run.{is_end, printed}
-use Rattle.dover_model.specs.Rest.{NoneBefore, AreOverAt, behind, before_end, instead, in_turn, completed_in_turn}
+use Rattle.dover_model.specs.Rest.{NoneBefore, TurnsEnd, Turn, behind, before_end, one_run, turn_under, turns_jobs}
+use Rattle.dover_model.specs.Rest.{completed_turns}
 use Rattle.admission.specs.Kept.{StandsFor}
 use Rattle.dover_model.specs.declared.horizon.Horizon.{Horizon}
 use Rattle.dover_model.specs.declared.horizon.Horizon.TheVariants.{Mark, End}
@@ -37,21 +37,21 @@ abbrev pub IsSince : ℕ → Horizon → Type 0
 IsSince tick (Mark mark) = tick ≤ mark
 IsSince tick End = Unit {0}
 
--- The jobs that were ever admitted are lists in turn, each at rest before the next one, and those since. The events are
--- what the lists print but for their Ends, and behind them what was given since.
+-- The jobs that were ever admitted are turns, each at rest before the next one, and the last turn is of those since.
+-- The events are what the turns before print but for their Ends, and behind them what was given since.
 pub record Gave (v : Life) (J : Instance) (events : List Event) : Type 0 where
-  pub lists : List (List JobFacts)
+  pub turns : List Turn
   pub tick : ℕ  -- of the last moment of rest
-  pub over : AreOverAt J.rules 0 lists tick
-  pub since : List JobFacts
-  pub later : NoneBefore tick since
+  pub over : TurnsEnd (bare J.rules) 0 turns tick
+  pub since : Turn
+  pub later : NoneBefore tick since.jobs
   pub passed : IsSince tick v.last
-  pub all_jobs : J.jobs ≡ in_turn lists ++ since
-  pub forgotten : v.forgotten ≡ length (in_turn lists)
-  pub earned : v.earned ≡ completed_in_turn J.rules lists
+  pub all : J ≡ one_run J.rules (turns ++ since ∷ [])
+  pub forgotten : v.forgotten ≡ length (turns_jobs turns)
+  pub earned : v.earned ≡ completed_turns J.rules turns
   pub told : List Event
-  pub gave : GaveSince v (instead J since) told
-  pub all_events : events ≡ before_end (printed (instead J (in_turn lists))) ++ map (behind v.forgotten v.earned) told
+  pub gave : GaveSince v (turn_under J.rules since) told
+  pub all_events : events ≡ before_end (printed (one_run J.rules turns)) ++ map (behind v.forgotten v.earned) told
 
 -- None says that all that is due by the horizon was given
 abbrev pub IsPrompt : Horizon → Instance → List Event → Option Decision → Type 0

@@ -14,7 +14,7 @@ ghost use Rattle.dover_engine.specs.Life.{CostsOnce};
 ghost use Rattle.ready_server.specs.Serving.{HasShortValue};
 ghost use Rattle.dover_engine.specs.Decisions.{event_in};
 ghost use Rattle.dover_engine.specs.Given.{Gave};
-ghost use Rattle.dover_engine.specs.Calls.{not_made, mark_refusal, IsAdmitted, IsCause, BeginsAnew, Decides};
+ghost use Rattle.dover_engine.specs.Calls.{not_made, mark_refusal, IsAdmitted, IsCause, BeginsAnew, Decides, IsNext};
 
 use crate::causes::{NotAdmitted, NotMade, NotStepped, cause_behind};
 use crate::decision::{Decision, decision_in};
@@ -163,7 +163,7 @@ impl Engine {
     }
 
     // The next event before the horizon, of the jobs since the last moment of rest.
-    fn next<L: Ledger>(&mut self, to: Horizon, steps: &mut Steps<L>) -> Option<Event>
+    fn advance<L: Ledger>(&mut self, to: Horizon, steps: &mut Steps<L>) -> Option<Event>
         requires { MayFollow self.old.last to }
         ensures gave { (J : Instance) (events : List Event) → Gave self.old J events →
             Gave self.new J (events ++ option_to_list (option_map (behind self.old.forgotten self.old.earned) result)) }
@@ -238,7 +238,7 @@ impl Engine {
         ensures paid { (start : ℕ) → HasPaid self.old start steps.old → HasPaid self.new start steps.new }
         ensures once { CostsOnce self.old (event_in result) steps.old steps.new }
     {
-        let event = self.next(to, steps);
+        let event = self.advance(to, steps);
         let decision = self.shown(&event);
         self.renew();
         decision
@@ -277,6 +277,21 @@ impl Engine {
         ensures once { CostsOnce self.old (event_in result) steps.old steps.new }
     {
         self.decide(Horizon::End, steps)
+    }
+
+    /// The tick for which to call next. Where `step` to a mark answered None and no job was admitted since, it is that
+    /// of the next decision, if no job comes before: till then `step` to a tick before it answers None, and no call is
+    /// needed. A completion at it is given by a step to it, a take or an abandonment by a step to the tick behind it.
+    /// Otherwise it is the clock: a step is to be taken first. None where no job is open. No memory is taken.
+    pub fn next(&self) -> Option<u64>
+        ensures { IsNext self.now result }
+    {
+        let next = self.server.next()?;
+        if self.settled {
+            Some(next)
+        } else {
+            Some(self.clock())
+        }
     }
 
     /// The sum of the values of all jobs that completed.

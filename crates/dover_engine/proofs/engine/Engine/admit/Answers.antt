@@ -2,27 +2,28 @@ use Rattle.std.proofs.Common.{◌≡◌, ◌+◌, ◌∷◌, [], sym, ◌∙◌,
 use Rattle.std.specs.Prelude.{None, Some, false}
 use Rattle.dover_model.specs.JobFacts.{JobFacts, job_of_numbers}
 use Rattle.dover_model.specs.Instance.{Instance, with_jobs}
-use Rattle.dover_model.specs.Rest.{instead}
+use Rattle.dover_model.specs.Rest.{turn_under}
 use Rattle.dover_model.specs.Admission.{refusal_of}
 use Rattle.dover_engine.specs.Kept.{life_of}
 use Rattle.dover_engine.specs.Life.{life_with, Life, IsReadyFor, HasPaid}
 use Rattle.dover_engine.specs.Given.{Gave}
 use Rattle.dover_engine.specs.Calls.{IsAdmitted, IsCause}
 use Rattle.dover_engine.proofs.Giving.{rests_there, may_admit, job_gave}
-use Rattle.dover_engine.proofs.Lives.{admit_gave, refused_cause}
+use Rattle.dover_engine.proofs.Lives.{admit_gave, has_cause, refused_cause}
+use Rattle.dover_engine.specs.declared.causes.NotAdmitted.TheVariants.{Full}
 use Rattle.dover_engine.proofs.engine.Engine.admit.Goals as goal
 
 pub admit-event-requires-clause-valid : goal.admit-event-requires-clause-valid
 admit-event-requires-clause-valid c =
     let kept = c.self.invariant in
     let g = kept.gave in
-    let K : Instance = instead kept.jobs g.since in
+    let K : Instance = turn_under kept.jobs.rules g.since in
     let v : Life = life_of c.self.inside in
     let ready = subst (λ (j : JobFacts). IsReadyFor v j.release) (sym c.in-Ok.ensures.job)
     (subst (λ u. IsReadyFor u c.args.release) (sym c.self.view_is)
     (c.is_ready_for.ensures.0 c.if-not-is_ready_for.false)) in
-    let none = subst (λ (j : JobFacts). refusal_of v.admission.ratio g.since j ≡ None) (sym c.in-Ok.ensures.job)
-    (c.in-Ok.ensures.refusal g.since g.gave.admission) in
+    let none = subst (λ (j : JobFacts). refusal_of v.admission.ratio g.since.jobs j ≡ None) (sym c.in-Ok.ensures.job)
+    (c.in-Ok.ensures.refusal g.since.jobs g.gave.admission) in
     (K, rests_there v K g.told g.gave c.in-Ok.job ready, may_admit v K g.told g.gave c.in-Ok.job ready none)
 
 pub returns-clause-ok : goal.returns-clause-ok
@@ -34,19 +35,21 @@ returns-clause-ok c =
     (subst (λ u. IsReadyFor u c.args.release) (sym c.self.view_is)
     (c.is_ready_for.ensures.0 c.if-not-is_ready_for.false)) in
     subst (λ u. IsAdmitted u w
-    (job_of_numbers c.args.release c.args.work c.args.deadline c.args.value) (c.self.inside.forgotten + c.from.result)) c.self.view_is
+    (job_of_numbers c.args.release c.args.work c.args.deadline c.args.value)
+    (c.self.inside.forgotten + c.from.result)) c.self.view_is
     (subst (λ (j : JobFacts). IsAdmitted v w j (c.self.inside.forgotten + c.from.result)) c.in-Ok.ensures.job (record {
       numbered = ap (λ n. v.forgotten + n) (c.from.ensures ∙ c.count-number.ensures);
       ready = ready;
       gave = λ J events g.
-          let K : Instance = instead J g.since in
-          let none = subst (λ (j : JobFacts). refusal_of v.admission.ratio g.since j ≡ None) (sym c.in-Ok.ensures.job)
-          (c.in-Ok.ensures.refusal g.since g.gave.admission) in
+          let K : Instance = turn_under J.rules g.since in
+          let none = subst (λ (j : JobFacts). refusal_of v.admission.ratio g.since.jobs j ≡ None)
+          (sym c.in-Ok.ensures.job)
+          (c.in-Ok.ensures.refusal g.since.jobs g.gave.admission) in
           admit_gave v J events g c.in-Ok.job ready c.admit-event.new.self c.admit.new.self c.admit-event.result
           (job_gave v K g.told g.gave c.in-Ok.job ready c.admit-event.new.self c.admit.new.self c.admit-event.result
           (c.admit-event.ensures.serves K (rests_there v K g.told g.gave c.in-Ok.job ready)
           (may_admit v K g.told g.gave c.in-Ok.job ready none))
-          (c.admit.ensures.stands g.since g.gave.admission) c.admit.ensures.ratio c.admit-event.ensures.open);
+          (c.admit.ensures.stands g.since.jobs g.gave.admission) c.admit.ensures.ratio c.admit-event.ensures.open);
       last = refl;
       spare = c.admit-event.ensures.spare;
       room = c.admit-event.ensures.room_stays;
@@ -77,3 +80,14 @@ pub returns-clause-paid : goal.returns-clause-paid
 returns-clause-paid c start now paid =
     let it = subst (λ u. HasPaid u start now) (sym c.self.view_is) paid in
     record { since = it.since; before = it.before; paid = c.admit-event.ensures.paid it.since now it.paid }
+
+pub returns-then-spare-eq0-clause-cause : goal.returns-then-spare-eq0-clause-cause
+returns-then-spare-eq0-clause-cause c =
+    let v : Life = life_of c.self.inside in
+    let job : JobFacts = job_of_numbers c.args.release c.args.work c.args.deadline c.args.value in
+    subst (λ u. IsCause u job Full) c.self.view_is (
+      subst (λ u. IsReadyFor u c.args.release) (sym c.self.view_is)
+          (c.is_ready_for.ensures.0 c.if-not-is_ready_for.false),
+      has_cause v job None c.in-Ok.ensures.refusal,
+      sym c.spare.ensures ∙ c.if-spare-eq0.true,
+    )

@@ -1,5 +1,5 @@
 use Rattle.std.proofs.Common.{◌+◌, refl, sym, ◌∙◌, subst, arith}
-use Rattle.dover_model.specs.Rest.{instead}
+use Rattle.dover_model.specs.Rest.{turn_under}
 use Rattle.ready_jobs.proofs.Courses.{no_items}
 use Rattle.dover_engine.specs.Kept.{life_of}
 use Rattle.dover_engine.specs.Life.{life_with, Life, IsAtRest, HasPaid}
@@ -20,7 +20,7 @@ returns-clause-gave c J events gave =
     (subst (λ value. Gave (life_with c.renew.new.self c.new-self-inside.result v.last v.settled v.coming
     (v.forgotten + v.admission.count) (v.earned + value)) J events) (sym c.value-value.ensures.is)
     (renew_gave v J events it still c.renew.new.self c.new-self-inside.result
-    (c.renew.ensures.rests (instead J it.since)) c.new-self-inside.ensures.stands
+    (c.renew.ensures.rests (turn_under J.rules it.since)) c.new-self-inside.ensures.stands
     (c.new-self-inside.ensures.ratio ∙ c.ratio.ensures)))
 
 pub invariant_of-self : goal.invariant_of-self
@@ -43,4 +43,5 @@ returns-clause-paid c start now paid =
     + n) (v.earned + c.value-value.result)) start now) (sym (c.from-jobs.ensures ∙ c.count.ensures))
     (renew_paid v kept.jobs kept.events kept.gave
     (no_items v.server.ready.ready (c.is_idle.ensures.0 c.if-not-is_idle.false)) start now it (life_with
-    c.renew.new.self c.new-self-inside.result v.last v.settled v.coming (v.forgotten + v.admission.count) (v.earned + c.value-value.result)) refl)
+    c.renew.new.self c.new-self-inside.result v.last v.settled v.coming (v.forgotten + v.admission.count)
+    (v.earned + c.value-value.result)) refl)

@@ -1,0 +1,102 @@
+use Rattle.std.proofs.Common.{◌≡◌, ◌++◌, sym, subst}
+use Rattle.std.specs.Prelude.{option_to_list, Option, Some, None, ◌||◌, false}
+use Rattle.std.specs.Option.{option_map}
+use Rattle.dover_model.specs.declared.events.Event.{Event}
+use Rattle.dover_model.specs.Instance.{Instance}
+use Rattle.dover_model.specs.Step.{Prints}
+use Rattle.dover_model.specs.Rest.{behind, turn_under}
+use Rattle.dover_model.specs.Run.{is_end}
+use Rattle.dover_model.specs.Horizons.{MayFollow, is_ready_after}
+use Rattle.ready_server.proofs.Stepping.{open_short}
+use Rattle.dover_engine.specs.Kept.{life_of}
+use Rattle.dover_engine.specs.Life.{life_with, Life, HasPaid, has_ended}
+use Rattle.dover_engine.specs.Given.{Gave}
+use Rattle.dover_engine.proofs.Giving.{came_gave, came_open, came_last, served, step_gave, all_given}
+use Rattle.dover_engine.proofs.Lives.{decide_gave, due_given}
+use Rattle.dover_engine.proofs.engine.Engine.advance.Goals as goal
+
+pub returns-in-Some-clause-gave : goal.returns-in-Some-clause-gave
+returns-in-Some-clause-gave g c J events gave =
+    let v : Life = life_of c.self.inside in
+    let may = subst (λ u. MayFollow u.last c.args.to) (sym c.self.view_is) c.requires in
+    let it : Gave v J events = subst (λ u. Gave u J events) (sym c.self.view_is) gave in
+    let w : Life = life_with v.server v.admission c.args.to false None v.forgotten v.earned in
+    subst (λ u. Gave w J (events ++ option_to_list (option_map (behind u.forgotten u.earned) (Some c.in-Some.event))))
+    c.self.view_is
+    (decide_gave v J events it c.args.to may v.server false (Some c.in-Some.event)
+    (came_gave v (turn_under J.rules it.since) it.told it.gave c.args.to may c.in-Some.event c.in-Some.is))
+
+pub invariant_of-self : goal.invariant_of-self
+invariant_of-self g c =
+    let kept = c.self.invariant in
+    let v : Life = life_of c.self.inside in
+    let may = subst (λ u. MayFollow u.last c.args.to) (sym c.self.view_is) c.requires in record {
+      jobs = kept.jobs;
+      events = kept.events ++ option_to_list (option_map (behind v.forgotten v.earned) (Some c.in-Some.event));
+      gave = decide_gave v kept.jobs kept.events kept.gave c.args.to may v.server false (Some c.in-Some.event)
+          (came_gave v (turn_under kept.jobs.rules kept.gave.since) kept.gave.told kept.gave.gave c.args.to may
+          c.in-Some.event c.in-Some.is);
+      forgotten_fits = kept.forgotten_fits;
+      earned_fits = kept.earned_fits;
+    }
+
+pub returns-in-Some-clause-ended : goal.returns-in-Some-clause-ended
+returns-in-Some-clause-ended g c =
+    let it = c.self.invariant.gave in
+    subst (λ u. has_ended (life_of c.self.inside) ≡ (has_ended u || is_end (Prints c.in-Some.event))) c.self.view_is
+    (came_open (life_of c.self.inside) (turn_under c.self.invariant.jobs.rules it.since) it.told it.gave c.args.to
+    (subst (λ u. MayFollow u.last c.args.to) (sym c.self.view_is) c.requires) c.in-Some.event c.in-Some.is)
+
+pub returns-in-Some-clause-short : goal.returns-in-Some-clause-short
+returns-in-Some-clause-short g c =
+    let it = c.self.invariant.gave in
+    open_short c.in-Some.event
+    (came_last (life_of c.self.inside) (turn_under c.self.invariant.jobs.rules it.since) it.told it.gave c.args.to
+    (subst (λ u. MayFollow u.last c.args.to) (sym c.self.view_is) c.requires) c.in-Some.event c.in-Some.is)
+
+pub returns-in-None-clause-gave : goal.returns-in-None-clause-gave
+returns-in-None-clause-gave g c J events gave =
+    let v : Life = life_of c.self.inside in
+    let may = subst (λ u. MayFollow u.last c.args.to) (sym c.self.view_is) c.requires in
+    let it : Gave v J events = subst (λ u. Gave u J events) (sym c.self.view_is) gave in
+    let K : Instance = turn_under J.rules it.since in
+    let o : Option Event = c.step-event.result in
+    subst (λ b. Gave (life_with c.step-event.new.self v.admission c.args.to b c.self.inside.coming v.forgotten
+    v.earned) J (events ++ option_to_list (option_map (behind c.args.self.now.forgotten c.args.self.now.earned) o)))
+    (sym c.is_ready_after-self-inside.ensures)
+    (subst (λ p. Gave (life_with c.step-event.new.self v.admission c.args.to (is_ready_after c.args.to o) p
+    v.forgotten v.earned) J
+    (events ++ option_to_list (option_map (behind c.args.self.now.forgotten c.args.self.now.earned) o)))
+    (sym c.in-None.is)
+    (subst (λ u. Gave (life_with c.step-event.new.self v.admission c.args.to (is_ready_after c.args.to o) None
+    v.forgotten v.earned) J (events ++ option_to_list (option_map (behind u.forgotten u.earned) o))) c.self.view_is
+    (decide_gave v J events it c.args.to may c.step-event.new.self (is_ready_after c.args.to o) o
+    (step_gave v K it.told it.gave c.args.to may c.in-None.is c.step-event.new.self o
+    (c.step-event.ensures.gives K v.last it.told (served v K it.told it.gave c.args.to may c.in-None.is) may)))))
+
+pub invariant_of-self-in-None : goal.invariant_of-self-in-None
+invariant_of-self-in-None g c =
+    let kept = c.self.invariant in record {
+      jobs = kept.jobs;
+      events = kept.events ++ option_to_list
+          (option_map (behind c.args.self.now.forgotten c.args.self.now.earned) c.step-event.result);
+      gave = returns-in-None-clause-gave g c kept.jobs kept.events
+          (subst (λ u. Gave u kept.jobs kept.events) c.self.view_is kept.gave);
+      forgotten_fits = kept.forgotten_fits;
+      earned_fits = kept.earned_fits;
+    }
+
+pub returns-in-None-clause-prompt : goal.returns-in-None-clause-prompt
+returns-in-None-clause-prompt g c J events gave none =
+    let v : Life = life_of c.self.inside in
+    let may = subst (λ u. MayFollow u.last c.args.to) (sym c.self.view_is) c.requires in
+    let it : Gave v J events = subst (λ u. Gave u J events) (sym c.self.view_is) gave in
+    let K : Instance = turn_under J.rules it.since in
+    due_given v J events it c.args.to may
+    (all_given c.step-event.new.self K c.args.to it.told c.step-event.result
+    (c.step-event.ensures.gives K v.last it.told (served v K it.told it.gave c.args.to may c.in-None.is) may) none)
+
+pub returns-in-None-clause-paid : goal.returns-in-None-clause-paid
+returns-in-None-clause-paid g c start paid =
+    let it = subst (λ u. HasPaid u start c.args.steps.now) (sym c.self.view_is) paid in
+    record { since = it.since; before = it.before; paid = c.step-event.ensures.paid it.since it.paid }
