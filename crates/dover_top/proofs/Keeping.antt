@@ -5,7 +5,6 @@ use Rattle.std.proofs.lemmas.List.{take-append-drop}
 use Rattle.dover_model.specs.Instance.{Instance, IsValid, jobs_under}
 use Rattle.dover_model.specs.JobFacts.{JobFacts}
 use Rattle.dover_model.specs.Session.{Session, instance_of}
-use Rattle.dover_model.specs.Taken.{two_versions, is_taken}
 use Rattle.dover_model.specs.Verdict.{verdict}
 use Rattle.dover_model.specs.Due.{due}
 use Rattle.dover_model.specs.Feed.{account, is_ended, is_open}
@@ -13,13 +12,12 @@ use Rattle.dover_model.specs.Fraction.{Fraction, IsRatio}
 use Rattle.dover_model.specs.Limits.{most_jobs}
 use Rattle.dover_model.specs.declared.events.Version.TheVariants.{One}
 use Rattle.dover_model.proofs.Accepting.{feed_hands, feed_accepted}
-use Rattle.dover_model.proofs.BoundLaws.{bound}
-use Rattle.dover_model.proofs.Honest.{plain_honest}
-use Rattle.dover_model.proofs.Onlines.{on_line}
+use Rattle.dover_model.proofs.BoundLaws.{bound, observed_bound}
+use Rattle.dover_model.proofs.Honest.{observed_honest, observed_all}
+use Rattle.dover_model.proofs.Meeting.{on_line_finishes}
 use Rattle.dover_model.proofs.Runs.{none_lost, all_value}
 use Rattle.dover_model.proofs.Tests.{never}
 use Rattle.dover_model.proofs.Members.{some_same}
-use Rattle.trace_judge.proofs.Plainly.{no_finishes, accepted_plain}
 use Rattle.dover_model.proofs.Valid.{valid_front}
 use Rattle.dover_port.specs.Moves.{Move, ins, outs, has_ended}
 use Rattle.dover_port.specs.declared.status.Status.TheVariants.{Done, Refused}
@@ -48,11 +46,13 @@ use Rattle.trial_words.specs.Baited.{bait_instance}
 use Rattle.dover_top.specs.Promises.{KeepsPromises, IsTraceOf, IsResumed, IsAccepted, KeepsBaits, IsRun, KeepsDuel}
 
 -- the run of a valid list keeps the promises
-promises_of : (J : Instance) → IsValid J → J.rules.finishes ≡ [] → KeepsPromises J
-promises_of J valid plain = record {
+promises_of : (J : Instance) → IsValid J → KeepsPromises J
+promises_of J valid = record {
   bound = λ s. bound J s valid;
-  honest = plain_honest J valid plain;
-  on_line = λ t K valid_too rules known. on_line t J K valid valid_too rules known;
+  observed_bound = λ s. observed_bound J s valid;
+  honest = observed_honest J valid;
+  as_declared = observed_all J valid;
+  on_line = λ t K valid_too rules known finishes. on_line_finishes t J K valid valid_too rules known finishes;
   none_lost = none_lost J valid;
   all_value = all_value J valid;
 }
@@ -60,8 +60,8 @@ promises_of J valid plain = record {
 -- what is due for a feed that ended is the trace of its session
 pub trace_of : (feed written : List ℕ) → is_ended (account feed) ≡ true → written ≡ due feed → IsTraceOf feed written
 trace_of feed written ended same =
-    let hands = feed_hands two_versions feed ended in
-    let accepted = feed_accepted two_versions feed hands.session ended hands.has in
+    let hands = feed_hands feed ended in
+    let accepted = feed_accepted feed hands.session ended hands.has in
     record {
       session = hands.session;
       ended = ended;
@@ -69,8 +69,7 @@ trace_of feed written ended same =
       valid = hands.valid;
       text = same ∙ accepted.1;
       accepted = ap verdict same ∙ accepted.2;
-      promises = promises_of (instance_of hands.session) hands.valid.jobs
-          (no_finishes hands.session hands.version hands.valid);
+      promises = promises_of (instance_of hands.session) hands.valid.jobs;
     }
 
 -- ---- a feed that was served
@@ -112,7 +111,7 @@ accepted moves it = record {
   session = it.0;
   valid = it.1;
   accepted = it.2;
-  promises = promises_of (instance_of it.0) it.1.jobs (accepted_plain (ins moves) it.0 it.2 it.1);
+  promises = promises_of (instance_of it.0) it.1.jobs;
 }
 
 pub ran : (says : asked.Says) (ended : Bool) (text : List ℕ) (moves : List Move)
@@ -121,17 +120,13 @@ ran says ended text moves (inl refused) = absurd (let e : Done ≡ Refused = ref
 ran says ended text moves (inr said) = record {
   session = said.session;
   named = said.session_is;
-  promises = promises_of (instance_of said.session) said.valid.jobs
-      (let hands = feed_hands two_versions (ins moves) said.ended in
-      let same : Some hands.session ≡ Some said.session = sym hands.has ∙ said.session_is in
-      no_finishes said.session (subst (λ (S : Session). is_taken two_versions S.rules.version ≡ true)
-      (some_same hands.session said.session same) hands.version) said.valid);
+  promises = promises_of (instance_of said.session) said.valid.jobs;
 }
 
 pub generated : (k : Fraction) (seed count : ℕ) → IsRatio k → count ≤ most_jobs
     → KeepsPromises (trial_instance k seed count)
 generated k seed count allowed few =
-    promises_of (trial_instance k seed count) (generated_valid k allowed seed count One few) refl
+    promises_of (trial_instance k seed count) (generated_valid k allowed seed count One few)
 
 pub baited : (k : Fraction) (rounds : ℕ) → IsRatio k → 1 ≤ rounds → FitsLimits k rounds → KeepsBaits k rounds
 baited k rounds allowed some fits =
@@ -139,7 +134,7 @@ baited k rounds allowed some fits =
     record {
       schedule = plan_worth k rounds One;
       last = completes_last_alone k One rounds some valid;
-      promises = promises_of (bait_instance k rounds) valid refl;
+      promises = promises_of (bait_instance k rounds) valid;
     }
 
 -- a front of valid jobs is valid
@@ -154,5 +149,5 @@ pub dueled : (k : Fraction) (share : Share) (front : Option ℕ) (moves : List M
 dueled k share front moves is it written = record {
   loses = λ scheduler online. each_loses One k share.whole share.part scheduler is.some_part it.valid online;
   feed = subst (IsFeedOf (duel_front k share front)) (sym written)
-      (feed_is (duel_front k share front) (front_valid k front (jobs_for k share) it.valid) refl refl);
+      (feed_is (duel_front k share front) (front_valid k front (jobs_for k share) it.valid) refl);
 }

@@ -1,7 +1,7 @@
 -- What is promised of what was read and written.
 use Rattle.std.specs.Prelude.{◌≡◌, ◌≢◌, ◌<◌, ℕ, List, [], ◌++◌, true, false, Option, Some}
 use Rattle.std.specs.List.{sum_by}
-use Rattle.dover_model.specs.Instance.{Instance, IsValid}
+use Rattle.dover_model.specs.Instance.{Instance, IsValid, bare}
 use Rattle.dover_model.specs.Session.{Session, IsValidSession, instance_of}
 use Rattle.dover_model.specs.Bait.{bait_plan, plan_value}
 use Rattle.dover_model.specs.Bound.{IsWithin}
@@ -9,7 +9,8 @@ use Rattle.dover_model.specs.Due.{due}
 use Rattle.dover_model.specs.Feed.{account, is_ended}
 use Rattle.dover_model.specs.declared.events.Version.TheVariants.{One}
 use Rattle.dover_model.specs.Fraction.{Fraction}
-use Rattle.dover_model.specs.Online.{printed_up_to, known_at}
+use Rattle.dover_model.specs.Observed.{observed}
+use Rattle.dover_model.specs.Online.{printed_up_to, finishes_up_to, known_at}
 use Rattle.dover_model.specs.Run.{run, ran, completed_value}
 use Rattle.dover_model.specs.Schedules.{worth, Meets}
 use Rattle.dover_model.specs.Sound.{Each}
@@ -28,14 +29,20 @@ use Rattle.lane_server.specs.Lanes.{Closed, lane_count, input}
 use Rattle.lane_server.specs.Alone.{lane_feed, text_of_lane, served_alone}
 use Rattle.resume_word.specs.Record.{Behind}
 
--- what stands of the run of a valid list of jobs
+-- what stands of the run of a valid list of jobs, whichever of them finish early
 pub record KeepsPromises (J : Instance) : Type 0 where
-  -- No schedule whatever is worth more than (1 + √k)² times what the run completes,
+  -- No schedule whatever is worth more than (1 + √k)² times what the run completes: none of the jobs as declared,
   pub bound : (s : List ℕ) → IsWithin J.rules.ratio (worth J s) (completed_value J)
-  -- which is what the run's own schedule is worth.
-  pub honest : worth J (ran J) ≡ completed_value J
-  -- What is printed up to a tick is the same for every list that has the same jobs by then.
-  pub on_line : (t : ℕ) (K : Instance) → IsValid K → J.rules ≡ K.rules → known_at t J.jobs ≡ known_at t K.jobs
+  -- and none where each completed job asks for no more than it had.
+  pub observed_bound : (s : List ℕ) → IsWithin J.rules.ratio (worth (observed J) s) (completed_value J)
+  -- That value is what the run's own schedule is worth by these works,
+  pub honest : worth (observed J) (ran J) ≡ completed_value J
+  -- which are the declared ones where no job finishes early.
+  pub as_declared : J.rules.finishes ≡ [] → observed J ≡ J
+  -- What is printed up to a tick is the same for every list that has the same jobs and comes to the same finishes by
+  -- then, of which there are none where none is named.
+  pub on_line : (t : ℕ) (K : Instance) → IsValid K → bare J.rules ≡ bare K.rules
+      → known_at t J.jobs ≡ known_at t K.jobs → finishes_up_to t J ≡ finishes_up_to t K
       → printed_up_to t J ≡ printed_up_to t K
   -- Where some schedule serves every job, none is taken late or abandoned,
   pub none_lost : Meets J → Each (λ x. takes_or_abandons x.move ≡ false) (run J)

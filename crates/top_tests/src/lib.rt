@@ -10,6 +10,8 @@ mod drawn_feeds;
 #[cfg(test)]
 mod drawn_runs;
 #[cfg(test)]
+mod early_finishes;
+#[cfg(test)]
 mod joined_feeds;
 #[cfg(test)]
 mod judged_texts;

@@ -146,7 +146,7 @@ const FEEDS: [(&str, Status, &str); 37] = [
         "dover 1 1 1\njob 0 0 10 10 10\nrun 0 0\njob 1 0 20 20 20\njob 2 0 21 21 21\nabandon 0 1\ntake 0 0 2\nabandon 0 0\ncomplete 21 2\nend 21\n",
     ),
     ("k 1 1 1\n", Status::Refused, "refused 1 declared\n"),
-    ("k 1 1 3\n", Status::Refused, "refused 1 declared\n"),
+    ("k 1 1 4\n", Status::Refused, "refused 1 declared\n"),
     (
         "k 2 1 2\njob 0 1 5 1\njob 0 1 5 2\njob 0 1 5 3\njob 3 9 5 9\nend\n",
         Status::Done,
@@ -199,7 +199,7 @@ const TEXTS: [(&str, Status, &str); 18] = [
         "wrong 6 expected nothing\n",
     ),
     ("", Status::No, "short 0\n"),
-    ("dover 3 1 1\n", Status::No, "wrong 1 expected header\n"),
+    ("dover 4 1 1\n", Status::No, "wrong 1 expected header\n"),
     (
         "dover 1 1 1\njob 0 0 2 2 2\nrun  0 0\n",
         Status::No,
