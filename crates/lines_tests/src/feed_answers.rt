@@ -58,13 +58,14 @@ fn are_refused(rows: &[(&[u8], u64, u64, u64, u64, Refusal)]) -> bool {
 }
 
 /// Texts, and the line and the cause of their first fault.
-const FAULTS: [(&[u8], u64, Cause); 18] = [
+const FAULTS: [(&[u8], u64, Cause); 21] = [
     (b"job 0 1 1 1", 1, Cause::Declared),
     (b"tick 5", 1, Cause::Declared),
     (b"junk", 1, Cause::Line),
+    (b"done 0 0", 1, Cause::Line),
     (b"k 1 2", 1, Cause::Declared),
     (b"k 1 1 1", 1, Cause::Declared),
-    (b"k 1 1 3", 1, Cause::Declared),
+    (b"k 1 1 4", 1, Cause::Declared),
     (b"k 1 1 02", 1, Cause::Line),
     (b"k 4294967297 1", 1, Cause::Declared),
     (b"k 1 2/k 1 1/end", 1, Cause::Declared),
@@ -76,6 +77,8 @@ const FAULTS: [(&[u8], u64, Cause); 18] = [
     (b"k 1 1/tick 5/tick 4", 3, Cause::Order),
     (b"k 1 1/tick 5/tick 5/tick 4/tick 9", 4, Cause::Order),
     (b"k 1 1 2/tick 5/job 4 1 9 1", 3, Cause::Order),
+    (b"k 1 1 2/job 0 4 8 4/done 1 0", 3, Cause::Line),
+    (b"k 1 1 3/done 1000000000001 0", 2, Cause::Order),
     (
         b"k 2 1/job 0 1 5 1/job 0 1 5 2/job 0 1 5 3",
         4,
@@ -90,7 +93,7 @@ fn faults_stand_at_their_lines(rt: HostRuntime) {
 }
 
 /// Texts, and the numbers and the cause of the job line that is refused last.
-const REFUSED: [(&[u8], u64, u64, u64, u64, Refusal); 3] = [
+const REFUSED: [(&[u8], u64, u64, u64, u64, Refusal); 4] = [
     (
         b"k 2 1 2/job 0 1 5 1/job 0 1 5 2/job 0 1 5 3",
         0,
@@ -100,6 +103,7 @@ const REFUSED: [(&[u8], u64, u64, u64, u64, Refusal); 3] = [
         Refusal::Ratio,
     ),
     (b"k 2 1 2/job 3 9 5 9", 3, 9, 5, 9, Refusal::BadJob),
+    (b"k 1 1 3/tick 5/job 4 1 9 1", 4, 1, 9, 1, Refusal::Late),
     (
         b"k 1 1 2/job 9 9 9 9/job 2 5 6 5",
         2,
@@ -110,7 +114,7 @@ const REFUSED: [(&[u8], u64, u64, u64, u64, Refusal); 3] = [
     ),
 ];
 
-// A job line that isn't admitted is no fault in version Two, and the mark stays.
+// A job line that isn't admitted is no fault from version Two on, nor one that is late in version Three; the mark stays.
 #[test]
 fn refused_lines_go_on(rt: HostRuntime) {
     assert!(rt; are_refused(&REFUSED));
@@ -121,6 +125,7 @@ fn refused_lines_go_on(rt: HostRuntime) {
 fn good_lines_are_answered(rt: HostRuntime) {
     let holds = answers(b"k 1 1/tick 5").last == Some(Ok(Fed::Tick(5)))
         && answers(b"k 1 1/end").last == Some(Ok(Fed::Over))
+        && answers(b"k 1 1 3/done 5 7").last == Some(Ok(Fed::Done { at: 5, number: 7 }))
         && answers(b"k 1 1/end").end == Ok(());
     assert!(rt; holds);
     let ratio = Ratio::new(3, 2).unwrap();

@@ -49,6 +49,12 @@ fn put_all_lines<P: Port>(port: &mut P, k: Ratio) -> Result<(), Failed> {
         cause: Refusal::Total,
     };
     put_out(port, &mut out, &refused)?;
+    let late = LaneOut::RefuseDone {
+        at: 7,
+        tick: 6,
+        number: 999_999_999_999_999_999,
+    };
+    put_out(port, &mut out, &late)?;
     put_numbers(port, &mut out, b"window", &[0, 18_446_744_073_709_551_615])?;
     put_numbers(port, &mut out, b"jobs", &[])?;
     let mut line = LineBuf::new();
@@ -59,7 +65,8 @@ fn put_all_lines<P: Port>(port: &mut P, k: Ratio) -> Result<(), Failed> {
 
 /// What is put.
 const LINES: &str =
-    "dover 2 7 2\nrun 5 3\nrefuse 5 6 7 8 9 total\nwindow 0 18446744073709551615\njobs\nany line\n";
+    "dover 2 7 2\nrun 5 3\nrefuse 5 6 7 8 9 total\nrefuse 7 6 999999999999999999 done\n\
+    window 0 18446744073709551615\njobs\nany line\n";
 
 /// The write that fails, the bytes that a write takes at most, and what is put.
 const WRITES: [(u32, usize, &str); 4] = [

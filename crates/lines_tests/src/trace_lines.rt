@@ -20,11 +20,11 @@ const TRACE: &[u8] =
     job 22 530 5 550 25\npreempt 530 21 22\ncomplete 535 22\nrun 535 21\njob 23 560 20 580 2000\n\
     preempt 560 21 23\ncomplete 580 23\nrun 580 21\ncomplete 585 21\nend 8555\ntake 0 0 2\n\
     refuse 0 0 1 5 3 ratio\nrefuse 0 3 9 5 9 job\nrefuse 2 2 5 6 5 count\n\
-    refuse 5 2 5 9 5 order\n\
+    refuse 5 2 5 9 5 order\nrefuse 5 4 2 done\nrefuse 2 2 999999999999999999 done\n\
     refuse 1000000000000 999999999999999999 0 0 0 total\n\
     job 999999 999999999999 1 1000000000000 1000000000\nend 10000000000000\n";
 
-// The line of a step is written again as the same bytes, and that of a refused job line is read.
+// The line of a step is written again as the same bytes, and that of a refused line is read.
 fn is_taken(line: &[u8]) -> bool {
     match read_trace_line(line) {
         Ok(TraceLine::Step(step)) => {
@@ -33,6 +33,7 @@ fn is_taken(line: &[u8]) -> bool {
             again.bytes().strip_suffix(b"\n") == Some(line)
         }
         Ok(TraceLine::Refused { .. }) => true,
+        Ok(TraceLine::RefusedDone { .. }) => true,
         _ => false,
     }
 }
@@ -45,7 +46,7 @@ fn lines_are_read_and_written(rt: HostRuntime) {
             assert!(rt; is_taken(lines.line()));
         }
     }
-    let holds = lines.count() == 91 && lines.rest() == 0;
+    let holds = lines.count() == 93 && lines.rest() == 0;
     assert!(rt; holds);
 }
 
@@ -69,7 +70,12 @@ fn values_are_read(rt: HostRuntime) {
         value: 8,
         cause: Refusal::Count,
     };
-    let rows: [(&[u8], TraceLine); 9] = [
+    let done = TraceLine::RefusedDone {
+        at: 5,
+        tick: 4,
+        number: 2,
+    };
+    let rows: [(&[u8], TraceLine); 10] = [
         (
             b"dover 3 0 7",
             TraceLine::Header {
@@ -109,6 +115,7 @@ fn values_are_read(rt: HostRuntime) {
             TraceLine::Step(Event::Release { number: 7, job }),
         ),
         (b"refuse 1 3 9 5 8 count", refused),
+        (b"refuse 5 4 2 done", done),
     ];
     assert!(rt; are_read(&rows));
 }
@@ -123,7 +130,11 @@ fn are_refused(lines: &[&[u8]]) -> bool {
 }
 
 /// Lines that are none of a trace.
-const REFUSED: [&[u8]; 30] = [
+const REFUSED: [&[u8]; 34] = [
+    b"refuse 5 4 done",
+    b"refuse 5 4 2 9 done",
+    b"refuse 5 4 2 order",
+    b"refuse 5 4 2 done ",
     b"",
     b" ",
     b"end",

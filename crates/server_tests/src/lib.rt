@@ -11,6 +11,8 @@ mod many_lanes;
 #[cfg(test)]
 mod roots;
 #[cfg(test)]
+mod scanned_runs;
+#[cfg(test)]
 mod served_runs;
 #[cfg(test)]
 mod snapshots;

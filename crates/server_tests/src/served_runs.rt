@@ -102,15 +102,15 @@ impl Watcher for Seen {
     }
 }
 
-// What is printed of a valid list.
-fn printed<L: Ledger>(
+// The printed steps of a valid list, as far as there was memory.
+pub(crate) fn seen_events<L: Ledger>(
     alloc: Global,
     memory: HeapMemory,
     version: Version,
     k: Ratio,
     jobs: &[Job],
     blank: Blank,
-) -> Result<String, Memory>
+) -> Result<Vec<Event>, Memory>
     requires valid { IsValid (jobs_under version k jobs.now) }
     requires name { blank.name ≡ L.name }
     requires parts { blank.parts ≡ L.parts }
@@ -122,8 +122,13 @@ fn printed<L: Ledger>(
     };
     let mut left = jobs;
     run_list::<&[Job], Seen, L>(alloc, version, k, &mut left, &mut seen, &mut steps)?;
+    Ok(seen.events)
+}
+
+// Their text, up to a slash each.
+fn printed(alloc: Global, events: &[Event]) -> Result<String, Memory> {
     let mut text = String::new(alloc);
-    for event in &seen.events {
+    for event in events {
         put_line(&mut text, event)?;
     }
     Ok(text)
@@ -351,7 +356,8 @@ fn assert_printed(
     let list = jobs(rt, row.2)?;
     let jobs = list.as_slice();
     assert_valid(rt, k, jobs);
-    let text = printed::<Brand>(rt.alloc(), memory, row.0, k, jobs, Blank::new(1))?;
+    let events = seen_events::<Brand>(rt.alloc(), memory, row.0, k, jobs, Blank::new(1))?;
+    let text = printed(rt.alloc(), &events)?;
     assert!(rt; text.as_str() == row.3);
     Ok(())
 }
