@@ -149,8 +149,8 @@ fn early_steps(rt: &impl Abort) -> [Event; 12]
 fn a_report_counts_what_is_left_of_early_jobs(rt: HostRuntime) {
     let k = ratio(&rt, 1, 1);
     let run = early_steps(&rt);
-    let want =
-        b"ratio 1 1\njobs 3\ncompleted 3 17\nabandoned 0 0\ntaken 1\nearly 1 11\nbound 68\ninterval 1 0 1 0 12 5 0\ninterval 2 1 3 2 0 0 0\ninterval 3 3 6 3 0 0 0\n";
+    let want = b"ratio 1 1\njobs 3\ncompleted 3 17\nabandoned 0 0\ntaken 1\nearly 1 11\nbound 68\n\
+          interval 1 0 1 0 12 5 0\ninterval 2 1 3 2 0 0 0\ninterval 3 3 6 3 0 0 0\n";
     assert!(rt;
         text(rt.alloc(), Version::Three, k, &run)
             .expect(&rt, "memory")
@@ -162,8 +162,8 @@ fn a_report_counts_what_is_left_of_early_jobs(rt: HostRuntime) {
 #[test]
 fn a_table_tells_what_the_jobs_had(rt: HostRuntime) {
     let run = early_steps(&rt);
-    let want =
-        b"job,release,work,deadline,value,fate,tick,had\n0,0,3,30,3,complete,6,3\n1,0,2,4,2,complete,3,2\n2,0,12,12,12,complete,1,1\n";
+    let want = b"job,release,work,deadline,value,fate,tick,had\n\
+          0,0,3,30,3,complete,6,3\n1,0,2,4,2,complete,3,2\n2,0,12,12,12,complete,1,1\n";
     assert!(rt;
         table(rt.alloc(), Version::Three, &run)
             .expect(&rt, "memory")

@@ -114,7 +114,8 @@ const REFUSED: [(&[u8], u64, u64, u64, u64, Refusal); 4] = [
     ),
 ];
 
-// A job line that isn't admitted is no fault from version Two on, nor one that is late in version Three; the mark stays.
+// A job line that isn't admitted is no fault from version Two on, nor one that is late in version Three. The mark
+// stays.
 #[test]
 fn refused_lines_go_on(rt: HostRuntime) {
     assert!(rt; are_refused(&REFUSED));
